@@ -1,0 +1,50 @@
+-- Kinds of prefixes as plain lists, and their order.
+use Rattle.std.specs.Prelude.{ℕ, ◌+◌, ◌-◌, Bool, true, false, if◌then◌else◌, List, map, length}
+use Rattle.std.specs.List.{range_with_len}
+use Rattle.std.specs.Ordering.{nat_cmp, ordering_then}
+use Rattle.std.specs.Cmp.Lexicographic.{slice_cmp}
+use Rattle.std.specs.declared.cmp.Ordering.{Ordering}
+use Rattle.tier_core.specs.declared.kind.Kind.{Kind}
+use Rattle.tier_core.specs.Tiers.{has_tier}
+
+-- the phase of a stretch implication after a prefix
+pub data Phase : Type 0 where
+  closed : Phase
+  unmet : Phase
+  met : Phase
+
+-- A kind: how many columns of the form have been read, whether each free tier is open,
+-- and the phase of each stretch implication.
+pub record PrefixKind : Type 0 where
+  pub place : ℕ
+  pub opened : List Bool
+  pub phases : List Phase
+
+-- closed comes before unmet, and unmet before met
+abbrev pub phase_rank : Phase → ℕ
+phase_rank closed = 0
+phase_rank unmet = 1
+phase_rank met = 2
+
+-- closed tiers come before open ones
+abbrev pub open_rank : Bool → ℕ
+open_rank false = 0
+open_rank true = 1
+
+-- kinds are compared by place, then by open tiers, then by phases
+abbrev pub kind_order : PrefixKind → PrefixKind → Ordering
+kind_order k l = ordering_then (nat_cmp k.place l.place)
+    (ordering_then (slice_cmp nat_cmp (map open_rank k.opened) (map open_rank l.opened))
+    (slice_cmp nat_cmp (map phase_rank k.phases) (map phase_rank l.phases)))
+
+-- the phase that the bits of a stretch implication tell
+abbrev pub phase_by_bits : Bool → Bool → Phase
+phase_by_bits is_unmet is_met = if is_met then met else (if is_unmet then unmet else closed)
+
+-- what the bits of a kind say of so many free tiers and so many stretch implications
+abbrev pub prefix_kind : ℕ → ℕ → Kind → PrefixKind
+prefix_kind free stretches kind = record {
+  place = kind.place;
+  opened = map (has_tier kind.opened) (range_with_len 0 free);
+  phases = map (λ i. phase_by_bits (has_tier kind.unmet i) (has_tier kind.met i)) (range_with_len 0 stretches);
+}

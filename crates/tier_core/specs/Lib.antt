@@ -1,0 +1,12 @@
+pub mod Symbols
+pub mod Words
+pub mod Timelines
+pub mod Events
+pub mod Orders
+pub mod Tiers
+pub mod Tables
+pub mod Scan
+pub mod Sets
+pub mod Classes
+pub mod Kinds
+pub mod Shapes

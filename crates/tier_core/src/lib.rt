@@ -1,0 +1,34 @@
+//! Symbols, columns, timelines, tiers, constraints, classes of columns and kinds of prefixes:
+//! the values that every other crate of the workspace speaks of, with the definitions of
+//! well-formed and reduced timelines, of constituents, of events and of the orders.
+//!
+//! Contracts see a column as a list of symbols, a timeline as a list of columns, one side of a
+//! constraint as a list of events, and a class by the sets of its tiers. The crate stands on no
+//! other crate of the workspace. The layers above use the types, their calls, and the definitions
+//! of `specs/`.
+//!
+//! Source: timelines, constituents and the two families of constraints are after Eisner,
+//! Efficient Generation in Primitive Optimality Theory (ACL 1997).
+#![tactic(auto)]
+
+mod class;
+mod column;
+mod constraint;
+mod event;
+mod form;
+mod kind;
+mod shape;
+mod sym;
+mod tier;
+mod timeline;
+
+pub use class::Class;
+pub use column::Column;
+pub use constraint::{Constraint, Family};
+pub use event::{Event, EventList, Part};
+pub use form::{has_edge, reduced, well_formed};
+pub use kind::Kind;
+pub use shape::Shape;
+pub use sym::Sym;
+pub use tier::{TierKind, TierTable};
+pub use timeline::{NoMemory, Timeline};

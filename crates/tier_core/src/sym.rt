@@ -1,0 +1,43 @@
+ghost use Rattle.std.specs.Prelude.{◌≡◌};
+ghost use Rattle.tier_core.specs.Symbols.{byte_of};
+ghost use Rattle.tier_core.specs.Timelines.{is_edge};
+
+/// What a tier has at one place. Start, End and Both are edges.
+///
+/// The symbols are ordered as they are listed.
+#[derive(Clone, Copy, Debug, Default, PartialEq, Eq, PartialOrd, Ord)]
+pub enum Sym {
+    /// No constituent is here, written `-`.
+    #[default]
+    Outside,
+    /// Inside a constituent, written `+`.
+    Inside,
+    /// A constituent starts, written `[`.
+    Start,
+    /// A constituent ends, written `]`.
+    End,
+    /// One constituent ends and the next starts, written `|`.
+    Both,
+}
+
+impl Sym {
+    /// The byte that the symbol is written as: `-`, `+`, `[`, `]` or `|`.
+    pub fn byte(self) -> u8
+        ensures { result ≡ byte_of self }
+    {
+        match self {
+            Sym::Outside => b'-',
+            Sym::Inside => b'+',
+            Sym::Start => b'[',
+            Sym::End => b']',
+            Sym::Both => b'|',
+        }
+    }
+
+    /// Whether a constituent starts or ends here.
+    pub fn is_edge(self) -> bool
+        ensures { result ≡ is_edge self }
+    {
+        matches!(self, Sym::Start | Sym::End | Sym::Both)
+    }
+}

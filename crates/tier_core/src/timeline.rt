@@ -1,0 +1,78 @@
+ghost use Rattle.std.specs.Prelude.{◌≡◌, ◌<◌, [], ◌∷◌, ◌++◌, ◌↔◌, length, IsTrue, OnOk, OnErr, IfErr};
+ghost use Rattle.tier_core.specs.Timelines.{column_at};
+
+use crate::column::Column;
+use std::alloc::Global;
+use std::marker::Model;
+
+/// Memory was wanting.
+#[derive(Clone, Copy, Debug, PartialEq, Eq)]
+pub struct NoMemory;
+
+/// A list of columns, whose places are numbered from 0. Contracts see it as that list.
+#[derive(Drop)]
+pub struct Timeline {
+    columns: Vec<Column>,
+}
+
+impl Model for Timeline {
+    ghost use Rattle.std.specs.Prelude.{List};
+    ghost use Rattle.tier_core.specs.declared.sym.Sym.{Sym};
+
+    ghost Value = { List (List Sym) };
+
+    ghost view = { λ t. t.columns.items };
+}
+
+impl Timeline {
+    /// The timeline without columns. It takes no memory.
+    pub fn new(alloc: Global) -> Timeline
+        ensures { result ≡ [] }
+    {
+        Timeline {
+            columns: Vec::new(alloc),
+        }
+    }
+
+    /// Adds a column at the end. For want of memory the column comes back, and the timeline is
+    /// unchanged.
+    pub fn push(&mut self, column: Column) -> Result<(), Column>
+        ensures ok { OnOk result (self.new ≡ self.old ++ column ∷ []) }
+        ensures err { OnErr result (self.new ≡ self.old) }
+        ensures back { IfErr result (λ back. back ≡ column) }
+    {
+        match self.columns.push(column) {
+            Ok(()) => Ok(()),
+            Err(failed) => Err(failed.value),
+        }
+    }
+
+    /// The number of columns.
+    pub fn len(&self) -> usize
+        ensures { result ≡ length self.now }
+    {
+        self.columns.len()
+    }
+
+    /// Whether there is no column.
+    pub fn is_empty(&self) -> bool
+        ensures { IsTrue result ↔ (self.now ≡ []) }
+    {
+        self.columns.is_empty()
+    }
+
+    /// The column at a place, counted from 0.
+    pub fn column(&self, place: usize) -> &Column
+        requires { place < length self.now }
+        ensures { result.now ≡ column_at self.now place }
+    {
+        &self.columns[place]
+    }
+
+    /// The columns in their order.
+    pub fn columns(&self) -> &[Column]
+        ensures { result.now ≡ self.now }
+    {
+        self.columns.as_slice()
+    }
+}

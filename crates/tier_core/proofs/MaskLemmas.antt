@@ -1,12 +1,14 @@
 -- The tiers of a mask.
-use Rattle.std.proofs.Common.{◌≡◌, ℕ, ◌+◌, ◌^◌, ◌<◌, true, false, cond, List, [], ◌∷◌, ◌++◌, map, ap, ◌∙◌, ⊎_elim, arith, add-one}
+use Rattle.std.proofs.Common.{◌≡◌, ◌↔◌, IsTrue, sym, ℕ, ◌+◌, ◌*◌, ◌%◌, ◌==◌, bit_or, w16, ◌^◌, ◌<◌, true, false, cond, List, [], ◌∷◌, ◌++◌, map, ap, ◌∙◌, ⊎_elim, arith, add-one}
 use Rattle.std.specs.Int.{bit_at}
-use Rattle.std.proofs.lemmas.Bool.{cases_lt, eqb-true}
+use Rattle.std.proofs.lemmas.Bool.{false≢true, cases_lt, eqb-true}
 use Rattle.std.proofs.lemmas.List.{map-append, append-nil}
-use Rattle.std.proofs.lemmas.Nat.Bits.{bit_at_above}
+use Rattle.std.proofs.lemmas.Nat.{or_lt, one_shl, pow_below}
+use Rattle.std.proofs.lemmas.Nat.Bits.{bit_at_above, bit_at_set_same, bit_at_set_other}
 use Rattle.tier_core.specs.declared.sym.Sym.{Sym}
 use Rattle.tier_core.specs.Timelines.{symbol}
-use Rattle.tier_core.specs.Tiers.{has_tier, tiers_below, tiers_of}
+use Rattle.tier_core.specs.declared.tier.TierKind.{TierKind}
+use Rattle.tier_core.specs.Tiers.{has_tier, tiers_below, tiers_of, kind_at}
 
 -- a tier of a mask is below the width that bounds it
 pub tier_within : (keep width tier : ℕ) → keep < 2 ^ width → has_tier keep tier ≡ true → tier < width
@@ -29,3 +31,44 @@ kept_same column keep tier h =
 pub tiers_at_end : (keep n : ℕ) → n ≡ 12 → tiers_below keep n ≡ tiers_of keep
 unfolding tiers_of
 tiers_at_end keep n e = ap (tiers_below keep) e
+
+-- a tier is put into a mask of the tiers before it
+pub with_tier_few : (mask k : ℕ) → k < 16 → mask < 2 ^ k → bit_or mask (1 * 2 ^ k % 2 ^ 16) < 2 ^ (k + 1)
+with_tier_few mask k h l =
+    let next : 2 ^ k < 2 ^ (k + 1) = pow_below k (k + 1) (omega arith) in
+    or_lt (k + 1) mask (1 * 2 ^ k % 2 ^ 16) (omega arith) (omega (arith, one_shl k 16 h))
+
+pub with_tier_same : (mask k : ℕ) → k < 16 → has_tier (bit_or mask (1 * 2 ^ k % 2 ^ 16)) k ≡ true
+with_tier_same mask k h = ap (λ b. b == 1) (bit_at_set_same w16 mask k h)
+
+pub with_tier_other : (mask k t : ℕ) → k < 16 → t < k → has_tier (bit_or mask (1 * 2 ^ k % 2 ^ 16)) t ≡ has_tier mask t
+with_tier_other mask k t h l = ap (λ b. b == 1) (bit_at_set_other w16 mask k h t (λ e. absurd (omega arith)))
+
+-- a mask has no tier from its bound on
+pub no_tier_above : (mask k : ℕ) → mask < 2 ^ k → has_tier mask k ≡ false
+no_tier_above mask k l = ap (λ b. b == 1) (bit_at_above mask k k l (omega arith))
+
+-- the bits of a mask below n are those of the tiers of a kind
+pub record IsMaskBelow (kinds : List TierKind) (kind : TierKind) (mask n : ℕ) : Type 0 where
+  pub within : mask < 2 ^ n
+  pub bits : (t : ℕ) → t < n → IsTrue (has_tier mask t) ↔ (kind_at kinds t ≡ kind)
+
+-- one tier more, of the kind or not
+pub mask_with : (kinds : List TierKind) (kind : TierKind) (mask n : ℕ) → n < 16 → kind_at kinds n ≡ kind → IsMaskBelow kinds kind mask n → IsMaskBelow kinds kind (bit_or mask (1 * 2 ^ n % 2 ^ 16)) (n + 1)
+mask_with kinds kind mask n h e m = record {
+  within = with_tier_few mask n h m.within;
+  bits = λ t l. ⊎_elim
+      (λ below. let same = with_tier_other mask n t h below in (λ x. (m.bits t below).0 (sym same ∙ x), λ y. same ∙ (m.bits t below).1 y))
+      (λ above. let here : t ≡ n = omega arith in
+          (λ x. ap (kind_at kinds) here ∙ e, λ y. ap (has_tier (bit_or mask (1 * 2 ^ n % 2 ^ 16))) here ∙ with_tier_same mask n h))
+      (cases_lt t n);
+}
+
+pub mask_without : (kinds : List TierKind) (kind : TierKind) (mask n : ℕ) → (kind_at kinds n ≡ kind → ⊥) → IsMaskBelow kinds kind mask n → IsMaskBelow kinds kind mask (n + 1)
+mask_without kinds kind mask n other m = record {
+  within = let next : 2 ^ n < 2 ^ (n + 1) = pow_below n (n + 1) (omega arith) in omega (arith, m.within);
+  bits = λ t l. ⊎_elim (λ below. m.bits t below)
+      (λ above. let here : t ≡ n = omega arith in
+          (λ x. absurd (false≢true (sym (no_tier_above mask n m.within) ∙ (sym (ap (has_tier mask) here) ∙ x))), λ y. absurd (other (sym (ap (kind_at kinds) here) ∙ y))))
+      (cases_lt t n);
+}

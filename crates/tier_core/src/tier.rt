@@ -22,6 +22,13 @@ pub struct TierTable {
     pub ghost few: { length kinds.items ≤ 12 },
 }
 
+/// Whether two kinds are the same.
+fn is_same(a: TierKind, b: TierKind) -> bool
+    ensures { IsTrue result ↔ (a ≡ b) }
+{
+    a == b
+}
+
 impl TierTable {
     /// The mask of the tiers of a kind: bit t, counted from the lowest, is set exactly where tier
     /// t has that kind.
@@ -31,7 +38,7 @@ impl TierTable {
     {
         let mut mask = 0u16;
         for (tier, each) in self.kinds.iter().enumerate() {
-            if *each == kind {
+            if is_same(*each, kind) {
                 mask |= 1 << tier;
             }
         }

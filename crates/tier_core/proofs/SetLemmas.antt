@@ -1,0 +1,41 @@
+-- Sets of symbols by their numbers.
+use Rattle.std.proofs.Common.{◌≡◌, ℕ, ◌==◌, Bool, true, false, IsTrue, List, [], ◌∷◌, map, refl, ap, sym, ◌∙◌, get_or, ⊎_elim}
+use Rattle.std.specs.Int.{bit_at}
+use Rattle.std.proofs.lemmas.Bool.{false≢true, cases_eq, and_parts, and_from}
+use Rattle.std.proofs.lemmas.Nat.Bits.{bit_at-pow_same, bit_at-pow_other}
+use Rattle.tier_core.specs.declared.sym.Sym.{Sym}
+use Rattle.tier_core.specs.declared.sym.Sym.TheVariants.{Outside, Inside, Start, End, Both}
+use Rattle.tier_core.specs.Symbols.{rank, symbols}
+use Rattle.tier_core.specs.Sets.{is_in, single_set}
+use Rattle.tier_core.specs.Classes.{sets_have}
+
+-- a symbol is the one of its number
+pub of_rank : (s : Sym) → get_or symbols (rank s) Outside ≡ s
+of_rank Outside = refl
+of_rank Inside = refl
+of_rank Start = refl
+of_rank End = refl
+of_rank Both = refl
+
+pub rank_same : (r s : Sym) → rank r ≡ rank s → r ≡ s
+rank_same r s e = sym (of_rank r) ∙ ap (λ n. get_or symbols n Outside) e ∙ of_rank s
+
+-- the set of one symbol has that symbol alone
+pub alone_in : (s : Sym) → is_in (single_set s) s ≡ true
+alone_in s = ap (λ n. n == 1) (bit_at-pow_same (rank s))
+
+pub only_in : (s r : Sym) → is_in (single_set s) r ≡ true → r ≡ s
+only_in s r h = ⊎_elim (rank_same r s)
+    (λ other. let none : bit_at (single_set s) (rank r) ≡ 0 = bit_at-pow_other (rank s) (rank r) other in absurd (false≢true (sym (ap (λ n. n == 1) none) ∙ h)))
+    (cases_eq (rank r) (rank s))
+
+-- single sets have their own column alone
+pub alone_have : (column : List Sym) → sets_have (map single_set column) column ≡ true
+alone_have [] = refl
+alone_have (s ∷ column) = and_from _ _ (alone_in s) (alone_have column)
+
+pub only_have : (column other : List Sym) → sets_have (map single_set column) other ≡ true → other ≡ column
+only_have [] [] h = refl
+only_have [] (r ∷ other) h = absurd (false≢true h)
+only_have (s ∷ column) [] h = absurd (false≢true h)
+only_have (s ∷ column) (r ∷ other) h = let parts : (is_in (single_set s) r ≡ true) × (sets_have (map single_set column) other ≡ true) = and_parts _ _ h in cc (only_in s r parts.0, only_have column other parts.1)

@@ -1,0 +1,48 @@
+-- Candidates of a form, their violation vectors, and which candidates are optimal.
+-- That the candidates of a form are a regular set of timelines is after Ellison, Phonological
+-- Derivation in Optimality Theory (COLING 1994); the input part is this project's.
+use Rattle.std.specs.Prelude.{ℕ, ◌≡◌, IsTrue, List, length, map, take}
+use Rattle.std.specs.Ordering.{nat_cmp, is_le}
+use Rattle.std.specs.Cmp.Lexicographic.{slice_cmp}
+use Rattle.std.specs.declared.cmp.Ordering.{Ordering}
+use Rattle.tier_core.specs.declared.sym.Sym.{Sym}
+use Rattle.tier_core.specs.declared.constraint.Constraint.{Constraint}
+use Rattle.tier_core.specs.Tiers.{Tiers}
+use Rattle.tier_core.specs.Timelines.{IsWellFormed, IsReduced, project, squeeze}
+use Rattle.violation.specs.Counts.{violations_of, violations_so_far}
+
+-- the violation vector of a timeline: its violations of each constraint in ranked order, the highest first
+abbrev pub vec : List Constraint → List (List Sym) → List ℕ
+vec constraints T = map (λ c. violations_of c T) constraints
+
+-- the violations of each constraint so far, after n columns
+abbrev pub vec_so_far : List Constraint → List (List Sym) → ℕ → List ℕ
+vec_so_far constraints T n = map (λ c. violations_so_far c T n) constraints
+
+-- Vectors are compared lexicographically, so that constraints are strictly ranked.
+abbrev pub vec_cmp : List ℕ → List ℕ → Ordering
+vec_cmp v w = slice_cmp nat_cmp v w
+
+abbrev pub IsAtMost : List ℕ → List ℕ → Type 0
+IsAtMost v w = IsTrue (is_le (vec_cmp v w))
+
+-- T is a candidate of the form u: it is well formed and reduced over the tiers of the grammar, and
+-- its projection to the input tiers, squeezed, is u.
+pub record IsCandidate (tiers : Tiers) (u T : List (List Sym)) : Type 0 where
+  pub well_formed : IsWellFormed tiers.width T
+  pub reduced : IsReduced T
+  pub input : squeeze (project tiers.input T) ≡ u
+
+-- T is r-optimal: it is a candidate, and its first r counts are at most those of every candidate
+pub record IsOptimalFor (tiers : Tiers) (constraints : List Constraint) (u : List (List Sym)) (r : ℕ) (T : List (List Sym)) : Type 0 where
+  pub candidate : IsCandidate tiers u T
+  pub least : (U : List (List Sym)) → IsCandidate tiers u U → IsAtMost (take r (vec constraints T)) (take r (vec constraints U))
+
+-- T is optimal: it is r-optimal for r the number of constraints
+abbrev pub IsOptimal : Tiers → List Constraint → List (List Sym) → List (List Sym) → Type 0
+IsOptimal tiers constraints u T = IsOptimalFor tiers constraints u (length constraints) T
+
+-- v is the least vector of u, which the optimal candidates share
+pub record IsLeastVector (tiers : Tiers) (constraints : List Constraint) (u : List (List Sym)) (v : List ℕ) : Type 0 where
+  pub some : (T : List (List Sym)) × (IsOptimal tiers constraints u T × (vec constraints T ≡ v))
+  pub shared : (T : List (List Sym)) → IsOptimal tiers constraints u T → vec constraints T ≡ v

@@ -1,0 +1,9 @@
+pub mod Sides
+pub mod Counts
+pub mod Candidates
+pub mod Prefixes
+pub mod Stages
+pub mod Columns
+pub mod Moves
+pub mod Walks
+pub mod Conditions

@@ -1,0 +1,11 @@
+//! What a constraint counts on a timeline, violation vectors, and which timelines are candidates of
+//! a form; with the definitions of violations, candidates, optima, kinds of prefixes, stages and
+//! the moves of kinds.
+//!
+//! The crate stands on `tier_core`. The layers above use its calls, and the definitions of `specs/`.
+//! From reading a grammar on, the flow is: timelines and constraints (`tier_core`), what they count
+//! (this crate), moves of kinds, pruning, answers.
+//!
+//! Source: the two families of constraints are after Eisner, Efficient Generation in Primitive
+//! Optimality Theory (ACL 1997). What they count is this project's.
+#![tactic(auto)]

@@ -1,0 +1,34 @@
+ghost use Rattle.std.specs.Prelude.{◌≡◌, ◌<◌, ◌≤◌, List, Option, ℕ, length, take, Err, IfOk, OnErr};
+ghost use Rattle.outside.specs.Faults.{Rose};
+ghost use Rattle.outside.specs.Sent.{appended};
+
+use thiserror::Error;
+
+/// Why bytes were not taken.
+#[derive(Clone, Copy, Debug, PartialEq, Eq, Error)]
+pub enum WriteErr {
+    /// The sink failed, and counted the fault.
+    #[error("the bytes cannot be written")]
+    Failed,
+    /// The sink had no memory to hold the bytes.
+    #[error("out of memory")]
+    NoMemory,
+}
+
+/// Where bytes go.
+pub trait Sink {
+    /// The bytes that it has taken so far, or None where it does not tell.
+    ghost taken: { Self → Option (List ℕ) };
+
+    /// How many faults it has had.
+    ghost faults: { Self → ℕ };
+
+    /// Takes the first bytes of a piece, and answers how many: at least one of a piece that is not
+    /// empty. After a refusal it has taken none.
+    fn write(&mut self, piece: &[u8]) -> Result<usize, WriteErr>
+        ensures count { IfOk result (λ n. (n ≤ length piece.now) × (0 < length piece.now → 0 < n)) }
+        ensures ok { IfOk result (λ n. taken self.new ≡ appended (taken self.old) (take n piece.now)) }
+        ensures err { OnErr result (taken self.new ≡ taken self.old) }
+        ensures never_falls { faults self.old ≤ faults self.new }
+        ensures failed { result ≡ Err WriteErr.Failed → Rose (faults self.old) (faults self.new) };
+}

@@ -1,0 +1,4 @@
+pub mod Acceptance
+pub mod Right
+pub mod Text
+pub mod Shape

@@ -1,0 +1,8 @@
+-- What the text of an answer takes from a shape, and which answers fit it.
+use Rattle.std.specs.Prelude.{ℕ, ◌-◌, List}
+use Rattle.tier_core.specs.declared.shape.Shape.{Shape}
+use Rattle.tier_core.specs.Shapes.{input_count}
+use Rattle.answer_text.specs.Text.{Widths}
+
+abbrev pub widths_of : Shape → Widths
+widths_of shape = record { free = shape.width - input_count shape.inputs; stretches = shape.phases.items }

@@ -1,0 +1,90 @@
+-- The text of an answer, line by line.
+use Rattle.std.specs.Prelude.{ℕ, ◌+◌, ◌==◌, Bool, true, false, if◌then◌else◌, List, [], ◌∷◌, ◌++◌, length, map, filter, codes, slice_index_or}
+use Rattle.std.specs.List.{flat_map, join_with_byte}
+use Rattle.std.specs.Fmt.{decimal}
+use Rattle.tier_core.specs.declared.sym.Sym.{Sym}
+use Rattle.tier_core.specs.declared.class.Class.{Class}
+use Rattle.tier_core.specs.declared.kind.Kind.{Kind}
+use Rattle.tier_core.specs.Symbols.{byte_of, symbols}
+use Rattle.tier_core.specs.Sets.{is_in}
+use Rattle.tier_core.specs.Classes.{sets_of}
+use Rattle.tier_core.specs.Kinds.{Phase, closed, unmet, met, PrefixKind, prefix_kind}
+use Rattle.answer_text.specs.declared.stage.Node.{Node}
+use Rattle.answer_text.specs.declared.stage.Stage.{Stage}
+use Rattle.answer_text.specs.declared.automaton.ArcLine.{ArcLine}
+use Rattle.answer_text.specs.declared.automaton.StateLine.{StateLine}
+use Rattle.answer_text.specs.declared.answer.Answer.{Answer}
+
+-- a timeline is `empty`, or its columns with a space between two
+abbrev pub timeline_text : List (List Sym) → List ℕ
+timeline_text [] = codes "empty"
+timeline_text (column ∷ columns) = join_with_byte 32 (map (map byte_of) (column ∷ columns))
+
+-- numbers, each after a space
+abbrev pub spaced : List ℕ → List ℕ
+spaced numbers = flat_map (λ n. 32 ∷ decimal n) numbers
+
+-- a set of one symbol is the symbol, a set of more stands in braces
+abbrev pub braced : List ℕ → List ℕ
+braced bytes = if length bytes == 1 then bytes else codes "{" ++ bytes ++ codes "}"
+
+abbrev pub set_text : ℕ → List ℕ
+set_text set = braced (map byte_of (filter (is_in set) symbols))
+
+abbrev pub class_text : List ℕ → List ℕ
+class_text sets = flat_map set_text sets
+
+abbrev pub open_byte : Bool → ℕ
+open_byte true = 43
+open_byte false = 45
+
+-- `.` for closed, `u` for unmet, `m` for met
+abbrev pub phase_byte : Phase → ℕ
+phase_byte closed = 46
+phase_byte unmet = 117
+phase_byte met = 109
+
+-- PLACE/OPEN/PHASES
+abbrev pub kind_text : PrefixKind → List ℕ
+kind_text k = decimal k.place ++ codes "/" ++ map open_byte k.opened ++ codes "/" ++ map phase_byte k.phases
+
+-- What the lines take from the grammar: how many free tiers there are, and how many stretch
+-- implications are among the first r constraints, for each r.
+pub record Widths : Type 0 where
+  pub free : ℕ
+  pub stretches : List ℕ
+
+abbrev pub node_line : ℕ → ℕ → Node → List ℕ
+node_line free stretches node = codes "node " ++ kind_text (prefix_kind free stretches node.kind) ++ codes " " ++ decimal node.potential
+
+abbrev pub stage_lines : Widths → ℕ → List Node → List (List ℕ)
+stage_lines widths r nodes = (codes "stage " ++ decimal r ++ codes " " ++ decimal (length nodes))
+    ∷ map (node_line widths.free (slice_index_or widths.stretches r 0)) nodes
+
+-- the lines of the stages from number r on
+abbrev pub stages_lines : Widths → ℕ → List Stage → List (List ℕ)
+stages_lines widths r [] = []
+stages_lines widths r (stage ∷ stages) = stage_lines widths r stage.nodes.items ++ stages_lines widths (r + 1) stages
+
+abbrev pub arc_line : ArcLine → List ℕ
+arc_line arc = codes "arc " ++ decimal arc.target ++ codes " " ++ class_text (sets_of arc.class)
+
+abbrev pub state_lines : StateLine → List (List ℕ)
+state_lines state = (codes "state " ++ decimal state.node ++ (if state.accepting then codes " final" else [])) ∷ map arc_line state.arcs.items
+
+abbrev pub answer_lines : Widths → Answer → List (List ℕ)
+answer_lines widths answer = codes "answer 1"
+    ∷ (codes "form " ++ timeline_text answer.form)
+    ∷ (codes "counts" ++ spaced answer.counts.items)
+    ∷ (codes "example " ++ timeline_text answer.example)
+    ∷ (stages_lines widths 0 answer.stages.items
+    ++ (codes "automaton " ++ decimal (length answer.automaton.states.items))
+    ∷ (flat_map state_lines answer.automaton.states.items ++ codes "end" ∷ []))
+
+-- each line ends with a line feed
+abbrev pub lines_text : List (List ℕ) → List ℕ
+lines_text lines = flat_map (λ line. line ++ 10 ∷ []) lines
+
+-- the text of an answer
+abbrev pub answer_text : Widths → Answer → List ℕ
+answer_text widths answer = lines_text (answer_lines widths answer)

@@ -1,0 +1,16 @@
+//! Answers: what `generate` finds for a grammar and a form, what it means that an answer is right,
+//! and the text of an answer.
+//!
+//! An answer has the form, the least counts, the first optimal timeline, a stage of kinds with
+//! potentials for each constraint, and an automaton of all optimal timelines. The layers above make
+//! answers that are right, and write them by `put_answer`. Sets of candidates as automata are after
+//! Ellison, Phonological Derivation in Optimality Theory (COLING 1994).
+#![tactic(auto)]
+
+mod answer;
+mod automaton;
+mod stage;
+
+pub use answer::Answer;
+pub use automaton::{ArcLine, Automaton, StateLine};
+pub use stage::{Node, Stage};

@@ -60,7 +60,7 @@ mask_with kinds kind mask n h e m = record {
   bits = λ t l. ⊎_elim
       (λ below. let same = with_tier_other mask n t h below in (λ x. (m.bits t below).0 (sym same ∙ x), λ y. same ∙ (m.bits t below).1 y))
       (λ above. let here : t ≡ n = omega arith in
-          (λ x. ap (kind_at kinds) here ∙ e, λ y. ap (has_tier (bit_or mask (1 * 2 ^ n % 2 ^ 16))) here ∙ with_tier_same mask n h))
+      (λ x. ap (kind_at kinds) here ∙ e, λ y. ap (has_tier (bit_or mask (1 * 2 ^ n % 2 ^ 16))) here ∙ with_tier_same mask n h))
       (cases_lt t n);
 }
 
@@ -69,6 +69,6 @@ mask_without kinds kind mask n other m = record {
   within = let next : 2 ^ n < 2 ^ (n + 1) = pow_below n (n + 1) (omega arith) in omega (arith, m.within);
   bits = λ t l. ⊎_elim (λ below. m.bits t below)
       (λ above. let here : t ≡ n = omega arith in
-          (λ x. absurd (false≢true (sym (no_tier_above mask n m.within) ∙ (sym (ap (has_tier mask) here) ∙ x))), λ y. absurd (other (sym (ap (kind_at kinds) here) ∙ y))))
+      (λ x. absurd (false≢true (sym (no_tier_above mask n m.within) ∙ (sym (ap (has_tier mask) here) ∙ x))), λ y. absurd (other (sym (ap (kind_at kinds) here) ∙ y))))
       (cases_lt t n);
 }

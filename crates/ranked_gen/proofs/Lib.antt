@@ -2,3 +2,4 @@ pub mod NumberLemmas
 pub mod MemberLemmas
 pub mod Ascending
 pub mod ChoiceLemmas
+pub mod SymbolLemmas

@@ -3,3 +3,4 @@ pub mod MemberLemmas
 pub mod Ascending
 pub mod ChoiceLemmas
 pub mod SymbolLemmas
+pub mod MoveMembers

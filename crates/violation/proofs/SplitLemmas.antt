@@ -19,7 +19,7 @@ numbers_within test n (x ∷ xs) = step (test x) (all_weaker _ _ _ (λ t h. (ome
     step true h = ((omega arith, omega arith), h)
     step false h = h
 
-numbers_distinct : {X : Type 0} (test : X → Bool) (n : ℕ) (xs : List X) → AreDistinct (numbers_from test n xs)
+pub numbers_distinct : {X : Type 0} (test : X → Bool) (n : ℕ) (xs : List X) → AreDistinct (numbers_from test n xs)
 numbers_distinct test n [] = tt
 numbers_distinct test n (x ∷ xs) =
     step (test x) (all_weaker _ _ _ (λ t h. λ e. let l : suc n ≤ t = h.0 in omega arith) (numbers_within test (suc n) xs)) (numbers_distinct test (suc n) xs)

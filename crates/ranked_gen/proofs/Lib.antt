@@ -4,3 +4,4 @@ pub mod Ascending
 pub mod ChoiceLemmas
 pub mod SymbolLemmas
 pub mod MoveMembers
+pub mod MoveFits

@@ -5,3 +5,4 @@ pub mod ChoiceLemmas
 pub mod SymbolLemmas
 pub mod MoveMembers
 pub mod MoveFits
+pub mod MoveList

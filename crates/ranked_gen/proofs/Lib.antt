@@ -6,3 +6,4 @@ pub mod SymbolLemmas
 pub mod MoveMembers
 pub mod MoveFits
 pub mod MoveList
+pub mod ArcLemmas

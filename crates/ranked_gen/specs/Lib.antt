@@ -1,3 +1,4 @@
 pub mod Example
 pub mod Numbers
 pub mod Arcs
+pub mod Listed

@@ -4,3 +4,6 @@ pub mod Ascending
 pub mod ChoiceLemmas
 pub mod SymbolLemmas
 pub mod MoveMembers
+pub mod SplitTiers
+pub mod WidenedColumns
+pub mod BareForm

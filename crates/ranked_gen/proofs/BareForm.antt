@@ -16,11 +16,7 @@ use Rattle.tier_core.proofs.WordForm.{runs_from_well_formed, well_formed_from_ru
 use Rattle.violation.specs.Candidates.{IsCandidate, IsOptimalFor, IsOptimal}
 use Rattle.violation.specs.Conditions.{AreSplit}
 use Rattle.ranked_gen.specs.Example.{symbol_on, widened, bare_form}
-use Rattle.ranked_gen.proofs.WidenedColumns.{over, all_mapped, edge_of_part, length_over, symbol_over, word_outside, word_input, part_over, project_over}
-
-pub filter_every : {X : Type 0} (p : X → Bool) (xs : List X) → AllByRecursion (λ x. IsTrue (p x)) xs → filter p xs ≡ xs
-filter_every p [] h = refl
-filter_every p (x ∷ xs) h = cond-true (p x) (x ∷ filter p xs) (filter p xs) h.0 ∙ ap (λ ys. x ∷ ys) (filter_every p xs h.1)
+use Rattle.ranked_gen.proofs.WidenedColumns.{all_mapped, length_over, symbol_over, over_runs, over_reduced, squeeze_over}
 
 filter_short : {X : Type 0} (p : X → Bool) (xs : List X) → length (filter p xs) ≤ length xs
 filter_short p [] = omega arith
@@ -40,35 +36,16 @@ filter_whole p (x ∷ xs) h = by_test (p x) h (filter_whole p xs) (filter_short 
     by_test true e rest l = ap (λ ys. x ∷ ys) (rest (omega arith))
     by_test false e rest l = absurd (omega arith)
 
-runs_outside : (u : List (List Sym)) → runs false (map (λ c. Outside) u) ≡ true
-runs_outside [] = refl
-runs_outside (c ∷ u) = runs_outside u
-
-module _ (tiers : Tiers) (split : AreSplit tiers) (u : List (List Sym)) (wf : IsWellFormed (length tiers.input) u) where
-
-  -- the input tiers read as the form does, and the free ones are empty
-  bare_runs : (t : ℕ) → t < tiers.width → runs false (word (bare_form tiers u) t) ≡ true
-  bare_runs t l = ⊎_elim
-      (λ i.
-      let at : get_or tiers.input i.0 0 ≡ t = get_or_default tiers.input i.0 0 t i.1 ∙ i.2 in
-      let same = word_input tiers (λ t. false) Outside split (λ t c. refl) u i.0 i.1 in
-      ap (λ (x : ℕ). runs false (word (bare_form tiers u) x)) (sym at) ∙ ap (runs false) same ∙ runs_from_well_formed (word u i.0) (wf.each_tier i.0 i.1))
-      (λ f. ap (runs false) (word_outside tiers (λ t. false) Outside u t l refl (λ i. split.apart t i f)) ∙ runs_outside u)
-      (split.each t l)
-
-  pub bare_candidate : IsReduced u → IsCandidate tiers u (bare_form tiers u)
-  bare_candidate reduced = record {
-    well_formed = record {
-      one_width = all_mapped _ (widened tiers) u (length_over tiers (λ t. false) Outside);
-      each_tier = λ t l. well_formed_from_runs (word (bare_form tiers u) t) (bare_runs t l);
-    };
-    reduced = each_edge u wf.one_width reduced;
-    input = ap squeeze (project_over tiers (λ t. false) Outside split (λ t c. refl) u wf.one_width) ∙ filter_every has_edge u reduced;
-  }
-    where
-      each_edge : (v : List (List Sym)) → AllByRecursion (λ column. length column ≡ length tiers.input) v → IsReduced v → IsReduced (map (widened tiers) v)
-      each_edge [] a r = tt
-      each_edge (c ∷ v) a r = (edge_of_part tiers.input (widened tiers c) (ap has_edge (part_over tiers (λ t. false) Outside split (λ t c. refl) c a.0) ∙ r.0), each_edge v a.1 r.1)
+-- The bare form is a candidate.
+pub bare_candidate : (tiers : Tiers) (u : List (List Sym)) → AreSplit tiers → IsWellFormed (length tiers.input) u → IsReduced u → IsCandidate tiers u (bare_form tiers u)
+bare_candidate tiers u split wf reduced = record {
+  well_formed = record {
+    one_width = all_mapped _ (widened tiers) u (length_over tiers (λ t. false) Outside);
+    each_tier = λ t l. well_formed_from_runs (word (bare_form tiers u) t) (over_runs tiers (λ t. false) Outside split (λ t c. refl) u t wf l refl);
+  };
+  reduced = over_reduced tiers (λ t. false) Outside split (λ t c. refl) u wf.one_width reduced;
+  input = squeeze_over tiers (λ t. false) Outside split (λ t c. refl) u wf.one_width reduced;
+}
 
 -- where no constraint is ranked each candidate is optimal
 pub all_optimal : (tiers : Tiers) (u T : List (List Sym)) → IsCandidate tiers u T → IsOptimalFor tiers [] u 0 T
@@ -143,6 +120,6 @@ bare_least tiers u U c =
 -- With no constraint, the bare form is the first of the optimal candidates.
 pub bare_first : (tiers : Tiers) (u : List (List Sym)) → AreSplit tiers → IsWellFormed (length tiers.input) u → IsReduced u → IsFirst (IsOptimal tiers [] u) (bare_form tiers u)
 bare_first tiers u split wf reduced = record {
-  member = all_optimal tiers u (bare_form tiers u) (bare_candidate tiers split u wf reduced);
+  member = all_optimal tiers u (bare_form tiers u) (bare_candidate tiers u split wf reduced);
   least = λ U o. bare_least tiers u U o.candidate;
 }

@@ -7,3 +7,4 @@ pub mod MoveMembers
 pub mod SplitTiers
 pub mod WidenedColumns
 pub mod BareForm
+pub mod AllPassed

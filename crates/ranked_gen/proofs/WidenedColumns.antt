@@ -1,5 +1,5 @@
 -- Columns of a form widened to all tiers, with one symbol on the tiers of some flags.
-use Rattle.std.proofs.Common.{◌≡◌, ℕ, zero, suc, ◌+◌, ◌<◌, ◌≤◌, ◌≢◌, ◌==◌, Bool, true, false, ◌||◌, cond, List, [], ◌∷◌, map, length, get_or, Contains, All, IsTrue, refl, sym, ap, ◌∙◌, ⊎_elim, ext_get_or, arith}
+use Rattle.std.proofs.Common.{◌≡◌, ℕ, zero, suc, ◌+◌, ◌<◌, ◌≤◌, ◌≢◌, ◌==◌, Bool, true, false, ◌||◌, cond, List, [], ◌∷◌, map, length, get_or, filter, Contains, All, IsTrue, refl, sym, ap, ◌∙◌, ⊎_elim, ext_get_or, arith}
 use Rattle.std.specs.List.{AllByRecursion, range_with_len, list_any}
 use Rattle.std.proofs.lemmas.Bool.{eq-eqb, ne_eqb, cond-true, cond-false, or_cases, or_left, or_right, false≢true}
 use Rattle.std.proofs.lemmas.List.{get_or_default, get_or-map, length-map}
@@ -8,7 +8,9 @@ use Rattle.std.proofs.lemmas.List.FromFn.{length-map-range_with_len, get_or-map-
 use Rattle.std.proofs.lemmas.List.Folds.{list_any_none}
 use Rattle.tier_core.specs.declared.sym.Sym.{Sym}
 use Rattle.tier_core.specs.declared.sym.Sym.TheVariants.{Outside, Inside, Start, End, Both}
-use Rattle.tier_core.specs.Timelines.{symbol, word, is_edge, has_edge, project}
+use Rattle.tier_core.specs.Timelines.{symbol, word, is_edge, has_edge, project, squeeze, IsWellFormed, IsReduced}
+use Rattle.tier_core.proofs.WordLemmas.{runs}
+use Rattle.tier_core.proofs.WordForm.{runs_from_well_formed}
 use Rattle.tier_core.specs.Tiers.{Tiers}
 use Rattle.violation.specs.Conditions.{AreDistinct, AreSplit}
 use Rattle.ranked_gen.specs.Example.{symbol_on}
@@ -23,6 +25,14 @@ all_at P xs i d l h = All-get_or P xs i d l (All-from_recursion P xs h)
 pub all_mapped : {X Y : Type 0} (P : Y → Type 0) (f : X → Y) (xs : List X) → ((x : X) → P (f x)) → AllByRecursion P (map f xs)
 all_mapped P f [] h = tt
 all_mapped P f (x ∷ xs) h = (h x, all_mapped P f xs h)
+
+pub filter_every : {X : Type 0} (p : X → Bool) (xs : List X) → AllByRecursion (λ x. IsTrue (p x)) xs → filter p xs ≡ xs
+filter_every p [] h = refl
+filter_every p (x ∷ xs) h = cond-true (p x) (x ∷ filter p xs) (filter p xs) h.0 ∙ ap (λ ys. x ∷ ys) (filter_every p xs h.1)
+
+runs_outside : (u : List (List Sym)) → runs false (map (λ c. Outside) u) ≡ true
+runs_outside [] = refl
+runs_outside (c ∷ u) = runs_outside u
 
 pub on_nothing : (xs : List ℕ) (t : ℕ) → symbol_on xs [] t ≡ Outside
 on_nothing [] t = refl
@@ -117,3 +127,21 @@ module _ (tiers : Tiers) (flag : ℕ → Bool) (s : Sym) where
         let first = part_over c h.0 in
         let rest = project_over u h.1 in
         cc
+
+    -- an input tier reads as the form's tier, and a free one that is not flagged is empty
+    pub over_runs : (u : List (List Sym)) (t : ℕ) → IsWellFormed (length tiers.input) u → t < tiers.width → flag t ≡ false → runs false (word (map (over tiers flag s) u) t) ≡ true
+    over_runs u t wf l h = ⊎_elim
+        (λ i.
+        let at : get_or tiers.input i.0 0 ≡ t = get_or_default tiers.input i.0 0 t i.1 ∙ i.2 in
+        ap (λ (x : ℕ). runs false (word (map (over tiers flag s) u) x)) (sym at) ∙ ap (runs false) (word_input u i.0 i.1) ∙ runs_from_well_formed (word u i.0) (wf.each_tier i.0 i.1))
+        (λ f. ap (runs false) (word_outside u t l h (λ i. split.apart t i f)) ∙ runs_outside u)
+        (split.each t l)
+
+    -- each column keeps the edge of the form's column
+    pub over_reduced : (u : List (List Sym)) → AllByRecursion (λ column. length column ≡ length tiers.input) u → IsReduced u → IsReduced (map (over tiers flag s) u)
+    over_reduced [] a r = tt
+    over_reduced (c ∷ u) a r = (edge_of_part tiers.input (over tiers flag s c) (ap has_edge (part_over c a.0) ∙ r.0), over_reduced u a.1 r.1)
+
+    -- the form is their input part
+    pub squeeze_over : (u : List (List Sym)) → AllByRecursion (λ column. length column ≡ length tiers.input) u → IsReduced u → squeeze (project tiers.input (map (over tiers flag s) u)) ≡ u
+    squeeze_over u a r = ap squeeze (project_over u a) ∙ filter_every has_edge u r

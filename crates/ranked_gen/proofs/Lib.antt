@@ -8,3 +8,4 @@ pub mod SplitTiers
 pub mod WidenedColumns
 pub mod BareForm
 pub mod AllPassed
+pub mod InputTiers

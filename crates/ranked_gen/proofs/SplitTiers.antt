@@ -58,7 +58,7 @@ module _ (kinds : List TierKind) where
   passing : (test : TierKind → Bool) → AllByRecursion (λ t. (0 ≤ t) × (t < 0 + length kinds) × (test (kind_at kinds t) ≡ true)) (numbers_from test 0 kinds)
   passing test = numbers_pass test (λ t. test (kind_at kinds t)) 0 kinds (λ k l. let same : 0 + k ≡ k = omega arith in ap (λ (m : ℕ). test (kind_at kinds m)) same)
 
-  passes : (test : TierKind → Bool) (t : ℕ) → Contains (numbers_from test 0 kinds) t → test (kind_at kinds t) ≡ true
+  pub passes : (test : TierKind → Bool) (t : ℕ) → Contains (numbers_from test 0 kinds) t → test (kind_at kinds t) ≡ true
   passes test t c = All-contains (λ t. test (kind_at kinds t) ≡ true) _ t (All-from_recursion (λ t. test (kind_at kinds t) ≡ true) _ (all_weaker _ _ _ (λ t a. a.2) (passing test))) c
 
   pub tiers_split : AreSplit (tiers_by_kinds kinds)

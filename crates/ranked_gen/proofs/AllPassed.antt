@@ -1,17 +1,17 @@
 -- With no constraint, each pair of a place in the form and a set of open free tiers is the kind of a prefix.
-use Rattle.std.proofs.Common.{◌≡◌, ℕ, zero, suc, ◌+◌, ◌<◌, ◌≤◌, ◌≢◌, ◌==◌, ◌⊎◌, Bool, true, false, not, ◌&&◌, ◌||◌, cond, List, [], ◌∷◌, ◌++◌, map, length, take, get_or, Contains, refl, sym, ap, ap₂, ◌∙◌, inl, inr, ⊎_elim, ext_get_or, append-nil, arith}
+use Rattle.std.proofs.Common.{◌≡◌, ℕ, zero, suc, ◌+◌, ◌<◌, ◌≤◌, ◌≢◌, ◌==◌, ◌⊎◌, Bool, true, false, List, [], ◌∷◌, ◌++◌, map, length, take, get_or, Contains, refl, sym, ap, ap₂, ◌∙◌, inl, inr, ⊎_elim, ext_get_or, append-nil, arith}
 use Rattle.std.specs.List.{AllByRecursion, list_any}
 use Rattle.std.proofs.lemmas.Bool.{false≢true, cases_lt, cond-true, cond-false, eq-eqb, ne_eqb, and_parts, and_from}
 use Rattle.std.proofs.lemmas.List.{length-map, length-append, length-take-le, map-append, take-map, take-append-le, get_or-map}
 use Rattle.std.proofs.lemmas.List.Elements.{All-from_recursion, recursion_from_All, All-take, All-contains_itself, filter-append}
 use Rattle.tier_core.specs.declared.sym.Sym.{Sym}
-use Rattle.tier_core.specs.declared.sym.Sym.TheVariants.{Outside, Inside, Start, End, Both}
+use Rattle.tier_core.specs.declared.sym.Sym.TheVariants.{Outside, Inside, Start, End}
 use Rattle.tier_core.specs.Words.{ends}
 use Rattle.tier_core.specs.Scan.{fits, opens}
 use Rattle.tier_core.specs.Timelines.{symbol, word, is_edge, has_edge, project, squeeze, IsWellFormed, IsReduced}
 use Rattle.tier_core.specs.Tiers.{Tiers}
 use Rattle.tier_core.specs.Kinds.{PrefixKind}
-use Rattle.tier_core.proofs.CountLemmas.{all_append, all_weaker}
+use Rattle.tier_core.proofs.CountLemmas.{all_append}
 use Rattle.tier_core.proofs.WordLemmas.{runs}
 use Rattle.tier_core.proofs.WordForm.{well_formed_from_runs}
 use Rattle.violation.specs.Candidates.{IsCandidate}
@@ -129,7 +129,7 @@ module _ (tiers : Tiers) (split : AreSplit tiers) (flag : ℕ → Bool) (off : (
     reduced = (
       edge_at (over tiers flag Start []) t (ap is_edge (first_symbol Start t l h)),
       all_append _ (map (over tiers flag Inside) u) (over tiers flag End [] ∷ []) (over_reduced tiers flag Inside split off u wf.one_width r)
-      (edge_at (over tiers flag End []) t (ap is_edge (first_symbol End t l h)), tt),
+          (edge_at (over tiers flag End []) t (ap is_edge (first_symbol End t l h)), tt),
     );
     input = marked_input u wf.one_width r;
   }

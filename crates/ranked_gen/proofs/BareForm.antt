@@ -1,18 +1,17 @@
 -- The form with no constituent on the free tiers is a candidate, and the first of them.
-use Rattle.std.proofs.Common.{◌≡◌, ℕ, zero, suc, ◌+◌, ◌<◌, ◌≤◌, ◌==◌, Bool, true, false, ◌&&◌, cond, ltb, List, [], ◌∷◌, ◌++◌, map, length, get_or, filter, Contains, IsTrue, Ordering, Less, Equal, Greater, nat_cmp, is_le, refl, sym, ap, ◌∙◌, subst, ⊎_elim, arith}
-use Rattle.std.specs.List.{AllByRecursion, range_with_len, list_any}
+use Rattle.std.proofs.Common.{◌≡◌, ℕ, suc, ◌<◌, ◌≤◌, ◌==◌, Bool, true, false, cond, List, [], ◌∷◌, map, length, filter, Ordering, Less, Equal, Greater, nat_cmp, is_le, refl, sym, ap, ◌∙◌, ⊎_elim, arith}
+use Rattle.std.specs.List.{AllByRecursion}
 use Rattle.std.specs.Ordering.{ordering_then}
 use Rattle.std.specs.Cmp.Lexicographic.{slice_cmp}
-use Rattle.std.proofs.lemmas.Bool.{false≢true, cases_lt, cond-true, cond-false, eqb-true, lt-ltb, le-ltb, eq-eqb}
-use Rattle.std.proofs.lemmas.List.{length-map, get_or_default}
+use Rattle.std.proofs.lemmas.Bool.{cases_lt, eqb-true, lt-ltb, le-ltb, eq-eqb}
+use Rattle.std.proofs.lemmas.List.{length-map}
 use Rattle.tier_core.specs.declared.sym.Sym.{Sym}
-use Rattle.tier_core.specs.declared.sym.Sym.TheVariants.{Outside, Inside, Start, End, Both}
+use Rattle.tier_core.specs.declared.sym.Sym.TheVariants.{Outside}
 use Rattle.tier_core.specs.Symbols.{rank}
 use Rattle.tier_core.specs.Timelines.{symbol, word, has_edge, project, squeeze, IsWellFormed, IsReduced}
 use Rattle.tier_core.specs.Orders.{sym_cmp, column_cmp, timeline_cmp, IsFirst}
 use Rattle.tier_core.specs.Tiers.{Tiers}
-use Rattle.tier_core.proofs.WordLemmas.{runs}
-use Rattle.tier_core.proofs.WordForm.{runs_from_well_formed, well_formed_from_runs}
+use Rattle.tier_core.proofs.WordForm.{well_formed_from_runs}
 use Rattle.violation.specs.Candidates.{IsCandidate, IsOptimalFor, IsOptimal}
 use Rattle.violation.specs.Conditions.{AreSplit}
 use Rattle.ranked_gen.specs.Example.{symbol_on, widened, bare_form}

@@ -1,12 +1,11 @@
 -- The tiers of a list of kinds are split: each is an input tier or a free one, and not both.
-use Rattle.std.proofs.Common.{◌≡◌, ℕ, zero, suc, ◌+◌, ◌-◌, ◌<◌, ◌≤◌, ◌≢◌, ◌⊎◌, Bool, true, false, not, cond, List, [], ◌∷◌, ◌++◌, length, take, get_or, Contains, All, refl, sym, ap, ◌∙◌, subst, inl, inr, arith}
+use Rattle.std.proofs.Common.{◌≡◌, ℕ, zero, suc, ◌+◌, ◌-◌, ◌<◌, ◌≤◌, ◌≢◌, ◌⊎◌, Bool, true, false, not, cond, List, [], ◌∷◌, ◌++◌, length, take, get_or, Contains, refl, sym, ap, ◌∙◌, inl, inr, arith}
 use Rattle.std.specs.List.{AllByRecursion}
 use Rattle.std.proofs.lemmas.Bool.{false≢true}
 use Rattle.std.proofs.lemmas.List.{get_or_default}
 use Rattle.std.proofs.lemmas.List.Elements.{All-from_recursion, All-contains}
 use Rattle.tier_core.specs.declared.tier.TierKind.{TierKind}
-use Rattle.tier_core.specs.declared.tier.TierKind.TheVariants.{Input}
-use Rattle.tier_core.specs.Tiers.{Tiers, is_input, is_overt, is_free, numbers_from, tiers_by_kinds, kind_at}
+use Rattle.tier_core.specs.Tiers.{is_input, is_free, numbers_from, tiers_by_kinds, kind_at}
 use Rattle.tier_core.proofs.CountLemmas.{all_weaker}
 use Rattle.violation.specs.Conditions.{AreDistinct, AreSplit}
 

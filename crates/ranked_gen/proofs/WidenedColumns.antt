@@ -1,5 +1,5 @@
 -- Columns of a form widened to all tiers, with one symbol on the tiers of some flags.
-use Rattle.std.proofs.Common.{◌≡◌, ℕ, zero, suc, ◌+◌, ◌<◌, ◌≤◌, ◌≢◌, ◌==◌, Bool, true, false, ◌||◌, cond, List, [], ◌∷◌, map, length, get_or, filter, Contains, All, IsTrue, refl, sym, ap, ◌∙◌, ⊎_elim, ext_get_or, arith}
+use Rattle.std.proofs.Common.{◌≡◌, ℕ, zero, suc, ◌<◌, ◌≢◌, ◌==◌, Bool, true, false, cond, List, [], ◌∷◌, map, length, get_or, filter, Contains, IsTrue, refl, sym, ap, ◌∙◌, ⊎_elim, ext_get_or, arith}
 use Rattle.std.specs.List.{AllByRecursion, range_with_len, list_any}
 use Rattle.std.proofs.lemmas.Bool.{eq-eqb, ne_eqb, cond-true, cond-false, or_cases, or_left, or_right, false≢true}
 use Rattle.std.proofs.lemmas.List.{get_or_default, get_or-map, length-map}
@@ -7,7 +7,7 @@ use Rattle.std.proofs.lemmas.List.Elements.{All-from_recursion, recursion_from_A
 use Rattle.std.proofs.lemmas.List.FromFn.{length-map-range_with_len, get_or-map-range_with_len}
 use Rattle.std.proofs.lemmas.List.Folds.{list_any_none}
 use Rattle.tier_core.specs.declared.sym.Sym.{Sym}
-use Rattle.tier_core.specs.declared.sym.Sym.TheVariants.{Outside, Inside, Start, End, Both}
+use Rattle.tier_core.specs.declared.sym.Sym.TheVariants.{Outside}
 use Rattle.tier_core.specs.Timelines.{symbol, word, is_edge, has_edge, project, squeeze, IsWellFormed, IsReduced}
 use Rattle.tier_core.proofs.WordLemmas.{runs}
 use Rattle.tier_core.proofs.WordForm.{runs_from_well_formed}

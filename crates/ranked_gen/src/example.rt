@@ -37,7 +37,11 @@ fn widened(alloc: Global, kinds: &[TierKind], column: &[Sym]) -> Column
 
 /// The form with no constituent on the free tiers: each of its columns, which have a symbol for
 /// each input tier, widened to all tiers. It fails only for want of memory.
-pub(crate) fn bare_form(alloc: Global, tiers: &TierTable, form: &Timeline) -> Result<Timeline, NoMemory>
+pub(crate) fn bare_form(
+    alloc: Global,
+    tiers: &TierTable,
+    form: &Timeline,
+) -> Result<Timeline, NoMemory>
     requires { AllByRecursion (λ column. length column ≡ length (tiers_of_table tiers.now).input) form.now }
     ensures { IfOk result (λ t. t ≡ bare_form (tiers_of_table tiers.now) form.now) }
 {

@@ -4,7 +4,7 @@ pub mod Ascending
 pub mod ChoiceLemmas
 pub mod SymbolLemmas
 pub mod MoveMembers
-pub mod SplitTiers
+pub mod NumberedKinds
 pub mod WidenedColumns
 pub mod BareForm
 pub mod AllPassed

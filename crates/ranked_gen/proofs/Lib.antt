@@ -7,3 +7,9 @@ pub mod MoveMembers
 pub mod MoveFits
 pub mod MoveList
 pub mod ArcLemmas
+pub mod NumberedKinds
+pub mod WidenedColumns
+pub mod BareForm
+pub mod AllPassed
+pub mod InputTiers
+pub mod AutomatonMoves

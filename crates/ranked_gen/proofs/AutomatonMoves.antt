@@ -97,6 +97,12 @@ module _ (tiers : Tiers) (split : AreSplit tiers) (u : List (List Sym)) where
   reached_within k [] w h = w
   reached_within k (column ∷ T) w h = reached_within (moved tiers [] 0 k column) T (moved_within k column h.0 w.place) h.1
 
+  -- the kind of a prefix of a candidate is within
+  pub kind_within : IsForm tiers u → (p : List (List Sym)) → BeginsCandidate tiers u p → IsWithin tiers u (kind_of tiers [] 0 p)
+  kind_within form p b =
+      let walk = (moves_begin tiers [] 0 u split form tt p).1 b in
+      subst (IsWithin tiers u) (reached_is tiers [] 0 u split form tt p walk) (reached_within (kind_of tiers [] 0 []) p start_within walk)
+
 -- The states have these numbers.
 module _ (tiers : Tiers) (split : AreSplit tiers) (distinct : AreDistinct tiers.free) (u : List (List Sym)) (form : IsForm tiers u)
     (states : List StateLine) (count : length states ≡ kind_count tiers u) (each : AreNumbered (IsStateNumbered tiers u) 0 states) where
@@ -212,10 +218,9 @@ module _ (tiers : Tiers) (split : AreSplit tiers) (distinct : AreDistinct tiers.
       }
 
   -- reading a prefix of a candidate ends at the number of its kind
-  pub prefix_leads : (p : List (List Sym)) → BeginsCandidate tiers u p → IsWithin tiers u (kind_of tiers [] 0 p) × Leads states 0 p (number_of_kind (length tiers.free) (kind_of tiers [] 0 p))
+  pub prefix_leads : (p : List (List Sym)) → BeginsCandidate tiers u p → Leads states 0 p (number_of_kind (length tiers.free) (kind_of tiers [] 0 p))
   prefix_leads p b =
       let walk = (moves_begin tiers [] 0 u split form tt p).1 b in
       let kinds : reached tiers [] 0 (kind_of tiers [] 0 []) p ≡ kind_of tiers [] 0 p = reached_is tiers [] 0 u split form tt p walk in
-      (subst (IsWithin tiers u) kinds (reached_within tiers split u (kind_of tiers [] 0 []) p (start_within tiers split u) walk),
       subst (λ q. Leads states 0 p (number_of_kind (length tiers.free) q)) kinds
-          (subst (λ q. Leads states 0 p (number_of_kind (length tiers.free) (reached tiers [] 0 q p))) first_kind (walk_leads 0 p some (subst (λ q. HasMoves tiers [] 0 u q p) (sym first_kind) walk))))
+          (subst (λ q. Leads states 0 p (number_of_kind (length tiers.free) (reached tiers [] 0 q p))) first_kind (walk_leads 0 p some (subst (λ q. HasMoves tiers [] 0 u q p) (sym first_kind) walk)))

@@ -13,3 +13,4 @@ pub mod BareForm
 pub mod AllPassed
 pub mod InputTiers
 pub mod AutomatonMoves
+pub mod RightAnswer

@@ -47,7 +47,7 @@ same_symbol Start = refl
 same_symbol End = refl
 same_symbol Both = refl
 
-nat_less : (a b : ℕ) → nat_cmp a b ≡ Less → a < b
+pub nat_less : (a b : ℕ) → nat_cmp a b ≡ Less → a < b
 nat_less a b e = ⊎_elim (λ same. absurd (differ Equal refl (nat_cmp_is a b Equal same ∙ e)))
     (λ other. ⊎_elim (λ l. l) (λ g. absurd (differ Greater refl (nat_cmp_is a b Greater g ∙ e))) other) (cases_order a b)
   where

@@ -14,3 +14,4 @@ pub mod AllPassed
 pub mod InputTiers
 pub mod AutomatonMoves
 pub mod RightAnswer
+pub mod PickLemmas

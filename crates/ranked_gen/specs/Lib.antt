@@ -2,3 +2,4 @@ pub mod Example
 pub mod Numbers
 pub mod Arcs
 pub mod Listed
+pub mod Picks

@@ -6,3 +6,4 @@
 #![tactic(auto)]
 
 mod example;
+mod pick;

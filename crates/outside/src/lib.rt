@@ -4,8 +4,18 @@
 //! [`Sink`].
 #![tactic(auto)]
 
+pub use mem_sink::MemSink;
 pub use put::put_all;
+pub use safe_sink::SafeSink;
 pub use sink::{Sink, WriteErr};
+pub use stream_sink::StreamSink;
+pub use waiting::Waiting;
 
+mod mem_sink;
 mod put;
+mod safe_sink;
 mod sink;
+mod stream_sink;
+#[cfg(test)]
+mod tests;
+mod waiting;

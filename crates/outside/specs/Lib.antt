@@ -1,3 +1,5 @@
 pub mod Faults
 pub mod Sent
 pub mod MemSink
+pub mod Held
+pub mod Counts

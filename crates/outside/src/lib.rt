@@ -6,14 +6,20 @@
 
 pub use mem_sink::MemSink;
 pub use put::put_all;
+pub use safe_shelf::SafeShelf;
 pub use safe_sink::SafeSink;
+pub use shelf::{LoadErr, Shelf};
 pub use sink::{Sink, WriteErr};
 pub use stream_sink::StreamSink;
 pub use waiting::Waiting;
 
+mod counts;
+mod files;
 mod mem_sink;
 mod put;
+mod safe_shelf;
 mod safe_sink;
+mod shelf;
 mod sink;
 mod stream_sink;
 #[cfg(test)]

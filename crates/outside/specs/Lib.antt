@@ -3,3 +3,4 @@ pub mod Sent
 pub mod MemSink
 pub mod Held
 pub mod Counts
+pub mod MemShelf

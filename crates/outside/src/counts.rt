@@ -1,4 +1,4 @@
-ghost use Rattle.std.specs.Prelude.{◌≡◌, ◌≢◌, ℕ, List, IsSome, OnOk};
+ghost use Rattle.std.specs.Prelude.{◌≡◌, ◌≢◌, ◌≤◌, ℕ, List, IsSome, OnOk};
 ghost use Rattle.std.specs.BTreeMap.{get_by_text};
 ghost use Rattle.outside.specs.Faults.{counted};
 ghost use Rattle.outside.specs.Counts.{count_of};
@@ -24,6 +24,7 @@ pub(crate) fn prepare(counts: &mut Counts, alloc: Global, name: &str) -> Result<
 pub(crate) fn raise(counts: &mut Counts, name: &str)
     requires ready { IsSome (get_by_text counts.old name.now) }
     ensures raised { count_of counts.new name.now ≡ counted (count_of counts.old name.now) }
+    ensures never_falls { (other : List ℕ) → count_of counts.old other ≤ count_of counts.new other }
     ensures others { (other : List ℕ) → other ≢ name.now → count_of counts.new other ≡ count_of counts.old other }
 {
     if let Some(count) = counts.get_mut(name) {

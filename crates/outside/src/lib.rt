@@ -4,6 +4,8 @@
 //! [`Sink`].
 #![tactic(auto)]
 
+pub use file_shelf::FileShelf;
+pub use mem_shelf::MemShelf;
 pub use mem_sink::MemSink;
 pub use put::put_all;
 pub use safe_shelf::SafeShelf;
@@ -14,7 +16,9 @@ pub use stream_sink::StreamSink;
 pub use waiting::Waiting;
 
 mod counts;
+mod file_shelf;
 mod files;
+mod mem_shelf;
 mod mem_sink;
 mod put;
 mod safe_shelf;

@@ -3,6 +3,8 @@ ghost use Rattle.outside.specs.Faults.{Rose};
 ghost use Rattle.outside.specs.Sent.{appended, HasSentPart, Sends};
 
 use super::*;
+use std::alloc::{AllocError, Global};
+use std::fs;
 use std::test::Fail;
 
 // A writer of a text in two pieces, as the crates above write theirs.
@@ -82,5 +84,84 @@ fn pieces_wait(rt: HostRuntime) -> Result<(), Fail> {
 fn standard_error_takes_text(rt: HostRuntime) -> Result<(), Fail> {
     let mut sink = StreamSink::new(rt.stderr());
     put_all(&mut sink, b"a line\n")?;
+    Ok(())
+}
+
+fn two_files(alloc: Global) -> Result<Vec<(String, Vec<u8>)>, AllocError> {
+    let mut files = Vec::new(alloc);
+    files.push((String::from_str(alloc, "a.otp")?, b"otp 1\n".to_vec(alloc)?))?;
+    files.push((String::from_str(alloc, "b.lex")?, b"".to_vec(alloc)?))?;
+    Ok(files)
+}
+
+// The length of what a shelf loads.
+fn load_length<S: Shelf>(
+    shelf: &mut S,
+    alloc: Global,
+    name: &str,
+    limit: u64,
+) -> Result<usize, LoadErr> {
+    let bytes = shelf.load(alloc, name, limit)?;
+    Ok(bytes.len())
+}
+
+// The second load fails, and so does each load of a name that is not held.
+#[test]
+fn chosen_loads_fail(rt: HostRuntime) -> Result<(), Fail> {
+    let alloc = rt.alloc();
+    let mut shelf = MemShelf::new(alloc, two_files(alloc)?, [2].to_vec(alloc)?);
+    let cases = [
+        ("a.otp", 6, Ok(6)),
+        ("a.otp", 6, Err(LoadErr::Failed)),
+        ("a.otp", 5, Err(LoadErr::TooLong)),
+        ("b.lex", 0, Ok(0)),
+        ("c.lex", 9, Err(LoadErr::Failed)),
+        ("a.otp", 9, Ok(6)),
+    ];
+    for (name, limit, answer) in cases {
+        let loaded = load_length(&mut shelf, alloc, name, limit);
+        assert_eq!(rt; loaded, answer, "{name} in {limit} bytes");
+    }
+    Ok(())
+}
+
+#[test]
+fn unknown_names_are_empty(rt: HostRuntime) -> Result<(), Fail> {
+    let alloc = rt.alloc();
+    let mut shelf = SafeShelf::new(two_files(alloc)?);
+    let cases = [
+        ("a.otp", 6, Ok(6)),
+        ("a.otp", 5, Err(LoadErr::TooLong)),
+        ("c.lex", 0, Ok(0)),
+    ];
+    for (name, limit, answer) in cases {
+        let loaded = load_length(&mut shelf, alloc, name, limit);
+        assert_eq!(rt; loaded, answer, "{name} in {limit} bytes");
+    }
+    Ok(())
+}
+
+// Files of less and of more than one turn, at their limits; a file that is missing, and a folder.
+#[test]
+fn files_are_loaded(rt: HostRuntime) -> Result<(), Fail> {
+    let alloc = rt.alloc();
+    fs::write(&rt, "short", "otp 1\n")?;
+    fs::write(&rt, "long", [b'x'; 20000].as_slice())?;
+    let mut shelf = FileShelf::new(alloc, &rt);
+    let cases = [
+        ("short", 6, Ok(6)),
+        ("short", 5, Err(LoadErr::TooLong)),
+        ("short", u64::MAX, Ok(6)),
+        ("long", 20000, Ok(20000)),
+        ("long", 19999, Err(LoadErr::TooLong)),
+        ("missing", 9, Err(LoadErr::Failed)),
+        (".", 9, Err(LoadErr::Failed)),
+    ];
+    for (name, limit, answer) in cases {
+        let loaded = load_length(&mut shelf, alloc, name, limit);
+        assert_eq!(rt; loaded, answer, "{name} in {limit} bytes");
+    }
+    let text = shelf.load(alloc, "short", 6)?;
+    assert_eq!(rt; text.as_slice(), b"otp 1\n".as_slice());
     Ok(())
 }

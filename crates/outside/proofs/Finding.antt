@@ -1,5 +1,5 @@
 -- Looking a name up in a list of files, one after the other.
-use Rattle.std.proofs.Common.{◌≡◌, ℕ, ◌+◌, ◌<◌, Bool, true, false, cond, List, ◌∷◌, length, get_or, drop, Some, String, Vec, string_bytes, refl, ap, sym, ◌∙◌, drop-cons, add-one}
+use Rattle.std.proofs.Common.{◌≡◌, ℕ, ◌+◌, ◌<◌, true, false, cond, List, ◌∷◌, length, get_or, drop, Some, String, Vec, string_bytes, ap, sym, ◌∙◌, drop-cons, add-one}
 use Rattle.std.specs.Str.{bytes_eq}
 use Rattle.outside.specs.Held.{files_of, text_of}
 

@@ -1,4 +1,9 @@
--- Writing a text piece by piece.
+-- Writing a text piece by piece, for the proofs of writers.
+--
+-- Straight to a sink, a loop keeps `Sends old text new left`, with the text that is still to be written as `left`:
+-- it begins by `sends_none`, goes on by `sends_piece`, ends by `sends_all`, and is given up by `sends_part`.
+-- Through waiting bytes it keeps `Sends old (waits ++ text) new (waits' ++ left)`: it begins by `sends_none`, goes on by
+-- `puts_piece`, and is given up by `puts_part`; a text in two parts is `puts_both`, and the end after `flush` `puts_end_part`.
 use Rattle.std.proofs.Common.{◌≡◌, ℕ, Option, None, Some, List, [], ◌∷◌, ◌++◌, length, get_or, take, drop, ◌+◌, ◌-◌, ◌<◌, refl, subst, arith, ap, sym, ◌∙◌, append_assoc, append-nil, drop-cons, add-one}
 use Rattle.std.proofs.lemmas.Grind.{common_steps}
 use Rattle.std.proofs.lemmas.List.{take-append-drop}

@@ -1,7 +1,18 @@
-//! Everything that comes from outside the program or leaves it.
+//! Everything that comes from outside the program or leaves it. This crate stands on no other of
+//! the repository, and every crate that loads or writes stands on it.
 //!
-//! The layers above load whole files by name from a [`Shelf`] and write texts, piece by piece, to a
-//! [`Sink`].
+//! ```text
+//! words, files ─► Shelf ─► readers ─► grammar, timeline ─► .. ─► answer ─► writers ─► Waiting ─► Sink
+//! ```
+//!
+//! - The layers above load whole files by name from a [`Shelf`], and write texts to a [`Sink`]. A
+//!   writer puts the pieces of its text through one [`Waiting`], so that the sink sees few writes;
+//!   [`put_all`] writes one piece at once.
+//! - Faults are counted by the shelf, for each name, and by the sink. Whoever answers `Failed` shows
+//!   by the count that there was a fault, and no count ever falls.
+//! - [`MemShelf`], [`SafeShelf`], [`MemSink`] and [`SafeSink`] hold their bytes in memory and tell
+//!   them. [`FileShelf`] and [`StreamSink`] are the edge to the system, made by a program from its
+//!   runtime. They tell no content, and meet the same contracts.
 #![tactic(auto)]
 
 pub use file_shelf::FileShelf;

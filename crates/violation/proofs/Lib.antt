@@ -19,4 +19,5 @@ pub mod PrefixLemmas
 pub mod CompletionLemmas
 pub mod WalkLemmas
 pub mod SplitLemmas
+pub mod ExampleLemmas
 pub mod ExchangeCandidates

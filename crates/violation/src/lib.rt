@@ -12,5 +12,6 @@
 
 mod column;
 mod count;
+pub mod examples;
 
 pub use count::violations;

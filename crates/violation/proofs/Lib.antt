@@ -19,4 +19,6 @@ pub mod PrefixLemmas
 pub mod CompletionLemmas
 pub mod WalkLemmas
 pub mod SplitLemmas
+pub mod CandidateLemmas
+pub mod ExampleLemmas
 pub mod ExchangeCandidates

@@ -41,10 +41,22 @@ kind_order k l = ordering_then (nat_cmp k.place l.place)
 abbrev pub phase_by_bits : Bool → Bool → Phase
 phase_by_bits is_unmet is_met = if is_met then met else (if is_unmet then unmet else closed)
 
+-- the phase that a kind's bits tell of a stretch implication
+abbrev pub phase_at : Kind → ℕ → Phase
+phase_at kind i = phase_by_bits (has_tier kind.unmet i) (has_tier kind.met i)
+
+-- whether each of so many free tiers is open
+abbrev pub open_tiers : ℕ → ℕ → List Bool
+open_tiers free opened = map (has_tier opened) (range_with_len 0 free)
+
+-- the phases of so many stretch implications
+abbrev pub phases : ℕ → Kind → List Phase
+phases stretches kind = map (phase_at kind) (range_with_len 0 stretches)
+
 -- what the bits of a kind say of so many free tiers and so many stretch implications
 abbrev pub prefix_kind : ℕ → ℕ → Kind → PrefixKind
 prefix_kind free stretches kind = record {
   place = kind.place;
-  opened = map (has_tier kind.opened) (range_with_len 0 free);
-  phases = map (λ i. phase_by_bits (has_tier kind.unmet i) (has_tier kind.met i)) (range_with_len 0 stretches);
+  opened = open_tiers free kind.opened;
+  phases = phases stretches kind;
 }

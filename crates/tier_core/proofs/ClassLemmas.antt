@@ -1,14 +1,11 @@
 -- Which columns a class holds.
-use Rattle.std.proofs.Common.{◌≡◌, ◌↔◌, IsTrue, ℕ, zero, suc, ◌<◌, ◌≤◌, ◌^◌, ◌&&◌, Bool, true, false, List, [], ◌∷◌, length, get_or, refl, ap, sym, ◌∙◌, arith}
-use Rattle.std.specs.List.{AllByRecursion}
+use Rattle.std.proofs.Common.{◌≡◌, ◌↔◌, IsTrue, ℕ, zero, suc, ◌<◌, true, List, [], ◌∷◌, length, get_or, refl, ap, sym, ◌∙◌, arith}
 use Rattle.std.proofs.lemmas.Bool.{false≢true, and_parts, and_from}
 use Rattle.tier_core.specs.declared.sym.Sym.{Sym}
-use Rattle.tier_core.specs.declared.sym.Sym.TheVariants.{Outside}
 use Rattle.tier_core.specs.declared.class.Class.{Class}
 use Rattle.tier_core.specs.Sets.{is_in}
-use Rattle.tier_core.specs.Classes.{sets_of, sets_have, has, AreApart}
+use Rattle.tier_core.specs.Classes.{sets_have, has, AreApart}
 use Rattle.tier_core.specs.Timelines.{symbol}
-use Rattle.tier_core.proofs.CountLemmas.{all_weaker}
 
 -- the class of one column holds that column
 pub holds_own : (c : Class) (column : List Sym) → ((other : List Sym) → IsTrue (has c other) ↔ (other ≡ column)) → IsTrue (has c column)

@@ -22,6 +22,8 @@ mod order;
 mod projection;
 mod shape;
 mod sym;
+#[cfg(test)]
+mod tests;
 mod tier;
 mod timeline;
 

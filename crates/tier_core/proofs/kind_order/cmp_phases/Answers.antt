@@ -1,4 +1,4 @@
-use Rattle.std.proofs.Common.{◌≡◌, sym, ◌∙◌, ap, arith}
+use Rattle.std.proofs.Common.{◌∙◌, ap, arith}
 use Rattle.std.specs.Ordering.{nat_cmp}
 use Rattle.tier_core.specs.Kinds.{phase_rank, phase_at}
 use Rattle.tier_core.proofs.KindLemmas.{lowest, lowest_within, apart_phases, apart_few, phases_same, phases_first}

@@ -1,4 +1,4 @@
-use Rattle.std.proofs.Common.{◌≡◌, length, ap, sym, ◌∙◌, arith}
+use Rattle.std.proofs.Common.{sym, ◌∙◌}
 use Rattle.tier_core.specs.Classes.{sets_of}
 use Rattle.tier_core.proofs.SetLemmas.{other_width}
 use Rattle.tier_core.proofs.class.Class.has.Goals as goal

@@ -1,4 +1,4 @@
-use Rattle.std.proofs.Common.{◌≡◌, take, drop}
+use Rattle.std.proofs.Common.{◌≡◌, drop}
 use Rattle.tier_core.specs.Classes.{has, sets_of, sets_have}
 use Rattle.tier_core.proofs.class.Class.has.Given as goal
 

@@ -1,4 +1,4 @@
-use Rattle.std.proofs.Common.{◌≡◌, ◌≤◌, length, take}
+use Rattle.std.proofs.Common.{◌≡◌, length, take}
 use Rattle.tier_core.specs.Sets.{AreSets, AreEmptyFrom}
 use Rattle.tier_core.proofs.class.Class.of_bits.Given as goal
 

@@ -12,7 +12,7 @@ use Rattle.std.proofs.lemmas.Nat.{or_lt, xor_lt}
 use Rattle.std.proofs.lemmas.Nat.Bits.{bit_at_xor, bit_at_or, bit_at_and, bit_at-lt, bit_at-zero, bit_at-trailing_zeros}
 use Rattle.tier_core.specs.declared.kind.Kind.{Kind}
 use Rattle.tier_core.specs.Tiers.{has_tier}
-use Rattle.tier_core.specs.Kinds.{phase_rank, open_rank, open_tiers, phases, phase_at, phase_by_bits}
+use Rattle.tier_core.specs.Kinds.{AreStretchesBelow, open_order, phase_order, phase_rank, open_rank, open_tiers, phases, phase_at, phase_by_bits}
 use Rattle.tier_core.proofs.MaskLemmas.{tier_within}
 
 -- ---- lists that are made place by place
@@ -112,12 +112,12 @@ lowest apart = trailing_zeros w32 apart
 pub lowest_within : (apart : ℕ) → (apart ≡ 0 → ⊥) → apart < 2 ^ 32 → lowest apart < 32
 lowest_within apart some few = (bit_at-trailing_zeros w32 apart (omega (arith, some)) few).0
 
-pub opened_same : (a b free : ℕ) → bit_xor a b ≡ 0 → Equal ≡ slice_cmp nat_cmp (map open_rank (open_tiers free a)) (map open_rank (open_tiers free b))
+pub opened_same : (a b free : ℕ) → bit_xor a b ≡ 0 → Equal ≡ open_order (open_tiers free a) (open_tiers free b)
 opened_same a b free e = sym (cmp_same open_rank (has_tier a) (has_tier b) 0 free (λ i. same_bit a b i (ap (λ n. bit_at n i) e ∙ bit_at-zero i)))
 
 -- the mask in which the lowest bit that differs is set comes after the other
 pub opened_first : (a b free : ℕ) → (bit_xor a b ≡ 0 → ⊥) → bit_xor a b < 2 ^ 32 → a < 2 ^ free → b < 2 ^ free
-    → cond (has_tier a (lowest (bit_xor a b))) Greater Less ≡ slice_cmp nat_cmp (map open_rank (open_tiers free a)) (map open_rank (open_tiers free b))
+    → cond (has_tier a (lowest (bit_xor a b))) Greater Less ≡ open_order (open_tiers free a) (open_tiers free b)
 opened_first a b free some few la lb =
     let d = lowest (bit_xor a b) in
     let low = bit_at-trailing_zeros w32 (bit_xor a b) (omega (arith, some)) few in
@@ -174,17 +174,17 @@ same_phase k l i h =
     let none = or_none (bit_xor k.unmet l.unmet) (bit_xor k.met l.met) i h in
     ap (λ u. phase_by_bits u (has_tier k.met i)) (same_bit k.unmet l.unmet i none.0) ∙ ap (phase_by_bits (has_tier l.unmet i)) (same_bit k.met l.met i none.1)
 
-pub phases_same : (k l : Kind) (stretches : ℕ) → apart_phases k l ≡ 0 → Equal ≡ slice_cmp nat_cmp (map phase_rank (phases stretches k)) (map phase_rank (phases stretches l))
+pub phases_same : (k l : Kind) (stretches : ℕ) → apart_phases k l ≡ 0 → Equal ≡ phase_order (phases stretches k) (phases stretches l)
 phases_same k l stretches e = sym (cmp_same phase_rank (phase_at k) (phase_at l) 0 stretches (λ i. same_phase k l i (ap (λ n. bit_at n i) e ∙ bit_at-zero i)))
 
 -- the phases at the lowest bit that differs decide
-pub phases_first : (k l : Kind) (stretches : ℕ) → (apart_phases k l ≡ 0 → ⊥) → apart_phases k l < 2 ^ 32 → k.unmet < 2 ^ stretches → k.met < 2 ^ stretches → l.unmet < 2 ^ stretches → l.met < 2 ^ stretches
-    → nat_cmp (phase_rank (phase_at k (lowest (apart_phases k l)))) (phase_rank (phase_at l (lowest (apart_phases k l)))) ≡ slice_cmp nat_cmp (map phase_rank (phases stretches k)) (map phase_rank (phases stretches l))
-phases_first k l stretches some few ku km lu lm =
+pub phases_first : (k l : Kind) (stretches : ℕ) → (apart_phases k l ≡ 0 → ⊥) → apart_phases k l < 2 ^ 32 → AreStretchesBelow stretches k → AreStretchesBelow stretches l
+    → nat_cmp (phase_rank (phase_at k (lowest (apart_phases k l)))) (phase_rank (phase_at l (lowest (apart_phases k l)))) ≡ phase_order (phases stretches k) (phases stretches l)
+phases_first k l stretches some few below_k below_l =
     let d = lowest (apart_phases k l) in
     let low = bit_at-trailing_zeros w32 (apart_phases k l) (omega (arith, some)) few in
     let one = or_some (bit_xor k.unmet l.unmet) (bit_xor k.met l.met) d low.1 in
-    let within : d < stretches = ⊎_elim (λ h. apart_within k.unmet l.unmet stretches d ku lu (other_bit k.unmet l.unmet d h)) (λ h. apart_within k.met l.met stretches d km lm (other_bit k.met l.met d h)) one in
+    let within : d < stretches = ⊎_elim (λ h. apart_within k.unmet l.unmet stretches d below_k.unmet below_l.unmet (other_bit k.unmet l.unmet d h)) (λ h. apart_within k.met l.met stretches d below_k.met below_l.met (other_bit k.met l.met d h)) one in
     sym (cmp_at phase_rank (phase_at k) (phase_at l) stretches d within (λ i g. same_phase k l i (low.2 i g))
     (λ e. let same = same_bits (has_tier k.unmet d) (has_tier k.met d) (has_tier l.unmet d) (has_tier l.met d) (not_both k.unmet k.met d k.apart) (not_both l.unmet l.met d l.apart) e in
     ⊎_elim (λ h. other_bit k.unmet l.unmet d h same.0) (λ h. other_bit k.met l.met d h same.1) one))

@@ -3,7 +3,7 @@ use Rattle.std.specs.Prelude.{ℕ, ◌-◌, ◌^◌, ◌<◌, length, slice_inde
 use Rattle.tier_core.specs.declared.kind.Kind.{Kind}
 use Rattle.tier_core.specs.declared.shape.Shape.{Shape}
 use Rattle.tier_core.specs.Shapes.{input_count}
-use Rattle.tier_core.specs.Kinds.{PrefixKind, prefix_kind}
+use Rattle.tier_core.specs.Kinds.{AreStretchesBelow, PrefixKind, prefix_kind}
 
 -- how many tiers are free
 abbrev pub free_count : Shape → ℕ
@@ -18,8 +18,7 @@ stretch_count shape stage = slice_index_or shape.phases.items stage 0
 pub record FitsShape (shape : Shape) (stage : ℕ) (kind : Kind) : Type 0 where
   pub within : stage < length shape.phases.items
   pub opened : kind.opened < 2 ^ free_count shape
-  pub unmet : kind.unmet < 2 ^ stretch_count shape stage
-  pub met : kind.met < 2 ^ stretch_count shape stage
+  pub stretches : AreStretchesBelow (stretch_count shape stage) kind
 
 -- the kind that the bits tell at a stage of a shape
 abbrev pub kind_in : Shape → ℕ → Kind → PrefixKind

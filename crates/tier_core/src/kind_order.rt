@@ -1,9 +1,6 @@
-ghost use Rattle.std.specs.Prelude.{◌≡◌, ◌<◌, ◌^◌, ℕ, map};
-ghost use Rattle.std.specs.List.{range_with_len};
-ghost use Rattle.std.specs.Ordering.{nat_cmp};
-ghost use Rattle.std.specs.Cmp.Lexicographic.{slice_cmp};
+ghost use Rattle.std.specs.Prelude.{◌≡◌, ◌<◌, ◌^◌, ℕ};
 ghost use Rattle.tier_core.specs.Tiers.{has_tier};
-ghost use Rattle.tier_core.specs.Kinds.{kind_order, open_rank, phase_rank, open_tiers, phases, phase_at};
+ghost use Rattle.tier_core.specs.Kinds.{AreStretchesBelow, kind_order, open_order, open_tiers, phase_at, phase_order, phase_rank, phases};
 ghost use Rattle.tier_core.specs.KindShapes.{FitsShape, kind_in};
 
 use crate::kind::Kind;
@@ -21,7 +18,7 @@ fn is_set(mask: u32, place: u32) -> bool
 /// Compares masks of open tiers: the first tier that is open in one alone decides, and the mask
 /// in which it is open comes after the other.
 fn cmp_opened(a: u16, b: u16) -> Ordering
-    ensures { (free : ℕ) → a < 2 ^ free → b < 2 ^ free → result ≡ slice_cmp nat_cmp (map open_rank (open_tiers free a)) (map open_rank (open_tiers free b)) }
+    ensures { (free : ℕ) → a < 2 ^ free → b < 2 ^ free → result ≡ open_order (open_tiers free a) (open_tiers free b) }
 {
     let apart = (a ^ b) as u32;
     if apart == 0 {
@@ -50,7 +47,7 @@ fn phase_rank(kind: &Kind, place: u32) -> u32
 
 /// Compares phases: the first stretch implication whose phases differ decides.
 fn cmp_phases(a: &Kind, b: &Kind) -> Ordering
-    ensures { (stretches : ℕ) → a.now.unmet < 2 ^ stretches → a.now.met < 2 ^ stretches → b.now.unmet < 2 ^ stretches → b.now.met < 2 ^ stretches → result ≡ slice_cmp nat_cmp (map phase_rank (phases stretches a.now)) (map phase_rank (phases stretches b.now)) }
+    ensures { (n : ℕ) → AreStretchesBelow n a.now → AreStretchesBelow n b.now → result ≡ phase_order (phases n a.now) (phases n b.now) }
 {
     let apart = (a.unmet ^ b.unmet) | (a.met ^ b.met);
     if apart == 0 {

@@ -5,7 +5,7 @@ use Rattle.tier_core.proofs.KindLemmas.{lowest, lowest_within, apart_phases, apa
 use Rattle.tier_core.proofs.kind_order.cmp_phases.Goals as goal
 
 pub returns-then-apart-eq0 : goal.returns-then-apart-eq0
-returns-then-apart-eq0 c = λ stretches ku km lu lm. phases_same c.args.a.now c.args.b.now stretches c.if-apart-eq0.true
+returns-then-apart-eq0 c = λ n k l. phases_same c.args.a.now c.args.b.now n c.if-apart-eq0.true
 
 pub phase_rank-requires : goal.phase_rank-requires
 phase_rank-requires c =
@@ -19,7 +19,7 @@ phase_rank-requires-2 c =
 
 pub returns : goal.returns
 returns c =
-    λ stretches ku km lu lm.
+    λ n k l.
     let first = lowest (apart_phases c.args.a.now c.args.b.now) in
     c.cmp.ensures ∙ ap (λ r. nat_cmp r c.phase_rank-2.result) c.phase_rank.ensures ∙ ap (nat_cmp (phase_rank (phase_at c.args.a.now first))) c.phase_rank-2.ensures
-    ∙ phases_first c.args.a.now c.args.b.now stretches c.if-apart-eq0.false (apart_few c.args.a.now c.args.b.now (omega arith) (omega arith) (omega arith) (omega arith)) ku km lu lm
+    ∙ phases_first c.args.a.now c.args.b.now n c.if-apart-eq0.false (apart_few c.args.a.now c.args.b.now (omega arith) (omega arith) (omega arith) (omega arith)) k l

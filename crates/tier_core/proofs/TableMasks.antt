@@ -7,6 +7,7 @@ use Rattle.std.proofs.lemmas.Nat.Bits.{bit_at_above}
 use Rattle.tier_core.specs.declared.tier.TierKind.{TierKind}
 use Rattle.tier_core.specs.declared.tier.TierKind.TheVariants.{Input, Overt, Hidden}
 use Rattle.tier_core.specs.Tiers.{is_input, is_overt, is_free, numbers_from, tiers_by_kinds, kind_at, has_tier, tiers_below, tiers_of}
+use Rattle.tier_core.specs.Shapes.{input_count}
 use Rattle.tier_core.proofs.CountLemmas.{all_append, all_weaker}
 
 -- the bits of a mask are those of the tiers that pass
@@ -178,3 +179,10 @@ input_and_free n (k ∷ kinds) =
     one : (b : Bool) → length (cond b (n ∷ []) []) + length (cond (not b) (n ∷ []) []) ≡ 1
     one true = refl
     one false = refl
+
+-- the tiers that are no input tiers are as many as the free ones
+pub free_tiers : (kinds : List TierKind) (inputs : ℕ) → tiers_of inputs ≡ (tiers_by_kinds kinds).input → length kinds - input_count inputs ≡ length (tiers_by_kinds kinds).free
+free_tiers kinds inputs e =
+    let all : length (numbers_from is_input 0 kinds) + length (numbers_from is_free 0 kinds) ≡ length kinds = input_and_free 0 kinds in
+    let some : input_count inputs ≡ length (numbers_from is_input 0 kinds) = ap length e in
+    omega arith

@@ -5,12 +5,13 @@ use Rattle.std.specs.Prelude.{◌≡◌, ℕ, Option, List, ◌++◌, option_map
 abbrev pub appended : Option (List ℕ) → List ℕ → Option (List ℕ)
 appended taken piece = option_map (λ bytes. bytes ++ piece) taken
 
--- after old, some front of the text has been taken
-abbrev pub HasSentPart : Option (List ℕ) → List ℕ → Option (List ℕ) → Type 0
-HasSentPart old text new = (sent : List ℕ) × (left : List ℕ) × (new ≡ appended old sent) × (text ≡ sent ++ left)
-
 -- after old, the text has been taken up to what is left
 pub record Sends (old : Option (List ℕ)) (text : List ℕ) (new : Option (List ℕ)) (left : List ℕ) : Type 0 where
   pub sent : List ℕ
   pub taken : new ≡ appended old sent
   pub whole : text ≡ sent ++ left
+
+-- after old, some front of the text has been taken
+pub record HasSentPart (old : Option (List ℕ)) (text : List ℕ) (new : Option (List ℕ)) : Type 0 where
+  pub left : List ℕ
+  pub sends : Sends old text new left

@@ -1,10 +1,11 @@
 -- The tiers of a mask.
-use Rattle.std.proofs.Common.{◌≡◌, ◌↔◌, IsTrue, sym, ℕ, ◌+◌, ◌*◌, ◌%◌, ◌==◌, bit_or, w16, ◌^◌, ◌<◌, true, false, cond, List, [], ◌∷◌, ◌++◌, map, ap, ◌∙◌, ⊎_elim, arith, add-one}
-use Rattle.std.specs.Int.{bit_at}
+use Rattle.std.proofs.Common.{◌≡◌, ◌↔◌, IsTrue, sym, ℕ, zero, suc, ◌≤◌, length, ◌+◌, ◌*◌, ◌%◌, ◌==◌, bit_or, w16, ◌^◌, ◌<◌, true, false, cond, List, [], ◌∷◌, ◌++◌, map, ap, ◌∙◌, ⊎_elim, arith, add-one}
+use Rattle.std.specs.Int.{bit_at, trailing_zeros}
 use Rattle.std.proofs.lemmas.Bool.{false≢true, cases_lt, eqb-true}
-use Rattle.std.proofs.lemmas.List.{map-append, append-nil}
+use Rattle.std.proofs.lemmas.List.{map-append, append-nil, length-append}
+use Rattle.std.proofs.Math.Nat.{pow-le-pow_right}
 use Rattle.std.proofs.lemmas.Nat.{or_lt, one_shl, pow_below}
-use Rattle.std.proofs.lemmas.Nat.Bits.{bit_at_above, bit_at_set_same, bit_at_set_other}
+use Rattle.std.proofs.lemmas.Nat.Bits.{bit_at-trailing_zeros, bit_at_above, bit_at_set_same, bit_at_set_other}
 use Rattle.tier_core.specs.declared.sym.Sym.{Sym}
 use Rattle.tier_core.specs.Timelines.{symbol}
 use Rattle.tier_core.specs.declared.tier.TierKind.{TierKind}
@@ -60,7 +61,7 @@ mask_with kinds kind mask n h e m = record {
   bits = λ t l. ⊎_elim
       (λ below. let same = with_tier_other mask n t h below in (λ x. (m.bits t below).0 (sym same ∙ x), λ y. same ∙ (m.bits t below).1 y))
       (λ above. let here : t ≡ n = omega arith in
-          (λ x. ap (kind_at kinds) here ∙ e, λ y. ap (has_tier (bit_or mask (1 * 2 ^ n % 2 ^ 16))) here ∙ with_tier_same mask n h))
+      (λ x. ap (kind_at kinds) here ∙ e, λ y. ap (has_tier (bit_or mask (1 * 2 ^ n % 2 ^ 16))) here ∙ with_tier_same mask n h))
       (cases_lt t n);
 }
 
@@ -69,6 +70,34 @@ mask_without kinds kind mask n other m = record {
   within = let next : 2 ^ n < 2 ^ (n + 1) = pow_below n (n + 1) (omega arith) in omega (arith, m.within);
   bits = λ t l. ⊎_elim (λ below. m.bits t below)
       (λ above. let here : t ≡ n = omega arith in
-          (λ x. absurd (false≢true (sym (no_tier_above mask n m.within) ∙ (sym (ap (has_tier mask) here) ∙ x))), λ y. absurd (other (sym (ap (kind_at kinds) here) ∙ y))))
+      (λ x. absurd (false≢true (sym (no_tier_above mask n m.within) ∙ (sym (ap (has_tier mask) here) ∙ x))), λ y. absurd (other (sym (ap (kind_at kinds) here) ∙ y))))
       (cases_lt t n);
 }
+
+-- a tier whose bit is set is listed
+pub listed_below : (mask t n : ℕ) → has_tier mask t ≡ true → t < n → 0 < length (tiers_below mask n)
+listed_below mask t zero h l = absurd (omega arith)
+listed_below mask t (suc n) h l =
+    let last : List ℕ = cond (has_tier mask n) (n ∷ []) [] in
+    let long : length (tiers_below mask n ++ last) ≡ length (tiers_below mask n) + length last = length-append (tiers_below mask n) last in
+    ⊎_elim
+    (λ below. let more = listed_below mask t n h below in omega (arith, long, more))
+    (λ above. let here : t ≡ n = omega arith in
+    let one : length last ≡ 1 = ap (λ b. length (cond b (n ∷ []) [])) (sym (ap (has_tier mask) here) ∙ h) in
+    omega (arith, long, one))
+    (cases_lt t n)
+
+-- a mask that is not 0 names a tier
+pub some_tier : (mask width : ℕ) → 0 < mask → width ≤ 12 → mask < 2 ^ width → 1 ≤ length (tiers_of mask)
+unfolding tiers_of
+some_tier mask width some few within =
+    let twelve : 2 ^ width ≤ 2 ^ 12 = pow-le-pow_right {n = 2} (omega arith) few in
+    let lowest = bit_at-trailing_zeros w16 mask some (omega (arith, twelve)) in
+    let set : has_tier mask (trailing_zeros w16 mask) ≡ true = ap (λ b. b == 1) lowest.1 in
+    listed_below mask (trailing_zeros w16 mask) 12 set (tier_within mask 12 (trailing_zeros w16 mask) (omega (arith, twelve)) set)
+
+-- a mask that names a tier is not 0
+pub not_zero : (mask : ℕ) → 1 ≤ length (tiers_of mask) → 0 < mask
+unfolding tiers_of
+not_zero zero h = absurd (omega arith)
+not_zero (suc m) h = omega arith

@@ -1,5 +1,5 @@
 ghost use Rattle.std.specs.Prelude.{◌≡◌};
-ghost use Rattle.tier_core.specs.Symbols.{byte_of};
+ghost use Rattle.tier_core.specs.Symbols.{byte_of, sym_of};
 ghost use Rattle.tier_core.specs.Timelines.{is_edge};
 
 /// What a tier has at one place. Start, End and Both are edges.
@@ -21,6 +21,20 @@ pub enum Sym {
 }
 
 impl Sym {
+    /// The symbol that a byte is written for. None where the byte is none of the five.
+    pub fn of_byte(byte: u8) -> Option<Sym>
+        ensures { result ≡ sym_of byte }
+    {
+        match byte {
+            b'-' => Some(Sym::Outside),
+            b'+' => Some(Sym::Inside),
+            b'[' => Some(Sym::Start),
+            b']' => Some(Sym::End),
+            b'|' => Some(Sym::Both),
+            _ => None,
+        }
+    }
+
     /// The byte that the symbol is written as: `-`, `+`, `[`, `]` or `|`.
     pub fn byte(self) -> u8
         ensures { result ≡ byte_of self }

@@ -26,6 +26,11 @@ vec_cmp v w = slice_cmp nat_cmp v w
 abbrev pub IsAtMost : List ℕ → List ℕ → Type 0
 IsAtMost v w = IsTrue (is_le (vec_cmp v w))
 
+-- u is a form: it is well formed and reduced over the input tiers
+pub record IsForm (tiers : Tiers) (u : List (List Sym)) : Type 0 where
+  pub well_formed : IsWellFormed (length tiers.input) u
+  pub reduced : IsReduced u
+
 -- T is a candidate of the form u: it is well formed and reduced over the tiers of the grammar, and
 -- its projection to the input tiers, squeezed, is u.
 pub record IsCandidate (tiers : Tiers) (u T : List (List Sym)) : Type 0 where

@@ -3,12 +3,19 @@ use Rattle.std.specs.Prelude.{ℕ, ◌≢◌, ◌<◌, ◌⊎◌, List, [], ◌�
 use Rattle.std.specs.List.{AllByRecursion}
 use Rattle.tier_core.specs.declared.sym.Sym.{Sym}
 use Rattle.tier_core.specs.declared.event.Event.{Event}
+use Rattle.tier_core.specs.declared.constraint.Constraint.{Constraint}
 use Rattle.tier_core.specs.Timelines.{IsWellFormed}
 use Rattle.tier_core.specs.Tiers.{Tiers}
 
 -- each tier of the types is below the width
 abbrev pub AreTiersBelow : ℕ → List Event → Type 0
 AreTiersBelow width types = AllByRecursion (λ e. e.tier < width) types
+
+-- a constraint is over tiers below the width, and its left side has a type
+pub record IsOverTiers (width : ℕ) (c : Constraint) : Type 0 where
+  pub left_below : AreTiersBelow width c.left
+  pub right_below : AreTiersBelow width c.right
+  pub some_left : 0 < length c.left
 
 -- a constraint with these sides may be counted on T: T is well formed over all its tiers
 pub record IsCountable (left right : List Event) (T : List (List Sym)) : Type 0 where

@@ -9,3 +9,8 @@
 //! Source: the two families of constraints are after Eisner, Efficient Generation in Primitive
 //! Optimality Theory (ACL 1997). What they count is this project's.
 #![tactic(auto)]
+
+mod column;
+mod count;
+
+pub use count::violations;

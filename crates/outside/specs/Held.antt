@@ -1,0 +1,16 @@
+-- Files that are held in memory: the name and the bytes of each.
+use Rattle.std.specs.Prelude.{ℕ, List, [], map, unwrap_or, Option, Some, String, Vec, string_bytes}
+use Rattle.std.specs.Map.{lookup}
+use Rattle.std.specs.Str.{bytes_eq}
+
+-- the bytes of the file of this name, if it is held; of two files of one name, those of the first
+abbrev pub text_of : List (List ℕ × List ℕ) → List ℕ → Option (List ℕ)
+text_of files name = lookup (λ known. bytes_eq known name) files
+
+-- what is told of a name: one that is not held is an empty file
+abbrev pub told : List (List ℕ × List ℕ) → List ℕ → Option (List ℕ)
+told files name = Some (unwrap_or (text_of files name) [])
+
+-- the files that a list of names and bytes holds
+abbrev pub files_of : {Y Z : Type 0} → List (String Y × Vec ℕ Z) → List (List ℕ × List ℕ)
+files_of files = map (λ f. (string_bytes f.0, f.1.items)) files

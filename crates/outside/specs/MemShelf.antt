@@ -1,0 +1,36 @@
+-- A shelf in memory: what it holds, and which of its loads fail.
+use Rattle.std.specs.Prelude.{ℕ, Bool, ◌||◌, nat_eq, is_none, List, Vec, Result, Ok, Err}
+use Rattle.std.specs.List.{list_any}
+use Rattle.outside.specs.Counts.{count_of}
+use Rattle.outside.specs.Faults.{counted}
+use Rattle.outside.specs.Held.{files_of, text_of}
+use Rattle.outside.specs.declared.mem_shelf.MemShelf.{MemShelf}
+use Rattle.outside.specs.declared.shelf.LoadErr.{LoadErr}
+use Rattle.outside.specs.declared.shelf.LoadErr.TheVariants.{Failed, TooLong, NoMemory}
+
+-- the names and the bytes of its files
+abbrev pub files_in : MemShelf → List (List ℕ × List ℕ)
+files_in shelf = files_of shelf.files.items
+
+-- the numbers of the loads that fail; the first load has number 1
+abbrev pub failing_of : MemShelf → List ℕ
+failing_of shelf = shelf.failing.items
+
+-- how many loads there were
+abbrev pub loads_of : MemShelf → ℕ
+loads_of shelf = shelf.loads
+
+-- how many loads of a name failed
+abbrev pub faults_of : MemShelf → List ℕ → ℕ
+faults_of shelf name = count_of shelf.faults name
+
+-- whether the load that was the last fails: its number is one of those, or the name is not held
+abbrev pub fails : MemShelf → List ℕ → Bool
+fails shelf name = list_any (λ number. nat_eq number (loads_of shelf)) (failing_of shelf) || is_none (text_of (files_in shelf) name)
+
+-- the count of faults after a load with this answer
+abbrev pub faults_after : {Z : Type 0} → Result (Vec ℕ Z) LoadErr → ℕ → ℕ
+faults_after (Err Failed) n = counted n
+faults_after (Err TooLong) n = n
+faults_after (Err NoMemory) n = n
+faults_after (Ok bytes) n = n

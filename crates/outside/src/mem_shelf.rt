@@ -1,0 +1,83 @@
+ghost use Rattle.std.specs.Prelude.{◌≡◌, ◌≢◌, ◌<◌, ◌≤◌, ◌↔◌, IsTrue, List, Option, ℕ, length, Err, IfOk, IfSome};
+ghost use Rattle.outside.specs.Faults.{Rose, counted};
+ghost use Rattle.outside.specs.Held.{files_of, text_of, told};
+ghost use Rattle.outside.specs.MemShelf.{failing_of, fails, faults_after, faults_of, files_in, loads_of};
+
+use crate::counts::{self, Counts};
+use crate::files;
+use crate::shelf::{LoadErr, Shelf};
+use std::alloc::Global;
+use std::collections::BTreeMap;
+
+/// Files in memory, of which chosen loads fail. A load of a name that it does not hold fails too;
+/// such a name is told as an empty file.
+#[derive(Drop)]
+pub struct MemShelf {
+    files: Vec<(String, Vec<u8>)>,
+    failing: Vec<u64>,
+    loads: u64,
+    faults: Counts,
+}
+
+impl MemShelf {
+    /// A shelf of these files, by their names. Of two files of one name it holds the first. The
+    /// loads are numbered from 1, and those whose numbers are in `failing` fail.
+    pub fn new(alloc: Global, files: Vec<(String, Vec<u8>)>, failing: Vec<u64>) -> MemShelf
+        ensures files { files_in result ≡ files_of files.items }
+        ensures failing { failing_of result ≡ failing.items }
+        ensures loads { loads_of result ≡ 0 }
+        ensures faults { (name : List ℕ) → faults_of result name ≡ 0 }
+    {
+        MemShelf {
+            files,
+            failing,
+            loads: 0,
+            faults: BTreeMap::new(alloc),
+        }
+    }
+
+    // The answer of the load that is numbered now.
+    fn answer(&self, alloc: Global, name: &str, limit: u64) -> Result<Vec<u8>, LoadErr>
+        ensures ok { IfOk result (λ bytes. (length bytes.items ≤ limit) × IfSome (told (files_in self.now) name.now) (λ text. bytes.items ≡ text)) }
+        ensures too_long { result ≡ Err LoadErr.TooLong → IfSome (told (files_in self.now) name.now) (λ text. limit < length text) }
+        ensures failed { result ≢ Err LoadErr.NoMemory → (result ≡ Err LoadErr.Failed) ↔ IsTrue (fails self.now name.now) }
+    {
+        if self.failing.contains(&self.loads) {
+            return Err(LoadErr::Failed);
+        }
+        match files::find(&self.files, name) {
+            Some(text) => files::copy(alloc, text, limit),
+            None => Err(LoadErr::Failed),
+        }
+    }
+}
+
+impl Shelf for MemShelf {
+    ghost held = { λ s name. told (files_in s) name };
+
+    ghost faults = { faults_of };
+
+    /// Copies the file. A load takes the memory for the count of its name before it does anything
+    /// else, so a load that fails can count it.
+    fn load(&mut self, alloc: Global, name: &str, limit: u64) -> Result<Vec<u8>, LoadErr>
+        ensures within_limit { IfOk result (λ bytes. length bytes.items ≤ limit) }
+        ensures ok { IfOk result (λ bytes. IfSome (told (files_in self.old) name.now) (λ text. bytes.items ≡ text)) }
+        ensures too_long { result ≡ Err LoadErr.TooLong → IfSome (told (files_in self.old) name.now) (λ text. limit < length text) }
+        ensures failed { result ≢ Err LoadErr.NoMemory → (result ≡ Err LoadErr.Failed) ↔ IsTrue (fails self.new name.now) }
+        ensures faults { faults_of self.new name.now ≡ faults_after result (faults_of self.old name.now) }
+        ensures never_falls { (other : List ℕ) → faults_of self.old other ≤ faults_of self.new other }
+        ensures others { (other : List ℕ) → other ≢ name.now → faults_of self.new other ≡ faults_of self.old other }
+        ensures loads { loads_of self.new ≡ counted (loads_of self.old) }
+        ensures settings { (files_in self.new ≡ files_in self.old) × (failing_of self.new ≡ failing_of self.old) }
+    {
+        self.loads = self.loads.saturating_add(1);
+        if counts::prepare(&mut self.faults, alloc, name).is_err() {
+            return Err(LoadErr::NoMemory);
+        }
+        let answer = self.answer(alloc, name, limit);
+        if let Err(LoadErr::Failed) = answer {
+            counts::raise(&mut self.faults, name);
+        }
+        answer
+    }
+}

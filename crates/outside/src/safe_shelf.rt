@@ -1,0 +1,43 @@
+ghost use Rattle.std.specs.Prelude.{◌≡◌};
+ghost use Rattle.outside.specs.Held.{files_of, told};
+
+use crate::files;
+use crate::shelf::{LoadErr, Shelf};
+use std::alloc::Global;
+use std::marker::Model;
+
+/// Files in memory, of which each load is served. A name that it does not hold is an empty file.
+/// Contracts see the names and the bytes of its files.
+#[derive(Drop)]
+pub struct SafeShelf {
+    files: Vec<(String, Vec<u8>)>,
+}
+
+impl Model for SafeShelf {
+    ghost use Rattle.std.specs.Prelude.{List, ℕ};
+    ghost use Rattle.outside.specs.Held.{files_of};
+
+    ghost Value = { List (List ℕ × List ℕ) };
+
+    ghost view = { λ s. files_of s.files.items };
+}
+
+impl SafeShelf {
+    /// A shelf of these files, by their names. Of two files of one name it holds the first.
+    pub fn new(files: Vec<(String, Vec<u8>)>) -> SafeShelf
+        ensures { result ≡ files_of files.items }
+    {
+        SafeShelf { files }
+    }
+}
+
+impl Shelf for SafeShelf {
+    ghost held = { told };
+
+    ghost faults = { λ _ _. 0 };
+
+    /// Copies the file. Only a file that is too long and want of memory are refused.
+    fn load(&mut self, alloc: Global, name: &str, limit: u64) -> Result<Vec<u8>, LoadErr> {
+        files::copy(alloc, files::find(&self.files, name).unwrap_or(&[]), limit)
+    }
+}

@@ -1,0 +1,221 @@
+-- With no constraint, each pair of a place in the form and a set of open free tiers is the kind of a prefix.
+use Rattle.std.proofs.Common.{◌≡◌, ℕ, zero, suc, ◌+◌, ◌<◌, ◌≤◌, ◌≢◌, ◌==◌, ◌⊎◌, Bool, true, false, List, [], ◌∷◌, ◌++◌, map, length, take, get_or, Contains, refl, sym, ap, ap₂, ◌∙◌, inl, inr, ⊎_elim, ext_get_or, append-nil, arith}
+use Rattle.std.specs.List.{AllByRecursion, list_any}
+use Rattle.std.proofs.lemmas.Bool.{false≢true, cases_lt, cond-true, cond-false, eq-eqb, ne_eqb, and_parts, and_from}
+use Rattle.std.proofs.lemmas.List.{length-map, length-append, length-take-le, map-append, take-map, take-append-le, get_or-map}
+use Rattle.std.proofs.lemmas.List.Elements.{All-from_recursion, recursion_from_All, All-take, All-contains_itself, filter-append}
+use Rattle.tier_core.specs.declared.sym.Sym.{Sym}
+use Rattle.tier_core.specs.declared.sym.Sym.TheVariants.{Outside, Inside, Start, End}
+use Rattle.tier_core.specs.Words.{ends}
+use Rattle.tier_core.specs.Scan.{fits, opens}
+use Rattle.tier_core.specs.Timelines.{symbol, word, is_edge, has_edge, project, squeeze, IsWellFormed, IsReduced}
+use Rattle.tier_core.specs.Tiers.{Tiers}
+use Rattle.tier_core.specs.Kinds.{PrefixKind}
+use Rattle.tier_core.proofs.CountLemmas.{all_append}
+use Rattle.tier_core.proofs.WordLemmas.{runs}
+use Rattle.tier_core.proofs.WordForm.{well_formed_from_runs}
+use Rattle.violation.specs.Candidates.{IsCandidate}
+use Rattle.violation.specs.Conditions.{AreDistinct, AreSplit}
+use Rattle.violation.specs.Moves.{flag_of}
+use Rattle.violation.specs.Prefixes.{is_open, kind_of}
+use Rattle.violation.specs.Stages.{IsPassed}
+use Rattle.ranked_gen.specs.Example.{widened, bare_form}
+use Rattle.ranked_gen.proofs.WidenedColumns.{over, all_at, all_mapped, on_nothing, not_listed, edge_at, length_over, symbol_over, word_flagged, word_outside, part_bare, over_runs, over_reduced, squeeze_over}
+use Rattle.ranked_gen.proofs.BareForm.{bare_candidate, all_optimal}
+
+-- the form's columns between a start and an end on the tiers of the flags
+abbrev pub marked : Tiers → (ℕ → Bool) → List (List Sym) → List (List Sym)
+marked tiers flag u = over tiers flag Start [] ∷ (map (over tiers flag Inside) u ++ over tiers flag End [] ∷ [])
+
+-- a flag is set below n, or none is
+any_below : (flag : ℕ → Bool) (n : ℕ) → ((t : ℕ) × (t < n) × (flag t ≡ true)) ⊎ ((t : ℕ) → t < n → flag t ≡ false)
+any_below flag zero = inr (λ t l. absurd (omega arith))
+any_below flag (suc n) = by_test (flag n) refl (any_below flag n)
+  where
+    by_test : (b : Bool) → flag n ≡ b → ((t : ℕ) × (t < n) × (flag t ≡ true)) ⊎ ((t : ℕ) → t < n → flag t ≡ false)
+        → ((t : ℕ) × (t < suc n) × (flag t ≡ true)) ⊎ ((t : ℕ) → t < suc n → flag t ≡ false)
+    by_test true e rest = inl (n, omega arith, e)
+    by_test false e rest = ⊎_elim
+        (λ a. inl (a.0, omega arith, a.2))
+        (λ a. inr (λ t l. ⊎_elim (λ below. a t below) (λ above. let same : t ≡ n = omega arith in ap flag same ∙ e) (cases_lt t n)))
+        rest
+
+-- each tier of a list has its flag
+flag_at : (xs : List ℕ) (flags : List Bool) (j : ℕ) → AreDistinct xs → j < length xs → flag_of xs flags (get_or xs j 0) ≡ get_or flags j false
+flag_at [] flags j d l = absurd (omega arith)
+flag_at (x ∷ xs) [] j d l = refl
+flag_at (x ∷ xs) (b ∷ flags) zero d l = cond-true (x == x) b (flag_of xs flags x) (eq-eqb x x refl)
+flag_at (x ∷ xs) (b ∷ flags) (suc j) d l =
+    cond-false (x == get_or xs j 0) b (flag_of xs flags (get_or xs j 0)) (ne_eqb x (get_or xs j 0) (all_at (λ y. x ≢ y) xs j 0 (omega arith) d.0))
+    ∙ flag_at xs flags j d.1 (omega arith)
+
+flag_none : (xs : List ℕ) (flags : List Bool) (t : ℕ) → AllByRecursion (λ x. x ≢ t) xs → flag_of xs flags t ≡ false
+flag_none [] flags t h = refl
+flag_none (x ∷ xs) [] t h = refl
+flag_none (x ∷ xs) (b ∷ flags) t h = cond-false (x == t) b (flag_of xs flags t) (ne_eqb x t h.0) ∙ flag_none xs flags t h.1
+
+flags_are : (xs : List ℕ) (flags : List Bool) → AreDistinct xs → length flags ≡ length xs → map (flag_of xs flags) xs ≡ flags
+flags_are xs flags d e =
+    let long = length-map xs (flag_of xs flags) in
+    ext_get_or false (map (flag_of xs flags) xs) flags (omega arith)
+    (λ i l. get_or-map (flag_of xs flags) xs i 0 false (omega arith) ∙ flag_at xs flags i d (omega arith))
+
+map_agree : {X Y : Type 0} (f g : X → Y) (xs : List X) → AllByRecursion (λ x. f x ≡ g x) xs → map f xs ≡ map g xs
+map_agree f g [] h = refl
+map_agree f g (x ∷ xs) h = let first = h.0 in let rest = map_agree f g xs h.1 in cc
+
+all_taken : {X : Type 0} (P : X → Type 0) (n : ℕ) (xs : List X) → AllByRecursion P xs → AllByRecursion P (take n xs)
+all_taken P n xs h = recursion_from_All P (take n xs) (All-take P n xs (All-from_recursion P xs h))
+
+runs_inside : (u : List (List Sym)) → runs true (map (λ c. Inside) u ++ End ∷ []) ≡ true
+runs_inside [] = refl
+runs_inside (c ∷ u) = runs_inside u
+
+runs_closed : (b : Bool) (w : List Sym) → runs b w ≡ true → runs b (w ++ Outside ∷ []) ≡ true
+runs_closed true [] h = absurd (false≢true h)
+runs_closed false [] h = refl
+runs_closed b (s ∷ w) h =
+    let parts : (fits b s ≡ true) × (runs (opens s) w ≡ true) = and_parts (fits b s) (runs (opens s) w) h in
+    and_from (fits b s) (runs (opens s) (w ++ Outside ∷ [])) parts.0 (runs_closed (opens s) w parts.1)
+
+no_end : (u : List (List Sym)) → list_any ends (map (λ c. Inside) u) ≡ false
+no_end [] = refl
+no_end (c ∷ u) = no_end u
+
+closed_outside : (u : List (List Sym)) → is_open (map (λ c. Outside) u) ≡ false
+closed_outside [] = refl
+closed_outside (c ∷ u) = closed_outside u
+
+module _ (tiers : Tiers) (split : AreSplit tiers) (flag : ℕ → Bool) (off : (t : ℕ) → Contains tiers.input t → flag t ≡ false) where
+  first_symbol : (s : Sym) (t : ℕ) → t < tiers.width → flag t ≡ true → symbol (over tiers flag s []) t ≡ s
+  first_symbol s t l h = symbol_over tiers flag s [] t l ∙ cond-true (flag t) s _ h
+
+  other_symbol : (s : Sym) (t : ℕ) → t < tiers.width → flag t ≡ false → symbol (over tiers flag s []) t ≡ Outside
+  other_symbol s t l h = symbol_over tiers flag s [] t l ∙ cond-false (flag t) s _ h ∙ on_nothing tiers.input t
+
+  marked_word : (u : List (List Sym)) (t : ℕ)
+      → word (marked tiers flag u) t ≡ symbol (over tiers flag Start []) t ∷ (word (map (over tiers flag Inside) u) t ++ symbol (over tiers flag End []) t ∷ [])
+  marked_word u t = ap (λ w. symbol (over tiers flag Start []) t ∷ w) (map-append (λ column. symbol column t) (map (over tiers flag Inside) u) (over tiers flag End [] ∷ []))
+
+  marked_runs : (u : List (List Sym)) (t : ℕ) → IsWellFormed (length tiers.input) u → t < tiers.width → runs false (word (marked tiers flag u) t) ≡ true
+  marked_runs u t wf l = ap (runs false) (marked_word u t) ∙ by_test (flag t) refl
+    where
+      by_test : (b : Bool) → flag t ≡ b
+          → runs false (symbol (over tiers flag Start []) t ∷ (word (map (over tiers flag Inside) u) t ++ symbol (over tiers flag End []) t ∷ [])) ≡ true
+      by_test true h = rw (first_symbol Start t l h, first_symbol End t l h, word_flagged tiers flag Inside u t l h) (runs_inside u)
+      by_test false h = rw (other_symbol Start t l h, other_symbol End t l h) (runs_closed false (word (map (over tiers flag Inside) u) t) (over_runs tiers flag Inside split off u t wf l h))
+
+  marked_input : (u : List (List Sym)) → AllByRecursion (λ column. length column ≡ length tiers.input) u → IsReduced u → squeeze (project tiers.input (marked tiers flag u)) ≡ u
+  marked_input u a r =
+      let inner : List (List Sym) = map (over tiers flag Inside) u in
+      let last : List (List Sym) = over tiers flag End [] ∷ [] in
+      cond-false (has_edge (map (symbol (over tiers flag Start [])) tiers.input)) _ _ (part_bare tiers flag Start split off)
+      ∙ ap squeeze (map-append (λ column. map (symbol column) tiers.input) inner last)
+      ∙ filter-append has_edge (project tiers.input inner) (project tiers.input last)
+      ∙ ap (λ v. squeeze (project tiers.input inner) ++ v) (cond-false (has_edge (map (symbol (over tiers flag End [])) tiers.input)) _ _ (part_bare tiers flag End split off))
+      ∙ append-nil (squeeze (project tiers.input inner))
+      ∙ squeeze_over tiers flag Inside split off u a r
+
+  -- With a flag that is set, the marked form is a candidate.
+  pub marked_candidate : (u : List (List Sym)) (t : ℕ) → IsWellFormed (length tiers.input) u → IsReduced u → t < tiers.width → flag t ≡ true → IsCandidate tiers u (marked tiers flag u)
+  marked_candidate u t wf r l h = record {
+    well_formed = record {
+      one_width = (
+        length_over tiers flag Start [],
+        all_append _ (map (over tiers flag Inside) u) (over tiers flag End [] ∷ []) (all_mapped _ (over tiers flag Inside) u (length_over tiers flag Inside)) (length_over tiers flag End [], tt),
+      );
+      each_tier = λ x g. well_formed_from_runs (word (marked tiers flag u) x) (marked_runs u x wf g);
+    };
+    reduced = (
+      edge_at (over tiers flag Start []) t (ap is_edge (first_symbol Start t l h)),
+      all_append _ (map (over tiers flag Inside) u) (over tiers flag End [] ∷ []) (over_reduced tiers flag Inside split off u wf.one_width r)
+          (edge_at (over tiers flag End []) t (ap is_edge (first_symbol End t l h)), tt),
+    );
+    input = marked_input u wf.one_width r;
+  }
+
+  -- the free tiers that are open after the first columns of the marked form are those of the flags
+  marked_open : (v : List (List Sym)) (t : ℕ) → Contains tiers.free t → t < tiers.width → is_open (word (over tiers flag Start [] ∷ map (over tiers flag Inside) v) t) ≡ flag t
+  marked_open v t f l = by_test (flag t) refl
+    where
+      by_test : (b : Bool) → flag t ≡ b → is_open (word (over tiers flag Start [] ∷ map (over tiers flag Inside) v) t) ≡ flag t
+      by_test true h = rw (first_symbol Start t l h, word_flagged tiers flag Inside v t l h, no_end v) (sym h)
+      by_test false h = rw (other_symbol Start t l h, word_outside tiers flag Inside v t l h (λ i. split.apart t i f)) (closed_outside v ∙ sym h)
+
+  bare_open : (v : List (List Sym)) (t : ℕ) → Contains tiers.free t → t < tiers.width → flag t ≡ false → is_open (word (bare_form tiers v) t) ≡ flag t
+  bare_open v t f l h = ap is_open (word_outside tiers (λ t. false) Outside v t l refl (λ i. split.apart t i f)) ∙ closed_outside v ∙ sym h
+
+  -- what holds at each free tier
+  at_free : (f : ℕ → Bool) → ((t : ℕ) → Contains tiers.free t → t < tiers.width → f t ≡ flag t) → map f tiers.free ≡ map flag tiers.free
+  at_free f h =
+      map_agree f flag tiers.free
+      (all_both tiers.free (recursion_from_All (Contains tiers.free) tiers.free (All-contains_itself tiers.free)) split.free_below)
+    where
+      all_both : (xs : List ℕ) → AllByRecursion (Contains tiers.free) xs → AllByRecursion (λ t. t < tiers.width) xs → AllByRecursion (λ t. f t ≡ flag t) xs
+      all_both [] a b = tt
+      all_both (x ∷ xs) a b = (h x a.0 b.0, all_both xs a.1 b.1)
+
+module _ (tiers : Tiers) (u : List (List Sym)) (split : AreSplit tiers) (once : AreDistinct tiers.free) (wf : IsWellFormed (length tiers.input) u) (reduced : IsReduced u)
+    (place : ℕ) (opened : List Bool) (within : place ≤ length u) (flags : length opened ≡ length tiers.free) where
+  off : (t : ℕ) → Contains tiers.input t → flag_of tiers.free opened t ≡ false
+  off t i = flag_none tiers.free opened t (not_listed tiers.free t (λ f. split.apart t i f))
+
+  fits_kind : (p : List (List Sym)) → length (squeeze (project tiers.input p)) ≡ place
+      → ((t : ℕ) → Contains tiers.free t → t < tiers.width → is_open (word p t) ≡ flag_of tiers.free opened t)
+      → kind_of tiers [] 0 p ≡ record { place = place; opened = opened; phases = [] }
+  fits_kind p a b =
+      let same : map (λ t. is_open (word p t)) tiers.free ≡ opened = at_free tiers split (flag_of tiers.free opened) off (λ t. is_open (word p t)) b ∙ flags_are tiers.free opened once flags in
+      let kind : ℕ → List Bool → PrefixKind = λ n bs. record { place = n; opened = bs; phases = [] } in
+      ap₂ kind a same
+
+  -- the form's first columns are as many as the place, and each has an edge
+  taken : length (take place u) ≡ place
+  taken = length-take-le place u within
+
+  wide : AllByRecursion (λ column. length column ≡ length tiers.input) (take place u)
+  wide = all_taken _ place u wf.one_width
+
+  edged : IsReduced (take place u)
+  edged = all_taken _ place u reduced
+
+  with_flag : (t : ℕ) → t < tiers.width → flag_of tiers.free opened t ≡ true → IsPassed tiers [] u 0 0 (record { place = place; opened = opened; phases = [] })
+  with_flag t l h =
+      let flag : ℕ → Bool = flag_of tiers.free opened in
+      let inner : List (List Sym) = map (over tiers flag Inside) u in
+      let prefix : List (List Sym) = over tiers flag Start [] ∷ map (over tiers flag Inside) (take place u) in
+      let long : length inner ≡ length u = length-map u (over tiers flag Inside) in
+      let joined : length (inner ++ over tiers flag End [] ∷ []) ≡ length inner + 1 = length-append inner (over tiers flag End [] ∷ []) in
+      let cut : take (suc place) (marked tiers flag u) ≡ prefix =
+      ap (λ v. over tiers flag Start [] ∷ v) (take-append-le place inner (over tiers flag End [] ∷ []) (omega arith) ∙ take-map (over tiers flag Inside) place u) in
+      record {
+        candidate = marked tiers flag u;
+        columns = suc place;
+        passes = record {
+          optimal = all_optimal tiers u (marked tiers flag u) (marked_candidate tiers split flag off u t wf reduced l h);
+          within = omega arith;
+          of_kind = ap (kind_of tiers [] 0) cut
+              ∙ fits_kind prefix
+              (ap length (cond-false (has_edge (map (symbol (over tiers flag Start [])) tiers.input)) _ _ (part_bare tiers flag Start split off) ∙ squeeze_over tiers flag Inside split off (take place u) wide edged) ∙ taken)
+              (marked_open tiers split flag off (take place u));
+        };
+      }
+
+  with_none : ((t : ℕ) → t < tiers.width → flag_of tiers.free opened t ≡ false) → IsPassed tiers [] u 0 0 (record { place = place; opened = opened; phases = [] })
+  with_none h =
+      let long : length (bare_form tiers u) ≡ length u = length-map u (widened tiers) in
+      record {
+        candidate = bare_form tiers u;
+        columns = place;
+        passes = record {
+          optimal = all_optimal tiers u (bare_form tiers u) (bare_candidate tiers u split wf reduced);
+          within = omega arith;
+          of_kind = ap (kind_of tiers [] 0) (take-map (widened tiers) place u)
+              ∙ fits_kind (bare_form tiers (take place u))
+              (ap length (squeeze_over tiers (λ t. false) Outside split (λ t c. refl) (take place u) wide edged) ∙ taken)
+              (λ t f l. bare_open tiers split (flag_of tiers.free opened) off (take place u) t f l (h t l));
+        };
+      }
+
+  -- Each kind without phases is passed.
+  pub all_passed : IsPassed tiers [] u 0 0 (record { place = place; opened = opened; phases = [] })
+  all_passed = ⊎_elim (λ a. with_flag a.0 a.1 a.2) with_none (any_below (flag_of tiers.free opened) tiers.width)

@@ -1,0 +1,17 @@
+pub mod NumberLemmas
+pub mod MemberLemmas
+pub mod Ascending
+pub mod ChoiceLemmas
+pub mod SymbolLemmas
+pub mod MoveMembers
+pub mod MoveFits
+pub mod MoveList
+pub mod ArcLemmas
+pub mod NumberedKinds
+pub mod WidenedColumns
+pub mod BareForm
+pub mod AllPassed
+pub mod InputTiers
+pub mod AutomatonMoves
+pub mod RightAnswer
+pub mod PickLemmas

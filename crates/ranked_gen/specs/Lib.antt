@@ -1,0 +1,5 @@
+pub mod Example
+pub mod Numbers
+pub mod Arcs
+pub mod Listed
+pub mod Picks

@@ -1,0 +1,42 @@
+-- What the generator lists where no constraint is ranked: a node and a state for each number of a
+-- kind, and the moves of the kind as the arcs of its state.
+use Rattle.std.specs.Prelude.{ℕ, ◌+◌, ◌*◌, ◌^◌, ◌≡◌, List, [], ◌∷◌, length, map}
+use Rattle.tier_core.specs.declared.sym.Sym.{Sym}
+use Rattle.tier_core.specs.Tiers.{Tiers}
+use Rattle.tier_core.specs.Sets.{single_set}
+use Rattle.tier_core.specs.Classes.{sets_of}
+use Rattle.tier_core.specs.Kinds.{PrefixKind, prefix_kind}
+use Rattle.violation.specs.Moves.{is_final}
+use Rattle.answer_text.specs.declared.stage.Node.{Node}
+use Rattle.answer_text.specs.declared.automaton.ArcLine.{ArcLine}
+use Rattle.answer_text.specs.declared.automaton.StateLine.{StateLine}
+use Rattle.ranked_gen.specs.Numbers.{kind_numbered}
+use Rattle.ranked_gen.specs.Arcs.{moves_from}
+
+-- how many kinds there are
+abbrev pub kind_count : Tiers → List (List Sym) → ℕ
+kind_count tiers u = (length u + 1) * 2 ^ length tiers.free
+
+-- an arc, by its target and the numbers of its sets
+abbrev pub arc_view : ArcLine → ℕ × List ℕ
+arc_view arc = (arc.target, sets_of arc.class)
+
+-- a move, with the class of its column alone
+abbrev pub move_view : ℕ × List Sym → ℕ × List ℕ
+move_view m = (m.0, map single_set m.1)
+
+-- the node of the kind of a number
+pub record IsNodeNumbered (tiers : Tiers) (n : ℕ) (node : Node) : Type 0 where
+  pub kind : prefix_kind (length tiers.free) 0 node.kind ≡ kind_numbered (length tiers.free) n
+  pub potential : node.potential ≡ 0
+
+-- the state of the kind of a number
+pub record IsStateNumbered (tiers : Tiers) (u : List (List Sym)) (n : ℕ) (state : StateLine) : Type 0 where
+  pub node : state.node ≡ n
+  pub final : state.accepting ≡ is_final u (kind_numbered (length tiers.free) n)
+  pub arcs : map arc_view state.arcs.items ≡ map move_view (moves_from tiers u (kind_numbered (length tiers.free) n))
+
+-- elements that are numbered from n on
+abbrev pub AreNumbered : {X : Type 0} → (ℕ → X → Type 0) → ℕ → List X → Type 0
+AreNumbered P n [] = Unit {0}
+AreNumbered P n (x ∷ xs) = P n x × AreNumbered P (n + 1) xs

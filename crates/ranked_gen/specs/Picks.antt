@@ -1,0 +1,31 @@
+-- One symbol or two for each tier, and the columns that they make, by number.
+use Rattle.std.specs.Prelude.{ℕ, zero, suc, ◌+◌, ◌^◌, Bool, true, false, if◌then◌else◌, List, [], ◌∷◌, slice_index_or}
+use Rattle.tier_core.specs.declared.sym.Sym.{Sym}
+use Rattle.tier_core.specs.declared.tier.TierKind.{TierKind}
+use Rattle.tier_core.specs.Timelines.{symbol}
+use Rattle.tier_core.specs.Tiers.{has_tier, is_input, kind_at}
+use Rattle.ranked_gen.specs.declared.pick.Pick.{Pick}
+use Rattle.ranked_gen.specs.declared.pick.Pick.TheVariants.{One, Two}
+use Rattle.ranked_gen.specs.Arcs.{between}
+
+-- the symbols to pick from
+abbrev pub symbols_of : Pick → List Sym
+symbols_of (One s) = s ∷ []
+symbols_of (Two s r) = s ∷ r ∷ []
+
+-- how many of the tiers have two
+abbrev pub two_count : List Pick → ℕ
+two_count [] = 0
+two_count (One s ∷ picks) = two_count picks
+two_count (Two s r ∷ picks) = suc (two_count picks)
+
+-- the column of a number: a bit for each tier with two symbols, the first of which counts most
+abbrev pub picked : List Pick → ℕ → List Sym
+picked [] n = []
+picked (One s ∷ picks) n = s ∷ picked picks n
+picked (Two s r ∷ picks) n = (if has_tier n (two_count picks) then r else s) ∷ picked picks n
+
+-- the symbols of a tier, by the flags of the tiers
+abbrev pub symbols_by_flags : List TierKind → List Sym → List Bool → List Bool → ℕ → List Sym
+symbols_by_flags kinds given before after t =
+    if is_input (kind_at kinds t) then symbol given t ∷ [] else between (slice_index_or before t false) (slice_index_or after t false)

@@ -1,0 +1,56 @@
+ghost use Rattle.std.specs.Prelude.{◌≡◌, ◌≤◌, length, IfOk, IsTrue};
+ghost use Rattle.std.specs.List.{AllByRecursion};
+ghost use Rattle.tier_core.specs.Tables.{tiers_of_table};
+ghost use Rattle.tier_core.specs.Tiers.{is_input, tiers_by_kinds};
+ghost use Rattle.ranked_gen.specs.Example.{bare_form, widened};
+
+use std::alloc::Global;
+use tier_core::{Column, NoMemory, Sym, TierKind, TierTable, Timeline};
+
+/// Whether a tier is an input tier.
+fn is_input(kind: TierKind) -> bool
+    ensures { result ≡ is_input kind }
+{
+    match kind {
+        TierKind::Input => true,
+        TierKind::Overt | TierKind::Hidden => false,
+    }
+}
+
+/// A column of a form, widened to all tiers: Outside where a tier is free.
+fn widened(alloc: Global, kinds: &[TierKind], column: &[Sym]) -> Column
+    requires some { 1 ≤ length kinds.now }
+    requires few { length kinds.now ≤ 12 }
+    requires each_input { length column.now ≡ length (tiers_by_kinds kinds.now).input }
+    ensures { result ≡ widened (tiers_by_kinds kinds.now) column.now }
+{
+    let mut syms = [Sym::Outside; 12];
+    let mut inputs = 0;
+    for (tier, kind) in kinds.iter().enumerate() {
+        if is_input(*kind) {
+            syms[tier] = column[inputs];
+            inputs += 1;
+        }
+    }
+    Column::from_syms(alloc, &syms[..kinds.len()])
+}
+
+/// The form with no constituent on the free tiers: each of its columns, which have a symbol for
+/// each input tier, widened to all tiers. It fails only for want of memory.
+pub(crate) fn bare_form(
+    alloc: Global,
+    tiers: &TierTable,
+    form: &Timeline,
+) -> Result<Timeline, NoMemory>
+    requires { AllByRecursion (λ column. length column ≡ length (tiers_of_table tiers.now).input) form.now }
+    ensures { IfOk result (λ t. t ≡ bare_form (tiers_of_table tiers.now) form.now) }
+{
+    let mut bare = Timeline::new(alloc);
+    for column in form.columns() {
+        let wide = widened(alloc, tiers.kinds.as_slice(), column.syms());
+        if bare.push(wide).is_err() {
+            return Err(NoMemory);
+        }
+    }
+    Ok(bare)
+}

@@ -1,8 +1,7 @@
 -- How many tiers a mask has, by its bits.
-use Rattle.std.proofs.Common.{◌≡◌, ℕ, zero, suc, ◌+◌, ◌*◌, ◌/◌, ◌%◌, ◌^◌, ◌<◌, ◌≤◌, ◌==◌, Bool, true, false, cond, List, [], ◌∷◌, ◌++◌, length, refl, ap, sym, ◌∙◌, subst, arith, length-append, ⊎_elim}
+use Rattle.std.proofs.Common.{◌≡◌, ℕ, zero, suc, ◌+◌, ◌*◌, ◌/◌, ◌%◌, ◌^◌, ◌<◌, ◌≤◌, ◌==◌, cond, [], ◌∷◌, ◌++◌, length, refl, ap, sym, ◌∙◌, subst, arith, length-append}
 use Rattle.std.specs.Int.RustNames.{count_ones}
 use Rattle.std.specs.Int.{bit_at}
-use Rattle.std.proofs.lemmas.Bool.{cases_lt}
 use Rattle.std.proofs.lemmas.Nat.{pow_pos}
 use Rattle.std.proofs.lemmas.Nat.Bits.{bit_at_cat_low}
 use Rattle.tier_core.specs.Tiers.{has_tier, tiers_below, tiers_of}
@@ -44,8 +43,13 @@ ones_below (suc n) mask h =
     let low : mask % 2 ^ n < 2 ^ n = mod_below (2 ^ n) mask (pow_pos n) in
     let whole : mask ≡ (mask / 2 ^ n) * 2 ^ n + mask % 2 ^ n = cut (2 ^ n) mask (pow_pos n) in
     let same = tiers_same (mask % 2 ^ n) mask n (λ t l. ap (λ b. b == 1) (sym (bit_at_cat_low (mask / 2 ^ n) n (mask % 2 ^ n) t l) ∙ ap (λ m. bit_at m t) (sym whole))) in
-    omega (arith, ap count_ones whole ∙ ones_cat n (mask / 2 ^ n) (mask % 2 ^ n) low, one_bit (mask / 2 ^ n) n (half_below n mask h),
-        ones_below n (mask % 2 ^ n) low ∙ ap length same, length-append (tiers_below mask n) (cond (has_tier mask n) (n ∷ []) []))
+    omega (
+      arith,
+      ap count_ones whole ∙ ones_cat n (mask / 2 ^ n) (mask % 2 ^ n) low,
+      one_bit (mask / 2 ^ n) n (half_below n mask h),
+      ones_below n (mask % 2 ^ n) low ∙ ap length same,
+      length-append (tiers_below mask n) (cond (has_tier mask n) (n ∷ []) []),
+    )
 
 -- the bits of the mask of a width are as many as its tiers, and no more than the width
 pub ones_of : (width mask : ℕ) → width ≤ 12 → mask < 2 ^ width → count_ones mask ≡ input_count mask

@@ -43,7 +43,11 @@ fn put_arcs<O: Sink>(waiting: &mut Waiting, sink: &mut O, arcs: &[ArcLine]) -> R
 }
 
 /// Puts the lines of a state.
-fn put_state<O: Sink>(waiting: &mut Waiting, sink: &mut O, state: &StateLine) -> Result<(), WriteErr>
+fn put_state<O: Sink>(
+    waiting: &mut Waiting,
+    sink: &mut O,
+    state: &StateLine,
+) -> Result<(), WriteErr>
     ensures ok { OnOk result (Sends (O.taken sink.old) (waiting.old ++ lines_text (state_lines state.now)) (O.taken sink.new) waiting.new) }
     ensures part { HasSentPart (O.taken sink.old) (waiting.old ++ lines_text (state_lines state.now)) (O.taken sink.new) }
     ensures never_falls { O.faults sink.old ≤ O.faults sink.new }
@@ -56,7 +60,11 @@ fn put_state<O: Sink>(waiting: &mut Waiting, sink: &mut O, state: &StateLine) ->
 }
 
 /// Puts the lines of states.
-fn put_states<O: Sink>(waiting: &mut Waiting, sink: &mut O, states: &[StateLine]) -> Result<(), WriteErr>
+fn put_states<O: Sink>(
+    waiting: &mut Waiting,
+    sink: &mut O,
+    states: &[StateLine],
+) -> Result<(), WriteErr>
     ensures ok { OnOk result (Sends (O.taken sink.old) (waiting.old ++ lines_text (flat_map state_lines states.now)) (O.taken sink.new) waiting.new) }
     ensures part { HasSentPart (O.taken sink.old) (waiting.old ++ lines_text (flat_map state_lines states.now)) (O.taken sink.new) }
     ensures never_falls { O.faults sink.old ≤ O.faults sink.new }
@@ -69,7 +77,11 @@ fn put_states<O: Sink>(waiting: &mut Waiting, sink: &mut O, states: &[StateLine]
 }
 
 /// Puts the lines of an automaton with these states.
-pub fn put_automaton<O: Sink>(waiting: &mut Waiting, sink: &mut O, states: &[StateLine]) -> Result<(), WriteErr>
+pub fn put_automaton<O: Sink>(
+    waiting: &mut Waiting,
+    sink: &mut O,
+    states: &[StateLine],
+) -> Result<(), WriteErr>
     ensures ok { OnOk result (Sends (O.taken sink.old) (waiting.old ++ lines_text (automaton_lines states.now)) (O.taken sink.new) waiting.new) }
     ensures part { HasSentPart (O.taken sink.old) (waiting.old ++ lines_text (automaton_lines states.now)) (O.taken sink.new) }
     ensures never_falls { O.faults sink.old ≤ O.faults sink.new }

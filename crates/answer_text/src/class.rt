@@ -49,7 +49,11 @@ fn set_text(set: u8) -> &'static [u8]
 }
 
 /// Puts a class, set by set in tier order.
-pub fn put_class<O: Sink>(waiting: &mut Waiting, sink: &mut O, class: &Class) -> Result<(), WriteErr>
+pub fn put_class<O: Sink>(
+    waiting: &mut Waiting,
+    sink: &mut O,
+    class: &Class,
+) -> Result<(), WriteErr>
     ensures ok { OnOk result (Sends (O.taken sink.old) (waiting.old ++ class_text (sets_of class.now)) (O.taken sink.new) waiting.new) }
     ensures part { HasSentPart (O.taken sink.old) (waiting.old ++ class_text (sets_of class.now)) (O.taken sink.new) }
     ensures never_falls { O.faults sink.old ≤ O.faults sink.new }

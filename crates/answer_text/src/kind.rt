@@ -23,7 +23,11 @@ fn open_byte(opened: u16, tier: usize) -> u8
     requires { tier < 32 }
     ensures { result ≡ open_byte (has_tier opened tier) }
 {
-    if is_set(opened as u32, tier) { b'+' } else { b'-' }
+    if is_set(opened as u32, tier) {
+        b'+'
+    } else {
+        b'-'
+    }
 }
 
 /// The byte of a stretch implication.
@@ -65,7 +69,13 @@ fn phase_bytes(kind: &Kind, stretches: usize) -> [u8; 24]
 }
 
 /// Puts what a kind says of so many free tiers and so many stretch implications.
-pub fn put_kind<O: Sink>(waiting: &mut Waiting, sink: &mut O, kind: &Kind, free: usize, stretches: usize) -> Result<(), WriteErr>
+pub fn put_kind<O: Sink>(
+    waiting: &mut Waiting,
+    sink: &mut O,
+    kind: &Kind,
+    free: usize,
+    stretches: usize,
+) -> Result<(), WriteErr>
     requires few_free { free ≤ 12 }
     requires few_stretches { stretches ≤ 24 }
     ensures ok { OnOk result (Sends (O.taken sink.old) (waiting.old ++ kind_text (prefix_kind free stretches kind.now)) (O.taken sink.new) waiting.new) }

@@ -8,7 +8,11 @@ use itoa::Buffer;
 use outside::{Sink, Waiting, WriteErr};
 
 /// Puts a number in decimal digits.
-pub fn put_decimal<O: Sink>(waiting: &mut Waiting, sink: &mut O, number: usize) -> Result<(), WriteErr>
+pub fn put_decimal<O: Sink>(
+    waiting: &mut Waiting,
+    sink: &mut O,
+    number: usize,
+) -> Result<(), WriteErr>
     ensures ok { OnOk result (Sends (O.taken sink.old) (waiting.old ++ decimal number) (O.taken sink.new) waiting.new) }
     ensures part { HasSentPart (O.taken sink.old) (waiting.old ++ decimal number) (O.taken sink.new) }
     ensures never_falls { O.faults sink.old ≤ O.faults sink.new }
@@ -19,7 +23,12 @@ pub fn put_decimal<O: Sink>(waiting: &mut Waiting, sink: &mut O, number: usize) 
 }
 
 /// Puts a word, and then a number.
-pub fn put_number<O: Sink>(waiting: &mut Waiting, sink: &mut O, word: &[u8], number: usize) -> Result<(), WriteErr>
+pub fn put_number<O: Sink>(
+    waiting: &mut Waiting,
+    sink: &mut O,
+    word: &[u8],
+    number: usize,
+) -> Result<(), WriteErr>
     ensures ok { OnOk result (Sends (O.taken sink.old) (waiting.old ++ (word.now ++ decimal number)) (O.taken sink.new) waiting.new) }
     ensures part { HasSentPart (O.taken sink.old) (waiting.old ++ (word.now ++ decimal number)) (O.taken sink.new) }
     ensures never_falls { O.faults sink.old ≤ O.faults sink.new }
@@ -30,7 +39,11 @@ pub fn put_number<O: Sink>(waiting: &mut Waiting, sink: &mut O, word: &[u8], num
 }
 
 /// Puts numbers, each after a space.
-pub fn put_numbers<O: Sink>(waiting: &mut Waiting, sink: &mut O, numbers: &[u32]) -> Result<(), WriteErr>
+pub fn put_numbers<O: Sink>(
+    waiting: &mut Waiting,
+    sink: &mut O,
+    numbers: &[u32],
+) -> Result<(), WriteErr>
     ensures ok { OnOk result (Sends (O.taken sink.old) (waiting.old ++ spaced numbers.now) (O.taken sink.new) waiting.new) }
     ensures part { HasSentPart (O.taken sink.old) (waiting.old ++ spaced numbers.now) (O.taken sink.new) }
     ensures never_falls { O.faults sink.old ≤ O.faults sink.new }

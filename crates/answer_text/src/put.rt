@@ -14,7 +14,12 @@ use outside::{Sink, Waiting, WriteErr};
 use tier_core::{Shape, Timeline};
 
 /// Puts a line of a word and a timeline.
-fn put_timeline_line<O: Sink>(waiting: &mut Waiting, sink: &mut O, word: &[u8], timeline: &Timeline) -> Result<(), WriteErr>
+fn put_timeline_line<O: Sink>(
+    waiting: &mut Waiting,
+    sink: &mut O,
+    word: &[u8],
+    timeline: &Timeline,
+) -> Result<(), WriteErr>
     ensures ok { OnOk result (Sends (O.taken sink.old) (waiting.old ++ line (word.now ++ timeline_text timeline.now)) (O.taken sink.new) waiting.new) }
     ensures part { HasSentPart (O.taken sink.old) (waiting.old ++ line (word.now ++ timeline_text timeline.now)) (O.taken sink.new) }
     ensures never_falls { O.faults sink.old ≤ O.faults sink.new }
@@ -51,7 +56,12 @@ fn put_head<O: Sink>(waiting: &mut Waiting, sink: &mut O, answer: &Answer) -> Re
 }
 
 /// Puts the lines of an answer.
-fn put_lines<O: Sink>(waiting: &mut Waiting, sink: &mut O, shape: &Shape, answer: &Answer) -> Result<(), WriteErr>
+fn put_lines<O: Sink>(
+    waiting: &mut Waiting,
+    sink: &mut O,
+    shape: &Shape,
+    answer: &Answer,
+) -> Result<(), WriteErr>
     requires { length answer.now.stages.items ≤ length shape.now.phases.items }
     ensures ok { OnOk result (Sends (O.taken sink.old) (waiting.old ++ answer_text (widths_of shape.now) answer.now) (O.taken sink.new) waiting.new) }
     ensures part { HasSentPart (O.taken sink.old) (waiting.old ++ answer_text (widths_of shape.now) answer.now) (O.taken sink.new) }

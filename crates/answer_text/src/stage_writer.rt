@@ -12,7 +12,13 @@ use outside::{Sink, Waiting, WriteErr};
 use tier_core::Shape;
 
 /// Puts the line of a node.
-fn put_node<O: Sink>(waiting: &mut Waiting, sink: &mut O, node: &Node, free: usize, stretches: usize) -> Result<(), WriteErr>
+fn put_node<O: Sink>(
+    waiting: &mut Waiting,
+    sink: &mut O,
+    node: &Node,
+    free: usize,
+    stretches: usize,
+) -> Result<(), WriteErr>
     requires few_free { free ≤ 12 }
     requires few_stretches { stretches ≤ 24 }
     ensures ok { OnOk result (Sends (O.taken sink.old) (waiting.old ++ line (node_line free stretches node.now)) (O.taken sink.new) waiting.new) }
@@ -27,7 +33,13 @@ fn put_node<O: Sink>(waiting: &mut Waiting, sink: &mut O, node: &Node, free: usi
 }
 
 /// Puts the lines of nodes.
-fn put_nodes<O: Sink>(waiting: &mut Waiting, sink: &mut O, nodes: &[Node], free: usize, stretches: usize) -> Result<(), WriteErr>
+fn put_nodes<O: Sink>(
+    waiting: &mut Waiting,
+    sink: &mut O,
+    nodes: &[Node],
+    free: usize,
+    stretches: usize,
+) -> Result<(), WriteErr>
     requires few_free { free ≤ 12 }
     requires few_stretches { stretches ≤ 24 }
     ensures ok { OnOk result (Sends (O.taken sink.old) (waiting.old ++ lines_text (map (node_line free stretches) nodes.now)) (O.taken sink.new) waiting.new) }
@@ -42,7 +54,14 @@ fn put_nodes<O: Sink>(waiting: &mut Waiting, sink: &mut O, nodes: &[Node], free:
 }
 
 /// Puts the lines of a stage.
-fn put_stage<O: Sink>(waiting: &mut Waiting, sink: &mut O, number: usize, nodes: &[Node], free: usize, stretches: usize) -> Result<(), WriteErr>
+fn put_stage<O: Sink>(
+    waiting: &mut Waiting,
+    sink: &mut O,
+    number: usize,
+    nodes: &[Node],
+    free: usize,
+    stretches: usize,
+) -> Result<(), WriteErr>
     requires few_free { free ≤ 12 }
     requires few_stretches { stretches ≤ 24 }
     ensures ok { OnOk result (Sends (O.taken sink.old) (waiting.old ++ lines_text (stage_lines free stretches number nodes.now)) (O.taken sink.new) waiting.new) }
@@ -58,7 +77,12 @@ fn put_stage<O: Sink>(waiting: &mut Waiting, sink: &mut O, number: usize, nodes:
 
 /// Puts the lines of the stages, which are numbered from 0. Each has a number of stretch
 /// implications in the shape.
-pub fn put_stages<O: Sink>(waiting: &mut Waiting, sink: &mut O, shape: &Shape, stages: &[Stage]) -> Result<(), WriteErr>
+pub fn put_stages<O: Sink>(
+    waiting: &mut Waiting,
+    sink: &mut O,
+    shape: &Shape,
+    stages: &[Stage],
+) -> Result<(), WriteErr>
     requires { length stages.now ≤ length shape.now.phases.items }
     ensures ok { OnOk result (Sends (O.taken sink.old) (waiting.old ++ lines_text (stages_lines (widths_of shape.now) 0 stages.now)) (O.taken sink.new) waiting.new) }
     ensures part { HasSentPart (O.taken sink.old) (waiting.old ++ lines_text (stages_lines (widths_of shape.now) 0 stages.now)) (O.taken sink.new) }
@@ -67,7 +91,14 @@ pub fn put_stages<O: Sink>(waiting: &mut Waiting, sink: &mut O, shape: &Shape, s
 {
     let free = free_count(shape);
     for (number, stage) in stages.iter().enumerate() {
-        put_stage(waiting, sink, number, &stage.nodes, free, shape.phases[number] as usize)?;
+        put_stage(
+            waiting,
+            sink,
+            number,
+            &stage.nodes,
+            free,
+            shape.phases[number] as usize,
+        )?;
     }
     Ok(())
 }

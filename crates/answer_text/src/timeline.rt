@@ -32,7 +32,11 @@ fn put_column<O: Sink>(waiting: &mut Waiting, sink: &mut O, column: &Column) -> 
 }
 
 /// Puts columns, each after a space.
-fn put_columns<O: Sink>(waiting: &mut Waiting, sink: &mut O, columns: &[Column]) -> Result<(), WriteErr>
+fn put_columns<O: Sink>(
+    waiting: &mut Waiting,
+    sink: &mut O,
+    columns: &[Column],
+) -> Result<(), WriteErr>
     ensures ok { OnOk result (Sends (O.taken sink.old) (waiting.old ++ spaced_columns columns.now) (O.taken sink.new) waiting.new) }
     ensures part { HasSentPart (O.taken sink.old) (waiting.old ++ spaced_columns columns.now) (O.taken sink.new) }
     ensures never_falls { O.faults sink.old ≤ O.faults sink.new }
@@ -56,7 +60,11 @@ fn put_spaced<O: Sink>(waiting: &mut Waiting, sink: &mut O, column: &Column) -> 
 }
 
 /// Puts the text of a timeline.
-pub fn put_timeline<O: Sink>(waiting: &mut Waiting, sink: &mut O, timeline: &Timeline) -> Result<(), WriteErr>
+pub fn put_timeline<O: Sink>(
+    waiting: &mut Waiting,
+    sink: &mut O,
+    timeline: &Timeline,
+) -> Result<(), WriteErr>
     ensures ok { OnOk result (Sends (O.taken sink.old) (waiting.old ++ timeline_text timeline.now) (O.taken sink.new) waiting.new) }
     ensures part { HasSentPart (O.taken sink.old) (waiting.old ++ timeline_text timeline.now) (O.taken sink.new) }
     ensures never_falls { O.faults sink.old ≤ O.faults sink.new }

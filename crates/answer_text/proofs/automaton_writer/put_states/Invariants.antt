@@ -1,5 +1,5 @@
-use Rattle.std.proofs.Common.{◌≤◌, ◌++◌, drop, map}
-use Rattle.answer_text.specs.Text.{line, lines_text, node_line, arc_line, state_lines}
+use Rattle.std.proofs.Common.{◌≤◌, ◌++◌, drop}
+use Rattle.answer_text.specs.Text.{lines_text, state_lines}
 use Rattle.std.specs.List.{flat_map}
 use Rattle.outside.specs.Sent.{Sends}
 use Rattle.answer_text.proofs.automaton_writer.put_states.Given as goal

@@ -1,7 +1,7 @@
-use Rattle.std.proofs.Common.{◌≡◌, ◌++◌, ◌∷◌, [], ◌∙◌, map, drop, arith, refl, sym, ap, subst}
+use Rattle.std.proofs.Common.{arith}
 use Rattle.tier_core.specs.Classes.{sets_of}
 use Rattle.answer_text.specs.Text.{set_text}
-use Rattle.outside.proofs.Sending.{part_of_sends, sends_none}
+use Rattle.outside.proofs.Sending.{part_of_sends}
 use Rattle.answer_text.proofs.Puts.{each_turn, each_part, each_end}
 use Rattle.answer_text.proofs.class.put_class.Goals as goal
 

@@ -1,4 +1,4 @@
-use Rattle.std.proofs.Common.{◌≤◌, ◌++◌, drop, map}
+use Rattle.std.proofs.Common.{◌≤◌, ◌++◌, drop}
 use Rattle.tier_core.specs.Classes.{sets_of}
 use Rattle.answer_text.specs.Text.{class_text, set_text}
 use Rattle.std.specs.List.{flat_map}

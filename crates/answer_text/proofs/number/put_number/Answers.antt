@@ -1,8 +1,7 @@
-use Rattle.std.proofs.Common.{◌≡◌, ◌++◌, ◌∷◌, [], ◌∙◌, codes, map, length, refl, sym, ap}
 use Rattle.std.specs.Fmt.{decimal}
 use Rattle.std.proofs.lemmas.Result.{on_ok_weaker}
 use Rattle.outside.proofs.Sending.{puts_both, puts_both_part}
-use Rattle.answer_text.proofs.Puts.{puts_more, puts_more_part, puts_longer_part, puts_equal, puts_equal_part}
+use Rattle.answer_text.proofs.Puts.{puts_longer_part}
 use Rattle.answer_text.proofs.number.put_number.Goals as goal
 
 pub returns-in_err-put-clause-part : goal.returns-in_err-put-clause-part

@@ -1,4 +1,4 @@
-use Rattle.std.proofs.Common.{◌≤◌, ◌++◌, drop, map}
+use Rattle.std.proofs.Common.{◌≤◌, ◌++◌, drop}
 use Rattle.answer_text.specs.Text.{after_space, spaced}
 use Rattle.std.specs.List.{flat_map}
 use Rattle.outside.specs.Sent.{Sends}

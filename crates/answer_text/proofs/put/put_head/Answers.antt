@@ -1,13 +1,6 @@
-use Rattle.std.proofs.Common.{◌≡◌, ◌++◌, ◌∷◌, [], ◌∙◌, codes, map, length, refl, sym, ap}
-use Rattle.std.specs.Fmt.{decimal}
-use Rattle.std.specs.List.{range_with_len}
-use Rattle.tier_core.specs.Tiers.{has_tier}
-use Rattle.tier_core.specs.Kinds.{prefix_kind}
-use Rattle.answer_text.specs.Text.{open_byte, phase_byte, kind_text, after_space, node_line, lines_text, line, arc_line, state_lines, final_mark, class_text, head_lines, counts_line, stages_lines, automaton_lines, answer_text}
-use Rattle.answer_text.specs.Timeline.{timeline_text, spaced_columns}
-use Rattle.tier_core.specs.Classes.{sets_of}
-use Rattle.tier_core.specs.Symbols.{byte_of}
-use Rattle.answer_text.specs.Shape.{widths_of}
+use Rattle.std.proofs.Common.{◌++◌, codes, ap}
+use Rattle.answer_text.specs.Text.{lines_text, line, head_lines, counts_line}
+use Rattle.answer_text.specs.Timeline.{timeline_text}
 use Rattle.answer_text.proofs.Lines.{head_text}
 use Rattle.std.proofs.lemmas.Result.{on_ok_weaker}
 use Rattle.outside.proofs.Sending.{puts_both, puts_both_part}

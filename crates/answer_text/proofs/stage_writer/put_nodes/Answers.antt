@@ -1,8 +1,8 @@
-use Rattle.std.proofs.Common.{◌≡◌, ◌++◌, ◌∷◌, [], ◌∙◌, map, drop, arith, refl, sym, ap, subst}
-use Rattle.answer_text.specs.Text.{line, lines_text, node_line, arc_line, state_lines}
+use Rattle.std.proofs.Common.{arith, refl}
+use Rattle.answer_text.specs.Text.{line, node_line}
 use Rattle.answer_text.proofs.Puts.{begins}
 use Rattle.answer_text.proofs.Lines.{lines_of_map}
-use Rattle.outside.proofs.Sending.{part_of_sends, sends_none}
+use Rattle.outside.proofs.Sending.{part_of_sends}
 use Rattle.answer_text.proofs.Puts.{each_turn, each_part, each_end}
 use Rattle.answer_text.proofs.stage_writer.put_nodes.Goals as goal
 

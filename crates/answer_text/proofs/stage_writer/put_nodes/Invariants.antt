@@ -1,5 +1,5 @@
 use Rattle.std.proofs.Common.{◌≤◌, ◌++◌, drop, map}
-use Rattle.answer_text.specs.Text.{line, lines_text, node_line, arc_line, state_lines}
+use Rattle.answer_text.specs.Text.{line, lines_text, node_line}
 use Rattle.std.specs.List.{flat_map}
 use Rattle.outside.specs.Sent.{Sends}
 use Rattle.answer_text.proofs.stage_writer.put_nodes.Given as goal

@@ -1,6 +1,6 @@
-use Rattle.std.proofs.Common.{◌≡◌, ◌++◌, ◌∷◌, [], ◌∙◌, map, drop, arith, refl, sym, ap, subst}
+use Rattle.std.proofs.Common.{◌∷◌, map, arith, refl}
 use Rattle.tier_core.specs.Symbols.{byte_of}
-use Rattle.outside.proofs.Sending.{part_of_sends, sends_none}
+use Rattle.outside.proofs.Sending.{part_of_sends}
 use Rattle.answer_text.proofs.Puts.{each_turn, each_part, each_end}
 use Rattle.answer_text.proofs.timeline.put_columns.Goals as goal
 

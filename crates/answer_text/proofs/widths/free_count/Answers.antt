@@ -1,4 +1,4 @@
-use Rattle.std.proofs.Common.{◌-◌, ap, arith}
+use Rattle.std.proofs.Common.{◌-◌, ap}
 use Rattle.answer_text.proofs.Counts.{ones_of, ones_within}
 use Rattle.answer_text.proofs.widths.free_count.Goals as goal
 

@@ -16,6 +16,8 @@ mod number;
 mod put;
 mod stage;
 mod stage_writer;
+#[cfg(test)]
+mod tests;
 mod timeline;
 mod widths;
 

@@ -1,5 +1,5 @@
--- What the text of an answer takes from a shape, and which answers fit it.
-use Rattle.std.specs.Prelude.{ℕ, ◌-◌, List}
+-- What the text of an answer takes from a shape.
+use Rattle.std.specs.Prelude.{◌-◌}
 use Rattle.tier_core.specs.declared.shape.Shape.{Shape}
 use Rattle.tier_core.specs.Shapes.{input_count}
 use Rattle.answer_text.specs.Text.{Widths}

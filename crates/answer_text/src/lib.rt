@@ -9,8 +9,19 @@
 
 mod answer;
 mod automaton;
+mod automaton_writer;
+mod class;
+mod kind;
+mod number;
+mod put;
 mod stage;
+mod stage_writer;
+#[cfg(test)]
+mod tests;
+mod timeline;
+mod widths;
 
 pub use answer::Answer;
 pub use automaton::{ArcLine, Automaton, StateLine};
+pub use put::put_answer;
 pub use stage::{Node, Stage};

@@ -1,0 +1,5 @@
+pub mod Puts
+pub mod Bytes
+pub mod Lines
+pub mod Counts
+pub mod Examples

@@ -1,0 +1,293 @@
+ghost use Rattle.std.specs.Prelude.{◌≡◌, ◌≤◌, ◌∷◌, [], ◌++◌, List, true, false, codes, length, bit_and, IfOk};
+ghost use Rattle.tier_core.specs.declared.sym.Sym.{Sym};
+ghost use Rattle.tier_core.specs.Classes.{sets_of};
+ghost use Rattle.tier_core.specs.Kinds.{closed, unmet, met, PrefixKind, prefix_kind};
+ghost use Rattle.tier_core.specs.Sets.{single_set};
+ghost use Rattle.tier_core.specs.Shapes.{NeverFalls};
+ghost use Rattle.answer_text.specs.declared.automaton.ArcLine.{ArcLine};
+ghost use Rattle.answer_text.specs.declared.automaton.StateLine.{StateLine};
+ghost use Rattle.answer_text.specs.declared.stage.Node.{Node};
+ghost use Rattle.answer_text.specs.Acceptance.{Accepts};
+ghost use Rattle.answer_text.specs.Text.{arc_line, counts_line, node_line, stage_lines, state_lines};
+ghost use Rattle.answer_text.specs.Timeline.{timeline_text};
+
+use super::*;
+use outside::{MemSink, SafeSink, WriteErr};
+use std::alloc::{AllocError, Global};
+use std::test::Fail;
+use tier_core::{Class, Column, Kind, Shape, Sym, Timeline};
+
+// The texts of single lines, which are proved.
+fn lines()
+    ensures node { (node : Node) → prefix_kind 1 1 node.kind ≡ record { place = 0; opened = false ∷ []; phases = closed ∷ [] } → node.potential ≡ 1 → node_line 1 1 node ≡ codes "node 0/-/. 1" }
+    ensures phases { (node : Node) → prefix_kind 2 3 node.kind ≡ record { place = 17; opened = true ∷ false ∷ []; phases = met ∷ closed ∷ unmet ∷ [] } → node.potential ≡ 20 → node_line 2 3 node ≡ codes "node 17/+-/m.u 20" }
+    ensures stage { stage_lines 1 1 12 [] ≡ codes "stage 12 0" ∷ [] }
+    ensures arc { (arc : ArcLine) → arc.target ≡ 1 → sets_of arc.class ≡ 3 ∷ 4 ∷ 31 ∷ [] → arc_line arc ≡ codes "arc 1 {-+}[{-+[]|}" }
+    ensures state { (state : StateLine) → state.node ≡ 2 → state.accepting ≡ true → state.arcs.items ≡ [] → state_lines state ≡ codes "state 2 final" ∷ [] }
+    ensures other { (state : StateLine) → state.node ≡ 10 → state.accepting ≡ false → state.arcs.items ≡ [] → state_lines state ≡ codes "state 10" ∷ [] }
+    ensures none { counts_line [] ≡ codes "counts" }
+    ensures some { counts_line (0 ∷ 21 ∷ 0 ∷ []) ≡ codes "counts 0 21 0" }
+    ensures empty { timeline_text [] ≡ codes "empty" }
+    ensures columns { timeline_text ((Sym.Start ∷ Sym.Outside ∷ []) ∷ (Sym.Both ∷ Sym.End ∷ []) ∷ []) ≡ codes "[- |]" }
+{}
+
+#[test]
+fn lines_are_written_so() {
+    lines();
+}
+
+// A node whose phases are closed or unmet.
+fn node(place: u32, opened: u16, unmet: u32, potential: u32) -> Node {
+    let kind = Kind {
+        place,
+        opened,
+        unmet,
+        met: 0,
+    };
+    Node { kind, potential }
+}
+
+fn stage(alloc: Global, nodes: &[Node]) -> Result<Stage, AllocError> {
+    let nodes = nodes.to_vec(alloc)?;
+    Ok(Stage { nodes })
+}
+
+// An arc of a single column over two tiers.
+fn arc(alloc: Global, target: u32, first: Sym, second: Sym) -> ArcLine
+    ensures target { result.target ≡ target }
+    ensures class { sets_of result.class ≡ single_set first ∷ single_set second ∷ [] }
+{
+    let class = Class::single(&Column::from_syms(alloc, &[first, second]));
+    ArcLine { target, class }
+}
+
+fn state(
+    alloc: Global,
+    node: u32,
+    accepting: bool,
+    arcs: &[ArcLine],
+) -> Result<StateLine, AllocError>
+    ensures node { IfOk result (λ s. s.node ≡ node) }
+    ensures accepting { IfOk result (λ s. s.accepting ≡ accepting) }
+    ensures arcs { IfOk result (λ s. s.arcs.items ≡ arcs.now) }
+{
+    let arcs = arcs.to_vec(alloc)?;
+    Ok(StateLine {
+        node,
+        accepting,
+        arcs,
+    })
+}
+
+// Any number of constituents of the second tier, one after the other, and none of the first.
+fn two_states(alloc: Global) -> Result<Automaton, AllocError>
+    ensures empty { IfOk result (λ a. Accepts a.states.items []) }
+    ensures one { IfOk result (λ a. Accepts a.states.items ((Sym.Outside ∷ Sym.Start ∷ []) ∷ (Sym.Outside ∷ Sym.End ∷ []) ∷ [])) }
+    ensures open { IfOk result (λ a. Accepts a.states.items ((Sym.Outside ∷ Sym.Start ∷ []) ∷ []) → ⊥) }
+{
+    let opens = arc(alloc, 1, Sym::Outside, Sym::Start);
+    let closes = arc(alloc, 0, Sym::Outside, Sym::End);
+    let turns = arc(alloc, 1, Sym::Outside, Sym::Both);
+    let start = state(alloc, 0, true, &[opens])?;
+    let inside = state(alloc, 1, false, &[closes, turns])?;
+    let mut states = Vec::new(alloc);
+    states.push(start)?;
+    states.push(inside)?;
+    Ok(Automaton { states })
+}
+
+// The shape of two tiers, an input tier and then a free one.
+fn shape(alloc: Global, phases: &[u32]) -> Result<Shape, AllocError>
+    requires some { 1 ≤ length phases.now }
+    requires few { length phases.now ≤ 25 }
+    requires rising { NeverFalls phases.now }
+    ensures { IfOk result (λ s. s.phases.items ≡ phases.now) }
+{
+    let phases = phases.to_vec(alloc)?;
+    Ok(Shape {
+        width: 2,
+        inputs: 1,
+        phases,
+    })
+}
+
+fn push(alloc: Global, timeline: &mut Timeline, symbols: &[Sym]) -> bool
+    requires some { 1 ≤ length symbols.now }
+    requires few { length symbols.now ≤ 12 }
+{
+    timeline.push(Column::from_syms(alloc, symbols)).is_ok()
+}
+
+const OPTIMAL_SET_IS_INFINITE: &[u8] = b"answer 1
+form empty
+counts
+example empty
+stage 0 2
+node 0/-/ 0
+node 0/+/ 0
+automaton 2
+state 0 final
+arc 1 -[
+state 1
+arc 0 -]
+arc 1 -|
+end
+";
+
+// The answer where there is no constraint: any number of constituents of the free tier is optimal.
+fn any_number(alloc: Global) -> Result<Answer, AllocError>
+    ensures { IfOk result (λ answer. length answer.stages.items ≡ 1) }
+{
+    Ok(Answer {
+        form: Timeline::new(alloc),
+        counts: Vec::new(alloc),
+        example: Timeline::new(alloc),
+        stages: vec![in alloc; stage(alloc, &[node(0, 0, 0, 0), node(0, 1, 0, 0)])?]?,
+        automaton: two_states(alloc)?,
+    })
+}
+
+#[test]
+fn optimal_set_is_infinite(rt: HostRuntime) -> Result<(), Fail> {
+    let alloc = rt.alloc();
+    let mut sink = SafeSink::new(alloc);
+    put_answer(&mut sink, &shape(alloc, &[0])?, &any_number(alloc)?)?;
+    assert_eq!(rt; sink.bytes(), OPTIMAL_SET_IS_INFINITE);
+    Ok(())
+}
+
+#[test]
+fn only_the_empty_timeline_is_optimal(rt: HostRuntime) -> Result<(), Fail> {
+    let alloc = rt.alloc();
+    let answer = Answer {
+        form: Timeline::new(alloc),
+        counts: vec![in alloc; 0]?,
+        example: Timeline::new(alloc),
+        stages: vec![in alloc;
+            stage(alloc, &[node(0, 0, 0, 0), node(0, 1, 0, 0)])?,
+            stage(alloc, &[node(0, 0, 0, 0), node(0, 1, 1, 1)])?,
+        ]?,
+        automaton: Automaton {
+            states: vec![in alloc; state(alloc, 0, true, &[])?]?,
+        },
+    };
+    let mut sink = SafeSink::new(alloc);
+    put_answer(&mut sink, &shape(alloc, &[0, 1])?, &answer)?;
+    let text = b"answer 1
+form empty
+counts 0
+example empty
+stage 0 2
+node 0/-/ 0
+node 0/+/ 0
+stage 1 2
+node 0/-/. 0
+node 0/+/u 1
+automaton 1
+state 0 final
+end
+";
+    assert_eq!(rt; sink.bytes(), text.as_slice());
+    Ok(())
+}
+
+#[test]
+fn one_timeline_with_columns_is_optimal(rt: HostRuntime) -> Result<(), Fail> {
+    let alloc = rt.alloc();
+    let mut form = Timeline::new(alloc);
+    assert!(rt; push(alloc, &mut form, &[Sym::Start]));
+    assert!(rt; push(alloc, &mut form, &[Sym::End]));
+    let mut example = Timeline::new(alloc);
+    assert!(rt; push(alloc, &mut example, &[Sym::Start, Sym::Outside]));
+    assert!(rt; push(alloc, &mut example, &[Sym::End, Sym::Outside]));
+    let first = [
+        node(0, 0, 0, 0),
+        node(0, 1, 0, 0),
+        node(1, 0, 0, 0),
+        node(1, 1, 0, 0),
+        node(2, 0, 0, 0),
+        node(2, 1, 0, 0),
+    ];
+    let second = [
+        node(0, 0, 0, 0),
+        node(0, 1, 0, 1),
+        node(1, 0, 0, 0),
+        node(1, 1, 0, 1),
+        node(2, 0, 0, 0),
+        node(2, 1, 0, 1),
+    ];
+    let third = [node(0, 0, 0, 1), node(1, 0, 1, 1), node(2, 0, 0, 0)];
+    let fourth = [node(0, 0, 0, 0), node(1, 0, 1, 0), node(2, 0, 0, 0)];
+    let starts = arc(alloc, 1, Sym::Start, Sym::Outside);
+    let ends = arc(alloc, 2, Sym::End, Sym::Outside);
+    let answer = Answer {
+        form,
+        counts: vec![in alloc; 0, 1, 0]?,
+        example,
+        stages: vec![in alloc;
+            stage(alloc, &first)?,
+            stage(alloc, &second)?,
+            stage(alloc, &third)?,
+            stage(alloc, &fourth)?,
+        ]?,
+        automaton: Automaton {
+            states: vec![in alloc;
+                state(alloc, 0, false, &[starts])?,
+                state(alloc, 1, false, &[ends])?,
+                state(alloc, 2, true, &[])?,
+            ]?,
+        },
+    };
+    let mut sink = SafeSink::new(alloc);
+    put_answer(&mut sink, &shape(alloc, &[0, 0, 1, 2])?, &answer)?;
+    let text = b"answer 1
+form [ ]
+counts 0 1 0
+example [- ]-
+stage 0 6
+node 0/-/ 0
+node 0/+/ 0
+node 1/-/ 0
+node 1/+/ 0
+node 2/-/ 0
+node 2/+/ 0
+stage 1 6
+node 0/-/ 0
+node 0/+/ 1
+node 1/-/ 0
+node 1/+/ 1
+node 2/-/ 0
+node 2/+/ 1
+stage 2 3
+node 0/-/. 1
+node 1/-/u 1
+node 2/-/. 0
+stage 3 3
+node 0/-/.. 0
+node 1/-/u. 0
+node 2/-/.. 0
+automaton 3
+state 0
+arc 1 [-
+state 1
+arc 2 ]-
+state 2 final
+end
+";
+    assert_eq!(rt; sink.bytes(), text.as_slice());
+    Ok(())
+}
+
+// A sink that takes 16 bytes a write, and whose third write fails, takes a front of the text.
+#[test]
+fn a_failing_write_leaves_a_front(rt: HostRuntime) -> Result<(), Fail> {
+    let alloc = rt.alloc();
+    let mut sink = MemSink::new(alloc, 16, vec![in alloc; 3]?);
+    let answer = any_number(alloc)?;
+    assert_eq!(rt;
+        put_answer(&mut sink, &shape(alloc, &[0])?, &answer),
+        Err(WriteErr::Failed)
+    );
+    assert_eq!(rt; sink.bytes(), &OPTIMAL_SET_IS_INFINITE[..32]);
+    Ok(())
+}

@@ -78,13 +78,14 @@ pub fn generate_free(
     requires short { length form.now ≤ 64 }
     ensures { IfOk result (λ answer. IsRight (tiers_of_table tiers.now) [] form.now answer) }
 {
+    let own = copied(alloc, form)?;
+    let example = bare_form(alloc, tiers, form)?;
     let inputs = count_inputs(tiers.kinds.as_slice());
     let free = count_free(tiers.kinds.as_slice()) as u32;
     let Listing { nodes, states } = list_all(alloc, tiers, inputs, free, form)?;
-    let example = bare_form(alloc, tiers, form)?;
     let stages = one_stage(alloc, Stage { nodes })?;
     Ok(Answer {
-        form: copied(alloc, form)?,
+        form: own,
         counts: Vec::new(alloc),
         example,
         stages,

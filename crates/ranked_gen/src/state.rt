@@ -1,4 +1,4 @@
-ghost use Rattle.std.specs.Prelude.{◌≡◌, ◌<◌, ◌≤◌, ◌+◌, ◌*◌, ◌^◌, length, map, IfOk};
+ghost use Rattle.std.specs.Prelude.{◌≡◌, ◌<◌, ◌≤◌, ◌+◌, ◌*◌, ◌^◌, ◌==◌, ◌&&◌, length, map, IfOk};
 ghost use Rattle.tier_core.specs.Tables.{tiers_of_table};
 ghost use Rattle.violation.specs.Candidates.{IsForm};
 ghost use Rattle.ranked_gen.specs.Arcs.{staying, moves_from};
@@ -27,6 +27,23 @@ pub(crate) fn node_at(tiers: &TierTable, free: u32, place: u32, opened: u32) -> 
     Node { kind, potential: 0 }
 }
 
+/// The number of the first kind of a place.
+pub(crate) fn first_number(place: u32, free: u32) -> u32
+    requires place { place ≤ 65 }
+    requires few { free ≤ 12 }
+    ensures value { result ≡ place * 2 ^ free }
+    ensures room { result + 2 ^ free < 2 ^ 32 }
+{
+    place << free
+}
+
+/// Whether a kind is final: the place is the end of the form, and no free tier is open.
+fn is_final(columns: usize, place: u32, opened: u32) -> bool
+    ensures { result ≡ (place == columns) && (opened == 0) }
+{
+    place as usize == columns && opened == 0
+}
+
 /// The arcs of a kind, where `stay` has the symbols of the input tiers that have no edge.
 fn arcs_at(
     alloc: Global,
@@ -48,11 +65,14 @@ fn arcs_at(
 {
     let kinds = tiers.kinds.as_slice();
     let mut arcs = Vec::new(alloc);
-    push_moves(alloc, &mut arcs, kinds, free, stay, opened, place << free)?;
-    if (place as usize) < form.len() {
-        let given = form.column(place as usize).syms();
-        push_moves(alloc, &mut arcs, kinds, free, given, opened, (place + 1) << free)?;
+    let here = first_number(place, free);
+    push_moves(alloc, &mut arcs, kinds, free, stay, opened, here)?;
+    if place as usize >= form.len() {
+        return Ok(arcs);
     }
+    let given = form.column(place as usize).syms();
+    let next = first_number(place + 1, free);
+    push_moves(alloc, &mut arcs, kinds, free, given, opened, next)?;
     Ok(arcs)
 }
 
@@ -77,8 +97,8 @@ pub(crate) fn state_at(
 {
     let arcs = arcs_at(alloc, tiers, free, form, stay, place, opened)?;
     Ok(StateLine {
-        node: (place << free) + opened,
-        accepting: place as usize == form.len() && opened == 0,
+        node: first_number(place, free) + opened,
+        accepting: is_final(form.len(), place, opened),
         arcs,
     })
 }

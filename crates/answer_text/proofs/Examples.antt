@@ -1,5 +1,5 @@
--- What an automaton of two states accepts.
-use Rattle.std.proofs.Common.{◌⊎◌, inl, inr, ⊎_elim, zero, suc, ◌≡◌, ℕ, ◌<◌, Bool, true, false, IsTrue, List, [], ◌∷◌, length, get_or, refl, ap, sym, ◌∙◌, subst, arith}
+-- Lines, shapes, and what an automaton of two states accepts, as tests say them.
+use Rattle.std.proofs.Common.{◌⊎◌, inl, inr, ⊎_elim, zero, suc, ◌≡◌, ℕ, ◌+◌, ◌<◌, ◌≤◌, Bool, true, false, IsTrue, List, [], ◌∷◌, length, get_or, refl, ap, sym, ◌∙◌, subst, arith}
 use Rattle.std.specs.List.{Contains}
 use Rattle.std.proofs.lemmas.Bool.{false≢true}
 use Rattle.tier_core.specs.declared.sym.Sym.{Sym}
@@ -9,6 +9,7 @@ use Rattle.answer_text.specs.declared.automaton.ArcLine.{ArcLine}
 use Rattle.answer_text.specs.declared.automaton.StateLine.{StateLine}
 use Rattle.answer_text.specs.declared.stage.Node.{Node}
 use Rattle.tier_core.specs.Kinds.{PrefixKind, prefix_kind}
+use Rattle.tier_core.specs.Shapes.{NeverFalls}
 use Rattle.std.specs.Prelude.{codes, ◌++◌}
 use Rattle.answer_text.specs.Text.{after_space, kind_text, node_line}
 use Rattle.answer_text.specs.Acceptance.{HasArc, IsFinalState, Accepts}
@@ -117,3 +118,27 @@ pub start_alone_is_refused : {states : List StateLine} {start inside : StateLine
 start_alone_is_refused {states} t a =
     let last : a.last ≡ 1 = sym a.leads.1.1 ∙ only_inside t a.leads.0 (Outside ∷ Start ∷ []) a.leads.1.0 in
     not_at_inside t (subst (IsFinalState states) last a.final)
+
+-- numbers of stretch implications
+rises : (r : ℕ) → r + 1 < 4 → get_or (0 ∷ 0 ∷ 1 ∷ 2 ∷ []) r 0 ≤ get_or (0 ∷ 0 ∷ 1 ∷ 2 ∷ []) (r + 1) 0
+rises zero h = omega arith
+rises (suc zero) h = omega arith
+rises (suc (suc zero)) h = omega arith
+rises (suc (suc (suc r))) h = absurd (omega arith)
+
+most : (r : ℕ) → r < 4 → get_or (0 ∷ 0 ∷ 1 ∷ 2 ∷ []) r 0 ≤ 24
+most zero h = omega arith
+most (suc zero) h = omega arith
+most (suc (suc zero)) h = omega arith
+most (suc (suc (suc zero))) h = omega arith
+most (suc (suc (suc (suc r)))) h = absurd (omega arith)
+
+pub four_never_fall : NeverFalls (0 ∷ 0 ∷ 1 ∷ 2 ∷ [])
+four_never_fall = record { begins = refl; rises = rises; most = most }
+
+most_of_one : (r : ℕ) → r < 1 → get_or (0 ∷ []) r 0 ≤ 24
+most_of_one zero h = omega arith
+most_of_one (suc r) h = absurd (omega arith)
+
+pub one_never_falls : NeverFalls (0 ∷ [])
+one_never_falls = record { begins = refl; rises = λ r h. absurd (omega arith); most = most_of_one }

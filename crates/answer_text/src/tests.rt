@@ -48,7 +48,7 @@ fn node(place: u32, opened: u16, unmet: u32, potential: u32) -> Node {
 }
 
 fn stage(alloc: Global, nodes: &[Node]) -> Result<Stage, AllocError> {
-    let nodes = nodes.to_vec(alloc)?;
+    let nodes = Vec::from_slice(alloc, nodes)?;
     Ok(Stage { nodes })
 }
 
@@ -71,7 +71,7 @@ fn state(
     ensures accepting { IfOk result (λ s. s.accepting ≡ accepting) }
     ensures arcs { IfOk result (λ s. s.arcs.items ≡ arcs.now) }
 {
-    let arcs = arcs.to_vec(alloc)?;
+    let arcs = Vec::from_slice(alloc, arcs)?;
     Ok(StateLine {
         node,
         accepting,
@@ -103,19 +103,12 @@ fn shape(alloc: Global, phases: &[u32]) -> Result<Shape, AllocError>
     requires rising { NeverFalls phases.now }
     ensures { IfOk result (λ s. s.phases.items ≡ phases.now) }
 {
-    let phases = phases.to_vec(alloc)?;
+    let phases = Vec::from_slice(alloc, phases)?;
     Ok(Shape {
         width: 2,
         inputs: 1,
         phases,
     })
-}
-
-fn push(alloc: Global, timeline: &mut Timeline, symbols: &[Sym]) -> bool
-    requires some { 1 ≤ length symbols.now }
-    requires few { length symbols.now ≤ 12 }
-{
-    timeline.push(Column::from_syms(alloc, symbols)).is_ok()
 }
 
 const OPTIMAL_SET_IS_INFINITE: &[u8] = b"answer 1
@@ -151,56 +144,33 @@ fn any_number(alloc: Global) -> Result<Answer, AllocError>
 fn optimal_set_is_infinite(rt: HostRuntime) -> Result<(), Fail> {
     let alloc = rt.alloc();
     let mut sink = SafeSink::new(alloc);
-    put_answer(&mut sink, &shape(alloc, &[0])?, &any_number(alloc)?)?;
+    let shape = shape(alloc, &[0])?;
+    let answer = any_number(alloc)?;
+    put_answer(&mut sink, &shape, &answer)?;
     assert_eq!(rt; sink.bytes(), OPTIMAL_SET_IS_INFINITE);
     Ok(())
 }
 
+// A sink that takes 16 bytes a write, and whose third write fails, takes a front of the text.
 #[test]
-fn only_the_empty_timeline_is_optimal(rt: HostRuntime) -> Result<(), Fail> {
+fn a_failing_write_leaves_a_front(rt: HostRuntime) -> Result<(), Fail> {
     let alloc = rt.alloc();
-    let answer = Answer {
-        form: Timeline::new(alloc),
-        counts: vec![in alloc; 0]?,
-        example: Timeline::new(alloc),
-        stages: vec![in alloc;
-            stage(alloc, &[node(0, 0, 0, 0), node(0, 1, 0, 0)])?,
-            stage(alloc, &[node(0, 0, 0, 0), node(0, 1, 1, 1)])?,
-        ]?,
-        automaton: Automaton {
-            states: vec![in alloc; state(alloc, 0, true, &[])?]?,
-        },
-    };
-    let mut sink = SafeSink::new(alloc);
-    put_answer(&mut sink, &shape(alloc, &[0, 1])?, &answer)?;
-    let text = b"answer 1
-form empty
-counts 0
-example empty
-stage 0 2
-node 0/-/ 0
-node 0/+/ 0
-stage 1 2
-node 0/-/. 0
-node 0/+/u 1
-automaton 1
-state 0 final
-end
-";
-    assert_eq!(rt; sink.bytes(), text.as_slice());
+    let shape = shape(alloc, &[0])?;
+    let answer = any_number(alloc)?;
+    let mut sink = MemSink::new(alloc, 16, vec![in alloc; 3]?);
+    assert_eq!(rt;
+        put_answer(&mut sink, &shape, &answer),
+        Err(WriteErr::Failed)
+    );
+    assert_eq!(rt; sink.bytes(), &OPTIMAL_SET_IS_INFINITE[..32]);
     Ok(())
 }
 
-#[test]
-fn one_timeline_with_columns_is_optimal(rt: HostRuntime) -> Result<(), Fail> {
-    let alloc = rt.alloc();
-    let mut form = Timeline::new(alloc);
-    assert!(rt; push(alloc, &mut form, &[Sym::Start]));
-    assert!(rt; push(alloc, &mut form, &[Sym::End]));
-    let mut example = Timeline::new(alloc);
-    assert!(rt; push(alloc, &mut example, &[Sym::Start, Sym::Outside]));
-    assert!(rt; push(alloc, &mut example, &[Sym::End, Sym::Outside]));
-    let first = [
+// The stages of three ranked constraints, of which the last two are stretch implications.
+fn four_stages(alloc: Global) -> Result<Vec<Stage>, AllocError>
+    ensures { IfOk result (λ stages. length stages.items ≡ 4) }
+{
+    let whole = [
         node(0, 0, 0, 0),
         node(0, 1, 0, 0),
         node(1, 0, 0, 0),
@@ -208,7 +178,7 @@ fn one_timeline_with_columns_is_optimal(rt: HostRuntime) -> Result<(), Fail> {
         node(2, 0, 0, 0),
         node(2, 1, 0, 0),
     ];
-    let second = [
+    let clash = [
         node(0, 0, 0, 0),
         node(0, 1, 0, 1),
         node(1, 0, 0, 0),
@@ -216,31 +186,41 @@ fn one_timeline_with_columns_is_optimal(rt: HostRuntime) -> Result<(), Fail> {
         node(2, 0, 0, 0),
         node(2, 1, 0, 1),
     ];
-    let third = [node(0, 0, 0, 1), node(1, 0, 1, 1), node(2, 0, 0, 0)];
-    let fourth = [node(0, 0, 0, 0), node(1, 0, 1, 0), node(2, 0, 0, 0)];
+    let first = [node(0, 0, 0, 1), node(1, 0, 1, 1), node(2, 0, 0, 0)];
+    let second = [node(0, 0, 0, 0), node(1, 0, 1, 0), node(2, 0, 0, 0)];
+    let stages = vec![in alloc;
+        stage(alloc, &whole)?,
+        stage(alloc, &clash)?,
+        stage(alloc, &first)?,
+        stage(alloc, &second)?,
+    ]?;
+    Ok(stages)
+}
+
+// A constituent of the first tier, and nothing of the second.
+fn three_states(alloc: Global) -> Result<Automaton, AllocError> {
     let starts = arc(alloc, 1, Sym::Start, Sym::Outside);
     let ends = arc(alloc, 2, Sym::End, Sym::Outside);
-    let answer = Answer {
-        form,
-        counts: vec![in alloc; 0, 1, 0]?,
-        example,
-        stages: vec![in alloc;
-            stage(alloc, &first)?,
-            stage(alloc, &second)?,
-            stage(alloc, &third)?,
-            stage(alloc, &fourth)?,
-        ]?,
-        automaton: Automaton {
-            states: vec![in alloc;
-                state(alloc, 0, false, &[starts])?,
-                state(alloc, 1, false, &[ends])?,
-                state(alloc, 2, true, &[])?,
-            ]?,
-        },
-    };
-    let mut sink = SafeSink::new(alloc);
-    put_answer(&mut sink, &shape(alloc, &[0, 0, 1, 2])?, &answer)?;
-    let text = b"answer 1
+    let states = vec![in alloc;
+        state(alloc, 0, false, &[starts])?,
+        state(alloc, 1, false, &[ends])?,
+        state(alloc, 2, true, &[])?,
+    ]?;
+    Ok(Automaton { states })
+}
+
+// A timeline of two columns; where memory is wanting it has fewer.
+fn two_columns(alloc: Global, first: &[Sym], second: &[Sym]) -> Timeline
+    requires some { (1 ≤ length first.now) × (1 ≤ length second.now) }
+    requires few { (length first.now ≤ 12) × (length second.now ≤ 12) }
+{
+    let mut timeline = Timeline::new(alloc);
+    let _ = timeline.push(Column::from_syms(alloc, first));
+    let _ = timeline.push(Column::from_syms(alloc, second));
+    timeline
+}
+
+const ONE_TIMELINE_IS_OPTIMAL: &[u8] = b"answer 1
 form [ ]
 counts 0 1 0
 example [- ]-
@@ -274,20 +254,24 @@ arc 2 ]-
 state 2 final
 end
 ";
-    assert_eq!(rt; sink.bytes(), text.as_slice());
-    Ok(())
-}
 
-// A sink that takes 16 bytes a write, and whose third write fails, takes a front of the text.
 #[test]
-fn a_failing_write_leaves_a_front(rt: HostRuntime) -> Result<(), Fail> {
+fn one_timeline_is_optimal(rt: HostRuntime) -> Result<(), Fail> {
     let alloc = rt.alloc();
-    let mut sink = MemSink::new(alloc, 16, vec![in alloc; 3]?);
-    let answer = any_number(alloc)?;
-    assert_eq!(rt;
-        put_answer(&mut sink, &shape(alloc, &[0])?, &answer),
-        Err(WriteErr::Failed)
-    );
-    assert_eq!(rt; sink.bytes(), &OPTIMAL_SET_IS_INFINITE[..32]);
+    let shape = shape(alloc, &[0, 0, 1, 2])?;
+    let answer = Answer {
+        form: two_columns(alloc, &[Sym::Start], &[Sym::End]),
+        counts: vec![in alloc; 0, 1, 0]?,
+        example: two_columns(
+            alloc,
+            &[Sym::Start, Sym::Outside],
+            &[Sym::End, Sym::Outside],
+        ),
+        stages: four_stages(alloc)?,
+        automaton: three_states(alloc)?,
+    };
+    let mut sink = SafeSink::new(alloc);
+    put_answer(&mut sink, &shape, &answer)?;
+    assert_eq!(rt; sink.bytes(), ONE_TIMELINE_IS_OPTIMAL);
     Ok(())
 }

@@ -11,14 +11,12 @@ pub mod CountSteps
 pub mod OpenLemmas
 pub mod KindLemmas
 pub mod MoveLemmas
-pub mod RestLemmas
-pub mod Exchange
 pub mod PlaceLemmas
 pub mod TierLemmas
 pub mod PrefixLemmas
 pub mod CompletionLemmas
 pub mod WalkLemmas
 pub mod SplitLemmas
+pub mod CostLemmas
 pub mod CandidateLemmas
 pub mod ExampleLemmas
-pub mod ExchangeCandidates

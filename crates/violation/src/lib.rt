@@ -14,6 +14,8 @@ mod candidate;
 mod column;
 mod count;
 pub mod examples;
+#[cfg(test)]
+mod tests;
 mod vectors;
 
 pub use candidate::is_candidate;

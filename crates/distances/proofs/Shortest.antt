@@ -36,6 +36,15 @@ module _ {W : Type 0} {g : Ghosts W} (laws : IsLawful g.meaning) (states : List 
       let P : W → Type 0 = λ x. g.meaning.lawful x ≡ true in
       subst P found.2 (lawful-weight_of laws found.0)
 
+  -- a state has one least weight
+  pub least_same : (s : ℕ) (v w : W) → IsLeastFrom states s v → get_or least s None ≡ Some w → v ≡ w
+  least_same s v w from e =
+      let best = least_at s w e in
+      let P : W → Type 0 = λ x. g.meaning.lawful x ≡ true in
+      let Q : W → Type 0 = λ x. AtMost g.meaning v x in
+      let R : W → Type 0 = λ x. AtMost g.meaning w x in
+      at_most-both laws v w (subst P from.some.2 (lawful-weight_of laws from.some.0)) (lawful_least s w e) (subst Q best.some.2 (from.least best.some.0 best.some.1)) (subst R from.some.2 (best.least from.some.0 from.some.1))
+
   -- a run gives its state a weight
   pub weighed : (s : ℕ) (arcs : List (TableArc W g)) → s < length states → IsRun states s arcs → (w : W) × (get_or least s None ≡ Some w)
   weighed s arcs inside run = go (get_or least s None) refl

@@ -1,12 +1,11 @@
 -- One column more at the front of a first word.
-use Rattle.std.proofs.Common.{◌≡◌, ℕ, suc, ◌+◌, ◌<◌, ◌≤◌, false, List, [], ◌∷◌, Option, None, Some, length, get_or, refl, sym, ap, ◌∙◌, subst, arith, ◌⊎◌, inl, inr}
-use Rattle.std.specs.Prelude.{Contains, AllPairs, IsTrue, MatchOption, ⊤}
+use Rattle.std.proofs.Common.{◌≡◌, ℕ, ◌+◌, ◌<◌, ◌≤◌, false, List, [], ◌∷◌, Option, None, Some, length, get_or, refl, sym, ap, ◌∙◌, subst, arith, ◌⊎◌, inl, inr}
+use Rattle.std.specs.Prelude.{Contains, IsTrue, MatchOption, ⊤}
 use Rattle.std.specs.declared.cmp.Ordering.{Ordering}
 use Rattle.std.specs.declared.cmp.Ordering.TheVariants.{Less, Equal, Greater}
 use Rattle.std.specs.Ordering.{ordering_then, is_gt}
-use Rattle.std.proofs.lemmas.Bool.{false≢true, cases_lt, cases_order}
-use Rattle.std.proofs.lemmas.Cmp.{upto, tied_itself, nat_list_cmp_total}
-use Rattle.std.proofs.lemmas.List.{get_or_read, get_or_default}
+use Rattle.std.proofs.lemmas.Bool.{false≢true, cases_lt}
+use Rattle.std.proofs.lemmas.List.{get_or_read}
 use Rattle.weight_law.specs.declared.Weight.{Ghosts}
 use Rattle.weight_law.specs.declared.count.Count.{Count}
 use Rattle.tier_core.specs.declared.sym.Sym.{Sym}
@@ -23,7 +22,7 @@ use Rattle.arc_table.specs.Runs.{IsRun, Reads}
 use Rattle.first_paths.specs.declared.choice.Choice.{Choice}
 use Rattle.first_paths.specs.Counted.{AreLengths, IsLeft, HasLeft, IsOf, IsLeastBelow, IsLeastChoice}
 use Rattle.first_paths.proofs.FirstFrom.{word_cmp, IsFirstOf, ReadsFrom, IsFirstFrom}
-use Rattle.first_paths.proofs.Order.{equal_columns, column_itself, column_upto}
+use Rattle.first_paths.proofs.Order.{equal_columns, column_upto}
 
 module _ {V : Type 0} {h : Ghosts V} where
   -- the best choice of the first moves, if any of them has n left

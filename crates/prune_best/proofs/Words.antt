@@ -14,7 +14,7 @@ use Rattle.arc_table.specs.declared.arc.TableArc.{TableArc}
 use Rattle.arc_table.specs.declared.state.TableState.{TableState}
 use Rattle.arc_table.specs.Moves.{moves_at, accepting_at}
 use Rattle.arc_table.specs.Conditions.{TargetsExist, ClassesDisjoint, ClassesFilled, OneWidth, is_filled}
-use Rattle.arc_table.specs.Runs.{IsRun, weight_of, Reads, Accepts, IsLeastWord, IsLeastFrom, IsOnRun}
+use Rattle.arc_table.specs.Runs.{IsRun, weight_of, Reads, Accepts, IsLeastWord, IsOnRun}
 use Rattle.distances.specs.Best.{added}
 use Rattle.distances.specs.Least.{AreLeast}
 use Rattle.distances.proofs.Witness.{lawful-weight_of}

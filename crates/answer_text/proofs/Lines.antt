@@ -9,7 +9,7 @@ use Rattle.tier_core.specs.declared.sym.Sym.{Sym}
 use Rattle.answer_text.specs.declared.answer.Answer.{Answer}
 use Rattle.answer_text.specs.declared.stage.Stage.{Stage}
 use Rattle.answer_text.specs.Text.{Widths, line, lines_text, counts_line, head_lines, stage_lines, stages_lines, automaton_lines, answer_text}
-use Rattle.answer_text.specs.Timeline.{spaced_columns, timeline_text}
+use Rattle.timeline_text.specs.Texts.{text_of}
 
 -- a line for each element
 pub lines_of_map : {X : Type 0} (f : X → List ℕ) (xs : List X) → lines_text (map f xs) ≡ flat_map (λ x. line (f x)) xs
@@ -24,8 +24,8 @@ lines_of_each f (x ∷ xs) = flat_map-append line (f x) (flat_map f xs) ∙ ap (
 four_lines : (a b c d : List ℕ) → a ++ b ++ c ++ d ≡ a ++ (b ++ (c ++ (d ++ [])))
 four_lines a b c d = append_assoc (a ++ b) c d ∙ append_assoc a b (c ++ d) ∙ ap (λ t. a ++ (b ++ (c ++ t))) (sym (append-nil d))
 
-pub head_text : (answer : Answer) → codes "answer 1\n" ++ line (codes "form " ++ timeline_text answer.form) ++ line (counts_line answer.counts.items) ++ line (codes "example " ++ timeline_text answer.example) ≡ lines_text (head_lines answer)
-head_text answer = four_lines (codes "answer 1\n") (line (codes "form " ++ timeline_text answer.form)) (line (counts_line answer.counts.items)) (line (codes "example " ++ timeline_text answer.example))
+pub head_text : (answer : Answer) → codes "answer 1\n" ++ line (codes "form " ++ text_of answer.form) ++ line (counts_line answer.counts.items) ++ line (codes "example " ++ text_of answer.example) ≡ lines_text (head_lines answer)
+head_text answer = four_lines (codes "answer 1\n") (line (codes "form " ++ text_of answer.form)) (line (counts_line answer.counts.items)) (line (codes "example " ++ text_of answer.example))
 
 -- the texts of lists of lines, one after the other
 four_texts : (a b c d : List (List ℕ)) → lines_text a ++ lines_text b ++ lines_text c ++ lines_text d ≡ lines_text (a ++ b ++ c ++ d)
@@ -36,11 +36,6 @@ four_texts a b c d =
 
 pub whole_text : (widths : Widths) (answer : Answer) → lines_text (head_lines answer) ++ lines_text (stages_lines widths 0 answer.stages.items) ++ lines_text (automaton_lines answer.automaton.states.items) ++ codes "end\n" ≡ answer_text widths answer
 whole_text widths answer = four_texts (head_lines answer) (stages_lines widths 0 answer.stages.items) (automaton_lines answer.automaton.states.items) (codes "end" ∷ [])
-
--- the first column, and the others after a space each
-pub columns_text : (first : List Sym) (others : List (List Sym)) → timeline_text (first ∷ others) ≡ map byte_of first ++ spaced_columns others
-columns_text first [] = sym (append-nil (map byte_of first))
-columns_text first (column ∷ columns) = ap (λ t. map byte_of first ++ (32 ∷ t)) (columns_text column columns)
 
 -- the stage of this number and those after it
 pub stages_next : (widths : Widths) (i : ℕ) (stages : List Stage) (stage : Stage) → i < length stages → stage ≡ get_or stages i stage

@@ -7,7 +7,7 @@ use Rattle.std.specs.declared.cmp.Ordering.{Ordering}
 use Rattle.tier_core.specs.declared.sym.Sym.{Sym}
 use Rattle.tier_core.specs.declared.constraint.Constraint.{Constraint}
 use Rattle.tier_core.specs.declared.class.Class.{Class}
-use Rattle.tier_core.specs.Classes.{has, sets_of}
+use Rattle.tier_core.specs.Classes.{has, sets_of, AreApart}
 use Rattle.tier_core.specs.Orders.{IsFirst}
 use Rattle.tier_core.specs.Tiers.{Tiers}
 use Rattle.tier_core.specs.Kinds.{PrefixKind, prefix_kind}
@@ -40,10 +40,6 @@ pub record IsNodeOf (tiers : Tiers) (constraints : List Constraint) (nodes : Lis
   pub node : Node
   pub numbered : slice_get nodes n ≡ Some node
   pub tells : prefix_kind (length tiers.free) (length (stretches constraints (length constraints))) node.kind ≡ k
-
--- no column is in both classes
-abbrev pub AreApart : Class → Class → Type 0
-AreApart a b = (column : List Sym) → IsTrue (has a column) → IsTrue (has b column) → ⊥
 
 -- arcs are ordered by target, then by class, which is compared by the numbers of its sets
 abbrev pub arc_cmp : ArcLine → ArcLine → Ordering

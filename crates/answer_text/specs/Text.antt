@@ -11,7 +11,7 @@ use Rattle.answer_text.specs.declared.stage.Stage.{Stage}
 use Rattle.answer_text.specs.declared.automaton.ArcLine.{ArcLine}
 use Rattle.answer_text.specs.declared.automaton.StateLine.{StateLine}
 use Rattle.answer_text.specs.declared.answer.Answer.{Answer}
-use Rattle.answer_text.specs.Timeline.{timeline_text}
+use Rattle.timeline_text.specs.Texts.{text_of}
 
 -- a number after a space
 abbrev pub after_space : ℕ → List ℕ
@@ -87,9 +87,9 @@ counts_line counts = codes "counts" ++ spaced counts
 -- the lines before the stages
 abbrev pub head_lines : Answer → List (List ℕ)
 head_lines answer = codes "answer 1"
-    ∷ (codes "form " ++ timeline_text answer.form)
+    ∷ (codes "form " ++ text_of answer.form)
     ∷ counts_line answer.counts.items
-    ∷ (codes "example " ++ timeline_text answer.example) ∷ []
+    ∷ (codes "example " ++ text_of answer.example) ∷ []
 
 abbrev pub answer_lines : Widths → Answer → List (List ℕ)
 answer_lines widths answer =

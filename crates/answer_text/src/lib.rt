@@ -18,7 +18,6 @@ mod stage;
 mod stage_writer;
 #[cfg(test)]
 mod tests;
-mod timeline;
 mod widths;
 
 pub use answer::Answer;

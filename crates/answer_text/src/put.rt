@@ -3,15 +3,15 @@ ghost use Rattle.outside.specs.Faults.{Rose};
 ghost use Rattle.outside.specs.Sent.{appended, HasSentPart, Sends};
 ghost use Rattle.answer_text.specs.Shape.{widths_of};
 ghost use Rattle.answer_text.specs.Text.{answer_text, counts_line, head_lines, line, lines_text};
-ghost use Rattle.answer_text.specs.Timeline.{timeline_text};
+ghost use Rattle.timeline_text.specs.Texts.{text_of};
 
 use crate::answer::Answer;
 use crate::automaton_writer::put_automaton;
 use crate::number::put_numbers;
 use crate::stage_writer::put_stages;
-use crate::timeline::put_timeline;
 use outside::{Sink, Waiting, WriteErr};
 use tier_core::{Shape, Timeline};
+use timeline_text::wait_timeline;
 
 /// Puts a line of a word and a timeline.
 fn put_timeline_line<O: Sink>(
@@ -20,13 +20,13 @@ fn put_timeline_line<O: Sink>(
     word: &[u8],
     timeline: &Timeline,
 ) -> Result<(), WriteErr>
-    ensures ok { OnOk result (Sends (O.taken sink.old) (waiting.old ++ line (word.now ++ timeline_text timeline.now)) (O.taken sink.new) waiting.new) }
-    ensures part { HasSentPart (O.taken sink.old) (waiting.old ++ line (word.now ++ timeline_text timeline.now)) (O.taken sink.new) }
+    ensures ok { OnOk result (Sends (O.taken sink.old) (waiting.old ++ line (word.now ++ text_of timeline.now)) (O.taken sink.new) waiting.new) }
+    ensures part { HasSentPart (O.taken sink.old) (waiting.old ++ line (word.now ++ text_of timeline.now)) (O.taken sink.new) }
     ensures never_falls { O.faults sink.old ≤ O.faults sink.new }
     ensures failed { result ≡ Err WriteErr.Failed → Rose (O.faults sink.old) (O.faults sink.new) }
 {
     waiting.put(sink, word)?;
-    put_timeline(waiting, sink, timeline)?;
+    wait_timeline(waiting, sink, timeline)?;
     waiting.put(sink, b"\n")
 }
 

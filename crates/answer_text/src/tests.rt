@@ -9,7 +9,7 @@ ghost use Rattle.answer_text.specs.declared.automaton.StateLine.{StateLine};
 ghost use Rattle.answer_text.specs.declared.stage.Node.{Node};
 ghost use Rattle.answer_text.specs.Acceptance.{Accepts};
 ghost use Rattle.answer_text.specs.Text.{arc_line, counts_line, node_line, stage_lines, state_lines};
-ghost use Rattle.answer_text.specs.Timeline.{timeline_text};
+ghost use Rattle.timeline_text.specs.Texts.{text_of};
 
 use super::*;
 use outside::{MemSink, SafeSink, WriteErr};
@@ -27,8 +27,8 @@ fn lines()
     ensures other { (state : StateLine) → state.node ≡ 10 → state.accepting ≡ false → state.arcs.items ≡ [] → state_lines state ≡ codes "state 10" ∷ [] }
     ensures none { counts_line [] ≡ codes "counts" }
     ensures some { counts_line (0 ∷ 21 ∷ 0 ∷ []) ≡ codes "counts 0 21 0" }
-    ensures empty { timeline_text [] ≡ codes "empty" }
-    ensures columns { timeline_text ((Sym.Start ∷ Sym.Outside ∷ []) ∷ (Sym.Both ∷ Sym.End ∷ []) ∷ []) ≡ codes "[- |]" }
+    ensures empty { text_of [] ≡ codes "empty" }
+    ensures columns { text_of ((Sym.Start ∷ Sym.Outside ∷ []) ∷ (Sym.Both ∷ Sym.End ∷ []) ∷ []) ≡ codes "[- |]" }
 {}
 
 #[test]

@@ -13,10 +13,10 @@ use Rattle.tier_core.specs.declared.sym.Sym.{Sym}
 use Rattle.tier_core.specs.declared.sym.Sym.TheVariants.{Outside, Inside, Start, End, Both}
 use Rattle.tier_core.specs.Orders.{sym_cmp}
 use Rattle.tier_core.specs.Sets.{single_set}
-use Rattle.tier_core.specs.Classes.{sets_of, sets_have, has}
+use Rattle.tier_core.specs.Classes.{sets_of, sets_have, has, AreApart}
 use Rattle.tier_core.proofs.SetLemmas.{only_have, alone_have}
 use Rattle.answer_text.specs.declared.automaton.ArcLine.{ArcLine}
-use Rattle.answer_text.specs.Right.{AreApart, arc_cmp}
+use Rattle.answer_text.specs.Right.{arc_cmp}
 use Rattle.ranked_gen.specs.Listed.{arc_view, move_view}
 use Rattle.ranked_gen.proofs.MemberLemmas.{contains_map, contains_of_map, contains_first, contains_later, all_from_members, all_at_member}
 use Rattle.ranked_gen.proofs.Ascending.{Ascends, ascends_map}

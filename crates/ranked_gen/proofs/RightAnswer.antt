@@ -9,7 +9,7 @@ use Rattle.std.proofs.lemmas.List.{length-map, take-append-drop}
 use Rattle.std.proofs.lemmas.List.Elements.{All-from_recursion}
 use Rattle.tier_core.specs.declared.sym.Sym.{Sym}
 use Rattle.tier_core.specs.declared.constraint.Constraint.{Constraint}
-use Rattle.tier_core.specs.Classes.{sets_of, has}
+use Rattle.tier_core.specs.Classes.{sets_of, has, AreApart}
 use Rattle.tier_core.specs.Sets.{single_set}
 use Rattle.tier_core.specs.Orders.{IsFirst}
 use Rattle.tier_core.specs.Tiers.{Tiers}
@@ -25,7 +25,7 @@ use Rattle.answer_text.specs.declared.automaton.ArcLine.{ArcLine}
 use Rattle.answer_text.specs.declared.automaton.StateLine.{StateLine}
 use Rattle.answer_text.specs.declared.answer.Answer.{Answer}
 use Rattle.answer_text.specs.Acceptance.{Leads, Accepts}
-use Rattle.answer_text.specs.Right.{kinds_at, nodes_at, numbers_of, arc_cmp, AreApart, IsRightStage, IsNodeOf, AreRightArcs, IsRightAutomaton, IsRight}
+use Rattle.answer_text.specs.Right.{kinds_at, nodes_at, numbers_of, arc_cmp, IsRightStage, IsNodeOf, AreRightArcs, IsRightAutomaton, IsRight}
 use Rattle.ranked_gen.specs.Numbers.{number_of_kind, kind_numbered}
 use Rattle.ranked_gen.specs.Arcs.{moves_from}
 use Rattle.ranked_gen.specs.Example.{bare_form}

@@ -1,11 +1,11 @@
 -- Arcs of single columns are in order, and apart.
-use Rattle.std.proofs.Common.{◌≡◌, ◌↔◌, ℕ, suc, ◌+◌, ◌<◌, ◌≤◌, ◌⊎◌, Bool, true, false, IsTrue, List, [], ◌∷◌, map, length, get_or, refl, ap, sym, ◌∙◌, subst, arith, ⊎_elim, Contains}
-use Rattle.std.specs.List.{AllByRecursion, AllPairs}
+use Rattle.std.proofs.Common.{◌≡◌, ℕ, true, List, [], ◌∷◌, map, refl, ap, sym, ◌∙◌, subst, arith, Contains}
+use Rattle.std.specs.List.{AllPairs}
 use Rattle.std.specs.Ordering.{nat_cmp, ordering_then, is_lt}
 use Rattle.std.specs.Cmp.{nat_cmp_is}
 use Rattle.std.specs.Cmp.Lexicographic.{slice_cmp}
 use Rattle.std.specs.declared.cmp.Ordering.{Ordering}
-use Rattle.std.specs.declared.cmp.Ordering.TheVariants.{Less, Equal, Greater}
+use Rattle.std.specs.declared.cmp.Ordering.TheVariants.{Less, Equal}
 use Rattle.std.proofs.lemmas.Bool.{false≢true}
 use Rattle.std.proofs.lemmas.List.Kept.{AllPairs-cons}
 use Rattle.std.proofs.lemmas.List.Elements.{All-from_recursion}
@@ -18,7 +18,7 @@ use Rattle.tier_core.proofs.SetLemmas.{only_have, alone_have}
 use Rattle.answer_text.specs.declared.automaton.ArcLine.{ArcLine}
 use Rattle.answer_text.specs.Right.{arc_cmp}
 use Rattle.ranked_gen.specs.Listed.{arc_view, move_view}
-use Rattle.ranked_gen.proofs.MemberLemmas.{contains_map, contains_of_map, contains_first, contains_later, all_from_members, all_at_member}
+use Rattle.ranked_gen.proofs.MemberLemmas.{contains_map, contains_first, contains_later, all_from_members, all_at_member}
 use Rattle.ranked_gen.proofs.Ascending.{Ascends, ascends_map}
 use Rattle.ranked_gen.proofs.MoveList.{Move, move_cmp}
 
@@ -95,10 +95,10 @@ slice_same (x ∷ xs) = ap (λ o. ordering_then o (slice_cmp nat_cmp xs xs)) (sy
 pub arcs_apart : (target : List Sym → ℕ) (arcs : List ArcLine) → ((arc : ArcLine) → Contains arcs arc → IsSingleArc target arc) → Ascends arc_cmp arcs → AllPairs (λ a b. AreApart a.class b.class) arcs
 arcs_apart target arcs single a = ascends_pairs arc_cmp (λ a b. AreApart a.class b.class) arcs
     (λ x y m n l column h g.
-        let s = single x m in
-        let r = single y n in
-        let same : s.column ≡ r.column = sym (single_only target x s column h) ∙ single_only target y r column g in
-        let targets : x.target ≡ y.target = s.to ∙ ap target same ∙ sym r.to in
-        let sets : sets_of x.class ≡ sets_of y.class = s.sets ∙ ap (map single_set) same ∙ sym r.sets in
-        let equal : arc_cmp x y ≡ Equal = ap (λ o. ordering_then o (slice_cmp nat_cmp (sets_of x.class) (sets_of y.class))) (sym (nat_cmp_is x.target y.target Equal targets)) ∙ ap (slice_cmp nat_cmp (sets_of x.class)) (sym sets) ∙ slice_same (sets_of x.class) in
-        false≢true (sym (ap is_lt equal) ∙ ap is_lt l)) a
+    let s = single x m in
+    let r = single y n in
+    let same : s.column ≡ r.column = sym (single_only target x s column h) ∙ single_only target y r column g in
+    let targets : x.target ≡ y.target = s.to ∙ ap target same ∙ sym r.to in
+    let sets : sets_of x.class ≡ sets_of y.class = s.sets ∙ ap (map single_set) same ∙ sym r.sets in
+    let equal : arc_cmp x y ≡ Equal = ap (λ o. ordering_then o (slice_cmp nat_cmp (sets_of x.class) (sets_of y.class))) (sym (nat_cmp_is x.target y.target Equal targets)) ∙ ap (slice_cmp nat_cmp (sets_of x.class)) (sym sets) ∙ slice_same (sets_of x.class) in
+    false≢true (sym (ap is_lt equal) ∙ ap is_lt l)) a

@@ -1,11 +1,11 @@
 -- Lists that ascend strictly.
-use Rattle.std.proofs.Common.{◌≡◌, ℕ, zero, suc, ◌+◌, ◌-◌, ◌<◌, ◌≤◌, Bool, true, false, cond, List, [], ◌∷◌, ◌++◌, map, filter, length, refl, ap, sym, ◌∙◌, arith, ⊎_elim, Contains}
+use Rattle.std.proofs.Common.{◌≡◌, ℕ, zero, suc, ◌+◌, ◌-◌, ◌<◌, ◌≤◌, Bool, true, false, cond, List, [], ◌∷◌, ◌++◌, map, filter, ap, sym, ◌∙◌, arith, ⊎_elim, Contains}
 use Rattle.std.specs.List.{flat_map, AllByRecursion, range_with_len}
 use Rattle.std.specs.List.Sorted.{IsStrictlySortedBy}
 use Rattle.std.specs.Ordering.{nat_cmp}
 use Rattle.std.specs.Cmp.{nat_cmp_is}
 use Rattle.std.specs.declared.cmp.Ordering.{Ordering}
-use Rattle.std.specs.declared.cmp.Ordering.TheVariants.{Less, Equal, Greater}
+use Rattle.std.specs.declared.cmp.Ordering.TheVariants.{Less}
 use Rattle.std.proofs.lemmas.List.FromFn.{length-range_with_len, get_or-range_with_len}
 use Rattle.std.proofs.lemmas.List.Elements.{Contains-append_cases}
 use Rattle.ranked_gen.proofs.MemberLemmas.{all_from_members, all_at_member, contains_of_map, contains_of_flat, contains_of_kept, contains_first, contains_later}
@@ -29,7 +29,8 @@ pub ascends_append : {X : Type 0} (c : X → X → Ordering) (xs ys : List X) �
 ascends_append c [] ys a b across = b
 ascends_append c (x ∷ xs) ys a b across = (
   all_from_members (λ y. c x y ≡ Less) (xs ++ ys) (λ y m. ⊎_elim (λ l. all_at_member (λ z. c x z ≡ Less) xs y a.0 l) (λ r. across x y (contains_first x xs) r) (Contains-append_cases xs ys y m)),
-  ascends_append c xs ys a.1 b (λ z y m n. across z y (contains_later x xs z m) n))
+  ascends_append c xs ys a.1 b (λ z y m n. across z y (contains_later x xs z m) n),
+)
 
 pub ascends_flat : {X Y : Type 0} (c : Y → Y → Ordering) (d : X → X → Ordering) (f : X → List Y) (xs : List X)
     → ((x : X) → Ascends c (f x)) → Ascends d xs → ((x z : X) (y w : Y) → d x z ≡ Less → Contains (f x) y → Contains (f z) w → c y w ≡ Less) → Ascends c (flat_map f xs)
@@ -41,7 +42,8 @@ pub ascends_map : {X Y : Type 0} (c : Y → Y → Ordering) (d : X → X → Ord
 ascends_map c d f [] keeps a = tt
 ascends_map c d f (x ∷ xs) keeps a = (
   all_from_members (λ y. c (f x) y ≡ Less) (map f xs) (λ y m. let r = contains_of_map f xs y m in ap (c (f x)) (sym r.1.1) ∙ keeps x r.0 (all_at_member (λ z. d x z ≡ Less) xs r.0 a.0 r.1.0)),
-  ascends_map c d f xs keeps a.1)
+  ascends_map c d f xs keeps a.1,
+)
 
 pub ascends_kept : {X : Type 0} (c : X → X → Ordering) (p : X → Bool) (xs : List X) → Ascends c xs → Ascends c (filter p xs)
 ascends_kept c p [] a = tt
@@ -68,4 +70,5 @@ pub ascends_range : (m n : ℕ) → Ascends nat_cmp (range_with_len m n)
 ascends_range m zero = tt
 ascends_range m (suc n) = (
   all_from_members (λ y. nat_cmp m y ≡ Less) (range_with_len (m + 1) n) (λ y h. let r = in_range (m + 1) n y h in sym (nat_cmp_is m y Less (omega (arith, r.0)))),
-  ascends_range (m + 1) n)
+  ascends_range (m + 1) n,
+)

@@ -1,9 +1,9 @@
 -- The states that are listed accept exactly the candidates.
-use Rattle.std.proofs.Common.{◌≡◌, ◌↔◌, ℕ, zero, suc, ◌+◌, ◌-◌, ◌*◌, ◌/◌, ◌^◌, ◌<◌, ◌≤◌, ◌⊎◌, inl, inr, Bool, true, false, cond, IsTrue, List, [], ◌∷◌, ◌++◌, map, take, drop, length, get_or, refl, ap, sym, ◌∙◌, subst, arith, ⊎_elim, Contains}
+use Rattle.std.proofs.Common.{◌≡◌, ℕ, zero, suc, ◌+◌, ◌-◌, ◌*◌, ◌/◌, ◌^◌, ◌<◌, ◌≤◌, ◌⊎◌, inl, inr, Bool, true, false, cond, List, [], ◌∷◌, map, length, refl, ap, sym, ◌∙◌, subst, arith, ⊎_elim, Contains}
 use Rattle.std.proofs.lemmas.Bool.{false≢true}
 use Rattle.std.proofs.lemmas.Nat.{div_below, pow_pos}
 use Rattle.std.proofs.Math.Nat.{mul-le-mul_right}
-use Rattle.std.proofs.lemmas.List.{length-map, take-append-drop}
+use Rattle.std.proofs.lemmas.List.{length-map}
 use Rattle.tier_core.specs.declared.sym.Sym.{Sym}
 use Rattle.tier_core.specs.Tiers.{Tiers}
 use Rattle.tier_core.specs.Kinds.{PrefixKind}
@@ -12,7 +12,7 @@ use Rattle.tier_core.specs.Sets.{single_set}
 use Rattle.tier_core.specs.Classes.{sets_of, sets_have}
 use Rattle.tier_core.specs.Timelines.{has_edge, symbol, word, column_at}
 use Rattle.tier_core.proofs.SetLemmas.{only_have, alone_have}
-use Rattle.violation.specs.Candidates.{IsForm, IsCandidate, IsOptimal}
+use Rattle.violation.specs.Candidates.{IsForm, IsCandidate}
 use Rattle.violation.specs.Conditions.{AreSplit, AreDistinct}
 use Rattle.violation.specs.Prefixes.{is_open, kind_of}
 use Rattle.violation.specs.Moves.{FitsKind, moved, is_final, input_of}
@@ -20,14 +20,12 @@ use Rattle.violation.specs.Walks.{HasMoves, reached, BeginsCandidate}
 use Rattle.violation.proofs.WalkLemmas.{moves_begin, reached_is, moves_end}
 use Rattle.answer_text.specs.declared.automaton.StateLine.{StateLine}
 use Rattle.answer_text.specs.Acceptance.{HasArc, IsFinalState, Leads, Accepts}
-use Rattle.answer_text.specs.Right.{numbers_of}
 use Rattle.ranked_gen.specs.Numbers.{number_of_flags, number_of_kind, kind_numbered}
 use Rattle.ranked_gen.specs.Arcs.{moves_from}
 use Rattle.ranked_gen.specs.Listed.{kind_count, arc_view, move_view, IsStateNumbered, AreNumbered}
 use Rattle.ranked_gen.proofs.NumberLemmas.{length-flags_of, number-lt, kind_numbered-number, number-kind_numbered}
 use Rattle.ranked_gen.proofs.MemberLemmas.{contains_none, contains_first, contains_later, contains_cases, contains_map, contains_of_map}
-use Rattle.ranked_gen.proofs.MoveList.{Move, listed_moves, moves_listed}
-use Rattle.ranked_gen.proofs.BareForm.{all_optimal}
+use Rattle.ranked_gen.proofs.MoveList.{listed_moves, moves_listed}
 
 -- elements that are numbered, by member and by number
 pub numbered_member : {X : Type 0} (P : ℕ → X → Type 0) (n : ℕ) (xs : List X) (x : X) → AreNumbered P n xs → Contains xs x → (i : ℕ) × ((i < n + length xs) × P i x)
@@ -202,7 +200,7 @@ module _ (tiers : Tiers) (split : AreSplit tiers) (distinct : AreDistinct tiers.
       let from = subst P first_kind walk in
       let w = reached_within tiers split u (kind_of tiers [] 0 []) T (start_within tiers split u) from.0 in
       let final : is_final u (reached tiers [] 0 (kind_of tiers [] 0 []) T) ≡ true =
-          ap (is_final u) (sym (ap (kind_numbered (length tiers.free)) from.1 ∙ back (reached tiers [] 0 (kind_of tiers [] 0 []) T) w)) ∙ final_state a.last a.final in
+      ap (is_final u) (sym (ap (kind_numbered (length tiers.free)) from.1 ∙ back (reached tiers [] 0 (kind_of tiers [] 0 []) T) w)) ∙ final_state a.last a.final in
       (moves_end tiers [] 0 u split form tt T).0 (from.0, final)
 
   -- each candidate is accepted
@@ -223,4 +221,4 @@ module _ (tiers : Tiers) (split : AreSplit tiers) (distinct : AreDistinct tiers.
       let walk = (moves_begin tiers [] 0 u split form tt p).1 b in
       let kinds : reached tiers [] 0 (kind_of tiers [] 0 []) p ≡ kind_of tiers [] 0 p = reached_is tiers [] 0 u split form tt p walk in
       subst (λ q. Leads states 0 p (number_of_kind (length tiers.free) q)) kinds
-          (subst (λ q. Leads states 0 p (number_of_kind (length tiers.free) (reached tiers [] 0 q p))) first_kind (walk_leads 0 p some (subst (λ q. HasMoves tiers [] 0 u q p) (sym first_kind) walk)))
+      (subst (λ q. Leads states 0 p (number_of_kind (length tiers.free) (reached tiers [] 0 q p))) first_kind (walk_leads 0 p some (subst (λ q. HasMoves tiers [] 0 u q p) (sym first_kind) walk)))

@@ -1,10 +1,10 @@
 -- Choices of one element of each of some lists.
-use Rattle.std.proofs.Common.{◌≡◌, ℕ, zero, suc, ◌+◌, ◌<◌, ◌≤◌, List, [], ◌∷◌, ◌++◌, map, length, get_or, refl, ap, sym, ◌∙◌, subst, arith, Contains}
-use Rattle.std.specs.List.{flat_map, range_with_len}
+use Rattle.std.proofs.Common.{◌≡◌, ℕ, zero, suc, ◌+◌, ◌<◌, List, [], ◌∷◌, map, length, get_or, refl, ap, sym, ◌∙◌, subst, arith, Contains}
+use Rattle.std.specs.List.{range_with_len}
 use Rattle.std.specs.Ordering.{ordering_then}
 use Rattle.std.specs.Cmp.Lexicographic.{slice_cmp}
 use Rattle.std.specs.declared.cmp.Ordering.{Ordering}
-use Rattle.std.specs.declared.cmp.Ordering.TheVariants.{Less, Equal}
+use Rattle.std.specs.declared.cmp.Ordering.TheVariants.{Equal}
 use Rattle.violation.specs.Counts.{choices}
 use Rattle.ranked_gen.proofs.MemberLemmas.{contains_one, contains_first, contains_map, contains_of_map, contains_flat, contains_of_flat}
 use Rattle.ranked_gen.proofs.Ascending.{Ascends, ascends_flat, ascends_map}
@@ -46,7 +46,8 @@ is_choice f d m zero (c ∷ cs) e h = absurd (omega arith)
 is_choice f d m (suc n) [] e h = absurd (omega arith)
 is_choice f d m (suc n) (c ∷ cs) e h = (
   (let same : m + 0 ≡ m = omega arith in subst (λ k. Contains (f k) c) same (h 0 (omega arith))),
-  is_choice f d (m + 1) n cs (omega arith) (λ t l. let same : m + suc t ≡ (m + 1) + t = omega arith in subst (λ k. Contains (f k) (get_or cs t d)) same (h (suc t) (omega arith))))
+  is_choice f d (m + 1) n cs (omega arith) (λ t l. let same : m + suc t ≡ (m + 1) + t = omega arith in subst (λ k. Contains (f k) (get_or cs t d)) same (h (suc t) (omega arith))),
+)
 
 -- each list ascends
 abbrev pub AllAscend : {X : Type 0} → (X → X → Ordering) → List (List X) → Type 0
@@ -60,6 +61,6 @@ choices_ascend cmp same (xs ∷ xss) a = ascends_flat (slice_cmp cmp) cmp (λ x.
     (λ x. ascends_map (slice_cmp cmp) (slice_cmp cmp) (λ choice. x ∷ choice) (choices xss) (λ c d l. ap (λ o. ordering_then o (slice_cmp cmp c d)) (same x) ∙ l) (choices_ascend cmp same xss a.1))
     a.0
     (λ x z y w l m n.
-        let r = contains_of_map (λ choice. x ∷ choice) (choices xss) y m in
-        let s = contains_of_map (λ choice. z ∷ choice) (choices xss) w n in
-        ap (λ v. slice_cmp cmp v w) (sym r.1.1) ∙ ap (slice_cmp cmp (x ∷ r.0)) (sym s.1.1) ∙ ap (λ o. ordering_then o (slice_cmp cmp r.0 s.0)) l)
+    let r = contains_of_map (λ choice. x ∷ choice) (choices xss) y m in
+    let s = contains_of_map (λ choice. z ∷ choice) (choices xss) w n in
+    ap (λ v. slice_cmp cmp v w) (sym r.1.1) ∙ ap (slice_cmp cmp (x ∷ r.0)) (sym s.1.1) ∙ ap (λ o. ordering_then o (slice_cmp cmp r.0 s.0)) l)

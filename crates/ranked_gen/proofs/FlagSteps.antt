@@ -59,7 +59,7 @@ spread_free kinds free number tier left flags s l few e =
     let here = from_here kinds tier true l e in
     let more : left ≡ suc w = omega (arith, spread_some kinds free number tier left flags s l e) in
     let split : (t : ℕ) → tier ≤ t → flag_of (numbers_from is_free 0 kinds) (flags_of free number) t ≡ cond (tier == t) (has_tier number w) (flag_of rest (flags_of w number) t) =
-        λ t h. s.same t h ∙ ap (λ ns. flag_of ns (flags_of left number) t) here ∙ ap (λ n. flag_of (tier ∷ rest) (flags_of n number) t) more in
+    λ t h. s.same t h ∙ ap (λ ns. flag_of ns (flags_of left number) t) here ∙ ap (λ n. flag_of (tier ∷ rest) (flags_of n number) t) more in
     let one_more : suc tier ≡ tier + 1 = omega arith in
     let whole : AreSpread kinds free number (suc tier) w (set flags tier (has_tier number w)) = record {
       long = length-set flags tier (has_tier number w) ∙ s.long;
@@ -68,8 +68,8 @@ spread_free kinds free number tier left flags s l few e =
       done = λ t h. ⊎_elim
           (λ below. let other : t ≢ tier = λ x. absurd (omega arith) in get_or-set_other flags tier t (has_tier number w) false other ∙ s.done t below)
           (λ above. let at : t ≡ tier = omega arith in
-              ap (λ i. get_or (set flags tier (has_tier number w)) i false) at ∙ get_or-set_same flags tier (has_tier number w) false (omega (arith, s.long))
-              ∙ sym (ap (flag_of (numbers_from is_free 0 kinds) (flags_of free number)) at ∙ split tier (omega arith) ∙ ap (λ b. cond b (has_tier number w) (flag_of rest (flags_of w number) tier)) (eq-eqb tier tier refl)))
+          ap (λ i. get_or (set flags tier (has_tier number w)) i false) at ∙ get_or-set_same flags tier (has_tier number w) false (omega (arith, s.long))
+          ∙ sym (ap (flag_of (numbers_from is_free 0 kinds) (flags_of free number)) at ∙ split tier (omega arith) ∙ ap (λ b. cond b (has_tier number w) (flag_of rest (flags_of w number) tier)) (eq-eqb tier tier refl)))
           (cases_lt t tier);
       rest = λ t h. let other : t ≢ tier = λ x. absurd (omega arith) in get_or-set_other flags tier t (has_tier number w) false other ∙ s.rest t (omega arith);
     } in
@@ -82,7 +82,7 @@ spread_input kinds free number tier left flags s l e =
     let rest = numbers_from is_free (suc tier) (drop (suc tier) kinds) in
     let here : numbers_from is_free tier (drop tier kinds) ≡ rest = from_here kinds tier false l e in
     let split : (t : ℕ) → tier ≤ t → flag_of (numbers_from is_free 0 kinds) (flags_of free number) t ≡ flag_of rest (flags_of left number) t =
-        λ t h. s.same t h ∙ ap (λ ns. flag_of ns (flags_of left number) t) here in
+    λ t h. s.same t h ∙ ap (λ ns. flag_of ns (flags_of left number) t) here in
     let one_more : suc tier ≡ tier + 1 = omega arith in
     let whole : AreSpread kinds free number (suc tier) left flags = record {
       long = s.long;
@@ -111,7 +111,7 @@ mask_set free number mask flag m l e = record {
   within = with_tier_few mask flag l m.within;
   bits = λ i h. ⊎_elim (λ below. with_tier_other mask flag i l below ∙ m.bits i below)
       (λ above. let at : i ≡ flag = omega arith in
-          ap (has_tier (bit_or mask (1 * 2 ^ flag % 2 ^ 16))) at ∙ with_tier_same mask flag l ∙ sym (ap (λ k. has_tier number (free - 1 - k)) at ∙ e))
+      ap (has_tier (bit_or mask (1 * 2 ^ flag % 2 ^ 16))) at ∙ with_tier_same mask flag l ∙ sym (ap (λ k. has_tier number (free - 1 - k)) at ∙ e))
       (cases_lt i flag);
 }
 
@@ -120,7 +120,7 @@ mask_clear free number mask flag m e = record {
   within = let next : 2 ^ flag < 2 ^ (flag + 1) = pow_below flag (flag + 1) (omega arith) in omega (arith, m.within);
   bits = λ i h. ⊎_elim (λ below. m.bits i below)
       (λ above. let at : i ≡ flag = omega arith in
-          ap (has_tier mask) at ∙ no_tier_above mask flag m.within ∙ sym (ap (λ k. has_tier number (free - 1 - k)) at ∙ e))
+      ap (has_tier mask) at ∙ no_tier_above mask flag m.within ∙ sym (ap (λ k. has_tier number (free - 1 - k)) at ∙ e))
       (cases_lt i flag);
 }
 

@@ -1,7 +1,7 @@
 -- A column between two sets of open free tiers fits the kind, and each column that fits is one.
-use Rattle.std.proofs.Common.{◌≡◌, ◌≢◌, ◌↔◌, ℕ, zero, suc, ◌+◌, ◌*◌, ◌^◌, ◌%◌, ◌<◌, ◌≤◌, ◌==◌, ◌||◌, ◌⊎◌, inl, inr, Bool, true, false, cond, nat_lt, IsTrue, List, [], ◌∷◌, ◌++◌, map, filter, length, get_or, take, refl, ap, sym, ◌∙◌, subst, arith, ⊎_elim, Contains, eq-eqb, ne_eqb}
-use Rattle.std.specs.List.{AllByRecursion, list_any, flat_map, range_with_len}
-use Rattle.std.proofs.lemmas.Bool.{false≢true, or_from, or_parts}
+use Rattle.std.proofs.Common.{◌≡◌, ◌≢◌, ℕ, zero, suc, ◌<◌, ◌≤◌, ◌||◌, inl, inr, Bool, true, false, cond, List, [], ◌∷◌, map, length, get_or, take, refl, ap, sym, ◌∙◌, arith, ⊎_elim, Contains, eq-eqb, ne_eqb}
+use Rattle.std.specs.List.{AllByRecursion}
+use Rattle.std.proofs.lemmas.Bool.{or_from, or_parts}
 use Rattle.std.proofs.lemmas.List.Elements.{All-from_recursion}
 use Rattle.std.proofs.lemmas.List.{length-map, get_or-map, get_or_default}
 use Rattle.std.proofs.lemmas.List.FromFn.{get_or-map-range_with_len}
@@ -11,7 +11,6 @@ use Rattle.tier_core.specs.Tiers.{Tiers}
 use Rattle.tier_core.specs.Kinds.{PrefixKind}
 use Rattle.tier_core.specs.Scan.{fits, opens}
 use Rattle.tier_core.specs.Timelines.{is_edge, has_edge, symbol, word, column_at}
-use Rattle.tier_core.proofs.CountLemmas.{all_weaker}
 use Rattle.tier_core.proofs.WordLemmas.{open_at}
 use Rattle.tier_core.proofs.WordCounts.{runs_fits}
 use Rattle.tier_core.proofs.WordForm.{runs_from_well_formed}
@@ -87,16 +86,18 @@ module _ (tiers : Tiers) (split : AreSplit tiers) (u : List (List Sym)) (form : 
   pub stays : (k : PrefixKind) (flags : List Bool) (column : List Sym) → IsBetween tiers (staying tiers u k.place) k.opened flags column → FitsKind tiers u k column × (has_edge (input_of tiers column) ≡ false)
   stays k flags column b =
       let at : (t : ℕ) → Contains tiers.input t → symbol column t ≡ still (flag_of tiers.input (form_opened tiers u k.place) t) = λ t i. b.inputs t (below t i) i ∙ symbol_on_still tiers.input (form_opened tiers u k.place) t in
-      let none : has_edge (input_of tiers column) ≡ false = no_edge column tiers.input (λ t i. ap is_edge (at t i) ∙ (still_fits (flag_of tiers.input (form_opened tiers u k.place) t)).1) in
-      (record {
-        width = b.width;
-        symbols = λ t l. ⊎_elim
-            (λ i. ap (λ o. fits o (symbol column t)) (open_input k t i) ∙ ap (fits (flag_of tiers.input (form_opened tiers u k.place) t)) (at t i) ∙ (still_fits (flag_of tiers.input (form_opened tiers u k.place) t)).0)
-            (λ f. ap (λ o. fits o (symbol column t)) (open_free k t f) ∙ (b.frees t l f).0)
-            (split.each t l);
-        edge = b.edge;
-        input = inl none;
-      }, none)
+      let none : has_edge (input_of tiers column) ≡ false = no_edge column tiers.input (λ t i. ap is_edge (at t i) ∙ (still_fits (flag_of tiers.input (form_opened tiers u k.place) t)).1) in (
+        record {
+          width = b.width;
+          symbols = λ t l. ⊎_elim
+              (λ i. ap (λ o. fits o (symbol column t)) (open_input k t i) ∙ ap (fits (flag_of tiers.input (form_opened tiers u k.place) t)) (at t i) ∙ (still_fits (flag_of tiers.input (form_opened tiers u k.place) t)).0)
+              (λ f. ap (λ o. fits o (symbol column t)) (open_free k t f) ∙ (b.frees t l f).0)
+              (split.each t l);
+          edge = b.edge;
+          input = inl none;
+        },
+        none,
+      )
 
   -- where it goes on by the form's next column
   pub advances : (k : PrefixKind) (flags : List Bool) (column : List Sym) → k.place < length u → IsBetween tiers (column_at u k.place) k.opened flags column → FitsKind tiers u k column × (input_of tiers column ≡ column_at u k.place)
@@ -104,21 +105,23 @@ module _ (tiers : Tiers) (split : AreSplit tiers) (u : List (List Sym)) (form : 
       let next = column_at u k.place in
       let wide : length next ≡ length tiers.input = All-from_recursion (λ c. length c ≡ length tiers.input) u form.well_formed.one_width k.place [] l in
       let same : input_of tiers column ≡ next =
-          map_agree (symbol column) (symbol_on tiers.input next) tiers.input (all_from_members (λ t. symbol column t ≡ symbol_on tiers.input next t) tiers.input (λ t i. b.inputs t (below t i) i))
-          ∙ symbols_on tiers.input next split.distinct wide in
-      (record {
-        width = b.width;
-        symbols = λ t h. ⊎_elim
-            (λ i. let n = numbered tiers.input t i in
-                ap (λ o. fits o (symbol column t)) (open_input k t i ∙ ap (flag_of tiers.input (form_opened tiers u k.place)) (sym n.1.1) ∙ flag_at tiers.input (form_opened tiers u k.place) n.0 split.distinct n.1.0
-                    ∙ get_or-map-range_with_len (λ j. is_open (word (take k.place u) j)) 0 (length tiers.input) n.0 n.0 false n.1.0 (omega arith))
-                ∙ ap (fits (is_open (word (take k.place u) n.0))) (b.inputs t h i ∙ ap (symbol_on tiers.input next) (sym n.1.1) ∙ symbol_at tiers.input next n.0 split.distinct n.1.0)
-                ∙ form_fits k.place n.0 l n.1.0)
-            (λ f. ap (λ o. fits o (symbol column t)) (open_free k t f) ∙ (b.frees t h f).0)
-            (split.each t h);
-        edge = b.edge;
-        input = inr (l, same);
-      }, same)
+      map_agree (symbol column) (symbol_on tiers.input next) tiers.input (all_from_members (λ t. symbol column t ≡ symbol_on tiers.input next t) tiers.input (λ t i. b.inputs t (below t i) i))
+      ∙ symbols_on tiers.input next split.distinct wide in (
+        record {
+          width = b.width;
+          symbols = λ t h. ⊎_elim
+              (λ i. let n = numbered tiers.input t i in
+              ap (λ o. fits o (symbol column t)) (open_input k t i ∙ ap (flag_of tiers.input (form_opened tiers u k.place)) (sym n.1.1) ∙ flag_at tiers.input (form_opened tiers u k.place) n.0 split.distinct n.1.0
+              ∙ get_or-map-range_with_len (λ j. is_open (word (take k.place u) j)) 0 (length tiers.input) n.0 n.0 false n.1.0 (omega arith))
+              ∙ ap (fits (is_open (word (take k.place u) n.0))) (b.inputs t h i ∙ ap (symbol_on tiers.input next) (sym n.1.1) ∙ symbol_at tiers.input next n.0 split.distinct n.1.0)
+              ∙ form_fits k.place n.0 l n.1.0)
+              (λ f. ap (λ o. fits o (symbol column t)) (open_free k t f) ∙ (b.frees t h f).0)
+              (split.each t h);
+          edge = b.edge;
+          input = inr (l, same);
+        },
+        same,
+      )
 
   free_part : (k : PrefixKind) (column : List Sym) → FitsKind tiers u k column → (t : ℕ) → t < tiers.width → Contains tiers.free t
       → (fits (flag_of tiers.free k.opened t) (symbol column t) ≡ true) × (opens (symbol column t) ≡ flag_of tiers.free (map (λ s. opens (symbol column s)) tiers.free) t)
@@ -130,7 +133,7 @@ module _ (tiers : Tiers) (split : AreSplit tiers) (u : List (List Sym)) (form : 
     width = f.width;
     inputs = λ t l i.
         is_still (flag_of tiers.input (form_opened tiers u k.place) t) (symbol column t) (ap (λ o. fits o (symbol column t)) (sym (open_input k t i)) ∙ f.symbols t l)
-            (all_at_member (λ s. is_edge (symbol column s) ≡ false) tiers.input t (none_edge column tiers.input none) i)
+        (all_at_member (λ s. is_edge (symbol column s) ≡ false) tiers.input t (none_edge column tiers.input none) i)
         ∙ sym (symbol_on_still tiers.input (form_opened tiers u k.place) t);
     frees = λ t l i. free_part k column f t l i;
     edge = f.edge;

@@ -1,6 +1,6 @@
 -- The list of the moves from a kind has each move of kinds, and nothing else, and ascends.
-use Rattle.std.proofs.Common.{◌≡◌, ◌≢◌, ◌↔◌, ℕ, zero, suc, ◌+◌, ◌*◌, ◌^◌, ◌%◌, ◌<◌, ◌≤◌, ◌==◌, ◌⊎◌, inl, inr, Bool, true, false, cond, nat_lt, IsTrue, List, [], ◌∷◌, ◌++◌, map, filter, length, get_or, refl, ap, sym, ◌∙◌, subst, arith, ⊎_elim, Contains, mod-eq_of_lt}
-use Rattle.std.specs.List.{AllByRecursion, flat_map, range_with_len}
+use Rattle.std.proofs.Common.{◌≡◌, ℕ, ◌+◌, ◌*◌, ◌^◌, ◌<◌, Bool, true, false, cond, nat_lt, IsTrue, List, [], ◌∷◌, map, length, refl, ap, sym, ◌∙◌, subst, arith, ⊎_elim, Contains, mod-eq_of_lt}
+use Rattle.std.specs.List.{range_with_len}
 use Rattle.std.specs.Ordering.{nat_cmp, ordering_then, is_lt}
 use Rattle.std.specs.Cmp.{nat_cmp_is}
 use Rattle.std.specs.Cmp.Lexicographic.{slice_cmp}
@@ -18,14 +18,13 @@ use Rattle.tier_core.specs.Orders.{sym_cmp}
 use Rattle.tier_core.specs.Timelines.{has_edge, symbol, column_at}
 use Rattle.violation.specs.Candidates.{IsForm}
 use Rattle.violation.specs.Conditions.{AreSplit, AreDistinct}
-use Rattle.violation.specs.Counts.{choices}
 use Rattle.violation.specs.Moves.{flag_of, input_of, FitsKind, moved}
 use Rattle.violation.proofs.TierLemmas.{map_agree}
 use Rattle.ranked_gen.specs.Numbers.{number_of_flags, flags_of, number_of_kind}
 use Rattle.ranked_gen.specs.Example.{symbol_on}
 use Rattle.ranked_gen.specs.Arcs.{between, is_among, symbols_at, columns_between, moves_with, staying, moves_from}
 use Rattle.ranked_gen.proofs.NumberLemmas.{length-flags_of, number-lt, number-flags_of, flags_of-number}
-use Rattle.ranked_gen.proofs.MemberLemmas.{contains_none, contains_map, contains_of_map, contains_flat, contains_of_flat, contains_of_kept, all_from_members, all_at_member}
+use Rattle.ranked_gen.proofs.MemberLemmas.{contains_none, contains_map, contains_of_map, contains_flat, contains_of_flat, all_from_members, all_at_member}
 use Rattle.ranked_gen.proofs.Ascending.{Ascends, ascends_append, ascends_flat, ascends_map, ascends_kept, ascends_range, in_range, range_has}
 use Rattle.ranked_gen.proofs.ChoiceLemmas.{AllAscend, choices_ascend}
 use Rattle.ranked_gen.proofs.SymbolLemmas.{between_ascends}
@@ -82,9 +81,9 @@ module _ (tiers : Tiers) (split : AreSplit tiers) (distinct : AreDistinct tiers.
   flags_left given opened o column l b =
       let f = length tiers.free in
       let same : map (λ t. opens (symbol column t)) tiers.free ≡ flags_of f o =
-          map_agree (λ t. opens (symbol column t)) (flag_of tiers.free (flags_of f o)) tiers.free
-              (all_from_members (λ t. opens (symbol column t) ≡ flag_of tiers.free (flags_of f o) t) tiers.free (λ t i. (b.frees t (all_at_member (λ s. s < tiers.width) tiers.free t split.free_below i) i).1))
-          ∙ flags_on tiers.free (flags_of f o) distinct (length-flags_of f o) in
+      map_agree (λ t. opens (symbol column t)) (flag_of tiers.free (flags_of f o)) tiers.free
+      (all_from_members (λ t. opens (symbol column t) ≡ flag_of tiers.free (flags_of f o) t) tiers.free (λ t i. (b.frees t (all_at_member (λ s. s < tiers.width) tiers.free t split.free_below i) i).1))
+      ∙ flags_on tiers.free (flags_of f o) distinct (length-flags_of f o) in
       ap number_of_flags same ∙ number-flags_of f o ∙ mod-eq_of_lt l
 
   -- the moves of one list ascend
@@ -104,14 +103,14 @@ module _ (tiers : Tiers) (split : AreSplit tiers) (distinct : AreDistinct tiers.
       let f = length tiers.free in
       ascends_flat move_cmp nat_cmp (λ o. map (λ column. (first + o, column)) (columns_between tiers given opened (flags_of f o))) (range_with_len 0 (2 ^ f))
       (λ o. ascends_map move_cmp (slice_cmp sym_cmp) (λ column. (first + o, column)) (columns_between tiers given opened (flags_of f o))
-          (λ c d l. ap (λ x. ordering_then x (slice_cmp sym_cmp c d)) (sym (nat_cmp_is (first + o) (first + o) Equal refl)) ∙ l)
-          (ascends_kept (slice_cmp sym_cmp) has_edge _ (choices_ascend sym_cmp same_symbol _ (lists_ascend given opened (flags_of f o) (range_with_len 0 tiers.width)))))
+      (λ c d l. ap (λ x. ordering_then x (slice_cmp sym_cmp c d)) (sym (nat_cmp_is (first + o) (first + o) Equal refl)) ∙ l)
+      (ascends_kept (slice_cmp sym_cmp) has_edge _ (choices_ascend sym_cmp same_symbol _ (lists_ascend given opened (flags_of f o) (range_with_len 0 tiers.width)))))
       (ascends_range 0 (2 ^ f))
       (λ o p m n l c d.
-          let r = contains_of_map (λ column. (first + o, column)) (columns_between tiers given opened (flags_of f o)) m c in
-          let s = contains_of_map (λ column. (first + p, column)) (columns_between tiers given opened (flags_of f p)) n d in
-          let below : m.0 < n.0 = omega (arith, nat_less o p l, ap (λ (x : Move). x.0) r.1.1, ap (λ (x : Move). x.0) s.1.1) in
-          ap (λ x. ordering_then x (slice_cmp sym_cmp m.1 n.1)) (sym (nat_cmp_is m.0 n.0 Less below)))
+      let r = contains_of_map (λ column. (first + o, column)) (columns_between tiers given opened (flags_of f o)) m c in
+      let s = contains_of_map (λ column. (first + p, column)) (columns_between tiers given opened (flags_of f p)) n d in
+      let below : m.0 < n.0 = omega (arith, nat_less o p l, ap (λ (x : Move). x.0) r.1.1, ap (λ (x : Move). x.0) s.1.1) in
+      ap (λ x. ordering_then x (slice_cmp sym_cmp m.1 n.1)) (sym (nat_cmp_is m.0 n.0 Less below)))
 
 module _ (tiers : Tiers) (split : AreSplit tiers) (distinct : AreDistinct tiers.free) (u : List (List Sym)) (form : IsForm tiers u) where
   place_number : (k : PrefixKind) (column : List Sym) (b : Bool) → has_edge (input_of tiers column) ≡ b
@@ -127,42 +126,49 @@ module _ (tiers : Tiers) (split : AreSplit tiers) (distinct : AreDistinct tiers.
     where
       f : ℕ
       f = length tiers.free
+
       stay : Contains (moves_with tiers (staying tiers u k.place) k.opened (k.place * 2 ^ f)) m → FitsKind tiers u k m.1 × (m.0 ≡ number_of_kind f (moved tiers [] 0 k m.1))
       stay d =
           let r = of_moves_with tiers split distinct (staying tiers u k.place) k.opened (k.place * 2 ^ f) m d in
           let fit = stays tiers split u form k (flags_of f r.0) m.1 r.1.1.0 in
-          let place : k.place ≡ k.place + 0 = omega arith in
-          (fit.0, r.1.1.1 ∙ ap (λ p. p * 2 ^ f + r.0) place
-          ∙ ap (λ n. (k.place + 0) * 2 ^ f + n) (sym (flags_left tiers split distinct (staying tiers u k.place) k.opened r.0 m.1 r.1.0 r.1.1.0))
-          ∙ sym (place_number k m.1 false fit.1))
+          let place : k.place ≡ k.place + 0 = omega arith in (
+            fit.0,
+            r.1.1.1 ∙ ap (λ p. p * 2 ^ f + r.0) place
+                ∙ ap (λ n. (k.place + 0) * 2 ^ f + n) (sym (flags_left tiers split distinct (staying tiers u k.place) k.opened r.0 m.1 r.1.0 r.1.1.0))
+                ∙ sym (place_number k m.1 false fit.1),
+          )
+
       go : (b : Bool) → nat_lt k.place (length u) ≡ b → Contains (cond b (moves_with tiers (column_at u k.place) k.opened ((k.place + 1) * 2 ^ f)) []) m → FitsKind tiers u k m.1 × (m.0 ≡ number_of_kind f (moved tiers [] 0 k m.1))
       go true e d =
           let r = of_moves_with tiers split distinct (column_at u k.place) k.opened ((k.place + 1) * 2 ^ f) m d in
           let l : k.place < length u = ltb-true k.place (length u) e in
-          let fit = advances tiers split u form k (flags_of f r.0) m.1 l r.1.1.0 in
-          (fit.0, r.1.1.1
-          ∙ ap (λ n. (k.place + 1) * 2 ^ f + n) (sym (flags_left tiers split distinct (column_at u k.place) k.opened r.0 m.1 r.1.0 r.1.1.0))
-          ∙ sym (place_number k m.1 true (ap has_edge fit.1 ∙ form_edge k.place l)))
+          let fit = advances tiers split u form k (flags_of f r.0) m.1 l r.1.1.0 in (
+            fit.0,
+            r.1.1.1
+                ∙ ap (λ n. (k.place + 1) * 2 ^ f + n) (sym (flags_left tiers split distinct (column_at u k.place) k.opened r.0 m.1 r.1.0 r.1.1.0))
+                ∙ sym (place_number k m.1 true (ap has_edge fit.1 ∙ form_edge k.place l)),
+          )
       go false e d = absurd (contains_none m d)
 
   -- each move of kinds is listed
   pub moves_listed : (k : PrefixKind) (column : List Sym) → FitsKind tiers u k column → Contains (moves_from tiers u k) (number_of_kind (length tiers.free) (moved tiers [] 0 k column), column)
   moves_listed k column fit = ⊎_elim
       (λ none.
-          let place : k.place + 0 ≡ k.place = omega arith in
-          let number : number_of_kind f (moved tiers [] 0 k column) ≡ k.place * 2 ^ f + number_of_flags left = place_number k column false none ∙ ap (λ p. p * 2 ^ f + number_of_flags left) place in
-          Contains-append_left _ _ _ (subst (λ n. Contains (moves_with tiers (staying tiers u k.place) k.opened (k.place * 2 ^ f)) (n, column)) (sym number)
-              (moves_with_has tiers split distinct (staying tiers u k.place) k.opened left (k.place * 2 ^ f) column (length-map tiers.free (λ t. opens (symbol column t))) (staying_fits tiers split u form k column fit none))))
+      let place : k.place + 0 ≡ k.place = omega arith in
+      let number : number_of_kind f (moved tiers [] 0 k column) ≡ k.place * 2 ^ f + number_of_flags left = place_number k column false none ∙ ap (λ p. p * 2 ^ f + number_of_flags left) place in
+      Contains-append_left _ _ _ (subst (λ n. Contains (moves_with tiers (staying tiers u k.place) k.opened (k.place * 2 ^ f)) (n, column)) (sym number)
+      (moves_with_has tiers split distinct (staying tiers u k.place) k.opened left (k.place * 2 ^ f) column (length-map tiers.free (λ t. opens (symbol column t))) (staying_fits tiers split u form k column fit none))))
       (λ next.
-          let number : number_of_kind f (moved tiers [] 0 k column) ≡ (k.place + 1) * 2 ^ f + number_of_flags left = place_number k column true (ap has_edge next.1 ∙ form_edge k.place next.0) in
-          let on : List Move = moves_with tiers (column_at u k.place) k.opened ((k.place + 1) * 2 ^ f) in
-          Contains-append_right _ _ _ (subst (λ b. Contains (cond b on []) (number_of_kind f (moved tiers [] 0 k column), column)) (sym (lt-ltb k.place (length u) next.0))
-              (subst (λ n. Contains on (n, column)) (sym number)
-              (moves_with_has tiers split distinct (column_at u k.place) k.opened left ((k.place + 1) * 2 ^ f) column (length-map tiers.free (λ t. opens (symbol column t))) (advancing_fits tiers split u form k column fit next.1)))))
+      let number : number_of_kind f (moved tiers [] 0 k column) ≡ (k.place + 1) * 2 ^ f + number_of_flags left = place_number k column true (ap has_edge next.1 ∙ form_edge k.place next.0) in
+      let on : List Move = moves_with tiers (column_at u k.place) k.opened ((k.place + 1) * 2 ^ f) in
+      Contains-append_right _ _ _ (subst (λ b. Contains (cond b on []) (number_of_kind f (moved tiers [] 0 k column), column)) (sym (lt-ltb k.place (length u) next.0))
+      (subst (λ n. Contains on (n, column)) (sym number)
+      (moves_with_has tiers split distinct (column_at u k.place) k.opened left ((k.place + 1) * 2 ^ f) column (length-map tiers.free (λ t. opens (symbol column t))) (advancing_fits tiers split u form k column fit next.1)))))
       fit.input
     where
       f : ℕ
       f = length tiers.free
+
       left : List Bool
       left = map (λ t. opens (symbol column t)) tiers.free
 
@@ -173,11 +179,14 @@ module _ (tiers : Tiers) (split : AreSplit tiers) (distinct : AreDistinct tiers.
     where
       f : ℕ
       f = length tiers.free
+
       on : List Move
       on = moves_with tiers (column_at u k.place) k.opened ((k.place + 1) * 2 ^ f)
+
       go : (b : Bool) → Ascends move_cmp (cond b on [])
       go true = moves_with_ascend tiers split distinct (column_at u k.place) k.opened ((k.place + 1) * 2 ^ f)
       go false = tt
+
       across : (m n : Move) → Contains (moves_with tiers (staying tiers u k.place) k.opened (k.place * 2 ^ f)) m → (b : Bool) → Contains (cond b on []) n → move_cmp m n ≡ Less
       across m n c false d = absurd (contains_none n d)
       across m n c true d =

@@ -1,30 +1,22 @@
 -- The listed moves are those of kinds.
-use Rattle.std.proofs.Common.{◌≡◌, ◌≢◌, ◌↔◌, ℕ, zero, suc, ◌+◌, ◌*◌, ◌^◌, ◌%◌, ◌<◌, ◌≤◌, ◌==◌, ◌||◌, ◌⊎◌, inl, inr, Bool, true, false, cond, nat_lt, IsTrue, List, [], ◌∷◌, ◌++◌, map, filter, length, get_or, take, refl, ap, sym, ◌∙◌, subst, arith, ⊎_elim, Contains, eq-eqb, ne_eqb}
-use Rattle.std.specs.List.{AllByRecursion, list_any, flat_map, range_with_len}
-use Rattle.std.proofs.lemmas.Bool.{false≢true, cases_eq, and_parts, and_from}
-use Rattle.std.proofs.lemmas.List.Elements.{Contains-append_left, Contains-append_right, Contains-append_cases}
+use Rattle.std.proofs.Common.{◌≡◌, ◌≢◌, ℕ, ◌+◌, ◌<◌, Bool, true, false, cond, List, [], ◌∷◌, map, length, get_or, refl, ap, sym, ◌∙◌, subst, arith, ⊎_elim, Contains, eq-eqb, ne_eqb}
+use Rattle.std.specs.List.{range_with_len}
+use Rattle.std.proofs.lemmas.Bool.{cases_eq}
 use Rattle.tier_core.specs.declared.sym.Sym.{Sym}
 use Rattle.tier_core.specs.declared.sym.Sym.TheVariants.{Outside}
-use Rattle.tier_core.specs.declared.constraint.Constraint.{Constraint}
 use Rattle.tier_core.specs.Tiers.{Tiers}
-use Rattle.tier_core.specs.Kinds.{PrefixKind}
 use Rattle.tier_core.specs.Scan.{fits, opens}
-use Rattle.tier_core.specs.Timelines.{is_edge, has_edge, symbol, word, column_at}
+use Rattle.tier_core.specs.Timelines.{has_edge, symbol}
 use Rattle.tier_core.proofs.CountLemmas.{all_weaker}
-use Rattle.violation.specs.Candidates.{IsForm}
 use Rattle.violation.specs.Conditions.{AreSplit, AreDistinct}
 use Rattle.violation.specs.Counts.{choices}
-use Rattle.violation.specs.Prefixes.{is_open}
-use Rattle.violation.specs.Moves.{flag_of, form_opened, is_tier_open, input_of, FitsKind, moved}
-use Rattle.violation.proofs.TierLemmas.{flag_in, flag_out, map_agree}
-use Rattle.ranked_gen.specs.Numbers.{number_of_flags, flags_of, number_of_kind}
+use Rattle.violation.specs.Moves.{flag_of}
+use Rattle.violation.proofs.TierLemmas.{map_agree}
 use Rattle.ranked_gen.specs.Example.{symbol_on}
-use Rattle.ranked_gen.specs.Arcs.{between, still, is_among, symbols_at, columns_between, moves_with, staying, moves_from}
-use Rattle.ranked_gen.proofs.NumberLemmas.{length-flags_of, number-lt, number-flags_of, flags_of-number}
-use Rattle.ranked_gen.proofs.MemberLemmas.{contains_one, contains_first, contains_later, contains_cases, contains_map, contains_of_map, contains_flat, contains_of_flat, contains_kept, contains_of_kept, all_from_members, all_at_member}
-use Rattle.ranked_gen.proofs.Ascending.{in_range, range_has}
+use Rattle.ranked_gen.specs.Arcs.{between, is_among, symbols_at, columns_between}
+use Rattle.ranked_gen.proofs.MemberLemmas.{contains_one, contains_first, contains_cases, contains_kept, contains_of_kept}
 use Rattle.ranked_gen.proofs.ChoiceLemmas.{choices_have, choice_in, of_choice, is_choice}
-use Rattle.ranked_gen.proofs.SymbolLemmas.{between_in, between_has, still_fits, is_still, among_contains, among_not, symbol_on_still}
+use Rattle.ranked_gen.proofs.SymbolLemmas.{between_in, between_has, among_contains, among_not}
 
 -- the symbol that a tier of a list is given
 pub symbol_on_in : (f : ℕ → Sym) (xs : List ℕ) (t : ℕ) → Contains xs t → symbol_on xs (map f xs) t ≡ f t
@@ -100,8 +92,8 @@ module _ (tiers : Tiers) (split : AreSplit tiers) where
   of_between given opened flags column b =
       let f = symbols_at tiers given opened flags in
       let here : (t : ℕ) → t < tiers.width → Contains (f t) (symbol column t) = λ t l. ⊎_elim
-          (λ i. subst (λ xs. Contains xs (symbol column t)) (sym (input_symbols given opened flags t i)) (subst (λ s. Contains (symbol_on tiers.input given t ∷ []) s) (sym (b.inputs t l i)) (contains_first (symbol_on tiers.input given t) [])))
-          (λ i. subst (λ xs. Contains xs (symbol column t)) (sym (free_symbols given opened flags t i)) (subst (λ c. Contains (between (flag_of tiers.free opened t) c) (symbol column t)) (b.frees t l i).1 (between_has (flag_of tiers.free opened t) (symbol column t) (b.frees t l i).0)))
-          (split.each t l) in
+      (λ i. subst (λ xs. Contains xs (symbol column t)) (sym (input_symbols given opened flags t i)) (subst (λ s. Contains (symbol_on tiers.input given t ∷ []) s) (sym (b.inputs t l i)) (contains_first (symbol_on tiers.input given t) [])))
+      (λ i. subst (λ xs. Contains xs (symbol column t)) (sym (free_symbols given opened flags t i)) (subst (λ c. Contains (between (flag_of tiers.free opened t) c) (symbol column t)) (b.frees t l i).1 (between_has (flag_of tiers.free opened t) (symbol column t) (b.frees t l i).0)))
+      (split.each t l) in
       contains_kept has_edge (choices (map f (range_with_len 0 tiers.width))) column
       (choices_have _ column (is_choice f Outside 0 tiers.width column b.width (λ t l. let e : t ≡ 0 + t = omega arith in subst (λ k. Contains (f k) (symbol column t)) e (here t l)))) b.edge

@@ -1,5 +1,5 @@
 -- The columns that are picked are those between two sets of open free tiers.
-use Rattle.std.proofs.Common.{◌≡◌, ◌≢◌, ℕ, zero, suc, ◌+◌, ◌-◌, ◌^◌, ◌==◌, ◌||◌, ◌<◌, ◌≤◌, Bool, true, false, cond, List, [], ◌∷◌, ◌++◌, map, filter, length, take, get_or, refl, ap, sym, ◌∙◌, subst, arith, append_assoc, append-nil, eq-eqb, ne_eqb}
+use Rattle.std.proofs.Common.{◌≡◌, ◌≢◌, ℕ, zero, suc, ◌+◌, ◌^◌, ◌||◌, ◌<◌, Bool, true, false, cond, List, [], ◌∷◌, ◌++◌, map, filter, length, get_or, refl, ap, sym, ◌∙◌, arith, append_assoc, append-nil, eq-eqb, ne_eqb}
 use Rattle.std.specs.List.{flat_map, range_with_len}
 use Rattle.std.proofs.lemmas.List.{map-append}
 use Rattle.std.proofs.lemmas.Grind.{flat_map-append}
@@ -10,7 +10,7 @@ use Rattle.tier_core.specs.declared.sym.Sym.TheVariants.{Outside}
 use Rattle.tier_core.specs.declared.tier.TierKind.{TierKind}
 use Rattle.tier_core.specs.declared.tier.TierKind.TheVariants.{Input}
 use Rattle.tier_core.specs.Timelines.{symbol, has_edge}
-use Rattle.tier_core.specs.Tiers.{Tiers, is_input, is_free, kind_at, numbers_from, tiers_by_kinds}
+use Rattle.tier_core.specs.Tiers.{is_input, is_free, kind_at, numbers_from, tiers_by_kinds}
 use Rattle.violation.specs.Counts.{choices}
 use Rattle.violation.specs.Moves.{flag_of}
 use Rattle.ranked_gen.specs.declared.pick.Pick.{Pick}
@@ -52,7 +52,7 @@ module _ (kinds : List TierKind) (given wide : List Sym) (free from to : ℕ) (b
       let zero_plus : 0 + t ≡ t = omega arith in
       let input : is_input (kind_at kinds t) ≡ is_among (numbers_from is_input 0 kinds) t = sym (ap (is_among (numbers_from is_input 0 kinds)) (sym zero_plus) ∙ among_kinds is_input 0 t kinds l) in
       let here : symbol wide t ≡ symbol_on (numbers_from is_input 0 kinds) given t =
-          ap (λ c. symbol c t) widths ∙ get_or-map-range_with_len (symbol_on (numbers_from is_input 0 kinds) given) 0 (length kinds) t t Outside l zero_plus in
+      ap (λ c. symbol c t) widths ∙ get_or-map-range_with_len (symbol_on (numbers_from is_input 0 kinds) given) 0 (length kinds) t t Outside l zero_plus in
       ap (λ b. cond b (symbol wide t ∷ []) (between (get_or before t false) (get_or after t false))) input
       ∙ ap (λ s. cond (is_among (numbers_from is_input 0 kinds) t) (s ∷ []) (between (get_or before t false) (get_or after t false))) here
       ∙ ap (λ b. cond (is_among (numbers_from is_input 0 kinds) t) (symbol_on (numbers_from is_input 0 kinds) given t ∷ []) (between b (get_or after t false))) (befores t)

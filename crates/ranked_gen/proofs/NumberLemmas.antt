@@ -3,12 +3,12 @@ use Rattle.std.proofs.Common.{◌≡◌, ℕ, zero, suc, ◌+◌, ◌-◌, ◌*�
 use Rattle.std.specs.Int.{bit_at}
 use Rattle.std.proofs.lemmas.Nat.{mod-pow-add, pow_pos, div-mul-add, div-add-mod', le-div}
 use Rattle.std.specs.Cmp.{nat_cmp_is}
-use Rattle.std.proofs.lemmas.Nat.Bits.{bit_at-lt, bit_at_cat_low, bit_at_cat_high, bit_at_above}
-use Rattle.std.proofs.lemmas.Bool.{cases_lt, cases_eq}
+use Rattle.std.proofs.lemmas.Nat.Bits.{bit_at-lt, bit_at_cat_low, bit_at_cat_high}
+use Rattle.std.proofs.lemmas.Bool.{cases_lt}
 use Rattle.std.specs.Ordering.{nat_cmp, ordering_then}
 use Rattle.std.specs.Cmp.Lexicographic.{slice_cmp}
 use Rattle.std.specs.declared.cmp.Ordering.{Ordering}
-use Rattle.std.specs.declared.cmp.Ordering.TheVariants.{Less, Equal, Greater}
+use Rattle.std.specs.declared.cmp.Ordering.TheVariants.{Less, Equal}
 use Rattle.tier_core.specs.Tiers.{has_tier}
 use Rattle.tier_core.specs.Kinds.{Phase, PrefixKind, open_rank, kind_order}
 use Rattle.ranked_gen.specs.Numbers.{number_of_flags, flags_of, number_of_kind, kind_numbered}
@@ -113,8 +113,8 @@ pub kinds_less : (f i j : ℕ) → i < j → kind_order (kind_numbered f i) (kin
 kinds_less f i j l = let rest : Ordering = ordering_then (slice_cmp nat_cmp (map open_rank (flags_of f i)) (map open_rank (flags_of f j))) Equal in ⊎_elim
     (λ before. ap (λ o. ordering_then o rest) (sym (nat_cmp_is (i / 2 ^ f) (j / 2 ^ f) Less before)))
     (λ not_before.
-        let same : i / 2 ^ f ≡ j / 2 ^ f = omega (arith, le-div (i / 2 ^ f) j (2 ^ f) (pow_pos f) (omega (arith, div-add-mod' i (2 ^ f)))) in
-        let parts : i / 2 ^ f * 2 ^ f ≡ j / 2 ^ f * 2 ^ f = ap (λ q. q * 2 ^ f) same in
-        let flags : i % 2 ^ f < j % 2 ^ f = omega (arith, div-add-mod' i (2 ^ f), div-add-mod' j (2 ^ f)) in
-        ap (λ o. ordering_then o rest) (sym (nat_cmp_is (i / 2 ^ f) (j / 2 ^ f) Equal same)) ∙ ap (λ o. ordering_then o Equal) (flags_less f i j flags))
+    let same : i / 2 ^ f ≡ j / 2 ^ f = omega (arith, le-div (i / 2 ^ f) j (2 ^ f) (pow_pos f) (omega (arith, div-add-mod' i (2 ^ f)))) in
+    let parts : i / 2 ^ f * 2 ^ f ≡ j / 2 ^ f * 2 ^ f = ap (λ q. q * 2 ^ f) same in
+    let flags : i % 2 ^ f < j % 2 ^ f = omega (arith, div-add-mod' i (2 ^ f), div-add-mod' j (2 ^ f)) in
+    ap (λ o. ordering_then o rest) (sym (nat_cmp_is (i / 2 ^ f) (j / 2 ^ f) Equal same)) ∙ ap (λ o. ordering_then o Equal) (flags_less f i j flags))
     (cases_lt (i / 2 ^ f) (j / 2 ^ f))

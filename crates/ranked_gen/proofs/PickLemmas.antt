@@ -1,10 +1,9 @@
 -- The columns of the numbers are the choices.
-use Rattle.std.proofs.Common.{◌≡◌, ℕ, zero, suc, ◌+◌, ◌-◌, ◌*◌, ◌^◌, ◌==◌, ◌<◌, ◌≤◌, Bool, true, false, cond, List, [], ◌∷◌, ◌++◌, map, length, refl, ap, sym, ◌∙◌, arith, append-nil}
+use Rattle.std.proofs.Common.{◌≡◌, ℕ, zero, suc, ◌+◌, ◌-◌, ◌*◌, ◌^◌, ◌==◌, ◌<◌, ◌≤◌, true, false, cond, List, [], ◌∷◌, ◌++◌, map, refl, ap, sym, ◌∙◌, arith, append-nil}
 use Rattle.std.specs.Int.{bit_at}
-use Rattle.std.specs.List.{flat_map, range_with_len}
+use Rattle.std.specs.List.{range_with_len}
 use Rattle.std.proofs.lemmas.List.{map-append}
 use Rattle.std.proofs.lemmas.Simd.{map-map}
-use Rattle.std.proofs.lemmas.Nat.{pow_pos}
 use Rattle.std.proofs.lemmas.Nat.Bits.{bit_at_cat_low, bit_at_cat_high, bit_at_above}
 use Rattle.tier_core.specs.declared.sym.Sym.{Sym}
 use Rattle.tier_core.specs.Tiers.{has_tier}
@@ -32,12 +31,14 @@ range_split m zero k = ap (range_with_len m) none ∙ ap (λ a. range_with_len a
   where
     none : zero + k ≡ k
     none = omega arith
+
     same : m + zero ≡ m
     same = omega arith
 range_split m (suc n) k = ap (range_with_len m) more ∙ ap (λ xs. m ∷ xs) (range_split (m + 1) n k ∙ ap (λ a. range_with_len (m + 1) n ++ range_with_len a k) next)
   where
     more : suc n + k ≡ suc (n + k)
     more = omega arith
+
     next : (m + 1) + n ≡ m + suc n
     next = omega arith
 
@@ -49,9 +50,9 @@ ranges_agree f g a b (suc n) h =
     let b_zero : b + 0 ≡ b = omega arith in
     ap (λ y. y ∷ map f (range_with_len (a + 1) n)) (ap f a_zero ∙ h 0 (omega arith) ∙ ap g b_zero)
     ∙ ap (λ ys. g b ∷ ys) (ranges_agree f g (a + 1) (b + 1) n (λ i l.
-        let left : (a + 1) + i ≡ a + suc i = omega arith in
-        let right : b + suc i ≡ (b + 1) + i = omega arith in
-        ap f left ∙ h (suc i) (omega arith) ∙ ap g right))
+    let left : (a + 1) + i ≡ a + suc i = omega arith in
+    let right : b + suc i ≡ (b + 1) + i = omega arith in
+    ap f left ∙ h (suc i) (omega arith) ∙ ap g right))
 
 -- the choices are the columns of the numbers in turn
 pub choices_are : (picks : List Pick) → choices (map symbols_of picks) ≡ map (picked picks) (range_with_len 0 (2 ^ two_count picks))
@@ -63,16 +64,16 @@ choices_are (Two s r ∷ picks) =
     let range = range_with_len 0 size in
     let with : (x : Sym) → map (λ choice. x ∷ choice) (choices (map symbols_of picks)) ≡ map (λ i. x ∷ picked picks i) range = λ x. ap (map (λ choice. x ∷ choice)) (choices_are picks) ∙ map-map (λ choice. x ∷ choice) (picked picks) range in
     let first : map (λ i. s ∷ picked picks i) range ≡ map (picked (Two s r ∷ picks)) range = ranges_agree _ _ 0 0 size (λ i l.
-        let zero_plus : 0 + i ≡ i = omega arith in
-        let off : has_tier (0 + i) k ≡ false = ap (λ n. has_tier n k) zero_plus ∙ ap (λ x. x == 1) (bit_at_above i k k l (omega arith)) in
-        ap (λ b. cond b r s ∷ picked picks (0 + i)) (sym off)) in
+    let zero_plus : 0 + i ≡ i = omega arith in
+    let off : has_tier (0 + i) k ≡ false = ap (λ n. has_tier n k) zero_plus ∙ ap (λ x. x == 1) (bit_at_above i k k l (omega arith)) in
+    ap (λ b. cond b r s ∷ picked picks (0 + i)) (sym off)) in
     let second : map (λ i. r ∷ picked picks i) range ≡ map (picked (Two s r ∷ picks)) (range_with_len (0 + size) size) = ranges_agree _ _ 0 (0 + size) size (λ i l.
-        let above : 1 * 2 ^ k + (0 + i) ≡ (0 + size) + i = omega arith in
-        let small : 0 + i < 2 ^ k = omega arith in
-        let on : has_tier (1 * 2 ^ k + (0 + i)) k ≡ true = ap (λ x. x == 1) (bit_at_cat_high 1 k (0 + i) k small (omega arith)) ∙ self k in
-        ap (λ c. r ∷ c) (sym (picked_low k 1 (0 + i) picks (omega arith)))
-        ∙ ap (λ b. cond b r s ∷ picked picks (1 * 2 ^ k + (0 + i))) (sym on)
-        ∙ ap (picked (Two s r ∷ picks)) above) in
+    let above : 1 * 2 ^ k + (0 + i) ≡ (0 + size) + i = omega arith in
+    let small : 0 + i < 2 ^ k = omega arith in
+    let on : has_tier (1 * 2 ^ k + (0 + i)) k ≡ true = ap (λ x. x == 1) (bit_at_cat_high 1 k (0 + i) k small (omega arith)) ∙ self k in
+    ap (λ c. r ∷ c) (sym (picked_low k 1 (0 + i) picks (omega arith)))
+    ∙ ap (λ b. cond b r s ∷ picked picks (1 * 2 ^ k + (0 + i))) (sym on)
+    ∙ ap (picked (Two s r ∷ picks)) above) in
     let whole : range_with_len 0 (2 ^ suc k) ≡ range ++ range_with_len (0 + size) size = ap (range_with_len 0) (double k) ∙ range_split 0 size size in
     ap (λ xs. xs ++ (map (λ choice. r ∷ choice) (choices (map symbols_of picks)) ++ [])) (with s)
     ∙ ap (λ xs. map (λ i. s ∷ picked picks i) range ++ xs) (append-nil _ ∙ with r)

@@ -1,5 +1,5 @@
 -- Symbols to pick from, and columns, that are laid out by tier.
-use Rattle.std.proofs.Common.{◌≡◌, ℕ, zero, suc, ◌+◌, ◌-◌, ◌<◌, ◌≤◌, Bool, true, false, cond, List, [], ◌∷◌, ◌++◌, map, filter, take, drop, length, get_or, set, refl, ap, sym, ◌∙◌, subst, arith, drop-cons, count_by, append_assoc, append-nil}
+use Rattle.std.proofs.Common.{◌≡◌, ℕ, suc, ◌+◌, ◌<◌, ◌≤◌, Bool, true, false, cond, List, [], ◌∷◌, ◌++◌, map, filter, take, drop, length, get_or, set, refl, ap, sym, ◌∙◌, subst, arith, drop-cons, count_by, append_assoc, append-nil}
 use Rattle.std.specs.List.{range_with_len}
 use Rattle.std.proofs.Math.Seq.{take-suc-set, drop-length}
 use Rattle.std.proofs.lemmas.List.Elements.{filter-append}
@@ -11,7 +11,7 @@ use Rattle.tier_core.specs.Tiers.{has_tier}
 use Rattle.tier_core.proofs.CountLemmas.{count_cons}
 use Rattle.ranked_gen.specs.declared.pick.Pick.{Pick}
 use Rattle.ranked_gen.specs.declared.pick.Pick.TheVariants.{One, Two}
-use Rattle.ranked_gen.specs.Picks.{symbols_of, two_count, picked, is_two, bits_of, symbol_by_bit}
+use Rattle.ranked_gen.specs.Picks.{two_count, picked, is_two, bits_of, symbol_by_bit}
 
 pub count_twos : (picks : List Pick) → count_by is_two picks ≡ two_count picks
 count_twos [] = refl
@@ -84,7 +84,7 @@ pub columns_pass : {Y : Type 0} (old now : List Y) (g : List Sym → Y) (test : 
 columns_pass old now g test h n next e t f =
     let zero_plus : 0 + n ≡ n = omega arith in
     let more : filter test (map h (range_with_len 0 (n + 1))) ≡ filter test (map h (range_with_len 0 n)) ++ h n ∷ [] =
-        ap (filter test) (map-range_with_len_more h 0 n n zero_plus) ∙ filter-append test (map h (range_with_len 0 n)) (h n ∷ []) ∙ ap (λ b. filter test (map h (range_with_len 0 n)) ++ cond b (h n ∷ []) []) t in
+    ap (filter test) (map-range_with_len_more h 0 n n zero_plus) ∙ filter-append test (map h (range_with_len 0 n)) (h n ∷ []) ∙ ap (λ b. filter test (map h (range_with_len 0 n)) ++ cond b (h n ∷ []) []) t in
     f ∙ ap (λ xs. xs ++ g (h n) ∷ []) e ∙ append_assoc old _ _ ∙ ap (λ xs. old ++ xs) (sym (ap (map g) more ∙ map-append g (filter test (map h (range_with_len 0 n))) (h n ∷ [])))
 
 pub columns_fail : {Y : Type 0} (old now : List Y) (g : List Sym → Y) (test : List Sym → Bool) (h : ℕ → List Sym) (n : ℕ)
@@ -92,5 +92,5 @@ pub columns_fail : {Y : Type 0} (old now : List Y) (g : List Sym → Y) (test : 
 columns_fail old now g test h n e t =
     let zero_plus : 0 + n ≡ n = omega arith in
     let more : filter test (map h (range_with_len 0 (n + 1))) ≡ filter test (map h (range_with_len 0 n)) =
-        ap (filter test) (map-range_with_len_more h 0 n n zero_plus) ∙ filter-append test (map h (range_with_len 0 n)) (h n ∷ []) ∙ ap (λ b. filter test (map h (range_with_len 0 n)) ++ cond b (h n ∷ []) []) t ∙ append-nil _ in
+    ap (filter test) (map-range_with_len_more h 0 n n zero_plus) ∙ filter-append test (map h (range_with_len 0 n)) (h n ∷ []) ∙ ap (λ b. filter test (map h (range_with_len 0 n)) ++ cond b (h n ∷ []) []) t ∙ append-nil _ in
     e ∙ ap (λ xs. old ++ map g xs) (sym more)

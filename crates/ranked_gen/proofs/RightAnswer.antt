@@ -1,41 +1,37 @@
 -- An answer with these nodes and states is right where no constraint is ranked.
-use Rattle.std.proofs.Common.{◌≡◌, ◌↔◌, ℕ, zero, suc, ◌+◌, ◌-◌, ◌*◌, ◌/◌, ◌^◌, ◌<◌, ◌≤◌, ◌⊎◌, Bool, true, false, IsTrue, List, [], ◌∷◌, ◌++◌, map, take, drop, length, get_or, refl, ap, sym, ◌∙◌, subst, arith, ⊎_elim, Contains, Some, slice_get}
-use Rattle.std.specs.List.{All, AllPairs, AllByRecursion, range_with_len}
+use Rattle.std.proofs.Common.{◌≡◌, ℕ, zero, suc, ◌+◌, ◌<◌, IsTrue, List, [], ◌∷◌, map, take, drop, length, refl, ap, sym, ◌∙◌, subst, arith, Contains, Some, slice_get}
+use Rattle.std.specs.List.{range_with_len}
 use Rattle.std.specs.List.Sorted.{IsStrictlySortedBy}
 use Rattle.std.specs.Ordering.{nat_cmp}
-use Rattle.std.specs.declared.cmp.Ordering.{Ordering}
-use Rattle.std.specs.declared.cmp.Ordering.TheVariants.{Less}
 use Rattle.std.proofs.lemmas.List.{length-map, take-append-drop}
 use Rattle.std.proofs.lemmas.List.Elements.{All-from_recursion}
 use Rattle.tier_core.specs.declared.sym.Sym.{Sym}
-use Rattle.tier_core.specs.declared.constraint.Constraint.{Constraint}
-use Rattle.tier_core.specs.Classes.{sets_of, has, AreApart}
+use Rattle.tier_core.specs.Classes.{sets_of, has}
 use Rattle.tier_core.specs.Sets.{single_set}
 use Rattle.tier_core.specs.Orders.{IsFirst}
 use Rattle.tier_core.specs.Tiers.{Tiers}
 use Rattle.tier_core.specs.Kinds.{PrefixKind, prefix_kind, kind_order}
-use Rattle.violation.specs.Candidates.{IsForm, IsCandidate, IsOptimal, IsLeastVector, vec}
+use Rattle.violation.specs.Candidates.{IsForm, IsCandidate, IsOptimal}
 use Rattle.violation.specs.Conditions.{AreSplit, AreDistinct}
 use Rattle.violation.specs.Prefixes.{kind_of}
-use Rattle.violation.specs.Stages.{Passes, IsPassed, IsKindOfStage, AreKindsOfStage, IsRemaining}
+use Rattle.violation.specs.Stages.{IsPassed}
 use Rattle.violation.specs.Walks.{BeginsCandidate}
 use Rattle.violation.specs.Moves.{FitsKind, moved}
 use Rattle.answer_text.specs.declared.stage.Node.{Node}
 use Rattle.answer_text.specs.declared.automaton.ArcLine.{ArcLine}
 use Rattle.answer_text.specs.declared.automaton.StateLine.{StateLine}
 use Rattle.answer_text.specs.declared.answer.Answer.{Answer}
-use Rattle.answer_text.specs.Acceptance.{Leads, Accepts}
 use Rattle.answer_text.specs.Right.{kinds_at, nodes_at, numbers_of, arc_cmp, IsRightStage, IsNodeOf, AreRightArcs, IsRightAutomaton, IsRight}
 use Rattle.ranked_gen.specs.Numbers.{number_of_kind, kind_numbered}
 use Rattle.ranked_gen.specs.Arcs.{moves_from}
 use Rattle.ranked_gen.specs.Example.{bare_form}
 use Rattle.ranked_gen.specs.Listed.{kind_count, arc_view, move_view, IsNodeNumbered, IsStateNumbered, AreNumbered}
 use Rattle.ranked_gen.proofs.NumberLemmas.{kind_numbered-number, number-kind_numbered, kinds_less}
-use Rattle.ranked_gen.proofs.MemberLemmas.{contains_map, contains_of_map, all_from_members, all_at_member}
+use Rattle.ranked_gen.proofs.MemberLemmas.{contains_map, contains_of_map, all_from_members}
 use Rattle.ranked_gen.proofs.Ascending.{Ascends, sorted_from, ascends_map, ascends_range, in_range, range_has}
 use Rattle.ranked_gen.proofs.MoveList.{Move, listed_moves, moves_ascend, nat_less}
 use Rattle.ranked_gen.proofs.ArcLemmas.{arcs_ascend, IsSingleArc, single_holds, arcs_apart}
-use Rattle.ranked_gen.proofs.AutomatonMoves.{numbered_member, numbered_at, IsWithin, number_within, numbered_within, moved_within, accepted_candidate, candidate_accepted, kind_within, prefix_leads}
+use Rattle.ranked_gen.proofs.AutomatonMoves.{numbered_member, IsWithin, number_within, numbered_within, moved_within, accepted_candidate, candidate_accepted, kind_within, prefix_leads}
 use Rattle.ranked_gen.proofs.BareForm.{all_optimal, bare_first}
 use Rattle.ranked_gen.proofs.AllPassed.{all_passed}
 
@@ -84,7 +80,8 @@ module _ (tiers : Tiers) (split : AreSplit tiers) (distinct : AreDistinct tiers.
         λ p. let w = passes_within k p in
             let n = number_of_kind (length tiers.free) k in
             subst (λ ks. Contains ks k) (sym listed_kinds) (subst (λ q. Contains (map (kind_numbered (length tiers.free)) (range_with_len 0 (kind_count tiers u))) q) (kind_numbered-number (length tiers.free) k w.flags w.phases)
-                (contains_map (kind_numbered (length tiers.free)) (range_with_len 0 (kind_count tiers u)) n (range_has 0 (kind_count tiers u) n (omega arith) (omega (arith, number_within tiers u k w))))));
+            (contains_map (kind_numbered (length tiers.free)) (range_with_len 0 (kind_count tiers u)) n (range_has 0 (kind_count tiers u) n (omega arith) (omega (arith, number_within tiers u k w))))),
+      );
     };
     potentials = All-from_recursion _ nodes (all_from_members (λ node. node.potential ≡ 0) nodes (λ node m. (numbered_member (IsNodeNumbered tiers) 0 nodes node each_node m).1.1.potential));
   }
@@ -123,7 +120,7 @@ module _ (tiers : Tiers) (split : AreSplit tiers) (distinct : AreDistinct tiers.
       let k = kind_numbered (length tiers.free) i in
       let ascends : Ascends arc_cmp state.arcs.items = arcs_ascend state.arcs.items (moves_from tiers u k) s.arcs (moves_ascend tiers split distinct u form k) in
       let single : (arc : ArcLine) → Contains state.arcs.items arc → IsSingleArc (λ column. number_of_kind (length tiers.free) (moved tiers [] 0 k column)) arc =
-          λ arc c. let m = arc_single i state l s arc c in record { column = m.0.1; to = m.1.1.0; sets = m.1.0 } in
+      λ arc c. let m = arc_single i state l s arc c in record { column = m.0.1; to = m.1.1.0; sets = m.1.0 } in
       record {
         apart = arcs_apart (λ column. number_of_kind (length tiers.free) (moved tiers [] 0 k column)) state.arcs.items single ascends;
         filled = All-from_recursion _ state.arcs.items (all_from_members (λ arc. (column : List Sym) × IsTrue (has arc.class column)) state.arcs.items (λ arc c. ((single arc c).column, single_holds _ arc (single arc c))));
@@ -141,18 +138,28 @@ module _ (tiers : Tiers) (split : AreSplit tiers) (distinct : AreDistinct tiers.
     passed = λ n c.
         let b = in_range 0 (kind_count tiers u) n (subst (λ ns. Contains ns n) numbers c) in
         let l : n < kind_count tiers u = omega (arith, b.1) in
-        let w = numbered_within tiers u n l in
-        (kind_numbered (length tiers.free) n, (subst (λ m. IsNodeOf tiers [] nodes m (kind_numbered (length tiers.free) n)) (number-kind_numbered (length tiers.free) n) (node_of tiers split distinct u form nodes node_count each_node (kind_numbered (length tiers.free) n) w),
-            passed_number tiers split distinct u form nodes node_count each_node n l));
+        let w = numbered_within tiers u n l in (
+          kind_numbered (length tiers.free) n,
+          (
+            subst (λ m. IsNodeOf tiers [] nodes m (kind_numbered (length tiers.free) n)) (number-kind_numbered (length tiers.free) n) (node_of tiers split distinct u form nodes node_count each_node (kind_numbered (length tiers.free) n) w),
+            passed_number tiers split distinct u form nodes node_count each_node n l,
+          ),
+        );
     accepts = λ T. (
       λ a. all_optimal tiers u T (accepted_candidate tiers split distinct u form states state_count each_state T a),
-      λ o. candidate_accepted tiers split distinct u form states state_count each_state T o.candidate);
+      λ o. candidate_accepted tiers split distinct u form states state_count each_state T o.candidate,
+    );
     reads = λ T n o l.
         let b = begins tiers u T n o.candidate in
         let k = kind_of tiers [] 0 (take n T) in
-        let w = kind_within tiers split u form (take n T) b in
-        (number_of_kind (length tiers.free) k, (prefix_leads tiers split distinct u form states state_count each_state (take n T) b,
-            has_number (number_of_kind (length tiers.free) k) (number_within tiers u k w), node_of tiers split distinct u form nodes node_count each_node k w));
+        let w = kind_within tiers split u form (take n T) b in (
+          number_of_kind (length tiers.free) k,
+          (
+            prefix_leads tiers split distinct u form states state_count each_state (take n T) b,
+            has_number (number_of_kind (length tiers.free) k) (number_within tiers u k w),
+            node_of tiers split distinct u form nodes node_count each_node k w,
+          ),
+        );
     arcs = All-from_recursion _ states (all_from_members (λ state. AreRightArcs tiers.width (numbers_of states) state.arcs.items) states (λ state c.
         let r = numbered_member (IsStateNumbered tiers u) 0 states state each_state c in right_arcs r.0 state (omega (arith, r.1.0)) r.1.1));
   }

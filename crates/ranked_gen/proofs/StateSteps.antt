@@ -1,16 +1,15 @@
 -- Kinds by their place and their set of open free tiers.
-use Rattle.std.proofs.Common.{◌≡◌, ◌≢◌, ℕ, zero, suc, ◌+◌, ◌-◌, ◌*◌, ◌/◌, ◌%◌, ◌^◌, ◌==◌, ◌&&◌, not, ◌<◌, ◌≤◌, Bool, true, false, cond, List, [], ◌∷◌, ◌++◌, map, length, take, drop, get_or, count_by, refl, ap, sym, ◌∙◌, subst, arith, eq-eqb, ne_eqb, mod-eq_of_lt, append-nil}
+use Rattle.std.proofs.Common.{◌≡◌, ◌≢◌, ℕ, zero, suc, ◌+◌, ◌*◌, ◌^◌, ◌==◌, ◌&&◌, not, ◌<◌, ◌≤◌, Bool, true, false, cond, List, [], ◌∷◌, ◌++◌, map, length, take, get_or, count_by, refl, ap, sym, ◌∙◌, subst, arith, ne_eqb, mod-eq_of_lt, append-nil}
 use Rattle.std.specs.List.{list_any, range_with_len}
 use Rattle.std.proofs.lemmas.Nat.{pow_pos, div-mul-add}
 use Rattle.std.proofs.lemmas.Bool.{le-ltb, lt-ltb}
 use Rattle.std.proofs.Math.Nat.{mul-le-mul, pow-le-pow_right}
 use Rattle.std.proofs.lemmas.List.{length-map, get_or-map, length_push, length-take-le, get_or-take, map-append}
-use Rattle.std.proofs.lemmas.List.FromFn.{fill_by_all, get_or-map-range_with_len, length-map-range_with_len}
+use Rattle.std.proofs.lemmas.List.FromFn.{fill_by_all, length-map-range_with_len}
 use Rattle.std.proofs.lemmas.Simd.{map-map}
 use Rattle.tier_core.specs.declared.sym.Sym.{Sym}
 use Rattle.tier_core.specs.declared.sym.Sym.TheVariants.{Outside}
 use Rattle.tier_core.specs.Tiers.{Tiers, numbers_from, has_tier}
-use Rattle.tier_core.specs.Kinds.{PrefixKind}
 use Rattle.tier_core.specs.Scan.{opens}
 use Rattle.tier_core.specs.Timelines.{word, symbol, column_at}
 use Rattle.tier_core.proofs.CountLemmas.{count_cons}
@@ -69,7 +68,7 @@ module _ (tiers : Tiers) (u : List (List Sym)) (form : IsForm tiers u) where
   -- the symbols that stay after a column
   pub staying_after : (p : ℕ) → p < length u → length (column_at u p) ≡ length tiers.input → map (λ s. still (opens s)) (column_at u p) ≡ staying tiers u (suc p)
   staying_after p l wide = fill_by_all at (map (λ s. still (opens s)) (column_at u p)) (length tiers.input) Outside (length-map (column_at u p) (λ (s : Sym). still (opens s)) ∙ wide)
-          (λ j h. get_or-map (λ s. still (opens s)) (column_at u p) j Outside Outside (omega arith) ∙ ap still (sym (open_after p j l h)))
+      (λ j h. get_or-map (λ s. still (opens s)) (column_at u p) j Outside Outside (omega arith) ∙ ap still (sym (open_after p j l h)))
       ∙ sym (map-map still (λ j. is_open (word (take (suc p) u) j)) (range_with_len 0 (length tiers.input)))
     where
       at : ℕ → Sym
@@ -78,7 +77,7 @@ module _ (tiers : Tiers) (u : List (List Sym)) (form : IsForm tiers u) where
   -- the symbols that stay before the first column
   pub staying_first : (syms : List Sym) → length syms ≡ 12 → length tiers.input ≤ 12 → ((t : ℕ) → get_or syms t Outside ≡ Outside) → take (length tiers.input) syms ≡ staying tiers u 0
   staying_first syms long few h = fill_by_all (λ j. still (is_open (word (take 0 u) j))) (take (length tiers.input) syms) (length tiers.input) Outside (length-take-le (length tiers.input) syms (omega arith))
-          (λ j l. get_or-take (length tiers.input) syms j Outside l ∙ h j)
+      (λ j l. get_or-take (length tiers.input) syms j Outside l ∙ h j)
       ∙ sym (map-map still (λ j. is_open (word (take 0 u) j)) (range_with_len 0 (length tiers.input)))
 
 pub length-staying : (tiers : Tiers) (u : List (List Sym)) (place : ℕ) → length (staying tiers u place) ≡ length tiers.input
@@ -115,8 +114,8 @@ module _ (tiers : Tiers) (u : List (List Sym)) (free place opened : ℕ) (count 
       → view ≡ map move_view (moves_from tiers u (kind_numbered free (place * 2 ^ free + opened)))
   arcs_end view e l =
       e ∙ ap (map move_view) (ap (λ f. moves_with tiers (staying tiers u place) (flags_of free opened) (place * 2 ^ f)) count ∙ sym (append-nil _)
-          ∙ ap (λ b. moves_with tiers (staying tiers u place) (flags_of free opened) (place * 2 ^ length tiers.free) ++ cond b (moves_with tiers (column_at u place) (flags_of free opened) ((place + 1) * 2 ^ length tiers.free)) []) (sym (le-ltb place (length u) l))
-          ∙ ap (moves_from tiers u) (sym (kind_at_place free place opened small)))
+      ∙ ap (λ b. moves_with tiers (staying tiers u place) (flags_of free opened) (place * 2 ^ length tiers.free) ++ cond b (moves_with tiers (column_at u place) (flags_of free opened) ((place + 1) * 2 ^ length tiers.free)) []) (sym (le-ltb place (length u) l))
+      ∙ ap (moves_from tiers u) (sym (kind_at_place free place opened small)))
 
   pub arcs_on : (view now : List (ℕ × List ℕ)) → now ≡ [] ++ map move_view (moves_with tiers (staying tiers u place) (flags_of free opened) (place * 2 ^ free))
       → view ≡ now ++ map move_view (moves_with tiers (column_at u place) (flags_of free opened) ((place + 1) * 2 ^ free)) → place < length u
@@ -125,8 +124,8 @@ module _ (tiers : Tiers) (u : List (List Sym)) (free place opened : ℕ) (count 
       g ∙ ap (λ xs. xs ++ map move_view (moves_with tiers (column_at u place) (flags_of free opened) ((place + 1) * 2 ^ free))) e
       ∙ sym (map-append move_view (moves_with tiers (staying tiers u place) (flags_of free opened) (place * 2 ^ free)) (moves_with tiers (column_at u place) (flags_of free opened) ((place + 1) * 2 ^ free)))
       ∙ ap (map move_view) (ap (λ f. moves_with tiers (staying tiers u place) (flags_of free opened) (place * 2 ^ f) ++ moves_with tiers (column_at u place) (flags_of free opened) ((place + 1) * 2 ^ f)) count
-          ∙ ap (λ b. moves_with tiers (staying tiers u place) (flags_of free opened) (place * 2 ^ length tiers.free) ++ cond b (moves_with tiers (column_at u place) (flags_of free opened) ((place + 1) * 2 ^ length tiers.free)) []) (sym (lt-ltb place (length u) l))
-          ∙ ap (moves_from tiers u) (sym (kind_at_place free place opened small)))
+      ∙ ap (λ b. moves_with tiers (staying tiers u place) (flags_of free opened) (place * 2 ^ length tiers.free) ++ cond b (moves_with tiers (column_at u place) (flags_of free opened) ((place + 1) * 2 ^ length tiers.free)) []) (sym (lt-ltb place (length u) l))
+      ∙ ap (moves_from tiers u) (sym (kind_at_place free place opened small)))
 
 -- a node and a state over the number of free tiers that is counted
 pub node_counted : (tiers : Tiers) (free place opened mask : ℕ) → free ≡ length tiers.free → opened < 2 ^ free → map (has_tier mask) (range_with_len 0 free) ≡ flags_of free opened

@@ -5,7 +5,7 @@ use Rattle.tier_core.specs.declared.sym.Sym.{Sym}
 use Rattle.tier_core.specs.Tiers.{Tiers}
 use Rattle.tier_core.specs.Sets.{single_set}
 use Rattle.tier_core.specs.Classes.{sets_of}
-use Rattle.tier_core.specs.Kinds.{PrefixKind, prefix_kind}
+use Rattle.tier_core.specs.Kinds.{prefix_kind}
 use Rattle.violation.specs.Moves.{is_final}
 use Rattle.answer_text.specs.declared.stage.Node.{Node}
 use Rattle.answer_text.specs.declared.automaton.ArcLine.{ArcLine}

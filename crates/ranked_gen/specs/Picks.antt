@@ -1,5 +1,5 @@
 -- One symbol or two for each tier, and the columns that they make, by number.
-use Rattle.std.specs.Prelude.{ℕ, zero, suc, ◌+◌, ◌^◌, Bool, true, false, if◌then◌else◌, List, [], ◌∷◌, slice_index_or}
+use Rattle.std.specs.Prelude.{ℕ, suc, Bool, true, false, if◌then◌else◌, List, [], ◌∷◌, slice_index_or}
 use Rattle.tier_core.specs.declared.sym.Sym.{Sym}
 use Rattle.tier_core.specs.declared.tier.TierKind.{TierKind}
 use Rattle.tier_core.specs.Timelines.{symbol}

@@ -69,11 +69,7 @@ fn one_stage(alloc: Global, stage: Stage) -> Result<Vec<Stage>, NoMemory>
 ///
 /// The form is well formed and reduced over the input tiers, and has at most 64 columns. The call
 /// fails only for want of memory.
-pub fn generate_free(
-    alloc: Global,
-    tiers: &TierTable,
-    form: &Timeline,
-) -> Result<Answer, NoMemory>
+pub fn generate_free(alloc: Global, tiers: &TierTable, form: &Timeline) -> Result<Answer, NoMemory>
     requires form { IsForm (tiers_of_table tiers.now) form.now }
     requires short { length form.now ≤ 64 }
     ensures { IfOk result (λ answer. IsRight (tiers_of_table tiers.now) [] form.now answer) }

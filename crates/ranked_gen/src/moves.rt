@@ -37,12 +37,7 @@ fn pick_at(
 
 /// The symbols to pick from on each tier, in columns with given symbols on the input tiers, from
 /// one set of open free tiers to another.
-fn picks(
-    kinds: &[TierKind],
-    given: &[Sym],
-    before: &[bool; 12],
-    after: &[bool; 12],
-) -> [Pick; 12]
+fn picks(kinds: &[TierKind], given: &[Sym], before: &[bool; 12], after: &[bool; 12]) -> [Pick; 12]
     requires few { length kinds.now ≤ 12 }
     requires wide { length given.now ≡ length kinds.now }
     ensures { map symbols_of (take (length kinds.now) result) ≡ map (symbols_by_flags kinds.now given.now before.now after.now) (range_with_len 0 (length kinds.now)) }

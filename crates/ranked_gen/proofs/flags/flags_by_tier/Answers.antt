@@ -1,5 +1,5 @@
-use Rattle.std.proofs.Common.{◌≡◌, ◌<◌, ℕ, ◌+◌, ◌-◌, true, false, sym, ap, ◌∙◌, arith, set}
-use Rattle.ranked_gen.proofs.FlagSteps.{AreSpread, spread_few, spread_free, spread_input}
+use Rattle.std.proofs.Common.{sym, ◌∙◌, arith}
+use Rattle.ranked_gen.proofs.FlagSteps.{spread_few, spread_free, spread_input}
 use Rattle.ranked_gen.proofs.flags.flags_by_tier.Goals as goal
 use Rattle.ranked_gen.proofs.flags.flags_by_tier.Goals.{then-is_free, else-is_free}
 

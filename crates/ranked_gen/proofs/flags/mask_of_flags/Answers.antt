@@ -1,5 +1,5 @@
-use Rattle.std.proofs.Common.{◌≡◌, ◌<◌, ℕ, ◌+◌, ◌-◌, true, false, sym, ap, ◌∙◌, arith}
-use Rattle.ranked_gen.proofs.FlagSteps.{IsMaskOf, mask_set, mask_clear, mask_all}
+use Rattle.std.proofs.Common.{sym, ◌∙◌, arith}
+use Rattle.ranked_gen.proofs.FlagSteps.{mask_set, mask_clear, mask_all}
 use Rattle.ranked_gen.proofs.flags.mask_of_flags.Goals as goal
 use Rattle.ranked_gen.proofs.flags.mask_of_flags.Goals.{then-has_bit, else-has_bit}
 

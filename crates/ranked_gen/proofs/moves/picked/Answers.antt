@@ -1,5 +1,5 @@
-use Rattle.std.proofs.Common.{◌<◌, ◌≤◌, ◌+◌, arith}
-use Rattle.ranked_gen.proofs.PickSteps.{IsPicking, picking_some, picking_few, picking_more, picking_all}
+use Rattle.std.proofs.Common.{arith}
+use Rattle.ranked_gen.proofs.PickSteps.{picking_few}
 use Rattle.ranked_gen.proofs.moves.picked.Goals as goal
 
 pub symbol_picked-requires : goal.symbol_picked-requires

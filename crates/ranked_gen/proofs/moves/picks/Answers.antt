@@ -1,7 +1,7 @@
-use Rattle.std.proofs.Common.{◌≡◌, ◌<◌, ◌≤◌, ℕ, sym, ap, ◌∙◌, arith, length, map, take}
+use Rattle.std.proofs.Common.{◌≡◌, sym, ap, ◌∙◌, arith, length, map, take}
 use Rattle.std.specs.List.{range_with_len}
 use Rattle.ranked_gen.specs.Picks.{symbols_of, symbols_by_flags}
-use Rattle.ranked_gen.proofs.PickSteps.{AreLaid, laid_more}
+use Rattle.ranked_gen.proofs.PickSteps.{laid_more}
 use Rattle.ranked_gen.proofs.moves.picks.Goals as goal
 
 pub loop-tier-preserved : goal.loop-tier-preserved

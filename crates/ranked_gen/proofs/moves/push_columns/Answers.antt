@@ -1,4 +1,4 @@
-use Rattle.std.proofs.Common.{◌≡◌, ◌++◌, ◌+◌, ℕ, [], ◌∷◌, true, false, sym, ap, ◌∙◌, map, List}
+use Rattle.std.proofs.Common.{◌≡◌, ◌++◌, ℕ, [], ◌∷◌, sym, ap, ◌∙◌, map, List}
 use Rattle.tier_core.specs.declared.sym.Sym.{Sym}
 use Rattle.tier_core.specs.Timelines.{has_edge}
 use Rattle.ranked_gen.specs.Listed.{arc_view, move_view}

@@ -1,12 +1,11 @@
-use Rattle.std.proofs.Common.{◌≡◌, ◌<◌, ◌≤◌, ◌++◌, ◌+◌, ◌^◌, ◌%◌, ◌*◌, ℕ, List, sym, ap, ◌∙◌, arith, map, length, take}
+use Rattle.std.proofs.Common.{◌≡◌, ◌<◌, ◌++◌, ◌+◌, ◌^◌, sym, ap, ◌∙◌, arith, map, length, take}
 use Rattle.std.specs.List.{range_with_len, flat_map}
 use Rattle.std.proofs.lemmas.Nat.{one_shl}
 use Rattle.std.proofs.lemmas.List.FromFn.{length-map-range_with_len}
-use Rattle.tier_core.specs.declared.sym.Sym.{Sym}
 use Rattle.tier_core.specs.Tiers.{is_free, is_input, numbers_from, tiers_by_kinds}
 use Rattle.ranked_gen.specs.Numbers.{flags_of}
-use Rattle.ranked_gen.specs.Example.{symbol_on, widened}
-use Rattle.ranked_gen.specs.Arcs.{columns_between, moves_with}
+use Rattle.ranked_gen.specs.Example.{symbol_on}
+use Rattle.ranked_gen.specs.Arcs.{columns_between}
 use Rattle.ranked_gen.specs.Listed.{arc_view, move_view}
 use Rattle.ranked_gen.proofs.FlagSteps.{numbers_few}
 use Rattle.ranked_gen.proofs.MoveSteps.{picked_between, moves_more, moves_shown}
@@ -22,7 +21,7 @@ picks-picks-requires-clause-wide c =
 pub loop-number-preserved : goal.loop-number-preserved
 loop-number-preserved c =
     let columns = picked_between c.args.kinds.now c.args.given.now c.syms-wide.result.now c.args.free c.args.opened c.loop-number.number c.flags_by_tier-before.result c.flags_by_tier-after.result
-        (c.syms-wide.ensures.value ∙ c.widened-column.ensures) c.flags_by_tier-before.ensures c.flags_by_tier-after.ensures (take (length c.args.kinds.now) c.picks-picks.result) c.picks-picks.ensures in
+    (c.syms-wide.ensures.value ∙ c.widened-column.ensures) c.flags_by_tier-before.ensures c.flags_by_tier-after.ensures (take (length c.args.kinds.now) c.picks-picks.result) c.picks-picks.ensures in
     moves_more _ _ (λ o. map (λ column. move_view (c.args.first + o, column)) (columns_between (tiers_by_kinds c.args.kinds.now) c.args.given.now (flags_of c.args.free c.args.opened) (flags_of c.args.free o))) c.loop-number.number _ c.loop-number.invariant
     (c.in_ok-push_columns.ensures ∙ ap (λ cs. map arc_view c.loop-number.arcs.items ++ map (λ column. move_view (c.args.first + c.loop-number.number, column)) cs) columns)
 

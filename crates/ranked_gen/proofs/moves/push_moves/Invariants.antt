@@ -1,4 +1,4 @@
-use Rattle.std.proofs.Common.{◌≡◌, ◌++◌, ◌+◌, ◌<◌, ◌^◌, map, length}
+use Rattle.std.proofs.Common.{◌≡◌, ◌++◌, ◌+◌, map}
 use Rattle.std.specs.List.{range_with_len, flat_map}
 use Rattle.tier_core.specs.Tiers.{tiers_by_kinds}
 use Rattle.ranked_gen.specs.Numbers.{flags_of}

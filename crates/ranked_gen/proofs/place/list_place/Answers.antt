@@ -1,4 +1,4 @@
-use Rattle.std.proofs.Common.{◌≡◌, ◌<◌, ◌≤◌, ◌+◌, ◌*◌, ◌^◌, ◌++◌, ◌∷◌, [], ◌∙◌, sym, ap, subst, arith}
+use Rattle.std.proofs.Common.{◌≡◌, ◌<◌, ◌+◌, ◌*◌, ◌^◌, ◌++◌, ◌∷◌, [], subst, arith}
 use Rattle.std.proofs.lemmas.Nat.{one_shl}
 use Rattle.tier_core.specs.Tables.{tiers_of_table}
 use Rattle.ranked_gen.specs.Listed.{AreListed}

@@ -1,6 +1,4 @@
-use Rattle.std.proofs.Common.{◌≡◌, ◌<◌, ◌≤◌, ◌+◌, ◌*◌, ◌^◌, ◌++◌, [], ℕ, List, map, length, sym, ap, ◌∙◌, arith}
-use Rattle.std.proofs.lemmas.List.Elements.{All-from_recursion}
-use Rattle.tier_core.specs.declared.sym.Sym.{Sym}
+use Rattle.std.proofs.Common.{◌++◌, [], map, length, sym, ap, ◌∙◌, arith}
 use Rattle.tier_core.specs.Tables.{tiers_of_table}
 use Rattle.tier_core.specs.Timelines.{column_at}
 use Rattle.tier_core.specs.Tiers.{tiers_by_kinds}

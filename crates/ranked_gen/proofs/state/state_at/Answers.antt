@@ -1,9 +1,9 @@
-use Rattle.std.proofs.Common.{◌≡◌, ◌+◌, ◌*◌, ◌^◌, ◌==◌, ◌&&◌, ℕ, map, sym, ap, ◌∙◌}
+use Rattle.std.proofs.Common.{◌+◌, ◌*◌, ◌^◌, ◌==◌, ◌&&◌, map, ap, ◌∙◌}
 use Rattle.tier_core.specs.Tables.{tiers_of_table}
 use Rattle.violation.specs.Moves.{is_final}
 use Rattle.ranked_gen.specs.Numbers.{kind_numbered}
 use Rattle.ranked_gen.specs.Arcs.{moves_from}
-use Rattle.ranked_gen.specs.Listed.{arc_view, move_view}
+use Rattle.ranked_gen.specs.Listed.{move_view}
 use Rattle.ranked_gen.proofs.StateSteps.{final_at}
 use Rattle.ranked_gen.proofs.state.state_at.Goals as goal
 

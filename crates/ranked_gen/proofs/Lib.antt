@@ -15,3 +15,7 @@ pub mod InputTiers
 pub mod AutomatonMoves
 pub mod RightAnswer
 pub mod PickLemmas
+pub mod FlagSteps
+pub mod PickSteps
+pub mod MoveSteps
+pub mod StateSteps

@@ -50,7 +50,7 @@ numbered_get P n [] i a l = absurd (omega arith)
 numbered_get P n (x ∷ xs) zero a l = let here : n ≡ n + 0 = omega arith in (x, (refl, subst (λ k. P k x) here a.0))
 numbered_get P n (x ∷ xs) (suc i) a l = let r = numbered_get P (n + 1) xs i a.1 (omega arith) in let here : (n + 1) + i ≡ n + suc i = omega arith in (r.0, (r.1.0, subst (λ k. P k r.0) here r.1.1))
 
-map_itself : {X : Type 0} (xs : List X) → map (λ x. x) xs ≡ xs
+pub map_itself : {X : Type 0} (xs : List X) → map (λ x. x) xs ≡ xs
 map_itself [] = refl
 map_itself (x ∷ xs) = ap (λ ys. x ∷ ys) (map_itself xs)
 

@@ -40,3 +40,10 @@ pub record IsStateNumbered (tiers : Tiers) (u : List (List Sym)) (n : ℕ) (stat
 abbrev pub AreNumbered : {X : Type 0} → (ℕ → X → Type 0) → ℕ → List X → Type 0
 AreNumbered P n [] = Unit {0}
 AreNumbered P n (x ∷ xs) = P n x × AreNumbered P (n + 1) xs
+
+-- the first nodes and states, so many of each
+pub record AreListed (tiers : Tiers) (u : List (List Sym)) (count : ℕ) (nodes : List Node) (states : List StateLine) : Type 0 where
+  pub node_count : length nodes ≡ count
+  pub each_node : AreNumbered (IsNodeNumbered tiers) 0 nodes
+  pub state_count : length states ≡ count
+  pub each_state : AreNumbered (IsStateNumbered tiers u) 0 states

@@ -13,7 +13,17 @@ abbrev pub symbols_of : Pick → List Sym
 symbols_of (One s) = s ∷ []
 symbols_of (Two s r) = s ∷ r ∷ []
 
--- how many of the tiers have two
+-- how many bits of a number the tier takes
+abbrev pub bits_of : Pick → ℕ
+bits_of (One s) = 0
+bits_of (Two s r) = 1
+
+-- the symbol that a bit picks
+abbrev pub symbol_by_bit : Pick → Bool → Sym
+symbol_by_bit (One s) bit = s
+symbol_by_bit (Two s r) bit = if bit then r else s
+
+-- how many of the tiers have two symbols
 abbrev pub two_count : List Pick → ℕ
 two_count [] = 0
 two_count (One s ∷ picks) = two_count picks
@@ -22,8 +32,12 @@ two_count (Two s r ∷ picks) = suc (two_count picks)
 -- the column of a number: a bit for each tier with two symbols, the first of which counts most
 abbrev pub picked : List Pick → ℕ → List Sym
 picked [] n = []
-picked (One s ∷ picks) n = s ∷ picked picks n
-picked (Two s r ∷ picks) n = (if has_tier n (two_count picks) then r else s) ∷ picked picks n
+picked (pick ∷ picks) n = symbol_by_bit pick (has_tier n (two_count picks)) ∷ picked picks n
+
+-- whether there are two symbols
+abbrev pub is_two : Pick → Bool
+is_two (One s) = false
+is_two (Two s r) = true
 
 -- the symbols of a tier, by the flags of the tiers
 abbrev pub symbols_by_flags : List TierKind → List Sym → List Bool → List Bool → ℕ → List Sym

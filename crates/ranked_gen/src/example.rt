@@ -8,7 +8,7 @@ use std::alloc::Global;
 use tier_core::{Column, NoMemory, Sym, TierKind, TierTable, Timeline};
 
 /// Whether a tier is an input tier.
-fn is_input(kind: TierKind) -> bool
+pub(crate) fn is_input(kind: TierKind) -> bool
     ensures { result ≡ is_input kind }
 {
     match kind {
@@ -18,7 +18,7 @@ fn is_input(kind: TierKind) -> bool
 }
 
 /// A column of a form, widened to all tiers: Outside where a tier is free.
-fn widened(alloc: Global, kinds: &[TierKind], column: &[Sym]) -> Column
+pub(crate) fn widened(alloc: Global, kinds: &[TierKind], column: &[Sym]) -> Column
     requires some { 1 ≤ length kinds.now }
     requires few { length kinds.now ≤ 12 }
     requires each_input { length column.now ≡ length (tiers_by_kinds kinds.now).input }
@@ -53,4 +53,17 @@ pub(crate) fn bare_form(
         }
     }
     Ok(bare)
+}
+
+/// The same timeline once more. It fails only for want of memory.
+pub(crate) fn copied(alloc: Global, timeline: &Timeline) -> Result<Timeline, NoMemory>
+    ensures { IfOk result (λ t. t ≡ timeline.now) }
+{
+    let mut copy = Timeline::new(alloc);
+    for column in timeline.columns() {
+        if copy.push(column.copied(alloc)).is_err() {
+            return Err(NoMemory);
+        }
+    }
+    Ok(copy)
 }

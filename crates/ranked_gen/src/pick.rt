@@ -12,7 +12,14 @@ pub(crate) enum Pick {
 }
 
 impl Pick {
-    ghost use Rattle.ranked_gen.specs.Picks.{symbols_of};
+    ghost use Rattle.ranked_gen.specs.Picks.{symbols_of, is_two};
+
+    /// Whether there are two symbols.
+    pub(crate) fn is_two(&self) -> bool
+        ensures { result ≡ is_two self.now }
+    {
+        matches!(self, Pick::Two(_, _))
+    }
 
     /// The symbols of a free tier that is open before a column or not, and after it or not.
     pub(crate) fn between(before: bool, after: bool) -> Pick

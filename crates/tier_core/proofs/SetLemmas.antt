@@ -1,5 +1,5 @@
 -- Sets of symbols by their numbers.
-use Rattle.std.proofs.Common.{◌≡◌, ℕ, ◌==◌, Bool, true, false, IsTrue, List, [], ◌∷◌, map, refl, ap, sym, ◌∙◌, get_or, ⊎_elim}
+use Rattle.std.proofs.Common.{◌≡◌, ℕ, suc, length, ◌==◌, ◌&&◌, Bool, true, false, List, [], ◌∷◌, map, refl, ap, sym, ◌∙◌, get_or, ⊎_elim}
 use Rattle.std.specs.Int.{bit_at}
 use Rattle.std.proofs.lemmas.Bool.{false≢true, cases_eq, and_parts, and_from}
 use Rattle.std.proofs.lemmas.Nat.Bits.{bit_at-pow_same, bit_at-pow_other}
@@ -39,3 +39,15 @@ only_have [] [] h = refl
 only_have [] (r ∷ other) h = absurd (false≢true h)
 only_have (s ∷ column) [] h = absurd (false≢true h)
 only_have (s ∷ column) (r ∷ other) h = let parts : (is_in (single_set s) r ≡ true) × (sets_have (map single_set column) other ≡ true) = and_parts _ _ h in cc (only_in s r parts.0, only_have column other parts.1)
+
+-- sets have no column of another width
+pub other_width : (sets : List ℕ) (column : List Sym) → (length sets ≡ length column → ⊥) → sets_have sets column ≡ false
+other_width [] [] h = absurd (h refl)
+other_width [] (s ∷ column) h = refl
+other_width (set ∷ sets) [] h = refl
+other_width (set ∷ sets) (s ∷ column) h =
+    ap (λ b. is_in set s && b) (other_width sets column (λ e. h (ap suc e))) ∙ and_false (is_in set s)
+  where
+    and_false : (b : Bool) → (b && false) ≡ false
+    and_false true = refl
+    and_false false = refl

@@ -1,14 +1,14 @@
 -- The tiers of a mask are those of a table that pass a test, where the bits say so.
-use Rattle.std.proofs.Common.{◌≡◌, ◌↔◌, IsTrue, ℕ, zero, suc, ◌+◌, ◌-◌, ◌≤◌, ◌<◌, ◌^◌, ◌==◌, ◌||◌, Bool, true, false, not, cond, List, [], ◌∷◌, ◌++◌, length, take, get_or, bit_or, refl, ap, sym, ◌∙◌, ⊎_elim, arith, add-one}
-use Rattle.std.specs.List.{list_any}
-use Rattle.std.specs.Int.{bit_at}
-use Rattle.std.proofs.lemmas.Bool.{false≢true, cases_lt}
-use Rattle.std.proofs.lemmas.List.{take_more, take_all, append-nil, append_assoc, length-take}
-use Rattle.std.proofs.lemmas.Nat.Bits.{bit_at_above, bit_at_or, bit_at-lt}
+use Rattle.std.proofs.Common.{◌≡◌, ◌↔◌, IsTrue, ℕ, zero, suc, ◌+◌, ◌-◌, ◌≤◌, ◌<◌, ◌^◌, ◌==◌, ◌||◌, Bool, true, false, not, cond, List, [], ◌∷◌, ◌++◌, length, take, refl, ap, sym, ◌∙◌, arith, add-one, ◌&&◌}
+use Rattle.std.specs.List.{list_any, AllByRecursion}
+use Rattle.std.proofs.lemmas.Bool.{false≢true, eqb-true, eqb-false}
+use Rattle.std.proofs.lemmas.List.{take_more, take_all, append-nil, append_assoc, length-take, length-append}
+use Rattle.std.proofs.lemmas.Nat.Bits.{bit_at_above}
 use Rattle.tier_core.specs.declared.tier.TierKind.{TierKind}
 use Rattle.tier_core.specs.declared.tier.TierKind.TheVariants.{Input, Overt, Hidden}
 use Rattle.tier_core.specs.Tiers.{is_input, is_overt, is_free, numbers_from, tiers_by_kinds, kind_at, has_tier, tiers_below, tiers_of}
-use Rattle.tier_core.proofs.MaskLemmas.{no_tier_above}
+use Rattle.tier_core.specs.Shapes.{input_count}
+use Rattle.tier_core.proofs.CountLemmas.{all_append, all_weaker}
 
 -- the bits of a mask are those of the tiers that pass
 pub record IsMaskOf (test : TierKind → Bool) (kinds : List TierKind) (mask : ℕ) : Type 0 where
@@ -90,3 +90,99 @@ input_tiers kinds mask few within bits = tiers_of_mask is_input kinds mask (mask
 pub overt_tiers : (kinds : List TierKind) (mask : ℕ) → length kinds ≤ 12 → mask < 2 ^ length kinds
     → ((t : ℕ) → t < length kinds → IsTrue (has_tier mask t) ↔ (kind_at kinds t ≡ Overt)) → tiers_of mask ≡ (tiers_by_kinds kinds).overt
 overt_tiers kinds mask few within bits = tiers_of_mask is_overt kinds mask (mask_of_kind is_overt kinds Overt mask overt_alone few within bits)
+
+-- ---- which tiers are listed
+
+same_number : (a b : ℕ) → a ≡ b → (a == b) ≡ true
+same_number a b h = by (a == b) refl
+  where
+    by : (c : Bool) → (a == b) ≡ c → (a == b) ≡ true
+    by true e = e
+    by false e = absurd (eqb-false a b e h)
+
+other_number : (a b : ℕ) → (a ≡ b → ⊥) → (a == b) ≡ false
+other_number a b h = by (a == b) refl
+  where
+    by : (c : Bool) → (a == b) ≡ c → (a == b) ≡ false
+    by true e = absurd (h (eqb-true a b e))
+    by false e = e
+
+any_first : (p : ℕ → Bool) (b : Bool) (n : ℕ) (ns : List ℕ) → list_any p (cond b (n ∷ []) [] ++ ns) ≡ ((b && p n) || list_any p ns)
+any_first p true n ns = refl
+any_first p false n ns = refl
+
+-- no number below the first is listed
+none_before : (test : TierKind → Bool) (n m : ℕ) (kinds : List TierKind) → m < n → list_any (λ u. u == m) (numbers_from test n kinds) ≡ false
+none_before test n m [] l = refl
+none_before test n m (k ∷ kinds) l =
+    any_first (λ u. u == m) (test k) n (numbers_from test (suc n) kinds)
+    ∙ ap (λ b. (test k && b) || list_any (λ u. u == m) (numbers_from test (suc n) kinds)) (other_number n m (λ e. absurd (omega arith)))
+    ∙ ap (λ b. (test k && false) || b) (none_before test (suc n) m kinds (omega arith)) ∙ neither (test k)
+  where
+    neither : (b : Bool) → ((b && false) || false) ≡ false
+    neither true = refl
+    neither false = refl
+
+-- a number is listed exactly where its kind passes
+pub listed : (test : TierKind → Bool) (n t : ℕ) (kinds : List TierKind) → t < length kinds → list_any (λ u. u == n + t) (numbers_from test n kinds) ≡ test (kind_at kinds t)
+listed test n t [] l = absurd (omega arith)
+listed test n zero (k ∷ kinds) l =
+    any_first (λ u. u == n + zero) (test k) n (numbers_from test (suc n) kinds)
+    ∙ ap (λ b. (test k && b) || list_any (λ u. u == n + zero) (numbers_from test (suc n) kinds)) (same_number n (n + zero) (omega arith))
+    ∙ ap (λ b. (test k && true) || b) (none_before test (suc n) (n + zero) kinds (omega arith)) ∙ itself (test k)
+  where
+    itself : (b : Bool) → ((b && true) || false) ≡ b
+    itself true = refl
+    itself false = refl
+listed test n (suc t) (k ∷ kinds) l =
+    let there : n + suc t ≡ suc n + t = omega arith in
+    any_first (λ u. u == n + suc t) (test k) n (numbers_from test (suc n) kinds)
+    ∙ ap (λ b. (test k && b) || list_any (λ u. u == n + suc t) (numbers_from test (suc n) kinds)) (other_number n (n + suc t) (λ e. absurd (omega arith)))
+    ∙ none_first (test k) (list_any (λ u. u == n + suc t) (numbers_from test (suc n) kinds))
+    ∙ ap (λ m. list_any (λ u. u == m) (numbers_from test (suc n) kinds)) there ∙ listed test (suc n) t kinds (omega arith)
+  where
+    none_first : (b c : Bool) → ((b && false) || c) ≡ c
+    none_first true c = refl
+    none_first false c = refl
+
+-- each tier is listed among the input tiers or among the free ones, and not among both
+pub input_or_free : (kinds : List TierKind) (t : ℕ) → t < length kinds
+    → list_any (λ u. u == t) (tiers_by_kinds kinds).free ≡ not (list_any (λ u. u == t) (tiers_by_kinds kinds).input)
+input_or_free kinds t l =
+    let same : 0 + t ≡ t = omega arith in
+    ap (λ m. list_any (λ u. u == m) (numbers_from is_free 0 kinds)) (sym same) ∙ listed is_free 0 t kinds l
+    ∙ ap not (sym (ap (λ m. list_any (λ u. u == m) (numbers_from is_input 0 kinds)) (sym same) ∙ listed is_input 0 t kinds l))
+
+-- what is listed is below the number of kinds
+pub listed_within : (test : TierKind → Bool) (n : ℕ) (kinds : List TierKind) → AllByRecursion (λ t. t < n + length kinds) (numbers_from test n kinds)
+listed_within test n [] = tt
+listed_within test n (k ∷ kinds) =
+    all_append (λ t. t < n + length (k ∷ kinds)) (cond (test k) (n ∷ []) []) (numbers_from test (suc n) kinds) (own (test k))
+    (all_weaker (λ t. t < suc n + length kinds) (λ t. t < n + length (k ∷ kinds)) (numbers_from test (suc n) kinds) (λ t h. omega arith) (listed_within test (suc n) kinds))
+  where
+    own : (b : Bool) → AllByRecursion (λ t. t < n + length (k ∷ kinds)) (cond b (n ∷ []) [])
+    own true = (omega arith, tt)
+    own false = tt
+
+-- the input tiers and the free ones are as many as the tiers
+pub input_and_free : (n : ℕ) (kinds : List TierKind) → length (numbers_from is_input n kinds) + length (numbers_from is_free n kinds) ≡ length kinds
+input_and_free n [] = refl
+input_and_free n (k ∷ kinds) =
+    omega (
+      arith,
+      length-append (cond (is_input k) (n ∷ []) []) (numbers_from is_input (suc n) kinds),
+      length-append (cond (is_free k) (n ∷ []) []) (numbers_from is_free (suc n) kinds),
+      one (is_input k),
+      input_and_free (suc n) kinds,
+    )
+  where
+    one : (b : Bool) → length (cond b (n ∷ []) []) + length (cond (not b) (n ∷ []) []) ≡ 1
+    one true = refl
+    one false = refl
+
+-- the tiers that are no input tiers are as many as the free ones
+pub free_tiers : (kinds : List TierKind) (inputs : ℕ) → tiers_of inputs ≡ (tiers_by_kinds kinds).input → length kinds - input_count inputs ≡ length (tiers_by_kinds kinds).free
+free_tiers kinds inputs e =
+    let all : length (numbers_from is_input 0 kinds) + length (numbers_from is_free 0 kinds) ≡ length kinds = input_and_free 0 kinds in
+    let some : input_count inputs ≡ length (numbers_from is_input 0 kinds) = ap length e in
+    omega arith

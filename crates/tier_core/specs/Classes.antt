@@ -1,5 +1,5 @@
 -- Classes of columns, by a set of symbols for each tier.
-use Rattle.std.specs.Prelude.{ℕ, Bool, true, false, ◌&&◌, List, [], ◌∷◌, take}
+use Rattle.std.specs.Prelude.{ℕ, Bool, true, false, ◌&&◌, IsTrue, List, [], ◌∷◌, take}
 use Rattle.tier_core.specs.declared.sym.Sym.{Sym}
 use Rattle.tier_core.specs.declared.class.Class.{Class}
 use Rattle.tier_core.specs.Sets.{is_in}
@@ -18,3 +18,7 @@ sets_have (set ∷ sets) (s ∷ column) = is_in set s && sets_have sets column
 -- whether a class holds a column; it holds none of another width
 abbrev pub has : Class → List Sym → Bool
 has class column = sets_have (sets_of class) column
+
+-- no column is in both classes
+abbrev pub AreApart : Class → Class → Type 0
+AreApart c d = (column : List Sym) → IsTrue (has c column) → IsTrue (has d column) → ⊥

@@ -1,5 +1,5 @@
 -- Kinds of prefixes as plain lists, and their order.
-use Rattle.std.specs.Prelude.{ℕ, ◌+◌, ◌-◌, Bool, true, false, if◌then◌else◌, List, map, length}
+use Rattle.std.specs.Prelude.{ℕ, ◌^◌, ◌<◌, Bool, true, false, if◌then◌else◌, List, map}
 use Rattle.std.specs.List.{range_with_len}
 use Rattle.std.specs.Ordering.{nat_cmp, ordering_then}
 use Rattle.std.specs.Cmp.Lexicographic.{slice_cmp}
@@ -31,20 +31,43 @@ abbrev pub open_rank : Bool → ℕ
 open_rank false = 0
 open_rank true = 1
 
+-- the first tier that is open in one of two alone decides
+abbrev pub open_order : List Bool → List Bool → Ordering
+open_order a b = slice_cmp nat_cmp (map open_rank a) (map open_rank b)
+
+-- the first stretch implication whose phases differ decides
+abbrev pub phase_order : List Phase → List Phase → Ordering
+phase_order a b = slice_cmp nat_cmp (map phase_rank a) (map phase_rank b)
+
 -- kinds are compared by place, then by open tiers, then by phases
 abbrev pub kind_order : PrefixKind → PrefixKind → Ordering
-kind_order k l = ordering_then (nat_cmp k.place l.place)
-    (ordering_then (slice_cmp nat_cmp (map open_rank k.opened) (map open_rank l.opened))
-    (slice_cmp nat_cmp (map phase_rank k.phases) (map phase_rank l.phases)))
+kind_order k l = ordering_then (nat_cmp k.place l.place) (ordering_then (open_order k.opened l.opened) (phase_order k.phases l.phases))
 
 -- the phase that the bits of a stretch implication tell
 abbrev pub phase_by_bits : Bool → Bool → Phase
 phase_by_bits is_unmet is_met = if is_met then met else (if is_unmet then unmet else closed)
 
+-- the phase that a kind's bits tell of a stretch implication
+abbrev pub phase_at : Kind → ℕ → Phase
+phase_at kind i = phase_by_bits (has_tier kind.unmet i) (has_tier kind.met i)
+
+-- no bit of `unmet` and `met` is set from place n on
+pub record AreStretchesBelow (n : ℕ) (kind : Kind) : Type 0 where
+  pub unmet : kind.unmet < 2 ^ n
+  pub met : kind.met < 2 ^ n
+
+-- whether each of so many free tiers is open
+abbrev pub open_tiers : ℕ → ℕ → List Bool
+open_tiers free opened = map (has_tier opened) (range_with_len 0 free)
+
+-- the phases of so many stretch implications
+abbrev pub phases : ℕ → Kind → List Phase
+phases stretches kind = map (phase_at kind) (range_with_len 0 stretches)
+
 -- what the bits of a kind say of so many free tiers and so many stretch implications
 abbrev pub prefix_kind : ℕ → ℕ → Kind → PrefixKind
 prefix_kind free stretches kind = record {
   place = kind.place;
-  opened = map (has_tier kind.opened) (range_with_len 0 free);
-  phases = map (λ i. phase_by_bits (has_tier kind.unmet i) (has_tier kind.met i)) (range_with_len 0 stretches);
+  opened = open_tiers free kind.opened;
+  phases = phases stretches kind;
 }

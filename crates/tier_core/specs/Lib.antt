@@ -10,3 +10,4 @@ pub mod Sets
 pub mod Classes
 pub mod Kinds
 pub mod Shapes
+pub mod KindShapes

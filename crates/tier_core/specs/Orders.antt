@@ -1,5 +1,5 @@
 -- Timelines are compared by number of columns first, then column by column, symbol by symbol.
-use Rattle.std.specs.Prelude.{ℕ, IsTrue, List, length}
+use Rattle.std.specs.Prelude.{IsTrue, List, length}
 use Rattle.std.specs.Ordering.{nat_cmp, ordering_then, is_le}
 use Rattle.std.specs.Cmp.Lexicographic.{slice_cmp}
 use Rattle.std.specs.declared.cmp.Ordering.{Ordering}

@@ -1,6 +1,6 @@
 ghost use Rattle.std.specs.Prelude.{◌≡◌, ◌<◌, ◌≤◌, ◌↔◌, ℕ, List, length, IsTrue, slice_index_or, map};
 ghost use Rattle.tier_core.specs.declared.sym.Sym.{Sym};
-ghost use Rattle.tier_core.specs.Sets.{AreSets, AreEmptyFrom, single_set};
+ghost use Rattle.tier_core.specs.Sets.{AreSets, AreEmptyFrom, single_set, is_in};
 
 use crate::column::Column;
 use crate::sym::Sym;
@@ -34,6 +34,20 @@ fn alone(sym: Sym) -> u8
     }
 }
 
+/// Whether a symbol is in the set of a number.
+fn is_in(set: u8, sym: Sym) -> bool
+    ensures { result ≡ is_in set sym }
+{
+    let place = match sym {
+        Sym::Outside => 0,
+        Sym::Inside => 1,
+        Sym::Start => 2,
+        Sym::End => 3,
+        Sym::Both => 4,
+    };
+    (set >> place) & 1 == 1
+}
+
 impl Class {
     ghost use Rattle.tier_core.specs.Classes.{sets_of, has};
 
@@ -50,6 +64,40 @@ impl Class {
             sets,
             width: column.width(),
         }
+    }
+
+    /// The class of the columns whose symbol on each tier is in the set of that tier's number. There
+    /// are from 1 to 12 numbers, each below 32.
+    pub fn of_bits(bits: &[u8]) -> Class
+        requires some { 1 ≤ length bits.now }
+        requires few { length bits.now ≤ 12 }
+        requires sets { AreSets bits.now }
+        ensures { sets_of result ≡ bits.now }
+    {
+        let mut sets = [0; 12];
+        for (tier, set) in bits.iter().enumerate() {
+            sets[tier] = *set;
+        }
+        Class {
+            sets,
+            width: bits.len() as u32,
+        }
+    }
+
+    /// Whether the column is in the class: it has as many tiers, and its symbol on each is in that
+    /// tier's set.
+    pub fn has(&self, column: &Column) -> bool
+        ensures { result ≡ has self.now column.now }
+    {
+        if column.width() != self.width() {
+            return false;
+        }
+        for (tier, sym) in column.syms().iter().enumerate() {
+            if !is_in(self.sets[tier], *sym) {
+                return false;
+            }
+        }
+        true
     }
 
     /// The number of a tier's set, which is below 32. Tiers are counted from 0.

@@ -17,10 +17,13 @@ mod constraint;
 mod event;
 mod form;
 mod kind;
+mod kind_order;
 mod order;
 mod projection;
 mod shape;
 mod sym;
+#[cfg(test)]
+mod tests;
 mod tier;
 mod timeline;
 
@@ -30,6 +33,7 @@ pub use constraint::{Constraint, Family};
 pub use event::{Event, EventList, Part};
 pub use form::{has_edge, reduced, well_formed};
 pub use kind::Kind;
+pub use kind_order::kind_cmp;
 pub use order::{column_cmp, timeline_cmp};
 pub use projection::{project, squeeze};
 pub use shape::Shape;

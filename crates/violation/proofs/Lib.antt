@@ -11,12 +11,12 @@ pub mod CountSteps
 pub mod OpenLemmas
 pub mod KindLemmas
 pub mod MoveLemmas
-pub mod RestLemmas
-pub mod Exchange
 pub mod PlaceLemmas
 pub mod TierLemmas
 pub mod PrefixLemmas
 pub mod CompletionLemmas
 pub mod WalkLemmas
 pub mod SplitLemmas
-pub mod ExchangeCandidates
+pub mod CostLemmas
+pub mod CandidateLemmas
+pub mod ExampleLemmas

@@ -1,7 +1,6 @@
--- The place of a prefix in its form.
-use Rattle.std.proofs.Common.{◌≡◌, ℕ, ◌+◌, ◌<◌, Bool, true, false, cond, List, [], ◌∷◌, ◌++◌, map, take, drop, length, get_or, refl, sym, ap, ◌∙◌, subst, arith}
-use Rattle.std.proofs.lemmas.List.{map_more, map-append, take-append-drop, take_at, get_or-map, length-map}
-use Rattle.std.proofs.lemmas.List.Elements.{filter-append}
+-- An input tier is open after a prefix where it is open after its squeezed input part.
+use Rattle.std.proofs.Common.{◌≡◌, ℕ, ◌<◌, Bool, true, false, cond, List, [], ◌∷◌, map, length, get_or, refl, sym, ap, ◌∙◌, subst, arith}
+use Rattle.std.proofs.lemmas.List.{get_or-map, length-map}
 use Rattle.std.proofs.lemmas.List.Folds.{list_any_at}
 use Rattle.std.proofs.lemmas.Bool.{false≢true, false_from_ne_true, and_parts}
 use Rattle.tier_core.specs.declared.sym.Sym.{Sym}
@@ -10,24 +9,6 @@ use Rattle.tier_core.specs.Scan.{fits, opens}
 use Rattle.tier_core.specs.Timelines.{word, symbol, is_edge, has_edge, project, squeeze}
 use Rattle.tier_core.proofs.WordLemmas.{open_at}
 use Rattle.violation.proofs.OpenLemmas.{reads}
-
--- one more column adds its input part, if that has an edge
-pub squeezed_more : (inputs : List ℕ) (T : List (List Sym)) (k : ℕ) → k < length T
-    → squeeze (project inputs (take (k + 1) T)) ≡ squeeze (project inputs (take k T)) ++ cond (has_edge (map (symbol (get_or T k [])) inputs)) (map (symbol (get_or T k [])) inputs ∷ []) []
-squeezed_more inputs T k l =
-    ap squeeze (map_more (λ column. map (symbol column) inputs) T k [] l)
-    ∙ filter-append has_edge (project inputs (take k T)) (map (symbol (get_or T k [])) inputs ∷ [])
-
--- the squeezed input part of a prefix is a prefix of the form
-pub place_prefix : (inputs : List ℕ) (T u : List (List Sym)) (k : ℕ) → squeeze (project inputs T) ≡ u
-    → take (length (squeeze (project inputs (take k T)))) u ≡ squeeze (project inputs (take k T))
-place_prefix inputs T u k h =
-    let split : squeeze (project inputs T) ≡ squeeze (project inputs (take k T)) ++ squeeze (project inputs (drop k T)) =
-    ap (λ U. squeeze (project inputs U)) (sym (take-append-drop k T))
-    ∙ ap squeeze (map-append (λ column. map (symbol column) inputs) (take k T) (drop k T))
-    ∙ filter-append has_edge (project inputs (take k T)) (project inputs (drop k T)) in
-    ap (take (length (squeeze (project inputs (take k T))))) (sym h ∙ split)
-    ∙ take_at (squeeze (project inputs (take k T))) (squeeze (project inputs (drop k T))) (length (squeeze (project inputs (take k T)))) refl
 
 stays_open : (b : Bool) (s : Sym) → fits b s ≡ true → is_edge s ≡ false → opens s ≡ b
 stays_open true Outside f e = absurd (false≢true f)

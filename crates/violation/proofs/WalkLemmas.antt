@@ -143,7 +143,7 @@ module _ (tiers : Tiers) (constraints : List Constraint) (r : ℕ) (u : List (Li
         subst (λ k. HasMoves tiers constraints r u k s) (sym (moved_is p column (s ++ q, next))) (candidate_walk s (p ++ column ∷ []) q next),
       )
 
-  candidate_final : (T : List (List Sym)) → IsCandidate tiers u T → IsTrue (is_final u (kind_of tiers constraints r T))
+  pub candidate_final : (T : List (List Sym)) → IsCandidate tiers u T → IsTrue (is_final u (kind_of tiers constraints r T))
   candidate_final T c =
       and_from _ _ (eq-eqb (length (input_part tiers T)) (length u) (ap length c.input))
       (not_from_false _ (any_none (λ flag. flag) (map (λ t. is_open (word T t)) tiers.free) (all_map (λ flag. flag ≡ false) (λ t. is_open (word T t)) tiers.free
@@ -153,7 +153,7 @@ module _ (tiers : Tiers) (constraints : List Constraint) (r : ℕ) (u : List (Li
       open_read false (word T t) (runs_reads false (word T t) w) ∙ runs_closed false (word T t) w)
       split.free_below))))
 
-  final_candidate : (T : List (List Sym)) → IsBegun tiers u T → IsTrue (is_final u (kind_of tiers constraints r T)) → IsCandidate tiers u T
+  pub final_candidate : (T : List (List Sym)) → IsBegun tiers u T → IsTrue (is_final u (kind_of tiers constraints r T)) → IsCandidate tiers u T
   final_candidate T b f =
       let parts : ((length (input_part tiers T) == length u) ≡ true) × (not (list_any (λ flag. flag) (map (λ t. is_open (word T t)) tiers.free)) ≡ true) = and_parts _ _ f in
       ended_candidate tiers u split form T b (eqb-true _ _ parts.0) (not-true _ parts.1)

@@ -7,3 +7,4 @@ pub mod Columns
 pub mod Moves
 pub mod Walks
 pub mod Conditions
+pub mod Examples

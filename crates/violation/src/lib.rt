@@ -10,7 +10,14 @@
 //! Optimality Theory (ACL 1997). What they count is this project's.
 #![tactic(auto)]
 
+mod candidate;
 mod column;
 mod count;
+pub mod examples;
+#[cfg(test)]
+mod tests;
+mod vectors;
 
+pub use candidate::is_candidate;
 pub use count::violations;
+pub use vectors::{vector, vector_cmp};

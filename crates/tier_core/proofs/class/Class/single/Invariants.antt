@@ -1,4 +1,4 @@
-use Rattle.std.proofs.Common.{◌≡◌, ◌<◌, ◌≤◌, ℕ, length, slice_index_or, take, map}
+use Rattle.std.proofs.Common.{◌≡◌, length, take, map}
 use Rattle.tier_core.specs.Sets.{AreSets, AreEmptyFrom, single_set}
 use Rattle.tier_core.proofs.class.Class.single.Given as goal
 

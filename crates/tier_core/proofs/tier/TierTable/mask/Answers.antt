@@ -1,7 +1,7 @@
-use Rattle.std.proofs.Common.{◌≡◌, ◌<◌, ◌≤◌, ◌^◌, ℕ, ◌+◌, length, true, false, ap, sym, ◌∙◌, arith}
+use Rattle.std.proofs.Common.{◌≡◌, length, ap, sym, ◌∙◌, arith}
 use Rattle.std.proofs.lemmas.Bool.{false≢true}
 use Rattle.tier_core.specs.Tiers.{kind_at}
-use Rattle.tier_core.proofs.MaskLemmas.{IsMaskBelow, mask_with, mask_without}
+use Rattle.tier_core.proofs.MaskLemmas.{mask_with, mask_without}
 use Rattle.tier_core.proofs.tier.TierTable.mask.Goals as goal
 use Rattle.tier_core.proofs.tier.TierTable.mask.Goals.{then-is_same, else-is_same}
 

@@ -1,0 +1,53 @@
+-- The classes of one state's moves are disjoint, so that a word is read by one run.
+use Rattle.std.proofs.Common.{◌≡◌, ℕ, suc, List, [], ◌∷◌, length, get_or, refl, sym, ap, ◌∙◌, subst, inl, inr}
+use Rattle.std.specs.Prelude.{Contains, AllPairs, IsTrue}
+use Rattle.std.proofs.lemmas.Bool.{cases_order}
+use Rattle.std.proofs.lemmas.List.{get_or_default}
+use Rattle.weight_law.specs.declared.Weight.{Ghosts}
+use Rattle.tier_core.specs.declared.sym.Sym.{Sym}
+use Rattle.tier_core.specs.Classes.{has}
+use Rattle.arc_table.specs.declared.arc.TableArc.{TableArc}
+use Rattle.arc_table.specs.declared.state.TableState.{TableState}
+use Rattle.arc_table.specs.Moves.{moves_at}
+use Rattle.arc_table.specs.Conditions.{AreDisjoint, ClassesDisjoint}
+use Rattle.arc_table.specs.Runs.{IsRun, Reads}
+
+module _ {V : Type 0} {h : Ghosts V} where
+  pub length_read : (arcs : List (TableArc V h)) (word : List (List Sym)) → Reads arcs word → length word ≡ length arcs
+  length_read [] [] r = refl
+  length_read [] (c ∷ word) r = absurd r
+  length_read (a ∷ arcs) [] r = absurd r
+  length_read (a ∷ arcs) (c ∷ word) r = ap suc (length_read arcs word r.1)
+
+  -- moves that hold one column are one
+  pub same_move : (arcs : List (TableArc V h)) → AllPairs (λ a b. AreDisjoint a.class b.class) arcs → (a b : TableArc V h) (column : List Sym) → Contains arcs a → Contains arcs b → IsTrue (has a.class column) → IsTrue (has b.class column) → a ≡ b
+  same_move arcs disjoint a b column ina inb ha hb = elim (cases_order ina.0 inb.0) [
+    | inl same ↦ sym ina.2 ∙ (ap (λ k. get_or arcs k a) same ∙ (get_or_default arcs inb.0 a b inb.1 ∙ inb.2))
+    | inr other ↦ elim other [
+      | inl less ↦
+          (let P : TableArc V h → Type 0 = λ x. AreDisjoint x.class (get_or arcs inb.0 a).class in
+          let Q : TableArc V h → Type 0 = λ x. AreDisjoint a.class x.class in
+          let pair : AreDisjoint a.class b.class = subst Q (get_or_default arcs inb.0 a b inb.1 ∙ inb.2) (subst P ina.2 (disjoint ina.0 inb.0 a less inb.1)) in
+          absurd (pair column ha hb))
+      | inr more ↦
+          (let P : TableArc V h → Type 0 = λ x. AreDisjoint x.class (get_or arcs ina.0 b).class in
+          let Q : TableArc V h → Type 0 = λ x. AreDisjoint b.class x.class in
+          let pair : AreDisjoint b.class a.class = subst Q (get_or_default arcs ina.0 b a ina.1 ∙ ina.2) (subst P inb.2 (disjoint inb.0 ina.0 b more ina.1)) in
+          absurd (pair column hb ha))
+    ]
+  ]
+
+  -- a word is read by one run from a state at most
+  pub one_run : (states : List (TableState V h)) → ClassesDisjoint states → (s : ℕ) (xs ys : List (TableArc V h)) (word : List (List Sym)) → IsRun states s xs → IsRun states s ys → Reads xs word → Reads ys word → xs ≡ ys
+  one_run states disjoint s [] [] [] rx ry hx hy = refl
+  one_run states disjoint s [] [] (c ∷ word) rx ry hx hy = refl
+  one_run states disjoint s [] (y ∷ ys) [] rx ry hx hy = absurd hy
+  one_run states disjoint s [] (y ∷ ys) (c ∷ word) rx ry hx hy = absurd hx
+  one_run states disjoint s (x ∷ xs) [] [] rx ry hx hy = absurd hx
+  one_run states disjoint s (x ∷ xs) [] (c ∷ word) rx ry hx hy = absurd hy
+  one_run states disjoint s (x ∷ xs) (y ∷ ys) [] rx ry hx hy = absurd hx
+  one_run states disjoint s (x ∷ xs) (y ∷ ys) (c ∷ word) rx ry hx hy =
+      let same : y ≡ x = same_move (moves_at states s) (disjoint s) y x c ry.0 rx.0 hy.0 hx.0 in
+      let P : TableArc V h → Type 0 = λ a. IsRun states a.target ys in
+      let rest : xs ≡ ys = one_run states disjoint x.target xs ys word rx.1 (subst P same ry.1) hx.1 hy.1 in
+      ap (λ z. z ∷ xs) (sym same) ∙ ap (λ zs. y ∷ zs) rest

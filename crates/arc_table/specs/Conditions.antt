@@ -1,0 +1,37 @@
+-- What the states of every table meet.
+use Rattle.std.specs.Prelude.{◌≡◌, ℕ, Bool, ◌<◌, List, Contains, AllPairs, IsTrue, length}
+use Rattle.std.specs.List.{list_all, list_any}
+use Rattle.weight_law.specs.declared.Weight.{Ghosts}
+use Rattle.tier_core.specs.declared.sym.Sym.{Sym}
+use Rattle.tier_core.specs.declared.class.Class.{Class}
+use Rattle.tier_core.specs.Symbols.{symbols}
+use Rattle.tier_core.specs.Sets.{is_in}
+use Rattle.tier_core.specs.Classes.{sets_of, has}
+use Rattle.arc_table.specs.declared.arc.TableArc.{TableArc}
+use Rattle.arc_table.specs.declared.state.TableState.{TableState}
+use Rattle.arc_table.specs.Moves.{moves_at}
+
+-- no column is in both classes
+abbrev pub AreDisjoint : Class → Class → Type 0
+AreDisjoint a b = (column : List Sym) → IsTrue (has a column) → IsTrue (has b column) → ⊥
+
+-- whether each tier's set has a symbol, which is so where some column is in the class
+abbrev pub is_filled : Class → Bool
+is_filled class = list_all (λ set. list_any (is_in set) symbols) (sets_of class)
+
+-- each move leads to a state
+abbrev pub TargetsExist : {W : Type 0} {g : Ghosts W} → List (TableState W g) → Type 0
+TargetsExist {W} {g} states = (s : ℕ) (arc : TableArc W g) → Contains (moves_at states s) arc → arc.target < length states
+
+-- the classes of one state's moves are disjoint, so a column leads to one state at most
+abbrev pub ClassesDisjoint : {W : Type 0} {g : Ghosts W} → List (TableState W g) → Type 0
+ClassesDisjoint states = (s : ℕ) → AllPairs (λ a b. AreDisjoint a.class b.class) (moves_at states s)
+
+-- no class is empty
+abbrev pub ClassesFilled : {W : Type 0} {g : Ghosts W} → List (TableState W g) → Type 0
+ClassesFilled {W} {g} states = (s : ℕ) (arc : TableArc W g) → Contains (moves_at states s) arc → IsTrue (is_filled arc.class)
+
+-- all classes have one width
+abbrev pub OneWidth : {W : Type 0} {g : Ghosts W} → List (TableState W g) → Type 0
+OneWidth {W} {g} states =
+    (s t : ℕ) (a b : TableArc W g) → Contains (moves_at states s) a → Contains (moves_at states t) b → length (sets_of a.class) ≡ length (sets_of b.class)

@@ -1,0 +1,5 @@
+pub mod Moves
+pub mod Runs
+pub mod Conditions
+pub mod States
+pub mod FirstColumn

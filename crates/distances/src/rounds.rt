@@ -1,0 +1,89 @@
+ghost use Rattle.std.specs.Prelude.{◌≡◌, ◌<◌, ◌≤◌, ◌+◌, ℕ, IfOk, length, false};
+ghost use Rattle.arc_table.specs.Runs.{SizesWithin};
+ghost use Rattle.arc_table.specs.States.{states_of};
+ghost use Rattle.distances.specs.Best.{initial_of};
+ghost use Rattle.distances.specs.Rounds.{AreWitnessed, IsCovered, AreClosed};
+ghost use Rattle.distances.specs.Least.{AreLeast};
+
+use crate::look::best;
+use arc_table::Table;
+use std::alloc::{AllocError, Global};
+use std::cmp::Ordering;
+use tier_core::NoMemory;
+use weight_law::Weight;
+
+/// What is known with no move: zero at accepting states.
+fn initial<W: Weight>(alloc: Global, table: &Table<W>) -> Result<Vec<Option<W>>, AllocError>
+    ensures { IfOk result (λ least. least.items ≡ initial_of (states_of table.now)) }
+{
+    let mut least = Vec::new(alloc);
+    for state in 0..table.len() {
+        let known = if table.accepting(state) {
+            Some(W::zero())
+        } else {
+            None
+        };
+        least.push(known)?;
+    }
+    Ok(least)
+}
+
+/// Whether two weights differ, of which either may be missing.
+fn differ<W: Weight>(a: Option<W>, b: Option<W>) -> bool
+    ensures { result ≡ false → a ≡ b }
+{
+    match (a, b) {
+        (None, None) => false,
+        (Some(a), Some(b)) => match a.compare(&b) {
+            Ordering::Equal => false,
+            _ => true,
+        },
+        _ => true,
+    }
+}
+
+/// Looks at the moves of each state once, the last state first, since arcs mostly lead to later
+/// states. Tells whether anything changed.
+fn round<W: Weight>(table: &Table<W>, least: &mut [Option<W>]) -> bool
+    requires each_state { length least.old ≡ length (states_of table.now) }
+    requires sizes { SizesWithin (states_of table.now) u32.MAX }
+    requires witnessed { AreWitnessed (states_of table.now) least.old }
+    ensures each_state { length least.new ≡ length (states_of table.now) }
+    ensures witnessed { AreWitnessed (states_of table.now) least.new }
+    ensures covered { (k : ℕ) → IsCovered (states_of table.now) least.old k → IsCovered (states_of table.now) least.new (k + 1) }
+    ensures closed { result ≡ false → AreClosed (states_of table.now) least.new }
+{
+    let mut changed = false;
+    let count = table.len();
+    for done in 0..count {
+        let state = count - 1 - done;
+        let known = least[state as usize];
+        let found = best(table.arcs(state), least, known);
+        changed |= differ(known, found);
+        least[state as usize] = found;
+    }
+    changed
+}
+
+/// The least weights, by rounds until nothing changes.
+fn by_rounds<W: Weight>(alloc: Global, table: &Table<W>) -> Result<Vec<Option<W>>, AllocError>
+    requires { SizesWithin (states_of table.now) u32.MAX }
+    ensures { IfOk result (λ least. AreLeast (states_of table.now) least.items) }
+{
+    let mut least = initial(alloc, table)?;
+    for _rounds in 0..table.len() {
+        if !round(table, &mut least) {
+            return Ok(least);
+        }
+    }
+    Ok(least)
+}
+
+/// For each state the least weight of a path from it to an accepting state, and `None` exactly where
+/// there is no such path. The number of states times the greatest size of an arc has to fit in 32 bits.
+pub fn to_final<W: Weight>(alloc: Global, table: &Table<W>) -> Result<Vec<Option<W>>, NoMemory>
+    requires { SizesWithin (states_of table.now) u32.MAX }
+    ensures { IfOk result (λ least. AreLeast (states_of table.now) least.items) }
+{
+    by_rounds(alloc, table).map_err(|_| NoMemory)
+}

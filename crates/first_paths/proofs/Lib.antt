@@ -1,0 +1,4 @@
+pub mod Counting
+pub mod Order
+pub mod FirstFrom
+pub mod Choosing

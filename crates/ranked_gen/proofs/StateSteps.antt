@@ -1,0 +1,139 @@
+-- Kinds by their place and their set of open free tiers.
+use Rattle.std.proofs.Common.{◌≡◌, ◌≢◌, ℕ, zero, suc, ◌+◌, ◌-◌, ◌*◌, ◌/◌, ◌%◌, ◌^◌, ◌==◌, ◌&&◌, not, ◌<◌, ◌≤◌, Bool, true, false, cond, List, [], ◌∷◌, ◌++◌, map, length, take, drop, get_or, count_by, refl, ap, sym, ◌∙◌, subst, arith, eq-eqb, ne_eqb, mod-eq_of_lt, append-nil}
+use Rattle.std.specs.List.{list_any, range_with_len}
+use Rattle.std.proofs.lemmas.Nat.{pow_pos, div-mul-add}
+use Rattle.std.proofs.lemmas.Bool.{le-ltb, lt-ltb}
+use Rattle.std.proofs.Math.Nat.{mul-le-mul, pow-le-pow_right}
+use Rattle.std.proofs.lemmas.List.{length-map, get_or-map, length_push, length-take-le, get_or-take, map-append}
+use Rattle.std.proofs.lemmas.List.FromFn.{fill_by_all, get_or-map-range_with_len, length-map-range_with_len}
+use Rattle.std.proofs.lemmas.Simd.{map-map}
+use Rattle.tier_core.specs.declared.sym.Sym.{Sym}
+use Rattle.tier_core.specs.declared.sym.Sym.TheVariants.{Outside}
+use Rattle.tier_core.specs.Tiers.{Tiers, numbers_from, has_tier}
+use Rattle.tier_core.specs.Kinds.{PrefixKind}
+use Rattle.tier_core.specs.Scan.{opens}
+use Rattle.tier_core.specs.Timelines.{word, symbol, column_at}
+use Rattle.tier_core.proofs.CountLemmas.{count_cons}
+use Rattle.tier_core.proofs.WordLemmas.{open_at}
+use Rattle.tier_core.proofs.WordForm.{runs_from_well_formed}
+use Rattle.violation.specs.Candidates.{IsForm}
+use Rattle.violation.specs.Prefixes.{is_open}
+use Rattle.violation.specs.Moves.{is_final, form_opened}
+use Rattle.violation.proofs.OpenLemmas.{prefix_open, take_word}
+use Rattle.answer_text.specs.declared.stage.Node.{Node}
+use Rattle.answer_text.specs.declared.automaton.StateLine.{StateLine}
+use Rattle.ranked_gen.specs.Numbers.{number_of_flags, flags_of, kind_numbered}
+use Rattle.ranked_gen.specs.Arcs.{still, staying, moves_with, moves_from}
+use Rattle.ranked_gen.specs.Listed.{move_view, IsNodeNumbered, IsStateNumbered, AreNumbered, AreListed}
+use Rattle.ranked_gen.proofs.NumberLemmas.{flags_of-low, number-flags_of, same_kind, kind_from}
+
+-- the kind of a place and a set
+pub kind_at_place : (f place opened : ℕ) → opened < 2 ^ f → kind_numbered f (place * 2 ^ f + opened) ≡ kind_from place (flags_of f opened) []
+kind_at_place f place opened l = same_kind (div-mul-add place (2 ^ f) opened l) (flags_of-low f f place opened (omega arith)) refl
+
+-- no flag is set where the number is 0
+none_set : (flags : List Bool) → not (list_any (λ flag. flag) flags) ≡ (number_of_flags flags == 0)
+none_set [] = refl
+none_set (true ∷ flags) = let other : 2 ^ length flags + number_of_flags flags ≢ 0 = λ e. absurd (omega (arith, pow_pos (length flags))) in sym (ne_eqb (2 ^ length flags + number_of_flags flags) 0 other)
+none_set (false ∷ flags) = let same : number_of_flags flags ≡ 0 + number_of_flags flags = omega arith in none_set flags ∙ ap (λ n. n == 0) same
+
+-- a kind is final at the end of the form with no tier open
+pub final_at : (u : List (List Sym)) (f place opened : ℕ) → opened < 2 ^ f → ((place == length u) && (opened == 0)) ≡ is_final u (kind_numbered f (place * 2 ^ f + opened))
+final_at u f place opened l =
+    sym (ap (is_final u) (kind_at_place f place opened l)
+    ∙ ap (λ b. (place == length u) && b) (none_set (flags_of f opened) ∙ ap (λ n. n == 0) (number-flags_of f opened ∙ mod-eq_of_lt l)))
+
+-- how many tiers pass
+pub numbers_count : {X : Type 0} (test : X → Bool) (n : ℕ) (xs : List X) → length (numbers_from test n xs) ≡ count_by test xs
+numbers_count test n [] = refl
+numbers_count test n (x ∷ xs) = go (test x) (numbers_count test (suc n) xs) ∙ sym (count_cons test x xs)
+  where
+    go : (b : Bool) → length (numbers_from test (suc n) xs) ≡ count_by test xs → length (cond b (n ∷ []) [] ++ numbers_from test (suc n) xs) ≡ cond b 1 0 + count_by test xs
+    go true e = omega arith
+    go false e = omega arith
+
+-- whether a tier is open after one symbol more
+open_suc : (b : Bool) (w : List Sym) (q : ℕ) → q < length w → open_at b w (suc q) ≡ opens (get_or w q Outside)
+open_suc b [] q l = absurd (omega arith)
+open_suc b (s ∷ w) zero l = refl
+open_suc b (s ∷ w) (suc q) l = open_suc (opens s) w q (omega arith)
+
+module _ (tiers : Tiers) (u : List (List Sym)) (form : IsForm tiers u) where
+  open_after : (p j : ℕ) → p < length u → j < length tiers.input → is_open (word (take (suc p) u) j) ≡ opens (symbol (column_at u p) j)
+  open_after p j l h =
+      let well = runs_from_well_formed (word u j) (form.well_formed.each_tier j h) in
+      let size : length (word u j) ≡ length u = length-map u (λ (column : List Sym). symbol column j) in
+      ap is_open (take_word u (suc p) j) ∙ prefix_open (word u j) (suc p) well (omega arith) ∙ open_suc false (word u j) p (omega arith)
+      ∙ ap opens (get_or-map (λ column. symbol column j) u p [] Outside l)
+
+  -- the symbols that stay after a column
+  pub staying_after : (p : ℕ) → p < length u → length (column_at u p) ≡ length tiers.input → map (λ s. still (opens s)) (column_at u p) ≡ staying tiers u (suc p)
+  staying_after p l wide = fill_by_all at (map (λ s. still (opens s)) (column_at u p)) (length tiers.input) Outside (length-map (column_at u p) (λ (s : Sym). still (opens s)) ∙ wide)
+          (λ j h. get_or-map (λ s. still (opens s)) (column_at u p) j Outside Outside (omega arith) ∙ ap still (sym (open_after p j l h)))
+      ∙ sym (map-map still (λ j. is_open (word (take (suc p) u) j)) (range_with_len 0 (length tiers.input)))
+    where
+      at : ℕ → Sym
+      at j = still (is_open (word (take (suc p) u) j))
+
+  -- the symbols that stay before the first column
+  pub staying_first : (syms : List Sym) → length syms ≡ 12 → length tiers.input ≤ 12 → ((t : ℕ) → get_or syms t Outside ≡ Outside) → take (length tiers.input) syms ≡ staying tiers u 0
+  staying_first syms long few h = fill_by_all (λ j. still (is_open (word (take 0 u) j))) (take (length tiers.input) syms) (length tiers.input) Outside (length-take-le (length tiers.input) syms (omega arith))
+          (λ j l. get_or-take (length tiers.input) syms j Outside l ∙ h j)
+      ∙ sym (map-map still (λ j. is_open (word (take 0 u) j)) (range_with_len 0 (length tiers.input)))
+
+pub length-staying : (tiers : Tiers) (u : List (List Sym)) (place : ℕ) → length (staying tiers u place) ≡ length tiers.input
+length-staying tiers u place = length-map (form_opened tiers u place) still ∙ length-map-range_with_len (λ j. is_open (word (take place u) j)) 0 (length tiers.input)
+
+-- one node and one state more
+pub numbered_more : {X : Type 0} (P : ℕ → X → Type 0) (n : ℕ) (xs : List X) (x : X) → AreNumbered P n xs → P (n + length xs) x → AreNumbered P n (xs ++ x ∷ [])
+numbered_more P n [] x a p = let here : n + 0 ≡ n = omega arith in (subst (λ k. P k x) here p, tt)
+numbered_more P n (y ∷ ys) x a p = let here : n + suc (length ys) ≡ (n + 1) + length ys = omega arith in (a.0, numbered_more P (n + 1) ys x a.1 (subst (λ k. P k x) here p))
+
+pub listed_more : (tiers : Tiers) (u : List (List Sym)) (count : ℕ) (nodes : List Node) (states : List StateLine) (node : Node) (state : StateLine)
+    → AreListed tiers u count nodes states → IsNodeNumbered tiers count node → IsStateNumbered tiers u count state → AreListed tiers u (count + 1) (nodes ++ node ∷ []) (states ++ state ∷ [])
+listed_more tiers u count nodes states node state a n s =
+    let at_node : count ≡ 0 + length nodes = omega (arith, a.node_count) in
+    let at_state : count ≡ 0 + length states = omega (arith, a.state_count) in
+    record {
+      node_count = omega (arith, a.node_count, length_push nodes node);
+      each_node = numbered_more (IsNodeNumbered tiers) 0 nodes node a.each_node (subst (λ k. IsNodeNumbered tiers k node) at_node n);
+      state_count = omega (arith, a.state_count, length_push states state);
+      each_state = numbered_more (IsStateNumbered tiers u) 0 states state a.each_state (subst (λ k. IsStateNumbered tiers u k state) at_state s);
+    }
+
+-- numbers of kinds are small
+pub first_small : (place free : ℕ) → place ≤ 65 → free ≤ 12 → (place * 2 ^ free ≤ 266240) × (2 ^ free ≤ 4096)
+first_small place free l h =
+    let two : 0 < 2 = omega arith in
+    let power : 2 ^ free ≤ 2 ^ 12 = pow-le-pow_right two h in
+    let times : place * 2 ^ free ≤ 65 * 2 ^ 12 = mul-le-mul l power in
+    (omega arith, omega arith)
+
+-- the arcs of a kind, with and without a next column of the form
+module _ (tiers : Tiers) (u : List (List Sym)) (free place opened : ℕ) (count : free ≡ length tiers.free) (small : opened < 2 ^ free) where
+  pub arcs_end : (view : List (ℕ × List ℕ)) → view ≡ [] ++ map move_view (moves_with tiers (staying tiers u place) (flags_of free opened) (place * 2 ^ free)) → length u ≤ place
+      → view ≡ map move_view (moves_from tiers u (kind_numbered free (place * 2 ^ free + opened)))
+  arcs_end view e l =
+      e ∙ ap (map move_view) (ap (λ f. moves_with tiers (staying tiers u place) (flags_of free opened) (place * 2 ^ f)) count ∙ sym (append-nil _)
+          ∙ ap (λ b. moves_with tiers (staying tiers u place) (flags_of free opened) (place * 2 ^ length tiers.free) ++ cond b (moves_with tiers (column_at u place) (flags_of free opened) ((place + 1) * 2 ^ length tiers.free)) []) (sym (le-ltb place (length u) l))
+          ∙ ap (moves_from tiers u) (sym (kind_at_place free place opened small)))
+
+  pub arcs_on : (view now : List (ℕ × List ℕ)) → now ≡ [] ++ map move_view (moves_with tiers (staying tiers u place) (flags_of free opened) (place * 2 ^ free))
+      → view ≡ now ++ map move_view (moves_with tiers (column_at u place) (flags_of free opened) ((place + 1) * 2 ^ free)) → place < length u
+      → view ≡ map move_view (moves_from tiers u (kind_numbered free (place * 2 ^ free + opened)))
+  arcs_on view now e g l =
+      g ∙ ap (λ xs. xs ++ map move_view (moves_with tiers (column_at u place) (flags_of free opened) ((place + 1) * 2 ^ free))) e
+      ∙ sym (map-append move_view (moves_with tiers (staying tiers u place) (flags_of free opened) (place * 2 ^ free)) (moves_with tiers (column_at u place) (flags_of free opened) ((place + 1) * 2 ^ free)))
+      ∙ ap (map move_view) (ap (λ f. moves_with tiers (staying tiers u place) (flags_of free opened) (place * 2 ^ f) ++ moves_with tiers (column_at u place) (flags_of free opened) ((place + 1) * 2 ^ f)) count
+          ∙ ap (λ b. moves_with tiers (staying tiers u place) (flags_of free opened) (place * 2 ^ length tiers.free) ++ cond b (moves_with tiers (column_at u place) (flags_of free opened) ((place + 1) * 2 ^ length tiers.free)) []) (sym (lt-ltb place (length u) l))
+          ∙ ap (moves_from tiers u) (sym (kind_at_place free place opened small)))
+
+-- a node and a state over the number of free tiers that is counted
+pub node_counted : (tiers : Tiers) (free place opened mask : ℕ) → free ≡ length tiers.free → opened < 2 ^ free → map (has_tier mask) (range_with_len 0 free) ≡ flags_of free opened
+    → kind_from place (map (has_tier mask) (range_with_len 0 (length tiers.free))) [] ≡ kind_numbered (length tiers.free) (place * 2 ^ free + opened)
+node_counted tiers free place opened mask count l e =
+    let P : ℕ → Type 0 = λ f. kind_from place (map (has_tier mask) (range_with_len 0 f)) [] ≡ kind_numbered f (place * 2 ^ free + opened) in
+    subst P count (ap (λ o. kind_from place o []) e ∙ sym (kind_at_place free place opened l))
+
+pub nothing_listed : (tiers : Tiers) (u : List (List Sym)) (n : ℕ) → n ≡ 0 → AreListed tiers u n [] []
+nothing_listed tiers u n e = record { node_count = sym e; each_node = tt; state_count = sym e; each_state = tt }

@@ -1,0 +1,94 @@
+ghost use Rattle.std.specs.Prelude.{◌≡◌, ◌≤◌, [], ◌∷◌, length, IfOk};
+ghost use Rattle.tier_core.specs.Tables.{tiers_of_table};
+ghost use Rattle.tier_core.specs.Tiers.{is_free, is_input, numbers_from};
+ghost use Rattle.violation.specs.Candidates.{IsForm};
+ghost use Rattle.answer_text.specs.Right.{IsRight};
+ghost use Rattle.ranked_gen.specs.Listed.{AreListed, kind_count};
+
+use crate::example::{bare_form, copied, is_input};
+use crate::flags::is_free;
+use crate::place::{Listing, list_place};
+use answer_text::{Answer, Automaton, Stage};
+use std::alloc::Global;
+use tier_core::{NoMemory, TierKind, TierTable, Timeline};
+
+/// How many tiers are input tiers.
+fn count_inputs(kinds: &[TierKind]) -> usize
+    ensures value { result ≡ length (numbers_from is_input 0 kinds.now) }
+    ensures few { result ≤ length kinds.now }
+{
+    kinds.iter().filter(|kind| is_input(**kind)).count()
+}
+
+/// How many tiers are free.
+fn count_free(kinds: &[TierKind]) -> usize
+    ensures value { result ≡ length (numbers_from is_free 0 kinds.now) }
+    ensures few { result ≤ length kinds.now }
+{
+    kinds.iter().filter(|kind| is_free(**kind)).count()
+}
+
+/// Lists all kinds: each place of the form with each set of open free tiers.
+fn list_all(
+    alloc: Global,
+    tiers: &TierTable,
+    inputs: usize,
+    free: u32,
+    form: &Timeline,
+) -> Result<Listing, NoMemory>
+    requires form { IsForm (tiers_of_table tiers.now) form.now }
+    requires short { length form.now ≤ 64 }
+    requires input_count { inputs ≡ length (tiers_of_table tiers.now).input }
+    requires few_inputs { inputs ≤ 12 }
+    requires count { free ≡ length (tiers_of_table tiers.now).free }
+    requires few { free ≤ 12 }
+    ensures { IfOk result (λ listing. AreListed (tiers_of_table tiers.now) form.now (kind_count (tiers_of_table tiers.now) form.now) listing.nodes.items listing.states.items) }
+{
+    let mut listing = Listing {
+        nodes: Vec::new(alloc),
+        states: Vec::new(alloc),
+    };
+    for place in 0..form.len() as u32 + 1 {
+        list_place(alloc, tiers, inputs, free, form, place, &mut listing)?;
+    }
+    Ok(listing)
+}
+
+/// A stage of its own, in a list.
+fn one_stage(alloc: Global, stage: Stage) -> Result<Vec<Stage>, NoMemory>
+    ensures { IfOk result (λ stages. stages.items ≡ stage ∷ []) }
+{
+    let mut stages = Vec::new(alloc);
+    match stages.push(stage) {
+        Ok(()) => Ok(stages),
+        Err(_) => Err(NoMemory),
+    }
+}
+
+/// A right answer for a grammar that has these tiers and no constraint, and a form.
+///
+/// The form is well formed and reduced over the input tiers, and has at most 64 columns. The call
+/// fails only for want of memory.
+pub fn generate_free(
+    alloc: Global,
+    tiers: &TierTable,
+    form: &Timeline,
+) -> Result<Answer, NoMemory>
+    requires form { IsForm (tiers_of_table tiers.now) form.now }
+    requires short { length form.now ≤ 64 }
+    ensures { IfOk result (λ answer. IsRight (tiers_of_table tiers.now) [] form.now answer) }
+{
+    let own = copied(alloc, form)?;
+    let example = bare_form(alloc, tiers, form)?;
+    let inputs = count_inputs(tiers.kinds.as_slice());
+    let free = count_free(tiers.kinds.as_slice()) as u32;
+    let Listing { nodes, states } = list_all(alloc, tiers, inputs, free, form)?;
+    let stages = one_stage(alloc, Stage { nodes })?;
+    Ok(Answer {
+        form: own,
+        counts: Vec::new(alloc),
+        example,
+        stages,
+        automaton: Automaton { states },
+    })
+}

@@ -1,0 +1,169 @@
+ghost use Rattle.std.specs.Prelude.{◌≡◌, ◌<◌, ◌≤◌, ◌+◌, ◌^◌, ◌++◌, ◌∷◌, [], length, map, take, filter, OnOk};
+ghost use Rattle.std.specs.List.{range_with_len};
+ghost use Rattle.tier_core.specs.Sets.{single_set};
+ghost use Rattle.tier_core.specs.Timelines.{has_edge};
+ghost use Rattle.tier_core.specs.Tiers.{is_free, has_tier, numbers_from, tiers_by_kinds};
+ghost use Rattle.ranked_gen.specs.Numbers.{flags_of};
+ghost use Rattle.ranked_gen.specs.Arcs.{moves_with};
+ghost use Rattle.ranked_gen.specs.Listed.{arc_view, move_view};
+ghost use Rattle.ranked_gen.specs.Picks.{symbols_of, two_count, picked, symbols_by_flags, symbol_by_bit, bits_of};
+
+use crate::example::{is_input, widened};
+use crate::flags::flags_by_tier;
+use crate::pick::Pick;
+use answer_text::ArcLine;
+use std::alloc::Global;
+use tier_core::{Class, Column, NoMemory, Sym, TierKind, has_edge};
+
+/// The symbols to pick from on one tier.
+fn pick_at(
+    kinds: &[TierKind],
+    given: &[Sym],
+    before: &[bool; 12],
+    after: &[bool; 12],
+    tier: usize,
+) -> Pick
+    requires within { tier < length kinds.now }
+    requires few { length kinds.now ≤ 12 }
+    requires wide { length given.now ≡ length kinds.now }
+    ensures { symbols_of result ≡ symbols_by_flags kinds.now given.now before.now after.now tier }
+{
+    if is_input(kinds[tier]) {
+        Pick::One(given[tier])
+    } else {
+        Pick::between(before[tier], after[tier])
+    }
+}
+
+/// The symbols to pick from on each tier, in columns with given symbols on the input tiers, from
+/// one set of open free tiers to another.
+fn picks(
+    kinds: &[TierKind],
+    given: &[Sym],
+    before: &[bool; 12],
+    after: &[bool; 12],
+) -> [Pick; 12]
+    requires few { length kinds.now ≤ 12 }
+    requires wide { length given.now ≡ length kinds.now }
+    ensures { map symbols_of (take (length kinds.now) result) ≡ map (symbols_by_flags kinds.now given.now before.now after.now) (range_with_len 0 (length kinds.now)) }
+{
+    let mut picks = [Pick::One(Sym::Outside); 12];
+    for tier in 0..kinds.len() {
+        picks[tier] = pick_at(kinds, given, before, after, tier);
+    }
+    picks
+}
+
+/// How many of the tiers have two symbols.
+fn two_count(picks: &[Pick]) -> u32
+    requires { length picks.now ≤ 12 }
+    ensures value { result ≡ two_count picks.now }
+    ensures few { result ≤ length picks.now }
+{
+    picks.iter().filter(|pick| pick.is_two()).count() as u32
+}
+
+/// The symbol that a bit of a number picks.
+fn symbol_picked(pick: Pick, number: u32, bit: u32) -> Sym
+    requires { bit < 32 }
+    ensures { result ≡ symbol_by_bit pick (has_tier number bit) }
+{
+    match pick {
+        Pick::One(sym) => sym,
+        Pick::Two(first, second) => {
+            if (number >> bit) & 1 == 1 {
+                second
+            } else {
+                first
+            }
+        }
+    }
+}
+
+/// How many tiers with two symbols are left after one.
+fn left_after(pick: Pick, left: u32) -> u32
+    requires { bits_of pick ≤ left }
+    ensures { result + bits_of pick ≡ left }
+{
+    match pick {
+        Pick::One(_) => left,
+        Pick::Two(_, _) => left - 1,
+    }
+}
+
+/// The column of a number, of which each tier with two symbols takes a bit.
+fn picked(alloc: Global, picks: &[Pick], twos: u32, number: u32) -> Column
+    requires some { 1 ≤ length picks.now }
+    requires few { length picks.now ≤ 12 }
+    requires count { twos ≡ two_count picks.now }
+    ensures { result ≡ picked picks.now number }
+{
+    let mut syms = [Sym::Outside; 12];
+    let mut left = twos;
+    for (tier, pick) in picks.iter().enumerate() {
+        left = left_after(*pick, left);
+        syms[tier] = symbol_picked(*pick, number, left);
+    }
+    Column::from_syms(alloc, &syms[..picks.len()])
+}
+
+/// Adds an arc to a target for one column.
+fn push_arc(arcs: &mut Vec<ArcLine>, target: u32, column: &Column) -> Result<(), NoMemory>
+    ensures { OnOk result (map arc_view arcs.new.items ≡ map arc_view arcs.old.items ++ move_view (target, column.now) ∷ []) }
+{
+    let class = Class::single(column);
+    match arcs.push(ArcLine { target, class }) {
+        Ok(()) => Ok(()),
+        Err(_) => Err(NoMemory),
+    }
+}
+
+/// Adds an arc to a target for each column that can be picked and has an edge.
+fn push_columns(
+    alloc: Global,
+    arcs: &mut Vec<ArcLine>,
+    picks: &[Pick],
+    target: u32,
+) -> Result<(), NoMemory>
+    requires some { 1 ≤ length picks.now }
+    requires few { length picks.now ≤ 12 }
+    ensures { OnOk result (map arc_view arcs.new.items ≡ map arc_view arcs.old.items ++ map (λ column. move_view (target, column)) (filter has_edge (map (picked picks.now) (range_with_len 0 (2 ^ two_count picks.now))))) }
+{
+    let twos = two_count(picks);
+    for number in 0..1u32 << twos {
+        let column = picked(alloc, picks, twos, number);
+        if has_edge(&column) {
+            push_arc(arcs, target, &column)?;
+        }
+    }
+    Ok(())
+}
+
+/// Adds the arcs for the moves with given symbols on the input tiers, from a set of open free tiers
+/// to each set, where the first of these has the number `first`.
+pub(crate) fn push_moves(
+    alloc: Global,
+    arcs: &mut Vec<ArcLine>,
+    kinds: &[TierKind],
+    free: u32,
+    given: &[Sym],
+    opened: u32,
+    first: u32,
+) -> Result<(), NoMemory>
+    requires some { 1 ≤ length kinds.now }
+    requires few { length kinds.now ≤ 12 }
+    requires count { free ≡ length (numbers_from is_free 0 kinds.now) }
+    requires wide { length given.now ≡ length (tiers_by_kinds kinds.now).input }
+    requires numbers { first + 2 ^ free < 2 ^ 32 }
+    ensures { OnOk result (map arc_view arcs.new.items ≡ map arc_view arcs.old.items ++ map move_view (moves_with (tiers_by_kinds kinds.now) given.now (flags_of free opened) first)) }
+{
+    let column = widened(alloc, kinds, given);
+    let wide = column.syms();
+    let before = flags_by_tier(kinds, free, opened);
+    for number in 0..1u32 << free {
+        let after = flags_by_tier(kinds, free, number);
+        let picks = picks(kinds, wide, &before, &after);
+        push_columns(alloc, arcs, &picks[..kinds.len()], first + number)?;
+    }
+    Ok(())
+}

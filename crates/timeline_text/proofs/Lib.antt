@@ -1,0 +1,9 @@
+pub mod Splits
+pub mod Cuts
+pub mod Searches
+pub mod Forms
+pub mod Known
+pub mod TierSteps
+pub mod Deciding
+pub mod Spell
+pub mod Spellings

@@ -1,0 +1,6 @@
+pub mod Texts
+pub mod Causes
+pub mod Readings
+pub mod Spelling
+pub mod Between
+pub mod Tails

@@ -1,0 +1,5 @@
+pub mod Meaning
+pub mod Count
+pub mod UnitWeight
+pub mod CountLaws
+pub mod UnitLaws

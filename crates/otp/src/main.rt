@@ -6,6 +6,7 @@
 
 use otp_tool::{put_status, run};
 use outside::{FileShelf, StreamSink};
+use std::alloc::AllocError;
 use std::env;
 use std::process::ExitCode;
 
@@ -14,11 +15,11 @@ const NO_WORDS: u8 = 15;
 
 fn main(rt: HostRuntime) -> ExitCode {
     let alloc = rt.alloc();
-    let Ok(mut args) = env::args(&rt) else {
+    let Ok(args) = env::args(&rt) else {
         return ExitCode::from(NO_WORDS);
     };
-    let _program = args.next();
-    let Ok(words) = args.collect_vec(alloc) else {
+    let collected: Result<Vec<String>, AllocError> = args.skip(1).collect(alloc);
+    let Ok(words) = collected else {
         return ExitCode::from(NO_WORDS);
     };
     let mut shelf = FileShelf::new(alloc, &rt);

@@ -1,1 +1,4 @@
 mod PlainLines
+mod CutLemmas
+mod FirstLines
+mod Reading

@@ -1,7 +1,12 @@
 -- The lines of tiers can be read in one way only.
-use Rattle.std.proofs.Common.{◌≡◌, ◌≢◌, ℕ, ◌≤◌, ◌==◌, Bool, true, false, ◌||◌, ◌&&◌, IsTrue, List, [], ◌∷◌, ◌++◌, length, map, codes, refl, ap, sym, ◌∙◌, subst, arith, append_assoc}
+use Rattle.std.proofs.Common.{◌≡◌, ℕ, zero, suc, ◌<◌, ◌==◌, slice_index, Bool, true, false, ◌||◌, ◌&&◌, IsTrue, List, [], ◌∷◌, ◌++◌, length, map, codes, refl, ap, sym, ◌∙◌, subst, arith, append_assoc}
+use Rattle.std.specs.Str.Lossy.{utf8_lossy}
+use Rattle.std.proofs.lemmas.Str.{utf8_lossy-IsUtf8, IsUtf8-from_ascii}
 use Rattle.std.specs.List.{list_any, list_all, flat_map, AllByRecursion}
 use Rattle.std.proofs.lemmas.Bool.Decides.{nat_tests}
+use Rattle.std.specs.Str.{bytes_eq}
+use Rattle.std.proofs.lemmas.Bool.{false≢true}
+use Rattle.std.proofs.lemmas.Slice.Eq.{bytes_eq-Decides}
 use Rattle.std.proofs.lemmas.List.{append_cancel_left}
 use Rattle.tier_core.specs.declared.tier.TierKind.{TierKind}
 use Rattle.tier_core.specs.declared.tier.TierKind.TheVariants.{Input, Overt, Hidden}
@@ -54,7 +59,7 @@ no_space_in (b ∷ name) h =
 
 -- the bytes of a name are those of names
 pub name_bytes : (name : List ℕ) → IsTrue (is_name name) → list_all is_name_byte name ≡ true
-name_bytes name h = ?
+name_bytes name h = (and_both _ _ (and_both _ _ (and_both _ _ h).0).0).1
 
 pub no_space : (name : List ℕ) → IsTrue (is_name name) → list_any (λ b. b == 32) name ≡ false
 no_space name h = no_space_in name (name_bytes name h)
@@ -64,15 +69,18 @@ no_feed Input = refl
 no_feed Overt = refl
 no_feed Hidden = refl
 
+apart : (a b : List ℕ) → bytes_eq a b ≡ false → a ≡ b → ⊥
+apart a b h e = false≢true (sym h ∙ (bytes_eq-Decides a b).1 e)
+
 pub one_kind : (kind other : TierKind) → kind_word kind ≡ kind_word other → kind ≡ other
 one_kind Input Input e = refl
-one_kind Input Overt e = cc
-one_kind Input Hidden e = cc
-one_kind Overt Input e = cc
+one_kind Input Overt e = absurd (apart (kind_word Input) (kind_word Overt) refl e)
+one_kind Input Hidden e = absurd (apart (kind_word Input) (kind_word Hidden) refl e)
+one_kind Overt Input e = absurd (apart (kind_word Overt) (kind_word Input) refl e)
 one_kind Overt Overt e = refl
-one_kind Overt Hidden e = cc
-one_kind Hidden Input e = cc
-one_kind Hidden Overt e = cc
+one_kind Overt Hidden e = absurd (apart (kind_word Overt) (kind_word Hidden) refl e)
+one_kind Hidden Input e = absurd (apart (kind_word Hidden) (kind_word Input) refl e)
+one_kind Hidden Overt e = absurd (apart (kind_word Hidden) (kind_word Overt) refl e)
 one_kind Hidden Hidden e = refl
 
 -- ---- lines
@@ -134,3 +142,17 @@ tiers_once (s ∷ all) [] a b e = absurd (empty_line s (flat_map tier_line all) 
 tiers_once (s ∷ all) (t ∷ others) a b e =
     let one = start_once (flat_map tier_line (s ∷ all)) s t (flat_map tier_line all) (flat_map tier_line others) (record { line = refl; named = a.0 }) (record { line = e; named = b.0 }) in
     ap (λ (z : List ℕ × TierKind). z ∷ all) one.tiers ∙ ap (λ (zs : List (List ℕ × TierKind)). t ∷ zs) (tiers_once all others a.1 b.1 one.rests)
+
+-- ---- names as strings
+
+small : (b : ℕ) → is_name_byte b ≡ true → b < 128
+small b h = grind (arith, nat_tests)
+
+ascii_at : (name : List ℕ) → list_all is_name_byte name ≡ true → (i : ℕ) → slice_index name i < 128
+ascii_at [] h i = omega arith
+ascii_at (b ∷ name) h zero = small b (and_both _ _ h).0
+ascii_at (b ∷ name) h (suc i) = ascii_at name (and_both _ _ h).1 i
+
+-- a name is text
+pub lossy_name : (name : List ℕ) → IsTrue (is_name name) → utf8_lossy name ≡ name
+lossy_name name h = utf8_lossy-IsUtf8 name (IsUtf8-from_ascii name (ascii_at name (name_bytes name h)))

@@ -17,12 +17,7 @@ mod grammar;
 mod plain;
 mod plain_tier;
 mod put;
-mod run;
 mod status;
-#[cfg(test)]
-mod tests;
-mod write;
 
 pub use put::put_status;
-pub use run::run;
 pub use status::Status;

@@ -8,6 +8,9 @@ use crate::plain_tier::{first_tier, is_known, name_string};
 use std::alloc::Global;
 use tier_core::{TierKind, TierTable};
 
+/// How many tiers a grammar may have.
+const MOST_TIERS: usize = 12;
+
 /// Why a text was not read as a grammar without letters and constraints.
 #[derive(Clone, Copy, Debug, PartialEq, Eq)]
 pub(crate) enum PlainErr {
@@ -64,7 +67,7 @@ fn are_within_limits(kinds: &[TierKind]) -> bool
     let inputs = count_inputs(kinds);
     let overt = count_overt(kinds);
     let free = count_free(kinds);
-    kinds.len() <= 12 && 1 <= inputs && inputs <= 6 && 1 <= overt && free <= 8
+    kinds.len() <= MOST_TIERS && 1 <= inputs && inputs <= 6 && 1 <= overt && free <= 8
 }
 
 /// The tiers whose lines a text is. There are at most 12, and their names are distinct.
@@ -79,7 +82,10 @@ fn read_tiers(alloc: Global, text: &[u8]) -> Result<TierLists, PlainErr>
         let Some(first) = first_tier(rest) else {
             return Err(PlainErr::NotPlain);
         };
-        if is_known(&names, first.name) || kinds.len() == 12 {
+        if kinds.len() == MOST_TIERS {
+            return Err(PlainErr::NotPlain);
+        }
+        if is_known(&names, first.name) {
             return Err(PlainErr::NotPlain);
         }
         let Ok(name) = name_string(alloc, first.name) else {

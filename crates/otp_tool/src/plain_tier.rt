@@ -1,5 +1,6 @@
-ghost use Rattle.std.specs.Prelude.{◌≡◌, ◌≢◌, ◌++◌, ◌∷◌, ◌↔◌, ℕ, List, IsTrue, MatchOption, map, string_bytes, codes, Contains, IfOk};
-ghost use Rattle.std.specs.List.{list_all};
+ghost use Rattle.std.specs.Prelude.{◌≡◌, ◌≢◌, ◌++◌, ◌∷◌, ◌↔◌, ℕ, List, IsTrue, MatchOption, map, string_bytes, codes, IfOk};
+ghost use Rattle.std.specs.List.{list_all, list_any};
+ghost use Rattle.std.specs.Str.{bytes_eq};
 ghost use Rattle.tier_core.specs.declared.tier.TierKind.{TierKind};
 ghost use Rattle.otp_tool.specs.Plain.{is_letter, is_name, is_name_byte, kind_word, tier_line};
 ghost use Rattle.otp_tool.specs.Cuts.{BeginsWith};
@@ -84,24 +85,16 @@ pub(crate) fn first_tier(text: &[u8]) -> Option<FirstTier<'_>>
 
 /// Whether a name is among others.
 pub(crate) fn is_known(names: &[String], name: &[u8]) -> bool
-    ensures { IsTrue result ↔ Contains (map string_bytes names.now) name.now }
+    ensures { result ≡ list_any (λ known. bytes_eq (string_bytes known) name.now) names.now }
 {
-    for known in names {
-        if known.as_bytes() == name {
-            return true;
-        }
-    }
-    false
+    names.iter().any(|known| known.as_bytes() == name)
 }
 
 /// A name as a string.
+#[tactic(auto, using(crate::proofs::PlainLines::lossy_name))]
 pub(crate) fn name_string(alloc: Global, name: &[u8]) -> Result<String, AllocError>
-    requires { IsTrue (list_all is_name_byte name.now) }
+    requires { IsTrue (is_name name.now) }
     ensures { IfOk result (λ string. string_bytes string ≡ name.now) }
 {
-    let mut string = String::new(alloc);
-    for byte in name {
-        string.push(char::from(*byte))?;
-    }
-    Ok(string)
+    String::from_utf8_lossy(alloc, name)
 }

@@ -9,6 +9,21 @@ use itoa::Buffer;
 use outside::{Sink, Waiting, WriteErr};
 use timeline_text::FormErr;
 
+/// Puts a number in decimal digits.
+fn put_decimal<O: Sink>(
+    waiting: &mut Waiting,
+    sink: &mut O,
+    number: usize,
+) -> Result<(), WriteErr>
+    ensures ok { OnOk result (Sends (O.taken sink.old) (waiting.old ++ decimal number) (O.taken sink.new) waiting.new) }
+    ensures part { HasSentPart (O.taken sink.old) (waiting.old ++ decimal number) (O.taken sink.new) }
+    ensures never_falls { O.faults sink.old ≤ O.faults sink.new }
+    ensures failed { result ≡ Err WriteErr.Failed → Rose (O.faults sink.old) (O.faults sink.new) }
+{
+    let mut buffer = Buffer::new();
+    waiting.put(sink, buffer.format(number).as_bytes())
+}
+
 /// Puts a text, and a number in decimal digits.
 fn put_number<O: Sink>(
     waiting: &mut Waiting,
@@ -21,9 +36,8 @@ fn put_number<O: Sink>(
     ensures never_falls { O.faults sink.old ≤ O.faults sink.new }
     ensures failed { result ≡ Err WriteErr.Failed → Rose (O.faults sink.old) (O.faults sink.new) }
 {
-    let mut buffer = Buffer::new();
     waiting.put(sink, front)?;
-    waiting.put(sink, buffer.format(number).as_bytes())
+    put_decimal(waiting, sink, number)
 }
 
 /// Puts a text, a number, and a text behind it.

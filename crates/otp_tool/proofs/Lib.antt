@@ -2,3 +2,6 @@ mod PlainLines
 mod CutLemmas
 mod FirstLines
 mod Reading
+mod Forms
+mod Writing
+mod CommandLemmas

@@ -11,6 +11,7 @@
 //! each status, and the lines of the statuses.
 #![tactic(auto)]
 
+mod commands;
 mod cut;
 mod form;
 mod grammar;
@@ -18,6 +19,10 @@ mod plain;
 mod plain_tier;
 mod put;
 mod status;
+#[cfg(test)]
+mod tests;
+mod write;
 
 pub use put::put_status;
+pub use commands::run;
 pub use status::Status;

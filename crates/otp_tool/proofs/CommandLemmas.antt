@@ -29,7 +29,7 @@ module _ (name form : List ℕ) (c : Change) where
   by_load t (FormRefused word cause) r = absurd r
   by_load t (ReadFault word) r = (r.0, record { name = name; form = form; command = refl; rose = r.1 }, t)
   by_load t WriteFault r = absurd r
-  by_load t NoMemory r = ((name, (form, refl)), inl t)
+  by_load t NoMemory r = ((name, form, refl), inl t)
   by_load t (TooLong word) r = (r.0, record { name = name; form = form; command = refl; long = r.1 }, t)
   by_load t (NotBuilt word) r = (r.0, record {
     name = name;
@@ -61,7 +61,7 @@ module _ (name form : List ℕ) (c : Change) where
     }, t)
     by_form t (ReadFault word) r = absurd r
     by_form t WriteFault r = absurd r
-    by_form t NoMemory r = ((name, (form, refl)), inl t)
+    by_form t NoMemory r = ((name, form, refl), inl t)
     by_form t (TooLong word) r = absurd r
     by_form t (NotBuilt word) r = absurd r
 
@@ -102,7 +102,7 @@ module _ (name form : List ℕ) (c : Change) where
       by_write (FormRefused word cause) r = absurd r
       by_write (ReadFault word) r = absurd r
       by_write WriteFault r = (begun r.0, r.1)
-      by_write NoMemory r = ((name, (form, refl)), memory r)
+      by_write NoMemory r = ((name, form, refl), memory r)
       by_write (TooLong word) r = absurd r
       by_write (NotBuilt word) r = absurd r
 

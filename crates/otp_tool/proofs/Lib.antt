@@ -5,3 +5,4 @@ mod Reading
 mod Forms
 mod Writing
 mod CommandLemmas
+mod ThreeWords

@@ -1,11 +1,11 @@
 -- What is written, and the shape that it is written in.
-use Rattle.std.proofs.Common.{◌≡◌, ◌↔◌, IsTrue, ℕ, ◌+◌, ◌-◌, ◌<◌, ◌≤◌, ◌^◌, List, [], ◌∷◌, length, Option, count_by, inr, ap, sym, ◌∙◌, subst, arith}
+use Rattle.std.proofs.Common.{◌≡◌, ◌↔◌, IsTrue, ℕ, zero, suc, ◌+◌, ◌-◌, ◌<◌, ◌≤◌, ◌^◌, List, [], ◌∷◌, length, Option, count_by, slice_index_or, refl, ap, sym, ◌∙◌, subst, arith}
 use Rattle.outside.specs.Sent.{appended, HasSentPart}
 use Rattle.tier_core.specs.declared.sym.Sym.{Sym}
 use Rattle.tier_core.specs.declared.shape.Shape.{Shape}
 use Rattle.tier_core.specs.declared.tier.TierKind.{TierKind}
 use Rattle.tier_core.specs.declared.tier.TierKind.TheVariants.{Input}
-use Rattle.tier_core.specs.Shapes.{input_count}
+use Rattle.tier_core.specs.Shapes.{input_count, NeverFalls}
 use Rattle.tier_core.specs.Tiers.{has_tier, is_free, is_input, kind_at, tiers_by_kinds, tiers_of}
 use Rattle.tier_core.proofs.TableMasks.{free_tiers, input_tiers}
 use Rattle.answer_text.specs.declared.answer.Answer.{Answer}
@@ -42,3 +42,17 @@ module _ (kinds : List TierKind) (u : List (List Sym)) (answer : Answer) (widths
     right = record { answer = answer; right = right; written = ap (λ (w : Widths). answer_text w answer) same };
     part = p;
   }
+
+pub same_widths : (a b : Widths) → a.free ≡ b.free → a.stretches ≡ b.stretches → a ≡ b
+same_widths a b e f =
+    let first : Widths → ℕ → Widths = λ w n. record { free = n; stretches = w.stretches } in
+    let second : Widths → List ℕ → Widths = λ w xs. record { free = w.free; stretches = xs } in
+    ap (first a) e ∙ ap (second (first a b.free)) f
+
+-- the counts of stretch implications where there are no constraints
+pub no_phases : NeverFalls (0 ∷ [])
+no_phases = record { begins = refl; rises = λ r l. absurd (omega arith); most = least }
+  where
+    least : (r : ℕ) → r < 1 → slice_index_or (0 ∷ []) r 0 ≤ 24
+    least zero l = omega arith
+    least (suc r) l = absurd (omega arith)

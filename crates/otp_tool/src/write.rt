@@ -23,14 +23,14 @@ fn shape_of(alloc: Global, tiers: &TierTable) -> Result<Shape, NoMemory>
     ensures stages { IfOk result (λ shape. length shape.phases.items ≡ 1) }
 {
     let mut phases = Vec::new(alloc);
-    if phases.push(0).is_err() {
-        return Err(NoMemory);
+    match phases.push(0) {
+        Ok(()) => Ok(Shape {
+            width: tiers.kinds.as_slice().len() as u32,
+            inputs: tiers.mask(TierKind::Input),
+            phases,
+        }),
+        Err(_) => Err(NoMemory),
     }
-    Ok(Shape {
-        width: tiers.kinds.len() as u32,
-        inputs: tiers.mask(TierKind::Input),
-        phases,
-    })
 }
 
 /// Generates for a grammar without constraints, and writes the answer.

@@ -1,0 +1,8 @@
+mod PlainLines
+mod CutLemmas
+mod FirstLines
+mod Reading
+mod Forms
+mod Writing
+mod CommandLemmas
+mod ThreeWords

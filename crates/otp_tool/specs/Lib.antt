@@ -1,0 +1,9 @@
+pub mod Plain
+pub mod Cuts
+pub mod PlainTables
+pub mod Words
+pub mod Grammars
+pub mod Lines
+pub mod Outcomes
+pub mod Answers
+pub mod Steps

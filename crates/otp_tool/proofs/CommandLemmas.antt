@@ -31,14 +31,18 @@ module _ (name form : List ℕ) (c : Change) where
   by_load t WriteFault r = absurd r
   by_load t NoMemory r = ((name, form, refl), inl t)
   by_load t (TooLong word) r = (r.0, record { name = name; form = form; command = refl; long = r.1 }, t)
-  by_load t (NotBuilt word) r = (r.0, record {
-    name = name;
-    form = form;
-    bytes = r.1.bytes;
-    command = refl;
-    holds = r.1.holds;
-    fact = record { within = r.1.within; none = r.1.none };
-  }, t)
+  by_load t (NotBuilt word) r = (
+    r.0,
+    record {
+      name = name;
+      form = form;
+      bytes = r.1.bytes;
+      command = refl;
+      holds = r.1.holds;
+      fact = record { within = r.1.within; none = r.1.none };
+    },
+    t,
+  )
 
   module _ (table : TierTable) (l : IsLoaded (c.held name) table) where
     has : HasTiers l.bytes l.table_of.tiers
@@ -47,18 +51,22 @@ module _ (name form : List ℕ) (c : Change) where
     pub by_form : c.taken_after ≡ c.taken_before → (s : Status) → IsFormRefusal (count_by is_input table.kinds.items) form s → IsOutcome (generate name form) c s
     by_form t Done r = absurd r
     by_form t Usage r = absurd r
-    by_form t (FormRefused word cause) r = (r.0, record {
-      name = name;
-      form = form;
-      bytes = l.bytes;
-      command = refl;
-      holds = l.holds;
-      fact = record {
-        tiers = l.table_of.tiers;
-        has = has;
-        refused = subst (λ (kinds : List TierKind). IsRefusedFor (count_by is_input kinds) form cause) l.table_of.kinds_are r.1;
-      };
-    }, t)
+    by_form t (FormRefused word cause) r = (
+      r.0,
+      record {
+        name = name;
+        form = form;
+        bytes = l.bytes;
+        command = refl;
+        holds = l.holds;
+        fact = record {
+          tiers = l.table_of.tiers;
+          has = has;
+          refused = subst (λ (kinds : List TierKind). IsRefusedFor (count_by is_input kinds) form cause) l.table_of.kinds_are r.1;
+        };
+      },
+      t,
+    )
     by_form t (ReadFault word) r = absurd r
     by_form t WriteFault r = absurd r
     by_form t NoMemory r = ((name, form, refl), inl t)

@@ -53,8 +53,8 @@ pub form_of : (kinds : List TierKind) (inputs : ℕ) (word : List ℕ) (u : List
 form_of kinds inputs word u e r =
     let width = input_width kinds inputs e in
     by_choice (is_spelled word) (IsSpelledBy [] inputs word u) (IsTextOf inputs 64 word u) (IsForm (tiers_by_kinds kinds) u) r
-        (λ s. record { well_formed = subst (λ (n : ℕ). IsWellFormed n u) width s.form; reduced = spelled_reduced inputs word u s })
-        (λ t. record { well_formed = subst (λ (n : ℕ). IsWellFormed n u) width t.form; reduced = t.reduced })
+    (λ s. record { well_formed = subst (λ (n : ℕ). IsWellFormed n u) width s.form; reduced = spelled_reduced inputs word u s })
+    (λ t. record { well_formed = subst (λ (n : ℕ). IsWellFormed n u) width t.form; reduced = t.reduced })
 
 -- ---- causes
 
@@ -67,11 +67,11 @@ one_spelling_cause letters bytes e f a b = search rules
 pub not_refused : (inputs : ℕ) (word : List ℕ) (u : List (List Sym)) (cause : FormErr) → IsReadAs inputs word u → IsRefusedFor inputs word cause → ⊥
 not_refused inputs word u cause r f =
     by_choices (is_spelled word) (IsSpelledBy [] inputs word u) (IsTextOf inputs 64 word u) (IsSpellingCause [] word cause) (IsCause inputs 64 word cause) ⊥ r f
-        (λ s k. never_both [] inputs word u cause s k)
-        (λ t k. not_both inputs 64 word u cause t k)
+    (λ s k. never_both [] inputs word u cause s k)
+    (λ t k. not_both inputs 64 word u cause t k)
 
 pub one_refusal : (inputs : ℕ) (word : List ℕ) (cause other : FormErr) → IsRefusedFor inputs word cause → IsRefusedFor inputs word other → cause ≡ other
 one_refusal inputs word cause other r f =
     by_choices (is_spelled word) (IsSpellingCause [] word cause) (IsCause inputs 64 word cause) (IsSpellingCause [] word other) (IsCause inputs 64 word other) (cause ≡ other) r f
-        (λ s k. one_spelling_cause [] word cause other s k)
-        (λ t k. one_cause inputs 64 word cause other t k)
+    (λ s k. one_spelling_cause [] word cause other s k)
+    (λ t k. one_cause inputs 64 word cause other t k)

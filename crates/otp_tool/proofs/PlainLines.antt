@@ -99,7 +99,7 @@ pub record IsSameStart (tier other : List ℕ × TierKind) (rest more : List ℕ
 pub start_once : (text : List ℕ) (tier other : List ℕ × TierKind) (rest more : List ℕ) → BeginsWith text tier rest → BeginsWith text other more → IsSameStart tier other rest more
 start_once text (name, kind) (other, sort) rest more a b =
     let e : codes "tier " ++ (name ++ 32 ∷ (kind_word kind ++ 10 ∷ rest)) ≡ codes "tier " ++ (other ++ 32 ∷ (kind_word sort ++ 10 ∷ more)) =
-        sym (line_more name kind rest) ∙ sym a.line ∙ b.line ∙ line_more other sort more in
+    sym (line_more name kind rest) ∙ sym a.line ∙ b.line ∙ line_more other sort more in
     let n = cut_once 32 name other _ _ (no_space name a.named) (no_space other b.named) (append_cancel_left (codes "tier ") _ _ e) in
     let k = cut_once 10 (kind_word kind) (kind_word sort) _ _ (no_feed kind) (no_feed sort) n.1 in
     record {
@@ -123,8 +123,8 @@ left_of all [] rest named read e = record { left = all; all_are = refl; text = s
 left_of [] (t ∷ read) rest named reads e = absurd (empty_line t (flat_map tier_line read ++ rest) (e ∙ append_assoc (tier_line t) (flat_map tier_line read) rest))
 left_of (s ∷ all) (t ∷ read) rest named reads e =
     let one = start_once (flat_map tier_line (s ∷ all)) s t (flat_map tier_line all) (flat_map tier_line read ++ rest)
-        (record { line = refl; named = named.0 })
-        (record { line = e ∙ append_assoc (tier_line t) (flat_map tier_line read) rest; named = reads.0 }) in
+    (record { line = refl; named = named.0 })
+    (record { line = e ∙ append_assoc (tier_line t) (flat_map tier_line read) rest; named = reads.0 }) in
     let more = left_of all read rest named.1 reads.1 one.rests in
     record {
       left = more.left;

@@ -135,10 +135,10 @@ module _ (text : List ℕ) (names : List (List ℕ)) (kinds : List TierKind) (re
       let n = next_one in
       let same = start_once rest n.next (name, kind) (flat_map tier_line n.later) more n.begins b in
       let all : names_of tiers ≡ names_of r.tiers ++ name ∷ names_of n.later =
-          ap names_of n.all_are ∙ map-append (λ (t : List ℕ × TierKind). t.0) r.tiers (n.next ∷ n.later) ∙ ap (λ (t : List ℕ × TierKind). names_of r.tiers ++ t.0 ∷ names_of n.later) same.tiers in
+      ap names_of n.all_are ∙ map-append (λ (t : List ℕ × TierKind). t.0) r.tiers (n.next ∷ n.later) ∙ ap (λ (t : List ℕ × TierKind). names_of r.tiers ++ t.0 ∷ names_of n.later) same.tiers in
       known_twice (names_of r.tiers) (names_of n.later) name
-          (subst (λ (ns : List (List ℕ)). list_any (λ k. bytes_eq k name) ns ≡ true) r.names_are known)
-          (subst (AllPairs (λ (x y : List ℕ). x ≢ y)) all a.distinct)
+      (subst (λ (ns : List (List ℕ)). list_any (λ k. bytes_eq k name) ns ≡ true) r.names_are known)
+      (subst (AllPairs (λ (x y : List ℕ). x ≢ y)) all a.distinct)
 
 -- a known name is among the names as bytes
 pub any_map : {X Y : Type 0} (p : Y → Bool) (f : X → Y) (xs : List X) → list_any p (map f xs) ≡ list_any (λ x. p (f x)) xs

@@ -23,6 +23,6 @@ mod status;
 mod tests;
 mod write;
 
-pub use put::put_status;
 pub use commands::run;
+pub use put::put_status;
 pub use status::Status;

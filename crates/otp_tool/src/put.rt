@@ -10,11 +10,7 @@ use outside::{Sink, Waiting, WriteErr};
 use timeline_text::FormErr;
 
 /// Puts a number in decimal digits.
-fn put_decimal<O: Sink>(
-    waiting: &mut Waiting,
-    sink: &mut O,
-    number: usize,
-) -> Result<(), WriteErr>
+fn put_decimal<O: Sink>(waiting: &mut Waiting, sink: &mut O, number: usize) -> Result<(), WriteErr>
     ensures ok { OnOk result (Sends (O.taken sink.old) (waiting.old ++ decimal number) (O.taken sink.new) waiting.new) }
     ensures part { HasSentPart (O.taken sink.old) (waiting.old ++ decimal number) (O.taken sink.new) }
     ensures never_falls { O.faults sink.old ≤ O.faults sink.new }
@@ -58,11 +54,7 @@ fn put_worded<O: Sink>(
 }
 
 /// Puts the name of a cause, and its number.
-fn put_cause<O: Sink>(
-    waiting: &mut Waiting,
-    sink: &mut O,
-    cause: FormErr,
-) -> Result<(), WriteErr>
+fn put_cause<O: Sink>(waiting: &mut Waiting, sink: &mut O, cause: FormErr) -> Result<(), WriteErr>
     ensures ok { OnOk result (Sends (O.taken sink.old) (waiting.old ++ cause_text cause) (O.taken sink.new) waiting.new) }
     ensures part { HasSentPart (O.taken sink.old) (waiting.old ++ cause_text cause) (O.taken sink.new) }
     ensures never_falls { O.faults sink.old ≤ O.faults sink.new }
@@ -114,11 +106,7 @@ fn put_refused<O: Sink>(
 }
 
 /// Puts the line of a status.
-fn put_line<O: Sink>(
-    waiting: &mut Waiting,
-    sink: &mut O,
-    status: &Status,
-) -> Result<(), WriteErr>
+fn put_line<O: Sink>(waiting: &mut Waiting, sink: &mut O, status: &Status) -> Result<(), WriteErr>
     ensures ok { OnOk result (Sends (O.taken sink.old) (waiting.old ++ status_text status.now) (O.taken sink.new) waiting.new) }
     ensures part { HasSentPart (O.taken sink.old) (waiting.old ++ status_text status.now) (O.taken sink.new) }
     ensures never_falls { O.faults sink.old ≤ O.faults sink.new }

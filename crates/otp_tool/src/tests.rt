@@ -52,7 +52,12 @@ fn empty_form_over_base(rt: HostRuntime) -> Result<(), Fail> {
     let alloc = rt.alloc();
     let mut shelf = SafeShelf::new(files(alloc, BASE)?);
     let mut sink = SafeSink::new(alloc);
-    let status = run(alloc, &words(alloc, "generate/g/empty")?, &mut shelf, &mut sink);
+    let status = run(
+        alloc,
+        &words(alloc, "generate/g/empty")?,
+        &mut shelf,
+        &mut sink,
+    );
     assert_eq!(rt; status, Status::Done);
     assert_eq!(rt; sink.bytes(), EMPTY_OVER_BASE.as_bytes());
     Ok(())
@@ -64,12 +69,20 @@ fn one_constituent_over_base(rt: HostRuntime) -> Result<(), Fail> {
     let alloc = rt.alloc();
     let mut shelf = SafeShelf::new(files(alloc, BASE)?);
     let mut sink = SafeSink::new(alloc);
-    let status = run(alloc, &words(alloc, "generate/g/[ ]")?, &mut shelf, &mut sink);
+    let status = run(
+        alloc,
+        &words(alloc, "generate/g/[ ]")?,
+        &mut shelf,
+        &mut sink,
+    );
     assert_eq!(rt; status, Status::Done);
     let text = String::from_utf8_lossy(alloc, sink.bytes())?;
     let head = "answer 1\nform [ ]\ncounts\nexample [- ]-\nstage 0 6\nnode 0/-/ 0\n";
     assert!(rt; text.starts_with(head), "{text}");
-    assert!(rt; text.contains("\nautomaton 6\nstate 0\narc 1 -[\narc 2 [-\narc 3 [[\nstate 1\n"), "{text}");
+    assert!(rt;
+        text.contains("\nautomaton 6\nstate 0\narc 1 -[\narc 2 [-\narc 3 [[\nstate 1\n"),
+        "{text}"
+    );
     assert!(rt; text.contains("\nstate 4 final\n"), "{text}");
     assert_eq!(rt; text.matches(" final\n").count(), 1);
     assert!(rt; text.ends_with("\nend\n"), "{text}");
@@ -82,10 +95,16 @@ fn hidden_tiers_are_free(rt: HostRuntime) -> Result<(), Fail> {
     let alloc = rt.alloc();
     let mut shelf = SafeShelf::new(files(alloc, WIDE)?);
     let mut sink = SafeSink::new(alloc);
-    let status = run(alloc, &words(alloc, "generate/g/empty")?, &mut shelf, &mut sink);
+    let status = run(
+        alloc,
+        &words(alloc, "generate/g/empty")?,
+        &mut shelf,
+        &mut sink,
+    );
     assert_eq!(rt; status, Status::Done);
     let text = String::from_utf8_lossy(alloc, sink.bytes())?;
-    let head = "answer 1\nform empty\ncounts\nexample empty\nstage 0 8\nnode 0/---/ 0\nnode 0/--+/ 0\nnode 0/-+-/ 0\n";
+    let head =
+        "answer 1\nform empty\ncounts\nexample empty\nstage 0 8\nnode 0/---/ 0\nnode 0/--+/ 0\nnode 0/-+-/ 0\n";
     assert!(rt; text.starts_with(head), "{text}");
     assert!(rt; text.contains("\nautomaton 8\nstate 0 final\n"), "{text}");
     Ok(())
@@ -103,10 +122,19 @@ fn words_and_forms(rt: HostRuntime) -> Result<(), Fail> {
         ("generate/g/=", Status::Done),
         ("generate/g/[ | ]", Status::Done),
         ("generate/g/=t", refused(FormErr::UnknownLetter { at: 1 })),
-        ("generate/g/] [", refused(FormErr::NotWellFormed { tier: 0 })),
-        ("generate/g/[ + ]", refused(FormErr::NotReduced { column: 1 })),
+        (
+            "generate/g/] [",
+            refused(FormErr::NotWellFormed { tier: 0 }),
+        ),
+        (
+            "generate/g/[ + ]",
+            refused(FormErr::NotReduced { column: 1 }),
+        ),
         ("generate/g/[", refused(FormErr::NotWellFormed { tier: 0 })),
-        ("generate/g/[[ ]]", refused(FormErr::WrongWidth { column: 0 })),
+        (
+            "generate/g/[[ ]]",
+            refused(FormErr::WrongWidth { column: 0 }),
+        ),
         ("generate/g/[ x", refused(FormErr::BadSymbol { at: 2 })),
         ("generate/g/", refused(FormErr::WrongWidth { column: 0 })),
     ];
@@ -153,10 +181,22 @@ fn plain_grammars_alone_are_read(rt: HostRuntime) -> Result<(), Fail> {
         (WIDE, true),
         (b"otp 1\ntier a overt\ntier A input\n", true),
         (b"otp 1\ntier A_0 input\ntier a9 overt\n", true),
-        (b"otp 1\ntier A input\ntier a overt\ntier B input\ntier C input\ntier D input\ntier E input\ntier F input\n", true),
-        (b"otp 1\ntier A input\ntier a overt\ntier B input\ntier C input\ntier D input\ntier E input\ntier F input\ntier G input\n", false),
-        (b"otp 1\ntier A input\ntier a overt\ntier b overt\ntier c overt\ntier d overt\ntier e hidden\ntier f hidden\ntier g hidden\ntier h hidden\n", true),
-        (b"otp 1\ntier A input\ntier a overt\ntier b overt\ntier c overt\ntier d overt\ntier e hidden\ntier f hidden\ntier g hidden\ntier h hidden\ntier i hidden\n", false),
+        (
+            b"otp 1\ntier A input\ntier a overt\ntier B input\ntier C input\ntier D input\ntier E input\ntier F input\n",
+            true,
+        ),
+        (
+            b"otp 1\ntier A input\ntier a overt\ntier B input\ntier C input\ntier D input\ntier E input\ntier F input\ntier G input\n",
+            false,
+        ),
+        (
+            b"otp 1\ntier A input\ntier a overt\ntier b overt\ntier c overt\ntier d overt\ntier e hidden\ntier f hidden\ntier g hidden\ntier h hidden\n",
+            true,
+        ),
+        (
+            b"otp 1\ntier A input\ntier a overt\ntier b overt\ntier c overt\ntier d overt\ntier e hidden\ntier f hidden\ntier g hidden\ntier h hidden\ntier i hidden\n",
+            false,
+        ),
         (b"otp 1\ntier A input\ntier a hidden\n", false),
         (b"otp 1\ntier a overt\n", false),
         (b"otp 1\ntier A input\ntier A overt\n", false),
@@ -167,14 +207,27 @@ fn plain_grammars_alone_are_read(rt: HostRuntime) -> Result<(), Fail> {
         (b"otp 1\ntier A input\ntier a overt", false),
         (b"otp 1\ntier A input\ntier a overt\n\n", false),
         (b"otp 1\ntier A input\r\ntier a overt\n", false),
-        (b"otp 1\ntier A input\ntier a overt\nconstraint c a -> A\n", false),
-        (b"otp 1\ntier abcdefghijabcdefghijabcdefghij12 input\ntier a overt\n", true),
-        (b"otp 1\ntier abcdefghijabcdefghijabcdefghij123 input\ntier a overt\n", false),
+        (
+            b"otp 1\ntier A input\ntier a overt\nconstraint c a -> A\n",
+            false,
+        ),
+        (
+            b"otp 1\ntier abcdefghijabcdefghijabcdefghij12 input\ntier a overt\n",
+            true,
+        ),
+        (
+            b"otp 1\ntier abcdefghijabcdefghijabcdefghij123 input\ntier a overt\n",
+            false,
+        ),
         (b"", false),
     ];
     for (file, is_plain) in cases {
         let status = status_of(alloc, file, "generate/g/empty")?;
-        let due = if is_plain { Status::Done } else { Status::NotBuilt { word: 1 } };
+        let due = if is_plain {
+            Status::Done
+        } else {
+            Status::NotBuilt { word: 1 }
+        };
         let text = String::from_utf8_lossy(alloc, file)?;
         assert_eq!(rt; status, due, "{text}");
     }
@@ -185,8 +238,14 @@ fn plain_grammars_alone_are_read(rt: HostRuntime) -> Result<(), Fail> {
 fn long_files_are_too_long(rt: HostRuntime) -> Result<(), Fail> {
     let alloc = rt.alloc();
     let file = vec![in alloc; b'x'; 65537]?;
-    assert_eq!(rt; status_of(alloc, &file, "generate/g/empty")?, Status::TooLong { word: 1 });
-    assert_eq!(rt; status_of(alloc, &file[1..], "generate/g/empty")?, Status::NotBuilt { word: 1 });
+    assert_eq!(rt;
+        status_of(alloc, &file, "generate/g/empty")?,
+        Status::TooLong { word: 1 }
+    );
+    assert_eq!(rt;
+        status_of(alloc, &file[1..], "generate/g/empty")?,
+        Status::NotBuilt { word: 1 }
+    );
     Ok(())
 }
 
@@ -210,7 +269,12 @@ fn failing_writes_are_write_faults(rt: HostRuntime) -> Result<(), Fail> {
     let alloc = rt.alloc();
     let mut shelf = SafeShelf::new(files(alloc, BASE)?);
     let mut sink = MemSink::new(alloc, 16, [3].to_vec(alloc)?);
-    let status = run(alloc, &words(alloc, "generate/g/empty")?, &mut shelf, &mut sink);
+    let status = run(
+        alloc,
+        &words(alloc, "generate/g/empty")?,
+        &mut shelf,
+        &mut sink,
+    );
     assert_eq!(rt; status, Status::WriteFault);
     assert_eq!(rt; sink.bytes(), &EMPTY_OVER_BASE.as_bytes()[..32]);
     Ok(())
@@ -221,11 +285,31 @@ fn numbers_and_lines(rt: HostRuntime) -> Result<(), Fail> {
     let cases = [
         (Status::Done, 0, ""),
         (Status::Usage, 2, "usage\n"),
-        (refused(FormErr::NotReduced { column: 1 }), 4, "form word 2: NotReduced 1\n"),
-        (refused(FormErr::BadSymbol { at: 20 }), 4, "form word 2: BadSymbol 20\n"),
-        (refused(FormErr::WrongWidth { column: 0 }), 4, "form word 2: WrongWidth 0\n"),
-        (refused(FormErr::NotWellFormed { tier: 3 }), 4, "form word 2: NotWellFormed 3\n"),
-        (refused(FormErr::UnknownLetter { at: 1 }), 4, "form word 2: UnknownLetter 1\n"),
+        (
+            refused(FormErr::NotReduced { column: 1 }),
+            4,
+            "form word 2: NotReduced 1\n",
+        ),
+        (
+            refused(FormErr::BadSymbol { at: 20 }),
+            4,
+            "form word 2: BadSymbol 20\n",
+        ),
+        (
+            refused(FormErr::WrongWidth { column: 0 }),
+            4,
+            "form word 2: WrongWidth 0\n",
+        ),
+        (
+            refused(FormErr::NotWellFormed { tier: 3 }),
+            4,
+            "form word 2: NotWellFormed 3\n",
+        ),
+        (
+            refused(FormErr::UnknownLetter { at: 1 }),
+            4,
+            "form word 2: UnknownLetter 1\n",
+        ),
         (refused(FormErr::TooLong), 4, "form word 2: TooLong\n"),
         (Status::ReadFault { word: 1 }, 8, "read fault word 1\n"),
         (Status::WriteFault, 9, "write fault\n"),

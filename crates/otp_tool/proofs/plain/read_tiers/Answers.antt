@@ -23,7 +23,7 @@ returns-then-is_known-clause-not_plain c = λ e tiers few a.
     let l : 0 < length c.loop-rest.rest.now = grind (arith, nat_tests) in
     let known : list_any (λ s. bytes_eq (string_bytes s) c.in-Some.first.name.now) c.loop-rest.names.items ≡ true = cc in
     twice c.args.text.now (map string_bytes c.loop-rest.names.items) c.loop-rest.kinds.items c.loop-rest.rest.now (some_left c.loop-rest.rest.now l) c.loop-rest.invariant tiers a
-        c.in-Some.first.name.now c.in-Some.first.kind c.in-Some.first.rest.now c.in-Some.ensures (any_map (λ known. bytes_eq known c.in-Some.first.name.now) string_bytes c.loop-rest.names.items ∙ known)
+    c.in-Some.first.name.now c.in-Some.first.kind c.in-Some.first.rest.now c.in-Some.ensures (any_map (λ known. bytes_eq known c.in-Some.first.name.now) string_bytes c.loop-rest.names.items ∙ known)
 
 pub loop-rest-preserved : goal.loop-rest-preserved
 loop-rest-preserved c =
@@ -32,9 +32,9 @@ loop-rest-preserved c =
     let kinds : c.push-else-is_err.new.self.items ≡ c.loop-rest.kinds.items ++ c.in-Some.first.kind ∷ [] = grind (arith, common_steps) in
     let bytes : string_bytes c.in-Ok.name ≡ c.in-Some.first.name.now = c.in-Ok.ensures in
     let both : map string_bytes c.push.new.self.items ≡ map string_bytes c.loop-rest.names.items ++ c.in-Some.first.name.now ∷ [] =
-        ap (map string_bytes) names ∙ map-append string_bytes c.loop-rest.names.items (c.in-Ok.name ∷ []) ∙ ap (λ b. map string_bytes c.loop-rest.names.items ++ b ∷ []) bytes in
+    ap (map string_bytes) names ∙ map-append string_bytes c.loop-rest.names.items (c.in-Ok.name ∷ []) ∙ ap (λ b. map string_bytes c.loop-rest.names.items ++ b ∷ []) bytes in
     let room : length c.loop-rest.kinds.items ≡ 12 → ⊥ = (λ full. grind (arith, nat_tests)) in
     let one = read_one c.args.text.now (map string_bytes c.loop-rest.names.items) c.loop-rest.kinds.items c.loop-rest.rest.now c.in-Some.first.name.now c.in-Some.first.kind c.in-Some.first.rest.now
-        c.loop-rest.invariant c.in-Some.ensures (any_map (λ known. bytes_eq known c.in-Some.first.name.now) string_bytes c.loop-rest.names.items ∙ new) room in
+    c.loop-rest.invariant c.in-Some.ensures (any_map (λ known. bytes_eq known c.in-Some.first.name.now) string_bytes c.loop-rest.names.items ∙ new) room in
     subst (λ ks. IsReadTo c.args.text.now (map string_bytes c.push.new.self.items) ks c.in-Some.first.rest.now) (sym kinds)
     (subst (λ ns. IsReadTo c.args.text.now ns (c.loop-rest.kinds.items ++ c.in-Some.first.kind ∷ []) c.in-Some.first.rest.now) (sym both) one)

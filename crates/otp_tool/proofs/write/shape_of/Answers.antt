@@ -24,5 +24,5 @@ returns-in-Ok-clause-widths c =
     let phases : c.push.new.self.items ≡ 0 ∷ [] = grind (arith, common_steps) in
     let width : length c.as_slice.result.now ≡ length c.args.tiers.now.kinds.items = ap length c.as_slice.ensures.value in
     same_widths _ (plain_widths c.args.tiers.now.kinds.items)
-        (ap (λ n. n - input_count c.mask.result) width ∙ free_width c.args.tiers.now.kinds.items c.mask.result c.requires c.mask.ensures.within c.mask.ensures.bits)
-        phases
+    (ap (λ n. n - input_count c.mask.result) width ∙ free_width c.args.tiers.now.kinds.items c.mask.result c.requires c.mask.ensures.within c.mask.ensures.bits)
+    phases

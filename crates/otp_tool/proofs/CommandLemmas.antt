@@ -1,5 +1,5 @@
 -- From the steps of a command to what stands behind its status.
-use Rattle.std.proofs.Common.{◌≡◌, ◌⊎◌, inl, inr, ℕ, ◌<◌, ◌≤◌, List, [], ◌∷◌, length, Option, None, Some, IfSome, count_by, codes, refl, ap, sym, ◌∙◌, subst, arith, slice_index_or}
+use Rattle.std.proofs.Common.{◌≡◌, ◌⊎◌, inl, inr, ℕ, ◌<◌, ◌≤◌, List, [], length, Option, Some, IfSome, count_by, codes, refl, ap, sym, ◌∙◌, subst, arith, slice_index_or}
 use Rattle.std.proofs.lemmas.List.{append_cancel_left}
 use Rattle.std.specs.List.{flat_map}
 use Rattle.outside.specs.Faults.{Rose}
@@ -10,13 +10,12 @@ use Rattle.tier_core.specs.Tiers.{is_input}
 use Rattle.timeline_text.specs.declared.form_err.FormErr.{FormErr}
 use Rattle.otp_tool.specs.declared.status.Status.{Status}
 use Rattle.otp_tool.specs.declared.status.Status.TheVariants.{Done, Usage, FormRefused, ReadFault, WriteFault, NoMemory, TooLong, NotBuilt}
-use Rattle.otp_tool.specs.Plain.{IsPlainGrammar, kinds_of, plain_text, tier_line}
+use Rattle.otp_tool.specs.Plain.{tier_line}
 use Rattle.otp_tool.specs.Words.{IsNoCommand, IsReadAs, IsRefusedFor, generate}
 use Rattle.otp_tool.specs.Grammars.{HasTiers, IsAccepted, IsHeld, IsLongFile, IsNoForm, IsNotPlain, input_count}
 use Rattle.otp_tool.specs.Answers.{IsAnswerFor, IsBegun, IsRightText, IsWritten}
 use Rattle.otp_tool.specs.Outcomes.{HasReadFault, IsBeforeWriting, IsBehind, IsTold, IsTooLong, Stands}
-use Rattle.otp_tool.specs.PlainTables.{IsTable}
-use Rattle.otp_tool.specs.Steps.{Change, IsAllTaken, IsFormRefusal, IsLoadRefusal, IsLoaded, IsOutcome, IsPartTaken, IsWriteOutcome}
+use Rattle.otp_tool.specs.Steps.{Change, IsFormRefusal, IsLoadRefusal, IsLoaded, IsOutcome, IsPartTaken, IsWriteOutcome}
 use Rattle.otp_tool.proofs.Forms.{not_refused, one_refusal}
 use Rattle.otp_tool.proofs.PlainLines.{tiers_once}
 

@@ -1,10 +1,10 @@
 -- What stands in the line of a tier at the front of a text.
-use Rattle.std.proofs.Common.{◌≡◌, ℕ, ◌==◌, Bool, true, false, ◌||◌, IsTrue, List, [], ◌∷◌, ◌++◌, codes, Option, None, Some, MatchOption, refl, ap, sym, ◌∙◌, subst}
+use Rattle.std.proofs.Common.{◌≡◌, ℕ, ◌==◌, Bool, true, false, ◌||◌, List, [], ◌∷◌, ◌++◌, codes, Option, None, Some, MatchOption, refl, ap, sym, ◌∙◌}
 use Rattle.std.specs.List.{list_any}
 use Rattle.std.proofs.lemmas.List.{append_cancel_left}
 use Rattle.std.proofs.lemmas.Bool.{false≢true}
 use Rattle.tier_core.specs.declared.tier.TierKind.{TierKind}
-use Rattle.otp_tool.specs.Plain.{is_name, kind_word, tier_line}
+use Rattle.otp_tool.specs.Plain.{is_name, kind_word}
 use Rattle.otp_tool.specs.Cuts.{BeginsWith, IsCut}
 use Rattle.otp_tool.proofs.PlainLines.{cut_once, line_more, no_space, no_feed}
 

@@ -1,5 +1,5 @@
 -- What is read is a form, and what is a form is not refused.
-use Rattle.std.proofs.Common.{rules, ◌≡◌, ℕ, Bool, true, false, ◌||◌, List, [], ◌∷◌, length, map, drop, Option, None, count_by, MatchBool, refl, ap, sym, ◌∙◌, subst}
+use Rattle.std.proofs.Common.{rules, ◌≡◌, ℕ, Bool, true, false, List, [], ◌∷◌, length, map, drop, count_by, MatchBool, refl, ap, sym, ◌∙◌, subst}
 use Rattle.std.specs.List.{list_any}
 use Rattle.std.proofs.lemmas.Bool.{false≢true}
 use Rattle.tier_core.specs.declared.sym.Sym.{Sym}
@@ -8,7 +8,6 @@ use Rattle.tier_core.specs.Tiers.{is_input, tiers_by_kinds}
 use Rattle.tier_core.specs.Timelines.{IsReduced, IsWellFormed}
 use Rattle.violation.specs.Candidates.{IsForm}
 use Rattle.timeline_text.specs.declared.form_err.FormErr.{FormErr}
-use Rattle.timeline_text.specs.declared.form_err.FormErr.TheVariants.{BadSymbol, WrongWidth, TooLong, NotWellFormed, NotReduced, UnknownLetter, NoMemory}
 use Rattle.timeline_text.specs.declared.letter.Letter.{Letter}
 use Rattle.timeline_text.specs.Texts.{IsTextOf}
 use Rattle.timeline_text.specs.Causes.{IsCause}

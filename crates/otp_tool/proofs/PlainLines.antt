@@ -1,5 +1,5 @@
 -- The lines of tiers can be read in one way only.
-use Rattle.std.proofs.Common.{◌≡◌, ℕ, zero, suc, ◌<◌, ◌==◌, slice_index, Bool, true, false, ◌||◌, ◌&&◌, IsTrue, List, [], ◌∷◌, ◌++◌, length, map, codes, refl, ap, sym, ◌∙◌, subst, arith, append_assoc}
+use Rattle.std.proofs.Common.{◌≡◌, ℕ, zero, suc, ◌<◌, ◌==◌, slice_index, Bool, true, false, ◌||◌, ◌&&◌, IsTrue, List, [], ◌∷◌, ◌++◌, codes, refl, ap, sym, ◌∙◌, subst, arith, append_assoc}
 use Rattle.std.specs.Str.Lossy.{utf8_lossy}
 use Rattle.std.proofs.lemmas.Str.{utf8_lossy-IsUtf8, IsUtf8-from_ascii}
 use Rattle.std.specs.List.{list_any, list_all, flat_map, AllByRecursion}
@@ -10,8 +10,8 @@ use Rattle.std.proofs.lemmas.Slice.Eq.{bytes_eq-Decides}
 use Rattle.std.proofs.lemmas.List.{append_cancel_left}
 use Rattle.tier_core.specs.declared.tier.TierKind.{TierKind}
 use Rattle.tier_core.specs.declared.tier.TierKind.TheVariants.{Input, Overt, Hidden}
-use Rattle.otp_tool.specs.Plain.{is_name, is_name_byte, kind_word, tier_line, kinds_of, names_of}
-use Rattle.otp_tool.specs.Cuts.{BeginsWith, IsCut}
+use Rattle.otp_tool.specs.Plain.{is_name, is_name_byte, kind_word, tier_line}
+use Rattle.otp_tool.specs.Cuts.{BeginsWith}
 
 -- ---- cuts
 

@@ -1,5 +1,5 @@
 -- Reading the lines of tiers, one after the other.
-use Rattle.std.proofs.Common.{◌≡◌, ◌≢◌, ℕ, zero, suc, ◌+◌, ◌<◌, ◌≤◌, Bool, true, false, cond, ◌||◌, IsTrue, List, [], ◌∷◌, ◌++◌, length, get_or, map, String, string_bytes, codes, AllPairs, Contains, refl, ap, sym, ◌∙◌, subst, arith, append_assoc, length-append}
+use Rattle.std.proofs.Common.{◌≡◌, ◌≢◌, ℕ, zero, suc, ◌+◌, ◌<◌, ◌≤◌, Bool, true, false, ◌||◌, IsTrue, List, [], ◌∷◌, ◌++◌, length, get_or, map, codes, AllPairs, refl, ap, sym, ◌∙◌, subst, arith, append_assoc, length-append}
 use Rattle.std.specs.List.{list_any, flat_map, AllByRecursion}
 use Rattle.std.specs.Str.{bytes_eq}
 use Rattle.std.proofs.lemmas.Bool.{false≢true}
@@ -8,7 +8,7 @@ use Rattle.std.proofs.lemmas.List.Quantifiers.{all_pairs_push}
 use Rattle.std.proofs.lemmas.Slice.Eq.{bytes_eq-Decides}
 use Rattle.tier_core.specs.declared.tier.TierKind.{TierKind}
 use Rattle.tier_core.proofs.CountLemmas.{all_append}
-use Rattle.otp_tool.specs.Plain.{is_name, kinds_of, names_of, plain_text, tier_line, IsPlainGrammar, AreWithinLimits}
+use Rattle.otp_tool.specs.Plain.{is_name, kinds_of, names_of, tier_line, IsPlainGrammar, AreWithinLimits}
 use Rattle.otp_tool.specs.PlainTables.{AreTiers, AreListed}
 use Rattle.otp_tool.specs.Cuts.{BeginsWith}
 use Rattle.otp_tool.proofs.PlainLines.{IsLeft, left_of, start_once, tiers_once}

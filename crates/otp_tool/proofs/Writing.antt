@@ -1,8 +1,7 @@
 -- What is written, and the shape that it is written in.
-use Rattle.std.proofs.Common.{◌≡◌, ◌↔◌, IsTrue, ℕ, zero, suc, ◌+◌, ◌-◌, ◌<◌, ◌≤◌, ◌^◌, List, [], ◌∷◌, length, Option, count_by, slice_index_or, refl, ap, sym, ◌∙◌, subst, arith}
+use Rattle.std.proofs.Common.{◌≡◌, ◌↔◌, IsTrue, ℕ, zero, suc, ◌-◌, ◌<◌, ◌≤◌, ◌^◌, List, [], ◌∷◌, length, Option, count_by, slice_index_or, refl, ap, ◌∙◌, arith}
 use Rattle.outside.specs.Sent.{appended, HasSentPart}
 use Rattle.tier_core.specs.declared.sym.Sym.{Sym}
-use Rattle.tier_core.specs.declared.shape.Shape.{Shape}
 use Rattle.tier_core.specs.declared.tier.TierKind.{TierKind}
 use Rattle.tier_core.specs.declared.tier.TierKind.TheVariants.{Input}
 use Rattle.tier_core.specs.Shapes.{input_count, NeverFalls}
@@ -10,7 +9,6 @@ use Rattle.tier_core.specs.Tiers.{has_tier, is_free, is_input, kind_at, tiers_by
 use Rattle.tier_core.proofs.TableMasks.{free_tiers, input_tiers}
 use Rattle.answer_text.specs.declared.answer.Answer.{Answer}
 use Rattle.answer_text.specs.Right.{IsRight}
-use Rattle.answer_text.specs.Shape.{widths_of}
 use Rattle.answer_text.specs.Text.{answer_text, Widths}
 use Rattle.ranked_gen.proofs.StateSteps.{numbers_count}
 use Rattle.otp_tool.specs.Answers.{plain_widths}

@@ -1,5 +1,5 @@
 -- A text that is cut at the first byte of a value, and the tier at the front of a text.
-use Rattle.std.specs.Prelude.{◌≡◌, ℕ, ◌==◌, false, IsTrue, List, [], ◌∷◌, ◌++◌}
+use Rattle.std.specs.Prelude.{◌≡◌, ℕ, ◌==◌, false, IsTrue, List, ◌∷◌, ◌++◌}
 use Rattle.std.specs.List.{list_any}
 use Rattle.tier_core.specs.declared.tier.TierKind.{TierKind}
 use Rattle.otp_tool.specs.Plain.{is_name, tier_line}

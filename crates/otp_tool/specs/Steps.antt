@@ -1,11 +1,10 @@
 -- What each step of a command answers.
-use Rattle.std.specs.Prelude.{◌≡◌, ◌≢◌, ℕ, ◌<◌, ◌≤◌, ◌⊎◌, List, length, Option, IfSome, count_by}
+use Rattle.std.specs.Prelude.{◌≡◌, ℕ, ◌<◌, ◌≤◌, ◌⊎◌, List, length, Option, IfSome}
 use Rattle.outside.specs.Faults.{Rose}
 use Rattle.outside.specs.Sent.{appended, HasSentPart}
 use Rattle.tier_core.specs.declared.sym.Sym.{Sym}
 use Rattle.tier_core.specs.declared.tier.TierKind.{TierKind}
 use Rattle.tier_core.specs.declared.tier.TierTable.{TierTable}
-use Rattle.timeline_text.specs.declared.form_err.FormErr.{FormErr}
 use Rattle.otp_tool.specs.declared.status.Status.{Status}
 use Rattle.otp_tool.specs.declared.status.Status.TheVariants.{Done, Usage, FormRefused, ReadFault, WriteFault, NoMemory, TooLong, NotBuilt}
 use Rattle.otp_tool.specs.PlainTables.{IsTable}

@@ -1,5 +1,5 @@
 -- The words of a command, and what a form's word is read as.
-use Rattle.std.specs.Prelude.{◌≡◌, ◌≢◌, ℕ, ◌==◌, Bool, List, [], ◌∷◌, map, codes, slice_index_or, MatchBool, String, string_bytes}
+use Rattle.std.specs.Prelude.{◌≢◌, ℕ, ◌==◌, Bool, List, [], ◌∷◌, map, codes, slice_index_or, MatchBool, String, string_bytes}
 use Rattle.tier_core.specs.declared.sym.Sym.{Sym}
 use Rattle.timeline_text.specs.declared.form_err.FormErr.{FormErr}
 use Rattle.timeline_text.specs.Texts.{IsTextOf}

@@ -1,4 +1,4 @@
-use Rattle.std.proofs.Common.{◌≡◌, ◌==◌, ℕ, ◌+◌, List, take, drop, position, None, sym, ap, ◌∙◌, subst}
+use Rattle.std.proofs.Common.{◌==◌, ◌+◌, take, sym, subst}
 use Rattle.otp_tool.specs.Cuts.{IsCut}
 use Rattle.otp_tool.proofs.CutLemmas.{cut_here, rest_whole}
 use Rattle.timeline_text.proofs.Searches.{none_any}

@@ -1,6 +1,5 @@
-use Rattle.std.proofs.Common.{◌≡◌, count_by, subst}
+use Rattle.std.proofs.Common.{◌≡◌, count_by}
 use Rattle.tier_core.specs.Tiers.{is_input}
-use Rattle.otp_tool.specs.Words.{IsReadAs}
 use Rattle.otp_tool.proofs.Forms.{form_of}
 use Rattle.otp_tool.proofs.form.read_form.Goals as goal
 

@@ -1,4 +1,4 @@
-use Rattle.std.proofs.Common.{◌≡◌, ◌++◌, true, false, map, string_bytes, codes, sym, ◌∙◌, subst}
+use Rattle.std.proofs.Common.{◌≡◌, true, false, map, string_bytes, sym, ◌∙◌, subst}
 use Rattle.std.proofs.lemmas.Bool.{false≢true}
 use Rattle.otp_tool.specs.Plain.{AreWithinLimits}
 use Rattle.otp_tool.proofs.Reading.{limits_of}

@@ -1,4 +1,4 @@
-use Rattle.std.proofs.Common.{ℕ, map, length, string_bytes}
+use Rattle.std.proofs.Common.{map, length, string_bytes}
 use Rattle.otp_tool.proofs.Reading.{IsReadTo}
 use Rattle.otp_tool.proofs.plain.read_tiers.Given as goal
 

@@ -1,5 +1,5 @@
-use Rattle.std.proofs.Common.{◌≡◌, ◌++◌, OnOk, sym, subst}
-use Rattle.outside.specs.Sent.{HasSentPart, Sends}
+use Rattle.std.proofs.Common.{◌++◌, OnOk, sym, subst}
+use Rattle.outside.specs.Sent.{Sends}
 use Rattle.timeline_text.specs.declared.form_err.FormErr.{FormErr}
 use Rattle.otp_tool.specs.Lines.{cause_text}
 use Rattle.otp_tool.proofs.put.put_cause.Goals as goal

@@ -1,5 +1,4 @@
-use Rattle.std.proofs.Common.{◌++◌, codes}
-use Rattle.std.specs.Fmt.{decimal}
+use Rattle.std.proofs.Common.{codes}
 use Rattle.std.proofs.lemmas.Result.{on_ok_weaker}
 use Rattle.outside.proofs.Sending.{puts_both, puts_both_part}
 use Rattle.answer_text.proofs.Puts.{puts_longer_part}

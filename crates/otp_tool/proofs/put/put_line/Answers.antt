@@ -1,4 +1,4 @@
-use Rattle.std.proofs.Common.{◌≡◌, ◌++◌, OnOk, sym, subst}
+use Rattle.std.proofs.Common.{◌++◌, OnOk, sym, subst}
 use Rattle.outside.specs.Sent.{HasSentPart, Sends}
 use Rattle.otp_tool.specs.declared.status.Status.{Status}
 use Rattle.otp_tool.specs.Lines.{status_text}

@@ -1,7 +1,6 @@
-use Rattle.std.proofs.Common.{◌≡◌, ℕ, ◌-◌, ◌≤◌, List, [], ◌∷◌, length, count_by, ap, sym, ◌∙◌, subst, arith}
+use Rattle.std.proofs.Common.{◌≡◌, ℕ, ◌-◌, ◌≤◌, [], ◌∷◌, length, ap, sym, ◌∙◌, subst, arith}
 use Rattle.std.proofs.lemmas.Grind.{common_steps}
 use Rattle.tier_core.specs.Shapes.{input_count, NeverFalls}
-use Rattle.tier_core.specs.Tiers.{is_input}
 use Rattle.otp_tool.specs.Answers.{plain_widths}
 use Rattle.otp_tool.proofs.Writing.{free_width, mask_count, no_phases, same_widths}
 use Rattle.otp_tool.proofs.write.shape_of.Goals as goal

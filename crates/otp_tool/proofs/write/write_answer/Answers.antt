@@ -1,4 +1,4 @@
-use Rattle.std.proofs.Common.{◌≡◌, inr, Err}
+use Rattle.std.proofs.Common.{inr}
 use Rattle.answer_text.specs.Shape.{widths_of}
 use Rattle.otp_tool.proofs.Writing.{all_taken, part_taken}
 use Rattle.otp_tool.proofs.write.write_answer.Goals as goal

@@ -1,5 +1,5 @@
 -- Adding what a line says.
-use Rattle.std.proofs.Common.{◌≡◌, ℕ, ◌+◌, ◌<◌, ◌≤◌, Bool, true, false, ◌||◌, ◌∷◌, [], ◌++◌, List, length, map, take, get_or, set, refl, ap, sym, ◌∙◌, arith, Option, Some, None, is_some}
+use Rattle.std.proofs.Common.{◌≡◌, ℕ, ◌+◌, ◌<◌, ◌≤◌, Bool, true, false, cond, ◌||◌, ◌∷◌, [], ◌++◌, List, length, map, take, drop, get_or, set, Global, refl, ap, sym, ◌∙◌, arith, Option, Some, None, is_some}
 use Rattle.std.specs.Prelude.{nat_le, nat_eq, nat_lt}
 use Rattle.std.specs.List.{list_any, list_all}
 use Rattle.std.specs.Map.{lookup}
@@ -7,16 +7,18 @@ use Rattle.std.specs.Str.{IsUtf8}
 use Rattle.std.specs.Cmp.Lexicographic.{pointwise}
 use Rattle.std.proofs.lemmas.Bool.{false≢true}
 use Rattle.std.proofs.lemmas.Bool.Decides.{nat_tests}
-use Rattle.std.proofs.lemmas.List.{map-append, length-map, take_more, take_more_set}
+use Rattle.std.proofs.lemmas.List.{map-append, length-map, take_more, take_more_set, drop_more}
 use Rattle.std.specs.String.{string_bytes}
+use Rattle.std.specs.declared.string.String.{String}
 use Rattle.tier_core.specs.declared.tier.TierKind.{TierKind}
 use Rattle.tier_core.specs.declared.event.Event.{Event}
 use Rattle.tier_core.specs.declared.constraint.Family.{Family}
 use Rattle.tier_core.specs.declared.constraint.Constraint.{Constraint}
 use Rattle.tier_core.specs.Tiers.{is_input, is_free}
 use Rattle.timeline_text.specs.declared.letter.Letter.{Letter}
+use Rattle.grammar_reader.specs.Canonical.{names_in}
 use Rattle.grammar_reader.specs.Values.{is_named, NamedTier, NamedConstraint, GrammarValue, inputs_of, free_of}
-use Rattle.grammar_reader.specs.Seen.{tier_seen, tiers_seen, constraint_seen}
+use Rattle.grammar_reader.specs.Seen.{tier_seen, tiers_seen, tiers_by, constraint_seen}
 use Rattle.grammar_reader.proofs.Known.{known_any}
 use Rattle.grammar_reader.proofs.Twice.{or_none}
 use denote.Ref.{Bor}
@@ -69,3 +71,27 @@ constraint_is c name family left right n f l r =
 pub constraint_added : (ts : List NamedTier) (ls : List Letter) (cs new : List Constraint) (c : Constraint) (n : NamedConstraint) → new ≡ cs ++ c ∷ [] → constraint_seen c ≡ n
     → grammar_by ts ls (map constraint_seen new) ≡ grammar_by ts ls (map constraint_seen cs ++ n ∷ [])
 constraint_added ts ls cs new c n e f = ap (grammar_by ts ls) (ap (map constraint_seen) e ∙ map-append constraint_seen cs (c ∷ []) ∙ ap (λ x. map constraint_seen cs ++ x ∷ []) f)
+
+-- the next tier, and those after it
+pub tiers_next : (names : List (String Global)) (kinds same : List TierKind) (i : ℕ) (n : String Global) (k : TierKind) → same ≡ kinds → i < length same → length names ≡ length kinds
+    → tiers_by (map string_bytes (drop i names)) (drop i kinds) ≡ record { name = string_bytes (get_or names i n); kind = get_or same i k } ∷ tiers_by (map string_bytes (drop (i + 1) names)) (drop (i + 1) kinds)
+tiers_next names kinds same i n k e l m =
+    ap (λ ks. tiers_by (map string_bytes (drop i names)) (drop i ks)) (sym e)
+    ∙ ap (λ ns. tiers_by (map string_bytes ns) (drop i same)) (drop_more names i n (let w = ap length e in omega arith))
+    ∙ ap (λ ks. tiers_by (string_bytes (get_or names i n) ∷ map string_bytes (drop (i + 1) names)) ks) (drop_more same i k l)
+    ∙ ap (λ ks. record { name = string_bytes (get_or names i n); kind = get_or same i k } ∷ tiers_by (map string_bytes (drop (i + 1) names)) (drop (i + 1) ks)) e
+
+-- the names of tiers by their names
+pub names_back : (ns : List (List ℕ)) (ks : List TierKind) → length ns ≡ length ks → map (λ t. t.name) (tiers_by ns ks) ≡ ns
+names_back [] ks l = refl
+names_back (n ∷ ns) [] l = absurd (omega arith)
+names_back (n ∷ ns) (k ∷ ks) l = ap (λ xs. n ∷ xs) (names_back ns ks (omega arith))
+
+-- a tier that is no input tier is not among those of a mask
+pub names_skip : (names : List (String Global)) (kinds same : List TierKind) (i mask : ℕ) (k : TierKind) → same ≡ kinds → i < length same → length names ≡ length kinds → is_input (get_or same i k) ≡ false
+    → names_in (inputs_of (tiers_by (map string_bytes (drop i names)) (drop i kinds))) mask ≡ names_in (inputs_of (tiers_by (map string_bytes (drop (i + 1) names)) (drop (i + 1) kinds))) mask
+names_skip [] kinds same i mask k e l m o = let w = ap length e in absurd (omega arith)
+names_skip (n ∷ names) kinds same i mask k e l m o =
+    let rest = tiers_by (map string_bytes (drop (i + 1) (n ∷ names))) (drop (i + 1) kinds) in
+    ap (λ ts. names_in (inputs_of ts) mask) (tiers_next (n ∷ names) kinds same i n k e l m)
+    ∙ ap (λ t. names_in (cond t (record { name = string_bytes (get_or (n ∷ names) i n); kind = get_or same i k } ∷ inputs_of rest) (inputs_of rest)) mask) o

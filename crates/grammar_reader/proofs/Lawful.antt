@@ -196,13 +196,13 @@ input_found : (tiers : List NamedTier) (name : List ℕ) → is_input_named tier
 input_found [] name h = absurd (false≢true h)
 input_found (t ∷ tiers) name h = by_test (is_named name t)
     (λ e.
-        let k : is_input t.kind ≡ true = sym (ap (λ b. option_map_or (λ x. is_input x.kind) (cond b (Some t) (find (is_named name) tiers)) false) e) ∙ h in
-        ap (λ b. list_any (is_named name) (cond b (t ∷ inputs_of tiers) (inputs_of tiers))) k ∙ ap (λ b. b || list_any (is_named name) (inputs_of tiers)) e)
+    let k : is_input t.kind ≡ true = sym (ap (λ b. option_map_or (λ x. is_input x.kind) (cond b (Some t) (find (is_named name) tiers)) false) e) ∙ h in
+    ap (λ b. list_any (is_named name) (cond b (t ∷ inputs_of tiers) (inputs_of tiers))) k ∙ ap (λ b. b || list_any (is_named name) (inputs_of tiers)) e)
     (λ e.
-        let rest = input_found tiers name (sym (ap (λ b. option_map_or (λ x. is_input x.kind) (cond b (Some t) (find (is_named name) tiers)) false) e) ∙ h) in
-        by_test (is_input t.kind)
-        (λ k. ap (λ b. list_any (is_named name) (cond b (t ∷ inputs_of tiers) (inputs_of tiers))) k ∙ ap (λ b. b || list_any (is_named name) (inputs_of tiers)) e ∙ rest)
-        (λ k. ap (λ b. list_any (is_named name) (cond b (t ∷ inputs_of tiers) (inputs_of tiers))) k ∙ rest))
+    let rest = input_found tiers name (sym (ap (λ b. option_map_or (λ x. is_input x.kind) (cond b (Some t) (find (is_named name) tiers)) false) e) ∙ h) in
+    by_test (is_input t.kind)
+    (λ k. ap (λ b. list_any (is_named name) (cond b (t ∷ inputs_of tiers) (inputs_of tiers))) k ∙ ap (λ b. b || list_any (is_named name) (inputs_of tiers)) e ∙ rest)
+    (λ k. ap (λ b. list_any (is_named name) (cond b (t ∷ inputs_of tiers) (inputs_of tiers))) k ∙ rest))
 
 mask_some : (ts : List NamedTier) (name : List ℕ) (names : List (List ℕ)) → list_any (is_named name) ts ≡ true → 0 < mask_of ts (name ∷ names)
 mask_some [] name names h = absurd (false≢true h)
@@ -296,6 +296,16 @@ constraint_made g name family left right some_left some_right m n =
 
 pub nothing_made : IsMade nothing
 nothing_made = record {
-  tier_names = refl; tiers_once = refl; few_tiers = omega arith; few_inputs = omega arith; few_free = omega arith; letter_names = refl;
-  letters_once = refl; sounds = refl; constraint_names = refl; constraints_once = refl; few_constraints = omega arith; sides = refl;
+  tier_names = refl;
+  tiers_once = refl;
+  few_tiers = omega arith;
+  few_inputs = omega arith;
+  few_free = omega arith;
+  letter_names = refl;
+  letters_once = refl;
+  sounds = refl;
+  constraint_names = refl;
+  constraints_once = refl;
+  few_constraints = omega arith;
+  sides = refl;
 }

@@ -165,10 +165,10 @@ at_end : (before : Option GrammarValue) (g : GrammarValue) → SoFar before → 
 at_end None g h k = cc
 at_end (Some before) g h k = by_test (list_any (λ t. is_input t.kind) before.tiers)
     (λ i. by_test (list_any (λ t. is_overt t.kind) before.tiers)
-        (λ o.
-            let same : before ≡ g = let e = sym (tests true true i o) ∙ k in cc in
-            subst IsGrammar same (record { made = h; input = i; overt = o }))
-        (λ o. let e = sym (tests true false i o) ∙ k in cc))
+    (λ o.
+    let same : before ≡ g = let e = sym (tests true true i o) ∙ k in cc in
+    subst IsGrammar same (record { made = h; input = i; overt = o }))
+    (λ o. let e = sym (tests true false i o) ∙ k in cc))
     (λ i. let e = sym (first_test i) ∙ k in cc)
   where
     tests : (a b : Bool) → list_any (λ t. is_input t.kind) before.tiers ≡ a → list_any (λ t. is_overt t.kind) before.tiers ≡ b

@@ -18,3 +18,5 @@ pub mod Ascii
 pub mod Masks
 pub mod Loop
 pub mod Stated
+pub mod Joined
+pub mod LineText

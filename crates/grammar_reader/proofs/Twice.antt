@@ -49,7 +49,7 @@ pub twice_after : (ns : List (List ℕ)) (n : List ℕ) (ms : List (List ℕ)) �
 twice_after [] n ms h = absurd (false≢true h)
 twice_after (m ∷ ns) n ms h = by_test (bytes_eq n m)
     (λ e. or_left (list_any (bytes_eq m) (ns ++ n ∷ ms)) (has_twice (ns ++ n ∷ ms))
-        (list_any-append (bytes_eq m) ns (n ∷ ms) ∙ or_right (list_any (bytes_eq m) ns) (bytes_eq m n || list_any (bytes_eq m) ms) (or_left (bytes_eq m n) (list_any (bytes_eq m) ms) (same_bytes n m e))))
+    (list_any-append (bytes_eq m) ns (n ∷ ms) ∙ or_right (list_any (bytes_eq m) ns) (bytes_eq m n || list_any (bytes_eq m) ms) (or_left (bytes_eq m n) (list_any (bytes_eq m) ms) (same_bytes n m e))))
     (λ e. or_right (list_any (bytes_eq m) (ns ++ n ∷ ms)) (has_twice (ns ++ n ∷ ms)) (twice_after ns n ms (sym (ap (λ t. t || list_any (bytes_eq n) ns) e) ∙ h)))
 
 -- names that are gone through, with those that are gone through in a set

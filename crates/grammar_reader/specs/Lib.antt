@@ -11,6 +11,6 @@ pub mod Reading
 pub mod Seen
 pub mod Said
 pub mod Made
-
 pub mod Grammars
 pub mod Canonical
+pub mod Words

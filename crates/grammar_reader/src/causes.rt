@@ -58,7 +58,9 @@ fn has_twice(alloc: Global, names: &[&[u8]]) -> Result<bool, LineErr>
 fn has_letter(made: &Made<'_>, byte: &[u8]) -> bool
     ensures { result ≡ list_any (λ l. bytes_eq byte.now (letter_name l)) made.now.letters.items }
 {
-    made.letters.iter().any(|letter| byte == [letter.byte].as_slice())
+    made.letters
+        .iter()
+        .any(|letter| byte == [letter.byte].as_slice())
 }
 
 /// Whether a constraint of that name has been made.
@@ -126,9 +128,7 @@ fn has_no_input(made: &Made<'_>, statement: &Statement<'_>) -> bool
     ensures { result ≡ has_no_input (made_value made.now) (statement_seen statement.now) }
 {
     match statement {
-        Statement::Letter(_, names) => names
-            .iter()
-            .any(|name| !is_input_named(&made.tiers, name)),
+        Statement::Letter(_, names) => names.iter().any(|name| !is_input_named(&made.tiers, name)),
         _ => false,
     }
 }

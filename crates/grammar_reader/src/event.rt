@@ -4,10 +4,10 @@ ghost use Rattle.grammar_reader.specs.Lexemes.{seen};
 ghost use Rattle.grammar_reader.specs.Events.{seen_event, FailsForm};
 
 use crate::grammar_err::GrammarCause;
-use tier_core::Part;
 use crate::lexeme::{Lexeme, LineErr};
 use crate::names::is_connective;
 use std::alloc::Global;
+use tier_core::Part;
 
 /// An event by the name of its tier.
 #[derive(Clone, Copy)]

@@ -2,8 +2,8 @@ ghost use Rattle.std.specs.Prelude.{◌≡◌, ◌+◌, ◌<◌, ◌^◌, ◌∷
 ghost use Rattle.grammar_reader.specs.Pieces.{lexeme_of, lines_of};
 ghost use Rattle.grammar_reader.specs.Lexemes.{seen, lexemes_of, FailsLine};
 
-use crate::grammar_err::GrammarCause;
 use crate::front::is_word;
+use crate::grammar_err::GrammarCause;
 use crate::token_iter::{Step, Tokens};
 use std::alloc::{AllocError, AllocFailed, Global};
 

@@ -107,7 +107,7 @@ fn before_sign(lexemes: &[Lexeme<'_>]) -> usize
 }
 
 /// What joins the events on the right side.
-fn joined_by(family: Family) -> &'static [u8]
+pub(crate) fn joined_by(family: Family) -> &'static [u8]
     ensures { result.now ≡ joined_by family }
 {
     match family {

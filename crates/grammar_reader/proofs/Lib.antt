@@ -20,3 +20,4 @@ pub mod Loop
 pub mod Stated
 pub mod Joined
 pub mod LineText
+pub mod Shaping

@@ -14,3 +14,4 @@ pub mod Made
 pub mod Grammars
 pub mod Canonical
 pub mod Words
+pub mod ShapeOf

@@ -26,6 +26,8 @@ mod scan;
 mod shape_of;
 mod slices;
 mod statement;
+#[cfg(test)]
+mod tests;
 mod token_iter;
 mod words;
 

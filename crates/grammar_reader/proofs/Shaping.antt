@@ -1,0 +1,91 @@
+-- What the type of a shape keeps, of the shape of a grammar.
+use Rattle.std.proofs.Common.{◌≡◌, ℕ, zero, suc, ◌+◌, ◌<◌, ◌≤◌, Bool, true, false, cond, ◌||◌, List, [], ◌∷◌, ◌++◌, length, map, filter, take, get_or, refl, ap, sym, ◌∙◌, subst, arith, length-append}
+use Rattle.std.specs.List.{list_any, range_with_len}
+use Rattle.std.proofs.lemmas.Bool.{false≢true}
+use Rattle.std.proofs.lemmas.List.{length-map, length-take-le}
+use Rattle.std.proofs.lemmas.List.FromFn.{length-map-range_with_len, get_or-map-range_with_len}
+use Rattle.std.proofs.lemmas.List.Filters.{length-filter_more}
+use Rattle.tier_core.specs.declared.tier.TierKind.{TierKind}
+use Rattle.tier_core.specs.declared.constraint.Constraint.{Constraint}
+use Rattle.tier_core.specs.Tiers.{is_input, numbers_from}
+use Rattle.tier_core.specs.Shapes.{NeverFalls}
+use Rattle.grammar_reader.specs.ShapeOf.{is_stretch, stretch_counts}
+use Rattle.grammar_reader.specs.Values.{inputs_of}
+use Rattle.grammar_reader.specs.Seen.{tiers_by}
+use Rattle.grammar_reader.proofs.Lists.{filter-map, list_any-map}
+
+numbers_one : (t : Bool) (n : ℕ) (ns : List ℕ) (ks : List TierKind) (k : TierKind) → length ns ≡ length ks → length (cond t (n ∷ []) [] ++ ns) ≡ length (cond t (k ∷ ks) ks)
+numbers_one true n ns ks k e = omega arith
+numbers_one false n ns ks k e = e
+
+-- as many tiers are numbered as pass
+pub length-numbers_from : (p : TierKind → Bool) (n : ℕ) (kinds : List TierKind) → length (numbers_from p n kinds) ≡ length (filter p kinds)
+length-numbers_from p n [] = refl
+length-numbers_from p n (k ∷ kinds) = numbers_one (p k) n (numbers_from p (suc n) kinds) (filter p kinds) k (length-numbers_from p (suc n) kinds)
+
+kinds_back : (ns : List (List ℕ)) (ks : List TierKind) → length ns ≡ length ks → map (λ t. t.kind) (tiers_by ns ks) ≡ ks
+kinds_back [] [] l = refl
+kinds_back [] (k ∷ ks) l = absurd (omega arith)
+kinds_back (n ∷ ns) [] l = absurd (omega arith)
+kinds_back (n ∷ ns) (k ∷ ks) l = ap (λ xs. k ∷ xs) (kinds_back ns ks (omega arith))
+
+-- the input tiers of a table by its kinds
+pub length-inputs : (ns : List (List ℕ)) (ks : List TierKind) → length ns ≡ length ks → length (inputs_of (tiers_by ns ks)) ≡ length (filter is_input ks)
+length-inputs ns ks l = sym (length-map (inputs_of (tiers_by ns ks)) (λ t. t.kind)) ∙ ap length (filter-map is_input (λ t. t.kind) (tiers_by ns ks)) ∙ ap (λ xs. length (filter is_input xs)) (kinds_back ns ks l)
+
+some_filtered : (t : Bool) (r : Bool) (k : TierKind) (ks : List TierKind) → (t || r) ≡ true → (r ≡ true → 0 < length ks) → 0 < length (cond t (k ∷ ks) ks)
+some_filtered true r k ks h f = omega arith
+some_filtered false r k ks h f = f h
+
+pub any_filtered : (p : TierKind → Bool) (ks : List TierKind) → list_any p ks ≡ true → 0 < length (filter p ks)
+any_filtered p [] h = absurd (false≢true h)
+any_filtered p (k ∷ ks) h = some_filtered (p k) (list_any p ks) k (filter p ks) h (any_filtered p ks)
+
+-- some tier is an input tier
+pub some_input : (ns : List (List ℕ)) (ks : List TierKind) → length ns ≡ length ks → list_any (λ t. is_input t.kind) (tiers_by ns ks) ≡ true → 0 < length (filter is_input ks)
+some_input ns ks l h = any_filtered is_input ks (ap (list_any is_input) (sym (kinds_back ns ks l)) ∙ list_any-map is_input (λ t. t.kind) (tiers_by ns ks) ∙ h)
+
+-- ---- counts of stretch implications
+
+at_most : (t : Bool) (x : Constraint) (ys : List Constraint) (n : ℕ) → length ys ≤ n → length (cond t (x ∷ ys) ys) ≤ suc n
+at_most true x ys n l = omega arith
+at_most false x ys n l = omega arith
+
+filtered_at_most : (xs : List Constraint) → length (filter is_stretch xs) ≤ length xs
+filtered_at_most [] = omega arith
+filtered_at_most (x ∷ xs) = at_most (is_stretch x) x (filter is_stretch xs) (length xs) (filtered_at_most xs)
+
+bit : (t : Bool) → 0 ≤ cond t 1 0
+bit true = omega arith
+bit false = omega arith
+
+count_rises : (xs : List Constraint) (r : ℕ) → r < length xs → length (filter is_stretch (take r xs)) ≤ length (filter is_stretch (take (r + 1) xs))
+count_rises [] r k = absurd (omega arith)
+count_rises (x ∷ xs) r k = let e = length-filter_more is_stretch (x ∷ xs) r x k in let b = bit (is_stretch (get_or (x ∷ xs) r x)) in omega (arith, e, b)
+
+count_at : (cs : List Constraint) (r : ℕ) → r < length cs + 1 → get_or (stretch_counts cs) r 0 ≡ length (filter is_stretch (take r cs))
+count_at cs r k = get_or-map-range_with_len (λ i. length (filter is_stretch (take i cs))) 0 (length cs + 1) r r 0 k (omega arith)
+
+pub length-stretch_counts : (cs : List Constraint) → length (stretch_counts cs) ≡ length cs + 1
+length-stretch_counts cs = length-map-range_with_len (λ i. length (filter is_stretch (take i cs))) 0 (length cs + 1)
+
+pub never_falls : (cs : List Constraint) → length cs ≤ 24 → NeverFalls (stretch_counts cs)
+never_falls cs l = record {
+  begins = count_at cs 0 (omega arith);
+  rises = λ r k.
+      let n = length-stretch_counts cs in
+      let a = count_at cs r (omega arith) in
+      let b = count_at cs (r + 1) (omega arith) in
+      let e = count_rises cs r (omega arith) in
+      omega (arith, a, b, e);
+  most = λ r k.
+      let n = length-stretch_counts cs in
+      let a = count_at cs r (omega arith) in
+      let f = filtered_at_most (take r cs) in
+      let t = length-take-le r cs (omega arith) in
+      omega (arith, a, f, t);
+}
+
+pub bit_value : (t : Bool) → cond t 1 0 ≤ 1
+bit_value true = omega arith
+bit_value false = omega arith

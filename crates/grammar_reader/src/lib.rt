@@ -1,0 +1,41 @@
+//! The grammar language: texts of tiers, letters and ranked constraints, and the grammars that they
+//! tell.
+//!
+//! A text goes from bytes to tokens, to lexemes line by line, to what a line says, and is refused by
+//! the first line that has a cause. The layers above take grammars from [`read_grammar`], write the
+//! canonical text by [`put_grammar`], and take from [`shape`] what the text of an answer needs. A
+//! [`Grammar`] keeps by its type all that a text of one shows: limits, names, and tiers that exist.
+//!
+//! The definitions of `specs/` are the pieces of a text (`Pieces`), what a line says (`Statements`),
+//! the value of a grammar (`Values`), and the causes in their order (`Reading`).
+#![tactic(auto)]
+
+mod add;
+mod causes;
+mod event;
+mod front;
+mod grammar;
+mod grammar_err;
+mod lexeme;
+mod lines;
+mod made;
+mod names;
+mod put;
+mod read;
+mod scan;
+mod shape_of;
+mod slices;
+mod statement;
+#[cfg(test)]
+mod tests;
+mod token_iter;
+mod words;
+
+pub use grammar::Grammar;
+pub use grammar_err::{GrammarCause, GrammarErr};
+pub use put::{put_grammar, wait_grammar};
+pub use read::read_grammar;
+pub use scan::tokens;
+pub use shape_of::shape;
+pub use slices::tokens_are_slices;
+pub use token_iter::{Token, Tokens};

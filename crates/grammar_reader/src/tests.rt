@@ -1,3 +1,5 @@
+ghost use Rattle.std.specs.Prelude.{◌≤◌};
+
 use crate::{GrammarCause, GrammarErr, put_grammar, read_grammar, shape, tokens};
 use outside::{MemSink, SafeSink, WriteErr};
 use std::alloc::{AllocError, Global};

@@ -5,13 +5,17 @@
 top=$(cd "$(dirname "$0")/.." && pwd) || exit 1
 place=$(mktemp -d) || exit 1
 trap 'rm -rf "$place"' EXIT
-cp "$top/examples/base.otp" "$place/base.otp" && cd "$place" || exit 1
+cp "$top"/examples/*.otp "$place" && cd "$place" || exit 1
 printf 'otp 1\ntier A input\ntier a hidden\n' > no_overt.otp
+printf 'otp 1\ntier A input\ntier  a overt ; surface\n\nconstraint Max A->a' > loose.otp
+printf 'otp 1\ntier A input\ntier a overt\nconstraint Max A -> a\n' > strict.otp
+{ cat base.otp; echo 'tier a hidden'; } > twice.otp
+{ cat base.otp; echo 'constraint X b -> a'; } > unknown.otp
 head -c 65537 /dev/zero > long.otp
 tr '\0' 'x' < /dev/zero | head -c 65536 > full.otp
 failed=0
 
-# try NAME STATUS LINE WORD..: the status, the line on standard error, and no answer but for status 0
+# try NAME STATUS LINE WORD..: the status, the line on standard error, and no text but for status 0
 try() {
     name=$1 status=$2 line=$3
     shift 3
@@ -30,23 +34,74 @@ try() {
     fi
 }
 
+# wrote LINE..: the lines that the last command wrote
+wrote() {
+    printf '%s\n' "$@" > lines
+    if ! cmp -s out lines; then
+        echo "FAILED: it wrote $(cat out)"
+        failed=1
+    fi
+}
+
 "$top/otp" > /dev/null 2>&1 # builds it where need be
+
+# what each command writes
 try "empty form" 0 "" generate base.otp empty
 cmp out "$top/crates/otp/stdout" || failed=1
 try "one constituent" 0 "" generate base.otp "[ ]"
 try "spelled empty form" 0 "" generate base.otp =
+try "counts and example" 0 "" show base.otp "[ | ]"
+wrote "counts" "example [- |- ]-"
+try "letters" 0 "" show letters.otp =na
+wrote "counts" "example [-[- ][]- -]--"
+try "largest budget" 0 "" show base.otp "[ ]" 65536
+try "as many kinds as the budget" 0 "" show base.otp "[ ]" 6
+wrote "counts" "example [- ]-"
+try "canonical text of a canonical text" 0 "" canon syllables.otp
+cmp out syllables.otp || failed=1
+try "canonical text of a loose text" 0 "" canon loose.otp
+cmp out strict.otp || failed=1
+try "three counts" 0 "" score ranked.otp "-[ [| ]]"
+wrote "counts 0 1 2"
+try "no counts" 0 "" score base.otp "[- ]-"
+wrote "counts"
+try "two open syllables" 0 "" score syllables.otp "[-[-[ ][][+ [][]| ][][+ -]-]]"
+wrote "counts 0 0 0 0 0 0 0 0 0 0 0 0 0"
+try "a coda" 0 "" score syllables.otp "[-[-[ ][][+ [][]| ]-]-]"
+wrote "counts 0 0 0 0 0 0 0 0 0 0 0 1 0"
+
+# each refusal
 try "no words" 2 "usage"
 try "unknown command" 2 "usage" foo base.otp empty
 try "two words" 2 "usage" generate base.otp
+try "a word too many" 2 "usage" canon base.otp empty
+try "no timeline" 2 "usage" score base.otp
+try "budget of zero" 2 "usage" show base.otp empty 0
+try "leading zero" 2 "usage" show base.otp empty 08
+try "budget above the greatest" 2 "usage" show base.otp empty 65537
+try "budget of score" 2 "usage" score base.otp empty 8
 try "missing file" 8 "read fault word 1" generate missing.otp empty
 try "folder" 8 "read fault word 1" generate . empty
 try "long file" 12 "too long word 1" generate long.otp empty
-try "no overt tier" 13 "not built word 1" generate no_overt.otp empty
-try "no grammar" 13 "not built word 1" generate full.otp empty
+try "longest file" 3 "grammar word 1 line 1: BadHeader" canon full.otp
+try "empty file" 3 "grammar word 1 line 1: BadHeader" canon /dev/null
+try "no overt tier" 3 "grammar word 1 line 0: NoOvert" generate no_overt.otp empty
+try "tier twice" 3 "grammar word 1 line 4: TwiceNamed" show twice.otp empty
+try "unknown tier" 3 "grammar word 1 line 4: UnknownTier" score unknown.otp empty
+try "grammar before form" 3 "grammar word 1 line 4: UnknownTier" generate unknown.otp "] ["
+try "constraints" 13 "not built word 1" generate ranked.otp empty
+try "constraints before form" 13 "not built word 1" show ranked.otp "] ["
 try "not well formed" 4 "form word 2: NotWellFormed 0" generate base.otp "] ["
 try "not reduced" 4 "form word 2: NotReduced 1" generate base.otp "[ + ]"
 try "no letter" 4 "form word 2: UnknownLetter 1" generate base.otp =t
+try "another letter" 4 "form word 2: UnknownLetter 2" show letters.otp =tx
 try "empty word" 4 "form word 2: WrongWidth 0" generate base.otp ""
+try "timeline of one tier" 4 "form word 2: WrongWidth 0" score ranked.otp "[ ]"
+try "timeline that is spelled" 4 "form word 2: BadSymbol 0" score letters.otp =t
+try "timeline that never ends" 4 "form word 2: NotWellFormed 1" score ranked.otp "[[ ]+"
+try "form before budget" 4 "form word 2: NotWellFormed 0" show base.otp "] [" 1
+try "fewer kinds than there are" 7 "budget entry 0 stage 0" show base.otp "[ ]" 5
+try "budget of generate" 7 "budget entry 0 stage 0" generate hidden.otp empty 3
 try "word that is no text" 15 "" generate base.otp "$(printf '\377')"
 
 # status_is NAME WANTED FOUND
@@ -62,6 +117,10 @@ status_is() {
 "$top/otp" generate base.otp empty > /dev/full 2> err
 status_is "full disk" 9 $?
 grep -qx "write fault" err || failed=1
+for words in "canon base.otp" "score base.otp empty" "show base.otp empty"; do
+    "$top/otp" $words > /dev/full 2> err
+    status_is "full disk, $words" 9 $?
+done
 "$top/otp" generate base.otp empty >&- 2> err
 status_is "closed standard output" 9 $?
 # A reader that is gone, where the signal of a broken pipe is ignored.

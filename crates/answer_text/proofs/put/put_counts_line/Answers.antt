@@ -3,7 +3,7 @@ use Rattle.answer_text.specs.Text.{spaced}
 use Rattle.std.proofs.lemmas.Result.{on_ok_weaker}
 use Rattle.outside.proofs.Sending.{puts_both, puts_both_part}
 use Rattle.answer_text.proofs.Puts.{puts_longer_part}
-use Rattle.answer_text.proofs.put.put_counts.Goals as goal
+use Rattle.answer_text.proofs.put.put_counts_line.Goals as goal
 
 pub returns-in_err-put-clause-part : goal.returns-in_err-put-clause-part
 returns-in_err-put-clause-part g c = puts_longer_part c.args.waiting.now ((codes "counts") ++ (spaced c.args.counts.now)) (codes "\n") (puts_longer_part c.args.waiting.now (codes "counts") (spaced c.args.counts.now) c.put.ensures.part)

@@ -13,6 +13,7 @@ pub mod BareForm
 pub mod AllPassed
 pub mod InputTiers
 pub mod AutomatonMoves
+pub mod StageKinds
 pub mod RightAnswer
 pub mod PickLemmas
 pub mod FlagSteps

@@ -14,7 +14,7 @@ use Rattle.tier_core.specs.Kinds.{PrefixKind, prefix_kind, kind_order}
 use Rattle.violation.specs.Candidates.{IsForm, IsCandidate, IsOptimal}
 use Rattle.violation.specs.Conditions.{AreSplit, AreDistinct}
 use Rattle.violation.specs.Prefixes.{kind_of}
-use Rattle.violation.specs.Stages.{IsPassed}
+use Rattle.violation.specs.Stages.{AreKindsOfStage}
 use Rattle.violation.specs.Walks.{BeginsCandidate}
 use Rattle.violation.specs.Moves.{FitsKind, moved}
 use Rattle.answer_text.specs.declared.stage.Node.{Node}
@@ -33,7 +33,7 @@ use Rattle.ranked_gen.proofs.MoveList.{Move, listed_moves, moves_ascend, nat_les
 use Rattle.ranked_gen.proofs.ArcLemmas.{arcs_ascend, IsSingleArc, single_holds, arcs_apart}
 use Rattle.ranked_gen.proofs.AutomatonMoves.{numbered_member, IsWithin, number_within, numbered_within, moved_within, accepted_candidate, candidate_accepted, kind_within, prefix_leads}
 use Rattle.ranked_gen.proofs.BareForm.{all_optimal, bare_first}
-use Rattle.ranked_gen.proofs.AllPassed.{all_passed}
+use Rattle.ranked_gen.proofs.StageKinds.{begins, passed_number, numbered_kinds}
 
 -- numbered elements, seen by number, are a range
 pub numbered_range : {X Y : Type 0} (P : ℕ → X → Type 0) (view : X → Y) (g : ℕ → Y) → ((n : ℕ) (x : X) → P n x → view x ≡ g n) → (n : ℕ) (xs : List X) → AreNumbered P n xs → map view xs ≡ map g (range_with_len n (length xs))
@@ -50,20 +50,8 @@ pub map_itself : {X : Type 0} (xs : List X) → map (λ x. x) xs ≡ xs
 map_itself [] = refl
 map_itself (x ∷ xs) = ap (λ ys. x ∷ ys) (map_itself xs)
 
--- the first columns of a candidate begin it
-pub begins : (tiers : Tiers) (u T : List (List Sym)) (n : ℕ) → IsCandidate tiers u T → BeginsCandidate tiers u (take n T)
-begins tiers u T n c = (drop n T, subst (IsCandidate tiers u) (sym (take-append-drop n T)) c)
-
 module _ (tiers : Tiers) (split : AreSplit tiers) (distinct : AreDistinct tiers.free) (u : List (List Sym)) (form : IsForm tiers u)
     (nodes : List Node) (node_count : length nodes ≡ kind_count tiers u) (each_node : AreNumbered (IsNodeNumbered tiers) 0 nodes) where
-  -- each number is that of a kind that is passed
-  pub passed_number : (i : ℕ) → i < kind_count tiers u → IsPassed tiers [] u 0 0 (kind_numbered (length tiers.free) i)
-  passed_number i l = let w = numbered_within tiers u i l in
-      all_passed tiers u split distinct form.well_formed form.reduced (kind_numbered (length tiers.free) i).place (kind_numbered (length tiers.free) i).opened w.place w.flags
-
-  passes_within : (k : PrefixKind) → IsPassed tiers [] u 0 0 k → IsWithin tiers u k
-  passes_within k p = subst (IsWithin tiers u) p.passes.of_kind (kind_within tiers split u form (take p.columns p.candidate) (begins tiers u p.candidate p.columns p.passes.optimal.candidate))
-
   listed_kinds : kinds_at tiers [] 0 nodes ≡ map (kind_numbered (length tiers.free)) (range_with_len 0 (kind_count tiers u))
   listed_kinds = numbered_range (IsNodeNumbered tiers) (λ node. prefix_kind (length tiers.free) 0 node.kind) (kind_numbered (length tiers.free)) (λ n x h. h.kind) 0 nodes each_node
       ∙ ap (λ n. map (kind_numbered (length tiers.free)) (range_with_len 0 n)) node_count
@@ -71,18 +59,7 @@ module _ (tiers : Tiers) (split : AreSplit tiers) (distinct : AreDistinct tiers.
   -- the nodes list the kinds of stage 0
   pub right_stage : IsRightStage tiers [] u 0 nodes
   right_stage = record {
-    kinds = record {
-      ascending = subst (IsStrictlySortedBy kind_order) (sym listed_kinds) (sorted_from kind_order _ (ascends_map kind_order nat_cmp (kind_numbered (length tiers.free)) (range_with_len 0 (kind_count tiers u)) (λ i j l. kinds_less (length tiers.free) i j (nat_less i j l)) (ascends_range 0 (kind_count tiers u))));
-      members = λ k. (
-        λ c. let r = contains_of_map (kind_numbered (length tiers.free)) (range_with_len 0 (kind_count tiers u)) k (subst (λ ks. Contains ks k) listed_kinds c) in
-            let b = in_range 0 (kind_count tiers u) r.0 r.1.0 in
-            subst (IsPassed tiers [] u 0 0) r.1.1 (passed_number r.0 (omega (arith, b.1))),
-        λ p. let w = passes_within k p in
-            let n = number_of_kind (length tiers.free) k in
-            subst (λ ks. Contains ks k) (sym listed_kinds) (subst (λ q. Contains (map (kind_numbered (length tiers.free)) (range_with_len 0 (kind_count tiers u))) q) (kind_numbered-number (length tiers.free) k w.flags w.phases)
-            (contains_map (kind_numbered (length tiers.free)) (range_with_len 0 (kind_count tiers u)) n (range_has 0 (kind_count tiers u) n (omega arith) (omega (arith, number_within tiers u k w))))),
-      );
-    };
+    kinds = subst (AreKindsOfStage tiers [] u 0) (sym listed_kinds) (numbered_kinds tiers split distinct u form);
     potentials = All-from_recursion _ nodes (all_from_members (λ node. node.potential ≡ 0) nodes (λ node m. (numbered_member (IsNodeNumbered tiers) 0 nodes node each_node m).1.1.potential));
   }
 
@@ -142,7 +119,7 @@ module _ (tiers : Tiers) (split : AreSplit tiers) (distinct : AreDistinct tiers.
           kind_numbered (length tiers.free) n,
           (
             subst (λ m. IsNodeOf tiers [] nodes m (kind_numbered (length tiers.free) n)) (number-kind_numbered (length tiers.free) n) (node_of tiers split distinct u form nodes node_count each_node (kind_numbered (length tiers.free) n) w),
-            passed_number tiers split distinct u form nodes node_count each_node n l,
+            passed_number tiers split distinct u form n l,
           ),
         );
     accepts = λ T. (

@@ -3,3 +3,4 @@ pub mod Numbers
 pub mod Arcs
 pub mod Listed
 pub mod Picks
+pub mod Budgets

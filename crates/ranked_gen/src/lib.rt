@@ -10,11 +10,13 @@
 
 mod example;
 mod flags;
-mod generate;
+mod gen_err;
+mod generator;
 mod moves;
 mod pick;
 mod place;
 mod state;
 mod stay;
 
-pub use generate::generate_free;
+pub use gen_err::GenErr;
+pub use generator::generate;

@@ -5,7 +5,7 @@ use Rattle.answer_text.specs.Right.{nodes_at}
 use Rattle.ranked_gen.specs.Listed.{AreNumbered, IsNodeNumbered}
 use Rattle.ranked_gen.proofs.NumberedKinds.{free_distinct}
 use Rattle.ranked_gen.proofs.RightAnswer.{right_answer}
-use Rattle.ranked_gen.proofs.generate.generate_free.Goals as goal
+use Rattle.ranked_gen.proofs.generator.answer_free.Goals as goal
 
 pub returns : goal.returns
 returns c =

@@ -1,7 +1,7 @@
 use Rattle.std.proofs.Common.{◌≡◌, ◌*◌, ◌^◌, arith}
 use Rattle.tier_core.specs.Tables.{tiers_of_table}
 use Rattle.ranked_gen.proofs.StateSteps.{nothing_listed}
-use Rattle.ranked_gen.proofs.generate.list_all.Goals as goal
+use Rattle.ranked_gen.proofs.generator.list_all.Goals as goal
 
 pub loop-place-init : goal.loop-place-init
 loop-place-init c =

@@ -1,14 +1,18 @@
-ghost use Rattle.std.specs.Prelude.{◌≡◌, ◌≤◌, [], ◌∷◌, length, IfOk};
+ghost use Rattle.std.specs.Prelude.{◌≡◌, ◌≤◌, ℕ, [], ◌∷◌, length, Err, IfOk};
 ghost use Rattle.tier_core.specs.Tables.{tiers_of_table};
 ghost use Rattle.tier_core.specs.Tiers.{is_free, is_input, numbers_from};
 ghost use Rattle.violation.specs.Candidates.{IsForm};
 ghost use Rattle.answer_text.specs.Right.{IsRight};
+ghost use Rattle.ranked_gen.specs.Budgets.{AreAllWithin, IsFirstOver};
 ghost use Rattle.ranked_gen.specs.Listed.{AreListed, kind_count};
 
 use crate::example::{bare_form, copied, is_input};
 use crate::flags::is_free;
+use crate::gen_err::GenErr;
 use crate::place::{Listing, list_place};
+use crate::state::first_number;
 use answer_text::{Answer, Automaton, Stage};
+use grammar_reader::Grammar;
 use std::alloc::Global;
 use tier_core::{NoMemory, TierKind, TierTable, Timeline};
 
@@ -65,19 +69,23 @@ fn one_stage(alloc: Global, stage: Stage) -> Result<Vec<Stage>, NoMemory>
     }
 }
 
-/// A right answer for a grammar that has these tiers and no constraint, and a form.
-///
-/// The form is well formed and reduced over the input tiers, and has at most 64 columns. The call
-/// fails only for want of memory.
-pub fn generate_free(alloc: Global, tiers: &TierTable, form: &Timeline) -> Result<Answer, NoMemory>
+/// A right answer where no constraint is ranked, for a form that is well formed and reduced over the
+/// input tiers. It fails only for want of memory.
+fn answer_free(
+    alloc: Global,
+    tiers: &TierTable,
+    free: u32,
+    form: &Timeline,
+) -> Result<Answer, NoMemory>
     requires form { IsForm (tiers_of_table tiers.now) form.now }
     requires short { length form.now ≤ 64 }
+    requires count { free ≡ length (tiers_of_table tiers.now).free }
+    requires few { free ≤ 12 }
     ensures { IfOk result (λ answer. IsRight (tiers_of_table tiers.now) [] form.now answer) }
 {
     let own = copied(alloc, form)?;
     let example = bare_form(alloc, tiers, form)?;
     let inputs = count_inputs(tiers.kinds.as_slice());
-    let free = count_free(tiers.kinds.as_slice()) as u32;
     let Listing { nodes, states } = list_all(alloc, tiers, inputs, free, form)?;
     let stages = one_stage(alloc, Stage { nodes })?;
     Ok(Answer {
@@ -87,4 +95,33 @@ pub fn generate_free(alloc: Global, tiers: &TierTable, form: &Timeline) -> Resul
         stages,
         automaton: Automaton { states },
     })
+}
+
+/// The right answer for a grammar and a form, in which no stage has more kinds of prefix than the
+/// budget; `Budget` exactly where a stage has more, with the first such stage.
+///
+/// The form is well formed and reduced over the input tiers, and has at most 64 columns. The budget
+/// is from 1 to 65,536. `NoMemory` comes only for want of memory.
+pub fn generate(
+    alloc: Global,
+    grammar: &Grammar,
+    form: &Timeline,
+    budget: u32,
+) -> Result<Answer, GenErr>
+    requires free { grammar.now.constraints.items ≡ [] }
+    requires form { IsForm (tiers_of_table grammar.now.tiers) form.now }
+    requires short { length form.now ≤ 64 }
+    requires some { 1 ≤ budget }
+    requires few { budget ≤ 65536 }
+    ensures right { IfOk result (λ answer. IsRight (tiers_of_table grammar.now.tiers) grammar.now.constraints.items form.now answer) }
+    ensures within { IfOk result (λ answer. AreAllWithin (tiers_of_table grammar.now.tiers) grammar.now.constraints.items form.now budget) }
+    ensures over { (stage : ℕ) → result ≡ Err (GenErr.Budget stage) → IsFirstOver (tiers_of_table grammar.now.tiers) grammar.now.constraints.items form.now budget stage }
+{
+    let tiers = &grammar.tiers;
+    let free = count_free(tiers.kinds.as_slice()) as u32;
+    let kinds = first_number(form.len() as u32 + 1, free);
+    if kinds > budget {
+        return Err(GenErr::Budget { stage: 0 });
+    }
+    answer_free(alloc, tiers, free, form).map_err(|_| GenErr::NoMemory)
 }

@@ -1,7 +1,6 @@
 -- The kinds of stage 0, and how many there are.
-use Rattle.std.proofs.Common.{◌≡◌, ◌≢◌, ℕ, ◌+◌, ◌*◌, ◌^◌, ◌<◌, ◌≤◌, true, false, List, [], ◌∷◌, Result, Ok, Err, IfOk, map, take, drop, length, refl, ap, sym, ◌∙◌, subst, arith, ne_eqb, eqb, Contains}
-use Rattle.std.specs.List.{range_with_len, IsDistinct, list_any}
-use Rattle.std.specs.List.Sorted.{IsStrictlySortedBy}
+use Rattle.std.proofs.Common.{◌≡◌, ◌≢◌, ℕ, ◌+◌, ◌*◌, ◌^◌, ◌<◌, ◌≤◌, false, List, [], ◌∷◌, Result, Ok, Err, IfOk, map, take, drop, length, refl, ap, sym, ◌∙◌, subst, arith, ne_eqb, eqb, Contains}
+use Rattle.std.specs.List.{range_with_len, IsDistinct}
 use Rattle.std.specs.Ordering.{nat_cmp, ordering_then, is_lt}
 use Rattle.std.specs.Cmp.{nat_cmp_is}
 use Rattle.std.specs.Cmp.Lexicographic.{slice_cmp}
@@ -9,7 +8,6 @@ use Rattle.std.specs.declared.cmp.Ordering.TheVariants.{Less, Equal}
 use Rattle.std.proofs.lemmas.Bool.{false≢true, eqb-true}
 use Rattle.std.proofs.lemmas.List.{length-map, take-append-drop}
 use Rattle.std.proofs.lemmas.List.FromFn.{length-range_with_len}
-use Rattle.std.proofs.lemmas.Map.Keys.{IsDistinct-cons}
 use Rattle.std.proofs.lemmas.Map.Steps.{length-le_from_distinct_below}
 use Rattle.std.proofs.lemmas.Map.Views.{Contains-from_any}
 use Rattle.tier_core.specs.declared.sym.Sym.{Sym}
@@ -19,7 +17,7 @@ use Rattle.violation.specs.Candidates.{IsForm, IsCandidate}
 use Rattle.violation.specs.Conditions.{AreSplit, AreDistinct}
 use Rattle.violation.specs.Stages.{IsPassed, AreKindsOfStage}
 use Rattle.violation.specs.Walks.{BeginsCandidate}
-use Rattle.ranked_gen.specs.Budgets.{IsOver, IsWithin as IsWithinBudget, AreAllWithin, IsFirstOver}
+use Rattle.ranked_gen.specs.Budgets.{AreAllWithin, IsFirstOver}
 use Rattle.ranked_gen.specs.Numbers.{number_of_kind, kind_numbered}
 use Rattle.ranked_gen.specs.Listed.{kind_count}
 use Rattle.ranked_gen.proofs.NumberLemmas.{kind_numbered-number, kinds_less}

@@ -1,23 +1,31 @@
 ghost use Rattle.std.specs.Prelude.{◌≡◌, ◌≤◌, ℕ, [], ◌∷◌, length, Err, IfOk};
+ghost use Rattle.tier_core.specs.Orders.{IsFirst};
 ghost use Rattle.tier_core.specs.Tables.{tiers_of_table};
 ghost use Rattle.tier_core.specs.Tiers.{is_free, is_input, numbers_from};
 ghost use Rattle.violation.specs.Candidates.{IsForm};
 ghost use Rattle.answer_text.specs.Right.{IsRight};
+ghost use Rattle.arc_table.specs.Runs.{Accepts};
+ghost use Rattle.arc_table.specs.States.{states_of};
 ghost use Rattle.ranked_gen.specs.Budgets.{AreAllWithin, IsFirstOver};
+ghost use Rattle.ranked_gen.specs.Lines.{AcceptsSome};
 ghost use Rattle.ranked_gen.specs.Listed.{AreListed, kind_count};
 
-use crate::example::{bare_form, copied, is_input};
+use crate::example::{copied, is_input};
 use crate::flags::is_free;
 use crate::gen_err::GenErr;
+use crate::lines::state_lines;
 use crate::place::{Listing, list_place};
 use crate::state::first_number;
 use answer_text::{Answer, Automaton, Stage};
+use arc_table::Table;
+use first_paths::first;
 use grammar_reader::Grammar;
 use std::alloc::Global;
 use tier_core::{NoMemory, TierKind, TierTable, Timeline};
+use weight_law::UnitWeight;
 
 /// How many tiers are input tiers.
-fn count_inputs(kinds: &[TierKind]) -> usize
+pub(crate) fn count_inputs(kinds: &[TierKind]) -> usize
     ensures value { result ≡ length (numbers_from is_input 0 kinds.now) }
     ensures few { result ≤ length kinds.now }
 {
@@ -69,6 +77,17 @@ fn one_stage(alloc: Global, stage: Stage) -> Result<Vec<Stage>, NoMemory>
     }
 }
 
+/// The first of the timelines that a table accepts, which are some.
+fn first_of(alloc: Global, table: &Table<UnitWeight>) -> Result<Timeline, NoMemory>
+    requires { AcceptsSome (states_of table.now) }
+    ensures { IfOk result (IsFirst (Accepts (states_of table.now))) }
+{
+    match first(alloc, table)? {
+        Some(timeline) => Ok(timeline),
+        None => unreachable!(),
+    }
+}
+
 /// A right answer where no constraint is ranked, for a form that is well formed and reduced over the
 /// input tiers. It fails only for want of memory.
 fn answer_free(
@@ -84,16 +103,18 @@ fn answer_free(
     ensures { IfOk result (λ answer. IsRight (tiers_of_table tiers.now) [] form.now answer) }
 {
     let own = copied(alloc, form)?;
-    let example = bare_form(alloc, tiers, form)?;
     let inputs = count_inputs(tiers.kinds.as_slice());
     let Listing { nodes, states } = list_all(alloc, tiers, inputs, free, form)?;
+    let table = Table::of_states(states);
+    let lines = state_lines(alloc, &table)?;
+    let example = first_of(alloc, &table)?;
     let stages = one_stage(alloc, Stage { nodes })?;
     Ok(Answer {
         form: own,
         counts: Vec::new(alloc),
         example,
         stages,
-        automaton: Automaton { states },
+        automaton: Automaton { states: lines },
     })
 }
 

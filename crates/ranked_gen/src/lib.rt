@@ -12,11 +12,14 @@ mod example;
 mod flags;
 mod gen_err;
 mod generator;
+mod lines;
 mod moves;
 mod pick;
 mod place;
 mod state;
 mod stay;
+#[cfg(test)]
+mod tests;
 
 pub use gen_err::GenErr;
 pub use generator::generate;

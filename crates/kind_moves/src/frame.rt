@@ -111,7 +111,13 @@ impl<'a> Frame<'a> {
         requires place { kind.now.place ≤ length (form_in self.now) }
         ensures { (stage : ℕ) → IsTrue result ↔ FitsAt self.now stage kind.now column.now }
     {
-        may_follow(self.open_at(kind), column) && has_edge(column) && self.goes_by_form(kind.place as usize, column)
+        if !may_follow(self.open_at(kind), column) {
+            return false;
+        }
+        if !has_edge(column) {
+            return false;
+        }
+        self.goes_by_form(kind.place as usize, column)
     }
 
     /// The place after a column that fits.

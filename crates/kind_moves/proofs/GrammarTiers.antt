@@ -1,5 +1,5 @@
 -- What the types of grammars and frames tell.
-use Rattle.std.proofs.Common.{◌≡◌, ◌≢◌, ℕ, ◌<◌, ◌≤◌, ◌&&◌, Bool, true, false, nat_lt, nat_le, IsTrue, List, [], ◌∷◌, map, filter, take, length, get_or, refl, ap, sym, ◌∙◌, subst, arith, suc, zero, cond}
+use Rattle.std.proofs.Common.{◌≡◌, ℕ, ◌≤◌, ◌&&◌, Bool, true, false, nat_lt, nat_le, IsTrue, List, [], ◌∷◌, map, filter, take, length, get_or, refl, ap, sym, ◌∙◌, arith, suc, zero, cond}
 use Rattle.std.proofs.Math.Logic.{∥∥₁_elim}
 use Rattle.std.specs.List.{AllByRecursion, list_all}
 use Rattle.std.specs.String.{string_bytes}

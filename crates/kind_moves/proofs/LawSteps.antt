@@ -1,5 +1,5 @@
 -- Moves of a frame are those of candidates.
-use Rattle.std.proofs.Common.{◌≡◌, ◌↔◌, ℕ, ◌+◌, ◌^◌, ◌<◌, ◌≤◌, ◌==◌, suc, Bool, true, false, cond, ◌⊎◌, IsTrue, List, [], ◌∷◌, map, length, refl, ap, sym, ◌∙◌, subst, arith, ⊎_elim}
+use Rattle.std.proofs.Common.{◌≡◌, ◌↔◌, ℕ, ◌+◌, ◌^◌, ◌<◌, ◌≤◌, ◌==◌, suc, Bool, true, false, cond, IsTrue, List, [], ◌∷◌, map, length, refl, ap, sym, ◌∙◌, subst, arith, ⊎_elim}
 use Rattle.std.specs.List.{range_with_len, AllByRecursion}
 use Rattle.std.proofs.lemmas.Bool.{false≢true}
 use Rattle.std.proofs.lemmas.List.{length-map}
@@ -12,11 +12,11 @@ use Rattle.tier_core.specs.Kinds.{Phase, closed, PrefixKind, phase_by_bits, open
 use Rattle.tier_core.specs.declared.event.Event.{Event}
 use Rattle.tier_core.specs.Scan.{opens}
 use Rattle.tier_core.specs.Timelines.{symbol, has_edge}
-use Rattle.tier_core.specs.Tiers.{Tiers, has_tier}
+use Rattle.tier_core.specs.Tiers.{has_tier}
 use Rattle.violation.specs.Candidates.{IsForm, IsCandidate}
 use Rattle.violation.specs.Conditions.{AreSplit, IsOverTiers}
 use Rattle.violation.specs.Moves.{FitsKind, input_of, is_final, is_unmet_phase, is_met_phase, moved, next_phases}
-use Rattle.violation.specs.Prefixes.{kind_of, phase, stretches}
+use Rattle.violation.specs.Prefixes.{kind_of, phase}
 use Rattle.violation.specs.Walks.{HasMoves, reached, BeginsCandidate}
 use Rattle.violation.proofs.PrefixLemmas.{nothing_begun, tier_open_is}
 use Rattle.violation.proofs.SplitLemmas.{tiers_split}

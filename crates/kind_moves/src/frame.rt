@@ -38,7 +38,11 @@ impl<'a> Frame<'a> {
 
     /// The frame of a grammar and a form over its input tiers, of at most 64 columns. It fails only
     /// for want of memory.
-    pub fn new(alloc: Global, grammar: &'a Grammar, form: &'a Timeline) -> Result<Frame<'a>, NoMemory>
+    pub fn new(
+        alloc: Global,
+        grammar: &'a Grammar,
+        form: &'a Timeline,
+    ) -> Result<Frame<'a>, NoMemory>
         requires form { IsForm (tiers_of_table grammar.now.tiers) form.now }
         requires short { length form.now ≤ 64 }
         ensures grammar { IfOk result (λ frame. frame.grammar.now ≡ grammar.entry.now) }
@@ -99,10 +103,8 @@ impl<'a> Frame<'a> {
         if !self.reads_form(column) {
             return true;
         }
-        if place == self.form.len() {
-            return false;
-        }
-        has_input_part(self.grammar.tiers.kinds.as_slice(), column, self.form.column(place).syms())
+        let kinds = self.grammar.tiers.kinds.as_slice();
+        place < self.form.len() && has_input_part(kinds, column, self.form.column(place).syms())
     }
 
     /// Whether a column fits a kind.
@@ -126,7 +128,11 @@ impl<'a> Frame<'a> {
         requires place { place ≤ 64 }
         ensures { result ≡ place + (if has_edge (input_of (tiers_in self.now) column.now) then 1 else 0) }
     {
-        if self.reads_form(column) { place + 1 } else { place }
+        if self.reads_form(column) {
+            place + 1
+        } else {
+            place
+        }
     }
 
     /// The free tiers that are open after a column.

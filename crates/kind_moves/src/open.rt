@@ -31,7 +31,10 @@ fn open_at(tiers: &TierTable, form: &Timeline, place: usize) -> u16
     if place == 0 {
         return 0;
     }
-    laid_out(input_tiers(tiers), open_after(form.column(place - 1).syms()))
+    laid_out(
+        input_tiers(tiers),
+        open_after(form.column(place - 1).syms()),
+    )
 }
 
 /// The masks of the input tiers that are open, place by place. It fails only for want of memory.

@@ -1,4 +1,4 @@
-use Rattle.std.proofs.Common.{◌≡◌, ◌&&◌, not, length, ap, sym, ◌∙◌, eq-eqb}
+use Rattle.std.proofs.Common.{◌&&◌, not, length, ap, sym, ◌∙◌, eq-eqb}
 use Rattle.std.specs.List.{list_any}
 use Rattle.tier_core.specs.Kinds.{open_tiers}
 use Rattle.kind_moves.specs.Frames.{tiers_in, form_in}

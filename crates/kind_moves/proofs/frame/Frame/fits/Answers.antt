@@ -1,4 +1,4 @@
-use Rattle.std.proofs.Common.{rules, ◌≡◌, ap, sym, ◌∙◌, refl, subst, arith}
+use Rattle.std.proofs.Common.{rules, ap, sym, ◌∙◌, refl, arith}
 use Rattle.std.proofs.lemmas.Bool.{false≢true}
 use Rattle.tier_core.specs.Scan.{fits}
 use Rattle.tier_core.specs.Timelines.{symbol}

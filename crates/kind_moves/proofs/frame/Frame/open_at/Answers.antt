@@ -1,4 +1,4 @@
-use Rattle.std.proofs.Common.{◌≡◌, ◌||◌, length, ap, ◌∙◌, arith}
+use Rattle.std.proofs.Common.{◌||◌, length, ap, ◌∙◌, arith}
 use Rattle.std.proofs.lemmas.List.{get_or_default}
 use Rattle.tier_core.specs.Kinds.{open_tiers}
 use Rattle.tier_core.specs.Tiers.{has_tier}

@@ -4,11 +4,9 @@ use Rattle.std.specs.List.{flat_map}
 use Rattle.std.proofs.lemmas.List.Concat.{flat_map-append}
 use Rattle.std.proofs.lemmas.List.Folds.{flat_map-map}
 use Rattle.std.proofs.lemmas.List.{at_drop_more}
-use Rattle.tier_core.specs.Symbols.{byte_of}
-use Rattle.tier_core.specs.declared.sym.Sym.{Sym}
 use Rattle.answer_text.specs.declared.answer.Answer.{Answer}
 use Rattle.answer_text.specs.declared.stage.Stage.{Stage}
-use Rattle.answer_text.specs.Text.{Widths, line, lines_text, counts_line, head_lines, stage_lines, stages_lines, automaton_lines, answer_text}
+use Rattle.answer_text.specs.Text.{Widths, line, lines_text, counts_line, head_lines, stage_lines, stages_lines, automaton_lines, answer_text, counts_text, shown_text}
 use Rattle.timeline_text.specs.Texts.{text_of}
 
 -- a line for each element
@@ -26,6 +24,13 @@ four_lines a b c d = append_assoc (a ++ b) c d ∙ append_assoc a b (c ++ d) ∙
 
 pub head_text : (answer : Answer) → codes "answer 1\n" ++ line (codes "form " ++ text_of answer.form) ++ line (counts_line answer.counts.items) ++ line (codes "example " ++ text_of answer.example) ≡ lines_text (head_lines answer)
 head_text answer = four_lines (codes "answer 1\n") (line (codes "form " ++ text_of answer.form)) (line (counts_line answer.counts.items)) (line (codes "example " ++ text_of answer.example))
+
+-- the line of the counts alone, and with the example
+pub counts_text_is : (counts : List ℕ) → line (counts_line counts) ≡ counts_text counts
+counts_text_is counts = sym (append-nil (line (counts_line counts)))
+
+pub shown_text_is : (answer : Answer) → line (counts_line answer.counts.items) ++ line (codes "example " ++ text_of answer.example) ≡ shown_text answer
+shown_text_is answer = ap (λ t. line (counts_line answer.counts.items) ++ t) (sym (append-nil (line (codes "example " ++ text_of answer.example))))
 
 -- the texts of lists of lines, one after the other
 four_texts : (a b c d : List (List ℕ)) → lines_text a ++ lines_text b ++ lines_text c ++ lines_text d ≡ lines_text (a ++ b ++ c ++ d)

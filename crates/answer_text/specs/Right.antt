@@ -6,7 +6,6 @@ use Rattle.std.specs.Cmp.Lexicographic.{slice_cmp}
 use Rattle.std.specs.declared.cmp.Ordering.{Ordering}
 use Rattle.tier_core.specs.declared.sym.Sym.{Sym}
 use Rattle.tier_core.specs.declared.constraint.Constraint.{Constraint}
-use Rattle.tier_core.specs.declared.class.Class.{Class}
 use Rattle.tier_core.specs.Classes.{has, sets_of, AreApart}
 use Rattle.tier_core.specs.Orders.{IsFirst}
 use Rattle.tier_core.specs.Tiers.{Tiers}

@@ -108,3 +108,11 @@ lines_text lines = flat_map line lines
 -- the text of an answer
 abbrev pub answer_text : Widths → Answer → List ℕ
 answer_text widths answer = lines_text (answer_lines widths answer)
+
+-- the line of the counts alone
+abbrev pub counts_text : List ℕ → List ℕ
+counts_text counts = lines_text (counts_line counts ∷ [])
+
+-- the lines `counts` and `example` of an answer
+abbrev pub shown_text : Answer → List ℕ
+shown_text answer = lines_text (counts_line answer.counts.items ∷ (codes "example " ++ text_of answer.example) ∷ [])

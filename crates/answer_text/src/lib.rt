@@ -3,8 +3,9 @@
 //!
 //! An answer has the form, the least counts, the first optimal timeline, a stage of kinds with
 //! potentials for each constraint, and an automaton of all optimal timelines. The layers above make
-//! answers that are right, and write them by `put_answer`. Sets of candidates as automata are after
-//! Ellison, Phonological Derivation in Optimality Theory (COLING 1994).
+//! answers that are right, and write them by `put_answer`, or parts of them by `put_counts` and
+//! `put_shown`. Sets of candidates as automata are after Ellison, Phonological Derivation in
+//! Optimality Theory (COLING 1994).
 #![tactic(auto)]
 
 mod answer;
@@ -13,6 +14,7 @@ mod automaton_writer;
 mod class;
 mod kind;
 mod number;
+mod parts;
 mod put;
 mod stage;
 mod stage_writer;
@@ -22,5 +24,6 @@ mod widths;
 
 pub use answer::Answer;
 pub use automaton::{ArcLine, Automaton, StateLine};
+pub use parts::{put_counts, put_shown};
 pub use put::put_answer;
 pub use stage::{Node, Stage};

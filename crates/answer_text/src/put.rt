@@ -14,7 +14,7 @@ use tier_core::{Shape, Timeline};
 use timeline_text::wait_timeline;
 
 /// Puts a line of a word and a timeline.
-fn put_timeline_line<O: Sink>(
+pub fn put_timeline_line<O: Sink>(
     waiting: &mut Waiting,
     sink: &mut O,
     word: &[u8],
@@ -31,7 +31,11 @@ fn put_timeline_line<O: Sink>(
 }
 
 /// Puts the line of the counts.
-fn put_counts<O: Sink>(waiting: &mut Waiting, sink: &mut O, counts: &[u32]) -> Result<(), WriteErr>
+pub fn put_counts_line<O: Sink>(
+    waiting: &mut Waiting,
+    sink: &mut O,
+    counts: &[u32],
+) -> Result<(), WriteErr>
     ensures ok { OnOk result (Sends (O.taken sink.old) (waiting.old ++ line (counts_line counts.now)) (O.taken sink.new) waiting.new) }
     ensures part { HasSentPart (O.taken sink.old) (waiting.old ++ line (counts_line counts.now)) (O.taken sink.new) }
     ensures never_falls { O.faults sink.old ≤ O.faults sink.new }
@@ -51,7 +55,7 @@ fn put_head<O: Sink>(waiting: &mut Waiting, sink: &mut O, answer: &Answer) -> Re
 {
     waiting.put(sink, b"answer 1\n")?;
     put_timeline_line(waiting, sink, b"form ", &answer.form)?;
-    put_counts(waiting, sink, &answer.counts)?;
+    put_counts_line(waiting, sink, &answer.counts)?;
     put_timeline_line(waiting, sink, b"example ", &answer.example)
 }
 

@@ -275,3 +275,68 @@ fn one_timeline_is_optimal(rt: HostRuntime) -> Result<(), Fail> {
     assert_eq!(rt; sink.bytes(), ONE_TIMELINE_IS_OPTIMAL);
     Ok(())
 }
+
+#[test]
+fn counts_are_written_alone(rt: HostRuntime) -> Result<(), Fail> {
+    let alloc = rt.alloc();
+    let cases = [
+        (Vec::new(alloc), "counts\n"),
+        (vec![in alloc; 0]?, "counts 0\n"),
+        (vec![in alloc; 0, 1]?, "counts 0 1\n"),
+        (vec![in alloc; 12, 0, 12]?, "counts 12 0 12\n"),
+        (vec![in alloc; 4_294_967_295]?, "counts 4294967295\n"),
+    ];
+    for (counts, text) in cases {
+        let mut sink = SafeSink::new(alloc);
+        put_counts(&mut sink, &counts)?;
+        assert_eq!(rt; sink.bytes(), text.as_bytes());
+    }
+    Ok(())
+}
+
+// An answer of which the counts and the example alone are to be written.
+fn counted(alloc: Global, counts: Vec<u32>, form: Timeline, example: Timeline) -> Answer {
+    Answer {
+        form,
+        counts,
+        example,
+        stages: Vec::new(alloc),
+        automaton: Automaton {
+            states: Vec::new(alloc),
+        },
+    }
+}
+
+#[test]
+fn counts_and_example_are_written(rt: HostRuntime) -> Result<(), Fail> {
+    let alloc = rt.alloc();
+    let none = counted(
+        alloc,
+        Vec::new(alloc),
+        Timeline::new(alloc),
+        Timeline::new(alloc),
+    );
+    let open = counted(
+        alloc,
+        vec![in alloc; 7]?,
+        Timeline::new(alloc),
+        two_columns(alloc, &[Sym::Start], &[Sym::End]),
+    );
+    let one = counted(
+        alloc,
+        vec![in alloc; 0, 1, 0]?,
+        two_columns(alloc, &[Sym::Start], &[Sym::End]),
+        two_columns(alloc, &[Sym::Start, Sym::Outside], &[Sym::End, Sym::Inside]),
+    );
+    let cases = [
+        (none, "counts\nexample empty\n"),
+        (open, "counts 7\nexample [ ]\n"),
+        (one, "counts 0 1 0\nexample [- ]+\n"),
+    ];
+    for (answer, text) in cases {
+        let mut sink = SafeSink::new(alloc);
+        put_shown(&mut sink, &answer)?;
+        assert_eq!(rt; sink.bytes(), text.as_bytes());
+    }
+    Ok(())
+}

@@ -1,8 +1,7 @@
-mod PlainLines
-mod CutLemmas
-mod FirstLines
-mod Reading
-mod Forms
-mod Writing
-mod CommandLemmas
-mod ThreeWords
+mod GrammarLemmas
+mod ReadingLemmas
+mod FindingLemmas
+mod StepLemmas
+mod OutcomeLemmas
+mod CauseLemmas
+mod DueLemmas

@@ -1,9 +1,6 @@
-pub mod Plain
-pub mod Cuts
-pub mod PlainTables
-pub mod Words
 pub mod Grammars
-pub mod Lines
+pub mod Forms
+pub mod Results
+pub mod Findings
 pub mod Outcomes
-pub mod Answers
 pub mod Steps

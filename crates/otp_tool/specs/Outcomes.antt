@@ -1,43 +1,53 @@
 -- What stands behind a status.
-use Rattle.std.specs.Prelude.{◌≡◌, ℕ, ◌<◌, ◌⊎◌, List, length, Option, Some, IfSome}
+use Rattle.std.specs.Prelude.{◌≡◌, ℕ, ◌⊎◌, List, Option, Some}
 use Rattle.outside.specs.Faults.{Rose}
-use Rattle.otp_tool.specs.declared.status.Status.{Status}
-use Rattle.otp_tool.specs.declared.status.Status.TheVariants.{Done, Usage, FormRefused, ReadFault, WriteFault, NoMemory, TooLong, NotBuilt}
-use Rattle.otp_tool.specs.Words.{generate}
-use Rattle.otp_tool.specs.Grammars.{IsHeld}
+use Rattle.command_words.specs.Commands.{Command, IsCommand, grammar_of as file_of}
+use Rattle.status_lines.specs.declared.status.Status.{Status}
+use Rattle.status_lines.specs.declared.status.Status.TheVariants.{Done, Usage, GrammarRefused, FormRefused, Budget, ReadFault, WriteFault, NoMemory, TooLong, NotBuilt}
+use Rattle.otp_tool.specs.Grammars.{IsHeld, OnGrammar}
+use Rattle.otp_tool.specs.Findings.{Finding, Finds, long_file, no_grammar, not_built, no_form, over_budget, ready}
+use Rattle.otp_tool.specs.Results.{IsResult}
 
--- The words are a command, and something holds of its form and of the bytes that the shelf holds
--- under its grammar's name.
-pub record IsBehind (words : List (List ℕ)) (held : List ℕ → Option (List ℕ)) (P : List ℕ → List ℕ → Type 0) : Type 0 where
-  pub name : List ℕ
-  pub form : List ℕ
+-- the words are a command, which finds this in the bytes that the shelf holds under its grammar's name
+pub record IsBehind (words : List (List ℕ)) (held : List ℕ → Option (List ℕ)) (finding : Finding) : Type 0 where
+  pub command : Command
   pub bytes : List ℕ
-  pub command : words ≡ generate name form
-  pub holds : IsHeld (held name) bytes
-  pub fact : P form bytes
+  pub are : IsCommand words command
+  pub holds : IsHeld (held (file_of command)) bytes
+  pub finds : Finds command bytes finding
 
 -- the same, where the shelf tells the bytes
-pub record IsTold (words : List (List ℕ)) (held : List ℕ → Option (List ℕ)) (P : List ℕ → List ℕ → Type 0) : Type 0 where
-  pub name : List ℕ
-  pub form : List ℕ
+pub record IsTold (words : List (List ℕ)) (held : List ℕ → Option (List ℕ)) (finding : Finding) : Type 0 where
+  pub command : Command
   pub bytes : List ℕ
-  pub command : words ≡ generate name form
-  pub told : held name ≡ Some bytes
-  pub fact : P form bytes
+  pub are : IsCommand words command
+  pub told : held (file_of command) ≡ Some bytes
+  pub finds : Finds command bytes finding
 
--- the words are a command, and where the shelf tells, its grammar's file is too long
-pub record IsTooLong (words : List (List ℕ)) (held : List ℕ → Option (List ℕ)) : Type 0 where
-  pub name : List ℕ
-  pub form : List ℕ
-  pub command : words ≡ generate name form
-  pub long : IfSome (held name) (λ text. 65536 < length text)
+-- the words are a command, and something holds of a text that it writes for the grammar in those bytes
+pub record IsWrittenBehind (words : List (List ℕ)) (held : List ℕ → Option (List ℕ)) (P : List ℕ → Type 0) : Type 0 where
+  pub command : Command
+  pub bytes : List ℕ
+  pub are : IsCommand words command
+  pub holds : IsHeld (held (file_of command)) bytes
+  pub text : List ℕ
+  pub result : OnGrammar (λ g. IsResult command g text) bytes
+  pub fact : P text
 
 -- the words are a command, and the count of faults of its grammar's name rose
 pub record HasReadFault (words : List (List ℕ)) (before after : List ℕ → ℕ) : Type 0 where
-  pub name : List ℕ
-  pub form : List ℕ
-  pub command : words ≡ generate name form
-  pub rose : Rose (before name) (after name)
+  pub command : Command
+  pub are : IsCommand words command
+  pub rose : Rose (before (file_of command)) (after (file_of command))
+
+-- the status that answers a finding
+abbrev pub answer_to : Finding → Status
+answer_to long_file = TooLong 1
+answer_to (no_grammar line cause) = GrammarRefused 1 line cause
+answer_to not_built = NotBuilt 1
+answer_to (no_form cause) = FormRefused 2 cause
+answer_to (over_budget stage) = Budget 0 stage
+answer_to ready = Done
 
 -- The status is this one. Want of memory may come instead, and so may a fault of reading.
 abbrev pub Stands : Status → Status → Type 0
@@ -47,7 +57,9 @@ Stands due status = (status ≡ due) ⊎ ((status ≡ NoMemory) ⊎ (status ≡ 
 abbrev pub IsBeforeWriting : Status → Type 0
 IsBeforeWriting Done = ⊥
 IsBeforeWriting Usage = Unit {0}
+IsBeforeWriting (GrammarRefused word line cause) = Unit {0}
 IsBeforeWriting (FormRefused word cause) = Unit {0}
+IsBeforeWriting (Budget entry stage) = Unit {0}
 IsBeforeWriting (ReadFault word) = Unit {0}
 IsBeforeWriting WriteFault = ⊥
 IsBeforeWriting NoMemory = ⊥

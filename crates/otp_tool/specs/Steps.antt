@@ -1,90 +1,137 @@
 -- What each step of a command answers.
-use Rattle.std.specs.Prelude.{◌≡◌, ℕ, ◌<◌, ◌≤◌, ◌⊎◌, List, length, Option, IfSome}
+use Rattle.std.specs.Prelude.{◌≡◌, ℕ, ◌<◌, ◌≤◌, ◌⊎◌, List, [], length, Option, IfSome, Result, Ok, Err}
 use Rattle.outside.specs.Faults.{Rose}
+use Rattle.outside.specs.declared.sink.WriteErr.{WriteErr}
+use Rattle.outside.specs.declared.sink.WriteErr.TheVariants.{Failed, NoMemory as NoRoom}
 use Rattle.outside.specs.Sent.{appended, HasSentPart}
 use Rattle.tier_core.specs.declared.sym.Sym.{Sym}
-use Rattle.tier_core.specs.declared.tier.TierKind.{TierKind}
-use Rattle.tier_core.specs.declared.tier.TierTable.{TierTable}
-use Rattle.otp_tool.specs.declared.status.Status.{Status}
-use Rattle.otp_tool.specs.declared.status.Status.TheVariants.{Done, Usage, FormRefused, ReadFault, WriteFault, NoMemory, TooLong, NotBuilt}
-use Rattle.otp_tool.specs.PlainTables.{IsTable}
-use Rattle.otp_tool.specs.Plain.{IsPlainGrammar}
-use Rattle.otp_tool.specs.Words.{IsRefusedFor, generate, IsNoCommand}
-use Rattle.otp_tool.specs.Grammars.{IsHeld, IsNotPlain, IsNoForm}
-use Rattle.otp_tool.specs.Answers.{IsRightText, IsWritten, IsBegun}
-use Rattle.otp_tool.specs.Outcomes.{IsBehind, IsTooLong, HasReadFault}
+use Rattle.tier_core.specs.declared.constraint.Constraint.{Constraint}
+use Rattle.tier_core.specs.Tiers.{Tiers}
+use Rattle.timeline_text.specs.declared.letter.Letter.{Letter}
+use Rattle.answer_text.specs.declared.answer.Answer.{Answer}
+use Rattle.answer_text.specs.Right.{IsRight}
+use Rattle.ranked_gen.specs.Budgets.{AreAllWithin}
+use Rattle.timeline_text.specs.declared.form_err.FormErr.{FormErr}
+use Rattle.grammar_reader.specs.declared.grammar_err.GrammarCause.{GrammarCause}
+use Rattle.grammar_reader.specs.Values.{GrammarValue}
+use Rattle.grammar_reader.specs.Reading.{grammar_of}
+use Rattle.command_words.specs.Commands.{Command, IsCommand, IsNoCommand, canon, score, generate, show}
+use Rattle.status_lines.specs.declared.status.Status.{Status}
+use Rattle.status_lines.specs.declared.status.Status.TheVariants.{Done, Usage, GrammarRefused, FormRefused, Budget, ReadFault, WriteFault, NoMemory, TooLong, NotBuilt}
+use Rattle.otp_tool.specs.Forms.{IsReadAs}
+use Rattle.otp_tool.specs.Grammars.{IsHeld, IsFileOf}
+use Rattle.otp_tool.specs.Findings.{Finding, long_file, no_grammar, not_built, no_form, over_budget, ready}
+use Rattle.otp_tool.specs.Outcomes.{IsBehind, IsWrittenBehind, HasReadFault}
 
--- a table is that of a file that is held
-pub record IsLoaded (held : Option (List ℕ)) (table : TierTable) : Type 0 where
+-- the budget of a command is from 1 to 65,536
+abbrev pub HasFitBudget : Command → Type 0
+HasFitBudget (canon name) = Unit {0}
+HasFitBudget (score name word) = Unit {0}
+HasFitBudget (generate name form budget) = (1 ≤ budget) × (budget ≤ 65536)
+HasFitBudget (show name form budget) = (1 ≤ budget) × (budget ≤ 65536)
+
+-- a grammar is that of a file that is held
+pub record IsLoaded (held : Option (List ℕ)) (g : GrammarValue) : Type 0 where
+  pub bytes : List ℕ
+  pub holds : IsHeld held bytes
+  pub file : IsFileOf bytes g
+
+-- a file that is held is no grammar
+pub record IsUnread (held : Option (List ℕ)) (line : ℕ) (cause : GrammarCause) : Type 0 where
   pub bytes : List ℕ
   pub holds : IsHeld held bytes
   pub within : length bytes ≤ 65536
-  pub table_of : IsTable bytes table
-
--- no table is that of a file that is held
-pub record IsUnread (held : Option (List ℕ)) : Type 0 where
-  pub bytes : List ℕ
-  pub holds : IsHeld held bytes
-  pub within : length bytes ≤ 65536
-  pub none : (tiers : List (List ℕ × TierKind)) → ¬ IsPlainGrammar bytes tiers
+  pub refused : grammar_of bytes ≡ Err (record { line = line; cause = cause })
 
 abbrev pub IsLoadRefusal : Option (List ℕ) → ℕ → ℕ → Status → Type 0
 IsLoadRefusal held before after Done = ⊥
 IsLoadRefusal held before after Usage = ⊥
+IsLoadRefusal held before after (GrammarRefused word line cause) = (word ≡ 1) × IsUnread held line cause
 IsLoadRefusal held before after (FormRefused word cause) = ⊥
+IsLoadRefusal held before after (Budget entry stage) = ⊥
 IsLoadRefusal held before after (ReadFault word) = (word ≡ 1) × Rose before after
 IsLoadRefusal held before after WriteFault = ⊥
 IsLoadRefusal held before after NoMemory = Unit {0}
 IsLoadRefusal held before after (TooLong word) = (word ≡ 1) × IfSome held (λ text. 65536 < length text)
-IsLoadRefusal held before after (NotBuilt word) = (word ≡ 1) × IsUnread held
+IsLoadRefusal held before after (NotBuilt word) = ⊥
 
-abbrev pub IsFormRefusal : ℕ → List ℕ → Status → Type 0
-IsFormRefusal inputs form Done = ⊥
-IsFormRefusal inputs form Usage = ⊥
-IsFormRefusal inputs form (FormRefused word cause) = (word ≡ 2) × IsRefusedFor inputs form cause
-IsFormRefusal inputs form (ReadFault word) = ⊥
-IsFormRefusal inputs form WriteFault = ⊥
-IsFormRefusal inputs form NoMemory = Unit {0}
-IsFormRefusal inputs form (TooLong word) = ⊥
-IsFormRefusal inputs form (NotBuilt word) = ⊥
+-- why nothing is made, before anything is written
+abbrev pub IsRefusal : (Finding → Type 0) → Status → Type 0
+IsRefusal finds Done = ⊥
+IsRefusal finds Usage = ⊥
+IsRefusal finds (GrammarRefused word line cause) = ⊥
+IsRefusal finds (FormRefused word cause) = (word ≡ 2) × finds (no_form cause)
+IsRefusal finds (Budget entry stage) = (entry ≡ 0) × finds (over_budget stage)
+IsRefusal finds (ReadFault word) = ⊥
+IsRefusal finds WriteFault = ⊥
+IsRefusal finds NoMemory = Unit {0}
+IsRefusal finds (TooLong word) = ⊥
+IsRefusal finds (NotBuilt word) = (word ≡ 1) × finds not_built
 
--- the text of a right answer was written as a whole, or a front of it
-pub record IsAllTaken (kinds : List TierKind) (u : List (List Sym)) (old new : Option (List ℕ)) : Type 0 where
+-- an answer is right for the form that a word is read as, and no stage has more kinds than the budget
+pub record IsMade (tiers : Tiers) (letters : List Letter) (constraints : List Constraint) (form : List ℕ) (budget : ℕ) (answer : Answer) : Type 0 where
+  pub u : List (List Sym)
+  pub built : constraints ≡ []
+  pub read : IsReadAs (length tiers.input) letters form u
+  pub right : IsRight tiers constraints u answer
+  pub within : AreAllWithin tiers constraints u budget
+
+-- what a sink has taken, and its faults, before and after
+pub record Taking : Type 0 where
+  pub old : Option (List ℕ)
+  pub new : Option (List ℕ)
+  pub before : ℕ
+  pub after : ℕ
+
+-- a text of this kind was written as a whole, or a front of it
+pub record IsAllTaken (writes : List ℕ → Type 0) (t : Taking) : Type 0 where
   pub text : List ℕ
-  pub right : IsRightText kinds u text
-  pub taken : new ≡ appended old text
+  pub is : writes text
+  pub taken : t.new ≡ appended t.old text
 
-pub record IsPartTaken (kinds : List TierKind) (u : List (List Sym)) (old new : Option (List ℕ)) : Type 0 where
+pub record IsPartTaken (writes : List ℕ → Type 0) (t : Taking) : Type 0 where
   pub text : List ℕ
-  pub right : IsRightText kinds u text
-  pub part : HasSentPart old text new
+  pub is : writes text
+  pub part : HasSentPart t.old text t.new
 
-abbrev pub IsWriteOutcome : List TierKind → List (List Sym) → Option (List ℕ) → Option (List ℕ) → ℕ → ℕ → Status → Type 0
-IsWriteOutcome kinds u old new before after Done = IsAllTaken kinds u old new
-IsWriteOutcome kinds u old new before after Usage = ⊥
-IsWriteOutcome kinds u old new before after (FormRefused word cause) = ⊥
-IsWriteOutcome kinds u old new before after (ReadFault word) = ⊥
-IsWriteOutcome kinds u old new before after WriteFault = IsPartTaken kinds u old new × Rose before after
-IsWriteOutcome kinds u old new before after NoMemory = (new ≡ old) ⊎ IsPartTaken kinds u old new
-IsWriteOutcome kinds u old new before after (TooLong word) = ⊥
-IsWriteOutcome kinds u old new before after (NotBuilt word) = ⊥
+-- the status that the writing of a text ends with
+abbrev pub end_of : {A : Type 0} → Result A WriteErr → Status
+end_of (Ok done) = Done
+end_of (Err Failed) = WriteFault
+end_of (Err NoRoom) = NoMemory
+
+-- how the writing of a text ends
+abbrev pub IsEnd : (List ℕ → Type 0) → Taking → Status → Type 0
+IsEnd writes t Done = IsAllTaken writes t
+IsEnd writes t Usage = ⊥
+IsEnd writes t (GrammarRefused word line cause) = ⊥
+IsEnd writes t (FormRefused word cause) = ⊥
+IsEnd writes t (Budget entry stage) = ⊥
+IsEnd writes t (ReadFault word) = ⊥
+IsEnd writes t WriteFault = IsPartTaken writes t × Rose t.before t.after
+IsEnd writes t NoMemory = (t.new ≡ t.old) ⊎ IsPartTaken writes t
+IsEnd writes t (TooLong word) = ⊥
+IsEnd writes t (NotBuilt word) = ⊥
+
+-- what a command does with a grammar: it refuses and writes nothing, or it is ready and writes
+abbrev pub IsStep : (Finding → Type 0) → (List ℕ → Type 0) → Taking → Status → Type 0
+IsStep finds writes t status = (IsRefusal finds status × (t.new ≡ t.old)) ⊎ (finds ready × IsEnd writes t status)
 
 -- what stands behind each status of a command; faults and written bytes before and after it
 pub record Change : Type 0 where
   pub held : List ℕ → Option (List ℕ)
   pub faults_before : List ℕ → ℕ
   pub faults_after : List ℕ → ℕ
-  pub taken_before : Option (List ℕ)
-  pub taken_after : Option (List ℕ)
-  pub writes_before : ℕ
-  pub writes_after : ℕ
+  pub taking : Taking
 
 abbrev pub IsOutcome : List (List ℕ) → Change → Status → Type 0
-IsOutcome words c Done = IsBehind words c.held (IsWritten c.taken_before c.taken_after)
-IsOutcome words c Usage = IsNoCommand words × (c.taken_after ≡ c.taken_before)
-IsOutcome words c (FormRefused word cause) = (word ≡ 2) × IsBehind words c.held (IsNoForm cause) × (c.taken_after ≡ c.taken_before)
-IsOutcome words c (ReadFault word) = (word ≡ 1) × HasReadFault words c.faults_before c.faults_after × (c.taken_after ≡ c.taken_before)
-IsOutcome words c WriteFault = IsBehind words c.held (IsBegun c.taken_before c.taken_after) × Rose c.writes_before c.writes_after
-IsOutcome words c NoMemory = ((name form : List ℕ) × (words ≡ generate name form)) × ((c.taken_after ≡ c.taken_before) ⊎ IsBehind words c.held (IsBegun c.taken_before c.taken_after))
-IsOutcome words c (TooLong word) = (word ≡ 1) × IsTooLong words c.held × (c.taken_after ≡ c.taken_before)
-IsOutcome words c (NotBuilt word) = (word ≡ 1) × IsBehind words c.held IsNotPlain × (c.taken_after ≡ c.taken_before)
+IsOutcome words c Done = IsBehind words c.held ready × IsWrittenBehind words c.held (λ text. c.taking.new ≡ appended c.taking.old text)
+IsOutcome words c Usage = IsNoCommand words × (c.taking.new ≡ c.taking.old)
+IsOutcome words c (GrammarRefused word line cause) = (word ≡ 1) × IsBehind words c.held (no_grammar line cause) × (c.taking.new ≡ c.taking.old)
+IsOutcome words c (FormRefused word cause) = (word ≡ 2) × IsBehind words c.held (no_form cause) × (c.taking.new ≡ c.taking.old)
+IsOutcome words c (Budget entry stage) = (entry ≡ 0) × IsBehind words c.held (over_budget stage) × (c.taking.new ≡ c.taking.old)
+IsOutcome words c (ReadFault word) = (word ≡ 1) × HasReadFault words c.faults_before c.faults_after × (c.taking.new ≡ c.taking.old)
+IsOutcome words c WriteFault = IsBehind words c.held ready × IsWrittenBehind words c.held (λ text. HasSentPart c.taking.old text c.taking.new) × Rose c.taking.before c.taking.after
+IsOutcome words c NoMemory = ((command : Command) × IsCommand words command) × ((c.taking.new ≡ c.taking.old) ⊎ IsWrittenBehind words c.held (λ text. HasSentPart c.taking.old text c.taking.new))
+IsOutcome words c (TooLong word) = (word ≡ 1) × IsBehind words c.held long_file × (c.taking.new ≡ c.taking.old)
+IsOutcome words c (NotBuilt word) = (word ≡ 1) × IsBehind words c.held not_built × (c.taking.new ≡ c.taking.old)

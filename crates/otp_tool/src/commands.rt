@@ -1,95 +1,125 @@
-ghost use Rattle.std.specs.Prelude.{◌≡◌, ◌≢◌, ◌≤◌, ◌⊎◌, ◌↔◌, ℕ, List, MatchOption};
+ghost use Rattle.std.specs.Prelude.{◌≡◌, ◌≢◌, ◌≤◌, ◌⊎◌, ◌↔◌, ℕ, List};
 ghost use Rattle.outside.specs.Faults.{Rose};
+ghost use Rattle.outside.specs.Sent.{appended, HasSentPart};
 ghost use Rattle.timeline_text.specs.declared.form_err.FormErr.{FormErr};
-ghost use Rattle.otp_tool.specs.Words.{IsNoCommand, generate, words_of};
-ghost use Rattle.otp_tool.specs.Grammars.{IsAccepted, IsLongFile, IsNoForm, IsNotPlain};
-ghost use Rattle.otp_tool.specs.Answers.{IsBegun, IsWritten};
-ghost use Rattle.otp_tool.specs.Outcomes.{HasReadFault, IsBeforeWriting, IsBehind, IsTold, IsTooLong, Stands};
-ghost use Rattle.otp_tool.specs.Steps.{IsOutcome};
+ghost use Rattle.grammar_reader.specs.declared.grammar_err.GrammarCause.{GrammarCause};
+ghost use Rattle.grammar_reader.specs.Grammars.{value_of};
+ghost use Rattle.command_words.specs.Commands.{Command as Asked, IsCommand, IsNoCommand, grammar_of as file_of};
+ghost use Rattle.command_words.specs.Words.{words_of};
+ghost use Rattle.command_words.specs.Seen.{command_seen};
+ghost use Rattle.otp_tool.specs.Findings.{Finding, FindsIn, long_file, no_grammar, not_built, no_form, over_budget, ready};
+ghost use Rattle.otp_tool.specs.Results.{IsResult};
+ghost use Rattle.otp_tool.specs.Outcomes.{HasReadFault, IsBeforeWriting, IsBehind, IsTold, IsWrittenBehind, Stands, answer_to};
+ghost use Rattle.otp_tool.specs.Steps.{HasFitBudget, IsOutcome, IsStep};
 
-use crate::form::read_form;
 use crate::grammar::load_grammar;
-use crate::status::Status;
-use crate::write::write_answer;
+use crate::results::{canon, generate, score, show};
+use command_words::{Command, command_of};
+use grammar_reader::Grammar;
 use outside::{Shelf, Sink};
+use status_lines::Status;
 use std::alloc::Global;
 
-/// The name of the grammar and the form, where the words are a command.
-fn command(words: &[String]) -> Option<(&str, &str)>
-    ensures { MatchOption result (IsNoCommand (words_of words.now)) (λ c. words_of words.now ≡ generate c.0.now c.1.now) }
+/// The name of the file of a command's grammar.
+fn grammar_name<'a>(command: &Command<'a>) -> &'a str
+    ensures { result.now ≡ file_of (command_seen command.now) }
 {
-    if words.len() == 3 && words[0].as_str() == "generate" {
-        Some((words[1].as_str(), words[2].as_str()))
-    } else {
-        None
+    match *command {
+        Command::Canon { grammar } => grammar,
+        Command::Score { grammar, .. } => grammar,
+        Command::Generate { grammar, .. } => grammar,
+        Command::Show { grammar, .. } => grammar,
     }
 }
 
-/// Generates for the grammar of this name and a form, and writes the answer.
-fn generate<F: Shelf, O: Sink>(
+/// Does what a command asks of its grammar.
+fn perform<O: Sink>(alloc: Global, command: &Command<'_>, grammar: &Grammar, sink: &mut O) -> Status
+    requires { HasFitBudget (command_seen command.now) }
+    ensures step { IsStep (FindsIn (command_seen command.now) (value_of grammar.now)) (IsResult (command_seen command.now) (value_of grammar.now)) (record { old = O.taken sink.old; new = O.taken sink.new; before = O.faults sink.old; after = O.faults sink.new }) result }
+    ensures never_falls { O.faults sink.old ≤ O.faults sink.new }
+{
+    match *command {
+        Command::Canon { .. } => canon(grammar, sink),
+        Command::Score { timeline, .. } => score(alloc, grammar, timeline, sink),
+        Command::Generate { form, budget, .. } => generate(alloc, grammar, form, budget, sink),
+        Command::Show { form, budget, .. } => show(alloc, grammar, form, budget, sink),
+    }
+}
+
+/// Loads the grammar of a command, and does what the command asks of it.
+fn execute<F: Shelf, O: Sink>(
     alloc: Global,
-    name: &str,
-    form: &str,
+    command: &Command<'_>,
     shelf: &mut F,
     sink: &mut O,
 ) -> Status
-    ensures outcome { IsOutcome (generate name.now form.now) (record { held = F.held shelf.old; faults_before = F.faults shelf.old; faults_after = F.faults shelf.new; taken_before = O.taken sink.old; taken_after = O.taken sink.new; writes_before = O.faults sink.old; writes_after = O.faults sink.new }) result }
+    requires { HasFitBudget (command_seen command.now) }
+    ensures outcome { (words : List (List ℕ)) → IsCommand words (command_seen command.now) → IsOutcome words (record { held = F.held shelf.old; faults_before = F.faults shelf.old; faults_after = F.faults shelf.new; taking = record { old = O.taken sink.old; new = O.taken sink.new; before = O.faults sink.old; after = O.faults sink.new } }) result }
     ensures held { (other : List ℕ) → F.held shelf.new other ≡ F.held shelf.old other }
     ensures never_falls { (other : List ℕ) → F.faults shelf.old other ≤ F.faults shelf.new other }
-    ensures others { (other : List ℕ) → other ≢ name.now → F.faults shelf.new other ≡ F.faults shelf.old other }
+    ensures others { (other : List ℕ) → other ≢ file_of (command_seen command.now) → F.faults shelf.new other ≡ F.faults shelf.old other }
     ensures sink_never_falls { O.faults sink.old ≤ O.faults sink.new }
 {
-    let tiers = match load_grammar(alloc, shelf, name) {
-        Ok(tiers) => tiers,
-        Err(status) => return status,
-    };
-    match read_form(alloc, &tiers, form) {
-        Ok(form) => write_answer(alloc, &tiers, &form, sink),
+    match load_grammar(alloc, shelf, grammar_name(command)) {
+        Ok(grammar) => perform(alloc, command, &grammar, sink),
         Err(status) => status,
     }
 }
 
-/// Runs the words of a command: `generate G FORM`, where `G` is the name of a grammar's file.
+/// Runs the words of a command.
 ///
-/// The file has at most 65,536 bytes. The word FORM that begins with `=` is spelled by letters, of
-/// which there are none yet; any other is the text of a timeline over the input tiers. The answer
-/// is made as a whole before anything is written. The refusals come in this order: Usage;
-/// ReadFault, TooLong and NotBuilt for word 1; FormRefused for word 2; WriteFault. NoMemory may come
-/// in place of any status but Usage.
+/// | Words | What is written |
+/// |---|---|
+/// | `canon G` | the canonical text of the grammar |
+/// | `score G TIMELINE` | the line of the counts of that timeline |
+/// | `generate G FORM [BUDGET]` | the text of a right answer |
+/// | `show G FORM [BUDGET]` | the lines `counts` and `example` of that answer |
+///
+/// `G` is the name of a grammar's file, of at most 65,536 bytes. TIMELINE is a timeline over all
+/// tiers, of at most 4,096 columns. FORM is a timeline over the input tiers, of at most 64 columns,
+/// or `=` and letters. BUDGET is how many kinds of prefix a stage may have: a decimal from 1 to
+/// 65,536 without sign and without leading zero, and 20,000 where it is left out.
+///
+/// Each command makes its whole result before it writes. The refusals come in this order: Usage;
+/// ReadFault and TooLong for word 1; GrammarRefused; NotBuilt for word 1, where `generate` or `show`
+/// is asked for and the grammar has constraints; FormRefused for word 2; Budget; WriteFault.
+/// NoMemory may come in place of any status but Usage.
 pub fn run<F: Shelf, O: Sink>(
     alloc: Global,
     words: &[String],
     shelf: &mut F,
     sink: &mut O,
 ) -> Status
-    // Done: exactly the text of a right answer was written.
-    ensures done { result ≡ Status.Done → IsBehind (words_of words.now) (F.held shelf.old) (IsWritten (O.taken sink.old) (O.taken sink.new)) }
-    ensures complete { IsTold (words_of words.now) (F.held shelf.old) IsAccepted → ¬ HasReadFault (words_of words.now) (F.faults shelf.old) (F.faults shelf.new) → ¬ Rose (O.faults sink.old) (O.faults sink.new) → (result ≡ Status.Done) ⊎ (result ≡ Status.NoMemory) }
+    // Done: exactly the text that the command asks for was written. For `generate` it is the text of a right answer.
+    ensures done { result ≡ Status.Done → IsWrittenBehind (words_of words.now) (F.held shelf.old) (λ text. O.taken sink.new ≡ appended (O.taken sink.old) text) }
+    ensures complete { IsTold (words_of words.now) (F.held shelf.old) ready → ¬ HasReadFault (words_of words.now) (F.faults shelf.old) (F.faults shelf.new) → ¬ Rose (O.faults sink.old) (O.faults sink.new) → (result ≡ Status.Done) ⊎ (result ≡ Status.NoMemory) }
 
-    // Each refusal has its cause, and where the shelf tells, each cause has its refusal.
+    // Each refusal has its cause.
     ensures usage { (result ≡ Status.Usage) ↔ IsNoCommand (words_of words.now) }
     ensures read_fault { (word : ℕ) → result ≡ Status.ReadFault word → (word ≡ 1) × HasReadFault (words_of words.now) (F.faults shelf.old) (F.faults shelf.new) }
-    ensures too_long { (word : ℕ) → result ≡ Status.TooLong word → (word ≡ 1) × IsTooLong (words_of words.now) (F.held shelf.old) }
-    ensures too_long_due { IsTold (words_of words.now) (F.held shelf.old) IsLongFile → Stands (Status.TooLong 1) result }
-    ensures not_built { (word : ℕ) → result ≡ Status.NotBuilt word → (word ≡ 1) × IsBehind (words_of words.now) (F.held shelf.old) IsNotPlain }
-    ensures not_built_due { IsTold (words_of words.now) (F.held shelf.old) IsNotPlain → Stands (Status.NotBuilt 1) result }
-    ensures form_refused { (word : ℕ) (cause : FormErr) → result ≡ Status.FormRefused word cause → (word ≡ 2) × IsBehind (words_of words.now) (F.held shelf.old) (IsNoForm cause) }
-    ensures form_refused_due { (cause : FormErr) → IsTold (words_of words.now) (F.held shelf.old) (IsNoForm cause) → Stands (Status.FormRefused 2 cause) result }
-    ensures write_fault { result ≡ Status.WriteFault → Rose (O.faults sink.old) (O.faults sink.new) }
+    ensures too_long { (word : ℕ) → result ≡ Status.TooLong word → (word ≡ 1) × IsBehind (words_of words.now) (F.held shelf.old) long_file }
+    ensures grammar_refused { (word line : ℕ) (cause : GrammarCause) → result ≡ Status.GrammarRefused word line cause → (word ≡ 1) × IsBehind (words_of words.now) (F.held shelf.old) (no_grammar line cause) }
+    ensures not_built { (word : ℕ) → result ≡ Status.NotBuilt word → (word ≡ 1) × IsBehind (words_of words.now) (F.held shelf.old) not_built }
+    ensures form_refused { (word : ℕ) (cause : FormErr) → result ≡ Status.FormRefused word cause → (word ≡ 2) × IsBehind (words_of words.now) (F.held shelf.old) (no_form cause) }
+    ensures budget { (entry stage : ℕ) → result ≡ Status.Budget entry stage → (entry ≡ 0) × IsBehind (words_of words.now) (F.held shelf.old) (over_budget stage) }
+    ensures write_fault { result ≡ Status.WriteFault → IsBehind (words_of words.now) (F.held shelf.old) ready × Rose (O.faults sink.old) (O.faults sink.new) }
+
+    // Where the shelf tells, each cause has its refusal.
+    ensures due { (finding : Finding) → finding ≢ ready → IsTold (words_of words.now) (F.held shelf.old) finding → Stands (answer_to finding) result }
 
     // What was written where not all was done.
     ensures untouched { IsBeforeWriting result → O.taken sink.new ≡ O.taken sink.old }
-    ensures begun { result ≡ Status.WriteFault → IsBehind (words_of words.now) (F.held shelf.old) (IsBegun (O.taken sink.old) (O.taken sink.new)) }
-    ensures no_memory { result ≡ Status.NoMemory → (O.taken sink.new ≡ O.taken sink.old) ⊎ IsBehind (words_of words.now) (F.held shelf.old) (IsBegun (O.taken sink.old) (O.taken sink.new)) }
+    ensures begun { result ≡ Status.WriteFault → IsWrittenBehind (words_of words.now) (F.held shelf.old) (λ text. HasSentPart (O.taken sink.old) text (O.taken sink.new)) }
+    ensures no_memory { result ≡ Status.NoMemory → (O.taken sink.new ≡ O.taken sink.old) ⊎ IsWrittenBehind (words_of words.now) (F.held shelf.old) (λ text. HasSentPart (O.taken sink.old) text (O.taken sink.new)) }
 
     // What the shelf holds stays; no count of faults falls, and only that of word 1 changes.
     ensures held { (other : List ℕ) → F.held shelf.new other ≡ F.held shelf.old other }
     ensures never_falls { (other : List ℕ) → F.faults shelf.old other ≤ F.faults shelf.new other }
-    ensures others { (other : List ℕ) → ((form : List ℕ) → words_of words.now ≢ generate other form) → F.faults shelf.new other ≡ F.faults shelf.old other }
+    ensures others { (other : List ℕ) → ((command : Asked) → IsCommand (words_of words.now) command → file_of command ≢ other) → F.faults shelf.new other ≡ F.faults shelf.old other }
     ensures sink_never_falls { O.faults sink.old ≤ O.faults sink.new }
 {
-    match command(words) {
-        Some((name, form)) => generate(alloc, name, form, shelf, sink),
+    match command_of(words) {
+        Some(command) => execute(alloc, &command, shelf, sink),
         None => Status::Usage,
     }
 }

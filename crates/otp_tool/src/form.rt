@@ -1,19 +1,19 @@
-ghost use Rattle.std.specs.Prelude.{◌≡◌, ◌≢◌, ◌≤◌, length, count_by, IfOk, IfErr};
+ghost use Rattle.std.specs.Prelude.{◌≡◌, ◌≢◌, ◌≤◌, length, IfOk, IfErr};
 ghost use Rattle.tier_core.specs.Tables.{tiers_of_table};
-ghost use Rattle.tier_core.specs.Tiers.{is_input};
+ghost use Rattle.tier_core.specs.Tiers.{is_input, numbers_from};
 ghost use Rattle.violation.specs.Candidates.{IsForm};
-ghost use Rattle.otp_tool.specs.Words.{IsReadAs, IsRefusedFor, is_spelled};
-ghost use Rattle.otp_tool.specs.Plain.{AreWithinLimits};
-ghost use Rattle.otp_tool.specs.Steps.{IsFormRefusal};
+ghost use Rattle.otp_tool.specs.Forms.{IsNotScored, IsReadAs, IsRefusedFor, IsScored, is_spelled};
 
-use crate::plain::count_inputs;
-use crate::status::Status;
+use grammar_reader::Grammar;
 use std::alloc::Global;
-use tier_core::{TierTable, Timeline};
+use tier_core::{TierKind, Timeline};
 use timeline_text::{FormErr, read_spelled, read_timeline};
 
 /// How many columns a form may have.
 const FORM_LIMIT: usize = 64;
+
+/// How many columns a timeline may have that is scored.
+const SCORED_LIMIT: usize = 4096;
 
 /// Whether a word begins with `=`.
 fn is_spelled(word: &[u8]) -> bool
@@ -22,32 +22,50 @@ fn is_spelled(word: &[u8]) -> bool
     !word.is_empty() && word[0] == b'='
 }
 
-/// Reads a form's word, where the grammar has no letters.
-fn timeline_of(alloc: Global, inputs: u32, word: &[u8]) -> Result<Timeline, FormErr>
-    requires some { 1 ≤ inputs }
-    requires few { inputs ≤ 6 }
-    ensures ok { IfOk result (IsReadAs inputs word.now) }
-    ensures err { IfErr result (λ cause. cause ≢ FormErr.NoMemory → IsRefusedFor inputs word.now cause) }
+/// Whether a tier is an input tier.
+fn is_input(kind: TierKind) -> bool
+    ensures { result ≡ is_input kind }
 {
+    matches!(kind, TierKind::Input)
+}
+
+/// How many tiers are input tiers.
+fn count_inputs(kinds: &[TierKind]) -> usize
+    ensures value { result ≡ length (numbers_from is_input 0 kinds.now) }
+    ensures few { result ≤ length kinds.now }
+{
+    kinds.iter().filter(|kind| is_input(**kind)).count()
+}
+
+/// Reads a form's word: by the letters of the grammar where it begins with `=`, and else as the
+/// text of a timeline over the input tiers.
+pub(crate) fn read_form(
+    alloc: Global,
+    grammar: &Grammar,
+    word: &[u8],
+) -> Result<Timeline, FormErr>
+    ensures ok { IfOk result (IsReadAs (length (tiers_of_table grammar.now.tiers).input) grammar.now.letters.items word.now) }
+    ensures form { IfOk result (IsForm (tiers_of_table grammar.now.tiers)) }
+    ensures short { IfOk result (λ form. length form ≤ 64) }
+    ensures err { IfErr result (λ cause. cause ≢ FormErr.NoMemory → IsRefusedFor (length (tiers_of_table grammar.now.tiers).input) grammar.now.letters.items word.now cause) }
+{
+    let inputs = count_inputs(&grammar.tiers.kinds) as u32;
     if is_spelled(word) {
-        read_spelled(alloc, &[], inputs, word)
+        read_spelled(alloc, &grammar.letters, inputs, word)
     } else {
         read_timeline(alloc, inputs, FORM_LIMIT, word)
     }
 }
 
-/// Reads word 2, the form.
-pub(crate) fn read_form(alloc: Global, tiers: &TierTable, word: &str) -> Result<Timeline, Status>
-    requires { AreWithinLimits tiers.now.kinds.items }
-    ensures ok { IfOk result (IsReadAs (count_by is_input tiers.now.kinds.items) word.now) }
-    ensures form { IfOk result (IsForm (tiers_of_table tiers.now)) }
-    ensures short { IfOk result (λ form. length form ≤ 64) }
-    ensures err { IfErr result (IsFormRefusal (count_by is_input tiers.now.kinds.items) word.now) }
+/// Reads the word of a timeline over all tiers of the grammar.
+pub(crate) fn read_scored(
+    alloc: Global,
+    grammar: &Grammar,
+    word: &[u8],
+) -> Result<Timeline, FormErr>
+    ensures ok { IfOk result (IsScored (length grammar.now.tiers.kinds.items) word.now) }
+    ensures err { IfErr result (λ cause. cause ≢ FormErr.NoMemory → IsNotScored (length grammar.now.tiers.kinds.items) word.now cause) }
 {
-    let inputs = count_inputs(&tiers.kinds) as u32;
-    match timeline_of(alloc, inputs, word.as_bytes()) {
-        Ok(form) => Ok(form),
-        Err(FormErr::NoMemory) => Err(Status::NoMemory),
-        Err(cause) => Err(Status::FormRefused { word: 2, cause }),
-    }
+    let width = grammar.tiers.kinds.as_slice().len() as u32;
+    read_timeline(alloc, width, SCORED_LIMIT, word)
 }

@@ -87,7 +87,7 @@ single_holds target arc s = ap (λ sets. sets_have sets s.column) s.sets ∙ alo
 pub single_only : (target : List Sym → ℕ) (arc : ArcLine) (s : IsSingleArc target arc) (column : List Sym) → has arc.class column ≡ true → column ≡ s.column
 single_only target arc s column h = only_have s.column column (ap (λ sets. sets_have sets column) (sym s.sets) ∙ h)
 
-slice_same : (xs : List ℕ) → slice_cmp nat_cmp xs xs ≡ Equal
+pub slice_same : (xs : List ℕ) → slice_cmp nat_cmp xs xs ≡ Equal
 slice_same [] = refl
 slice_same (x ∷ xs) = ap (λ o. ordering_then o (slice_cmp nat_cmp xs xs)) (sym (nat_cmp_is x x Equal refl)) ∙ slice_same xs
 

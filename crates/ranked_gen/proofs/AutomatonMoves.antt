@@ -22,10 +22,16 @@ use Rattle.answer_text.specs.declared.automaton.StateLine.{StateLine}
 use Rattle.answer_text.specs.Acceptance.{HasArc, IsFinalState, Leads, Accepts}
 use Rattle.ranked_gen.specs.Numbers.{number_of_flags, number_of_kind, kind_numbered}
 use Rattle.ranked_gen.specs.Arcs.{moves_from}
-use Rattle.ranked_gen.specs.Listed.{kind_count, arc_view, move_view, IsStateNumbered, AreNumbered}
+use Rattle.ranked_gen.specs.Listed.{kind_count, arc_view, move_view, AreNumbered}
 use Rattle.ranked_gen.proofs.NumberLemmas.{length-flags_of, number-lt, kind_numbered-number, number-kind_numbered}
 use Rattle.ranked_gen.proofs.MemberLemmas.{contains_none, contains_first, contains_later, contains_cases, contains_map, contains_of_map}
 use Rattle.ranked_gen.proofs.MoveList.{listed_moves, moves_listed}
+
+-- the line of the kind of a number
+pub record IsLineNumbered (tiers : Tiers) (u : List (List Sym)) (n : ℕ) (line : StateLine) : Type 0 where
+  pub node : line.node ≡ n
+  pub final : line.accepting ≡ is_final u (kind_numbered (length tiers.free) n)
+  pub arcs : map arc_view line.arcs.items ≡ map move_view (moves_from tiers u (kind_numbered (length tiers.free) n))
 
 -- elements that are numbered, by member and by number
 pub numbered_member : {X : Type 0} (P : ℕ → X → Type 0) (n : ℕ) (xs : List X) (x : X) → AreNumbered P n xs → Contains xs x → (i : ℕ) × ((i < n + length xs) × P i x)
@@ -103,7 +109,7 @@ module _ (tiers : Tiers) (split : AreSplit tiers) (u : List (List Sym)) where
 
 -- The states have these numbers.
 module _ (tiers : Tiers) (split : AreSplit tiers) (distinct : AreDistinct tiers.free) (u : List (List Sym)) (form : IsForm tiers u)
-    (states : List StateLine) (count : length states ≡ kind_count tiers u) (each : AreNumbered (IsStateNumbered tiers u) 0 states) where
+    (states : List StateLine) (count : length states ≡ kind_count tiers u) (each : AreNumbered (IsLineNumbered tiers u) 0 states) where
   f : ℕ
   f = length tiers.free
 
@@ -111,7 +117,7 @@ module _ (tiers : Tiers) (split : AreSplit tiers) (distinct : AreDistinct tiers.
   pub arc_moves : (i j : ℕ) (column : List Sym) → HasArc states i j column
       → (i < kind_count tiers u) × (FitsKind tiers u (kind_numbered (length tiers.free) i) column × (j ≡ number_of_kind (length tiers.free) (moved tiers [] 0 (kind_numbered (length tiers.free) i) column)))
   arc_moves i j column a =
-      let r = numbered_member (IsStateNumbered tiers u) 0 states a.state each a.listed in
+      let r = numbered_member (IsLineNumbered tiers u) 0 states a.state each a.listed in
       let here : r.0 ≡ i = sym r.1.1.node ∙ a.from in
       let k = kind_numbered (length tiers.free) r.0 in
       let viewed : Contains (map move_view (moves_from tiers u k)) (arc_view a.arc) = subst (λ vs. Contains vs (arc_view a.arc)) r.1.1.arcs (contains_map arc_view a.state.arcs.items a.arc a.leaves) in
@@ -130,7 +136,7 @@ module _ (tiers : Tiers) (split : AreSplit tiers) (distinct : AreDistinct tiers.
   moves_arc i column l fit =
       let k = kind_numbered (length tiers.free) i in
       let j = number_of_kind (length tiers.free) (moved tiers [] 0 k column) in
-      let s = numbered_at (IsStateNumbered tiers u) 0 states i each (omega arith) (omega arith) in
+      let s = numbered_at (IsLineNumbered tiers u) 0 states i each (omega arith) (omega arith) in
       let listed : Contains (map move_view (moves_from tiers u k)) (move_view (j, column)) = contains_map move_view (moves_from tiers u k) (j, column) (moves_listed tiers split distinct u form k column fit) in
       let a = contains_of_map arc_view s.0.arcs.items (move_view (j, column)) (subst (λ vs. Contains vs (move_view (j, column))) (sym s.1.1.arcs) listed) in
       record {
@@ -183,13 +189,13 @@ module _ (tiers : Tiers) (split : AreSplit tiers) (distinct : AreDistinct tiers.
 
   final_state : (n : ℕ) → IsFinalState states n → is_final u (kind_numbered (length tiers.free) n) ≡ true
   final_state n s =
-      let r = numbered_member (IsStateNumbered tiers u) 0 states s.state each s.listed in
+      let r = numbered_member (IsLineNumbered tiers u) 0 states s.state each s.listed in
       let here : r.0 ≡ n = sym r.1.1.node ∙ s.numbered in
       sym (ap (λ m. is_final u (kind_numbered (length tiers.free) m)) here) ∙ sym r.1.1.final ∙ s.final
 
   state_final : (n : ℕ) → n < kind_count tiers u → is_final u (kind_numbered (length tiers.free) n) ≡ true → IsFinalState states n
   state_final n l h =
-      let s = numbered_at (IsStateNumbered tiers u) 0 states n each (omega arith) (omega arith) in
+      let s = numbered_at (IsLineNumbered tiers u) 0 states n each (omega arith) (omega arith) in
       record { state = s.0; listed = s.1.0; numbered = s.1.1.node; final = s.1.1.final ∙ h }
 
   -- what is accepted is a candidate

@@ -13,6 +13,11 @@ pub mod BareForm
 pub mod AllPassed
 pub mod InputTiers
 pub mod AutomatonMoves
+pub mod StageKinds
+pub mod StateArcs
+pub mod LineLemmas
+pub mod TableOfKinds
+pub mod FirstOptimal
 pub mod RightAnswer
 pub mod PickLemmas
 pub mod FlagSteps

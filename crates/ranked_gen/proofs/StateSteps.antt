@@ -20,7 +20,8 @@ use Rattle.violation.specs.Prefixes.{is_open}
 use Rattle.violation.specs.Moves.{is_final, form_opened}
 use Rattle.violation.proofs.OpenLemmas.{prefix_open, take_word}
 use Rattle.answer_text.specs.declared.stage.Node.{Node}
-use Rattle.answer_text.specs.declared.automaton.StateLine.{StateLine}
+use Rattle.weight_law.specs.declared.Weight.{Ghosts}
+use Rattle.arc_table.specs.declared.state.TableState.{TableState}
 use Rattle.ranked_gen.specs.Numbers.{number_of_flags, flags_of, kind_numbered}
 use Rattle.ranked_gen.specs.Arcs.{still, staying, moves_with, moves_from}
 use Rattle.ranked_gen.specs.Listed.{move_view, IsNodeNumbered, IsStateNumbered, AreNumbered, AreListed}
@@ -88,16 +89,16 @@ pub numbered_more : {X : Type 0} (P : ℕ → X → Type 0) (n : ℕ) (xs : List
 numbered_more P n [] x a p = let here : n + 0 ≡ n = omega arith in (subst (λ k. P k x) here p, tt)
 numbered_more P n (y ∷ ys) x a p = let here : n + suc (length ys) ≡ (n + 1) + length ys = omega arith in (a.0, numbered_more P (n + 1) ys x a.1 (subst (λ k. P k x) here p))
 
-pub listed_more : (tiers : Tiers) (u : List (List Sym)) (count : ℕ) (nodes : List Node) (states : List StateLine) (node : Node) (state : StateLine)
+pub listed_more : {W : Type 0} {g : Ghosts W} (tiers : Tiers) (u : List (List Sym)) (count : ℕ) (nodes : List Node) (states : List (TableState W g)) (node : Node) (state : TableState W g)
     → AreListed tiers u count nodes states → IsNodeNumbered tiers count node → IsStateNumbered tiers u count state → AreListed tiers u (count + 1) (nodes ++ node ∷ []) (states ++ state ∷ [])
-listed_more tiers u count nodes states node state a n s =
+listed_more {W} {g} tiers u count nodes states node state a n s =
     let at_node : count ≡ 0 + length nodes = omega (arith, a.node_count) in
     let at_state : count ≡ 0 + length states = omega (arith, a.state_count) in
     record {
       node_count = omega (arith, a.node_count, length_push nodes node);
       each_node = numbered_more (IsNodeNumbered tiers) 0 nodes node a.each_node (subst (λ k. IsNodeNumbered tiers k node) at_node n);
       state_count = omega (arith, a.state_count, length_push states state);
-      each_state = numbered_more (IsStateNumbered tiers u) 0 states state a.each_state (subst (λ k. IsStateNumbered tiers u k state) at_state s);
+      each_state = numbered_more (IsStateNumbered {W = W} {g = g} tiers u) 0 states state a.each_state (subst (λ k. IsStateNumbered {W = W} {g = g} tiers u k state) at_state s);
     }
 
 -- numbers of kinds are small
@@ -134,5 +135,5 @@ node_counted tiers free place opened mask count l e =
     let P : ℕ → Type 0 = λ f. kind_from place (map (has_tier mask) (range_with_len 0 f)) [] ≡ kind_numbered f (place * 2 ^ free + opened) in
     subst P count (ap (λ o. kind_from place o []) e ∙ sym (kind_at_place free place opened l))
 
-pub nothing_listed : (tiers : Tiers) (u : List (List Sym)) (n : ℕ) → n ≡ 0 → AreListed tiers u n [] []
-nothing_listed tiers u n e = record { node_count = sym e; each_node = tt; state_count = sym e; each_state = tt }
+pub nothing_listed : {W : Type 0} {g : Ghosts W} (tiers : Tiers) (u : List (List Sym)) (n : ℕ) → n ≡ 0 → AreListed {W = W} {g = g} tiers u n [] []
+nothing_listed {W} {g} tiers u n e = record { node_count = sym e; each_node = tt; state_count = sym e; each_state = tt }

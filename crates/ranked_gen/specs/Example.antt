@@ -14,6 +14,3 @@ symbol_on (x ∷ xs) (s ∷ ss) t = if x == t then s else symbol_on xs ss t
 -- a column of a form, widened to all tiers
 abbrev pub widened : Tiers → List Sym → List Sym
 widened tiers column = map (symbol_on tiers.input column) (range_with_len 0 tiers.width)
-
-abbrev pub bare_form : Tiers → List (List Sym) → List (List Sym)
-bare_form tiers u = map (widened tiers) u

@@ -9,7 +9,9 @@ use Rattle.tier_core.specs.Kinds.{prefix_kind}
 use Rattle.violation.specs.Moves.{is_final}
 use Rattle.answer_text.specs.declared.stage.Node.{Node}
 use Rattle.answer_text.specs.declared.automaton.ArcLine.{ArcLine}
-use Rattle.answer_text.specs.declared.automaton.StateLine.{StateLine}
+use Rattle.weight_law.specs.declared.Weight.{Ghosts}
+use Rattle.arc_table.specs.declared.arc.TableArc.{TableArc}
+use Rattle.arc_table.specs.declared.state.TableState.{TableState}
 use Rattle.ranked_gen.specs.Numbers.{kind_numbered}
 use Rattle.ranked_gen.specs.Arcs.{moves_from}
 
@@ -17,7 +19,11 @@ use Rattle.ranked_gen.specs.Arcs.{moves_from}
 abbrev pub kind_count : Tiers → List (List Sym) → ℕ
 kind_count tiers u = (length u + 1) * 2 ^ length tiers.free
 
--- an arc, by its target and the numbers of its sets
+-- an arc of a table, by its target and the numbers of its sets
+abbrev pub table_view : {W : Type 0} {g : Ghosts W} → TableArc W g → ℕ × List ℕ
+table_view arc = (arc.target, sets_of arc.class)
+
+-- an arc of an answer, in the same way
 abbrev pub arc_view : ArcLine → ℕ × List ℕ
 arc_view arc = (arc.target, sets_of arc.class)
 
@@ -31,10 +37,9 @@ pub record IsNodeNumbered (tiers : Tiers) (n : ℕ) (node : Node) : Type 0 where
   pub potential : node.potential ≡ 0
 
 -- the state of the kind of a number
-pub record IsStateNumbered (tiers : Tiers) (u : List (List Sym)) (n : ℕ) (state : StateLine) : Type 0 where
-  pub node : state.node ≡ n
+pub record IsStateNumbered {W : Type 0} {g : Ghosts W} (tiers : Tiers) (u : List (List Sym)) (n : ℕ) (state : TableState W g) : Type 0 where
   pub final : state.accepting ≡ is_final u (kind_numbered (length tiers.free) n)
-  pub arcs : map arc_view state.arcs.items ≡ map move_view (moves_from tiers u (kind_numbered (length tiers.free) n))
+  pub arcs : map table_view state.arcs.items ≡ map move_view (moves_from tiers u (kind_numbered (length tiers.free) n))
 
 -- elements that are numbered from n on
 abbrev pub AreNumbered : {X : Type 0} → (ℕ → X → Type 0) → ℕ → List X → Type 0
@@ -42,8 +47,8 @@ AreNumbered P n [] = Unit {0}
 AreNumbered P n (x ∷ xs) = P n x × AreNumbered P (n + 1) xs
 
 -- the first nodes and states, so many of each
-pub record AreListed (tiers : Tiers) (u : List (List Sym)) (count : ℕ) (nodes : List Node) (states : List StateLine) : Type 0 where
+pub record AreListed {W : Type 0} {g : Ghosts W} (tiers : Tiers) (u : List (List Sym)) (count : ℕ) (nodes : List Node) (states : List (TableState W g)) : Type 0 where
   pub node_count : length nodes ≡ count
   pub each_node : AreNumbered (IsNodeNumbered tiers) 0 nodes
   pub state_count : length states ≡ count
-  pub each_state : AreNumbered (IsStateNumbered tiers u) 0 states
+  pub each_state : AreNumbered (IsStateNumbered {W = W} {g = g} tiers u) 0 states

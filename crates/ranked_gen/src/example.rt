@@ -1,11 +1,9 @@
-ghost use Rattle.std.specs.Prelude.{◌≡◌, ◌≤◌, length, IfOk, IsTrue};
-ghost use Rattle.std.specs.List.{AllByRecursion};
-ghost use Rattle.tier_core.specs.Tables.{tiers_of_table};
+ghost use Rattle.std.specs.Prelude.{◌≡◌, ◌≤◌, length, IfOk};
 ghost use Rattle.tier_core.specs.Tiers.{is_input, tiers_by_kinds};
-ghost use Rattle.ranked_gen.specs.Example.{bare_form, widened};
+ghost use Rattle.ranked_gen.specs.Example.{widened};
 
 use std::alloc::Global;
-use tier_core::{Column, NoMemory, Sym, TierKind, TierTable, Timeline};
+use tier_core::{Column, NoMemory, Sym, TierKind, Timeline};
 
 /// Whether a tier is an input tier.
 pub(crate) fn is_input(kind: TierKind) -> bool
@@ -33,26 +31,6 @@ pub(crate) fn widened(alloc: Global, kinds: &[TierKind], column: &[Sym]) -> Colu
         }
     }
     Column::from_syms(alloc, &syms[..kinds.len()])
-}
-
-/// The form with no constituent on the free tiers: each of its columns, which have a symbol for
-/// each input tier, widened to all tiers. It fails only for want of memory.
-pub(crate) fn bare_form(
-    alloc: Global,
-    tiers: &TierTable,
-    form: &Timeline,
-) -> Result<Timeline, NoMemory>
-    requires { AllByRecursion (λ column. length column ≡ length (tiers_of_table tiers.now).input) form.now }
-    ensures { IfOk result (λ t. t ≡ bare_form (tiers_of_table tiers.now) form.now) }
-{
-    let mut bare = Timeline::new(alloc);
-    for column in form.columns() {
-        let wide = widened(alloc, tiers.kinds.as_slice(), column.syms());
-        if bare.push(wide).is_err() {
-            return Err(NoMemory);
-        }
-    }
-    Ok(bare)
 }
 
 /// The same timeline once more. It fails only for want of memory.

@@ -10,11 +10,16 @@
 
 mod example;
 mod flags;
-mod generate;
+mod gen_err;
+mod generator;
+mod lines;
 mod moves;
 mod pick;
 mod place;
 mod state;
 mod stay;
+#[cfg(test)]
+mod tests;
 
-pub use generate::generate_free;
+pub use gen_err::GenErr;
+pub use generator::generate;

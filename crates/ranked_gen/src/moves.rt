@@ -5,15 +5,16 @@ ghost use Rattle.tier_core.specs.Timelines.{has_edge};
 ghost use Rattle.tier_core.specs.Tiers.{is_free, has_tier, numbers_from, tiers_by_kinds};
 ghost use Rattle.ranked_gen.specs.Numbers.{flags_of};
 ghost use Rattle.ranked_gen.specs.Arcs.{moves_with};
-ghost use Rattle.ranked_gen.specs.Listed.{arc_view, move_view};
+ghost use Rattle.ranked_gen.specs.Listed.{table_view, move_view};
 ghost use Rattle.ranked_gen.specs.Picks.{symbols_of, two_count, picked, symbols_by_flags, symbol_by_bit, bits_of};
 
 use crate::example::{is_input, widened};
 use crate::flags::flags_by_tier;
 use crate::pick::Pick;
-use answer_text::ArcLine;
+use arc_table::TableArc;
 use std::alloc::Global;
 use tier_core::{Class, Column, NoMemory, Sym, TierKind, has_edge};
+use weight_law::UnitWeight;
 
 /// The symbols to pick from on one tier.
 fn pick_at(
@@ -103,11 +104,19 @@ fn picked(alloc: Global, picks: &[Pick], twos: u32, number: u32) -> Column
 }
 
 /// Adds an arc to a target for one column.
-fn push_arc(arcs: &mut Vec<ArcLine>, target: u32, column: &Column) -> Result<(), NoMemory>
-    ensures { OnOk result (map arc_view arcs.new.items ≡ map arc_view arcs.old.items ++ move_view (target, column.now) ∷ []) }
+fn push_arc(
+    arcs: &mut Vec<TableArc<UnitWeight>>,
+    target: u32,
+    column: &Column,
+) -> Result<(), NoMemory>
+    ensures { OnOk result (map table_view arcs.new.items ≡ map table_view arcs.old.items ++ move_view (target, column.now) ∷ []) }
 {
     let class = Class::single(column);
-    match arcs.push(ArcLine { target, class }) {
+    match arcs.push(TableArc {
+        class,
+        target,
+        weight: UnitWeight,
+    }) {
         Ok(()) => Ok(()),
         Err(_) => Err(NoMemory),
     }
@@ -116,13 +125,13 @@ fn push_arc(arcs: &mut Vec<ArcLine>, target: u32, column: &Column) -> Result<(),
 /// Adds an arc to a target for each column that can be picked and has an edge.
 fn push_columns(
     alloc: Global,
-    arcs: &mut Vec<ArcLine>,
+    arcs: &mut Vec<TableArc<UnitWeight>>,
     picks: &[Pick],
     target: u32,
 ) -> Result<(), NoMemory>
     requires some { 1 ≤ length picks.now }
     requires few { length picks.now ≤ 12 }
-    ensures { OnOk result (map arc_view arcs.new.items ≡ map arc_view arcs.old.items ++ map (λ column. move_view (target, column)) (filter has_edge (map (picked picks.now) (range_with_len 0 (2 ^ two_count picks.now))))) }
+    ensures { OnOk result (map table_view arcs.new.items ≡ map table_view arcs.old.items ++ map (λ column. move_view (target, column)) (filter has_edge (map (picked picks.now) (range_with_len 0 (2 ^ two_count picks.now))))) }
 {
     let twos = two_count(picks);
     for number in 0..1u32 << twos {
@@ -138,7 +147,7 @@ fn push_columns(
 /// to each set, where the first of these has the number `first`.
 pub(crate) fn push_moves(
     alloc: Global,
-    arcs: &mut Vec<ArcLine>,
+    arcs: &mut Vec<TableArc<UnitWeight>>,
     kinds: &[TierKind],
     free: u32,
     given: &[Sym],
@@ -150,7 +159,7 @@ pub(crate) fn push_moves(
     requires count { free ≡ length (numbers_from is_free 0 kinds.now) }
     requires wide { length given.now ≡ length (tiers_by_kinds kinds.now).input }
     requires numbers { first + 2 ^ free < 2 ^ 32 }
-    ensures { OnOk result (map arc_view arcs.new.items ≡ map arc_view arcs.old.items ++ map move_view (moves_with (tiers_by_kinds kinds.now) given.now (flags_of free opened) first)) }
+    ensures { OnOk result (map table_view arcs.new.items ≡ map table_view arcs.old.items ++ map move_view (moves_with (tiers_by_kinds kinds.now) given.now (flags_of free opened) first)) }
 {
     let column = widened(alloc, kinds, given);
     let wide = column.syms();

@@ -5,19 +5,25 @@ ghost use Rattle.ranked_gen.specs.Listed.{AreListed};
 
 use crate::state::{node_at, state_at};
 use crate::stay::staying;
-use answer_text::{Node, StateLine};
+use answer_text::Node;
+use arc_table::TableState;
 use std::alloc::Global;
 use tier_core::{NoMemory, TierTable, Timeline};
+use weight_law::UnitWeight;
 
 /// The nodes and the states that are listed so far, each pair of one number.
 #[derive(Drop)]
 pub(crate) struct Listing {
     pub(crate) nodes: Vec<Node>,
-    pub(crate) states: Vec<StateLine>,
+    pub(crate) states: Vec<TableState<UnitWeight>>,
 }
 
 /// Adds a node and its state.
-fn push_both(listing: &mut Listing, node: Node, state: StateLine) -> Result<(), NoMemory>
+fn push_both(
+    listing: &mut Listing,
+    node: Node,
+    state: TableState<UnitWeight>,
+) -> Result<(), NoMemory>
     ensures nodes { OnOk result (listing.new.nodes.items ≡ listing.old.nodes.items ++ node ∷ []) }
     ensures states { OnOk result (listing.new.states.items ≡ listing.old.states.items ++ state ∷ []) }
 {

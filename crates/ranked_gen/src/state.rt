@@ -3,13 +3,15 @@ ghost use Rattle.tier_core.specs.Tables.{tiers_of_table};
 ghost use Rattle.violation.specs.Candidates.{IsForm};
 ghost use Rattle.ranked_gen.specs.Arcs.{staying, moves_from};
 ghost use Rattle.ranked_gen.specs.Numbers.{kind_numbered};
-ghost use Rattle.ranked_gen.specs.Listed.{arc_view, move_view, IsNodeNumbered, IsStateNumbered};
+ghost use Rattle.ranked_gen.specs.Listed.{table_view, move_view, IsNodeNumbered, IsStateNumbered};
 
 use crate::flags::mask_of_flags;
 use crate::moves::push_moves;
-use answer_text::{ArcLine, Node, StateLine};
+use answer_text::Node;
+use arc_table::{TableArc, TableState};
 use std::alloc::Global;
 use tier_core::{Kind, NoMemory, Sym, TierTable, Timeline};
+use weight_law::UnitWeight;
 
 /// The node of a kind: a place, and a set of open free tiers by its number.
 pub(crate) fn node_at(tiers: &TierTable, free: u32, place: u32, opened: u32) -> Node
@@ -53,7 +55,7 @@ fn arcs_at(
     stay: &[Sym],
     place: u32,
     opened: u32,
-) -> Result<Vec<ArcLine>, NoMemory>
+) -> Result<Vec<TableArc<UnitWeight>>, NoMemory>
     requires form { IsForm (tiers_of_table tiers.now) form.now }
     requires short { length form.now ≤ 64 }
     requires count { free ≡ length (tiers_of_table tiers.now).free }
@@ -61,7 +63,7 @@ fn arcs_at(
     requires place { place ≤ length form.now }
     requires stay { stay.now ≡ staying (tiers_of_table tiers.now) form.now place }
     requires opened { opened < 2 ^ free }
-    ensures { IfOk result (λ arcs. map arc_view arcs.items ≡ map move_view (moves_from (tiers_of_table tiers.now) form.now (kind_numbered free (place * 2 ^ free + opened)))) }
+    ensures { IfOk result (λ arcs. map table_view arcs.items ≡ map move_view (moves_from (tiers_of_table tiers.now) form.now (kind_numbered free (place * 2 ^ free + opened)))) }
 {
     let kinds = tiers.kinds.as_slice();
     let mut arcs = Vec::new(alloc);
@@ -85,7 +87,7 @@ pub(crate) fn state_at(
     stay: &[Sym],
     place: u32,
     opened: u32,
-) -> Result<StateLine, NoMemory>
+) -> Result<TableState<UnitWeight>, NoMemory>
     requires form { IsForm (tiers_of_table tiers.now) form.now }
     requires short { length form.now ≤ 64 }
     requires count { free ≡ length (tiers_of_table tiers.now).free }
@@ -96,8 +98,7 @@ pub(crate) fn state_at(
     ensures { IfOk result (λ state. IsStateNumbered (tiers_of_table tiers.now) form.now (place * 2 ^ free + opened) state) }
 {
     let arcs = arcs_at(alloc, tiers, free, form, stay, place, opened)?;
-    Ok(StateLine {
-        node: first_number(place, free) + opened,
+    Ok(TableState {
         accepting: is_final(form.len(), place, opened),
         arcs,
     })

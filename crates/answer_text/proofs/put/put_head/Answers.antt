@@ -13,11 +13,11 @@ returns-in_err-put-clause-part g c = puts_equal_part c.args.waiting.now ((codes 
 pub returns-in_err-put_timeline_line-clause-part : goal.returns-in_err-put_timeline_line-clause-part
 returns-in_err-put_timeline_line-clause-part g c = puts_equal_part c.args.waiting.now ((codes "answer 1\n") ++ (line (codes "form " ++ text_of c.args.answer.now.form)) ++ (line (counts_line c.args.answer.now.counts.items)) ++ (line (codes "example " ++ text_of c.args.answer.now.example))) (lines_text (head_lines c.args.answer.now)) (head_text c.args.answer.now) (puts_longer_part c.args.waiting.now ((codes "answer 1\n") ++ (line (codes "form " ++ text_of c.args.answer.now.form)) ++ (line (counts_line c.args.answer.now.counts.items))) (line (codes "example " ++ text_of c.args.answer.now.example)) (puts_longer_part c.args.waiting.now ((codes "answer 1\n") ++ (line (codes "form " ++ text_of c.args.answer.now.form))) (line (counts_line c.args.answer.now.counts.items)) (puts_both_part c.args.waiting.now (codes "answer 1\n") (line (codes "form " ++ text_of c.args.answer.now.form)) c.in_ok-put.ensures.ok c.put_timeline_line.ensures.part)))
 
-pub returns-in_err-put_counts-clause-part : goal.returns-in_err-put_counts-clause-part
-returns-in_err-put_counts-clause-part g c = puts_equal_part c.args.waiting.now ((codes "answer 1\n") ++ (line (codes "form " ++ text_of c.args.answer.now.form)) ++ (line (counts_line c.args.answer.now.counts.items)) ++ (line (codes "example " ++ text_of c.args.answer.now.example))) (lines_text (head_lines c.args.answer.now)) (head_text c.args.answer.now) (puts_longer_part c.args.waiting.now ((codes "answer 1\n") ++ (line (codes "form " ++ text_of c.args.answer.now.form)) ++ (line (counts_line c.args.answer.now.counts.items))) (line (codes "example " ++ text_of c.args.answer.now.example)) (puts_more_part c.args.waiting.now ((codes "answer 1\n") ++ (line (codes "form " ++ text_of c.args.answer.now.form))) _ (line (counts_line c.args.answer.now.counts.items)) (ap (λ xs. line (counts_line xs)) c.deref.ensures.value) (puts_both c.args.waiting.now (codes "answer 1\n") (line (codes "form " ++ text_of c.args.answer.now.form)) c.in_ok-put.ensures.ok c.in_ok-put_timeline_line.ensures.ok) c.put_counts.ensures.part))
+pub returns-in_err-put_counts_line-clause-part : goal.returns-in_err-put_counts_line-clause-part
+returns-in_err-put_counts_line-clause-part g c = puts_equal_part c.args.waiting.now ((codes "answer 1\n") ++ (line (codes "form " ++ text_of c.args.answer.now.form)) ++ (line (counts_line c.args.answer.now.counts.items)) ++ (line (codes "example " ++ text_of c.args.answer.now.example))) (lines_text (head_lines c.args.answer.now)) (head_text c.args.answer.now) (puts_longer_part c.args.waiting.now ((codes "answer 1\n") ++ (line (codes "form " ++ text_of c.args.answer.now.form)) ++ (line (counts_line c.args.answer.now.counts.items))) (line (codes "example " ++ text_of c.args.answer.now.example)) (puts_more_part c.args.waiting.now ((codes "answer 1\n") ++ (line (codes "form " ++ text_of c.args.answer.now.form))) _ (line (counts_line c.args.answer.now.counts.items)) (ap (λ xs. line (counts_line xs)) c.deref.ensures.value) (puts_both c.args.waiting.now (codes "answer 1\n") (line (codes "form " ++ text_of c.args.answer.now.form)) c.in_ok-put.ensures.ok c.in_ok-put_timeline_line.ensures.ok) c.put_counts_line.ensures.part))
 
 pub returns-clause-ok : goal.returns-clause-ok
-returns-clause-ok g c = on_ok_weaker c.put_timeline_line-2.result (λ s. puts_equal c.args.waiting.now ((codes "answer 1\n") ++ (line (codes "form " ++ text_of c.args.answer.now.form)) ++ (line (counts_line c.args.answer.now.counts.items)) ++ (line (codes "example " ++ text_of c.args.answer.now.example))) (lines_text (head_lines c.args.answer.now)) (head_text c.args.answer.now) (puts_both c.args.waiting.now ((codes "answer 1\n") ++ (line (codes "form " ++ text_of c.args.answer.now.form)) ++ (line (counts_line c.args.answer.now.counts.items))) (line (codes "example " ++ text_of c.args.answer.now.example)) (puts_more c.args.waiting.now ((codes "answer 1\n") ++ (line (codes "form " ++ text_of c.args.answer.now.form))) _ (line (counts_line c.args.answer.now.counts.items)) (ap (λ xs. line (counts_line xs)) c.deref.ensures.value) (puts_both c.args.waiting.now (codes "answer 1\n") (line (codes "form " ++ text_of c.args.answer.now.form)) c.in_ok-put.ensures.ok c.in_ok-put_timeline_line.ensures.ok) c.in_ok-put_counts.ensures.ok) s)) c.put_timeline_line-2.ensures.ok
+returns-clause-ok g c = on_ok_weaker c.put_timeline_line-2.result (λ s. puts_equal c.args.waiting.now ((codes "answer 1\n") ++ (line (codes "form " ++ text_of c.args.answer.now.form)) ++ (line (counts_line c.args.answer.now.counts.items)) ++ (line (codes "example " ++ text_of c.args.answer.now.example))) (lines_text (head_lines c.args.answer.now)) (head_text c.args.answer.now) (puts_both c.args.waiting.now ((codes "answer 1\n") ++ (line (codes "form " ++ text_of c.args.answer.now.form)) ++ (line (counts_line c.args.answer.now.counts.items))) (line (codes "example " ++ text_of c.args.answer.now.example)) (puts_more c.args.waiting.now ((codes "answer 1\n") ++ (line (codes "form " ++ text_of c.args.answer.now.form))) _ (line (counts_line c.args.answer.now.counts.items)) (ap (λ xs. line (counts_line xs)) c.deref.ensures.value) (puts_both c.args.waiting.now (codes "answer 1\n") (line (codes "form " ++ text_of c.args.answer.now.form)) c.in_ok-put.ensures.ok c.in_ok-put_timeline_line.ensures.ok) c.in_ok-put_counts_line.ensures.ok) s)) c.put_timeline_line-2.ensures.ok
 
 pub returns-clause-part : goal.returns-clause-part
-returns-clause-part g c = puts_equal_part c.args.waiting.now ((codes "answer 1\n") ++ (line (codes "form " ++ text_of c.args.answer.now.form)) ++ (line (counts_line c.args.answer.now.counts.items)) ++ (line (codes "example " ++ text_of c.args.answer.now.example))) (lines_text (head_lines c.args.answer.now)) (head_text c.args.answer.now) (puts_both_part c.args.waiting.now ((codes "answer 1\n") ++ (line (codes "form " ++ text_of c.args.answer.now.form)) ++ (line (counts_line c.args.answer.now.counts.items))) (line (codes "example " ++ text_of c.args.answer.now.example)) (puts_more c.args.waiting.now ((codes "answer 1\n") ++ (line (codes "form " ++ text_of c.args.answer.now.form))) _ (line (counts_line c.args.answer.now.counts.items)) (ap (λ xs. line (counts_line xs)) c.deref.ensures.value) (puts_both c.args.waiting.now (codes "answer 1\n") (line (codes "form " ++ text_of c.args.answer.now.form)) c.in_ok-put.ensures.ok c.in_ok-put_timeline_line.ensures.ok) c.in_ok-put_counts.ensures.ok) c.put_timeline_line-2.ensures.part)
+returns-clause-part g c = puts_equal_part c.args.waiting.now ((codes "answer 1\n") ++ (line (codes "form " ++ text_of c.args.answer.now.form)) ++ (line (counts_line c.args.answer.now.counts.items)) ++ (line (codes "example " ++ text_of c.args.answer.now.example))) (lines_text (head_lines c.args.answer.now)) (head_text c.args.answer.now) (puts_both_part c.args.waiting.now ((codes "answer 1\n") ++ (line (codes "form " ++ text_of c.args.answer.now.form)) ++ (line (counts_line c.args.answer.now.counts.items))) (line (codes "example " ++ text_of c.args.answer.now.example)) (puts_more c.args.waiting.now ((codes "answer 1\n") ++ (line (codes "form " ++ text_of c.args.answer.now.form))) _ (line (counts_line c.args.answer.now.counts.items)) (ap (λ xs. line (counts_line xs)) c.deref.ensures.value) (puts_both c.args.waiting.now (codes "answer 1\n") (line (codes "form " ++ text_of c.args.answer.now.form)) c.in_ok-put.ensures.ok c.in_ok-put_timeline_line.ensures.ok) c.in_ok-put_counts_line.ensures.ok) c.put_timeline_line-2.ensures.part)

@@ -6,7 +6,7 @@ use Rattle.tier_core.specs.Tiers.{is_free, is_input, numbers_from, tiers_by_kind
 use Rattle.ranked_gen.specs.Numbers.{flags_of}
 use Rattle.ranked_gen.specs.Example.{symbol_on}
 use Rattle.ranked_gen.specs.Arcs.{columns_between}
-use Rattle.ranked_gen.specs.Listed.{arc_view, move_view}
+use Rattle.ranked_gen.specs.Listed.{table_view, move_view}
 use Rattle.ranked_gen.proofs.FlagSteps.{numbers_few}
 use Rattle.ranked_gen.proofs.MoveSteps.{picked_between, moves_more, moves_shown}
 use Rattle.ranked_gen.proofs.moves.push_moves.Goals as goal
@@ -23,7 +23,7 @@ loop-number-preserved c =
     let columns = picked_between c.args.kinds.now c.args.given.now c.syms-wide.result.now c.args.free c.args.opened c.loop-number.number c.flags_by_tier-before.result c.flags_by_tier-after.result
     (c.syms-wide.ensures.value ∙ c.widened-column.ensures) c.flags_by_tier-before.ensures c.flags_by_tier-after.ensures (take (length c.args.kinds.now) c.picks-picks.result) c.picks-picks.ensures in
     moves_more _ _ (λ o. map (λ column. move_view (c.args.first + o, column)) (columns_between (tiers_by_kinds c.args.kinds.now) c.args.given.now (flags_of c.args.free c.args.opened) (flags_of c.args.free o))) c.loop-number.number _ c.loop-number.invariant
-    (c.in_ok-push_columns.ensures ∙ ap (λ cs. map arc_view c.loop-number.arcs.items ++ map (λ column. move_view (c.args.first + c.loop-number.number, column)) cs) columns)
+    (c.in_ok-push_columns.ensures ∙ ap (λ cs. map table_view c.loop-number.arcs.items ++ map (λ column. move_view (c.args.first + c.loop-number.number, column)) cs) columns)
 
 pub returns : goal.returns
 returns c =
@@ -33,6 +33,6 @@ returns c =
     let tiers = tiers_by_kinds c.args.kinds.now in
     let from = flags_of free c.args.opened in
     c.loop-number.invariant
-    ∙ ap (λ n. map arc_view c.args.arcs.now.items ++ flat_map (λ o. map (λ column. move_view (c.args.first + o, column)) (columns_between tiers c.args.given.now from (flags_of free o))) (range_with_len 0 n)) end
-    ∙ ap (λ f. map arc_view c.args.arcs.now.items ++ flat_map (λ o. map (λ column. move_view (c.args.first + o, column)) (columns_between tiers c.args.given.now from (flags_of f o))) (range_with_len 0 (2 ^ f))) c.requires.count
-    ∙ ap (λ xs. map arc_view c.args.arcs.now.items ++ xs) (sym (moves_shown move_view (λ o column. (c.args.first + o, column)) (λ o. columns_between tiers c.args.given.now from (flags_of (length (numbers_from is_free 0 c.args.kinds.now)) o)) (range_with_len 0 (2 ^ length (numbers_from is_free 0 c.args.kinds.now)))))
+    ∙ ap (λ n. map table_view c.args.arcs.now.items ++ flat_map (λ o. map (λ column. move_view (c.args.first + o, column)) (columns_between tiers c.args.given.now from (flags_of free o))) (range_with_len 0 n)) end
+    ∙ ap (λ f. map table_view c.args.arcs.now.items ++ flat_map (λ o. map (λ column. move_view (c.args.first + o, column)) (columns_between tiers c.args.given.now from (flags_of f o))) (range_with_len 0 (2 ^ f))) c.requires.count
+    ∙ ap (λ xs. map table_view c.args.arcs.now.items ++ xs) (sym (moves_shown move_view (λ o column. (c.args.first + o, column)) (λ o. columns_between tiers c.args.given.now from (flags_of (length (numbers_from is_free 0 c.args.kinds.now)) o)) (range_with_len 0 (2 ^ length (numbers_from is_free 0 c.args.kinds.now)))))

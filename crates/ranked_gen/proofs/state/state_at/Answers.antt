@@ -13,7 +13,6 @@ returns c =
     let u = c.args.form.now in
     let n = c.args.place * 2 ^ c.args.free + c.args.opened in
     record {
-      node = ap (λ k. k + c.args.opened) c.first_number.ensures.value;
       final = c.is_final.ensures ∙ ap (λ k. (c.args.place == k) && (c.args.opened == 0)) c.len.ensures ∙ final_at u c.args.free c.args.place c.args.opened c.requires.opened ∙ ap (λ f. is_final u (kind_numbered f n)) c.requires.count;
       arcs = c.in_ok-arcs.ensures ∙ ap (λ f. map move_view (moves_from tiers u (kind_numbered f n))) c.requires.count;
     }

@@ -1,0 +1,2 @@
+mod Budgets
+pub mod CommandLemmas

@@ -1,0 +1,19 @@
+//! What the words of a command line ask for.
+//!
+//! ```text
+//! words ─► command_of ─► Command, or none
+//! ```
+//!
+//! The layer above reads its words by [`command_of`] and does what the [`Command`] asks for. The
+//! definitions of `specs/` say which words are those of which command, in both directions, and the
+//! lemma `one_command` that no words are those of two.
+#![tactic(auto)]
+
+mod budget;
+mod command;
+mod read;
+#[cfg(test)]
+mod tests;
+
+pub use command::Command;
+pub use read::command_of;

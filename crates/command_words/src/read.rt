@@ -1,0 +1,86 @@
+ghost use Rattle.std.specs.Prelude.{◌∷◌, codes, MatchOption};
+ghost use Rattle.command_words.specs.Commands.{IsCommand, IsNoCommand};
+ghost use Rattle.command_words.specs.Seen.{command_seen};
+ghost use Rattle.command_words.specs.Words.{words_of};
+
+use crate::budget::budget_of;
+use crate::command::Command;
+
+/// What `canon`, the name of a grammar and further words ask for.
+fn canon_of<'a>(grammar: &'a str, further: &'a [String]) -> Option<Command<'a>>
+    ensures { MatchOption result (IsNoCommand (codes "canon" ∷ grammar.now ∷ words_of further.now)) (λ c. IsCommand (codes "canon" ∷ grammar.now ∷ words_of further.now) (command_seen c)) }
+{
+    match further {
+        [] => Some(Command::Canon { grammar }),
+        _ => None,
+    }
+}
+
+/// What `score`, the name of a grammar and further words ask for.
+fn score_of<'a>(grammar: &'a str, further: &'a [String]) -> Option<Command<'a>>
+    ensures { MatchOption result (IsNoCommand (codes "score" ∷ grammar.now ∷ words_of further.now)) (λ c. IsCommand (codes "score" ∷ grammar.now ∷ words_of further.now) (command_seen c)) }
+{
+    match further {
+        [timeline] => Some(Command::Score {
+            grammar,
+            timeline: timeline.as_str(),
+        }),
+        _ => None,
+    }
+}
+
+/// What `generate`, the name of a grammar and further words ask for.
+fn generate_of<'a>(grammar: &'a str, further: &'a [String]) -> Option<Command<'a>>
+    ensures { MatchOption result (IsNoCommand (codes "generate" ∷ grammar.now ∷ words_of further.now)) (λ c. IsCommand (codes "generate" ∷ grammar.now ∷ words_of further.now) (command_seen c)) }
+{
+    match further {
+        [form, rest @ ..] => Some(Command::Generate {
+            grammar,
+            form: form.as_str(),
+            budget: budget_of(rest)?,
+        }),
+        [] => None,
+    }
+}
+
+/// What `show`, the name of a grammar and further words ask for.
+fn show_of<'a>(grammar: &'a str, further: &'a [String]) -> Option<Command<'a>>
+    ensures { MatchOption result (IsNoCommand (codes "show" ∷ grammar.now ∷ words_of further.now)) (λ c. IsCommand (codes "show" ∷ grammar.now ∷ words_of further.now) (command_seen c)) }
+{
+    match further {
+        [form, rest @ ..] => Some(Command::Show {
+            grammar,
+            form: form.as_str(),
+            budget: budget_of(rest)?,
+        }),
+        [] => None,
+    }
+}
+
+/// The command that these words are. None where they are those of no command.
+///
+/// ```text
+/// canon G
+/// score G T
+/// generate G FORM
+/// generate G FORM BUDGET
+/// show G FORM
+/// show G FORM BUDGET
+/// ```
+///
+/// The first word stands exactly so, in lowercase. BUDGET is a number from 1 to 65,536 in decimal,
+/// without sign and leading zero. The other words are any texts, also empty ones.
+pub fn command_of(words: &[String]) -> Option<Command<'_>>
+    ensures { MatchOption result (IsNoCommand (words_of words.entry.now)) (λ c. IsCommand (words_of words.entry.now) (command_seen c)) }
+{
+    let [name, grammar, further @ ..] = words else {
+        return None;
+    };
+    match name.as_str() {
+        "canon" => canon_of(grammar.as_str(), further),
+        "score" => score_of(grammar.as_str(), further),
+        "generate" => generate_of(grammar.as_str(), further),
+        "show" => show_of(grammar.as_str(), further),
+        _ => None,
+    }
+}

@@ -1,0 +1,6 @@
+pub mod MaskSteps
+pub mod OpenPlaces
+pub mod GrammarTiers
+pub mod MoveSteps
+pub mod KindBits
+pub mod LawSteps

@@ -1,0 +1,139 @@
+-- Which tiers are open after a move, and which phases are closed.
+use Rattle.std.proofs.Common.{◌≡◌, ◌≢◌, ℕ, zero, suc, ◌+◌, ◌<◌, ◌||◌, ◌&&◌, not, Bool, true, false, cond, List, [], ◌∷◌, map, take, length, get_or, refl, ap, sym, ◌∙◌, arith, ⊎_elim, eq-eqb, ne_eqb, Contains}
+use Rattle.std.specs.List.{AllByRecursion, list_all, list_any}
+use Rattle.std.proofs.lemmas.Bool.{false≢true}
+use Rattle.std.proofs.lemmas.List.{length-map, get_or-map}
+use Rattle.std.proofs.lemmas.List.FromFn.{fill_by_all, get_or-map-range_with_len}
+use Rattle.std.proofs.lemmas.List.Elements.{All-from_recursion}
+use Rattle.tier_core.specs.declared.sym.Sym.{Sym}
+use Rattle.tier_core.specs.declared.sym.Sym.TheVariants.{Outside, Inside, Start, End, Both}
+use Rattle.tier_core.specs.declared.event.Event.{Event}
+use Rattle.tier_core.specs.declared.constraint.Constraint.{Constraint}
+use Rattle.tier_core.specs.Kinds.{Phase, closed, unmet, met, PrefixKind}
+use Rattle.tier_core.specs.Scan.{fits, opens}
+use Rattle.tier_core.specs.Timelines.{word, symbol, is_edge, has_edge}
+use Rattle.tier_core.specs.Tiers.{Tiers}
+use Rattle.tier_core.proofs.CountLemmas.{all_weaker}
+use Rattle.violation.specs.Candidates.{IsForm}
+use Rattle.violation.specs.Columns.{opens_all}
+use Rattle.violation.specs.Conditions.{AreSplit, AreDistinct, AreTiersBelow, IsOverTiers}
+use Rattle.violation.specs.Moves.{FitsKind, flag_of, form_opened, is_tier_open, input_of, moved, next_phase, next_phases}
+use Rattle.violation.specs.Prefixes.{is_open, phase}
+use Rattle.violation.proofs.CountSteps.{all_agree}
+use Rattle.violation.proofs.TierLemmas.{flag_in, flag_out}
+use Rattle.kind_moves.specs.Frames.{is_closed, is_left_open, AreClosedOr}
+use Rattle.kind_moves.proofs.OpenPlaces.{form_open_after}
+
+-- the flag of a tier by its place in the list
+flag_at : (xs : List ℕ) (flags : List Bool) (j : ℕ) → AreDistinct xs → j < length xs → flag_of xs flags (get_or xs j 0) ≡ get_or flags j false
+flag_at [] flags j d l = absurd (omega arith)
+flag_at (x ∷ xs) [] j d l = refl
+flag_at (x ∷ xs) (f ∷ fs) zero d l = ap (λ b. cond b f (flag_of xs fs x)) (eq-eqb x x refl)
+flag_at (x ∷ xs) (f ∷ fs) (suc j) d l =
+    ap (λ b. cond b f (flag_of xs fs (get_or xs j 0))) (ne_eqb x (get_or xs j 0) (All-from_recursion (λ t. x ≢ t) xs d.0 j 0 (omega arith)))
+    ∙ flag_at xs fs j d.1 (omega arith)
+
+-- a symbol without an edge leaves its tier as it is
+stays : (b : Bool) (s : Sym) → fits b s ≡ true → is_edge s ≡ false → b ≡ opens s
+stays true Outside f e = absurd (false≢true f)
+stays true Inside f e = refl
+stays true Start f e = absurd (false≢true f)
+stays true End f e = absurd (false≢true (sym e))
+stays true Both f e = absurd (false≢true (sym e))
+stays false Outside f e = refl
+stays false Inside f e = absurd (false≢true f)
+stays false Start f e = absurd (false≢true (sym e))
+stays false End f e = absurd (false≢true f)
+stays false Both f e = absurd (false≢true f)
+
+no_edge : (xs : List Sym) (j : ℕ) → list_any is_edge xs ≡ false → j < length xs → is_edge (get_or xs j Outside) ≡ false
+no_edge [] j h l = absurd (omega arith)
+no_edge (x ∷ xs) zero h l = first (is_edge x) (list_any is_edge xs) h
+  where
+    first : (a b : Bool) → (a || b) ≡ false → a ≡ false
+    first true b e = e
+    first false b e = refl
+no_edge (x ∷ xs) (suc j) h l = no_edge xs j (rest (is_edge x) (list_any is_edge xs) h) (omega arith)
+  where
+    rest : (a b : Bool) → (a || b) ≡ false → b ≡ false
+    rest true b e = absurd (false≢true (sym e))
+    rest false b e = e
+
+or_none : (b : Bool) → (b || false) ≡ b
+or_none true = refl
+or_none false = refl
+
+module _ (tiers : Tiers) (u : List (List Sym)) (split : AreSplit tiers) (form : IsForm tiers u) (k : PrefixKind) (column : List Sym) (f : FitsKind tiers u k column) where
+  -- the input tiers that are open at the next place
+  input_open_next : (e : Bool) → has_edge (input_of tiers column) ≡ e → (j : ℕ) → j < length tiers.input
+      → is_open (word (take (k.place + cond e 1 0) u) j) ≡ opens (symbol column (get_or tiers.input j 0))
+  input_open_next true e j l = ⊎_elim
+      (λ none. absurd (false≢true (sym none ∙ e)))
+      (λ some.
+      let next : k.place + 1 ≡ suc k.place = omega arith in
+      ap (λ n. is_open (word (take n u) j)) next ∙ form_open_after tiers u form k.place j some.0 l
+      ∙ ap (λ (c : List Sym). opens (symbol c j)) (sym some.1) ∙ ap opens (get_or-map (symbol column) tiers.input j 0 Outside l))
+      f.input
+  input_open_next false e j l =
+      let t = get_or tiers.input j 0 in
+      let here : k.place + 0 ≡ k.place = omega arith in
+      let listed : Contains tiers.input t = (j, l, get_or-same tiers.input j 0 t l) in
+      let below : t < tiers.width = All-from_recursion (λ t. t < tiers.width) tiers.input split.inputs_below j 0 l in
+      let tier : is_tier_open tiers u k t ≡ is_open (word (take k.place u) j) =
+      ap (λ b. flag_of tiers.input (form_opened tiers u k.place) t || b) (flag_out tiers.free k.opened t (λ d. split.apart t listed d))
+      ∙ or_none (flag_of tiers.input (form_opened tiers u k.place) t)
+      ∙ flag_at tiers.input (form_opened tiers u k.place) j split.distinct l
+      ∙ get_or-map-range_with_len (λ j. is_open (word (take k.place u) j)) 0 (length tiers.input) j j false l (omega arith) in
+      let size : length (input_of tiers column) ≡ length tiers.input = length-map tiers.input (symbol column) in
+      ap (λ n. is_open (word (take n u) j)) here ∙ sym tier
+      ∙ stays (is_tier_open tiers u k t) (symbol column t) (f.symbols t below)
+      (ap is_edge (sym (get_or-map (symbol column) tiers.input j 0 Outside l)) ∙ no_edge (input_of tiers column) j e (omega arith))
+    where
+      get_or-same : (xs : List ℕ) (i d e : ℕ) → i < length xs → get_or xs i e ≡ get_or xs i d
+      get_or-same [] i d e l = absurd (omega arith)
+      get_or-same (x ∷ xs) zero d e l = refl
+      get_or-same (x ∷ xs) (suc i) d e l = get_or-same xs i d e (omega arith)
+
+  -- after a move a tier is open where its symbol opens it
+  pub open_next : (constraints : List Constraint) (r t : ℕ) → t < tiers.width → is_tier_open tiers u (moved tiers constraints r k column) t ≡ opens (symbol column t)
+  open_next constraints r t l =
+      let inputs : form_opened tiers u (moved tiers constraints r k column).place ≡ map (λ t. opens (symbol column t)) tiers.input =
+      sym (fill_by_all (λ j. is_open (word (take (moved tiers constraints r k column).place u) j)) (map (λ t. opens (symbol column t)) tiers.input) (length tiers.input) false
+      (length-map tiers.input (λ t. opens (symbol column t)))
+      (λ j h. get_or-map (λ t. opens (symbol column t)) tiers.input j 0 false h ∙ sym (input_open_next (has_edge (input_of tiers column)) refl j h))) in
+      ap (λ flags. flag_of tiers.input flags t || flag_of tiers.free (map (λ t. opens (symbol column t)) tiers.free) t) inputs
+      ∙ ⊎_elim
+      (λ c. rw (flag_in (λ t. opens (symbol column t)) tiers.input t c, flag_out tiers.free (map (λ t. opens (symbol column t)) tiers.free) t (λ d. split.apart t c d)) (or_none (opens (symbol column t))))
+      (λ d. rw (flag_in (λ t. opens (symbol column t)) tiers.free t d, flag_out tiers.input (map (λ t. opens (symbol column t)) tiers.input) t (λ c. split.apart t c d)) refl)
+      (split.each t l)
+
+  left_next : (constraints : List Constraint) (r : ℕ) (c : Constraint) → IsOverTiers tiers.width c → is_left_open tiers u (moved tiers constraints r k column) c ≡ opens_all c.left column
+  left_next constraints r c o = all_agree (λ e. is_tier_open tiers u (moved tiers constraints r k column) e.tier) (λ e. opens (symbol column e.tier)) c.left
+      (all_weaker (λ e. e.tier < tiers.width) _ c.left (λ e l. open_next constraints r e.tier l) o.left_below)
+
+  closed_next : (left right : List Event) (phase : Phase) → is_closed (next_phase left right phase column) ≡ not (opens_all left column)
+  closed_next left right phase = by (opens_all left column) _
+    where
+      by : (a b : Bool) → is_closed (cond a (cond b met unmet) closed) ≡ not a
+      by true true = refl
+      by true false = refl
+      by false b = refl
+
+  -- after a move a phase is closed where a left tier is
+  pub phases_next : (constraints : List Constraint) (r : ℕ) (cs : List Constraint) (is_before : Constraint → Bool) (phases : List Phase) → AllByRecursion (IsOverTiers tiers.width) cs → AreClosedOr is_before cs phases
+      → AreClosedOr (is_left_open tiers u (moved tiers constraints r k column)) cs (next_phases cs phases column)
+  phases_next constraints r [] is_before [] o h = tt
+  phases_next constraints r [] is_before (p ∷ ps) o h = absurd h
+  phases_next constraints r (c ∷ cs) is_before [] o h = absurd h
+  phases_next constraints r (c ∷ cs) is_before (p ∷ ps) o h =
+      (closed_next c.left c.right p ∙ ap not (sym (left_next constraints r c o.0)), phases_next constraints r cs is_before ps o.1 h.1)
+
+-- before the first column each phase is closed, and no tier is open
+pub phases_first : (tiers : Tiers) (u : List (List Sym)) (k : PrefixKind) → ((t : ℕ) → t < tiers.width → is_tier_open tiers u k t ≡ false) → (cs : List Constraint) → AllByRecursion (IsOverTiers tiers.width) cs
+    → AreClosedOr (is_left_open tiers u k) cs (map (λ c. phase c.left c.right []) cs)
+phases_first tiers u k none [] o = tt
+phases_first tiers u k none (c ∷ cs) o = (own c.left c.right o.0.left_below o.0.some_left, phases_first tiers u k none cs o.1)
+  where
+    own : (left right : List Event) → AreTiersBelow tiers.width left → 0 < length left → is_closed (phase left right []) ≡ not (list_all (λ e. is_tier_open tiers u k e.tier) left)
+    own [] right b l = absurd (omega arith)
+    own (e ∷ es) right b l = sym (ap (λ b. not (b && list_all (λ e. is_tier_open tiers u k e.tier) es)) (none e.tier b.0))

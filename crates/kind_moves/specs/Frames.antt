@@ -1,0 +1,70 @@
+-- Frames: a grammar and a form. Which kinds fit a frame, and what a move of a frame is.
+use Rattle.std.specs.Prelude.{◌≡◌, ℕ, ◌^◌, ◌<◌, ◌≤◌, Bool, true, false, not, List, [], ◌∷◌, length}
+use Rattle.std.specs.List.{list_all}
+use Rattle.tier_core.specs.declared.kind.Kind.{Kind}
+use Rattle.tier_core.specs.declared.sym.Sym.{Sym}
+use Rattle.tier_core.specs.declared.constraint.Constraint.{Constraint}
+use Rattle.tier_core.specs.Kinds.{Phase, closed, unmet, met, PrefixKind, AreStretchesBelow, prefix_kind}
+use Rattle.tier_core.specs.Tables.{tiers_of_table}
+use Rattle.tier_core.specs.Tiers.{Tiers}
+use Rattle.violation.specs.Moves.{FitsKind, is_tier_open, moved}
+use Rattle.violation.specs.Prefixes.{kind_of, stretches}
+use Rattle.kind_moves.specs.declared.frame.Frame.{Frame}
+
+-- the tiers of a frame's grammar, its constraints in ranked order, and its form
+abbrev pub tiers_in : Frame → Tiers
+tiers_in frame = tiers_of_table frame.grammar.now.tiers
+
+abbrev pub constraints_in : Frame → List Constraint
+constraints_in frame = frame.grammar.now.constraints.items
+
+abbrev pub form_in : Frame → List (List Sym)
+form_in frame = frame.form.now
+
+-- the stretch implications among the first constraints of a frame
+abbrev pub stretches_in : Frame → ℕ → List Constraint
+stretches_in frame stage = stretches (constraints_in frame) stage
+
+-- the kind that the bits of a kind tell at a stage
+abbrev pub kind_at_stage : Frame → ℕ → Kind → PrefixKind
+kind_at_stage frame stage kind = prefix_kind (length (tiers_in frame).free) (length (stretches_in frame stage)) kind
+
+abbrev pub is_closed : Phase → Bool
+is_closed closed = true
+is_closed unmet = false
+is_closed met = false
+
+-- whether the tiers of a constraint's left types are all open at a kind
+abbrev pub is_left_open : Tiers → List (List Sym) → PrefixKind → Constraint → Bool
+is_left_open tiers u k c = list_all (λ e. is_tier_open tiers u k e.tier) c.left
+
+-- constraints have as many phases, and each is closed exactly where some left tier is not open
+abbrev pub AreClosedOr : (Constraint → Bool) → List Constraint → List Phase → Type 0
+AreClosedOr is_open [] [] = Unit {0}
+AreClosedOr is_open [] (phase ∷ phases) = ⊥
+AreClosedOr is_open (c ∷ cs) [] = ⊥
+AreClosedOr is_open (c ∷ cs) (phase ∷ phases) = (is_closed phase ≡ not (is_open c)) × AreClosedOr is_open cs phases
+
+-- A kind fits a frame at a stage: its place is in the form, its bits are those of the free tiers
+-- and of the stage's stretch implications, and a phase is closed exactly where a left tier is.
+pub record FitsFrame (frame : Frame) (stage : ℕ) (kind : Kind) : Type 0 where
+  pub place : kind.place ≤ length (form_in frame)
+  pub opened : kind.opened < 2 ^ length (tiers_in frame).free
+  pub stretches : AreStretchesBelow (length (stretches_in frame stage)) kind
+  pub phases : AreClosedOr (is_left_open (tiers_in frame) (form_in frame) (kind_at_stage frame stage kind)) (stretches_in frame stage) (kind_at_stage frame stage kind).phases
+
+-- a column fits a kind of a frame
+abbrev pub FitsAt : Frame → ℕ → Kind → List Sym → Type 0
+FitsAt frame stage kind column = FitsKind (tiers_in frame) (form_in frame) (kind_at_stage frame stage kind) column
+
+-- There is a move from a kind by a column to the next kind: the column fits, the next kind is the
+-- one that it leads to, and this fits the frame.
+pub record IsMove (frame : Frame) (stage : ℕ) (kind : Kind) (column : List Sym) (next : Kind) : Type 0 where
+  pub column_fits : FitsAt frame stage kind column
+  pub leads : kind_at_stage frame stage next ≡ moved (tiers_in frame) (constraints_in frame) stage (kind_at_stage frame stage kind) column
+  pub next_fits : FitsFrame frame stage next
+
+-- the kind of the empty prefix
+pub record IsStart (frame : Frame) (stage : ℕ) (kind : Kind) : Type 0 where
+  pub is : kind_at_stage frame stage kind ≡ kind_of (tiers_in frame) (constraints_in frame) stage []
+  pub fits : FitsFrame frame stage kind

@@ -1,0 +1,4 @@
+pub mod Frames
+pub mod Masks
+pub mod Phases
+pub mod Laws

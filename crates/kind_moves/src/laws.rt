@@ -1,0 +1,22 @@
+ghost use Rattle.std.specs.Prelude.{◌≡◌, ℕ, ◌↔◌, List, IsTrue};
+ghost use Rattle.tier_core.specs.declared.kind.Kind.{Kind};
+ghost use Rattle.tier_core.specs.declared.sym.Sym.{Sym};
+ghost use Rattle.violation.specs.Candidates.{IsCandidate};
+ghost use Rattle.violation.specs.Moves.{is_final};
+ghost use Rattle.violation.specs.Prefixes.{kind_of};
+ghost use Rattle.violation.specs.Walks.{BeginsCandidate};
+ghost use Rattle.kind_moves.specs.declared.frame.Frame.{Frame};
+ghost use Rattle.kind_moves.specs.Frames.{tiers_in, constraints_in, form_in, kind_at_stage, IsStart};
+ghost use Rattle.kind_moves.specs.Laws.{LeadsTo};
+
+/// At every stage, the columns that lead from the start to a kind by moves are the prefixes of the
+/// candidates of the form, and those that lead to a final kind are the candidates.
+pub fn moves_are_of_candidates()
+    ensures prefixes { (frame : Frame) (stage : ℕ) (start : Kind) (p : List (List Sym)) → IsStart frame stage start → ((last : Kind) × LeadsTo frame stage start p last) ↔ BeginsCandidate (tiers_in frame) (form_in frame) p }
+    ensures candidates { (frame : Frame) (stage : ℕ) (start : Kind) (T : List (List Sym)) → IsStart frame stage start → ((last : Kind) × (LeadsTo frame stage start T last × IsTrue (is_final (form_in frame) (kind_at_stage frame stage last)))) ↔ IsCandidate (tiers_in frame) (form_in frame) T }
+{}
+
+/// The kind to which the columns of a prefix lead from the start is the kind of the prefix.
+pub fn kinds_go_by_moves()
+    ensures { (frame : Frame) (stage : ℕ) (start last : Kind) (p : List (List Sym)) → IsStart frame stage start → LeadsTo frame stage start p last → kind_at_stage frame stage last ≡ kind_of (tiers_in frame) (constraints_in frame) stage p }
+{}

@@ -1,0 +1,21 @@
+//! The moves of kinds as code: how the kind of a prefix goes on by one more column.
+//!
+//! A [`Frame`] borrows a grammar and a form. From the kind at which it starts it goes on by columns,
+//! one at a time, for the first constraints of any stage. Along its moves the layers above explore
+//! the candidates of the form: a timeline leads from the start to an end exactly where it is a
+//! candidate. The crate stands on the types of `tier_core`, on grammars, and on the definition of
+//! moves in `violation`.
+//!
+//! That the candidates of a form are the paths of an automaton is after Ellison, Phonological
+//! Derivation in Optimality Theory (COLING 1994); that its states are kinds is this project's.
+#![tactic(auto)]
+
+mod fit;
+mod frame;
+mod laws;
+mod mask;
+mod open;
+mod phase;
+
+pub use frame::Frame;
+pub use laws::{kinds_go_by_moves, moves_are_of_candidates};

@@ -1,0 +1,183 @@
+-- What the commands do with a grammar.
+use Rattle.std.proofs.Common.{◌≡◌, ◌⊎◌, inl, inr, ℕ, ◌+◌, ◌-◌, ◌<◌, ◌≤◌, true, IsTrue, nat_le, nat_lt, ◌&&◌, List, [], ◌∷◌, length, map, take, filter, Option, Result, Ok, Err, OnOk, All, refl, ap, sym, ◌∙◌, subst, arith}
+use Rattle.std.specs.List.{AllByRecursion, list_all, range_with_len}
+use Rattle.std.proofs.lemmas.Bool.{and_parts}
+use Rattle.std.proofs.lemmas.Bool.Decides.{nat_tests}
+use Rattle.std.proofs.lemmas.List.{length-map}
+use Rattle.std.proofs.lemmas.List.Elements.{All-from_recursion}
+use Rattle.std.proofs.lemmas.List.FromFn.{length-map-range_with_len}
+use Rattle.outside.specs.Faults.{Rose}
+use Rattle.outside.specs.Sent.{appended, HasSentPart}
+use Rattle.outside.specs.declared.sink.WriteErr.{WriteErr}
+use Rattle.outside.specs.declared.sink.WriteErr.TheVariants.{Failed, NoMemory as NoRoom}
+use Rattle.tier_core.specs.declared.sym.Sym.{Sym}
+use Rattle.tier_core.specs.declared.event.Event.{Event}
+use Rattle.tier_core.specs.declared.constraint.Constraint.{Constraint}
+use Rattle.tier_core.specs.declared.shape.Shape.{Shape}
+use Rattle.tier_core.specs.Shapes.{input_count as masked_count}
+use Rattle.tier_core.specs.Tables.{tiers_of_table}
+use Rattle.tier_core.specs.Tiers.{Tiers}
+use Rattle.tier_core.specs.Timelines.{IsWellFormed}
+use Rattle.tier_core.proofs.TableMasks.{free_tiers}
+use Rattle.timeline_text.specs.declared.form_err.FormErr.{FormErr}
+use Rattle.grammar_reader.specs.declared.grammar.Grammar.{Grammar}
+use Rattle.grammar_reader.specs.Grammars.{value_of}
+use Rattle.grammar_reader.specs.Seen.{constraint_seen}
+use Rattle.grammar_reader.specs.ShapeOf.{IsShapeOf, stretch_counts, is_stretch}
+use Rattle.grammar_reader.specs.Values.{has_sides, is_side}
+use Rattle.violation.specs.Candidates.{vec}
+use Rattle.violation.specs.Conditions.{AreTiersBelow, IsCountable}
+use Rattle.violation.specs.Counts.{viol}
+use Rattle.answer_text.specs.declared.answer.Answer.{Answer}
+use Rattle.answer_text.specs.Right.{IsRight}
+use Rattle.answer_text.specs.Shape.{widths_of}
+use Rattle.answer_text.specs.Text.{Widths, answer_text, counts_text}
+use Rattle.ranked_gen.specs.Budgets.{AreAllWithin, IsFirstOver}
+use Rattle.status_lines.specs.declared.status.Status.{Status}
+use Rattle.otp_tool.specs.Forms.{IsNotScored, IsReadAs, IsRefusedFor, IsScored}
+use Rattle.otp_tool.specs.Grammars.{input_count, tiers_of}
+use Rattle.otp_tool.specs.Findings.{Finding, FindsForAnswer, FindsForScore, no_form, over_budget, ready}
+use Rattle.otp_tool.specs.Results.{IsOfRightAnswer, IsScoreText, text_widths, vector_of, whole_text}
+use Rattle.otp_tool.specs.Steps.{IsEnd, IsMade, IsStep, Taking, end_of}
+use Rattle.otp_tool.proofs.GrammarLemmas.{less, same_kinds, same_tiers}
+
+-- ---- writing
+
+ends : {A : Type 0} (writes : List ℕ → Type 0) (t : Taking) (text : List ℕ) → writes text → (r : Result A WriteErr) → OnOk r (t.new ≡ appended t.old text) → HasSentPart t.old text t.new → (r ≡ Err Failed → Rose t.before t.after) → IsEnd writes t (end_of r)
+ends writes t text w (Ok done) o p f = record { text = text; is = w; taken = o }
+ends writes t text w (Err Failed) o p f = (record { text = text; is = w; part = p }, f refl)
+ends writes t text w (Err NoRoom) o p f = inr (record { text = text; is = w; part = p })
+
+-- a command is ready, and writes a text
+pub written : {A : Type 0} (finds : Finding → Type 0) (writes : List ℕ → Type 0) (t : Taking) (text : List ℕ) → finds ready → writes text
+    → (r : Result A WriteErr) → OnOk r (t.new ≡ appended t.old text) → HasSentPart t.old text t.new → (r ≡ Err Failed → Rose t.before t.after)
+    → (status : Status) → status ≡ end_of r → IsStep finds writes t status
+written finds writes t text f w r o p e status s = inr (f, subst (IsEnd writes t) (sym s) (ends writes t text w r o p e))
+
+-- ---- counting
+
+below : (n : ℕ) (events : List Event) → list_all (λ e. nat_lt e.tier n) events ≡ true → AreTiersBelow n events
+below n [] h = tt
+below n (e ∷ events) h =
+    let parts = and_parts (nat_lt e.tier n) (list_all (λ e. nat_lt e.tier n) events) h in
+    (less e.tier n parts.0, below n events parts.1)
+
+at_least : (n : ℕ) → nat_le 1 n ≡ true → 0 < n
+at_least n h = grind (arith, nat_tests)
+
+side : (n : ℕ) (events : List Event) → is_side n events ≡ true → (0 < length events) × AreTiersBelow n events
+side n events h =
+    let parts = and_parts (nat_le 1 (length events) && nat_le (length events) 8) (list_all (λ e. nat_lt e.tier n) events) h in
+    let front = and_parts (nat_le 1 (length events)) (nat_le (length events) 8) parts.0 in
+    (at_least (length events) front.0, below n events parts.1)
+
+countable : (n : ℕ) (T : List (List Sym)) → IsWellFormed n T → (cs : List Constraint) → list_all (has_sides n) (map constraint_seen cs) ≡ true → AllByRecursion (λ c. IsCountable c.left c.right T) cs
+countable n T w [] h = tt
+countable n T w (c ∷ cs) h =
+    let parts = and_parts _ _ h in
+    let sides = and_parts _ _ parts.0 in
+    let left = side n c.left sides.0 in
+    let right = side n c.right sides.1 in
+    (record { width = n; well_formed = w; left_below = left.1; right_below = right.1; some_left = left.0 }, countable n T w cs parts.1)
+
+counts_seen : (T : List (List Sym)) (cs : List Constraint) → vec cs T ≡ map (λ c. viol c.family c.left c.right T) (map constraint_seen cs)
+counts_seen T [] = refl
+counts_seen T (c ∷ cs) = ap (λ ns. viol c.family c.left c.right T ∷ ns) (counts_seen T cs)
+
+length-stretches : (cs : List Constraint) → length (stretch_counts cs) ≡ length cs + 1
+length-stretches cs = length-map-range_with_len (λ r. length (filter is_stretch (take r cs))) 0 (length cs + 1)
+
+module _ (g : Grammar) where
+  same_width : length (value_of g).tiers ≡ length g.tiers.kinds.items
+  same_width = sym (length-map (value_of g).tiers (λ t. t.kind)) ∙ ap length (same_kinds g)
+
+  -- the constraints may be counted on a timeline of the grammar
+  pub all_countable : (T : List (List Sym)) → IsWellFormed (length g.tiers.kinds.items) T → All (λ c. IsCountable c.left c.right T) g.constraints.items
+  all_countable T w =
+      All-from_recursion (λ c. IsCountable c.left c.right T) g.constraints.items
+      (countable (length (value_of g).tiers) T (subst (λ n. IsWellFormed n T) (sym same_width) w) g.constraints.items g.lawful.made.sides)
+
+  pub not_scored : (word : List ℕ) (cause : FormErr) → IsNotScored (length g.tiers.kinds.items) word cause → FindsForScore (value_of g) word (no_form cause)
+  not_scored word cause n = subst (λ w. IsNotScored w word cause) (sym same_width) n
+
+  pub is_scored : (word : List ℕ) (T : List (List Sym)) → IsScored (length g.tiers.kinds.items) word T → FindsForScore (value_of g) word ready
+  is_scored word T s = (T, subst (λ w. IsScored w word T) (sym same_width) s)
+
+  pub scored : (word : List ℕ) (T : List (List Sym)) (counts : List ℕ) → IsScored (length g.tiers.kinds.items) word T → counts ≡ vec g.constraints.items T → IsScoreText (value_of g) word (counts_text counts)
+  scored word T counts s e = record {
+    timeline = T;
+    read = subst (λ w. IsScored w word T) (sym same_width) s;
+    written = ap counts_text (e ∙ counts_seen T g.constraints.items);
+  }
+
+  -- ---- answers
+
+  none_seen : g.constraints.items ≡ [] → (value_of g).constraints ≡ []
+  none_seen e = ap (map constraint_seen) e
+
+  pub some_seen : (0 < length g.constraints.items) → 0 < length (value_of g).constraints
+  some_seen l = subst (λ n. 0 < n) (sym (length-map g.constraints.items constraint_seen)) l
+
+  module _ (form : List ℕ) (budget : ℕ) where
+    read_seen : (u : List (List Sym)) → IsReadAs (length (tiers_of_table g.tiers).input) g.letters.items form u → IsReadAs (input_count (value_of g)) (value_of g).letters form u
+    read_seen u r = subst (λ (tiers : Tiers). IsReadAs (length tiers.input) g.letters.items form u) (sym (same_tiers g)) r
+
+    pub no_form_for : g.constraints.items ≡ [] → (cause : FormErr) → IsRefusedFor (length (tiers_of_table g.tiers).input) g.letters.items form cause → FindsForAnswer (value_of g) form budget (no_form cause)
+    no_form_for e cause r = (none_seen e, subst (λ (tiers : Tiers). IsRefusedFor (length tiers.input) g.letters.items form cause) (sym (same_tiers g)) r)
+
+    pub over_for : g.constraints.items ≡ [] → (u : List (List Sym)) → IsReadAs (length (tiers_of_table g.tiers).input) g.letters.items form u
+        → (stage : ℕ) → IsFirstOver (tiers_of_table g.tiers) g.constraints.items u budget stage → FindsForAnswer (value_of g) form budget (over_budget stage)
+    over_for e u r stage o = (
+      none_seen e,
+      record {
+        u = u;
+        read = read_seen u r;
+        constraints = g.constraints.items;
+        are = refl;
+        over = subst (λ (tiers : Tiers). IsFirstOver tiers g.constraints.items u budget stage) (sym (same_tiers g)) o;
+      },
+    )
+
+    module _ (answer : Answer) (made : IsMade (tiers_of_table g.tiers) g.letters.items g.constraints.items form budget answer) where
+      pub made_ready : FindsForAnswer (value_of g) form budget ready
+      made_ready = (
+        none_seen made.built,
+        record {
+          u = made.u;
+          read = read_seen made.u made.read;
+          constraints = g.constraints.items;
+          are = refl;
+          within = subst (λ (tiers : Tiers). AreAllWithin tiers g.constraints.items made.u budget) (sym (same_tiers g)) made.within;
+        },
+      )
+
+      pub made_right : (write : Tiers → List Constraint → Answer → List ℕ) (text : List ℕ) → text ≡ write (tiers_of_table g.tiers) g.constraints.items answer → IsOfRightAnswer write (value_of g) form text
+      made_right write text e = record {
+        u = made.u;
+        read = read_seen made.u made.read;
+        constraints = g.constraints.items;
+        are = refl;
+        answer = answer;
+        right = subst (λ (tiers : Tiers). IsRight tiers g.constraints.items made.u answer) (sym (same_tiers g)) made.right;
+        written = e ∙ ap (λ (tiers : Tiers). write tiers g.constraints.items answer) (sym (same_tiers g));
+      }
+
+      pub stages_fit : (shape : Shape) → IsShapeOf g shape → length answer.stages.items ≤ length shape.phases.items
+      stages_fit shape s =
+          let phases : length shape.phases.items ≡ length g.constraints.items + 1 = ap length s.phases ∙ length-stretches g.constraints.items in
+          omega (arith, phases, made.right.stage_count)
+
+  -- ---- the text
+
+  same_widths : (a b : Widths) → a.free ≡ b.free → a.stretches ≡ b.stretches → a ≡ b
+  same_widths a b e f =
+      let first : Widths → ℕ → Widths = λ w n. record { free = n; stretches = w.stretches } in
+      let second : Widths → List ℕ → Widths = λ w xs. record { free = w.free; stretches = xs } in
+      ap (first a) e ∙ ap (second (first a b.free)) f
+
+  pub whole_written : (shape : Shape) → IsShapeOf g shape → (answer : Answer) → answer_text (widths_of shape) answer ≡ whole_text (tiers_of_table g.tiers) g.constraints.items answer
+  whole_written shape s answer =
+      ap (λ (w : Widths). answer_text w answer)
+      (same_widths (widths_of shape) (text_widths (tiers_of_table g.tiers) g.constraints.items)
+      (ap (λ n. n - masked_count shape.inputs) s.width ∙ free_tiers g.tiers.kinds.items shape.inputs s.inputs)
+      s.phases)

@@ -1,0 +1,173 @@
+use super::{BASE, outcome, refused, with_constraints};
+use crate::Status;
+use std::test::Fail;
+use timeline_text::FormErr;
+
+// Base with one hidden and two overt tiers.
+const WIDE: &str = "otp 1\ntier A input\ntier a overt\ntier b hidden\ntier c overt\n";
+
+// Two input tiers, with a letter for each and one for both.
+const LETTERS: &str =
+    "otp 1\ntier C input\ntier V input\ntier a overt\nletter t = C\nletter a = V\nletter x = V C\n";
+
+const EMPTY_OVER_BASE: &str = "answer 1
+form empty
+counts
+example empty
+stage 0 2
+node 0/-/ 0
+node 0/+/ 0
+automaton 2
+state 0 final
+arc 1 -[
+state 1
+arc 0 -]
+arc 1 -|
+end
+";
+
+#[test]
+fn empty_form_over_base(rt: HostRuntime) -> Result<(), Fail> {
+    let (status, text) = outcome(rt.alloc(), BASE, "generate/g/empty")?;
+    assert_eq!(rt; status, Status::Done);
+    assert_eq!(rt; text.as_str(), EMPTY_OVER_BASE);
+    Ok(())
+}
+
+// One constituent: three places, each with the overt tier open or not.
+#[test]
+fn one_constituent_over_base(rt: HostRuntime) -> Result<(), Fail> {
+    let (status, text) = outcome(rt.alloc(), BASE, "generate/g/[ ]")?;
+    assert_eq!(rt; status, Status::Done);
+    let head = "answer 1\nform [ ]\ncounts\nexample [- ]-\nstage 0 6\nnode 0/-/ 0\n";
+    assert!(rt; text.starts_with(head), "{text}");
+    assert!(rt;
+        text.contains("\nautomaton 6\nstate 0\narc 1 -[\narc 2 [-\narc 3 [[\nstate 1\n"),
+        "{text}"
+    );
+    assert!(rt; text.contains("\nstate 4 final\n"), "{text}");
+    assert_eq!(rt; text.matches(" final\n").count(), 1);
+    assert!(rt; text.ends_with("\nend\n"), "{text}");
+    Ok(())
+}
+
+// Three free tiers: a node for each set of open tiers.
+#[test]
+fn hidden_tiers_are_free(rt: HostRuntime) -> Result<(), Fail> {
+    let (status, text) = outcome(rt.alloc(), WIDE, "generate/g/empty")?;
+    assert_eq!(rt; status, Status::Done);
+    let head =
+        "answer 1\nform empty\ncounts\nexample empty\nstage 0 8\nnode 0/---/ 0\nnode 0/--+/ 0\nnode 0/-+-/ 0\n";
+    assert!(rt; text.starts_with(head), "{text}");
+    assert!(rt; text.contains("\nautomaton 8\nstate 0 final\n"), "{text}");
+    Ok(())
+}
+
+// The counts and the first optimal timeline alone.
+#[test]
+fn show_writes_two_lines(rt: HostRuntime) -> Result<(), Fail> {
+    let cases = [
+        (BASE, "show/g/empty", "counts\nexample empty\n"),
+        (BASE, "show/g/[ ]", "counts\nexample [- ]-\n"),
+        (BASE, "show/g/[ | ]", "counts\nexample [- |- ]-\n"),
+        (WIDE, "show/g/[ ]", "counts\nexample [--- ]---\n"),
+        (LETTERS, "show/g/=", "counts\nexample empty\n"),
+        (LETTERS, "show/g/=ta", "counts\nexample [-- ][- -]-\n"),
+        (LETTERS, "show/g/=xt", "counts\nexample [[- |]- ]--\n"),
+    ];
+    for (file, words, text) in cases {
+        let (status, written) = outcome(rt.alloc(), file, words)?;
+        assert_eq!(rt; status, Status::Done, "{words}");
+        assert_eq!(rt; written.as_str(), text, "{words}");
+    }
+    Ok(())
+}
+
+// Six kinds: three places, each with the overt tier open or not.
+#[test]
+fn budget_is_exact(rt: HostRuntime) -> Result<(), Fail> {
+    let over = Status::Budget { entry: 0, stage: 0 };
+    let cases = [
+        ("generate/g/[ ]/5", over),
+        ("generate/g/[ ]/6", Status::Done),
+        ("generate/g/[ ]/7", Status::Done),
+        ("generate/g/[ ]/65536", Status::Done),
+        ("show/g/[ ]/5", over),
+        ("show/g/[ ]/6", Status::Done),
+        ("show/g/empty/1", over),
+        ("show/g/empty/2", Status::Done),
+        ("generate/g/[ ]/0", Status::Usage),
+        ("generate/g/[ ]/65537", Status::Usage),
+        ("generate/g/[ ]/08", Status::Usage),
+        ("generate/g/[ ]/", Status::Usage),
+        ("generate/g/[ ]/six", Status::Usage),
+        ("generate/g/[ ]/-6", Status::Usage),
+        ("show/g/[ ]/+6", Status::Usage),
+    ];
+    for (words, status) in cases {
+        let (found, text) = outcome(rt.alloc(), BASE, words)?;
+        assert_eq!(rt; found, status, "{words}");
+        assert_eq!(rt; text.is_empty(), status != Status::Done, "{words}");
+    }
+    Ok(())
+}
+
+// A form is refused by the first cause, and after constraints, for which there is no body yet.
+#[test]
+fn forms_are_refused(rt: HostRuntime) -> Result<(), Fail> {
+    let alloc = rt.alloc();
+    let ranked = with_constraints(alloc, "constraint Max A -> a\n")?;
+    let cases = [
+        (BASE, "generate/g/=t", refused(FormErr::UnknownLetter { at: 1 })),
+        (BASE, "show/g/=t", refused(FormErr::UnknownLetter { at: 1 })),
+        (LETTERS, "show/g/=tat?", refused(FormErr::UnknownLetter { at: 4 })),
+        (BASE, "generate/g/] [", refused(FormErr::NotWellFormed { tier: 0 })),
+        (BASE, "generate/g/[ + ]", refused(FormErr::NotReduced { column: 1 })),
+        (BASE, "generate/g/[", refused(FormErr::NotWellFormed { tier: 0 })),
+        (BASE, "generate/g/[[ ]]", refused(FormErr::WrongWidth { column: 0 })),
+        (BASE, "generate/g/[ x", refused(FormErr::BadSymbol { at: 2 })),
+        (BASE, "generate/g/", refused(FormErr::WrongWidth { column: 0 })),
+        (LETTERS, "show/g/[-", refused(FormErr::NotWellFormed { tier: 0 })),
+        (LETTERS, "show/g/[[ ]+", refused(FormErr::NotWellFormed { tier: 1 })),
+        (ranked.as_str(), "generate/g/empty", Status::NotBuilt { word: 1 }),
+        (ranked.as_str(), "show/g/empty", Status::NotBuilt { word: 1 }),
+        (ranked.as_str(), "generate/g/[", Status::NotBuilt { word: 1 }),
+        (ranked.as_str(), "generate/g/[ ]/1", Status::NotBuilt { word: 1 }),
+    ];
+    for (file, words, status) in cases {
+        let (found, text) = outcome(alloc, file, words)?;
+        assert_eq!(rt; found, status, "{words}");
+        assert!(rt; text.is_empty(), "{words}");
+    }
+    Ok(())
+}
+
+#[test]
+fn forms_have_at_most_64_columns(rt: HostRuntime) -> Result<(), Fail> {
+    let alloc = rt.alloc();
+    for (columns, status) in [(64, Status::Done), (65, refused(FormErr::TooLong))] {
+        let mut command = String::from_str(alloc, "show/g/[")?;
+        for _ in 2..columns {
+            command.push_str(" |")?;
+        }
+        command.push_str(" ]")?;
+        let (found, _) = outcome(alloc, BASE, command.as_str())?;
+        assert_eq!(rt; found, status, "{columns} columns");
+    }
+    Ok(())
+}
+
+// 63 letters give 64 columns.
+#[test]
+fn words_have_at_most_63_letters(rt: HostRuntime) -> Result<(), Fail> {
+    let alloc = rt.alloc();
+    for (letters, status) in [(63, Status::Done), (64, refused(FormErr::TooLong))] {
+        let mut command = String::from_str(alloc, "show/g/=")?;
+        for _ in 0..letters {
+            command.push_str("t")?;
+        }
+        let (found, _) = outcome(alloc, LETTERS, command.as_str())?;
+        assert_eq!(rt; found, status, "{letters} letters");
+    }
+    Ok(())
+}

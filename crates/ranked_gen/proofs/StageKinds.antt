@@ -1,0 +1,122 @@
+-- The kinds of stage 0, and how many there are.
+use Rattle.std.proofs.Common.{◌≡◌, ◌≢◌, ℕ, ◌+◌, ◌*◌, ◌^◌, ◌<◌, ◌≤◌, false, List, [], ◌∷◌, Result, Ok, Err, IfOk, map, take, drop, length, refl, ap, sym, ◌∙◌, subst, arith, ne_eqb, eqb, Contains}
+use Rattle.std.specs.List.{range_with_len, IsDistinct}
+use Rattle.std.specs.Ordering.{nat_cmp, ordering_then, is_lt}
+use Rattle.std.specs.Cmp.{nat_cmp_is}
+use Rattle.std.specs.Cmp.Lexicographic.{slice_cmp}
+use Rattle.std.specs.declared.cmp.Ordering.TheVariants.{Less, Equal}
+use Rattle.std.proofs.lemmas.Bool.{false≢true, eqb-true}
+use Rattle.std.proofs.lemmas.List.{length-map, take-append-drop}
+use Rattle.std.proofs.lemmas.List.FromFn.{length-range_with_len}
+use Rattle.std.proofs.lemmas.Map.Steps.{length-le_from_distinct_below}
+use Rattle.std.proofs.lemmas.Map.Views.{Contains-from_any}
+use Rattle.tier_core.specs.declared.sym.Sym.{Sym}
+use Rattle.tier_core.specs.Tiers.{Tiers}
+use Rattle.tier_core.specs.Kinds.{PrefixKind, open_rank, phase_rank, kind_order}
+use Rattle.violation.specs.Candidates.{IsForm, IsCandidate}
+use Rattle.violation.specs.Conditions.{AreSplit, AreDistinct}
+use Rattle.violation.specs.Stages.{IsPassed, AreKindsOfStage}
+use Rattle.violation.specs.Walks.{BeginsCandidate}
+use Rattle.ranked_gen.specs.Budgets.{AreAllWithin, IsFirstOver}
+use Rattle.ranked_gen.specs.Numbers.{number_of_kind, kind_numbered}
+use Rattle.ranked_gen.specs.Listed.{kind_count}
+use Rattle.ranked_gen.proofs.NumberLemmas.{kind_numbered-number, kinds_less}
+use Rattle.ranked_gen.proofs.MemberLemmas.{contains_map, contains_of_map, contains_first, contains_later, all_from_members, all_at_member}
+use Rattle.ranked_gen.proofs.Ascending.{Ascends, sorted_from, ascends_from, ascends_map, ascends_range, in_range, range_has}
+use Rattle.ranked_gen.proofs.MoveList.{nat_less}
+use Rattle.ranked_gen.proofs.ArcLemmas.{slice_same}
+use Rattle.ranked_gen.proofs.AutomatonMoves.{IsWithin, number_within, numbered_within, kind_within}
+use Rattle.ranked_gen.proofs.AllPassed.{all_passed}
+
+-- the first columns of a candidate begin it
+pub begins : (tiers : Tiers) (u T : List (List Sym)) (n : ℕ) → IsCandidate tiers u T → BeginsCandidate tiers u (take n T)
+begins tiers u T n c = (drop n T, subst (IsCandidate tiers u) (sym (take-append-drop n T)) c)
+
+-- no kind comes before itself
+kind_not_below : (k : PrefixKind) → kind_order k k ≡ Less → ⊥
+kind_not_below k l =
+    let place : nat_cmp k.place k.place ≡ Equal = sym (nat_cmp_is k.place k.place Equal refl) in
+    let same : kind_order k k ≡ Equal =
+    ap (λ o. ordering_then o (ordering_then (slice_cmp nat_cmp (map open_rank k.opened) (map open_rank k.opened)) (slice_cmp nat_cmp (map phase_rank k.phases) (map phase_rank k.phases)))) place
+    ∙ ap (λ o. ordering_then o (slice_cmp nat_cmp (map phase_rank k.phases) (map phase_rank k.phases))) (slice_same (map open_rank k.opened))
+    ∙ slice_same (map phase_rank k.phases) in
+    false≢true (sym (ap is_lt same) ∙ ap is_lt l)
+
+-- kinds that ascend, of which each is told by its number, have numbers that differ
+numbers_differ : (f : ℕ) (ks : List PrefixKind) → Ascends kind_order ks → ((k : PrefixKind) → Contains ks k → kind_numbered f (number_of_kind f k) ≡ k) → IsDistinct eqb (map (number_of_kind f) ks)
+unfolding IsDistinct
+numbers_differ f [] a h = tt
+numbers_differ f (k ∷ ks) a h = (
+  all_from_members (λ n. eqb (number_of_kind f k) n ≡ false) (map (number_of_kind f) ks) (λ n m.
+      let r = contains_of_map (number_of_kind f) ks n m in
+      let other : number_of_kind f k ≢ n = λ e.
+      let same : k ≡ r.0 = sym (h k (contains_first k ks)) ∙ ap (kind_numbered f) (e ∙ sym r.1.1) ∙ h r.0 (contains_later k ks r.0 r.1.0) in
+      kind_not_below k (ap (kind_order k) same ∙ all_at_member (λ l. kind_order k l ≡ Less) ks r.0 a.0 r.1.0) in
+      ne_eqb (number_of_kind f k) n other),
+  numbers_differ f ks a.1 (λ l m. h l (contains_later k ks l m)),
+)
+
+module _ (tiers : Tiers) (split : AreSplit tiers) (distinct : AreDistinct tiers.free) (u : List (List Sym)) (form : IsForm tiers u) where
+  -- each number is that of a kind that is passed
+  pub passed_number : (i : ℕ) → i < kind_count tiers u → IsPassed tiers [] u 0 0 (kind_numbered (length tiers.free) i)
+  passed_number i l = let w = numbered_within tiers u i l in
+      all_passed tiers u split distinct form.well_formed form.reduced (kind_numbered (length tiers.free) i).place (kind_numbered (length tiers.free) i).opened w.place w.flags
+
+  passes_within : (k : PrefixKind) → IsPassed tiers [] u 0 0 k → IsWithin tiers u k
+  passes_within k p = subst (IsWithin tiers u) p.passes.of_kind (kind_within tiers split u form (take p.columns p.candidate) (begins tiers u p.candidate p.columns p.passes.optimal.candidate))
+
+  -- the kinds of all numbers are those of stage 0
+  pub numbered_kinds : AreKindsOfStage tiers [] u 0 (map (kind_numbered (length tiers.free)) (range_with_len 0 (kind_count tiers u)))
+  numbered_kinds = record {
+    ascending = sorted_from kind_order _ (ascends_map kind_order nat_cmp (kind_numbered (length tiers.free)) (range_with_len 0 (kind_count tiers u)) (λ i j l. kinds_less (length tiers.free) i j (nat_less i j l)) (ascends_range 0 (kind_count tiers u)));
+    members = λ k. (
+      λ c. let r = contains_of_map (kind_numbered (length tiers.free)) (range_with_len 0 (kind_count tiers u)) k c in
+          let b = in_range 0 (kind_count tiers u) r.0 r.1.0 in
+          subst (IsPassed tiers [] u 0 0) r.1.1 (passed_number r.0 (omega (arith, b.1))),
+      λ p. let w = passes_within k p in
+          let n = number_of_kind (length tiers.free) k in
+          subst (λ q. Contains (map (kind_numbered (length tiers.free)) (range_with_len 0 (kind_count tiers u))) q) (kind_numbered-number (length tiers.free) k w.flags w.phases)
+          (contains_map (kind_numbered (length tiers.free)) (range_with_len 0 (kind_count tiers u)) n (range_has 0 (kind_count tiers u) n (omega arith) (omega (arith, number_within tiers u k w)))),
+    );
+  }
+
+  -- a list of the kinds of stage 0 has no more
+  kinds_few : (ks : List PrefixKind) → AreKindsOfStage tiers [] u 0 ks → length ks ≤ kind_count tiers u
+  kinds_few ks a =
+      let f = length tiers.free in
+      let within : (k : PrefixKind) → Contains ks k → IsWithin tiers u k = λ k c. passes_within k ((a.members k).0 c) in
+      let differ : IsDistinct eqb (map (number_of_kind f) ks) = numbers_differ f ks (ascends_from kind_order ks a.ascending) (λ k c. kind_numbered-number f k (within k c).flags (within k c).phases) in
+      let few : length (map (number_of_kind f) ks) ≤ kind_count tiers u = length-le_from_distinct_below (map (number_of_kind f) ks) (kind_count tiers u) differ
+      (λ q e. let r = contains_of_map (number_of_kind f) ks q (Contains-from_any (λ x y h. eqb-true x y h) q (map (number_of_kind f) ks) e) in
+      subst (λ n. n < kind_count tiers u) r.1.1 (number_within tiers u r.0 (within r.0 r.1.0))) in
+      omega (arith, few, length-map ks (number_of_kind f))
+
+  -- with no constraint, all stages are within a budget that stage 0 is within
+  pub all_within : (budget : ℕ) → kind_count tiers u ≤ budget → AreAllWithin tiers [] u budget
+  all_within budget l r none ks a =
+      let first : r ≡ 0 = omega arith in
+      let few = kinds_few ks (subst (λ s. AreKindsOfStage tiers [] u s ks) first a) in
+      omega arith
+
+  -- and stage 0 is the first that is over a budget of fewer kinds
+  pub first_over : (budget : ℕ) → budget < kind_count tiers u → IsFirstOver tiers [] u budget 0
+  first_over budget l =
+      let f = length tiers.free in
+      record {
+        stage = omega arith;
+        over = record {
+          kinds = map (kind_numbered f) (range_with_len 0 (kind_count tiers u));
+          are = numbered_kinds;
+          more = omega (arith, length-map (range_with_len 0 (kind_count tiers u)) (kind_numbered f), length-range_with_len 0 (kind_count tiers u));
+        };
+        before = λ s h. absurd (omega arith);
+      }
+
+-- a count of kinds by its places and its free tiers
+pub counted_kinds : (n places free columns tiers : ℕ) → n ≡ places * 2 ^ free → places ≡ columns + 1 → free ≡ tiers → n ≡ (columns + 1) * 2 ^ tiers
+counted_kinds n places free columns tiers e p f = e ∙ ap (λ m. m * 2 ^ free) p ∙ ap (λ m. (columns + 1) * 2 ^ m) f
+
+-- what needs no value holds of the value in a result
+pub whatever_ok : {X E : Type 0} (r : Result X E) (P : Type 0) → P → IfOk r (λ x. P)
+whatever_ok (Ok x) P p = p
+whatever_ok (Err e) P p = tt

@@ -1,0 +1,148 @@
+ghost use Rattle.std.specs.Prelude.{◌≡◌, ◌≤◌, ℕ, [], ◌∷◌, length, Err, IfOk};
+ghost use Rattle.tier_core.specs.Orders.{IsFirst};
+ghost use Rattle.tier_core.specs.Tables.{tiers_of_table};
+ghost use Rattle.tier_core.specs.Tiers.{is_free, is_input, numbers_from};
+ghost use Rattle.violation.specs.Candidates.{IsForm};
+ghost use Rattle.answer_text.specs.Right.{IsRight};
+ghost use Rattle.arc_table.specs.Runs.{Accepts};
+ghost use Rattle.arc_table.specs.States.{states_of};
+ghost use Rattle.ranked_gen.specs.Budgets.{AreAllWithin, IsFirstOver};
+ghost use Rattle.ranked_gen.specs.Lines.{AcceptsSome};
+ghost use Rattle.ranked_gen.specs.Listed.{AreListed, kind_count};
+
+use crate::example::{copied, is_input};
+use crate::flags::is_free;
+use crate::gen_err::GenErr;
+use crate::lines::state_lines;
+use crate::place::{Listing, list_place};
+use crate::state::first_number;
+use answer_text::{Answer, Automaton, Stage};
+use arc_table::Table;
+use first_paths::first;
+use grammar_reader::Grammar;
+use std::alloc::Global;
+use tier_core::{NoMemory, TierKind, TierTable, Timeline};
+use weight_law::UnitWeight;
+
+/// How many tiers are input tiers.
+pub(crate) fn count_inputs(kinds: &[TierKind]) -> usize
+    ensures value { result ≡ length (numbers_from is_input 0 kinds.now) }
+    ensures few { result ≤ length kinds.now }
+{
+    kinds.iter().filter(|kind| is_input(**kind)).count()
+}
+
+/// How many tiers are free.
+fn count_free(kinds: &[TierKind]) -> usize
+    ensures value { result ≡ length (numbers_from is_free 0 kinds.now) }
+    ensures few { result ≤ length kinds.now }
+{
+    kinds.iter().filter(|kind| is_free(**kind)).count()
+}
+
+/// Lists all kinds: each place of the form with each set of open free tiers.
+fn list_all(
+    alloc: Global,
+    tiers: &TierTable,
+    inputs: usize,
+    free: u32,
+    form: &Timeline,
+) -> Result<Listing, NoMemory>
+    requires form { IsForm (tiers_of_table tiers.now) form.now }
+    requires short { length form.now ≤ 64 }
+    requires input_count { inputs ≡ length (tiers_of_table tiers.now).input }
+    requires few_inputs { inputs ≤ 12 }
+    requires count { free ≡ length (tiers_of_table tiers.now).free }
+    requires few { free ≤ 12 }
+    ensures { IfOk result (λ listing. AreListed (tiers_of_table tiers.now) form.now (kind_count (tiers_of_table tiers.now) form.now) listing.nodes.items listing.states.items) }
+{
+    let mut listing = Listing {
+        nodes: Vec::new(alloc),
+        states: Vec::new(alloc),
+    };
+    for place in 0..form.len() as u32 + 1 {
+        list_place(alloc, tiers, inputs, free, form, place, &mut listing)?;
+    }
+    Ok(listing)
+}
+
+/// A stage of its own, in a list.
+fn one_stage(alloc: Global, stage: Stage) -> Result<Vec<Stage>, NoMemory>
+    ensures { IfOk result (λ stages. stages.items ≡ stage ∷ []) }
+{
+    let mut stages = Vec::new(alloc);
+    match stages.push(stage) {
+        Ok(()) => Ok(stages),
+        Err(_) => Err(NoMemory),
+    }
+}
+
+/// The first of the timelines that a table accepts, which are some.
+fn first_of(alloc: Global, table: &Table<UnitWeight>) -> Result<Timeline, NoMemory>
+    requires { AcceptsSome (states_of table.now) }
+    ensures { IfOk result (IsFirst (Accepts (states_of table.now))) }
+{
+    match first(alloc, table)? {
+        Some(timeline) => Ok(timeline),
+        None => unreachable!(),
+    }
+}
+
+/// A right answer where no constraint is ranked, for a form that is well formed and reduced over the
+/// input tiers. It fails only for want of memory.
+fn answer_free(
+    alloc: Global,
+    tiers: &TierTable,
+    free: u32,
+    form: &Timeline,
+) -> Result<Answer, NoMemory>
+    requires form { IsForm (tiers_of_table tiers.now) form.now }
+    requires short { length form.now ≤ 64 }
+    requires count { free ≡ length (tiers_of_table tiers.now).free }
+    requires few { free ≤ 12 }
+    ensures { IfOk result (λ answer. IsRight (tiers_of_table tiers.now) [] form.now answer) }
+{
+    let own = copied(alloc, form)?;
+    let inputs = count_inputs(tiers.kinds.as_slice());
+    let Listing { nodes, states } = list_all(alloc, tiers, inputs, free, form)?;
+    let table = Table::of_states(states);
+    let lines = state_lines(alloc, &table)?;
+    let example = first_of(alloc, &table)?;
+    let stages = one_stage(alloc, Stage { nodes })?;
+    Ok(Answer {
+        form: own,
+        counts: Vec::new(alloc),
+        example,
+        stages,
+        automaton: Automaton { states: lines },
+    })
+}
+
+/// The right answer for a grammar and a form, in which no stage has more kinds of prefix than the
+/// budget; `Budget` exactly where a stage has more, with the first such stage.
+///
+/// The form is well formed and reduced over the input tiers, and has at most 64 columns. The budget
+/// is from 1 to 65,536. `NoMemory` comes only for want of memory.
+pub fn generate(
+    alloc: Global,
+    grammar: &Grammar,
+    form: &Timeline,
+    budget: u32,
+) -> Result<Answer, GenErr>
+    requires free { grammar.now.constraints.items ≡ [] }
+    requires form { IsForm (tiers_of_table grammar.now.tiers) form.now }
+    requires short { length form.now ≤ 64 }
+    requires some { 1 ≤ budget }
+    requires few { budget ≤ 65536 }
+    ensures right { IfOk result (λ answer. IsRight (tiers_of_table grammar.now.tiers) grammar.now.constraints.items form.now answer) }
+    ensures within { IfOk result (λ answer. AreAllWithin (tiers_of_table grammar.now.tiers) grammar.now.constraints.items form.now budget) }
+    ensures over { (stage : ℕ) → result ≡ Err (GenErr.Budget stage) → IsFirstOver (tiers_of_table grammar.now.tiers) grammar.now.constraints.items form.now budget stage }
+{
+    let tiers = &grammar.tiers;
+    let free = count_free(tiers.kinds.as_slice()) as u32;
+    let kinds = first_number(form.len() as u32 + 1, free);
+    if kinds > budget {
+        return Err(GenErr::Budget { stage: 0 });
+    }
+    answer_free(alloc, tiers, free, form).map_err(|_| GenErr::NoMemory)
+}

@@ -1,0 +1,59 @@
+-- The numbers and the lines of statuses.
+use Rattle.std.specs.Prelude.{ℕ, List, [], ◌++◌, codes}
+use Rattle.std.specs.Fmt.{decimal}
+use Rattle.timeline_text.specs.declared.form_err.FormErr.{FormErr}
+use Rattle.timeline_text.specs.declared.form_err.FormErr.TheVariants.{BadSymbol, WrongWidth, TooLong as TooManyColumns, NotWellFormed, NotReduced, UnknownLetter, NoMemory as NoMemoryForForm}
+use Rattle.grammar_reader.specs.declared.grammar_err.GrammarCause.{GrammarCause}
+use Rattle.grammar_reader.specs.declared.grammar_err.GrammarCause.TheVariants.{BadByte, BadHeader, BadLine, BadName, TwiceNamed, UnknownTier, NotInput, TooManyTiers, TooManyConstraints, TooManyEvents, NoInput, NoOvert}
+use Rattle.status_lines.specs.declared.status.Status.{Status}
+use Rattle.status_lines.specs.declared.status.Status.TheVariants.{Done, Usage, GrammarRefused, FormRefused, Budget, ReadFault, WriteFault, NoMemory, TooLong, NotBuilt}
+
+abbrev pub status_number : Status → ℕ
+status_number Done = 0
+status_number Usage = 2
+status_number (GrammarRefused word line cause) = 3
+status_number (FormRefused word cause) = 4
+status_number (Budget entry stage) = 7
+status_number (ReadFault word) = 8
+status_number WriteFault = 9
+status_number NoMemory = 10
+status_number (TooLong word) = 12
+status_number (NotBuilt word) = 13
+
+-- the cause of a grammar is its name
+abbrev pub grammar_cause_text : GrammarCause → List ℕ
+grammar_cause_text BadByte = codes "BadByte"
+grammar_cause_text BadHeader = codes "BadHeader"
+grammar_cause_text BadLine = codes "BadLine"
+grammar_cause_text BadName = codes "BadName"
+grammar_cause_text TwiceNamed = codes "TwiceNamed"
+grammar_cause_text UnknownTier = codes "UnknownTier"
+grammar_cause_text NotInput = codes "NotInput"
+grammar_cause_text TooManyTiers = codes "TooManyTiers"
+grammar_cause_text TooManyConstraints = codes "TooManyConstraints"
+grammar_cause_text TooManyEvents = codes "TooManyEvents"
+grammar_cause_text NoInput = codes "NoInput"
+grammar_cause_text NoOvert = codes "NoOvert"
+
+-- the cause of a form is its name, and its number after one space
+abbrev pub form_cause_text : FormErr → List ℕ
+form_cause_text (BadSymbol at) = codes "BadSymbol " ++ decimal at
+form_cause_text (WrongWidth column) = codes "WrongWidth " ++ decimal column
+form_cause_text TooManyColumns = codes "TooLong"
+form_cause_text (NotWellFormed tier) = codes "NotWellFormed " ++ decimal tier
+form_cause_text (NotReduced column) = codes "NotReduced " ++ decimal column
+form_cause_text (UnknownLetter at) = codes "UnknownLetter " ++ decimal at
+form_cause_text NoMemoryForForm = codes "NoMemory"
+
+-- the line of a status; where all is done there is none
+abbrev pub status_text : Status → List ℕ
+status_text Done = []
+status_text Usage = codes "usage\n"
+status_text (GrammarRefused word line cause) = (codes "grammar word " ++ decimal word) ++ (((codes " line " ++ decimal line) ++ codes ": ") ++ (grammar_cause_text cause ++ codes "\n"))
+status_text (FormRefused word cause) = ((codes "form word " ++ decimal word) ++ codes ": ") ++ (form_cause_text cause ++ codes "\n")
+status_text (Budget entry stage) = (codes "budget entry " ++ decimal entry) ++ ((codes " stage " ++ decimal stage) ++ codes "\n")
+status_text (ReadFault word) = (codes "read fault word " ++ decimal word) ++ codes "\n"
+status_text WriteFault = codes "write fault\n"
+status_text NoMemory = codes "no memory\n"
+status_text (TooLong word) = (codes "too long word " ++ decimal word) ++ codes "\n"
+status_text (NotBuilt word) = (codes "not built word " ++ decimal word) ++ codes "\n"

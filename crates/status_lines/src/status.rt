@@ -1,0 +1,68 @@
+ghost use Rattle.std.specs.Prelude.{◌≡◌};
+ghost use Rattle.status_lines.specs.Lines.{status_number};
+
+use grammar_reader::GrammarCause;
+use timeline_text::FormErr;
+
+/// How a command ended. `word` is the index of a word, where the command is word 0.
+#[derive(Clone, Copy, Debug, PartialEq, Eq)]
+pub enum Status {
+    /// All was done.
+    Done,
+    /// The words are no command.
+    Usage,
+    /// The file is no grammar: its first line with a cause, counted from 1, and the cause. The line
+    /// is 0 where the file as a whole has no input tier or no overt tier.
+    GrammarRefused {
+        word: u32,
+        line: u32,
+        cause: GrammarCause,
+    },
+    /// The word is no form over the input tiers of the grammar, or no timeline over all its tiers.
+    FormRefused {
+        word: u32,
+        cause: FormErr,
+    },
+    /// A stage has more kinds of prefix than the budget: the entry of a lexicon, or 0 where there is
+    /// one form, and the first such stage.
+    Budget {
+        entry: u32,
+        stage: u32,
+    },
+    /// The file could not be read.
+    ReadFault {
+        word: u32,
+    },
+    /// The output could not be written.
+    WriteFault,
+    /// Memory was wanting.
+    NoMemory,
+    /// The file is longer than its limit.
+    TooLong {
+        word: u32,
+    },
+    /// The program has no body yet for what the command asks of this word.
+    NotBuilt {
+        word: u32,
+    },
+}
+
+impl Status {
+    /// The number that a program ends with.
+    pub fn number(&self) -> u8
+        ensures { result ≡ status_number self.now }
+    {
+        match self {
+            Status::Done => 0,
+            Status::Usage => 2,
+            Status::GrammarRefused { .. } => 3,
+            Status::FormRefused { .. } => 4,
+            Status::Budget { .. } => 7,
+            Status::ReadFault { .. } => 8,
+            Status::WriteFault => 9,
+            Status::NoMemory => 10,
+            Status::TooLong { .. } => 12,
+            Status::NotBuilt { .. } => 13,
+        }
+    }
+}

@@ -1,0 +1,157 @@
+use crate::{Status, put_status};
+use grammar_reader::GrammarCause;
+use outside::{MemSink, SafeSink, Sink, WriteErr};
+use std::test::Fail;
+use timeline_text::FormErr;
+
+fn no_grammar(line: u32, cause: GrammarCause) -> Status {
+    Status::GrammarRefused {
+        word: 1,
+        line,
+        cause,
+    }
+}
+
+fn no_form(cause: FormErr) -> Status {
+    Status::FormRefused { word: 2, cause }
+}
+
+#[test]
+fn numbers_and_lines(rt: HostRuntime) -> Result<(), Fail> {
+    let cases = [
+        (Status::Done, 0, ""),
+        (Status::Usage, 2, "usage\n"),
+        (
+            Status::Budget { entry: 0, stage: 7 },
+            7,
+            "budget entry 0 stage 7\n",
+        ),
+        (
+            Status::Budget {
+                entry: 4294967295,
+                stage: 64,
+            },
+            7,
+            "budget entry 4294967295 stage 64\n",
+        ),
+        (Status::ReadFault { word: 1 }, 8, "read fault word 1\n"),
+        (Status::WriteFault, 9, "write fault\n"),
+        (Status::NoMemory, 10, "no memory\n"),
+        (Status::TooLong { word: 1 }, 12, "too long word 1\n"),
+        (Status::NotBuilt { word: 0 }, 13, "not built word 0\n"),
+    ];
+    for (status, number, line) in cases {
+        let mut sink = SafeSink::new(rt.alloc());
+        put_status(&mut sink, &status)?;
+        assert_eq!(rt; sink.bytes(), line.as_bytes(), "{line}");
+        assert_eq!(rt; status.number(), number, "{line}");
+    }
+    Ok(())
+}
+
+#[test]
+fn each_cause_of_a_grammar(rt: HostRuntime) -> Result<(), Fail> {
+    let cases = [
+        (
+            no_grammar(1, GrammarCause::BadByte),
+            "grammar word 1 line 1: BadByte\n",
+        ),
+        (
+            no_grammar(1, GrammarCause::BadHeader),
+            "grammar word 1 line 1: BadHeader\n",
+        ),
+        (
+            no_grammar(9, GrammarCause::BadLine),
+            "grammar word 1 line 9: BadLine\n",
+        ),
+        (
+            no_grammar(10, GrammarCause::BadName),
+            "grammar word 1 line 10: BadName\n",
+        ),
+        (
+            no_grammar(11, GrammarCause::TwiceNamed),
+            "grammar word 1 line 11: TwiceNamed\n",
+        ),
+        (
+            no_grammar(99, GrammarCause::UnknownTier),
+            "grammar word 1 line 99: UnknownTier\n",
+        ),
+        (
+            no_grammar(100, GrammarCause::NotInput),
+            "grammar word 1 line 100: NotInput\n",
+        ),
+        (
+            no_grammar(12, GrammarCause::TooManyTiers),
+            "grammar word 1 line 12: TooManyTiers\n",
+        ),
+        (
+            no_grammar(65536, GrammarCause::TooManyConstraints),
+            "grammar word 1 line 65536: TooManyConstraints\n",
+        ),
+        (
+            no_grammar(2, GrammarCause::TooManyEvents),
+            "grammar word 1 line 2: TooManyEvents\n",
+        ),
+        (
+            no_grammar(0, GrammarCause::NoInput),
+            "grammar word 1 line 0: NoInput\n",
+        ),
+        (
+            no_grammar(0, GrammarCause::NoOvert),
+            "grammar word 1 line 0: NoOvert\n",
+        ),
+    ];
+    for (status, line) in cases {
+        let mut sink = SafeSink::new(rt.alloc());
+        put_status(&mut sink, &status)?;
+        assert_eq!(rt; sink.bytes(), line.as_bytes(), "{line}");
+        assert_eq!(rt; status.number(), 3, "{line}");
+    }
+    Ok(())
+}
+
+#[test]
+fn each_cause_of_a_form(rt: HostRuntime) -> Result<(), Fail> {
+    let cases = [
+        (
+            no_form(FormErr::BadSymbol { at: 20 }),
+            "form word 2: BadSymbol 20\n",
+        ),
+        (
+            no_form(FormErr::WrongWidth { column: 0 }),
+            "form word 2: WrongWidth 0\n",
+        ),
+        (no_form(FormErr::TooLong), "form word 2: TooLong\n"),
+        (
+            no_form(FormErr::NotWellFormed { tier: 3 }),
+            "form word 2: NotWellFormed 3\n",
+        ),
+        (
+            no_form(FormErr::NotReduced { column: 1 }),
+            "form word 2: NotReduced 1\n",
+        ),
+        (
+            no_form(FormErr::UnknownLetter { at: 1 }),
+            "form word 2: UnknownLetter 1\n",
+        ),
+        (no_form(FormErr::NoMemory), "form word 2: NoMemory\n"),
+    ];
+    for (status, line) in cases {
+        let mut sink = SafeSink::new(rt.alloc());
+        put_status(&mut sink, &status)?;
+        assert_eq!(rt; sink.bytes(), line.as_bytes(), "{line}");
+        assert_eq!(rt; status.number(), 4, "{line}");
+    }
+    Ok(())
+}
+
+// A sink that takes 8 bytes a write, of which the third fails, has taken the first 16.
+#[test]
+fn a_failing_write_leaves_a_front(rt: HostRuntime) -> Result<(), Fail> {
+    let alloc = rt.alloc();
+    let mut sink = MemSink::new(alloc, 8, [3].to_vec(alloc)?);
+    let status = no_grammar(7, GrammarCause::TooManyConstraints);
+    assert_eq!(rt; put_status(&mut sink, &status), Err(WriteErr::Failed));
+    assert_eq!(rt; sink.bytes(), b"grammar word 1 l".as_slice());
+    Ok(())
+}

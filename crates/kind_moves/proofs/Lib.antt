@@ -3,4 +3,5 @@ pub mod OpenPlaces
 pub mod GrammarTiers
 pub mod MoveSteps
 pub mod KindBits
+pub mod PhaseMaskSteps
 pub mod LawSteps

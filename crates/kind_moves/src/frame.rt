@@ -7,7 +7,8 @@ ghost use Rattle.kind_moves.specs.Masks.{AreOpenInputs};
 use crate::fit::{has_edge, has_input_edge, has_input_part, may_follow};
 use crate::mask::{laid_out, open_after, taken_from};
 use crate::open::{free_tiers, open_inputs};
-use crate::phase::PhaseMasks;
+use crate::phase::next_phases;
+use crate::phase_masks::PhaseMasks;
 use grammar_reader::Grammar;
 use std::alloc::Global;
 use tier_core::{Column, Kind, NoMemory, Sym, Timeline};
@@ -146,20 +147,19 @@ impl<'a> Frame<'a> {
 
     /// The phases of the stretch implications among the first constraints, after a column.
     fn next_phases(&self, stage: u32, kind: &Kind, column: &[Sym]) -> PhaseMasks
-        requires none { stage ≡ 0 }
         requires stage { stage ≤ length (constraints_in self.now) }
         requires width { length column.now ≡ (tiers_in self.now).width }
         ensures phases { phases_by (length (stretches_in self.now stage)) result.unmet result.met ≡ next_phases (stretches_in self.now stage) (kind_at_stage self.now stage kind.now).phases column.now }
         ensures unmet { result.unmet < 2 ^ length (stretches_in self.now stage) }
         ensures met { result.met < 2 ^ length (stretches_in self.now stage) }
     {
-        PhaseMasks { unmet: 0, met: 0 }
+        let first = &self.grammar.constraints.as_slice()[..stage as usize];
+        next_phases(first, kind, column)
     }
 
     /// The kind that a column leads to from a kind, under the first `stage` constraints. None exactly
     /// where the column does not fit the kind.
     pub fn moved(&self, stage: u32, kind: &Kind, column: &Column) -> Option<Kind>
-        requires none { stage ≡ 0 }
         requires stage { stage ≤ length (constraints_in self.now) }
         requires fits { FitsFrame self.now stage kind.now }
         requires width { length column.now ≡ (tiers_in self.now).width }

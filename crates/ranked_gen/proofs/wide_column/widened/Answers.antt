@@ -1,8 +1,8 @@
 use Rattle.std.proofs.Common.{◌≡◌, true, sym, ◌∙◌, arith}
 use Rattle.tier_core.specs.Tiers.{is_input, kind_at}
 use Rattle.ranked_gen.proofs.InputTiers.{input_within, inputs_few, fill_input, fill_none, filled_all}
-use Rattle.ranked_gen.proofs.example.widened.Goals as goal
-use Rattle.ranked_gen.proofs.example.widened.Goals.{then-is_input, else-is_input}
+use Rattle.ranked_gen.proofs.wide_column.widened.Goals as goal
+use Rattle.ranked_gen.proofs.wide_column.widened.Goals.{then-is_input, else-is_input}
 
 pub bounds-column-inputs : goal.bounds-column-inputs
 bounds-column-inputs c =

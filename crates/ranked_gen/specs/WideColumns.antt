@@ -1,4 +1,4 @@
--- The form with no constituent on the free tiers, which is the first of its candidates.
+-- The columns of a form, widened to all tiers.
 use Rattle.std.specs.Prelude.{ℕ, ◌==◌, if◌then◌else◌, List, [], ◌∷◌, map}
 use Rattle.std.specs.List.{range_with_len}
 use Rattle.tier_core.specs.declared.sym.Sym.{Sym}

@@ -1,13 +1,12 @@
 -- What the moves of a frame cost in all.
 use Rattle.std.proofs.Common.{◌≡◌, ◌++◌, ◌+◌, ◌<◌, ◌≤◌, ◌^◌, ℕ, zero, suc, Bool, cond, List, [], ◌∷◌, map, filter, take, drop, length, get_or, refl, sym, ap, ◌∙◌, subst, arith, append-nil, append_assoc, length-take}
 use Rattle.std.specs.List.{AllByRecursion}
-use Rattle.std.proofs.lemmas.List.{length_push, length-append, get_or-take}
+use Rattle.std.proofs.lemmas.List.{length_push, get_or-take}
 use Rattle.std.proofs.lemmas.List.Elements.{All-from_recursion}
 use Rattle.tier_core.specs.declared.kind.Kind.{Kind}
 use Rattle.tier_core.specs.declared.sym.Sym.{Sym}
-use Rattle.tier_core.specs.declared.event.Event.{Event}
 use Rattle.tier_core.specs.declared.constraint.Constraint.{Constraint}
-use Rattle.tier_core.specs.Kinds.{Phase, phases}
+use Rattle.tier_core.specs.Kinds.{Phase}
 use Rattle.tier_core.specs.Tiers.{Tiers, has_tier}
 use Rattle.tier_core.proofs.CountLemmas.{all_of}
 use Rattle.violation.specs.Candidates.{IsForm, IsCandidate, vec}

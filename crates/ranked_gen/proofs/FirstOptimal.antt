@@ -1,6 +1,6 @@
 -- The first timeline of the table of all kinds is the first of the optimal candidates.
 use Rattle.std.specs.Prelude.{MatchOption, IsSome}
-use Rattle.std.proofs.Common.{◌≡◌, ℕ, List, [], Option, None, Some, length, refl, ◌∙◌, subst}
+use Rattle.std.proofs.Common.{◌≡◌, List, [], Option, None, Some, length, refl, ◌∙◌, subst}
 use Rattle.tier_core.specs.declared.sym.Sym.{Sym}
 use Rattle.tier_core.specs.Orders.{IsFirst}
 use Rattle.tier_core.specs.Tiers.{Tiers}

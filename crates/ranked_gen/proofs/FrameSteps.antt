@@ -1,9 +1,8 @@
 -- The arcs for the columns that fit a kind of a frame are the moves of the kind.
-use Rattle.std.proofs.Common.{◌≡◌, ℕ, zero, suc, ◌+◌, ◌-◌, ◌*◌, ◌^◌, ◌<◌, ◌≤◌, Bool, true, false, cond, List, [], ◌∷◌, ◌++◌, map, filter, length, get_or, refl, ap, sym, ◌∙◌, subst, arith, Contains, append-nil, append_assoc}
-use Rattle.std.specs.Prelude.{nat_lt}
+use Rattle.std.proofs.Common.{◌≡◌, ℕ, suc, ◌+◌, ◌*◌, ◌^◌, ◌<◌, ◌≤◌, Bool, true, false, cond, List, [], ◌∷◌, ◌++◌, map, filter, length, get_or, refl, ap, sym, ◌∙◌, subst, arith, Contains, append-nil, append_assoc}
 use Rattle.std.specs.List.{flat_map, range_with_len}
 use Rattle.std.proofs.lemmas.Bool.{le-ltb, lt-ltb}
-use Rattle.std.proofs.lemmas.List.{map-append, length-map}
+use Rattle.std.proofs.lemmas.List.{map-append}
 use Rattle.std.proofs.lemmas.List.FromFn.{map-range_with_len_more}
 use Rattle.std.proofs.lemmas.List.Elements.{Contains-append_left, Contains-append_right, filter-append}
 use Rattle.std.proofs.lemmas.Grind.{flat_map-append}
@@ -15,12 +14,12 @@ use Rattle.tier_core.specs.Kinds.{PrefixKind, prefix_kind}
 use Rattle.tier_core.specs.Timelines.{has_edge, column_at}
 use Rattle.tier_core.specs.Tiers.{Tiers, is_free, numbers_from, tiers_by_kinds}
 use Rattle.violation.specs.Candidates.{IsForm}
-use Rattle.violation.specs.Moves.{FitsKind, flag_of}
+use Rattle.violation.specs.Moves.{flag_of}
 use Rattle.violation.proofs.SplitLemmas.{tiers_split}
 use Rattle.kind_moves.specs.declared.frame.Frame.{Frame}
-use Rattle.kind_moves.specs.Frames.{tiers_in, form_in, constraints_in, kind_at_stage, FitsAt, FitsFrame, IsMove}
+use Rattle.kind_moves.specs.Frames.{tiers_in, form_in, kind_at_stage, FitsAt, FitsFrame}
 use Rattle.ranked_gen.specs.declared.pick.Pick.{Pick}
-use Rattle.ranked_gen.specs.Numbers.{flags_of, number_of_kind, kind_numbered}
+use Rattle.ranked_gen.specs.Numbers.{flags_of, kind_numbered}
 use Rattle.ranked_gen.specs.Arcs.{columns_between, moves_with, moves_from, staying}
 use Rattle.ranked_gen.specs.WideColumns.{widened}
 use Rattle.ranked_gen.specs.Picks.{symbols_of, symbols_by_flags, two_count, picked}

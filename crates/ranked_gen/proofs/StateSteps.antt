@@ -1,10 +1,9 @@
 -- Kinds by their place and their set of open free tiers.
-use Rattle.std.proofs.Common.{◌≡◌, ◌≢◌, ℕ, zero, suc, ◌+◌, ◌*◌, ◌^◌, ◌==◌, ◌&&◌, not, ◌<◌, ◌≤◌, Bool, true, false, cond, List, [], ◌∷◌, ◌++◌, map, length, take, get_or, count_by, refl, ap, sym, ◌∙◌, subst, arith, ne_eqb, mod-eq_of_lt, append-nil}
-use Rattle.std.specs.List.{list_any, range_with_len}
-use Rattle.std.proofs.lemmas.Nat.{pow_pos, div-mul-add}
-use Rattle.std.proofs.lemmas.Bool.{le-ltb, lt-ltb}
+use Rattle.std.proofs.Common.{◌≡◌, ℕ, zero, suc, ◌+◌, ◌*◌, ◌^◌, ◌<◌, ◌≤◌, Bool, true, false, cond, List, [], ◌∷◌, ◌++◌, map, length, take, get_or, count_by, refl, ap, sym, ◌∙◌, subst, arith}
+use Rattle.std.specs.List.{range_with_len}
+use Rattle.std.proofs.lemmas.Nat.{div-mul-add}
 use Rattle.std.proofs.Math.Nat.{mul-le-mul, pow-le-pow_right}
-use Rattle.std.proofs.lemmas.List.{length-map, get_or-map, length_push, length-take-le, get_or-take, map-append}
+use Rattle.std.proofs.lemmas.List.{length-map, get_or-map, length_push, length-take-le, get_or-take}
 use Rattle.std.proofs.lemmas.List.FromFn.{fill_by_all, length-map-range_with_len}
 use Rattle.std.proofs.lemmas.Simd.{map-map}
 use Rattle.tier_core.specs.declared.sym.Sym.{Sym}
@@ -17,15 +16,15 @@ use Rattle.tier_core.proofs.WordLemmas.{open_at}
 use Rattle.tier_core.proofs.WordForm.{runs_from_well_formed}
 use Rattle.violation.specs.Candidates.{IsForm}
 use Rattle.violation.specs.Prefixes.{is_open}
-use Rattle.violation.specs.Moves.{is_final, form_opened}
+use Rattle.violation.specs.Moves.{form_opened}
 use Rattle.violation.proofs.OpenLemmas.{prefix_open, take_word}
 use Rattle.answer_text.specs.declared.stage.Node.{Node}
 use Rattle.weight_law.specs.declared.Weight.{Ghosts}
 use Rattle.arc_table.specs.declared.state.TableState.{TableState}
-use Rattle.ranked_gen.specs.Numbers.{number_of_flags, flags_of, kind_numbered}
-use Rattle.ranked_gen.specs.Arcs.{still, staying, moves_with, moves_from}
-use Rattle.ranked_gen.specs.Listed.{move_view, IsNodeNumbered, IsStateNumbered, AreNumbered, AreListed}
-use Rattle.ranked_gen.proofs.NumberLemmas.{flags_of-low, number-flags_of, same_kind, kind_from}
+use Rattle.ranked_gen.specs.Numbers.{flags_of, kind_numbered}
+use Rattle.ranked_gen.specs.Arcs.{still, staying}
+use Rattle.ranked_gen.specs.Listed.{IsNodeNumbered, IsStateNumbered, AreNumbered, AreListed}
+use Rattle.ranked_gen.proofs.NumberLemmas.{flags_of-low, same_kind, kind_from}
 
 -- the kind of a place and a set
 pub kind_at_place : (f place opened : ℕ) → opened < 2 ^ f → kind_numbered f (place * 2 ^ f + opened) ≡ kind_from place (flags_of f opened) []

@@ -1,14 +1,10 @@
 ghost use Rattle.std.specs.Prelude.{◌≡◌, ◌≤◌, ◌*◌, ◌^◌, ℕ, [], ◌∷◌, length, Err, IfOk};
-ghost use Rattle.tier_core.specs.Orders.{IsFirst};
 ghost use Rattle.tier_core.specs.Tables.{tiers_of_table};
 ghost use Rattle.tier_core.specs.Tiers.{is_free, is_input, numbers_from};
 ghost use Rattle.violation.specs.Candidates.{IsForm};
 ghost use Rattle.answer_text.specs.Right.{IsRight};
 ghost use Rattle.kind_moves.specs.Frames.{tiers_in, form_in};
-ghost use Rattle.arc_table.specs.Runs.{Accepts};
-ghost use Rattle.arc_table.specs.States.{states_of};
 ghost use Rattle.ranked_gen.specs.Budgets.{AreAllWithin, IsFirstOver};
-ghost use Rattle.ranked_gen.specs.Lines.{AcceptsSome};
 ghost use Rattle.ranked_gen.specs.Listed.{AreListed, kind_count};
 
 use crate::flags::{is_free, is_input};
@@ -22,7 +18,6 @@ use grammar_reader::Grammar;
 use kind_moves::Frame;
 use std::alloc::Global;
 use tier_core::{NoMemory, TierKind, Timeline};
-use weight_law::UnitWeight;
 
 /// How many tiers are input tiers.
 pub(crate) fn count_inputs(kinds: &[TierKind]) -> usize
@@ -92,17 +87,6 @@ fn copied(alloc: Global, timeline: &Timeline) -> Result<Timeline, NoMemory>
     Ok(copy)
 }
 
-/// The first of the timelines that a table accepts, which are some.
-fn first_of(alloc: Global, table: &Table<UnitWeight>) -> Result<Timeline, NoMemory>
-    requires { AcceptsSome (states_of table.now) }
-    ensures { IfOk result (IsFirst (Accepts (states_of table.now))) }
-{
-    match first(alloc, table)? {
-        Some(timeline) => Ok(timeline),
-        None => unreachable!(),
-    }
-}
-
 /// A right answer where no constraint is ranked, for the form of a frame. It fails only for want of
 /// memory.
 fn answer_in(alloc: Global, frame: &Frame, free: u32) -> Result<Answer, NoMemory>
@@ -115,13 +99,13 @@ fn answer_in(alloc: Global, frame: &Frame, free: u32) -> Result<Answer, NoMemory
     let inputs = count_inputs(frame.grammar.tiers.kinds.as_slice());
     let Listing { nodes, states } = list_all(alloc, frame, inputs, free)?;
     let table = Table::of_states(states);
+    let found = first(alloc, &table)?;
     let lines = state_lines(alloc, &table)?;
-    let example = first_of(alloc, &table)?;
     let stages = one_stage(alloc, Stage { nodes })?;
     Ok(Answer {
         form: own,
         counts: Vec::new(alloc),
-        example,
+        example: found.unwrap(),
         stages,
         automaton: Automaton { states: lines },
     })

@@ -1,4 +1,4 @@
-use Rattle.std.proofs.Common.{◌≡◌, [], length, IfOk, ap, sym, ◌∙◌, subst}
+use Rattle.std.proofs.Common.{[], length, IfOk, ap, sym, ◌∙◌, subst}
 use Rattle.tier_core.specs.Tables.{tiers_of_table}
 use Rattle.violation.specs.Candidates.{IsForm}
 use Rattle.answer_text.specs.Right.{IsRight}

@@ -7,7 +7,7 @@ use Rattle.ranked_gen.specs.Listed.{kind_count, AreListed, AreNumbered, IsNodeNu
 use Rattle.ranked_gen.proofs.NumberedKinds.{free_distinct}
 use Rattle.ranked_gen.proofs.RightAnswer.{right_answer}
 use Rattle.ranked_gen.proofs.TableOfKinds.{kinds_some, kinds_small, targets_exist, classes_filled, one_width, classes_disjoint}
-use Rattle.ranked_gen.proofs.FirstOptimal.{lines_counted, lines_each, some_accepted, first_optimal}
+use Rattle.ranked_gen.proofs.FirstOptimal.{lines_counted, lines_each, some_found, first_optimal}
 use Rattle.ranked_gen.proofs.generator.answer_in.Goals as goal
 
 pub of_states-table-requires-clause-some : goal.of_states-table-requires-clause-some
@@ -46,14 +46,14 @@ of_states-table-requires-clause-one_width c =
     let listed = c.in_ok-nodes.ensures in
     one_width (tiers_in c.args.frame.now) (tiers_split kinds) (free_distinct kinds) (form_in c.args.frame.now) c.requires.form _ listed.state_count listed.each_state
 
-pub first_of-requires : goal.first_of-requires
-first_of-requires c =
+pub unwrap-requires : goal.unwrap-requires
+unwrap-requires c =
     let kinds = c.args.frame.now.grammar.now.tiers.kinds.items in
     let tiers = tiers_in c.args.frame.now in
     let u = (form_in c.args.frame.now) in
     let nodes = c.in_ok-nodes.field-0.nodes.items in
     let listed : AreListed tiers u (kind_count tiers u) nodes (states_of c.of_states-table.result) = subst (AreListed tiers u (kind_count tiers u) nodes) (sym c.of_states-table.ensures) c.in_ok-nodes.ensures in
-    some_accepted tiers (tiers_split kinds) (free_distinct kinds) u c.requires.form nodes (states_of c.of_states-table.result) listed c.in_ok-lines.lines.items c.in_ok-lines.ensures
+    some_found tiers (tiers_split kinds) (free_distinct kinds) u c.requires.form nodes (states_of c.of_states-table.result) listed c.in_ok-lines.lines.items c.in_ok-lines.ensures c.in_ok-found.found c.in_ok-found.ensures
 
 pub returns : goal.returns
 returns c =
@@ -68,7 +68,7 @@ returns c =
     let nodes : nodes_at c.in_ok-stages.stages.items 0 ≡ made = ap (λ stages. nodes_at stages 0) c.in_ok-stages.ensures in
     right_answer tiers (tiers_split kinds) (free_distinct kinds) u c.requires.form _
     c.in_ok-own.ensures c.new.ensures.items
-    (first_optimal tiers (tiers_split kinds) (free_distinct kinds) u c.requires.form made table listed lines are c.in_ok-example.example c.in_ok-example.ensures)
+    (first_optimal tiers (tiers_split kinds) (free_distinct kinds) u c.requires.form made table listed lines are c.in_ok-found.found c.unwrap.result c.in_ok-found.ensures c.unwrap.ensures)
     (ap length c.in_ok-stages.ensures)
     (ap length nodes ∙ listed.node_count) (subst (AreNumbered (IsNodeNumbered tiers) 0) (sym nodes) listed.each_node)
     (lines_counted tiers (tiers_split kinds) (free_distinct kinds) u c.requires.form made table listed lines are)

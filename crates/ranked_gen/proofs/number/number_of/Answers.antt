@@ -1,4 +1,4 @@
-use Rattle.std.proofs.Common.{◌<◌, ◌≡◌, ◌+◌, ◌*◌, ap, ◌∙◌, sym, arith}
+use Rattle.std.proofs.Common.{◌<◌, ◌+◌, ◌*◌, ap, ◌∙◌, sym, arith}
 use Rattle.ranked_gen.proofs.NumberLemmas.{bit_of_has}
 use Rattle.ranked_gen.proofs.NumberSteps.{number_more, number_room}
 use Rattle.ranked_gen.proofs.number.number_of.Goals as goal

@@ -1,6 +1,6 @@
-use Rattle.std.proofs.Common.{◌≡◌, ◌<◌, ◌++◌, ◌+◌, ◌*◌, ◌^◌, [], map, length, sym, ap, ◌∙◌, subst, arith}
+use Rattle.std.proofs.Common.{◌<◌, ◌++◌, ◌+◌, ◌*◌, ◌^◌, [], map, length, sym, ap, ◌∙◌, subst, arith}
 use Rattle.tier_core.specs.Timelines.{column_at}
-use Rattle.kind_moves.specs.Frames.{tiers_in, form_in, kind_at_stage}
+use Rattle.kind_moves.specs.Frames.{tiers_in, form_in}
 use Rattle.ranked_gen.specs.Numbers.{flags_of}
 use Rattle.ranked_gen.specs.Arcs.{staying}
 use Rattle.ranked_gen.specs.FrameMoves.{columns_from, arc_by, AllFit}

@@ -86,12 +86,12 @@ apart_from a b h = same_from_bits (bit_and a b) 0 (λ i. bit_at_and a b i ∙ no
     none i false e = omega (arith, none_bit a i e)
     none i true e = omega (arith, none_bit b i (sym (ap (λ x. x && has_tier b i) e) ∙ h i))
 
-phase_told : (p : Phase) → phase_by_bits (is_unmet_phase p) (is_met_phase p) ≡ p
+pub phase_told : (p : Phase) → phase_by_bits (is_unmet_phase p) (is_met_phase p) ≡ p
 phase_told closed = refl
 phase_told unmet = refl
 phase_told met = refl
 
-one_of : (p : Phase) → (is_unmet_phase p && is_met_phase p) ≡ false
+pub one_of : (p : Phase) → (is_unmet_phase p && is_met_phase p) ≡ false
 one_of closed = refl
 one_of unmet = refl
 one_of met = refl

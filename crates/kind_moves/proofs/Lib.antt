@@ -3,4 +3,8 @@ pub mod OpenPlaces
 pub mod GrammarTiers
 pub mod MoveSteps
 pub mod KindBits
+pub mod PhaseMaskSteps
 pub mod LawSteps
+pub mod CostSteps
+pub mod CostLaws
+pub mod TestLemmas

@@ -1,9 +1,105 @@
-ghost use Rattle.std.specs.Prelude.{◌≡◌, bit_and};
+ghost use Rattle.std.specs.Prelude.{◌≡◌, ℕ, ◌+◌, ◌<◌, ◌≤◌, ◌^◌, ◌||◌, false, if◌then◌else◌, length, filter, All};
+ghost use Rattle.std.specs.List.{list_any};
+ghost use Rattle.tier_core.specs.Kinds as told;
+ghost use Rattle.tier_core.specs.Kinds.{phases};
+ghost use Rattle.tier_core.specs.Tiers.{has_tier};
+ghost use Rattle.violation.specs.Columns.{is_present, opens_interior};
+ghost use Rattle.violation.specs.Conditions.{AreInColumn, IsOverTiers};
+ghost use Rattle.violation.specs.Moves.{is_unmet_phase, is_met_phase, next_phase, next_phases};
+ghost use Rattle.violation.specs.Sides.{edge_among, is_stretch};
+ghost use Rattle.kind_moves.specs.Phases.{phase_of, phases_by};
 
-/// The phases of stretch implications, with one bit for each, counted from 0 in ranked order.
-#[derive(Clone, Copy, Debug)]
-pub(crate) struct PhaseMasks {
-    pub unmet: u32,
-    pub met: u32,
-    pub ghost apart: { bit_and unmet met ≡ 0 },
+use crate::event::{any_present, has_edge_among, is_stretch, opens_each, opens_some};
+use crate::phase_masks::PhaseMasks;
+use tier_core::{Constraint, Event, Kind, Sym};
+
+/// The phase of a stretch implication.
+#[derive(Clone, Copy, Debug, PartialEq, Eq)]
+enum Phase {
+    /// Some left tier is not open.
+    Closed,
+    /// All are, and no event of a right type has met them since their last edge.
+    Unmet,
+    /// All are, and one has.
+    Met,
+}
+
+impl Phase {
+    fn is_unmet(self) -> bool
+        ensures { result ≡ is_unmet_phase (phase_of self) }
+    {
+        matches!(self, Phase::Unmet)
+    }
+
+    fn is_met(self) -> bool
+        ensures { result ≡ is_met_phase (phase_of self) }
+    {
+        matches!(self, Phase::Met)
+    }
+}
+
+/// Whether the bit of a stretch implication is set in a mask.
+pub(crate) fn has_phase(mask: u32, place: u32) -> bool
+    requires { place < 32 }
+    ensures { result ≡ has_tier mask place }
+{
+    (mask >> place) & 1 == 1
+}
+
+/// A mask of the places before this one, with the bit of this place too, or without it.
+fn with_bit(mask: u32, place: u32, is_set: bool) -> u32
+    requires place { place < 32 }
+    requires before { mask < 2 ^ place }
+    ensures within { result < 2 ^ (place + 1) }
+    ensures here { has_tier result place ≡ is_set }
+    ensures others { (t : ℕ) → t < place → has_tier result t ≡ has_tier mask t }
+{
+    if is_set { mask | 1 << place } else { mask }
+}
+
+/// Whether a stretch that is open after a column is met by then.
+fn is_met_after(left: &[Event], right: &[Event], was_met: bool, column: &[Sym]) -> bool
+    requires left_in { AreInColumn left.now column.now }
+    requires right_in { AreInColumn right.now column.now }
+    ensures { result ≡ ((if edge_among left.now column.now then false else (was_met || list_any (is_present column.now) right.now)) || list_any (opens_interior column.now) right.now) }
+{
+    let goes_on = !has_edge_among(column, left);
+    (goes_on && (was_met || any_present(column, right))) || opens_some(column, right)
+}
+
+/// The phase of a stretch implication after a column, where it was met before it or not.
+fn phase_after(constraint: &Constraint, was_met: bool, column: &[Sym]) -> Phase
+    requires { IsOverTiers (length column.now) constraint.now }
+    ensures { (phase : told.Phase) → was_met ≡ is_met_phase phase → phase_of result ≡ next_phase constraint.now.left constraint.now.right phase column.now }
+{
+    let left = constraint.left.as_slice();
+    if !opens_each(column, left) {
+        return Phase::Closed;
+    }
+    if is_met_after(left, constraint.right.as_slice(), was_met, column) {
+        return Phase::Met;
+    }
+    Phase::Unmet
+}
+
+/// The phases of the stretch implications among some constraints, after a column.
+pub(crate) fn next_phases(constraints: &[Constraint], kind: &Kind, column: &[Sym]) -> PhaseMasks
+    requires few { length constraints.now ≤ 24 }
+    requires over { All (IsOverTiers (length column.now)) constraints.now }
+    ensures phases { phases_by (length (filter is_stretch constraints.now)) result.unmet result.met ≡ next_phases (filter is_stretch constraints.now) (phases (length (filter is_stretch constraints.now)) kind.now) column.now }
+    ensures unmet { result.unmet < 2 ^ length (filter is_stretch constraints.now) }
+    ensures met { result.met < 2 ^ length (filter is_stretch constraints.now) }
+{
+    let mut unmet = 0;
+    let mut met = 0;
+    let mut next = 0;
+    for constraint in constraints {
+        if is_stretch(constraint) {
+            let phase = phase_after(constraint, has_phase(kind.met, next), column);
+            unmet = with_bit(unmet, next, phase.is_unmet());
+            met = with_bit(met, next, phase.is_met());
+            next += 1;
+        }
+    }
+    PhaseMasks { unmet, met }
 }

@@ -39,11 +39,7 @@ fn count_inputs(kinds: &[TierKind]) -> usize
 
 /// Reads a form's word: by the letters of the grammar where it begins with `=`, and else as the
 /// text of a timeline over the input tiers.
-pub(crate) fn read_form(
-    alloc: Global,
-    grammar: &Grammar,
-    word: &[u8],
-) -> Result<Timeline, FormErr>
+pub(crate) fn read_form(alloc: Global, grammar: &Grammar, word: &[u8]) -> Result<Timeline, FormErr>
     ensures ok { IfOk result (IsReadAs (length (tiers_of_table grammar.now.tiers).input) grammar.now.letters.items word.now) }
     ensures form { IfOk result (IsForm (tiers_of_table grammar.now.tiers)) }
     ensures short { IfOk result (λ form. length form ≤ 64) }

@@ -19,7 +19,7 @@ use Rattle.violation.specs.Conditions.{AreDistinct, AreSplit}
 use Rattle.violation.specs.Moves.{flag_of}
 use Rattle.violation.specs.Prefixes.{is_open, kind_of}
 use Rattle.violation.specs.Stages.{IsPassed}
-use Rattle.ranked_gen.specs.Example.{widened}
+use Rattle.ranked_gen.specs.WideColumns.{widened}
 use Rattle.ranked_gen.proofs.WidenedColumns.{over, all_at, all_mapped, on_nothing, not_listed, edge_at, length_over, symbol_over, word_flagged, word_outside, part_bare, over_runs, over_reduced, squeeze_over}
 use Rattle.ranked_gen.proofs.BareForm.{bare_form, bare_candidate, all_optimal}
 

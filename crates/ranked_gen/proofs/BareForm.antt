@@ -7,7 +7,7 @@ use Rattle.tier_core.specs.Tiers.{Tiers}
 use Rattle.tier_core.proofs.WordForm.{well_formed_from_runs}
 use Rattle.violation.specs.Candidates.{IsCandidate, IsOptimalFor}
 use Rattle.violation.specs.Conditions.{AreSplit}
-use Rattle.ranked_gen.specs.Example.{widened}
+use Rattle.ranked_gen.specs.WideColumns.{widened}
 use Rattle.ranked_gen.proofs.WidenedColumns.{all_mapped, length_over, over_runs, over_reduced, squeeze_over}
 
 -- the form with no constituent on the free tiers

@@ -8,7 +8,7 @@ use Rattle.tier_core.specs.declared.sym.Sym.TheVariants.{Outside}
 use Rattle.tier_core.specs.declared.tier.TierKind.{TierKind}
 use Rattle.tier_core.specs.Timelines.{symbol}
 use Rattle.tier_core.specs.Tiers.{is_input, numbers_from, tiers_by_kinds, kind_at}
-use Rattle.ranked_gen.specs.Example.{symbol_on, widened}
+use Rattle.ranked_gen.specs.WideColumns.{symbol_on, widened}
 use Rattle.violation.proofs.SplitLemmas.{numbers_distinct}
 use Rattle.ranked_gen.proofs.NumberedKinds.{number_at, passes}
 use Rattle.ranked_gen.proofs.WidenedColumns.{symbol_on_at, symbol_on_none, not_listed}

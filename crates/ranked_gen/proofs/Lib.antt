@@ -24,3 +24,5 @@ pub mod FlagSteps
 pub mod PickSteps
 pub mod MoveSteps
 pub mod StateSteps
+pub mod FrameSteps
+pub mod NumberSteps

@@ -60,3 +60,8 @@ all_from_members P (x ∷ xs) h = (h x (contains_first x xs), all_from_members P
 pub all_at_member : {X : Type 0} (P : X → Type 0) (xs : List X) (x : X) → AllByRecursion P xs → Contains xs x → P x
 all_at_member P [] x a h = absurd (contains_none x h)
 all_at_member P (y ∷ ys) x a h = ⊎_elim (λ e. subst P e a.0) (λ m. all_at_member P ys x a.1 m) (contains_cases y ys x h)
+
+-- a list is mapped to itself by what changes nothing
+pub map_itself : {X : Type 0} (xs : List X) → map (λ x. x) xs ≡ xs
+map_itself [] = refl
+map_itself (x ∷ xs) = ap (λ ys. x ∷ ys) (map_itself xs)

@@ -20,7 +20,7 @@ use Rattle.violation.specs.Prefixes.{is_open}
 use Rattle.violation.specs.Moves.{flag_of, form_opened, is_tier_open, input_of, FitsKind}
 use Rattle.violation.proofs.TierLemmas.{flag_in, flag_out, map_agree}
 use Rattle.violation.proofs.OpenLemmas.{prefix_open, take_word}
-use Rattle.ranked_gen.specs.Example.{symbol_on}
+use Rattle.ranked_gen.specs.WideColumns.{symbol_on}
 use Rattle.ranked_gen.specs.Arcs.{still, staying}
 use Rattle.ranked_gen.proofs.MemberLemmas.{contains_first, contains_later, all_from_members, all_at_member}
 use Rattle.ranked_gen.proofs.SymbolLemmas.{still_fits, is_still, symbol_on_still}

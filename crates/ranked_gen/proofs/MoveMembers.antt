@@ -12,7 +12,7 @@ use Rattle.violation.specs.Conditions.{AreSplit, AreDistinct}
 use Rattle.violation.specs.Counts.{choices}
 use Rattle.violation.specs.Moves.{flag_of}
 use Rattle.violation.proofs.TierLemmas.{map_agree}
-use Rattle.ranked_gen.specs.Example.{symbol_on}
+use Rattle.ranked_gen.specs.WideColumns.{symbol_on}
 use Rattle.ranked_gen.specs.Arcs.{between, is_among, symbols_at, columns_between}
 use Rattle.ranked_gen.proofs.MemberLemmas.{contains_one, contains_first, contains_cases, contains_kept, contains_of_kept}
 use Rattle.ranked_gen.proofs.ChoiceLemmas.{choices_have, choice_in, of_choice, is_choice}

@@ -1,10 +1,7 @@
 -- The columns that are picked are those between two sets of open free tiers.
-use Rattle.std.proofs.Common.{◌≡◌, ◌≢◌, ℕ, zero, suc, ◌+◌, ◌^◌, ◌||◌, ◌<◌, Bool, true, false, cond, List, [], ◌∷◌, ◌++◌, map, filter, length, get_or, refl, ap, sym, ◌∙◌, arith, append_assoc, append-nil, eq-eqb, ne_eqb}
-use Rattle.std.specs.List.{flat_map, range_with_len}
-use Rattle.std.proofs.lemmas.List.{map-append}
-use Rattle.std.proofs.lemmas.Grind.{flat_map-append}
-use Rattle.std.proofs.lemmas.Simd.{map-map}
-use Rattle.std.proofs.lemmas.List.FromFn.{map-range_with_len_more, get_or-map-range_with_len}
+use Rattle.std.proofs.Common.{◌≡◌, ◌≢◌, ℕ, zero, suc, ◌+◌, ◌^◌, ◌||◌, ◌<◌, Bool, true, false, cond, List, [], ◌∷◌, ◌++◌, map, filter, length, get_or, refl, ap, sym, ◌∙◌, arith, eq-eqb, ne_eqb}
+use Rattle.std.specs.List.{range_with_len}
+use Rattle.std.proofs.lemmas.List.FromFn.{get_or-map-range_with_len}
 use Rattle.tier_core.specs.declared.sym.Sym.{Sym}
 use Rattle.tier_core.specs.declared.sym.Sym.TheVariants.{Outside}
 use Rattle.tier_core.specs.declared.tier.TierKind.{TierKind}
@@ -15,10 +12,9 @@ use Rattle.violation.specs.Counts.{choices}
 use Rattle.violation.specs.Moves.{flag_of}
 use Rattle.ranked_gen.specs.declared.pick.Pick.{Pick}
 use Rattle.ranked_gen.specs.Numbers.{flags_of}
-use Rattle.ranked_gen.specs.Example.{symbol_on, widened}
+use Rattle.ranked_gen.specs.WideColumns.{symbol_on, widened}
 use Rattle.ranked_gen.specs.Arcs.{between, is_among, symbols_at, columns_between}
 use Rattle.ranked_gen.specs.Picks.{symbols_of, two_count, picked, symbols_by_flags}
-use Rattle.ranked_gen.proofs.RightAnswer.{map_itself}
 use Rattle.ranked_gen.proofs.PickLemmas.{ranges_agree, choices_are}
 
 -- the tiers of a kind are those whose kind passes
@@ -63,20 +59,3 @@ module _ (kinds : List TierKind) (given wide : List Sym) (free from to : ℕ) (b
       → filter has_edge (map (picked picks) (range_with_len 0 (2 ^ two_count picks))) ≡ columns_between (tiers_by_kinds kinds) given (flags_of free from) (flags_of free to)
   picked_between picks e =
       ap (filter has_edge) (sym (choices_are picks) ∙ ap choices (e ∙ ranges_agree _ _ 0 0 (length kinds) (λ i l. let zero_plus : 0 + i ≡ i = omega arith in symbols_agree (0 + i) (omega arith))))
-
-range_more : (m n : ℕ) → range_with_len m (n + 1) ≡ range_with_len m n ++ (m + n) ∷ []
-range_more m n = sym (map_itself (range_with_len m (n + 1))) ∙ map-range_with_len_more (λ k. k) m n (m + n) refl ∙ ap (λ xs. xs ++ (m + n) ∷ []) (map_itself (range_with_len m n))
-
--- the moves to one more set
-pub moves_more : {X : Type 0} (old now : List X) (f : ℕ → List X) (n : ℕ) (next : List X) → now ≡ old ++ flat_map f (range_with_len 0 n) → next ≡ now ++ f n → next ≡ old ++ flat_map f (range_with_len 0 (n + 1))
-moves_more old now f n next e h =
-    let zero_plus : 0 + n ≡ n = omega arith in
-    h ∙ ap (λ xs. xs ++ f n) e ∙ append_assoc old (flat_map f (range_with_len 0 n)) (f n)
-    ∙ ap (λ xs. old ++ xs) (sym (ap (flat_map f) (range_more 0 n) ∙ flat_map-append f (range_with_len 0 n) ((0 + n) ∷ []) ∙ ap (λ k. flat_map f (range_with_len 0 n) ++ (f k ++ [])) zero_plus ∙ ap (λ xs. flat_map f (range_with_len 0 n) ++ xs) (append-nil (f n))))
-
--- what is shown of moves that are listed set by set
-pub moves_shown : {X Y Z : Type 0} (view : Y → Z) (make : ℕ → X → Y) (columns : ℕ → List X) (os : List ℕ) → map view (flat_map (λ o. map (make o) (columns o)) os) ≡ flat_map (λ o. map (λ column. view (make o column)) (columns o)) os
-moves_shown view make columns [] = refl
-moves_shown view make columns (o ∷ os) = map-append view (map (make o) (columns o)) (flat_map (λ o. map (make o) (columns o)) os)
-    ∙ ap (λ ys. ys ++ map view (flat_map (λ o. map (make o) (columns o)) os)) (map-map view (make o) (columns o))
-    ∙ ap (λ ys. map (λ column. view (make o column)) (columns o) ++ ys) (moves_shown view make columns os)

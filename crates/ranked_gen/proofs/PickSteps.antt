@@ -1,8 +1,7 @@
 -- Symbols to pick from, and columns, that are laid out by tier.
-use Rattle.std.proofs.Common.{◌≡◌, ℕ, suc, ◌+◌, ◌<◌, ◌≤◌, Bool, true, false, cond, List, [], ◌∷◌, ◌++◌, map, filter, take, drop, length, get_or, set, refl, ap, sym, ◌∙◌, subst, arith, drop-cons, count_by, append_assoc, append-nil}
+use Rattle.std.proofs.Common.{◌≡◌, ℕ, suc, ◌+◌, ◌<◌, ◌≤◌, List, [], ◌∷◌, ◌++◌, map, take, drop, length, get_or, set, refl, ap, sym, ◌∙◌, subst, arith, drop-cons, count_by, append_assoc, append-nil}
 use Rattle.std.specs.List.{range_with_len}
 use Rattle.std.proofs.Math.Seq.{take-suc-set, drop-length}
-use Rattle.std.proofs.lemmas.List.Elements.{filter-append}
 use Rattle.std.proofs.lemmas.List.{map-append, length-set, length-drop}
 use Rattle.std.proofs.lemmas.List.FromFn.{map-range_with_len_more}
 use Rattle.tier_core.specs.declared.sym.Sym.{Sym}
@@ -77,20 +76,3 @@ picking_more picks number tier left next syms s p l few e is =
 pub picking_all : (picks : List Pick) (number tier left : ℕ) (syms : List Sym) → IsPicking picks number tier left syms → tier ≡ length picks → take (length picks) syms ≡ picked picks number
 picking_all picks number tier left syms p e =
     sym (append-nil (take (length picks) syms)) ∙ ap (λ xs. take (length picks) syms ++ picked xs number) (sym (drop-length picks)) ∙ ap (λ n. take n syms ++ picked (drop n picks) number) (sym e) ∙ p.done
-
--- columns that pass are shown one after the other
-pub columns_pass : {Y : Type 0} (old now : List Y) (g : List Sym → Y) (test : List Sym → Bool) (h : ℕ → List Sym) (n : ℕ) (next : List Y)
-    → now ≡ old ++ map g (filter test (map h (range_with_len 0 n))) → test (h n) ≡ true → next ≡ now ++ g (h n) ∷ [] → next ≡ old ++ map g (filter test (map h (range_with_len 0 (n + 1))))
-columns_pass old now g test h n next e t f =
-    let zero_plus : 0 + n ≡ n = omega arith in
-    let more : filter test (map h (range_with_len 0 (n + 1))) ≡ filter test (map h (range_with_len 0 n)) ++ h n ∷ [] =
-    ap (filter test) (map-range_with_len_more h 0 n n zero_plus) ∙ filter-append test (map h (range_with_len 0 n)) (h n ∷ []) ∙ ap (λ b. filter test (map h (range_with_len 0 n)) ++ cond b (h n ∷ []) []) t in
-    f ∙ ap (λ xs. xs ++ g (h n) ∷ []) e ∙ append_assoc old _ _ ∙ ap (λ xs. old ++ xs) (sym (ap (map g) more ∙ map-append g (filter test (map h (range_with_len 0 n))) (h n ∷ [])))
-
-pub columns_fail : {Y : Type 0} (old now : List Y) (g : List Sym → Y) (test : List Sym → Bool) (h : ℕ → List Sym) (n : ℕ)
-    → now ≡ old ++ map g (filter test (map h (range_with_len 0 n))) → test (h n) ≡ false → now ≡ old ++ map g (filter test (map h (range_with_len 0 (n + 1))))
-columns_fail old now g test h n e t =
-    let zero_plus : 0 + n ≡ n = omega arith in
-    let more : filter test (map h (range_with_len 0 (n + 1))) ≡ filter test (map h (range_with_len 0 n)) =
-    ap (filter test) (map-range_with_len_more h 0 n n zero_plus) ∙ filter-append test (map h (range_with_len 0 n)) (h n ∷ []) ∙ ap (λ b. filter test (map h (range_with_len 0 n)) ++ cond b (h n ∷ []) []) t ∙ append-nil _ in
-    e ∙ ap (λ xs. old ++ map g xs) (sym more)

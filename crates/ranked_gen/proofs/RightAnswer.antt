@@ -19,7 +19,7 @@ use Rattle.answer_text.specs.Right.{kinds_at, nodes_at, numbers_of, IsRightStage
 use Rattle.ranked_gen.specs.Numbers.{number_of_kind, kind_numbered}
 use Rattle.ranked_gen.specs.Listed.{kind_count, IsNodeNumbered, AreNumbered}
 use Rattle.ranked_gen.proofs.NumberLemmas.{kind_numbered-number, number-kind_numbered}
-use Rattle.ranked_gen.proofs.MemberLemmas.{all_from_members}
+use Rattle.ranked_gen.proofs.MemberLemmas.{map_itself, all_from_members}
 use Rattle.ranked_gen.proofs.Ascending.{sorted_from, ascends_range, in_range, range_has}
 use Rattle.ranked_gen.proofs.AutomatonMoves.{numbered_member, IsLineNumbered, IsWithin, number_within, numbered_within, accepted_candidate, candidate_accepted, kind_within, prefix_leads}
 use Rattle.ranked_gen.proofs.BareForm.{all_optimal}
@@ -36,10 +36,6 @@ pub numbered_get : {X : Type 0} (P : ℕ → X → Type 0) (n : ℕ) (xs : List 
 numbered_get P n [] i a l = absurd (omega arith)
 numbered_get P n (x ∷ xs) zero a l = let here : n ≡ n + 0 = omega arith in (x, (refl, subst (λ k. P k x) here a.0))
 numbered_get P n (x ∷ xs) (suc i) a l = let r = numbered_get P (n + 1) xs i a.1 (omega arith) in let here : (n + 1) + i ≡ n + suc i = omega arith in (r.0, (r.1.0, subst (λ k. P k r.0) here r.1.1))
-
-pub map_itself : {X : Type 0} (xs : List X) → map (λ x. x) xs ≡ xs
-map_itself [] = refl
-map_itself (x ∷ xs) = ap (λ ys. x ∷ ys) (map_itself xs)
 
 module _ (tiers : Tiers) (split : AreSplit tiers) (distinct : AreDistinct tiers.free) (u : List (List Sym)) (form : IsForm tiers u)
     (nodes : List Node) (node_count : length nodes ≡ kind_count tiers u) (each_node : AreNumbered (IsNodeNumbered tiers) 0 nodes) where

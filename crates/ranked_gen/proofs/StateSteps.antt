@@ -1,10 +1,9 @@
 -- Kinds by their place and their set of open free tiers.
-use Rattle.std.proofs.Common.{◌≡◌, ◌≢◌, ℕ, zero, suc, ◌+◌, ◌*◌, ◌^◌, ◌==◌, ◌&&◌, not, ◌<◌, ◌≤◌, Bool, true, false, cond, List, [], ◌∷◌, ◌++◌, map, length, take, get_or, count_by, refl, ap, sym, ◌∙◌, subst, arith, ne_eqb, mod-eq_of_lt, append-nil}
-use Rattle.std.specs.List.{list_any, range_with_len}
-use Rattle.std.proofs.lemmas.Nat.{pow_pos, div-mul-add}
-use Rattle.std.proofs.lemmas.Bool.{le-ltb, lt-ltb}
+use Rattle.std.proofs.Common.{◌≡◌, ℕ, zero, suc, ◌+◌, ◌*◌, ◌^◌, ◌<◌, ◌≤◌, Bool, true, false, cond, List, [], ◌∷◌, ◌++◌, map, length, take, get_or, count_by, refl, ap, sym, ◌∙◌, subst, arith}
+use Rattle.std.specs.List.{range_with_len}
+use Rattle.std.proofs.lemmas.Nat.{div-mul-add}
 use Rattle.std.proofs.Math.Nat.{mul-le-mul, pow-le-pow_right}
-use Rattle.std.proofs.lemmas.List.{length-map, get_or-map, length_push, length-take-le, get_or-take, map-append}
+use Rattle.std.proofs.lemmas.List.{length-map, get_or-map, length_push, length-take-le, get_or-take}
 use Rattle.std.proofs.lemmas.List.FromFn.{fill_by_all, length-map-range_with_len}
 use Rattle.std.proofs.lemmas.Simd.{map-map}
 use Rattle.tier_core.specs.declared.sym.Sym.{Sym}
@@ -17,31 +16,19 @@ use Rattle.tier_core.proofs.WordLemmas.{open_at}
 use Rattle.tier_core.proofs.WordForm.{runs_from_well_formed}
 use Rattle.violation.specs.Candidates.{IsForm}
 use Rattle.violation.specs.Prefixes.{is_open}
-use Rattle.violation.specs.Moves.{is_final, form_opened}
+use Rattle.violation.specs.Moves.{form_opened}
 use Rattle.violation.proofs.OpenLemmas.{prefix_open, take_word}
 use Rattle.answer_text.specs.declared.stage.Node.{Node}
 use Rattle.weight_law.specs.declared.Weight.{Ghosts}
 use Rattle.arc_table.specs.declared.state.TableState.{TableState}
-use Rattle.ranked_gen.specs.Numbers.{number_of_flags, flags_of, kind_numbered}
-use Rattle.ranked_gen.specs.Arcs.{still, staying, moves_with, moves_from}
-use Rattle.ranked_gen.specs.Listed.{move_view, IsNodeNumbered, IsStateNumbered, AreNumbered, AreListed}
-use Rattle.ranked_gen.proofs.NumberLemmas.{flags_of-low, number-flags_of, same_kind, kind_from}
+use Rattle.ranked_gen.specs.Numbers.{flags_of, kind_numbered}
+use Rattle.ranked_gen.specs.Arcs.{still, staying}
+use Rattle.ranked_gen.specs.Listed.{IsNodeNumbered, IsStateNumbered, AreNumbered, AreListed}
+use Rattle.ranked_gen.proofs.NumberLemmas.{flags_of-low, same_kind, kind_from}
 
 -- the kind of a place and a set
 pub kind_at_place : (f place opened : ℕ) → opened < 2 ^ f → kind_numbered f (place * 2 ^ f + opened) ≡ kind_from place (flags_of f opened) []
 kind_at_place f place opened l = same_kind (div-mul-add place (2 ^ f) opened l) (flags_of-low f f place opened (omega arith)) refl
-
--- no flag is set where the number is 0
-none_set : (flags : List Bool) → not (list_any (λ flag. flag) flags) ≡ (number_of_flags flags == 0)
-none_set [] = refl
-none_set (true ∷ flags) = let other : 2 ^ length flags + number_of_flags flags ≢ 0 = λ e. absurd (omega (arith, pow_pos (length flags))) in sym (ne_eqb (2 ^ length flags + number_of_flags flags) 0 other)
-none_set (false ∷ flags) = let same : number_of_flags flags ≡ 0 + number_of_flags flags = omega arith in none_set flags ∙ ap (λ n. n == 0) same
-
--- a kind is final at the end of the form with no tier open
-pub final_at : (u : List (List Sym)) (f place opened : ℕ) → opened < 2 ^ f → ((place == length u) && (opened == 0)) ≡ is_final u (kind_numbered f (place * 2 ^ f + opened))
-final_at u f place opened l =
-    sym (ap (is_final u) (kind_at_place f place opened l)
-    ∙ ap (λ b. (place == length u) && b) (none_set (flags_of f opened) ∙ ap (λ n. n == 0) (number-flags_of f opened ∙ mod-eq_of_lt l)))
 
 -- how many tiers pass
 pub numbers_count : {X : Type 0} (test : X → Bool) (n : ℕ) (xs : List X) → length (numbers_from test n xs) ≡ count_by test xs
@@ -109,31 +96,10 @@ first_small place free l h =
     let times : place * 2 ^ free ≤ 65 * 2 ^ 12 = mul-le-mul l power in
     (omega arith, omega arith)
 
--- the arcs of a kind, with and without a next column of the form
-module _ (tiers : Tiers) (u : List (List Sym)) (free place opened : ℕ) (count : free ≡ length tiers.free) (small : opened < 2 ^ free) where
-  pub arcs_end : (view : List (ℕ × List ℕ)) → view ≡ [] ++ map move_view (moves_with tiers (staying tiers u place) (flags_of free opened) (place * 2 ^ free)) → length u ≤ place
-      → view ≡ map move_view (moves_from tiers u (kind_numbered free (place * 2 ^ free + opened)))
-  arcs_end view e l =
-      e ∙ ap (map move_view) (ap (λ f. moves_with tiers (staying tiers u place) (flags_of free opened) (place * 2 ^ f)) count ∙ sym (append-nil _)
-      ∙ ap (λ b. moves_with tiers (staying tiers u place) (flags_of free opened) (place * 2 ^ length tiers.free) ++ cond b (moves_with tiers (column_at u place) (flags_of free opened) ((place + 1) * 2 ^ length tiers.free)) []) (sym (le-ltb place (length u) l))
-      ∙ ap (moves_from tiers u) (sym (kind_at_place free place opened small)))
-
-  pub arcs_on : (view now : List (ℕ × List ℕ)) → now ≡ [] ++ map move_view (moves_with tiers (staying tiers u place) (flags_of free opened) (place * 2 ^ free))
-      → view ≡ now ++ map move_view (moves_with tiers (column_at u place) (flags_of free opened) ((place + 1) * 2 ^ free)) → place < length u
-      → view ≡ map move_view (moves_from tiers u (kind_numbered free (place * 2 ^ free + opened)))
-  arcs_on view now e g l =
-      g ∙ ap (λ xs. xs ++ map move_view (moves_with tiers (column_at u place) (flags_of free opened) ((place + 1) * 2 ^ free))) e
-      ∙ sym (map-append move_view (moves_with tiers (staying tiers u place) (flags_of free opened) (place * 2 ^ free)) (moves_with tiers (column_at u place) (flags_of free opened) ((place + 1) * 2 ^ free)))
-      ∙ ap (map move_view) (ap (λ f. moves_with tiers (staying tiers u place) (flags_of free opened) (place * 2 ^ f) ++ moves_with tiers (column_at u place) (flags_of free opened) ((place + 1) * 2 ^ f)) count
-      ∙ ap (λ b. moves_with tiers (staying tiers u place) (flags_of free opened) (place * 2 ^ length tiers.free) ++ cond b (moves_with tiers (column_at u place) (flags_of free opened) ((place + 1) * 2 ^ length tiers.free)) []) (sym (lt-ltb place (length u) l))
-      ∙ ap (moves_from tiers u) (sym (kind_at_place free place opened small)))
-
--- a node and a state over the number of free tiers that is counted
-pub node_counted : (tiers : Tiers) (free place opened mask : ℕ) → free ≡ length tiers.free → opened < 2 ^ free → map (has_tier mask) (range_with_len 0 free) ≡ flags_of free opened
-    → kind_from place (map (has_tier mask) (range_with_len 0 (length tiers.free))) [] ≡ kind_numbered (length tiers.free) (place * 2 ^ free + opened)
-node_counted tiers free place opened mask count l e =
-    let P : ℕ → Type 0 = λ f. kind_from place (map (has_tier mask) (range_with_len 0 f)) [] ≡ kind_numbered f (place * 2 ^ free + opened) in
-    subst P count (ap (λ o. kind_from place o []) e ∙ sym (kind_at_place free place opened l))
+-- the bits of a mask are those of the kind of its flags
+pub kind_counted : (free place opened mask : ℕ) → opened < 2 ^ free → map (has_tier mask) (range_with_len 0 free) ≡ flags_of free opened
+    → kind_from place (map (has_tier mask) (range_with_len 0 free)) [] ≡ kind_numbered free (place * 2 ^ free + opened)
+kind_counted free place opened mask l e = ap (λ o. kind_from place o []) e ∙ sym (kind_at_place free place opened l)
 
 pub nothing_listed : {W : Type 0} {g : Ghosts W} (tiers : Tiers) (u : List (List Sym)) (n : ℕ) → n ≡ 0 → AreListed {W = W} {g = g} tiers u n [] []
 nothing_listed {W} {g} tiers u n e = record { node_count = sym e; each_node = tt; state_count = sym e; each_state = tt }

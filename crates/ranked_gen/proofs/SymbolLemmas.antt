@@ -7,7 +7,7 @@ use Rattle.tier_core.specs.Orders.{sym_cmp}
 use Rattle.tier_core.specs.Scan.{fits, opens}
 use Rattle.tier_core.specs.Timelines.{is_edge}
 use Rattle.violation.specs.Moves.{flag_of}
-use Rattle.ranked_gen.specs.Example.{symbol_on}
+use Rattle.ranked_gen.specs.WideColumns.{symbol_on}
 use Rattle.ranked_gen.specs.Arcs.{between, still, is_among}
 use Rattle.ranked_gen.proofs.MemberLemmas.{contains_none, contains_first, contains_later, contains_cases, contains_one}
 use Rattle.ranked_gen.proofs.Ascending.{Ascends}

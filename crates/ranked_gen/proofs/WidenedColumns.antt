@@ -13,7 +13,7 @@ use Rattle.tier_core.proofs.WordLemmas.{runs}
 use Rattle.tier_core.proofs.WordForm.{runs_from_well_formed}
 use Rattle.tier_core.specs.Tiers.{Tiers}
 use Rattle.violation.specs.Conditions.{AreDistinct, AreSplit}
-use Rattle.ranked_gen.specs.Example.{symbol_on}
+use Rattle.ranked_gen.specs.WideColumns.{symbol_on}
 
 -- one symbol on the tiers of the flags, and a column of the form on the input tiers elsewhere
 abbrev pub over : Tiers → (ℕ → Bool) → Sym → List Sym → List Sym

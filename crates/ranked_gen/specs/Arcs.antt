@@ -9,7 +9,7 @@ use Rattle.tier_core.specs.Tiers.{Tiers}
 use Rattle.tier_core.specs.Kinds.{PrefixKind}
 use Rattle.violation.specs.Counts.{choices}
 use Rattle.violation.specs.Moves.{flag_of, form_opened}
-use Rattle.ranked_gen.specs.Example.{symbol_on}
+use Rattle.ranked_gen.specs.WideColumns.{symbol_on}
 use Rattle.ranked_gen.specs.Numbers.{flags_of}
 
 -- the symbols of a free tier that is open before a column or not, and after it or not

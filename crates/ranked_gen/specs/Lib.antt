@@ -1,7 +1,8 @@
-pub mod Example
+pub mod WideColumns
 pub mod Numbers
 pub mod Arcs
 pub mod Listed
 pub mod Lines
+pub mod FrameMoves
 pub mod Picks
 pub mod Budgets

@@ -1,10 +1,8 @@
 -- The lines that an answer has for the states of a table.
 use Rattle.std.specs.Prelude.{ℕ, ◌≡◌, List, length, map}
-use Rattle.tier_core.specs.declared.sym.Sym.{Sym}
 use Rattle.weight_law.specs.declared.Weight.{Ghosts}
 use Rattle.arc_table.specs.declared.state.TableState.{TableState}
 use Rattle.arc_table.specs.Moves.{moves_at, accepting_at}
-use Rattle.arc_table.specs.Runs.{Accepts}
 use Rattle.answer_text.specs.declared.automaton.StateLine.{StateLine}
 use Rattle.ranked_gen.specs.Listed.{arc_view, table_view, AreNumbered}
 
@@ -18,7 +16,3 @@ pub record IsLineOf {W : Type 0} {g : Ghosts W} (states : List (TableState W g))
 pub record AreLines {W : Type 0} {g : Ghosts W} (states : List (TableState W g)) (count : ℕ) (lines : List StateLine) : Type 0 where
   pub line_count : length lines ≡ count
   pub each_line : AreNumbered (IsLineOf states) 0 lines
-
--- some timeline is accepted
-abbrev pub AcceptsSome : {W : Type 0} {g : Ghosts W} → List (TableState W g) → Type 0
-AcceptsSome states = (timeline : List (List Sym)) × Accepts states timeline

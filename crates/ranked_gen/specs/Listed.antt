@@ -1,10 +1,11 @@
 -- What the generator lists where no constraint is ranked: a node and a state for each number of a
 -- kind, and the moves of the kind as the arcs of its state.
-use Rattle.std.specs.Prelude.{ℕ, ◌+◌, ◌*◌, ◌^◌, ◌≡◌, List, [], ◌∷◌, length, map}
+use Rattle.std.specs.Prelude.{ℕ, ◌+◌, ◌*◌, ◌^◌, ◌≡◌, ◌<◌, List, [], ◌∷◌, length, map}
 use Rattle.tier_core.specs.declared.sym.Sym.{Sym}
 use Rattle.tier_core.specs.Tiers.{Tiers}
 use Rattle.tier_core.specs.Sets.{single_set}
 use Rattle.tier_core.specs.Classes.{sets_of}
+use Rattle.tier_core.specs.declared.kind.Kind.{Kind}
 use Rattle.tier_core.specs.Kinds.{prefix_kind}
 use Rattle.violation.specs.Moves.{is_final}
 use Rattle.answer_text.specs.declared.stage.Node.{Node}
@@ -30,6 +31,13 @@ arc_view arc = (arc.target, sets_of arc.class)
 -- a move, with the class of its column alone
 abbrev pub move_view : ℕ × List Sym → ℕ × List ℕ
 move_view m = (m.0, map single_set m.1)
+
+-- the bits of the kind of a number
+pub record IsKindNumbered (f n : ℕ) (kind : Kind) : Type 0 where
+  pub is : prefix_kind f 0 kind ≡ kind_numbered f n
+  pub within : kind.opened < 2 ^ f
+  pub no_unmet : kind.unmet ≡ 0
+  pub no_met : kind.met ≡ 0
 
 -- the node of the kind of a number
 pub record IsNodeNumbered (tiers : Tiers) (n : ℕ) (node : Node) : Type 0 where

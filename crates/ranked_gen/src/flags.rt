@@ -1,10 +1,21 @@
 ghost use Rattle.std.specs.Prelude.{◌≡◌, ◌<◌, ◌≤◌, ◌^◌, ℕ, length, map, slice_index_or, false};
+ghost use Rattle.std.specs.Int.{bit_at};
 ghost use Rattle.std.specs.List.{range_with_len};
-ghost use Rattle.tier_core.specs.Tiers.{is_free, has_tier, numbers_from};
+ghost use Rattle.tier_core.specs.Tiers.{is_free, is_input, has_tier, numbers_from};
 ghost use Rattle.violation.specs.Moves.{flag_of};
 ghost use Rattle.ranked_gen.specs.Numbers.{flags_of};
 
 use tier_core::TierKind;
+
+/// Whether a tier is an input tier.
+pub(crate) fn is_input(kind: TierKind) -> bool
+    ensures { result ≡ is_input kind }
+{
+    match kind {
+        TierKind::Input => true,
+        TierKind::Overt | TierKind::Hidden => false,
+    }
+}
 
 /// Whether a tier is free.
 pub(crate) fn is_free(kind: TierKind) -> bool
@@ -22,6 +33,15 @@ fn has_bit(number: u32, bit: u32) -> bool
     ensures { result ≡ has_tier number bit }
 {
     (number >> bit) & 1 == 1
+}
+
+/// The bit of a number: 1 where it is set, and else 0.
+pub(crate) fn bit_of(number: u32, bit: u32) -> u32
+    requires { bit < 32 }
+    ensures value { result ≡ bit_at number bit }
+    ensures few { result ≤ 1 }
+{
+    (number >> bit) & 1
 }
 
 /// The flags of a number, one for each free tier, laid out by tier: an input tier has none.

@@ -1,28 +1,23 @@
-ghost use Rattle.std.specs.Prelude.{◌≡◌, ◌≤◌, ℕ, [], ◌∷◌, length, Err, IfOk};
-ghost use Rattle.tier_core.specs.Orders.{IsFirst};
+ghost use Rattle.std.specs.Prelude.{◌≡◌, ◌≤◌, ◌*◌, ◌^◌, ℕ, [], ◌∷◌, length, Err, IfOk};
 ghost use Rattle.tier_core.specs.Tables.{tiers_of_table};
 ghost use Rattle.tier_core.specs.Tiers.{is_free, is_input, numbers_from};
 ghost use Rattle.violation.specs.Candidates.{IsForm};
 ghost use Rattle.answer_text.specs.Right.{IsRight};
-ghost use Rattle.arc_table.specs.Runs.{Accepts};
-ghost use Rattle.arc_table.specs.States.{states_of};
+ghost use Rattle.kind_moves.specs.Frames.{tiers_in, form_in};
 ghost use Rattle.ranked_gen.specs.Budgets.{AreAllWithin, IsFirstOver};
-ghost use Rattle.ranked_gen.specs.Lines.{AcceptsSome};
 ghost use Rattle.ranked_gen.specs.Listed.{AreListed, kind_count};
 
-use crate::example::{copied, is_input};
-use crate::flags::is_free;
+use crate::flags::{is_free, is_input};
 use crate::gen_err::GenErr;
 use crate::lines::state_lines;
 use crate::place::{Listing, list_place};
-use crate::state::first_number;
 use answer_text::{Answer, Automaton, Stage};
 use arc_table::Table;
 use first_paths::first;
 use grammar_reader::Grammar;
+use kind_moves::Frame;
 use std::alloc::Global;
-use tier_core::{NoMemory, TierKind, TierTable, Timeline};
-use weight_law::UnitWeight;
+use tier_core::{NoMemory, TierKind, Timeline};
 
 /// How many tiers are input tiers.
 pub(crate) fn count_inputs(kinds: &[TierKind]) -> usize
@@ -40,28 +35,30 @@ fn count_free(kinds: &[TierKind]) -> usize
     kinds.iter().filter(|kind| is_free(**kind)).count()
 }
 
-/// Lists all kinds: each place of the form with each set of open free tiers.
-fn list_all(
-    alloc: Global,
-    tiers: &TierTable,
-    inputs: usize,
-    free: u32,
-    form: &Timeline,
-) -> Result<Listing, NoMemory>
-    requires form { IsForm (tiers_of_table tiers.now) form.now }
-    requires short { length form.now ≤ 64 }
-    requires input_count { inputs ≡ length (tiers_of_table tiers.now).input }
-    requires few_inputs { inputs ≤ 12 }
-    requires count { free ≡ length (tiers_of_table tiers.now).free }
+/// How many kinds so many places have, one for each set of open free tiers.
+fn count_kinds(places: u32, free: u32) -> u32
+    requires places { places ≤ 65 }
     requires few { free ≤ 12 }
-    ensures { IfOk result (λ listing. AreListed (tiers_of_table tiers.now) form.now (kind_count (tiers_of_table tiers.now) form.now) listing.nodes.items listing.states.items) }
+    ensures { result ≡ places * 2 ^ free }
+{
+    places << free
+}
+
+/// Lists all kinds: each place of the form with each set of open free tiers.
+fn list_all(alloc: Global, frame: &Frame, inputs: usize, free: u32) -> Result<Listing, NoMemory>
+    requires form { IsForm (tiers_in frame.now) (form_in frame.now) }
+    requires input_count { inputs ≡ length (tiers_in frame.now).input }
+    requires few_inputs { inputs ≤ 12 }
+    requires count { free ≡ length (tiers_in frame.now).free }
+    requires few { free ≤ 12 }
+    ensures { IfOk result (λ listing. AreListed (tiers_in frame.now) (form_in frame.now) (kind_count (tiers_in frame.now) (form_in frame.now)) listing.nodes.items listing.states.items) }
 {
     let mut listing = Listing {
         nodes: Vec::new(alloc),
         states: Vec::new(alloc),
     };
-    for place in 0..form.len() as u32 + 1 {
-        list_place(alloc, tiers, inputs, free, form, place, &mut listing)?;
+    for place in 0..frame.form.len() as u32 + 1 {
+        list_place(alloc, frame, inputs, free, place, &mut listing)?;
     }
     Ok(listing)
 }
@@ -77,45 +74,59 @@ fn one_stage(alloc: Global, stage: Stage) -> Result<Vec<Stage>, NoMemory>
     }
 }
 
-/// The first of the timelines that a table accepts, which are some.
-fn first_of(alloc: Global, table: &Table<UnitWeight>) -> Result<Timeline, NoMemory>
-    requires { AcceptsSome (states_of table.now) }
-    ensures { IfOk result (IsFirst (Accepts (states_of table.now))) }
+/// The same timeline once more. It fails only for want of memory.
+fn copied(alloc: Global, timeline: &Timeline) -> Result<Timeline, NoMemory>
+    ensures { IfOk result (λ t. t ≡ timeline.now) }
 {
-    match first(alloc, table)? {
-        Some(timeline) => Ok(timeline),
-        None => unreachable!(),
+    let mut copy = Timeline::new(alloc);
+    for column in timeline.columns() {
+        if copy.push(column.copied(alloc)).is_err() {
+            return Err(NoMemory);
+        }
     }
+    Ok(copy)
+}
+
+/// A right answer where no constraint is ranked, for the form of a frame. It fails only for want of
+/// memory.
+fn answer_in(alloc: Global, frame: &Frame, free: u32) -> Result<Answer, NoMemory>
+    requires form { IsForm (tiers_in frame.now) (form_in frame.now) }
+    requires count { free ≡ length (tiers_in frame.now).free }
+    requires few { free ≤ 12 }
+    ensures { IfOk result (λ answer. IsRight (tiers_in frame.now) [] (form_in frame.now) answer) }
+{
+    let own = copied(alloc, frame.form)?;
+    let inputs = count_inputs(frame.grammar.tiers.kinds.as_slice());
+    let Listing { nodes, states } = list_all(alloc, frame, inputs, free)?;
+    let table = Table::of_states(states);
+    let found = first(alloc, &table)?;
+    let lines = state_lines(alloc, &table)?;
+    let stages = one_stage(alloc, Stage { nodes })?;
+    Ok(Answer {
+        form: own,
+        counts: Vec::new(alloc),
+        example: found.unwrap(),
+        stages,
+        automaton: Automaton { states: lines },
+    })
 }
 
 /// A right answer where no constraint is ranked, for a form that is well formed and reduced over the
 /// input tiers. It fails only for want of memory.
 fn answer_free(
     alloc: Global,
-    tiers: &TierTable,
+    grammar: &Grammar,
     free: u32,
     form: &Timeline,
 ) -> Result<Answer, NoMemory>
-    requires form { IsForm (tiers_of_table tiers.now) form.now }
+    requires form { IsForm (tiers_of_table grammar.now.tiers) form.now }
     requires short { length form.now ≤ 64 }
-    requires count { free ≡ length (tiers_of_table tiers.now).free }
+    requires count { free ≡ length (tiers_of_table grammar.now.tiers).free }
     requires few { free ≤ 12 }
-    ensures { IfOk result (λ answer. IsRight (tiers_of_table tiers.now) [] form.now answer) }
+    ensures { IfOk result (λ answer. IsRight (tiers_of_table grammar.now.tiers) [] form.now answer) }
 {
-    let own = copied(alloc, form)?;
-    let inputs = count_inputs(tiers.kinds.as_slice());
-    let Listing { nodes, states } = list_all(alloc, tiers, inputs, free, form)?;
-    let table = Table::of_states(states);
-    let lines = state_lines(alloc, &table)?;
-    let example = first_of(alloc, &table)?;
-    let stages = one_stage(alloc, Stage { nodes })?;
-    Ok(Answer {
-        form: own,
-        counts: Vec::new(alloc),
-        example,
-        stages,
-        automaton: Automaton { states: lines },
-    })
+    let frame = Frame::new(alloc, grammar, form)?;
+    answer_in(alloc, &frame, free)
 }
 
 /// The right answer for a grammar and a form, in which no stage has more kinds of prefix than the
@@ -138,11 +149,10 @@ pub fn generate(
     ensures within { IfOk result (λ answer. AreAllWithin (tiers_of_table grammar.now.tiers) grammar.now.constraints.items form.now budget) }
     ensures over { (stage : ℕ) → result ≡ Err (GenErr.Budget stage) → IsFirstOver (tiers_of_table grammar.now.tiers) grammar.now.constraints.items form.now budget stage }
 {
-    let tiers = &grammar.tiers;
-    let free = count_free(tiers.kinds.as_slice()) as u32;
-    let kinds = first_number(form.len() as u32 + 1, free);
+    let free = count_free(grammar.tiers.kinds.as_slice()) as u32;
+    let kinds = count_kinds(form.len() as u32 + 1, free);
     if kinds > budget {
         return Err(GenErr::Budget { stage: 0 });
     }
-    answer_free(alloc, tiers, free, form).map_err(|_| GenErr::NoMemory)
+    answer_free(alloc, grammar, free, form).map_err(|_| GenErr::NoMemory)
 }

@@ -1,19 +1,22 @@
-ghost use Rattle.std.specs.Prelude.{◌≡◌, ◌<◌, ◌≤◌, ◌+◌, ◌^◌, ◌++◌, ◌∷◌, [], length, map, take, filter, OnOk};
+ghost use Rattle.std.specs.Prelude.{◌≡◌, ◌<◌, ◌≤◌, ◌+◌, ◌^◌, ◌++◌, ◌∷◌, [], length, map, take, filter, IsTrue, OnOk};
 ghost use Rattle.std.specs.List.{range_with_len};
 ghost use Rattle.tier_core.specs.Sets.{single_set};
 ghost use Rattle.tier_core.specs.Timelines.{has_edge};
-ghost use Rattle.tier_core.specs.Tiers.{is_free, has_tier, numbers_from, tiers_by_kinds};
+ghost use Rattle.tier_core.specs.Tiers.{has_tier, tiers_by_kinds};
+ghost use Rattle.kind_moves.specs.Frames.{tiers_in, FitsAt, FitsFrame};
 ghost use Rattle.ranked_gen.specs.Numbers.{flags_of};
-ghost use Rattle.ranked_gen.specs.Arcs.{moves_with};
-ghost use Rattle.ranked_gen.specs.Listed.{table_view, move_view};
+ghost use Rattle.ranked_gen.specs.FrameMoves.{AllFit, arc_by, columns_from};
+ghost use Rattle.ranked_gen.specs.Listed.{move_view, table_view};
 ghost use Rattle.ranked_gen.specs.Picks.{symbols_of, two_count, picked, symbols_by_flags, symbol_by_bit, bits_of};
 
-use crate::example::{is_input, widened};
-use crate::flags::flags_by_tier;
+use crate::flags::{flags_by_tier, is_input};
+use crate::number::number_of;
 use crate::pick::Pick;
+use crate::wide_column::widened;
 use arc_table::TableArc;
+use kind_moves::Frame;
 use std::alloc::Global;
-use tier_core::{Class, Column, NoMemory, Sym, TierKind, has_edge};
+use tier_core::{Class, Column, Kind, NoMemory, Sym, TierKind};
 use weight_law::UnitWeight;
 
 /// The symbols to pick from on one tier.
@@ -122,52 +125,78 @@ fn push_arc(
     }
 }
 
-/// Adds an arc to a target for each column that can be picked and has an edge.
+/// Adds an arc for a column that fits a kind, to the kind that it leads to, and none for a column
+/// that does not fit.
+fn push_move(
+    arcs: &mut Vec<TableArc<UnitWeight>>,
+    frame: &Frame,
+    free: u32,
+    kind: &Kind,
+    column: &Column,
+) -> Result<(), NoMemory>
+    requires count { free ≡ length (tiers_in frame.now).free }
+    requires few { free ≤ 12 }
+    requires fits { FitsFrame frame.now 0 kind.now }
+    requires width { length column.now ≡ (tiers_in frame.now).width }
+    requires edge { IsTrue (has_edge column.now) → FitsAt frame.now 0 kind.now column.now }
+    ensures { OnOk result (map table_view arcs.new.items ≡ map table_view arcs.old.items ++ map (arc_by frame.now kind.now) (filter has_edge (column.now ∷ []))) }
+{
+    match frame.moved(0, kind, column) {
+        Some(next) => push_arc(arcs, number_of(&next, free), column),
+        None => Ok(()),
+    }
+}
+
+/// Adds the arcs for the columns that can be picked and fit a kind.
 fn push_columns(
     alloc: Global,
     arcs: &mut Vec<TableArc<UnitWeight>>,
+    frame: &Frame,
+    free: u32,
+    kind: &Kind,
     picks: &[Pick],
-    target: u32,
 ) -> Result<(), NoMemory>
-    requires some { 1 ≤ length picks.now }
-    requires few { length picks.now ≤ 12 }
-    ensures { OnOk result (map table_view arcs.new.items ≡ map table_view arcs.old.items ++ map (λ column. move_view (target, column)) (filter has_edge (map (picked picks.now) (range_with_len 0 (2 ^ two_count picks.now))))) }
+    requires count { free ≡ length (tiers_in frame.now).free }
+    requires few { free ≤ 12 }
+    requires fits { FitsFrame frame.now 0 kind.now }
+    requires width { length picks.now ≡ (tiers_in frame.now).width }
+    requires edges { AllFit frame.now kind.now (filter has_edge (map (picked picks.now) (range_with_len 0 (2 ^ two_count picks.now)))) }
+    ensures { OnOk result (map table_view arcs.new.items ≡ map table_view arcs.old.items ++ map (arc_by frame.now kind.now) (filter has_edge (map (picked picks.now) (range_with_len 0 (2 ^ two_count picks.now))))) }
 {
     let twos = two_count(picks);
     for number in 0..1u32 << twos {
         let column = picked(alloc, picks, twos, number);
-        if has_edge(&column) {
-            push_arc(arcs, target, &column)?;
-        }
+        push_move(arcs, frame, free, kind, &column)?;
     }
     Ok(())
 }
 
-/// Adds the arcs for the moves with given symbols on the input tiers, from a set of open free tiers
-/// to each set, where the first of these has the number `first`.
+/// Adds the arcs for the moves of a kind with given symbols on the input tiers, from its set of open
+/// free tiers, which has the number `opened`, to each set.
 pub(crate) fn push_moves(
     alloc: Global,
     arcs: &mut Vec<TableArc<UnitWeight>>,
-    kinds: &[TierKind],
+    frame: &Frame,
     free: u32,
-    given: &[Sym],
+    kind: &Kind,
     opened: u32,
-    first: u32,
+    given: &[Sym],
 ) -> Result<(), NoMemory>
-    requires some { 1 ≤ length kinds.now }
-    requires few { length kinds.now ≤ 12 }
-    requires count { free ≡ length (numbers_from is_free 0 kinds.now) }
-    requires wide { length given.now ≡ length (tiers_by_kinds kinds.now).input }
-    requires numbers { first + 2 ^ free < 2 ^ 32 }
-    ensures { OnOk result (map table_view arcs.new.items ≡ map table_view arcs.old.items ++ map move_view (moves_with (tiers_by_kinds kinds.now) given.now (flags_of free opened) first)) }
+    requires count { free ≡ length (tiers_in frame.now).free }
+    requires few { free ≤ 12 }
+    requires fits { FitsFrame frame.now 0 kind.now }
+    requires wide { length given.now ≡ length (tiers_in frame.now).input }
+    requires columns { AllFit frame.now kind.now (columns_from (tiers_in frame.now) given.now (flags_of free opened)) }
+    ensures { OnOk result (map table_view arcs.new.items ≡ map table_view arcs.old.items ++ map (arc_by frame.now kind.now) (columns_from (tiers_in frame.now) given.now (flags_of free opened))) }
 {
+    let kinds = frame.grammar.tiers.kinds.as_slice();
     let column = widened(alloc, kinds, given);
     let wide = column.syms();
     let before = flags_by_tier(kinds, free, opened);
     for number in 0..1u32 << free {
         let after = flags_by_tier(kinds, free, number);
         let picks = picks(kinds, wide, &before, &after);
-        push_columns(alloc, arcs, &picks[..kinds.len()], first + number)?;
+        push_columns(alloc, arcs, frame, free, kind, &picks[..kinds.len()])?;
     }
     Ok(())
 }

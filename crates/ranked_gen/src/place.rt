@@ -1,14 +1,15 @@
 ghost use Rattle.std.specs.Prelude.{◌≡◌, ◌<◌, ◌≤◌, ◌+◌, ◌*◌, ◌^◌, ◌++◌, ◌∷◌, [], length, OnOk};
-ghost use Rattle.tier_core.specs.Tables.{tiers_of_table};
 ghost use Rattle.violation.specs.Candidates.{IsForm};
+ghost use Rattle.kind_moves.specs.Frames.{tiers_in, form_in};
 ghost use Rattle.ranked_gen.specs.Listed.{AreListed};
 
-use crate::state::{node_at, state_at};
+use crate::state::{kind_at, state_at};
 use crate::stay::staying;
 use answer_text::Node;
 use arc_table::TableState;
+use kind_moves::Frame;
 use std::alloc::Global;
-use tier_core::{NoMemory, TierTable, Timeline};
+use tier_core::NoMemory;
 use weight_law::UnitWeight;
 
 /// The nodes and the states that are listed so far, each pair of one number.
@@ -40,29 +41,27 @@ fn push_both(
 /// before it.
 pub(crate) fn list_place(
     alloc: Global,
-    tiers: &TierTable,
+    frame: &Frame,
     inputs: usize,
     free: u32,
-    form: &Timeline,
     place: u32,
     listing: &mut Listing,
 ) -> Result<(), NoMemory>
-    requires form { IsForm (tiers_of_table tiers.now) form.now }
-    requires short { length form.now ≤ 64 }
-    requires input_count { inputs ≡ length (tiers_of_table tiers.now).input }
+    requires form { IsForm (tiers_in frame.now) (form_in frame.now) }
+    requires input_count { inputs ≡ length (tiers_in frame.now).input }
     requires few_inputs { inputs ≤ 12 }
-    requires count { free ≡ length (tiers_of_table tiers.now).free }
+    requires count { free ≡ length (tiers_in frame.now).free }
     requires few { free ≤ 12 }
-    requires place { place ≤ length form.now }
-    requires before { AreListed (tiers_of_table tiers.now) form.now (place * 2 ^ free) listing.old.nodes.items listing.old.states.items }
-    ensures { OnOk result (AreListed (tiers_of_table tiers.now) form.now ((place + 1) * 2 ^ free) listing.new.nodes.items listing.new.states.items) }
+    requires place { place ≤ length (form_in frame.now) }
+    requires before { AreListed (tiers_in frame.now) (form_in frame.now) (place * 2 ^ free) listing.old.nodes.items listing.old.states.items }
+    ensures { OnOk result (AreListed (tiers_in frame.now) (form_in frame.now) ((place + 1) * 2 ^ free) listing.new.nodes.items listing.new.states.items) }
 {
-    let symbols = staying(tiers, inputs, form, place as usize);
+    let symbols = staying(&frame.grammar.tiers, inputs, frame.form, place as usize);
     let stay = &symbols[..inputs];
     for opened in 0..1u32 << free {
-        let node = node_at(tiers, free, place, opened);
-        let state = state_at(alloc, tiers, free, form, stay, place, opened)?;
-        push_both(listing, node, state)?;
+        let kind = kind_at(free, place, opened);
+        let state = state_at(alloc, frame, free, &kind, opened, stay)?;
+        push_both(listing, Node { kind, potential: 0 }, state)?;
     }
     Ok(())
 }

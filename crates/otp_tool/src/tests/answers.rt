@@ -118,21 +118,77 @@ fn forms_are_refused(rt: HostRuntime) -> Result<(), Fail> {
     let alloc = rt.alloc();
     let ranked = with_constraints(alloc, "constraint Max A -> a\n")?;
     let cases = [
-        (BASE, "generate/g/=t", refused(FormErr::UnknownLetter { at: 1 })),
+        (
+            BASE,
+            "generate/g/=t",
+            refused(FormErr::UnknownLetter { at: 1 }),
+        ),
         (BASE, "show/g/=t", refused(FormErr::UnknownLetter { at: 1 })),
-        (LETTERS, "show/g/=tat?", refused(FormErr::UnknownLetter { at: 4 })),
-        (BASE, "generate/g/] [", refused(FormErr::NotWellFormed { tier: 0 })),
-        (BASE, "generate/g/[ + ]", refused(FormErr::NotReduced { column: 1 })),
-        (BASE, "generate/g/[", refused(FormErr::NotWellFormed { tier: 0 })),
-        (BASE, "generate/g/[[ ]]", refused(FormErr::WrongWidth { column: 0 })),
-        (BASE, "generate/g/[ x", refused(FormErr::BadSymbol { at: 2 })),
-        (BASE, "generate/g/", refused(FormErr::WrongWidth { column: 0 })),
-        (LETTERS, "show/g/[-", refused(FormErr::NotWellFormed { tier: 0 })),
-        (LETTERS, "show/g/[[ ]+", refused(FormErr::NotWellFormed { tier: 1 })),
-        (ranked.as_str(), "generate/g/empty", Status::NotBuilt { word: 1 }),
-        (ranked.as_str(), "show/g/empty", Status::NotBuilt { word: 1 }),
-        (ranked.as_str(), "generate/g/[", Status::NotBuilt { word: 1 }),
-        (ranked.as_str(), "generate/g/[ ]/1", Status::NotBuilt { word: 1 }),
+        (
+            LETTERS,
+            "show/g/=tat?",
+            refused(FormErr::UnknownLetter { at: 4 }),
+        ),
+        (
+            BASE,
+            "generate/g/] [",
+            refused(FormErr::NotWellFormed { tier: 0 }),
+        ),
+        (
+            BASE,
+            "generate/g/[ + ]",
+            refused(FormErr::NotReduced { column: 1 }),
+        ),
+        (
+            BASE,
+            "generate/g/[",
+            refused(FormErr::NotWellFormed { tier: 0 }),
+        ),
+        (
+            BASE,
+            "generate/g/[[ ]]",
+            refused(FormErr::WrongWidth { column: 0 }),
+        ),
+        (
+            BASE,
+            "generate/g/[ x",
+            refused(FormErr::BadSymbol { at: 2 }),
+        ),
+        (
+            BASE,
+            "generate/g/",
+            refused(FormErr::WrongWidth { column: 0 }),
+        ),
+        (
+            LETTERS,
+            "show/g/[-",
+            refused(FormErr::NotWellFormed { tier: 0 }),
+        ),
+        (
+            LETTERS,
+            "show/g/[[ ]+",
+            refused(FormErr::NotWellFormed { tier: 1 }),
+        ),
+        (
+            ranked.as_str(),
+            "generate/g/empty",
+            Status::NotBuilt { word: 1 },
+        ),
+        (
+            ranked.as_str(),
+            "show/g/empty",
+            Status::NotBuilt { word: 1 },
+        ),
+        (
+            ranked.as_str(),
+            "generate/g/[",
+            Status::NotBuilt { word: 1 },
+        ),
+        (
+            ranked.as_str(),
+            "generate/g/[ ]/1",
+            Status::NotBuilt { word: 1 },
+        ),
     ];
     for (file, words, status) in cases {
         let (found, text) = outcome(alloc, file, words)?;

@@ -27,8 +27,7 @@ constraint NoInner ]v # S
 ";
 
 // The base with one constraint, in odd spacing, with a comment and without a last line feed.
-const SPACED: &str =
-    "otp 1\n\ttier A input\r\n\ntier  a overt ; surface\nconstraint Max A->a";
+const SPACED: &str = "otp 1\n\ttier A input\r\n\ntier  a overt ; surface\nconstraint Max A->a";
 
 #[test]
 fn canon_writes_the_canonical_text(rt: HostRuntime) -> Result<(), Fail> {
@@ -79,7 +78,11 @@ fn grammars_are_refused(rt: HostRuntime) -> Result<(), Fail> {
         ("\n\notp 1 1\n", 3, GrammarCause::BadHeader),
         ("otp 1\ntier A input\n", 0, GrammarCause::NoOvert),
         ("otp 1\ntier a overt\n", 0, GrammarCause::NoInput),
-        ("otp 1\ntier A input\ntier a hidden\n", 0, GrammarCause::NoOvert),
+        (
+            "otp 1\ntier A input\ntier a hidden\n",
+            0,
+            GrammarCause::NoOvert,
+        ),
         (
             "otp 1\ntier A input\ntier a overt\ntier a hidden\n",
             4,

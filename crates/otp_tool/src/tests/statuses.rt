@@ -7,9 +7,20 @@ use std::test::Fail;
 #[test]
 fn words_of_no_command(rt: HostRuntime) -> Result<(), Fail> {
     let cases = [
-        "", "foo/g/empty", "canon", "canon/g/g", "Canon/g", "score/g", "score/g/empty/1",
-        "generate", "generate/g", "generate/g/empty/1/1", "Generate/g/empty", "show/g",
-        "show/g/empty/2/2", "check/g/empty",
+        "",
+        "foo/g/empty",
+        "canon",
+        "canon/g/g",
+        "Canon/g",
+        "score/g",
+        "score/g/empty/1",
+        "generate",
+        "generate/g",
+        "generate/g/empty/1/1",
+        "Generate/g/empty",
+        "show/g",
+        "show/g/empty/2/2",
+        "check/g/empty",
     ];
     for command in cases {
         let (status, text) = outcome(rt.alloc(), BASE, command)?;
@@ -51,7 +62,12 @@ fn long_files_are_too_long(rt: HostRuntime) -> Result<(), Fail> {
 fn failing_loads_are_read_faults(rt: HostRuntime) -> Result<(), Fail> {
     let alloc = rt.alloc();
     let fault = Status::ReadFault { word: 1 };
-    for command in ["canon/h", "score/h/empty", "generate/h/empty", "show/h/empty"] {
+    for command in [
+        "canon/h",
+        "score/h/empty",
+        "generate/h/empty",
+        "show/h/empty",
+    ] {
         let (status, text) = outcome(alloc, BASE, command)?;
         assert_eq!(rt; status, fault, "{command}");
         assert!(rt; text.is_empty(), "{command}");
@@ -60,9 +76,17 @@ fn failing_loads_are_read_faults(rt: HostRuntime) -> Result<(), Fail> {
         let mut shelf = MemShelf::new(alloc, files(alloc, BASE)?, [1].to_vec(alloc)?);
         let mut sink = SafeSink::new(alloc);
         let words = words(alloc, command)?;
-        assert_eq!(rt; run(alloc, &words, &mut shelf, &mut sink), fault, "{command}");
+        assert_eq!(rt;
+            run(alloc, &words, &mut shelf, &mut sink),
+            fault,
+            "{command}"
+        );
         assert_eq!(rt; sink.bytes(), b"".as_slice());
-        assert_eq!(rt; run(alloc, &words, &mut shelf, &mut sink), Status::Done, "{command}");
+        assert_eq!(rt;
+            run(alloc, &words, &mut shelf, &mut sink),
+            Status::Done,
+            "{command}"
+        );
     }
     Ok(())
 }

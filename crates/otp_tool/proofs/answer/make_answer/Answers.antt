@@ -31,8 +31,7 @@ returns-in-Ok-generate-clause-ok c =
 
 pub returns-in-Err-Budget-clause-err : goal.returns-in-Err-Budget-clause-err
 returns-in-Err-Budget-clause-err c =
-    let bare : c.args.grammar.now.constraints.items ≡ [] = c.is_unranked.ensures.0 (search rules) in
-    (
+    let bare : c.args.grammar.now.constraints.items ≡ [] = c.is_unranked.ensures.0 (search rules) in (
       refl,
       over_for c.args.grammar.now c.args.word.now c.args.budget bare c.in-Ok.form
           (subst (λ (w : List ℕ). IsReadAs (length (tiers_of_table c.args.grammar.now.tiers).input) c.args.grammar.now.letters.items w c.in-Ok.form) c.as_bytes.ensures.value c.in-Ok.ensures.ok)

@@ -1,75 +1,20 @@
-use Rattle.std.proofs.Common.{◌≡◌, ◌<◌, ◌^◌, length, ap, sym, ◌∙◌, subst, arith}
+use Rattle.std.proofs.Common.{[], length, IfOk, ap, sym, ◌∙◌, subst}
 use Rattle.tier_core.specs.Tables.{tiers_of_table}
-use Rattle.arc_table.specs.States.{states_of}
-use Rattle.violation.proofs.SplitLemmas.{tiers_split}
-use Rattle.answer_text.specs.Right.{nodes_at}
-use Rattle.ranked_gen.specs.Listed.{kind_count, AreListed, AreNumbered, IsNodeNumbered}
-use Rattle.ranked_gen.proofs.NumberedKinds.{free_distinct}
-use Rattle.ranked_gen.proofs.RightAnswer.{right_answer}
-use Rattle.ranked_gen.proofs.TableOfKinds.{kinds_some, kinds_small, targets_exist, classes_filled, one_width, classes_disjoint}
-use Rattle.ranked_gen.proofs.FirstOptimal.{lines_counted, lines_each, some_accepted, first_optimal}
+use Rattle.violation.specs.Candidates.{IsForm}
+use Rattle.answer_text.specs.Right.{IsRight}
 use Rattle.ranked_gen.proofs.generator.answer_free.Goals as goal
 
-pub of_states-table-requires-clause-some : goal.of_states-table-requires-clause-some
-of_states-table-requires-clause-some c =
-    let listed = c.in_ok-nodes.ensures in
-    omega (arith, kinds_some (tiers_of_table c.args.tiers.now) c.args.form.now, listed.state_count)
+pub answer_in-requires-clause-form : goal.answer_in-requires-clause-form
+answer_in-requires-clause-form c =
+    let made = c.in_ok-frame.ensures in
+    subst (λ g. IsForm (tiers_of_table g.tiers) c.in_ok-frame.frame.form.now) (sym made.grammar)
+    (subst (λ u. IsForm (tiers_of_table c.args.grammar.now.tiers) u) (sym made.form) c.requires.form)
 
-pub of_states-table-requires-clause-few : goal.of_states-table-requires-clause-few
-of_states-table-requires-clause-few c =
-    let tiers = tiers_of_table c.args.tiers.now in
-    let listed = c.in_ok-nodes.ensures in
-    let small : kind_count tiers c.args.form.now < 2 ^ 32 = kinds_small tiers c.args.form.now c.requires.short (omega (arith, c.requires.count, c.requires.few)) in
-    omega (arith, small, listed.state_count)
-
-pub of_states-table-requires-clause-targets : goal.of_states-table-requires-clause-targets
-of_states-table-requires-clause-targets c =
-    let kinds = c.args.tiers.now.kinds.items in
-    let listed = c.in_ok-nodes.ensures in
-    targets_exist (tiers_of_table c.args.tiers.now) (tiers_split kinds) (free_distinct kinds) c.args.form.now c.requires.form _ listed.state_count listed.each_state
-
-pub of_states-table-requires-clause-disjoint : goal.of_states-table-requires-clause-disjoint
-of_states-table-requires-clause-disjoint c =
-    let kinds = c.args.tiers.now.kinds.items in
-    let listed = c.in_ok-nodes.ensures in
-    classes_disjoint (tiers_of_table c.args.tiers.now) (tiers_split kinds) (free_distinct kinds) c.args.form.now c.requires.form _ listed.state_count listed.each_state
-
-pub of_states-table-requires-clause-filled : goal.of_states-table-requires-clause-filled
-of_states-table-requires-clause-filled c =
-    let kinds = c.args.tiers.now.kinds.items in
-    let listed = c.in_ok-nodes.ensures in
-    classes_filled (tiers_of_table c.args.tiers.now) (tiers_split kinds) (free_distinct kinds) c.args.form.now c.requires.form _ listed.state_count listed.each_state
-
-pub of_states-table-requires-clause-one_width : goal.of_states-table-requires-clause-one_width
-of_states-table-requires-clause-one_width c =
-    let kinds = c.args.tiers.now.kinds.items in
-    let listed = c.in_ok-nodes.ensures in
-    one_width (tiers_of_table c.args.tiers.now) (tiers_split kinds) (free_distinct kinds) c.args.form.now c.requires.form _ listed.state_count listed.each_state
-
-pub first_of-requires : goal.first_of-requires
-first_of-requires c =
-    let kinds = c.args.tiers.now.kinds.items in
-    let tiers = tiers_of_table c.args.tiers.now in
-    let u = c.args.form.now in
-    let nodes = c.in_ok-nodes.field-0.nodes.items in
-    let listed : AreListed tiers u (kind_count tiers u) nodes (states_of c.of_states-table.result) = subst (AreListed tiers u (kind_count tiers u) nodes) (sym c.of_states-table.ensures) c.in_ok-nodes.ensures in
-    some_accepted tiers (tiers_split kinds) (free_distinct kinds) u c.requires.form nodes (states_of c.of_states-table.result) listed c.in_ok-lines.lines.items c.in_ok-lines.ensures
+pub answer_in-requires-clause-count : goal.answer_in-requires-clause-count
+answer_in-requires-clause-count c = c.requires.count ∙ sym (ap (λ g. length (tiers_of_table g.tiers).free) c.in_ok-frame.ensures.grammar)
 
 pub returns : goal.returns
 returns c =
-    let kinds = c.args.tiers.now.kinds.items in
-    let tiers = tiers_of_table c.args.tiers.now in
-    let u = c.args.form.now in
-    let made = c.in_ok-nodes.field-0.nodes.items in
-    let table = states_of c.of_states-table.result in
-    let lines = c.in_ok-lines.lines.items in
-    let are = c.in_ok-lines.ensures in
-    let listed : AreListed tiers u (kind_count tiers u) made (states_of c.of_states-table.result) = subst (AreListed tiers u (kind_count tiers u) made) (sym c.of_states-table.ensures) c.in_ok-nodes.ensures in
-    let nodes : nodes_at c.in_ok-stages.stages.items 0 ≡ made = ap (λ stages. nodes_at stages 0) c.in_ok-stages.ensures in
-    right_answer tiers (tiers_split kinds) (free_distinct kinds) u c.requires.form _
-    c.in_ok-own.ensures c.new.ensures.items
-    (first_optimal tiers (tiers_split kinds) (free_distinct kinds) u c.requires.form made table listed lines are c.in_ok-example.example c.in_ok-example.ensures)
-    (ap length c.in_ok-stages.ensures)
-    (ap length nodes ∙ listed.node_count) (subst (AreNumbered (IsNodeNumbered tiers) 0) (sym nodes) listed.each_node)
-    (lines_counted tiers (tiers_split kinds) (free_distinct kinds) u c.requires.form made table listed lines are)
-    (lines_each tiers (tiers_split kinds) (free_distinct kinds) u c.requires.form made table listed lines are)
+    let made = c.in_ok-frame.ensures in
+    subst (λ u. IfOk c.answer_in.result (λ answer. IsRight (tiers_of_table c.args.grammar.now.tiers) [] u answer)) made.form
+    (subst (λ g. IfOk c.answer_in.result (λ answer. IsRight (tiers_of_table g.tiers) [] c.in_ok-frame.frame.form.now answer)) made.grammar c.answer_in.ensures)

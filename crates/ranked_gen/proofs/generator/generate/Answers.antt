@@ -14,8 +14,8 @@ returns-then-kinds-budget-clause-over c = λ stage e.
     let tiers = tiers_of_table table in
     let u = c.args.form.now in
     let first : 0 ≡ stage = cc in
-    let counted : c.first_number-kinds.result ≡ kind_count tiers u =
-    counted_kinds _ _ _ (length u) (length tiers.free) c.first_number-kinds.ensures.value (omega arith)
+    let counted : c.count_kinds-kinds.result ≡ kind_count tiers u =
+    counted_kinds _ _ _ (length u) (length tiers.free) c.count_kinds-kinds.ensures (omega arith)
     (c.count_free-free.ensures.value ∙ ap (λ ks. length (numbers_from is_free 0 ks)) c.as_slice.ensures.value) in
     subst (λ cs. IsFirstOver tiers cs u c.args.budget stage) (sym c.requires.free)
     (subst (λ s. IsFirstOver tiers [] u c.args.budget s) first
@@ -26,8 +26,8 @@ returns-clause-within c =
     let table = c.args.grammar.now.tiers in
     let tiers = tiers_of_table table in
     let u = c.args.form.now in
-    let counted : c.first_number-kinds.result ≡ kind_count tiers u =
-    counted_kinds _ _ _ (length u) (length tiers.free) c.first_number-kinds.ensures.value (omega arith)
+    let counted : c.count_kinds-kinds.result ≡ kind_count tiers u =
+    counted_kinds _ _ _ (length u) (length tiers.free) c.count_kinds-kinds.ensures (omega arith)
     (c.count_free-free.ensures.value ∙ ap (λ ks. length (numbers_from is_free 0 ks)) c.as_slice.ensures.value) in
     whatever_ok _ _
     (subst (λ cs. AreAllWithin tiers cs u c.args.budget) (sym c.requires.free)

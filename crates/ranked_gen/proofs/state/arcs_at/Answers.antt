@@ -1,41 +1,62 @@
-use Rattle.std.proofs.Common.{◌++◌, [], map, length, sym, ap, ◌∙◌, arith}
-use Rattle.tier_core.specs.Tables.{tiers_of_table}
+use Rattle.std.proofs.Common.{◌<◌, ◌++◌, ◌+◌, ◌*◌, ◌^◌, [], map, length, sym, ap, ◌∙◌, subst, arith}
 use Rattle.tier_core.specs.Timelines.{column_at}
-use Rattle.tier_core.specs.Tiers.{tiers_by_kinds}
+use Rattle.kind_moves.specs.Frames.{tiers_in, form_in}
 use Rattle.ranked_gen.specs.Numbers.{flags_of}
-use Rattle.ranked_gen.specs.Arcs.{staying, moves_with}
-use Rattle.ranked_gen.specs.Listed.{table_view, move_view}
-use Rattle.ranked_gen.proofs.StateSteps.{length-staying, arcs_end, arcs_on}
+use Rattle.ranked_gen.specs.Arcs.{staying}
+use Rattle.ranked_gen.specs.FrameMoves.{columns_from, arc_by, AllFit}
+use Rattle.ranked_gen.specs.Listed.{table_view}
+use Rattle.ranked_gen.proofs.StateSteps.{length-staying}
+use Rattle.ranked_gen.proofs.FrameSteps.{numbered_fits, numbered_flags, stay_fit, next_fit, arcs_end, arcs_on}
 use Rattle.ranked_gen.proofs.state.arcs_at.Goals as goal
 
-pub push_moves-requires-clause-wide : goal.push_moves-requires-clause-wide
-push_moves-requires-clause-wide c =
-    ap length c.requires.stay ∙ length-staying (tiers_of_table c.args.tiers.now) c.args.form.now c.args.place ∙ ap (λ ks. length (tiers_by_kinds ks).input) (sym c.as_slice-kinds.ensures.value)
+pub push_moves-requires-clause-fits : goal.push_moves-requires-clause-fits
+push_moves-requires-clause-fits c = numbered_fits c.args.frame.now c.args.kind.now c.args.free (c.args.kind.now.place * 2 ^ c.args.free + c.args.opened) c.requires.count c.requires.numbered c.requires.place
 
-pub returns-then-place-len : goal.returns-then-place-len
-returns-then-place-len c =
-    let tiers = tiers_of_table c.args.tiers.now in
-    let flags = flags_of c.args.free c.args.opened in
-    arcs_end tiers c.args.form.now c.args.free c.args.place c.args.opened c.requires.count c.requires.opened _
+pub push_moves-requires-clause-wide : goal.push_moves-requires-clause-wide
+push_moves-requires-clause-wide c = ap length c.requires.stay ∙ length-staying (tiers_in c.args.frame.now) (form_in c.args.frame.now) c.args.kind.now.place
+
+pub push_moves-requires-clause-columns : goal.push_moves-requires-clause-columns
+push_moves-requires-clause-columns c =
+    let frame = c.args.frame.now in
+    let kind = c.args.kind.now in
+    let flags = numbered_flags frame kind c.args.free kind.place c.args.opened c.requires.count c.requires.numbered in
+    subst (λ given. AllFit frame kind (columns_from (tiers_in frame) given (flags_of c.args.free c.args.opened))) (sym c.requires.stay)
+    (subst (λ fs. AllFit frame kind (columns_from (tiers_in frame) (staying (tiers_in frame) (form_in frame) kind.place) fs)) flags (stay_fit frame c.requires.form kind))
+
+pub push_moves-requires-2-clause-columns : goal.push_moves-requires-2-clause-columns
+push_moves-requires-2-clause-columns c =
+    let frame = c.args.frame.now in
+    let kind = c.args.kind.now in
+    let flags = numbered_flags frame kind c.args.free kind.place c.args.opened c.requires.count c.requires.numbered in
+    let below : kind.place < length (form_in frame) = omega (arith, c.len.ensures, c.if-kind-len.false) in
+    subst (λ given. AllFit frame kind (columns_from (tiers_in frame) given (flags_of c.args.free c.args.opened))) (sym (c.syms-given.ensures.value ∙ c.column.ensures))
+    (subst (λ fs. AllFit frame kind (columns_from (tiers_in frame) (column_at (form_in frame) kind.place) fs)) flags (next_fit frame c.requires.form kind below))
+
+pub returns-then-kind-len : goal.returns-then-kind-len
+returns-then-kind-len c =
+    let frame = c.args.frame.now in
+    let kind = c.args.kind.now in
+    let tiers = tiers_in frame in
+    let flags = numbered_flags frame kind c.args.free kind.place c.args.opened c.requires.count c.requires.numbered in
+    arcs_end frame c.requires.form kind _
     (c.in_ok-push_moves.ensures
-    ∙ ap (λ xs. map table_view xs ++ map move_view (moves_with (tiers_by_kinds c.as_slice-kinds.result.now) c.args.stay.now flags c.first_number-here.result)) c.new-arcs.ensures.items
-    ∙ ap (λ ks. [] ++ map move_view (moves_with (tiers_by_kinds ks) c.args.stay.now flags c.first_number-here.result)) c.as_slice-kinds.ensures.value
-    ∙ ap (λ s. [] ++ map move_view (moves_with tiers s flags c.first_number-here.result)) c.requires.stay
-    ∙ ap (λ n. [] ++ map move_view (moves_with tiers (staying tiers c.args.form.now c.args.place) flags n)) c.first_number-here.ensures.value)
-    (omega (arith, c.len.ensures, c.if-place-len.true))
+    ∙ ap (λ xs. map table_view xs ++ map (arc_by frame kind) (columns_from tiers c.args.stay.now (flags_of c.args.free c.args.opened))) c.new-arcs.ensures.items
+    ∙ ap (λ s. [] ++ map (arc_by frame kind) (columns_from tiers s (flags_of c.args.free c.args.opened))) c.requires.stay
+    ∙ ap (λ fs. [] ++ map (arc_by frame kind) (columns_from tiers (staying tiers (form_in frame) kind.place) fs)) (sym flags))
+    (omega (arith, c.len.ensures, c.if-kind-len.true))
 
 pub returns : goal.returns
 returns c =
-    let tiers = tiers_of_table c.args.tiers.now in
-    let flags = flags_of c.args.free c.args.opened in
-    arcs_on tiers c.args.form.now c.args.free c.args.place c.args.opened c.requires.count c.requires.opened _ _
+    let frame = c.args.frame.now in
+    let kind = c.args.kind.now in
+    let tiers = tiers_in frame in
+    let flags = numbered_flags frame kind c.args.free kind.place c.args.opened c.requires.count c.requires.numbered in
+    arcs_on frame c.requires.form kind _ _
     (c.in_ok-push_moves.ensures
-    ∙ ap (λ xs. map table_view xs ++ map move_view (moves_with (tiers_by_kinds c.as_slice-kinds.result.now) c.args.stay.now flags c.first_number-here.result)) c.new-arcs.ensures.items
-    ∙ ap (λ ks. [] ++ map move_view (moves_with (tiers_by_kinds ks) c.args.stay.now flags c.first_number-here.result)) c.as_slice-kinds.ensures.value
-    ∙ ap (λ s. [] ++ map move_view (moves_with tiers s flags c.first_number-here.result)) c.requires.stay
-    ∙ ap (λ n. [] ++ map move_view (moves_with tiers (staying tiers c.args.form.now c.args.place) flags n)) c.first_number-here.ensures.value)
+    ∙ ap (λ xs. map table_view xs ++ map (arc_by frame kind) (columns_from tiers c.args.stay.now (flags_of c.args.free c.args.opened))) c.new-arcs.ensures.items
+    ∙ ap (λ s. [] ++ map (arc_by frame kind) (columns_from tiers s (flags_of c.args.free c.args.opened))) c.requires.stay
+    ∙ ap (λ fs. [] ++ map (arc_by frame kind) (columns_from tiers (staying tiers (form_in frame) kind.place) fs)) (sym flags))
     (c.in_ok-push_moves-2.ensures
-    ∙ ap (λ ks. map table_view c.push_moves.new.arcs.items ++ map move_view (moves_with (tiers_by_kinds ks) c.syms-given.result.now flags c.first_number-next.result)) c.as_slice-kinds.ensures.value
-    ∙ ap (λ s. map table_view c.push_moves.new.arcs.items ++ map move_view (moves_with tiers s flags c.first_number-next.result)) (c.syms-given.ensures.value ∙ c.column.ensures)
-    ∙ ap (λ n. map table_view c.push_moves.new.arcs.items ++ map move_view (moves_with tiers (column_at c.args.form.now c.args.place) flags n)) c.first_number-next.ensures.value)
-    (omega (arith, c.len.ensures, c.if-place-len.false))
+    ∙ ap (λ s. map table_view c.push_moves.new.arcs.items ++ map (arc_by frame kind) (columns_from tiers s (flags_of c.args.free c.args.opened))) (c.syms-given.ensures.value ∙ c.column.ensures)
+    ∙ ap (λ fs. map table_view c.push_moves.new.arcs.items ++ map (arc_by frame kind) (columns_from tiers (column_at (form_in frame) kind.place) fs)) (sym flags))
+    (omega (arith, c.len.ensures, c.if-kind-len.false))

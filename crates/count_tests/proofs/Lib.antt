@@ -1,0 +1,4 @@
+mod WordSteps
+mod MeetSteps
+mod ChoiceSteps
+mod Bounds

@@ -210,3 +210,65 @@ fn an_empty_form_ends_where_it_starts(rt: HostRuntime) -> Result<(), Fail> {
     }
     Ok(())
 }
+
+/// What going along columns to a final kind costs under a constraint. None where there is no such
+/// walk.
+fn cost_along(frame: &Frame<'_>, constraint: u32, columns: &[Column]) -> Option<u32>
+    requires some { 1 ≤ constraint }
+    requires within { constraint ≤ length (constraints_in frame.now) }
+{
+    let width = frame.grammar.tiers.kinds.as_slice().len();
+    let mut kind = frame.start();
+    let mut total: u32 = 0;
+    for column in columns {
+        if column.width() as usize != width {
+            return None;
+        }
+        total = total.wrapping_add(frame.cost(constraint, constraint, &kind, column));
+        match frame.moved(constraint, &kind, column) {
+            Some(next) => kind = next,
+            None => return None,
+        }
+    }
+    if frame.at_end(&kind) {
+        Some(total)
+    } else {
+        None
+    }
+}
+
+// Rows of candidates of `[ ]`, and what they cost under `A -> a`, `a -> A`, `A # a` and `]A -> ]a`.
+#[test]
+fn candidates_cost_what_they_violate(rt: HostRuntime) -> Result<(), Fail> {
+    let alloc = rt.alloc();
+    let Ok(grammar) = read_grammar(
+        alloc,
+        b"otp 1\ntier A input\ntier a overt\nconstraint Max A -> a\nconstraint Dep a -> A\nconstraint No A # a\nconstraint End ]A -> ]a\n",
+    ) else {
+        return Err(Fail::new("no grammar"));
+    };
+    let form = read_form(alloc, &grammar, b"[ ]")?;
+    let Ok(frame) = Frame::new(alloc, &grammar, &form) else {
+        return Err(Fail::new("no memory"));
+    };
+    if grammar.constraints.as_slice().len() != 4 {
+        return Err(Fail::new("other constraints"));
+    }
+    for (text, costs) in [
+        (b"[- ]-".as_slice(), [1, 0, 0, 1]),
+        (b"[[ ]]".as_slice(), [0, 0, 1, 0]),
+        (b"-[ [| ]]".as_slice(), [0, 1, 1, 0]),
+        (b"-[ -] [- ]-".as_slice(), [1, 1, 0, 1]),
+        (b"[- +[ +] ]-".as_slice(), [0, 0, 1, 1]),
+        (b"[[ +| ]]".as_slice(), [0, 0, 2, 0]),
+    ] {
+        let Ok(timeline) = read_timeline(alloc, 2, 64, text) else {
+            return Err(Fail::new("no timeline"));
+        };
+        for (number, cost) in costs.iter().enumerate() {
+            let found = cost_along(&frame, number as u32 + 1, timeline.columns());
+            assert_eq!(rt; found, Some(*cost));
+        }
+    }
+    Ok(())
+}

@@ -101,7 +101,8 @@ fn failing_writes_are_write_faults(rt: HostRuntime) -> Result<(), Fail> {
         let status = run(alloc, &words(alloc, command)?, &mut shelf, &mut sink);
         assert_eq!(rt; status, Status::WriteFault, "{command}");
         let (_, text) = outcome(alloc, BASE, command)?;
-        assert_eq!(rt; sink.bytes(), &text.as_bytes()[..10], "{command}");
+        assert_eq!(rt; sink.bytes().len(), 10, "{command}");
+        assert!(rt; text.as_bytes().starts_with(sink.bytes()), "{command}");
     }
     Ok(())
 }

@@ -1,0 +1,68 @@
+-- The table of a stage: its states are named by kinds of prefixes, its moves go as these kinds do
+-- and weigh what one constraint counts, and it accepts the candidates that the constraints before
+-- have left (this project).
+--
+-- Such tables exist. That of stage 0 has a state for each place of the form with each set of open
+-- free tiers, named by that kind, and from it a move for each column that fits, of weight 0. It
+-- accepts all candidates, which are the 0-optimal ones, and each of its states is on a run, since
+-- each of these kinds is that of some prefix of a candidate.
+use Rattle.std.specs.Prelude.{[], ◌≡◌, ◌≢◌, ℕ, ◌-◌, ◌<◌, ◌≤◌, ◌↔◌, List, length, slice_index_or, Contains, AllPairs, IsTrue}
+use Rattle.std.specs.List.{AllByRecursion}
+use Rattle.weight_law.specs.declared.Weight.{Ghosts}
+use Rattle.weight_law.specs.declared.count.Count.{Count}
+use Rattle.tier_core.specs.declared.sym.Sym.{Sym}
+use Rattle.tier_core.specs.declared.constraint.Constraint.{Constraint}
+use Rattle.tier_core.specs.Tiers.{Tiers}
+use Rattle.tier_core.specs.Kinds.{PrefixKind}
+use Rattle.tier_core.specs.Classes.{has}
+use Rattle.arc_table.specs.declared.arc.TableArc.{TableArc}
+use Rattle.arc_table.specs.declared.state.TableState.{TableState}
+use Rattle.arc_table.specs.Conditions.{ClassesFilled}
+use Rattle.arc_table.specs.Moves.{moves_at, accepting_at}
+use Rattle.arc_table.specs.Runs.{Accepts, IsOnRun}
+use Rattle.violation.specs.Candidates.{IsForm, IsOptimalFor}
+use Rattle.violation.specs.Conditions.{AreSplit, IsOverTiers}
+use Rattle.violation.specs.Moves.{FitsKind, moved, move_costs, is_final}
+use Rattle.violation.specs.Prefixes.{kind_of}
+
+-- what every stage of a grammar and a form meets: stage r looks at the first r constraints
+pub record IsStage (tiers : Tiers) (constraints : List Constraint) (u : List (List Sym)) (r : ℕ) : Type 0 where
+  pub split : AreSplit tiers
+  pub form : IsForm tiers u
+  pub over : AllByRecursion (IsOverTiers tiers.width) constraints
+  pub within : r ≤ length constraints
+
+-- the kind that names a state
+abbrev pub name_of : List PrefixKind → ℕ → PrefixKind
+name_of names s = slice_index_or names s (record { place = 0; opened = []; phases = [] })
+
+-- what a column costs from a kind under constraint r, counted from 1; 0 where r is 0
+abbrev pub cost_of : Tiers → List Constraint → List (List Sym) → ℕ → PrefixKind → List Sym → ℕ
+cost_of tiers constraints u r k column = slice_index_or (move_costs tiers constraints u r k column) (r - 1) 0
+
+-- On a column, a move from state s goes as the kinds do that name the states: the column fits the
+-- name of s, it leads to the name of the target, and the move weighs what it costs.
+pub record GoesAsKinds {g : Ghosts Count} (tiers : Tiers) (constraints : List Constraint) (u : List (List Sym)) (r : ℕ) (names : List PrefixKind) (s : ℕ) (arc : TableArc Count g) (column : List Sym) : Type 0 where
+  pub fits : FitsKind tiers u (name_of names s) column
+  pub leads : name_of names arc.target ≡ moved tiers constraints r (name_of names s) column
+  pub weighs : arc.weight.0 ≡ cost_of tiers constraints u r (name_of names s) column
+
+-- The states of a table are named by kinds under the first r constraints: each by one of its own,
+-- the start by that of the empty prefix. A state accepts where its name is final, each move goes as
+-- the kinds do on each column of its class, which is not empty, and each state is on a run.
+pub record AreNamedByKinds {g : Ghosts Count} (tiers : Tiers) (constraints : List Constraint) (u : List (List Sym)) (r : ℕ) (names : List PrefixKind) (states : List (TableState Count g)) : Type 0 where
+  pub each_named : length names ≡ length states
+  pub distinct : AllPairs (λ k l. k ≢ l) names
+  pub some : 0 < length states
+  pub start : name_of names 0 ≡ kind_of tiers constraints r []
+  pub ends : (s : ℕ) → s < length states → accepting_at states s ≡ is_final u (name_of names s)
+  pub moves : (s : ℕ) (arc : TableArc Count g) (column : List Sym) → Contains (moves_at states s) arc → IsTrue (has arc.class column) → GoesAsKinds tiers constraints u r names s arc column
+  pub filled : ClassesFilled states
+  pub on_runs : (s : ℕ) → s < length states → IsOnRun states s
+
+-- The table of stage r, with the names of its states: it is named by kinds under the first r
+-- constraints, and it accepts exactly the (r-1)-optimal candidates. For r = 0 these are all
+-- candidates, since `0 - 1` is 0 and each candidate is 0-optimal.
+pub record IsStageTable {g : Ghosts Count} (tiers : Tiers) (constraints : List Constraint) (u : List (List Sym)) (r : ℕ) (names : List PrefixKind) (states : List (TableState Count g)) : Type 0 where
+  pub named : AreNamedByKinds tiers constraints u r names states
+  pub accepts : (T : List (List Sym)) → Accepts states T ↔ IsOptimalFor tiers constraints u (r - 1) T

@@ -1,0 +1,14 @@
+//! The theory of one ranked stage of the generator, as laws over definitions. The functions do
+//! nothing: each says by its contract what holds of every table of a stage, and nothing is built.
+//!
+//! A table of stage r has a state for each kind of prefix under the first r constraints, weighs its
+//! moves by constraint r, and accepts the candidates that the constraints before have left. So its
+//! names are the kinds of the stage, its weights are violations, its least weights are what remains
+//! to be counted, and its words of least weight are the candidates that constraint r leaves. The
+//! crate stands on the definitions of `violation`, and on tables, least weights and pruning
+//! (`arc_table`, `distances`, `prune_best`). The staged generator rests on it.
+#![tactic(auto)]
+
+mod names;
+
+pub use names::names_are_kinds;

@@ -1,2 +1,4 @@
 pub mod Paths
 pub mod Naming
+pub mod WalkSums
+pub mod Weighing

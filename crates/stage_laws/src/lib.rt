@@ -10,5 +10,7 @@
 #![tactic(auto)]
 
 mod names;
+mod weights;
 
 pub use names::names_are_kinds;
+pub use weights::weights_are_violations;

@@ -2,3 +2,4 @@ pub mod Paths
 pub mod Naming
 pub mod WalkSums
 pub mod Weighing
+pub mod Resting

@@ -10,7 +10,9 @@
 #![tactic(auto)]
 
 mod names;
+mod remaining;
 mod weights;
 
 pub use names::names_are_kinds;
+pub use remaining::least_weights_remain;
 pub use weights::weights_are_violations;

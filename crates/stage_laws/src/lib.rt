@@ -10,9 +10,11 @@
 #![tactic(auto)]
 
 mod names;
+mod optima;
 mod remaining;
 mod weights;
 
 pub use names::names_are_kinds;
+pub use optima::{least_weight_is_the_least_number, words_of_least_weight_are_optimal};
 pub use remaining::least_weights_remain;
 pub use weights::weights_are_violations;

@@ -5,3 +5,5 @@ pub mod Weighing
 pub mod Resting
 pub mod Vectors
 pub mod Optimal
+pub mod Cuts
+pub mod Following

@@ -60,7 +60,7 @@ module _ (tiers : Tiers) (constraints : List Constraint) (u : List (List Sym)) (
         let run : IsRun states s parts.after = subst (λ x. IsRun states x parts.after) same parts.run in
         let whole : take n T ++ drop n T ≡ T = take-append-drop n T in
         let candidate : IsCandidate tiers u (take n T ++ drop n T) = subst (IsCandidate tiers u) (sym whole) passes.optimal.candidate in
-        let rest = rest_weight tiers constraints u r stage meaning names states table.named ranked parts.after s (take n T) (drop n T) (sym passes.of_kind) run parts.reads_after candidate in
+        let rest = rest_weight tiers constraints u r stage meaning names states table.named table.weighed ranked parts.after s (take n T) (drop n T) (sym passes.of_kind) run parts.reads_after candidate in
         let total : get_or (vec constraints (take n T ++ drop n T)) (r - 1) 0 ≡ get_or (vec constraints T) (r - 1) 0 = ap (λ (v : List (List Sym)). get_or (vec constraints v) (r - 1) 0) whole in
         let so_far : get_or (vec_so_far constraints (take n T ++ drop n T) (length (take n T))) (r - 1) 0 ≡ get_or (vec_so_far constraints T n) (r - 1) 0 =
         ap (λ (v : List (List Sym)). get_or (vec_so_far constraints v (length (take n T))) (r - 1) 0) whole
@@ -83,7 +83,7 @@ module _ (tiers : Tiers) (constraints : List Constraint) (u : List (List Sym)) (
             p.0 ++ q.0,
             (length p.0, (
               passes,
-              rest_weight tiers constraints u r stage meaning names states table.named ranked found.0 s p.0 q.0 name found.1 q.1 passes.optimal.candidate
+              rest_weight tiers constraints u r stage meaning names states table.named table.weighed ranked found.0 s p.0 q.0 name found.1 q.1 passes.optimal.candidate
               ∙ ap (λ (n : Count). get_or (vec_so_far constraints (p.0 ++ q.0) (length p.0)) (r - 1) 0 + n.0) found.2,
             )),
           );
@@ -97,6 +97,6 @@ remaining_law tiers constraints u zero stage meaning names states table s w from
     let found = from.some in
     let q = some_word states table.named.filled s found.0 found.1 in
     ap (λ (n : Count). n.0) (sym found.2)
-    ∙ run_weight tiers constraints u zero stage meaning names states table.named found.0 q.0 s found.1 q.1
+    ∙ run_weight tiers constraints u zero stage meaning names states table.named table.weighed found.0 q.0 s found.1 q.1
     ∙ get_or_past (walk_costs tiers constraints u zero (name_of names s) q.0) (0 - 1) 0 (omega (arith, length_walk tiers constraints zero u stage.split stage.form (over_first tiers constraints u zero stage) q.0 (name_of names s)))
 remaining_law tiers constraints u (suc i) stage meaning names states table s w from = least_rest tiers constraints u (suc i) stage meaning names states table (omega arith) s w from

@@ -13,7 +13,7 @@ use Rattle.arc_table.specs.Runs.{IsRun, IsPath, Reads, weight_of, AcceptingRun}
 use Rattle.violation.specs.Candidates.{IsCandidate, vec, vec_so_far}
 use Rattle.violation.specs.Moves.{move_costs}
 use Rattle.violation.specs.Prefixes.{kind_of}
-use Rattle.stage_laws.specs.StageTables.{IsStage, name_of, GoesAsKinds, AreNamedByKinds, IsStageTable}
+use Rattle.stage_laws.specs.StageTables.{IsStage, name_of, GoesAsKinds, AreNamedByKinds, AreWeighed, IsStageTable}
 use Rattle.stage_laws.proofs.Paths.{run_path}
 use Rattle.stage_laws.proofs.WalkSums.{none_at, walk_cost, walk_step, violations_walk, violations_on, so_far_walk}
 
@@ -24,7 +24,7 @@ module _ (tiers : Tiers) (constraints : List Constraint) (u : List (List Sym)) (
   weight_cons : (arc : TableArc Count g) (arcs : List (TableArc Count g)) → (weight_of (arc ∷ arcs)).0 ≡ arc.weight.0 + (weight_of arcs).0
   weight_cons arc arcs = ap (λ m. (m.sum arc.weight (weight_of arcs)).0) meaning
 
-  module _ (named : AreNamedByKinds tiers constraints u r names states) where
+  module _ (named : AreNamedByKinds tiers constraints u r names states) (weighed : AreWeighed tiers constraints u r names states) where
     -- a path weighs what its walk costs under the constraint
     pub path_weight : (arcs : List (TableArc Count g)) (p : List (List Sym)) (s t : ℕ) → IsPath states s arcs t → Reads arcs p → (weight_of arcs).0 ≡ walk_cost tiers constraints u r stage (r - 1) (name_of names s) p
     path_weight [] [] s t path reads = weight_nil ∙ sym (none_at (take r constraints) (r - 1))
@@ -33,7 +33,7 @@ module _ (tiers : Tiers) (constraints : List Constraint) (u : List (List Sym)) (
     path_weight (arc ∷ arcs) (column ∷ p) s t path reads =
         let move : GoesAsKinds tiers constraints u r names s arc column = named.moves s arc column path.0 reads.0 in
         weight_cons arc arcs
-        ∙ ap (λ n. n + (weight_of arcs).0) move.weighs
+        ∙ ap (λ n. n + (weight_of arcs).0) (weighed s arc column path.0 reads.0)
         ∙ ap (λ n. get_or (move_costs tiers constraints u r (name_of names s) column) (r - 1) 0 + n)
         (path_weight arcs p arc.target t path.1 reads.1 ∙ ap (λ k. walk_cost tiers constraints u r stage (r - 1) k p) move.leads)
         ∙ sym (walk_step tiers constraints u r stage (r - 1) (name_of names s) column p)
@@ -58,6 +58,6 @@ module _ (tiers : Tiers) (constraints : List Constraint) (u : List (List Sym)) (
   -- an accepting run weighs the violations of what it reads
   pub run_weight_law : IsStageTable tiers constraints u r names states → 1 ≤ r → (arcs : List (TableArc Count g)) (T : List (List Sym)) → AcceptingRun states T arcs → (weight_of arcs).0 ≡ get_or (vec constraints T) (r - 1) 0
   run_weight_law table ranked arcs T accepting =
-      run_weight table.named arcs T 0 accepting.run accepting.reads
+      run_weight table.named table.weighed arcs T 0 accepting.run accepting.reads
       ∙ ap (λ k. walk_cost tiers constraints u r stage (r - 1) k T) table.named.start
       ∙ sym (violations_walk tiers constraints u r stage ranked T ((table.accepts T).0 (arcs, accepting)).candidate)

@@ -10,11 +10,13 @@
 #![tactic(auto)]
 
 mod names;
+mod next;
 mod optima;
 mod remaining;
 mod weights;
 
 pub use names::names_are_kinds;
+pub use next::{cut_kinds_go_alike, named_tables_are_stage_tables};
 pub use optima::{least_weight_is_the_least_number, words_of_least_weight_are_optimal};
 pub use remaining::least_weights_remain;
 pub use weights::weights_are_violations;

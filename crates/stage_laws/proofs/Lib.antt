@@ -7,3 +7,6 @@ pub mod Vectors
 pub mod Optimal
 pub mod Cuts
 pub mod Following
+pub mod Pruned
+pub mod Exploring
+pub mod Staged

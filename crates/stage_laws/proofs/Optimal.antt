@@ -1,5 +1,5 @@
 -- The words of least weight of a stage's table are the candidates that its constraint leaves.
-use Rattle.std.proofs.Common.{◌≡◌, ◌↔◌, ℕ, ◌-◌, ◌≤◌, List, take, length, get_or, refl, sym, ap, ◌∙◌, subst, arith}
+use Rattle.std.proofs.Common.{◌≡◌, ◌↔◌, ℕ, zero, suc, ◌-◌, ◌≤◌, List, take, length, get_or, sym, ap, ◌∙◌, arith}
 use Rattle.std.proofs.lemmas.List.{length-map}
 use Rattle.std.specs.declared.cmp.Ordering.TheVariants.{Equal}
 use Rattle.weight_law.specs.Meaning.{AtMost}
@@ -14,10 +14,10 @@ use Rattle.arc_table.specs.declared.arc.TableArc.{TableArc}
 use Rattle.arc_table.specs.declared.state.TableState.{TableState}
 use Rattle.arc_table.specs.Runs.{weight_of, AcceptingRun, Accepts, IsLeastWord, IsLeastFrom}
 use Rattle.prune_best.proofs.Words.{some_word}
-use Rattle.violation.specs.Candidates.{IsCandidate, vec, vec_cmp, IsAtMost, IsOptimalFor, IsOptimal, IsLeastVector}
+use Rattle.violation.specs.Candidates.{IsCandidate, vec, vec_cmp, IsAtMost, IsOptimalFor, IsLeastVector}
 use Rattle.violation.specs.Counts.{violations_of}
 use Rattle.stage_laws.specs.StageTables.{IsStage, IsStageTable}
-use Rattle.stage_laws.proofs.Resting.{at_most_le, le_at_most}
+use Rattle.stage_laws.proofs.Resting.{at_most_le, le_at_most, first_weight}
 use Rattle.stage_laws.proofs.Vectors.{at_most_fewer, both_equal, equal_at_most, at_most_last, at_most_by_last}
 use Rattle.stage_laws.proofs.Weighing.{run_weight_law}
 
@@ -97,3 +97,17 @@ module _ (tiers : Tiers) (constraints : List Constraint) (u : List (List Sym)) (
   vector_law w from v least =
       let best = least.some in
       ap (λ (ns : List ℕ). get_or ns (r - 1) 0) (sym best.1.1) ∙ number_law w from best.0 (optimal_for_fewer tiers constraints u r (length constraints) stage.within best.0 best.1.0)
+
+module _ {g : Ghosts Count} (meaning : g.meaning ≡ count_meaning) (names : List PrefixKind) (states : List (TableState Count g)) (tiers : Tiers) (constraints : List Constraint) (u : List (List Sym)) where
+  -- at stage 0 nothing weighs, and each word is of least weight
+  first_words : IsStage tiers constraints u 0 → IsStageTable tiers constraints u 0 names states → (T : List (List Sym)) → IsLeastWord states T ↔ IsOptimalFor tiers constraints u 0 T
+  first_words stage table T = (
+    λ w. (table.accepts T).0 (w.0, w.1),
+    λ o.
+        let accepted : Accepts states T = (table.accepts T).1 o in
+        (accepted.0, accepted.1, λ U others run. le_at_most meaning (weight_of accepted.0) (weight_of others) (omega (arith, first_weight meaning names states tiers constraints u stage table accepted.0 T 0 accepted.1.run accepted.1.reads))),
+  )
+
+  pub all_words_law : (r : ℕ) → IsStage tiers constraints u r → IsStageTable tiers constraints u r names states → (T : List (List Sym)) → IsLeastWord states T ↔ IsOptimalFor tiers constraints u r T
+  all_words_law zero stage table = first_words stage table
+  all_words_law (suc i) stage table = words_law tiers constraints u (suc i) stage meaning names states table (omega arith)

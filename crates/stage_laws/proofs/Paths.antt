@@ -1,5 +1,5 @@
 -- Paths and runs of a table: their parts, and what they read.
-use Rattle.std.proofs.Common.{IsTrue, ℕ, ◌<◌, false, List, [], ◌∷◌, ◌++◌, map, length, refl, sym, ◌∙◌, subst, arith, inl, inr}
+use Rattle.std.proofs.Common.{IsTrue, Contains, ℕ, ◌<◌, false, List, [], ◌∷◌, ◌++◌, map, length, refl, sym, ◌∙◌, subst, arith, inl, inr}
 use Rattle.std.proofs.lemmas.Bool.{cases_lt, false≢true}
 use Rattle.std.proofs.lemmas.List.{get_or_past, length-map}
 use Rattle.weight_law.specs.declared.Weight.{Ghosts}
@@ -8,7 +8,7 @@ use Rattle.arc_table.specs.FirstColumn.{first_column}
 use Rattle.arc_table.specs.declared.arc.TableArc.{TableArc}
 use Rattle.arc_table.specs.declared.state.TableState.{TableState}
 use Rattle.arc_table.specs.Conditions.{ClassesFilled}
-use Rattle.arc_table.specs.Moves.{accepting_at}
+use Rattle.arc_table.specs.Moves.{moves_at, accepting_at}
 use Rattle.arc_table.specs.Runs.{IsRun, IsPath, Reads}
 use Rattle.arc_table.proofs.Filled.{has-first_column}
 use Rattle.arc_table.proofs.Push.{moves_exist}
@@ -49,6 +49,10 @@ module _ {W : Type 0} {g : Ghosts W} (states : List (TableState W g)) where
   joined_reads [] after (column ∷ p) q r s = absurd r
   joined_reads (arc ∷ before) after [] q r s = absurd r
   joined_reads (arc ∷ before) after (column ∷ p) q r s = (r.0, joined_reads before after p q r.1 s)
+
+  pub path_push : (arcs : List (TableArc W g)) (s t : ℕ) (arc : TableArc W g) → IsPath states s arcs t → Contains (moves_at states t) arc → IsPath states s (arcs ++ arc ∷ []) arc.target
+  path_push [] s t arc path here = (subst (λ x. Contains (moves_at states x) arc) (sym path) here, refl)
+  path_push (first ∷ arcs) s t arc path here = (path.0, path_push arcs first.target t arc path.1 here)
 
   -- a run is a path to an accepting state
   pub run_path : (s : ℕ) (arcs : List (TableArc W g)) → IsRun states s arcs → (t : ℕ) × IsPath states s arcs t × IsTrue (accepting_at states t)

@@ -1,6 +1,6 @@
 -- The least weights of a stage's table are what remains to be counted.
-use Rattle.std.proofs.Common.{◌≡◌, ℕ, zero, suc, ◌+◌, ◌-◌, ◌<◌, ◌≤◌, false, List, [], ◌∷◌, ◌++◌, take, drop, length, get_or, Option, None, Some, refl, sym, ap, ◌∙◌, subst, arith, inl, inr}
-use Rattle.std.specs.Prelude.{nat_lt, MatchOption}
+use Rattle.std.proofs.Common.{◌≡◌, ℕ, zero, suc, ◌+◌, ◌-◌, ◌<◌, ◌≤◌, false, List, ◌++◌, take, drop, length, get_or, Option, None, Some, refl, sym, ap, ◌∙◌, subst, arith, inl, inr}
+use Rattle.std.specs.Prelude.{nat_lt, MatchOption, IsSome}
 use Rattle.std.proofs.lemmas.Bool.{cases_lt}
 use Rattle.std.proofs.lemmas.Bool.Decides.{nat_tests}
 use Rattle.std.proofs.lemmas.List.{get_or_past, take-append-drop, length-take-le}
@@ -14,7 +14,7 @@ use Rattle.tier_core.specs.Tiers.{Tiers}
 use Rattle.tier_core.specs.Kinds.{PrefixKind}
 use Rattle.arc_table.specs.declared.arc.TableArc.{TableArc}
 use Rattle.arc_table.specs.declared.state.TableState.{TableState}
-use Rattle.arc_table.specs.Runs.{IsRun, IsPath, Reads, weight_of, IsLeastFrom, HasNoRun, IsOnRun}
+use Rattle.arc_table.specs.Runs.{IsRun, Reads, weight_of, IsLeastFrom, HasNoRun, IsOnRun}
 use Rattle.distances.specs.Least.{AreLeast}
 use Rattle.prune_best.proofs.Words.{some_word}
 use Rattle.violation.specs.Candidates.{IsCandidate, vec, vec_so_far}
@@ -22,7 +22,7 @@ use Rattle.violation.specs.Prefixes.{kind_of}
 use Rattle.violation.specs.Stages.{Passes, IsLeastRest, IsRemaining}
 use Rattle.violation.specs.Walks.{walk_costs}
 use Rattle.violation.proofs.CostLemmas.{length_walk}
-use Rattle.stage_laws.specs.StageTables.{IsStage, name_of, AreNamedByKinds, IsStageTable}
+use Rattle.stage_laws.specs.StageTables.{IsStage, name_of, IsStageTable}
 use Rattle.stage_laws.proofs.Paths.{IsParted, run_exists, path_word}
 use Rattle.stage_laws.proofs.Naming.{over_first, path_kind, same_state, passes_state, passed_state}
 use Rattle.stage_laws.proofs.Weighing.{run_weight, rest_weight}
@@ -47,6 +47,14 @@ least_from states least are s w e = elim (cases_lt s (length states)) [
   | inl l ↦ (let P : Option Count → Type 0 = λ o. MatchOption o (HasNoRun states s) (IsLeastFrom states s) in subst P e (are.each s l))
   | inr l ↦ (let gone : get_or least s None ≡ None = get_or_past least s None (omega (arith, are.each_state)) in cc)
 ]
+
+-- a state with a run has a weight
+pub some_weight : {g : Ghosts Count} (states : List (TableState Count g)) (least : List (Option Count)) → AreLeast states least → (s : ℕ) → s < length states → IsOnRun states s → IsSome (get_or least s None)
+some_weight states least are s l on = go (get_or least s None) (are.each s l)
+  where
+    go : (o : Option Count) → MatchOption o (HasNoRun states s) (IsLeastFrom states s) → IsSome o
+    go None h = absurd (h on.2.0 on.2.1)
+    go (Some w) h = refl
 
 module _ (tiers : Tiers) (constraints : List Constraint) (u : List (List Sym)) (r : ℕ) (stage : IsStage tiers constraints u r) {g : Ghosts Count} (meaning : g.meaning ≡ count_meaning) (names : List PrefixKind) (states : List (TableState Count g)) (table : IsStageTable tiers constraints u r names states) where
   module _ (ranked : 1 ≤ r) where
@@ -81,14 +89,24 @@ module _ (tiers : Tiers) (constraints : List Constraint) (u : List (List Sym)) (
         record {
           some = (
             p.0 ++ q.0,
-            (length p.0, (
-              passes,
-              rest_weight tiers constraints u r stage meaning names states table.named table.weighed ranked found.0 s p.0 q.0 name found.1 q.1 passes.optimal.candidate
-              ∙ ap (λ (n : Count). get_or (vec_so_far constraints (p.0 ++ q.0) (length p.0)) (r - 1) 0 + n.0) found.2,
-            )),
+            (
+              length p.0,
+              (
+                passes,
+                rest_weight tiers constraints u r stage meaning names states table.named table.weighed ranked found.0 s p.0 q.0 name found.1 q.1 passes.optimal.candidate
+                    ∙ ap (λ (n : Count). get_or (vec_so_far constraints (p.0 ++ q.0) (length p.0)) (r - 1) 0 + n.0) found.2,
+              ),
+            ),
           );
           least = least_of_all s w here from;
         }
+
+-- at stage 0 no run weighs anything
+pub first_weight : {g : Ghosts Count} (meaning : g.meaning ≡ count_meaning) (names : List PrefixKind) (states : List (TableState Count g)) (tiers : Tiers) (constraints : List Constraint) (u : List (List Sym)) (stage : IsStage tiers constraints u 0) → IsStageTable tiers constraints u 0 names states
+    → (arcs : List (TableArc Count g)) (p : List (List Sym)) (s : ℕ) → IsRun states s arcs → Reads arcs p → (weight_of arcs).0 ≡ 0
+first_weight meaning names states tiers constraints u stage table arcs p s run reads =
+    run_weight tiers constraints u 0 stage meaning names states table.named table.weighed arcs p s run reads
+    ∙ get_or_past (walk_costs tiers constraints u 0 (name_of names s) p) (0 - 1) 0 (omega (arith, length_walk tiers constraints 0 u stage.split stage.form (over_first tiers constraints u 0 stage) p (name_of names s)))
 
 -- the least weights are what remains
 pub remaining_law : (tiers : Tiers) (constraints : List Constraint) (u : List (List Sym)) (r : ℕ) (stage : IsStage tiers constraints u r) {g : Ghosts Count} (meaning : g.meaning ≡ count_meaning) (names : List PrefixKind) (states : List (TableState Count g)) (table : IsStageTable tiers constraints u r names states)
@@ -96,7 +114,5 @@ pub remaining_law : (tiers : Tiers) (constraints : List Constraint) (u : List (L
 remaining_law tiers constraints u zero stage meaning names states table s w from =
     let found = from.some in
     let q = some_word states table.named.filled s found.0 found.1 in
-    ap (λ (n : Count). n.0) (sym found.2)
-    ∙ run_weight tiers constraints u zero stage meaning names states table.named table.weighed found.0 q.0 s found.1 q.1
-    ∙ get_or_past (walk_costs tiers constraints u zero (name_of names s) q.0) (0 - 1) 0 (omega (arith, length_walk tiers constraints zero u stage.split stage.form (over_first tiers constraints u zero stage) q.0 (name_of names s)))
+    ap (λ (n : Count). n.0) (sym found.2) ∙ first_weight meaning names states tiers constraints u stage table found.0 q.0 s found.1 q.1
 remaining_law tiers constraints u (suc i) stage meaning names states table s w from = least_rest tiers constraints u (suc i) stage meaning names states table (omega arith) s w from

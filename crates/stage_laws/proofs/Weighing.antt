@@ -1,5 +1,5 @@
 -- The weights of a stage's table are violations of its constraint.
-use Rattle.std.proofs.Common.{◌≡◌, ℕ, ◌+◌, ◌-◌, ◌≤◌, List, [], ◌∷◌, ◌++◌, take, length, get_or, sym, ap, ◌∙◌}
+use Rattle.std.proofs.Common.{zero, suc, arith, ◌*◌, Bool, true, false, cond, drop, length, Contains, ◌≡◌, ℕ, ◌+◌, ◌-◌, ◌≤◌, List, [], ◌∷◌, ◌++◌, take, length, get_or, sym, ap, ◌∙◌}
 use Rattle.weight_law.specs.Count.{count_meaning}
 use Rattle.weight_law.specs.declared.Weight.{Ghosts}
 use Rattle.weight_law.specs.declared.count.Count.{Count}
@@ -9,9 +9,14 @@ use Rattle.tier_core.specs.Tiers.{Tiers}
 use Rattle.tier_core.specs.Kinds.{PrefixKind}
 use Rattle.arc_table.specs.declared.arc.TableArc.{TableArc}
 use Rattle.arc_table.specs.declared.state.TableState.{TableState}
-use Rattle.arc_table.specs.Runs.{IsRun, IsPath, Reads, weight_of, AcceptingRun}
+use Rattle.arc_table.specs.Runs.{IsRun, IsPath, Reads, weight_of, AcceptingRun, SizesWithin}
 use Rattle.violation.specs.Candidates.{IsCandidate, vec, vec_so_far}
-use Rattle.violation.specs.Moves.{move_costs}
+use Rattle.tier_core.specs.Kinds.{Phase}
+use Rattle.arc_table.specs.FirstColumn.{first_column}
+use Rattle.arc_table.proofs.Filled.{has-first_column}
+use Rattle.arc_table.specs.Moves.{moves_at}
+use Rattle.violation.specs.Sides.{is_stretch}
+use Rattle.violation.specs.Moves.{move_costs, costs, costs_each, first_phase, is_tier_open}
 use Rattle.violation.specs.Prefixes.{kind_of}
 use Rattle.stage_laws.specs.StageTables.{IsStage, name_of, GoesAsKinds, AreNamedByKinds, AreWeighed, IsStageTable}
 use Rattle.stage_laws.proofs.Paths.{run_path}
@@ -61,3 +66,29 @@ module _ (tiers : Tiers) (constraints : List Constraint) (u : List (List Sym)) (
       run_weight table.named table.weighed arcs T 0 accepting.run accepting.reads
       ∙ ap (λ k. walk_cost tiers constraints u r stage (r - 1) k T) table.named.start
       ∙ sym (violations_walk tiers constraints u r stage ranked T ((table.accepts T).0 (arcs, accepting)).candidate)
+
+-- what a column costs under one constraint is 1 at most
+cost_least : (cs : List Constraint) (o : ℕ → Bool) (phases : List Phase) (column : List Sym) (i : ℕ) → get_or (costs_each cs o phases column) i 0 ≤ 1
+cost_least [] o phases column i = omega arith
+cost_least (c ∷ cs) o phases column zero = go (costs c.family c.left c.right o (first_phase phases) column)
+  where
+    go : (b : Bool) → cond b 1 0 ≤ 1
+    go true = omega arith
+    go false = omega arith
+cost_least (c ∷ cs) o phases column (suc i) = cost_least cs o (cond (is_stretch c) (drop 1 phases) phases) column i
+
+times_one : (n x : ℕ) → x ≤ 1 → n * x ≤ n
+times_one n zero l = omega arith
+times_one n (suc zero) l = omega arith
+times_one n (suc (suc x)) l = absurd (omega arith)
+
+module _ (tiers : Tiers) (constraints : List Constraint) (u : List (List Sym)) (r : ℕ) {g : Ghosts Count} (names : List PrefixKind) (states : List (TableState Count g)) (table : IsStageTable tiers constraints u r names states) where
+  pub one_at_most : (s : ℕ) (arc : TableArc Count g) → Contains (moves_at states s) arc → arc.weight.0 ≤ 1
+  one_at_most s arc here =
+      let cost = cost_least (take r constraints) (is_tier_open tiers u (name_of names s)) (name_of names s).phases (first_column arc.class) (r - 1) in
+      omega (arith, cost, table.weighed s arc (first_column arc.class) here (has-first_column arc.class (table.named.filled s arc here)))
+
+  pub sizes_fit : g.meaning ≡ count_meaning → (n : ℕ) → length states ≤ n → SizesWithin states n
+  sizes_fit meaning n few s arc here =
+      let size : g.meaning.size arc.weight ≡ arc.weight.0 = ap (λ m. m.size arc.weight) meaning in
+      rw size (omega (arith, times_one (length states) arc.weight.0 (one_at_most s arc here)))

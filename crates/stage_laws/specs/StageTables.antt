@@ -17,7 +17,7 @@ use Rattle.tier_core.specs.Kinds.{PrefixKind}
 use Rattle.tier_core.specs.Classes.{has}
 use Rattle.arc_table.specs.declared.arc.TableArc.{TableArc}
 use Rattle.arc_table.specs.declared.state.TableState.{TableState}
-use Rattle.arc_table.specs.Conditions.{ClassesFilled}
+use Rattle.arc_table.specs.Conditions.{TargetsExist, ClassesFilled}
 use Rattle.arc_table.specs.Moves.{moves_at, accepting_at}
 use Rattle.arc_table.specs.Runs.{Accepts, IsOnRun}
 use Rattle.violation.specs.Candidates.{IsForm, IsOptimalFor}
@@ -47,8 +47,9 @@ pub record GoesAsKinds {W : Type 0} {g : Ghosts W} (tiers : Tiers) (constraints 
   pub leads : name_of names arc.target ≡ moved tiers constraints r (name_of names s) column
 
 -- The states of a table are named by kinds under the first r constraints: each by one of its own,
--- the start by that of the empty prefix. A state accepts where its name is final, each move goes as
--- the kinds do on each column of its class, which is not empty, and each state is on a run.
+-- the start by that of the empty prefix. A state accepts where its name is final, each move goes to
+-- a state as the kinds do, on each column of its class, which is not empty, and each state is on a
+-- run.
 pub record AreNamedByKinds {W : Type 0} {g : Ghosts W} (tiers : Tiers) (constraints : List Constraint) (u : List (List Sym)) (r : ℕ) (names : List PrefixKind) (states : List (TableState W g)) : Type 0 where
   pub each_named : length names ≡ length states
   pub distinct : AllPairs (λ k l. k ≢ l) names
@@ -56,6 +57,7 @@ pub record AreNamedByKinds {W : Type 0} {g : Ghosts W} (tiers : Tiers) (constrai
   pub start : name_of names 0 ≡ kind_of tiers constraints r []
   pub ends : (s : ℕ) → s < length states → accepting_at states s ≡ is_final u (name_of names s)
   pub moves : (s : ℕ) (arc : TableArc W g) (column : List Sym) → Contains (moves_at states s) arc → IsTrue (has arc.class column) → GoesAsKinds tiers constraints u r names s arc column
+  pub targets : TargetsExist states
   pub filled : ClassesFilled states
   pub on_runs : (s : ℕ) → s < length states → IsOnRun states s
 

@@ -13,11 +13,10 @@ ghost use Rattle.stage_laws.specs.StageTables.{IsStage, IsStageTable};
 
 use weight_law::{Count, UnitWeight, Weight};
 
-/// From stage 1 on, the words of least weight of a stage's table are exactly the r-optimal candidates.
-/// So a table that is pruned to these words accepts the candidates that constraint r leaves.
+/// The words of least weight of the table of stage r are exactly the r-optimal candidates. So a table that is pruned to these words accepts the candidates that constraint r leaves.
 pub fn words_of_least_weight_are_optimal()
-    ensures least_words { (tiers : Tiers) (constraints : List Constraint) (u : List (List Sym)) (r : ℕ) (names : List PrefixKind) (states : List (TableState Counted ⟦<Count as Weight>⟧)) → IsStage tiers constraints u r → 1 ≤ r → IsStageTable tiers constraints u r names states → (T : List (List Sym)) → IsLeastWord states T ↔ IsOptimalFor tiers constraints u r T }
-    ensures pruned { (tiers : Tiers) (constraints : List Constraint) (u : List (List Sym)) (r : ℕ) (names : List PrefixKind) (states : List (TableState Counted ⟦<Count as Weight>⟧)) → IsStage tiers constraints u r → 1 ≤ r → IsStageTable tiers constraints u r names states → (pruned : List (TableState Unweighed ⟦<UnitWeight as Weight>⟧)) (old : List ℕ) → IsTight states pruned old → (T : List (List Sym)) → Accepts pruned T ↔ IsOptimalFor tiers constraints u r T }
+    ensures least_words { (tiers : Tiers) (constraints : List Constraint) (u : List (List Sym)) (r : ℕ) (names : List PrefixKind) (states : List (TableState Counted ⟦<Count as Weight>⟧)) → IsStage tiers constraints u r → IsStageTable tiers constraints u r names states → (T : List (List Sym)) → IsLeastWord states T ↔ IsOptimalFor tiers constraints u r T }
+    ensures pruned { (tiers : Tiers) (constraints : List Constraint) (u : List (List Sym)) (r : ℕ) (names : List PrefixKind) (states : List (TableState Counted ⟦<Count as Weight>⟧)) → IsStage tiers constraints u r → IsStageTable tiers constraints u r names states → (pruned : List (TableState Unweighed ⟦<UnitWeight as Weight>⟧)) (old : List ℕ) → IsTight states pruned old → (T : List (List Sym)) → Accepts pruned T ↔ IsOptimalFor tiers constraints u r T }
 {}
 
 /// From stage 1 on, the least weight from the start of a stage's table is the violations of constraint

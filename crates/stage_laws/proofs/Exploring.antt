@@ -1,5 +1,5 @@
 -- A table that is found from the pruned one is named by kinds, and accepts the same words.
-use Rattle.std.proofs.Common.{◌≡◌, ◌↔◌, ℕ, zero, suc, ◌+◌, ◌<◌, List, [], ◌∷◌, ◌++◌, length, refl, sym, ap, ◌∙◌, subst, arith}
+use Rattle.std.proofs.Common.{◌≡◌, ◌↔◌, ℕ, suc, ◌+◌, ◌<◌, List, [], ◌∷◌, length, sym, ap, ◌∙◌, subst, arith}
 use Rattle.std.specs.Prelude.{Contains, IsTrue}
 use Rattle.weight_law.specs.declared.Weight.{Ghosts}
 use Rattle.weight_law.specs.declared.count.Count.{Count}
@@ -11,7 +11,7 @@ use Rattle.tier_core.specs.Kinds.{PrefixKind}
 use Rattle.arc_table.specs.declared.arc.TableArc.{TableArc}
 use Rattle.arc_table.specs.declared.state.TableState.{TableState}
 use Rattle.arc_table.specs.Moves.{moves_at}
-use Rattle.arc_table.specs.Runs.{IsRun, IsPath, Reads, Accepts, IsOnRun}
+use Rattle.arc_table.specs.Runs.{IsRun, Reads, Accepts, IsOnRun}
 use Rattle.arc_table.proofs.Push.{moves_exist}
 use Rattle.prune_best.proofs.Words.{some_word}
 use Rattle.violation.specs.Moves.{FitsKind, moved, is_final, cut}
@@ -19,7 +19,7 @@ use Rattle.stage_laws.specs.StageTables.{IsStage, name_of, GoesAsKinds, AreNamed
 use Rattle.stage_laws.specs.FoundTables.{HasMoveOn, base_of, AreFoundFrom}
 use Rattle.stage_laws.proofs.Cuts.{cut-moved, cut-kind_of, fits-cut}
 use Rattle.stage_laws.proofs.Naming.{same_state}
-use Rattle.stage_laws.proofs.Paths.{path_push}
+use Rattle.stage_laws.proofs.Paths.{reached_path}
 
 module _ (tiers : Tiers) (constraints : List Constraint) (u : List (List Sym)) (r : ℕ) {V : Type 0} {h : Ghosts V} (pruned_names : List PrefixKind) (pruned : List (TableState V h)) (before : AreNamedByKinds tiers constraints u r pruned_names pruned) where
   -- a move of the pruned table, at a kind that is cut to the name of its state
@@ -78,20 +78,11 @@ module _ (tiers : Tiers) (constraints : List Constraint) (u : List (List Sym)) (
           (on.0, record { run = on.1; reads = on.2 }),
     )
 
-    -- each state is reached from the start
-    reached : (n s : ℕ) → s < n → s < length states → (arcs : List (TableArc Count g)) × IsPath states 0 arcs s
-    reached zero s l inside = absurd (omega arith)
-    reached (suc n) zero l inside = ([], refl)
-    reached (suc n) (suc s) l inside =
-        let from = found.earlier (suc s) (omega arith) inside in
-        let path = reached n from.0 (omega (arith, from.1)) (omega (arith, from.1)) in
-        let arc : TableArc Count g = from.2.0 in
-        (path.0 ++ arc ∷ [], subst (IsPath states 0 (path.0 ++ arc ∷ [])) from.2.2 (path_push states path.0 0 from.0 arc path.1 from.2.1))
-
-    on_run : (s : ℕ) → s < length states → IsOnRun states s
-    on_run s inside =
-        let path = reached (suc s) s (omega arith) inside in
-        let on : IsOnRun pruned (base_of bases s) = before.on_runs (base_of bases s) (found.based s inside) in
+    -- each state is on a run where each base is
+    pub found_on_runs : ((b : ℕ) → b < length pruned → IsOnRun pruned b) → (s : ℕ) → s < length states → IsOnRun states s
+    found_on_runs on_runs s inside =
+        let path = reached_path states found.reached (suc s) s (omega arith) inside in
+        let on : IsOnRun pruned (base_of bases s) = on_runs (base_of bases s) (found.based s inside) in
         let q = some_word pruned before.filled (base_of bases s) on.2.0 on.2.1 in
         let run = run_on on.2.0 q.0 s inside on.2.1 q.1 in
         (path.0, path.1, (run.0, run.1))
@@ -115,5 +106,4 @@ module _ (tiers : Tiers) (constraints : List Constraint) (u : List (List Sym)) (
       moves = go_on;
       targets = found.targets;
       filled = found.filled;
-      on_runs = on_run;
     }

@@ -10,3 +10,4 @@ pub mod Following
 pub mod Pruned
 pub mod Exploring
 pub mod Staged
+pub mod Complete

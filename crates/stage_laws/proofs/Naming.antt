@@ -95,7 +95,7 @@ module _ (tiers : Tiers) (constraints : List Constraint) (u : List (List Sym)) (
 
       name_passed : (s : ℕ) → s < length states → IsKindOfStage tiers constraints u r (name_of names s)
       name_passed s l =
-          let on : IsOnRun states s = table.named.on_runs s l in
+          let on : IsOnRun states s = table.on_runs s l in
           let p = path_word states table.named.filled 0 s on.0 on.1 in
           let q = some_word states table.named.filled s on.2.0 on.2.1 in
           record { candidate = p.0 ++ q.0; columns = length p.0; passes = passes_state on.0 on.2.0 s p.0 q.0 on.1 p.1 on.2.1 q.1 }

@@ -56,5 +56,4 @@ module _ (tiers : Tiers) (constraints : List Constraint) (u : List (List Sym)) (
     moves = kept_moves;
     targets = targets;
     filled = filled;
-    on_runs = tight.on_runs;
   }

@@ -80,7 +80,7 @@ module _ (tiers : Tiers) (constraints : List Constraint) (u : List (List Sym)) (
     least_rest s w from =
         let found = from.some in
         let here : s < length states = run_exists states s found.0 found.1 in
-        let on : IsOnRun states s = table.named.on_runs s here in
+        let on : IsOnRun states s = table.on_runs s here in
         let p = path_word states table.named.filled 0 s on.0 on.1 in
         let q = some_word states table.named.filled s found.0 found.1 in
         let passes : Passes tiers constraints u (r - 1) r (name_of names s) (p.0 ++ q.0) (length p.0) =

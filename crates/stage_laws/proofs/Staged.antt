@@ -12,7 +12,7 @@ use Rattle.arc_table.specs.Conditions.{TargetsExist, ClassesFilled}
 use Rattle.prune_best.specs.Tight.{IsTight}
 use Rattle.stage_laws.specs.StageTables.{IsStage, AreNamedByKinds, AreWeighed, IsStageTable}
 use Rattle.stage_laws.specs.FoundTables.{names_kept, AreFoundFrom}
-use Rattle.stage_laws.proofs.Exploring.{found_named, same_words}
+use Rattle.stage_laws.proofs.Exploring.{found_named, found_on_runs, same_words}
 use Rattle.stage_laws.proofs.Following.{next_table}
 use Rattle.stage_laws.proofs.Optimal.{all_words_law}
 use Rattle.stage_laws.proofs.Pruned.{kept_named}
@@ -28,3 +28,4 @@ next_stage tiers constraints u r stage meaning names states table pruned old tig
     let same = same_words tiers constraints u r (names_kept names old) pruned named stage bases kinds found from T in
     let law = all_words_law meaning names states tiers constraints u r stage table T in
     (λ a. law.0 ((tight.accepts T).0 (same.0 a)), λ o. same.1 ((tight.accepts T).1 (law.1 o))))
+    (found_on_runs tiers constraints u r (names_kept names old) pruned named stage bases kinds found from tight.on_runs)

@@ -1,5 +1,6 @@
--- How the table of a stage is found from the one that was pruned before it: its states go on by
--- kinds under one constraint more (this project).
+-- How the tables of the stages are found: that of stage 0 by going on by kinds from the start, and
+-- each later one from the table that was pruned before it, by going on by kinds under one constraint
+-- more (this project).
 use Rattle.std.specs.Prelude.{[], ◌≡◌, ◌≢◌, ℕ, ◌+◌, ◌<◌, ◌↔◌, List, length, map, slice_index_or, Contains, AllPairs, IsTrue}
 use Rattle.weight_law.specs.declared.Weight.{Ghosts}
 use Rattle.weight_law.specs.declared.count.Count.{Count}
@@ -12,17 +13,25 @@ use Rattle.arc_table.specs.declared.arc.TableArc.{TableArc}
 use Rattle.arc_table.specs.declared.state.TableState.{TableState}
 use Rattle.arc_table.specs.Conditions.{TargetsExist, ClassesFilled}
 use Rattle.arc_table.specs.Moves.{moves_at, accepting_at}
-use Rattle.violation.specs.Moves.{moved, cut}
+use Rattle.violation.specs.Moves.{FitsKind, moved, cut}
 use Rattle.violation.specs.Prefixes.{kind_of}
 use Rattle.stage_laws.specs.StageTables.{name_of}
-
--- the names of the states of a pruned table, which has the numbers of these states in the old one
-abbrev pub names_kept : List PrefixKind → List ℕ → List PrefixKind
-names_kept names old = map (name_of names) old
 
 -- some move from a state reads a column
 abbrev pub HasMoveOn : {W : Type 0} {g : Ghosts W} → List (TableState W g) → ℕ → List Sym → Type 0
 HasMoveOn {W} {g} states s column = (arc : TableArc W g) × Contains (moves_at states s) arc × IsTrue (has arc.class column)
+
+-- each state but the start is the target of a move from an earlier one
+abbrev pub AreReached : {W : Type 0} {g : Ghosts W} → List (TableState W g) → Type 0
+AreReached {W} {g} states = (s : ℕ) → 0 < s → s < length states → (t : ℕ) × (t < s) × ((arc : TableArc W g) × Contains (moves_at states t) arc × (arc.target ≡ s))
+
+-- from each state there is a move on each column that fits its name
+abbrev pub HaveAllMoves : {W : Type 0} {g : Ghosts W} → Tiers → List (List Sym) → List PrefixKind → List (TableState W g) → Type 0
+HaveAllMoves tiers u names states = (s : ℕ) (column : List Sym) → s < length states → FitsKind tiers u (name_of names s) column → HasMoveOn states s column
+
+-- the names of the states of a pruned table, which has the numbers of these states in the old one
+abbrev pub names_kept : List PrefixKind → List ℕ → List PrefixKind
+names_kept names old = map (name_of names) old
 
 -- the state of the pruned table of which a state is
 abbrev pub base_of : List ℕ → ℕ → ℕ
@@ -45,4 +54,4 @@ pub record AreFoundFrom {V : Type 0} {h : Ghosts V} {g : Ghosts Count} (tiers : 
   pub leads : (s : ℕ) (arc : TableArc Count g) (column : List Sym) → Contains (moves_at found s) arc → IsTrue (has arc.class column) → name_of names arc.target ≡ moved tiers constraints (r + 1) (name_of names s) column
   pub targets : TargetsExist found
   pub filled : ClassesFilled found
-  pub earlier : (s : ℕ) → 0 < s → s < length found → (t : ℕ) × (t < s) × ((arc : TableArc Count g) × Contains (moves_at found t) arc × (arc.target ≡ s))
+  pub reached : AreReached found

@@ -47,9 +47,8 @@ pub record GoesAsKinds {W : Type 0} {g : Ghosts W} (tiers : Tiers) (constraints 
   pub leads : name_of names arc.target ≡ moved tiers constraints r (name_of names s) column
 
 -- The states of a table are named by kinds under the first r constraints: each by one of its own,
--- the start by that of the empty prefix. A state accepts where its name is final, each move goes to
--- a state as the kinds do, on each column of its class, which is not empty, and each state is on a
--- run.
+-- the start by that of the empty prefix. A state accepts where its name is final, and each move goes
+-- to a state as the kinds do, on each column of its class, which is not empty.
 pub record AreNamedByKinds {W : Type 0} {g : Ghosts W} (tiers : Tiers) (constraints : List Constraint) (u : List (List Sym)) (r : ℕ) (names : List PrefixKind) (states : List (TableState W g)) : Type 0 where
   pub each_named : length names ≡ length states
   pub distinct : AllPairs (λ k l. k ≢ l) names
@@ -59,7 +58,6 @@ pub record AreNamedByKinds {W : Type 0} {g : Ghosts W} (tiers : Tiers) (constrai
   pub moves : (s : ℕ) (arc : TableArc W g) (column : List Sym) → Contains (moves_at states s) arc → IsTrue (has arc.class column) → GoesAsKinds tiers constraints u r names s arc column
   pub targets : TargetsExist states
   pub filled : ClassesFilled states
-  pub on_runs : (s : ℕ) → s < length states → IsOnRun states s
 
 -- each move weighs what each column of its class costs under constraint r from the name of its state
 abbrev pub AreWeighed : {g : Ghosts Count} → Tiers → List Constraint → List (List Sym) → ℕ → List PrefixKind → List (TableState Count g) → Type 0
@@ -67,9 +65,11 @@ AreWeighed {g} tiers constraints u r names states =
     (s : ℕ) (arc : TableArc Count g) (column : List Sym) → Contains (moves_at states s) arc → IsTrue (has arc.class column) → arc.weight.0 ≡ cost_of tiers constraints u r (name_of names s) column
 
 -- The table of stage r, with the names of its states: they are kinds under the first r constraints,
--- its moves weigh what these cost under constraint r, and it accepts exactly the (r-1)-optimal
--- candidates. For r = 0 these are all candidates, since `0 - 1` is 0 and each candidate is 0-optimal.
+-- its moves weigh what these cost under constraint r, it accepts exactly the (r-1)-optimal candidates,
+-- and each of its states is on a run. For r = 0 it accepts all candidates, since `0 - 1` is 0 and each
+-- candidate is 0-optimal.
 pub record IsStageTable {g : Ghosts Count} (tiers : Tiers) (constraints : List Constraint) (u : List (List Sym)) (r : ℕ) (names : List PrefixKind) (states : List (TableState Count g)) : Type 0 where
   pub named : AreNamedByKinds tiers constraints u r names states
   pub weighed : AreWeighed tiers constraints u r names states
   pub accepts : (T : List (List Sym)) → Accepts states T ↔ IsOptimalFor tiers constraints u (r - 1) T
+  pub on_runs : (s : ℕ) → s < length states → IsOnRun states s

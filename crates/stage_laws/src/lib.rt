@@ -9,6 +9,7 @@
 //! (`arc_table`, `distances`, `prune_best`). The staged generator rests on it.
 #![tactic(auto)]
 
+mod first;
 mod found;
 mod names;
 mod next;
@@ -16,6 +17,7 @@ mod optima;
 mod remaining;
 mod weights;
 
+pub use first::complete_tables_accept_the_candidates;
 pub use found::{
     cut_kinds_go_by_pruned_moves, found_tables_are_the_next, pruned_tables_keep_their_names,
 };

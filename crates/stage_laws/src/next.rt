@@ -1,11 +1,11 @@
-ghost use Rattle.std.specs.Prelude.{◌≡◌, ℕ, ◌+◌, ◌≤◌, ◌↔◌, List};
+ghost use Rattle.std.specs.Prelude.{◌≡◌, ℕ, ◌+◌, ◌<◌, ◌≤◌, ◌↔◌, List, length};
 ghost use Rattle.weight_law.specs.declared.count.Count.{Count as Counted};
 ghost use Rattle.tier_core.specs.declared.sym.Sym.{Sym};
 ghost use Rattle.tier_core.specs.declared.constraint.Constraint.{Constraint};
 ghost use Rattle.tier_core.specs.Tiers.{Tiers};
 ghost use Rattle.tier_core.specs.Kinds.{PrefixKind};
 ghost use Rattle.arc_table.specs.declared.state.TableState.{TableState};
-ghost use Rattle.arc_table.specs.Runs.{Accepts};
+ghost use Rattle.arc_table.specs.Runs.{Accepts, IsOnRun};
 ghost use Rattle.violation.specs.Candidates.{IsCandidate, IsOptimalFor};
 ghost use Rattle.violation.specs.Moves.{FitsKind, moved, is_final, cut};
 ghost use Rattle.violation.specs.Prefixes.{kind_of};
@@ -13,11 +13,12 @@ ghost use Rattle.stage_laws.specs.StageTables.{AreNamedByKinds, AreWeighed, IsSt
 
 use weight_law::{Count, Weight};
 
-/// A table that is named and weighed by kinds and accepts the candidates that the constraints before
-/// have left is a stage's table: at first all candidates, and then those that the last stage left.
+/// A table that is named and weighed by kinds, each of whose states is on a run, and that accepts the
+/// candidates that the constraints before have left is a stage's table: at first all candidates, and
+/// then those that the last stage left.
 pub fn named_tables_are_stage_tables()
-    ensures first { (tiers : Tiers) (constraints : List Constraint) (u : List (List Sym)) (names : List PrefixKind) (states : List (TableState Counted ⟦<Count as Weight>⟧)) → AreNamedByKinds tiers constraints u 0 names states → AreWeighed tiers constraints u 0 names states → ((T : List (List Sym)) → Accepts states T ↔ IsCandidate tiers u T) → IsStageTable tiers constraints u 0 names states }
-    ensures next { (tiers : Tiers) (constraints : List Constraint) (u : List (List Sym)) (r : ℕ) (names : List PrefixKind) (states : List (TableState Counted ⟦<Count as Weight>⟧)) → AreNamedByKinds tiers constraints u (r + 1) names states → AreWeighed tiers constraints u (r + 1) names states → ((T : List (List Sym)) → Accepts states T ↔ IsOptimalFor tiers constraints u r T) → IsStageTable tiers constraints u (r + 1) names states }
+    ensures first { (tiers : Tiers) (constraints : List Constraint) (u : List (List Sym)) (names : List PrefixKind) (states : List (TableState Counted ⟦<Count as Weight>⟧)) → AreNamedByKinds tiers constraints u 0 names states → AreWeighed tiers constraints u 0 names states → ((T : List (List Sym)) → Accepts states T ↔ IsCandidate tiers u T) → ((s : ℕ) → s < length states → IsOnRun states s) → IsStageTable tiers constraints u 0 names states }
+    ensures next { (tiers : Tiers) (constraints : List Constraint) (u : List (List Sym)) (r : ℕ) (names : List PrefixKind) (states : List (TableState Counted ⟦<Count as Weight>⟧)) → AreNamedByKinds tiers constraints u (r + 1) names states → AreWeighed tiers constraints u (r + 1) names states → ((T : List (List Sym)) → Accepts states T ↔ IsOptimalFor tiers constraints u r T) → ((s : ℕ) → s < length states → IsOnRun states s) → IsStageTable tiers constraints u (r + 1) names states }
 {}
 
 /// Kinds that are cut to fewer constraints go by the same columns as the whole ones, end where they

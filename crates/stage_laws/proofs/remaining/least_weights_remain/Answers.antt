@@ -9,4 +9,4 @@ pub returns-clause-of_all : goal.returns-clause-of_all
 returns-clause-of_all c tiers constraints u r names states stage table least are s w e = remaining_law tiers constraints u r stage refl names states table s w (least_from states least are s w e)
 
 pub returns-clause-each_state : goal.returns-clause-each_state
-returns-clause-each_state c tiers constraints u r names states table least are s l = some_weight states least are s l (table.named.on_runs s l)
+returns-clause-each_state c tiers constraints u r names states table least are s l = some_weight states least are s l (table.on_runs s l)

@@ -11,3 +11,4 @@ pub mod Pruned
 pub mod Exploring
 pub mod Staged
 pub mod Complete
+pub mod LeastVector

@@ -62,7 +62,7 @@ module _ (tiers : Tiers) (constraints : List Constraint) (u : List (List Sym)) (
     least_of_all : (s : ℕ) (w : Count) → s < length states → IsLeastFrom states s w → (T : List (List Sym)) (n : ℕ) → Passes tiers constraints u (r - 1) r (name_of names s) T n
         → get_or (vec_so_far constraints T n) (r - 1) 0 + w.0 ≤ get_or (vec constraints T) (r - 1) 0
     least_of_all s w here from T n passes =
-        let found = passed_state tiers constraints u r stage names states table (name_of names s) T n passes in
+        let found = passed_state tiers constraints u r stage names states table.named (r - 1) table.accepts (name_of names s) T n passes in
         let parts : IsParted states 0 (take n T) (drop n T) = found.0 in
         let same : parts.middle ≡ s = same_state tiers constraints u r stage names states table.named parts.middle s (run_exists states parts.middle parts.after parts.run) here found.1 in
         let run : IsRun states s parts.after = subst (λ x. IsRun states x parts.after) same parts.run in
@@ -84,7 +84,7 @@ module _ (tiers : Tiers) (constraints : List Constraint) (u : List (List Sym)) (
         let p = path_word states table.named.filled 0 s on.0 on.1 in
         let q = some_word states table.named.filled s found.0 found.1 in
         let passes : Passes tiers constraints u (r - 1) r (name_of names s) (p.0 ++ q.0) (length p.0) =
-        passes_state tiers constraints u r stage names states table on.0 found.0 s p.0 q.0 on.1 p.1 found.1 q.1 in
+        passes_state tiers constraints u r stage names states table.named (r - 1) table.accepts on.0 found.0 s p.0 q.0 on.1 p.1 found.1 q.1 in
         let name : name_of names s ≡ kind_of tiers constraints r p.0 = path_kind tiers constraints u r stage names states table.named on.0 s p.0 on.1 p.1 in
         record {
           some = (

@@ -1,4 +1,4 @@
-ghost use Rattle.std.specs.Prelude.{◌≡◌, ℕ, ◌+◌, ◌<◌, ◌↔◌, List, length, Contains, IsTrue};
+ghost use Rattle.std.specs.Prelude.{◌≡◌, ℕ, ◌+◌, ◌<◌, ◌≤◌, ◌↔◌, List, length, take, Contains, IsTrue};
 ghost use Rattle.weight_law.specs.declared.count.Count.{Count as Counted};
 ghost use Rattle.weight_law.specs.declared.unit_weight.UnitWeight.{UnitWeight as Unweighed};
 ghost use Rattle.tier_core.specs.declared.sym.Sym.{Sym};
@@ -9,19 +9,26 @@ ghost use Rattle.tier_core.specs.Kinds.{PrefixKind};
 ghost use Rattle.arc_table.specs.declared.arc.TableArc.{TableArc};
 ghost use Rattle.arc_table.specs.declared.state.TableState.{TableState};
 ghost use Rattle.arc_table.specs.Moves.{moves_at};
-ghost use Rattle.arc_table.specs.Runs.{Accepts, IsOnRun};
+ghost use Rattle.arc_table.specs.Runs.{IsPath, Reads, Accepts, IsOnRun};
 ghost use Rattle.arc_table.specs.States.{states_of};
 ghost use Rattle.prune_best.specs.declared.tight_table.Tight.{Tight as Pruned};
 ghost use Rattle.prune_best.specs.Tight.{IsTight};
+ghost use Rattle.violation.specs.Candidates.{IsOptimalFor};
 ghost use Rattle.violation.specs.Moves.{FitsKind, moved, cut};
+ghost use Rattle.violation.specs.Prefixes.{kind_of};
+ghost use Rattle.violation.specs.Stages.{IsPassed};
 ghost use Rattle.stage_laws.specs.StageTables.{IsStage, name_of, AreNamedByKinds, AreWeighed, IsStageTable};
 ghost use Rattle.stage_laws.specs.FoundTables.{names_kept, AreFoundFrom};
 
 use weight_law::{Count, UnitWeight, Weight};
 
 /// The states of a pruned table are named by the kinds that name them in the table of which it is.
+/// Pruned from a stage's table, these are the kinds that the r-optimal candidates pass, and each prefix
+/// of one is read by a path from the start to the state of its kind.
 pub fn pruned_tables_keep_their_names()
-    ensures { (tiers : Tiers) (constraints : List Constraint) (u : List (List Sym)) (r : ℕ) (names : List PrefixKind) (states : List (TableState Counted ⟦<Count as Weight>⟧)) → IsStage tiers constraints u r → AreNamedByKinds tiers constraints u r names states → (tight : Pruned) → IsTight states (states_of tight.table) tight.states.items → AreNamedByKinds tiers constraints u r (names_kept names tight.states.items) (states_of tight.table) }
+    ensures named { (tiers : Tiers) (constraints : List Constraint) (u : List (List Sym)) (r : ℕ) (names : List PrefixKind) (states : List (TableState Counted ⟦<Count as Weight>⟧)) → IsStage tiers constraints u r → AreNamedByKinds tiers constraints u r names states → (tight : Pruned) → IsTight states (states_of tight.table) tight.states.items → AreNamedByKinds tiers constraints u r (names_kept names tight.states.items) (states_of tight.table) }
+    ensures kinds { (tiers : Tiers) (constraints : List Constraint) (u : List (List Sym)) (r : ℕ) (names : List PrefixKind) (states : List (TableState Counted ⟦<Count as Weight>⟧)) → IsStage tiers constraints u r → IsStageTable tiers constraints u r names states → (tight : Pruned) → IsTight states (states_of tight.table) tight.states.items → (k : PrefixKind) → Contains (names_kept names tight.states.items) k ↔ IsPassed tiers constraints u r r k }
+    ensures prefixes { (tiers : Tiers) (constraints : List Constraint) (u : List (List Sym)) (r : ℕ) (names : List PrefixKind) (states : List (TableState Counted ⟦<Count as Weight>⟧)) → IsStage tiers constraints u r → IsStageTable tiers constraints u r names states → (tight : Pruned) → IsTight states (states_of tight.table) tight.states.items → (T : List (List Sym)) (n : ℕ) → IsOptimalFor tiers constraints u r T → n ≤ length T → (s : ℕ) × ((arcs : List (TableArc Unweighed ⟦<UnitWeight as Weight>⟧)) × IsPath (states_of tight.table) 0 arcs s × Reads arcs (take n T)) × ((s < length (states_of tight.table)) × (name_of (names_kept names tight.states.items) s ≡ kind_of tiers constraints r (take n T))) }
 {}
 
 /// A kind whose cut names a state of a pruned table goes by the columns of this state's moves, and
@@ -32,8 +39,8 @@ pub fn cut_kinds_go_by_pruned_moves()
 {}
 
 /// A table that is found from a pruned one, by going on by kinds under one constraint more, is named
-/// by these kinds and accepts the same words, and its states are on runs where those are. Weighed by the costs under this constraint, it is the
-/// table of the next stage.
+/// by these kinds and accepts the same words, and its states are on runs where those are. Weighed by
+/// the costs under this constraint, it is the table of the next stage.
 pub fn found_tables_are_the_next()
     ensures named { (tiers : Tiers) (constraints : List Constraint) (u : List (List Sym)) (r : ℕ) (names : List PrefixKind) (pruned : List (TableState Unweighed ⟦<UnitWeight as Weight>⟧)) → IsStage tiers constraints u r → AreNamedByKinds tiers constraints u r names pruned → (bases : List ℕ) (kinds : List PrefixKind) (found : List (TableState Counted ⟦<Count as Weight>⟧)) → AreFoundFrom tiers constraints r names pruned bases kinds found → AreNamedByKinds tiers constraints u (r + 1) kinds found }
     ensures words { (tiers : Tiers) (constraints : List Constraint) (u : List (List Sym)) (r : ℕ) (names : List PrefixKind) (pruned : List (TableState Unweighed ⟦<UnitWeight as Weight>⟧)) → IsStage tiers constraints u r → AreNamedByKinds tiers constraints u r names pruned → (bases : List ℕ) (kinds : List PrefixKind) (found : List (TableState Counted ⟦<Count as Weight>⟧)) → AreFoundFrom tiers constraints r names pruned bases kinds found → (T : List (List Sym)) → Accepts found T ↔ Accepts pruned T }

@@ -23,6 +23,9 @@ pub use found::{
 };
 pub use names::names_are_kinds;
 pub use next::{cut_kinds_go_alike, named_tables_are_stage_tables};
-pub use optima::{least_weight_is_the_least_number, words_of_least_weight_are_optimal};
+pub use optima::{
+    least_weight_is_the_least_number, numbers_make_the_least_vector,
+    words_of_least_weight_are_optimal,
+};
 pub use remaining::least_weights_remain;
 pub use weights::{moves_weigh_one_at_most, weights_are_violations};

@@ -5,4 +5,4 @@ pub returns-clause-paths : goal.returns-clause-paths
 returns-clause-paths c tiers constraints u r names states stage table = path_kind tiers constraints u r stage names states table.named
 
 pub returns-clause-names : goal.returns-clause-names
-returns-clause-names c tiers constraints u r names states stage table = names_law tiers constraints u r stage names states table
+returns-clause-names c tiers constraints u r names states stage table = names_law tiers constraints u r stage names states table.named _ table.accepts table.on_runs

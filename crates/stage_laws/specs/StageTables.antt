@@ -5,8 +5,9 @@
 -- Such tables exist. What `ranked_gen` lists where no constraint is ranked, with the weight 0 on each
 -- arc, is the table of stage 0. It has a state for each place of the form with each set of open free
 -- tiers, named by that kind, and from it a move for each column that fits. It accepts all candidates,
--- which are the 0-optimal ones, and each of its states is on a run, since each of these kinds is that
--- of some prefix of a candidate.
+-- which are the 0-optimal ones. Each of its states is on a run: a column that starts its open tiers
+-- leads to it from the state with none open at its place or at the one before, and each prefix that
+-- moves read goes on to a candidate.
 use Rattle.std.specs.Prelude.{[], ◌≡◌, ◌≢◌, ℕ, ◌-◌, ◌<◌, ◌≤◌, ◌↔◌, List, length, slice_index_or, Contains, AllPairs, IsTrue}
 use Rattle.std.specs.List.{AllByRecursion}
 use Rattle.weight_law.specs.declared.Weight.{Ghosts}

@@ -1,5 +1,5 @@
 ghost use Rattle.std.specs.Prelude.{◌≡◌, ℕ, ◌↔◌, List, Contains};
-ghost use Rattle.weight_law.specs.declared.count.Count.{Count as Counted};
+ghost use Rattle.weight_law.specs.declared.count.Count.{Count};
 ghost use Rattle.tier_core.specs.declared.sym.Sym.{Sym};
 ghost use Rattle.tier_core.specs.declared.constraint.Constraint.{Constraint};
 ghost use Rattle.tier_core.specs.Tiers.{Tiers};
@@ -16,6 +16,6 @@ use weight_law::{Count, Weight};
 /// The names of a stage's table are exactly the kinds of the stage. A path from the start that reads
 /// some columns ends at the state that is named by their kind.
 pub fn names_are_kinds()
-    ensures paths { (tiers : Tiers) (constraints : List Constraint) (u : List (List Sym)) (r : ℕ) (names : List PrefixKind) (states : List (TableState Counted ⟦<Count as Weight>⟧)) → IsStage tiers constraints u r → IsStageTable tiers constraints u r names states → (arcs : List (TableArc Counted ⟦<Count as Weight>⟧)) (s : ℕ) (p : List (List Sym)) → IsPath states 0 arcs s → Reads arcs p → name_of names s ≡ kind_of tiers constraints r p }
-    ensures names { (tiers : Tiers) (constraints : List Constraint) (u : List (List Sym)) (r : ℕ) (names : List PrefixKind) (states : List (TableState Counted ⟦<Count as Weight>⟧)) → IsStage tiers constraints u r → IsStageTable tiers constraints u r names states → (k : PrefixKind) → Contains names k ↔ IsKindOfStage tiers constraints u r k }
+    ensures paths { (tiers : Tiers) (constraints : List Constraint) (u : List (List Sym)) (r : ℕ) (names : List PrefixKind) (states : List (TableState Count ⟦<Count as Weight>⟧)) → IsStage tiers constraints u r → IsStageTable tiers constraints u r names states → (arcs : List (TableArc Count ⟦<Count as Weight>⟧)) (s : ℕ) (p : List (List Sym)) → IsPath states 0 arcs s → Reads arcs p → name_of names s ≡ kind_of tiers constraints r p }
+    ensures names { (tiers : Tiers) (constraints : List Constraint) (u : List (List Sym)) (r : ℕ) (names : List PrefixKind) (states : List (TableState Count ⟦<Count as Weight>⟧)) → IsStage tiers constraints u r → IsStageTable tiers constraints u r names states → (k : PrefixKind) → Contains names k ↔ IsKindOfStage tiers constraints u r k }
 {}

@@ -1,5 +1,5 @@
 ghost use Rattle.std.specs.Prelude.{◌≡◌, ℕ, ◌+◌, ◌<◌, ◌≤◌, ◌↔◌, List, length};
-ghost use Rattle.weight_law.specs.declared.count.Count.{Count as Counted};
+ghost use Rattle.weight_law.specs.declared.count.Count.{Count};
 ghost use Rattle.tier_core.specs.declared.sym.Sym.{Sym};
 ghost use Rattle.tier_core.specs.declared.constraint.Constraint.{Constraint};
 ghost use Rattle.tier_core.specs.Tiers.{Tiers};
@@ -17,8 +17,8 @@ use weight_law::{Count, Weight};
 /// candidates that the constraints before have left is a stage's table: at first all candidates, and
 /// then those that the last stage left.
 pub fn named_tables_are_stage_tables()
-    ensures first { (tiers : Tiers) (constraints : List Constraint) (u : List (List Sym)) (names : List PrefixKind) (states : List (TableState Counted ⟦<Count as Weight>⟧)) → AreNamedByKinds tiers constraints u 0 names states → AreWeighed tiers constraints u 0 names states → ((T : List (List Sym)) → Accepts states T ↔ IsCandidate tiers u T) → ((s : ℕ) → s < length states → IsOnRun states s) → IsStageTable tiers constraints u 0 names states }
-    ensures next { (tiers : Tiers) (constraints : List Constraint) (u : List (List Sym)) (r : ℕ) (names : List PrefixKind) (states : List (TableState Counted ⟦<Count as Weight>⟧)) → AreNamedByKinds tiers constraints u (r + 1) names states → AreWeighed tiers constraints u (r + 1) names states → ((T : List (List Sym)) → Accepts states T ↔ IsOptimalFor tiers constraints u r T) → ((s : ℕ) → s < length states → IsOnRun states s) → IsStageTable tiers constraints u (r + 1) names states }
+    ensures first { (tiers : Tiers) (constraints : List Constraint) (u : List (List Sym)) (names : List PrefixKind) (states : List (TableState Count ⟦<Count as Weight>⟧)) → AreNamedByKinds tiers constraints u 0 names states → AreWeighed tiers constraints u 0 names states → ((T : List (List Sym)) → Accepts states T ↔ IsCandidate tiers u T) → ((s : ℕ) → s < length states → IsOnRun states s) → IsStageTable tiers constraints u 0 names states }
+    ensures next { (tiers : Tiers) (constraints : List Constraint) (u : List (List Sym)) (r : ℕ) (names : List PrefixKind) (states : List (TableState Count ⟦<Count as Weight>⟧)) → AreNamedByKinds tiers constraints u (r + 1) names states → AreWeighed tiers constraints u (r + 1) names states → ((T : List (List Sym)) → Accepts states T ↔ IsOptimalFor tiers constraints u r T) → ((s : ℕ) → s < length states → IsOnRun states s) → IsStageTable tiers constraints u (r + 1) names states }
 {}
 
 /// Kinds that are cut to fewer constraints go by the same columns as the whole ones, end where they

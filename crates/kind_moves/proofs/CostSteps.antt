@@ -49,20 +49,24 @@ cost_from (c ∷ cs) o ps column (suc i) d l = by (is_stretch c) (λ qs. cost_fr
     by true h = subst (Rest (drop 1 ps)) (drop_one (length fs) ps) (h (drop 1 ps))
     by false h = h ps
 
--- the bit of `unmet` tells whether the phase is unmet, also past the last
-pub unmet_told : (kind : Kind) (m n : ℕ) → kind.unmet < 2 ^ m → has_tier kind.unmet n ≡ is_unmet_phase (first_phase (drop n (phases m kind)))
-unmet_told kind m n few =
-    ⊎_elim
-    (λ l. by (has_tier kind.unmet n) (has_tier kind.met n) (not_both kind.unmet kind.met n kind.apart) ∙ sym (ap is_unmet_phase (get_or-map-range_with_len (phase_at kind) 0 m n n closed l (omega arith))))
-    (λ l. none_from kind.unmet m n few l ∙ sym (ap is_unmet_phase (get_or_past (phases m kind) n closed (omega (arith, length-map-range_with_len (phase_at kind) 0 m)))))
-    (cases_lt n m)
-    ∙ sym (ap is_unmet_phase (first_from (phases m kind) n))
+-- the bit of `unmet` tells whether the phase is unmet
+pub unmet_at : (kind : Kind) (i : ℕ) → has_tier kind.unmet i ≡ is_unmet_phase (phase_at kind i)
+unmet_at kind i = by (has_tier kind.unmet i) (has_tier kind.met i) (not_both kind.unmet kind.met i kind.apart)
   where
     by : (a b : Bool) → (a && b) ≡ false → a ≡ is_unmet_phase (phase_by_bits a b)
     by true true e = e
     by true false e = refl
     by false true e = refl
     by false false e = refl
+
+-- also past the last
+pub unmet_told : (kind : Kind) (m n : ℕ) → kind.unmet < 2 ^ m → has_tier kind.unmet n ≡ is_unmet_phase (first_phase (drop n (phases m kind)))
+unmet_told kind m n few =
+    ⊎_elim
+    (λ l. unmet_at kind n ∙ sym (ap is_unmet_phase (get_or-map-range_with_len (phase_at kind) 0 m n n closed l (omega arith))))
+    (λ l. none_from kind.unmet m n few l ∙ sym (ap is_unmet_phase (get_or_past (phases m kind) n closed (omega (arith, length-map-range_with_len (phase_at kind) 0 m)))))
+    (cases_lt n m)
+    ∙ sym (ap is_unmet_phase (first_from (phases m kind) n))
 
 -- what a move costs under the constraint at a place
 pub cost_at : (cs : List Constraint) (o : ℕ → Bool) (ps : List Phase) (column : List Sym) (i n : ℕ) (d c : Constraint) → i < length cs → c ≡ get_or cs i d → n ≡ length (filter is_stretch (take i cs))

@@ -7,4 +7,5 @@ pub mod PhaseMaskSteps
 pub mod LawSteps
 pub mod CostSteps
 pub mod CostLaws
+pub mod KindEquality
 pub mod TestLemmas

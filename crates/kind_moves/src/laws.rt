@@ -7,7 +7,7 @@ ghost use Rattle.violation.specs.Moves.{is_final};
 ghost use Rattle.violation.specs.Prefixes.{kind_of};
 ghost use Rattle.violation.specs.Walks.{BeginsCandidate, walk_costs};
 ghost use Rattle.kind_moves.specs.declared.frame.Frame.{Frame};
-ghost use Rattle.kind_moves.specs.Frames.{tiers_in, constraints_in, form_in, kind_at_stage, IsStart};
+ghost use Rattle.kind_moves.specs.Frames.{tiers_in, constraints_in, form_in, kind_at_stage, FitsFrame, IsStart};
 ghost use Rattle.kind_moves.specs.Laws.{LeadsTo};
 
 /// At every stage, the columns that lead from the start to a kind by moves are the prefixes of the
@@ -27,4 +27,9 @@ pub fn kinds_go_by_moves()
 pub fn costs_are_violations()
     ensures prefixes { (frame : Frame) (stage : ℕ) (start : Kind) (p q : List (List Sym)) → IsStart frame stage start → IsCandidate (tiers_in frame) (form_in frame) (p ++ q) → walk_costs (tiers_in frame) (constraints_in frame) (form_in frame) stage (kind_at_stage frame stage start) p ≡ map (λ c. violations_so_far c (p ++ q) (length p)) (take stage (constraints_in frame)) }
     ensures candidates { (frame : Frame) (stage : ℕ) (start : Kind) (T : List (List Sym)) → IsStart frame stage start → IsCandidate (tiers_in frame) (form_in frame) T → walk_costs (tiers_in frame) (constraints_in frame) (form_in frame) stage (kind_at_stage frame stage start) T ≡ take stage (vec (constraints_in frame) T) }
+{}
+
+/// Kinds that fit a frame at a stage are the same where their bits tell the same kind.
+pub fn kinds_are_told_apart()
+    ensures { (frame : Frame) (stage : ℕ) (k l : Kind) → FitsFrame frame stage k → FitsFrame frame stage l → kind_at_stage frame stage k ≡ kind_at_stage frame stage l → k ≡ l }
 {}

@@ -23,4 +23,6 @@ mod phase_masks;
 mod tests;
 
 pub use frame::Frame;
-pub use laws::{costs_are_violations, kinds_go_by_moves, moves_are_of_candidates};
+pub use laws::{
+    costs_are_violations, kinds_are_told_apart, kinds_go_by_moves, moves_are_of_candidates,
+};

@@ -1,0 +1,51 @@
+-- From the table of a stage to that of the next: prune it, and go on by kinds under one constraint more.
+use Rattle.std.proofs.Common.{◌↔◌, ◌≤◌, take, Contains, ◌≡◌, ℕ, ◌+◌, ◌<◌, List, length}
+use Rattle.weight_law.specs.Count.{count_meaning}
+use Rattle.weight_law.specs.declared.Weight.{Ghosts}
+use Rattle.weight_law.specs.declared.count.Count.{Count}
+use Rattle.tier_core.specs.declared.sym.Sym.{Sym}
+use Rattle.tier_core.specs.declared.constraint.Constraint.{Constraint}
+use Rattle.tier_core.specs.Tiers.{Tiers}
+use Rattle.tier_core.specs.Kinds.{PrefixKind}
+use Rattle.arc_table.specs.declared.state.TableState.{TableState}
+use Rattle.arc_table.specs.Conditions.{TargetsExist, ClassesFilled}
+use Rattle.arc_table.specs.declared.arc.TableArc.{TableArc}
+use Rattle.arc_table.specs.Runs.{IsPath, Reads, Accepts}
+use Rattle.violation.specs.Candidates.{IsOptimalFor}
+use Rattle.violation.specs.Prefixes.{kind_of}
+use Rattle.violation.specs.Stages.{IsPassed}
+use Rattle.prune_best.specs.Tight.{IsTight}
+use Rattle.stage_laws.specs.StageTables.{IsStage, name_of, AreNamedByKinds, AreWeighed, IsStageTable}
+use Rattle.stage_laws.specs.FoundTables.{names_kept, AreFoundFrom}
+use Rattle.stage_laws.proofs.Exploring.{found_named, found_on_runs, same_words}
+use Rattle.stage_laws.proofs.Following.{next_table}
+use Rattle.stage_laws.proofs.Naming.{names_law, prefix_path}
+use Rattle.stage_laws.proofs.Optimal.{all_words_law}
+use Rattle.stage_laws.proofs.Pruned.{kept_named}
+
+module _ (tiers : Tiers) (constraints : List Constraint) (u : List (List Sym)) (r : ℕ) (stage : IsStage tiers constraints u r) {g : Ghosts Count} (meaning : g.meaning ≡ count_meaning) (names : List PrefixKind) (states : List (TableState Count g)) (table : IsStageTable tiers constraints u r names states)
+    {V : Type 0} {h : Ghosts V} (pruned : List (TableState V h)) (old : List ℕ) (tight : IsTight states pruned old) (some : 0 < length pruned) (targets : TargetsExist pruned) (filled : ClassesFilled pruned) where
+  named : AreNamedByKinds tiers constraints u r (names_kept names old) pruned
+  named = kept_named tiers constraints u r stage names states table.named pruned old tight some targets filled
+
+  -- the pruned table accepts the r-optimal candidates
+  optimal_words : (T : List (List Sym)) → Accepts pruned T ↔ IsOptimalFor tiers constraints u r T
+  optimal_words T =
+      let law = all_words_law meaning names states tiers constraints u r stage table T in
+      (λ a. law.0 ((tight.accepts T).0 a), λ o. (tight.accepts T).1 (law.1 o))
+
+  -- its names are the kinds that these pass
+  pub kept_kinds : (k : PrefixKind) → Contains (names_kept names old) k ↔ IsPassed tiers constraints u r r k
+  kept_kinds = names_law tiers constraints u r stage (names_kept names old) pruned named r optimal_words tight.on_runs
+
+  pub kept_paths : (T : List (List Sym)) (n : ℕ) → IsOptimalFor tiers constraints u r T → n ≤ length T
+      → (s : ℕ) × ((arcs : List (TableArc V h)) × IsPath pruned 0 arcs s × Reads arcs (take n T)) × ((s < length pruned) × (name_of (names_kept names old) s ≡ kind_of tiers constraints r (take n T)))
+  kept_paths = prefix_path tiers constraints u r stage (names_kept names old) pruned named r optimal_words
+
+  -- what is found from it is the next stage's table
+  pub next_stage : (bases : List ℕ) (kinds : List PrefixKind) (found : List (TableState Count g)) → AreFoundFrom tiers constraints r (names_kept names old) pruned bases kinds found → AreWeighed tiers constraints u (r + 1) kinds found
+      → IsStageTable tiers constraints u (r + 1) kinds found
+  next_stage bases kinds found from weighed =
+      next_table tiers constraints u r kinds found (found_named tiers constraints u r (names_kept names old) pruned named stage bases kinds found from) weighed
+      (λ T. let same = same_words tiers constraints u r (names_kept names old) pruned named stage bases kinds found from T in (λ a. (optimal_words T).0 (same.0 a), λ o. same.1 ((optimal_words T).1 o)))
+      (found_on_runs tiers constraints u r (names_kept names old) pruned named stage bases kinds found from tight.on_runs)

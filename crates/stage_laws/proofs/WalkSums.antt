@@ -1,0 +1,87 @@
+-- What walks cost under one constraint, and what candidates violate of it.
+use Rattle.std.proofs.Common.{◌≡◌, ℕ, zero, suc, ◌+◌, ◌-◌, ◌<◌, ◌≤◌, Bool, cond, List, [], ◌∷◌, ◌++◌, map, take, drop, length, get_or, refl, sym, ap, ◌∙◌, arith}
+use Rattle.std.proofs.lemmas.List.{get_or-take, take-map, length-map}
+use Rattle.tier_core.specs.declared.sym.Sym.{Sym}
+use Rattle.tier_core.specs.declared.constraint.Constraint.{Constraint}
+use Rattle.tier_core.specs.Tiers.{Tiers}
+use Rattle.tier_core.specs.Kinds.{Phase, PrefixKind}
+use Rattle.violation.specs.Candidates.{IsCandidate, vec, vec_so_far}
+use Rattle.violation.specs.Counts.{violations_of, violations_so_far}
+use Rattle.violation.specs.Moves.{costs_each, is_tier_open, moved, move_costs}
+use Rattle.violation.specs.Prefixes.{kind_of}
+use Rattle.violation.specs.Sides.{is_stretch}
+use Rattle.violation.specs.Walks.{HasMoves, reached, add_each, walk_costs}
+use Rattle.violation.proofs.CostLemmas.{length_walk, costs_on, costs_sum}
+use Rattle.violation.proofs.WalkLemmas.{candidate_walk, reached_is}
+use Rattle.stage_laws.specs.StageTables.{IsStage}
+use Rattle.stage_laws.proofs.Naming.{over_first, over_stretches}
+
+-- a sum of two lists of one length, at a place
+add_at : (a b : List ℕ) (i : ℕ) → length a ≡ length b → get_or (add_each a b) i 0 ≡ get_or a i 0 + get_or b i 0
+add_at [] [] i e = refl
+add_at [] (y ∷ b) i e = absurd (omega arith)
+add_at (x ∷ a) [] i e = absurd (omega arith)
+add_at (x ∷ a) (y ∷ b) zero e = refl
+add_at (x ∷ a) (y ∷ b) (suc i) e = add_at a b i (omega arith)
+
+pub none_at : {X : Type 0} (xs : List X) (i : ℕ) → ◌≡◌ {A = ℕ} (get_or (map (λ x. 0) xs) i 0) 0
+none_at [] i = refl
+none_at (x ∷ xs) zero = refl
+none_at (x ∷ xs) (suc i) = none_at xs i
+
+length_costs : (cs : List Constraint) (o : ℕ → Bool) (phases : List Phase) (column : List Sym) → length (costs_each cs o phases column) ≡ length cs
+length_costs [] o phases column = refl
+length_costs (c ∷ cs) o phases column = ap suc (length_costs cs o (cond (is_stretch c) (drop 1 phases) phases) column)
+
+module _ (tiers : Tiers) (constraints : List Constraint) (u : List (List Sym)) (r : ℕ) (stage : IsStage tiers constraints u r) where
+  -- what a walk costs under constraint i, counted from 0
+  abbrev pub walk_cost : ℕ → PrefixKind → List (List Sym) → ℕ
+  walk_cost i k p = get_or (walk_costs tiers constraints u r k p) i 0
+
+  pub walk_step : (i : ℕ) (k : PrefixKind) (column : List Sym) (p : List (List Sym)) → walk_cost i k (column ∷ p) ≡ get_or (move_costs tiers constraints u r k column) i 0 + walk_cost i (moved tiers constraints r k column) p
+  walk_step i k column p =
+      add_at (move_costs tiers constraints u r k column) (walk_costs tiers constraints u r (moved tiers constraints r k column) p) i
+      (length_costs (take r constraints) (is_tier_open tiers u k) k.phases column
+      ∙ sym (length_walk tiers constraints r u stage.split stage.form (over_first tiers constraints u r stage) p (moved tiers constraints r k column)))
+
+  walk_append : (i : ℕ) (p q : List (List Sym)) (k : PrefixKind) → walk_cost i k (p ++ q) ≡ walk_cost i k p + walk_cost i (reached tiers constraints r k p) q
+  walk_append i [] q k = omega (arith, none_at (take r constraints) i)
+  walk_append i (column ∷ p) q k =
+      omega (arith, walk_step i k column (p ++ q), walk_step i k column p, walk_append i p q (moved tiers constraints r k column))
+
+  module _ (ranked : 1 ≤ r) where
+    last : r - 1 < r
+    last = omega arith
+
+    -- what a candidate violates of constraint r is what its walk costs under it
+    pub violations_walk : (T : List (List Sym)) → IsCandidate tiers u T → get_or (vec constraints T) (r - 1) 0 ≡ walk_cost (r - 1) (kind_of tiers constraints r []) T
+    violations_walk T c =
+        sym (get_or-take r (vec constraints T) (r - 1) 0 last)
+        ∙ ap (λ (ns : List ℕ). get_or ns (r - 1) 0) (costs_sum tiers constraints r u stage.split stage.form (over_first tiers constraints u r stage) T c)
+
+    -- from a prefix on, it is what was violated so far and what the rest of the walk costs
+    pub violations_on : (p q : List (List Sym)) → IsCandidate tiers u (p ++ q)
+        → get_or (vec constraints (p ++ q)) (r - 1) 0 ≡ get_or (vec_so_far constraints (p ++ q) (length p)) (r - 1) 0 + walk_cost (r - 1) (kind_of tiers constraints r p) q
+    violations_on p q c =
+        let T : List (List Sym) = p ++ q in
+        let so_far : List ℕ = map (λ x. violations_so_far x T (length p)) (take r constraints) in
+        let same : take r (vec_so_far constraints T (length p)) ≡ so_far = take-map (λ x. violations_so_far x T (length p)) r constraints in
+        let cut : get_or so_far (r - 1) 0 ≡ get_or (vec_so_far constraints T (length p)) (r - 1) 0 =
+        ap (λ (ns : List ℕ). get_or ns (r - 1) 0) (sym same) ∙ get_or-take r (vec_so_far constraints T (length p)) (r - 1) 0 last in
+        sym (get_or-take r (vec constraints T) (r - 1) 0 last)
+        ∙ ap (λ (ns : List ℕ). get_or ns (r - 1) 0) (take-map (λ x. violations_of x T) r constraints)
+        ∙ ap (λ (ns : List ℕ). get_or ns (r - 1) 0) (costs_on tiers constraints r u stage.split stage.form (over_first tiers constraints u r stage) q p T refl c)
+        ∙ add_at so_far (walk_costs tiers constraints u r (kind_of tiers constraints r p) q) (r - 1) (even q p)
+        ∙ ap (λ n. n + walk_cost (r - 1) (kind_of tiers constraints r p) q) cut
+      where
+        even : (q p : List (List Sym)) → length (map (λ x. violations_so_far x (p ++ q) (length p)) (take r constraints)) ≡ length (walk_costs tiers constraints u r (kind_of tiers constraints r p) q)
+        even q p = length-map (take r constraints) (λ x. violations_so_far x (p ++ q) (length p)) ∙ sym (length_walk tiers constraints r u stage.split stage.form (over_first tiers constraints u r stage) q (kind_of tiers constraints r p))
+
+    -- what is violated so far is what the walk costs so far
+    pub so_far_walk : (p q : List (List Sym)) → IsCandidate tiers u (p ++ q) → get_or (vec_so_far constraints (p ++ q) (length p)) (r - 1) 0 ≡ walk_cost (r - 1) (kind_of tiers constraints r []) p
+    so_far_walk p q c =
+        let moves : HasMoves tiers constraints r u (kind_of tiers constraints r []) p = candidate_walk tiers constraints r u stage.split stage.form (over_stretches tiers constraints u r stage) p [] q c in
+        let parts : walk_cost (r - 1) (kind_of tiers constraints r []) (p ++ q) ≡ walk_cost (r - 1) (kind_of tiers constraints r []) p + walk_cost (r - 1) (kind_of tiers constraints r p) q =
+        walk_append (r - 1) p q (kind_of tiers constraints r [])
+        ∙ ap (λ k. walk_cost (r - 1) (kind_of tiers constraints r []) p + walk_cost (r - 1) k q) (reached_is tiers constraints r u stage.split stage.form (over_stretches tiers constraints u r stage) p moves) in
+        omega (arith, violations_on p q c, violations_walk (p ++ q) c, parts)

@@ -1,0 +1,9 @@
+use Rattle.stage_laws.proofs.Optimal.{optimal_for_fewer}
+use Rattle.stage_laws.proofs.LeastVector.{vector_of_numbers}
+use Rattle.stage_laws.proofs.optima.numbers_make_the_least_vector.Goals as goal
+
+pub returns-clause-vector : goal.returns-clause-vector
+returns-clause-vector c = vector_of_numbers
+
+pub returns-clause-fewer : goal.returns-clause-fewer
+returns-clause-fewer c tiers constraints u T r s l opt = optimal_for_fewer tiers constraints u r s l T opt

@@ -1,0 +1,2 @@
+pub mod StageTables
+pub mod FoundTables

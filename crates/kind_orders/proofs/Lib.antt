@@ -3,3 +3,7 @@ pub mod Strict
 pub mod Orders
 pub mod Places
 pub mod Nodes
+pub mod ClassOrder
+pub mod ArcOrder
+pub mod ByNode
+pub mod Reading

@@ -1,5 +1,5 @@
 -- Kinds that are found, and their order.
-use Rattle.std.specs.Prelude.{ℕ, ◌≡◌, ◌≢◌, ◌<◌, List, map, length, slice_index_or, All, AllPairs, refl}
+use Rattle.std.specs.Prelude.{ℕ, ◌≢◌, List, map, length, slice_index_or, All, AllPairs, refl}
 use Rattle.std.specs.List.Sorted.{IsStrictlySortedBy}
 use Rattle.tier_core.specs.declared.kind.Kind.{Kind}
 use Rattle.tier_core.specs.declared.shape.Shape.{Shape}

@@ -6,10 +6,14 @@
 //! is linear but for sorting. Below stand kinds, tables and answers; above, the staged generator.
 #![tactic(auto)]
 
+mod arcs;
+mod automaton;
 mod inverse;
+mod lines;
 mod order;
 mod stage;
 
+pub use automaton::automaton_of;
 pub use inverse::ranks;
 pub use order::ordered;
 pub use stage::stage_of;

@@ -1,5 +1,4 @@
-use Rattle.std.proofs.Common.{List, length, ap, subst, rules, IsPermutation}
-use Rattle.std.specs.List.{range_with_len}
+use Rattle.std.proofs.Common.{subst, rules, IsPermutation}
 use Rattle.std.proofs.lemmas.List.Sorted.{ranks_by}
 use Rattle.tier_core.specs.Kinds.{kind_order}
 use Rattle.kind_orders.specs.KindOrders.{told}

@@ -7,3 +7,4 @@ pub mod ClassOrder
 pub mod ArcOrder
 pub mod ByNode
 pub mod Reading
+pub mod AnswerParts

@@ -12,6 +12,8 @@ mod inverse;
 mod lines;
 mod order;
 mod stage;
+#[cfg(test)]
+mod tests;
 
 pub use automaton::automaton_of;
 pub use inverse::ranks;

@@ -1,0 +1,10 @@
+pub mod Members
+pub mod Strict
+pub mod Orders
+pub mod Places
+pub mod Nodes
+pub mod ClassOrder
+pub mod ArcOrder
+pub mod ByNode
+pub mod Reading
+pub mod AnswerParts

@@ -1,0 +1,30 @@
+-- Kinds that are found, and their order.
+use Rattle.std.specs.Prelude.{ℕ, ◌≢◌, List, map, length, slice_index_or, All, AllPairs, refl}
+use Rattle.std.specs.List.Sorted.{IsStrictlySortedBy}
+use Rattle.tier_core.specs.declared.kind.Kind.{Kind}
+use Rattle.tier_core.specs.declared.shape.Shape.{Shape}
+use Rattle.tier_core.specs.Kinds.{PrefixKind, kind_order}
+use Rattle.tier_core.specs.KindShapes.{FitsShape, kind_in}
+use Rattle.kind_orders.specs.Orderings.{IsOrdering}
+
+-- the kind of the empty prefix
+abbrev pub empty_kind : Kind
+empty_kind = record { place = 0; opened = 0; unmet = 0; met = 0; apart = refl }
+
+-- the kind of a number, and that of the empty prefix where there is no such number
+abbrev pub kind_numbered : List Kind → ℕ → Kind
+kind_numbered kinds number = slice_index_or kinds number empty_kind
+
+-- Kinds that are found for a stage: their bits fit the shape there, and no two tell the same.
+pub record AreFound (shape : Shape) (stage : ℕ) (kinds : List Kind) : Type 0 where
+  pub fit : All (FitsShape shape stage) kinds
+  pub differ : AllPairs (λ a b. kind_in shape stage a ≢ kind_in shape stage b) kinds
+
+-- what a kind tells, by its number
+abbrev pub told : Shape → ℕ → List Kind → ℕ → PrefixKind
+told shape stage kinds number = kind_in shape stage (kind_numbered kinds number)
+
+-- the numbers of all kinds, so that the kinds ascend strictly when they are taken in this order
+pub record IsKindOrder (shape : Shape) (stage : ℕ) (kinds : List Kind) (order : List ℕ) : Type 0 where
+  pub numbers : IsOrdering (length kinds) order
+  pub ascending : IsStrictlySortedBy kind_order (map (told shape stage kinds) order)

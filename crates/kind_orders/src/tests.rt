@@ -1,0 +1,114 @@
+ghost use Rattle.std.specs.Prelude.{◌≡◌, ◌≢◌, ◌<◌, ◌≤◌, IfOk, length};
+ghost use Rattle.arc_table.specs.States.{states_of};
+ghost use Rattle.tier_core.specs.KindShapes.{free_count};
+ghost use Rattle.tier_core.specs.Shapes.{NeverFalls};
+
+use super::*;
+use answer_text::{Automaton, Stage};
+use arc_table::{Table, TableState};
+use std::alloc::{AllocError, Global};
+use std::test::Fail;
+use tier_core::{Kind, NoMemory, Shape};
+use weight_law::UnitWeight;
+
+// The kind of a place and a mask of open tiers, where all stretch implications are closed.
+fn kind(place: u32, opened: u16) -> Kind
+    ensures place { result.place ≡ place }
+    ensures opened { result.opened ≡ opened }
+    ensures unmet { result.unmet ≡ 0 }
+    ensures met { result.met ≡ 0 }
+{
+    Kind {
+        place,
+        opened,
+        unmet: 0,
+        met: 0,
+    }
+}
+
+// The shape of two tiers, an input tier and then a free one.
+fn shape(alloc: Global, phases: &[u32]) -> Result<Shape, AllocError>
+    requires some { 1 ≤ length phases.now }
+    requires few { length phases.now ≤ 25 }
+    requires rising { NeverFalls phases.now }
+    ensures stages { IfOk result (λ s. s.phases.items ≡ phases.now) }
+    ensures free { IfOk result (λ s. free_count s ≡ 1) }
+{
+    let phases = Vec::from_slice(alloc, phases)?;
+    Ok(Shape {
+        width: 2,
+        inputs: 1,
+        phases,
+    })
+}
+
+// One state without moves.
+fn one_state(alloc: Global) -> Result<Table<UnitWeight>, AllocError>
+    ensures { IfOk result (λ t. length (states_of t) ≡ 1) }
+{
+    let mut states = Vec::new(alloc);
+    states.push(TableState {
+        accepting: true,
+        arcs: Vec::new(alloc),
+    })?;
+    Ok(Table::of_states(states))
+}
+
+#[derive(Drop)]
+struct Made {
+    order: Vec<u32>,
+    ranks: Vec<u32>,
+    stage: Stage,
+    automaton: Automaton,
+}
+
+// What is made of three kinds of different places, where a table's one state stands for the second.
+fn made_of(
+    alloc: Global,
+    shape: &Shape,
+    kept: &Table<UnitWeight>,
+    a: Kind,
+    b: Kind,
+    c: Kind,
+) -> Result<Made, NoMemory>
+    requires stages { length shape.now.phases.items ≡ 1 }
+    requires free { free_count shape.now ≡ 1 }
+    requires states { length (states_of kept.now) ≡ 1 }
+    requires opened { (a.opened < 2) × (b.opened < 2) × (c.opened < 2) }
+    requires unmet { (a.unmet ≡ 0) × (b.unmet ≡ 0) × (c.unmet ≡ 0) }
+    requires met { (a.met ≡ 0) × (b.met ≡ 0) × (c.met ≡ 0) }
+    requires places { (a.place ≢ b.place) × (a.place ≢ c.place) × (b.place ≢ c.place) }
+{
+    let kinds = [a, b, c];
+    let order = ordered(alloc, shape, 0, &kinds)?;
+    let ranks = ranks(alloc, &order)?;
+    let stage = stage_of(alloc, &kinds, &[4, 5, 6], &order)?;
+    let automaton = automaton_of(alloc, kept, &[1], &ranks)?;
+    Ok(Made {
+        order,
+        ranks,
+        stage,
+        automaton,
+    })
+}
+
+#[test]
+fn kinds_are_put_in_order(rt: HostRuntime) -> Result<(), Fail> {
+    let alloc = rt.alloc();
+    let shape = shape(alloc, &[0])?;
+    let kept = one_state(alloc)?;
+    let made = made_of(alloc, &shape, &kept, kind(2, 0), kind(0, 1), kind(1, 0))?;
+    assert_eq!(rt; made.order.as_slice(), [1, 2, 0].as_slice());
+    assert_eq!(rt; made.ranks.as_slice(), [2, 0, 1].as_slice());
+    let mut nodes = Vec::new(alloc);
+    for node in &made.stage.nodes {
+        nodes.push((node.kind.place, node.potential))?;
+    }
+    assert_eq!(rt; nodes.as_slice(), [(0, 5), (1, 6), (2, 4)].as_slice());
+    let mut states = Vec::new(alloc);
+    for state in &made.automaton.states {
+        states.push((state.node, state.accepting, state.arcs.len()))?;
+    }
+    assert_eq!(rt; states.as_slice(), [(0, true, 0)].as_slice());
+    Ok(())
+}

@@ -1,0 +1,4 @@
+mod Keys
+mod Cuts
+mod Zips
+mod Listing

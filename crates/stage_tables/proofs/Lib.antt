@@ -2,3 +2,5 @@ mod Keys
 mod Cuts
 mod Zips
 mod Listing
+mod Finding
+mod Numbering

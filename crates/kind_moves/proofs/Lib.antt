@@ -5,3 +5,6 @@ pub mod MoveSteps
 pub mod KindBits
 pub mod PhaseMaskSteps
 pub mod LawSteps
+pub mod CostSteps
+pub mod CostLaws
+pub mod TestLemmas

@@ -1,5 +1,5 @@
 ghost use Rattle.std.specs.Prelude.{◌≡◌, ◌<◌, ◌&&◌, not, length};
-ghost use Rattle.std.specs.List.{list_any};
+ghost use Rattle.std.specs.List.{list_all, list_any};
 ghost use Rattle.tier_core.specs.Scan.{opens};
 ghost use Rattle.tier_core.specs.Timelines.{symbol, is_edge};
 ghost use Rattle.violation.specs.Columns.{part_present, is_present, opens_interior, opens_all};
@@ -30,6 +30,16 @@ fn is_edge_of(part: Part) -> bool
     ensures { result ≡ is_edge_part part }
 {
     matches!(part, Part::Start | Part::End)
+}
+
+/// Whether an event of each type stands at a column.
+pub(crate) fn all_present(column: &[Sym], types: &[Event]) -> bool
+    requires { AreInColumn types.now column.now }
+    ensures { result ≡ list_all (is_present column.now) types.now }
+{
+    types
+        .iter()
+        .all(|e| part_at(e.part, column[e.tier as usize]))
 }
 
 /// Whether an event of some type stands at a column.

@@ -4,10 +4,11 @@ ghost use Rattle.tier_core.specs.Tiers.{tiers_of};
 ghost use Rattle.violation.specs.Candidates.{IsForm};
 ghost use Rattle.kind_moves.specs.Masks.{AreOpenInputs};
 
+use crate::cost::{costs, count_stretches};
 use crate::fit::{has_edge, has_input_edge, has_input_part, may_follow};
 use crate::mask::{laid_out, open_after, taken_from};
 use crate::open::{free_tiers, open_inputs};
-use crate::phase::next_phases;
+use crate::phase::{has_phase, next_phases};
 use crate::phase_masks::PhaseMasks;
 use grammar_reader::Grammar;
 use std::alloc::Global;
@@ -28,12 +29,12 @@ pub struct Frame<'a> {
 }
 
 impl<'a> Frame<'a> {
-    ghost use Rattle.std.specs.Prelude.{ℕ, ◌+◌, ◌<◌, ◌^◌, ◌↔◌, ◌⊎◌, false, if◌then◌else◌, IsTrue, IfOk, MatchOption, map};
+    ghost use Rattle.std.specs.Prelude.{ℕ, ◌+◌, ◌-◌, ◌<◌, ◌^◌, ◌↔◌, ◌⊎◌, false, if◌then◌else◌, IsTrue, IfOk, MatchOption, map, slice_index_or};
     ghost use Rattle.tier_core.specs.Scan.{opens};
     ghost use Rattle.tier_core.specs.Tiers.{has_tier};
     ghost use Rattle.tier_core.specs.Timelines.{symbol, column_at, has_edge};
     ghost use Rattle.tier_core.specs.Kinds.{open_tiers};
-    ghost use Rattle.violation.specs.Moves.{input_of, is_final, is_tier_open, next_phases};
+    ghost use Rattle.violation.specs.Moves.{input_of, is_final, is_tier_open, move_costs, next_phases};
     ghost use Rattle.kind_moves.specs.Phases.{phases_by};
     ghost use Rattle.kind_moves.specs.Frames.{tiers_in, constraints_in, form_in, stretches_in, kind_at_stage, FitsAt, FitsFrame, IsMove, IsStart};
 
@@ -176,5 +177,28 @@ impl<'a> Frame<'a> {
             unmet: phases.unmet,
             met: phases.met,
         })
+    }
+
+    /// What the move from a kind by a column costs under a constraint, which is counted from 1 in
+    /// ranked order and is one of the first `stage`: 0 or 1.
+    pub fn cost(&self, stage: u32, constraint: u32, kind: &Kind, column: &Column) -> u32
+        requires stage { stage ≤ length (constraints_in self.now) }
+        requires some { 1 ≤ constraint }
+        requires within { constraint ≤ stage }
+        requires fits { FitsFrame self.now stage kind.now }
+        requires width { length column.now ≡ (tiers_in self.now).width }
+        ensures cost { result ≡ slice_index_or (move_costs (tiers_in self.now) (constraints_in self.now) (form_in self.now) stage (kind_at_stage self.now stage kind.now) column.now) (constraint - 1) 0 }
+        ensures few { result ≤ 1 }
+    {
+        let number = constraint as usize - 1;
+        let constraints = self.grammar.constraints.as_slice();
+        let place = count_stretches(&constraints[..number]);
+        let is_unmet = has_phase(kind.unmet, place);
+        let opened = self.open_at(kind);
+        if costs(&constraints[number], opened, is_unmet, column.syms()) {
+            1
+        } else {
+            0
+        }
     }
 }

@@ -1,10 +1,11 @@
-ghost use Rattle.std.specs.Prelude.{◌≡◌, ℕ, ◌↔◌, List, IsTrue};
+ghost use Rattle.std.specs.Prelude.{◌≡◌, ℕ, ◌↔◌, ◌++◌, List, IsTrue, length, map, take};
 ghost use Rattle.tier_core.specs.declared.kind.Kind.{Kind};
 ghost use Rattle.tier_core.specs.declared.sym.Sym.{Sym};
-ghost use Rattle.violation.specs.Candidates.{IsCandidate};
+ghost use Rattle.violation.specs.Candidates.{IsCandidate, vec};
+ghost use Rattle.violation.specs.Counts.{violations_so_far};
 ghost use Rattle.violation.specs.Moves.{is_final};
 ghost use Rattle.violation.specs.Prefixes.{kind_of};
-ghost use Rattle.violation.specs.Walks.{BeginsCandidate};
+ghost use Rattle.violation.specs.Walks.{BeginsCandidate, walk_costs};
 ghost use Rattle.kind_moves.specs.declared.frame.Frame.{Frame};
 ghost use Rattle.kind_moves.specs.Frames.{tiers_in, constraints_in, form_in, kind_at_stage, IsStart};
 ghost use Rattle.kind_moves.specs.Laws.{LeadsTo};
@@ -19,4 +20,11 @@ pub fn moves_are_of_candidates()
 /// The kind to which the columns of a prefix lead from the start is the kind of the prefix.
 pub fn kinds_go_by_moves()
     ensures { (frame : Frame) (stage : ℕ) (start last : Kind) (p : List (List Sym)) → IsStart frame stage start → LeadsTo frame stage start p last → kind_at_stage frame stage last ≡ kind_of (tiers_in frame) (constraints_in frame) stage p }
+{}
+
+/// What the moves by the columns of a prefix of a candidate cost under each constraint is what the
+/// candidate has violated so far, and what those of a candidate cost is its violations.
+pub fn costs_are_violations()
+    ensures prefixes { (frame : Frame) (stage : ℕ) (start : Kind) (p q : List (List Sym)) → IsStart frame stage start → IsCandidate (tiers_in frame) (form_in frame) (p ++ q) → walk_costs (tiers_in frame) (constraints_in frame) (form_in frame) stage (kind_at_stage frame stage start) p ≡ map (λ c. violations_so_far c (p ++ q) (length p)) (take stage (constraints_in frame)) }
+    ensures candidates { (frame : Frame) (stage : ℕ) (start : Kind) (T : List (List Sym)) → IsStart frame stage start → IsCandidate (tiers_in frame) (form_in frame) T → walk_costs (tiers_in frame) (constraints_in frame) (form_in frame) stage (kind_at_stage frame stage start) T ≡ take stage (vec (constraints_in frame) T) }
 {}

@@ -10,6 +10,7 @@
 //! Derivation in Optimality Theory (COLING 1994); that its states are kinds is this project's.
 #![tactic(auto)]
 
+mod cost;
 mod event;
 mod fit;
 mod frame;
@@ -18,6 +19,8 @@ mod mask;
 mod open;
 mod phase;
 mod phase_masks;
+#[cfg(test)]
+mod tests;
 
 pub use frame::Frame;
-pub use laws::{kinds_go_by_moves, moves_are_of_candidates};
+pub use laws::{costs_are_violations, kinds_go_by_moves, moves_are_of_candidates};

@@ -38,8 +38,8 @@ impl Phase {
     }
 }
 
-/// Whether the bit of a place is set in a mask.
-fn has_bit(mask: u32, place: u32) -> bool
+/// Whether the bit of a stretch implication is set in a mask.
+pub(crate) fn has_phase(mask: u32, place: u32) -> bool
     requires { place < 32 }
     ensures { result ≡ has_tier mask place }
 {
@@ -95,7 +95,7 @@ pub(crate) fn next_phases(constraints: &[Constraint], kind: &Kind, column: &[Sym
     let mut next = 0;
     for constraint in constraints {
         if is_stretch(constraint) {
-            let phase = phase_after(constraint, has_bit(kind.met, next), column);
+            let phase = phase_after(constraint, has_phase(kind.met, next), column);
             unmet = with_bit(unmet, next, phase.is_unmet());
             met = with_bit(met, next, phase.is_met());
             next += 1;

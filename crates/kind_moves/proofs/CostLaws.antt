@@ -1,0 +1,124 @@
+-- What the moves of a frame cost in all.
+use Rattle.std.proofs.Common.{◌≡◌, ◌++◌, ◌+◌, ◌<◌, ◌≤◌, ◌^◌, ℕ, zero, suc, Bool, cond, List, [], ◌∷◌, map, filter, take, drop, length, get_or, refl, sym, ap, ◌∙◌, subst, arith, append-nil, append_assoc, length-take}
+use Rattle.std.specs.List.{AllByRecursion}
+use Rattle.std.proofs.lemmas.List.{length_push, get_or-take}
+use Rattle.std.proofs.lemmas.List.Elements.{All-from_recursion}
+use Rattle.tier_core.specs.declared.kind.Kind.{Kind}
+use Rattle.tier_core.specs.declared.sym.Sym.{Sym}
+use Rattle.tier_core.specs.declared.constraint.Constraint.{Constraint}
+use Rattle.tier_core.specs.Kinds.{Phase}
+use Rattle.tier_core.specs.Tiers.{Tiers, has_tier}
+use Rattle.tier_core.proofs.CountLemmas.{all_of}
+use Rattle.violation.specs.Candidates.{IsForm, IsCandidate, vec}
+use Rattle.violation.specs.Conditions.{AreSplit, IsOverTiers}
+use Rattle.violation.specs.Counts.{violations_so_far}
+use Rattle.violation.specs.Moves.{costs, first_phase, is_tier_open, is_unmet_phase, move_costs, moved}
+use Rattle.violation.specs.Prefixes.{kind_of, stretches}
+use Rattle.violation.specs.Sides.{is_stretch}
+use Rattle.violation.specs.Walks.{walk_costs, add_each}
+use Rattle.violation.proofs.CostLemmas.{costs_agree, add_assoc_each, length_walk, move_adds, costs_sum}
+use Rattle.violation.proofs.SplitLemmas.{tiers_split}
+use Rattle.violation.proofs.TierLemmas.{map_agree}
+use Rattle.violation.proofs.WalkLemmas.{moved_is}
+use Rattle.violation.proofs.WholeCounts.{so_far_none}
+use Rattle.kind_moves.specs.declared.frame.Frame.{Frame}
+use Rattle.kind_moves.specs.Frames.{tiers_in, constraints_in, form_in, stretches_in, kind_at_stage, IsStart}
+use Rattle.kind_moves.proofs.GrammarTiers.{over_tiers, over_stretches, form_from}
+use Rattle.kind_moves.proofs.CostSteps.{unmet_told, cost_at}
+
+all_taken : {X : Type 0} (P : X → Type 0) (xs : List X) (n : ℕ) → AllByRecursion P xs → AllByRecursion P (take n xs)
+all_taken P xs zero h = tt
+all_taken P [] (suc n) h = tt
+all_taken P (x ∷ xs) (suc n) h = (h.0, all_taken P xs n h.1)
+
+take_less : {X : Type 0} (xs : List X) (i n : ℕ) → i ≤ n → take i (take n xs) ≡ take i xs
+take_less xs zero n l = refl
+take_less [] (suc i) zero l = absurd (omega arith)
+take_less [] (suc i) (suc n) l = refl
+take_less (x ∷ xs) (suc i) zero l = absurd (omega arith)
+take_less (x ∷ xs) (suc i) (suc n) l = ap (λ ys. x ∷ ys) (take_less xs i n (omega arith))
+
+-- ---- one move
+
+-- each constraint of a frame is over its tiers
+pub over_at : (frame : Frame) (number : ℕ) (c : Constraint) → number < length (constraints_in frame) → c ≡ get_or (constraints_in frame) number c → IsOverTiers (tiers_in frame).width c
+over_at frame number c l is = subst (IsOverTiers (tiers_in frame).width) (sym is) (All-from_recursion (IsOverTiers (tiers_in frame).width) (constraints_in frame) (over_tiers frame.grammar.now) number c l)
+
+-- what a move costs under the constraint after so many
+pub move_cost : (frame : Frame) (stage number place mask : ℕ) (kind : Kind) (column : List Sym) (c : Constraint) (is_unmet b : Bool)
+    → stage ≤ length (constraints_in frame) → number < stage → c ≡ get_or (constraints_in frame) number c → place ≡ length (filter is_stretch (take number (constraints_in frame)))
+    → ((t : ℕ) → has_tier mask t ≡ is_tier_open (tiers_in frame) (form_in frame) (kind_at_stage frame stage kind) t)
+    → is_unmet ≡ has_tier kind.unmet place → kind.unmet < 2 ^ length (stretches_in frame stage)
+    → ((phase : Phase) → is_unmet ≡ is_unmet_phase phase → b ≡ costs c.family c.left c.right (has_tier mask) phase column)
+    → cond b 1 0 ≡ get_or (move_costs (tiers_in frame) (constraints_in frame) (form_in frame) stage (kind_at_stage frame stage kind) column) number 0
+move_cost frame stage number place mask kind column c is_unmet b few within is count opened unmet below on =
+    let cs = constraints_in frame in
+    let k = kind_at_stage frame stage kind in
+    let ph = first_phase (drop place k.phases) in
+    let size = length-take stage cs in
+    let at : c ≡ get_or (take stage cs) number c = is ∙ sym (get_or-take stage cs number c within) in
+    let before : place ≡ length (filter is_stretch (take number (take stage cs))) = count ∙ ap (λ xs. length (filter is_stretch xs)) (sym (take_less cs number stage (omega arith))) in
+    ap (λ x. cond x 1 0)
+    (on ph (unmet ∙ unmet_told kind (length (stretches_in frame stage)) place below)
+    ∙ costs_agree c.family c.left c.right (has_tier mask) (is_tier_open (tiers_in frame) (form_in frame) k) ph column (all_of _ (c.left ++ c.right) (λ e. opened e.tier)))
+    ∙ cost_at (take stage cs) (is_tier_open (tiers_in frame) (form_in frame) k) k.phases column number place c c (omega (arith, size)) at before
+
+-- ---- moves in turn
+
+add_nothing : (f : Constraint → ℕ) (cs : List Constraint) → map f cs ≡ add_each (map f cs) (map (λ c. 0) cs)
+add_nothing f [] = refl
+add_nothing f (c ∷ cs) = let same : f c ≡ f c + 0 = omega arith in ap (λ n. n ∷ map f cs) same ∙ ap (λ ns. (f c + 0) ∷ ns) (add_nothing f cs)
+
+module _ (tiers : Tiers) (constraints : List Constraint) (r : ℕ) (u : List (List Sym)) (split : AreSplit tiers) (form : IsForm tiers u)
+    (over : AllByRecursion (IsOverTiers tiers.width) (take r constraints)) (stretches_over : AllByRecursion (IsOverTiers tiers.width) (stretches constraints r)) where
+  -- what a candidate has violated after more columns, and what the moves by them cost
+  pub costs_so_far : (q p w T : List (List Sym)) → T ≡ p ++ (q ++ w) → IsCandidate tiers u T
+      → map (λ c. violations_so_far c T (length (p ++ q))) (take r constraints)
+      ≡ add_each (map (λ c. violations_so_far c T (length p)) (take r constraints)) (walk_costs tiers constraints u r (kind_of tiers constraints r p) q)
+  costs_so_far [] p w T e c =
+      ap (λ n. map (λ c. violations_so_far c T n) (take r constraints)) (ap length (append-nil p))
+      ∙ add_nothing (λ c. violations_so_far c T (length p)) (take r constraints)
+  costs_so_far (column ∷ q) p w T e c =
+      let on : T ≡ (p ++ column ∷ []) ++ (q ++ w) = e ∙ sym (append_assoc p (column ∷ []) (q ++ w)) in
+      let next : moved tiers constraints r (kind_of tiers constraints r p) column ≡ kind_of tiers constraints r (p ++ column ∷ []) =
+      moved_is tiers constraints r u split form stretches_over p column (q ++ w, subst (IsCandidate tiers u) on c) in
+      let size : length (p ++ column ∷ []) ≡ suc (length p) = omega (arith, length_push p column) in
+      ap (λ (x : List (List Sym)). map (λ c. violations_so_far c T (length x)) (take r constraints)) (sym (append_assoc p (column ∷ []) q))
+      ∙ costs_so_far q (p ++ column ∷ []) w T on c
+      ∙ ap (λ n. add_each (map (λ c. violations_so_far c T n) (take r constraints)) (walk_costs tiers constraints u r (kind_of tiers constraints r (p ++ column ∷ [])) q)) size
+      ∙ ap (λ ns. add_each ns (walk_costs tiers constraints u r (kind_of tiers constraints r (p ++ column ∷ [])) q)) (move_adds tiers constraints r u split form over T p column (q ++ w) e c)
+      ∙ add_assoc_each (map (λ c. violations_so_far c T (length p)) (take r constraints)) (move_costs tiers constraints u r (kind_of tiers constraints r p) column) (walk_costs tiers constraints u r (kind_of tiers constraints r (p ++ column ∷ [])) q)
+      ∙ ap (λ k. add_each (map (λ c. violations_so_far c T (length p)) (take r constraints)) (add_each (move_costs tiers constraints u r (kind_of tiers constraints r p) column) (walk_costs tiers constraints u r k q))) (sym next)
+
+add_none : (cs : List Constraint) (ns : List ℕ) → length ns ≡ length cs → add_each (map (λ c. 0) cs) ns ≡ ns
+add_none [] [] e = refl
+add_none [] (n ∷ ns) e = absurd (omega arith)
+add_none (c ∷ cs) [] e = absurd (omega arith)
+add_none (c ∷ cs) (n ∷ ns) e = let same : 0 + n ≡ n = omega arith in ap (λ m. m ∷ add_each (map (λ c. 0) cs) ns) same ∙ ap (λ ms. n ∷ ms) (add_none cs ns (omega arith))
+
+module _ (frame : Frame) (stage : ℕ) (start : Kind) (is_first : IsStart frame stage start) where
+  split : AreSplit (tiers_in frame)
+  split = tiers_split frame.grammar.now.tiers.kinds.items
+
+  form : IsForm (tiers_in frame) (form_in frame)
+  form = form_from (tiers_in frame) (form_in frame) frame.well_formed
+
+  over : AllByRecursion (IsOverTiers (tiers_in frame).width) (take stage (constraints_in frame))
+  over = all_taken (IsOverTiers (tiers_in frame).width) (constraints_in frame) stage (over_tiers frame.grammar.now)
+
+  pub prefix_costs : (p q : List (List Sym)) → IsCandidate (tiers_in frame) (form_in frame) (p ++ q)
+      → walk_costs (tiers_in frame) (constraints_in frame) (form_in frame) stage (kind_at_stage frame stage start) p ≡ map (λ c. violations_so_far c (p ++ q) (length p)) (take stage (constraints_in frame))
+  prefix_costs p q c =
+      let none : map (λ x. violations_so_far x (p ++ q) 0) (take stage (constraints_in frame)) ≡ map (λ x. 0) (take stage (constraints_in frame)) =
+      map_agree (λ x. violations_so_far x (p ++ q) 0) (λ x. 0) (take stage (constraints_in frame)) (all_of _ (take stage (constraints_in frame)) (λ x. so_far_none x.family x.left x.right (p ++ q))) in
+      ap (λ k. walk_costs (tiers_in frame) (constraints_in frame) (form_in frame) stage k p) is_first.is
+      ∙ sym (costs_so_far (tiers_in frame) (constraints_in frame) stage (form_in frame) split form over (over_stretches frame.grammar.now stage) p [] q (p ++ q) refl c
+      ∙ ap (λ ns. add_each ns (walk_costs (tiers_in frame) (constraints_in frame) (form_in frame) stage (kind_of (tiers_in frame) (constraints_in frame) stage []) p)) none
+      ∙ add_none (take stage (constraints_in frame)) (walk_costs (tiers_in frame) (constraints_in frame) (form_in frame) stage (kind_of (tiers_in frame) (constraints_in frame) stage []) p)
+      (length_walk (tiers_in frame) (constraints_in frame) stage (form_in frame) split form over p (kind_of (tiers_in frame) (constraints_in frame) stage [])))
+
+  pub whole_costs : (T : List (List Sym)) → IsCandidate (tiers_in frame) (form_in frame) T
+      → walk_costs (tiers_in frame) (constraints_in frame) (form_in frame) stage (kind_at_stage frame stage start) T ≡ take stage (vec (constraints_in frame) T)
+  whole_costs T c =
+      ap (λ k. walk_costs (tiers_in frame) (constraints_in frame) (form_in frame) stage k T) is_first.is
+      ∙ sym (costs_sum (tiers_in frame) (constraints_in frame) stage (form_in frame) split form over T c)

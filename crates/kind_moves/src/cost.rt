@@ -1,0 +1,89 @@
+ghost use Rattle.std.specs.Prelude.{◌≡◌, ℕ, ◌<◌, ◌≤◌, ◌++◌, ◌&&◌, length, filter, All};
+ghost use Rattle.std.specs.List.{list_all};
+ghost use Rattle.tier_core.specs.Kinds as told;
+ghost use Rattle.tier_core.specs.Tiers.{has_tier};
+ghost use Rattle.violation.specs.Columns.{edge_cost};
+ghost use Rattle.violation.specs.Conditions.{AreInColumn, IsOverTiers};
+ghost use Rattle.violation.specs.Counts.{chosen};
+ghost use Rattle.violation.specs.Moves.{costs, is_unmet_phase};
+ghost use Rattle.violation.specs.Sides.{has_edge_type, edge_among, is_stretch};
+
+use crate::event::{all_present, any_present, has_edge_among, is_edge_among, is_stretch};
+use crate::mask::has_bit;
+use tier_core::{Constraint, Event, Family, Sym};
+
+/// Whether the tiers of all types are in a mask.
+fn are_all_in(mask: u16, types: &[Event]) -> bool
+    requires { All (λ e. e.tier < 12) types.now }
+    ensures { result ≡ list_all (λ e. has_tier mask e.tier) types.now }
+{
+    types.iter().all(|e| has_bit(mask, e.tier))
+}
+
+/// Whether a type of which an event is chosen is an edge: a clash chooses on both sides, an
+/// implication on the left.
+fn is_edge_chosen(family: Family, left: &[Event], right: &[Event]) -> bool
+    ensures { result ≡ has_edge_type (chosen family left.now right.now) }
+{
+    match family {
+        Family::Clash => is_edge_among(left) || is_edge_among(right),
+        Family::Implication => is_edge_among(left),
+    }
+}
+
+/// Whether a column decides a choice with an edge, and it is counted.
+fn edge_costs(family: Family, left: &[Event], right: &[Event], column: &[Sym]) -> bool
+    requires left_in { AreInColumn left.now column.now }
+    requires right_in { AreInColumn right.now column.now }
+    ensures { result ≡ edge_cost family left.now right.now column.now }
+{
+    match family {
+        Family::Clash => all_present(column, left) && all_present(column, right),
+        Family::Implication => all_present(column, left) && !any_present(column, right),
+    }
+}
+
+/// Whether a column ends an overlap of the interiors of all types, whose tiers are open before it or
+/// not.
+fn ends_overlap(opened: u16, left: &[Event], right: &[Event], column: &[Sym]) -> bool
+    requires left_tiers { All (λ e. e.tier < 12) left.now }
+    requires right_tiers { All (λ e. e.tier < 12) right.now }
+    requires left_in { AreInColumn left.now column.now }
+    requires right_in { AreInColumn right.now column.now }
+    ensures { result ≡ (list_all (λ e. has_tier opened e.tier) (left.now ++ right.now) && edge_among (left.now ++ right.now) column.now) }
+{
+    let are_open = are_all_in(opened, left) && are_all_in(opened, right);
+    are_open && (has_edge_among(column, left) || has_edge_among(column, right))
+}
+
+/// Whether a column costs 1 under a constraint, where the tiers of a mask are open before it, and the
+/// constraint's phase, if it has one, is unmet or not.
+pub(crate) fn costs(constraint: &Constraint, opened: u16, is_unmet: bool, column: &[Sym]) -> bool
+    requires { IsOverTiers (length column.now) constraint.now }
+    ensures { (phase : told.Phase) → is_unmet ≡ is_unmet_phase phase → result ≡ costs constraint.now.family constraint.now.left constraint.now.right (has_tier opened) phase column.now }
+{
+    let left = constraint.left.as_slice();
+    let right = constraint.right.as_slice();
+    if is_edge_chosen(constraint.family, left, right) {
+        return edge_costs(constraint.family, left, right, column);
+    }
+    match constraint.family {
+        Family::Clash => ends_overlap(opened, left, right, column),
+        Family::Implication => is_unmet && has_edge_among(column, left),
+    }
+}
+
+/// How many of some constraints are stretch implications.
+pub(crate) fn count_stretches(constraints: &[Constraint]) -> u32
+    requires { length constraints.now ≤ 24 }
+    ensures count { result ≡ length (filter is_stretch constraints.now) }
+    ensures few { result ≤ 24 }
+{
+    let mut count = 0;
+    for constraint in constraints {
+        if is_stretch(constraint) {
+            count += 1;
+        }
+    }
+    count
+}

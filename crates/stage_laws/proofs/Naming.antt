@@ -34,10 +34,10 @@ module _ (tiers : Tiers) (constraints : List Constraint) (u : List (List Sym)) (
       recursion_from_All (IsOverTiers tiers.width) (stretches constraints r)
       (All-filter is_stretch (IsOverTiers tiers.width) (take r constraints) (All-take (IsOverTiers tiers.width) r constraints (All-from_recursion (IsOverTiers tiers.width) constraints stage.over)))
 
-  module _ {g : Ghosts Count} (names : List PrefixKind) (states : List (TableState Count g)) where
+  module _ {W : Type 0} {g : Ghosts W} (names : List PrefixKind) (states : List (TableState W g)) where
     module _ (named : AreNamedByKinds tiers constraints u r names states) where
       -- a path reads moves of kinds, from the name of its first state to that of its last
-      pub path_moves : (arcs : List (TableArc Count g)) (p : List (List Sym)) (s t : ℕ) → IsPath states s arcs t → Reads arcs p
+      pub path_moves : (arcs : List (TableArc W g)) (p : List (List Sym)) (s t : ℕ) → IsPath states s arcs t → Reads arcs p
           → HasMoves tiers constraints r u (name_of names s) p × (reached tiers constraints r (name_of names s) p ≡ name_of names t)
       path_moves [] [] s t path reads = (tt, ap (name_of names) path)
       path_moves [] (column ∷ p) s t path reads = absurd reads
@@ -51,7 +51,7 @@ module _ (tiers : Tiers) (constraints : List Constraint) (u : List (List Sym)) (
           )
 
       -- a path from the start ends at the kind of what it reads
-      pub path_kind : (arcs : List (TableArc Count g)) (s : ℕ) (p : List (List Sym)) → IsPath states 0 arcs s → Reads arcs p → name_of names s ≡ kind_of tiers constraints r p
+      pub path_kind : (arcs : List (TableArc W g)) (s : ℕ) (p : List (List Sym)) → IsPath states 0 arcs s → Reads arcs p → name_of names s ≡ kind_of tiers constraints r p
       path_kind arcs s p path reads =
           let walk = path_moves arcs p 0 s path reads in
           let moves : HasMoves tiers constraints r u (kind_of tiers constraints r []) p = subst (λ k. HasMoves tiers constraints r u k p) named.start walk.0 in
@@ -67,6 +67,7 @@ module _ (tiers : Tiers) (constraints : List Constraint) (u : List (List Sym)) (
         ]
       ]
 
+  module _ {g : Ghosts Count} (names : List PrefixKind) (states : List (TableState Count g)) where
     module _ (table : IsStageTable tiers constraints u r names states) where
       -- a path from the start and a run after it read an (r-1)-optimal candidate
       pub optimal_word : (before after : List (TableArc Count g)) (s : ℕ) (p q : List (List Sym)) → IsPath states 0 before s → Reads before p → IsRun states s after → Reads after q
@@ -80,7 +81,7 @@ module _ (tiers : Tiers) (constraints : List Constraint) (u : List (List Sym)) (
       passes_state before after s p q path first run rest = record {
         optimal = optimal_word before after s p q path first run rest;
         within = omega (arith, length-append p q);
-        of_kind = ap (kind_of tiers constraints r) (take_at p q (length p) refl) ∙ sym (path_kind table.named before s p path first);
+        of_kind = ap (kind_of tiers constraints r) (take_at p q (length p) refl) ∙ sym (path_kind names states table.named before s p path first);
       }
 
       -- an (r-1)-optimal candidate is read in two parts, by way of the state that its first part's kind names
@@ -90,11 +91,11 @@ module _ (tiers : Tiers) (constraints : List Constraint) (u : List (List Sym)) (
           let accepted : Accepts states T = (table.accepts T).1 passes.optimal in
           let parts : IsParted states 0 (take n T) (drop n T) =
           parted states (take n T) (drop n T) 0 accepted.0 accepted.1.run (subst (Reads accepted.0) (sym (take-append-drop n T)) accepted.1.reads) in
-          (parts, path_kind table.named parts.before parts.middle (take n T) parts.path parts.reads_before ∙ passes.of_kind)
+          (parts, path_kind names states table.named parts.before parts.middle (take n T) parts.path parts.reads_before ∙ passes.of_kind)
 
       name_passed : (s : ℕ) → s < length states → IsKindOfStage tiers constraints u r (name_of names s)
       name_passed s l =
-          let on : IsOnRun states s = table.named.on_runs s l in
+          let on : IsOnRun states s = table.on_runs s l in
           let p = path_word states table.named.filled 0 s on.0 on.1 in
           let q = some_word states table.named.filled s on.2.0 on.2.1 in
           record { candidate = p.0 ++ q.0; columns = length p.0; passes = passes_state on.0 on.2.0 s p.0 q.0 on.1 p.1 on.2.1 q.1 }

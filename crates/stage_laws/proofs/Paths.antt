@@ -1,5 +1,5 @@
 -- Paths and runs of a table: their parts, and what they read.
-use Rattle.std.proofs.Common.{IsTrue, ℕ, ◌<◌, false, List, [], ◌∷◌, ◌++◌, map, length, refl, sym, ◌∙◌, subst, arith, inl, inr}
+use Rattle.std.proofs.Common.{zero, suc, IsTrue, Contains, ℕ, ◌<◌, false, List, [], ◌∷◌, ◌++◌, map, length, refl, sym, ◌∙◌, subst, arith, inl, inr}
 use Rattle.std.proofs.lemmas.Bool.{cases_lt, false≢true}
 use Rattle.std.proofs.lemmas.List.{get_or_past, length-map}
 use Rattle.weight_law.specs.declared.Weight.{Ghosts}
@@ -8,9 +8,10 @@ use Rattle.arc_table.specs.FirstColumn.{first_column}
 use Rattle.arc_table.specs.declared.arc.TableArc.{TableArc}
 use Rattle.arc_table.specs.declared.state.TableState.{TableState}
 use Rattle.arc_table.specs.Conditions.{ClassesFilled}
-use Rattle.arc_table.specs.Moves.{accepting_at}
+use Rattle.arc_table.specs.Moves.{moves_at, accepting_at}
 use Rattle.arc_table.specs.Runs.{IsRun, IsPath, Reads}
 use Rattle.arc_table.proofs.Filled.{has-first_column}
+use Rattle.stage_laws.specs.FoundTables.{AreReached}
 use Rattle.arc_table.proofs.Push.{moves_exist}
 
 -- a run from s in two parts, of which the first reads p and the second q
@@ -50,6 +51,10 @@ module _ {W : Type 0} {g : Ghosts W} (states : List (TableState W g)) where
   joined_reads (arc ∷ before) after [] q r s = absurd r
   joined_reads (arc ∷ before) after (column ∷ p) q r s = (r.0, joined_reads before after p q r.1 s)
 
+  pub path_push : (arcs : List (TableArc W g)) (s t : ℕ) (arc : TableArc W g) → IsPath states s arcs t → Contains (moves_at states t) arc → IsPath states s (arcs ++ arc ∷ []) arc.target
+  path_push [] s t arc path here = (subst (λ x. Contains (moves_at states x) arc) (sym path) here, refl)
+  path_push (first ∷ arcs) s t arc path here = (path.0, path_push arcs first.target t arc path.1 here)
+
   -- a run is a path to an accepting state
   pub run_path : (s : ℕ) (arcs : List (TableArc W g)) → IsRun states s arcs → (t : ℕ) × IsPath states s arcs t × IsTrue (accepting_at states t)
   run_path s [] run = (s, refl, run)
@@ -61,3 +66,13 @@ module _ {W : Type 0} {g : Ghosts W} (states : List (TableState W g)) where
   path_word filled s t (arc ∷ arcs) path =
       let rest = path_word filled arc.target t arcs path.1 in
       (first_column arc.class ∷ rest.0, (has-first_column arc.class (filled s arc path.0), rest.1))
+
+  -- each state is reached from the start
+  pub reached_path : AreReached states → (n s : ℕ) → s < n → s < length states → (arcs : List (TableArc W g)) × IsPath states 0 arcs s
+  reached_path from zero s l inside = absurd (omega arith)
+  reached_path from (suc n) zero l inside = ([], refl)
+  reached_path from (suc n) (suc s) l inside =
+      let last = from (suc s) (omega arith) inside in
+      let path = reached_path from n last.0 (omega (arith, last.1)) (omega (arith, last.1)) in
+      let arc : TableArc W g = last.2.0 in
+      (path.0 ++ arc ∷ [], subst (IsPath states 0 (path.0 ++ arc ∷ [])) last.2.2 (path_push path.0 0 last.0 arc path.1 last.2.1))

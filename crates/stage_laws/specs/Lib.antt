@@ -1,1 +1,2 @@
 pub mod StageTables
+pub mod FoundTables

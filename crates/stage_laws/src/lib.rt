@@ -9,8 +9,20 @@
 //! (`arc_table`, `distances`, `prune_best`). The staged generator rests on it.
 #![tactic(auto)]
 
+mod first;
+mod found;
 mod names;
+mod next;
+mod optima;
+mod remaining;
 mod weights;
 
+pub use first::complete_tables_accept_the_candidates;
+pub use found::{
+    cut_kinds_go_by_pruned_moves, found_tables_are_the_next, pruned_tables_keep_their_names,
+};
 pub use names::names_are_kinds;
-pub use weights::weights_are_violations;
+pub use next::{cut_kinds_go_alike, named_tables_are_stage_tables};
+pub use optima::{least_weight_is_the_least_number, words_of_least_weight_are_optimal};
+pub use remaining::least_weights_remain;
+pub use weights::{moves_weigh_one_at_most, weights_are_violations};

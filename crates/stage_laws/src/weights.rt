@@ -1,4 +1,4 @@
-ghost use Rattle.std.specs.Prelude.{◌≡◌, ℕ, ◌-◌, ◌≤◌, List, ◌++◌, length, slice_index_or};
+ghost use Rattle.std.specs.Prelude.{◌≡◌, ℕ, ◌-◌, ◌<◌, ◌≤◌, ◌^◌, List, ◌++◌, length, Contains, slice_index_or};
 ghost use Rattle.weight_law.specs.declared.count.Count.{Count as Counted};
 ghost use Rattle.tier_core.specs.declared.sym.Sym.{Sym};
 ghost use Rattle.tier_core.specs.declared.constraint.Constraint.{Constraint};
@@ -6,7 +6,8 @@ ghost use Rattle.tier_core.specs.Tiers.{Tiers};
 ghost use Rattle.tier_core.specs.Kinds.{PrefixKind};
 ghost use Rattle.arc_table.specs.declared.arc.TableArc.{TableArc};
 ghost use Rattle.arc_table.specs.declared.state.TableState.{TableState};
-ghost use Rattle.arc_table.specs.Runs.{IsPath, Reads, weight_of, AcceptingRun};
+ghost use Rattle.arc_table.specs.Moves.{moves_at};
+ghost use Rattle.arc_table.specs.Runs.{IsPath, Reads, weight_of, AcceptingRun, SizesWithin};
 ghost use Rattle.violation.specs.Candidates.{IsCandidate, vec, vec_so_far};
 ghost use Rattle.stage_laws.specs.StageTables.{IsStage, IsStageTable};
 
@@ -18,4 +19,11 @@ use weight_law::{Count, Weight};
 pub fn weights_are_violations()
     ensures runs { (tiers : Tiers) (constraints : List Constraint) (u : List (List Sym)) (r : ℕ) (names : List PrefixKind) (states : List (TableState Counted ⟦<Count as Weight>⟧)) → IsStage tiers constraints u r → 1 ≤ r → IsStageTable tiers constraints u r names states → (arcs : List (TableArc Counted ⟦<Count as Weight>⟧)) (T : List (List Sym)) → AcceptingRun states T arcs → (weight_of arcs).0 ≡ slice_index_or (vec constraints T) (r - 1) 0 }
     ensures paths { (tiers : Tiers) (constraints : List Constraint) (u : List (List Sym)) (r : ℕ) (names : List PrefixKind) (states : List (TableState Counted ⟦<Count as Weight>⟧)) → IsStage tiers constraints u r → 1 ≤ r → IsStageTable tiers constraints u r names states → (arcs : List (TableArc Counted ⟦<Count as Weight>⟧)) (s : ℕ) (p q : List (List Sym)) → IsPath states 0 arcs s → Reads arcs p → IsCandidate tiers u (p ++ q) → (weight_of arcs).0 ≡ slice_index_or (vec_so_far constraints (p ++ q) (length p)) (r - 1) 0 }
+{}
+
+/// Each move of a stage's table weighs 1 at most, so that the weights of its runs without repeats fit
+/// in 32 bits where the number of its states does.
+pub fn moves_weigh_one_at_most()
+    ensures moves { (tiers : Tiers) (constraints : List Constraint) (u : List (List Sym)) (r : ℕ) (names : List PrefixKind) (states : List (TableState Counted ⟦<Count as Weight>⟧)) → IsStageTable tiers constraints u r names states → (s : ℕ) (arc : TableArc Counted ⟦<Count as Weight>⟧) → Contains (moves_at states s) arc → arc.weight.0 ≤ 1 }
+    ensures sizes { (tiers : Tiers) (constraints : List Constraint) (u : List (List Sym)) (r : ℕ) (names : List PrefixKind) (states : List (TableState Counted ⟦<Count as Weight>⟧)) → IsStageTable tiers constraints u r names states → length states < 2 ^ 32 → SizesWithin states u32.MAX }
 {}

@@ -6,4 +6,4 @@ pub returns-clause-runs : goal.returns-clause-runs
 returns-clause-runs c tiers constraints u r names states stage ranked table = run_weight_law tiers constraints u r stage refl names states table ranked
 
 pub returns-clause-paths : goal.returns-clause-paths
-returns-clause-paths c tiers constraints u r names states stage ranked table = path_weight_law tiers constraints u r stage refl names states table.named ranked
+returns-clause-paths c tiers constraints u r names states stage ranked table = path_weight_law tiers constraints u r stage refl names states table.named table.weighed ranked

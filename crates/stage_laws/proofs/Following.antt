@@ -1,0 +1,36 @@
+-- What is a stage's table, and how one follows another.
+use Rattle.std.proofs.Common.{◌<◌, length, ◌≡◌, ◌↔◌, ℕ, ◌+◌, ◌-◌, List, refl, sym, subst, arith}
+use Rattle.weight_law.specs.declared.Weight.{Ghosts}
+use Rattle.weight_law.specs.declared.count.Count.{Count}
+use Rattle.tier_core.specs.declared.sym.Sym.{Sym}
+use Rattle.tier_core.specs.declared.constraint.Constraint.{Constraint}
+use Rattle.tier_core.specs.Tiers.{Tiers}
+use Rattle.tier_core.specs.Kinds.{PrefixKind}
+use Rattle.arc_table.specs.declared.state.TableState.{TableState}
+use Rattle.arc_table.specs.Runs.{Accepts, IsOnRun}
+use Rattle.violation.specs.Candidates.{IsCandidate, IsOptimalFor}
+use Rattle.stage_laws.specs.StageTables.{AreNamedByKinds, AreWeighed, IsStageTable}
+
+-- each candidate is 0-optimal
+pub all_optimal : (tiers : Tiers) (constraints : List Constraint) (u T : List (List Sym)) → IsCandidate tiers u T → IsOptimalFor tiers constraints u 0 T
+all_optimal tiers constraints u T c = record { candidate = c; least = λ U d. refl }
+
+pub first_table : (tiers : Tiers) (constraints : List Constraint) (u : List (List Sym)) {g : Ghosts Count} (names : List PrefixKind) (states : List (TableState Count g))
+    → AreNamedByKinds tiers constraints u 0 names states → AreWeighed tiers constraints u 0 names states → ((T : List (List Sym)) → Accepts states T ↔ IsCandidate tiers u T) → ((s : ℕ) → s < length states → IsOnRun states s) → IsStageTable tiers constraints u 0 names states
+first_table tiers constraints u names states named weighed accepts on_runs = record {
+  named = named;
+  weighed = weighed;
+  accepts = λ T. (λ a. all_optimal tiers constraints u T ((accepts T).0 a), λ o. (accepts T).1 o.candidate);
+  on_runs = on_runs;
+}
+
+pub next_table : (tiers : Tiers) (constraints : List Constraint) (u : List (List Sym)) (r : ℕ) {g : Ghosts Count} (names : List PrefixKind) (states : List (TableState Count g))
+    → AreNamedByKinds tiers constraints u (r + 1) names states → AreWeighed tiers constraints u (r + 1) names states → ((T : List (List Sym)) → Accepts states T ↔ IsOptimalFor tiers constraints u r T) → ((s : ℕ) → s < length states → IsOnRun states s) → IsStageTable tiers constraints u (r + 1) names states
+next_table tiers constraints u r names states named weighed accepts on_runs =
+    let before : r + 1 - 1 ≡ r = omega arith in
+    record {
+      named = named;
+      weighed = weighed;
+      accepts = λ T. subst (λ n. Accepts states T ↔ IsOptimalFor tiers constraints u n T) (sym before) (accepts T);
+      on_runs = on_runs;
+    }

@@ -1,0 +1,9 @@
+use Rattle.std.proofs.Common.{refl, arith}
+use Rattle.stage_laws.proofs.Weighing.{one_at_most, sizes_fit}
+use Rattle.stage_laws.proofs.weights.moves_weigh_one_at_most.Goals as goal
+
+pub returns-clause-moves : goal.returns-clause-moves
+returns-clause-moves c tiers constraints u r names states table = one_at_most tiers constraints u r names states table
+
+pub returns-clause-sizes : goal.returns-clause-sizes
+returns-clause-sizes c tiers constraints u r names states table few = sizes_fit tiers constraints u r names states table refl 4294967295 (omega (arith, few))

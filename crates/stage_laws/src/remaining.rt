@@ -1,0 +1,21 @@
+ghost use Rattle.std.specs.Prelude.{◌≡◌, ℕ, List, Option, None, Some, IsSome, ◌<◌, length, slice_index_or};
+ghost use Rattle.weight_law.specs.declared.count.Count.{Count as Counted};
+ghost use Rattle.tier_core.specs.declared.sym.Sym.{Sym};
+ghost use Rattle.tier_core.specs.declared.constraint.Constraint.{Constraint};
+ghost use Rattle.tier_core.specs.Tiers.{Tiers};
+ghost use Rattle.tier_core.specs.Kinds.{PrefixKind};
+ghost use Rattle.arc_table.specs.declared.state.TableState.{TableState};
+ghost use Rattle.arc_table.specs.Runs.{IsLeastFrom};
+ghost use Rattle.distances.specs.Least.{AreLeast};
+ghost use Rattle.violation.specs.Stages.{IsRemaining};
+ghost use Rattle.stage_laws.specs.StageTables.{IsStage, IsStageTable, name_of};
+
+use weight_law::{Count, Weight};
+
+/// The least weight from a state of a stage's table is what remains to be counted from the kind that
+/// names it, however the weight was found. Each state has one.
+pub fn least_weights_remain()
+    ensures from_state { (tiers : Tiers) (constraints : List Constraint) (u : List (List Sym)) (r : ℕ) (names : List PrefixKind) (states : List (TableState Counted ⟦<Count as Weight>⟧)) → IsStage tiers constraints u r → IsStageTable tiers constraints u r names states → (s : ℕ) (w : Counted) → IsLeastFrom states s w → IsRemaining tiers constraints u r (name_of names s) w.0 }
+    ensures of_all { (tiers : Tiers) (constraints : List Constraint) (u : List (List Sym)) (r : ℕ) (names : List PrefixKind) (states : List (TableState Counted ⟦<Count as Weight>⟧)) → IsStage tiers constraints u r → IsStageTable tiers constraints u r names states → (least : List (Option Counted)) → AreLeast states least → (s : ℕ) (w : Counted) → slice_index_or least s None ≡ Some w → IsRemaining tiers constraints u r (name_of names s) w.0 }
+    ensures each_state { (tiers : Tiers) (constraints : List Constraint) (u : List (List Sym)) (r : ℕ) (names : List PrefixKind) (states : List (TableState Counted ⟦<Count as Weight>⟧)) → IsStageTable tiers constraints u r names states → (least : List (Option Counted)) → AreLeast states least → (s : ℕ) → s < length states → IsSome (slice_index_or least s None) }
+{}

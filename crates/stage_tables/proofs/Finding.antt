@@ -17,7 +17,7 @@ use Rattle.arc_table.specs.declared.state.TableState.{TableState}
 use Rattle.arc_table.specs.Conditions.{TargetsExist}
 use Rattle.arc_table.specs.Moves.{moves_at, accepting_at}
 use Rattle.arc_table.specs.Runs.{IsPath, Reads}
-use Rattle.arc_table.proofs.Push.{accepting_old, accepting_new, moves_old, moves_new}
+use Rattle.arc_table.proofs.Push.{moves_exist, accepting_old, accepting_new, moves_old, moves_new}
 use Rattle.violation.specs.Moves.{FitsKind, moved, cut}
 use Rattle.kind_moves.specs.declared.frame.Frame.{Frame}
 use Rattle.kind_moves.specs.Frames.{tiers_in, constraints_in, form_in, kind_at_stage, FitsAt, FitsFrame, IsMove, IsStart}
@@ -26,7 +26,7 @@ use Rattle.stage_laws.specs.StageTables.{name_of, cost_of}
 use Rattle.stage_tables.specs.declared.kind_key.KindKey.{KindKey}
 use Rattle.stage_tables.specs.KindKeys.{key_of}
 use Rattle.stage_tables.specs.Kept.{AreKeptByKinds, IsKept}
-use Rattle.stage_tables.specs.Listed.{IsAt, AreListed, IsPutLast, IsSame, IsNumbered, Stays, StandsOver, IsReached, AreFound, IsTaken, IsTakenState, AreTaken}
+use Rattle.stage_tables.specs.Listed.{IsAt, AreListed, IsPutLast, IsSame, IsNumbered, Stays, StandsOver, IsReached, AreFound, IsTaken, IsTakenState, AreTargets, AreTaken}
 use Rattle.stage_tables.proofs.Keys.{same_told, same_fits}
 use Rattle.stage_tables.proofs.Cuts.{cut_moved, fits_whole}
 use Rattle.stage_tables.proofs.Zips.{zip_weaken}
@@ -72,7 +72,7 @@ module _ {g : Ghosts UnitWeight} (frame : Frame) (stage : ℕ) (some : 1 ≤ sta
     -- a column of a kept move fits the kind
     pub fits_kind : (kind : Kind) (s : ℕ) → StandsOver frame stage names kind s → (arc : TableArc UnitWeight g) (column : List Sym) → Contains (moves_at kept s) arc → IsTrue (has arc.class column) → FitsAt frame stage kind column
     fits_kind kind s stands arc column here h =
-        let goes = by.moves s arc column here h in
+        let goes = by.named.moves s arc column here h in
         fits_whole (tiers_in frame) (constraints_in frame) (form_in frame) (stage - 1) (kind_at_stage frame stage kind) column
             (subst (λ (k : PrefixKind). FitsKind (tiers_in frame) (form_in frame) k column) (sym stands.named) goes.fits)
 
@@ -81,11 +81,11 @@ module _ {g : Ghosts UnitWeight} (frame : Frame) (stage : ℕ) (some : 1 ≤ sta
     next_stands kind s stands arc column here h next m =
         let tiers = tiers_in frame in
         let cs = constraints_in frame in
-        let goes = by.moves s arc column here h in
+        let goes = by.named.moves s arc column here h in
         let last : stage ≡ suc (stage - 1) = omega arith in
         record {
           fits = m.next_fits;
-          within = omega (arith, exist s arc here, by.each_named);
+          within = omega (arith, exist s arc here, by.named.each_named);
           named =
               ap (cut cs (stage - 1)) m.leads
               ∙ ap (λ n. cut cs (stage - 1) (moved tiers cs n (kind_at_stage frame stage kind) column)) last
@@ -176,7 +176,7 @@ module _ {g : Ghosts UnitWeight} (frame : Frame) (stage : ℕ) (some : 1 ≤ sta
       where
         names_same : (k : ℕ) (kind : Kind) (s : ℕ) (n : IsNumbered kinds next_kinds over next_over k kind s) → (other : Kind) (t : ℕ) → StandsOver frame stage found.names kind s → StandsOver frame stage found.names other t → key_of other ≡ key_of kind → t ≡ s
         names_same k kind s n other t stands that key =
-            one_name found.names found.kept_by.distinct t s that.within stands.within
+            one_name found.names found.kept_by.named.distinct t s that.within stands.within
             (sym that.named ∙ ap (cut (constraints_in frame) (stage - 1)) (same_told frame stage other kind key) ∙ stands.named)
 
         own : (k : ℕ) (kind : Kind) (s : ℕ) (n : IsNumbered kinds next_kinds over next_over k kind s) → StandsOver frame stage found.names kind s → IsReached frame stage kept kind s → (other : Kind) (t : ℕ) → IsAt next_kinds next_over k other t → key_of other ≡ key_of kind → t ≡ s
@@ -230,12 +230,25 @@ all_taken_stay frame stage kinds next_kinds over next_over stays kind arcs moves
 -- one new state more
 pub taken_push : {g : Ghosts UnitWeight} {h : Ghosts Count} (frame : Frame) (stage : ℕ) (kept : List (TableState UnitWeight g)) (kinds next_kinds : List Kind) (over next_over : List ℕ) → length over ≡ length kinds → Stays kinds next_kinds over next_over
     → (states : List (TableState Count h)) (state : TableState Count h) (kind : Kind) (s : ℕ) → AreTaken frame stage kept kinds over states → IsAt kinds over (length states) kind s
-    → IsTakenState frame stage kept next_kinds next_over kind s state.accepting state.arcs.items → AreTaken frame stage kept next_kinds next_over (states ++ state ∷ [])
-taken_push {g} {h} frame stage kept kinds next_kinds over next_over each stays states state kind s taken at made = record {
+    → IsTakenState frame stage kept next_kinds next_over kind s state.accepting state.arcs.items → AreTargets kinds next_kinds state.arcs.items → AreTaken frame stage kept next_kinds next_over (states ++ state ∷ [])
+taken_push {g} {h} frame stage kept kinds next_kinds over next_over each stays states state kind s taken at made targets = record {
+  reached = linked;
   within = (let l = slice_get_within next_kinds (length states) kind (stays (length states) kind s at).0 in omega (arith, length_push states state));
   each = all;
 }
   where
+    still : (t : ℕ) (arc : TableArc Count h) → Contains (moves_at states t) arc → Contains (moves_at (states ++ state ∷ []) t) arc
+    still t arc here = subst (λ (xs : List (TableArc Count h)). Contains xs arc) (sym (moves_old states state t (moves_exist states t arc here))) here
+
+    linked : (k : ℕ) → 0 < k → k < length next_kinds → (t : ℕ) × (t < k) × ((arc : TableArc Count h) × Contains (moves_at (states ++ state ∷ []) t) arc × (arc.target ≡ k))
+    linked k some l = elim (cases_lt k (length kinds)) [
+      | inl lower ↦ (let was = taken.reached k some lower in (was.0, was.1, (was.2.0, still was.0 was.2.0 was.2.1, was.2.2)))
+      | inr upper ↦
+          (let new = targets k upper l in
+          let here = slice_get_within kinds (length states) kind at.0 in
+          (length states, omega (arith, here, upper), (new.0, subst (λ (xs : List (TableArc Count h)). Contains xs new.0) (sym (moves_new states state)) new.1, new.2)))
+    ]
+
     now_accepting : ℕ → Bool
     now_accepting k = accepting_at (states ++ state ∷ []) k
 

@@ -1,5 +1,5 @@
 -- Kept tables: what the constraints before have left of a stage's table. Their moves weigh nothing.
-use Rattle.std.specs.Prelude.{[], ◌≡◌, ◌≢◌, ℕ, ◌<◌, List, length, Contains, AllPairs, IsTrue}
+use Rattle.std.specs.Prelude.{◌≡◌, ℕ, ◌<◌, List, length, Contains, IsTrue}
 use Rattle.weight_law.specs.declared.Weight.{Ghosts}
 use Rattle.weight_law.specs.declared.unit_weight.UnitWeight.{UnitWeight}
 use Rattle.tier_core.specs.declared.sym.Sym.{Sym}
@@ -10,30 +10,18 @@ use Rattle.tier_core.specs.Kinds.{PrefixKind}
 use Rattle.tier_core.specs.Classes.{has}
 use Rattle.arc_table.specs.declared.arc.TableArc.{TableArc}
 use Rattle.arc_table.specs.declared.state.TableState.{TableState}
-use Rattle.arc_table.specs.Moves.{moves_at, accepting_at}
+use Rattle.arc_table.specs.Moves.{moves_at}
 use Rattle.arc_table.specs.Runs.{IsOnRun}
-use Rattle.violation.specs.Moves.{FitsKind, moved, is_final}
-use Rattle.violation.specs.Prefixes.{kind_of}
-use Rattle.stage_laws.specs.StageTables.{name_of}
+use Rattle.stage_laws.specs.StageTables.{AreNamedByKinds}
 
 -- no two columns are in a class
 abbrev pub IsOfOneColumn : Class → Type 0
 IsOfOneColumn class = (a b : List Sym) → IsTrue (has class a) → IsTrue (has class b) → a ≡ b
 
--- a column fits the name of state s, and leads to the name of state t
-pub record GoesTo (tiers : Tiers) (constraints : List Constraint) (u : List (List Sym)) (r : ℕ) (names : List PrefixKind) (s t : ℕ) (column : List Sym) : Type 0 where
-  pub fits : FitsKind tiers u (name_of names s) column
-  pub leads : name_of names t ≡ moved tiers constraints r (name_of names s) column
-
--- The states of a kept table are named by kinds under the first r constraints: each by one of its
--- own, the start by that of the empty prefix. A state accepts where its name is final, each move has
--- one column and goes as the kinds do, and each state is on a run.
+-- The states of a kept table are named by kinds under the first r constraints, each move is on one
+-- column, and each state is on a run.
 pub record AreKeptByKinds {g : Ghosts UnitWeight} (tiers : Tiers) (constraints : List Constraint) (u : List (List Sym)) (r : ℕ) (names : List PrefixKind) (states : List (TableState UnitWeight g)) : Type 0 where
-  pub each_named : length names ≡ length states
-  pub distinct : AllPairs (λ k l. k ≢ l) names
-  pub start : name_of names 0 ≡ kind_of tiers constraints r []
-  pub ends : (s : ℕ) → s < length states → accepting_at states s ≡ is_final u (name_of names s)
-  pub moves : (s : ℕ) (arc : TableArc UnitWeight g) (column : List Sym) → Contains (moves_at states s) arc → IsTrue (has arc.class column) → GoesTo tiers constraints u r names s arc.target column
+  pub named : AreNamedByKinds tiers constraints u r names states
   pub single : (s : ℕ) (arc : TableArc UnitWeight g) → Contains (moves_at states s) arc → IsOfOneColumn arc.class
   pub on_runs : (s : ℕ) → s < length states → IsOnRun states s
 

@@ -77,6 +77,10 @@ pub record AreFound {g : Ghosts UnitWeight} (frame : Frame) (stage : ℕ) (kept 
 abbrev pub Stays : List Kind → List Kind → List ℕ → List ℕ → Type 0
 Stays kinds next_kinds over next_over = (k : ℕ) (kind : Kind) (s : ℕ) → IsAt kinds over k kind s → IsAt next_kinds next_over k kind s
 
+-- what is listed since is the target of one of the moves
+abbrev pub AreTargets : {h : Ghosts Count} → List Kind → List Kind → List (TableArc Count h) → Type 0
+AreTargets {h} kinds next_kinds moves = (k : ℕ) → length kinds ≤ k → k < length next_kinds → (arc : TableArc Count h) × Contains moves arc × (arc.target ≡ k)
+
 -- The new move b from a kind is the kept move a: it has the same class and leads to the kind that its
 -- columns lead to, which stands over the target of a, and weighs what they cost.
 pub record IsTaken {g : Ghosts UnitWeight} {h : Ghosts Count} (frame : Frame) (stage : ℕ) (kinds : List Kind) (over : List ℕ) (kind : Kind) (a : TableArc UnitWeight g) (b : TableArc Count h) : Type 0 where
@@ -91,7 +95,9 @@ pub record IsTakenState {g : Ghosts UnitWeight} {h : Ghosts Count} (frame : Fram
   pub accepts : accepting ≡ accepting_at kept s
   pub taken : AllZip (IsTaken frame stage kinds over kind) (moves_at kept s) moves
 
--- the new states so far are those of the first kinds
+-- the new states so far are those of the first kinds, and each kind but the start is the target of a
+-- move from an earlier one
 pub record AreTaken {g : Ghosts UnitWeight} {h : Ghosts Count} (frame : Frame) (stage : ℕ) (kept : List (TableState UnitWeight g)) (kinds : List Kind) (over : List ℕ) (states : List (TableState Count h)) : Type 0 where
   pub within : length states ≤ length kinds
+  pub reached : (k : ℕ) → 0 < k → k < length kinds → (t : ℕ) × (t < k) × ((arc : TableArc Count h) × Contains (moves_at states t) arc × (arc.target ≡ k))
   pub each : (k : ℕ) (kind : Kind) (s : ℕ) → k < length states → IsAt kinds over k kind s → IsTakenState frame stage kept kinds over kind s (accepting_at states k) (moves_at states k)

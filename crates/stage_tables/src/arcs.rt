@@ -1,10 +1,8 @@
-ghost use Rattle.std.specs.Prelude.{◌≡◌, ◌<◌, ◌≤◌, length, Contains, IfOk, IfErr};
+ghost use Rattle.std.specs.Prelude.{◌≡◌, ◌<◌, [], ◌∷◌, length, Contains, IfOk, IfErr};
 ghost use Rattle.std.specs.List.{AllZip};
 ghost use Rattle.arc_table.specs.Moves.{moves_at};
 ghost use Rattle.arc_table.specs.States.{states_of};
-ghost use Rattle.kind_moves.specs.Frames.{tiers_in, constraints_in, form_in, kind_at_stage, FitsFrame};
-ghost use Rattle.stage_laws.specs.StageTables.{cost_of};
-ghost use Rattle.stage_tables.specs.Listed.{IsTaken};
+ghost use Rattle.stage_tables.specs.Listed.{IsTaken, AreTargets};
 ghost use Rattle.stage_tables.specs.Exploring.{IsFoundWithin, IsFoundBeyond, IsListedOver, StaysListed};
 
 use crate::column::some_column;
@@ -12,21 +10,9 @@ use crate::exploring::Exploring;
 use crate::listed::{Listed, number_of};
 use crate::stage_table::ExploreErr;
 use arc_table::TableArc;
-use kind_moves::Frame;
 use std::alloc::Global;
-use tier_core::{Column, Kind};
+use tier_core::Kind;
 use weight_law::{Count, UnitWeight};
-
-/// What a column costs from a kind under the last constraint of a stage.
-fn cost(frame: &Frame<'_>, stage: u32, kind: &Kind, column: &Column) -> u32
-    requires some { 1 ≤ stage }
-    requires stage { stage ≤ length (constraints_in frame.now) }
-    requires fits { FitsFrame frame.now stage kind.now }
-    requires width { length column.now ≡ (tiers_in frame.now).width }
-    ensures { result ≡ cost_of (tiers_in frame.now) (constraints_in frame.now) (form_in frame.now) stage (kind_at_stage frame.now stage kind.now) column.now }
-{
-    0
-}
 
 impl Exploring<'_> {
     /// The new move of a kept one from a kind, whose target is listed if it is not yet.
@@ -43,11 +29,12 @@ impl Exploring<'_> {
         requires arc { Contains (moves_at (states_of self.now.kept.now) state) arc.now }
         ensures found { IfOk result (λ _. IsFoundWithin self.now listed.new) }
         ensures stays { IfOk result (λ _. StaysListed listed.old listed.new) }
+        ensures targets { IfOk result (λ made. AreTargets listed.old.kinds.items listed.new.kinds.items (made ∷ [])) }
         ensures taken { IfOk result (λ made. IsTaken self.now.frame.now self.now.stage listed.new.kinds.items listed.new.over.items kind.now arc.now made) }
         ensures beyond { IfErr result (λ e. e ≡ ExploreErr.OverBudget → IsFoundBeyond self.now listed.new) }
     {
         let column = some_column(alloc, &arc.class);
-        let weight = Count(cost(self.frame, self.stage, kind, &column));
+        let weight = Count(self.frame.cost(self.stage, self.stage, kind, &column));
         match self.frame.moved(self.stage, kind, &column) {
             None => unreachable!(),
             Some(next) => {
@@ -74,6 +61,7 @@ impl Exploring<'_> {
         requires state { state < length (states_of self.now.kept.now) }
         ensures found { IfOk result (λ _. IsFoundWithin self.now listed.new) }
         ensures stays { IfOk result (λ _. StaysListed listed.old listed.new) }
+        ensures targets { IfOk result (λ made. AreTargets listed.old.kinds.items listed.new.kinds.items made.items) }
         ensures taken { IfOk result (λ made. AllZip (IsTaken self.now.frame.now self.now.stage listed.new.kinds.items listed.new.over.items kind.now) (moves_at (states_of self.now.kept.now) state) made.items) }
         ensures beyond { IfErr result (λ e. e ≡ ExploreErr.OverBudget → IsFoundBeyond self.now listed.new) }
     {

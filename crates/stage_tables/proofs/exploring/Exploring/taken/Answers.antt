@@ -1,49 +1,67 @@
-use Rattle.std.proofs.Common.{rules, ◌≡◌, ◌<◌, ◌≤◌, length, Contains, IfOk, IfErr, ℕ, ◌+◌, ◌-◌, ◌*◌, ◌/◌, ◌%◌, Bool, true, false, nat_eq, nat_lt, List, [], ◌∷◌, ◌++◌, slice_index_or, slice_set, bit_and, bit_or, Fits, w8, w32, w64, Bor, MutBor}
-use Rattle.std.specs.List.{AllZip}
-use Rattle.arc_table.specs.Moves.{moves_at}
+use Rattle.std.proofs.Common.{◌≡◌, length, sym, ◌∙◌, subst}
 use Rattle.arc_table.specs.States.{states_of}
-use Rattle.kind_moves.specs.Frames.{tiers_in, constraints_in, form_in, kind_at_stage, FitsFrame}
-use Rattle.stage_laws.specs.StageTables.{cost_of}
-use Rattle.stage_tables.specs.Listed.{IsTaken}
-use Rattle.stage_tables.specs.Exploring.{IsFoundWithin, IsFoundBeyond, IsListedOver, StaysListed}
+use Rattle.kind_moves.specs.Frames.{FitsFrame, FitsAt}
+use Rattle.stage_tables.specs.Listed.{StandsOver, AreFound}
+use Rattle.stage_tables.proofs.Finding.{fits_kind, next_stands, next_reached, found_numbered, found_put, found_stays, found_given, taken_move}
 use Rattle.stage_tables.proofs.exploring.Exploring.taken.Goals as goal
 
--- src/arcs.rt:49:22
 pub some_column-column-requires : goal.some_column-column-requires
-some_column-column-requires c = ?
+some_column-column-requires c = c.args.self.now.kept.now.filled c.args.state c.args.arc.now c.requires.arc
 
--- src/arcs.rt:50:28
 pub cost-requires-clause-fits : goal.cost-requires-clause-fits
-cost-requires-clause-fits c = ?
+cost-requires-clause-fits c = (c.requires.found.found.stands c.requires.over.0 c.args.kind.now c.args.state c.requires.over.1).fits
 
--- src/arcs.rt:50:28
 pub cost-requires-clause-width : goal.cost-requires-clause-width
-cost-requires-clause-width c = ?
+cost-requires-clause-width c =
+    let found = c.requires.found.found in
+    let stands = found.stands c.requires.over.0 c.args.kind.now c.args.state c.requires.over.1 in
+    (fits_kind c.args.self.now.frame.now c.args.self.now.stage c.args.self.now.some c.args.self.now.kept.now.states.items c.args.self.now.kept.now.targets found.names found.kept_by c.args.kind.now c.args.state stands c.args.arc.now c.some_column-column.result c.requires.arc c.some_column-column.ensures).width
 
--- src/arcs.rt:51:15
 pub moved-requires-clause-fits : goal.moved-requires-clause-fits
-moved-requires-clause-fits c = ?
+moved-requires-clause-fits c = (c.requires.found.found.stands c.requires.over.0 c.args.kind.now c.args.state c.requires.over.1).fits
 
--- src/arcs.rt:51:15
 pub moved-requires-clause-width : goal.moved-requires-clause-width
-moved-requires-clause-width c = ?
+moved-requires-clause-width c =
+    let found = c.requires.found.found in
+    let stands = found.stands c.requires.over.0 c.args.kind.now c.args.state c.requires.over.1 in
+    (fits_kind c.args.self.now.frame.now c.args.self.now.stage c.args.self.now.some c.args.self.now.kept.now.states.items c.args.self.now.kept.now.targets found.names found.kept_by c.args.kind.now c.args.state stands c.args.arc.now c.some_column-column.result c.requires.arc c.some_column-column.ensures).width
 
--- src/arcs.rt:52:21
 pub unreachable-requires : goal.unreachable-requires
-unreachable-requires c = ?
+unreachable-requires c =
+    let found = c.requires.found.found in
+    let stands = found.stands c.requires.over.0 c.args.kind.now c.args.state c.requires.over.1 in
+    c.in-None.ensures (fits_kind c.args.self.now.frame.now c.args.self.now.stage c.args.self.now.some c.args.self.now.kept.now.states.items c.args.self.now.kept.now.targets found.names found.kept_by c.args.kind.now c.args.state stands c.args.arc.now c.some_column-column.result c.requires.arc c.some_column-column.ensures)
 
--- src/arcs.rt:54:30
 pub returns-in_err-target-in-Some-clause-beyond : goal.returns-in_err-target-in-Some-clause-beyond
 returns-in_err-target-in-Some-clause-beyond c = ?
 
--- src/arcs.rt:33:5
 pub returns-clause-found : goal.returns-clause-found
-returns-clause-found c = ?
+returns-clause-found c =
+    let exploring = c.args.self.now in
+    let frame = exploring.frame.now in
+    let kept = exploring.kept.now.states.items in
+    let found = c.requires.found.found in
+    let kind = c.args.kind.now in
+    let s = c.args.state in
+    let arc = c.args.arc.now in
+    let column = c.some_column-column.result in
+    let next = c.in-Some.next in
+    let new = c.number_of.new.listed in
+    let stands = next_stands frame exploring.stage exploring.some kept exploring.kept.now.targets found.names found.kept_by kind s (found.stands c.requires.over.0 kind s c.requires.over.1) arc column c.requires.arc c.some_column-column.ensures next c.in-Some.ensures in
+    let reached = next_reached frame exploring.stage exploring.some kept exploring.kept.now.targets kind s (found.reached c.requires.over.0 kind s c.requires.over.1) arc column c.requires.arc c.some_column-column.ensures next c.in-Some.ensures in
+    record {
+      found = found_numbered frame exploring.stage exploring.some kept exploring.kept.now.targets c.args.listed.now.keys.keys new.keys.keys c.args.listed.now.kinds.items new.kinds.items c.args.listed.now.over.items new.over.items found c.in_ok-target-in-Some.ensures.listed c.in_ok-target-in-Some.target next arc.target c.in_ok-target-in-Some.ensures.numbered stands reached;
+      few = c.in_ok-target-in-Some.ensures.few;
+    }
 
--- src/arcs.rt:33:5
 pub returns-clause-stays : goal.returns-clause-stays
-returns-clause-stays c = ?
+returns-clause-stays c =
+    let exploring = c.args.self.now in
+    let new = c.number_of.new.listed in
+    found_stays exploring.frame.now exploring.stage exploring.some exploring.kept.now.states.items exploring.kept.now.targets c.args.listed.now.keys.keys new.keys.keys c.args.listed.now.kinds.items new.kinds.items c.args.listed.now.over.items new.over.items c.requires.found.found c.in_ok-target-in-Some.ensures.listed c.in_ok-target-in-Some.target c.in-Some.next c.args.arc.now.target c.in_ok-target-in-Some.ensures.numbered
 
--- src/arcs.rt:33:5
+pub returns-clause-targets : goal.returns-clause-targets
+returns-clause-targets c = ?
+
 pub returns-clause-taken : goal.returns-clause-taken
 returns-clause-taken c = ?

@@ -278,3 +278,12 @@ taken_push {g} {h} frame stage kept kinds next_kinds over next_over each stays s
           let state_same : s ≡ t = same_Some s t (sym now.1 ∙ ap (λ n. slice_get next_over n) is ∙ there.1) in
           moved_to k kind other s t state.accepting state.arcs.items same state_same (ap now_accepting (sym is) ∙ accepting_new states state) (ap now_moves (sym is) ∙ moves_new states state) made)
     ]
+
+-- the one move's target is what is listed since
+pub targets_one : {h : Ghosts Count} (kinds next_kinds : List Kind) (over next_over : List ℕ) (arc : TableArc Count h) (kind : Kind) (s : ℕ) → IsNumbered kinds next_kinds over next_over arc.target kind s → AreTargets kinds next_kinds (arc ∷ [])
+targets_one {h} kinds next_kinds over next_over arc kind s n k low high = elim n.grows [
+  | inl same ↦ absurd (let e : length next_kinds ≡ length kinds = ap (λ xs. length xs) same.same in omega arith)
+  | inr put ↦
+      (let e : length next_kinds ≡ length kinds + 1 = ap (λ xs. length xs) put.0.put ∙ length_push kinds kind in
+      (arc, (0, omega arith, refl), omega (arith, put.1)))
+]

@@ -4,3 +4,4 @@ mod Zips
 mod Listing
 mod Finding
 mod Numbering
+mod Taking

@@ -24,6 +24,7 @@ impl Exploring<'_> {
         requires kept { IsKept (tiers_in self.now.frame.now) (constraints_in self.now.frame.now) (form_in self.now.frame.now) (self.now.stage - 1) (states_of self.now.kept.now) }
         requires budget { 1 ≤ self.now.budget }
         ensures found { IfOk result (IsFoundWithin self.now) }
+        ensures one { IfOk result (λ listed. length listed.kinds.items ≡ 1) }
         ensures err { IfErr result (λ e. e ≡ ExploreErr.NoMemory) }
     {
         let mut listed = Listed {
@@ -42,6 +43,7 @@ impl Exploring<'_> {
         listed: &mut Listed,
     ) -> Result<Vec<TableState<Count>>, ExploreErr>
         requires found { IsFoundWithin self.now listed.old }
+        requires one { length listed.old.kinds.items ≡ 1 }
         ensures found { IfOk result (λ _. IsFoundWithin self.now listed.new) }
         ensures taken { IfOk result (λ states. AreTaken self.now.frame.now self.now.stage (states_of self.now.kept.now) listed.new.kinds.items listed.new.over.items states.items) }
         ensures each { IfOk result (λ states. length states.items ≡ length listed.new.kinds.items) }

@@ -5,3 +5,5 @@ mod Listing
 mod Finding
 mod Numbering
 mod Taking
+mod Beginning
+mod Named

@@ -1,6 +1,7 @@
 -- The start is found, and no state is made.
 use Rattle.std.proofs.Common.{◌≡◌, ℕ, suc, ◌+◌, ◌-◌, ◌<◌, ◌≤◌, List, [], ◌∷◌, ◌++◌, Some, None, length, refl, ap, sym, ◌∙◌, subst, arith, inl, inr}
 use Rattle.std.specs.Prelude.{slice_get}
+use Rattle.std.proofs.lemmas.List.{length_push}
 use Rattle.std.proofs.lemmas.Option.{slice_get_within}
 use Rattle.weight_law.specs.declared.Weight.{Ghosts}
 use Rattle.weight_law.specs.declared.count.Count.{Count}
@@ -76,3 +77,7 @@ none_made {g} {h} frame stage kept kinds over states one none =
       reached = λ k low high. absurd (omega (arith, low, high));
       each = λ k kind s l at. absurd (omega (arith, l));
     })
+
+-- one more is nearer to the budget
+pub one_more : {X : Type 0} (budget : ℕ) (xs : List X) (x : X) → length xs < budget → budget - length (xs ++ x ∷ []) < budget - length xs
+one_more budget xs x l = omega (arith, length_push xs x)

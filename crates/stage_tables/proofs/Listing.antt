@@ -5,7 +5,7 @@ use Rattle.std.specs.List.{list_any}
 use Rattle.std.proofs.lemmas.Bool.{cases_lt}
 use Rattle.std.proofs.lemmas.List.{length_push, length-map, map-append}
 use Rattle.std.proofs.lemmas.List.Quantifiers.{all_pairs_push}
-use Rattle.std.proofs.lemmas.Option.{slice_get_within, slice_get-get_or, get_or_from_slice_get}
+use Rattle.std.proofs.lemmas.Option.{slice_get_within, slice_get_read, get_or_from_slice_get}
 use Rattle.tier_core.specs.declared.kind.Kind.{Kind}
 use Rattle.stage_tables.specs.declared.kind_key.KindKey.{KindKey}
 use Rattle.stage_tables.specs.KindKeys.{key_of}
@@ -81,3 +81,10 @@ one_number kinds apart j k a b at_j at_k same = elim (cases_lt j k) [
     | inr m ↦ omega arith
   ]
 ]
+
+-- what is read at a place of both lists
+pub at_index : (kinds : List Kind) (over : List ℕ) → length over ≡ length kinds → (n at_kind at_state : ℕ) (kind : Kind) (s : ℕ) → n < length kinds → at_kind ≡ n → at_state ≡ n → kind ≡ get_or kinds at_kind kind → s ≡ get_or over at_state s → IsAt kinds over n kind s
+at_index kinds over each n at_kind at_state kind s inside a b read_kind read_state = (
+  slice_get_read kinds (length kinds) n kind refl inside (subst (λ (j : ℕ). kind ≡ get_or kinds j kind) a read_kind),
+  slice_get_read over (length over) n s refl (omega (arith, each)) (subst (λ (j : ℕ). s ≡ get_or over j s) b read_state),
+)

@@ -1,0 +1,83 @@
+-- The start is found, and no state is made.
+use Rattle.std.proofs.Common.{◌≡◌, ℕ, suc, ◌+◌, ◌-◌, ◌<◌, ◌≤◌, List, [], ◌∷◌, ◌++◌, Some, None, length, refl, ap, sym, ◌∙◌, subst, arith, inl, inr}
+use Rattle.std.specs.Prelude.{slice_get}
+use Rattle.std.proofs.lemmas.List.{length_push}
+use Rattle.std.proofs.lemmas.Option.{slice_get_within}
+use Rattle.weight_law.specs.declared.Weight.{Ghosts}
+use Rattle.weight_law.specs.declared.count.Count.{Count}
+use Rattle.weight_law.specs.declared.unit_weight.UnitWeight.{UnitWeight}
+use Rattle.tier_core.specs.declared.kind.Kind.{Kind}
+use Rattle.tier_core.specs.Kinds.{PrefixKind}
+use Rattle.arc_table.specs.declared.state.TableState.{TableState}
+use Rattle.violation.specs.Moves.{cut}
+use Rattle.violation.specs.Prefixes.{kind_of}
+use Rattle.kind_moves.specs.declared.frame.Frame.{Frame}
+use Rattle.kind_moves.specs.Frames.{tiers_in, constraints_in, form_in, kind_at_stage, IsStart}
+use Rattle.stage_tables.specs.declared.kind_key.KindKey.{KindKey}
+use Rattle.stage_tables.specs.KindKeys.{key_of}
+use Rattle.stage_tables.specs.Kept.{AreKeptByKinds}
+use Rattle.stage_tables.specs.Listed.{IsAt, AreListed, IsPutLast, IsNumbered, StandsOver, IsReached, AreFound, AreTaken}
+use Rattle.stage_tables.proofs.Cuts.{cut_of}
+use Rattle.stage_tables.proofs.Listing.{at_cases, at_last}
+
+pub nothing_listed : (keys : List KindKey) (kinds : List Kind) (over : List ℕ) → keys ≡ [] → kinds ≡ [] → over ≡ [] → AreListed keys kinds over
+nothing_listed keys kinds over a b d =
+    subst (λ (xs : List KindKey). AreListed xs kinds over) (sym a) (subst (λ (xs : List Kind). AreListed [] xs over) (sym b) (subst (λ (xs : List ℕ). AreListed [] [] xs) (sym d)
+    (record { keyed = refl; each = refl; distinct = λ i j x l m. absurd (omega (arith, m)) })))
+
+-- the first kind is put last where there is none
+pub first_put : (kinds : List Kind) (over : List ℕ) (k : ℕ) (first : Kind) (s : ℕ) → IsNumbered [] kinds [] over k first s → IsPutLast [] kinds [] over first s
+first_put kinds over k first s n = elim n.grows [
+  | inl same ↦ absurd (let none : slice_get kinds k ≡ None = ap (λ xs. slice_get xs k) same.same in let some : slice_get kinds k ≡ Some n.at.0 = n.at.1 in cc)
+  | inr put ↦ put.0
+]
+
+module _ {g : Ghosts UnitWeight} (frame : Frame) (stage : ℕ) (some : 1 ≤ stage) (kept : List (TableState UnitWeight g)) (names : List PrefixKind) (by : AreKeptByKinds (tiers_in frame) (constraints_in frame) (form_in frame) (stage - 1) names kept) where
+  start_named : (first : Kind) → IsStart frame stage first → cut (constraints_in frame) (stage - 1) (kind_at_stage frame stage first) ≡ kind_of (tiers_in frame) (constraints_in frame) (stage - 1) []
+  start_named first starts =
+      let last : stage ≡ suc (stage - 1) = omega arith in
+      ap (cut (constraints_in frame) (stage - 1)) (starts.is ∙ ap (λ n. kind_of (tiers_in frame) (constraints_in frame) n []) last)
+      ∙ cut_of (tiers_in frame) (constraints_in frame) (stage - 1) []
+
+  pub first_found : (keys : List KindKey) (kinds : List Kind) (over : List ℕ) (first : Kind) → AreListed keys kinds over → IsPutLast [] kinds [] over first 0 → IsStart frame stage first → AreFound frame stage kept keys kinds over
+  first_found keys kinds over first listed put starts = record {
+    names = names;
+    kept_by = by;
+    listed = listed;
+    start = (first, (ap (λ xs. slice_get xs 0) put.put, ap (λ xs. slice_get xs 0) put.over_put), starts);
+    stands = λ k kind s at.
+        (let is = only k kind s at in
+        subst (λ (x : Kind). StandsOver frame stage names x s) is.0 (subst (λ (x : ℕ). StandsOver frame stage names first x) is.1 stands));
+    reached = λ k kind s at.
+        (let is = only k kind s at in
+        subst (λ (x : Kind). IsReached frame stage kept x s) is.0 (subst (λ (x : ℕ). IsReached frame stage kept first x) is.1 reached));
+  }
+    where
+      only : (k : ℕ) (kind : Kind) (s : ℕ) → IsAt kinds over k kind s → (first ≡ kind) × (0 ≡ s)
+      only k kind s at = elim (at_cases [] [] refl first 0 k kind s (ap (λ xs. slice_get xs k) (sym put.put) ∙ at.0, ap (λ xs. slice_get xs k) (sym put.over_put) ∙ at.1)) [
+        | inl was ↦ absurd (omega (arith, slice_get_within [] k kind was.0))
+        | inr is ↦ is
+      ]
+
+      stands : StandsOver frame stage names first 0
+      stands = record {
+        fits = starts.fits;
+        within = omega (arith, by.named.some, by.named.each_named);
+        named = start_named first starts ∙ sym by.named.start;
+      }
+
+      reached : IsReached frame stage kept first 0
+      reached = record { prefix = []; first = first; starts = starts; leads = refl; arcs = []; path = refl; reads = tt }
+
+-- before any state is made
+pub none_made : {g : Ghosts UnitWeight} {h : Ghosts Count} (frame : Frame) (stage : ℕ) (kept : List (TableState UnitWeight g)) (kinds : List Kind) (over : List ℕ) (states : List (TableState Count h)) → length kinds ≡ 1 → states ≡ [] → AreTaken frame stage kept kinds over states
+none_made {g} {h} frame stage kept kinds over states one none =
+    subst (λ (xs : List (TableState Count h)). AreTaken frame stage kept kinds over xs) (sym none) (record {
+      within = omega arith;
+      reached = λ k low high. absurd (omega (arith, low, high));
+      each = λ k kind s l at. absurd (omega (arith, l));
+    })
+
+-- one more is nearer to the budget
+pub one_more : {X : Type 0} (budget : ℕ) (xs : List X) (x : X) → length xs < budget → budget - length (xs ++ x ∷ []) < budget - length xs
+one_more budget xs x l = omega (arith, length_push xs x)

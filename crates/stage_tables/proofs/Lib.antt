@@ -1,0 +1,9 @@
+mod Keys
+mod Cuts
+mod Zips
+mod Listing
+mod Finding
+mod Numbering
+mod Taking
+mod Beginning
+mod Named

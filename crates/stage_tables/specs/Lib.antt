@@ -1,0 +1,5 @@
+pub mod KindKeys
+pub mod Kept
+pub mod Explored
+pub mod Listed
+pub mod Exploring

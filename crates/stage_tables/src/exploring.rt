@@ -1,0 +1,17 @@
+ghost use Rattle.std.specs.Prelude.{◌≤◌, length};
+ghost use Rattle.kind_moves.specs.Frames.{constraints_in};
+
+use arc_table::Table;
+use kind_moves::Frame;
+use weight_law::UnitWeight;
+
+/// A kept table that is explored under the first constraints of a frame, up to a number of kinds.
+#[derive(Drop)]
+pub(crate) struct Exploring<'a> {
+    pub frame: &'a Frame<'a>,
+    pub stage: u32,
+    pub kept: &'a Table<UnitWeight>,
+    pub budget: u32,
+    pub ghost some: { 1 ≤ stage },
+    pub ghost within: { stage ≤ length (constraints_in frame.now) },
+}

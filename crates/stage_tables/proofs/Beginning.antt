@@ -81,3 +81,15 @@ none_made {g} {h} frame stage kept kinds over states one none =
 -- one more is nearer to the budget
 pub one_more : {X : Type 0} (budget : ℕ) (xs : List X) (x : X) → length xs < budget → budget - length (xs ++ x ∷ []) < budget - length xs
 one_more budget xs x l = omega (arith, length_push xs x)
+
+pub empty_is : {X : Type 0} (xs : List X) → length xs ≡ 0 → xs ≡ []
+empty_is [] e = refl
+empty_is (x ∷ xs) e = absurd (omega arith)
+
+pub numbered_none : (none kinds : List Kind) (no_over over : List ℕ) (k : ℕ) (first : Kind) (s : ℕ) → none ≡ [] → no_over ≡ [] → IsNumbered none kinds no_over over k first s → IsNumbered [] kinds [] over k first s
+numbered_none none kinds no_over over k first s a b n =
+    subst (λ (xs : List Kind). IsNumbered xs kinds [] over k first s) a (subst (λ (ys : List ℕ). IsNumbered none kinds ys over k first s) b n)
+
+pub put_none : (none kinds : List Kind) (no_over over : List ℕ) (first : Kind) (s : ℕ) → none ≡ [] → no_over ≡ [] → IsPutLast none kinds no_over over first s → IsPutLast [] kinds [] over first s
+put_none none kinds no_over over first s a b n =
+    subst (λ (xs : List Kind). IsPutLast xs kinds [] over first s) a (subst (λ (ys : List ℕ). IsPutLast none kinds ys over first s) b n)

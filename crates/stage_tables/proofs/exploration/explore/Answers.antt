@@ -1,4 +1,4 @@
-use Rattle.std.proofs.Common.{◌≡◌, length, sym, ◌∙◌, arith}
+use Rattle.std.proofs.Common.{◌≡◌, sym, ◌∙◌, arith}
 use Rattle.std.proofs.lemmas.Option.{slice_get_within}
 use Rattle.std.proofs.lemmas.Result.{err_from_is_err_and}
 use Rattle.stage_tables.proofs.Named.{is_explored, over_budget, new_targets, new_filled, new_width, new_disjoint}
@@ -58,5 +58,5 @@ returns-in_err-states-clause-over c =
     let same : p.0 ≡ c.in_err-states.field-0.0 = p.2 in
     let listed = c.states.new.listed in
     rw p.1 (λ over.
-        (let beyond = c.in_err-states.ensures.beyond (sym same ∙ over) in
-        over_budget c.args.frame.now c.args.stage c.args.kept.now.states.items listed.keys.keys listed.kinds.items listed.over.items beyond.found c.args.budget beyond.more))
+    (let beyond = c.in_err-states.ensures.beyond (sym same ∙ over) in
+    over_budget c.args.frame.now c.args.stage c.args.kept.now.states.items listed.keys.keys listed.kinds.items listed.over.items beyond.found c.args.budget beyond.more))

@@ -31,6 +31,6 @@ returns-in_err-_start-clause-within c =
     let same : p.0 ≡ c.in_err-_start.field-0.0 = p.2 in
     let new = c.number_of.new.listed in
     rw p.1 (λ over.
-        (let put : IsPutLast [] new.kinds.items [] new.over.items c.start.result 0 = put_none c.new-2.result.items new.kinds.items c.new-3.result.items new.over.items c.start.result 0 c.new-2.ensures.items c.new-3.ensures.items (said.over_put (sym same ∙ over)) in
-        let one : length new.kinds.items ≡ 1 = ap (λ xs. length xs) put.put in
-        absurd (omega (arith, one, said.over (sym same ∙ over), c.requires.budget))))
+    (let put : IsPutLast [] new.kinds.items [] new.over.items c.start.result 0 = put_none c.new-2.result.items new.kinds.items c.new-3.result.items new.over.items c.start.result 0 c.new-2.ensures.items c.new-3.ensures.items (said.over_put (sym same ∙ over)) in
+    let one : length new.kinds.items ≡ 1 = ap (λ xs. length xs) put.put in
+    absurd (omega (arith, one, said.over (sym same ∙ over), c.requires.budget))))

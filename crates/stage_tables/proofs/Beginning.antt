@@ -1,5 +1,5 @@
 -- The start is found, and no state is made.
-use Rattle.std.proofs.Common.{◌≡◌, ℕ, suc, ◌+◌, ◌-◌, ◌<◌, ◌≤◌, List, [], ◌∷◌, ◌++◌, Some, None, length, refl, ap, sym, ◌∙◌, subst, arith, inl, inr}
+use Rattle.std.proofs.Common.{◌≡◌, ℕ, suc, ◌-◌, ◌<◌, ◌≤◌, List, [], ◌∷◌, ◌++◌, Some, None, length, refl, ap, sym, ◌∙◌, subst, arith, inl, inr}
 use Rattle.std.specs.Prelude.{slice_get}
 use Rattle.std.proofs.lemmas.List.{length_push}
 use Rattle.std.proofs.lemmas.Option.{slice_get_within}
@@ -14,11 +14,10 @@ use Rattle.violation.specs.Prefixes.{kind_of}
 use Rattle.kind_moves.specs.declared.frame.Frame.{Frame}
 use Rattle.kind_moves.specs.Frames.{tiers_in, constraints_in, form_in, kind_at_stage, IsStart}
 use Rattle.stage_tables.specs.declared.kind_key.KindKey.{KindKey}
-use Rattle.stage_tables.specs.KindKeys.{key_of}
 use Rattle.stage_tables.specs.Kept.{AreKeptByKinds}
 use Rattle.stage_tables.specs.Listed.{IsAt, AreListed, IsPutLast, IsNumbered, StandsOver, IsReached, AreFound, AreTaken}
 use Rattle.stage_tables.proofs.Cuts.{cut_of}
-use Rattle.stage_tables.proofs.Listing.{at_cases, at_last}
+use Rattle.stage_tables.proofs.Listing.{at_cases}
 
 pub nothing_listed : (keys : List KindKey) (kinds : List Kind) (over : List ℕ) → keys ≡ [] → kinds ≡ [] → over ≡ [] → AreListed keys kinds over
 nothing_listed keys kinds over a b d =
@@ -81,3 +80,15 @@ none_made {g} {h} frame stage kept kinds over states one none =
 -- one more is nearer to the budget
 pub one_more : {X : Type 0} (budget : ℕ) (xs : List X) (x : X) → length xs < budget → budget - length (xs ++ x ∷ []) < budget - length xs
 one_more budget xs x l = omega (arith, length_push xs x)
+
+pub empty_is : {X : Type 0} (xs : List X) → length xs ≡ 0 → xs ≡ []
+empty_is [] e = refl
+empty_is (x ∷ xs) e = absurd (omega arith)
+
+pub numbered_none : (none kinds : List Kind) (no_over over : List ℕ) (k : ℕ) (first : Kind) (s : ℕ) → none ≡ [] → no_over ≡ [] → IsNumbered none kinds no_over over k first s → IsNumbered [] kinds [] over k first s
+numbered_none none kinds no_over over k first s a b n =
+    subst (λ (xs : List Kind). IsNumbered xs kinds [] over k first s) a (subst (λ (ys : List ℕ). IsNumbered none kinds ys over k first s) b n)
+
+pub put_none : (none kinds : List Kind) (no_over over : List ℕ) (first : Kind) (s : ℕ) → none ≡ [] → no_over ≡ [] → IsPutLast none kinds no_over over first s → IsPutLast [] kinds [] over first s
+put_none none kinds no_over over first s a b n =
+    subst (λ (xs : List Kind). IsPutLast xs kinds [] over first s) a (subst (λ (ys : List ℕ). IsPutLast none kinds ys over first s) b n)

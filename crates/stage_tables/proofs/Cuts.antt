@@ -1,11 +1,11 @@
 -- Kinds cut to the constraints before the last one go on as they do.
-use Rattle.std.proofs.Common.{◌≡◌, ℕ, zero, suc, ◌+◌, ◌-◌, ◌<◌, ◌≤◌, Bool, List, [], ◌∷◌, ◌++◌, map, filter, take, length, refl, ap, sym, ◌∙◌, subst, arith}
+use Rattle.std.proofs.Common.{◌≡◌, ℕ, zero, suc, Bool, List, [], ◌∷◌, ◌++◌, map, filter, take, length, refl, ap, ◌∙◌}
 use Rattle.std.proofs.lemmas.List.Elements.{filter-append}
 use Rattle.tier_core.specs.declared.sym.Sym.{Sym}
 use Rattle.tier_core.specs.declared.constraint.Constraint.{Constraint}
 use Rattle.tier_core.specs.Kinds.{Phase, PrefixKind}
 use Rattle.tier_core.specs.Tiers.{Tiers}
-use Rattle.violation.specs.Moves.{FitsKind, moved, next_phase, next_phases, cut, is_final}
+use Rattle.violation.specs.Moves.{FitsKind, moved, next_phase, next_phases, cut}
 use Rattle.violation.specs.Prefixes.{kind_of, stretches, phase}
 use Rattle.violation.specs.Sides.{is_stretch}
 
@@ -47,14 +47,14 @@ module _ (tiers : Tiers) (constraints : List Constraint) where
       let parts = stretches_split constraints n in
       let cs = stretches constraints n in
       ap (λ (ps : List Phase). let next : PrefixKind = record { place = (moved tiers constraints n k column).place; opened = (moved tiers constraints n k column).opened; phases = ps } in next)
-          (ap (λ xs. take (length cs) (next_phases xs k.phases column)) parts.1 ∙ next_cut cs parts.0 k.phases column)
+      (ap (λ xs. take (length cs) (next_phases xs k.phases column)) parts.1 ∙ next_cut cs parts.0 k.phases column)
 
   pub cut_of : (n : ℕ) (p : List (List Sym)) → cut constraints n (kind_of tiers constraints (suc n) p) ≡ kind_of tiers constraints n p
   cut_of n p =
       let parts = stretches_split constraints n in
       let cs = stretches constraints n in
       ap (λ (ps : List Phase). let next : PrefixKind = record { place = (kind_of tiers constraints n p).place; opened = (kind_of tiers constraints n p).opened; phases = ps } in next)
-          (ap (λ xs. take (length cs) (map (λ c. phase c.left c.right p) xs)) parts.1 ∙ first_cut (λ c. phase c.left c.right p) cs parts.0)
+      (ap (λ xs. take (length cs) (map (λ c. phase c.left c.right p) xs)) parts.1 ∙ first_cut (λ c. phase c.left c.right p) cs parts.0)
 
   -- a column fits a kind exactly where it fits the kind that is cut
   pub fits_whole : (u : List (List Sym)) (n : ℕ) (k : PrefixKind) (column : List Sym) → FitsKind tiers u (cut constraints n k) column → FitsKind tiers u k column

@@ -1,9 +1,9 @@
 -- One kind more is found, or one that is listed already.
-use Rattle.std.proofs.Common.{◌≡◌, ◌≢◌, ℕ, suc, ◌+◌, ◌-◌, ◌<◌, ◌≤◌, Bool, List, [], ◌∷◌, ◌++◌, Some, length, get_or, refl, ap, sym, ◌∙◌, subst, arith, ◌⊎◌, inl, inr}
+use Rattle.std.proofs.Common.{◌≡◌, ◌≢◌, ℕ, suc, ◌+◌, ◌-◌, ◌<◌, ◌≤◌, Bool, List, [], ◌∷◌, ◌++◌, Some, length, refl, ap, sym, ◌∙◌, subst, arith, ◌⊎◌, inl, inr}
 use Rattle.std.specs.Prelude.{Contains, AllPairs, IsTrue, slice_get}
 use Rattle.std.specs.List.{AllZip}
 use Rattle.std.proofs.lemmas.Bool.{cases_lt}
-use Rattle.std.proofs.lemmas.List.{length_push, get_or_default}
+use Rattle.std.proofs.lemmas.List.{length_push}
 use Rattle.std.proofs.lemmas.Option.{slice_get_within, same_Some}
 use Rattle.weight_law.specs.declared.Weight.{Ghosts}
 use Rattle.weight_law.specs.declared.count.Count.{Count}
@@ -20,12 +20,12 @@ use Rattle.arc_table.specs.Runs.{IsPath, Reads}
 use Rattle.arc_table.proofs.Push.{moves_exist, accepting_old, accepting_new, moves_old, moves_new}
 use Rattle.violation.specs.Moves.{FitsKind, moved, cut}
 use Rattle.kind_moves.specs.declared.frame.Frame.{Frame}
-use Rattle.kind_moves.specs.Frames.{tiers_in, constraints_in, form_in, kind_at_stage, FitsAt, FitsFrame, IsMove, IsStart}
+use Rattle.kind_moves.specs.Frames.{tiers_in, constraints_in, form_in, kind_at_stage, FitsAt, IsMove}
 use Rattle.kind_moves.specs.Laws.{LeadsTo}
 use Rattle.stage_laws.specs.StageTables.{name_of, cost_of}
 use Rattle.stage_tables.specs.declared.kind_key.KindKey.{KindKey}
 use Rattle.stage_tables.specs.KindKeys.{key_of}
-use Rattle.stage_tables.specs.Kept.{AreKeptByKinds, IsKept}
+use Rattle.stage_tables.specs.Kept.{AreKeptByKinds}
 use Rattle.stage_tables.specs.Listed.{IsAt, AreListed, IsPutLast, IsSame, IsNumbered, Stays, StandsOver, IsReached, AreFound, IsTaken, IsTakenState, AreTargets, AreTaken}
 use Rattle.stage_tables.proofs.Keys.{same_told, same_fits}
 use Rattle.stage_tables.proofs.Cuts.{cut_moved, fits_whole}
@@ -74,7 +74,7 @@ module _ {g : Ghosts UnitWeight} (frame : Frame) (stage : ℕ) (some : 1 ≤ sta
     fits_kind kind s stands arc column here h =
         let goes = by.named.moves s arc column here h in
         fits_whole (tiers_in frame) (constraints_in frame) (form_in frame) (stage - 1) (kind_at_stage frame stage kind) column
-            (subst (λ (k : PrefixKind). FitsKind (tiers_in frame) (form_in frame) k column) (sym stands.named) goes.fits)
+        (subst (λ (k : PrefixKind). FitsKind (tiers_in frame) (form_in frame) k column) (sym stands.named) goes.fits)
 
     -- and leads to a kind over the move's target
     pub next_stands : (kind : Kind) (s : ℕ) → StandsOver frame stage names kind s → (arc : TableArc UnitWeight g) (column : List Sym) → Contains (moves_at kept s) arc → IsTrue (has arc.class column) → (next : Kind) → IsMove frame stage kind column next → StandsOver frame stage names next arc.target
@@ -270,7 +270,7 @@ taken_push {g} {h} frame stage kept kinds next_kinds over next_over each stays s
           let now = stays k was.0 was.1 was.2 in
           let before = taken.each k was.0 was.1 lower was.2 in
           moved_to k was.0 other was.1 t (accepting_at states k) (moves_at states k) (same_Some was.0 other (sym now.0 ∙ there.0)) (same_Some was.1 t (sym now.1 ∙ there.1)) (accepting_old states state k lower) (moves_old states state k lower)
-              (record { accepts = before.accepts; taken = all_taken_stay frame stage kinds next_kinds over next_over stays was.0 (moves_at kept was.1) (moves_at states k) before.taken }))
+          (record { accepts = before.accepts; taken = all_taken_stay frame stage kinds next_kinds over next_over stays was.0 (moves_at kept was.1) (moves_at states k) before.taken }))
       | inr upper ↦
           (let is : length states ≡ k = omega (arith, length_push states state, l, upper) in
           let now = stays (length states) kind s at in

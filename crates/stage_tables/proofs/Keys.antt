@@ -1,11 +1,11 @@
 -- Keys of kinds: what they tell, and that kinds at a stage tell them.
-use Rattle.std.proofs.Common.{◌≡◌, ◌≢◌, ℕ, zero, suc, ◌+◌, ◌<◌, ◌≤◌, ◌^◌, ◌==◌, ◌&&◌, Bool, true, false, List, map, length, refl, ap, sym, ◌∙◌, subst, ⊎_elim, arith}
+use Rattle.std.proofs.Common.{◌≡◌, ℕ, zero, suc, ◌+◌, ◌<◌, ◌≤◌, ◌^◌, ◌==◌, ◌&&◌, Bool, true, false, map, length, refl, ap, sym, ◌∙◌, subst, ⊎_elim, arith}
 use Rattle.std.specs.Int.{bit_at}
 use Rattle.std.specs.List.{range_with_len}
 use Rattle.std.proofs.lemmas.Bool.{false≢true, cases_lt}
 use Rattle.std.proofs.lemmas.Nat.Bits.{same_from_bits, bit_at-lt}
 use Rattle.tier_core.specs.declared.kind.Kind.{Kind}
-use Rattle.tier_core.specs.Kinds.{Phase, closed, unmet, met, PrefixKind, AreStretchesBelow, phase_by_bits, phase_at, phases, open_tiers, prefix_kind}
+use Rattle.tier_core.specs.Kinds.{PrefixKind, phase_by_bits, phase_at, phases, open_tiers}
 use Rattle.tier_core.specs.Tiers.{has_tier}
 use Rattle.tier_core.proofs.KindLemmas.{not_both}
 use Rattle.kind_moves.specs.declared.frame.Frame.{Frame}

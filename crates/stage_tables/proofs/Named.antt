@@ -1,6 +1,6 @@
 -- The table of all kinds that are found is explored, and too many kinds are over the budget.
-use Rattle.std.proofs.Common.{◌≡◌, ◌≢◌, ◌↔◌, ℕ, suc, ◌+◌, ◌-◌, ◌<◌, ◌≤◌, List, [], ◌∷◌, ◌++◌, Some, map, length, get_or, refl, ap, sym, ◌∙◌, subst, arith, inl, inr}
-use Rattle.std.specs.Prelude.{Contains, AllPairs, All, IsTrue, slice_get}
+use Rattle.std.proofs.Common.{◌≡◌, ◌≢◌, ℕ, ◌+◌, ◌-◌, ◌<◌, ◌≤◌, List, [], ◌++◌, map, length, get_or, ap, sym, ◌∙◌, subst, arith, inl, inr}
+use Rattle.std.specs.Prelude.{Contains, AllPairs, IsTrue}
 use Rattle.std.proofs.lemmas.Bool.{cases_lt}
 use Rattle.std.proofs.lemmas.List.{length-map, get_or_past}
 use Rattle.std.proofs.lemmas.Option.{slice_get_within, get_or_from_slice_get}
@@ -16,7 +16,6 @@ use Rattle.arc_table.specs.declared.arc.TableArc.{TableArc}
 use Rattle.arc_table.specs.declared.state.TableState.{TableState}
 use Rattle.arc_table.specs.Conditions.{AreDisjoint, TargetsExist, ClassesDisjoint, ClassesFilled, OneWidth, is_filled}
 use Rattle.arc_table.specs.Moves.{moves_at, accepting_at}
-use Rattle.arc_table.specs.Runs.{Accepts}
 use Rattle.arc_table.proofs.Push.{moves_exist}
 use Rattle.violation.specs.Moves.{moved, cut}
 use Rattle.violation.specs.Prefixes.{kind_of}
@@ -30,7 +29,6 @@ use Rattle.stage_laws.specs.FoundTables.{HasMoveOn, base_of, AreFoundFrom}
 use Rattle.stage_laws.proofs.Exploring.{found_named, found_on_runs, same_words}
 use Rattle.stage_laws.proofs.Paths.{run_path, path_word, joined_run, joined_reads}
 use Rattle.stage_tables.specs.declared.kind_key.KindKey.{KindKey}
-use Rattle.stage_tables.specs.KindKeys.{key_of}
 use Rattle.stage_tables.specs.Explored.{names_at, IsExplored, IsMet, IsOverBudget}
 use Rattle.stage_tables.specs.Listed.{IsAt, AreFound, IsTaken, AreTaken}
 use Rattle.stage_tables.proofs.Keys.{same_key}
@@ -73,10 +71,13 @@ module _ {g : Ghosts UnitWeight} (frame : Frame) (stage : ℕ) (kept : List (Tab
       record {
         prefix = r.prefix;
         rest = word.0;
-        accepted = (r.arcs ++ run.2.0, record {
-          run = joined_run kept r.arcs run.2.0 0 s r.path run.2.1;
-          reads = joined_reads kept r.arcs run.2.0 r.prefix word.0 r.reads word.1;
-        });
+        accepted = (
+          r.arcs ++ run.2.0,
+          record {
+            run = joined_run kept r.arcs run.2.0 0 s r.path run.2.1;
+            reads = joined_reads kept r.arcs run.2.0 r.prefix word.0 r.reads word.1;
+          },
+        );
         of_kind = sym (kinds_law frame stage r.first r.starts r.prefix kind r.leads);
       }
 
@@ -167,8 +168,8 @@ module _ {g : Ghosts UnitWeight} (frame : Frame) (stage : ℕ) (kept : List (Tab
           (let a = kind_of_state k l in
           let state = taken.each k a.0 a.1 l a.2 in
           zip_pairs (IsTaken frame stage kinds over a.0) (λ x y. AreDisjoint x.class y.class) (λ x y. AreDisjoint x.class y.class)
-              (λ x z y w p q d. subst (λ (c : Class). AreDisjoint c w.class) (sym p.same_class) (subst (λ (c : Class). AreDisjoint x.class c) (sym q.same_class) d))
-              (moves_at kept a.1) (moves_at states k) state.taken (apart a.1))
+          (λ x z y w p q d. subst (λ (c : Class). AreDisjoint c w.class) (sym p.same_class) (subst (λ (c : Class). AreDisjoint x.class c) (sym q.same_class) d))
+          (moves_at kept a.1) (moves_at states k) state.taken (apart a.1))
       | inr l ↦
           (let gone : moves_at states k ≡ [] = get_or_past (map (λ s. s.arcs.items) states) k [] (omega (arith, length-map states (λ s. s.arcs.items))) in
           subst (λ (xs : List (TableArc Count h)). AllPairs (λ x y. AreDisjoint x.class y.class) xs) (sym gone) (λ i j d less inside. absurd (omega (arith, inside))))

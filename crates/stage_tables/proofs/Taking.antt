@@ -1,6 +1,5 @@
 -- Moves that are taken one by one.
-use Rattle.std.proofs.Common.{◌≡◌, ℕ, ◌+◌, ◌<◌, ◌≤◌, List, [], ◌∷◌, ◌++◌, take, length, get_or, refl, ap, sym, ◌∙◌, subst, arith, inl, inr}
-use Rattle.std.specs.Prelude.{Contains}
+use Rattle.std.proofs.Common.{◌≡◌, ℕ, ◌+◌, ◌<◌, List, [], ◌∷◌, ◌++◌, take, length, get_or, ap, sym, ◌∙◌, subst, arith, inl, inr}
 use Rattle.std.specs.List.{AllZip}
 use Rattle.std.proofs.lemmas.Bool.{cases_lt}
 use Rattle.std.proofs.lemmas.List.{take_more}
@@ -13,7 +12,7 @@ use Rattle.tier_core.specs.declared.kind.Kind.{Kind}
 use Rattle.arc_table.specs.declared.arc.TableArc.{TableArc}
 use Rattle.stage_tables.specs.declared.exploring.Exploring.{Exploring}
 use Rattle.stage_tables.specs.declared.listed.Listed.{Listed}
-use Rattle.stage_tables.specs.Listed.{IsAt, Stays, AreTargets, IsTaken}
+use Rattle.stage_tables.specs.Listed.{AreTargets, IsTaken}
 use Rattle.stage_tables.specs.Exploring.{IsFoundWithin, StaysListed}
 use Rattle.stage_tables.proofs.Zips.{zip_push}
 use Rattle.stage_tables.proofs.Finding.{all_taken_stay}

@@ -25,7 +25,7 @@ impl Exploring<'_> {
         requires budget { 1 ≤ self.now.budget }
         ensures found { IfOk result (IsFoundWithin self.now) }
         ensures one { IfOk result (λ listed. length listed.kinds.items ≡ 1) }
-        ensures err { IfErr result (λ e. e ≡ ExploreErr.NoMemory) }
+        ensures within { IfErr result (λ e. e ≡ ExploreErr.OverBudget → ⊥) }
     {
         let mut listed = Listed {
             keys: IndexSet::new(alloc),

@@ -1,4 +1,4 @@
-use Rattle.std.proofs.Common.{◌≡◌, ◌+◌, ◌<◌, not, length, ap, ◌∙◌, arith}
+use Rattle.std.proofs.Common.{◌≡◌, ◌<◌, not, length, ap, ◌∙◌, arith}
 use Rattle.stage_tables.specs.Listed.{IsAt}
 use Rattle.stage_tables.proofs.Listing.{at_index}
 use Rattle.stage_tables.proofs.Finding.{taken_push}

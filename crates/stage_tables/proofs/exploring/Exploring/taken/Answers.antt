@@ -1,7 +1,5 @@
-use Rattle.std.proofs.Common.{◌≡◌, length, refl, sym, ◌∙◌, subst}
+use Rattle.std.proofs.Common.{◌≡◌, refl, sym, ◌∙◌}
 use Rattle.std.proofs.lemmas.Result.{err_from_is_err_and}
-use Rattle.kind_moves.specs.Frames.{FitsFrame, FitsAt}
-use Rattle.stage_tables.specs.Listed.{StandsOver, AreFound}
 use Rattle.stage_tables.proofs.Finding.{fits_kind, next_stands, next_reached, found_numbered, found_put, found_stays, found_given, taken_move, targets_one}
 use Rattle.stage_tables.proofs.exploring.Exploring.taken.Goals as goal
 

@@ -1,5 +1,5 @@
-use Rattle.std.proofs.Common.{◌≡◌, ◌+◌, not, length, ap, ◌∙◌, arith}
-use Rattle.stage_tables.proofs.Taking.{TakenSoFar, none_taken, one_taken, all_taken}
+use Rattle.std.proofs.Common.{◌≡◌, not, length, ap, ◌∙◌, arith}
+use Rattle.stage_tables.proofs.Taking.{none_taken, one_taken, all_taken}
 use Rattle.stage_tables.proofs.exploring.Exploring.taken_arcs.Goals as goal
 
 pub loop-arc-init : goal.loop-arc-init

@@ -5,9 +5,9 @@ use Rattle.outside.specs.Sent.{appended, HasSentPart}
 use Rattle.timeline_text.specs.declared.form_err.FormErr.{FormErr}
 use Rattle.grammar_reader.specs.declared.grammar_err.GrammarCause.{GrammarCause}
 use Rattle.status_lines.specs.declared.status.Status.{Status}
-use Rattle.status_lines.specs.declared.status.Status.TheVariants.{Done, Usage, GrammarRefused, FormRefused, Budget, ReadFault, WriteFault, NoMemory, TooLong, NotBuilt}
+use Rattle.status_lines.specs.declared.status.Status.TheVariants.{Done, Usage, GrammarRefused, FormRefused, Budget, ReadFault, WriteFault, NoMemory, TooLong}
 use Rattle.command_words.specs.Commands.{IsNoCommand}
-use Rattle.otp_tool.specs.Findings.{long_file, no_grammar, not_built, no_form, over_budget, ready}
+use Rattle.otp_tool.specs.Findings.{long_file, no_grammar, no_form, over_budget, ready}
 use Rattle.otp_tool.specs.Outcomes.{HasReadFault, IsBehind, IsWrittenBehind}
 use Rattle.otp_tool.specs.Steps.{Change, IsOutcome}
 
@@ -26,9 +26,6 @@ module _ (words : List (List ℕ)) (c : Change) (s : Status) (o : IsOutcome word
 
   pub by_grammar : (word line : ℕ) (cause : GrammarCause) → s ≡ GrammarRefused word line cause → (word ≡ 1) × IsBehind words c.held (no_grammar line cause)
   by_grammar word line cause e = let p = at (GrammarRefused word line cause) e in (p.0, p.1)
-
-  pub unbuilt : (word : ℕ) → s ≡ NotBuilt word → (word ≡ 1) × IsBehind words c.held not_built
-  unbuilt word e = let p = at (NotBuilt word) e in (p.0, p.1)
 
   pub by_form : (word : ℕ) (cause : FormErr) → s ≡ FormRefused word cause → (word ≡ 2) × IsBehind words c.held (no_form cause)
   by_form word cause e = let p = at (FormRefused word cause) e in (p.0, p.1)
@@ -56,7 +53,6 @@ module _ (words : List (List ℕ)) (c : Change) where
   only_usage WriteFault o n = absurd (n o.0.command o.0.are)
   only_usage NoMemory o n = absurd (n o.0.0 o.0.1)
   only_usage (TooLong word) o n = absurd (n o.1.command o.1.are)
-  only_usage (NotBuilt word) o n = absurd (n o.1.command o.1.are)
 
   pub by_usage : (s : Status) → IsOutcome words c s → (s ≡ Usage) ↔ IsNoCommand words
   by_usage s o = (λ e. (subst (IsOutcome words c) e o).0, λ n. only_usage s o n)

@@ -4,11 +4,11 @@ use Rattle.outside.specs.Faults.{Rose}
 use Rattle.timeline_text.specs.declared.form_err.FormErr.{FormErr}
 use Rattle.grammar_reader.specs.declared.grammar_err.GrammarCause.{GrammarCause}
 use Rattle.status_lines.specs.declared.status.Status.{Status}
-use Rattle.status_lines.specs.declared.status.Status.TheVariants.{Done, Usage, GrammarRefused, FormRefused, Budget, ReadFault, WriteFault, NoMemory, TooLong, NotBuilt}
+use Rattle.status_lines.specs.declared.status.Status.TheVariants.{Done, Usage, GrammarRefused, FormRefused, Budget, ReadFault, WriteFault, NoMemory, TooLong}
 use Rattle.command_words.specs.Commands.{Command, IsNoCommand, grammar_of as file_of}
 use Rattle.command_words.proofs.CommandLemmas.{one_command}
 use Rattle.otp_tool.specs.Grammars.{IsHeld}
-use Rattle.otp_tool.specs.Findings.{Finding, Finds, long_file, no_grammar, not_built, no_form, over_budget, ready}
+use Rattle.otp_tool.specs.Findings.{Finding, Finds, long_file, no_grammar, no_form, over_budget, ready}
 use Rattle.otp_tool.specs.Outcomes.{HasReadFault, IsBeforeWriting, IsBehind, IsTold, Stands, answer_to}
 use Rattle.otp_tool.specs.Steps.{Change, IsOutcome}
 use Rattle.otp_tool.proofs.FindingLemmas.{one_finding}
@@ -27,7 +27,6 @@ same words held x y t b =
 abbrev IsReady : Finding → Type 0
 IsReady long_file = ⊥
 IsReady (no_grammar line cause) = ⊥
-IsReady not_built = ⊥
 IsReady (no_form cause) = ⊥
 IsReady (over_budget stage) = ⊥
 IsReady ready = Unit {0}
@@ -49,7 +48,6 @@ module _ (words : List (List ℕ)) (c : Change) where
   due WriteFault o x n t = absurd (n (sym (same words c.held x ready t o.0)))
   due NoMemory o x n t = inr (inl refl)
   due (TooLong word) o x n t = inl (ap TooLong o.0 ∙ ap answer_to (same words c.held x long_file t o.1))
-  due (NotBuilt word) o x n t = inl (ap NotBuilt o.0 ∙ ap answer_to (same words c.held x not_built t o.1))
 
   not_ready : (x : Finding) → IsTold words c.held ready → IsBehind words c.held x → IsReady x
   not_ready x t b = subst IsReady (sym (same words c.held ready x t b)) tt
@@ -64,7 +62,6 @@ module _ (words : List (List ℕ)) (c : Change) where
   complete WriteFault o t r w = absurd (w o.2)
   complete NoMemory o t r w = inr refl
   complete (TooLong word) o t r w = absurd (not_ready long_file t o.1)
-  complete (NotBuilt word) o t r w = absurd (not_ready not_built t o.1)
 
   pub untouched : (s : Status) → IsOutcome words c s → IsBeforeWriting s → c.taking.new ≡ c.taking.old
   untouched Done o b = absurd b
@@ -76,4 +73,3 @@ module _ (words : List (List ℕ)) (c : Change) where
   untouched WriteFault o b = absurd b
   untouched NoMemory o b = absurd b
   untouched (TooLong word) o b = o.2
-  untouched (NotBuilt word) o b = o.2

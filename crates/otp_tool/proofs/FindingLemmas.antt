@@ -14,7 +14,8 @@ use Rattle.command_words.specs.Commands.{Command, canon, score, generate, show}
 use Rattle.timeline_text.proofs.Deciding.{not_both}
 use Rattle.otp_tool.specs.Forms.{IsReadAs}
 use Rattle.otp_tool.specs.Grammars.{AreOf, IsFileOf, OnGrammar, input_count, tiers_of}
-use Rattle.otp_tool.specs.Findings.{Finding, Finds, FindsIn, FindsForAnswer, FindsForCanon, FindsForScore, IsOverBudget, IsWithinBudget, long_file, no_grammar, not_built, no_form, over_budget, ready}
+use Rattle.otp_tool.specs.Findings.{Finding, Finds, FindsIn, FindsForAnswer, FindsForCanon, FindsForScore, IsOverBudget, IsWithinBudget, long_file, no_grammar, no_form, over_budget, ready}
+use Rattle.otp_tool.proofs.ConstraintLemmas.{first_over_alike}
 use Rattle.otp_tool.proofs.ReadingLemmas.{not_refused, one_cause, one_reading, one_refusal}
 
 -- ---- in a grammar
@@ -22,12 +23,10 @@ use Rattle.otp_tool.proofs.ReadingLemmas.{not_refused, one_cause, one_reading, o
 for_canon : (x y : Finding) → FindsForCanon x → FindsForCanon y → x ≡ y
 for_canon long_file y a b = absurd a
 for_canon (no_grammar line cause) y a b = absurd a
-for_canon not_built y a b = absurd a
 for_canon (no_form cause) y a b = absurd a
 for_canon (over_budget stage) y a b = absurd a
 for_canon ready long_file a b = absurd b
 for_canon ready (no_grammar line cause) a b = absurd b
-for_canon ready not_built a b = absurd b
 for_canon ready (no_form cause) a b = absurd b
 for_canon ready (over_budget stage) a b = absurd b
 for_canon ready ready a b = refl
@@ -35,28 +34,17 @@ for_canon ready ready a b = refl
 for_score : (g : GrammarValue) (word : List ℕ) (x y : Finding) → FindsForScore g word x → FindsForScore g word y → x ≡ y
 for_score g word long_file y a b = absurd a
 for_score g word (no_grammar line cause) y a b = absurd a
-for_score g word not_built y a b = absurd a
 for_score g word (over_budget stage) y a b = absurd a
 for_score g word (no_form cause) long_file a b = absurd b
 for_score g word (no_form cause) (no_grammar line other) a b = absurd b
-for_score g word (no_form cause) not_built a b = absurd b
 for_score g word (no_form cause) (no_form other) a b = ap no_form (one_cause (length g.tiers) 4096 word cause other a b)
 for_score g word (no_form cause) (over_budget stage) a b = absurd b
 for_score g word (no_form cause) ready a b = absurd (not_both (length g.tiers) 4096 word b.0 cause b.1 a)
 for_score g word ready long_file a b = absurd b
 for_score g word ready (no_grammar line cause) a b = absurd b
-for_score g word ready not_built a b = absurd b
 for_score g word ready (no_form cause) a b = absurd (not_both (length g.tiers) 4096 word a.0 cause a.1 b)
 for_score g word ready (over_budget stage) a b = absurd b
 for_score g word ready ready a b = refl
-
-none_left : (cs : List NamedConstraint) → 0 < length cs → cs ≡ [] → ⊥
-none_left cs l e = let n : length cs ≡ 0 = ap length e in omega (arith, n)
-
--- a list that is seen as none is empty
-seen_none : (cs : List Constraint) → map constraint_seen cs ≡ [] → cs ≡ []
-seen_none [] e = refl
-seen_none (c ∷ cs) e = absurd (let n : length (map constraint_seen (c ∷ cs)) ≡ 0 = ap length e in omega (arith, n))
 
 equal_where : (a b : ℕ) → (a < b → ⊥) → (b < a → ⊥) → a ≡ b
 equal_where zero zero f h = refl
@@ -74,10 +62,7 @@ module _ (tiers : Tiers) (cs : List Constraint) (u : List (List Sym)) (budget : 
   one_stage : (r s : ℕ) → IsFirstOver tiers cs u budget r → IsFirstOver tiers cs u budget s → r ≡ s
   one_stage r s o p = equal_where r s (λ l. more r o.over (p.before r l)) (λ l. more s p.over (o.before s l))
 
-module _ (g : GrammarValue) (form : List ℕ) (budget : ℕ) (bare : g.constraints ≡ []) where
-  no_constraints : (cs : List Constraint) → AreOf g cs → cs ≡ []
-  no_constraints cs a = seen_none cs (a ∙ bare)
-
+module _ (g : GrammarValue) (form : List ℕ) (budget : ℕ) where
   same_form : (u v : List (List Sym)) → IsReadAs (input_count g) g.letters form u → IsReadAs (input_count g) g.letters form v → u ≡ v
   same_form u v r s = one_reading (input_count g) g.letters form u v r s
 
@@ -85,7 +70,7 @@ module _ (g : GrammarValue) (form : List ℕ) (budget : ℕ) (bare : g.constrain
   over_by : (stage : ℕ) (o : IsOverBudget g form budget stage) (cs : List Constraint) (u : List (List Sym)) → AreOf g cs → IsReadAs (input_count g) g.letters form u → IsFirstOver (tiers_of g) cs u budget stage
   over_by stage o cs u a r =
       subst (λ (v : List (List Sym)). IsFirstOver (tiers_of g) cs v budget stage) (same_form o.u u o.read r)
-      (subst (λ (ds : List Constraint). IsFirstOver (tiers_of g) ds o.u budget stage) (no_constraints o.constraints o.are ∙ sym (no_constraints cs a)) o.over)
+      (first_over_alike (tiers_of g) o.u budget o.constraints cs (o.are ∙ sym a) stage o.over)
 
   never_both : (stage : ℕ) → IsOverBudget g form budget stage → IsWithinBudget g form budget → ⊥
   never_both stage o w = over_within (tiers_of g) w.constraints w.u budget stage (over_by stage o w.constraints w.u w.are w.read) w.within
@@ -96,29 +81,20 @@ module _ (g : GrammarValue) (form : List ℕ) (budget : ℕ) (bare : g.constrain
 for_answer : (g : GrammarValue) (form : List ℕ) (budget : ℕ) (x y : Finding) → FindsForAnswer g form budget x → FindsForAnswer g form budget y → x ≡ y
 for_answer g form budget long_file y a b = absurd a
 for_answer g form budget (no_grammar line cause) y a b = absurd a
-for_answer g form budget not_built long_file a b = absurd b
-for_answer g form budget not_built (no_grammar line cause) a b = absurd b
-for_answer g form budget not_built not_built a b = refl
-for_answer g form budget not_built (no_form cause) a b = absurd (none_left g.constraints a b.0)
-for_answer g form budget not_built (over_budget stage) a b = absurd (none_left g.constraints a b.0)
-for_answer g form budget not_built ready a b = absurd (none_left g.constraints a b.0)
 for_answer g form budget (no_form cause) long_file a b = absurd b
 for_answer g form budget (no_form cause) (no_grammar line other) a b = absurd b
-for_answer g form budget (no_form cause) not_built a b = absurd (none_left g.constraints b a.0)
-for_answer g form budget (no_form cause) (no_form other) a b = ap no_form (one_refusal (input_count g) g.letters form cause other a.1 b.1)
-for_answer g form budget (no_form cause) (over_budget stage) a b = absurd (not_refused (input_count g) g.letters form b.1.u cause b.1.read a.1)
-for_answer g form budget (no_form cause) ready a b = absurd (not_refused (input_count g) g.letters form b.1.u cause b.1.read a.1)
+for_answer g form budget (no_form cause) (no_form other) a b = ap no_form (one_refusal (input_count g) g.letters form cause other a b)
+for_answer g form budget (no_form cause) (over_budget stage) a b = absurd (not_refused (input_count g) g.letters form b.u cause b.read a)
+for_answer g form budget (no_form cause) ready a b = absurd (not_refused (input_count g) g.letters form b.u cause b.read a)
 for_answer g form budget (over_budget stage) long_file a b = absurd b
 for_answer g form budget (over_budget stage) (no_grammar line cause) a b = absurd b
-for_answer g form budget (over_budget stage) not_built a b = absurd (none_left g.constraints b a.0)
-for_answer g form budget (over_budget stage) (no_form cause) a b = absurd (not_refused (input_count g) g.letters form a.1.u cause a.1.read b.1)
-for_answer g form budget (over_budget stage) (over_budget other) a b = ap over_budget (one_over g form budget a.0 stage other a.1 b.1)
-for_answer g form budget (over_budget stage) ready a b = absurd (never_both g form budget a.0 stage a.1 b.1)
+for_answer g form budget (over_budget stage) (no_form cause) a b = absurd (not_refused (input_count g) g.letters form a.u cause a.read b)
+for_answer g form budget (over_budget stage) (over_budget other) a b = ap over_budget (one_over g form budget stage other a b)
+for_answer g form budget (over_budget stage) ready a b = absurd (never_both g form budget stage a b)
 for_answer g form budget ready long_file a b = absurd b
 for_answer g form budget ready (no_grammar line cause) a b = absurd b
-for_answer g form budget ready not_built a b = absurd (none_left g.constraints b a.0)
-for_answer g form budget ready (no_form cause) a b = absurd (not_refused (input_count g) g.letters form a.1.u cause a.1.read b.1)
-for_answer g form budget ready (over_budget stage) a b = absurd (never_both g form budget a.0 stage b.1 a.1)
+for_answer g form budget ready (no_form cause) a b = absurd (not_refused (input_count g) g.letters form a.u cause a.read b)
+for_answer g form budget ready (over_budget stage) a b = absurd (never_both g form budget stage b a)
 for_answer g form budget ready ready a b = refl
 
 in_grammar : (command : Command) (g : GrammarValue) (x y : Finding) → FindsIn command g x → FindsIn command g y → x ≡ y
@@ -169,37 +145,26 @@ module _ (command : Command) (bytes : List ℕ) where
   pub one_finding : (x y : Finding) → Finds command bytes x → Finds command bytes y → x ≡ y
   one_finding long_file long_file a b = refl
   one_finding long_file (no_grammar line cause) a b = absurd (too_long (length bytes) a b.0)
-  one_finding long_file not_built a b = absurd (long_in not_built a b)
   one_finding long_file (no_form cause) a b = absurd (long_in (no_form cause) a b)
   one_finding long_file (over_budget stage) a b = absurd (long_in (over_budget stage) a b)
   one_finding long_file ready a b = absurd (long_in ready a b)
   one_finding (no_grammar line cause) long_file a b = absurd (too_long (length bytes) b a.0)
   one_finding (no_grammar line cause) (no_grammar other reason) a b = one_refused line other cause reason a.1 b.1
-  one_finding (no_grammar line cause) not_built a b = absurd (refused_in _ not_built a.1 b)
   one_finding (no_grammar line cause) (no_form reason) a b = absurd (refused_in _ (no_form reason) a.1 b)
   one_finding (no_grammar line cause) (over_budget stage) a b = absurd (refused_in _ (over_budget stage) a.1 b)
   one_finding (no_grammar line cause) ready a b = absurd (refused_in _ ready a.1 b)
-  one_finding not_built long_file a b = absurd (long_in not_built b a)
-  one_finding not_built (no_grammar line why) a b = absurd (refused_in _ not_built b.1 a)
-  one_finding not_built not_built a b = both_in not_built not_built a b
-  one_finding not_built (no_form reason) a b = both_in not_built (no_form reason) a b
-  one_finding not_built (over_budget other) a b = both_in not_built (over_budget other) a b
-  one_finding not_built ready a b = both_in not_built ready a b
   one_finding (no_form cause) long_file a b = absurd (long_in (no_form cause) b a)
   one_finding (no_form cause) (no_grammar line why) a b = absurd (refused_in _ (no_form cause) b.1 a)
-  one_finding (no_form cause) not_built a b = both_in (no_form cause) not_built a b
   one_finding (no_form cause) (no_form reason) a b = both_in (no_form cause) (no_form reason) a b
   one_finding (no_form cause) (over_budget other) a b = both_in (no_form cause) (over_budget other) a b
   one_finding (no_form cause) ready a b = both_in (no_form cause) ready a b
   one_finding (over_budget stage) long_file a b = absurd (long_in (over_budget stage) b a)
   one_finding (over_budget stage) (no_grammar line why) a b = absurd (refused_in _ (over_budget stage) b.1 a)
-  one_finding (over_budget stage) not_built a b = both_in (over_budget stage) not_built a b
   one_finding (over_budget stage) (no_form reason) a b = both_in (over_budget stage) (no_form reason) a b
   one_finding (over_budget stage) (over_budget other) a b = both_in (over_budget stage) (over_budget other) a b
   one_finding (over_budget stage) ready a b = both_in (over_budget stage) ready a b
   one_finding ready long_file a b = absurd (long_in ready b a)
   one_finding ready (no_grammar line why) a b = absurd (refused_in _ ready b.1 a)
-  one_finding ready not_built a b = both_in ready not_built a b
   one_finding ready (no_form reason) a b = both_in ready (no_form reason) a b
   one_finding ready (over_budget other) a b = both_in ready (over_budget other) a b
   one_finding ready ready a b = both_in ready ready a b

@@ -1,5 +1,6 @@
 mod GrammarLemmas
 mod ReadingLemmas
+mod ConstraintLemmas
 mod FindingLemmas
 mod StepLemmas
 mod OutcomeLemmas

@@ -2,11 +2,11 @@
 use Rattle.std.proofs.Common.{◌≡◌, ◌⊎◌, inl, inr, ℕ, zero, suc, ◌+◌, ◌<◌, List, [], ◌∷◌, length, Option, Some, None, IfSome, refl, sym, subst, arith}
 use Rattle.outside.specs.Sent.{appended, HasSentPart}
 use Rattle.status_lines.specs.declared.status.Status.{Status}
-use Rattle.status_lines.specs.declared.status.Status.TheVariants.{Done, Usage, GrammarRefused, FormRefused, Budget, ReadFault, WriteFault, NoMemory, TooLong, NotBuilt}
+use Rattle.status_lines.specs.declared.status.Status.TheVariants.{Done, Usage, GrammarRefused, FormRefused, Budget, ReadFault, WriteFault, NoMemory, TooLong}
 use Rattle.grammar_reader.specs.Values.{GrammarValue}
 use Rattle.command_words.specs.Commands.{Command, IsCommand, grammar_of as file_of}
 use Rattle.otp_tool.specs.Grammars.{IsHeld, OnGrammar}
-use Rattle.otp_tool.specs.Findings.{Finding, FindsIn, Finds, long_file, no_grammar, not_built, no_form, over_budget, ready}
+use Rattle.otp_tool.specs.Findings.{Finding, FindsIn, Finds, long_file, no_grammar, no_form, over_budget, ready}
 use Rattle.otp_tool.specs.Results.{IsResult}
 use Rattle.otp_tool.specs.Outcomes.{IsBehind, IsWrittenBehind}
 use Rattle.otp_tool.specs.Steps.{Change, IsAllTaken, IsEnd, IsLoadRefusal, IsLoaded, IsOutcome, IsPartTaken, IsRefusal, IsStep}
@@ -52,7 +52,6 @@ module _ (words : List (List ℕ)) (c : Change) (command : Command) (are : IsCom
   by_load t (TooLong word) r =
       let l = long_held (c.held (file_of command)) r.1 in
       (r.0, record { command = command; bytes = l.bytes; are = are; holds = l.holds; finds = l.long }, t)
-  by_load t (NotBuilt word) r = absurd r
 
   module _ (g : GrammarValue) (l : IsLoaded (c.held (file_of command)) g) where
     on : (P : GrammarValue → Type 0) → P g → OnGrammar P l.bytes
@@ -76,7 +75,6 @@ module _ (words : List (List ℕ)) (c : Change) (command : Command) (are : IsCom
     by_refusal t WriteFault r = absurd r
     by_refusal t NoMemory r = ((command, are), inl t)
     by_refusal t (TooLong word) r = absurd r
-    by_refusal t (NotBuilt word) r = (r.0, behind not_built (on (λ h. FindsIn command h not_built) r.1), t)
 
     -- ---- from writing
 
@@ -109,7 +107,6 @@ module _ (words : List (List ℕ)) (c : Change) (command : Command) (are : IsCom
     by_end f WriteFault e = (is_ready f, part e.0, e.1)
     by_end f NoMemory e = ((command, are), memory e)
     by_end f (TooLong word) e = absurd e
-    by_end f (NotBuilt word) e = absurd e
 
     pub by_step : (s : Status) → IsStep (FindsIn command g) (IsResult command g) c.taking s → IsOutcome words c s
     by_step s (inl r) = by_refusal r.1 s r.0

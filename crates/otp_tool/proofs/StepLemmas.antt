@@ -112,44 +112,32 @@ module _ (g : Grammar) where
 
   -- ---- answers
 
-  none_seen : g.constraints.items ≡ [] → (value_of g).constraints ≡ []
-  none_seen e = ap (map constraint_seen) e
-
-  pub some_seen : (0 < length g.constraints.items) → 0 < length (value_of g).constraints
-  some_seen l = subst (λ n. 0 < n) (sym (length-map g.constraints.items constraint_seen)) l
-
   module _ (form : List ℕ) (budget : ℕ) where
     read_seen : (u : List (List Sym)) → IsReadAs (length (tiers_of_table g.tiers).input) g.letters.items form u → IsReadAs (input_count (value_of g)) (value_of g).letters form u
     read_seen u r = subst (λ (tiers : Tiers). IsReadAs (length tiers.input) g.letters.items form u) (sym (same_tiers g)) r
 
-    pub no_form_for : g.constraints.items ≡ [] → (cause : FormErr) → IsRefusedFor (length (tiers_of_table g.tiers).input) g.letters.items form cause → FindsForAnswer (value_of g) form budget (no_form cause)
-    no_form_for e cause r = (none_seen e, subst (λ (tiers : Tiers). IsRefusedFor (length tiers.input) g.letters.items form cause) (sym (same_tiers g)) r)
+    pub no_form_for : (cause : FormErr) → IsRefusedFor (length (tiers_of_table g.tiers).input) g.letters.items form cause → FindsForAnswer (value_of g) form budget (no_form cause)
+    no_form_for cause r = subst (λ (tiers : Tiers). IsRefusedFor (length tiers.input) g.letters.items form cause) (sym (same_tiers g)) r
 
-    pub over_for : g.constraints.items ≡ [] → (u : List (List Sym)) → IsReadAs (length (tiers_of_table g.tiers).input) g.letters.items form u
+    pub over_for : (u : List (List Sym)) → IsReadAs (length (tiers_of_table g.tiers).input) g.letters.items form u
         → (stage : ℕ) → IsFirstOver (tiers_of_table g.tiers) g.constraints.items u budget stage → FindsForAnswer (value_of g) form budget (over_budget stage)
-    over_for e u r stage o = (
-      none_seen e,
-      record {
-        u = u;
-        read = read_seen u r;
-        constraints = g.constraints.items;
-        are = refl;
-        over = subst (λ (tiers : Tiers). IsFirstOver tiers g.constraints.items u budget stage) (sym (same_tiers g)) o;
-      },
-    )
+    over_for u r stage o = record {
+      u = u;
+      read = read_seen u r;
+      constraints = g.constraints.items;
+      are = refl;
+      over = subst (λ (tiers : Tiers). IsFirstOver tiers g.constraints.items u budget stage) (sym (same_tiers g)) o;
+    }
 
     module _ (answer : Answer) (made : IsMade (tiers_of_table g.tiers) g.letters.items g.constraints.items form budget answer) where
       pub made_ready : FindsForAnswer (value_of g) form budget ready
-      made_ready = (
-        none_seen made.built,
-        record {
-          u = made.u;
-          read = read_seen made.u made.read;
-          constraints = g.constraints.items;
-          are = refl;
-          within = subst (λ (tiers : Tiers). AreAllWithin tiers g.constraints.items made.u budget) (sym (same_tiers g)) made.within;
-        },
-      )
+      made_ready = record {
+        u = made.u;
+        read = read_seen made.u made.read;
+        constraints = g.constraints.items;
+        are = refl;
+        within = subst (λ (tiers : Tiers). AreAllWithin tiers g.constraints.items made.u budget) (sym (same_tiers g)) made.within;
+      }
 
       pub made_right : (write : Tiers → List Constraint → Answer → List ℕ) (text : List ℕ) → text ≡ write (tiers_of_table g.tiers) g.constraints.items answer → IsOfRightAnswer write (value_of g) form text
       made_right write text e = record {

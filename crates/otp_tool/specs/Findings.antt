@@ -1,5 +1,5 @@
 -- What a command finds, from the file of its grammar on, before it writes.
-use Rattle.std.specs.Prelude.{◌≡◌, ℕ, ◌<◌, ◌≤◌, List, [], length, Err}
+use Rattle.std.specs.Prelude.{◌≡◌, ℕ, ◌<◌, ◌≤◌, List, length, Err}
 use Rattle.tier_core.specs.declared.sym.Sym.{Sym}
 use Rattle.tier_core.specs.declared.constraint.Constraint.{Constraint}
 use Rattle.timeline_text.specs.declared.form_err.FormErr.{FormErr}
@@ -16,8 +16,6 @@ pub data Finding : Type 0 where
   long_file : Finding
   -- the file is no grammar: its first line that has a cause, and the cause
   no_grammar : ℕ → GrammarCause → Finding
-  -- the program has no body yet for constraints
-  not_built : Finding
   -- the word of the form, or of the timeline, is refused for a cause
   no_form : FormErr → Finding
   -- this stage is the first that has more kinds than the budget
@@ -45,7 +43,6 @@ pub record IsWithinBudget (g : GrammarValue) (form : List ℕ) (budget : ℕ) : 
 abbrev pub FindsForCanon : Finding → Type 0
 FindsForCanon long_file = ⊥
 FindsForCanon (no_grammar line cause) = ⊥
-FindsForCanon not_built = ⊥
 FindsForCanon (no_form cause) = ⊥
 FindsForCanon (over_budget stage) = ⊥
 FindsForCanon ready = Unit {0}
@@ -54,20 +51,17 @@ FindsForCanon ready = Unit {0}
 abbrev pub FindsForScore : GrammarValue → List ℕ → Finding → Type 0
 FindsForScore g word long_file = ⊥
 FindsForScore g word (no_grammar line cause) = ⊥
-FindsForScore g word not_built = ⊥
 FindsForScore g word (no_form cause) = IsNotScored (length g.tiers) word cause
 FindsForScore g word (over_budget stage) = ⊥
 FindsForScore g word ready = (T : List (List Sym)) × IsScored (length g.tiers) word T
 
--- What `generate` and `show` find in a grammar, a form's word and a budget. That the grammar has
--- constraints stands before the form, and the form before the budget.
+-- What `generate` and `show` find in a grammar, a form's word and a budget.
 abbrev pub FindsForAnswer : GrammarValue → List ℕ → ℕ → Finding → Type 0
 FindsForAnswer g form budget long_file = ⊥
 FindsForAnswer g form budget (no_grammar line cause) = ⊥
-FindsForAnswer g form budget not_built = 0 < length g.constraints
-FindsForAnswer g form budget (no_form cause) = (g.constraints ≡ []) × IsRefusedFor (input_count g) g.letters form cause
-FindsForAnswer g form budget (over_budget stage) = (g.constraints ≡ []) × IsOverBudget g form budget stage
-FindsForAnswer g form budget ready = (g.constraints ≡ []) × IsWithinBudget g form budget
+FindsForAnswer g form budget (no_form cause) = IsRefusedFor (input_count g) g.letters form cause
+FindsForAnswer g form budget (over_budget stage) = IsOverBudget g form budget stage
+FindsForAnswer g form budget ready = IsWithinBudget g form budget
 
 -- what a command finds in its grammar
 abbrev pub FindsIn : Command → GrammarValue → Finding → Type 0
@@ -80,7 +74,6 @@ FindsIn (show name form budget) g finding = FindsForAnswer g form budget finding
 abbrev pub Finds : Command → List ℕ → Finding → Type 0
 Finds command bytes long_file = 65536 < length bytes
 Finds command bytes (no_grammar line cause) = (length bytes ≤ 65536) × (grammar_of bytes ≡ Err (record { line = line; cause = cause }))
-Finds command bytes not_built = OnGrammar (λ g. FindsIn command g not_built) bytes
 Finds command bytes (no_form cause) = OnGrammar (λ g. FindsIn command g (no_form cause)) bytes
 Finds command bytes (over_budget stage) = OnGrammar (λ g. FindsIn command g (over_budget stage)) bytes
 Finds command bytes ready = OnGrammar (λ g. FindsIn command g ready) bytes

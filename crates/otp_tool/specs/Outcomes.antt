@@ -3,9 +3,9 @@ use Rattle.std.specs.Prelude.{◌≡◌, ℕ, ◌⊎◌, List, Option, Some}
 use Rattle.outside.specs.Faults.{Rose}
 use Rattle.command_words.specs.Commands.{Command, IsCommand, grammar_of as file_of}
 use Rattle.status_lines.specs.declared.status.Status.{Status}
-use Rattle.status_lines.specs.declared.status.Status.TheVariants.{Done, Usage, GrammarRefused, FormRefused, Budget, ReadFault, WriteFault, NoMemory, TooLong, NotBuilt}
+use Rattle.status_lines.specs.declared.status.Status.TheVariants.{Done, Usage, GrammarRefused, FormRefused, Budget, ReadFault, WriteFault, NoMemory, TooLong}
 use Rattle.otp_tool.specs.Grammars.{IsHeld, OnGrammar}
-use Rattle.otp_tool.specs.Findings.{Finding, Finds, long_file, no_grammar, not_built, no_form, over_budget, ready}
+use Rattle.otp_tool.specs.Findings.{Finding, Finds, long_file, no_grammar, no_form, over_budget, ready}
 use Rattle.otp_tool.specs.Results.{IsResult}
 
 -- the words are a command, which finds this in the bytes that the shelf holds under its grammar's name
@@ -44,7 +44,6 @@ pub record HasReadFault (words : List (List ℕ)) (before after : List ℕ → �
 abbrev pub answer_to : Finding → Status
 answer_to long_file = TooLong 1
 answer_to (no_grammar line cause) = GrammarRefused 1 line cause
-answer_to not_built = NotBuilt 1
 answer_to (no_form cause) = FormRefused 2 cause
 answer_to (over_budget stage) = Budget 0 stage
 answer_to ready = Done
@@ -64,4 +63,3 @@ IsBeforeWriting (ReadFault word) = Unit {0}
 IsBeforeWriting WriteFault = ⊥
 IsBeforeWriting NoMemory = ⊥
 IsBeforeWriting (TooLong word) = Unit {0}
-IsBeforeWriting (NotBuilt word) = Unit {0}

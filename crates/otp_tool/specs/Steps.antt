@@ -1,5 +1,5 @@
 -- What each step of a command answers.
-use Rattle.std.specs.Prelude.{◌≡◌, ℕ, ◌<◌, ◌≤◌, ◌⊎◌, List, [], length, Option, IfSome, Result, Ok, Err}
+use Rattle.std.specs.Prelude.{◌≡◌, ℕ, ◌<◌, ◌≤◌, ◌⊎◌, List, length, Option, IfSome, Result, Ok, Err}
 use Rattle.outside.specs.Faults.{Rose}
 use Rattle.outside.specs.declared.sink.WriteErr.{WriteErr}
 use Rattle.outside.specs.declared.sink.WriteErr.TheVariants.{Failed, NoMemory as NoRoom}
@@ -17,10 +17,10 @@ use Rattle.grammar_reader.specs.Values.{GrammarValue}
 use Rattle.grammar_reader.specs.Reading.{grammar_of}
 use Rattle.command_words.specs.Commands.{Command, IsCommand, IsNoCommand, canon, score, generate, show}
 use Rattle.status_lines.specs.declared.status.Status.{Status}
-use Rattle.status_lines.specs.declared.status.Status.TheVariants.{Done, Usage, GrammarRefused, FormRefused, Budget, ReadFault, WriteFault, NoMemory, TooLong, NotBuilt}
+use Rattle.status_lines.specs.declared.status.Status.TheVariants.{Done, Usage, GrammarRefused, FormRefused, Budget, ReadFault, WriteFault, NoMemory, TooLong}
 use Rattle.otp_tool.specs.Forms.{IsReadAs}
 use Rattle.otp_tool.specs.Grammars.{IsHeld, IsFileOf}
-use Rattle.otp_tool.specs.Findings.{Finding, long_file, no_grammar, not_built, no_form, over_budget, ready}
+use Rattle.otp_tool.specs.Findings.{Finding, long_file, no_grammar, no_form, over_budget, ready}
 use Rattle.otp_tool.specs.Outcomes.{IsBehind, IsWrittenBehind, HasReadFault}
 
 -- the budget of a command is from 1 to 65,536
@@ -53,7 +53,6 @@ IsLoadRefusal held before after (ReadFault word) = (word ≡ 1) × Rose before a
 IsLoadRefusal held before after WriteFault = ⊥
 IsLoadRefusal held before after NoMemory = Unit {0}
 IsLoadRefusal held before after (TooLong word) = (word ≡ 1) × IfSome held (λ text. 65536 < length text)
-IsLoadRefusal held before after (NotBuilt word) = ⊥
 
 -- why nothing is made, before anything is written
 abbrev pub IsRefusal : (Finding → Type 0) → Status → Type 0
@@ -66,12 +65,10 @@ IsRefusal finds (ReadFault word) = ⊥
 IsRefusal finds WriteFault = ⊥
 IsRefusal finds NoMemory = Unit {0}
 IsRefusal finds (TooLong word) = ⊥
-IsRefusal finds (NotBuilt word) = (word ≡ 1) × finds not_built
 
 -- an answer is right for the form that a word is read as, and no stage has more kinds than the budget
 pub record IsMade (tiers : Tiers) (letters : List Letter) (constraints : List Constraint) (form : List ℕ) (budget : ℕ) (answer : Answer) : Type 0 where
   pub u : List (List Sym)
-  pub built : constraints ≡ []
   pub read : IsReadAs (length tiers.input) letters form u
   pub right : IsRight tiers constraints u answer
   pub within : AreAllWithin tiers constraints u budget
@@ -111,7 +108,6 @@ IsEnd writes t (ReadFault word) = ⊥
 IsEnd writes t WriteFault = IsPartTaken writes t × Rose t.before t.after
 IsEnd writes t NoMemory = (t.new ≡ t.old) ⊎ IsPartTaken writes t
 IsEnd writes t (TooLong word) = ⊥
-IsEnd writes t (NotBuilt word) = ⊥
 
 -- what a command does with a grammar: it refuses and writes nothing, or it is ready and writes
 abbrev pub IsStep : (Finding → Type 0) → (List ℕ → Type 0) → Taking → Status → Type 0
@@ -134,4 +130,3 @@ IsOutcome words c (ReadFault word) = (word ≡ 1) × HasReadFault words c.faults
 IsOutcome words c WriteFault = IsBehind words c.held ready × IsWrittenBehind words c.held (λ text. HasSentPart c.taking.old text c.taking.new) × Rose c.taking.before c.taking.after
 IsOutcome words c NoMemory = ((command : Command) × IsCommand words command) × ((c.taking.new ≡ c.taking.old) ⊎ IsWrittenBehind words c.held (λ text. HasSentPart c.taking.old text c.taking.new))
 IsOutcome words c (TooLong word) = (word ≡ 1) × IsBehind words c.held long_file × (c.taking.new ≡ c.taking.old)
-IsOutcome words c (NotBuilt word) = (word ≡ 1) × IsBehind words c.held not_built × (c.taking.new ≡ c.taking.old)

@@ -1,4 +1,4 @@
-ghost use Rattle.std.specs.Prelude.{◌≡◌, ◌≤◌, ◌↔◌, [], IfOk, IfErr, IsTrue};
+ghost use Rattle.std.specs.Prelude.{◌≡◌, ◌≤◌, IfOk, IfErr};
 ghost use Rattle.tier_core.specs.Tables.{tiers_of_table};
 ghost use Rattle.grammar_reader.specs.Grammars.{value_of};
 ghost use Rattle.otp_tool.specs.Findings.{FindsForAnswer};
@@ -12,13 +12,6 @@ use status_lines::Status;
 use std::alloc::Global;
 use timeline_text::FormErr;
 
-/// Whether a grammar has no constraint.
-fn is_unranked(grammar: &Grammar) -> bool
-    ensures { IsTrue result ↔ (grammar.now.constraints.items ≡ []) }
-{
-    grammar.constraints.is_empty()
-}
-
 /// Makes the answer for a grammar and a form's word.
 pub(crate) fn make_answer(
     alloc: Global,
@@ -31,9 +24,6 @@ pub(crate) fn make_answer(
     ensures ok { IfOk result (IsMade (tiers_of_table grammar.now.tiers) grammar.now.letters.items grammar.now.constraints.items word.now budget) }
     ensures err { IfErr result (IsRefusal (FindsForAnswer (value_of grammar.now) word.now budget)) }
 {
-    if !is_unranked(grammar) {
-        return Err(Status::NotBuilt { word: 1 });
-    }
     let form = match read_form(alloc, grammar, word.as_bytes()) {
         Ok(form) => form,
         Err(FormErr::NoMemory) => return Err(Status::NoMemory),

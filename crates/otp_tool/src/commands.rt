@@ -7,7 +7,7 @@ ghost use Rattle.grammar_reader.specs.Grammars.{value_of};
 ghost use Rattle.command_words.specs.Commands.{Command as Asked, IsCommand, IsNoCommand, grammar_of as file_of};
 ghost use Rattle.command_words.specs.Words.{words_of};
 ghost use Rattle.command_words.specs.Seen.{command_seen};
-ghost use Rattle.otp_tool.specs.Findings.{Finding, FindsIn, long_file, no_grammar, not_built, no_form, over_budget, ready};
+ghost use Rattle.otp_tool.specs.Findings.{Finding, FindsIn, long_file, no_grammar, no_form, over_budget, ready};
 ghost use Rattle.otp_tool.specs.Results.{IsResult};
 ghost use Rattle.otp_tool.specs.Outcomes.{HasReadFault, IsBeforeWriting, IsBehind, IsTold, IsWrittenBehind, Stands, answer_to};
 ghost use Rattle.otp_tool.specs.Steps.{HasFitBudget, IsOutcome, IsStep};
@@ -81,8 +81,7 @@ fn execute<F: Shelf, O: Sink>(
 /// 65,536 without sign and without leading zero, and 20,000 where it is left out.
 ///
 /// Each command makes its whole result before it writes. The refusals come in this order: Usage;
-/// ReadFault and TooLong for word 1; GrammarRefused; NotBuilt for word 1, where `generate` or `show`
-/// is asked for and the grammar has constraints; FormRefused for word 2; Budget; WriteFault.
+/// ReadFault and TooLong for word 1; GrammarRefused; FormRefused for word 2; Budget; WriteFault.
 /// NoMemory may come in place of any status but Usage.
 pub fn run<F: Shelf, O: Sink>(
     alloc: Global,
@@ -99,7 +98,6 @@ pub fn run<F: Shelf, O: Sink>(
     ensures read_fault { (word : ℕ) → result ≡ Status.ReadFault word → (word ≡ 1) × HasReadFault (words_of words.now) (F.faults shelf.old) (F.faults shelf.new) }
     ensures too_long { (word : ℕ) → result ≡ Status.TooLong word → (word ≡ 1) × IsBehind (words_of words.now) (F.held shelf.old) long_file }
     ensures grammar_refused { (word line : ℕ) (cause : GrammarCause) → result ≡ Status.GrammarRefused word line cause → (word ≡ 1) × IsBehind (words_of words.now) (F.held shelf.old) (no_grammar line cause) }
-    ensures not_built { (word : ℕ) → result ≡ Status.NotBuilt word → (word ≡ 1) × IsBehind (words_of words.now) (F.held shelf.old) not_built }
     ensures form_refused { (word : ℕ) (cause : FormErr) → result ≡ Status.FormRefused word cause → (word ≡ 2) × IsBehind (words_of words.now) (F.held shelf.old) (no_form cause) }
     ensures budget { (entry stage : ℕ) → result ≡ Status.Budget entry stage → (entry ≡ 0) × IsBehind (words_of words.now) (F.held shelf.old) (over_budget stage) }
     ensures write_fault { result ≡ Status.WriteFault → IsBehind (words_of words.now) (F.held shelf.old) ready × Rose (O.faults sink.old) (O.faults sink.new) }

@@ -6,7 +6,7 @@ use Rattle.timeline_text.specs.declared.form_err.FormErr.TheVariants.{BadSymbol,
 use Rattle.grammar_reader.specs.declared.grammar_err.GrammarCause.{GrammarCause}
 use Rattle.grammar_reader.specs.declared.grammar_err.GrammarCause.TheVariants.{BadByte, BadHeader, BadLine, BadName, TwiceNamed, UnknownTier, NotInput, TooManyTiers, TooManyConstraints, TooManyEvents, NoInput, NoOvert}
 use Rattle.status_lines.specs.declared.status.Status.{Status}
-use Rattle.status_lines.specs.declared.status.Status.TheVariants.{Done, Usage, GrammarRefused, FormRefused, Budget, ReadFault, WriteFault, NoMemory, TooLong, NotBuilt}
+use Rattle.status_lines.specs.declared.status.Status.TheVariants.{Done, Usage, GrammarRefused, FormRefused, Budget, ReadFault, WriteFault, NoMemory, TooLong}
 
 abbrev pub status_number : Status → ℕ
 status_number Done = 0
@@ -18,7 +18,6 @@ status_number (ReadFault word) = 8
 status_number WriteFault = 9
 status_number NoMemory = 10
 status_number (TooLong word) = 12
-status_number (NotBuilt word) = 13
 
 -- the cause of a grammar is its name
 abbrev pub grammar_cause_text : GrammarCause → List ℕ
@@ -56,4 +55,3 @@ status_text (ReadFault word) = (codes "read fault word " ++ decimal word) ++ cod
 status_text WriteFault = codes "write fault\n"
 status_text NoMemory = codes "no memory\n"
 status_text (TooLong word) = (codes "too long word " ++ decimal word) ++ codes "\n"
-status_text (NotBuilt word) = (codes "not built word " ++ decimal word) ++ codes "\n"

@@ -79,7 +79,6 @@ fn put_line<O: Sink>(waiting: &mut Waiting, sink: &mut O, status: &Status) -> Re
         Status::WriteFault => waiting.put(sink, b"write fault\n"),
         Status::NoMemory => waiting.put(sink, b"no memory\n"),
         Status::TooLong { word } => put_worded(waiting, sink, b"too long word ", word, b"\n"),
-        Status::NotBuilt { word } => put_worded(waiting, sink, b"not built word ", word, b"\n"),
     }
 }
 

@@ -41,10 +41,6 @@ pub enum Status {
     TooLong {
         word: u32,
     },
-    /// The program has no body yet for what the command asks of this word.
-    NotBuilt {
-        word: u32,
-    },
 }
 
 impl Status {
@@ -62,7 +58,6 @@ impl Status {
             Status::WriteFault => 9,
             Status::NoMemory => 10,
             Status::TooLong { .. } => 12,
-            Status::NotBuilt { .. } => 13,
         }
     }
 }

@@ -38,7 +38,6 @@ fn numbers_and_lines(rt: HostRuntime) -> Result<(), Fail> {
         (Status::WriteFault, 9, "write fault\n"),
         (Status::NoMemory, 10, "no memory\n"),
         (Status::TooLong { word: 1 }, 12, "too long word 1\n"),
-        (Status::NotBuilt { word: 0 }, 13, "not built word 0\n"),
     ];
     for (status, number, line) in cases {
         let mut sink = SafeSink::new(rt.alloc());

@@ -1,3 +1,4 @@
+use super::grammars::SYLLABLES;
 use super::{BASE, outcome, refused, with_constraints};
 use crate::Status;
 use std::test::Fail;
@@ -112,11 +113,10 @@ fn budget_is_exact(rt: HostRuntime) -> Result<(), Fail> {
     Ok(())
 }
 
-// A form is refused by the first cause, and after constraints, for which there is no body yet.
+// A form is refused by the first cause, and before the budget.
 #[test]
 fn forms_are_refused(rt: HostRuntime) -> Result<(), Fail> {
     let alloc = rt.alloc();
-    let ranked = with_constraints(alloc, "constraint Max A -> a\n")?;
     let cases = [
         (
             BASE,
@@ -154,6 +154,7 @@ fn forms_are_refused(rt: HostRuntime) -> Result<(), Fail> {
             "generate/g/[ x",
             refused(FormErr::BadSymbol { at: 2 }),
         ),
+        (BASE, "show/g/[/1", refused(FormErr::NotWellFormed { tier: 0 })),
         (
             BASE,
             "generate/g/",
@@ -168,26 +169,6 @@ fn forms_are_refused(rt: HostRuntime) -> Result<(), Fail> {
             LETTERS,
             "show/g/[[ ]+",
             refused(FormErr::NotWellFormed { tier: 1 }),
-        ),
-        (
-            ranked.as_str(),
-            "generate/g/empty",
-            Status::NotBuilt { word: 1 },
-        ),
-        (
-            ranked.as_str(),
-            "show/g/empty",
-            Status::NotBuilt { word: 1 },
-        ),
-        (
-            ranked.as_str(),
-            "generate/g/[",
-            Status::NotBuilt { word: 1 },
-        ),
-        (
-            ranked.as_str(),
-            "generate/g/[ ]/1",
-            Status::NotBuilt { word: 1 },
         ),
     ];
     for (file, words, status) in cases {
@@ -224,6 +205,134 @@ fn words_have_at_most_63_letters(rt: HostRuntime) -> Result<(), Fail> {
         }
         let (found, _) = outcome(alloc, LETTERS, command.as_str())?;
         assert_eq!(rt; found, status, "{letters} letters");
+    }
+    Ok(())
+}
+
+// Some constraint lines, in ranked order.
+const MAX: &str = "constraint Max A -> a\n";
+const DEP: &str = "constraint Dep a -> A\n";
+const ONE: &str = "constraint One a # a\n";
+const INNER: &str = "constraint Inner A -> [a\n";
+const LEFT: &str = "constraint Left [A -> [a\n";
+
+// Higher constraints decide before lower ones do.
+#[test]
+fn constraints_are_ranked(rt: HostRuntime) -> Result<(), Fail> {
+    let alloc = rt.alloc();
+    let cases: [(&[&str], &str, &str); 11] = [
+        (&[MAX], "[ ]", "counts 0\nexample [[ ]]\n"),
+        (&[DEP], "empty", "counts 0\nexample empty\n"),
+        (&[MAX, DEP], "[ ]", "counts 0 0\nexample [[ ]]\n"),
+        (&[MAX, DEP, ONE], "[ ]", "counts 0 0 1\nexample [[ ]]\n"),
+        (&[ONE, MAX, DEP], "[ ]", "counts 0 1 0\nexample [- ]-\n"),
+        (&[MAX, ONE], "[ | ]", "counts 0 1\nexample [[ |+ ]]\n"),
+        (&[INNER], "[ ]", "counts 0\nexample [- +[ ]]\n"),
+        (&[ONE, LEFT], "[ ]", "counts 0 1\nexample [- ]-\n"),
+        (&[LEFT, ONE], "[ ]", "counts 0 1\nexample [[ ]]\n"),
+        (&[ONE], "[ ]", "counts 0\nexample [- ]-\n"),
+        (&[], "[ ]", "counts\nexample [- ]-\n"),
+    ];
+    for (lines, form, text) in cases {
+        let mut file = String::from_str(alloc, BASE)?;
+        for line in lines {
+            file.push_str(line)?;
+        }
+        let mut command = String::from_str(alloc, "show/g/")?;
+        command.push_str(form)?;
+        let (status, written) = outcome(alloc, file.as_str(), command.as_str())?;
+        assert_eq!(rt; status, Status::Done, "{file}{form}");
+        assert_eq!(rt; written.as_str(), text, "{file}{form}");
+    }
+    Ok(())
+}
+
+const ONE_OVERT_AT_MOST: &str = "answer 1
+form [ ]
+counts 0 1 0
+example [- ]-
+stage 0 6
+node 0/-/ 0
+node 0/+/ 0
+node 1/-/ 0
+node 1/+/ 0
+node 2/-/ 0
+node 2/+/ 0
+stage 1 6
+node 0/-/ 0
+node 0/+/ 1
+node 1/-/ 0
+node 1/+/ 1
+node 2/-/ 0
+node 2/+/ 1
+stage 2 3
+node 0/-/. 1
+node 1/-/u 1
+node 2/-/. 0
+stage 3 3
+node 0/-/.. 0
+node 1/-/u. 0
+node 2/-/.. 0
+automaton 3
+state 0
+arc 1 [-
+state 1
+arc 2 ]-
+state 2 final
+end
+";
+
+// Only the form itself is left, with its stages and what remains from each kind.
+#[test]
+fn stages_are_pruned_one_by_one(rt: HostRuntime) -> Result<(), Fail> {
+    let alloc = rt.alloc();
+    let file = with_constraints(
+        alloc,
+        "constraint One a # a\nconstraint Max A -> a\nconstraint Dep a -> A\n",
+    )?;
+    let (status, text) = outcome(alloc, file.as_str(), "generate/g/[ ]")?;
+    assert_eq!(rt; status, Status::Done);
+    assert_eq!(rt; text.as_str(), ONE_OVERT_AT_MOST);
+    Ok(())
+}
+
+// The stages have 6, 7 and 8 kinds.
+#[test]
+fn budget_of_each_stage(rt: HostRuntime) -> Result<(), Fail> {
+    let alloc = rt.alloc();
+    let file = with_constraints(alloc, "constraint Max A -> a\nconstraint Dep a -> A\n")?;
+    let cases = [
+        ("generate/g/[ ]/5", Status::Budget { entry: 0, stage: 0 }),
+        ("generate/g/[ ]/6", Status::Budget { entry: 0, stage: 1 }),
+        ("show/g/[ ]/7", Status::Budget { entry: 0, stage: 2 }),
+        ("show/g/[ ]/8", Status::Done),
+    ];
+    for (command, status) in cases {
+        let (found, text) = outcome(alloc, file.as_str(), command)?;
+        assert_eq!(rt; found, status, "{command}");
+        assert_eq!(rt; text.is_empty(), status != Status::Done, "{command}");
+    }
+    Ok(())
+}
+
+// Letters, hidden syllables and thirteen constraints.
+#[test]
+fn syllables_are_parsed(rt: HostRuntime) -> Result<(), Fail> {
+    let cases = [
+        (
+            "show/g/=tata",
+            "counts 0 0 0 0 0 0 0 0 0 0 0 0 0\nexample [-[-[ ][][+ [][]| ][][+ -]-]]\n",
+        ),
+        (
+            "show/g/=tat",
+            "counts 0 0 0 0 0 0 0 0 0 0 0 1 0\nexample [-[-[ ][][+ [][]| ]-]-]\n",
+        ),
+        ("show/g/=", "counts 0 0 0 0 0 0 0 0 0 0 0 0 0\nexample empty\n"),
+    ];
+    for (command, text) in cases {
+        let (status, written) = outcome(rt.alloc(), SYLLABLES, command)?;
+        assert_eq!(rt; status, Status::Done, "{command}");
+        assert_eq!(rt; written.as_str(), text, "{command}");
     }
     Ok(())
 }

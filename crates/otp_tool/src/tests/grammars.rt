@@ -3,7 +3,7 @@ use crate::Status;
 use grammar_reader::GrammarCause;
 use std::test::Fail;
 
-const SYLLABLES: &str = "otp 1
+pub(super) const SYLLABLES: &str = "otp 1
 tier C input
 tier V input
 tier c overt

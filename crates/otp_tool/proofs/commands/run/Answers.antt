@@ -2,7 +2,7 @@ use Rattle.std.proofs.Common.{◌≡◌, ℕ, List, refl, sym, subst}
 use Rattle.command_words.specs.Words.{words_of}
 use Rattle.otp_tool.specs.Steps.{Change, IsOutcome}
 use Rattle.otp_tool.proofs.DueLemmas.{complete, due, untouched}
-use Rattle.otp_tool.proofs.CauseLemmas.{begun, by_budget, by_form, by_grammar, done, by_length, by_memory, by_reading, by_usage, by_writing, unbuilt}
+use Rattle.otp_tool.proofs.CauseLemmas.{begun, by_budget, by_form, by_grammar, done, by_length, by_memory, by_reading, by_usage, by_writing}
 use Rattle.otp_tool.proofs.commands.run.Goals as goal
 
 pub returns-in-Some-clause-done : goal.returns-in-Some-clause-done
@@ -64,16 +64,6 @@ returns-in-Some-clause-grammar_refused g c =
       taking = record { old = g.O.Sink.taken c.args.sink.now; new = g.O.Sink.taken c.execute.new.sink; before = g.O.Sink.faults c.args.sink.now; after = g.O.Sink.faults c.execute.new.sink };
     } in
     by_grammar (words_of c.args.words.now) change c.execute.result (c.execute.ensures.outcome (words_of c.args.words.now) c.in-Some.ensures)
-
-pub returns-in-Some-clause-not_built : goal.returns-in-Some-clause-not_built
-returns-in-Some-clause-not_built g c =
-    let change : Change = record {
-      held = g.F.Shelf.held c.args.shelf.now;
-      faults_before = g.F.Shelf.faults c.args.shelf.now;
-      faults_after = g.F.Shelf.faults c.execute.new.shelf;
-      taking = record { old = g.O.Sink.taken c.args.sink.now; new = g.O.Sink.taken c.execute.new.sink; before = g.O.Sink.faults c.args.sink.now; after = g.O.Sink.faults c.execute.new.sink };
-    } in
-    unbuilt (words_of c.args.words.now) change c.execute.result (c.execute.ensures.outcome (words_of c.args.words.now) c.in-Some.ensures)
 
 pub returns-in-Some-clause-form_refused : goal.returns-in-Some-clause-form_refused
 returns-in-Some-clause-form_refused g c =

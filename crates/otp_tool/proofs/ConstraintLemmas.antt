@@ -1,0 +1,90 @@
+-- Constraints that are seen alike, by their families and sides, have the same stages.
+use Rattle.std.proofs.Common.{◌≡◌, ◌↔◌, ℕ, zero, suc, ◌-◌, ◌<◌, ◌≤◌, ◌&&◌, not, Bool, true, false, cond, List, [], ◌∷◌, length, map, take, filter, Contains, refl, ap, sym, ◌∙◌, subst}
+use Rattle.std.proofs.lemmas.List.{length-map}
+use Rattle.tier_core.specs.declared.sym.Sym.{Sym}
+use Rattle.tier_core.specs.declared.constraint.Constraint.{Constraint}
+use Rattle.tier_core.specs.Kinds.{Phase, PrefixKind}
+use Rattle.tier_core.specs.Tiers.{Tiers}
+use Rattle.tier_core.specs.Timelines.{project, squeeze, word}
+use Rattle.grammar_reader.specs.Seen.{constraint_seen}
+use Rattle.grammar_reader.specs.Values.{NamedConstraint}
+use Rattle.violation.specs.Candidates.{IsAtMost, IsOptimalFor, vec}
+use Rattle.violation.specs.Counts.{viol}
+use Rattle.violation.specs.Prefixes.{is_open, kind_of, phase, stretches}
+use Rattle.violation.specs.Sides.{has_edge_type, is_implication, is_stretch}
+use Rattle.violation.specs.Stages.{AreKindsOfStage, IsKindOfStage, IsPassed, Passes}
+use Rattle.ranked_gen.specs.Budgets.{IsFirstOver, IsOver, IsWithin}
+
+-- ---- what is counted and remembered of constraints as they are seen
+
+seen_vec : (T : List (List Sym)) (cs : List Constraint) → vec cs T ≡ map (λ n. viol n.family n.left n.right T) (map constraint_seen cs)
+seen_vec T [] = refl
+seen_vec T (c ∷ cs) = ap (λ ns. viol c.family c.left c.right T ∷ ns) (seen_vec T cs)
+
+abbrev is_seen_stretch : NamedConstraint → Bool
+is_seen_stretch n = is_implication n.family && not (has_edge_type n.left)
+
+seen_phases : (p : List (List Sym)) (r : ℕ) (cs : List Constraint)
+    → map (λ c. phase c.left c.right p) (filter is_stretch (take r cs)) ≡ map (λ n. phase n.left n.right p) (filter is_seen_stretch (take r (map constraint_seen cs)))
+seen_phases p zero cs = refl
+seen_phases p (suc r) [] = refl
+seen_phases p (suc r) (c ∷ cs) = go (is_stretch c) (seen_phases p r cs)
+  where
+    go : (b : Bool) → map (λ c. phase c.left c.right p) (filter is_stretch (take r cs)) ≡ map (λ n. phase n.left n.right p) (filter is_seen_stretch (take r (map constraint_seen cs)))
+        → map (λ c. phase c.left c.right p) (cond b (c ∷ filter is_stretch (take r cs)) (filter is_stretch (take r cs)))
+        ≡ map (λ n. phase n.left n.right p) (cond b (constraint_seen c ∷ filter is_seen_stretch (take r (map constraint_seen cs))) (filter is_seen_stretch (take r (map constraint_seen cs))))
+    go true e = ap (λ ps. phase c.left c.right p ∷ ps) e
+    go false e = e
+
+module _ (tiers : Tiers) (u : List (List Sym)) (cs ds : List Constraint) (alike : map constraint_seen cs ≡ map constraint_seen ds) where
+  same_length : length cs ≡ length ds
+  same_length = sym (length-map cs constraint_seen) ∙ ap length alike ∙ length-map ds constraint_seen
+
+  same_vec : (T : List (List Sym)) → vec cs T ≡ vec ds T
+  same_vec T = seen_vec T cs ∙ ap (map (λ n. viol n.family n.left n.right T)) alike ∙ sym (seen_vec T ds)
+
+  same_kind : (r : ℕ) (p : List (List Sym)) → kind_of tiers cs r p ≡ kind_of tiers ds r p
+  same_kind r p =
+      let kind : List Phase → PrefixKind = λ ps. record { place = length (squeeze (project tiers.input p)); opened = map (λ t. is_open (word p t)) tiers.free; phases = ps } in
+      ap kind (seen_phases p r cs ∙ ap (λ ns. map (λ n. phase n.left n.right p) (filter is_seen_stretch (take r ns))) alike ∙ sym (seen_phases p r ds))
+
+  optimal_alike : (r : ℕ) (T : List (List Sym)) → IsOptimalFor tiers cs u r T → IsOptimalFor tiers ds u r T
+  optimal_alike r T o = record {
+    candidate = o.candidate;
+    least = λ U c. subst (λ w. IsAtMost (take r (vec ds T)) (take r w)) (same_vec U) (subst (λ v. IsAtMost (take r v) (take r (vec cs U))) (same_vec T) (o.least U c));
+  }
+
+  passed_alike : (r s : ℕ) (k : PrefixKind) → IsPassed tiers cs u r s k → IsPassed tiers ds u r s k
+  passed_alike r s k p = record {
+    candidate = p.candidate;
+    columns = p.columns;
+    passes = record {
+      optimal = optimal_alike r p.candidate p.passes.optimal;
+      within = p.passes.within;
+      of_kind = sym (same_kind s (take p.columns p.candidate)) ∙ p.passes.of_kind;
+    };
+  }
+
+module _ (tiers : Tiers) (u : List (List Sym)) (budget : ℕ) (cs ds : List Constraint) (alike : map constraint_seen cs ≡ map constraint_seen ds) where
+  kinds_alike : (r : ℕ) (ks : List PrefixKind) → AreKindsOfStage tiers cs u r ks → AreKindsOfStage tiers ds u r ks
+  kinds_alike r ks a = record {
+    ascending = a.ascending;
+    members = λ k. (
+      (λ m. passed_alike tiers u cs ds alike (r - 1) r k ((a.members k).0 m)),
+      (λ p. (a.members k).1 (passed_alike tiers u ds cs (sym alike) (r - 1) r k p)),
+    );
+  }
+
+  over_alike : (r : ℕ) → IsOver tiers cs u budget r → IsOver tiers ds u budget r
+  over_alike r o = record { kinds = o.kinds; are = kinds_alike r o.kinds o.are; more = o.more }
+
+within_alike : (tiers : Tiers) (u : List (List Sym)) (budget : ℕ) (cs ds : List Constraint) → map constraint_seen cs ≡ map constraint_seen ds → (r : ℕ) → IsWithin tiers cs u budget r → IsWithin tiers ds u budget r
+within_alike tiers u budget cs ds alike r w = λ ks a. w ks (kinds_alike tiers u budget ds cs (sym alike) r ks a)
+
+-- the first stage over the budget is the same
+pub first_over_alike : (tiers : Tiers) (u : List (List Sym)) (budget : ℕ) (cs ds : List Constraint) → map constraint_seen cs ≡ map constraint_seen ds → (r : ℕ) → IsFirstOver tiers cs u budget r → IsFirstOver tiers ds u budget r
+first_over_alike tiers u budget cs ds alike r o = record {
+  stage = subst (λ n. r ≤ n) (same_length tiers u cs ds alike) o.stage;
+  over = over_alike tiers u budget cs ds alike r o.over;
+  before = λ s l. within_alike tiers u budget cs ds alike s (o.before s l);
+}

@@ -70,6 +70,37 @@ wrote "counts 0 0 0 0 0 0 0 0 0 0 0 0 0"
 try "a coda" 0 "" score syllables.otp "[-[-[ ][][+ [][]| ]-]-]"
 wrote "counts 0 0 0 0 0 0 0 0 0 0 0 1 0"
 
+# what rankings leave
+try "Max, Dep, One" 0 "" show ranked.otp "[ ]"
+wrote "counts 0 0 1" "example [[ ]]"
+try "One, Max, Dep" 0 "" show least_overt.otp "[ ]"
+wrote "counts 0 1 0" "example [- ]-"
+try "Max, Dep" 0 "" show faithful.otp "[ ]"
+wrote "counts 0 0" "example [[ ]]"
+try "nothing is put in" 0 "" show ranked.otp empty
+wrote "counts 0 0 0" "example empty"
+try "two constituents" 0 "" show ranked.otp "[ | ]"
+wrote "counts 0 0 1" "example [[ |+ ]]"
+try "stages of an answer" 0 "" generate least_overt.otp "[ ]"
+wrote "answer 1" "form [ ]" "counts 0 1 0" "example [- ]-" \
+    "stage 0 6" "node 0/-/ 0" "node 0/+/ 0" "node 1/-/ 0" "node 1/+/ 0" "node 2/-/ 0" "node 2/+/ 0" \
+    "stage 1 6" "node 0/-/ 0" "node 0/+/ 1" "node 1/-/ 0" "node 1/+/ 1" "node 2/-/ 0" "node 2/+/ 1" \
+    "stage 2 3" "node 0/-/. 1" "node 1/-/u 1" "node 2/-/. 0" \
+    "stage 3 3" "node 0/-/.. 0" "node 1/-/u. 0" "node 2/-/.. 0" \
+    "automaton 3" "state 0" "arc 1 [-" "state 1" "arc 2 ]-" "state 2 final" "end"
+try "nine optimal timelines" 0 "" generate ranked.otp "[ ]"
+sed -n '/^automaton/,$p' out > automaton && mv automaton out
+wrote "automaton 7" "state 0" "arc 1 -[" "arc 2 [-" "arc 4 [[" "state 1" "arc 4 [+" "state 2" "arc 4 +[" \
+    "state 3" "arc 5 ]-" "state 4" "arc 3 +]" "arc 5 ]]" "arc 6 ]+" "state 5 final" "state 6" "arc 5 -]" "end"
+try "two syllables" 0 "" show syllables.otp =tata
+wrote "counts 0 0 0 0 0 0 0 0 0 0 0 0 0" "example [-[-[ ][][+ [][]| ][][+ -]-]]"
+try "a coda is least" 0 "" show syllables.otp =tat
+wrote "counts 0 0 0 0 0 0 0 0 0 0 0 1 0" "example [-[-[ ][][+ [][]| ]-]-]"
+try "no coda at any price" 0 "" show open_syllables.otp =tat
+wrote "counts 0 0 0 0 0 0 0 0 0 1 0 0 0" "example [-[-[ ][][+ [][]] ]-]--"
+try "as many kinds as every stage has" 0 "" show faithful.otp "[ ]" 8
+wrote "counts 0 0" "example [[ ]]"
+
 # each refusal
 try "no words" 2 "usage"
 try "unknown command" 2 "usage" foo base.otp empty
@@ -89,8 +120,6 @@ try "no overt tier" 3 "grammar word 1 line 0: NoOvert" generate no_overt.otp emp
 try "tier twice" 3 "grammar word 1 line 4: TwiceNamed" show twice.otp empty
 try "unknown tier" 3 "grammar word 1 line 4: UnknownTier" score unknown.otp empty
 try "grammar before form" 3 "grammar word 1 line 4: UnknownTier" generate unknown.otp "] ["
-try "constraints" 13 "not built word 1" generate ranked.otp empty
-try "constraints before form" 13 "not built word 1" show ranked.otp "] ["
 try "not well formed" 4 "form word 2: NotWellFormed 0" generate base.otp "] ["
 try "not reduced" 4 "form word 2: NotReduced 1" generate base.otp "[ + ]"
 try "no letter" 4 "form word 2: UnknownLetter 1" generate base.otp =t
@@ -101,6 +130,10 @@ try "timeline that is spelled" 4 "form word 2: BadSymbol 0" score letters.otp =t
 try "timeline that never ends" 4 "form word 2: NotWellFormed 1" score ranked.otp "[[ ]+"
 try "form before budget" 4 "form word 2: NotWellFormed 0" show base.otp "] [" 1
 try "fewer kinds than there are" 7 "budget entry 0 stage 0" show base.otp "[ ]" 5
+try "budget of the first constraint" 7 "budget entry 0 stage 1" generate faithful.otp "[ ]" 6
+try "budget of the second constraint" 7 "budget entry 0 stage 2" show faithful.otp "[ ]" 7
+try "budget before any constraint" 7 "budget entry 0 stage 0" show faithful.otp "[ ]" 5
+try "form before stages" 4 "form word 2: NotWellFormed 0" show ranked.otp "] ["
 try "budget of generate" 7 "budget entry 0 stage 0" generate hidden.otp empty 3
 try "word that is no text" 15 "" generate base.otp "$(printf '\377')"
 

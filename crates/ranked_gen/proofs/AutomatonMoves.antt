@@ -8,24 +8,19 @@ use Rattle.tier_core.specs.declared.sym.Sym.{Sym}
 use Rattle.tier_core.specs.Tiers.{Tiers}
 use Rattle.tier_core.specs.Kinds.{PrefixKind}
 use Rattle.tier_core.specs.Scan.{opens}
-use Rattle.tier_core.specs.Sets.{single_set}
-use Rattle.tier_core.specs.Classes.{sets_of, sets_have}
 use Rattle.tier_core.specs.Timelines.{has_edge, symbol, word, column_at}
-use Rattle.tier_core.proofs.SetLemmas.{only_have, alone_have}
-use Rattle.violation.specs.Candidates.{IsForm, IsCandidate}
-use Rattle.violation.specs.Conditions.{AreSplit, AreDistinct}
+use Rattle.violation.specs.Candidates.{IsForm}
+use Rattle.violation.specs.Conditions.{AreSplit}
 use Rattle.violation.specs.Prefixes.{is_open, kind_of}
 use Rattle.violation.specs.Moves.{FitsKind, moved, is_final, input_of}
 use Rattle.violation.specs.Walks.{HasMoves, reached, BeginsCandidate}
-use Rattle.violation.proofs.WalkLemmas.{moves_begin, reached_is, moves_end}
+use Rattle.violation.proofs.WalkLemmas.{moves_begin, reached_is}
 use Rattle.answer_text.specs.declared.automaton.StateLine.{StateLine}
-use Rattle.answer_text.specs.Acceptance.{HasArc, IsFinalState, Leads, Accepts}
 use Rattle.ranked_gen.specs.Numbers.{number_of_flags, number_of_kind, kind_numbered}
 use Rattle.ranked_gen.specs.Arcs.{moves_from}
 use Rattle.ranked_gen.specs.Listed.{kind_count, arc_view, move_view, AreNumbered}
-use Rattle.ranked_gen.proofs.NumberLemmas.{length-flags_of, number-lt, kind_numbered-number, number-kind_numbered}
-use Rattle.ranked_gen.proofs.MemberLemmas.{contains_none, contains_first, contains_later, contains_cases, contains_map, contains_of_map}
-use Rattle.ranked_gen.proofs.MoveList.{listed_moves, moves_listed}
+use Rattle.ranked_gen.proofs.NumberLemmas.{length-flags_of, number-lt}
+use Rattle.ranked_gen.proofs.MemberLemmas.{contains_none, contains_first, contains_later, contains_cases}
 
 -- the line of the kind of a number
 pub record IsLineNumbered (tiers : Tiers) (u : List (List Sym)) (n : ℕ) (line : StateLine) : Type 0 where
@@ -106,125 +101,3 @@ module _ (tiers : Tiers) (split : AreSplit tiers) (u : List (List Sym)) where
   kind_within form p b =
       let walk = (moves_begin tiers [] 0 u split form tt p).1 b in
       subst (IsWithin tiers u) (reached_is tiers [] 0 u split form tt p walk) (reached_within (kind_of tiers [] 0 []) p start_within walk)
-
--- The states have these numbers.
-module _ (tiers : Tiers) (split : AreSplit tiers) (distinct : AreDistinct tiers.free) (u : List (List Sym)) (form : IsForm tiers u)
-    (states : List StateLine) (count : length states ≡ kind_count tiers u) (each : AreNumbered (IsLineNumbered tiers u) 0 states) where
-  f : ℕ
-  f = length tiers.free
-
-  -- an arc is a move of kinds
-  pub arc_moves : (i j : ℕ) (column : List Sym) → HasArc states i j column
-      → (i < kind_count tiers u) × (FitsKind tiers u (kind_numbered (length tiers.free) i) column × (j ≡ number_of_kind (length tiers.free) (moved tiers [] 0 (kind_numbered (length tiers.free) i) column)))
-  arc_moves i j column a =
-      let r = numbered_member (IsLineNumbered tiers u) 0 states a.state each a.listed in
-      let here : r.0 ≡ i = sym r.1.1.node ∙ a.from in
-      let k = kind_numbered (length tiers.free) r.0 in
-      let viewed : Contains (map move_view (moves_from tiers u k)) (arc_view a.arc) = subst (λ vs. Contains vs (arc_view a.arc)) r.1.1.arcs (contains_map arc_view a.state.arcs.items a.arc a.leaves) in
-      let m = contains_of_map move_view (moves_from tiers u k) (arc_view a.arc) viewed in
-      let sets : map single_set m.0.1 ≡ sets_of a.arc.class = ap (λ (v : ℕ × List ℕ). v.1) m.1.1 in
-      let only : column ≡ m.0.1 = only_have m.0.1 column (ap (λ s. sets_have s column) sets ∙ a.holds) in
-      let move = listed_moves tiers split distinct u form k m.0 m.1.0 in
-      let target : j ≡ m.0.0 = sym a.to ∙ sym (ap (λ (v : ℕ × List ℕ). v.0) m.1.1) in
-      let kinds : k ≡ kind_numbered (length tiers.free) i = ap (kind_numbered (length tiers.free)) here in
-      let P : PrefixKind → List Sym → Type 0 = λ q c. FitsKind tiers u q c × (j ≡ number_of_kind (length tiers.free) (moved tiers [] 0 q c)) in
-      (omega (arith, r.1.0), subst (λ q. P q column) kinds (subst (P k) (sym only) (move.0, target ∙ move.1)))
-
-  -- each move of kinds is an arc
-  pub moves_arc : (i : ℕ) (column : List Sym) → i < kind_count tiers u → FitsKind tiers u (kind_numbered (length tiers.free) i) column
-      → HasArc states i (number_of_kind (length tiers.free) (moved tiers [] 0 (kind_numbered (length tiers.free) i) column)) column
-  moves_arc i column l fit =
-      let k = kind_numbered (length tiers.free) i in
-      let j = number_of_kind (length tiers.free) (moved tiers [] 0 k column) in
-      let s = numbered_at (IsLineNumbered tiers u) 0 states i each (omega arith) (omega arith) in
-      let listed : Contains (map move_view (moves_from tiers u k)) (move_view (j, column)) = contains_map move_view (moves_from tiers u k) (j, column) (moves_listed tiers split distinct u form k column fit) in
-      let a = contains_of_map arc_view s.0.arcs.items (move_view (j, column)) (subst (λ vs. Contains vs (move_view (j, column))) (sym s.1.1.arcs) listed) in
-      record {
-        state = s.0;
-        arc = a.0;
-        listed = s.1.0;
-        from = s.1.1.node;
-        leaves = a.1.0;
-        to = ap (λ (v : ℕ × List ℕ). v.0) a.1.1;
-        holds = ap (λ x. sets_have x column) (ap (λ (v : ℕ × List ℕ). v.1) a.1.1) ∙ alone_have column;
-      }
-
-  back : (k : PrefixKind) → IsWithin tiers u k → kind_numbered (length tiers.free) (number_of_kind (length tiers.free) k) ≡ k
-  back k w = kind_numbered-number (length tiers.free) k w.flags w.phases
-
-  -- reading columns is walking along moves
-  pub leads_walk : (i j : ℕ) (T : List (List Sym)) → i < kind_count tiers u → Leads states i T j
-      → HasMoves tiers [] 0 u (kind_numbered (length tiers.free) i) T × (j ≡ number_of_kind (length tiers.free) (reached tiers [] 0 (kind_numbered (length tiers.free) i) T))
-  leads_walk i j [] l h = (tt, sym h ∙ sym (number-kind_numbered (length tiers.free) i))
-  leads_walk i j (column ∷ T) l h =
-      let k = kind_numbered (length tiers.free) i in
-      let a = arc_moves i h.0 column h.1.0 in
-      let w = moved_within tiers split u k column a.1.0 (numbered_within tiers u i l).place in
-      let small : h.0 < kind_count tiers u = omega (arith, number_within tiers u (moved tiers [] 0 k column) w, a.1.1) in
-      let rest = leads_walk h.0 j T small h.1.1 in
-      let kinds : kind_numbered (length tiers.free) h.0 ≡ moved tiers [] 0 k column = ap (kind_numbered (length tiers.free)) a.1.1 ∙ back (moved tiers [] 0 k column) w in
-      let P : PrefixKind → Type 0 = λ q. HasMoves tiers [] 0 u q T × (j ≡ number_of_kind (length tiers.free) (reached tiers [] 0 q T)) in
-      let on = subst P kinds rest in
-      ((a.1.0, on.0), on.1)
-
-  pub walk_leads : (i : ℕ) (T : List (List Sym)) → i < kind_count tiers u → HasMoves tiers [] 0 u (kind_numbered (length tiers.free) i) T
-      → Leads states i T (number_of_kind (length tiers.free) (reached tiers [] 0 (kind_numbered (length tiers.free) i) T))
-  walk_leads i [] l h = sym (number-kind_numbered (length tiers.free) i)
-  walk_leads i (column ∷ T) l h =
-      let k = kind_numbered (length tiers.free) i in
-      let next = moved tiers [] 0 k column in
-      let w = moved_within tiers split u k column h.0 (numbered_within tiers u i l).place in
-      let kinds : kind_numbered (length tiers.free) (number_of_kind (length tiers.free) next) ≡ next = back next w in
-      let rest = walk_leads (number_of_kind (length tiers.free) next) T (number_within tiers u next w) (subst (λ q. HasMoves tiers [] 0 u q T) (sym kinds) h.1) in
-      (number_of_kind (length tiers.free) next, (moves_arc i column l h.0, subst (λ q. Leads states (number_of_kind (length tiers.free) next) T (number_of_kind (length tiers.free) (reached tiers [] 0 q T))) kinds rest))
-
-  start : PrefixKind
-  start = kind_of tiers [] 0 []
-
-  some : 0 < kind_count tiers u
-  some = omega (arith, number_within tiers u (kind_of tiers [] 0 []) (start_within tiers split u), start_number tiers split u)
-
-  first_kind : kind_numbered (length tiers.free) 0 ≡ kind_of tiers [] 0 []
-  first_kind = ap (kind_numbered (length tiers.free)) (sym (start_number tiers split u)) ∙ back (kind_of tiers [] 0 []) (start_within tiers split u)
-
-  final_state : (n : ℕ) → IsFinalState states n → is_final u (kind_numbered (length tiers.free) n) ≡ true
-  final_state n s =
-      let r = numbered_member (IsLineNumbered tiers u) 0 states s.state each s.listed in
-      let here : r.0 ≡ n = sym r.1.1.node ∙ s.numbered in
-      sym (ap (λ m. is_final u (kind_numbered (length tiers.free) m)) here) ∙ sym r.1.1.final ∙ s.final
-
-  state_final : (n : ℕ) → n < kind_count tiers u → is_final u (kind_numbered (length tiers.free) n) ≡ true → IsFinalState states n
-  state_final n l h =
-      let s = numbered_at (IsLineNumbered tiers u) 0 states n each (omega arith) (omega arith) in
-      record { state = s.0; listed = s.1.0; numbered = s.1.1.node; final = s.1.1.final ∙ h }
-
-  -- what is accepted is a candidate
-  pub accepted_candidate : (T : List (List Sym)) → Accepts states T → IsCandidate tiers u T
-  accepted_candidate T a =
-      let walk = leads_walk 0 a.last T some a.leads in
-      let P : PrefixKind → Type 0 = λ q. HasMoves tiers [] 0 u q T × (a.last ≡ number_of_kind (length tiers.free) (reached tiers [] 0 q T)) in
-      let from = subst P first_kind walk in
-      let w = reached_within tiers split u (kind_of tiers [] 0 []) T (start_within tiers split u) from.0 in
-      let final : is_final u (reached tiers [] 0 (kind_of tiers [] 0 []) T) ≡ true =
-      ap (is_final u) (sym (ap (kind_numbered (length tiers.free)) from.1 ∙ back (reached tiers [] 0 (kind_of tiers [] 0 []) T) w)) ∙ final_state a.last a.final in
-      (moves_end tiers [] 0 u split form tt T).0 (from.0, final)
-
-  -- each candidate is accepted
-  pub candidate_accepted : (T : List (List Sym)) → IsCandidate tiers u T → Accepts states T
-  candidate_accepted T c =
-      let walk = (moves_end tiers [] 0 u split form tt T).1 c in
-      let w = reached_within tiers split u (kind_of tiers [] 0 []) T (start_within tiers split u) walk.0 in
-      let last = reached tiers [] 0 (kind_of tiers [] 0 []) T in
-      record {
-        last = number_of_kind (length tiers.free) last;
-        leads = subst (λ q. Leads states 0 T (number_of_kind (length tiers.free) (reached tiers [] 0 q T))) first_kind (walk_leads 0 T some (subst (λ q. HasMoves tiers [] 0 u q T) (sym first_kind) walk.0));
-        final = state_final (number_of_kind (length tiers.free) last) (number_within tiers u last w) (ap (is_final u) (back last w) ∙ walk.1);
-      }
-
-  -- reading a prefix of a candidate ends at the number of its kind
-  pub prefix_leads : (p : List (List Sym)) → BeginsCandidate tiers u p → Leads states 0 p (number_of_kind (length tiers.free) (kind_of tiers [] 0 p))
-  prefix_leads p b =
-      let walk = (moves_begin tiers [] 0 u split form tt p).1 b in
-      let kinds : reached tiers [] 0 (kind_of tiers [] 0 []) p ≡ kind_of tiers [] 0 p = reached_is tiers [] 0 u split form tt p walk in
-      subst (λ q. Leads states 0 p (number_of_kind (length tiers.free) q)) kinds
-      (subst (λ q. Leads states 0 p (number_of_kind (length tiers.free) (reached tiers [] 0 q p))) first_kind (walk_leads 0 p some (subst (λ q. HasMoves tiers [] 0 u q p) (sym first_kind) walk)))

@@ -17,7 +17,6 @@ pub mod StageKinds
 pub mod StateArcs
 pub mod LineLemmas
 pub mod TableOfKinds
-pub mod FirstOptimal
 pub mod RightAnswer
 pub mod PickLemmas
 pub mod FlagSteps
@@ -26,3 +25,16 @@ pub mod MoveSteps
 pub mod StateSteps
 pub mod FrameSteps
 pub mod NumberSteps
+pub mod EndStage
+pub mod FirstKind
+pub mod StageShapes
+pub mod StepStage
+pub mod StageList
+pub mod FewKinds
+pub mod InitStage
+pub mod Closures
+pub mod SortedKinds
+pub mod OverBudget
+pub mod NextStage
+pub mod RankedSteps
+pub mod StageZero

@@ -33,7 +33,7 @@ pub begins : (tiers : Tiers) (u T : List (List Sym)) (n : ℕ) → IsCandidate t
 begins tiers u T n c = (drop n T, subst (IsCandidate tiers u) (sym (take-append-drop n T)) c)
 
 -- no kind comes before itself
-kind_not_below : (k : PrefixKind) → kind_order k k ≡ Less → ⊥
+pub kind_not_below : (k : PrefixKind) → kind_order k k ≡ Less → ⊥
 kind_not_below k l =
     let place : nat_cmp k.place k.place ≡ Equal = sym (nat_cmp_is k.place k.place Equal refl) in
     let same : kind_order k k ≡ Equal =
@@ -81,7 +81,7 @@ module _ (tiers : Tiers) (split : AreSplit tiers) (distinct : AreDistinct tiers.
   }
 
   -- a list of the kinds of stage 0 has no more
-  kinds_few : (ks : List PrefixKind) → AreKindsOfStage tiers [] u 0 ks → length ks ≤ kind_count tiers u
+  pub kinds_few : (ks : List PrefixKind) → AreKindsOfStage tiers [] u 0 ks → length ks ≤ kind_count tiers u
   kinds_few ks a =
       let f = length tiers.free in
       let within : (k : PrefixKind) → Contains ks k → IsWithin tiers u k = λ k c. passes_within k ((a.members k).0 c) in

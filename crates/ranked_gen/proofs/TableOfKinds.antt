@@ -48,13 +48,13 @@ line_of arc = record { target = arc.target; class = arc.class }
 module _ {W : Type 0} {g : Ghosts W} (tiers : Tiers) (split : AreSplit tiers) (distinct : AreDistinct tiers.free) (u : List (List Sym)) (form : IsForm tiers u)
     (states : List (TableState W g)) (count : length states ≡ kind_count tiers u) (each : AreNumbered (IsStateNumbered {W = W} {g = g} tiers u) 0 states) where
   -- the moves of a state show those of its kind
-  moves_shown : (s : ℕ) → s < length states → map table_view (moves_at states s) ≡ map move_view (moves_from tiers u (kind_numbered (length tiers.free) s))
+  pub moves_shown : (s : ℕ) → s < length states → map table_view (moves_at states s) ≡ map move_view (moves_from tiers u (kind_numbered (length tiers.free) s))
   moves_shown s l =
       let r = numbered_seen (IsStateNumbered {W = W} {g = g} tiers u) (λ state. state.arcs.items) (λ state. state.accepting) [] false 0 states s each l in
       let here : 0 + s ≡ s = omega arith in
       ap (map table_view) r.1.0 ∙ r.1.1.1.arcs ∙ ap (λ n. map move_view (moves_from tiers u (kind_numbered (length tiers.free) n))) here
 
-  move_single : (s : ℕ) (arc : TableArc W g) → Contains (moves_at states s) arc → IsMoveView tiers u s (table_view arc)
+  pub move_single : (s : ℕ) (arc : TableArc W g) → Contains (moves_at states s) arc → IsMoveView tiers u s (table_view arc)
   move_single s arc c = view_single tiers split distinct u form s (table_view arc)
       (subst (λ vs. Contains vs (table_view arc)) (moves_shown s (moves_exist states s arc c)) (contains_map table_view (moves_at states s) arc c))
 

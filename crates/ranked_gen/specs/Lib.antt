@@ -2,7 +2,7 @@ pub mod WideColumns
 pub mod Numbers
 pub mod Arcs
 pub mod Listed
-pub mod Lines
 pub mod FrameMoves
 pub mod Picks
 pub mod Budgets
+pub mod Left

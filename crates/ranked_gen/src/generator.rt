@@ -1,23 +1,28 @@
 ghost use Rattle.std.specs.Prelude.{◌≡◌, ◌≤◌, ◌*◌, ◌^◌, ℕ, [], ◌∷◌, length, Err, IfOk};
+ghost use Rattle.std.specs.List.{range_with_len};
+ghost use Rattle.arc_table.specs.States.{states_of};
 ghost use Rattle.tier_core.specs.Tables.{tiers_of_table};
 ghost use Rattle.tier_core.specs.Tiers.{is_free, is_input, numbers_from};
 ghost use Rattle.violation.specs.Candidates.{IsForm};
 ghost use Rattle.answer_text.specs.Right.{IsRight};
-ghost use Rattle.kind_moves.specs.Frames.{tiers_in, form_in};
+ghost use Rattle.kind_moves.specs.Frames.{tiers_in, constraints_in, form_in};
 ghost use Rattle.ranked_gen.specs.Budgets.{AreAllWithin, IsFirstOver};
+ghost use Rattle.ranked_gen.specs.Left.{IsRanked};
 ghost use Rattle.ranked_gen.specs.Listed.{AreListed, kind_count};
 
 use crate::flags::{is_free, is_input};
 use crate::gen_err::GenErr;
-use crate::lines::state_lines;
 use crate::place::{Listing, list_place};
-use answer_text::{Answer, Automaton, Stage};
+use crate::ranked::{Ranked, all_ranked, answered};
+use crate::staged::Left;
+use answer_text::{Answer, Stage};
 use arc_table::Table;
-use first_paths::first;
 use grammar_reader::Grammar;
 use kind_moves::Frame;
-use std::alloc::Global;
+use prune_best::Tight;
+use std::alloc::{AllocError, Global};
 use tier_core::{NoMemory, TierKind, Timeline};
+use weight_law::UnitWeight;
 
 /// How many tiers are input tiers.
 pub(crate) fn count_inputs(kinds: &[TierKind]) -> usize
@@ -74,59 +79,67 @@ fn one_stage(alloc: Global, stage: Stage) -> Result<Vec<Stage>, NoMemory>
     }
 }
 
-/// The same timeline once more. It fails only for want of memory.
-fn copied(alloc: Global, timeline: &Timeline) -> Result<Timeline, NoMemory>
-    ensures { IfOk result (λ t. t ≡ timeline.now) }
+/// The numbers below a count.
+fn numbers_below(alloc: Global, count: u32) -> Result<Vec<u32>, AllocError>
+    ensures { IfOk result (λ numbers. numbers.items ≡ range_with_len 0 count) }
 {
-    let mut copy = Timeline::new(alloc);
-    for column in timeline.columns() {
-        if copy.push(column.copied(alloc)).is_err() {
-            return Err(NoMemory);
-        }
-    }
-    Ok(copy)
+    (0..count).collect(alloc)
 }
 
-/// A right answer where no constraint is ranked, for the form of a frame. It fails only for want of
-/// memory.
-fn answer_in(alloc: Global, frame: &Frame, free: u32) -> Result<Answer, NoMemory>
-    requires form { IsForm (tiers_in frame.now) (form_in frame.now) }
-    requires count { free ≡ length (tiers_in frame.now).free }
-    requires few { free ≤ 12 }
-    ensures { IfOk result (λ answer. IsRight (tiers_in frame.now) [] (form_in frame.now) answer) }
+/// Each state with its own number, in the order of the numbers.
+fn in_order(alloc: Global, table: Table<UnitWeight>) -> Result<Left, AllocError>
+    ensures table { IfOk result (λ left. left.kept.table ≡ table) }
+    ensures states { IfOk result (λ left. left.kept.states.items ≡ range_with_len 0 (length (states_of table))) }
+    ensures order { IfOk result (λ left. left.order.items ≡ range_with_len 0 (length (states_of table))) }
 {
-    let own = copied(alloc, frame.form)?;
-    let inputs = count_inputs(frame.grammar.tiers.kinds.as_slice());
-    let Listing { nodes, states } = list_all(alloc, frame, inputs, free)?;
-    let table = Table::of_states(states);
-    let found = first(alloc, &table)?;
-    let lines = state_lines(alloc, &table)?;
-    let stages = one_stage(alloc, Stage { nodes })?;
-    Ok(Answer {
-        form: own,
-        counts: Vec::new(alloc),
-        example: found.unwrap(),
-        stages,
-        automaton: Automaton { states: lines },
+    let states = numbers_below(alloc, table.len())?;
+    let order = numbers_below(alloc, table.len())?;
+    Ok(Left {
+        kept: Tight { table, states },
+        order,
     })
 }
 
-/// A right answer where no constraint is ranked, for a form that is well formed and reduced over the
-/// input tiers. It fails only for want of memory.
-fn answer_free(
-    alloc: Global,
-    grammar: &Grammar,
-    free: u32,
-    form: &Timeline,
-) -> Result<Answer, NoMemory>
-    requires form { IsForm (tiers_of_table grammar.now.tiers) form.now }
-    requires short { length form.now ≤ 64 }
-    requires count { free ≡ length (tiers_of_table grammar.now.tiers).free }
+/// Stage 0, whose candidates are all, for the form of a frame. It fails only for want of memory.
+fn unranked(alloc: Global, frame: &Frame, free: u32) -> Result<Ranked, NoMemory>
+    requires form { IsForm (tiers_in frame.now) (form_in frame.now) }
+    requires count { free ≡ length (tiers_in frame.now).free }
     requires few { free ≤ 12 }
-    ensures { IfOk result (λ answer. IsRight (tiers_of_table grammar.now.tiers) [] form.now answer) }
+    ensures { IfOk result (λ all. (budget : ℕ) → kind_count (tiers_in frame.now) (form_in frame.now) ≤ budget → IsRanked (tiers_in frame.now) (constraints_in frame.now) (form_in frame.now) budget 0 all.stages.items all.counts.items (states_of all.left.kept.table) all.left.kept.states.items all.left.order.items) }
 {
-    let frame = Frame::new(alloc, grammar, form)?;
-    answer_in(alloc, &frame, free)
+    let inputs = count_inputs(frame.grammar.tiers.kinds.as_slice());
+    let Listing { nodes, states } = list_all(alloc, frame, inputs, free)?;
+    let table = Table::of_states(states);
+    let stages = one_stage(alloc, Stage { nodes })?;
+    match in_order(alloc, table) {
+        Ok(left) => Ok(Ranked {
+            stages,
+            counts: Vec::new(alloc),
+            left,
+        }),
+        Err(_) => Err(NoMemory),
+    }
+}
+
+/// The right answer for the form of a frame, whose stage 0 is within the budget.
+fn answer_in(alloc: Global, frame: &Frame, free: u32, budget: u32) -> Result<Answer, GenErr>
+    requires form { IsForm (tiers_in frame.now) (form_in frame.now) }
+    requires count { free ≡ length (tiers_in frame.now).free }
+    requires few { free ≤ 12 }
+    requires first { kind_count (tiers_in frame.now) (form_in frame.now) ≤ budget }
+    requires some { 1 ≤ budget }
+    requires few_kinds { budget ≤ 65536 }
+    ensures right { IfOk result (λ answer. IsRight (tiers_in frame.now) (constraints_in frame.now) (form_in frame.now) answer) }
+    ensures within { IfOk result (λ answer. AreAllWithin (tiers_in frame.now) (constraints_in frame.now) (form_in frame.now) budget) }
+    ensures over { (stage : ℕ) → result ≡ Err (GenErr.Budget stage) → IsFirstOver (tiers_in frame.now) (constraints_in frame.now) (form_in frame.now) budget stage }
+{
+    let Ok(start) = unranked(alloc, frame, free) else {
+        return Err(GenErr::NoMemory);
+    };
+    match all_ranked(alloc, frame, start, budget) {
+        Ok(ranked) => answered(alloc, frame, ranked).map_err(|_| GenErr::NoMemory),
+        Err(cause) => Err(cause),
+    }
 }
 
 /// The right answer for a grammar and a form, in which no stage has more kinds of prefix than the
@@ -140,7 +153,6 @@ pub fn generate(
     form: &Timeline,
     budget: u32,
 ) -> Result<Answer, GenErr>
-    requires free { grammar.now.constraints.items ≡ [] }
     requires form { IsForm (tiers_of_table grammar.now.tiers) form.now }
     requires short { length form.now ≤ 64 }
     requires some { 1 ≤ budget }
@@ -154,5 +166,8 @@ pub fn generate(
     if kinds > budget {
         return Err(GenErr::Budget { stage: 0 });
     }
-    answer_free(alloc, grammar, free, form).map_err(|_| GenErr::NoMemory)
+    match Frame::new(alloc, grammar, form) {
+        Ok(frame) => answer_in(alloc, &frame, free, budget),
+        Err(_) => Err(GenErr::NoMemory),
+    }
 }

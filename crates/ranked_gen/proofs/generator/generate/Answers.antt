@@ -1,34 +1,36 @@
-use Rattle.std.proofs.Common.{◌≡◌, [], length, ap, sym, ◌∙◌, subst, arith}
+use Rattle.std.proofs.Common.{◌≡◌, length, IfOk, ap, ◌∙◌, subst, arith}
 use Rattle.tier_core.specs.Tables.{tiers_of_table}
 use Rattle.tier_core.specs.Tiers.{is_free, numbers_from}
 use Rattle.violation.proofs.SplitLemmas.{tiers_split}
 use Rattle.ranked_gen.specs.Budgets.{AreAllWithin, IsFirstOver}
 use Rattle.ranked_gen.specs.Listed.{kind_count}
 use Rattle.ranked_gen.proofs.NumberedKinds.{free_distinct}
-use Rattle.ranked_gen.proofs.StageKinds.{all_within, first_over, counted_kinds, whatever_ok}
+use Rattle.ranked_gen.proofs.StageKinds.{counted_kinds}
+use Rattle.ranked_gen.proofs.StageZero.{zero_over}
 use Rattle.ranked_gen.proofs.generator.generate.Goals as goal
 
 pub returns-then-kinds-budget-clause-over : goal.returns-then-kinds-budget-clause-over
 returns-then-kinds-budget-clause-over c = λ stage e.
-    let table = c.args.grammar.now.tiers in
-    let tiers = tiers_of_table table in
+    let g = c.args.grammar.now in
+    let tiers = tiers_of_table g.tiers in
     let u = c.args.form.now in
     let first : 0 ≡ stage = cc in
     let counted : c.count_kinds-kinds.result ≡ kind_count tiers u =
     counted_kinds _ _ _ (length u) (length tiers.free) c.count_kinds-kinds.ensures (omega arith)
     (c.count_free-free.ensures.value ∙ ap (λ ks. length (numbers_from is_free 0 ks)) c.as_slice.ensures.value) in
-    subst (λ cs. IsFirstOver tiers cs u c.args.budget stage) (sym c.requires.free)
-    (subst (λ s. IsFirstOver tiers [] u c.args.budget s) first
-    (first_over tiers (tiers_split table.kinds.items) (free_distinct table.kinds.items) u c.requires.form c.args.budget (omega (arith, counted, c.if-kinds-budget.true))))
+    subst (λ s. IsFirstOver tiers g.constraints.items u c.args.budget s) first
+    (zero_over tiers (tiers_split g.tiers.kinds.items) (free_distinct g.tiers.kinds.items) g.constraints.items u c.requires.form c.args.budget (omega (arith, counted, c.if-kinds-budget.true)))
 
-pub returns-clause-within : goal.returns-clause-within
-returns-clause-within c =
-    let table = c.args.grammar.now.tiers in
-    let tiers = tiers_of_table table in
-    let u = c.args.form.now in
-    let counted : c.count_kinds-kinds.result ≡ kind_count tiers u =
-    counted_kinds _ _ _ (length u) (length tiers.free) c.count_kinds-kinds.ensures (omega arith)
-    (c.count_free-free.ensures.value ∙ ap (λ ks. length (numbers_from is_free 0 ks)) c.as_slice.ensures.value) in
-    whatever_ok _ _
-    (subst (λ cs. AreAllWithin tiers cs u c.args.budget) (sym c.requires.free)
-    (all_within tiers (tiers_split table.kinds.items) (free_distinct table.kinds.items) u c.requires.form c.args.budget (omega (arith, counted, c.if-kinds-budget.false))))
+pub returns-in-Ok-clause-within : goal.returns-in-Ok-clause-within
+returns-in-Ok-clause-within c =
+    let made = c.in-Ok.ensures in
+    let g = c.args.grammar.now in
+    subst (λ u. IfOk c.answer_in.result (λ answer. AreAllWithin (tiers_of_table g.tiers) g.constraints.items u c.args.budget)) made.form
+    (subst (λ g. IfOk c.answer_in.result (λ answer. AreAllWithin (tiers_of_table g.tiers) g.constraints.items c.in-Ok.frame.form.now c.args.budget)) made.grammar c.answer_in.ensures.within)
+
+pub returns-in-Ok-clause-over : goal.returns-in-Ok-clause-over
+returns-in-Ok-clause-over c = λ stage e.
+    let made = c.in-Ok.ensures in
+    let g = c.args.grammar.now in
+    subst (λ u. IsFirstOver (tiers_of_table g.tiers) g.constraints.items u c.args.budget stage) made.form
+    (subst (λ g. IsFirstOver (tiers_of_table g.tiers) g.constraints.items c.in-Ok.frame.form.now c.args.budget stage) made.grammar (c.answer_in.ensures.over stage e))

@@ -1,0 +1,64 @@
+-- The next stage of a frame, from a kept table that is explored.
+use Rattle.std.proofs.Common.{◌≡◌, ◌≢◌, ℕ, suc, ◌+◌, ◌-◌, ◌<◌, ◌≤◌, List, [], ◌∷◌, length, sym, ◌∙◌, subst, arith, AllPairs}
+use Rattle.std.specs.Prelude.{◌↔◌}
+use Rattle.std.proofs.lemmas.List.{length-map}
+use Rattle.std.proofs.lemmas.List.Elements.{All-contains}
+use Rattle.weight_law.specs.declared.Weight.{Ghosts}
+use Rattle.weight_law.specs.declared.count.Count.{Count}
+use Rattle.weight_law.specs.declared.unit_weight.UnitWeight.{UnitWeight}
+use Rattle.tier_core.specs.declared.kind.Kind.{Kind}
+use Rattle.tier_core.specs.declared.sym.Sym.{Sym}
+use Rattle.arc_table.specs.declared.state.TableState.{TableState}
+use Rattle.arc_table.specs.Conditions.{TargetsExist, ClassesFilled}
+use Rattle.arc_table.specs.Runs.{Accepts}
+use Rattle.violation.specs.Candidates.{IsOptimalFor}
+use Rattle.kind_moves.specs.declared.frame.Frame.{Frame}
+use Rattle.kind_moves.specs.Frames.{tiers_in, constraints_in, form_in, kind_at_stage}
+use Rattle.stage_laws.specs.StageTables.{IsStageTable}
+use Rattle.stage_laws.proofs.Naming.{names_law}
+use Rattle.stage_tables.specs.Kept.{IsKept}
+use Rattle.stage_tables.specs.Explored.{names_at, IsExplored, IsMet, IsOverBudget}
+use Rattle.ranked_gen.specs.Budgets.{IsOver, IsWithin}
+use Rattle.ranked_gen.proofs.MemberLemmas.{all_from_members}
+use Rattle.ranked_gen.proofs.FewKinds.{Differ, stage_few}
+use Rattle.ranked_gen.proofs.OverBudget.{over_budget}
+use Rattle.ranked_gen.proofs.StepStage.{frame_stage}
+
+pairs_differ : {X : Type 0} (xs : List X) → AllPairs (λ x y. x ≢ y) xs → Differ xs
+pairs_differ [] h = tt
+pairs_differ (x ∷ xs) h = (
+  all_from_members (λ y. x ≢ y) xs (λ y c e. h 0 (suc c.0) y (omega arith) (omega (arith, c.1)) (e ∙ sym c.2)),
+  pairs_differ xs (λ i j d less l. h (suc i) (suc j) d (omega arith) (omega arith)),
+)
+
+module _ (frame : Frame) (stage : ℕ) (ranked : 1 ≤ stage) (within : stage ≤ length (constraints_in frame)) {h : Ghosts UnitWeight} (kept : List (TableState UnitWeight h))
+    (accepts : (T : List (List Sym)) → Accepts kept T ↔ IsOptimalFor (tiers_in frame) (constraints_in frame) (form_in frame) (stage - 1) T) where
+  -- a table that is explored is that of the stage
+  pub stage_table : {g : Ghosts Count} (kinds : List Kind) (states : List (TableState Count g)) → IsExplored frame stage kept kinds states → IsStageTable (tiers_in frame) (constraints_in frame) (form_in frame) stage (names_at frame stage kinds) states
+  stage_table kinds states explored = record {
+    named = explored.named;
+    weighed = explored.weighed;
+    accepts = λ T. (λ a. (accepts T).0 ((explored.accepts T).0 a), λ o. (explored.accepts T).1 ((accepts T).1 o));
+    on_runs = explored.on_runs;
+  }
+
+  -- with no more kinds than the budget it is within the budget
+  pub stage_within : {g : Ghosts Count} (kinds : List Kind) (states : List (TableState Count g)) (budget : ℕ) → IsExplored frame stage kept kinds states → length kinds ≤ budget → IsWithin (tiers_in frame) (constraints_in frame) (form_in frame) budget stage
+  stage_within kinds states budget explored few ks are =
+      let table = stage_table kinds states explored in
+      let law = names_law (tiers_in frame) (constraints_in frame) (form_in frame) stage (frame_stage frame stage within) (names_at frame stage kinds) states table in
+      let most = stage_few (tiers_in frame) (constraints_in frame) (form_in frame) stage (names_at frame stage kinds) (λ k p. (law k).1 p) ks are in
+      omega (arith, most, few, length-map kinds (kind_at_stage frame stage))
+
+-- and a stage of which more kinds than the budget are found is over it
+module _ (frame : Frame) (r : ℕ) (within : r + 1 ≤ length (constraints_in frame)) {h : Ghosts UnitWeight} (kept : List (TableState UnitWeight h)) (some : 0 < length kept) (targets : TargetsExist kept) (filled : ClassesFilled kept)
+    (by : IsKept (tiers_in frame) (constraints_in frame) (form_in frame) r kept) (accepts : (T : List (List Sym)) → Accepts kept T ↔ IsOptimalFor (tiers_in frame) (constraints_in frame) (form_in frame) r T) (budget : ℕ) where
+  next_over : IsOverBudget frame (r + 1) kept budget → IsOver (tiers_in frame) (constraints_in frame) (form_in frame) budget (r + 1)
+  next_over over =
+      over_budget (tiers_in frame) (constraints_in frame) (form_in frame) r (frame_stage frame r (omega arith)) (frame_stage frame (r + 1) within) by.0 kept some targets filled by.1 accepts budget over.kinds
+      (pairs_differ over.kinds over.distinct)
+      (λ k c. let m = All-contains (IsMet frame (r + 1) kept) over.kinds k over.met c in (m.prefix, (m.rest, (m.accepted, m.of_kind))))
+      over.more
+
+  pub stage_over : (stage : ℕ) → r + 1 ≡ stage → IsOverBudget frame stage kept budget → IsOver (tiers_in frame) (constraints_in frame) (form_in frame) budget stage
+  stage_over stage e = subst (λ n. IsOverBudget frame n kept budget → IsOver (tiers_in frame) (constraints_in frame) (form_in frame) budget n) e next_over

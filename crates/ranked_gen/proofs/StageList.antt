@@ -1,0 +1,97 @@
+-- The stages one after another, and the answer at their end.
+use Rattle.std.proofs.Common.{◌≡◌, ℕ, ◌+◌, ◌-◌, ◌<◌, List, [], ◌∷◌, ◌++◌, map, take, length, get_or, refl, sym, ap, ap₂, ◌∙◌, subst, arith, ⊎_elim}
+use Rattle.std.proofs.lemmas.Bool.{cases_lt}
+use Rattle.std.proofs.lemmas.List.{length-map, length-append, map-append, take_more, get_or_append_left}
+use Rattle.std.proofs.Math.Seq.{get_or-append_seam, take-length}
+use Rattle.tier_core.specs.declared.sym.Sym.{Sym}
+use Rattle.tier_core.specs.declared.constraint.Constraint.{Constraint}
+use Rattle.tier_core.specs.Orders.{IsFirst}
+use Rattle.tier_core.specs.Tiers.{Tiers}
+use Rattle.violation.specs.Candidates.{vec, IsOptimal, IsOptimalFor}
+use Rattle.violation.specs.Counts.{violations_of}
+use Rattle.answer_text.specs.declared.stage.Stage.{Stage}
+use Rattle.answer_text.specs.declared.answer.Answer.{Answer}
+use Rattle.answer_text.specs.Right.{IsRightStage, IsRightAutomaton, IsRight, nodes_at}
+use Rattle.stage_laws.proofs.Optimal.{optimal_for_fewer}
+use Rattle.ranked_gen.specs.Budgets.{IsWithin, IsOver, IsFirstOver, AreAllWithin}
+use Rattle.ranked_gen.specs.Left.{AreStages}
+
+nodes_kept : (stages : List Stage) (stage : Stage) (s : ℕ) → s < length stages → nodes_at (stages ++ stage ∷ []) s ≡ nodes_at stages s
+nodes_kept stages stage s l =
+    ap (λ ns. get_or ns s []) (map-append (λ (stage : Stage). stage.nodes.items) stages (stage ∷ []))
+    ∙ get_or_append_left (map (λ (stage : Stage). stage.nodes.items) stages) (stage.nodes.items ∷ []) [] s (omega (arith, length-map stages (λ (stage : Stage). stage.nodes.items)))
+
+pub nodes_last : (stages : List Stage) (stage : Stage) (s : ℕ) → s ≡ length stages → nodes_at (stages ++ stage ∷ []) s ≡ stage.nodes.items
+nodes_last stages stage s e =
+    ap (λ ns. get_or ns s []) (map-append (λ (stage : Stage). stage.nodes.items) stages (stage ∷ []))
+    ∙ ap (λ n. get_or (map (λ (stage : Stage). stage.nodes.items) stages ++ stage.nodes.items ∷ []) n []) (e ∙ sym (length-map stages (λ (stage : Stage). stage.nodes.items)))
+    ∙ get_or-append_seam (map (λ (stage : Stage). stage.nodes.items) stages) stage.nodes.items [] []
+
+module _ (tiers : Tiers) (constraints : List Constraint) (u : List (List Sym)) (budget : ℕ) where
+  pub first_stages : (stage : Stage) → IsRightStage tiers constraints u 0 stage.nodes.items → IsWithin tiers constraints u budget 0 → AreStages tiers constraints u budget 0 (stage ∷ []) []
+  first_stages stage right within = record {
+    stage_count = refl;
+    each_stage = λ s l. let first : 0 ≡ s = omega arith in subst (λ i. IsRightStage tiers constraints u i (nodes_at (stage ∷ []) i)) first right;
+    numbers = λ T o. refl;
+    within = λ s l. let first : 0 ≡ s = omega arith in subst (IsWithin tiers constraints u budget) first within;
+  }
+
+  module _ (r : ℕ) (stages : List Stage) (counts : List ℕ) (so_far : AreStages tiers constraints u budget r stages counts) where
+    pub next_stages : (stage : Stage) (count next : ℕ) → next ≡ r + 1 → r < length constraints → IsRightStage tiers constraints u next stage.nodes.items
+        → ((T : List (List Sym)) → IsOptimalFor tiers constraints u next T → get_or (vec constraints T) (next - 1) 0 ≡ count) → IsWithin tiers constraints u budget next
+        → AreStages tiers constraints u budget next (stages ++ stage ∷ []) (counts ++ count ∷ [])
+    next_stages stage count next is inside right counted within = record {
+      stage_count = omega (arith, length-append stages (stage ∷ []), so_far.stage_count);
+      each_stage = λ s l. ⊎_elim
+          (λ less. subst (IsRightStage tiers constraints u s) (sym (nodes_kept stages stage s (omega (arith, less, so_far.stage_count)))) (so_far.each_stage s (omega (arith, less))))
+          (λ last. let same : next ≡ s = omega (arith, last) in
+          subst (λ i. IsRightStage tiers constraints u i (nodes_at (stages ++ stage ∷ []) i)) same
+          (subst (IsRightStage tiers constraints u next) (sym (nodes_last stages stage next (omega (arith, so_far.stage_count)))) right))
+          (cases_lt s (r + 1));
+      numbers = λ T o.
+          let fewer = optimal_for_fewer tiers constraints u r next (omega arith) T o in
+          let long : r < length (vec constraints T) = omega (arith, length-map constraints (λ c. violations_of c T)) in
+          let place : next - 1 ≡ r = omega arith in
+          ap (λ n. take n (vec constraints T)) is
+          ∙ take_more (vec constraints T) r 0 long
+          ∙ ap₂ (λ xs x. xs ++ x ∷ []) (so_far.numbers T fewer) (ap (λ i. get_or (vec constraints T) i 0) (sym place) ∙ counted T o);
+      within = λ s l. ⊎_elim
+          (λ less. so_far.within s (omega (arith, less)))
+          (λ last. let same : next ≡ s = omega (arith, last) in subst (IsWithin tiers constraints u budget) same within)
+          (cases_lt s (r + 1));
+    }
+
+    -- a stage that is over the budget is the first
+    pub first_over : (next : ℕ) → next ≡ r + 1 → r < length constraints → IsOver tiers constraints u budget next → IsFirstOver tiers constraints u budget next
+    first_over next is inside over = record {
+      stage = omega arith;
+      over = over;
+      before = λ s l. so_far.within s (omega arith);
+    }
+
+    module _ (all : r ≡ length constraints) where
+      pub all_within : AreAllWithin tiers constraints u budget
+      all_within s l = so_far.within s (omega arith)
+
+      whole : (T : List (List Sym)) → IsOptimal tiers constraints u T → vec constraints T ≡ counts
+      whole T o =
+          let long : r ≡ length (vec constraints T) = all ∙ sym (length-map constraints (λ c. violations_of c T)) in
+          sym (ap (λ n. take n (vec constraints T)) long ∙ take-length (vec constraints T))
+          ∙ so_far.numbers T (subst (λ n. IsOptimalFor tiers constraints u n T) (sym all) o)
+
+      -- the answer with these stages is right
+      pub right_answer : (answer : Answer) → answer.form ≡ u → answer.counts.items ≡ counts → IsFirst (IsOptimal tiers constraints u) answer.example → answer.stages.items ≡ stages
+          → IsRightAutomaton tiers constraints u (nodes_at stages r) answer.automaton.states.items → IsRight tiers constraints u answer
+      right_answer answer form same first lists automaton = record {
+        form = form;
+        counts = record {
+          some = (answer.example, (first.member, whole answer.example first.member ∙ sym same));
+          shared = λ T o. whole T o ∙ sym same;
+        };
+        example = first;
+        stage_count = ap length lists ∙ so_far.stage_count ∙ ap (λ n. n + 1) all;
+        each_stage = λ s l. subst (λ ss. IsRightStage tiers constraints u s (nodes_at ss s)) (sym lists) (so_far.each_stage s (omega arith));
+        automaton =
+            subst (λ ss. IsRightAutomaton tiers constraints u (nodes_at ss (length constraints)) answer.automaton.states.items) (sym lists)
+            (subst (λ n. IsRightAutomaton tiers constraints u (nodes_at stages n) answer.automaton.states.items) all automaton);
+      }

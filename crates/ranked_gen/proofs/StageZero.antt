@@ -1,0 +1,27 @@
+-- Stage 0 over a budget, whatever constraints are ranked.
+use Rattle.std.proofs.Common.{ℕ, ◌<◌, List, arith}
+use Rattle.tier_core.specs.declared.sym.Sym.{Sym}
+use Rattle.tier_core.specs.declared.constraint.Constraint.{Constraint}
+use Rattle.tier_core.specs.Tiers.{Tiers}
+use Rattle.violation.specs.Candidates.{IsForm}
+use Rattle.violation.specs.Conditions.{AreSplit, AreDistinct}
+use Rattle.ranked_gen.specs.Budgets.{IsFirstOver}
+use Rattle.ranked_gen.specs.Listed.{kind_count}
+use Rattle.ranked_gen.proofs.StageKinds.{first_over}
+use Rattle.ranked_gen.proofs.InitStage.{ranked_passed, bare_passed}
+
+pub zero_over : (tiers : Tiers) → AreSplit tiers → AreDistinct tiers.free → (constraints : List Constraint) (u : List (List Sym)) → IsForm tiers u → (budget : ℕ) → budget < kind_count tiers u → IsFirstOver tiers constraints u budget 0
+zero_over tiers split distinct constraints u form budget l =
+    let bare = first_over tiers split distinct u form budget l in
+    record {
+      stage = omega arith;
+      over = record {
+        kinds = bare.over.kinds;
+        are = record {
+          ascending = bare.over.are.ascending;
+          members = λ k. (λ c. ranked_passed tiers constraints u k ((bare.over.are.members k).0 c), λ p. (bare.over.are.members k).1 (bare_passed tiers constraints u k p));
+        };
+        more = bare.over.more;
+      };
+      before = λ s h. absurd (omega arith);
+    }

@@ -1,0 +1,109 @@
+ghost use Rattle.std.specs.Prelude.{◌≡◌, ◌≤◌, ◌++◌, ◌∷◌, [], ℕ, Err, IfOk, length};
+ghost use Rattle.arc_table.specs.States.{states_of};
+ghost use Rattle.answer_text.specs.Right.{IsRight};
+ghost use Rattle.kind_moves.specs.Frames.{tiers_in, constraints_in, form_in};
+ghost use Rattle.ranked_gen.specs.Budgets.{IsFirstOver};
+ghost use Rattle.ranked_gen.specs.Left.{IsRanked};
+
+use crate::gen_err::GenErr;
+use crate::staged::{Left, Staged, next_stage};
+use answer_text::{Answer, Stage};
+use first_paths::first;
+use kind_moves::Frame;
+use kind_orders::{automaton_of, ranks};
+use std::alloc::Global;
+use tier_core::{NoMemory, Timeline};
+
+/// Stages one after another, the counts of their constraints, and what the last of them leaves.
+#[derive(Drop)]
+pub(crate) struct Ranked {
+    pub(crate) stages: Vec<Stage>,
+    pub(crate) counts: Vec<u32>,
+    pub(crate) left: Left,
+}
+
+/// The stages with one more.
+fn with_next(ranked: Ranked, next: Staged) -> Result<Ranked, NoMemory>
+    ensures stages { IfOk result (λ all. all.stages.items ≡ ranked.stages.items ++ next.stage ∷ []) }
+    ensures counts { IfOk result (λ all. all.counts.items ≡ ranked.counts.items ++ next.count ∷ []) }
+    ensures left { IfOk result (λ all. all.left ≡ next.left) }
+{
+    let Ranked {
+        mut stages,
+        mut counts,
+        left: _,
+    } = ranked;
+    let Staged { stage, count, left } = next;
+    if stages.push(stage).is_err() || counts.push(count).is_err() {
+        return Err(NoMemory);
+    }
+    Ok(Ranked {
+        stages,
+        counts,
+        left,
+    })
+}
+
+/// All stages of a frame, from stage 0 on. `Budget` comes with the first stage that has more kinds of
+/// prefix than the budget, and `NoMemory` only for want of memory.
+pub(crate) fn all_ranked(
+    alloc: Global,
+    frame: &Frame,
+    start: Ranked,
+    budget: u32,
+) -> Result<Ranked, GenErr>
+    requires start { IsRanked (tiers_in frame.now) (constraints_in frame.now) (form_in frame.now) budget 0 start.stages.items start.counts.items (states_of start.left.kept.table) start.left.kept.states.items start.left.order.items }
+    requires some { 1 ≤ budget }
+    requires few { budget ≤ 65536 }
+    ensures ranked { IfOk result (λ all. IsRanked (tiers_in frame.now) (constraints_in frame.now) (form_in frame.now) budget (length (constraints_in frame.now)) all.stages.items all.counts.items (states_of all.left.kept.table) all.left.kept.states.items all.left.order.items) }
+    ensures over { (s : ℕ) → result ≡ Err (GenErr.Budget s) → IsFirstOver (tiers_in frame.now) (constraints_in frame.now) (form_in frame.now) budget s }
+{
+    let mut ranked = start;
+    for number in 0..frame.grammar.constraints.len() as u32 {
+        let next = match next_stage(alloc, frame, number + 1, &ranked.left.kept.table, budget) {
+            Ok(next) => next,
+            Err(cause) => return Err(cause),
+        };
+        ranked = match with_next(ranked, next) {
+            Ok(more) => more,
+            Err(_) => return Err(GenErr::NoMemory),
+        };
+    }
+    Ok(ranked)
+}
+
+/// The same timeline once more. It fails only for want of memory.
+fn copied(alloc: Global, timeline: &Timeline) -> Result<Timeline, NoMemory>
+    ensures { IfOk result (λ t. t ≡ timeline.now) }
+{
+    let mut copy = Timeline::new(alloc);
+    for column in timeline.columns() {
+        if copy.push(column.copied(alloc)).is_err() {
+            return Err(NoMemory);
+        }
+    }
+    Ok(copy)
+}
+
+/// The answer of all stages of a frame. It fails only for want of memory.
+pub(crate) fn answered(alloc: Global, frame: &Frame, ranked: Ranked) -> Result<Answer, NoMemory>
+    requires ranked { (budget : ℕ) × IsRanked (tiers_in frame.now) (constraints_in frame.now) (form_in frame.now) budget (length (constraints_in frame.now)) ranked.stages.items ranked.counts.items (states_of ranked.left.kept.table) ranked.left.kept.states.items ranked.left.order.items }
+    ensures right { IfOk result (λ answer. IsRight (tiers_in frame.now) (constraints_in frame.now) (form_in frame.now) answer) }
+{
+    let own = copied(alloc, frame.form)?;
+    let Ranked {
+        stages,
+        counts,
+        left: Left { kept, order },
+    } = ranked;
+    let found = first(alloc, &kept.table)?;
+    let places = ranks(alloc, &order)?;
+    let automaton = automaton_of(alloc, &kept.table, &kept.states, &places)?;
+    Ok(Answer {
+        form: own,
+        counts,
+        example: found.unwrap(),
+        stages,
+        automaton,
+    })
+}

@@ -1,0 +1,116 @@
+ghost use Rattle.std.specs.Prelude.{◌≡◌, ◌≤◌, ◌-◌, ℕ, All, Contains, Err, IfOk, ◌↔◌, List, length, map};
+ghost use Rattle.weight_law.specs.declared.count.Count.{Count as Counted};
+ghost use Rattle.arc_table.specs.declared.arc.TableArc.{TableArc as ArcOf};
+ghost use Rattle.arc_table.specs.Moves.{moves_at};
+ghost use Rattle.arc_table.specs.Runs.{Accepts};
+ghost use Rattle.arc_table.specs.States.{states_of};
+ghost use Rattle.tier_core.specs.declared.sym.Sym.{Sym};
+ghost use Rattle.violation.specs.Candidates.{IsOptimalFor};
+ghost use Rattle.kind_moves.specs.Frames.{tiers_in, constraints_in, form_in, FitsFrame};
+ghost use Rattle.stage_laws.specs.StageTables.{IsStageTable};
+ghost use Rattle.stage_tables.specs.Kept.{IsKept, IsOfOneColumn};
+ghost use Rattle.stage_tables.specs.Explored.{names_at};
+ghost use Rattle.ranked_gen.specs.Budgets.{IsOver, IsWithin};
+ghost use Rattle.ranked_gen.specs.Left.{IsStaged, weight_number};
+
+use crate::gen_err::GenErr;
+use answer_text::Stage;
+use arc_table::Table;
+use distances::to_final;
+use grammar_reader::shape;
+use kind_moves::Frame;
+use kind_orders::{ordered, stage_of};
+use prune_best::{Tight, tight};
+use stage_tables::{ExploreErr, StageTable, explore};
+use std::alloc::{AllocError, Global};
+use tier_core::NoMemory;
+use weight_law::{Count, UnitWeight, Weight};
+
+/// What a stage leaves of the candidates: the table that accepts them, where each state has the
+/// number of its kind, and the order of these numbers.
+#[derive(Drop)]
+pub(crate) struct Left {
+    pub(crate) kept: Tight,
+    pub(crate) order: Vec<u32>,
+}
+
+/// A stage: its nodes, the number of its constraint in the violations of what it leaves, and what it
+/// leaves.
+#[derive(Drop)]
+pub(crate) struct Staged {
+    pub(crate) stage: Stage,
+    pub(crate) count: u32,
+    pub(crate) left: Left,
+}
+
+/// The number of a weight that is found, and 0 where there is none.
+fn weight_number(weight: Option<Count>) -> u32
+    ensures { result ≡ weight_number weight }
+{
+    match weight {
+        None => 0,
+        Some(weight) => weight.0,
+    }
+}
+
+/// The potentials of states: their least weights as numbers.
+fn potentials_of(alloc: Global, least: &[Option<Count>]) -> Result<Vec<u32>, AllocError>
+    ensures { IfOk result (λ numbers. numbers.items ≡ map weight_number least.now) }
+{
+    let mut numbers = Vec::new(alloc);
+    for weight in least {
+        numbers.push(weight_number(*weight))?;
+    }
+    Ok(numbers)
+}
+
+/// The nodes of a table that was explored, and what its constraint leaves. It fails only for want of
+/// memory.
+fn pruned(alloc: Global, frame: &Frame, stage: u32, found: &StageTable) -> Result<Staged, NoMemory>
+    requires some { 1 ≤ stage }
+    requires within { stage ≤ length (constraints_in frame.now) }
+    requires table { IsStageTable (tiers_in frame.now) (constraints_in frame.now) (form_in frame.now) stage (names_at frame.now stage found.now.kinds.items) (states_of found.now.table) }
+    requires fit { All (FitsFrame frame.now stage) found.now.kinds.items }
+    requires single { (s : ℕ) (arc : ArcOf Counted ⟦<Count as Weight>⟧) → Contains (moves_at (states_of found.now.table) s) arc → IsOfOneColumn arc.class }
+    ensures { IfOk result (λ staged. IsStaged (tiers_in frame.now) (constraints_in frame.now) (form_in frame.now) stage staged.stage.nodes.items staged.count (states_of staged.left.kept.table) staged.left.kept.states.items staged.left.order.items) }
+{
+    let least = to_final(alloc, &found.table)?;
+    let Ok(potentials) = potentials_of(alloc, &least) else {
+        return Err(NoMemory);
+    };
+    let shape = shape(alloc, frame.grammar)?;
+    let order = ordered(alloc, &shape, stage, &found.kinds)?;
+    let nodes = stage_of(alloc, &found.kinds, &potentials, &order)?;
+    let kept = tight(alloc, &found.table, &least)?;
+    Ok(Staged {
+        stage: nodes,
+        count: potentials[0],
+        left: Left { kept, order },
+    })
+}
+
+/// The next stage of a frame, from what the stage before has left. `Budget` comes exactly where it has
+/// more kinds of prefix than the budget, and `NoMemory` only for want of memory.
+pub(crate) fn next_stage(
+    alloc: Global,
+    frame: &Frame,
+    stage: u32,
+    kept: &Table<UnitWeight>,
+    budget: u32,
+) -> Result<Staged, GenErr>
+    requires some { 1 ≤ stage }
+    requires within { stage ≤ length (constraints_in frame.now) }
+    requires kept { IsKept (tiers_in frame.now) (constraints_in frame.now) (form_in frame.now) (stage - 1) (states_of kept.now) }
+    requires accepts { (T : List (List Sym)) → Accepts (states_of kept.now) T ↔ IsOptimalFor (tiers_in frame.now) (constraints_in frame.now) (form_in frame.now) (stage - 1) T }
+    requires some_budget { 1 ≤ budget }
+    requires few { budget ≤ 65536 }
+    ensures staged { IfOk result (λ staged. IsStaged (tiers_in frame.now) (constraints_in frame.now) (form_in frame.now) stage staged.stage.nodes.items staged.count (states_of staged.left.kept.table) staged.left.kept.states.items staged.left.order.items) }
+    ensures within { IfOk result (λ staged. IsWithin (tiers_in frame.now) (constraints_in frame.now) (form_in frame.now) budget stage) }
+    ensures over { (s : ℕ) → result ≡ Err (GenErr.Budget s) → (s ≡ stage) × IsOver (tiers_in frame.now) (constraints_in frame.now) (form_in frame.now) budget stage }
+{
+    match explore(alloc, frame, stage, kept, budget) {
+        Ok(found) => pruned(alloc, frame, stage, &found).map_err(|_| GenErr::NoMemory),
+        Err(ExploreErr::OverBudget) => Err(GenErr::Budget { stage }),
+        Err(ExploreErr::NoMemory) => Err(GenErr::NoMemory),
+    }
+}

@@ -29,6 +29,7 @@ use Rattle.stage_laws.specs.FoundTables.{HasMoveOn, base_of, AreFoundFrom}
 use Rattle.stage_laws.proofs.Exploring.{found_named, found_on_runs, same_words}
 use Rattle.stage_laws.proofs.Paths.{run_path, path_word, joined_run, joined_reads}
 use Rattle.stage_tables.specs.declared.kind_key.KindKey.{KindKey}
+use Rattle.stage_tables.specs.Kept.{IsOfOneColumn}
 use Rattle.stage_tables.specs.Explored.{names_at, IsExplored, IsMet, IsOverBudget}
 use Rattle.stage_tables.specs.Listed.{IsAt, AreFound, IsTaken, AreTaken}
 use Rattle.stage_tables.proofs.Keys.{same_key}
@@ -211,6 +212,7 @@ module _ {g : Ghosts UnitWeight} (frame : Frame) (stage : ℕ) (kept : List (Tab
           fit = λ k d l.
               (let a = at_number kinds over found.listed.each k l in
               subst (λ (x : Kind). FitsFrame frame stage x) (sym (get_or_from_slice_get kinds k a.0 d a.2.0)) (found.stands k a.0 a.1 a.2).fits);
+          single = λ k b here. (let m = old_move k b here in subst IsOfOneColumn (sym m.3.2.same_class) (found.kept_by.single m.1 m.3.0 m.3.1));
           accepts = λ T. same_words tiers cs u (stage - 1) found.names kept found.kept_by.named before over (names_at frame stage kinds) states from_kept T;
           on_runs = λ s l. found_on_runs tiers cs u (stage - 1) found.names kept found.kept_by.named before over (names_at frame stage kinds) states from_kept found.kept_by.on_runs s l;
         }

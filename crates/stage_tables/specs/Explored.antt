@@ -1,5 +1,5 @@
 -- What exploring a kept table gives.
-use Rattle.std.specs.Prelude.{◌≡◌, ◌≢◌, ℕ, ◌<◌, ◌↔◌, ◌++◌, List, length, map, All, AllPairs}
+use Rattle.std.specs.Prelude.{◌≡◌, ◌≢◌, ℕ, ◌<◌, ◌↔◌, ◌++◌, List, length, map, All, AllPairs, Contains}
 use Rattle.weight_law.specs.declared.Weight.{Ghosts}
 use Rattle.weight_law.specs.declared.count.Count.{Count}
 use Rattle.weight_law.specs.declared.unit_weight.UnitWeight.{UnitWeight}
@@ -7,6 +7,9 @@ use Rattle.tier_core.specs.declared.kind.Kind.{Kind}
 use Rattle.tier_core.specs.declared.sym.Sym.{Sym}
 use Rattle.tier_core.specs.Kinds.{PrefixKind}
 use Rattle.arc_table.specs.declared.state.TableState.{TableState}
+use Rattle.arc_table.specs.declared.arc.TableArc.{TableArc}
+use Rattle.arc_table.specs.Moves.{moves_at}
+use Rattle.stage_tables.specs.Kept.{IsOfOneColumn}
 use Rattle.arc_table.specs.Runs.{Accepts, IsOnRun}
 use Rattle.violation.specs.Prefixes.{kind_of}
 use Rattle.kind_moves.specs.declared.frame.Frame.{Frame}
@@ -19,13 +22,15 @@ names_at frame stage kinds = map (kind_at_stage frame stage) kinds
 
 -- A kept table is explored under the first constraints of a frame: the new states are named by the
 -- kinds, whose bits fit the frame, the moves weigh what they cost under the last of the constraints,
--- the table accepts the words that the kept one accepts, and each state is on a run.
+-- the table accepts the words that the kept one accepts, each state is on a run, and each move has one
+-- column.
 pub record IsExplored {g : Ghosts UnitWeight} {h : Ghosts Count} (frame : Frame) (stage : ℕ) (kept : List (TableState UnitWeight g)) (kinds : List Kind) (states : List (TableState Count h)) : Type 0 where
   pub named : AreNamedByKinds (tiers_in frame) (constraints_in frame) (form_in frame) stage (names_at frame stage kinds) states
   pub weighed : AreWeighed (tiers_in frame) (constraints_in frame) (form_in frame) stage (names_at frame stage kinds) states
   pub fit : All (FitsFrame frame stage) kinds
   pub accepts : (T : List (List Sym)) → Accepts states T ↔ Accepts kept T
   pub on_runs : (s : ℕ) → s < length states → IsOnRun states s
+  pub single : (s : ℕ) (arc : TableArc Count h) → Contains (moves_at states s) arc → IsOfOneColumn arc.class
 
 -- the kind is that of a prefix of a timeline that the kept table accepts
 pub record IsMet {g : Ghosts UnitWeight} (frame : Frame) (stage : ℕ) (kept : List (TableState UnitWeight g)) (kind : PrefixKind) : Type 0 where

@@ -46,7 +46,7 @@ module _ (frame : Frame) (stage : ℕ) (ranked : 1 ≤ stage) (within : stage �
   pub stage_within : {g : Ghosts Count} (kinds : List Kind) (states : List (TableState Count g)) (budget : ℕ) → IsExplored frame stage kept kinds states → length kinds ≤ budget → IsWithin (tiers_in frame) (constraints_in frame) (form_in frame) budget stage
   stage_within kinds states budget explored few ks are =
       let table = stage_table kinds states explored in
-      let law = names_law (tiers_in frame) (constraints_in frame) (form_in frame) stage (frame_stage frame stage within) (names_at frame stage kinds) states table in
+      let law = names_law (tiers_in frame) (constraints_in frame) (form_in frame) stage (frame_stage frame stage within) (names_at frame stage kinds) states table.named (stage - 1) table.accepts table.on_runs in
       let most = stage_few (tiers_in frame) (constraints_in frame) (form_in frame) stage (names_at frame stage kinds) (λ k p. (law k).1 p) ks are in
       omega (arith, most, few, length-map kinds (kind_at_stage frame stage))
 

@@ -125,7 +125,7 @@ module _ (frame : Frame) (stage : ℕ) (ranked : 1 ≤ stage) (within : stage �
       kinds = record {
         ascending = subst (IsStrictlySortedBy kind_order) (sym kinds_seen) sorted.ascending;
         members = λ k.
-            let names = names_law (tiers_in frame) (constraints_in frame) (form_in frame) stage here (names_at frame stage kinds) states table k in
+            let names = names_law (tiers_in frame) (constraints_in frame) (form_in frame) stage here (names_at frame stage kinds) states table.named (stage - 1) table.accepts table.on_runs k in
             let same = listed.same (kind_at_stage frame stage) k in
             (λ c. names.0 (same.0 c), λ p. same.1 (names.1 p));
       };

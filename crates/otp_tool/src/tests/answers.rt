@@ -154,7 +154,11 @@ fn forms_are_refused(rt: HostRuntime) -> Result<(), Fail> {
             "generate/g/[ x",
             refused(FormErr::BadSymbol { at: 2 }),
         ),
-        (BASE, "show/g/[/1", refused(FormErr::NotWellFormed { tier: 0 })),
+        (
+            BASE,
+            "show/g/[/1",
+            refused(FormErr::NotWellFormed { tier: 0 }),
+        ),
         (
             BASE,
             "generate/g/",
@@ -211,9 +215,13 @@ fn words_have_at_most_63_letters(rt: HostRuntime) -> Result<(), Fail> {
 
 // Some constraint lines, in ranked order.
 const MAX: &str = "constraint Max A -> a\n";
+
 const DEP: &str = "constraint Dep a -> A\n";
+
 const ONE: &str = "constraint One a # a\n";
+
 const INNER: &str = "constraint Inner A -> [a\n";
+
 const LEFT: &str = "constraint Left [A -> [a\n";
 
 // Higher constraints decide before lower ones do.
@@ -327,7 +335,10 @@ fn syllables_are_parsed(rt: HostRuntime) -> Result<(), Fail> {
             "show/g/=tat",
             "counts 0 0 0 0 0 0 0 0 0 0 0 1 0\nexample [-[-[ ][][+ [][]| ]-]-]\n",
         ),
-        ("show/g/=", "counts 0 0 0 0 0 0 0 0 0 0 0 0 0\nexample empty\n"),
+        (
+            "show/g/=",
+            "counts 0 0 0 0 0 0 0 0 0 0 0 0 0\nexample empty\n",
+        ),
     ];
     for (command, text) in cases {
         let (status, written) = outcome(rt.alloc(), SYLLABLES, command)?;

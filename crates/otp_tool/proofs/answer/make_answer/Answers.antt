@@ -19,16 +19,16 @@ returns-in-Err c =
 
 pub returns-in-Ok-generate-clause-ok : goal.returns-in-Ok-generate-clause-ok
 returns-in-Ok-generate-clause-ok c = record {
-      u = c.in-Ok.form;
-      read = subst (λ (w : List ℕ). IsReadAs (length (tiers_of_table c.args.grammar.now.tiers).input) c.args.grammar.now.letters.items w c.in-Ok.form) c.as_bytes.ensures.value c.in-Ok.ensures.ok;
-      right = c.in-Ok-generate.ensures.right;
-      within = c.in-Ok-generate.ensures.within;
-    }
+  u = c.in-Ok.form;
+  read = subst (λ (w : List ℕ). IsReadAs (length (tiers_of_table c.args.grammar.now.tiers).input) c.args.grammar.now.letters.items w c.in-Ok.form) c.as_bytes.ensures.value c.in-Ok.ensures.ok;
+  right = c.in-Ok-generate.ensures.right;
+  within = c.in-Ok-generate.ensures.within;
+}
 
 pub returns-in-Err-Budget-clause-err : goal.returns-in-Err-Budget-clause-err
 returns-in-Err-Budget-clause-err c = (
-      refl,
-      over_for c.args.grammar.now c.args.word.now c.args.budget c.in-Ok.form
-          (subst (λ (w : List ℕ). IsReadAs (length (tiers_of_table c.args.grammar.now.tiers).input) c.args.grammar.now.letters.items w c.in-Ok.form) c.as_bytes.ensures.value c.in-Ok.ensures.ok)
-          c.in-Err-Budget.stage (c.generate.ensures.over c.in-Err-Budget.stage (search rules)),
-    )
+  refl,
+  over_for c.args.grammar.now c.args.word.now c.args.budget c.in-Ok.form
+      (subst (λ (w : List ℕ). IsReadAs (length (tiers_of_table c.args.grammar.now.tiers).input) c.args.grammar.now.letters.items w c.in-Ok.form) c.as_bytes.ensures.value c.in-Ok.ensures.ok)
+      c.in-Err-Budget.stage (c.generate.ensures.over c.in-Err-Budget.stage (search rules)),
+)

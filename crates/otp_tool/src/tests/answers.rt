@@ -213,44 +213,64 @@ fn words_have_at_most_63_letters(rt: HostRuntime) -> Result<(), Fail> {
     Ok(())
 }
 
-// Some constraint lines, in ranked order.
-const MAX: &str = "constraint Max A -> a\n";
-
-const DEP: &str = "constraint Dep a -> A\n";
-
-const ONE: &str = "constraint One a # a\n";
-
-const INNER: &str = "constraint Inner A -> [a\n";
-
-const LEFT: &str = "constraint Left [A -> [a\n";
-
 // Higher constraints decide before lower ones do.
 #[test]
 fn constraints_are_ranked(rt: HostRuntime) -> Result<(), Fail> {
     let alloc = rt.alloc();
-    let cases: [(&[&str], &str, &str); 11] = [
-        (&[MAX], "[ ]", "counts 0\nexample [[ ]]\n"),
-        (&[DEP], "empty", "counts 0\nexample empty\n"),
-        (&[MAX, DEP], "[ ]", "counts 0 0\nexample [[ ]]\n"),
-        (&[MAX, DEP, ONE], "[ ]", "counts 0 0 1\nexample [[ ]]\n"),
-        (&[ONE, MAX, DEP], "[ ]", "counts 0 1 0\nexample [- ]-\n"),
-        (&[MAX, ONE], "[ | ]", "counts 0 1\nexample [[ |+ ]]\n"),
-        (&[INNER], "[ ]", "counts 0\nexample [- +[ ]]\n"),
-        (&[ONE, LEFT], "[ ]", "counts 0 1\nexample [- ]-\n"),
-        (&[LEFT, ONE], "[ ]", "counts 0 1\nexample [[ ]]\n"),
-        (&[ONE], "[ ]", "counts 0\nexample [- ]-\n"),
-        (&[], "[ ]", "counts\nexample [- ]-\n"),
+    let cases = [
+        (
+            "constraint Max A -> a\n",
+            "[ ]",
+            "counts 0\nexample [[ ]]\n",
+        ),
+        (
+            "constraint Dep a -> A\n",
+            "empty",
+            "counts 0\nexample empty\n",
+        ),
+        (
+            "constraint Max A -> a\nconstraint Dep a -> A\n",
+            "[ ]",
+            "counts 0 0\nexample [[ ]]\n",
+        ),
+        (
+            "constraint Max A -> a\nconstraint Dep a -> A\nconstraint One a # a\n",
+            "[ ]",
+            "counts 0 0 1\nexample [[ ]]\n",
+        ),
+        (
+            "constraint One a # a\nconstraint Max A -> a\nconstraint Dep a -> A\n",
+            "[ ]",
+            "counts 0 1 0\nexample [- ]-\n",
+        ),
+        (
+            "constraint Max A -> a\nconstraint One a # a\n",
+            "[ | ]",
+            "counts 0 1\nexample [[ |+ ]]\n",
+        ),
+        (
+            "constraint Inner A -> [a\n",
+            "[ ]",
+            "counts 0\nexample [- +[ ]]\n",
+        ),
+        (
+            "constraint One a # a\nconstraint Left [A -> [a\n",
+            "[ ]",
+            "counts 0 1\nexample [- ]-\n",
+        ),
+        (
+            "constraint Left [A -> [a\nconstraint One a # a\n",
+            "[ ]",
+            "counts 0 1\nexample [[ ]]\n",
+        ),
     ];
     for (lines, form, text) in cases {
-        let mut file = String::from_str(alloc, BASE)?;
-        for line in lines {
-            file.push_str(line)?;
-        }
+        let file = with_constraints(alloc, lines)?;
         let mut command = String::from_str(alloc, "show/g/")?;
         command.push_str(form)?;
         let (status, written) = outcome(alloc, file.as_str(), command.as_str())?;
-        assert_eq!(rt; status, Status::Done, "{file}{form}");
-        assert_eq!(rt; written.as_str(), text, "{file}{form}");
+        assert_eq!(rt; status, Status::Done, "{lines}{form}");
+        assert_eq!(rt; written.as_str(), text, "{lines}{form}");
     }
     Ok(())
 }

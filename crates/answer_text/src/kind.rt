@@ -6,8 +6,7 @@ ghost use Rattle.tier_core.specs.Kinds.{phase_by_bits, prefix_kind};
 ghost use Rattle.tier_core.specs.Tiers.{has_tier};
 ghost use Rattle.answer_text.specs.Text.{kind_text, open_byte, phase_byte};
 
-use crate::number::put_decimal;
-use outside::{Sink, Waiting, WriteErr};
+use outside::{Sink, Waiting, WriteErr, put_decimal};
 use tier_core::Kind;
 
 /// Whether the bit of a place is set in a mask.

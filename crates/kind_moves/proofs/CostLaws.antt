@@ -8,13 +8,13 @@ use Rattle.tier_core.specs.declared.sym.Sym.{Sym}
 use Rattle.tier_core.specs.declared.constraint.Constraint.{Constraint}
 use Rattle.tier_core.specs.Kinds.{Phase}
 use Rattle.tier_core.specs.Tiers.{Tiers, has_tier}
+use Rattle.tier_core.specs.Sides.{is_stretch}
 use Rattle.tier_core.proofs.CountLemmas.{all_of}
 use Rattle.violation.specs.Candidates.{IsForm, IsCandidate, vec}
 use Rattle.violation.specs.Conditions.{AreSplit, IsOverTiers}
 use Rattle.violation.specs.Counts.{violations_so_far}
 use Rattle.violation.specs.Moves.{costs, first_phase, is_tier_open, is_unmet_phase, move_costs, moved}
 use Rattle.violation.specs.Prefixes.{kind_of, stretches}
-use Rattle.violation.specs.Sides.{is_stretch}
 use Rattle.violation.specs.Walks.{walk_costs, add_each}
 use Rattle.violation.proofs.CostLemmas.{costs_agree, add_assoc_each, length_walk, move_adds, costs_sum}
 use Rattle.violation.proofs.SplitLemmas.{tiers_split}

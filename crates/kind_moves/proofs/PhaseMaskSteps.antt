@@ -11,9 +11,9 @@ use Rattle.tier_core.specs.declared.sym.Sym.{Sym}
 use Rattle.tier_core.specs.declared.constraint.Constraint.{Constraint}
 use Rattle.tier_core.specs.Kinds.{Phase, closed, phase_by_bits, phase_at, phases}
 use Rattle.tier_core.specs.Tiers.{has_tier}
+use Rattle.tier_core.specs.Sides.{is_stretch}
 use Rattle.tier_core.proofs.KindLemmas.{not_both}
 use Rattle.violation.specs.Moves.{is_unmet_phase, is_met_phase, next_phase, next_phases}
-use Rattle.violation.specs.Sides.{is_stretch}
 use Rattle.kind_moves.specs.Phases.{phases_by, told_at}
 use Rattle.kind_moves.proofs.KindBits.{apart_from, phase_told, one_of}
 use Rattle.kind_moves.proofs.MaskSteps.{none_from}

@@ -5,7 +5,7 @@ ghost use Rattle.violation.specs.Candidates.{IsForm};
 ghost use Rattle.kind_moves.specs.Masks.{AreOpenInputs};
 
 use crate::cost::{costs, count_stretches};
-use crate::fit::{has_edge, has_input_edge, has_input_part, may_follow};
+use crate::fit::{has_edge, may_follow};
 use crate::mask::{laid_out, open_after, taken_from};
 use crate::open::{free_tiers, open_inputs};
 use crate::phase::{has_phase, next_phases};
@@ -13,6 +13,7 @@ use crate::phase_masks::PhaseMasks;
 use grammar_reader::Grammar;
 use std::alloc::Global;
 use tier_core::{Column, Kind, NoMemory, Sym, Timeline};
+use violation::{has_input_edge, has_input_part};
 
 /// A grammar and a form, with what their moves ask again and again: the mask of the free tiers, and
 /// for each place of the form the mask of the input tiers that are open there.

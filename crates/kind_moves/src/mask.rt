@@ -57,13 +57,6 @@ pub(crate) fn taken_from(tiers: u16, mask: u16) -> u16
     flags
 }
 
-/// Whether a tier is open after a symbol.
-pub(crate) fn is_open_after(sym: Sym) -> bool
-    ensures { result ≡ opens sym }
-{
-    matches!(sym, Sym::Inside | Sym::Start | Sym::Both)
-}
-
 /// The mask of the tiers that are open after a column.
 pub(crate) fn open_after(column: &[Sym]) -> u16
     requires { length column.now ≤ 12 }
@@ -71,7 +64,7 @@ pub(crate) fn open_after(column: &[Sym]) -> u16
 {
     let mut open = 0;
     for (tier, sym) in column.iter().enumerate() {
-        open = with_bit(open, tier as u32, is_open_after(*sym));
+        open = with_bit(open, tier as u32, sym.is_open_after());
     }
     open
 }

@@ -3,15 +3,15 @@ ghost use Rattle.std.specs.List.{list_any};
 ghost use Rattle.tier_core.specs.Kinds as told;
 ghost use Rattle.tier_core.specs.Kinds.{phases};
 ghost use Rattle.tier_core.specs.Tiers.{has_tier};
+ghost use Rattle.tier_core.specs.Sides.{edge_among, is_stretch};
 ghost use Rattle.violation.specs.Columns.{is_present, opens_interior};
 ghost use Rattle.violation.specs.Conditions.{AreInColumn, IsOverTiers};
 ghost use Rattle.violation.specs.Moves.{is_unmet_phase, is_met_phase, next_phase, next_phases};
-ghost use Rattle.violation.specs.Sides.{edge_among, is_stretch};
 ghost use Rattle.kind_moves.specs.Phases.{phase_of, phases_by};
 
-use crate::event::{any_present, has_edge_among, is_stretch, opens_each, opens_some};
 use crate::phase_masks::PhaseMasks;
 use tier_core::{Constraint, Event, Kind, Sym};
+use violation::{any_present, has_edge_among, opens_each, opens_some};
 
 /// The phase of a stretch implication.
 #[derive(Clone, Copy, Debug, PartialEq, Eq)]
@@ -94,7 +94,7 @@ pub(crate) fn next_phases(constraints: &[Constraint], kind: &Kind, column: &[Sym
     let mut met = 0;
     let mut next = 0;
     for constraint in constraints {
-        if is_stretch(constraint) {
+        if constraint.is_stretch() {
             let phase = phase_after(constraint, has_phase(kind.met, next), column);
             unmet = with_bit(unmet, next, phase.is_unmet());
             met = with_bit(met, next, phase.is_met());

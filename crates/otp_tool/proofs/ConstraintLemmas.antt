@@ -6,12 +6,12 @@ use Rattle.tier_core.specs.declared.constraint.Constraint.{Constraint}
 use Rattle.tier_core.specs.Kinds.{Phase, PrefixKind}
 use Rattle.tier_core.specs.Tiers.{Tiers}
 use Rattle.tier_core.specs.Timelines.{project, squeeze, word}
+use Rattle.tier_core.specs.Sides.{has_edge_type, is_implication, is_stretch}
 use Rattle.grammar_reader.specs.Seen.{constraint_seen}
 use Rattle.grammar_reader.specs.Values.{NamedConstraint}
 use Rattle.violation.specs.Candidates.{IsAtMost, IsOptimalFor, vec}
 use Rattle.violation.specs.Counts.{viol}
 use Rattle.violation.specs.Prefixes.{is_open, kind_of, phase, stretches}
-use Rattle.violation.specs.Sides.{has_edge_type, is_implication, is_stretch}
 use Rattle.violation.specs.Stages.{AreKindsOfStage, IsKindOfStage, IsPassed, Passes}
 use Rattle.ranked_gen.specs.Budgets.{IsFirstOver, IsOver, IsWithin}
 

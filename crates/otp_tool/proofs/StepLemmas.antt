@@ -23,7 +23,8 @@ use Rattle.timeline_text.specs.declared.form_err.FormErr.{FormErr}
 use Rattle.grammar_reader.specs.declared.grammar.Grammar.{Grammar}
 use Rattle.grammar_reader.specs.Grammars.{value_of}
 use Rattle.grammar_reader.specs.Seen.{constraint_seen}
-use Rattle.grammar_reader.specs.ShapeOf.{IsShapeOf, stretch_counts, is_stretch}
+use Rattle.tier_core.specs.Sides.{is_stretch}
+use Rattle.grammar_reader.specs.ShapeOf.{IsShapeOf, stretch_counts}
 use Rattle.grammar_reader.specs.Values.{has_sides, is_side}
 use Rattle.violation.specs.Candidates.{vec}
 use Rattle.violation.specs.Conditions.{AreTiersBelow, IsCountable}

@@ -12,6 +12,7 @@ use Rattle.tier_core.specs.declared.sym.Sym.{Sym}
 use Rattle.tier_core.specs.declared.constraint.Constraint.{Constraint}
 use Rattle.tier_core.specs.Tiers.{Tiers}
 use Rattle.tier_core.specs.Kinds.{Phase, closed, unmet, met, PrefixKind, kind_order}
+use Rattle.tier_core.specs.Sides.{is_stretch}
 use Rattle.arc_table.specs.declared.arc.TableArc.{TableArc}
 use Rattle.arc_table.specs.declared.state.TableState.{TableState}
 use Rattle.arc_table.specs.Conditions.{TargetsExist, ClassesFilled}
@@ -23,7 +24,6 @@ use Rattle.prune_best.proofs.Words.{some_word}
 use Rattle.violation.specs.Candidates.{IsCandidate, IsOptimalFor}
 use Rattle.violation.specs.Moves.{moved, cut}
 use Rattle.violation.specs.Prefixes.{kind_of, phase, stretches}
-use Rattle.violation.specs.Sides.{is_stretch}
 use Rattle.violation.specs.Stages.{IsPassed, AreKindsOfStage}
 use Rattle.violation.specs.Walks.{reached}
 use Rattle.violation.proofs.WalkLemmas.{moves_begin, reached_is}

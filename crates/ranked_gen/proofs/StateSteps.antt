@@ -30,15 +30,6 @@ use Rattle.ranked_gen.proofs.NumberLemmas.{flags_of-low, same_kind, kind_from}
 pub kind_at_place : (f place opened : ℕ) → opened < 2 ^ f → kind_numbered f (place * 2 ^ f + opened) ≡ kind_from place (flags_of f opened) []
 kind_at_place f place opened l = same_kind (div-mul-add place (2 ^ f) opened l) (flags_of-low f f place opened (omega arith)) refl
 
--- how many tiers pass
-pub numbers_count : {X : Type 0} (test : X → Bool) (n : ℕ) (xs : List X) → length (numbers_from test n xs) ≡ count_by test xs
-numbers_count test n [] = refl
-numbers_count test n (x ∷ xs) = go (test x) (numbers_count test (suc n) xs) ∙ sym (count_cons test x xs)
-  where
-    go : (b : Bool) → length (numbers_from test (suc n) xs) ≡ count_by test xs → length (cond b (n ∷ []) [] ++ numbers_from test (suc n) xs) ≡ cond b 1 0 + count_by test xs
-    go true e = omega arith
-    go false e = omega arith
-
 -- whether a tier is open after one symbol more
 open_suc : (b : Bool) (w : List Sym) (q : ℕ) → q < length w → open_at b w (suc q) ≡ opens (get_or w q Outside)
 open_suc b [] q l = absurd (omega arith)

@@ -9,7 +9,7 @@ ghost use Rattle.ranked_gen.specs.FrameMoves.{AllFit, arc_by, columns_from};
 ghost use Rattle.ranked_gen.specs.Listed.{move_view, table_view};
 ghost use Rattle.ranked_gen.specs.Picks.{symbols_of, two_count, picked, symbols_by_flags, symbol_by_bit, bits_of};
 
-use crate::flags::{flags_by_tier, is_input};
+use crate::flags::flags_by_tier;
 use crate::number::number_of;
 use crate::pick::Pick;
 use crate::wide_column::widened;
@@ -32,7 +32,7 @@ fn pick_at(
     requires wide { length given.now ≡ length kinds.now }
     ensures { symbols_of result ≡ symbols_by_flags kinds.now given.now before.now after.now tier }
 {
-    if is_input(kinds[tier]) {
+    if kinds[tier].is_input() {
         Pick::One(given[tier])
     } else {
         Pick::between(before[tier], after[tier])

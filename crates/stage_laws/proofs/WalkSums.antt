@@ -5,11 +5,11 @@ use Rattle.tier_core.specs.declared.sym.Sym.{Sym}
 use Rattle.tier_core.specs.declared.constraint.Constraint.{Constraint}
 use Rattle.tier_core.specs.Tiers.{Tiers}
 use Rattle.tier_core.specs.Kinds.{Phase, PrefixKind}
+use Rattle.tier_core.specs.Sides.{is_stretch}
 use Rattle.violation.specs.Candidates.{IsCandidate, vec, vec_so_far}
 use Rattle.violation.specs.Counts.{violations_of, violations_so_far}
 use Rattle.violation.specs.Moves.{costs_each, is_tier_open, moved, move_costs}
 use Rattle.violation.specs.Prefixes.{kind_of}
-use Rattle.violation.specs.Sides.{is_stretch}
 use Rattle.violation.specs.Walks.{HasMoves, reached, add_each, walk_costs}
 use Rattle.violation.proofs.CostLemmas.{length_walk, costs_on, costs_sum}
 use Rattle.violation.proofs.WalkLemmas.{candidate_walk, reached_is}

@@ -5,9 +5,9 @@ use Rattle.tier_core.specs.declared.sym.Sym.{Sym}
 use Rattle.tier_core.specs.declared.constraint.Constraint.{Constraint}
 use Rattle.tier_core.specs.Kinds.{Phase, PrefixKind}
 use Rattle.tier_core.specs.Tiers.{Tiers}
+use Rattle.tier_core.specs.Sides.{is_stretch}
 use Rattle.violation.specs.Moves.{FitsKind, moved, next_phase, next_phases, cut}
 use Rattle.violation.specs.Prefixes.{kind_of, stretches, phase}
-use Rattle.violation.specs.Sides.{is_stretch}
 
 -- the first of some, and more
 take_split : {X : Type 0} (n : ℕ) (xs : List X) → (more : List X) × (take (suc n) xs ≡ take n xs ++ more)

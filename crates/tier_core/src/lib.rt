@@ -30,7 +30,7 @@ mod timeline;
 pub use class::Class;
 pub use column::Column;
 pub use constraint::{Constraint, Family};
-pub use event::{Event, EventList, Part};
+pub use event::{Event, EventList, Part, has_edge_type};
 pub use form::{has_edge, reduced, well_formed};
 pub use kind::Kind;
 pub use kind_order::kind_cmp;

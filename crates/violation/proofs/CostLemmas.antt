@@ -11,13 +11,13 @@ use Rattle.tier_core.specs.declared.constraint.Family.TheVariants.{Implication, 
 use Rattle.tier_core.specs.Kinds.{Phase, PrefixKind}
 use Rattle.tier_core.specs.Tiers.{Tiers}
 use Rattle.tier_core.specs.Timelines.{word}
+use Rattle.tier_core.specs.Sides.{is_implication, has_edge_type, is_stretch, edge_among}
 use Rattle.tier_core.proofs.CountLemmas.{bit, all_weaker, all_append}
 use Rattle.violation.specs.Candidates.{IsForm, IsCandidate, vec}
 use Rattle.violation.specs.Conditions.{AreSplit, IsOverTiers, IsCountable}
 use Rattle.violation.specs.Counts.{violations_of, violations_so_far, so_far, viol}
 use Rattle.violation.specs.Moves.{costs, costs_each, first_phase, is_tier_open, move_costs, moved, is_final}
 use Rattle.violation.specs.Prefixes.{is_open, phase, stretches, kind_of}
-use Rattle.violation.specs.Sides.{is_implication, has_edge_type, is_stretch, edge_among}
 use Rattle.violation.specs.Walks.{HasMoves, reached, add_each, walk_costs}
 use Rattle.violation.proofs.CountSteps.{whole, all_agree}
 use Rattle.violation.proofs.MoveLemmas.{opened_after, column_costs}

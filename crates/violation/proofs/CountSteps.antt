@@ -11,13 +11,13 @@ use Rattle.tier_core.specs.declared.constraint.Family.{Family}
 use Rattle.tier_core.specs.declared.constraint.Family.TheVariants.{Implication, Clash}
 use Rattle.tier_core.specs.Scan.{fits, opens}
 use Rattle.tier_core.specs.Timelines.{symbol, is_edge, word, IsWellFormed}
+use Rattle.tier_core.specs.Sides.{has_edge_type, edge_among}
 use Rattle.tier_core.proofs.CountLemmas.{bit, all_append}
 use Rattle.tier_core.proofs.WordCounts.{runs_fits}
 use Rattle.tier_core.proofs.WordForm.{runs_from_well_formed}
 use Rattle.violation.specs.Columns.{edge_cost, opens_all, is_present, opens_interior}
 use Rattle.violation.specs.Conditions.{AreTiersBelow, IsCountable, AreInColumn}
 use Rattle.violation.specs.Counts.{chosen, viol, so_far, is_met}
-use Rattle.violation.specs.Sides.{has_edge_type, edge_among}
 use Rattle.violation.proofs.EdgeSteps.{edge_at, step_count}
 use Rattle.violation.proofs.InteriorSteps.{open_before}
 use Rattle.violation.proofs.OpenSteps.{stretch, clash_ends, implication_ends}

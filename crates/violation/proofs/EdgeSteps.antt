@@ -13,11 +13,11 @@ use Rattle.tier_core.specs.declared.constraint.Family.TheVariants.{Implication, 
 use Rattle.tier_core.specs.Events.{Interval, event, events, greatest_low, least_high, meet, is_there}
 use Rattle.tier_core.specs.Timelines.{word, IsWellFormed}
 use Rattle.tier_core.specs.Words.{constituents}
+use Rattle.tier_core.specs.Sides.{is_edge_part, has_edge_type}
 use Rattle.tier_core.proofs.CountLemmas.{bit, count_agree, count_split, all_weaker, all_of}
 use Rattle.violation.specs.Columns.{is_present, edge_cost}
 use Rattle.violation.specs.Conditions.{AreTiersBelow}
 use Rattle.violation.specs.Counts.{choices, chosen, counts, is_met, so_far}
-use Rattle.violation.specs.Sides.{is_edge_part, has_edge_type}
 use Rattle.violation.proofs.ChoiceLemmas.{all_flat, all_map, count_choices, count_where}
 use Rattle.violation.proofs.EventCounts.{event_at, any_event_at}
 use Rattle.violation.proofs.MeetLemmas.{contains, meet_contains, least_from_le, least_from_le_other}

@@ -12,6 +12,7 @@ use Rattle.tier_core.specs.Events.{event, events, meet, is_there}
 use Rattle.tier_core.specs.Scan.{opens}
 use Rattle.tier_core.specs.Timelines.{word, symbol, IsWellFormed}
 use Rattle.tier_core.specs.Words.{constituents}
+use Rattle.tier_core.specs.Sides.{is_edge_part, edge_among}
 use Rattle.tier_core.proofs.CountLemmas.{bit, all_weaker, all_of, any_from_count, any_none}
 use Rattle.tier_core.proofs.WordForm.{runs_from_well_formed}
 use Rattle.tier_core.proofs.WordLemmas.{open_at, constituents_late}
@@ -19,7 +20,6 @@ use Rattle.violation.specs.Columns.{is_present, opens_interior}
 use Rattle.violation.specs.Conditions.{AreTiersBelow}
 use Rattle.violation.specs.Counts.{is_met}
 use Rattle.violation.specs.Prefixes.{last_where}
-use Rattle.violation.specs.Sides.{is_edge_part, edge_among}
 use Rattle.violation.proofs.ChoiceLemmas.{all_map}
 use Rattle.violation.proofs.EdgeSteps.{any_agree, at_point, met_at_point}
 use Rattle.violation.proofs.EventCounts.{interior_before}

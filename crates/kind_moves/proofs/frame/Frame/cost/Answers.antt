@@ -1,9 +1,9 @@
 use Rattle.std.proofs.Common.{◌≡◌, ℕ, true, false, ◌-◌, List, take, filter, length, get_or, ap, sym, ◌∙◌, subst, arith}
 use Rattle.tier_core.specs.declared.sym.Sym.{Sym}
 use Rattle.tier_core.specs.Tiers.{has_tier}
+use Rattle.tier_core.specs.Sides.{is_stretch}
 use Rattle.violation.specs.Conditions.{IsOverTiers}
 use Rattle.violation.specs.Moves.{costs}
-use Rattle.violation.specs.Sides.{is_stretch}
 use Rattle.kind_moves.specs.Frames.{constraints_in}
 use Rattle.kind_moves.proofs.CostLaws.{over_at, move_cost}
 use Rattle.kind_moves.proofs.frame.Frame.cost.Goals as goal

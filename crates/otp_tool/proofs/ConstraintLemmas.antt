@@ -17,7 +17,7 @@ use Rattle.ranked_gen.specs.Budgets.{IsFirstOver, IsOver, IsWithin}
 
 -- ---- what is counted and remembered of constraints as they are seen
 
-seen_vec : (T : List (List Sym)) (cs : List Constraint) → vec cs T ≡ map (λ n. viol n.family n.left n.right T) (map constraint_seen cs)
+pub seen_vec : (T : List (List Sym)) (cs : List Constraint) → vec cs T ≡ map (λ n. viol n.family n.left n.right T) (map constraint_seen cs)
 seen_vec T [] = refl
 seen_vec T (c ∷ cs) = ap (λ ns. viol c.family c.left c.right T ∷ ns) (seen_vec T cs)
 

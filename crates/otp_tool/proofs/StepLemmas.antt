@@ -26,9 +26,11 @@ use Rattle.grammar_reader.specs.Seen.{constraint_seen}
 use Rattle.tier_core.specs.Sides.{is_stretch}
 use Rattle.grammar_reader.specs.ShapeOf.{IsShapeOf, stretch_counts}
 use Rattle.grammar_reader.specs.Values.{has_sides, is_side}
+use Rattle.grammar_reader.proofs.Shaping.{length-stretch_counts}
 use Rattle.violation.specs.Candidates.{vec}
 use Rattle.violation.specs.Conditions.{AreTiersBelow, IsCountable}
 use Rattle.violation.specs.Counts.{viol}
+use Rattle.violation.proofs.TierLemmas.{tiers_lower}
 use Rattle.answer_text.specs.declared.answer.Answer.{Answer}
 use Rattle.answer_text.specs.Right.{IsRight}
 use Rattle.answer_text.specs.Shape.{widths_of}
@@ -41,6 +43,7 @@ use Rattle.otp_tool.specs.Findings.{Finding, FindsForAnswer, FindsForScore, no_f
 use Rattle.otp_tool.specs.Results.{IsOfRightAnswer, IsScoreText, text_widths, vector_of, whole_text}
 use Rattle.otp_tool.specs.Steps.{IsEnd, IsMade, IsStep, Taking, end_of}
 use Rattle.otp_tool.proofs.GrammarLemmas.{less, same_kinds, same_tiers}
+use Rattle.otp_tool.proofs.ConstraintLemmas.{seen_vec}
 
 -- ---- writing
 
@@ -57,12 +60,6 @@ written finds writes t text f w r o p e status s = inr (f, subst (IsEnd writes t
 
 -- ---- counting
 
-below : (n : ℕ) (events : List Event) → list_all (λ e. nat_lt e.tier n) events ≡ true → AreTiersBelow n events
-below n [] h = tt
-below n (e ∷ events) h =
-    let parts = and_parts (nat_lt e.tier n) (list_all (λ e. nat_lt e.tier n) events) h in
-    (less e.tier n parts.0, below n events parts.1)
-
 at_least : (n : ℕ) → nat_le 1 n ≡ true → 0 < n
 at_least n h = grind (arith, nat_tests)
 
@@ -70,7 +67,7 @@ side : (n : ℕ) (events : List Event) → is_side n events ≡ true → (0 < le
 side n events h =
     let parts = and_parts (nat_le 1 (length events) && nat_le (length events) 8) (list_all (λ e. nat_lt e.tier n) events) h in
     let front = and_parts (nat_le 1 (length events)) (nat_le (length events) 8) parts.0 in
-    (at_least (length events) front.0, below n events parts.1)
+    (at_least (length events) front.0, tiers_lower n events parts.1)
 
 countable : (n : ℕ) (T : List (List Sym)) → IsWellFormed n T → (cs : List Constraint) → list_all (has_sides n) (map constraint_seen cs) ≡ true → AllByRecursion (λ c. IsCountable c.left c.right T) cs
 countable n T w [] h = tt
@@ -80,13 +77,6 @@ countable n T w (c ∷ cs) h =
     let left = side n c.left sides.0 in
     let right = side n c.right sides.1 in
     (record { width = n; well_formed = w; left_below = left.1; right_below = right.1; some_left = left.0 }, countable n T w cs parts.1)
-
-counts_seen : (T : List (List Sym)) (cs : List Constraint) → vec cs T ≡ map (λ c. viol c.family c.left c.right T) (map constraint_seen cs)
-counts_seen T [] = refl
-counts_seen T (c ∷ cs) = ap (λ ns. viol c.family c.left c.right T ∷ ns) (counts_seen T cs)
-
-length-stretches : (cs : List Constraint) → length (stretch_counts cs) ≡ length cs + 1
-length-stretches cs = length-map-range_with_len (λ r. length (filter is_stretch (take r cs))) 0 (length cs + 1)
 
 module _ (g : Grammar) where
   same_width : length (value_of g).tiers ≡ length g.tiers.kinds.items
@@ -108,7 +98,7 @@ module _ (g : Grammar) where
   scored word T counts s e = record {
     timeline = T;
     read = subst (λ w. IsScored w word T) (sym same_width) s;
-    written = ap counts_text (e ∙ counts_seen T g.constraints.items);
+    written = ap counts_text (e ∙ seen_vec T g.constraints.items);
   }
 
   -- ---- answers
@@ -153,7 +143,7 @@ module _ (g : Grammar) where
 
       pub stages_fit : (shape : Shape) → IsShapeOf g shape → length answer.stages.items ≤ length shape.phases.items
       stages_fit shape s =
-          let phases : length shape.phases.items ≡ length g.constraints.items + 1 = ap length s.phases ∙ length-stretches g.constraints.items in
+          let phases : length shape.phases.items ≡ length g.constraints.items + 1 = ap length s.phases ∙ length-stretch_counts g.constraints.items in
           omega (arith, phases, made.right.stage_count)
 
   -- ---- the text

@@ -17,8 +17,9 @@ use Rattle.tier_core.specs.Classes.{sets_of, sets_have, has, AreApart}
 use Rattle.tier_core.proofs.SetLemmas.{only_have, alone_have}
 use Rattle.answer_text.specs.declared.automaton.ArcLine.{ArcLine}
 use Rattle.answer_text.specs.Right.{arc_cmp}
+use Rattle.kind_orders.proofs.Members.{contains_map}
 use Rattle.ranked_gen.specs.Listed.{arc_view, move_view}
-use Rattle.ranked_gen.proofs.MemberLemmas.{contains_map, contains_first, contains_later, all_from_members, all_at_member}
+use Rattle.ranked_gen.proofs.MemberLemmas.{contains_first, contains_later, all_from_members, all_at_member}
 use Rattle.ranked_gen.proofs.Ascending.{Ascends, ascends_map}
 use Rattle.ranked_gen.proofs.MoveList.{Move, move_cmp}
 

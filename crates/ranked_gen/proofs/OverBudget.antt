@@ -32,8 +32,9 @@ use Rattle.stage_laws.proofs.Cuts.{cut-kind_of}
 use Rattle.stage_laws.proofs.Naming.{path_kind, over_stretches}
 use Rattle.stage_laws.proofs.Paths.{IsParted, parted, joined_run, joined_reads, path_push}
 use Rattle.stage_tables.specs.Kept.{AreKeptByKinds}
+use Rattle.kind_orders.proofs.Members.{contains_map, contains_of_map}
 use Rattle.ranked_gen.specs.Budgets.{IsOver}
-use Rattle.ranked_gen.proofs.MemberLemmas.{contains_first, contains_later, contains_map, contains_of_map, contains_flat}
+use Rattle.ranked_gen.proofs.MemberLemmas.{contains_first, contains_later, contains_flat}
 use Rattle.ranked_gen.proofs.Ascending.{sorted_from, range_has}
 use Rattle.ranked_gen.proofs.FewKinds.{Differ, no_longer}
 use Rattle.ranked_gen.proofs.SortedKinds.{one_or_other, sorted_kinds}

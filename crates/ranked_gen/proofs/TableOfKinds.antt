@@ -20,10 +20,10 @@ use Rattle.arc_table.proofs.Filled.{filled_from}
 use Rattle.violation.specs.Candidates.{IsForm}
 use Rattle.violation.specs.Conditions.{AreSplit, AreDistinct}
 use Rattle.answer_text.specs.declared.automaton.ArcLine.{ArcLine}
+use Rattle.kind_orders.proofs.Members.{contains_map}
 use Rattle.ranked_gen.specs.Numbers.{kind_numbered}
 use Rattle.ranked_gen.specs.Arcs.{moves_from}
 use Rattle.ranked_gen.specs.Listed.{kind_count, arc_view, table_view, move_view, IsStateNumbered, AreNumbered}
-use Rattle.ranked_gen.proofs.MemberLemmas.{contains_map}
 use Rattle.ranked_gen.proofs.StateArcs.{IsMoveView, view_single, view_target, right_arcs}
 use Rattle.ranked_gen.proofs.LineLemmas.{numbered_seen}
 

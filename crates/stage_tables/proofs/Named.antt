@@ -37,8 +37,8 @@ use Rattle.stage_tables.proofs.Zips.{zip_from, zip_to, zip_pairs}
 use Rattle.stage_tables.proofs.Listing.{at_number, get_or_map, one_number}
 
 -- what every stage of a frame meets
-is_stage : (frame : Frame) (r : ℕ) → r ≤ length (constraints_in frame) → IsStage (tiers_in frame) (constraints_in frame) (form_in frame) r
-is_stage frame r l = record {
+pub frame_stage : (frame : Frame) (r : ℕ) → r ≤ length (constraints_in frame) → IsStage (tiers_in frame) (constraints_in frame) (form_in frame) r
+frame_stage frame r l = record {
   split = tiers_split frame.grammar.now.tiers.kinds.items;
   form = form_from (tiers_in frame) (form_in frame) frame.well_formed;
   over = over_tiers frame.grammar.now;
@@ -205,7 +205,7 @@ module _ {g : Ghosts UnitWeight} (frame : Frame) (stage : ℕ) (kept : List (Tab
         let tiers = tiers_in frame in
         let cs = constraints_in frame in
         let u = form_in frame in
-        let before = is_stage frame (stage - 1) (omega arith) in
+        let before = frame_stage frame (stage - 1) (omega arith) in
         record {
           named = subst (λ (n : ℕ). AreNamedByKinds tiers cs u n (names_at frame stage kinds) states) last (found_named tiers cs u (stage - 1) found.names kept found.kept_by.named before over (names_at frame stage kinds) states from_kept);
           weighed = weighs;

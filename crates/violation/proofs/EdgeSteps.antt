@@ -70,7 +70,7 @@ pub any_agree : {X : Type 0} (p q : X → Bool) (xs : List X) → AllByRecursion
 any_agree p q [] h = refl
 any_agree p q (x ∷ xs) h = ap (λ b. b || list_any p xs) h.0 ∙ ap (λ b. q x || b) (any_agree p q xs h.1)
 
-meets_point : (h lo hi : ℕ) → leb (max h (max lo 0)) (min hi h) ≡ (leb lo h && leb h hi)
+pub meets_point : (h lo hi : ℕ) → leb (max h (max lo 0)) (min hi h) ≡ (leb lo h && leb h hi)
 meets_point h lo hi = grind (arith, nat_tests)
 
 abbrev pub at_point : ℕ → Interval

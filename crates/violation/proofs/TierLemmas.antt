@@ -1,10 +1,12 @@
 -- Flags and symbols of the tiers of a list.
-use Rattle.std.proofs.Common.{◌≡◌, ◌≢◌, ℕ, zero, suc, ◌<◌, ◌==◌, Bool, true, false, cond, List, [], ◌∷◌, map, length, get_or, Contains, refl, sym, ap, ◌∙◌, arith, eq-eqb, ne_eqb, ⊎_elim}
-use Rattle.std.specs.List.{AllByRecursion, list_any}
-use Rattle.std.proofs.lemmas.Bool.{cases_eq, false≢true}
+use Rattle.std.proofs.Common.{◌≡◌, ◌≢◌, ℕ, zero, suc, ◌<◌, ◌==◌, Bool, true, false, cond, List, [], ◌∷◌, map, length, get_or, Contains, refl, sym, ap, ◌∙◌, arith, eq-eqb, ne_eqb, ⊎_elim, nat_lt}
+use Rattle.std.specs.List.{AllByRecursion, list_any, list_all}
+use Rattle.std.proofs.lemmas.Bool.{cases_eq, false≢true, and_parts, ltb-true}
+use Rattle.std.proofs.lemmas.List.Elements.{All-from_recursion}
 use Rattle.tier_core.specs.declared.sym.Sym.{Sym}
 use Rattle.tier_core.proofs.CountLemmas.{all_weaker}
-use Rattle.violation.specs.Conditions.{AreDistinct}
+use Rattle.tier_core.specs.declared.event.Event.{Event}
+use Rattle.violation.specs.Conditions.{AreDistinct, AreTiersBelow}
 use Rattle.violation.specs.Moves.{flag_of}
 
 -- functions that agree on each element give one list
@@ -22,6 +24,15 @@ contains_cases x xs t n c = step c.0 c.1 c.2
 
 pub contains_later : (x : ℕ) (xs : List ℕ) (t : ℕ) → Contains xs t → Contains (x ∷ xs) t
 contains_later x xs t c = (suc c.0, omega (arith, c.1), c.2)
+
+-- the flag of a tier by its place in the list
+pub flag_at : (xs : List ℕ) (flags : List Bool) (j : ℕ) → AreDistinct xs → j < length xs → flag_of xs flags (get_or xs j 0) ≡ get_or flags j false
+flag_at [] flags j d l = absurd (omega arith)
+flag_at (x ∷ xs) [] j d l = refl
+flag_at (x ∷ xs) (f ∷ fs) zero d l = ap (λ b. cond b f (flag_of xs fs x)) (eq-eqb x x refl)
+flag_at (x ∷ xs) (f ∷ fs) (suc j) d l =
+    ap (λ b. cond b f (flag_of xs fs (get_or xs j 0))) (ne_eqb x (get_or xs j 0) (All-from_recursion (λ t. x ≢ t) xs d.0 j 0 (omega arith)))
+    ∙ flag_at xs fs j d.1 (omega arith)
 
 -- the flag of one of the tiers, where the flags are told by a function
 pub flag_in : (f : ℕ → Bool) (xs : List ℕ) (t : ℕ) → Contains xs t → flag_of xs (map f xs) t ≡ f t
@@ -74,3 +85,8 @@ given_in (x ∷ xs) (s ∷ column) other d l =
     ∙ ap (λ ys. s ∷ ys)
     (map_agree _ _ xs (all_weaker (λ t. x ≢ t) _ xs (λ t n. ap (λ b. cond b s (given xs column (other t) t)) (ne_eqb x t n)) d.0)
     ∙ given_in xs column other d.1 (omega arith))
+
+-- tiers that are tested to be below a width are below it
+pub tiers_lower : (n : ℕ) (es : List Event) → list_all (λ e. nat_lt e.tier n) es ≡ true → AreTiersBelow n es
+tiers_lower n [] h = tt
+tiers_lower n (e ∷ es) h = let parts = and_parts (nat_lt e.tier n) (list_all (λ e. nat_lt e.tier n) es) h in (ltb-true e.tier n parts.0, tiers_lower n es parts.1)

@@ -11,10 +11,10 @@ use Rattle.std.proofs.lemmas.List.Sorted.{All-permutation}
 use Rattle.std.proofs.lemmas.List.{map-id}
 use Rattle.weight_law.specs.declared.Weight.{Ghosts}
 use Rattle.tier_core.specs.declared.sym.Sym.{Sym}
-use Rattle.tier_core.specs.Classes.{sets_of, sets_have, has, AreApart}
+use Rattle.tier_core.specs.Classes.{sets_of, sets_have, has, AreDisjoint}
 use Rattle.arc_table.specs.declared.arc.TableArc.{TableArc}
 use Rattle.arc_table.specs.declared.state.TableState.{TableState}
-use Rattle.arc_table.specs.Conditions.{AreDisjoint, is_filled, TargetsExist, ClassesDisjoint, ClassesFilled}
+use Rattle.arc_table.specs.Conditions.{is_filled, TargetsExist, ClassesDisjoint, ClassesFilled}
 use Rattle.arc_table.specs.Moves.{moves_at, accepting_at}
 use Rattle.arc_table.specs.FirstColumn.{first_column}
 use Rattle.arc_table.proofs.Filled.{has-first_column}
@@ -40,10 +40,10 @@ strict_arcs [] sorted differ = tt
 strict_arcs (x ∷ xs) sorted differ = subst (IsStrictlySortedBy arc_cmp) (map-id (x ∷ xs)) (strict_from_sorted arc_cmp_total (λ arc. arc) x (x ∷ xs) sorted differ)
 
 module _ {W : Type 0} {g : Ghosts W} (nodes : List ℕ) (moves : List (TableArc W g)) (lines : List ArcLine) (same : IsPermutation (map (line_of nodes) moves) lines) where
-  pub lines_apart : AllPairs (λ a b. AreDisjoint a.class b.class) moves → AllPairs (λ (a b : ArcLine). AreApart a.class b.class) lines
+  pub lines_apart : AllPairs (λ a b. AreDisjoint a.class b.class) moves → AllPairs (λ (a b : ArcLine). AreDisjoint a.class b.class) lines
   lines_apart disjoint =
-      pairs_permuted (λ (a b : ArcLine). AreApart a.class b.class) (λ a b apart column hb ha. apart column ha hb) (map (line_of nodes) moves) lines same
-      (pairs_map (λ (a b : ArcLine). AreApart a.class b.class) (line_of nodes) moves disjoint)
+      pairs_permuted (λ (a b : ArcLine). AreDisjoint a.class b.class) (λ a b apart column hb ha. apart column ha hb) (map (line_of nodes) moves) lines same
+      (pairs_map (λ (a b : ArcLine). AreDisjoint a.class b.class) (line_of nodes) moves disjoint)
 
   -- what holds of the lines of all moves
   pub all_lines_have : (P : ArcLine → Type 0) → ((arc : TableArc W g) → Contains moves arc → P (line_of nodes arc)) → All P lines

@@ -7,14 +7,14 @@ use Rattle.std.proofs.lemmas.List.{length-map, get_or-map}
 use Rattle.std.proofs.lemmas.List.Elements.{Contains-get_or}
 use Rattle.tier_core.specs.declared.sym.Sym.{Sym}
 use Rattle.tier_core.specs.Sets.{single_set}
-use Rattle.tier_core.specs.Classes.{sets_have}
+use Rattle.tier_core.specs.Classes.{sets_have, AreDisjoint}
 use Rattle.tier_core.specs.Tiers.{Tiers}
 use Rattle.tier_core.proofs.SetLemmas.{alone_have}
 use Rattle.weight_law.specs.declared.Weight.{Ghosts}
 use Rattle.arc_table.specs.declared.arc.TableArc.{TableArc}
 use Rattle.arc_table.specs.declared.state.TableState.{TableState}
 use Rattle.arc_table.specs.Moves.{moves_at}
-use Rattle.arc_table.specs.Conditions.{TargetsExist, ClassesDisjoint, ClassesFilled, OneWidth, AreDisjoint}
+use Rattle.arc_table.specs.Conditions.{TargetsExist, ClassesDisjoint, ClassesFilled, OneWidth}
 use Rattle.arc_table.proofs.Push.{moves_exist}
 use Rattle.arc_table.proofs.Filled.{filled_from}
 use Rattle.violation.specs.Candidates.{IsForm}

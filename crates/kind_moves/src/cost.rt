@@ -7,8 +7,7 @@ ghost use Rattle.violation.specs.Conditions.{AreInColumn, IsOverTiers};
 ghost use Rattle.violation.specs.Counts.{chosen};
 ghost use Rattle.violation.specs.Moves.{costs, is_unmet_phase};
 
-use crate::mask::has_bit;
-use tier_core::{Constraint, Event, Family, Sym, has_edge_type};
+use tier_core::{Constraint, Event, Family, Sym, has_bit, has_edge_type};
 use violation::{has_edge_among, is_counted_at};
 
 /// Whether the tiers of all types are in a mask.
@@ -16,7 +15,7 @@ fn are_all_in(mask: u16, types: &[Event]) -> bool
     requires { All (λ e. e.tier < 12) types.now }
     ensures { result ≡ list_all (λ e. has_tier mask e.tier) types.now }
 {
-    types.iter().all(|e| has_bit(mask, e.tier))
+    types.iter().all(|e| has_bit(mask as u32, e.tier))
 }
 
 /// Whether a type of which an event is chosen is an edge: a clash chooses on both sides, an

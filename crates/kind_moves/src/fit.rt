@@ -3,8 +3,7 @@ ghost use Rattle.tier_core.specs.Scan.{fits};
 ghost use Rattle.tier_core.specs.Timelines.{symbol, has_edge};
 ghost use Rattle.tier_core.specs.Tiers.{has_tier};
 
-use crate::mask::has_bit;
-use tier_core::Sym;
+use tier_core::{Sym, has_bit};
 
 /// Whether each symbol of a column may come where the tiers of a mask are open.
 pub(crate) fn may_follow(opened: u16, column: &[Sym]) -> bool
@@ -12,7 +11,7 @@ pub(crate) fn may_follow(opened: u16, column: &[Sym]) -> bool
     ensures { IsTrue result ↔ ((t : ℕ) → t < length column.now → fits (has_tier opened t) (symbol column.now t) ≡ true) }
 {
     for (tier, sym) in column.iter().enumerate() {
-        if !sym.may_come(has_bit(opened, tier as u32)) {
+        if !sym.may_come(has_bit(opened as u32, tier as u32)) {
             return false;
         }
     }

@@ -5,15 +5,7 @@ ghost use Rattle.tier_core.specs.Tiers.{is_free, has_tier, numbers_from};
 ghost use Rattle.violation.specs.Moves.{flag_of};
 ghost use Rattle.ranked_gen.specs.Numbers.{flags_of};
 
-use tier_core::TierKind;
-
-/// Whether the bit of a number is set.
-fn has_bit(number: u32, bit: u32) -> bool
-    requires { bit < 32 }
-    ensures { result ≡ has_tier number bit }
-{
-    (number >> bit) & 1 == 1
-}
+use tier_core::{TierKind, has_bit};
 
 /// The bit of a number: 1 where it is set, and else 0.
 pub(crate) fn bit_of(number: u32, bit: u32) -> u32

@@ -16,7 +16,7 @@ use crate::wide_column::widened;
 use arc_table::TableArc;
 use kind_moves::Frame;
 use std::alloc::Global;
-use tier_core::{Class, Column, Kind, NoMemory, Sym, TierKind};
+use tier_core::{Class, Column, Kind, NoMemory, Sym, TierKind, has_bit};
 use weight_law::UnitWeight;
 
 /// The symbols to pick from on one tier.
@@ -69,13 +69,7 @@ fn symbol_picked(pick: Pick, number: u32, bit: u32) -> Sym
 {
     match pick {
         Pick::One(sym) => sym,
-        Pick::Two(first, second) => {
-            if (number >> bit) & 1 == 1 {
-                second
-            } else {
-                first
-            }
-        }
+        Pick::Two(first, second) => { if has_bit(number, bit) { second } else { first } }
     }
 }
 

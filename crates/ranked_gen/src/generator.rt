@@ -17,6 +17,7 @@ use answer_text::{Answer, Stage};
 use arc_table::Table;
 use grammar_reader::Grammar;
 use kind_moves::Frame;
+use kind_orders::numbers_below;
 use prune_best::Tight;
 use std::alloc::{AllocError, Global};
 use tier_core::{NoMemory, Timeline};
@@ -59,13 +60,6 @@ fn one_stage(alloc: Global, stage: Stage) -> Result<Vec<Stage>, NoMemory>
         Ok(()) => Ok(stages),
         Err(_) => Err(NoMemory),
     }
-}
-
-/// The numbers below a count.
-fn numbers_below(alloc: Global, count: u32) -> Result<Vec<u32>, AllocError>
-    ensures { IfOk result (λ numbers. numbers.items ≡ range_with_len 0 count) }
-{
-    (0..count).collect(alloc)
 }
 
 /// Each state with its own number, in the order of the numbers.

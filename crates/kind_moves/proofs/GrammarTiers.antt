@@ -19,7 +19,6 @@ use Rattle.tier_core.proofs.WordForm.{runs_from_well_formed, well_formed_from_ru
 use Rattle.violation.specs.Candidates.{IsForm}
 use Rattle.violation.specs.Conditions.{AreTiersBelow, IsOverTiers}
 use Rattle.violation.specs.Prefixes.{stretches}
-use Rattle.violation.proofs.TierLemmas.{tiers_lower}
 use Rattle.grammar_reader.specs.declared.grammar.Grammar.{Grammar}
 use Rattle.grammar_reader.specs.Values.{is_side, has_sides}
 use Rattle.grammar_reader.specs.Seen.{tiers_by, constraint_seen}
@@ -29,6 +28,10 @@ length-tiers_by [] [] e = refl
 length-tiers_by [] (k ∷ ks) e = absurd (omega arith)
 length-tiers_by (n ∷ ns) [] e = absurd (omega arith)
 length-tiers_by (n ∷ ns) (k ∷ ks) e = ap (λ m. suc m) (length-tiers_by ns ks (omega arith))
+
+tiers_lower : (n : ℕ) (es : List Event) → list_all (λ e. nat_lt e.tier n) es ≡ true → AreTiersBelow n es
+tiers_lower n [] h = tt
+tiers_lower n (e ∷ es) h = let parts = and_parts (nat_lt e.tier n) (list_all (λ e. nat_lt e.tier n) es) h in (ltb-true e.tier n parts.0, tiers_lower n es parts.1)
 
 side_over : (n : ℕ) (es : List Event) → is_side n es ≡ true → (1 ≤ length es) × AreTiersBelow n es
 side_over n es h =

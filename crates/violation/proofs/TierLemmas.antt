@@ -1,12 +1,11 @@
 -- Flags and symbols of the tiers of a list.
-use Rattle.std.proofs.Common.{◌≡◌, ◌≢◌, ℕ, zero, suc, ◌<◌, ◌==◌, Bool, true, false, cond, List, [], ◌∷◌, map, length, get_or, Contains, refl, sym, ap, ◌∙◌, arith, eq-eqb, ne_eqb, ⊎_elim, nat_lt}
-use Rattle.std.specs.List.{AllByRecursion, list_any, list_all}
-use Rattle.std.proofs.lemmas.Bool.{cases_eq, false≢true, and_parts, ltb-true}
+use Rattle.std.proofs.Common.{◌≡◌, ◌≢◌, ℕ, zero, suc, ◌<◌, ◌==◌, Bool, true, false, cond, List, [], ◌∷◌, map, length, get_or, Contains, refl, sym, ap, ◌∙◌, arith, eq-eqb, ne_eqb, ⊎_elim}
+use Rattle.std.specs.List.{AllByRecursion, list_any}
+use Rattle.std.proofs.lemmas.Bool.{cases_eq, false≢true}
 use Rattle.std.proofs.lemmas.List.Elements.{All-from_recursion}
 use Rattle.tier_core.specs.declared.sym.Sym.{Sym}
 use Rattle.tier_core.proofs.CountLemmas.{all_weaker}
-use Rattle.tier_core.specs.declared.event.Event.{Event}
-use Rattle.violation.specs.Conditions.{AreDistinct, AreTiersBelow}
+use Rattle.violation.specs.Conditions.{AreDistinct}
 use Rattle.violation.specs.Moves.{flag_of}
 
 -- functions that agree on each element give one list
@@ -85,8 +84,3 @@ given_in (x ∷ xs) (s ∷ column) other d l =
     ∙ ap (λ ys. s ∷ ys)
     (map_agree _ _ xs (all_weaker (λ t. x ≢ t) _ xs (λ t n. ap (λ b. cond b s (given xs column (other t) t)) (ne_eqb x t n)) d.0)
     ∙ given_in xs column other d.1 (omega arith))
-
--- tiers that are tested to be below a width are below it
-pub tiers_lower : (n : ℕ) (es : List Event) → list_all (λ e. nat_lt e.tier n) es ≡ true → AreTiersBelow n es
-tiers_lower n [] h = tt
-tiers_lower n (e ∷ es) h = let parts = and_parts (nat_lt e.tier n) (list_all (λ e. nat_lt e.tier n) es) h in (ltb-true e.tier n parts.0, tiers_lower n es parts.1)

@@ -1,4 +1,3 @@
-pub mod Puts
 pub mod Bytes
 pub mod Lines
 pub mod Counts

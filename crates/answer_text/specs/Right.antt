@@ -6,7 +6,7 @@ use Rattle.std.specs.Cmp.Lexicographic.{slice_cmp}
 use Rattle.std.specs.declared.cmp.Ordering.{Ordering}
 use Rattle.tier_core.specs.declared.sym.Sym.{Sym}
 use Rattle.tier_core.specs.declared.constraint.Constraint.{Constraint}
-use Rattle.tier_core.specs.Classes.{has, sets_of, AreApart}
+use Rattle.tier_core.specs.Classes.{has, sets_of, AreDisjoint}
 use Rattle.tier_core.specs.Orders.{IsFirst}
 use Rattle.tier_core.specs.Tiers.{Tiers}
 use Rattle.tier_core.specs.Kinds.{PrefixKind, prefix_kind}
@@ -47,7 +47,7 @@ arc_cmp a b = ordering_then (nat_cmp a.target b.target) (slice_cmp nat_cmp (sets
 -- The arcs of one state: no column is in two of them, each holds some column, has the grammar's
 -- width and leads to a state, and they are in order.
 pub record AreRightArcs (width : ℕ) (states : List ℕ) (arcs : List ArcLine) : Type 0 where
-  pub apart : AllPairs (λ a b. AreApart a.class b.class) arcs
+  pub apart : AllPairs (λ a b. AreDisjoint a.class b.class) arcs
   pub filled : All (λ arc. (column : List Sym) × IsTrue (has arc.class column)) arcs
   pub one_width : All (λ arc. length (sets_of arc.class) ≡ width) arcs
   pub targets : All (λ arc. Contains states arc.target) arcs

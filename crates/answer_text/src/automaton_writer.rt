@@ -6,8 +6,7 @@ ghost use Rattle.answer_text.specs.Text.{arc_line, automaton_lines, final_mark, 
 
 use crate::automaton::{ArcLine, StateLine};
 use crate::class::put_class;
-use crate::number::put_number;
-use outside::{Sink, Waiting, WriteErr};
+use outside::{Sink, Waiting, WriteErr, put_number};
 
 /// What a line of a state says of whether it is final.
 fn final_mark(accepting: bool) -> &'static [u8]

@@ -6,24 +6,15 @@ ghost use Rattle.tier_core.specs.Kinds.{phase_by_bits, prefix_kind};
 ghost use Rattle.tier_core.specs.Tiers.{has_tier};
 ghost use Rattle.answer_text.specs.Text.{kind_text, open_byte, phase_byte};
 
-use crate::number::put_decimal;
-use outside::{Sink, Waiting, WriteErr};
-use tier_core::Kind;
-
-/// Whether the bit of a place is set in a mask.
-fn is_set(mask: u32, place: usize) -> bool
-    requires { place < 32 }
-    ensures { result ≡ has_tier mask place }
-{
-    (mask >> place) & 1 == 1
-}
+use outside::{Sink, Waiting, WriteErr, put_decimal};
+use tier_core::{Kind, has_bit};
 
 /// The byte of a free tier.
 fn open_byte(opened: u16, tier: usize) -> u8
     requires { tier < 32 }
     ensures { result ≡ open_byte (has_tier opened tier) }
 {
-    if is_set(opened as u32, tier) {
+    if has_bit(opened as u32, tier as u32) {
         b'+'
     } else {
         b'-'
@@ -35,9 +26,9 @@ fn phase_byte(kind: &Kind, place: usize) -> u8
     requires { place < 32 }
     ensures { result ≡ phase_byte (phase_by_bits (has_tier kind.now.unmet place) (has_tier kind.now.met place)) }
 {
-    if is_set(kind.met, place) {
+    if has_bit(kind.met, place as u32) {
         b'm'
-    } else if is_set(kind.unmet, place) {
+    } else if has_bit(kind.unmet, place as u32) {
         b'u'
     } else {
         b'.'

@@ -5,10 +5,9 @@ ghost use Rattle.answer_text.specs.Shape.{widths_of};
 ghost use Rattle.answer_text.specs.Text.{line, lines_text, node_line, stage_lines, stages_lines};
 
 use crate::kind::put_kind;
-use crate::number::put_number;
 use crate::stage::{Node, Stage};
 use crate::widths::free_count;
-use outside::{Sink, Waiting, WriteErr};
+use outside::{Sink, Waiting, WriteErr, put_number};
 use tier_core::Shape;
 
 /// Puts the line of a node.

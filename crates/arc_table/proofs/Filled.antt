@@ -14,45 +14,16 @@ use Rattle.tier_core.specs.Symbols.{rank, symbols}
 use Rattle.tier_core.specs.Sets.{is_in}
 use Rattle.tier_core.specs.Classes.{sets_of, sets_have, has}
 use Rattle.tier_core.specs.Orders.{sym_cmp, column_cmp}
+use Rattle.tier_core.proofs.SetLemmas.{any_of}
 use Rattle.arc_table.specs.Conditions.{is_filled}
 use Rattle.arc_table.specs.FirstColumn.{first_sym, first_column}
-
--- a symbol of a set is one of the five
-some_in : (set : ℕ) (s : Sym) → is_in set s ≡ true → list_any (is_in set) symbols ≡ true
-some_in set Outside e = rw e refl
-some_in set Inside e = go (is_in set Outside)
-  where
-    go : (a : Bool) → (a || (is_in set Inside || (is_in set Start || (is_in set End || (is_in set Both || false))))) ≡ true
-    go true = refl
-    go false = rw e refl
-some_in set Start e = go (is_in set Outside) (is_in set Inside)
-  where
-    go : (a b : Bool) → (a || (b || (is_in set Start || (is_in set End || (is_in set Both || false))))) ≡ true
-    go true b = refl
-    go false true = refl
-    go false false = rw e refl
-some_in set End e = go (is_in set Outside) (is_in set Inside) (is_in set Start)
-  where
-    go : (a b c : Bool) → (a || (b || (c || (is_in set End || (is_in set Both || false))))) ≡ true
-    go true b c = refl
-    go false true c = refl
-    go false false true = refl
-    go false false false = rw e refl
-some_in set Both e = go (is_in set Outside) (is_in set Inside) (is_in set Start) (is_in set End)
-  where
-    go : (a b c d : Bool) → (a || (b || (c || (d || (is_in set Both || false))))) ≡ true
-    go true b c d = refl
-    go false true c d = refl
-    go false false true d = refl
-    go false false false true = refl
-    go false false false false = rw e refl
 
 sets_filled : (sets : List ℕ) (column : List Sym) → sets_have sets column ≡ true → list_all (λ set. list_any (is_in set) symbols) sets ≡ true
 sets_filled [] column e = refl
 sets_filled (x ∷ xs) [] e = absurd (false≢true e)
 sets_filled (x ∷ xs) (s ∷ ss) e =
     let parts = and_parts (is_in x s) (sets_have xs ss) e in
-    and_from (list_any (is_in x) symbols) (list_all (λ set. list_any (is_in set) symbols) xs) (some_in x s parts.0) (sets_filled xs ss parts.1)
+    and_from (list_any (is_in x) symbols) (list_all (λ set. list_any (is_in set) symbols) xs) (any_of (is_in x) s parts.0) (sets_filled xs ss parts.1)
 
 -- a class that holds a column is filled
 pub filled_from : (class : Class) (column : List Sym) → has class column ≡ true → is_filled class ≡ true

@@ -5,11 +5,11 @@ use Rattle.std.proofs.lemmas.Bool.{cases_order}
 use Rattle.std.proofs.lemmas.List.{get_or_default}
 use Rattle.weight_law.specs.declared.Weight.{Ghosts}
 use Rattle.tier_core.specs.declared.sym.Sym.{Sym}
-use Rattle.tier_core.specs.Classes.{has}
+use Rattle.tier_core.specs.Classes.{has, AreDisjoint}
 use Rattle.arc_table.specs.declared.arc.TableArc.{TableArc}
 use Rattle.arc_table.specs.declared.state.TableState.{TableState}
 use Rattle.arc_table.specs.Moves.{moves_at}
-use Rattle.arc_table.specs.Conditions.{AreDisjoint, ClassesDisjoint}
+use Rattle.arc_table.specs.Conditions.{ClassesDisjoint}
 use Rattle.arc_table.specs.Runs.{IsRun, Reads}
 
 module _ {V : Type 0} {h : Ghosts V} where

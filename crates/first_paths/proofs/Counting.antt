@@ -10,11 +10,11 @@ use Rattle.weight_law.specs.declared.count.Count.{Count}
 use Rattle.weight_law.specs.Meaning.{IsLawful, AtMost}
 use Rattle.weight_law.specs.Count.{count_meaning}
 use Rattle.tier_core.specs.declared.class.Class.{Class}
-use Rattle.tier_core.specs.Classes.{sets_of}
+use Rattle.tier_core.specs.Classes.{sets_of, AreDisjoint}
 use Rattle.arc_table.specs.declared.arc.TableArc.{TableArc}
 use Rattle.arc_table.specs.declared.state.TableState.{TableState}
 use Rattle.arc_table.specs.Moves.{moves_at}
-use Rattle.arc_table.specs.Conditions.{AreDisjoint, is_filled, TargetsExist, ClassesDisjoint, ClassesFilled, OneWidth}
+use Rattle.arc_table.specs.Conditions.{is_filled, TargetsExist, ClassesDisjoint, ClassesFilled, OneWidth}
 use Rattle.arc_table.specs.Runs.{IsRun, weight_of, SizesWithin}
 use Rattle.arc_table.proofs.Push.{moves_exist}
 use Rattle.distances.specs.Least.{AreLeast}

@@ -5,7 +5,7 @@ use Rattle.std.specs.List.{list_any, list_all}
 use Rattle.std.specs.Map.{lookup}
 use Rattle.std.specs.Str.{IsUtf8}
 use Rattle.std.specs.Cmp.Lexicographic.{pointwise}
-use Rattle.std.proofs.lemmas.Bool.{false≢true}
+use Rattle.std.proofs.lemmas.Bool.{false≢true, or_parts}
 use Rattle.std.proofs.lemmas.Bool.Decides.{nat_tests}
 use Rattle.std.proofs.lemmas.List.{map-append, length-map, take_more, take_more_set, drop_more}
 use Rattle.std.specs.String.{string_bytes}
@@ -20,12 +20,8 @@ use Rattle.grammar_reader.specs.Canonical.{names_in}
 use Rattle.grammar_reader.specs.Values.{is_named, NamedTier, NamedConstraint, GrammarValue, inputs_of, free_of}
 use Rattle.grammar_reader.specs.Seen.{tier_seen, tiers_seen, tiers_by, constraint_seen}
 use Rattle.grammar_reader.proofs.Known.{known_any}
-use Rattle.grammar_reader.proofs.Twice.{or_none}
+use Rattle.grammar_reader.proofs.Lexing.{none_of}
 use denote.Ref.{Bor}
-
-none_of : {X : Type 0} (o : Option X) → is_some o ≡ false → o ≡ None
-none_of None h = refl
-none_of (Some x) h = cc
 
 -- a name that no tier has is no key
 pub absent_by : (name : List ℕ) (es : List (Bor (List ℕ) × TierKind)) → list_any (is_named name) (tiers_seen es) ≡ false → lookup (λ k. pointwise nat_eq name k.now) es ≡ None
@@ -39,8 +35,8 @@ tier_added es new name kind e = ap tiers_seen e ∙ map-append tier_seen es ((na
 pub room_for : (es : List (Bor (List ℕ) × TierKind)) (a b : Bool) → (nat_le 12 (length (tiers_seen es)) || a || b) ≡ false → length es < 12
 room_for es a b h =
     let n = length-map es tier_seen in
-    let x = or_none (nat_le 12 (length (tiers_seen es)) || a) b h in
-    let y = or_none (nat_le 12 (length (tiers_seen es))) a x.0 in
+    let x = or_parts (nat_le 12 (length (tiers_seen es)) || a) b h in
+    let y = or_parts (nat_le 12 (length (tiers_seen es))) a x.0 in
     grind (arith, nat_tests, y.0)
 
 abbrev pub grammar_with : List Letter → List NamedConstraint → List NamedTier → GrammarValue

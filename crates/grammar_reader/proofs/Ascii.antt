@@ -6,13 +6,13 @@ use Rattle.std.specs.Str.{IsUtf8, IsAscii}
 use Rattle.std.proofs.lemmas.Bool.Decides.{nat_tests}
 use Rattle.std.proofs.lemmas.Str.{IsUtf8-from_ascii}
 use Rattle.std.specs.Map.{keys_of}
+use Rattle.std.proofs.lemmas.Bool.{and_parts}
 use Rattle.tier_core.specs.declared.tier.TierKind.{TierKind}
 use Rattle.grammar_reader.specs.Pieces.{is_word_byte}
 use Rattle.grammar_reader.specs.Statements.{is_connective}
 use Rattle.grammar_reader.specs.Names.{is_name, begins_with_letter}
 use Rattle.grammar_reader.specs.Seen.{tier_seen, tiers_seen, tiers_by}
 use Rattle.grammar_reader.specs.Values.{NamedTier}
-use Rattle.grammar_reader.proofs.Lawful.{and_both}
 use denote.Ref.{Bor}
 
 byte_below : (b : ℕ) → is_word_byte b ≡ true → b < 128
@@ -20,8 +20,8 @@ byte_below b h = grind (arith, nat_tests)
 
 ascii_at : (w : List ℕ) (i : ℕ) → list_all is_word_byte w ≡ true → get_or w i 0 < 128
 ascii_at [] i h = omega arith
-ascii_at (b ∷ w) zero h = byte_below b ((and_both (is_word_byte b) (list_all is_word_byte w) h).0)
-ascii_at (b ∷ w) (suc i) h = ascii_at w i ((and_both (is_word_byte b) (list_all is_word_byte w) h).1)
+ascii_at (b ∷ w) zero h = byte_below b ((and_parts (is_word_byte b) (list_all is_word_byte w) h).0)
+ascii_at (b ∷ w) (suc i) h = ascii_at w i ((and_parts (is_word_byte b) (list_all is_word_byte w) h).1)
 
 -- what makes a word a name
 pub record Name (w : List ℕ) : Type 0 where
@@ -32,9 +32,9 @@ pub record Name (w : List ℕ) : Type 0 where
 
 pub name_parts : (w : List ℕ) → is_name w ≡ true → Name w
 name_parts w h =
-    let a = and_both (nat_le (length w) 32 && begins_with_letter w && list_all is_word_byte w) (not (is_connective w)) h in
-    let b = and_both (nat_le (length w) 32 && begins_with_letter w) (list_all is_word_byte w) a.0 in
-    let c = and_both (nat_le (length w) 32) (begins_with_letter w) b.0 in
+    let a = and_parts (nat_le (length w) 32 && begins_with_letter w && list_all is_word_byte w) (not (is_connective w)) h in
+    let b = and_parts (nat_le (length w) 32 && begins_with_letter w) (list_all is_word_byte w) a.0 in
+    let c = and_parts (nat_le (length w) 32) (begins_with_letter w) b.0 in
     record { short = c.0; begins = c.1; bytes = b.1; other = a.1 }
 
 pub name_utf8 : (w : List ℕ) → is_name w ≡ true → IsUtf8 w
@@ -43,8 +43,8 @@ name_utf8 w h = IsUtf8-from_ascii w (λ i. ascii_at w i (name_parts w h).bytes)
 -- each key of the map of tiers is a name
 pub key_name : (es : List (Bor (List ℕ) × TierKind)) (i : ℕ) (d : Bor (List ℕ)) → i < length (keys_of es) → list_all (λ t. is_name t.name) (tiers_seen es) ≡ true → is_name (get_or (keys_of es) i d).now ≡ true
 key_name [] i d l h = absurd (omega arith)
-key_name (e ∷ es) zero d l h = (and_both (is_name e.0.now) (list_all (λ t. is_name t.name) (tiers_seen es)) h).0
-key_name (e ∷ es) (suc i) d l h = key_name es i d (omega arith) ((and_both (is_name e.0.now) (list_all (λ t. is_name t.name) (tiers_seen es)) h).1)
+key_name (e ∷ es) zero d l h = (and_parts (is_name e.0.now) (list_all (λ t. is_name t.name) (tiers_seen es)) h).0
+key_name (e ∷ es) (suc i) d l h = key_name es i d (omega arith) ((and_parts (is_name e.0.now) (list_all (λ t. is_name t.name) (tiers_seen es)) h).1)
 
 -- tiers by the names and kinds of tiers
 pub tiers_back : (ts : List NamedTier) → tiers_by (map (λ t. t.name) ts) (map (λ t. t.kind) ts) ≡ ts

@@ -4,7 +4,7 @@ use Rattle.std.specs.Prelude.{nat_le, nat_lt, IsTrue}
 use Rattle.std.specs.List.{list_any, list_all, find, position_or_len}
 use Rattle.std.specs.Option.{option_map_or}
 use Rattle.std.specs.Str.{bytes_eq}
-use Rattle.std.proofs.lemmas.Bool.{false≢true}
+use Rattle.std.proofs.lemmas.Bool.{false≢true, and_parts, and_from, or_parts, or_from}
 use Rattle.std.proofs.lemmas.Bool.Decides.{nat_tests}
 use Rattle.std.proofs.lemmas.List.{map-append, length-map}
 use Rattle.std.proofs.lemmas.List.Elements.{filter-append}
@@ -15,6 +15,7 @@ use Rattle.tier_core.specs.declared.tier.TierKind.{TierKind}
 use Rattle.tier_core.specs.declared.tier.TierKind.TheVariants.{Input, Overt, Hidden}
 use Rattle.tier_core.specs.Tiers.{is_input, is_free}
 use Rattle.timeline_text.specs.declared.letter.Letter.{Letter}
+use Rattle.timeline_text.proofs.Searches.{by_test}
 use Rattle.grammar_reader.specs.Pieces.{lines_of}
 use Rattle.grammar_reader.specs.Statements.{Statement, tier, letter, constraint, NamedEvent}
 use Rattle.grammar_reader.specs.Names.{is_name, is_letter_byte, has_twice}
@@ -23,16 +24,9 @@ use Rattle.grammar_reader.specs.Reading.{nothing, has_bad_name, is_twice_named, 
 use Rattle.grammar_reader.specs.declared.grammar_err.GrammarCause.{GrammarCause}
 use Rattle.grammar_reader.specs.declared.grammar_err.GrammarCause.TheVariants.{BadName, TwiceNamed, UnknownTier, NotInput, TooManyTiers, TooManyConstraints, TooManyEvents}
 use Rattle.grammar_reader.proofs.Lists.{list_any-map}
-use Rattle.grammar_reader.proofs.Twice.{by_test, or_none, or_both, once_push}
+use Rattle.grammar_reader.proofs.Twice.{once_push}
 
 -- ---- tests
-
-pub and_both : (a b : Bool) → (a && b) ≡ true → (a ≡ true) × (b ≡ true)
-and_both true b h = (refl, h)
-and_both false b h = absurd (false≢true h)
-
-pub and_make : (a b : Bool) → a ≡ true → b ≡ true → (a && b) ≡ true
-and_make a b e f = cc
 
 pub not_false : (b : Bool) → not b ≡ false → b ≡ true
 not_false true h = refl
@@ -40,10 +34,10 @@ not_false false h = cc
 
 pub all_weaker : {X : Type 0} (p q : X → Bool) (xs : List X) → ((x : X) → p x ≡ true → q x ≡ true) → list_all p xs ≡ true → list_all q xs ≡ true
 all_weaker p q [] k h = refl
-all_weaker p q (x ∷ xs) k h = let e = and_both (p x) (list_all p xs) h in and_make (q x) (list_all q xs) (k x e.0) (all_weaker p q xs k e.1)
+all_weaker p q (x ∷ xs) k h = let e = and_parts (p x) (list_all p xs) h in and_from (q x) (list_all q xs) (k x e.0) (all_weaker p q xs k e.1)
 
 pub all_push : {X : Type 0} (p : X → Bool) (xs : List X) (x : X) → list_all p xs ≡ true → p x ≡ true → list_all p (xs ++ x ∷ []) ≡ true
-all_push p xs x h k = list_all-append p xs (x ∷ []) ∙ and_make (list_all p xs) (p x && true) h (and_make (p x) true k refl)
+all_push p xs x h k = list_all-append p xs (x ∷ []) ∙ and_from (list_all p xs) (p x && true) h (and_from (p x) true k refl)
 
 -- no row of the table of causes comes
 record NoRow (t : Bool) (rows : List (Bool × GrammarCause)) : Type 0 where
@@ -107,15 +101,15 @@ cause_none g s n =
 
 -- masks and numbers of tiers stay within more tiers
 sound_within : (m n : ℕ) (l : Letter) → 2 ^ m ≤ 2 ^ n → has_sound m l ≡ true → has_sound n l ≡ true
-sound_within m n l k h = let e = and_both (nat_lt 0 l.tiers) (nat_lt l.tiers (2 ^ m)) h in and_make (nat_lt 0 l.tiers) (nat_lt l.tiers (2 ^ n)) e.0 (grind (arith, nat_tests, e.1))
+sound_within m n l k h = let e = and_parts (nat_lt 0 l.tiers) (nat_lt l.tiers (2 ^ m)) h in and_from (nat_lt 0 l.tiers) (nat_lt l.tiers (2 ^ n)) e.0 (grind (arith, nat_tests, e.1))
 
 side_within : (m n : ℕ) (es : List Event) → m ≤ n → is_side m es ≡ true → is_side n es ≡ true
 side_within m n es k h =
-    let e = and_both (nat_le 1 (length es) && nat_le (length es) 8) (list_all (λ x. nat_lt x.tier m) es) h in
-    and_make (nat_le 1 (length es) && nat_le (length es) 8) (list_all (λ x. nat_lt x.tier n) es) e.0 (all_weaker (λ x. nat_lt x.tier m) (λ x. nat_lt x.tier n) es (λ x t. grind (arith, nat_tests)) e.1)
+    let e = and_parts (nat_le 1 (length es) && nat_le (length es) 8) (list_all (λ x. nat_lt x.tier m) es) h in
+    and_from (nat_le 1 (length es) && nat_le (length es) 8) (list_all (λ x. nat_lt x.tier n) es) e.0 (all_weaker (λ x. nat_lt x.tier m) (λ x. nat_lt x.tier n) es (λ x t. grind (arith, nat_tests)) e.1)
 
 sides_within : (m n : ℕ) (c : NamedConstraint) → m ≤ n → has_sides m c ≡ true → has_sides n c ≡ true
-sides_within m n c k h = let e = and_both (is_side m c.left) (is_side m c.right) h in and_make (is_side n c.left) (is_side n c.right) (side_within m n c.left k e.0) (side_within m n c.right k e.1)
+sides_within m n c k h = let e = and_parts (is_side m c.left) (is_side m c.right) h in and_from (is_side n c.left) (is_side n c.right) (side_within m n c.left k e.0) (side_within m n c.right k e.1)
 
 pow_more : (m n : ℕ) → m ≤ n → n ≤ m + 1 → 2 ^ m ≤ 2 ^ n
 pow_more m n k l = by_test (nat_lt m n) (λ e. let same : n ≡ suc m = grind (arith, nat_tests) in subst (λ (x : ℕ). 2 ^ m ≤ 2 ^ x) (sym same) (omega arith)) (λ e. let same : n ≡ m = grind (arith, nat_tests) in subst (λ (x : ℕ). 2 ^ m ≤ 2 ^ x) (sym same) (omega arith))
@@ -131,8 +125,8 @@ record Fits (tiers : List NamedTier) (t : NamedTier) : Type 0 where
 kind_fits : (tiers : List NamedTier) (name : List ℕ) (kind : TierKind) → length (inputs_of tiers) ≤ 6 → length (free_of tiers) ≤ 8
     → (nat_le 12 (length tiers) || (is_input kind && nat_le 6 (length (inputs_of tiers))) || (is_free kind && nat_le 8 (length (free_of tiers)))) ≡ false → Fits tiers (record { name = name; kind = kind })
 kind_fits tiers name kind i f h =
-    let a = or_none (nat_le 12 (length tiers) || (is_input kind && nat_le 6 (length (inputs_of tiers)))) (is_free kind && nat_le 8 (length (free_of tiers))) h in
-    let b = or_none (nat_le 12 (length tiers)) (is_input kind && nat_le 6 (length (inputs_of tiers))) a.0 in
+    let a = or_parts (nat_le 12 (length tiers) || (is_input kind && nat_le 6 (length (inputs_of tiers)))) (is_free kind && nat_le 8 (length (free_of tiers))) h in
+    let b = or_parts (nat_le 12 (length tiers)) (is_input kind && nat_le 6 (length (inputs_of tiers))) a.0 in
     by_kind kind b.0 b.1 a.1
   where
     by_kind : (kind : TierKind) → nat_le 12 (length tiers) ≡ false → (is_input kind && nat_le 6 (length (inputs_of tiers))) ≡ false → (is_free kind && nat_le 8 (length (free_of tiers))) ≡ false → Fits tiers (record { name = name; kind = kind })
@@ -207,7 +201,7 @@ input_found (t ∷ tiers) name h = by_test (is_named name t)
 mask_some : (ts : List NamedTier) (name : List ℕ) (names : List (List ℕ)) → list_any (is_named name) ts ≡ true → 0 < mask_of ts (name ∷ names)
 mask_some [] name names h = absurd (false≢true h)
 mask_some (t ∷ ts) name names h = bit_some (is_named name t || list_any (λ n. is_named n t) names) (mask_of ts (name ∷ names))
-    (λ e. mask_some ts name names (let a = or_none (is_named name t) (list_any (λ n. is_named n t) names) e in sym (ap (λ b. b || list_any (is_named name) ts) a.0) ∙ h))
+    (λ e. mask_some ts name names (let a = or_parts (is_named name t) (list_any (λ n. is_named n t) names) e in sym (ap (λ b. b || list_any (is_named name) ts) a.0) ∙ h))
 
 one_byte : (x : List ℕ) → is_letter_byte x ≡ true → x ≡ first_byte x ∷ []
 one_byte [] h = absurd (false≢true h)
@@ -218,16 +212,16 @@ sound_made : (tiers : List NamedTier) (x : List ℕ) (name : List ℕ) (names : 
 sound_made tiers x name names h =
     let some = mask_some (inputs_of tiers) name names (input_found tiers name h) in
     let below = mask_below (inputs_of tiers) (name ∷ names) in
-    and_make (nat_lt 0 (mask_of (inputs_of tiers) (name ∷ names))) (nat_lt (mask_of (inputs_of tiers) (name ∷ names)) (2 ^ length (inputs_of tiers))) (grind (arith, nat_tests)) (grind (arith, nat_tests))
+    and_from (nat_lt 0 (mask_of (inputs_of tiers) (name ∷ names))) (nat_lt (mask_of (inputs_of tiers) (name ∷ names)) (2 ^ length (inputs_of tiers))) (grind (arith, nat_tests)) (grind (arith, nat_tests))
 
 -- a letter without a cause
 pub letter_made : (g : GrammarValue) (x name : List ℕ) (names : List (List ℕ)) → IsMade g → NoCause g (letter x (name ∷ names)) → IsMade (with_statement g (letter x (name ∷ names)))
 letter_made g x name names m n =
     let l : Letter = record { byte = first_byte x; tiers = mask_of (inputs_of g.tiers) (name ∷ names) } in
-    let a = or_none (not (is_letter_byte x)) (list_any (λ w. not (is_name w)) (name ∷ names)) n.names in
+    let a = or_parts (not (is_letter_byte x)) (list_any (λ w. not (is_name w)) (name ∷ names)) n.names in
     let is = one_byte x (not_false (is_letter_byte x) a.0) in
-    let b = or_none (list_any (λ k. bytes_eq x (letter_name k)) g.letters) (has_twice (name ∷ names)) n.once in
-    let c = or_none (not (is_input_named g.tiers name)) (list_any (λ w. not (is_input_named g.tiers w)) names) n.inputs in
+    let b = or_parts (list_any (λ k. bytes_eq x (letter_name k)) g.letters) (has_twice (name ∷ names)) n.once in
+    let c = or_parts (not (is_input_named g.tiers name)) (list_any (λ w. not (is_input_named g.tiers w)) names) n.inputs in
     record {
       tier_names = m.tier_names;
       tiers_once = m.tiers_once;
@@ -260,15 +254,15 @@ number_below tiers name h = let l = place_below tiers name h in grind (arith, na
 numbers_below : (tiers : List NamedTier) (es : List NamedEvent) → list_any (λ e. is_unknown tiers e.tier) es ≡ false → list_all (λ e. nat_lt e.tier (length tiers)) (map (numbered tiers) es) ≡ true
 numbers_below tiers [] h = refl
 numbers_below tiers (e ∷ es) h =
-    let a = or_none (is_unknown tiers e.tier) (list_any (λ x. is_unknown tiers x.tier) es) h in
+    let a = or_parts (is_unknown tiers e.tier) (list_any (λ x. is_unknown tiers x.tier) es) h in
     let l = number_below tiers e.tier (not_false (list_any (is_named e.tier) tiers) a.0) in
-    and_make (nat_lt (number_of tiers e.tier) (length tiers)) (list_all (λ x. nat_lt x.tier (length tiers)) (map (numbered tiers) es)) (grind (arith, nat_tests)) (numbers_below tiers es a.1)
+    and_from (nat_lt (number_of tiers e.tier) (length tiers)) (list_all (λ x. nat_lt x.tier (length tiers)) (map (numbered tiers) es)) (grind (arith, nat_tests)) (numbers_below tiers es a.1)
 
 side_made : (tiers : List NamedTier) (es : List NamedEvent) → 0 < length es → nat_lt 8 (length es) ≡ false → list_any (λ e. is_unknown tiers e.tier) es ≡ false → is_side (length tiers) (map (numbered tiers) es) ≡ true
 side_made tiers es some few known =
     let n = length-map es (numbered tiers) in
-    and_make (nat_le 1 (length (map (numbered tiers) es)) && nat_le (length (map (numbered tiers) es)) 8) (list_all (λ e. nat_lt e.tier (length tiers)) (map (numbered tiers) es))
-    (and_make (nat_le 1 (length (map (numbered tiers) es))) (nat_le (length (map (numbered tiers) es)) 8) (grind (arith, nat_tests)) (grind (arith, nat_tests)))
+    and_from (nat_le 1 (length (map (numbered tiers) es)) && nat_le (length (map (numbered tiers) es)) 8) (list_all (λ e. nat_lt e.tier (length tiers)) (map (numbered tiers) es))
+    (and_from (nat_le 1 (length (map (numbered tiers) es))) (nat_le (length (map (numbered tiers) es)) 8) (grind (arith, nat_tests)) (grind (arith, nat_tests)))
     (numbers_below tiers es known)
 
 -- a constraint without a cause
@@ -276,8 +270,8 @@ pub constraint_made : (g : GrammarValue) (name : List ℕ) (family : _) (left ri
     → IsMade (with_statement g (constraint name family left right))
 constraint_made g name family left right some_left some_right m n =
     let c : NamedConstraint = record { name = name; family = family; left = map (numbered g.tiers) left; right = map (numbered g.tiers) right } in
-    let k = or_none (list_any (λ e. is_unknown g.tiers e.tier) left) (list_any (λ e. is_unknown g.tiers e.tier) right) n.known in
-    let e = or_none (nat_lt 8 (length left)) (nat_lt 8 (length right)) n.events in
+    let k = or_parts (list_any (λ e. is_unknown g.tiers e.tier) left) (list_any (λ e. is_unknown g.tiers e.tier) right) n.known in
+    let e = or_parts (nat_lt 8 (length left)) (nat_lt 8 (length right)) n.events in
     record {
       tier_names = m.tier_names;
       tiers_once = m.tiers_once;
@@ -291,7 +285,7 @@ constraint_made g name family left right some_left some_right m n =
       constraints_once = ap has_twice (map-append (λ x. x.name) g.constraints (c ∷ [])) ∙ once_push (map (λ x. x.name) g.constraints) name m.constraints_once (list_any-map (bytes_eq name) (λ x. x.name) g.constraints ∙ n.once);
       few_constraints = let few : nat_le 24 (length g.constraints) ≡ false = n.constraints in let a = length-append g.constraints (c ∷ []) in grind (arith, nat_tests);
       sides = all_push (has_sides (length g.tiers)) g.constraints c m.sides
-          (and_make (is_side (length g.tiers) c.left) (is_side (length g.tiers) c.right) (side_made g.tiers left some_left e.0 k.0) (side_made g.tiers right some_right e.1 k.1));
+          (and_from (is_side (length g.tiers) c.left) (is_side (length g.tiers) c.right) (side_made g.tiers left some_left e.0 k.0) (side_made g.tiers right some_right e.1 k.1));
     }
 
 pub nothing_made : IsMade nothing

@@ -7,6 +7,7 @@ use Rattle.std.proofs.lemmas.List.Splits.{length-slice_split}
 use Rattle.tier_core.specs.Tiers.{is_input, is_overt}
 use Rattle.tier_core.specs.declared.constraint.Family.{Family}
 use Rattle.tier_core.specs.declared.constraint.Family.TheVariants.{Implication, Clash}
+use Rattle.timeline_text.proofs.Searches.{by_test}
 use Rattle.grammar_reader.specs.Pieces.{lines_of, parts_of, Lexeme, opens, closes, equals, clash, implies, word, lexeme_of}
 use Rattle.grammar_reader.specs.Statements.{Statement, tier, letter, constraint, NamedEvent, each_some, word_of, is_the_word, is_header, is_sign, event_of, events_of, joined_by, sides, sides_of, kind_of, tier_line, letter_line, constraint_line, statement_of}
 use Rattle.grammar_reader.specs.Said.{HasParts}
@@ -15,7 +16,6 @@ use Rattle.grammar_reader.specs.Reading.{nothing, cause_of, with_statement, afte
 use Rattle.grammar_reader.specs.Reading.{At}
 use Rattle.grammar_reader.specs.declared.grammar_err.GrammarCause.{GrammarCause}
 use Rattle.grammar_reader.specs.declared.grammar_err.GrammarCause.TheVariants.{NoInput, NoOvert}
-use Rattle.grammar_reader.proofs.Twice.{by_test}
 use Rattle.grammar_reader.proofs.Lawful.{not_false, no_cause, tier_made, letter_made, constraint_made, nothing_made}
 
 -- ---- what a line says has its parts

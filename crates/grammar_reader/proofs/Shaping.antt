@@ -7,23 +7,16 @@ use Rattle.std.proofs.lemmas.List.FromFn.{length-map-range_with_len, get_or-map-
 use Rattle.std.proofs.lemmas.List.Filters.{length-filter_more}
 use Rattle.tier_core.specs.declared.tier.TierKind.{TierKind}
 use Rattle.tier_core.specs.declared.constraint.Constraint.{Constraint}
-use Rattle.tier_core.specs.Tiers.{is_input, numbers_from}
+use Rattle.tier_core.specs.Tiers.{is_input}
 use Rattle.tier_core.specs.Shapes.{NeverFalls}
-use Rattle.grammar_reader.specs.ShapeOf.{is_stretch, stretch_counts}
+use Rattle.tier_core.specs.Sides.{is_stretch}
+use Rattle.grammar_reader.specs.ShapeOf.{stretch_counts}
 use Rattle.grammar_reader.specs.Values.{inputs_of}
 use Rattle.grammar_reader.specs.Seen.{tiers_by}
 use Rattle.grammar_reader.proofs.Lists.{filter-map, list_any-map}
 
-numbers_one : (t : Bool) (n : ℕ) (ns : List ℕ) (ks : List TierKind) (k : TierKind) → length ns ≡ length ks → length (cond t (n ∷ []) [] ++ ns) ≡ length (cond t (k ∷ ks) ks)
-numbers_one true n ns ks k e = omega arith
-numbers_one false n ns ks k e = e
-
--- as many tiers are numbered as pass
-pub length-numbers_from : (p : TierKind → Bool) (n : ℕ) (kinds : List TierKind) → length (numbers_from p n kinds) ≡ length (filter p kinds)
-length-numbers_from p n [] = refl
-length-numbers_from p n (k ∷ kinds) = numbers_one (p k) n (numbers_from p (suc n) kinds) (filter p kinds) k (length-numbers_from p (suc n) kinds)
-
-kinds_back : (ns : List (List ℕ)) (ks : List TierKind) → length ns ≡ length ks → map (λ t. t.kind) (tiers_by ns ks) ≡ ks
+-- the kinds of named tiers are those of the table
+pub kinds_back : (ns : List (List ℕ)) (ks : List TierKind) → length ns ≡ length ks → map (λ t. t.kind) (tiers_by ns ks) ≡ ks
 kinds_back [] [] l = refl
 kinds_back [] (k ∷ ks) l = absurd (omega arith)
 kinds_back (n ∷ ns) [] l = absurd (omega arith)

@@ -2,31 +2,14 @@
 use Rattle.std.proofs.Common.{◌≡◌, ℕ, ◌+◌, ◌<◌, Bool, true, false, cond, ◌||◌, List, [], ◌∷◌, ◌++◌, length, get_or, take, drop, map, refl, ap, sym, ◌∙◌}
 use Rattle.std.specs.List.{list_any}
 use Rattle.std.specs.Str.{bytes_eq}
-use Rattle.std.proofs.lemmas.Bool.{false≢true}
+use Rattle.std.proofs.lemmas.Bool.{false≢true, or_parts, or_from, or_left, or_right}
 use Rattle.std.proofs.lemmas.Slice.Eq.{bytes_eq-Decides}
 use Rattle.std.proofs.lemmas.List.Folds.{list_any-append}
 use Rattle.std.proofs.lemmas.List.{take-append-drop, take_more, drop_more, map-append}
+use Rattle.timeline_text.proofs.Searches.{by_test}
 use Rattle.grammar_reader.specs.Names.{has_twice}
 use Rattle.grammar_reader.proofs.Lists.{list_any-map}
 use denote.Ref.{Bor}
-
-pub by_test : {X : Type 0} (t : Bool) → (t ≡ true → X) → (t ≡ false → X) → X
-by_test true a b = a refl
-by_test false a b = b refl
-
-pub or_none : (a b : Bool) → (a || b) ≡ false → (a ≡ false) × (b ≡ false)
-or_none true b h = cc
-or_none false b h = (refl, h)
-
-pub or_both : (a b : Bool) → a ≡ false → b ≡ false → (a || b) ≡ false
-or_both a b e f = cc
-
-or_left : (a b : Bool) → a ≡ true → (a || b) ≡ true
-or_left a b e = cc
-
-or_right : (a b : Bool) → b ≡ true → (a || b) ≡ true
-or_right true b e = refl
-or_right false b e = e
 
 pub same_bytes : (m n : List ℕ) → bytes_eq m n ≡ true → bytes_eq n m ≡ true
 same_bytes m n h = (bytes_eq-Decides n m).1 (sym ((bytes_eq-Decides m n).0 h))
@@ -38,10 +21,10 @@ other_bytes m n h = by_test (bytes_eq n m) (λ e. absurd (false≢true (sym h �
 pub once_push : (ns : List (List ℕ)) (n : List ℕ) → has_twice ns ≡ false → list_any (bytes_eq n) ns ≡ false → has_twice (ns ++ n ∷ []) ≡ false
 once_push [] n h k = refl
 once_push (m ∷ ns) n h k =
-    let a = or_none (list_any (bytes_eq m) ns) (has_twice ns) h in
-    let b = or_none (bytes_eq n m) (list_any (bytes_eq n) ns) k in
-    or_both (list_any (bytes_eq m) (ns ++ n ∷ [])) (has_twice (ns ++ n ∷ []))
-    (list_any-append (bytes_eq m) ns (n ∷ []) ∙ or_both (list_any (bytes_eq m) ns) (bytes_eq m n || false) a.0 (or_both (bytes_eq m n) false (other_bytes n m b.0) refl))
+    let a = or_parts (list_any (bytes_eq m) ns) (has_twice ns) h in
+    let b = or_parts (bytes_eq n m) (list_any (bytes_eq n) ns) k in
+    or_from (list_any (bytes_eq m) (ns ++ n ∷ [])) (has_twice (ns ++ n ∷ []))
+    (list_any-append (bytes_eq m) ns (n ∷ []) ∙ or_from (list_any (bytes_eq m) ns) (bytes_eq m n || false) a.0 (or_from (bytes_eq m n) false (other_bytes n m b.0) refl))
     (once_push ns n a.1 b.1)
 
 -- one name more that is there

@@ -10,7 +10,6 @@ ghost use Rattle.grammar_reader.specs.Seen.{tiers_seen};
 ghost use Rattle.grammar_reader.specs.Said.{statement_seen, HasParts};
 ghost use Rattle.grammar_reader.specs.Made.{made_value};
 
-use crate::causes::is_input;
 use crate::event::NamedEvent;
 use crate::lexeme::LineErr;
 use crate::made::{Made, Tiers};
@@ -77,7 +76,7 @@ fn mask_of(tiers: &Tiers<'_>, names: &[&[u8]]) -> u16
     let mut mask = 0;
     let mut bit = 1;
     for (name, kind) in tiers.iter() {
-        if !is_input(*kind) {
+        if !kind.is_input() {
             continue;
         }
         mask += chosen(is_among(name, names), bit);

@@ -1,7 +1,6 @@
 ghost use Rattle.std.specs.Prelude.{◌≡◌, None, map, length, MatchResult};
 ghost use Rattle.std.specs.List.{list_any};
 ghost use Rattle.std.specs.Str.{bytes_eq};
-ghost use Rattle.tier_core.specs.Tiers.{is_input};
 ghost use Rattle.grammar_reader.specs.Names.{has_twice};
 ghost use Rattle.grammar_reader.specs.Values.{is_named, inputs_of, free_of, letter_name};
 ghost use Rattle.grammar_reader.specs.Reading.{has_bad_name, is_twice_named, is_unknown, has_unknown_tier, is_input_named, has_no_input, is_tier_too_many, is_constraint_too_many, has_too_many_events, cause_of};
@@ -18,7 +17,6 @@ use crate::names::{is_letter_byte, is_name};
 use crate::statement::Statement;
 use indexmap::IndexSet;
 use std::alloc::Global;
-use tier_core::TierKind;
 
 /// Whether a word in the place of a name is no name.
 fn has_bad_name(statement: &Statement<'_>) -> bool
@@ -118,7 +116,7 @@ fn is_input_named(tiers: &Tiers<'_>, name: &[u8]) -> bool
     ensures { result ≡ is_input_named (tiers_seen tiers.now.entries) name.now }
 {
     match tiers.get(name) {
-        Some(kind) => is_input(*kind),
+        Some(kind) => kind.is_input(),
         None => false,
     }
 }
@@ -133,24 +131,18 @@ fn has_no_input(made: &Made<'_>, statement: &Statement<'_>) -> bool
     }
 }
 
-pub(crate) fn is_input(kind: TierKind) -> bool
-    ensures { result ≡ is_input kind }
-{
-    kind == TierKind::Input
-}
-
 /// How many tiers are input tiers.
 fn input_count(tiers: &Tiers<'_>) -> usize
     ensures { result ≡ length (inputs_of (tiers_seen tiers.now.entries)) }
 {
-    tiers.values().filter(|kind| is_input(**kind)).count()
+    tiers.values().filter(|kind| kind.is_input()).count()
 }
 
 /// How many tiers are overt or hidden.
 fn free_count(tiers: &Tiers<'_>) -> usize
     ensures { result ≡ length (free_of (tiers_seen tiers.now.entries)) }
 {
-    tiers.values().filter(|kind| !is_input(**kind)).count()
+    tiers.values().filter(|kind| !kind.is_input()).count()
 }
 
 /// Whether this is the 13th tier, the 7th input tier or the 9th free tier.
@@ -160,8 +152,8 @@ fn is_tier_too_many(made: &Made<'_>, statement: &Statement<'_>) -> bool
     match statement {
         Statement::Tier(_, kind) => {
             made.tiers.len() >= 12
-                || is_input(*kind) && input_count(&made.tiers) >= 6
-                || !is_input(*kind) && free_count(&made.tiers) >= 8
+                || kind.is_input() && input_count(&made.tiers) >= 6
+                || !kind.is_input() && free_count(&made.tiers) >= 8
         }
         _ => false,
     }

@@ -5,7 +5,6 @@ ghost use Rattle.grammar_reader.specs.Statements.{joined_by};
 ghost use Rattle.grammar_reader.specs.Words.{texts_of};
 ghost use Rattle.grammar_reader.specs.Seen.{tiers_by, constraint_seen};
 
-use crate::causes::is_input;
 use crate::statement::joined_by;
 use crate::words::Words;
 use std::slice;
@@ -61,7 +60,7 @@ pub(crate) fn letter_words<'a>(tiers: &'a TierTable, letter: &'a Letter) -> Word
     words.push(b"=");
     let mut mask = letter.tiers;
     for (place, kind) in tiers.kinds.iter().enumerate() {
-        if !is_input(*kind) {
+        if !kind.is_input() {
             continue;
         }
         push_where_odd(&mut words, mask, tiers.names[place].as_bytes());

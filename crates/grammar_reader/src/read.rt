@@ -13,7 +13,7 @@ ghost use Rattle.grammar_reader.specs.Made.{made_value, so_far, FailsAt, FailsTe
 ghost use Rattle.grammar_reader.specs.Grammars.{value_of};
 
 use crate::add::add;
-use crate::causes::{check, is_input};
+use crate::causes::check;
 use crate::grammar::Grammar;
 use crate::grammar_err::{GrammarCause, GrammarErr};
 use crate::lexeme::{Lexeme, LineErr, lexemes};
@@ -91,22 +91,16 @@ fn read_lines(alloc: Global, bytes: &[u8]) -> Result<Option<Made<'_>>, GrammarEr
     Ok(state)
 }
 
-fn is_overt(kind: TierKind) -> bool
-    ensures { result ≡ is_overt kind }
-{
-    kind == TierKind::Overt
-}
-
 fn has_input(tiers: &Tiers<'_>) -> bool
     ensures { result ≡ list_any (λ t. is_input t.kind) (tiers_seen tiers.now.entries) }
 {
-    tiers.values().any(|kind| is_input(*kind))
+    tiers.values().any(|kind| kind.is_input())
 }
 
 fn has_overt(tiers: &Tiers<'_>) -> bool
     ensures { result ≡ list_any (λ t. is_overt t.kind) (tiers_seen tiers.now.entries) }
 {
-    tiers.values().any(|kind| is_overt(*kind))
+    tiers.values().any(|kind| kind.is_overt())
 }
 
 fn names_of(alloc: Global, tiers: &Tiers<'_>) -> Result<Vec<String>, GrammarErr>

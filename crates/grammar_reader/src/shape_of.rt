@@ -1,35 +1,9 @@
 ghost use Rattle.std.specs.Prelude.{◌≡◌, ◌≤◌, length, IfOk, if◌then◌else◌};
-ghost use Rattle.grammar_reader.specs.ShapeOf.{IsShapeOf, stretch_counts, is_stretch, is_implication, is_edge_part, has_edge_type};
+ghost use Rattle.grammar_reader.specs.ShapeOf.{IsShapeOf, stretch_counts};
 
 use crate::grammar::Grammar;
 use std::alloc::Global;
-use tier_core::{Constraint, Event, Family, NoMemory, Part, Shape, TierKind};
-
-fn is_edge_part(part: Part) -> bool
-    ensures { result ≡ is_edge_part part }
-{
-    matches!(part, Part::Start | Part::End)
-}
-
-fn is_implication(family: Family) -> bool
-    ensures { result ≡ is_implication family }
-{
-    matches!(family, Family::Implication)
-}
-
-/// Whether one of the types is an edge.
-fn has_edge_type(types: &[Event]) -> bool
-    ensures { result ≡ has_edge_type types.now }
-{
-    types.iter().any(|event| is_edge_part(event.part))
-}
-
-/// Whether a constraint is an implication whose left side has interiors alone.
-fn is_stretch(constraint: &Constraint) -> bool
-    ensures { result ≡ is_stretch constraint.now }
-{
-    is_implication(constraint.family) && !has_edge_type(constraint.left.as_slice())
-}
+use tier_core::{Constraint, NoMemory, Shape, TierKind};
 
 fn one_where(is_stretch: bool) -> u32
     ensures { result ≡ (if is_stretch then 1 else 0) }
@@ -48,7 +22,7 @@ fn phases(alloc: Global, constraints: &[Constraint]) -> Result<Vec<u32>, NoMemor
         return Err(NoMemory);
     }
     for constraint in constraints {
-        count += one_where(is_stretch(constraint));
+        count += one_where(constraint.is_stretch());
         match phases.push(count) {
             Ok(()) => {}
             Err(_) => return Err(NoMemory),

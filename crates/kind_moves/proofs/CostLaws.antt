@@ -8,15 +8,15 @@ use Rattle.tier_core.specs.declared.sym.Sym.{Sym}
 use Rattle.tier_core.specs.declared.constraint.Constraint.{Constraint}
 use Rattle.tier_core.specs.Kinds.{Phase}
 use Rattle.tier_core.specs.Tiers.{Tiers, has_tier}
+use Rattle.tier_core.specs.Sides.{is_stretch}
 use Rattle.tier_core.proofs.CountLemmas.{all_of}
 use Rattle.violation.specs.Candidates.{IsForm, IsCandidate, vec}
 use Rattle.violation.specs.Conditions.{AreSplit, IsOverTiers}
 use Rattle.violation.specs.Counts.{violations_so_far}
 use Rattle.violation.specs.Moves.{costs, first_phase, is_tier_open, is_unmet_phase, move_costs, moved}
 use Rattle.violation.specs.Prefixes.{kind_of, stretches}
-use Rattle.violation.specs.Sides.{is_stretch}
 use Rattle.violation.specs.Walks.{walk_costs, add_each}
-use Rattle.violation.proofs.CostLemmas.{costs_agree, add_assoc_each, length_walk, move_adds, costs_sum}
+use Rattle.violation.proofs.CostLemmas.{costs_agree, add_assoc_each, length_walk, move_adds, costs_sum, add_none}
 use Rattle.violation.proofs.SplitLemmas.{tiers_split}
 use Rattle.violation.proofs.TierLemmas.{map_agree}
 use Rattle.violation.proofs.WalkLemmas.{moved_is}
@@ -89,12 +89,6 @@ module _ (tiers : Tiers) (constraints : List Constraint) (r : ℕ) (u : List (Li
       ∙ ap (λ ns. add_each ns (walk_costs tiers constraints u r (kind_of tiers constraints r (p ++ column ∷ [])) q)) (move_adds tiers constraints r u split form over T p column (q ++ w) e c)
       ∙ add_assoc_each (map (λ c. violations_so_far c T (length p)) (take r constraints)) (move_costs tiers constraints u r (kind_of tiers constraints r p) column) (walk_costs tiers constraints u r (kind_of tiers constraints r (p ++ column ∷ [])) q)
       ∙ ap (λ k. add_each (map (λ c. violations_so_far c T (length p)) (take r constraints)) (add_each (move_costs tiers constraints u r (kind_of tiers constraints r p) column) (walk_costs tiers constraints u r k q))) (sym next)
-
-add_none : (cs : List Constraint) (ns : List ℕ) → length ns ≡ length cs → add_each (map (λ c. 0) cs) ns ≡ ns
-add_none [] [] e = refl
-add_none [] (n ∷ ns) e = absurd (omega arith)
-add_none (c ∷ cs) [] e = absurd (omega arith)
-add_none (c ∷ cs) (n ∷ ns) e = let same : 0 + n ≡ n = omega arith in ap (λ m. m ∷ add_each (map (λ c. 0) cs) ns) same ∙ ap (λ ms. n ∷ ms) (add_none cs ns (omega arith))
 
 module _ (frame : Frame) (stage : ℕ) (start : Kind) (is_first : IsStart frame stage start) where
   split : AreSplit (tiers_in frame)

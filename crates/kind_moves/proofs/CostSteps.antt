@@ -8,9 +8,9 @@ use Rattle.tier_core.specs.declared.sym.Sym.{Sym}
 use Rattle.tier_core.specs.declared.constraint.Constraint.{Constraint}
 use Rattle.tier_core.specs.Kinds.{Phase, closed, phase_by_bits, phase_at, phases}
 use Rattle.tier_core.specs.Tiers.{has_tier}
+use Rattle.tier_core.specs.Sides.{is_stretch}
 use Rattle.tier_core.proofs.KindLemmas.{not_both}
 use Rattle.violation.specs.Moves.{costs, costs_each, first_phase, is_unmet_phase}
-use Rattle.violation.specs.Sides.{is_stretch}
 use Rattle.kind_moves.proofs.MaskSteps.{none_from}
 
 drop_none : (n : ℕ) → drop n (let ps : List Phase = [] in ps) ≡ []

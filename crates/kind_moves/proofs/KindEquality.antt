@@ -9,17 +9,13 @@ use Rattle.std.proofs.lemmas.Nat.Bits.{bit_at-lt, same_from_bits}
 use Rattle.tier_core.specs.declared.kind.Kind.{Kind}
 use Rattle.tier_core.specs.Kinds.{closed, PrefixKind, phase_at, phases}
 use Rattle.tier_core.specs.Tiers.{has_tier}
+use Rattle.tier_core.proofs.KindLemmas.{bit_value}
 use Rattle.violation.specs.Moves.{is_unmet_phase, is_met_phase}
 use Rattle.kind_moves.specs.declared.frame.Frame.{Frame}
 use Rattle.kind_moves.specs.Frames.{tiers_in, stretches_in, kind_at_stage, FitsFrame}
 use Rattle.kind_moves.proofs.CostSteps.{unmet_at}
 use Rattle.kind_moves.proofs.MaskSteps.{none_from}
 use Rattle.kind_moves.proofs.PhaseMaskSteps.{met_told}
-
-bit_value : (n : ℕ) → n < 2 → n ≡ cond (n == 1) 1 0
-bit_value zero l = refl
-bit_value (suc zero) l = refl
-bit_value (suc (suc n)) l = absurd (omega arith)
 
 -- masks with the same tiers below what bounds them are the same
 same_mask : (a b n : ℕ) → a < 2 ^ n → b < 2 ^ n → ((i : ℕ) → i < n → has_tier a i ≡ has_tier b i) → a ≡ b

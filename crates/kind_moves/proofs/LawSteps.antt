@@ -20,7 +20,7 @@ use Rattle.violation.specs.Prefixes.{kind_of, phase}
 use Rattle.violation.specs.Walks.{HasMoves, reached, BeginsCandidate}
 use Rattle.violation.proofs.PrefixLemmas.{nothing_begun, tier_open_is}
 use Rattle.violation.proofs.SplitLemmas.{tiers_split}
-use Rattle.violation.proofs.WalkLemmas.{moves_begin, moves_end, reached_is}
+use Rattle.violation.proofs.WalkLemmas.{moves_begin, moves_end, reached_is, same_kind}
 use Rattle.kind_moves.specs.declared.frame.Frame.{Frame}
 use Rattle.kind_moves.specs.Frames.{tiers_in, constraints_in, form_in, stretches_in, kind_at_stage, is_left_open, AreClosedOr, FitsAt, FitsFrame, IsMove, IsStart}
 use Rattle.kind_moves.specs.Laws.{LeadsTo}
@@ -28,14 +28,6 @@ use Rattle.kind_moves.specs.Phases.{phases_by}
 use Rattle.kind_moves.proofs.GrammarTiers.{over_stretches, form_from}
 use Rattle.kind_moves.proofs.KindBits.{AreBits, bits_of, open_bits, phases_told, phases_apart}
 use Rattle.kind_moves.proofs.MoveSteps.{phases_next, phases_first}
-
--- kinds with the same parts
-same_kind : (m n : ℕ) (os qs : List Bool) (ps rs : List Phase) → m ≡ n → os ≡ qs → ps ≡ rs
-    → (let k : PrefixKind = record { place = m; opened = os; phases = ps } in k) ≡ record { place = n; opened = qs; phases = rs }
-same_kind m n os qs ps rs a b c =
-    ap (λ (x : ℕ). let k : PrefixKind = record { place = x; opened = os; phases = ps } in k) a
-    ∙ ap (λ (x : List Bool). let k : PrefixKind = record { place = n; opened = x; phases = ps } in k) b
-    ∙ ap (λ (x : List Phase). let k : PrefixKind = record { place = n; opened = qs; phases = x } in k) c
 
 none_open : {X : Type 0} (j : ℕ) (xs : List X) → map (has_tier 0) (range_with_len j (length xs)) ≡ map (λ x. false) xs
 none_open j [] = refl

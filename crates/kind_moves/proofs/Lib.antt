@@ -8,4 +8,3 @@ pub mod LawSteps
 pub mod CostSteps
 pub mod CostLaws
 pub mod KindEquality
-pub mod TestLemmas

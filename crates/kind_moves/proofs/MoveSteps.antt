@@ -20,18 +20,9 @@ use Rattle.violation.specs.Conditions.{AreSplit, AreDistinct, AreTiersBelow, IsO
 use Rattle.violation.specs.Moves.{FitsKind, flag_of, form_opened, is_tier_open, input_of, moved, next_phase, next_phases}
 use Rattle.violation.specs.Prefixes.{is_open, phase}
 use Rattle.violation.proofs.CountSteps.{all_agree}
-use Rattle.violation.proofs.TierLemmas.{flag_in, flag_out}
+use Rattle.violation.proofs.TierLemmas.{flag_in, flag_out, flag_at}
 use Rattle.kind_moves.specs.Frames.{is_closed, is_left_open, AreClosedOr}
 use Rattle.kind_moves.proofs.OpenPlaces.{form_open_after}
-
--- the flag of a tier by its place in the list
-flag_at : (xs : List ℕ) (flags : List Bool) (j : ℕ) → AreDistinct xs → j < length xs → flag_of xs flags (get_or xs j 0) ≡ get_or flags j false
-flag_at [] flags j d l = absurd (omega arith)
-flag_at (x ∷ xs) [] j d l = refl
-flag_at (x ∷ xs) (f ∷ fs) zero d l = ap (λ b. cond b f (flag_of xs fs x)) (eq-eqb x x refl)
-flag_at (x ∷ xs) (f ∷ fs) (suc j) d l =
-    ap (λ b. cond b f (flag_of xs fs (get_or xs j 0))) (ne_eqb x (get_or xs j 0) (All-from_recursion (λ t. x ≢ t) xs d.0 j 0 (omega arith)))
-    ∙ flag_at xs fs j d.1 (omega arith)
 
 -- a symbol without an edge leaves its tier as it is
 stays : (b : Bool) (s : Sym) → fits b s ≡ true → is_edge s ≡ false → b ≡ opens s

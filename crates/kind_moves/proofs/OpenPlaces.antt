@@ -15,7 +15,7 @@ use Rattle.tier_core.specs.Scan.{opens}
 use Rattle.tier_core.specs.Timelines.{word, symbol, column_at}
 use Rattle.tier_core.specs.Tiers.{Tiers, is_free, is_overt, kind_at, has_tier, tiers_of, numbers_from}
 use Rattle.tier_core.proofs.TableMasks.{IsMaskOf, tiers_of_mask, mask_of_kind, overt_alone}
-use Rattle.tier_core.proofs.WordLemmas.{open_at}
+use Rattle.tier_core.proofs.WordLemmas.{open_at, open_suc}
 use Rattle.tier_core.proofs.WordForm.{runs_from_well_formed}
 use Rattle.violation.specs.Candidates.{IsForm}
 use Rattle.violation.specs.Moves.{flag_of, form_opened}
@@ -70,11 +70,6 @@ flag_false (x ∷ xs) (n ∷ ns) t = either (x == t) (flag_false xs ns t)
 -- before the first column none is open
 pub open_first : (tiers : Tiers) (u : List (List Sym)) → AreOpenAt tiers u 0 0
 open_first tiers u t = ap (λ b. b == 1) (bit_at-zero t) ∙ sym (flag_false tiers.input (range_with_len 0 (length tiers.input)) t)
-
-open_suc : (b : Bool) (w : List Sym) (q : ℕ) → q < length w → open_at b w (suc q) ≡ opens (get_or w q Outside)
-open_suc b [] q l = absurd (omega arith)
-open_suc b (s ∷ w) zero l = refl
-open_suc b (s ∷ w) (suc q) l = open_suc (opens s) w q (omega arith)
 
 -- an input tier is open after the columns of a form where its symbol in the last of these opens it
 pub form_open_after : (tiers : Tiers) (u : List (List Sym)) → IsForm tiers u → (p j : ℕ) → p < length u → j < length tiers.input

@@ -4,32 +4,19 @@ use Rattle.std.proofs.lemmas.Bool.{cases_lt}
 use Rattle.std.proofs.lemmas.List.{length_push, append-nil, take_all}
 use Rattle.std.proofs.lemmas.List.Elements.{filter_more}
 use Rattle.std.proofs.lemmas.List.FromFn.{fill_by_all, length-map-range_with_len, get_or-map-range_with_len, map-range_with_len_more}
-use Rattle.std.proofs.lemmas.Nat.{or_lt, one_shl, pow_below}
-use Rattle.std.proofs.lemmas.Nat.Bits.{bit_at_set_same, bit_at_set_other}
 use Rattle.tier_core.specs.declared.kind.Kind.{Kind}
 use Rattle.tier_core.specs.declared.sym.Sym.{Sym}
 use Rattle.tier_core.specs.declared.constraint.Constraint.{Constraint}
 use Rattle.tier_core.specs.Kinds.{Phase, closed, phase_by_bits, phase_at, phases}
 use Rattle.tier_core.specs.Tiers.{has_tier}
+use Rattle.tier_core.specs.Sides.{is_stretch}
 use Rattle.tier_core.proofs.KindLemmas.{not_both}
 use Rattle.violation.specs.Moves.{is_unmet_phase, is_met_phase, next_phase, next_phases}
-use Rattle.violation.specs.Sides.{is_stretch}
 use Rattle.kind_moves.specs.Phases.{phases_by, told_at}
 use Rattle.kind_moves.proofs.KindBits.{apart_from, phase_told, one_of}
 use Rattle.kind_moves.proofs.MaskSteps.{none_from}
 
 -- ---- one bit more
-
-pub set_few : (mask k : ℕ) → k < 32 → mask < 2 ^ k → bit_or mask (1 * 2 ^ k % 2 ^ 32) < 2 ^ (k + 1)
-set_few mask k h l =
-    let next : 2 ^ k < 2 ^ (k + 1) = pow_below k (k + 1) (omega arith) in
-    or_lt (k + 1) mask (1 * 2 ^ k % 2 ^ 32) (omega arith) (omega (arith, one_shl k 32 h))
-
-pub set_same : (mask k : ℕ) → k < 32 → has_tier (bit_or mask (1 * 2 ^ k % 2 ^ 32)) k ≡ true
-set_same mask k h = ap (λ b. b == 1) (bit_at_set_same w32 mask k h)
-
-pub set_other : (mask k t : ℕ) → k < 32 → t < k → has_tier (bit_or mask (1 * 2 ^ k % 2 ^ 32)) t ≡ has_tier mask t
-set_other mask k t h l = ap (λ b. b == 1) (bit_at_set_other w32 mask k h t (λ e. absurd (omega arith)))
 
 -- a mask with one bit more, of this value
 pub record HasMore (mask n : ℕ) (b : Bool) (more : ℕ) : Type 0 where

@@ -2,22 +2,20 @@ ghost use Rattle.std.specs.Prelude.{◌≡◌, ℕ, ◌<◌, ◌≤◌, ◌++◌
 ghost use Rattle.std.specs.List.{list_all};
 ghost use Rattle.tier_core.specs.Kinds as told;
 ghost use Rattle.tier_core.specs.Tiers.{has_tier};
-ghost use Rattle.violation.specs.Columns.{edge_cost};
+ghost use Rattle.tier_core.specs.Sides.{has_edge_type, edge_among, is_stretch};
 ghost use Rattle.violation.specs.Conditions.{AreInColumn, IsOverTiers};
 ghost use Rattle.violation.specs.Counts.{chosen};
 ghost use Rattle.violation.specs.Moves.{costs, is_unmet_phase};
-ghost use Rattle.violation.specs.Sides.{has_edge_type, edge_among, is_stretch};
 
-use crate::event::{all_present, any_present, has_edge_among, is_edge_among, is_stretch};
-use crate::mask::has_bit;
-use tier_core::{Constraint, Event, Family, Sym};
+use tier_core::{Constraint, Event, Family, Sym, has_bit, has_edge_type};
+use violation::{has_edge_among, is_counted_at};
 
 /// Whether the tiers of all types are in a mask.
 fn are_all_in(mask: u16, types: &[Event]) -> bool
     requires { All (λ e. e.tier < 12) types.now }
     ensures { result ≡ list_all (λ e. has_tier mask e.tier) types.now }
 {
-    types.iter().all(|e| has_bit(mask, e.tier))
+    types.iter().all(|e| has_bit(mask as u32, e.tier))
 }
 
 /// Whether a type of which an event is chosen is an edge: a clash chooses on both sides, an
@@ -26,20 +24,8 @@ fn is_edge_chosen(family: Family, left: &[Event], right: &[Event]) -> bool
     ensures { result ≡ has_edge_type (chosen family left.now right.now) }
 {
     match family {
-        Family::Clash => is_edge_among(left) || is_edge_among(right),
-        Family::Implication => is_edge_among(left),
-    }
-}
-
-/// Whether a column decides a choice with an edge, and it is counted.
-fn edge_costs(family: Family, left: &[Event], right: &[Event], column: &[Sym]) -> bool
-    requires left_in { AreInColumn left.now column.now }
-    requires right_in { AreInColumn right.now column.now }
-    ensures { result ≡ edge_cost family left.now right.now column.now }
-{
-    match family {
-        Family::Clash => all_present(column, left) && all_present(column, right),
-        Family::Implication => all_present(column, left) && !any_present(column, right),
+        Family::Clash => has_edge_type(left) || has_edge_type(right),
+        Family::Implication => has_edge_type(left),
     }
 }
 
@@ -65,7 +51,7 @@ pub(crate) fn costs(constraint: &Constraint, opened: u16, is_unmet: bool, column
     let left = constraint.left.as_slice();
     let right = constraint.right.as_slice();
     if is_edge_chosen(constraint.family, left, right) {
-        return edge_costs(constraint.family, left, right, column);
+        return is_counted_at(constraint.family, left, right, column);
     }
     match constraint.family {
         Family::Clash => ends_overlap(opened, left, right, column),
@@ -81,7 +67,7 @@ pub(crate) fn count_stretches(constraints: &[Constraint]) -> u32
 {
     let mut count = 0;
     for constraint in constraints {
-        if is_stretch(constraint) {
+        if constraint.is_stretch() {
             count += 1;
         }
     }

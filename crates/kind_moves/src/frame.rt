@@ -5,14 +5,15 @@ ghost use Rattle.violation.specs.Candidates.{IsForm};
 ghost use Rattle.kind_moves.specs.Masks.{AreOpenInputs};
 
 use crate::cost::{costs, count_stretches};
-use crate::fit::{has_edge, has_input_edge, has_input_part, may_follow};
+use crate::fit::{has_edge, may_follow};
 use crate::mask::{laid_out, open_after, taken_from};
 use crate::open::{free_tiers, open_inputs};
-use crate::phase::{has_phase, next_phases};
+use crate::phase::next_phases;
 use crate::phase_masks::PhaseMasks;
 use grammar_reader::Grammar;
 use std::alloc::Global;
-use tier_core::{Column, Kind, NoMemory, Sym, Timeline};
+use tier_core::{Column, Kind, NoMemory, Sym, Timeline, has_bit};
+use violation::{has_input_edge, has_input_part};
 
 /// A grammar and a form, with what their moves ask again and again: the mask of the free tiers, and
 /// for each place of the form the mask of the input tiers that are open there.
@@ -193,7 +194,7 @@ impl<'a> Frame<'a> {
         let number = constraint as usize - 1;
         let constraints = self.grammar.constraints.as_slice();
         let place = count_stretches(&constraints[..number]);
-        let is_unmet = has_phase(kind.unmet, place);
+        let is_unmet = has_bit(kind.unmet, place);
         let opened = self.open_at(kind);
         if costs(&constraints[number], opened, is_unmet, column.syms()) {
             1

@@ -11,7 +11,6 @@
 #![tactic(auto)]
 
 mod cost;
-mod event;
 mod fit;
 mod frame;
 mod laws;

@@ -3,15 +3,15 @@ ghost use Rattle.std.specs.List.{list_any};
 ghost use Rattle.tier_core.specs.Kinds as told;
 ghost use Rattle.tier_core.specs.Kinds.{phases};
 ghost use Rattle.tier_core.specs.Tiers.{has_tier};
+ghost use Rattle.tier_core.specs.Sides.{edge_among, is_stretch};
 ghost use Rattle.violation.specs.Columns.{is_present, opens_interior};
 ghost use Rattle.violation.specs.Conditions.{AreInColumn, IsOverTiers};
 ghost use Rattle.violation.specs.Moves.{is_unmet_phase, is_met_phase, next_phase, next_phases};
-ghost use Rattle.violation.specs.Sides.{edge_among, is_stretch};
 ghost use Rattle.kind_moves.specs.Phases.{phase_of, phases_by};
 
-use crate::event::{any_present, has_edge_among, is_stretch, opens_each, opens_some};
 use crate::phase_masks::PhaseMasks;
-use tier_core::{Constraint, Event, Kind, Sym};
+use tier_core::{Constraint, Event, Kind, Sym, has_bit, with_bit};
+use violation::{any_present, has_edge_among, opens_each, opens_some};
 
 /// The phase of a stretch implication.
 #[derive(Clone, Copy, Debug, PartialEq, Eq)]
@@ -36,25 +36,6 @@ impl Phase {
     {
         matches!(self, Phase::Met)
     }
-}
-
-/// Whether the bit of a stretch implication is set in a mask.
-pub(crate) fn has_phase(mask: u32, place: u32) -> bool
-    requires { place < 32 }
-    ensures { result ≡ has_tier mask place }
-{
-    (mask >> place) & 1 == 1
-}
-
-/// A mask of the places before this one, with the bit of this place too, or without it.
-fn with_bit(mask: u32, place: u32, is_set: bool) -> u32
-    requires place { place < 32 }
-    requires before { mask < 2 ^ place }
-    ensures within { result < 2 ^ (place + 1) }
-    ensures here { has_tier result place ≡ is_set }
-    ensures others { (t : ℕ) → t < place → has_tier result t ≡ has_tier mask t }
-{
-    if is_set { mask | 1 << place } else { mask }
 }
 
 /// Whether a stretch that is open after a column is met by then.
@@ -94,8 +75,8 @@ pub(crate) fn next_phases(constraints: &[Constraint], kind: &Kind, column: &[Sym
     let mut met = 0;
     let mut next = 0;
     for constraint in constraints {
-        if is_stretch(constraint) {
-            let phase = phase_after(constraint, has_phase(kind.met, next), column);
+        if constraint.is_stretch() {
+            let phase = phase_after(constraint, has_bit(kind.met, next), column);
             unmet = with_bit(unmet, next, phase.is_unmet());
             met = with_bit(met, next, phase.is_met());
             next += 1;

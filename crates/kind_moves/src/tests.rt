@@ -1,7 +1,6 @@
 //! The moves of several frames, compared along all short words of columns with a plain reading.
 ghost use Rattle.std.specs.Prelude.{◌≡◌, ◌≤◌, IfOk, length};
 ghost use Rattle.tier_core.specs.Tables.{tiers_of_table};
-ghost use Rattle.tier_core.specs.Tiers.{is_input, numbers_from};
 ghost use Rattle.violation.specs.Candidates.{IsForm};
 ghost use Rattle.kind_moves.specs.Frames.{constraints_in};
 
@@ -11,23 +10,14 @@ use crate::Frame;
 use grammar_reader::{Grammar, read_grammar};
 use std::alloc::Global;
 use std::test::Fail;
-use tier_core::{Column, Kind, Sym, TierKind, Timeline};
+use tier_core::{Column, Kind, Sym, Timeline};
 use timeline_text::read_timeline;
-
-fn count_inputs(kinds: &[TierKind]) -> usize
-    ensures { result ≡ length (numbers_from is_input 0 kinds.now) }
-{
-    kinds
-        .iter()
-        .filter(|kind| matches!(**kind, TierKind::Input))
-        .count()
-}
 
 fn read_form(alloc: Global, grammar: &Grammar, text: &[u8]) -> Result<Timeline, Fail>
     ensures form { IfOk result (IsForm (tiers_of_table grammar.now.tiers)) }
     ensures short { IfOk result (λ form. length form ≤ 64) }
 {
-    let inputs = count_inputs(grammar.tiers.kinds.as_slice());
+    let inputs = grammar.tiers.input_count();
     if inputs == 0 || inputs > 12 {
         return Err(Fail::new("no inputs"));
     }

@@ -8,12 +8,13 @@ use Rattle.std.specs.declared.cmp.Ordering.TheVariants.{Equal}
 use Rattle.std.proofs.lemmas.Cmp.{nat_cmp_total, nat_list_cmp_total, on_total, then_total}
 use Rattle.std.proofs.lemmas.List.Elements.{All-map, Contains-get_or}
 use Rattle.std.proofs.lemmas.List.Sorted.{All-permutation}
+use Rattle.std.proofs.lemmas.List.{map-id}
 use Rattle.weight_law.specs.declared.Weight.{Ghosts}
 use Rattle.tier_core.specs.declared.sym.Sym.{Sym}
-use Rattle.tier_core.specs.Classes.{sets_of, sets_have, has, AreApart}
+use Rattle.tier_core.specs.Classes.{sets_of, sets_have, has, AreDisjoint}
 use Rattle.arc_table.specs.declared.arc.TableArc.{TableArc}
 use Rattle.arc_table.specs.declared.state.TableState.{TableState}
-use Rattle.arc_table.specs.Conditions.{AreDisjoint, is_filled, TargetsExist, ClassesDisjoint, ClassesFilled}
+use Rattle.arc_table.specs.Conditions.{is_filled, TargetsExist, ClassesDisjoint, ClassesFilled}
 use Rattle.arc_table.specs.Moves.{moves_at, accepting_at}
 use Rattle.arc_table.specs.FirstColumn.{first_column}
 use Rattle.arc_table.proofs.Filled.{has-first_column}
@@ -27,11 +28,6 @@ use Rattle.kind_orders.proofs.Strict.{strict_from_sorted, both_equal, same_numbe
 pub arc_cmp_total : IsTotalOrder arc_cmp
 arc_cmp_total = then_total (on_total (λ (a : ArcLine). a.target) nat_cmp_total) (on_total (λ (a : ArcLine). sets_of a.class) nat_list_cmp_total)
 
--- a list is mapped to itself by what changes nothing
-map_itself : {X : Type 0} (xs : List X) → map (λ x. x) xs ≡ xs
-map_itself [] = refl
-map_itself (x ∷ xs) = ap (λ ys. x ∷ ys) (map_itself xs)
-
 -- arcs that tie have one class
 tied_class : (a b : ArcLine) (column : List Sym) → arc_cmp a b ≡ Equal → IsTrue (has a.class column) → IsTrue (has b.class column)
 tied_class a b column e holds =
@@ -41,13 +37,13 @@ tied_class a b column e holds =
 strict_arcs : (lines : List ArcLine) → IsSorted arc_cmp lines → AllPairs (λ a b. arc_cmp a b ≢ Equal) lines → IsStrictlySortedBy arc_cmp lines
 unfolding IsStrictlySortedBy
 strict_arcs [] sorted differ = tt
-strict_arcs (x ∷ xs) sorted differ = subst (IsStrictlySortedBy arc_cmp) (map_itself (x ∷ xs)) (strict_from_sorted arc_cmp_total (λ arc. arc) x (x ∷ xs) sorted differ)
+strict_arcs (x ∷ xs) sorted differ = subst (IsStrictlySortedBy arc_cmp) (map-id (x ∷ xs)) (strict_from_sorted arc_cmp_total (λ arc. arc) x (x ∷ xs) sorted differ)
 
 module _ {W : Type 0} {g : Ghosts W} (nodes : List ℕ) (moves : List (TableArc W g)) (lines : List ArcLine) (same : IsPermutation (map (line_of nodes) moves) lines) where
-  pub lines_apart : AllPairs (λ a b. AreDisjoint a.class b.class) moves → AllPairs (λ (a b : ArcLine). AreApart a.class b.class) lines
+  pub lines_apart : AllPairs (λ a b. AreDisjoint a.class b.class) moves → AllPairs (λ (a b : ArcLine). AreDisjoint a.class b.class) lines
   lines_apart disjoint =
-      pairs_permuted (λ (a b : ArcLine). AreApart a.class b.class) (λ a b apart column hb ha. apart column ha hb) (map (line_of nodes) moves) lines same
-      (pairs_map (λ (a b : ArcLine). AreApart a.class b.class) (line_of nodes) moves disjoint)
+      pairs_permuted (λ (a b : ArcLine). AreDisjoint a.class b.class) (λ a b apart column hb ha. apart column ha hb) (map (line_of nodes) moves) lines same
+      (pairs_map (λ (a b : ArcLine). AreDisjoint a.class b.class) (line_of nodes) moves disjoint)
 
   -- what holds of the lines of all moves
   pub all_lines_have : (P : ArcLine → Type 0) → ((arc : TableArc W g) → Contains moves arc → P (line_of nodes arc)) → All P lines

@@ -17,5 +17,5 @@ mod tests;
 
 pub use automaton::automaton_of;
 pub use inverse::ranks;
-pub use order::ordered;
+pub use order::{numbers_below, ordered};
 pub use stage::stage_of;

@@ -32,8 +32,8 @@ fn cmp_numbers(kinds: &[Kind], shape: &Shape, stage: u32, a: u32, b: u32) -> Ord
     kind_cmp(&kind_of(kinds, a), &kind_of(kinds, b), shape, stage)
 }
 
-/// The numbers below `count`.
-fn numbers_below(alloc: Global, count: u32) -> Result<Vec<u32>, AllocError>
+/// The numbers below `count`, from 0. It fails only for want of memory.
+pub fn numbers_below(alloc: Global, count: u32) -> Result<Vec<u32>, AllocError>
     ensures { IfOk result (λ numbers. numbers.items ≡ range_with_len 0 count) }
 {
     (0..count).collect(alloc)

@@ -6,18 +6,18 @@ use Rattle.tier_core.specs.declared.constraint.Constraint.{Constraint}
 use Rattle.tier_core.specs.Kinds.{Phase, PrefixKind}
 use Rattle.tier_core.specs.Tiers.{Tiers}
 use Rattle.tier_core.specs.Timelines.{project, squeeze, word}
+use Rattle.tier_core.specs.Sides.{has_edge_type, is_implication, is_stretch}
 use Rattle.grammar_reader.specs.Seen.{constraint_seen}
 use Rattle.grammar_reader.specs.Values.{NamedConstraint}
 use Rattle.violation.specs.Candidates.{IsAtMost, IsOptimalFor, vec}
 use Rattle.violation.specs.Counts.{viol}
 use Rattle.violation.specs.Prefixes.{is_open, kind_of, phase, stretches}
-use Rattle.violation.specs.Sides.{has_edge_type, is_implication, is_stretch}
 use Rattle.violation.specs.Stages.{AreKindsOfStage, IsKindOfStage, IsPassed, Passes}
 use Rattle.ranked_gen.specs.Budgets.{IsFirstOver, IsOver, IsWithin}
 
 -- ---- what is counted and remembered of constraints as they are seen
 
-seen_vec : (T : List (List Sym)) (cs : List Constraint) → vec cs T ≡ map (λ n. viol n.family n.left n.right T) (map constraint_seen cs)
+pub seen_vec : (T : List (List Sym)) (cs : List Constraint) → vec cs T ≡ map (λ n. viol n.family n.left n.right T) (map constraint_seen cs)
 seen_vec T [] = refl
 seen_vec T (c ∷ cs) = ap (λ ns. viol c.family c.left c.right T ∷ ns) (seen_vec T cs)
 

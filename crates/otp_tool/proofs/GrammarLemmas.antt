@@ -5,23 +5,16 @@ use Rattle.std.proofs.lemmas.Bool.{and_parts}
 use Rattle.std.proofs.lemmas.Bool.Decides.{nat_tests}
 use Rattle.std.proofs.lemmas.List.Elements.{All-from_recursion}
 use Rattle.std.proofs.lemmas.List.{length-map}
-use Rattle.tier_core.specs.declared.tier.TierKind.{TierKind}
 use Rattle.tier_core.specs.Tiers.{is_input, tiers_by_kinds}
 use Rattle.timeline_text.specs.declared.letter.Letter.{Letter}
 use Rattle.timeline_text.specs.Spelling.{HasSound}
 use Rattle.tier_core.specs.Tables.{tiers_of_table}
+use Rattle.tier_core.proofs.TableMasks.{length-numbers_from}
 use Rattle.grammar_reader.specs.declared.grammar.Grammar.{Grammar}
 use Rattle.grammar_reader.specs.Grammars.{value_of}
-use Rattle.grammar_reader.specs.Seen.{tiers_by}
 use Rattle.grammar_reader.specs.Values.{has_sound, inputs_of}
-use Rattle.grammar_reader.proofs.Shaping.{length-inputs, length-numbers_from, some_input}
+use Rattle.grammar_reader.proofs.Shaping.{kinds_back, length-inputs, some_input}
 use Rattle.otp_tool.specs.Grammars.{kinds_of, tiers_of}
-
-kinds_back : (ns : List (List ℕ)) (ks : List TierKind) → length ns ≡ length ks → map (λ t. t.kind) (tiers_by ns ks) ≡ ks
-kinds_back [] [] e = refl
-kinds_back [] (k ∷ ks) e = absurd (omega (arith, e))
-kinds_back (n ∷ ns) [] e = absurd (omega (arith, e))
-kinds_back (n ∷ ns) (k ∷ ks) e = ap (λ xs. k ∷ xs) (kinds_back ns ks (omega (arith, e)))
 
 pub same_kinds : (g : Grammar) → kinds_of (value_of g) ≡ g.tiers.kinds.items
 same_kinds g = kinds_back (map string_bytes g.tiers.names.items) g.tiers.kinds.items (length-map g.tiers.names.items string_bytes ∙ g.tiers.one_length)

@@ -23,10 +23,12 @@ use Rattle.timeline_text.specs.declared.form_err.FormErr.{FormErr}
 use Rattle.grammar_reader.specs.declared.grammar.Grammar.{Grammar}
 use Rattle.grammar_reader.specs.Grammars.{value_of}
 use Rattle.grammar_reader.specs.Seen.{constraint_seen}
-use Rattle.grammar_reader.specs.ShapeOf.{IsShapeOf, stretch_counts, is_stretch}
-use Rattle.grammar_reader.specs.Values.{has_sides, is_side}
+use Rattle.tier_core.specs.Sides.{is_stretch}
+use Rattle.tier_core.proofs.CountLemmas.{all_weaker}
+use Rattle.grammar_reader.specs.ShapeOf.{IsShapeOf, stretch_counts}
+use Rattle.grammar_reader.proofs.Shaping.{length-stretch_counts}
 use Rattle.violation.specs.Candidates.{vec}
-use Rattle.violation.specs.Conditions.{AreTiersBelow, IsCountable}
+use Rattle.violation.specs.Conditions.{IsCountable, IsOverTiers}
 use Rattle.violation.specs.Counts.{viol}
 use Rattle.answer_text.specs.declared.answer.Answer.{Answer}
 use Rattle.answer_text.specs.Right.{IsRight}
@@ -34,12 +36,14 @@ use Rattle.answer_text.specs.Shape.{widths_of}
 use Rattle.answer_text.specs.Text.{Widths, answer_text, counts_text}
 use Rattle.ranked_gen.specs.Budgets.{AreAllWithin, IsFirstOver}
 use Rattle.status_lines.specs.declared.status.Status.{Status}
+use Rattle.kind_moves.proofs.GrammarTiers.{over_tiers}
 use Rattle.otp_tool.specs.Forms.{IsNotScored, IsReadAs, IsRefusedFor, IsScored}
 use Rattle.otp_tool.specs.Grammars.{input_count, tiers_of}
 use Rattle.otp_tool.specs.Findings.{Finding, FindsForAnswer, FindsForScore, no_form, over_budget, ready}
 use Rattle.otp_tool.specs.Results.{IsOfRightAnswer, IsScoreText, text_widths, vector_of, whole_text}
 use Rattle.otp_tool.specs.Steps.{IsEnd, IsMade, IsStep, Taking, end_of}
 use Rattle.otp_tool.proofs.GrammarLemmas.{less, same_kinds, same_tiers}
+use Rattle.otp_tool.proofs.ConstraintLemmas.{seen_vec}
 
 -- ---- writing
 
@@ -56,37 +60,6 @@ written finds writes t text f w r o p e status s = inr (f, subst (IsEnd writes t
 
 -- ---- counting
 
-below : (n : ℕ) (events : List Event) → list_all (λ e. nat_lt e.tier n) events ≡ true → AreTiersBelow n events
-below n [] h = tt
-below n (e ∷ events) h =
-    let parts = and_parts (nat_lt e.tier n) (list_all (λ e. nat_lt e.tier n) events) h in
-    (less e.tier n parts.0, below n events parts.1)
-
-at_least : (n : ℕ) → nat_le 1 n ≡ true → 0 < n
-at_least n h = grind (arith, nat_tests)
-
-side : (n : ℕ) (events : List Event) → is_side n events ≡ true → (0 < length events) × AreTiersBelow n events
-side n events h =
-    let parts = and_parts (nat_le 1 (length events) && nat_le (length events) 8) (list_all (λ e. nat_lt e.tier n) events) h in
-    let front = and_parts (nat_le 1 (length events)) (nat_le (length events) 8) parts.0 in
-    (at_least (length events) front.0, below n events parts.1)
-
-countable : (n : ℕ) (T : List (List Sym)) → IsWellFormed n T → (cs : List Constraint) → list_all (has_sides n) (map constraint_seen cs) ≡ true → AllByRecursion (λ c. IsCountable c.left c.right T) cs
-countable n T w [] h = tt
-countable n T w (c ∷ cs) h =
-    let parts = and_parts _ _ h in
-    let sides = and_parts _ _ parts.0 in
-    let left = side n c.left sides.0 in
-    let right = side n c.right sides.1 in
-    (record { width = n; well_formed = w; left_below = left.1; right_below = right.1; some_left = left.0 }, countable n T w cs parts.1)
-
-counts_seen : (T : List (List Sym)) (cs : List Constraint) → vec cs T ≡ map (λ c. viol c.family c.left c.right T) (map constraint_seen cs)
-counts_seen T [] = refl
-counts_seen T (c ∷ cs) = ap (λ ns. viol c.family c.left c.right T ∷ ns) (counts_seen T cs)
-
-length-stretches : (cs : List Constraint) → length (stretch_counts cs) ≡ length cs + 1
-length-stretches cs = length-map-range_with_len (λ r. length (filter is_stretch (take r cs))) 0 (length cs + 1)
-
 module _ (g : Grammar) where
   same_width : length (value_of g).tiers ≡ length g.tiers.kinds.items
   same_width = sym (length-map (value_of g).tiers (λ t. t.kind)) ∙ ap length (same_kinds g)
@@ -95,7 +68,9 @@ module _ (g : Grammar) where
   pub all_countable : (T : List (List Sym)) → IsWellFormed (length g.tiers.kinds.items) T → All (λ c. IsCountable c.left c.right T) g.constraints.items
   all_countable T w =
       All-from_recursion (λ c. IsCountable c.left c.right T) g.constraints.items
-      (countable (length (value_of g).tiers) T (subst (λ n. IsWellFormed n T) (sym same_width) w) g.constraints.items g.lawful.made.sides)
+      (all_weaker (IsOverTiers (length g.tiers.kinds.items)) (λ c. IsCountable c.left c.right T) g.constraints.items
+      (λ c o. record { width = length g.tiers.kinds.items; well_formed = w; left_below = o.left_below; right_below = o.right_below; some_left = o.some_left })
+      (over_tiers g))
 
   pub not_scored : (word : List ℕ) (cause : FormErr) → IsNotScored (length g.tiers.kinds.items) word cause → FindsForScore (value_of g) word (no_form cause)
   not_scored word cause n = subst (λ w. IsNotScored w word cause) (sym same_width) n
@@ -107,7 +82,7 @@ module _ (g : Grammar) where
   scored word T counts s e = record {
     timeline = T;
     read = subst (λ w. IsScored w word T) (sym same_width) s;
-    written = ap counts_text (e ∙ counts_seen T g.constraints.items);
+    written = ap counts_text (e ∙ seen_vec T g.constraints.items);
   }
 
   -- ---- answers
@@ -152,7 +127,7 @@ module _ (g : Grammar) where
 
       pub stages_fit : (shape : Shape) → IsShapeOf g shape → length answer.stages.items ≤ length shape.phases.items
       stages_fit shape s =
-          let phases : length shape.phases.items ≡ length g.constraints.items + 1 = ap length s.phases ∙ length-stretches g.constraints.items in
+          let phases : length shape.phases.items ≡ length g.constraints.items + 1 = ap length s.phases ∙ length-stretch_counts g.constraints.items in
           omega (arith, phases, made.right.stage_count)
 
   -- ---- the text

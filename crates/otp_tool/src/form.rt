@@ -1,12 +1,11 @@
 ghost use Rattle.std.specs.Prelude.{◌≡◌, ◌≢◌, ◌≤◌, length, IfOk, IfErr};
 ghost use Rattle.tier_core.specs.Tables.{tiers_of_table};
-ghost use Rattle.tier_core.specs.Tiers.{is_input, numbers_from};
 ghost use Rattle.violation.specs.Candidates.{IsForm};
 ghost use Rattle.otp_tool.specs.Forms.{IsNotScored, IsReadAs, IsRefusedFor, IsScored, is_spelled};
 
 use grammar_reader::Grammar;
 use std::alloc::Global;
-use tier_core::{TierKind, Timeline};
+use tier_core::Timeline;
 use timeline_text::{FormErr, read_spelled, read_timeline};
 
 /// How many columns a form may have.
@@ -22,21 +21,6 @@ fn is_spelled(word: &[u8]) -> bool
     !word.is_empty() && word[0] == b'='
 }
 
-/// Whether a tier is an input tier.
-fn is_input(kind: TierKind) -> bool
-    ensures { result ≡ is_input kind }
-{
-    matches!(kind, TierKind::Input)
-}
-
-/// How many tiers are input tiers.
-fn count_inputs(kinds: &[TierKind]) -> usize
-    ensures value { result ≡ length (numbers_from is_input 0 kinds.now) }
-    ensures few { result ≤ length kinds.now }
-{
-    kinds.iter().filter(|kind| is_input(**kind)).count()
-}
-
 /// Reads a form's word: by the letters of the grammar where it begins with `=`, and else as the
 /// text of a timeline over the input tiers.
 pub(crate) fn read_form(alloc: Global, grammar: &Grammar, word: &[u8]) -> Result<Timeline, FormErr>
@@ -45,7 +29,7 @@ pub(crate) fn read_form(alloc: Global, grammar: &Grammar, word: &[u8]) -> Result
     ensures short { IfOk result (λ form. length form ≤ 64) }
     ensures err { IfErr result (λ cause. cause ≢ FormErr.NoMemory → IsRefusedFor (length (tiers_of_table grammar.now.tiers).input) grammar.now.letters.items word.now cause) }
 {
-    let inputs = count_inputs(&grammar.tiers.kinds) as u32;
+    let inputs = grammar.tiers.input_count() as u32;
     if is_spelled(word) {
         read_spelled(alloc, &grammar.letters, inputs, word)
     } else {

@@ -18,6 +18,7 @@
 pub use file_shelf::FileShelf;
 pub use mem_shelf::MemShelf;
 pub use mem_sink::MemSink;
+pub use number::{put_decimal, put_number};
 pub use put::put_all;
 pub use safe_shelf::SafeShelf;
 pub use safe_sink::SafeSink;
@@ -31,6 +32,7 @@ mod file_shelf;
 mod files;
 mod mem_shelf;
 mod mem_sink;
+mod number;
 mod put;
 mod safe_shelf;
 mod safe_sink;

@@ -8,7 +8,7 @@ use Rattle.std.proofs.lemmas.List.Quantifiers.{all_pairs_push}
 use Rattle.weight_law.specs.declared.Weight.{Ghosts}
 use Rattle.weight_law.specs.Meaning.{Meaning}
 use Rattle.tier_core.specs.declared.class.Class.{Class}
-use Rattle.arc_table.specs.Conditions.{AreDisjoint}
+use Rattle.tier_core.specs.Classes.{AreDisjoint}
 use Rattle.arc_table.specs.declared.arc.TableArc.{TableArc}
 use Rattle.distances.specs.Best.{added}
 use Rattle.prune_best.specs.Names.{IsNamed, Grows}

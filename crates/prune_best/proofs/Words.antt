@@ -33,7 +33,7 @@ at_place [] j l = absurd (omega (arith, l))
 at_place (x ∷ xs) zero l = (x, refl)
 at_place (x ∷ xs) (suc j) l = at_place xs j (omega arith)
 
-some_of : {X : Type 0} (o : Option X) → IsSome o → (x : X) × (o ≡ Some x)
+pub some_of : {X : Type 0} (o : Option X) → IsSome o → (x : X) × (o ≡ Some x)
 some_of None h = cc
 some_of (Some x) h = (x, refl)
 

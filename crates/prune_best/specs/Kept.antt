@@ -1,7 +1,7 @@
 -- Moves that are kept.
 use Rattle.std.specs.Prelude.{◌≡◌, ◌<◌, ℕ, Bool, List, Option, None, Some, Contains, AllPairs, IsSome, length, slice_index_or, ◌⊎◌}
 use Rattle.weight_law.specs.declared.Weight.{Ghosts}
-use Rattle.arc_table.specs.Conditions.{AreDisjoint}
+use Rattle.tier_core.specs.Classes.{AreDisjoint}
 use Rattle.arc_table.specs.declared.arc.TableArc.{TableArc}
 use Rattle.arc_table.specs.declared.state.TableState.{TableState}
 use Rattle.arc_table.specs.Moves.{moves_at, accepting_at}

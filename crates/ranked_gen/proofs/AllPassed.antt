@@ -14,14 +14,17 @@ use Rattle.tier_core.specs.Kinds.{PrefixKind}
 use Rattle.tier_core.proofs.CountLemmas.{all_append}
 use Rattle.tier_core.proofs.WordLemmas.{runs}
 use Rattle.tier_core.proofs.WordForm.{well_formed_from_runs}
+use Rattle.tier_core.proofs.FormLemmas.{edge_at}
 use Rattle.violation.specs.Candidates.{IsCandidate}
 use Rattle.violation.specs.Conditions.{AreDistinct, AreSplit}
 use Rattle.violation.specs.Moves.{flag_of}
 use Rattle.violation.specs.Prefixes.{is_open, kind_of}
 use Rattle.violation.specs.Stages.{IsPassed}
+use Rattle.violation.proofs.TierLemmas.{map_agree}
 use Rattle.ranked_gen.specs.WideColumns.{widened}
-use Rattle.ranked_gen.proofs.WidenedColumns.{over, all_at, all_mapped, on_nothing, not_listed, edge_at, length_over, symbol_over, word_flagged, word_outside, part_bare, over_runs, over_reduced, squeeze_over}
+use Rattle.ranked_gen.proofs.WidenedColumns.{over, all_at, all_mapped, on_nothing, not_listed, length_over, symbol_over, word_flagged, word_outside, part_bare, over_runs, over_reduced, squeeze_over}
 use Rattle.ranked_gen.proofs.BareForm.{bare_form, bare_candidate, all_optimal}
+use Rattle.ranked_gen.proofs.MoveMembers.{flags_on}
 
 -- the form's columns between a start and an end on the tiers of the flags
 abbrev pub marked : Tiers → (ℕ → Bool) → List (List Sym) → List (List Sym)
@@ -40,29 +43,10 @@ any_below flag (suc n) = by_test (flag n) refl (any_below flag n)
         (λ a. inr (λ t l. ⊎_elim (λ below. a t below) (λ above. let same : t ≡ n = omega arith in ap flag same ∙ e) (cases_lt t n)))
         rest
 
--- each tier of a list has its flag
-flag_at : (xs : List ℕ) (flags : List Bool) (j : ℕ) → AreDistinct xs → j < length xs → flag_of xs flags (get_or xs j 0) ≡ get_or flags j false
-flag_at [] flags j d l = absurd (omega arith)
-flag_at (x ∷ xs) [] j d l = refl
-flag_at (x ∷ xs) (b ∷ flags) zero d l = cond-true (x == x) b (flag_of xs flags x) (eq-eqb x x refl)
-flag_at (x ∷ xs) (b ∷ flags) (suc j) d l =
-    cond-false (x == get_or xs j 0) b (flag_of xs flags (get_or xs j 0)) (ne_eqb x (get_or xs j 0) (all_at (λ y. x ≢ y) xs j 0 (omega arith) d.0))
-    ∙ flag_at xs flags j d.1 (omega arith)
-
 flag_none : (xs : List ℕ) (flags : List Bool) (t : ℕ) → AllByRecursion (λ x. x ≢ t) xs → flag_of xs flags t ≡ false
 flag_none [] flags t h = refl
 flag_none (x ∷ xs) [] t h = refl
 flag_none (x ∷ xs) (b ∷ flags) t h = cond-false (x == t) b (flag_of xs flags t) (ne_eqb x t h.0) ∙ flag_none xs flags t h.1
-
-flags_are : (xs : List ℕ) (flags : List Bool) → AreDistinct xs → length flags ≡ length xs → map (flag_of xs flags) xs ≡ flags
-flags_are xs flags d e =
-    let long = length-map xs (flag_of xs flags) in
-    ext_get_or false (map (flag_of xs flags) xs) flags (omega arith)
-    (λ i l. get_or-map (flag_of xs flags) xs i 0 false (omega arith) ∙ flag_at xs flags i d (omega arith))
-
-map_agree : {X Y : Type 0} (f g : X → Y) (xs : List X) → AllByRecursion (λ x. f x ≡ g x) xs → map f xs ≡ map g xs
-map_agree f g [] h = refl
-map_agree f g (x ∷ xs) h = let first = h.0 in let rest = map_agree f g xs h.1 in cc
 
 all_taken : {X : Type 0} (P : X → Type 0) (n : ℕ) (xs : List X) → AllByRecursion P xs → AllByRecursion P (take n xs)
 all_taken P n xs h = recursion_from_All P (take n xs) (All-take P n xs (All-from_recursion P xs h))
@@ -164,7 +148,7 @@ module _ (tiers : Tiers) (u : List (List Sym)) (split : AreSplit tiers) (once : 
       → ((t : ℕ) → Contains tiers.free t → t < tiers.width → is_open (word p t) ≡ flag_of tiers.free opened t)
       → kind_of tiers [] 0 p ≡ record { place = place; opened = opened; phases = [] }
   fits_kind p a b =
-      let same : map (λ t. is_open (word p t)) tiers.free ≡ opened = at_free tiers split (flag_of tiers.free opened) off (λ t. is_open (word p t)) b ∙ flags_are tiers.free opened once flags in
+      let same : map (λ t. is_open (word p t)) tiers.free ≡ opened = at_free tiers split (flag_of tiers.free opened) off (λ t. is_open (word p t)) b ∙ flags_on tiers.free opened once flags in
       let kind : ℕ → List Bool → PrefixKind = λ n bs. record { place = n; opened = bs; phases = [] } in
       ap₂ kind a same
 

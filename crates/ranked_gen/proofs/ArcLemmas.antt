@@ -13,12 +13,13 @@ use Rattle.tier_core.specs.declared.sym.Sym.{Sym}
 use Rattle.tier_core.specs.declared.sym.Sym.TheVariants.{Outside, Inside, Start, End, Both}
 use Rattle.tier_core.specs.Orders.{sym_cmp}
 use Rattle.tier_core.specs.Sets.{single_set}
-use Rattle.tier_core.specs.Classes.{sets_of, sets_have, has, AreApart}
+use Rattle.tier_core.specs.Classes.{sets_of, sets_have, has, AreDisjoint}
 use Rattle.tier_core.proofs.SetLemmas.{only_have, alone_have}
 use Rattle.answer_text.specs.declared.automaton.ArcLine.{ArcLine}
 use Rattle.answer_text.specs.Right.{arc_cmp}
+use Rattle.kind_orders.proofs.Members.{contains_map}
 use Rattle.ranked_gen.specs.Listed.{arc_view, move_view}
-use Rattle.ranked_gen.proofs.MemberLemmas.{contains_map, contains_first, contains_later, all_from_members, all_at_member}
+use Rattle.ranked_gen.proofs.MemberLemmas.{contains_first, contains_later, all_from_members, all_at_member}
 use Rattle.ranked_gen.proofs.Ascending.{Ascends, ascends_map}
 use Rattle.ranked_gen.proofs.MoveList.{Move, move_cmp}
 
@@ -92,8 +93,8 @@ slice_same [] = refl
 slice_same (x ∷ xs) = ap (λ o. ordering_then o (slice_cmp nat_cmp xs xs)) (sym (nat_cmp_is x x Equal refl)) ∙ slice_same xs
 
 -- arcs in order hold no common column
-pub arcs_apart : (target : List Sym → ℕ) (arcs : List ArcLine) → ((arc : ArcLine) → Contains arcs arc → IsSingleArc target arc) → Ascends arc_cmp arcs → AllPairs (λ a b. AreApart a.class b.class) arcs
-arcs_apart target arcs single a = ascends_pairs arc_cmp (λ a b. AreApart a.class b.class) arcs
+pub arcs_apart : (target : List Sym → ℕ) (arcs : List ArcLine) → ((arc : ArcLine) → Contains arcs arc → IsSingleArc target arc) → Ascends arc_cmp arcs → AllPairs (λ a b. AreDisjoint a.class b.class) arcs
+arcs_apart target arcs single a = ascends_pairs arc_cmp (λ a b. AreDisjoint a.class b.class) arcs
     (λ x y m n l column h g.
     let s = single x m in
     let r = single y n in

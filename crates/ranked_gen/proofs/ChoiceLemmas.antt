@@ -6,7 +6,8 @@ use Rattle.std.specs.Cmp.Lexicographic.{slice_cmp}
 use Rattle.std.specs.declared.cmp.Ordering.{Ordering}
 use Rattle.std.specs.declared.cmp.Ordering.TheVariants.{Equal}
 use Rattle.violation.specs.Counts.{choices}
-use Rattle.ranked_gen.proofs.MemberLemmas.{contains_one, contains_first, contains_map, contains_of_map, contains_flat, contains_of_flat}
+use Rattle.kind_orders.proofs.Members.{contains_map, contains_of_map}
+use Rattle.ranked_gen.proofs.MemberLemmas.{contains_one, contains_first, contains_flat, contains_of_flat}
 use Rattle.ranked_gen.proofs.Ascending.{Ascends, ascends_flat, ascends_map}
 
 -- one element of each list in turn

@@ -2,7 +2,7 @@
 use Rattle.std.proofs.Common.{◌≡◌, ℕ, suc, ◌+◌, ◌*◌, ◌^◌, ◌<◌, ◌≤◌, Bool, true, false, cond, List, [], ◌∷◌, ◌++◌, map, filter, length, get_or, refl, ap, sym, ◌∙◌, subst, arith, Contains, append-nil, append_assoc}
 use Rattle.std.specs.List.{flat_map, range_with_len}
 use Rattle.std.proofs.lemmas.Bool.{le-ltb, lt-ltb}
-use Rattle.std.proofs.lemmas.List.{map-append}
+use Rattle.std.proofs.lemmas.List.{map-append, map-id}
 use Rattle.std.proofs.lemmas.List.FromFn.{map-range_with_len_more}
 use Rattle.std.proofs.lemmas.List.Elements.{Contains-append_left, Contains-append_right, filter-append}
 use Rattle.std.proofs.lemmas.Grind.{flat_map-append}
@@ -18,6 +18,7 @@ use Rattle.violation.specs.Moves.{flag_of}
 use Rattle.violation.proofs.SplitLemmas.{tiers_split}
 use Rattle.kind_moves.specs.declared.frame.Frame.{Frame}
 use Rattle.kind_moves.specs.Frames.{tiers_in, form_in, kind_at_stage, FitsAt, FitsFrame}
+use Rattle.kind_orders.proofs.Members.{contains_map}
 use Rattle.ranked_gen.specs.declared.pick.Pick.{Pick}
 use Rattle.ranked_gen.specs.Numbers.{flags_of, kind_numbered}
 use Rattle.ranked_gen.specs.Arcs.{columns_between, moves_with, moves_from, staying}
@@ -25,7 +26,7 @@ use Rattle.ranked_gen.specs.WideColumns.{widened}
 use Rattle.ranked_gen.specs.Picks.{symbols_of, symbols_by_flags, two_count, picked}
 use Rattle.ranked_gen.specs.Listed.{move_view, IsKindNumbered}
 use Rattle.ranked_gen.specs.FrameMoves.{columns_from, number_after, arc_by, AllFit}
-use Rattle.ranked_gen.proofs.MemberLemmas.{map_itself, contains_first, contains_later, contains_map, contains_flat, contains_of_flat, contains_kept}
+use Rattle.ranked_gen.proofs.MemberLemmas.{contains_first, contains_later, contains_flat, contains_of_flat, contains_kept}
 use Rattle.ranked_gen.proofs.Ascending.{range_has}
 use Rattle.ranked_gen.proofs.NumberLemmas.{flags_of-low}
 use Rattle.ranked_gen.proofs.NumberedKinds.{free_distinct}
@@ -42,12 +43,12 @@ columns_of : {X : Type 0} (make : ℕ → ℕ) (columns : ℕ → List X) (os : 
 columns_of {X} make columns [] = refl
 columns_of {X} make columns (o ∷ os) =
     map-append (λ (m : ℕ × X). m.1) (map (λ column. (make o, column)) (columns o)) (flat_map (λ o. map (λ column. (make o, column)) (columns o)) os)
-    ∙ ap (λ ys. ys ++ map (λ (m : ℕ × X). m.1) (flat_map (λ o. map (λ column. (make o, column)) (columns o)) os)) (map-map (λ (m : ℕ × X). m.1) (λ column. (make o, column)) (columns o) ∙ map_itself (columns o))
+    ∙ ap (λ ys. ys ++ map (λ (m : ℕ × X). m.1) (flat_map (λ o. map (λ column. (make o, column)) (columns o)) os)) (map-map (λ (m : ℕ × X). m.1) (λ column. (make o, column)) (columns o) ∙ map-id (columns o))
     ∙ ap (λ ys. columns o ++ ys) (columns_of make columns os)
 
 -- the columns to one more set
 range_push : (n : ℕ) → range_with_len 0 (n + 1) ≡ range_with_len 0 n ++ n ∷ []
-range_push n = let zero_plus : 0 + n ≡ n = omega arith in sym (map_itself (range_with_len 0 (n + 1))) ∙ map-range_with_len_more (λ k. k) 0 n n zero_plus ∙ ap (λ xs. xs ++ n ∷ []) (map_itself (range_with_len 0 n))
+range_push n = let zero_plus : 0 + n ≡ n = omega arith in sym (map-id (range_with_len 0 (n + 1))) ∙ map-range_with_len_more (λ k. k) 0 n n zero_plus ∙ ap (λ xs. xs ++ n ∷ []) (map-id (range_with_len 0 n))
 
 pub sets_more : {X Y : Type 0} (g : X → Y) (f : ℕ → List X) (n : ℕ) (old now next : List Y) → now ≡ old ++ map g (flat_map f (range_with_len 0 n)) → next ≡ now ++ map g (f n) → next ≡ old ++ map g (flat_map f (range_with_len 0 (n + 1)))
 sets_more g f n old now next e h =

@@ -31,6 +31,7 @@ use Rattle.stage_laws.proofs.Naming.{path_kind, same_state}
 use Rattle.stage_laws.proofs.Following.{all_optimal}
 use Rattle.stage_laws.proofs.Complete.{complete_words}
 use Rattle.kind_orders.specs.Automata.{Reaches}
+use Rattle.kind_orders.proofs.Members.{contains_map, contains_of_map}
 use Rattle.stage_tables.specs.Kept.{IsKept}
 use Rattle.ranked_gen.specs.Budgets.{IsWithin as IsWithinBudget}
 use Rattle.ranked_gen.specs.Left.{TellsKind, AreOrdered, IsLeft}
@@ -38,7 +39,6 @@ use Rattle.ranked_gen.specs.Numbers.{kind_numbered, number_of_kind}
 use Rattle.ranked_gen.specs.Arcs.{moves_from}
 use Rattle.ranked_gen.specs.Listed.{kind_count, table_view, move_view, IsNodeNumbered, IsStateNumbered, AreListed}
 use Rattle.ranked_gen.proofs.NumberLemmas.{kind_numbered-number, number-kind_numbered}
-use Rattle.ranked_gen.proofs.MemberLemmas.{contains_map, contains_of_map}
 use Rattle.ranked_gen.proofs.Ascending.{range_has}
 use Rattle.ranked_gen.proofs.MoveList.{moves_listed}
 use Rattle.ranked_gen.proofs.LineLemmas.{numbered_seen}

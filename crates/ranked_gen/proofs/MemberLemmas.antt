@@ -20,14 +20,6 @@ contains_cases y xs x h = ⊎_map (λ a. ⊎_elim (λ n. absurd (contains_none x
 pub contains_one : {X : Type 0} (y x : X) → Contains (y ∷ []) x → y ≡ x
 contains_one y x h = ⊎_elim (λ e. e) (λ n. absurd (contains_none x n)) (contains_cases y [] x h)
 
-pub contains_map : {X Y : Type 0} (f : X → Y) (xs : List X) (x : X) → Contains xs x → Contains (map f xs) (f x)
-contains_map f [] x h = absurd (contains_none x h)
-contains_map f (y ∷ ys) x h = ⊎_elim (λ e. subst (λ z. Contains (f y ∷ map f ys) z) (ap f e) (contains_first (f y) (map f ys))) (λ m. contains_later (f y) (map f ys) (f x) (contains_map f ys x m)) (contains_cases y ys x h)
-
-pub contains_of_map : {X Y : Type 0} (f : X → Y) (xs : List X) (y : Y) → Contains (map f xs) y → (x : X) × (Contains xs x × (f x ≡ y))
-contains_of_map f [] y h = absurd (contains_none y h)
-contains_of_map f (x ∷ xs) y h = ⊎_elim (λ e. (x, (contains_first x xs, e))) (λ m. let r = contains_of_map f xs y m in (r.0, (contains_later x xs r.0 r.1.0, r.1.1))) (contains_cases (f x) (map f xs) y h)
-
 pub contains_flat : {X Y : Type 0} (f : X → List Y) (xs : List X) (x : X) (y : Y) → Contains xs x → Contains (f x) y → Contains (flat_map f xs) y
 contains_flat f [] x y h m = absurd (contains_none x h)
 contains_flat f (z ∷ zs) x y h m = ⊎_elim (λ e. Contains-append_left (f z) (flat_map f zs) y (subst (λ w. Contains (f w) y) (sym e) m)) (λ n. Contains-append_right (f z) (flat_map f zs) y (contains_flat f zs x y n m)) (contains_cases z zs x h)
@@ -60,8 +52,3 @@ all_from_members P (x ∷ xs) h = (h x (contains_first x xs), all_from_members P
 pub all_at_member : {X : Type 0} (P : X → Type 0) (xs : List X) (x : X) → AllByRecursion P xs → Contains xs x → P x
 all_at_member P [] x a h = absurd (contains_none x h)
 all_at_member P (y ∷ ys) x a h = ⊎_elim (λ e. subst P e a.0) (λ m. all_at_member P ys x a.1 m) (contains_cases y ys x h)
-
--- a list is mapped to itself by what changes nothing
-pub map_itself : {X : Type 0} (xs : List X) → map (λ x. x) xs ≡ xs
-map_itself [] = refl
-map_itself (x ∷ xs) = ap (λ ys. x ∷ ys) (map_itself xs)

@@ -18,30 +18,14 @@ use Rattle.violation.specs.Candidates.{IsForm}
 use Rattle.violation.specs.Conditions.{AreSplit, AreDistinct}
 use Rattle.violation.specs.Prefixes.{is_open}
 use Rattle.violation.specs.Moves.{flag_of, form_opened, is_tier_open, input_of, FitsKind}
-use Rattle.violation.proofs.TierLemmas.{flag_in, flag_out, map_agree}
+use Rattle.violation.proofs.TierLemmas.{flag_in, flag_out, map_agree, flag_at}
 use Rattle.violation.proofs.OpenLemmas.{prefix_open, take_word}
 use Rattle.ranked_gen.specs.WideColumns.{symbol_on}
 use Rattle.ranked_gen.specs.Arcs.{still, staying}
 use Rattle.ranked_gen.proofs.MemberLemmas.{contains_first, contains_later, all_from_members, all_at_member}
 use Rattle.ranked_gen.proofs.SymbolLemmas.{still_fits, is_still, symbol_on_still}
 use Rattle.ranked_gen.proofs.MoveMembers.{IsBetween, symbol_on_in, symbols_on}
-
--- the tiers of a list have their flags and their symbols in turn
-pub flag_at : (xs : List ℕ) (flags : List Bool) (j : ℕ) → AreDistinct xs → j < length xs → flag_of xs flags (get_or xs j 0) ≡ get_or flags j false
-flag_at [] flags j d l = absurd (omega arith)
-flag_at (x ∷ xs) [] j d l = refl
-flag_at (x ∷ xs) (flag ∷ flags) zero d l = ap (λ b. cond b flag (flag_of xs flags x)) (eq-eqb x x refl)
-flag_at (x ∷ xs) (flag ∷ flags) (suc j) d l =
-    let other : x ≢ get_or xs j 0 = All-from_recursion (λ t. x ≢ t) xs d.0 j 0 (omega arith) in
-    ap (λ b. cond b flag (flag_of xs flags (get_or xs j 0))) (ne_eqb x (get_or xs j 0) other) ∙ flag_at xs flags j d.1 (omega arith)
-
-pub symbol_at : (xs : List ℕ) (column : List Sym) (j : ℕ) → AreDistinct xs → j < length xs → symbol_on xs column (get_or xs j 0) ≡ symbol column j
-symbol_at [] column j d l = absurd (omega arith)
-symbol_at (x ∷ xs) [] j d l = refl
-symbol_at (x ∷ xs) (s ∷ column) zero d l = ap (λ b. cond b s (symbol_on xs column x)) (eq-eqb x x refl)
-symbol_at (x ∷ xs) (s ∷ column) (suc j) d l =
-    let other : x ≢ get_or xs j 0 = All-from_recursion (λ t. x ≢ t) xs d.0 j 0 (omega arith) in
-    ap (λ b. cond b s (symbol_on xs column (get_or xs j 0))) (ne_eqb x (get_or xs j 0) other) ∙ symbol_at xs column j d.1 (omega arith)
+use Rattle.ranked_gen.proofs.WidenedColumns.{symbol_on_at}
 
 -- the number of a tier in a list
 pub numbered : (xs : List ℕ) (t : ℕ) → Contains xs t → (j : ℕ) × ((j < length xs) × (get_or xs j 0 ≡ t))
@@ -113,7 +97,7 @@ module _ (tiers : Tiers) (split : AreSplit tiers) (u : List (List Sym)) (form : 
               (λ i. let n = numbered tiers.input t i in
               ap (λ o. fits o (symbol column t)) (open_input k t i ∙ ap (flag_of tiers.input (form_opened tiers u k.place)) (sym n.1.1) ∙ flag_at tiers.input (form_opened tiers u k.place) n.0 split.distinct n.1.0
               ∙ get_or-map-range_with_len (λ j. is_open (word (take k.place u) j)) 0 (length tiers.input) n.0 n.0 false n.1.0 (omega arith))
-              ∙ ap (fits (is_open (word (take k.place u) n.0))) (b.inputs t h i ∙ ap (symbol_on tiers.input next) (sym n.1.1) ∙ symbol_at tiers.input next n.0 split.distinct n.1.0)
+              ∙ ap (fits (is_open (word (take k.place u) n.0))) (b.inputs t h i ∙ ap (symbol_on tiers.input next) (sym n.1.1) ∙ symbol_on_at tiers.input next n.0 split.distinct n.1.0)
               ∙ form_fits k.place n.0 l n.1.0)
               (λ f. ap (λ o. fits o (symbol column t)) (open_free k t f) ∙ (b.frees t h f).0)
               (split.each t h);

@@ -20,11 +20,12 @@ use Rattle.violation.specs.Candidates.{IsForm}
 use Rattle.violation.specs.Conditions.{AreSplit, AreDistinct}
 use Rattle.violation.specs.Moves.{flag_of, input_of, FitsKind, moved}
 use Rattle.violation.proofs.TierLemmas.{map_agree}
+use Rattle.kind_orders.proofs.Members.{contains_map, contains_of_map}
 use Rattle.ranked_gen.specs.Numbers.{number_of_flags, flags_of, number_of_kind}
 use Rattle.ranked_gen.specs.WideColumns.{symbol_on}
 use Rattle.ranked_gen.specs.Arcs.{between, is_among, symbols_at, columns_between, moves_with, staying, moves_from}
 use Rattle.ranked_gen.proofs.NumberLemmas.{length-flags_of, number-lt, number-flags_of, flags_of-number}
-use Rattle.ranked_gen.proofs.MemberLemmas.{contains_none, contains_map, contains_of_map, contains_flat, contains_of_flat, all_from_members, all_at_member}
+use Rattle.ranked_gen.proofs.MemberLemmas.{contains_none, contains_flat, contains_of_flat, all_from_members, all_at_member}
 use Rattle.ranked_gen.proofs.Ascending.{Ascends, ascends_append, ascends_flat, ascends_map, ascends_kept, ascends_range, in_range, range_has}
 use Rattle.ranked_gen.proofs.ChoiceLemmas.{AllAscend, choices_ascend}
 use Rattle.ranked_gen.proofs.SymbolLemmas.{between_ascends}

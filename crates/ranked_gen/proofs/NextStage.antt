@@ -22,7 +22,7 @@ use Rattle.ranked_gen.specs.Budgets.{IsOver, IsWithin}
 use Rattle.ranked_gen.proofs.MemberLemmas.{all_from_members}
 use Rattle.ranked_gen.proofs.FewKinds.{Differ, stage_few}
 use Rattle.ranked_gen.proofs.OverBudget.{over_budget}
-use Rattle.ranked_gen.proofs.StepStage.{frame_stage}
+use Rattle.stage_tables.proofs.Named.{frame_stage}
 
 pairs_differ : {X : Type 0} (xs : List X) → AllPairs (λ x y. x ≢ y) xs → Differ xs
 pairs_differ [] h = tt

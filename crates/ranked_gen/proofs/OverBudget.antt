@@ -12,6 +12,7 @@ use Rattle.tier_core.specs.declared.sym.Sym.{Sym}
 use Rattle.tier_core.specs.declared.constraint.Constraint.{Constraint}
 use Rattle.tier_core.specs.Tiers.{Tiers}
 use Rattle.tier_core.specs.Kinds.{Phase, closed, unmet, met, PrefixKind, kind_order}
+use Rattle.tier_core.specs.Sides.{is_stretch}
 use Rattle.arc_table.specs.declared.arc.TableArc.{TableArc}
 use Rattle.arc_table.specs.declared.state.TableState.{TableState}
 use Rattle.arc_table.specs.Conditions.{TargetsExist, ClassesFilled}
@@ -23,7 +24,6 @@ use Rattle.prune_best.proofs.Words.{some_word}
 use Rattle.violation.specs.Candidates.{IsCandidate, IsOptimalFor}
 use Rattle.violation.specs.Moves.{moved, cut}
 use Rattle.violation.specs.Prefixes.{kind_of, phase, stretches}
-use Rattle.violation.specs.Sides.{is_stretch}
 use Rattle.violation.specs.Stages.{IsPassed, AreKindsOfStage}
 use Rattle.violation.specs.Walks.{reached}
 use Rattle.violation.proofs.WalkLemmas.{moves_begin, reached_is}
@@ -32,8 +32,9 @@ use Rattle.stage_laws.proofs.Cuts.{cut-kind_of}
 use Rattle.stage_laws.proofs.Naming.{path_kind, over_stretches}
 use Rattle.stage_laws.proofs.Paths.{IsParted, parted, joined_run, joined_reads, path_push}
 use Rattle.stage_tables.specs.Kept.{AreKeptByKinds}
+use Rattle.kind_orders.proofs.Members.{contains_map, contains_of_map}
 use Rattle.ranked_gen.specs.Budgets.{IsOver}
-use Rattle.ranked_gen.proofs.MemberLemmas.{contains_first, contains_later, contains_map, contains_of_map, contains_flat}
+use Rattle.ranked_gen.proofs.MemberLemmas.{contains_first, contains_later, contains_flat}
 use Rattle.ranked_gen.proofs.Ascending.{sorted_from, range_has}
 use Rattle.ranked_gen.proofs.FewKinds.{Differ, no_longer}
 use Rattle.ranked_gen.proofs.SortedKinds.{one_or_other, sorted_kinds}

@@ -12,10 +12,11 @@ use Rattle.violation.specs.Conditions.{AreSplit, AreDistinct}
 use Rattle.violation.specs.Moves.{FitsKind, moved}
 use Rattle.answer_text.specs.declared.automaton.ArcLine.{ArcLine}
 use Rattle.answer_text.specs.Right.{arc_cmp, AreRightArcs}
+use Rattle.kind_orders.proofs.Members.{contains_map, contains_of_map}
 use Rattle.ranked_gen.specs.Numbers.{number_of_kind, kind_numbered}
 use Rattle.ranked_gen.specs.Arcs.{moves_from}
 use Rattle.ranked_gen.specs.Listed.{kind_count, arc_view, move_view}
-use Rattle.ranked_gen.proofs.MemberLemmas.{contains_map, contains_of_map, all_from_members}
+use Rattle.ranked_gen.proofs.MemberLemmas.{all_from_members}
 use Rattle.ranked_gen.proofs.Ascending.{Ascends, sorted_from, range_has}
 use Rattle.ranked_gen.proofs.MoveList.{listed_moves, moves_ascend}
 use Rattle.ranked_gen.proofs.ArcLemmas.{arcs_ascend, IsSingleArc, single_holds, arcs_apart}

@@ -12,7 +12,7 @@ use Rattle.tier_core.specs.Tiers.{Tiers, numbers_from, has_tier}
 use Rattle.tier_core.specs.Scan.{opens}
 use Rattle.tier_core.specs.Timelines.{word, symbol, column_at}
 use Rattle.tier_core.proofs.CountLemmas.{count_cons}
-use Rattle.tier_core.proofs.WordLemmas.{open_at}
+use Rattle.tier_core.proofs.WordLemmas.{open_at, open_suc}
 use Rattle.tier_core.proofs.WordForm.{runs_from_well_formed}
 use Rattle.violation.specs.Candidates.{IsForm}
 use Rattle.violation.specs.Prefixes.{is_open}
@@ -29,21 +29,6 @@ use Rattle.ranked_gen.proofs.NumberLemmas.{flags_of-low, same_kind, kind_from}
 -- the kind of a place and a set
 pub kind_at_place : (f place opened : ℕ) → opened < 2 ^ f → kind_numbered f (place * 2 ^ f + opened) ≡ kind_from place (flags_of f opened) []
 kind_at_place f place opened l = same_kind (div-mul-add place (2 ^ f) opened l) (flags_of-low f f place opened (omega arith)) refl
-
--- how many tiers pass
-pub numbers_count : {X : Type 0} (test : X → Bool) (n : ℕ) (xs : List X) → length (numbers_from test n xs) ≡ count_by test xs
-numbers_count test n [] = refl
-numbers_count test n (x ∷ xs) = go (test x) (numbers_count test (suc n) xs) ∙ sym (count_cons test x xs)
-  where
-    go : (b : Bool) → length (numbers_from test (suc n) xs) ≡ count_by test xs → length (cond b (n ∷ []) [] ++ numbers_from test (suc n) xs) ≡ cond b 1 0 + count_by test xs
-    go true e = omega arith
-    go false e = omega arith
-
--- whether a tier is open after one symbol more
-open_suc : (b : Bool) (w : List Sym) (q : ℕ) → q < length w → open_at b w (suc q) ≡ opens (get_or w q Outside)
-open_suc b [] q l = absurd (omega arith)
-open_suc b (s ∷ w) zero l = refl
-open_suc b (s ∷ w) (suc q) l = open_suc (opens s) w q (omega arith)
 
 module _ (tiers : Tiers) (u : List (List Sym)) (form : IsForm tiers u) where
   open_after : (p j : ℕ) → p < length u → j < length tiers.input → is_open (word (take (suc p) u) j) ≡ opens (symbol (column_at u p) j)

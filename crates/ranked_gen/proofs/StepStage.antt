@@ -27,6 +27,7 @@ use Rattle.arc_table.specs.Runs.{Accepts}
 use Rattle.arc_table.proofs.Push.{moves_exist}
 use Rattle.distances.specs.Least.{AreLeast}
 use Rattle.prune_best.specs.Tight.{IsTight}
+use Rattle.prune_best.proofs.Words.{some_of}
 use Rattle.violation.specs.Candidates.{vec, IsOptimalFor}
 use Rattle.violation.specs.Prefixes.{kind_of}
 use Rattle.violation.specs.Stages.{IsRemaining}
@@ -49,23 +50,11 @@ use Rattle.kind_orders.specs.StageNodes.{node_numbered, AreNodesInOrder}
 use Rattle.kind_orders.specs.Automata.{Reaches}
 use Rattle.stage_tables.specs.Kept.{IsOfOneColumn, IsKept}
 use Rattle.stage_tables.specs.Explored.{names_at}
+use Rattle.stage_tables.proofs.Named.{frame_stage}
 use Rattle.ranked_gen.specs.Left.{weight_number, TellsKind, AreOrdered, IsStaged}
 use Rattle.ranked_gen.proofs.Ascending.{Ascends, ascends_from}
 use Rattle.ranked_gen.proofs.FirstKind.{none_before}
 use Rattle.ranked_gen.proofs.StageShapes.{tell_same, free_same, stretch_same}
-
--- a frame meets what each of its stages asks
-pub frame_stage : (frame : Frame) (stage : ℕ) → stage ≤ length (constraints_in frame) → IsStage (tiers_in frame) (constraints_in frame) (form_in frame) stage
-frame_stage frame stage within = record {
-  split = tiers_split frame.grammar.now.tiers.kinds.items;
-  form = form_from (tiers_in frame) (form_in frame) frame.well_formed;
-  over = over_tiers frame.grammar.now;
-  within = within;
-}
-
-some_is : {X : Type 0} (o : Option X) → IsSome o → (x : X) × (o ≡ Some x)
-some_is None h = absurd (false≢true h)
-some_is (Some x) h = (x, refl)
 
 all_read : {X : Type 0} (R : X → Type 0) (xs : List X) (d : X) (i : ℕ) → AllByRecursion R xs → i < length xs → R (get_or xs i d)
 all_read R [] d i h l = absurd (omega arith)
@@ -91,7 +80,7 @@ module _ (frame : Frame) (stage : ℕ) (ranked : 1 ≤ stage) (within : stage �
   name_is number d l = get_or-map (kind_at_stage frame stage) kinds number d _ l
 
   weight_at : (s : ℕ) → s < length states → (w : Count) × (get_or least s None ≡ Some w)
-  weight_at s l = some_is (get_or least s None) (some_weight states least are s l (table.on_runs s l))
+  weight_at s l = some_of (get_or least s None) (some_weight states least are s l (table.on_runs s l))
 
   remains : (number : ℕ) → number < length kinds → IsRemaining (tiers_in frame) (constraints_in frame) (form_in frame) stage (kind_at_stage frame stage (kind_numbered kinds number)) (get_or (map weight_number least) number 0)
   remains number l =

@@ -7,23 +7,23 @@ use Rattle.std.proofs.lemmas.List.{length-map, get_or-map}
 use Rattle.std.proofs.lemmas.List.Elements.{Contains-get_or}
 use Rattle.tier_core.specs.declared.sym.Sym.{Sym}
 use Rattle.tier_core.specs.Sets.{single_set}
-use Rattle.tier_core.specs.Classes.{sets_have}
+use Rattle.tier_core.specs.Classes.{sets_have, AreDisjoint}
 use Rattle.tier_core.specs.Tiers.{Tiers}
 use Rattle.tier_core.proofs.SetLemmas.{alone_have}
 use Rattle.weight_law.specs.declared.Weight.{Ghosts}
 use Rattle.arc_table.specs.declared.arc.TableArc.{TableArc}
 use Rattle.arc_table.specs.declared.state.TableState.{TableState}
 use Rattle.arc_table.specs.Moves.{moves_at}
-use Rattle.arc_table.specs.Conditions.{TargetsExist, ClassesDisjoint, ClassesFilled, OneWidth, AreDisjoint}
+use Rattle.arc_table.specs.Conditions.{TargetsExist, ClassesDisjoint, ClassesFilled, OneWidth}
 use Rattle.arc_table.proofs.Push.{moves_exist}
 use Rattle.arc_table.proofs.Filled.{filled_from}
 use Rattle.violation.specs.Candidates.{IsForm}
 use Rattle.violation.specs.Conditions.{AreSplit, AreDistinct}
 use Rattle.answer_text.specs.declared.automaton.ArcLine.{ArcLine}
+use Rattle.kind_orders.proofs.Members.{contains_map}
 use Rattle.ranked_gen.specs.Numbers.{kind_numbered}
 use Rattle.ranked_gen.specs.Arcs.{moves_from}
 use Rattle.ranked_gen.specs.Listed.{kind_count, arc_view, table_view, move_view, IsStateNumbered, AreNumbered}
-use Rattle.ranked_gen.proofs.MemberLemmas.{contains_map}
 use Rattle.ranked_gen.proofs.StateArcs.{IsMoveView, view_single, view_target, right_arcs}
 use Rattle.ranked_gen.proofs.LineLemmas.{numbered_seen}
 

@@ -12,6 +12,7 @@ use Rattle.tier_core.specs.Timelines.{symbol, word, is_edge, has_edge, project, 
 use Rattle.tier_core.proofs.WordLemmas.{runs}
 use Rattle.tier_core.proofs.WordForm.{runs_from_well_formed}
 use Rattle.tier_core.specs.Tiers.{Tiers}
+use Rattle.tier_core.proofs.FormLemmas.{edge_at, edge_of_part}
 use Rattle.violation.specs.Conditions.{AreDistinct, AreSplit}
 use Rattle.ranked_gen.specs.WideColumns.{symbol_on}
 
@@ -55,17 +56,6 @@ symbol_on_none (x ∷ xs) (s ∷ ss) t h = cond-false (x == t) s (symbol_on xs s
 
 pub not_listed : (xs : List ℕ) (t : ℕ) → (Contains xs t → ⊥) → AllByRecursion (λ x. x ≢ t) xs
 not_listed xs t h = recursion_from_All (λ x. x ≢ t) xs (λ k d l e. h (k, l, get_or_default xs k t d l ∙ e))
-
--- an edge anywhere is an edge of the column
-pub edge_at : (column : List Sym) (t : ℕ) → is_edge (symbol column t) ≡ true → has_edge column ≡ true
-edge_at [] t h = absurd (false≢true h)
-edge_at (s ∷ ss) zero h = or_left (is_edge s) (list_any is_edge ss) h
-edge_at (s ∷ ss) (suc t) h = or_right (is_edge s) (list_any is_edge ss) (edge_at ss t h)
-
-pub edge_of_part : (inputs : List ℕ) (column : List Sym) → has_edge (map (symbol column) inputs) ≡ true → has_edge column ≡ true
-edge_of_part [] column h = absurd (false≢true h)
-edge_of_part (x ∷ xs) column h =
-    ⊎_elim (λ a. edge_at column x a) (λ a. edge_of_part xs column a) (or_cases (is_edge (symbol column x)) (has_edge (map (symbol column) xs)) h)
 
 module _ (tiers : Tiers) (flag : ℕ → Bool) (s : Sym) where
   pub length_over : (column : List Sym) → length (over tiers flag s column) ≡ tiers.width

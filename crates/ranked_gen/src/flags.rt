@@ -1,39 +1,11 @@
 ghost use Rattle.std.specs.Prelude.{◌≡◌, ◌<◌, ◌≤◌, ◌^◌, ℕ, length, map, slice_index_or, false};
 ghost use Rattle.std.specs.Int.{bit_at};
 ghost use Rattle.std.specs.List.{range_with_len};
-ghost use Rattle.tier_core.specs.Tiers.{is_free, is_input, has_tier, numbers_from};
+ghost use Rattle.tier_core.specs.Tiers.{is_free, has_tier, numbers_from};
 ghost use Rattle.violation.specs.Moves.{flag_of};
 ghost use Rattle.ranked_gen.specs.Numbers.{flags_of};
 
-use tier_core::TierKind;
-
-/// Whether a tier is an input tier.
-pub(crate) fn is_input(kind: TierKind) -> bool
-    ensures { result ≡ is_input kind }
-{
-    match kind {
-        TierKind::Input => true,
-        TierKind::Overt | TierKind::Hidden => false,
-    }
-}
-
-/// Whether a tier is free.
-pub(crate) fn is_free(kind: TierKind) -> bool
-    ensures { result ≡ is_free kind }
-{
-    match kind {
-        TierKind::Input => false,
-        TierKind::Overt | TierKind::Hidden => true,
-    }
-}
-
-/// Whether the bit of a number is set.
-fn has_bit(number: u32, bit: u32) -> bool
-    requires { bit < 32 }
-    ensures { result ≡ has_tier number bit }
-{
-    (number >> bit) & 1 == 1
-}
+use tier_core::{TierKind, has_bit};
 
 /// The bit of a number: 1 where it is set, and else 0.
 pub(crate) fn bit_of(number: u32, bit: u32) -> u32
@@ -53,7 +25,7 @@ pub(crate) fn flags_by_tier(kinds: &[TierKind], free: u32, number: u32) -> [bool
     let mut flags = [false; 12];
     let mut left = free;
     for (tier, kind) in kinds.iter().enumerate() {
-        if is_free(*kind) {
+        if kind.is_free() {
             left -= 1;
             flags[tier] = has_bit(number, left);
         }

@@ -2,7 +2,6 @@ ghost use Rattle.std.specs.Prelude.{◌≡◌, ◌≤◌, ◌*◌, ◌^◌, ℕ,
 ghost use Rattle.std.specs.List.{range_with_len};
 ghost use Rattle.arc_table.specs.States.{states_of};
 ghost use Rattle.tier_core.specs.Tables.{tiers_of_table};
-ghost use Rattle.tier_core.specs.Tiers.{is_free, is_input, numbers_from};
 ghost use Rattle.violation.specs.Candidates.{IsForm};
 ghost use Rattle.answer_text.specs.Right.{IsRight};
 ghost use Rattle.kind_moves.specs.Frames.{tiers_in, constraints_in, form_in};
@@ -10,7 +9,6 @@ ghost use Rattle.ranked_gen.specs.Budgets.{AreAllWithin, IsFirstOver};
 ghost use Rattle.ranked_gen.specs.Left.{IsRanked};
 ghost use Rattle.ranked_gen.specs.Listed.{AreListed, kind_count};
 
-use crate::flags::{is_free, is_input};
 use crate::gen_err::GenErr;
 use crate::place::{Listing, list_place};
 use crate::ranked::{Ranked, all_ranked, answered};
@@ -19,26 +17,11 @@ use answer_text::{Answer, Stage};
 use arc_table::Table;
 use grammar_reader::Grammar;
 use kind_moves::Frame;
+use kind_orders::numbers_below;
 use prune_best::Tight;
 use std::alloc::{AllocError, Global};
-use tier_core::{NoMemory, TierKind, Timeline};
+use tier_core::{NoMemory, Timeline};
 use weight_law::UnitWeight;
-
-/// How many tiers are input tiers.
-pub(crate) fn count_inputs(kinds: &[TierKind]) -> usize
-    ensures value { result ≡ length (numbers_from is_input 0 kinds.now) }
-    ensures few { result ≤ length kinds.now }
-{
-    kinds.iter().filter(|kind| is_input(**kind)).count()
-}
-
-/// How many tiers are free.
-fn count_free(kinds: &[TierKind]) -> usize
-    ensures value { result ≡ length (numbers_from is_free 0 kinds.now) }
-    ensures few { result ≤ length kinds.now }
-{
-    kinds.iter().filter(|kind| is_free(**kind)).count()
-}
 
 /// How many kinds so many places have, one for each set of open free tiers.
 fn count_kinds(places: u32, free: u32) -> u32
@@ -79,13 +62,6 @@ fn one_stage(alloc: Global, stage: Stage) -> Result<Vec<Stage>, NoMemory>
     }
 }
 
-/// The numbers below a count.
-fn numbers_below(alloc: Global, count: u32) -> Result<Vec<u32>, AllocError>
-    ensures { IfOk result (λ numbers. numbers.items ≡ range_with_len 0 count) }
-{
-    (0..count).collect(alloc)
-}
-
 /// Each state with its own number, in the order of the numbers.
 fn in_order(alloc: Global, table: Table<UnitWeight>) -> Result<Left, AllocError>
     ensures table { IfOk result (λ left. left.kept.table ≡ table) }
@@ -107,7 +83,7 @@ fn unranked(alloc: Global, frame: &Frame, free: u32) -> Result<Ranked, NoMemory>
     requires few { free ≤ 12 }
     ensures { IfOk result (λ all. (budget : ℕ) → kind_count (tiers_in frame.now) (form_in frame.now) ≤ budget → IsRanked (tiers_in frame.now) (constraints_in frame.now) (form_in frame.now) budget 0 all.stages.items all.counts.items (states_of all.left.kept.table) all.left.kept.states.items all.left.order.items) }
 {
-    let inputs = count_inputs(frame.grammar.tiers.kinds.as_slice());
+    let inputs = frame.grammar.tiers.input_count();
     let Listing { nodes, states } = list_all(alloc, frame, inputs, free)?;
     let table = Table::of_states(states);
     let stages = one_stage(alloc, Stage { nodes })?;
@@ -161,7 +137,7 @@ pub fn generate(
     ensures within { IfOk result (λ answer. AreAllWithin (tiers_of_table grammar.now.tiers) grammar.now.constraints.items form.now budget) }
     ensures over { (stage : ℕ) → result ≡ Err (GenErr.Budget stage) → IsFirstOver (tiers_of_table grammar.now.tiers) grammar.now.constraints.items form.now budget stage }
 {
-    let free = count_free(grammar.tiers.kinds.as_slice()) as u32;
+    let free = grammar.tiers.free_count() as u32;
     let kinds = count_kinds(form.len() as u32 + 1, free);
     if kinds > budget {
         return Err(GenErr::Budget { stage: 0 });

@@ -9,14 +9,14 @@ ghost use Rattle.ranked_gen.specs.FrameMoves.{AllFit, arc_by, columns_from};
 ghost use Rattle.ranked_gen.specs.Listed.{move_view, table_view};
 ghost use Rattle.ranked_gen.specs.Picks.{symbols_of, two_count, picked, symbols_by_flags, symbol_by_bit, bits_of};
 
-use crate::flags::{flags_by_tier, is_input};
+use crate::flags::flags_by_tier;
 use crate::number::number_of;
 use crate::pick::Pick;
 use crate::wide_column::widened;
 use arc_table::TableArc;
 use kind_moves::Frame;
 use std::alloc::Global;
-use tier_core::{Class, Column, Kind, NoMemory, Sym, TierKind};
+use tier_core::{Class, Column, Kind, NoMemory, Sym, TierKind, has_bit};
 use weight_law::UnitWeight;
 
 /// The symbols to pick from on one tier.
@@ -32,7 +32,7 @@ fn pick_at(
     requires wide { length given.now ≡ length kinds.now }
     ensures { symbols_of result ≡ symbols_by_flags kinds.now given.now before.now after.now tier }
 {
-    if is_input(kinds[tier]) {
+    if kinds[tier].is_input() {
         Pick::One(given[tier])
     } else {
         Pick::between(before[tier], after[tier])
@@ -69,13 +69,7 @@ fn symbol_picked(pick: Pick, number: u32, bit: u32) -> Sym
 {
     match pick {
         Pick::One(sym) => sym,
-        Pick::Two(first, second) => {
-            if (number >> bit) & 1 == 1 {
-                second
-            } else {
-                first
-            }
-        }
+        Pick::Two(first, second) => { if has_bit(number, bit) { second } else { first } }
     }
 }
 

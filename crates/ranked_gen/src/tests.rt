@@ -2,7 +2,6 @@ ghost use Rattle.std.specs.Prelude.{IsTrue};
 ghost use Rattle.tier_core.specs.Tables.{tiers_of_table};
 ghost use Rattle.violation.specs.Candidates.{IsForm};
 
-use crate::generator::count_inputs;
 use crate::{GenErr, generate};
 use answer_text::Answer;
 use grammar_reader::{Grammar, read_grammar};
@@ -38,7 +37,7 @@ fn timeline(alloc: Global, width: usize, text: &[u8]) -> Option<Timeline> {
 fn is_form(grammar: &Grammar, form: &Timeline) -> bool
     ensures { IsTrue result → IsForm (tiers_of_table grammar.now.tiers) form.now }
 {
-    let inputs = count_inputs(grammar.tiers.kinds.as_slice());
+    let inputs = grammar.tiers.input_count();
     well_formed(form, inputs as u32) && reduced(form)
 }
 
@@ -67,7 +66,7 @@ fn shown(
     example: &[u8],
 ) -> Option<Result<(usize, bool), GenErr>> {
     let grammar = grammar(alloc, text)?;
-    let inputs = count_inputs(grammar.tiers.kinds.as_slice());
+    let inputs = grammar.tiers.input_count();
     let form = timeline(alloc, inputs, form)?;
     let expected = timeline(alloc, grammar.tiers.kinds.len(), example)?;
     match generated(alloc, &grammar, &form, budget)? {

@@ -2,7 +2,6 @@ ghost use Rattle.std.specs.Prelude.{◌≡◌, ◌≤◌, length};
 ghost use Rattle.tier_core.specs.Tiers.{tiers_by_kinds};
 ghost use Rattle.ranked_gen.specs.WideColumns.{widened};
 
-use crate::flags::is_input;
 use std::alloc::Global;
 use tier_core::{Column, Sym, TierKind};
 
@@ -16,7 +15,7 @@ pub(crate) fn widened(alloc: Global, kinds: &[TierKind], column: &[Sym]) -> Colu
     let mut syms = [Sym::Outside; 12];
     let mut inputs = 0;
     for (tier, kind) in kinds.iter().enumerate() {
-        if is_input(*kind) {
+        if kind.is_input() {
             syms[tier] = column[inputs];
             inputs += 1;
         }

@@ -5,9 +5,9 @@ use Rattle.tier_core.specs.declared.sym.Sym.{Sym}
 use Rattle.tier_core.specs.declared.constraint.Constraint.{Constraint}
 use Rattle.tier_core.specs.Kinds.{Phase, PrefixKind}
 use Rattle.tier_core.specs.Tiers.{Tiers}
+use Rattle.tier_core.specs.Sides.{is_stretch}
 use Rattle.violation.specs.Moves.{FitsKind, next_phase, next_phases, moved, cut}
 use Rattle.violation.specs.Prefixes.{kind_of, stretches, phase}
-use Rattle.violation.specs.Sides.{is_stretch}
 
 -- kinds that differ in their phases alone
 with_phases : (k : PrefixKind) (ps qs : List Phase) → ps ≡ qs → (let l : PrefixKind = record { place = k.place; opened = k.opened; phases = ps } in l) ≡ record { place = k.place; opened = k.opened; phases = qs }

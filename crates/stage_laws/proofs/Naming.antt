@@ -10,6 +10,7 @@ use Rattle.tier_core.specs.declared.sym.Sym.{Sym}
 use Rattle.tier_core.specs.declared.constraint.Constraint.{Constraint}
 use Rattle.tier_core.specs.Tiers.{Tiers}
 use Rattle.tier_core.specs.Kinds.{PrefixKind}
+use Rattle.tier_core.specs.Sides.{is_stretch}
 use Rattle.arc_table.specs.declared.arc.TableArc.{TableArc}
 use Rattle.arc_table.specs.declared.state.TableState.{TableState}
 use Rattle.arc_table.specs.Runs.{IsRun, IsPath, Reads, Accepts, IsOnRun}
@@ -17,7 +18,6 @@ use Rattle.prune_best.proofs.Words.{some_word}
 use Rattle.violation.specs.Candidates.{IsOptimalFor}
 use Rattle.violation.specs.Conditions.{IsOverTiers}
 use Rattle.violation.specs.Prefixes.{kind_of, stretches}
-use Rattle.violation.specs.Sides.{is_stretch}
 use Rattle.violation.specs.Stages.{Passes, IsPassed}
 use Rattle.violation.specs.Walks.{HasMoves, reached}
 use Rattle.violation.proofs.WalkLemmas.{reached_is}

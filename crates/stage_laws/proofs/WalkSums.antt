@@ -5,13 +5,13 @@ use Rattle.tier_core.specs.declared.sym.Sym.{Sym}
 use Rattle.tier_core.specs.declared.constraint.Constraint.{Constraint}
 use Rattle.tier_core.specs.Tiers.{Tiers}
 use Rattle.tier_core.specs.Kinds.{Phase, PrefixKind}
+use Rattle.tier_core.specs.Sides.{is_stretch}
 use Rattle.violation.specs.Candidates.{IsCandidate, vec, vec_so_far}
 use Rattle.violation.specs.Counts.{violations_of, violations_so_far}
 use Rattle.violation.specs.Moves.{costs_each, is_tier_open, moved, move_costs}
 use Rattle.violation.specs.Prefixes.{kind_of}
-use Rattle.violation.specs.Sides.{is_stretch}
 use Rattle.violation.specs.Walks.{HasMoves, reached, add_each, walk_costs}
-use Rattle.violation.proofs.CostLemmas.{length_walk, costs_on, costs_sum}
+use Rattle.violation.proofs.CostLemmas.{length_walk, costs_on, costs_sum, length_costs}
 use Rattle.violation.proofs.WalkLemmas.{candidate_walk, reached_is}
 use Rattle.stage_laws.specs.StageTables.{IsStage}
 use Rattle.stage_laws.proofs.Naming.{over_first, over_stretches}
@@ -28,10 +28,6 @@ pub none_at : {X : Type 0} (xs : List X) (i : ℕ) → ◌≡◌ {A = ℕ} (get_
 none_at [] i = refl
 none_at (x ∷ xs) zero = refl
 none_at (x ∷ xs) (suc i) = none_at xs i
-
-length_costs : (cs : List Constraint) (o : ℕ → Bool) (phases : List Phase) (column : List Sym) → length (costs_each cs o phases column) ≡ length cs
-length_costs [] o phases column = refl
-length_costs (c ∷ cs) o phases column = ap suc (length_costs cs o (cond (is_stretch c) (drop 1 phases) phases) column)
 
 module _ (tiers : Tiers) (constraints : List Constraint) (u : List (List Sym)) (r : ℕ) (stage : IsStage tiers constraints u r) where
   -- what a walk costs under constraint i, counted from 0

@@ -13,10 +13,10 @@ use Rattle.violation.specs.Moves.{cut}
 use Rattle.violation.specs.Prefixes.{kind_of}
 use Rattle.kind_moves.specs.declared.frame.Frame.{Frame}
 use Rattle.kind_moves.specs.Frames.{tiers_in, constraints_in, form_in, kind_at_stage, IsStart}
+use Rattle.stage_laws.proofs.Cuts.{cut-kind_of}
 use Rattle.stage_tables.specs.declared.kind_key.KindKey.{KindKey}
 use Rattle.stage_tables.specs.Kept.{AreKeptByKinds}
 use Rattle.stage_tables.specs.Listed.{IsAt, AreListed, IsPutLast, IsNumbered, StandsOver, IsReached, AreFound, AreTaken}
-use Rattle.stage_tables.proofs.Cuts.{cut_of}
 use Rattle.stage_tables.proofs.Listing.{at_cases}
 
 pub nothing_listed : (keys : List KindKey) (kinds : List Kind) (over : List ℕ) → keys ≡ [] → kinds ≡ [] → over ≡ [] → AreListed keys kinds over
@@ -36,7 +36,7 @@ module _ {g : Ghosts UnitWeight} (frame : Frame) (stage : ℕ) (some : 1 ≤ sta
   start_named first starts =
       let last : stage ≡ suc (stage - 1) = omega arith in
       ap (cut (constraints_in frame) (stage - 1)) (starts.is ∙ ap (λ n. kind_of (tiers_in frame) (constraints_in frame) n []) last)
-      ∙ cut_of (tiers_in frame) (constraints_in frame) (stage - 1) []
+      ∙ cut-kind_of (constraints_in frame) (stage - 1) (suc (stage - 1)) (omega arith) (tiers_in frame) []
 
   pub first_found : (keys : List KindKey) (kinds : List Kind) (over : List ℕ) (first : Kind) → AreListed keys kinds over → IsPutLast [] kinds [] over first 0 → IsStart frame stage first → AreFound frame stage kept keys kinds over
   first_found keys kinds over first listed put starts = record {

@@ -27,8 +27,8 @@ use Rattle.stage_tables.specs.declared.kind_key.KindKey.{KindKey}
 use Rattle.stage_tables.specs.KindKeys.{key_of}
 use Rattle.stage_tables.specs.Kept.{AreKeptByKinds}
 use Rattle.stage_tables.specs.Listed.{IsAt, AreListed, IsPutLast, IsSame, IsNumbered, Stays, StandsOver, IsReached, AreFound, IsTaken, IsTakenState, AreTargets, AreTaken}
+use Rattle.stage_laws.proofs.Cuts.{cut-moved, fits-cut}
 use Rattle.stage_tables.proofs.Keys.{same_told, same_fits}
-use Rattle.stage_tables.proofs.Cuts.{cut_moved, fits_whole}
 use Rattle.stage_tables.proofs.Zips.{zip_weaken}
 use Rattle.stage_tables.proofs.Listing.{at_number, at_last, at_cases, stays_put}
 
@@ -73,7 +73,7 @@ module _ {g : Ghosts UnitWeight} (frame : Frame) (stage : ℕ) (some : 1 ≤ sta
     pub fits_kind : (kind : Kind) (s : ℕ) → StandsOver frame stage names kind s → (arc : TableArc UnitWeight g) (column : List Sym) → Contains (moves_at kept s) arc → IsTrue (has arc.class column) → FitsAt frame stage kind column
     fits_kind kind s stands arc column here h =
         let goes = by.named.moves s arc column here h in
-        fits_whole (tiers_in frame) (constraints_in frame) (form_in frame) (stage - 1) (kind_at_stage frame stage kind) column
+        (fits-cut (tiers_in frame) (constraints_in frame) (form_in frame) (stage - 1) (kind_at_stage frame stage kind) column).0
         (subst (λ (k : PrefixKind). FitsKind (tiers_in frame) (form_in frame) k column) (sym stands.named) goes.fits)
 
     -- and leads to a kind over the move's target
@@ -89,7 +89,7 @@ module _ {g : Ghosts UnitWeight} (frame : Frame) (stage : ℕ) (some : 1 ≤ sta
           named =
               ap (cut cs (stage - 1)) m.leads
               ∙ ap (λ n. cut cs (stage - 1) (moved tiers cs n (kind_at_stage frame stage kind) column)) last
-              ∙ cut_moved tiers cs (stage - 1) (kind_at_stage frame stage kind) column
+              ∙ cut-moved cs (stage - 1) (suc (stage - 1)) (omega arith) tiers (kind_at_stage frame stage kind) column
               ∙ ap (λ k. moved tiers cs (stage - 1) k column) stands.named
               ∙ sym goes.leads;
         }

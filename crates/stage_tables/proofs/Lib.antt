@@ -1,9 +1,8 @@
 mod Keys
-mod Cuts
 mod Zips
 mod Listing
 mod Finding
 mod Numbering
 mod Taking
 mod Beginning
-mod Named
+pub mod Named

@@ -11,10 +11,10 @@ use Rattle.tier_core.specs.declared.class.Class.{Class}
 use Rattle.tier_core.specs.declared.kind.Kind.{Kind}
 use Rattle.tier_core.specs.declared.sym.Sym.{Sym}
 use Rattle.tier_core.specs.Kinds.{PrefixKind}
-use Rattle.tier_core.specs.Classes.{has, sets_of}
+use Rattle.tier_core.specs.Classes.{has, sets_of, AreDisjoint}
 use Rattle.arc_table.specs.declared.arc.TableArc.{TableArc}
 use Rattle.arc_table.specs.declared.state.TableState.{TableState}
-use Rattle.arc_table.specs.Conditions.{AreDisjoint, TargetsExist, ClassesDisjoint, ClassesFilled, OneWidth, is_filled}
+use Rattle.arc_table.specs.Conditions.{TargetsExist, ClassesDisjoint, ClassesFilled, OneWidth, is_filled}
 use Rattle.arc_table.specs.Moves.{moves_at, accepting_at}
 use Rattle.arc_table.proofs.Push.{moves_exist}
 use Rattle.violation.specs.Moves.{moved, cut}
@@ -37,8 +37,8 @@ use Rattle.stage_tables.proofs.Zips.{zip_from, zip_to, zip_pairs}
 use Rattle.stage_tables.proofs.Listing.{at_number, get_or_map, one_number}
 
 -- what every stage of a frame meets
-is_stage : (frame : Frame) (r : ℕ) → r ≤ length (constraints_in frame) → IsStage (tiers_in frame) (constraints_in frame) (form_in frame) r
-is_stage frame r l = record {
+pub frame_stage : (frame : Frame) (r : ℕ) → r ≤ length (constraints_in frame) → IsStage (tiers_in frame) (constraints_in frame) (form_in frame) r
+frame_stage frame r l = record {
   split = tiers_split frame.grammar.now.tiers.kinds.items;
   form = form_from (tiers_in frame) (form_in frame) frame.well_formed;
   over = over_tiers frame.grammar.now;
@@ -205,7 +205,7 @@ module _ {g : Ghosts UnitWeight} (frame : Frame) (stage : ℕ) (kept : List (Tab
         let tiers = tiers_in frame in
         let cs = constraints_in frame in
         let u = form_in frame in
-        let before = is_stage frame (stage - 1) (omega arith) in
+        let before = frame_stage frame (stage - 1) (omega arith) in
         record {
           named = subst (λ (n : ℕ). AreNamedByKinds tiers cs u n (names_at frame stage kinds) states) last (found_named tiers cs u (stage - 1) found.names kept found.kept_by.named before over (names_at frame stage kinds) states from_kept);
           weighed = weighs;

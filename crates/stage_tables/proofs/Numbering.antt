@@ -2,7 +2,7 @@
 use Rattle.std.proofs.Common.{◌≡◌, ◌≢◌, ℕ, zero, suc, ◌<◌, Bool, true, false, not, ◌&&◌, ◌||◌, if◌then◌else◌, nat_eq, List, [], ◌∷◌, ◌++◌, Some, map, length, get_or, refl, ap, sym, ◌∙◌, subst, arith, inl, inr, eq-eqb}
 use Rattle.std.specs.Prelude.{slice_get, AllPairs}
 use Rattle.std.specs.List.{list_any}
-use Rattle.std.proofs.lemmas.Bool.{false≢true, eqb-true}
+use Rattle.std.proofs.lemmas.Bool.{false≢true, eqb-true, and_parts, or_parts}
 use Rattle.std.proofs.lemmas.List.{length_push, map-append}
 use Rattle.std.proofs.lemmas.List.Quantifiers.{all_pairs_push}
 use Rattle.std.proofs.lemmas.Option.{slice_get_within, get_or_from_slice_get}
@@ -16,16 +16,11 @@ use Rattle.stage_tables.proofs.Listing.{get_cases, get_unmap}
 abbrev pub same_by : KindKey → KindKey → Bool
 same_by a b = nat_eq a.place b.place && (nat_eq a.opened b.opened && (nat_eq a.unmet b.unmet && nat_eq a.met b.met))
 
-both : (x y : Bool) → (x && y) ≡ true → (x ≡ true) × (y ≡ true)
-both true true e = (refl, refl)
-both true false e = absurd (false≢true e)
-both false y e = absurd (false≢true e)
-
 pub same_from : (a b : KindKey) → same_by a b ≡ true → a ≡ b
 same_from a b e =
-    let p = both (nat_eq a.place b.place) (nat_eq a.opened b.opened && (nat_eq a.unmet b.unmet && nat_eq a.met b.met)) e in
-    let o = both (nat_eq a.opened b.opened) (nat_eq a.unmet b.unmet && nat_eq a.met b.met) p.1 in
-    let m = both (nat_eq a.unmet b.unmet) (nat_eq a.met b.met) o.1 in
+    let p = and_parts (nat_eq a.place b.place) (nat_eq a.opened b.opened && (nat_eq a.unmet b.unmet && nat_eq a.met b.met)) e in
+    let o = and_parts (nat_eq a.opened b.opened) (nat_eq a.unmet b.unmet && nat_eq a.met b.met) p.1 in
+    let m = and_parts (nat_eq a.unmet b.unmet) (nat_eq a.met b.met) o.1 in
     ap (λ (x : ℕ). let k : KindKey = record { place = x; opened = a.opened; unmet = a.unmet; met = a.met } in k) (eqb-true a.place b.place p.0)
     ∙ ap (λ (x : ℕ). let k : KindKey = record { place = b.place; opened = x; unmet = a.unmet; met = a.met } in k) (eqb-true a.opened b.opened o.0)
     ∙ ap (λ (x : ℕ). let k : KindKey = record { place = b.place; opened = b.opened; unmet = x; met = a.met } in k) (eqb-true a.unmet b.unmet m.0)
@@ -41,18 +36,14 @@ all_true false x y z a b c d = a
 same_itself : (a : KindKey) → same_by a a ≡ true
 same_itself a = all_true (nat_eq a.place a.place) (nat_eq a.opened a.opened) (nat_eq a.unmet a.unmet) (nat_eq a.met a.met) (eq-eqb a.place a.place refl) (eq-eqb a.opened a.opened refl) (eq-eqb a.unmet a.unmet refl) (eq-eqb a.met a.met refl)
 
-neither : (x y : Bool) → (x || y) ≡ false → (x ≡ false) × (y ≡ false)
-neither true y e = absurd (false≢true (sym e))
-neither false y e = (refl, e)
-
 -- no kind has a key that is not among theirs
 no_key : (key : KindKey) (kinds : List Kind) → list_any (same_by key) (map key_of kinds) ≡ false → (k : ℕ) (d : Kind) → k < length kinds → key_of (get_or kinds k d) ≢ key
 no_key key [] h k d l e = absurd (omega arith)
 no_key key (x ∷ kinds) h zero d l e =
-    let none = neither (same_by key (key_of x)) (list_any (same_by key) (map key_of kinds)) h in
+    let none = or_parts (same_by key (key_of x)) (list_any (same_by key) (map key_of kinds)) h in
     false≢true (sym none.0 ∙ ap (same_by key) e ∙ same_itself key)
 no_key key (x ∷ kinds) h (suc k) d l e =
-    let none = neither (same_by key (key_of x)) (list_any (same_by key) (map key_of kinds)) h in
+    let none = or_parts (same_by key (key_of x)) (list_any (same_by key) (map key_of kinds)) h in
     no_key key kinds none.1 k d (omega arith) e
 
 pub is_absent : (added there : Bool) → added ≡ not there → added ≡ true → there ≡ false

@@ -3,9 +3,8 @@ ghost use Rattle.outside.specs.Faults.{Rose};
 ghost use Rattle.outside.specs.Sent.{HasSentPart, Sends};
 ghost use Rattle.status_lines.specs.Lines.{form_cause_text, grammar_cause_text};
 
-use crate::number::put_number;
 use grammar_reader::GrammarCause;
-use outside::{Sink, Waiting, WriteErr};
+use outside::{Sink, Waiting, WriteErr, put_number};
 use timeline_text::FormErr;
 
 /// The name of a grammar's cause.

@@ -4,10 +4,10 @@ ghost use Rattle.outside.specs.Sent.{appended, HasSentPart, Sends};
 ghost use Rattle.status_lines.specs.Lines.{status_text};
 
 use crate::cause::{put_form_cause, put_grammar_cause};
-use crate::number::{put_number, put_worded};
+use crate::number::put_worded;
 use crate::status::Status;
 use grammar_reader::GrammarCause;
-use outside::{Sink, Waiting, WriteErr};
+use outside::{Sink, Waiting, WriteErr, put_number};
 use timeline_text::FormErr;
 
 /// Puts the line of a file that is no grammar.

@@ -6,7 +6,7 @@ use Rattle.std.proofs.lemmas.List.{get_or-drop, length-drop}
 use Rattle.weight_law.specs.declared.Weight.{Ghosts}
 use Rattle.tier_core.specs.declared.class.Class.{Class}
 use Rattle.arc_table.specs.declared.arc.TableArc.{TableArc}
-use Rattle.arc_table.specs.Conditions.{AreDisjoint}
+use Rattle.tier_core.specs.Classes.{AreDisjoint}
 
 pub apart_later : {W : Type 0} {g : Ghosts W} (arcs : List (TableArc W g)) (place : ℕ) (class : Class) → All (λ arc. AreDisjoint class arc.class) (take (length arcs - (place + 1)) (drop (place + 1) arcs)) → (j : ℕ) (d : TableArc W g) → place < j → j < length arcs → AreDisjoint class (get_or arcs j d).class
 apart_later {W} {g} arcs place class all j d less inside =

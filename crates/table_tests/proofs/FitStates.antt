@@ -6,7 +6,8 @@ use Rattle.weight_law.specs.declared.Weight.{Ghosts}
 use Rattle.arc_table.specs.declared.arc.TableArc.{TableArc}
 use Rattle.arc_table.specs.declared.state.TableState.{TableState}
 use Rattle.arc_table.specs.Moves.{moves_at}
-use Rattle.arc_table.specs.Conditions.{AreDisjoint, TargetsExist, ClassesDisjoint, ClassesFilled, OneWidth}
+use Rattle.tier_core.specs.Classes.{AreDisjoint}
+use Rattle.arc_table.specs.Conditions.{TargetsExist, ClassesDisjoint, ClassesFilled, OneWidth}
 use Rattle.arc_table.specs.Runs.{SizesWithin}
 use Rattle.arc_table.proofs.Push.{moves_exist}
 use Rattle.table_tests.specs.Fit.{IsFit, AreFit}

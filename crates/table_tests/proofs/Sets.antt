@@ -7,37 +7,8 @@ use Rattle.tier_core.specs.declared.sym.Sym.TheVariants.{Outside, Inside, Start,
 use Rattle.tier_core.specs.Symbols.{symbols}
 use Rattle.tier_core.specs.Sets.{is_in}
 use Rattle.tier_core.specs.Classes.{sets_have}
+use Rattle.tier_core.proofs.SetLemmas.{any_of}
 use Rattle.table_tests.specs.Fit.{in_both}
-
--- a symbol that passes is one of the five
-any_of : (p : Sym → Bool) (s : Sym) → p s ≡ true → list_any p symbols ≡ true
-any_of p Outside e = rw e refl
-any_of p Inside e = go (p Outside)
-  where
-    go : (a : Bool) → (a || (p Inside || (p Start || (p End || (p Both || false))))) ≡ true
-    go true = refl
-    go false = rw e refl
-any_of p Start e = go (p Outside) (p Inside)
-  where
-    go : (a b : Bool) → (a || (b || (p Start || (p End || (p Both || false))))) ≡ true
-    go true b = refl
-    go false true = refl
-    go false false = rw e refl
-any_of p End e = go (p Outside) (p Inside) (p Start)
-  where
-    go : (a b c : Bool) → (a || (b || (c || (p End || (p Both || false))))) ≡ true
-    go true b c = refl
-    go false true c = refl
-    go false false true = refl
-    go false false false = rw e refl
-any_of p Both e = go (p Outside) (p Inside) (p Start) (p End)
-  where
-    go : (a b c d : Bool) → (a || (b || (c || (d || (p Both || false))))) ≡ true
-    go true b c d = refl
-    go false true c d = refl
-    go false false true d = refl
-    go false false false true = refl
-    go false false false false = rw e refl
 
 pub disjoint_by_first : (xs ys : List ℕ) (column : List Sym) → length xs ≡ 1 → length ys ≡ 1 → list_any (in_both (get_or xs 0 0) (get_or ys 0 0)) symbols ≡ false → sets_have xs column ≡ true → sets_have ys column ≡ true → ⊥
 disjoint_by_first [] ys column l m e h k = absurd (omega (arith, l))

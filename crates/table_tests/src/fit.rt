@@ -2,7 +2,7 @@ ghost use Rattle.std.specs.Prelude.{◌≡◌, ◌<◌, ◌^◌, All, AllPairs, 
 ghost use Rattle.std.specs.List.{list_any};
 ghost use Rattle.tier_core.specs.Symbols.{symbols};
 ghost use Rattle.tier_core.specs.Sets.{is_in};
-ghost use Rattle.arc_table.specs.Conditions.{AreDisjoint};
+ghost use Rattle.tier_core.specs.Classes.{AreDisjoint};
 ghost use Rattle.table_tests.specs.Fit.{IsFit, AreFit, in_both};
 
 use arc_table::{TableArc, TableState};

@@ -1,11 +1,11 @@
 -- Reading all tiers of a timeline at once.
-use Rattle.std.proofs.Common.{◌≡◌, ℕ, ◌+◌, ◌<◌, ◌≤◌, Bool, true, false, not, ◌&&◌, List, ◌∷◌, length, get_or, take, drop, refl, sym, ap, ◌∙◌, subst}
-use Rattle.std.specs.List.{AllByRecursion}
+use Rattle.std.proofs.Common.{◌≡◌, ℕ, ◌+◌, ◌<◌, ◌≤◌, Bool, true, false, not, ◌&&◌, List, ◌∷◌, length, get_or, take, drop, refl, sym, ap, ◌∙◌, subst, zero, suc, [], map, ⊎_elim}
+use Rattle.std.specs.List.{AllByRecursion, list_any}
 use Rattle.std.proofs.lemmas.List.{drop_more, drop_all, take_all}
-use Rattle.std.proofs.lemmas.Bool.{and_parts, false≢true}
+use Rattle.std.proofs.lemmas.Bool.{and_parts, false≢true, or_left, or_right, or_cases}
 use Rattle.tier_core.specs.declared.sym.Sym.{Sym}
 use Rattle.tier_core.specs.declared.sym.Sym.TheVariants.{Outside}
-use Rattle.tier_core.specs.Timelines.{word, symbol, IsWellFormed}
+use Rattle.tier_core.specs.Timelines.{word, symbol, IsWellFormed, is_edge, has_edge}
 use Rattle.tier_core.specs.Scan.{fits, opens}
 use Rattle.tier_core.proofs.WordLemmas.{runs}
 use Rattle.tier_core.proofs.WordForm.{runs_from_well_formed, well_formed_from_runs}
@@ -42,3 +42,15 @@ closed_at_end width k t T held l g rest wf =
     of_not : (b : Bool) → not b ≡ true → b ≡ false
     of_not true e = absurd (false≢true e)
     of_not false e = refl
+
+-- a column has an edge where one of its symbols is one
+-- an edge anywhere is an edge of the column
+pub edge_at : (column : List Sym) (t : ℕ) → is_edge (symbol column t) ≡ true → has_edge column ≡ true
+edge_at [] t h = absurd (false≢true h)
+edge_at (s ∷ ss) zero h = or_left (is_edge s) (list_any is_edge ss) h
+edge_at (s ∷ ss) (suc t) h = or_right (is_edge s) (list_any is_edge ss) (edge_at ss t h)
+
+pub edge_of_part : (inputs : List ℕ) (column : List Sym) → has_edge (map (symbol column) inputs) ≡ true → has_edge column ≡ true
+edge_of_part [] column h = absurd (false≢true h)
+edge_of_part (x ∷ xs) column h =
+    ⊎_elim (λ a. edge_at column x a) (λ a. edge_of_part xs column a) (or_cases (is_edge (symbol column x)) (has_edge (map (symbol column) xs)) h)

@@ -62,7 +62,7 @@ cmp_at rank p q n d l h other =
 
 -- ---- bits that differ
 
-bit_value : (n : ℕ) → n < 2 → n ≡ cond (n == 1) 1 0
+pub bit_value : (n : ℕ) → n < 2 → n ≡ cond (n == 1) 1 0
 bit_value zero l = refl
 bit_value (suc zero) l = refl
 bit_value (suc (suc n)) l = absurd (omega arith)

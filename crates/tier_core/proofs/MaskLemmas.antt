@@ -1,5 +1,5 @@
 -- The tiers of a mask.
-use Rattle.std.proofs.Common.{◌≡◌, ◌↔◌, IsTrue, subst, sym, ℕ, zero, suc, ◌≤◌, length, ◌+◌, ◌*◌, ◌%◌, ◌==◌, bit_or, w16, ◌^◌, ◌<◌, true, false, cond, List, [], ◌∷◌, ◌++◌, map, ap, ◌∙◌, ⊎_elim, arith, add-one}
+use Rattle.std.proofs.Common.{◌≡◌, ◌↔◌, IsTrue, subst, sym, ℕ, zero, suc, ◌≤◌, length, ◌+◌, ◌*◌, ◌%◌, ◌==◌, bit_or, w16, ◌^◌, ◌<◌, true, false, cond, List, [], ◌∷◌, ◌++◌, map, ap, ◌∙◌, ⊎_elim, arith, add-one, w32}
 use Rattle.std.specs.Int.{bit_at, trailing_zeros}
 use Rattle.std.specs.List.{AllByRecursion}
 use Rattle.tier_core.proofs.CountLemmas.{all_weaker}
@@ -46,6 +46,18 @@ with_tier_same mask k h = ap (λ b. b == 1) (bit_at_set_same w16 mask k h)
 
 pub with_tier_other : (mask k t : ℕ) → k < 16 → t < k → has_tier (bit_or mask (1 * 2 ^ k % 2 ^ 16)) t ≡ has_tier mask t
 with_tier_other mask k t h l = ap (λ b. b == 1) (bit_at_set_other w16 mask k h t (λ e. absurd (omega arith)))
+
+-- the same of a mask of 32 bits
+pub set_few : (mask k : ℕ) → k < 32 → mask < 2 ^ k → bit_or mask (1 * 2 ^ k % 2 ^ 32) < 2 ^ (k + 1)
+set_few mask k h l =
+    let next : 2 ^ k < 2 ^ (k + 1) = pow_below k (k + 1) (omega arith) in
+    or_lt (k + 1) mask (1 * 2 ^ k % 2 ^ 32) (omega arith) (omega (arith, one_shl k 32 h))
+
+pub set_same : (mask k : ℕ) → k < 32 → has_tier (bit_or mask (1 * 2 ^ k % 2 ^ 32)) k ≡ true
+set_same mask k h = ap (λ b. b == 1) (bit_at_set_same w32 mask k h)
+
+pub set_other : (mask k t : ℕ) → k < 32 → t < k → has_tier (bit_or mask (1 * 2 ^ k % 2 ^ 32)) t ≡ has_tier mask t
+set_other mask k t h l = ap (λ b. b == 1) (bit_at_set_other w32 mask k h t (λ e. absurd (omega arith)))
 
 -- a mask has no tier from its bound on
 pub no_tier_above : (mask k : ℕ) → mask < 2 ^ k → has_tier mask k ≡ false

@@ -1,8 +1,10 @@
 -- Sets of symbols by their numbers.
-use Rattle.std.proofs.Common.{◌≡◌, ℕ, suc, length, ◌==◌, ◌&&◌, Bool, true, false, List, [], ◌∷◌, map, refl, ap, sym, ◌∙◌, get_or, ⊎_elim}
+use Rattle.std.proofs.Common.{◌≡◌, ℕ, suc, length, ◌==◌, ◌&&◌, Bool, true, false, List, [], ◌∷◌, map, refl, ap, sym, ◌∙◌, get_or, ⊎_elim, ◌<◌, arith}
 use Rattle.std.specs.Int.{bit_at}
 use Rattle.std.proofs.lemmas.Bool.{false≢true, cases_eq, and_parts, and_from}
 use Rattle.std.proofs.lemmas.Nat.Bits.{bit_at-pow_same, bit_at-pow_other}
+use Rattle.std.proofs.lemmas.List.Folds.{list_any_at}
+use Rattle.std.specs.List.{list_any}
 use Rattle.tier_core.specs.declared.sym.Sym.{Sym}
 use Rattle.tier_core.specs.declared.sym.Sym.TheVariants.{Outside, Inside, Start, End, Both}
 use Rattle.tier_core.specs.Symbols.{rank, symbols}
@@ -16,6 +18,17 @@ of_rank Inside = refl
 of_rank Start = refl
 of_rank End = refl
 of_rank Both = refl
+
+rank_within : (s : Sym) → rank s < length symbols
+rank_within Outside = omega arith
+rank_within Inside = omega arith
+rank_within Start = omega arith
+rank_within End = omega arith
+rank_within Both = omega arith
+
+-- a symbol that passes is one of the five
+pub any_of : (p : Sym → Bool) (s : Sym) → p s ≡ true → list_any p symbols ≡ true
+any_of p s e = list_any_at p symbols (rank s) Outside (rank_within s) (ap p (of_rank s) ∙ e)
 
 pub rank_same : (r s : Sym) → rank r ≡ rank s → r ≡ s
 rank_same r s e = sym (of_rank r) ∙ ap (λ n. get_or symbols n Outside) e ∙ of_rank s

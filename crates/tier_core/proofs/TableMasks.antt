@@ -1,14 +1,15 @@
 -- The tiers of a mask are those of a table that pass a test, where the bits say so.
-use Rattle.std.proofs.Common.{◌≡◌, ◌↔◌, IsTrue, ℕ, zero, suc, ◌+◌, ◌-◌, ◌≤◌, ◌<◌, ◌^◌, ◌==◌, ◌||◌, Bool, true, false, not, cond, List, [], ◌∷◌, ◌++◌, length, take, refl, ap, sym, ◌∙◌, arith, add-one, ◌&&◌}
+use Rattle.std.proofs.Common.{◌≡◌, ◌↔◌, IsTrue, ℕ, zero, suc, ◌+◌, ◌-◌, ◌≤◌, ◌<◌, ◌^◌, ◌==◌, ◌||◌, Bool, true, false, not, cond, List, [], ◌∷◌, ◌++◌, length, count_by, filter, take, refl, ap, sym, ◌∙◌, arith, add-one, ◌&&◌}
 use Rattle.std.specs.List.{list_any, AllByRecursion}
 use Rattle.std.proofs.lemmas.Bool.{false≢true, eqb-true, eqb-false}
 use Rattle.std.proofs.lemmas.List.{take_more, take_all, append-nil, append_assoc, length-take, length-append}
+use Rattle.std.proofs.lemmas.List.Sums.{length-filter}
 use Rattle.std.proofs.lemmas.Nat.Bits.{bit_at_above}
 use Rattle.tier_core.specs.declared.tier.TierKind.{TierKind}
 use Rattle.tier_core.specs.declared.tier.TierKind.TheVariants.{Input, Overt, Hidden}
 use Rattle.tier_core.specs.Tiers.{is_input, is_overt, is_free, numbers_from, tiers_by_kinds, kind_at, has_tier, tiers_below, tiers_of}
 use Rattle.tier_core.specs.Shapes.{input_count}
-use Rattle.tier_core.proofs.CountLemmas.{all_append, all_weaker}
+use Rattle.tier_core.proofs.CountLemmas.{all_append, all_weaker, count_cons}
 
 -- the bits of a mask are those of the tiers that pass
 pub record IsMaskOf (test : TierKind → Bool) (kinds : List TierKind) (mask : ℕ) : Type 0 where
@@ -163,6 +164,18 @@ listed_within test n (k ∷ kinds) =
     own : (b : Bool) → AllByRecursion (λ t. t < n + length (k ∷ kinds)) (cond b (n ∷ []) [])
     own true = (omega arith, tt)
     own false = tt
+
+-- as many tiers are numbered as pass
+pub numbers_count : {X : Type 0} (test : X → Bool) (n : ℕ) (xs : List X) → length (numbers_from test n xs) ≡ count_by test xs
+numbers_count test n [] = refl
+numbers_count test n (x ∷ xs) = go (test x) (numbers_count test (suc n) xs) ∙ sym (count_cons test x xs)
+  where
+    go : (b : Bool) → length (numbers_from test (suc n) xs) ≡ count_by test xs → length (cond b (n ∷ []) [] ++ numbers_from test (suc n) xs) ≡ cond b 1 0 + count_by test xs
+    go true e = omega arith
+    go false e = omega arith
+
+pub length-numbers_from : {X : Type 0} (test : X → Bool) (n : ℕ) (xs : List X) → length (numbers_from test n xs) ≡ length (filter test xs)
+length-numbers_from test n xs = numbers_count test n xs ∙ sym (length-filter test xs)
 
 -- the input tiers and the free ones are as many as the tiers
 pub input_and_free : (n : ℕ) (kinds : List TierKind) → length (numbers_from is_input n kinds) + length (numbers_from is_free n kinds) ≡ length kinds

@@ -1,5 +1,5 @@
 -- The constituents of a word that reads well from left to right.
-use Rattle.std.proofs.Common.{◌≡◌, ℕ, zero, suc, ◌<◌, ◌≤◌, Bool, true, false, not, ◌&&◌, cond, List, [], ◌∷◌, ◌++◌, refl, ap, arith}
+use Rattle.std.proofs.Common.{◌≡◌, ℕ, zero, suc, ◌<◌, ◌≤◌, Bool, true, false, not, ◌&&◌, cond, List, [], ◌∷◌, ◌++◌, refl, ap, arith, length, get_or}
 use Rattle.std.specs.Prelude.{is_some}
 use Rattle.std.specs.List.{AllByRecursion}
 use Rattle.std.proofs.lemmas.Bool.{false≢true}
@@ -19,6 +19,11 @@ abbrev pub open_at : Bool → List Sym → ℕ → Bool
 open_at b w zero = b
 open_at b [] (suc q) = false
 open_at b (s ∷ w) (suc q) = open_at (opens s) w q
+
+pub open_suc : (b : Bool) (w : List Sym) (q : ℕ) → q < length w → open_at b w (suc q) ≡ opens (get_or w q Outside)
+open_suc b [] q l = absurd (omega arith)
+open_suc b (s ∷ w) zero l = refl
+open_suc b (s ∷ w) (suc q) l = open_suc (opens s) w q (omega arith)
 
 -- the constituents in the order of their ends, where one that started at i may be open
 abbrev pub ended : ℕ → ℕ → List Sym → List (ℕ × ℕ)

@@ -20,5 +20,5 @@ abbrev pub has : Class → List Sym → Bool
 has class column = sets_have (sets_of class) column
 
 -- no column is in both classes
-abbrev pub AreApart : Class → Class → Type 0
-AreApart c d = (column : List Sym) → IsTrue (has c column) → IsTrue (has d column) → ⊥
+abbrev pub AreDisjoint : Class → Class → Type 0
+AreDisjoint c d = (column : List Sym) → IsTrue (has c column) → IsTrue (has d column) → ⊥

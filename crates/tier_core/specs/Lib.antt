@@ -6,6 +6,7 @@ pub mod Orders
 pub mod Tiers
 pub mod Tables
 pub mod Scan
+pub mod Sides
 pub mod Sets
 pub mod Classes
 pub mod Kinds

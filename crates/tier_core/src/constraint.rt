@@ -1,4 +1,6 @@
-use crate::event::EventList;
+ghost use Rattle.std.specs.Prelude.{◌≡◌};
+
+use crate::event::{EventList, has_edge_type};
 
 /// The two families of constraints (Eisner 1997).
 #[derive(Clone, Copy, Debug, PartialEq, Eq)]
@@ -9,6 +11,17 @@ pub enum Family {
     Clash,
 }
 
+impl Family {
+    ghost use Rattle.tier_core.specs.Sides.{is_implication};
+
+    /// Whether it is the family of implications.
+    pub fn is_implication(self) -> bool
+        ensures { result ≡ is_implication self }
+    {
+        matches!(self, Family::Implication)
+    }
+}
+
 /// A constraint: a family, and the types of events on its two sides.
 #[derive(Drop)]
 pub struct Constraint {
@@ -16,4 +29,15 @@ pub struct Constraint {
     pub family: Family,
     pub left: EventList,
     pub right: EventList,
+}
+
+impl Constraint {
+    ghost use Rattle.tier_core.specs.Sides.{is_stretch};
+
+    /// Whether it is a stretch implication: an implication whose left side has interiors alone.
+    pub fn is_stretch(&self) -> bool
+        ensures { result ≡ is_stretch self.now }
+    {
+        self.family.is_implication() && !has_edge_type(self.left.as_slice())
+    }
 }

@@ -1,4 +1,5 @@
 ghost use Rattle.std.specs.Prelude.{◌≡◌, ◌<◌, ◌≤◌, length, All};
+ghost use Rattle.tier_core.specs.Sides.{has_edge_type};
 
 use smallvec::SmallVec;
 use std::alloc::Global;
@@ -14,6 +15,17 @@ pub enum Part {
     /// What lies between its edges, written as the tier alone.
     #[default]
     Interior,
+}
+
+impl Part {
+    ghost use Rattle.tier_core.specs.Sides.{is_edge_part};
+
+    /// Whether it is an edge: a start or an end.
+    pub fn is_edge(self) -> bool
+        ensures { result ≡ is_edge_part self }
+    {
+        matches!(self, Part::Start | Part::End)
+    }
 }
 
 /// A type of events: a part of the constituents of one tier, which is counted from 0.
@@ -67,4 +79,11 @@ impl EventList {
     {
         self.events.as_slice()
     }
+}
+
+/// Whether one of the types of events is an edge.
+pub fn has_edge_type(types: &[Event]) -> bool
+    ensures { result ≡ has_edge_type types.now }
+{
+    types.iter().any(|event| event.part.is_edge())
 }

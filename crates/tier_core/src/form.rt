@@ -7,23 +7,6 @@ use crate::column::Column;
 use crate::sym::Sym;
 use crate::timeline::Timeline;
 
-/// Whether a symbol may come where its tier is open, or is not.
-fn may_come(is_open: bool, sym: Sym) -> bool
-    ensures { result ≡ fits is_open sym }
-{
-    match sym {
-        Sym::Outside | Sym::Start => !is_open,
-        Sym::Inside | Sym::End | Sym::Both => is_open,
-    }
-}
-
-/// Whether the tier is open after a symbol.
-fn is_open_after(sym: Sym) -> bool
-    ensures { result ≡ opens sym }
-{
-    matches!(sym, Sym::Inside | Sym::Start | Sym::Both)
-}
-
 /// Reads one column: whether each symbol fits its tier, and then which tiers are open after it.
 fn advance(held: &mut [bool; 12], column: &[Sym]) -> bool
     requires { length column.now ≤ 12 }
@@ -32,10 +15,10 @@ fn advance(held: &mut [bool; 12], column: &[Sym]) -> bool
     ensures others { (t : ℕ) → length column.now ≤ t → slice_index_or held.new t false ≡ slice_index_or held.old t false }
 {
     for (tier, sym) in column.iter().enumerate() {
-        if !may_come(held[tier], *sym) {
+        if !sym.may_come(held[tier]) {
             return false;
         }
-        held[tier] = is_open_after(*sym);
+        held[tier] = sym.is_open_after();
     }
     true
 }

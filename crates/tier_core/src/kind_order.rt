@@ -1,19 +1,11 @@
 ghost use Rattle.std.specs.Prelude.{◌≡◌, ◌<◌, ◌^◌, ℕ};
-ghost use Rattle.tier_core.specs.Tiers.{has_tier};
 ghost use Rattle.tier_core.specs.Kinds.{AreStretchesBelow, kind_order, open_order, open_tiers, phase_at, phase_order, phase_rank, phases};
 ghost use Rattle.tier_core.specs.KindShapes.{FitsShape, kind_in};
 
 use crate::kind::Kind;
+use crate::mask::has_bit;
 use crate::shape::Shape;
 use std::cmp::Ordering;
-
-/// Whether the bit of a place is set.
-fn is_set(mask: u32, place: u32) -> bool
-    requires { place < 32 }
-    ensures { result ≡ has_tier mask place }
-{
-    (mask >> place) & 1 == 1
-}
 
 /// Compares masks of open tiers: the first tier that is open in one alone decides, and the mask
 /// in which it is open comes after the other.
@@ -24,7 +16,7 @@ fn cmp_opened(a: u16, b: u16) -> Ordering
     if apart == 0 {
         return Ordering::Equal;
     }
-    if is_set(a as u32, apart.trailing_zeros()) {
+    if has_bit(a as u32, apart.trailing_zeros()) {
         Ordering::Greater
     } else {
         Ordering::Less
@@ -36,9 +28,9 @@ fn phase_rank(kind: &Kind, place: u32) -> u32
     requires { place < 32 }
     ensures { result ≡ phase_rank (phase_at kind.now place) }
 {
-    if is_set(kind.met, place) {
+    if has_bit(kind.met, place) {
         2
-    } else if is_set(kind.unmet, place) {
+    } else if has_bit(kind.unmet, place) {
         1
     } else {
         0

@@ -1,22 +1,15 @@
 ghost use Rattle.std.specs.Prelude.{◌≡◌, ◌^◌, ◌<◌, ◌≤◌, length, map, IfOk, IsTrue};
 ghost use Rattle.std.specs.List.{AllByRecursion};
-ghost use Rattle.tier_core.specs.Tiers.{has_tier, tiers_of};
+ghost use Rattle.tier_core.specs.Tiers.{tiers_of};
 ghost use Rattle.tier_core.specs.Timelines.{symbol, squeeze, project};
 
 use crate::column::Column;
 use crate::form::has_edge;
+use crate::mask::has_bit;
 use crate::sym::Sym;
 use crate::timeline::{NoMemory, Timeline};
 use smallvec::SmallVec;
 use std::alloc::Global;
-
-/// Whether a mask has the bit of a tier.
-fn is_kept(keep: u16, tier: usize) -> bool
-    requires { tier < 16 }
-    ensures { result ≡ has_tier keep tier }
-{
-    (keep >> tier) & 1 == 1
-}
 
 /// The symbols of the tiers in a mask.
 fn kept_syms(alloc: Global, column: &[Sym], keep: u16) -> SmallVec<Sym, 12>
@@ -27,7 +20,7 @@ fn kept_syms(alloc: Global, column: &[Sym], keep: u16) -> SmallVec<Sym, 12>
 {
     let mut syms = SmallVec::new(alloc);
     for tier in 0..12 {
-        if is_kept(keep, tier) {
+        if has_bit(keep as u32, tier as u32) {
             syms.push_reserved(column[tier]);
         }
     }

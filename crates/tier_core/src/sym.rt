@@ -1,4 +1,5 @@
 ghost use Rattle.std.specs.Prelude.{◌≡◌};
+ghost use Rattle.tier_core.specs.Scan.{fits, opens};
 ghost use Rattle.tier_core.specs.Symbols.{byte_of, sym_of};
 ghost use Rattle.tier_core.specs.Timelines.{is_edge};
 
@@ -53,5 +54,22 @@ impl Sym {
         ensures { result ≡ is_edge self }
     {
         matches!(self, Sym::Start | Sym::End | Sym::Both)
+    }
+
+    /// Whether the symbol may come where its tier is open, or is not.
+    pub fn may_come(self, is_open: bool) -> bool
+        ensures { result ≡ fits is_open self }
+    {
+        match self {
+            Sym::Outside | Sym::Start => !is_open,
+            Sym::Inside | Sym::End | Sym::Both => is_open,
+        }
+    }
+
+    /// Whether its tier is open after the symbol.
+    pub fn is_open_after(self) -> bool
+        ensures { result ≡ opens self }
+    {
+        matches!(self, Sym::Inside | Sym::Start | Sym::Both)
     }
 }

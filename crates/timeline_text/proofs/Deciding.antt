@@ -17,7 +17,7 @@ use Rattle.timeline_text.specs.declared.form_err.FormErr.TheVariants.{BadSymbol,
 use Rattle.timeline_text.specs.Texts.{text_of, IsTextOf}
 use Rattle.timeline_text.specs.Causes.{is_known, pieces_of, columns_of, bad_symbol, wrong_width, no_edge, IsFirstIllFormed, Comes, order, IsCause}
 use Rattle.timeline_text.specs.Readings.{HasReading}
-use Rattle.timeline_text.proofs.Searches.{by_test, by_option, none_any, any_none}
+use Rattle.timeline_text.proofs.Searches.{by_test, by_option, none_any, any_none, none_some}
 use Rattle.timeline_text.proofs.Cuts.{cut_back, columns_back, no_word}
 use Rattle.timeline_text.proofs.Forms.{text_back, length_columns, widths_from, reduced_from, reduced_any, widths_any}
 use Rattle.timeline_text.proofs.Known.{text_known}
@@ -27,9 +27,6 @@ not_the_word bytes h e = false≢true (sym h ∙ (bytes_eq-Decides bytes (codes 
 
 pub the_word : (bytes : List ℕ) → bytes_eq bytes (codes "empty") ≡ true → bytes ≡ codes "empty"
 the_word bytes h = (bytes_eq-Decides bytes (codes "empty")).0 h
-
-none_some : {X : Type 0} {o : Option X} {x : X} → o ≡ None → o ≡ Some x → ⊥
-none_some e f = cc
 
 -- causes that are tried before the n-th do not come
 earlier : (width limit : ℕ) (bytes : List ℕ) (n : ℕ) → (0 < n → bad_symbol bytes ≡ None) → (1 < n → wrong_width width bytes ≡ None) → (2 < n → length (pieces_of bytes) ≤ limit)

@@ -4,16 +4,13 @@ use Rattle.std.specs.List.{onto_first, join_with_byte, list_any, AllByRecursion}
 use Rattle.std.proofs.lemmas.Bool.Decides.{nat_tests}
 use Rattle.std.proofs.lemmas.List.{length-map}
 use Rattle.std.proofs.lemmas.List.Splits.{slice_split-cons_yes, slice_split-cons_no, length-slice_split, join_with_byte-slice_split}
+use Rattle.std.proofs.lemmas.Bool.{or_parts, or_from}
 use Rattle.tier_core.specs.declared.sym.Sym.{Sym}
 use Rattle.tier_core.specs.Symbols.{byte_of}
 use Rattle.tier_core.specs.Timelines.{has_edge, IsReduced}
 use Rattle.timeline_text.specs.Texts.{text_of}
 use Rattle.timeline_text.specs.Causes.{is_space, is_known, pieces_of, symbol_of_byte, columns_of}
 use Rattle.timeline_text.proofs.Searches.{by_test}
-
-pub or_none : (a b : Bool) → (a || b) ≡ false → (a ≡ false) × (b ≡ false)
-or_none true b h = cc
-or_none false b h = (refl, h)
 
 known_back : (b : ℕ) → is_space b ≡ false → not (is_known b) ≡ false → byte_of (symbol_of_byte b) ≡ b
 known_back b h k = grind (arith, nat_tests)
@@ -26,7 +23,7 @@ onto_map b (p ∷ ps) = refl
 pub pieces_back : (bytes : List ℕ) → list_any (λ b. not (is_known b)) bytes ≡ false → map (map byte_of) (columns_of bytes) ≡ pieces_of bytes
 pieces_back [] h = refl
 pieces_back (b ∷ bytes) h =
-    let each = or_none _ _ h in
+    let each = or_parts _ _ h in
     let rest = pieces_back bytes each.1 in
     by_test (is_space b)
     (λ e.
@@ -60,7 +57,7 @@ same_back m n h = grind (arith, nat_tests)
 pub widths_from : (width : ℕ) (ps : List (List ℕ)) → list_any (λ p. not (length p == width)) ps ≡ false → AllByRecursion (λ column. length column ≡ width) (map (map symbol_of_byte) ps)
 widths_from width [] h = tt
 widths_from width (p ∷ ps) h =
-    let each = or_none (not (length p == width)) (list_any (λ q. not (length q == width)) ps) h in
+    let each = or_parts (not (length p == width)) (list_any (λ q. not (length q == width)) ps) h in
     (length-map p symbol_of_byte ∙ same_from (length p) width each.0, widths_from width ps each.1)
 
 true_from : (b : Bool) → not b ≡ false → b ≡ true
@@ -73,16 +70,13 @@ false_from false h = cc
 
 pub reduced_from : (T : List (List Sym)) → list_any (λ column. not (has_edge column)) T ≡ false → IsReduced T
 reduced_from [] h = tt
-reduced_from (column ∷ T) h = let each = or_none _ _ h in (true_from _ each.0, reduced_from T each.1)
-
-or_both : (a b : Bool) → a ≡ false → b ≡ false → (a || b) ≡ false
-or_both a b e f = cc
+reduced_from (column ∷ T) h = let each = or_parts _ _ h in (true_from _ each.0, reduced_from T each.1)
 
 pub reduced_any : (T : List (List Sym)) → IsReduced T → list_any (λ column. not (has_edge column)) T ≡ false
 reduced_any [] h = refl
-reduced_any (column ∷ T) h = or_both _ _ (false_from _ h.0) (reduced_any T h.1)
+reduced_any (column ∷ T) h = or_from _ _ (false_from _ h.0) (reduced_any T h.1)
 
 pub widths_any : (width : ℕ) (T : List (List Sym)) → AllByRecursion (λ column. length column ≡ width) T → list_any (λ p. not (length p == width)) (map (map byte_of) T) ≡ false
 widths_any width [] h = refl
 widths_any width (column ∷ T) h =
-    or_both _ _ (same_back _ _ (length-map column byte_of ∙ h.0)) (widths_any width T h.1)
+    or_from _ _ (same_back _ _ (length-map column byte_of ∙ h.0)) (widths_any width T h.1)

@@ -8,6 +8,9 @@ pub by_test : {X : Type 0} (t : Bool) → (t ≡ true → X) → (t ≡ false �
 by_test true a b = a refl
 by_test false a b = b refl
 
+pub none_some : {X : Type 0} {o : Option X} {x : X} → o ≡ None → o ≡ Some x → ⊥
+none_some e f = cc
+
 pub by_option : {X Y : Type 0} (o : Option X) → ((x : X) → o ≡ Some x → Y) → (o ≡ None → Y) → Y
 by_option None a b = b refl
 by_option (Some x) a b = a x refl

@@ -16,7 +16,7 @@ use Rattle.tier_core.proofs.WordForm.{well_formed_from_runs}
 use Rattle.timeline_text.specs.declared.letter.Letter.{Letter}
 use Rattle.timeline_text.specs.Spelling.{spelled_on, columns_for, HasSound, letter_of, unknown_letter, sound_of, sounds_of, IsSpelledBy}
 use Rattle.std.proofs.lemmas.List.{length-map}
-use Rattle.timeline_text.proofs.Forms.{or_none}
+use Rattle.std.proofs.lemmas.Bool.{or_parts}
 use Rattle.timeline_text.proofs.Searches.{none_any}
 use Rattle.timeline_text.specs.Between.{between, column_between, columns_after}
 
@@ -164,7 +164,7 @@ some_from false h = cc
 sounds_by : (inputs : ℕ) (letters : List Letter) (word : List ℕ) → AllByRecursion (HasSound inputs) letters → list_any (λ b. not (is_some (letter_of letters b))) word ≡ false → AllByRecursion (IsSound inputs) (map (sound_of letters) word)
 sounds_by inputs letters [] h e = tt
 sounds_by inputs letters (b ∷ word) h e =
-    let each = or_none (not (is_some (letter_of letters b))) (list_any (λ x. not (is_some (letter_of letters x))) word) e in
+    let each = or_parts (not (is_some (letter_of letters b))) (list_any (λ x. not (is_some (letter_of letters x))) word) e in
     (letter_sound inputs letters b h (some_from _ each.0), sounds_by inputs letters word h each.1)
 
 -- each letter of a word has a sound

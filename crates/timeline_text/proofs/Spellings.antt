@@ -13,11 +13,8 @@ use Rattle.timeline_text.specs.declared.form_err.FormErr.TheVariants.{BadSymbol,
 use Rattle.timeline_text.specs.Spelling.{unknown_letter, sound_of, sounds_of, IsSpelledBy, IsSpellingCause}
 use Rattle.timeline_text.specs.Readings.{HasSpelling}
 use Rattle.timeline_text.specs.Between.{columns_after}
-use Rattle.timeline_text.proofs.Searches.{by_test, by_option}
+use Rattle.timeline_text.proofs.Searches.{by_test, by_option, none_some}
 use Rattle.timeline_text.proofs.Spell.{spelled_by, spelled_nothing}
-
-none_some : {X : Type 0} {o : Option X} {x : X} → o ≡ None → o ≡ Some x → ⊥
-none_some e f = cc
 
 pub has_spelling : (letters : List Letter) (inputs : ℕ) (bytes : List ℕ) → HasSpelling letters inputs bytes
 has_spelling letters inputs bytes = by_option (unknown_letter letters (drop 1 bytes))

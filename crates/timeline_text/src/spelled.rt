@@ -7,7 +7,7 @@ ghost use Rattle.timeline_text.specs.Between.{between, column_between, columns_a
 use crate::form_err::FormErr;
 use crate::letter::Letter;
 use std::alloc::Global;
-use tier_core::{Column, Sym, Timeline};
+use tier_core::{Column, Sym, Timeline, has_bit};
 
 /// The letter that is written as a byte.
 fn letter_of(letters: &[Letter], byte: u8) -> Option<Letter>
@@ -34,13 +34,6 @@ fn sound_of(letters: &[Letter], byte: u8) -> u16
     }
 }
 
-fn has_tier(mask: u16, tier: u32) -> bool
-    requires { tier < 16 }
-    ensures { result ≡ has_tier mask tier }
-{
-    (mask >> tier) & 1 == 1
-}
-
 fn between(before: bool, after: bool) -> Sym
     ensures { result ≡ between before after }
 {
@@ -60,7 +53,7 @@ fn column_between(alloc: Global, inputs: u32, before: u16, after: u16) -> Column
 {
     let mut syms = [Sym::Outside; 6];
     for tier in 0..inputs {
-        syms[tier as usize] = between(has_tier(before, tier), has_tier(after, tier));
+        syms[tier as usize] = between(has_bit(before as u32, tier), has_bit(after as u32, tier));
     }
     Column::from_syms(alloc, &syms[..inputs as usize])
 }

@@ -15,6 +15,7 @@ use Rattle.tier_core.proofs.CountLemmas.{all_weaker, any_none}
 use Rattle.tier_core.proofs.WordLemmas.{runs, open_at}
 use Rattle.tier_core.proofs.WordCounts.{runs_fits}
 use Rattle.tier_core.proofs.WordForm.{runs_from_well_formed, well_formed_from_runs}
+use Rattle.tier_core.proofs.FormLemmas.{edge_at, edge_of_part}
 use Rattle.violation.specs.Candidates.{IsForm, IsCandidate}
 use Rattle.violation.specs.Conditions.{AreSplit}
 use Rattle.violation.specs.Moves.{input_of}
@@ -24,18 +25,6 @@ use Rattle.violation.proofs.ChoiceLemmas.{all_map}
 use Rattle.violation.proofs.OpenLemmas.{open_read, open_more, prefix_open, take_word, runs_closed, runs_from_reads, runs_reads}
 use Rattle.violation.proofs.PrefixLemmas.{input_part, input_append, IsBegun, form_is, begun_more}
 use Rattle.violation.proofs.TierLemmas.{map_agree, flag_in, flag_none, given, given_out, given_in}
-
-edge_in : (column : List Sym) (t : ℕ) → is_edge (symbol column t) ≡ true → has_edge column ≡ true
-edge_in column t e =
-    ⊎_elim
-    (λ l. list_any_at is_edge column t Outside l e)
-    (λ g. absurd (false≢true (ap is_edge (sym (get_or_past column t Outside g)) ∙ e)))
-    (cases_lt t (length column))
-
--- an edge on some tiers is an edge of the column
-part_edge : (tiers : List ℕ) (column : List Sym) → has_edge (map (symbol column) tiers) ≡ true → has_edge column ≡ true
-part_edge [] column h = absurd (false≢true h)
-part_edge (t ∷ tiers) column h = ⊎_elim (λ e. edge_in column t e) (λ r. part_edge tiers column r) (or_cases _ _ h)
 
 open_some : (width : ℕ) (g : ℕ → Bool) (ts : List ℕ) → AllByRecursion (λ t. t < width) ts → list_any (λ flag. flag) (map g ts) ≡ true → (t : ℕ) × ((t < width) × (g t ≡ true))
 open_some width g [] b h = absurd (false≢true h)
@@ -149,7 +138,7 @@ module _ (tiers : Tiers) (u : List (List Sym)) (split : AreSplit tiers) (form : 
       begun_more tiers u split form p (made tiers.width (filling p)) b
       (length-map-range_with_len (filling p) 0 tiers.width)
       (λ t g. ap (fits (is_open (word p t))) (made_at tiers.width (filling p) t g) ∙ filled_fits p b l t g)
-      (part_edge tiers.input (made tiers.width (filling p)) (ap has_edge part ∙ All-from_recursion (λ column. IsTrue (has_edge column)) u form.reduced (length (input_part tiers p)) [] l))
+      (edge_of_part tiers.input (made tiers.width (filling p)) (ap has_edge part ∙ All-from_recursion (λ column. IsTrue (has_edge column)) u form.reduced (length (input_part tiers p)) [] l))
       (inr (l, part))
 
   filled_place : (p : List (List Sym)) → length (input_part tiers p) < length u
@@ -181,7 +170,7 @@ module _ (tiers : Tiers) (u : List (List Sym)) (split : AreSplit tiers) (form : 
       begun_more tiers u split form p column b
       (length-map-range_with_len (closing p) 0 tiers.width)
       (λ t g. ap (fits (is_open (word p t))) (made_at tiers.width (closing p) t g) ∙ closes_fits (is_open (word p t)))
-      (edge_in column at.0 (ap is_edge (made_at tiers.width (closing p) at.0 at.1.0) ∙ ap (λ o. is_edge (closes o)) at.1.1))
+      (edge_at column at.0 (ap is_edge (made_at tiers.width (closing p) at.0 at.1.0) ∙ ap (λ o. is_edge (closes o)) at.1.1))
       (inl none) in
       ended_candidate (p ++ column ∷ []) more
       (ap length (input_append tiers p (column ∷ []) ∙ ap (λ c. input_part tiers p ++ cond c (input_of tiers column ∷ []) []) none ∙ append-nil (input_part tiers p)) ∙ e)

@@ -11,13 +11,13 @@ use Rattle.tier_core.specs.declared.constraint.Family.TheVariants.{Implication, 
 use Rattle.tier_core.specs.Kinds.{Phase, PrefixKind}
 use Rattle.tier_core.specs.Tiers.{Tiers}
 use Rattle.tier_core.specs.Timelines.{word}
+use Rattle.tier_core.specs.Sides.{is_implication, has_edge_type, is_stretch, edge_among}
 use Rattle.tier_core.proofs.CountLemmas.{bit, all_weaker, all_append}
 use Rattle.violation.specs.Candidates.{IsForm, IsCandidate, vec}
 use Rattle.violation.specs.Conditions.{AreSplit, IsOverTiers, IsCountable}
 use Rattle.violation.specs.Counts.{violations_of, violations_so_far, so_far, viol}
 use Rattle.violation.specs.Moves.{costs, costs_each, first_phase, is_tier_open, move_costs, moved, is_final}
 use Rattle.violation.specs.Prefixes.{is_open, phase, stretches, kind_of}
-use Rattle.violation.specs.Sides.{is_implication, has_edge_type, is_stretch, edge_among}
 use Rattle.violation.specs.Walks.{HasMoves, reached, add_each, walk_costs}
 use Rattle.violation.proofs.CountSteps.{whole, all_agree}
 use Rattle.violation.proofs.MoveLemmas.{opened_after, column_costs}
@@ -76,7 +76,7 @@ add_maps : (f g h : Constraint → ℕ) (cs : List Constraint) → AllByRecursio
 add_maps f g h [] e = refl
 add_maps f g h (c ∷ cs) e = ap (λ n. n ∷ map f cs) e.0 ∙ ap (λ ns. (g c + h c) ∷ ns) (add_maps f g h cs e.1)
 
-add_none : (cs : List Constraint) (ns : List ℕ) → length ns ≡ length cs → add_each (map (λ c. 0) cs) ns ≡ ns
+pub add_none : (cs : List Constraint) (ns : List ℕ) → length ns ≡ length cs → add_each (map (λ c. 0) cs) ns ≡ ns
 add_none [] [] e = refl
 add_none [] (n ∷ ns) e = absurd (omega arith)
 add_none (c ∷ cs) [] e = absurd (omega arith)
@@ -90,7 +90,7 @@ length_add [] b e = refl
 length_add (x ∷ a) [] e = absurd (omega arith)
 length_add (x ∷ a) (y ∷ b) e = ap suc (length_add a b (omega arith))
 
-length_costs : (cs : List Constraint) (o : ℕ → Bool) (phases : List Phase) (column : List Sym) → length (costs_each cs o phases column) ≡ length cs
+pub length_costs : (cs : List Constraint) (o : ℕ → Bool) (phases : List Phase) (column : List Sym) → length (costs_each cs o phases column) ≡ length cs
 length_costs [] o phases column = refl
 length_costs (c ∷ cs) o phases column = ap suc (length_costs cs o (cond (is_stretch c) (drop 1 phases) phases) column)
 

@@ -11,13 +11,13 @@ use Rattle.tier_core.specs.declared.constraint.Family.{Family}
 use Rattle.tier_core.specs.declared.constraint.Family.TheVariants.{Implication, Clash}
 use Rattle.tier_core.specs.Scan.{fits, opens}
 use Rattle.tier_core.specs.Timelines.{symbol, is_edge, word, IsWellFormed}
-use Rattle.tier_core.proofs.CountLemmas.{bit, all_append}
+use Rattle.tier_core.specs.Sides.{has_edge_type, edge_among}
+use Rattle.tier_core.proofs.CountLemmas.{bit, all_append, all_of}
 use Rattle.tier_core.proofs.WordCounts.{runs_fits}
 use Rattle.tier_core.proofs.WordForm.{runs_from_well_formed}
 use Rattle.violation.specs.Columns.{edge_cost, opens_all, is_present, opens_interior}
 use Rattle.violation.specs.Conditions.{AreTiersBelow, IsCountable, AreInColumn}
 use Rattle.violation.specs.Counts.{chosen, viol, so_far, is_met}
-use Rattle.violation.specs.Sides.{has_edge_type, edge_among}
 use Rattle.violation.proofs.EdgeSteps.{edge_at, step_count}
 use Rattle.violation.proofs.InteriorSteps.{open_before}
 use Rattle.violation.proofs.OpenSteps.{stretch, clash_ends, implication_ends}
@@ -72,16 +72,12 @@ pub all_agree : {X : Type 0} (p q : X → Bool) (xs : List X) → AllByRecursion
 all_agree p q [] h = refl
 all_agree p q (x ∷ xs) h = ap (λ b. b && list_all p xs) h.0 ∙ ap (λ b. q x && b) (all_agree p q xs h.1)
 
-each_of : {X : Type 0} (P : X → Type 0) (xs : List X) → ((x : X) → P x) → AllByRecursion P xs
-each_of P [] h = tt
-each_of P (x ∷ xs) h = (h x, each_of P xs h)
-
 -- which types are open after one more column
 pub open_step : (types : List Event) (width : ℕ) (T : List (List Sym)) (k : ℕ) (column : List Sym) → IsWellFormed width T → k < length T → column ≡ get_or T k column
     → list_all (open_before T (k + 1)) types ≡ opens_all types column
 open_step types width T k column wf l is =
     ap (λ n. list_all (open_before T n) types) (add-one k)
-    ∙ all_agree (open_before T (suc k)) (λ e. opens (symbol (get_or T k []) e.tier)) types (each_of _ types (open_after_column width T wf k l))
+    ∙ all_agree (open_before T (suc k)) (λ e. opens (symbol (get_or T k []) e.tier)) types (all_of _ types (open_after_column width T wf k l))
     ∙ ap (opens_all types) (column_at T k column l is)
 
 pub open_none : (types : List Event) (T : List (List Sym)) → 0 < length types → list_all (open_before T 0) types ≡ false

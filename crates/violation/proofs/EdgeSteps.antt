@@ -13,11 +13,11 @@ use Rattle.tier_core.specs.declared.constraint.Family.TheVariants.{Implication, 
 use Rattle.tier_core.specs.Events.{Interval, event, events, greatest_low, least_high, meet, is_there}
 use Rattle.tier_core.specs.Timelines.{word, IsWellFormed}
 use Rattle.tier_core.specs.Words.{constituents}
+use Rattle.tier_core.specs.Sides.{is_edge_part, has_edge_type}
 use Rattle.tier_core.proofs.CountLemmas.{bit, count_agree, count_split, all_weaker, all_of}
 use Rattle.violation.specs.Columns.{is_present, edge_cost}
 use Rattle.violation.specs.Conditions.{AreTiersBelow}
 use Rattle.violation.specs.Counts.{choices, chosen, counts, is_met, so_far}
-use Rattle.violation.specs.Sides.{is_edge_part, has_edge_type}
 use Rattle.violation.proofs.ChoiceLemmas.{all_flat, all_map, count_choices, count_where}
 use Rattle.violation.proofs.EventCounts.{event_at, any_event_at}
 use Rattle.violation.proofs.MeetLemmas.{contains, meet_contains, least_from_le, least_from_le_other}
@@ -70,7 +70,7 @@ pub any_agree : {X : Type 0} (p q : X → Bool) (xs : List X) → AllByRecursion
 any_agree p q [] h = refl
 any_agree p q (x ∷ xs) h = ap (λ b. b || list_any p xs) h.0 ∙ ap (λ b. q x || b) (any_agree p q xs h.1)
 
-meets_point : (h lo hi : ℕ) → leb (max h (max lo 0)) (min hi h) ≡ (leb lo h && leb h hi)
+pub meets_point : (h lo hi : ℕ) → leb (max h (max lo 0)) (min hi h) ≡ (leb lo h && leb h hi)
 meets_point h lo hi = grind (arith, nat_tests)
 
 abbrev pub at_point : ℕ → Interval

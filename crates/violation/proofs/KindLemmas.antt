@@ -16,13 +16,13 @@ use Rattle.tier_core.specs.Kinds.{closed, unmet, met}
 use Rattle.tier_core.specs.Scan.{fits, opens}
 use Rattle.tier_core.specs.Timelines.{word, symbol, IsWellFormed}
 use Rattle.tier_core.specs.Words.{constituents_from, starts, next_end, pair_to}
+use Rattle.tier_core.specs.Sides.{edge_among}
 use Rattle.tier_core.proofs.CountLemmas.{all_weaker, any_none}
 use Rattle.tier_core.proofs.WordForm.{runs_from_well_formed}
 use Rattle.tier_core.proofs.WordLemmas.{runs, open_at, constituents_late, next_end_late, runs_end}
 use Rattle.violation.specs.Conditions.{AreTiersBelow}
 use Rattle.violation.specs.Counts.{is_met}
 use Rattle.violation.specs.Prefixes.{last_where, is_open, begun_from, event_begun, is_met_in, phase}
-use Rattle.violation.specs.Sides.{edge_among}
 use Rattle.violation.proofs.ChoiceLemmas.{all_map}
 use Rattle.violation.proofs.CountSteps.{all_agree}
 use Rattle.violation.proofs.EdgeSteps.{any_agree}

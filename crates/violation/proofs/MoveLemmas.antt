@@ -9,13 +9,13 @@ use Rattle.tier_core.specs.declared.constraint.Family.{Family}
 use Rattle.tier_core.specs.declared.constraint.Family.TheVariants.{Implication, Clash}
 use Rattle.tier_core.specs.Kinds.{closed, unmet, met}
 use Rattle.tier_core.specs.Timelines.{word}
+use Rattle.tier_core.specs.Sides.{has_edge_type, edge_among}
 use Rattle.tier_core.proofs.CountLemmas.{bit, all_weaker}
 use Rattle.violation.specs.Columns.{opens_all, is_present, opens_interior}
 use Rattle.violation.specs.Conditions.{AreTiersBelow, IsCountable}
 use Rattle.violation.specs.Counts.{chosen, so_far, is_met}
 use Rattle.violation.specs.Moves.{is_met_phase, is_unmet_phase, next_phase, costs}
 use Rattle.violation.specs.Prefixes.{is_open, phase}
-use Rattle.violation.specs.Sides.{has_edge_type, edge_among}
 use Rattle.violation.proofs.CountSteps.{some_chosen, chosen_below, met_step, open_step, all_agree}
 use Rattle.violation.proofs.EdgeSteps.{edge_at, step_count}
 use Rattle.violation.proofs.InteriorSteps.{open_before}

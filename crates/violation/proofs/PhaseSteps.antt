@@ -12,6 +12,7 @@ use Rattle.tier_core.specs.Events.{event, events, meet, is_there}
 use Rattle.tier_core.specs.Scan.{opens}
 use Rattle.tier_core.specs.Timelines.{word, symbol, IsWellFormed}
 use Rattle.tier_core.specs.Words.{constituents}
+use Rattle.tier_core.specs.Sides.{is_edge_part, edge_among}
 use Rattle.tier_core.proofs.CountLemmas.{bit, all_weaker, all_of, any_from_count, any_none}
 use Rattle.tier_core.proofs.WordForm.{runs_from_well_formed}
 use Rattle.tier_core.proofs.WordLemmas.{open_at, constituents_late}
@@ -19,9 +20,8 @@ use Rattle.violation.specs.Columns.{is_present, opens_interior}
 use Rattle.violation.specs.Conditions.{AreTiersBelow}
 use Rattle.violation.specs.Counts.{is_met}
 use Rattle.violation.specs.Prefixes.{last_where}
-use Rattle.violation.specs.Sides.{is_edge_part, edge_among}
 use Rattle.violation.proofs.ChoiceLemmas.{all_map}
-use Rattle.violation.proofs.EdgeSteps.{any_agree, at_point, met_at_point}
+use Rattle.violation.proofs.EdgeSteps.{any_agree, at_point, met_at_point, meets_point}
 use Rattle.violation.proofs.EventCounts.{interior_before}
 use Rattle.violation.proofs.InteriorSteps.{open_before}
 use Rattle.violation.proofs.MeetLemmas.{contains}
@@ -69,9 +69,6 @@ open_next b [] k = refl
 open_next b (s ∷ w) zero = refl
 open_next b (s ∷ w) (suc k) = open_next (opens s) w k
 
-between_meets : (h lo hi : ℕ) → leb (max h (max lo 0)) (min hi h) ≡ (leb lo h && leb h hi)
-between_meets h lo hi = grind (arith, nat_tests)
-
 edge_between : (i k : ℕ) → (leb (2 * i) (2 * suc k - 1) && leb (2 * suc k - 1) (2 * i)) ≡ false
 edge_between i k = grind (arith, nat_tests)
 
@@ -94,7 +91,7 @@ module _ (width : ℕ) (T : List (List Sym)) (wf : IsWellFormed width T) (k : �
       (all_weaker (λ e. e.tier < width) _ right
       (λ e b.
       any_agree (λ x. is_there (meet (at_point (2 * suc k - 1) ∷ x ∷ []))) (contains (2 * suc k - 1)) (events T e)
-      (all_of _ (events T e) (λ x. between_meets (2 * suc k - 1) x.low x.high))
+      (all_of _ (events T e) (λ x. meets_point (2 * suc k - 1) x.low x.high))
       ∙ any_between e b)
       t)
 

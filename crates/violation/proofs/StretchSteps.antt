@@ -13,6 +13,7 @@ use Rattle.tier_core.specs.declared.event.Part.TheVariants.{Start as StartOf, En
 use Rattle.tier_core.specs.Events.{Interval, event, events, greatest_low}
 use Rattle.tier_core.specs.Timelines.{word, symbol, is_edge, IsWellFormed}
 use Rattle.tier_core.specs.Words.{constituents, starts, ends, is_inside_sym}
+use Rattle.tier_core.specs.Sides.{is_edge_part, edge_among}
 use Rattle.tier_core.proofs.CountLemmas.{bit, count_cons, all_weaker, all_of}
 use Rattle.tier_core.proofs.WordCounts.{start_at, inside_at}
 use Rattle.tier_core.proofs.WordForm.{runs_from_well_formed}
@@ -20,7 +21,6 @@ use Rattle.tier_core.proofs.WordLemmas.{runs, constituents_late}
 use Rattle.violation.specs.Conditions.{AreTiersBelow}
 use Rattle.violation.specs.Counts.{choices}
 use Rattle.violation.specs.Prefixes.{last_where}
-use Rattle.violation.specs.Sides.{is_edge_part, edge_among}
 use Rattle.violation.proofs.ChoiceLemmas.{all_flat, all_map, all_both}
 use Rattle.violation.proofs.EdgeSteps.{is_at, IsFilled}
 use Rattle.violation.proofs.EventCounts.{between_point}

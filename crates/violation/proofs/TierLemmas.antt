@@ -2,6 +2,7 @@
 use Rattle.std.proofs.Common.{◌≡◌, ◌≢◌, ℕ, zero, suc, ◌<◌, ◌==◌, Bool, true, false, cond, List, [], ◌∷◌, map, length, get_or, Contains, refl, sym, ap, ◌∙◌, arith, eq-eqb, ne_eqb, ⊎_elim}
 use Rattle.std.specs.List.{AllByRecursion, list_any}
 use Rattle.std.proofs.lemmas.Bool.{cases_eq, false≢true}
+use Rattle.std.proofs.lemmas.List.Elements.{All-from_recursion}
 use Rattle.tier_core.specs.declared.sym.Sym.{Sym}
 use Rattle.tier_core.proofs.CountLemmas.{all_weaker}
 use Rattle.violation.specs.Conditions.{AreDistinct}
@@ -22,6 +23,15 @@ contains_cases x xs t n c = step c.0 c.1 c.2
 
 pub contains_later : (x : ℕ) (xs : List ℕ) (t : ℕ) → Contains xs t → Contains (x ∷ xs) t
 contains_later x xs t c = (suc c.0, omega (arith, c.1), c.2)
+
+-- the flag of a tier by its place in the list
+pub flag_at : (xs : List ℕ) (flags : List Bool) (j : ℕ) → AreDistinct xs → j < length xs → flag_of xs flags (get_or xs j 0) ≡ get_or flags j false
+flag_at [] flags j d l = absurd (omega arith)
+flag_at (x ∷ xs) [] j d l = refl
+flag_at (x ∷ xs) (f ∷ fs) zero d l = ap (λ b. cond b f (flag_of xs fs x)) (eq-eqb x x refl)
+flag_at (x ∷ xs) (f ∷ fs) (suc j) d l =
+    ap (λ b. cond b f (flag_of xs fs (get_or xs j 0))) (ne_eqb x (get_or xs j 0) (All-from_recursion (λ t. x ≢ t) xs d.0 j 0 (omega arith)))
+    ∙ flag_at xs fs j d.1 (omega arith)
 
 -- the flag of one of the tiers, where the flags are told by a function
 pub flag_in : (f : ℕ → Bool) (xs : List ℕ) (t : ℕ) → Contains xs t → flag_of xs (map f xs) t ≡ f t

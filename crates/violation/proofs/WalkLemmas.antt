@@ -29,7 +29,7 @@ all_split P [] ys h = (tt, h)
 all_split P (x ∷ xs) ys h = let rest : AllByRecursion P xs × AllByRecursion P ys = all_split P xs ys h.1 in ((h.0, rest.0), rest.1)
 
 -- kinds with the same parts
-same_kind : (m n : ℕ) (os qs : List Bool) (ps rs : List Phase) → m ≡ n → os ≡ qs → ps ≡ rs
+pub same_kind : (m n : ℕ) (os qs : List Bool) (ps rs : List Phase) → m ≡ n → os ≡ qs → ps ≡ rs
     → (let k : PrefixKind = record { place = m; opened = os; phases = ps } in k) ≡ record { place = n; opened = qs; phases = rs }
 same_kind m n os qs ps rs a b c =
     ap (λ (x : ℕ). let k : PrefixKind = record { place = x; opened = os; phases = ps } in k) a

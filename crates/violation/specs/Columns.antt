@@ -10,7 +10,7 @@ use Rattle.tier_core.specs.declared.constraint.Family.TheVariants.{Implication, 
 use Rattle.tier_core.specs.Words.{is_inside_sym, starts, ends}
 use Rattle.tier_core.specs.Scan.{opens}
 use Rattle.tier_core.specs.Timelines.{symbol}
-use Rattle.violation.specs.Sides.{is_edge_part}
+use Rattle.tier_core.specs.Sides.{is_edge_part}
 
 -- a start stands at `[` and `|`, an end at `]` and `|`, an interior at `+`
 abbrev pub part_present : Part → Sym → Bool

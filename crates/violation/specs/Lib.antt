@@ -1,4 +1,3 @@
-pub mod Sides
 pub mod Counts
 pub mod Candidates
 pub mod Prefixes

@@ -11,7 +11,7 @@ use Rattle.tier_core.specs.Scan.{fits, opens}
 use Rattle.tier_core.specs.Timelines.{symbol, word, column_at, has_edge}
 use Rattle.tier_core.specs.Tiers.{Tiers}
 use Rattle.tier_core.specs.Kinds.{Phase, closed, unmet, met, PrefixKind}
-use Rattle.violation.specs.Sides.{has_edge_type, edge_among, is_stretch}
+use Rattle.tier_core.specs.Sides.{has_edge_type, edge_among, is_stretch}
 use Rattle.violation.specs.Counts.{chosen}
 use Rattle.violation.specs.Columns.{is_present, opens_interior, opens_all, edge_cost}
 use Rattle.violation.specs.Prefixes.{is_open, stretches}

@@ -13,7 +13,7 @@ use Rattle.tier_core.specs.Timelines.{word, column_at, project, squeeze}
 use Rattle.tier_core.specs.Events.{Interval, meet, is_there}
 use Rattle.tier_core.specs.Tiers.{Tiers}
 use Rattle.tier_core.specs.Kinds.{Phase, closed, unmet, met, PrefixKind}
-use Rattle.violation.specs.Sides.{edge_among, is_stretch}
+use Rattle.tier_core.specs.Sides.{edge_among, is_stretch}
 
 -- in a word, a constituent has started and not ended
 abbrev pub is_open : List Sym → Bool

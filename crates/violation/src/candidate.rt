@@ -6,13 +6,6 @@ ghost use Rattle.violation.specs.Candidates.{IsCandidate};
 
 use tier_core::{Column, Sym, TierKind, TierTable, Timeline, reduced, well_formed};
 
-/// Whether a tier of this kind holds the underlying form.
-fn is_input(kind: TierKind) -> bool
-    ensures { result ≡ is_input kind }
-{
-    matches!(kind, TierKind::Input)
-}
-
 fn is_same(a: Sym, b: Sym) -> bool
     ensures { IsTrue result ↔ (a ≡ b) }
 {
@@ -20,12 +13,12 @@ fn is_same(a: Sym, b: Sym) -> bool
 }
 
 /// Whether a column has an edge on an input tier.
-fn has_input_edge(kinds: &[TierKind], column: &[Sym]) -> bool
+pub fn has_input_edge(kinds: &[TierKind], column: &[Sym]) -> bool
     requires { length column.now ≡ length kinds.now }
     ensures { result ≡ has_edge (map (symbol column.now) (numbers_from is_input 0 kinds.now)) }
 {
     for (tier, kind) in kinds.iter().enumerate() {
-        if is_input(*kind) && column[tier].is_edge() {
+        if kind.is_input() && column[tier].is_edge() {
             return true;
         }
     }
@@ -33,13 +26,13 @@ fn has_input_edge(kinds: &[TierKind], column: &[Sym]) -> bool
 }
 
 /// Whether what a column has on the input tiers is a column of the form.
-fn has_input_part(kinds: &[TierKind], column: &[Sym], form: &[Sym]) -> bool
+pub fn has_input_part(kinds: &[TierKind], column: &[Sym], form: &[Sym]) -> bool
     requires { length column.now ≡ length kinds.now }
     ensures { IsTrue result ↔ (map (symbol column.now) (numbers_from is_input 0 kinds.now) ≡ form.now) }
 {
     let mut next = 0;
     for (tier, kind) in kinds.iter().enumerate() {
-        if is_input(*kind) {
+        if kind.is_input() {
             if next == form.len() || !is_same(column[tier], form[next]) {
                 return false;
             }

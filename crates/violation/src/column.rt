@@ -1,14 +1,12 @@
-ghost use Rattle.std.specs.Prelude.{◌≡◌, ℕ, ◌+◌, ◌<◌, ◌≤◌, ◌&&◌, not, length, slice_index_or};
+ghost use Rattle.std.specs.Prelude.{◌≡◌, length};
 ghost use Rattle.std.specs.List.{list_all, list_any};
-ghost use Rattle.tier_core.specs.Scan.{opens};
-ghost use Rattle.tier_core.specs.Timelines.{symbol, is_edge};
-ghost use Rattle.tier_core.specs.Words.{starts, ends};
+ghost use Rattle.tier_core.specs.Sides.{edge_among};
 ghost use Rattle.violation.specs.Columns.{part_present, is_present, opens_interior, opens_all};
 ghost use Rattle.violation.specs.Conditions.{AreInColumn};
-ghost use Rattle.violation.specs.Sides.{is_edge_part, has_edge_type, edge_among};
 
-use tier_core::{Event, Family, Part, Sym};
+use tier_core::{Event, Part, Sym};
 
+/// Whether a part of a constituent stands at a symbol of its tier.
 fn part_at(part: Part, sym: Sym) -> bool
     ensures { result ≡ part_present part sym }
 {
@@ -17,24 +15,6 @@ fn part_at(part: Part, sym: Sym) -> bool
         Part::End => matches!(sym, Sym::End | Sym::Both),
         Part::Interior => matches!(sym, Sym::Inside),
     }
-}
-
-fn is_edge_sym(sym: Sym) -> bool
-    ensures { result ≡ is_edge sym }
-{
-    matches!(sym, Sym::Start | Sym::End | Sym::Both)
-}
-
-pub fn is_open_after(sym: Sym) -> bool
-    ensures { result ≡ opens sym }
-{
-    matches!(sym, Sym::Inside | Sym::Start | Sym::Both)
-}
-
-fn is_edge_of(part: Part) -> bool
-    ensures { result ≡ is_edge_part part }
-{
-    matches!(part, Part::Start | Part::End)
 }
 
 /// Whether an event of each type stands at a column.
@@ -62,7 +42,7 @@ pub fn has_edge_among(column: &[Sym], types: &[Event]) -> bool
     requires { AreInColumn types.now column.now }
     ensures { result ≡ edge_among types.now column.now }
 {
-    types.iter().any(|e| is_edge_sym(column[e.tier as usize]))
+    types.iter().any(|e| column[e.tier as usize].is_edge())
 }
 
 /// Whether the interior of some type is open after a column.
@@ -70,14 +50,7 @@ pub fn opens_some(column: &[Sym], types: &[Event]) -> bool
     requires { AreInColumn types.now column.now }
     ensures { result ≡ list_any (opens_interior column.now) types.now }
 {
-    types.iter().any(|e| !is_edge_of(e.part) && is_open_after(column[e.tier as usize]))
-}
-
-/// Whether some type is an edge.
-pub fn is_edge_among(types: &[Event]) -> bool
-    ensures { result ≡ has_edge_type types.now }
-{
-    types.iter().any(|e| is_edge_of(e.part))
+    types.iter().any(|e| !e.part.is_edge() && column[e.tier as usize].is_open_after())
 }
 
 /// Whether the tiers of all types are open after a column.
@@ -85,5 +58,7 @@ pub fn opens_each(column: &[Sym], types: &[Event]) -> bool
     requires { AreInColumn types.now column.now }
     ensures { result ≡ opens_all types.now column.now }
 {
-    types.iter().all(|e| is_open_after(column[e.tier as usize]))
+    types
+        .iter()
+        .all(|e| column[e.tier as usize].is_open_after())
 }

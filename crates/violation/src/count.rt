@@ -1,18 +1,16 @@
 ghost use Rattle.std.specs.Prelude.{◌≡◌, ℕ, ◌+◌, ◌<◌, ◌≤◌, ◌++◌, ◌&&◌, ◌||◌, not, true, false, length, slice_index_or};
 ghost use Rattle.std.specs.List.{list_any};
+ghost use Rattle.tier_core.specs.Sides.{has_edge_type, edge_among};
+ghost use Rattle.tier_core.specs.declared.constraint.Family.TheVariants.{Implication, Clash};
 ghost use Rattle.violation.specs.Columns.{edge_cost, opens_all, opens_interior, is_present};
 ghost use Rattle.violation.specs.Conditions.{AreInColumn, IsCountable};
 ghost use Rattle.violation.specs.Counts.{viol, chosen};
-ghost use Rattle.violation.specs.Sides.{has_edge_type, edge_among};
-ghost use Rattle.tier_core.specs.declared.constraint.Family.TheVariants.{Implication, Clash};
 
-use crate::column::{
-    all_present, any_present, has_edge_among, is_edge_among, opens_each, opens_some,
-};
-use tier_core::{Column, Constraint, Event, Family, Sym, Timeline};
+use crate::column::{all_present, any_present, has_edge_among, opens_each, opens_some};
+use tier_core::{Column, Constraint, Event, Family, Sym, Timeline, has_edge_type};
 
-/// Whether a column decides a counted choice.
-fn is_counted_at(family: Family, left: &[Event], right: &[Event], column: &[Sym]) -> bool
+/// Whether a column decides a choice with an edge, and it is counted.
+pub fn is_counted_at(family: Family, left: &[Event], right: &[Event], column: &[Sym]) -> bool
     requires left_in { AreInColumn left.now column.now }
     requires right_in { AreInColumn right.now column.now }
     ensures { result ≡ edge_cost family left.now right.now column.now }
@@ -124,14 +122,14 @@ pub fn violations(timeline: &Timeline, constraint: &Constraint) -> u32
     let columns = timeline.columns();
     match constraint.family {
         Family::Clash => {
-            if is_edge_among(left) || is_edge_among(right) {
+            if has_edge_type(left) || has_edge_type(right) {
                 count_edges(Family::Clash, left, right, columns)
             } else {
                 count_overlaps(left, right, columns)
             }
         }
         Family::Implication => {
-            if is_edge_among(left) {
+            if has_edge_type(left) {
                 count_edges(Family::Implication, left, right, columns)
             } else {
                 count_stretches(left, right, columns)

@@ -18,6 +18,7 @@ pub mod examples;
 mod tests;
 mod vectors;
 
-pub use candidate::is_candidate;
-pub use count::violations;
+pub use candidate::{has_input_edge, has_input_part, is_candidate};
+pub use column::{all_present, any_present, has_edge_among, opens_each, opens_some};
+pub use count::{is_counted_at, violations};
 pub use vectors::{vector, vector_cmp};

@@ -1,5 +1,5 @@
 //! A plain reading of prefixes, tier by tier and event by event, with which the moves are compared.
-use tier_core::{Column, Constraint, Event, EventList, Family, Part, Sym, TierKind};
+use tier_core::{Column, Constraint, Event, EventList, Part, Sym, TierKind};
 
 /// The symbol of a tier at a place; Outside where there is none.
 fn sym_at(columns: &[Column], place: usize, tier: usize) -> Sym {
@@ -42,15 +42,11 @@ fn next_end(columns: &[Column], tier: usize, from: usize) -> usize {
     columns.len()
 }
 
-fn is_input(kind: TierKind) -> bool {
-    matches!(kind, TierKind::Input)
-}
-
 /// Whether a column has an edge on an input tier.
 fn has_input_edge(kinds: &[TierKind], columns: &[Column], place: usize) -> bool {
     for (tier, kind) in kinds.iter().enumerate() {
         let sym = sym_at(columns, place, tier);
-        if is_input(*kind) && (starts(sym) || ends(sym)) {
+        if kind.is_input() && (starts(sym) || ends(sym)) {
             return true;
         }
     }
@@ -73,7 +69,7 @@ pub(super) fn opened(kinds: &[TierKind], columns: &[Column]) -> u16 {
     let mut mask: u16 = 0;
     let mut bit: u16 = 1;
     for (tier, kind) in kinds.iter().enumerate() {
-        if !is_input(*kind) {
+        if !kind.is_input() {
             if is_open(columns, tier) {
                 mask |= bit;
             }
@@ -93,7 +89,7 @@ fn is_of_form(
 ) -> bool {
     let mut input: usize = 0;
     for (tier, kind) in kinds.iter().enumerate() {
-        if is_input(*kind) {
+        if kind.is_input() {
             if sym_at(columns, place, tier) != sym_at(form, at, input) {
                 return false;
             }
@@ -158,12 +154,6 @@ fn meets(columns: &[Column], e: Event, from: usize) -> bool {
     false
 }
 
-fn has_edge_type(types: &[Event]) -> bool {
-    types
-        .iter()
-        .any(|e| matches!(e.part, Part::Start | Part::End))
-}
-
 fn are_open(columns: &[Column], types: &[Event]) -> bool {
     for e in types {
         if !is_open(columns, e.tier as usize) {
@@ -189,9 +179,7 @@ pub(super) fn phases(constraints: &[Constraint], stage: usize, columns: &[Column
     let mut met: u32 = 0;
     let mut bit: u32 = 1;
     for (number, c) in constraints.iter().enumerate() {
-        let is_stretch = matches!(c.family, Family::Implication)
-            && !has_edge_type(c.left.as_slice());
-        if number < stage && is_stretch {
+        if number < stage && c.is_stretch() {
             if are_open(columns, c.left.as_slice()) {
                 if is_met(columns, &c.left, &c.right) {
                     met |= bit;

@@ -4,7 +4,7 @@ use Rattle.answer_text.specs.Text.{class_text}
 use Rattle.tier_core.specs.Classes.{sets_of}
 use Rattle.std.proofs.lemmas.Result.{on_ok_weaker}
 use Rattle.outside.proofs.Sending.{puts_both, puts_both_part}
-use Rattle.answer_text.proofs.Puts.{puts_longer_part}
+use Rattle.outside.proofs.Puts.{puts_longer_part}
 use Rattle.answer_text.proofs.automaton_writer.put_arc.Goals as goal
 
 pub returns-in_err-put_number-clause-part : goal.returns-in_err-put_number-clause-part

@@ -1,9 +1,9 @@
 use Rattle.std.proofs.Common.{arith, refl}
 use Rattle.answer_text.specs.Text.{line, arc_line}
-use Rattle.answer_text.proofs.Puts.{begins}
+use Rattle.outside.proofs.Puts.{begins}
 use Rattle.answer_text.proofs.Lines.{lines_of_map}
 use Rattle.outside.proofs.Sending.{part_of_sends}
-use Rattle.answer_text.proofs.Puts.{each_turn, each_part, each_end}
+use Rattle.outside.proofs.Puts.{each_turn, each_part, each_end}
 use Rattle.answer_text.proofs.automaton_writer.put_arcs.Goals as goal
 
 pub loop-arc-init : goal.loop-arc-init

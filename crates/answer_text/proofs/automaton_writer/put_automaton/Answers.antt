@@ -4,7 +4,7 @@ use Rattle.std.specs.List.{flat_map}
 use Rattle.answer_text.specs.Text.{lines_text, state_lines}
 use Rattle.std.proofs.lemmas.Result.{on_ok_weaker}
 use Rattle.outside.proofs.Sending.{puts_both, puts_both_part}
-use Rattle.answer_text.proofs.Puts.{puts_longer_part}
+use Rattle.outside.proofs.Puts.{puts_longer_part}
 use Rattle.answer_text.proofs.automaton_writer.put_automaton.Goals as goal
 
 pub returns-in_err-put_number-clause-part : goal.returns-in_err-put_number-clause-part

@@ -3,7 +3,7 @@ use Rattle.std.specs.Fmt.{decimal}
 use Rattle.answer_text.specs.Text.{lines_text, arc_line, final_mark}
 use Rattle.std.proofs.lemmas.Result.{on_ok_weaker}
 use Rattle.outside.proofs.Sending.{puts_both, puts_both_part}
-use Rattle.answer_text.proofs.Puts.{puts_more, puts_more_part, puts_longer_part}
+use Rattle.outside.proofs.Puts.{puts_more, puts_more_part, puts_longer_part}
 use Rattle.answer_text.proofs.automaton_writer.put_state.Goals as goal
 
 pub returns-in_err-put_number-clause-part : goal.returns-in_err-put_number-clause-part

@@ -1,9 +1,9 @@
 use Rattle.std.proofs.Common.{arith, refl}
 use Rattle.answer_text.specs.Text.{lines_text, state_lines}
-use Rattle.answer_text.proofs.Puts.{begins}
+use Rattle.outside.proofs.Puts.{begins}
 use Rattle.answer_text.proofs.Lines.{lines_of_each}
 use Rattle.outside.proofs.Sending.{part_of_sends}
-use Rattle.answer_text.proofs.Puts.{each_turn, each_part, each_end}
+use Rattle.outside.proofs.Puts.{each_turn, each_part, each_end}
 use Rattle.answer_text.proofs.automaton_writer.put_states.Goals as goal
 
 pub loop-state-init : goal.loop-state-init

@@ -2,7 +2,7 @@ use Rattle.std.proofs.Common.{arith}
 use Rattle.tier_core.specs.Classes.{sets_of}
 use Rattle.answer_text.specs.Text.{set_text}
 use Rattle.outside.proofs.Sending.{part_of_sends}
-use Rattle.answer_text.proofs.Puts.{each_turn, each_part, each_end}
+use Rattle.outside.proofs.Puts.{each_turn, each_part, each_end}
 use Rattle.answer_text.proofs.class.put_class.Goals as goal
 
 pub loop-tier-preserved : goal.loop-tier-preserved

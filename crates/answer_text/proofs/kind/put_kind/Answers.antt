@@ -5,7 +5,7 @@ use Rattle.answer_text.specs.Text.{open_byte, phase_byte}
 use Rattle.std.proofs.Common.{take}
 use Rattle.std.proofs.lemmas.Result.{on_ok_weaker}
 use Rattle.outside.proofs.Sending.{puts_both, puts_both_part}
-use Rattle.answer_text.proofs.Puts.{puts_more, puts_more_part, puts_longer_part}
+use Rattle.outside.proofs.Puts.{puts_more, puts_more_part, puts_longer_part}
 use Rattle.answer_text.proofs.kind.put_kind.Goals as goal
 
 pub returns-in_err-put_decimal-clause-part : goal.returns-in_err-put_decimal-clause-part

@@ -1,7 +1,7 @@
 use Rattle.std.proofs.Common.{arith, refl}
 use Rattle.answer_text.specs.Text.{after_space}
 use Rattle.outside.proofs.Sending.{part_of_sends}
-use Rattle.answer_text.proofs.Puts.{each_turn, each_part, each_end}
+use Rattle.outside.proofs.Puts.{each_turn, each_part, each_end}
 use Rattle.answer_text.proofs.number.put_numbers.Goals as goal
 
 pub loop-number-preserved : goal.loop-number-preserved

@@ -1,8 +1,8 @@
 use Rattle.std.proofs.lemmas.Result.{on_ok_weaker}
 use Rattle.outside.proofs.Sending.{puts_end_part}
+use Rattle.outside.proofs.Puts.{puts_end, puts_equal}
 use Rattle.answer_text.specs.Text.{counts_line, counts_text, line}
 use Rattle.answer_text.proofs.Lines.{counts_text_is}
-use Rattle.answer_text.proofs.Puts.{puts_end, puts_equal}
 use Rattle.answer_text.proofs.parts.put_counts.Goals as goal
 
 pub returns-clause-ok : goal.returns-clause-ok

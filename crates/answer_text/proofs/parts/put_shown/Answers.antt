@@ -1,7 +1,7 @@
 use Rattle.std.proofs.lemmas.Result.{on_ok_weaker}
 use Rattle.outside.proofs.Sending.{puts_end_part}
+use Rattle.outside.proofs.Puts.{puts_end}
 use Rattle.answer_text.specs.Text.{shown_text}
-use Rattle.answer_text.proofs.Puts.{puts_end}
 use Rattle.answer_text.proofs.parts.put_shown.Goals as goal
 
 pub returns-clause-ok : goal.returns-clause-ok

@@ -2,9 +2,9 @@ use Rattle.std.proofs.Common.{◌++◌, codes, ap}
 use Rattle.timeline_text.specs.Texts.{text_of}
 use Rattle.std.proofs.lemmas.Result.{on_ok_weaker}
 use Rattle.outside.proofs.Sending.{puts_both, puts_both_part}
+use Rattle.outside.proofs.Puts.{puts_equal, puts_equal_part, puts_longer_part}
 use Rattle.answer_text.specs.Text.{counts_line, line, shown_text}
 use Rattle.answer_text.proofs.Lines.{shown_text_is}
-use Rattle.answer_text.proofs.Puts.{puts_equal, puts_equal_part, puts_longer_part}
 use Rattle.answer_text.proofs.parts.put_shown_lines.Goals as goal
 
 pub returns-in_err-put_counts_line-clause-part : goal.returns-in_err-put_counts_line-clause-part

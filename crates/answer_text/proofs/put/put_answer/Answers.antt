@@ -1,8 +1,8 @@
 use Rattle.std.proofs.lemmas.Result.{on_ok_weaker}
 use Rattle.outside.proofs.Sending.{puts_end_part}
+use Rattle.outside.proofs.Puts.{puts_end}
 use Rattle.answer_text.specs.Shape.{widths_of}
 use Rattle.answer_text.specs.Text.{answer_text}
-use Rattle.answer_text.proofs.Puts.{puts_end}
 use Rattle.answer_text.proofs.put.put_answer.Goals as goal
 
 pub returns-clause-ok : goal.returns-clause-ok

@@ -2,7 +2,7 @@ use Rattle.std.proofs.Common.{◌++◌, codes}
 use Rattle.answer_text.specs.Text.{spaced}
 use Rattle.std.proofs.lemmas.Result.{on_ok_weaker}
 use Rattle.outside.proofs.Sending.{puts_both, puts_both_part}
-use Rattle.answer_text.proofs.Puts.{puts_longer_part}
+use Rattle.outside.proofs.Puts.{puts_longer_part}
 use Rattle.answer_text.proofs.put.put_counts_line.Goals as goal
 
 pub returns-in_err-put-clause-part : goal.returns-in_err-put-clause-part

@@ -4,7 +4,7 @@ use Rattle.timeline_text.specs.Texts.{text_of}
 use Rattle.answer_text.proofs.Lines.{head_text}
 use Rattle.std.proofs.lemmas.Result.{on_ok_weaker}
 use Rattle.outside.proofs.Sending.{puts_both, puts_both_part}
-use Rattle.answer_text.proofs.Puts.{puts_more, puts_more_part, puts_longer_part, puts_equal, puts_equal_part}
+use Rattle.outside.proofs.Puts.{puts_more, puts_more_part, puts_longer_part, puts_equal, puts_equal_part}
 use Rattle.answer_text.proofs.put.put_head.Goals as goal
 
 pub returns-in_err-put-clause-part : goal.returns-in_err-put-clause-part

@@ -3,7 +3,7 @@ use Rattle.tier_core.specs.Kinds.{prefix_kind}
 use Rattle.answer_text.specs.Text.{kind_text, after_space}
 use Rattle.std.proofs.lemmas.Result.{on_ok_weaker}
 use Rattle.outside.proofs.Sending.{puts_both, puts_both_part}
-use Rattle.answer_text.proofs.Puts.{puts_longer_part}
+use Rattle.outside.proofs.Puts.{puts_longer_part}
 use Rattle.answer_text.proofs.stage_writer.put_node.Goals as goal
 
 pub returns-in_err-put-clause-part : goal.returns-in_err-put-clause-part

@@ -2,10 +2,10 @@ use Rattle.std.proofs.Common.{rules, tests, ◌≡◌, ◌≤◌, ◌+◌, lengt
 use Rattle.std.specs.List.{slice_split}
 use Rattle.std.specs.Slice.Iter.{split_callee}
 use Rattle.std.proofs.lemmas.List.{length_push, at_drop_all, length-map, map-append}
+use Rattle.timeline_text.proofs.Splits.{split_turn, split_end}
 use Rattle.grammar_reader.specs.Statements.{each_some, event_of, is_the_word}
 use Rattle.grammar_reader.specs.Lexemes.{with_front, seen}
 use Rattle.grammar_reader.specs.Events.{seen_event}
-use Rattle.grammar_reader.proofs.Splits.{split_turn, split_end}
 use Rattle.grammar_reader.proofs.FromLine.{from_line}
 use Rattle.grammar_reader.proofs.Lexing.{front_nil}
 use Rattle.grammar_reader.proofs.EachSome.{some_more, some_none, slice_split-map}

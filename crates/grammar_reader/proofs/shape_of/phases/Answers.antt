@@ -4,7 +4,7 @@ use Rattle.std.proofs.lemmas.Bool.Decides.{nat_tests}
 use Rattle.std.proofs.lemmas.Grind.{common_steps}
 use Rattle.std.proofs.lemmas.List.FromFn.{map-range_with_len_more}
 use Rattle.std.proofs.lemmas.List.Filters.{length-filter_more}
-use Rattle.grammar_reader.specs.ShapeOf.{is_stretch}
+use Rattle.tier_core.specs.Sides.{is_stretch}
 use Rattle.grammar_reader.proofs.Shaping.{bit_value}
 use Rattle.grammar_reader.proofs.shape_of.phases.Goals as goal
 

@@ -1,6 +1,6 @@
 use Rattle.std.proofs.Common.{◌≡◌, ◌+◌, ◌≤◌, length, filter, take, map}
 use Rattle.std.specs.List.{range_with_len}
-use Rattle.grammar_reader.specs.ShapeOf.{is_stretch}
+use Rattle.tier_core.specs.Sides.{is_stretch}
 use Rattle.grammar_reader.proofs.shape_of.phases.Given as goal
 
 abbrev pub invariant-loop-constraint : goal.invariant-loop-constraint

@@ -3,10 +3,10 @@ use Rattle.std.specs.String.{string_bytes}
 use Rattle.std.proofs.lemmas.List.{length-map}
 use Rattle.tier_core.specs.Shapes.{input_count, NeverFalls}
 use Rattle.tier_core.specs.Tiers.{is_input}
-use Rattle.tier_core.proofs.TableMasks.{input_tiers}
+use Rattle.tier_core.proofs.TableMasks.{input_tiers, length-numbers_from}
 use Rattle.grammar_reader.specs.ShapeOf.{stretch_counts}
 use Rattle.grammar_reader.specs.Seen.{constraint_seen}
-use Rattle.grammar_reader.proofs.Shaping.{length-numbers_from, length-inputs, some_input, length-stretch_counts, never_falls}
+use Rattle.grammar_reader.proofs.Shaping.{length-inputs, some_input, length-stretch_counts, never_falls}
 use Rattle.grammar_reader.proofs.shape_of.shape.Goals as goal
 
 pub invariant_of-result : goal.invariant_of-result

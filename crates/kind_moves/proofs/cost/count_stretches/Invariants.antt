@@ -1,5 +1,5 @@
 use Rattle.std.proofs.Common.{◌≡◌, ◌≤◌, length, filter, take}
-use Rattle.violation.specs.Sides.{is_stretch}
+use Rattle.tier_core.specs.Sides.{is_stretch}
 use Rattle.kind_moves.proofs.cost.count_stretches.Given as goal
 
 abbrev pub invariant-loop-constraint : goal.invariant-loop-constraint

@@ -1,5 +1,4 @@
 use Rattle.std.proofs.Common.{◌≡◌, ℕ, ◌≤◌, length, List, All, ap, sym, ◌∙◌, subst}
-use Rattle.tier_core.specs.Tiers.{is_input, numbers_from}
 use Rattle.timeline_text.specs.declared.letter.Letter.{Letter}
 use Rattle.timeline_text.specs.Spelling.{HasSound}
 use Rattle.otp_tool.proofs.GrammarLemmas.{few_inputs, some_inputs, sounds}
@@ -7,20 +6,20 @@ use Rattle.otp_tool.proofs.form.read_form.Goals as goal
 
 pub read_spelled-requires-clause-some : goal.read_spelled-requires-clause-some
 read_spelled-requires-clause-some c =
-    let n = c.count_inputs-inputs.ensures.value ∙ ap (λ kinds. length (numbers_from is_input 0 kinds)) c.deref.ensures.value in
+    let n = c.input_count-inputs.ensures.value in
     subst (λ m. 1 ≤ m) (sym n) (some_inputs c.args.grammar.now)
 
 pub read_spelled-requires-clause-few : goal.read_spelled-requires-clause-few
 read_spelled-requires-clause-few c =
-    let n = c.count_inputs-inputs.ensures.value ∙ ap (λ kinds. length (numbers_from is_input 0 kinds)) c.deref.ensures.value in
+    let n = c.input_count-inputs.ensures.value in
     subst (λ m. m ≤ 6) (sym n) (few_inputs c.args.grammar.now)
 
 pub read_spelled-requires-clause-sounds : goal.read_spelled-requires-clause-sounds
 read_spelled-requires-clause-sounds c =
-    let n = c.count_inputs-inputs.ensures.value ∙ ap (λ kinds. length (numbers_from is_input 0 kinds)) c.deref.ensures.value in
-    subst (λ (letters : List Letter). All (HasSound c.count_inputs-inputs.result) letters) (sym c.deref-then-is_spelled.ensures.value) (sounds c.args.grammar.now c.count_inputs-inputs.result n)
+    let n = c.input_count-inputs.ensures.value in
+    subst (λ (letters : List Letter). All (HasSound c.input_count-inputs.result) letters) (sym c.deref.ensures.value) (sounds c.args.grammar.now c.input_count-inputs.result n)
 
 pub read_timeline-requires-clause-some : goal.read_timeline-requires-clause-some
 read_timeline-requires-clause-some c =
-    let n = c.count_inputs-inputs.ensures.value ∙ ap (λ kinds. length (numbers_from is_input 0 kinds)) c.deref.ensures.value in
+    let n = c.input_count-inputs.ensures.value in
     subst (λ m. 1 ≤ m) (sym n) (some_inputs c.args.grammar.now)

@@ -1,6 +1,5 @@
-use Rattle.std.proofs.Common.{◌≡◌, length, IfOk, ap, ◌∙◌, subst, arith}
+use Rattle.std.proofs.Common.{◌≡◌, length, IfOk, subst, arith}
 use Rattle.tier_core.specs.Tables.{tiers_of_table}
-use Rattle.tier_core.specs.Tiers.{is_free, numbers_from}
 use Rattle.violation.proofs.SplitLemmas.{tiers_split}
 use Rattle.ranked_gen.specs.Budgets.{AreAllWithin, IsFirstOver}
 use Rattle.ranked_gen.specs.Listed.{kind_count}
@@ -17,7 +16,7 @@ returns-then-kinds-budget-clause-over c = λ stage e.
     let first : 0 ≡ stage = cc in
     let counted : c.count_kinds-kinds.result ≡ kind_count tiers u =
     counted_kinds _ _ _ (length u) (length tiers.free) c.count_kinds-kinds.ensures (omega arith)
-    (c.count_free-free.ensures.value ∙ ap (λ ks. length (numbers_from is_free 0 ks)) c.as_slice.ensures.value) in
+    c.free_count-free.ensures.value in
     subst (λ s. IsFirstOver tiers g.constraints.items u c.args.budget s) first
     (zero_over tiers (tiers_split g.tiers.kinds.items) (free_distinct g.tiers.kinds.items) g.constraints.items u c.requires.form c.args.budget (omega (arith, counted, c.if-kinds-budget.true)))
 

@@ -6,7 +6,7 @@ use Rattle.ranked_gen.specs.Listed.{kind_count, AreListed}
 use Rattle.ranked_gen.proofs.NumberedKinds.{free_distinct}
 use Rattle.ranked_gen.proofs.TableOfKinds.{kinds_some, kinds_small, targets_exist, classes_filled, one_width, classes_disjoint}
 use Rattle.ranked_gen.proofs.InitStage.{first_left, first_within}
-use Rattle.ranked_gen.proofs.StepStage.{frame_stage}
+use Rattle.stage_tables.proofs.Named.{frame_stage}
 use Rattle.ranked_gen.proofs.RankedSteps.{ranked_first}
 use Rattle.ranked_gen.proofs.generator.unranked.Goals as goal
 

@@ -1,7 +1,7 @@
 use Rattle.std.proofs.Common.{codes}
 use Rattle.std.proofs.lemmas.Result.{on_ok_weaker}
 use Rattle.outside.proofs.Sending.{puts_both, puts_both_part}
-use Rattle.status_lines.proofs.Puts.{puts_longer_part}
+use Rattle.outside.proofs.Puts.{puts_longer_part}
 use Rattle.status_lines.specs.Lines.{form_cause_text}
 use Rattle.status_lines.proofs.cause.put_form_cause.Goals as goal
 

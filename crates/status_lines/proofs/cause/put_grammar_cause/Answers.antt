@@ -2,7 +2,7 @@ use Rattle.std.proofs.Common.{ℕ, List, ◌++◌, codes, subst}
 use Rattle.std.proofs.lemmas.Result.{on_ok_weaker}
 use Rattle.outside.specs.Sent.{HasSentPart, Sends}
 use Rattle.outside.proofs.Sending.{puts_both, puts_both_part}
-use Rattle.status_lines.proofs.Puts.{puts_longer_part}
+use Rattle.outside.proofs.Puts.{puts_longer_part}
 use Rattle.status_lines.specs.Lines.{grammar_cause_text}
 use Rattle.status_lines.proofs.cause.put_grammar_cause.Goals as goal
 

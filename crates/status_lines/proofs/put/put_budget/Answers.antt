@@ -2,7 +2,7 @@ use Rattle.std.proofs.Common.{◌++◌, codes}
 use Rattle.std.specs.Fmt.{decimal}
 use Rattle.std.proofs.lemmas.Result.{on_ok_weaker}
 use Rattle.outside.proofs.Sending.{puts_both, puts_both_part}
-use Rattle.status_lines.proofs.Puts.{puts_longer_part}
+use Rattle.outside.proofs.Puts.{puts_longer_part}
 use Rattle.status_lines.proofs.put.put_budget.Goals as goal
 
 pub returns-in_err-put_number-clause-part : goal.returns-in_err-put_number-clause-part

@@ -1,6 +1,6 @@
 use Rattle.std.proofs.lemmas.Result.{on_ok_weaker}
 use Rattle.outside.proofs.Sending.{puts_end_part}
-use Rattle.status_lines.proofs.Puts.{puts_end}
+use Rattle.outside.proofs.Puts.{puts_end}
 use Rattle.status_lines.specs.Lines.{status_text}
 use Rattle.status_lines.proofs.put.put_status.Goals as goal
 

@@ -2,7 +2,7 @@ use Rattle.std.proofs.Common.{◌≡◌, ◌+◌, ◌<◌, ℕ, length, get_or, 
 use Rattle.std.proofs.lemmas.Bool.{cases_lt}
 use Rattle.std.proofs.lemmas.List.{get_or_read}
 use Rattle.tier_core.specs.declared.class.Class.{Class}
-use Rattle.arc_table.specs.Conditions.{AreDisjoint}
+use Rattle.tier_core.specs.Classes.{AreDisjoint}
 use Rattle.table_tests.proofs.Apart.{apart_later}
 use Rattle.table_tests.proofs.fit.all_apart.Goals as goal
 

@@ -1,5 +1,5 @@
 use Rattle.std.proofs.Common.{ℕ, ◌<◌, length, slice_index_or}
-use Rattle.arc_table.specs.Conditions.{AreDisjoint}
+use Rattle.tier_core.specs.Classes.{AreDisjoint}
 use Rattle.table_tests.proofs.fit.all_apart.Given as goal
 
 abbrev pub invariant-loop-place : goal.invariant-loop-place

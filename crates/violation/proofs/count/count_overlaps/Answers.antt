@@ -5,10 +5,10 @@ use Rattle.tier_core.specs.declared.constraint.Family.TheVariants.{Clash}
 use Rattle.tier_core.specs.declared.sym.Sym.{Sym}
 use Rattle.tier_core.specs.Scan.{opens}
 use Rattle.tier_core.specs.Timelines.{symbol}
+use Rattle.tier_core.specs.Sides.{edge_among}
 use Rattle.tier_core.proofs.CountLemmas.{bit}
 use Rattle.violation.specs.Columns.{opens_all}
 use Rattle.violation.specs.Counts.{so_far}
-use Rattle.violation.specs.Sides.{edge_among}
 use Rattle.violation.proofs.CountSteps.{clash_step, open_step, open_none, whole, some_both}
 use Rattle.violation.proofs.InteriorSteps.{open_before}
 use Rattle.violation.proofs.WholeCounts.{so_far_none}

@@ -3,10 +3,10 @@ use Rattle.std.specs.List.{list_all, list_any}
 use Rattle.std.proofs.lemmas.Bool.{false≢true}
 use Rattle.tier_core.specs.declared.constraint.Family.TheVariants.{Implication}
 use Rattle.tier_core.specs.declared.sym.Sym.{Sym}
+use Rattle.tier_core.specs.Sides.{edge_among}
 use Rattle.tier_core.proofs.CountLemmas.{bit}
 use Rattle.violation.specs.Columns.{opens_all, opens_interior, is_present}
 use Rattle.violation.specs.Counts.{so_far, is_met}
-use Rattle.violation.specs.Sides.{edge_among}
 use Rattle.violation.proofs.CountSteps.{stretch_step, open_step, open_none, met_step, whole, unmet_test}
 use Rattle.violation.proofs.InteriorSteps.{open_before}
 use Rattle.violation.proofs.OpenSteps.{stretch}

@@ -1,9 +1,9 @@
 use Rattle.std.proofs.Common.{◌≡◌, ℕ, true, false, ◌-◌, List, take, filter, length, get_or, ap, sym, ◌∙◌, subst, arith}
 use Rattle.tier_core.specs.declared.sym.Sym.{Sym}
 use Rattle.tier_core.specs.Tiers.{has_tier}
+use Rattle.tier_core.specs.Sides.{is_stretch}
 use Rattle.violation.specs.Conditions.{IsOverTiers}
 use Rattle.violation.specs.Moves.{costs}
-use Rattle.violation.specs.Sides.{is_stretch}
 use Rattle.kind_moves.specs.Frames.{constraints_in}
 use Rattle.kind_moves.proofs.CostLaws.{over_at, move_cost}
 use Rattle.kind_moves.proofs.frame.Frame.cost.Goals as goal
@@ -25,10 +25,10 @@ returns-then-costs c =
     let opened = c.open_at-opened.result in
     let same : c.as_slice-constraints.result.now ≡ constraints_in frame = c.as_slice-constraints.ensures.value in
     record {
-      cost = move_cost frame c.args.stage number c.count_stretches-place.result opened c.args.kind.now c.args.column.now item c.has_phase-is_unmet.result true
+      cost = move_cost frame c.args.stage number c.count_stretches-place.result opened c.args.kind.now c.args.column.now item c.has_bit-is_unmet.result true
           c.requires.stage (omega arith) (c.index-constraints-number.is ∙ ap (λ xs. get_or xs number item) same)
           (c.count_stretches-place.ensures.count ∙ ap (λ xs. length (filter is_stretch (take number xs))) same)
-          (c.open_at-opened.ensures c.args.stage) c.has_phase-is_unmet.ensures c.requires.fits.stretches.unmet
+          (c.open_at-opened.ensures c.args.stage) c.has_bit-is_unmet.ensures c.requires.fits.stretches.unmet
           (λ phase e. c.if-costs.ensures phase e ∙ ap (λ (d : List Sym). costs item.family item.left item.right (has_tier opened) phase d) c.syms.ensures.value);
       few = omega arith;
     }
@@ -41,10 +41,10 @@ returns-else-costs c =
     let opened = c.open_at-opened.result in
     let same : c.as_slice-constraints.result.now ≡ constraints_in frame = c.as_slice-constraints.ensures.value in
     record {
-      cost = move_cost frame c.args.stage number c.count_stretches-place.result opened c.args.kind.now c.args.column.now item c.has_phase-is_unmet.result false
+      cost = move_cost frame c.args.stage number c.count_stretches-place.result opened c.args.kind.now c.args.column.now item c.has_bit-is_unmet.result false
           c.requires.stage (omega arith) (c.index-constraints-number.is ∙ ap (λ xs. get_or xs number item) same)
           (c.count_stretches-place.ensures.count ∙ ap (λ xs. length (filter is_stretch (take number xs))) same)
-          (c.open_at-opened.ensures c.args.stage) c.has_phase-is_unmet.ensures c.requires.fits.stretches.unmet
+          (c.open_at-opened.ensures c.args.stage) c.has_bit-is_unmet.ensures c.requires.fits.stretches.unmet
           (λ phase e. c.if-costs.ensures phase e ∙ ap (λ (d : List Sym). costs item.family item.left item.right (has_tier opened) phase d) c.syms.ensures.value);
       few = omega arith;
     }

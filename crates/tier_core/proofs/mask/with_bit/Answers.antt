@@ -1,7 +1,6 @@
 use Rattle.std.proofs.Common.{sym, ◌∙◌}
-use Rattle.kind_moves.proofs.PhaseMaskSteps.{set_few, set_same, set_other}
-use Rattle.tier_core.proofs.MaskLemmas.{no_tier_above}
-use Rattle.kind_moves.proofs.phase.with_bit.Goals as goal
+use Rattle.tier_core.proofs.MaskLemmas.{set_few, set_same, set_other, no_tier_above}
+use Rattle.tier_core.proofs.mask.with_bit.Goals as goal
 
 pub returns-then-is_set-clause-within : goal.returns-then-is_set-clause-within
 returns-then-is_set-clause-within c = set_few c.args.mask c.args.place c.requires.place c.requires.before

@@ -1,8 +1,8 @@
 use Rattle.std.specs.Fmt.{decimal}
 use Rattle.std.proofs.lemmas.Result.{on_ok_weaker}
 use Rattle.outside.proofs.Sending.{puts_both, puts_both_part}
-use Rattle.status_lines.proofs.Puts.{puts_longer_part}
-use Rattle.status_lines.proofs.number.put_number.Goals as goal
+use Rattle.outside.proofs.Puts.{puts_longer_part}
+use Rattle.outside.proofs.number.put_number.Goals as goal
 
 pub returns-in_err-put-clause-part : goal.returns-in_err-put-clause-part
 returns-in_err-put-clause-part g c = puts_longer_part c.args.waiting.now c.args.front.now (decimal c.args.number) c.put.ensures.part

@@ -1,7 +1,0 @@
-use Rattle.std.proofs.Common.{◌≡◌, ◌∙◌, sym, count_by, rules}
-use Rattle.tier_core.specs.Tiers.{is_input}
-use Rattle.ranked_gen.proofs.StateSteps.{numbers_count}
-use Rattle.ranked_gen.proofs.generator.count_inputs.Goals as goal
-
-pub returns-clause-value : goal.returns-clause-value
-returns-clause-value c = let counted : c.count.result ≡ count_by is_input c.args.kinds.now = search rules in counted ∙ sym (numbers_count is_input 0 c.args.kinds.now)

@@ -1,0 +1,9 @@
+use Rattle.std.proofs.Common.{◌≡◌, ◌∙◌, sym, ap, count_by, rules}
+use Rattle.tier_core.specs.Tiers.{is_free}
+use Rattle.tier_core.proofs.TableMasks.{numbers_count}
+use Rattle.tier_core.proofs.tier.TierTable.free_count.Goals as goal
+
+pub returns-clause-value : goal.returns-clause-value
+returns-clause-value c =
+    let counted : c.count.result ≡ count_by is_free c.deref.result.now = search rules in
+    counted ∙ ap (count_by is_free) c.deref.ensures.value ∙ sym (numbers_count is_free 0 c.args.self.now.kinds.items)

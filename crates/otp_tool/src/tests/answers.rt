@@ -195,9 +195,21 @@ fn shown(alloc: Global, lines: &str, form: &str) -> Result<(Status, String), All
 fn constraints_that_all_hold(rt: HostRuntime) -> Result<(), Fail> {
     let max_dep = "constraint Max A -> a\nconstraint Dep a -> A\n";
     let cases = [
-        ("constraint Max A -> a\n", "[ ]", "counts 0\nexample [[ ]]\n"),
-        ("constraint Dep a -> A\n", "empty", "counts 0\nexample empty\n"),
-        ("constraint Inner A -> [a\n", "[ ]", "counts 0\nexample [- +[ ]]\n"),
+        (
+            "constraint Max A -> a\n",
+            "[ ]",
+            "counts 0\nexample [[ ]]\n",
+        ),
+        (
+            "constraint Dep a -> A\n",
+            "empty",
+            "counts 0\nexample empty\n",
+        ),
+        (
+            "constraint Inner A -> [a\n",
+            "[ ]",
+            "counts 0\nexample [- +[ ]]\n",
+        ),
         (max_dep, "[ ]", "counts 0 0\nexample [[ ]]\n"),
     ];
     for (lines, form, text) in cases {

@@ -70,7 +70,12 @@ fn canonical_text_stays(rt: HostRuntime) -> Result<(), Fail> {
 }
 
 /// Whether each command that reads a grammar refuses this file so, and writes nothing.
-fn is_refused(alloc: Global, file: &str, line: u32, cause: GrammarCause) -> Result<bool, AllocError> {
+fn is_refused(
+    alloc: Global,
+    file: &str,
+    line: u32,
+    cause: GrammarCause,
+) -> Result<bool, AllocError> {
     let due = Status::GrammarRefused {
         word: 1,
         line,

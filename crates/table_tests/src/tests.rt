@@ -193,8 +193,9 @@ fn check(alloc: Global, graph: &Graph) -> Result<bool, Fail> {
     Ok(right && accepts_exactly(&pruned.table, graph, weight))
 }
 
+// Each state has one move at most.
 #[test]
-fn small_graphs(rt: HostRuntime) -> Result<(), Fail> {
+fn chains(rt: HostRuntime) -> Result<(), Fail> {
     let graphs = [
         Graph {
             name: "one accepting state",
@@ -217,6 +218,22 @@ fn small_graphs(rt: HostRuntime) -> Result<(), Fail> {
             arrows: &[arrow(0, 3, 1, 1), arrow(3, 2, 1, 1), arrow(2, 1, 1, 1)],
         },
         Graph {
+            name: "an accepting start",
+            accepting: &[true, true],
+            arrows: &[arrow(0, 1, 1, 0)],
+        },
+    ];
+    for graph in &graphs {
+        assert!(rt; check(rt.alloc(), graph)?, "{}", graph.name);
+    }
+    Ok(())
+}
+
+// Of several paths the one that weighs least is taken, and of equal ones all.
+#[test]
+fn several_paths(rt: HostRuntime) -> Result<(), Fail> {
+    let graphs = [
+        Graph {
             name: "two least paths",
             accepting: &[false, false, false, true],
             arrows: &[
@@ -232,6 +249,27 @@ fn small_graphs(rt: HostRuntime) -> Result<(), Fail> {
             arrows: &[arrow(0, 2, 1, 5), arrow(0, 1, 2, 1), arrow(1, 2, 1, 1)],
         },
         Graph {
+            name: "an accepting state on the way",
+            accepting: &[false, true, true],
+            arrows: &[arrow(0, 1, 1, 2), arrow(1, 2, 2, 0), arrow(0, 2, 4, 2)],
+        },
+        Graph {
+            name: "great weights",
+            accepting: &[false, false, true],
+            arrows: &[arrow(0, 1, 1, 1_400_000_000), arrow(1, 2, 2, 1_400_000_000)],
+        },
+    ];
+    for graph in &graphs {
+        assert!(rt; check(rt.alloc(), graph)?, "{}", graph.name);
+    }
+    Ok(())
+}
+
+// Going round adds nothing or something, and never helps.
+#[test]
+fn cycles(rt: HostRuntime) -> Result<(), Fail> {
+    let graphs = [
+        Graph {
             name: "a cycle of weight 0",
             accepting: &[false, false, true],
             arrows: &[arrow(0, 1, 1, 0), arrow(1, 0, 2, 0), arrow(1, 2, 1, 1)],
@@ -246,6 +284,17 @@ fn small_graphs(rt: HostRuntime) -> Result<(), Fail> {
             accepting: &[false, true],
             arrows: &[arrow(0, 0, 1, 1), arrow(0, 1, 2, 1), arrow(1, 1, 4, 3)],
         },
+    ];
+    for graph in &graphs {
+        assert!(rt; check(rt.alloc(), graph)?, "{}", graph.name);
+    }
+    Ok(())
+}
+
+// States that lie on no path, and classes of many columns.
+#[test]
+fn states_left_out(rt: HostRuntime) -> Result<(), Fail> {
+    let graphs = [
         Graph {
             name: "a state that is not reached",
             accepting: &[false, true, false],
@@ -265,21 +314,6 @@ fn small_graphs(rt: HostRuntime) -> Result<(), Fail> {
                 arrow(1, 2, 21, 2),
                 arrow(1, 1, 10, 0),
             ],
-        },
-        Graph {
-            name: "an accepting state on the way",
-            accepting: &[false, true, true],
-            arrows: &[arrow(0, 1, 1, 2), arrow(1, 2, 2, 0), arrow(0, 2, 4, 2)],
-        },
-        Graph {
-            name: "an accepting start",
-            accepting: &[true, true],
-            arrows: &[arrow(0, 1, 1, 0)],
-        },
-        Graph {
-            name: "great weights",
-            accepting: &[false, false, true],
-            arrows: &[arrow(0, 1, 1, 1_400_000_000), arrow(1, 2, 2, 1_400_000_000)],
         },
     ];
     for graph in &graphs {

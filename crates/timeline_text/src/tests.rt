@@ -2,85 +2,131 @@ use crate::{FormErr, Letter, put_timeline, read_spelled, read_timeline};
 use outside::{MemSink, SafeSink, Sink, WriteErr};
 use std::test::Fail;
 
-// Texts over some tiers with at most some columns: how many columns they have, or their cause.
+// Texts over some tiers with at most some columns: how many columns they have. Each is written again.
 #[test]
-fn texts_and_their_causes(rt: HostRuntime) -> Result<(), Fail> {
-    let cases: [(u32, usize, &[u8], Result<usize, FormErr>); 48] = [
-        (1, 64, b"empty", Ok(0)),
-        (12, 0, b"empty", Ok(0)),
-        (1, 64, b"[ ]", Ok(2)),
-        (1, 2, b"[ ]", Ok(2)),
-        (1, 64, b"[ | ]", Ok(3)),
-        (1, 64, b"[ ] [ ]", Ok(4)),
-        (1, 64, b"[ | | ] [ ]", Ok(6)),
-        (2, 64, b"[[ ]]", Ok(2)),
-        (2, 64, b"[- ]-", Ok(2)),
-        (2, 64, b"-[ [+ ]]", Ok(3)),
-        (2, 64, b"[- +[ +] ]-", Ok(4)),
-        (2, 64, b"-[ -]", Ok(2)),
-        (5, 64, b"[-[-[ ][][+ [][]| ][][+ -]-]]", Ok(5)),
-        (12, 64, b"[[[[[[[[[[[[ ]]]]]]]]]]]]", Ok(2)),
-        // A byte that is no symbol, before all else.
-        (1, 64, b"[ x", Err(FormErr::BadSymbol { at: 2 })),
-        (1, 64, b"x", Err(FormErr::BadSymbol { at: 0 })),
-        (1, 64, b"[ ]\n", Err(FormErr::BadSymbol { at: 3 })),
-        (1, 64, b"[\t]", Err(FormErr::BadSymbol { at: 1 })),
-        (1, 64, b"empty ", Err(FormErr::BadSymbol { at: 0 })),
-        (1, 64, b"Empty", Err(FormErr::BadSymbol { at: 0 })),
-        (1, 64, b"=t", Err(FormErr::BadSymbol { at: 0 })),
-        (1, 64, b"[ ]]\x00", Err(FormErr::BadSymbol { at: 4 })),
-        (1, 1, b"] [ + x y", Err(FormErr::BadSymbol { at: 6 })),
-        (3, 64, b"[ \xff", Err(FormErr::BadSymbol { at: 2 })),
-        // A piece of another width, before what follows.
-        (1, 64, b"", Err(FormErr::WrongWidth { column: 0 })),
-        (1, 64, b"[[ ]]", Err(FormErr::WrongWidth { column: 0 })),
-        (2, 64, b"[ ]", Err(FormErr::WrongWidth { column: 0 })),
-        (1, 64, b"[ ]]", Err(FormErr::WrongWidth { column: 1 })),
-        (1, 64, b"[  ]", Err(FormErr::WrongWidth { column: 1 })),
-        (1, 64, b" [ ]", Err(FormErr::WrongWidth { column: 0 })),
-        (1, 64, b"[ ] ", Err(FormErr::WrongWidth { column: 2 })),
-        (1, 64, b" ", Err(FormErr::WrongWidth { column: 0 })),
-        (2, 1, b"]] [[ -", Err(FormErr::WrongWidth { column: 2 })),
-        (1, 1, b"[ ] [[ ]]", Err(FormErr::WrongWidth { column: 2 })),
-        // Too many columns, before what follows.
-        (1, 1, b"[ ]", Err(FormErr::TooLong)),
-        (1, 0, b"[", Err(FormErr::TooLong)),
-        (1, 2, b"] + [", Err(FormErr::TooLong)),
-        // A tier that is not well formed, before a column without an edge.
-        (1, 64, b"] [", Err(FormErr::NotWellFormed { tier: 0 })),
-        (1, 64, b"[", Err(FormErr::NotWellFormed { tier: 0 })),
-        (1, 64, b"[ - ]", Err(FormErr::NotWellFormed { tier: 0 })),
-        (1, 64, b"[ [ ]", Err(FormErr::NotWellFormed { tier: 0 })),
-        (1, 64, b"+ |", Err(FormErr::NotWellFormed { tier: 0 })),
-        (2, 64, b"[- ]+", Err(FormErr::NotWellFormed { tier: 1 })),
-        (2, 64, b"-- [|", Err(FormErr::NotWellFormed { tier: 0 })),
-        (
-            3,
-            64,
-            b"[-[ +[+ ]+]",
-            Err(FormErr::NotWellFormed { tier: 1 }),
-        ),
-        // A column without an edge.
-        (1, 64, b"[ + ]", Err(FormErr::NotReduced { column: 1 })),
-        (1, 64, b"-", Err(FormErr::NotReduced { column: 0 })),
-        (
-            2,
-            64,
-            b"[- ]- -- --",
-            Err(FormErr::NotReduced { column: 2 }),
-        ),
+fn texts_that_are_read(rt: HostRuntime) -> Result<(), Fail> {
+    let cases: [(u32, usize, &[u8], usize); 14] = [
+        (1, 64, b"empty", 0),
+        (12, 0, b"empty", 0),
+        (1, 64, b"[ ]", 2),
+        (1, 2, b"[ ]", 2),
+        (1, 64, b"[ | ]", 3),
+        (1, 64, b"[ ] [ ]", 4),
+        (1, 64, b"[ | | ] [ ]", 6),
+        (2, 64, b"[[ ]]", 2),
+        (2, 64, b"[- ]-", 2),
+        (2, 64, b"-[ [+ ]]", 3),
+        (2, 64, b"[- +[ +] ]-", 4),
+        (2, 64, b"-[ -]", 2),
+        (5, 64, b"[-[-[ ][][+ [][]| ][][+ -]-]]", 5),
+        (12, 64, b"[[[[[[[[[[[[ ]]]]]]]]]]]]", 2),
     ];
-    for (width, limit, text, answer) in cases {
+    for (width, limit, text, columns) in cases {
         assert!(rt; 1 <= width && width <= 12);
-        match read_timeline(rt.alloc(), width, limit, text) {
-            Ok(timeline) => {
-                assert_eq!(rt; Ok(timeline.len()), answer, "{text:?} is read");
-                let mut sink = SafeSink::new(rt.alloc());
-                assert_eq!(rt; put_timeline(&mut sink, &timeline), Ok(()));
-                assert_eq!(rt; sink.bytes(), text);
-            }
-            Err(cause) => assert_eq!(rt; Err(cause), answer, "{text:?} is refused"),
-        }
+        let timeline = read_timeline(rt.alloc(), width, limit, text)?;
+        assert_eq!(rt; timeline.len(), columns, "{text:?}");
+        let mut sink = SafeSink::new(rt.alloc());
+        assert_eq!(rt; put_timeline(&mut sink, &timeline), Ok(()));
+        assert_eq!(rt; sink.bytes(), text);
+    }
+    Ok(())
+}
+
+// A byte that is no symbol, before all else.
+#[test]
+fn bytes_that_are_no_symbols(rt: HostRuntime) -> Result<(), Fail> {
+    let cases: [(u32, usize, &[u8], FormErr); 10] = [
+        (1, 64, b"[ x", FormErr::BadSymbol { at: 2 }),
+        (1, 64, b"x", FormErr::BadSymbol { at: 0 }),
+        (1, 64, b"[ ]\n", FormErr::BadSymbol { at: 3 }),
+        (1, 64, b"[\t]", FormErr::BadSymbol { at: 1 }),
+        (1, 64, b"empty ", FormErr::BadSymbol { at: 0 }),
+        (1, 64, b"Empty", FormErr::BadSymbol { at: 0 }),
+        (1, 64, b"=t", FormErr::BadSymbol { at: 0 }),
+        (1, 64, b"[ ]]\x00", FormErr::BadSymbol { at: 4 }),
+        (1, 1, b"] [ + x y", FormErr::BadSymbol { at: 6 }),
+        (3, 64, b"[ \xff", FormErr::BadSymbol { at: 2 }),
+    ];
+    for (width, limit, text, cause) in cases {
+        assert!(rt; 1 <= width && width <= 12);
+        let found = read_timeline(rt.alloc(), width, limit, text).err();
+        assert_eq!(rt; found, Some(cause), "{text:?}");
+    }
+    Ok(())
+}
+
+// A piece of another width, before what follows.
+#[test]
+fn pieces_of_another_width(rt: HostRuntime) -> Result<(), Fail> {
+    let cases: [(u32, usize, &[u8], FormErr); 10] = [
+        (1, 64, b"", FormErr::WrongWidth { column: 0 }),
+        (1, 64, b"[[ ]]", FormErr::WrongWidth { column: 0 }),
+        (2, 64, b"[ ]", FormErr::WrongWidth { column: 0 }),
+        (1, 64, b"[ ]]", FormErr::WrongWidth { column: 1 }),
+        (1, 64, b"[  ]", FormErr::WrongWidth { column: 1 }),
+        (1, 64, b" [ ]", FormErr::WrongWidth { column: 0 }),
+        (1, 64, b"[ ] ", FormErr::WrongWidth { column: 2 }),
+        (1, 64, b" ", FormErr::WrongWidth { column: 0 }),
+        (2, 1, b"]] [[ -", FormErr::WrongWidth { column: 2 }),
+        (1, 1, b"[ ] [[ ]]", FormErr::WrongWidth { column: 2 }),
+    ];
+    for (width, limit, text, cause) in cases {
+        assert!(rt; 1 <= width && width <= 12);
+        let found = read_timeline(rt.alloc(), width, limit, text).err();
+        assert_eq!(rt; found, Some(cause), "{text:?}");
+    }
+    Ok(())
+}
+
+// Too many columns, before what follows.
+#[test]
+fn columns_over_the_limit(rt: HostRuntime) -> Result<(), Fail> {
+    let cases: [(u32, usize, &[u8], FormErr); 3] = [
+        (1, 1, b"[ ]", FormErr::TooLong),
+        (1, 0, b"[", FormErr::TooLong),
+        (1, 2, b"] + [", FormErr::TooLong),
+    ];
+    for (width, limit, text, cause) in cases {
+        assert!(rt; 1 <= width && width <= 12);
+        let found = read_timeline(rt.alloc(), width, limit, text).err();
+        assert_eq!(rt; found, Some(cause), "{text:?}");
+    }
+    Ok(())
+}
+
+// A tier that is not well formed, before a column without an edge.
+#[test]
+fn tiers_that_are_not_well_formed(rt: HostRuntime) -> Result<(), Fail> {
+    let cases: [(u32, usize, &[u8], FormErr); 8] = [
+        (1, 64, b"] [", FormErr::NotWellFormed { tier: 0 }),
+        (1, 64, b"[", FormErr::NotWellFormed { tier: 0 }),
+        (1, 64, b"[ - ]", FormErr::NotWellFormed { tier: 0 }),
+        (1, 64, b"[ [ ]", FormErr::NotWellFormed { tier: 0 }),
+        (1, 64, b"+ |", FormErr::NotWellFormed { tier: 0 }),
+        (2, 64, b"[- ]+", FormErr::NotWellFormed { tier: 1 }),
+        (2, 64, b"-- [|", FormErr::NotWellFormed { tier: 0 }),
+        (3, 64, b"[-[ +[+ ]+]", FormErr::NotWellFormed { tier: 1 }),
+    ];
+    for (width, limit, text, cause) in cases {
+        assert!(rt; 1 <= width && width <= 12);
+        let found = read_timeline(rt.alloc(), width, limit, text).err();
+        assert_eq!(rt; found, Some(cause), "{text:?}");
+    }
+    Ok(())
+}
+
+// A column without an edge.
+#[test]
+fn columns_without_an_edge(rt: HostRuntime) -> Result<(), Fail> {
+    let cases: [(u32, usize, &[u8], FormErr); 3] = [
+        (1, 64, b"[ + ]", FormErr::NotReduced { column: 1 }),
+        (1, 64, b"-", FormErr::NotReduced { column: 0 }),
+        (2, 64, b"[- ]- -- --", FormErr::NotReduced { column: 2 }),
+    ];
+    for (width, limit, text, cause) in cases {
+        assert!(rt; 1 <= width && width <= 12);
+        let found = read_timeline(rt.alloc(), width, limit, text).err();
+        assert_eq!(rt; found, Some(cause), "{text:?}");
     }
     Ok(())
 }

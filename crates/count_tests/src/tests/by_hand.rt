@@ -26,26 +26,50 @@ fn count(
     Ok(violations(&timeline, &constraint))
 }
 
+// What is missed on the right.
 #[test]
-fn over_two_tiers(rt: HostRuntime) -> Result<(), Fail> {
+fn implications_over_two_tiers(rt: HostRuntime) -> Result<(), Fail> {
     let alloc = rt.alloc();
-    let cases: [(&[u8], &[u8], u32); 38] = [
+    let cases: [(&[u8], &[u8], u32); 21] = [
         (b"A -> a", b"[- ]-", 1),
         (b"A -> a", b"[[ ]]", 0),
         (b"A -> a", b"[[ |] ]-", 1),
-        (b"a # a", b"[[ |] ]-", 1),
         (b"A -> [a", b"[[ ]]", 1),
         (b"A -> [a", b"[- +[ ]]", 0),
-        (b"]a and [a # A", b"[[ +| ]]", 1),
-        (b"a # a", b"[[ || ]]", 2),
         (b"A -> a", b"empty", 0),
         (b"A -> a", b"-[ [| ]]", 0),
         (b"a -> A", b"-[ [| ]]", 1),
-        (b"a # a", b"-[ [| ]]", 2),
         (b"[A -> [a", b"[- +[ ]]", 1),
         (b"]A -> ]a", b"[- +[ ]]", 0),
         (b"[A -> a", b"[- +[ ]]", 1),
         (b"[a -> A", b"[- +[ ]]", 0),
+        (b"A -> a", b"-[ [+ ]+ -]", 0),
+        (b"a -> A", b"-[ [+ |+ ]+ -]", 0),
+        (b"A and A -> a", b"[- |- ]-", 2),
+        (b"A -> a", b"[- |- ]-", 2),
+        (b"A -> ]a or [a", b"[[ ]]", 1),
+        (b"A -> ]a or [a", b"[- +[ ]]", 0),
+        (b"]A and [a -> A or a", b"[- ][ -]", 1),
+        (b"]A and [a -> ]A", b"[- ][ -]", 0),
+        (b"]A and [a -> a", b"[[ ]]", 0),
+    ];
+    for (constraint, timeline, due) in cases {
+        let found = count(alloc, TWO, 2, constraint, timeline)?;
+        let shown = String::from_utf8_lossy(alloc, timeline)?;
+        assert_eq!(rt; found, due, "{shown}");
+    }
+    Ok(())
+}
+
+// What meets.
+#[test]
+fn clashes_over_two_tiers(rt: HostRuntime) -> Result<(), Fail> {
+    let alloc = rt.alloc();
+    let cases: [(&[u8], &[u8], u32); 17] = [
+        (b"a # a", b"[[ |] ]-", 1),
+        (b"]a and [a # A", b"[[ +| ]]", 1),
+        (b"a # a", b"[[ || ]]", 2),
+        (b"a # a", b"-[ [| ]]", 2),
         (b"[a # A", b"[- +[ ]]", 1),
         (b"]a # A", b"[- +[ ]]", 0),
         (b"A # a", b"[- +[ ]]", 1),
@@ -56,18 +80,9 @@ fn over_two_tiers(rt: HostRuntime) -> Result<(), Fail> {
         (b"]a and [a # A", b"[- +[ +| +] ]-", 1),
         (b"]a # A", b"[- +[ +| +] ]-", 2),
         (b"[A # a", b"-[ [+ ]+ -]", 1),
-        (b"A -> a", b"-[ [+ ]+ -]", 0),
         (b"A and a # [a", b"-[ [+ ]+ -]", 0),
-        (b"a -> A", b"-[ [+ |+ ]+ -]", 0),
-        (b"A and A -> a", b"[- |- ]-", 2),
-        (b"A -> a", b"[- |- ]-", 2),
-        (b"A -> ]a or [a", b"[[ ]]", 1),
-        (b"A -> ]a or [a", b"[- +[ ]]", 0),
-        (b"]A and [a -> A or a", b"[- ][ -]", 1),
-        (b"]A and [a -> ]A", b"[- ][ -]", 0),
         (b"]A # [a", b"[- ][ -]", 1),
         (b"A # a", b"[- ][ -]", 0),
-        (b"]A and [a -> a", b"[[ ]]", 0),
     ];
     for (constraint, timeline, due) in cases {
         let found = count(alloc, TWO, 2, constraint, timeline)?;

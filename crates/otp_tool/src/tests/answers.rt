@@ -1,6 +1,7 @@
 use super::grammars::SYLLABLES;
 use super::{BASE, outcome, refused, with_constraints};
 use crate::Status;
+use std::alloc::{AllocError, Global};
 use std::test::Fail;
 use timeline_text::FormErr;
 
@@ -116,68 +117,36 @@ fn budget_is_exact(rt: HostRuntime) -> Result<(), Fail> {
 // A form is refused by the first cause, and before the budget.
 #[test]
 fn forms_are_refused(rt: HostRuntime) -> Result<(), Fail> {
-    let alloc = rt.alloc();
     let cases = [
-        (
-            BASE,
-            "generate/g/=t",
-            refused(FormErr::UnknownLetter { at: 1 }),
-        ),
-        (BASE, "show/g/=t", refused(FormErr::UnknownLetter { at: 1 })),
-        (
-            LETTERS,
-            "show/g/=tat?",
-            refused(FormErr::UnknownLetter { at: 4 }),
-        ),
-        (
-            BASE,
-            "generate/g/] [",
-            refused(FormErr::NotWellFormed { tier: 0 }),
-        ),
-        (
-            BASE,
-            "generate/g/[ + ]",
-            refused(FormErr::NotReduced { column: 1 }),
-        ),
-        (
-            BASE,
-            "generate/g/[",
-            refused(FormErr::NotWellFormed { tier: 0 }),
-        ),
-        (
-            BASE,
-            "generate/g/[[ ]]",
-            refused(FormErr::WrongWidth { column: 0 }),
-        ),
-        (
-            BASE,
-            "generate/g/[ x",
-            refused(FormErr::BadSymbol { at: 2 }),
-        ),
-        (
-            BASE,
-            "show/g/[/1",
-            refused(FormErr::NotWellFormed { tier: 0 }),
-        ),
-        (
-            BASE,
-            "generate/g/",
-            refused(FormErr::WrongWidth { column: 0 }),
-        ),
-        (
-            LETTERS,
-            "show/g/[-",
-            refused(FormErr::NotWellFormed { tier: 0 }),
-        ),
-        (
-            LETTERS,
-            "show/g/[[ ]+",
-            refused(FormErr::NotWellFormed { tier: 1 }),
-        ),
+        ("generate/g/=t", FormErr::UnknownLetter { at: 1 }),
+        ("show/g/=t", FormErr::UnknownLetter { at: 1 }),
+        ("generate/g/] [", FormErr::NotWellFormed { tier: 0 }),
+        ("generate/g/[ + ]", FormErr::NotReduced { column: 1 }),
+        ("generate/g/[", FormErr::NotWellFormed { tier: 0 }),
+        ("generate/g/[[ ]]", FormErr::WrongWidth { column: 0 }),
+        ("generate/g/[ x", FormErr::BadSymbol { at: 2 }),
+        ("show/g/[/1", FormErr::NotWellFormed { tier: 0 }),
+        ("generate/g/", FormErr::WrongWidth { column: 0 }),
     ];
-    for (file, words, status) in cases {
-        let (found, text) = outcome(alloc, file, words)?;
-        assert_eq!(rt; found, status, "{words}");
+    for (words, cause) in cases {
+        let (found, text) = outcome(rt.alloc(), BASE, words)?;
+        assert_eq!(rt; found, refused(cause), "{words}");
+        assert!(rt; text.is_empty(), "{words}");
+    }
+    Ok(())
+}
+
+// Letters that there are not, and tiers of which the second is not well formed.
+#[test]
+fn forms_over_two_tiers_are_refused(rt: HostRuntime) -> Result<(), Fail> {
+    let cases = [
+        ("show/g/=tat?", FormErr::UnknownLetter { at: 4 }),
+        ("show/g/[-", FormErr::NotWellFormed { tier: 0 }),
+        ("show/g/[[ ]+", FormErr::NotWellFormed { tier: 1 }),
+    ];
+    for (words, cause) in cases {
+        let (found, text) = outcome(rt.alloc(), LETTERS, words)?;
+        assert_eq!(rt; found, refused(cause), "{words}");
         assert!(rt; text.is_empty(), "{words}");
     }
     Ok(())
@@ -213,10 +182,18 @@ fn words_have_at_most_63_letters(rt: HostRuntime) -> Result<(), Fail> {
     Ok(())
 }
 
-// Higher constraints decide before lower ones do.
+/// What `show` writes for a form over the base with some constraint lines.
+fn shown(alloc: Global, lines: &str, form: &str) -> Result<(Status, String), AllocError> {
+    let file = with_constraints(alloc, lines)?;
+    let mut command = String::from_str(alloc, "show/g/")?;
+    command.push_str(form)?;
+    outcome(alloc, file.as_str(), command.as_str())
+}
+
+// What each constraint asks for alone, and with others that agree.
 #[test]
-fn constraints_are_ranked(rt: HostRuntime) -> Result<(), Fail> {
-    let alloc = rt.alloc();
+fn constraints_that_all_hold(rt: HostRuntime) -> Result<(), Fail> {
+    let max_dep = "constraint Max A -> a\nconstraint Dep a -> A\n";
     let cases = [
         (
             "constraint Max A -> a\n",
@@ -229,46 +206,37 @@ fn constraints_are_ranked(rt: HostRuntime) -> Result<(), Fail> {
             "counts 0\nexample empty\n",
         ),
         (
-            "constraint Max A -> a\nconstraint Dep a -> A\n",
-            "[ ]",
-            "counts 0 0\nexample [[ ]]\n",
-        ),
-        (
-            "constraint Max A -> a\nconstraint Dep a -> A\nconstraint One a # a\n",
-            "[ ]",
-            "counts 0 0 1\nexample [[ ]]\n",
-        ),
-        (
-            "constraint One a # a\nconstraint Max A -> a\nconstraint Dep a -> A\n",
-            "[ ]",
-            "counts 0 1 0\nexample [- ]-\n",
-        ),
-        (
-            "constraint Max A -> a\nconstraint One a # a\n",
-            "[ | ]",
-            "counts 0 1\nexample [[ |+ ]]\n",
-        ),
-        (
             "constraint Inner A -> [a\n",
             "[ ]",
             "counts 0\nexample [- +[ ]]\n",
         ),
-        (
-            "constraint One a # a\nconstraint Left [A -> [a\n",
-            "[ ]",
-            "counts 0 1\nexample [- ]-\n",
-        ),
-        (
-            "constraint Left [A -> [a\nconstraint One a # a\n",
-            "[ ]",
-            "counts 0 1\nexample [[ ]]\n",
-        ),
+        (max_dep, "[ ]", "counts 0 0\nexample [[ ]]\n"),
     ];
     for (lines, form, text) in cases {
-        let file = with_constraints(alloc, lines)?;
-        let mut command = String::from_str(alloc, "show/g/")?;
-        command.push_str(form)?;
-        let (status, written) = outcome(alloc, file.as_str(), command.as_str())?;
+        let (status, written) = shown(rt.alloc(), lines, form)?;
+        assert_eq!(rt; status, Status::Done, "{lines}{form}");
+        assert_eq!(rt; written.as_str(), text, "{lines}{form}");
+    }
+    Ok(())
+}
+
+// Higher constraints decide before lower ones do.
+#[test]
+fn constraints_are_ranked(rt: HostRuntime) -> Result<(), Fail> {
+    let one_last = "constraint Max A -> a\nconstraint Dep a -> A\nconstraint One a # a\n";
+    let one_first = "constraint One a # a\nconstraint Max A -> a\nconstraint Dep a -> A\n";
+    let one_second = "constraint Max A -> a\nconstraint One a # a\n";
+    let one_left = "constraint One a # a\nconstraint Left [A -> [a\n";
+    let left_one = "constraint Left [A -> [a\nconstraint One a # a\n";
+    let cases = [
+        (one_last, "[ ]", "counts 0 0 1\nexample [[ ]]\n"),
+        (one_first, "[ ]", "counts 0 1 0\nexample [- ]-\n"),
+        (one_second, "[ | ]", "counts 0 1\nexample [[ |+ ]]\n"),
+        (one_left, "[ ]", "counts 0 1\nexample [- ]-\n"),
+        (left_one, "[ ]", "counts 0 1\nexample [[ ]]\n"),
+    ];
+    for (lines, form, text) in cases {
+        let (status, written) = shown(rt.alloc(), lines, form)?;
         assert_eq!(rt; status, Status::Done, "{lines}{form}");
         assert_eq!(rt; written.as_str(), text, "{lines}{form}");
     }

@@ -1,6 +1,7 @@
-use super::{BASE, outcome};
+use super::{BASE, outcome, with_constraints};
 use crate::Status;
 use grammar_reader::GrammarCause;
+use std::alloc::{AllocError, Global};
 use std::test::Fail;
 
 pub(super) const SYLLABLES: &str = "otp 1
@@ -68,59 +69,59 @@ fn canonical_text_stays(rt: HostRuntime) -> Result<(), Fail> {
     Ok(())
 }
 
-// The first line with a cause, whatever the command.
+/// Whether each command that reads a grammar refuses this file so, and writes nothing.
+fn is_refused(
+    alloc: Global,
+    file: &str,
+    line: u32,
+    cause: GrammarCause,
+) -> Result<bool, AllocError> {
+    let due = Status::GrammarRefused {
+        word: 1,
+        line,
+        cause,
+    };
+    for command in ["canon/g", "score/g/x", "generate/g/x", "show/g/x"] {
+        let (status, text) = outcome(alloc, file, command)?;
+        if status != due || !text.is_empty() {
+            return Ok(false);
+        }
+    }
+    Ok(true)
+}
+
+// The first line with a cause, whatever the command. Line 0 stands for the whole file.
 #[test]
 fn grammars_are_refused(rt: HostRuntime) -> Result<(), Fail> {
-    let alloc = rt.alloc();
     let cases = [
         ("", 1, GrammarCause::BadHeader),
         ("otp 2\n", 1, GrammarCause::BadHeader),
         ("\n\notp 1 1\n", 3, GrammarCause::BadHeader),
+        ("otp 1\ntier and input\n", 2, GrammarCause::BadName),
         ("otp 1\ntier A input\n", 0, GrammarCause::NoOvert),
         ("otp 1\ntier a overt\n", 0, GrammarCause::NoInput),
-        (
-            "otp 1\ntier A input\ntier a hidden\n",
-            0,
-            GrammarCause::NoOvert,
-        ),
-        (
-            "otp 1\ntier A input\ntier a overt\ntier a hidden\n",
-            4,
-            GrammarCause::TwiceNamed,
-        ),
-        (
-            "otp 1\ntier A input\ntier a overt\nletter t = a\n",
-            4,
-            GrammarCause::NotInput,
-        ),
-        (
-            "otp 1\ntier A input\ntier a overt\nconstraint X b -> a\n",
-            4,
-            GrammarCause::UnknownTier,
-        ),
-        (
-            "otp 1\ntier A input\ntier a overt\nconstraint X A - a\n",
-            4,
-            GrammarCause::BadByte,
-        ),
-        (
-            "otp 1\ntier A input\ntier a overt\nconstraint X A -> a or\n",
-            4,
-            GrammarCause::BadLine,
-        ),
-        ("otp 1\ntier and input\n", 2, GrammarCause::BadName),
     ];
     for (file, line, cause) in cases {
-        let due = Status::GrammarRefused {
-            word: 1,
-            line,
-            cause,
-        };
-        for command in ["canon/g", "score/g/x", "generate/g/x", "show/g/x"] {
-            let (status, text) = outcome(alloc, file, command)?;
-            assert_eq!(rt; status, due, "{command}: {file}");
-            assert!(rt; text.is_empty(), "{command}: {file}");
-        }
+        assert!(rt; is_refused(rt.alloc(), file, line, cause)?, "{file}");
+    }
+    let hidden = "otp 1\ntier A input\ntier a hidden\n";
+    assert!(rt; is_refused(rt.alloc(), hidden, 0, GrammarCause::NoOvert)?);
+    Ok(())
+}
+
+// The fourth line, after the base.
+#[test]
+fn lines_after_the_base_are_refused(rt: HostRuntime) -> Result<(), Fail> {
+    let cases = [
+        ("tier a hidden\n", GrammarCause::TwiceNamed),
+        ("letter t = a\n", GrammarCause::NotInput),
+        ("constraint X b -> a\n", GrammarCause::UnknownTier),
+        ("constraint X A - a\n", GrammarCause::BadByte),
+        ("constraint X A -> a or\n", GrammarCause::BadLine),
+    ];
+    for (line, cause) in cases {
+        let file = with_constraints(rt.alloc(), line)?;
+        assert!(rt; is_refused(rt.alloc(), file.as_str(), 4, cause)?, "{line}");
     }
     Ok(())
 }

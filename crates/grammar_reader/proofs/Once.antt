@@ -1,6 +1,6 @@
 -- Names that stand once: what stands at a place, and what is found by its name.
-use Rattle.std.proofs.Common.{◌≡◌, ℕ, zero, suc, ◌+◌, ◌<◌, ◌≤◌, Bool, true, false, cond, not, ◌&&◌, ◌||◌, List, [], ◌∷◌, ◌++◌, length, map, filter, get_or, unwrap_or, Option, Some, None, refl, ap, sym, ◌∙◌, arith}
-use Rattle.std.specs.Prelude.{nat_lt, nat_le}
+use Rattle.std.proofs.Common.{◌≡◌, ℕ, zero, suc, ◌+◌, ◌<◌, Bool, true, false, cond, not, ◌||◌, List, [], ◌∷◌, ◌++◌, length, map, filter, get_or, unwrap_or, Some, None, refl, ap, sym, ◌∙◌, arith}
+use Rattle.std.specs.Prelude.{nat_lt}
 use Rattle.std.specs.List.{list_any, list_all, find, position_or_len}
 use Rattle.std.specs.Option.{option_map_or}
 use Rattle.std.specs.Str.{bytes_eq}
@@ -9,8 +9,6 @@ use Rattle.std.proofs.lemmas.Bool.Decides.{nat_tests}
 use Rattle.std.proofs.lemmas.List.{map-append}
 use Rattle.std.proofs.lemmas.Slice.Eq.{bytes_eq-Decides}
 use Rattle.tier_core.specs.Tiers.{is_input}
-use Rattle.tier_core.specs.declared.event.Event.{Event}
-use Rattle.grammar_reader.specs.Statements.{NamedEvent}
 use Rattle.grammar_reader.specs.Names.{has_twice}
 use Rattle.grammar_reader.specs.Values.{NamedTier, is_named, inputs_of}
 use Rattle.grammar_reader.specs.Reading.{is_unknown, is_input_named, number_of}
@@ -60,8 +58,8 @@ any_at p (y ∷ front) x rest h = or_right (p y) (list_any p (front ++ x ∷ res
 pub front_once : {X : Type 0} (name : X → List ℕ) (front : List X) (x : X) (rest : List X) → has_twice (map name (front ++ x ∷ rest)) ≡ false → list_any (λ y. bytes_eq (name x) (name y)) front ≡ false
 front_once name front x rest h =
     let none : list_any (bytes_eq (name x)) (map name front) ≡ false = by_test (list_any (bytes_eq (name x)) (map name front))
-        (λ e. absurd (false≢true (sym h ∙ (ap has_twice (map-append name front (x ∷ rest)) ∙ twice_after (map name front) (name x) (map name rest) e))))
-        (λ e. e) in
+    (λ e. absurd (false≢true (sym h ∙ (ap has_twice (map-append name front (x ∷ rest)) ∙ twice_after (map name front) (name x) (map name rest) e))))
+    (λ e. e) in
     sym (list_any-map (bytes_eq (name x)) name front) ∙ none
 
 once_kept : (t : NamedTier) (b : Bool) (ts : List NamedTier) → list_any (bytes_eq t.name) (map (λ u. u.name) ts) ≡ false → has_twice (map (λ u. u.name) ts) ≡ false → has_twice (map (λ u. u.name) (cond b (t ∷ ts) ts)) ≡ false
@@ -73,7 +71,7 @@ once_filtered q [] h = refl
 once_filtered q (t ∷ ts) h =
     let a = or_none (list_any (bytes_eq t.name) (map (λ u. u.name) ts)) (has_twice (map (λ u. u.name) ts)) h in
     let none : list_any (bytes_eq t.name) (map (λ u. u.name) (filter q ts)) ≡ false =
-        list_any-map (bytes_eq t.name) (λ u. u.name) (filter q ts) ∙ none_filtered (λ u. bytes_eq t.name u.name) q ts (sym (list_any-map (bytes_eq t.name) (λ u. u.name) ts) ∙ a.0) in
+    list_any-map (bytes_eq t.name) (λ u. u.name) (filter q ts) ∙ none_filtered (λ u. bytes_eq t.name u.name) q ts (sym (list_any-map (bytes_eq t.name) (λ u. u.name) ts) ∙ a.0) in
     once_kept t (q t) (filter q ts) none (once_filtered q ts a.1)
 
 -- ---- tiers by their names

@@ -1,19 +1,19 @@
 -- The canonical text of a grammar is read as that grammar, line by line.
-use Rattle.std.proofs.Common.{◌≡◌, ℕ, ◌+◌, ◌<◌, Bool, true, false, not, List, [], ◌∷◌, ◌++◌, length, map, refl, ap, sym, ◌∙◌, subst, codes, append_assoc, append-nil, arith, Option, Some, None, option_map, Result, Ok, Err}
-use Rattle.std.specs.List.{list_any, list_all, join_with_byte, AllByRecursion}
+use Rattle.std.proofs.Common.{◌≡◌, ℕ, ◌+◌, ◌<◌, true, false, not, List, [], ◌∷◌, ◌++◌, length, map, refl, ap, sym, ◌∙◌, subst, codes, append_assoc, append-nil, arith, Option, Some, None, option_map, Result, Ok}
+use Rattle.std.specs.List.{list_any, list_all, AllByRecursion}
 use Rattle.tier_core.specs.declared.tier.TierKind.{TierKind}
 use Rattle.tier_core.specs.declared.tier.TierKind.TheVariants.{Input, Overt, Hidden}
 use Rattle.tier_core.specs.Tiers.{is_input}
 use Rattle.timeline_text.specs.declared.letter.Letter.{Letter}
-use Rattle.grammar_reader.specs.Pieces.{Lexeme, equals, word, lines_of, parts_of, lexeme_of}
+use Rattle.grammar_reader.specs.Pieces.{Lexeme, equals, word, lines_of}
 use Rattle.grammar_reader.specs.Statements.{Statement, tier, letter, constraint, each_some, word_of, kind_of, letter_line, statement_of, joined_by}
 use Rattle.grammar_reader.specs.Names.{is_name, is_letter_byte}
 use Rattle.grammar_reader.specs.Values.{GrammarValue, NamedTier, NamedConstraint, inputs_of, letter_name, IsMade, IsGrammar}
-use Rattle.grammar_reader.specs.Reading.{At, nothing, cause_of, with_statement, after_cause, after_statement, kept, after_lexemes, after_line, after_lines, go_on, grammar_of, mask_of, numbered}
+use Rattle.grammar_reader.specs.Reading.{At, nothing, with_statement, after_cause, after_statement, kept, after_lexemes, after_lines, go_on, grammar_of, numbered}
 use Rattle.grammar_reader.specs.Canonical.{line_of_words, kind_text, tier_words, names_in, letter_words, event_text, joined, sign_text, constraint_words, header_words, tier_lines, letter_lines, constraint_lines, canonical}
 use Rattle.grammar_reader.proofs.Lawful.{NoCause, cause_none, not_false}
-use Rattle.grammar_reader.proofs.LawfulLines.{whole_is, read_is_lawful}
-use Rattle.grammar_reader.proofs.LineLexemes.{IsRead, AreRead, read_none, read_next, read_both, line_lexemes, line_first}
+use Rattle.grammar_reader.proofs.LawfulLines.{whole_is}
+use Rattle.grammar_reader.proofs.LineLexemes.{AreRead, read_none, read_next, read_both, line_lexemes, line_first}
 use Rattle.grammar_reader.proofs.WordLexemes.{name_read, letter_read, kind_read, and_read, joint_read, sign_lexeme, sign_read, equals_read}
 use Rattle.grammar_reader.proofs.MasksBack.{some_in, mask_back}
 use Rattle.grammar_reader.proofs.Once.{at_place, once_filtered}

@@ -1,7 +1,7 @@
 -- The events of a side: the words that join them are read, and cut, as they were joined.
-use Rattle.std.proofs.Common.{◌≡◌, ℕ, zero, suc, ◌+◌, ◌<◌, Bool, true, false, cond, not, ◌&&◌, List, [], ◌∷◌, ◌++◌, length, map, take, drop, refl, ap, sym, ◌∙◌, codes, append-nil, arith, append_assoc, length-append, subst, take_at, drop_at, Option, Some, None, option_map, option_and_then}
+use Rattle.std.proofs.Common.{◌≡◌, ℕ, suc, ◌+◌, ◌<◌, Bool, true, false, cond, not, List, [], ◌∷◌, ◌++◌, length, map, take, drop, refl, ap, sym, ◌∙◌, codes, append-nil, arith, append_assoc, length-append, subst, take_at, drop_at, Some, None}
 use Rattle.std.specs.Prelude.{slice_index_or, All}
-use Rattle.std.specs.List.{list_all, slice_split, position_or_len, AllByRecursion}
+use Rattle.std.specs.List.{slice_split, position_or_len, AllByRecursion}
 use Rattle.std.specs.Str.{bytes_eq}
 use Rattle.std.proofs.lemmas.List.Elements.{All-from_recursion}
 use Rattle.std.proofs.lemmas.List.Splits.{slice_split_none, slice_split_at}
@@ -11,9 +11,9 @@ use Rattle.tier_core.specs.declared.event.Part.TheVariants.{Start, End, Interior
 use Rattle.tier_core.specs.declared.constraint.Family.{Family}
 use Rattle.tier_core.specs.declared.constraint.Family.TheVariants.{Implication, Clash}
 use Rattle.grammar_reader.specs.Pieces.{Lexeme, word}
-use Rattle.grammar_reader.specs.Statements.{NamedEvent, constraint, each_some, is_the_word, is_connective, event, event_of, events_of, joined_by, is_sign, sides_of, constraint_line}
+use Rattle.grammar_reader.specs.Statements.{NamedEvent, constraint, each_some, is_the_word, is_connective, event_of, events_of, joined_by, is_sign, sides_of, constraint_line}
 use Rattle.grammar_reader.specs.Names.{is_name}
-use Rattle.grammar_reader.specs.Canonical.{event_text, joined, sign_text}
+use Rattle.grammar_reader.specs.Canonical.{event_text, joined}
 use Rattle.grammar_reader.proofs.Ascii.{name_parts}
 use Rattle.grammar_reader.proofs.Forms.{both_some}
 use Rattle.grammar_reader.proofs.Joined.{joined_rest, joined-cons}

@@ -1,5 +1,5 @@
 -- The canonical text of a grammar is short enough to be read.
-use Rattle.std.proofs.Common.{◌≡◌, ℕ, zero, suc, ◌+◌, ◌*◌, ◌<◌, ◌≤◌, Bool, true, false, cond, not, ◌&&◌, ◌||◌, ◌==◌, eqb, eqb-true, List, [], ◌∷◌, ◌++◌, length, map, filter, ◌/◌, get_or, refl, ap, sym, ◌∙◌, subst, codes, arith, length-append}
+use Rattle.std.proofs.Common.{◌≡◌, ℕ, zero, suc, ◌+◌, ◌*◌, ◌<◌, ◌≤◌, Bool, true, false, cond, ◌&&◌, ◌||◌, eqb, eqb-true, List, [], ◌∷◌, ◌++◌, length, map, filter, ◌/◌, get_or, refl, ap, sym, ◌∙◌, codes, arith, length-append}
 use Rattle.std.specs.Prelude.{nat_le, nat_lt}
 use Rattle.std.specs.List.{list_any, list_all, flat_map, join_with_byte, AllByRecursion, IsDistinct}
 use Rattle.std.specs.Str.{bytes_eq}
@@ -19,7 +19,7 @@ use Rattle.tier_core.specs.declared.constraint.Family.TheVariants.{Implication, 
 use Rattle.timeline_text.specs.declared.letter.Letter.{Letter}
 use Rattle.grammar_reader.specs.Statements.{joined_by}
 use Rattle.grammar_reader.specs.Names.{is_name, is_letter_byte, has_twice}
-use Rattle.grammar_reader.specs.Values.{GrammarValue, NamedTier, NamedConstraint, inputs_of, letter_name, is_side, has_sides, IsMade, IsGrammar}
+use Rattle.grammar_reader.specs.Values.{GrammarValue, NamedTier, NamedConstraint, inputs_of, letter_name, is_side, has_sides, IsMade}
 use Rattle.grammar_reader.specs.Canonical.{line_of_words, kind_text, tier_words, is_odd, names_in, letter_words, part_text, event_text, joined, sign_text, constraint_words, header_words, tier_lines, letter_lines, constraint_lines, canonical}
 use Rattle.grammar_reader.proofs.Ascii.{name_parts}
 use Rattle.grammar_reader.proofs.Joined.{joined_rest, joined-cons}
@@ -207,7 +207,7 @@ canonical_length g m =
     let a = lines_length (λ t. line_of_words (tier_words t)) (λ t. is_name t.name) 46 g.tiers tier_length m.tier_names in
     let b = lines_length (λ l. line_of_words (letter_words g.tiers l)) (λ l. is_letter_byte (letter_name l)) 210 g.letters (λ l h. letter_length g.tiers l m.tier_names m.few_inputs) m.letter_names in
     let c = lines_length (λ k. line_of_words (constraint_words names k)) (λ k. is_name k.name && has_sides (length g.tiers) k) 656 g.constraints (λ k h. constraint_length names (length g.tiers) k short h)
-        (both_all (λ k. is_name k.name) (has_sides (length g.tiers)) g.constraints m.constraint_names m.sides) in
+    (both_all (λ k. is_name k.name) (has_sides (length g.tiers)) g.constraints m.constraint_names m.sides) in
     let x = length-append first (ts ++ (ls ++ cs)) in
     let y = length-append ts (ls ++ cs) in
     let z = length-append ls cs in

@@ -1,5 +1,5 @@
 -- No line of a canonical text has a cause, given the lines before it.
-use Rattle.std.proofs.Common.{◌≡◌, ℕ, zero, suc, ◌+◌, ◌^◌, ◌<◌, ◌≤◌, Bool, true, false, cond, not, ◌&&◌, ◌||◌, List, [], ◌∷◌, ◌++◌, length, map, filter, refl, ap, sym, ◌∙◌, subst, arith, length-append}
+use Rattle.std.proofs.Common.{◌≡◌, ℕ, ◌^◌, ◌<◌, ◌≤◌, Bool, true, false, cond, not, ◌&&◌, ◌||◌, List, [], ◌∷◌, ◌++◌, length, map, filter, refl, ap, sym, ◌∙◌, subst, arith, length-append}
 use Rattle.std.specs.Prelude.{nat_lt, nat_le}
 use Rattle.std.specs.List.{list_any, list_all, AllByRecursion}
 use Rattle.std.specs.Str.{bytes_eq}
@@ -9,13 +9,12 @@ use Rattle.std.proofs.lemmas.List.Elements.{filter-append}
 use Rattle.tier_core.specs.declared.event.Event.{Event}
 use Rattle.tier_core.specs.Tiers.{is_input, is_free}
 use Rattle.timeline_text.specs.declared.letter.Letter.{Letter}
-use Rattle.grammar_reader.specs.Statements.{Statement, tier, letter, constraint}
+use Rattle.grammar_reader.specs.Statements.{tier, letter, constraint}
 use Rattle.grammar_reader.specs.Names.{is_name, is_letter_byte, has_twice}
 use Rattle.grammar_reader.specs.Values.{GrammarValue, NamedTier, NamedConstraint, inputs_of, free_of, letter_name, has_sound, is_side, has_sides, IsMade}
 use Rattle.grammar_reader.specs.Canonical.{names_in}
 use Rattle.grammar_reader.specs.Reading.{is_unknown, is_input_named, numbered}
 use Rattle.grammar_reader.proofs.Lawful.{and_both, NoCause}
-use Rattle.grammar_reader.proofs.Lists.{list_any-map}
 use Rattle.grammar_reader.proofs.MasksBack.{none_in, once_in}
 use Rattle.grammar_reader.proofs.Once.{none_filtered, none_fails, at_place, front_once, once_filtered, none_unknown, none_other, name_at, known_at, number_at, named_at}
 use Rattle.grammar_reader.proofs.Sides.{HasName, named_event}

@@ -1,5 +1,5 @@
 -- What each word of a canonical line is read as.
-use Rattle.std.proofs.Common.{◌≡◌, ℕ, Bool, true, false, cond, not, ◌&&◌, ◌||◌, ◌==◌, List, [], ◌∷◌, ◌++◌, filter, refl, ap, sym, ◌∙◌, codes, Option, Some, None, option_map, option_and_then}
+use Rattle.std.proofs.Common.{◌≡◌, ℕ, Bool, true, false, cond, not, ◌&&◌, ◌||◌, ◌==◌, List, [], ◌∷◌, ◌++◌, filter, refl, ap, ◌∙◌, codes, Option, Some, None, option_map, option_and_then}
 use Rattle.std.specs.Prelude.{slice_index_or}
 use Rattle.std.specs.List.{list_all}
 use Rattle.std.specs.Str.{bytes_eq}
@@ -16,7 +16,7 @@ use Rattle.grammar_reader.specs.Names.{is_name, is_letter_byte}
 use Rattle.grammar_reader.specs.Canonical.{kind_text, part_text, event_text, sign_text}
 use Rattle.grammar_reader.proofs.Ascii.{name_parts}
 use Rattle.grammar_reader.proofs.Lawful.{and_both, and_make, all_weaker}
-use Rattle.grammar_reader.proofs.LineLexemes.{is_inner, tokens_in, IsRead}
+use Rattle.grammar_reader.proofs.LineLexemes.{is_inner, IsRead}
 use Rattle.grammar_reader.proofs.Steps.{is_other, plain_word}
 use Rattle.grammar_reader.proofs.Walk.{joins, apart}
 

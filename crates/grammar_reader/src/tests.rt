@@ -143,7 +143,10 @@ fn tiers_that_are_not_known(rt: HostRuntime) -> Result<(), Fail> {
         (b"constraint X A -> b\ntier b hidden", 4),
         (b"constraint X 9 -> a", 4),
         (b"letter t = B a", 4),
-        (b"constraint X A -> b or a or a or a or a or a or a or a or a", 4),
+        (
+            b"constraint X A -> b or a or a or a or a or a or a or a or a",
+            4,
+        ),
     ];
     let cause = GrammarCause::UnknownTier;
     for (more, line) in cases {
@@ -156,10 +159,7 @@ fn tiers_that_are_not_known(rt: HostRuntime) -> Result<(), Fail> {
 // Letters with tiers that are not input tiers.
 #[test]
 fn tiers_of_letters_that_are_no_input_tiers(rt: HostRuntime) -> Result<(), Fail> {
-    let cases: [(&[u8], u32); 2] = [
-        (b"letter t = a", 4),
-        (b"letter t = A a\ntier A overt", 4),
-    ];
+    let cases: [(&[u8], u32); 2] = [(b"letter t = a", 4), (b"letter t = A a\ntier A overt", 4)];
     let cause = GrammarCause::NotInput;
     for (more, line) in cases {
         let refusal = refusal_after_base(rt.alloc(), more)?;
@@ -172,8 +172,14 @@ fn tiers_of_letters_that_are_no_input_tiers(rt: HostRuntime) -> Result<(), Fail>
 #[test]
 fn sides_with_too_many_events(rt: HostRuntime) -> Result<(), Fail> {
     let cases: [(&[u8], u32); 3] = [
-        (b"constraint X A -> a or a or a or a or a or a or a or a or a", 4),
-        (b"constraint X a and a and a and a and a and a and a and a and a # A", 4),
+        (
+            b"constraint X A -> a or a or a or a or a or a or a or a or a",
+            4,
+        ),
+        (
+            b"constraint X a and a and a and a and a and a and a and a and a # A",
+            4,
+        ),
         (
             b"\n\n; note\n  \t \r\nconstraint X A # a and a and a and a and a and a and a and a and a",
             8,
@@ -204,7 +210,11 @@ fn texts_and_their_causes(rt: HostRuntime) -> Result<(), Fail> {
         (b"otp 1", 0, GrammarCause::NoInput),
         (b"otp 1\ntier a overt", 0, GrammarCause::NoInput),
         (b"otp 1\ntier A input\n", 0, GrammarCause::NoOvert),
-        (b"otp 1\ntier A input\ntier a hidden", 0, GrammarCause::NoOvert),
+        (
+            b"otp 1\ntier A input\ntier a hidden",
+            0,
+            GrammarCause::NoOvert,
+        ),
     ];
     for (text, line, cause) in cases {
         let refusal = refusal_of(rt.alloc(), text);

@@ -70,6 +70,7 @@ fn words_of_a_command_are_read(rt: HostRuntime) -> Result<(), Fail> {
     Ok(())
 }
 
+// Other names, too few words and too many.
 #[test]
 fn other_words_are_no_command(rt: HostRuntime) -> Result<(), Fail> {
     let alloc = rt.alloc();
@@ -94,6 +95,20 @@ fn other_words_are_no_command(rt: HostRuntime) -> Result<(), Fail> {
         "show/g/empty/1/1",
         "SHOW/g/empty",
         "draw/g/empty",
+        "generate/g/1/empty",
+    ];
+    for text in cases {
+        let words = words(alloc, text)?;
+        assert_eq!(rt; command_of(&words), None, "{text}");
+    }
+    Ok(())
+}
+
+// Last words that are no budget.
+#[test]
+fn other_budgets_are_no_command(rt: HostRuntime) -> Result<(), Fail> {
+    let alloc = rt.alloc();
+    let cases = [
         "generate/g/empty/",
         "generate/g/empty/0",
         "generate/g/empty/00",
@@ -110,7 +125,6 @@ fn other_words_are_no_command(rt: HostRuntime) -> Result<(), Fail> {
         "generate/g/empty/1 ",
         "generate/g/empty/0x10",
         "generate/g/empty/1_000",
-        "generate/g/1/empty",
         "show/g/empty/0",
         "show/g/empty/65537",
         "show/g/empty/08",

@@ -21,3 +21,11 @@ pub mod Stated
 pub mod Joined
 pub mod LineText
 pub mod Shaping
+pub mod LineLexemes
+pub mod WordLexemes
+pub mod Once
+pub mod MasksBack
+pub mod Sides
+pub mod Uncaused
+pub mod ReadAgain
+pub mod TextLength

@@ -13,117 +13,182 @@ fn with_base(alloc: Global, more: &[u8]) -> Result<Vec<u8>, AllocError> {
     Ok(text)
 }
 
-// Lines after the three of a base, and the line and the cause by which they are refused.
+// How a whole text is refused.
+fn refusal_of(alloc: Global, text: &[u8]) -> Option<GrammarErr> {
+    if text.len() > 65536 {
+        return None;
+    }
+    match read_grammar(alloc, text) {
+        Ok(_) => None,
+        Err(refusal) => Some(refusal),
+    }
+}
+
+// How a text is refused that has these lines after the three of a base.
+fn refusal_after_base(alloc: Global, more: &[u8]) -> Result<Option<GrammarErr>, AllocError> {
+    let text = with_base(alloc, more)?;
+    Ok(refusal_of(alloc, &text))
+}
+
+// Bytes that begin no token.
 #[test]
-fn lines_and_their_causes(rt: HostRuntime) -> Result<(), Fail> {
-    let cases: [(&[u8], u32, GrammarCause); 63] = [
-        (b"constraint X A - a", 4, GrammarCause::BadByte),
-        (b"constraint X A -> a !", 4, GrammarCause::BadByte),
-        (b"- ;", 4, GrammarCause::BadByte),
-        (b">", 4, GrammarCause::BadByte),
-        (b"constraint X A ->> a", 4, GrammarCause::BadByte),
-        (b"tier b\rhidden", 4, GrammarCause::BadByte),
-        (b"tier b hidden\r \n", 4, GrammarCause::BadByte),
-        (b"tier and \xc3\xa9", 4, GrammarCause::BadByte),
-        (
-            b"tier b hidden\n\x00\ntier b hidden",
-            5,
-            GrammarCause::BadByte,
-        ),
-        (b"otp 1", 4, GrammarCause::BadLine),
-        (b"rule b", 4, GrammarCause::BadLine),
-        (b"tier b", 4, GrammarCause::BadLine),
-        (b"tier b Input", 4, GrammarCause::BadLine),
-        (b"tier b input overt", 4, GrammarCause::BadLine),
-        (b"tier [ b input", 4, GrammarCause::BadLine),
-        (b"letter t = ", 4, GrammarCause::BadLine),
-        (b"letter = A", 4, GrammarCause::BadLine),
-        (b"letter t A", 4, GrammarCause::BadLine),
-        (b"letter t = [ A", 4, GrammarCause::BadLine),
-        (b"constraint", 4, GrammarCause::BadLine),
-        (b"constraint X", 4, GrammarCause::BadLine),
-        (b"constraint X A", 4, GrammarCause::BadLine),
-        (b"constraint X -> a", 4, GrammarCause::BadLine),
-        (b"constraint X A ->", 4, GrammarCause::BadLine),
-        (b"constraint X A -> a or", 4, GrammarCause::BadLine),
-        (b"constraint X A and -> a", 4, GrammarCause::BadLine),
-        (b"constraint X and -> a", 4, GrammarCause::BadLine),
-        (b"constraint X [and -> a", 4, GrammarCause::BadLine),
-        (b"constraint X A or A -> a", 4, GrammarCause::BadLine),
-        (b"constraint X A -> a and a", 4, GrammarCause::BadLine),
-        (b"constraint X A # a or a", 4, GrammarCause::BadLine),
-        (b"constraint X A # a # a", 4, GrammarCause::BadLine),
-        (b"constraint X A -> a # a", 4, GrammarCause::BadLine),
-        (b"constraint X [ -> a", 4, GrammarCause::BadLine),
-        (b"constraint X [[A -> a", 4, GrammarCause::BadLine),
-        (b"constraint X A A -> a", 4, GrammarCause::BadLine),
-        (b"constraint and b ->", 4, GrammarCause::BadLine),
-        (b"constraint and b -> c", 4, GrammarCause::BadName),
-        (b"tier and hidden", 4, GrammarCause::BadName),
-        (b"tier or overt", 4, GrammarCause::BadName),
-        (b"tier 9b overt", 4, GrammarCause::BadName),
-        (b"tier _b overt", 4, GrammarCause::BadName),
-        (
-            b"tier abcdefghijklmnopqrstuvwxyzabcdefg hidden",
-            4,
-            GrammarCause::BadName,
-        ),
-        (b"letter tt = A", 4, GrammarCause::BadName),
-        (b"letter _ = A", 4, GrammarCause::BadName),
-        (b"letter t = and", 4, GrammarCause::BadName),
-        (b"letter t = 9 A A", 4, GrammarCause::BadName),
-        (b"tier a hidden", 4, GrammarCause::TwiceNamed),
-        (
-            b"tier a hidden\nconstraint X b -> a",
-            4,
-            GrammarCause::TwiceNamed,
-        ),
-        (b"letter t = A A", 4, GrammarCause::TwiceNamed),
-        (b"letter t = b a b", 4, GrammarCause::TwiceNamed),
-        (b"letter t = A\nletter t = b", 5, GrammarCause::TwiceNamed),
-        (
-            b"constraint X A -> a\n\nconstraint X b -> a",
-            6,
-            GrammarCause::TwiceNamed,
-        ),
-        (b"constraint X b -> a", 4, GrammarCause::UnknownTier),
-        (
-            b"constraint X A -> b\ntier b hidden",
-            4,
-            GrammarCause::UnknownTier,
-        ),
-        (b"constraint X 9 -> a", 4, GrammarCause::UnknownTier),
-        (b"letter t = B a", 4, GrammarCause::UnknownTier),
+fn bad_bytes(rt: HostRuntime) -> Result<(), Fail> {
+    let cases: [(&[u8], u32); 9] = [
+        (b"constraint X A - a", 4),
+        (b"constraint X A -> a !", 4),
+        (b"- ;", 4),
+        (b">", 4),
+        (b"constraint X A ->> a", 4),
+        (b"tier b\rhidden", 4),
+        (b"tier b hidden\r \n", 4),
+        (b"tier and \xc3\xa9", 4),
+        (b"tier b hidden\n\x00\ntier b hidden", 5),
+    ];
+    let cause = GrammarCause::BadByte;
+    for (more, line) in cases {
+        let refusal = refusal_after_base(rt.alloc(), more)?;
+        assert_eq!(rt; refusal, Some(GrammarErr::At { line, cause }), "{more:?}");
+    }
+    Ok(())
+}
+
+// Lines whose tokens have none of the forms.
+#[test]
+fn lines_without_a_form(rt: HostRuntime) -> Result<(), Fail> {
+    let cases: [&[u8]; 28] = [
+        b"otp 1",
+        b"rule b",
+        b"tier b",
+        b"tier b Input",
+        b"tier b input overt",
+        b"tier [ b input",
+        b"letter t = ",
+        b"letter = A",
+        b"letter t A",
+        b"letter t = [ A",
+        b"constraint",
+        b"constraint X",
+        b"constraint X A",
+        b"constraint X -> a",
+        b"constraint X A ->",
+        b"constraint X A -> a or",
+        b"constraint X A and -> a",
+        b"constraint X and -> a",
+        b"constraint X [and -> a",
+        b"constraint X A or A -> a",
+        b"constraint X A -> a and a",
+        b"constraint X A # a or a",
+        b"constraint X A # a # a",
+        b"constraint X A -> a # a",
+        b"constraint X [ -> a",
+        b"constraint X [[A -> a",
+        b"constraint X A A -> a",
+        b"constraint and b ->",
+    ];
+    let (line, cause) = (4, GrammarCause::BadLine);
+    for more in cases {
+        let refusal = refusal_after_base(rt.alloc(), more)?;
+        assert_eq!(rt; refusal, Some(GrammarErr::At { line, cause }), "{more:?}");
+    }
+    Ok(())
+}
+
+// Words in the place of a name that are none.
+#[test]
+fn words_that_are_no_names(rt: HostRuntime) -> Result<(), Fail> {
+    let cases: [(&[u8], u32); 10] = [
+        (b"constraint and b -> c", 4),
+        (b"tier and hidden", 4),
+        (b"tier or overt", 4),
+        (b"tier 9b overt", 4),
+        (b"tier _b overt", 4),
+        (b"tier abcdefghijklmnopqrstuvwxyzabcdefg hidden", 4),
+        (b"letter tt = A", 4),
+        (b"letter _ = A", 4),
+        (b"letter t = and", 4),
+        (b"letter t = 9 A A", 4),
+    ];
+    let cause = GrammarCause::BadName;
+    for (more, line) in cases {
+        let refusal = refusal_after_base(rt.alloc(), more)?;
+        assert_eq!(rt; refusal, Some(GrammarErr::At { line, cause }), "{more:?}");
+    }
+    Ok(())
+}
+
+// Names that were there before, and letters with one tier twice.
+#[test]
+fn names_that_stand_twice(rt: HostRuntime) -> Result<(), Fail> {
+    let cases: [(&[u8], u32); 6] = [
+        (b"tier a hidden", 4),
+        (b"tier a hidden\nconstraint X b -> a", 4),
+        (b"letter t = A A", 4),
+        (b"letter t = b a b", 4),
+        (b"letter t = A\nletter t = b", 5),
+        (b"constraint X A -> a\n\nconstraint X b -> a", 6),
+    ];
+    let cause = GrammarCause::TwiceNamed;
+    for (more, line) in cases {
+        let refusal = refusal_after_base(rt.alloc(), more)?;
+        assert_eq!(rt; refusal, Some(GrammarErr::At { line, cause }), "{more:?}");
+    }
+    Ok(())
+}
+
+// Tiers that no line before has made.
+#[test]
+fn tiers_that_are_not_known(rt: HostRuntime) -> Result<(), Fail> {
+    let cases: [(&[u8], u32); 5] = [
+        (b"constraint X b -> a", 4),
+        (b"constraint X A -> b\ntier b hidden", 4),
+        (b"constraint X 9 -> a", 4),
+        (b"letter t = B a", 4),
         (
             b"constraint X A -> b or a or a or a or a or a or a or a or a",
             4,
-            GrammarCause::UnknownTier,
         ),
-        (b"letter t = a", 4, GrammarCause::NotInput),
-        (b"letter t = A a\ntier A overt", 4, GrammarCause::NotInput),
+    ];
+    let cause = GrammarCause::UnknownTier;
+    for (more, line) in cases {
+        let refusal = refusal_after_base(rt.alloc(), more)?;
+        assert_eq!(rt; refusal, Some(GrammarErr::At { line, cause }), "{more:?}");
+    }
+    Ok(())
+}
+
+// Letters with tiers that are not input tiers.
+#[test]
+fn tiers_of_letters_that_are_no_input_tiers(rt: HostRuntime) -> Result<(), Fail> {
+    let cases: [(&[u8], u32); 2] = [(b"letter t = a", 4), (b"letter t = A a\ntier A overt", 4)];
+    let cause = GrammarCause::NotInput;
+    for (more, line) in cases {
+        let refusal = refusal_after_base(rt.alloc(), more)?;
+        assert_eq!(rt; refusal, Some(GrammarErr::At { line, cause }), "{more:?}");
+    }
+    Ok(())
+}
+
+// Sides with nine events.
+#[test]
+fn sides_with_too_many_events(rt: HostRuntime) -> Result<(), Fail> {
+    let cases: [(&[u8], u32); 3] = [
         (
             b"constraint X A -> a or a or a or a or a or a or a or a or a",
             4,
-            GrammarCause::TooManyEvents,
         ),
         (
             b"constraint X a and a and a and a and a and a and a and a and a # A",
             4,
-            GrammarCause::TooManyEvents,
         ),
         (
             b"\n\n; note\n  \t \r\nconstraint X A # a and a and a and a and a and a and a and a and a",
             8,
-            GrammarCause::TooManyEvents,
         ),
     ];
-    for (more, line, cause) in cases {
-        let text = with_base(rt.alloc(), more)?;
-        assert!(rt; text.len() <= 65536);
-        match read_grammar(rt.alloc(), &text) {
-            Ok(_) => assert!(rt; false, "{more:?} is read"),
-            Err(refusal) => assert_eq!(rt; refusal, GrammarErr::At { line, cause }, "{more:?}"),
-        }
+    let cause = GrammarCause::TooManyEvents;
+    for (more, line) in cases {
+        let refusal = refusal_after_base(rt.alloc(), more)?;
+        assert_eq!(rt; refusal, Some(GrammarErr::At { line, cause }), "{more:?}");
     }
     Ok(())
 }
@@ -131,7 +196,7 @@ fn lines_and_their_causes(rt: HostRuntime) -> Result<(), Fail> {
 // Whole texts that are refused: the line and the cause.
 #[test]
 fn texts_and_their_causes(rt: HostRuntime) -> Result<(), Fail> {
-    let cases: [(&[u8], u32, GrammarCause); 17] = [
+    let cases: [(&[u8], u32, GrammarCause); 14] = [
         (b"", 1, GrammarCause::BadHeader),
         (b"\n \n\t\n", 1, GrammarCause::BadHeader),
         (b"; otp 1", 1, GrammarCause::BadHeader),
@@ -150,36 +215,43 @@ fn texts_and_their_causes(rt: HostRuntime) -> Result<(), Fail> {
             0,
             GrammarCause::NoOvert,
         ),
-        (
-            b"otp 1\ntier A input\ntier B input\ntier C input\ntier D input\ntier E input\ntier a overt\ntier b overt\ntier c overt\ntier d overt\ntier e overt\ntier f overt\ntier g overt\ntier h overt",
-            14,
-            GrammarCause::TooManyTiers,
-        ),
-        (
-            b"otp 1\ntier A input\ntier B input\ntier C input\ntier D input\ntier E input\ntier F input\ntier G input",
-            8,
-            GrammarCause::TooManyTiers,
-        ),
-        (
-            b"otp 1\ntier a overt\ntier b hidden\ntier c overt\ntier d hidden\ntier e overt\ntier f hidden\ntier g overt\ntier h hidden\ntier i hidden",
-            10,
-            GrammarCause::TooManyTiers,
-        ),
     ];
     for (text, line, cause) in cases {
-        assert!(rt; text.len() <= 65536);
-        match read_grammar(rt.alloc(), text) {
-            Ok(_) => assert!(rt; false, "{text:?} is read"),
-            Err(refusal) => assert_eq!(rt; refusal, GrammarErr::At { line, cause }, "{text:?}"),
-        }
+        let refusal = refusal_of(rt.alloc(), text);
+        assert_eq!(rt; refusal, Some(GrammarErr::At { line, cause }), "{text:?}");
     }
     Ok(())
 }
 
-// Texts that are read, and their canonical texts.
+// The 13th tier, the 7th input tier and the 9th free tier, and their lines.
 #[test]
-fn texts_and_their_canonical_texts(rt: HostRuntime) -> Result<(), Fail> {
-    let cases: [(&[u8], &[u8]); 11] = [
+fn texts_with_too_many_tiers(rt: HostRuntime) -> Result<(), Fail> {
+    let cases: [(&[u8], u32); 3] = [
+        (
+            b"otp 1\ntier A input\ntier B input\ntier C input\ntier D input\ntier E input\ntier a overt\ntier b overt\ntier c overt\ntier d overt\ntier e overt\ntier f overt\ntier g overt\ntier h overt",
+            14,
+        ),
+        (
+            b"otp 1\ntier A input\ntier B input\ntier C input\ntier D input\ntier E input\ntier F input\ntier G input",
+            8,
+        ),
+        (
+            b"otp 1\ntier a overt\ntier b hidden\ntier c overt\ntier d hidden\ntier e overt\ntier f hidden\ntier g overt\ntier h hidden\ntier i hidden",
+            10,
+        ),
+    ];
+    let cause = GrammarCause::TooManyTiers;
+    for (text, line) in cases {
+        let refusal = refusal_of(rt.alloc(), text);
+        assert_eq!(rt; refusal, Some(GrammarErr::At { line, cause }), "{text:?}");
+    }
+    Ok(())
+}
+
+// Texts that are read, and their canonical texts: ends of lines, spaces and comments.
+#[test]
+fn spaces_are_canonical(rt: HostRuntime) -> Result<(), Fail> {
+    let cases: [(&[u8], &[u8]); 6] = [
         (BASE, BASE),
         (b"otp 1\ntier A input\ntier a overt", BASE),
         (b"otp 1\r\ntier A input\r\ntier a overt\r", BASE),
@@ -195,6 +267,21 @@ fn texts_and_their_canonical_texts(rt: HostRuntime) -> Result<(), Fail> {
             b"otp 1\ntier A input\ntier a overt\nconstraint X [ A and]a#A and a\nconstraint A a->[A or ] A",
             b"otp 1\ntier A input\ntier a overt\nconstraint X [A and ]a # A and a\nconstraint A a -> [A or ]A\n",
         ),
+    ];
+    for (text, canonical) in cases {
+        assert!(rt; text.len() <= 65536);
+        let mut sink = SafeSink::new(rt.alloc());
+        let grammar = read_grammar(rt.alloc(), text)?;
+        put_grammar(&mut sink, &grammar)?;
+        assert_eq!(rt; sink.bytes(), canonical, "{text:?}");
+    }
+    Ok(())
+}
+
+// The order of lines, names that are words of the language, and limits.
+#[test]
+fn lines_are_canonical(rt: HostRuntime) -> Result<(), Fail> {
+    let cases: [(&[u8], &[u8]); 5] = [
         (
             b"otp 1\ntier x overt\nconstraint One x # x\ntier V input\ntier C input\nletter t=C V\nletter 0 = C\nletter a = V",
             b"otp 1\ntier x overt\ntier V input\ntier C input\nletter t = V C\nletter 0 = C\nletter a = V\nconstraint One x # x\n",

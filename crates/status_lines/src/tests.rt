@@ -48,8 +48,9 @@ fn numbers_and_lines(rt: HostRuntime) -> Result<(), Fail> {
     Ok(())
 }
 
+// Causes of a grammar's lines, and of the names in them.
 #[test]
-fn each_cause_of_a_grammar(rt: HostRuntime) -> Result<(), Fail> {
+fn causes_of_lines_and_names(rt: HostRuntime) -> Result<(), Fail> {
     let cases = [
         (
             no_grammar(1, GrammarCause::BadByte),
@@ -79,6 +80,20 @@ fn each_cause_of_a_grammar(rt: HostRuntime) -> Result<(), Fail> {
             no_grammar(100, GrammarCause::NotInput),
             "grammar word 1 line 100: NotInput\n",
         ),
+    ];
+    for (status, line) in cases {
+        let mut sink = SafeSink::new(rt.alloc());
+        put_status(&mut sink, &status)?;
+        assert_eq!(rt; sink.bytes(), line.as_bytes(), "{line}");
+        assert_eq!(rt; status.number(), 3, "{line}");
+    }
+    Ok(())
+}
+
+// Causes of a grammar's limits, and of the kinds that it must have.
+#[test]
+fn causes_of_limits_and_kinds(rt: HostRuntime) -> Result<(), Fail> {
+    let cases = [
         (
             no_grammar(12, GrammarCause::TooManyTiers),
             "grammar word 1 line 12: TooManyTiers\n",

@@ -1,6 +1,6 @@
 use Rattle.std.proofs.Common.{◌≡◌, length}
 use Rattle.distances.specs.Rounds.{AreWitnessed, IsCovered}
-use Rattle.distances.proofs.rounds.by_rounds.Given as goal
+use Rattle.distances.proofs.rounds.closed.Given as goal
 
 abbrev pub invariant-loop-rounds : goal.invariant-loop-rounds
 invariant-loop-rounds g l = record {

@@ -1,18 +1,8 @@
 use Rattle.std.proofs.Common.{◌≡◌, ◌++◌, ℕ, length, drop, take, subst, arith}
 use Rattle.std.proofs.lemmas.List.{take_at}
 use Rattle.distances.specs.Rounds.{IsCovered}
-use Rattle.distances.proofs.Ends.{initial-witnessed, initial-covered, length-initial, least-closed, closed-covered}
-use Rattle.distances.proofs.rounds.by_rounds.Goals as goal
-
-pub loop-rounds-init : goal.loop-rounds-init
-loop-rounds-init g c =
-    let laws = g.met.W.Weight.laws in
-    let states = c.args.table.now.states.items in
-    record {
-      each_state = rw c.in_ok-least.ensures (length-initial laws states);
-      witnessed = rw c.in_ok-least.ensures (initial-witnessed laws states);
-      covered = rw c.in_ok-least.ensures (initial-covered laws states);
-    }
+use Rattle.distances.proofs.Ends.{least-closed, closed-covered}
+use Rattle.distances.proofs.rounds.closed.Goals as goal
 
 pub returns-then-not-round : goal.returns-then-not-round
 returns-then-not-round g c =

@@ -3,3 +3,5 @@ pub mod Runs
 pub mod Conditions
 pub mod States
 pub mod FirstColumn
+pub mod Turning
+pub mod Incoming

@@ -2,16 +2,22 @@
 //
 // A table is made once of all its states and is only read from then on. It accepts a timeline where
 // a path from state 0, whose arcs' classes hold the timeline's columns in turn, ends at an accepting
-// state. The definitions of runs, words and their weights in `specs/` are those that the least
-// distances, the pruning to best paths and the first timelines are proved of. Below stand the
-// classes of columns and the weights; above, the staged generator makes the tables.
+// state. `Incoming` has the same moves turned round, for searches backward from the accepting states.
+// The definitions of runs, words and their weights in `specs/` are those that the least distances,
+// the pruning to best paths and the first timelines are proved of. Below stand the classes of columns
+// and the weights; above, the staged generator makes the tables.
 #![tactic(auto)]
 
 mod arc;
+mod incoming;
+mod incoming_move;
 mod state;
 mod table;
+mod turning;
 
 pub use arc::TableArc;
+pub use incoming::Incoming;
+pub use incoming_move::IncomingMove;
 pub use state::TableState;
 pub use table::Table;
 

@@ -116,10 +116,5 @@ module _ {W : Type 0} {g : Ghosts W} (laws : IsLawful g.meaning) (states : List 
       go arc here None e = tt
       go arc here (Some w) e = omega (arith, fits n exist sizes least wit s arc here w e)
 
-  pub targets_each : TargetsExist states → (n : ℕ) → n ≡ length states → (s : ℕ) → All (λ arc. arc.target < n) (moves_at states s)
-  targets_each exist n same s k d inside =
-      let there = exist s (get_or (moves_at states s) k d) (Contains-get_or (moves_at states s) k d inside) in
-      omega (arith, there)
-
   pub length-initial : length (initial_of states) ≡ length states
   length-initial = length-map (map (λ state. state.accepting) states) (nothing_yet g.meaning) ∙ length-map states (λ state. state.accepting)

@@ -42,10 +42,11 @@ module _ {W : Type 0} {g : Ghosts W} (laws : IsLawful g.meaning) (states : List 
   not_both None a c pa pc h ac better = h
   not_both (Some u) a c pa pc h ac better = false≢true (sym (at_most-trans laws u a c h.0 pa pc h.1 ac) ∙ better)
 
-  module _ (least : List (Option W)) (wit : AreWitnessed states least) (s : ℕ) (within : s < length least) where
-    -- what is known after a look at the moves of s
+  -- a look at some moves of s
+  module _ (least : List (Option W)) (wit : AreWitnessed states least) (s : ℕ) (within : s < length least) (moves : List (TableArc W g)) (some : (arc : TableArc W g) → Contains moves arc → Contains (moves_at states s) arc) where
+    -- what is known after it
     abbrev pub found_at : Option W
-    found_at = best_of least (get_or least s None) (moves_at states s)
+    found_at = best_of least (get_or least s None) moves
 
     abbrev pub next_of : List (Option W)
     next_of = set least s found_at
@@ -58,13 +59,13 @@ module _ {W : Type 0} {g : Ghosts W} (laws : IsLawful g.meaning) (states : List 
       | inl same ↦
           (let P : Option W → Type 0 = λ o. IsWithin g.meaning o w in
           let Q : ℕ → Type 0 = λ x. IsWithin g.meaning (get_or least x None) w → IsWithin g.meaning (get_or next_of x None) w in
-          let here : Q s = λ k. subst P (sym at_s) (best-known laws least (lawful_known least wit) (get_or least s None) (moves_at states s) (lawful_known least wit s) w pw k) in
+          let here : Q s = λ k. subst P (sym at_s) (best-known laws least (lawful_known least wit) (get_or least s None) moves (lawful_known least wit s) w pw k) in
           subst Q (sym same) here h)
       | inr ne ↦ (let P : Option W → Type 0 = λ o. IsWithin g.meaning o w in subst P (sym (get_or-set_other least s q found_at None ne)) h)
     ]
 
     -- the run of a gain
-    gained : (v : W) → found_at ≡ Some v → Gains laws least (get_or least s None) (moves_at states s) found_at → (arcs : List (TableArc W g)) × IsWitness states next_of s arcs × (weight_of arcs ≡ v)
+    gained : (v : W) → found_at ≡ Some v → Gains laws least (get_or least s None) moves found_at → (arcs : List (TableArc W g)) × IsWitness states next_of s arcs × (weight_of arcs ≡ v)
     gained v e found =
         let arc = found.0 in
         let w = found.2 in
@@ -83,10 +84,10 @@ module _ {W : Type 0} {g : Ghosts W} (laws : IsLawful g.meaning) (states : List 
         let known : get_or next_of s None ≡ Some (weight_of (arc ∷ rest)) = at_s ∙ found.4 ∙ ap (λ x. Some x) (sym same) in
         let self : Q (Some (weight_of (arc ∷ rest))) = (pt, at_most-itself laws (weight_of (arc ∷ rest)) pt) in
         let value : total ≡ v = (let both : Some total ≡ Some v = sym found.4 ∙ e in cc) in
-        (arc ∷ rest, (found.1, subst Q (sym known) self, fresh (list_any (eqb s) (places arc.target rest)) refl, witness-falls least next_of step-falls arc.target rest old.1), same ∙ value)
+        (arc ∷ rest, (some arc found.1, subst Q (sym known) self, fresh (list_any (eqb s) (places arc.target rest)) refl, witness-falls least next_of step-falls arc.target rest old.1), same ∙ value)
 
     pub step-at : (v : W) → found_at ≡ Some v → (arcs : List (TableArc W g)) × IsWitness states next_of s arcs × (weight_of arcs ≡ v)
-    step-at v e = elim (best-cases laws least (lawful_known least wit) (get_or least s None) (moves_at states s) (lawful_known least wit s)) [
+    step-at v e = elim (best-cases laws least (lawful_known least wit) (get_or least s None) moves (lawful_known least wit s)) [
       | inl same ↦ (let old = wit s v (sym same ∙ e) in (old.0, witness-falls least next_of step-falls s old.0 old.1, old.2))
       | inr found ↦ gained v e found
     ]
@@ -101,27 +102,27 @@ module _ {W : Type 0} {g : Ghosts W} (laws : IsLawful g.meaning) (states : List 
     ]
 
     -- a run from s of one move more
-    covered_at : TargetsExist states → (k : ℕ) → IsCovered states least k → s < length states → (arcs : List (TableArc W g)) → IsRun states s arcs → length arcs ≤ k + 1 → IsWithin g.meaning found_at (weight_of arcs)
-    covered_at exist k cov ins [] run short =
-        best-known laws least (lawful_known least wit) (get_or least s None) (moves_at states s) (lawful_known least wit s) g.meaning.zero laws.lawful_zero (cov s [] ins run (omega arith))
-    covered_at exist k cov ins (arc ∷ rest) run short = go (get_or least arc.target None) refl (cov arc.target rest (exist s arc run.0) run.1 (omega arith))
+    covered_at : ((arc : TableArc W g) → Contains (moves_at states s) arc → Contains moves arc) → TargetsExist states → (k : ℕ) → IsCovered states least k → s < length states → (arcs : List (TableArc W g)) → IsRun states s arcs → length arcs ≤ k + 1 → IsWithin g.meaning found_at (weight_of arcs)
+    covered_at all exist k cov ins [] run short =
+        best-known laws least (lawful_known least wit) (get_or least s None) moves (lawful_known least wit s) g.meaning.zero laws.lawful_zero (cov s [] ins run (omega arith))
+    covered_at all exist k cov ins (arc ∷ rest) run short = go (get_or least arc.target None) refl (cov arc.target rest (exist s arc run.0) run.1 (omega arith))
       where
         go : (o : Option W) → get_or least arc.target None ≡ o → IsWithin g.meaning o (weight_of rest) → IsWithin g.meaning found_at (weight_of (arc ∷ rest))
         go None e h = absurd h
         go (Some u) e h =
             IsWithin-more laws found_at (g.meaning.sum arc.weight u) (weight_of (arc ∷ rest)) (laws.lawful_sum arc.weight u arc.lawful h.0) (lawful-weight_of laws (arc ∷ rest))
-            (best-move laws least (lawful_known least wit) (get_or least s None) (moves_at states s) (lawful_known least wit s) arc run.0 u e)
+            (best-move laws least (lawful_known least wit) (get_or least s None) moves (lawful_known least wit s) arc (all arc run.0) u e)
             (at_most-sum_left laws u (weight_of rest) arc.weight h.0 (lawful-weight_of laws rest) arc.lawful h.1)
 
     pub step-covered : (k : ℕ) → IsCovered states least k → IsCovered states next_of k
     step-covered k cov q arcs inn run short = step-falls q (weight_of arcs) (lawful-weight_of laws arcs) (cov q arcs inn run short)
 
-    pub step-covered_more : TargetsExist states → (k : ℕ) → s < length states → IsCovered states least k → IsCoveredFrom states least (s + 1) (k + 1) → IsCoveredFrom states next_of s (k + 1)
-    step-covered_more exist k ins cov more q arcs low inn run short = elim (cases_eq q s) [
+    pub step-covered_more : ((arc : TableArc W g) → Contains (moves_at states s) arc → Contains moves arc) → TargetsExist states → (k : ℕ) → s < length states → IsCovered states least k → IsCoveredFrom states least (s + 1) (k + 1) → IsCoveredFrom states next_of s (k + 1)
+    step-covered_more all exist k ins cov more q arcs low inn run short = elim (cases_eq q s) [
       | inl same ↦
           (let P : Option W → Type 0 = λ o. IsWithin g.meaning o (weight_of arcs) in
           let Q : ℕ → Type 0 = λ x. IsRun states x arcs → IsWithin g.meaning (get_or next_of x None) (weight_of arcs) in
-          let here : Q s = λ r. subst P (sym at_s) (covered_at exist k cov ins arcs r short) in
+          let here : Q s = λ r. subst P (sym at_s) (covered_at all exist k cov ins arcs r short) in
           subst Q (sym same) here run)
       | inr ne ↦ (let higher : s + 1 ≤ q = omega arith in step-falls q (weight_of arcs) (lawful-weight_of laws arcs) (more q arcs higher inn run short))
     ]
@@ -130,12 +131,12 @@ module _ {W : Type 0} {g : Ghosts W} (laws : IsLawful g.meaning) (states : List 
     pub step-same : get_or least s None ≡ found_at → next_of ≡ least
     step-same e = ap (λ o. set least s o) (sym e) ∙ set-get_or least s None
 
-    pub step-closed : get_or least s None ≡ found_at → AreClosedFrom states least (s + 1) → AreClosedFrom states least s
-    step-closed e closed q arc w low inn inside known = elim (cases_eq q s) [
+    pub step-closed : ((arc : TableArc W g) → Contains (moves_at states s) arc → Contains moves arc) → get_or least s None ≡ found_at → AreClosedFrom states least (s + 1) → AreClosedFrom states least s
+    step-closed all e closed q arc w low inn inside known = elim (cases_eq q s) [
       | inl same ↦
           (let P : Option W → Type 0 = λ o. IsWithin g.meaning o (g.meaning.sum arc.weight w) in
           let Q : ℕ → Type 0 = λ x. Contains (moves_at states x) arc → IsWithin g.meaning (get_or least x None) (g.meaning.sum arc.weight w) in
-          let here : Q s = λ c. subst P (sym e) (best-move laws least (lawful_known least wit) (get_or least s None) (moves_at states s) (lawful_known least wit s) arc c w known) in
+          let here : Q s = λ c. subst P (sym e) (best-move laws least (lawful_known least wit) (get_or least s None) moves (lawful_known least wit s) arc (all arc c) w known) in
           subst Q (sym same) here inside)
       | inr ne ↦ (let higher : s + 1 ≤ q = omega arith in closed q arc w higher inn inside known)
     ]

@@ -1,11 +1,14 @@
 // The least weights of the paths from each state of a table to an accepting one.
 //
-// The weights are found backward by rounds over all arcs, until a round changes nothing, so that
-// every lawful weight will do, weights of zero and cycles too. `tight` keeps the arcs on which these
-// weights are tight, and `first` follows the fewest moves that they count.
+// The weights are found backward, over the moves turned round, the least one that waits in a heap first.
+// A round over all arcs then shows that nothing is left to change, so that every lawful weight will do,
+// weights of zero and cycles too. `tight` keeps the arcs on which these weights are tight.
 #![tactic(auto)]
 
 mod look;
 mod rounds;
+mod settle;
+mod waiting;
+mod weights;
 
-pub use rounds::to_final;
+pub use weights::to_final;

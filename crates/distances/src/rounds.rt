@@ -9,11 +9,13 @@ use crate::look::best;
 use arc_table::Table;
 use std::alloc::{AllocError, Global};
 use std::cmp::Ordering;
-use tier_core::NoMemory;
 use weight_law::Weight;
 
 /// What is known with no move: zero at accepting states.
-fn initial<W: Weight>(alloc: Global, table: &Table<W>) -> Result<Vec<Option<W>>, AllocError>
+pub(crate) fn initial<W: Weight>(
+    alloc: Global,
+    table: &Table<W>,
+) -> Result<Vec<Option<W>>, AllocError>
     ensures { IfOk result (λ least. least.items ≡ initial_of (states_of table.now)) }
 {
     let mut least = Vec::new(alloc);
@@ -29,7 +31,7 @@ fn initial<W: Weight>(alloc: Global, table: &Table<W>) -> Result<Vec<Option<W>>,
 }
 
 /// Whether two weights differ, of which either may be missing.
-fn differ<W: Weight>(a: Option<W>, b: Option<W>) -> bool
+pub(crate) fn differ<W: Weight>(a: Option<W>, b: Option<W>) -> bool
     ensures { result ≡ false → a ≡ b }
 {
     match (a, b) {
@@ -65,25 +67,19 @@ fn round<W: Weight>(table: &Table<W>, least: &mut [Option<W>]) -> bool
     changed
 }
 
-/// The least weights, by rounds until nothing changes.
-fn by_rounds<W: Weight>(alloc: Global, table: &Table<W>) -> Result<Vec<Option<W>>, AllocError>
-    requires { SizesWithin (states_of table.now) u32.MAX }
-    ensures { IfOk result (λ least. AreLeast (states_of table.now) least.items) }
+/// The least weights, by rounds until nothing changes. Of weights that are least already, the first
+/// round shows it.
+pub(crate) fn closed<W: Weight>(table: &Table<W>, mut least: Vec<Option<W>>) -> Vec<Option<W>>
+    requires each_state { length least.items ≡ length (states_of table.now) }
+    requires sizes { SizesWithin (states_of table.now) u32.MAX }
+    requires witnessed { AreWitnessed (states_of table.now) least.items }
+    requires covered { IsCovered (states_of table.now) least.items 0 }
+    ensures { AreLeast (states_of table.now) result.items }
 {
-    let mut least = initial(alloc, table)?;
     for _rounds in 0..table.len() {
         if !round(table, &mut least) {
-            return Ok(least);
+            return least;
         }
     }
-    Ok(least)
-}
-
-/// For each state the least weight of a path from it to an accepting state, and `None` exactly where
-/// there is no such path. The number of states times the greatest size of an arc has to fit in 32 bits.
-pub fn to_final<W: Weight>(alloc: Global, table: &Table<W>) -> Result<Vec<Option<W>>, NoMemory>
-    requires { SizesWithin (states_of table.now) u32.MAX }
-    ensures { IfOk result (λ least. AreLeast (states_of table.now) least.items) }
-{
-    by_rounds(alloc, table).map_err(|_| NoMemory)
+    least
 }

@@ -1,4 +1,4 @@
-pub mod Counting
+pub mod Searching
 pub mod Order
 pub mod FirstFrom
 pub mod Choosing

@@ -1,6 +1,5 @@
--- Tables whose moves all weigh one, and how few moves lead to the end.
+-- How few moves lead to the end, as they are counted, and what is chosen by it.
 use Rattle.std.specs.Prelude.{◌≡◌, ◌<◌, ◌≤◌, ℕ, List, Option, None, Some, Contains, false, length, slice_index_or}
-use Rattle.std.specs.List.{AllZip}
 use Rattle.std.specs.Ordering.{is_gt}
 use Rattle.tier_core.specs.declared.sym.Sym.{Sym}
 use Rattle.tier_core.specs.Orders.{column_cmp}
@@ -9,18 +8,7 @@ use Rattle.weight_law.specs.declared.Weight.{Ghosts}
 use Rattle.weight_law.specs.declared.count.Count.{Count}
 use Rattle.arc_table.specs.declared.arc.TableArc.{TableArc}
 use Rattle.arc_table.specs.declared.state.TableState.{TableState}
-use Rattle.arc_table.specs.Moves.{moves_at, accepting_at}
 use Rattle.arc_table.specs.Runs.{IsRun}
-
--- the same move, with weight one
-pub record IsCounted {V : Type 0} {h : Ghosts V} {g : Ghosts Count} (a : TableArc V h) (b : TableArc Count g) : Type 0 where
-  pub class : b.class ≡ a.class
-  pub target : b.target ≡ a.target
-  pub one : b.weight.0 ≡ 1
-
--- the first n states are those of `old`, with moves of weight one
-abbrev pub AreCounted : {V : Type 0} {h : Ghosts V} {g : Ghosts Count} → List (TableState V h) → List (TableState Count g) → ℕ → Type 0
-AreCounted old new n = (s : ℕ) → s < n → (accepting_at new s ≡ accepting_at old s) × AllZip IsCounted (moves_at old s) (moves_at new s)
 
 -- for each state how few moves lead to an accepting one, and none where no moves do
 pub record AreLengths {V : Type 0} {h : Ghosts V} (states : List (TableState V h)) (left : List (Option Count)) : Type 0 where

@@ -5,7 +5,7 @@ ghost use Rattle.arc_table.specs.States.{states_of};
 ghost use Rattle.first_paths.specs.First.{AcceptsNone};
 
 use crate::choice::choose;
-use crate::counted::lengths;
+use crate::lengths::lengths;
 use arc_table::Table;
 use std::alloc::Global;
 use tier_core::{NoMemory, Timeline};

@@ -2,7 +2,7 @@ ghost use Rattle.std.specs.Prelude.{◌≤◌};
 ghost use Rattle.arc_table.specs.States.{states_of};
 
 use super::*;
-use arc_table::{Table, TableState};
+use arc_table::{Incoming, Table, TableState};
 use distances::to_final;
 use first_paths::first;
 use prune_best::tight;
@@ -318,6 +318,73 @@ fn states_left_out(rt: HostRuntime) -> Result<(), Fail> {
     ];
     for graph in &graphs {
         assert!(rt; check(rt.alloc(), graph)?, "{}", graph.name);
+    }
+    Ok(())
+}
+
+/// How many arrows lead from one state to another with a weight.
+fn arrows_between(graph: &Graph, from: u32, to: u32, weight: u32) -> usize {
+    graph
+        .arrows
+        .iter()
+        .filter(|arrow| arrow.from == from && arrow.to == to && arrow.weight == weight)
+        .count()
+}
+
+/// Whether the moves turned round are the graph's arrows, each as often as it is there.
+fn are_turned(alloc: Global, graph: &Graph) -> Result<bool, Fail> {
+    let Some(table) = small_table(alloc, graph.accepting, graph.arrows)? else {
+        return Ok(false);
+    };
+    let incoming = Incoming::of_table(alloc, &table)?;
+    let mut moves: usize = 0;
+    for state in 0..table.len() {
+        for one in incoming.moves_to(state) {
+            let there = incoming
+                .moves_to(state)
+                .iter()
+                .filter(|other| other.source == one.source && other.weight.0 == one.weight.0)
+                .count();
+            if there != arrows_between(graph, one.source, state, one.weight.0) {
+                return Ok(false);
+            }
+            moves = moves.saturating_add(1);
+        }
+    }
+    Ok(moves == graph.arrows.len())
+}
+
+#[test]
+fn moves_are_turned_round_once_each(rt: HostRuntime) -> Result<(), Fail> {
+    let graphs = [
+        Graph {
+            name: "no move",
+            accepting: &[true, false],
+            arrows: &[],
+        },
+        Graph {
+            name: "several moves between two states",
+            accepting: &[false, false, true],
+            arrows: &[
+                arrow(0, 2, 1, 3),
+                arrow(0, 2, 2, 3),
+                arrow(0, 2, 4, 1),
+                arrow(2, 0, 1, 0),
+            ],
+        },
+        Graph {
+            name: "self loops, and the last state a target",
+            accepting: &[false, false, true],
+            arrows: &[
+                arrow(0, 0, 1, 1),
+                arrow(2, 2, 1, 1),
+                arrow(1, 2, 8, 4),
+                arrow(2, 0, 16, 4),
+            ],
+        },
+    ];
+    for graph in &graphs {
+        assert!(rt; are_turned(rt.alloc(), graph)?, "{}", graph.name);
     }
     Ok(())
 }

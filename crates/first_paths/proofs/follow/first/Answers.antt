@@ -4,10 +4,9 @@ use Rattle.std.proofs.lemmas.Bool.{false≢true}
 use Rattle.std.proofs.Common.{Result, Ok, Err, false, ◌≡◌, ℕ, ◌+◌, ◌-◌, ◌++◌, List, [], ◌∷◌, Option, length, sym, ap, subst, ◌∙◌, append_assoc, arith}
 use Rattle.std.proofs.lemmas.List.{append-nil}
 use Rattle.weight_law.specs.declared.count.Count.{Count}
-use Rattle.weight_law.specs.UnitLaws.{unit_lawful}
 use Rattle.tier_core.specs.declared.sym.Sym.{Sym}
 use Rattle.arc_table.specs.Moves.{moves_at}
-use Rattle.distances.proofs.Ends.{targets_each}
+use Rattle.arc_table.proofs.Push.{targets_each}
 use Rattle.first_paths.proofs.FirstFrom.{IsFirstFrom, is_first}
 use Rattle.first_paths.specs.Counted.{IsLeft, IsLeastChoice}
 use Rattle.first_paths.proofs.Choosing.{first_empty, choice_exists, first_step}
@@ -20,7 +19,7 @@ on_ok (Err x) h e = absurd (false≢true (sym e))
 
 pub choose-choice-requires-clause-targets : goal.choose-choice-requires-clause-targets
 choose-choice-requires-clause-targets c =
-    rw (c.arcs.ensures, c.deref.ensures.value) (targets_each unit_lawful c.args.table.now.states.items c.args.table.now.targets (length c.in_ok-left.left.items) c.in_ok-left.ensures.each_state c.loop-done.state)
+    rw (c.arcs.ensures, c.deref.ensures.value) (targets_each c.args.table.now.states.items c.args.table.now.targets (length c.in_ok-left.left.items) c.in_ok-left.ensures.each_state c.loop-done.state)
 
 pub choose-choice-requires-clause-some : goal.choose-choice-requires-clause-some
 choose-choice-requires-clause-some c =

@@ -1,11 +1,12 @@
 use Rattle.std.proofs.Common.{length, arith}
-use Rattle.distances.proofs.Ends.{fits_each, targets_each}
+use Rattle.arc_table.proofs.Push.{targets_each}
+use Rattle.distances.proofs.Ends.{fits_each}
 use Rattle.distances.proofs.Shortest.{witnessed_from_least}
 use Rattle.prune_best.proofs.moves.new_state.Goals as goal
 
 pub kept_moves-requires-clause-targets : goal.kept_moves-requires-clause-targets
 kept_moves-requires-clause-targets g c =
-    rw c.arcs.ensures (targets_each g.met.W.Weight.laws c.args.table.now.states.items c.args.table.now.targets (length c.args.least.now) c.requires.least.each_state c.args.state)
+    rw c.arcs.ensures (targets_each c.args.table.now.states.items c.args.table.now.targets (length c.args.least.now) c.requires.least.each_state c.args.state)
 
 pub kept_moves-requires-clause-sizes : goal.kept_moves-requires-clause-sizes
 kept_moves-requires-clause-sizes g c =

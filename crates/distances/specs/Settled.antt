@@ -1,0 +1,23 @@
+-- What is kept while the least weight that waits is taken first.
+use Rattle.std.specs.Prelude.{◌≡◌, ℕ, List, [], ◌∷◌, Option, None, Some, length, slice_index_or, slice_set}
+use Rattle.weight_law.specs.declared.Weight.{Ghosts}
+use Rattle.weight_law.specs.Meaning.{Meaning}
+use Rattle.arc_table.specs.declared.state.TableState.{TableState}
+use Rattle.arc_table.specs.declared.incoming_move.IncomingMove.{IncomingMove}
+use Rattle.distances.specs.Best.{lesser_of}
+use Rattle.distances.specs.Rounds.{AreWitnessed, IsCovered}
+
+-- the weight c at state s, where it is less than what is known there
+abbrev pub lowered : {W : Type 0} → Meaning W → List (Option W) → ℕ → W → List (Option W)
+lowered m least s c = slice_set least s (lesser_of m (slice_index_or least s None) (Some c))
+
+-- what is known after a look at moves to a state with weight w, one by one
+abbrev pub relaxed : {W : Type 0} → Meaning W → W → List (Option W) → List (IncomingMove W) → List (Option W)
+relaxed m w least [] = least
+relaxed m w least (move ∷ moves) = relaxed m w (lowered m least move.source (m.sum move.weight w)) moves
+
+-- known weights are still those of runs, and none has risen
+pub record IsKept {W : Type 0} {g : Ghosts W} (states : List (TableState W g)) (old new : List (Option W)) : Type 0 where
+  pub each_state : length new ≡ length states
+  pub witnessed : AreWitnessed states new
+  pub covered : (k : ℕ) → IsCovered states old k → IsCovered states new k

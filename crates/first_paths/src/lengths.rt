@@ -1,0 +1,106 @@
+ghost use Rattle.std.specs.Prelude.{◌<◌, ℕ, [], All, IfOk, length};
+ghost use Rattle.arc_table.specs.Incoming.{states_in, AreTurned};
+ghost use Rattle.arc_table.specs.States.{states_of};
+ghost use Rattle.first_paths.specs.Counted.{AreLengths};
+ghost use Rattle.first_paths.specs.Search.{IsSource, IsBefore, Reaches, IsSearched};
+
+use arc_table::{Incoming, IncomingMove, Table};
+use std::alloc::{AllocError, Global};
+use tier_core::NoMemory;
+use weight_law::{Count, UnitWeight};
+
+/// How far the search backward has come: for each state how few moves are left, where that is known,
+/// and the states of the last level.
+#[derive(Drop)]
+struct Search {
+    left: Vec<Option<Count>>,
+    level: Vec<u32>,
+}
+
+/// The accepting states, at which no move is left.
+fn at_the_end(alloc: Global, table: &Table<UnitWeight>) -> Result<Search, AllocError>
+    ensures { IfOk result (λ search. IsSearched (states_of table.now) search.left.items search.level.items 0) }
+{
+    let mut left = Vec::new(alloc);
+    let mut level = Vec::new(alloc);
+    for state in 0..table.len() {
+        if !table.accepting(state) {
+            left.push(None)?;
+            continue;
+        }
+        left.push(Some(Count(0)))?;
+        level.push(state)?;
+    }
+    Ok(Search { left, level })
+}
+
+/// Of the states that the moves come from, those of which nothing is known have `n` moves left, and
+/// are listed in `next`.
+fn reach(
+    moves: &[IncomingMove<UnitWeight>],
+    n: u32,
+    left: &mut Vec<Option<Count>>,
+    next: &mut Vec<u32>,
+) -> Result<(), AllocError>
+    requires { All (λ move. move.source < length left.old.items) moves.now }
+    ensures { IfOk result (λ _. Reaches (IsSource moves.now) n left.old.items left.new.items next.old.items next.new.items) }
+{
+    for incoming in moves {
+        if left[incoming.source as usize].is_some() {
+            continue;
+        }
+        left[incoming.source as usize] = Some(Count(n));
+        next.push(incoming.source)?;
+    }
+    Ok(())
+}
+
+/// The next level: the states with a move to one of the last, of which nothing is known.
+fn next_level(
+    alloc: Global,
+    incoming: &Incoming<UnitWeight>,
+    level: &[u32],
+    n: u32,
+    left: &mut Vec<Option<Count>>,
+) -> Result<Vec<u32>, AllocError>
+    requires inside { All (λ state. state < states_in incoming.now) level.now }
+    requires sources { (q : ℕ) → IsBefore incoming.now level.now q → q < length left.old.items }
+    ensures { IfOk result (λ next. Reaches (IsBefore incoming.now level.now) n left.old.items left.new.items [] next.items) }
+{
+    let mut next = Vec::new(alloc);
+    for state in level {
+        reach(incoming.moves_to(*state), n, left, &mut next)?;
+    }
+    Ok(next)
+}
+
+/// For each state how few moves lead to an accepting one, by a search backward in breadth.
+fn searched(
+    alloc: Global,
+    table: &Table<UnitWeight>,
+    incoming: &Incoming<UnitWeight>,
+) -> Result<Vec<Option<Count>>, AllocError>
+    requires { AreTurned (states_of table.now) incoming.now }
+    ensures { IfOk result (λ left. AreLengths (states_of table.now) left.items) }
+{
+    let search = at_the_end(alloc, table)?;
+    let mut left = search.left;
+    let mut level = search.level;
+    let mut n = 0;
+    'levels: while !level.is_empty() {
+        n += 1;
+        level = next_level(alloc, incoming, &level, n, &mut left)?;
+    }
+    Ok(left)
+}
+
+/// For each state how few moves lead to an accepting one, in time linear in states and moves.
+pub(crate) fn lengths(
+    alloc: Global,
+    table: &Table<UnitWeight>,
+) -> Result<Vec<Option<Count>>, NoMemory>
+    ensures { IfOk result (λ left. AreLengths (states_of table.now) left.items) }
+{
+    let incoming = Incoming::of_table(alloc, table)?;
+    searched(alloc, table, &incoming).map_err(|_| NoMemory)
+}

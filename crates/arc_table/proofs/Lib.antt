@@ -1,3 +1,2 @@
 pub mod Push
 pub mod OneRun
-pub mod Filled

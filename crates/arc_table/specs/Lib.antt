@@ -2,4 +2,3 @@ pub mod Moves
 pub mod Runs
 pub mod Conditions
 pub mod States
-pub mod FirstColumn

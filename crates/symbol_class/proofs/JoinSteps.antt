@@ -58,7 +58,7 @@ agree t a b e = same_numbers (sets_beside t a) (sets_beside t b) (is_equal (besi
 beside-united : (t : ℕ) (a b : List ℕ) → sets_beside t (united t a b) ≡ sets_beside t a
 beside-united t a b = set-set a t (bit_or (get_or a t 0) (get_or b t 0)) 0
 
-length-united : (t : ℕ) (a b : List ℕ) → length (united t a b) ≡ length a
+pub length-united : (t : ℕ) (a b : List ℕ) → length (united t a b) ≡ length a
 length-united t a b = length-set a t (bit_or (get_or a t 0) (get_or b t 0))
 
 -- ---- how many there are

@@ -1,13 +1,13 @@
 -- Classes that are joined along a tier, along each tier, and until none are joined any more.
-use Rattle.std.proofs.Common.{◌≡◌, ◌≢◌, ℕ, zero, suc, ◌+◌, ◌<◌, ◌≤◌, Bool, true, false, List, [], ◌∷◌, ◌++◌, map, length, get_or, set, refl, ap, sym, ◌∙◌, subst, arith, IsTrue, All, AllPairs, IsPermutation, ◌⊎◌, inl, inr, ⊎_elim}
+use Rattle.std.proofs.Common.{◌≡◌, ◌≢◌, ℕ, zero, suc, ◌+◌, ◌<◌, ◌≤◌, Bool, true, false, List, [], ◌∷◌, ◌++◌, map, length, get_or, drop, set, refl, ap, sym, ◌∙◌, subst, arith, IsTrue, All, AllPairs, IsPermutation, ◌⊎◌, inl, inr, ⊎_elim}
 use Rattle.std.specs.Cmp.Lexicographic.{slice_cmp}
 use Rattle.std.specs.List.Sorted.{IsSortedByKey}
-use Rattle.std.specs.Ordering.{nat_cmp, ordering_reverse, is_lt, is_gt}
+use Rattle.std.specs.Ordering.{nat_cmp, ordering_reverse, is_lt, is_eq, is_gt}
 use Rattle.std.specs.declared.cmp.Ordering.{Ordering}
 use Rattle.std.specs.declared.cmp.Ordering.TheVariants.{Less, Equal, Greater}
 use Rattle.std.proofs.lemmas.Bool.{true≢false, cases_lt, cases_eq, cases_order}
 use Rattle.std.proofs.lemmas.Cmp.{nat_list_cmp_total, on_total}
-use Rattle.std.proofs.lemmas.List.{length-map, length-set, get_or-map, get_or-set_same, get_or-set_other}
+use Rattle.std.proofs.lemmas.List.{append_assoc, map_push, at_drop_more, at_drop_all, length-map, length-set, get_or-map, get_or-set_same, get_or-set_other}
 use Rattle.std.proofs.lemmas.List.Elements.{All-nil, All-head, All-tail, All-map}
 use Rattle.std.proofs.lemmas.List.Folds.{fold-map}
 use Rattle.std.proofs.lemmas.List.Sorted.{ranks_by, sorted_far, IsPermutation-refl, IsPermutation-map, IsPermutation-trans, length_permutation, All-permutation}
@@ -16,8 +16,8 @@ use Rattle.tier_core.specs.declared.class.Class.{Class}
 use Rattle.tier_core.specs.Classes.{sets_of, sets_have, has, AreApart}
 use Rattle.symbol_class.specs.Filled.{is_filled}
 use Rattle.symbol_class.specs.Held.{some_has, times_held, once_if, width_of, ArePieces}
-use Rattle.symbol_class.specs.Joined.{DifferTwice, sets_beside, beside_cmp, DifferBeside, JoinsAlong, JoinsBelow}
-use Rattle.symbol_class.proofs.JoinSteps.{times_had, are_filled, joined_from, joined_fewer, joined_kept, joined_wide, joined_filled, joined_had, joined_strict, differ_from_below}
+use Rattle.symbol_class.specs.Joined.{DifferTwice, sets_beside, beside_cmp, united, DifferBeside, JoinsAlong, JoinsBelow}
+use Rattle.symbol_class.proofs.JoinSteps.{times_had, are_filled, length-united, joined_from, joined_alike, joined_other, joined_fewer, joined_kept, joined_wide, joined_filled, joined_had, joined_strict, differ_from_below}
 use Rattle.symbol_class.proofs.Pairs.{pairs_map, pairs_unmap, pairs_permuted}
 use Rattle.symbol_class.proofs.Times.{times-cons, times_permuted, once_from_apart, apart_from_once, pairs_head, pairs_tail, pieces_from_once}
 
@@ -95,6 +95,47 @@ joins_sorted t first rest joined is inside filled apart sorted = record {
     strict = joined_strict t (sets_of first) (map sets_of rest)
         (All-map (λ b. is_gt (beside_cmp t (sets_of first) b) ≡ false) sets_of rest (pairs_head (λ a b. is_gt (beside_cmp t (sets_of a) (sets_of b)) ≡ false) first rest pairs))
         (pairs_map (λ a b. is_gt (beside_cmp t a b) ≡ false) sets_of rest (pairs_tail (λ a b. is_gt (beside_cmp t (sets_of a) (sets_of b)) ≡ false) first rest pairs))
+
+-- the next class is joined with the current one, or is the current one from then on
+pub record IsJoinedNext (t : ℕ) (joined done : List Class) (current next class : Class) : Type 0 where
+  pub alike : is_eq (beside_cmp t (sets_of current) (sets_of next)) ≡ true → (done ≡ joined) × (sets_of class ≡ united t (sets_of current) (sets_of next))
+  pub other : is_eq (beside_cmp t (sets_of current) (sets_of next)) ≡ false → (done ≡ joined ++ current ∷ []) × (class ≡ next)
+
+pub wide_next : (t : ℕ) (joined done : List Class) (current next class : Class) → IsJoinedNext t joined done current next class → t < length (sets_of current) → t < length (sets_of next) → t < length (sets_of class)
+wide_next t joined done current next class made wide wide_too = go (is_eq (beside_cmp t (sets_of current) (sets_of next))) refl
+  where
+    go : (b : Bool) → is_eq (beside_cmp t (sets_of current) (sets_of next)) ≡ b → t < length (sets_of class)
+    go true e = omega (arith, wide, ap length (made.alike e).1, length-united t (sets_of current) (sets_of next))
+    go false e = subst (λ c. t < length (sets_of c)) (sym (made.other e).1) wide_too
+
+pub joined_more : (t : ℕ) (joined done : List Class) (current next class : Class) (rest : List Class) (i : ℕ) (all : List (List ℕ)) → IsJoinedNext t joined done current next class → i < length rest → next ≡ get_or rest i next
+    → map sets_of joined ++ joined_from t (sets_of current) (map sets_of (drop i rest)) ≡ all
+    → map sets_of done ++ joined_from t (sets_of class) (map sets_of (drop (i + 1) rest)) ≡ all
+joined_more t joined done current next class rest i all made inside is so_far = go (is_eq (beside_cmp t (sets_of current) (sets_of next))) refl
+  where
+    later : List (List ℕ)
+    later = map sets_of (drop (i + 1) rest)
+    whole : map sets_of joined ++ joined_from t (sets_of current) (sets_of next ∷ map sets_of (drop (i + 1) rest)) ≡ all
+    whole =
+        ap (λ (c : Class). map sets_of joined ++ joined_from t (sets_of current) (sets_of c ∷ map sets_of (drop (i + 1) rest))) is
+        ∙ sym (at_drop_more (λ xs. map sets_of joined ++ joined_from t (sets_of current) (map sets_of xs)) rest i next inside) ∙ so_far
+    go : (b : Bool) → is_eq (beside_cmp t (sets_of current) (sets_of next)) ≡ b → map sets_of done ++ joined_from t (sets_of class) (map sets_of (drop (i + 1) rest)) ≡ all
+    go true e =
+        ap (λ xs. map sets_of xs ++ joined_from t (sets_of class) later) (made.alike e).0
+        ∙ ap (λ sets. map sets_of joined ++ joined_from t sets later) (made.alike e).1
+        ∙ ap (λ xs. map sets_of joined ++ xs) (sym (joined_alike t (sets_of current) (sets_of next) later e)) ∙ whole
+    go false e =
+        ap (λ xs. map sets_of xs ++ joined_from t (sets_of class) later) (made.other e).0
+        ∙ ap (λ (c : Class). map sets_of (joined ++ current ∷ []) ++ joined_from t (sets_of c) later) (made.other e).1
+        ∙ ap (λ xs. xs ++ joined_from t (sets_of next) later) (map_push sets_of joined current)
+        ∙ append_assoc (map sets_of joined) (sets_of current ∷ []) (joined_from t (sets_of next) later)
+        ∙ ap (λ xs. map sets_of joined ++ xs) (sym (joined_other t (sets_of current) (sets_of next) later e)) ∙ whole
+
+pub joined_all : (t : ℕ) (joined done : List Class) (current : Class) (rest : List Class) (i : ℕ) (all : List (List ℕ)) → done ≡ joined ++ current ∷ [] → length rest ≤ i
+    → map sets_of joined ++ joined_from t (sets_of current) (map sets_of (drop i rest)) ≡ all → map sets_of done ≡ all
+joined_all t joined done current rest i all e last so_far =
+    ap (map sets_of) e ∙ map_push sets_of joined current
+    ∙ sym (at_drop_all (λ xs. map sets_of joined ++ joined_from t (sets_of current) (map sets_of xs)) rest i last) ∙ so_far
 
 -- classes may be rearranged before they are joined
 pub joins_permuted : (t : ℕ) (classes sorted joined : List Class) → IsPermutation classes sorted → JoinsAlong t sorted joined → JoinsAlong t classes joined
@@ -204,24 +245,24 @@ difference_beside t xs ys e other =
         ap (λ n. get_or (set xs t 0) n 0) same ∙ get_or-set_same xs t 0 0 (omega (arith, same, l))
         ∙ sym (ap (λ n. get_or (set ys t 0) n 0) same ∙ get_or-set_same ys t 0 0 (omega (arith, same, l, e)))
 
+-- differences at two tiers, in either order
+twice : (a b : Class) (s t : ℕ) → s ≢ t → get_or (sets_of a) s 0 ≢ get_or (sets_of b) s 0 → get_or (sets_of a) t 0 ≢ get_or (sets_of b) t 0 → DifferTwice a b
+twice a b s t apart at_s at_t = ⊎_elim (λ e. absurd (apart e))
+    (λ other. ⊎_elim
+      (λ up. record { first = s; second = t; ascending = up; at_first = at_s; at_second = at_t; })
+      (λ down. record { first = t; second = s; ascending = down; at_first = at_t; at_second = at_s; })
+      other)
+    (cases_order s t)
+
+two_differ : (width : ℕ) (a b : Class) → 0 < width → length (sets_of a) ≡ width → length (sets_of b) ≡ width → ((tier : ℕ) → tier < width → sets_beside tier (sets_of a) ≢ sets_beside tier (sets_of b)) → DifferTwice a b
+two_differ width a b some wide_a wide_b differ =
+    let one = difference_beside 0 (sets_of a) (sets_of b) (omega arith) (differ 0 some) in
+    let two = difference_beside one.0 (sets_of a) (sets_of b) (omega arith) (differ one.0 (omega (arith, one.1, wide_a))) in
+    twice a b two.0 one.0 two.2 two.3 one.3
+
 pub differ_twice : (width : ℕ) (classes : List Class) → 0 < width → All (λ class. length (sets_of class) ≡ width) classes → ((tier : ℕ) → tier < width → DifferBeside tier classes) → AllPairs DifferTwice classes
-differ_twice width classes some wide differ = λ i j d less inside. go i j d less inside
-  where
-    go : (i j : ℕ) (d : Class) → i < j → j < length classes → DifferTwice (get_or classes i d) (get_or classes j d)
-    go i j d less inside =
-        let a = get_or classes i d in
-        let b = get_or classes j d in
-        let wide_a : length (sets_of a) ≡ width = wide i d (omega arith) in
-        let wide_b : length (sets_of b) ≡ width = wide j d inside in
-        let same : length (sets_of a) ≡ length (sets_of b) = omega arith in
-        let one = difference_beside 0 (sets_of a) (sets_of b) same (differ 0 some i j d less inside) in
-        let two = difference_beside one.0 (sets_of a) (sets_of b) same (differ one.0 (omega (arith, one.1, wide_a)) i j d less inside) in
-        ⊎_elim (λ e. absurd (two.2 (sym e)))
-        (λ apart. ⊎_elim
-          (λ up. record { first = one.0; second = two.0; ascending = up; at_first = one.3; at_second = two.3; })
-          (λ up. record { first = two.0; second = one.0; ascending = up; at_first = two.3; at_second = one.3; })
-          apart)
-        (cases_order one.0 two.0)
+differ_twice width classes some wide differ = λ i j d less inside.
+    two_differ width (get_or classes i d) (get_or classes j d) some (wide i d (omega arith)) (wide j d inside) (λ tier within. differ tier within i j d less inside)
 
 -- ---- the width of classes that are joined
 

@@ -21,7 +21,7 @@ pub record IsPartedBelow (width : ℕ) (test : Class) (classes : List Class) (i 
   pub inside_adds : AddsClasses width old inside (times_in test (take i classes))
   pub outside_adds : AddsClasses width [] outside (times_out test (take i classes))
 
-no_times : (b : Bool) → let none : ℕ = 0 in (if b then none else none) ≡ none
+no_times : (b : Bool) → ◌≡◌ {A = ℕ} (if b then 0 else 0) 0
 no_times true = refl
 no_times false = refl
 

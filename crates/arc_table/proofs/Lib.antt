@@ -1,4 +1,3 @@
 pub mod Push
 pub mod OneRun
-pub mod Filled
 pub mod Places

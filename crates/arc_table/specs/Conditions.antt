@@ -1,18 +1,12 @@
 -- What the states of every table meet.
-use Rattle.std.specs.Prelude.{◌≡◌, ℕ, Bool, ◌<◌, List, Contains, AllPairs, IsTrue, length}
-use Rattle.std.specs.List.{list_all, list_any}
+use Rattle.std.specs.Prelude.{◌≡◌, ℕ, ◌<◌, List, Contains, AllPairs, IsTrue, length}
 use Rattle.weight_law.specs.declared.Weight.{Ghosts}
 use Rattle.tier_core.specs.declared.class.Class.{Class}
-use Rattle.tier_core.specs.Symbols.{symbols}
-use Rattle.tier_core.specs.Sets.{is_in}
 use Rattle.tier_core.specs.Classes.{sets_of, AreDisjoint}
+use Rattle.symbol_class.specs.Filled.{is_filled}
 use Rattle.arc_table.specs.declared.arc.TableArc.{TableArc}
 use Rattle.arc_table.specs.declared.state.TableState.{TableState}
 use Rattle.arc_table.specs.Moves.{moves_at}
-
--- whether each tier's set has a symbol, which is so where some column is in the class
-abbrev pub is_filled : Class → Bool
-is_filled class = list_all (λ set. list_any (is_in set) symbols) (sets_of class)
 
 -- each move leads to a state
 abbrev pub TargetsExist : {W : Type 0} {g : Ghosts W} → List (TableState W g) → Type 0

@@ -2,6 +2,5 @@ pub mod Moves
 pub mod Runs
 pub mod Conditions
 pub mod States
-pub mod FirstColumn
 pub mod Turning
 pub mod Incoming

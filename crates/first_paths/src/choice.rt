@@ -1,13 +1,14 @@
 ghost use Rattle.std.specs.Prelude.{◌≡◌, ◌<◌, All, IsTrue, MatchOption, Some, ⊤, ◌↔◌, ◌⊎◌, false, length};
 ghost use Rattle.std.specs.Ordering.{is_gt};
 ghost use Rattle.tier_core.specs.Orders.{column_cmp};
-ghost use Rattle.arc_table.specs.FirstColumn.{first_sym, first_column};
+ghost use Rattle.symbol_class.specs.FirstColumn.{first_column};
 ghost use Rattle.first_paths.specs.Counted.{IsLeft, IsOf, HasChoice, IsLeastChoice};
 
 use arc_table::TableArc;
 use std::alloc::Global;
 use std::cmp::Ordering;
-use tier_core::{Class, Column, Sym, column_cmp};
+use symbol_class::least_column;
+use tier_core::{Column, column_cmp};
 use weight_law::{Count, UnitWeight};
 
 /// The first column of a move, and where the move leads.
@@ -15,36 +16,6 @@ use weight_law::{Count, UnitWeight};
 pub(crate) struct Choice {
     pub column: Column,
     pub target: u32,
-}
-
-/// The least symbol of a set, by the set's number.
-#[tactic(auto, unfolding(arc_table::specs::FirstColumn::first_sym))]
-fn lowest(set: u8) -> Sym
-    ensures { result ≡ first_sym set }
-{
-    if set % 2 == 1 {
-        Sym::Outside
-    } else if (set / 2) % 2 == 1 {
-        Sym::Inside
-    } else if (set / 4) % 2 == 1 {
-        Sym::Start
-    } else if (set / 8) % 2 == 1 {
-        Sym::End
-    } else {
-        Sym::Both
-    }
-}
-
-/// The least column of a class, which has the least symbol of each tier's set.
-fn least_column(alloc: Global, class: &Class) -> Column
-    ensures { result ≡ first_column class.now }
-{
-    let width = class.width();
-    let mut syms = [Sym::Outside; 12];
-    for tier in 0..width {
-        syms[tier as usize] = lowest(class.bits(tier));
-    }
-    Column::from_syms(alloc, &syms[..width as usize])
 }
 
 /// Whether `n` moves are left at a state.

@@ -14,16 +14,18 @@ use Rattle.tier_core.specs.declared.sym.Sym.{Sym}
 use Rattle.tier_core.specs.Classes.{sets_of, sets_have, has, AreDisjoint}
 use Rattle.arc_table.specs.declared.arc.TableArc.{TableArc}
 use Rattle.arc_table.specs.declared.state.TableState.{TableState}
-use Rattle.arc_table.specs.Conditions.{is_filled, TargetsExist, ClassesDisjoint, ClassesFilled}
+use Rattle.arc_table.specs.Conditions.{TargetsExist, ClassesDisjoint, ClassesFilled}
+use Rattle.symbol_class.specs.Filled.{is_filled}
 use Rattle.arc_table.specs.Moves.{moves_at, accepting_at}
-use Rattle.arc_table.specs.FirstColumn.{first_column}
-use Rattle.arc_table.proofs.Filled.{has-first_column}
+use Rattle.symbol_class.specs.FirstColumn.{first_column}
+use Rattle.symbol_class.proofs.Filled.{has-first_column}
 use Rattle.answer_text.specs.declared.automaton.ArcLine.{ArcLine}
 use Rattle.answer_text.specs.declared.automaton.StateLine.{StateLine}
 use Rattle.answer_text.specs.Right.{arc_cmp}
 use Rattle.kind_orders.specs.AutomatonLines.{line_of, IsLineOf}
-use Rattle.kind_orders.proofs.Members.{pairs_map, pairs_permuted}
-use Rattle.kind_orders.proofs.Strict.{strict_from_sorted, both_equal, same_numbers}
+use Rattle.symbol_class.proofs.Pairs.{pairs_map, pairs_permuted}
+use Rattle.symbol_class.proofs.SetOrder.{both_equal, same_numbers}
+use Rattle.kind_orders.proofs.Strict.{strict_from_sorted}
 
 pub arc_cmp_total : IsTotalOrder arc_cmp
 arc_cmp_total = then_total (on_total (λ (a : ArcLine). a.target) nat_cmp_total) (on_total (λ (a : ArcLine). sets_of a.class) nat_list_cmp_total)

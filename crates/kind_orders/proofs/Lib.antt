@@ -3,7 +3,6 @@ pub mod Strict
 pub mod Orders
 pub mod Places
 pub mod Nodes
-pub mod ClassOrder
 pub mod ArcOrder
 pub mod ByNode
 pub mod Reading

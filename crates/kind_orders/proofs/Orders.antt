@@ -13,7 +13,7 @@ use Rattle.tier_core.specs.Kinds.{kind_order}
 use Rattle.tier_core.specs.KindShapes.{FitsShape, free_count, stretch_count, kind_in}
 use Rattle.kind_orders.specs.Orderings.{IsOrdering}
 use Rattle.kind_orders.specs.KindOrders.{empty_kind, kind_numbered, AreFound, told, IsKindOrder}
-use Rattle.kind_orders.proofs.Members.{pairs_apart, pairs_permuted}
+use Rattle.symbol_class.proofs.Pairs.{pairs_apart, pairs_permuted}
 use Rattle.kind_orders.proofs.Strict.{strict_from_sorted, same_kind, kind_order_total}
 
 -- the numbers below n, rearranged

@@ -9,6 +9,7 @@ use Rattle.std.specs.declared.cmp.Ordering.TheVariants.{Less, Equal, Greater}
 use Rattle.std.proofs.lemmas.Cmp.{ranked, nat_cmp_total, nat_list_cmp_total, on_total, then_total}
 use Rattle.std.proofs.lemmas.List.{get_or-map, length-map}
 use Rattle.std.proofs.lemmas.Map.Keys.{sorted_from_all_adjacent}
+use Rattle.symbol_class.proofs.SetOrder.{both_equal, same_number, same_numbers}
 use Rattle.tier_core.specs.Kinds.{Phase, closed, unmet, met, PrefixKind, open_rank, phase_rank, kind_order}
 
 module _ {X K : Type 0} {R : K → K → Ordering} (o : IsTotalOrder R) (key : X → K) where
@@ -27,22 +28,6 @@ module _ {X K : Type 0} {R : K → K → Ordering} (o : IsTotalOrder R) (key : X
       ∙ less_from (key (get_or xs k d)) (key (get_or xs (k + 1) d)) (sorted k d (omega arith) inside) (differ k (k + 1) d (omega arith) inside))
 
 -- ---- what ties is the same
-
-pub both_equal : (o r : Ordering) → ordering_then o r ≡ Equal → (o ≡ Equal) × (r ≡ Equal)
-both_equal Less r e = absurd (true≢false (ap is_lt e))
-both_equal Equal r e = (refl, e)
-both_equal Greater r e = absurd (true≢false (ap is_gt e))
-
-pub same_number : (m n : ℕ) → nat_cmp m n ≡ Equal → m ≡ n
-same_number m n e = ranked m n Equal (sym e)
-
-pub same_numbers : (xs ys : List ℕ) → slice_cmp nat_cmp xs ys ≡ Equal → xs ≡ ys
-same_numbers [] [] e = refl
-same_numbers [] (y ∷ ys) e = absurd (true≢false (ap is_lt e))
-same_numbers (x ∷ xs) [] e = absurd (true≢false (ap is_gt e))
-same_numbers (x ∷ xs) (y ∷ ys) e =
-    let both = both_equal (nat_cmp x y) (slice_cmp nat_cmp xs ys) e in
-    ap₂ (λ z zs. z ∷ zs) (same_number x y both.0) (same_numbers xs ys both.1)
 
 unmapped : {X : Type 0} (f : X → ℕ) → ((x y : X) → f x ≡ f y → x ≡ y) → (xs ys : List X) → map f xs ≡ map f ys → xs ≡ ys
 unmapped f one [] [] e = refl

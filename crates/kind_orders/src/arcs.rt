@@ -1,7 +1,4 @@
 ghost use Rattle.std.specs.Prelude.{◌≡◌, ◌<◌, All, IfOk, IsPermutation, IsSorted, length, map};
-ghost use Rattle.std.specs.Cmp.Lexicographic.{slice_cmp};
-ghost use Rattle.std.specs.Ordering.{nat_cmp};
-ghost use Rattle.tier_core.specs.Classes.{sets_of};
 ghost use Rattle.answer_text.specs.Right.{arc_cmp};
 ghost use Rattle.kind_orders.specs.AutomatonLines.{line_of};
 
@@ -9,22 +6,8 @@ use answer_text::ArcLine;
 use arc_table::TableArc;
 use std::alloc::{AllocError, Global};
 use std::cmp::Ordering;
-use tier_core::Class;
+use symbol_class::class_cmp;
 use weight_law::UnitWeight;
-
-/// Compares classes by the numbers of their sets, from the first tier. Where one has more tiers and
-/// none before them differs, it comes after the other.
-fn class_cmp(a: &Class, b: &Class) -> Ordering
-    ensures { result ≡ slice_cmp nat_cmp (sets_of a.now) (sets_of b.now) }
-{
-    for tier in 0..a.width().min(b.width()) {
-        let order = a.bits(tier).cmp(&b.bits(tier));
-        if order != Ordering::Equal {
-            return order;
-        }
-    }
-    a.width().cmp(&b.width())
-}
 
 /// Compares arcs by target, then by class.
 fn arc_cmp(a: &ArcLine, b: &ArcLine) -> Ordering

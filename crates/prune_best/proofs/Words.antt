@@ -8,12 +8,13 @@ use Rattle.weight_law.proofs.Order.{at_most-both}
 use Rattle.tier_core.specs.declared.class.Class.{Class}
 use Rattle.tier_core.specs.declared.sym.Sym.{Sym}
 use Rattle.tier_core.specs.Classes.{sets_of, has}
-use Rattle.arc_table.specs.FirstColumn.{first_column}
-use Rattle.arc_table.proofs.Filled.{has-first_column}
+use Rattle.symbol_class.specs.FirstColumn.{first_column}
+use Rattle.symbol_class.proofs.Filled.{has-first_column}
 use Rattle.arc_table.specs.declared.arc.TableArc.{TableArc}
 use Rattle.arc_table.specs.declared.state.TableState.{TableState}
 use Rattle.arc_table.specs.Moves.{moves_at, accepting_at}
-use Rattle.arc_table.specs.Conditions.{TargetsExist, ClassesDisjoint, ClassesFilled, OneWidth, is_filled}
+use Rattle.arc_table.specs.Conditions.{TargetsExist, ClassesDisjoint, ClassesFilled, OneWidth}
+use Rattle.symbol_class.specs.Filled.{is_filled}
 use Rattle.arc_table.specs.Runs.{IsRun, weight_of, Reads, Accepts, IsLeastWord, IsOnRun}
 use Rattle.distances.specs.Best.{added}
 use Rattle.distances.specs.Least.{AreLeast}

@@ -13,8 +13,8 @@ use Rattle.tier_core.proofs.ClassLemmas.{same_width}
 use Rattle.arc_table.specs.declared.state.TableState.{TableState}
 use Rattle.arc_table.specs.Conditions.{ClassesFilled}
 use Rattle.arc_table.specs.Runs.{Reads}
-use Rattle.arc_table.specs.FirstColumn.{first_column}
-use Rattle.arc_table.proofs.Filled.{has-first_column}
+use Rattle.symbol_class.specs.FirstColumn.{first_column}
+use Rattle.symbol_class.proofs.Filled.{has-first_column}
 use Rattle.prune_best.proofs.Words.{some_word}
 use Rattle.violation.specs.Prefixes.{kind_of}
 use Rattle.violation.specs.Stages.{IsPassed}

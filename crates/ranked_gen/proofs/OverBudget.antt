@@ -16,10 +16,10 @@ use Rattle.tier_core.specs.Sides.{is_stretch}
 use Rattle.arc_table.specs.declared.arc.TableArc.{TableArc}
 use Rattle.arc_table.specs.declared.state.TableState.{TableState}
 use Rattle.arc_table.specs.Conditions.{TargetsExist, ClassesFilled}
-use Rattle.arc_table.specs.FirstColumn.{first_column}
+use Rattle.symbol_class.specs.FirstColumn.{first_column}
 use Rattle.arc_table.specs.Moves.{moves_at}
 use Rattle.arc_table.specs.Runs.{Accepts, IsPath, Reads}
-use Rattle.arc_table.proofs.Filled.{has-first_column}
+use Rattle.symbol_class.proofs.Filled.{has-first_column}
 use Rattle.prune_best.proofs.Words.{some_word}
 use Rattle.violation.specs.Candidates.{IsCandidate, IsOptimalFor}
 use Rattle.violation.specs.Moves.{moved, cut}

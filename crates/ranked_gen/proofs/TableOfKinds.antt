@@ -16,7 +16,7 @@ use Rattle.arc_table.specs.declared.state.TableState.{TableState}
 use Rattle.arc_table.specs.Moves.{moves_at}
 use Rattle.arc_table.specs.Conditions.{TargetsExist, ClassesDisjoint, ClassesFilled, OneWidth}
 use Rattle.arc_table.proofs.Push.{moves_exist}
-use Rattle.arc_table.proofs.Filled.{filled_from}
+use Rattle.symbol_class.proofs.Filled.{filled_from}
 use Rattle.violation.specs.Candidates.{IsForm}
 use Rattle.violation.specs.Conditions.{AreSplit, AreDistinct}
 use Rattle.answer_text.specs.declared.automaton.ArcLine.{ArcLine}

@@ -4,13 +4,13 @@ use Rattle.std.proofs.lemmas.Bool.{cases_lt, false≢true}
 use Rattle.std.proofs.lemmas.List.{get_or_past, length-map}
 use Rattle.weight_law.specs.declared.Weight.{Ghosts}
 use Rattle.tier_core.specs.declared.sym.Sym.{Sym}
-use Rattle.arc_table.specs.FirstColumn.{first_column}
+use Rattle.symbol_class.specs.FirstColumn.{first_column}
 use Rattle.arc_table.specs.declared.arc.TableArc.{TableArc}
 use Rattle.arc_table.specs.declared.state.TableState.{TableState}
 use Rattle.arc_table.specs.Conditions.{ClassesFilled}
 use Rattle.arc_table.specs.Moves.{moves_at, accepting_at}
 use Rattle.arc_table.specs.Runs.{IsRun, IsPath, Reads}
-use Rattle.arc_table.proofs.Filled.{has-first_column}
+use Rattle.symbol_class.proofs.Filled.{has-first_column}
 use Rattle.stage_laws.specs.FoundTables.{AreReached}
 use Rattle.arc_table.proofs.Push.{moves_exist}
 

@@ -13,8 +13,8 @@ use Rattle.arc_table.specs.Runs.{IsRun, IsPath, Reads, weight_of, AcceptingRun, 
 use Rattle.violation.specs.Candidates.{IsCandidate, vec, vec_so_far}
 use Rattle.tier_core.specs.Kinds.{Phase}
 use Rattle.tier_core.specs.Sides.{is_stretch}
-use Rattle.arc_table.specs.FirstColumn.{first_column}
-use Rattle.arc_table.proofs.Filled.{has-first_column}
+use Rattle.symbol_class.specs.FirstColumn.{first_column}
+use Rattle.symbol_class.proofs.Filled.{has-first_column}
 use Rattle.arc_table.specs.Moves.{moves_at}
 use Rattle.violation.specs.Moves.{move_costs, costs, costs_each, first_phase, is_tier_open}
 use Rattle.violation.specs.Prefixes.{kind_of}

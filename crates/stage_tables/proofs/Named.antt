@@ -14,7 +14,8 @@ use Rattle.tier_core.specs.Kinds.{PrefixKind}
 use Rattle.tier_core.specs.Classes.{has, sets_of, AreDisjoint}
 use Rattle.arc_table.specs.declared.arc.TableArc.{TableArc}
 use Rattle.arc_table.specs.declared.state.TableState.{TableState}
-use Rattle.arc_table.specs.Conditions.{TargetsExist, ClassesDisjoint, ClassesFilled, OneWidth, is_filled}
+use Rattle.arc_table.specs.Conditions.{TargetsExist, ClassesDisjoint, ClassesFilled, OneWidth}
+use Rattle.symbol_class.specs.Filled.{is_filled}
 use Rattle.arc_table.specs.Moves.{moves_at, accepting_at}
 use Rattle.arc_table.proofs.Push.{moves_exist}
 use Rattle.violation.specs.Moves.{moved, cut}

@@ -5,12 +5,12 @@ ghost use Rattle.arc_table.specs.States.{states_of};
 ghost use Rattle.stage_tables.specs.Listed.{IsTaken, AreTargets};
 ghost use Rattle.stage_tables.specs.Exploring.{IsFoundWithin, IsFoundBeyond, IsListedOver, StaysListed};
 
-use crate::column::some_column;
 use crate::exploring::Exploring;
 use crate::listed::{Listed, number_of};
 use crate::stage_table::ExploreErr;
 use arc_table::TableArc;
 use std::alloc::Global;
+use symbol_class::least_column;
 use tier_core::Kind;
 use weight_law::{Count, UnitWeight};
 
@@ -33,7 +33,7 @@ impl Exploring<'_> {
         ensures taken { IfOk result (λ made. IsTaken self.now.frame.now self.now.stage listed.new.kinds.items listed.new.over.items kind.now arc.now made) }
         ensures beyond { IfErr result (λ e. e ≡ ExploreErr.OverBudget → IsFoundBeyond self.now listed.new) }
     {
-        let column = some_column(alloc, &arc.class);
+        let column = least_column(alloc, &arc.class);
         let weight = Count(self.frame.cost(self.stage, self.stage, kind, &column));
         match self.frame.moved(self.stage, kind, &column) {
             None => unreachable!(),

@@ -12,7 +12,6 @@
 #![tactic(auto)]
 
 mod arcs;
-mod column;
 mod exploration;
 mod exploring;
 mod kind_key;

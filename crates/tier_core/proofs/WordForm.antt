@@ -5,7 +5,7 @@ use Rattle.std.specs.List.{AllByRecursion}
 use Rattle.std.proofs.lemmas.Bool.{false≢true, lt-ltb, le-ltb, eq-eqb, ne_eqb, and_left, and_right}
 use Rattle.tier_core.specs.declared.sym.Sym.{Sym}
 use Rattle.tier_core.specs.declared.sym.Sym.TheVariants.{Outside, Inside, Start, End, Both}
-use Rattle.tier_core.specs.Words.{is_inside_sym, starts, ends, next_end, pair_to, constituents_from, constituents, starts_at, ends_at, is_inside, symbol_of, drawn, NextFrom, AreApart, IsWellFormedWord}
+use Rattle.tier_core.specs.Words.{is_inside_sym, starts, ends, next_end, pair_to, constituents_from, constituents, starts_at, ends_at, is_inside, symbol_of, drawn, NextFrom, AreDisjoint, IsWellFormedWord}
 use Rattle.tier_core.proofs.CountLemmas.{any_none, any_from_count, all_weaker}
 use Rattle.tier_core.proofs.WordLemmas.{runs, pending, ended, ended_late, constituents_late, next_end_late, ended_are}
 use Rattle.tier_core.proofs.WordCounts.{start_at, end_at, inside_at}
@@ -22,7 +22,7 @@ next_late i j m (Start ∷ w) r l = next_from_all j (ended m (suc m) w) (all_wea
 next_late i j m (End ∷ w) r l = absurd (false≢true r)
 next_late i j m (Both ∷ w) r l = absurd (false≢true r)
 
-ended_apart : (b : Bool) (i m : ℕ) (w : List Sym) → runs b w ≡ true → AreApart (ended i m w)
+ended_apart : (b : Bool) (i m : ℕ) (w : List Sym) → runs b w ≡ true → AreDisjoint (ended i m w)
 ended_apart b i m [] r = tt
 ended_apart true i m (Outside ∷ w) r = absurd (false≢true r)
 ended_apart true i m (Inside ∷ w) r = ended_apart true i (suc m) w r
@@ -46,7 +46,7 @@ symbol_of_sym Both = refl
 pub well_formed_from_runs : (w : List Sym) → runs false w ≡ true → IsWellFormedWord w
 well_formed_from_runs w r = record {
   begun = λ i l h. rw (starts_are i) h;
-  apart = subst AreApart (sym (ended_are false 0 0 w r)) (ended_apart false 0 0 w r);
+  apart = subst AreDisjoint (sym (ended_are false 0 0 w r)) (ended_apart false 0 0 w r);
   symbols = λ k l. rw (starts_are k, ends_are k, insides_are k) (symbol_of_sym (get_or w k Outside));
 }
   where
@@ -103,7 +103,7 @@ module _ (m : ℕ) (w : List Sym) where
       cc
 
   not_started : (i : ℕ) (o : Option ℕ) (cs : List (ℕ × ℕ)) → is_some o ≡ true → AllByRecursion (λ c. (c.0 ≡ i) × (suc m ≤ c.1)) (pair_to i o)
-      → AllByRecursion (λ c. (c.0 ≡ m) × (suc m ≤ c.1)) (pair_to m o) → AreApart (pair_to i o ++ (pair_to m o ++ cs)) → ⊥
+      → AllByRecursion (λ c. (c.0 ≡ m) × (suc m ≤ c.1)) (pair_to m o) → AreDisjoint (pair_to i o ++ (pair_to m o ++ cs)) → ⊥
   not_started i None cs h a b e = false≢true h
   not_started i (Some j) cs h a b e = omega arith
 
@@ -126,7 +126,7 @@ past_start i m None w l e =
 past_start i m (Some j) w l e = refl
 
 runs_from : (b : Bool) (i m : ℕ) (w : List Sym) → (b ≡ true → i < m) → (b ≡ true → is_some (next_end m w) ≡ true)
-    → AreApart (pending b i m w) → ((k p : ℕ) → k < length w → p ≡ m + k → get_or w k Outside ≡ drawn (pending b i m w) p)
+    → AreDisjoint (pending b i m w) → ((k p : ℕ) → k < length w → p ≡ m + k → get_or w k Outside ≡ drawn (pending b i m w) p)
     → runs b w ≡ true
 runs_from true i m [] l h a d = h refl
 runs_from false i m [] l h a d = refl

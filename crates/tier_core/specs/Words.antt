@@ -73,11 +73,11 @@ NextFrom j [] = Unit {0}
 NextFrom j (d ∷ ds) = j ≤ d.0
 
 -- each pair's end is at most the next pair's start
-abbrev pub AreApart : List (ℕ × ℕ) → Type 0
-AreApart [] = Unit {0}
-AreApart (c ∷ cs) = NextFrom c.1 cs × AreApart cs
+abbrev pub AreDisjoint : List (ℕ × ℕ) → Type 0
+AreDisjoint [] = Unit {0}
+AreDisjoint (c ∷ cs) = NextFrom c.1 cs × AreDisjoint cs
 
 pub record IsWellFormedWord (w : List Sym) : Type 0 where
   pub begun : (i : ℕ) → i < length w → IsTrue (starts (slice_index_or w i Outside)) → IsTrue (starts_at (constituents w) i)
-  pub apart : AreApart (constituents w)
+  pub apart : AreDisjoint (constituents w)
   pub symbols : (k : ℕ) → k < length w → slice_index_or w k Outside ≡ drawn (constituents w) k

@@ -2,7 +2,7 @@ use Rattle.std.proofs.Common.{rules}
 use Rattle.std.proofs.lemmas.List.Sorted.{ranks_by}
 use Rattle.answer_text.specs.Right.{arc_cmp}
 use Rattle.kind_orders.proofs.ArcOrder.{arc_cmp_total}
-use Rattle.kind_orders.proofs.Members.{sorted_by_closure}
+use Rattle.symbol_class.proofs.Pairs.{sorted_by_closure}
 use Rattle.kind_orders.proofs.arcs.arc_lines.Goals as goal
 
 pub returns-clause-sorted : goal.returns-clause-sorted

@@ -2,7 +2,7 @@ use Rattle.std.proofs.Common.{subst, rules, IsPermutation}
 use Rattle.std.proofs.lemmas.List.Sorted.{ranks_by}
 use Rattle.tier_core.specs.Kinds.{kind_order}
 use Rattle.kind_orders.specs.KindOrders.{told}
-use Rattle.kind_orders.proofs.Members.{sorted_by_closure}
+use Rattle.symbol_class.proofs.Pairs.{sorted_by_closure}
 use Rattle.kind_orders.proofs.Orders.{is_kind_order}
 use Rattle.kind_orders.proofs.Strict.{kind_order_total}
 use Rattle.kind_orders.proofs.order.sorted_numbers.Goals as goal

@@ -1,0 +1,9 @@
+pub mod Filled
+pub mod SetOrder
+pub mod SetLists
+pub mod Pairs
+pub mod Times
+pub mod MinusSteps
+pub mod SplitSteps
+pub mod JoinSteps
+pub mod JoinedClasses

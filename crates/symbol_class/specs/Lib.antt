@@ -1,0 +1,5 @@
+pub mod Filled
+pub mod FirstColumn
+pub mod ClassOrder
+pub mod Held
+pub mod Joined

@@ -1,0 +1,19 @@
+ghost use Rattle.std.specs.Prelude.{◌≡◌, ◌&&◌, List, length};
+ghost use Rattle.tier_core.specs.declared.sym.Sym.{Sym};
+ghost use Rattle.tier_core.specs.Classes.{sets_of, has};
+
+use tier_core::Class;
+
+/// The class of the columns that both classes hold. They have one width.
+pub fn meet(a: &Class, b: &Class) -> Class
+    requires { length (sets_of a.now) ≡ length (sets_of b.now) }
+    ensures width { length (sets_of result) ≡ length (sets_of a.now) }
+    ensures columns { (column : List Sym) → has result column ≡ (has a.now column && has b.now column) }
+{
+    let width = a.width();
+    let mut sets = [0; 12];
+    for tier in 0..width {
+        sets[tier as usize] = a.bits(tier) & b.bits(tier);
+    }
+    Class::of_bits(&sets[..width as usize])
+}

@@ -1,0 +1,19 @@
+ghost use Rattle.std.specs.Prelude.{◌≡◌, ◌↔◌, IsTrue, List, false, not, length};
+ghost use Rattle.tier_core.specs.declared.sym.Sym.{Sym};
+ghost use Rattle.tier_core.specs.Classes.{sets_of, has};
+ghost use Rattle.symbol_class.specs.Filled.{is_filled};
+
+use tier_core::Class;
+
+/// Whether a class holds no column of its width. It holds none of another width in any case.
+pub fn is_empty(class: &Class) -> bool
+    ensures columns { IsTrue result ↔ ((column : List Sym) → length column ≡ length (sets_of class.now) → has class.now column ≡ false) }
+    ensures sets { result ≡ not (is_filled class.now) }
+{
+    for tier in 0..class.width() {
+        if class.bits(tier) == 0 {
+            return true;
+        }
+    }
+    false
+}

@@ -1,0 +1,145 @@
+ghost use Rattle.std.specs.Prelude.{◌≡◌, ◌<◌, ◌≤◌, ◌++◌, ◌∷◌, [], All, AllPairs, IfOk, IsTrue, List, true, false, length, map};
+ghost use Rattle.std.specs.Ordering.{is_eq};
+ghost use Rattle.std.specs.List.Sorted.{IsSortedByKey};
+ghost use Rattle.tier_core.specs.declared.sym.Sym.{Sym};
+ghost use Rattle.tier_core.specs.Classes.{sets_of, AreDisjoint};
+ghost use Rattle.symbol_class.specs.Filled.{is_filled};
+ghost use Rattle.symbol_class.specs.Held.{some_has, times_held, width_of, ArePieces};
+ghost use Rattle.symbol_class.specs.Joined.{DifferTwice, beside_cmp, united, JoinsAlong, JoinsBelow};
+
+use crate::order::class_cmp;
+use crate::sets::with_set;
+use std::alloc::{AllocError, Global};
+use std::cmp::Ordering;
+use tier_core::{Class, NoMemory};
+
+/// Compares classes by their sets of the other tiers than this.
+fn beside_cmp(tier: u32, a: &Class, b: &Class) -> Ordering
+    ensures { result ≡ beside_cmp tier (sets_of a.now) (sets_of b.now) }
+{
+    class_cmp(&with_set(a, tier, 0), &with_set(b, tier, 0))
+}
+
+/// The class that has on a tier the symbols of both, and else the sets of the first.
+fn united(tier: u32, a: &Class, b: &Class) -> Class
+    requires first { tier < length (sets_of a.now) }
+    requires second { tier < length (sets_of b.now) }
+    ensures { sets_of result ≡ united tier (sets_of a.now) (sets_of b.now) }
+{
+    with_set(a, tier, a.bits(tier) | b.bits(tier))
+}
+
+/// The class that is to be joined next: the current one with the next, where they agree on all other
+/// tiers than this, and else the next, and then the current one is done.
+fn joined_next(
+    done: &mut Vec<Class>,
+    tier: u32,
+    current: &Class,
+    next: &Class,
+) -> Result<Class, AllocError>
+    requires first { tier < length (sets_of current.now) }
+    requires second { tier < length (sets_of next.now) }
+    ensures alike { is_eq (beside_cmp tier (sets_of current.now) (sets_of next.now)) ≡ true → IfOk result (λ class. (done.new.items ≡ done.old.items) × (sets_of class ≡ united tier (sets_of current.now) (sets_of next.now))) }
+    ensures other { is_eq (beside_cmp tier (sets_of current.now) (sets_of next.now)) ≡ false → IfOk result (λ class. (done.new.items ≡ done.old.items ++ current.now ∷ []) × (class ≡ next.now)) }
+{
+    if beside_cmp(tier, current, next) == Ordering::Equal {
+        return Ok(united(tier, current, next));
+    }
+    done.push(*current)?;
+    Ok(*next)
+}
+
+/// Joins neighbours that agree on all other tiers than this, where classes are sorted by these.
+fn joined_neighbours(
+    alloc: Global,
+    tier: u32,
+    sorted: &[Class],
+) -> Result<Vec<Class>, AllocError>
+    requires wide { All (λ class. tier < length (sets_of class)) sorted.now }
+    requires filled { All (λ class. IsTrue (is_filled class)) sorted.now }
+    requires apart { AllPairs AreDisjoint sorted.now }
+    requires sorted { IsSortedByKey sets_of (beside_cmp tier) sorted.now }
+    ensures { IfOk result (λ joined. JoinsAlong tier sorted.now joined.items) }
+{
+    let mut joined = Vec::new(alloc);
+    let (first, rest) = match sorted.split_first() {
+        None => return Ok(joined),
+        Some(parts) => parts,
+    };
+    let mut current = *first;
+    for next in rest {
+        current = joined_next(&mut joined, tier, &current, next)?;
+    }
+    joined.push(current)?;
+    Ok(joined)
+}
+
+/// Joins classes that agree on all other tiers than this.
+fn joined_along(
+    alloc: Global,
+    tier: u32,
+    classes: Vec<Class>,
+) -> Result<Vec<Class>, AllocError>
+    requires wide { All (λ class. tier < length (sets_of class)) classes.items }
+    requires filled { All (λ class. IsTrue (is_filled class)) classes.items }
+    requires apart { AllPairs AreDisjoint classes.items }
+    ensures { IfOk result (λ joined. JoinsAlong tier classes.items joined.items) }
+{
+    let mut sorted = classes;
+    sorted.sort_unstable_by(|a, b| beside_cmp(tier, a, b));
+    joined_neighbours(alloc, tier, &sorted)
+}
+
+/// Joins classes of a width along each tier in turn.
+fn joined_once(
+    alloc: Global,
+    width: u32,
+    classes: Vec<Class>,
+) -> Result<Vec<Class>, AllocError>
+    requires { ArePieces width classes.items }
+    ensures { IfOk result (λ joined. JoinsBelow width width classes.items joined.items) }
+{
+    let mut joined = classes;
+    for tier in 0..width {
+        joined = joined_along(alloc, tier, joined)?;
+    }
+    Ok(joined)
+}
+
+/// Joins classes of a width along each tier in turn, until none are joined any more.
+fn joined_fully(alloc: Global, width: u32, classes: &[Class]) -> Result<Vec<Class>, AllocError>
+    requires some { 0 < width }
+    requires pieces { ArePieces width classes.now }
+    ensures pieces { IfOk result (λ joined. ArePieces width joined.items) }
+    ensures held { IfOk result (λ joined. (column : List Sym) → times_held joined.items column ≡ times_held classes.now column) }
+    ensures fewer { IfOk result (λ joined. length joined.items ≤ length classes.now) }
+    ensures differ { IfOk result (λ joined. AllPairs DifferTwice joined.items) }
+{
+    let mut joined = Vec::from_slice(alloc, classes)?;
+    let mut count = joined.len() + 1;
+    'joining: while joined.len() < count {
+        count = joined.len();
+        joined = joined_once(alloc, width, joined)?;
+    }
+    Ok(joined)
+}
+
+/// Classes that hold exactly the columns of the given ones, of which any two differ in the sets of
+/// at least two tiers. They are no more than the given ones, none is empty, and no column is in two;
+/// the given ones are so too, and of one width. It fails only for want of memory.
+pub fn join(alloc: Global, classes: &[Class]) -> Result<Vec<Class>, NoMemory>
+    requires { ArePieces (width_of classes.now) classes.now }
+    ensures pieces { IfOk result (λ joined. ArePieces (width_of classes.now) joined.items) }
+    ensures columns { IfOk result (λ joined. (column : List Sym) → some_has joined.items column ≡ some_has classes.now column) }
+    ensures fewer { IfOk result (λ joined. length joined.items ≤ length classes.now) }
+    ensures differ { IfOk result (λ joined. AllPairs DifferTwice joined.items) }
+{
+    let first = match classes.first() {
+        None => return Ok(Vec::new(alloc)),
+        Some(class) => class,
+    };
+    match joined_fully(alloc, first.width(), classes) {
+        Ok(joined) => Ok(joined),
+        Err(_) => Err(NoMemory),
+    }
+}

@@ -1,0 +1,28 @@
+//! Sets of columns: what classes have in common, what one has more than another, how a class is
+//! parted by tests, and lists of classes that are made shorter by joining them.
+//!
+//! A class has a set of symbols for each tier, and holds the columns whose symbols are in these
+//! sets. No call here looks at single columns. Below stand columns and classes; above, the moves of
+//! kinds are given for classes of columns, and the automata of answers have them on their arcs.
+#![tactic(auto)]
+
+mod common;
+mod emptiness;
+mod joining;
+mod least;
+mod order;
+mod parting;
+mod remainder;
+mod sets;
+mod sides;
+#[cfg(test)]
+mod tests;
+
+pub use common::meet;
+pub use emptiness::is_empty;
+pub use joining::join;
+pub use least::least_column;
+pub use order::class_cmp;
+pub use parting::split;
+pub use remainder::minus;
+pub use sides::Split;

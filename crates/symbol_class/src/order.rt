@@ -1,0 +1,19 @@
+ghost use Rattle.std.specs.Prelude.{◌≡◌};
+ghost use Rattle.symbol_class.specs.ClassOrder.{class_cmp};
+
+use std::cmp::Ordering;
+use tier_core::Class;
+
+/// Compares classes by the numbers of their sets, from the first tier. Where one has more tiers and
+/// none before them differs, it comes after the other.
+pub fn class_cmp(a: &Class, b: &Class) -> Ordering
+    ensures { result ≡ class_cmp a.now b.now }
+{
+    for tier in 0..a.width().min(b.width()) {
+        let order = a.bits(tier).cmp(&b.bits(tier));
+        if order != Ordering::Equal {
+            return order;
+        }
+    }
+    a.width().cmp(&b.width())
+}

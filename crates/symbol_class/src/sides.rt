@@ -1,0 +1,10 @@
+use tier_core::Class;
+
+/// The pieces of a class: inside the tests, and outside of them.
+#[derive(Drop)]
+pub struct Split {
+    /// The columns that are in some test.
+    pub inside: Vec<Class>,
+    /// The columns that are in no test.
+    pub outside: Vec<Class>,
+}

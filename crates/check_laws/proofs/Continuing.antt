@@ -1,8 +1,7 @@
 -- Prefixes along which the potentials of a right answer fall go on to optimal candidates.
-use Rattle.std.proofs.Common.{◌≡◌, ℕ, zero, suc, ◌+◌, ◌-◌, ◌<◌, ◌≤◌, List, [], ◌∷◌, ◌++◌, take, drop, length, refl, sym, ap, ◌∙◌, subst, arith, inl, inr, append-nil}
+use Rattle.std.proofs.Common.{◌≡◌, ℕ, zero, suc, ◌-◌, ◌<◌, ◌≤◌, List, [], ◌∷◌, ◌++◌, length, sym, ap, ◌∙◌, subst, arith, inl, inr}
 use Rattle.std.specs.List.{AllByRecursion}
 use Rattle.std.proofs.lemmas.Bool.{cases_lt}
-use Rattle.std.proofs.lemmas.List.{take-append-drop}
 use Rattle.std.proofs.lemmas.List.Elements.{All-contains}
 use Rattle.tier_core.specs.declared.sym.Sym.{Sym}
 use Rattle.tier_core.specs.declared.constraint.Constraint.{Constraint}
@@ -130,9 +129,9 @@ module _ (tiers : Tiers) (constraints : List Constraint) (answer : Answer) (give
           ((told_by s within shown).optimal (p ++ rest.rest) candidate).1
               (λ j a b. falls_joined tiers constraints answer.form answer.stages.items j p [] rest.rest (falls j a b)
               (elim (cases_lt j s) [
-            | inl l ↦ after j a l
-            | inr l ↦ (let same : s ≡ j = omega arith in subst (λ i. FallsAlong tiers constraints answer.form answer.stages.items i p rest.rest) same last)
-          ])),
+                | inl l ↦ after j a l
+                | inr l ↦ (let same : s ≡ j = omega arith in subst (λ i. FallsAlong tiers constraints answer.form answer.stages.items i p rest.rest) same last)
+              ])),
         )
 
   -- A prefix along which the potentials of the stages up to s fall goes on to an s-optimal candidate.

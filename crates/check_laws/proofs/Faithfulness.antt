@@ -1,5 +1,5 @@
 -- A shown answer is faithful.
-use Rattle.std.proofs.Common.{◌≡◌, ◌≢◌, ◌↔◌, ℕ, ◌-◌, ◌<◌, ◌≤◌, List, [], ◌++◌, take, drop, length, get_or, sym, ap, ◌∙◌, subst, arith, All, AllPairs, Contains}
+use Rattle.std.proofs.Common.{◌≡◌, ◌≢◌, ◌↔◌, ℕ, ◌-◌, ◌≤◌, List, [], ◌++◌, take, drop, length, get_or, sym, ap, ◌∙◌, subst, arith, AllPairs, Contains}
 use Rattle.std.specs.List.{AllByRecursion}
 use Rattle.std.specs.List.Sorted.{IsStrictlySortedBy}
 use Rattle.std.specs.Ordering.{nat_cmp}
@@ -9,18 +9,17 @@ use Rattle.tier_core.specs.declared.sym.Sym.{Sym}
 use Rattle.tier_core.specs.declared.constraint.Constraint.{Constraint}
 use Rattle.tier_core.specs.Kinds.{PrefixKind}
 use Rattle.tier_core.specs.Tiers.{Tiers}
-use Rattle.violation.specs.Candidates.{IsCandidate, vec, IsOptimal, IsLeastVector}
+use Rattle.violation.specs.Candidates.{IsCandidate, IsOptimal, IsLeastVector}
 use Rattle.violation.specs.Conditions.{AreSplit, IsOverTiers}
 use Rattle.violation.specs.Counts.{violations_of}
 use Rattle.violation.specs.Prefixes.{kind_of}
 use Rattle.violation.specs.Stages.{IsKindOfStage}
 use Rattle.violation.proofs.LeastVector.{vector_of_numbers}
 use Rattle.answer_text.specs.declared.answer.Answer.{Answer}
-use Rattle.answer_text.specs.declared.automaton.StateLine.{StateLine}
 use Rattle.answer_text.specs.Acceptance.{Accepts}
 use Rattle.answer_text.specs.Right.{nodes_at, kinds_at, numbers_of}
 use Rattle.answer_text.specs.Shown.{IsShownStage, AreStatesInOrder, IsShown}
-use Rattle.answer_text.specs.Faithful.{AreFaithfulArcs, IsFaithful}
+use Rattle.answer_text.specs.Faithful.{IsFaithful}
 use Rattle.check_laws.proofs.Listing.{lists_kind, first_listed}
 use Rattle.check_laws.proofs.Potentials.{FallsAlong, falls_parts, listed_on}
 use Rattle.check_laws.proofs.Optima.{AreTold, all_told}

@@ -1,5 +1,5 @@
 -- Where reading leads: in parts, and to one state alone.
-use Rattle.std.proofs.Common.{◌≡◌, ℕ, ◌<◌, List, [], ◌∷◌, ◌++◌, map, length, get_or, refl, sym, ap, ◌∙◌, subst, arith, inl, inr, All, AllPairs, Contains}
+use Rattle.std.proofs.Common.{◌≡◌, ℕ, ◌<◌, List, [], ◌∷◌, ◌++◌, length, get_or, refl, sym, ap, ◌∙◌, subst, arith, inl, inr, All, AllPairs, Contains}
 use Rattle.std.specs.List.Sorted.{IsStrictlySortedBy}
 use Rattle.std.specs.Ordering.{nat_cmp}
 use Rattle.std.proofs.lemmas.Bool.{cases_order}
@@ -52,11 +52,11 @@ module _ (states : List StateLine) (ascending : IsStrictlySortedBy nat_cmp (numb
           | inl one ↦ sym a.to ∙ ap (λ (arc : ArcLine). arc.target) (sym h.2 ∙ get_or_default arcs h.0 a.arc b.arc h.1 ∙ ap (λ i. get_or arcs i b.arc) one ∙ k.2) ∙ b.to
           | inr other ↦ elim other [
             | inl less ↦ absurd (pairs h.0 k.0 a.arc less k.1 column
-              (ap (λ (arc : ArcLine). has arc.class column) h.2 ∙ a.holds)
-              (ap (λ (arc : ArcLine). has arc.class column) (get_or_default arcs k.0 a.arc b.arc k.1 ∙ k.2) ∙ b.holds))
+                (ap (λ (arc : ArcLine). has arc.class column) h.2 ∙ a.holds)
+                (ap (λ (arc : ArcLine). has arc.class column) (get_or_default arcs k.0 a.arc b.arc k.1 ∙ k.2) ∙ b.holds))
             | inr more ↦ absurd (pairs k.0 h.0 a.arc more h.1 column
-              (ap (λ (arc : ArcLine). has arc.class column) (get_or_default arcs k.0 a.arc b.arc k.1 ∙ k.2) ∙ b.holds)
-              (ap (λ (arc : ArcLine). has arc.class column) h.2 ∙ a.holds))
+                (ap (λ (arc : ArcLine). has arc.class column) (get_or_default arcs k.0 a.arc b.arc k.1 ∙ k.2) ∙ b.holds)
+                (ap (λ (arc : ArcLine). has arc.class column) h.2 ∙ a.holds))
           ]
         ]
 

@@ -1,13 +1,12 @@
 -- Potentials bound from below what the rest of a candidate violates.
-use Rattle.std.proofs.Common.{◌≡◌, ℕ, suc, ◌+◌, ◌-◌, ◌<◌, ◌≤◌, IsTrue, List, [], ◌∷◌, ◌++◌, take, length, sym, ap, ◌∙◌, subst, arith, append-nil, append_assoc}
+use Rattle.std.proofs.Common.{◌≡◌, ℕ, ◌+◌, ◌-◌, ◌<◌, ◌≤◌, List, [], ◌∷◌, ◌++◌, take, length, sym, ap, ◌∙◌, subst, arith, append-nil, append_assoc}
 use Rattle.std.specs.List.{AllByRecursion}
 use Rattle.tier_core.specs.declared.sym.Sym.{Sym}
 use Rattle.tier_core.specs.declared.constraint.Constraint.{Constraint}
-use Rattle.tier_core.specs.Kinds.{PrefixKind}
 use Rattle.tier_core.specs.Tiers.{Tiers}
 use Rattle.violation.specs.Candidates.{IsForm, IsCandidate}
 use Rattle.violation.specs.Conditions.{AreSplit, IsOverTiers}
-use Rattle.violation.specs.Moves.{FitsKind, moved, cost_of, cut, is_final}
+use Rattle.violation.specs.Moves.{moved, cost_of, cut}
 use Rattle.violation.specs.Prefixes.{kind_of, stretches}
 use Rattle.violation.specs.Stages.{IsStage}
 use Rattle.violation.specs.Walks.{BeginsCandidate}

@@ -1,5 +1,5 @@
 -- What a shown automaton reads: exactly the candidates along which the potentials of all stages fall.
-use Rattle.std.proofs.Common.{◌≡◌, ℕ, ◌+◌, ◌<◌, ◌≤◌, true, List, [], ◌∷◌, ◌++◌, length, refl, sym, ap, ◌∙◌, subst, arith, append-nil, append_assoc, All, Contains}
+use Rattle.std.proofs.Common.{◌≡◌, ℕ, ◌+◌, ◌≤◌, true, List, [], ◌∷◌, ◌++◌, length, refl, sym, ◌∙◌, subst, arith, append-nil, append_assoc, All, Contains}
 use Rattle.std.specs.List.{AllByRecursion}
 use Rattle.std.proofs.lemmas.List.Elements.{All-contains}
 use Rattle.tier_core.specs.declared.sym.Sym.{Sym}
@@ -20,7 +20,7 @@ use Rattle.answer_text.specs.declared.stage.Node.{Node}
 use Rattle.answer_text.specs.declared.stage.Stage.{Stage}
 use Rattle.answer_text.specs.Acceptance.{HasArc, IsFinalState, Leads, Accepts}
 use Rattle.answer_text.specs.Right.{nodes_at, IsNodeOf, numbers_of}
-use Rattle.answer_text.specs.Shown.{Lists, IsKeptBelow, IsShownStage, IsShownAutomaton}
+use Rattle.answer_text.specs.Shown.{IsKeptBelow, IsShownStage, IsShownAutomaton}
 use Rattle.check_laws.proofs.Members.{contains_of_map}
 use Rattle.check_laws.proofs.Listing.{lists_kind, kind_listed, kind_numbered, numbered_kind, first_numbered}
 use Rattle.check_laws.proofs.Potentials.{FallsOn, FallsAlong, over_at, goes_to, as_longer, one_more, falls_from_tight, kept_from_falls}

@@ -1,13 +1,12 @@
 -- The stages of a right answer are shown.
 use Rattle.std.proofs.Common.{◌≡◌, ℕ, zero, suc, ◌+◌, ◌-◌, ◌<◌, ◌≤◌, IsTrue, List, [], ◌∷◌, ◌++◌, take, drop, length, get_or, refl, sym, ap, ◌∙◌, subst, arith, inl, inr, append-nil, append_assoc, take_at, All, Contains, Some, slice_get}
-use Rattle.std.specs.declared.cmp.Ordering.TheVariants.{Equal}
 use Rattle.std.proofs.lemmas.Bool.{cases_lt}
 use Rattle.std.proofs.lemmas.List.{length-append, length-map, take-append-drop}
 use Rattle.tier_core.specs.declared.sym.Sym.{Sym}
 use Rattle.tier_core.specs.declared.constraint.Constraint.{Constraint}
 use Rattle.tier_core.specs.Kinds.{PrefixKind, kind_order}
 use Rattle.tier_core.specs.Tiers.{Tiers}
-use Rattle.violation.specs.Candidates.{IsCandidate, vec, vec_cmp, IsOptimalFor}
+use Rattle.violation.specs.Candidates.{IsCandidate, vec, IsOptimalFor}
 use Rattle.violation.specs.Counts.{violations_of}
 use Rattle.violation.specs.Moves.{moved, cost_of, cut, is_final}
 use Rattle.violation.specs.Prefixes.{kind_of}
@@ -25,7 +24,7 @@ use Rattle.answer_text.specs.Shown.{Lists, IsKeptBelow, IsPossibleKind, start_po
 use Rattle.check_laws.proofs.Members.{all_from_members}
 use Rattle.check_laws.proofs.Potentials.{stage_at, over_at, goes_to}
 use Rattle.check_laws.proofs.Optima.{start_count, AllFall, AreTold}
-use Rattle.check_laws.proofs.Rests.{least_rest, rest_some, rest_least}
+use Rattle.check_laws.proofs.Rests.{least_rest, HasRest, rest_some, rest_least}
 use Rattle.check_laws.proofs.Continuing.{IsGiven, same_fewer, counts_are, remains, passed_by, listed_by, told_by, falls_to, kept_longer, exchanged, swapped, goes_on}
 use Rattle.check_laws.proofs.Starts.{first_is, none_before_start, possible}
 
@@ -136,26 +135,41 @@ module _ (tiers : Tiers) (constraints : List Constraint) (answer : Answer) (give
           let far = goes_on tiers constraints answer given (r - 1) (omega arith) earlier (v ++ column ∷ []) more fall in
           listed_by tiers constraints answer given r within (kind_of tiers constraints r (v ++ column ∷ [])) (passed_parts (r - 1) r (v ++ column ∷ []) far.0 far.1)
 
-      -- and what remains here is at most the cost and what remains there
-      no_more : p ≤ cost_of tiers constraints answer.form r (kind_of tiers constraints r v) column + next_listed.0
-      no_more = elim (cases_lt 0 r) [
-        | inr none ↦ (let zero_here : p ≡ 0 = none_remains tiers constraints answer.form r (kind_of tiers constraints r v) p none (remains tiers constraints answer given r within (kind_of tiers constraints r v) p here) in omega arith)
-        | inl ranked ↦
-            (let far : List (List Sym) = v ++ column ∷ [] in
-            let rest = rest_some tiers constraints answer.form r stage ranked (kind_of tiers constraints r far) next_listed.0
-            (least_rest tiers constraints answer.form r (kind_of tiers constraints r far) next_listed.0 ranked (remains tiers constraints answer given r within (kind_of tiers constraints r far) next_listed.0 next_listed.1)) in
-            let c : IsCandidate tiers answer.form (far ++ rest.rest) = swapped tiers constraints answer given r within rest.before far rest.rest more rest.optimal.candidate rest.of_kind in
-            let joined : IsOptimalFor tiers constraints answer.form (r - 1) (far ++ rest.rest) =
-            exchanged tiers constraints answer given (r - 1) (omega arith) told rest.before far rest.rest rest.optimal c (same_fewer tiers constraints (r - 1) r (omega arith) rest.before far rest.of_kind) fall in
-            let through : IsOptimalFor tiers constraints answer.form (r - 1) (v ++ column ∷ rest.rest) = subst (IsOptimalFor tiers constraints answer.form (r - 1)) (append_assoc v (column ∷ []) rest.rest) joined in
-            let low : p ≤ walk_cost tiers constraints answer.form r stage (r - 1) (kind_of tiers constraints r v) (column ∷ rest.rest) =
-            rest_least tiers constraints answer.form r stage ranked (kind_of tiers constraints r v) p
-            (least_rest tiers constraints answer.form r (kind_of tiers constraints r v) p ranked (remains tiers constraints answer given r within (kind_of tiers constraints r v) p here)) v (column ∷ rest.rest) through refl in
-            let step : walk_cost tiers constraints answer.form r stage (r - 1) (kind_of tiers constraints r v) (column ∷ rest.rest) ≡ cost_of tiers constraints answer.form r (kind_of tiers constraints r v) column + next_listed.0 =
+      remaining : IsRemaining tiers constraints answer.form r (kind_of tiers constraints r v) p
+      remaining = remains tiers constraints answer given r within (kind_of tiers constraints r v) p here
+
+      -- what remains here is at most the cost and what remains there
+      module _ (ranked : 1 ≤ r) where
+        rest : HasRest tiers constraints answer.form r stage (kind_of tiers constraints r (v ++ column ∷ [])) next_listed.0
+        rest =
+            let far : PrefixKind = kind_of tiers constraints r (v ++ column ∷ []) in
+            rest_some tiers constraints answer.form r stage ranked far next_listed.0
+            (least_rest tiers constraints answer.form r far next_listed.0 ranked (remains tiers constraints answer given r within far next_listed.0 next_listed.1))
+
+        joined : IsOptimalFor tiers constraints answer.form (r - 1) ((v ++ column ∷ []) ++ rest.rest)
+        joined =
+            exchanged tiers constraints answer given (r - 1) (omega arith) told rest.before (v ++ column ∷ []) rest.rest rest.optimal
+            (swapped tiers constraints answer given r within rest.before (v ++ column ∷ []) rest.rest more rest.optimal.candidate rest.of_kind)
+            (same_fewer tiers constraints (r - 1) r (omega arith) rest.before (v ++ column ∷ []) rest.of_kind) fall
+
+        low : p ≤ walk_cost tiers constraints answer.form r stage (r - 1) (kind_of tiers constraints r v) (column ∷ rest.rest)
+        low =
+            rest_least tiers constraints answer.form r stage ranked (kind_of tiers constraints r v) p (least_rest tiers constraints answer.form r (kind_of tiers constraints r v) p ranked remaining)
+            v (column ∷ rest.rest) (subst (IsOptimalFor tiers constraints answer.form (r - 1)) (append_assoc v (column ∷ []) rest.rest) joined) refl
+
+        costs_there : walk_cost tiers constraints answer.form r stage (r - 1) (kind_of tiers constraints r v) (column ∷ rest.rest) ≡ cost_of tiers constraints answer.form r (kind_of tiers constraints r v) column + next_listed.0
+        costs_there =
             walk_step tiers constraints answer.form r stage (r - 1) (kind_of tiers constraints r v) column rest.rest
             ∙ ap (λ k. cost_of tiers constraints answer.form r (kind_of tiers constraints r v) column + walk_cost tiers constraints answer.form r stage (r - 1) k rest.rest) (next_kind ∙ sym rest.of_kind)
-            ∙ ap (λ n. cost_of tiers constraints answer.form r (kind_of tiers constraints r v) column + n) rest.costs in
-            omega (arith, low, step))
+            ∙ ap (λ n. cost_of tiers constraints answer.form r (kind_of tiers constraints r v) column + n) rest.costs
+
+        no_more_ranked : p ≤ cost_of tiers constraints answer.form r (kind_of tiers constraints r v) column + next_listed.0
+        no_more_ranked = omega (arith, low, costs_there)
+
+      no_more : p ≤ cost_of tiers constraints answer.form r (kind_of tiers constraints r v) column + next_listed.0
+      no_more = elim (cases_lt 0 r) [
+        | inr none ↦ (let zero_here : p ≡ 0 = none_remains tiers constraints answer.form r (kind_of tiers constraints r v) p none remaining in omega arith)
+        | inl ranked ↦ no_more_ranked ranked
       ]
 
       step_listed : (n : ℕ) × (Lists tiers constraints answer.stages.items r (moved tiers constraints r (kind_of tiers constraints r v) column) n × (p ≤ cost_of tiers constraints answer.form r (kind_of tiers constraints r v) column + n))
@@ -171,31 +185,53 @@ module _ (tiers : Tiers) (constraints : List Constraint) (answer : Answer) (give
         (next.0, (subst (λ x. Lists tiers constraints answer.stages.items r (moved tiers constraints r x column) next.0) same next.1.0, subst (λ x. p ≤ cost_of tiers constraints answer.form r x column + next.0) same next.1.1))
 
     -- from the start the count of the constraint remains
-    start_count_is : (p : ℕ) → Lists tiers constraints answer.stages.items r (kind_of tiers constraints r []) p → p ≡ start_potential answer.counts.items r
-    start_count_is p l =
-        let remain : IsRemaining tiers constraints answer.form r (kind_of tiers constraints r []) p = remains tiers constraints answer given r within (kind_of tiers constraints r []) p l in
-        elim (cases_lt 0 r) [
-          | inr none ↦ none_remains tiers constraints answer.form r (kind_of tiers constraints r []) p none remain ∙ sym (start_none answer.counts.items r none)
-          | inl ranked ↦
-              (let least : IsLeastRest tiers constraints answer.form r (kind_of tiers constraints r []) p = least_rest tiers constraints answer.form r (kind_of tiers constraints r []) p ranked remain in
-              let E : List (List Sym) = answer.example in
-              let best : IsOptimalFor tiers constraints answer.form (r - 1) E = example_optimal (r - 1) (omega arith) in
-              let low : p ≤ walk_cost tiers constraints answer.form r stage (r - 1) (kind_of tiers constraints r []) E = rest_least tiers constraints answer.form r stage ranked (kind_of tiers constraints r []) p least [] E best refl in
-              let rest = rest_some tiers constraints answer.form r stage ranked (kind_of tiers constraints r []) p least in
-              let U : List (List Sym) = rest.rest in
-              let c : IsCandidate tiers answer.form U = swapped tiers constraints answer given r within rest.before [] U (E, best.candidate) rest.optimal.candidate rest.of_kind in
-              let other : IsOptimalFor tiers constraints answer.form (r - 1) U =
-              exchanged tiers constraints answer given (r - 1) (omega arith) told rest.before [] U rest.optimal c (same_fewer tiers constraints (r - 1) r (omega arith) rest.before [] rest.of_kind) (λ j a b. tt) in
-              let other_count : get_or (vec constraints U) (r - 1) 0 ≡ p =
-              violations_walk tiers constraints answer.form r stage ranked U c ∙ ap (λ k. walk_cost tiers constraints answer.form r stage (r - 1) k U) (sym rest.of_kind) ∙ rest.costs in
-              let same : vec_cmp (take (r - 1) (vec constraints E)) (take (r - 1) (vec constraints U)) ≡ Equal =
-              both_equal (take (r - 1) (vec constraints E)) (take (r - 1) (vec constraints U)) (best.least U c) (other.least E best.candidate) in
-              let high : get_or (vec constraints E) (r - 1) 0 ≤ get_or (vec constraints U) (r - 1) 0 =
-              at_most_last r ranked (vec constraints E) (vec constraints U) (omega (arith, within, length-map constraints (λ c. violations_of c E))) (omega (arith, within, length-map constraints (λ c. violations_of c U)))
-              ((example_optimal r within).least U c) same in
-              let total : p ≡ get_or (vec constraints E) (r - 1) 0 = omega (arith, low, high, other_count, violations_walk tiers constraints answer.form r stage ranked E best.candidate) in
-              total ∙ ap (λ (ns : List ℕ). get_or ns (r - 1) 0) (sym (counts_are tiers constraints answer given)) ∙ sym (start_count answer.counts.items r ranked))
-        ]
+    module _ (p : ℕ) (here : Lists tiers constraints answer.stages.items r (kind_of tiers constraints r []) p) where
+      remaining_first : IsRemaining tiers constraints answer.form r (kind_of tiers constraints r []) p
+      remaining_first = remains tiers constraints answer given r within (kind_of tiers constraints r []) p here
+
+      best : IsOptimalFor tiers constraints answer.form (r - 1) answer.example
+      best = example_optimal (r - 1) (omega arith)
+
+      module _ (ranked : 1 ≤ r) where
+        least : IsLeastRest tiers constraints answer.form r (kind_of tiers constraints r []) p
+        least = least_rest tiers constraints answer.form r (kind_of tiers constraints r []) p ranked remaining_first
+
+        low_first : p ≤ walk_cost tiers constraints answer.form r stage (r - 1) (kind_of tiers constraints r []) answer.example
+        low_first = rest_least tiers constraints answer.form r stage ranked (kind_of tiers constraints r []) p least [] answer.example best refl
+
+        -- a candidate that has no more, which goes on from the start as another does from the kind of the start
+        whole_rest : HasRest tiers constraints answer.form r stage (kind_of tiers constraints r []) p
+        whole_rest = rest_some tiers constraints answer.form r stage ranked (kind_of tiers constraints r []) p least
+
+        other : IsOptimalFor tiers constraints answer.form (r - 1) whole_rest.rest
+        other =
+            exchanged tiers constraints answer given (r - 1) (omega arith) told whole_rest.before [] whole_rest.rest whole_rest.optimal
+            (swapped tiers constraints answer given r within whole_rest.before [] whole_rest.rest (answer.example, best.candidate) whole_rest.optimal.candidate whole_rest.of_kind)
+            (same_fewer tiers constraints (r - 1) r (omega arith) whole_rest.before [] whole_rest.of_kind) (λ j a b. tt)
+
+        other_count : get_or (vec constraints whole_rest.rest) (r - 1) 0 ≡ p
+        other_count =
+            violations_walk tiers constraints answer.form r stage ranked whole_rest.rest other.candidate
+            ∙ ap (λ k. walk_cost tiers constraints answer.form r stage (r - 1) k whole_rest.rest) (sym whole_rest.of_kind) ∙ whole_rest.costs
+
+        high : get_or (vec constraints answer.example) (r - 1) 0 ≤ get_or (vec constraints whole_rest.rest) (r - 1) 0
+        high =
+            let E : List (List Sym) = answer.example in
+            let U : List (List Sym) = whole_rest.rest in
+            at_most_last r ranked (vec constraints E) (vec constraints U) (omega (arith, within, length-map constraints (λ c. violations_of c E))) (omega (arith, within, length-map constraints (λ c. violations_of c U)))
+            ((example_optimal r within).least U other.candidate)
+            (both_equal (take (r - 1) (vec constraints E)) (take (r - 1) (vec constraints U)) (best.least U other.candidate) (other.least E best.candidate))
+
+        counted : p ≡ start_potential answer.counts.items r
+        counted =
+            let total : p ≡ get_or (vec constraints answer.example) (r - 1) 0 = omega (arith, low_first, high, other_count, violations_walk tiers constraints answer.form r stage ranked answer.example best.candidate) in
+            total ∙ ap (λ (ns : List ℕ). get_or ns (r - 1) 0) (sym (counts_are tiers constraints answer given)) ∙ sym (start_count answer.counts.items r ranked)
+
+      start_count_is : p ≡ start_potential answer.counts.items r
+      start_count_is = elim (cases_lt 0 r) [
+        | inr none ↦ none_remains tiers constraints answer.form r (kind_of tiers constraints r []) p none remaining_first ∙ sym (start_none answer.counts.items r none)
+        | inl ranked ↦ counted ranked
+      ]
 
     pub stage_shown : IsShownStage tiers constraints answer.form answer.counts.items answer.stages.items r
     stage_shown = record {

@@ -1,5 +1,5 @@
 -- The automaton of a right answer is shown, and so is the answer.
-use Rattle.std.proofs.Common.{◌≡◌, ◌↔◌, ℕ, ◌+◌, ◌<◌, ◌≤◌, true, List, [], ◌∷◌, ◌++◌, take, length, refl, sym, ap, ◌∙◌, subst, arith, append_assoc, take_at, All, AllPairs, Contains}
+use Rattle.std.proofs.Common.{◌≡◌, ℕ, ◌+◌, ◌≤◌, List, [], ◌∷◌, ◌++◌, take, length, refl, sym, ap, ◌∙◌, subst, arith, append_assoc, take_at, All, AllPairs, Contains}
 use Rattle.std.specs.Cmp.{both_ways}
 use Rattle.std.specs.List.{AllByRecursion}
 use Rattle.std.proofs.lemmas.List.{length-append}
@@ -25,7 +25,7 @@ use Rattle.answer_text.specs.Shown.{IsKeptBelow, IsShownStage, IsShownAutomaton,
 use Rattle.check_laws.proofs.Members.{contains_map}
 use Rattle.check_laws.proofs.Listing.{one_number, one_kind}
 use Rattle.check_laws.proofs.Potentials.{over_at, goes_to, kept_from_falls}
-use Rattle.check_laws.proofs.Optima.{AreTold}
+use Rattle.check_laws.proofs.Optima.{AllFall, AreTold}
 use Rattle.check_laws.proofs.Continuing.{IsGiven, counts_are, told_by, falls_to, kept_longer, goes_on}
 use Rattle.check_laws.proofs.RightStages.{parted_passed, all_stages}
 use Rattle.check_laws.proofs.Leading.{leads_joined, leads_parts, one_state, leads_one}
@@ -105,46 +105,84 @@ module _ (tiers : Tiers) (constraints : List Constraint) (answer : Answer) (give
     here : IsReached n k
     here = reached n k c node
 
-    arc_kept : HasArc states n m column → IsKeptBelow tiers constraints answer.form answer.stages.items (last + 1) k column × IsNodeOf tiers constraints nodes m (moved tiers constraints last k column)
-    arc_kept arc =
-        let v : List (List Sym) = here.before in
-        let target : Contains (numbers_of states) m =
-        subst (Contains (numbers_of states)) arc.to (All-contains (λ (line : ArcLine). Contains (numbers_of states) line.target) arc.state.arcs.items arc.arc (All-contains (λ (state : StateLine). All (λ (line : ArcLine). Contains (numbers_of states) line.target) state.arcs.items) states arc.state targets arc.listed) arc.leaves) in
-        let passed = given.right.automaton.passed m target in
-        let there : IsReached m passed.0 = reached m passed.0 target passed.1.0 in
-        let q : List (List Sym) = there.rest in
-        let a : Accepts states (there.before ++ q) = (given.right.automaton.accepts (there.before ++ q)).1 there.optimal in
-        let parts = leads_parts states there.before q 0 a.last a.leads in
-        let onward : Leads states m q a.last = subst (λ i. Leads states i q a.last) (one_end there.before parts.0 m parts.1.0 there.leads) parts.1.1 in
-        let step : Leads states 0 (v ++ column ∷ []) m = leads_joined states v (column ∷ []) 0 n m here.leads (m, (arc, refl)) in
-        let whole : IsOptimalFor tiers constraints answer.form last ((v ++ column ∷ []) ++ q) =
-        (given.right.automaton.accepts ((v ++ column ∷ []) ++ q)).0 (record { last = a.last; leads = leads_joined states (v ++ column ∷ []) q 0 m a.last step onward; final = a.final }) in
-        let through : IsOptimalFor tiers constraints answer.form last (v ++ column ∷ q) = subst (IsOptimalFor tiers constraints answer.form last) (append_assoc v (column ∷ []) q) whole in
-        let kept : IsKeptBelow tiers constraints answer.form answer.stages.items (last + 1) (kind_of tiers constraints last v) column =
-        kept_from_falls tiers constraints answer.form answer.stages.items given.split given.form given.over (last + 1) last (omega arith) (omega arith) v column q through.candidate
-        (λ j b l. (falls_to tiers constraints answer given last told v (column ∷ q) through j b (omega arith)).1.0) in
-        let read = reads_to (v ++ column ∷ []) q whole in
-        let number : read.0 ≡ m = one_end (v ++ column ∷ []) read.0 m read.1.0 step in
-        let kind : kind_of tiers constraints last (v ++ column ∷ []) ≡ moved tiers constraints last k column =
-        sym (goes_to tiers constraints answer.form answer.stages.items given.split given.form given.over last (omega arith) v column (q, whole.candidate)) ∙ ap (λ x. moved tiers constraints last x column) here.of_kind in (
-          subst (λ x. IsKeptBelow tiers constraints answer.form answer.stages.items (last + 1) x column) here.of_kind kept,
-          subst (IsNodeOf tiers constraints nodes m) kind (subst (λ i. IsNodeOf tiers constraints nodes i (kind_of tiers constraints last (v ++ column ∷ []))) number read.1.1),
-        )
+    -- An arc goes on from the prefix that is read up to its state, and some optimal candidate goes on from its target.
+    module _ (arc : HasArc states n m column) where
+      target : Contains (numbers_of states) m
+      target =
+          subst (Contains (numbers_of states)) arc.to
+          (All-contains (λ (line : ArcLine). Contains (numbers_of states) line.target) arc.state.arcs.items arc.arc
+          (All-contains (λ (state : StateLine). All (λ (line : ArcLine). Contains (numbers_of states) line.target) state.arcs.items) states arc.state targets arc.listed) arc.leaves)
 
-    kept_arc : IsKeptBelow tiers constraints answer.form answer.stages.items (last + 1) k column → IsNodeOf tiers constraints nodes m (moved tiers constraints last k column) → HasArc states n m column
-    kept_arc kept target =
-        let v : List (List Sym) = here.before in
-        let more = kept_longer tiers constraints answer given last last (last + 1) (omega arith) (omega arith) (λ j a b. omega arith) told v here.rest here.optimal column
-        (subst (λ x. IsKeptBelow tiers constraints answer.form answer.stages.items (last + 1) x column) (sym here.of_kind) kept) in
-        let far = goes_on tiers constraints answer given last (omega arith) all_shown (v ++ column ∷ []) more.0 more.1 in
-        let read = reads_to (v ++ column ∷ []) far.0 far.1 in
-        let kind : moved tiers constraints last k column ≡ kind_of tiers constraints last (v ++ column ∷ []) =
-        ap (λ x. moved tiers constraints last x column) (sym here.of_kind) ∙ goes_to tiers constraints answer.form answer.stages.items given.split given.form given.over last (omega arith) v column more.0 in
-        let number : read.0 ≡ m = same_number (kind_of tiers constraints last (v ++ column ∷ [])) read.0 m read.1.1 (subst (IsNodeOf tiers constraints nodes m) kind target) in
-        let parts = leads_parts states v (column ∷ []) 0 read.0 read.1.0 in
-        let start : parts.0 ≡ n = one_end v parts.0 n parts.1.0 here.leads in
-        let step = parts.1.1 in
-        subst (λ i. HasArc states n i column) (step.1.1 ∙ number) (subst (λ i. HasArc states i step.0 column) start step.1.0)
+      there : (l : PrefixKind) × IsReached m l
+      there = let passed = given.right.automaton.passed m target in (passed.0, reached m passed.0 target passed.1.0)
+
+      longer : List (List Sym)
+      longer = here.before ++ column ∷ []
+
+      step : Leads states 0 longer m
+      unfolding longer
+      step = leads_joined states here.before (column ∷ []) 0 n m here.leads (m, (arc, refl))
+
+      accepted : Accepts states (longer ++ there.1.rest)
+      accepted =
+          let q : List (List Sym) = there.1.rest in
+          let a : Accepts states (there.1.before ++ q) = (given.right.automaton.accepts (there.1.before ++ q)).1 there.1.optimal in
+          let parts = leads_parts states there.1.before q 0 a.last a.leads in
+          let onward : Leads states m q a.last = subst (λ i. Leads states i q a.last) (one_end there.1.before parts.0 m parts.1.0 there.1.leads) parts.1.1 in
+          record { last = a.last; leads = leads_joined states longer q 0 m a.last step onward; final = a.final }
+
+      whole : IsOptimalFor tiers constraints answer.form last (longer ++ there.1.rest)
+      whole = (given.right.automaton.accepts (longer ++ there.1.rest)).0 accepted
+
+      through : IsOptimalFor tiers constraints answer.form last (here.before ++ column ∷ there.1.rest)
+      unfolding longer
+      through = subst (IsOptimalFor tiers constraints answer.form last) (append_assoc here.before (column ∷ []) there.1.rest) whole
+
+      target_kind : kind_of tiers constraints last longer ≡ moved tiers constraints last k column
+      unfolding longer
+      target_kind =
+          sym (goes_to tiers constraints answer.form answer.stages.items given.split given.form given.over last (omega arith) here.before column (there.1.rest, whole.candidate))
+          ∙ ap (λ x. moved tiers constraints last x column) here.of_kind
+
+      target_node : IsNodeOf tiers constraints nodes m (kind_of tiers constraints last longer)
+      target_node =
+          let read = reads_to longer there.1.rest whole in
+          subst (λ i. IsNodeOf tiers constraints nodes i (kind_of tiers constraints last longer)) (one_end longer read.0 m read.1.0 step) read.1.1
+
+      arc_kept : IsKeptBelow tiers constraints answer.form answer.stages.items (last + 1) k column × IsNodeOf tiers constraints nodes m (moved tiers constraints last k column)
+      arc_kept = (
+        subst (λ x. IsKeptBelow tiers constraints answer.form answer.stages.items (last + 1) x column) here.of_kind
+            (kept_from_falls tiers constraints answer.form answer.stages.items given.split given.form given.over (last + 1) last (omega arith) (omega arith) here.before column there.1.rest through.candidate
+            (λ j b l. (falls_to tiers constraints answer given last told here.before (column ∷ there.1.rest) through j b (omega arith)).1.0)),
+        subst (IsNodeOf tiers constraints nodes m) target_kind target_node,
+      )
+
+    -- A kept move goes on from that prefix to an optimal candidate, which is read by an arc on the column.
+    module _ (kept : IsKeptBelow tiers constraints answer.form answer.stages.items (last + 1) k column) (node_there : IsNodeOf tiers constraints nodes m (moved tiers constraints last k column)) where
+      more : BeginsCandidate tiers answer.form (here.before ++ column ∷ []) × AllFall tiers constraints answer.form answer.stages.items last (here.before ++ column ∷ [])
+      more =
+          kept_longer tiers constraints answer given last last (last + 1) (omega arith) (omega arith) (λ j a b. omega arith) told here.before here.rest here.optimal column
+          (subst (λ x. IsKeptBelow tiers constraints answer.form answer.stages.items (last + 1) x column) (sym here.of_kind) kept)
+
+      far : (q : List (List Sym)) × IsOptimalFor tiers constraints answer.form last ((here.before ++ column ∷ []) ++ q)
+      far = goes_on tiers constraints answer given last (omega arith) all_shown (here.before ++ column ∷ []) more.0 more.1
+
+      kind_there : moved tiers constraints last k column ≡ kind_of tiers constraints last (here.before ++ column ∷ [])
+      kind_there =
+          ap (λ x. moved tiers constraints last x column) (sym here.of_kind)
+          ∙ goes_to tiers constraints answer.form answer.stages.items given.split given.form given.over last (omega arith) here.before column more.0
+
+      read_there : (i : ℕ) × (Leads states 0 (here.before ++ column ∷ []) i × (i ≡ m))
+      read_there =
+          let read = reads_to (here.before ++ column ∷ []) far.0 far.1 in
+          (read.0, (read.1.0, same_number (kind_of tiers constraints last (here.before ++ column ∷ [])) read.0 m read.1.1 (subst (IsNodeOf tiers constraints nodes m) kind_there node_there)))
+
+      kept_arc : HasArc states n m column
+      kept_arc =
+          let parts = leads_parts states here.before (column ∷ []) 0 read_there.0 read_there.1.0 in
+          let start : parts.0 ≡ n = one_end here.before parts.0 n parts.1.0 here.leads in
+          let arc = parts.1.1 in
+          subst (λ i. HasArc states n i column) (arc.1.1 ∙ read_there.1.1) (subst (λ i. HasArc states i arc.0 column) start arc.1.0)
 
   automaton_shown : IsShownAutomaton tiers constraints answer.form answer.stages.items states
   automaton_shown = record {

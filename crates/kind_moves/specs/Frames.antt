@@ -9,6 +9,7 @@ use Rattle.tier_core.specs.Tables.{tiers_of_table}
 use Rattle.tier_core.specs.Tiers.{Tiers}
 use Rattle.violation.specs.Moves.{FitsKind, is_tier_open, moved}
 use Rattle.violation.specs.Prefixes.{kind_of, stretches}
+pub use Rattle.violation.specs.Phases.{is_closed, is_left_open, AreClosedOr}
 use Rattle.kind_moves.specs.declared.frame.Frame.{Frame}
 
 -- the tiers of a frame's grammar, its constraints in ranked order, and its form
@@ -28,22 +29,6 @@ stretches_in frame stage = stretches (constraints_in frame) stage
 -- the kind that the bits of a kind tell at a stage
 abbrev pub kind_at_stage : Frame → ℕ → Kind → PrefixKind
 kind_at_stage frame stage kind = prefix_kind (length (tiers_in frame).free) (length (stretches_in frame stage)) kind
-
-abbrev pub is_closed : Phase → Bool
-is_closed closed = true
-is_closed unmet = false
-is_closed met = false
-
--- whether the tiers of a constraint's left types are all open at a kind
-abbrev pub is_left_open : Tiers → List (List Sym) → PrefixKind → Constraint → Bool
-is_left_open tiers u k c = list_all (λ e. is_tier_open tiers u k e.tier) c.left
-
--- constraints have as many phases, and each is closed exactly where some left tier is not open
-abbrev pub AreClosedOr : (Constraint → Bool) → List Constraint → List Phase → Type 0
-AreClosedOr is_open [] [] = Unit {0}
-AreClosedOr is_open [] (phase ∷ phases) = ⊥
-AreClosedOr is_open (c ∷ cs) [] = ⊥
-AreClosedOr is_open (c ∷ cs) (phase ∷ phases) = (is_closed phase ≡ not (is_open c)) × AreClosedOr is_open cs phases
 
 -- A kind fits a frame at a stage: its place is in the form, its bits are those of the free tiers
 -- and of the stage's stretch implications, and a phase is closed exactly where a left tier is.

@@ -28,7 +28,7 @@ use Rattle.stage_laws.specs.StageTables.{IsStage, name_of, GoesAsKinds, AreNamed
 use Rattle.stage_laws.specs.FoundTables.{HaveAllMoves}
 use Rattle.stage_laws.proofs.Paths.{IsParted, run_exists, parted}
 use Rattle.stage_laws.proofs.Naming.{path_kind, same_state}
-use Rattle.stage_laws.proofs.Following.{all_optimal}
+use Rattle.violation.proofs.StageLemmas.{all_optimal}
 use Rattle.stage_laws.proofs.Complete.{complete_words}
 use Rattle.kind_orders.specs.Automata.{Reaches}
 use Rattle.kind_orders.proofs.Members.{contains_map, contains_of_map}

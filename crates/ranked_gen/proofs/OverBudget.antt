@@ -28,8 +28,9 @@ use Rattle.violation.specs.Stages.{IsPassed, AreKindsOfStage}
 use Rattle.violation.specs.Walks.{reached}
 use Rattle.violation.proofs.WalkLemmas.{moves_begin, reached_is}
 use Rattle.stage_laws.specs.StageTables.{IsStage, name_of, AreNamedByKinds}
-use Rattle.stage_laws.proofs.Cuts.{cut-kind_of}
-use Rattle.stage_laws.proofs.Naming.{path_kind, over_stretches}
+use Rattle.violation.proofs.CutLemmas.{cut-kind_of}
+use Rattle.stage_laws.proofs.Naming.{path_kind}
+use Rattle.violation.proofs.StageLemmas.{over_stretches}
 use Rattle.stage_laws.proofs.Paths.{IsParted, parted, joined_run, joined_reads, path_push}
 use Rattle.stage_tables.specs.Kept.{AreKeptByKinds}
 use Rattle.kind_orders.proofs.Members.{contains_map, contains_of_map}

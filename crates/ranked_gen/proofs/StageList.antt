@@ -12,7 +12,7 @@ use Rattle.violation.specs.Counts.{violations_of}
 use Rattle.answer_text.specs.declared.stage.Stage.{Stage}
 use Rattle.answer_text.specs.declared.answer.Answer.{Answer}
 use Rattle.answer_text.specs.Right.{IsRightStage, IsRightAutomaton, IsRight, nodes_at}
-use Rattle.stage_laws.proofs.Optimal.{optimal_for_fewer}
+use Rattle.violation.proofs.StageLemmas.{optimal_for_fewer}
 use Rattle.ranked_gen.specs.Budgets.{IsWithin, IsOver, IsFirstOver, AreAllWithin}
 use Rattle.ranked_gen.specs.Left.{AreStages}
 

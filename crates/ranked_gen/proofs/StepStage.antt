@@ -40,7 +40,8 @@ use Rattle.answer_text.specs.declared.stage.Node.{Node}
 use Rattle.answer_text.specs.Right.{kinds_at, IsRightStage}
 use Rattle.stage_laws.specs.StageTables.{IsStage, name_of, AreNamedByKinds, IsStageTable}
 use Rattle.stage_laws.specs.FoundTables.{names_kept}
-use Rattle.stage_laws.proofs.Naming.{path_kind, names_law, over_stretches}
+use Rattle.stage_laws.proofs.Naming.{path_kind, names_law}
+use Rattle.violation.proofs.StageLemmas.{over_stretches}
 use Rattle.stage_laws.proofs.Resting.{remaining_law, least_from, some_weight}
 use Rattle.stage_laws.proofs.Optimal.{all_words_law, number_law}
 use Rattle.stage_laws.proofs.Pruned.{kept_named}

@@ -15,7 +15,8 @@ use Rattle.violation.specs.Walks.{HasMoves, reached, BeginsCandidate}
 use Rattle.violation.proofs.WalkLemmas.{begun_of, walk_on, candidate_walk, candidate_final, moves_begin, moves_end, reached_is}
 use Rattle.stage_laws.specs.StageTables.{IsStage, name_of, GoesAsKinds, AreNamedByKinds}
 use Rattle.stage_laws.specs.FoundTables.{HasMoveOn, AreReached, HaveAllMoves}
-use Rattle.stage_laws.proofs.Naming.{over_stretches, path_moves}
+use Rattle.stage_laws.proofs.Naming.{path_moves}
+use Rattle.violation.proofs.StageLemmas.{over_stretches}
 use Rattle.stage_laws.proofs.Paths.{run_exists, run_path, path_word, reached_path}
 
 module _ (tiers : Tiers) (constraints : List Constraint) (u : List (List Sym)) (r : ℕ) (stage : IsStage tiers constraints u r) {W : Type 0} {g : Ghosts W} (names : List PrefixKind) (states : List (TableState W g)) (named : AreNamedByKinds tiers constraints u r names states) (all : HaveAllMoves tiers u names states) where

@@ -17,7 +17,7 @@ use Rattle.prune_best.proofs.Words.{some_word}
 use Rattle.violation.specs.Moves.{FitsKind, moved, is_final, cut}
 use Rattle.stage_laws.specs.StageTables.{IsStage, name_of, GoesAsKinds, AreNamedByKinds}
 use Rattle.stage_laws.specs.FoundTables.{HasMoveOn, base_of, AreFoundFrom}
-use Rattle.stage_laws.proofs.Cuts.{cut-moved, cut-kind_of, fits-cut}
+use Rattle.violation.proofs.CutLemmas.{cut-moved, cut-kind_of, fits-cut}
 use Rattle.stage_laws.proofs.Naming.{same_state}
 use Rattle.stage_laws.proofs.Paths.{reached_path}
 

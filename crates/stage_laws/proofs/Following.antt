@@ -9,11 +9,8 @@ use Rattle.tier_core.specs.Kinds.{PrefixKind}
 use Rattle.arc_table.specs.declared.state.TableState.{TableState}
 use Rattle.arc_table.specs.Runs.{Accepts, IsOnRun}
 use Rattle.violation.specs.Candidates.{IsCandidate, IsOptimalFor}
+use Rattle.violation.proofs.StageLemmas.{all_optimal}
 use Rattle.stage_laws.specs.StageTables.{AreNamedByKinds, AreWeighed, IsStageTable}
-
--- each candidate is 0-optimal
-pub all_optimal : (tiers : Tiers) (constraints : List Constraint) (u T : List (List Sym)) → IsCandidate tiers u T → IsOptimalFor tiers constraints u 0 T
-all_optimal tiers constraints u T c = record { candidate = c; least = λ U d. refl }
 
 pub first_table : (tiers : Tiers) (constraints : List Constraint) (u : List (List Sym)) {g : Ghosts Count} (names : List PrefixKind) (states : List (TableState Count g))
     → AreNamedByKinds tiers constraints u 0 names states → AreWeighed tiers constraints u 0 names states → ((T : List (List Sym)) → Accepts states T ↔ IsCandidate tiers u T) → ((s : ℕ) → s < length states → IsOnRun states s) → IsStageTable tiers constraints u 0 names states

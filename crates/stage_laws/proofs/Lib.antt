@@ -1,14 +1,10 @@
 pub mod Paths
 pub mod Naming
-pub mod WalkSums
 pub mod Weighing
 pub mod Resting
-pub mod Vectors
 pub mod Optimal
-pub mod Cuts
 pub mod Following
 pub mod Pruned
 pub mod Exploring
 pub mod Staged
 pub mod Complete
-pub mod LeastVector

@@ -20,19 +20,12 @@ use Rattle.violation.specs.Conditions.{IsOverTiers}
 use Rattle.violation.specs.Prefixes.{kind_of, stretches}
 use Rattle.violation.specs.Stages.{Passes, IsPassed}
 use Rattle.violation.specs.Walks.{HasMoves, reached}
+use Rattle.violation.proofs.StageLemmas.{over_stretches}
 use Rattle.violation.proofs.WalkLemmas.{reached_is}
 use Rattle.stage_laws.specs.StageTables.{IsStage, name_of, GoesAsKinds, AreNamedByKinds}
 use Rattle.stage_laws.proofs.Paths.{IsParted, run_exists, parted, joined_run, joined_reads, path_word}
 
 module _ (tiers : Tiers) (constraints : List Constraint) (u : List (List Sym)) (r : ℕ) (stage : IsStage tiers constraints u r) where
-  pub over_first : AllByRecursion (IsOverTiers tiers.width) (take r constraints)
-  over_first = recursion_from_All (IsOverTiers tiers.width) (take r constraints) (All-take (IsOverTiers tiers.width) r constraints (All-from_recursion (IsOverTiers tiers.width) constraints stage.over))
-
-  pub over_stretches : AllByRecursion (IsOverTiers tiers.width) (stretches constraints r)
-  over_stretches =
-      recursion_from_All (IsOverTiers tiers.width) (stretches constraints r)
-      (All-filter is_stretch (IsOverTiers tiers.width) (take r constraints) (All-take (IsOverTiers tiers.width) r constraints (All-from_recursion (IsOverTiers tiers.width) constraints stage.over)))
-
   module _ {W : Type 0} {g : Ghosts W} (names : List PrefixKind) (states : List (TableState W g)) where
     module _ (named : AreNamedByKinds tiers constraints u r names states) where
       -- a path reads moves of kinds, from the name of its first state to that of its last
@@ -54,7 +47,7 @@ module _ (tiers : Tiers) (constraints : List Constraint) (u : List (List Sym)) (
       path_kind arcs s p path reads =
           let walk = path_moves arcs p 0 s path reads in
           let moves : HasMoves tiers constraints r u (kind_of tiers constraints r []) p = subst (λ k. HasMoves tiers constraints r u k p) named.start walk.0 in
-          sym walk.1 ∙ ap (λ k. reached tiers constraints r k p) named.start ∙ reached_is tiers constraints r u stage.split stage.form over_stretches p moves
+          sym walk.1 ∙ ap (λ k. reached tiers constraints r k p) named.start ∙ reached_is tiers constraints r u stage.split stage.form (over_stretches tiers constraints u r stage) p moves
 
       -- a state has a name of its own
       pub same_state : (s t : ℕ) → s < length states → t < length states → name_of names s ≡ name_of names t → s ≡ t

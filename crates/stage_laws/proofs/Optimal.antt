@@ -16,17 +16,11 @@ use Rattle.arc_table.specs.Runs.{weight_of, AcceptingRun, Accepts, IsLeastWord, 
 use Rattle.prune_best.proofs.Words.{some_word}
 use Rattle.violation.specs.Candidates.{IsCandidate, vec, vec_cmp, IsAtMost, IsOptimalFor, IsLeastVector}
 use Rattle.violation.specs.Counts.{violations_of}
+use Rattle.violation.proofs.StageLemmas.{optimal_for_fewer}
 use Rattle.stage_laws.specs.StageTables.{IsStage, IsStageTable}
 use Rattle.stage_laws.proofs.Resting.{at_most_le, le_at_most, first_weight}
-use Rattle.stage_laws.proofs.Vectors.{at_most_fewer, both_equal, equal_at_most, at_most_last, at_most_by_last}
+use Rattle.violation.proofs.VectorLemmas.{both_equal, equal_at_most, at_most_last, at_most_by_last}
 use Rattle.stage_laws.proofs.Weighing.{run_weight_law}
-
--- what is optimal for more constraints is so for fewer
-pub optimal_for_fewer : (tiers : Tiers) (constraints : List Constraint) (u : List (List Sym)) (n m : ℕ) → n ≤ m → (T : List (List Sym)) → IsOptimalFor tiers constraints u m T → IsOptimalFor tiers constraints u n T
-optimal_for_fewer tiers constraints u n m l T opt = record {
-  candidate = opt.candidate;
-  least = λ U c. at_most_fewer n m (vec constraints T) (vec constraints U) l (opt.least U c);
-}
 
 module _ (tiers : Tiers) (constraints : List Constraint) (u : List (List Sym)) (r : ℕ) (stage : IsStage tiers constraints u r) {g : Ghosts Count} (meaning : g.meaning ≡ count_meaning) (names : List PrefixKind) (states : List (TableState Count g)) (table : IsStageTable tiers constraints u r names states) (ranked : 1 ≤ r) where
   within : (T : List (List Sym)) → r ≤ length (vec constraints T)

@@ -24,7 +24,8 @@ use Rattle.violation.specs.Walks.{walk_costs}
 use Rattle.violation.proofs.CostLemmas.{length_walk}
 use Rattle.stage_laws.specs.StageTables.{IsStage, name_of, IsStageTable}
 use Rattle.stage_laws.proofs.Paths.{IsParted, run_exists, path_word}
-use Rattle.stage_laws.proofs.Naming.{over_first, path_kind, same_state, passes_state, passed_state}
+use Rattle.stage_laws.proofs.Naming.{path_kind, same_state, passes_state, passed_state}
+use Rattle.violation.proofs.StageLemmas.{over_first}
 use Rattle.stage_laws.proofs.Weighing.{run_weight, rest_weight}
 
 pub le_from_test : (x y : ℕ) → nat_lt y x ≡ false → x ≤ y

@@ -20,7 +20,7 @@ use Rattle.violation.specs.Moves.{move_costs, costs, costs_each, first_phase, is
 use Rattle.violation.specs.Prefixes.{kind_of}
 use Rattle.stage_laws.specs.StageTables.{IsStage, name_of, GoesAsKinds, AreNamedByKinds, AreWeighed, IsStageTable}
 use Rattle.stage_laws.proofs.Paths.{run_path}
-use Rattle.stage_laws.proofs.WalkSums.{none_at, walk_cost, walk_step, violations_walk, violations_on, so_far_walk}
+use Rattle.violation.proofs.WalkSums.{none_at, walk_cost, walk_step, violations_walk, violations_on, so_far_walk}
 
 module _ (tiers : Tiers) (constraints : List Constraint) (u : List (List Sym)) (r : ℕ) (stage : IsStage tiers constraints u r) {g : Ghosts Count} (meaning : g.meaning ≡ count_meaning) (names : List PrefixKind) (states : List (TableState Count g)) where
   weight_nil : (weight_of (let none : List (TableArc Count g) = [] in none)).0 ≡ 0

@@ -26,21 +26,12 @@ use Rattle.violation.specs.Candidates.{IsForm, IsOptimalFor}
 use Rattle.violation.specs.Conditions.{AreSplit, IsOverTiers}
 use Rattle.violation.specs.Moves.{FitsKind, moved, move_costs, is_final}
 use Rattle.violation.specs.Prefixes.{kind_of}
-
--- what every stage of a grammar and a form meets: stage r looks at the first r constraints
-pub record IsStage (tiers : Tiers) (constraints : List Constraint) (u : List (List Sym)) (r : ℕ) : Type 0 where
-  pub split : AreSplit tiers
-  pub form : IsForm tiers u
-  pub over : AllByRecursion (IsOverTiers tiers.width) constraints
-  pub within : r ≤ length constraints
+pub use Rattle.violation.specs.Moves.{cost_of}
+pub use Rattle.violation.specs.Stages.{IsStage}
 
 -- the kind that names a state
 abbrev pub name_of : List PrefixKind → ℕ → PrefixKind
 name_of names s = slice_index_or names s (record { place = 0; opened = []; phases = [] })
-
--- what a column costs from a kind under constraint r, counted from 1; 0 where r is 0
-abbrev pub cost_of : Tiers → List Constraint → List (List Sym) → ℕ → PrefixKind → List Sym → ℕ
-cost_of tiers constraints u r k column = slice_index_or (move_costs tiers constraints u r k column) (r - 1) 0
 
 -- On a column, a move from state s goes as the kinds do that name the states: the column fits the
 -- name of s, and leads to the name of the target.

@@ -18,5 +18,10 @@ pub mod CompletionLemmas
 pub mod WalkLemmas
 pub mod SplitLemmas
 pub mod CostLemmas
+pub mod VectorLemmas
+pub mod LeastVector
+pub mod StageLemmas
+pub mod CutLemmas
+pub mod WalkSums
 pub mod CandidateLemmas
 pub mod ExampleLemmas

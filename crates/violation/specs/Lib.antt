@@ -4,6 +4,7 @@ pub mod Prefixes
 pub mod Stages
 pub mod Columns
 pub mod Moves
+pub mod Phases
 pub mod Walks
 pub mod Conditions
 pub mod Examples

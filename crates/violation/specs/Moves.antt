@@ -1,6 +1,6 @@
 -- Moves of kinds: from the kind of a prefix, by one more column, to the kind of the longer prefix
 -- (this project). Ellison (1994) walks the paths of an automaton so; here its states are kinds.
-use Rattle.std.specs.Prelude.{ℕ, ◌+◌, ◌==◌, ◌≡◌, ◌<◌, ◌⊎◌, Bool, true, false, not, ◌&&◌, ◌||◌, if◌then◌else◌, IsTrue, List, [], ◌∷◌, ◌++◌, length, map, take, drop}
+use Rattle.std.specs.Prelude.{ℕ, ◌+◌, ◌-◌, ◌==◌, ◌≡◌, ◌<◌, ◌⊎◌, Bool, true, false, not, ◌&&◌, ◌||◌, if◌then◌else◌, IsTrue, List, [], ◌∷◌, ◌++◌, length, map, take, drop, slice_index_or}
 use Rattle.std.specs.List.{list_all, list_any, range_with_len}
 use Rattle.tier_core.specs.declared.sym.Sym.{Sym}
 use Rattle.tier_core.specs.declared.event.Event.{Event}
@@ -104,6 +104,10 @@ costs_each (c ∷ cs) opened phases column =
 -- the costs of the move from a kind under the first r constraints by a column: one for each of these
 abbrev pub move_costs : Tiers → List Constraint → List (List Sym) → ℕ → PrefixKind → List Sym → List ℕ
 move_costs tiers constraints u r k column = costs_each (take r constraints) (is_tier_open tiers u k) k.phases column
+
+-- what a column costs from a kind under constraint r, counted from 1; 0 where r is 0
+abbrev pub cost_of : Tiers → List Constraint → List (List Sym) → ℕ → PrefixKind → List Sym → ℕ
+cost_of tiers constraints u r k column = slice_index_or (move_costs tiers constraints u r k column) (r - 1) 0
 
 -- a kind cut to the first r constraints
 abbrev pub cut : List Constraint → ℕ → PrefixKind → PrefixKind

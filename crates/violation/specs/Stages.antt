@@ -1,13 +1,22 @@
 -- Stages: the kinds of prefixes that are left when the candidates have been pruned by the
 -- constraints one by one, and what remains to be counted from each (this project).
 use Rattle.std.specs.Prelude.{ℕ, zero, suc, ◌+◌, ◌-◌, ◌≡◌, ◌≤◌, ◌↔◌, List, length, take, slice_index_or, Contains}
+use Rattle.std.specs.List.{AllByRecursion}
 use Rattle.std.specs.List.Sorted.{IsStrictlySortedBy}
 use Rattle.tier_core.specs.declared.sym.Sym.{Sym}
 use Rattle.tier_core.specs.declared.constraint.Constraint.{Constraint}
 use Rattle.tier_core.specs.Tiers.{Tiers}
 use Rattle.tier_core.specs.Kinds.{PrefixKind, kind_order}
-use Rattle.violation.specs.Candidates.{vec, vec_so_far, IsOptimalFor}
+use Rattle.violation.specs.Candidates.{vec, vec_so_far, IsForm, IsOptimalFor}
+use Rattle.violation.specs.Conditions.{AreSplit, IsOverTiers}
 use Rattle.violation.specs.Prefixes.{kind_of}
+
+-- what every stage of a grammar and a form meets: stage r looks at the first r constraints
+pub record IsStage (tiers : Tiers) (constraints : List Constraint) (u : List (List Sym)) (r : ℕ) : Type 0 where
+  pub split : AreSplit tiers
+  pub form : IsForm tiers u
+  pub over : AllByRecursion (IsOverTiers tiers.width) constraints
+  pub within : r ≤ length constraints
 
 -- T is r-optimal, and its first n columns have the kind k under the first s constraints
 pub record Passes (tiers : Tiers) (constraints : List Constraint) (u : List (List Sym)) (r s : ℕ) (k : PrefixKind) (T : List (List Sym)) (n : ℕ) : Type 0 where

@@ -1,5 +1,5 @@
 use Rattle.std.proofs.Common.{refl}
-use Rattle.stage_laws.proofs.Cuts.{cut-moved, cut-kind_of, fits-cut}
+use Rattle.violation.proofs.CutLemmas.{cut-moved, cut-kind_of, fits-cut}
 use Rattle.stage_laws.proofs.next.cut_kinds_go_alike.Goals as goal
 
 pub returns-clause-moves : goal.returns-clause-moves

@@ -11,7 +11,7 @@ use Rattle.tier_core.specs.declared.constraint.Constraint.{Constraint}
 use Rattle.tier_core.specs.Tiers.{Tiers}
 use Rattle.violation.specs.Candidates.{vec, vec_cmp, IsOptimal, IsLeastVector}
 use Rattle.violation.specs.Counts.{violations_of}
-use Rattle.stage_laws.proofs.Vectors.{both_equal}
+use Rattle.violation.proofs.VectorLemmas.{both_equal}
 
 -- vectors that compare as equal are one
 same_vector : (a b : List ℕ) → vec_cmp a b ≡ Equal → a ≡ b

@@ -13,8 +13,8 @@ use Rattle.violation.specs.Prefixes.{kind_of}
 use Rattle.violation.specs.Walks.{HasMoves, reached, add_each, walk_costs}
 use Rattle.violation.proofs.CostLemmas.{length_walk, costs_on, costs_sum, length_costs}
 use Rattle.violation.proofs.WalkLemmas.{candidate_walk, reached_is}
-use Rattle.stage_laws.specs.StageTables.{IsStage}
-use Rattle.stage_laws.proofs.Naming.{over_first, over_stretches}
+use Rattle.violation.specs.Stages.{IsStage}
+use Rattle.violation.proofs.StageLemmas.{over_first, over_stretches}
 
 -- a sum of two lists of one length, at a place
 add_at : (a b : List ℕ) (i : ℕ) → length a ≡ length b → get_or (add_each a b) i 0 ≡ get_or a i 0 + get_or b i 0
@@ -40,7 +40,7 @@ module _ (tiers : Tiers) (constraints : List Constraint) (u : List (List Sym)) (
       (length_costs (take r constraints) (is_tier_open tiers u k) k.phases column
       ∙ sym (length_walk tiers constraints r u stage.split stage.form (over_first tiers constraints u r stage) p (moved tiers constraints r k column)))
 
-  walk_append : (i : ℕ) (p q : List (List Sym)) (k : PrefixKind) → walk_cost i k (p ++ q) ≡ walk_cost i k p + walk_cost i (reached tiers constraints r k p) q
+  pub walk_append : (i : ℕ) (p q : List (List Sym)) (k : PrefixKind) → walk_cost i k (p ++ q) ≡ walk_cost i k p + walk_cost i (reached tiers constraints r k p) q
   walk_append i [] q k = omega (arith, none_at (take r constraints) i)
   walk_append i (column ∷ p) q k =
       omega (arith, walk_step i k column (p ++ q), walk_step i k column p, walk_append i p q (moved tiers constraints r k column))

@@ -1,0 +1,14 @@
+pub mod Members
+pub mod Listing
+pub mod Potentials
+pub mod Optima
+pub mod Reading
+pub mod Faithfulness
+pub mod RightAnswers
+pub mod Joining
+pub mod Rests
+pub mod Continuing
+pub mod Starts
+pub mod RightStages
+pub mod Leading
+pub mod RightStates

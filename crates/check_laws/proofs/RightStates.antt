@@ -1,0 +1,218 @@
+-- The automaton of a right answer is shown, and so is the answer.
+use Rattle.std.proofs.Common.{◌≡◌, ℕ, ◌+◌, ◌≤◌, List, [], ◌∷◌, ◌++◌, take, length, refl, sym, ap, ◌∙◌, subst, arith, append_assoc, take_at, All, AllPairs, Contains}
+use Rattle.std.specs.Cmp.{both_ways}
+use Rattle.std.specs.List.{AllByRecursion}
+use Rattle.std.proofs.lemmas.List.{length-append}
+use Rattle.std.proofs.lemmas.List.Elements.{All-contains}
+use Rattle.tier_core.specs.declared.sym.Sym.{Sym}
+use Rattle.tier_core.specs.declared.constraint.Constraint.{Constraint}
+use Rattle.tier_core.specs.Classes.{AreDisjoint}
+use Rattle.tier_core.specs.Kinds.{PrefixKind}
+use Rattle.tier_core.specs.Tiers.{Tiers}
+use Rattle.violation.specs.Candidates.{IsForm, IsCandidate, IsOptimalFor}
+use Rattle.violation.specs.Conditions.{AreSplit, IsOverTiers}
+use Rattle.violation.specs.Moves.{moved, is_final}
+use Rattle.violation.specs.Prefixes.{kind_of}
+use Rattle.violation.specs.Walks.{BeginsCandidate}
+use Rattle.violation.proofs.WalkLemmas.{begun_of, candidate_final, final_candidate}
+use Rattle.answer_text.specs.declared.answer.Answer.{Answer}
+use Rattle.answer_text.specs.declared.automaton.ArcLine.{ArcLine}
+use Rattle.answer_text.specs.declared.automaton.StateLine.{StateLine}
+use Rattle.answer_text.specs.declared.stage.Node.{Node}
+use Rattle.answer_text.specs.Acceptance.{HasArc, Leads, Accepts}
+use Rattle.answer_text.specs.Right.{nodes_at, IsNodeOf, numbers_of, IsRight}
+use Rattle.answer_text.specs.Shown.{IsKeptBelow, IsShownStage, IsShownAutomaton, IsShown}
+use Rattle.check_laws.proofs.Members.{contains_map}
+use Rattle.check_laws.proofs.Listing.{one_number, one_kind}
+use Rattle.check_laws.proofs.Potentials.{over_at, goes_to, kept_from_falls}
+use Rattle.check_laws.proofs.Optima.{AllFall, AreTold}
+use Rattle.check_laws.proofs.Continuing.{IsGiven, counts_are, told_by, falls_to, kept_longer, goes_on}
+use Rattle.check_laws.proofs.RightStages.{parted_passed, all_stages}
+use Rattle.check_laws.proofs.Leading.{leads_joined, leads_parts, one_state, leads_one}
+
+module _ (tiers : Tiers) (constraints : List Constraint) (answer : Answer) (given : IsGiven tiers constraints answer) where
+  abbrev last : ℕ
+  last = length constraints
+
+  abbrev nodes : List Node
+  nodes = nodes_at answer.stages.items last
+
+  abbrev states : List StateLine
+  states = answer.automaton.states.items
+
+  all_shown : (j : ℕ) → 1 ≤ j → j ≤ last → IsShownStage tiers constraints answer.form answer.counts.items answer.stages.items j
+  all_shown j a w = all_stages tiers constraints answer given j w
+
+  told : AreTold tiers constraints answer.form answer.stages.items answer.example last
+  told = told_by tiers constraints answer given last (omega arith) all_shown
+
+  apart : All (λ state. AllPairs (λ a b. AreDisjoint a.class b.class) state.arcs.items) states
+  apart = λ i d l. (given.right.automaton.arcs i d l).apart
+
+  targets : All (λ state. All (λ arc. Contains (numbers_of states) arc.target) state.arcs.items) states
+  targets = λ i d l. (given.right.automaton.arcs i d l).targets
+
+  one_end : (q : List (List Sym)) (m l : ℕ) → Leads states 0 q m → Leads states 0 q l → m ≡ l
+  one_end q m l a b = leads_one states given.right.automaton.ascending apart q 0 m l a b
+
+  same_number : (k : PrefixKind) (m n : ℕ) → IsNodeOf tiers constraints nodes m k → IsNodeOf tiers constraints nodes n k → m ≡ n
+  same_number = one_number tiers constraints nodes (given.right.each_stage last (omega arith)).kinds.ascending
+
+  -- reading a prefix of an optimal candidate ends at its kind
+  reads_to : (v q : List (List Sym)) → IsOptimalFor tiers constraints answer.form last (v ++ q) → (m : ℕ) × (Leads states 0 v m × IsNodeOf tiers constraints nodes m (kind_of tiers constraints last v))
+  reads_to v q o =
+      let read = given.right.automaton.reads (v ++ q) (length v) o (omega (arith, length-append v q)) in
+      let front : take (length v) (v ++ q) ≡ v = take_at v q (length v) refl in
+      (read.0, (subst (λ w. Leads states 0 w read.0) front read.1.0, subst (λ w. IsNodeOf tiers constraints nodes read.0 (kind_of tiers constraints last w)) front read.1.2))
+
+  -- a state with its kind, a prefix of an optimal candidate that is read up to it, and what follows
+  pub record IsReached (n : ℕ) (k : PrefixKind) : Type 0 where
+    pub before : List (List Sym)
+    pub rest : List (List Sym)
+    pub optimal : IsOptimalFor tiers constraints answer.form (length constraints) (before ++ rest)
+    pub of_kind : kind_of tiers constraints (length constraints) before ≡ k
+    pub leads : Leads answer.automaton.states.items 0 before n
+
+  reached : (n : ℕ) (k : PrefixKind) → Contains (numbers_of states) n → IsNodeOf tiers constraints nodes n k → IsReached n k
+  reached n k c node =
+      let passed = given.right.automaton.passed n c in
+      let same : passed.0 ≡ k = one_kind tiers constraints nodes passed.0 k n passed.1.0 node in
+      let parts = parted_passed tiers constraints answer given last last passed.0 passed.1.1 in
+      let read = reads_to parts.0 parts.1.0 parts.1.1.0 in
+      let kind : kind_of tiers constraints last parts.0 ≡ k = parts.1.1.1 ∙ same in
+      let number : read.0 ≡ n = same_number k read.0 n (subst (IsNodeOf tiers constraints nodes read.0) kind read.1.1) node in
+      record { before = parts.0; rest = parts.1.0; optimal = parts.1.1.0; of_kind = kind; leads = subst (Leads states 0 parts.0) number read.1.0 }
+
+  finals : (state : StateLine) (k : PrefixKind) → Contains states state → IsNodeOf tiers constraints nodes state.node k → state.accepting ≡ is_final answer.form k
+  finals state k listed node =
+      let at : IsReached state.node k = reached state.node k (contains_map (λ (line : StateLine). line.node) states state listed) node in
+      let v : List (List Sym) = at.before in
+      both_ways state.accepting (is_final answer.form k)
+      (λ t.
+      let o = (given.right.automaton.accepts v).0 (record { last = state.node; leads = at.leads; final = record { state = state; listed = listed; numbered = refl; final = t } }) in
+      ap (is_final answer.form) (sym at.of_kind) ∙ candidate_final tiers constraints last answer.form given.split given.form (over_at tiers constraints answer.form answer.stages.items given.split given.form given.over last (omega arith)) v o.candidate)
+      (λ f.
+      let c : IsCandidate tiers answer.form v =
+      final_candidate tiers constraints last answer.form given.split given.form (over_at tiers constraints answer.form answer.stages.items given.split given.form given.over last (omega arith)) v
+      (begun_of tiers answer.form v at.rest at.optimal.candidate) (ap (is_final answer.form) at.of_kind ∙ f) in
+      let o : IsOptimalFor tiers constraints answer.form last v = (told.optimal v c).1 (λ j a b. (falls_to tiers constraints answer given last told v at.rest at.optimal j a b).0) in
+      let a : Accepts states v = (given.right.automaton.accepts v).1 o in
+      let end : a.last ≡ state.node = one_end v a.last state.node a.leads at.leads in
+      let same : a.final.state ≡ state = one_state states given.right.automaton.ascending a.final.state state a.final.listed listed (a.final.numbered ∙ end) in
+      ap (λ (line : StateLine). line.accepting) (sym same) ∙ a.final.final)
+
+  module _ (n m : ℕ) (k : PrefixKind) (column : List Sym) (c : Contains (numbers_of states) n) (node : IsNodeOf tiers constraints nodes n k) where
+    here : IsReached n k
+    here = reached n k c node
+
+    -- An arc goes on from the prefix that is read up to its state, and some optimal candidate goes on from its target.
+    module _ (arc : HasArc states n m column) where
+      target : Contains (numbers_of states) m
+      target =
+          subst (Contains (numbers_of states)) arc.to
+          (All-contains (λ (line : ArcLine). Contains (numbers_of states) line.target) arc.state.arcs.items arc.arc
+          (All-contains (λ (state : StateLine). All (λ (line : ArcLine). Contains (numbers_of states) line.target) state.arcs.items) states arc.state targets arc.listed) arc.leaves)
+
+      there : (l : PrefixKind) × IsReached m l
+      there = let passed = given.right.automaton.passed m target in (passed.0, reached m passed.0 target passed.1.0)
+
+      longer : List (List Sym)
+      longer = here.before ++ column ∷ []
+
+      step : Leads states 0 longer m
+      unfolding longer
+      step = leads_joined states here.before (column ∷ []) 0 n m here.leads (m, (arc, refl))
+
+      accepted : Accepts states (longer ++ there.1.rest)
+      accepted =
+          let q : List (List Sym) = there.1.rest in
+          let a : Accepts states (there.1.before ++ q) = (given.right.automaton.accepts (there.1.before ++ q)).1 there.1.optimal in
+          let parts = leads_parts states there.1.before q 0 a.last a.leads in
+          let onward : Leads states m q a.last = subst (λ i. Leads states i q a.last) (one_end there.1.before parts.0 m parts.1.0 there.1.leads) parts.1.1 in
+          record { last = a.last; leads = leads_joined states longer q 0 m a.last step onward; final = a.final }
+
+      whole : IsOptimalFor tiers constraints answer.form last (longer ++ there.1.rest)
+      whole = (given.right.automaton.accepts (longer ++ there.1.rest)).0 accepted
+
+      through : IsOptimalFor tiers constraints answer.form last (here.before ++ column ∷ there.1.rest)
+      unfolding longer
+      through = subst (IsOptimalFor tiers constraints answer.form last) (append_assoc here.before (column ∷ []) there.1.rest) whole
+
+      target_kind : kind_of tiers constraints last longer ≡ moved tiers constraints last k column
+      unfolding longer
+      target_kind =
+          sym (goes_to tiers constraints answer.form answer.stages.items given.split given.form given.over last (omega arith) here.before column (there.1.rest, whole.candidate))
+          ∙ ap (λ x. moved tiers constraints last x column) here.of_kind
+
+      target_node : IsNodeOf tiers constraints nodes m (kind_of tiers constraints last longer)
+      target_node =
+          let read = reads_to longer there.1.rest whole in
+          subst (λ i. IsNodeOf tiers constraints nodes i (kind_of tiers constraints last longer)) (one_end longer read.0 m read.1.0 step) read.1.1
+
+      arc_kept : IsKeptBelow tiers constraints answer.form answer.stages.items (last + 1) k column × IsNodeOf tiers constraints nodes m (moved tiers constraints last k column)
+      arc_kept = (
+        subst (λ x. IsKeptBelow tiers constraints answer.form answer.stages.items (last + 1) x column) here.of_kind
+            (kept_from_falls tiers constraints answer.form answer.stages.items given.split given.form given.over (last + 1) last (omega arith) (omega arith) here.before column there.1.rest through.candidate
+            (λ j b l. (falls_to tiers constraints answer given last told here.before (column ∷ there.1.rest) through j b (omega arith)).1.0)),
+        subst (IsNodeOf tiers constraints nodes m) target_kind target_node,
+      )
+
+    -- A kept move goes on from that prefix to an optimal candidate, which is read by an arc on the column.
+    module _ (kept : IsKeptBelow tiers constraints answer.form answer.stages.items (last + 1) k column) (node_there : IsNodeOf tiers constraints nodes m (moved tiers constraints last k column)) where
+      more : BeginsCandidate tiers answer.form (here.before ++ column ∷ []) × AllFall tiers constraints answer.form answer.stages.items last (here.before ++ column ∷ [])
+      more =
+          kept_longer tiers constraints answer given last last (last + 1) (omega arith) (omega arith) (λ j a b. omega arith) told here.before here.rest here.optimal column
+          (subst (λ x. IsKeptBelow tiers constraints answer.form answer.stages.items (last + 1) x column) (sym here.of_kind) kept)
+
+      far : (q : List (List Sym)) × IsOptimalFor tiers constraints answer.form last ((here.before ++ column ∷ []) ++ q)
+      far = goes_on tiers constraints answer given last (omega arith) all_shown (here.before ++ column ∷ []) more.0 more.1
+
+      kind_there : moved tiers constraints last k column ≡ kind_of tiers constraints last (here.before ++ column ∷ [])
+      kind_there =
+          ap (λ x. moved tiers constraints last x column) (sym here.of_kind)
+          ∙ goes_to tiers constraints answer.form answer.stages.items given.split given.form given.over last (omega arith) here.before column more.0
+
+      read_there : (i : ℕ) × (Leads states 0 (here.before ++ column ∷ []) i × (i ≡ m))
+      read_there =
+          let read = reads_to (here.before ++ column ∷ []) far.0 far.1 in
+          (read.0, (read.1.0, same_number (kind_of tiers constraints last (here.before ++ column ∷ [])) read.0 m read.1.1 (subst (IsNodeOf tiers constraints nodes m) kind_there node_there)))
+
+      kept_arc : HasArc states n m column
+      kept_arc =
+          let parts = leads_parts states here.before (column ∷ []) 0 read_there.0 read_there.1.0 in
+          let start : parts.0 ≡ n = one_end here.before parts.0 n parts.1.0 here.leads in
+          let arc = parts.1.1 in
+          subst (λ i. HasArc states n i column) (arc.1.1 ∙ read_there.1.1) (subst (λ i. HasArc states i arc.0 column) start arc.1.0)
+
+  automaton_shown : IsShownAutomaton tiers constraints answer.form answer.stages.items states
+  automaton_shown = record {
+    start = first_state;
+    targets = targets;
+    finals = finals;
+    once = apart;
+    arcs = λ n m k column c node. (arc_kept n m k column c node, λ h. kept_arc n m k column c node h.0 h.1);
+  }
+    where
+      first_state : Contains (numbers_of states) 0
+      first_state =
+          let read = given.right.automaton.reads answer.example 0 given.right.example.member (omega arith) in
+          subst (Contains (numbers_of states)) (sym read.1.0) read.1.1
+
+  pub shown_from_right : length answer.form ≤ 64 → IsShown tiers constraints answer
+  shown_from_right short = record {
+    form = given.form;
+    short = short;
+    stage_count = given.right.stage_count;
+    example = given.right.example.member.candidate;
+    counts = counts_are tiers constraints answer given;
+    each_stage = all_stages tiers constraints answer given;
+    automaton = automaton_shown;
+  }
+
+-- by the form that the answer has
+pub shown_of_form : (tiers : Tiers) (constraints : List Constraint) (u : List (List Sym)) (answer : Answer) → AreSplit tiers → AllByRecursion (IsOverTiers tiers.width) constraints → IsForm tiers u → length u ≤ 64 → IsRight tiers constraints u answer → IsShown tiers constraints answer
+shown_of_form tiers constraints u answer split over form short right =
+    let same : u ≡ answer.form = sym right.form in
+    shown_from_right tiers constraints answer
+    (record { split = split; over = over; form = subst (IsForm tiers) same form; right = subst (λ v. IsRight tiers constraints v answer) same right })
+    (subst (λ v. length v ≤ 64) same short)

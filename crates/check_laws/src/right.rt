@@ -1,0 +1,22 @@
+ghost use Rattle.std.specs.Prelude.{◌≤◌, List, length};
+ghost use Rattle.std.specs.List.{AllByRecursion};
+ghost use Rattle.tier_core.specs.declared.sym.Sym.{Sym};
+ghost use Rattle.tier_core.specs.declared.constraint.Constraint.{Constraint};
+ghost use Rattle.tier_core.specs.Tiers.{Tiers};
+ghost use Rattle.violation.specs.Candidates.{IsForm};
+ghost use Rattle.violation.specs.Conditions.{AreSplit, IsOverTiers};
+ghost use Rattle.answer_text.specs.declared.answer.Answer.{Answer};
+ghost use Rattle.answer_text.specs.Right.{IsRight};
+ghost use Rattle.answer_text.specs.Faithful.{IsFaithful};
+ghost use Rattle.answer_text.specs.Shown.{IsShown};
+
+/// A right answer is faithful.
+pub fn right_answers_are_faithful()
+    ensures { (tiers : Tiers) (constraints : List Constraint) (u : List (List Sym)) (answer : Answer) → IsRight tiers constraints u answer → IsFaithful tiers constraints answer }
+{}
+
+/// A right answer to a form of at most 64 columns is shown: what remains at its kinds is a potential,
+/// and a move is kept at the end exactly where some optimal candidate goes on by it.
+pub fn right_answers_are_shown()
+    ensures { (tiers : Tiers) (constraints : List Constraint) (u : List (List Sym)) (answer : Answer) → AreSplit tiers → AllByRecursion (IsOverTiers tiers.width) constraints → IsForm tiers u → length u ≤ 64 → IsRight tiers constraints u answer → IsShown tiers constraints answer }
+{}

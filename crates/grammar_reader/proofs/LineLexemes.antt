@@ -1,4 +1,5 @@
 -- The lexemes of a line that is joined from words, with a space between each two.
+use Rattle.std.proofs.lemmas.Bool.{and_parts, and_from, or_from}
 use Rattle.std.proofs.Common.{◌≡◌, ℕ, Bool, true, false, cond, not, ◌&&◌, ◌==◌, List, [], ◌∷◌, ◌++◌, filter, refl, ap, sym, ◌∙◌, append-nil, Option, Some, None, option_map, option_and_then}
 use Rattle.std.specs.List.{list_all, flat_map, join_with_byte, onto_first}
 use Rattle.std.proofs.lemmas.Grind.{flat_map-append}
@@ -9,9 +10,7 @@ use Rattle.grammar_reader.specs.Pieces.{is_newline, lines_of, is_comment, conten
 use Rattle.grammar_reader.specs.Statements.{each_some}
 use Rattle.grammar_reader.specs.Canonical.{line_of_words}
 use Rattle.grammar_reader.proofs.Forms.{both_some}
-use Rattle.grammar_reader.proofs.Lawful.{and_both, and_make}
 use Rattle.grammar_reader.proofs.Steps.{and_false}
-use Rattle.grammar_reader.proofs.Twice.{or_both}
 use Rattle.grammar_reader.proofs.Walk.{is_nil, joins, content_keeps, apart}
 
 -- ---- bytes that are neither a line's end nor a comment's start
@@ -31,14 +30,14 @@ not_true false h = refl
 
 inner_is : (b : ℕ) → is_inner b ≡ true → Inner b
 inner_is b h =
-    let x = and_both (not (is_newline b) && not (is_comment b)) (not (b == 13)) h in
-    let y = and_both (not (is_newline b)) (not (is_comment b)) x.0 in
+    let x = and_parts (not (is_newline b) && not (is_comment b)) (not (b == 13)) h in
+    let y = and_parts (not (is_newline b)) (not (is_comment b)) x.0 in
     record { newline = not_true (is_newline b) y.0; comment = not_true (is_comment b) y.1; return = not_true (b == 13) x.1 }
 
 content_same : (line : List ℕ) → list_all is_inner line ≡ true → content line ≡ line
 content_same [] h = refl
 content_same (b ∷ line) h =
-    let x = and_both (is_inner b) (list_all is_inner line) h in
+    let x = and_parts (is_inner b) (list_all is_inner line) h in
     let i = inner_is b x.0 in
     content_keeps b line (ap (λ t. t && is_nil line) i.return) i.comment ∙ ap (λ p. b ∷ p) (content_same line x.1)
 
@@ -46,13 +45,13 @@ content_same (b ∷ line) h =
 first_line : (line rest : List ℕ) → list_all is_inner line ≡ true → lines_of ((line ++ 10 ∷ []) ++ rest) ≡ line ∷ lines_of rest
 first_line [] rest h = slice_split-cons_yes is_newline 10 rest refl
 first_line (b ∷ line) rest h =
-    let x = and_both (is_inner b) (list_all is_inner line) h in
+    let x = and_parts (is_inner b) (list_all is_inner line) h in
     slice_split-cons_no is_newline b ((line ++ 10 ∷ []) ++ rest) (inner_is b x.0).newline ∙ ap (onto_first b) (first_line line rest x.1)
 
 -- ---- pieces between spaces
 
 space_after : (a : ℕ) → holds_together a 32 ≡ false
-space_after a = or_both (is_word_byte a && is_word_byte 32) ((a == 45) && (32 == 62)) (and_false (is_word_byte a)) (and_false (a == 45))
+space_after a = or_from (is_word_byte a && is_word_byte 32) ((a == 45) && (32 == 62)) (and_false (is_word_byte a)) (and_false (a == 45))
 
 space_before : (rest : List ℕ) → joins 32 rest ≡ false
 space_before [] = refl
@@ -81,10 +80,10 @@ tokens_joined (w ∷ v ∷ ws) = tokens_space w (join_with_byte 32 (v ∷ ws)) �
 
 inner_joined : (ws : List (List ℕ)) → list_all (list_all is_inner) ws ≡ true → list_all is_inner (join_with_byte 32 ws) ≡ true
 inner_joined [] h = refl
-inner_joined (w ∷ []) h = (and_both (list_all is_inner w) true h).0
+inner_joined (w ∷ []) h = (and_parts (list_all is_inner w) true h).0
 inner_joined (w ∷ v ∷ ws) h =
-    let x = and_both (list_all is_inner w) (list_all (list_all is_inner) (v ∷ ws)) h in
-    list_all-append is_inner w (32 ∷ join_with_byte 32 (v ∷ ws)) ∙ and_make (list_all is_inner w) (list_all is_inner (join_with_byte 32 (v ∷ ws))) x.0 (inner_joined (v ∷ ws) x.1)
+    let x = and_parts (list_all is_inner w) (list_all (list_all is_inner) (v ∷ ws)) h in
+    list_all-append is_inner w (32 ∷ join_with_byte 32 (v ∷ ws)) ∙ and_from (list_all is_inner w) (list_all is_inner (join_with_byte 32 (v ∷ ws))) x.0 (inner_joined (v ∷ ws) x.1)
 
 -- ---- what is read of one list and of another
 
@@ -128,13 +127,13 @@ read_none = record { inner = refl; lexemes = refl }
 
 pub read_next : (w : List ℕ) (ls : List Lexeme) (ws : List (List ℕ)) (ms : List Lexeme) → IsRead w ls → AreRead ws ms → AreRead (w ∷ ws) (ls ++ ms)
 read_next w ls ws ms a b = record {
-  inner = and_make (list_all is_inner w) (list_all (list_all is_inner) ws) a.inner b.inner;
+  inner = and_from (list_all is_inner w) (list_all (list_all is_inner) ws) a.inner b.inner;
   lexemes = each_append lexeme_of (tokens_in w) (flat_map tokens_in ws) ls ms a.lexemes b.lexemes;
 }
 
 pub read_both : (ws : List (List ℕ)) (ls : List Lexeme) (vs : List (List ℕ)) (ms : List Lexeme) → AreRead ws ls → AreRead vs ms → AreRead (ws ++ vs) (ls ++ ms)
 read_both ws ls vs ms a b = record {
-  inner = list_all-append (list_all is_inner) ws vs ∙ and_make (list_all (list_all is_inner) ws) (list_all (list_all is_inner) vs) a.inner b.inner;
+  inner = list_all-append (list_all is_inner) ws vs ∙ and_from (list_all (list_all is_inner) ws) (list_all (list_all is_inner) vs) a.inner b.inner;
   lexemes = ap (each_some lexeme_of) (flat_map-append tokens_in ws vs) ∙ each_append lexeme_of (flat_map tokens_in ws) (flat_map tokens_in vs) ls ms a.lexemes b.lexemes;
 }
 

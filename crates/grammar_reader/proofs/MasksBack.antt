@@ -1,4 +1,5 @@
 -- The tiers of a letter, named in tier order, have the letter's mask.
+use Rattle.std.proofs.lemmas.Bool.{or_parts, or_from}
 use Rattle.std.proofs.Common.{◌≡◌, ℕ, suc, ◌+◌, ◌*◌, ◌/◌, ◌%◌, ◌^◌, ◌<◌, ◌==◌, Bool, true, false, cond, ◌||◌, ◌⊎◌, inl, inr, List, [], ◌∷◌, ◌++◌, length, map, refl, ap, sym, ◌∙◌, arith}
 use Rattle.std.specs.List.{list_any}
 use Rattle.std.specs.Str.{bytes_eq}
@@ -8,31 +9,31 @@ use Rattle.grammar_reader.specs.Canonical.{is_odd, names_in}
 use Rattle.grammar_reader.specs.Reading.{mask_of}
 use Rattle.grammar_reader.proofs.Lists.{list_any-map}
 use Rattle.grammar_reader.proofs.Once.{same_name}
-use Rattle.grammar_reader.proofs.Twice.{or_none, or_both, other_bytes}
+use Rattle.grammar_reader.proofs.Twice.{other_bytes}
 
 -- ---- names of the tiers of a mask
 
 none_front : (p : List ℕ → Bool) (b : Bool) (w : List ℕ) (ws : List (List ℕ)) → p w ≡ false → list_any p ws ≡ false → list_any p (cond b (w ∷ []) [] ++ ws) ≡ false
-none_front p true w ws h k = or_both (p w) (list_any p ws) h k
+none_front p true w ws h k = or_from (p w) (list_any p ws) h k
 none_front p false w ws h k = k
 
 -- what no tier's name passes, no name of a mask passes
 pub none_in : (p : List ℕ → Bool) (ts : List NamedTier) (m : ℕ) → list_any (λ t. p t.name) ts ≡ false → list_any p (names_in ts m) ≡ false
 none_in p [] m h = refl
-none_in p (t ∷ ts) m h = let a = or_none (p t.name) (list_any (λ u. p u.name) ts) h in none_front p (is_odd m) t.name (names_in ts (m / 2)) a.0 (none_in p ts (m / 2) a.1)
+none_in p (t ∷ ts) m h = let a = or_parts (p t.name) (list_any (λ u. p u.name) ts) h in none_front p (is_odd m) t.name (names_in ts (m / 2)) a.0 (none_in p ts (m / 2) a.1)
 
 -- no name of the other tiers is this tier's
 apart_of : (t : NamedTier) (ts : List NamedTier) (h : list_any (bytes_eq t.name) (map (λ u. u.name) ts) ≡ false) → list_any (λ u. bytes_eq t.name u.name) ts ≡ false
 apart_of t ts h = sym (list_any-map (bytes_eq t.name) (λ u. u.name) ts) ∙ h
 
 once_front : (b : Bool) (w : List ℕ) (ws : List (List ℕ)) → list_any (bytes_eq w) ws ≡ false → has_twice ws ≡ false → has_twice (cond b (w ∷ []) [] ++ ws) ≡ false
-once_front true w ws h k = or_both (list_any (bytes_eq w) ws) (has_twice ws) h k
+once_front true w ws h k = or_from (list_any (bytes_eq w) ws) (has_twice ws) h k
 once_front false w ws h k = k
 
 pub once_in : (ts : List NamedTier) (m : ℕ) → has_twice (map (λ t. t.name) ts) ≡ false → has_twice (names_in ts m) ≡ false
 once_in [] m h = refl
 once_in (t ∷ ts) m h =
-    let a = or_none (list_any (bytes_eq t.name) (map (λ u. u.name) ts)) (has_twice (map (λ u. u.name) ts)) h in
+    let a = or_parts (list_any (bytes_eq t.name) (map (λ u. u.name) ts)) (has_twice (map (λ u. u.name) ts)) h in
     once_front (is_odd m) t.name (names_in ts (m / 2)) (none_in (bytes_eq t.name) ts (m / 2) (apart_of t ts a.0)) (once_in ts (m / 2) a.1)
 
 -- ---- parity
@@ -68,7 +69,7 @@ some_in (t ∷ ts) m l h = some_front (is_odd m) t.name (names_in ts (m / 2)) (�
 mask_without : (ts : List NamedTier) (w : List ℕ) (ws : List (List ℕ)) → list_any (λ t. bytes_eq w t.name) ts ≡ false → mask_of ts (w ∷ ws) ≡ mask_of ts ws
 mask_without [] w ws h = refl
 mask_without (t ∷ ts) w ws h =
-    let a = or_none (bytes_eq w t.name) (list_any (λ u. bytes_eq w u.name) ts) h in
+    let a = or_parts (bytes_eq w t.name) (list_any (λ u. bytes_eq w u.name) ts) h in
     ap (λ b. cond (b || list_any (λ n. is_named n t) ws) 1 0 + 2 * mask_of ts (w ∷ ws)) a.0 ∙ ap (λ n. cond (list_any (λ v. is_named v t) ws) 1 0 + 2 * n) (mask_without ts w ws a.1)
 
 without_front : (ts : List NamedTier) (b : Bool) (w : List ℕ) (ws : List (List ℕ)) → list_any (λ t. bytes_eq w t.name) ts ≡ false → mask_of ts (cond b (w ∷ []) [] ++ ws) ≡ mask_of ts ws
@@ -83,13 +84,13 @@ named_front t false ws h = h
 others_apart : (t : NamedTier) (ts : List NamedTier) → list_any (λ u. bytes_eq t.name u.name) ts ≡ false → list_any (λ u. bytes_eq u.name t.name) ts ≡ false
 others_apart t [] h = refl
 others_apart t (u ∷ ts) h =
-    let a = or_none (bytes_eq t.name u.name) (list_any (λ v. bytes_eq t.name v.name) ts) h in
-    or_both (bytes_eq u.name t.name) (list_any (λ v. bytes_eq v.name t.name) ts) (other_bytes t.name u.name a.0) (others_apart t ts a.1)
+    let a = or_parts (bytes_eq t.name u.name) (list_any (λ v. bytes_eq t.name v.name) ts) h in
+    or_from (bytes_eq u.name t.name) (list_any (λ v. bytes_eq v.name t.name) ts) (other_bytes t.name u.name a.0) (others_apart t ts a.1)
 
 pub mask_back : (ts : List NamedTier) (m : ℕ) → m < 2 ^ length ts → has_twice (map (λ t. t.name) ts) ≡ false → mask_of ts (names_in ts m) ≡ m
 mask_back [] m l h = omega arith
 mask_back (t ∷ ts) m l h =
-    let a = or_none (list_any (bytes_eq t.name) (map (λ u. u.name) ts)) (has_twice (map (λ u. u.name) ts)) h in
+    let a = or_parts (list_any (bytes_eq t.name) (map (λ u. u.name) ts)) (has_twice (map (λ u. u.name) ts)) h in
     let other = apart_of t ts a.0 in
     let rest = names_in ts (m / 2) in
     let here : list_any (λ n. is_named n t) (names_in (t ∷ ts) m) ≡ is_odd m = named_front t (is_odd m) rest (none_in (λ n. is_named n t) ts (m / 2) (others_apart t ts other)) in

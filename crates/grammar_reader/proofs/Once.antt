@@ -4,7 +4,7 @@ use Rattle.std.specs.Prelude.{nat_lt}
 use Rattle.std.specs.List.{list_any, list_all, find, position_or_len}
 use Rattle.std.specs.Option.{option_map_or}
 use Rattle.std.specs.Str.{bytes_eq}
-use Rattle.std.proofs.lemmas.Bool.{false≢true, or_left, or_right, or_parts, or_from}
+use Rattle.std.proofs.lemmas.Bool.{false≢true, or_left, or_right, or_parts, or_from, and_parts}
 use Rattle.std.proofs.lemmas.Bool.Decides.{nat_tests}
 use Rattle.std.proofs.lemmas.List.{map-append}
 use Rattle.std.proofs.lemmas.Slice.Eq.{bytes_eq-Decides}
@@ -12,7 +12,6 @@ use Rattle.tier_core.specs.Tiers.{is_input}
 use Rattle.grammar_reader.specs.Names.{has_twice}
 use Rattle.grammar_reader.specs.Values.{NamedTier, is_named, inputs_of}
 use Rattle.grammar_reader.specs.Reading.{is_unknown, is_input_named, number_of}
-use Rattle.grammar_reader.proofs.Lawful.{and_both}
 use Rattle.grammar_reader.proofs.Lists.{list_any-map}
 use Rattle.timeline_text.proofs.Searches.{by_test}
 use Rattle.grammar_reader.proofs.Twice.{other_bytes, twice_after}
@@ -39,15 +38,15 @@ none_filtered p q [] h = refl
 none_filtered p q (x ∷ xs) h = let a = or_parts (p x) (list_any p xs) h in filtered_none p q x (q x) (filter q xs) refl (λ k. a.0) (none_filtered p q xs a.1)
 
 not_all : {X : Type 0} (p : X → Bool) (x : X) (xs : List X) → list_all p (x ∷ xs) ≡ true → (not (p x) || list_any (λ y. not (p y)) xs) ≡ list_any (λ y. not (p y)) xs
-not_all p x xs h = ap (λ t. not t || list_any (λ y. not (p y)) xs) (and_both (p x) (list_all p xs) h).0
+not_all p x xs h = ap (λ t. not t || list_any (λ y. not (p y)) xs) (and_parts (p x) (list_all p xs) h).0
 
 pub none_fails : {X : Type 0} (p : X → Bool) (xs : List X) → list_all p xs ≡ true → list_any (λ x. not (p x)) xs ≡ false
 none_fails p [] h = refl
-none_fails p (x ∷ xs) h = not_all p x xs h ∙ none_fails p xs (and_both (p x) (list_all p xs) h).1
+none_fails p (x ∷ xs) h = not_all p x xs h ∙ none_fails p xs (and_parts (p x) (list_all p xs) h).1
 
 pub at_place : {X : Type 0} (p : X → Bool) (front : List X) (x : X) (rest : List X) → list_all p (front ++ x ∷ rest) ≡ true → p x ≡ true
-at_place p [] x rest h = (and_both (p x) (list_all p rest) h).0
-at_place p (y ∷ front) x rest h = at_place p front x rest (and_both (p y) (list_all p (front ++ x ∷ rest)) h).1
+at_place p [] x rest h = (and_parts (p x) (list_all p rest) h).0
+at_place p (y ∷ front) x rest h = at_place p front x rest (and_parts (p y) (list_all p (front ++ x ∷ rest)) h).1
 
 pub any_at : {X : Type 0} (p : X → Bool) (front : List X) (x : X) (rest : List X) → p x ≡ true → list_any p (front ++ x ∷ rest) ≡ true
 any_at p [] x rest h = or_left (p x) (list_any p rest) h
@@ -103,8 +102,8 @@ name_at ts k = get_or (map (λ t. t.name) ts) k []
 
 pub named_at : (p : List ℕ → Bool) (ts : List NamedTier) (k : ℕ) → k < length ts → list_all (λ t. p t.name) ts ≡ true → p (name_at ts k) ≡ true
 named_at p [] k l h = absurd (omega arith)
-named_at p (t ∷ ts) zero l h = (and_both (p t.name) (list_all (λ u. p u.name) ts) h).0
-named_at p (t ∷ ts) (suc k) l h = named_at p ts k (omega arith) (and_both (p t.name) (list_all (λ u. p u.name) ts) h).1
+named_at p (t ∷ ts) zero l h = (and_parts (p t.name) (list_all (λ u. p u.name) ts) h).0
+named_at p (t ∷ ts) (suc k) l h = named_at p ts k (omega arith) (and_parts (p t.name) (list_all (λ u. p u.name) ts) h).1
 
 pub known_at : (ts : List NamedTier) (k : ℕ) → k < length ts → list_any (is_named (name_at ts k)) ts ≡ true
 known_at [] k l = absurd (omega arith)

@@ -1,4 +1,5 @@
 -- The events of a side: the words that join them are read, and cut, as they were joined.
+use Rattle.std.proofs.lemmas.Bool.{or_parts}
 use Rattle.std.proofs.Common.{◌≡◌, ℕ, suc, ◌+◌, ◌<◌, Bool, true, false, cond, not, List, [], ◌∷◌, ◌++◌, length, map, take, drop, refl, ap, sym, ◌∙◌, codes, append-nil, arith, append_assoc, length-append, subst, take_at, drop_at, Some, None}
 use Rattle.std.specs.Prelude.{slice_index_or, All}
 use Rattle.std.specs.List.{slice_split, position_or_len, AllByRecursion}
@@ -18,7 +19,6 @@ use Rattle.grammar_reader.proofs.Ascii.{name_parts}
 use Rattle.grammar_reader.proofs.Forms.{both_some}
 use Rattle.grammar_reader.proofs.Joined.{joined_rest, joined-cons}
 use Rattle.grammar_reader.proofs.LineLexemes.{IsRead, AreRead, read_none, read_next}
-use Rattle.grammar_reader.proofs.Twice.{or_none}
 use Rattle.grammar_reader.proofs.WordLexemes.{part_lexemes, event_lexemes, event_read, sign_lexeme}
 
 -- an event on a tier that has a name
@@ -64,10 +64,10 @@ is_no_connective : (w : List ℕ) → is_name w ≡ true → is_connective w ≡
 is_no_connective w h = no_connective (is_connective w) (name_parts w h).other
 
 pub and_joint : IsJoint (codes "and")
-and_joint w h = (or_none (bytes_eq w (codes "and")) (bytes_eq w (codes "or")) (is_no_connective w h)).0
+and_joint w h = (or_parts (bytes_eq w (codes "and")) (bytes_eq w (codes "or")) (is_no_connective w h)).0
 
 or_joint : IsJoint (codes "or")
-or_joint w h = (or_none (bytes_eq w (codes "and")) (bytes_eq w (codes "or")) (is_no_connective w h)).1
+or_joint w h = (or_parts (bytes_eq w (codes "and")) (bytes_eq w (codes "or")) (is_no_connective w h)).1
 
 pub family_joint : (family : Family) → IsJoint (joined_by family)
 family_joint Implication = or_joint

@@ -1,9 +1,10 @@
 -- The canonical text of a grammar is short enough to be read.
+use Rattle.timeline_text.proofs.Searches.{by_test}
 use Rattle.std.proofs.Common.{◌≡◌, ℕ, zero, suc, ◌+◌, ◌*◌, ◌<◌, ◌≤◌, Bool, true, false, cond, ◌&&◌, ◌||◌, eqb, eqb-true, List, [], ◌∷◌, ◌++◌, length, map, filter, ◌/◌, get_or, refl, ap, sym, ◌∙◌, codes, arith, length-append}
 use Rattle.std.specs.Prelude.{nat_le, nat_lt}
 use Rattle.std.specs.List.{list_any, list_all, flat_map, join_with_byte, AllByRecursion, IsDistinct}
 use Rattle.std.specs.Str.{bytes_eq}
-use Rattle.std.proofs.lemmas.Bool.{false≢true}
+use Rattle.std.proofs.lemmas.Bool.{false≢true, and_parts, and_from, or_parts}
 use Rattle.std.proofs.lemmas.Bool.Decides.{nat_tests}
 use Rattle.std.proofs.lemmas.List.{length-map}
 use Rattle.std.proofs.lemmas.List.Folds.{list_all-map}
@@ -23,8 +24,7 @@ use Rattle.grammar_reader.specs.Values.{GrammarValue, NamedTier, NamedConstraint
 use Rattle.grammar_reader.specs.Canonical.{line_of_words, kind_text, tier_words, is_odd, names_in, letter_words, part_text, event_text, joined, sign_text, constraint_words, header_words, tier_lines, letter_lines, constraint_lines, canonical}
 use Rattle.grammar_reader.proofs.Ascii.{name_parts}
 use Rattle.grammar_reader.proofs.Joined.{joined_rest, joined-cons}
-use Rattle.grammar_reader.proofs.Lawful.{and_both, and_make, all_weaker}
-use Rattle.grammar_reader.proofs.Twice.{by_test, or_none}
+use Rattle.grammar_reader.proofs.Lawful.{all_weaker}
 use Rattle.grammar_reader.proofs.Walk.{and_true}
 
 -- ---- lines
@@ -50,7 +50,7 @@ cost-append (u ∷ us) vs = let h = cost-append us vs in omega (arith, h)
 lines_length : {X : Type 0} (f : X → List ℕ) (p : X → Bool) (k : ℕ) (xs : List X) → ((x : X) → p x ≡ true → length (f x) ≤ k) → list_all p xs ≡ true → length (flat_map f xs) ≤ k * length xs
 lines_length f p k [] h a = omega arith
 lines_length f p k (x ∷ xs) h a =
-    let b = and_both (p x) (list_all p xs) a in
+    let b = and_parts (p x) (list_all p xs) a in
     let l = h x b.0 in
     let r = lines_length f p k xs h b.1 in
     let n = length-append (f x) (flat_map f xs) in
@@ -69,8 +69,8 @@ short_by w h = grind (arith, nat_tests, h)
 
 short_at : (names : List (List ℕ)) (k : ℕ) → list_all is_short names ≡ true → length (get_or names k []) ≤ 32
 short_at [] k h = omega arith
-short_at (n ∷ names) zero h = short_by n (and_both (is_short n) (list_all is_short names) h).0
-short_at (n ∷ names) (suc k) h = short_at names k (and_both (is_short n) (list_all is_short names) h).1
+short_at (n ∷ names) zero h = short_by n (and_parts (is_short n) (list_all is_short names) h).0
+short_at (n ∷ names) (suc k) h = short_at names k (and_parts (is_short n) (list_all is_short names) h).1
 
 kind_length : (kind : TierKind) → length (kind_text kind) ≤ 6
 kind_length Input = omega arith
@@ -89,7 +89,7 @@ name_cost false w ws l = omega arith
 names_cost : (ts : List NamedTier) (m : ℕ) → list_all (λ t. is_short t.name) ts ≡ true → cost (names_in ts m) ≤ 33 * length ts
 names_cost [] m h = omega arith
 names_cost (t ∷ ts) m h =
-    let a = and_both (is_short t.name) (list_all (λ u. is_short u.name) ts) h in
+    let a = and_parts (is_short t.name) (list_all (λ u. is_short u.name) ts) h in
     let r = names_cost ts (m / 2) a.1 in
     let c = name_cost (is_odd m) t.name (names_in ts (m / 2)) (short_by t.name a.0) in
     omega (arith, r, c)
@@ -97,9 +97,9 @@ names_cost (t ∷ ts) m h =
 kept_all : {X : Type 0} (p q : X → Bool) (xs : List X) → list_all p xs ≡ true → list_all p (filter q xs) ≡ true
 kept_all p q [] h = refl
 kept_all p q (x ∷ xs) h =
-    let a = and_both (p x) (list_all p xs) h in
+    let a = and_parts (p x) (list_all p xs) h in
     let r = kept_all p q xs a.1 in
-    elim (q x) as (λ t. list_all p (cond t (x ∷ filter q xs) (filter q xs)) ≡ true) [ true ↦ and_make (p x) (list_all p (filter q xs)) a.0 r | false ↦ r ]
+    elim (q x) as (λ t. list_all p (cond t (x ∷ filter q xs) (filter q xs)) ≡ true) [ true ↦ and_from (p x) (list_all p (filter q xs)) a.0 r | false ↦ r ]
 
 letter_length : (tiers : List NamedTier) (l : Letter) → list_all (λ t. is_name t.name) tiers ≡ true → length (inputs_of tiers) ≤ 6 → length (line_of_words (letter_words tiers l)) ≤ 210
 letter_length tiers l h few =
@@ -114,19 +114,19 @@ letter_below b h = grind (arith, nat_tests)
 letters_below : (ls : List Letter) (q : ℕ) → list_all (λ l. is_letter_byte (letter_name l)) ls ≡ true → list_any (eqb q) (map (λ l. l.byte) ls) ≡ true → q < 123
 letters_below [] q h k = absurd (false≢true k)
 letters_below (l ∷ ls) q h k =
-    let a = and_both (is_letter_byte (letter_name l)) (list_all (λ x. is_letter_byte (letter_name x)) ls) h in
+    let a = and_parts (is_letter_byte (letter_name l)) (list_all (λ x. is_letter_byte (letter_name x)) ls) h in
     by_test (eqb q l.byte)
     (λ e. let same = eqb-true q l.byte e in let b = letter_below l.byte a.0 in omega (arith, same, b))
     (λ e. letters_below ls q a.1 (sym (ap (λ t. t || list_any (eqb q) (map (λ x. x.byte) ls)) e) ∙ k))
 
 bytes_apart : (b : ℕ) (ls : List Letter) → list_any (bytes_eq (b ∷ [])) (map letter_name ls) ≡ false → AllByRecursion (λ c. eqb b c ≡ false) (map (λ l. l.byte) ls)
 bytes_apart b [] h = tt
-bytes_apart b (l ∷ ls) h = let a = or_none (bytes_eq (b ∷ []) (letter_name l)) (list_any (bytes_eq (b ∷ [])) (map letter_name ls)) h in (and_true (eqb b l.byte) a.0, bytes_apart b ls a.1)
+bytes_apart b (l ∷ ls) h = let a = or_parts (bytes_eq (b ∷ []) (letter_name l)) (list_any (bytes_eq (b ∷ [])) (map letter_name ls)) h in (and_true (eqb b l.byte) a.0, bytes_apart b ls a.1)
 
 bytes_distinct : (ls : List Letter) → has_twice (map letter_name ls) ≡ false → IsDistinct eqb (map (λ l. l.byte) ls)
 unfolding IsDistinct
 bytes_distinct [] h = tt
-bytes_distinct (l ∷ ls) h = let a = or_none (list_any (bytes_eq (letter_name l)) (map letter_name ls)) (has_twice (map letter_name ls)) h in (bytes_apart l.byte ls a.0, bytes_distinct ls a.1)
+bytes_distinct (l ∷ ls) h = let a = or_parts (list_any (bytes_eq (letter_name l)) (map letter_name ls)) (has_twice (map letter_name ls)) h in (bytes_apart l.byte ls a.0, bytes_distinct ls a.1)
 
 -- there are no more letters than bytes up to `z`
 few_letters : (ls : List Letter) → list_all (λ l. is_letter_byte (letter_name l)) ls ≡ true → has_twice (map letter_name ls) ≡ false → length ls ≤ 123
@@ -167,14 +167,14 @@ sign_length Clash = omega arith
 
 few_events : (n : ℕ) (es : List Event) → is_side n es ≡ true → length es ≤ 8
 few_events n es h =
-    let a = and_both (nat_le 1 (length es) && nat_le (length es) 8) (list_all (λ e. nat_lt e.tier n) es) h in
-    let b = and_both (nat_le 1 (length es)) (nat_le (length es) 8) a.0 in
+    let a = and_parts (nat_le 1 (length es) && nat_le (length es) 8) (list_all (λ e. nat_lt e.tier n) es) h in
+    let b = and_parts (nat_le 1 (length es)) (nat_le (length es) 8) a.0 in
     grind (arith, nat_tests, b.1)
 
 constraint_length : (names : List (List ℕ)) (n : ℕ) (c : NamedConstraint) → list_all is_short names ≡ true → (is_name c.name && has_sides n c) ≡ true → length (line_of_words (constraint_words names c)) ≤ 656
 constraint_length names n c h k =
-    let a = and_both (is_name c.name) (has_sides n c) k in
-    let s = and_both (is_side n c.left) (is_side n c.right) a.1 in
+    let a = and_parts (is_name c.name) (has_sides n c) k in
+    let s = and_parts (is_side n c.left) (is_side n c.right) a.1 in
     let left = joined (codes "and") (map (event_text names) c.left) in
     let right = sign_text c.family ∷ joined (joined_by c.family) (map (event_text names) c.right) in
     let w = line_length (constraint_words names c) in
@@ -190,9 +190,9 @@ constraint_length names n c h k =
 both_all : {X : Type 0} (p q : X → Bool) (xs : List X) → list_all p xs ≡ true → list_all q xs ≡ true → list_all (λ x. p x && q x) xs ≡ true
 both_all p q [] h k = refl
 both_all p q (x ∷ xs) h k =
-    let a = and_both (p x) (list_all p xs) h in
-    let b = and_both (q x) (list_all q xs) k in
-    and_make (p x && q x) (list_all (λ y. p y && q y) xs) (and_make (p x) (q x) a.0 b.0) (both_all p q xs a.1 b.1)
+    let a = and_parts (p x) (list_all p xs) h in
+    let b = and_parts (q x) (list_all q xs) k in
+    and_from (p x && q x) (list_all (λ y. p y && q y) xs) (and_from (p x) (q x) a.0 b.0) (both_all p q xs a.1 b.1)
 
 -- ---- the whole text
 

@@ -1,4 +1,5 @@
 -- What each word of a canonical line is read as.
+use Rattle.std.proofs.lemmas.Bool.{and_parts, and_from}
 use Rattle.std.proofs.Common.{◌≡◌, ℕ, Bool, true, false, cond, not, ◌&&◌, ◌||◌, ◌==◌, List, [], ◌∷◌, ◌++◌, filter, refl, ap, ◌∙◌, codes, Option, Some, None, option_map, option_and_then}
 use Rattle.std.specs.Prelude.{slice_index_or}
 use Rattle.std.specs.List.{list_all}
@@ -15,7 +16,7 @@ use Rattle.grammar_reader.specs.Statements.{each_some, joined_by}
 use Rattle.grammar_reader.specs.Names.{is_name, is_letter_byte}
 use Rattle.grammar_reader.specs.Canonical.{kind_text, part_text, event_text, sign_text}
 use Rattle.grammar_reader.proofs.Ascii.{name_parts}
-use Rattle.grammar_reader.proofs.Lawful.{and_both, and_make, all_weaker}
+use Rattle.grammar_reader.proofs.Lawful.{all_weaker}
 use Rattle.grammar_reader.proofs.LineLexemes.{is_inner, IsRead}
 use Rattle.grammar_reader.proofs.Steps.{is_other, plain_word}
 use Rattle.grammar_reader.proofs.Walk.{joins, apart}
@@ -25,13 +26,13 @@ use Rattle.grammar_reader.proofs.Walk.{joins, apart}
 inner_byte : (b : ℕ) → is_word_byte b ≡ true → is_inner b ≡ true
 inner_byte b h =
     let p = plain_word b h in
-    and_make (not (is_newline b) && not (is_comment b)) (not (b == 13)) (and_make (not (is_newline b)) (not (is_comment b)) (ap not p.newline) (ap not p.comment)) (ap not p.return)
+    and_from (not (is_newline b) && not (is_comment b)) (not (b == 13)) (and_from (not (is_newline b)) (not (is_comment b)) (ap not p.newline) (ap not p.comment)) (ap not p.return)
 
 one_piece : (b : ℕ) (bs : List ℕ) → list_all is_word_byte (b ∷ bs) ≡ true → pieces_of (b ∷ bs) ≡ (b ∷ bs) ∷ []
 one_piece b [] h = refl
 one_piece b (c ∷ bs) h =
-    let x = and_both (is_word_byte b) (list_all is_word_byte (c ∷ bs)) h in
-    let y = and_both (is_word_byte c) (list_all is_word_byte bs) x.1 in
+    let x = and_parts (is_word_byte b) (list_all is_word_byte (c ∷ bs)) h in
+    let y = and_parts (is_word_byte c) (list_all is_word_byte bs) x.1 in
     let t : holds_together b c ≡ true = ap (λ s. (s && is_word_byte c) || ((b == 45) && (c == 62))) x.0 ∙ ap (λ s. s || ((b == 45) && (c == 62))) y.0 in
     ap (onto_piece b) (one_piece c bs x.1) ∙ ap (λ s. cond s ((b ∷ c ∷ bs) ∷ []) ((b ∷ []) ∷ (c ∷ bs) ∷ [])) t
 
@@ -44,7 +45,7 @@ otherwise t x r y e h = ap (λ s. cond s x r) e ∙ h
 lexeme_word : (b : ℕ) (bs : List ℕ) → list_all is_word_byte (b ∷ bs) ≡ true → lexeme_of (b ∷ bs) ≡ Some (word (b ∷ bs))
 lexeme_word b bs h =
     let w : List ℕ = b ∷ bs in
-    let k = (and_both (is_word_byte b) (list_all is_word_byte bs) h).0 in
+    let k = (and_parts (is_word_byte b) (list_all is_word_byte bs) h).0 in
     let o5 : Option Lexeme = cond (list_all is_word_byte w) (Some (word w)) None in
     let o4 : Option Lexeme = cond (bytes_eq w (codes "->")) (Some implies) o5 in
     let o3 : Option Lexeme = cond (bytes_eq w (codes "#")) (Some clash) o4 in
@@ -61,7 +62,7 @@ pub word_read : (b : ℕ) (bs : List ℕ) → list_all is_word_byte (b ∷ bs) �
 word_read b bs h = record {
   inner = all_weaker is_word_byte is_inner (b ∷ bs) inner_byte h;
   lexemes = ap (λ ps. each_some lexeme_of (filter (λ piece. not (is_spacing piece)) ps)) (one_piece b bs h)
-      ∙ ap (λ t. each_some lexeme_of (cond (not t) ((b ∷ bs) ∷ []) [])) (plain_word b (and_both (is_word_byte b) (list_all is_word_byte bs) h).0).spacing
+      ∙ ap (λ t. each_some lexeme_of (cond (not t) ((b ∷ bs) ∷ []) [])) (plain_word b (and_parts (is_word_byte b) (list_all is_word_byte bs) h).0).spacing
       ∙ ap (option_and_then (λ y. option_map (λ ys. y ∷ ys) (Some []))) (lexeme_word b bs h);
 }
 

@@ -1,13 +1,12 @@
 -- Frames: a grammar and a form. Which kinds fit a frame, and what a move of a frame is.
-use Rattle.std.specs.Prelude.{◌≡◌, ℕ, ◌^◌, ◌<◌, ◌≤◌, Bool, true, false, not, List, [], ◌∷◌, length}
-use Rattle.std.specs.List.{list_all}
+use Rattle.std.specs.Prelude.{◌≡◌, ℕ, ◌^◌, ◌<◌, ◌≤◌, List, [], length}
 use Rattle.tier_core.specs.declared.kind.Kind.{Kind}
 use Rattle.tier_core.specs.declared.sym.Sym.{Sym}
 use Rattle.tier_core.specs.declared.constraint.Constraint.{Constraint}
-use Rattle.tier_core.specs.Kinds.{Phase, closed, unmet, met, PrefixKind, AreStretchesBelow, prefix_kind}
+use Rattle.tier_core.specs.Kinds.{PrefixKind, AreStretchesBelow, prefix_kind}
 use Rattle.tier_core.specs.Tables.{tiers_of_table}
 use Rattle.tier_core.specs.Tiers.{Tiers}
-use Rattle.violation.specs.Moves.{FitsKind, is_tier_open, moved}
+use Rattle.violation.specs.Moves.{FitsKind, moved}
 use Rattle.violation.specs.Prefixes.{kind_of, stretches}
 pub use Rattle.violation.specs.Phases.{is_closed, is_left_open, AreClosedOr}
 use Rattle.kind_moves.specs.declared.frame.Frame.{Frame}

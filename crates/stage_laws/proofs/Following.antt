@@ -1,5 +1,5 @@
 -- What is a stage's table, and how one follows another.
-use Rattle.std.proofs.Common.{◌<◌, length, ◌≡◌, ◌↔◌, ℕ, ◌+◌, ◌-◌, List, refl, sym, subst, arith}
+use Rattle.std.proofs.Common.{◌<◌, length, ◌≡◌, ◌↔◌, ℕ, ◌+◌, ◌-◌, List, sym, subst, arith}
 use Rattle.weight_law.specs.declared.Weight.{Ghosts}
 use Rattle.weight_law.specs.declared.count.Count.{Count}
 use Rattle.tier_core.specs.declared.sym.Sym.{Sym}

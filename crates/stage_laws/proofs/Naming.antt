@@ -1,10 +1,8 @@
 -- The names of a table of kinds are the kinds that its words pass.
 use Rattle.std.proofs.Common.{◌≤◌, ◌≡◌, ◌↔◌, ℕ, ◌<◌, List, [], ◌∷◌, ◌++◌, length, take, drop, refl, sym, ap, ◌∙◌, subst, arith, inl, inr, take_at}
 use Rattle.std.specs.Prelude.{Contains}
-use Rattle.std.specs.List.{AllByRecursion}
 use Rattle.std.proofs.lemmas.Bool.{cases_order}
 use Rattle.std.proofs.lemmas.List.{get_or_default, length-append, take-append-drop}
-use Rattle.std.proofs.lemmas.List.Elements.{All-from_recursion, recursion_from_All, All-take, All-filter}
 use Rattle.weight_law.specs.declared.Weight.{Ghosts}
 use Rattle.tier_core.specs.declared.sym.Sym.{Sym}
 use Rattle.tier_core.specs.declared.constraint.Constraint.{Constraint}
@@ -16,8 +14,7 @@ use Rattle.arc_table.specs.declared.state.TableState.{TableState}
 use Rattle.arc_table.specs.Runs.{IsRun, IsPath, Reads, Accepts, IsOnRun}
 use Rattle.prune_best.proofs.Words.{some_word}
 use Rattle.violation.specs.Candidates.{IsOptimalFor}
-use Rattle.violation.specs.Conditions.{IsOverTiers}
-use Rattle.violation.specs.Prefixes.{kind_of, stretches}
+use Rattle.violation.specs.Prefixes.{kind_of}
 use Rattle.violation.specs.Stages.{Passes, IsPassed}
 use Rattle.violation.specs.Walks.{HasMoves, reached}
 use Rattle.violation.proofs.StageLemmas.{over_stretches}

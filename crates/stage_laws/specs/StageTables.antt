@@ -8,8 +8,7 @@
 -- which are the 0-optimal ones. Each of its states is on a run: a column that starts its open tiers
 -- leads to it from the state with none open at its place or at the one before, and each prefix that
 -- moves read goes on to a candidate.
-use Rattle.std.specs.Prelude.{[], ◌≡◌, ◌≢◌, ℕ, ◌-◌, ◌<◌, ◌≤◌, ◌↔◌, List, length, slice_index_or, Contains, AllPairs, IsTrue}
-use Rattle.std.specs.List.{AllByRecursion}
+use Rattle.std.specs.Prelude.{[], ◌≡◌, ◌≢◌, ℕ, ◌-◌, ◌<◌, ◌↔◌, List, length, slice_index_or, Contains, AllPairs, IsTrue}
 use Rattle.weight_law.specs.declared.Weight.{Ghosts}
 use Rattle.weight_law.specs.declared.count.Count.{Count}
 use Rattle.tier_core.specs.declared.sym.Sym.{Sym}
@@ -22,9 +21,8 @@ use Rattle.arc_table.specs.declared.state.TableState.{TableState}
 use Rattle.arc_table.specs.Conditions.{TargetsExist, ClassesFilled}
 use Rattle.arc_table.specs.Moves.{moves_at, accepting_at}
 use Rattle.arc_table.specs.Runs.{Accepts, IsOnRun}
-use Rattle.violation.specs.Candidates.{IsForm, IsOptimalFor}
-use Rattle.violation.specs.Conditions.{AreSplit, IsOverTiers}
-use Rattle.violation.specs.Moves.{FitsKind, moved, move_costs, is_final}
+use Rattle.violation.specs.Candidates.{IsOptimalFor}
+use Rattle.violation.specs.Moves.{FitsKind, moved, is_final}
 use Rattle.violation.specs.Prefixes.{kind_of}
 pub use Rattle.violation.specs.Moves.{cost_of}
 pub use Rattle.violation.specs.Stages.{IsStage}

@@ -1,8 +1,8 @@
 -- Classes that are joined along a tier, as lists of sets.
-use Rattle.std.proofs.Common.{◌≡◌, ◌≢◌, ℕ, zero, suc, ◌+◌, ◌<◌, ◌≤◌, Bool, true, false, cond, ◌||◌, List, [], ◌∷◌, ◌++◌, map, length, get_or, set, bit_or, refl, ap, ap₂, sym, ◌∙◌, subst, arith, IsTrue, All, AllPairs, IsPermutation, count_by, sum_by, ⊎_elim, true≢false}
+use Rattle.std.proofs.Common.{◌≡◌, ◌≢◌, ℕ, suc, ◌+◌, ◌<◌, ◌≤◌, Bool, true, false, cond, ◌||◌, List, [], ◌∷◌, map, length, get_or, bit_or, refl, ap, sym, ◌∙◌, subst, arith, All, AllPairs, count_by, true≢false}
 use Rattle.std.specs.Cmp.Lexicographic.{slice_cmp}
 use Rattle.std.specs.List.{list_all, list_any}
-use Rattle.std.specs.Ordering.{nat_cmp, ordering_reverse, is_lt, is_eq, is_gt}
+use Rattle.std.specs.Ordering.{nat_cmp, is_lt, is_eq, is_gt}
 use Rattle.std.specs.declared.cmp.Ordering.{Ordering}
 use Rattle.std.specs.declared.cmp.Ordering.TheVariants.{Less, Equal, Greater}
 use Rattle.std.proofs.lemmas.Bool.{false≢true, cond_both, cond-true, cond-false}
@@ -21,7 +21,7 @@ use Rattle.symbol_class.specs.Joined.{sets_beside, beside_cmp, united}
 use Rattle.symbol_class.proofs.Filled.{sets_filled, sets_have-first}
 use Rattle.symbol_class.proofs.SetLists.{have_either}
 use Rattle.symbol_class.proofs.SetOrder.{same_numbers}
-use Rattle.symbol_class.proofs.Times.{pairs_head, pairs_tail, once_few}
+use Rattle.symbol_class.proofs.Times.{pairs_head, pairs_tail}
 
 -- how many of some lists of sets have a column
 abbrev pub times_had : List (List ℕ) → List Sym → ℕ
@@ -127,13 +127,13 @@ joined_had t current (next ∷ rest) inside all_inside column once =
     let all = had-cons next rest column in
     cond_both (is_eq (beside_cmp t current next)) (joined_from t (united t current next) rest) (current ∷ joined_from t next rest) (λ boxes. times_had boxes column ≡ once_if (sets_have current column) + times_had (next ∷ rest) column)
     (λ e.
-      let either : once_if (sets_have (united t current next) column) ≡ once_if (sets_have current column) + once_if (sets_have next column) =
-      ap once_if (have_united t current next column inside l e) ∙ once_either (sets_have current column) (sets_have next column) (omega (arith, once, all)) in
-      let h = joined_had t (united t current next) rest (omega (arith, length-united t current next, inside)) ls column (omega (arith, either, once, all)) in
-      omega (arith, h, either, all))
+    let either : once_if (sets_have (united t current next) column) ≡ once_if (sets_have current column) + once_if (sets_have next column) =
+    ap once_if (have_united t current next column inside l e) ∙ once_either (sets_have current column) (sets_have next column) (omega (arith, once, all)) in
+    let h = joined_had t (united t current next) rest (omega (arith, length-united t current next, inside)) ls column (omega (arith, either, once, all)) in
+    omega (arith, h, either, all))
     (λ e.
-      let h = joined_had t next rest l ls column (omega (arith, once, all)) in
-      omega (arith, had-cons current (joined_from t next rest) column, h, all))
+    let h = joined_had t next rest l ls column (omega (arith, once, all)) in
+    omega (arith, had-cons current (joined_from t next rest) column, h, all))
 
 -- ---- what differs
 
@@ -166,9 +166,10 @@ upto_alike t a b c e h = subst (λ xs. is_gt (slice_cmp nat_cmp xs (sets_beside 
 -- of sorted sets those that are joined ascend strictly
 pub joined_strict : (t : ℕ) (current : List ℕ) (rest : List (List ℕ)) → All (Upto t current) rest → AllPairs (Upto t) rest
     → AllPairs (Below t) (joined_from t current rest) × All (Upto t current) (joined_from t current rest)
-joined_strict t current [] after sorted =
-    (AllPairs-cons (Below t) current [] (All-nil (Below t current)) (λ i j d less inside. absurd (omega arith)),
-    All-cons (Upto t current) current [] (upto_itself t current) (All-nil (Upto t current)))
+joined_strict t current [] after sorted = (
+  AllPairs-cons (Below t) current [] (All-nil (Below t current)) (λ i j d less inside. absurd (omega arith)),
+  All-cons (Upto t current) current [] (upto_itself t current) (All-nil (Upto t current)),
+)
 joined_strict t current (next ∷ rest) after sorted =
     let here = All-head (Upto t current) next rest after in
     let later = All-tail (Upto t current) next rest after in
@@ -177,15 +178,16 @@ joined_strict t current (next ∷ rest) after sorted =
     cond_both (is_eq (beside_cmp t current next)) (joined_from t (united t current next) rest) (current ∷ joined_from t next rest)
     (λ boxes. AllPairs (Below t) boxes × All (Upto t current) boxes)
     (λ e.
-      let same = beside-united t current next in
-      let h = joined_strict t (united t current next) rest (All-weaker (Upto t current) (Upto t (united t current next)) (λ x u. upto_alike t (united t current next) current x same u) rest later) sorted_rest in
-      (h.0, All-weaker (Upto t (united t current next)) (Upto t current) (λ x u. upto_alike t current (united t current next) x (sym same) u) (joined_from t (united t current next) rest) h.1))
+    let same = beside-united t current next in
+    let h = joined_strict t (united t current next) rest (All-weaker (Upto t current) (Upto t (united t current next)) (λ x u. upto_alike t (united t current next) current x same u) rest later) sorted_rest in
+    (h.0, All-weaker (Upto t (united t current next)) (Upto t current) (λ x u. upto_alike t current (united t current next) x (sym same) u) (joined_from t (united t current next) rest) h.1))
     (λ e.
-      let less = less_from (beside_cmp t current next) here e in
-      let h = joined_strict t next rest after_next sorted_rest in
-      let below = All-weaker (Upto t next) (Below t current) (λ x u. below_upto t current next x less u) (joined_from t next rest) h.1 in
-      (AllPairs-cons (Below t) current (joined_from t next rest) below h.0,
-      All-cons (Upto t current) current (joined_from t next rest) (upto_itself t current) (All-weaker (Below t current) (Upto t current) (λ x b. ap is_gt b) (joined_from t next rest) below)))
+    let less = less_from (beside_cmp t current next) here e in
+    let h = joined_strict t next rest after_next sorted_rest in
+    let below = All-weaker (Upto t next) (Below t current) (λ x u. below_upto t current next x less u) (joined_from t next rest) h.1 in (
+      AllPairs-cons (Below t) current (joined_from t next rest) below h.0,
+      All-cons (Upto t current) current (joined_from t next rest) (upto_itself t current) (All-weaker (Below t current) (Upto t current) (λ x b. ap is_gt b) (joined_from t next rest) below),
+    ))
 
 -- sets of which one is below the other differ beside the tier
 pub differ_from_below : (t : ℕ) (a b : List ℕ) → beside_cmp t a b ≡ Less → sets_beside t a ≢ sets_beside t b

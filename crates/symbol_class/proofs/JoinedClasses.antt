@@ -1,12 +1,11 @@
 -- Classes that are joined along a tier, along each tier, and until none are joined any more.
 use Rattle.std.proofs.Common.{◌≡◌, ◌≢◌, ℕ, zero, suc, ◌+◌, ◌<◌, ◌≤◌, Bool, true, false, List, [], ◌∷◌, ◌++◌, map, length, get_or, drop, set, refl, ap, sym, ◌∙◌, subst, arith, IsTrue, All, AllPairs, IsPermutation, ◌⊎◌, inl, inr, ⊎_elim}
-use Rattle.std.specs.Cmp.Lexicographic.{slice_cmp}
 use Rattle.std.specs.List.Sorted.{IsSortedByKey}
-use Rattle.std.specs.Ordering.{nat_cmp, ordering_reverse, is_lt, is_eq, is_gt}
+use Rattle.std.specs.Ordering.{ordering_reverse, is_lt, is_eq, is_gt}
 use Rattle.std.specs.declared.cmp.Ordering.{Ordering}
 use Rattle.std.specs.declared.cmp.Ordering.TheVariants.{Less, Equal, Greater}
 use Rattle.std.proofs.lemmas.Bool.{true≢false, cases_lt, cases_eq, cases_order}
-use Rattle.std.proofs.lemmas.Cmp.{nat_list_cmp_total, on_total}
+use Rattle.std.proofs.lemmas.Cmp.{nat_list_cmp_total}
 use Rattle.std.proofs.lemmas.List.{append_assoc, map_push, at_drop_more, at_drop_all, length-map, length-set, get_or-map, get_or-set_same, get_or-set_other}
 use Rattle.std.proofs.lemmas.List.Elements.{All-nil, All-head, All-tail, All-map}
 use Rattle.std.proofs.lemmas.List.Folds.{fold-map}
@@ -15,7 +14,7 @@ use Rattle.tier_core.specs.declared.sym.Sym.{Sym}
 use Rattle.tier_core.specs.declared.class.Class.{Class}
 use Rattle.tier_core.specs.Classes.{sets_of, sets_have, has, AreDisjoint}
 use Rattle.symbol_class.specs.Filled.{is_filled}
-use Rattle.symbol_class.specs.Held.{some_has, times_held, once_if, width_of, ArePieces}
+use Rattle.symbol_class.specs.Held.{times_held, once_if, width_of, ArePieces}
 use Rattle.symbol_class.specs.Joined.{DifferTwice, sets_beside, beside_cmp, united, DifferBeside, JoinsAlong, JoinsBelow}
 use Rattle.symbol_class.proofs.JoinSteps.{times_had, are_filled, length-united, joined_from, joined_alike, joined_other, joined_fewer, joined_kept, joined_wide, joined_filled, joined_had, joined_strict, differ_from_below}
 use Rattle.symbol_class.proofs.Pairs.{pairs_map, pairs_unmap, pairs_permuted}
@@ -66,13 +65,13 @@ joins_sorted t first rest joined is inside filled apart sorted = record {
   one_width = λ width all.
       all_unmap (λ sets. length sets ≡ width) sets_of joined
       (subst (All (λ sets. length sets ≡ width)) (sym is)
-        (joined_wide t width (sets_of first) (map sets_of rest) (All-head (λ class. length (sets_of class) ≡ width) first rest all)
-          (All-map (λ sets. length sets ≡ width) sets_of rest (All-tail (λ class. length (sets_of class) ≡ width) first rest all))));
+      (joined_wide t width (sets_of first) (map sets_of rest) (All-head (λ class. length (sets_of class) ≡ width) first rest all)
+      (All-map (λ sets. length sets ≡ width) sets_of rest (All-tail (λ class. length (sets_of class) ≡ width) first rest all))));
   filled =
       all_unmap (λ sets. are_filled sets ≡ true) sets_of joined
       (subst (All (λ sets. are_filled sets ≡ true)) (sym is)
-        (joined_filled t (sets_of first) (map sets_of rest) here later (All-head (λ class. IsTrue (is_filled class)) first rest filled)
-          (All-map (λ sets. are_filled sets ≡ true) sets_of rest (All-tail (λ class. IsTrue (is_filled class)) first rest filled))));
+      (joined_filled t (sets_of first) (map sets_of rest) here later (All-head (λ class. IsTrue (is_filled class)) first rest filled)
+      (All-map (λ sets. are_filled sets ≡ true) sets_of rest (All-tail (λ class. IsTrue (is_filled class)) first rest filled))));
   fewer = omega (arith, length-map joined sets_of, ap length is, joined_fewer t (sets_of first) (map sets_of rest), length-map rest sets_of);
   kept = λ e.
       subst (IsPermutation (map sets_of (first ∷ rest)))
@@ -80,17 +79,21 @@ joins_sorted t first rest joined is inside filled apart sorted = record {
       (IsPermutation-refl (map sets_of (first ∷ rest)));
   differ = pairs_unmap (λ a b. sets_beside t a ≢ sets_beside t b) sets_of joined
       (subst (AllPairs (λ a b. sets_beside t a ≢ sets_beside t b)) (sym is)
-        (λ i j d less within. differ_from_below t (get_or boxes i d) (get_or boxes j d) (strict.0 i j d less within)));
+      (λ i j d less within. differ_from_below t (get_or boxes i d) (get_or boxes j d) (strict.0 i j d less within)));
 }
   where
     boxes : List (List ℕ)
     boxes = joined_from t (sets_of first) (map sets_of rest)
+
     here : t < length (sets_of first)
     here = All-head (λ class. t < length (sets_of class)) first rest inside
+
     later : All (λ sets. t < length sets) (map sets_of rest)
     later = All-map (λ sets. t < length sets) sets_of rest (All-tail (λ class. t < length (sets_of class)) first rest inside)
+
     pairs : AllPairs (λ a b. is_gt (beside_cmp t (sets_of a) (sets_of b)) ≡ false) (first ∷ rest)
     pairs = ascending t (first ∷ rest) sorted
+
     strict : AllPairs (λ a b. beside_cmp t a b ≡ Less) (joined_from t (sets_of first) (map sets_of rest)) × All (λ b. is_gt (beside_cmp t (sets_of first) b) ≡ false) (joined_from t (sets_of first) (map sets_of rest))
     strict = joined_strict t (sets_of first) (map sets_of rest)
         (All-map (λ b. is_gt (beside_cmp t (sets_of first) b) ≡ false) sets_of rest (pairs_head (λ a b. is_gt (beside_cmp t (sets_of a) (sets_of b)) ≡ false) first rest pairs))
@@ -115,10 +118,12 @@ joined_more t joined done current next class rest i all made inside is so_far = 
   where
     later : List (List ℕ)
     later = map sets_of (drop (i + 1) rest)
+
     whole : map sets_of joined ++ joined_from t (sets_of current) (sets_of next ∷ map sets_of (drop (i + 1) rest)) ≡ all
     whole =
         ap (λ (c : Class). map sets_of joined ++ joined_from t (sets_of current) (sets_of c ∷ map sets_of (drop (i + 1) rest))) is
         ∙ sym (at_drop_more (λ xs. map sets_of joined ++ joined_from t (sets_of current) (map sets_of xs)) rest i next inside) ∙ so_far
+
     go : (b : Bool) → is_eq (beside_cmp t (sets_of current) (sets_of next)) ≡ b → map sets_of done ++ joined_from t (sets_of class) (map sets_of (drop (i + 1) rest)) ≡ all
     go true e =
         ap (λ xs. map sets_of xs ++ joined_from t (sets_of class) later) (made.alike e).0
@@ -170,7 +175,7 @@ differ_permuted : (t : ℕ) (old new : List Class) → IsPermutation (map sets_o
 differ_permuted t old new p differ =
     pairs_unmap (λ a b. sets_beside t a ≢ sets_beside t b) sets_of new
     (pairs_permuted (λ a b. sets_beside t a ≢ sets_beside t b) (λ a b h e. h (sym e)) (map sets_of old) (map sets_of new) p
-      (pairs_map (λ a b. sets_beside t a ≢ sets_beside t b) sets_of old differ))
+    (pairs_map (λ a b. sets_beside t a ≢ sets_beside t b) sets_of old differ))
 
 pub below_more : (width n : ℕ) (classes joined next : List Class) → JoinsBelow width n classes joined → JoinsAlong n joined next → JoinsBelow width (n + 1) classes next
 below_more width n classes joined next so_far along = record {
@@ -249,9 +254,9 @@ difference_beside t xs ys e other =
 twice : (a b : Class) (s t : ℕ) → s ≢ t → get_or (sets_of a) s 0 ≢ get_or (sets_of b) s 0 → get_or (sets_of a) t 0 ≢ get_or (sets_of b) t 0 → DifferTwice a b
 twice a b s t apart at_s at_t = ⊎_elim (λ e. absurd (apart e))
     (λ other. ⊎_elim
-      (λ up. record { first = s; second = t; ascending = up; at_first = at_s; at_second = at_t; })
-      (λ down. record { first = t; second = s; ascending = down; at_first = at_t; at_second = at_s; })
-      other)
+    (λ up. record { first = s; second = t; ascending = up; at_first = at_s; at_second = at_t })
+    (λ down. record { first = t; second = s; ascending = down; at_first = at_t; at_second = at_s })
+    other)
     (cases_order s t)
 
 two_differ : (width : ℕ) (a b : Class) → 0 < width → length (sets_of a) ≡ width → length (sets_of b) ≡ width → ((tier : ℕ) → tier < width → sets_beside tier (sets_of a) ≢ sets_beside tier (sets_of b)) → DifferTwice a b

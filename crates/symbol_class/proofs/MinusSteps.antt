@@ -1,5 +1,5 @@
 -- One class without another, tier by tier.
-use Rattle.std.proofs.Common.{◌≡◌, ℕ, ◌+◌, ◌^◌, ◌<◌, ◌≤◌, Bool, true, false, not, ◌&&◌, List, length, get_or, w8, refl, ap, sym, ◌∙◌, subst, arith, ⊎_elim}
+use Rattle.std.proofs.Common.{◌≡◌, ℕ, ◌+◌, ◌<◌, ◌≤◌, Bool, true, false, not, ◌&&◌, List, length, get_or, w8, refl, ap, sym, ◌∙◌, subst, arith, ⊎_elim}
 use Rattle.std.specs.Int.{bit_not}
 use Rattle.std.proofs.lemmas.Bool.{false≢true, and_parts, and_from, cases_lt}
 use Rattle.tier_core.specs.declared.sym.Sym.{Sym}
@@ -55,9 +55,9 @@ minus_more old a b tier pieces more rest less next x so_far inside is few wide_l
       so_far.adds
       (subst (λ w. AddsClasses w pieces more (λ column. once_if (has less column))) (wide_less ∙ so_far.width) adds)
       (λ column.
-        ap (λ b. once_if (has a column && not (has rest column)) + once_if b) (has_less column ∙ ap (λ b. has rest column && b) (is_in-not x (symbol column tier) (omega arith)))
-        ∙ more_out (has a column) (has rest column) (is_in x (symbol column tier)) (so_far.within column)
-        ∙ ap (λ b. once_if (has a column && not b)) (sym (has_next column)));
+      ap (λ b. once_if (has a column && not (has rest column)) + once_if b) (has_less column ∙ ap (λ b. has rest column && b) (is_in-not x (symbol column tier) (omega arith)))
+      ∙ more_out (has a column) (has rest column) (is_in x (symbol column tier)) (so_far.within column)
+      ∙ ap (λ b. once_if (has a column && not b)) (sym (has_next column)));
   within = λ column h. so_far.within column (in_rest column h).0;
   met = λ column h t less. ⊎_elim (λ below. so_far.met column (in_rest column h).0 t below)
       (λ here. let at : t ≡ tier = omega arith in
@@ -66,7 +66,7 @@ minus_more old a b tier pieces more rest less next x so_far inside is few wide_l
   kept = λ column in_a in_b.
       has_next column
       ∙ and_from (has rest column) (is_in x (symbol column tier)) (so_far.kept column in_a in_b)
-        (subst (λ n. is_in n (symbol column tier) ≡ true) (sym is) (each_in (sets_of b) column in_b tier inside));
+      (subst (λ n. is_in n (symbol column tier) ≡ true) (sym is) (each_in (sets_of b) column in_b tier inside));
   few = omega (arith, so_far.few);
 }
   where

@@ -2,7 +2,7 @@
 use Rattle.std.proofs.Common.{◌≡◌, ℕ, zero, suc, ◌-◌, ◌^◌, ◌<◌, ◌==◌, min, max, Bool, true, false, not, ◌&&◌, ◌||◌, List, [], ◌∷◌, length, get_or, set, bit_and, bit_or, w8, refl, ap, sym, ◌∙◌, arith}
 use Rattle.std.specs.Int.{bit_at, bit_not}
 use Rattle.std.specs.List.{list_any}
-use Rattle.std.proofs.lemmas.Bool.{false≢true, agree_below_at}
+use Rattle.std.proofs.lemmas.Bool.{agree_below_at}
 use Rattle.std.proofs.lemmas.List.{set-get_or, set-set}
 use Rattle.std.proofs.lemmas.Nat.Bits.{bit_at_and, bit_at_or, bit_at_not, bit_at-lt}
 use Rattle.tier_core.specs.declared.sym.Sym.{Sym}
@@ -126,6 +126,7 @@ have_either xs ys column t lx ly e =
   where
     same : opened_at t xs ≡ opened_at t ys
     same = sym (set-set xs t 0 31) ∙ ap (λ zs. set zs t 31) e ∙ set-set ys t 0 31
+
     over_or : (a b c : Bool) → (a && (b || c)) ≡ ((a && b) || (a && c))
     over_or true b c = refl
     over_or false b c = refl

@@ -1,11 +1,11 @@
 -- Classes that are parted by tests.
-use Rattle.std.proofs.Common.{◌≡◌, ℕ, zero, ◌+◌, ◌<◌, ◌≤◌, Bool, true, false, not, ◌&&◌, ◌||◌, if◌then◌else◌, List, [], ◌∷◌, ◌++◌, length, get_or, take, refl, ap, sym, ◌∙◌, subst, arith}
+use Rattle.std.proofs.Common.{◌≡◌, ℕ, ◌+◌, ◌<◌, ◌≤◌, Bool, true, false, not, ◌&&◌, ◌||◌, if◌then◌else◌, List, [], length, get_or, take, refl, ap, sym, ◌∙◌, subst, arith}
 use Rattle.std.proofs.lemmas.List.{take_all}
 use Rattle.std.proofs.lemmas.List.Folds.{list_any_more}
 use Rattle.std.proofs.lemmas.List.Sums.{sum_by_more}
 use Rattle.tier_core.specs.declared.sym.Sym.{Sym}
 use Rattle.tier_core.specs.declared.class.Class.{Class}
-use Rattle.tier_core.specs.Classes.{sets_of, has}
+use Rattle.tier_core.specs.Classes.{has}
 use Rattle.symbol_class.specs.Held.{some_has, times_held, once_if, AddsClasses}
 use Rattle.symbol_class.proofs.Times.{held_by, adds_same, adds_none, adds_then, added_times}
 
@@ -52,8 +52,8 @@ pub parted_more : (width : ℕ) (test : Class) (classes : List Class) (i : ℕ) 
 parted_more width test classes i old inside outside class common inside' outside' so_far l is has_common adds_in adds_out = record {
   inside_adds = adds_then width old inside inside' (times_in test (take i classes)) (λ column. once_if (has common column)) (times_in test (take (i + 1) classes)) so_far.inside_adds adds_in
       (λ column.
-        ap (λ b. times_in test (take i classes) column + once_if b) (has_common column)
-        ∙ more_in (has test column) (has class column) (times_held (take i classes) column) (times_held (take (i + 1) classes) column) (more column));
+      ap (λ b. times_in test (take i classes) column + once_if b) (has_common column)
+      ∙ more_in (has test column) (has class column) (times_held (take i classes) column) (times_held (take (i + 1) classes) column) (more column));
   outside_adds = adds_then width [] outside outside' (times_out test (take i classes)) (λ column. once_if (has class column && not (has test column))) (times_out test (take (i + 1) classes)) so_far.outside_adds adds_out
       (λ column. more_out (has test column) (has class column) (times_held (take i classes) column) (times_held (take (i + 1) classes) column) (more column));
 }
@@ -122,16 +122,17 @@ pub split_more : (width : ℕ) (class : Class) (tests : List Class) (i : ℕ) (i
 split_more width class tests i inside outside test inside' outside' so_far l is adds_in adds_out = record {
   inside_adds = adds_then width [] inside inside' (λ column. once_if (is_inside class (take i tests) column)) (times_in test outside) (λ column. once_if (is_inside class (take (i + 1) tests) column)) so_far.inside_adds adds_in
       (λ column.
-        one_inside (has class column) (some_has (take i tests) column) (has test column) (times_held outside column) (left column)
-        ∙ ap (λ b. once_if (has class column && b)) (sym (more column)));
+      one_inside (has class column) (some_has (take i tests) column) (has test column) (times_held outside column) (left column)
+      ∙ ap (λ b. once_if (has class column && b)) (sym (more column)));
   outside_adds = adds_same width [] outside' (times_out test outside) (λ column. once_if (is_outside class (take (i + 1) tests) column)) adds_out
       (λ column.
-        one_outside (has class column) (some_has (take i tests) column) (has test column) (times_held outside column) (left column)
-        ∙ ap (λ b. once_if (has class column && not b)) (sym (more column)));
+      one_outside (has class column) (some_has (take i tests) column) (has test column) (times_held outside column) (left column)
+      ∙ ap (λ b. once_if (has class column && not b)) (sym (more column)));
 }
   where
     left : (column : List Sym) → times_held outside column ≡ once_if (is_outside class (take i tests) column)
     left column = added_times width outside (λ column. once_if (is_outside class (take i tests) column)) so_far.outside_adds column
+
     more : (column : List Sym) → some_has (take (i + 1) tests) column ≡ (some_has (take i tests) column || has test column)
     more column = list_any_more (λ c. has c column) tests i test l ∙ ap (λ c. some_has (take i tests) column || has c column) (sym is)
 

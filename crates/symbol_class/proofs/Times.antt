@@ -1,10 +1,10 @@
 -- How often the classes of a list hold a column, and what this tells of the list.
-use Rattle.std.proofs.Common.{◌≡◌, ℕ, zero, suc, ◌+◌, ◌<◌, ◌≤◌, Bool, true, false, not, cond, ◌||◌, List, [], ◌∷◌, ◌++◌, length, get_or, refl, ap, sym, ◌∙◌, subst, arith, IsTrue, All, AllPairs, IsPermutation, sum_by, ⊎_elim}
-use Rattle.std.proofs.lemmas.Bool.{both_ways, cases_Bool, or_cases, or_parts, false_from_ne_true, true_from_ne_false}
+use Rattle.std.proofs.Common.{◌≡◌, ℕ, zero, suc, ◌+◌, ◌<◌, ◌≤◌, Bool, true, false, List, [], ◌∷◌, ◌++◌, length, get_or, refl, ap, sym, ◌∙◌, subst, arith, IsTrue, All, AllPairs, IsPermutation, ⊎_elim}
+use Rattle.std.proofs.lemmas.Bool.{both_ways, or_cases, or_parts, false_from_ne_true, true_from_ne_false}
 use Rattle.std.proofs.lemmas.List.Elements.{All-nil, All-append, All-push}
 use Rattle.std.proofs.lemmas.List.Folds.{Any-from_list_any}
 use Rattle.std.proofs.lemmas.List.Kept.{AllPairs-cons}
-use Rattle.std.proofs.lemmas.List.Sums.{sum_by-cons, sum_by-append, sum_by_push, get_or-le-sum_by}
+use Rattle.std.proofs.lemmas.List.Sums.{sum_by-cons, sum_by-append, get_or-le-sum_by}
 use Rattle.std.proofs.lemmas.List.{append-nil, append_assoc, length-append, get_or_append_left}
 use Rattle.std.proofs.lemmas.List.Sorted.{sum_by-IsPermutation}
 use Rattle.tier_core.specs.declared.sym.Sym.{Sym}
@@ -76,6 +76,7 @@ once_from_apart (class ∷ classes) apart column = go (has class column) refl (o
     none here = false_from_ne_true (some_has classes column) (λ some.
         let other = Any-from_list_any (λ c. has c column) classes some in
         pairs_head AreDisjoint class classes apart other.0 other.1 other.2 column here (subst (λ c. has c column ≡ true) (sym other.3) other.4))
+
     go : (b : Bool) → has class column ≡ b → times_held classes column ≤ 1 → times_held (class ∷ classes) column ≤ 1
     go true here rest = omega (arith, times-cons class classes column, ap once_if here, none_held classes column (none here))
     go false here rest = omega (arith, times-cons class classes column, ap once_if here, rest)
@@ -166,11 +167,11 @@ pub pieces-append : (width : ℕ) (xs ys : List Class) (p q : List Sym → Bool)
 pieces-append width xs ys p q a b once =
     pieces_from_once width (xs ++ ys)
     (All-append (λ c. length (sets_of c) ≡ width) xs ys
-        (all_added width xs (λ column. once_if (p column)) (λ c. length (sets_of c) ≡ width) a a.one_width)
-        (all_added width ys (λ column. once_if (q column)) (λ c. length (sets_of c) ≡ width) b b.one_width))
+    (all_added width xs (λ column. once_if (p column)) (λ c. length (sets_of c) ≡ width) a a.one_width)
+    (all_added width ys (λ column. once_if (q column)) (λ c. length (sets_of c) ≡ width) b b.one_width))
     (All-append (λ c. IsTrue (is_filled c)) xs ys
-        (all_added width xs (λ column. once_if (p column)) (λ c. IsTrue (is_filled c)) a a.filled)
-        (all_added width ys (λ column. once_if (q column)) (λ c. IsTrue (is_filled c)) b b.filled))
+    (all_added width xs (λ column. once_if (p column)) (λ c. IsTrue (is_filled c)) a a.filled)
+    (all_added width ys (λ column. once_if (q column)) (λ c. IsTrue (is_filled c)) b b.filled))
     (λ column. omega (arith, times-append xs ys column, added_times width xs (λ column. once_if (p column)) a column, added_times width ys (λ column. once_if (q column)) b column, once column))
 
 -- some pieces of a list are pieces too

@@ -50,11 +50,7 @@ fn joined_next(
 }
 
 /// Joins neighbours that agree on all other tiers than this, where classes are sorted by these.
-fn joined_neighbours(
-    alloc: Global,
-    tier: u32,
-    sorted: &[Class],
-) -> Result<Vec<Class>, AllocError>
+fn joined_neighbours(alloc: Global, tier: u32, sorted: &[Class]) -> Result<Vec<Class>, AllocError>
     requires wide { All (λ class. tier < length (sets_of class)) sorted.now }
     requires filled { All (λ class. IsTrue (is_filled class)) sorted.now }
     requires apart { AllPairs AreDisjoint sorted.now }
@@ -75,11 +71,7 @@ fn joined_neighbours(
 }
 
 /// Joins classes that agree on all other tiers than this.
-fn joined_along(
-    alloc: Global,
-    tier: u32,
-    classes: Vec<Class>,
-) -> Result<Vec<Class>, AllocError>
+fn joined_along(alloc: Global, tier: u32, classes: Vec<Class>) -> Result<Vec<Class>, AllocError>
     requires wide { All (λ class. tier < length (sets_of class)) classes.items }
     requires filled { All (λ class. IsTrue (is_filled class)) classes.items }
     requires apart { AllPairs AreDisjoint classes.items }
@@ -91,11 +83,7 @@ fn joined_along(
 }
 
 /// Joins classes of a width along each tier in turn.
-fn joined_once(
-    alloc: Global,
-    width: u32,
-    classes: Vec<Class>,
-) -> Result<Vec<Class>, AllocError>
+fn joined_once(alloc: Global, width: u32, classes: Vec<Class>) -> Result<Vec<Class>, AllocError>
     requires { ArePieces width classes.items }
     ensures { IfOk result (λ joined. JoinsBelow width width classes.items joined.items) }
 {

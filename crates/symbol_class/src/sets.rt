@@ -13,7 +13,11 @@ fn set_at(class: &Class, place: u32, tier: u32, set: u8) -> u8
     ensures value { result ≡ slice_index_or (slice_set (sets_of class.now) tier set) place 0 }
     ensures few { result < 32 }
 {
-    if place == tier { set } else { class.bits(place) }
+    if place == tier {
+        set
+    } else {
+        class.bits(place)
+    }
 }
 
 /// The class with another set on one tier, if it has this tier. The set's number is below 32.

@@ -206,7 +206,11 @@ fn cells_of_a_square_are_joined(rt: HostRuntime) -> Result<(), Fail> {
         assert!(rt; none_is_empty(&joined) && all_differ(&joined), "at {mask}");
         for code in 0..COLUMNS {
             let column = column_of(rt.alloc(), code);
-            assert_eq!(rt; times(&joined, &column), times(&cells, &column), "at {mask}");
+            assert_eq!(rt;
+                times(&joined, &column),
+                times(&cells, &column),
+                "at {mask}"
+            );
         }
     }
     Ok(())

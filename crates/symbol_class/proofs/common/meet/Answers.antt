@@ -11,4 +11,4 @@ returns-clause-columns c column =
     let long : length sets ≡ width = length-take-le width c.loop-tier.sets (omega arith) in
     ap (λ xs. sets_have xs column) c.of_bits.ensures
     ∙ have_both (sets_of c.args.a.now) (sets_of c.args.b.now) sets column (omega arith) (omega arith)
-      (λ t inside. get_or-take width c.loop-tier.sets t 0 (omega arith) ∙ c.loop-tier.invariant.met t (omega arith))
+    (λ t inside. get_or-take width c.loop-tier.sets t 0 (omega arith) ∙ c.loop-tier.invariant.met t (omega arith))

@@ -12,9 +12,10 @@ returns-then-bits-eq0-clause-columns c =
 
 pub returns-clause-columns : goal.returns-clause-columns
 returns-clause-columns c =
-    let class = c.args.class.now in
-    (λ h. absurd (false≢true h),
-    λ none. absurd (filled_holds class (filled_each class (λ t inside. c.loop-tier.invariant t (omega (arith, inside, c.loop-tier-test.false, c.width-tier-end.ensures.value)))) none))
+    let class = c.args.class.now in (
+      λ h. absurd (false≢true h),
+      λ none. absurd (filled_holds class (filled_each class (λ t inside. c.loop-tier.invariant t (omega (arith, inside, c.loop-tier-test.false, c.width-tier-end.ensures.value)))) none),
+    )
 
 pub returns-clause-sets : goal.returns-clause-sets
 returns-clause-sets c =

@@ -1,4 +1,4 @@
-use Rattle.std.proofs.Common.{◌≡◌, ◌≢◌, ℕ, ◌<◌, get_or}
+use Rattle.std.proofs.Common.{◌≢◌, ℕ, ◌<◌, get_or}
 use Rattle.tier_core.specs.Classes.{sets_of}
 use Rattle.symbol_class.proofs.emptiness.is_empty.Given as goal
 

@@ -1,4 +1,4 @@
-use Rattle.std.proofs.Common.{List, length, All, AllPairs, IsTrue, IsPermutation, sym, subst, ◌<◌, rules}
+use Rattle.std.proofs.Common.{List, length, All, AllPairs, IsTrue, sym, subst, ◌<◌, rules}
 use Rattle.std.specs.List.Sorted.{IsSortedByKey}
 use Rattle.std.proofs.lemmas.Cmp.{nat_list_cmp_total}
 use Rattle.std.proofs.lemmas.List.Sorted.{All-permutation, ranks_by}

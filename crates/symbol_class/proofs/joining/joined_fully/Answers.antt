@@ -1,4 +1,4 @@
-use Rattle.std.proofs.Common.{◌≡◌, length, subst, sym, arith}
+use Rattle.std.proofs.Common.{◌≡◌, length, subst, arith}
 use Rattle.symbol_class.proofs.JoinedClasses.{IsJoinedWithin, pieces_within, within_more, differ_twice}
 use Rattle.symbol_class.proofs.joining.joined_fully.Goals as goal
 

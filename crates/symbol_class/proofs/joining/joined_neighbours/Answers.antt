@@ -40,8 +40,8 @@ loop-next-preserved c =
     let wide : tier < length (sets_of next) = subst (λ (class : Class). tier < length (sets_of class)) (sym c.next-item.is) (All-tail (λ class. tier < length (sets_of class)) first rest all c.loop-next.next-index next c.loop-next-test.true) in
     record {
       within = omega (arith, c.loop-next-test.true);
-      wide = wide_next tier c.loop-next.joined.items c.joined_next.new.done.items c.loop-next.current next c.in_ok-current.current (record { alike = c.in_ok-current.ensures.alike; other = c.in_ok-current.ensures.other; }) c.loop-next.invariant.wide wide;
-      so_far = joined_more tier c.loop-next.joined.items c.joined_next.new.done.items c.loop-next.current next c.in_ok-current.current rest c.loop-next.next-index (joined_from tier (sets_of first) (map sets_of rest)) (record { alike = c.in_ok-current.ensures.alike; other = c.in_ok-current.ensures.other; }) c.loop-next-test.true c.next-item.is c.loop-next.invariant.so_far;
+      wide = wide_next tier c.loop-next.joined.items c.joined_next.new.done.items c.loop-next.current next c.in_ok-current.current (record { alike = c.in_ok-current.ensures.alike; other = c.in_ok-current.ensures.other }) c.loop-next.invariant.wide wide;
+      so_far = joined_more tier c.loop-next.joined.items c.joined_next.new.done.items c.loop-next.current next c.in_ok-current.current rest c.loop-next.next-index (joined_from tier (sets_of first) (map sets_of rest)) (record { alike = c.in_ok-current.ensures.alike; other = c.in_ok-current.ensures.other }) c.loop-next-test.true c.next-item.is c.loop-next.invariant.so_far;
     }
 
 pub returns : goal.returns
@@ -54,7 +54,7 @@ returns c =
     let made : map sets_of c.push.new.self.items ≡ all = joined_all tier c.loop-next.joined.items c.push.new.self.items c.loop-next.current rest c.loop-next.next-index all c.in_ok-push.ensures.items (omega (arith, c.loop-next-test.false)) c.loop-next.invariant.so_far in
     subst (λ (old : List Class). JoinsAlong tier old c.push.new.self.items) (sym is)
     (joins_sorted tier first rest c.push.new.self.items made
-      (subst (All (λ class. tier < length (sets_of class))) is c.requires.wide)
-      (subst (All (λ class. IsTrue (is_filled class))) is c.requires.filled)
-      (subst (AllPairs AreDisjoint) is c.requires.apart)
-      (subst (IsSortedByKey sets_of (beside_cmp tier)) is c.requires.sorted))
+    (subst (All (λ class. tier < length (sets_of class))) is c.requires.wide)
+    (subst (All (λ class. IsTrue (is_filled class))) is c.requires.filled)
+    (subst (AllPairs AreDisjoint) is c.requires.apart)
+    (subst (IsSortedByKey sets_of (beside_cmp tier)) is c.requires.sorted))

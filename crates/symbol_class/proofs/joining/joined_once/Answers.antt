@@ -1,4 +1,3 @@
-use Rattle.std.proofs.Common.{sym}
 use Rattle.symbol_class.proofs.JoinedClasses.{below_apart, below_more}
 use Rattle.symbol_class.proofs.joining.joined_once.Goals as goal
 

@@ -1,5 +1,4 @@
 use Rattle.std.proofs.lemmas.Nat.{or_lt}
-use Rattle.std.proofs.Common.{arith}
 use Rattle.symbol_class.proofs.joining.united.Goals as goal
 
 pub with_set-requires : goal.with_set-requires

@@ -1,5 +1,4 @@
-use Rattle.std.proofs.Common.{List, [], length, not, ◌&&◌, subst}
-use Rattle.tier_core.specs.declared.sym.Sym.{Sym}
+use Rattle.std.proofs.Common.{List, length, not, ◌&&◌, subst}
 use Rattle.tier_core.specs.declared.class.Class.{Class}
 use Rattle.tier_core.specs.Classes.{sets_of, has}
 use Rattle.symbol_class.specs.Held.{once_if, AddsClasses}

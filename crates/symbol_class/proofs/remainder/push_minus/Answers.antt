@@ -1,4 +1,4 @@
-use Rattle.std.proofs.Common.{length, arith}
+use Rattle.std.proofs.Common.{arith}
 use Rattle.symbol_class.proofs.MinusSteps.{minus_more, minus_all}
 use Rattle.symbol_class.proofs.remainder.push_minus.Goals as goal
 

@@ -1,4 +1,4 @@
-use Rattle.std.proofs.Common.{List, length, sym, subst}
+use Rattle.std.proofs.Common.{List, sym, subst}
 use Rattle.tier_core.specs.declared.class.Class.{Class}
 use Rattle.symbol_class.specs.Held.{width_of, ArePieces}
 use Rattle.symbol_class.proofs.Times.{pieces_front}

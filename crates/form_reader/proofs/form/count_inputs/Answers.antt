@@ -2,7 +2,7 @@ use Rattle.std.proofs.Common.{◌≡◌, ◌∙◌, sym, count_by, rules}
 use Rattle.std.proofs.lemmas.List.Sums.{length-filter}
 use Rattle.tier_core.specs.Tiers.{is_input}
 use Rattle.grammar_reader.proofs.Shaping.{length-numbers_from}
-use Rattle.otp_tool.proofs.form.count_inputs.Goals as goal
+use Rattle.form_reader.proofs.form.count_inputs.Goals as goal
 
 pub returns-clause-value : goal.returns-clause-value
 returns-clause-value c =

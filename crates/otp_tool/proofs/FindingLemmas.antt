@@ -12,11 +12,11 @@ use Rattle.grammar_reader.specs.Seen.{constraint_seen}
 use Rattle.ranked_gen.specs.Budgets.{AreAllWithin, IsFirstOver, IsOver, IsWithin}
 use Rattle.command_words.specs.Commands.{Command, canon, score, generate, show}
 use Rattle.timeline_text.proofs.Deciding.{not_both}
-use Rattle.otp_tool.specs.Forms.{IsReadAs}
+use Rattle.form_reader.specs.Forms.{IsReadAs}
 use Rattle.otp_tool.specs.Grammars.{AreOf, IsFileOf, OnGrammar, input_count, tiers_of}
 use Rattle.otp_tool.specs.Findings.{Finding, Finds, FindsIn, FindsForAnswer, FindsForCanon, FindsForScore, IsOverBudget, IsWithinBudget, long_file, no_grammar, no_form, over_budget, ready}
 use Rattle.otp_tool.proofs.ConstraintLemmas.{first_over_alike}
-use Rattle.otp_tool.proofs.ReadingLemmas.{not_refused, one_cause, one_reading, one_refusal}
+use Rattle.form_reader.proofs.ReadingLemmas.{not_refused, one_cause, one_reading, one_refusal}
 
 -- ---- in a grammar
 

@@ -1,19 +1,11 @@
 -- Grammars as values and in the code.
-use Rattle.std.proofs.Common.{◌≡◌, ℕ, ◌<◌, ◌≤◌, true, nat_lt, ◌&&◌, List, [], ◌∷◌, length, map, All, string_bytes, refl, ap, sym, ◌∙◌, subst, arith}
-use Rattle.std.specs.List.{AllByRecursion, list_all}
-use Rattle.std.proofs.lemmas.Bool.{and_parts}
-use Rattle.std.proofs.lemmas.Bool.Decides.{nat_tests}
-use Rattle.std.proofs.lemmas.List.Elements.{All-from_recursion}
+use Rattle.std.proofs.Common.{◌≡◌, map, string_bytes, ap, ◌∙◌}
 use Rattle.std.proofs.lemmas.List.{length-map}
-use Rattle.tier_core.specs.Tiers.{is_input, tiers_by_kinds}
-use Rattle.timeline_text.specs.declared.letter.Letter.{Letter}
-use Rattle.timeline_text.specs.Spelling.{HasSound}
+use Rattle.tier_core.specs.Tiers.{tiers_by_kinds}
 use Rattle.tier_core.specs.Tables.{tiers_of_table}
-use Rattle.tier_core.proofs.TableMasks.{length-numbers_from}
 use Rattle.grammar_reader.specs.declared.grammar.Grammar.{Grammar}
 use Rattle.grammar_reader.specs.Grammars.{value_of}
-use Rattle.grammar_reader.specs.Values.{has_sound, inputs_of}
-use Rattle.grammar_reader.proofs.Shaping.{kinds_back, length-inputs, some_input}
+use Rattle.grammar_reader.proofs.Shaping.{kinds_back}
 use Rattle.otp_tool.specs.Grammars.{kinds_of, tiers_of}
 
 pub same_kinds : (g : Grammar) → kinds_of (value_of g) ≡ g.tiers.kinds.items
@@ -21,35 +13,3 @@ same_kinds g = kinds_back (map string_bytes g.tiers.names.items) g.tiers.kinds.i
 
 pub same_tiers : (g : Grammar) → tiers_of (value_of g) ≡ tiers_of_table g.tiers
 same_tiers g = ap tiers_by_kinds (same_kinds g)
-
-pub less : (a b : ℕ) → nat_lt a b ≡ true → a < b
-less a b h = grind (arith, nat_tests)
-
-letter_sounds : (n : ℕ) (letters : List Letter) → list_all (has_sound n) letters ≡ true → AllByRecursion (HasSound n) letters
-letter_sounds n [] h = tt
-letter_sounds n (letter ∷ letters) h =
-    let parts = and_parts _ _ h in
-    let sound = and_parts _ _ parts.0 in
-    (record { some = less _ _ sound.0; within = less _ _ sound.1 }, letter_sounds n letters parts.1)
-
-module _ (g : Grammar) where
-  same_length : length (map string_bytes g.tiers.names.items) ≡ length g.tiers.kinds.items
-  same_length = length-map g.tiers.names.items string_bytes ∙ g.tiers.one_length
-
-  inputs_are : length (tiers_of_table g.tiers).input ≡ length (inputs_of (value_of g).tiers)
-  inputs_are = length-numbers_from is_input 0 g.tiers.kinds.items ∙ sym (length-inputs (map string_bytes g.tiers.names.items) g.tiers.kinds.items same_length)
-
-  pub some_inputs : 1 ≤ length (tiers_of_table g.tiers).input
-  some_inputs =
-      let n = length-numbers_from is_input 0 g.tiers.kinds.items in
-      let some = some_input (map string_bytes g.tiers.names.items) g.tiers.kinds.items same_length g.lawful.input in
-      omega (arith, n, some)
-
-  pub few_inputs : length (tiers_of_table g.tiers).input ≤ 6
-  few_inputs = omega (arith, inputs_are, g.lawful.made.few_inputs)
-
-  -- each letter has a sound on the input tiers
-  pub sounds : (n : ℕ) → n ≡ length (tiers_of_table g.tiers).input → All (HasSound n) g.letters.items
-  sounds n e =
-      subst (λ m. All (HasSound m) g.letters.items) (sym (e ∙ inputs_are))
-      (All-from_recursion (HasSound (length (inputs_of (value_of g).tiers))) g.letters.items (letter_sounds (length (inputs_of (value_of g).tiers)) g.letters.items g.lawful.made.sounds))

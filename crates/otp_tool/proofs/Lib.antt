@@ -1,5 +1,4 @@
 mod GrammarLemmas
-mod ReadingLemmas
 mod ConstraintLemmas
 mod FindingLemmas
 mod StepLemmas

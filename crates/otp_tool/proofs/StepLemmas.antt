@@ -37,12 +37,14 @@ use Rattle.answer_text.specs.Text.{Widths, answer_text, counts_text}
 use Rattle.ranked_gen.specs.Budgets.{AreAllWithin, IsFirstOver}
 use Rattle.status_lines.specs.declared.status.Status.{Status}
 use Rattle.kind_moves.proofs.GrammarTiers.{over_tiers}
-use Rattle.otp_tool.specs.Forms.{IsNotScored, IsReadAs, IsRefusedFor, IsScored}
+use Rattle.form_reader.specs.Forms.{IsReadAs, IsRefusedFor}
+use Rattle.otp_tool.specs.Scored.{IsNotScored, IsScored}
 use Rattle.otp_tool.specs.Grammars.{input_count, tiers_of}
 use Rattle.otp_tool.specs.Findings.{Finding, FindsForAnswer, FindsForScore, no_form, over_budget, ready}
 use Rattle.otp_tool.specs.Results.{IsOfRightAnswer, IsScoreText, text_widths, vector_of, whole_text}
 use Rattle.otp_tool.specs.Steps.{IsEnd, IsMade, IsStep, Taking, end_of}
-use Rattle.otp_tool.proofs.GrammarLemmas.{less, same_kinds, same_tiers}
+use Rattle.form_reader.proofs.InputTiers.{less}
+use Rattle.otp_tool.proofs.GrammarLemmas.{same_kinds, same_tiers}
 use Rattle.otp_tool.proofs.ConstraintLemmas.{seen_vec}
 
 -- ---- writing

@@ -8,7 +8,8 @@ use Rattle.grammar_reader.specs.Values.{GrammarValue}
 use Rattle.grammar_reader.specs.Reading.{grammar_of}
 use Rattle.ranked_gen.specs.Budgets.{AreAllWithin, IsFirstOver}
 use Rattle.command_words.specs.Commands.{Command, canon, score, generate, show}
-use Rattle.otp_tool.specs.Forms.{IsNotScored, IsReadAs, IsRefusedFor, IsScored}
+use Rattle.form_reader.specs.Forms.{IsReadAs, IsRefusedFor}
+use Rattle.otp_tool.specs.Scored.{IsNotScored, IsScored}
 use Rattle.otp_tool.specs.Grammars.{AreOf, OnGrammar, input_count, tiers_of}
 
 pub data Finding : Type 0 where

@@ -1,5 +1,5 @@
 pub mod Grammars
-pub mod Forms
+pub mod Scored
 pub mod Results
 pub mod Findings
 pub mod Outcomes

@@ -11,7 +11,8 @@ use Rattle.answer_text.specs.declared.answer.Answer.{Answer}
 use Rattle.answer_text.specs.Right.{IsRight}
 use Rattle.answer_text.specs.Text.{Widths, answer_text, counts_text, shown_text}
 use Rattle.command_words.specs.Commands.{Command, canon, score, generate, show}
-use Rattle.otp_tool.specs.Forms.{IsReadAs, IsScored}
+use Rattle.form_reader.specs.Forms.{IsReadAs}
+use Rattle.otp_tool.specs.Scored.{IsScored}
 use Rattle.otp_tool.specs.Grammars.{AreOf, input_count, tiers_of}
 
 -- the violation vector of a timeline: its violations of each constraint of the grammar, in ranked order

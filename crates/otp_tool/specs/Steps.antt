@@ -18,7 +18,7 @@ use Rattle.grammar_reader.specs.Reading.{grammar_of}
 use Rattle.command_words.specs.Commands.{Command, IsCommand, IsNoCommand, canon, score, generate, show}
 use Rattle.status_lines.specs.declared.status.Status.{Status}
 use Rattle.status_lines.specs.declared.status.Status.TheVariants.{Done, Usage, GrammarRefused, FormRefused, Budget, ReadFault, WriteFault, NoMemory, TooLong}
-use Rattle.otp_tool.specs.Forms.{IsReadAs}
+use Rattle.form_reader.specs.Forms.{IsReadAs}
 use Rattle.otp_tool.specs.Grammars.{IsHeld, IsFileOf}
 use Rattle.otp_tool.specs.Findings.{Finding, long_file, no_grammar, no_form, over_budget, ready}
 use Rattle.otp_tool.specs.Outcomes.{IsBehind, IsWrittenBehind, HasReadFault}

@@ -4,8 +4,8 @@ ghost use Rattle.grammar_reader.specs.Grammars.{value_of};
 ghost use Rattle.otp_tool.specs.Findings.{FindsForAnswer};
 ghost use Rattle.otp_tool.specs.Steps.{IsMade, IsRefusal};
 
-use crate::form::read_form;
 use answer_text::Answer;
+use form_reader::read_form;
 use grammar_reader::Grammar;
 use ranked_gen::{GenErr, generate};
 use status_lines::Status;

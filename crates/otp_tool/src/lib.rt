@@ -9,16 +9,16 @@
 //! output to [`run`], writes the line of the [`Status`] by [`put_status`], and ends with its number.
 //! Each command makes its whole result before it writes.
 //!
-//! The definitions of `specs/` are what files, forms and timelines are read as (`Grammars`,
-//! `Forms`), what each command writes (`Results`), what it may find before it writes (`Findings`),
-//! and what stands behind each status (`Outcomes`).
+//! The definitions of `specs/` are what files and timelines are read as (`Grammars`, `Scored`), what
+//! each command writes (`Results`), what it may find before it writes (`Findings`), and what stands
+//! behind each status (`Outcomes`).
 #![tactic(auto)]
 
 mod answer;
 mod commands;
-mod form;
 mod grammar;
 mod results;
+mod scored;
 #[cfg(test)]
 mod tests;
 

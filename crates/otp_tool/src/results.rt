@@ -6,7 +6,7 @@ ghost use Rattle.otp_tool.specs.Results.{IsOfRightAnswer, IsScoreText, short_tex
 ghost use Rattle.otp_tool.specs.Steps.{IsStep, end_of};
 
 use crate::answer::make_answer;
-use crate::form::read_scored;
+use crate::scored::read_scored;
 use answer_text::{put_answer, put_counts, put_shown};
 use grammar_reader::{Grammar, put_grammar, shape};
 use outside::{Sink, WriteErr};

@@ -1,7 +1,7 @@
 use Rattle.std.proofs.Common.{◌≡◌, ◌≢◌, ℕ, List, [], length, refl, sym, ◌∙◌, subst, rules}
 use Rattle.tier_core.specs.Tables.{tiers_of_table}
 use Rattle.timeline_text.specs.declared.form_err.FormErr.TheVariants.{NoMemory}
-use Rattle.otp_tool.specs.Forms.{IsReadAs, IsRefusedFor}
+use Rattle.form_reader.specs.Forms.{IsReadAs, IsRefusedFor}
 use Rattle.otp_tool.proofs.StepLemmas.{no_form_for, over_for}
 use Rattle.otp_tool.proofs.answer.make_answer.Goals as goal
 

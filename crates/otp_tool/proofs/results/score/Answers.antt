@@ -6,7 +6,7 @@ use Rattle.violation.specs.Conditions.{IsCountable}
 use Rattle.answer_text.specs.Text.{counts_text}
 use Rattle.grammar_reader.specs.Grammars.{value_of}
 use Rattle.otp_tool.specs.Findings.{FindsForScore}
-use Rattle.otp_tool.specs.Forms.{IsNotScored, IsScored}
+use Rattle.otp_tool.specs.Scored.{IsNotScored, IsScored}
 use Rattle.otp_tool.specs.Results.{IsScoreText}
 use Rattle.otp_tool.specs.Steps.{Taking}
 use Rattle.otp_tool.proofs.StepLemmas.{all_countable, is_scored, not_scored, scored, written}

@@ -1,8 +1,8 @@
 use Rattle.std.proofs.Common.{◌≡◌, ℕ, ◌≤◌, length, List, All, ap, sym, ◌∙◌, subst}
 use Rattle.timeline_text.specs.declared.letter.Letter.{Letter}
 use Rattle.timeline_text.specs.Spelling.{HasSound}
-use Rattle.otp_tool.proofs.GrammarLemmas.{few_inputs, some_inputs, sounds}
-use Rattle.otp_tool.proofs.form.read_form.Goals as goal
+use Rattle.form_reader.proofs.InputTiers.{few_inputs, some_inputs, sounds}
+use Rattle.form_reader.proofs.form.read_form.Goals as goal
 
 pub read_spelled-requires-clause-some : goal.read_spelled-requires-clause-some
 read_spelled-requires-clause-some c =

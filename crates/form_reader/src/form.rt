@@ -1,7 +1,7 @@
 ghost use Rattle.std.specs.Prelude.{◌≡◌, ◌≢◌, ◌≤◌, length, IfOk, IfErr};
 ghost use Rattle.tier_core.specs.Tables.{tiers_of_table};
 ghost use Rattle.violation.specs.Candidates.{IsForm};
-ghost use Rattle.otp_tool.specs.Forms.{IsNotScored, IsReadAs, IsRefusedFor, IsScored, is_spelled};
+ghost use Rattle.form_reader.specs.Forms.{IsReadAs, IsRefusedFor, is_spelled};
 
 use grammar_reader::Grammar;
 use std::alloc::Global;
@@ -11,9 +11,6 @@ use timeline_text::{FormErr, read_spelled, read_timeline};
 /// How many columns a form may have.
 const FORM_LIMIT: usize = 64;
 
-/// How many columns a timeline may have that is scored.
-const SCORED_LIMIT: usize = 4096;
-
 /// Whether a word begins with `=`.
 fn is_spelled(word: &[u8]) -> bool
     ensures { result ≡ is_spelled word.now }
@@ -22,8 +19,12 @@ fn is_spelled(word: &[u8]) -> bool
 }
 
 /// Reads a form's word: by the letters of the grammar where it begins with `=`, and else as the
-/// text of a timeline over the input tiers.
-pub(crate) fn read_form(alloc: Global, grammar: &Grammar, word: &[u8]) -> Result<Timeline, FormErr>
+/// text of a timeline over the input tiers. What is read is well formed, reduced, and of at most 64
+/// columns.
+///
+/// A spelled word is refused for `UnknownLetter` or `TooLong`, and any other for the causes of
+/// [`read_timeline`]; the first that comes is the error. `NoMemory` may come in place of any answer.
+pub fn read_form(alloc: Global, grammar: &Grammar, word: &[u8]) -> Result<Timeline, FormErr>
     ensures ok { IfOk result (IsReadAs (length (tiers_of_table grammar.now.tiers).input) grammar.now.letters.items word.now) }
     ensures form { IfOk result (IsForm (tiers_of_table grammar.now.tiers)) }
     ensures short { IfOk result (λ form. length form ≤ 64) }
@@ -35,17 +36,4 @@ pub(crate) fn read_form(alloc: Global, grammar: &Grammar, word: &[u8]) -> Result
     } else {
         read_timeline(alloc, inputs, FORM_LIMIT, word)
     }
-}
-
-/// Reads the word of a timeline over all tiers of the grammar.
-pub(crate) fn read_scored(
-    alloc: Global,
-    grammar: &Grammar,
-    word: &[u8],
-) -> Result<Timeline, FormErr>
-    ensures ok { IfOk result (IsScored (length grammar.now.tiers.kinds.items) word.now) }
-    ensures err { IfErr result (λ cause. cause ≢ FormErr.NoMemory → IsNotScored (length grammar.now.tiers.kinds.items) word.now cause) }
-{
-    let width = grammar.tiers.kinds.as_slice().len() as u32;
-    read_timeline(alloc, width, SCORED_LIMIT, word)
 }

@@ -1,5 +1,5 @@
--- What the words of a command are read as, for a grammar.
-use Rattle.std.specs.Prelude.{ℕ, ◌==◌, Bool, List, slice_index_or, MatchBool}
+-- What a grammar reads the word of a form as.
+use Rattle.std.specs.Prelude.{ℕ, ◌==◌, ◌⊎◌, Bool, List, slice_index_or, MatchBool}
 use Rattle.tier_core.specs.declared.sym.Sym.{Sym}
 use Rattle.timeline_text.specs.declared.form_err.FormErr.{FormErr}
 use Rattle.timeline_text.specs.declared.letter.Letter.{Letter}
@@ -19,10 +19,6 @@ IsReadAs inputs letters word u = MatchBool (is_spelled word) (IsSpelledBy letter
 abbrev pub IsRefusedFor : ℕ → List Letter → List ℕ → FormErr → Type 0
 IsRefusedFor inputs letters word cause = MatchBool (is_spelled word) (IsSpellingCause letters word cause) (IsCause inputs 64 word cause)
 
--- the timeline over all tiers, of at most 4,096 columns, that a word is read as
-abbrev pub IsScored : ℕ → List ℕ → List (List Sym) → Type 0
-IsScored width word T = IsTextOf width 4096 word T
-
--- why a word is read as no such timeline
-abbrev pub IsNotScored : ℕ → List ℕ → FormErr → Type 0
-IsNotScored width word cause = IsCause width 4096 word cause
+-- a word is read as a form, or it has a cause
+abbrev pub HasForm : ℕ → List Letter → List ℕ → Type 0
+HasForm inputs letters word = ((u : List (List Sym)) × IsReadAs inputs letters word u) ⊎ ((cause : FormErr) × IsRefusedFor inputs letters word cause)

@@ -1,20 +1,24 @@
 -- Each word has one reading, or one cause.
-use Rattle.std.proofs.Common.{rules, ◌≡◌, ℕ, Bool, true, false, List, MatchBool}
+use Rattle.std.proofs.Common.{rules, ◌≡◌, inl, inr, ℕ, Bool, true, false, List, MatchBool, subst, sym}
 use Rattle.tier_core.specs.declared.sym.Sym.{Sym}
 use Rattle.timeline_text.specs.declared.form_err.FormErr.{FormErr}
 use Rattle.timeline_text.specs.declared.letter.Letter.{Letter}
 use Rattle.timeline_text.specs.Texts.{IsTextOf}
 use Rattle.timeline_text.specs.Causes.{IsCause}
 use Rattle.timeline_text.specs.Spelling.{IsSpelledBy, IsSpellingCause}
-use Rattle.timeline_text.proofs.Deciding.{not_both, one_value}
-use Rattle.timeline_text.proofs.Spellings.{never_both, one_form}
-use Rattle.otp_tool.specs.Forms.{IsReadAs, IsRefusedFor, is_spelled}
+use Rattle.timeline_text.specs.Readings.{HasReading, HasSpelling}
+use Rattle.timeline_text.proofs.Searches.{by_test}
+use Rattle.timeline_text.proofs.Deciding.{has_reading, not_both, one_value}
+use Rattle.timeline_text.proofs.Spellings.{has_spelling, never_both, one_form}
+use Rattle.form_reader.specs.Forms.{HasForm, IsReadAs, IsRefusedFor, is_spelled}
 
-pub by_choice : (b : Bool) (A B X : Type 0) → MatchBool b A B → (A → X) → (B → X) → X
-by_choice true A B X m f g = f m
-by_choice false A B X m f g = g m
+pub when_true : (b : Bool) (A B : Type 0) → b ≡ true → A → MatchBool b A B
+when_true b A B h a = subst (λ (t : Bool). MatchBool t A B) (sym h) a
 
-by_choices : (b : Bool) (A B C D X : Type 0) → MatchBool b A B → MatchBool b C D → (A → C → X) → (B → D → X) → X
+pub when_false : (b : Bool) (A B : Type 0) → b ≡ false → B → MatchBool b A B
+when_false b A B h x = subst (λ (t : Bool). MatchBool t A B) (sym h) x
+
+pub by_choices : (b : Bool) (A B C D X : Type 0) → MatchBool b A B → MatchBool b C D → (A → C → X) → (B → D → X) → X
 by_choices true A B C D X m n f g = f m n
 by_choices false A B C D X m n f g = g m n
 
@@ -42,3 +46,16 @@ module _ (inputs : ℕ) (letters : List Letter) (word : List ℕ) where
       by_choices (is_spelled word) (IsSpellingCause letters word cause) (IsCause inputs 64 word cause) (IsSpellingCause letters word other) (IsCause inputs 64 word other) (cause ≡ other) r f
       (λ s k. one_spelling_cause letters word cause other s k)
       (λ t k. one_cause inputs 64 word cause other t k)
+
+  pub has_form : HasForm inputs letters word
+  has_form = by_test (is_spelled word)
+      (λ h. from_spelling h (has_spelling letters inputs word))
+      (λ h. from_text h (has_reading inputs 64 word))
+    where
+      from_spelling : is_spelled word ≡ true → HasSpelling letters inputs word → HasForm inputs letters word
+      from_spelling h (inl (u, s)) = inl (u, when_true (is_spelled word) _ _ h s)
+      from_spelling h (inr (cause, k)) = inr (cause, when_true (is_spelled word) _ _ h k)
+
+      from_text : is_spelled word ≡ false → HasReading inputs 64 word → HasForm inputs letters word
+      from_text h (inl (u, t)) = inl (u, when_false (is_spelled word) _ _ h t)
+      from_text h (inr (cause, k)) = inr (cause, when_false (is_spelled word) _ _ h k)

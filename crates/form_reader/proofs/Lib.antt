@@ -1,0 +1,2 @@
+pub mod InputTiers
+pub mod ReadingLemmas

@@ -1,0 +1,5 @@
+pub mod Elements
+pub mod Entries
+pub mod Seen
+pub mod Lexicons
+pub mod Examples

@@ -1,0 +1,25 @@
+//! Lexicon files: entries with names and underlying forms, in a text of TOML.
+//!
+//! The key `entry` of a file is an array of tables, and each of them has the strings `name` and
+//! `form`. A form is read as the word of a form on a command line is. The layers above take the
+//! entries from [`read_lexicon`]: their names are distinct, and each form meets what the generator
+//! asks of one.
+//!
+//! The definitions of `specs/` are what stands in the table of a file (`Elements`), which entries its
+//! elements are (`Entries`), and which lexicon a file is (`Lexicons`). The format is this project's
+//! own; what a text of TOML tells is by the definitions of the crate `toml`.
+#![tactic(auto)]
+
+mod element;
+mod entry;
+pub mod examples;
+mod lex_err;
+mod read;
+mod reading;
+#[cfg(test)]
+mod tests;
+
+pub use entry::Entry;
+pub use lex_err::LexErr;
+pub use read::read_lexicon;
+pub use reading::each_file_has_one_lexicon;

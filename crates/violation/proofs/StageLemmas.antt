@@ -8,7 +8,7 @@ use Rattle.tier_core.specs.Tiers.{Tiers}
 use Rattle.violation.specs.Candidates.{vec, IsCandidate, IsOptimalFor}
 use Rattle.violation.specs.Conditions.{IsOverTiers}
 use Rattle.violation.specs.Prefixes.{stretches}
-use Rattle.violation.specs.Sides.{is_stretch}
+use Rattle.tier_core.specs.Sides.{is_stretch}
 use Rattle.violation.specs.Stages.{IsStage}
 use Rattle.violation.proofs.VectorLemmas.{at_most_fewer}
 

@@ -158,15 +158,6 @@ apart_permuted classes sorted p apart = apart_from_once sorted (λ column. omega
 
 -- ---- along each tier
 
-pub below_none : (width : ℕ) (classes : List Class) → ArePieces width classes → JoinsBelow width 0 classes classes
-below_none width classes pieces = record {
-  held = λ column. refl;
-  one_width = pieces.one_width;
-  filled = pieces.filled;
-  fewer = omega arith;
-  differ = λ e tier less. absurd (omega arith);
-}
-
 -- what was joined is apart as before
 pub below_apart : (width n : ℕ) (classes joined : List Class) → AllPairs AreDisjoint classes → JoinsBelow width n classes joined → AllPairs AreDisjoint joined
 below_apart width n classes joined apart joins = apart_from_once joined (λ column. omega (arith, joins.held column, once_from_apart classes apart column))
@@ -199,16 +190,6 @@ pub record IsJoinedWithin (width : ℕ) (classes joined : List Class) (count : �
   pub fewer : length joined ≤ length classes
   pub within : length joined ≤ count
   pub differ : length joined ≡ count → (tier : ℕ) → tier < width → DifferBeside tier joined
-
-pub within_none : (width : ℕ) (classes joined : List Class) → joined ≡ classes → ArePieces width classes → IsJoinedWithin width classes joined (length joined + 1)
-within_none width classes joined e pieces = record {
-  held = λ column. ap (λ xs. times_held xs column) e;
-  one_width = subst (All (λ class. length (sets_of class) ≡ width)) (sym e) pieces.one_width;
-  filled = subst (All (λ class. IsTrue (is_filled class))) (sym e) pieces.filled;
-  fewer = omega (arith, ap length e);
-  within = omega arith;
-  differ = λ same. absurd (omega (arith, same));
-}
 
 pub pieces_within : (width : ℕ) (classes joined : List Class) (count : ℕ) → AllPairs AreDisjoint classes → IsJoinedWithin width classes joined count → ArePieces width joined
 pieces_within width classes joined count apart so_far =

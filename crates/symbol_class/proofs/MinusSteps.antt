@@ -22,20 +22,6 @@ pub record IsMinusBelow (old : List Class) (a b : Class) (tier : ℕ) (pieces : 
   pub kept : (column : List Sym) → has a column ≡ true → has b column ≡ true → has rest column ≡ true
   pub few : length pieces ≤ length old + tier
 
-and_not_itself : (b : Bool) → once_if (b && not b) ≡ 0
-and_not_itself true = refl
-and_not_itself false = refl
-
-pub minus_none : (old : List Class) (a b : Class) → IsMinusBelow old a b 0 old a
-minus_none old a b = record {
-  width = refl;
-  adds = adds_none (length (sets_of a)) old (λ column. once_if (has a column && not (has a column))) (λ column. and_not_itself (has a column));
-  within = λ column h. h;
-  met = λ column h t less. absurd (omega arith);
-  kept = λ column in_a in_b. in_a;
-  few = omega arith;
-}
-
 more_out : (a r i : Bool) → (r ≡ true → a ≡ true) → once_if (a && not r) + once_if (r && not i) ≡ once_if (a && not (r && i))
 more_out true true true h = refl
 more_out true true false h = refl

@@ -21,16 +21,6 @@ pub record IsPartedBelow (width : ℕ) (test : Class) (classes : List Class) (i 
   pub inside_adds : AddsClasses width old inside (times_in test (take i classes))
   pub outside_adds : AddsClasses width [] outside (times_out test (take i classes))
 
-no_times : (b : Bool) → ◌≡◌ {A = ℕ} (if b then 0 else 0) 0
-no_times true = refl
-no_times false = refl
-
-pub parted_none : (width : ℕ) (test : Class) (classes old outside : List Class) → outside ≡ [] → IsPartedBelow width test classes 0 old old outside
-parted_none width test classes old outside e = record {
-  inside_adds = adds_none width old (times_in test []) (λ column. no_times (has test column));
-  outside_adds = subst (λ xs. AddsClasses width [] xs (times_out test [])) (sym e) (adds_none width [] (times_out test []) (λ column. no_times (has test column)));
-}
-
 more_in : (t c : Bool) (n m : ℕ) → m ≡ n + once_if c → (if t then n else 0) + once_if (c && t) ≡ (if t then m else 0)
 more_in true true n m e = sym e
 more_in true false n m e = sym e
@@ -61,15 +51,6 @@ parted_more width test classes i old inside outside class common inside' outside
     more : (column : List Sym) → times_held (take (i + 1) classes) column ≡ times_held (take i classes) column + once_if (has class column)
     more column = sum_by_more (held_by column) classes i class l ∙ ap (λ c. times_held (take i classes) column + once_if (has c column)) (sym is)
 
--- all of the classes are parted
-pub parted_inside : (width : ℕ) (test : Class) (classes : List Class) (i : ℕ) (old inside outside : List Class) → IsPartedBelow width test classes i old inside outside → length classes ≤ i → AddsClasses width old inside (times_in test classes)
-parted_inside width test classes i old inside outside so_far l =
-    adds_same width old inside (times_in test (take i classes)) (times_in test classes) so_far.inside_adds (λ column. ap (λ xs. times_in test xs column) (take_all i classes l))
-
-pub parted_outside : (width : ℕ) (test : Class) (classes : List Class) (i : ℕ) (old inside outside : List Class) → IsPartedBelow width test classes i old inside outside → length classes ≤ i → AddsClasses width [] outside (times_out test classes)
-parted_outside width test classes i old inside outside so_far l =
-    adds_same width [] outside (times_out test (take i classes)) (times_out test classes) so_far.outside_adds (λ column. ap (λ xs. times_out test xs column) (take_all i classes l))
-
 -- ---- one class, parted by all tests
 
 abbrev pub is_inside : Class → List Class → List Sym → Bool
@@ -82,22 +63,6 @@ is_outside class tests column = has class column && not (some_has tests column)
 pub record IsSplitBelow (width : ℕ) (class : Class) (tests : List Class) (i : ℕ) (inside outside : List Class) : Type 0 where
   pub inside_adds : AddsClasses width [] inside (λ column. once_if (is_inside class (take i tests) column))
   pub outside_adds : AddsClasses width [] outside (λ column. once_if (is_outside class (take i tests) column))
-
-not_inside : (b : Bool) → once_if (b && false) ≡ 0
-not_inside true = refl
-not_inside false = refl
-
-all_outside : (b : Bool) → once_if b ≡ once_if (b && true)
-all_outside true = refl
-all_outside false = refl
-
-pub split_none : (width : ℕ) (class : Class) (tests inside empty outside : List Class) → inside ≡ [] → empty ≡ [] → AddsClasses width empty outside (λ column. once_if (has class column)) → IsSplitBelow width class tests 0 inside outside
-split_none width class tests inside empty outside ei eo adds = record {
-  inside_adds = subst (λ xs. AddsClasses width [] xs (λ column. once_if (is_inside class [] column))) (sym ei)
-      (adds_none width [] (λ column. once_if (is_inside class [] column)) (λ column. not_inside (has class column)));
-  outside_adds = adds_same width [] outside (λ column. once_if (has class column)) (λ column. once_if (is_outside class [] column))
-      (subst (λ xs. AddsClasses width xs outside (λ column. once_if (has class column))) eo adds) (λ column. all_outside (has class column));
-}
 
 one_inside : (c s t : Bool) (n : ℕ) → n ≡ once_if (c && not s) → once_if (c && s) + (if t then n else 0) ≡ once_if (c && (s || t))
 one_inside true true true n e = omega arith
@@ -135,14 +100,6 @@ split_more width class tests i inside outside test inside' outside' so_far l is 
 
     more : (column : List Sym) → some_has (take (i + 1) tests) column ≡ (some_has (take i tests) column || has test column)
     more column = list_any_more (λ c. has c column) tests i test l ∙ ap (λ c. some_has (take i tests) column || has c column) (sym is)
-
-pub split_inside : (width : ℕ) (class : Class) (tests : List Class) (i : ℕ) (inside outside : List Class) → IsSplitBelow width class tests i inside outside → length tests ≤ i → AddsClasses width [] inside (λ column. once_if (is_inside class tests column))
-split_inside width class tests i inside outside so_far l =
-    subst (λ xs. AddsClasses width [] inside (λ column. once_if (is_inside class xs column))) (take_all i tests l) so_far.inside_adds
-
-pub split_outside : (width : ℕ) (class : Class) (tests : List Class) (i : ℕ) (inside outside : List Class) → IsSplitBelow width class tests i inside outside → length tests ≤ i → AddsClasses width [] outside (λ column. once_if (is_outside class tests column))
-split_outside width class tests i inside outside so_far l =
-    subst (λ xs. AddsClasses width [] outside (λ column. once_if (is_outside class xs column))) (take_all i tests l) so_far.outside_adds
 
 -- no column is on both sides
 pub one_side : (c s : Bool) → once_if (c && s) + once_if (c && not s) ≤ 1

@@ -109,15 +109,6 @@ adds_none width old times e = record {
   held = λ column. sym (e column);
 }
 
-pub adds_one : (width : ℕ) (old new : List Class) (class : Class) → length (sets_of class) ≡ width → is_filled class ≡ true → new ≡ old ++ class ∷ [] → AddsClasses width old new (λ column. once_if (has class column))
-adds_one width old new class wide filled e = record {
-  added = class ∷ [];
-  new_is = e;
-  one_width = All-push (λ c. length (sets_of c) ≡ width) [] class (All-nil (λ c. length (sets_of c) ≡ width)) wide;
-  filled = All-push (λ c. IsTrue (is_filled c)) [] class (All-nil (λ c. IsTrue (is_filled c))) filled;
-  held = λ column. omega (arith, times-cons class [] column);
-}
-
 pub adds_empty : (width : ℕ) (old : List Class) (class : Class) → is_filled class ≡ false → AddsClasses width old old (λ column. once_if (has class column))
 adds_empty width old class empty =
     adds_none width old (λ column. once_if (has class column)) (λ column. ap once_if (empty_holds class column empty))

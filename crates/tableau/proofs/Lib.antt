@@ -3,5 +3,5 @@ pub mod RowLemmas
 pub mod Readings
 pub mod Countable
 pub mod Comparing
-pub mod Lengths
+pub mod LengthLemmas
 pub mod Turns

@@ -1,5 +1,5 @@
 -- The first line of a text, and the lines behind it.
-use Rattle.std.proofs.Common.{◌≡◌, ℕ, ◌+◌, ◌<◌, ◌==◌, false, List, [], ◌∷◌, length, take, drop, refl, ap, sym, ◌∙◌, arith, Some, None, position, All}
+use Rattle.std.proofs.Common.{◌≡◌, ℕ, ◌+◌, ◌<◌, ◌==◌, false, List, [], ◌∷◌, length, cond, take, drop, refl, ap, sym, ◌∙◌, arith, Some, None, position, All}
 use Rattle.std.specs.List.{slice_split, position_or_len, before_first, after_first}
 use Rattle.std.specs.Str.Lines.{lines, lines_of_parts, strip_carriage_return}
 use Rattle.std.proofs.lemmas.Bool.Decides.{nat_tests}
@@ -35,10 +35,9 @@ pub place_within : (bytes : List ℕ) (end : ℕ) → position (λ b. b == 10) b
 place_within bytes end h = (within bytes end h).1
 
 last_line : (bytes : List ℕ) → 0 < length bytes → lines_of_parts (bytes ∷ []) ≡ bytes ∷ []
-last_line [] h = absurd (omega arith)
-last_line (b ∷ bytes) h = refl
+last_line bytes h = let some : (length bytes == 0) ≡ false = grind (arith, nat_tests) in ap (λ b. cond b [] (bytes ∷ [])) some
 
-nothing_behind : (behind : List ℕ) → length behind ≡ 0 → lines behind ≡ []
+pub nothing_behind : (behind : List ℕ) → length behind ≡ 0 → lines behind ≡ []
 nothing_behind [] h = refl
 nothing_behind (b ∷ behind) h = absurd (omega arith)
 

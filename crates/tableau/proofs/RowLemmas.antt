@@ -8,6 +8,7 @@ use Rattle.tier_core.specs.Tiers.{Tiers}
 use Rattle.timeline_text.specs.Texts.{text_of, IsTextOf}
 use Rattle.violation.specs.Candidates.{IsCandidate}
 use Rattle.tableau.specs.Rows.{AreRowsOf, IsRowOf, filled, is_blank}
+use Rattle.tableau.proofs.LineCuts.{nothing_behind}
 
 -- the lines so far and one more, which is passed over
 pub filled_blank : (front : List (List ℕ)) (line : List ℕ) → is_blank line ≡ true → filled (front ++ line ∷ []) ≡ filled front
@@ -72,5 +73,4 @@ read_more {bytes = bytes} {rest = rest} behind line more e l r a = record {
 -- all lines are read
 pub read_all : {tiers : Tiers} {u : List (List Sym)} {bytes rest : List ℕ} {number : ℕ} {rows : List (List (List Sym))} → length rest ≡ 0
     → IsReadTo tiers u bytes rest number rows → AreRowsOf tiers u (lines bytes) rows
-read_all {tiers} {u} {bytes} {[]} {number} {rows} h r = subst (λ ls. AreRowsOf tiers u ls rows) (sym (r.whole ∙ append-nil r.front)) r.read
-read_all {tiers} {u} {bytes} {b ∷ rest} {number} {rows} h r = absurd (omega arith)
+read_all {tiers} {u} {bytes} {rest} {number} {rows} h r = subst (λ ls. AreRowsOf tiers u ls rows) (sym (r.whole ∙ ap (λ ls. r.front ++ ls) (nothing_behind rest h) ∙ append-nil r.front)) r.read

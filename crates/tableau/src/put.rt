@@ -17,18 +17,19 @@ fn mark_of(worse: Option<u32>) -> &'static [u8]
     if worse.is_some() { b"  " } else { b"> " }
 }
 
-/// Puts the names of the constraints, each in the field of its column.
+/// Puts names, each in the field of its column.
 fn put_names<O: Sink>(
     waiting: &mut Waiting,
     sink: &mut O,
     tableau: &Tableau,
+    names: &[String],
 ) -> Result<(), WriteErr>
-    ensures ok { OnOk result (Sends (O.taken sink.old) (waiting.old ++ fields (tableau_lines tableau.now) 0 (map string_bytes tableau.now.names.items)) (O.taken sink.new) waiting.new) }
-    ensures part { HasSentPart (O.taken sink.old) (waiting.old ++ fields (tableau_lines tableau.now) 0 (map string_bytes tableau.now.names.items)) (O.taken sink.new) }
+    ensures ok { OnOk result (Sends (O.taken sink.old) (waiting.old ++ fields (tableau_lines tableau.now) 0 (map string_bytes names.now)) (O.taken sink.new) waiting.new) }
+    ensures part { HasSentPart (O.taken sink.old) (waiting.old ++ fields (tableau_lines tableau.now) 0 (map string_bytes names.now)) (O.taken sink.new) }
     ensures never_falls { O.faults sink.old ≤ O.faults sink.new }
     ensures failed { result ≡ Err WriteErr.Failed → Rose (O.faults sink.old) (O.faults sink.new) }
 {
-    for (place, name) in tableau.names.iter().enumerate() {
+    for (place, name) in names.iter().enumerate() {
         let width = column_width(tableau, place);
         put_name(waiting, sink, width, name.as_bytes())?;
     }
@@ -40,16 +41,17 @@ fn put_counts<O: Sink>(
     waiting: &mut Waiting,
     sink: &mut O,
     tableau: &Tableau,
-    row: &TableauRow,
+    worse: Option<u32>,
+    counts: &[u32],
 ) -> Result<(), WriteErr>
-    ensures ok { OnOk result (Sends (O.taken sink.old) (waiting.old ++ fields (tableau_lines tableau.now) 0 (count_texts row.now.worse 0 row.now.counts.items)) (O.taken sink.new) waiting.new) }
-    ensures part { HasSentPart (O.taken sink.old) (waiting.old ++ fields (tableau_lines tableau.now) 0 (count_texts row.now.worse 0 row.now.counts.items)) (O.taken sink.new) }
+    ensures ok { OnOk result (Sends (O.taken sink.old) (waiting.old ++ fields (tableau_lines tableau.now) 0 (count_texts worse 0 counts.now)) (O.taken sink.new) waiting.new) }
+    ensures part { HasSentPart (O.taken sink.old) (waiting.old ++ fields (tableau_lines tableau.now) 0 (count_texts worse 0 counts.now)) (O.taken sink.new) }
     ensures never_falls { O.faults sink.old ≤ O.faults sink.new }
     ensures failed { result ≡ Err WriteErr.Failed → Rose (O.faults sink.old) (O.faults sink.new) }
 {
-    for (place, count) in row.counts.iter().enumerate() {
+    for (place, count) in counts.iter().enumerate() {
         let width = column_width(tableau, place);
-        put_count(waiting, sink, width, row.worse, place, *count)?;
+        put_count(waiting, sink, width, worse, place, *count)?;
     }
     Ok(())
 }
@@ -68,7 +70,7 @@ fn put_head<O: Sink>(
     ensures failed { result ≡ Err WriteErr.Failed → Rose (O.faults sink.old) (O.faults sink.new) }
 {
     put_first(waiting, sink, b"  ", width, &tableau.form)?;
-    put_names(waiting, sink, tableau)?;
+    put_names(waiting, sink, tableau, &tableau.names)?;
     waiting.put(sink, b"\n")
 }
 
@@ -87,24 +89,25 @@ fn put_row<O: Sink>(
     ensures failed { result ≡ Err WriteErr.Failed → Rose (O.faults sink.old) (O.faults sink.new) }
 {
     put_first(waiting, sink, mark_of(row.worse), width, &row.timeline)?;
-    put_counts(waiting, sink, tableau, row)?;
+    put_counts(waiting, sink, tableau, row.worse, &row.counts)?;
     waiting.put(sink, b"\n")
 }
 
-/// Puts the lines of the rows.
+/// Puts the lines of rows.
 fn put_rows<O: Sink>(
     waiting: &mut Waiting,
     sink: &mut O,
     tableau: &Tableau,
     width: u128,
+    rows: &[TableauRow],
 ) -> Result<(), WriteErr>
     requires { width ≡ widest (firsts (tableau_lines tableau.now)) }
-    ensures ok { OnOk result (Sends (O.taken sink.old) (waiting.old ++ flat_map (line_text (tableau_lines tableau.now)) (map row_line tableau.now.rows.items)) (O.taken sink.new) waiting.new) }
-    ensures part { HasSentPart (O.taken sink.old) (waiting.old ++ flat_map (line_text (tableau_lines tableau.now)) (map row_line tableau.now.rows.items)) (O.taken sink.new) }
+    ensures ok { OnOk result (Sends (O.taken sink.old) (waiting.old ++ flat_map (line_text (tableau_lines tableau.now)) (map row_line rows.now)) (O.taken sink.new) waiting.new) }
+    ensures part { HasSentPart (O.taken sink.old) (waiting.old ++ flat_map (line_text (tableau_lines tableau.now)) (map row_line rows.now)) (O.taken sink.new) }
     ensures never_falls { O.faults sink.old ≤ O.faults sink.new }
     ensures failed { result ≡ Err WriteErr.Failed → Rose (O.faults sink.old) (O.faults sink.new) }
 {
-    for row in &tableau.rows {
+    for row in rows {
         put_row(waiting, sink, tableau, width, row)?;
     }
     Ok(())
@@ -123,7 +126,7 @@ fn put_lines<O: Sink>(
 {
     let width = first_width(tableau);
     put_head(waiting, sink, tableau, width)?;
-    put_rows(waiting, sink, tableau, width)
+    put_rows(waiting, sink, tableau, width, &tableau.rows)
 }
 
 /// Writes the text of a tableau. It takes no memory but what the sink takes in its writes, so the

@@ -8,8 +8,9 @@ use crate::table::Tableau;
 pub(crate) fn first_width(tableau: &Tableau) -> u128
     ensures { result ≡ widest (firsts (tableau_lines tableau.now)) }
 {
+    let rows = tableau.rows.as_slice();
     let mut width = text_length(&tableau.form);
-    for row in &tableau.rows {
+    for row in rows {
         width = width.max(text_length(&row.timeline));
     }
     width
@@ -19,8 +20,9 @@ pub(crate) fn first_width(tableau: &Tableau) -> u128
 pub(crate) fn column_width(tableau: &Tableau, place: usize) -> usize
     ensures { result ≡ widest (column place (tableau_lines tableau.now)) }
 {
-    let mut width = name_length(&tableau.names, place);
-    for row in &tableau.rows {
+    let rows = tableau.rows.as_slice();
+    let mut width = name_length(tableau.names.as_slice(), place);
+    for row in rows {
         width = width.max(row_length(row, place));
     }
     width

@@ -1,7 +1,7 @@
 use Rattle.std.proofs.Common.{◌≡◌, ◌-◌, [], ap, codes, arith}
 use Rattle.outside.proofs.Sending.{part_of_sends, puts_piece, puts_part}
 use Rattle.tableau.specs.Layout.{spaces}
-use Rattle.tableau.proofs.Lengths.{spaces_next}
+use Rattle.tableau.proofs.LengthLemmas.{spaces_next}
 use Rattle.tableau.proofs.Turns.{left_is, none_left}
 use Rattle.tableau.proofs.fields.put_spaces.Goals as goal
 

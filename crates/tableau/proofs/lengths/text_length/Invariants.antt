@@ -1,5 +1,5 @@
 use Rattle.std.proofs.Common.{◌≡◌, ◌+◌, ◌*◌, ◌≤◌, drop}
-use Rattle.tableau.proofs.Lengths.{bytes_of}
+use Rattle.tableau.proofs.LengthLemmas.{bytes_of}
 use Rattle.tableau.proofs.lengths.text_length.Given as goal
 
 -- the columns so far take these bytes, at most 13 each

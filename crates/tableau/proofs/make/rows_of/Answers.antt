@@ -1,0 +1,25 @@
+use Rattle.std.proofs.Common.{◌≡◌, ◌+◌, ◌∷◌, [], ◌++◌, ℕ, List, map, take, All, ap, sym, ◌∙◌, subst, rules}
+use Rattle.std.proofs.lemmas.List.{map_push, take_more}
+use Rattle.std.proofs.lemmas.List.Elements.{All-push}
+use Rattle.tier_core.specs.declared.sym.Sym.{Sym}
+use Rattle.tier_core.specs.declared.constraint.Constraint.{Constraint}
+use Rattle.tier_core.specs.Tables.{tiers_of_table}
+use Rattle.violation.specs.Candidates.{IsCandidate}
+use Rattle.violation.specs.Conditions.{IsCountable}
+use Rattle.tableau.specs.Compared.{IsCompared}
+use Rattle.tableau.specs.Tableaux.{IsTableauRow}
+use Rattle.tableau.proofs.Comparing.{compared_row}
+use Rattle.tableau.proofs.Countable.{all_countable}
+use Rattle.tableau.proofs.make.rows_of.Goals as goal
+
+pub compared-requires-clause-countable : goal.compared-requires-clause-countable
+compared-requires-clause-countable c =
+    let candidate = subst (IsCandidate (tiers_of_table c.args.grammar.now.tiers) c.args.answer.now.form) (sym c.timeline-item.is) (c.requires.candidates c.loop-timeline.timeline-index c.timeline-item.result c.loop-timeline-test.true) in
+    subst (λ (cs : List Constraint). All (λ k. IsCountable k.left k.right c.timeline-item.result) cs) (sym c.deref.ensures.value)
+    (all_countable c.args.grammar.now c.timeline-item.result candidate.well_formed)
+
+pub loop-timeline-preserved : goal.loop-timeline-preserved
+loop-timeline-preserved c =
+    let candidate = subst (IsCandidate (tiers_of_table c.args.grammar.now.tiers) c.args.answer.now.form) (sym c.timeline-item.is) (c.requires.candidates c.loop-timeline.timeline-index c.timeline-item.result c.loop-timeline-test.true) in
+    let pushed : c.push-in-loop-timeline.new.self.items ≡ c.loop-timeline.rows.items ++ c.in_ok-row.row ∷ [] = search rules in
+    record { timelines = ?; each = ? }

@@ -7,7 +7,9 @@ use Rattle.tier_core.specs.declared.sym.Sym.{Sym}
 use Rattle.tier_core.specs.Tiers.{Tiers}
 use Rattle.timeline_text.specs.Texts.{text_of, IsTextOf}
 use Rattle.violation.specs.Candidates.{IsCandidate}
-use Rattle.tableau.specs.Rows.{AreRowsOf, IsRowOf, filled, is_blank}
+use Rattle.tableau.specs.declared.rows_err.RowsErr.{RowsErr}
+use Rattle.tableau.specs.declared.rows_err.RowsErr.TheVariants.{At, NoMemory}
+use Rattle.tableau.specs.Rows.{AreRowsOf, IsLineCause, IsLineRefusal, IsRowOf, IsTextRefusal, filled, is_blank}
 use Rattle.tableau.proofs.LineCuts.{nothing_behind}
 
 -- the lines so far and one more, which is passed over
@@ -37,6 +39,22 @@ row_line tiers u front line rows T h l r a = record {
   candidates = All-push (IsCandidate tiers u) rows T a.candidates r.candidate;
   within = All-push (λ U. length U ≤ 4096) rows T a.within r.text.within;
   few = omega (arith, length_push rows T);
+}
+
+-- a line that is refused behind these lines
+pub refused_line : (tiers : Tiers) (u : List (List Sym)) (front : List (List ℕ)) (line : List ℕ) (behind : List (List ℕ)) (rows : List (List (List Sym))) (number before : ℕ) (e : RowsErr) → is_blank line ≡ false
+    → length front + 1 ≡ number → before ≡ length rows → AreRowsOf tiers u front rows → IsLineRefusal tiers u number before line e → IsTextRefusal tiers u (front ++ line ∷ behind) e
+refused_line tiers u front line behind rows number before NoMemory h n b a r = tt
+refused_line tiers u front line behind rows number before (At row cause) h n b a r = record {
+  front = front;
+  line = line;
+  behind = behind;
+  whole = refl;
+  counted = n ∙ sym r.0;
+  rows = rows;
+  read = a;
+  has_row = h;
+  comes = subst (λ (m : ℕ). IsLineCause tiers u m line cause) b r.1;
 }
 
 -- The lines in front of the rest have these rows.

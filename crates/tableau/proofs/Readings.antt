@@ -163,9 +163,9 @@ line_read : (tiers : Tiers) (u : List (List Sym)) (before : ℕ) (line : List �
 line_read tiers u before line =
     by_test (nat_lt before 32)
     (λ h. let l : before < 32 = grind (arith, nat_tests) in
-        ⊎_elim (λ r. ⊎_elim (λ c. inl (l, (r.0, record { text = r.1; candidate = c }))) (λ n. inr (NotCandidate, (l, record { timeline = r.0; text = r.1; other = n }))) (decide tiers u line r.0 r.1))
-        (λ r. inr (Form r.0, (l, r.1)))
-        (has_reading tiers.width 4096 line))
+    ⊎_elim (λ r. ⊎_elim (λ c. inl (l, (r.0, record { text = r.1; candidate = c }))) (λ n. inr (NotCandidate, (l, record { timeline = r.0; text = r.1; other = n }))) (decide tiers u line r.0 r.1))
+    (λ r. inr (Form r.0, (l, r.1)))
+    (has_reading tiers.width 4096 line))
     (λ h. let m : 32 ≤ before = grind (arith, nat_tests) in inr (TooMany, m))
 
 -- the lines from here on, where those in front of them have rows
@@ -176,9 +176,23 @@ read_on tiers u (line ∷ behind) front rows a =
     (step (read_on tiers u behind (front ++ line ∷ [])))
   where
     refused : is_blank line ≡ false → (cause : RowsCause) → IsLineCause tiers u (length rows) line cause → HasRows tiers u ((front ++ line ∷ []) ++ behind)
-    refused h cause l = inr (length front + 1, (cause, record {
-      front = front; line = line; behind = behind; whole = append_assoc front (line ∷ []) behind; counted = refl; rows = rows; read = a; has_row = h; comes = l;
-    }))
+    refused h cause l = inr (
+      length front + 1,
+      (
+        cause,
+        record {
+          front = front;
+          line = line;
+          behind = behind;
+          whole = append_assoc front (line ∷ []) behind;
+          counted = refl;
+          rows = rows;
+          read = a;
+          has_row = h;
+          comes = l;
+        },
+      ),
+    )
 
     step : ((more : List (List (List Sym))) → AreRowsOf tiers u (front ++ line ∷ []) more → HasRows tiers u ((front ++ line ∷ []) ++ behind)) → HasRows tiers u ((front ++ line ∷ []) ++ behind)
     step go =

@@ -24,7 +24,7 @@ loop-timeline-preserved c =
     let candidate = subst (IsCandidate (tiers_of_table c.args.grammar.now.tiers) c.args.answer.now.form) (sym c.timeline-item.is) (c.requires.candidates c.loop-timeline.timeline-index c.timeline-item.result c.loop-timeline-test.true) in
     let pushed : c.push-in-loop-timeline.new.self.items ≡ c.loop-timeline.rows.items ++ c.in_ok-row.row ∷ [] = search rules in
     let compared = subst (λ (cs : List Constraint). IsCompared cs c.args.answer.now.counts.items c.timeline-item.result c.in_ok-row.row) c.deref.ensures.value
-        (subst (λ (least : List ℕ). IsCompared c.deref.result.now least c.timeline-item.result c.in_ok-row.row) c.deref-in-loop-timeline.ensures.value c.in_ok-row.ensures) in
+    (subst (λ (least : List ℕ). IsCompared c.deref.result.now least c.timeline-item.result c.in_ok-row.row) c.deref-in-loop-timeline.ensures.value c.in_ok-row.ensures) in
     let row = compared_row (tiers_of_table c.args.grammar.now.tiers) c.args.grammar.now.constraints.items c.args.answer.now.form c.args.answer.now.counts.items c.requires.right.counts c.timeline-item.result c.in_ok-row.row candidate compared in
     record {
       timelines = ap (map (λ (r : TableauRow). r.timeline)) pushed

@@ -11,8 +11,8 @@ returns-in_err-row-clause-err c =
     let p = err_from_is_err_and c.from_residual.result c.from_residual.ensures.1 in
     let before : c.len.result ≡ length c.args.rows.now.items = search rules in
     rw (p.1, p.2) (λ front behind counted a.
-        refused_line (tiers_of_table c.args.grammar.now.tiers) c.args.form.now front c.args.line.now behind c.args.rows.now.items c.args.number c.len.result c.in_err-row.field-0.0
-        (sym c.is_blank.ensures ∙ c.if-is_blank.false) counted before a c.in_err-row.ensures.err)
+    refused_line (tiers_of_table c.args.grammar.now.tiers) c.args.form.now front c.args.line.now behind c.args.rows.now.items c.args.number c.len.result c.in_err-row.field-0.0
+    (sym c.is_blank.ensures ∙ c.if-is_blank.false) counted before a c.in_err-row.ensures.err)
 
 pub returns-clause-ok : goal.returns-clause-ok
 returns-clause-ok c =

@@ -13,7 +13,7 @@ use Rattle.violation.specs.Moves.{cut}
 use Rattle.violation.specs.Prefixes.{kind_of}
 use Rattle.kind_moves.specs.declared.frame.Frame.{Frame}
 use Rattle.kind_moves.specs.Frames.{tiers_in, constraints_in, form_in, kind_at_stage, IsStart}
-use Rattle.stage_laws.proofs.Cuts.{cut-kind_of}
+use Rattle.violation.proofs.CutLemmas.{cut-kind_of}
 use Rattle.stage_tables.specs.declared.kind_key.KindKey.{KindKey}
 use Rattle.stage_tables.specs.Kept.{AreKeptByKinds}
 use Rattle.stage_tables.specs.Listed.{IsAt, AreListed, IsPutLast, IsNumbered, StandsOver, IsReached, AreFound, AreTaken}

@@ -27,7 +27,7 @@ use Rattle.stage_tables.specs.declared.kind_key.KindKey.{KindKey}
 use Rattle.stage_tables.specs.KindKeys.{key_of}
 use Rattle.stage_tables.specs.Kept.{AreKeptByKinds}
 use Rattle.stage_tables.specs.Listed.{IsAt, AreListed, IsPutLast, IsSame, IsNumbered, Stays, StandsOver, IsReached, AreFound, IsTaken, IsTakenState, AreTargets, AreTaken}
-use Rattle.stage_laws.proofs.Cuts.{cut-moved, fits-cut}
+use Rattle.violation.proofs.CutLemmas.{cut-moved, fits-cut}
 use Rattle.stage_tables.proofs.Keys.{same_told, same_fits}
 use Rattle.stage_tables.proofs.Zips.{zip_weaken}
 use Rattle.stage_tables.proofs.Listing.{at_number, at_last, at_cases, stays_put}

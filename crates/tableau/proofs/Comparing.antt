@@ -1,0 +1,84 @@
+-- Counts beside the least counts of a form.
+use Rattle.std.proofs.Common.{◌≡◌, ◌≢◌, ◌⊎◌, inl, inr, ℕ, zero, suc, ◌+◌, ◌<◌, ◌≤◌, ◌↔◌, true, false, IsTrue, List, [], ◌∷◌, length, map, take, get_or, All, Option, Some, None, MatchOption, IfSome, is_some, cond, nat_lt, ◌==◌, refl, ap, sym, ◌∙◌, subst, arith}
+use Rattle.std.specs.Prelude.{IsNone}
+use Rattle.std.specs.Ordering.{nat_cmp, is_le, ordering_then}
+use Rattle.std.specs.Cmp.{nat_cmp_is}
+use Rattle.std.specs.declared.cmp.Ordering.{Ordering}
+use Rattle.std.specs.declared.cmp.Ordering.TheVariants.{Less, Equal, Greater}
+use Rattle.std.specs.Cmp.Lexicographic.{slice_cmp}
+use Rattle.std.proofs.lemmas.Bool.{false≢true}
+use Rattle.std.proofs.lemmas.Cmp.{ranked}
+use Rattle.std.proofs.lemmas.List.{length-map, take_all}
+use Rattle.tier_core.specs.declared.sym.Sym.{Sym}
+use Rattle.tier_core.specs.declared.constraint.Constraint.{Constraint}
+use Rattle.tier_core.specs.Tiers.{Tiers}
+use Rattle.violation.specs.Counts.{violations_of}
+use Rattle.violation.specs.Candidates.{vec, IsAtMost, IsCandidate, IsLeastVector, IsOptimal}
+use Rattle.tableau.specs.declared.table.TableauRow.{TableauRow}
+use Rattle.tableau.specs.Compared.{IsCompared, IsFirstOther}
+use Rattle.tableau.specs.Tableaux.{IsFirstWorse, IsTableauRow}
+
+-- the counts that differ first, by how they compare
+at_first : (m n : ℕ) (rest r : Ordering) → r ≡ nat_cmp m n → is_le (ordering_then r rest) ≡ true → n ≢ m → m < n
+at_first m n rest Less e h o = ranked m n Less e
+at_first m n rest Equal e h o = absurd (o (sym (ranked m n Equal e)))
+at_first m n rest Greater e h o = absurd (false≢true h)
+
+-- where the least is at most the counts, the first count that differs is greater
+greater : (least counts : List ℕ) (w : ℕ) → is_le (slice_cmp nat_cmp least counts) ≡ true → w < length least → take w counts ≡ take w least → get_or counts w 0 ≢ get_or least w 0 → get_or least w 0 < get_or counts w 0
+greater [] counts w a l b o = absurd (omega arith)
+greater (m ∷ least) [] w a l b o = absurd (false≢true a)
+greater (m ∷ least) (n ∷ counts) zero a l b o = at_first m n (slice_cmp nat_cmp least counts) (nat_cmp m n) refl a o
+greater (m ∷ least) (n ∷ counts) (suc w) a l b o =
+    let same : m ≡ n = cc in
+    let rest : take w counts ≡ take w least = cc in
+    greater least counts w (ap (λ r. is_le (ordering_then r (slice_cmp nat_cmp least counts))) (nat_cmp_is m n Equal same) ∙ a) (omega arith) rest o
+
+module _ (tiers : Tiers) (constraints : List Constraint) (u : List (List Sym)) (least : List ℕ) (is_least : IsLeastVector tiers constraints u least) where
+  whole : (T : List (List Sym)) → take (length constraints) (vec constraints T) ≡ vec constraints T
+  whole T = let n = length-map constraints (λ c. violations_of c T) in take_all (length constraints) (vec constraints T) (omega arith)
+
+  -- the least is at most the vector of each candidate
+  at_most : (T : List (List Sym)) → IsCandidate tiers u T → IsAtMost least (vec constraints T)
+  at_most T c =
+      let best = is_least.some.0 in
+      subst (λ (v : List ℕ). IsAtMost v (vec constraints T)) (whole best ∙ is_least.some.1.1)
+      (subst (λ (v : List ℕ). IsAtMost (take (length constraints) (vec constraints best)) v) (whole T) (is_least.some.1.0.least T c))
+
+  -- a candidate with the least vector is optimal
+  optimal : (T : List (List Sym)) → IsCandidate tiers u T → vec constraints T ≡ least → IsOptimal tiers constraints u T
+  optimal T c e = record {
+    candidate = c;
+    least = λ U d. subst (λ (v : List ℕ). IsAtMost (take (length constraints) v) (take (length constraints) (vec constraints U))) (is_least.some.1.1 ∙ sym e) (is_least.some.1.0.least U d);
+  }
+
+  pub length-least : length least ≡ length constraints
+  length-least = ap length (sym is_least.some.1.1) ∙ length-map constraints (λ c. violations_of c is_least.some.0)
+
+  -- what a comparison with the least says of a candidate
+  judged : (T : List (List Sym)) → IsCandidate tiers u T → (counts : List ℕ) → counts ≡ vec constraints T → (worse : Option ℕ) → MatchOption worse (counts ≡ least) (IsFirstOther least counts)
+      → (IsNone worse ↔ IsOptimal tiers constraints u T) × IfSome worse (IsFirstWorse least counts)
+  judged T c counts e None same = ((λ _. optimal T c (sym e ∙ same), λ _. refl), tt)
+  judged T c counts e (Some w) o = (
+    (λ n. absurd (false≢true (sym n)), λ best. absurd (o.other (ap (λ xs. get_or xs w 0) (e ∙ is_least.shared T best)))),
+    record { there = o.there; before = o.before; greater = greater least counts w (subst (λ (v : List ℕ). IsAtMost least v) (sym e) (at_most T c)) o.there o.before o.other },
+  )
+
+  pub compared_row : (T : List (List Sym)) (row : TableauRow) → IsCandidate tiers u T → IsCompared constraints least T row → IsTableauRow tiers constraints u least row
+  compared_row T row c r =
+      let judge = judged T c row.counts.items r.counts row.worse r.worse in
+      record {
+        counts = r.counts ∙ ap (vec constraints) (sym r.timeline);
+        optimal = subst (λ (U : List (List Sym)). IsNone row.worse ↔ IsOptimal tiers constraints u U) (sym r.timeline) judge.0;
+        worse = judge.1;
+      }
+
+  -- an optimal candidate with the least counts
+  pub optimal_row : (T : List (List Sym)) (row : TableauRow) → IsOptimal tiers constraints u T → row.timeline ≡ T → row.counts.items ≡ least → row.worse ≡ None → IsTableauRow tiers constraints u least row
+  optimal_row T row best t e w =
+      let of_row : IsOptimal tiers constraints u row.timeline = subst (IsOptimal tiers constraints u) (sym t) best in
+      record {
+        counts = e ∙ sym (is_least.shared row.timeline of_row);
+        optimal = (λ _. of_row, λ _. ap is_some w);
+        worse = subst (λ (o : Option ℕ). IfSome o (IsFirstWorse least row.counts.items)) (sym w) tt;
+      }

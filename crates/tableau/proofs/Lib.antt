@@ -1,0 +1,7 @@
+pub mod LineCuts
+pub mod RowLemmas
+pub mod Readings
+pub mod Countable
+pub mod Comparing
+pub mod LengthLemmas
+pub mod Turns

@@ -1,0 +1,94 @@
+-- Rows of lines, line by line.
+use Rattle.std.proofs.Common.{◌≡◌, ℕ, ◌+◌, ◌<◌, ◌≤◌, Bool, true, false, not, cond, List, [], ◌∷◌, ◌++◌, length, map, filter, All, refl, ap, sym, ◌∙◌, subst, arith, append_assoc, append-nil}
+use Rattle.std.specs.Str.Lines.{lines}
+use Rattle.std.proofs.lemmas.List.{length_push, map_push}
+use Rattle.std.proofs.lemmas.List.Elements.{All-nil, All-push, filter-append}
+use Rattle.tier_core.specs.declared.sym.Sym.{Sym}
+use Rattle.tier_core.specs.Tiers.{Tiers}
+use Rattle.timeline_text.specs.Texts.{text_of, IsTextOf}
+use Rattle.violation.specs.Candidates.{IsCandidate}
+use Rattle.tableau.specs.declared.rows_err.RowsErr.{RowsErr}
+use Rattle.tableau.specs.declared.rows_err.RowsErr.TheVariants.{At, NoMemory}
+use Rattle.tableau.specs.Rows.{AreRowsOf, IsLineCause, IsLineRefusal, IsRowOf, IsTextRefusal, filled, is_blank}
+use Rattle.tableau.proofs.LineCuts.{nothing_behind}
+
+-- the lines so far and one more, which is passed over
+pub filled_blank : (front : List (List ℕ)) (line : List ℕ) → is_blank line ≡ true → filled (front ++ line ∷ []) ≡ filled front
+filled_blank front line h =
+    filter-append (λ l. not (is_blank l)) front (line ∷ [])
+    ∙ ap (λ b. filled front ++ cond (not b) (line ∷ []) []) h ∙ append-nil (filled front)
+
+-- or is not
+pub filled_more : (front : List (List ℕ)) (line : List ℕ) (behind : List (List ℕ)) → is_blank line ≡ false → filled (front ++ line ∷ behind) ≡ filled front ++ line ∷ filled behind
+filled_more front line behind h =
+    filter-append (λ l. not (is_blank l)) front (line ∷ behind)
+    ∙ ap (λ b. filled front ++ cond (not b) (line ∷ filled behind) (filled behind)) h
+
+-- no line has no rows
+pub no_rows : (tiers : Tiers) (u : List (List Sym)) → AreRowsOf tiers u [] []
+no_rows tiers u = record { texts = refl; candidates = All-nil (IsCandidate tiers u); within = All-nil (λ T. length T ≤ 4096); few = omega arith }
+
+pub blank_line : (tiers : Tiers) (u : List (List Sym)) (front : List (List ℕ)) (line : List ℕ) (rows : List (List (List Sym))) → is_blank line ≡ true
+    → AreRowsOf tiers u front rows → AreRowsOf tiers u (front ++ line ∷ []) rows
+blank_line tiers u front line rows h a = record { texts = filled_blank front line h ∙ a.texts; candidates = a.candidates; within = a.within; few = a.few }
+
+pub row_line : (tiers : Tiers) (u : List (List Sym)) (front : List (List ℕ)) (line : List ℕ) (rows : List (List (List Sym))) (T : List (List Sym)) → is_blank line ≡ false
+    → length rows < 32 → IsRowOf tiers u line T → AreRowsOf tiers u front rows → AreRowsOf tiers u (front ++ line ∷ []) (rows ++ T ∷ [])
+row_line tiers u front line rows T h l r a = record {
+  texts = filled_more front line [] h ∙ ap (λ ts. ts ++ line ∷ []) a.texts ∙ ap (λ t. map text_of rows ++ t ∷ []) r.text.text ∙ sym (map_push text_of rows T);
+  candidates = All-push (IsCandidate tiers u) rows T a.candidates r.candidate;
+  within = All-push (λ U. length U ≤ 4096) rows T a.within r.text.within;
+  few = omega (arith, length_push rows T);
+}
+
+-- a line that is refused behind these lines
+pub refused_line : (tiers : Tiers) (u : List (List Sym)) (front : List (List ℕ)) (line : List ℕ) (behind : List (List ℕ)) (rows : List (List (List Sym))) (number before : ℕ) (e : RowsErr) → is_blank line ≡ false
+    → length front + 1 ≡ number → before ≡ length rows → AreRowsOf tiers u front rows → IsLineRefusal tiers u number before line e → IsTextRefusal tiers u (front ++ line ∷ behind) e
+refused_line tiers u front line behind rows number before NoMemory h n b a r = tt
+refused_line tiers u front line behind rows number before (At row cause) h n b a r = record {
+  front = front;
+  line = line;
+  behind = behind;
+  whole = refl;
+  counted = n ∙ sym r.0;
+  rows = rows;
+  read = a;
+  has_row = h;
+  comes = subst (λ (m : ℕ). IsLineCause tiers u m line cause) b r.1;
+}
+
+-- The lines in front of the rest have these rows.
+pub record IsReadTo (tiers : Tiers) (u : List (List Sym)) (bytes rest : List ℕ) (number : ℕ) (rows : List (List (List Sym))) : Type 0 where
+  pub front : List (List ℕ)
+  pub whole : lines bytes ≡ front ++ lines rest
+  pub read : AreRowsOf tiers u front rows
+  pub counted : length front ≡ number
+  pub left : number + length rest ≤ length bytes
+
+pub read_none : (tiers : Tiers) (u : List (List Sym)) (bytes : List ℕ) (rows : List (List (List Sym))) → rows ≡ [] → IsReadTo tiers u bytes bytes 0 rows
+read_none tiers u bytes rows e = record {
+  front = [];
+  whole = refl;
+  read = subst (AreRowsOf tiers u []) (sym e) (no_rows tiers u);
+  counted = refl;
+  left = omega arith;
+}
+
+-- the lines of the text, with the first line of the rest on its own
+pub next_line : (bytes rest behind line : List ℕ) (front : List (List ℕ)) → lines bytes ≡ front ++ lines rest → lines rest ≡ line ∷ lines behind → lines bytes ≡ front ++ line ∷ lines behind
+next_line bytes rest behind line front w e = w ∙ ap (λ ls. front ++ ls) e
+
+pub read_more : {tiers : Tiers} {u : List (List Sym)} {bytes rest : List ℕ} {number : ℕ} {rows : List (List (List Sym))} (behind line : List ℕ) (more : List (List (List Sym))) → lines rest ≡ line ∷ lines behind → length behind < length rest
+    → (r : IsReadTo tiers u bytes rest number rows) → AreRowsOf tiers u (r.front ++ line ∷ []) more → IsReadTo tiers u bytes behind (number + 1) more
+read_more {bytes = bytes} {rest = rest} behind line more e l r a = record {
+  front = r.front ++ line ∷ [];
+  whole = next_line bytes rest behind line r.front r.whole e ∙ sym (append_assoc r.front (line ∷ []) (lines behind));
+  read = a;
+  counted = length_push r.front line ∙ ap (λ n. n + 1) r.counted;
+  left = let k = r.left in omega arith;
+}
+
+-- all lines are read
+pub read_all : {tiers : Tiers} {u : List (List Sym)} {bytes rest : List ℕ} {number : ℕ} {rows : List (List (List Sym))} → length rest ≡ 0
+    → IsReadTo tiers u bytes rest number rows → AreRowsOf tiers u (lines bytes) rows
+read_all {tiers} {u} {bytes} {rest} {number} {rows} h r = subst (λ ls. AreRowsOf tiers u ls rows) (sym (r.whole ∙ ap (λ ls. r.front ++ ls) (nothing_behind rest h) ∙ append-nil r.front)) r.read

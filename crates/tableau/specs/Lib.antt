@@ -1,0 +1,4 @@
+pub mod Rows
+pub mod Tableaux
+pub mod Compared
+pub mod Layout

@@ -1,0 +1,18 @@
+ghost use Rattle.std.specs.Prelude.{◌≡◌, ℕ, List};
+ghost use Rattle.std.specs.Str.Lines.{lines};
+ghost use Rattle.tier_core.specs.declared.sym.Sym.{Sym};
+ghost use Rattle.tier_core.specs.Tiers.{Tiers};
+ghost use Rattle.tableau.specs.declared.rows_err.RowsCause.{RowsCause};
+ghost use Rattle.tableau.specs.Rows.{AreRowsOf, HasRows, IsRefusedAt};
+
+use timeline_text::each_text_has_one_reading;
+
+/// Each text has exactly one of rows and a line with a cause.
+pub fn each_rows_text_has_one_reading()
+    ensures some { (tiers : Tiers) (u : List (List Sym)) (bytes : List ℕ) → HasRows tiers u (lines bytes) }
+    ensures one_value { (tiers : Tiers) (u : List (List Sym)) (bytes : List ℕ) (rows others : List (List (List Sym))) → AreRowsOf tiers u (lines bytes) rows → AreRowsOf tiers u (lines bytes) others → rows ≡ others }
+    ensures one_cause { (tiers : Tiers) (u : List (List Sym)) (bytes : List ℕ) (m n : ℕ) (e f : RowsCause) → IsRefusedAt tiers u (lines bytes) m e → IsRefusedAt tiers u (lines bytes) n f → (m ≡ n) × (e ≡ f) }
+    ensures not_both { (tiers : Tiers) (u : List (List Sym)) (bytes : List ℕ) (rows : List (List (List Sym))) (n : ℕ) (e : RowsCause) → AreRowsOf tiers u (lines bytes) rows → IsRefusedAt tiers u (lines bytes) n e → ⊥ }
+{
+    each_text_has_one_reading();
+}

@@ -1,0 +1,239 @@
+ghost use Rattle.std.specs.Prelude.{◌≡◌, [], ◌∷◌, None, Some, codes};
+ghost use Rattle.std.specs.Str.Lines.{lines};
+ghost use Rattle.tableau.specs.Layout.{count_texts, laid_out, mark_of};
+ghost use Rattle.tableau.specs.Rows.{filled};
+
+use super::*;
+use grammar_reader::{Grammar, read_grammar};
+use outside::{MemSink, SafeSink, WriteErr};
+use std::alloc::{AllocError, Global};
+use std::test::Fail;
+use tier_core::Timeline;
+use timeline_text::{FormErr, read_timeline};
+
+// The lines of texts, and those that are not passed over, which are proved.
+fn lines_of_texts()
+    ensures returns { lines (codes "[- ]-\r\n\r\n-[ -]\r") ≡ codes "[- ]-" ∷ [] ∷ codes "-[ -]\r" ∷ [] }
+    ensures last { lines (codes "[- ]-\n") ≡ codes "[- ]-" ∷ [] }
+    ensures filled { filled (lines (codes "\n  \n[- ]-\n x\n")) ≡ codes "[- ]-" ∷ codes " x" ∷ [] }
+{}
+
+// The text of a form and three rows, which is proved.
+fn three_rows_laid_out()
+    ensures { laid_out (
+        record { mark = codes "  "; first = codes "[ ]"; texts = codes "Max" ∷ codes "Dep" ∷ codes "One" ∷ [] }
+        ∷ record { mark = mark_of None; first = codes "[[ ]]"; texts = count_texts None 0 (0 ∷ 0 ∷ 1 ∷ []) }
+        ∷ record { mark = mark_of (Some 0); first = codes "[- ]-"; texts = count_texts (Some 0) 0 (1 ∷ 0 ∷ 0 ∷ []) }
+        ∷ record { mark = mark_of (Some 1); first = codes "-[ [| ]]"; texts = count_texts (Some 1) 0 (0 ∷ 1 ∷ 2 ∷ []) } ∷ [])
+        ≡ codes "  [ ]      Max Dep One\n> [[ ]]      0   0   1\n  [- ]-     1!   0   0\n  -[ [| ]]   0  1!   2\n" }
+{}
+
+#[test]
+fn definitions_compute() {
+    lines_of_texts();
+    three_rows_laid_out();
+}
+
+/// An input tier A and an overt tier a, with three constraints.
+const GRAMMAR: &[u8] = b"otp 1
+tier A input
+tier a overt
+constraint Max A -> a
+constraint Dep a -> A
+constraint One a # a
+";
+
+fn grammar(alloc: Global) -> Result<Grammar, Fail> {
+    let text = GRAMMAR;
+    if text.len() > 65536 {
+        return Err(Fail::new("the grammar is too long"));
+    }
+    match read_grammar(alloc, text) {
+        Ok(grammar) => Ok(grammar),
+        Err(_) => Err(Fail::new("no grammar")),
+    }
+}
+
+/// How many rows a text gives for the form `[ ]`, or its refusal.
+fn rows(alloc: Global, text: &[u8]) -> Result<Result<usize, RowsErr>, Fail> {
+    let grammar = grammar(alloc)?;
+    let form = read_timeline(alloc, 1, 64, b"[ ]")?;
+    if text.len() > 4_194_304 {
+        return Err(Fail::new("the rows are too long"));
+    }
+    Ok(read_rows(alloc, &grammar, &form, text).map(|rows| rows.len()))
+}
+
+fn at(row: u32, cause: RowsCause) -> Result<usize, RowsErr> {
+    Err(RowsErr::At { row, cause })
+}
+
+// Texts of rows files, and how many rows they give or their first cause.
+#[test]
+fn rows_and_first_causes(rt: HostRuntime) -> Result<(), Fail> {
+    let no_column = RowsCause::Form(FormErr::WrongWidth { column: 0 });
+    let cases: [(&[u8], Result<usize, RowsErr>); 16] = [
+        (b"", Ok(0)),
+        (b"[- ]-\n-[ [| ]]\n", Ok(2)),
+        (b"[- ]-\n-[ [| ]]", Ok(2)),
+        // Lines that are passed over, and are counted.
+        (b"\n  \n[- ]-\n\n", Ok(1)),
+        (b"\n  \n[- ]\n", at(3, no_column_at(1))),
+        // A carriage return before a line feed is dropped, and no other.
+        (b"[- ]-\r\n\r\n[[ ]]\r\n", Ok(2)),
+        (b"[- ]-\r", at(1, bad_symbol(5))),
+        (b"[- ]-\r\r\n", at(1, bad_symbol(5))),
+        (b"\r", at(1, bad_symbol(0))),
+        // A line is read as it stands.
+        (b" [- ]-\n", at(1, no_column)),
+        (b"[- ]-\t\n", at(1, bad_symbol(5))),
+        // The first line with a cause gives it.
+        (b"[- +[ ]]\n-[ -]\n", at(2, RowsCause::NotCandidate)),
+        (b"-[ -]\n[- +[ ]]\n", at(1, RowsCause::NotCandidate)),
+        (b"[- ]-\nx\n-[ -]\n", at(2, bad_symbol(0))),
+        (b"empty\n", at(1, RowsCause::NotCandidate)),
+        (
+            b"[- +- ]-\n",
+            at(1, RowsCause::Form(FormErr::NotReduced { column: 1 })),
+        ),
+    ];
+    for (text, answer) in cases {
+        assert_eq!(rt; rows(rt.alloc(), text)?, answer, "{text:?}");
+    }
+    Ok(())
+}
+
+fn bad_symbol(at: usize) -> RowsCause {
+    RowsCause::Form(FormErr::BadSymbol { at })
+}
+
+fn no_column_at(column: usize) -> RowsCause {
+    RowsCause::Form(FormErr::WrongWidth { column })
+}
+
+// The 33rd row is one too many, whatever it says; lines that are passed over are no rows.
+#[test]
+fn thirty_two_rows(rt: HostRuntime) -> Result<(), Fail> {
+    let mut text = Vec::new(rt.alloc());
+    for _ in 0..32 {
+        text.extend_from_slice(b"[- ]-\n\n")?;
+    }
+    assert_eq!(rt; rows(rt.alloc(), &text)?, Ok(32));
+    text.extend_from_slice(b"  \nx\n")?;
+    assert_eq!(rt; rows(rt.alloc(), &text)?, at(66, RowsCause::TooMany));
+    Ok(())
+}
+
+// A row of 4,096 columns is read, and one of 4,097 is too long.
+#[test]
+fn four_thousand_and_ninety_six_columns(rt: HostRuntime) -> Result<(), Fail> {
+    let mut text = Vec::new(rt.alloc());
+    text.extend_from_slice(b"[- ]-")?;
+    for _ in 0..2047 {
+        text.extend_from_slice(b" -[ -]")?;
+    }
+    assert_eq!(rt; rows(rt.alloc(), &text)?, Ok(1));
+    text.truncate(4095 * 3 - 1);
+    text.extend_from_slice(b" -| -]")?;
+    let too_long = RowsCause::Form(FormErr::TooLong);
+    assert_eq!(rt; rows(rt.alloc(), &text)?, at(1, too_long));
+    Ok(())
+}
+
+/// A row with these counts.
+fn row(
+    alloc: Global,
+    timeline: &[u8],
+    counts: &[u32],
+    worse: Option<u32>,
+) -> Result<TableauRow, Fail> {
+    let timeline = read_timeline(alloc, 2, 4096, timeline)?;
+    let counts = Vec::from_slice(alloc, counts)?;
+    Ok(TableauRow {
+        timeline,
+        counts,
+        worse,
+    })
+}
+
+fn names(alloc: Global, names: &[&str]) -> Result<Vec<String>, AllocError> {
+    let mut list = Vec::new(alloc);
+    for name in names {
+        list.push(String::from_str(alloc, name)?)?;
+    }
+    Ok(list)
+}
+
+fn three_rows(alloc: Global) -> Result<Tableau, Fail> {
+    Ok(Tableau {
+        form: read_timeline(alloc, 1, 64, b"[ ]")?,
+        names: names(alloc, &["Max", "Dep", "One"])?,
+        rows: vec![in alloc;
+            row(alloc, b"[[ ]]", &[0, 0, 1], None)?,
+            row(alloc, b"[- ]-", &[1, 0, 0], Some(0))?,
+            row(alloc, b"-[ [| ]]", &[0, 1, 2], Some(1))?,
+        ]?,
+    })
+}
+
+const THREE_ROWS: &[u8] = b"  [ ]      Max Dep One
+> [[ ]]      0   0   1
+  [- ]-     1!   0   0
+  -[ [| ]]   0  1!   2
+";
+
+#[test]
+fn three_rows_are_laid_out(rt: HostRuntime) -> Result<(), Fail> {
+    let mut sink = SafeSink::new(rt.alloc());
+    put_tableau(&mut sink, &three_rows(rt.alloc())?)?;
+    assert_eq!(rt; sink.bytes(), THREE_ROWS);
+    Ok(())
+}
+
+// Fields are as wide as the widest text, be it the form, a name or a count with its mark.
+#[test]
+fn fields_are_as_wide_as_their_widest_text(rt: HostRuntime) -> Result<(), Fail> {
+    let alloc = rt.alloc();
+    let cases: [(Tableau, &[u8]); 3] = [
+        (
+            Tableau {
+                form: read_timeline(alloc, 1, 64, b"[ | ]")?,
+                names: names(alloc, &["A", "B"])?,
+                rows: vec![in alloc; row(alloc, b"empty", &[12, 4_294_967_295], Some(1))?]?,
+            },
+            b"  [ | ]  A           B\n  empty 12 4294967295!\n",
+        ),
+        (
+            Tableau {
+                form: Timeline::new(alloc),
+                names: Vec::new(alloc),
+                rows: vec![in alloc; row(alloc, b"-[ -| -]", &[], None)?]?,
+            },
+            b"  empty   \n> -[ -| -]\n",
+        ),
+        (
+            Tableau {
+                form: Timeline::new(alloc),
+                names: names(alloc, &["Name"])?,
+                rows: Vec::new(alloc),
+            },
+            b"  empty Name\n",
+        ),
+    ];
+    for (tableau, text) in cases {
+        let mut sink = SafeSink::new(alloc);
+        put_tableau(&mut sink, &tableau)?;
+        assert_eq!(rt; sink.bytes(), text);
+    }
+    Ok(())
+}
+
+#[test]
+fn a_failing_write_leaves_a_front(rt: HostRuntime) -> Result<(), Fail> {
+    let alloc = rt.alloc();
+    let tableau = three_rows(alloc)?;
+    let mut sink = MemSink::new(alloc, 16, vec![in alloc; 3]?);
+    assert_eq!(rt; put_tableau(&mut sink, &tableau), Err(WriteErr::Failed));
+    assert_eq!(rt; sink.bytes(), &THREE_ROWS[..32]);
+    Ok(())
+}

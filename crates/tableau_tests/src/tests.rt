@@ -1,6 +1,5 @@
-ghost use Rattle.std.specs.Prelude.{◌≡◌, IsTrue, length};
+ghost use Rattle.std.specs.Prelude.{IsTrue};
 ghost use Rattle.tier_core.specs.Tables.{tiers_of_table};
-ghost use Rattle.tier_core.specs.Tiers.{is_input, numbers_from};
 ghost use Rattle.violation.specs.Candidates.{IsForm};
 
 use grammar_reader::{Grammar, read_grammar};
@@ -9,7 +8,7 @@ use ranked_gen::generate;
 use std::alloc::Global;
 use std::test::Fail;
 use tableau::{put_tableau, read_rows, tableau};
-use tier_core::{TierKind, Timeline, reduced, well_formed};
+use tier_core::{Timeline, reduced, well_formed};
 use timeline_text::read_timeline;
 
 const GRAMMAR: &[u8] = b"otp 1
@@ -29,25 +28,11 @@ const TABLEAU: &[u8] = b"  [ ]      Max Dep One
 
 const ROWS: &[u8] = b"[- ]-\n-[ [| ]]\n";
 
-fn is_input(kind: TierKind) -> bool
-    ensures { result ≡ is_input kind }
-{
-    matches!(kind, TierKind::Input)
-}
-
-/// How many tiers are input tiers.
-fn count_inputs(kinds: &[TierKind]) -> usize
-    ensures { result ≡ length (numbers_from is_input 0 kinds.now) }
-{
-    kinds.iter().filter(|kind| is_input(**kind)).count()
-}
-
 /// Whether a timeline is a form of a grammar.
 fn is_form(grammar: &Grammar, form: &Timeline) -> bool
     ensures { IsTrue result → IsForm (tiers_of_table grammar.now.tiers) form.now }
 {
-    let inputs = count_inputs(grammar.tiers.kinds.as_slice());
-    well_formed(form, inputs as u32) && reduced(form)
+    well_formed(form, grammar.tiers.input_count() as u32) && reduced(form)
 }
 
 /// The grammar of a text of at most 65,536 bytes.

@@ -1,0 +1,12 @@
+pub mod Digits
+pub mod Bits
+pub mod Sets
+pub mod ClassOrder
+pub mod Cutting
+pub mod FirstLines
+pub mod StageSteps
+pub mod StateSteps
+pub mod HeadSteps
+pub mod Uniqueness
+pub mod Follows
+pub mod StageLists

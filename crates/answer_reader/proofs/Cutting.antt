@@ -6,7 +6,7 @@ use Rattle.std.proofs.lemmas.Bool.{false≢true, eqb-false}
 use Rattle.std.proofs.lemmas.Bool.Decides.{nat_tests}
 use Rattle.std.proofs.lemmas.List.Splits.{slice_split_none, slice_split_first, join_with_byte-slice_split, length-slice_split}
 use Rattle.std.proofs.lemmas.List.Sums.{fails_before_first}
-use Rattle.answer_reader.specs.Cuts.{is_newline, lines_of, cut, begins}
+use Rattle.answer_reader.specs.Cuts.{is_newline, lines_of, parts_at, cut, begins}
 
 -- there is always something left
 pub some_left : (bytes : List ℕ) → 0 < length (lines_of bytes)
@@ -18,7 +18,7 @@ position_none p xs h = grind (arith, nat_tests)
 position_some : (p : ℕ → Bool) (xs : List ℕ) (k : ℕ) → position p xs ≡ Some k → (position_or_len p xs < length xs) × (k ≡ position_or_len p xs)
 position_some p xs k h = grind (arith, nat_tests)
 
-none_cut : (b : ℕ) (bytes : List ℕ) (o : Option ℕ) → position (λ x. x == b) bytes ≡ o → option_map (λ k. (take k bytes, drop (k + 1) bytes)) o ≡ None → position (λ x. x == b) bytes ≡ None
+none_cut : (b : ℕ) (bytes : List ℕ) (o : Option ℕ) → position (λ x. x == b) bytes ≡ o → option_map (parts_at bytes) o ≡ None → position (λ x. x == b) bytes ≡ None
 none_cut b bytes None e h = e
 none_cut b bytes (Some k) e h = absurd (let n : ⊥ = cc in n)
 
@@ -28,16 +28,16 @@ not_cut bytes h =
     let le = position_none is_newline bytes (none_cut 10 bytes (position (λ x. x == 10) bytes) refl h) in
     slice_split_none is_newline bytes (λ k d l. fails_before_first is_newline bytes k d (omega arith))
 
-record IsCut (b : ℕ) (bytes : List ℕ) (parts : List ℕ × List ℕ) : Type 0 where
-  place : ℕ
-  at : position (λ x. x == b) bytes ≡ Some place
-  before : parts.0 ≡ take place bytes
-  after : parts.1 ≡ drop (place + 1) bytes
+pub record IsCut (b : ℕ) (bytes : List ℕ) (parts : List ℕ × List ℕ) : Type 0 where
+  pub place : ℕ
+  pub at : position (λ x. x == b) bytes ≡ Some place
+  pub before : parts.0 ≡ take place bytes
+  pub after : parts.1 ≡ drop (place + 1) bytes
 
-some_cut : (b : ℕ) (bytes : List ℕ) (parts : List ℕ × List ℕ) (o : Option ℕ) → position (λ x. x == b) bytes ≡ o → option_map (λ k. (take k bytes, drop (k + 1) bytes)) o ≡ Some parts → IsCut b bytes parts
+some_cut : (b : ℕ) (bytes : List ℕ) (parts : List ℕ × List ℕ) (o : Option ℕ) → position (λ x. x == b) bytes ≡ o → option_map (parts_at bytes) o ≡ Some parts → IsCut b bytes parts
 some_cut b bytes parts None e h = absurd (let n : ⊥ = cc in n)
 some_cut b bytes parts (Some k) e h =
-    let is : (take k bytes, drop (k + 1) bytes) ≡ parts = cc in
+    let is : parts_at bytes k ≡ parts = cc in
     record { place = k; at = e; before = ap (λ p. p.0) (sym is); after = ap (λ p. p.1) (sym is) }
 
 pub is_cut : (b : ℕ) (bytes : List ℕ) (parts : List ℕ × List ℕ) → cut b bytes ≡ Some parts → IsCut b bytes parts

@@ -1,5 +1,8 @@
 -- The last of a list, and what comes behind it.
-use Rattle.std.proofs.Common.{◌≡◌, ℕ, zero, suc, ◌+◌, ◌-◌, ◌<◌, ◌≤◌, Bool, true, List, [], ◌∷◌, ◌++◌, length, get_or, map, refl, ap, sym, ◌∙◌, arith}
+use Rattle.std.proofs.Common.{◌≡◌, ℕ, zero, suc, ◌+◌, ◌-◌, ◌<◌, ◌≤◌, ◌==◌, Bool, true, List, [], ◌∷◌, ◌++◌, length, get_or, map, refl, ap, sym, ◌∙◌, arith}
+use Rattle.std.specs.Ordering.{ordering_index, is_lt}
+use Rattle.std.specs.declared.cmp.Ordering.{Ordering}
+use Rattle.std.specs.declared.cmp.Ordering.TheVariants.{Less, Equal, Greater}
 use Rattle.std.proofs.lemmas.List.{get_or-map, length-map}
 use Rattle.answer_reader.specs.Orders.{follows}
 
@@ -22,3 +25,9 @@ follows_seen seen less ys x last l e =
 pub follows_none : {X Y : Type 0} (seen : Y → X) (less : X → X → Bool) (ys : List Y) (x : X) → length ys ≡ 0 → follows less (map seen ys) x ≡ true
 follows_none seen less [] x e = refl
 follows_none seen less (y ∷ ys) x e = absurd (omega arith)
+
+-- as the code tells that one comes before another
+pub less_told : (o : Ordering) → (ordering_index o == 0) ≡ is_lt o
+less_told Less = refl
+less_told Equal = refl
+less_told Greater = refl

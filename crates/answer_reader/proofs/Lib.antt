@@ -4,9 +4,5 @@ pub mod Sets
 pub mod ClassOrder
 pub mod Cutting
 pub mod FirstLines
-pub mod StageSteps
-pub mod StateSteps
-pub mod HeadSteps
-pub mod Uniqueness
 pub mod Follows
-pub mod StageLists
+pub mod ClassLoop

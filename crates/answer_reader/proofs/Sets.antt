@@ -7,7 +7,7 @@ use Rattle.std.proofs.lemmas.Slice.Eq.{bytes_eq-Decides}
 use Rattle.tier_core.specs.declared.sym.Sym.{Sym}
 use Rattle.tier_core.specs.declared.sym.Sym.TheVariants.{Outside, Inside, Start, End, Both}
 use Rattle.tier_core.specs.Sets.{single_set}
-use Rattle.tier_core.specs.Symbols.{byte_of, sym_of}
+use Rattle.tier_core.specs.Symbols.{byte_of, sym_of, symbols as all_symbols}
 use Rattle.answer_text.specs.Text.{set_text}
 use Rattle.answer_reader.specs.Cuts.{begins}
 use Rattle.answer_reader.specs.Classes.{front_set, behind_set, front_of}
@@ -193,20 +193,21 @@ single Start = (refl, (omega arith, omega arith))
 single End = (refl, (omega arith, omega arith))
 single Both = (refl, (omega arith, omega arith))
 
+sym_here : (b : ℕ) (x : Sym) (xs : List Sym) (s : Sym) (t : Bool) → (byte_of x == b) ≡ t → (find (λ y. byte_of y == b) xs ≡ Some s → byte_of s ≡ b)
+    → cond t (Some x) (find (λ y. byte_of y == b) xs) ≡ Some s → byte_of s ≡ b
+sym_here b x xs s true e rest h = let same : x ≡ s = cc in sym (ap byte_of same) ∙ eqb-true (byte_of x) b e
+sym_here b x xs s false e rest h = rest h
+
 sym_at : (b : ℕ) (xs : List Sym) (s : Sym) → find (λ x. byte_of x == b) xs ≡ Some s → byte_of s ≡ b
 sym_at b [] s h = absurd (let n : ⊥ = cc in n)
-sym_at b (x ∷ xs) s h = here (byte_of x == b) refl h
-  where
-    here : (t : Bool) → (byte_of x == b) ≡ t → cond t (Some x) (find (λ y. byte_of y == b) xs) ≡ Some s → byte_of s ≡ b
-    here true e g = let same : x ≡ s = cc in sym (ap byte_of same) ∙ eqb-true (byte_of x) b e
-    here false e g = sym_at b xs s g
+sym_at b (x ∷ xs) s h = sym_here b x xs s (byte_of x == b) refl (sym_at b xs s) h
 
 alone_front : (b : ℕ) (bytes : List ℕ) (o : Option Sym) (front : ℕ × List ℕ) → sym_of b ≡ o → option_map (alone bytes) o ≡ Some front → IsFront (b ∷ bytes) front
 alone_front b bytes None front e h = absurd (let n : ⊥ = cc in n)
 alone_front b bytes (Some s) front e h =
     let is : (single_set s, bytes) ≡ front = cc in
     let f = single s in
-    subst (IsFront (b ∷ bytes)) is (record { least = f.1.0; most = f.1.1; text = ap (λ x. x ∷ bytes) (sym (sym_at b _ s e)) ∙ ap (λ x. x ++ bytes) (sym f.0) })
+    subst (IsFront (b ∷ bytes)) is (record { least = f.1.0; most = f.1.1; text = ap (λ x. x ∷ bytes) (sym (sym_at b all_symbols s e)) ∙ ap (λ x. x ++ bytes) (sym f.0) })
 
 decoded_at : (b : ℕ) (bytes : List ℕ) (front : ℕ × List ℕ) (t : Bool) → (b == 123) ≡ t
     → cond t (closed_by (symbols_from bytes)) (option_map (alone bytes) (sym_of b)) ≡ Some front → IsFront (b ∷ bytes) front

@@ -14,9 +14,12 @@ lines_of bytes = slice_split is_newline bytes
 abbrev pub is_space : ℕ → Bool
 is_space b = b == 32
 
+abbrev pub parts_at : List ℕ → ℕ → List ℕ × List ℕ
+parts_at bytes k = (take k bytes, drop (k + 1) bytes)
+
 -- what stands before the first byte of this number, and what stands behind it
 abbrev pub cut : ℕ → List ℕ → Option (List ℕ × List ℕ)
-cut b bytes = option_map (λ k. (take k bytes, drop (k + 1) bytes)) (position (λ x. x == b) bytes)
+cut b bytes = option_map (parts_at bytes) (position (λ x. x == b) bytes)
 
 abbrev pub begins : List ℕ → List ℕ → Bool
 begins front bytes = bytes_eq (take (length front) bytes) front

@@ -12,8 +12,5 @@ pub mod Orders
 pub mod Steps
 pub mod Stages
 pub mod States
-pub mod Said
 pub mod Left
 pub mod Within
-pub mod Reading
-pub mod Heads

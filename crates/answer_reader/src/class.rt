@@ -87,7 +87,9 @@ pub fn class_of(width: u32, text: &[u8]) -> Option<Class>
     let mut sets = [0; 12];
     let mut rest = text;
     for tier in 0..width as usize {
-        let (set, behind) = front_of(rest)?;
+        let Some((set, behind)) = front_of(rest) else {
+            return None;
+        };
         sets[tier] = set;
         rest = behind;
     }

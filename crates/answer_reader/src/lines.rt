@@ -5,8 +5,10 @@ use crate::cut::{begins, cut};
 
 /// The lines of a text that are left. The next of them has this number, counted from 1.
 #[derive(Drop)]
-pub(crate) struct Lines<'a> {
+pub struct Lines<'a> {
+    /// The bytes that are left.
     pub rest: &'a [u8],
+    /// The number of the next line.
     pub number: u32,
     pub ghost few: { number + length rest.now < 2 ^ 32 },
 }

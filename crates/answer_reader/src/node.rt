@@ -1,4 +1,5 @@
 ghost use Rattle.std.specs.Prelude.{◌≡◌, ◌==◌, ◌<◌, ◌≤◌, ◌^◌, length, map, option_map, true, MatchResult, IfOk, IfSome, Ok, Err};
+ghost use Rattle.std.specs.List.{list_all};
 ghost use Rattle.tier_core.specs.Kinds.{AreStretchesBelow, open_tiers, phases};
 ghost use Rattle.tier_core.specs.KindShapes.{free_count, stretch_count};
 ghost use Rattle.answer_reader.specs.Nodes.{are_each, are_node_words, is_open_byte, is_phase_byte, node_of, node_with, node_words, phase_of};
@@ -38,19 +39,30 @@ fn node_words(line: &[u8]) -> Option<NodeWords<'_>>
     })
 }
 
+fn have_open_bytes(bytes: &[u8]) -> bool
+    ensures { result ≡ list_all is_open_byte bytes.now }
+{
+    bytes.iter().all(|byte| *byte == b'+' || *byte == b'-')
+}
+
 fn are_open_bytes(count: usize, bytes: &[u8]) -> bool
     ensures { result ≡ are_each is_open_byte count bytes.now }
 {
-    bytes.len() == count && bytes.iter().all(|byte| *byte == b'+' || *byte == b'-')
+    bytes.len() == count && have_open_bytes(bytes)
+}
+
+fn have_phase_bytes(bytes: &[u8]) -> bool
+    ensures { result ≡ list_all is_phase_byte bytes.now }
+{
+    bytes
+        .iter()
+        .all(|byte| *byte == b'.' || *byte == b'u' || *byte == b'm')
 }
 
 fn are_phase_bytes(count: usize, bytes: &[u8]) -> bool
     ensures { result ≡ are_each is_phase_byte count bytes.now }
 {
-    bytes.len() == count
-        && bytes
-            .iter()
-            .all(|byte| *byte == b'.' || *byte == b'u' || *byte == b'm')
+    bytes.len() == count && have_phase_bytes(bytes)
 }
 
 /// Whether the words are runs of digits, and OPEN and PHASES have these widths.

@@ -1,11 +1,9 @@
-ghost use Rattle.std.specs.Prelude.{◌≡◌, ◌++◌, ◌+◌, ◌∷◌, [], ◌<◌, ◌≤◌, ℕ, length, map, true, false, codes, Ok, Err, MatchResult, IfOk, OnOk, All};
-ghost use Rattle.answer_reader.specs.Cuts.{begins};
-ghost use Rattle.answer_reader.specs.Left.{Takes, lines_left, stages_left};
+ghost use Rattle.std.specs.Prelude.{◌≡◌, ◌<◌, ◌≤◌, ℕ, length, map, Ok, Err, MatchResult, IfOk, OnOk, All};
+ghost use Rattle.answer_reader.specs.Left.{Takes};
 ghost use Rattle.answer_reader.specs.Lines.{automaton_of, stage_of};
-ghost use Rattle.answer_reader.specs.Stages.{behind_stages, is_automaton, next_node, with_nodes};
-ghost use Rattle.answer_reader.specs.Steps.{Fails};
-ghost use Rattle.answer_reader.specs.Values.{node_value, stage_values};
-ghost use Rattle.answer_reader.specs.Within.{IsNodeWithin, IsStageWithin, AreStagesWithin};
+ghost use Rattle.answer_reader.specs.Stages.{next_node};
+ghost use Rattle.answer_reader.specs.Values.{node_value};
+ghost use Rattle.answer_reader.specs.Within.{IsNodeWithin};
 
 use crate::answer_err::{AnswerCause, AnswerErr};
 use crate::line_forms::{automaton_of, stage_of};
@@ -13,8 +11,7 @@ use crate::lines::Lines;
 use crate::node::node_of;
 use crate::on_line::on_line;
 use crate::order::node_follows;
-use answer_text::{Node, Stage};
-use std::alloc::Global;
+use answer_text::Node;
 use tier_core::Shape;
 
 /// The node that a line says, behind those of its stage.
@@ -40,8 +37,9 @@ fn next_node(
     Ok(node)
 }
 
-/// Reads the line of a node.
-fn read_node(
+/// Reads the line of a node, behind those of its stage: its kind fits the shape, its place is one of a
+/// form with so many columns, and it comes strictly after the node before it.
+pub fn read_node(
     lines: &mut Lines<'_>,
     shape: &Shape,
     columns: u32,
@@ -60,35 +58,8 @@ fn read_node(
     on_line(number, next_node(shape, columns, stage, nodes, line))
 }
 
-/// Reads the lines of so many nodes, behind these stages.
-fn read_nodes(
-    alloc: Global,
-    lines: &mut Lines<'_>,
-    shape: &Shape,
-    columns: u32,
-    stages: &[Stage],
-    count: u32,
-) -> Result<Vec<Node>, AnswerErr>
-    requires columns { columns ≤ 64 }
-    requires stage { length stages.now < length shape.now.phases.items }
-    ensures left { MatchResult result
-        (λ nodes. stages_left shape.now columns (with_nodes (stage_values shape.now 0 stages.now) count []) lines.old ≡ stages_left shape.now columns (behind_stages (stage_values shape.now 0 stages.now ++ map (node_value shape.now (length stages.now)) nodes.items ∷ [])) lines.new)
-        (λ e. Fails e (stages_left shape.now columns (with_nodes (stage_values shape.now 0 stages.now) count []) lines.old)) }
-    ensures within { IfOk result (λ nodes. All (IsNodeWithin shape.now columns (length stages.now)) nodes.items) }
-    ensures count { IfOk result (λ nodes. length nodes.items ≡ count) }
-    ensures shorter { OnOk result (length lines.new.rest.now ≤ length lines.old.rest.now) }
-{
-    let stage = stages.len() as u32;
-    let mut nodes = Vec::new(alloc);
-    for _ in 0..count {
-        let node = read_node(lines, shape, columns, stage, &nodes)?;
-        nodes.push(node)?;
-    }
-    Ok(nodes)
-}
-
-/// Reads the line of a stage: how many nodes it has.
-fn read_stage_line(lines: &mut Lines<'_>, stages: u32, next: u32) -> Result<u32, AnswerErr>
+/// Reads the line of a stage, which has the next number: how many nodes it has.
+pub fn read_stage_line(lines: &mut Lines<'_>, stages: u32, next: u32) -> Result<u32, AnswerErr>
     ensures takes { Takes (stage_of stages next) (λ (n : ℕ). n) lines.old lines.new result }
     ensures few { IfOk result (λ n. n ≤ 65536) }
     ensures there { OnOk result (next < stages) }
@@ -99,57 +70,8 @@ fn read_stage_line(lines: &mut Lines<'_>, stages: u32, next: u32) -> Result<u32,
     on_line(number, stage_of(stages, next, line))
 }
 
-/// Reads the lines of a stage, behind these.
-fn read_stage(
-    alloc: Global,
-    lines: &mut Lines<'_>,
-    shape: &Shape,
-    columns: u32,
-    stages: &[Stage],
-) -> Result<Stage, AnswerErr>
-    requires columns { columns ≤ 64 }
-    requires few { length stages.now ≤ 25 }
-    requires stage { is_automaton (stage_values shape.now 0 stages.now) lines.old.rest.now ≡ false }
-    ensures left { MatchResult result
-        (λ stage. stages_left shape.now columns (behind_stages (stage_values shape.now 0 stages.now)) lines.old ≡ stages_left shape.now columns (behind_stages (stage_values shape.now 0 stages.now ++ map (node_value shape.now (length stages.now)) stage.nodes.items ∷ [])) lines.new)
-        (λ e. Fails e (stages_left shape.now columns (behind_stages (stage_values shape.now 0 stages.now)) lines.old)) }
-    ensures within { IfOk result (IsStageWithin shape.now columns (length stages.now)) }
-    ensures there { OnOk result (length stages.now < length shape.now.phases.items) }
-    ensures shorter { OnOk result (length lines.new.rest.now < length lines.old.rest.now) }
-{
-    let count = read_stage_line(lines, shape.phases.len() as u32, stages.len() as u32)?;
-    let nodes = read_nodes(alloc, lines, shape, columns, stages, count)?;
-    Ok(Stage { nodes })
-}
-
-/// Reads the lines of the stages, up to the line of the automaton.
-pub(crate) fn read_stages(
-    alloc: Global,
-    lines: &mut Lines<'_>,
-    shape: &Shape,
-    columns: u32,
-) -> Result<Vec<Stage>, AnswerErr>
-    requires columns { columns ≤ 64 }
-    ensures left { MatchResult result
-        (λ stages. stages_left shape.now columns (behind_stages []) lines.old ≡ stages_left shape.now columns (behind_stages (stage_values shape.now 0 stages.items)) lines.new)
-        (λ e. Fails e (stages_left shape.now columns (behind_stages []) lines.old)) }
-    ensures within { IfOk result (λ stages. AreStagesWithin shape.now columns stages.items) }
-    ensures some { IfOk result (λ stages. 1 ≤ length stages.items) }
-    ensures few { IfOk result (λ stages. length stages.items ≤ length shape.now.phases.items) }
-    ensures automaton { OnOk result (begins (codes "automaton ") lines.new.rest.now ≡ true) }
-{
-    let mut stages = Vec::new(alloc);
-    'stages: loop {
-        let stage = read_stage(alloc, lines, shape, columns, &stages)?;
-        stages.push(stage)?;
-        if lines.begins(b"automaton ") {
-            return Ok(stages);
-        }
-    }
-}
-
 /// Reads the line of the automaton: how many states it has.
-pub(crate) fn read_automaton_line(lines: &mut Lines<'_>, nodes: u32) -> Result<u32, AnswerErr>
+pub fn read_automaton_line(lines: &mut Lines<'_>, nodes: u32) -> Result<u32, AnswerErr>
     requires { nodes ≤ 65536 }
     ensures takes { Takes (automaton_of nodes) (λ (n : ℕ). n) lines.old lines.new result }
     ensures few { IfOk result (λ n. n ≤ nodes) }

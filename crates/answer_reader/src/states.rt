@@ -1,11 +1,9 @@
-ghost use Rattle.std.specs.Prelude.{◌≡◌, ◌++◌, ◌∷◌, [], ◌<◌, ◌≤◌, ℕ, suc, Bool, List, length, map, Ok, Err, MatchResult, IfOk, OnOk, All};
-ghost use Rattle.answer_reader.specs.Left.{Takes, states_left};
-ghost use Rattle.answer_reader.specs.LineWords.{bare_state, with_arcs};
-ghost use Rattle.answer_reader.specs.Lines.{end_of};
-ghost use Rattle.answer_reader.specs.States.{behind_states, in_state, next_arc, next_state};
-ghost use Rattle.answer_reader.specs.Steps.{Fails};
-ghost use Rattle.answer_reader.specs.Values.{StateValue, arc_value, state_value};
-ghost use Rattle.answer_reader.specs.Within.{IsArcWithin, IsStateWithin};
+ghost use Rattle.std.specs.Prelude.{◌≡◌, ◌<◌, ◌≤◌, length, map, Ok, Err, MatchResult, IfOk, OnOk};
+ghost use Rattle.answer_reader.specs.Left.{Takes};
+ghost use Rattle.answer_reader.specs.LineWords.{bare_state};
+ghost use Rattle.answer_reader.specs.States.{next_arc, next_state};
+ghost use Rattle.answer_reader.specs.Values.{arc_value, state_value};
+ghost use Rattle.answer_reader.specs.Within.{IsArcWithin};
 
 use crate::answer_err::{AnswerCause, AnswerErr};
 use crate::line_forms::{arc_of, state_of};
@@ -13,7 +11,6 @@ use crate::lines::Lines;
 use crate::on_line::on_line;
 use crate::order::{arc_follows, state_follows};
 use answer_text::{ArcLine, StateLine};
-use std::alloc::Global;
 
 /// The arc that a line says, behind those of its state.
 fn next_arc(
@@ -36,8 +33,9 @@ fn next_arc(
     Ok(arc)
 }
 
-/// Reads the line of an arc.
-fn read_arc(
+/// Reads the line of an arc, behind those of its state: it leads to one of so many nodes, its class has
+/// this width, and it comes strictly after the arc before it.
+pub fn read_arc(
     lines: &mut Lines<'_>,
     width: u32,
     nodes: u32,
@@ -54,28 +52,6 @@ fn read_arc(
     on_line(number, next_arc(width, nodes, arcs, line))
 }
 
-/// Reads the lines of the arcs of a state.
-fn read_arcs(
-    alloc: Global,
-    lines: &mut Lines<'_>,
-    width: u32,
-    nodes: u32,
-) -> Result<Vec<ArcLine>, AnswerErr>
-    requires some { 1 ≤ width }
-    requires few { width ≤ 12 }
-    ensures left { (more : ℕ) (states : List StateValue) (state : ℕ × Bool) → MatchResult result
-        (λ arcs. states_left width nodes (in_state more states (bare_state state)) lines.old ≡ states_left width nodes (behind_states more (states ++ with_arcs state (map arc_value arcs.items) ∷ [])) lines.new)
-        (λ e. Fails e (states_left width nodes (in_state more states (bare_state state)) lines.old)) }
-    ensures within { IfOk result (λ arcs. All (IsArcWithin width nodes) arcs.items) }
-{
-    let mut arcs = Vec::new(alloc);
-    'arcs: while lines.begins(b"arc ") {
-        let arc = read_arc(lines, width, nodes, &arcs)?;
-        arcs.push(arc)?;
-    }
-    Ok(arcs)
-}
-
 /// The state that a line says, behind those before it, with no arcs yet.
 fn next_state(nodes: u32, states: &[StateLine], line: &[u8]) -> Result<(u32, bool), AnswerCause>
     ensures said { MatchResult result
@@ -90,8 +66,9 @@ fn next_state(nodes: u32, states: &[StateLine], line: &[u8]) -> Result<(u32, boo
     Ok((node, accepting))
 }
 
-/// Reads the line of a state.
-fn read_state_line(
+/// Reads the line of a state, behind those before it: the number of its node, which is one of so many,
+/// and whether it is final. It comes strictly after the state before it.
+pub fn read_state_line(
     lines: &mut Lines<'_>,
     nodes: u32,
     states: &[StateLine],
@@ -102,99 +79,4 @@ fn read_state_line(
     let number = lines.number;
     let line = lines.next_line()?;
     on_line(number, next_state(nodes, states, line))
-}
-
-/// Reads the lines of a state and its arcs.
-fn read_state(
-    alloc: Global,
-    lines: &mut Lines<'_>,
-    width: u32,
-    nodes: u32,
-    states: &[StateLine],
-) -> Result<StateLine, AnswerErr>
-    requires some { 1 ≤ width }
-    requires few { width ≤ 12 }
-    ensures left { (more : ℕ) → MatchResult result
-        (λ state. states_left width nodes (behind_states (suc more) (map state_value states.now)) lines.old ≡ states_left width nodes (behind_states more (map state_value states.now ++ state_value state ∷ [])) lines.new)
-        (λ e. Fails e (states_left width nodes (behind_states (suc more) (map state_value states.now)) lines.old)) }
-    ensures within { IfOk result (IsStateWithin width nodes) }
-{
-    let (node, accepting) = read_state_line(lines, nodes, states)?;
-    let arcs = read_arcs(alloc, lines, width, nodes)?;
-    Ok(StateLine {
-        node,
-        accepting,
-        arcs,
-    })
-}
-
-/// Reads the lines of so many states.
-fn read_states(
-    alloc: Global,
-    lines: &mut Lines<'_>,
-    width: u32,
-    nodes: u32,
-    count: u32,
-) -> Result<Vec<StateLine>, AnswerErr>
-    requires some { 1 ≤ width }
-    requires few { width ≤ 12 }
-    ensures left { MatchResult result
-        (λ states. states_left width nodes (behind_states count []) lines.old ≡ states_left width nodes (behind_states 0 (map state_value states.items)) lines.new)
-        (λ e. Fails e (states_left width nodes (behind_states count []) lines.old)) }
-    ensures within { IfOk result (λ states. All (IsStateWithin width nodes) states.items) }
-{
-    let mut states = Vec::new(alloc);
-    for _ in 0..count {
-        let state = read_state(alloc, lines, width, nodes, &states)?;
-        states.push(state)?;
-    }
-    Ok(states)
-}
-
-fn is_end(line: &[u8]) -> Result<(), AnswerCause>
-    ensures { MatchResult result (λ _. end_of line.now ≡ Ok tt) (λ cause. end_of line.now ≡ Err cause) }
-{
-    if line == b"end".as_slice() {
-        Ok(())
-    } else {
-        Err(AnswerCause::BadLine)
-    }
-}
-
-/// Reads the line `end`, behind which nothing stands.
-fn read_end(lines: &mut Lines<'_>) -> Result<(), AnswerErr>
-    ensures { (width nodes : ℕ) (states : List StateValue) → MatchResult result
-        (λ _. states_left width nodes (behind_states 0 states) lines.old ≡ Ok states)
-        (λ e. Fails e (states_left width nodes (behind_states 0 states) lines.old)) }
-{
-    let number = lines.number;
-    let line = lines.next_line()?;
-    on_line(number, is_end(line))?;
-    if !lines.rest.is_empty() {
-        return Err(AnswerErr::At {
-            line: lines.number,
-            cause: AnswerCause::ExtraBytes,
-        });
-    }
-    Ok(())
-}
-
-/// Reads the lines of so many states, and the end.
-pub(crate) fn read_automaton(
-    alloc: Global,
-    lines: &mut Lines<'_>,
-    width: u32,
-    nodes: u32,
-    count: u32,
-) -> Result<Vec<StateLine>, AnswerErr>
-    requires some { 1 ≤ width }
-    requires few { width ≤ 12 }
-    ensures left { MatchResult result
-        (λ states. states_left width nodes (behind_states count []) lines.old ≡ Ok (map state_value states.items))
-        (λ e. Fails e (states_left width nodes (behind_states count []) lines.old)) }
-    ensures within { IfOk result (λ states. All (IsStateWithin width nodes) states.items) }
-{
-    let states = read_states(alloc, lines, width, nodes, count)?;
-    read_end(lines)?;
-    Ok(states)
 }

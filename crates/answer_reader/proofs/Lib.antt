@@ -1,0 +1,8 @@
+pub mod Digits
+pub mod Bits
+pub mod Sets
+pub mod ClassOrder
+pub mod Cutting
+pub mod FirstLines
+pub mod Follows
+pub mod ClassLoop

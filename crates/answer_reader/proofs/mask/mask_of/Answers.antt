@@ -1,0 +1,15 @@
+use Rattle.std.proofs.Common.{◌≡◌, ◌+◌, ◌*◌, ◌^◌, ◌<◌, length, refl, sym, ◌∙◌, arith, pow_mono}
+use Rattle.answer_reader.proofs.Bits.{mask_next, mask_within, bit_below, bit_more}
+use Rattle.answer_reader.proofs.mask.mask_of.Goals as goal
+
+pub overflow_mul-bit : goal.overflow_mul-bit
+overflow_mul-bit c =
+    let p = pow_mono {i = c.loop-byte.byte-index} {j = 24} (omega arith) in
+    omega (arith, p, c.loop-byte.invariant.small)
+
+pub loop-byte-preserved : goal.loop-byte-preserved
+loop-byte-preserved c = record {
+  small = bit_more c.loop-byte.bit c.loop-byte.byte-index c.loop-byte.invariant.small;
+  below = bit_below c.loop-byte.mask c.loop-byte.bit _ c.bit_of-mask.result c.bit_of-mask.ensures c.loop-byte.invariant.below;
+  rest = sym (mask_next c.args.mark c.loop-byte.mask c.loop-byte.bit c.loop-byte.byte-index c.bit_of-mask.result c.args.bytes.now _ (omega arith) refl c.bit_of-mask.ensures) ∙ c.loop-byte.invariant.rest;
+}

@@ -1,0 +1,10 @@
+use Rattle.std.proofs.Common.{sym, ◌∙◌, ap, map, arith}
+use Rattle.answer_reader.specs.Orders.{state_less}
+use Rattle.answer_reader.specs.Values.{state_value}
+use Rattle.answer_reader.proofs.Follows.{follows_seen, less_told}
+use Rattle.answer_reader.proofs.order.state_follows.Goals as goal
+
+pub returns-in-Some : goal.returns-in-Some
+returns-in-Some c =
+    let it = rw c.in-Some.is at c.last.ensures.item in
+    sym (follows_seen state_value state_less c.args.states.now _ c.in-Some.last.now it.3.0 it.1)

@@ -1,0 +1,36 @@
+-- How a line is cut into parts.
+use Rattle.std.specs.Prelude.{ℕ, ◌+◌, ◌==◌, Bool, if◌then◌else◌, List, length, take, drop, Option, Some, None, option_map, position}
+use Rattle.std.specs.List.{slice_split}
+use Rattle.std.specs.Str.{bytes_eq}
+use denote.Ref.{Bor}
+
+abbrev pub is_newline : ℕ → Bool
+is_newline b = b == 10
+
+-- What stands between the ends of lines: the lines that end, and then what is left behind them.
+abbrev pub lines_of : List ℕ → List (List ℕ)
+lines_of bytes = slice_split is_newline bytes
+
+abbrev pub is_space : ℕ → Bool
+is_space b = b == 32
+
+abbrev pub parts_at : List ℕ → ℕ → List ℕ × List ℕ
+parts_at bytes k = (take k bytes, drop (k + 1) bytes)
+
+-- what stands before the first byte of this number, and what stands behind it
+abbrev pub cut : ℕ → List ℕ → Option (List ℕ × List ℕ)
+cut b bytes = option_map (parts_at bytes) (position (λ x. x == b) bytes)
+
+abbrev pub begins : List ℕ → List ℕ → Bool
+begins front bytes = bytes_eq (take (length front) bytes) front
+
+-- what stands behind a front
+abbrev pub behind : List ℕ → List ℕ → Option (List ℕ)
+behind front bytes = if begins front bytes then Some (drop (length front) bytes) else None
+
+-- parts as the code has them
+abbrev pub part_seen : Bor (List ℕ) → List ℕ
+part_seen part = part.now
+
+abbrev pub parts_seen : Bor (List ℕ) × Bor (List ℕ) → List ℕ × List ℕ
+parts_seen parts = (parts.0.now, parts.1.now)

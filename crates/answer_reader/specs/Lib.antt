@@ -1,0 +1,16 @@
+pub mod Numbers
+pub mod Cuts
+pub mod Masks
+pub mod Values
+pub mod Nodes
+pub mod Seen
+pub mod Classes
+pub mod Decoding
+pub mod Lines
+pub mod LineWords
+pub mod Orders
+pub mod Steps
+pub mod Stages
+pub mod States
+pub mod Left
+pub mod Within

@@ -108,7 +108,11 @@ symbols bytes =
     let t4 = took 8 93 s3 in
     let t5 = took 16 124 s4 in
     record {
-      a = t1.flag; b = t2.flag; c = t3.flag; d = t4.flag; e = t5.flag;
+      a = t1.flag;
+      b = t2.flag;
+      c = t3.flag;
+      d = t4.flag;
+      e = t5.flag;
       set = omega (arith, t1.set, t2.set, t3.set, t4.set, t5.set);
       text = t1.text
           ∙ ap (λ x. taken t1.flag 45 ++ x) (t2.text ∙ ap (λ x. taken t2.flag 43 ++ x) (t3.text ∙ ap (λ x. taken t3.flag 91 ++ x) (t4.text ∙ ap (λ x. taken t4.flag 93 ++ x) t5.text)))

@@ -13,12 +13,7 @@ use crate::order::{arc_follows, state_follows};
 use answer_text::{ArcLine, StateLine};
 
 /// The arc that a line says, behind those of its state.
-fn next_arc(
-    width: u32,
-    nodes: u32,
-    arcs: &[ArcLine],
-    line: &[u8],
-) -> Result<ArcLine, AnswerCause>
+fn next_arc(width: u32, nodes: u32, arcs: &[ArcLine], line: &[u8]) -> Result<ArcLine, AnswerCause>
     requires some { 1 ≤ width }
     requires few { width ≤ 12 }
     ensures said { MatchResult result

@@ -1,5 +1,5 @@
 -- The constraints of a grammar may be counted on its candidates.
-use Rattle.std.proofs.Common.{◌≡◌, ℕ, ◌<◌, true, nat_le, nat_lt, ◌&&◌, List, [], ◌∷◌, length, map, All, string_bytes, refl, ap, sym, ◌∙◌, subst, arith}
+use Rattle.std.proofs.Common.{◌≡◌, ℕ, ◌<◌, true, nat_le, nat_lt, ◌&&◌, List, [], ◌∷◌, length, map, All, string_bytes, refl, sym, ◌∙◌, subst, arith}
 use Rattle.std.specs.List.{AllByRecursion, list_all}
 use Rattle.std.proofs.lemmas.Bool.{and_parts}
 use Rattle.std.proofs.lemmas.Bool.Decides.{nat_tests}

@@ -1,8 +1,7 @@
 -- Lengths of texts, and the widths of fields.
-use Rattle.std.proofs.Common.{◌≡◌, ℕ, zero, suc, ◌+◌, ◌-◌, ◌<◌, ◌≤◌, List, [], ◌∷◌, ◌++◌, length, map, drop, get_or, max, Option, refl, ap, sym, ◌∙◌, arith, length-append}
-use Rattle.std.specs.Prelude.{String, string_bytes}
+use Rattle.std.proofs.Common.{◌≡◌, ℕ, zero, suc, ◌+◌, ◌-◌, ◌<◌, ◌≤◌, List, [], ◌∷◌, length, map, drop, get_or, max, Option, refl, ap, sym, ◌∙◌, arith, length-append}
 use Rattle.std.specs.List.{join_with_byte}
-use Rattle.std.proofs.lemmas.List.{at_drop_more, at_drop_all, get_or-map, get_or_past, length-map}
+use Rattle.std.proofs.lemmas.List.{at_drop_more, at_drop_all, get_or_past, length-map}
 use Rattle.tier_core.specs.declared.sym.Sym.{Sym}
 use Rattle.tier_core.specs.Symbols.{byte_of}
 use Rattle.timeline_text.specs.Texts.{text_of}

@@ -1,5 +1,5 @@
 -- Lines have rows, or one of them is the first with a cause, and never both.
-use Rattle.std.proofs.Common.{◌≡◌, ◌⊎◌, inl, inr, ⊎_elim, ℕ, ◌+◌, ◌<◌, ◌≤◌, Bool, true, false, List, [], ◌∷◌, ◌++◌, length, map, nat_lt, codes, All, refl, ap, sym, ◌∙◌, subst, arith, append_assoc, append-nil}
+use Rattle.std.proofs.Common.{◌≡◌, ◌⊎◌, inl, inr, ⊎_elim, ℕ, ◌+◌, ◌<◌, ◌≤◌, false, List, [], ◌∷◌, ◌++◌, length, map, nat_lt, All, refl, ap, sym, ◌∙◌, subst, arith, append_assoc, append-nil}
 use Rattle.std.specs.Str.{bytes_eq}
 use Rattle.std.proofs.lemmas.Bool.{false≢true}
 use Rattle.std.proofs.lemmas.Bool.Decides.{nat_tests}
@@ -18,7 +18,7 @@ use Rattle.timeline_text.proofs.Deciding.{has_reading, not_both, not_the_word, o
 use Rattle.violation.specs.Candidates.{IsCandidate}
 use Rattle.tableau.specs.declared.rows_err.RowsCause.{RowsCause}
 use Rattle.tableau.specs.declared.rows_err.RowsCause.TheVariants.{Form, NotCandidate, TooMany}
-use Rattle.tableau.specs.Rows.{AreRowsOf, HasRows, IsLineCause, IsOther, IsRefusedAt, IsRowOf, filled, is_blank}
+use Rattle.tableau.specs.Rows.{AreRowsOf, HasRows, IsLineCause, IsRefusedAt, IsRowOf, filled, is_blank}
 use Rattle.tableau.proofs.RowLemmas.{blank_line, filled_more, no_rows, row_line}
 
 -- two timelines with one text are one

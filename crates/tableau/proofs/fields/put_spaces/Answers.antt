@@ -1,4 +1,4 @@
-use Rattle.std.proofs.Common.{◌≡◌, ◌-◌, [], ap, codes, arith}
+use Rattle.std.proofs.Common.{◌≡◌, ◌-◌, ap, codes, arith}
 use Rattle.outside.proofs.Sending.{part_of_sends, puts_piece, puts_part}
 use Rattle.tableau.specs.Layout.{spaces}
 use Rattle.tableau.proofs.LengthLemmas.{spaces_next}

@@ -1,4 +1,4 @@
-use Rattle.std.proofs.Common.{◌++◌, ◌∙◌, codes, map, ap}
+use Rattle.std.proofs.Common.{◌++◌, ◌∙◌, codes, ap}
 use Rattle.timeline_text.specs.Texts.{text_of}
 use Rattle.tableau.specs.Layout.{count_texts, fields, firsts, left, mark_of, tableau_lines, widest}
 use Rattle.std.proofs.lemmas.Result.{on_ok_weaker}

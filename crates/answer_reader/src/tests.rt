@@ -118,7 +118,13 @@ fn node_in(shape: &Shape, text: &[u8]) -> Result<(u32, u16, u32, u32, u32), Answ
 {
     let node = read_node(&mut Lines::of_text(text), shape, 2, 1, &[])?;
     let kind = node.kind;
-    Ok((kind.place, kind.opened, kind.unmet, kind.met, node.potential))
+    Ok((
+        kind.place,
+        kind.opened,
+        kind.unmet,
+        kind.met,
+        node.potential,
+    ))
 }
 
 // The stage has one stretch implication.

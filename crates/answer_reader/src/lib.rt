@@ -24,6 +24,8 @@ mod on_line;
 mod order;
 mod stages;
 mod states;
+#[cfg(test)]
+mod tests;
 
 pub use answer_err::{AnswerCause, AnswerErr};
 pub use head::read_header;

@@ -1,7 +1,6 @@
 pub mod Digits
 pub mod Bits
 pub mod Sets
-pub mod ClassOrder
 pub mod Cutting
 pub mod FirstLines
 pub mod Follows

@@ -1,7 +1,4 @@
 ghost use Rattle.std.specs.Prelude.{◌≡◌, map, All};
-ghost use Rattle.std.specs.Ordering.{nat_cmp};
-ghost use Rattle.std.specs.Cmp.Lexicographic.{slice_cmp};
-ghost use Rattle.tier_core.specs.Classes.{sets_of};
 ghost use Rattle.answer_text.specs.Right.{arc_cmp};
 ghost use Rattle.answer_reader.specs.LineWords.{bare_state};
 ghost use Rattle.answer_reader.specs.Orders.{arc_less, follows, node_less, state_less};
@@ -10,7 +7,8 @@ ghost use Rattle.answer_reader.specs.Within.{IsNodeWithin};
 
 use answer_text::{ArcLine, Node, StateLine};
 use std::cmp::Ordering;
-use tier_core::{Class, Shape, kind_cmp};
+use symbol_class::class_cmp;
+use tier_core::{Shape, kind_cmp};
 
 /// Whether a node comes strictly after the last of those before it in its stage.
 pub(crate) fn node_follows(
@@ -28,20 +26,6 @@ pub(crate) fn node_follows(
         None => true,
         Some(last) => kind_cmp(&last.kind, &node.kind, shape, stage) == Ordering::Less,
     }
-}
-
-/// Compares classes by the numbers of their sets, from the first tier. Where one has more tiers and
-/// none before them differs, it comes after the other.
-fn class_cmp(a: &Class, b: &Class) -> Ordering
-    ensures { result ≡ slice_cmp nat_cmp (sets_of a.now) (sets_of b.now) }
-{
-    for tier in 0..a.width().min(b.width()) {
-        let order = a.bits(tier).cmp(&b.bits(tier));
-        if order != Ordering::Equal {
-            return order;
-        }
-    }
-    a.width().cmp(&b.width())
 }
 
 /// Compares arcs by target, then by class.

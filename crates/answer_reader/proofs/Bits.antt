@@ -1,13 +1,13 @@
 -- Masks of bytes, and kinds by such masks.
-use Rattle.std.proofs.Common.{◌≡◌, ◌≢◌, ℕ, zero, suc, ◌+◌, ◌*◌, ◌/◌, ◌%◌, ◌^◌, ◌==◌, ◌<◌, ◌≤◌, ◌&&◌, Bool, true, false, cond, min, List, [], ◌∷◌, map, length, get_or, drop, refl, ap, sym, ◌∙◌, arith, ⊎_elim, bit_and, ne_eqb, add-one}
+use Rattle.std.proofs.Common.{◌≡◌, ◌≢◌, ℕ, zero, suc, ◌+◌, ◌*◌, ◌/◌, ◌%◌, ◌^◌, ◌==◌, ◌<◌, ◌≤◌, Bool, true, false, cond, min, List, [], ◌∷◌, map, length, get_or, drop, refl, ap, sym, ◌∙◌, arith, ⊎_elim, bit_and, ne_eqb, add-one}
 use Rattle.std.specs.Int.{bit_at}
 use Rattle.std.specs.List.{range_with_len}
-use Rattle.std.proofs.lemmas.Bool.{false≢true, cases_lt, eqb-true, eqb-false}
+use Rattle.std.proofs.lemmas.Bool.{cases_lt, eqb-true, eqb-false}
 use Rattle.std.proofs.lemmas.List.{get_or-map, drop_more}
 use Rattle.std.proofs.lemmas.List.FromFn.{fill_by_all}
 use Rattle.std.proofs.Math.Nat.{pow-suc, mul-add, mul_assoc}
 use Rattle.std.proofs.lemmas.Nat.Bits.{bit_at_lowest, bit_at-suc, bit_at_above, bit_at_and, bit_at-zero, bit_at-lt, same_from_bits}
-use Rattle.tier_core.specs.Kinds.{Phase, phase_by_bits, open_tiers}
+use Rattle.tier_core.specs.Kinds.{phase_by_bits, open_tiers}
 use Rattle.tier_core.specs.Tiers.{has_tier}
 use Rattle.answer_reader.specs.Masks.{mask_of}
 use Rattle.answer_reader.specs.Nodes.{phase_of}

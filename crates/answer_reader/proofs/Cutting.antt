@@ -1,8 +1,8 @@
 -- Lines of a text, cut one by one.
-use Rattle.std.proofs.Common.{◌≡◌, ℕ, zero, suc, ◌+◌, ◌==◌, ◌<◌, ◌≤◌, ◌&&◌, ◌||◌, Bool, true, false, cond, List, [], ◌∷◌, ◌++◌, length, take, drop, map, Option, Some, None, option_map, position, refl, ap, sym, ◌∙◌, arith, get_or, nat_eq, ne_eqb, length-drop}
-use Rattle.std.specs.List.{slice_split, position_or_len, list_any, join_with_byte, count_by, All}
+use Rattle.std.proofs.Common.{◌≡◌, ℕ, ◌+◌, ◌==◌, ◌<◌, ◌≤◌, ◌&&◌, ◌||◌, Bool, true, false, List, [], ◌∷◌, ◌++◌, length, take, drop, Option, Some, None, option_map, position, refl, ap, sym, ◌∙◌, arith, nat_eq, ne_eqb, length-drop}
+use Rattle.std.specs.List.{position_or_len, list_any, join_with_byte}
 use Rattle.std.specs.Str.{bytes_eq}
-use Rattle.std.proofs.lemmas.Bool.{false≢true, eqb-false}
+use Rattle.std.proofs.lemmas.Bool.{false≢true}
 use Rattle.std.proofs.lemmas.Bool.Decides.{nat_tests}
 use Rattle.std.proofs.lemmas.List.Splits.{slice_split_none, slice_split_first, join_with_byte-slice_split, length-slice_split}
 use Rattle.std.proofs.lemmas.List.Sums.{fails_before_first}

@@ -1,5 +1,5 @@
 -- Masks with a bit for each byte of a text.
-use Rattle.std.specs.Prelude.{ℕ, ◌+◌, ◌*◌, ◌==◌, Bool, if◌then◌else◌, List, [], ◌∷◌}
+use Rattle.std.specs.Prelude.{ℕ, ◌+◌, ◌*◌, ◌==◌, if◌then◌else◌, List, [], ◌∷◌}
 
 -- the bit of a byte is set where it is this mark; the first byte has the lowest bit
 abbrev pub mask_of : ℕ → List ℕ → ℕ

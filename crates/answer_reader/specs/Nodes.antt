@@ -1,5 +1,5 @@
 -- The line of a node: `node PLACE/OPEN/PHASES POTENTIAL`.
-use Rattle.std.specs.Prelude.{ℕ, ◌+◌, ◌==◌, ◌&&◌, ◌||◌, Bool, if◌then◌else◌, List, length, map, codes, Option, Some, None, option_map, option_and_then, Result, Ok, Err}
+use Rattle.std.specs.Prelude.{ℕ, ◌+◌, ◌==◌, ◌&&◌, ◌||◌, Bool, if◌then◌else◌, List, length, map, codes, Option, Some, None, option_map, option_and_then, Result, Err}
 use Rattle.std.specs.List.{list_all}
 use Rattle.std.specs.Option.{ok_or}
 use Rattle.tier_core.specs.Kinds.{Phase, closed, unmet, met}

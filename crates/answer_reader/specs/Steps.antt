@@ -1,5 +1,5 @@
 -- Going from line to line. A text falls into the lines that end and what is left behind the last.
-use Rattle.std.specs.Prelude.{◌≡◌, ℕ, ◌+◌, List, [], ◌∷◌, Result, Ok, Err}
+use Rattle.std.specs.Prelude.{◌≡◌, ℕ, List, [], ◌∷◌, Result, Ok, Err}
 use Rattle.answer_reader.specs.declared.answer_err.AnswerCause.{AnswerCause}
 use Rattle.answer_reader.specs.declared.answer_err.AnswerCause.TheVariants.{CutShort}
 use Rattle.answer_reader.specs.declared.answer_err.AnswerErr.{AnswerErr}

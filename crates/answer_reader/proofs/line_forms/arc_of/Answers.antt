@@ -1,6 +1,5 @@
-use Rattle.std.proofs.Common.{◌≡◌, Some, option_map, ap, sym, ◌∙◌, arith}
+use Rattle.std.proofs.Common.{option_map, ap, sym, ◌∙◌}
 use Rattle.tier_core.specs.Classes.{sets_of}
-use Rattle.answer_reader.specs.Classes.{class_of}
 use Rattle.answer_reader.proofs.ClassLoop.{class_width}
 use Rattle.answer_reader.proofs.line_forms.arc_of.Goals as goal
 

@@ -1,5 +1,5 @@
-use Rattle.std.proofs.Common.{◌≡◌, ◌+◌, ◌*◌, ◌^◌, ◌<◌, length, refl, sym, ◌∙◌, arith, pow_mono}
-use Rattle.answer_reader.proofs.Bits.{mask_next, mask_within, bit_below, bit_more}
+use Rattle.std.proofs.Common.{refl, sym, ◌∙◌, arith, pow_mono}
+use Rattle.answer_reader.proofs.Bits.{mask_next, bit_below, bit_more}
 use Rattle.answer_reader.proofs.mask.mask_of.Goals as goal
 
 pub overflow_mul-bit : goal.overflow_mul-bit

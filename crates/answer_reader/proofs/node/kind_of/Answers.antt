@@ -1,4 +1,4 @@
-use Rattle.std.proofs.Common.{◌≡◌, ap, ◌∙◌, arith, length, map, bit_and}
+use Rattle.std.proofs.Common.{ap, ◌∙◌, arith, length, map, bit_and}
 use Rattle.std.specs.List.{range_with_len}
 use Rattle.tier_core.specs.Kinds.{open_tiers, phase_by_bits}
 use Rattle.tier_core.specs.Tiers.{has_tier}

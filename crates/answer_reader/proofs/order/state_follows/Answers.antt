@@ -1,7 +1,7 @@
-use Rattle.std.proofs.Common.{sym, ◌∙◌, ap, map, arith}
+use Rattle.std.proofs.Common.{sym}
 use Rattle.answer_reader.specs.Orders.{state_less}
 use Rattle.answer_reader.specs.Values.{state_value}
-use Rattle.answer_reader.proofs.Follows.{follows_seen, less_told}
+use Rattle.answer_reader.proofs.Follows.{follows_seen}
 use Rattle.answer_reader.proofs.order.state_follows.Goals as goal
 
 pub returns-in-Some : goal.returns-in-Some

@@ -1,4 +1,4 @@
-use Rattle.std.proofs.Common.{◌≡◌, List, ℕ, Some, None, option_map, ap, sym, ◌∙◌}
+use Rattle.std.proofs.Common.{◌≡◌, Some, None, option_map, ap, sym, ◌∙◌}
 use Rattle.answer_reader.specs.Cuts.{cut, parts_seen}
 use Rattle.answer_reader.proofs.Cutting.{not_cut, line_cut}
 use Rattle.answer_reader.proofs.lines.Lines.next_line.Goals as goal

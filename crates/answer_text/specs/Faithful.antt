@@ -12,6 +12,7 @@ use Rattle.answer_text.specs.declared.automaton.ArcLine.{ArcLine}
 use Rattle.answer_text.specs.declared.answer.Answer.{Answer}
 use Rattle.answer_text.specs.Acceptance.{Accepts}
 use Rattle.answer_text.specs.Right.{nodes_at, kinds_at, numbers_of}
+use Rattle.violation.specs.Problems.{Problem}
 
 -- The arcs of one state: no column is in two of them, and each has the grammar's width and leads to a state.
 pub record AreFaithfulArcs (width : ℕ) (states : List ℕ) (arcs : List ArcLine) : Type 0 where
@@ -22,10 +23,10 @@ pub record AreFaithfulArcs (width : ℕ) (states : List ℕ) (arcs : List ArcLin
 -- An answer is faithful for a grammar: its automaton accepts exactly the optimal candidates of its
 -- form, its counts are the least vector, its example is optimal, each stage lists every kind of the
 -- stage, no state stands twice, and the arcs of each state are faithful.
-pub record IsFaithful (tiers : Tiers) (constraints : List Constraint) (answer : Answer) : Type 0 where
-  pub accepts : (T : List (List Sym)) → Accepts answer.automaton.states.items T ↔ IsOptimal tiers constraints answer.form T
-  pub counts : IsLeastVector tiers constraints answer.form answer.counts.items
-  pub example : IsOptimal tiers constraints answer.form answer.example
-  pub each_kind : (r : ℕ) → r ≤ length constraints → (k : PrefixKind) → IsKindOfStage tiers constraints answer.form r k → Contains (kinds_at tiers constraints r (nodes_at answer.stages.items r)) k
+pub record IsFaithful (problem : Problem) (answer : Answer) : Type 0 where
+  pub accepts : (T : List (List Sym)) → Accepts answer.automaton.states.items T ↔ IsOptimal problem T
+  pub counts : IsLeastVector problem answer.counts.items
+  pub example : IsOptimal problem answer.example
+  pub each_kind : (r : ℕ) → r ≤ length problem.constraints → (k : PrefixKind) → IsKindOfStage problem r k → Contains (kinds_at problem r (nodes_at answer.stages.items r)) k
   pub distinct : AllPairs (λ m n. m ≢ n) (numbers_of answer.automaton.states.items)
-  pub arcs : All (λ state. AreFaithfulArcs tiers.width (numbers_of answer.automaton.states.items) state.arcs.items) answer.automaton.states.items
+  pub arcs : All (λ state. AreFaithfulArcs problem.tiers.width (numbers_of answer.automaton.states.items) state.arcs.items) answer.automaton.states.items

@@ -19,34 +19,35 @@ use Rattle.answer_text.specs.declared.automaton.StateLine.{StateLine}
 use Rattle.answer_text.specs.declared.answer.Answer.{Answer}
 use Rattle.answer_text.specs.Acceptance.{HasArc}
 use Rattle.answer_text.specs.Right.{nodes_at, kinds_at, IsNodeOf, numbers_of}
+use Rattle.violation.specs.Problems.{Problem}
 
 -- stage r lists the kind k with the potential p
-pub record Lists (tiers : Tiers) (constraints : List Constraint) (stages : List Stage) (r : ℕ) (k : PrefixKind) (p : ℕ) : Type 0 where
+pub record Lists (problem : Problem) (stages : List Stage) (r : ℕ) (k : PrefixKind) (p : ℕ) : Type 0 where
   pub node : Node
   pub listed : Contains (nodes_at stages r) node
-  pub tells : prefix_kind (length tiers.free) (length (stretches constraints r)) node.kind ≡ k
+  pub tells : prefix_kind (length problem.tiers.free) (length (stretches problem r)) node.kind ≡ k
   pub potential : node.potential ≡ p
 
 -- On a column from the kind k, the potential of stage j falls by just what the column costs under
 -- constraint j. Stage j lists k and the kind to which the column leads, both cut to j constraints.
-pub record IsTightAt (tiers : Tiers) (constraints : List Constraint) (u : List (List Sym)) (stages : List Stage) (j : ℕ) (k : PrefixKind) (column : List Sym) : Type 0 where
+pub record IsTightAt (problem : Problem) (stages : List Stage) (j : ℕ) (k : PrefixKind) (column : List Sym) : Type 0 where
   pub before : ℕ
   pub after : ℕ
-  pub leaves : Lists tiers constraints stages j (cut constraints j k) before
-  pub arrives : Lists tiers constraints stages j (moved tiers constraints j (cut constraints j k) column) after
-  pub falls : before ≡ cost_of tiers constraints u j (cut constraints j k) column + after
+  pub leaves : Lists problem stages j (cut problem j k) before
+  pub arrives : Lists problem stages j (moved problem j (cut problem j k) column) after
+  pub falls : before ≡ cost_of problem j (cut problem j k) column + after
 
 -- There is a move from k on the column, and it is tight at each stage from 1 on that is below r. At
 -- stage r it is kept so, and at the end for r one more than the number of constraints.
-pub record IsKeptBelow (tiers : Tiers) (constraints : List Constraint) (u : List (List Sym)) (stages : List Stage) (r : ℕ) (k : PrefixKind) (column : List Sym) : Type 0 where
-  pub fits : FitsKind tiers u k column
-  pub tight : (j : ℕ) → 1 ≤ j → j < r → IsTightAt tiers constraints u stages j k column
+pub record IsKeptBelow (problem : Problem) (stages : List Stage) (r : ℕ) (k : PrefixKind) (column : List Sym) : Type 0 where
+  pub fits : FitsKind problem k column
+  pub tight : (j : ℕ) → 1 ≤ j → j < r → IsTightAt problem stages j k column
 
 -- k may be the kind of a prefix under the first r constraints: its place is in the form u, and a
 -- phase is closed exactly where some left tier is not open
-pub record IsPossibleKind (tiers : Tiers) (constraints : List Constraint) (u : List (List Sym)) (r : ℕ) (k : PrefixKind) : Type 0 where
-  pub place : k.place ≤ length u
-  pub phases : AreClosedOr (is_left_open tiers u k) (stretches constraints r) k.phases
+pub record IsPossibleKind (problem : Problem) (r : ℕ) (k : PrefixKind) : Type 0 where
+  pub place : k.place ≤ length problem.form
+  pub phases : AreClosedOr (is_left_open problem k) (stretches problem r) k.phases
 
 -- the potential that the start has: 0 at stage 0, and the count of constraint r at stage r
 abbrev pub start_potential : List ℕ → ℕ → ℕ
@@ -57,38 +58,38 @@ start_potential counts (suc i) = slice_index_or counts i 0
 -- constraint r. Its kinds are in order, and their cuts are in the stage before. It lists the start
 -- first, and with each kind also those to which the moves lead that are kept at r. A potential is at
 -- most what such a move costs and the potential to which it leads; it is 0 at a final kind.
-pub record IsShownStage (tiers : Tiers) (constraints : List Constraint) (u : List (List Sym)) (counts : List ℕ) (stages : List Stage) (r : ℕ) : Type 0 where
-  pub kinds : All (IsPossibleKind tiers constraints u r) (kinds_at tiers constraints r (nodes_at stages r))
-  pub ascending : IsStrictlySortedBy kind_order (kinds_at tiers constraints r (nodes_at stages r))
-  pub cuts : 1 ≤ r → All (λ k. Contains (kinds_at tiers constraints (r - 1) (nodes_at stages (r - 1))) (cut constraints (r - 1) k)) (kinds_at tiers constraints r (nodes_at stages r))
-  pub first : slice_get (kinds_at tiers constraints r (nodes_at stages r)) 0 ≡ Some (kind_of tiers constraints r [])
-  pub final : (k : PrefixKind) (p : ℕ) → Lists tiers constraints stages r k p → IsTrue (is_final u k) → p ≡ 0
-  pub goes_on : (k : PrefixKind) (p : ℕ) (column : List Sym) → Lists tiers constraints stages r k p → IsKeptBelow tiers constraints u stages r k column
-      → (q : ℕ) × (Lists tiers constraints stages r (moved tiers constraints r k column) q × (p ≤ cost_of tiers constraints u r k column + q))
-  pub start : (p : ℕ) → Lists tiers constraints stages r (kind_of tiers constraints r []) p → p ≡ start_potential counts r
+pub record IsShownStage (problem : Problem) (counts : List ℕ) (stages : List Stage) (r : ℕ) : Type 0 where
+  pub kinds : All (IsPossibleKind problem r) (kinds_at problem r (nodes_at stages r))
+  pub ascending : IsStrictlySortedBy kind_order (kinds_at problem r (nodes_at stages r))
+  pub cuts : 1 ≤ r → All (λ k. Contains (kinds_at problem (r - 1) (nodes_at stages (r - 1))) (cut problem (r - 1) k)) (kinds_at problem r (nodes_at stages r))
+  pub first : slice_get (kinds_at problem r (nodes_at stages r)) 0 ≡ Some (kind_of problem r [])
+  pub final : (k : PrefixKind) (p : ℕ) → Lists problem stages r k p → IsTrue (is_final problem k) → p ≡ 0
+  pub goes_on : (k : PrefixKind) (p : ℕ) (column : List Sym) → Lists problem stages r k p → IsKeptBelow problem stages r k column
+      → (q : ℕ) × (Lists problem stages r (moved problem r k column) q × (p ≤ cost_of problem r k column + q))
+  pub start : (p : ℕ) → Lists problem stages r (kind_of problem r []) p → p ≡ start_potential counts r
 
 -- The automaton has exactly the moves that are kept at the end: node 0 is a state, each arc leads to
 -- a state, a state is final where its kind is, no column is in two arcs of a state, and an arc on a
 -- column leads from a state to a node exactly where the move is kept and the node tells its target.
-pub record IsShownAutomaton (tiers : Tiers) (constraints : List Constraint) (u : List (List Sym)) (stages : List Stage) (states : List StateLine) : Type 0 where
+pub record IsShownAutomaton (problem : Problem) (stages : List Stage) (states : List StateLine) : Type 0 where
   pub start : Contains (numbers_of states) 0
   pub targets : All (λ state. All (λ arc. Contains (numbers_of states) arc.target) state.arcs.items) states
-  pub finals : (state : StateLine) (k : PrefixKind) → Contains states state → IsNodeOf tiers constraints (nodes_at stages (length constraints)) state.node k → state.accepting ≡ is_final u k
+  pub finals : (state : StateLine) (k : PrefixKind) → Contains states state → IsNodeOf problem (nodes_at stages (length problem.constraints)) state.node k → state.accepting ≡ is_final problem k
   pub once : All (λ state. AllPairs (λ a b. AreDisjoint a.class b.class) state.arcs.items) states
-  pub arcs : (n m : ℕ) (k : PrefixKind) (column : List Sym) → Contains (numbers_of states) n → IsNodeOf tiers constraints (nodes_at stages (length constraints)) n k
-      → HasArc states n m column ↔ (IsKeptBelow tiers constraints u stages (length constraints + 1) k column
-      × IsNodeOf tiers constraints (nodes_at stages (length constraints)) m (moved tiers constraints (length constraints) k column))
+  pub arcs : (n m : ℕ) (k : PrefixKind) (column : List Sym) → Contains (numbers_of states) n → IsNodeOf problem (nodes_at stages (length problem.constraints)) n k
+      → HasArc states n m column ↔ (IsKeptBelow problem stages (length problem.constraints + 1) k column
+      × IsNodeOf problem (nodes_at stages (length problem.constraints)) m (moved problem (length problem.constraints) k column))
 
 -- An answer is shown: its form is one, of at most 64 columns, there is one stage more than there are
 -- constraints, the example is a candidate that has the counts, and its stages and its automaton are shown.
-pub record IsShown (tiers : Tiers) (constraints : List Constraint) (answer : Answer) : Type 0 where
-  pub form : IsForm tiers answer.form
+pub record IsShown (problem : Problem) (answer : Answer) : Type 0 where
+  pub form : IsForm problem.tiers answer.form
   pub short : length answer.form ≤ 64
-  pub stage_count : length answer.stages.items ≡ length constraints + 1
-  pub example : IsCandidate tiers answer.form answer.example
-  pub counts : answer.counts.items ≡ vec constraints answer.example
-  pub each_stage : (r : ℕ) → r ≤ length constraints → IsShownStage tiers constraints answer.form answer.counts.items answer.stages.items r
-  pub automaton : IsShownAutomaton tiers constraints answer.form answer.stages.items answer.automaton.states.items
+  pub stage_count : length answer.stages.items ≡ length problem.constraints + 1
+  pub example : IsCandidate problem answer.example
+  pub counts : answer.counts.items ≡ vec problem.constraints answer.example
+  pub each_stage : (r : ℕ) → r ≤ length problem.constraints → IsShownStage problem answer.counts.items answer.stages.items r
+  pub automaton : IsShownAutomaton problem answer.stages.items answer.automaton.states.items
 
 -- What is known of the states of every answer that is read: they ascend by their node numbers, and
 -- their classes have the grammar's width.

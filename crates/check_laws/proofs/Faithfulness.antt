@@ -24,52 +24,53 @@ use Rattle.check_laws.proofs.Listing.{lists_kind, first_listed}
 use Rattle.check_laws.proofs.Potentials.{FallsAlong, falls_parts, listed_on}
 use Rattle.check_laws.proofs.Optima.{AreTold, all_told}
 use Rattle.check_laws.proofs.Reading.{accepted_falls, falls_accepted}
+use Rattle.violation.specs.Problems.{Problem}
 
 -- numbers that ascend differ
 pub numbers_apart : (ns : List ℕ) → IsStrictlySortedBy nat_cmp ns → AllPairs (λ m n. m ≢ n) ns
 numbers_apart ns sorted i j d l w e = absurd (omega (arith, below_from_sorted ns i j d sorted l w, e))
 
-module _ (tiers : Tiers) (constraints : List Constraint) (answer : Answer) (split : AreSplit tiers) (over : AllByRecursion (IsOverTiers tiers.width) constraints) (shown : IsShown tiers constraints answer) where
-  told : (r : ℕ) → r ≤ length constraints → AreTold tiers constraints answer.form answer.stages.items answer.example r
+module _ (problem : Problem) (answer : Answer) (split : AreSplit problem.tiers) (over : AllByRecursion (IsOverTiers problem.tiers.width) problem.constraints) (shown : IsShown problem answer) where
+  told : (r : ℕ) → r ≤ length problem.constraints → AreTold problem answer.stages.items answer.example r
   told r w =
-      all_told tiers constraints answer.form answer.stages.items split shown.form over answer.counts.items answer.example shown.example shown.counts r w
+      all_told problem answer.stages.items split shown.form over answer.counts.items answer.example shown.example shown.counts r w
       (λ j a b. shown.each_stage j (omega arith))
 
-  last_told : AreTold tiers constraints answer.form answer.stages.items answer.example (length constraints)
-  last_told = told (length constraints) (omega arith)
+  last_told : AreTold problem answer.stages.items answer.example (length problem.constraints)
+  last_told = told (length problem.constraints) (omega arith)
 
-  last_shown : IsShownStage tiers constraints answer.form answer.counts.items answer.stages.items (length constraints)
-  last_shown = shown.each_stage (length constraints) (omega arith)
+  last_shown : IsShownStage problem answer.counts.items answer.stages.items (length problem.constraints)
+  last_shown = shown.each_stage (length problem.constraints) (omega arith)
 
-  accepts : (T : List (List Sym)) → Accepts answer.automaton.states.items T ↔ IsOptimal tiers constraints answer.form T
+  accepts : (T : List (List Sym)) → Accepts answer.automaton.states.items T ↔ IsOptimal problem T
   accepts T = (
     λ a.
-        let f = accepted_falls tiers constraints answer.form answer.stages.items split shown.form over answer.counts.items last_shown answer.automaton.states.items shown.automaton T a in
+        let f = accepted_falls problem answer.stages.items split shown.form over answer.counts.items last_shown answer.automaton.states.items shown.automaton T a in
         (last_told.optimal T f.0).1 f.1,
-    λ o. falls_accepted tiers constraints answer.form answer.stages.items split shown.form over answer.counts.items last_shown answer.automaton.states.items shown.automaton T o.candidate ((last_told.optimal T o.candidate).0 o),
+    λ o. falls_accepted problem answer.stages.items split shown.form over answer.counts.items last_shown answer.automaton.states.items shown.automaton T o.candidate ((last_told.optimal T o.candidate).0 o),
   )
 
-  least_counts : IsLeastVector tiers constraints answer.form answer.counts.items
+  least_counts : IsLeastVector problem answer.counts.items
   least_counts =
-      vector_of_numbers tiers constraints answer.form answer.example answer.counts.items last_told.shares
-      (ap length shown.counts ∙ length-map constraints (λ c. violations_of c answer.example))
+      vector_of_numbers problem answer.example answer.counts.items last_told.shares
+      (ap length shown.counts ∙ length-map problem.constraints (λ c. violations_of c answer.example))
       (λ r a b. ap (λ (v : List ℕ). get_or v (r - 1) 0) (sym shown.counts))
 
   -- a kind of the stage is that of a prefix whose kinds are all listed
-  each_kind : (r : ℕ) → r ≤ length constraints → (k : PrefixKind) → IsKindOfStage tiers constraints answer.form r k → Contains (kinds_at tiers constraints r (nodes_at answer.stages.items r)) k
+  each_kind : (r : ℕ) → r ≤ length problem.constraints → (k : PrefixKind) → IsKindOfStage problem r k → Contains (kinds_at problem r (nodes_at answer.stages.items r)) k
   each_kind r w k passed =
       let T : List (List Sym) = passed.candidate in
       let n : ℕ = passed.columns in
       let o = passed.passes.optimal in
       let parts : take n T ++ drop n T ≡ T = take-append-drop n T in
       let falls = ((told (r - 1) (omega arith)).optimal T o.candidate).0 o in
-      let here = listed_on tiers constraints answer.form answer.stages.items split shown.form over answer.counts.items r w (shown.each_stage r w) (take n T) [] (drop n T)
-      (subst (IsCandidate tiers answer.form) (sym parts) o.candidate)
-      (λ j a b. (falls_parts tiers constraints answer.form answer.stages.items j (take n T) [] (drop n T) (subst (FallsAlong tiers constraints answer.form answer.stages.items j []) (sym parts) (falls j a (omega arith)))).0)
-      (first_listed tiers constraints r answer.stages.items (kind_of tiers constraints r []) (shown.each_stage r w).first) in
-      subst (Contains (kinds_at tiers constraints r (nodes_at answer.stages.items r))) passed.passes.of_kind (lists_kind tiers constraints r answer.stages.items (kind_of tiers constraints r (take n T)) here.0 here.1)
+      let here = listed_on problem answer.stages.items split shown.form over answer.counts.items r w (shown.each_stage r w) (take n T) [] (drop n T)
+      (subst (IsCandidate problem) (sym parts) o.candidate)
+      (λ j a b. (falls_parts problem answer.stages.items j (take n T) [] (drop n T) (subst (FallsAlong problem answer.stages.items j []) (sym parts) (falls j a (omega arith)))).0)
+      (first_listed problem r answer.stages.items (kind_of problem r []) (shown.each_stage r w).first) in
+      subst (Contains (kinds_at problem r (nodes_at answer.stages.items r))) passed.passes.of_kind (lists_kind problem r answer.stages.items (kind_of problem r (take n T)) here.0 here.1)
 
-  pub faithful_from_shown : AreStatesInOrder tiers.width answer.automaton.states.items → IsFaithful tiers constraints answer
+  pub faithful_from_shown : AreStatesInOrder problem.tiers.width answer.automaton.states.items → IsFaithful problem answer
   faithful_from_shown states = record {
     accepts = accepts;
     counts = least_counts;

@@ -6,8 +6,9 @@ ghost use Rattle.violation.specs.Conditions.{AreSplit, IsOverTiers};
 ghost use Rattle.answer_text.specs.declared.answer.Answer.{Answer};
 ghost use Rattle.answer_text.specs.Shown.{AreStatesInOrder, IsShown};
 ghost use Rattle.answer_text.specs.Faithful.{IsFaithful};
+ghost use Rattle.violation.specs.Problems.{Problem};
 
 /// An answer in which nothing is wrong, move by move, is faithful, whoever wrote it.
 pub fn shown_answers_are_faithful()
-    ensures { (tiers : Tiers) (constraints : List Constraint) (answer : Answer) → AreSplit tiers → AllByRecursion (IsOverTiers tiers.width) constraints → AreStatesInOrder tiers.width answer.automaton.states.items → IsShown tiers constraints answer → IsFaithful tiers constraints answer }
+    ensures { (problem : Problem) (answer : Answer) → AreSplit problem.tiers → AllByRecursion (IsOverTiers problem.tiers.width) problem.constraints → AreStatesInOrder problem.tiers.width answer.automaton.states.items → IsShown problem answer → IsFaithful problem answer }
 {}

@@ -3,6 +3,8 @@ ghost use Rattle.tier_core.specs.Tables.{tiers_of_table};
 ghost use Rattle.tier_core.specs.Tiers.{tiers_of};
 ghost use Rattle.violation.specs.Candidates.{IsForm};
 ghost use Rattle.kind_moves.specs.Masks.{AreOpenInputs};
+ghost use Rattle.violation.specs.Problems.{asked};
+ghost use Rattle.kind_moves.specs.Frames.{problem_in};
 
 use crate::cost::{costs, count_stretches};
 use crate::fit::{has_edge, may_follow};
@@ -26,7 +28,7 @@ pub struct Frame<'a> {
     pub ghost well_formed: { ∥ IsForm (tiers_of_table grammar.now.tiers) form.now ∥₁ },
     pub ghost short: { length form.now ≤ 64 },
     pub ghost free_tiers: { tiers_of free ≡ (tiers_of_table grammar.now.tiers).free },
-    pub ghost inputs: { AreOpenInputs (tiers_of_table grammar.now.tiers) form.now open_inputs.items },
+    pub ghost inputs: { AreOpenInputs (asked grammar.now.tiers grammar.now.constraints.items form.now) open_inputs.items },
 }
 
 impl<'a> Frame<'a> {
@@ -76,7 +78,7 @@ impl<'a> Frame<'a> {
     pub fn at_end(&self, kind: &Kind) -> bool
         requires place { kind.now.place ≤ length (form_in self.now) }
         requires opened { kind.now.opened < 2 ^ length (tiers_in self.now).free }
-        ensures { (stage : ℕ) → result ≡ is_final (form_in self.now) (kind_at_stage self.now stage kind.now) }
+        ensures { (stage : ℕ) → result ≡ is_final (problem_in self.now) (kind_at_stage self.now stage kind.now) }
     {
         kind.place as usize == self.form.len() && kind.opened == 0
     }
@@ -84,7 +86,7 @@ impl<'a> Frame<'a> {
     /// The mask of the tiers that are open at a kind.
     fn open_at(&self, kind: &Kind) -> u16
         requires { kind.now.place ≤ length (form_in self.now) }
-        ensures { (stage t : ℕ) → has_tier result t ≡ is_tier_open (tiers_in self.now) (form_in self.now) (kind_at_stage self.now stage kind.now) t }
+        ensures { (stage t : ℕ) → has_tier result t ≡ is_tier_open (problem_in self.now) (kind_at_stage self.now stage kind.now) t }
     {
         self.open_inputs[kind.place as usize] | laid_out(self.free, kind.opened)
     }
@@ -188,7 +190,7 @@ impl<'a> Frame<'a> {
         requires within { constraint ≤ stage }
         requires fits { FitsFrame self.now stage kind.now }
         requires width { length column.now ≡ (tiers_in self.now).width }
-        ensures cost { result ≡ slice_index_or (move_costs (tiers_in self.now) (constraints_in self.now) (form_in self.now) stage (kind_at_stage self.now stage kind.now) column.now) (constraint - 1) 0 }
+        ensures cost { result ≡ slice_index_or (move_costs (problem_in self.now) stage (kind_at_stage self.now stage kind.now) column.now) (constraint - 1) 0 }
         ensures few { result ≤ 1 }
     {
         let number = constraint as usize - 1;

@@ -17,6 +17,7 @@ use Rattle.otp_tool.specs.Grammars.{AreOf, IsFileOf, OnGrammar, input_count, tie
 use Rattle.otp_tool.specs.Findings.{Finding, Finds, FindsIn, FindsForAnswer, FindsForCanon, FindsForScore, IsOverBudget, IsWithinBudget, long_file, no_grammar, no_form, over_budget, ready}
 use Rattle.otp_tool.proofs.ConstraintLemmas.{first_over_alike}
 use Rattle.form_reader.proofs.ReadingLemmas.{not_refused, one_cause, one_reading, one_refusal}
+use Rattle.violation.specs.Problems.{Problem}
 
 -- ---- in a grammar
 
@@ -52,14 +53,14 @@ equal_where zero (suc b) f h = absurd (f (omega arith))
 equal_where (suc a) zero f h = absurd (h (omega arith))
 equal_where (suc a) (suc b) f h = ap suc (equal_where a b (λ l. f (omega (arith, l))) (λ l. h (omega (arith, l))))
 
-module _ (tiers : Tiers) (cs : List Constraint) (u : List (List Sym)) (budget : ℕ) where
-  more : (r : ℕ) → IsOver tiers cs u budget r → IsWithin tiers cs u budget r → ⊥
+module _ (problem : Problem) (cs : List Constraint) (budget : ℕ) where
+  more : (r : ℕ) → IsOver problem.tiers cs problem.form budget r → IsWithin problem.tiers cs problem.form budget r → ⊥
   more r o w = omega (arith, o.more, w o.kinds o.are)
 
-  over_within : (r : ℕ) → IsFirstOver tiers cs u budget r → AreAllWithin tiers cs u budget → ⊥
+  over_within : (r : ℕ) → IsFirstOver problem.tiers cs problem.form budget r → AreAllWithin problem.tiers cs problem.form budget → ⊥
   over_within r o w = more r o.over (w r o.stage)
 
-  one_stage : (r s : ℕ) → IsFirstOver tiers cs u budget r → IsFirstOver tiers cs u budget s → r ≡ s
+  one_stage : (r s : ℕ) → IsFirstOver problem.tiers cs problem.form budget r → IsFirstOver problem.tiers cs problem.form budget s → r ≡ s
   one_stage r s o p = equal_where r s (λ l. more r o.over (p.before r l)) (λ l. more s p.over (o.before s l))
 
 module _ (g : GrammarValue) (form : List ℕ) (budget : ℕ) where

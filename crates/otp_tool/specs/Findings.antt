@@ -29,7 +29,7 @@ pub record IsOverBudget (g : GrammarValue) (form : List ℕ) (budget stage : ℕ
   pub u : List (List Sym)
   pub read : IsReadAs (input_count g) g.letters form u
   pub constraints : List Constraint
-  pub are : AreOf g constraints
+  pub are : AreOf problem g
   pub over : IsFirstOver (tiers_of g) constraints u budget stage
 
 -- the word is a form, and no stage has more kinds than the budget
@@ -37,7 +37,7 @@ pub record IsWithinBudget (g : GrammarValue) (form : List ℕ) (budget : ℕ) : 
   pub u : List (List Sym)
   pub read : IsReadAs (input_count g) g.letters form u
   pub constraints : List Constraint
-  pub are : AreOf g constraints
+  pub are : AreOf problem g
   pub within : AreAllWithin (tiers_of g) constraints u budget
 
 -- what `canon` finds in a grammar

@@ -6,6 +6,7 @@ use Rattle.tier_core.specs.Tiers.{Tiers, tiers_by_kinds}
 use Rattle.grammar_reader.specs.Values.{GrammarValue}
 use Rattle.grammar_reader.specs.Reading.{grammar_of}
 use Rattle.grammar_reader.specs.Seen.{constraint_seen}
+use Rattle.violation.specs.Problems.{Problem}
 
 -- bytes are those that a shelf tells; where it tells nothing, they may be any
 abbrev pub IsHeld : Option (List ℕ) → List ℕ → Type 0
@@ -34,5 +35,5 @@ abbrev pub input_count : GrammarValue → ℕ
 input_count g = length (tiers_of g).input
 
 -- the constraints are those of the grammar, in ranked order
-abbrev pub AreOf : GrammarValue → List Constraint → Type 0
-AreOf g constraints = map constraint_seen constraints ≡ g.constraints
+abbrev pub AreOf : Problem → GrammarValue → Type 0
+AreOf problem g = map constraint_seen problem.constraints ≡ g.constraints

@@ -22,6 +22,7 @@ use Rattle.form_reader.specs.Forms.{IsReadAs}
 use Rattle.otp_tool.specs.Grammars.{IsHeld, IsFileOf}
 use Rattle.otp_tool.specs.Findings.{Finding, long_file, no_grammar, no_form, over_budget, ready}
 use Rattle.otp_tool.specs.Outcomes.{IsBehind, IsWrittenBehind, HasReadFault}
+use Rattle.violation.specs.Problems.{Problem}
 
 -- the budget of a command is from 1 to 65,536
 abbrev pub HasFitBudget : Command → Type 0
@@ -67,11 +68,11 @@ IsRefusal finds NoMemory = Unit {0}
 IsRefusal finds (TooLong word) = ⊥
 
 -- an answer is right for the form that a word is read as, and no stage has more kinds than the budget
-pub record IsMade (tiers : Tiers) (letters : List Letter) (constraints : List Constraint) (form : List ℕ) (budget : ℕ) (answer : Answer) : Type 0 where
+pub record IsMade (problem : Problem) (letters : List Letter) (form : List ℕ) (budget : ℕ) (answer : Answer) : Type 0 where
   pub u : List (List Sym)
-  pub read : IsReadAs (length tiers.input) letters form u
-  pub right : IsRight tiers constraints u answer
-  pub within : AreAllWithin tiers constraints u budget
+  pub read : IsReadAs (length problem.tiers.input) letters form problem.form
+  pub right : IsRight problem answer
+  pub within : AreAllWithin problem budget
 
 -- what a sink has taken, and its faults, before and after
 pub record Taking : Type 0 where

@@ -15,6 +15,7 @@ use Rattle.violation.specs.Prefixes.{stretches}
 use Rattle.kind_moves.specs.declared.frame.Frame.{Frame}
 use Rattle.kind_moves.specs.Frames.{tiers_in, constraints_in, kind_at_stage, FitsFrame}
 use Rattle.kind_orders.specs.KindOrders.{AreFound}
+use Rattle.kind_moves.specs.Frames.{problem_in}
 
 module _ (frame : Frame) (shape : Shape) (of : IsShapeOf frame.grammar.now shape) (stage : ℕ) (within : stage ≤ length (constraints_in frame)) where
   pub free_same : free_count shape ≡ length (tiers_in frame).free
@@ -23,7 +24,7 @@ module _ (frame : Frame) (shape : Shape) (of : IsShapeOf frame.grammar.now shape
   pub stage_in : stage < length shape.phases.items
   stage_in = omega (arith, ap length of.phases, length-stretch_counts (constraints_in frame))
 
-  pub stretch_same : stretch_count shape stage ≡ length (stretches (constraints_in frame) stage)
+  pub stretch_same : stretch_count shape stage ≡ length (stretches (problem_in frame) stage)
   stretch_same =
       ap (λ ns. get_or ns stage 0) of.phases
       ∙ get_or-map-range_with_len (λ i. length (filter is_stretch (take i (constraints_in frame)))) 0 (length (constraints_in frame) + 1) stage stage 0 (omega arith) (omega arith)

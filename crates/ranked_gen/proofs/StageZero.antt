@@ -9,17 +9,18 @@ use Rattle.ranked_gen.specs.Budgets.{IsFirstOver}
 use Rattle.ranked_gen.specs.Listed.{kind_count}
 use Rattle.ranked_gen.proofs.StageKinds.{first_over}
 use Rattle.ranked_gen.proofs.InitStage.{ranked_passed, bare_passed}
+use Rattle.violation.specs.Problems.{Problem}
 
-pub zero_over : (tiers : Tiers) → AreSplit tiers → AreDistinct tiers.free → (constraints : List Constraint) (u : List (List Sym)) → IsForm tiers u → (budget : ℕ) → budget < kind_count tiers u → IsFirstOver tiers constraints u budget 0
-zero_over tiers split distinct constraints u form budget l =
-    let bare = first_over tiers split distinct u form budget l in
+pub zero_over : (tiers : Tiers) → AreSplit problem.tiers → AreDistinct problem.tiers.free → (problem : Problem) → IsForm problem.tiers problem.form → (budget : ℕ) → budget < kind_count problem → IsFirstOver problem budget 0
+zero_over problem split distinct form budget l =
+    let bare = first_over problem split distinct form budget l in
     record {
       stage = omega arith;
       over = record {
         kinds = bare.over.kinds;
         are = record {
           ascending = bare.over.are.ascending;
-          members = λ k. (λ c. ranked_passed tiers constraints u k ((bare.over.are.members k).0 c), λ p. (bare.over.are.members k).1 (bare_passed tiers constraints u k p));
+          members = λ k. (λ c. ranked_passed problem k ((bare.over.are.members k).0 c), λ p. (bare.over.are.members k).1 (bare_passed problem k p));
         };
         more = bare.over.more;
       };

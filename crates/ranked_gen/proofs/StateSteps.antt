@@ -25,52 +25,53 @@ use Rattle.ranked_gen.specs.Numbers.{flags_of, kind_numbered}
 use Rattle.ranked_gen.specs.Arcs.{still, staying}
 use Rattle.ranked_gen.specs.Listed.{IsNodeNumbered, IsStateNumbered, AreNumbered, AreListed}
 use Rattle.ranked_gen.proofs.NumberLemmas.{flags_of-low, same_kind, kind_from}
+use Rattle.violation.specs.Problems.{Problem}
 
 -- the kind of a place and a set
 pub kind_at_place : (f place opened : ℕ) → opened < 2 ^ f → kind_numbered f (place * 2 ^ f + opened) ≡ kind_from place (flags_of f opened) []
 kind_at_place f place opened l = same_kind (div-mul-add place (2 ^ f) opened l) (flags_of-low f f place opened (omega arith)) refl
 
-module _ (tiers : Tiers) (u : List (List Sym)) (form : IsForm tiers u) where
-  open_after : (p j : ℕ) → p < length u → j < length tiers.input → is_open (word (take (suc p) u) j) ≡ opens (symbol (column_at u p) j)
+module _ (problem : Problem) (form : IsForm problem.tiers problem.form) where
+  open_after : (p j : ℕ) → p < length problem.form → j < length problem.tiers.input → is_open (word (take (suc p) problem.form) j) ≡ opens (symbol (column_at problem.form p) j)
   open_after p j l h =
-      let well = runs_from_well_formed (word u j) (form.well_formed.each_tier j h) in
-      let size : length (word u j) ≡ length u = length-map u (λ (column : List Sym). symbol column j) in
-      ap is_open (take_word u (suc p) j) ∙ prefix_open (word u j) (suc p) well (omega arith) ∙ open_suc false (word u j) p (omega arith)
-      ∙ ap opens (get_or-map (λ column. symbol column j) u p [] Outside l)
+      let well = runs_from_well_formed (word problem.form j) (form.well_formed.each_tier j h) in
+      let size : length (word problem.form j) ≡ length problem.form = length-map problem.form (λ (column : List Sym). symbol column j) in
+      ap is_open (take_word problem.form (suc p) j) ∙ prefix_open (word problem.form j) (suc p) well (omega arith) ∙ open_suc false (word problem.form j) p (omega arith)
+      ∙ ap opens (get_or-map (λ column. symbol column j) problem.form p [] Outside l)
 
   -- the symbols that stay after a column
-  pub staying_after : (p : ℕ) → p < length u → length (column_at u p) ≡ length tiers.input → map (λ s. still (opens s)) (column_at u p) ≡ staying tiers u (suc p)
-  staying_after p l wide = fill_by_all at (map (λ s. still (opens s)) (column_at u p)) (length tiers.input) Outside (length-map (column_at u p) (λ (s : Sym). still (opens s)) ∙ wide)
-      (λ j h. get_or-map (λ s. still (opens s)) (column_at u p) j Outside Outside (omega arith) ∙ ap still (sym (open_after p j l h)))
-      ∙ sym (map-map still (λ j. is_open (word (take (suc p) u) j)) (range_with_len 0 (length tiers.input)))
+  pub staying_after : (p : ℕ) → p < length problem.form → length (column_at problem.form p) ≡ length problem.tiers.input → map (λ s. still (opens s)) (column_at problem.form p) ≡ staying problem (suc p)
+  staying_after p l wide = fill_by_all at (map (λ s. still (opens s)) (column_at problem.form p)) (length problem.tiers.input) Outside (length-map (column_at problem.form p) (λ (s : Sym). still (opens s)) ∙ wide)
+      (λ j h. get_or-map (λ s. still (opens s)) (column_at problem.form p) j Outside Outside (omega arith) ∙ ap still (sym (open_after p j l h)))
+      ∙ sym (map-map still (λ j. is_open (word (take (suc p) problem.form) j)) (range_with_len 0 (length problem.tiers.input)))
     where
       at : ℕ → Sym
-      at j = still (is_open (word (take (suc p) u) j))
+      at j = still (is_open (word (take (suc p) problem.form) j))
 
   -- the symbols that stay before the first column
-  pub staying_first : (syms : List Sym) → length syms ≡ 12 → length tiers.input ≤ 12 → ((t : ℕ) → get_or syms t Outside ≡ Outside) → take (length tiers.input) syms ≡ staying tiers u 0
-  staying_first syms long few h = fill_by_all (λ j. still (is_open (word (take 0 u) j))) (take (length tiers.input) syms) (length tiers.input) Outside (length-take-le (length tiers.input) syms (omega arith))
-      (λ j l. get_or-take (length tiers.input) syms j Outside l ∙ h j)
-      ∙ sym (map-map still (λ j. is_open (word (take 0 u) j)) (range_with_len 0 (length tiers.input)))
+  pub staying_first : (syms : List Sym) → length syms ≡ 12 → length problem.tiers.input ≤ 12 → ((t : ℕ) → get_or syms t Outside ≡ Outside) → take (length problem.tiers.input) syms ≡ staying problem 0
+  staying_first syms long few h = fill_by_all (λ j. still (is_open (word (take 0 problem.form) j))) (take (length problem.tiers.input) syms) (length problem.tiers.input) Outside (length-take-le (length problem.tiers.input) syms (omega arith))
+      (λ j l. get_or-take (length problem.tiers.input) syms j Outside l ∙ h j)
+      ∙ sym (map-map still (λ j. is_open (word (take 0 problem.form) j)) (range_with_len 0 (length problem.tiers.input)))
 
-pub length-staying : (tiers : Tiers) (u : List (List Sym)) (place : ℕ) → length (staying tiers u place) ≡ length tiers.input
-length-staying tiers u place = length-map (form_opened tiers u place) still ∙ length-map-range_with_len (λ j. is_open (word (take place u) j)) 0 (length tiers.input)
+pub length-staying : (problem : Problem) (place : ℕ) → length (staying problem place) ≡ length problem.tiers.input
+length-staying problem place = length-map (form_opened problem place) still ∙ length-map-range_with_len (λ j. is_open (word (take place problem.form) j)) 0 (length problem.tiers.input)
 
 -- one node and one state more
 pub numbered_more : {X : Type 0} (P : ℕ → X → Type 0) (n : ℕ) (xs : List X) (x : X) → AreNumbered P n xs → P (n + length xs) x → AreNumbered P n (xs ++ x ∷ [])
 numbered_more P n [] x a p = let here : n + 0 ≡ n = omega arith in (subst (λ k. P k x) here p, tt)
 numbered_more P n (y ∷ ys) x a p = let here : n + suc (length ys) ≡ (n + 1) + length ys = omega arith in (a.0, numbered_more P (n + 1) ys x a.1 (subst (λ k. P k x) here p))
 
-pub listed_more : {W : Type 0} {g : Ghosts W} (tiers : Tiers) (u : List (List Sym)) (count : ℕ) (nodes : List Node) (states : List (TableState W g)) (node : Node) (state : TableState W g)
-    → AreListed tiers u count nodes states → IsNodeNumbered tiers count node → IsStateNumbered tiers u count state → AreListed tiers u (count + 1) (nodes ++ node ∷ []) (states ++ state ∷ [])
-listed_more {W} {g} tiers u count nodes states node state a n s =
+pub listed_more : {W : Type 0} {g : Ghosts W} (problem : Problem) (count : ℕ) (nodes : List Node) (states : List (TableState W g)) (node : Node) (state : TableState W g)
+    → AreListed problem count nodes states → IsNodeNumbered problem.tiers count node → IsStateNumbered problem count state → AreListed problem (count + 1) (nodes ++ node ∷ []) (states ++ state ∷ [])
+listed_more {W} {g} problem count nodes states node state a n s =
     let at_node : count ≡ 0 + length nodes = omega (arith, a.node_count) in
     let at_state : count ≡ 0 + length states = omega (arith, a.state_count) in
     record {
       node_count = omega (arith, a.node_count, length_push nodes node);
-      each_node = numbered_more (IsNodeNumbered tiers) 0 nodes node a.each_node (subst (λ k. IsNodeNumbered tiers k node) at_node n);
+      each_node = numbered_more (IsNodeNumbered problem.tiers) 0 nodes node a.each_node (subst (λ k. IsNodeNumbered problem.tiers k node) at_node n);
       state_count = omega (arith, a.state_count, length_push states state);
-      each_state = numbered_more (IsStateNumbered {W = W} {g = g} tiers u) 0 states state a.each_state (subst (λ k. IsStateNumbered {W = W} {g = g} tiers u k state) at_state s);
+      each_state = numbered_more (IsStateNumbered {W = W} {g = g} problem) 0 states state a.each_state (subst (λ k. IsStateNumbered {W = W} {g = g} problem k state) at_state s);
     }
 
 -- numbers of kinds are small
@@ -86,5 +87,5 @@ pub kind_counted : (free place opened mask : ℕ) → opened < 2 ^ free → map 
     → kind_from place (map (has_tier mask) (range_with_len 0 free)) [] ≡ kind_numbered free (place * 2 ^ free + opened)
 kind_counted free place opened mask l e = ap (λ o. kind_from place o []) e ∙ sym (kind_at_place free place opened l)
 
-pub nothing_listed : {W : Type 0} {g : Ghosts W} (tiers : Tiers) (u : List (List Sym)) (n : ℕ) → n ≡ 0 → AreListed {W = W} {g = g} tiers u n [] []
-nothing_listed {W} {g} tiers u n e = record { node_count = sym e; each_node = tt; state_count = sym e; each_state = tt }
+pub nothing_listed : {W : Type 0} {g : Ghosts W} (problem : Problem) (n : ℕ) → n ≡ 0 → AreListed {W = W} {g = g} problem n [] []
+nothing_listed {W} {g} problem n e = record { node_count = sym e; each_node = tt; state_count = sym e; each_state = tt }

@@ -33,7 +33,7 @@ filter_every p (x ∷ xs) h = cond-true (p x) (x ∷ filter p xs) (filter p xs) 
 
 runs_outside : (u : List (List Sym)) → runs false (map (λ c. Outside) u) ≡ true
 runs_outside [] = refl
-runs_outside (c ∷ u) = runs_outside u
+runs_outside (c ∷ u) = runs_outside problem
 
 pub on_nothing : (xs : List ℕ) (t : ℕ) → symbol_on xs [] t ≡ Outside
 on_nothing [] t = refl
@@ -124,7 +124,7 @@ module _ (tiers : Tiers) (flag : ℕ → Bool) (s : Sym) where
         (λ i.
         let at : get_or tiers.input i.0 0 ≡ t = get_or_default tiers.input i.0 0 t i.1 ∙ i.2 in
         ap (λ (x : ℕ). runs false (word (map (over tiers flag s) u) x)) (sym at) ∙ ap (runs false) (word_input u i.0 i.1) ∙ runs_from_well_formed (word u i.0) (wf.each_tier i.0 i.1))
-        (λ f. ap (runs false) (word_outside u t l h (λ i. split.apart t i f)) ∙ runs_outside u)
+        (λ f. ap (runs false) (word_outside u t l h (λ i. split.apart t i f)) ∙ runs_outside problem)
         (split.each t l)
 
     -- each column keeps the edge of the form's column

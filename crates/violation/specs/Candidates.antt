@@ -10,6 +10,7 @@ use Rattle.tier_core.specs.declared.constraint.Constraint.{Constraint}
 use Rattle.tier_core.specs.Tiers.{Tiers}
 use Rattle.tier_core.specs.Timelines.{IsWellFormed, IsReduced, project, squeeze}
 use Rattle.violation.specs.Counts.{violations_of, violations_so_far}
+use Rattle.violation.specs.Problems.{Problem}
 
 -- the violation vector of a timeline: its violations of each constraint in ranked order, the highest first
 abbrev pub vec : List Constraint → List (List Sym) → List ℕ
@@ -33,21 +34,21 @@ pub record IsForm (tiers : Tiers) (u : List (List Sym)) : Type 0 where
 
 -- T is a candidate of the form u: it is well formed and reduced over the tiers of the grammar, and
 -- its projection to the input tiers, squeezed, is u.
-pub record IsCandidate (tiers : Tiers) (u T : List (List Sym)) : Type 0 where
-  pub well_formed : IsWellFormed tiers.width T
+pub record IsCandidate (problem : Problem) (T : List (List Sym)) : Type 0 where
+  pub well_formed : IsWellFormed problem.tiers.width T
   pub reduced : IsReduced T
-  pub input : squeeze (project tiers.input T) ≡ u
+  pub input : squeeze (project problem.tiers.input T) ≡ problem.form
 
 -- T is r-optimal: it is a candidate, and its first r counts are at most those of every candidate
-pub record IsOptimalFor (tiers : Tiers) (constraints : List Constraint) (u : List (List Sym)) (r : ℕ) (T : List (List Sym)) : Type 0 where
-  pub candidate : IsCandidate tiers u T
-  pub least : (U : List (List Sym)) → IsCandidate tiers u U → IsAtMost (take r (vec constraints T)) (take r (vec constraints U))
+pub record IsOptimalFor (problem : Problem) (r : ℕ) (T : List (List Sym)) : Type 0 where
+  pub candidate : IsCandidate problem T
+  pub least : (U : List (List Sym)) → IsCandidate problem U → IsAtMost (take r (vec problem.constraints T)) (take r (vec problem.constraints U))
 
 -- T is optimal: it is r-optimal for r the number of constraints
-abbrev pub IsOptimal : Tiers → List Constraint → List (List Sym) → List (List Sym) → Type 0
-IsOptimal tiers constraints u T = IsOptimalFor tiers constraints u (length constraints) T
+abbrev pub IsOptimal : Problem → List (List Sym) → Type 0
+IsOptimal problem T = IsOptimalFor problem (length problem.constraints) T
 
 -- v is the least vector of u, which the optimal candidates share
-pub record IsLeastVector (tiers : Tiers) (constraints : List Constraint) (u : List (List Sym)) (v : List ℕ) : Type 0 where
-  pub some : (T : List (List Sym)) × (IsOptimal tiers constraints u T × (vec constraints T ≡ v))
-  pub shared : (T : List (List Sym)) → IsOptimal tiers constraints u T → vec constraints T ≡ v
+pub record IsLeastVector (problem : Problem) (v : List ℕ) : Type 0 where
+  pub some : (T : List (List Sym)) × (IsOptimal problem T × (vec problem.constraints T ≡ v))
+  pub shared : (T : List (List Sym)) → IsOptimal problem T → vec problem.constraints T ≡ v

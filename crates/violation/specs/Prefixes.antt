@@ -14,6 +14,7 @@ use Rattle.tier_core.specs.Events.{Interval, meet, is_there}
 use Rattle.tier_core.specs.Tiers.{Tiers}
 use Rattle.tier_core.specs.Kinds.{Phase, closed, unmet, met, PrefixKind}
 use Rattle.tier_core.specs.Sides.{edge_among, is_stretch}
+use Rattle.violation.specs.Problems.{Problem}
 
 -- in a word, a constituent has started and not ended
 abbrev pub is_open : List Sym → Bool
@@ -55,14 +56,14 @@ phase left right p =
     else closed
 
 -- the stretch implications among the first r constraints
-abbrev pub stretches : List Constraint → ℕ → List Constraint
-stretches constraints r = filter is_stretch (take r constraints)
+abbrev pub stretches : Problem → ℕ → List Constraint
+stretches problem r = filter is_stretch (take r problem.constraints)
 
 -- The kind of a prefix under the first r constraints: its place, which is the number of columns of
 -- its squeezed input part; which free tiers are open; and the phases of the stretch implications.
-abbrev pub kind_of : Tiers → List Constraint → ℕ → List (List Sym) → PrefixKind
-kind_of tiers constraints r p = record {
-  place = length (squeeze (project tiers.input p));
-  opened = map (λ t. is_open (word p t)) tiers.free;
-  phases = map (λ c. phase c.left c.right p) (stretches constraints r);
+abbrev pub kind_of : Problem → ℕ → List (List Sym) → PrefixKind
+kind_of problem r p = record {
+  place = length (squeeze (project problem.tiers.input p));
+  opened = map (λ t. is_open (word p t)) problem.tiers.free;
+  phases = map (λ c. phase c.left c.right p) (stretches problem r);
 }

@@ -12,7 +12,7 @@ use Rattle.answer_text.specs.declared.automaton.ArcLine.{ArcLine}
 use Rattle.answer_text.specs.declared.answer.Answer.{Answer}
 use Rattle.answer_text.specs.Acceptance.{Accepts}
 use Rattle.answer_text.specs.Right.{nodes_at, kinds_at, numbers_of}
-use Rattle.violation.specs.Problems.{Problem}
+use Rattle.violation.specs.Problems.{Problem, last_stage}
 
 -- The arcs of one state: no column is in two of them, and each has the grammar's width and leads to a state.
 pub record AreFaithfulArcs (width : ℕ) (states : List ℕ) (arcs : List ArcLine) : Type 0 where
@@ -27,6 +27,6 @@ pub record IsFaithful (problem : Problem) (answer : Answer) : Type 0 where
   pub accepts : (T : List (List Sym)) → Accepts answer.automaton.states.items T ↔ IsOptimal problem T
   pub counts : IsLeastVector problem answer.counts.items
   pub example : IsOptimal problem answer.example
-  pub each_kind : (r : ℕ) → r ≤ length problem.constraints → (k : PrefixKind) → IsKindOfStage problem r k → Contains (kinds_at problem r (nodes_at answer.stages.items r)) k
+  pub each_kind : (r : ℕ) → r ≤ last_stage problem → (k : PrefixKind) → IsKindOfStage problem r k → Contains (kinds_at problem r (nodes_at answer.stages.items r)) k
   pub distinct : AllPairs (λ m n. m ≢ n) (numbers_of answer.automaton.states.items)
   pub arcs : All (λ state. AreFaithfulArcs problem.tiers.width (numbers_of answer.automaton.states.items) state.arcs.items) answer.automaton.states.items

@@ -9,23 +9,23 @@ use Rattle.tier_core.specs.declared.constraint.Constraint.{Constraint}
 use Rattle.tier_core.specs.Classes.{sets_of, AreDisjoint}
 use Rattle.tier_core.specs.Tiers.{Tiers}
 use Rattle.tier_core.specs.Kinds.{PrefixKind, prefix_kind, kind_order}
-use Rattle.violation.specs.Candidates.{vec, IsForm, IsCandidate}
+use Rattle.violation.specs.Candidates.{vec, IsForm, IsCandidate, counts_on}
 use Rattle.violation.specs.Moves.{FitsKind, moved, cost_of, cut, is_final}
 use Rattle.violation.specs.Phases.{is_left_open, AreClosedOr}
-use Rattle.violation.specs.Prefixes.{kind_of, stretches}
+use Rattle.violation.specs.Prefixes.{kind_of, stretches, kind_of_bits}
 use Rattle.answer_text.specs.declared.stage.Node.{Node}
 use Rattle.answer_text.specs.declared.stage.Stage.{Stage}
 use Rattle.answer_text.specs.declared.automaton.StateLine.{StateLine}
 use Rattle.answer_text.specs.declared.answer.Answer.{Answer}
 use Rattle.answer_text.specs.Acceptance.{HasArc}
 use Rattle.answer_text.specs.Right.{nodes_at, kinds_at, IsNodeOf, numbers_of}
-use Rattle.violation.specs.Problems.{Problem}
+use Rattle.violation.specs.Problems.{Problem, last_stage, last_place}
 
 -- stage r lists the kind k with the potential p
 pub record Lists (problem : Problem) (stages : List Stage) (r : ℕ) (k : PrefixKind) (p : ℕ) : Type 0 where
   pub node : Node
   pub listed : Contains (nodes_at stages r) node
-  pub tells : prefix_kind (length problem.tiers.free) (length (stretches problem r)) node.kind ≡ k
+  pub tells : kind_of_bits problem r node.kind ≡ k
   pub potential : node.potential ≡ p
 
 -- On a column from the kind k, the potential of stage j falls by just what the column costs under
@@ -46,7 +46,7 @@ pub record IsKeptBelow (problem : Problem) (stages : List Stage) (r : ℕ) (k : 
 -- k may be the kind of a prefix under the first r constraints: its place is in the form u, and a
 -- phase is closed exactly where some left tier is not open
 pub record IsPossibleKind (problem : Problem) (r : ℕ) (k : PrefixKind) : Type 0 where
-  pub place : k.place ≤ length problem.form
+  pub place : k.place ≤ last_place problem
   pub phases : AreClosedOr (is_left_open problem k) (stretches problem r) k.phases
 
 -- the potential that the start has: 0 at stage 0, and the count of constraint r at stage r
@@ -74,21 +74,21 @@ pub record IsShownStage (problem : Problem) (counts : List ℕ) (stages : List S
 pub record IsShownAutomaton (problem : Problem) (stages : List Stage) (states : List StateLine) : Type 0 where
   pub start : Contains (numbers_of states) 0
   pub targets : All (λ state. All (λ arc. Contains (numbers_of states) arc.target) state.arcs.items) states
-  pub finals : (state : StateLine) (k : PrefixKind) → Contains states state → IsNodeOf problem (nodes_at stages (length problem.constraints)) state.node k → state.accepting ≡ is_final problem k
+  pub finals : (state : StateLine) (k : PrefixKind) → Contains states state → IsNodeOf problem (nodes_at stages (last_stage problem)) state.node k → state.accepting ≡ is_final problem k
   pub once : All (λ state. AllPairs (λ a b. AreDisjoint a.class b.class) state.arcs.items) states
-  pub arcs : (n m : ℕ) (k : PrefixKind) (column : List Sym) → Contains (numbers_of states) n → IsNodeOf problem (nodes_at stages (length problem.constraints)) n k
-      → HasArc states n m column ↔ (IsKeptBelow problem stages (length problem.constraints + 1) k column
-      × IsNodeOf problem (nodes_at stages (length problem.constraints)) m (moved problem (length problem.constraints) k column))
+  pub arcs : (n m : ℕ) (k : PrefixKind) (column : List Sym) → Contains (numbers_of states) n → IsNodeOf problem (nodes_at stages (last_stage problem)) n k
+      → HasArc states n m column ↔ (IsKeptBelow problem stages (last_stage problem + 1) k column
+      × IsNodeOf problem (nodes_at stages (last_stage problem)) m (moved problem (last_stage problem) k column))
 
 -- An answer is shown: its form is one, of at most 64 columns, there is one stage more than there are
 -- constraints, the example is a candidate that has the counts, and its stages and its automaton are shown.
 pub record IsShown (problem : Problem) (answer : Answer) : Type 0 where
   pub form : IsForm problem.tiers answer.form
   pub short : length answer.form ≤ 64
-  pub stage_count : length answer.stages.items ≡ length problem.constraints + 1
+  pub stage_count : length answer.stages.items ≡ last_stage problem + 1
   pub example : IsCandidate problem answer.example
-  pub counts : answer.counts.items ≡ vec problem.constraints answer.example
-  pub each_stage : (r : ℕ) → r ≤ length problem.constraints → IsShownStage problem answer.counts.items answer.stages.items r
+  pub counts : answer.counts.items ≡ counts_on problem answer.example
+  pub each_stage : (r : ℕ) → r ≤ last_stage problem → IsShownStage problem answer.counts.items answer.stages.items r
   pub automaton : IsShownAutomaton problem answer.stages.items answer.automaton.states.items
 
 -- What is known of the states of every answer that is read: they ascend by their node numbers, and

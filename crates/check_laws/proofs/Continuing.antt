@@ -7,10 +7,10 @@ use Rattle.tier_core.specs.declared.sym.Sym.{Sym}
 use Rattle.tier_core.specs.declared.constraint.Constraint.{Constraint}
 use Rattle.tier_core.specs.Kinds.{PrefixKind, prefix_kind}
 use Rattle.tier_core.specs.Tiers.{Tiers}
-use Rattle.violation.specs.Candidates.{IsForm, IsCandidate, vec, IsOptimalFor}
+use Rattle.violation.specs.Candidates.{IsForm, IsCandidate, vec, IsOptimalFor, counts_on}
 use Rattle.violation.specs.Conditions.{AreSplit, IsOverTiers}
 use Rattle.violation.specs.Moves.{cut}
-use Rattle.violation.specs.Prefixes.{kind_of, stretches}
+use Rattle.violation.specs.Prefixes.{kind_of, stretches, kind_of_bits}
 use Rattle.violation.specs.Stages.{IsKindOfStage, IsRemaining}
 use Rattle.violation.specs.Walks.{BeginsCandidate}
 use Rattle.violation.proofs.CompletionLemmas.{completed}
@@ -29,7 +29,7 @@ use Rattle.check_laws.proofs.Potentials.{FallsAlong, stage_at, over_at, falls_fr
 use Rattle.check_laws.proofs.Joining.{falls_alike}
 use Rattle.check_laws.proofs.Optima.{AllFall, AreTold, all_told}
 use Rattle.check_laws.proofs.Rests.{least_rest, HasRest, rest_some}
-use Rattle.violation.specs.Problems.{Problem}
+use Rattle.violation.specs.Problems.{Problem, last_stage}
 
 -- a right answer for a grammar and its form
 pub record IsGiven (problem : Problem) (answer : Answer) : Type 0 where
@@ -43,22 +43,22 @@ pub same_fewer : (problem : Problem) (j s : ℕ) → j ≤ s → (v p : List (Li
 same_fewer problem j s l v p e = sym (cut-kind_of problem j s l v) ∙ ap (cut problem j) e ∙ cut-kind_of problem j s l p
 
 module _ (problem : Problem) (answer : Answer) (given : IsGiven problem answer) where
-  pub counts_are : answer.counts.items ≡ vec problem.constraints answer.example
+  pub counts_are : answer.counts.items ≡ counts_on problem answer.example
   counts_are = sym (given.right.counts.shared answer.example given.right.example.member)
 
-  pub remains : (r : ℕ) → r ≤ length problem.constraints → (k : PrefixKind) (p : ℕ) → Lists problem answer.stages.items r k p → IsRemaining problem r k p
+  pub remains : (r : ℕ) → r ≤ last_stage problem → (k : PrefixKind) (p : ℕ) → Lists problem answer.stages.items r k p → IsRemaining problem r k p
   remains r w k p l =
       subst (λ m. IsRemaining problem r k m) l.potential
       (subst (λ x. IsRemaining problem r x l.node.potential) l.tells
-      (All-contains (λ (node : Node). IsRemaining problem r (prefix_kind (length problem.tiers.free) (length (stretches problem r)) node.kind) node.potential) (nodes_at answer.stages.items r) l.node (given.right.each_stage r w).potentials l.listed))
+      (All-contains (λ (node : Node). IsRemaining problem r (kind_of_bits problem r node.kind) node.potential) (nodes_at answer.stages.items r) l.node (given.right.each_stage r w).potentials l.listed))
 
-  pub passed_by : (r : ℕ) → r ≤ length problem.constraints → (k : PrefixKind) (p : ℕ) → Lists problem answer.stages.items r k p → IsKindOfStage problem r k
+  pub passed_by : (r : ℕ) → r ≤ last_stage problem → (k : PrefixKind) (p : ℕ) → Lists problem answer.stages.items r k p → IsKindOfStage problem r k
   passed_by r w k p l = ((given.right.each_stage r w).kinds.members k).0 (lists_kind problem r answer.stages.items k p l)
 
-  pub listed_by : (r : ℕ) → r ≤ length problem.constraints → (k : PrefixKind) → IsKindOfStage problem r k → (p : ℕ) × Lists problem answer.stages.items r k p
+  pub listed_by : (r : ℕ) → r ≤ last_stage problem → (k : PrefixKind) → IsKindOfStage problem r k → (p : ℕ) × Lists problem answer.stages.items r k p
   listed_by r w k h = kind_listed problem r answer.stages.items k (((given.right.each_stage r w).kinds.members k).1 h)
 
-  pub told_by : (r : ℕ) → r ≤ length problem.constraints → ((j : ℕ) → 1 ≤ j → j ≤ r → IsShownStage problem answer.counts.items answer.stages.items j) → AreTold problem answer.stages.items answer.example r
+  pub told_by : (r : ℕ) → r ≤ last_stage problem → ((j : ℕ) → 1 ≤ j → j ≤ r → IsShownStage problem answer.counts.items answer.stages.items j) → AreTold problem answer.stages.items answer.example r
   told_by = all_told problem answer.stages.items given.split given.form given.over answer.counts.items answer.example given.right.example.member.candidate counts_are
 
   -- where the potentials fall along an optimal candidate, they do so along its prefix and after it
@@ -67,7 +67,7 @@ module _ (problem : Problem) (answer : Answer) (given : IsGiven problem answer) 
   falls_to r told p q o j a b = falls_parts problem answer.stages.items j p [] q ((told.optimal (p ++ q) o.candidate).0 o j a b)
 
   -- such a prefix may take over the rest of an optimal candidate that follows a prefix of its kind
-  pub exchanged : (r : ℕ) → r ≤ length problem.constraints → AreTold problem answer.stages.items answer.example r → (v p q : List (List Sym)) → IsOptimalFor problem r (v ++ q)
+  pub exchanged : (r : ℕ) → r ≤ last_stage problem → AreTold problem answer.stages.items answer.example r → (v p q : List (List Sym)) → IsOptimalFor problem r (v ++ q)
       → IsCandidate problem (p ++ q) → kind_of problem r v ≡ kind_of problem r p → AllFall problem answer.stages.items r p → IsOptimalFor problem r (p ++ q)
   exchanged r w told v p q o c same f =
       (told.optimal (p ++ q) c).1
@@ -75,7 +75,7 @@ module _ (problem : Problem) (answer : Answer) (given : IsGiven problem answer) 
       (falls_alike problem answer.stages.items given.split given.form given.over j (omega arith) q v p o.candidate c (same_fewer problem j r b v p same) (falls_to r told v q o j a b).1))
 
   -- a kept move goes on from an optimal candidate's prefix, and the potentials fall along the longer prefix too
-  pub kept_longer : (b s r : ℕ) → b ≤ s → s ≤ length problem.constraints → ((j : ℕ) → 1 ≤ j → j ≤ b → j < r) → AreTold problem answer.stages.items answer.example b
+  pub kept_longer : (b s r : ℕ) → b ≤ s → s ≤ last_stage problem → ((j : ℕ) → 1 ≤ j → j ≤ b → j < r) → AreTold problem answer.stages.items answer.example b
       → (v q : List (List Sym)) → IsOptimalFor problem b (v ++ q) → (column : List Sym) → IsKeptBelow problem answer.stages.items r (kind_of problem s v) column
       → BeginsCandidate problem (v ++ column ∷ []) × AllFall problem answer.stages.items b (v ++ column ∷ [])
   kept_longer b s r few w under told v q o column kept =
@@ -88,13 +88,13 @@ module _ (problem : Problem) (answer : Answer) (given : IsGiven problem answer) 
       )
 
   -- what follows a prefix of the same kind makes a candidate
-  pub swapped : (r : ℕ) → r ≤ length problem.constraints → (v p q : List (List Sym)) → BeginsCandidate problem p → IsCandidate problem (v ++ q) → kind_of problem r v ≡ kind_of problem r p → IsCandidate problem (p ++ q)
+  pub swapped : (r : ℕ) → r ≤ last_stage problem → (v p q : List (List Sym)) → BeginsCandidate problem p → IsCandidate problem (v ++ q) → kind_of problem r v ≡ kind_of problem r p → IsCandidate problem (p ++ q)
   swapped r w v p q begins c same =
       exchange problem r given.split given.form (over_first problem r (stage_at problem answer.stages.items given.split given.form given.over r w))
       p begins.0 v q begins.1 c (sym same)
 
   -- one stage more
-  module _ (s : ℕ) (ranked : 1 ≤ s) (within : s ≤ length problem.constraints) (shown : (j : ℕ) → 1 ≤ j → j ≤ s → IsShownStage problem answer.counts.items answer.stages.items j)
+  module _ (s : ℕ) (ranked : 1 ≤ s) (within : s ≤ last_stage problem) (shown : (j : ℕ) → 1 ≤ j → j ≤ s → IsShownStage problem answer.counts.items answer.stages.items j)
       (p : List (List Sym)) (begins : BeginsCandidate problem p) (falls : AllFall problem answer.stages.items s p) where
     last_shown : IsShownStage problem answer.counts.items answer.stages.items s
     last_shown = shown s ranked (omega arith)
@@ -136,7 +136,7 @@ module _ (problem : Problem) (answer : Answer) (given : IsGiven problem answer) 
         )
 
   -- A prefix along which the potentials of the stages up to s fall goes on to an s-optimal candidate.
-  pub goes_on : (s : ℕ) → s ≤ length problem.constraints → ((j : ℕ) → 1 ≤ j → j ≤ s → IsShownStage problem answer.counts.items answer.stages.items j)
+  pub goes_on : (s : ℕ) → s ≤ last_stage problem → ((j : ℕ) → 1 ≤ j → j ≤ s → IsShownStage problem answer.counts.items answer.stages.items j)
       → (p : List (List Sym)) → BeginsCandidate problem p → AllFall problem answer.stages.items s p → (q : List (List Sym)) × IsOptimalFor problem s (p ++ q)
   goes_on zero w shown p begins falls = (begins.0, all_optimal problem (p ++ begins.0) begins.1)
   goes_on (suc i) w shown p begins falls = goes_on_more (suc i) (omega arith) w shown p begins falls

@@ -24,23 +24,23 @@ use Rattle.check_laws.proofs.Listing.{lists_kind, first_listed}
 use Rattle.check_laws.proofs.Potentials.{FallsAlong, falls_parts, listed_on}
 use Rattle.check_laws.proofs.Optima.{AreTold, all_told}
 use Rattle.check_laws.proofs.Reading.{accepted_falls, falls_accepted}
-use Rattle.violation.specs.Problems.{Problem}
+use Rattle.violation.specs.Problems.{Problem, last_stage}
 
 -- numbers that ascend differ
 pub numbers_apart : (ns : List ℕ) → IsStrictlySortedBy nat_cmp ns → AllPairs (λ m n. m ≢ n) ns
 numbers_apart ns sorted i j d l w e = absurd (omega (arith, below_from_sorted ns i j d sorted l w, e))
 
 module _ (problem : Problem) (answer : Answer) (split : AreSplit problem.tiers) (over : AllByRecursion (IsOverTiers problem.tiers.width) problem.constraints) (shown : IsShown problem answer) where
-  told : (r : ℕ) → r ≤ length problem.constraints → AreTold problem answer.stages.items answer.example r
+  told : (r : ℕ) → r ≤ last_stage problem → AreTold problem answer.stages.items answer.example r
   told r w =
       all_told problem answer.stages.items split shown.form over answer.counts.items answer.example shown.example shown.counts r w
       (λ j a b. shown.each_stage j (omega arith))
 
-  last_told : AreTold problem answer.stages.items answer.example (length problem.constraints)
-  last_told = told (length problem.constraints) (omega arith)
+  last_told : AreTold problem answer.stages.items answer.example (last_stage problem)
+  last_told = told (last_stage problem) (omega arith)
 
-  last_shown : IsShownStage problem answer.counts.items answer.stages.items (length problem.constraints)
-  last_shown = shown.each_stage (length problem.constraints) (omega arith)
+  last_shown : IsShownStage problem answer.counts.items answer.stages.items (last_stage problem)
+  last_shown = shown.each_stage (last_stage problem) (omega arith)
 
   accepts : (T : List (List Sym)) → Accepts answer.automaton.states.items T ↔ IsOptimal problem T
   accepts T = (
@@ -57,7 +57,7 @@ module _ (problem : Problem) (answer : Answer) (split : AreSplit problem.tiers) 
       (λ r a b. ap (λ (v : List ℕ). get_or v (r - 1) 0) (sym shown.counts))
 
   -- a kind of the stage is that of a prefix whose kinds are all listed
-  each_kind : (r : ℕ) → r ≤ length problem.constraints → (k : PrefixKind) → IsKindOfStage problem r k → Contains (kinds_at problem r (nodes_at answer.stages.items r)) k
+  each_kind : (r : ℕ) → r ≤ last_stage problem → (k : PrefixKind) → IsKindOfStage problem r k → Contains (kinds_at problem r (nodes_at answer.stages.items r)) k
   each_kind r w k passed =
       let T : List (List Sym) = passed.candidate in
       let n : ℕ = passed.columns in

@@ -7,7 +7,7 @@ use Rattle.std.proofs.lemmas.List.{length-map}
 use Rattle.tier_core.specs.declared.sym.Sym.{Sym}
 use Rattle.tier_core.specs.declared.constraint.Constraint.{Constraint}
 use Rattle.tier_core.specs.Tiers.{Tiers}
-use Rattle.violation.specs.Candidates.{IsForm, IsCandidate, vec, vec_cmp, IsOptimalFor}
+use Rattle.violation.specs.Candidates.{IsForm, IsCandidate, vec, vec_cmp, IsOptimalFor, counts_on, count_at}
 use Rattle.violation.specs.Conditions.{AreSplit, IsOverTiers}
 use Rattle.violation.specs.Counts.{violations_of}
 use Rattle.violation.specs.Prefixes.{kind_of}
@@ -18,7 +18,7 @@ use Rattle.answer_text.specs.declared.stage.Stage.{Stage}
 use Rattle.answer_text.specs.Shown.{Lists, start_potential, IsShownStage}
 use Rattle.check_laws.proofs.Listing.{first_listed}
 use Rattle.check_laws.proofs.Potentials.{FallsAlong, stage_at, rest_cost, bound, falls_from_sum, sum_from_falls}
-use Rattle.violation.specs.Problems.{Problem}
+use Rattle.violation.specs.Problems.{Problem, last_stage}
 
 pub start_count : (counts : List ℕ) (r : ℕ) → 1 ≤ r → start_potential counts r ≡ get_or counts (r - 1) 0
 start_count counts zero l = absurd (omega arith)
@@ -33,13 +33,13 @@ pub record AreTold (problem : Problem) (stages : List Stage) (example : List (Li
   pub optimal : (T : List (List Sym)) → IsCandidate problem T → IsOptimalFor problem r T ↔ AllFall problem stages r T
   pub shares : IsOptimalFor problem r example
 
-module _ (problem : Problem) (stages : List Stage) (split : AreSplit problem.tiers) (form : IsForm problem.tiers problem.form) (over : AllByRecursion (IsOverTiers problem.tiers.width) problem.constraints) (counts : List ℕ) (example : List (List Sym)) (candidate : IsCandidate problem example) (counted : counts ≡ vec problem.constraints example) where
-  module _ (r : ℕ) (within : r ≤ length problem.constraints) (shown : IsShownStage problem counts stages r) (ranked : 1 ≤ r) (told : AreTold problem stages example (r - 1)) where
+module _ (problem : Problem) (stages : List Stage) (split : AreSplit problem.tiers) (form : IsForm problem.tiers problem.form) (over : AllByRecursion (IsOverTiers problem.tiers.width) problem.constraints) (counts : List ℕ) (example : List (List Sym)) (candidate : IsCandidate problem example) (counted : counts ≡ counts_on problem example) where
+  module _ (r : ℕ) (within : r ≤ last_stage problem) (shown : IsShownStage problem counts stages r) (ranked : 1 ≤ r) (told : AreTold problem stages example (r - 1)) where
     -- the violations of constraint r
     abbrev count : List (List Sym) → ℕ
-    count T = get_or (vec problem.constraints T) (r - 1) 0
+    count T = count_at problem r T
 
-    long : (T : List (List Sym)) → r ≤ length (vec problem.constraints T)
+    long : (T : List (List Sym)) → r ≤ length (counts_on problem T)
     long T = omega (arith, within, length-map problem.constraints (λ c. violations_of c T))
 
     first : (e : ℕ) × Lists problem stages r (kind_of problem r []) e
@@ -63,22 +63,22 @@ module _ (problem : Problem) (stages : List Stage) (split : AreSplit problem.tie
 
     -- and with that count it is r-optimal
     with_count : (T : List (List Sym)) → IsOptimalFor problem (r - 1) T → count T ≡ count example → IsOptimalFor problem r T
-    with_count T o e = record { candidate = o.candidate; least = λ U c. at_most_by_last r ranked (vec problem.constraints T) (vec problem.constraints U) (long T) (long U) (o.least U c) (no_less U c) }
+    with_count T o e = record { candidate = o.candidate; least = λ U c. at_most_by_last r ranked (counts_on problem T) (counts_on problem U) (long T) (long U) (o.least U c) (no_less U c) }
       where
-        no_less : (U : List (List Sym)) → IsCandidate problem U → vec_cmp (take (r - 1) (vec problem.constraints T)) (take (r - 1) (vec problem.constraints U)) ≡ Equal → count T ≤ count U
+        no_less : (U : List (List Sym)) → IsCandidate problem U → vec_cmp (take (r - 1) (counts_on problem T)) (take (r - 1) (counts_on problem U)) ≡ Equal → count T ≤ count U
         no_less U c same =
             let other : IsOptimalFor problem (r - 1) U = record {
               candidate = c;
-              least = λ V d. equal_at_most (take (r - 1) (vec problem.constraints T)) (take (r - 1) (vec problem.constraints U)) (take (r - 1) (vec problem.constraints V)) same (o.least V d);
+              least = λ V d. equal_at_most (take (r - 1) (counts_on problem T)) (take (r - 1) (counts_on problem U)) (take (r - 1) (counts_on problem V)) same (o.least V d);
             } in
             omega (arith, e, at_least U other)
 
     has_count : (T : List (List Sym)) → IsOptimalFor problem r T → count T ≡ count example
     has_count T o =
         let before : IsOptimalFor problem (r - 1) T = optimal_for_fewer problem (r - 1) r (omega arith) T o in
-        let same : vec_cmp (take (r - 1) (vec problem.constraints T)) (take (r - 1) (vec problem.constraints example)) ≡ Equal =
-        both_equal (take (r - 1) (vec problem.constraints T)) (take (r - 1) (vec problem.constraints example)) (before.least example candidate) (told.shares.least T o.candidate) in
-        let most : count T ≤ count example = at_most_last r ranked (vec problem.constraints T) (vec problem.constraints example) (long T) (long example) (o.least example candidate) same in
+        let same : vec_cmp (take (r - 1) (counts_on problem T)) (take (r - 1) (counts_on problem example)) ≡ Equal =
+        both_equal (take (r - 1) (counts_on problem T)) (take (r - 1) (counts_on problem example)) (before.least example candidate) (told.shares.least T o.candidate) in
+        let most : count T ≤ count example = at_most_last r ranked (counts_on problem T) (counts_on problem example) (long T) (long example) (o.least example candidate) same in
         omega (arith, most, at_least T before)
 
     falls_from_optimal : (T : List (List Sym)) → IsOptimalFor problem r T → AllFall problem stages r T
@@ -105,7 +105,7 @@ module _ (problem : Problem) (stages : List Stage) (split : AreSplit problem.tie
     }
 
   -- The stages from 1 to r tell the r-optimal candidates where they are shown.
-  pub all_told : (r : ℕ) → r ≤ length problem.constraints → ((j : ℕ) → 1 ≤ j → j ≤ r → IsShownStage problem counts stages j) → AreTold problem stages example r
+  pub all_told : (r : ℕ) → r ≤ last_stage problem → ((j : ℕ) → 1 ≤ j → j ≤ r → IsShownStage problem counts stages j) → AreTold problem stages example r
   all_told zero w s = record {
     optimal = λ T c. (λ o j a b. absurd (omega arith), λ f. all_optimal problem T c);
     shares = all_optimal problem example candidate;

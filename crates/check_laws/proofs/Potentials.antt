@@ -17,7 +17,7 @@ use Rattle.violation.proofs.WalkSums.{none_at, walk_cost, walk_step}
 use Rattle.answer_text.specs.declared.stage.Stage.{Stage}
 use Rattle.answer_text.specs.Shown.{Lists, IsTightAt, IsKeptBelow, IsShownStage}
 use Rattle.check_laws.proofs.Listing.{one_potential}
-use Rattle.violation.specs.Problems.{Problem}
+use Rattle.violation.specs.Problems.{Problem, last_stage}
 
 -- after the prefix p, the potential of stage j falls by just what the column costs under constraint j
 pub record FallsOn (problem : Problem) (stages : List Stage) (j : ℕ) (p : List (List Sym)) (column : List Sym) : Type 0 where
@@ -46,14 +46,14 @@ module _ (problem : Problem) (stages : List Stage) where
       (f.0, falls_joined j s (p ++ column ∷ []) q f.1 (subst (λ v. FallsAlong problem stages j v q) (sym (append_assoc p (column ∷ []) s)) g))
 
 module _ (problem : Problem) (stages : List Stage) (split : AreSplit problem.tiers) (form : IsForm problem.tiers problem.form) (over : AllByRecursion (IsOverTiers problem.tiers.width) problem.constraints) where
-  pub stage_at : (r : ℕ) → r ≤ length problem.constraints → IsStage problem r
+  pub stage_at : (r : ℕ) → r ≤ last_stage problem → IsStage problem r
   stage_at r w = record { split = split; form = form; over = over; within = w }
 
-  pub over_at : (r : ℕ) → r ≤ length problem.constraints → AllByRecursion (IsOverTiers problem.tiers.width) (stretches problem r)
+  pub over_at : (r : ℕ) → r ≤ last_stage problem → AllByRecursion (IsOverTiers problem.tiers.width) (stretches problem r)
   over_at r w = over_stretches problem r (stage_at r w)
 
   -- the kind to which a column leads is that of the longer prefix
-  pub goes_to : (r : ℕ) → r ≤ length problem.constraints → (p : List (List Sym)) (column : List Sym) → BeginsCandidate problem (p ++ column ∷ []) → moved problem r (kind_of problem r p) column ≡ kind_of problem r (p ++ column ∷ [])
+  pub goes_to : (r : ℕ) → r ≤ last_stage problem → (p : List (List Sym)) (column : List Sym) → BeginsCandidate problem (p ++ column ∷ []) → moved problem r (kind_of problem r p) column ≡ kind_of problem r (p ++ column ∷ [])
   goes_to r w p column b = moved_is problem r split form (over_at r w) p column b
 
   -- a candidate by way of a longer prefix
@@ -63,7 +63,7 @@ module _ (problem : Problem) (stages : List Stage) (split : AreSplit problem.tie
   pub one_more : (p : List (List Sym)) (column : List Sym) (q : List (List Sym)) → IsCandidate problem (p ++ column ∷ q) → BeginsCandidate problem (p ++ column ∷ [])
   one_more p column q c = (q, as_longer p column q c)
 
-  module _ (j s : ℕ) (fewer : j ≤ s) (within : s ≤ length problem.constraints) (p : List (List Sym)) (column : List Sym) (begins : BeginsCandidate problem (p ++ column ∷ [])) where
+  module _ (j s : ℕ) (fewer : j ≤ s) (within : s ≤ last_stage problem) (p : List (List Sym)) (column : List Sym) (begins : BeginsCandidate problem (p ++ column ∷ [])) where
     cut_kind : cut problem j (kind_of problem s p) ≡ kind_of problem j p
     cut_kind = cut-kind_of problem j s fewer p
 
@@ -90,14 +90,14 @@ module _ (problem : Problem) (stages : List Stage) (split : AreSplit problem.tie
     }
 
   -- a move of a candidate is kept where the potentials fall so
-  pub kept_from_falls : (r s : ℕ) → r ≤ s + 1 → s ≤ length problem.constraints → (p : List (List Sym)) (column : List Sym) (q : List (List Sym)) → IsCandidate problem (p ++ column ∷ q)
+  pub kept_from_falls : (r s : ℕ) → r ≤ s + 1 → s ≤ last_stage problem → (p : List (List Sym)) (column : List Sym) (q : List (List Sym)) → IsCandidate problem (p ++ column ∷ q)
       → ((j : ℕ) → 1 ≤ j → j < r → FallsOn problem stages j p column) → IsKeptBelow problem stages r (kind_of problem s p) column
   kept_from_falls r s few w p column q c f = record {
     fits = fits_next problem s split form (over_at s w) p column q c;
     tight = λ j a b. tight_from_falls j s (omega arith) w p column (one_more p column q c) (f j a b);
   }
 
-  module _ (counts : List ℕ) (r : ℕ) (within : r ≤ length problem.constraints) (shown : IsShownStage problem counts stages r) where
+  module _ (counts : List ℕ) (r : ℕ) (within : r ≤ last_stage problem) (shown : IsShownStage problem counts stages r) where
     -- a kept move leads to a kind that is listed
     step_on : (p : List (List Sym)) (column : List Sym) (q : List (List Sym)) (e : ℕ) → IsCandidate problem (p ++ column ∷ q) → Lists problem stages r (kind_of problem r p) e
         → ((j : ℕ) → 1 ≤ j → j < r → FallsOn problem stages j p column)

@@ -24,25 +24,25 @@ use Rattle.answer_text.specs.Shown.{IsKeptBelow, IsShownStage, IsShownAutomaton}
 use Rattle.check_laws.proofs.Members.{contains_of_map}
 use Rattle.check_laws.proofs.Listing.{lists_kind, kind_listed, kind_numbered, numbered_kind, first_numbered}
 use Rattle.check_laws.proofs.Potentials.{FallsOn, FallsAlong, over_at, goes_to, as_longer, one_more, falls_from_tight, kept_from_falls}
-use Rattle.violation.specs.Problems.{Problem}
+use Rattle.violation.specs.Problems.{Problem, last_stage}
 
 -- n is the number of a state, whose node tells the kind of the prefix p
 pub record IsAt (problem : Problem) (nodes : List Node) (states : List StateLine) (n : ℕ) (p : List (List Sym)) : Type 0 where
   pub state : Contains (numbers_of states) n
-  pub tells : IsNodeOf problem nodes n (kind_of problem (length problem.constraints) p)
+  pub tells : IsNodeOf problem nodes n (kind_of problem (last_stage problem) p)
 
 -- after p, the potential of each stage from 1 on falls by just what each of the columns costs
 abbrev pub AllAlong : Problem → List Stage → List (List Sym) → List (List Sym) → Type 0
-AllAlong problem stages p q = (j : ℕ) → 1 ≤ j → j ≤ length problem.constraints → FallsAlong problem stages j p q
+AllAlong problem stages p q = (j : ℕ) → 1 ≤ j → j ≤ last_stage problem → FallsAlong problem stages j p q
 
-module _ (problem : Problem) (stages : List Stage) (split : AreSplit problem.tiers) (form : IsForm problem.tiers problem.form) (over : AllByRecursion (IsOverTiers problem.tiers.width) problem.constraints) (counts : List ℕ) (shown : IsShownStage problem counts stages (length problem.constraints)) (states : List StateLine) (automaton : IsShownAutomaton problem stages states) where
+module _ (problem : Problem) (stages : List Stage) (split : AreSplit problem.tiers) (form : IsForm problem.tiers problem.form) (over : AllByRecursion (IsOverTiers problem.tiers.width) problem.constraints) (counts : List ℕ) (shown : IsShownStage problem counts stages (last_stage problem)) (states : List StateLine) (automaton : IsShownAutomaton problem stages states) where
   abbrev last : ℕ
-  last = length problem.constraints
+  last = last_stage problem
 
   abbrev nodes : List Node
   nodes = nodes_at stages last
 
-  whole : last ≤ length problem.constraints
+  whole : last ≤ last_stage problem
   whole = omega arith
 
   start : IsAt problem nodes states 0 []

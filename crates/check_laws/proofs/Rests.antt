@@ -5,7 +5,7 @@ use Rattle.tier_core.specs.declared.sym.Sym.{Sym}
 use Rattle.tier_core.specs.declared.constraint.Constraint.{Constraint}
 use Rattle.tier_core.specs.Kinds.{PrefixKind}
 use Rattle.tier_core.specs.Tiers.{Tiers}
-use Rattle.violation.specs.Candidates.{vec, vec_so_far, IsOptimalFor}
+use Rattle.violation.specs.Candidates.{vec, vec_so_far, IsOptimalFor, count_at, count_so_far_at}
 use Rattle.violation.specs.Prefixes.{kind_of}
 use Rattle.violation.specs.Stages.{IsStage, IsLeastRest, IsRemaining}
 use Rattle.violation.proofs.WalkSums.{walk_cost, violations_on}
@@ -33,10 +33,10 @@ module _ (problem : Problem) (r : ℕ) (stage : IsStage problem r) where
         let passes = least.some.1.1.0 in
         let parts : take n T ++ drop n T ≡ T = take-append-drop n T in
         let optimal : IsOptimalFor problem (r - 1) (take n T ++ drop n T) = subst (IsOptimalFor problem (r - 1)) (sym parts) passes.optimal in
-        let total : get_or (vec problem.constraints (take n T ++ drop n T)) (r - 1) 0 ≡ get_or (vec problem.constraints T) (r - 1) 0 = ap (λ (v : List (List Sym)). get_or (vec problem.constraints v) (r - 1) 0) parts in
-        let so_far : get_or (vec_so_far problem.constraints (take n T ++ drop n T) (length (take n T))) (r - 1) 0 ≡ get_or (vec_so_far problem.constraints T n) (r - 1) 0 =
-        ap (λ (v : List (List Sym)). get_or (vec_so_far problem.constraints v (length (take n T))) (r - 1) 0) parts
-        ∙ ap (λ (m : ℕ). get_or (vec_so_far problem.constraints T m) (r - 1) 0) (length-take-le n T passes.within) in
+        let total : count_at problem r (take n T ++ drop n T) ≡ count_at problem r T = ap (λ (v : List (List Sym)). count_at problem r v) parts in
+        let so_far : count_so_far_at problem r (take n T ++ drop n T) (length (take n T)) ≡ count_so_far_at problem r T n =
+        ap (λ (v : List (List Sym)). count_so_far_at problem r v (length (take n T))) parts
+        ∙ ap (λ (m : ℕ). count_so_far_at problem r T m) (length-take-le n T passes.within) in
         record {
           before = take n T;
           rest = drop n T;

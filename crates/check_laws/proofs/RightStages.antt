@@ -6,7 +6,7 @@ use Rattle.tier_core.specs.declared.sym.Sym.{Sym}
 use Rattle.tier_core.specs.declared.constraint.Constraint.{Constraint}
 use Rattle.tier_core.specs.Kinds.{PrefixKind, kind_order}
 use Rattle.tier_core.specs.Tiers.{Tiers}
-use Rattle.violation.specs.Candidates.{IsCandidate, vec, IsOptimalFor}
+use Rattle.violation.specs.Candidates.{IsCandidate, vec, IsOptimalFor, counts_on, count_at}
 use Rattle.violation.specs.Counts.{violations_of}
 use Rattle.violation.specs.Moves.{moved, cost_of, cut, is_final}
 use Rattle.violation.specs.Prefixes.{kind_of}
@@ -27,7 +27,7 @@ use Rattle.check_laws.proofs.Optima.{start_count, AllFall, AreTold}
 use Rattle.check_laws.proofs.Rests.{least_rest, HasRest, rest_some, rest_least}
 use Rattle.check_laws.proofs.Continuing.{IsGiven, same_fewer, counts_are, remains, passed_by, listed_by, told_by, falls_to, kept_longer, exchanged, swapped, goes_on}
 use Rattle.check_laws.proofs.Starts.{first_is, none_before_start, possible}
-use Rattle.violation.specs.Problems.{Problem}
+use Rattle.violation.specs.Problems.{Problem, last_stage}
 
 -- at stage 0 nothing remains
 none_remains : (problem : Problem) (r : ℕ) (k : PrefixKind) (p : ℕ) → r ≤ 0 → IsRemaining problem r k p → p ≡ 0
@@ -53,10 +53,10 @@ module _ (problem : Problem) (answer : Answer) (given : IsGiven problem answer) 
     passes = record { optimal = o; within = omega (arith, length-append v q); of_kind = ap (kind_of problem s) (take_at v q (length v) refl) };
   }
 
-  pub example_optimal : (r : ℕ) → r ≤ length problem.constraints → IsOptimalFor problem r answer.example
-  example_optimal r w = optimal_for_fewer problem r (length problem.constraints) w answer.example given.right.example.member
+  pub example_optimal : (r : ℕ) → r ≤ last_stage problem → IsOptimalFor problem r answer.example
+  example_optimal r w = optimal_for_fewer problem r (last_stage problem) w answer.example given.right.example.member
 
-  module _ (r : ℕ) (within : r ≤ length problem.constraints) (before : (j : ℕ) → 1 ≤ j → j < r → IsShownStage problem answer.counts.items answer.stages.items j) where
+  module _ (r : ℕ) (within : r ≤ last_stage problem) (before : (j : ℕ) → 1 ≤ j → j < r → IsShownStage problem answer.counts.items answer.stages.items j) where
     abbrev kinds : List PrefixKind
     kinds = kinds_at problem r (nodes_at answer.stages.items r)
 
@@ -210,22 +210,22 @@ module _ (problem : Problem) (answer : Answer) (given : IsGiven problem answer) 
             (swapped problem answer given r within whole_rest.before [] whole_rest.rest (answer.example, best.candidate) whole_rest.optimal.candidate whole_rest.of_kind)
             (same_fewer problem (r - 1) r (omega arith) whole_rest.before [] whole_rest.of_kind) (λ j a b. tt)
 
-        other_count : get_or (vec problem.constraints whole_rest.rest) (r - 1) 0 ≡ p
+        other_count : count_at problem r whole_rest.rest ≡ p
         other_count =
             violations_walk problem r stage ranked whole_rest.rest other.candidate
             ∙ ap (λ k. walk_cost problem r stage (r - 1) k whole_rest.rest) (sym whole_rest.of_kind) ∙ whole_rest.costs
 
-        high : get_or (vec problem.constraints answer.example) (r - 1) 0 ≤ get_or (vec problem.constraints whole_rest.rest) (r - 1) 0
+        high : count_at problem r answer.example ≤ count_at problem r whole_rest.rest
         high =
             let E : List (List Sym) = answer.example in
             let U : List (List Sym) = whole_rest.rest in
-            at_most_last r ranked (vec problem.constraints E) (vec problem.constraints U) (omega (arith, within, length-map problem.constraints (λ c. violations_of c E))) (omega (arith, within, length-map problem.constraints (λ c. violations_of c U)))
+            at_most_last r ranked (counts_on problem E) (counts_on problem U) (omega (arith, within, length-map problem.constraints (λ c. violations_of c E))) (omega (arith, within, length-map problem.constraints (λ c. violations_of c U)))
             ((example_optimal r within).least U other.candidate)
-            (both_equal (take (r - 1) (vec problem.constraints E)) (take (r - 1) (vec problem.constraints U)) (best.least U other.candidate) (other.least E best.candidate))
+            (both_equal (take (r - 1) (counts_on problem E)) (take (r - 1) (counts_on problem U)) (best.least U other.candidate) (other.least E best.candidate))
 
         counted : p ≡ start_potential answer.counts.items r
         counted =
-            let total : p ≡ get_or (vec problem.constraints answer.example) (r - 1) 0 = omega (arith, low_first, high, other_count, violations_walk problem r stage ranked answer.example best.candidate) in
+            let total : p ≡ count_at problem r answer.example = omega (arith, low_first, high, other_count, violations_walk problem r stage ranked answer.example best.candidate) in
             total ∙ ap (λ (ns : List ℕ). get_or ns (r - 1) 0) (sym (counts_are problem answer given)) ∙ sym (start_count answer.counts.items r ranked)
 
       start_count_is : p ≡ start_potential answer.counts.items r
@@ -246,12 +246,12 @@ module _ (problem : Problem) (answer : Answer) (given : IsGiven problem answer) 
     }
 
   -- one stage after the other
-  stages_below : (n : ℕ) → (j : ℕ) → j < n → j ≤ length problem.constraints → IsShownStage problem answer.counts.items answer.stages.items j
+  stages_below : (n : ℕ) → (j : ℕ) → j < n → j ≤ last_stage problem → IsShownStage problem answer.counts.items answer.stages.items j
   stages_below zero j l w = absurd (omega arith)
   stages_below (suc n) j l w = elim (cases_lt j n) [
     | inl less ↦ stages_below n j less w
     | inr more ↦ (let same : n ≡ j = omega arith in stage_shown j w (λ i a b. stages_below n i (omega arith) (omega arith)))
   ]
 
-  pub all_stages : (r : ℕ) → r ≤ length problem.constraints → IsShownStage problem answer.counts.items answer.stages.items r
+  pub all_stages : (r : ℕ) → r ≤ last_stage problem → IsShownStage problem answer.counts.items answer.stages.items r
   all_stages r w = stages_below (suc r) r (omega arith) w

@@ -29,11 +29,11 @@ use Rattle.check_laws.proofs.Optima.{AllFall, AreTold}
 use Rattle.check_laws.proofs.Continuing.{IsGiven, counts_are, told_by, falls_to, kept_longer, goes_on}
 use Rattle.check_laws.proofs.RightStages.{parted_passed, all_stages}
 use Rattle.check_laws.proofs.Leading.{leads_joined, leads_parts, one_state, leads_one}
-use Rattle.violation.specs.Problems.{Problem}
+use Rattle.violation.specs.Problems.{Problem, last_stage, last_place}
 
 module _ (problem : Problem) (answer : Answer) (given : IsGiven problem answer) where
   abbrev last : ℕ
-  last = length problem.constraints
+  last = last_stage problem
 
   abbrev nodes : List Node
   nodes = nodes_at answer.stages.items last
@@ -70,8 +70,8 @@ module _ (problem : Problem) (answer : Answer) (given : IsGiven problem answer) 
   pub record IsReached (n : ℕ) (k : PrefixKind) : Type 0 where
     pub before : List (List Sym)
     pub rest : List (List Sym)
-    pub optimal : IsOptimalFor problem (length problem.constraints) (before ++ rest)
-    pub of_kind : kind_of problem (length problem.constraints) before ≡ k
+    pub optimal : IsOptimalFor problem (last_stage problem) (before ++ rest)
+    pub of_kind : kind_of problem (last_stage problem) before ≡ k
     pub leads : Leads answer.automaton.states.items 0 before n
 
   reached : (n : ℕ) (k : PrefixKind) → Contains (numbers_of states) n → IsNodeOf problem nodes n k → IsReached n k
@@ -211,7 +211,7 @@ module _ (problem : Problem) (answer : Answer) (given : IsGiven problem answer) 
   }
 
 -- by the form that the answer has
-pub shown_of_form : (problem : Problem) (answer : Answer) → AreSplit problem.tiers → AllByRecursion (IsOverTiers problem.tiers.width) problem.constraints → IsForm problem.tiers problem.form → length problem.form ≤ 64 → IsRight problem answer → IsShown problem answer
+pub shown_of_form : (problem : Problem) (answer : Answer) → AreSplit problem.tiers → AllByRecursion (IsOverTiers problem.tiers.width) problem.constraints → IsForm problem.tiers problem.form → last_place problem ≤ 64 → IsRight problem answer → IsShown problem answer
 shown_of_form problem answer split over form short right =
     let same : problem.form ≡ answer.form = sym right.form in
     shown_from_right problem answer

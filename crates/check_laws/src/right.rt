@@ -9,7 +9,7 @@ ghost use Rattle.answer_text.specs.declared.answer.Answer.{Answer};
 ghost use Rattle.answer_text.specs.Right.{IsRight};
 ghost use Rattle.answer_text.specs.Faithful.{IsFaithful};
 ghost use Rattle.answer_text.specs.Shown.{IsShown};
-ghost use Rattle.violation.specs.Problems.{Problem};
+ghost use Rattle.violation.specs.Problems.{Problem, last_place};
 
 /// A right answer is faithful.
 pub fn right_answers_are_faithful()
@@ -19,5 +19,5 @@ pub fn right_answers_are_faithful()
 /// A right answer to a form of at most 64 columns is shown: what remains at its kinds is a potential,
 /// and a move is kept at the end exactly where some optimal candidate goes on by it.
 pub fn right_answers_are_shown()
-    ensures { (problem : Problem) (answer : Answer) → AreSplit problem.tiers → AllByRecursion (IsOverTiers problem.tiers.width) problem.constraints → IsForm problem.tiers problem.form → length problem.form ≤ 64 → IsRight problem answer → IsShown problem answer }
+    ensures { (problem : Problem) (answer : Answer) → AreSplit problem.tiers → AllByRecursion (IsOverTiers problem.tiers.width) problem.constraints → IsForm problem.tiers problem.form → last_place problem ≤ 64 → IsRight problem answer → IsShown problem answer }
 {}

@@ -10,7 +10,7 @@ use Rattle.tier_core.specs.Kinds.{Phase}
 use Rattle.tier_core.specs.Tiers.{Tiers, has_tier}
 use Rattle.tier_core.specs.Sides.{is_stretch}
 use Rattle.tier_core.proofs.CountLemmas.{all_of}
-use Rattle.violation.specs.Candidates.{IsForm, IsCandidate, vec}
+use Rattle.violation.specs.Candidates.{IsForm, IsCandidate, vec, counts_on}
 use Rattle.violation.specs.Conditions.{AreSplit, IsOverTiers}
 use Rattle.violation.specs.Counts.{violations_so_far}
 use Rattle.violation.specs.Moves.{costs, first_phase, is_tier_open, is_unmet_phase, move_costs, moved}
@@ -25,7 +25,7 @@ use Rattle.kind_moves.specs.declared.frame.Frame.{Frame}
 use Rattle.kind_moves.specs.Frames.{tiers_in, constraints_in, form_in, stretches_in, kind_at_stage, IsStart}
 use Rattle.kind_moves.proofs.GrammarTiers.{over_tiers, over_stretches, form_from}
 use Rattle.kind_moves.proofs.CostSteps.{unmet_told, cost_at}
-use Rattle.violation.specs.Problems.{Problem}
+use Rattle.violation.specs.Problems.{Problem, last_stage}
 use Rattle.kind_moves.specs.Frames.{problem_in}
 
 all_taken : {X : Type 0} (P : X → Type 0) (xs : List X) (n : ℕ) → AllByRecursion P xs → AllByRecursion P (take n xs)
@@ -43,12 +43,12 @@ take_less (x ∷ xs) (suc i) (suc n) l = ap (λ ys. x ∷ ys) (take_less xs i n 
 -- ---- one move
 
 -- each constraint of a frame is over its tiers
-pub over_at : (frame : Frame) (number : ℕ) (c : Constraint) → number < length (constraints_in frame) → c ≡ get_or (constraints_in frame) number c → IsOverTiers (tiers_in frame).width c
+pub over_at : (frame : Frame) (number : ℕ) (c : Constraint) → number < last_stage (problem_in frame) → c ≡ get_or (constraints_in frame) number c → IsOverTiers (tiers_in frame).width c
 over_at frame number c l is = subst (IsOverTiers (tiers_in frame).width) (sym is) (All-from_recursion (IsOverTiers (tiers_in frame).width) (constraints_in frame) (over_tiers frame.grammar.now) number c l)
 
 -- what a move costs under the constraint after so many
 pub move_cost : (frame : Frame) (stage number place mask : ℕ) (kind : Kind) (column : List Sym) (c : Constraint) (is_unmet b : Bool)
-    → stage ≤ length (constraints_in frame) → number < stage → c ≡ get_or (constraints_in frame) number c → place ≡ length (filter is_stretch (take number (constraints_in frame)))
+    → stage ≤ last_stage (problem_in frame) → number < stage → c ≡ get_or (constraints_in frame) number c → place ≡ length (filter is_stretch (take number (constraints_in frame)))
     → ((t : ℕ) → has_tier mask t ≡ is_tier_open (problem_in frame) (kind_at_stage frame stage kind) t)
     → is_unmet ≡ has_tier kind.unmet place → kind.unmet < 2 ^ length (stretches_in frame stage)
     → ((phase : Phase) → is_unmet ≡ is_unmet_phase phase → b ≡ costs c.family c.left c.right (has_tier mask) phase column)
@@ -113,7 +113,7 @@ module _ (frame : Frame) (stage : ℕ) (start : Kind) (is_first : IsStart frame 
       (length_walk (problem_in frame) stage split form over p (kind_of (problem_in frame) stage [])))
 
   pub whole_costs : (T : List (List Sym)) → IsCandidate (problem_in frame) T
-      → walk_costs (problem_in frame) stage (kind_at_stage frame stage start) T ≡ take stage (vec (constraints_in frame) T)
+      → walk_costs (problem_in frame) stage (kind_at_stage frame stage start) T ≡ take stage (counts_on (problem_in frame) T)
   whole_costs T c =
       ap (λ k. walk_costs (problem_in frame) stage k T) is_first.is
       ∙ sym (costs_sum (problem_in frame) stage split form over T c)

@@ -23,7 +23,7 @@ use Rattle.violation.specs.Prefixes.{is_open}
 use Rattle.violation.proofs.OpenLemmas.{prefix_open, take_word}
 use Rattle.kind_moves.specs.Masks.{AreOpenAt}
 use Rattle.kind_moves.proofs.MaskSteps.{or_tier}
-use Rattle.violation.specs.Problems.{Problem}
+use Rattle.violation.specs.Problems.{Problem, last_place}
 
 -- ---- free tiers
 
@@ -73,16 +73,16 @@ pub open_first : (problem : Problem) → AreOpenAt problem 0 0
 open_first problem t = ap (λ b. b == 1) (bit_at-zero t) ∙ sym (flag_false problem.tiers.input (range_with_len 0 (length problem.tiers.input)) t)
 
 -- an input tier is open after the columns of a form where its symbol in the last of these opens it
-pub form_open_after : (problem : Problem) → IsForm problem.tiers problem.form → (p j : ℕ) → p < length problem.form → j < length problem.tiers.input
+pub form_open_after : (problem : Problem) → IsForm problem.tiers problem.form → (p j : ℕ) → p < last_place problem → j < length problem.tiers.input
     → is_open (word (take (suc p) problem.form) j) ≡ opens (symbol (column_at problem.form p) j)
 form_open_after problem form p j l h =
     let well = runs_from_well_formed (word problem.form j) (form.well_formed.each_tier j h) in
-    let size : length (word problem.form j) ≡ length problem.form = length-map problem.form (λ (column : List Sym). symbol column j) in
+    let size : length (word problem.form j) ≡ last_place problem = length-map problem.form (λ (column : List Sym). symbol column j) in
     ap is_open (take_word problem.form (suc p) j) ∙ prefix_open (word problem.form j) (suc p) well (omega arith) ∙ open_suc false (word problem.form j) p (omega arith)
     ∙ ap opens (get_or-map (λ column. symbol column j) problem.form p [] Outside l)
 
 -- the flags of a mask that has the tiers which a column opens, laid out on the input tiers
-pub open_later : (problem : Problem) → IsForm problem.tiers problem.form → (p inputs opened mask : ℕ) → p < length problem.form → tiers_of inputs ≡ problem.tiers.input
+pub open_later : (problem : Problem) → IsForm problem.tiers problem.form → (p inputs opened mask : ℕ) → p < last_place problem → tiers_of inputs ≡ problem.tiers.input
     → ((t : ℕ) → has_tier opened t ≡ opens (symbol (column_at problem.form p) t))
     → ((t : ℕ) → has_tier mask t ≡ flag_of (tiers_of inputs) (open_tiers (length (tiers_of inputs)) opened) t) → AreOpenAt problem (suc p) mask
 open_later problem form p inputs opened mask l e bits laid t =

@@ -3,7 +3,7 @@ ghost use Rattle.tier_core.specs.Tables.{tiers_of_table};
 ghost use Rattle.tier_core.specs.Tiers.{tiers_of};
 ghost use Rattle.violation.specs.Candidates.{IsForm};
 ghost use Rattle.kind_moves.specs.Masks.{AreOpenInputs};
-ghost use Rattle.violation.specs.Problems.{asked};
+ghost use Rattle.violation.specs.Problems.{asked, last_stage};
 ghost use Rattle.kind_moves.specs.Frames.{problem_in};
 
 use crate::cost::{costs, count_stretches};
@@ -151,7 +151,7 @@ impl<'a> Frame<'a> {
 
     /// The phases of the stretch implications among the first constraints, after a column.
     fn next_phases(&self, stage: u32, kind: &Kind, column: &[Sym]) -> PhaseMasks
-        requires stage { stage ≤ length (constraints_in self.now) }
+        requires stage { stage ≤ last_stage (problem_in self.now) }
         requires width { length column.now ≡ (tiers_in self.now).width }
         ensures phases { phases_by (length (stretches_in self.now stage)) result.unmet result.met ≡ next_phases (stretches_in self.now stage) (kind_at_stage self.now stage kind.now).phases column.now }
         ensures unmet { result.unmet < 2 ^ length (stretches_in self.now stage) }
@@ -164,7 +164,7 @@ impl<'a> Frame<'a> {
     /// The kind that a column leads to from a kind, under the first `stage` constraints. None exactly
     /// where the column does not fit the kind.
     pub fn moved(&self, stage: u32, kind: &Kind, column: &Column) -> Option<Kind>
-        requires stage { stage ≤ length (constraints_in self.now) }
+        requires stage { stage ≤ last_stage (problem_in self.now) }
         requires fits { FitsFrame self.now stage kind.now }
         requires width { length column.now ≡ (tiers_in self.now).width }
         ensures { MatchOption result (FitsAt self.now stage kind.now column.now → ⊥) (IsMove self.now stage kind.now column.now) }
@@ -185,7 +185,7 @@ impl<'a> Frame<'a> {
     /// What the move from a kind by a column costs under a constraint, which is counted from 1 in
     /// ranked order and is one of the first `stage`: 0 or 1.
     pub fn cost(&self, stage: u32, constraint: u32, kind: &Kind, column: &Column) -> u32
-        requires stage { stage ≤ length (constraints_in self.now) }
+        requires stage { stage ≤ last_stage (problem_in self.now) }
         requires some { 1 ≤ constraint }
         requires within { constraint ≤ stage }
         requires fits { FitsFrame self.now stage kind.now }

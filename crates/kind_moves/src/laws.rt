@@ -1,7 +1,7 @@
 ghost use Rattle.std.specs.Prelude.{◌≡◌, ℕ, ◌↔◌, ◌++◌, List, IsTrue, length, map, take};
 ghost use Rattle.tier_core.specs.declared.kind.Kind.{Kind};
 ghost use Rattle.tier_core.specs.declared.sym.Sym.{Sym};
-ghost use Rattle.violation.specs.Candidates.{IsCandidate, vec};
+ghost use Rattle.violation.specs.Candidates.{IsCandidate, vec, counts_on};
 ghost use Rattle.violation.specs.Counts.{violations_so_far};
 ghost use Rattle.violation.specs.Moves.{is_final};
 ghost use Rattle.violation.specs.Prefixes.{kind_of};
@@ -27,7 +27,7 @@ pub fn kinds_go_by_moves()
 /// candidate has violated so far, and what those of a candidate cost is its violations.
 pub fn costs_are_violations()
     ensures prefixes { (frame : Frame) (stage : ℕ) (start : Kind) (p q : List (List Sym)) → IsStart frame stage start → IsCandidate (problem_in frame) (p ++ q) → walk_costs (problem_in frame) stage (kind_at_stage frame stage start) p ≡ map (λ c. violations_so_far c (p ++ q) (length p)) (take stage (constraints_in frame)) }
-    ensures candidates { (frame : Frame) (stage : ℕ) (start : Kind) (T : List (List Sym)) → IsStart frame stage start → IsCandidate (problem_in frame) T → walk_costs (problem_in frame) stage (kind_at_stage frame stage start) T ≡ take stage (vec (constraints_in frame) T) }
+    ensures candidates { (frame : Frame) (stage : ℕ) (start : Kind) (T : List (List Sym)) → IsStart frame stage start → IsCandidate (problem_in frame) T → walk_costs (problem_in frame) stage (kind_at_stage frame stage start) T ≡ take stage (counts_on (problem_in frame) T) }
 {}
 
 /// Kinds that fit a frame at a stage are the same where their bits tell the same kind.

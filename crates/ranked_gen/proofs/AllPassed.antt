@@ -25,7 +25,7 @@ use Rattle.ranked_gen.specs.WideColumns.{widened}
 use Rattle.ranked_gen.proofs.WidenedColumns.{over, all_at, all_mapped, on_nothing, not_listed, length_over, symbol_over, word_flagged, word_outside, part_bare, over_runs, over_reduced, squeeze_over}
 use Rattle.ranked_gen.proofs.BareForm.{bare_form, bare_candidate, all_optimal}
 use Rattle.ranked_gen.proofs.MoveMembers.{flags_on}
-use Rattle.violation.specs.Problems.{Problem}
+use Rattle.violation.specs.Problems.{Problem, last_place}
 
 -- the form's columns between a start and an end on the tiers of the flags
 abbrev pub marked : Problem → (ℕ → Bool) → List (List Sym)
@@ -140,7 +140,7 @@ module _ (tiers : Tiers) (split : AreSplit tiers) (flag : ℕ → Bool) (off : (
       all_both [] a b = tt
       all_both (x ∷ xs) a b = (h x a.0 b.0, all_both xs a.1 b.1)
 
-module _ (problem : Problem) (split : AreSplit problem.tiers) (once : AreDistinct problem.tiers.free) (wf : IsWellFormed (length problem.tiers.input) problem.form) (reduced : IsReduced problem.form) (place : ℕ) (opened : List Bool) (within : place ≤ length problem.form) (flags : length opened ≡ length problem.tiers.free) where
+module _ (problem : Problem) (split : AreSplit problem.tiers) (once : AreDistinct problem.tiers.free) (wf : IsWellFormed (length problem.tiers.input) problem.form) (reduced : IsReduced problem.form) (place : ℕ) (opened : List Bool) (within : place ≤ last_place problem) (flags : length opened ≡ length problem.tiers.free) where
   off : (t : ℕ) → Contains problem.tiers.input t → flag_of problem.tiers.free opened t ≡ false
   off t i = flag_none problem.tiers.free opened t (not_listed problem.tiers.free t (λ f. split.apart t i f))
 
@@ -167,7 +167,7 @@ module _ (problem : Problem) (split : AreSplit problem.tiers) (once : AreDistinc
       let flag : ℕ → Bool = flag_of problem.tiers.free opened in
       let inner : List (List Sym) = map (over problem.tiers flag Inside) problem.form in
       let prefix : List (List Sym) = over problem.tiers flag Start [] ∷ map (over problem.tiers flag Inside) (take place problem.form) in
-      let long : length inner ≡ length problem.form = length-map problem.form (over problem.tiers flag Inside) in
+      let long : length inner ≡ last_place problem = length-map problem.form (over problem.tiers flag Inside) in
       let joined : length (inner ++ over problem.tiers flag End [] ∷ []) ≡ length inner + 1 = length-append inner (over problem.tiers flag End [] ∷ []) in
       let cut : take (suc place) (marked problem flag) ≡ prefix =
       ap (λ v. over problem.tiers flag Start [] ∷ v) (take-append-le place inner (over problem.tiers flag End [] ∷ []) (omega arith) ∙ take-map (over problem.tiers flag Inside) place problem.form) in
@@ -186,7 +186,7 @@ module _ (problem : Problem) (split : AreSplit problem.tiers) (once : AreDistinc
 
   with_none : ((t : ℕ) → t < problem.tiers.width → flag_of problem.tiers.free opened t ≡ false) → IsPassed problem.tiers [] problem.form 0 0 (record { place = place; opened = opened; phases = [] })
   with_none h =
-      let long : length (bare_form problem) ≡ length problem.form = length-map problem.form (widened problem.tiers) in
+      let long : length (bare_form problem) ≡ last_place problem = length-map problem.form (widened problem.tiers) in
       record {
         candidate = bare_form problem;
         columns = place;

@@ -21,7 +21,7 @@ use Rattle.ranked_gen.specs.Arcs.{moves_from}
 use Rattle.ranked_gen.specs.Listed.{kind_count, arc_view, move_view, AreNumbered}
 use Rattle.ranked_gen.proofs.NumberLemmas.{length-flags_of, number-lt}
 use Rattle.ranked_gen.proofs.MemberLemmas.{contains_none, contains_first, contains_later, contains_cases}
-use Rattle.violation.specs.Problems.{Problem}
+use Rattle.violation.specs.Problems.{Problem, last_place}
 
 -- the line of the kind of a number
 pub record IsLineNumbered (problem : Problem) (n : ℕ) (line : StateLine) : Type 0 where
@@ -51,7 +51,7 @@ no_flags (t ∷ ts) = omega (arith, no_flags ts)
 
 -- a kind that the numbers tell: its place is in the form, and it has a flag for each free tier
 pub record IsWithin (problem : Problem) (k : PrefixKind) : Type 0 where
-  pub place : k.place ≤ length problem.form
+  pub place : k.place ≤ last_place problem
   pub flags : length k.opened ≡ length problem.tiers.free
   pub phases : k.phases ≡ []
 
@@ -59,26 +59,26 @@ pub number_within : (problem : Problem) (k : PrefixKind) → IsWithin problem k 
 number_within problem k w =
     let size = 2 ^ length problem.tiers.free in
     let below : number_of_flags k.opened < size = omega (arith, number-lt k.opened, ap (λ n. 2 ^ n) w.flags) in
-    let places : k.place * size ≤ length problem.form * size = mul-le-mul_right size w.place in
+    let places : k.place * size ≤ last_place problem * size = mul-le-mul_right size w.place in
     omega (arith, below, places)
 
 pub numbered_within : (problem : Problem) (i : ℕ) → i < kind_count problem → IsWithin problem (kind_numbered (length problem.tiers.free) i)
 numbered_within problem i l = record {
-  place = let below : i / 2 ^ length problem.tiers.free < length problem.form + 1 = div_below i (2 ^ length problem.tiers.free) (length problem.form + 1) (pow_pos (length problem.tiers.free)) l in omega arith;
+  place = let below : i / 2 ^ length problem.tiers.free < last_place problem + 1 = div_below i (2 ^ length problem.tiers.free) (last_place problem + 1) (pow_pos (length problem.tiers.free)) l in omega arith;
   flags = length-flags_of (length problem.tiers.free) i;
   phases = refl;
 }
 
 module _ (problem : Problem) (split : AreSplit problem.tiers) where
   -- a move stays within
-  pub moved_within : (k : PrefixKind) (column : List Sym) → FitsKind problem k column → k.place ≤ length problem.form → IsWithin problem (moved problem.tiers [] 0 k column)
+  pub moved_within : (k : PrefixKind) (column : List Sym) → FitsKind problem k column → k.place ≤ last_place problem → IsWithin problem (moved problem.tiers [] 0 k column)
   moved_within k column fit l = record {
     place = go (has_edge (input_of problem.tiers column)) refl fit.input;
     flags = length-map problem.tiers.free (λ t. opens (symbol column t));
     phases = refl;
   }
     where
-      go : (b : Bool) → has_edge (input_of problem.tiers column) ≡ b → (has_edge (input_of problem.tiers column) ≡ false) ⊎ ((k.place < length problem.form) × (input_of problem.tiers column ≡ column_at problem.form k.place)) → k.place + cond b 1 0 ≤ length problem.form
+      go : (b : Bool) → has_edge (input_of problem.tiers column) ≡ b → (has_edge (input_of problem.tiers column) ≡ false) ⊎ ((k.place < last_place problem) × (input_of problem.tiers column ≡ column_at problem.form k.place)) → k.place + cond b 1 0 ≤ last_place problem
       go true e (inl none) = absurd (false≢true (sym none ∙ e))
       go true e (inr next) = omega (arith, next.0)
       go false e other = omega arith

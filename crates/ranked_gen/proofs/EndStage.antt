@@ -26,12 +26,12 @@ use Rattle.kind_orders.specs.Orderings.{IsOrdering, AreRanks}
 use Rattle.kind_orders.specs.AutomatonLines.{nodes_of}
 use Rattle.kind_orders.specs.Automata.{HasWidth, Reaches, IsAutomatonOf}
 use Rattle.ranked_gen.specs.Left.{TellsKind, IsLeft}
-use Rattle.violation.specs.Problems.{Problem}
+use Rattle.violation.specs.Problems.{Problem, last_stage}
 
-node_of : (problem : Problem) (nodes : List Node) (n : ℕ) (k : PrefixKind) → TellsKind problem (length problem.constraints) nodes n k → IsNodeOf problem nodes n k
+node_of : (problem : Problem) (nodes : List Node) (n : ℕ) (k : PrefixKind) → TellsKind problem (last_stage problem) nodes n k → IsNodeOf problem nodes n k
 node_of problem nodes n k t = record { node = t.node; numbered = t.numbered; tells = t.tells }
 
-module _ {g : Ghosts UnitWeight} (problem : Problem) (nodes : List Node) (kept : List (TableState UnitWeight g)) (filled : ClassesFilled kept) (some : 0 < length kept) (states order ranks : List ℕ) (left : IsLeft problem (length problem.constraints) nodes kept states order) (numbers : IsOrdering (length order) ranks) (told : AreRanks order ranks) where
+module _ {g : Ghosts UnitWeight} (problem : Problem) (nodes : List Node) (kept : List (TableState UnitWeight g)) (filled : ClassesFilled kept) (some : 0 < length kept) (states order ranks : List ℕ) (left : IsLeft problem (last_stage problem) nodes kept states order) (numbers : IsOrdering (length order) ranks) (told : AreRanks order ranks) where
   abbrev rank_of : ℕ → ℕ
   rank_of s = get_or ranks (get_or states s 0) 0
 
@@ -50,17 +50,17 @@ module _ {g : Ghosts UnitWeight} (problem : Problem) (nodes : List Node) (kept :
   start : get_or (nodes_of ranks states) 0 0 ≡ 0
   start = let one : 0 < length order = omega (arith, number_inside 0 some) in has_rank 0 some ∙ ap (λ i. get_or ranks i 0) (sym left.start) ∙ told.forth 0 one
 
-  state_node : (s : ℕ) (p : List (List Sym)) → s < length kept → Reaches kept p s → IsNodeOf problem nodes (get_or (nodes_of ranks states) s 0) (kind_of problem (length problem.constraints) p)
-  state_node s p l r = node_of problem nodes (get_or (nodes_of ranks states) s 0) (kind_of problem (length problem.constraints) p)
-      (subst (λ n. TellsKind problem (length problem.constraints) nodes n (kind_of problem (length problem.constraints) p)) (sym (has_rank s l))
+  state_node : (s : ℕ) (p : List (List Sym)) → s < length kept → Reaches kept p s → IsNodeOf problem nodes (get_or (nodes_of ranks states) s 0) (kind_of problem (last_stage problem) p)
+  state_node s p l r = node_of problem nodes (get_or (nodes_of ranks states) s 0) (kind_of problem (last_stage problem) p)
+      (subst (λ n. TellsKind problem (last_stage problem) nodes n (kind_of problem (last_stage problem) p)) (sym (has_rank s l))
       (left.tells p s (rank_of s) l r (rank_inside s l) (at_rank s l)))
 
-  node_passed : (s : ℕ) → s < length kept → (k : PrefixKind) × (IsNodeOf problem nodes (get_or (nodes_of ranks states) s 0) k × IsPassed problem (length problem.constraints) (length problem.constraints) k)
+  node_passed : (s : ℕ) → s < length kept → (k : PrefixKind) × (IsNodeOf problem nodes (get_or (nodes_of ranks states) s 0) k × IsPassed problem (last_stage problem) (last_stage problem) k)
   node_passed s l =
       let on = left.kept_by.1.on_runs s l in
       let p = path_word kept filled 0 s on.0 on.1 in
       let q = some_word kept filled s on.2.0 on.2.1 in
-      let k = kind_of problem (length problem.constraints) p.0 in (
+      let k = kind_of problem (last_stage problem) p.0 in (
         k,
         (
           state_node s p.0 l (on.0, on.1, p.1),
@@ -70,7 +70,7 @@ module _ {g : Ghosts UnitWeight} (problem : Problem) (nodes : List Node) (kept :
             passes = record {
               optimal = (left.accepts (p.0 ++ q.0)).0 (on.0 ++ on.2.0, record { run = joined_run kept on.0 on.2.0 0 s on.1 on.2.1; reads = joined_reads kept on.0 on.2.0 p.0 q.0 p.1 q.1 });
               within = omega (arith, length-append p.0 q.0);
-              of_kind = ap (kind_of problem (length problem.constraints)) (take_at p.0 q.0 (length p.0) refl);
+              of_kind = ap (kind_of problem (last_stage problem)) (take_at p.0 q.0 (length p.0) refl);
             };
           },
         ),

@@ -26,7 +26,7 @@ use Rattle.ranked_gen.proofs.MemberLemmas.{contains_first, contains_later, all_f
 use Rattle.ranked_gen.proofs.SymbolLemmas.{still_fits, is_still, symbol_on_still}
 use Rattle.ranked_gen.proofs.MoveMembers.{IsBetween, symbol_on_in, symbols_on}
 use Rattle.ranked_gen.proofs.WidenedColumns.{symbol_on_at}
-use Rattle.violation.specs.Problems.{Problem}
+use Rattle.violation.specs.Problems.{Problem, last_place}
 
 -- the number of a tier in a list
 pub numbered : (xs : List ℕ) (t : ℕ) → Contains xs t → (j : ℕ) × ((j < length xs) × (get_or xs j 0 ≡ t))
@@ -59,7 +59,7 @@ module _ (problem : Problem) (split : AreSplit problem.tiers) (form : IsForm pro
   below_free t i = all_at_member (λ s. s < problem.tiers.width) problem.tiers.free t split.free_below i
 
   -- the form's next symbol fits where it stands
-  form_fits : (place j : ℕ) → place < length problem.form → j < length problem.tiers.input → fits (is_open (word (take place problem.form) j)) (symbol (column_at problem.form place) j) ≡ true
+  form_fits : (place j : ℕ) → place < last_place problem → j < length problem.tiers.input → fits (is_open (word (take place problem.form) j)) (symbol (column_at problem.form place) j) ≡ true
   form_fits place j l h =
       let well : _ ≡ true = runs_from_well_formed (word problem.form j) (form.well_formed.each_tier j h) in
       let within : place ≤ length (word problem.form j) = omega (arith, length-map problem.form (λ (column : List Sym). symbol column j)) in
@@ -85,7 +85,7 @@ module _ (problem : Problem) (split : AreSplit problem.tiers) (form : IsForm pro
       )
 
   -- where it goes on by the form's next column
-  pub advances : (k : PrefixKind) (flags : List Bool) (column : List Sym) → k.place < length problem.form → IsBetween problem.tiers (column_at problem.form k.place) k.opened flags column → FitsKind problem k column × (input_of problem.tiers column ≡ column_at problem.form k.place)
+  pub advances : (k : PrefixKind) (flags : List Bool) (column : List Sym) → k.place < last_place problem → IsBetween problem.tiers (column_at problem.form k.place) k.opened flags column → FitsKind problem k column × (input_of problem.tiers column ≡ column_at problem.form k.place)
   advances k flags column l b =
       let next = column_at problem.form k.place in
       let wide : length next ≡ length problem.tiers.input = All-from_recursion (λ c. length c ≡ length problem.tiers.input) problem.form form.well_formed.one_width k.place [] l in

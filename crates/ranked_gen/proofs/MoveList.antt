@@ -31,7 +31,7 @@ use Rattle.ranked_gen.proofs.ChoiceLemmas.{AllAscend, choices_ascend}
 use Rattle.ranked_gen.proofs.SymbolLemmas.{between_ascends}
 use Rattle.ranked_gen.proofs.MoveMembers.{IsBetween, flags_on, between_of, of_between}
 use Rattle.ranked_gen.proofs.MoveFits.{stays, advances, staying_fits, advancing_fits}
-use Rattle.violation.specs.Problems.{Problem}
+use Rattle.violation.specs.Problems.{Problem, last_place}
 
 -- a move of a list: the number of its target, with its column
 abbrev pub Move : Type 0
@@ -119,12 +119,12 @@ module _ (problem : Problem) (split : AreSplit problem.tiers) (distinct : AreDis
       → number_of_kind (length problem.tiers.free) (moved problem.tiers [] 0 k column) ≡ (k.place + cond b 1 0) * 2 ^ length problem.tiers.free + number_of_flags (map (λ t. opens (symbol column t)) problem.tiers.free)
   place_number k column b e = ap (λ c. (k.place + cond c 1 0) * 2 ^ length problem.tiers.free + number_of_flags (map (λ t. opens (symbol column t)) problem.tiers.free)) e
 
-  form_edge : (place : ℕ) → place < length problem.form → has_edge (column_at problem.form place) ≡ true
+  form_edge : (place : ℕ) → place < last_place problem → has_edge (column_at problem.form place) ≡ true
   form_edge place l = All-from_recursion (λ column. IsTrue (has_edge column)) problem.form form.reduced place [] l
 
   -- a move that is listed is a move of kinds
   pub listed_moves : (k : PrefixKind) (m : Move) → Contains (moves_from problem k) m → FitsKind problem k m.1 × (m.0 ≡ number_of_kind (length problem.tiers.free) (moved problem.tiers [] 0 k m.1))
-  listed_moves k m c = ⊎_elim stay (λ d. go (nat_lt k.place (length problem.form)) refl d) (Contains-append_cases _ _ m c)
+  listed_moves k m c = ⊎_elim stay (λ d. go (nat_lt k.place (last_place problem)) refl d) (Contains-append_cases _ _ m c)
     where
       f : ℕ
       f = length problem.tiers.free
@@ -140,10 +140,10 @@ module _ (problem : Problem) (split : AreSplit problem.tiers) (distinct : AreDis
                 ∙ sym (place_number k m.1 false fit.1),
           )
 
-      go : (b : Bool) → nat_lt k.place (length problem.form) ≡ b → Contains (cond b (moves_with problem.tiers (column_at problem.form k.place) k.opened ((k.place + 1) * 2 ^ f)) []) m → FitsKind problem k m.1 × (m.0 ≡ number_of_kind f (moved problem.tiers [] 0 k m.1))
+      go : (b : Bool) → nat_lt k.place (last_place problem) ≡ b → Contains (cond b (moves_with problem.tiers (column_at problem.form k.place) k.opened ((k.place + 1) * 2 ^ f)) []) m → FitsKind problem k m.1 × (m.0 ≡ number_of_kind f (moved problem.tiers [] 0 k m.1))
       go true e d =
           let r = of_moves_with problem.tiers split distinct (column_at problem.form k.place) k.opened ((k.place + 1) * 2 ^ f) m d in
-          let l : k.place < length problem.form = ltb-true k.place (length problem.form) e in
+          let l : k.place < last_place problem = ltb-true k.place (last_place problem) e in
           let fit = advances problem split form k (flags_of f r.0) m.1 l r.1.1.0 in (
             fit.0,
             r.1.1.1
@@ -163,7 +163,7 @@ module _ (problem : Problem) (split : AreSplit problem.tiers) (distinct : AreDis
       (λ next.
       let number : number_of_kind f (moved problem.tiers [] 0 k column) ≡ (k.place + 1) * 2 ^ f + number_of_flags left = place_number k column true (ap has_edge next.1 ∙ form_edge k.place next.0) in
       let on : List Move = moves_with problem.tiers (column_at problem.form k.place) k.opened ((k.place + 1) * 2 ^ f) in
-      Contains-append_right _ _ _ (subst (λ b. Contains (cond b on []) (number_of_kind f (moved problem.tiers [] 0 k column), column)) (sym (lt-ltb k.place (length problem.form) next.0))
+      Contains-append_right _ _ _ (subst (λ b. Contains (cond b on []) (number_of_kind f (moved problem.tiers [] 0 k column), column)) (sym (lt-ltb k.place (last_place problem) next.0))
       (subst (λ n. Contains on (n, column)) (sym number)
       (moves_with_has problem.tiers split distinct (column_at problem.form k.place) k.opened left ((k.place + 1) * 2 ^ f) column (length-map problem.tiers.free (λ t. opens (symbol column t))) (advancing_fits problem split form k column fit next.1)))))
       fit.input
@@ -176,8 +176,8 @@ module _ (problem : Problem) (split : AreSplit problem.tiers) (distinct : AreDis
 
   -- the moves ascend
   pub moves_ascend : (k : PrefixKind) → Ascends move_cmp (moves_from problem k)
-  moves_ascend k = ascends_append move_cmp _ _ (moves_with_ascend problem.tiers split distinct (staying problem k.place) k.opened (k.place * 2 ^ f)) (go (nat_lt k.place (length problem.form)))
-      (λ m n c d. across m n c (nat_lt k.place (length problem.form)) d)
+  moves_ascend k = ascends_append move_cmp _ _ (moves_with_ascend problem.tiers split distinct (staying problem k.place) k.opened (k.place * 2 ^ f)) (go (nat_lt k.place (last_place problem)))
+      (λ m n c d. across m n c (nat_lt k.place (last_place problem)) d)
     where
       f : ℕ
       f = length problem.tiers.free

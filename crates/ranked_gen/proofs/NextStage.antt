@@ -24,6 +24,7 @@ use Rattle.ranked_gen.proofs.FewKinds.{Differ, stage_few}
 use Rattle.ranked_gen.proofs.OverBudget.{over_budget}
 use Rattle.stage_tables.proofs.Named.{frame_stage}
 use Rattle.kind_moves.specs.Frames.{problem_in}
+use Rattle.violation.specs.Problems.{last_stage}
 
 pairs_differ : {X : Type 0} (xs : List X) → AllPairs (λ x y. x ≢ y) xs → Differ xs
 pairs_differ [] h = tt
@@ -32,7 +33,7 @@ pairs_differ (x ∷ xs) h = (
   pairs_differ xs (λ i j d less l. h (suc i) (suc j) d (omega arith) (omega arith)),
 )
 
-module _ (frame : Frame) (stage : ℕ) (ranked : 1 ≤ stage) (within : stage ≤ length (constraints_in frame)) {h : Ghosts UnitWeight} (kept : List (TableState UnitWeight h))
+module _ (frame : Frame) (stage : ℕ) (ranked : 1 ≤ stage) (within : stage ≤ last_stage (problem_in frame)) {h : Ghosts UnitWeight} (kept : List (TableState UnitWeight h))
     (accepts : (T : List (List Sym)) → Accepts kept T ↔ IsOptimalFor (problem_in frame) (stage - 1) T) where
   -- a table that is explored is that of the stage
   pub stage_table : {g : Ghosts Count} (kinds : List Kind) (states : List (TableState Count g)) → IsExplored frame stage kept kinds states → IsStageTable (problem_in frame) stage (names_at frame stage kinds) states
@@ -52,7 +53,7 @@ module _ (frame : Frame) (stage : ℕ) (ranked : 1 ≤ stage) (within : stage �
       omega (arith, most, few, length-map kinds (kind_at_stage frame stage))
 
 -- and a stage of which more kinds than the budget are found is over it
-module _ (frame : Frame) (r : ℕ) (within : r + 1 ≤ length (constraints_in frame)) {h : Ghosts UnitWeight} (kept : List (TableState UnitWeight h)) (some : 0 < length kept) (targets : TargetsExist kept) (filled : ClassesFilled kept)
+module _ (frame : Frame) (r : ℕ) (within : r + 1 ≤ last_stage (problem_in frame)) {h : Ghosts UnitWeight} (kept : List (TableState UnitWeight h)) (some : 0 < length kept) (targets : TargetsExist kept) (filled : ClassesFilled kept)
     (by : IsKept (problem_in frame) r kept) (accepts : (T : List (List Sym)) → Accepts kept T ↔ IsOptimalFor (problem_in frame) r T) (budget : ℕ) where
   next_over : IsOverBudget frame (r + 1) kept budget → IsOver (problem_in frame) budget (r + 1)
   next_over over =

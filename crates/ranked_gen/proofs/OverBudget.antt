@@ -40,7 +40,7 @@ use Rattle.ranked_gen.proofs.Ascending.{sorted_from, range_has}
 use Rattle.ranked_gen.proofs.FewKinds.{Differ, no_longer}
 use Rattle.ranked_gen.proofs.SortedKinds.{one_or_other, sorted_kinds}
 use Rattle.ranked_gen.proofs.Closures.{IsClosed, closure}
-use Rattle.violation.specs.Problems.{Problem}
+use Rattle.violation.specs.Problems.{Problem, last_stage}
 
 -- a state and a kind over it
 abbrev Place : Type 0
@@ -97,7 +97,7 @@ bit_most true = omega arith
 bit_most false = omega arith
 
 -- one constraint more has one stretch implication more at most
-one_stretch : (problem : Problem) (r : ℕ) → r < length problem.constraints → length (stretches problem (r + 1)) ≤ length (stretches problem r) + 1
+one_stretch : (problem : Problem) (r : ℕ) → r < last_stage problem → length (stretches problem (r + 1)) ≤ length (stretches problem r) + 1
 one_stretch [] r l = absurd (omega arith)
 one_stretch (c ∷ cs) r l =
     let e = length-filter_more is_stretch (c ∷ cs) r c l in
@@ -186,7 +186,7 @@ module _ (problem : Problem) (r : ℕ) (stage : IsStage problem r) (next : IsSta
       let less : r ≤ r + 1 = omega arith in
       let cuts : cut problem r k ≡ name_of names s =
       ap (cut problem r) whole ∙ cut-kind_of problem r (r + 1) less p ∙ sym (path_kind problem r stage names kept named gone.arcs s p gone.path gone.reads) in
-      let room : r < length problem.constraints = omega (arith, next.within) in
+      let room : r < last_stage problem = omega (arith, next.within) in
       let phases : length k.phases ≡ length (stretches problem (r + 1)) = ap (λ (q : PrefixKind). length q.phases) whole ∙ length-map (stretches problem (r + 1)) (λ c. phase c.left c.right p) in
       let few : length k.phases ≤ length (stretches problem r) + 1 = omega (arith, phases, one_stretch problem r room) in
       contains_flat (λ s. map (λ k. (s, k)) (longer (name_of names s))) (range_with_len 0 (length kept)) s (s, k) (range_has 0 (length kept) s (omega arith) (omega (arith, gone.inside)))

@@ -24,7 +24,7 @@ use Rattle.ranked_gen.specs.Budgets.{IsWithin}
 use Rattle.ranked_gen.specs.Left.{IsLeft, IsStaged, AreStages, IsRanked}
 use Rattle.ranked_gen.proofs.EndStage.{right_automaton}
 use Rattle.ranked_gen.proofs.StageList.{nodes_last, first_stages, next_stages, right_answer}
-use Rattle.violation.specs.Problems.{Problem}
+use Rattle.violation.specs.Problems.{Problem, last_stage}
 
 -- stage 0 alone
 pub ranked_first : (problem : Problem) (budget : ℕ) (stage : Stage) {g : Ghosts UnitWeight} (kept : List (TableState UnitWeight g)) (states order : List ℕ)
@@ -33,14 +33,14 @@ ranked_first problem budget stage kept states order left within = record { so_fa
 
 -- and one more
 pub ranked_next : (problem : Problem) (budget r : ℕ) (stages : List Stage) (counts : List ℕ) → AreStages problem budget r stages counts
-    → (stage : Stage) (count next : ℕ) → next ≡ r + 1 → r < length problem.constraints → {g : Ghosts UnitWeight} (kept : List (TableState UnitWeight g)) (states order : List ℕ)
+    → (stage : Stage) (count next : ℕ) → next ≡ r + 1 → r < last_stage problem → {g : Ghosts UnitWeight} (kept : List (TableState UnitWeight g)) (states order : List ℕ)
     → IsStaged problem next stage.nodes.items count kept states order → IsWithin problem budget next → IsRanked problem budget next (stages ++ stage ∷ []) (counts ++ count ∷ []) kept states order
 ranked_next problem budget r stages counts so_far stage count next is inside kept states order staged within = record {
   so_far = next_stages problem budget r stages counts so_far stage count next is inside staged.left.right staged.counted within;
   left = subst (λ ns. IsLeft problem next ns kept states order) (sym (nodes_last stages stage next (omega (arith, is, so_far.stage_count)))) staged.left;
 }
 
-module _ (problem : Problem) {g : Ghosts UnitWeight} (nodes : List Node) (kept : List (TableState UnitWeight g)) (filled : ClassesFilled kept) (some : 0 < length kept) (states order : List ℕ) (left : IsLeft problem (length problem.constraints) nodes kept states order) where
+module _ (problem : Problem) {g : Ghosts UnitWeight} (nodes : List Node) (kept : List (TableState UnitWeight g)) (filled : ClassesFilled kept) (some : 0 < length kept) (states order : List ℕ) (left : IsLeft problem (last_stage problem) nodes kept states order) where
   -- some timeline is left, and the first of them is found
   pub some_left : (found : Option (List (List Sym))) → MatchOption found (AcceptsNone kept) (IsFirst (Accepts kept)) → IsSome found
   some_left None none =
@@ -56,9 +56,9 @@ module _ (problem : Problem) {g : Ghosts UnitWeight} (nodes : List Node) (kept :
 
 -- The answer of all stages is right.
 pub whole_answer : (problem : Problem) (budget : ℕ) {g : Ghosts UnitWeight} (kept : List (TableState UnitWeight g)) → ClassesFilled kept → 0 < length kept → (states order : List ℕ) (stages : List Stage) (counts : List ℕ)
-    → IsRanked problem budget (length problem.constraints) stages counts kept states order → (ranks : List ℕ) → IsOrdering (length order) ranks → AreRanks order ranks
+    → IsRanked problem budget (last_stage problem) stages counts kept states order → (ranks : List ℕ) → IsOrdering (length order) ranks → AreRanks order ranks
     → (answer : Answer) → answer.form ≡ problem.form → answer.counts.items ≡ counts → IsFirst (IsOptimal problem) answer.example → answer.stages.items ≡ stages → IsAutomatonOf kept (nodes_of ranks states) answer.automaton.states.items
     → IsRight problem answer
 whole_answer problem budget kept filled some states order stages counts ranked ranks numbers told answer form same first lists automaton =
-    right_answer problem budget (length problem.constraints) stages counts ranked.so_far refl answer form same first lists
-    (right_automaton problem (nodes_at stages (length problem.constraints)) kept filled some states order ranks ranked.left numbers told answer.automaton.states.items automaton)
+    right_answer problem budget (last_stage problem) stages counts ranked.so_far refl answer form same first lists
+    (right_automaton problem (nodes_at stages (last_stage problem)) kept filled some states order ranks ranked.left numbers told answer.automaton.states.items automaton)

@@ -7,7 +7,7 @@ use Rattle.tier_core.specs.declared.sym.Sym.{Sym}
 use Rattle.tier_core.specs.declared.constraint.Constraint.{Constraint}
 use Rattle.tier_core.specs.Orders.{IsFirst}
 use Rattle.tier_core.specs.Tiers.{Tiers}
-use Rattle.violation.specs.Candidates.{vec, IsOptimal, IsOptimalFor}
+use Rattle.violation.specs.Candidates.{vec, IsOptimal, IsOptimalFor, counts_on, count_at}
 use Rattle.violation.specs.Counts.{violations_of}
 use Rattle.answer_text.specs.declared.stage.Stage.{Stage}
 use Rattle.answer_text.specs.declared.answer.Answer.{Answer}
@@ -15,7 +15,7 @@ use Rattle.answer_text.specs.Right.{IsRightStage, IsRightAutomaton, IsRight, nod
 use Rattle.violation.proofs.StageLemmas.{optimal_for_fewer}
 use Rattle.ranked_gen.specs.Budgets.{IsWithin, IsOver, IsFirstOver, AreAllWithin}
 use Rattle.ranked_gen.specs.Left.{AreStages}
-use Rattle.violation.specs.Problems.{Problem}
+use Rattle.violation.specs.Problems.{Problem, last_stage}
 
 nodes_kept : (stages : List Stage) (stage : Stage) (s : ℕ) → s < length stages → nodes_at (stages ++ stage ∷ []) s ≡ nodes_at stages s
 nodes_kept stages stage s l =
@@ -38,8 +38,8 @@ module _ (problem : Problem) (budget : ℕ) where
   }
 
   module _ (r : ℕ) (stages : List Stage) (counts : List ℕ) (so_far : AreStages problem budget r stages counts) where
-    pub next_stages : (stage : Stage) (count next : ℕ) → next ≡ r + 1 → r < length problem.constraints → IsRightStage problem next stage.nodes.items
-        → ((T : List (List Sym)) → IsOptimalFor problem next T → get_or (vec problem.constraints T) (next - 1) 0 ≡ count) → IsWithin problem budget next
+    pub next_stages : (stage : Stage) (count next : ℕ) → next ≡ r + 1 → r < last_stage problem → IsRightStage problem next stage.nodes.items
+        → ((T : List (List Sym)) → IsOptimalFor problem next T → count_at problem next T ≡ count) → IsWithin problem budget next
         → AreStages problem budget next (stages ++ stage ∷ []) (counts ++ count ∷ [])
     next_stages stage count next is inside right counted within = record {
       stage_count = omega (arith, length-append stages (stage ∷ []), so_far.stage_count);
@@ -51,11 +51,11 @@ module _ (problem : Problem) (budget : ℕ) where
           (cases_lt s (r + 1));
       numbers = λ T o.
           let fewer = optimal_for_fewer problem r next (omega arith) T o in
-          let long : r < length (vec problem.constraints T) = omega (arith, length-map problem.constraints (λ c. violations_of c T)) in
+          let long : r < length (counts_on problem T) = omega (arith, length-map problem.constraints (λ c. violations_of c T)) in
           let place : next - 1 ≡ r = omega arith in
-          ap (λ n. take n (vec problem.constraints T)) is
-          ∙ take_more (vec problem.constraints T) r 0 long
-          ∙ ap₂ (λ xs x. xs ++ x ∷ []) (so_far.numbers T fewer) (ap (λ i. get_or (vec problem.constraints T) i 0) (sym place) ∙ counted T o);
+          ap (λ n. take n (counts_on problem T)) is
+          ∙ take_more (counts_on problem T) r 0 long
+          ∙ ap₂ (λ xs x. xs ++ x ∷ []) (so_far.numbers T fewer) (ap (λ i. get_or (counts_on problem T) i 0) (sym place) ∙ counted T o);
       within = λ s l. ⊎_elim
           (λ less. so_far.within s (omega (arith, less)))
           (λ last. let same : next ≡ s = omega (arith, last) in subst (IsWithin problem budget) same within)
@@ -63,21 +63,21 @@ module _ (problem : Problem) (budget : ℕ) where
     }
 
     -- a stage that is over the budget is the first
-    pub first_over : (next : ℕ) → next ≡ r + 1 → r < length problem.constraints → IsOver problem budget next → IsFirstOver problem budget next
+    pub first_over : (next : ℕ) → next ≡ r + 1 → r < last_stage problem → IsOver problem budget next → IsFirstOver problem budget next
     first_over next is inside over = record {
       stage = omega arith;
       over = over;
       before = λ s l. so_far.within s (omega arith);
     }
 
-    module _ (all : r ≡ length problem.constraints) where
+    module _ (all : r ≡ last_stage problem) where
       pub all_within : AreAllWithin problem budget
       all_within s l = so_far.within s (omega arith)
 
-      whole : (T : List (List Sym)) → IsOptimal problem T → vec problem.constraints T ≡ counts
+      whole : (T : List (List Sym)) → IsOptimal problem T → counts_on problem T ≡ counts
       whole T o =
-          let long : r ≡ length (vec problem.constraints T) = all ∙ sym (length-map problem.constraints (λ c. violations_of c T)) in
-          sym (ap (λ n. take n (vec problem.constraints T)) long ∙ take-length (vec problem.constraints T))
+          let long : r ≡ length (counts_on problem T) = all ∙ sym (length-map problem.constraints (λ c. violations_of c T)) in
+          sym (ap (λ n. take n (counts_on problem T)) long ∙ take-length (counts_on problem T))
           ∙ so_far.numbers T (subst (λ n. IsOptimalFor problem n T) (sym all) o)
 
       -- the answer with these stages is right
@@ -93,6 +93,6 @@ module _ (problem : Problem) (budget : ℕ) where
         stage_count = ap length lists ∙ so_far.stage_count ∙ ap (λ n. n + 1) all;
         each_stage = λ s l. subst (λ ss. IsRightStage problem s (nodes_at ss s)) (sym lists) (so_far.each_stage s (omega arith));
         automaton =
-            subst (λ ss. IsRightAutomaton problem (nodes_at ss (length problem.constraints)) answer.automaton.states.items) (sym lists)
+            subst (λ ss. IsRightAutomaton problem (nodes_at ss (last_stage problem)) answer.automaton.states.items) (sym lists)
             (subst (λ n. IsRightAutomaton problem (nodes_at stages n) answer.automaton.states.items) all automaton);
       }

@@ -25,22 +25,22 @@ use Rattle.ranked_gen.specs.Numbers.{flags_of, kind_numbered}
 use Rattle.ranked_gen.specs.Arcs.{still, staying}
 use Rattle.ranked_gen.specs.Listed.{IsNodeNumbered, IsStateNumbered, AreNumbered, AreListed}
 use Rattle.ranked_gen.proofs.NumberLemmas.{flags_of-low, same_kind, kind_from}
-use Rattle.violation.specs.Problems.{Problem}
+use Rattle.violation.specs.Problems.{Problem, last_place}
 
 -- the kind of a place and a set
 pub kind_at_place : (f place opened : ℕ) → opened < 2 ^ f → kind_numbered f (place * 2 ^ f + opened) ≡ kind_from place (flags_of f opened) []
 kind_at_place f place opened l = same_kind (div-mul-add place (2 ^ f) opened l) (flags_of-low f f place opened (omega arith)) refl
 
 module _ (problem : Problem) (form : IsForm problem.tiers problem.form) where
-  open_after : (p j : ℕ) → p < length problem.form → j < length problem.tiers.input → is_open (word (take (suc p) problem.form) j) ≡ opens (symbol (column_at problem.form p) j)
+  open_after : (p j : ℕ) → p < last_place problem → j < length problem.tiers.input → is_open (word (take (suc p) problem.form) j) ≡ opens (symbol (column_at problem.form p) j)
   open_after p j l h =
       let well = runs_from_well_formed (word problem.form j) (form.well_formed.each_tier j h) in
-      let size : length (word problem.form j) ≡ length problem.form = length-map problem.form (λ (column : List Sym). symbol column j) in
+      let size : length (word problem.form j) ≡ last_place problem = length-map problem.form (λ (column : List Sym). symbol column j) in
       ap is_open (take_word problem.form (suc p) j) ∙ prefix_open (word problem.form j) (suc p) well (omega arith) ∙ open_suc false (word problem.form j) p (omega arith)
       ∙ ap opens (get_or-map (λ column. symbol column j) problem.form p [] Outside l)
 
   -- the symbols that stay after a column
-  pub staying_after : (p : ℕ) → p < length problem.form → length (column_at problem.form p) ≡ length problem.tiers.input → map (λ s. still (opens s)) (column_at problem.form p) ≡ staying problem (suc p)
+  pub staying_after : (p : ℕ) → p < last_place problem → length (column_at problem.form p) ≡ length problem.tiers.input → map (λ s. still (opens s)) (column_at problem.form p) ≡ staying problem (suc p)
   staying_after p l wide = fill_by_all at (map (λ s. still (opens s)) (column_at problem.form p)) (length problem.tiers.input) Outside (length-map (column_at problem.form p) (λ (s : Sym). still (opens s)) ∙ wide)
       (λ j h. get_or-map (λ s. still (opens s)) (column_at problem.form p) j Outside Outside (omega arith) ∙ ap still (sym (open_after p j l h)))
       ∙ sym (map-map still (λ j. is_open (word (take (suc p) problem.form) j)) (range_with_len 0 (length problem.tiers.input)))

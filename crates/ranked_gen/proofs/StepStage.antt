@@ -28,7 +28,7 @@ use Rattle.arc_table.proofs.Push.{moves_exist}
 use Rattle.distances.specs.Least.{AreLeast}
 use Rattle.prune_best.specs.Tight.{IsTight}
 use Rattle.prune_best.proofs.Words.{some_of}
-use Rattle.violation.specs.Candidates.{vec, IsOptimalFor}
+use Rattle.violation.specs.Candidates.{vec, IsOptimalFor, count_at}
 use Rattle.violation.specs.Prefixes.{kind_of}
 use Rattle.violation.specs.Stages.{IsRemaining}
 use Rattle.violation.proofs.SplitLemmas.{tiers_split}
@@ -57,6 +57,7 @@ use Rattle.ranked_gen.proofs.Ascending.{Ascends, ascends_from}
 use Rattle.ranked_gen.proofs.FirstKind.{none_before}
 use Rattle.ranked_gen.proofs.StageShapes.{tell_same, free_same, stretch_same}
 use Rattle.kind_moves.specs.Frames.{problem_in}
+use Rattle.violation.specs.Problems.{last_stage}
 
 all_read : {X : Type 0} (R : X → Type 0) (xs : List X) (d : X) (i : ℕ) → AllByRecursion R xs → i < length xs → R (get_or xs i d)
 all_read R [] d i h l = absurd (omega arith)
@@ -69,7 +70,7 @@ first_less c [] d i a some l = absurd (omega arith)
 first_less c (x ∷ xs) d zero a some l = absurd (omega arith)
 first_less c (x ∷ xs) d (suc i) a some l = all_read (λ y. c x y ≡ Less) xs d i a.0 (omega arith)
 
-module _ (frame : Frame) (stage : ℕ) (ranked : 1 ≤ stage) (within : stage ≤ length (constraints_in frame)) (kinds : List Kind) {g : Ghosts Count} (meaning : g.meaning ≡ count_meaning) (states : List (TableState Count g))
+module _ (frame : Frame) (stage : ℕ) (ranked : 1 ≤ stage) (within : stage ≤ last_stage (problem_in frame)) (kinds : List Kind) {g : Ghosts Count} (meaning : g.meaning ≡ count_meaning) (states : List (TableState Count g))
     (table : IsStageTable (problem_in frame) stage (names_at frame stage kinds) states)
     (least : List (Option Count)) (are : AreLeast states least) where
   here : IsStage (problem_in frame) stage
@@ -93,7 +94,7 @@ module _ (frame : Frame) (stage : ℕ) (ranked : 1 ≤ stage) (within : stage �
       subst (λ n. IsRemaining (problem_in frame) stage (kind_at_stage frame stage (kind_numbered kinds number)) n) (sym value)
       (subst (λ k. IsRemaining (problem_in frame) stage k w.0.0) (name_is number empty_kind l) law)
 
-  pub counted : (T : List (List Sym)) → IsOptimalFor (problem_in frame) stage T → get_or (vec (constraints_in frame) T) (stage - 1) 0 ≡ get_or (map weight_number least) 0 0
+  pub counted : (T : List (List Sym)) → IsOptimalFor (problem_in frame) stage T → count_at (problem_in frame) stage T ≡ get_or (map weight_number least) 0 0
   counted T o =
       let some = table.named.some in
       let w = weight_at 0 some in

@@ -26,20 +26,20 @@ use Rattle.ranked_gen.specs.Arcs.{moves_from}
 use Rattle.ranked_gen.specs.Listed.{kind_count, arc_view, table_view, move_view, IsStateNumbered, AreNumbered}
 use Rattle.ranked_gen.proofs.StateArcs.{IsMoveView, view_single, view_target, right_arcs}
 use Rattle.ranked_gen.proofs.LineLemmas.{numbered_seen}
-use Rattle.violation.specs.Problems.{Problem}
+use Rattle.violation.specs.Problems.{Problem, last_place}
 
 pub kinds_some : (problem : Problem) → 0 < kind_count problem
 kinds_some problem =
     let power = pow_pos (length problem.tiers.free) in
-    let size : 1 * 2 ^ length problem.tiers.free ≤ (length problem.form + 1) * 2 ^ length problem.tiers.free = mul-le-mul (let l : 1 ≤ length problem.form + 1 = omega arith in l) (let l : 2 ^ length problem.tiers.free ≤ 2 ^ length problem.tiers.free = omega arith in l) in
+    let size : 1 * 2 ^ length problem.tiers.free ≤ (last_place problem + 1) * 2 ^ length problem.tiers.free = mul-le-mul (let l : 1 ≤ last_place problem + 1 = omega arith in l) (let l : 2 ^ length problem.tiers.free ≤ 2 ^ length problem.tiers.free = omega arith in l) in
     omega (arith, power, size)
 
-pub kinds_small : (problem : Problem) → length problem.form ≤ 64 → length problem.tiers.free ≤ 12 → kind_count problem < 2 ^ 32
+pub kinds_small : (problem : Problem) → last_place problem ≤ 64 → length problem.tiers.free ≤ 12 → kind_count problem < 2 ^ 32
 kinds_small problem l h =
     let two : 0 < 2 = omega arith in
     let power : 2 ^ length problem.tiers.free ≤ 2 ^ 12 = pow-le-pow_right two h in
-    let places : length problem.form + 1 ≤ 65 = omega arith in
-    let size : (length problem.form + 1) * 2 ^ length problem.tiers.free ≤ 65 * 2 ^ 12 = mul-le-mul places power in
+    let places : last_place problem + 1 ≤ 65 = omega arith in
+    let size : (last_place problem + 1) * 2 ^ length problem.tiers.free ≤ 65 * 2 ^ 12 = mul-le-mul places power in
     omega arith
 
 -- an arc of a table as an arc of an answer

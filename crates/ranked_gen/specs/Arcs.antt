@@ -11,7 +11,7 @@ use Rattle.violation.specs.Counts.{choices}
 use Rattle.violation.specs.Moves.{flag_of, form_opened}
 use Rattle.ranked_gen.specs.WideColumns.{symbol_on}
 use Rattle.ranked_gen.specs.Numbers.{flags_of}
-use Rattle.violation.specs.Problems.{Problem}
+use Rattle.violation.specs.Problems.{Problem, last_place}
 
 -- the symbols of a free tier that is open before a column or not, and after it or not
 abbrev pub between : Bool → Bool → List Sym
@@ -57,4 +57,4 @@ staying problem place = map still (form_opened problem place)
 abbrev pub moves_from : Problem → PrefixKind → List (ℕ × List Sym)
 moves_from problem k =
     moves_with problem.tiers (staying problem k.place) k.opened (k.place * 2 ^ length problem.tiers.free)
-    ++ (if nat_lt k.place (length problem.form) then moves_with problem.tiers (column_at problem.form k.place) k.opened ((k.place + 1) * 2 ^ length problem.tiers.free) else [])
+    ++ (if nat_lt k.place (last_place problem) then moves_with problem.tiers (column_at problem.form k.place) k.opened ((k.place + 1) * 2 ^ length problem.tiers.free) else [])

@@ -5,7 +5,7 @@ use Rattle.tier_core.specs.declared.constraint.Constraint.{Constraint}
 use Rattle.tier_core.specs.Tiers.{Tiers}
 use Rattle.tier_core.specs.Kinds.{PrefixKind}
 use Rattle.violation.specs.Stages.{AreKindsOfStage}
-use Rattle.violation.specs.Problems.{Problem}
+use Rattle.violation.specs.Problems.{Problem, last_stage}
 
 -- stage r has more kinds than the budget
 pub record IsOver (problem : Problem) (budget r : ℕ) : Type 0 where
@@ -19,10 +19,10 @@ IsWithin problem budget r = (kinds : List PrefixKind) → AreKindsOfStage proble
 
 -- no stage has more kinds than the budget
 abbrev pub AreAllWithin : Problem → ℕ → Type 0
-AreAllWithin problem budget = (r : ℕ) → r ≤ length problem.constraints → IsWithin problem budget r
+AreAllWithin problem budget = (r : ℕ) → r ≤ last_stage problem → IsWithin problem budget r
 
 -- stage r is the first that has more kinds than the budget
 pub record IsFirstOver (problem : Problem) (budget r : ℕ) : Type 0 where
-  pub stage : r ≤ length problem.constraints
+  pub stage : r ≤ last_stage problem
   pub over : IsOver problem budget r
   pub before : (s : ℕ) → s < r → IsWithin problem budget s

@@ -10,8 +10,8 @@ use Rattle.weight_law.specs.declared.count.Count.{Count}
 use Rattle.weight_law.specs.declared.unit_weight.UnitWeight.{UnitWeight}
 use Rattle.arc_table.specs.declared.state.TableState.{TableState}
 use Rattle.arc_table.specs.Runs.{Accepts}
-use Rattle.violation.specs.Candidates.{vec, IsOptimalFor}
-use Rattle.violation.specs.Prefixes.{kind_of, stretches}
+use Rattle.violation.specs.Candidates.{vec, IsOptimalFor, counts_on, count_at}
+use Rattle.violation.specs.Prefixes.{kind_of, stretches, kind_of_bits}
 use Rattle.answer_text.specs.declared.stage.Node.{Node}
 use Rattle.answer_text.specs.declared.stage.Stage.{Stage}
 use Rattle.answer_text.specs.Right.{IsRightStage, nodes_at}
@@ -30,7 +30,7 @@ weight_number (Some w) = w.0
 pub record TellsKind (problem : Problem) (r : ℕ) (nodes : List Node) (n : ℕ) (k : PrefixKind) : Type 0 where
   pub node : Node
   pub numbered : slice_get nodes n ≡ Some node
-  pub tells : prefix_kind (length problem.tiers.free) (length (stretches problem r)) node.kind ≡ k
+  pub tells : kind_of_bits problem r node.kind ≡ k
 
 -- Each of so many states has a number of the order, and no two have the same.
 pub record AreOrdered (order states : List ℕ) (count : ℕ) : Type 0 where
@@ -54,14 +54,14 @@ pub record IsLeft {g : Ghosts UnitWeight} (problem : Problem) (r : ℕ) (nodes :
 -- and the count is the number of constraint r, counted from 1, of each r-optimal candidate
 pub record IsStaged {g : Ghosts UnitWeight} (problem : Problem) (r : ℕ) (nodes : List Node) (count : ℕ) (kept : List (TableState UnitWeight g)) (states order : List ℕ) : Type 0 where
   pub left : IsLeft problem r nodes kept states order
-  pub counted : (T : List (List Sym)) → IsOptimalFor problem r T → slice_index_or (vec problem.constraints T) (r - 1) 0 ≡ count
+  pub counted : (T : List (List Sym)) → IsOptimalFor problem r T → count_at problem r T ≡ count
 
 -- The stages up to r are right and within the budget, and the counts are the first r numbers of
 -- each r-optimal candidate.
 pub record AreStages (problem : Problem) (budget r : ℕ) (stages : List Stage) (counts : List ℕ) : Type 0 where
   pub stage_count : length stages ≡ r + 1
   pub each_stage : (s : ℕ) → s ≤ r → IsRightStage problem s (nodes_at stages s)
-  pub numbers : (T : List (List Sym)) → IsOptimalFor problem r T → take r (vec problem.constraints T) ≡ counts
+  pub numbers : (T : List (List Sym)) → IsOptimalFor problem r T → take r (counts_on problem T) ≡ counts
   pub within : (s : ℕ) → s ≤ r → IsWithin problem budget s
 
 -- These are the stages up to r, the counts of their constraints, and what the last of them leaves.

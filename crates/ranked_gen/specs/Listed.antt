@@ -15,11 +15,11 @@ use Rattle.arc_table.specs.declared.arc.TableArc.{TableArc}
 use Rattle.arc_table.specs.declared.state.TableState.{TableState}
 use Rattle.ranked_gen.specs.Numbers.{kind_numbered}
 use Rattle.ranked_gen.specs.Arcs.{moves_from}
-use Rattle.violation.specs.Problems.{Problem}
+use Rattle.violation.specs.Problems.{Problem, last_place}
 
 -- how many kinds there are
 abbrev pub kind_count : Problem → ℕ
-kind_count problem = (length problem.form + 1) * 2 ^ length problem.tiers.free
+kind_count problem = (last_place problem + 1) * 2 ^ length problem.tiers.free
 
 -- an arc of a table, by its target and the numbers of its sets
 abbrev pub table_view : {W : Type 0} {g : Ghosts W} → TableArc W g → ℕ × List ℕ

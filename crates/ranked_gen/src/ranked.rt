@@ -5,6 +5,7 @@ ghost use Rattle.kind_moves.specs.Frames.{tiers_in, constraints_in, form_in};
 ghost use Rattle.ranked_gen.specs.Budgets.{IsFirstOver};
 ghost use Rattle.ranked_gen.specs.Left.{IsRanked};
 ghost use Rattle.kind_moves.specs.Frames.{problem_in};
+ghost use Rattle.violation.specs.Problems.{last_stage};
 
 use crate::gen_err::GenErr;
 use crate::staged::{Left, Staged, next_stage};
@@ -56,7 +57,7 @@ pub(crate) fn all_ranked(
     requires start { IsRanked (problem_in frame.now) budget 0 start.stages.items start.counts.items (states_of start.left.kept.table) start.left.kept.states.items start.left.order.items }
     requires some { 1 ≤ budget }
     requires few { budget ≤ 65536 }
-    ensures ranked { IfOk result (λ all. IsRanked (problem_in frame.now) budget (length (constraints_in frame.now)) all.stages.items all.counts.items (states_of all.left.kept.table) all.left.kept.states.items all.left.order.items) }
+    ensures ranked { IfOk result (λ all. IsRanked (problem_in frame.now) budget (last_stage (problem_in frame.now)) all.stages.items all.counts.items (states_of all.left.kept.table) all.left.kept.states.items all.left.order.items) }
     ensures over { (s : ℕ) → result ≡ Err (GenErr.Budget s) → IsFirstOver (problem_in frame.now) budget s }
 {
     let mut ranked = start;
@@ -88,7 +89,7 @@ fn copied(alloc: Global, timeline: &Timeline) -> Result<Timeline, NoMemory>
 
 /// The answer of all stages of a frame. It fails only for want of memory.
 pub(crate) fn answered(alloc: Global, frame: &Frame, ranked: Ranked) -> Result<Answer, NoMemory>
-    requires ranked { (budget : ℕ) × IsRanked (problem_in frame.now) budget (length (constraints_in frame.now)) ranked.stages.items ranked.counts.items (states_of ranked.left.kept.table) ranked.left.kept.states.items ranked.left.order.items }
+    requires ranked { (budget : ℕ) × IsRanked (problem_in frame.now) budget (last_stage (problem_in frame.now)) ranked.stages.items ranked.counts.items (states_of ranked.left.kept.table) ranked.left.kept.states.items ranked.left.order.items }
     ensures right { IfOk result (λ answer. IsRight (problem_in frame.now) answer) }
 {
     let own = copied(alloc, frame.form)?;

@@ -13,6 +13,7 @@ ghost use Rattle.stage_tables.specs.Explored.{names_at};
 ghost use Rattle.ranked_gen.specs.Budgets.{IsOver, IsWithin};
 ghost use Rattle.ranked_gen.specs.Left.{IsStaged, weight_number};
 ghost use Rattle.kind_moves.specs.Frames.{problem_in};
+ghost use Rattle.violation.specs.Problems.{last_stage};
 
 use crate::gen_err::GenErr;
 use answer_text::Stage;
@@ -69,7 +70,7 @@ fn potentials_of(alloc: Global, least: &[Option<Count>]) -> Result<Vec<u32>, All
 /// memory.
 fn pruned(alloc: Global, frame: &Frame, stage: u32, found: &StageTable) -> Result<Staged, NoMemory>
     requires some { 1 ≤ stage }
-    requires within { stage ≤ length (constraints_in frame.now) }
+    requires within { stage ≤ last_stage (problem_in frame.now) }
     requires table { IsStageTable (problem_in frame.now) stage (names_at frame.now stage found.now.kinds.items) (states_of found.now.table) }
     requires fit { All (FitsFrame frame.now stage) found.now.kinds.items }
     requires single { (s : ℕ) (arc : ArcOf Counted ⟦<Count as Weight>⟧) → Contains (moves_at (states_of found.now.table) s) arc → IsOfOneColumn arc.class }
@@ -100,7 +101,7 @@ pub(crate) fn next_stage(
     budget: u32,
 ) -> Result<Staged, GenErr>
     requires some { 1 ≤ stage }
-    requires within { stage ≤ length (constraints_in frame.now) }
+    requires within { stage ≤ last_stage (problem_in frame.now) }
     requires kept { IsKept (problem_in frame.now) (stage - 1) (states_of kept.now) }
     requires accepts { (T : List (List Sym)) → Accepts (states_of kept.now) T ↔ IsOptimalFor (problem_in frame.now) (stage - 1) T }
     requires some_budget { 1 ≤ budget }

@@ -4,6 +4,7 @@ ghost use Rattle.kind_moves.specs.Frames.{tiers_in, form_in, kind_at_stage};
 ghost use Rattle.ranked_gen.specs.Arcs.{staying, moves_from};
 ghost use Rattle.ranked_gen.specs.Listed.{table_view, move_view, IsKindNumbered, IsStateNumbered};
 ghost use Rattle.kind_moves.specs.Frames.{problem_in};
+ghost use Rattle.violation.specs.Problems.{last_place};
 
 use crate::flags::mask_of_flags;
 use crate::moves::push_moves;
@@ -40,7 +41,7 @@ fn arcs_at(
     requires form { IsForm (tiers_in frame.now) (form_in frame.now) }
     requires count { free ≡ length (tiers_in frame.now).free }
     requires few { free ≤ 12 }
-    requires place { kind.now.place ≤ length (form_in frame.now) }
+    requires place { kind.now.place ≤ last_place (problem_in frame.now) }
     requires opened { opened < 2 ^ free }
     requires numbered { IsKindNumbered free (kind.now.place * 2 ^ free + opened) kind.now }
     requires stay { stay.now ≡ staying (problem_in frame.now) kind.now.place }
@@ -68,7 +69,7 @@ pub(crate) fn state_at(
     requires form { IsForm (tiers_in frame.now) (form_in frame.now) }
     requires count { free ≡ length (tiers_in frame.now).free }
     requires few { free ≤ 12 }
-    requires place { kind.now.place ≤ length (form_in frame.now) }
+    requires place { kind.now.place ≤ last_place (problem_in frame.now) }
     requires opened { opened < 2 ^ free }
     requires numbered { IsKindNumbered free (kind.now.place * 2 ^ free + opened) kind.now }
     requires stay { stay.now ≡ staying (problem_in frame.now) kind.now.place }

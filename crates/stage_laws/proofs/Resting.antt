@@ -17,7 +17,7 @@ use Rattle.arc_table.specs.declared.state.TableState.{TableState}
 use Rattle.arc_table.specs.Runs.{IsRun, Reads, weight_of, IsLeastFrom, HasNoRun, IsOnRun}
 use Rattle.distances.specs.Least.{AreLeast}
 use Rattle.prune_best.proofs.Words.{some_word}
-use Rattle.violation.specs.Candidates.{IsCandidate, vec, vec_so_far}
+use Rattle.violation.specs.Candidates.{IsCandidate, vec, vec_so_far, count_at, count_so_far_at}
 use Rattle.violation.specs.Prefixes.{kind_of}
 use Rattle.violation.specs.Stages.{Passes, IsLeastRest, IsRemaining}
 use Rattle.violation.specs.Walks.{walk_costs}
@@ -62,7 +62,7 @@ module _ (problem : Problem) (r : ℕ) (stage : IsStage problem r) {g : Ghosts C
   module _ (ranked : 1 ≤ r) where
     -- what an (r-1)-optimal candidate violates after a prefix of the kind that names s is at least the least weight from s
     least_of_all : (s : ℕ) (w : Count) → s < length states → IsLeastFrom states s w → (T : List (List Sym)) (n : ℕ) → Passes problem (r - 1) r (name_of names s) T n
-        → get_or (vec_so_far problem.constraints T n) (r - 1) 0 + w.0 ≤ get_or (vec problem.constraints T) (r - 1) 0
+        → count_so_far_at problem r T n + w.0 ≤ count_at problem r T
     least_of_all s w here from T n passes =
         let found = passed_state problem r stage names states table.named (r - 1) table.accepts (name_of names s) T n passes in
         let parts : IsParted states 0 (take n T) (drop n T) = found.0 in
@@ -71,10 +71,10 @@ module _ (problem : Problem) (r : ℕ) (stage : IsStage problem r) {g : Ghosts C
         let whole : take n T ++ drop n T ≡ T = take-append-drop n T in
         let candidate : IsCandidate problem (take n T ++ drop n T) = subst (IsCandidate problem) (sym whole) passes.optimal.candidate in
         let rest = rest_weight problem r stage meaning names states table.named table.weighed ranked parts.after s (take n T) (drop n T) (sym passes.of_kind) run parts.reads_after candidate in
-        let total : get_or (vec problem.constraints (take n T ++ drop n T)) (r - 1) 0 ≡ get_or (vec problem.constraints T) (r - 1) 0 = ap (λ (v : List (List Sym)). get_or (vec problem.constraints v) (r - 1) 0) whole in
-        let so_far : get_or (vec_so_far problem.constraints (take n T ++ drop n T) (length (take n T))) (r - 1) 0 ≡ get_or (vec_so_far problem.constraints T n) (r - 1) 0 =
-        ap (λ (v : List (List Sym)). get_or (vec_so_far problem.constraints v (length (take n T))) (r - 1) 0) whole
-        ∙ ap (λ (m : ℕ). get_or (vec_so_far problem.constraints T m) (r - 1) 0) (length-take-le n T passes.within) in
+        let total : count_at problem r (take n T ++ drop n T) ≡ count_at problem r T = ap (λ (v : List (List Sym)). count_at problem r v) whole in
+        let so_far : count_so_far_at problem r (take n T ++ drop n T) (length (take n T)) ≡ count_so_far_at problem r T n =
+        ap (λ (v : List (List Sym)). count_so_far_at problem r v (length (take n T))) whole
+        ∙ ap (λ (m : ℕ). count_so_far_at problem r T m) (length-take-le n T passes.within) in
         let bound : w.0 ≤ (weight_of parts.after).0 = at_most_le meaning w (weight_of parts.after) (from.least parts.after run) in
         omega (arith, rest, total, so_far, bound)
 
@@ -96,7 +96,7 @@ module _ (problem : Problem) (r : ℕ) (stage : IsStage problem r) {g : Ghosts C
               (
                 passes,
                 rest_weight problem r stage meaning names states table.named table.weighed ranked found.0 s p.0 q.0 name found.1 q.1 passes.optimal.candidate
-                    ∙ ap (λ (n : Count). get_or (vec_so_far problem.constraints (p.0 ++ q.0) (length p.0)) (r - 1) 0 + n.0) found.2,
+                    ∙ ap (λ (n : Count). count_so_far_at problem r (p.0 ++ q.0) (length p.0) + n.0) found.2,
               ),
             ),
           );

@@ -10,7 +10,7 @@ use Rattle.tier_core.specs.Kinds.{PrefixKind}
 use Rattle.arc_table.specs.declared.arc.TableArc.{TableArc}
 use Rattle.arc_table.specs.declared.state.TableState.{TableState}
 use Rattle.arc_table.specs.Runs.{IsRun, IsPath, Reads, weight_of, AcceptingRun, SizesWithin}
-use Rattle.violation.specs.Candidates.{IsCandidate, vec, vec_so_far}
+use Rattle.violation.specs.Candidates.{IsCandidate, vec, vec_so_far, count_at, count_so_far_at}
 use Rattle.tier_core.specs.Kinds.{Phase}
 use Rattle.tier_core.specs.Sides.{is_stretch}
 use Rattle.symbol_class.specs.FirstColumn.{first_column}
@@ -50,19 +50,19 @@ module _ (problem : Problem) (r : ℕ) (stage : IsStage problem r) {g : Ghosts C
     module _ (ranked : 1 ≤ r) where
       -- a path from the start weighs what is violated so far
       pub path_weight_law : (arcs : List (TableArc Count g)) (s : ℕ) (p q : List (List Sym)) → IsPath states 0 arcs s → Reads arcs p → IsCandidate problem (p ++ q)
-          → (weight_of arcs).0 ≡ get_or (vec_so_far problem.constraints (p ++ q) (length p)) (r - 1) 0
+          → (weight_of arcs).0 ≡ count_so_far_at problem r (p ++ q) (length p)
       path_weight_law arcs s p q path reads c =
           path_weight arcs p 0 s path reads ∙ ap (λ k. walk_cost problem r stage (r - 1) k p) named.start ∙ sym (so_far_walk problem r stage ranked p q c)
 
       -- a run from the kind of a prefix weighs what the rest violates
       pub rest_weight : (arcs : List (TableArc Count g)) (s : ℕ) (p q : List (List Sym)) → name_of names s ≡ kind_of problem r p → IsRun states s arcs → Reads arcs q → IsCandidate problem (p ++ q)
-          → get_or (vec problem.constraints (p ++ q)) (r - 1) 0 ≡ get_or (vec_so_far problem.constraints (p ++ q) (length p)) (r - 1) 0 + (weight_of arcs).0
+          → count_at problem r (p ++ q) ≡ count_so_far_at problem r (p ++ q) (length p) + (weight_of arcs).0
       rest_weight arcs s p q name run reads c =
           violations_on problem r stage ranked p q c
-          ∙ ap (λ n. get_or (vec_so_far problem.constraints (p ++ q) (length p)) (r - 1) 0 + n) (ap (λ k. walk_cost problem r stage (r - 1) k q) (sym name) ∙ sym (run_weight arcs q s run reads))
+          ∙ ap (λ n. count_so_far_at problem r (p ++ q) (length p) + n) (ap (λ k. walk_cost problem r stage (r - 1) k q) (sym name) ∙ sym (run_weight arcs q s run reads))
 
   -- an accepting run weighs the violations of what it reads
-  pub run_weight_law : IsStageTable problem r names states → 1 ≤ r → (arcs : List (TableArc Count g)) (T : List (List Sym)) → AcceptingRun states T arcs → (weight_of arcs).0 ≡ get_or (vec problem.constraints T) (r - 1) 0
+  pub run_weight_law : IsStageTable problem r names states → 1 ≤ r → (arcs : List (TableArc Count g)) (T : List (List Sym)) → AcceptingRun states T arcs → (weight_of arcs).0 ≡ count_at problem r T
   run_weight_law table ranked arcs T accepting =
       run_weight table.named table.weighed arcs T 0 accepting.run accepting.reads
       ∙ ap (λ k. walk_cost problem r stage (r - 1) k T) table.named.start

@@ -8,9 +8,9 @@ ghost use Rattle.tier_core.specs.Kinds.{PrefixKind};
 ghost use Rattle.arc_table.specs.declared.state.TableState.{TableState};
 ghost use Rattle.arc_table.specs.Runs.{Accepts, IsLeastWord, IsLeastFrom};
 ghost use Rattle.prune_best.specs.Tight.{IsTight};
-ghost use Rattle.violation.specs.Candidates.{vec, IsOptimalFor, IsOptimal, IsLeastVector};
+ghost use Rattle.violation.specs.Candidates.{vec, IsOptimalFor, IsOptimal, IsLeastVector, count_at};
 ghost use Rattle.stage_laws.specs.StageTables.{IsStage, IsStageTable};
-ghost use Rattle.violation.specs.Problems.{Problem};
+ghost use Rattle.violation.specs.Problems.{Problem, last_stage};
 
 use weight_law::{Count, UnitWeight, Weight};
 
@@ -24,13 +24,13 @@ pub fn words_of_least_weight_are_optimal()
 /// From stage 1 on, the least weight from the start of a stage's table is the violations of constraint
 /// r of every r-optimal candidate, and the number of constraint r in the least vector.
 pub fn least_weight_is_the_least_number()
-    ensures of_candidates { (problem : Problem) (r : ℕ) (names : List PrefixKind) (states : List (TableState Count ⟦<Count as Weight>⟧)) → IsStage problem r → 1 ≤ r → IsStageTable problem r names states → (w : Count) → IsLeastFrom states 0 w → (T : List (List Sym)) → IsOptimalFor problem r T → slice_index_or (vec problem.constraints T) (r - 1) 0 ≡ w.0 }
+    ensures of_candidates { (problem : Problem) (r : ℕ) (names : List PrefixKind) (states : List (TableState Count ⟦<Count as Weight>⟧)) → IsStage problem r → 1 ≤ r → IsStageTable problem r names states → (w : Count) → IsLeastFrom states 0 w → (T : List (List Sym)) → IsOptimalFor problem r T → count_at problem r T ≡ w.0 }
     ensures of_the_vector { (problem : Problem) (r : ℕ) (names : List PrefixKind) (states : List (TableState Count ⟦<Count as Weight>⟧)) → IsStage problem r → 1 ≤ r → IsStageTable problem r names states → (w : Count) → IsLeastFrom states 0 w → (v : List ℕ) → IsLeastVector problem v → slice_index_or v (r - 1) 0 ≡ w.0 }
 {}
 
 /// A list of as many numbers as there are constraints, each of which is the number of an optimal
 /// candidate, is the least vector. What is optimal for more constraints is so for fewer.
 pub fn numbers_make_the_least_vector()
-    ensures vector { (problem : Problem) (T : List (List Sym)) (v : List ℕ) → IsOptimal problem T → length v ≡ length problem.constraints → ((r : ℕ) → 1 ≤ r → r ≤ length problem.constraints → slice_index_or (vec problem.constraints T) (r - 1) 0 ≡ slice_index_or v (r - 1) 0) → IsLeastVector problem v }
+    ensures vector { (problem : Problem) (T : List (List Sym)) (v : List ℕ) → IsOptimal problem T → length v ≡ last_stage problem → ((r : ℕ) → 1 ≤ r → r ≤ last_stage problem → count_at problem r T ≡ slice_index_or v (r - 1) 0) → IsLeastVector problem v }
     ensures fewer { (problem : Problem) (T : List (List Sym)) (r s : ℕ) → r ≤ s → IsOptimalFor problem s T → IsOptimalFor problem r T }
 {}

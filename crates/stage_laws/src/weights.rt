@@ -8,7 +8,7 @@ ghost use Rattle.arc_table.specs.declared.arc.TableArc.{TableArc};
 ghost use Rattle.arc_table.specs.declared.state.TableState.{TableState};
 ghost use Rattle.arc_table.specs.Moves.{moves_at};
 ghost use Rattle.arc_table.specs.Runs.{IsPath, Reads, weight_of, AcceptingRun, SizesWithin};
-ghost use Rattle.violation.specs.Candidates.{IsCandidate, vec, vec_so_far};
+ghost use Rattle.violation.specs.Candidates.{IsCandidate, vec, vec_so_far, count_at, count_so_far_at};
 ghost use Rattle.stage_laws.specs.StageTables.{IsStage, IsStageTable};
 ghost use Rattle.violation.specs.Problems.{Problem};
 
@@ -18,8 +18,8 @@ use weight_law::{Count, Weight};
 /// from 1, of the candidate that it reads. A path from the start weighs the violations so far of each
 /// candidate that begins with what it reads.
 pub fn weights_are_violations()
-    ensures runs { (problem : Problem) (r : ℕ) (names : List PrefixKind) (states : List (TableState Count ⟦<Count as Weight>⟧)) → IsStage problem r → 1 ≤ r → IsStageTable problem r names states → (arcs : List (TableArc Count ⟦<Count as Weight>⟧)) (T : List (List Sym)) → AcceptingRun states T arcs → (weight_of arcs).0 ≡ slice_index_or (vec problem.constraints T) (r - 1) 0 }
-    ensures paths { (problem : Problem) (r : ℕ) (names : List PrefixKind) (states : List (TableState Count ⟦<Count as Weight>⟧)) → IsStage problem r → 1 ≤ r → IsStageTable problem r names states → (arcs : List (TableArc Count ⟦<Count as Weight>⟧)) (s : ℕ) (p q : List (List Sym)) → IsPath states 0 arcs s → Reads arcs p → IsCandidate problem (p ++ q) → (weight_of arcs).0 ≡ slice_index_or (vec_so_far problem.constraints (p ++ q) (length p)) (r - 1) 0 }
+    ensures runs { (problem : Problem) (r : ℕ) (names : List PrefixKind) (states : List (TableState Count ⟦<Count as Weight>⟧)) → IsStage problem r → 1 ≤ r → IsStageTable problem r names states → (arcs : List (TableArc Count ⟦<Count as Weight>⟧)) (T : List (List Sym)) → AcceptingRun states T arcs → (weight_of arcs).0 ≡ count_at problem r T }
+    ensures paths { (problem : Problem) (r : ℕ) (names : List PrefixKind) (states : List (TableState Count ⟦<Count as Weight>⟧)) → IsStage problem r → 1 ≤ r → IsStageTable problem r names states → (arcs : List (TableArc Count ⟦<Count as Weight>⟧)) (s : ℕ) (p q : List (List Sym)) → IsPath states 0 arcs s → Reads arcs p → IsCandidate problem (p ++ q) → (weight_of arcs).0 ≡ count_so_far_at problem r (p ++ q) (length p) }
 {}
 
 /// Each move of a stage's table weighs 1 at most, so that the weights of its runs without repeats fit

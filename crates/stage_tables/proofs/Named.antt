@@ -37,9 +37,10 @@ use Rattle.stage_tables.proofs.Keys.{same_key}
 use Rattle.stage_tables.proofs.Zips.{zip_from, zip_to, zip_pairs}
 use Rattle.stage_tables.proofs.Listing.{at_number, get_or_map, one_number}
 use Rattle.kind_moves.specs.Frames.{problem_in}
+use Rattle.violation.specs.Problems.{last_stage}
 
 -- what every stage of a frame meets
-pub frame_stage : (frame : Frame) (r : ℕ) → r ≤ length (constraints_in frame) → IsStage (problem_in frame) r
+pub frame_stage : (frame : Frame) (r : ℕ) → r ≤ last_stage (problem_in frame) → IsStage (problem_in frame) r
 frame_stage frame r l = record {
   split = tiers_split frame.grammar.now.tiers.kinds.items;
   form = form_from (problem_in frame) frame.well_formed;
@@ -94,7 +95,7 @@ module _ {g : Ghosts UnitWeight} (frame : Frame) (stage : ℕ) (kept : List (Tab
     more = omega (arith, length-map kinds (kind_at_stage frame stage));
   }
 
-  module _ {h : Ghosts Count} (some : 1 ≤ stage) (within : stage ≤ length (constraints_in frame)) (states : List (TableState Count h)) (taken : AreTaken frame stage kept kinds over states) (all : length states ≡ length kinds) where
+  module _ {h : Ghosts Count} (some : 1 ≤ stage) (within : stage ≤ last_stage (problem_in frame)) (states : List (TableState Count h)) (taken : AreTaken frame stage kept kinds over states) (all : length states ≡ length kinds) where
     names : List PrefixKind
     names = names_at frame stage kinds
 

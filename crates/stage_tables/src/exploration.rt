@@ -6,6 +6,7 @@ ghost use Rattle.stage_tables.specs.Explored.{IsExplored, IsOverBudget};
 ghost use Rattle.stage_tables.specs.Listed.{AreTaken};
 ghost use Rattle.stage_tables.specs.Exploring.{IsFoundWithin, IsFoundBeyond};
 ghost use Rattle.kind_moves.specs.Frames.{problem_in};
+ghost use Rattle.violation.specs.Problems.{last_stage};
 
 use crate::exploring::Exploring;
 use crate::kind_key::KindKey;
@@ -82,7 +83,7 @@ pub fn explore(
     budget: u32,
 ) -> Result<StageTable, ExploreErr>
     requires some { 1 ≤ stage }
-    requires stage { stage ≤ length (constraints_in frame.now) }
+    requires stage { stage ≤ last_stage (problem_in frame.now) }
     requires kept { IsKept (problem_in frame.now) (stage - 1) (states_of kept.now) }
     requires some_budget { 1 ≤ budget }
     requires budget { budget ≤ 65536 }

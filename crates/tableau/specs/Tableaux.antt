@@ -6,7 +6,7 @@ use Rattle.tier_core.specs.declared.sym.Sym.{Sym}
 use Rattle.tier_core.specs.declared.constraint.Constraint.{Constraint}
 use Rattle.tier_core.specs.Orders.{IsFirst}
 use Rattle.tier_core.specs.Tiers.{Tiers}
-use Rattle.violation.specs.Candidates.{vec, IsLeastVector, IsOptimal}
+use Rattle.violation.specs.Candidates.{vec, IsLeastVector, IsOptimal, counts_on}
 use Rattle.tableau.specs.declared.table.Tableau.{Tableau}
 use Rattle.tableau.specs.declared.table.TableauRow.{TableauRow}
 use Rattle.violation.specs.Problems.{Problem}
@@ -21,7 +21,7 @@ pub record IsFirstWorse (least counts : List ℕ) (worse : ℕ) : Type 0 where
 -- A row has the violation vector of its timeline. Where the timeline is optimal it has no first worse
 -- constraint, and only there.
 pub record IsTableauRow (problem : Problem) (least : List ℕ) (row : TableauRow) : Type 0 where
-  pub counts : row.counts.items ≡ vec problem.constraints row.timeline
+  pub counts : row.counts.items ≡ counts_on problem row.timeline
   pub optimal : IsNone row.worse ↔ IsOptimal problem row.timeline
   pub worse : IfSome row.worse (IsFirstWorse least row.counts.items)
 

@@ -13,7 +13,7 @@ use Rattle.tier_core.specs.Tiers.{Tiers}
 use Rattle.tier_core.specs.Timelines.{word}
 use Rattle.tier_core.specs.Sides.{is_implication, has_edge_type, is_stretch, edge_among}
 use Rattle.tier_core.proofs.CountLemmas.{bit, all_weaker, all_append}
-use Rattle.violation.specs.Candidates.{IsForm, IsCandidate, vec}
+use Rattle.violation.specs.Candidates.{IsForm, IsCandidate, vec, counts_on}
 use Rattle.violation.specs.Conditions.{AreSplit, IsOverTiers, IsCountable}
 use Rattle.violation.specs.Counts.{violations_of, violations_so_far, so_far, viol}
 use Rattle.violation.specs.Moves.{costs, costs_each, first_phase, is_tier_open, move_costs, moved, is_final}
@@ -176,7 +176,7 @@ module _ (problem : Problem) (r : ℕ) (split : AreSplit problem.tiers) (form : 
       ∙ ap (λ k. add_each (map (λ c. violations_so_far c T (length p)) (take r problem.constraints)) (add_each (move_costs problem r (kind_of problem r p) column) (walk_costs problem r k q))) (sym next)
 
   -- The moves of a candidate cost in all what it violates of the first r constraints.
-  pub costs_sum : (T : List (List Sym)) → IsCandidate problem T → take r (vec problem.constraints T) ≡ walk_costs problem r (kind_of problem r []) T
+  pub costs_sum : (T : List (List Sym)) → IsCandidate problem T → take r (counts_on problem T) ≡ walk_costs problem r (kind_of problem r []) T
   costs_sum T c =
       take-map (λ c. violations_of c T) r problem.constraints
       ∙ costs_on T [] T refl c

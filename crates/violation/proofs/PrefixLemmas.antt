@@ -20,7 +20,7 @@ use Rattle.violation.specs.Prefixes.{is_open, kind_of}
 use Rattle.violation.proofs.OpenLemmas.{reads, reads_append, reads_take, open_read, take_word}
 use Rattle.violation.proofs.PlaceLemmas.{input_open}
 use Rattle.violation.proofs.TierLemmas.{flag_in, flag_out}
-use Rattle.violation.specs.Problems.{Problem}
+use Rattle.violation.specs.Problems.{Problem, last_place}
 
 -- the squeezed input part
 abbrev pub input_part : Tiers → List (List Sym) → List (List Sym)
@@ -87,7 +87,7 @@ module _ (problem : Problem) (split : AreSplit problem.tiers) (form : IsForm pro
   -- one column more, where its symbols fit
   pub begun_more : (p : List (List Sym)) (column : List Sym) → IsBegun problem p
       → length column ≡ problem.tiers.width → ((t : ℕ) → t < problem.tiers.width → fits (is_open (word p t)) (symbol column t) ≡ true) → IsTrue (has_edge column)
-      → (has_edge (input_of problem.tiers column) ≡ false) ⊎ ((length (input_part problem.tiers p) < length problem.form) × (input_of problem.tiers column ≡ column_at problem.form (length (input_part problem.tiers p))))
+      → (has_edge (input_of problem.tiers column) ≡ false) ⊎ ((length (input_part problem.tiers p) < last_place problem) × (input_of problem.tiers column ≡ column_at problem.form (length (input_part problem.tiers p))))
       → IsBegun problem (p ++ column ∷ [])
   begun_more p column b width symbols edge input = record {
     one_width = all_append _ p (column ∷ []) b.one_width (width, tt);
@@ -100,7 +100,7 @@ module _ (problem : Problem) (split : AreSplit problem.tiers) (form : IsForm pro
   }
     where
       by_edge : (e : Bool) → has_edge (input_of problem.tiers column) ≡ e
-          → (has_edge (input_of problem.tiers column) ≡ false) ⊎ ((length (input_part problem.tiers p) < length problem.form) × (input_of problem.tiers column ≡ column_at problem.form (length (input_part problem.tiers p))))
+          → (has_edge (input_of problem.tiers column) ≡ false) ⊎ ((length (input_part problem.tiers p) < last_place problem) × (input_of problem.tiers column ≡ column_at problem.form (length (input_part problem.tiers p))))
           → input_part problem.tiers (p ++ column ∷ []) ≡ take (length (input_part problem.tiers (p ++ column ∷ []))) problem.form
       by_edge false e i =
           let same : input_part problem.tiers (p ++ column ∷ []) ≡ input_part problem.tiers p =

@@ -5,7 +5,7 @@ use Rattle.std.proofs.lemmas.List.Elements.{All-from_recursion, recursion_from_A
 use Rattle.tier_core.specs.declared.sym.Sym.{Sym}
 use Rattle.tier_core.specs.declared.constraint.Constraint.{Constraint}
 use Rattle.tier_core.specs.Tiers.{Tiers}
-use Rattle.violation.specs.Candidates.{vec, IsCandidate, IsOptimalFor}
+use Rattle.violation.specs.Candidates.{vec, IsCandidate, IsOptimalFor, counts_on}
 use Rattle.violation.specs.Conditions.{IsOverTiers}
 use Rattle.violation.specs.Prefixes.{stretches}
 use Rattle.tier_core.specs.Sides.{is_stretch}
@@ -21,7 +21,7 @@ all_optimal problem T c = record { candidate = c; least = λ U d. refl }
 pub optimal_for_fewer : (problem : Problem) (n m : ℕ) → n ≤ m → (T : List (List Sym)) → IsOptimalFor problem m T → IsOptimalFor problem n T
 optimal_for_fewer problem n m l T opt = record {
   candidate = opt.candidate;
-  least = λ U c. at_most_fewer n m (vec problem.constraints T) (vec problem.constraints U) l (opt.least U c);
+  least = λ U c. at_most_fewer n m (counts_on problem T) (counts_on problem U) l (opt.least U c);
 }
 
 module _ (problem : Problem) (r : ℕ) (stage : IsStage problem r) where

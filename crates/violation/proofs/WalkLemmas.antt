@@ -23,7 +23,7 @@ use Rattle.violation.proofs.OpenLemmas.{open_read, runs_reads, runs_closed, runs
 use Rattle.violation.proofs.PrefixLemmas.{input_part, input_append, IsBegun, nothing_begun, begun_more, tier_open_is}
 use Rattle.violation.proofs.CompletionLemmas.{open_after_more, ended_candidate, completed}
 use Rattle.violation.proofs.TierLemmas.{map_agree}
-use Rattle.violation.specs.Problems.{Problem}
+use Rattle.violation.specs.Problems.{Problem, last_place}
 
 pub all_split : {X : Type 0} (P : X → Type 0) (xs ys : List X) → AllByRecursion P (xs ++ ys) → AllByRecursion P xs × AllByRecursion P ys
 all_split P [] ys h = (tt, h)
@@ -64,7 +64,7 @@ module _ (problem : Problem) (r : ℕ) (split : AreSplit problem.tiers) (form : 
       begun = begun_of problem p (column ∷ q) c
 
       by_edge : (e : Bool) → has_edge (input_of problem.tiers column) ≡ e
-          → (has_edge (input_of problem.tiers column) ≡ false) ⊎ ((length (input_part problem.tiers p) < length problem.form) × (input_of problem.tiers column ≡ column_at problem.form (length (input_part problem.tiers p))))
+          → (has_edge (input_of problem.tiers column) ≡ false) ⊎ ((length (input_part problem.tiers p) < last_place problem) × (input_of problem.tiers column ≡ column_at problem.form (length (input_part problem.tiers p))))
       by_edge false e = inl e
       by_edge true e =
           let all : problem.form ≡ input_part problem.tiers p ++ input_of problem.tiers column ∷ input_part problem.tiers q =
@@ -145,7 +145,7 @@ module _ (problem : Problem) (r : ℕ) (split : AreSplit problem.tiers) (form : 
 
   pub candidate_final : (T : List (List Sym)) → IsCandidate problem T → IsTrue (is_final problem (kind_of problem r T))
   candidate_final T c =
-      and_from _ _ (eq-eqb (length (input_part problem.tiers T)) (length problem.form) (ap length c.input))
+      and_from _ _ (eq-eqb (length (input_part problem.tiers T)) (last_place problem) (ap length c.input))
       (not_from_false _ (any_none (λ flag. flag) (map (λ t. is_open (word T t)) problem.tiers.free) (all_map (λ flag. flag ≡ false) (λ t. is_open (word T t)) problem.tiers.free
       (all_weaker (λ t. t < problem.tiers.width) _ problem.tiers.free
       (λ t l.
@@ -155,7 +155,7 @@ module _ (problem : Problem) (r : ℕ) (split : AreSplit problem.tiers) (form : 
 
   pub final_candidate : (T : List (List Sym)) → IsBegun problem T → IsTrue (is_final problem (kind_of problem r T)) → IsCandidate problem T
   final_candidate T b f =
-      let parts : ((length (input_part problem.tiers T) == length problem.form) ≡ true) × (not (list_any (λ flag. flag) (map (λ t. is_open (word T t)) problem.tiers.free)) ≡ true) = and_parts _ _ f in
+      let parts : ((length (input_part problem.tiers T) == last_place problem) ≡ true) × (not (list_any (λ flag. flag) (map (λ t. is_open (word T t)) problem.tiers.free)) ≡ true) = and_parts _ _ f in
       ended_candidate problem split form T b (eqb-true _ _ parts.0) (not-true _ parts.1)
 
   -- From the kind of the empty prefix there is a move at each column exactly where the columns are a prefix of a candidate.

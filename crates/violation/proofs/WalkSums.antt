@@ -6,7 +6,7 @@ use Rattle.tier_core.specs.declared.constraint.Constraint.{Constraint}
 use Rattle.tier_core.specs.Tiers.{Tiers}
 use Rattle.tier_core.specs.Kinds.{Phase, PrefixKind}
 use Rattle.tier_core.specs.Sides.{is_stretch}
-use Rattle.violation.specs.Candidates.{IsCandidate, vec, vec_so_far}
+use Rattle.violation.specs.Candidates.{IsCandidate, vec, vec_so_far, counts_on, counts_so_far, count_at, count_so_far_at}
 use Rattle.violation.specs.Counts.{violations_of, violations_so_far}
 use Rattle.violation.specs.Moves.{costs_each, is_tier_open, moved, move_costs}
 use Rattle.violation.specs.Prefixes.{kind_of}
@@ -51,21 +51,21 @@ module _ (problem : Problem) (r : ℕ) (stage : IsStage problem r) where
     last = omega arith
 
     -- what a candidate violates of constraint r is what its walk costs under it
-    pub violations_walk : (T : List (List Sym)) → IsCandidate problem T → get_or (vec problem.constraints T) (r - 1) 0 ≡ walk_cost (r - 1) (kind_of problem r []) T
+    pub violations_walk : (T : List (List Sym)) → IsCandidate problem T → count_at problem r T ≡ walk_cost (r - 1) (kind_of problem r []) T
     violations_walk T c =
-        sym (get_or-take r (vec problem.constraints T) (r - 1) 0 last)
+        sym (get_or-take r (counts_on problem T) (r - 1) 0 last)
         ∙ ap (λ (ns : List ℕ). get_or ns (r - 1) 0) (costs_sum problem r stage.split stage.form (over_first problem r stage) T c)
 
     -- from a prefix on, it is what was violated so far and what the rest of the walk costs
     pub violations_on : (p q : List (List Sym)) → IsCandidate problem (p ++ q)
-        → get_or (vec problem.constraints (p ++ q)) (r - 1) 0 ≡ get_or (vec_so_far problem.constraints (p ++ q) (length p)) (r - 1) 0 + walk_cost (r - 1) (kind_of problem r p) q
+        → count_at problem r (p ++ q) ≡ count_so_far_at problem r (p ++ q) (length p) + walk_cost (r - 1) (kind_of problem r p) q
     violations_on p q c =
         let T : List (List Sym) = p ++ q in
         let so_far : List ℕ = map (λ x. violations_so_far x T (length p)) (take r problem.constraints) in
-        let same : take r (vec_so_far problem.constraints T (length p)) ≡ so_far = take-map (λ x. violations_so_far x T (length p)) r problem.constraints in
-        let cut : get_or so_far (r - 1) 0 ≡ get_or (vec_so_far problem.constraints T (length p)) (r - 1) 0 =
-        ap (λ (ns : List ℕ). get_or ns (r - 1) 0) (sym same) ∙ get_or-take r (vec_so_far problem.constraints T (length p)) (r - 1) 0 last in
-        sym (get_or-take r (vec problem.constraints T) (r - 1) 0 last)
+        let same : take r (counts_so_far problem T (length p)) ≡ so_far = take-map (λ x. violations_so_far x T (length p)) r problem.constraints in
+        let cut : get_or so_far (r - 1) 0 ≡ count_so_far_at problem r T (length p) =
+        ap (λ (ns : List ℕ). get_or ns (r - 1) 0) (sym same) ∙ get_or-take r (counts_so_far problem T (length p)) (r - 1) 0 last in
+        sym (get_or-take r (counts_on problem T) (r - 1) 0 last)
         ∙ ap (λ (ns : List ℕ). get_or ns (r - 1) 0) (take-map (λ x. violations_of x T) r problem.constraints)
         ∙ ap (λ (ns : List ℕ). get_or ns (r - 1) 0) (costs_on problem r stage.split stage.form (over_first problem r stage) q p T refl c)
         ∙ add_at so_far (walk_costs problem r (kind_of problem r p) q) (r - 1) (even q p)
@@ -75,7 +75,7 @@ module _ (problem : Problem) (r : ℕ) (stage : IsStage problem r) where
         even q p = length-map (take r problem.constraints) (λ x. violations_so_far x (p ++ q) (length p)) ∙ sym (length_walk problem r stage.split stage.form (over_first problem r stage) q (kind_of problem r p))
 
     -- what is violated so far is what the walk costs so far
-    pub so_far_walk : (p q : List (List Sym)) → IsCandidate problem (p ++ q) → get_or (vec_so_far problem.constraints (p ++ q) (length p)) (r - 1) 0 ≡ walk_cost (r - 1) (kind_of problem r []) p
+    pub so_far_walk : (p q : List (List Sym)) → IsCandidate problem (p ++ q) → count_so_far_at problem r (p ++ q) (length p) ≡ walk_cost (r - 1) (kind_of problem r []) p
     so_far_walk p q c =
         let moves : HasMoves problem r (kind_of problem r []) p = candidate_walk problem r stage.split stage.form (over_stretches problem r stage) p [] q c in
         let parts : walk_cost (r - 1) (kind_of problem r []) (p ++ q) ≡ walk_cost (r - 1) (kind_of problem r []) p + walk_cost (r - 1) (kind_of problem r p) q =

@@ -15,7 +15,7 @@ use Rattle.tier_core.specs.Sides.{has_edge_type, edge_among, is_stretch}
 use Rattle.violation.specs.Counts.{chosen}
 use Rattle.violation.specs.Columns.{is_present, opens_interior, opens_all, edge_cost}
 use Rattle.violation.specs.Prefixes.{is_open, stretches}
-use Rattle.violation.specs.Problems.{Problem}
+use Rattle.violation.specs.Problems.{Problem, last_place}
 
 -- the input part of a column
 abbrev pub input_of : Tiers → List Sym → List Sym
@@ -42,7 +42,7 @@ pub record FitsKind (problem : Problem) (k : PrefixKind) (column : List Sym) : T
   pub width : length column ≡ problem.tiers.width
   pub symbols : (t : ℕ) → t < problem.tiers.width → IsTrue (fits (is_tier_open problem k t) (symbol column t))
   pub edge : IsTrue (has_edge column)
-  pub input : (has_edge (input_of problem.tiers column) ≡ false) ⊎ ((k.place < length problem.form) × (input_of problem.tiers column ≡ column_at problem.form k.place))
+  pub input : (has_edge (input_of problem.tiers column) ≡ false) ⊎ ((k.place < last_place problem) × (input_of problem.tiers column ≡ column_at problem.form k.place))
 
 abbrev pub is_unmet_phase : Phase → Bool
 is_unmet_phase closed = false
@@ -120,4 +120,4 @@ cut problem r k = record {
 
 -- A kind is final where PLACE is the form's number of columns and no free tier is open.
 abbrev pub is_final : Problem → PrefixKind → Bool
-is_final problem k = (k.place == length problem.form) && not (list_any (λ flag. flag) k.opened)
+is_final problem k = (k.place == last_place problem) && not (list_any (λ flag. flag) k.opened)

@@ -12,7 +12,8 @@ use Rattle.tier_core.specs.Words.{starts, ends, next_end}
 use Rattle.tier_core.specs.Timelines.{word, column_at, project, squeeze}
 use Rattle.tier_core.specs.Events.{Interval, meet, is_there}
 use Rattle.tier_core.specs.Tiers.{Tiers}
-use Rattle.tier_core.specs.Kinds.{Phase, closed, unmet, met, PrefixKind}
+use Rattle.tier_core.specs.declared.kind.Kind.{Kind}
+use Rattle.tier_core.specs.Kinds.{Phase, closed, unmet, met, PrefixKind, prefix_kind}
 use Rattle.tier_core.specs.Sides.{edge_among, is_stretch}
 use Rattle.violation.specs.Problems.{Problem}
 
@@ -67,3 +68,7 @@ kind_of problem r p = record {
   opened = map (λ t. is_open (word p t)) problem.tiers.free;
   phases = map (λ c. phase c.left c.right p) (stretches problem r);
 }
+
+-- the kind that bits tell under the first r constraints
+abbrev pub kind_of_bits : Problem → ℕ → Kind → PrefixKind
+kind_of_bits problem r kind = prefix_kind (length problem.tiers.free) (length (stretches problem r)) kind

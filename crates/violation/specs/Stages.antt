@@ -7,17 +7,17 @@ use Rattle.tier_core.specs.declared.sym.Sym.{Sym}
 use Rattle.tier_core.specs.declared.constraint.Constraint.{Constraint}
 use Rattle.tier_core.specs.Tiers.{Tiers}
 use Rattle.tier_core.specs.Kinds.{PrefixKind, kind_order}
-use Rattle.violation.specs.Candidates.{vec, vec_so_far, IsForm, IsOptimalFor}
+use Rattle.violation.specs.Candidates.{vec, vec_so_far, IsForm, IsOptimalFor, count_at, count_so_far_at}
 use Rattle.violation.specs.Conditions.{AreSplit, IsOverTiers}
 use Rattle.violation.specs.Prefixes.{kind_of}
-use Rattle.violation.specs.Problems.{Problem}
+use Rattle.violation.specs.Problems.{Problem, last_stage}
 
 -- what every stage of a grammar and a form meets: stage r looks at the first r constraints
 pub record IsStage (problem : Problem) (r : ℕ) : Type 0 where
   pub split : AreSplit problem.tiers
   pub form : IsForm problem.tiers problem.form
   pub over : AllByRecursion (IsOverTiers problem.tiers.width) problem.constraints
-  pub within : r ≤ length problem.constraints
+  pub within : r ≤ last_stage problem
 
 -- T is r-optimal, and its first n columns have the kind k under the first s constraints
 pub record Passes (problem : Problem) (r s : ℕ) (k : PrefixKind) (T : List (List Sym)) (n : ℕ) : Type 0 where
@@ -45,9 +45,9 @@ pub record AreKindsOfStage (problem : Problem) (r : ℕ) (ks : List PrefixKind) 
 -- the first n columns, over the (r-1)-optimal T whose first n columns have the kind k
 pub record IsLeastRest (problem : Problem) (r : ℕ) (k : PrefixKind) (m : ℕ) : Type 0 where
   pub some : (T : List (List Sym)) × ((n : ℕ) × (Passes problem (r - 1) r k T n
-      × (slice_index_or (vec problem.constraints T) (r - 1) 0 ≡ slice_index_or (vec_so_far problem.constraints T n) (r - 1) 0 + m)))
+      × (count_at problem r T ≡ count_so_far_at problem r T n + m)))
   pub least : (T : List (List Sym)) (n : ℕ) → Passes problem (r - 1) r k T n
-      → slice_index_or (vec_so_far problem.constraints T n) (r - 1) 0 + m ≤ slice_index_or (vec problem.constraints T) (r - 1) 0
+      → count_so_far_at problem r T n + m ≤ count_at problem r T
 
 -- m is what remains at stage r from the kind k: 0 at stage 0, and later the least rest
 abbrev pub IsRemaining : Problem → ℕ → PrefixKind → ℕ → Type 0

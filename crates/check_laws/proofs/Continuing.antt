@@ -23,7 +23,7 @@ use Rattle.violation.proofs.WalkSums.{walk_cost}
 use Rattle.answer_text.specs.declared.answer.Answer.{Answer}
 use Rattle.answer_text.specs.declared.stage.Node.{Node}
 use Rattle.answer_text.specs.Right.{nodes_at, IsRight}
-use Rattle.answer_text.specs.Shown.{Lists, IsKeptBelow, IsShownStage}
+use Rattle.answer_text.specs.Certified.{Lists, IsKeptBelow, IsCertifiedStage}
 use Rattle.check_laws.proofs.Listing.{lists_kind, kind_listed, first_listed}
 use Rattle.check_laws.proofs.Potentials.{FallsAlong, stage_at, over_at, falls_from_tight, falls_parts, falls_joined, listed_on, rest_cost, falls_from_sum}
 use Rattle.check_laws.proofs.Joining.{falls_alike}
@@ -35,7 +35,7 @@ use Rattle.violation.specs.Problems.{Problem, last_stage}
 pub record IsGiven (problem : Problem) (answer : Answer) : Type 0 where
   pub split : AreSplit problem.tiers
   pub over : AllByRecursion (IsOverTiers problem.tiers.width) problem.constraints
-  pub form : IsForm problem.tiers answer.form
+  pub form : IsForm problem.tiers problem.form
   pub right : IsRight problem answer
 
 -- kinds that are the same under more constraints are so under fewer
@@ -58,7 +58,7 @@ module _ (problem : Problem) (answer : Answer) (given : IsGiven problem answer) 
   pub listed_by : (r : ℕ) → r ≤ last_stage problem → (k : PrefixKind) → IsKindOfStage problem r k → (p : ℕ) × Lists problem answer.stages.items r k p
   listed_by r w k h = kind_listed problem r answer.stages.items k (((given.right.each_stage r w).kinds.members k).1 h)
 
-  pub told_by : (r : ℕ) → r ≤ last_stage problem → ((j : ℕ) → 1 ≤ j → j ≤ r → IsShownStage problem answer.counts.items answer.stages.items j) → AreTold problem answer.stages.items answer.example r
+  pub told_by : (r : ℕ) → r ≤ last_stage problem → ((j : ℕ) → 1 ≤ j → j ≤ r → IsCertifiedStage problem answer.counts.items answer.stages.items j) → AreTold problem answer.stages.items answer.example r
   told_by = all_told problem answer.stages.items given.split given.form given.over answer.counts.items answer.example given.right.example.member.candidate counts_are
 
   -- where the potentials fall along an optimal candidate, they do so along its prefix and after it
@@ -94,18 +94,18 @@ module _ (problem : Problem) (answer : Answer) (given : IsGiven problem answer) 
       p begins.0 v q begins.1 c (sym same)
 
   -- one stage more
-  module _ (s : ℕ) (ranked : 1 ≤ s) (within : s ≤ last_stage problem) (shown : (j : ℕ) → 1 ≤ j → j ≤ s → IsShownStage problem answer.counts.items answer.stages.items j)
+  module _ (s : ℕ) (ranked : 1 ≤ s) (within : s ≤ last_stage problem) (certified : (j : ℕ) → 1 ≤ j → j ≤ s → IsCertifiedStage problem answer.counts.items answer.stages.items j)
       (p : List (List Sym)) (begins : BeginsCandidate problem p) (falls : AllFall problem answer.stages.items s p) where
-    last_shown : IsShownStage problem answer.counts.items answer.stages.items s
-    last_shown = shown s ranked (omega arith)
+    last_certified : IsCertifiedStage problem answer.counts.items answer.stages.items s
+    last_certified = certified s ranked (omega arith)
 
     told_before : AreTold problem answer.stages.items answer.example (s - 1)
-    told_before = told_by (s - 1) (omega arith) (λ j a b. shown j a (omega arith))
+    told_before = told_by (s - 1) (omega arith) (λ j a b. certified j a (omega arith))
 
     here : (e : ℕ) × Lists problem answer.stages.items s (kind_of problem s p) e
     here =
-        listed_on problem answer.stages.items given.split given.form given.over answer.counts.items s within last_shown p [] begins.0 begins.1
-        (λ j a b. falls j a (omega arith)) (first_listed problem s answer.stages.items (kind_of problem s []) last_shown.first)
+        listed_on problem answer.stages.items given.split given.form given.over answer.counts.items s within last_certified p [] begins.0 begins.1
+        (λ j a b. falls j a (omega arith)) (first_listed problem s answer.stages.items (kind_of problem s []) last_certified.first)
 
     rest : HasRest problem s (stage_at problem answer.stages.items given.split given.form given.over s within) (kind_of problem s p) here.0
     rest =
@@ -122,12 +122,12 @@ module _ (problem : Problem) (answer : Answer) (given : IsGiven problem answer) 
 
     pub goes_on_more : (q : List (List Sym)) × IsOptimalFor problem s (p ++ q)
     goes_on_more =
-        let sum : rest_cost problem answer.stages.items given.split given.form given.over answer.counts.items s within last_shown ranked p rest.rest ≡ here.0 =
+        let sum : rest_cost problem answer.stages.items given.split given.form given.over answer.counts.items s within last_certified ranked p rest.rest ≡ here.0 =
         ap (λ k. walk_cost problem s (stage_at problem answer.stages.items given.split given.form given.over s within) (s - 1) k rest.rest) (sym rest.of_kind) ∙ rest.costs in
         let last : FallsAlong problem answer.stages.items s p rest.rest =
-        falls_from_sum problem answer.stages.items given.split given.form given.over answer.counts.items s within last_shown ranked rest.rest p here.0 candidate here.1 after sum in (
+        falls_from_sum problem answer.stages.items given.split given.form given.over answer.counts.items s within last_certified ranked rest.rest p here.0 candidate here.1 after sum in (
           rest.rest,
-          ((told_by s within shown).optimal (p ++ rest.rest) candidate).1
+          ((told_by s within certified).optimal (p ++ rest.rest) candidate).1
               (λ j a b. falls_joined problem answer.stages.items j p [] rest.rest (falls j a b)
               (elim (cases_lt j s) [
                 | inl l ↦ after j a l
@@ -136,7 +136,7 @@ module _ (problem : Problem) (answer : Answer) (given : IsGiven problem answer) 
         )
 
   -- A prefix along which the potentials of the stages up to s fall goes on to an s-optimal candidate.
-  pub goes_on : (s : ℕ) → s ≤ last_stage problem → ((j : ℕ) → 1 ≤ j → j ≤ s → IsShownStage problem answer.counts.items answer.stages.items j)
+  pub goes_on : (s : ℕ) → s ≤ last_stage problem → ((j : ℕ) → 1 ≤ j → j ≤ s → IsCertifiedStage problem answer.counts.items answer.stages.items j)
       → (p : List (List Sym)) → BeginsCandidate problem p → AllFall problem answer.stages.items s p → (q : List (List Sym)) × IsOptimalFor problem s (p ++ q)
-  goes_on zero w shown p begins falls = (begins.0, all_optimal problem (p ++ begins.0) begins.1)
-  goes_on (suc i) w shown p begins falls = goes_on_more (suc i) (omega arith) w shown p begins falls
+  goes_on zero w certified p begins falls = (begins.0, all_optimal problem (p ++ begins.0) begins.1)
+  goes_on (suc i) w certified p begins falls = goes_on_more (suc i) (omega arith) w certified p begins falls

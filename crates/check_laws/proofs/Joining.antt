@@ -9,7 +9,7 @@ use Rattle.violation.specs.Conditions.{AreSplit, IsOverTiers}
 use Rattle.violation.specs.Moves.{moved, cost_of}
 use Rattle.violation.specs.Prefixes.{kind_of}
 use Rattle.answer_text.specs.declared.stage.Stage.{Stage}
-use Rattle.answer_text.specs.Shown.{Lists}
+use Rattle.answer_text.specs.Certified.{Lists}
 use Rattle.check_laws.proofs.Potentials.{FallsOn, FallsAlong, goes_to, as_longer, one_more}
 use Rattle.violation.specs.Problems.{Problem, last_stage}
 

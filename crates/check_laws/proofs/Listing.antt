@@ -17,7 +17,7 @@ use Rattle.violation.specs.Prefixes.{stretches, kind_of_bits}
 use Rattle.answer_text.specs.declared.stage.Node.{Node}
 use Rattle.answer_text.specs.declared.stage.Stage.{Stage}
 use Rattle.answer_text.specs.Right.{nodes_at, kinds_at, IsNodeOf}
-use Rattle.answer_text.specs.Shown.{Lists}
+use Rattle.answer_text.specs.Certified.{Lists}
 use Rattle.check_laws.proofs.Members.{contains_map, contains_of_map}
 use Rattle.violation.specs.Problems.{Problem, last_stage}
 

@@ -1,4 +1,4 @@
--- What the stages of a shown answer tell: which candidates are optimal.
+-- What the stages of a certified answer tell: which candidates are optimal.
 use Rattle.std.proofs.Common.{◌≡◌, ◌↔◌, ℕ, zero, suc, ◌-◌, ◌<◌, ◌≤◌, List, [], take, length, get_or, refl, sym, ap, ◌∙◌, subst, arith, inl, inr}
 use Rattle.std.specs.List.{AllByRecursion}
 use Rattle.std.specs.declared.cmp.Ordering.TheVariants.{Equal}
@@ -15,7 +15,7 @@ use Rattle.violation.proofs.StageLemmas.{all_optimal, optimal_for_fewer}
 use Rattle.violation.proofs.VectorLemmas.{both_equal, equal_at_most, at_most_last, at_most_by_last}
 use Rattle.violation.proofs.WalkSums.{violations_walk}
 use Rattle.answer_text.specs.declared.stage.Stage.{Stage}
-use Rattle.answer_text.specs.Shown.{Lists, start_potential, IsShownStage}
+use Rattle.answer_text.specs.Certified.{Lists, start_potential, IsCertifiedStage}
 use Rattle.check_laws.proofs.Listing.{first_listed}
 use Rattle.check_laws.proofs.Potentials.{FallsAlong, stage_at, rest_cost, bound, falls_from_sum, sum_from_falls}
 use Rattle.violation.specs.Problems.{Problem, last_stage}
@@ -34,7 +34,7 @@ pub record AreTold (problem : Problem) (stages : List Stage) (example : List (Li
   pub shares : IsOptimalFor problem r example
 
 module _ (problem : Problem) (stages : List Stage) (split : AreSplit problem.tiers) (form : IsForm problem.tiers problem.form) (over : AllByRecursion (IsOverTiers problem.tiers.width) problem.constraints) (counts : List ℕ) (example : List (List Sym)) (candidate : IsCandidate problem example) (counted : counts ≡ counts_on problem example) where
-  module _ (r : ℕ) (within : r ≤ last_stage problem) (shown : IsShownStage problem counts stages r) (ranked : 1 ≤ r) (told : AreTold problem stages example (r - 1)) where
+  module _ (r : ℕ) (within : r ≤ last_stage problem) (certified : IsCertifiedStage problem counts stages r) (ranked : 1 ≤ r) (told : AreTold problem stages example (r - 1)) where
     -- the violations of constraint r
     abbrev count : List (List Sym) → ℕ
     count T = count_at problem r T
@@ -43,22 +43,22 @@ module _ (problem : Problem) (stages : List Stage) (split : AreSplit problem.tie
     long T = omega (arith, within, length-map problem.constraints (λ c. violations_of c T))
 
     first : (e : ℕ) × Lists problem stages r (kind_of problem r []) e
-    first = first_listed problem r stages (kind_of problem r []) shown.first
+    first = first_listed problem r stages (kind_of problem r []) certified.first
 
     first_is : first.0 ≡ count example
-    first_is = shown.start first.0 first.1 ∙ start_count counts r ranked ∙ ap (λ (v : List ℕ). get_or v (r - 1) 0) counted
+    first_is = certified.start first.0 first.1 ∙ start_count counts r ranked ∙ ap (λ (v : List ℕ). get_or v (r - 1) 0) counted
 
     fall_before : (T : List (List Sym)) → IsOptimalFor problem (r - 1) T → (j : ℕ) → 1 ≤ j → j < r → FallsAlong problem stages j [] T
     fall_before T o j a b = (told.optimal T o.candidate).0 o j a (omega arith)
 
-    walk : (T : List (List Sym)) → IsCandidate problem T → count T ≡ rest_cost problem stages split form over counts r within shown ranked [] T
+    walk : (T : List (List Sym)) → IsCandidate problem T → count T ≡ rest_cost problem stages split form over counts r within certified ranked [] T
     walk T c = violations_walk problem r (stage_at problem stages split form over r within) ranked T c
 
     -- what the constraints before leave has at least the example's count
     at_least : (T : List (List Sym)) → IsOptimalFor problem (r - 1) T → count example ≤ count T
     at_least T o =
-        let low : first.0 ≤ rest_cost problem stages split form over counts r within shown ranked [] T =
-        bound problem stages split form over counts r within shown ranked T [] first.0 o.candidate first.1 (fall_before T o) in
+        let low : first.0 ≤ rest_cost problem stages split form over counts r within certified ranked [] T =
+        bound problem stages split form over counts r within certified ranked T [] first.0 o.candidate first.1 (fall_before T o) in
         omega (arith, low, first_is, walk T o.candidate)
 
     -- and with that count it is r-optimal
@@ -89,14 +89,14 @@ module _ (problem : Problem) (stages : List Stage) (split : AreSplit problem.tie
           | inr l ↦
               (let here : r ≡ j = omega arith in
               subst (λ i. FallsAlong problem stages i [] T) here
-              (falls_from_sum problem stages split form over counts r within shown ranked T [] first.0 o.candidate first.1 (fall_before T before)
+              (falls_from_sum problem stages split form over counts r within certified ranked T [] first.0 o.candidate first.1 (fall_before T before)
               (sym (walk T o.candidate) ∙ has_count T o ∙ sym first_is)))
         ]
 
     optimal_from_falls : (T : List (List Sym)) → IsCandidate problem T → AllFall problem stages r T → IsOptimalFor problem r T
     optimal_from_falls T c f =
         with_count T ((told.optimal T c).1 (λ j a b. f j a (omega arith)))
-        (walk T c ∙ sum_from_falls problem stages split form over counts r within shown ranked T [] first.0 c first.1 (f r ranked (omega arith)) ∙ first_is)
+        (walk T c ∙ sum_from_falls problem stages split form over counts r within certified ranked T [] first.0 c first.1 (f r ranked (omega arith)) ∙ first_is)
 
     pub told_more : AreTold problem stages example r
     told_more = record {
@@ -104,8 +104,8 @@ module _ (problem : Problem) (stages : List Stage) (split : AreSplit problem.tie
       shares = with_count example told.shares refl;
     }
 
-  -- The stages from 1 to r tell the r-optimal candidates where they are shown.
-  pub all_told : (r : ℕ) → r ≤ last_stage problem → ((j : ℕ) → 1 ≤ j → j ≤ r → IsShownStage problem counts stages j) → AreTold problem stages example r
+  -- The stages from 1 to r tell the r-optimal candidates where they are certified.
+  pub all_told : (r : ℕ) → r ≤ last_stage problem → ((j : ℕ) → 1 ≤ j → j ≤ r → IsCertifiedStage problem counts stages j) → AreTold problem stages example r
   all_told zero w s = record {
     optimal = λ T c. (λ o j a b. absurd (omega arith), λ f. all_optimal problem T c);
     shares = all_optimal problem example candidate;

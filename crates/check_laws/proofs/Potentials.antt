@@ -15,7 +15,7 @@ use Rattle.violation.proofs.StageLemmas.{over_stretches}
 use Rattle.violation.proofs.WalkLemmas.{fits_next, moved_is, candidate_final}
 use Rattle.violation.proofs.WalkSums.{none_at, walk_cost, walk_step}
 use Rattle.answer_text.specs.declared.stage.Stage.{Stage}
-use Rattle.answer_text.specs.Shown.{Lists, IsTightAt, IsKeptBelow, IsShownStage}
+use Rattle.answer_text.specs.Certified.{Lists, IsTightAt, IsKeptBelow, IsCertifiedStage}
 use Rattle.check_laws.proofs.Listing.{one_potential}
 use Rattle.violation.specs.Problems.{Problem, last_stage}
 
@@ -97,13 +97,13 @@ module _ (problem : Problem) (stages : List Stage) (split : AreSplit problem.tie
     tight = λ j a b. tight_from_falls j s (omega arith) w p column (one_more p column q c) (f j a b);
   }
 
-  module _ (counts : List ℕ) (r : ℕ) (within : r ≤ last_stage problem) (shown : IsShownStage problem counts stages r) where
+  module _ (counts : List ℕ) (r : ℕ) (within : r ≤ last_stage problem) (certified : IsCertifiedStage problem counts stages r) where
     -- a kept move leads to a kind that is listed
     step_on : (p : List (List Sym)) (column : List Sym) (q : List (List Sym)) (e : ℕ) → IsCandidate problem (p ++ column ∷ q) → Lists problem stages r (kind_of problem r p) e
         → ((j : ℕ) → 1 ≤ j → j < r → FallsOn problem stages j p column)
         → (n : ℕ) × (Lists problem stages r (kind_of problem r (p ++ column ∷ [])) n × (e ≤ cost_of problem r (kind_of problem r p) column + n))
     step_on p column q e c l f =
-        let next = shown.goes_on (kind_of problem r p) e column l (kept_from_falls r r (omega arith) within p column q c f) in
+        let next = certified.goes_on (kind_of problem r p) e column l (kept_from_falls r r (omega arith) within p column q c f) in
         (next.0, (subst (λ k. Lists problem stages r k next.0) (goes_to r within p column (one_more p column q c)) next.1.0, next.1.1))
 
     -- so each kind on the way is
@@ -131,7 +131,7 @@ module _ (problem : Problem) (stages : List Stage) (split : AreSplit problem.tie
       -- at the end the potential is 0
       end_zero : (p : List (List Sym)) (e : ℕ) → IsCandidate problem (p ++ []) → Lists problem stages r (kind_of problem r p) e → e ≡ 0
       end_zero p e c l =
-          shown.final (kind_of problem r p) e l (candidate_final problem r split form (over_at r within) p (subst (IsCandidate problem) (append-nil p) c))
+          certified.final (kind_of problem r p) e l (candidate_final problem r split form (over_at r within) p (subst (IsCandidate problem) (append-nil p) c))
 
       -- a potential is at most what the rest costs
       pub bound : (q p : List (List Sym)) (e : ℕ) → IsCandidate problem (p ++ q) → Lists problem stages r (kind_of problem r p) e → ((j : ℕ) → 1 ≤ j → j < r → FallsAlong problem stages j p q)
@@ -160,6 +160,6 @@ module _ (problem : Problem) (stages : List Stage) (split : AreSplit problem.tie
       sum_from_falls [] p e c l f = rest_none p ∙ sym (end_zero p e c l)
       sum_from_falls (column ∷ q) p e c l f =
           let here = f.0 in
-          let same : e ≡ here.before = one_potential problem r stages shown.ascending (kind_of problem r p) e here.before l here.leaves in
+          let same : e ≡ here.before = one_potential problem r stages certified.ascending (kind_of problem r p) e here.before l here.leaves in
           let rest : rest_cost (p ++ column ∷ []) q ≡ here.after = sum_from_falls q (p ++ column ∷ []) here.after (as_longer p column q c) here.arrives f.1 in
           omega (arith, same, rest, here.falls, rest_step p column q c)

@@ -1,4 +1,4 @@
--- What a shown automaton reads: exactly the candidates along which the potentials of all stages fall.
+-- What a certified automaton reads: exactly the candidates along which the potentials of all stages fall.
 use Rattle.std.proofs.Common.{◌≡◌, ℕ, ◌+◌, ◌≤◌, true, List, [], ◌∷◌, ◌++◌, length, refl, sym, ◌∙◌, subst, arith, append-nil, append_assoc, All, Contains}
 use Rattle.std.specs.List.{AllByRecursion}
 use Rattle.std.proofs.lemmas.List.Elements.{All-contains}
@@ -20,7 +20,7 @@ use Rattle.answer_text.specs.declared.stage.Node.{Node}
 use Rattle.answer_text.specs.declared.stage.Stage.{Stage}
 use Rattle.answer_text.specs.Acceptance.{HasArc, IsFinalState, Leads, Accepts}
 use Rattle.answer_text.specs.Right.{nodes_at, IsNodeOf, numbers_of}
-use Rattle.answer_text.specs.Shown.{IsKeptBelow, IsShownStage, IsShownAutomaton}
+use Rattle.answer_text.specs.Certified.{IsKeptBelow, IsCertifiedStage, IsCertifiedAutomaton}
 use Rattle.check_laws.proofs.Members.{contains_of_map}
 use Rattle.check_laws.proofs.Listing.{lists_kind, kind_listed, kind_numbered, numbered_kind, first_numbered}
 use Rattle.check_laws.proofs.Potentials.{FallsOn, FallsAlong, over_at, goes_to, as_longer, one_more, falls_from_tight, kept_from_falls}
@@ -35,7 +35,7 @@ pub record IsAt (problem : Problem) (nodes : List Node) (states : List StateLine
 abbrev pub AllAlong : Problem → List Stage → List (List Sym) → List (List Sym) → Type 0
 AllAlong problem stages p q = (j : ℕ) → 1 ≤ j → j ≤ last_stage problem → FallsAlong problem stages j p q
 
-module _ (problem : Problem) (stages : List Stage) (split : AreSplit problem.tiers) (form : IsForm problem.tiers problem.form) (over : AllByRecursion (IsOverTiers problem.tiers.width) problem.constraints) (counts : List ℕ) (shown : IsShownStage problem counts stages (last_stage problem)) (states : List StateLine) (automaton : IsShownAutomaton problem stages states) where
+module _ (problem : Problem) (stages : List Stage) (split : AreSplit problem.tiers) (form : IsForm problem.tiers problem.form) (over : AllByRecursion (IsOverTiers problem.tiers.width) problem.constraints) (counts : List ℕ) (certified : IsCertifiedStage problem counts stages (last_stage problem)) (states : List StateLine) (automaton : IsCertifiedAutomaton problem stages states) where
   abbrev last : ℕ
   last = last_stage problem
 
@@ -46,7 +46,7 @@ module _ (problem : Problem) (stages : List Stage) (split : AreSplit problem.tie
   whole = omega arith
 
   start : IsAt problem nodes states 0 []
-  start = record { state = automaton.start; tells = first_numbered problem nodes (kind_of problem last []) shown.first }
+  start = record { state = automaton.start; tells = first_numbered problem nodes (kind_of problem last []) certified.first }
 
   target_state : (n m : ℕ) (column : List Sym) → HasArc states n m column → Contains (numbers_of states) m
   target_state n m column a =
@@ -107,7 +107,7 @@ module _ (problem : Problem) (stages : List Stage) (split : AreSplit problem.tie
       let kept_last : IsKeptBelow problem stages (last + 1) k column =
       kept_from_falls problem stages split form over (last + 1) last (omega arith) whole p column q c (λ j a l. (f j a (omega arith)).0) in
       let here = kind_listed problem last stages k (numbered_kind problem nodes n k at.tells) in
-      let next = shown.goes_on k here.0 column here.1 kept in
+      let next = certified.goes_on k here.0 column here.1 kept in
       let node = kind_numbered problem nodes (moved problem last k column) (lists_kind problem last stages (moved problem last k column) next.0 next.1.0) in
       let arc : HasArc states n node.0 column = (automaton.arcs n node.0 k column at.state at.tells).1 (kept_last, node.1) in
       let more : BeginsCandidate problem (p ++ column ∷ []) = one_more problem stages split form over p column q c in

@@ -1,4 +1,4 @@
--- The stages of a right answer are shown.
+-- The stages of a right answer are certified.
 use Rattle.std.proofs.Common.{◌≡◌, ℕ, zero, suc, ◌+◌, ◌-◌, ◌<◌, ◌≤◌, IsTrue, List, [], ◌∷◌, ◌++◌, take, drop, length, get_or, refl, sym, ap, ◌∙◌, subst, arith, inl, inr, append-nil, append_assoc, take_at, All, Contains, Some, slice_get}
 use Rattle.std.proofs.lemmas.Bool.{cases_lt}
 use Rattle.std.proofs.lemmas.List.{length-append, length-map, take-append-drop}
@@ -20,7 +20,7 @@ use Rattle.violation.proofs.WalkLemmas.{begun_of, final_candidate}
 use Rattle.violation.proofs.WalkSums.{none_at, walk_cost, walk_step, violations_walk}
 use Rattle.answer_text.specs.declared.answer.Answer.{Answer}
 use Rattle.answer_text.specs.Right.{nodes_at, kinds_at}
-use Rattle.answer_text.specs.Shown.{Lists, IsKeptBelow, IsPossibleKind, start_potential, IsShownStage}
+use Rattle.answer_text.specs.Certified.{Lists, IsKeptBelow, IsPossibleKind, start_potential, IsCertifiedStage}
 use Rattle.check_laws.proofs.Members.{all_from_members}
 use Rattle.check_laws.proofs.Potentials.{stage_at, over_at, goes_to}
 use Rattle.check_laws.proofs.Optima.{start_count, AllFall, AreTold}
@@ -56,11 +56,11 @@ module _ (problem : Problem) (answer : Answer) (given : IsGiven problem answer) 
   pub example_optimal : (r : ℕ) → r ≤ last_stage problem → IsOptimalFor problem r answer.example
   example_optimal r w = optimal_for_fewer problem r (last_stage problem) w answer.example given.right.example.member
 
-  module _ (r : ℕ) (within : r ≤ last_stage problem) (before : (j : ℕ) → 1 ≤ j → j < r → IsShownStage problem answer.counts.items answer.stages.items j) where
+  module _ (r : ℕ) (within : r ≤ last_stage problem) (before : (j : ℕ) → 1 ≤ j → j < r → IsCertifiedStage problem answer.counts.items answer.stages.items j) where
     abbrev kinds : List PrefixKind
     kinds = kinds_at problem r (nodes_at answer.stages.items r)
 
-    earlier : (j : ℕ) → 1 ≤ j → j ≤ r - 1 → IsShownStage problem answer.counts.items answer.stages.items j
+    earlier : (j : ℕ) → 1 ≤ j → j ≤ r - 1 → IsCertifiedStage problem answer.counts.items answer.stages.items j
     earlier j a b = before j a (omega arith)
 
     told : AreTold problem answer.stages.items answer.example (r - 1)
@@ -234,8 +234,8 @@ module _ (problem : Problem) (answer : Answer) (given : IsGiven problem answer) 
         | inl ranked ↦ counted ranked
       ]
 
-    pub stage_shown : IsShownStage problem answer.counts.items answer.stages.items r
-    stage_shown = record {
+    pub stage_certified : IsCertifiedStage problem answer.counts.items answer.stages.items r
+    stage_certified = record {
       kinds = kinds_possible;
       ascending = (given.right.each_stage r within).kinds.ascending;
       cuts = cuts_listed;
@@ -246,12 +246,12 @@ module _ (problem : Problem) (answer : Answer) (given : IsGiven problem answer) 
     }
 
   -- one stage after the other
-  stages_below : (n : ℕ) → (j : ℕ) → j < n → j ≤ last_stage problem → IsShownStage problem answer.counts.items answer.stages.items j
+  stages_below : (n : ℕ) → (j : ℕ) → j < n → j ≤ last_stage problem → IsCertifiedStage problem answer.counts.items answer.stages.items j
   stages_below zero j l w = absurd (omega arith)
   stages_below (suc n) j l w = elim (cases_lt j n) [
     | inl less ↦ stages_below n j less w
-    | inr more ↦ (let same : n ≡ j = omega arith in stage_shown j w (λ i a b. stages_below n i (omega arith) (omega arith)))
+    | inr more ↦ (let same : n ≡ j = omega arith in stage_certified j w (λ i a b. stages_below n i (omega arith) (omega arith)))
   ]
 
-  pub all_stages : (r : ℕ) → r ≤ last_stage problem → IsShownStage problem answer.counts.items answer.stages.items r
+  pub all_stages : (r : ℕ) → r ≤ last_stage problem → IsCertifiedStage problem answer.counts.items answer.stages.items r
   all_stages r w = stages_below (suc r) r (omega arith) w

@@ -1,4 +1,4 @@
--- The automaton of a right answer is shown, and so is the answer.
+-- The automaton of a right answer is certified, and so is the answer.
 use Rattle.std.proofs.Common.{◌≡◌, ℕ, ◌+◌, ◌≤◌, List, [], ◌∷◌, ◌++◌, take, length, refl, sym, ap, ◌∙◌, subst, arith, append_assoc, take_at, All, AllPairs, Contains}
 use Rattle.std.specs.Cmp.{both_ways}
 use Rattle.std.specs.List.{AllByRecursion}
@@ -21,7 +21,7 @@ use Rattle.answer_text.specs.declared.automaton.StateLine.{StateLine}
 use Rattle.answer_text.specs.declared.stage.Node.{Node}
 use Rattle.answer_text.specs.Acceptance.{HasArc, Leads, Accepts}
 use Rattle.answer_text.specs.Right.{nodes_at, IsNodeOf, numbers_of, IsRight}
-use Rattle.answer_text.specs.Shown.{IsKeptBelow, IsShownStage, IsShownAutomaton, IsShown}
+use Rattle.answer_text.specs.Certified.{IsKeptBelow, IsCertifiedStage, IsCertifiedAutomaton, IsCertified}
 use Rattle.check_laws.proofs.Members.{contains_map}
 use Rattle.check_laws.proofs.Listing.{one_number, one_kind}
 use Rattle.check_laws.proofs.Potentials.{over_at, goes_to, kept_from_falls}
@@ -41,11 +41,11 @@ module _ (problem : Problem) (answer : Answer) (given : IsGiven problem answer) 
   abbrev states : List StateLine
   states = answer.automaton.states.items
 
-  all_shown : (j : ℕ) → 1 ≤ j → j ≤ last → IsShownStage problem answer.counts.items answer.stages.items j
-  all_shown j a w = all_stages problem answer given j w
+  all_certified : (j : ℕ) → 1 ≤ j → j ≤ last → IsCertifiedStage problem answer.counts.items answer.stages.items j
+  all_certified j a w = all_stages problem answer given j w
 
   told : AreTold problem answer.stages.items answer.example last
-  told = told_by problem answer given last (omega arith) all_shown
+  told = told_by problem answer given last (omega arith) all_certified
 
   apart : All (λ state. AllPairs (λ a b. AreDisjoint a.class b.class) state.arcs.items) states
   apart = λ i d l. (given.right.automaton.arcs i d l).apart
@@ -166,7 +166,7 @@ module _ (problem : Problem) (answer : Answer) (given : IsGiven problem answer) 
           (subst (λ x. IsKeptBelow problem answer.stages.items (last + 1) x column) (sym here.of_kind) kept)
 
       far : (q : List (List Sym)) × IsOptimalFor problem last ((here.before ++ column ∷ []) ++ q)
-      far = goes_on problem answer given last (omega arith) all_shown (here.before ++ column ∷ []) more.0 more.1
+      far = goes_on problem answer given last (omega arith) all_certified (here.before ++ column ∷ []) more.0 more.1
 
       kind_there : moved problem last k column ≡ kind_of problem last (here.before ++ column ∷ [])
       kind_there =
@@ -185,8 +185,8 @@ module _ (problem : Problem) (answer : Answer) (given : IsGiven problem answer) 
           let arc = parts.1.1 in
           subst (λ i. HasArc states n i column) (arc.1.1 ∙ read_there.1.1) (subst (λ i. HasArc states i arc.0 column) start arc.1.0)
 
-  automaton_shown : IsShownAutomaton problem answer.stages.items states
-  automaton_shown = record {
+  automaton_certified : IsCertifiedAutomaton problem answer.stages.items states
+  automaton_certified = record {
     start = first_state;
     targets = targets;
     finals = finals;
@@ -199,21 +199,14 @@ module _ (problem : Problem) (answer : Answer) (given : IsGiven problem answer) 
           let read = given.right.automaton.reads answer.example 0 given.right.example.member (omega arith) in
           subst (Contains (numbers_of states)) (sym read.1.0) read.1.1
 
-  pub shown_from_right : length answer.form ≤ 64 → IsShown problem answer
-  shown_from_right short = record {
-    form = given.form;
+  pub certified_from_right : last_place problem ≤ 64 → IsCertified problem answer
+  certified_from_right short = record {
+    form = given.right.form;
+    well_formed = given.form;
     short = short;
     stage_count = given.right.stage_count;
     example = given.right.example.member.candidate;
     counts = counts_are problem answer given;
     each_stage = all_stages problem answer given;
-    automaton = automaton_shown;
+    automaton = automaton_certified;
   }
-
--- by the form that the answer has
-pub shown_of_form : (problem : Problem) (answer : Answer) → AreSplit problem.tiers → AllByRecursion (IsOverTiers problem.tiers.width) problem.constraints → IsForm problem.tiers problem.form → last_place problem ≤ 64 → IsRight problem answer → IsShown problem answer
-shown_of_form problem answer split over form short right =
-    let same : problem.form ≡ answer.form = sym right.form in
-    shown_from_right problem answer
-    (record { split = split; over = over; form = subst (IsForm problem.tiers) same form; right = subst (λ v. IsRight problem.tiers problem.constraints v answer) same right })
-    (subst (λ v. length v ≤ 64) same short)

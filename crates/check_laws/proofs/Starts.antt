@@ -24,7 +24,7 @@ use Rattle.violation.specs.Phases.{is_closed, is_left_open, AreClosedOr}
 use Rattle.violation.specs.Prefixes.{is_open, phase, kind_of, stretches}
 use Rattle.violation.proofs.CountSteps.{all_agree}
 use Rattle.violation.proofs.PrefixLemmas.{IsBegun, input_part, tier_open_is}
-use Rattle.answer_text.specs.Shown.{IsPossibleKind}
+use Rattle.answer_text.specs.Certified.{IsPossibleKind}
 use Rattle.violation.specs.Problems.{Problem}
 
 -- ---- the first of a list that ascends

@@ -100,7 +100,7 @@ module _ {g : Ghosts Count} (meaning : g.meaning ≡ count_meaning) (names : Lis
     λ w. (table.accepts T).0 (w.0, w.1),
     λ o.
         let accepted : Accepts states T = (table.accepts T).1 o in
-        (accepted.0, accepted.1, λ U others run. le_at_most meaning (weight_of accepted.0) (weight_of others) (omega (arith, first_weight meaning names states problem problem.form stage table accepted.0 T 0 accepted.1.run accepted.1.reads))),
+        (accepted.0, accepted.1, λ U others run. le_at_most meaning (weight_of accepted.0) (weight_of others) (omega (arith, first_weight meaning names states problem stage table accepted.0 T 0 accepted.1.run accepted.1.reads))),
   )
 
   pub all_words_law : (r : ℕ) → IsStage problem r → IsStageTable problem r names states → (T : List (List Sym)) → IsLeastWord states T ↔ IsOptimalFor problem r T

@@ -106,7 +106,7 @@ module _ (problem : Problem) (r : ℕ) (stage : IsStage problem r) {g : Ghosts C
 -- at stage 0 no run weighs anything
 pub first_weight : {g : Ghosts Count} (meaning : g.meaning ≡ count_meaning) (names : List PrefixKind) (states : List (TableState Count g)) (problem : Problem) (stage : IsStage problem 0) → IsStageTable problem 0 names states
     → (arcs : List (TableArc Count g)) (p : List (List Sym)) (s : ℕ) → IsRun states s arcs → Reads arcs p → (weight_of arcs).0 ≡ 0
-first_weight meaning names states problem problem.form stage table arcs p s run reads =
+first_weight meaning names states problem stage table arcs p s run reads =
     run_weight problem 0 stage meaning names states table.named table.weighed arcs p s run reads
     ∙ get_or_past (walk_costs problem 0 (name_of names s) p) (0 - 1) 0 (omega (arith, length_walk problem 0 stage.split stage.form (over_first problem 0 stage) p (name_of names s)))
 
@@ -115,5 +115,5 @@ pub remaining_law : (problem : Problem) (r : ℕ) (stage : IsStage problem r) {g
 remaining_law problem zero stage meaning names states table s w from =
     let found = from.some in
     let q = some_word states table.named.filled s found.0 found.1 in
-    ap (λ (n : Count). n.0) (sym found.2) ∙ first_weight meaning names states problem problem.form stage table found.0 q.0 s found.1 q.1
+    ap (λ (n : Count). n.0) (sym found.2) ∙ first_weight meaning names states problem stage table found.0 q.0 s found.1 q.1
 remaining_law problem (suc i) stage meaning names states table s w from = least_rest problem (suc i) stage meaning names states table (omega arith) s w from

@@ -31,7 +31,7 @@ module _ (problem : Problem) (r : ℕ) (stage : IsStage problem r) {g : Ghosts C
   -- the pruned table accepts the r-optimal candidates
   optimal_words : (T : List (List Sym)) → Accepts pruned T ↔ IsOptimalFor problem r T
   optimal_words T =
-      let law = all_words_law meaning names states problem problem.form r stage table T in
+      let law = all_words_law meaning names states problem r stage table T in
       (λ a. law.0 ((tight.accepts T).0 a), λ o. (tight.accepts T).1 (law.1 o))
 
   -- its names are the kinds that these pass

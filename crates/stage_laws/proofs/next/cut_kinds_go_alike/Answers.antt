@@ -9,7 +9,7 @@ pub returns-clause-fits : goal.returns-clause-fits
 returns-clause-fits c = fits-cut
 
 pub returns-clause-ends : goal.returns-clause-ends
-returns-clause-ends c constraints u r k = refl
+returns-clause-ends c problem r k = refl
 
 pub returns-clause-prefixes : goal.returns-clause-prefixes
 returns-clause-prefixes c problem r s p fewer = cut-kind_of problem r s fewer p

@@ -1,4 +1,4 @@
--- Shown answers: what a checker looks at, one move at a time and without any search (this project).
+-- Certified answers: what a checker looks at, one move at a time and without any search (this project).
 -- A potential is at most what a move costs and the potential to which it leads, and 0 at the end. So
 -- the potential of the start is a lower bound of what is counted, and the example reaches it.
 use Rattle.std.specs.Prelude.{ℕ, zero, suc, ◌+◌, ◌-◌, ◌≡◌, ◌<◌, ◌≤◌, ◌↔◌, IsTrue, List, [], length, slice_index_or, slice_get, Some, Contains, All, AllPairs}
@@ -58,7 +58,7 @@ start_potential counts (suc i) = slice_index_or counts i 0
 -- constraint r. Its kinds are in order, and their cuts are in the stage before. It lists the start
 -- first, and with each kind also those to which the moves lead that are kept at r. A potential is at
 -- most what such a move costs and the potential to which it leads; it is 0 at a final kind.
-pub record IsShownStage (problem : Problem) (counts : List ℕ) (stages : List Stage) (r : ℕ) : Type 0 where
+pub record IsCertifiedStage (problem : Problem) (counts : List ℕ) (stages : List Stage) (r : ℕ) : Type 0 where
   pub kinds : All (IsPossibleKind problem r) (kinds_at problem r (nodes_at stages r))
   pub ascending : IsStrictlySortedBy kind_order (kinds_at problem r (nodes_at stages r))
   pub cuts : 1 ≤ r → All (λ k. Contains (kinds_at problem (r - 1) (nodes_at stages (r - 1))) (cut problem (r - 1) k)) (kinds_at problem r (nodes_at stages r))
@@ -71,7 +71,7 @@ pub record IsShownStage (problem : Problem) (counts : List ℕ) (stages : List S
 -- The automaton has exactly the moves that are kept at the end: node 0 is a state, each arc leads to
 -- a state, a state is final where its kind is, no column is in two arcs of a state, and an arc on a
 -- column leads from a state to a node exactly where the move is kept and the node tells its target.
-pub record IsShownAutomaton (problem : Problem) (stages : List Stage) (states : List StateLine) : Type 0 where
+pub record IsCertifiedAutomaton (problem : Problem) (stages : List Stage) (states : List StateLine) : Type 0 where
   pub start : Contains (numbers_of states) 0
   pub targets : All (λ state. All (λ arc. Contains (numbers_of states) arc.target) state.arcs.items) states
   pub finals : (state : StateLine) (k : PrefixKind) → Contains states state → IsNodeOf problem (nodes_at stages (last_stage problem)) state.node k → state.accepting ≡ is_final problem k
@@ -80,16 +80,19 @@ pub record IsShownAutomaton (problem : Problem) (stages : List Stage) (states : 
       → HasArc states n m column ↔ (IsKeptBelow problem stages (last_stage problem + 1) k column
       × IsNodeOf problem (nodes_at stages (last_stage problem)) m (moved problem (last_stage problem) k column))
 
--- An answer is shown: its form is one, of at most 64 columns, there is one stage more than there are
--- constraints, the example is a candidate that has the counts, and its stages and its automaton are shown.
-pub record IsShown (problem : Problem) (answer : Answer) : Type 0 where
-  pub form : IsForm problem.tiers answer.form
-  pub short : length answer.form ≤ 64
+-- An answer is certified for a problem: it is of the problem's form, which has at most 64 columns;
+-- there is one stage more than there are constraints; the example is a candidate that has the
+-- counts; and its stages and its automaton are certified.
+pub record IsCertified (problem : Problem) (answer : Answer) : Type 0 where
+  pub form : answer.form ≡ problem.form
+  pub well_formed : IsForm problem.tiers problem.form
+  pub short : last_place problem ≤ 64
   pub stage_count : length answer.stages.items ≡ last_stage problem + 1
   pub example : IsCandidate problem answer.example
   pub counts : answer.counts.items ≡ counts_on problem answer.example
-  pub each_stage : (r : ℕ) → r ≤ last_stage problem → IsShownStage problem answer.counts.items answer.stages.items r
-  pub automaton : IsShownAutomaton problem answer.stages.items answer.automaton.states.items
+  pub each_stage : (r : ℕ) → r ≤ last_stage problem
+      → IsCertifiedStage problem answer.counts.items answer.stages.items r
+  pub automaton : IsCertifiedAutomaton problem answer.stages.items answer.automaton.states.items
 
 -- What is known of the states of every answer that is read: they ascend by their node numbers, and
 -- their classes have the grammar's width.

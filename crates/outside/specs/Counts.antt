@@ -1,7 +1,6 @@
 -- Counts of faults by name.
 use Rattle.std.specs.Prelude.{ℕ, List, String, unwrap_or}
 use Rattle.std.specs.BTreeMap.{BTreeMap, get_by_text}
-use Rattle.violation.specs.Problems.{asked}
 
 -- the count of a name; one that was never asked for has no faults
 abbrev pub count_of : {Y : Type 0} → BTreeMap (String Y) ℕ → List ℕ → ℕ

@@ -2,7 +2,6 @@ ghost use Rattle.std.specs.Prelude.{◌≡◌, ◌≢◌, ◌≤◌, ℕ, List, 
 ghost use Rattle.std.specs.BTreeMap.{get_by_text};
 ghost use Rattle.outside.specs.Faults.{counted};
 ghost use Rattle.outside.specs.Counts.{count_of};
-ghost use Rattle.violation.specs.Problems.{asked};
 
 use std::alloc::{AllocError, Global};
 use std::collections::BTreeMap;

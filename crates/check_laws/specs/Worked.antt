@@ -22,4 +22,4 @@ next_at name r k column = moved (over_two (worked name) []) r k (read_syms colum
 
 -- a kind cut to the first constraints
 abbrev pub cut_to : String Global → ℕ → PrefixKind → PrefixKind
-cut_to name r k = cut (worked name) r k
+cut_to name r k = cut (over_two (worked name) []) r k

@@ -70,7 +70,7 @@ all_first P test (x ∷ xs) (suc n) h = own (test x) (all_first P test xs n h.1)
     own true r = (h.0, r)
     own false r = r
 
-pub over_stretches : (g : Grammar) (stage : ℕ) → AllByRecursion (IsOverTiers (length g.tiers.kinds.items)) (stretches g.constraints.items stage)
+pub over_stretches : (g : Grammar) (stage : ℕ) → AllByRecursion (IsOverTiers (length g.tiers.kinds.items)) (filter is_stretch (take stage g.constraints.items))
 over_stretches g stage = all_first (IsOverTiers (length g.tiers.kinds.items)) is_stretch g.constraints.items stage (over_tiers g)
 
 -- a form is a form, however that is known

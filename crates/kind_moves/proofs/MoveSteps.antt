@@ -72,9 +72,9 @@ module _ (problem : Problem) (split : AreSplit problem.tiers) (form : IsForm pro
       let listed : Contains problem.tiers.input t = (j, l, get_or-same problem.tiers.input j 0 t l) in
       let below : t < problem.tiers.width = All-from_recursion (λ t. t < problem.tiers.width) problem.tiers.input split.inputs_below j 0 l in
       let tier : is_tier_open problem k t ≡ is_open (word (take k.place problem.form) j) =
-      ap (λ b. flag_of problem.tiers.input (form_opened problem k.place) t || b) (flag_out problem.tiers.free k.opened t (λ d. split.apart t listed d))
-      ∙ or_none (flag_of problem.tiers.input (form_opened problem k.place) t)
-      ∙ flag_at problem.tiers.input (form_opened problem k.place) j split.distinct l
+      ap (λ b. flag_of problem.tiers.input (form_opened problem.tiers problem.form k.place) t || b) (flag_out problem.tiers.free k.opened t (λ d. split.apart t listed d))
+      ∙ or_none (flag_of problem.tiers.input (form_opened problem.tiers problem.form k.place) t)
+      ∙ flag_at problem.tiers.input (form_opened problem.tiers problem.form k.place) j split.distinct l
       ∙ get_or-map-range_with_len (λ j. is_open (word (take k.place problem.form) j)) 0 (length problem.tiers.input) j j false l (omega arith) in
       let size : length (input_of problem.tiers column) ≡ length problem.tiers.input = length-map problem.tiers.input (symbol column) in
       ap (λ n. is_open (word (take n problem.form) j)) here ∙ sym tier
@@ -89,7 +89,7 @@ module _ (problem : Problem) (split : AreSplit problem.tiers) (form : IsForm pro
   -- after a move a tier is open where its symbol opens it
   pub open_next : (r t : ℕ) → t < problem.tiers.width → is_tier_open problem (moved problem r k column) t ≡ opens (symbol column t)
   open_next r t l =
-      let inputs : form_opened problem (moved problem r k column).place ≡ map (λ t. opens (symbol column t)) problem.tiers.input =
+      let inputs : form_opened problem.tiers problem.form (moved problem r k column).place ≡ map (λ t. opens (symbol column t)) problem.tiers.input =
       sym (fill_by_all (λ j. is_open (word (take (moved problem r k column).place problem.form) j)) (map (λ t. opens (symbol column t)) problem.tiers.input) (length problem.tiers.input) false
       (length-map problem.tiers.input (λ t. opens (symbol column t)))
       (λ j h. get_or-map (λ t. opens (symbol column t)) problem.tiers.input j 0 false h ∙ sym (input_open_next (has_edge (input_of problem.tiers column)) refl j h))) in

@@ -23,7 +23,6 @@ use Rattle.violation.specs.Prefixes.{is_open}
 use Rattle.violation.proofs.OpenLemmas.{prefix_open, take_word}
 use Rattle.kind_moves.specs.Masks.{AreOpenAt}
 use Rattle.kind_moves.proofs.MaskSteps.{or_tier}
-use Rattle.violation.specs.Problems.{Problem, last_place}
 
 -- ---- free tiers
 
@@ -69,29 +68,29 @@ flag_false (x ∷ xs) (n ∷ ns) t = either (x == t) (flag_false xs ns t)
     either false e = e
 
 -- before the first column none is open
-pub open_first : (problem : Problem) → AreOpenAt problem 0 0
-open_first problem t = ap (λ b. b == 1) (bit_at-zero t) ∙ sym (flag_false problem.tiers.input (range_with_len 0 (length problem.tiers.input)) t)
+pub open_first : (tiers : Tiers) (u : List (List Sym)) → AreOpenAt tiers u 0 0
+open_first tiers u t = ap (λ b. b == 1) (bit_at-zero t) ∙ sym (flag_false tiers.input (range_with_len 0 (length tiers.input)) t)
 
 -- an input tier is open after the columns of a form where its symbol in the last of these opens it
-pub form_open_after : (problem : Problem) → IsForm problem.tiers problem.form → (p j : ℕ) → p < last_place problem → j < length problem.tiers.input
-    → is_open (word (take (suc p) problem.form) j) ≡ opens (symbol (column_at problem.form p) j)
-form_open_after problem form p j l h =
-    let well = runs_from_well_formed (word problem.form j) (form.well_formed.each_tier j h) in
-    let size : length (word problem.form j) ≡ last_place problem = length-map problem.form (λ (column : List Sym). symbol column j) in
-    ap is_open (take_word problem.form (suc p) j) ∙ prefix_open (word problem.form j) (suc p) well (omega arith) ∙ open_suc false (word problem.form j) p (omega arith)
-    ∙ ap opens (get_or-map (λ column. symbol column j) problem.form p [] Outside l)
+pub form_open_after : (tiers : Tiers) (u : List (List Sym)) → IsForm tiers u → (p j : ℕ) → p < length u → j < length tiers.input
+    → is_open (word (take (suc p) u) j) ≡ opens (symbol (column_at u p) j)
+form_open_after tiers u form p j l h =
+    let well = runs_from_well_formed (word u j) (form.well_formed.each_tier j h) in
+    let size : length (word u j) ≡ length u = length-map u (λ (column : List Sym). symbol column j) in
+    ap is_open (take_word u (suc p) j) ∙ prefix_open (word u j) (suc p) well (omega arith) ∙ open_suc false (word u j) p (omega arith)
+    ∙ ap opens (get_or-map (λ column. symbol column j) u p [] Outside l)
 
 -- the flags of a mask that has the tiers which a column opens, laid out on the input tiers
-pub open_later : (problem : Problem) → IsForm problem.tiers problem.form → (p inputs opened mask : ℕ) → p < last_place problem → tiers_of inputs ≡ problem.tiers.input
-    → ((t : ℕ) → has_tier opened t ≡ opens (symbol (column_at problem.form p) t))
-    → ((t : ℕ) → has_tier mask t ≡ flag_of (tiers_of inputs) (open_tiers (length (tiers_of inputs)) opened) t) → AreOpenAt problem (suc p) mask
-open_later problem form p inputs opened mask l e bits laid t =
-    let flags : form_opened problem (suc p) ≡ open_tiers (length problem.tiers.input) opened =
-    fill_by_all (has_tier opened) (form_opened problem (suc p)) (length problem.tiers.input) false (length-map-range_with_len (λ j. is_open (word (take (suc p) problem.form) j)) 0 (length problem.tiers.input))
-    (λ j h. get_or-map-range_with_len (λ j. is_open (word (take (suc p) problem.form) j)) 0 (length problem.tiers.input) j j false h (omega arith) ∙ form_open_after problem form p j l h ∙ sym (bits j)) in
-    laid t ∙ ap (λ ts. flag_of ts (open_tiers (length ts) opened) t) e ∙ ap (λ fs. flag_of problem.tiers.input fs t) (sym flags)
+pub open_later : (tiers : Tiers) (u : List (List Sym)) → IsForm tiers u → (p inputs opened mask : ℕ) → p < length u → tiers_of inputs ≡ tiers.input
+    → ((t : ℕ) → has_tier opened t ≡ opens (symbol (column_at u p) t))
+    → ((t : ℕ) → has_tier mask t ≡ flag_of (tiers_of inputs) (open_tiers (length (tiers_of inputs)) opened) t) → AreOpenAt tiers u (suc p) mask
+open_later tiers u form p inputs opened mask l e bits laid t =
+    let flags : form_opened tiers u (suc p) ≡ open_tiers (length tiers.input) opened =
+    fill_by_all (has_tier opened) (form_opened tiers u (suc p)) (length tiers.input) false (length-map-range_with_len (λ j. is_open (word (take (suc p) u) j)) 0 (length tiers.input))
+    (λ j h. get_or-map-range_with_len (λ j. is_open (word (take (suc p) u) j)) 0 (length tiers.input) j j false h (omega arith) ∙ form_open_after tiers u form p j l h ∙ sym (bits j)) in
+    laid t ∙ ap (λ ts. flag_of ts (open_tiers (length ts) opened) t) e ∙ ap (λ fs. flag_of tiers.input fs t) (sym flags)
 
 -- masks for the first places
-pub record AreSoFar (problem : Problem) (n : ℕ) (masks : List ℕ) : Type 0 where
+pub record AreSoFar (tiers : Tiers) (u : List (List Sym)) (n : ℕ) (masks : List ℕ) : Type 0 where
   pub count : length masks ≡ n
-  pub each : (place : ℕ) → place < n → AreOpenAt problem place (get_or masks place 0)
+  pub each : (place : ℕ) → place < n → AreOpenAt tiers u place (get_or masks place 0)

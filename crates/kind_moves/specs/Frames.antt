@@ -7,6 +7,7 @@ use Rattle.tier_core.specs.Kinds.{PrefixKind, AreStretchesBelow, prefix_kind}
 use Rattle.tier_core.specs.Tables.{tiers_of_table}
 use Rattle.tier_core.specs.Tiers.{Tiers}
 use Rattle.violation.specs.Moves.{FitsKind, moved}
+use Rattle.violation.specs.Problems.{Problem, asked}
 use Rattle.violation.specs.Prefixes.{kind_of, stretches}
 pub use Rattle.violation.specs.Phases.{is_closed, is_left_open, AreClosedOr}
 use Rattle.kind_moves.specs.declared.frame.Frame.{Frame}
@@ -20,6 +21,10 @@ constraints_in frame = frame.grammar.now.constraints.items
 
 abbrev pub form_in : Frame → List (List Sym)
 form_in frame = frame.form.now
+
+-- what is asked by a frame's grammar and its form
+abbrev pub problem_in : Frame → Problem
+problem_in frame = asked frame.grammar.now.tiers frame.grammar.now.constraints.items frame.form.now
 
 -- the stretch implications among the first constraints of a frame
 abbrev pub stretches_in : Frame → ℕ → List Constraint

@@ -3,8 +3,6 @@ ghost use Rattle.tier_core.specs.Tables.{tiers_of_table};
 ghost use Rattle.tier_core.specs.Tiers.{tiers_of};
 ghost use Rattle.violation.specs.Candidates.{IsForm};
 ghost use Rattle.kind_moves.specs.Masks.{AreOpenInputs};
-ghost use Rattle.violation.specs.Problems.{asked, last_stage};
-ghost use Rattle.kind_moves.specs.Frames.{problem_in};
 
 use crate::cost::{costs, count_stretches};
 use crate::fit::{has_edge, may_follow};
@@ -28,7 +26,7 @@ pub struct Frame<'a> {
     pub ghost well_formed: { ∥ IsForm (tiers_of_table grammar.now.tiers) form.now ∥₁ },
     pub ghost short: { length form.now ≤ 64 },
     pub ghost free_tiers: { tiers_of free ≡ (tiers_of_table grammar.now.tiers).free },
-    pub ghost inputs: { AreOpenInputs (asked grammar.now.tiers grammar.now.constraints.items form.now) open_inputs.items },
+    pub ghost inputs: { AreOpenInputs (tiers_of_table grammar.now.tiers) form.now open_inputs.items },
 }
 
 impl<'a> Frame<'a> {
@@ -38,8 +36,9 @@ impl<'a> Frame<'a> {
     ghost use Rattle.tier_core.specs.Timelines.{symbol, column_at, has_edge};
     ghost use Rattle.tier_core.specs.Kinds.{open_tiers};
     ghost use Rattle.violation.specs.Moves.{input_of, is_final, is_tier_open, move_costs, next_phases};
+    ghost use Rattle.violation.specs.Problems.{last_stage};
     ghost use Rattle.kind_moves.specs.Phases.{phases_by};
-    ghost use Rattle.kind_moves.specs.Frames.{tiers_in, constraints_in, form_in, stretches_in, kind_at_stage, FitsAt, FitsFrame, IsMove, IsStart};
+    ghost use Rattle.kind_moves.specs.Frames.{problem_in, tiers_in, constraints_in, form_in, stretches_in, kind_at_stage, FitsAt, FitsFrame, IsMove, IsStart};
 
     /// The frame of a grammar and a form over its input tiers, of at most 64 columns. It fails only
     /// for want of memory.

@@ -42,15 +42,15 @@ none_edge column [] h = tt
 none_edge column (x ∷ xs) h = let parts = or_parts (is_edge (symbol column x)) (has_edge (map (symbol column) xs)) h in (parts.0, none_edge column xs parts.1)
 
 module _ (problem : Problem) (split : AreSplit problem.tiers) (form : IsForm problem.tiers problem.form) where
-  open_input : (k : PrefixKind) (t : ℕ) → Contains problem.tiers.input t → is_tier_open problem k t ≡ flag_of problem.tiers.input (form_opened problem k.place) t
-  open_input k t i = ap (λ b. flag_of problem.tiers.input (form_opened problem k.place) t || b) (flag_out problem.tiers.free k.opened t (λ f. split.apart t i f)) ∙ drop_false (flag_of problem.tiers.input (form_opened problem k.place) t)
+  open_input : (k : PrefixKind) (t : ℕ) → Contains problem.tiers.input t → is_tier_open problem k t ≡ flag_of problem.tiers.input (form_opened problem.tiers problem.form k.place) t
+  open_input k t i = ap (λ b. flag_of problem.tiers.input (form_opened problem.tiers problem.form k.place) t || b) (flag_out problem.tiers.free k.opened t (λ f. split.apart t i f)) ∙ drop_false (flag_of problem.tiers.input (form_opened problem.tiers problem.form k.place) t)
     where
       drop_false : (b : Bool) → (b || false) ≡ b
       drop_false true = refl
       drop_false false = refl
 
   open_free : (k : PrefixKind) (t : ℕ) → Contains problem.tiers.free t → is_tier_open problem k t ≡ flag_of problem.tiers.free k.opened t
-  open_free k t f = ap (λ b. b || flag_of problem.tiers.free k.opened t) (flag_out problem.tiers.input (form_opened problem k.place) t (λ i. split.apart t i f))
+  open_free k t f = ap (λ b. b || flag_of problem.tiers.free k.opened t) (flag_out problem.tiers.input (form_opened problem.tiers problem.form k.place) t (λ i. split.apart t i f))
 
   below : (t : ℕ) → Contains problem.tiers.input t → t < problem.tiers.width
   below t i = all_at_member (λ s. s < problem.tiers.width) problem.tiers.input t split.inputs_below i
@@ -70,12 +70,12 @@ module _ (problem : Problem) (split : AreSplit problem.tiers) (form : IsForm pro
   -- where the input stays
   pub stays : (k : PrefixKind) (flags : List Bool) (column : List Sym) → IsBetween problem.tiers (staying problem k.place) k.opened flags column → FitsKind problem k column × (has_edge (input_of problem.tiers column) ≡ false)
   stays k flags column b =
-      let at : (t : ℕ) → Contains problem.tiers.input t → symbol column t ≡ still (flag_of problem.tiers.input (form_opened problem k.place) t) = λ t i. b.inputs t (below t i) i ∙ symbol_on_still problem.tiers.input (form_opened problem k.place) t in
-      let none : has_edge (input_of problem.tiers column) ≡ false = no_edge column problem.tiers.input (λ t i. ap is_edge (at t i) ∙ (still_fits (flag_of problem.tiers.input (form_opened problem k.place) t)).1) in (
+      let at : (t : ℕ) → Contains problem.tiers.input t → symbol column t ≡ still (flag_of problem.tiers.input (form_opened problem.tiers problem.form k.place) t) = λ t i. b.inputs t (below t i) i ∙ symbol_on_still problem.tiers.input (form_opened problem.tiers problem.form k.place) t in
+      let none : has_edge (input_of problem.tiers column) ≡ false = no_edge column problem.tiers.input (λ t i. ap is_edge (at t i) ∙ (still_fits (flag_of problem.tiers.input (form_opened problem.tiers problem.form k.place) t)).1) in (
         record {
           width = b.width;
           symbols = λ t l. ⊎_elim
-              (λ i. ap (λ o. fits o (symbol column t)) (open_input k t i) ∙ ap (fits (flag_of problem.tiers.input (form_opened problem k.place) t)) (at t i) ∙ (still_fits (flag_of problem.tiers.input (form_opened problem k.place) t)).0)
+              (λ i. ap (λ o. fits o (symbol column t)) (open_input k t i) ∙ ap (fits (flag_of problem.tiers.input (form_opened problem.tiers problem.form k.place) t)) (at t i) ∙ (still_fits (flag_of problem.tiers.input (form_opened problem.tiers problem.form k.place) t)).0)
               (λ f. ap (λ o. fits o (symbol column t)) (open_free k t f) ∙ (b.frees t l f).0)
               (split.each t l);
           edge = b.edge;
@@ -96,7 +96,7 @@ module _ (problem : Problem) (split : AreSplit problem.tiers) (form : IsForm pro
           width = b.width;
           symbols = λ t h. ⊎_elim
               (λ i. let n = numbered problem.tiers.input t i in
-              ap (λ o. fits o (symbol column t)) (open_input k t i ∙ ap (flag_of problem.tiers.input (form_opened problem k.place)) (sym n.1.1) ∙ flag_at problem.tiers.input (form_opened problem k.place) n.0 split.distinct n.1.0
+              ap (λ o. fits o (symbol column t)) (open_input k t i ∙ ap (flag_of problem.tiers.input (form_opened problem.tiers problem.form k.place)) (sym n.1.1) ∙ flag_at problem.tiers.input (form_opened problem.tiers problem.form k.place) n.0 split.distinct n.1.0
               ∙ get_or-map-range_with_len (λ j. is_open (word (take k.place problem.form) j)) 0 (length problem.tiers.input) n.0 n.0 false n.1.0 (omega arith))
               ∙ ap (fits (is_open (word (take k.place problem.form) n.0))) (b.inputs t h i ∙ ap (symbol_on problem.tiers.input next) (sym n.1.1) ∙ symbol_on_at problem.tiers.input next n.0 split.distinct n.1.0)
               ∙ form_fits k.place n.0 l n.1.0)
@@ -117,9 +117,9 @@ module _ (problem : Problem) (split : AreSplit problem.tiers) (form : IsForm pro
   staying_fits k column f none = record {
     width = f.width;
     inputs = λ t l i.
-        is_still (flag_of problem.tiers.input (form_opened problem k.place) t) (symbol column t) (ap (λ o. fits o (symbol column t)) (sym (open_input k t i)) ∙ f.symbols t l)
+        is_still (flag_of problem.tiers.input (form_opened problem.tiers problem.form k.place) t) (symbol column t) (ap (λ o. fits o (symbol column t)) (sym (open_input k t i)) ∙ f.symbols t l)
         (all_at_member (λ s. is_edge (symbol column s) ≡ false) problem.tiers.input t (none_edge column problem.tiers.input none) i)
-        ∙ sym (symbol_on_still problem.tiers.input (form_opened problem k.place) t);
+        ∙ sym (symbol_on_still problem.tiers.input (form_opened problem.tiers problem.form k.place) t);
     frees = λ t l i. free_part k column f t l i;
     edge = f.edge;
   }

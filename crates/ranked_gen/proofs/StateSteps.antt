@@ -55,7 +55,7 @@ module _ (problem : Problem) (form : IsForm problem.tiers problem.form) where
       ∙ sym (map-map still (λ j. is_open (word (take 0 problem.form) j)) (range_with_len 0 (length problem.tiers.input)))
 
 pub length-staying : (problem : Problem) (place : ℕ) → length (staying problem place) ≡ length problem.tiers.input
-length-staying problem place = length-map (form_opened problem place) still ∙ length-map-range_with_len (λ j. is_open (word (take place problem.form) j)) 0 (length problem.tiers.input)
+length-staying problem place = length-map (form_opened problem.tiers problem.form place) still ∙ length-map-range_with_len (λ j. is_open (word (take place problem.form) j)) 0 (length problem.tiers.input)
 
 -- one node and one state more
 pub numbered_more : {X : Type 0} (P : ℕ → X → Type 0) (n : ℕ) (xs : List X) (x : X) → AreNumbered P n xs → P (n + length xs) x → AreNumbered P n (xs ++ x ∷ [])

@@ -51,7 +51,7 @@ moves_with tiers given opened first =
 
 -- the input symbols that stay at a place
 abbrev pub staying : Problem → ℕ → List Sym
-staying problem place = map still (form_opened problem place)
+staying problem place = map still (form_opened problem.tiers problem.form place)
 
 -- the moves from a kind, ordered by target and then by column
 abbrev pub moves_from : Problem → PrefixKind → List (ℕ × List Sym)

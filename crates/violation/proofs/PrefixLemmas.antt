@@ -64,7 +64,7 @@ module _ (problem : Problem) (split : AreSplit problem.tiers) (form : IsForm pro
       ∙ sym (ap (open_at false (word p t)) (length-map p (λ column. symbol column t)))
       ∙ sym (open_read false (word p t) (b.read t (input_below j l)))
 
-  form_opened_is : (p : List (List Sym)) → IsBegun problem p → form_opened problem (length (input_part problem.tiers p)) ≡ map (λ t. is_open (word p t)) problem.tiers.input
+  form_opened_is : (p : List (List Sym)) → IsBegun problem p → form_opened problem.tiers problem.form (length (input_part problem.tiers p)) ≡ map (λ t. is_open (word p t)) problem.tiers.input
   form_opened_is p b =
       sym (fill_by_all (λ j. is_open (word (take (length (input_part problem.tiers p)) problem.form) j)) (map (λ t. is_open (word p t)) problem.tiers.input) (length problem.tiers.input) false
       (length-map problem.tiers.input (λ t. is_open (word p t)))

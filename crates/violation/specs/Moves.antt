@@ -28,13 +28,13 @@ flag_of (x ∷ xs) [] t = false
 flag_of (x ∷ xs) (flag ∷ flags) t = if x == t then flag else flag_of xs flags t
 
 -- whether each input tier is open after the first columns of the form u
-abbrev pub form_opened : Problem → ℕ → List Bool
-form_opened problem place = map (λ j. is_open (word (take place problem.form) j)) (range_with_len 0 (length problem.tiers.input))
+abbrev pub form_opened : Tiers → List (List Sym) → ℕ → List Bool
+form_opened tiers u place = map (λ j. is_open (word (take place u) j)) (range_with_len 0 (length tiers.input))
 
 -- whether a tier is open at a kind: an input tier where it is open after the first PLACE columns of
 -- the form, a free tier where the kind says so
 abbrev pub is_tier_open : Problem → PrefixKind → ℕ → Bool
-is_tier_open problem k t = flag_of problem.tiers.input (form_opened problem k.place) t || flag_of problem.tiers.free k.opened t
+is_tier_open problem k t = flag_of problem.tiers.input (form_opened problem.tiers problem.form k.place) t || flag_of problem.tiers.free k.opened t
 
 -- A column fits a kind: on each tier its symbol may come where the tier is open, or is not; it has
 -- an edge; and its input part has no edge, or is the form's column at PLACE.

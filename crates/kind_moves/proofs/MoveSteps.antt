@@ -63,7 +63,7 @@ module _ (problem : Problem) (split : AreSplit problem.tiers) (form : IsForm pro
       (λ none. absurd (false≢true (sym none ∙ e)))
       (λ some.
       let next : k.place + 1 ≡ suc k.place = omega arith in
-      ap (λ n. is_open (word (take n problem.form) j)) next ∙ form_open_after problem form k.place j some.0 l
+      ap (λ n. is_open (word (take n problem.form) j)) next ∙ form_open_after problem.tiers problem.form form k.place j some.0 l
       ∙ ap (λ (c : List Sym). opens (symbol c j)) (sym some.1) ∙ ap opens (get_or-map (symbol column) problem.tiers.input j 0 Outside l))
       f.input
   input_open_next false e j l =

@@ -65,7 +65,7 @@ module _ (problem : Problem) (least : List ℕ) (is_least : IsLeastVector proble
     record { there = o.there; before = o.before; greater = greater least counts w (subst (λ (v : List ℕ). IsAtMost least v) (sym e) (at_most T c)) o.there o.before o.other },
   )
 
-  pub compared_row : (T : List (List Sym)) (row : TableauRow) → IsCandidate problem T → IsCompared problem least T row → IsTableauRow problem least row
+  pub compared_row : (T : List (List Sym)) (row : TableauRow) → IsCandidate problem T → IsCompared problem.constraints least T row → IsTableauRow problem least row
   compared_row T row c r =
       let judge = judged T c row.counts.items r.counts row.worse r.worse in
       record {

@@ -92,4 +92,4 @@ read_more {bytes = bytes} {rest = rest} behind line more e l r a = record {
 -- all lines are read
 pub read_all : {problem : Problem} {bytes rest : List ℕ} {number : ℕ} {rows : List (List (List Sym))} → length rest ≡ 0
     → IsReadTo problem bytes rest number rows → AreRowsOf problem (lines bytes) rows
-read_all {problem.tiers} {problem.form} {bytes} {rest} {number} {rows} h r = subst (λ ls. AreRowsOf problem ls rows) (sym (r.whole ∙ ap (λ ls. r.front ++ ls) (nothing_behind rest h) ∙ append-nil r.front)) r.read
+read_all {problem} {bytes} {rest} {number} {rows} h r = subst (λ ls. AreRowsOf problem ls rows) (sym (r.whole ∙ ap (λ ls. r.front ++ ls) (nothing_behind rest h) ∙ append-nil r.front)) r.read

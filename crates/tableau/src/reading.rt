@@ -1,7 +1,7 @@
 ghost use Rattle.std.specs.Prelude.{◌≡◌, ℕ, List};
 ghost use Rattle.std.specs.Str.Lines.{lines};
 ghost use Rattle.tier_core.specs.declared.sym.Sym.{Sym};
-ghost use Rattle.tier_core.specs.Tiers.{Tiers};
+ghost use Rattle.violation.specs.Problems.{Problem};
 ghost use Rattle.tableau.specs.declared.rows_err.RowsCause.{RowsCause};
 ghost use Rattle.tableau.specs.Rows.{AreRowsOf, HasRows, IsRefusedAt};
 

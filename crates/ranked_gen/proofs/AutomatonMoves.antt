@@ -21,7 +21,7 @@ use Rattle.ranked_gen.specs.Arcs.{moves_from}
 use Rattle.ranked_gen.specs.Listed.{kind_count, arc_view, move_view, AreNumbered}
 use Rattle.ranked_gen.proofs.NumberLemmas.{length-flags_of, number-lt}
 use Rattle.ranked_gen.proofs.MemberLemmas.{contains_none, contains_first, contains_later, contains_cases}
-use Rattle.violation.specs.Problems.{Problem, last_place}
+use Rattle.violation.specs.Problems.{last_place, Problem}
 
 -- the line of the kind of a number
 pub record IsLineNumbered (problem : Problem) (n : ℕ) (line : StateLine) : Type 0 where

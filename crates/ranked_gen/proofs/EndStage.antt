@@ -26,7 +26,7 @@ use Rattle.kind_orders.specs.Orderings.{IsOrdering, AreRanks}
 use Rattle.kind_orders.specs.AutomatonLines.{nodes_of}
 use Rattle.kind_orders.specs.Automata.{HasWidth, Reaches, IsAutomatonOf}
 use Rattle.ranked_gen.specs.Left.{TellsKind, IsLeft}
-use Rattle.violation.specs.Problems.{Problem, last_stage}
+use Rattle.violation.specs.Problems.{last_stage, Problem}
 
 node_of : (problem : Problem) (nodes : List Node) (n : ℕ) (k : PrefixKind) → TellsKind problem (last_stage problem) nodes n k → IsNodeOf problem nodes n k
 node_of problem nodes n k t = record { node = t.node; numbered = t.numbered; tells = t.tells }

@@ -32,8 +32,8 @@ use Rattle.ranked_gen.proofs.NumberLemmas.{flags_of-low}
 use Rattle.ranked_gen.proofs.NumberedKinds.{free_distinct}
 use Rattle.ranked_gen.proofs.MoveList.{Move, listed_moves}
 use Rattle.ranked_gen.proofs.MoveSteps.{picked_between}
-use Rattle.kind_moves.specs.Frames.{problem_in}
 use Rattle.violation.specs.Problems.{last_place}
+use Rattle.kind_moves.specs.Frames.{problem_in}
 
 -- what agrees on the members of a list
 members_agree : {X Y : Type 0} (f h : X → Y) (xs : List X) → ((x : X) → Contains xs x → f x ≡ h x) → map f xs ≡ map h xs
@@ -134,7 +134,7 @@ module _ (frame : Frame) (form : IsForm (tiers_in frame) (form_in frame)) (kind 
       ∙ map-map (arc_by frame kind) (λ (m : Move). m.1) moves
       ∙ members_agree (λ (m : Move). arc_by frame kind m.1) move_view moves (λ m c. ap (λ n. move_view (n, m.1)) (sym (h m c)))
 
-  stay_listed : (m : Move) → Contains (moves_with (tiers_in frame) (staying (problem_in frame) kind.place) (kind_at_stage frame 0 kind).opened (kind.place * 2 ^ length (tiers_in frame).free)) m
+  stay_listed : (m : Move) → Contains (moves_with (tiers_in frame) (staying (tiers_in frame) (form_in frame) kind.place) (kind_at_stage frame 0 kind).opened (kind.place * 2 ^ length (tiers_in frame).free)) m
       → FitsAt frame 0 kind m.1 × (m.0 ≡ number_after frame kind m.1)
   stay_listed m c = listed_moves (problem_in frame) (tiers_split frame.grammar.now.tiers.kinds.items) (free_distinct frame.grammar.now.tiers.kinds.items) form (kind_at_stage frame 0 kind) m (Contains-append_left _ _ m c)
 
@@ -143,33 +143,33 @@ module _ (frame : Frame) (form : IsForm (tiers_in frame) (form_in frame)) (kind 
   next_listed l m c = listed_moves (problem_in frame) (tiers_split frame.grammar.now.tiers.kinds.items) (free_distinct frame.grammar.now.tiers.kinds.items) form (kind_at_stage frame 0 kind) m
       (Contains-append_right _ _ m (subst (λ b. Contains (cond b (moves_with (tiers_in frame) (column_at (form_in frame) kind.place) (kind_at_stage frame 0 kind).opened ((kind.place + 1) * 2 ^ length (tiers_in frame).free)) []) m) (sym (lt-ltb kind.place (last_place (problem_in frame)) l)) c))
 
-  pub stay_fit : AllFit frame kind (columns_from (tiers_in frame) (staying (problem_in frame) kind.place) (kind_at_stage frame 0 kind).opened)
+  pub stay_fit : AllFit frame kind (columns_from (tiers_in frame) (staying (tiers_in frame) (form_in frame) kind.place) (kind_at_stage frame 0 kind).opened)
   stay_fit column c = let m = column_move _ _ (kind.place * 2 ^ length (tiers_in frame).free) column c in (stay_listed (m.0, column) m.1).0
 
   pub next_fit : kind.place < last_place (problem_in frame) → AllFit frame kind (columns_from (tiers_in frame) (column_at (form_in frame) kind.place) (kind_at_stage frame 0 kind).opened)
   next_fit l column c = let m = column_move _ _ ((kind.place + 1) * 2 ^ length (tiers_in frame).free) column c in (next_listed l (m.0, column) m.1).0
 
-  pub arcs_end : (view : List (ℕ × List ℕ)) → view ≡ [] ++ map (arc_by frame kind) (columns_from (tiers_in frame) (staying (problem_in frame) kind.place) (kind_at_stage frame 0 kind).opened) → last_place (problem_in frame) ≤ kind.place
+  pub arcs_end : (view : List (ℕ × List ℕ)) → view ≡ [] ++ map (arc_by frame kind) (columns_from (tiers_in frame) (staying (tiers_in frame) (form_in frame) kind.place) (kind_at_stage frame 0 kind).opened) → last_place (problem_in frame) ≤ kind.place
       → view ≡ map move_view (moves_from (problem_in frame) (kind_at_stage frame 0 kind))
   arcs_end view e l =
       let tiers = tiers_in frame in
       let u = form_in frame in
       let opened = (kind_at_stage frame 0 kind).opened in
-      let stay : List Move = moves_with tiers (staying problem kind.place) opened (kind.place * 2 ^ length tiers.free) in
+      let stay : List Move = moves_with tiers (staying tiers u kind.place) opened (kind.place * 2 ^ length tiers.free) in
       let on : List Move = moves_with tiers (column_at u kind.place) opened ((kind.place + 1) * 2 ^ length tiers.free) in
-      e ∙ arcs_shown (staying problem kind.place) opened (kind.place * 2 ^ length tiers.free) (λ m c. (stay_listed m c).1)
+      e ∙ arcs_shown (staying tiers u kind.place) opened (kind.place * 2 ^ length tiers.free) (λ m c. (stay_listed m c).1)
       ∙ ap (map move_view) (sym (append-nil stay) ∙ ap (λ b. stay ++ cond b on []) (sym (le-ltb kind.place (length u) l)))
 
-  pub arcs_on : (view now : List (ℕ × List ℕ)) → now ≡ [] ++ map (arc_by frame kind) (columns_from (tiers_in frame) (staying (problem_in frame) kind.place) (kind_at_stage frame 0 kind).opened)
+  pub arcs_on : (view now : List (ℕ × List ℕ)) → now ≡ [] ++ map (arc_by frame kind) (columns_from (tiers_in frame) (staying (tiers_in frame) (form_in frame) kind.place) (kind_at_stage frame 0 kind).opened)
       → view ≡ now ++ map (arc_by frame kind) (columns_from (tiers_in frame) (column_at (form_in frame) kind.place) (kind_at_stage frame 0 kind).opened) → kind.place < last_place (problem_in frame)
       → view ≡ map move_view (moves_from (problem_in frame) (kind_at_stage frame 0 kind))
   arcs_on view now e g l =
       let tiers = tiers_in frame in
       let u = form_in frame in
       let opened = (kind_at_stage frame 0 kind).opened in
-      let stay : List Move = moves_with tiers (staying problem kind.place) opened (kind.place * 2 ^ length tiers.free) in
+      let stay : List Move = moves_with tiers (staying tiers u kind.place) opened (kind.place * 2 ^ length tiers.free) in
       let on : List Move = moves_with tiers (column_at u kind.place) opened ((kind.place + 1) * 2 ^ length tiers.free) in
-      let first : now ≡ map move_view stay = e ∙ arcs_shown (staying problem kind.place) opened (kind.place * 2 ^ length tiers.free) (λ m c. (stay_listed m c).1) in
+      let first : now ≡ map move_view stay = e ∙ arcs_shown (staying tiers u kind.place) opened (kind.place * 2 ^ length tiers.free) (λ m c. (stay_listed m c).1) in
       let second = arcs_shown (column_at u kind.place) opened ((kind.place + 1) * 2 ^ length tiers.free) (λ m c. (next_listed l m c).1) in
       g ∙ ap (λ xs. xs ++ map (arc_by frame kind) (columns_from tiers (column_at u kind.place) opened)) first ∙ ap (λ xs. map move_view stay ++ xs) second
       ∙ sym (map-append move_view stay on) ∙ ap (λ b. map move_view (stay ++ cond b on [])) (sym (lt-ltb kind.place (length u) l))

@@ -26,7 +26,7 @@ use Rattle.ranked_gen.proofs.MemberLemmas.{contains_first, contains_later, all_f
 use Rattle.ranked_gen.proofs.SymbolLemmas.{still_fits, is_still, symbol_on_still}
 use Rattle.ranked_gen.proofs.MoveMembers.{IsBetween, symbol_on_in, symbols_on}
 use Rattle.ranked_gen.proofs.WidenedColumns.{symbol_on_at}
-use Rattle.violation.specs.Problems.{Problem, last_place}
+use Rattle.violation.specs.Problems.{last_place, Problem}
 
 -- the number of a tier in a list
 pub numbered : (xs : List ℕ) (t : ℕ) → Contains xs t → (j : ℕ) × ((j < length xs) × (get_or xs j 0 ≡ t))
@@ -68,7 +68,7 @@ module _ (problem : Problem) (split : AreSplit problem.tiers) (form : IsForm pro
       ∙ runs_fits false (word problem.form j) place well
 
   -- where the input stays
-  pub stays : (k : PrefixKind) (flags : List Bool) (column : List Sym) → IsBetween problem.tiers (staying problem k.place) k.opened flags column → FitsKind problem k column × (has_edge (input_of problem.tiers column) ≡ false)
+  pub stays : (k : PrefixKind) (flags : List Bool) (column : List Sym) → IsBetween problem.tiers (staying problem.tiers problem.form k.place) k.opened flags column → FitsKind problem k column × (has_edge (input_of problem.tiers column) ≡ false)
   stays k flags column b =
       let at : (t : ℕ) → Contains problem.tiers.input t → symbol column t ≡ still (flag_of problem.tiers.input (form_opened problem.tiers problem.form k.place) t) = λ t i. b.inputs t (below t i) i ∙ symbol_on_still problem.tiers.input (form_opened problem.tiers problem.form k.place) t in
       let none : has_edge (input_of problem.tiers column) ≡ false = no_edge column problem.tiers.input (λ t i. ap is_edge (at t i) ∙ (still_fits (flag_of problem.tiers.input (form_opened problem.tiers problem.form k.place) t)).1) in (
@@ -113,7 +113,7 @@ module _ (problem : Problem) (split : AreSplit problem.tiers) (form : IsForm pro
   free_part k column f t l i = (ap (λ o. fits o (symbol column t)) (sym (open_free k t i)) ∙ f.symbols t l, sym (flag_in (λ s. opens (symbol column s)) problem.tiers.free t i))
 
   -- each column that fits is one of these
-  pub staying_fits : (k : PrefixKind) (column : List Sym) → FitsKind problem k column → has_edge (input_of problem.tiers column) ≡ false → IsBetween problem.tiers (staying problem k.place) k.opened (map (λ t. opens (symbol column t)) problem.tiers.free) column
+  pub staying_fits : (k : PrefixKind) (column : List Sym) → FitsKind problem k column → has_edge (input_of problem.tiers column) ≡ false → IsBetween problem.tiers (staying problem.tiers problem.form k.place) k.opened (map (λ t. opens (symbol column t)) problem.tiers.free) column
   staying_fits k column f none = record {
     width = f.width;
     inputs = λ t l i.

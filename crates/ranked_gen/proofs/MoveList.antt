@@ -31,7 +31,7 @@ use Rattle.ranked_gen.proofs.ChoiceLemmas.{AllAscend, choices_ascend}
 use Rattle.ranked_gen.proofs.SymbolLemmas.{between_ascends}
 use Rattle.ranked_gen.proofs.MoveMembers.{IsBetween, flags_on, between_of, of_between}
 use Rattle.ranked_gen.proofs.MoveFits.{stays, advances, staying_fits, advancing_fits}
-use Rattle.violation.specs.Problems.{Problem, last_place}
+use Rattle.violation.specs.Problems.{last_place, Problem}
 
 -- a move of a list: the number of its target, with its column
 abbrev pub Move : Type 0
@@ -129,14 +129,14 @@ module _ (problem : Problem) (split : AreSplit problem.tiers) (distinct : AreDis
       f : ℕ
       f = length problem.tiers.free
 
-      stay : Contains (moves_with problem.tiers (staying problem k.place) k.opened (k.place * 2 ^ f)) m → FitsKind problem k m.1 × (m.0 ≡ number_of_kind f (moved problem.tiers [] 0 k m.1))
+      stay : Contains (moves_with problem.tiers (staying problem.tiers problem.form k.place) k.opened (k.place * 2 ^ f)) m → FitsKind problem k m.1 × (m.0 ≡ number_of_kind f (moved problem.tiers [] 0 k m.1))
       stay d =
-          let r = of_moves_with problem.tiers split distinct (staying problem k.place) k.opened (k.place * 2 ^ f) m d in
+          let r = of_moves_with problem.tiers split distinct (staying problem.tiers problem.form k.place) k.opened (k.place * 2 ^ f) m d in
           let fit = stays problem split form k (flags_of f r.0) m.1 r.1.1.0 in
           let place : k.place ≡ k.place + 0 = omega arith in (
             fit.0,
             r.1.1.1 ∙ ap (λ p. p * 2 ^ f + r.0) place
-                ∙ ap (λ n. (k.place + 0) * 2 ^ f + n) (sym (flags_left problem.tiers split distinct (staying problem k.place) k.opened r.0 m.1 r.1.0 r.1.1.0))
+                ∙ ap (λ n. (k.place + 0) * 2 ^ f + n) (sym (flags_left problem.tiers split distinct (staying problem.tiers problem.form k.place) k.opened r.0 m.1 r.1.0 r.1.1.0))
                 ∙ sym (place_number k m.1 false fit.1),
           )
 
@@ -158,8 +158,8 @@ module _ (problem : Problem) (split : AreSplit problem.tiers) (distinct : AreDis
       (λ none.
       let place : k.place + 0 ≡ k.place = omega arith in
       let number : number_of_kind f (moved problem.tiers [] 0 k column) ≡ k.place * 2 ^ f + number_of_flags left = place_number k column false none ∙ ap (λ p. p * 2 ^ f + number_of_flags left) place in
-      Contains-append_left _ _ _ (subst (λ n. Contains (moves_with problem.tiers (staying problem k.place) k.opened (k.place * 2 ^ f)) (n, column)) (sym number)
-      (moves_with_has problem.tiers split distinct (staying problem k.place) k.opened left (k.place * 2 ^ f) column (length-map problem.tiers.free (λ t. opens (symbol column t))) (staying_fits problem split form k column fit none))))
+      Contains-append_left _ _ _ (subst (λ n. Contains (moves_with problem.tiers (staying problem.tiers problem.form k.place) k.opened (k.place * 2 ^ f)) (n, column)) (sym number)
+      (moves_with_has problem.tiers split distinct (staying problem.tiers problem.form k.place) k.opened left (k.place * 2 ^ f) column (length-map problem.tiers.free (λ t. opens (symbol column t))) (staying_fits problem split form k column fit none))))
       (λ next.
       let number : number_of_kind f (moved problem.tiers [] 0 k column) ≡ (k.place + 1) * 2 ^ f + number_of_flags left = place_number k column true (ap has_edge next.1 ∙ form_edge k.place next.0) in
       let on : List Move = moves_with problem.tiers (column_at problem.form k.place) k.opened ((k.place + 1) * 2 ^ f) in
@@ -176,7 +176,7 @@ module _ (problem : Problem) (split : AreSplit problem.tiers) (distinct : AreDis
 
   -- the moves ascend
   pub moves_ascend : (k : PrefixKind) → Ascends move_cmp (moves_from problem k)
-  moves_ascend k = ascends_append move_cmp _ _ (moves_with_ascend problem.tiers split distinct (staying problem k.place) k.opened (k.place * 2 ^ f)) (go (nat_lt k.place (last_place problem)))
+  moves_ascend k = ascends_append move_cmp _ _ (moves_with_ascend problem.tiers split distinct (staying problem.tiers problem.form k.place) k.opened (k.place * 2 ^ f)) (go (nat_lt k.place (last_place problem)))
       (λ m n c d. across m n c (nat_lt k.place (last_place problem)) d)
     where
       f : ℕ
@@ -189,10 +189,10 @@ module _ (problem : Problem) (split : AreSplit problem.tiers) (distinct : AreDis
       go true = moves_with_ascend problem.tiers split distinct (column_at problem.form k.place) k.opened ((k.place + 1) * 2 ^ f)
       go false = tt
 
-      across : (m n : Move) → Contains (moves_with problem.tiers (staying problem k.place) k.opened (k.place * 2 ^ f)) m → (b : Bool) → Contains (cond b on []) n → move_cmp m n ≡ Less
+      across : (m n : Move) → Contains (moves_with problem.tiers (staying problem.tiers problem.form k.place) k.opened (k.place * 2 ^ f)) m → (b : Bool) → Contains (cond b on []) n → move_cmp m n ≡ Less
       across m n c false d = absurd (contains_none n d)
       across m n c true d =
-          let r = of_moves_with problem.tiers split distinct (staying problem k.place) k.opened (k.place * 2 ^ f) m c in
+          let r = of_moves_with problem.tiers split distinct (staying problem.tiers problem.form k.place) k.opened (k.place * 2 ^ f) m c in
           let s = of_moves_with problem.tiers split distinct (column_at problem.form k.place) k.opened ((k.place + 1) * 2 ^ f) n d in
           let below : m.0 < n.0 = omega (arith, r.1.0, r.1.1.1, s.1.1.1) in
           ap (λ x. ordering_then x (slice_cmp sym_cmp m.1 n.1)) (sym (nat_cmp_is m.0 n.0 Less below))

@@ -23,8 +23,8 @@ use Rattle.ranked_gen.proofs.MemberLemmas.{all_from_members}
 use Rattle.ranked_gen.proofs.FewKinds.{Differ, stage_few}
 use Rattle.ranked_gen.proofs.OverBudget.{over_budget}
 use Rattle.stage_tables.proofs.Named.{frame_stage}
-use Rattle.kind_moves.specs.Frames.{problem_in}
 use Rattle.violation.specs.Problems.{last_stage}
+use Rattle.kind_moves.specs.Frames.{problem_in}
 
 pairs_differ : {X : Type 0} (xs : List X) → AllPairs (λ x y. x ≢ y) xs → Differ xs
 pairs_differ [] h = tt

@@ -40,7 +40,7 @@ use Rattle.ranked_gen.proofs.Ascending.{sorted_from, range_has}
 use Rattle.ranked_gen.proofs.FewKinds.{Differ, no_longer}
 use Rattle.ranked_gen.proofs.SortedKinds.{one_or_other, sorted_kinds}
 use Rattle.ranked_gen.proofs.Closures.{IsClosed, closure}
-use Rattle.violation.specs.Problems.{Problem, last_stage}
+use Rattle.violation.specs.Problems.{last_stage, Problem}
 
 -- a state and a kind over it
 abbrev Place : Type 0

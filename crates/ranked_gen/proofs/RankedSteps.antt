@@ -24,7 +24,7 @@ use Rattle.ranked_gen.specs.Budgets.{IsWithin}
 use Rattle.ranked_gen.specs.Left.{IsLeft, IsStaged, AreStages, IsRanked}
 use Rattle.ranked_gen.proofs.EndStage.{right_automaton}
 use Rattle.ranked_gen.proofs.StageList.{nodes_last, first_stages, next_stages, right_answer}
-use Rattle.violation.specs.Problems.{Problem, last_stage}
+use Rattle.violation.specs.Problems.{last_stage, Problem}
 
 -- stage 0 alone
 pub ranked_first : (problem : Problem) (budget : ℕ) (stage : Stage) {g : Ghosts UnitWeight} (kept : List (TableState UnitWeight g)) (states order : List ℕ)

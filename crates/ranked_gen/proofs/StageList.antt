@@ -15,7 +15,7 @@ use Rattle.answer_text.specs.Right.{IsRightStage, IsRightAutomaton, IsRight, nod
 use Rattle.violation.proofs.StageLemmas.{optimal_for_fewer}
 use Rattle.ranked_gen.specs.Budgets.{IsWithin, IsOver, IsFirstOver, AreAllWithin}
 use Rattle.ranked_gen.specs.Left.{AreStages}
-use Rattle.violation.specs.Problems.{Problem, last_stage}
+use Rattle.violation.specs.Problems.{last_stage, Problem}
 
 nodes_kept : (stages : List Stage) (stage : Stage) (s : ℕ) → s < length stages → nodes_at (stages ++ stage ∷ []) s ≡ nodes_at stages s
 nodes_kept stages stage s l =

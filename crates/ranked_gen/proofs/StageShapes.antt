@@ -15,8 +15,8 @@ use Rattle.violation.specs.Prefixes.{stretches}
 use Rattle.kind_moves.specs.declared.frame.Frame.{Frame}
 use Rattle.kind_moves.specs.Frames.{tiers_in, constraints_in, kind_at_stage, FitsFrame}
 use Rattle.kind_orders.specs.KindOrders.{AreFound}
-use Rattle.kind_moves.specs.Frames.{problem_in}
 use Rattle.violation.specs.Problems.{last_stage}
+use Rattle.kind_moves.specs.Frames.{problem_in}
 
 module _ (frame : Frame) (shape : Shape) (of : IsShapeOf frame.grammar.now shape) (stage : ℕ) (within : stage ≤ last_stage (problem_in frame)) where
   pub free_same : free_count shape ≡ length (tiers_in frame).free

@@ -11,7 +11,7 @@ use Rattle.ranked_gen.proofs.StageKinds.{first_over}
 use Rattle.ranked_gen.proofs.InitStage.{ranked_passed, bare_passed}
 use Rattle.violation.specs.Problems.{Problem}
 
-pub zero_over : (tiers : Tiers) → AreSplit problem.tiers → AreDistinct problem.tiers.free → (problem : Problem) → IsForm problem.tiers problem.form → (budget : ℕ) → budget < kind_count problem → IsFirstOver problem budget 0
+pub zero_over : (problem : Problem) → AreSplit problem.tiers → AreDistinct problem.tiers.free →  → IsForm problem.tiers problem.form → (budget : ℕ) → budget < kind_count problem → IsFirstOver problem budget 0
 zero_over problem split distinct form budget l =
     let bare = first_over problem split distinct form budget l in
     record {

@@ -25,7 +25,7 @@ use Rattle.ranked_gen.specs.Numbers.{flags_of, kind_numbered}
 use Rattle.ranked_gen.specs.Arcs.{still, staying}
 use Rattle.ranked_gen.specs.Listed.{IsNodeNumbered, IsStateNumbered, AreNumbered, AreListed}
 use Rattle.ranked_gen.proofs.NumberLemmas.{flags_of-low, same_kind, kind_from}
-use Rattle.violation.specs.Problems.{Problem, last_place}
+use Rattle.violation.specs.Problems.{last_place, Problem}
 
 -- the kind of a place and a set
 pub kind_at_place : (f place opened : ℕ) → opened < 2 ^ f → kind_numbered f (place * 2 ^ f + opened) ≡ kind_from place (flags_of f opened) []
@@ -40,7 +40,7 @@ module _ (problem : Problem) (form : IsForm problem.tiers problem.form) where
       ∙ ap opens (get_or-map (λ column. symbol column j) problem.form p [] Outside l)
 
   -- the symbols that stay after a column
-  pub staying_after : (p : ℕ) → p < last_place problem → length (column_at problem.form p) ≡ length problem.tiers.input → map (λ s. still (opens s)) (column_at problem.form p) ≡ staying problem (suc p)
+  pub staying_after : (p : ℕ) → p < last_place problem → length (column_at problem.form p) ≡ length problem.tiers.input → map (λ s. still (opens s)) (column_at problem.form p) ≡ staying problem.tiers problem.form (suc p)
   staying_after p l wide = fill_by_all at (map (λ s. still (opens s)) (column_at problem.form p)) (length problem.tiers.input) Outside (length-map (column_at problem.form p) (λ (s : Sym). still (opens s)) ∙ wide)
       (λ j h. get_or-map (λ s. still (opens s)) (column_at problem.form p) j Outside Outside (omega arith) ∙ ap still (sym (open_after p j l h)))
       ∙ sym (map-map still (λ j. is_open (word (take (suc p) problem.form) j)) (range_with_len 0 (length problem.tiers.input)))
@@ -49,13 +49,13 @@ module _ (problem : Problem) (form : IsForm problem.tiers problem.form) where
       at j = still (is_open (word (take (suc p) problem.form) j))
 
   -- the symbols that stay before the first column
-  pub staying_first : (syms : List Sym) → length syms ≡ 12 → length problem.tiers.input ≤ 12 → ((t : ℕ) → get_or syms t Outside ≡ Outside) → take (length problem.tiers.input) syms ≡ staying problem 0
+  pub staying_first : (syms : List Sym) → length syms ≡ 12 → length problem.tiers.input ≤ 12 → ((t : ℕ) → get_or syms t Outside ≡ Outside) → take (length problem.tiers.input) syms ≡ staying problem.tiers problem.form 0
   staying_first syms long few h = fill_by_all (λ j. still (is_open (word (take 0 problem.form) j))) (take (length problem.tiers.input) syms) (length problem.tiers.input) Outside (length-take-le (length problem.tiers.input) syms (omega arith))
       (λ j l. get_or-take (length problem.tiers.input) syms j Outside l ∙ h j)
       ∙ sym (map-map still (λ j. is_open (word (take 0 problem.form) j)) (range_with_len 0 (length problem.tiers.input)))
 
-pub length-staying : (problem : Problem) (place : ℕ) → length (staying problem place) ≡ length problem.tiers.input
-length-staying problem place = length-map (form_opened problem.tiers problem.form place) still ∙ length-map-range_with_len (λ j. is_open (word (take place problem.form) j)) 0 (length problem.tiers.input)
+pub length-staying : (problem : Problem) (place : ℕ) → length (staying problem.tiers problem.form place) ≡ length problem.tiers.input
+length-staying place = length-map (form_opened problem.tiers problem.form place) still ∙ length-map-range_with_len (λ j. is_open (word (take place problem.form) j)) 0 (length problem.tiers.input)
 
 -- one node and one state more
 pub numbered_more : {X : Type 0} (P : ℕ → X → Type 0) (n : ℕ) (xs : List X) (x : X) → AreNumbered P n xs → P (n + length xs) x → AreNumbered P n (xs ++ x ∷ [])

@@ -56,8 +56,8 @@ use Rattle.ranked_gen.specs.Left.{weight_number, TellsKind, AreOrdered, IsStaged
 use Rattle.ranked_gen.proofs.Ascending.{Ascends, ascends_from}
 use Rattle.ranked_gen.proofs.FirstKind.{none_before}
 use Rattle.ranked_gen.proofs.StageShapes.{tell_same, free_same, stretch_same}
-use Rattle.kind_moves.specs.Frames.{problem_in}
 use Rattle.violation.specs.Problems.{last_stage}
+use Rattle.kind_moves.specs.Frames.{problem_in}
 
 all_read : {X : Type 0} (R : X → Type 0) (xs : List X) (d : X) (i : ℕ) → AllByRecursion R xs → i < length xs → R (get_or xs i d)
 all_read R [] d i h l = absurd (omega arith)

@@ -26,7 +26,7 @@ use Rattle.ranked_gen.specs.Arcs.{moves_from}
 use Rattle.ranked_gen.specs.Listed.{kind_count, arc_view, table_view, move_view, IsStateNumbered, AreNumbered}
 use Rattle.ranked_gen.proofs.StateArcs.{IsMoveView, view_single, view_target, right_arcs}
 use Rattle.ranked_gen.proofs.LineLemmas.{numbered_seen}
-use Rattle.violation.specs.Problems.{Problem, last_place}
+use Rattle.violation.specs.Problems.{last_place, Problem}
 
 pub kinds_some : (problem : Problem) → 0 < kind_count problem
 kinds_some problem =

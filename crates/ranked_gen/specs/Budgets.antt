@@ -5,7 +5,7 @@ use Rattle.tier_core.specs.declared.constraint.Constraint.{Constraint}
 use Rattle.tier_core.specs.Tiers.{Tiers}
 use Rattle.tier_core.specs.Kinds.{PrefixKind}
 use Rattle.violation.specs.Stages.{AreKindsOfStage}
-use Rattle.violation.specs.Problems.{Problem, last_stage}
+use Rattle.violation.specs.Problems.{last_stage, Problem}
 
 -- stage r has more kinds than the budget
 pub record IsOver (problem : Problem) (budget r : ℕ) : Type 0 where

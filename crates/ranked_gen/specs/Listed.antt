@@ -15,7 +15,7 @@ use Rattle.arc_table.specs.declared.arc.TableArc.{TableArc}
 use Rattle.arc_table.specs.declared.state.TableState.{TableState}
 use Rattle.ranked_gen.specs.Numbers.{kind_numbered}
 use Rattle.ranked_gen.specs.Arcs.{moves_from}
-use Rattle.violation.specs.Problems.{Problem, last_place}
+use Rattle.violation.specs.Problems.{last_place, Problem}
 
 -- how many kinds there are
 abbrev pub kind_count : Problem → ℕ

@@ -2,8 +2,8 @@ ghost use Rattle.std.specs.Prelude.{◌≡◌, ◌<◌, ◌≤◌, ◌+◌, ◌*
 ghost use Rattle.violation.specs.Candidates.{IsForm};
 ghost use Rattle.kind_moves.specs.Frames.{tiers_in, form_in};
 ghost use Rattle.ranked_gen.specs.Listed.{AreListed};
-ghost use Rattle.kind_moves.specs.Frames.{problem_in};
 ghost use Rattle.violation.specs.Problems.{last_place};
+ghost use Rattle.kind_moves.specs.Frames.{problem_in};
 
 use crate::state::{kind_at, state_at};
 use crate::stay::staying;

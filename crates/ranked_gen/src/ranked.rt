@@ -4,8 +4,8 @@ ghost use Rattle.answer_text.specs.Right.{IsRight};
 ghost use Rattle.kind_moves.specs.Frames.{tiers_in, constraints_in, form_in};
 ghost use Rattle.ranked_gen.specs.Budgets.{IsFirstOver};
 ghost use Rattle.ranked_gen.specs.Left.{IsRanked};
-ghost use Rattle.kind_moves.specs.Frames.{problem_in};
 ghost use Rattle.violation.specs.Problems.{last_stage};
+ghost use Rattle.kind_moves.specs.Frames.{problem_in};
 
 use crate::gen_err::GenErr;
 use crate::staged::{Left, Staged, next_stage};

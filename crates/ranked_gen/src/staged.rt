@@ -12,8 +12,8 @@ ghost use Rattle.stage_tables.specs.Kept.{IsKept, IsOfOneColumn};
 ghost use Rattle.stage_tables.specs.Explored.{names_at};
 ghost use Rattle.ranked_gen.specs.Budgets.{IsOver, IsWithin};
 ghost use Rattle.ranked_gen.specs.Left.{IsStaged, weight_number};
-ghost use Rattle.kind_moves.specs.Frames.{problem_in};
 ghost use Rattle.violation.specs.Problems.{last_stage};
+ghost use Rattle.kind_moves.specs.Frames.{problem_in};
 
 use crate::gen_err::GenErr;
 use answer_text::Stage;

@@ -80,18 +80,17 @@ module _ {g : Ghosts UnitWeight} (frame : Frame) (stage : ℕ) (some : 1 ≤ sta
     -- and leads to a kind over the move's target
     pub next_stands : (kind : Kind) (s : ℕ) → StandsOver frame stage names kind s → (arc : TableArc UnitWeight g) (column : List Sym) → Contains (moves_at kept s) arc → IsTrue (has arc.class column) → (next : Kind) → IsMove frame stage kind column next → StandsOver frame stage names next arc.target
     next_stands kind s stands arc column here h next m =
-        let tiers = tiers_in frame in
-        let cs = constraints_in frame in
+        let problem = problem_in frame in
         let goes = by.named.moves s arc column here h in
         let last : stage ≡ suc (stage - 1) = omega arith in
         record {
           fits = m.next_fits;
           within = omega (arith, exist s arc here, by.named.each_named);
           named =
-              ap (cut cs (stage - 1)) m.leads
-              ∙ ap (λ n. cut cs (stage - 1) (moved tiers cs n (kind_at_stage frame stage kind) column)) last
-              ∙ cut-moved cs (stage - 1) (suc (stage - 1)) (omega arith) tiers (kind_at_stage frame stage kind) column
-              ∙ ap (λ k. moved tiers cs (stage - 1) k column) stands.named
+              ap (cut problem (stage - 1)) m.leads
+              ∙ ap (λ n. cut problem (stage - 1) (moved problem n (kind_at_stage frame stage kind) column)) last
+              ∙ cut-moved problem (stage - 1) (suc (stage - 1)) (omega arith) (kind_at_stage frame stage kind) column
+              ∙ ap (λ k. moved problem (stage - 1) k column) stands.named
               ∙ sym goes.leads;
         }
 

@@ -205,17 +205,15 @@ module _ {g : Ghosts UnitWeight} (frame : Frame) (stage : ℕ) (kept : List (Tab
     -- all kinds that are found make the table of the stage
     pub is_explored : IsExplored frame stage kept kinds states
     is_explored =
-        let tiers = tiers_in frame in
-        let cs = constraints_in frame in
-        let u = form_in frame in
+        let problem = problem_in frame in
         let before = frame_stage frame (stage - 1) (omega arith) in
         record {
-          named = subst (λ (n : ℕ). AreNamedByKinds tiers cs u n (names_at frame stage kinds) states) last (found_named tiers cs u (stage - 1) found.names kept found.kept_by.named before over (names_at frame stage kinds) states from_kept);
+          named = subst (λ (n : ℕ). AreNamedByKinds problem n (names_at frame stage kinds) states) last (found_named problem (stage - 1) found.names kept found.kept_by.named before over (names_at frame stage kinds) states from_kept);
           weighed = weighs;
           fit = λ k d l.
               (let a = at_number kinds over found.listed.each k l in
               subst (λ (x : Kind). FitsFrame frame stage x) (sym (get_or_from_slice_get kinds k a.0 d a.2.0)) (found.stands k a.0 a.1 a.2).fits);
           single = λ k b here. (let m = old_move k b here in subst IsOfOneColumn (sym m.3.2.same_class) (found.kept_by.single m.1 m.3.0 m.3.1));
-          accepts = λ T. same_words tiers cs u (stage - 1) found.names kept found.kept_by.named before over (names_at frame stage kinds) states from_kept T;
-          on_runs = λ s l. found_on_runs tiers cs u (stage - 1) found.names kept found.kept_by.named before over (names_at frame stage kinds) states from_kept found.kept_by.on_runs s l;
+          accepts = λ T. same_words problem (stage - 1) found.names kept found.kept_by.named before over (names_at frame stage kinds) states from_kept T;
+          on_runs = λ s l. found_on_runs problem (stage - 1) found.names kept found.kept_by.named before over (names_at frame stage kinds) states from_kept found.kept_by.on_runs s l;
         }

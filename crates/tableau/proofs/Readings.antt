@@ -123,21 +123,21 @@ not_before problem lines m n e f r s g = never_read problem r.front r.line g.mor
 -- one line has one cause
 line_cause : ((width limit : ℕ) (bytes : List ℕ) (e f : FormErr) → IsCause width limit bytes e → IsCause width limit bytes f → e ≡ f)
     → (problem : Problem) (before : ℕ) (line : List ℕ) (e f : RowsCause) → IsLineCause problem before line e → IsLineCause problem before line f → e ≡ f
-line_cause problem one before line TooMany TooMany a b = refl
-line_cause problem one before line TooMany (Form f) a b = let l = b.0 in absurd (omega arith)
-line_cause problem one before line TooMany NotCandidate a b = let l = b.0 in absurd (omega arith)
-line_cause problem one before line (Form e) TooMany a b = let l = a.0 in absurd (omega arith)
-line_cause problem one before line (Form e) (Form f) a b = ap Form (one problem.tiers.width 4096 line e f a.1 b.1)
-line_cause problem one before line (Form e) NotCandidate a b = absurd (not_both problem.tiers.width 4096 line b.1.timeline e b.1.text a.1)
-line_cause problem one before line NotCandidate TooMany a b = let l = a.0 in absurd (omega arith)
-line_cause problem one before line NotCandidate (Form f) a b = absurd (not_both problem.tiers.width 4096 line a.1.timeline f a.1.text b.1)
-line_cause problem one before line NotCandidate NotCandidate a b = refl
+line_cause one problem before line TooMany TooMany a b = refl
+line_cause one problem before line TooMany (Form f) a b = let l = b.0 in absurd (omega arith)
+line_cause one problem before line TooMany NotCandidate a b = let l = b.0 in absurd (omega arith)
+line_cause one problem before line (Form e) TooMany a b = let l = a.0 in absurd (omega arith)
+line_cause one problem before line (Form e) (Form f) a b = ap Form (one problem.tiers.width 4096 line e f a.1 b.1)
+line_cause one problem before line (Form e) NotCandidate a b = absurd (not_both problem.tiers.width 4096 line b.1.timeline e b.1.text a.1)
+line_cause one problem before line NotCandidate TooMany a b = let l = a.0 in absurd (omega arith)
+line_cause one problem before line NotCandidate (Form f) a b = absurd (not_both problem.tiers.width 4096 line a.1.timeline f a.1.text b.1)
+line_cause one problem before line NotCandidate NotCandidate a b = refl
 
 pub one_refusal : ((width limit : ℕ) (bytes : List ℕ) (e f : FormErr) → IsCause width limit bytes e → IsCause width limit bytes f → e ≡ f)
     → (problem : Problem) (lines : List (List ℕ)) (m n : ℕ) (e f : RowsCause) → IsRefusedAt problem lines m e → IsRefusedAt problem lines n f → (m ≡ n) × (e ≡ f)
-one_refusal problem one lines m n e f r s =
+one_refusal one problem lines m n e f r s =
     ⊎_elim (λ a. absurd (⊎_elim (λ g. not_before problem lines m n e f r s g) (λ g. not_before problem lines n m f e s r g) a))
-    (λ o. (sym r.counted ∙ ap (λ xs. length xs + 1) o.fronts ∙ s.counted, line_cause problem one (length r.rows) r.line e f r.comes (here o)))
+    (λ o. (sym r.counted ∙ ap (λ xs. length xs + 1) o.fronts ∙ s.counted, line_cause one problem (length r.rows) r.line e f r.comes (here o)))
     (cuts r.front r.line r.behind s.front s.line s.behind (sym r.whole ∙ s.whole))
   where
     same_rows : IsOneCut r.front s.front r.line s.line → r.rows ≡ s.rows

@@ -8,8 +8,8 @@ use Rattle.ranked_gen.specs.Left.{IsRanked}
 use Rattle.ranked_gen.proofs.StageList.{first_over}
 use Rattle.ranked_gen.proofs.RankedSteps.{ranked_next}
 use Rattle.ranked_gen.proofs.ranked.all_ranked.Goals as goal
-use Rattle.kind_moves.specs.Frames.{problem_in}
 use Rattle.violation.specs.Problems.{last_stage}
+use Rattle.kind_moves.specs.Frames.{problem_in}
 
 pub next_stage-requires-clause-accepts : goal.next_stage-requires-clause-accepts
 next_stage-requires-clause-accepts c = λ T.

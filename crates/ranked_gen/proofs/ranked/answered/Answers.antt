@@ -7,8 +7,8 @@ use Rattle.kind_orders.specs.AutomatonLines.{nodes_of}
 use Rattle.kind_orders.specs.Automata.{IsAutomatonOf}
 use Rattle.ranked_gen.proofs.RankedSteps.{some_left, first_optimal, whole_answer}
 use Rattle.ranked_gen.proofs.ranked.answered.Goals as goal
-use Rattle.kind_moves.specs.Frames.{problem_in}
 use Rattle.violation.specs.Problems.{last_stage}
+use Rattle.kind_moves.specs.Frames.{problem_in}
 
 pub unwrap-requires : goal.unwrap-requires
 unwrap-requires c =

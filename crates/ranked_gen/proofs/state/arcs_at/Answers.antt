@@ -8,14 +8,14 @@ use Rattle.ranked_gen.specs.Listed.{table_view}
 use Rattle.ranked_gen.proofs.StateSteps.{length-staying}
 use Rattle.ranked_gen.proofs.FrameSteps.{numbered_fits, numbered_flags, stay_fit, next_fit, arcs_end, arcs_on}
 use Rattle.ranked_gen.proofs.state.arcs_at.Goals as goal
-use Rattle.kind_moves.specs.Frames.{problem_in}
 use Rattle.violation.specs.Problems.{last_place}
+use Rattle.kind_moves.specs.Frames.{problem_in}
 
 pub push_moves-requires-clause-fits : goal.push_moves-requires-clause-fits
 push_moves-requires-clause-fits c = numbered_fits c.args.frame.now c.args.kind.now c.args.free (c.args.kind.now.place * 2 ^ c.args.free + c.args.opened) c.requires.count c.requires.numbered c.requires.place
 
 pub push_moves-requires-clause-wide : goal.push_moves-requires-clause-wide
-push_moves-requires-clause-wide c = ap length c.requires.stay ∙ length-staying (problem_in c.args.frame.now) c.args.kind.now.place
+push_moves-requires-clause-wide c = ap length c.requires.stay ∙ length-staying (tiers_in c.args.frame.now) (form_in c.args.frame.now) c.args.kind.now.place
 
 pub push_moves-requires-clause-columns : goal.push_moves-requires-clause-columns
 push_moves-requires-clause-columns c =
@@ -23,7 +23,7 @@ push_moves-requires-clause-columns c =
     let kind = c.args.kind.now in
     let flags = numbered_flags frame kind c.args.free kind.place c.args.opened c.requires.count c.requires.numbered in
     subst (λ given. AllFit frame kind (columns_from (tiers_in frame) given (flags_of c.args.free c.args.opened))) (sym c.requires.stay)
-    (subst (λ fs. AllFit frame kind (columns_from (tiers_in frame) (staying (problem_in frame) kind.place) fs)) flags (stay_fit frame c.requires.form kind))
+    (subst (λ fs. AllFit frame kind (columns_from (tiers_in frame) (staying (tiers_in frame) (form_in frame) kind.place) fs)) flags (stay_fit frame c.requires.form kind))
 
 pub push_moves-requires-2-clause-columns : goal.push_moves-requires-2-clause-columns
 push_moves-requires-2-clause-columns c =

@@ -23,7 +23,8 @@ use Rattle.violation.specs.Stages.{IsPassed}
 use Rattle.violation.proofs.TierLemmas.{map_agree}
 use Rattle.ranked_gen.specs.WideColumns.{widened}
 use Rattle.ranked_gen.proofs.WidenedColumns.{over, all_at, all_mapped, on_nothing, not_listed, length_over, symbol_over, word_flagged, word_outside, part_bare, over_runs, over_reduced, squeeze_over}
-use Rattle.ranked_gen.proofs.BareForm.{bare_form, bare_candidate, all_optimal}
+use Rattle.violation.proofs.StageLemmas.{all_optimal}
+use Rattle.ranked_gen.proofs.BareForm.{bare_form, bare_candidate}
 use Rattle.ranked_gen.proofs.MoveMembers.{flags_on}
 use Rattle.violation.specs.Problems.{last_place, Problem}
 
@@ -54,7 +55,7 @@ all_taken P n xs h = recursion_from_All P (take n xs) (All-take P n xs (All-from
 
 runs_inside : (u : List (List Sym)) → runs true (map (λ c. Inside) u ++ End ∷ []) ≡ true
 runs_inside [] = refl
-runs_inside (c ∷ u) = runs_inside problem
+runs_inside (c ∷ u) = runs_inside u
 
 runs_closed : (b : Bool) (w : List Sym) → runs b w ≡ true → runs b (w ++ Outside ∷ []) ≡ true
 runs_closed true [] h = absurd (false≢true h)
@@ -65,11 +66,11 @@ runs_closed b (s ∷ w) h =
 
 no_end : (u : List (List Sym)) → list_any ends (map (λ c. Inside) u) ≡ false
 no_end [] = refl
-no_end (c ∷ u) = no_end problem
+no_end (c ∷ u) = no_end u
 
 closed_outside : (u : List (List Sym)) → is_open (map (λ c. Outside) u) ≡ false
 closed_outside [] = refl
-closed_outside (c ∷ u) = closed_outside problem
+closed_outside (c ∷ u) = closed_outside u
 
 module _ (problem : Problem) (split : AreSplit problem.tiers) (flag : ℕ → Bool) (off : (t : ℕ) → Contains problem.tiers.input t → flag t ≡ false) where
   first_symbol : (s : Sym) (t : ℕ) → t < problem.tiers.width → flag t ≡ true → symbol (over problem.tiers flag s []) t ≡ s
@@ -87,8 +88,8 @@ module _ (problem : Problem) (split : AreSplit problem.tiers) (flag : ℕ → Bo
     where
       by_test : (b : Bool) → flag t ≡ b
           → runs false (symbol (over problem.tiers flag Start []) t ∷ (word (map (over problem.tiers flag Inside) problem.form) t ++ symbol (over problem.tiers flag End []) t ∷ [])) ≡ true
-      by_test true h = rw (first_symbol Start t l h, first_symbol End t l h, word_flagged problem flag Inside t l h) (runs_inside problem)
-      by_test false h = rw (other_symbol Start t l h, other_symbol End t l h) (runs_closed false (word (map (over problem.tiers flag Inside) problem.form) t) (over_runs problem flag Inside split off t wf l h))
+      by_test true h = rw (first_symbol Start t l h, first_symbol End t l h, word_flagged problem.tiers flag Inside problem.form t l h) (runs_inside problem.form)
+      by_test false h = rw (other_symbol Start t l h, other_symbol End t l h) (runs_closed false (word (map (over problem.tiers flag Inside) problem.form) t) (over_runs problem.tiers flag Inside split off problem.form t wf l h))
 
   marked_input : AllByRecursion (λ column. length column ≡ length problem.tiers.input) problem.form → IsReduced problem.form → squeeze (project problem.tiers.input (marked problem flag)) ≡ problem.form
   marked_input a r =
@@ -99,7 +100,7 @@ module _ (problem : Problem) (split : AreSplit problem.tiers) (flag : ℕ → Bo
       ∙ filter-append has_edge (project problem.tiers.input inner) (project problem.tiers.input last)
       ∙ ap (λ v. squeeze (project problem.tiers.input inner) ++ v) (cond-false (has_edge (map (symbol (over problem.tiers flag End [])) problem.tiers.input)) _ _ (part_bare problem.tiers flag End split off))
       ∙ append-nil (squeeze (project problem.tiers.input inner))
-      ∙ squeeze_over problem flag Inside split off a r
+      ∙ squeeze_over problem.tiers flag Inside split off problem.form a r
 
   -- With a flag that is set, the marked form is a candidate.
   pub marked_candidate : (t : ℕ) → IsWellFormed (length problem.tiers.input) problem.form → IsReduced problem.form → t < problem.tiers.width → flag t ≡ true → IsCandidate problem (marked problem flag)
@@ -113,7 +114,7 @@ module _ (problem : Problem) (split : AreSplit problem.tiers) (flag : ℕ → Bo
     };
     reduced = (
       edge_at (over problem.tiers flag Start []) t (ap is_edge (first_symbol Start t l h)),
-      all_append _ (map (over problem.tiers flag Inside) problem.form) (over problem.tiers flag End [] ∷ []) (over_reduced problem flag Inside split off wf.one_width r)
+      all_append _ (map (over problem.tiers flag Inside) problem.form) (over problem.tiers flag End [] ∷ []) (over_reduced problem.tiers flag Inside split off problem.form wf.one_width r)
           (edge_at (over problem.tiers flag End []) t (ap is_edge (first_symbol End t l h)), tt),
     );
     input = marked_input wf.one_width r;
@@ -146,9 +147,9 @@ module _ (problem : Problem) (split : AreSplit problem.tiers) (once : AreDistinc
 
   fits_kind : (p : List (List Sym)) → length (squeeze (project problem.tiers.input p)) ≡ place
       → ((t : ℕ) → Contains problem.tiers.free t → t < problem.tiers.width → is_open (word p t) ≡ flag_of problem.tiers.free opened t)
-      → kind_of problem.tiers [] 0 p ≡ record { place = place; opened = opened; phases = [] }
+      → kind_of problem 0 p ≡ record { place = place; opened = opened; phases = [] }
   fits_kind p a b =
-      let same : map (λ t. is_open (word p t)) problem.tiers.free ≡ opened = at_free problem.tiers split (flag_of problem.tiers.free opened) off (λ t. is_open (word p t)) b ∙ flags_on problem.tiers.free opened once flags in
+      let same : map (λ t. is_open (word p t)) problem.tiers.free ≡ opened = at_free problem split (flag_of problem.tiers.free opened) off (λ t. is_open (word p t)) b ∙ flags_on problem.tiers.free opened once flags in
       let kind : ℕ → List Bool → PrefixKind = λ n bs. record { place = n; opened = bs; phases = [] } in
       ap₂ kind a same
 
@@ -162,7 +163,7 @@ module _ (problem : Problem) (split : AreSplit problem.tiers) (once : AreDistinc
   edged : IsReduced (take place problem.form)
   edged = all_taken _ place problem.form reduced
 
-  with_flag : (t : ℕ) → t < problem.tiers.width → flag_of problem.tiers.free opened t ≡ true → IsPassed problem.tiers [] problem.form 0 0 (record { place = place; opened = opened; phases = [] })
+  with_flag : (t : ℕ) → t < problem.tiers.width → flag_of problem.tiers.free opened t ≡ true → IsPassed problem 0 0 (record { place = place; opened = opened; phases = [] })
   with_flag t l h =
       let flag : ℕ → Bool = flag_of problem.tiers.free opened in
       let inner : List (List Sym) = map (over problem.tiers flag Inside) problem.form in
@@ -177,14 +178,14 @@ module _ (problem : Problem) (split : AreSplit problem.tiers) (once : AreDistinc
         passes = record {
           optimal = all_optimal problem (marked problem flag) (marked_candidate problem split flag off t wf reduced l h);
           within = omega arith;
-          of_kind = ap (kind_of problem.tiers [] 0) cut
+          of_kind = ap (kind_of problem 0) cut
               ∙ fits_kind prefix
               (ap length (cond-false (has_edge (map (symbol (over problem.tiers flag Start [])) problem.tiers.input)) _ _ (part_bare problem.tiers flag Start split off) ∙ squeeze_over problem.tiers flag Inside split off (take place problem.form) wide edged) ∙ taken)
-              (marked_open problem.tiers split flag off (take place problem.form));
+              (marked_open problem split flag off (take place problem.form));
         };
       }
 
-  with_none : ((t : ℕ) → t < problem.tiers.width → flag_of problem.tiers.free opened t ≡ false) → IsPassed problem.tiers [] problem.form 0 0 (record { place = place; opened = opened; phases = [] })
+  with_none : ((t : ℕ) → t < problem.tiers.width → flag_of problem.tiers.free opened t ≡ false) → IsPassed problem 0 0 (record { place = place; opened = opened; phases = [] })
   with_none h =
       let long : length (bare_form problem.tiers problem.form) ≡ last_place problem = length-map problem.form (widened problem.tiers) in
       record {
@@ -193,13 +194,13 @@ module _ (problem : Problem) (split : AreSplit problem.tiers) (once : AreDistinc
         passes = record {
           optimal = all_optimal problem (bare_form problem.tiers problem.form) (bare_candidate problem split wf reduced);
           within = omega arith;
-          of_kind = ap (kind_of problem.tiers [] 0) (take-map (widened problem.tiers) place problem.form)
+          of_kind = ap (kind_of problem 0) (take-map (widened problem.tiers) place problem.form)
               ∙ fits_kind (bare_form problem.tiers (take place problem.form))
               (ap length (squeeze_over problem.tiers (λ t. false) Outside split (λ t c. refl) (take place problem.form) wide edged) ∙ taken)
-              (λ t f l. bare_open problem.tiers split (flag_of problem.tiers.free opened) off (take place problem.form) t f l (h t l));
+              (λ t f l. bare_open problem split (flag_of problem.tiers.free opened) off (take place problem.form) t f l (h t l));
         };
       }
 
   -- Each kind without phases is passed.
-  pub all_passed : IsPassed problem.tiers [] problem.form 0 0 (record { place = place; opened = opened; phases = [] })
+  pub all_passed : IsPassed problem 0 0 (record { place = place; opened = opened; phases = [] })
   all_passed = ⊎_elim (λ a. with_flag a.0 a.1 a.2) with_none (any_below (flag_of problem.tiers.free opened) problem.tiers.width)

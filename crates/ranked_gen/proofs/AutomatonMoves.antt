@@ -71,7 +71,7 @@ numbered_within problem i l = record {
 
 module _ (problem : Problem) (split : AreSplit problem.tiers) where
   -- a move stays within
-  pub moved_within : (k : PrefixKind) (column : List Sym) → FitsKind problem k column → k.place ≤ last_place problem → IsWithin problem (moved problem.tiers [] 0 k column)
+  pub moved_within : (k : PrefixKind) (column : List Sym) → FitsKind problem k column → k.place ≤ last_place problem → IsWithin problem (moved problem 0 k column)
   moved_within k column fit l = record {
     place = go (has_edge (input_of problem.tiers column)) refl fit.input;
     flags = length-map problem.tiers.free (λ t. opens (symbol column t));
@@ -84,21 +84,21 @@ module _ (problem : Problem) (split : AreSplit problem.tiers) where
       go false e other = omega arith
 
   -- the kind of the empty prefix is the first
-  pub start_within : IsWithin problem (kind_of problem.tiers [] 0 [])
+  pub start_within : IsWithin problem (kind_of problem 0 [])
   start_within = record { place = omega arith; flags = length-map problem.tiers.free (λ t. is_open (word [] t)); phases = refl }
 
-  pub start_number : number_of_kind (length problem.tiers.free) (kind_of problem.tiers [] 0 []) ≡ 0
+  pub start_number : number_of_kind (length problem.tiers.free) (kind_of problem 0 []) ≡ 0
   start_number = none problem.tiers.free
     where
       none : (ts : List ℕ) → 0 * 2 ^ length problem.tiers.free + number_of_flags (map (λ t. is_open (word [] t)) ts) ≡ 0
       none ts = omega (arith, no_flags ts)
 
-  pub reached_within : (k : PrefixKind) (T : List (List Sym)) → IsWithin problem k → HasMoves problem.tiers [] 0 problem.form k T → IsWithin problem (reached problem.tiers [] 0 k T)
+  pub reached_within : (k : PrefixKind) (T : List (List Sym)) → IsWithin problem k → HasMoves problem 0 k T → IsWithin problem (reached problem 0 k T)
   reached_within k [] w h = w
-  reached_within k (column ∷ T) w h = reached_within (moved problem.tiers [] 0 k column) T (moved_within k column h.0 w.place) h.1
+  reached_within k (column ∷ T) w h = reached_within (moved problem 0 k column) T (moved_within k column h.0 w.place) h.1
 
   -- the kind of a prefix of a candidate is within
-  pub kind_within : IsForm problem.tiers problem.form → (p : List (List Sym)) → BeginsCandidate problem p → IsWithin problem (kind_of problem.tiers [] 0 p)
+  pub kind_within : IsForm problem.tiers problem.form → (p : List (List Sym)) → BeginsCandidate problem p → IsWithin problem (kind_of problem 0 p)
   kind_within form p b =
-      let walk = (moves_begin problem.tiers [] 0 problem.form split form tt p).1 b in
-      subst (IsWithin problem) (reached_is problem.tiers [] 0 problem.form split form tt p walk) (reached_within (kind_of problem.tiers [] 0 []) p start_within walk)
+      let walk = (moves_begin problem 0 split form tt p).1 b in
+      subst (IsWithin problem) (reached_is problem 0 split form tt p walk) (reached_within (kind_of problem 0 []) p start_within walk)

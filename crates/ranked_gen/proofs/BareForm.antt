@@ -20,12 +20,8 @@ pub bare_candidate : (problem : Problem) → AreSplit problem.tiers → IsWellFo
 bare_candidate problem split wf reduced = record {
   well_formed = record {
     one_width = all_mapped _ (widened problem.tiers) problem.form (length_over problem.tiers (λ t. false) Outside);
-    each_tier = λ t l. well_formed_from_runs (word (bare_form problem.tiers problem.form) t) (over_runs problem (λ t. false) Outside split (λ t c. refl) t wf l refl);
+    each_tier = λ t l. well_formed_from_runs (word (bare_form problem.tiers problem.form) t) (over_runs problem.tiers (λ t. false) Outside split (λ t c. refl) problem.form t wf l refl);
   };
-  reduced = over_reduced problem (λ t. false) Outside split (λ t c. refl) wf.one_width reduced;
-  input = squeeze_over problem (λ t. false) Outside split (λ t c. refl) wf.one_width reduced;
+  reduced = over_reduced problem.tiers (λ t. false) Outside split (λ t c. refl) problem.form wf.one_width reduced;
+  input = squeeze_over problem.tiers (λ t. false) Outside split (λ t c. refl) problem.form wf.one_width reduced;
 }
-
--- where no constraint is ranked each candidate is optimal
-pub all_optimal : (problem : Problem) (T : List (List Sym)) → IsCandidate problem T → IsOptimalFor problem.tiers [] problem.form 0 T
-all_optimal problem T c = record { candidate = c; least = λ U d. refl }

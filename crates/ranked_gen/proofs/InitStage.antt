@@ -49,21 +49,6 @@ use Rattle.ranked_gen.proofs.TableOfKinds.{kinds_some, moves_shown, move_single,
 use Rattle.ranked_gen.proofs.RightAnswer.{numbered_get, right_stage}
 use Rattle.violation.specs.Problems.{Problem}
 
--- what passes no constraint passes none of those that are ranked
-pub ranked_passed : (problem : Problem) (k : PrefixKind) → IsPassed problem.tiers [] problem.form 0 0 k → IsPassed problem 0 0 k
-ranked_passed problem k p = record {
-  candidate = p.candidate;
-  columns = p.columns;
-  passes = record { optimal = all_optimal problem p.candidate p.passes.optimal.candidate; within = p.passes.within; of_kind = p.passes.of_kind };
-}
-
-pub bare_passed : (problem : Problem) (k : PrefixKind) → IsPassed problem 0 0 k → IsPassed problem.tiers [] problem.form 0 0 k
-bare_passed problem k p = record {
-  candidate = p.candidate;
-  columns = p.columns;
-  passes = record { optimal = all_optimal problem.tiers [] problem.form p.candidate p.passes.optimal.candidate; within = p.passes.within; of_kind = p.passes.of_kind };
-}
-
 module _ (problem : Problem) (distinct : AreDistinct problem.tiers.free) (stage : IsStage problem 0) {g : Ghosts UnitWeight} (nodes : List Node) (states : List (TableState UnitWeight g)) (listed : AreListed problem (kind_count problem) nodes states) where
   abbrev names : List PrefixKind
   names = map (kind_numbered (length problem.tiers.free)) (range_with_len 0 (kind_count problem))
@@ -104,11 +89,11 @@ module _ (problem : Problem) (distinct : AreDistinct problem.tiers.free) (stage 
       let k = kind_numbered (length problem.tiers.free) s in
       let same = only s arc c column h in
       let fits : FitsKind problem k column = subst (FitsKind problem k) (sym same) m.fits_kind in
-      let w : IsWithin problem (moved problem.tiers [] 0 k column) = moved_within problem stage.split k column fits (within s l).place in
+      let w : IsWithin problem (moved problem 0 k column) = moved_within problem stage.split k column fits (within s l).place in
       record {
         fits = subst (λ q. FitsKind problem q column) (sym (name_is s l)) fits;
-        leads = ap (name_of names) (m.to ∙ ap (λ x. number_of_kind (length problem.tiers.free) (moved problem.tiers [] 0 k x)) (sym same))
-            ∙ name_back (moved problem.tiers [] 0 k column) w
+        leads = ap (name_of names) (m.to ∙ ap (λ x. number_of_kind (length problem.tiers.free) (moved problem 0 k x)) (sym same))
+            ∙ name_back (moved problem 0 k column) w
             ∙ ap (λ q. moved problem 0 q column) (sym (name_is s l));
       }
 
@@ -124,7 +109,7 @@ module _ (problem : Problem) (distinct : AreDistinct problem.tiers.free) (stage 
   first_kind : kind_numbered (length problem.tiers.free) 0 ≡ kind_of problem 0 []
   first_kind =
       let w = start_within problem stage.split in
-      ap (kind_numbered (length problem.tiers.free)) (sym (start_number problem stage.split)) ∙ kind_numbered-number (length problem.tiers.free) (kind_of problem.tiers [] 0 []) w.flags w.phases
+      ap (kind_numbered (length problem.tiers.free)) (sym (start_number problem stage.split)) ∙ kind_numbered-number (length problem.tiers.free) (kind_of problem 0 []) w.flags w.phases
 
   named : AreNamedByKinds problem 0 names states
   named = record {
@@ -146,7 +131,7 @@ module _ (problem : Problem) (distinct : AreDistinct problem.tiers.free) (stage 
   all_moves : HaveAllMoves problem names states
   all_moves s column l fit =
       let k = kind_numbered (length problem.tiers.free) s in
-      let j = number_of_kind (length problem.tiers.free) (moved problem.tiers [] 0 k column) in
+      let j = number_of_kind (length problem.tiers.free) (moved problem 0 k column) in
       let there : Contains (map move_view (moves_from problem k)) (move_view (j, column)) =
       contains_map move_view (moves_from problem k) (j, column) (moves_listed problem stage.split distinct stage.form k column (subst (λ q. FitsKind problem q column) (name_is s l) fit)) in
       let a = contains_of_map table_view (moves_at states s) (move_view (j, column)) (subst (λ vs. Contains vs (move_view (j, column))) (sym (shown s l)) there) in
@@ -202,15 +187,7 @@ module _ (problem : Problem) (distinct : AreDistinct problem.tiers.free) (stage 
       }
 
   right : IsRightStage problem 0 nodes
-  right =
-      let bare : IsRightStage problem.tiers [] problem.form 0 nodes = right_stage problem stage.split distinct stage.form nodes listed.node_count listed.each_node in
-      record {
-        kinds = record {
-          ascending = bare.kinds.ascending;
-          members = λ k. (λ c. ranked_passed problem k ((bare.kinds.members k).0 c), λ p. (bare.kinds.members k).1 (bare_passed problem k p));
-        };
-        potentials = bare.potentials;
-      }
+  right = right_stage problem stage.split distinct stage.form nodes listed.node_count listed.each_node
 
   tells : (p : List (List Sym)) (s place : ℕ) → s < length states → Reaches states p s → place < length (range_with_len 0 (length states)) → get_or (range_with_len 0 (length states)) place 0 ≡ get_or (range_with_len 0 (length states)) s 0
       → TellsKind problem 0 nodes place (kind_of problem 0 p)
@@ -234,6 +211,5 @@ module _ (problem : Problem) (distinct : AreDistinct problem.tiers.free) (stage 
 
   pub first_within : (budget : ℕ) → kind_count problem ≤ budget → IsWithinBudget problem budget 0
   first_within budget l ks a =
-      let few = kinds_few problem stage.split distinct stage.form ks
-      (record { ascending = a.ascending; members = λ k. (λ c. bare_passed problem k ((a.members k).0 c), λ p. (a.members k).1 (ranked_passed problem k p)) }) in
+      let few = kinds_few problem stage.split distinct stage.form ks a in
       omega (arith, few, l)

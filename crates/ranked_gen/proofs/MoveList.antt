@@ -116,20 +116,20 @@ module _ (tiers : Tiers) (split : AreSplit tiers) (distinct : AreDistinct tiers.
 
 module _ (problem : Problem) (split : AreSplit problem.tiers) (distinct : AreDistinct problem.tiers.free) (form : IsForm problem.tiers problem.form) where
   place_number : (k : PrefixKind) (column : List Sym) (b : Bool) → has_edge (input_of problem.tiers column) ≡ b
-      → number_of_kind (length problem.tiers.free) (moved problem.tiers [] 0 k column) ≡ (k.place + cond b 1 0) * 2 ^ length problem.tiers.free + number_of_flags (map (λ t. opens (symbol column t)) problem.tiers.free)
+      → number_of_kind (length problem.tiers.free) (moved problem 0 k column) ≡ (k.place + cond b 1 0) * 2 ^ length problem.tiers.free + number_of_flags (map (λ t. opens (symbol column t)) problem.tiers.free)
   place_number k column b e = ap (λ c. (k.place + cond c 1 0) * 2 ^ length problem.tiers.free + number_of_flags (map (λ t. opens (symbol column t)) problem.tiers.free)) e
 
   form_edge : (place : ℕ) → place < last_place problem → has_edge (column_at problem.form place) ≡ true
   form_edge place l = All-from_recursion (λ column. IsTrue (has_edge column)) problem.form form.reduced place [] l
 
   -- a move that is listed is a move of kinds
-  pub listed_moves : (k : PrefixKind) (m : Move) → Contains (moves_from problem k) m → FitsKind problem k m.1 × (m.0 ≡ number_of_kind (length problem.tiers.free) (moved problem.tiers [] 0 k m.1))
+  pub listed_moves : (k : PrefixKind) (m : Move) → Contains (moves_from problem k) m → FitsKind problem k m.1 × (m.0 ≡ number_of_kind (length problem.tiers.free) (moved problem 0 k m.1))
   listed_moves k m c = ⊎_elim stay (λ d. go (nat_lt k.place (last_place problem)) refl d) (Contains-append_cases _ _ m c)
     where
       f : ℕ
       f = length problem.tiers.free
 
-      stay : Contains (moves_with problem.tiers (staying problem.tiers problem.form k.place) k.opened (k.place * 2 ^ f)) m → FitsKind problem k m.1 × (m.0 ≡ number_of_kind f (moved problem.tiers [] 0 k m.1))
+      stay : Contains (moves_with problem.tiers (staying problem.tiers problem.form k.place) k.opened (k.place * 2 ^ f)) m → FitsKind problem k m.1 × (m.0 ≡ number_of_kind f (moved problem 0 k m.1))
       stay d =
           let r = of_moves_with problem.tiers split distinct (staying problem.tiers problem.form k.place) k.opened (k.place * 2 ^ f) m d in
           let fit = stays problem split form k (flags_of f r.0) m.1 r.1.1.0 in
@@ -140,7 +140,7 @@ module _ (problem : Problem) (split : AreSplit problem.tiers) (distinct : AreDis
                 ∙ sym (place_number k m.1 false fit.1),
           )
 
-      go : (b : Bool) → nat_lt k.place (last_place problem) ≡ b → Contains (cond b (moves_with problem.tiers (column_at problem.form k.place) k.opened ((k.place + 1) * 2 ^ f)) []) m → FitsKind problem k m.1 × (m.0 ≡ number_of_kind f (moved problem.tiers [] 0 k m.1))
+      go : (b : Bool) → nat_lt k.place (last_place problem) ≡ b → Contains (cond b (moves_with problem.tiers (column_at problem.form k.place) k.opened ((k.place + 1) * 2 ^ f)) []) m → FitsKind problem k m.1 × (m.0 ≡ number_of_kind f (moved problem 0 k m.1))
       go true e d =
           let r = of_moves_with problem.tiers split distinct (column_at problem.form k.place) k.opened ((k.place + 1) * 2 ^ f) m d in
           let l : k.place < last_place problem = ltb-true k.place (last_place problem) e in
@@ -153,17 +153,17 @@ module _ (problem : Problem) (split : AreSplit problem.tiers) (distinct : AreDis
       go false e d = absurd (contains_none m d)
 
   -- each move of kinds is listed
-  pub moves_listed : (k : PrefixKind) (column : List Sym) → FitsKind problem k column → Contains (moves_from problem k) (number_of_kind (length problem.tiers.free) (moved problem.tiers [] 0 k column), column)
+  pub moves_listed : (k : PrefixKind) (column : List Sym) → FitsKind problem k column → Contains (moves_from problem k) (number_of_kind (length problem.tiers.free) (moved problem 0 k column), column)
   moves_listed k column fit = ⊎_elim
       (λ none.
       let place : k.place + 0 ≡ k.place = omega arith in
-      let number : number_of_kind f (moved problem.tiers [] 0 k column) ≡ k.place * 2 ^ f + number_of_flags left = place_number k column false none ∙ ap (λ p. p * 2 ^ f + number_of_flags left) place in
+      let number : number_of_kind f (moved problem 0 k column) ≡ k.place * 2 ^ f + number_of_flags left = place_number k column false none ∙ ap (λ p. p * 2 ^ f + number_of_flags left) place in
       Contains-append_left _ _ _ (subst (λ n. Contains (moves_with problem.tiers (staying problem.tiers problem.form k.place) k.opened (k.place * 2 ^ f)) (n, column)) (sym number)
       (moves_with_has problem.tiers split distinct (staying problem.tiers problem.form k.place) k.opened left (k.place * 2 ^ f) column (length-map problem.tiers.free (λ t. opens (symbol column t))) (staying_fits problem split form k column fit none))))
       (λ next.
-      let number : number_of_kind f (moved problem.tiers [] 0 k column) ≡ (k.place + 1) * 2 ^ f + number_of_flags left = place_number k column true (ap has_edge next.1 ∙ form_edge k.place next.0) in
+      let number : number_of_kind f (moved problem 0 k column) ≡ (k.place + 1) * 2 ^ f + number_of_flags left = place_number k column true (ap has_edge next.1 ∙ form_edge k.place next.0) in
       let on : List Move = moves_with problem.tiers (column_at problem.form k.place) k.opened ((k.place + 1) * 2 ^ f) in
-      Contains-append_right _ _ _ (subst (λ b. Contains (cond b on []) (number_of_kind f (moved problem.tiers [] 0 k column), column)) (sym (lt-ltb k.place (last_place problem) next.0))
+      Contains-append_right _ _ _ (subst (λ b. Contains (cond b on []) (number_of_kind f (moved problem 0 k column), column)) (sym (lt-ltb k.place (last_place problem) next.0))
       (subst (λ n. Contains on (n, column)) (sym number)
       (moves_with_has problem.tiers split distinct (column_at problem.form k.place) k.opened left ((k.place + 1) * 2 ^ f) column (length-map problem.tiers.free (λ t. opens (symbol column t))) (advancing_fits problem split form k column fit next.1)))))
       fit.input

@@ -1,6 +1,6 @@
 -- The kinds of a stage can be listed, whatever table the stage before has left. So a stage of which
 -- more kinds than a budget are found is over it.
-use Rattle.std.proofs.Common.{◌≡◌, ◌≢◌, ℕ, zero, suc, ◌+◌, ◌-◌, ◌<◌, ◌≤◌, ◌⊎◌, inl, inr, Bool, true, false, cond, List, [], ◌∷◌, ◌++◌, map, take, drop, length, get_or, refl, sym, ap, ap₂, ◌∙◌, subst, arith, ⊎_elim, take_at, Contains}
+use Rattle.std.proofs.Common.{filter, ◌≡◌, ◌≢◌, ℕ, zero, suc, ◌+◌, ◌-◌, ◌<◌, ◌≤◌, ◌⊎◌, inl, inr, Bool, true, false, cond, List, [], ◌∷◌, ◌++◌, map, take, drop, length, get_or, refl, sym, ap, ap₂, ◌∙◌, subst, arith, ⊎_elim, take_at, Contains}
 use Rattle.std.specs.Prelude.{◌↔◌}
 use Rattle.std.specs.List.{range_with_len, flat_map}
 use Rattle.std.proofs.lemmas.Bool.{cases_order}
@@ -97,7 +97,8 @@ bit_most true = omega arith
 bit_most false = omega arith
 
 -- one constraint more has one stretch implication more at most
-one_stretch : (problem : Problem) (r : ℕ) → r < last_stage problem → length (stretches problem (r + 1)) ≤ length (stretches problem r) + 1
+one_stretch : (cs : List Constraint) (r : ℕ) → r < length cs
+    → length (filter is_stretch (take (r + 1) cs)) ≤ length (filter is_stretch (take r cs)) + 1
 one_stretch [] r l = absurd (omega arith)
 one_stretch (c ∷ cs) r l =
     let e = length-filter_more is_stretch (c ∷ cs) r c l in
@@ -188,7 +189,7 @@ module _ (problem : Problem) (r : ℕ) (stage : IsStage problem r) (next : IsSta
       ap (cut problem r) whole ∙ cut-kind_of problem r (r + 1) less p ∙ sym (path_kind problem r stage names kept named gone.arcs s p gone.path gone.reads) in
       let room : r < last_stage problem = omega (arith, next.within) in
       let phases : length k.phases ≡ length (stretches problem (r + 1)) = ap (λ (q : PrefixKind). length q.phases) whole ∙ length-map (stretches problem (r + 1)) (λ c. phase c.left c.right p) in
-      let few : length k.phases ≤ length (stretches problem r) + 1 = omega (arith, phases, one_stretch problem r room) in
+      let few : length k.phases ≤ length (stretches problem r) + 1 = omega (arith, phases, one_stretch problem.constraints r room) in
       contains_flat (λ s. map (λ k. (s, k)) (longer (name_of names s))) (range_with_len 0 (length kept)) s (s, k) (range_has 0 (length kept) s (omega arith) (omega (arith, gone.inside)))
       (contains_map (λ k. (s, k)) (longer (name_of names s)) k (is_longer (name_of names s) k cuts few))
 

@@ -30,20 +30,13 @@ numbered_get P n (x ∷ xs) zero a l = let here : n ≡ n + 0 = omega arith in (
 numbered_get P n (x ∷ xs) (suc i) a l = let r = numbered_get P (n + 1) xs i a.1 (omega arith) in let here : (n + 1) + i ≡ n + suc i = omega arith in (r.0, (r.1.0, subst (λ k. P k r.0) here r.1.1))
 
 module _ (problem : Problem) (split : AreSplit problem.tiers) (distinct : AreDistinct problem.tiers.free) (form : IsForm problem.tiers problem.form) (nodes : List Node) (node_count : length nodes ≡ kind_count problem) (each_node : AreNumbered (IsNodeNumbered problem.tiers) 0 nodes) where
-  listed_kinds : kinds_at problem.tiers [] 0 nodes ≡ map (kind_numbered (length problem.tiers.free)) (range_with_len 0 (kind_count problem))
+  listed_kinds : kinds_at problem 0 nodes ≡ map (kind_numbered (length problem.tiers.free)) (range_with_len 0 (kind_count problem))
   listed_kinds = numbered_range (IsNodeNumbered problem.tiers) (λ node. prefix_kind (length problem.tiers.free) 0 node.kind) (kind_numbered (length problem.tiers.free)) (λ n x h. h.kind) 0 nodes each_node
       ∙ ap (λ n. map (kind_numbered (length problem.tiers.free)) (range_with_len 0 n)) node_count
 
   -- the nodes list the kinds of stage 0
-  pub right_stage : IsRightStage problem.tiers [] problem.form 0 nodes
+  pub right_stage : IsRightStage problem 0 nodes
   right_stage = record {
-    kinds = subst (AreKindsOfStage problem.tiers [] problem.form 0) (sym listed_kinds) (numbered_kinds problem split distinct form);
+    kinds = subst (AreKindsOfStage problem 0) (sym listed_kinds) (numbered_kinds problem split distinct form);
     potentials = All-from_recursion _ nodes (all_from_members (λ node. node.potential ≡ 0) nodes (λ node m. (numbered_member (IsNodeNumbered problem.tiers) 0 nodes node each_node m).1.1.potential));
   }
-
-  node_of : (k : PrefixKind) → IsWithin problem k → IsNodeOf problem.tiers [] nodes (number_of_kind (length problem.tiers.free) k) k
-  node_of k w =
-      let n = number_of_kind (length problem.tiers.free) k in
-      let r = numbered_get (IsNodeNumbered problem.tiers) 0 nodes n each_node (omega (arith, number_within problem k w)) in
-      let here : 0 + n ≡ n = omega arith in
-      record { node = r.0; numbered = r.1.0; tells = r.1.1.kind ∙ ap (kind_numbered (length problem.tiers.free)) here ∙ kind_numbered-number (length problem.tiers.free) k w.flags w.phases }

@@ -60,21 +60,21 @@ numbers_differ f (k ∷ ks) a h = (
 
 module _ (problem : Problem) (split : AreSplit problem.tiers) (distinct : AreDistinct problem.tiers.free) (form : IsForm problem.tiers problem.form) where
   -- each number is that of a kind that is passed
-  pub passed_number : (i : ℕ) → i < kind_count problem → IsPassed problem.tiers [] problem.form 0 0 (kind_numbered (length problem.tiers.free) i)
+  pub passed_number : (i : ℕ) → i < kind_count problem → IsPassed problem 0 0 (kind_numbered (length problem.tiers.free) i)
   passed_number i l = let w = numbered_within problem i l in
       all_passed problem split distinct form.well_formed form.reduced (kind_numbered (length problem.tiers.free) i).place (kind_numbered (length problem.tiers.free) i).opened w.place w.flags
 
-  passes_within : (k : PrefixKind) → IsPassed problem.tiers [] problem.form 0 0 k → IsWithin problem k
+  passes_within : (k : PrefixKind) → IsPassed problem 0 0 k → IsWithin problem k
   passes_within k p = subst (IsWithin problem) p.passes.of_kind (kind_within problem split form (take p.columns p.candidate) (begins problem p.candidate p.columns p.passes.optimal.candidate))
 
   -- the kinds of all numbers are those of stage 0
-  pub numbered_kinds : AreKindsOfStage problem.tiers [] problem.form 0 (map (kind_numbered (length problem.tiers.free)) (range_with_len 0 (kind_count problem)))
+  pub numbered_kinds : AreKindsOfStage problem 0 (map (kind_numbered (length problem.tiers.free)) (range_with_len 0 (kind_count problem)))
   numbered_kinds = record {
     ascending = sorted_from kind_order _ (ascends_map kind_order nat_cmp (kind_numbered (length problem.tiers.free)) (range_with_len 0 (kind_count problem)) (λ i j l. kinds_less (length problem.tiers.free) i j (nat_less i j l)) (ascends_range 0 (kind_count problem)));
     members = λ k. (
       λ c. let r = contains_of_map (kind_numbered (length problem.tiers.free)) (range_with_len 0 (kind_count problem)) k c in
           let b = in_range 0 (kind_count problem) r.0 r.1.0 in
-          subst (IsPassed problem.tiers [] problem.form 0 0) r.1.1 (passed_number r.0 (omega (arith, b.1))),
+          subst (IsPassed problem 0 0) r.1.1 (passed_number r.0 (omega (arith, b.1))),
       λ p. let w = passes_within k p in
           let n = number_of_kind (length problem.tiers.free) k in
           subst (λ q. Contains (map (kind_numbered (length problem.tiers.free)) (range_with_len 0 (kind_count problem))) q) (kind_numbered-number (length problem.tiers.free) k w.flags w.phases)
@@ -83,7 +83,7 @@ module _ (problem : Problem) (split : AreSplit problem.tiers) (distinct : AreDis
   }
 
   -- a list of the kinds of stage 0 has no more
-  pub kinds_few : (ks : List PrefixKind) → AreKindsOfStage problem.tiers [] problem.form 0 ks → length ks ≤ kind_count problem
+  pub kinds_few : (ks : List PrefixKind) → AreKindsOfStage problem 0 ks → length ks ≤ kind_count problem
   kinds_few ks a =
       let f = length problem.tiers.free in
       let within : (k : PrefixKind) → Contains ks k → IsWithin problem k = λ k c. passes_within k ((a.members k).0 c) in
@@ -93,15 +93,8 @@ module _ (problem : Problem) (split : AreSplit problem.tiers) (distinct : AreDis
       subst (λ n. n < kind_count problem) r.1.1 (number_within problem r.0 (within r.0 r.1.0))) in
       omega (arith, few, length-map ks (number_of_kind f))
 
-  -- with no constraint, all stages are within a budget that stage 0 is within
-  pub all_within : (budget : ℕ) → kind_count problem ≤ budget → AreAllWithin problem.tiers [] problem.form budget
-  all_within budget l r none ks a =
-      let first : r ≡ 0 = omega arith in
-      let few = kinds_few ks (subst (λ s. AreKindsOfStage problem.tiers [] problem.form s ks) first a) in
-      omega arith
-
-  -- and stage 0 is the first that is over a budget of fewer kinds
-  pub first_over : (budget : ℕ) → budget < kind_count problem → IsFirstOver problem.tiers [] problem.form budget 0
+  -- stage 0 is the first that is over a budget of fewer kinds
+  pub first_over : (budget : ℕ) → budget < kind_count problem → IsFirstOver problem budget 0
   first_over budget l =
       let f = length problem.tiers.free in
       record {

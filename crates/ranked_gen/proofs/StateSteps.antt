@@ -31,31 +31,31 @@ use Rattle.violation.specs.Problems.{last_place, Problem}
 pub kind_at_place : (f place opened : ℕ) → opened < 2 ^ f → kind_numbered f (place * 2 ^ f + opened) ≡ kind_from place (flags_of f opened) []
 kind_at_place f place opened l = same_kind (div-mul-add place (2 ^ f) opened l) (flags_of-low f f place opened (omega arith)) refl
 
-module _ (problem : Problem) (form : IsForm problem.tiers problem.form) where
-  open_after : (p j : ℕ) → p < last_place problem → j < length problem.tiers.input → is_open (word (take (suc p) problem.form) j) ≡ opens (symbol (column_at problem.form p) j)
+module _ (tiers : Tiers) (u : List (List Sym)) (form : IsForm tiers u) where
+  open_after : (p j : ℕ) → p < length u → j < length tiers.input → is_open (word (take (suc p) u) j) ≡ opens (symbol (column_at u p) j)
   open_after p j l h =
-      let well = runs_from_well_formed (word problem.form j) (form.well_formed.each_tier j h) in
-      let size : length (word problem.form j) ≡ last_place problem = length-map problem.form (λ (column : List Sym). symbol column j) in
-      ap is_open (take_word problem.form (suc p) j) ∙ prefix_open (word problem.form j) (suc p) well (omega arith) ∙ open_suc false (word problem.form j) p (omega arith)
-      ∙ ap opens (get_or-map (λ column. symbol column j) problem.form p [] Outside l)
+      let well = runs_from_well_formed (word u j) (form.well_formed.each_tier j h) in
+      let size : length (word u j) ≡ length u = length-map u (λ (column : List Sym). symbol column j) in
+      ap is_open (take_word u (suc p) j) ∙ prefix_open (word u j) (suc p) well (omega arith) ∙ open_suc false (word u j) p (omega arith)
+      ∙ ap opens (get_or-map (λ column. symbol column j) u p [] Outside l)
 
   -- the symbols that stay after a column
-  pub staying_after : (p : ℕ) → p < last_place problem → length (column_at problem.form p) ≡ length problem.tiers.input → map (λ s. still (opens s)) (column_at problem.form p) ≡ staying problem.tiers problem.form (suc p)
-  staying_after p l wide = fill_by_all at (map (λ s. still (opens s)) (column_at problem.form p)) (length problem.tiers.input) Outside (length-map (column_at problem.form p) (λ (s : Sym). still (opens s)) ∙ wide)
-      (λ j h. get_or-map (λ s. still (opens s)) (column_at problem.form p) j Outside Outside (omega arith) ∙ ap still (sym (open_after p j l h)))
-      ∙ sym (map-map still (λ j. is_open (word (take (suc p) problem.form) j)) (range_with_len 0 (length problem.tiers.input)))
+  pub staying_after : (p : ℕ) → p < length u → length (column_at u p) ≡ length tiers.input → map (λ s. still (opens s)) (column_at u p) ≡ staying tiers u (suc p)
+  staying_after p l wide = fill_by_all at (map (λ s. still (opens s)) (column_at u p)) (length tiers.input) Outside (length-map (column_at u p) (λ (s : Sym). still (opens s)) ∙ wide)
+      (λ j h. get_or-map (λ s. still (opens s)) (column_at u p) j Outside Outside (omega arith) ∙ ap still (sym (open_after p j l h)))
+      ∙ sym (map-map still (λ j. is_open (word (take (suc p) u) j)) (range_with_len 0 (length tiers.input)))
     where
       at : ℕ → Sym
-      at j = still (is_open (word (take (suc p) problem.form) j))
+      at j = still (is_open (word (take (suc p) u) j))
 
   -- the symbols that stay before the first column
-  pub staying_first : (syms : List Sym) → length syms ≡ 12 → length problem.tiers.input ≤ 12 → ((t : ℕ) → get_or syms t Outside ≡ Outside) → take (length problem.tiers.input) syms ≡ staying problem.tiers problem.form 0
-  staying_first syms long few h = fill_by_all (λ j. still (is_open (word (take 0 problem.form) j))) (take (length problem.tiers.input) syms) (length problem.tiers.input) Outside (length-take-le (length problem.tiers.input) syms (omega arith))
-      (λ j l. get_or-take (length problem.tiers.input) syms j Outside l ∙ h j)
-      ∙ sym (map-map still (λ j. is_open (word (take 0 problem.form) j)) (range_with_len 0 (length problem.tiers.input)))
+  pub staying_first : (syms : List Sym) → length syms ≡ 12 → length tiers.input ≤ 12 → ((t : ℕ) → get_or syms t Outside ≡ Outside) → take (length tiers.input) syms ≡ staying tiers u 0
+  staying_first syms long few h = fill_by_all (λ j. still (is_open (word (take 0 u) j))) (take (length tiers.input) syms) (length tiers.input) Outside (length-take-le (length tiers.input) syms (omega arith))
+      (λ j l. get_or-take (length tiers.input) syms j Outside l ∙ h j)
+      ∙ sym (map-map still (λ j. is_open (word (take 0 u) j)) (range_with_len 0 (length tiers.input)))
 
-pub length-staying : (problem : Problem) (place : ℕ) → length (staying problem.tiers problem.form place) ≡ length problem.tiers.input
-length-staying place = length-map (form_opened problem.tiers problem.form place) still ∙ length-map-range_with_len (λ j. is_open (word (take place problem.form) j)) 0 (length problem.tiers.input)
+pub length-staying : (tiers : Tiers) (u : List (List Sym)) (place : ℕ) → length (staying tiers u place) ≡ length tiers.input
+length-staying tiers u place = length-map (form_opened tiers u place) still ∙ length-map-range_with_len (λ j. is_open (word (take place u) j)) 0 (length tiers.input)
 
 -- one node and one state more
 pub numbered_more : {X : Type 0} (P : ℕ → X → Type 0) (n : ℕ) (xs : List X) (x : X) → AreNumbered P n xs → P (n + length xs) x → AreNumbered P n (xs ++ x ∷ [])

@@ -199,7 +199,7 @@ module _ (frame : Frame) (stage : ℕ) (ranked : 1 ≤ stage) (within : stage �
 
       accepts : (T : List (List Sym)) → Accepts pruned T ↔ IsOptimalFor (problem_in frame) stage T
       accepts T =
-          let law = all_words_law meaning (names_at frame stage kinds) states (problem_in frame) (form_in frame) stage here table T in
+          let law = all_words_law meaning (names_at frame stage kinds) states (problem_in frame) stage here table T in
           (λ a. law.0 ((tight.accepts T).0 a), λ o. (tight.accepts T).1 (law.1 o))
 
       pub staged : IsStaged (problem_in frame) stage nodes (get_or (map weight_number least) 0 0) pruned old order

@@ -15,7 +15,6 @@ use Rattle.tier_core.specs.Tiers.{Tiers}
 use Rattle.tier_core.proofs.FormLemmas.{edge_at, edge_of_part}
 use Rattle.violation.specs.Conditions.{AreDistinct, AreSplit}
 use Rattle.ranked_gen.specs.WideColumns.{symbol_on}
-use Rattle.violation.specs.Problems.{Problem}
 
 -- one symbol on the tiers of the flags, and a column of the form on the input tiers elsewhere
 abbrev pub over : Tiers → (ℕ → Bool) → Sym → List Sym → List Sym
@@ -34,7 +33,7 @@ filter_every p (x ∷ xs) h = cond-true (p x) (x ∷ filter p xs) (filter p xs) 
 
 runs_outside : (u : List (List Sym)) → runs false (map (λ c. Outside) u) ≡ true
 runs_outside [] = refl
-runs_outside (c ∷ u) = runs_outside problem
+runs_outside (c ∷ u) = runs_outside u
 
 pub on_nothing : (xs : List ℕ) (t : ℕ) → symbol_on xs [] t ≡ Outside
 on_nothing [] t = refl
@@ -58,81 +57,81 @@ symbol_on_none (x ∷ xs) (s ∷ ss) t h = cond-false (x == t) s (symbol_on xs s
 pub not_listed : (xs : List ℕ) (t : ℕ) → (Contains xs t → ⊥) → AllByRecursion (λ x. x ≢ t) xs
 not_listed xs t h = recursion_from_All (λ x. x ≢ t) xs (λ k d l e. h (k, l, get_or_default xs k t d l ∙ e))
 
-module _ (problem : Problem) (flag : ℕ → Bool) (s : Sym) where
-  pub length_over : (column : List Sym) → length (over problem.tiers flag s column) ≡ problem.tiers.width
-  length_over column = length-map-range_with_len (λ t. cond (flag t) s (symbol_on problem.tiers.input column t)) 0 problem.tiers.width
+module _ (tiers : Tiers) (flag : ℕ → Bool) (s : Sym) where
+  pub length_over : (column : List Sym) → length (over tiers flag s column) ≡ tiers.width
+  length_over column = length-map-range_with_len (λ t. cond (flag t) s (symbol_on tiers.input column t)) 0 tiers.width
 
-  pub symbol_over : (column : List Sym) (t : ℕ) → t < problem.tiers.width → symbol (over problem.tiers flag s column) t ≡ cond (flag t) s (symbol_on problem.tiers.input column t)
-  symbol_over column t l = get_or-map-range_with_len (λ t. cond (flag t) s (symbol_on problem.tiers.input column t)) 0 problem.tiers.width t t Outside l (omega arith)
+  pub symbol_over : (column : List Sym) (t : ℕ) → t < tiers.width → symbol (over tiers flag s column) t ≡ cond (flag t) s (symbol_on tiers.input column t)
+  symbol_over column t l = get_or-map-range_with_len (λ t. cond (flag t) s (symbol_on tiers.input column t)) 0 tiers.width t t Outside l (omega arith)
 
   -- a tier of a flag has the one symbol at each column
-  pub word_flagged : (t : ℕ) → t < problem.tiers.width → flag t ≡ true → word (map (over problem.tiers flag s) problem.form) t ≡ map (λ c. s) problem.form
+  pub word_flagged : (u : List (List Sym)) (t : ℕ) → t < tiers.width → flag t ≡ true → word (map (over tiers flag s) u) t ≡ map (λ c. s) u
   word_flagged [] t l h = refl
-  word_flagged (c ∷ problem.form) t l h =
-      let first : symbol (over problem.tiers flag s c) t ≡ s = symbol_over c t l ∙ cond-true (flag t) s (symbol_on problem.tiers.input c t) h in
-      let rest = word_flagged problem.form t l h in
+  word_flagged (c ∷ u) t l h =
+      let first : symbol (over tiers flag s c) t ≡ s = symbol_over c t l ∙ cond-true (flag t) s (symbol_on tiers.input c t) h in
+      let rest = word_flagged u t l h in
       cc
 
   -- a tier that is neither flagged nor an input tier has nothing
-  pub word_outside : (t : ℕ) → t < problem.tiers.width → flag t ≡ false → (Contains problem.tiers.input t → ⊥) → word (map (over problem.tiers flag s) problem.form) t ≡ map (λ c. Outside) problem.form
+  pub word_outside : (u : List (List Sym)) (t : ℕ) → t < tiers.width → flag t ≡ false → (Contains tiers.input t → ⊥) → word (map (over tiers flag s) u) t ≡ map (λ c. Outside) u
   word_outside [] t l h o = refl
-  word_outside (c ∷ problem.form) t l h o =
-      let first : symbol (over problem.tiers flag s c) t ≡ Outside = symbol_over c t l ∙ cond-false (flag t) s (symbol_on problem.tiers.input c t) h ∙ symbol_on_none problem.tiers.input c t (not_listed problem.tiers.input t o) in
-      let rest = word_outside problem.form t l h o in
+  word_outside (c ∷ u) t l h o =
+      let first : symbol (over tiers flag s c) t ≡ Outside = symbol_over c t l ∙ cond-false (flag t) s (symbol_on tiers.input c t) h ∙ symbol_on_none tiers.input c t (not_listed tiers.input t o) in
+      let rest = word_outside u t l h o in
       cc
 
-  module _ (split : AreSplit problem.tiers) (off : (t : ℕ) → Contains problem.tiers.input t → flag t ≡ false) where
+  module _ (split : AreSplit tiers) (off : (t : ℕ) → Contains tiers.input t → flag t ≡ false) where
     -- an input tier has its symbol of the form's column
-    pub symbol_over_input : (column : List Sym) (j : ℕ) → j < length problem.tiers.input → symbol (over problem.tiers flag s column) (get_or problem.tiers.input j 0) ≡ symbol column j
+    pub symbol_over_input : (column : List Sym) (j : ℕ) → j < length tiers.input → symbol (over tiers flag s column) (get_or tiers.input j 0) ≡ symbol column j
     symbol_over_input column j l =
-        let t : ℕ = get_or problem.tiers.input j 0 in
-        symbol_over column t (all_at (λ t. t < problem.tiers.width) problem.tiers.input j 0 l split.inputs_below)
-        ∙ cond-false (flag t) s (symbol_on problem.tiers.input column t) (off t (j, l, get_or_default problem.tiers.input j t 0 l))
-        ∙ symbol_on_at problem.tiers.input column j split.distinct l
+        let t : ℕ = get_or tiers.input j 0 in
+        symbol_over column t (all_at (λ t. t < tiers.width) tiers.input j 0 l split.inputs_below)
+        ∙ cond-false (flag t) s (symbol_on tiers.input column t) (off t (j, l, get_or_default tiers.input j t 0 l))
+        ∙ symbol_on_at tiers.input column j split.distinct l
 
     -- an input tier reads as the form's tier
-    pub word_input : (j : ℕ) → j < length problem.tiers.input → word (map (over problem.tiers flag s) problem.form) (get_or problem.tiers.input j 0) ≡ word problem.form j
+    pub word_input : (u : List (List Sym)) (j : ℕ) → j < length tiers.input → word (map (over tiers flag s) u) (get_or tiers.input j 0) ≡ word u j
     word_input [] j l = refl
-    word_input (c ∷ problem.form) j l =
+    word_input (c ∷ u) j l =
         let first = symbol_over_input c j l in
-        let rest = word_input problem.form j l in
+        let rest = word_input u j l in
         cc
 
     -- the input part is the form's column
-    pub part_over : (column : List Sym) → length column ≡ length problem.tiers.input → map (symbol (over problem.tiers flag s column)) problem.tiers.input ≡ column
+    pub part_over : (column : List Sym) → length column ≡ length tiers.input → map (symbol (over tiers flag s column)) tiers.input ≡ column
     part_over column e =
-        let long = length-map problem.tiers.input (symbol (over problem.tiers flag s column)) in
-        ext_get_or Outside (map (symbol (over problem.tiers flag s column)) problem.tiers.input) column (omega arith)
-        (λ i l. get_or-map (symbol (over problem.tiers flag s column)) problem.tiers.input i 0 Outside (omega arith) ∙ symbol_over_input column i (omega arith))
+        let long = length-map tiers.input (symbol (over tiers flag s column)) in
+        ext_get_or Outside (map (symbol (over tiers flag s column)) tiers.input) column (omega arith)
+        (λ i l. get_or-map (symbol (over tiers flag s column)) tiers.input i 0 Outside (omega arith) ∙ symbol_over_input column i (omega arith))
 
     -- with no column of the form the input part has no edge
-    pub part_bare : has_edge (map (symbol (over problem.tiers flag s [])) problem.tiers.input) ≡ false
+    pub part_bare : has_edge (map (symbol (over tiers flag s [])) tiers.input) ≡ false
     part_bare =
-        let long = length-map problem.tiers.input (symbol (over problem.tiers flag s [])) in
+        let long = length-map tiers.input (symbol (over tiers flag s [])) in
         list_any_none is_edge _ (All-from_get_or (λ x. is_edge x ≡ false) _ Outside
-        (λ i l. ap is_edge (get_or-map (symbol (over problem.tiers flag s [])) problem.tiers.input i 0 Outside (omega arith) ∙ symbol_over_input [] i (omega arith))))
+        (λ i l. ap is_edge (get_or-map (symbol (over tiers flag s [])) tiers.input i 0 Outside (omega arith) ∙ symbol_over_input [] i (omega arith))))
 
-    pub project_over : AllByRecursion (λ column. length column ≡ length problem.tiers.input) problem.form → project problem.tiers.input (map (over problem.tiers flag s) problem.form) ≡ problem.form
+    pub project_over : (u : List (List Sym)) → AllByRecursion (λ column. length column ≡ length tiers.input) u → project tiers.input (map (over tiers flag s) u) ≡ u
     project_over [] h = refl
-    project_over (c ∷ problem.form) h =
+    project_over (c ∷ u) h =
         let first = part_over c h.0 in
-        let rest = project_over problem.form h.1 in
+        let rest = project_over u h.1 in
         cc
 
     -- an input tier reads as the form's tier, and a free one that is not flagged is empty
-    pub over_runs : (t : ℕ) → IsWellFormed (length problem.tiers.input) problem.form → t < problem.tiers.width → flag t ≡ false → runs false (word (map (over problem.tiers flag s) problem.form) t) ≡ true
-    over_runs t wf l h = ⊎_elim
+    pub over_runs : (u : List (List Sym)) (t : ℕ) → IsWellFormed (length tiers.input) u → t < tiers.width → flag t ≡ false → runs false (word (map (over tiers flag s) u) t) ≡ true
+    over_runs u t wf l h = ⊎_elim
         (λ i.
-        let at : get_or problem.tiers.input i.0 0 ≡ t = get_or_default problem.tiers.input i.0 0 t i.1 ∙ i.2 in
-        ap (λ (x : ℕ). runs false (word (map (over problem.tiers flag s) problem.form) x)) (sym at) ∙ ap (runs false) (word_input problem.form i.0 i.1) ∙ runs_from_well_formed (word problem.form i.0) (wf.each_tier i.0 i.1))
-        (λ f. ap (runs false) (word_outside problem.form t l h (λ i. split.apart t i f)) ∙ runs_outside problem)
+        let at : get_or tiers.input i.0 0 ≡ t = get_or_default tiers.input i.0 0 t i.1 ∙ i.2 in
+        ap (λ (x : ℕ). runs false (word (map (over tiers flag s) u) x)) (sym at) ∙ ap (runs false) (word_input u i.0 i.1) ∙ runs_from_well_formed (word u i.0) (wf.each_tier i.0 i.1))
+        (λ f. ap (runs false) (word_outside u t l h (λ i. split.apart t i f)) ∙ runs_outside u)
         (split.each t l)
 
     -- each column keeps the edge of the form's column
-    pub over_reduced : AllByRecursion (λ column. length column ≡ length problem.tiers.input) problem.form → IsReduced problem.form → IsReduced (map (over problem.tiers flag s) problem.form)
+    pub over_reduced : (u : List (List Sym)) → AllByRecursion (λ column. length column ≡ length tiers.input) u → IsReduced u → IsReduced (map (over tiers flag s) u)
     over_reduced [] a r = tt
-    over_reduced (c ∷ problem.form) a r = (edge_of_part problem.tiers.input (over problem.tiers flag s c) (ap has_edge (part_over c a.0) ∙ r.0), over_reduced problem.form a.1 r.1)
+    over_reduced (c ∷ u) a r = (edge_of_part tiers.input (over tiers flag s c) (ap has_edge (part_over c a.0) ∙ r.0), over_reduced u a.1 r.1)
 
     -- the form is their input part
-    pub squeeze_over : AllByRecursion (λ column. length column ≡ length problem.tiers.input) problem.form → IsReduced problem.form → squeeze (project problem.tiers.input (map (over problem.tiers flag s) problem.form)) ≡ problem.form
-    squeeze_over a r = ap squeeze (project_over problem.form a) ∙ filter_every has_edge problem.form r
+    pub squeeze_over : (u : List (List Sym)) → AllByRecursion (λ column. length column ≡ length tiers.input) u → IsReduced u → squeeze (project tiers.input (map (over tiers flag s) u)) ≡ u
+    squeeze_over u a r = ap squeeze (project_over u a) ∙ filter_every has_edge u r

@@ -12,7 +12,7 @@ pub loop-opened-preserved : goal.loop-opened-preserved
 loop-opened-preserved c =
     let frame = c.args.frame.now in
     let tiers = tiers_in frame in
-    let u = form_in frame in
+    let problem = problem_in frame in
     let count = c.args.place * 2 ^ c.args.free + c.loop-opened.opened in
     let node : Node = record { kind = c.kind_at-kind.result; potential = 0 } in
     let numbered : IsNodeNumbered tiers count node = record { kind = numbered_kind frame c.kind_at-kind.result c.args.free count c.requires.count c.kind_at-kind.ensures.numbered; potential = refl } in

@@ -24,4 +24,4 @@ returns c =
     let wide : length (column_at u p) ≡ length tiers.input = All-from_recursion (λ column. length column ≡ length tiers.input) u c.requires.form.well_formed.one_width p [] within in
     let same : c.syms.result.now ≡ column_at u p = c.syms.ensures.value ∙ c.column.ensures in
     ap (λ n. take n c.stay_after.result) (c.requires.count ∙ sym wide ∙ ap length (sym same)) ∙ c.stay_after.ensures ∙ ap (map (λ s. still (opens s))) same
-    ∙ staying_after problem c.requires.form p within wide ∙ ap (staying tiers u) next
+    ∙ staying_after tiers u c.requires.form p within wide ∙ ap (staying tiers u) next

@@ -1,8 +1,6 @@
 -- What the commands write for a grammar.
 use Rattle.std.specs.Prelude.{◌≡◌, ℕ, List, map, length}
 use Rattle.tier_core.specs.declared.sym.Sym.{Sym}
-use Rattle.tier_core.specs.declared.constraint.Constraint.{Constraint}
-use Rattle.tier_core.specs.Tiers.{Tiers}
 use Rattle.grammar_reader.specs.Values.{GrammarValue}
 use Rattle.grammar_reader.specs.Canonical.{canonical}
 use Rattle.grammar_reader.specs.ShapeOf.{stretch_counts}
@@ -11,10 +9,9 @@ use Rattle.answer_text.specs.declared.answer.Answer.{Answer}
 use Rattle.answer_text.specs.Right.{IsRight}
 use Rattle.answer_text.specs.Text.{Widths, answer_text, counts_text, shown_text}
 use Rattle.command_words.specs.Commands.{Command, canon, score, generate, show}
-use Rattle.form_reader.specs.Forms.{IsReadAs}
-use Rattle.otp_tool.specs.Scored.{IsScored}
-use Rattle.otp_tool.specs.Grammars.{AreOf, input_count, tiers_of}
 use Rattle.violation.specs.Problems.{Problem}
+use Rattle.otp_tool.specs.Scored.{IsScored}
+use Rattle.otp_tool.specs.Grammars.{IsAsked}
 
 -- the violation vector of a timeline: its violations of each constraint of the grammar, in ranked order
 abbrev pub vector_of : GrammarValue → List (List Sym) → List ℕ
@@ -31,14 +28,12 @@ abbrev pub text_widths : Problem → Widths
 text_widths problem = record { free = length problem.tiers.free; stretches = stretch_counts problem.constraints }
 
 -- a text is what is written of a right answer for the grammar and the form that a word is read as
-pub record IsOfRightAnswer (write : Tiers → List Constraint → Answer → List ℕ) (g : GrammarValue) (form text : List ℕ) : Type 0 where
-  pub u : List (List Sym)
-  pub read : IsReadAs (input_count g) g.letters form u
-  pub constraints : List Constraint
-  pub are : AreOf problem g
+pub record IsOfRightAnswer (write : Problem → Answer → List ℕ) (g : GrammarValue) (form text : List ℕ) : Type 0 where
+  pub problem : Problem
+  pub is_asked : IsAsked g form problem
   pub answer : Answer
-  pub right : IsRight (tiers_of g) constraints u answer
-  pub written : text ≡ write (tiers_of g) constraints answer
+  pub right : IsRight problem answer
+  pub written : text ≡ write problem answer
 
 -- the whole text of an answer
 abbrev pub whole_text : Problem → Answer → List ℕ

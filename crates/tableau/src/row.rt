@@ -1,6 +1,6 @@
-ghost use Rattle.std.specs.Prelude.{◌≡◌, ◌+◌, ◌<◌, ◌≤◌, ◌∷◌, [], ◌++◌, List, ℕ, length, IfOk, IfErr, OnOk};
-ghost use Rattle.tier_core.specs.Tables.{tiers_of_table};
+ghost use Rattle.std.specs.Prelude.{◌≡◌, ◌+◌, ◌<◌, ◌≤◌, ◌∷◌, [], ◌++◌, List, ℕ, length, ◌↔◌, IsTrue, IfOk, IfErr, OnOk};
 ghost use Rattle.tableau.specs.Rows.{AreRowsOf, IsLineRefusal, IsRowOf, IsTextRefusal};
+ghost use Rattle.violation.specs.Candidates.{IsCandidate};
 ghost use Rattle.violation.specs.Problems.{asked};
 
 use crate::line::is_blank;
@@ -16,6 +16,13 @@ const MOST_ROWS: usize = 32;
 
 /// How many columns a row has at most.
 const MOST_COLUMNS: usize = 4096;
+
+/// Whether a timeline is a candidate of a form over the tiers of a grammar.
+fn is_row(grammar: &Grammar, form: &Timeline, timeline: &Timeline) -> bool
+    ensures { IsTrue result ↔ IsCandidate (asked grammar.now.tiers grammar.now.constraints.items form.now) timeline.now }
+{
+    is_candidate(&grammar.tiers, form, timeline)
+}
 
 /// Reads a line that is not blank, with this number, where so many rows stand before it.
 fn read_row(
@@ -47,7 +54,7 @@ fn read_row(
             });
         }
     };
-    if !is_candidate(&grammar.tiers, form, &timeline) {
+    if !is_row(grammar, form, &timeline) {
         return Err(RowsErr::At {
             row: number,
             cause: RowsCause::NotCandidate,

@@ -82,7 +82,7 @@ says "refused, end of the log" "it is not proved"
 unset REFUSE
 rm -f "$COUNT"
 ln -s "$tree/otp" "$place/link"
-ln -s link "$place/bin/otp"
+ln -s ../link "$place/bin/otp"
 (cd / && PATH=$with_rt otp first call > "$place/out1" 2> "$place/err1") &
 sleep 1
 call "$with_rt" "$tree/otp" second call

@@ -120,7 +120,6 @@ try "as many kinds as every stage has" 0 "" show faithful.otp "[ ]" 8
 wrote "counts 0 0" "example [[ ]]"
 
 # each refusal
-try "no words" 2 "usage"
 try "unknown command" 2 "usage" foo base.otp empty
 try "two words" 2 "usage" generate base.otp
 try "a word too many" 2 "usage" canon base.otp empty
@@ -164,6 +163,9 @@ status_is() {
     fi
 }
 
+"$top/otp" > out 2> err
+status_is "no words" 2 $?
+status_is "no words, line" "usage" "$(head -n 1 err)"
 "$top/otp" generate base.otp empty > /dev/full 2> err
 status_is "full disk" 9 $?
 status_is "full disk, line" "write fault" "$(cat err)"

@@ -27,7 +27,7 @@ DOCUMENTS = [
     "README.md", "docs/GUIDE.md", "docs/FORMATS.md", "docs/GALLERY.md", "docs/TROUBLE.md",
     "docs/TOOLS.md", "docs/DEFINITIONS.md",
 ]
-RUN = ("./otp", "tools/", "python3")
+RUN = ("./otp", "tools/", "python3 ")
 TOP = os.path.dirname(os.path.dirname(os.path.abspath(__file__)))
 BASE = "otp 1\ntier A input\ntier a overt\n"
 TIERS = ["tier t%d" % number for number in range(13)]

@@ -154,6 +154,43 @@ try "form before stages" 4 "form word 2: NotWellFormed 0" show ranked.otp "] ["
 try "budget of generate" 7 "budget entry 0 stage 0" generate hidden.otp empty 3
 try "word that is no text" 15 "" generate base.otp "$(printf '\377')"
 
+# the slips of docs/TROUBLE.md: slip NAME CAUSE TEXT, a file of that text that is refused so
+slip() {
+    printf "$3" > slip.otp
+    try "$1" 3 "grammar word 1 $2" canon slip.otp
+}
+begin='otp 1\ntier A input\ntier a overt\n'
+slip "byte order mark" "line 1: BadByte" "\357\273\277$begin"
+slip "UTF-16" "line 1: BadByte" '\377\376o\000t\000p\000 \0001\000\n\000'
+slip "carriage returns alone" "line 1: BadByte" 'otp 1\rtier A input\rtier a overt\r'
+slip "no-break space" "line 4: BadByte" "${begin}constraint X A\302\240-> a\n"
+slip "arrow sign" "line 4: BadByte" "${begin}constraint X A \342\206\222 a\n"
+slip "double arrow" "line 4: BadByte" "${begin}constraint X A => a\n"
+slip "star in a name" "line 4: BadByte" "${begin}constraint *X A -> a\n"
+slip "hyphen in a name" "line 4: BadByte" "${begin}constraint No-X A -> a\n"
+slip "comment by slashes" "line 4: BadByte" "${begin}// a comment\n"
+slip "comment by # at the top" "line 1: BadHeader" "# a comment\n$begin"
+slip "header without space" "line 1: BadHeader" 'otp1\n'
+slip "header in capitals" "line 1: BadHeader" 'OTP 1\n'
+slip "next version" "line 1: BadHeader" 'otp 2\n'
+slip "comment by # behind a line" "line 4: BadLine" "${begin}tier b overt # a comment\n"
+slip "unknown kind of tier" "line 4: BadLine" "${begin}tier b given\n"
+slip "two tiers on a line" "line 4: BadLine" "${begin}tier b c input\n"
+slip "no name" "line 4: BadLine" "${begin}constraint A -> a\n"
+slip "or on the left" "line 4: BadLine" "${begin}constraint X A or a -> a\n"
+slip "or in a clash" "line 4: BadLine" "${begin}constraint X A # a or A\n"
+slip "and on the right" "line 4: BadLine" "${begin}constraint X A -> a and a\n"
+slip "bracket behind the tier" "line 4: BadLine" "${begin}constraint X A[ -> a\n"
+slip "another case" "line 4: UnknownTier" "${begin}constraint X B -> a\n"
+slip "letter of two signs" "line 4: BadName" "${begin}letter ta = A\n"
+printf 'otp 1\r\ntier A input\r\ntier a overt\r\n' > slip.otp
+try "Windows line ends" 0 "" canon slip.otp
+try "tab in a form" 4 "form word 2: BadSymbol 1" show base.otp "$(printf '[\t]')"
+try "line end in a form" 4 "form word 2: BadSymbol 3" show base.otp "[ ]
+"
+try "budget for a form" 4 "form word 2: BadSymbol 0" show base.otp 30
+try "form before the grammar" 8 "read fault word 1" show "[ ]" base.otp
+
 # status_is NAME WANTED FOUND
 status_is() {
     if [ "$2" = "$3" ]; then

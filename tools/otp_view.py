@@ -6,8 +6,9 @@
     tools/otp_view.py G TIMELINE                     the picture of a timeline
     a tableau | tools/otp_view.py G                  the tableau, with a picture of each row
 
-Words behind these: `svg` writes the picture of the example or the timeline as SVG instead, and
-`all N` lists up to N optima and surfaces instead of 8.
+Words behind these: `svg` writes the picture of the example or the timeline as SVG instead; `brief`
+leaves out the picture and what is not violated; `all N` lists up to N surfaces instead of 8, and as
+many optima.
 
 Python's standard library alone. No promise of Kullaphen rests on this file.
 """
@@ -52,12 +53,12 @@ def draw_svg(names, columns):
     return "\n".join(parts + ["</svg>"])
 
 
-def say_counts(names, counts):
+def say_counts(names, counts, brief):
     """The counts with their names, those that are not 0 first."""
     broken = ["%s %d" % (name, count) for name, count in zip(names, counts) if count]
     kept = [name for name, count in zip(names, counts) if not count]
     print("violated: %s" % (", ".join(broken) or "none"))
-    if kept:
+    if kept and not brief:
         print("not violated: %s" % " ".join(kept))
 
 
@@ -72,8 +73,8 @@ def say_surface(grammar, surface):
     return "%s   %s" % (text, read.spelled(grammar, surface)) if grammar.sounds else text
 
 
-def say_optima(grammar, found, most):
-    """How many optima an answer has, and their surfaces."""
+def say_optima(grammar, found, most, listed):
+    """How many optima an answer has, and their surfaces; the optima themselves if they are listed."""
     surfaces = read.surfaces(grammar, found)
     optima, heard = read.how_many(found), read.how_many(surfaces)
     print("%s with %s:" % (amount(optima, "optimal candidate", "optimal candidates"),
@@ -83,7 +84,10 @@ def say_optima(grammar, found, most):
         print("  " + say_surface(grammar, surface))
     if heard is None or heard > len(shown):
         print("  ..")
-    return optima
+    if listed:
+        print("optimal candidates:")
+        for columns in read.timelines(found, most):
+            print("  " + read.text_of(columns))
 
 
 def say_tableau(grammar, text):
@@ -97,13 +101,13 @@ def say_tableau(grammar, text):
 
 def main(words):
     """Reads the grammar and a timeline or standard input."""
-    most = 8
-    if "all" in words:
+    most, listed = 8, "all" in words
+    if listed:
         place = words.index("all")
         most = int(words[place + 1])
         del words[place:place + 2]
-    svg = words[-1] == "svg"
-    words = words[:-1] if svg else words
+    svg, brief = "svg" in words, "brief" in words
+    words = [word for word in words if word not in ("svg", "brief")]
     with open(words[0], encoding="utf-8") as file:
         grammar = read.grammar(file.read())
     text = "example " + words[1] if len(words) > 1 else sys.stdin.read()
@@ -115,10 +119,10 @@ def main(words):
     if svg:
         return print(draw_svg(grammar.tiers, found.example))
     if found.counts is not None:
-        say_counts([constraint.name for constraint in grammar.constraints], found.counts)
+        say_counts([constraint.name for constraint in grammar.constraints], found.counts, brief)
     if found.arcs:
-        say_optima(grammar, found, most)
-    if found.example is not None:
+        say_optima(grammar, found, most, listed)
+    if found.example is not None and not brief:
         print("example: %s" % read.text_of(found.example))
         print(draw(grammar.tiers, found.example))
     return None

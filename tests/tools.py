@@ -8,6 +8,7 @@ The program is the one that ./otp runs, or the file in the environment variable 
 import glob
 import os
 import random
+import shutil
 import subprocess
 import sys
 import tempfile
@@ -17,6 +18,7 @@ TOP = os.path.dirname(os.path.dirname(os.path.abspath(__file__)))
 sys.path.insert(0, os.path.join(TOP, "tools"))
 sys.dont_write_bytecode = True
 import otp_lint as lint  # noqa: E402
+import otp_man as man  # noqa: E402
 import otp_read as read  # noqa: E402
 import otp_view as view  # noqa: E402
 
@@ -170,8 +172,44 @@ def test_lint():
         judge("moves", lint.size(read.grammar(text), 1).split(" moves")[0].split()[-1], str(wanted))
 
 
+def test_pages():
+    """The man page is made from FORMATS.md, and the completions know each command of it."""
+    with open(os.path.join(TOP, "docs", "FORMATS.md"), encoding="utf-8") as file:
+        text = file.read()
+    with open(os.path.join(TOP, "tools", "otp.1"), encoding="utf-8") as file:
+        judge("tools/otp.1 is what tools/otp_man.py writes", file.read() == man.page(text), True)
+    for name in ("otp.bash", "_otp"):
+        with open(os.path.join(TOP, "tools", "completion", name), encoding="utf-8") as file:
+            completion = file.read()
+        for words, _ in man.commands(text):
+            judge("%s in %s" % (words, name), words.split()[1] in completion, True)
+
+
+R_LINES = """
+source("tools/otp_read.R")
+ranked <- "examples/ranked.otp"
+grammar <- otp_grammar(ranked)
+call <- function(file) otp_answer(system2("./otp", c("generate", file, shQuote("[ ]")), stdout = TRUE))
+answer <- call(ranked)
+cat(names(otp_counts(grammar, answer)), otp_counts(grammar, answer), otp_how_many(answer),
+    otp_how_many(call("examples/faithful.otp")), nrow(answer$arcs), otp_columns("{-+}["), sep = " ")
+"""
+
+
+def test_r():
+    """The readers in R, if R is there."""
+    if shutil.which("Rscript") is None:
+        print("tools/otp_read.R: not tried, since Rscript is missing")
+        return
+    done = subprocess.run(["Rscript", "-e", R_LINES], cwd=TOP, capture_output=True, text=True)
+    arcs = otp("generate", os.path.join(TOP, "examples", "ranked.otp"), "[ ]").count("\narc ")
+    judge("R", done.stdout, "One Max Dep 1 0 0 9 Inf %d -[ +[" % arcs)
+
+
 def main():
     """All tests."""
+    test_pages()
+    test_r()
     test_answers()
     test_readers()
     test_pictures()

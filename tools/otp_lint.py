@@ -23,7 +23,7 @@ BUDGET = 20000
 BOMS = [(b"\xef\xbb\xbf", "a byte order mark: save the file as UTF-8 without it"),
         (b"\xff\xfe", "UTF-16: save the file as UTF-8"), (b"\xfe\xff", "UTF-16: save the file as UTF-8")]
 LOOKS_LIKE = {"\u2192": "type ->", "\u2013": "type -", "\u2014": "type -", "\u00a0": "a space that is not one: type a space",
-              "=>": "type ->", "*": "names have letters, digits and _", ":": "names have letters, digits and _"}
+              ">": "an arrow is ->", "-": "an arrow is ->, and names have letters, digits and _", "*": "names have letters, digits and _", ":": "names have letters, digits and _"}
 
 
 def bad_bytes(data):

@@ -138,7 +138,8 @@ def test_steps():
                         before = {tier for tier in tiers if symbols[tier] in "[+|"}
                         total += cost
                     found.append(total)
-                judge("steps on " + read.text_of(columns), found, read.counts(otp("score", file.name, read.text_of(columns))))
+                text = read.text_of(columns)
+                judge("steps on " + text, found, read.counts(otp("score", file.name, text)))
 
 
 def test_lint():
@@ -150,7 +151,8 @@ def test_lint():
           "line 5: K never counts: no timeline violates it")
     judge("alike", lint_of(PAIR + "constraint K a and b -> A\nconstraint L b and a -> A\n")[0][0],
           "line 6: L counts the same as K on line 5")
-    judge("not quite alike", lint_of(PAIR + "constraint K a -> b or A\nconstraint L a and b # A\n"), (["nothing to mend"], 0))
+    judge("not quite alike", lint_of(PAIR + "constraint K a -> b or A\nconstraint L a and b # A\n"),
+          (["nothing to mend"], 0))
     judge("alike by what they count", lint_of(PAIR + "constraint K ]a # b\nconstraint L ]a and b # b\n")[0][0],
           "line 6: L counts the same as K on line 5")
     judge("input alone", lint_of(PAIR + "constraint K A # A\nconstraint L a # b\n")[0][0],
@@ -160,13 +162,14 @@ def test_lint():
             "note: no constraint names the tier A"], 0))
     judge("overlap", lint_of(PAIR + "constraint K A -> a\nconstraint L A -> b\n")[0][1],
           "note: no constraint names both a and b: they may overlap as they like")
-    for sign, line in [("\u2192", "U+2192 RIGHTWARDS ARROW"), ("\u00a0", "U+00A0 NO-BREAK SPACE"), ("*", "U+002A ASTERISK"),
-                       ("\u2013", "U+2013 EN DASH"), ("\f", "U+000C control")]:
+    for sign, line in [("\u2192", "U+2192 RIGHTWARDS ARROW"), ("\u00a0", "U+00A0 NO-BREAK SPACE"),
+                       ("*", "U+002A ASTERISK"), ("\u2013", "U+2013 EN DASH"), ("\f", "U+000C control")]:
         found, status = lint_of(BASE + "constraint K A %s a\n" % sign)
         judge("byte " + line, (line in found[0], found[0].startswith("line 4 byte 16: "), status), (True, True, 1))
     judge("byte order mark", lint_of(b"\xef\xbb\xbf" + BASE.encode())[0][0][:32], "line 1 byte 1: a byte order mark")
     judge("UTF-16", lint_of(BASE.encode("utf-16"))[0][0][:21], "line 1 byte 1: UTF-16")
-    judge("Windows line ends", lint_of(BASE.replace("\n", "\r\n") + "constraint K A -> a\r\n"), (["nothing to mend"], 0))
+    judge("Windows line ends", lint_of(BASE.replace("\n", "\r\n") + "constraint K A -> a\r\n"),
+          (["nothing to mend"], 0))
     for free, wanted in [(1, 19), (2, 113), (3, 601), (8, 1952357)]:
         text = "otp 1\ntier A input\n" + "".join("tier t%d overt\n" % number for number in range(free))
         judge("moves", lint.size(read.grammar(text), 1).split(" moves")[0].split()[-1], str(wanted))

@@ -22,8 +22,9 @@ import otp_read as read
 BUDGET = 20000
 BOMS = [(b"\xef\xbb\xbf", "a byte order mark: save the file as UTF-8 without it"),
         (b"\xff\xfe", "UTF-16: save the file as UTF-8"), (b"\xfe\xff", "UTF-16: save the file as UTF-8")]
-LOOKS_LIKE = {"\u2192": "type ->", "\u2013": "type -", "\u2014": "type -", "\u00a0": "a space that is not one: type a space",
-              ">": "an arrow is ->", "-": "an arrow is ->, and names have letters, digits and _", "*": "names have letters, digits and _", ":": "names have letters, digits and _"}
+NAMES = "names have letters, digits and _"
+LOOKS_LIKE = {"\u2192": "type ->", "\u2013": "type -", "\u2014": "type -", "\u00a0": "type a space", ">": "an arrow is ->",
+              "-": "an arrow is ->, and " + NAMES, "*": NAMES, ":": NAMES, "/": "a comment begins with ;"}
 
 
 def bad_bytes(data):
@@ -37,7 +38,7 @@ def bad_bytes(data):
         match = re.search(rb"[^A-Za-z0-9_\[\]=# \t>-]|-(?!>)|(?<!-)>", code.split(b";")[0])
         if match:
             sign = code[match.start():].decode("utf-8", "replace")[0]
-            hint = LOOKS_LIKE.get(sign) or ("a comment begins with ;" if sign == "/" else "")
+            hint = LOOKS_LIKE.get(sign, "")
             found.append("line %d byte %d: %s U+%04X %s begins no token%s" % (
                 number, match.start() + 1, sign if sign.isprintable() else "(invisible)", ord(sign),
                 unicodedata.name(sign, "control"), "; " + hint if hint else ""))

@@ -89,8 +89,11 @@ call "$with_rt" "$tree/otp" second call
 wait
 is "by links, from another folder" "$(cat "$place/out1")" "ran first call"
 is "at once" "$(cat "$place/out")" "ran second call"
-is "built once" "$(builds)" 1
-says "the second one waits" "waits for it"
+if command -v flock > /dev/null; then
+    is "built once" "$(builds)" 1
+    says "the second one waits" "waits for it"
+fi
+rm -f "$COUNT"
 cp "$place/err1" "$place/err"
 says "progress" "crate 1 of 2, low"
 says "further progress" "crate 2 of 2, otp"
@@ -101,7 +104,7 @@ for file in low/src/tests.rt low/src/tests/more.rt low/proofs/Lib.antt other/src
 done
 touch "$tree/crates/low/src/lib.rt" "$tree/crates.txt"
 call "$with_rt" "$tree/otp" a b
-is "tests, proofs, dates, other crates" "$(builds), $(cat "$place/out")" "1, ran a b"
+is "tests, proofs, dates, other crates" "$(builds), $(cat "$place/out")" "0, ran a b"
 is "nothing is said" "$(cat "$place/err")" ""
 call "$with_rt" "$tree/otp"
 is "no words, status" $status 2
@@ -113,16 +116,16 @@ is "a program that is not there" $status 125
 echo "// changed" >> "$tree/crates/low/src/lib.rt"
 if ! PATH=$without command -v rt > /dev/null; then
     call "$without" "$tree/otp" c d
-    is "code changed, no rt" "$(builds), $(cat "$place/out")" "1, ran c d"
+    is "code changed, no rt" "$(builds), $(cat "$place/out")" "0, ran c d"
     says "code changed, no rt" "it runs as it was built"
 fi
 call "$with_rt" "$tree/otp" e f
-is "code changed" "$(builds), $(cat "$place/out")" "2, ran e f"
-if command -v setpriv > /dev/null && [ "$(id -u)" = 0 ]; then
+is "code changed" "$(builds), $(cat "$place/out")" "1, ran e f"
+chmod 755 "$place"
+if [ "$(id -u)" = 0 ] && setpriv --reuid=65534 --clear-groups test -x "$tree/otp" 2> /dev/null; then
     echo "// changed again" >> "$tree/crates/low/src/lib.rt"
-    chmod 755 "$place"
     PATH=$with_rt setpriv --reuid=65534 --clear-groups "$tree/otp" g h > "$place/out" 2> "$place/err"
-    is "a tree that cannot be written" "$(builds), $(cat "$place/out")" "2, ran g h"
+    is "a tree that cannot be written" "$(builds), $(cat "$place/out")" "1, ran g h"
     says "a tree that cannot be written" "cannot be written"
 fi
 echo "$passed passed, $failed failed"

@@ -173,14 +173,14 @@ slip "comment by # at the top" "line 1: BadHeader" "# a comment\n$begin"
 slip "header without space" "line 1: BadHeader" 'otp1\n'
 slip "header in capitals" "line 1: BadHeader" 'OTP 1\n'
 slip "next version" "line 1: BadHeader" 'otp 2\n'
-slip "comment by # behind a line" "line 4: BadLine" "${begin}tier b overt # a comment\n"
+slip "comment by # after a line" "line 4: BadLine" "${begin}tier b overt # a comment\n"
 slip "unknown kind of tier" "line 4: BadLine" "${begin}tier b given\n"
 slip "two tiers on a line" "line 4: BadLine" "${begin}tier b c input\n"
 slip "no name" "line 4: BadLine" "${begin}constraint A -> a\n"
 slip "or on the left" "line 4: BadLine" "${begin}constraint X A or a -> a\n"
 slip "or in a clash" "line 4: BadLine" "${begin}constraint X A # a or A\n"
 slip "and on the right" "line 4: BadLine" "${begin}constraint X A -> a and a\n"
-slip "bracket behind the tier" "line 4: BadLine" "${begin}constraint X A[ -> a\n"
+slip "bracket after the tier" "line 4: BadLine" "${begin}constraint X A[ -> a\n"
 slip "another case" "line 4: UnknownTier" "${begin}constraint X B -> a\n"
 slip "letter of two signs" "line 4: BadName" "${begin}letter ta = A\n"
 printf 'otp 1\r\ntier A input\r\ntier a overt\r\n' > slip.otp

@@ -8,6 +8,7 @@ The program is the one that ./otp runs, or the file in the environment variable 
 import glob
 import os
 import random
+import re
 import shutil
 import subprocess
 import sys
@@ -75,6 +76,24 @@ def test_answers():
                 judge(name + " optima", read.how_many(answer), len(optima))
                 judge(name + " surfaces", {read.text_of(one) for one in read.timelines(surfaces, 99)}, heard)
                 judge(name + " number of surfaces", read.how_many(surfaces), len(heard))
+
+
+def test_gallery():
+    """The surfaces that each grammar of the gallery lists are those of all its optimal candidates."""
+    for path in sorted(glob.glob(os.path.join(TOP, "examples", "gallery", "*.otp"))):
+        with open(path, encoding="utf-8") as file:
+            text = file.read()
+        grammar = read.grammar(text)
+        listed = re.findall(r'(?m)^;     "([^"]*)" +(.*)$', text)
+        judge(os.path.basename(path) + " lists forms", bool(listed), True)
+        for form, wanted in listed:
+            surfaces = read.surfaces(grammar, read.answer(otp("generate", path, form)))
+            many, words = read.how_many(surfaces), wanted.split()
+            judge("%s %s, infinitely many" % (path, form), many is None, words[-1] == "..")
+            if many is None:
+                words.pop()
+            first = read.timelines(surfaces, many or len(words))
+            judge("%s %s" % (path, form), [read.spelled(grammar, surface) for surface in first], words)
 
 
 def test_readers():
@@ -214,6 +233,7 @@ def main():
     test_pages()
     test_r()
     test_answers()
+    test_gallery()
     test_readers()
     test_pictures()
     test_steps()

@@ -97,7 +97,7 @@ def answer(text):
 
 
 def cut_row(line):
-    """The timeline of a line of a tableau, and the words behind it."""
+    """The timeline of a line of a tableau, and the words after it."""
     words = line[2:].split()
     size = 0
     while size < len(words) and (set(words[size]) <= set("-+[]|") or size == 0 and words[0] == "empty"):

@@ -6,7 +6,7 @@
     tools/otp_view.py G TIMELINE                     the picture of a timeline
     a tableau | tools/otp_view.py G                  the tableau, with a picture of each row
 
-Words behind these: `svg` writes the picture of the example or the timeline as SVG instead; `brief`
+Words after these: `svg` writes the picture of the example or the timeline as SVG instead; `brief`
 leaves out the picture and what is not violated; `all N` lists up to N surfaces instead of 8, and as
 many optima.
 

@@ -1,6 +1,5 @@
-ghost use Rattle.std.specs.Prelude.{◌≡◌, ◌+◌, ◌≤◌, [], List, ℕ, ◌++◌, length, Err, OnOk, OnErr};
-ghost use Rattle.outside.specs.Faults.{Rose};
-ghost use Rattle.outside.specs.Sent.{appended, HasSentPart, Sends};
+ghost use Rattle.std.specs.Prelude.{◌≡◌, ◌+◌, ◌≤◌, [], List, ℕ, ◌++◌, length};
+ghost use Rattle.outside.specs.Writers.{Puts, Pushes};
 
 use crate::put::put_all;
 use crate::sink::{Sink, WriteErr};
@@ -15,12 +14,12 @@ const ROOM: usize = 4096;
 /// A refusal ends the text: after it nothing waits, and the sink has taken a front of what had
 /// waited and of the piece after it.
 #[derive(Drop)]
-pub struct Waiting {
+pub struct OutBuffer {
     bytes: [u8; ROOM],
     len: usize,
 }
 
-impl Model for Waiting {
+impl Model for OutBuffer {
     ghost use Rattle.std.specs.Prelude.{List, ℕ, ◌≤◌, take};
 
     ghost Value = { List ℕ };
@@ -30,24 +29,20 @@ impl Model for Waiting {
     ghost invariant = { λ s. s.len ≤ 4096 };
 }
 
-impl Waiting {
+impl OutBuffer {
     /// Nothing waits.
-    pub fn new() -> Waiting
+    pub fn new() -> OutBuffer
         ensures { result ≡ [] }
     {
-        Waiting {
+        OutBuffer {
             bytes: [0; ROOM],
             len: 0,
         }
     }
 
-    /// Puts a piece behind what waits, or, where it has no room, hands on what waits first.
-    pub fn put<O: Sink>(&mut self, sink: &mut O, piece: &[u8]) -> Result<(), WriteErr>
-        ensures ok { OnOk result (Sends (O.taken sink.old) (self.old ++ piece.now) (O.taken sink.new) self.new) }
-        ensures part { HasSentPart (O.taken sink.old) (self.old ++ piece.now) (O.taken sink.new) }
-        ensures err { OnErr result (self.new ≡ []) }
-        ensures never_falls { O.faults sink.old ≤ O.faults sink.new }
-        ensures failed { result ≡ Err WriteErr.Failed → Rose (O.faults sink.old) (O.faults sink.new) }
+    /// Appends a piece to what waits. Where it has no room, what waits is handed on first.
+    pub fn push<O: Sink>(&mut self, sink: &mut O, piece: &[u8]) -> Result<(), WriteErr>
+        ensures { Pushes O.Sink sink.old sink.new self.old self.new piece.now result }
     {
         if piece.len() <= self.room() {
             self.hold(piece);
@@ -63,11 +58,8 @@ impl Waiting {
 
     /// Hands on all that waits.
     pub fn flush<O: Sink>(&mut self, sink: &mut O) -> Result<(), WriteErr>
-        ensures ok { OnOk result (O.taken sink.new ≡ appended (O.taken sink.old) self.old) }
-        ensures part { HasSentPart (O.taken sink.old) self.old (O.taken sink.new) }
+        ensures puts { Puts O.Sink sink.old sink.new self.old result }
         ensures empty { self.new ≡ [] }
-        ensures never_falls { O.faults sink.old ≤ O.faults sink.new }
-        ensures failed { result ≡ Err WriteErr.Failed → Rose (O.faults sink.old) (O.faults sink.new) }
     {
         let result = put_all(sink, &self.bytes[..self.len]);
         self.len = 0;

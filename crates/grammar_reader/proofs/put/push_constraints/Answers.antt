@@ -1,30 +1,25 @@
-use Rattle.std.proofs.Common.{◌≡◌, ◌+◌, ◌++◌, map, drop, ap, sym, ◌∙◌, arith}
+use Rattle.std.proofs.Common.{map, ap, ◌∙◌}
 use Rattle.std.specs.String.{string_bytes}
-use Rattle.outside.proofs.Sending.{puts_piece, puts_part}
-use Rattle.grammar_reader.specs.Words.{word_text}
-use Rattle.grammar_reader.specs.Canonical.{line_of_words, constraint_words, constraint_lines}
+use Rattle.outside.proofs.Writing.{stop, up_to_as, up_to_none, up_to_more, up_to_stop}
+use Rattle.grammar_reader.specs.Canonical.{constraint_words}
 use Rattle.grammar_reader.specs.Seen.{constraint_seen}
 use Rattle.grammar_reader.proofs.FromLine.{from_line}
-use Rattle.grammar_reader.proofs.LineText.{lines_next}
-use Rattle.grammar_reader.proofs.put.wait_constraints.Goals as goal
+use Rattle.grammar_reader.proofs.LineText.{next_line}
+use Rattle.grammar_reader.proofs.put.push_constraints.Goals as goal
 
-pub returns-in_err-wait_line-clause-part : goal.returns-in_err-wait_line-clause-part
-returns-in_err-wait_line-clause-part g c =
-    let names = map string_bytes c.args.names.now in
-    let rest = map constraint_seen (drop (c.loop-constraint.constraint-index + 1) c.args.constraints.now) in
-    puts_part c.loop-constraint.waiting (line_of_words (map word_text c.as_slice.result.now)) (constraint_lines names rest)
-    (lines_next (constraint_words names) c.loop-constraint.waiting (map constraint_seen (drop c.loop-constraint.constraint-index c.args.constraints.now)) (constraint_seen c.constraint-item.result) rest (map word_text c.as_slice.result.now)
-    (ap (map constraint_seen) (from_line c.args.constraints.now c.loop-constraint.constraint-index c.constraint-item.result c.loop-constraint-test.true c.constraint-item.is)) (c.as_slice.ensures ∙ c.constraint_words.ensures) c.loop-constraint.invariant.sends)
-    c.wait_line.ensures.part
+pub loop-constraint-init : goal.loop-constraint-init
+loop-constraint-init g c = up_to_none c.args.sink.now c.args.out.now _
 
 pub loop-constraint-preserved : goal.loop-constraint-preserved
 loop-constraint-preserved g c =
-    let names = map string_bytes c.args.names.now in
-    let rest = map constraint_seen (drop (c.loop-constraint.constraint-index + 1) c.args.constraints.now) in
-    record {
-      sends = puts_piece c.loop-constraint.waiting (line_of_words (map word_text c.as_slice.result.now)) (constraint_lines names rest)
-          (lines_next (constraint_words names) c.loop-constraint.waiting (map constraint_seen (drop c.loop-constraint.constraint-index c.args.constraints.now)) (constraint_seen c.constraint-item.result) rest (map word_text c.as_slice.result.now)
-          (ap (map constraint_seen) (from_line c.args.constraints.now c.loop-constraint.constraint-index c.constraint-item.result c.loop-constraint-test.true c.constraint-item.is)) (c.as_slice.ensures ∙ c.constraint_words.ensures) c.loop-constraint.invariant.sends)
-          c.in_ok-wait_line.ensures.ok;
-      faults = omega (arith, c.loop-constraint.invariant.faults, c.wait_line.ensures.never_falls);
-    }
+    let cuts = ap (map constraint_seen) (from_line _ _ _ c.loop-constraint-test.true c.constraint-item.is) in
+    let has = c.as_slice.ensures ∙ c.constraint_words.ensures in
+    let left = up_to_as (next_line (constraint_words (map string_bytes c.args.names.now)) cuts has) c.loop-constraint.invariant in
+    up_to_more left c.in_ok-push_line.ensures
+
+pub returns-in_err-push_line : goal.returns-in_err-push_line
+returns-in_err-push_line g c =
+    let cuts = ap (map constraint_seen) (from_line _ _ _ c.loop-constraint-test.true c.constraint-item.is) in
+    let has = c.as_slice.ensures ∙ c.constraint_words.ensures in
+    let left = up_to_as (next_line (constraint_words (map string_bytes c.args.names.now)) cuts has) c.loop-constraint.invariant in
+    stop c.from_residual.ensures.1 (up_to_stop _ left c.in_err-push_line.ensures)

@@ -1,4 +1,3 @@
-ghost use Rattle.std.specs.Prelude.{◌≡◌, ◌≤◌};
 ghost use Rattle.outside.specs.Writers.{Puts};
 
 use crate::sink::{Sink, WriteErr};

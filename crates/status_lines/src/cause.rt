@@ -1,4 +1,4 @@
-ghost use Rattle.std.specs.Prelude.{◌≡◌, ◌≤◌, ◌++◌, codes, Err, OnOk};
+ghost use Rattle.std.specs.Prelude.{◌≡◌, ◌++◌, codes};
 ghost use Rattle.outside.specs.Writers.{Pushes};
 ghost use Rattle.status_lines.specs.Lines.{form_cause_text, grammar_cause_text};
 

@@ -1,4 +1,3 @@
-ghost use Rattle.std.specs.Prelude.{◌≡◌, ◌≤◌, ◌++◌, Err, OnOk};
 ghost use Rattle.outside.specs.Writers.{Puts, Pushes};
 ghost use Rattle.status_lines.specs.Lines.{status_text};
 

@@ -1,31 +1,23 @@
-use Rattle.std.proofs.Common.{arith, refl}
-use Rattle.answer_text.specs.Text.{lines_text, state_lines}
-use Rattle.outside.proofs.Puts.{begins}
+use Rattle.std.proofs.Common.{sym}
+use Rattle.answer_text.specs.Text.{state_lines}
 use Rattle.answer_text.proofs.Lines.{lines_of_each}
-use Rattle.outside.proofs.Sending.{part_of_sends}
-use Rattle.outside.proofs.Puts.{each_turn, each_part, each_end}
-use Rattle.answer_text.proofs.automaton_writer.put_states.Goals as goal
+use Rattle.outside.proofs.Writing.{each_end, each_none, each_stop, each_turn, pushes_as, stop}
+use Rattle.answer_text.proofs.automaton_writer.push_states.Goals as goal
 
 pub loop-state-init : goal.loop-state-init
-loop-state-init g c = record {
-  sends = begins (λ state. lines_text (state_lines state)) c.args.states.now c.args.waiting.now (lines_of_each state_lines c.args.states.now);
-  later = omega arith;
-}
+loop-state-init g c = each_none c.args.sink.now c.args.out.now _ c.args.states.now
 
 pub loop-state-preserved : goal.loop-state-preserved
-loop-state-preserved g c = record {
-  sends = each_turn (λ state. lines_text (state_lines state)) c.args.states.now c.loop-state.state-index c.state-item.result c.state-item.result _ c.loop-state.waiting refl c.loop-state-test.true c.state-item.is c.loop-state.invariant.sends c.in_ok-put_state.ensures.ok;
-  later = omega (arith, c.loop-state.invariant.later, c.put_state.ensures.never_falls);
-}
+loop-state-preserved g c =
+    each_turn _ c.loop-state-test.true c.state-item.is c.loop-state.invariant c.in_ok-push_state.ensures
 
-pub returns-in_err-put_state-clause-part : goal.returns-in_err-put_state-clause-part
-returns-in_err-put_state-clause-part g c = each_part (λ state. lines_text (state_lines state)) c.args.states.now c.loop-state.state-index c.state-item.result c.state-item.result _ c.loop-state.waiting refl c.loop-state-test.true c.state-item.is c.loop-state.invariant.sends c.put_state.ensures.part
+pub returns-in_err-push_state : goal.returns-in_err-push_state
+returns-in_err-push_state g c =
+    stop c.from_residual.ensures.1
+        (pushes_as (sym (lines_of_each state_lines c.args.states.now))
+        (each_stop _ c.loop-state-test.true c.state-item.is c.loop-state.invariant c.in_err-push_state.ensures))
 
-pub returns-in_err-put_state-clause-never_falls : goal.returns-in_err-put_state-clause-never_falls
-returns-in_err-put_state-clause-never_falls g c = omega (arith, c.loop-state.invariant.later, c.put_state.ensures.never_falls)
-
-pub returns-clause-ok : goal.returns-clause-ok
-returns-clause-ok g c = each_end (λ state. lines_text (state_lines state)) c.args.states.now c.loop-state.state-index c.loop-state.waiting c.loop-state-test.false c.loop-state.invariant.sends
-
-pub returns-clause-part : goal.returns-clause-part
-returns-clause-part g c = part_of_sends c.loop-state.invariant.sends
+pub returns : goal.returns
+returns g c =
+    pushes_as (sym (lines_of_each state_lines c.args.states.now))
+        (each_end c.loop-state-test.false c.loop-state.invariant)

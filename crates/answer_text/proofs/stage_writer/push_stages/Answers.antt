@@ -1,16 +1,16 @@
-use Rattle.std.proofs.Common.{◌≡◌, ℕ, ◌+◌, ◌<◌, ◌++◌, Option, List, length, drop, get_or, ap, sym, subst, ◌∙◌, append-nil, arith}
+use Rattle.std.proofs.Common.{◌≡◌, ℕ, ◌+◌, ◌<◌, ◌++◌, List, length, drop, get_or, ap, sym, ◌∙◌, arith}
 use Rattle.std.proofs.lemmas.List.{at_drop_all, get_or_read}
-use Rattle.outside.specs.Sent.{Sends}
-use Rattle.outside.proofs.Sending.{part_of_sends, puts_piece, puts_part}
+use Rattle.outside.proofs.Writing.{stop, up_to_as, up_to_end, up_to_more, up_to_none, up_to_stop}
 use Rattle.answer_text.specs.declared.stage.Node.{Node}
 use Rattle.answer_text.specs.declared.stage.Stage.{Stage}
 use Rattle.answer_text.specs.Shape.{widths_of}
 use Rattle.answer_text.specs.Text.{Widths, lines_text, stage_lines, stages_lines}
 use Rattle.answer_text.proofs.Lines.{stages_next}
-use Rattle.answer_text.proofs.stage_writer.put_stages.Goals as goal
+use Rattle.answer_text.proofs.stage_writer.push_stages.Goals as goal
 
 -- the lines of one stage, with the numbers that it is written with
-stage_same : {free free' stretches stretches' : ℕ} (i : ℕ) {nodes nodes' : List Node} → free ≡ free' → stretches ≡ stretches' → nodes ≡ nodes'
+stage_same : {free free' stretches stretches' : ℕ} (i : ℕ) {nodes nodes' : List Node}
+    → free ≡ free' → stretches ≡ stretches' → nodes ≡ nodes'
     → lines_text (stage_lines free' stretches' i nodes') ≡ lines_text (stage_lines free stretches i nodes)
 stage_same {free} {free'} {stretches} {stretches'} i {nodes} {nodes'} a b e =
     ap (λ f. lines_text (stage_lines f stretches' i nodes')) (sym a)
@@ -18,28 +18,34 @@ stage_same {free} {free'} {stretches} {stretches'} i {nodes} {nodes'} a b e =
     ∙ ap (λ n. lines_text (stage_lines free stretches i n)) (sym e)
 
 -- the stage of this turn and those after it
-turn : (widths : Widths) (stages : List Stage) (i : ℕ) (stage : Stage) {free stretches : ℕ} {nodes : List Node} {old mid : Option (List ℕ)} {text : List ℕ} (waits : List ℕ)
-    → i < length stages → stage ≡ get_or stages i stage → free ≡ widths.free → stretches ≡ get_or widths.stretches i 0 → nodes ≡ stage.nodes.items
-    → Sends old text mid (waits ++ lines_text (stages_lines widths i (drop i stages)))
-    → Sends old text mid (waits ++ (lines_text (stage_lines free stretches i nodes) ++ lines_text (stages_lines widths (i + 1) (drop (i + 1) stages))))
-turn widths stages i stage {old = old} {mid = mid} {text = text} waits h is a b e s =
-    subst (λ t. Sends old text mid (waits ++ t)) (stages_next widths i stages stage h is ∙ ap (λ t. t ++ lines_text (stages_lines widths (i + 1) (drop (i + 1) stages))) (stage_same i a b e)) s
+turn : (widths : Widths) (stages : List Stage) (i : ℕ) (stage : Stage) {free stretches : ℕ} {nodes : List Node}
+    → i < length stages → stage ≡ get_or stages i stage
+    → free ≡ widths.free → stretches ≡ get_or widths.stretches i 0 → nodes ≡ stage.nodes.items
+    → lines_text (stages_lines widths i (drop i stages))
+        ≡ lines_text (stage_lines free stretches i nodes) ++ lines_text (stages_lines widths (i + 1) (drop (i + 1) stages))
+turn widths stages i stage h is a b e =
+    stages_next widths i stages stage h is
+    ∙ ap (λ t. t ++ lines_text (stages_lines widths (i + 1) (drop (i + 1) stages))) (stage_same i a b e)
+
+pub loop-number-init : goal.loop-number-init
+loop-number-init g c = up_to_none c.args.sink.now c.args.out.now _
 
 pub loop-number-preserved : goal.loop-number-preserved
-loop-number-preserved g c = record {
-  sends = puts_piece c.loop-number.waiting (lines_text (stage_lines c.free_count-free.result c.index.result.now c.loop-number.number c.deref.result.now)) (lines_text (stages_lines (widths_of c.args.shape.now) (c.loop-number.number + 1) (drop (c.loop-number.number + 1) c.args.stages.now)))
-      (turn (widths_of c.args.shape.now) c.args.stages.now c.loop-number.number c.index-stages-number.result c.loop-number.waiting c.loop-number-test.true c.index-stages-number.is c.free_count-free.ensures.value (get_or_read c.args.shape.now.phases.items c.loop-number.number c.index.result.now (omega arith) c.index.ensures 0) c.deref.ensures.value c.loop-number.invariant.sends)
-      c.in_ok-put_stage.ensures.ok;
-  later = omega (arith, c.loop-number.invariant.later, c.put_stage.ensures.never_falls);
-}
+loop-number-preserved g c =
+    let has = get_or_read c.args.shape.now.phases.items c.loop-number.number c.index.result.now (omega arith) c.index.ensures 0 in
+    let next = turn (widths_of c.args.shape.now) _ _ _ c.loop-number-test.true c.index-stages-number.is
+        c.free_count-free.ensures.value has c.deref.ensures.value in
+    up_to_more (up_to_as next c.loop-number.invariant) c.in_ok-push_stage.ensures
 
-pub returns-in_err-put_stage-clause-part : goal.returns-in_err-put_stage-clause-part
-returns-in_err-put_stage-clause-part g c = puts_part c.loop-number.waiting (lines_text (stage_lines c.free_count-free.result c.index.result.now c.loop-number.number c.deref.result.now)) (lines_text (stages_lines (widths_of c.args.shape.now) (c.loop-number.number + 1) (drop (c.loop-number.number + 1) c.args.stages.now)))
-    (turn (widths_of c.args.shape.now) c.args.stages.now c.loop-number.number c.index-stages-number.result c.loop-number.waiting c.loop-number-test.true c.index-stages-number.is c.free_count-free.ensures.value (get_or_read c.args.shape.now.phases.items c.loop-number.number c.index.result.now (omega arith) c.index.ensures 0) c.deref.ensures.value c.loop-number.invariant.sends)
-    c.put_stage.ensures.part
+pub returns-in_err-push_stage : goal.returns-in_err-push_stage
+returns-in_err-push_stage g c =
+    let has = get_or_read c.args.shape.now.phases.items c.loop-number.number c.index.result.now (omega arith) c.index.ensures 0 in
+    let next = turn (widths_of c.args.shape.now) _ _ _ c.loop-number-test.true c.index-stages-number.is
+        c.free_count-free.ensures.value has c.deref.ensures.value in
+    stop c.from_residual.ensures.1 (up_to_stop _ (up_to_as next c.loop-number.invariant) c.in_err-push_stage.ensures)
 
-pub returns-clause-ok : goal.returns-clause-ok
-returns-clause-ok g c = subst (Sends _ _ _) (ap (λ t. c.loop-number.waiting ++ t) (at_drop_all (λ ss. lines_text (stages_lines (widths_of c.args.shape.now) c.loop-number.number ss)) c.args.stages.now c.loop-number.number c.loop-number-test.false) ∙ append-nil c.loop-number.waiting) c.loop-number.invariant.sends
-
-pub returns-clause-part : goal.returns-clause-part
-returns-clause-part g c = part_of_sends c.loop-number.invariant.sends
+pub returns : goal.returns
+returns g c =
+    let none = at_drop_all (λ ss. lines_text (stages_lines (widths_of c.args.shape.now) c.loop-number.number ss)) c.args.stages.now
+        c.loop-number.number c.loop-number-test.false in
+    up_to_end none c.loop-number.invariant

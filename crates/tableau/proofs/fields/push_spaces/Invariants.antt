@@ -1,14 +1,9 @@
-use Rattle.std.proofs.Common.{◌≤◌, ◌++◌}
-use Rattle.outside.specs.Sent.{Sends}
+use Rattle.outside.proofs.Writing.{PushesUpTo}
 use Rattle.tableau.specs.Layout.{spaces}
-use Rattle.tableau.proofs.fields.put_spaces.Given as goal
+use Rattle.tableau.proofs.fields.push_spaces.Given as goal
 
--- what is left are the bytes that wait, and then the rest of the spaces
 abbrev pub invariant-loop-rest : goal.invariant-loop-rest
-invariant-loop-rest g l = record {
-  sends : Sends (g.O.Sink.taken l.fn.sink) (l.fn.waiting ++ spaces l.fn.count) (g.O.Sink.taken l.sink) (l.waiting ++ spaces l.rest);
-  later : g.O.Sink.faults l.fn.sink ≤ g.O.Sink.faults l.sink;
-}
+invariant-loop-rest g l = PushesUpTo g.O.Sink l.fn.sink l.sink l.fn.out l.out (spaces l.fn.count) (spaces l.rest)
 
 abbrev pub decreases-loop-rest : goal.decreases-loop-rest
 decreases-loop-rest g l = l.rest

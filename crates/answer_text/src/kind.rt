@@ -23,7 +23,8 @@ fn open_byte(opened: u16, tier: usize) -> u8
 /// The byte of a stretch implication.
 fn phase_byte(kind: &Kind, place: usize) -> u8
     requires { place < 32 }
-    ensures { result ≡ phase_byte (phase_by_bits (has_tier kind.now.unmet place) (has_tier kind.now.met place)) }
+    ensures { result
+        ≡ phase_byte (phase_by_bits (has_tier kind.now.unmet place) (has_tier kind.now.met place)) }
 {
     if has_bit(kind.met, place as u32) {
         b'm'

@@ -1,10 +1,11 @@
 -- Adding what a line says.
-use Rattle.std.proofs.Common.{◌≡◌, ℕ, ◌+◌, ◌<◌, Bool, false, cond, ◌||◌, ◌∷◌, [], ◌++◌, List, length, map, take, drop, get_or, set, Global, refl, ap, sym, ◌∙◌, arith, None}
-use Rattle.std.specs.Prelude.{nat_le, nat_eq}
-use Rattle.std.specs.List.{list_any}
+use Rattle.std.proofs.Common.{◌≡◌, ℕ, ◌+◌, ◌<◌, ◌≤◌, Bool, true, false, cond, ◌||◌, ◌∷◌, [], ◌++◌, List, length, map, take, drop, get_or, set, Global, refl, ap, sym, ◌∙◌, arith, Option, Some, None, is_some}
+use Rattle.std.specs.Prelude.{nat_le, nat_eq, nat_lt}
+use Rattle.std.specs.List.{list_any, list_all}
 use Rattle.std.specs.Map.{lookup}
+use Rattle.std.specs.Str.{IsUtf8}
 use Rattle.std.specs.Cmp.Lexicographic.{pointwise}
-use Rattle.std.proofs.lemmas.Bool.{or_parts}
+use Rattle.std.proofs.lemmas.Bool.{false≢true, or_parts}
 use Rattle.std.proofs.lemmas.Bool.Decides.{nat_tests}
 use Rattle.std.proofs.lemmas.List.{map-append, length-map, take_more, take_more_set, drop_more}
 use Rattle.std.specs.String.{string_bytes}
@@ -13,10 +14,10 @@ use Rattle.tier_core.specs.declared.tier.TierKind.{TierKind}
 use Rattle.tier_core.specs.declared.event.Event.{Event}
 use Rattle.tier_core.specs.declared.constraint.Family.{Family}
 use Rattle.tier_core.specs.declared.constraint.Constraint.{Constraint}
-use Rattle.tier_core.specs.Tiers.{is_input}
+use Rattle.tier_core.specs.Tiers.{is_input, is_free}
 use Rattle.timeline_text.specs.declared.letter.Letter.{Letter}
 use Rattle.grammar_reader.specs.Canonical.{names_in}
-use Rattle.grammar_reader.specs.Values.{is_named, NamedTier, NamedConstraint, GrammarValue, inputs_of}
+use Rattle.grammar_reader.specs.Values.{is_named, NamedTier, NamedConstraint, GrammarValue, inputs_of, free_of}
 use Rattle.grammar_reader.specs.Seen.{tier_seen, tiers_seen, tiers_by, constraint_seen}
 use Rattle.grammar_reader.proofs.Known.{known_any}
 use Rattle.grammar_reader.proofs.Lexing.{none_of}

@@ -1,5 +1,5 @@
 -- Counting tiers of a kind.
-use Rattle.std.proofs.Common.{◌≡◌, ℕ, Bool, List, filter, length, ap, sym, ◌∙◌}
+use Rattle.std.proofs.Common.{◌≡◌, ℕ, Bool, List, map, filter, length, ap, sym, ◌∙◌}
 use Rattle.std.specs.Map.{values_of}
 use Rattle.std.proofs.lemmas.List.{length-map}
 use Rattle.tier_core.specs.declared.tier.TierKind.{TierKind}

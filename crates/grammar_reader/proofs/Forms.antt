@@ -1,5 +1,5 @@
 -- What steps of a form that fail, or that go on, say of the whole.
-use Rattle.std.proofs.Common.{◌≡◌, ap, ◌∙◌, Option, Some, option_map, option_and_then}
+use Rattle.std.proofs.Common.{◌≡◌, ap, ◌∙◌, Option, Some, None, option_map, option_and_then}
 use Rattle.grammar_reader.specs.Events.{FailsForm}
 use Rattle.grammar_reader.specs.declared.lexeme.LineErr.{LineErr}
 use Rattle.grammar_reader.specs.declared.lexeme.LineErr.TheVariants.{Cause, NoMemory}

@@ -1,5 +1,5 @@
 -- Words with another between each two.
-use Rattle.std.proofs.Common.{◌≡◌, ℕ, List, [], ◌∷◌, ap, refl}
+use Rattle.std.proofs.Common.{◌≡◌, ℕ, List, [], ◌∷◌, ◌++◌, ap, refl}
 use Rattle.grammar_reader.specs.Canonical.{joined}
 
 -- the words after the first, each behind the one that joins

@@ -1,22 +1,25 @@
 -- What the lines of a text make is within the limits, with names that are names and are there once.
-use Rattle.std.proofs.Common.{◌≡◌, ℕ, suc, ◌+◌, ◌*◌, ◌^◌, ◌<◌, ◌≤◌, Bool, true, false, cond, not, ◌&&◌, ◌||◌, List, [], ◌∷◌, ◌++◌, length, map, Some, None, refl, ap, sym, ◌∙◌, subst, arith, length-append}
-use Rattle.std.specs.Prelude.{nat_le, nat_lt}
+use Rattle.std.proofs.Common.{◌≡◌, ℕ, zero, suc, ◌+◌, ◌*◌, ◌^◌, ◌<◌, ◌≤◌, Bool, true, false, cond, not, ◌&&◌, ◌||◌, List, [], ◌∷◌, ◌++◌, length, map, filter, Option, Some, None, Result, Ok, Err, refl, ap, sym, ◌∙◌, subst, arith, length-append}
+use Rattle.std.specs.Prelude.{nat_le, nat_lt, IsTrue}
 use Rattle.std.specs.List.{list_any, list_all, find, position_or_len}
 use Rattle.std.specs.Option.{option_map_or}
 use Rattle.std.specs.Str.{bytes_eq}
-use Rattle.std.proofs.lemmas.Bool.{false≢true, and_parts, and_from, or_parts}
+use Rattle.std.proofs.lemmas.Bool.{false≢true, and_parts, and_from, or_parts, or_from}
 use Rattle.std.proofs.lemmas.Bool.Decides.{nat_tests}
 use Rattle.std.proofs.lemmas.List.{map-append, length-map}
 use Rattle.std.proofs.lemmas.List.Elements.{filter-append}
 use Rattle.std.proofs.lemmas.List.Folds.{list_all-append}
+use Rattle.std.proofs.lemmas.List.Sums.{prefix_len-le-length}
 use Rattle.tier_core.specs.declared.event.Event.{Event}
 use Rattle.tier_core.specs.declared.tier.TierKind.{TierKind}
+use Rattle.tier_core.specs.declared.tier.TierKind.TheVariants.{Input, Overt, Hidden}
 use Rattle.tier_core.specs.Tiers.{is_input, is_free}
 use Rattle.timeline_text.specs.declared.letter.Letter.{Letter}
 use Rattle.timeline_text.proofs.Searches.{by_test}
+use Rattle.grammar_reader.specs.Pieces.{lines_of}
 use Rattle.grammar_reader.specs.Statements.{Statement, tier, letter, constraint, NamedEvent}
 use Rattle.grammar_reader.specs.Names.{is_name, is_letter_byte, has_twice}
-use Rattle.grammar_reader.specs.Values.{GrammarValue, NamedTier, NamedConstraint, is_named, inputs_of, free_of, letter_name, has_sound, is_side, has_sides, IsMade}
+use Rattle.grammar_reader.specs.Values.{GrammarValue, NamedTier, NamedConstraint, is_named, inputs_of, free_of, letter_name, has_sound, is_side, has_sides, IsMade, IsGrammar}
 use Rattle.grammar_reader.specs.Reading.{nothing, has_bad_name, is_twice_named, is_unknown, has_unknown_tier, is_input_named, has_no_input, is_tier_too_many, is_constraint_too_many, has_too_many_events, first_that_comes, cause_of, number_of, numbered, mask_of, first_byte, with_statement}
 use Rattle.grammar_reader.specs.declared.grammar_err.GrammarCause.{GrammarCause}
 use Rattle.grammar_reader.specs.declared.grammar_err.GrammarCause.TheVariants.{BadName, TwiceNamed, UnknownTier, NotInput, TooManyTiers, TooManyConstraints, TooManyEvents}

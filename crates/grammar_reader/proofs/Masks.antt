@@ -1,12 +1,12 @@
 -- The mask of the input tiers that are named, tier by tier.
-use Rattle.std.proofs.Common.{◌≡◌, ℕ, suc, ◌+◌, ◌*◌, ◌^◌, ◌<◌, ◌≤◌, Bool, true, false, cond, List, ◌∷◌, length, get_or, drop, ap, sym, ◌∙◌, arith}
+use Rattle.std.proofs.Common.{◌≡◌, ℕ, suc, ◌+◌, ◌*◌, ◌^◌, ◌<◌, ◌≤◌, Bool, true, false, cond, List, [], ◌∷◌, length, get_or, drop, map, refl, ap, sym, ◌∙◌, arith}
 use Rattle.std.specs.List.{list_any}
 use Rattle.std.specs.Str.{bytes_eq}
 use Rattle.std.proofs.Math.Nat.{mul-add, mul_assoc}
 use Rattle.std.proofs.lemmas.List.{drop_more}
 use Rattle.tier_core.specs.declared.tier.TierKind.{TierKind}
 use Rattle.tier_core.specs.Tiers.{is_input}
-use Rattle.grammar_reader.specs.Values.{inputs_of}
+use Rattle.grammar_reader.specs.Values.{is_named, inputs_of}
 use Rattle.grammar_reader.specs.Seen.{tier_seen, tiers_seen}
 use Rattle.grammar_reader.specs.Reading.{mask_of}
 use denote.Ref.{Bor}

@@ -1,5 +1,5 @@
 -- The canonical text of a grammar: a line for each tier, letter and constraint, each group in its order.
-use Rattle.std.specs.Prelude.{ℕ, ◌/◌, ◌%◌, ◌==◌, Bool, if◌then◌else◌, List, [], ◌∷◌, ◌++◌, map, codes, slice_index_or}
+use Rattle.std.specs.Prelude.{ℕ, ◌+◌, ◌/◌, ◌%◌, ◌==◌, Bool, if◌then◌else◌, List, [], ◌∷◌, ◌++◌, map, codes, slice_index_or}
 use Rattle.std.specs.List.{flat_map, join_with_byte}
 use Rattle.tier_core.specs.declared.event.Event.{Event}
 use Rattle.tier_core.specs.declared.event.Part.{Part}

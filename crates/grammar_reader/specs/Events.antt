@@ -1,5 +1,5 @@
 -- The code's events, and what reading them gives.
-use Rattle.std.specs.Prelude.{◌≡◌, Option, None}
+use Rattle.std.specs.Prelude.{◌≡◌, ℕ, List, Option, None}
 use Rattle.grammar_reader.specs.Statements as statement
 use Rattle.grammar_reader.specs.declared.event.NamedEvent.{NamedEvent}
 use Rattle.grammar_reader.specs.declared.lexeme.LineErr.{LineErr}

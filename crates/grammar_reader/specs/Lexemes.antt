@@ -1,5 +1,5 @@
 -- What the code's lexemes are, and what reading a line gives.
-use Rattle.std.specs.Prelude.{◌≡◌, ℕ, List, ◌++◌, map, Option, Some, None}
+use Rattle.std.specs.Prelude.{◌≡◌, ℕ, List, ◌++◌, map, Option, Some, None, Result, Ok, Err}
 use Rattle.grammar_reader.specs.Pieces as pieces
 use Rattle.grammar_reader.specs.Pieces.{parts_of, lexeme_of}
 use Rattle.grammar_reader.specs.Statements.{each_some}
@@ -7,6 +7,7 @@ use Rattle.grammar_reader.specs.declared.lexeme.Lexeme as code
 use Rattle.grammar_reader.specs.declared.lexeme.Lexeme.TheVariants.{Opens, Closes, Equals, Clash, Implies, Word}
 use Rattle.grammar_reader.specs.declared.lexeme.LineErr.{LineErr}
 use Rattle.grammar_reader.specs.declared.lexeme.LineErr.TheVariants.{Cause, NoMemory}
+use Rattle.grammar_reader.specs.declared.grammar_err.GrammarCause.{GrammarCause}
 use Rattle.grammar_reader.specs.declared.grammar_err.GrammarCause.TheVariants.{BadByte}
 
 abbrev pub seen : code.Lexeme → pieces.Lexeme

@@ -1,6 +1,6 @@
 -- What the reader has made so far, and what its steps give.
-use Rattle.std.specs.Prelude.{◌≡◌, map, Result, Err, Option, Some, None}
-use Rattle.grammar_reader.specs.Values.{GrammarValue}
+use Rattle.std.specs.Prelude.{◌≡◌, ℕ, List, ◌∷◌, [], map, Result, Err, Option, Some, None}
+use Rattle.grammar_reader.specs.Values.{GrammarValue, NamedTier, NamedConstraint}
 use Rattle.grammar_reader.specs.Reading.{At}
 use Rattle.grammar_reader.specs.declared.made.Made.{Made}
 use Rattle.grammar_reader.specs.declared.lexeme.LineErr.{LineErr}

@@ -1,5 +1,5 @@
 -- The value of a grammar text, or its first cause.
-use Rattle.std.specs.Prelude.{ℕ, ◌+◌, ◌*◌, Bool, false, List, [], ◌∷◌, ◌++◌, length, map, not, nat_le, nat_lt, ◌&&◌, ◌||◌, Option, Some, None, unwrap_or, Result, Ok, Err, if◌then◌else◌, position, find}
+use Rattle.std.specs.Prelude.{ℕ, ◌+◌, ◌*◌, Bool, true, false, List, [], ◌∷◌, ◌++◌, length, map, not, nat_le, nat_lt, ◌&&◌, ◌||◌, Option, Some, None, unwrap_or, Result, Ok, Err, if◌then◌else◌, position, find}
 use Rattle.std.specs.List.{list_any}
 use Rattle.std.specs.Option.{option_map_or}
 use Rattle.std.specs.Str.{bytes_eq}

@@ -1,5 +1,5 @@
 -- What a line says, apart from all other lines.
-use Rattle.std.specs.Prelude.{ℕ, take, drop, Bool, true, false, List, [], ◌∷◌, Option, Some, None, ◌||◌, if◌then◌else◌, codes, option_map, option_and_then}
+use Rattle.std.specs.Prelude.{ℕ, take, drop, Bool, true, false, List, [], ◌∷◌, ◌++◌, Option, Some, None, ◌||◌, if◌then◌else◌, codes, option_map, option_and_then}
 use Rattle.std.specs.List.{slice_split, position_or_len}
 use Rattle.std.specs.Str.{bytes_eq}
 use Rattle.grammar_reader.specs.Pieces.{Lexeme, opens, closes, equals, clash, implies, word}

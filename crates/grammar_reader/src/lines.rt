@@ -3,7 +3,8 @@ ghost use Rattle.std.specs.String.{string_bytes};
 ghost use Rattle.grammar_reader.specs.Canonical.{is_odd, kind_text, part_text, sign_text, event_text, joined, tier_words, letter_words, constraint_words, header_words};
 ghost use Rattle.grammar_reader.specs.Statements.{joined_by};
 ghost use Rattle.grammar_reader.specs.Words.{texts_of};
-ghost use Rattle.grammar_reader.specs.Seen.{tiers_by, constraint_seen};
+ghost use Rattle.grammar_reader.specs.NamedTiers.{named_tiers};
+ghost use Rattle.grammar_reader.specs.Seen.{constraint_seen};
 
 use crate::statement::joined_by;
 use crate::words::Words;
@@ -54,10 +55,7 @@ fn push_where_odd<'a>(words: &mut Words<'a>, mask: u16, name: &'a [u8])
 
 /// The words of the line of a letter, whose tiers stand in tier order.
 pub(crate) fn letter_words<'a>(tiers: &'a TierTable, letter: &'a Letter) -> Words<'a>
-    ensures { texts_of result
-        ≡ letter_words
-        (tiers_by
-        (map string_bytes tiers.entry.now.names.items) tiers.entry.now.kinds.items) letter.entry.now }
+    ensures { texts_of result ≡ letter_words (named_tiers tiers.entry.now) letter.entry.now }
 {
     let mut words = Words::begin(b"letter");
     words.push(slice::from_ref(&letter.byte));

@@ -5,7 +5,8 @@ ghost use Rattle.outside.specs.Writers.{Puts, Pushes};
 ghost use Rattle.grammar_reader.specs.Canonical.{line_of_words, tier_lines, letter_lines, constraint_lines, canonical};
 ghost use Rattle.grammar_reader.specs.Words.{spaced_word, word_text};
 ghost use Rattle.grammar_reader.specs.Seen.{constraint_seen};
-ghost use Rattle.grammar_reader.specs.Grammars.{named_tiers, value_of};
+ghost use Rattle.grammar_reader.specs.Grammars.{value_of};
+ghost use Rattle.grammar_reader.specs.NamedTiers.{named_tiers};
 
 use crate::grammar::Grammar;
 use crate::lines::{constraint_words, header_words, letter_words, tier_words};

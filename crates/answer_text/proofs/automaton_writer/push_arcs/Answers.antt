@@ -13,10 +13,10 @@ loop-arc-preserved g c = each_turn _ c.loop-arc-test.true c.arc-item.is c.loop-a
 pub returns-in_err-push_arc : goal.returns-in_err-push_arc
 returns-in_err-push_arc g c =
     stop c.from_residual.ensures.1
-        (pushes_as (sym (lines_of_map arc_line c.args.arcs.now))
-        (each_stop _ c.loop-arc-test.true c.arc-item.is c.loop-arc.invariant c.in_err-push_arc.ensures))
+    (pushes_as (sym (lines_of_map arc_line c.args.arcs.now))
+    (each_stop _ c.loop-arc-test.true c.arc-item.is c.loop-arc.invariant c.in_err-push_arc.ensures))
 
 pub returns : goal.returns
 returns g c =
     pushes_as (sym (lines_of_map arc_line c.args.arcs.now))
-        (each_end c.loop-arc-test.false c.loop-arc.invariant)
+    (each_end c.loop-arc-test.false c.loop-arc.invariant)

@@ -12,10 +12,10 @@ returns-in_err-push g c =
 pub returns-in_err-push-2 : goal.returns-in_err-push-2
 returns-in_err-push-2 g c =
     let pushed = c.in_ok-push_number.ensures ▹ (pushes_as c.final_mark.ensures c.in_ok-push.ensures)
-        ▹ c.in_err-push-2.ensures in
+    ▹ c.in_err-push-2.ensures in
     stop c.from_residual-in_err-push-2.ensures.1 (cut _ pushed)
 
 pub returns : goal.returns
 returns g c =
     c.in_ok-push_number.ensures ▹ (pushes_as c.final_mark.ensures c.in_ok-push.ensures)
-        ▹ c.in_ok-push-2.ensures ▹ (rw c.deref.ensures.value at c.push_arcs.ensures)
+    ▹ c.in_ok-push-2.ensures ▹ (rw c.deref.ensures.value at c.push_arcs.ensures)

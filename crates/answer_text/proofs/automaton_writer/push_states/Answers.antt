@@ -14,10 +14,10 @@ loop-state-preserved g c =
 pub returns-in_err-push_state : goal.returns-in_err-push_state
 returns-in_err-push_state g c =
     stop c.from_residual.ensures.1
-        (pushes_as (sym (lines_of_each state_lines c.args.states.now))
-        (each_stop _ c.loop-state-test.true c.state-item.is c.loop-state.invariant c.in_err-push_state.ensures))
+    (pushes_as (sym (lines_of_each state_lines c.args.states.now))
+    (each_stop _ c.loop-state-test.true c.state-item.is c.loop-state.invariant c.in_err-push_state.ensures))
 
 pub returns : goal.returns
 returns g c =
     pushes_as (sym (lines_of_each state_lines c.args.states.now))
-        (each_end c.loop-state-test.false c.loop-state.invariant)
+    (each_end c.loop-state-test.false c.loop-state.invariant)

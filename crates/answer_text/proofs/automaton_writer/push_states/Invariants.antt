@@ -5,4 +5,4 @@ use Rattle.answer_text.proofs.automaton_writer.push_states.Given as goal
 abbrev pub invariant-loop-state : goal.invariant-loop-state
 invariant-loop-state g l =
     PushesEach g.O.Sink l.fn.sink l.sink l.fn.out l.out
-        (λ state. lines_text (state_lines state)) l.states l.state-index
+    (λ state. lines_text (state_lines state)) l.states l.state-index

@@ -15,7 +15,7 @@ pub returns-in_err-push : goal.returns-in_err-push
 returns-in_err-push g c =
     let piece = pushes_as c.set_text.ensures c.in_err-push.ensures in
     stop c.from_residual.ensures.1
-        (each_stop 0 (omega arith) c.bits.ensures.value c.loop-tier.invariant piece)
+    (each_stop 0 (omega arith) c.bits.ensures.value c.loop-tier.invariant piece)
 
 pub returns : goal.returns
 returns g c = each_end (omega arith) c.loop-tier.invariant

@@ -12,7 +12,7 @@ loop-number-preserved g c =
 pub returns-in_err-push_number : goal.returns-in_err-push_number
 returns-in_err-push_number g c =
     stop c.from_residual.ensures.1
-        (each_stop _ c.loop-number-test.true refl c.loop-number.invariant c.in_err-push_number.ensures)
+    (each_stop _ c.loop-number-test.true refl c.loop-number.invariant c.in_err-push_number.ensures)
 
 pub returns : goal.returns
 returns g c = each_end c.loop-number-test.false c.loop-number.invariant

@@ -4,8 +4,10 @@ use Rattle.answer_text.proofs.parts.put_counts.Goals as goal
 
 pub returns-in_err-push_counts_line : goal.returns-in_err-push_counts_line
 returns-in_err-push_counts_line g c =
-    puts_stop c.new-out.ensures c.from_residual.ensures.1 (pushes_as (counts_text_is c.args.counts.now) c.in_err-push_counts_line.ensures)
+    let line = pushes_as (counts_text_is c.args.counts.now) c.in_err-push_counts_line.ensures in
+    puts_stop c.new-out.ensures c.from_residual.ensures.1 line
 
 pub returns : goal.returns
 returns g c =
-    puts_flushed c.new-out.ensures (pushes_as (counts_text_is c.args.counts.now) c.in_ok-push_counts_line.ensures) c.flush.ensures.puts
+    let line = pushes_as (counts_text_is c.args.counts.now) c.in_ok-push_counts_line.ensures in
+    puts_flushed c.new-out.ensures line c.flush.ensures.puts

@@ -14,10 +14,10 @@ loop-node-preserved g c =
 pub returns-in_err-push_node : goal.returns-in_err-push_node
 returns-in_err-push_node g c =
     stop c.from_residual.ensures.1
-        (pushes_as (sym (lines_of_map (node_line c.args.free c.args.stretches) c.args.nodes.now))
-        (each_stop _ c.loop-node-test.true c.node-item.is c.loop-node.invariant c.in_err-push_node.ensures))
+    (pushes_as (sym (lines_of_map (node_line c.args.free c.args.stretches) c.args.nodes.now))
+    (each_stop _ c.loop-node-test.true c.node-item.is c.loop-node.invariant c.in_err-push_node.ensures))
 
 pub returns : goal.returns
 returns g c =
     pushes_as (sym (lines_of_map (node_line c.args.free c.args.stretches) c.args.nodes.now))
-        (each_end c.loop-node-test.false c.loop-node.invariant)
+    (each_end c.loop-node-test.false c.loop-node.invariant)

@@ -1,4 +1,4 @@
-use Rattle.std.proofs.Common.{rules, tests, ◌≡◌, ◌≤◌, ◌+◌, length, map, drop, ◌∷◌, [], ap, sym, ◌∙◌, arith, refl, append-nil, option_map, Some}
+use Rattle.std.proofs.Common.{rules, tests, ◌≡◌, ◌≤◌, ◌+◌, length, map, drop, ◌∷◌, [], ◌++◌, ap, sym, ◌∙◌, arith, refl, append-nil, option_map, Some}
 use Rattle.std.specs.List.{slice_split}
 use Rattle.std.specs.Slice.Iter.{split_callee}
 use Rattle.std.proofs.lemmas.List.{length_push, at_drop_all, length-map, map-append}

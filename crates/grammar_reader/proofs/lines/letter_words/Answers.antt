@@ -1,4 +1,4 @@
-use Rattle.std.proofs.Common.{◌++◌, arith, ap, sym, ◌∙◌}
+use Rattle.std.proofs.Common.{◌≡◌, ◌++◌, arith, ap, sym, ◌∙◌}
 use Rattle.grammar_reader.specs.Words.{texts_of}
 use Rattle.tier_core.specs.declared.tier.TierKind.TheVariants.{Input}
 use Rattle.grammar_reader.proofs.Adding.{names_skip}

@@ -14,12 +14,14 @@ pub loop-constraint-preserved : goal.loop-constraint-preserved
 loop-constraint-preserved g c =
     let cuts = ap (map constraint_seen) (from_line _ _ _ c.loop-constraint-test.true c.constraint-item.is) in
     let has = c.as_slice.ensures ∙ c.constraint_words.ensures in
-    let left = up_to_as (next_line (constraint_words (map string_bytes c.args.names.now)) cuts has) c.loop-constraint.invariant in
+    let next = next_line (constraint_words (map string_bytes c.args.names.now)) cuts has in
+    let left = up_to_as next c.loop-constraint.invariant in
     up_to_more left c.in_ok-push_line.ensures
 
 pub returns-in_err-push_line : goal.returns-in_err-push_line
 returns-in_err-push_line g c =
     let cuts = ap (map constraint_seen) (from_line _ _ _ c.loop-constraint-test.true c.constraint-item.is) in
     let has = c.as_slice.ensures ∙ c.constraint_words.ensures in
-    let left = up_to_as (next_line (constraint_words (map string_bytes c.args.names.now)) cuts has) c.loop-constraint.invariant in
+    let next = next_line (constraint_words (map string_bytes c.args.names.now)) cuts has in
+    let left = up_to_as next c.loop-constraint.invariant in
     stop c.from_residual.ensures.1 (up_to_stop _ left c.in_err-push_line.ensures)

@@ -10,7 +10,8 @@ use Rattle.grammar_reader.proofs.put.push_grammar.Goals as goal
 
 pub returns-in_err-push_line : goal.returns-in_err-push_line
 returns-in_err-push_line g c =
-    let header = pushes_as (ap line_of_words (c.as_slice.ensures ∙ c.header_words.ensures)) c.in_err-push_line.ensures in
+    let words = ap line_of_words (c.as_slice.ensures ∙ c.header_words.ensures) in
+    let header = pushes_as words c.in_err-push_line.ensures in
     stop c.from_residual.ensures.1 (cut _ header)
 
 pub returns-in_err-push_tiers : goal.returns-in_err-push_tiers
@@ -29,7 +30,8 @@ returns g c =
     let v = value_of c.args.grammar.now in
     let header = pushes_as (ap line_of_words (c.as_slice.ensures ∙ c.header_words.ensures)) c.in_ok-push_line.ensures in
     let letters = rw c.deref.ensures.value at c.in_ok-push_letters.ensures in
-    let named = names_back _ _ (length-map c.args.grammar.now.tiers.names.items string_bytes ∙ c.args.grammar.now.tiers.one_length) in
+    let named = names_back _ _ (length-map c.args.grammar.now.tiers.names.items string_bytes
+    ∙ c.args.grammar.now.tiers.one_length) in
     let same = ap (map string_bytes) c.deref-2.ensures.value ∙ sym named in
     let last = pushes_as
     (ap (λ ns. constraint_lines ns (map constraint_seen c.deref-3.result.now)) same

@@ -12,7 +12,8 @@ loop-place-init g c = up_to_none c.args.sink.now c.args.out.now _
 
 pub loop-place-preserved : goal.loop-place-preserved
 loop-place-preserved g c =
-    let cuts = tiers_next c.args.tiers.now.names.items c.args.tiers.now.kinds.items c.deref-kind-items.result.now c.loop-place.place
+    let cuts = tiers_next c.args.tiers.now.names.items c.args.tiers.now.kinds.items c.deref-kind-items.result.now
+    c.loop-place.place
     c.index.result.now Input c.deref-kind-items.ensures.value c.loop-place-test.true c.args.tiers.now.one_length in
     let name = c.as_bytes.ensures.value ∙ ap string_bytes c.index.ensures in
     let has = c.as_slice.ensures ∙ (rw name at c.tier_words-words.ensures) in
@@ -21,7 +22,8 @@ loop-place-preserved g c =
 
 pub returns-in_err-push_line : goal.returns-in_err-push_line
 returns-in_err-push_line g c =
-    let cuts = tiers_next c.args.tiers.now.names.items c.args.tiers.now.kinds.items c.deref-kind-items.result.now c.loop-place.place
+    let cuts = tiers_next c.args.tiers.now.names.items c.args.tiers.now.kinds.items c.deref-kind-items.result.now
+    c.loop-place.place
     c.index.result.now Input c.deref-kind-items.ensures.value c.loop-place-test.true c.args.tiers.now.one_length in
     let name = c.as_bytes.ensures.value ∙ ap string_bytes c.index.ensures in
     let has = c.as_slice.ensures ∙ (rw name at c.tier_words-words.ensures) in

@@ -20,5 +20,6 @@ returns-in_err-push_name g c =
 
 pub returns : goal.returns
 returns g c =
-    let none = names_all (tableau_lines c.args.tableau.now) c.args.names.now c.loop-place.place c.loop-place-test.false in
+    let none = names_all (tableau_lines c.args.tableau.now) c.args.names.now c.loop-place.place
+    c.loop-place-test.false in
     up_to_end none c.loop-place.invariant

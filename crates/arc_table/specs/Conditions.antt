@@ -1,4 +1,4 @@
--- What the states of every table meet.
+-- What the states of every table satisfy.
 use Rattle.std.specs.Prelude.{◌≡◌, ℕ, ◌<◌, List, Contains, AllPairs, IsTrue, length}
 use Rattle.weight_law.specs.declared.Weight.{Ghosts}
 use Rattle.tier_core.specs.declared.class.Class.{Class}
@@ -12,7 +12,7 @@ use Rattle.arc_table.specs.Moves.{moves_at}
 abbrev pub TargetsExist : {W : Type 0} {g : Ghosts W} → List (TableState W g) → Type 0
 TargetsExist {W} {g} states = (s : ℕ) (arc : TableArc W g) → Contains (moves_at states s) arc → arc.target < length states
 
--- the classes of one state's moves are disjoint, so a column leads to one state at most
+-- the classes of one state's moves are disjoint, so a column leads to at most one state
 abbrev pub ClassesDisjoint : {W : Type 0} {g : Ghosts W} → List (TableState W g) → Type 0
 ClassesDisjoint states = (s : ℕ) → AllPairs (λ a b. AreDisjoint a.class b.class) (moves_at states s)
 

@@ -18,7 +18,7 @@ abbrev pub weight_of : {W : Type 0} {g : Ghosts W} → List (TableArc W g) → W
 weight_of {W} {g} [] = g.meaning.zero
 weight_of {W} {g} (arc ∷ arcs) = g.meaning.sum arc.weight (weight_of arcs)
 
--- the moves' classes hold the word's columns in turn
+-- the moves' classes contain the word's columns in turn
 abbrev pub Reads : {W : Type 0} {g : Ghosts W} → List (TableArc W g) → List (List Sym) → Type 0
 Reads [] [] = Unit {0}
 Reads [] (column ∷ word) = ⊥

@@ -1,4 +1,5 @@
--- A worked grammar: an input tier A, an overt tier a, and the constraints `a # a`, `A -> a`, `a -> A`.
+-- A worked grammar: an input tier A, an overt tier a, and the constraints `a # a`, `A -> a`,
+-- `a -> A`.
 use Rattle.std.specs.Prelude.{ℕ, List, [], ◌∷◌, codes, String}
 use Rattle.std.specs.declared.alloc.Global.{Global}
 use Rattle.tier_core.specs.declared.constraint.Constraint.{Constraint}

@@ -12,8 +12,8 @@ pub fn overlaps_cost_at_their_end()
     ensures ends { (name : String Global) → cost_at name 1 (kind_text 0 (codes "+") []) (codes "-]") ≡ 1 }
 {}
 
-/// At stage 2 the candidate costs at its second column, where the stretch ends unmet. So the potentials
-/// 1, 1 and 0 of its kinds fall by just that.
+/// At stage 2 the candidate costs at its second column, where the stretch ends unmet. So the
+/// potentials 1, 1 and 0 of its kinds fall by just that.
 pub fn unmet_stretches_cost_at_their_end()
     ensures begins { (name : String Global) → cost_at name 2 (kind_text 0 (codes "-") (codes ".")) (codes "[-") ≡ 0 }
     ensures unmet { (name : String Global) → next_at name 2 (kind_text 0 (codes "-") (codes ".")) (codes "[-") ≡ kind_text 1 (codes "-") (codes "u") }
@@ -21,7 +21,8 @@ pub fn unmet_stretches_cost_at_their_end()
     ensures closed { (name : String Global) → next_at name 2 (kind_text 1 (codes "-") (codes "u")) (codes "]-") ≡ kind_text 2 (codes "-") (codes ".") }
 {}
 
-/// A kind of stage 3 has a phase for each of the two implications, and is cut to those of the stages before.
+/// A kind of stage 3 has a phase for each of the two implications, and is cut to those of the
+/// stages before.
 pub fn kinds_are_cut_to_their_stages()
     ensures two { (name : String Global) → cut_to name 2 (kind_text 1 (codes "-") (codes "u.")) ≡ kind_text 1 (codes "-") (codes "u") }
     ensures one { (name : String Global) → cut_to name 1 (kind_text 1 (codes "-") (codes "u.")) ≡ kind_text 1 (codes "-") [] }

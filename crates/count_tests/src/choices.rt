@@ -84,8 +84,8 @@ fn counted_from(
     Ok(count)
 }
 
-/// The types of which a choice has one event each: those of both sides of a clash, those of the left
-/// side of an implication.
+/// The types of which a choice has one event each: those of both sides of a clash, those of the
+/// left side of an implication.
 fn chosen_types(alloc: Global, constraint: &Constraint) -> Result<Vec<Event>, NoMemory>
     ensures types { IfOk result (λ types. types.items ≡ chosen constraint.now.family constraint.now.left constraint.now.right) }
     ensures few { IfOk result (λ types. length types.items ≤ 16) }

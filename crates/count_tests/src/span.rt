@@ -4,7 +4,7 @@ ghost use Rattle.tier_core.specs.Events.{event, is_there, meet};
 
 use tier_core::Part;
 
-/// An interval of doubled time: place k of a timeline stands at 2k. Both ends belong to it.
+/// An interval of doubled time: place k of a timeline is at 2k. Both ends belong to it.
 #[derive(Clone, Copy, Debug, PartialEq, Eq)]
 pub(crate) struct Span {
     pub low: u32,

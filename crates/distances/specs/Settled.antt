@@ -7,7 +7,7 @@ use Rattle.arc_table.specs.declared.incoming_move.IncomingMove.{IncomingMove}
 use Rattle.distances.specs.Best.{lesser_of}
 use Rattle.distances.specs.Rounds.{AreWitnessed, IsCovered}
 
--- the weight c at state s, where it is less than what is known there
+-- the weight c at state s, if it is less than what is known there
 abbrev pub lowered : {W : Type 0} → Meaning W → List (Option W) → ℕ → W → List (Option W)
 lowered m least s c = slice_set least s (lesser_of m (slice_index_or least s None) (Some c))
 

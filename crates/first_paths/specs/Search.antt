@@ -11,7 +11,7 @@ use Rattle.arc_table.specs.Runs.{IsRun}
 use Rattle.arc_table.specs.Incoming.{moves_into}
 use Rattle.first_paths.specs.Counted.{IsLeft}
 
--- at how many states nothing is known
+-- for how many states nothing is known
 abbrev pub unknown : List (Option Count) → ℕ
 unknown [] = 0
 unknown (None ∷ left) = 1 + unknown left
@@ -25,7 +25,8 @@ IsSource {V} moves q = (move : IncomingMove V) × Contains moves move × (move.s
 abbrev pub IsBefore : {V : Type 0} {h : Ghosts V} → Incoming V h → List ℕ → ℕ → Type 0
 IsBefore incoming level q = (t : ℕ) × Contains level t × IsSource (moves_into incoming t) q
 
--- the states with P of which nothing was known now have n moves left and are listed, and all else stays
+-- the states with P of which nothing was known now have n moves left and are listed, and all else
+-- stays
 pub record Reaches (P : ℕ → Type 0) (n : ℕ) (old new : List (Option Count)) (before after : List ℕ) : Type 0 where
   pub same : length new ≡ length old
   pub kept : (q : ℕ) (c : Count) → slice_index_or old q None ≡ Some c → slice_index_or new q None ≡ Some c

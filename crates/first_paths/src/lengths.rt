@@ -9,7 +9,7 @@ use std::alloc::{AllocError, Global};
 use tier_core::NoMemory;
 use weight_law::{Count, UnitWeight};
 
-/// How far the search backward has come: for each state how few moves are left, where that is known,
+/// How far the backward search has come: for each state how few moves are left, if that is known,
 /// and the states of the last level.
 #[derive(Drop)]
 struct Search {
@@ -74,7 +74,7 @@ fn next_level(
     Ok(next)
 }
 
-/// For each state how few moves lead to an accepting one, by a search backward in breadth.
+/// For each state how few moves lead to an accepting one, by a backward breadth-first search.
 fn searched(
     alloc: Global,
     table: &Table<UnitWeight>,

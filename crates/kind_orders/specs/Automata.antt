@@ -20,10 +20,10 @@ HasWidth {W} {g} width kept = (s : ℕ) (arc : TableArc W g) → Contains (moves
 abbrev pub Reaches : {W : Type 0} {g : Ghosts W} → List (TableState W g) → List (List Sym) → ℕ → Type 0
 Reaches {W} {g} kept T s = (arcs : List (TableArc W g)) × IsPath kept 0 arcs s × Reads arcs T
 
--- The automaton of a table whose states have these node numbers, where the start has number 0: its
--- states ascend by their numbers, which are those of the table's states. It accepts what the table
--- accepts, reading columns leads to the number of the state that the table reaches, and its arcs are
--- right.
+-- The automaton of a table whose states have these node numbers: its states ascend by their
+-- numbers, which are those of the table's states, and its arcs are right. If the start has number
+-- 0, it accepts what the table accepts, and reading columns leads to the number of the state that
+-- the table reaches.
 pub record IsAutomatonOf {W : Type 0} {g : Ghosts W} (kept : List (TableState W g)) (nodes : List ℕ) (states : List StateLine) : Type 0 where
   pub lines : AreLinesOf kept nodes states
   pub numbers : (n : ℕ) → Contains (numbers_of states) n ↔ Contains nodes n

@@ -42,8 +42,8 @@ fn lines_by_node(
 }
 
 /// The automaton of a table, whose states stand for kinds: `states` has the number of each state's
-/// kind, all of them different, and `ranks` the node number of each kind. It fails only for want of
-/// memory.
+/// kind, all of them different, and `ranks` the node number of each kind. Fails only if memory
+/// runs out.
 pub fn automaton_of(
     alloc: Global,
     kept: &Table<UnitWeight>,

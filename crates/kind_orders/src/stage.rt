@@ -27,8 +27,8 @@ fn nodes_in(
     Ok(nodes)
 }
 
-/// The stage of kinds and potentials that are found, in an order of their numbers. It fails only for
-/// want of memory.
+/// The stage of kinds and potentials that are found, in an order of their numbers. Fails only if
+/// memory runs out.
 pub fn stage_of(
     alloc: Global,
     kinds: &[Kind],

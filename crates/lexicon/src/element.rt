@@ -8,7 +8,7 @@ use toml::Value;
 /// How many bytes the name of an entry may have.
 const NAME_LIMIT: usize = 64;
 
-/// Whether a byte may stand in a name.
+/// Whether a byte may occur in a name.
 fn is_name_byte(byte: u8) -> bool
     ensures { result ≡ is_name_byte byte }
 {
@@ -22,7 +22,7 @@ fn is_name_length(len: usize) -> bool
     1 <= len && len <= NAME_LIMIT
 }
 
-/// Whether each byte may stand in a name.
+/// Whether each byte may occur in a name.
 fn has_name_bytes(name: &[u8]) -> bool
     ensures { result ≡ list_all is_name_byte name.now }
 {

@@ -8,7 +8,7 @@ use Rattle.arc_table.specs.Moves.{moves_at, accepting_at}
 use Rattle.distances.specs.Best.{added}
 use Rattle.prune_best.specs.Names.{IsNamed}
 
--- the move and the least weight from its target make the weight w
+-- the move's weight and the least weight from its target add up to w
 abbrev pub IsKept : {W : Type 0} {g : Ghosts W} → List (Option W) → W → TableArc W g → Type 0
 IsKept {W} {g} least w arc = added g.meaning arc.weight (slice_index_or least arc.target None) ≡ Some w
 

@@ -8,8 +8,8 @@ use Rattle.arc_table.specs.Moves.{moves_at, accepting_at}
 use Rattle.arc_table.specs.Runs.{Accepts, IsLeastWord, IsLeastFrom, IsOnRun}
 use Rattle.prune_best.specs.Kept.{Matches}
 
--- a move on which the least weights are tight: its weight and the least weight from its target make
--- the least weight from state s
+-- a move on which the least weights are tight: its weight and the least weight from its target add
+-- up to the least weight from state s
 abbrev pub IsLeastMove : {W : Type 0} {g : Ghosts W} → List (TableState W g) → ℕ → TableArc W g → Type 0
 IsLeastMove {W} {g} states s arc =
     (here : W) × (rest : W) × IsLeastFrom states s here × IsLeastFrom states arc.target rest × (g.meaning.sum arc.weight rest ≡ here)

@@ -12,7 +12,7 @@ use std::alloc::{AllocError, Global};
 use std::cmp::Ordering;
 use weight_law::{UnitWeight, Weight};
 
-/// Whether a move and the least weight from its target make the weight `here`.
+/// Whether the weight of a move and the least weight from its target add up to `here`.
 fn is_kept<W: Weight>(arc: &TableArc<W>, here: W, least: &[Option<W>]) -> bool
     requires target { arc.now.target < length least.now }
     requires sizes { FitsBoth W.meaning arc.now.weight (slice_index_or least.now arc.now.target None) }

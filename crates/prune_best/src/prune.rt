@@ -38,11 +38,12 @@ fn pruned<W: Weight>(
     })
 }
 
-/// The part of the table that accepts exactly its words of least weight. `least` has what `to_final`
-/// gives, with a weight at the start.
+/// The part of the table that accepts exactly its words of least weight. `least` is what
+/// `to_final` gives, with a weight at the start.
 ///
 /// The new table's states are those that least moves lead to from the start, and each is on a path
-/// to an accepting state. Its moves are exactly the least moves between them. State 0 stays state 0.
+/// to an accepting state. Its moves are exactly the least moves between them. State 0 remains
+/// state 0.
 pub fn tight<W: Weight>(
     alloc: Global,
     table: &Table<W>,

@@ -1,4 +1,4 @@
--- The moves from a kind where no constraint is ranked: the columns that lead from one set of open
+-- The moves from a kind when no constraint is ranked: the columns that lead from one set of open
 -- free tiers to another, tier by tier.
 use Rattle.std.specs.Prelude.{ℕ, ◌+◌, ◌*◌, ◌^◌, ◌==◌, ◌||◌, Bool, true, false, if◌then◌else◌, nat_lt, List, [], ◌∷◌, ◌++◌, length, map, filter}
 use Rattle.std.specs.List.{flat_map, range_with_len}
@@ -42,8 +42,8 @@ abbrev pub columns_between : Tiers → List Sym → List Bool → List Bool → 
 columns_between tiers given opened flags =
     filter has_edge (choices (map (symbols_at tiers given opened flags) (range_with_len 0 tiers.width)))
 
--- the moves with these input symbols to all sets of open free tiers, where the first of these has
--- the number `first`: the number of the target with the column
+-- the moves with these input symbols to all sets of open free tiers, the first of which has the
+-- number `first`: the number of the target with the column
 abbrev pub moves_with : Tiers → List Sym → List Bool → ℕ → List (ℕ × List Sym)
 moves_with tiers given opened first =
     flat_map (λ o. map (λ column. (first + o, column)) (columns_between tiers given opened (flags_of (length tiers.free) o)))

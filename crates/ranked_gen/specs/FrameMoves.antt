@@ -1,4 +1,4 @@
--- The moves of a kind of a frame, where no constraint is ranked, as they are listed.
+-- The moves of a kind of a frame, when no constraint is ranked, as they are listed.
 use Rattle.std.specs.Prelude.{ℕ, ◌^◌, Bool, List, length, Contains}
 use Rattle.std.specs.List.{flat_map, range_with_len}
 use Rattle.tier_core.specs.declared.kind.Kind.{Kind}

@@ -1,5 +1,5 @@
--- What a stage leaves of the candidates, and how the states of the table that accepts them stand
--- among the nodes of the stage.
+-- What a stage leaves of the candidates, and how the states of the table that accepts them relate
+-- to the nodes of the stage.
 use Rattle.std.specs.Prelude.{ℕ, ◌+◌, ◌-◌, ◌≡◌, ◌≢◌, ◌<◌, ◌≤◌, ◌↔◌, List, length, take, slice_get, slice_index, slice_index_or, Some, Option, None, All, AllPairs}
 use Rattle.tier_core.specs.declared.sym.Sym.{Sym}
 use Rattle.tier_core.specs.declared.constraint.Constraint.{Constraint}
@@ -21,12 +21,12 @@ use Rattle.stage_tables.specs.Kept.{IsKept}
 use Rattle.ranked_gen.specs.Budgets.{IsWithin}
 use Rattle.violation.specs.Problems.{Problem}
 
--- the number of a weight that is found, and 0 where there is none
+-- the number of a weight that is found, or 0 if there is none
 abbrev pub weight_number : Option Count → ℕ
 weight_number None = 0
 weight_number (Some w) = w.0
 
--- node number n tells this kind, under the first r constraints
+-- node number n encodes this kind, under the first r constraints
 pub record TellsKind (problem : Problem) (r : ℕ) (nodes : List Node) (n : ℕ) (k : PrefixKind) : Type 0 where
   pub node : Node
   pub numbered : slice_get nodes n ≡ Some node
@@ -41,7 +41,7 @@ pub record AreOrdered (order states : List ℕ) (count : ℕ) : Type 0 where
 
 -- What stage r leaves: its nodes are right, and the kept table accepts exactly the r-optimal
 -- candidates. Its states have numbers of an order, of which the start's is the first, and the node
--- at the place of a state's number tells the kind of each prefix that leads to the state.
+-- at the place of a state's number encodes the kind of each prefix that leads to the state.
 pub record IsLeft {g : Ghosts UnitWeight} (problem : Problem) (r : ℕ) (nodes : List Node) (kept : List (TableState UnitWeight g)) (states order : List ℕ) : Type 0 where
   pub right : IsRightStage problem r nodes
   pub kept_by : IsKept problem r kept

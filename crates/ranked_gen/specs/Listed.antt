@@ -1,4 +1,4 @@
--- What the generator lists where no constraint is ranked: a node and a state for each number of a
+-- What the generator lists when no constraint is ranked: a node and a state for each number of a
 -- kind, and the moves of the kind as the arcs of its state.
 use Rattle.std.specs.Prelude.{ℕ, ◌+◌, ◌*◌, ◌^◌, ◌≡◌, ◌<◌, List, [], ◌∷◌, length, map}
 use Rattle.tier_core.specs.declared.sym.Sym.{Sym}

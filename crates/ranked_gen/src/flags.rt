@@ -7,7 +7,7 @@ ghost use Rattle.ranked_gen.specs.Numbers.{flags_of};
 
 use tier_core::{TierKind, has_bit};
 
-/// The bit of a number: 1 where it is set, and else 0.
+/// The bit of a number: 1 if it is set, and otherwise 0.
 pub(crate) fn bit_of(number: u32, bit: u32) -> u32
     requires { bit < 32 }
     ensures value { result ≡ bit_at number bit }

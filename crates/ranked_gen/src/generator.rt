@@ -53,7 +53,7 @@ fn list_all(alloc: Global, frame: &Frame, inputs: usize, free: u32) -> Result<Li
     Ok(listing)
 }
 
-/// A stage of its own, in a list.
+/// A list of one stage.
 fn one_stage(alloc: Global, stage: Stage) -> Result<Vec<Stage>, NoMemory>
     ensures { IfOk result (λ stages. stages.items ≡ stage ∷ []) }
 {
@@ -78,7 +78,7 @@ fn in_order(alloc: Global, table: Table<UnitWeight>) -> Result<Left, AllocError>
     })
 }
 
-/// Stage 0, whose candidates are all, for the form of a frame. It fails only for want of memory.
+/// Stage 0, whose candidates are all, for the form of a frame. Fails only if memory runs out.
 fn unranked(alloc: Global, frame: &Frame, free: u32) -> Result<Ranked, NoMemory>
     requires form { IsForm (tiers_in frame.now) (form_in frame.now) }
     requires count { free ≡ length (tiers_in frame.now).free }
@@ -121,10 +121,10 @@ fn answer_in(alloc: Global, frame: &Frame, free: u32, budget: u32) -> Result<Ans
 }
 
 /// The right answer for a grammar and a form, in which no stage has more kinds of prefix than the
-/// budget; `Budget` exactly where a stage has more, with the first such stage.
+/// budget; `Budget` exactly when a stage has more, with the first such stage.
 ///
 /// The form is well formed and reduced over the input tiers, and has at most 64 columns. The budget
-/// is from 1 to 65,536. `NoMemory` comes only for want of memory.
+/// is from 1 to 65,536. `NoMemory` occurs only if memory runs out.
 pub fn generate(
     alloc: Global,
     grammar: &Grammar,

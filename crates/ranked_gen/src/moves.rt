@@ -165,8 +165,8 @@ fn push_columns(
     Ok(())
 }
 
-/// Adds the arcs for the moves of a kind with given symbols on the input tiers, from its set of open
-/// free tiers, which has the number `opened`, to each set.
+/// Adds the arcs for the moves of a kind with given symbols on the input tiers, from its set of
+/// open free tiers, which has the number `opened`, to each set.
 pub(crate) fn push_moves(
     alloc: Global,
     arcs: &mut Vec<TableArc<UnitWeight>>,

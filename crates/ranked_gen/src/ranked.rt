@@ -46,8 +46,8 @@ fn with_next(ranked: Ranked, next: Staged) -> Result<Ranked, NoMemory>
     })
 }
 
-/// All stages of a frame, from stage 0 on. `Budget` comes with the first stage that has more kinds of
-/// prefix than the budget, and `NoMemory` only for want of memory.
+/// All stages of a frame, from stage 0 on. `Budget` occurs with the first stage that has more
+/// kinds of prefix than the budget, and `NoMemory` only if memory runs out.
 pub(crate) fn all_ranked(
     alloc: Global,
     frame: &Frame,
@@ -74,7 +74,7 @@ pub(crate) fn all_ranked(
     Ok(ranked)
 }
 
-/// The same timeline once more. It fails only for want of memory.
+/// A copy of the timeline. Fails only if memory runs out.
 fn copied(alloc: Global, timeline: &Timeline) -> Result<Timeline, NoMemory>
     ensures { IfOk result (λ t. t ≡ timeline.now) }
 {
@@ -87,7 +87,7 @@ fn copied(alloc: Global, timeline: &Timeline) -> Result<Timeline, NoMemory>
     Ok(copy)
 }
 
-/// The answer of all stages of a frame. It fails only for want of memory.
+/// The answer of all stages of a frame. Fails only if memory runs out.
 pub(crate) fn answered(alloc: Global, frame: &Frame, ranked: Ranked) -> Result<Answer, NoMemory>
     requires ranked { (budget : ℕ) × IsRanked (problem_in frame.now) budget (last_stage (problem_in frame.now)) ranked.stages.items ranked.counts.items (states_of ranked.left.kept.table) ranked.left.kept.states.items ranked.left.order.items }
     ensures right { IfOk result (λ answer. IsRight (problem_in frame.now) answer) }

@@ -36,8 +36,8 @@ pub(crate) struct Left {
     pub(crate) order: Vec<u32>,
 }
 
-/// A stage: its nodes, the number of its constraint in the violations of what it leaves, and what it
-/// leaves.
+/// A stage: its nodes, the number of its constraint in the violations of what it leaves, and what
+/// it leaves.
 #[derive(Drop)]
 pub(crate) struct Staged {
     pub(crate) stage: Stage,
@@ -45,7 +45,7 @@ pub(crate) struct Staged {
     pub(crate) left: Left,
 }
 
-/// The number of a weight that is found, and 0 where there is none.
+/// The number of a weight that is found, or 0 if there is none.
 fn weight_number(weight: Option<Count>) -> u32
     ensures { result ≡ weight_number weight }
 {
@@ -66,8 +66,8 @@ fn potentials_of(alloc: Global, least: &[Option<Count>]) -> Result<Vec<u32>, All
     Ok(numbers)
 }
 
-/// The nodes of a table that was explored, and what its constraint leaves. It fails only for want of
-/// memory.
+/// The nodes of a table that was explored, and what its constraint leaves. Fails only if memory
+/// runs out.
 fn pruned(alloc: Global, frame: &Frame, stage: u32, found: &StageTable) -> Result<Staged, NoMemory>
     requires some { 1 ≤ stage }
     requires within { stage ≤ last_stage (problem_in frame.now) }
@@ -91,8 +91,8 @@ fn pruned(alloc: Global, frame: &Frame, stage: u32, found: &StageTable) -> Resul
     })
 }
 
-/// The next stage of a frame, from what the stage before has left. `Budget` comes exactly where it has
-/// more kinds of prefix than the budget, and `NoMemory` only for want of memory.
+/// The next stage of a frame, from what the stage before has left. `Budget` occurs exactly when it
+/// has more kinds of prefix than the budget, and `NoMemory` only if memory runs out.
 pub(crate) fn next_stage(
     alloc: Global,
     frame: &Frame,

@@ -29,7 +29,7 @@ pub(crate) fn kind_at(free: u32, place: u32, opened: u32) -> Kind
     }
 }
 
-/// The arcs of a kind, where `stay` has the symbols of the input tiers that have no edge.
+/// The arcs of a kind; `stay` has the symbols of the input tiers that have no edge.
 fn arcs_at(
     alloc: Global,
     frame: &Frame,

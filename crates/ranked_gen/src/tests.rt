@@ -42,7 +42,7 @@ fn is_form(grammar: &Grammar, form: &Timeline) -> bool
     well_formed(form, inputs as u32) && reduced(form)
 }
 
-/// What is generated, where all that is asked for holds.
+/// What is generated, if all that is required holds.
 fn generated(
     alloc: Global,
     grammar: &Grammar,

@@ -1,6 +1,6 @@
 -- How the tables of the stages are found: that of stage 0 by going on by kinds from the start, and
--- each later one from the table that was pruned before it, by going on by kinds under one constraint
--- more (this project).
+-- each later one from the table that was pruned before it, by going on by kinds under one more
+-- constraint (this project).
 use Rattle.std.specs.Prelude.{[], ◌≡◌, ◌≢◌, ℕ, ◌+◌, ◌<◌, ◌↔◌, List, length, map, slice_index_or, Contains, AllPairs, IsTrue}
 use Rattle.weight_law.specs.declared.Weight.{Ghosts}
 use Rattle.weight_law.specs.declared.count.Count.{Count}
@@ -34,15 +34,15 @@ HaveAllMoves problem names states = (s : ℕ) (column : List Sym) → s < length
 abbrev pub names_kept : List PrefixKind → List ℕ → List PrefixKind
 names_kept names old = map (name_of names) old
 
--- the state of the pruned table of which a state is
+-- the state of the pruned table that a state belongs to
 abbrev pub base_of : List ℕ → ℕ → ℕ
 base_of bases s = slice_index_or bases s 0
 
--- The states of `found` are named by kinds under the first r + 1 constraints, each by one of its own,
--- the start by that of the empty prefix. Each is of a state of `pruned`, its base, whose name is its
--- own one cut to r constraints. It accepts where its base does, and has a move on each column on
--- which its base has one, which leads to the state that is named by the kind to which the column
--- leads. Each state but the start is the target of a move from an earlier one.
+-- The states of `found` are named by kinds under the first r + 1 constraints, each by one of its
+-- own, the start by that of the empty prefix. Each belongs to a state of `pruned`, its base, whose
+-- name is its own cut to r constraints. It accepts if its base does, and has a move on each column
+-- on which its base has one, which leads to the state that is named by the kind to which the
+-- column leads. Each state but the start is the target of a move from an earlier one.
 pub record AreFoundFrom {V : Type 0} {h : Ghosts V} {g : Ghosts Count} (problem : Problem) (r : ℕ) (pruned_names : List PrefixKind) (pruned : List (TableState V h)) (bases : List ℕ) (names : List PrefixKind) (found : List (TableState Count g)) : Type 0 where
   pub each_named : length names ≡ length found
   pub distinct : AllPairs (λ k l. k ≢ l) names

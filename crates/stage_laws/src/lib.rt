@@ -5,8 +5,8 @@
 //! moves by constraint r, and accepts the candidates that the constraints before have left. So its
 //! names are the kinds of the stage, its weights are violations, its least weights are what remains
 //! to be counted, and its words of least weight are the candidates that constraint r leaves. The
-//! crate stands on the definitions of `violation`, and on tables, least weights and pruning
-//! (`arc_table`, `distances`, `prune_best`). The staged generator rests on it.
+//! crate builds on the definitions of `violation`, and on tables, least weights and pruning
+//! (`arc_table`, `distances`, `prune_best`). The staged generator relies on it.
 #![tactic(auto)]
 
 mod first;

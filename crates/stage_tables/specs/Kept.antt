@@ -26,6 +26,6 @@ pub record AreKeptByKinds {g : Ghosts UnitWeight} (problem : Problem) (r : ℕ) 
   pub single : (s : ℕ) (arc : TableArc UnitWeight g) → Contains (moves_at states s) arc → IsOfOneColumn arc.class
   pub on_runs : (s : ℕ) → s < length states → IsOnRun states s
 
--- the states of a kept table can be named by kinds so
+-- the states of a kept table can be named by kinds in this way
 abbrev pub IsKept : {g : Ghosts UnitWeight} → Problem → ℕ → List (TableState UnitWeight g) → Type 0
 IsKept problem r states = (names : List PrefixKind) × AreKeptByKinds problem r names states

@@ -64,8 +64,8 @@ pub record IsReached {g : Ghosts UnitWeight} (frame : Frame) (stage : ℕ) (kept
   pub path : IsPath kept 0 arcs s
   pub reads : Reads arcs prefix
 
--- Kinds that are found so far: they are listed, the first is the start, and each stands over a state
--- of the kept table and is reached over it.
+-- Kinds that are found so far: they are listed, the first is the start, and each stands over a
+-- state of the kept table and is reached over it.
 pub record AreFound {g : Ghosts UnitWeight} (frame : Frame) (stage : ℕ) (kept : List (TableState UnitWeight g)) (keys : List KindKey) (kinds : List Kind) (over : List ℕ) : Type 0 where
   pub names : List PrefixKind
   pub kept_by : AreKeptByKinds (problem_in frame) (stage - 1) names kept
@@ -82,8 +82,8 @@ Stays kinds next_kinds over next_over = (k : ℕ) (kind : Kind) (s : ℕ) → Is
 abbrev pub AreTargets : {h : Ghosts Count} → List Kind → List Kind → List (TableArc Count h) → Type 0
 AreTargets {h} kinds next_kinds moves = (k : ℕ) → length kinds ≤ k → k < length next_kinds → (arc : TableArc Count h) × Contains moves arc × (arc.target ≡ k)
 
--- The new move b from a kind is the kept move a: it has the same class and leads to the kind that its
--- columns lead to, which stands over the target of a, and weighs what they cost.
+-- The new move b from a kind is the kept move a: it has the same class and leads to the kind that
+-- its columns lead to, which stands over the target of a, and weighs what they cost.
 pub record IsTaken {g : Ghosts UnitWeight} {h : Ghosts Count} (frame : Frame) (stage : ℕ) (kinds : List Kind) (over : List ℕ) (kind : Kind) (a : TableArc UnitWeight g) (b : TableArc Count h) : Type 0 where
   pub same_class : b.class ≡ a.class
   pub next : Kind
@@ -91,13 +91,13 @@ pub record IsTaken {g : Ghosts UnitWeight} {h : Ghosts Count} (frame : Frame) (s
   pub moves : (column : List Sym) → IsTrue (has a.class column) → IsMove frame stage kind column next
   pub weighs : (column : List Sym) → IsTrue (has a.class column) → b.weight.0 ≡ cost_of (problem_in frame) stage (kind_at_stage frame stage kind) column
 
--- a new state is a kept one: it accepts where that does, and its moves are those of that, one by one
+-- a new state is a kept one: it accepts if that does, and its moves are those of that, one by one
 pub record IsTakenState {g : Ghosts UnitWeight} {h : Ghosts Count} (frame : Frame) (stage : ℕ) (kept : List (TableState UnitWeight g)) (kinds : List Kind) (over : List ℕ) (kind : Kind) (s : ℕ) (accepting : Bool) (moves : List (TableArc Count h)) : Type 0 where
   pub accepts : accepting ≡ accepting_at kept s
   pub taken : AllZip (IsTaken frame stage kinds over kind) (moves_at kept s) moves
 
--- the new states so far are those of the first kinds, and each kind but the start is the target of a
--- move from an earlier one
+-- the new states so far are those of the first kinds, and each kind but the start is the target of
+-- a move from an earlier one
 pub record AreTaken {g : Ghosts UnitWeight} {h : Ghosts Count} (frame : Frame) (stage : ℕ) (kept : List (TableState UnitWeight g)) (kinds : List Kind) (over : List ℕ) (states : List (TableState Count h)) : Type 0 where
   pub within : length states ≤ length kinds
   pub reached : (k : ℕ) → 0 < k → k < length kinds → (t : ℕ) × (t < k) × ((arc : TableArc Count h) × Contains (moves_at states t) arc × (arc.target ≡ k))

@@ -15,7 +15,7 @@ use tier_core::Kind;
 use weight_law::{Count, UnitWeight};
 
 impl Exploring<'_> {
-    /// The new move of a kept one from a kind, whose target is listed if it is not yet.
+    /// The new move for a kept one from a kind; its target is listed if it is not listed yet.
     fn taken(
         &self,
         alloc: Global,
@@ -48,7 +48,7 @@ impl Exploring<'_> {
         }
     }
 
-    /// The new moves of the kept ones from a kind.
+    /// The new moves for the kept ones from a kind.
     pub fn taken_arcs(
         &self,
         alloc: Global,

@@ -68,13 +68,13 @@ impl Exploring<'_> {
     }
 }
 
-/// Explores what the constraints before the last of a stage have left, under the first constraints of
-/// the stage. The table that comes accepts the same timelines. Its states are the kinds that their
-/// prefixes have under these constraints, in the order in which they are found, and its moves weigh
-/// what they cost under the last one.
+/// Explores what the constraints before the last of a stage have left, under the first constraints
+/// of the stage. The resulting table accepts the same timelines. Its states are the kinds that
+/// their prefixes have under these constraints, in the order in which they are found, and its
+/// moves weigh what they cost under the last one.
 ///
-/// It fails with `OverBudget` where there are more kinds than the budget, and else only for want of
-/// memory.
+/// Fails with `OverBudget` if there are more kinds than the budget, and otherwise only if memory
+/// runs out.
 pub fn explore(
     alloc: Global,
     frame: &Frame<'_>,

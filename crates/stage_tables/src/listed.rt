@@ -27,8 +27,8 @@ fn put_last(listed: &mut Listed, kind: Kind, state: u32) -> Result<(), ExploreEr
     Ok(())
 }
 
-/// The number of a kind, which is put last over a state if it is not listed yet. It fails where there
-/// are then more kinds than the budget, or memory is wanting.
+/// The number of a kind, which is put last over a state if it is not listed yet. Fails if there
+/// are then more kinds than the budget, or if memory runs out.
 pub(crate) fn number_of(
     listed: &mut Listed,
     kind: Kind,

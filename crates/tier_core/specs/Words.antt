@@ -30,7 +30,7 @@ abbrev pub next_end : ℕ → List Sym → Option ℕ
 next_end i [] = None
 next_end i (s ∷ w) = if ends s then Some i else next_end (suc i) w
 
--- the pair (i, j), where there is a j
+-- the pair (i, j), if there is a j
 abbrev pub pair_to : ℕ → Option ℕ → List (ℕ × ℕ)
 pair_to i None = []
 pair_to i (Some j) = (i, j) ∷ []

@@ -7,8 +7,8 @@ use crate::mask::has_bit;
 use crate::shape::Shape;
 use std::cmp::Ordering;
 
-/// Compares masks of open tiers: the first tier that is open in one alone decides, and the mask
-/// in which it is open comes after the other.
+/// Compares masks of open tiers: the first tier that is open in only one decides, and the mask in
+/// which it is open comes after the other.
 fn cmp_opened(a: u16, b: u16) -> Ordering
     ensures { (free : ℕ) → a < 2 ^ free → b < 2 ^ free → result ≡ open_order (open_tiers free a) (open_tiers free b) }
 {

@@ -1,6 +1,6 @@
 -- Candidates of a form, their violation vectors, and which candidates are optimal.
--- That the candidates of a form are a regular set of timelines is after Ellison, Phonological
--- Derivation in Optimality Theory (COLING 1994); the input part is this project's.
+-- That the candidates of a form are a regular set of timelines goes back to Ellison, Phonological
+-- Derivation in Optimality Theory (COLING 1994); the input part is this project's own.
 use Rattle.std.specs.Prelude.{ℕ, ◌-◌, ◌≡◌, IsTrue, List, length, map, take, slice_index_or}
 use Rattle.std.specs.Ordering.{nat_cmp, is_le}
 use Rattle.std.specs.Cmp.Lexicographic.{slice_cmp}
@@ -12,7 +12,8 @@ use Rattle.tier_core.specs.Timelines.{IsWellFormed, IsReduced, project, squeeze}
 use Rattle.violation.specs.Counts.{violations_of, violations_so_far}
 use Rattle.violation.specs.Problems.{Problem, last_stage}
 
--- the violation vector of a timeline: its violations of each constraint in ranked order, the highest first
+-- the violation vector of a timeline: its violations of each constraint in ranked order, the
+-- highest first
 abbrev pub vec : List Constraint → List (List Sym) → List ℕ
 vec constraints T = map (λ c. violations_of c T) constraints
 
@@ -20,7 +21,8 @@ vec constraints T = map (λ c. violations_of c T) constraints
 abbrev pub vec_so_far : List Constraint → List (List Sym) → ℕ → List ℕ
 vec_so_far constraints T n = map (λ c. violations_so_far c T n) constraints
 
--- what each constraint of a problem counts on a timeline, the highest first, and so far after n columns
+-- what each constraint of a problem counts on a timeline, the highest first, and so far after n
+-- columns
 abbrev pub counts_on : Problem → List (List Sym) → List ℕ
 counts_on problem T = vec problem.constraints T
 

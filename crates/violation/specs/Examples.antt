@@ -30,7 +30,8 @@ pieces (b ∷ text) = if b == 32 then [] ∷ pieces text else onto b (pieces tex
 abbrev pub read_syms : List ℕ → List Sym
 read_syms text = map (λ b. unwrap_or (sym_of b) Outside) text
 
--- the timeline of a text such as `[- ]-`: its columns, with one space between two. It also reads words, one beside the other.
+-- the timeline of a text such as `[- ]-`: its columns, with one space between two. It also reads
+-- words, one beside the other.
 abbrev pub timeline : List ℕ → List (List Sym)
 timeline text = map read_syms (pieces text)
 
@@ -47,7 +48,8 @@ event_of names (b ∷ text) = if b == 91 then record { tier = tier_of text; part
 abbrev pub types : List ℕ → List ℕ → List Event
 types names text = map (event_of names) (pieces text)
 
--- the violations of the implication, or the clash, of two sides on a timeline, all given by their texts
+-- the violations of the implication, or the clash, of two sides on a timeline, all given by their
+-- texts
 abbrev pub implied : List ℕ → List ℕ → List ℕ → List ℕ → ℕ
 implied names left right text = viol Implication (types names left) (types names right) (timeline text)
 
@@ -73,7 +75,8 @@ max_a = implication (codes "A") (codes "a")
 abbrev pub dep_a : String Global → Constraint
 dep_a = implication (codes "a") (codes "A")
 
--- a kind from its place, `+` for each open tier and `-` for each other, and `u` for unmet, `m` for met and `.` for closed
+-- a kind from its place, `+` for each open tier and `-` for each other, and `u` for unmet, `m` for
+-- met and `.` for closed
 abbrev pub kind_text : ℕ → List ℕ → List ℕ → PrefixKind
 kind_text place opened phases = record {
   place = place;

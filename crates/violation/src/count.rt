@@ -55,14 +55,15 @@ fn opens_both(left: &[Event], right: &[Event], column: &[Sym]) -> bool
     opens_each(column, left) && opens_each(column, right)
 }
 
-/// Whether a column ends a stretch that is not met.
+/// Whether a column ends a stretch that has not been met.
 fn ends_unmet(is_open: bool, edge: bool, is_met: bool) -> bool
     ensures { result ≡ ((is_open && edge) && not is_met) }
 {
     is_open && edge && !is_met
 }
 
-/// Whether a stretch that is open after a column is met, where the column begins one at an edge.
+/// Whether a stretch that is open after a column has been met; at an edge the column begins a new
+/// one.
 fn is_met_after(edge: bool, is_met: bool, right: &[Event], column: &[Sym]) -> bool
     requires { AreInColumn right.now column.now }
     ensures { result ≡ (list_any (opens_interior column.now) right.now || (not edge && (is_met || list_any (is_present column.now) right.now))) }
@@ -89,7 +90,7 @@ fn count_overlaps(left: &[Event], right: &[Event], columns: &[Column]) -> u32
     count
 }
 
-/// Counts the columns that end a stretch of the left interiors which no right event meets.
+/// Counts the columns that end a stretch of the left interiors that no right event meets.
 fn count_stretches(left: &[Event], right: &[Event], columns: &[Column]) -> u32
     requires countable { IsCountable left.now right.now columns.now }
     requires few { length columns.now ≤ 65536 }

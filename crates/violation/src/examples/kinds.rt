@@ -1,5 +1,5 @@
-//! Kinds of prefixes and moves of kinds, for the form `[ ]` of an input tier A, with one overt tier a
-//! and the constraints `A -> a` and `a -> A`.
+//! Kinds of prefixes and moves of kinds, for the form `[ ]` of an input tier A, with one overt
+//! tier a and the constraints `A -> a` and `a -> A`.
 ghost use Rattle.std.specs.Prelude.{◌≡◌, true, false, [], ◌∷◌, String, codes};
 ghost use Rattle.std.specs.List.Sorted.{IsStrictlySortedBy};
 ghost use Rattle.std.specs.declared.alloc.Global.{Global};
@@ -45,7 +45,8 @@ pub fn own_start_does_not_meet()
     ensures later { phase_after (codes "A") (codes "[a") (codes "[- +[") ≡ met }
 {}
 
-/// Moves lead to the kind of the longer prefix: `|` on A begins a stretch, and one that is met stays so.
+/// Moves lead to the kind of the longer prefix: `|` on A begins a stretch, and one that is met
+/// stays met.
 pub fn moved_kinds()
     ensures begins { (max dep : String Global) → moved_by max dep (kind_text 0 (codes "-") (codes "..")) (codes "[[") ≡ kind_text 1 (codes "+") (codes "mm") }
     ensures stays_met { (max dep : String Global) → moved_by max dep (kind_text 1 (codes "+") (codes "mm")) (codes "+]") ≡ kind_text 1 (codes "-") (codes "m.") }
@@ -70,8 +71,8 @@ pub fn fitting_columns()
     ensures not_the_form { FitsKind (over_two [] (timeline (codes "[ ]"))) (kind_text 1 (codes "-") (codes "u.")) (read_syms (codes "|-")) → ⊥ }
 {}
 
-/// A kind is cut by dropping the phases of the later constraints, and is final at the end of the form
-/// where no free tier is open.
+/// A kind is cut by dropping the phases of the later constraints, and is final at the end of the
+/// form if no free tier is open.
 pub fn cut_and_final_kinds()
     ensures cut_to_one { (max dep : String Global) → cut (over_two (max_a max ∷ dep_a dep ∷ []) []) 1 (kind_text 1 (codes "+") (codes "mu")) ≡ kind_text 1 (codes "+") (codes "m") }
     ensures cut_to_none { (max dep : String Global) → cut (over_two (max_a max ∷ dep_a dep ∷ []) []) 0 (kind_text 1 (codes "+") (codes "mu")) ≡ kind_text 1 (codes "+") [] }

@@ -1,5 +1,5 @@
-use Rattle.std.proofs.Common.{◌≡◌, bit_and, refl, ap, sym, ◌∙◌, arith}
-use Rattle.tier_core.specs.ClassWords.{width_in, below_in}
+use Rattle.std.proofs.Common.{bit_and, refl, ap, sym, ◌∙◌, arith}
+use Rattle.tier_core.specs.ClassWords.{below_in}
 use Rattle.tier_core.proofs.ClassSets.{width_is, sets_met, met_width}
 use Rattle.tier_core.proofs.class.Class.meet.Goals as goal
 

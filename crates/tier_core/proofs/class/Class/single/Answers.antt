@@ -45,8 +45,7 @@ pub returns-clause-alone : goal.returns-clause-alone
 returns-clause-alone c other =
     let column = c.args.column.now in
     let sets = sets_single _ column c.loop-tier.invariant.rest (omega arith)
-    (λ t l. c.loop-tier.invariant.done t (omega (arith, ap length c.syms-sym-items.ensures.value, c.loop-tier-test.false))) in
-    (
+    (λ t l. c.loop-tier.invariant.done t (omega (arith, ap length c.syms-sym-items.ensures.value, c.loop-tier-test.false))) in (
       λ h. only_have column other (ap (λ s. sets_have s other) (sym sets) ∙ h),
       λ e. ap (λ s. sets_have s other) sets ∙ ap (sets_have (map single_set column)) e ∙ alone_have column,
     )

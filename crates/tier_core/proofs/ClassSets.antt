@@ -19,6 +19,10 @@ in_word : (class : Class) → sets_of class ≡ sets_in class.word (width_in cla
 unfolding sets_of
 in_word class = refl
 
+-- one word is one class
+pub same_sets : (a b : Class) → a.word ≡ b.word → sets_of a ≡ sets_of b
+same_sets a b e = in_word a ∙ ap (λ word. sets_in word (width_in word)) e ∙ sym (in_word b)
+
 pub width_is : (class : Class) → length (sets_of class) ≡ width_in class.word
 width_is class = ap length (in_word class) ∙ length_in class.word (width_in class.word)
 

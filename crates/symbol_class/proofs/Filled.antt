@@ -7,7 +7,7 @@ use Rattle.std.proofs.lemmas.Cmp.{ranked}
 use Rattle.std.proofs.Common.{◌≡◌, ◌≢◌, ℕ, zero, suc, ◌<◌, ◌≤◌, Bool, true, false, not, ◌||◌, cond, List, [], ◌∷◌, map, length, get_or, refl, ap, ◌∙◌, arith}
 use Rattle.std.specs.List.{list_all, list_any}
 use Rattle.std.proofs.lemmas.Bool.{and_parts, and_from, false≢true, both_ways, false_from_ne_true, ne_eqb}
-use Rattle.std.proofs.lemmas.List.Elements.{All-take, All-head, All-tail}
+use Rattle.std.proofs.lemmas.List.Elements.{All-head, All-tail}
 use Rattle.std.proofs.lemmas.List.Folds.{list_all_at}
 use Rattle.tier_core.specs.declared.sym.Sym.{Sym}
 use Rattle.tier_core.specs.declared.sym.Sym.TheVariants.{Outside, Inside, Start, End, Both}
@@ -17,6 +17,7 @@ use Rattle.tier_core.specs.Sets.{is_in, AreSets}
 use Rattle.tier_core.specs.Classes.{sets_of, sets_have, has}
 use Rattle.tier_core.specs.Orders.{sym_cmp, column_cmp}
 use Rattle.tier_core.proofs.SetLemmas.{any_of}
+use Rattle.tier_core.proofs.ClassSets.{sets_few}
 use Rattle.tier_core.proofs.ClassLemmas.{same_width}
 use Rattle.symbol_class.specs.Filled.{is_filled}
 use Rattle.symbol_class.specs.FirstColumn.{first_sym, first_column}
@@ -105,10 +106,6 @@ pub first_column_least : (class : Class) (column : List Sym) → has class colum
 first_column_least class column e = sets_first_least (sets_of class) column e
 
 -- ---- classes that are not filled
-
--- each set of a class is one
-pub sets_few : (class : Class) → AreSets (sets_of class)
-sets_few class = All-take (λ set. set < 32) class.width class.sets class.sets_are
 
 -- a class without a set on some tier is not filled
 pub empty_at : (class : Class) (t : ℕ) → t < length (sets_of class) → get_or (sets_of class) t 0 ≡ 0 → is_filled class ≡ false

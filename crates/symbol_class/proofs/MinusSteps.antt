@@ -10,7 +10,7 @@ use Rattle.tier_core.specs.Timelines.{symbol}
 use Rattle.tier_core.proofs.ClassLemmas.{same_width, each_in, have_each}
 use Rattle.symbol_class.specs.Held.{once_if, AddsClasses}
 use Rattle.symbol_class.proofs.SetLists.{is_in-not}
-use Rattle.symbol_class.proofs.Times.{adds_same, adds_none, adds_then}
+use Rattle.symbol_class.proofs.Times.{adds_same, adds_then}
 
 -- `rest` are the columns of a that are in the sets of b on the tiers below this, and the pieces hold
 -- the others

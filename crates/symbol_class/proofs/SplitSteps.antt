@@ -1,13 +1,12 @@
 -- Classes that are parted by tests.
-use Rattle.std.proofs.Common.{◌≡◌, ℕ, ◌+◌, ◌<◌, ◌≤◌, Bool, true, false, not, ◌&&◌, ◌||◌, if◌then◌else◌, List, [], length, get_or, take, refl, ap, sym, ◌∙◌, subst, arith}
-use Rattle.std.proofs.lemmas.List.{take_all}
+use Rattle.std.proofs.Common.{◌≡◌, ℕ, ◌+◌, ◌<◌, ◌≤◌, Bool, true, false, not, ◌&&◌, ◌||◌, if◌then◌else◌, List, [], length, get_or, take, refl, ap, sym, ◌∙◌, arith}
 use Rattle.std.proofs.lemmas.List.Folds.{list_any_more}
 use Rattle.std.proofs.lemmas.List.Sums.{sum_by_more}
 use Rattle.tier_core.specs.declared.sym.Sym.{Sym}
 use Rattle.tier_core.specs.declared.class.Class.{Class}
 use Rattle.tier_core.specs.Classes.{has}
 use Rattle.symbol_class.specs.Held.{some_has, times_held, once_if, AddsClasses}
-use Rattle.symbol_class.proofs.Times.{held_by, adds_same, adds_none, adds_then, added_times}
+use Rattle.symbol_class.proofs.Times.{held_by, adds_same, adds_then, added_times}
 
 -- how often a column of the test is held, and how often another
 abbrev pub times_in : Class → List Class → List Sym → ℕ

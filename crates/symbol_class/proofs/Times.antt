@@ -1,7 +1,7 @@
 -- How often the classes of a list hold a column, and what this tells of the list.
 use Rattle.std.proofs.Common.{◌≡◌, ℕ, zero, suc, ◌+◌, ◌<◌, ◌≤◌, Bool, true, false, List, [], ◌∷◌, ◌++◌, length, get_or, refl, ap, sym, ◌∙◌, subst, arith, IsTrue, All, AllPairs, IsPermutation, ⊎_elim}
 use Rattle.std.proofs.lemmas.Bool.{both_ways, or_cases, or_parts, false_from_ne_true, true_from_ne_false}
-use Rattle.std.proofs.lemmas.List.Elements.{All-nil, All-append, All-push}
+use Rattle.std.proofs.lemmas.List.Elements.{All-nil, All-append}
 use Rattle.std.proofs.lemmas.List.Folds.{Any-from_list_any}
 use Rattle.std.proofs.lemmas.List.Kept.{AllPairs-cons}
 use Rattle.std.proofs.lemmas.List.Sums.{sum_by-cons, sum_by-append, get_or-le-sum_by}
@@ -100,7 +100,7 @@ adds_same width old new s t a e = record {
   held = λ column. a.held column ∙ e column;
 }
 
-pub adds_none : (width : ℕ) (old : List Class) (times : List Sym → ℕ) → ((column : List Sym) → times column ≡ 0) → AddsClasses width old old times
+unfoldable pub adds_none : (width : ℕ) (old : List Class) (times : List Sym → ℕ) → ((column : List Sym) → times column ≡ 0) → AddsClasses width old old times
 adds_none width old times e = record {
   added = [];
   new_is = sym (append-nil old);
@@ -113,7 +113,7 @@ pub adds_empty : (width : ℕ) (old : List Class) (class : Class) → is_filled 
 adds_empty width old class empty =
     adds_none width old (λ column. once_if (has class column)) (λ column. ap once_if (empty_holds class column empty))
 
-pub adds_then : (width : ℕ) (old mid new : List Class) (s t u : List Sym → ℕ) → AddsClasses width old mid s → AddsClasses width mid new t → ((column : List Sym) → s column + t column ≡ u column) → AddsClasses width old new u
+unfoldable pub adds_then : (width : ℕ) (old mid new : List Class) (s t u : List Sym → ℕ) → AddsClasses width old mid s → AddsClasses width mid new t → ((column : List Sym) → s column + t column ≡ u column) → AddsClasses width old new u
 adds_then width old mid new s t u a b e = record {
   added = a.added ++ b.added;
   new_is = b.new_is ∙ ap (λ xs. xs ++ b.added) a.new_is ∙ append_assoc old a.added b.added;

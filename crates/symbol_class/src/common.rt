@@ -10,10 +10,5 @@ pub fn meet(a: &Class, b: &Class) -> Class
     ensures width { length (sets_of result) ≡ length (sets_of a.now) }
     ensures columns { (column : List Sym) → has result column ≡ (has a.now column && has b.now column) }
 {
-    let width = a.width();
-    let mut sets = [0; 12];
-    for tier in 0..width {
-        sets[tier as usize] = a.bits(tier) & b.bits(tier);
-    }
-    Class::of_bits(&sets[..width as usize])
+    a.meet(b)
 }

@@ -8,7 +8,6 @@ ghost use Rattle.symbol_class.specs.Held.{some_has, times_held, width_of, ArePie
 ghost use Rattle.symbol_class.specs.Joined.{DifferTwice, beside_cmp, united, JoinsAlong, JoinsBelow};
 
 use crate::order::class_cmp;
-use crate::sets::with_set;
 use std::alloc::{AllocError, Global};
 use std::cmp::Ordering;
 use tier_core::{Class, NoMemory};
@@ -17,7 +16,7 @@ use tier_core::{Class, NoMemory};
 fn beside_cmp(tier: u32, a: &Class, b: &Class) -> Ordering
     ensures { result ≡ beside_cmp tier (sets_of a.now) (sets_of b.now) }
 {
-    class_cmp(&with_set(a, tier, 0), &with_set(b, tier, 0))
+    class_cmp(&a.with_set(tier, 0), &b.with_set(tier, 0))
 }
 
 /// The class that has on a tier the symbols of both, and else the sets of the first.
@@ -26,7 +25,7 @@ fn united(tier: u32, a: &Class, b: &Class) -> Class
     requires second { tier < length (sets_of b.now) }
     ensures { sets_of result ≡ united tier (sets_of a.now) (sets_of b.now) }
 {
-    with_set(a, tier, a.bits(tier) | b.bits(tier))
+    a.with_set(tier, a.bits(tier) | b.bits(tier))
 }
 
 /// The class that is to be joined next: the current one with the next, where they agree on all other

@@ -12,6 +12,7 @@
 #![tactic(auto)]
 
 mod class;
+mod class_word;
 mod column;
 mod constraint;
 mod event;
@@ -28,7 +29,7 @@ mod tests;
 mod tier;
 mod timeline;
 
-pub use class::Class;
+pub use class::{Class, alone};
 pub use column::Column;
 pub use constraint::{Constraint, Family};
 pub use event::{Event, EventList, Part, has_edge_type};

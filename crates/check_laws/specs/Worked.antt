@@ -11,7 +11,12 @@ use Rattle.violation.specs.Examples.{over_two}
 
 -- the constraints, all of one name
 abbrev pub worked : String Global → List Constraint
-worked name = record { name = name; family = Clash; left = types (codes "Aa") (codes "a"); right = types (codes "Aa") (codes "a") } ∷ max_a name ∷ dep_a name ∷ []
+worked name = record {
+  name = name;
+  family = Clash;
+  left = types (codes "Aa") (codes "a");
+  right = types (codes "Aa") (codes "a");
+} ∷ max_a name ∷ dep_a name ∷ []
 
 -- what a column costs at a stage from a kind, for the form `[ ]`
 abbrev pub cost_at : String Global → ℕ → PrefixKind → List ℕ → ℕ

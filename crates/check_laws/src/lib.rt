@@ -10,9 +10,9 @@
 //! definitions of `violation` and `answer_text`, and on no table.
 #![tactic(auto)]
 
+mod certified;
 pub mod examples;
 mod right;
-mod certified;
 
-pub use right::{right_answers_are_sound, right_answers_are_certified};
 pub use certified::certified_answers_are_sound;
+pub use right::{right_answers_are_certified, right_answers_are_sound};

@@ -65,7 +65,9 @@ impl Span {
 
     /// Whether it has a meet with one of the spans.
     pub(crate) fn meets_some(self, spans: &[Span]) -> bool
-        ensures { result ≡ list_any (λ span. is_there (meet (interval self ∷ interval span ∷ []))) spans.now }
+        ensures { result
+            ≡ list_any
+            (λ span. is_there (meet (interval self ∷ interval span ∷ []))) spans.now }
     {
         spans.iter().any(|span| self.meets(*span))
     }

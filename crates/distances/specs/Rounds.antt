@@ -21,7 +21,8 @@ places s (arc ∷ arcs) = s ∷ places arc.target arcs
 
 -- a run from s that visits no state twice, and at each state weighs no less than what is known
 -- there
-abbrev pub IsWitness : {W : Type 0} {g : Ghosts W} → List (TableState W g) → List (Option W) → ℕ → List (TableArc W g) → Type 0
+abbrev pub IsWitness : {W : Type 0} {g : Ghosts W} → List (TableState W g) → List (Option W) → ℕ → List (TableArc W g)
+    → Type 0
 IsWitness {W} {g} states least s [] =
     IsTrue (accepting_at states s) × IsWithin g.meaning (slice_index_or least s None) g.meaning.zero
 IsWitness {W} {g} states least s (arc ∷ arcs) =

@@ -17,7 +17,8 @@ relaxed m w least [] = least
 relaxed m w least (move ∷ moves) = relaxed m w (lowered m least move.source (m.sum move.weight w)) moves
 
 -- known weights are still those of runs, and none has risen
-pub record IsKept {W : Type 0} {g : Ghosts W} (states : List (TableState W g)) (old new : List (Option W)) : Type 0 where
+pub record IsKept {W : Type 0} {g : Ghosts W} (states : List (TableState W g))
+    (old new : List (Option W)) : Type 0 where
   pub each_state : length new ≡ length states
   pub witnessed : AreWitnessed states new
   pub covered : (k : ℕ) → IsCovered states old k → IsCovered states new k

@@ -52,7 +52,8 @@ fn round<W: Weight>(table: &Table<W>, least: &mut [Option<W>]) -> bool
     requires witnessed { AreWitnessed (states_of table.now) least.old }
     ensures each_state { length least.new ≡ length (states_of table.now) }
     ensures witnessed { AreWitnessed (states_of table.now) least.new }
-    ensures covered { (k : ℕ) → IsCovered (states_of table.now) least.old k → IsCovered (states_of table.now) least.new (k + 1) }
+    ensures covered { (k : ℕ) → IsCovered (states_of table.now) least.old k
+        → IsCovered (states_of table.now) least.new (k + 1) }
     ensures closed { result ≡ false → AreClosed (states_of table.now) least.new }
 {
     let mut changed = false;

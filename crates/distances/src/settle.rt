@@ -63,8 +63,10 @@ fn relax<W: Weight>(
     requires inside { All (λ move. move.source < length least.old.items) moves.now }
     requires lawful { IsTrue (W.meaning.lawful rest) }
     requires weights { All (λ move. IsTrue (W.meaning.lawful move.weight)) moves.now }
-    requires sizes { All (λ move. W.meaning.size move.weight + W.meaning.size rest ≤ u32.MAX) moves.now }
-    ensures { IfOk result (λ _. least.new.items ≡ relaxed W.meaning rest least.old.items moves.now) }
+    requires sizes { All
+        (λ move. W.meaning.size move.weight + W.meaning.size rest ≤ u32.MAX) moves.now }
+    ensures { IfOk result
+        (λ _. least.new.items ≡ relaxed W.meaning rest least.old.items moves.now) }
 {
     for incoming in moves {
         let state = incoming.source;

@@ -26,10 +26,16 @@ fn is_spelled(word: &[u8]) -> bool
 /// [`read_timeline`]; the first that occurs is the error. `NoMemory` may occur in place of any
 /// answer.
 pub fn read_form(alloc: Global, grammar: &Grammar, word: &[u8]) -> Result<Timeline, FormErr>
-    ensures ok { IfOk result (IsReadAs (length (tiers_of_table grammar.now.tiers).input) grammar.now.letters.items word.now) }
+    ensures ok { IfOk result
+        (IsReadAs
+        (length (tiers_of_table grammar.now.tiers).input) grammar.now.letters.items word.now) }
     ensures form { IfOk result (IsForm (tiers_of_table grammar.now.tiers)) }
     ensures short { IfOk result (λ form. length form ≤ 64) }
-    ensures err { IfErr result (λ cause. cause ≢ FormErr.NoMemory → IsRefusedFor (length (tiers_of_table grammar.now.tiers).input) grammar.now.letters.items word.now cause) }
+    ensures err { IfErr result
+        (λ cause. cause ≢ FormErr.NoMemory
+        → IsRefusedFor
+        (length
+        (tiers_of_table grammar.now.tiers).input) grammar.now.letters.items word.now cause) }
 {
     let inputs = grammar.tiers.input_count() as u32;
     if is_spelled(word) {

@@ -27,7 +27,8 @@ fn kind_of(kinds: &[Kind], number: u32) -> Kind
 fn cmp_numbers(kinds: &[Kind], shape: &Shape, stage: u32, a: u32, b: u32) -> Ordering
     requires stage { stage < length shape.now.phases.items }
     requires fit { All (FitsShape shape.now stage) kinds.now }
-    ensures { result ≡ kind_order (told shape.now stage kinds.now a) (told shape.now stage kinds.now b) }
+    ensures { result
+        ≡ kind_order (told shape.now stage kinds.now a) (told shape.now stage kinds.now b) }
 {
     kind_cmp(&kind_of(kinds, a), &kind_of(kinds, b), shape, stage)
 }

@@ -36,4 +36,5 @@ named name word = if is_entry_name name then Some (name, word) else None
 
 -- what an element writes: the name of an entry, and the word of its form
 abbrev pub written : Data → Option (List ℕ × List ℕ)
-written element = option_and_then (λ name. option_and_then (named name) (text_under (codes "form") element)) (text_under (codes "name") element)
+written element = option_and_then (λ name. option_and_then (named name) (text_under (codes "form") element))
+    (text_under (codes "name") element)

@@ -31,7 +31,8 @@ pub record IsEntry (inputs : ℕ) (letters : List Letter) (element : Data) (entr
   pub read : IsReadAs inputs letters word entry.form
 
 -- elements are entries, one for one, and no name occurs twice
-pub record AreEntries (inputs : ℕ) (letters : List Letter) (elements : List Data) (entries : List LexicalEntry) : Type 0 where
+pub record AreEntries (inputs : ℕ) (letters : List Letter) (elements : List Data)
+    (entries : List LexicalEntry) : Type 0 where
   pub each : AllZip (IsEntry inputs letters) elements entries
   pub once : has_twice (names_of entries) ≡ false
 
@@ -43,7 +44,8 @@ pub record IsTwiceNamed (names : List (List ℕ)) (element : Data) : Type 0 wher
   pub taken : is_among name names ≡ true
 
 -- an element writes a name that is not one of those, and a word that is not read as a form
-pub record HasBadForm (inputs : ℕ) (letters : List Letter) (names : List (List ℕ)) (element : Data) (cause : FormErr) : Type 0 where
+pub record HasBadForm (inputs : ℕ) (letters : List Letter) (names : List (List ℕ)) (element : Data)
+    (cause : FormErr) : Type 0 where
   pub name : List ℕ
   pub word : List ℕ
   pub writes : written element ≡ Some (name, word)
@@ -54,7 +56,8 @@ pub record HasBadForm (inputs : ℕ) (letters : List Letter) (names : List (List
 abbrev pub IsFault : ℕ → List Letter → List (List ℕ) → Data → LexErr → Type 0
 IsFault inputs letters names element (BadEntry index) = (index ≡ length names) × (written element ≡ None)
 IsFault inputs letters names element (TwiceNamed index) = (index ≡ length names) × IsTwiceNamed names element
-IsFault inputs letters names element (BadForm index cause) = (index ≡ length names) × HasBadForm inputs letters names element cause
+IsFault inputs letters names element (BadForm index cause) =
+    (index ≡ length names) × HasBadForm inputs letters names element cause
 IsFault inputs letters names element NotToml = ⊥
 IsFault inputs letters names element TooMany = ⊥
 IsFault inputs letters names element NoMemory = ⊥

@@ -29,7 +29,8 @@ pub record IsLexicon (inputs : ℕ) (letters : List Letter) (bytes : List ℕ) (
 -- entry
 abbrev pub IsTableCause : ℕ → List Letter → Option (List Data) → LexErr → Type 0
 IsTableCause inputs letters None cause = cause ≡ BadEntry 0
-IsTableCause inputs letters (Some elements) cause = MatchBool (nat_lt 1000 (length elements)) (cause ≡ TooMany) (IsFirstFault inputs letters elements cause)
+IsTableCause inputs letters (Some elements) cause = MatchBool (nat_lt 1000 (length elements)) (cause ≡ TooMany)
+    (IsFirstFault inputs letters elements cause)
 
 -- bytes denote a table that is not a lexicon
 pub record IsBadTable (inputs : ℕ) (letters : List Letter) (bytes : List ℕ) (cause : LexErr) : Type 0 where
@@ -43,4 +44,5 @@ IsLexiconCause inputs letters bytes cause = ((cause ≡ NotToml) × IsNoToml byt
 
 -- bytes are a lexicon, or they have a cause
 abbrev pub HasLexicon : ℕ → List Letter → List ℕ → Type 0
-HasLexicon inputs letters bytes = ((entries : List LexicalEntry) × IsLexicon inputs letters bytes entries) ⊎ ((cause : LexErr) × IsLexiconCause inputs letters bytes cause)
+HasLexicon inputs letters bytes = ((entries : List LexicalEntry) × IsLexicon inputs letters bytes entries) ⊎
+    ((cause : LexErr) × IsLexiconCause inputs letters bytes cause)

@@ -48,7 +48,8 @@ fn text_under<'a>(element: &'a Value, key: &str) -> Option<&'a str>
 
 /// What an element writes: the name of an entry, and the word of its form.
 pub(crate) fn written(element: &Value) -> Option<(&str, &str)>
-    ensures { option_map (λ pair. (pair.0.now, pair.1.now)) result ≡ written (view element.entry.now) }
+    ensures { option_map (λ pair. (pair.0.now, pair.1.now)) result
+        ≡ written (view element.entry.now) }
 {
     let name = text_under(element, "name")?;
     let word = text_under(element, "form")?;

@@ -21,7 +21,8 @@ fn pruned<W: Weight>(
     requires sizes { SizesWithin (states_of table.now) u32.MAX }
     requires least { AreLeast (states_of table.now) least.now }
     requires start { IsSome (slice_index_or least.now 0 None) }
-    ensures { IfOk result (λ tight. IsTight (states_of table.now) (states_of tight.table) tight.states.items) }
+    ensures { IfOk result
+        (λ tight. IsTight (states_of table.now) (states_of tight.table) tight.states.items) }
 {
     let mut numbers = vec![in alloc; None; table.len() as usize]?;
     let mut names = Vec::new(alloc);
@@ -52,7 +53,8 @@ pub fn tight<W: Weight>(
     requires sizes { SizesWithin (states_of table.now) u32.MAX }
     requires least { AreLeast (states_of table.now) least.now }
     requires start { IsSome (slice_index_or least.now 0 None) }
-    ensures { IfOk result (λ tight. IsTight (states_of table.now) (states_of tight.table) tight.states.items) }
+    ensures { IfOk result
+        (λ tight. IsTight (states_of table.now) (states_of tight.table) tight.states.items) }
 {
     pruned(alloc, table, least).map_err(|_| NoMemory)
 }

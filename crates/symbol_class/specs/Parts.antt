@@ -31,6 +31,7 @@ pub record ArePartedBy {X : Type 0} (width : ℕ) (test : List Sym → X) (whole
 
 -- Classes are put at the end of a list that hold each column so often, and a test decides alike for
 -- all columns of each.
-pub record AddsAlike {X : Type 0} (width : ℕ) (old new : List Class) (times : List Sym → ℕ) (test : List Sym → X) : Type 0 where
+pub record AddsAlike {X : Type 0} (width : ℕ) (old new : List Class) (times : List Sym → ℕ)
+    (test : List Sym → X) : Type 0 where
   pub adds : AddsClasses width old new times
   pub alike : All (IsAlike test) adds.added

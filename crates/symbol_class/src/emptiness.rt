@@ -7,7 +7,10 @@ use tier_core::Class;
 
 /// Whether a class holds no column of its width. It holds none of another width in any case.
 pub fn is_empty(class: &Class) -> bool
-    ensures columns { IsTrue result ↔ ((column : List Sym) → length column ≡ length (sets_of class.now) → has class.now column ≡ false) }
+    ensures columns { IsTrue result
+        ↔
+        ((column : List Sym) → length column ≡ length (sets_of class.now)
+        → has class.now column ≡ false) }
     ensures sets { result ≡ not (is_filled class.now) }
 {
     class.has_empty_set()

@@ -38,8 +38,13 @@ fn joined_next(
 ) -> Result<Class, AllocError>
     requires first { tier < length (sets_of current.now) }
     requires second { tier < length (sets_of next.now) }
-    ensures alike { is_eq (beside_cmp tier (sets_of current.now) (sets_of next.now)) ≡ true → IfOk result (λ class. (done.new.items ≡ done.old.items) × (sets_of class ≡ united tier (sets_of current.now) (sets_of next.now))) }
-    ensures other { is_eq (beside_cmp tier (sets_of current.now) (sets_of next.now)) ≡ false → IfOk result (λ class. (done.new.items ≡ done.old.items ++ current.now ∷ []) × (class ≡ next.now)) }
+    ensures alike { is_eq (beside_cmp tier (sets_of current.now) (sets_of next.now)) ≡ true
+        → IfOk result
+        (λ class. (done.new.items ≡ done.old.items)
+        × (sets_of class ≡ united tier (sets_of current.now) (sets_of next.now))) }
+    ensures other { is_eq (beside_cmp tier (sets_of current.now) (sets_of next.now)) ≡ false
+        → IfOk result
+        (λ class. (done.new.items ≡ done.old.items ++ current.now ∷ []) × (class ≡ next.now)) }
 {
     if beside_cmp(tier, current, next) == Ordering::Equal {
         return Ok(united(tier, current, next));
@@ -98,7 +103,9 @@ fn joined_fully(alloc: Global, width: u32, classes: &[Class]) -> Result<Vec<Clas
     requires some { 0 < width }
     requires pieces { ArePieces width classes.now }
     ensures pieces { IfOk result (λ joined. ArePieces width joined.items) }
-    ensures held { IfOk result (λ joined. (column : List Sym) → times_held joined.items column ≡ times_held classes.now column) }
+    ensures held { IfOk result
+        (λ joined. (column : List Sym)
+        → times_held joined.items column ≡ times_held classes.now column) }
     ensures fewer { IfOk result (λ joined. length joined.items ≤ length classes.now) }
     ensures differ { IfOk result (λ joined. AllPairs DifferTwice joined.items) }
 {
@@ -117,7 +124,9 @@ fn joined_fully(alloc: Global, width: u32, classes: &[Class]) -> Result<Vec<Clas
 pub fn join(alloc: Global, classes: &[Class]) -> Result<Vec<Class>, NoMemory>
     requires { ArePieces (width_of classes.now) classes.now }
     ensures pieces { IfOk result (λ joined. ArePieces (width_of classes.now) joined.items) }
-    ensures columns { IfOk result (λ joined. (column : List Sym) → some_has joined.items column ≡ some_has classes.now column) }
+    ensures columns { IfOk result
+        (λ joined. (column : List Sym)
+        → some_has joined.items column ≡ some_has classes.now column) }
     ensures fewer { IfOk result (λ joined. length joined.items ≤ length classes.now) }
     ensures differ { IfOk result (λ joined. AllPairs DifferTwice joined.items) }
 {

@@ -31,7 +31,8 @@ fn is_parted(class: &Class, test: &Difference) -> bool
 
 /// Whether a difference surely has all columns of each class, or none.
 fn are_whole(classes: &[Class], test: &Difference) -> bool
-    requires { All (λ class. length (sets_of class) ≡ length (sets_of test.now.within)) classes.now }
+    requires { All
+        (λ class. length (sets_of class) ≡ length (sets_of test.now.within)) classes.now }
     ensures { result ≡ true → All (IsAlike (differs test.now)) classes.now }
 {
     for class in classes {
@@ -43,13 +44,11 @@ fn are_whole(classes: &[Class], test: &Difference) -> bool
 }
 
 /// Puts a class in its parts at the end of a list: those that are in a difference, and the others.
-fn push_parts(
-    parts: &mut Vec<Class>,
-    class: &Class,
-    test: &Difference,
-) -> Result<(), AllocError>
+fn push_parts(parts: &mut Vec<Class>, class: &Class, test: &Difference) -> Result<(), AllocError>
     requires { length (sets_of class.now) ≡ length (sets_of test.now.within) }
-    ensures { OnOk result (AddsAlike (length (sets_of class.now)) parts.old.items parts.new.items (λ column. once_if (has class.now column)) (differs test.now)) }
+    ensures { OnOk result
+        (AddsAlike (length (sets_of class.now)) parts.old.items parts.new.items
+        (λ column. once_if (has class.now column)) (differs test.now)) }
 {
     if !is_parted(class, test) {
         push_filled(parts, *class)?;
@@ -65,7 +64,10 @@ fn push_parts(
 /// Parts classes by a difference.
 fn parts(alloc: Global, classes: &[Class], test: &Difference) -> Result<Vec<Class>, AllocError>
     requires { ArePieces (length (sets_of test.now.within)) classes.now }
-    ensures { IfOk result (λ parts. ArePartedBy (length (sets_of test.now.within)) (differs test.now) classes.now parts.items) }
+    ensures { IfOk result
+        (λ parts.
+        ArePartedBy (length (sets_of test.now.within))
+        (differs test.now) classes.now parts.items) }
 {
     let mut parts = Vec::new(alloc);
     for class in classes {
@@ -79,7 +81,10 @@ fn parts(alloc: Global, classes: &[Class], test: &Difference) -> Result<Vec<Clas
 /// want of memory.
 pub fn part(alloc: Global, classes: Vec<Class>, test: &Difference) -> Result<Vec<Class>, NoMemory>
     requires { ArePieces (length (sets_of test.now.within)) classes.items }
-    ensures { IfOk result (λ parts. ArePartedBy (length (sets_of test.now.within)) (differs test.now) classes.items parts.items) }
+    ensures { IfOk result
+        (λ parts.
+        ArePartedBy (length (sets_of test.now.within))
+        (differs test.now) classes.items parts.items) }
 {
     if are_whole(&classes, test) {
         return Ok(classes);

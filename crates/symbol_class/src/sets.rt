@@ -10,7 +10,8 @@ use tier_core::Class;
 pub(crate) fn narrowed(class: &Class, tier: u32, set: u8) -> Class
     requires { tier < length (sets_of class.now) }
     ensures width { length (sets_of result) ≡ length (sets_of class.now) }
-    ensures columns { (column : List Sym) → has result column ≡ (has class.now column && is_in set (symbol column tier)) }
+    ensures columns { (column : List Sym)
+        → has result column ≡ (has class.now column && is_in set (symbol column tier)) }
 {
     class.with_set(tier, class.bits(tier) & set)
 }

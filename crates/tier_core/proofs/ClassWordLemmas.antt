@@ -13,7 +13,8 @@ use Rattle.tier_core.specs.ClassWords.{width_in, set_in, sets_in, below_in}
 pub width_from : (word n : ℕ) → n ≤ 12 → below_in word n ≡ n → width_in word ≡ n
 width_from word n few e =
     let parts : 64 - 5 * n ≡ (60 - 5 * n) + 4 = omega arith in
-    sym (mod-mod-pow word (60 - 5 * n) 4) ∙ ap (λ j. word % 2 ^ j % 2 ^ 4) (sym parts) ∙ ap (λ x. x % 2 ^ 4) e ∙ mod-eq_of_lt (omega arith)
+    sym (mod-mod-pow word (60 - 5 * n) 4) ∙ ap (λ j. word % 2 ^ j % 2 ^ 4) (sym parts) ∙ ap (λ x. x % 2 ^ 4) e
+    ∙ mod-eq_of_lt (omega arith)
 
 -- no sets stand above a small number
 pub starts_with : (n : ℕ) → n ≤ 12 → below_in n n ≡ n
@@ -27,7 +28,8 @@ length_in word n = length-map-range_with_len (set_in word) 0 n
 pub get_in : (word n t : ℕ) → t < n → get_or (sets_in word n) t 0 ≡ set_in word t
 get_in word n t l = get_or-map-range_with_len (set_in word) 0 n t t 0 l (omega arith)
 
-pub sets_from : (word n : ℕ) (sets : List ℕ) → length sets ≡ n → ((t : ℕ) → t < n → set_in word t ≡ get_or sets t 0) → sets_in word n ≡ sets
+pub sets_from : (word n : ℕ) (sets : List ℕ) → length sets ≡ n → ((t : ℕ) → t < n → set_in word t ≡ get_or sets t 0)
+    → sets_in word n ≡ sets
 sets_from word n sets e h = sym (fill_by_all (set_in word) sets n 0 e (λ t l. sym (h t l)))
 
 -- ---- five bits are turned
@@ -48,7 +50,8 @@ module _ (w d k : ℕ) (few : d < 2 ^ 5) where
   turned_below : (i : ℕ) → i ≤ k → bit_xor w (d * 2 ^ k) % 2 ^ i ≡ w % 2 ^ i
   turned_below i below =
       let parts : k ≡ (k - i) + i = omega arith in
-      let whole : d * 2 ^ k ≡ d * 2 ^ (k - i) * 2 ^ i + 0 = ap (λ j. d * 2 ^ j) parts ∙ ap (λ x. d * x) (pow-add 2 (k - i) i) ∙ omega arith in
+      let whole : d * 2 ^ k ≡ d * 2 ^ (k - i) * 2 ^ i + 0 = ap (λ j. d * 2 ^ j) parts
+      ∙ ap (λ x. d * x) (pow-add 2 (k - i) i) ∙ omega arith in
       xor_mod w (d * 2 ^ k) i
       ∙ ap (bit_xor (w % 2 ^ i)) (ap (λ x. x % 2 ^ i) whole ∙ mod_low (d * 2 ^ (k - i)) i 0 (pow_pos i))
       ∙ xor_zero_r (w % 2 ^ i)
@@ -92,4 +95,5 @@ pub met_at : (a b t : ℕ) → set_in (bit_and a b) t ≡ bit_and (set_in a t) (
 met_at a b t = ap (λ x. x % 2 ^ 5) (and_shr a b (59 - 5 * t)) ∙ and_mod (a / 2 ^ (59 - 5 * t)) (b / 2 ^ (59 - 5 * t)) 5
 
 pub met_below : (a b n : ℕ) → below_in a n ≡ n → below_in b n ≡ n → below_in (bit_and a b) n ≡ n
-met_below a b n ea eb = and_mod a b (64 - 5 * n) ∙ ap (λ x. bit_and x (below_in b n)) ea ∙ ap (bit_and n) eb ∙ and_self n
+met_below a b n ea eb = and_mod a b (64 - 5 * n) ∙ ap (λ x. bit_and x (below_in b n)) ea ∙ ap (bit_and n) eb
+    ∙ and_self n

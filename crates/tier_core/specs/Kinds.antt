@@ -41,7 +41,8 @@ phase_order a b = slice_cmp nat_cmp (map phase_rank a) (map phase_rank b)
 
 -- kinds are compared by place, then by open tiers, then by phases
 abbrev pub kind_order : PrefixKind → PrefixKind → Ordering
-kind_order k l = ordering_then (nat_cmp k.place l.place) (ordering_then (open_order k.opened l.opened) (phase_order k.phases l.phases))
+kind_order k l = ordering_then (nat_cmp k.place l.place)
+    (ordering_then (open_order k.opened l.opened) (phase_order k.phases l.phases))
 
 -- the phase that the bits of a stretch implication encode
 abbrev pub phase_by_bits : Bool → Bool → Phase

@@ -18,7 +18,8 @@ AreSets sets = All (λ set. set < 32) sets
 
 -- sets have on each tier what both of two others have there
 abbrev pub MeetAt : List ℕ → List ℕ → List ℕ → Type 0
-MeetAt a b both = (t : ℕ) → t < length a → slice_index_or both t 0 ≡ bit_and (slice_index_or a t 0) (slice_index_or b t 0)
+MeetAt a b both = (t : ℕ) → t < length a
+    → slice_index_or both t 0 ≡ bit_and (slice_index_or a t 0) (slice_index_or b t 0)
 
 -- the set of some tier has no symbol
 abbrev pub SomeEmpty : List ℕ → Type 0

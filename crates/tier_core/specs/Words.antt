@@ -78,6 +78,7 @@ AreDisjoint [] = Unit {0}
 AreDisjoint (c ∷ cs) = NextFrom c.1 cs × AreDisjoint cs
 
 pub record IsWellFormedWord (w : List Sym) : Type 0 where
-  pub begun : (i : ℕ) → i < length w → IsTrue (starts (slice_index_or w i Outside)) → IsTrue (starts_at (constituents w) i)
+  pub begun : (i : ℕ) → i < length w → IsTrue (starts (slice_index_or w i Outside))
+      → IsTrue (starts_at (constituents w) i)
   pub apart : AreDisjoint (constituents w)
   pub symbols : (k : ℕ) → k < length w → slice_index_or w k Outside ≡ drawn (constituents w) k

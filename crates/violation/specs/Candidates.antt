@@ -59,7 +59,8 @@ pub record IsCandidate (problem : Problem) (T : List (List Sym)) : Type 0 where
 -- T is r-optimal: it is a candidate, and its first r counts are at most those of every candidate
 pub record IsOptimalFor (problem : Problem) (r : ℕ) (T : List (List Sym)) : Type 0 where
   pub candidate : IsCandidate problem T
-  pub least : (U : List (List Sym)) → IsCandidate problem U → IsAtMost (take r (counts_on problem T)) (take r (counts_on problem U))
+  pub least : (U : List (List Sym)) → IsCandidate problem U
+      → IsAtMost (take r (counts_on problem T)) (take r (counts_on problem U))
 
 -- T is optimal: it is r-optimal for r the number of constraints
 abbrev pub IsOptimal : Problem → List (List Sym) → Type 0

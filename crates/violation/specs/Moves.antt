@@ -35,7 +35,8 @@ form_opened tiers u place = map (λ j. is_open (word (take place u) j)) (range_w
 -- whether a tier is open at a kind: an input tier if it is open after the first PLACE columns of
 -- the form, a free tier if the kind says so
 abbrev pub is_tier_open : Problem → PrefixKind → ℕ → Bool
-is_tier_open problem k t = flag_of problem.tiers.input (form_opened problem.tiers problem.form k.place) t || flag_of problem.tiers.free k.opened t
+is_tier_open problem k t = flag_of problem.tiers.input
+    (form_opened problem.tiers problem.form k.place) t || flag_of problem.tiers.free k.opened t
 
 -- A column fits a kind: on each tier its symbol may come next, given whether the tier is open; it
 -- has an edge; and its input part has no edge, or is the form's column at PLACE.
@@ -43,7 +44,8 @@ pub record FitsKind (problem : Problem) (k : PrefixKind) (column : List Sym) : T
   pub width : length column ≡ problem.tiers.width
   pub symbols : (t : ℕ) → t < problem.tiers.width → IsTrue (fits (is_tier_open problem k t) (symbol column t))
   pub edge : IsTrue (has_edge column)
-  pub input : (has_edge (input_of problem.tiers column) ≡ false) ⊎ ((k.place < last_place problem) × (input_of problem.tiers column ≡ column_at problem.form k.place))
+  pub input : (has_edge (input_of problem.tiers column) ≡ false) ⊎
+      ((k.place < last_place problem) × (input_of problem.tiers column ≡ column_at problem.form k.place))
 
 abbrev pub is_unmet_phase : Phase → Bool
 is_unmet_phase closed = false
@@ -61,7 +63,9 @@ is_met_phase met = true
 abbrev pub next_phase : List Event → List Event → Phase → List Sym → Phase
 next_phase left right phase column =
     if opens_all left column
-    then (if (if edge_among left column then false else (is_met_phase phase || list_any (is_present column) right)) || list_any (opens_interior column) right then met else unmet)
+    then (if (if edge_among left column then false else
+    (is_met_phase phase || list_any (is_present column) right)) || list_any
+    (opens_interior column) right then met else unmet)
     else closed
 
 -- the next phases of some stretch implications

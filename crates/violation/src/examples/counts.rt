@@ -75,12 +75,17 @@ pub fn narrow_interiors()
 /// three never meet together.
 pub fn three_tiers()
     ensures together { clashing (codes "abc") (codes "a b") (codes "c") (codes "[[[ ]]]") ≡ 1 }
-    ensures never_together { clashing (codes "abc") (codes "a b") (codes "c") (codes "[[- +][ ]-]") ≡ 0 }
-    ensures met_too_late { implied (codes "abc") (codes "a b") (codes "c") (codes "[[- +][ ]-]") ≡ 1 }
+    ensures never_together { clashing (codes "abc") (codes "a b") (codes "c") (codes "[[- +][ ]-]")
+        ≡ 0 }
+    ensures met_too_late { implied (codes "abc") (codes "a b") (codes "c") (codes "[[- +][ ]-]")
+        ≡ 1 }
     ensures met_later { implied (codes "abc") (codes "a b") (codes "c") (codes "[[- ++[ ]]]") ≡ 0 }
-    ensures starts_together { clashing (codes "abc") (codes "[a [b") (codes "[c") (codes "[[[ ]]]") ≡ 1 }
-    ensures starts_apart { clashing (codes "abc") (codes "[a [b") (codes "[c") (codes "[[- ++[ ]]]") ≡ 0 }
-    ensures three_left { implied (codes "abcd") (codes "a b c") (codes "d") (codes "[[[- ]]]-") ≡ 1 }
+    ensures starts_together { clashing (codes "abc")
+        (codes "[a [b") (codes "[c") (codes "[[[ ]]]") ≡ 1 }
+    ensures starts_apart { clashing (codes "abc")
+        (codes "[a [b") (codes "[c") (codes "[[- ++[ ]]]") ≡ 0 }
+    ensures three_left { implied (codes "abcd") (codes "a b c") (codes "d") (codes "[[[- ]]]-")
+        ≡ 1 }
     ensures four { implied (codes "abcd") (codes "a b c") (codes "d") (codes "[[[[ ]]]]") ≡ 0 }
 {}
 
@@ -105,7 +110,8 @@ pub fn right_types()
     ensures either { implied (codes "abc") (codes "a") (codes "b c") (codes "[-[ |[] ]]-") ≡ 0 }
     ensures first_alone { implied (codes "abc") (codes "a") (codes "b") (codes "[-[ |[] ]]-") ≡ 1 }
     ensures second_alone { implied (codes "abc") (codes "a") (codes "c") (codes "[-[ |[] ]]-") ≡ 1 }
-    ensures only_edges { implied (codes "abc") (codes "a") (codes "[b ]c") (codes "[-[ |[] ]]-") ≡ 2 }
+    ensures only_edges { implied (codes "abc") (codes "a") (codes "[b ]c") (codes "[-[ |[] ]]-")
+        ≡ 2 }
     ensures two_missed { implied (codes "ab") (codes "a") (codes "b") (codes "[- ]- -[ -| -]") ≡ 1 }
 {}
 
@@ -116,8 +122,10 @@ pub fn left_edges()
     ensures edge_at_end { implied (codes "ab") (codes "]a") (codes "]b [b") (codes "[- ][ -]") ≡ 0 }
     ensures interior_later { implied (codes "ab") (codes "]a") (codes "b") (codes "[- ][ -]") ≡ 1 }
     ensures interior_over { implied (codes "ab") (codes "]a") (codes "b") (codes "[[ ]+ -]") ≡ 0 }
-    ensures interior_starts { implied (codes "abc") (codes "[a [b") (codes "c") (codes "[[[ ]]]") ≡ 1 }
-    ensures interior_before { implied (codes "abc") (codes "[a [b") (codes "c") (codes "--[ [[+ ]]]") ≡ 0 }
+    ensures interior_starts { implied (codes "abc")
+        (codes "[a [b") (codes "c") (codes "[[[ ]]]") ≡ 1 }
+    ensures interior_before { implied (codes "abc")
+        (codes "[a [b") (codes "c") (codes "--[ [[+ ]]]") ≡ 0 }
 {}
 
 /// A tier without constituents has no events, so nothing is chosen from it, and nothing is met by
@@ -126,5 +134,6 @@ pub fn no_constituents()
     ensures left_none { implied (codes "ab") (codes "a") (codes "b") (codes "-[ -]") ≡ 0 }
     ensures clash_none { clashing (codes "ab") (codes "a") (codes "b") (codes "-[ -]") ≡ 0 }
     ensures right_none { implied (codes "ab") (codes "b") (codes "a") (codes "-[ -]") ≡ 1 }
-    ensures no_columns { viol Implication (types (codes "ab") (codes "a")) (types (codes "ab") (codes "b")) [] ≡ 0 }
+    ensures no_columns { viol Implication (types (codes "ab") (codes "a"))
+        (types (codes "ab") (codes "b")) [] ≡ 0 }
 {}

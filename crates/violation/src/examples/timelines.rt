@@ -9,13 +9,15 @@ ghost use Rattle.violation.specs.Examples.{read_syms, timeline, IsCandidateOf};
 
 /// Well-formed words, one beside the other.
 pub fn well_formed_words()
-    ensures { AllByRecursion IsWellFormedWord (timeline (codes "- -- [] [+] -[]- [|] [||] []-[] [][] [+|+] -[++]-")) }
+    ensures { AllByRecursion IsWellFormedWord
+        (timeline (codes "- -- [] [+] -[]- [|] [||] []-[] [][] [+|+] -[++]-")) }
 {}
 
 /// Words that are not. In `[[]` two starts have one end, in `[]]` an end has no start, and in
 /// `[-]` and `[]+` a symbol is not the one that the constituents draw.
 pub fn ill_formed_words()
-    ensures { AllByRecursion (λ w. IsWellFormedWord w → ⊥) (timeline (codes "+ [ ] | [- [+ [-] [[] []] []+ [+-] -]")) }
+    ensures { AllByRecursion (λ w. IsWellFormedWord w → ⊥)
+        (timeline (codes "+ [ ] | [- [+ [-] [[] []] []+ [+-] -]")) }
 {}
 
 /// The constituents of a word: each start with the next end.
@@ -45,7 +47,8 @@ pub fn reduced_timelines()
 /// first difference, in the order of `-`, `+`, `[`, `]` and `|`.
 pub fn ordered_timelines()
     ensures fewer { timeline_cmp (timeline (codes "|")) (timeline (codes "- -")) ≡ Less }
-    ensures first_column { timeline_cmp (timeline (codes "[- ]]")) (timeline (codes "[[ ]-")) ≡ Less }
+    ensures first_column { timeline_cmp (timeline (codes "[- ]]"))
+        (timeline (codes "[[ ]-")) ≡ Less }
     ensures outside { timeline_cmp (timeline (codes "-")) (timeline (codes "+")) ≡ Less }
     ensures inside { timeline_cmp (timeline (codes "+")) (timeline (codes "[")) ≡ Less }
     ensures start { timeline_cmp (timeline (codes "[")) (timeline (codes "]")) ≡ Less }

@@ -20,5 +20,6 @@ returns-clause-columns c =
     let class = c.args.class.now in
     let is = told class c.has_empty_set.result c.has_empty_set.ensures in (
       λ h column _. empty_holds class column (not-true (is_filled class) (sym is ∙ h)),
-      λ none. is ∙ ⊎_elim (λ filled. absurd (filled_holds class filled none)) (λ empty. ap not empty) (cases_Bool (is_filled class)),
+      λ none. is ∙ ⊎_elim (λ filled. absurd (filled_holds class filled none)) (λ empty. ap not empty)
+          (cases_Bool (is_filled class)),
     )

@@ -8,4 +8,5 @@ use Rattle.symbol_class.proofs.parts.part.Goals as goal
 pub returns-then-are_whole : goal.returns-then-are_whole
 returns-then-are_whole c =
     parted_same (length (sets_of c.args.test.now.within)) (differs c.args.test.now) c.args.classes.items c.requires
-    (subst (λ (xs : List Class). All (IsAlike (differs c.args.test.now)) xs) c.deref.ensures.value (c.are_whole.ensures c.if-are_whole.true))
+    (subst (λ (xs : List Class). All (IsAlike (differs c.args.test.now)) xs) c.deref.ensures.value
+    (c.are_whole.ensures c.if-are_whole.true))

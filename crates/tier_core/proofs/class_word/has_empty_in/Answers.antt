@@ -7,6 +7,8 @@ pub returns : goal.returns
 returns c =
     let word = c.args.word in
     let width = c.args.width in (
-      λ found. some_empty word width c.ranges.word.fits c.requires.few (eqb-false (empty_in word width) 0 (not-true (empty_in word width == 0) found)),
-      λ tier. ap not (ne_eqb (empty_in word width) 0 (empty_from word width c.ranges.word.fits c.requires.few tier.0 tier.1 tier.2)),
+      λ found. some_empty word width c.ranges.word.fits c.requires.few
+          (eqb-false (empty_in word width) 0 (not-true (empty_in word width == 0) found)),
+      λ tier. ap not (ne_eqb (empty_in word width) 0
+          (empty_from word width c.ranges.word.fits c.requires.few tier.0 tier.1 tier.2)),
     )

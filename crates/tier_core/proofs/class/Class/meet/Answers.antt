@@ -15,7 +15,8 @@ invariant_of-result c =
     }
 
 pub returns-clause-width : goal.returns-clause-width
-returns-clause-width c = width_is _ ∙ (met_width c.args.self.now c.args.other.now c.requires).0 ∙ sym (width_is c.args.self.now)
+returns-clause-width c = width_is _ ∙ (met_width c.args.self.now c.args.other.now c.requires).0
+    ∙ sym (width_is c.args.self.now)
 
 pub returns-clause-sets : goal.returns-clause-sets
 returns-clause-sets c = sets_met c.args.self.now c.args.other.now _ refl c.requires

@@ -21,5 +21,6 @@ invariant_of-result c =
 
 pub returns : goal.returns
 returns c =
-    sets_are _ c.args.bits.now (width_from c.loop-tier.word (length c.args.bits.now) c.requires.few c.loop-tier.invariant.rest)
+    sets_are _ c.args.bits.now (width_from c.loop-tier.word
+    (length c.args.bits.now) c.requires.few c.loop-tier.invariant.rest)
     (λ t l. c.loop-tier.invariant.done t (omega (arith, c.loop-tier-test.false)))

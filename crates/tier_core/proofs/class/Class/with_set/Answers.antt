@@ -6,7 +6,8 @@ use Rattle.tier_core.proofs.class.Class.with_set.Goals as goal
 pub invariant_of-result : goal.invariant_of-result
 invariant_of-result c =
     let class = c.args.self.now in
-    let own = put_width class c.with_set_in.result c.args.tier (omega (arith, c.width.ensures.value)) c.with_set_in.ensures.below in
+    let own = put_width class c.with_set_in.result c.args.tier
+    (omega (arith, c.width.ensures.value)) c.with_set_in.ensures.below in
     record {
       some = omega (arith, class.some, own.0);
       few = omega (arith, class.few, own.0);
@@ -17,5 +18,6 @@ pub returns : goal.returns
 returns c =
     let class = c.args.self.now in
     sets_put class _ c.args.tier c.args.set (omega (arith, width_is class, c.width.ensures.value))
-    (put_width class c.with_set_in.result c.args.tier (omega (arith, c.width.ensures.value)) c.with_set_in.ensures.below).0
+    (put_width class c.with_set_in.result c.args.tier
+    (omega (arith, c.width.ensures.value)) c.with_set_in.ensures.below).0
     c.with_set_in.ensures.here c.with_set_in.ensures.others

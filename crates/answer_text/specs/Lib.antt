@@ -4,3 +4,4 @@ pub mod Certified
 pub mod Sound
 pub mod Text
 pub mod Shape
+pub mod RightOnce

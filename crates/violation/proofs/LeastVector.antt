@@ -33,7 +33,7 @@ module _ (problem : Problem) where
       (omega (arith, length-map problem.constraints (λ c. violations_of c T)))
 
   -- the optimal candidates share their vector
-  one_vector : (T U : List (List Sym)) → IsOptimal problem T → IsOptimal problem U
+  pub one_vector : (T U : List (List Sym)) → IsOptimal problem T → IsOptimal problem U
       → counts_on problem T ≡ counts_on problem U
   one_vector T U t v =
       let n : ℕ = last_stage problem in

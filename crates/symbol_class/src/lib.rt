@@ -28,5 +28,6 @@ pub use least::least_column;
 pub use order::class_cmp;
 pub use parting::split;
 pub use parts::part;
-pub use remainder::minus;
+pub use remainder::{minus, push_minus};
+pub use sets::narrowed;
 pub use sides::Split;

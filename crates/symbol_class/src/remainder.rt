@@ -24,7 +24,7 @@ pub(crate) fn push_filled(pieces: &mut Vec<Class>, class: Class) -> Result<(), A
 
 /// Puts the pieces of `a` without `b` at the end of a list: for each tier the columns that are in the
 /// sets of `b` on the tiers before it, and not on this one.
-pub(crate) fn push_minus(pieces: &mut Vec<Class>, a: &Class, b: &Class) -> Result<(), AllocError>
+pub fn push_minus(pieces: &mut Vec<Class>, a: &Class, b: &Class) -> Result<(), AllocError>
     requires { length (sets_of a.now) ≡ length (sets_of b.now) }
     ensures held { OnOk result
         (AddsClasses (length (sets_of a.now)) pieces.old.items pieces.new.items

@@ -5,3 +5,7 @@ pub mod Cutting
 pub mod FirstLines
 pub mod Follows
 pub mod ClassLoop
+pub mod Going
+pub mod StageSteps
+pub mod StateSteps
+pub mod StageValues

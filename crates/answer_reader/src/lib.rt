@@ -13,6 +13,7 @@
 
 mod answer_err;
 mod class;
+mod counts;
 mod cut;
 mod head;
 mod line_forms;
@@ -22,13 +23,18 @@ mod node;
 mod number;
 mod on_line;
 mod order;
+mod read;
+mod stage_loop;
 mod stages;
+mod state_loop;
 mod states;
 #[cfg(test)]
 mod tests;
+mod timelines;
 
 pub use answer_err::{AnswerCause, AnswerErr};
 pub use head::read_header;
 pub use lines::Lines;
+pub use read::read_answer;
 pub use stages::{read_automaton_line, read_node, read_stage_line};
 pub use states::{read_arc, read_state_line};

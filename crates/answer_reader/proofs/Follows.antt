@@ -6,7 +6,7 @@ use Rattle.std.specs.declared.cmp.Ordering.TheVariants.{Less, Equal, Greater}
 use Rattle.std.proofs.lemmas.List.{get_or-map, length-map}
 use Rattle.answer_reader.specs.Orders.{follows}
 
-pub last_later : {X : Type 0} (y z : X) (ys : List X) (d : X) → get_or (y ∷ z ∷ ys) (length (y ∷ z ∷ ys) - 1) d ≡ get_or (z ∷ ys) (length (z ∷ ys) - 1) d
+last_later : {X : Type 0} (y z : X) (ys : List X) (d : X) → get_or (y ∷ z ∷ ys) (length (y ∷ z ∷ ys) - 1) d ≡ get_or (z ∷ ys) (length (z ∷ ys) - 1) d
 last_later y z ys d = let e : length (y ∷ z ∷ ys) - 1 ≡ suc (length (z ∷ ys) - 1) = omega arith in ap (λ k. get_or (y ∷ z ∷ ys) k d) e
 
 pub follows_last : {X : Type 0} (less : X → X → Bool) (xs : List X) (x d : X) → 0 < length xs → follows less xs x ≡ less (get_or xs (length xs - 1) d) x

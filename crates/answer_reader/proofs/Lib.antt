@@ -9,3 +9,4 @@ pub mod Going
 pub mod StageSteps
 pub mod StateSteps
 pub mod StageValues
+pub mod StageLoops

@@ -13,7 +13,6 @@ use Rattle.answer_text.specs.Readable.{IsReadableStage, AreReadableStages, last_
 use Rattle.answer_reader.specs.Stages.{is_empty, last_count}
 use Rattle.answer_reader.specs.Values.{NodeValue, node_value, stage_values}
 use Rattle.answer_reader.specs.Within.{IsNodeWithin}
-use Rattle.answer_reader.proofs.Follows.{last_later}
 
 pub length_values : (shape : Shape) (r : ℕ) (stages : List Stage) → length (stage_values shape r stages) ≡ length stages
 length_values shape r [] = refl
@@ -42,11 +41,8 @@ pub last_values : (shape : Shape) (r : ℕ) (stages : List Stage) → last_count
 last_values shape r [] = refl
 last_values shape r (stage ∷ []) = length-map stage.nodes.items (node_value shape r)
 last_values shape r (stage ∷ next ∷ stages) =
-    last_values shape (r + 1) (next ∷ stages)
-    ∙ ap length (sym (last_later stage.nodes.items next.nodes.items (map (λ (s : Stage). s.nodes.items) stages) [] ∙ ap (λ k. get_or (map (λ (s : Stage). s.nodes.items) (next ∷ stages)) k []) same))
-  where
-    same : length (next.nodes.items ∷ map (λ (s : Stage). s.nodes.items) stages) - 1 ≡ length (next ∷ stages) - 1
-    same = ap (λ k. suc k - 1) (length-map stages (λ (s : Stage). s.nodes.items))
+    let one : length (stage ∷ next ∷ stages) - 1 ≡ suc (length (next ∷ stages) - 1) = omega arith in
+    last_values shape (r + 1) (next ∷ stages) ∙ ap (λ k. length (nodes_at (stage ∷ next ∷ stages) k)) (sym one)
 
 -- ---- readable stages
 

@@ -1,5 +1,6 @@
 -- Words of lines and nodes, as the code has them.
 use Rattle.std.specs.Prelude.{ℕ, List}
+use Rattle.std.specs.declared.alloc.Global.{Global}
 use Rattle.std.specs.declared.vec.Vec.{Vec}
 use Rattle.tier_core.specs.Kinds.{prefix_kind}
 use Rattle.answer_text.specs.declared.stage.Node.{Node}
@@ -15,5 +16,5 @@ abbrev pub node_seen : ℕ → ℕ → Node → NodeValue
 node_seen free stretches node = record { kind = prefix_kind free stretches node.kind; potential = node.potential }
 
 -- the numbers of a list of the code
-abbrev pub numbers_seen : Vec ℕ → List ℕ
+abbrev pub numbers_seen : Vec ℕ Global → List ℕ
 numbers_seen numbers = numbers.items

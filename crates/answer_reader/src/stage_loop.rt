@@ -126,7 +126,7 @@ pub(crate) fn read_stages(
     ensures states { IfOk result (λ found. found.states ≤ length (last_nodes found.stages.items)) }
 {
     let mut stages = Vec::new(alloc);
-    while !is_automaton(lines, &stages) {
+    'reading: while !is_automaton(lines, &stages) {
         let stage = read_stage(alloc, lines, shape, columns, &stages)?;
         stages.push(stage)?;
     }

@@ -10,3 +10,4 @@ pub mod StageSteps
 pub mod StateSteps
 pub mod StageValues
 pub mod StageLoops
+pub mod StateLoops

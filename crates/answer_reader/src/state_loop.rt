@@ -31,7 +31,7 @@ fn read_arcs(
     ensures readable { IfOk result (λ arcs. All (IsReadableArc width nodes) arcs.items) }
 {
     let mut arcs = Vec::new(alloc);
-    while lines.begins(b"arc ") {
+    'reading: while lines.begins(b"arc ") {
         let arc = read_arc(lines, width, nodes, &arcs)?;
         arcs.push(arc)?;
     }

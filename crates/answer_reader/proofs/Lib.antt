@@ -11,3 +11,4 @@ pub mod StateSteps
 pub mod StageValues
 pub mod StageLoops
 pub mod StateLoops
+pub mod Timelines

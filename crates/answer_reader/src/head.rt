@@ -9,7 +9,7 @@ use crate::answer_err::{AnswerCause, AnswerErr};
 use crate::counts::read_counts_line;
 use crate::lines::Lines;
 use crate::on_line::on_line;
-use crate::timelines::read_timeline_line;
+use crate::timeline_line::read_timeline_line;
 use std::alloc::Global;
 use tier_core::{Shape, Timeline};
 

@@ -30,7 +30,7 @@ mod state_loop;
 mod states;
 #[cfg(test)]
 mod tests;
-mod timelines;
+mod timeline_line;
 
 pub use answer_err::{AnswerCause, AnswerErr};
 pub use head::read_header;

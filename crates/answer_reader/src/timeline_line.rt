@@ -2,7 +2,7 @@ ghost use Rattle.std.specs.Prelude.{◌≡◌, ◌≤◌, Ok, Err, MatchResult, 
 ghost use Rattle.answer_reader.specs.declared.answer_err.AnswerErr.TheVariants.{NoMemory};
 ghost use Rattle.answer_reader.specs.declared.answer_err.AnswerCause.TheVariants.{BadLine};
 ghost use Rattle.answer_reader.specs.Left.{Takes};
-ghost use Rattle.answer_reader.specs.Timelines.{timeline_of, timeline_said};
+ghost use Rattle.answer_reader.specs.Timelines.{is_no_memory, timeline_of, timeline_said};
 ghost use Rattle.tier_core.specs.declared.sym.Sym.{Sym};
 
 use crate::answer_err::{AnswerCause, AnswerErr};
@@ -12,6 +12,13 @@ use crate::on_line::on_line;
 use std::alloc::Global;
 use tier_core::Timeline;
 use timeline_text::{FormErr, read_timeline};
+
+/// Whether memory was wanting.
+fn is_no_memory(cause: FormErr) -> bool
+    ensures { result ≡ is_no_memory cause }
+{
+    matches!(cause, FormErr::NoMemory)
+}
 
 /// The timeline of a text over so many tiers, with at most so many columns. None where the text is no
 /// timeline's.
@@ -28,8 +35,12 @@ fn timeline_of(
 {
     match read_timeline(alloc, width, limit, text) {
         Ok(timeline) => Ok(Some(timeline)),
-        Err(FormErr::NoMemory) => Err(AnswerErr::NoMemory),
-        Err(_) => Ok(None),
+        Err(cause) => {
+            if is_no_memory(cause) {
+                return Err(AnswerErr::NoMemory);
+            }
+            Ok(None)
+        }
     }
 }
 
@@ -57,8 +68,8 @@ fn timeline_behind(
 /// What was read, or the cause of a line that has not the form.
 fn in_form(read: Option<Timeline>) -> Result<Timeline, AnswerCause>
     ensures { MatchResult result
-        (λ timeline. MatchOption read.entry ⊥ (λ each. each ≡ timeline))
-        (λ cause. (cause ≡ BadLine) × MatchOption read.entry (Unit {0}) (λ each. ⊥)) }
+        (λ timeline. MatchOption read ⊥ (λ each. each ≡ timeline))
+        (λ cause. (cause ≡ BadLine) × MatchOption read (Unit {0}) (λ each. ⊥)) }
 {
     match read {
         Some(timeline) => Ok(timeline),

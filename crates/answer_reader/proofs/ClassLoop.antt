@@ -9,7 +9,7 @@ use Rattle.answer_reader.proofs.Sets.{decoded_is_front}
 abbrev pub behind_sets : List ℕ → Option (List ℕ) → Option (List ℕ)
 behind_sets sets more = option_map (λ xs. sets ++ xs) more
 
-set_more : (sets : List ℕ) (x : ℕ) (o : Option (List ℕ)) → behind_sets sets (option_map (λ xs. x ∷ xs) o) ≡ behind_sets (sets ++ x ∷ []) o
+pub set_more : (sets : List ℕ) (x : ℕ) (o : Option (List ℕ)) → behind_sets sets (option_map (λ xs. x ∷ xs) o) ≡ behind_sets (sets ++ x ∷ []) o
 set_more sets x None = refl
 set_more sets x (Some xs) = ap (λ (ys : List ℕ). let r : Option (List ℕ) = Some ys in r) (sym (append_assoc sets (x ∷ []) xs))
 

@@ -12,3 +12,4 @@ pub mod StageValues
 pub mod StageLoops
 pub mod StateLoops
 pub mod Timelines
+pub mod CountWords

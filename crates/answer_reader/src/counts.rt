@@ -94,6 +94,7 @@ pub(crate) fn read_counts_line(
     constraints: usize,
 ) -> Result<Vec<u32>, AnswerErr>
     ensures takes { Takes (counts_of constraints) numbers_seen lines.old lines.new result }
+    ensures one_each { IfOk result (λ counts. length counts.items ≡ constraints) }
     ensures within { IfOk result (λ counts. All (λ n. n ≤ 1000000000) counts.items) }
 {
     let number = lines.number;

@@ -13,3 +13,4 @@ pub mod StageLoops
 pub mod StateLoops
 pub mod Timelines
 pub mod CountWords
+pub mod HeadSteps

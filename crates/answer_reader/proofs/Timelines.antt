@@ -1,7 +1,7 @@
 -- The timeline of a text, found by tests, is the one whose text it is.
 use Rattle.std.proofs.Common.{◌≡◌, ◌≢◌, ℕ, zero, suc, ◌<◌, ◌≤◌, ◌&&◌, Bool, true, false, cond, nat_lt, List, [], ◌∷◌, length, codes, Option, Some, None, option_and_then, Result, Ok, Err, refl, ap, sym, ◌∙◌, subst, arith, ⊎_elim}
 use Rattle.std.specs.Option.{ok_or, MatchOption}
-use Rattle.std.specs.Result.{MatchResult}
+use Rattle.std.specs.Result.{MatchResult, IfOk}
 use Rattle.std.specs.Str.{bytes_eq}
 use Rattle.std.proofs.lemmas.Bool.{false≢true, and_parts, and_from, cases_lt}
 use Rattle.std.proofs.lemmas.Bool.Decides.{nat_tests}
@@ -21,6 +21,7 @@ use Rattle.timeline_text.proofs.Deciding.{not_the_word, the_word, bad_symbol_is,
 use Rattle.timeline_text.proofs.Searches.{by_test, by_option}
 use Rattle.answer_reader.specs.declared.answer_err.AnswerCause.{AnswerCause}
 use Rattle.answer_reader.specs.declared.answer_err.AnswerCause.TheVariants.{BadLine}
+use Rattle.answer_reader.specs.declared.answer_err.AnswerErr.{AnswerErr}
 use Rattle.answer_reader.specs.Cuts.{behind}
 use Rattle.answer_reader.specs.Timelines.{is_drawn, are_drawn, unless, timeline_of, is_no_memory, timeline_said}
 
@@ -141,3 +142,20 @@ said_of word width limit line text (Some T) b r = ap (λ o. ok_or (option_and_th
 
 pub said_not : (word : List ℕ) (width limit : ℕ) (line : List ℕ) → behind word line ≡ None → timeline_said word width limit line ≡ Err BadLine
 said_not word width limit line b = ap (λ o. ok_or (option_and_then (timeline_of width limit) o) BadLine) b
+
+said_at : (width limit : ℕ) (o : Option (List ℕ)) (T : List (List Sym)) → ok_or (option_and_then (timeline_of width limit) o) BadLine ≡ Ok T → IsTextOf width limit (text_of T) T
+said_at width limit None T h = absurd (let n : ⊥ = cc in n)
+said_at width limit (Some text) T h = by (timeline_of width limit text) refl h
+  where
+    by : (r : Option (List (List Sym))) → timeline_of width limit text ≡ r → ok_or r BadLine ≡ Ok T → IsTextOf width limit (text_of T) T
+    by None is g = absurd (let n : ⊥ = cc in n)
+    by (Some U) is g =
+        let same : U ≡ T = cc in
+        let t = timeline_is width limit text U is in
+        subst (λ (V : List (List Sym)). IsTextOf width limit (text_of V) V) same (record { text = refl; form = t.form; reduced = t.reduced; within = t.within })
+
+-- what is read is within the limits
+pub read_within : (word : List ℕ) (width limit : ℕ) (line : List ℕ) (said : Result (List (List Sym)) AnswerCause) (result : Result (List (List Sym)) AnswerErr) (cause : AnswerCause → AnswerErr)
+    → SaysTimeline word width limit line said → MatchResult said (λ T. result ≡ Ok T) (λ c. result ≡ Err (cause c)) → IfOk result (λ T. IsTextOf width limit (text_of T) T)
+read_within word width limit line (Ok T) result cause h r = subst (λ x. IfOk x (λ V. IsTextOf width limit (text_of V) V)) (sym r) (said_at width limit (behind word line) T h)
+read_within word width limit line (Err c) result cause h r = subst (λ x. IfOk x (λ V. IsTextOf width limit (text_of V) V)) (sym r) tt

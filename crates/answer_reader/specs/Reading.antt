@@ -41,11 +41,14 @@ states_behind shape head read = and_then (answer_with head read) (states_from sh
 abbrev pub stages_behind : Shape → HeadValue → ℕ → List (List ℕ) → Result AnswerValue At
 stages_behind shape head n lines = and_then (states_behind shape head) (stages_from shape (length head.form) (behind_stages []) n lines)
 
+-- the lines behind the form
+abbrev pub behind_form : Shape → List (List Sym) → ℕ → List (List ℕ) → Result AnswerValue At
+behind_form shape form = line_then (counts_of (constraint_count shape)) (λ counts. line_then (example_of shape)
+    (λ example. stages_behind shape (record { form = form; counts = counts; example = example })))
+
 -- the lines from the header on
 abbrev pub answer_from : Shape → ℕ → List (List ℕ) → Result AnswerValue At
-answer_from shape =
-    line_then header_of (λ header. line_then (form_of shape) (λ form. line_then (counts_of (constraint_count shape)) (λ counts. line_then (example_of shape)
-    (λ example. stages_behind shape (record { form = form; counts = counts; example = example })))))
+answer_from shape = line_then header_of (λ header. line_then (form_of shape) (behind_form shape))
 
 -- what a text says, where the grammar has this shape
 abbrev pub answer_of : Shape → List ℕ → Result AnswerValue At

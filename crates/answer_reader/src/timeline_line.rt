@@ -3,7 +3,7 @@ ghost use Rattle.answer_reader.specs.declared.answer_err.AnswerErr.TheVariants.{
 ghost use Rattle.answer_reader.specs.declared.answer_err.AnswerCause.TheVariants.{BadLine};
 ghost use Rattle.answer_reader.specs.Left.{Takes};
 ghost use Rattle.answer_reader.specs.Timelines.{is_no_memory, timeline_of, timeline_said};
-ghost use Rattle.tier_core.specs.declared.sym.Sym.{Sym};
+ghost use Rattle.timeline_text.specs.Texts.{IsTextOf, text_of};
 
 use crate::answer_err::{AnswerCause, AnswerErr};
 use crate::cut::behind;
@@ -87,7 +87,8 @@ pub(crate) fn read_timeline_line(
 ) -> Result<Timeline, AnswerErr>
     requires some { 1 ≤ width }
     requires few { width ≤ 12 }
-    ensures { Takes (timeline_said word.now width limit) (λ T. T) lines.old lines.new result }
+    ensures takes { Takes (timeline_said word.now width limit) (λ T. T) lines.old lines.new result }
+    ensures within { IfOk result (λ T. IsTextOf width limit (text_of T) T) }
 {
     let number = lines.number;
     let line = lines.next_line()?;

@@ -14,3 +14,4 @@ pub mod StateLoops
 pub mod Timelines
 pub mod CountWords
 pub mod HeadSteps
+pub mod Whole

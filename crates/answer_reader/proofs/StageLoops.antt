@@ -63,9 +63,9 @@ module _ (shape : Shape) (columns : ℕ) (stages : List Stage) (nodes : List Nod
       → Fails e (stages_from shape columns (with_nodes values count []) old.number (lines_left old))
   node_refused count left old now new e one is t =
       fails_from e (stages_from shape columns (with_nodes values count []) old.number (lines_left old))
-          (line_then (next_node shape columns (length stages) node_values) (λ node. stages_from shape columns (with_nodes values more (node_values ++ node ∷ []))) now.number (lines_left now))
-          (is.goes_on ∙ ap (λ k. stages_from shape columns (with_nodes values k node_values) now.number (lines_left now)) one ∙ node_here now.number (lines_left now))
-          (takes_fails (next_node shape columns (length stages) node_values) (node_value shape (length stages)) (λ x. stages_from shape columns (with_nodes values more (node_values ++ x ∷ []))) now new e t)
+      (line_then (next_node shape columns (length stages) node_values) (λ node. stages_from shape columns (with_nodes values more (node_values ++ node ∷ []))) now.number (lines_left now))
+      (is.goes_on ∙ ap (λ k. stages_from shape columns (with_nodes values k node_values) now.number (lines_left now)) one ∙ node_here now.number (lines_left now))
+      (takes_fails (next_node shape columns (length stages) node_values) (node_value shape (length stages)) (λ x. stages_from shape columns (with_nodes values more (node_values ++ x ∷ []))) now new e t)
 
 module _ (shape : Shape) (columns : ℕ) (stages : List Stage) (old : Lines) where
   abbrev stages_before : List (List NodeValue)
@@ -91,7 +91,7 @@ module _ (shape : Shape) (columns : ℕ) (stages : List Stage) (old : Lines) whe
       → Takes (stage_of (length shape.phases.items) (length stages)) (λ (n : ℕ). n) old new (Err e) → Fails e FromHere
   stage_refused new e h t =
       fails_from e FromHere (line_then (stage_of (length shape.phases.items) (length stages)) (λ nodes. stages_from shape columns (with_nodes stages_before nodes [])) old.number (lines_left old)) (stage_here h)
-          (takes_fails (stage_of (length shape.phases.items) (length stages)) (λ (n : ℕ). n) (λ nodes. stages_from shape columns (with_nodes stages_before nodes [])) old new e t)
+      (takes_fails (stage_of (length shape.phases.items) (length stages)) (λ (n : ℕ). n) (λ nodes. stages_from shape columns (with_nodes stages_before nodes [])) old new e t)
 
   automaton_here : (not (is_empty stages) && begins (codes "automaton ") old.rest.now) ≡ true
       → FromHere ≡ line_then (automaton_of (length (last_nodes stages))) (λ states n left. stages_read stages_before n left states) old.number (lines_left old)
@@ -107,7 +107,7 @@ module _ (shape : Shape) (columns : ℕ) (stages : List Stage) (old : Lines) whe
       automaton_here h ∙ takes_on (automaton_of (length (last_nodes stages))) (λ (n : ℕ). n) (λ states n left. stages_read stages_before n left states) old new states t
   automaton_read new (Err e) h t =
       fails_from e FromHere (line_then (automaton_of (length (last_nodes stages))) (λ states n left. stages_read stages_before n left states) old.number (lines_left old)) (automaton_here h)
-          (takes_fails (automaton_of (length (last_nodes stages))) (λ (n : ℕ). n) (λ states n left. stages_read stages_before n left states) old new e t)
+      (takes_fails (automaton_of (length (last_nodes stages))) (λ (n : ℕ). n) (λ states n left. stages_read stages_before n left states) old new e t)
 
 -- how many stages there may be, as the code counts them
 pub stage_limit : (shape : Shape) (n : ℕ) → n ≡ vec_len shape.phases → n ≡ length shape.phases.items
@@ -125,7 +125,7 @@ none_behind shape columns old = record { goes_on = refl; readable = λ r l. absu
 
 pub one_behind : (shape : Shape) (columns : ℕ) (old now new : Lines) (stages : List Stage) (stage : Stage) → AreBehind shape columns old now stages
     → stages_from shape columns (behind_stages (stage_values shape 0 stages)) now.number (lines_left now)
-      ≡ stages_from shape columns (behind_stages (stage_values shape 0 stages ++ map (node_value shape (length stages)) stage.nodes.items ∷ [])) new.number (lines_left new)
+    ≡ stages_from shape columns (behind_stages (stage_values shape 0 stages ++ map (node_value shape (length stages)) stage.nodes.items ∷ [])) new.number (lines_left new)
     → IsReadableStage shape (length stages) stage.nodes.items → length stages < length shape.phases.items
     → AreBehind shape columns old new (stages ++ stage ∷ [])
 one_behind shape columns old now new stages stage are on is l = record {

@@ -30,7 +30,7 @@ use Rattle.answer_reader.proofs.StateSteps.{state_next, end_next, arc_next, arcs
 pub record AreArcs (width nodes : ℕ) (old now : Lines) (arcs : List ArcLine) : Type 0 where
   pub goes_on : (more : ℕ) (states : List StateValue) (state : ℕ × Bool)
       → states_from width nodes (in_state more states (bare_state state)) old.number (lines_left old)
-        ≡ states_from width nodes (in_state more states (with_arcs state (map arc_value arcs))) now.number (lines_left now)
+      ≡ states_from width nodes (in_state more states (with_arcs state (map arc_value arcs))) now.number (lines_left now)
   pub readable : All (IsReadableArc width nodes) arcs
 
 module _ (width nodes : ℕ) (arcs : List ArcLine) (now : Lines) where
@@ -42,7 +42,7 @@ module _ (width nodes : ℕ) (arcs : List ArcLine) (now : Lines) where
 
   arc_here : (more : ℕ) (states : List StateValue) (state : ℕ × Bool) → begins (codes "arc ") now.rest.now ≡ true
       → states_from width nodes (in_state more states (with_arcs state arc_values)) now.number (lines_left now)
-        ≡ line_then (next_arc width nodes arc_values) (arc_of_state more states state) now.number (lines_left now)
+      ≡ line_then (next_arc width nodes arc_values) (arc_of_state more states state) now.number (lines_left now)
   arc_here more states state h = arc_next width nodes more states (with_arcs state arc_values) now.number now.rest.now h
 
   pub arc_read : (old new : Lines) (arc : ArcLine) → AreArcs width nodes old now arcs → begins (codes "arc ") now.rest.now ≡ true
@@ -60,14 +60,14 @@ module _ (width nodes : ℕ) (arcs : List ArcLine) (now : Lines) where
       → Fails e (states_from width nodes (in_state more states (bare_state state)) old.number (lines_left old))
   arc_refused old new e are h t more states state =
       fails_from e (states_from width nodes (in_state more states (bare_state state)) old.number (lines_left old))
-          (line_then (next_arc width nodes arc_values) (arc_of_state more states state) now.number (lines_left now))
-          (are.goes_on more states state ∙ arc_here more states state h)
-          (takes_fails (next_arc width nodes arc_values) arc_value (arc_of_state more states state) now new e t)
+      (line_then (next_arc width nodes arc_values) (arc_of_state more states state) now.number (lines_left now))
+      (are.goes_on more states state ∙ arc_here more states state h)
+      (takes_fails (next_arc width nodes arc_values) arc_value (arc_of_state more states state) now new e t)
 
   pub arcs_read : (old : Lines) → AreArcs width nodes old now arcs → begins (codes "arc ") now.rest.now ≡ false
       → (more : ℕ) (states : List StateValue) (state : ℕ × Bool)
       → states_from width nodes (in_state more states (bare_state state)) old.number (lines_left old)
-        ≡ states_from width nodes (behind_states more (states ++ with_arcs state arc_values ∷ [])) now.number (lines_left now)
+      ≡ states_from width nodes (behind_states more (states ++ with_arcs state arc_values ∷ [])) now.number (lines_left now)
   arcs_read old are h more states state = are.goes_on more states state ∙ arcs_end width nodes more states (with_arcs state arc_values) now.number now.rest.now h
 
 -- a state and its arcs
@@ -82,9 +82,9 @@ module _ (width nodes : ℕ) (states : List StateValue) (more : ℕ) (old mid : 
       → Fails e (states_from width nodes (behind_states (suc more) states) old.number (lines_left old))
   state_refused e t =
       fails_from e (states_from width nodes (behind_states (suc more) states) old.number (lines_left old))
-          (line_then (next_state nodes states) (λ x. states_from width nodes (in_state more states x)) old.number (lines_left old))
-          (state_next width nodes more states old.number (lines_left old))
-          (takes_fails (next_state nodes states) bare_state (λ x. states_from width nodes (in_state more states x)) old mid e t)
+      (line_then (next_state nodes states) (λ x. states_from width nodes (in_state more states x)) old.number (lines_left old))
+      (state_next width nodes more states old.number (lines_left old))
+      (takes_fails (next_state nodes states) bare_state (λ x. states_from width nodes (in_state more states x)) old mid e t)
 
 -- the end
 module _ (width nodes : ℕ) (states : List StateValue) (old mid : Lines) where
@@ -96,7 +96,7 @@ module _ (width nodes : ℕ) (states : List StateValue) (old mid : Lines) where
       → Fails e (states_from width nodes (behind_states 0 states) old.number (lines_left old))
   end_refused e t =
       fails_from e (states_from width nodes (behind_states 0 states) old.number (lines_left old)) (line_then end_of (λ done. at_end states) old.number (lines_left old))
-          (end_next width nodes states old.number (lines_left old)) (takes_fails end_of (λ (x : Unit {0}). tt) (λ done. at_end states) old mid e t)
+      (end_next width nodes states old.number (lines_left old)) (takes_fails end_of (λ (x : Unit {0}). tt) (λ done. at_end states) old mid e t)
 
   pub end_whole : (u : Unit {0}) (result : Result (Unit {0}) AnswerErr) → Takes end_of (λ (x : Unit {0}). tt) old mid (Ok u)
       → MatchResult result (λ done. lines_left mid ≡ [] ∷ []) (λ e. (states : List StateValue) → Fails e (at_end states mid.number (lines_left mid)))
@@ -169,7 +169,7 @@ states_start width nodes count left old states e none = subst (AreStates width n
 
 pub one_read : (width nodes count left more : ℕ) (old now new : Lines) (states : List StateLine) (state : StateLine) → left ≡ suc more → AreStates width nodes count old now left states
     → states_from width nodes (behind_states (suc more) (map state_value states)) now.number (lines_left now)
-      ≡ states_from width nodes (behind_states more (map state_value states ++ state_value state ∷ [])) new.number (lines_left new)
+    ≡ states_from width nodes (behind_states more (map state_value states ++ state_value state ∷ [])) new.number (lines_left new)
     → follows state_less (map state_value states) (state_value state) ≡ true → IsReadableState width nodes state
     → AreStates width nodes count old new more (states ++ state ∷ [])
 one_read width nodes count left more old now new states state one are on f is = record {
@@ -183,7 +183,7 @@ pub one_refused : (width nodes count left more : ℕ) (old now : Lines) (states 
     → Fails e (states_from width nodes (behind_states count []) old.number (lines_left old))
 one_refused width nodes count left more old now states e one are f =
     fails_from e (states_from width nodes (behind_states count []) old.number (lines_left old)) (states_from width nodes (behind_states (suc more) (map state_value states)) now.number (lines_left now))
-        (are.goes_on ∙ ap (λ k. states_from width nodes (behind_states k (map state_value states)) now.number (lines_left now)) one) f
+    (are.goes_on ∙ ap (λ k. states_from width nodes (behind_states k (map state_value states)) now.number (lines_left now)) one) f
 
 pub none_left : (width nodes count left : ℕ) (old now : Lines) (states : List StateLine) → left ≡ 0 → AreStates width nodes count old now left states
     → states_from width nodes (behind_states count []) old.number (lines_left old) ≡ states_from width nodes (behind_states 0 (map state_value states)) now.number (lines_left now)

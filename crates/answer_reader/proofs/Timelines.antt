@@ -99,7 +99,7 @@ module _ (width limit : ℕ) (bytes : List ℕ) where
       let a : bad_symbol bytes ≡ None = by_option (bad_symbol bytes) (λ at h. absurd (not_both width limit bytes (column ∷ T) _ t (bad_symbol_is width limit bytes other at h))) (λ e. e) in
       let b : wrong_width width bytes ≡ None = by_option (wrong_width width bytes) (λ k h. absurd (not_both width limit bytes (column ∷ T) _ t (wrong_width_is width limit bytes other k a h))) (λ e. e) in
       let c : nat_lt limit (length (pieces_of bytes)) ≡ false = by_test (nat_lt limit (length (pieces_of bytes)))
-          (λ h. absurd (not_both width limit bytes (column ∷ T) _ t (too_long_is width limit bytes other a b (grind (arith, nat_tests))))) (λ e. e) in
+      (λ h. absurd (not_both width limit bytes (column ∷ T) _ t (too_long_is width limit bytes other a b (grind (arith, nat_tests))))) (λ e. e) in
       let few : length (pieces_of bytes) ≤ limit = grind (arith, nat_tests) in
       let same : columns_of bytes ≡ column ∷ T = ap columns_of t.text ∙ columns_back column T in
       let words : (k : ℕ) → k < width → IsWellFormedWord (word (columns_of bytes) k) = λ k l. subst (λ (U : List (List Sym)). IsWellFormedWord (word U k)) (sym same) (t.form.each_tier k l) in

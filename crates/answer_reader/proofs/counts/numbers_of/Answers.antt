@@ -27,7 +27,7 @@ loop-word-preserved c =
       read = subst (AreNumbers 1000000001 (slice_split is_space c.args.text.now) (length (c.loop-word.yielded ++ c.in-Some.word ∷ []))) (sym c.in_ok-push.ensures.items)
           (subst (λ (k : ℕ). AreNumbers 1000000001 (slice_split is_space c.args.text.now) k (c.loop-word.numbers.items ++ c.in-Some-number_below.number ∷ [])) one
           (number_read 1000000001 (slice_split is_space c.args.text.now) (length c.loop-word.yielded) c.loop-word.numbers.items c.in-Some.word.now c.in-Some-number_below.number
-              c.loop-word.invariant.read t.0 t.1 c.in-Some-number_below.ensures.number));
+          c.loop-word.invariant.read t.0 t.1 c.in-Some-number_below.ensures.number));
       within = subst (All (λ n. n ≤ 1000000000)) (sym c.in_ok-push.ensures.items)
           (All-push (λ n. n ≤ 1000000000) c.loop-word.numbers.items c.in-Some-number_below.number c.loop-word.invariant.within (omega (arith, c.in-Some-number_below.ensures.below)));
     }

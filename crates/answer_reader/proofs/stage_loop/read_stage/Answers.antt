@@ -13,7 +13,7 @@ pub returns-in_err-nodes-clause-goes_on : goal.returns-in_err-nodes-clause-goes_
 returns-in_err-nodes-clause-goes_on c =
     let p = err_from_is_err_and c.from_residual-in_err-nodes.result c.from_residual-in_err-nodes.ensures.1 in
     rw (p.1, p.2) (fails_from c.in_err-nodes.field-0.0 (FromHere c.args.shape.now c.args.columns c.args.stages.now c.args.lines.now) _
-        (stage_read c.args.shape.now c.args.columns c.args.stages.now c.args.lines.now c.read_stage_line.new.lines c.in_ok-count.count c.requires.other (rw (stage_limit c.args.shape.now c.len.result c.len.ensures) at c.in_ok-count.ensures.takes)) c.in_err-nodes.ensures.goes_on)
+    (stage_read c.args.shape.now c.args.columns c.args.stages.now c.args.lines.now c.read_stage_line.new.lines c.in_ok-count.count c.requires.other (rw (stage_limit c.args.shape.now c.len.result c.len.ensures) at c.in_ok-count.ensures.takes)) c.in_err-nodes.ensures.goes_on)
 
 pub returns-clause-goes_on : goal.returns-clause-goes_on
 returns-clause-goes_on c =

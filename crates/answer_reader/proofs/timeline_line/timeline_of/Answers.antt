@@ -8,4 +8,4 @@ returns-in-Ok-clause-ok c = sym (timeline_for c.args.width c.args.limit c.args.t
 pub returns-else-is_no_memory-clause-ok : goal.returns-else-is_no_memory-clause-ok
 returns-else-is_no_memory-clause-ok c =
     sym (no_timeline c.args.width c.args.limit c.args.text.now c.in-Err.cause
-        (c.in-Err.ensures.err (other_cause c.in-Err.cause (sym c.is_no_memory.ensures ∙ c.if-is_no_memory.false))))
+    (c.in-Err.ensures.err (other_cause c.in-Err.cause (sym c.is_no_memory.ensures ∙ c.if-is_no_memory.false))))

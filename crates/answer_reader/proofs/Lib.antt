@@ -15,3 +15,4 @@ pub mod Timelines
 pub mod CountWords
 pub mod HeadSteps
 pub mod Whole
+pub mod Readings

@@ -1,5 +1,5 @@
 -- A text is read as the value of an answer, or it has a first line with a cause.
-use Rattle.std.specs.Prelude.{◌≡◌, ℕ, ◌-◌, List, [], length, codes, Result, Ok, Err}
+use Rattle.std.specs.Prelude.{◌≡◌, ◌⊎◌, ℕ, ◌-◌, List, [], length, codes, Result, Ok, Err}
 use Rattle.tier_core.specs.declared.sym.Sym.{Sym}
 use Rattle.tier_core.specs.declared.shape.Shape.{Shape}
 use Rattle.tier_core.specs.Shapes.{input_count}
@@ -61,3 +61,7 @@ IsTextOf shape bytes value = answer_of shape bytes ≡ Ok value
 -- this line is the first of a text that has a cause, and this is its first cause
 abbrev pub IsFirstCause : Shape → List ℕ → ℕ → AnswerCause → Type 0
 IsFirstCause shape bytes line cause = answer_of shape bytes ≡ Err (at line cause)
+
+-- a text is that of a value, or it has a first cause
+abbrev pub HasReading : Shape → List ℕ → Type 0
+HasReading shape bytes = ((value : AnswerValue) × IsTextOf shape bytes value) ⊎ ((line : ℕ) × ((cause : AnswerCause) × IsFirstCause shape bytes line cause))

@@ -16,3 +16,6 @@ pub mod CountWords
 pub mod HeadSteps
 pub mod Whole
 pub mod Readings
+pub mod Decimals
+pub mod WrittenWords
+pub mod WrittenLines

@@ -18,11 +18,11 @@ use Rattle.answer_reader.specs.Decoding.{with_symbol, symbols_from, has_two, clo
 pub begins_split : (front bytes : List ℕ) → begins front bytes ≡ true → bytes ≡ front ++ drop (length front) bytes
 begins_split front bytes h = sym (take-append-drop (length front) bytes) ∙ ap (λ f. f ++ drop (length front) bytes) ((bytes_eq-Decides (take (length front) bytes) front).0 h)
 
-take_front : (front rest : List ℕ) → take (length front) (front ++ rest) ≡ front
+pub take_front : (front rest : List ℕ) → take (length front) (front ++ rest) ≡ front
 take_front [] rest = refl
 take_front (b ∷ front) rest = ap (λ xs. b ∷ xs) (take_front front rest)
 
-drop_front : (front rest : List ℕ) → drop (length front) (front ++ rest) ≡ rest
+pub drop_front : (front rest : List ℕ) → drop (length front) (front ++ rest) ≡ rest
 drop_front [] rest = refl
 drop_front (b ∷ front) rest = drop_front front rest
 
@@ -31,10 +31,10 @@ begins_front front rest = (bytes_eq-Decides (take (length front) (front ++ rest)
 
 -- ---- each text of a set is decoded as that set
 
-abbrev IsDecoded : ℕ → Type 0
+abbrev pub IsDecoded : ℕ → Type 0
 IsDecoded set = (rest : List ℕ) → decoded (set_text set ++ rest) ≡ Some (set, rest)
 
-each_decoded : AllByRecursion IsDecoded (range_with_len 1 31)
+pub each_decoded : AllByRecursion IsDecoded (range_with_len 1 31)
 each_decoded = (λ rest. refl, (λ rest. refl, (λ rest. refl, (λ rest. refl, (λ rest. refl, (λ rest. refl, (λ rest. refl, (λ rest. refl, (λ rest. refl, (λ rest. refl, (λ rest. refl, (λ rest. refl, (λ rest. refl, (λ rest. refl, (λ rest. refl, (λ rest. refl, (λ rest. refl, (λ rest. refl, (λ rest. refl, (λ rest. refl, (λ rest. refl, (λ rest. refl, (λ rest. refl, (λ rest. refl, (λ rest. refl, (λ rest. refl, (λ rest. refl, (λ rest. refl, (λ rest. refl, (λ rest. refl, (λ rest. refl, tt)))))))))))))))))))))))))))))))
 
 -- ---- the first number that passes

@@ -17,3 +17,4 @@ pub mod Within
 pub mod Timelines
 pub mod Reading
 pub mod Heads
+pub mod Written

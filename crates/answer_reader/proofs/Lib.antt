@@ -19,3 +19,5 @@ pub mod Readings
 pub mod Decimals
 pub mod WrittenWords
 pub mod WrittenLines
+pub mod WrittenFree
+pub mod WrittenStages

@@ -225,7 +225,7 @@ abbrev pub AreCounts : List ℕ → Type 0
 AreCounts [] = Unit {0}
 AreCounts (n ∷ ns) = (n ≤ 1000000000) × AreCounts ns
 
-large : (n : ℕ) → n ≤ 1000000000 → n < 2 ^ 64
+pub large : (n : ℕ) → n ≤ 1000000000 → n < 2 ^ 64
 large n l = omega arith
 
 words_of : (n : ℕ) (ns : List ℕ) → n ≤ 1000000000 → AreCounts ns → slice_split is_space (decimal n ++ spaced ns) ≡ decimal n ∷ map decimal ns

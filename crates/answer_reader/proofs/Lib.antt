@@ -21,3 +21,5 @@ pub mod WrittenWords
 pub mod WrittenLines
 pub mod WrittenFree
 pub mod WrittenStages
+pub mod WrittenStates
+pub mod WrittenAnswer

@@ -127,14 +127,13 @@ front_back set rest l u = sym (decoded_is_front (set_text set ++ rest)) ∙ in_r
 
 -- sets from 1 to 31
 abbrev pub AreFull : List ℕ → Type 0
-AreFull [] = Unit {0}
-AreFull (set ∷ sets) = (1 ≤ set) × ((set < 32) × AreFull sets)
+AreFull sets = AllByRecursion (λ set. (1 ≤ set) × (set < 32)) sets
 
 class_back : (sets : List ℕ) → AreFull sets → class_of (length sets) (class_text sets) ≡ Some sets
 class_back [] full = refl
 class_back (set ∷ sets) full =
-    ap (λ o. option_and_then (λ (front : ℕ × List ℕ). option_map (λ xs. front.0 ∷ xs) (class_of (length sets) front.1)) o) (front_back set (class_text sets) full.0 full.1.0)
-    ∙ ap (λ o. option_map (λ xs. set ∷ xs) o) (class_back sets full.1.1)
+    ap (λ o. option_and_then (λ (front : ℕ × List ℕ). option_map (λ xs. front.0 ∷ xs) (class_of (length sets) front.1)) o) (front_back set (class_text sets) full.0.0 full.0.1)
+    ∙ ap (λ o. option_map (λ xs. set ∷ xs) o) (class_back sets full.1)
 
 -- ---- arcs
 
@@ -222,8 +221,7 @@ whole_word p (w ∷ word) h =
 
 -- each is at most 1,000,000,000
 abbrev pub AreCounts : List ℕ → Type 0
-AreCounts [] = Unit {0}
-AreCounts (n ∷ ns) = (n ≤ 1000000000) × AreCounts ns
+AreCounts ns = AllByRecursion (λ n. n ≤ 1000000000) ns
 
 pub large : (n : ℕ) → n ≤ 1000000000 → n < 2 ^ 64
 large n l = omega arith

@@ -22,9 +22,9 @@ pub record AreOrderedNodes (shape : Shape) (columns r : ℕ) (nodes : List Node)
   pub places : All (λ node. node.kind.place ≤ columns) nodes
   pub ascending : IsStrictlySortedBy kind_order (map (λ node. kind_in shape r node.kind) nodes)
 
--- The arcs of a state ascend strictly, and no set of their classes is empty.
+-- The arcs of a state ascend strictly, and each set of their classes has a symbol: its number is 1 to 31.
 pub record AreOrderedArcs (state : StateLine) : Type 0 where
-  pub filled : All (λ arc. AllByRecursion (λ set. 1 ≤ set) (sets_of arc.class)) state.arcs.items
+  pub filled : All (λ arc. AllByRecursion (λ set. (1 ≤ set) × (set < 32)) (sets_of arc.class)) state.arcs.items
   pub ascending : IsStrictlySortedBy arc_cmp state.arcs.items
 
 -- An answer is orderly for a shape: it is within the limits of what is read; its form and its example are

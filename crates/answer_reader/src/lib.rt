@@ -6,8 +6,9 @@
 //!
 //! The definitions of `specs/` are the value of an answer (`Values`), what a line says apart from
 //! others (`Nodes`, `Classes`, `Timelines`, `Lines`), what the lines of stages and of states say one
-//! after the other (`Stages`, `States`), and what a whole text says (`Reading`). Each text has one
-//! reading: [`each_text_has_one_reading`].
+//! after the other (`Stages`, `States`), and what a whole text says (`Reading`). Each text has exactly
+//! one of a value and a first cause, and what `put_answer` writes of an orderly answer (`Written`) is
+//! read as that answer's value: [`each_text_has_one_reading`] and [`written_is_read_again`].
 #![tactic(auto)]
 
 mod answer_err;
@@ -34,4 +35,4 @@ mod timeline_line;
 
 pub use answer_err::{AnswerCause, AnswerErr};
 pub use read::read_answer;
-pub use reading::each_text_has_one_reading;
+pub use reading::{each_text_has_one_reading, written_is_read_again};

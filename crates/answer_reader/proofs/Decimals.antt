@@ -1,5 +1,5 @@
 -- Numbers as they are written, read again.
-use Rattle.std.proofs.Common.{◌≡◌, ℕ, zero, suc, ◌+◌, ◌-◌, ◌*◌, ◌/◌, ◌%◌, ◌^◌, ◌<◌, ◌≤◌, ◌==◌, ◌&&◌, ◌||◌, Bool, true, false, cond, nat_lt, List, [], ◌∷◌, ◌++◌, length, get_or, Option, Some, None, refl, ap, sym, ◌∙◌, arith, ne_eqb}
+use Rattle.std.proofs.Common.{◌≡◌, ℕ, ◌+◌, ◌-◌, ◌*◌, ◌%◌, ◌^◌, ◌<◌, ◌≤◌, ◌==◌, ◌||◌, true, false, cond, nat_lt, List, [], ◌∷◌, ◌++◌, length, get_or, Some, None, refl, ap, sym, ◌∙◌, arith, ne_eqb}
 use Rattle.std.specs.Fmt.{decimal}
 use Rattle.std.specs.List.{list_all, list_any}
 use Rattle.std.proofs.lemmas.Bool.{and_from, and_parts}
@@ -40,15 +40,15 @@ decimal_digits : (n : ℕ) → n < 2 ^ 64 → AreDigitsOf n (decimal n)
 decimal_digits = decimal_by_steps AreDigitsOf
     (λ n l. record { digits = and_from (is_digit (48 + n)) true (digit n l) refl; some = omega arith; value = omega arith; plain = refl; first = λ k. omega arith })
     (λ n ds ten is.
-      let f = is.first (omega arith) in
-      let size = length_push ds (48 + n % 10) in
-      record {
-        digits = list_all-append is_digit ds ((48 + n % 10) ∷ []) ∙ and_from (list_all is_digit ds) (list_all is_digit ((48 + n % 10) ∷ [])) is.digits (and_from (is_digit (48 + n % 10)) true (digit (n % 10) (omega arith)) refl);
-        some = omega arith;
-        value = value_push 0 ds (48 + n % 10) ∙ ap (λ v. v * 10 + (48 + n % 10 - 48)) is.value ∙ omega arith;
-        plain = still_plain ds (48 + n % 10) is.some f;
-        first = λ k. omega (arith, first_push ds (48 + n % 10) is.some, f);
-      })
+    let f = is.first (omega arith) in
+    let size = length_push ds (48 + n % 10) in
+    record {
+      digits = list_all-append is_digit ds ((48 + n % 10) ∷ []) ∙ and_from (list_all is_digit ds) (list_all is_digit ((48 + n % 10) ∷ [])) is.digits (and_from (is_digit (48 + n % 10)) true (digit (n % 10) (omega arith)) refl);
+      some = omega arith;
+      value = value_push 0 ds (48 + n % 10) ∙ ap (λ v. v * 10 + (48 + n % 10 - 48)) is.value ∙ omega arith;
+      plain = still_plain ds (48 + n % 10) is.some f;
+      first = λ k. omega (arith, first_push ds (48 + n % 10) is.some, f);
+    })
 
 -- a number is written as a run of digits
 pub run_decimal : (n : ℕ) → n < 2 ^ 64 → is_run (decimal n) ≡ true

@@ -1,5 +1,5 @@
 -- Each text has exactly one reading.
-use Rattle.std.proofs.Common.{◌≡◌, ◌⊎◌, inl, inr, ℕ, List, Result, Ok, Err, refl, ap, sym, ◌∙◌}
+use Rattle.std.proofs.Common.{◌≡◌, inl, inr, ℕ, List, Result, Ok, Err, refl, ap, sym, ◌∙◌}
 use Rattle.tier_core.specs.declared.shape.Shape.{Shape}
 use Rattle.answer_reader.specs.declared.answer_err.AnswerCause.{AnswerCause}
 use Rattle.answer_reader.specs.Reading.{answer_of, IsTextOf, IsFirstCause, HasReading}

@@ -1,11 +1,11 @@
 -- The lines of the states and their arcs, one by one.
-use Rattle.std.proofs.Common.{◌≡◌, ℕ, zero, suc, ◌+◌, ◌<◌, Bool, true, false, cond, List, [], ◌∷◌, ◌++◌, length, codes, Result, Ok, Err, refl, ap, sym, ◌∙◌, subst, arith}
+use Rattle.std.proofs.Common.{◌≡◌, ℕ, suc, ◌+◌, ◌<◌, true, false, cond, List, [], ◌∷◌, ◌++◌, length, codes, Result, Err, refl, ap, sym, ◌∙◌, arith}
 use Rattle.std.specs.List.{join_with_byte}
 use Rattle.std.proofs.lemmas.List.Splits.{join_with_byte-slice_split}
 use Rattle.answer_reader.specs.declared.answer_err.AnswerCause.TheVariants.{ExtraBytes}
 use Rattle.answer_reader.specs.Cuts.{lines_of, begins}
 use Rattle.answer_reader.specs.Lines.{end_of}
-use Rattle.answer_reader.specs.States.{StatePlace, behind_states, in_state, with_arc, next_state, next_arc, at_end, state_or_end, states_from}
+use Rattle.answer_reader.specs.States.{behind_states, in_state, with_arc, next_state, next_arc, at_end, state_or_end, states_from}
 use Rattle.answer_reader.specs.Steps.{At, at, go_on, line_then}
 use Rattle.answer_reader.specs.Values.{StateValue}
 use Rattle.answer_reader.proofs.Cutting.{begins_line}

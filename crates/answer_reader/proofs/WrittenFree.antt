@@ -1,7 +1,7 @@
 -- No line that is written has an end of a line in it.
-use Rattle.std.proofs.Common.{◌≡◌, ℕ, ◌+◌, ◌^◌, ◌<◌, ◌≤◌, ◌==◌, ◌||◌, not, Bool, true, false, cond, List, [], ◌∷◌, ◌++◌, length, map, filter, codes, refl, ap, sym, ◌∙◌, arith}
+use Rattle.std.proofs.Common.{◌≡◌, ℕ, ◌^◌, ◌<◌, ◌==◌, ◌||◌, Bool, true, false, cond, List, [], ◌∷◌, ◌++◌, length, map, filter, codes, refl, ap, ◌∙◌}
 use Rattle.std.specs.Fmt.{decimal}
-use Rattle.std.specs.List.{list_any, flat_map}
+use Rattle.std.specs.List.{list_any}
 use Rattle.std.proofs.lemmas.List.Folds.{list_any-append}
 use Rattle.tier_core.specs.declared.sym.Sym.{Sym}
 use Rattle.tier_core.specs.declared.sym.Sym.TheVariants.{Outside, Inside, Start, End, Both}
@@ -9,7 +9,7 @@ use Rattle.tier_core.specs.Kinds.{Phase, closed, unmet, met, PrefixKind}
 use Rattle.tier_core.specs.Sets.{is_in}
 use Rattle.tier_core.specs.Symbols.{byte_of, symbols}
 use Rattle.timeline_text.specs.Texts.{text_of}
-use Rattle.answer_text.specs.Text.{after_space, spaced, braced, set_text, class_text, open_byte, phase_byte, kind_text, final_mark, counts_line}
+use Rattle.answer_text.specs.Text.{after_space, spaced, set_text, class_text, open_byte, phase_byte, kind_text, final_mark, counts_line}
 use Rattle.answer_reader.specs.Cuts.{is_newline}
 use Rattle.answer_reader.proofs.Decimals.{decimal_without}
 use Rattle.answer_reader.proofs.WrittenLines.{AreCounts, large}
@@ -58,9 +58,9 @@ phases_free (met ∷ phases) = phases_free phases
 kind_free : (k : PrefixKind) → k.place < 2 ^ 64 → IsFree (kind_text k)
 kind_free k l =
     both_free (decimal k.place ++ codes "/" ++ map open_byte k.opened ++ codes "/") (map phase_byte k.phases)
-        (both_free (decimal k.place ++ codes "/" ++ map open_byte k.opened) (codes "/")
-            (both_free (decimal k.place ++ codes "/") (map open_byte k.opened) (both_free (decimal k.place) (codes "/") (decimal_free k.place l) refl) (opens_free k.opened)) refl)
-        (phases_free k.phases)
+    (both_free (decimal k.place ++ codes "/" ++ map open_byte k.opened) (codes "/")
+    (both_free (decimal k.place ++ codes "/") (map open_byte k.opened) (both_free (decimal k.place) (codes "/") (decimal_free k.place l) refl) (opens_free k.opened)) refl)
+    (phases_free k.phases)
 
 pub node_free : (k : PrefixKind) (potential : ℕ) → k.place < 2 ^ 64 → potential < 2 ^ 64 → IsFree (codes "node " ++ (kind_text k ++ after_space potential))
 node_free k potential l m = both_free (kind_text k) (after_space potential) (kind_free k l) (decimal_free potential m)
@@ -73,7 +73,7 @@ class_free : (sets : List ℕ) → IsFree (class_text sets)
 class_free [] = refl
 class_free (set ∷ sets) =
     both_free (set_text set) (class_text sets)
-        (set_free set (length (map byte_of (filter (is_in set) symbols)) == 1) (map byte_of (filter (is_in set) symbols)) (column_free (filter (is_in set) symbols))) (class_free sets)
+    (set_free set (length (map byte_of (filter (is_in set) symbols)) == 1) (map byte_of (filter (is_in set) symbols)) (column_free (filter (is_in set) symbols))) (class_free sets)
 
 pub arc_free : (target : ℕ) (sets : List ℕ) → target < 2 ^ 64 → IsFree (codes "arc " ++ (decimal target ++ codes " " ++ class_text sets))
 arc_free target sets l = both_free (decimal target ++ codes " ") (class_text sets) (both_free (decimal target) (codes " ") (decimal_free target l) refl) (class_free sets)

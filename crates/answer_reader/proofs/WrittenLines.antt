@@ -1,24 +1,21 @@
 -- Each line that is written says what was written.
-use Rattle.std.proofs.Common.{◌≡◌, ℕ, zero, suc, ◌+◌, ◌^◌, ◌<◌, ◌≤◌, ◌==◌, ◌&&◌, ◌||◌, Bool, true, false, cond, nat_lt, List, [], ◌∷◌, ◌++◌, length, map, codes, Option, Some, None, option_map, option_and_then, Result, Ok, Err, refl, ap, sym, ◌∙◌, subst, arith, append_assoc, not, append-nil, ⊎_elim}
+use Rattle.std.proofs.Common.{◌≡◌, ℕ, zero, suc, ◌+◌, ◌^◌, ◌<◌, ◌≤◌, ◌==◌, ◌&&◌, Bool, true, false, cond, nat_lt, List, [], ◌∷◌, ◌++◌, length, map, codes, Option, Some, None, option_map, option_and_then, Result, Ok, Err, refl, ap, sym, ◌∙◌, subst, arith, append_assoc, append-nil, ⊎_elim}
 use Rattle.std.specs.Fmt.{decimal}
-use Rattle.std.specs.List.{list_all, list_any, flat_map, slice_split, range_with_len, AllByRecursion, onto_first, position_or_len}
+use Rattle.std.specs.List.{list_all, list_any, slice_split, range_with_len, AllByRecursion, onto_first, position_or_len}
 use Rattle.std.specs.Option.{ok_or}
-use Rattle.std.specs.Str.{bytes_eq}
-use Rattle.std.proofs.lemmas.Bool.{and_from, or_parts, or_from, cases_lt}
+use Rattle.std.proofs.lemmas.Bool.{and_from, or_parts, cases_lt}
 use Rattle.std.proofs.lemmas.Bool.Decides.{nat_tests}
 use Rattle.std.proofs.lemmas.List.{length-map}
-use Rattle.std.proofs.lemmas.List.Folds.{list_any-append}
 use Rattle.tier_core.specs.Kinds.{Phase, closed, unmet, met, PrefixKind}
 use Rattle.answer_text.specs.Text.{after_space, spaced, set_text, class_text, open_byte, phase_byte, kind_text, final_mark, counts_line}
 use Rattle.answer_reader.specs.declared.answer_err.AnswerCause.{AnswerCause}
 use Rattle.answer_reader.specs.declared.answer_err.AnswerCause.TheVariants.{BadLine, BadNumber, BadClass}
 use Rattle.answer_reader.specs.Classes.{front_of, class_of}
-use Rattle.answer_reader.specs.Cuts.{is_space, parts_at, cut, behind}
-use Rattle.answer_reader.specs.Decoding.{decoded}
-use Rattle.answer_reader.specs.Lines.{counts_words, counts_said, counts_of, number_said, stage_words, stage_said, stage_of, is_number, automaton_of, StateWords, final_words, state_words, state_with, state_said, state_of, arc_words, arc_with, arc_to, arc_said, arc_of}
+use Rattle.answer_reader.specs.Cuts.{is_space, parts_at, cut}
+use Rattle.answer_reader.specs.Lines.{counts_words, counts_said, counts_of, number_said, stage_words, stage_said, stage_of, is_number, automaton_of, final_words, state_words, state_with, state_said, state_of, arc_words, arc_with, arc_to, arc_said, arc_of}
 use Rattle.answer_reader.specs.Nodes.{is_open_byte, is_phase_byte, phase_of, are_each, NodeWords, with_potential, node_words, are_node_words, node_by, node_with, node_said, node_of}
 use Rattle.answer_reader.specs.Numbers.{is_run, number_below, numbers_below}
-use Rattle.answer_reader.specs.Values.{NodeValue, ArcValue, StateValue}
+use Rattle.answer_reader.specs.Values.{NodeValue, ArcValue}
 use Rattle.answer_reader.proofs.Decimals.{run_decimal, number_decimal, decimal_without}
 use Rattle.answer_reader.proofs.Sets.{IsDecoded, each_decoded, decoded_is_front}
 use Rattle.answer_reader.proofs.WrittenWords.{behind_front, one_further, cut_word, split_word}
@@ -78,11 +75,11 @@ module _ (k : PrefixKind) (potential : ℕ) (small : k.place < 2 ^ 64) (less : p
   words_back : node_words (codes "node " ++ (kind_text k ++ after_space potential)) ≡ Some words
   words_back =
       ap (λ o. option_and_then (λ kind. option_and_then (λ p. option_and_then (λ q. option_map (with_potential p.0 q.0) (cut 32 q.1)) (cut 47 p.1)) (cut 47 kind)) o)
-          (behind_front (codes "node ") (kind_text k ++ after_space potential) ∙ ap (λ (xs : List ℕ). let r : Option (List ℕ) = Some xs in r) line_is)
+      (behind_front (codes "node ") (kind_text k ++ after_space potential) ∙ ap (λ (xs : List ℕ). let r : Option (List ℕ) = Some xs in r) line_is)
       ∙ ap (λ o. option_and_then (λ p. option_and_then (λ q. option_map (with_potential p.0 q.0) (cut 32 q.1)) (cut 47 p.1)) o)
-          (cut_word 47 (decimal k.place) (map open_byte k.opened ++ 47 ∷ (map phase_byte k.phases ++ 32 ∷ decimal potential)) refl (decimal_without 47 k.place refl small))
+      (cut_word 47 (decimal k.place) (map open_byte k.opened ++ 47 ∷ (map phase_byte k.phases ++ 32 ∷ decimal potential)) refl (decimal_without 47 k.place refl small))
       ∙ ap (λ o. option_and_then (λ (q : List ℕ × List ℕ). option_map (with_potential (decimal k.place) q.0) (cut 32 q.1)) o)
-          (cut_word 47 (map open_byte k.opened) (map phase_byte k.phases ++ 32 ∷ decimal potential) refl (opens_without k.opened))
+      (cut_word 47 (map open_byte k.opened) (map phase_byte k.phases ++ 32 ∷ decimal potential) refl (opens_without k.opened))
       ∙ ap (λ o. option_map (with_potential (decimal k.place) (map open_byte k.opened)) o) (cut_word 32 (map phase_byte k.phases) (decimal potential) refl (phases_without k.phases))
 
   words_pass : (free stretches : ℕ) → length k.opened ≡ free → length k.phases ≡ stretches → are_node_words free stretches words ≡ true
@@ -197,10 +194,10 @@ automaton_back nodes states l small =
 pub stage_back : (stages next count : ℕ) → next < stages → stages ≤ 25 → count ≤ 65536 → stage_of stages next (codes "stage " ++ (decimal next ++ 32 ∷ decimal count)) ≡ Ok count
 stage_back stages next count l few m =
     let w : stage_words (codes "stage " ++ (decimal next ++ 32 ∷ decimal count)) ≡ Some (decimal next, decimal count) =
-        ap (option_and_then (cut 32)) (behind_front (codes "stage ") (decimal next ++ 32 ∷ decimal count)) ∙ cut_word 32 (decimal next) (decimal count) refl (decimal_without 32 next refl small_next) in
+    ap (option_and_then (cut 32)) (behind_front (codes "stage ") (decimal next ++ 32 ∷ decimal count)) ∙ cut_word 32 (decimal next) (decimal count) refl (decimal_without 32 next refl small_next) in
     ap (stage_said stages next) w
     ∙ ap (λ t. cond t (cond (is_number next (number_below stages (decimal next))) (ok_or (number_below 65537 (decimal count)) BadNumber) (Err BadNumber)) (Err BadLine))
-        (and_from (is_run (decimal next)) (is_run (decimal count)) (run_decimal next small_next) (run_decimal count small_count))
+    (and_from (is_run (decimal next)) (is_run (decimal count)) (run_decimal next small_next) (run_decimal count small_count))
     ∙ ap (λ o. cond (is_number next o) (ok_or (number_below 65537 (decimal count)) BadNumber) (Err BadNumber)) (number_decimal stages next l small_next)
     ∙ ap (λ t. cond t (ok_or (number_below 65537 (decimal count)) BadNumber) (Err BadNumber)) (same_number next)
     ∙ ap (λ o. ok_or o BadNumber) (number_decimal 65537 count (omega arith) small_count)
@@ -250,5 +247,5 @@ pub counts_back : (constraints : ℕ) (ns : List ℕ) → length ns ≡ constrai
 counts_back constraints ns l are =
     ap (counts_said constraints) (counts_words_back ns are)
     ∙ ap (λ t. cond t (ok_or (numbers_below 1000000001 (map decimal ns)) BadNumber) (Err BadLine))
-        (and_from (length (map decimal ns) == constraints) (list_all is_run (map decimal ns)) (ap (λ k. k == constraints) (length-map ns decimal ∙ l) ∙ same_number constraints) (all_runs ns are))
+    (and_from (length (map decimal ns) == constraints) (list_all is_run (map decimal ns)) (ap (λ k. k == constraints) (length-map ns decimal ∙ l) ∙ same_number constraints) (all_runs ns are))
     ∙ ap (λ o. ok_or o BadNumber) (all_numbers ns are)

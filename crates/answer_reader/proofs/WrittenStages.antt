@@ -1,19 +1,16 @@
 -- The lines of the stages, as they are written, are read as the stages.
-use Rattle.std.proofs.Common.{◌≡◌, ℕ, zero, suc, ◌+◌, ◌<◌, ◌≤◌, ◌&&◌, not, Bool, true, false, cond, List, [], ◌∷◌, ◌++◌, length, map, codes, Result, Ok, Err, refl, ap, sym, ◌∙◌, subst, arith, append_assoc, append-nil}
+use Rattle.std.proofs.Common.{◌≡◌, ℕ, ◌+◌, ◌<◌, Bool, true, false, cond, List, [], ◌∷◌, ◌++◌, length, map, codes, Result, Ok, Err, refl, ap, sym, ◌∙◌, arith, append_assoc, append-nil}
 use Rattle.std.specs.List.Sorted.{IsStrictlySortedBy}
 use Rattle.std.specs.Ordering.{is_lt}
 use Rattle.std.specs.declared.cmp.Ordering.{Ordering}
-use Rattle.std.specs.declared.cmp.Ordering.TheVariants.{Less}
-use Rattle.std.specs.Fmt.{decimal}
 use Rattle.tier_core.specs.declared.shape.Shape.{Shape}
 use Rattle.tier_core.specs.KindShapes.{free_count, stretch_count}
 use Rattle.answer_reader.specs.declared.answer_err.AnswerCause.{AnswerCause}
 use Rattle.answer_reader.specs.declared.answer_err.AnswerCause.TheVariants.{BadOrder}
-use Rattle.answer_reader.specs.Cuts.{begins}
 use Rattle.answer_reader.specs.Lines.{stage_of, automaton_of}
 use Rattle.answer_reader.specs.Nodes.{node_of}
 use Rattle.answer_reader.specs.Orders.{follows, in_order, node_less}
-use Rattle.answer_reader.specs.Stages.{behind_stages, in_stage, with_nodes, last_count, is_empty, is_automaton, next_node, StagesRead, stages_read, stages_from}
+use Rattle.answer_reader.specs.Stages.{behind_stages, with_nodes, last_count, is_automaton, next_node, stages_read, stages_from}
 use Rattle.answer_reader.specs.Steps.{At, go_on, and_then, line_then}
 use Rattle.answer_reader.specs.Values.{NodeValue}
 use Rattle.answer_reader.proofs.Sets.{begins_front}
@@ -88,7 +85,7 @@ module _ (shape : Shape) (columns : ℕ) (stages : List (List NodeValue)) where
   nodes_back (x ∷ xs) done (line ∷ lines) said asc rest l n =
       node_next shape columns stages (length xs) done n (line ∷ (lines ++ rest))
       ∙ line_on (next_node shape columns (length stages) done) (λ node. stages_from shape columns (with_nodes stages (length xs) (done ++ node ∷ []))) n line (lines ++ rest) x
-          (in_its_place node_less done x (node_here line) said.0 asc.0) (some_behind lines rest l)
+      (in_its_place node_less done x (node_here line) said.0 asc.0) (some_behind lines rest l)
       ∙ nodes_back xs (done ++ x ∷ []) lines said.1 asc.1 rest l (n + 1)
       ∙ ap (λ ys. stages_from shape columns (behind_stages (stages ++ ys ∷ [])) (after (n + 1) lines) rest) (append_assoc done (x ∷ []) xs)
 
@@ -105,7 +102,7 @@ module _ (shape : Shape) (columns : ℕ) (stages : List (List NodeValue)) where
   stage_on word count n [] h l = absurd (omega arith)
   stage_on word count n (next ∷ rest) h l =
       ap (λ t. cond t (go_on (automaton_of (last_count stages) (codes "stage " ++ word)) n (stages_read stages (n + 1) (next ∷ rest)))
-          (go_on (stage_of (length shape.phases.items) (length stages) (codes "stage " ++ word)) n (λ nodes. stages_from shape columns (with_nodes stages nodes []) (n + 1) (next ∷ rest)))) (no_automaton stages word)
+      (go_on (stage_of (length shape.phases.items) (length stages) (codes "stage " ++ word)) n (λ nodes. stages_from shape columns (with_nodes stages nodes []) (n + 1) (next ∷ rest)))) (no_automaton stages word)
       ∙ ap (λ s. go_on s n (λ nodes. stages_from shape columns (with_nodes stages nodes []) (n + 1) (next ∷ rest))) h
 
   -- the automaton behind the stages
@@ -114,7 +111,7 @@ module _ (shape : Shape) (columns : ℕ) (stages : List (List NodeValue)) where
   automaton_on word states n [] some h l = absurd (omega arith)
   automaton_on word states n (next ∷ rest) some h l =
       ap (λ t. cond t (go_on (automaton_of (last_count stages) (codes "automaton " ++ word)) n (stages_read stages (n + 1) (next ∷ rest)))
-          (go_on (stage_of (length shape.phases.items) (length stages) (codes "automaton " ++ word)) n (λ nodes. stages_from shape columns (with_nodes stages nodes []) (n + 1) (next ∷ rest)))) (an_automaton stages word some)
+      (go_on (stage_of (length shape.phases.items) (length stages) (codes "automaton " ++ word)) n (λ nodes. stages_from shape columns (with_nodes stages nodes []) (n + 1) (next ∷ rest)))) (an_automaton stages word some)
       ∙ ap (λ s. go_on s n (stages_read stages (n + 1) (next ∷ rest))) h
 
   -- a stage

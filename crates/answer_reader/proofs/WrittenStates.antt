@@ -1,5 +1,5 @@
 -- The lines of the states and their arcs, as they are written, are read as the states.
-use Rattle.std.proofs.Common.{◌≡◌, ℕ, zero, suc, ◌+◌, ◌^◌, ◌<◌, ◌≤◌, Bool, true, false, cond, nat_lt, List, [], ◌∷◌, ◌++◌, length, map, codes, Result, Ok, Err, refl, ap, sym, ◌∙◌, subst, arith, append_assoc, append-nil}
+use Rattle.std.proofs.Common.{◌≡◌, ℕ, suc, ◌+◌, ◌<◌, ◌≤◌, Bool, true, false, cond, nat_lt, List, [], ◌∷◌, ◌++◌, length, map, codes, Result, Ok, refl, ap, sym, ◌∙◌, subst, arith, append_assoc, append-nil}
 use Rattle.std.specs.Fmt.{decimal}
 use Rattle.std.specs.List.{AllByRecursion, flat_map}
 use Rattle.std.specs.List.Sorted.{IsStrictlySortedBy}
@@ -18,14 +18,14 @@ use Rattle.answer_reader.specs.Cuts.{begins}
 use Rattle.answer_reader.specs.LineWords.{bare_state, with_arcs}
 use Rattle.answer_reader.specs.Lines.{state_of, arc_of}
 use Rattle.answer_reader.specs.Orders.{follows, arc_less, state_less}
-use Rattle.answer_reader.specs.States.{behind_states, in_state, with_arc, next_state, next_arc, state_or_end, states_from}
+use Rattle.answer_reader.specs.States.{behind_states, in_state, next_state, next_arc, state_or_end, states_from}
 use Rattle.answer_reader.specs.Steps.{At, go_on}
 use Rattle.answer_reader.specs.Values.{ArcValue, StateValue, arc_value, state_value}
 use Rattle.answer_reader.proofs.Sets.{begins_front}
 use Rattle.answer_reader.proofs.StateLoops.{follows_node}
 use Rattle.answer_reader.proofs.StateSteps.{state_next}
 use Rattle.answer_reader.proofs.WrittenLines.{AreFull, arc_back, state_back}
-use Rattle.answer_reader.proofs.WrittenStages.{after, Ascends, AreSaid, ascends, in_its_place, line_on, some_behind}
+use Rattle.answer_reader.proofs.WrittenStages.{after, Ascends, ascends, in_its_place, line_on, some_behind}
 
 -- ---- arcs
 
@@ -64,7 +64,7 @@ module _ (width nodes : ℕ) (few : nodes ≤ 65536) where
     arc_on done x line [] n b h f l = absurd (omega arith)
     arc_on done x line (next ∷ rest) n b h f l =
         ap (λ t. cond t (go_on (next_arc width nodes done line) n (λ arc. from_here (done ++ arc ∷ []) (n + 1) (next ∷ rest)))
-            (state_or_end nodes more (states ++ with_arcs st done ∷ []) n line (next ∷ rest) (λ place. states_from width nodes place (n + 1) (next ∷ rest)))) b
+        (state_or_end nodes more (states ++ with_arcs st done ∷ []) n line (next ∷ rest) (λ place. states_from width nodes place (n + 1) (next ∷ rest)))) b
         ∙ ap (λ s. go_on s n (λ arc. from_here (done ++ arc ∷ []) (n + 1) (next ∷ rest))) (in_its_place arc_less done x (arc_of width nodes line) h f)
 
     pub arcs_back : (arcs : List ArcLine) (done : List ArcValue) → AllByRecursion (IsArcBack width nodes) arcs → Ascends arc_less done (map arc_value arcs) → (rest : List (List ℕ)) → 0 < length rest → (n : ℕ)
@@ -81,7 +81,7 @@ module _ (width nodes : ℕ) (few : nodes ≤ 65536) where
     arcs_off arcs line [] n b l = absurd (omega arith)
     arcs_off arcs line (next ∷ tail) n b l =
         ap (λ t. cond t (go_on (next_arc width nodes arcs line) n (λ arc. from_here (arcs ++ arc ∷ []) (n + 1) (next ∷ tail)))
-            (state_or_end nodes more (states ++ with_arcs st arcs ∷ []) n line (next ∷ tail) (λ place. states_from width nodes place (n + 1) (next ∷ tail)))) b
+        (state_or_end nodes more (states ++ with_arcs st arcs ∷ []) n line (next ∷ tail) (λ place. states_from width nodes place (n + 1) (next ∷ tail)))) b
 
   -- ---- states
 
@@ -100,19 +100,19 @@ module _ (width nodes : ℕ) (few : nodes ≤ 65536) where
   no_arc more done st arcs [] n = arcs_off more done st arcs (codes "end") ([] ∷ []) n refl (omega arith)
   no_arc more done st arcs (state ∷ states) n =
       arcs_off more done st arcs (codes "state " ++ (decimal state.node ++ final_mark state.accepting)) ((map arc_line state.arcs.items ++ flat_map state_lines states) ++ the_end) n refl
-          (some_behind (map arc_line state.arcs.items ++ flat_map state_lines states) the_end (omega arith))
+      (some_behind (map arc_line state.arcs.items ++ flat_map state_lines states) the_end (omega arith))
 
   pub states_back : (states : List StateLine) (done : List StateValue) → AllByRecursion IsStateBack states → Ascends state_less done (map state_value states) → (n : ℕ)
       → states_from width nodes (behind_states (length states) done) n (lines_from states) ≡ Ok (done ++ map state_value states)
   states_back [] done are asc n = ap (λ (xs : List StateValue). let r : Result (List StateValue) At = Ok xs in r) (sym (append-nil done))
   states_back (state ∷ states) done are asc n =
       let said = in_its_place state_less done (bare_state (state.node, state.accepting)) (state_of nodes (codes "state " ++ (decimal state.node ++ final_mark state.accepting)))
-          (state_back state.node nodes are.0.there (let l = are.0.there in omega arith) state.accepting) (follows_node done (bare_state (state.node, state.accepting)) (state_value state) refl ∙ asc.0) in
+      (state_back state.node nodes are.0.there (let l = are.0.there in omega arith) state.accepting) (follows_node done (bare_state (state.node, state.accepting)) (state_value state) refl ∙ asc.0) in
       let lines = append_assoc (map arc_line state.arcs.items) (flat_map state_lines states) the_end in
       state_next width nodes (length states) done n ((codes "state " ++ (decimal state.node ++ final_mark state.accepting)) ∷ ((map arc_line state.arcs.items ++ flat_map state_lines states) ++ the_end))
       ∙ line_on (next_state nodes done) (λ s. states_from width nodes (in_state (length states) done s)) n (codes "state " ++ (decimal state.node ++ final_mark state.accepting))
-          ((map arc_line state.arcs.items ++ flat_map state_lines states) ++ the_end) (bare_state (state.node, state.accepting)) said
-          (some_behind (map arc_line state.arcs.items ++ flat_map state_lines states) the_end (omega arith))
+      ((map arc_line state.arcs.items ++ flat_map state_lines states) ++ the_end) (bare_state (state.node, state.accepting)) said
+      (some_behind (map arc_line state.arcs.items ++ flat_map state_lines states) the_end (omega arith))
       ∙ ap (from_here (length states) done (state.node, state.accepting) [] (n + 1)) lines
       ∙ arcs_back (length states) done (state.node, state.accepting) state.arcs.items [] are.0.arcs are.0.ascending (lines_from states) (some_lines states) (n + 1)
       ∙ no_arc (length states) done (state.node, state.accepting) (map arc_value state.arcs.items) states (after (n + 1) (map arc_line state.arcs.items))

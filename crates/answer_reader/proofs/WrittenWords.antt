@@ -1,10 +1,10 @@
 -- Words between separators, and lines between their ends, cut again.
-use Rattle.std.proofs.Common.{◌≡◌, ℕ, zero, suc, ◌+◌, ◌<◌, ◌==◌, ◌||◌, not, Bool, true, false, cond, nat_lt, List, [], ◌∷◌, ◌++◌, length, take, drop, position, Option, Some, None, option_map, refl, ap, sym, ◌∙◌, arith, append_assoc}
-use Rattle.std.specs.List.{list_any, flat_map, slice_split, position_or_len, onto_first}
+use Rattle.std.proofs.Common.{◌≡◌, ℕ, suc, ◌+◌, ◌<◌, ◌==◌, not, Bool, true, false, cond, nat_lt, List, [], ◌∷◌, ◌++◌, length, drop, Option, Some, None, option_map, refl, ap, ◌∙◌, arith, append_assoc}
+use Rattle.std.specs.List.{list_any, slice_split, position_or_len, onto_first}
 use Rattle.std.proofs.lemmas.Bool.{or_parts}
 use Rattle.std.proofs.lemmas.Bool.Decides.{nat_tests}
-use Rattle.answer_text.specs.Text.{line, lines_text}
-use Rattle.answer_reader.specs.Cuts.{is_newline, lines_of, parts_at, cut, begins, behind}
+use Rattle.answer_text.specs.Text.{lines_text}
+use Rattle.answer_reader.specs.Cuts.{is_newline, lines_of, parts_at, cut, behind}
 use Rattle.answer_reader.proofs.Sets.{begins_front, drop_front, take_front}
 
 -- ---- fronts

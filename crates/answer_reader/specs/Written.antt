@@ -10,7 +10,6 @@ use Rattle.tier_core.specs.Shapes.{input_count}
 use Rattle.timeline_text.specs.Texts.{text_of}
 use Rattle.timeline_text.specs.Texts as timeline
 use Rattle.answer_text.specs.declared.stage.Node.{Node}
-use Rattle.answer_text.specs.declared.automaton.ArcLine.{ArcLine}
 use Rattle.answer_text.specs.declared.automaton.StateLine.{StateLine}
 use Rattle.answer_text.specs.declared.answer.Answer.{Answer}
 use Rattle.answer_text.specs.Readable.{IsReadable}

@@ -1,4 +1,4 @@
-use Rattle.std.proofs.Common.{rules, tests, ◌≡◌, ◌≤◌, ◌<◌, ◌+◌, ◌++◌, ◌∷◌, [], ℕ, suc, length, map, arith, sym, ap, ◌∙◌, subst}
+use Rattle.std.proofs.Common.{rules, tests, ◌≡◌, ◌≤◌, ◌++◌, ◌∷◌, [], ℕ, suc, length, arith, sym, ap, ◌∙◌, subst}
 use Rattle.std.specs.List.{All, slice_split}
 use Rattle.std.proofs.lemmas.List.{length-map, length_push}
 use Rattle.std.proofs.lemmas.List.Elements.{All-push}

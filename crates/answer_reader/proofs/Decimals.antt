@@ -38,12 +38,21 @@ first_push (b ∷ ds) d l = refl
 
 decimal_digits : (n : ℕ) → n < 2 ^ 64 → AreDigitsOf n (decimal n)
 decimal_digits = decimal_by_steps AreDigitsOf
-    (λ n l. record { digits = and_from (is_digit (48 + n)) true (digit n l) refl; some = omega arith; value = omega arith; plain = refl; first = λ k. omega arith })
+    (λ n l. record {
+      digits = and_from (is_digit (48 + n)) true (digit n l) refl;
+      some = omega arith;
+      value = omega
+          arith;
+      plain = refl;
+      first = λ k. omega arith;
+    })
     (λ n ds ten is.
     let f = is.first (omega arith) in
     let size = length_push ds (48 + n % 10) in
     record {
-      digits = list_all-append is_digit ds ((48 + n % 10) ∷ []) ∙ and_from (list_all is_digit ds) (list_all is_digit ((48 + n % 10) ∷ [])) is.digits (and_from (is_digit (48 + n % 10)) true (digit (n % 10) (omega arith)) refl);
+      digits = list_all-append is_digit ds ((48 + n % 10) ∷ [])
+          ∙ and_from (list_all is_digit ds) (list_all is_digit ((48 + n % 10) ∷ [])) is.digits
+          (and_from (is_digit (48 + n % 10)) true (digit (n % 10) (omega arith)) refl);
       some = omega arith;
       value = value_push 0 ds (48 + n % 10) ∙ ap (λ v. v * 10 + (48 + n % 10 - 48)) is.value ∙ omega arith;
       plain = still_plain ds (48 + n % 10) is.some f;
@@ -54,7 +63,8 @@ decimal_digits = decimal_by_steps AreDigitsOf
 pub run_decimal : (n : ℕ) → n < 2 ^ 64 → is_run (decimal n) ≡ true
 run_decimal n l =
     let d = decimal_digits n l in
-    and_from (nat_lt 0 (length (decimal n))) (list_all is_digit (decimal n)) (let some : nat_lt 0 (length (decimal n)) ≡ true = grind (arith, nat_tests, d.some) in some) d.digits
+    and_from (nat_lt 0 (length (decimal n))) (list_all is_digit (decimal n))
+    (let some : nat_lt 0 (length (decimal n)) ≡ true = grind (arith, nat_tests, d.some) in some) d.digits
 
 below : (bound n : ℕ) → n < bound → cond (nat_lt n bound) (Some n) None ≡ Some n
 below bound n l = grind (arith, nat_tests)
@@ -63,14 +73,18 @@ below bound n l = grind (arith, nat_tests)
 pub number_decimal : (bound n : ℕ) → n < bound → n < 2 ^ 64 → number_below bound (decimal n) ≡ Some n
 number_decimal bound n l k =
     let d = decimal_digits n k in
-    ap (λ t. cond t None (cond (nat_lt (value_from 0 (decimal n)) bound) (Some (value_from 0 (decimal n))) None)) d.plain
+    ap (λ t. cond t None (cond (nat_lt (value_from 0 (decimal n)) bound) (Some (value_from 0 (decimal n))) None))
+    d.plain
     ∙ ap (λ v. cond (nat_lt v bound) (Some v) None) d.value ∙ below bound n l
 
 -- no digit is another byte
 other_byte : (b d : ℕ) → is_digit b ≡ false → is_digit d ≡ true → (d == b) ≡ false
-other_byte b d other is = ne_eqb d b (λ e. absurd (let same : is_digit d ≡ is_digit b = ap is_digit e in let bad : false ≡ true = sym other ∙ sym same ∙ is in cc))
+other_byte b d other is = ne_eqb d b
+    (λ e. absurd (let same : is_digit d ≡ is_digit b = ap is_digit e in let bad : false ≡ true = sym other ∙ sym same
+    ∙ is in cc))
 
-digits_without : (b : ℕ) → is_digit b ≡ false → (ds : List ℕ) → list_all is_digit ds ≡ true → list_any (λ x. x == b) ds ≡ false
+digits_without : (b : ℕ) → is_digit b ≡ false → (ds : List ℕ) → list_all is_digit ds ≡ true
+    → list_any (λ x. x == b) ds ≡ false
 digits_without b other [] h = refl
 digits_without b other (d ∷ ds) h =
     let p = and_parts (is_digit d) (list_all is_digit ds) h in

@@ -35,7 +35,8 @@ column_free (Both ∷ column) = column_free column
 pub timeline_free : (T : List (List Sym)) → IsFree (text_of T)
 timeline_free [] = refl
 timeline_free (column ∷ []) = column_free column
-timeline_free (column ∷ next ∷ T) = both_free (map byte_of column) (32 ∷ text_of (next ∷ T)) (column_free column) (timeline_free (next ∷ T))
+timeline_free (column ∷ next ∷ T) = both_free (map byte_of column) (32 ∷ text_of (next ∷ T)) (column_free column)
+    (timeline_free (next ∷ T))
 
 spaced_free : (ns : List ℕ) → AreCounts ns → IsFree (spaced ns)
 spaced_free [] are = refl
@@ -59,13 +60,16 @@ kind_free : (k : PrefixKind) → k.place < 2 ^ 64 → IsFree (kind_text k)
 kind_free k l =
     both_free (decimal k.place ++ codes "/" ++ map open_byte k.opened ++ codes "/") (map phase_byte k.phases)
     (both_free (decimal k.place ++ codes "/" ++ map open_byte k.opened) (codes "/")
-    (both_free (decimal k.place ++ codes "/") (map open_byte k.opened) (both_free (decimal k.place) (codes "/") (decimal_free k.place l) refl) (opens_free k.opened)) refl)
+    (both_free (decimal k.place ++ codes "/") (map open_byte k.opened)
+    (both_free (decimal k.place) (codes "/") (decimal_free k.place l) refl) (opens_free k.opened)) refl)
     (phases_free k.phases)
 
-pub node_free : (k : PrefixKind) (potential : ℕ) → k.place < 2 ^ 64 → potential < 2 ^ 64 → IsFree (codes "node " ++ (kind_text k ++ after_space potential))
+pub node_free : (k : PrefixKind) (potential : ℕ) → k.place < 2 ^ 64 → potential < 2 ^ 64
+    → IsFree (codes "node " ++ (kind_text k ++ after_space potential))
 node_free k potential l m = both_free (kind_text k) (after_space potential) (kind_free k l) (decimal_free potential m)
 
-set_free : (set : ℕ) (t : Bool) (bytes : List ℕ) → IsFree bytes → IsFree (cond t bytes (codes "{" ++ bytes ++ codes "}"))
+set_free : (set : ℕ) (t : Bool) (bytes : List ℕ) → IsFree bytes
+    → IsFree (cond t bytes (codes "{" ++ bytes ++ codes "}"))
 set_free set true bytes f = f
 set_free set false bytes f = both_free bytes (codes "}") f refl
 
@@ -73,14 +77,19 @@ class_free : (sets : List ℕ) → IsFree (class_text sets)
 class_free [] = refl
 class_free (set ∷ sets) =
     both_free (set_text set) (class_text sets)
-    (set_free set (length (map byte_of (filter (is_in set) symbols)) == 1) (map byte_of (filter (is_in set) symbols)) (column_free (filter (is_in set) symbols))) (class_free sets)
+    (set_free set (length (map byte_of (filter (is_in set) symbols)) == 1) (map byte_of (filter (is_in set) symbols))
+    (column_free (filter (is_in set) symbols))) (class_free sets)
 
-pub arc_free : (target : ℕ) (sets : List ℕ) → target < 2 ^ 64 → IsFree (codes "arc " ++ (decimal target ++ codes " " ++ class_text sets))
-arc_free target sets l = both_free (decimal target ++ codes " ") (class_text sets) (both_free (decimal target) (codes " ") (decimal_free target l) refl) (class_free sets)
+pub arc_free : (target : ℕ) (sets : List ℕ) → target < 2 ^ 64
+    → IsFree (codes "arc " ++ (decimal target ++ codes " " ++ class_text sets))
+arc_free target sets l = both_free (decimal target ++ codes " ") (class_text sets)
+    (both_free (decimal target) (codes " ") (decimal_free target l) refl) (class_free sets)
 
-pub state_free : (node : ℕ) (accepting : Bool) → node < 2 ^ 64 → IsFree (codes "state " ++ (decimal node ++ final_mark accepting))
+pub state_free : (node : ℕ) (accepting : Bool) → node < 2 ^ 64
+    → IsFree (codes "state " ++ (decimal node ++ final_mark accepting))
 state_free node true l = both_free (decimal node) (final_mark true) (decimal_free node l) refl
 state_free node false l = both_free (decimal node) (final_mark false) (decimal_free node l) refl
 
-pub stage_free : (r count : ℕ) → r < 2 ^ 64 → count < 2 ^ 64 → IsFree (codes "stage " ++ (decimal r ++ 32 ∷ decimal count))
+pub stage_free : (r count : ℕ) → r < 2 ^ 64 → count < 2 ^ 64
+    → IsFree (codes "stage " ++ (decimal r ++ 32 ∷ decimal count))
 stage_free r count l m = both_free (decimal r) (32 ∷ decimal count) (decimal_free r l) (decimal_free count m)

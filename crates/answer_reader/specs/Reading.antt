@@ -31,15 +31,18 @@ pub record HeadValue : Type 0 where
   pub example : List (List Sym)
 
 abbrev pub answer_with : HeadValue → StagesRead → List StateValue → Result AnswerValue At
-answer_with head read states = Ok (record { form = head.form; counts = head.counts; example = head.example; stages = read.stages; states = states })
+answer_with head read states = Ok
+    (record { form = head.form; counts = head.counts; example = head.example; stages = read.stages; states = states })
 
 -- the states and the end, behind the stages
 abbrev pub states_behind : Shape → HeadValue → StagesRead → Result AnswerValue At
-states_behind shape head read = and_then (answer_with head read) (states_from shape.width (last_count read.stages) (behind_states read.states []) read.number read.lines)
+states_behind shape head read = and_then (answer_with head read)
+    (states_from shape.width (last_count read.stages) (behind_states read.states []) read.number read.lines)
 
 -- the stages and all behind them, from line n on
 abbrev pub stages_behind : Shape → HeadValue → ℕ → List (List ℕ) → Result AnswerValue At
-stages_behind shape head n lines = and_then (states_behind shape head) (stages_from shape (length head.form) (behind_stages []) n lines)
+stages_behind shape head n lines = and_then (states_behind shape head)
+    (stages_from shape (length head.form) (behind_stages []) n lines)
 
 -- the lines behind the form
 abbrev pub behind_form : Shape → List (List Sym) → ℕ → List (List ℕ) → Result AnswerValue At
@@ -64,4 +67,5 @@ IsFirstCause shape bytes line cause = answer_of shape bytes ≡ Err (at line cau
 
 -- a text is that of a value, or it has a first cause
 abbrev pub HasReading : Shape → List ℕ → Type 0
-HasReading shape bytes = ((value : AnswerValue) × IsTextOf shape bytes value) ⊎ ((line : ℕ) × ((cause : AnswerCause) × IsFirstCause shape bytes line cause))
+HasReading shape bytes = ((value : AnswerValue) × IsTextOf shape bytes value) ⊎
+    ((line : ℕ) × ((cause : AnswerCause) × IsFirstCause shape bytes line cause))

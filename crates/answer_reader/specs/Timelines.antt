@@ -30,7 +30,8 @@ unless (Some place) read = None
 -- the timeline of a text in which no cause comes
 abbrev pub timeline_of : ℕ → ℕ → List ℕ → Option (List (List Sym))
 timeline_of width limit bytes = if bytes_eq bytes (codes "empty") then Some [] else
-    unless (bad_symbol bytes) (unless (wrong_width width bytes) (if nat_lt limit (length (pieces_of bytes)) then None else
+    unless (bad_symbol bytes) (unless (wrong_width width bytes)
+    (if nat_lt limit (length (pieces_of bytes)) then None else
     if are_drawn width (columns_of bytes) then unless (no_edge (columns_of bytes)) (Some (columns_of bytes)) else None))
 
 -- whether memory was wanting

@@ -34,5 +34,6 @@ pub record IsOrderly (shape : Shape) (answer : Answer) : Type 0 where
   pub example : timeline.IsTextOf shape.width 65536 (text_of answer.example) answer.example
   pub one_each : length answer.counts.items ≡ constraint_count shape
   pub some_stage : 1 ≤ length answer.stages.items
-  pub nodes : (r : ℕ) → r < length answer.stages.items → AreOrderedNodes shape (length answer.form) r (nodes_at answer.stages.items r)
+  pub nodes : (r : ℕ) → r < length answer.stages.items
+      → AreOrderedNodes shape (length answer.form) r (nodes_at answer.stages.items r)
   pub arcs : All AreOrderedArcs answer.automaton.states.items

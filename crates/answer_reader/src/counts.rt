@@ -33,8 +33,10 @@ fn are_runs(text: &[u8]) -> bool
 /// or is above that.
 fn numbers_of(alloc: Global, text: &[u8]) -> Result<Option<Vec<u32>>, AnswerErr>
     requires { list_all is_run (slice_split is_space text.now) ≡ true }
-    ensures ok { IfOk result (λ read. option_map numbers_seen read ≡ numbers_below 1000000001 (slice_split is_space text.now)) }
-    ensures within { IfOk result (λ read. IfSome read (λ numbers. All (λ n. n ≤ 1000000000) numbers.items)) }
+    ensures ok { IfOk result (λ read. option_map numbers_seen read
+        ≡ numbers_below 1000000001 (slice_split is_space text.now)) }
+    ensures within { IfOk result (λ read. IfSome read
+        (λ numbers. All (λ n. n ≤ 1000000000) numbers.items)) }
     ensures err { IfErr result (λ e. e ≡ NoMemory) }
 {
     let mut numbers = Vec::new(alloc);
@@ -69,7 +71,8 @@ fn counts_in(
     ensures ok { IfOk result (λ said. MatchResult said
         (λ counts. counts_of constraints line.now ≡ Ok counts.items)
         (λ cause. counts_of constraints line.now ≡ Err cause)) }
-    ensures within { IfOk result (λ said. IfOk said (λ counts. All (λ n. n ≤ 1000000000) counts.items)) }
+    ensures within { IfOk result (λ said. IfOk said
+        (λ counts. All (λ n. n ≤ 1000000000) counts.items)) }
     ensures err { IfErr result (λ e. e ≡ NoMemory) }
 {
     if line == b"counts".as_slice() {

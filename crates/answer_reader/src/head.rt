@@ -14,7 +14,8 @@ use std::alloc::Global;
 use tier_core::{Shape, Timeline};
 
 fn header_of(line: &[u8]) -> Result<(), AnswerCause>
-    ensures { MatchResult result (λ _. header_of line.now ≡ Ok tt) (λ cause. header_of line.now ≡ Err cause) }
+    ensures { MatchResult result (λ _. header_of line.now ≡ Ok tt)
+        (λ cause. header_of line.now ≡ Err cause) }
 {
     if line == b"answer 1".as_slice() {
         Ok(())
@@ -53,7 +54,8 @@ pub(crate) fn read_head(
     lines: &mut Lines<'_>,
     shape: &Shape,
 ) -> Result<Head, AnswerErr>
-    ensures goes_on { Continues (answer_from shape.now) (λ head. stages_behind shape.now (head_seen head)) lines.old lines.new result }
+    ensures goes_on { Continues (answer_from shape.now)
+        (λ head. stages_behind shape.now (head_seen head)) lines.old lines.new result }
     ensures within { IfOk result (IsHeadWithin shape.now) }
 {
     read_header(lines)?;

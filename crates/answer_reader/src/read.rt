@@ -31,7 +31,8 @@ use tier_core::Shape;
 /// answer. The bytes are gone through once, and nothing is held but the answer.
 pub fn read_answer(alloc: Global, shape: &Shape, bytes: &[u8]) -> Result<Answer, AnswerErr>
     requires { length bytes.now ≤ 268435456 }
-    ensures ok { IfOk result (λ answer. IsTextOf shape.now bytes.now (answer_value shape.now answer)) }
+    ensures ok { IfOk result (λ answer. IsTextOf shape.now bytes.now
+        (answer_value shape.now answer)) }
     ensures err { IfErr result (λ e. Fails e (answer_of shape.now bytes.now)) }
     ensures readable { IfOk result (IsReadable shape.now) }
 {

@@ -26,9 +26,12 @@ fn read_nodes(
     requires there { length stages.now < length shape.now.phases.items }
     ensures goes_on { Continues
         (stages_from shape.now columns (with_nodes (stage_values shape.now 0 stages.now) count []))
-        (λ nodes. stages_from shape.now columns (behind_stages (stage_values shape.now 0 stages.now ++ map (node_value shape.now (length stages.now)) nodes.items ∷ [])))
+        (λ nodes. stages_from shape.now columns
+        (behind_stages (stage_values shape.now 0 stages.now ++ map
+        (node_value shape.now (length stages.now)) nodes.items ∷ [])))
         lines.old lines.new result }
-    ensures within { IfOk result (λ nodes. All (IsNodeWithin shape.now columns (length stages.now)) nodes.items) }
+    ensures within { IfOk result (λ nodes. All
+        (IsNodeWithin shape.now columns (length stages.now)) nodes.items) }
     ensures size { IfOk result (λ nodes. length nodes.items ≡ count) }
     ensures no_longer { OnOk result (length lines.new.rest.now ≤ length lines.old.rest.now) }
 {
@@ -42,7 +45,8 @@ fn read_nodes(
 
 /// Whether the line of the automaton comes next. It comes behind at least one stage.
 fn is_automaton(lines: &Lines<'_>, stages: &[Stage]) -> bool
-    ensures { result ≡ (not (is_empty stages.now) && begins (codes "automaton ") lines.now.rest.now) }
+    ensures { result ≡ (not (is_empty stages.now) && begins (codes "automaton ")
+        lines.now.rest.now) }
 {
     !stages.is_empty() && lines.begins(b"automaton ")
 }
@@ -57,12 +61,16 @@ fn read_stage(
 ) -> Result<Stage, AnswerErr>
     requires columns { columns ≤ 64 }
     requires few { length stages.now ≤ length shape.now.phases.items }
-    requires other { (not (is_empty stages.now) && begins (codes "automaton ") lines.old.rest.now) ≡ false }
+    requires other { (not (is_empty stages.now) && begins (codes "automaton ") lines.old.rest.now)
+        ≡ false }
     ensures goes_on { Continues
         (stages_from shape.now columns (behind_stages (stage_values shape.now 0 stages.now)))
-        (λ stage. stages_from shape.now columns (behind_stages (stage_values shape.now 0 stages.now ++ map (node_value shape.now (length stages.now)) stage.nodes.items ∷ [])))
+        (λ stage. stages_from shape.now columns
+        (behind_stages (stage_values shape.now 0 stages.now ++ map
+        (node_value shape.now (length stages.now)) stage.nodes.items ∷ [])))
         lines.old lines.new result }
-    ensures readable { IfOk result (λ stage. IsReadableStage shape.now (length stages.now) stage.nodes.items) }
+    ensures readable { IfOk result
+        (λ stage. IsReadableStage shape.now (length stages.now) stage.nodes.items) }
     ensures there { OnOk result (length stages.now < length shape.now.phases.items) }
     ensures shorter { OnOk result (length lines.new.rest.now < length lines.old.rest.now) }
 {
@@ -98,7 +106,8 @@ fn read_state_count(
     columns: u32,
 ) -> Result<u32, AnswerErr>
     requires readable { AreReadableStages shape.now stages.now }
-    requires here { (not (is_empty stages.now) && begins (codes "automaton ") lines.old.rest.now) ≡ true }
+    requires here { (not (is_empty stages.now) && begins (codes "automaton ") lines.old.rest.now)
+        ≡ true }
     ensures goes_on { Continues
         (stages_from shape.now columns (behind_stages (stage_values shape.now 0 stages.now)))
         (λ states n left. stages_read (stage_values shape.now 0 stages.now) n left states)
@@ -119,7 +128,8 @@ pub(crate) fn read_stages(
     requires { columns ≤ 64 }
     ensures goes_on { Continues
         (stages_from shape.now columns (behind_stages []))
-        (λ found n left. stages_read (stage_values shape.now 0 found.stages.items) n left found.states)
+        (λ found n left. stages_read (stage_values shape.now 0 found.stages.items) n left
+        found.states)
         lines.old lines.new result }
     ensures few { IfOk result (λ found. length found.stages.items ≤ length shape.now.phases.items) }
     ensures readable { IfOk result (λ found. AreReadableStages shape.now found.stages.items) }

@@ -26,7 +26,8 @@ fn read_arcs(
     requires few { width ≤ 12 }
     ensures goes_on { (more : ℕ) (states : List StateValue) (state : ℕ × Bool) → Continues
         (states_from width nodes (in_state more states (bare_state state)))
-        (λ arcs. states_from width nodes (behind_states more (states ++ with_arcs state (map arc_value arcs.items) ∷ [])))
+        (λ arcs. states_from width nodes
+        (behind_states more (states ++ with_arcs state (map arc_value arcs.items) ∷ [])))
         lines.old lines.new result }
     ensures readable { IfOk result (λ arcs. All (IsReadableArc width nodes) arcs.items) }
 {
@@ -50,9 +51,11 @@ fn read_state(
     requires few { width ≤ 12 }
     ensures goes_on { (more : ℕ) → Continues
         (states_from width nodes (behind_states (suc more) (map state_value states.now)))
-        (λ state. states_from width nodes (behind_states more (map state_value states.now ++ state_value state ∷ [])))
+        (λ state. states_from width nodes
+        (behind_states more (map state_value states.now ++ state_value state ∷ [])))
         lines.old lines.new result }
-    ensures follows { IfOk result (λ state. follows state_less (map state_value states.now) (state_value state) ≡ true) }
+    ensures follows { IfOk result (λ state. follows state_less (map state_value states.now)
+        (state_value state) ≡ true) }
     ensures readable { IfOk result (IsReadableState width nodes) }
 {
     let (node, accepting) = read_state_line(lines, nodes, states)?;
@@ -65,7 +68,8 @@ fn read_state(
 }
 
 fn end_of(line: &[u8]) -> Result<(), AnswerCause>
-    ensures { MatchResult result (λ _. end_of line.now ≡ Ok tt) (λ cause. end_of line.now ≡ Err cause) }
+    ensures { MatchResult result (λ _. end_of line.now ≡ Ok tt)
+        (λ cause. end_of line.now ≡ Err cause) }
 {
     if line == b"end".as_slice() {
         Ok(())
@@ -87,7 +91,8 @@ fn read_end_line(lines: &mut Lines<'_>) -> Result<(), AnswerErr>
 fn nothing_left(lines: &Lines<'_>) -> Result<(), AnswerErr>
     ensures { MatchResult result
         (λ _. lines_left lines.now ≡ [] ∷ [])
-        (λ e. (states : List StateValue) → Fails e (at_end states lines.now.number (lines_left lines.now))) }
+        (λ e. (states : List StateValue)
+        → Fails e (at_end states lines.now.number (lines_left lines.now))) }
 {
     if lines.rest.is_empty() {
         Ok(())

@@ -39,7 +39,8 @@ pub fn read_arc(
 ) -> Result<ArcLine, AnswerErr>
     requires some { 1 ≤ width }
     requires few { width ≤ 12 }
-    ensures takes { Takes (next_arc width nodes (map arc_value arcs.now)) arc_value lines.old lines.new result }
+    ensures takes { Takes (next_arc width nodes (map arc_value arcs.now)) arc_value lines.old
+        lines.new result }
     ensures within { IfOk result (IsArcWithin width nodes) }
     ensures shorter { OnOk result (length lines.new.rest.now < length lines.old.rest.now) }
 {
@@ -54,7 +55,8 @@ fn next_state(nodes: u32, states: &[StateLine], line: &[u8]) -> Result<(u32, boo
         (λ state. next_state nodes (map state_value states.now) line.now ≡ Ok (bare_state state))
         (λ cause. next_state nodes (map state_value states.now) line.now ≡ Err cause) }
     ensures there { IfOk result (λ state. state.0 < nodes) }
-    ensures follows { IfOk result (λ state. follows state_less (map state_value states.now) (bare_state state) ≡ true) }
+    ensures follows { IfOk result (λ state. follows state_less (map state_value states.now)
+        (bare_state state) ≡ true) }
 {
     let (node, accepting) = state_of(nodes, line)?;
     if !state_follows(states, node, accepting) {
@@ -70,9 +72,11 @@ pub fn read_state_line(
     nodes: u32,
     states: &[StateLine],
 ) -> Result<(u32, bool), AnswerErr>
-    ensures takes { Takes (next_state nodes (map state_value states.now)) bare_state lines.old lines.new result }
+    ensures takes { Takes (next_state nodes (map state_value states.now)) bare_state lines.old
+        lines.new result }
     ensures there { IfOk result (λ state. state.0 < nodes) }
-    ensures follows { IfOk result (λ state. follows state_less (map state_value states.now) (bare_state state) ≡ true) }
+    ensures follows { IfOk result (λ state. follows state_less (map state_value states.now)
+        (bare_state state) ≡ true) }
 {
     let number = lines.number;
     let line = lines.next_line()?;

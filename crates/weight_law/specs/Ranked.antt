@@ -1,5 +1,5 @@
 -- Vectors of violations as weights: added part by part, and compared from the first part.
-use Rattle.std.specs.Prelude.{ℕ, ◌+◌, ◌==◌, max, List, [], ◌∷◌, replicate, length}
+use Rattle.std.specs.Prelude.{ℕ, ◌+◌, ◌-◌, ◌==◌, max, List, [], ◌∷◌, ◌++◌, replicate, length}
 use Rattle.std.specs.Ordering.{nat_cmp, is_lt}
 use Rattle.std.specs.Cmp.Lexicographic.{slice_cmp}
 use Rattle.weight_law.specs.Meaning.{Meaning}
@@ -15,6 +15,10 @@ abbrev pub sum_of_parts : List ℕ → List ℕ → List ℕ
 sum_of_parts [] ys = []
 sum_of_parts (x ∷ xs) [] = []
 sum_of_parts (x ∷ xs) (y ∷ ys) = (x + y) ∷ sum_of_parts xs ys
+
+-- a vector of at most 24 numbers as parts: zeros stand behind it
+abbrev pub padded : List ℕ → List ℕ
+padded v = v ++ replicate (24 - length v) 0
 
 abbrev pub ranked_of : List ℕ → Ranked
 ranked_of xs = record { parts = xs }

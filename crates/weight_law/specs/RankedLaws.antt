@@ -17,7 +17,7 @@ use Rattle.weight_law.specs.declared.ranked.Ranked.{Ranked}
 abbrev pub parts_cmp : List ℕ → List ℕ → Ordering
 parts_cmp = slice_cmp nat_cmp
 
-length-sum : (xs ys : List ℕ) → length xs ≡ length ys → length (sum_of_parts xs ys) ≡ length xs
+pub length-sum : (xs ys : List ℕ) → length xs ≡ length ys → length (sum_of_parts xs ys) ≡ length xs
 length-sum [] ys e = refl
 length-sum (x ∷ xs) [] e = sym e
 length-sum (x ∷ xs) (y ∷ ys) e = ap suc (length-sum xs ys (omega arith))

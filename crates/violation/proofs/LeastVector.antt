@@ -30,7 +30,7 @@ module _ (tiers : Tiers) (constraints : List Constraint) (u : List (List Sym)) w
   whole T = take_all (length constraints) (vec constraints T) (omega (arith, length-map constraints (λ c. violations_of c T)))
 
   -- the optimal candidates share their vector
-  one_vector : (T U : List (List Sym)) → IsOptimal tiers constraints u T → IsOptimal tiers constraints u U → vec constraints T ≡ vec constraints U
+  pub one_vector : (T U : List (List Sym)) → IsOptimal tiers constraints u T → IsOptimal tiers constraints u U → vec constraints T ≡ vec constraints U
   one_vector T U t v =
       let n : ℕ = length constraints in
       sym (whole T) ∙ same_vector (take n (vec constraints T)) (take n (vec constraints U)) (both_equal (take n (vec constraints T)) (take n (vec constraints U)) (t.least U v.candidate) (v.least T t.candidate)) ∙ whole U

@@ -6,3 +6,4 @@ mod Numbering
 mod Taking
 mod Beginning
 pub mod Named
+pub mod Alike

@@ -7,3 +7,5 @@ mod Taking
 mod Beginning
 pub mod Named
 pub mod Alike
+pub mod FirstParts
+pub mod RankedStates

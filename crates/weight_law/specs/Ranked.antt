@@ -1,5 +1,5 @@
 -- Vectors of violations as weights: added part by part, and compared from the first part.
-use Rattle.std.specs.Prelude.{ℕ, ◌+◌, ◌-◌, ◌==◌, max, List, [], ◌∷◌, ◌++◌, replicate, length}
+use Rattle.std.specs.Prelude.{◌≡◌, ℕ, ◌+◌, ◌-◌, ◌==◌, max, List, [], ◌∷◌, ◌++◌, replicate, length}
 use Rattle.std.specs.Ordering.{nat_cmp, is_lt}
 use Rattle.std.specs.Cmp.Lexicographic.{slice_cmp}
 use Rattle.weight_law.specs.Meaning.{Meaning}
@@ -22,6 +22,10 @@ padded v = v ++ replicate (24 - length v) 0
 
 abbrev pub ranked_of : List ℕ → Ranked
 ranked_of xs = record { parts = xs }
+
+-- a weight is that of a vector
+abbrev pub IsOfVector : Ranked → List ℕ → Type 0
+IsOfVector w v = w.parts ≡ padded v
 
 abbrev pub ranked_meaning : Meaning Ranked
 ranked_meaning = record {

@@ -4,3 +4,4 @@ pub mod Shown
 pub mod Faithful
 pub mod Text
 pub mod Shape
+pub mod RightOnce

@@ -1,5 +1,5 @@
 -- From the table of a stage to that of the next: prune it, and go on by kinds under one constraint more.
-use Rattle.std.proofs.Common.{◌↔◌, ◌≤◌, take, Contains, ◌≡◌, ℕ, ◌+◌, ◌<◌, List, length}
+use Rattle.std.proofs.Common.{◌↔◌, ◌≤◌, take, Contains, ◌≡◌, ℕ, ◌+◌, ◌<◌, List, length, arith}
 use Rattle.weight_law.specs.Count.{count_meaning}
 use Rattle.weight_law.specs.declared.Weight.{Ghosts}
 use Rattle.weight_law.specs.declared.count.Count.{Count}
@@ -42,10 +42,13 @@ module _ (tiers : Tiers) (constraints : List Constraint) (u : List (List Sym)) (
       → (s : ℕ) × ((arcs : List (TableArc V h)) × IsPath pruned 0 arcs s × Reads arcs (take n T)) × ((s < length pruned) × (name_of (names_kept names old) s ≡ kind_of tiers constraints r (take n T)))
   kept_paths = prefix_path tiers constraints u r stage (names_kept names old) pruned named r optimal_words
 
+  more : r ≤ r + 1
+  more = omega arith
+
   -- what is found from it is the next stage's table
-  pub next_stage : (bases : List ℕ) (kinds : List PrefixKind) (found : List (TableState Count g)) → AreFoundFrom tiers constraints r (names_kept names old) pruned bases kinds found → AreWeighed tiers constraints u (r + 1) kinds found
+  pub next_stage : (bases : List ℕ) (kinds : List PrefixKind) (found : List (TableState Count g)) → AreFoundFrom tiers constraints r (r + 1) (names_kept names old) pruned bases kinds found → AreWeighed tiers constraints u (r + 1) kinds found
       → IsStageTable tiers constraints u (r + 1) kinds found
   next_stage bases kinds found from weighed =
-      next_table tiers constraints u r kinds found (found_named tiers constraints u r (names_kept names old) pruned named stage bases kinds found from) weighed
-      (λ T. let same = same_words tiers constraints u r (names_kept names old) pruned named stage bases kinds found from T in (λ a. (optimal_words T).0 (same.0 a), λ o. same.1 ((optimal_words T).1 o)))
-      (found_on_runs tiers constraints u r (names_kept names old) pruned named stage bases kinds found from tight.on_runs)
+      next_table tiers constraints u r kinds found (found_named tiers constraints u r (r + 1) more (names_kept names old) pruned named stage bases kinds found from) weighed
+      (λ T. let same = same_words tiers constraints u r (r + 1) more (names_kept names old) pruned named stage bases kinds found from T in (λ a. (optimal_words T).0 (same.0 a), λ o. same.1 ((optimal_words T).1 o)))
+      (found_on_runs tiers constraints u r (r + 1) more (names_kept names old) pruned named stage bases kinds found from tight.on_runs)

@@ -38,3 +38,4 @@ pub mod OverBudget
 pub mod NextStage
 pub mod RankedSteps
 pub mod StageZero
+pub mod OrderedNames

@@ -39,3 +39,5 @@ pub mod NextStage
 pub mod RankedSteps
 pub mod StageZero
 pub mod OrderedNames
+pub mod OnceSteps
+pub mod OnceBudgets

@@ -22,8 +22,22 @@ use Rattle.kind_orders.specs.AutomatonLines.{nodes_of}
 use Rattle.kind_orders.specs.Automata.{IsAutomatonOf}
 use Rattle.ranked_gen.specs.Budgets.{IsWithin}
 use Rattle.ranked_gen.specs.Left.{IsLeft, IsStaged, AreStages, IsRanked}
+use Rattle.ranked_gen.specs.OptimalParts.{IsOptimalPart}
 use Rattle.ranked_gen.proofs.EndStage.{right_automaton}
 use Rattle.ranked_gen.proofs.StageList.{nodes_last, first_stages, next_stages, right_answer}
+
+-- what a stage leaves, without its nodes' potentials
+pub part_of : (tiers : Tiers) (constraints : List Constraint) (u : List (List Sym)) (r : ℕ) (nodes : List Node) {g : Ghosts UnitWeight} (kept : List (TableState UnitWeight g)) (states order : List ℕ)
+    → IsLeft tiers constraints u r nodes kept states order → IsOptimalPart tiers constraints u r nodes kept states order
+part_of tiers constraints u r nodes kept states order left = record {
+  names = left.kept_by.0;
+  named = left.kept_by.1.named;
+  on_runs = left.kept_by.1.on_runs;
+  accepts = left.accepts;
+  ordered = left.ordered;
+  start = left.start;
+  tells = left.tells;
+}
 
 -- stage 0 alone
 pub ranked_first : (tiers : Tiers) (constraints : List Constraint) (u : List (List Sym)) (budget : ℕ) (stage : Stage) {g : Ghosts UnitWeight} (kept : List (TableState UnitWeight g)) (states order : List ℕ)
@@ -40,11 +54,11 @@ ranked_next tiers constraints u budget r stages counts so_far stage count next i
 }
 
 module _ (tiers : Tiers) (constraints : List Constraint) (u : List (List Sym)) {g : Ghosts UnitWeight} (nodes : List Node) (kept : List (TableState UnitWeight g)) (filled : ClassesFilled kept) (some : 0 < length kept) (states order : List ℕ)
-    (left : IsLeft tiers constraints u (length constraints) nodes kept states order) where
+    (left : IsOptimalPart tiers constraints u (length constraints) nodes kept states order) where
   -- some timeline is left, and the first of them is found
   pub some_left : (found : Option (List (List Sym))) → MatchOption found (AcceptsNone kept) (IsFirst (Accepts kept)) → IsSome found
   some_left None none =
-      let on = left.kept_by.1.on_runs 0 some in
+      let on = left.on_runs 0 some in
       let q = some_word kept filled 0 on.2.0 on.2.1 in
       absurd (none q.0 (on.2.0, record { run = on.2.1; reads = q.1 }))
   some_left (Some T) first = refl
@@ -61,4 +75,4 @@ pub whole_answer : (tiers : Tiers) (constraints : List Constraint) (u : List (Li
     → IsRight tiers constraints u answer
 whole_answer tiers constraints u budget kept filled some states order stages counts ranked ranks numbers told answer form same first lists automaton =
     right_answer tiers constraints u budget (length constraints) stages counts ranked.so_far refl answer form same first lists
-    (right_automaton tiers constraints u (nodes_at stages (length constraints)) kept filled some states order ranks ranked.left numbers told answer.automaton.states.items automaton)
+    (right_automaton tiers constraints u (nodes_at stages (length constraints)) kept filled some states order ranks (part_of tiers constraints u (length constraints) (nodes_at stages (length constraints)) kept states order ranked.left) numbers told answer.automaton.states.items automaton)

@@ -1,7 +1,7 @@
 pub mod Acceptance
 pub mod Right
-pub mod Shown
-pub mod Faithful
+pub mod Certified
+pub mod Sound
 pub mod Text
 pub mod Shape
 pub mod RightOnce

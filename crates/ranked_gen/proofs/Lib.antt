@@ -37,7 +37,6 @@ pub mod SortedKinds
 pub mod OverBudget
 pub mod NextStage
 pub mod RankedSteps
-pub mod StageZero
 pub mod OrderedNames
 pub mod OnceSteps
 pub mod OnceBudgets

@@ -20,14 +20,14 @@ use Rattle.violation.specs.Rests.{IsWholeKind, AreWholeKindsOver, AreWholeKindsW
 use Rattle.violation.specs.Stages.{IsPassed}
 use Rattle.violation.proofs.CutLemmas.{cut-kind_of}
 use Rattle.kind_moves.specs.declared.frame.Frame.{Frame}
-use Rattle.kind_moves.specs.Frames.{tiers_in, constraints_in, form_in}
+use Rattle.kind_moves.specs.Frames.{problem_in}
 use Rattle.stage_tables.specs.Explored.{IsMet, IsOverBudget}
-use Rattle.stage_tables.specs.Ranking.{last_stage}
 use Rattle.ranked_gen.specs.Budgets.{IsOver}
 use Rattle.ranked_gen.proofs.Ascending.{ascends_from}
 use Rattle.ranked_gen.proofs.FewKinds.{Differ, ascending_differ, no_longer}
 use Rattle.ranked_gen.proofs.MemberLemmas.{all_from_members}
 use Rattle.ranked_gen.proofs.NextStage.{pairs_differ}
+use Rattle.violation.specs.Problems.{Problem, last_stage}
 
 -- what differs after a cut differs
 uncut_differ : (f : PrefixKind → PrefixKind) (ks : List PrefixKind) → AllPairs (λ k l. k ≢ l) (map f ks) → AllPairs (λ k l. k ≢ l) ks
@@ -39,49 +39,49 @@ differ_pairs : (ks : List PrefixKind) → Differ ks → AllPairs (λ k l. k ≢ 
 differ_pairs [] h = λ i j d less inside. absurd (omega (arith, inside))
 differ_pairs (k ∷ ks) h = AllPairs-cons (λ a b. a ≢ b) k ks (All-from_recursion (λ l. k ≢ l) ks h.0) (differ_pairs ks h.1)
 
-module _ (tiers : Tiers) (constraints : List Constraint) (u : List (List Sym)) where
+module _ (problem : Problem) where
   -- kinds where no constraint counts are cut from as many kinds under all constraints
-  whole_of : (ks : List PrefixKind) → AllByRecursion (IsPassed tiers constraints u 0 0) ks
-      → (ls : List PrefixKind) × (map (cut constraints 0) ls ≡ ks) × AllByRecursion (IsWholeKind tiers constraints u) ls
+  whole_of : (ks : List PrefixKind) → AllByRecursion (IsPassed problem 0 0) ks
+      → (ls : List PrefixKind) × (map (cut problem 0) ls ≡ ks) × AllByRecursion (IsWholeKind problem) ls
   whole_of [] h = ([], refl, tt)
   whole_of (k ∷ ks) h =
-      let passed : IsPassed tiers constraints u 0 0 k = h.0 in
+      let passed : IsPassed problem 0 0 k = h.0 in
       let p : List (List Sym) = take passed.columns passed.candidate in
-      let whole : PrefixKind = kind_of tiers constraints (length constraints) p in
-      let few : 0 ≤ length constraints = omega arith in
-      let same : cut constraints 0 whole ≡ k = cut-kind_of constraints 0 (length constraints) few tiers p ∙ passed.passes.of_kind in
-      let is : IsWholeKind tiers constraints u whole = record {
+      let whole : PrefixKind = kind_of problem (last_stage problem) p in
+      let few : 0 ≤ last_stage problem = omega arith in
+      let same : cut problem 0 whole ≡ k = cut-kind_of problem 0 (last_stage problem) few p ∙ passed.passes.of_kind in
+      let is : IsWholeKind problem whole = record {
         candidate = passed.candidate;
         columns = passed.columns;
         passes = record { optimal = passed.passes.optimal; within = passed.passes.within; of_kind = refl };
       } in
       let rest = whole_of ks h.1 in
-      (whole ∷ rest.0, ap (λ x. x ∷ map (cut constraints 0) rest.0) same ∙ ap (λ xs. k ∷ xs) rest.1, (is, rest.2))
+      (whole ∷ rest.0, ap (λ x. x ∷ map (cut problem 0) rest.0) same ∙ ap (λ xs. k ∷ xs) rest.1, (is, rest.2))
 
   -- where there are more kinds than the budget before any constraint counts, there are under all
-  pub first_over_whole : (budget : ℕ) → IsOver tiers constraints u budget 0 → AreWholeKindsOver tiers constraints u budget
+  pub first_over_whole : (budget : ℕ) → IsOver problem budget 0 → AreWholeKindsOver problem budget
   first_over_whole budget over =
-      let whole = whole_of over.kinds (all_from_members (IsPassed tiers constraints u 0 0) over.kinds (λ k c. (over.are.members k).0 c)) in
+      let whole = whole_of over.kinds (all_from_members (IsPassed problem 0 0) over.kinds (λ k c. (over.are.members k).0 c)) in
       let ascending = ascends_from kind_order over.kinds over.are.ascending in
-      let differ : AllPairs (λ k l. k ≢ l) (map (cut constraints 0) whole.0) =
+      let differ : AllPairs (λ k l. k ≢ l) (map (cut problem 0) whole.0) =
           subst (AllPairs (λ k l. k ≢ l)) (sym whole.1) (differ_pairs over.kinds (ascending_differ over.kinds ascending)) in
-      let size : length whole.0 ≡ length over.kinds = sym (length-map whole.0 (cut constraints 0)) ∙ ap (λ (ks : List PrefixKind). length ks) whole.1 in
+      let size : length whole.0 ≡ length over.kinds = sym (length-map whole.0 (cut problem 0)) ∙ ap (λ (ks : List PrefixKind). length ks) whole.1 in
       record {
         kinds = whole.0;
-        distinct = uncut_differ (cut constraints 0) whole.0 differ;
-        each = All-from_recursion (IsWholeKind tiers constraints u) whole.0 whole.2;
+        distinct = uncut_differ (cut problem 0) whole.0 differ;
+        each = All-from_recursion (IsWholeKind problem) whole.0 whole.2;
         more = omega (arith, size, over.more);
       }
 
   -- no more kinds than there are names
-  pub names_within : (budget : ℕ) (names : List PrefixKind) → ((k : PrefixKind) → Contains names k ↔ IsWholeKind tiers constraints u k) → length names ≤ budget → AreWholeKindsWithin tiers constraints u budget
+  pub names_within : (budget : ℕ) (names : List PrefixKind) → ((k : PrefixKind) → Contains names k ↔ IsWholeKind problem k) → length names ≤ budget → AreWholeKindsWithin problem budget
   names_within budget names law few kinds distinct each =
-      let most = no_longer names kinds (λ k c. (law k).1 (All-contains (IsWholeKind tiers constraints u) kinds k each c)) (pairs_differ kinds distinct) in
+      let most = no_longer names kinds (λ k c. (law k).1 (All-contains (IsWholeKind problem) kinds k each c)) (pairs_differ kinds distinct) in
       omega (arith, most, few)
 
 -- more kinds than the budget are met while all candidates are explored
-pub met_over_whole : {g : Ghosts UnitWeight} (frame : Frame) (kept : List (TableState UnitWeight g)) → ((T : List (List Sym)) → Accepts kept T ↔ IsOptimalFor (tiers_in frame) (constraints_in frame) (form_in frame) 0 T)
-    → (budget : ℕ) → IsOverBudget frame (last_stage frame) kept budget → AreWholeKindsOver (tiers_in frame) (constraints_in frame) (form_in frame) budget
+pub met_over_whole : {g : Ghosts UnitWeight} (frame : Frame) (kept : List (TableState UnitWeight g)) → ((T : List (List Sym)) → Accepts kept T ↔ IsOptimalFor (problem_in frame) 0 T)
+    → (budget : ℕ) → IsOverBudget frame (last_stage (problem_in frame)) kept budget → AreWholeKindsOver (problem_in frame) budget
 met_over_whole frame kept accepts budget over = record {
   kinds = over.kinds;
   distinct = over.distinct;
@@ -93,7 +93,7 @@ met_over_whole frame kept accepts budget over = record {
         passes = record {
           optimal = (accepts (m.prefix ++ m.rest)).0 m.accepted;
           within = omega (arith, length-append m.prefix m.rest);
-          of_kind = ap (kind_of (tiers_in frame) (constraints_in frame) (last_stage frame)) (take_at m.prefix m.rest (length m.prefix) refl) ∙ m.of_kind;
+          of_kind = ap (kind_of (problem_in frame) (last_stage (problem_in frame))) (take_at m.prefix m.rest (length m.prefix) refl) ∙ m.of_kind;
         };
       });
   more = over.more;

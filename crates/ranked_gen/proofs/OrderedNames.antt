@@ -21,7 +21,7 @@ use Rattle.violation.specs.Prefixes.{kind_of}
 use Rattle.violation.proofs.StageLemmas.{over_stretches}
 use Rattle.grammar_reader.specs.ShapeOf.{IsShapeOf}
 use Rattle.kind_moves.specs.declared.frame.Frame.{Frame}
-use Rattle.kind_moves.specs.Frames.{tiers_in, constraints_in, form_in, kind_at_stage}
+use Rattle.kind_moves.specs.Frames.{kind_at_stage, problem_in}
 use Rattle.answer_text.specs.declared.stage.Node.{Node}
 use Rattle.stage_laws.specs.StageTables.{IsStage, name_of, AreNamedByKinds}
 use Rattle.stage_laws.specs.FoundTables.{names_kept}
@@ -36,6 +36,7 @@ use Rattle.ranked_gen.specs.Left.{TellsKind, AreOrdered}
 use Rattle.ranked_gen.proofs.Ascending.{Ascends, ascends_from}
 use Rattle.ranked_gen.proofs.FirstKind.{none_before}
 use Rattle.ranked_gen.proofs.StageShapes.{tell_same, free_same, stretch_same}
+use Rattle.violation.specs.Problems.{last_stage}
 
 all_read : {X : Type 0} (R : X → Type 0) (xs : List X) (d : X) (i : ℕ) → AllByRecursion R xs → i < length xs → R (get_or xs i d)
 all_read R [] d i h l = absurd (omega arith)
@@ -48,9 +49,9 @@ first_less c [] d i a some l = absurd (omega arith)
 first_less c (x ∷ xs) d zero a some l = absurd (omega arith)
 first_less c (x ∷ xs) d (suc i) a some l = all_read (λ y. c x y ≡ Less) xs d i a.0 (omega arith)
 
-module _ (frame : Frame) (stage : ℕ) (within : stage ≤ length (constraints_in frame)) (kinds : List Kind) {W : Type 0} {g : Ghosts W} (states : List (TableState W g))
-    (named : AreNamedByKinds (tiers_in frame) (constraints_in frame) (form_in frame) stage (names_at frame stage kinds) states) where
-  here : IsStage (tiers_in frame) (constraints_in frame) (form_in frame) stage
+module _ (frame : Frame) (stage : ℕ) (within : stage ≤ last_stage (problem_in frame)) (kinds : List Kind) {W : Type 0} {g : Ghosts W} (states : List (TableState W g))
+    (named : AreNamedByKinds (problem_in frame) stage (names_at frame stage kinds) states) where
+  here : IsStage (problem_in frame) stage
   here = frame_stage frame stage within
 
   pub count_kinds : length kinds ≡ length states
@@ -80,18 +81,18 @@ module _ (frame : Frame) (stage : ℕ) (within : stage ≤ length (constraints_i
             let less = first_less kind_order (map tell order) d place (ascends_from kind_order (map tell order) sorted.ascending) some (omega (arith, l, length-map order tell)) in
             let one : 0 < length order = omega arith in
             let first : get_or (map tell order) 0 d ≡ tell (get_or order 0 0) = get_or-map tell order 0 0 d one in
-            let start : get_or (map tell order) place d ≡ kind_of (tiers_in frame) (constraints_in frame) stage [] =
+            let start : get_or (map tell order) place d ≡ kind_of (problem_in frame) stage [] =
             get_or-map tell order place 0 d l ∙ ap tell there ∙ tell_same frame shape of stage within (kind_numbered kinds 0)
             ∙ sym (name_is 0 empty_kind (omega (arith, count_kinds, named.some))) ∙ named.start in
             let k = tell (get_or order 0 0) in
-            none_before (tiers_in frame) (constraints_in frame) stage k (over_stretches (tiers_in frame) (constraints_in frame) (form_in frame) stage here)
+            none_before (problem_in frame) stage k (over_stretches (problem_in frame) stage here)
             (length-map-range_with_len (has_tier (kind_numbered kinds (get_or order 0 0)).opened) 0 (free_count shape) ∙ free_same frame shape of stage within)
             (length-map-range_with_len (phase_at (kind_numbered kinds (get_or order 0 0))) 0 (stretch_count shape stage) ∙ stretch_same frame shape of stage within)
-            (ap (λ x. kind_order x (kind_of (tiers_in frame) (constraints_in frame) stage [])) (sym first) ∙ ap (kind_order (get_or (map tell order) 0 d)) (sym start) ∙ less)
+            (ap (λ x. kind_order x (kind_of (problem_in frame) stage [])) (sym first) ∙ ap (kind_order (get_or (map tell order) 0 d)) (sym start) ∙ less)
 
     module _ {V : Type 0} {h : Ghosts V} (pruned : List (TableState V h)) (old : List ℕ) (tight : IsTight states pruned old) (some : 0 < length pruned) (targets : TargetsExist pruned) (filled : ClassesFilled pruned) where
-      pub kept_by_names : AreNamedByKinds (tiers_in frame) (constraints_in frame) (form_in frame) stage (names_kept (names_at frame stage kinds) old) pruned
-      kept_by_names = kept_named (tiers_in frame) (constraints_in frame) (form_in frame) stage here (names_at frame stage kinds) states named pruned old tight some targets filled
+      pub kept_by_names : AreNamedByKinds (problem_in frame) stage (names_kept (names_at frame stage kinds) old) pruned
+      kept_by_names = kept_named (problem_in frame) stage here (names_at frame stage kinds) states named pruned old tight some targets filled
 
       pub ordered : AreOrdered order old (length pruned)
       ordered = record {
@@ -104,7 +105,7 @@ module _ (frame : Frame) (stage : ℕ) (within : stage ≤ length (constraints_i
       -- nodes in this order tell the kinds of the prefixes that lead to the states
       pub tells : (nodes : List Node) (node : ℕ → Node) → nodes ≡ map node order → ((number : ℕ) → (node number).kind ≡ kind_numbered kinds number)
           → (p : List (List Sym)) (s place : ℕ) → s < length pruned → Reaches pruned p s → place < length order → get_or order place 0 ≡ get_or old s 0
-          → TellsKind (tiers_in frame) (constraints_in frame) stage nodes place (kind_of (tiers_in frame) (constraints_in frame) stage p)
+          → TellsKind (problem_in frame) stage nodes place (kind_of (problem_in frame) stage p)
       tells nodes node listed kind p s place l reach inside same =
           let number = get_or order place 0 in
           let below : number < length kinds = sorted.numbers.below place 0 inside in
@@ -117,5 +118,5 @@ module _ (frame : Frame) (stage : ℕ) (within : stage ≤ length (constraints_i
                 ∙ sym (name_is number empty_kind below)
                 ∙ ap (name_of (names_at frame stage kinds)) same
                 ∙ sym (get_or-map (name_of (names_at frame stage kinds)) old s 0 _ (omega (arith, tight.each_named)))
-                ∙ path_kind (tiers_in frame) (constraints_in frame) (form_in frame) stage here (names_kept (names_at frame stage kinds) old) pruned kept_by_names reach.0 s p reach.1 reach.2;
+                ∙ path_kind (problem_in frame) stage here (names_kept (names_at frame stage kinds) old) pruned kept_by_names reach.0 s p reach.1 reach.2;
           }

@@ -9,12 +9,12 @@ use Rattle.arc_table.specs.declared.state.TableState.{TableState}
 use Rattle.violation.specs.Candidates.{IsLeastVector}
 use Rattle.violation.specs.Rests.{AreWholeKinds}
 use Rattle.kind_moves.specs.declared.frame.Frame.{Frame}
-use Rattle.kind_moves.specs.Frames.{tiers_in, constraints_in, form_in}
+use Rattle.kind_moves.specs.Frames.{problem_in}
 use Rattle.answer_text.specs.declared.once_answer.OnceNode.{OnceNode}
 use Rattle.answer_text.specs.RightOnce.{kind_told, bare_nodes, IsRightPotential}
 use Rattle.kind_orders.specs.KindOrders.{kind_numbered}
-use Rattle.stage_tables.specs.Ranking.{last_stage}
 use Rattle.ranked_gen.specs.OptimalParts.{IsOptimalPart}
+use Rattle.violation.specs.Problems.{last_stage}
 
 -- a weight that is found, and zeros where there is none
 abbrev pub weight_found : Option Ranked → Ranked
@@ -29,7 +29,7 @@ once_node kinds least number = record { kind = kind_numbered kinds number; poten
 -- vectors that remain from them. The counts are the least vector, and the kept table accepts exactly the
 -- optimal candidates, each state by the number of its node.
 pub record IsOncePart {g : Ghosts UnitWeight} (frame : Frame) (nodes : List OnceNode) (counts : List ℕ) (kept : List (TableState UnitWeight g)) (states order : List ℕ) : Type 0 where
-  pub kinds : AreWholeKinds (tiers_in frame) (constraints_in frame) (form_in frame) (map (kind_told (tiers_in frame) (constraints_in frame)) nodes)
-  pub potentials : All (IsRightPotential (tiers_in frame) (constraints_in frame) (form_in frame)) nodes
-  pub counts : IsLeastVector (tiers_in frame) (constraints_in frame) (form_in frame) counts
-  pub part : IsOptimalPart (tiers_in frame) (constraints_in frame) (form_in frame) (last_stage frame) (bare_nodes nodes) kept states order
+  pub kinds : AreWholeKinds (problem_in frame) (map (kind_told (problem_in frame)) nodes)
+  pub potentials : All (IsRightPotential (problem_in frame)) nodes
+  pub counts : IsLeastVector (problem_in frame) counts
+  pub part : IsOptimalPart (problem_in frame) (last_stage (problem_in frame)) (bare_nodes nodes) kept states order

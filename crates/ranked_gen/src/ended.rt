@@ -2,9 +2,10 @@ ghost use Rattle.std.specs.Prelude.{◌×◌, IfOk, List, length};
 ghost use Rattle.tier_core.specs.Orders.{IsFirst};
 ghost use Rattle.arc_table.specs.States.{states_of};
 ghost use Rattle.violation.specs.Candidates.{IsOptimal};
+ghost use Rattle.violation.specs.Problems.{last_stage};
 ghost use Rattle.answer_text.specs.declared.stage.Node.{Node as NodeOf};
 ghost use Rattle.answer_text.specs.Right.{IsRightAutomaton};
-ghost use Rattle.kind_moves.specs.Frames.{tiers_in, constraints_in, form_in};
+ghost use Rattle.kind_moves.specs.Frames.{problem_in};
 ghost use Rattle.ranked_gen.specs.OptimalParts.{IsOptimalPart};
 
 use crate::staged::Left;
@@ -25,9 +26,9 @@ pub(crate) struct Ended {
 /// The end of an answer for a frame, from what accepts its optimal timelines. It fails only for want
 /// of memory.
 pub(crate) fn ended(alloc: Global, frame: &Frame, left: &Left) -> Result<Ended, NoMemory>
-    requires part { (nodes : List NodeOf) × IsOptimalPart (tiers_in frame.now) (constraints_in frame.now) (form_in frame.now) (length (constraints_in frame.now)) nodes (states_of left.now.kept.table) left.now.kept.states.items left.now.order.items }
-    ensures example { IfOk result (λ ended. IsFirst (IsOptimal (tiers_in frame.now) (constraints_in frame.now) (form_in frame.now)) ended.example) }
-    ensures automaton { IfOk result (λ ended. (nodes : List NodeOf) → IsOptimalPart (tiers_in frame.now) (constraints_in frame.now) (form_in frame.now) (length (constraints_in frame.now)) nodes (states_of left.now.kept.table) left.now.kept.states.items left.now.order.items → IsRightAutomaton (tiers_in frame.now) (constraints_in frame.now) (form_in frame.now) nodes ended.automaton.states.items) }
+    requires part { (nodes : List NodeOf) × IsOptimalPart (problem_in frame.now) (last_stage (problem_in frame.now)) nodes (states_of left.now.kept.table) left.now.kept.states.items left.now.order.items }
+    ensures example { IfOk result (λ ended. IsFirst (IsOptimal (problem_in frame.now)) ended.example) }
+    ensures automaton { IfOk result (λ ended. (nodes : List NodeOf) → IsOptimalPart (problem_in frame.now) (last_stage (problem_in frame.now)) nodes (states_of left.now.kept.table) left.now.kept.states.items left.now.order.items → IsRightAutomaton (problem_in frame.now) nodes ended.automaton.states.items) }
 {
     let found = first(alloc, &left.kept.table)?;
     let places = ranks(alloc, &left.order)?;

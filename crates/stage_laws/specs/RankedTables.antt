@@ -16,18 +16,19 @@ use Rattle.arc_table.specs.Runs.{Accepts, IsOnRun}
 use Rattle.violation.specs.Candidates.{IsCandidate}
 use Rattle.violation.specs.Moves.{move_costs}
 use Rattle.stage_laws.specs.StageTables.{name_of, AreNamedByKinds}
+use Rattle.violation.specs.Problems.{Problem, last_stage}
 
 -- each move weighs what each column of its class costs under each constraint from the name of its state
-abbrev pub AreWeighedByAll : {g : Ghosts Ranked} → Tiers → List Constraint → List (List Sym) → List PrefixKind → List (TableState Ranked g) → Type 0
-AreWeighedByAll {g} tiers constraints u names states =
+abbrev pub AreWeighedByAll : {g : Ghosts Ranked} → Problem → List PrefixKind → List (TableState Ranked g) → Type 0
+AreWeighedByAll {g} problem names states =
     (s : ℕ) (arc : TableArc Ranked g) (column : List Sym) → Contains (moves_at states s) arc → IsTrue (has arc.class column)
-    → arc.weight.parts ≡ padded (move_costs tiers constraints u (length constraints) (name_of names s) column)
+    → arc.weight.parts ≡ padded (move_costs problem (last_stage problem) (name_of names s) column)
 
 -- The table of a single pass, with the names of its states: they are kinds under all constraints, its
 -- moves weigh what these cost under each, it accepts exactly the candidates, and each of its states is
 -- on a run.
-pub record IsRankedTable {g : Ghosts Ranked} (tiers : Tiers) (constraints : List Constraint) (u : List (List Sym)) (names : List PrefixKind) (states : List (TableState Ranked g)) : Type 0 where
-  pub named : AreNamedByKinds tiers constraints u (length constraints) names states
-  pub weighed : AreWeighedByAll tiers constraints u names states
-  pub accepts : (T : List (List Sym)) → Accepts states T ↔ IsCandidate tiers u T
+pub record IsRankedTable {g : Ghosts Ranked} (problem : Problem) (names : List PrefixKind) (states : List (TableState Ranked g)) : Type 0 where
+  pub named : AreNamedByKinds problem (last_stage problem) names states
+  pub weighed : AreWeighedByAll problem names states
+  pub accepts : (T : List (List Sym)) → Accepts states T ↔ IsCandidate problem T
   pub on_runs : (s : ℕ) → s < length states → IsOnRun states s

@@ -21,6 +21,7 @@ use Rattle.arc_table.proofs.Push.{moves_exist}
 use Rattle.stage_laws.specs.StageTables.{name_of, GoesAsKinds, AreNamedByKinds}
 use Rattle.stage_laws.proofs.Paths.{run_exists}
 use Rattle.stage_tables.proofs.Zips.{zip_from, zip_to, zip_pairs}
+use Rattle.violation.specs.Problems.{Problem}
 
 -- moves on the same columns to the same state
 pub record IsAlike {W V : Type 0} {g : Ghosts W} {h : Ghosts V} (a : TableArc W g) (b : TableArc V h) : Type 0 where
@@ -107,9 +108,9 @@ module _ {W V : Type 0} {g : Ghosts W} {h : Ghosts V} (old : List (TableState W 
         subst (λ (xs : List (TableArc V h)). AllPairs (λ x y. AreDisjoint x.class y.class) xs) (sym gone) (λ i j d less inside. absurd (omega (arith, inside))))
   ]
 
-  pub alike_named : (tiers : Tiers) (constraints : List Constraint) (u : List (List Sym)) (r : ℕ) (names : List PrefixKind)
-      → AreNamedByKinds tiers constraints u r names old → AreNamedByKinds tiers constraints u r names new
-  alike_named tiers constraints u r names named = record {
+  pub alike_named : (problem : Problem) (r : ℕ) (names : List PrefixKind)
+      → AreNamedByKinds problem r names old → AreNamedByKinds problem r names new
+  alike_named problem r names named = record {
     each_named = named.each_named ∙ sym alike.each_state;
     distinct = named.distinct;
     some = omega (arith, named.some, alike.each_state);

@@ -8,8 +8,9 @@ use Rattle.tier_core.specs.declared.sym.Sym.{Sym}
 use Rattle.violation.specs.Moves.{is_tier_open}
 use Rattle.violation.proofs.CostLemmas.{length_costs}
 use Rattle.kind_moves.specs.declared.frame.Frame.{Frame}
-use Rattle.kind_moves.specs.Frames.{tiers_in, constraints_in, form_in, kind_at_stage}
-use Rattle.stage_tables.specs.Ranking.{last_stage, costs_at}
+use Rattle.kind_moves.specs.Frames.{kind_at_stage, problem_in}
+use Rattle.stage_tables.specs.Ranking.{costs_at}
+use Rattle.violation.specs.Problems.{last_stage}
 
 -- the first n parts are the numbers of a vector, and those behind them are zeros
 pub record AreFirst (v parts : List ℕ) (n : ℕ) : Type 0 where
@@ -69,8 +70,8 @@ all_first v parts n first all few =
     ]
 
 -- a number for each constraint
-pub costs_long : (frame : Frame) (kind : Kind) (column : List Sym) → length (costs_at frame kind column) ≡ last_stage frame
+pub costs_long : (frame : Frame) (kind : Kind) (column : List Sym) → length (costs_at frame kind column) ≡ last_stage (problem_in frame)
 costs_long frame kind column =
-    let k = kind_at_stage frame (last_stage frame) kind in
-    length_costs (take (last_stage frame) (constraints_in frame)) (is_tier_open (tiers_in frame) (form_in frame) k) k.phases column
-    ∙ ap length (take_all (last_stage frame) (constraints_in frame) (omega arith))
+    let k = kind_at_stage frame (last_stage (problem_in frame)) kind in
+    length_costs (take (last_stage (problem_in frame)) (problem_in frame).constraints) (is_tier_open (problem_in frame) k) k.phases column
+    ∙ ap length (take_all (last_stage (problem_in frame)) (problem_in frame).constraints (omega arith))

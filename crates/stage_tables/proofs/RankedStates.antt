@@ -20,13 +20,14 @@ use Rattle.arc_table.specs.Moves.{moves_at, accepting_at}
 use Rattle.arc_table.proofs.Push.{accepting_old, accepting_new, moves_old, moves_new, moves_exist}
 use Rattle.violation.specs.Moves.{move_costs}
 use Rattle.kind_moves.specs.declared.frame.Frame.{Frame}
-use Rattle.kind_moves.specs.Frames.{tiers_in, constraints_in, form_in, kind_at_stage, FitsFrame}
+use Rattle.kind_moves.specs.Frames.{kind_at_stage, FitsFrame, problem_in}
 use Rattle.stage_laws.specs.StageTables.{name_of}
 use Rattle.stage_laws.specs.RankedTables.{AreWeighedByAll, IsRankedTable}
 use Rattle.stage_tables.specs.Explored.{names_at}
-use Rattle.stage_tables.specs.Ranking.{last_stage, costs_at, kind_numbered, IsColumnOf, IsRankedMove, AreRankedStates, IsWholeTable}
+use Rattle.stage_tables.specs.Ranking.{costs_at, kind_numbered, IsColumnOf, IsRankedMove, AreRankedStates, IsWholeTable}
 use Rattle.stage_tables.proofs.Alike.{IsAlike, AreAlike, alike_on_runs, alike_named, alike_words}
 use Rattle.stage_tables.proofs.Zips.{zip_push, zip_from, zip_weaken}
+use Rattle.violation.specs.Problems.{last_stage}
 
 -- one more of a list, and one that stands in the relation to it
 pub zip_next : {A B : Type 0} (R : A → B → Type 0) (xs : List A) (ys : List B) (n : ℕ) (x : A) (y : B)
@@ -69,11 +70,11 @@ module _ {g : Ghosts Count} {h : Ghosts Ranked} (frame : Frame) (kinds : List Ki
 
 module _ {g : Ghosts Count} (frame : Frame) (kinds : List Kind) (old : List (TableState Count g)) (whole : IsWholeTable frame kinds old) where
   many_kinds : length kinds ≡ length old
-  many_kinds = sym (length-map kinds (kind_at_stage frame (last_stage frame))) ∙ whole.named.each_named
+  many_kinds = sym (length-map kinds (kind_at_stage frame (last_stage (problem_in frame)))) ∙ whole.named.each_named
 
   -- the kind of a state fits the frame
-  pub kind_fits : (k : ℕ) (kind : Kind) → k < length old → kind ≡ get_or kinds k kind → FitsFrame frame (last_stage frame) kind
-  kind_fits k kind l is = subst (FitsFrame frame (last_stage frame)) (sym is) (whole.fit k kind (omega (arith, l, many_kinds)))
+  pub kind_fits : (k : ℕ) (kind : Kind) → k < length old → kind ≡ get_or kinds k kind → FitsFrame frame (last_stage (problem_in frame)) kind
+  kind_fits k kind l is = subst (FitsFrame frame (last_stage (problem_in frame))) (sym is) (whole.fit k kind (omega (arith, l, many_kinds)))
 
   pub kind_is : (k : ℕ) (kind : Kind) → k < length old → kind ≡ get_or kinds k kind → kind ≡ kind_numbered kinds k
   kind_is k kind l is = is ∙ get_or_default kinds k kind _ (omega (arith, l, many_kinds))
@@ -100,20 +101,20 @@ module _ {g : Ghosts Count} (frame : Frame) (kinds : List Kind) (old : List (Tab
           (moves_at old k) (moves_at new k) (made.moves k l);
     }
 
-    name_is : (k : ℕ) → k < length old → name_of (names_at frame (last_stage frame) kinds) k ≡ kind_at_stage frame (last_stage frame) (kind_numbered kinds k)
-    name_is k l = get_or-map (kind_at_stage frame (last_stage frame)) kinds k _ _ (omega (arith, l, many_kinds))
+    name_is : (k : ℕ) → k < length old → name_of (names_at frame (last_stage (problem_in frame)) kinds) k ≡ kind_at_stage frame (last_stage (problem_in frame)) (kind_numbered kinds k)
+    name_is k l = get_or-map (kind_at_stage frame (last_stage (problem_in frame))) kinds k _ _ (omega (arith, l, many_kinds))
 
-    weighed : AreWeighedByAll (tiers_in frame) (constraints_in frame) (form_in frame) (names_at frame (last_stage frame) kinds) new
+    weighed : AreWeighedByAll (problem_in frame) (names_at frame (last_stage (problem_in frame)) kinds) new
     weighed s b column here reads =
         let l : s < length old = omega (arith, moves_exist new s b here, made.count) in
         let a = zip_from (IsRankedMove frame (kind_numbered kinds s)) (moves_at old s) (moves_at new s) (made.moves s l) here.0 b here.1 here.2 in
         a.2.weighs column (subst (λ (c : Class). IsTrue (has c column)) a.2.same_class reads)
-        ∙ ap (λ k. padded (move_costs (tiers_in frame) (constraints_in frame) (form_in frame) (last_stage frame) k column)) (sym (name_is s l))
+        ∙ ap (λ k. padded (move_costs (problem_in frame) (last_stage (problem_in frame)) k column)) (sym (name_is s l))
 
     -- the table of a single pass
-    pub is_ranked : IsRankedTable (tiers_in frame) (constraints_in frame) (form_in frame) (names_at frame (last_stage frame) kinds) new
+    pub is_ranked : IsRankedTable (problem_in frame) (names_at frame (last_stage (problem_in frame)) kinds) new
     is_ranked = record {
-      named = alike_named old new are_alike (tiers_in frame) (constraints_in frame) (form_in frame) (last_stage frame) (names_at frame (last_stage frame) kinds) whole.named;
+      named = alike_named old new are_alike (problem_in frame) (last_stage (problem_in frame)) (names_at frame (last_stage (problem_in frame)) kinds) whole.named;
       weighed = weighed;
       accepts = λ T. (let same = alike_words old new are_alike T in (λ a. (whole.accepts T).0 (same.0 a), λ x. same.1 ((whole.accepts T).1 x)));
       on_runs = alike_on_runs old new are_alike whole.on_runs;

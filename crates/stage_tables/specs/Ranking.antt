@@ -17,19 +17,16 @@ use Rattle.arc_table.specs.Runs.{Accepts, IsOnRun}
 use Rattle.violation.specs.Candidates.{IsCandidate}
 use Rattle.violation.specs.Moves.{move_costs}
 use Rattle.kind_moves.specs.declared.frame.Frame.{Frame}
-use Rattle.kind_moves.specs.Frames.{tiers_in, constraints_in, form_in, kind_at_stage, FitsFrame}
+use Rattle.kind_moves.specs.Frames.{tiers_in, kind_at_stage, FitsFrame, problem_in}
 use Rattle.stage_laws.specs.StageTables.{AreNamedByKinds}
 use Rattle.stage_tables.specs.Kept.{IsOfOneColumn}
 use Rattle.stage_tables.specs.Explored.{names_at}
-
--- the stage that counts all constraints of a frame
-abbrev pub last_stage : Frame → ℕ
-last_stage frame = length (constraints_in frame)
+use Rattle.violation.specs.Problems.{last_stage}
 
 -- what the move from a kind by a column costs under all constraints of a frame
 abbrev pub costs_at : Frame → Kind → List Sym → List ℕ
 costs_at frame kind column =
-    move_costs (tiers_in frame) (constraints_in frame) (form_in frame) (last_stage frame) (kind_at_stage frame (last_stage frame) kind) column
+    move_costs (problem_in frame) (last_stage (problem_in frame)) (kind_at_stage frame (last_stage (problem_in frame)) kind) column
 
 -- a class holds one column, which is as wide as the frame's columns are
 pub record IsColumnOf (frame : Frame) (class : Class) : Type 0 where
@@ -57,8 +54,8 @@ pub record AreRankedStates {g : Ghosts Count} {h : Ghosts Ranked} (frame : Frame
 -- The table of all candidates, whatever its moves weigh: its states are named by kinds under all
 -- constraints, whose bits fit the frame, each state is on a run, and each move has one column.
 pub record IsWholeTable {g : Ghosts Count} (frame : Frame) (kinds : List Kind) (states : List (TableState Count g)) : Type 0 where
-  pub named : AreNamedByKinds (tiers_in frame) (constraints_in frame) (form_in frame) (last_stage frame) (names_at frame (last_stage frame) kinds) states
-  pub fit : All (FitsFrame frame (last_stage frame)) kinds
-  pub accepts : (T : List (List Sym)) → Accepts states T ↔ IsCandidate (tiers_in frame) (form_in frame) T
+  pub named : AreNamedByKinds (problem_in frame) (last_stage (problem_in frame)) (names_at frame (last_stage (problem_in frame)) kinds) states
+  pub fit : All (FitsFrame frame (last_stage (problem_in frame))) kinds
+  pub accepts : (T : List (List Sym)) → Accepts states T ↔ IsCandidate (problem_in frame) T
   pub on_runs : (s : ℕ) → s < length states → IsOnRun states s
   pub single : (s : ℕ) (arc : TableArc Count g) → Contains (moves_at states s) arc → IsOfOneColumn arc.class

@@ -2,7 +2,7 @@ ghost use Rattle.std.specs.Prelude.{◌≡◌, ◌<◌, [], ◌∷◌, length, C
 ghost use Rattle.std.specs.List.{AllZip};
 ghost use Rattle.arc_table.specs.Moves.{moves_at};
 ghost use Rattle.arc_table.specs.States.{states_of};
-ghost use Rattle.kind_moves.specs.Frames.{tiers_in, constraints_in, form_in, kind_at_stage, FitsFrame};
+ghost use Rattle.kind_moves.specs.Frames.{tiers_in, problem_in, kind_at_stage, FitsFrame};
 ghost use Rattle.stage_laws.specs.StageTables.{cost_of};
 ghost use Rattle.stage_tables.specs.Listed.{IsTaken, AreTargets};
 ghost use Rattle.stage_tables.specs.Exploring.{IsFoundWithin, IsFoundBeyond, IsListedOver, StaysListed};
@@ -22,7 +22,7 @@ impl Exploring<'_> {
     fn cost(&self, kind: &Kind, column: &Column) -> u32
         requires fits { FitsFrame self.now.frame.now self.now.stage kind.now }
         requires width { length column.now ≡ (tiers_in self.now.frame.now).width }
-        ensures { result ≡ cost_of (tiers_in self.now.frame.now) (constraints_in self.now.frame.now) (form_in self.now.frame.now) self.now.stage (kind_at_stage self.now.frame.now self.now.stage kind.now) column.now }
+        ensures { result ≡ cost_of (problem_in self.now.frame.now) self.now.stage (kind_at_stage self.now.frame.now self.now.stage kind.now) column.now }
     {
         if self.stage == 0 {
             return 0;

@@ -2,10 +2,11 @@ ghost use Rattle.std.specs.Prelude.{◌≡◌, length, All, IfOk};
 ghost use Rattle.std.specs.List.{AllZip};
 ghost use Rattle.weight_law.specs.Ranked.{IsOfVector};
 ghost use Rattle.arc_table.specs.States.{states_of};
-ghost use Rattle.kind_moves.specs.Frames.{tiers_in, constraints_in, form_in, FitsFrame};
+ghost use Rattle.kind_moves.specs.Frames.{tiers_in, problem_in, FitsFrame};
+ghost use Rattle.violation.specs.Problems.{last_stage};
 ghost use Rattle.stage_laws.specs.RankedTables.{IsRankedTable};
 ghost use Rattle.stage_tables.specs.Explored.{names_at};
-ghost use Rattle.stage_tables.specs.Ranking.{last_stage, costs_at, IsColumnOf, IsRankedMove, AreRankedStates, IsWholeTable};
+ghost use Rattle.stage_tables.specs.Ranking.{costs_at, IsColumnOf, IsRankedMove, AreRankedStates, IsWholeTable};
 
 use crate::stage_table::StageTable;
 use arc_table::{Table, TableArc, TableState};
@@ -17,7 +18,7 @@ use weight_law::{Count, Ranked};
 
 /// What the move from a kind by a column costs under all constraints.
 fn all_costs(frame: &Frame<'_>, kind: &Kind, column: &Column) -> Ranked
-    requires fits { FitsFrame frame.now (last_stage frame.now) kind.now }
+    requires fits { FitsFrame frame.now (last_stage (problem_in frame.now)) kind.now }
     requires width { length column.now ≡ (tiers_in frame.now).width }
     ensures { IsOfVector result (costs_at frame.now kind.now column.now) }
 {
@@ -36,7 +37,7 @@ fn ranked_move(
     kind: &Kind,
     arc: &TableArc<Count>,
 ) -> TableArc<Ranked>
-    requires fits { FitsFrame frame.now (last_stage frame.now) kind.now }
+    requires fits { FitsFrame frame.now (last_stage (problem_in frame.now)) kind.now }
     requires column { IsColumnOf frame.now arc.now.class }
     ensures { IsRankedMove frame.now kind.now arc.now result }
 {
@@ -55,7 +56,7 @@ fn ranked_moves(
     kind: &Kind,
     arcs: &[TableArc<Count>],
 ) -> Result<Vec<TableArc<Ranked>>, AllocError>
-    requires fits { FitsFrame frame.now (last_stage frame.now) kind.now }
+    requires fits { FitsFrame frame.now (last_stage (problem_in frame.now)) kind.now }
     requires columns { All (λ arc. IsColumnOf frame.now arc.class) arcs.now }
     ensures { IfOk result (λ moves. AllZip (IsRankedMove frame.now kind.now) arcs.now moves.items) }
 {
@@ -95,7 +96,7 @@ pub fn ranked_table(
     found: &StageTable,
 ) -> Result<Table<Ranked>, NoMemory>
     requires { IsWholeTable frame.now found.now.kinds.items (states_of found.now.table) }
-    ensures { IfOk result (λ table. IsRankedTable (tiers_in frame.now) (constraints_in frame.now) (form_in frame.now) (names_at frame.now (last_stage frame.now) found.now.kinds.items) (states_of table)) }
+    ensures { IfOk result (λ table. IsRankedTable (problem_in frame.now) (names_at frame.now (last_stage (problem_in frame.now)) found.now.kinds.items) (states_of table)) }
 {
     match ranked_states(alloc, frame, found) {
         Ok(states) => Ok(Table::of_states(states)),

@@ -6,14 +6,15 @@ use Rattle.tier_core.specs.declared.sym.Sym.{Sym}
 use Rattle.tier_core.specs.declared.constraint.Constraint.{Constraint}
 use Rattle.tier_core.specs.Tiers.{Tiers}
 use Rattle.tier_core.specs.Kinds.{PrefixKind}
-use Rattle.violation.specs.Candidates.{IsCandidate, vec}
+use Rattle.violation.specs.Candidates.{IsCandidate, counts_on}
 use Rattle.violation.specs.Counts.{violations_of, violations_so_far}
 use Rattle.violation.specs.Prefixes.{kind_of}
-use Rattle.violation.specs.Rests.{vec_rest}
+use Rattle.violation.specs.Rests.{counts_rest}
 use Rattle.violation.specs.Stages.{IsStage}
 use Rattle.violation.specs.Walks.{add_each, walk_costs}
 use Rattle.violation.proofs.CostLemmas.{costs_on, costs_sum, length_walk}
 use Rattle.violation.proofs.StageLemmas.{over_first}
+use Rattle.violation.specs.Problems.{Problem, last_stage}
 
 -- numbers less those that they are sums with
 less_each : (f g : Constraint → ℕ) (cs : List Constraint) (ns : List ℕ) → length ns ≡ length cs
@@ -27,32 +28,32 @@ less_each f g (c ∷ cs) (n ∷ ns) l e =
     let one : f c - g c ≡ n = omega (arith, first) in
     ap (λ m. m ∷ map (λ c. f c - g c) cs) one ∙ ap (λ ms. n ∷ ms) (less_each f g cs ns (omega (arith, l)) rest)
 
-module _ (tiers : Tiers) (constraints : List Constraint) (u : List (List Sym)) (stage : IsStage tiers constraints u (length constraints)) where
-  all_of : take (length constraints) constraints ≡ constraints
-  all_of = take_all (length constraints) constraints (omega arith)
+module _ (problem : Problem) (stage : IsStage problem (last_stage problem)) where
+  all_of : take (last_stage problem) problem.constraints ≡ problem.constraints
+  all_of = take_all (last_stage problem) problem.constraints (omega arith)
 
   -- the moves of a candidate cost its vector
-  pub whole_walk : (T : List (List Sym)) → IsCandidate tiers u T
-      → vec constraints T ≡ walk_costs tiers constraints u (length constraints) (kind_of tiers constraints (length constraints) []) T
+  pub whole_walk : (T : List (List Sym)) → IsCandidate problem T
+      → counts_on problem T ≡ walk_costs problem (last_stage problem) (kind_of problem (last_stage problem) []) T
   whole_walk T c =
-      sym (take_all (length constraints) (vec constraints T) (omega (arith, length-map constraints (λ x. violations_of x T))))
-      ∙ costs_sum tiers constraints (length constraints) u stage.split stage.form (over_first tiers constraints u (length constraints) stage) T c
+      sym (take_all (last_stage problem) (counts_on problem T) (omega (arith, length-map problem.constraints (λ x. violations_of x T))))
+      ∙ costs_sum problem (last_stage problem) stage.split stage.form (over_first problem (last_stage problem) stage) T c
 
   -- the moves behind a prefix cost the rest
-  pub rest_walk : (p q : List (List Sym)) → IsCandidate tiers u (p ++ q)
-      → vec_rest constraints (p ++ q) (length p) ≡ walk_costs tiers constraints u (length constraints) (kind_of tiers constraints (length constraints) p) q
+  pub rest_walk : (p q : List (List Sym)) → IsCandidate problem (p ++ q)
+      → counts_rest problem (p ++ q) (length p) ≡ walk_costs problem (last_stage problem) (kind_of problem (last_stage problem) p) q
   rest_walk p q c =
       let T : List (List Sym) = p ++ q in
-      let n : ℕ = length constraints in
-      let over = over_first tiers constraints u n stage in
+      let n : ℕ = last_stage problem in
+      let over = over_first problem n stage in
       let f : Constraint → ℕ = λ x. violations_of x T in
       let g : Constraint → ℕ = λ x. violations_so_far x T (length p) in
-      let k : PrefixKind = kind_of tiers constraints n p in
-      let walk : List ℕ = walk_costs tiers constraints u n k q in
-      let size : length walk ≡ length (take n constraints) = length_walk tiers constraints n u stage.split stage.form over q k in
-      let on : map f (take n constraints) ≡ add_each (map g (take n constraints)) walk = costs_on tiers constraints n u stage.split stage.form over q p T refl c in
-      ap (map (λ x. f x - g x)) (sym all_of) ∙ less_each f g (take n constraints) walk size on
+      let k : PrefixKind = kind_of problem n p in
+      let walk : List ℕ = walk_costs problem n k q in
+      let size : length walk ≡ length (take n problem.constraints) = length_walk problem n stage.split stage.form over q k in
+      let on : map f (take n problem.constraints) ≡ add_each (map g (take n problem.constraints)) walk = costs_on problem n stage.split stage.form over q p T refl c in
+      ap (map (λ x. f x - g x)) (sym all_of) ∙ less_each f g (take n problem.constraints) walk size on
 
-  pub length_whole_walk : (q : List (List Sym)) (k : PrefixKind) → length (walk_costs tiers constraints u (length constraints) k q) ≡ length constraints
+  pub length_whole_walk : (q : List (List Sym)) (k : PrefixKind) → length (walk_costs problem (last_stage problem) k q) ≡ last_stage problem
   length_whole_walk q k =
-      length_walk tiers constraints (length constraints) u stage.split stage.form (over_first tiers constraints u (length constraints) stage) q k ∙ ap length all_of
+      length_walk problem (last_stage problem) stage.split stage.form (over_first problem (last_stage problem) stage) q k ∙ ap length all_of

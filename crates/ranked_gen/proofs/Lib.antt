@@ -40,3 +40,4 @@ pub mod RankedSteps
 pub mod OrderedNames
 pub mod OnceSteps
 pub mod OnceBudgets
+pub mod OnceTables

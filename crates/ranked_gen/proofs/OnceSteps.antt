@@ -138,6 +138,6 @@ module _ (frame : Frame) (kinds : List Kind) {g : Ghosts Ranked} (meaning : g.me
       once_part counts is = record {
         kinds = whole_kinds;
         potentials = potentials;
-        counts = first_vector counts is;
+        least = first_vector counts is;
         part = part;
       }

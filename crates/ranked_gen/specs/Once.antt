@@ -31,5 +31,5 @@ once_node kinds least number = record { kind = kind_numbered kinds number; poten
 pub record IsOncePart {g : Ghosts UnitWeight} (frame : Frame) (nodes : List OnceNode) (counts : List ℕ) (kept : List (TableState UnitWeight g)) (states order : List ℕ) : Type 0 where
   pub kinds : AreWholeKinds (problem_in frame) (map (kind_told (problem_in frame)) nodes)
   pub potentials : All (IsRightPotential (problem_in frame)) nodes
-  pub counts : IsLeastVector (problem_in frame) counts
+  pub least : IsLeastVector (problem_in frame) counts
   pub part : IsOptimalPart (problem_in frame) (last_stage (problem_in frame)) (bare_nodes nodes) kept states order

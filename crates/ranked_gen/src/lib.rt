@@ -12,11 +12,13 @@
 //! constraint, is after Ellison, Phonological Derivation in Optimality Theory (COLING 1994).
 #![tactic(auto)]
 
+mod ending;
 mod flags;
 mod gen_err;
 mod generator;
 mod moves;
 mod number;
+mod once;
 mod pick;
 mod place;
 mod ranked;
@@ -29,3 +31,4 @@ mod wide_column;
 
 pub use gen_err::GenErr;
 pub use generator::generate;
+pub use once::generate_once;

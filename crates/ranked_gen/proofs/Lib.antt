@@ -41,3 +41,4 @@ pub mod OrderedNames
 pub mod OnceSteps
 pub mod OnceBudgets
 pub mod OnceTables
+pub mod AgreeingAnswers

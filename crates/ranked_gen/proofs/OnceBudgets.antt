@@ -64,7 +64,7 @@ module _ (problem : Problem) where
       let whole = whole_of over.kinds (all_from_members (IsPassed problem 0 0) over.kinds (λ k c. (over.are.members k).0 c)) in
       let ascending = ascends_from kind_order over.kinds over.are.ascending in
       let differ : AllPairs (λ k l. k ≢ l) (map (cut problem 0) whole.0) =
-          subst (AllPairs (λ k l. k ≢ l)) (sym whole.1) (differ_pairs over.kinds (ascending_differ over.kinds ascending)) in
+      subst (AllPairs (λ k l. k ≢ l)) (sym whole.1) (differ_pairs over.kinds (ascending_differ over.kinds ascending)) in
       let size : length whole.0 ≡ length over.kinds = sym (length-map whole.0 (cut problem 0)) ∙ ap (λ (ks : List PrefixKind). length ks) whole.1 in
       record {
         kinds = whole.0;

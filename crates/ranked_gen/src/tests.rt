@@ -14,7 +14,8 @@ use timeline_text::read_timeline;
 
 const BASE: &[u8] = b"otp 1\ntier A input\ntier a overt\n";
 
-const RANKED: &[u8] = b"otp 1\ntier A input\ntier a overt\nconstraint One a # a\nconstraint Max A -> a\nconstraint Dep a -> A\n";
+const RANKED: &[u8] =
+    b"otp 1\ntier A input\ntier a overt\nconstraint One a # a\nconstraint Max A -> a\nconstraint Dep a -> A\n";
 
 const HIDDEN: &[u8] = b"otp 1\ntier A input\ntier a overt\ntier b hidden\n";
 

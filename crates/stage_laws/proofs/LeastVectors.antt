@@ -33,10 +33,12 @@ use Rattle.violation.specs.Problems.{Problem, last_stage}
 module _ (problem : Problem) (stage : IsStage problem (last_stage problem)) (few : last_stage problem ≤ 24)
     {g : Ghosts Ranked} (meaning : g.meaning ≡ ranked_meaning) (names : List PrefixKind) (states : List (TableState Ranked g)) (table : IsRankedTable problem names states) where
   -- weights that are vectors are compared as these
-  at_most : (a b : Ranked) (v w : List ℕ) → a.parts ≡ padded v → b.parts ≡ padded w → length w ≡ length v → AtMost g.meaning a b → IsAtMost v w
+  at_most : (a b : Ranked) (v w : List ℕ) → a.parts ≡ padded v → b.parts ≡ padded w → length w ≡ length v
+      → AtMost g.meaning a b → IsAtMost v w
   at_most a b v w x y e h = at_most_vector a b v w x y e (subst (λ m. AtMost m a b) meaning h)
 
-  no_more : (a b : Ranked) (v w : List ℕ) → a.parts ≡ padded v → b.parts ≡ padded w → length w ≡ length v → IsAtMost v w → AtMost g.meaning a b
+  no_more : (a b : Ranked) (v w : List ℕ) → a.parts ≡ padded v → b.parts ≡ padded w → length w ≡ length v
+      → IsAtMost v w → AtMost g.meaning a b
   no_more a b v w x y e h = subst (λ m. AtMost m a b) (sym meaning) (vector_at_most a b v w x y e h)
 
   length_vec : (T : List (List Sym)) → length (counts_on problem T) ≡ last_stage problem
@@ -48,13 +50,15 @@ module _ (problem : Problem) (stage : IsStage problem (last_stage problem)) (few
   even_vec : (T U : List (List Sym)) → length (counts_on problem U) ≡ length (counts_on problem T)
   even_vec T U = length_vec U ∙ sym (length_vec T)
 
-  weight_vec : (T : List (List Sym)) (arcs : List (TableArc Ranked g)) → AcceptingRun states T arcs → (weight_of arcs).parts ≡ padded (counts_on problem T)
+  weight_vec : (T : List (List Sym)) (arcs : List (TableArc Ranked g)) → AcceptingRun states T arcs
+      → (weight_of arcs).parts ≡ padded (counts_on problem T)
   weight_vec T arcs run = run_vector_law problem stage few meaning names states table arcs T run
 
   least_optimal : (T : List (List Sym)) → IsLeastWord states T → IsOptimal problem T
   least_optimal T word = record { candidate = (table.accepts T).0 (word.0, word.1); least = least }
     where
-      least : (U : List (List Sym)) → IsCandidate problem U → IsAtMost (take (last_stage problem) (counts_on problem T)) (take (last_stage problem) (counts_on problem U))
+      least : (U : List (List Sym)) → IsCandidate problem U
+          → IsAtMost (take (last_stage problem) (counts_on problem T)) (take (last_stage problem) (counts_on problem U))
       least U c =
           let accepted : Accepts states U = (table.accepts U).1 c in
           let bound : IsAtMost (counts_on problem T) (counts_on problem U) =
@@ -68,7 +72,8 @@ module _ (problem : Problem) (stage : IsStage problem (last_stage problem)) (few
       accepted : Accepts states T
       accepted = (table.accepts T).1 opt.candidate
 
-      least : (U : List (List Sym)) (others : List (TableArc Ranked g)) → AcceptingRun states U others → AtMost g.meaning (weight_of accepted.0) (weight_of others)
+      least : (U : List (List Sym)) (others : List (TableArc Ranked g)) → AcceptingRun states U others
+          → AtMost g.meaning (weight_of accepted.0) (weight_of others)
       least U others run =
           let bound : IsAtMost (counts_on problem T) (counts_on problem U) =
           subst (λ v. IsAtMost v (counts_on problem U)) (all_of T) (subst (IsAtMost (take (last_stage problem) (counts_on problem T))) (all_of U) (opt.least U ((table.accepts U).0 (others, run)))) in
@@ -79,7 +84,8 @@ module _ (problem : Problem) (stage : IsStage problem (last_stage problem)) (few
   optimal_words T = (least_optimal T, optimal_least T)
 
   -- the least weight from the start is the least vector
-  pub least_vector : (w : Ranked) → IsLeastFrom states 0 w → (v : List ℕ) × ((w.parts ≡ padded v) × IsLeastVector problem v)
+  pub least_vector : (w : Ranked) → IsLeastFrom states 0 w
+      → (v : List ℕ) × ((w.parts ≡ padded v) × IsLeastVector problem v)
   least_vector w from =
       let found = from.some in
       let q = some_word states table.named.filled 0 found.0 found.1 in
@@ -101,7 +107,8 @@ module _ (problem : Problem) (stage : IsStage problem (last_stage problem)) (few
   length_rest T n = length-map problem.constraints (λ c. violations_of c T - violations_so_far c T n)
 
   -- a candidate with a prefix of the kind that names s leaves at least the least weight from s
-  least_of_all : (s : ℕ) (w : Ranked) (v : List ℕ) → length v ≡ last_stage problem → w.parts ≡ padded v → s < length states → IsLeastFrom states s w
+  least_of_all : (s : ℕ) (w : Ranked) (v : List ℕ) → length v ≡ last_stage problem → w.parts ≡ padded v
+      → s < length states → IsLeastFrom states s w
       → (T : List (List Sym)) (n : ℕ) → PassesWhole problem (name_of names s) T n → IsAtMost v (counts_rest problem T n)
   least_of_all s w v size is here from T n passes =
       let found = passed_state problem (last_stage problem) stage names states table.named 0 zero_words (name_of names s) T n passes in
@@ -117,7 +124,8 @@ module _ (problem : Problem) (stage : IsStage problem (last_stage problem)) (few
       at_most w (weight_of parts.after) v (counts_rest problem T n) is (rest ∙ ap padded total) (length_rest T n ∙ sym size) (from.least parts.after run)
 
   -- the least weight from a state is the least vector that remains from its name
-  pub least_rest_vector : (s : ℕ) (w : Ranked) → IsLeastFrom states s w → (v : List ℕ) × ((w.parts ≡ padded v) × IsLeastRestVector problem (name_of names s) v)
+  pub least_rest_vector : (s : ℕ) (w : Ranked) → IsLeastFrom states s w
+      → (v : List ℕ) × ((w.parts ≡ padded v) × IsLeastRestVector problem (name_of names s) v)
   least_rest_vector s w from =
       let found = from.some in
       let here : s < length states = run_exists states s found.0 found.1 in

@@ -44,7 +44,8 @@ module _ (problem : Problem) (stage : IsStage problem (last_stage problem)) (few
         (λ a. law.0 ((tight.accepts T).0 a), λ o. (tight.accepts T).1 (law.1 o))
 
     -- its names are the kinds that these pass
-    pub once_kinds : (k : PrefixKind) → Contains (names_kept names old) k ↔ IsPassed problem (last_stage problem) (last_stage problem) k
+    pub once_kinds : (k : PrefixKind)
+        → Contains (names_kept names old) k ↔ IsPassed problem (last_stage problem) (last_stage problem) k
     once_kinds = names_law problem (last_stage problem) stage (names_kept names old) pruned once_named (last_stage problem) once_words tight.on_runs
 
     -- reading a prefix of one ends at the state of its kind

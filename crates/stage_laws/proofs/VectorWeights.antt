@@ -46,15 +46,19 @@ module _ (problem : Problem) (stage : IsStage problem (last_stage problem)) (few
   weight_nil : (weight_of (let none : List (TableArc Ranked g) = [] in none)).parts ≡ padded (map (λ c. 0) (take (last_stage problem) problem.constraints))
   weight_nil = ap (λ m. m.zero.parts) meaning ∙ sym (padded_zero (take (last_stage problem) problem.constraints) (omega (arith, firsts, few)))
 
-  weight_cons : (arc : TableArc Ranked g) (arcs : List (TableArc Ranked g)) → (weight_of (arc ∷ arcs)).parts ≡ sum_of_parts arc.weight.parts (weight_of arcs).parts
+  weight_cons : (arc : TableArc Ranked g) (arcs : List (TableArc Ranked g))
+      → (weight_of (arc ∷ arcs)).parts ≡ sum_of_parts arc.weight.parts (weight_of arcs).parts
   weight_cons arc arcs = ap (λ m. (m.sum arc.weight (weight_of arcs)).parts) meaning
 
-  length_move : (k : PrefixKind) (column : List Sym) → length (move_costs problem (last_stage problem) k column) ≡ last_stage problem
+  length_move : (k : PrefixKind) (column : List Sym)
+      → length (move_costs problem (last_stage problem) k column) ≡ last_stage problem
   length_move k column = length_costs (take (last_stage problem) problem.constraints) (is_tier_open problem k) k.phases column ∙ firsts
 
-  module _ (named : AreNamedByKinds problem (last_stage problem) names states) (weighed : AreWeighedByAll problem names states) where
+  module _ (named : AreNamedByKinds problem (last_stage problem) names states)
+      (weighed : AreWeighedByAll problem names states) where
     -- a path weighs what its walk costs
-    pub path_vector : (arcs : List (TableArc Ranked g)) (p : List (List Sym)) (s t : ℕ) → IsPath states s arcs t → Reads arcs p → (weight_of arcs).parts ≡ padded (walk (name_of names s) p)
+    pub path_vector : (arcs : List (TableArc Ranked g)) (p : List (List Sym)) (s t : ℕ) → IsPath states s arcs t
+        → Reads arcs p → (weight_of arcs).parts ≡ padded (walk (name_of names s) p)
     path_vector [] [] s t path reads = weight_nil
     path_vector [] (column ∷ p) s t path reads = absurd reads
     path_vector (arc ∷ arcs) [] s t path reads = absurd reads
@@ -69,17 +73,21 @@ module _ (problem : Problem) (stage : IsStage problem (last_stage problem)) (few
         ∙ sum-padded here rest even
         ∙ ap padded (sum_each here rest)
 
-    pub run_vector : (arcs : List (TableArc Ranked g)) (p : List (List Sym)) (s : ℕ) → IsRun states s arcs → Reads arcs p → (weight_of arcs).parts ≡ padded (walk (name_of names s) p)
+    pub run_vector : (arcs : List (TableArc Ranked g)) (p : List (List Sym)) (s : ℕ) → IsRun states s arcs
+        → Reads arcs p → (weight_of arcs).parts ≡ padded (walk (name_of names s) p)
     run_vector arcs p s run reads = let path = run_path states s arcs run in path_vector arcs p s path.0 path.1 reads
 
     -- a run from the kind of a prefix weighs the rest
-    pub rest_vector : (arcs : List (TableArc Ranked g)) (s : ℕ) (p q : List (List Sym)) → name_of names s ≡ kind_of problem (last_stage problem) p → IsRun states s arcs → Reads arcs q → IsCandidate problem (p ++ q)
+    pub rest_vector : (arcs : List (TableArc Ranked g)) (s : ℕ) (p q : List (List Sym))
+        → name_of names s ≡ kind_of problem (last_stage problem) p → IsRun states s arcs → Reads arcs q
+        → IsCandidate problem (p ++ q)
         → (weight_of arcs).parts ≡ padded (counts_rest problem (p ++ q) (length p))
     rest_vector arcs s p q name run reads c =
         run_vector arcs q s run reads ∙ ap (λ k. padded (walk k q)) name ∙ ap padded (sym (rest_walk problem stage p q c))
 
   -- an accepting run weighs the vector of what it reads
-  pub run_vector_law : IsRankedTable problem names states → (arcs : List (TableArc Ranked g)) (T : List (List Sym)) → AcceptingRun states T arcs → (weight_of arcs).parts ≡ padded (counts_on problem T)
+  pub run_vector_law : IsRankedTable problem names states → (arcs : List (TableArc Ranked g)) (T : List (List Sym))
+      → AcceptingRun states T arcs → (weight_of arcs).parts ≡ padded (counts_on problem T)
   run_vector_law table arcs T accepting =
       run_vector table.named table.weighed arcs T 0 accepting.run accepting.reads
       ∙ ap (λ k. padded (walk k T)) table.named.start
@@ -90,7 +98,8 @@ bit_most true = omega arith
 bit_most false = omega arith
 
 -- a column costs 1 at most under each constraint
-costs_most : (cs : List Constraint) (o : ℕ → Bool) (phases : List Phase) (column : List Sym) → greatest_part (costs_each cs o phases column) ≤ 1
+costs_most : (cs : List Constraint) (o : ℕ → Bool) (phases : List Phase) (column : List Sym)
+    → greatest_part (costs_each cs o phases column) ≤ 1
 costs_most [] o phases column = omega arith
 costs_most (c ∷ cs) o phases column =
     let first = bit_most (costs c.family c.left c.right o (first_phase phases) column) in

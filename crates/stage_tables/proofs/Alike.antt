@@ -34,27 +34,34 @@ pub record AreAlike {W V : Type 0} {g : Ghosts W} {h : Ghosts V} (old : List (Ta
   pub ends : (k : ℕ) → k < length old → accepting_at new k ≡ accepting_at old k
   pub moves : (k : ℕ) → k < length old → AllZip IsAlike (moves_at old k) (moves_at new k)
 
-module _ {W V : Type 0} {g : Ghosts W} {h : Ghosts V} (old : List (TableState W g)) (new : List (TableState V h)) (alike : AreAlike old new) where
-  forth : (s : ℕ) (a : TableArc W g) → Contains (moves_at old s) a → (b : TableArc V h) × Contains (moves_at new s) b × IsAlike a b
+module _ {W V : Type 0} {g : Ghosts W} {h : Ghosts V} (old : List (TableState W g)) (new : List (TableState V h))
+    (alike : AreAlike old new) where
+  forth : (s : ℕ) (a : TableArc W g) → Contains (moves_at old s) a
+      → (b : TableArc V h) × Contains (moves_at new s) b × IsAlike a b
   forth s a here = zip_to IsAlike (moves_at old s) (moves_at new s) (alike.moves s (moves_exist old s a here)) here.0 a here.1 here.2
 
-  back : (s : ℕ) (b : TableArc V h) → Contains (moves_at new s) b → (a : TableArc W g) × Contains (moves_at old s) a × IsAlike a b
+  back : (s : ℕ) (b : TableArc V h) → Contains (moves_at new s) b
+      → (a : TableArc W g) × Contains (moves_at old s) a × IsAlike a b
   back s b here = zip_from IsAlike (moves_at old s) (moves_at new s) (alike.moves s (omega (arith, moves_exist new s b here, alike.each_state))) here.0 b here.1 here.2
 
-  reads_new : (a : TableArc W g) (b : TableArc V h) (column : List Sym) → IsAlike a b → IsTrue (has a.class column) → IsTrue (has b.class column)
+  reads_new : (a : TableArc W g) (b : TableArc V h) (column : List Sym) → IsAlike a b → IsTrue (has a.class column)
+      → IsTrue (has b.class column)
   reads_new a b column same reads = subst (λ (c : Class). IsTrue (has c column)) (sym same.same_class) reads
 
-  reads_old : (a : TableArc W g) (b : TableArc V h) (column : List Sym) → IsAlike a b → IsTrue (has b.class column) → IsTrue (has a.class column)
+  reads_old : (a : TableArc W g) (b : TableArc V h) (column : List Sym) → IsAlike a b → IsTrue (has b.class column)
+      → IsTrue (has a.class column)
   reads_old a b column same reads = subst (λ (c : Class). IsTrue (has c column)) same.same_class reads
 
-  path_forth : (arcs : List (TableArc W g)) (s t : ℕ) → IsPath old s arcs t → (others : List (TableArc V h)) × IsPath new s others t
+  path_forth : (arcs : List (TableArc W g)) (s t : ℕ) → IsPath old s arcs t
+      → (others : List (TableArc V h)) × IsPath new s others t
   path_forth [] s t path = ([], path)
   path_forth (a ∷ arcs) s t path =
       let b = forth s a path.0 in
       let rest = path_forth arcs a.target t path.1 in
       (b.0 ∷ rest.0, (b.1, subst (λ x. IsPath new x rest.0 t) (sym b.2.same_target) rest.1))
 
-  run_forth : (arcs : List (TableArc W g)) (s : ℕ) → IsRun old s arcs → (others : List (TableArc V h)) × IsRun new s others × ((p : List (List Sym)) → Reads arcs p → Reads others p)
+  run_forth : (arcs : List (TableArc W g)) (s : ℕ) → IsRun old s arcs
+      → (others : List (TableArc V h)) × IsRun new s others × ((p : List (List Sym)) → Reads arcs p → Reads others p)
   run_forth [] s run = ([], alike.ends s (run_exists old s [] run) ∙ run, λ p r. reads_none p r)
     where
       reads_none : (p : List (List Sym)) → Reads (let none : List (TableArc W g) = [] in none) p → Reads (let none : List (TableArc V h) = [] in none) p
@@ -62,7 +69,8 @@ module _ {W V : Type 0} {g : Ghosts W} {h : Ghosts V} (old : List (TableState W 
       reads_none (column ∷ p) r = absurd r
   run_forth (a ∷ arcs) s run = go (forth s a run.0) (run_forth arcs a.target run.1)
     where
-      go : ((b : TableArc V h) × Contains (moves_at new s) b × IsAlike a b) → ((others : List (TableArc V h)) × IsRun new a.target others × ((p : List (List Sym)) → Reads arcs p → Reads others p))
+      go : ((b : TableArc V h) × Contains (moves_at new s) b × IsAlike a b)
+          → ((others : List (TableArc V h)) × IsRun new a.target others × ((p : List (List Sym)) → Reads arcs p → Reads others p))
           → (others : List (TableArc V h)) × IsRun new s others × ((p : List (List Sym)) → Reads (a ∷ arcs) p → Reads others p)
       go b rest = (b.0 ∷ rest.0, (b.1, subst (λ x. IsRun new x rest.0) (sym b.2.same_target) rest.1), reads)
         where
@@ -125,18 +133,21 @@ module _ {W V : Type 0} {g : Ghosts W} {h : Ghosts V} (old : List (TableState W 
   }
 
 -- tables that are alike accept the same words
-pub alike_turned : {W V : Type 0} {g : Ghosts W} {h : Ghosts V} (old : List (TableState W g)) (new : List (TableState V h)) → AreAlike old new → AreAlike new old
+pub alike_turned : {W V : Type 0} {g : Ghosts W} {h : Ghosts V} (old : List (TableState W g)) (new : List (TableState V h))
+    → AreAlike old new → AreAlike new old
 alike_turned old new alike = record {
   each_state = sym alike.each_state;
   ends = λ k l. sym (alike.ends k (omega (arith, l, alike.each_state)));
   moves = λ k l. turned (moves_at old k) (moves_at new k) (alike.moves k (omega (arith, l, alike.each_state)));
 }
   where
-    turned : {W V : Type 0} {g : Ghosts W} {h : Ghosts V} (xs : List (TableArc W g)) (ys : List (TableArc V h)) → AllZip IsAlike xs ys → AllZip IsAlike ys xs
+    turned : {W V : Type 0} {g : Ghosts W} {h : Ghosts V} (xs : List (TableArc W g)) (ys : List (TableArc V h))
+        → AllZip IsAlike xs ys → AllZip IsAlike ys xs
     turned [] [] z = tt
     turned [] (y ∷ ys) z = absurd z
     turned (x ∷ xs) [] z = absurd z
     turned (x ∷ xs) (y ∷ ys) z = (record { same_class = sym z.0.same_class; same_target = sym z.0.same_target }, turned xs ys z.1)
 
-pub alike_words : {W V : Type 0} {g : Ghosts W} {h : Ghosts V} (old : List (TableState W g)) (new : List (TableState V h)) → AreAlike old new → (T : List (List Sym)) → Accepts new T ↔ Accepts old T
+pub alike_words : {W V : Type 0} {g : Ghosts W} {h : Ghosts V} (old : List (TableState W g)) (new : List (TableState V h))
+    → AreAlike old new → (T : List (List Sym)) → Accepts new T ↔ Accepts old T
 alike_words old new alike T = (alike_accepts new old (alike_turned old new alike) T, alike_accepts old new alike T)

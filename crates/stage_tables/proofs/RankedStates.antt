@@ -36,10 +36,12 @@ zip_next {A} R xs ys n x y zipped l is r =
     let more : take (n + 1) xs ≡ take n xs ++ x ∷ [] = take_more xs n x l ∙ ap (λ e. take n xs ++ e ∷ []) (sym is) in
     subst (λ (zs : List A). AllZip R zs (ys ++ y ∷ [])) (sym more) (zip_push R (take n xs) ys x y zipped r)
 
-pub zip_all : {A B : Type 0} (R : A → B → Type 0) (xs : List A) (ys : List B) (n : ℕ) → AllZip R (take n xs) ys → length xs ≤ n → AllZip R xs ys
+pub zip_all : {A B : Type 0} (R : A → B → Type 0) (xs : List A) (ys : List B) (n : ℕ) → AllZip R (take n xs) ys
+    → length xs ≤ n → AllZip R xs ys
 zip_all {A} R xs ys n zipped l = subst (λ (zs : List A). AllZip R zs ys) (take_all n xs l) zipped
 
-module _ {g : Ghosts Count} {h : Ghosts Ranked} (frame : Frame) (kinds : List Kind) (old : List (TableState Count g)) where
+module _ {g : Ghosts Count} {h : Ghosts Ranked} (frame : Frame) (kinds : List Kind) (old : List (TableState Count g))
+    where
   pub no_states : (new : List (TableState Ranked h)) → new ≡ [] → AreRankedStates frame kinds old new 0
   no_states new none = record {
     count = ap (λ (xs : List (TableState Ranked h)). length xs) none;
@@ -47,8 +49,10 @@ module _ {g : Ghosts Count} {h : Ghosts Ranked} (frame : Frame) (kinds : List Ki
     moves = λ k l. absurd (omega (arith, l));
   }
 
-  pub next_state : (new : List (TableState Ranked h)) (n : ℕ) (state : TableState Ranked h) → AreRankedStates frame kinds old new n
-      → state.accepting ≡ accepting_at old n → AllZip (IsRankedMove frame (kind_numbered kinds n)) (moves_at old n) state.arcs.items
+  pub next_state : (new : List (TableState Ranked h)) (n : ℕ) (state : TableState Ranked h)
+      → AreRankedStates frame kinds old new n
+      → state.accepting ≡ accepting_at old n
+      → AllZip (IsRankedMove frame (kind_numbered kinds n)) (moves_at old n) state.arcs.items
       → AreRankedStates frame kinds old (new ++ state ∷ []) (n + 1)
   next_state new n state so_far ends moves = record {
     count = omega (arith, length_push new state, so_far.count);
@@ -68,12 +72,14 @@ module _ {g : Ghosts Count} {h : Ghosts Ranked} (frame : Frame) (kinds : List Ki
     ];
   }
 
-module _ {g : Ghosts Count} (frame : Frame) (kinds : List Kind) (old : List (TableState Count g)) (whole : IsWholeTable frame kinds old) where
+module _ {g : Ghosts Count} (frame : Frame) (kinds : List Kind) (old : List (TableState Count g))
+    (whole : IsWholeTable frame kinds old) where
   many_kinds : length kinds ≡ length old
   many_kinds = sym (length-map kinds (kind_at_stage frame (last_stage (problem_in frame)))) ∙ whole.named.each_named
 
   -- the kind of a state fits the frame
-  pub kind_fits : (k : ℕ) (kind : Kind) → k < length old → kind ≡ get_or kinds k kind → FitsFrame frame (last_stage (problem_in frame)) kind
+  pub kind_fits : (k : ℕ) (kind : Kind) → k < length old → kind ≡ get_or kinds k kind
+      → FitsFrame frame (last_stage (problem_in frame)) kind
   kind_fits k kind l is = subst (FitsFrame frame (last_stage (problem_in frame))) (sym is) (whole.fit k kind (omega (arith, l, many_kinds)))
 
   pub kind_is : (k : ℕ) (kind : Kind) → k < length old → kind ≡ get_or kinds k kind → kind ≡ kind_numbered kinds k
@@ -90,7 +96,8 @@ module _ {g : Ghosts Count} (frame : Frame) (kinds : List Kind) (old : List (Tab
   pub columns_of : (s : ℕ) → All (λ arc. IsColumnOf frame arc.class) (moves_at old s)
   columns_of s k d l = column_of s (get_or (moves_at old s) k d) (Contains-get_or (moves_at old s) k d l)
 
-  module _ {h : Ghosts Ranked} (new : List (TableState Ranked h)) (made : AreRankedStates frame kinds old new (length old)) where
+  module _ {h : Ghosts Ranked} (new : List (TableState Ranked h))
+      (made : AreRankedStates frame kinds old new (length old)) where
     pub are_alike : AreAlike old new
     are_alike = record {
       each_state = made.count;
@@ -101,7 +108,8 @@ module _ {g : Ghosts Count} (frame : Frame) (kinds : List Kind) (old : List (Tab
           (moves_at old k) (moves_at new k) (made.moves k l);
     }
 
-    name_is : (k : ℕ) → k < length old → name_of (names_at frame (last_stage (problem_in frame)) kinds) k ≡ kind_at_stage frame (last_stage (problem_in frame)) (kind_numbered kinds k)
+    name_is : (k : ℕ) → k < length old
+        → name_of (names_at frame (last_stage (problem_in frame)) kinds) k ≡ kind_at_stage frame (last_stage (problem_in frame)) (kind_numbered kinds k)
     name_is k l = get_or-map (kind_at_stage frame (last_stage (problem_in frame))) kinds k _ _ (omega (arith, l, many_kinds))
 
     weighed : AreWeighedByAll (problem_in frame) (names_at frame (last_stage (problem_in frame)) kinds) new

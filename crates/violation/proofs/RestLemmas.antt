@@ -54,6 +54,7 @@ module _ (problem : Problem) (stage : IsStage problem (last_stage problem)) wher
       let on : map f (take n problem.constraints) ≡ add_each (map g (take n problem.constraints)) walk = costs_on problem n stage.split stage.form over q p T refl c in
       ap (map (λ x. f x - g x)) (sym all_of) ∙ less_each f g (take n problem.constraints) walk size on
 
-  pub length_whole_walk : (q : List (List Sym)) (k : PrefixKind) → length (walk_costs problem (last_stage problem) k q) ≡ last_stage problem
+  pub length_whole_walk : (q : List (List Sym)) (k : PrefixKind)
+      → length (walk_costs problem (last_stage problem) k q) ≡ last_stage problem
   length_whole_walk q k =
       length_walk problem (last_stage problem) stage.split stage.form (over_first problem (last_stage problem) stage) q k ∙ ap length all_of

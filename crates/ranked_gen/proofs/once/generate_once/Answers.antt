@@ -15,7 +15,7 @@ returns-then-kinds-budget-clause-over c = λ stage e.
     let same : c.len-stage.result ≡ stage = cc in
     let number : c.len-stage.result ≡ length g.constraints.items = omega (arith, c.len-stage.ensures, g.constraints.ok) in
     let counted : c.count_kinds-kinds.result ≡ kind_count problem =
-        counted_kinds _ _ _ (length problem.form) (length problem.tiers.free) c.count_kinds-kinds.ensures (omega arith) c.free_count-free.ensures.value in
+    counted_kinds _ _ _ (length problem.form) (length problem.tiers.free) c.count_kinds-kinds.ensures (omega arith) c.free_count-free.ensures.value in
     let first = first_over problem (tiers_split g.tiers.kinds.items) (free_distinct g.tiers.kinds.items) c.requires.form c.args.budget (omega (arith, counted, c.if-kinds-budget.true)) in
     (sym same ∙ number, first_over_whole problem c.args.budget first.over)
 

@@ -57,19 +57,19 @@ returns c =
     let kept = c.in_ok-kept.kept in
     let number : c.len-number.result ≡ last_stage (problem_in frame) = omega (arith, c.len-number.ensures, frame.grammar.now.constraints.ok) in
     let sorted : IsKindOrder shape (last_stage (problem_in frame)) kinds order =
-        subst (λ n. IsKindOrder shape n kinds order) number
-        (subst (λ (ks : List Kind). IsKindOrder shape c.len-number.result ks order) c.deref.ensures.value c.in_ok-order.ensures) in
+    subst (λ n. IsKindOrder shape n kinds order) number
+    (subst (λ (ks : List Kind). IsKindOrder shape c.len-number.result ks order) c.deref.ensures.value c.in_ok-order.ensures) in
     let listed : nodes ≡ map (once_node kinds least) order =
-        c.in-Ok.ensures
-        ∙ ap (λ (ks : List Kind). map (once_node ks c.deref-3.result.now) c.deref-4.result.now) c.deref-2.ensures.value
-        ∙ ap (λ (ws : List (Option Ranked)). map (once_node kinds ws) c.deref-4.result.now) c.deref-3.ensures.value
-        ∙ ap (map (once_node kinds least)) c.deref-4.ensures.value in
+    c.in-Ok.ensures
+    ∙ ap (λ (ks : List Kind). map (once_node ks c.deref-3.result.now) c.deref-4.result.now) c.deref-2.ensures.value
+    ∙ ap (λ (ws : List (Option Ranked)). map (once_node kinds ws) c.deref-4.result.now) c.deref-3.ensures.value
+    ∙ ap (map (once_node kinds least)) c.deref-4.ensures.value in
     let inside : 0 < length least = omega (arith, c.in_ok-least.ensures.each_state, table.some) in
     let first : c.index.result.now ≡ get_or least 0 None = c.index.ensures ∙ get_or_default least 0 c.index.result.now None inside in
     let found : c.weight_found.result ≡ weight_found (get_or least 0 None) = c.weight_found.ensures ∙ ap weight_found first in
     let is : counts ≡ take (last_stage (problem_in frame)) (weight_found (get_or least 0 None)).parts =
-        c.in-Ok-first_parts.ensures
-        ∙ ap (λ n. take n c.weight_found.result.parts) number
-        ∙ ap (λ (w : Ranked). take (last_stage (problem_in frame)) w.parts) found in
+    c.in-Ok-first_parts.ensures
+    ∙ ap (λ n. take n c.weight_found.result.parts) number
+    ∙ ap (λ (w : Ranked). take (last_stage (problem_in frame)) w.parts) found in
     once_part frame kinds refl (states_of table) c.in_ok-table.ensures least c.in_ok-least.ensures shape c.in_ok-shape.ensures order sorted nodes listed
-        (states_of kept.table) kept.states.items c.in_ok-kept.ensures kept.table.some kept.table.targets kept.table.filled counts is
+    (states_of kept.table) kept.states.items c.in_ok-kept.ensures kept.table.some kept.table.targets kept.table.filled counts is

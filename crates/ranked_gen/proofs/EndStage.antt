@@ -25,13 +25,14 @@ use Rattle.stage_laws.proofs.Paths.{IsParted, run_exists, parted, joined_run, jo
 use Rattle.kind_orders.specs.Orderings.{IsOrdering, AreRanks}
 use Rattle.kind_orders.specs.AutomatonLines.{nodes_of}
 use Rattle.kind_orders.specs.Automata.{HasWidth, Reaches, IsAutomatonOf}
-use Rattle.ranked_gen.specs.Left.{TellsKind, IsLeft}
+use Rattle.ranked_gen.specs.Left.{TellsKind}
+use Rattle.ranked_gen.specs.OptimalParts.{IsOptimalPart}
 use Rattle.violation.specs.Problems.{last_stage, Problem}
 
 node_of : (problem : Problem) (nodes : List Node) (n : ℕ) (k : PrefixKind) → TellsKind problem (last_stage problem) nodes n k → IsNodeOf problem nodes n k
 node_of problem nodes n k t = record { node = t.node; numbered = t.numbered; tells = t.tells }
 
-module _ {g : Ghosts UnitWeight} (problem : Problem) (nodes : List Node) (kept : List (TableState UnitWeight g)) (filled : ClassesFilled kept) (some : 0 < length kept) (states order ranks : List ℕ) (left : IsLeft problem (last_stage problem) nodes kept states order) (numbers : IsOrdering (length order) ranks) (told : AreRanks order ranks) where
+module _ {g : Ghosts UnitWeight} (problem : Problem) (nodes : List Node) (kept : List (TableState UnitWeight g)) (filled : ClassesFilled kept) (some : 0 < length kept) (states order ranks : List ℕ) (left : IsOptimalPart problem (last_stage problem) nodes kept states order) (numbers : IsOrdering (length order) ranks) (told : AreRanks order ranks) where
   abbrev rank_of : ℕ → ℕ
   rank_of s = get_or ranks (get_or states s 0) 0
 
@@ -57,7 +58,7 @@ module _ {g : Ghosts UnitWeight} (problem : Problem) (nodes : List Node) (kept :
 
   node_passed : (s : ℕ) → s < length kept → (k : PrefixKind) × (IsNodeOf problem nodes (get_or (nodes_of ranks states) s 0) k × IsPassed problem (last_stage problem) (last_stage problem) k)
   node_passed s l =
-      let on = left.kept_by.1.on_runs s l in
+      let on = left.on_runs s l in
       let p = path_word kept filled 0 s on.0 on.1 in
       let q = some_word kept filled s on.2.0 on.2.1 in
       let k = kind_of problem (last_stage problem) p.0 in (
@@ -79,7 +80,7 @@ module _ {g : Ghosts UnitWeight} (problem : Problem) (nodes : List Node) (kept :
   has_width : HasWidth problem.tiers.width kept
   has_width s arc c =
       let have = has-first_column arc.class (filled s arc c) in
-      let fit = (left.kept_by.1.named.moves s arc (first_column arc.class) c have).fits in
+      let fit = (left.named.moves s arc (first_column arc.class) c have).fits in
       sym (same_width (sets_of arc.class) (first_column arc.class) have) ∙ fit.width
 
   pub right_automaton : (lines : List StateLine) → IsAutomatonOf kept (nodes_of ranks states) lines → IsRightAutomaton problem nodes lines

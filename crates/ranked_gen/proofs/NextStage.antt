@@ -26,7 +26,7 @@ use Rattle.stage_tables.proofs.Named.{frame_stage}
 use Rattle.violation.specs.Problems.{last_stage}
 use Rattle.kind_moves.specs.Frames.{problem_in}
 
-pairs_differ : {X : Type 0} (xs : List X) → AllPairs (λ x y. x ≢ y) xs → Differ xs
+pub pairs_differ : {X : Type 0} (xs : List X) → AllPairs (λ x y. x ≢ y) xs → Differ xs
 pairs_differ [] h = tt
 pairs_differ (x ∷ xs) h = (
   all_from_members (λ y. x ≢ y) xs (λ y c e. h 0 (suc c.0) y (omega arith) (omega (arith, c.1)) (e ∙ sym c.2)),

@@ -26,7 +26,7 @@ use tier_core::{NoMemory, Timeline};
 use weight_law::UnitWeight;
 
 /// How many kinds so many places have, one for each set of open free tiers.
-fn count_kinds(places: u32, free: u32) -> u32
+pub(crate) fn count_kinds(places: u32, free: u32) -> u32
     requires places { places ≤ 65 }
     requires few { free ≤ 12 }
     ensures { result ≡ places * 2 ^ free }
@@ -79,7 +79,7 @@ fn in_order(alloc: Global, table: Table<UnitWeight>) -> Result<Left, AllocError>
 }
 
 /// Stage 0, whose candidates are all, for the form of a frame. Fails only if memory runs out.
-fn unranked(alloc: Global, frame: &Frame, free: u32) -> Result<Ranked, NoMemory>
+pub(crate) fn unranked(alloc: Global, frame: &Frame, free: u32) -> Result<Ranked, NoMemory>
     requires form { IsForm (tiers_in frame.now) (form_in frame.now) }
     requires count { free ≡ length (tiers_in frame.now).free }
     requires few { free ≤ 12 }

@@ -9,15 +9,22 @@
 //! is right, and `Budget` occurs exactly when a stage has more kinds than the budget, with the
 //! first such stage.
 //!
+//! A second generator, `generate_once`, prunes nothing on its way: it explores stage 0 under all
+//! constraints at once, weighs each move by the vector of what it costs, and prunes one table to its
+//! timelines of least weight. Both give the same counts and example, and accept the same timelines.
+//!
 //! That the candidates of a form are the paths of an automaton, which is pruned constraint by
 //! constraint, goes back to Ellison, Phonological Derivation in Optimality Theory (COLING 1994).
 #![tactic(auto)]
 
+mod agreement;
+mod ending;
 mod flags;
 mod gen_err;
 mod generator;
 mod moves;
 mod number;
+mod once;
 mod pick;
 mod place;
 mod ranked;
@@ -28,5 +35,7 @@ mod stay;
 mod tests;
 mod wide_column;
 
+pub use agreement::both_generators_agree;
 pub use gen_err::GenErr;
 pub use generator::generate;
+pub use once::generate_once;

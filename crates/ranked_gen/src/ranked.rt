@@ -7,12 +7,11 @@ ghost use Rattle.ranked_gen.specs.Left.{IsRanked};
 ghost use Rattle.violation.specs.Problems.{last_stage};
 ghost use Rattle.kind_moves.specs.Frames.{problem_in};
 
+use crate::ending::{Ending, ending_of};
 use crate::gen_err::GenErr;
 use crate::staged::{Left, Staged, next_stage};
 use answer_text::{Answer, Stage};
-use first_paths::first;
 use kind_moves::Frame;
-use kind_orders::{automaton_of, ranks};
 use std::alloc::Global;
 use tier_core::{NoMemory, Timeline};
 
@@ -75,7 +74,7 @@ pub(crate) fn all_ranked(
 }
 
 /// A copy of the timeline. Fails only if memory runs out.
-fn copied(alloc: Global, timeline: &Timeline) -> Result<Timeline, NoMemory>
+pub(crate) fn copied(alloc: Global, timeline: &Timeline) -> Result<Timeline, NoMemory>
     ensures { IfOk result (λ t. t ≡ timeline.now) }
 {
     let mut copy = Timeline::new(alloc);
@@ -96,15 +95,13 @@ pub(crate) fn answered(alloc: Global, frame: &Frame, ranked: Ranked) -> Result<A
     let Ranked {
         stages,
         counts,
-        left: Left { kept, order },
+        left,
     } = ranked;
-    let found = first(alloc, &kept.table)?;
-    let places = ranks(alloc, &order)?;
-    let automaton = automaton_of(alloc, &kept.table, &kept.states, &places)?;
+    let Ending { example, automaton } = ending_of(alloc, frame, &left)?;
     Ok(Answer {
         form: own,
         counts,
-        example: found.unwrap(),
+        example,
         stages,
         automaton,
     })

@@ -110,7 +110,7 @@ pub(crate) fn next_stage(
     ensures within { IfOk result (λ staged. IsWithin (problem_in frame.now) budget stage) }
     ensures over { (s : ℕ) → result ≡ Err (GenErr.Budget s) → (s ≡ stage) × IsOver (problem_in frame.now) budget stage }
 {
-    match explore(alloc, frame, stage, kept, budget) {
+    match explore(alloc, frame, stage - 1, stage, kept, budget) {
         Ok(found) => pruned(alloc, frame, stage, &found).map_err(|_| GenErr::NoMemory),
         Err(ExploreErr::OverBudget) => Err(GenErr::Budget { stage }),
         Err(ExploreErr::NoMemory) => Err(GenErr::NoMemory),

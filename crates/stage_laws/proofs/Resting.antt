@@ -44,17 +44,17 @@ module _ {g : Ghosts Count} (meaning : g.meaning ≡ count_meaning) where
   le_at_most a b l = subst (λ m. m.below b a ≡ false) (sym meaning) (test_from_le a.0 b.0 l)
 
 -- the state of a weight has it as its least
-pub least_from : {g : Ghosts Count} (states : List (TableState Count g)) (least : List (Option Count)) → AreLeast states least → (s : ℕ) (w : Count) → get_or least s None ≡ Some w → IsLeastFrom states s w
-least_from states least are s w e = elim (cases_lt s (length states)) [
-  | inl l ↦ (let P : Option Count → Type 0 = λ o. MatchOption o (HasNoRun states s) (IsLeastFrom states s) in subst P e (are.each s l))
+pub least_from : {W : Type 0} {g : Ghosts W} (states : List (TableState W g)) (least : List (Option W)) → AreLeast states least → (s : ℕ) (w : W) → get_or least s None ≡ Some w → IsLeastFrom states s w
+least_from {W} states least are s w e = elim (cases_lt s (length states)) [
+  | inl l ↦ (let P : Option W → Type 0 = λ o. MatchOption o (HasNoRun states s) (IsLeastFrom states s) in subst P e (are.each s l))
   | inr l ↦ (let gone : get_or least s None ≡ None = get_or_past least s None (omega (arith, are.each_state)) in cc)
 ]
 
 -- a state with a run has a weight
-pub some_weight : {g : Ghosts Count} (states : List (TableState Count g)) (least : List (Option Count)) → AreLeast states least → (s : ℕ) → s < length states → IsOnRun states s → IsSome (get_or least s None)
-some_weight states least are s l on = go (get_or least s None) (are.each s l)
+pub some_weight : {W : Type 0} {g : Ghosts W} (states : List (TableState W g)) (least : List (Option W)) → AreLeast states least → (s : ℕ) → s < length states → IsOnRun states s → IsSome (get_or least s None)
+some_weight {W} states least are s l on = go (get_or least s None) (are.each s l)
   where
-    go : (o : Option Count) → MatchOption o (HasNoRun states s) (IsLeastFrom states s) → IsSome o
+    go : (o : Option W) → MatchOption o (HasNoRun states s) (IsLeastFrom states s) → IsSome o
     go None h = absurd (h on.2.0 on.2.1)
     go (Some w) h = refl
 

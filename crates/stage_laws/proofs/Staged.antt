@@ -1,5 +1,5 @@
 -- From the table of a stage to that of the next: prune it, and go on by kinds under one constraint more.
-use Rattle.std.proofs.Common.{◌↔◌, ◌≤◌, take, Contains, ◌≡◌, ℕ, ◌+◌, ◌<◌, List, length}
+use Rattle.std.proofs.Common.{◌↔◌, ◌≤◌, take, Contains, ◌≡◌, ℕ, ◌+◌, ◌<◌, List, length, arith}
 use Rattle.weight_law.specs.Count.{count_meaning}
 use Rattle.weight_law.specs.declared.Weight.{Ghosts}
 use Rattle.weight_law.specs.declared.count.Count.{Count}
@@ -42,10 +42,13 @@ module _ (problem : Problem) (r : ℕ) (stage : IsStage problem r) {g : Ghosts C
       → (s : ℕ) × ((arcs : List (TableArc V h)) × IsPath pruned 0 arcs s × Reads arcs (take n T)) × ((s < length pruned) × (name_of (names_kept names old) s ≡ kind_of problem r (take n T)))
   kept_paths = prefix_path problem r stage (names_kept names old) pruned named r optimal_words
 
+  more : r ≤ r + 1
+  more = omega arith
+
   -- what is found from it is the next stage's table
-  pub next_stage : (bases : List ℕ) (kinds : List PrefixKind) (found : List (TableState Count g)) → AreFoundFrom problem r (names_kept names old) pruned bases kinds found → AreWeighed problem (r + 1) kinds found
+  pub next_stage : (bases : List ℕ) (kinds : List PrefixKind) (found : List (TableState Count g)) → AreFoundFrom problem r (r + 1) (names_kept names old) pruned bases kinds found → AreWeighed problem (r + 1) kinds found
       → IsStageTable problem (r + 1) kinds found
   next_stage bases kinds found from weighed =
-      next_table problem r kinds found (found_named problem r (names_kept names old) pruned named stage bases kinds found from) weighed
-      (λ T. let same = same_words problem r (names_kept names old) pruned named stage bases kinds found from T in (λ a. (optimal_words T).0 (same.0 a), λ o. same.1 ((optimal_words T).1 o)))
-      (found_on_runs problem r (names_kept names old) pruned named stage bases kinds found from tight.on_runs)
+      next_table problem r kinds found (found_named problem r (r + 1) more (names_kept names old) pruned named stage bases kinds found from) weighed
+      (λ T. let same = same_words problem r (r + 1) more (names_kept names old) pruned named stage bases kinds found from T in (λ a. (optimal_words T).0 (same.0 a), λ o. same.1 ((optimal_words T).1 o)))
+      (found_on_runs problem r (r + 1) more (names_kept names old) pruned named stage bases kinds found from tight.on_runs)

@@ -32,14 +32,13 @@ first_put kinds over k first s n = elim n.grows [
   | inr put ↦ put.0
 ]
 
-module _ {g : Ghosts UnitWeight} (frame : Frame) (stage : ℕ) (some : 1 ≤ stage) (kept : List (TableState UnitWeight g)) (names : List PrefixKind) (by : AreKeptByKinds (problem_in frame) (stage - 1) names kept) where
-  start_named : (first : Kind) → IsStart frame stage first → cut (problem_in frame) (stage - 1) (kind_at_stage frame stage first) ≡ kind_of (problem_in frame) (stage - 1) []
+module _ {g : Ghosts UnitWeight} (frame : Frame) (before stage : ℕ) (further : before ≤ stage) (kept : List (TableState UnitWeight g)) (names : List PrefixKind) (by : AreKeptByKinds (problem_in frame) before names kept) where
+  start_named : (first : Kind) → IsStart frame stage first → cut (problem_in frame) before (kind_at_stage frame stage first) ≡ kind_of (problem_in frame) before []
   start_named first starts =
-      let last : stage ≡ suc (stage - 1) = omega arith in
-      ap (cut (problem_in frame) (stage - 1)) (starts.is ∙ ap (λ n. kind_of (problem_in frame) n []) last)
-      ∙ cut-kind_of (problem_in frame) (stage - 1) (suc (stage - 1)) (omega arith) []
+      ap (cut (problem_in frame) before) starts.is
+      ∙ cut-kind_of (problem_in frame) before stage further []
 
-  pub first_found : (keys : List KindKey) (kinds : List Kind) (over : List ℕ) (first : Kind) → AreListed keys kinds over → IsPutLast [] kinds [] over first 0 → IsStart frame stage first → AreFound frame stage kept keys kinds over
+  pub first_found : (keys : List KindKey) (kinds : List Kind) (over : List ℕ) (first : Kind) → AreListed keys kinds over → IsPutLast [] kinds [] over first 0 → IsStart frame stage first → AreFound frame before stage kept keys kinds over
   first_found keys kinds over first listed put starts = record {
     names = names;
     kept_by = by;
@@ -47,7 +46,7 @@ module _ {g : Ghosts UnitWeight} (frame : Frame) (stage : ℕ) (some : 1 ≤ sta
     start = (first, (ap (λ xs. slice_get xs 0) put.put, ap (λ xs. slice_get xs 0) put.over_put), starts);
     stands = λ k kind s at.
         (let is = only k kind s at in
-        subst (λ (x : Kind). StandsOver frame stage names x s) is.0 (subst (λ (x : ℕ). StandsOver frame stage names first x) is.1 stands));
+        subst (λ (x : Kind). StandsOver frame before stage names x s) is.0 (subst (λ (x : ℕ). StandsOver frame before stage names first x) is.1 stands));
     reached = λ k kind s at.
         (let is = only k kind s at in
         subst (λ (x : Kind). IsReached frame stage kept x s) is.0 (subst (λ (x : ℕ). IsReached frame stage kept first x) is.1 reached));
@@ -59,7 +58,7 @@ module _ {g : Ghosts UnitWeight} (frame : Frame) (stage : ℕ) (some : 1 ≤ sta
         | inr is ↦ is
       ]
 
-      stands : StandsOver frame stage names first 0
+      stands : StandsOver frame before stage names first 0
       stands = record {
         fits = starts.fits;
         within = omega (arith, by.named.some, by.named.each_named);

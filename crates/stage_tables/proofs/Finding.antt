@@ -67,30 +67,28 @@ pub record IsGiven (kinds : List Kind) (over : List ℕ) (k : ℕ) (kind : Kind)
   pub at : IsAt kinds over k given s
   pub same : key_of given ≡ key_of kind
 
-module _ {g : Ghosts UnitWeight} (frame : Frame) (stage : ℕ) (some : 1 ≤ stage) (kept : List (TableState UnitWeight g)) (exist : TargetsExist kept) where
+module _ {g : Ghosts UnitWeight} (frame : Frame) (before stage : ℕ) (further : before ≤ stage) (kept : List (TableState UnitWeight g)) (exist : TargetsExist kept) where
   -- what stands over a state of the kept table
-  module _ (names : List PrefixKind) (by : AreKeptByKinds (problem_in frame) (stage - 1) names kept) where
+  module _ (names : List PrefixKind) (by : AreKeptByKinds (problem_in frame) before names kept) where
     -- a column of a kept move fits the kind
-    pub fits_kind : (kind : Kind) (s : ℕ) → StandsOver frame stage names kind s → (arc : TableArc UnitWeight g) (column : List Sym) → Contains (moves_at kept s) arc → IsTrue (has arc.class column) → FitsAt frame stage kind column
+    pub fits_kind : (kind : Kind) (s : ℕ) → StandsOver frame before stage names kind s → (arc : TableArc UnitWeight g) (column : List Sym) → Contains (moves_at kept s) arc → IsTrue (has arc.class column) → FitsAt frame stage kind column
     fits_kind kind s stands arc column here h =
         let goes = by.named.moves s arc column here h in
-        (fits-cut (problem_in frame) (stage - 1) (kind_at_stage frame stage kind) column).0
+        (fits-cut (problem_in frame) before (kind_at_stage frame stage kind) column).0
         (subst (λ (k : PrefixKind). FitsKind (problem_in frame) k column) (sym stands.named) goes.fits)
 
     -- and leads to a kind over the move's target
-    pub next_stands : (kind : Kind) (s : ℕ) → StandsOver frame stage names kind s → (arc : TableArc UnitWeight g) (column : List Sym) → Contains (moves_at kept s) arc → IsTrue (has arc.class column) → (next : Kind) → IsMove frame stage kind column next → StandsOver frame stage names next arc.target
+    pub next_stands : (kind : Kind) (s : ℕ) → StandsOver frame before stage names kind s → (arc : TableArc UnitWeight g) (column : List Sym) → Contains (moves_at kept s) arc → IsTrue (has arc.class column) → (next : Kind) → IsMove frame stage kind column next → StandsOver frame before stage names next arc.target
     next_stands kind s stands arc column here h next m =
         let problem = problem_in frame in
         let goes = by.named.moves s arc column here h in
-        let last : stage ≡ suc (stage - 1) = omega arith in
         record {
           fits = m.next_fits;
           within = omega (arith, exist s arc here, by.named.each_named);
           named =
-              ap (cut problem (stage - 1)) m.leads
-              ∙ ap (λ n. cut problem (stage - 1) (moved problem n (kind_at_stage frame stage kind) column)) last
-              ∙ cut-moved problem (stage - 1) (suc (stage - 1)) (omega arith) (kind_at_stage frame stage kind) column
-              ∙ ap (λ k. moved problem (stage - 1) k column) stands.named
+              ap (cut problem before) m.leads
+              ∙ cut-moved problem before stage further (kind_at_stage frame stage kind) column
+              ∙ ap (λ k. moved problem before k column) stands.named
               ∙ sym goes.leads;
         }
 
@@ -106,9 +104,9 @@ module _ {g : Ghosts UnitWeight} (frame : Frame) (stage : ℕ) (some : 1 ≤ sta
     reads = reads_more r.arcs r.prefix arc column r.reads h;
   }
 
-  module _ (keys next_keys : List KindKey) (kinds next_kinds : List Kind) (over next_over : List ℕ) (found : AreFound frame stage kept keys kinds over) (listed : AreListed next_keys next_kinds next_over) where
+  module _ (keys next_keys : List KindKey) (kinds next_kinds : List Kind) (over next_over : List ℕ) (found : AreFound frame before stage kept keys kinds over) (listed : AreListed next_keys next_kinds next_over) where
     -- a kind is put last that stands over a state and is reached
-    pub found_put : (kind : Kind) (s : ℕ) → IsPutLast kinds next_kinds over next_over kind s → StandsOver frame stage found.names kind s → IsReached frame stage kept kind s → AreFound frame stage kept next_keys next_kinds next_over
+    pub found_put : (kind : Kind) (s : ℕ) → IsPutLast kinds next_kinds over next_over kind s → StandsOver frame before stage found.names kind s → IsReached frame stage kept kind s → AreFound frame before stage kept next_keys next_kinds next_over
     found_put kind s put stands reached = record {
       names = found.names;
       kept_by = found.kept_by;
@@ -116,7 +114,7 @@ module _ {g : Ghosts UnitWeight} (frame : Frame) (stage : ℕ) (some : 1 ≤ sta
       start = (found.start.0, move 0 found.start.0 0 (stays_put kinds over kind s 0 found.start.0 0 found.start.1), found.start.2);
       stands = λ k other t at. elim (cases k other t at) [
         | inl was ↦ found.stands k other t was
-        | inr is ↦ subst (λ (x : Kind). StandsOver frame stage found.names x t) is.0 (subst (λ (x : ℕ). StandsOver frame stage found.names kind x) is.1 stands)
+        | inr is ↦ subst (λ (x : Kind). StandsOver frame before stage found.names x t) is.0 (subst (λ (x : ℕ). StandsOver frame before stage found.names kind x) is.1 stands)
       ];
       reached = λ k other t at. elim (cases k other t at) [
         | inl was ↦ found.reached k other t was
@@ -130,7 +128,7 @@ module _ {g : Ghosts UnitWeight} (frame : Frame) (stage : ℕ) (some : 1 ≤ sta
         cases : (k : ℕ) (other : Kind) (t : ℕ) → IsAt next_kinds next_over k other t → IsAt kinds over k other t ⊎ ((kind ≡ other) × (s ≡ t))
         cases k other t at = at_cases kinds over found.listed.each kind s k other t (ap (λ xs. slice_get xs k) (sym put.put) ∙ at.0, ap (λ xs. slice_get xs k) (sym put.over_put) ∙ at.1)
 
-    pub found_same : IsSame kinds next_kinds over next_over → AreFound frame stage kept next_keys next_kinds next_over
+    pub found_same : IsSame kinds next_kinds over next_over → AreFound frame before stage kept next_keys next_kinds next_over
     found_same same = record {
       names = found.names;
       kept_by = found.kept_by;
@@ -153,14 +151,14 @@ module _ {g : Ghosts UnitWeight} (frame : Frame) (stage : ℕ) (some : 1 ≤ sta
     ]
 
     -- a kind that is numbered is found
-    pub found_numbered : (k : ℕ) (kind : Kind) (s : ℕ) → IsNumbered kinds next_kinds over next_over k kind s → StandsOver frame stage found.names kind s → IsReached frame stage kept kind s → AreFound frame stage kept next_keys next_kinds next_over
+    pub found_numbered : (k : ℕ) (kind : Kind) (s : ℕ) → IsNumbered kinds next_kinds over next_over k kind s → StandsOver frame before stage found.names kind s → IsReached frame stage kept kind s → AreFound frame before stage kept next_keys next_kinds next_over
     found_numbered k kind s n stands reached = elim n.grows [
       | inl same ↦ found_same same
       | inr put ↦ found_put kind s put.0 stands reached
     ]
 
     -- its number is of a kind of its key, over its state
-    pub found_given : (k : ℕ) (kind : Kind) (s : ℕ) → IsNumbered kinds next_kinds over next_over k kind s → StandsOver frame stage found.names kind s → IsReached frame stage kept kind s → IsGiven next_kinds next_over k kind s
+    pub found_given : (k : ℕ) (kind : Kind) (s : ℕ) → IsNumbered kinds next_kinds over next_over k kind s → StandsOver frame before stage found.names kind s → IsReached frame stage kept kind s → IsGiven next_kinds next_over k kind s
     found_given k kind s n stands reached =
         let l = slice_get_within next_kinds k n.at.0 n.at.1 in
         let entry = at_number next_kinds next_over listed.each k l in
@@ -174,12 +172,12 @@ module _ {g : Ghosts UnitWeight} (frame : Frame) (stage : ℕ) (some : 1 ≤ sta
           same = key;
         }
       where
-        names_same : (k : ℕ) (kind : Kind) (s : ℕ) (n : IsNumbered kinds next_kinds over next_over k kind s) → (other : Kind) (t : ℕ) → StandsOver frame stage found.names kind s → StandsOver frame stage found.names other t → key_of other ≡ key_of kind → t ≡ s
+        names_same : (k : ℕ) (kind : Kind) (s : ℕ) (n : IsNumbered kinds next_kinds over next_over k kind s) → (other : Kind) (t : ℕ) → StandsOver frame before stage found.names kind s → StandsOver frame before stage found.names other t → key_of other ≡ key_of kind → t ≡ s
         names_same k kind s n other t stands that key =
             one_name found.names found.kept_by.named.distinct t s that.within stands.within
-            (sym that.named ∙ ap (cut (problem_in frame) (stage - 1)) (same_told frame stage other kind key) ∙ stands.named)
+            (sym that.named ∙ ap (cut (problem_in frame) before) (same_told frame stage other kind key) ∙ stands.named)
 
-        own : (k : ℕ) (kind : Kind) (s : ℕ) (n : IsNumbered kinds next_kinds over next_over k kind s) → StandsOver frame stage found.names kind s → IsReached frame stage kept kind s → (other : Kind) (t : ℕ) → IsAt next_kinds next_over k other t → key_of other ≡ key_of kind → t ≡ s
+        own : (k : ℕ) (kind : Kind) (s : ℕ) (n : IsNumbered kinds next_kinds over next_over k kind s) → StandsOver frame before stage found.names kind s → IsReached frame stage kept kind s → (other : Kind) (t : ℕ) → IsAt next_kinds next_over k other t → key_of other ≡ key_of kind → t ≡ s
         own k kind s n stands reached other t at key = elim n.grows [
           | inl same ↦
               (let was : IsAt kinds over k other t = (ap (λ xs. slice_get xs k) (sym same.same) ∙ at.0, ap (λ xs. slice_get xs k) (sym same.over_same) ∙ at.1) in
@@ -191,7 +189,7 @@ module _ {g : Ghosts UnitWeight} (frame : Frame) (stage : ℕ) (some : 1 ≤ sta
         ]
 
   -- the new move of a kept one
-  pub taken_move : {h : Ghosts Count} (kinds : List Kind) (over : List ℕ) (names : List PrefixKind) (by : AreKeptByKinds (problem_in frame) (stage - 1) names kept)
+  pub taken_move : {h : Ghosts Count} (kinds : List Kind) (over : List ℕ) (names : List PrefixKind) (by : AreKeptByKinds (problem_in frame) before names kept)
       → (kind next : Kind) (s : ℕ) (a : TableArc UnitWeight g) (b : TableArc Count h) (column : List Sym) → Contains (moves_at kept s) a → IsTrue (has a.class column) → IsMove frame stage kind column next
       → b.class ≡ a.class → b.weight.0 ≡ cost_of (problem_in frame) stage (kind_at_stage frame stage kind) column
       → IsGiven kinds over b.target next a.target → IsTaken frame stage kinds over kind a b

@@ -49,10 +49,10 @@ pub record IsNumbered (kinds next_kinds : List Kind) (over next_over : List ℕ)
 
 -- a kind under the first constraints of a stage fits the frame, and cut to those before the last it
 -- is the name of state s
-pub record StandsOver (frame : Frame) (stage : ℕ) (names : List PrefixKind) (kind : Kind) (s : ℕ) : Type 0 where
+pub record StandsOver (frame : Frame) (before stage : ℕ) (names : List PrefixKind) (kind : Kind) (s : ℕ) : Type 0 where
   pub fits : FitsFrame frame stage kind
   pub within : s < length names
-  pub named : cut (problem_in frame) (stage - 1) (kind_at_stage frame stage kind) ≡ name_of names s
+  pub named : cut (problem_in frame) before (kind_at_stage frame stage kind) ≡ name_of names s
 
 -- moves by a prefix lead from the start to the kind, and the kept table goes by it to state s
 pub record IsReached {g : Ghosts UnitWeight} (frame : Frame) (stage : ℕ) (kept : List (TableState UnitWeight g)) (kind : Kind) (s : ℕ) : Type 0 where
@@ -66,12 +66,12 @@ pub record IsReached {g : Ghosts UnitWeight} (frame : Frame) (stage : ℕ) (kept
 
 -- Kinds that are found so far: they are listed, the first is the start, and each stands over a
 -- state of the kept table and is reached over it.
-pub record AreFound {g : Ghosts UnitWeight} (frame : Frame) (stage : ℕ) (kept : List (TableState UnitWeight g)) (keys : List KindKey) (kinds : List Kind) (over : List ℕ) : Type 0 where
+pub record AreFound {g : Ghosts UnitWeight} (frame : Frame) (before stage : ℕ) (kept : List (TableState UnitWeight g)) (keys : List KindKey) (kinds : List Kind) (over : List ℕ) : Type 0 where
   pub names : List PrefixKind
-  pub kept_by : AreKeptByKinds (problem_in frame) (stage - 1) names kept
+  pub kept_by : AreKeptByKinds (problem_in frame) before names kept
   pub listed : AreListed keys kinds over
   pub start : (first : Kind) × IsAt kinds over 0 first 0 × IsStart frame stage first
-  pub stands : (k : ℕ) (kind : Kind) (s : ℕ) → IsAt kinds over k kind s → StandsOver frame stage names kind s
+  pub stands : (k : ℕ) (kind : Kind) (s : ℕ) → IsAt kinds over k kind s → StandsOver frame before stage names kind s
   pub reached : (k : ℕ) (kind : Kind) (s : ℕ) → IsAt kinds over k kind s → IsReached frame stage kept kind s
 
 -- what is listed keeps its number

@@ -2,6 +2,8 @@ ghost use Rattle.std.specs.Prelude.{◌≡◌, ◌<◌, [], ◌∷◌, length, C
 ghost use Rattle.std.specs.List.{AllZip};
 ghost use Rattle.arc_table.specs.Moves.{moves_at};
 ghost use Rattle.arc_table.specs.States.{states_of};
+ghost use Rattle.kind_moves.specs.Frames.{tiers_in, problem_in, kind_at_stage, FitsFrame};
+ghost use Rattle.stage_laws.specs.StageTables.{cost_of};
 ghost use Rattle.stage_tables.specs.Listed.{IsTaken, AreTargets};
 ghost use Rattle.stage_tables.specs.Exploring.{IsFoundWithin, IsFoundBeyond, IsListedOver, StaysListed};
 
@@ -11,10 +13,23 @@ use crate::stage_table::ExploreErr;
 use arc_table::TableArc;
 use std::alloc::Global;
 use symbol_class::least_column;
-use tier_core::Kind;
+use tier_core::{Column, Kind};
 use weight_law::{Count, UnitWeight};
 
 impl Exploring<'_> {
+    /// What the move from a kind by a column costs under the last constraint of the stage, and nothing
+    /// where it has none.
+    fn cost(&self, kind: &Kind, column: &Column) -> u32
+        requires fits { FitsFrame self.now.frame.now self.now.stage kind.now }
+        requires width { length column.now ≡ (tiers_in self.now.frame.now).width }
+        ensures { result ≡ cost_of (problem_in self.now.frame.now) self.now.stage (kind_at_stage self.now.frame.now self.now.stage kind.now) column.now }
+    {
+        if self.stage == 0 {
+            return 0;
+        }
+        self.frame.cost(self.stage, self.stage, kind, column)
+    }
+
     /// The new move for a kept one from a kind; its target is listed if it is not listed yet.
     fn taken(
         &self,
@@ -34,7 +49,7 @@ impl Exploring<'_> {
         ensures beyond { IfErr result (λ e. e ≡ ExploreErr.OverBudget → IsFoundBeyond self.now listed.new) }
     {
         let column = least_column(alloc, &arc.class);
-        let weight = Count(self.frame.cost(self.stage, self.stage, kind, &column));
+        let weight = Count(self.cost(kind, &column));
         match self.frame.moved(self.stage, kind, &column) {
             None => unreachable!(),
             Some(next) => {

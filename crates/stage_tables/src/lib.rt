@@ -16,7 +16,9 @@ mod exploration;
 mod exploring;
 mod kind_key;
 mod listed;
+mod ranking;
 mod stage_table;
 
 pub use exploration::explore;
+pub use ranking::ranked_table;
 pub use stage_table::{ExploreErr, StageTable};

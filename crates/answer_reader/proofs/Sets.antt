@@ -88,7 +88,13 @@ each_decoded = (
                                                   λ rest. refl,
                                                   (
                                                     λ rest. refl,
-                                                    (λ rest. refl, (λ rest. refl, (λ rest. refl, (λ rest. refl, (λ rest. refl, tt))))),
+                                                    (
+                                                      λ rest. refl,
+                                                      (
+                                                        λ rest. refl,
+                                                        (λ rest. refl, (λ rest. refl, (λ rest. refl, tt))),
+                                                      ),
+                                                    ),
                                                   ),
                                                 ),
                                               ),

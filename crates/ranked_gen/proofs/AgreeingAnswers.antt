@@ -17,7 +17,8 @@ use Rattle.answer_text.specs.Acceptance.{Accepts}
 use Rattle.answer_text.specs.Right.{IsRight}
 use Rattle.answer_text.specs.RightOnce.{IsRightOnce}
 
-reverse_then : (o p : Ordering) → ordering_then (ordering_reverse o) (ordering_reverse p) ≡ ordering_reverse (ordering_then o p)
+reverse_then : (o p : Ordering) → ordering_then (ordering_reverse o) (ordering_reverse p)
+    ≡ ordering_reverse (ordering_then o p)
 reverse_then Less p = refl
 reverse_then Equal p = refl
 reverse_then Greater p = refl
@@ -56,10 +57,13 @@ pub one_first : (S : List (List Sym) → Type 0) (T U : List (List Sym)) → IsF
 one_first S T U first other =
     same_columns T U
     (then_parts (nat_cmp (length T) (length U)) (slice_cmp column_cmp T U)
-    (both_equal (timeline_cmp T U) (timeline_cmp U T) (turned T U) (first.least U other.member) (other.least T first.member)))
+    (both_equal (timeline_cmp T U) (timeline_cmp U T) (turned T U) (first.least U other.member)
+    (other.least T first.member)))
 
-module _ (problem : Problem) (answer : Answer) (once : OnceAnswer) (right : IsRight problem answer) (passed : IsRightOnce problem once) where
-  pub same_accepted : (T : List (List Sym)) → Accepts answer.automaton.states.items T ↔ Accepts once.automaton.states.items T
+module _ (problem : Problem) (answer : Answer) (once : OnceAnswer) (right : IsRight problem answer)
+    (passed : IsRightOnce problem once) where
+  pub same_accepted : (T : List (List Sym))
+      → Accepts answer.automaton.states.items T ↔ Accepts once.automaton.states.items T
   same_accepted T =
       let staged = right.automaton.accepts T in
       let single = passed.automaton.accepts T in

@@ -30,14 +30,16 @@ use Rattle.ranked_gen.proofs.NextStage.{pairs_differ}
 use Rattle.violation.specs.Problems.{Problem, last_stage}
 
 -- what differs after a cut differs
-uncut_differ : (f : PrefixKind → PrefixKind) (ks : List PrefixKind) → AllPairs (λ k l. k ≢ l) (map f ks) → AllPairs (λ k l. k ≢ l) ks
+uncut_differ : (f : PrefixKind → PrefixKind) (ks : List PrefixKind) → AllPairs (λ k l. k ≢ l) (map f ks)
+    → AllPairs (λ k l. k ≢ l) ks
 uncut_differ f ks differ i j d less inside e =
     differ i j (f d) less (omega (arith, inside, length-map ks f))
     (get_or-map f ks i d (f d) (omega (arith, less, inside)) ∙ ap f e ∙ sym (get_or-map f ks j d (f d) inside))
 
 differ_pairs : (ks : List PrefixKind) → Differ ks → AllPairs (λ k l. k ≢ l) ks
 differ_pairs [] h = λ i j d less inside. absurd (omega (arith, inside))
-differ_pairs (k ∷ ks) h = AllPairs-cons (λ a b. a ≢ b) k ks (All-from_recursion (λ l. k ≢ l) ks h.0) (differ_pairs ks h.1)
+differ_pairs (k ∷ ks) h = AllPairs-cons (λ a b. a ≢ b) k ks (All-from_recursion (λ l. k ≢ l) ks h.0)
+    (differ_pairs ks h.1)
 
 module _ (problem : Problem) where
   -- kinds where no constraint counts are cut from as many kinds under all constraints
@@ -61,11 +63,13 @@ module _ (problem : Problem) where
   -- where there are more kinds than the budget before any constraint counts, there are under all
   pub first_over_whole : (budget : ℕ) → IsOver problem budget 0 → AreWholeKindsOver problem budget
   first_over_whole budget over =
-      let whole = whole_of over.kinds (all_from_members (IsPassed problem 0 0) over.kinds (λ k c. (over.are.members k).0 c)) in
+      let whole = whole_of over.kinds (all_from_members (IsPassed problem 0 0) over.kinds
+      (λ k c. (over.are.members k).0 c)) in
       let ascending = ascends_from kind_order over.kinds over.are.ascending in
       let differ : AllPairs (λ k l. k ≢ l) (map (cut problem 0) whole.0) =
       subst (AllPairs (λ k l. k ≢ l)) (sym whole.1) (differ_pairs over.kinds (ascending_differ over.kinds ascending)) in
-      let size : length whole.0 ≡ length over.kinds = sym (length-map whole.0 (cut problem 0)) ∙ ap (λ (ks : List PrefixKind). length ks) whole.1 in
+      let size : length whole.0 ≡ length over.kinds = sym (length-map whole.0 (cut problem 0))
+      ∙ ap (λ (ks : List PrefixKind). length ks) whole.1 in
       record {
         kinds = whole.0;
         distinct = uncut_differ (cut problem 0) whole.0 differ;
@@ -74,14 +78,19 @@ module _ (problem : Problem) where
       }
 
   -- no more kinds than there are names
-  pub names_within : (budget : ℕ) (names : List PrefixKind) → ((k : PrefixKind) → Contains names k ↔ IsWholeKind problem k) → length names ≤ budget → AreWholeKindsWithin problem budget
+  pub names_within : (budget : ℕ) (names : List PrefixKind)
+      → ((k : PrefixKind) → Contains names k ↔ IsWholeKind problem k) → length names ≤ budget
+      → AreWholeKindsWithin problem budget
   names_within budget names law few kinds distinct each =
-      let most = no_longer names kinds (λ k c. (law k).1 (All-contains (IsWholeKind problem) kinds k each c)) (pairs_differ kinds distinct) in
+      let most = no_longer names kinds (λ k c. (law k).1 (All-contains (IsWholeKind problem) kinds k each c))
+      (pairs_differ kinds distinct) in
       omega (arith, most, few)
 
 -- more kinds than the budget are met while all candidates are explored
-pub met_over_whole : {g : Ghosts UnitWeight} (frame : Frame) (kept : List (TableState UnitWeight g)) → ((T : List (List Sym)) → Accepts kept T ↔ IsOptimalFor (problem_in frame) 0 T)
-    → (budget : ℕ) → IsOverBudget frame (last_stage (problem_in frame)) kept budget → AreWholeKindsOver (problem_in frame) budget
+pub met_over_whole : {g : Ghosts UnitWeight} (frame : Frame) (kept : List (TableState UnitWeight g))
+    → ((T : List (List Sym)) → Accepts kept T ↔ IsOptimalFor (problem_in frame) 0 T)
+    → (budget : ℕ) → IsOverBudget frame (last_stage (problem_in frame)) kept budget
+    → AreWholeKindsOver (problem_in frame) budget
 met_over_whole frame kept accepts budget over = record {
   kinds = over.kinds;
   distinct = over.distinct;
@@ -93,7 +102,8 @@ met_over_whole frame kept accepts budget over = record {
         passes = record {
           optimal = (accepts (m.prefix ++ m.rest)).0 m.accepted;
           within = omega (arith, length-append m.prefix m.rest);
-          of_kind = ap (kind_of (problem_in frame) (last_stage (problem_in frame))) (take_at m.prefix m.rest (length m.prefix) refl) ∙ m.of_kind;
+          of_kind = ap (kind_of (problem_in frame) (last_stage (problem_in frame)))
+              (take_at m.prefix m.rest (length m.prefix) refl) ∙ m.of_kind;
         };
       });
   more = over.more;

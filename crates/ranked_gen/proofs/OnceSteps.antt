@@ -46,7 +46,8 @@ use Rattle.ranked_gen.proofs.OrderedNames.{count_kinds, name_is, first_number, k
 use Rattle.ranked_gen.proofs.StageShapes.{free_same, stretch_same}
 use Rattle.violation.specs.Problems.{last_stage}
 
-module _ (frame : Frame) (kinds : List Kind) {g : Ghosts Ranked} (meaning : g.meaning ≡ ranked_meaning) (states : List (TableState Ranked g))
+module _ (frame : Frame) (kinds : List Kind) {g : Ghosts Ranked} (meaning : g.meaning ≡ ranked_meaning)
+    (states : List (TableState Ranked g))
     (table : IsRankedTable (problem_in frame) (names_at frame (last_stage (problem_in frame)) kinds) states)
     (least : List (Option Ranked)) (are : AreLeast states least) where
   all : last_stage (problem_in frame) ≤ last_stage (problem_in frame)
@@ -65,54 +66,75 @@ module _ (frame : Frame) (kinds : List Kind) {g : Ghosts Ranked} (meaning : g.me
   weight_at s l = some_of (get_or least s None) (some_weight states least are s l (table.on_runs s l))
 
   -- the node of a number has the least vector that remains
-  potential_at : (number : ℕ) → number < length kinds → IsRightPotential (problem_in frame) (once_node kinds least number)
+  potential_at : (number : ℕ) → number < length kinds
+      → IsRightPotential (problem_in frame) (once_node kinds least number)
   potential_at number l =
       let inside : number < length states = omega (arith, many) in
       let w = weight_at number inside in
-      let law = least_rest_vector (problem_in frame) here few meaning (names_at frame (last_stage (problem_in frame)) kinds) states table number w.0 (least_from states least are number w.0 w.1) in
+      let law = least_rest_vector (problem_in frame) here few meaning
+      (names_at frame (last_stage (problem_in frame)) kinds) states table number w.0
+      (least_from states least are number w.0 w.1) in
       record {
         vector = law.0;
-        least = subst (λ k. IsLeastRestVector (problem_in frame) k law.0) (name_is frame (last_stage (problem_in frame)) all kinds states table.named number empty_kind l) law.1.1;
+        least = subst (λ k. IsLeastRestVector (problem_in frame) k law.0)
+            (name_is frame (last_stage (problem_in frame)) all kinds states table.named number empty_kind l) law.1.1;
         parts = ap (λ o. (weight_found o).parts) w.1 ∙ law.1.0;
       }
 
   -- the first parts of the least weight from the start are the least vector
-  pub first_vector : (counts : List ℕ) → counts ≡ take (last_stage (problem_in frame)) (weight_found (get_or least 0 None)).parts → IsLeastVector (problem_in frame) counts
+  pub first_vector : (counts : List ℕ) → counts
+      ≡ take (last_stage (problem_in frame)) (weight_found (get_or least 0 None)).parts
+      → IsLeastVector (problem_in frame) counts
   first_vector counts is =
       let w = weight_at 0 table.named.some in
-      let law = least_vector (problem_in frame) here few meaning (names_at frame (last_stage (problem_in frame)) kinds) states table w.0 (least_from states least are 0 w.0 w.1) in
+      let law = least_vector (problem_in frame) here few meaning
+      (names_at frame (last_stage (problem_in frame)) kinds) states table w.0
+      (least_from states least are 0 w.0 w.1) in
       let v : List ℕ = law.0 in
       let best = law.1.1.some in
-      let long : length v ≡ last_stage (problem_in frame) = ap (λ (ns : List ℕ). length ns) (sym best.1.1) ∙ length-map (constraints_in frame) (λ c. violations_of c best.0) in
-      let parts : (weight_found (get_or least 0 None)).parts ≡ padded v = ap (λ o. (weight_found o).parts) w.1 ∙ law.1.0 in
-      let same : counts ≡ v = is ∙ ap (take (last_stage (problem_in frame))) parts ∙ ap (λ n. take n (padded v)) (sym long) ∙ take-append_seam v _ in
+      let long : length v ≡ last_stage (problem_in frame) = ap (λ (ns : List ℕ). length ns) (sym best.1.1)
+      ∙ length-map (constraints_in frame) (λ c. violations_of c best.0) in
+      let parts : (weight_found (get_or least 0 None)).parts ≡ padded v = ap (λ o. (weight_found o).parts) w.1
+      ∙ law.1.0 in
+      let same : counts ≡ v = is ∙ ap (take (last_stage (problem_in frame))) parts
+      ∙ ap (λ n. take n (padded v)) (sym long) ∙ take-append_seam v _ in
       subst (IsLeastVector (problem_in frame)) (sym same) law.1.1
 
-  module _ (shape : Shape) (of : IsShapeOf frame.grammar.now shape) (order : List ℕ) (sorted : IsKindOrder shape (last_stage (problem_in frame)) kinds order)
+  module _ (shape : Shape) (of : IsShapeOf frame.grammar.now shape) (order : List ℕ)
+      (sorted : IsKindOrder shape (last_stage (problem_in frame)) kinds order)
       (nodes : List OnceNode) (listed : nodes ≡ map (once_node kinds least) order) where
     bare_listed : bare_nodes nodes ≡ map (node_numbered kinds []) order
-    bare_listed = ap bare_nodes listed ∙ map-map (λ (node : OnceNode). record { kind = node.kind; potential = 0 }) (once_node kinds least) order
+    bare_listed = ap bare_nodes listed ∙ map-map (λ (node : OnceNode). record { kind = node.kind; potential = 0 })
+        (once_node kinds least) order
 
     in_nodes : AreNodesInOrder kinds [] order (bare_nodes nodes)
     in_nodes = are_nodes kinds [] order (bare_nodes nodes) sorted.numbers bare_listed
 
-    kinds_bare : map (kind_told (problem_in frame)) nodes ≡ map (λ (node : Node). kind_at_stage frame (last_stage (problem_in frame)) node.kind) (bare_nodes nodes)
-    kinds_bare = sym (map-map (λ (node : Node). kind_at_stage frame (last_stage (problem_in frame)) node.kind) (λ (node : OnceNode). record { kind = node.kind; potential = 0 }) nodes)
+    kinds_bare : map (kind_told (problem_in frame)) nodes
+        ≡ map (λ (node : Node). kind_at_stage frame (last_stage (problem_in frame)) node.kind) (bare_nodes nodes)
+    kinds_bare = sym (map-map (λ (node : Node). kind_at_stage frame (last_stage (problem_in frame)) node.kind)
+        (λ (node : OnceNode). record { kind = node.kind; potential = 0 }) nodes)
 
     kinds_seen : map (kind_told (problem_in frame)) nodes ≡ map (told shape (last_stage (problem_in frame)) kinds) order
     kinds_seen =
         kinds_bare
-        ∙ sym (ap (λ n. map (λ (node : Node). prefix_kind n (stretch_count shape (last_stage (problem_in frame))) node.kind) (bare_nodes nodes)) (free_same frame shape of (last_stage (problem_in frame)) all)
-        ∙ ap (λ n. map (λ (node : Node). prefix_kind (length (tiers_in frame).free) n node.kind) (bare_nodes nodes)) (stretch_same frame shape of (last_stage (problem_in frame)) all))
+        ∙ sym (ap (λ n. map (λ (node : Node). prefix_kind n
+        (stretch_count shape (last_stage (problem_in frame))) node.kind) (bare_nodes nodes))
+        (free_same frame shape of (last_stage (problem_in frame)) all)
+        ∙ ap (λ n. map (λ (node : Node). prefix_kind (length (tiers_in frame).free) n node.kind) (bare_nodes nodes))
+        (stretch_same frame shape of (last_stage (problem_in frame)) all))
         ∙ in_nodes.in_order (kind_in shape (last_stage (problem_in frame)))
 
     whole_kinds : AreWholeKinds (problem_in frame) (map (kind_told (problem_in frame)) nodes)
     whole_kinds = record {
       ascending = subst (IsStrictlySortedBy kind_order) (sym kinds_seen) sorted.ascending;
       members = λ k.
-          let names = whole_names (problem_in frame) here few meaning (names_at frame (last_stage (problem_in frame)) kinds) states table k in
-          let same = in_nodes.same (kind_at_stage frame (last_stage (problem_in frame))) k in
-          (λ c. names.0 (same.0 (subst (λ ks. Contains ks k) kinds_bare c)), λ p. subst (λ ks. Contains ks k) (sym kinds_bare) (same.1 (names.1 p)));
+          let names = whole_names (problem_in frame) here few meaning
+          (names_at frame (last_stage (problem_in frame)) kinds) states table k in
+          let same = in_nodes.same (kind_at_stage frame (last_stage (problem_in frame))) k in (
+            λ c. names.0 (same.0 (subst (λ ks. Contains ks k) kinds_bare c)),
+            λ p. subst (λ ks. Contains ks k) (sym kinds_bare) (same.1 (names.1 p)),
+          );
     }
 
     potentials : All (IsRightPotential (problem_in frame)) nodes
@@ -122,19 +144,32 @@ module _ (frame : Frame) (kinds : List Kind) {g : Ghosts Ranked} (meaning : g.me
         subst (IsRightPotential (problem_in frame)) (sym (get_or-map (once_node kinds least) order i 0 d inside))
         (potential_at (get_or order i 0) (sorted.numbers.below i 0 inside)))
 
-    module _ {h : Ghosts UnitWeight} (pruned : List (TableState UnitWeight h)) (old : List ℕ) (tight : IsTight states pruned old) (some : 0 < length pruned) (targets : TargetsExist pruned) (filled : ClassesFilled pruned) where
+    module _ {h : Ghosts UnitWeight} (pruned : List (TableState UnitWeight h)) (old : List ℕ)
+        (tight : IsTight states pruned old) (some : 0 < length pruned) (targets : TargetsExist pruned)
+        (filled : ClassesFilled pruned) where
       part : IsOptimalPart (problem_in frame) (last_stage (problem_in frame)) (bare_nodes nodes) pruned old order
       part = record {
         names = names_kept (names_at frame (last_stage (problem_in frame)) kinds) old;
-        named = kept_by_names frame (last_stage (problem_in frame)) all kinds states table.named shape of order sorted pruned old tight some targets filled;
+        named = kept_by_names frame (last_stage
+            (problem_in frame)) all kinds states table.named shape of order sorted pruned old tight some targets
+            filled;
         on_runs = tight.on_runs;
-        accepts = once_words (problem_in frame) here few meaning (names_at frame (last_stage (problem_in frame)) kinds) states table pruned old tight some targets filled;
-        ordered = ordered frame (last_stage (problem_in frame)) all kinds states table.named shape of order sorted pruned old tight some targets filled;
-        start = first_number frame (last_stage (problem_in frame)) all kinds states table.named shape of order sorted ∙ sym tight.start;
-        tells = tells frame (last_stage (problem_in frame)) all kinds states table.named shape of order sorted pruned old tight some targets filled (bare_nodes nodes) (node_numbered kinds []) bare_listed (λ number. refl);
+        accepts = once_words (problem_in frame) here few meaning
+            (names_at frame (last_stage (problem_in frame)) kinds) states table pruned old tight some targets filled;
+        ordered = ordered frame (last_stage
+            (problem_in frame)) all kinds states table.named shape of order sorted pruned old tight some targets
+            filled;
+        start = first_number frame (last_stage (problem_in frame)) all kinds states table.named shape of order sorted
+            ∙ sym tight.start;
+        tells = tells frame
+            (last_stage
+            (problem_in frame)) all kinds states table.named shape of order sorted pruned old tight some targets
+            filled (bare_nodes nodes) (node_numbered kinds []) bare_listed (λ number. refl);
       }
 
-      pub once_part : (counts : List ℕ) → counts ≡ take (last_stage (problem_in frame)) (weight_found (get_or least 0 None)).parts → IsOncePart frame nodes counts pruned old order
+      pub once_part : (counts : List ℕ) → counts
+          ≡ take (last_stage (problem_in frame)) (weight_found (get_or least 0 None)).parts
+          → IsOncePart frame nodes counts pruned old order
       once_part counts is = record {
         kinds = whole_kinds;
         potentials = potentials;

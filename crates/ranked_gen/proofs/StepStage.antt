@@ -58,7 +58,8 @@ use Rattle.ranked_gen.proofs.StageShapes.{tell_same, free_same, stretch_same}
 use Rattle.violation.specs.Problems.{last_stage}
 use Rattle.kind_moves.specs.Frames.{problem_in}
 
-module _ (frame : Frame) (stage : ℕ) (ranked : 1 ≤ stage) (within : stage ≤ last_stage (problem_in frame)) (kinds : List Kind) {g : Ghosts Count} (meaning : g.meaning ≡ count_meaning) (states : List (TableState Count g))
+module _ (frame : Frame) (stage : ℕ) (ranked : 1 ≤ stage) (within : stage ≤ last_stage (problem_in frame))
+    (kinds : List Kind) {g : Ghosts Count} (meaning : g.meaning ≡ count_meaning) (states : List (TableState Count g))
     (table : IsStageTable (problem_in frame) stage (names_at frame stage kinds) states)
     (least : List (Option Count)) (are : AreLeast states least) where
   here : IsStage (problem_in frame) stage
@@ -70,28 +71,40 @@ module _ (frame : Frame) (stage : ℕ) (ranked : 1 ≤ stage) (within : stage �
   weight_at : (s : ℕ) → s < length states → (w : Count) × (get_or least s None ≡ Some w)
   weight_at s l = some_of (get_or least s None) (some_weight states least are s l (table.on_runs s l))
 
-  remains : (number : ℕ) → number < length kinds → IsRemaining (problem_in frame) stage (kind_at_stage frame stage (kind_numbered kinds number)) (get_or (map weight_number least) number 0)
+  remains : (number : ℕ) → number < length kinds
+      → IsRemaining (problem_in frame) stage (kind_at_stage frame stage (kind_numbered kinds number))
+      (get_or (map weight_number least) number 0)
   remains number l =
       let inside : number < length states = omega (arith, many) in
       let w = weight_at number inside in
-      let law = remaining_law (problem_in frame) stage here meaning (names_at frame stage kinds) states table number w.0 (least_from states least are number w.0 w.1) in
-      let value : get_or (map weight_number least) number 0 ≡ w.0.0 = get_or-map weight_number least number None 0 (omega (arith, are.each_state)) ∙ ap weight_number w.1 in
-      subst (λ n. IsRemaining (problem_in frame) stage (kind_at_stage frame stage (kind_numbered kinds number)) n) (sym value)
-      (subst (λ k. IsRemaining (problem_in frame) stage k w.0.0) (name_is frame stage within kinds states table.named number empty_kind l) law)
+      let law = remaining_law (problem_in frame) stage here meaning
+      (names_at frame stage kinds) states table number w.0 (least_from states least are number w.0 w.1) in
+      let value : get_or (map weight_number least) number 0
+      ≡ w.0.0 = get_or-map weight_number least number None 0 (omega (arith, are.each_state))
+      ∙ ap weight_number w.1 in
+      subst (λ n. IsRemaining (problem_in frame) stage (kind_at_stage frame stage (kind_numbered kinds number)) n)
+      (sym value)
+      (subst (λ k. IsRemaining (problem_in frame) stage k w.0.0)
+      (name_is frame stage within kinds states table.named number empty_kind l) law)
 
-  pub counted : (T : List (List Sym)) → IsOptimalFor (problem_in frame) stage T → count_at (problem_in frame) stage T ≡ get_or (map weight_number least) 0 0
+  pub counted : (T : List (List Sym)) → IsOptimalFor (problem_in frame) stage T
+      → count_at (problem_in frame) stage T ≡ get_or (map weight_number least) 0 0
   counted T o =
       let some = table.named.some in
       let w = weight_at 0 some in
-      let law = number_law (problem_in frame) stage here meaning (names_at frame stage kinds) states table ranked w.0 (least_from states least are 0 w.0 w.1) T o in
+      let law = number_law (problem_in frame) stage here meaning (names_at frame stage kinds) states table ranked w.0
+      (least_from states least are 0 w.0 w.1) T o in
       law ∙ sym (get_or-map weight_number least 0 None 0 (omega (arith, are.each_state)) ∙ ap weight_number w.1)
 
-  module _ (shape : Shape) (of : IsShapeOf frame.grammar.now shape) (order : List ℕ) (sorted : IsKindOrder shape stage kinds order)
+  module _ (shape : Shape) (of : IsShapeOf frame.grammar.now shape) (order : List ℕ)
+      (sorted : IsKindOrder shape stage kinds order)
       (nodes : List Node) (listed : AreNodesInOrder kinds (map weight_number least) order nodes) where
     kinds_seen : kinds_at (problem_in frame) stage nodes ≡ map (told shape stage kinds) order
     kinds_seen =
-        sym (ap (λ n. map (λ (node : Node). prefix_kind n (stretch_count shape stage) node.kind) nodes) (free_same frame shape of stage within)
-        ∙ ap (λ n. map (λ (node : Node). prefix_kind (length (tiers_in frame).free) n node.kind) nodes) (stretch_same frame shape of stage within))
+        sym (ap (λ n. map (λ (node : Node). prefix_kind n (stretch_count shape stage) node.kind) nodes)
+        (free_same frame shape of stage within)
+        ∙ ap (λ n. map (λ (node : Node). prefix_kind (length (tiers_in frame).free) n node.kind) nodes)
+        (stretch_same frame shape of stage within))
         ∙ listed.in_order (kind_in shape stage)
 
     right_stage : IsRightStage (problem_in frame) stage nodes
@@ -99,26 +112,33 @@ module _ (frame : Frame) (stage : ℕ) (ranked : 1 ≤ stage) (within : stage �
       kinds = record {
         ascending = subst (IsStrictlySortedBy kind_order) (sym kinds_seen) sorted.ascending;
         members = λ k.
-            let names = names_law (problem_in frame) stage here (names_at frame stage kinds) states table.named (stage - 1) table.accepts table.on_runs k in
+            let names = names_law (problem_in frame) stage here (names_at frame stage kinds) states table.named
+            (stage - 1) table.accepts table.on_runs k in
             let same = listed.same (kind_at_stage frame stage) k in
             (λ c. names.0 (same.0 c), λ p. same.1 (names.1 p));
       };
-      potentials = subst (All (λ (node : Node). IsRemaining (problem_in frame) stage (kind_at_stage frame stage node.kind) node.potential)) (sym listed.each)
+      potentials = subst (All (λ (node : Node). IsRemaining (problem_in frame) stage
+          (kind_at_stage frame stage node.kind) node.potential)) (sym listed.each)
           (λ i d l.
-          let inside : i < length order = omega (arith, l, length-map order (node_numbered kinds (map weight_number least))) in
+          let inside : i < length order = omega
+          (arith, l, length-map order (node_numbered kinds (map weight_number least))) in
           let number = get_or order i 0 in
-          subst (λ (node : Node). IsRemaining (problem_in frame) stage (kind_at_stage frame stage node.kind) node.potential)
+          subst (λ (node : Node). IsRemaining (problem_in frame) stage
+          (kind_at_stage frame stage node.kind) node.potential)
           (sym (get_or-map (node_numbered kinds (map weight_number least)) order i 0 d inside))
           (remains number (sorted.numbers.below i 0 inside)));
     }
 
     module _ (single : (s : ℕ) (arc : TableArc Count g) → Contains (moves_at states s) arc → IsOfOneColumn arc.class)
-        {h : Ghosts UnitWeight} (pruned : List (TableState UnitWeight h)) (old : List ℕ) (tight : IsTight states pruned old) (some : 0 < length pruned) (targets : TargetsExist pruned) (filled : ClassesFilled pruned) where
+        {h : Ghosts UnitWeight} (pruned : List (TableState UnitWeight h)) (old : List ℕ)
+        (tight : IsTight states pruned old) (some : 0 < length pruned) (targets : TargetsExist pruned)
+        (filled : ClassesFilled pruned) where
       kept_by : IsKept (problem_in frame) stage pruned
       kept_by = (
         names_kept (names_at frame stage kinds) old,
         record {
-          named = kept_by_names frame stage within kinds states table.named shape of order sorted pruned old tight some targets filled;
+          named = kept_by_names frame stage within kinds states table.named shape of order sorted pruned old tight
+              some targets filled;
           single = λ s arc c.
               let m = tight.moves s arc (moves_exist pruned s arc c) c in
               subst IsOfOneColumn (sym m.3.0) (single (get_or old s 0) m.0 m.1);
@@ -137,9 +157,11 @@ module _ (frame : Frame) (stage : ℕ) (ranked : 1 ≤ stage) (within : stage �
           right = right_stage;
           kept_by = kept_by;
           accepts = accepts;
-          ordered = ordered frame stage within kinds states table.named shape of order sorted pruned old tight some targets filled;
+          ordered = ordered frame stage within kinds states table.named shape of order sorted pruned old tight some
+              targets filled;
           start = first_number frame stage within kinds states table.named shape of order sorted ∙ sym tight.start;
-          tells = tells frame stage within kinds states table.named shape of order sorted pruned old tight some targets filled nodes (node_numbered kinds (map weight_number least)) listed.each (λ number. refl);
+          tells = tells frame stage within kinds states table.named shape of order sorted pruned old tight some
+              targets filled nodes (node_numbered kinds (map weight_number least)) listed.each (λ number. refl);
         };
         counted = counted;
       }

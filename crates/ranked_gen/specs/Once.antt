@@ -23,12 +23,16 @@ weight_found (Some w) = w
 
 -- the node of a number: its kind and its least weight
 abbrev pub once_node : List Kind → List (Option Ranked) → ℕ → OnceNode
-once_node kinds least number = record { kind = kind_numbered kinds number; potential = weight_found (slice_index_or least number None) }
+once_node kinds least number = record {
+  kind = kind_numbered kinds number;
+  potential = weight_found (slice_index_or least number None);
+}
 
 -- The nodes are the kinds under all constraints of prefixes of candidates, in kind order, with the least
 -- vectors that remain from them. The counts are the least vector, and the kept table accepts exactly the
 -- optimal candidates, each state by the number of its node.
-pub record IsOncePart {g : Ghosts UnitWeight} (frame : Frame) (nodes : List OnceNode) (counts : List ℕ) (kept : List (TableState UnitWeight g)) (states order : List ℕ) : Type 0 where
+pub record IsOncePart {g : Ghosts UnitWeight} (frame : Frame) (nodes : List OnceNode) (counts : List ℕ)
+    (kept : List (TableState UnitWeight g)) (states order : List ℕ) : Type 0 where
   pub kinds : AreWholeKinds (problem_in frame) (map (kind_told (problem_in frame)) nodes)
   pub potentials : All (IsRightPotential (problem_in frame)) nodes
   pub least : IsLeastVector (problem_in frame) counts

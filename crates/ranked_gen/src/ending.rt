@@ -26,9 +26,16 @@ pub(crate) struct Ending {
 /// The end of an answer for a frame, from what accepts its optimal timelines. It fails only for want
 /// of memory.
 pub(crate) fn ending_of(alloc: Global, frame: &Frame, left: &Left) -> Result<Ending, NoMemory>
-    requires part { (nodes : List NodeOf) × IsOptimalPart (problem_in frame.now) (last_stage (problem_in frame.now)) nodes (states_of left.now.kept.table) left.now.kept.states.items left.now.order.items }
-    ensures example { IfOk result (λ ending. IsFirst (IsOptimal (problem_in frame.now)) ending.example) }
-    ensures automaton { IfOk result (λ ending. (nodes : List NodeOf) → IsOptimalPart (problem_in frame.now) (last_stage (problem_in frame.now)) nodes (states_of left.now.kept.table) left.now.kept.states.items left.now.order.items → IsRightAutomaton (problem_in frame.now) nodes ending.automaton.states.items) }
+    requires part { (nodes : List NodeOf)
+        × IsOptimalPart (problem_in frame.now) (last_stage (problem_in frame.now)) nodes
+        (states_of left.now.kept.table) left.now.kept.states.items left.now.order.items }
+    ensures example { IfOk result
+        (λ ending. IsFirst (IsOptimal (problem_in frame.now)) ending.example) }
+    ensures automaton { IfOk result
+        (λ ending. (nodes : List NodeOf)
+        → IsOptimalPart (problem_in frame.now) (last_stage (problem_in frame.now)) nodes
+        (states_of left.now.kept.table) left.now.kept.states.items left.now.order.items
+        → IsRightAutomaton (problem_in frame.now) nodes ending.automaton.states.items) }
 {
     let found = first(alloc, &left.kept.table)?;
     let places = ranks(alloc, &left.order)?;

@@ -77,7 +77,10 @@ fn first_parts(alloc: Global, weight: &Ranked, count: usize) -> Result<Vec<u32>,
 /// What a single pass finds in the table of all candidates. It fails only for want of memory.
 fn single_pass(alloc: Global, frame: &Frame, found: &StageTable) -> Result<Once, NoMemory>
     requires { IsWholeTable frame.now found.now.kinds.items (states_of found.now.table) }
-    ensures { IfOk result (λ once. IsOncePart frame.now once.nodes.items once.counts.items (states_of once.left.kept.table) once.left.kept.states.items once.left.order.items) }
+    ensures { IfOk result
+        (λ once.
+        IsOncePart frame.now once.nodes.items once.counts.items
+        (states_of once.left.kept.table) once.left.kept.states.items once.left.order.items) }
 {
     let table = ranked_table(alloc, frame, found)?;
     let least = to_final(alloc, &table)?;
@@ -129,7 +132,9 @@ fn once_in(alloc: Global, frame: &Frame, free: u32, budget: u32) -> Result<OnceA
     requires few_kinds { budget ≤ 65536 }
     ensures right { IfOk result (λ answer. IsRightOnce (problem_in frame.now) answer) }
     ensures within { IfOk result (λ answer. AreWholeKindsWithin (problem_in frame.now) budget) }
-    ensures over { (stage : ℕ) → result ≡ Err (GenErr.Budget stage) → (stage ≡ last_stage (problem_in frame.now)) × AreWholeKindsOver (problem_in frame.now) budget }
+    ensures over { (stage : ℕ) → result ≡ Err (GenErr.Budget stage)
+        → (stage ≡ last_stage (problem_in frame.now))
+        × AreWholeKindsOver (problem_in frame.now) budget }
 {
     let Ok(start) = unranked(alloc, frame, free) else {
         return Err(GenErr::NoMemory);
@@ -159,9 +164,17 @@ pub fn generate_once(
     requires short { length form.now ≤ 64 }
     requires some { 1 ≤ budget }
     requires few { budget ≤ 65536 }
-    ensures right { IfOk result (λ answer. IsRightOnce (asked grammar.now.tiers grammar.now.constraints.items form.now) answer) }
-    ensures within { IfOk result (λ answer. AreWholeKindsWithin (asked grammar.now.tiers grammar.now.constraints.items form.now) budget) }
-    ensures over { (stage : ℕ) → result ≡ Err (GenErr.Budget stage) → (stage ≡ length grammar.now.constraints.items) × AreWholeKindsOver (asked grammar.now.tiers grammar.now.constraints.items form.now) budget }
+    ensures right { IfOk result
+        (λ answer.
+        IsRightOnce (asked grammar.now.tiers grammar.now.constraints.items form.now) answer) }
+    ensures within { IfOk result
+        (λ answer.
+        AreWholeKindsWithin
+        (asked grammar.now.tiers grammar.now.constraints.items form.now) budget) }
+    ensures over { (stage : ℕ) → result ≡ Err (GenErr.Budget stage)
+        → (stage ≡ length grammar.now.constraints.items)
+        × AreWholeKindsOver
+        (asked grammar.now.tiers grammar.now.constraints.items form.now) budget }
 {
     let free = grammar.tiers.free_count() as u32;
     let kinds = count_kinds(form.len() as u32 + 1, free);

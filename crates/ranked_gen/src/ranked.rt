@@ -25,8 +25,10 @@ pub(crate) struct Ranked {
 
 /// The stages with one more.
 fn with_next(ranked: Ranked, next: Staged) -> Result<Ranked, NoMemory>
-    ensures stages { IfOk result (λ all. all.stages.items ≡ ranked.stages.items ++ next.stage ∷ []) }
-    ensures counts { IfOk result (λ all. all.counts.items ≡ ranked.counts.items ++ next.count ∷ []) }
+    ensures stages { IfOk result
+        (λ all. all.stages.items ≡ ranked.stages.items ++ next.stage ∷ []) }
+    ensures counts { IfOk result
+        (λ all. all.counts.items ≡ ranked.counts.items ++ next.count ∷ []) }
     ensures left { IfOk result (λ all. all.left ≡ next.left) }
 {
     let Ranked {
@@ -53,11 +55,17 @@ pub(crate) fn all_ranked(
     start: Ranked,
     budget: u32,
 ) -> Result<Ranked, GenErr>
-    requires start { IsRanked (problem_in frame.now) budget 0 start.stages.items start.counts.items (states_of start.left.kept.table) start.left.kept.states.items start.left.order.items }
+    requires start { IsRanked (problem_in frame.now) budget 0 start.stages.items start.counts.items
+        (states_of start.left.kept.table) start.left.kept.states.items start.left.order.items }
     requires some { 1 ≤ budget }
     requires few { budget ≤ 65536 }
-    ensures ranked { IfOk result (λ all. IsRanked (problem_in frame.now) budget (last_stage (problem_in frame.now)) all.stages.items all.counts.items (states_of all.left.kept.table) all.left.kept.states.items all.left.order.items) }
-    ensures over { (s : ℕ) → result ≡ Err (GenErr.Budget s) → IsFirstOver (problem_in frame.now) budget s }
+    ensures ranked { IfOk result
+        (λ all.
+        IsRanked (problem_in frame.now) budget
+        (last_stage (problem_in frame.now)) all.stages.items all.counts.items
+        (states_of all.left.kept.table) all.left.kept.states.items all.left.order.items) }
+    ensures over { (s : ℕ) → result ≡ Err (GenErr.Budget s)
+        → IsFirstOver (problem_in frame.now) budget s }
 {
     let mut ranked = start;
     for number in 0..frame.grammar.constraints.len() as u32 {
@@ -88,7 +96,10 @@ pub(crate) fn copied(alloc: Global, timeline: &Timeline) -> Result<Timeline, NoM
 
 /// The answer of all stages of a frame. Fails only if memory runs out.
 pub(crate) fn answered(alloc: Global, frame: &Frame, ranked: Ranked) -> Result<Answer, NoMemory>
-    requires ranked { (budget : ℕ) × IsRanked (problem_in frame.now) budget (last_stage (problem_in frame.now)) ranked.stages.items ranked.counts.items (states_of ranked.left.kept.table) ranked.left.kept.states.items ranked.left.order.items }
+    requires ranked { (budget : ℕ)
+        × IsRanked (problem_in frame.now) budget
+        (last_stage (problem_in frame.now)) ranked.stages.items ranked.counts.items
+        (states_of ranked.left.kept.table) ranked.left.kept.states.items ranked.left.order.items }
     ensures right { IfOk result (λ answer. IsRight (problem_in frame.now) answer) }
 {
     let own = copied(alloc, frame.form)?;

@@ -31,7 +31,8 @@ use Rattle.stage_laws.proofs.VectorWeights.{run_vector_law, rest_vector}
 use Rattle.violation.specs.Problems.{Problem, last_stage}
 
 module _ (problem : Problem) (stage : IsStage problem (last_stage problem)) (few : last_stage problem ≤ 24)
-    {g : Ghosts Ranked} (meaning : g.meaning ≡ ranked_meaning) (names : List PrefixKind) (states : List (TableState Ranked g)) (table : IsRankedTable problem names states) where
+    {g : Ghosts Ranked} (meaning : g.meaning ≡ ranked_meaning) (names : List PrefixKind)
+    (states : List (TableState Ranked g)) (table : IsRankedTable problem names states) where
   -- weights that are vectors are compared as these
   at_most : (a b : Ranked) (v w : List ℕ) → a.parts ≡ padded v → b.parts ≡ padded w → length w ≡ length v
       → AtMost g.meaning a b → IsAtMost v w
@@ -62,9 +63,11 @@ module _ (problem : Problem) (stage : IsStage problem (last_stage problem)) (few
       least U c =
           let accepted : Accepts states U = (table.accepts U).1 c in
           let bound : IsAtMost (counts_on problem T) (counts_on problem U) =
-          at_most (weight_of word.0) (weight_of accepted.0) (counts_on problem T) (counts_on problem U) (weight_vec T word.0 word.1) (weight_vec U accepted.0 accepted.1) (even_vec T U)
+          at_most (weight_of word.0) (weight_of accepted.0) (counts_on problem T) (counts_on problem U)
+          (weight_vec T word.0 word.1) (weight_vec U accepted.0 accepted.1) (even_vec T U)
           (word.2 U accepted.0 accepted.1) in
-          subst (λ v. IsAtMost v (take (last_stage problem) (counts_on problem U))) (sym (all_of T)) (subst (IsAtMost (counts_on problem T)) (sym (all_of U)) bound)
+          subst (λ v. IsAtMost v (take (last_stage problem) (counts_on problem U))) (sym (all_of T))
+          (subst (IsAtMost (counts_on problem T)) (sym (all_of U)) bound)
 
   optimal_least : (T : List (List Sym)) → IsOptimal problem T → IsLeastWord states T
   optimal_least T opt = (accepted.0, accepted.1, least)
@@ -76,8 +79,11 @@ module _ (problem : Problem) (stage : IsStage problem (last_stage problem)) (few
           → AtMost g.meaning (weight_of accepted.0) (weight_of others)
       least U others run =
           let bound : IsAtMost (counts_on problem T) (counts_on problem U) =
-          subst (λ v. IsAtMost v (counts_on problem U)) (all_of T) (subst (IsAtMost (take (last_stage problem) (counts_on problem T))) (all_of U) (opt.least U ((table.accepts U).0 (others, run)))) in
-          no_more (weight_of accepted.0) (weight_of others) (counts_on problem T) (counts_on problem U) (weight_vec T accepted.0 accepted.1) (weight_vec U others run) (even_vec T U) bound
+          subst (λ v. IsAtMost v (counts_on problem U)) (all_of T)
+          (subst (IsAtMost (take (last_stage problem) (counts_on problem T))) (all_of U)
+          (opt.least U ((table.accepts U).0 (others, run)))) in
+          no_more (weight_of accepted.0) (weight_of others) (counts_on problem T) (counts_on problem U)
+          (weight_vec T accepted.0 accepted.1) (weight_vec U others run) (even_vec T U) bound
 
   -- its words of least weight are exactly the optimal candidates
   pub optimal_words : (T : List (List Sym)) → IsLeastWord states T ↔ IsOptimal problem T
@@ -91,7 +97,12 @@ module _ (problem : Problem) (stage : IsStage problem (last_stage problem)) (few
       let q = some_word states table.named.filled 0 found.0 found.1 in
       let T : List (List Sym) = q.0 in
       let run : AcceptingRun states T found.0 = record { run = found.1; reads = q.1 } in
-      let opt : IsOptimal problem T = least_optimal T (found.0, run, λ U others other. subst (λ x. AtMost g.meaning x (weight_of others)) (sym found.2) (from.least others other.run)) in (
+      let opt : IsOptimal problem T = least_optimal T (
+        found.0,
+        run,
+        λ U others other. subst (λ x. AtMost g.meaning x (weight_of others)) (sym found.2)
+            (from.least others other.run),
+      ) in (
         counts_on problem T,
         (
           ap (λ (x : Ranked). x.parts) (sym found.2) ∙ weight_vec T found.0 run,
@@ -111,17 +122,25 @@ module _ (problem : Problem) (stage : IsStage problem (last_stage problem)) (few
       → s < length states → IsLeastFrom states s w
       → (T : List (List Sym)) (n : ℕ) → PassesWhole problem (name_of names s) T n → IsAtMost v (counts_rest problem T n)
   least_of_all s w v size is here from T n passes =
-      let found = passed_state problem (last_stage problem) stage names states table.named 0 zero_words (name_of names s) T n passes in
+      let found = passed_state problem (last_stage problem) stage names states table.named 0 zero_words
+      (name_of names s) T n passes in
       let parts : IsParted states 0 (take n T) (drop n T) = found.0 in
-      let same : parts.middle ≡ s = same_state problem (last_stage problem) stage names states table.named parts.middle s (run_exists states parts.middle parts.after parts.run) here found.1 in
+      let same : parts.middle ≡ s = same_state problem
+      (last_stage problem) stage names states table.named parts.middle s
+      (run_exists states parts.middle parts.after parts.run) here found.1 in
       let run : IsRun states s parts.after = subst (λ x. IsRun states x parts.after) same parts.run in
       let whole : take n T ++ drop n T ≡ T = take-append-drop n T in
-      let candidate : IsCandidate problem (take n T ++ drop n T) = subst (IsCandidate problem) (sym whole) passes.optimal.candidate in
-      let rest : (weight_of parts.after).parts ≡ padded (counts_rest problem (take n T ++ drop n T) (length (take n T))) =
-      rest_vector problem stage few meaning names states table.named table.weighed parts.after s (take n T) (drop n T) (sym passes.of_kind) run parts.reads_after candidate in
+      let candidate : IsCandidate problem (take n T ++ drop n T) = subst (IsCandidate problem)
+      (sym whole) passes.optimal.candidate in
+      let rest : (weight_of parts.after).parts
+      ≡ padded (counts_rest problem (take n T ++ drop n T) (length (take n T))) =
+      rest_vector problem stage few meaning names states table.named table.weighed parts.after s (take n T) (drop n T)
+      (sym passes.of_kind) run parts.reads_after candidate in
       let total : counts_rest problem (take n T ++ drop n T) (length (take n T)) ≡ counts_rest problem T n =
-      ap (λ (x : List (List Sym)). counts_rest problem x (length (take n T))) whole ∙ ap (λ (m : ℕ). counts_rest problem T m) (length-take-le n T passes.within) in
-      at_most w (weight_of parts.after) v (counts_rest problem T n) is (rest ∙ ap padded total) (length_rest T n ∙ sym size) (from.least parts.after run)
+      ap (λ (x : List (List Sym)). counts_rest problem x (length (take n T))) whole
+      ∙ ap (λ (m : ℕ). counts_rest problem T m) (length-take-le n T passes.within) in
+      at_most w (weight_of parts.after) v (counts_rest problem T n) is (rest ∙ ap padded total)
+      (length_rest T n ∙ sym size) (from.least parts.after run)
 
   -- the least weight from a state is the least vector that remains from its name
   pub least_rest_vector : (s : ℕ) (w : Ranked) → IsLeastFrom states s w
@@ -133,10 +152,15 @@ module _ (problem : Problem) (stage : IsStage problem (last_stage problem)) (few
       let p = path_word states table.named.filled 0 s on.0 on.1 in
       let q = some_word states table.named.filled s found.0 found.1 in
       let passes : PassesWhole problem (name_of names s) (p.0 ++ q.0) (length p.0) =
-      passes_state problem (last_stage problem) stage names states table.named 0 zero_words on.0 found.0 s p.0 q.0 on.1 p.1 found.1 q.1 in
-      let name : name_of names s ≡ kind_of problem (last_stage problem) p.0 = path_kind problem (last_stage problem) stage names states table.named on.0 s p.0 on.1 p.1 in
+      passes_state problem
+      (last_stage problem) stage names states table.named 0 zero_words on.0 found.0 s p.0 q.0 on.1 p.1 found.1 q.1
+      in
+      let name : name_of names s ≡ kind_of problem (last_stage problem) p.0 = path_kind problem
+      (last_stage problem) stage names states table.named on.0 s p.0 on.1 p.1 in
       let v : List ℕ = counts_rest problem (p.0 ++ q.0) (length p.0) in
-      let is : w.parts ≡ padded v = ap (λ (x : Ranked). x.parts) (sym found.2) ∙ rest_vector problem stage few meaning names states table.named table.weighed found.0 s p.0 q.0 name found.1 q.1 passes.optimal.candidate in (
+      let is : w.parts ≡ padded v = ap (λ (x : Ranked). x.parts) (sym found.2)
+      ∙ rest_vector problem stage few meaning names states table.named table.weighed found.0 s p.0 q.0 name
+      found.1 q.1 passes.optimal.candidate in (
         v,
         (
           is,

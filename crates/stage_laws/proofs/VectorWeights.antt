@@ -35,16 +35,20 @@ sum_each (x ∷ a) [] = refl
 sum_each (x ∷ a) (y ∷ b) = ap (λ ns. (x + y) ∷ ns) (sum_each a b)
 
 module _ (problem : Problem) (stage : IsStage problem (last_stage problem)) (few : last_stage problem ≤ 24)
-    {g : Ghosts Ranked} (meaning : g.meaning ≡ ranked_meaning) (names : List PrefixKind) (states : List (TableState Ranked g)) where
+    {g : Ghosts Ranked} (meaning : g.meaning ≡ ranked_meaning) (names : List PrefixKind)
+    (states : List (TableState Ranked g)) where
   -- what the moves along some columns cost, from a kind under all constraints
   abbrev pub walk : PrefixKind → List (List Sym) → List ℕ
   walk k p = walk_costs problem (last_stage problem) k p
 
   firsts : length (take (last_stage problem) problem.constraints) ≡ last_stage problem
-  firsts = sym (length-map (take (last_stage problem) problem.constraints) (λ c. 0)) ∙ length_whole_walk problem stage [] (record { place = 0; opened = []; phases = [] })
+  firsts = sym (length-map (take (last_stage problem) problem.constraints) (λ c. 0))
+      ∙ length_whole_walk problem stage [] (record { place = 0; opened = []; phases = [] })
 
-  weight_nil : (weight_of (let none : List (TableArc Ranked g) = [] in none)).parts ≡ padded (map (λ c. 0) (take (last_stage problem) problem.constraints))
-  weight_nil = ap (λ m. m.zero.parts) meaning ∙ sym (padded_zero (take (last_stage problem) problem.constraints) (omega (arith, firsts, few)))
+  weight_nil : (weight_of (let none : List (TableArc Ranked g) = [] in none)).parts
+      ≡ padded (map (λ c. 0) (take (last_stage problem) problem.constraints))
+  weight_nil = ap (λ m. m.zero.parts) meaning
+      ∙ sym (padded_zero (take (last_stage problem) problem.constraints) (omega (arith, firsts, few)))
 
   weight_cons : (arc : TableArc Ranked g) (arcs : List (TableArc Ranked g))
       → (weight_of (arc ∷ arcs)).parts ≡ sum_of_parts arc.weight.parts (weight_of arcs).parts
@@ -52,7 +56,8 @@ module _ (problem : Problem) (stage : IsStage problem (last_stage problem)) (few
 
   length_move : (k : PrefixKind) (column : List Sym)
       → length (move_costs problem (last_stage problem) k column) ≡ last_stage problem
-  length_move k column = length_costs (take (last_stage problem) problem.constraints) (is_tier_open problem k) k.phases column ∙ firsts
+  length_move k column = length_costs (take (last_stage problem) problem.constraints)
+      (is_tier_open problem k) k.phases column ∙ firsts
 
   module _ (named : AreNamedByKinds problem (last_stage problem) names states)
       (weighed : AreWeighedByAll problem names states) where
@@ -63,13 +68,16 @@ module _ (problem : Problem) (stage : IsStage problem (last_stage problem)) (few
     path_vector [] (column ∷ p) s t path reads = absurd reads
     path_vector (arc ∷ arcs) [] s t path reads = absurd reads
     path_vector (arc ∷ arcs) (column ∷ p) s t path reads =
-        let move : GoesAsKinds problem (last_stage problem) names s arc column = named.moves s arc column path.0 reads.0 in
+        let move : GoesAsKinds problem
+        (last_stage problem) names s arc column = named.moves s arc column path.0 reads.0 in
         let here : List ℕ = move_costs problem (last_stage problem) (name_of names s) column in
         let rest : List ℕ = walk (moved problem (last_stage problem) (name_of names s) column) p in
-        let even : length here ≡ length rest = length_move (name_of names s) column ∙ sym (length_whole_walk problem stage p (moved problem (last_stage problem) (name_of names s) column)) in
+        let even : length here ≡ length rest = length_move (name_of names s) column
+        ∙ sym (length_whole_walk problem stage p (moved problem (last_stage problem) (name_of names s) column)) in
         weight_cons arc arcs
         ∙ ap (λ ns. sum_of_parts ns (weight_of arcs).parts) (weighed s arc column path.0 reads.0)
-        ∙ ap (λ ns. sum_of_parts (padded here) ns) (path_vector arcs p arc.target t path.1 reads.1 ∙ ap (λ k. padded (walk k p)) move.leads)
+        ∙ ap (λ ns. sum_of_parts (padded here) ns)
+        (path_vector arcs p arc.target t path.1 reads.1 ∙ ap (λ k. padded (walk k p)) move.leads)
         ∙ sum-padded here rest even
         ∙ ap padded (sum_each here rest)
 
@@ -83,7 +91,8 @@ module _ (problem : Problem) (stage : IsStage problem (last_stage problem)) (few
         → IsCandidate problem (p ++ q)
         → (weight_of arcs).parts ≡ padded (counts_rest problem (p ++ q) (length p))
     rest_vector arcs s p q name run reads c =
-        run_vector arcs q s run reads ∙ ap (λ k. padded (walk k q)) name ∙ ap padded (sym (rest_walk problem stage p q c))
+        run_vector arcs q s run reads ∙ ap (λ k. padded (walk k q)) name
+        ∙ ap padded (sym (rest_walk problem stage p q c))
 
   -- an accepting run weighs the vector of what it reads
   pub run_vector_law : IsRankedTable problem names states → (arcs : List (TableArc Ranked g)) (T : List (List Sym))
@@ -112,16 +121,19 @@ times_one n (suc zero) l = omega arith
 times_one n (suc (suc x)) l = absurd (omega arith)
 
 -- so the weights of runs without repeats fit where the number of states does
-module _ (problem : Problem) {g : Ghosts Ranked} (meaning : g.meaning ≡ ranked_meaning) (names : List PrefixKind) (states : List (TableState Ranked g))
+module _ (problem : Problem) {g : Ghosts Ranked} (meaning : g.meaning ≡ ranked_meaning) (names : List PrefixKind)
+    (states : List (TableState Ranked g))
     (table : IsRankedTable problem names states) where
   size_most : (s : ℕ) (arc : TableArc Ranked g) → Contains (moves_at states s) arc → greatest_part arc.weight.parts ≤ 1
   size_most s arc here =
       let column : List Sym = first_column arc.class in
       let k : PrefixKind = name_of names s in
       let costs : List ℕ = move_costs problem (last_stage problem) k column in
-      let is : arc.weight.parts ≡ padded costs = table.weighed s arc column here (has-first_column arc.class (table.named.filled s arc here)) in
+      let is : arc.weight.parts ≡ padded costs = table.weighed s arc column here
+      (has-first_column arc.class (table.named.filled s arc here)) in
       let size : greatest_part arc.weight.parts ≡ greatest_part costs = ap greatest_part is ∙ greatest-padded costs in
-      let most : greatest_part costs ≤ 1 = costs_most (take (last_stage problem) problem.constraints) (is_tier_open problem k) k.phases column in
+      let most : greatest_part costs ≤ 1 = costs_most (take (last_stage problem) problem.constraints)
+      (is_tier_open problem k) k.phases column in
       omega (arith, size, most)
 
   pub vectors_fit : (n : ℕ) → length states ≤ n → SizesWithin states n

@@ -21,13 +21,15 @@ use Rattle.violation.specs.Problems.{Problem, last_stage}
 -- each move weighs what each column of its class costs under each constraint from the name of its state
 abbrev pub AreWeighedByAll : {g : Ghosts Ranked} → Problem → List PrefixKind → List (TableState Ranked g) → Type 0
 AreWeighedByAll {g} problem names states =
-    (s : ℕ) (arc : TableArc Ranked g) (column : List Sym) → Contains (moves_at states s) arc → IsTrue (has arc.class column)
+    (s : ℕ) (arc : TableArc Ranked g) (column : List Sym) → Contains (moves_at states s) arc
+    → IsTrue (has arc.class column)
     → IsOfVector arc.weight (move_costs problem (last_stage problem) (name_of names s) column)
 
 -- The table of a single pass, with the names of its states: they are kinds under all constraints, its
 -- moves weigh what these cost under each, it accepts exactly the candidates, and each of its states is
 -- on a run.
-pub record IsRankedTable {g : Ghosts Ranked} (problem : Problem) (names : List PrefixKind) (states : List (TableState Ranked g)) : Type 0 where
+pub record IsRankedTable {g : Ghosts Ranked} (problem : Problem) (names : List PrefixKind)
+    (states : List (TableState Ranked g)) : Type 0 where
   pub named : AreNamedByKinds problem (last_stage problem) names states
   pub weighed : AreWeighedByAll problem names states
   pub accepts : (T : List (List Sym)) → Accepts states T ↔ IsCandidate problem T
@@ -35,7 +37,8 @@ pub record IsRankedTable {g : Ghosts Ranked} (problem : Problem) (names : List P
 
 -- What a single pass stands on: tiers, constraints and a form as every stage has them, no more
 -- constraints than a weight has parts, and the table.
-pub record IsSinglePass {g : Ghosts Ranked} (problem : Problem) (names : List PrefixKind) (states : List (TableState Ranked g)) : Type 0 where
+pub record IsSinglePass {g : Ghosts Ranked} (problem : Problem) (names : List PrefixKind)
+    (states : List (TableState Ranked g)) : Type 0 where
   pub stage : IsStage problem (last_stage problem)
   pub few : last_stage problem ≤ 24
   pub table : IsRankedTable problem names states

@@ -29,7 +29,8 @@ pub record IsAlike {W V : Type 0} {g : Ghosts W} {h : Ghosts V} (a : TableArc W 
   pub same_target : b.target ≡ a.target
 
 -- states that accept alike, and have the same moves one by one
-pub record AreAlike {W V : Type 0} {g : Ghosts W} {h : Ghosts V} (old : List (TableState W g)) (new : List (TableState V h)) : Type 0 where
+pub record AreAlike {W V : Type 0} {g : Ghosts W} {h : Ghosts V} (old : List (TableState W g))
+    (new : List (TableState V h)) : Type 0 where
   pub each_state : length new ≡ length old
   pub ends : (k : ℕ) → k < length old → accepting_at new k ≡ accepting_at old k
   pub moves : (k : ℕ) → k < length old → AllZip IsAlike (moves_at old k) (moves_at new k)
@@ -38,11 +39,13 @@ module _ {W V : Type 0} {g : Ghosts W} {h : Ghosts V} (old : List (TableState W 
     (alike : AreAlike old new) where
   forth : (s : ℕ) (a : TableArc W g) → Contains (moves_at old s) a
       → (b : TableArc V h) × Contains (moves_at new s) b × IsAlike a b
-  forth s a here = zip_to IsAlike (moves_at old s) (moves_at new s) (alike.moves s (moves_exist old s a here)) here.0 a here.1 here.2
+  forth s a here = zip_to IsAlike (moves_at old s) (moves_at new s)
+      (alike.moves s (moves_exist old s a here)) here.0 a here.1 here.2
 
   back : (s : ℕ) (b : TableArc V h) → Contains (moves_at new s) b
       → (a : TableArc W g) × Contains (moves_at old s) a × IsAlike a b
-  back s b here = zip_from IsAlike (moves_at old s) (moves_at new s) (alike.moves s (omega (arith, moves_exist new s b here, alike.each_state))) here.0 b here.1 here.2
+  back s b here = zip_from IsAlike (moves_at old s) (moves_at new s)
+      (alike.moves s (omega (arith, moves_exist new s b here, alike.each_state))) here.0 b here.1 here.2
 
   reads_new : (a : TableArc W g) (b : TableArc V h) (column : List Sym) → IsAlike a b → IsTrue (has a.class column)
       → IsTrue (has b.class column)
@@ -64,14 +67,17 @@ module _ {W V : Type 0} {g : Ghosts W} {h : Ghosts V} (old : List (TableState W 
       → (others : List (TableArc V h)) × IsRun new s others × ((p : List (List Sym)) → Reads arcs p → Reads others p)
   run_forth [] s run = ([], alike.ends s (run_exists old s [] run) ∙ run, λ p r. reads_none p r)
     where
-      reads_none : (p : List (List Sym)) → Reads (let none : List (TableArc W g) = [] in none) p → Reads (let none : List (TableArc V h) = [] in none) p
+      reads_none : (p : List (List Sym)) → Reads (let none : List (TableArc W g) = [] in none) p
+          → Reads (let none : List (TableArc V h) = [] in none) p
       reads_none [] r = tt
       reads_none (column ∷ p) r = absurd r
   run_forth (a ∷ arcs) s run = go (forth s a run.0) (run_forth arcs a.target run.1)
     where
       go : ((b : TableArc V h) × Contains (moves_at new s) b × IsAlike a b)
-          → ((others : List (TableArc V h)) × IsRun new a.target others × ((p : List (List Sym)) → Reads arcs p → Reads others p))
-          → (others : List (TableArc V h)) × IsRun new s others × ((p : List (List Sym)) → Reads (a ∷ arcs) p → Reads others p)
+          → ((others : List (TableArc V h)) × IsRun new a.target others ×
+          ((p : List (List Sym)) → Reads arcs p → Reads others p))
+          → (others : List (TableArc V h)) × IsRun new s others ×
+          ((p : List (List Sym)) → Reads (a ∷ arcs) p → Reads others p)
       go b rest = (b.0 ∷ rest.0, (b.1, subst (λ x. IsRun new x rest.0) (sym b.2.same_target) rest.1), reads)
         where
           reads : (p : List (List Sym)) → Reads (a ∷ arcs) p → Reads (b.0 ∷ rest.0) p
@@ -103,17 +109,21 @@ module _ {W V : Type 0} {g : Ghosts W} {h : Ghosts V} (old : List (TableState W 
   alike_width one s t b d here there =
       let a = back s b here in
       let c = back t d there in
-      ap (λ c. length (sets_of c)) a.2.same_class ∙ one s t a.0 c.0 a.1 c.1 ∙ ap (λ c. length (sets_of c)) (sym c.2.same_class)
+      ap (λ c. length (sets_of c)) a.2.same_class ∙ one s t a.0 c.0 a.1 c.1
+      ∙ ap (λ c. length (sets_of c)) (sym c.2.same_class)
 
   pub alike_disjoint : ClassesDisjoint old → ClassesDisjoint new
   alike_disjoint apart s = elim (cases_lt s (length old)) [
     | inl l ↦
         zip_pairs IsAlike (λ x y. AreDisjoint x.class y.class) (λ x y. AreDisjoint x.class y.class)
-        (λ x z y w p q d. subst (λ (c : Class). AreDisjoint c w.class) (sym p.same_class) (subst (λ (c : Class). AreDisjoint x.class c) (sym q.same_class) d))
+        (λ x z y w p q d. subst (λ (c : Class). AreDisjoint c w.class) (sym p.same_class)
+        (subst (λ (c : Class). AreDisjoint x.class c) (sym q.same_class) d))
         (moves_at old s) (moves_at new s) (alike.moves s l) (apart s)
     | inr l ↦
-        (let gone : moves_at new s ≡ [] = get_or_past (map (λ s. s.arcs.items) new) s [] (omega (arith, length-map new (λ s. s.arcs.items), alike.each_state)) in
-        subst (λ (xs : List (TableArc V h)). AllPairs (λ x y. AreDisjoint x.class y.class) xs) (sym gone) (λ i j d less inside. absurd (omega (arith, inside))))
+        (let gone : moves_at new s ≡ [] = get_or_past (map (λ s. s.arcs.items) new) s []
+        (omega (arith, length-map new (λ s. s.arcs.items), alike.each_state)) in
+        subst (λ (xs : List (TableArc V h)). AllPairs (λ x y. AreDisjoint x.class y.class) xs) (sym gone)
+        (λ i j d less inside. absurd (omega (arith, inside))))
   ]
 
   pub alike_named : (problem : Problem) (r : ℕ) (names : List PrefixKind)
@@ -123,7 +133,8 @@ module _ {W V : Type 0} {g : Ghosts W} {h : Ghosts V} (old : List (TableState W 
     distinct = named.distinct;
     some = omega (arith, named.some, alike.each_state);
     start = named.start;
-    ends = λ s l. (let inside : s < length old = omega (arith, l, alike.each_state) in alike.ends s inside ∙ named.ends s inside);
+    ends = λ s l. (let inside : s < length old = omega (arith, l, alike.each_state) in alike.ends s inside
+        ∙ named.ends s inside);
     moves = λ s b column here reads.
         (let a = back s b here in
         let goes = named.moves s a.0 column a.1 (reads_old a.0 b column a.2 reads) in
@@ -133,7 +144,8 @@ module _ {W V : Type 0} {g : Ghosts W} {h : Ghosts V} (old : List (TableState W 
   }
 
 -- tables that are alike accept the same words
-pub alike_turned : {W V : Type 0} {g : Ghosts W} {h : Ghosts V} (old : List (TableState W g)) (new : List (TableState V h))
+pub alike_turned : {W V : Type 0} {g : Ghosts W} {h : Ghosts V} (old : List (TableState W g))
+    (new : List (TableState V h))
     → AreAlike old new → AreAlike new old
 alike_turned old new alike = record {
   each_state = sym alike.each_state;
@@ -146,8 +158,12 @@ alike_turned old new alike = record {
     turned [] [] z = tt
     turned [] (y ∷ ys) z = absurd z
     turned (x ∷ xs) [] z = absurd z
-    turned (x ∷ xs) (y ∷ ys) z = (record { same_class = sym z.0.same_class; same_target = sym z.0.same_target }, turned xs ys z.1)
+    turned (x ∷ xs) (y ∷ ys) z = (
+      record { same_class = sym z.0.same_class; same_target = sym z.0.same_target },
+      turned xs ys z.1,
+    )
 
-pub alike_words : {W V : Type 0} {g : Ghosts W} {h : Ghosts V} (old : List (TableState W g)) (new : List (TableState V h))
+pub alike_words : {W V : Type 0} {g : Ghosts W} {h : Ghosts V} (old : List (TableState W g))
+    (new : List (TableState V h))
     → AreAlike old new → (T : List (List Sym)) → Accepts new T ↔ Accepts old T
 alike_words old new alike T = (alike_accepts new old (alike_turned old new alike) T, alike_accepts old new alike T)

@@ -47,20 +47,24 @@ none_first v = record {
   rest = λ k l. zero_at 24 k;
 }
 
-pub next_first : (v parts : List ℕ) (n x : ℕ) → AreFirst v parts n → n < 24 → x ≡ get_or v n 0 → AreFirst v (set parts n x) (n + 1)
+pub next_first : (v parts : List ℕ) (n x : ℕ) → AreFirst v parts n → n < 24 → x ≡ get_or v n 0
+    → AreFirst v (set parts n x) (n + 1)
 next_first v parts n x first inside is = record {
   long = length-set parts n x ∙ first.long;
   done = λ k l. elim (cases_lt k n) [
     | inl less ↦ (let other : k ≢ n = omega (arith, less) in get_or-set_other parts n k x 0 other ∙ first.done k less)
-    | inr more ↦ (let same : k ≡ n = omega (arith, l, more) in ap (λ i. get_or (set parts n x) i 0) same ∙ get_or-set_same parts n x 0 (omega (arith, inside, first.long)) ∙ is ∙ ap (λ i. get_or v i 0) (sym same))
+    | inr more ↦ (let same : k ≡ n = omega (arith, l, more) in ap (λ i. get_or (set parts n x) i 0) same
+        ∙ get_or-set_same parts n x 0 (omega (arith, inside, first.long)) ∙ is ∙ ap (λ i. get_or v i 0) (sym same))
   ];
-  rest = λ k l. (let other : k ≢ n = omega (arith, l) in get_or-set_other parts n k x 0 other ∙ first.rest k (omega (arith, l)));
+  rest = λ k l. (let other : k ≢ n = omega (arith, l) in get_or-set_other parts n k x 0 other
+      ∙ first.rest k (omega (arith, l)));
 }
 
 -- with all numbers they are the vector's
 pub all_first : (v parts : List ℕ) (n : ℕ) → AreFirst v parts n → n ≡ length v → n ≤ 24 → parts ≡ padded v
 all_first v parts n first all few =
-    let size : length (padded v) ≡ 24 = omega (arith, length-append v (zeros (24 - length v)), length-zeros (24 - length v), all, few) in
+    let size : length (padded v) ≡ 24 = omega
+    (arith, length-append v (zeros (24 - length v)), length-zeros (24 - length v), all, few) in
     ext_get_or 0 parts (padded v) (first.long ∙ sym size) at
   where
     at : (k : ℕ) → k < length parts → get_or parts k 0 ≡ get_or (padded v) k 0
@@ -70,8 +74,10 @@ all_first v parts n first all few =
     ]
 
 -- a number for each constraint
-pub costs_long : (frame : Frame) (kind : Kind) (column : List Sym) → length (costs_at frame kind column) ≡ last_stage (problem_in frame)
+pub costs_long : (frame : Frame) (kind : Kind) (column : List Sym)
+    → length (costs_at frame kind column) ≡ last_stage (problem_in frame)
 costs_long frame kind column =
     let k = kind_at_stage frame (last_stage (problem_in frame)) kind in
-    length_costs (take (last_stage (problem_in frame)) (problem_in frame).constraints) (is_tier_open (problem_in frame) k) k.phases column
+    length_costs (take (last_stage (problem_in frame)) (problem_in frame).constraints)
+    (is_tier_open (problem_in frame) k) k.phases column
     ∙ ap length (take_all (last_stage (problem_in frame)) (problem_in frame).constraints (omega arith))

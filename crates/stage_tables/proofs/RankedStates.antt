@@ -41,36 +41,40 @@ pub zip_all : {A B : Type 0} (R : A → B → Type 0) (xs : List A) (ys : List B
 zip_all {A} R xs ys n zipped l = subst (λ (zs : List A). AllZip R zs ys) (take_all n xs l) zipped
 
 module _ {g : Ghosts Count} {h : Ghosts Ranked} (frame : Frame) (kinds : List Kind) (old : List (TableState Count g))
-    where
-  pub no_states : (new : List (TableState Ranked h)) → new ≡ [] → AreRankedStates frame kinds old new 0
-  no_states new none = record {
-    count = ap (λ (xs : List (TableState Ranked h)). length xs) none;
-    ends = λ k l. absurd (omega (arith, l));
-    moves = λ k l. absurd (omega (arith, l));
-  }
+  where
+    pub no_states : (new : List (TableState Ranked h)) → new ≡ [] → AreRankedStates frame kinds old new 0
+    no_states new none = record {
+      count = ap (λ (xs : List (TableState Ranked h)). length xs) none;
+      ends = λ k l. absurd (omega (arith, l));
+      moves = λ k l. absurd (omega (arith, l));
+    }
 
-  pub next_state : (new : List (TableState Ranked h)) (n : ℕ) (state : TableState Ranked h)
-      → AreRankedStates frame kinds old new n
-      → state.accepting ≡ accepting_at old n
-      → AllZip (IsRankedMove frame (kind_numbered kinds n)) (moves_at old n) state.arcs.items
-      → AreRankedStates frame kinds old (new ++ state ∷ []) (n + 1)
-  next_state new n state so_far ends moves = record {
-    count = omega (arith, length_push new state, so_far.count);
-    ends = λ k l. elim (cases_lt k n) [
-      | inl less ↦ accepting_old new state k (omega (arith, less, so_far.count)) ∙ so_far.ends k less
-      | inr more ↦
-          (let same : k ≡ n = omega (arith, l, more) in
-          ap (accepting_at (new ++ state ∷ [])) (same ∙ sym so_far.count) ∙ accepting_new new state ∙ ends ∙ ap (accepting_at old) (sym same))
-    ];
-    moves = λ k l. elim (cases_lt k n) [
-      | inl less ↦ subst (AllZip (IsRankedMove frame (kind_numbered kinds k)) (moves_at old k)) (sym (moves_old new state k (omega (arith, less, so_far.count)))) (so_far.moves k less)
-      | inr more ↦
-          (let same : n ≡ k = omega (arith, l, more) in
-          let last : moves_at (new ++ state ∷ []) n ≡ state.arcs.items = ap (moves_at (new ++ state ∷ [])) (sym so_far.count) ∙ moves_new new state in
-          subst (λ i. AllZip (IsRankedMove frame (kind_numbered kinds i)) (moves_at old i) (moves_at (new ++ state ∷ []) i)) same
-          (subst (AllZip (IsRankedMove frame (kind_numbered kinds n)) (moves_at old n)) (sym last) moves))
-    ];
-  }
+    pub next_state : (new : List (TableState Ranked h)) (n : ℕ) (state : TableState Ranked h)
+        → AreRankedStates frame kinds old new n
+        → state.accepting ≡ accepting_at old n
+        → AllZip (IsRankedMove frame (kind_numbered kinds n)) (moves_at old n) state.arcs.items
+        → AreRankedStates frame kinds old (new ++ state ∷ []) (n + 1)
+    next_state new n state so_far ends moves = record {
+      count = omega (arith, length_push new state, so_far.count);
+      ends = λ k l. elim (cases_lt k n) [
+        | inl less ↦ accepting_old new state k (omega (arith, less, so_far.count)) ∙ so_far.ends k less
+        | inr more ↦
+            (let same : k ≡ n = omega (arith, l, more) in
+            ap (accepting_at (new ++ state ∷ [])) (same ∙ sym so_far.count) ∙ accepting_new new state ∙ ends
+            ∙ ap (accepting_at old) (sym same))
+      ];
+      moves = λ k l. elim (cases_lt k n) [
+        | inl less ↦ subst (AllZip (IsRankedMove frame (kind_numbered kinds k)) (moves_at old k))
+            (sym (moves_old new state k (omega (arith, less, so_far.count)))) (so_far.moves k less)
+        | inr more ↦
+            (let same : n ≡ k = omega (arith, l, more) in
+            let last : moves_at (new ++ state ∷ []) n
+            ≡ state.arcs.items = ap (moves_at (new ++ state ∷ [])) (sym so_far.count) ∙ moves_new new state in
+            subst (λ i. AllZip (IsRankedMove frame (kind_numbered kinds i)) (moves_at old i)
+            (moves_at (new ++ state ∷ []) i)) same
+            (subst (AllZip (IsRankedMove frame (kind_numbered kinds n)) (moves_at old n)) (sym last) moves))
+      ];
+    }
 
 module _ {g : Ghosts Count} (frame : Frame) (kinds : List Kind) (old : List (TableState Count g))
     (whole : IsWholeTable frame kinds old) where
@@ -80,7 +84,8 @@ module _ {g : Ghosts Count} (frame : Frame) (kinds : List Kind) (old : List (Tab
   -- the kind of a state fits the frame
   pub kind_fits : (k : ℕ) (kind : Kind) → k < length old → kind ≡ get_or kinds k kind
       → FitsFrame frame (last_stage (problem_in frame)) kind
-  kind_fits k kind l is = subst (FitsFrame frame (last_stage (problem_in frame))) (sym is) (whole.fit k kind (omega (arith, l, many_kinds)))
+  kind_fits k kind l is = subst (FitsFrame frame (last_stage (problem_in frame))) (sym is)
+      (whole.fit k kind (omega (arith, l, many_kinds)))
 
   pub kind_is : (k : ℕ) (kind : Kind) → k < length old → kind ≡ get_or kinds k kind → kind ≡ kind_numbered kinds k
   kind_is k kind l is = is ∙ get_or_default kinds k kind _ (omega (arith, l, many_kinds))
@@ -109,21 +114,26 @@ module _ {g : Ghosts Count} (frame : Frame) (kinds : List Kind) (old : List (Tab
     }
 
     name_is : (k : ℕ) → k < length old
-        → name_of (names_at frame (last_stage (problem_in frame)) kinds) k ≡ kind_at_stage frame (last_stage (problem_in frame)) (kind_numbered kinds k)
-    name_is k l = get_or-map (kind_at_stage frame (last_stage (problem_in frame))) kinds k _ _ (omega (arith, l, many_kinds))
+        → name_of (names_at frame (last_stage (problem_in frame)) kinds) k
+        ≡ kind_at_stage frame (last_stage (problem_in frame)) (kind_numbered kinds k)
+    name_is k l = get_or-map (kind_at_stage frame (last_stage (problem_in frame))) kinds k _ _
+        (omega (arith, l, many_kinds))
 
     weighed : AreWeighedByAll (problem_in frame) (names_at frame (last_stage (problem_in frame)) kinds) new
     weighed s b column here reads =
         let l : s < length old = omega (arith, moves_exist new s b here, made.count) in
-        let a = zip_from (IsRankedMove frame (kind_numbered kinds s)) (moves_at old s) (moves_at new s) (made.moves s l) here.0 b here.1 here.2 in
+        let a = zip_from (IsRankedMove frame (kind_numbered kinds s)) (moves_at old s) (moves_at new s)
+        (made.moves s l) here.0 b here.1 here.2 in
         a.2.weighs column (subst (λ (c : Class). IsTrue (has c column)) a.2.same_class reads)
         ∙ ap (λ k. padded (move_costs (problem_in frame) (last_stage (problem_in frame)) k column)) (sym (name_is s l))
 
     -- the table of a single pass
     pub is_ranked : IsRankedTable (problem_in frame) (names_at frame (last_stage (problem_in frame)) kinds) new
     is_ranked = record {
-      named = alike_named old new are_alike (problem_in frame) (last_stage (problem_in frame)) (names_at frame (last_stage (problem_in frame)) kinds) whole.named;
+      named = alike_named old new are_alike (problem_in frame) (last_stage (problem_in frame))
+          (names_at frame (last_stage (problem_in frame)) kinds) whole.named;
       weighed = weighed;
-      accepts = λ T. (let same = alike_words old new are_alike T in (λ a. (whole.accepts T).0 (same.0 a), λ x. same.1 ((whole.accepts T).1 x)));
+      accepts = λ T. (let same = alike_words old new are_alike T in
+          (λ a. (whole.accepts T).0 (same.0 a), λ x. same.1 ((whole.accepts T).1 x)));
       on_runs = alike_on_runs old new are_alike whole.on_runs;
     }

@@ -21,7 +21,8 @@ IsOfOneColumn class = (a b : List Sym) → IsTrue (has class a) → IsTrue (has 
 
 -- The states of a kept table are named by kinds under the first r constraints, each move is on one
 -- column, and each state is on a run.
-pub record AreKeptByKinds {g : Ghosts UnitWeight} (problem : Problem) (r : ℕ) (names : List PrefixKind) (states : List (TableState UnitWeight g)) : Type 0 where
+pub record AreKeptByKinds {g : Ghosts UnitWeight} (problem : Problem) (r : ℕ) (names : List PrefixKind)
+    (states : List (TableState UnitWeight g)) : Type 0 where
   pub named : AreNamedByKinds problem r names states
   pub single : (s : ℕ) (arc : TableArc UnitWeight g) → Contains (moves_at states s) arc → IsOfOneColumn arc.class
   pub on_runs : (s : ℕ) → s < length states → IsOnRun states s

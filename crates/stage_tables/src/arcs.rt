@@ -22,7 +22,9 @@ impl Exploring<'_> {
     fn cost(&self, kind: &Kind, column: &Column) -> u32
         requires fits { FitsFrame self.now.frame.now self.now.stage kind.now }
         requires width { length column.now ≡ (tiers_in self.now.frame.now).width }
-        ensures { result ≡ cost_of (problem_in self.now.frame.now) self.now.stage (kind_at_stage self.now.frame.now self.now.stage kind.now) column.now }
+        ensures { result
+            ≡ cost_of (problem_in self.now.frame.now) self.now.stage
+            (kind_at_stage self.now.frame.now self.now.stage kind.now) column.now }
     {
         if self.stage == 0 {
             return 0;
@@ -44,9 +46,13 @@ impl Exploring<'_> {
         requires arc { Contains (moves_at (states_of self.now.kept.now) state) arc.now }
         ensures found { IfOk result (λ _. IsFoundWithin self.now listed.new) }
         ensures stays { IfOk result (λ _. StaysListed listed.old listed.new) }
-        ensures targets { IfOk result (λ made. AreTargets listed.old.kinds.items listed.new.kinds.items (made ∷ [])) }
-        ensures taken { IfOk result (λ made. IsTaken self.now.frame.now self.now.stage listed.new.kinds.items listed.new.over.items kind.now arc.now made) }
-        ensures beyond { IfErr result (λ e. e ≡ ExploreErr.OverBudget → IsFoundBeyond self.now listed.new) }
+        ensures targets { IfOk result
+            (λ made. AreTargets listed.old.kinds.items listed.new.kinds.items (made ∷ [])) }
+        ensures taken { IfOk result
+            (λ made.
+            IsTaken self.now.frame.now self.now.stage listed.new.kinds.items listed.new.over.items kind.now arc.now made) }
+        ensures beyond { IfErr result
+            (λ e. e ≡ ExploreErr.OverBudget → IsFoundBeyond self.now listed.new) }
     {
         let column = least_column(alloc, &arc.class);
         let weight = Count(self.cost(kind, &column));
@@ -76,9 +82,14 @@ impl Exploring<'_> {
         requires state { state < length (states_of self.now.kept.now) }
         ensures found { IfOk result (λ _. IsFoundWithin self.now listed.new) }
         ensures stays { IfOk result (λ _. StaysListed listed.old listed.new) }
-        ensures targets { IfOk result (λ made. AreTargets listed.old.kinds.items listed.new.kinds.items made.items) }
-        ensures taken { IfOk result (λ made. AllZip (IsTaken self.now.frame.now self.now.stage listed.new.kinds.items listed.new.over.items kind.now) (moves_at (states_of self.now.kept.now) state) made.items) }
-        ensures beyond { IfErr result (λ e. e ≡ ExploreErr.OverBudget → IsFoundBeyond self.now listed.new) }
+        ensures targets { IfOk result
+            (λ made. AreTargets listed.old.kinds.items listed.new.kinds.items made.items) }
+        ensures taken { IfOk result
+            (λ made.
+            AllZip
+            (IsTaken self.now.frame.now self.now.stage listed.new.kinds.items listed.new.over.items kind.now) (moves_at (states_of self.now.kept.now) state) made.items) }
+        ensures beyond { IfErr result
+            (λ e. e ≡ ExploreErr.OverBudget → IsFoundBeyond self.now listed.new) }
     {
         let mut moves = Vec::new(alloc);
         for arc in self.kept.arcs(state) {

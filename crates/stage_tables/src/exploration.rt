@@ -23,7 +23,8 @@ impl Exploring<'_> {
 
     /// The start, listed over state 0.
     fn start(&self, alloc: Global) -> Result<Listed, ExploreErr>
-        requires kept { IsKept (problem_in self.now.frame.now) self.now.before (states_of self.now.kept.now) }
+        requires kept { IsKept (problem_in self.now.frame.now) self.now.before
+            (states_of self.now.kept.now) }
         requires budget { 1 ≤ self.now.budget }
         ensures found { IfOk result (IsFoundWithin self.now) }
         ensures one { IfOk result (λ listed. length listed.kinds.items ≡ 1) }
@@ -47,9 +48,13 @@ impl Exploring<'_> {
         requires found { IsFoundWithin self.now listed.old }
         requires one { length listed.old.kinds.items ≡ 1 }
         ensures found { IfOk result (λ _. IsFoundWithin self.now listed.new) }
-        ensures taken { IfOk result (λ states. AreTaken self.now.frame.now self.now.stage (states_of self.now.kept.now) listed.new.kinds.items listed.new.over.items states.items) }
+        ensures taken { IfOk result
+            (λ states.
+            AreTaken self.now.frame.now self.now.stage
+            (states_of self.now.kept.now) listed.new.kinds.items listed.new.over.items states.items) }
         ensures each { IfOk result (λ states. length states.items ≡ length listed.new.kinds.items) }
-        ensures beyond { IfErr result (λ e. e ≡ ExploreErr.OverBudget → IsFoundBeyond self.now listed.new) }
+        ensures beyond { IfErr result
+            (λ e. e ≡ ExploreErr.OverBudget → IsFoundBeyond self.now listed.new) }
     {
         let mut states = Vec::new(alloc);
         'making: while states.len() < listed.kinds.len() {
@@ -88,9 +93,14 @@ pub fn explore(
     requires kept { IsKept (problem_in frame.now) before (states_of kept.now) }
     requires some_budget { 1 ≤ budget }
     requires budget { budget ≤ 65536 }
-    ensures explored { IfOk result (λ found. IsExplored frame.now stage (states_of kept.now) found.kinds.items (states_of found.table)) }
+    ensures explored { IfOk result
+        (λ found.
+        IsExplored frame.now stage (states_of kept.now) found.kinds.items
+        (states_of found.table)) }
     ensures few { IfOk result (λ found. length found.kinds.items ≤ budget) }
-    ensures over { IfErr result (λ e. e ≡ ExploreErr.OverBudget → IsOverBudget frame.now stage (states_of kept.now) budget) }
+    ensures over { IfErr result
+        (λ e. e ≡ ExploreErr.OverBudget
+        → IsOverBudget frame.now stage (states_of kept.now) budget) }
 {
     let exploring = Exploring {
         frame,

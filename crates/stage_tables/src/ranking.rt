@@ -74,7 +74,10 @@ fn ranked_states(
     found: &StageTable,
 ) -> Result<Vec<TableState<Ranked>>, AllocError>
     requires { IsWholeTable frame.now found.now.kinds.items (states_of found.now.table) }
-    ensures { IfOk result (λ states. AreRankedStates frame.now found.now.kinds.items (states_of found.now.table) states.items (length (states_of found.now.table))) }
+    ensures { IfOk result
+        (λ states.
+        AreRankedStates frame.now found.now.kinds.items (states_of found.now.table) states.items
+        (length (states_of found.now.table))) }
 {
     let mut states = Vec::new(alloc);
     for state in 0..found.table.len() {
@@ -96,7 +99,11 @@ pub fn ranked_table(
     found: &StageTable,
 ) -> Result<Table<Ranked>, NoMemory>
     requires { IsWholeTable frame.now found.now.kinds.items (states_of found.now.table) }
-    ensures { IfOk result (λ table. IsRankedTable (problem_in frame.now) (names_at frame.now (last_stage (problem_in frame.now)) found.now.kinds.items) (states_of table)) }
+    ensures { IfOk result
+        (λ table.
+        IsRankedTable (problem_in frame.now)
+        (names_at frame.now (last_stage (problem_in frame.now)) found.now.kinds.items)
+        (states_of table)) }
 {
     match ranked_states(alloc, frame, found) {
         Ok(states) => Ok(Table::of_states(states)),

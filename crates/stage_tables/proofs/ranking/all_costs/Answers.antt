@@ -23,12 +23,13 @@ loop-place-preserved c =
     let few = few_constraints frame.grammar.now in
     let back : n + 1 - 1 ≡ n = omega arith in
     let cost : c.cost.result ≡ get_or (costs_at frame kind column) n 0 =
-        c.cost.ensures.cost
-        ∙ ap (λ r. get_or (move_costs (problem_in frame) r (kind_at_stage frame r kind) column) (n + 1 - 1) 0) inv.all
-        ∙ ap (λ i. get_or (costs_at frame kind column) i 0) back in
+    c.cost.ensures.cost
+    ∙ ap (λ r. get_or (move_costs (problem_in frame) r (kind_at_stage frame r kind) column) (n + 1 - 1) 0) inv.all
+    ∙ ap (λ i. get_or (costs_at frame kind column) i 0) back in
     record {
       all = inv.all;
-      first = next_first (costs_at frame kind column) c.loop-place.parts n c.cost.result inv.first (omega (arith, c.loop-place-test.true, inv.all, few)) cost;
+      first = next_first (costs_at frame kind column) c.loop-place.parts n c.cost.result inv.first
+          (omega (arith, c.loop-place-test.true, inv.all, few)) cost;
     }
 
 pub returns : goal.returns
@@ -39,4 +40,6 @@ returns c =
     let few = few_constraints frame.grammar.now in
     let long : length v ≡ last_stage (problem_in frame) = costs_long frame c.args.kind.now c.args.column.now in
     c.of_parts.ensures
-    ∙ all_first v c.loop-place.parts c.loop-place.place inv.first (omega (arith, long, inv.all, c.loop-place-test.false, c.loop-place.auto.place-end)) (omega (arith, inv.all, c.loop-place.auto.place-end, few))
+    ∙ all_first v c.loop-place.parts c.loop-place.place inv.first
+    (omega (arith, long, inv.all, c.loop-place-test.false, c.loop-place.auto.place-end))
+    (omega (arith, inv.all, c.loop-place.auto.place-end, few))

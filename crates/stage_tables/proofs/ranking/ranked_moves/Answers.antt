@@ -15,10 +15,13 @@ loop-arc-preserved c =
     let good = IsRankedMove c.args.frame.now c.args.kind.now in
     record {
       inside = omega (arith, c.loop-arc-test.true);
-      zipped = rw c.in_ok-push.ensures.items (zip_next good c.args.arcs.now c.loop-arc.moves.items c.loop-arc.arc-index c.arc-item.result c.ranked_move.result inv.zipped c.loop-arc-test.true c.arc-item.is c.ranked_move.ensures);
+      zipped = rw c.in_ok-push.ensures.items
+          (zip_next good c.args.arcs.now c.loop-arc.moves.items c.loop-arc.arc-index c.arc-item.result
+          c.ranked_move.result inv.zipped c.loop-arc-test.true c.arc-item.is c.ranked_move.ensures);
     }
 
 pub returns : goal.returns
 returns c =
     let good = IsRankedMove c.args.frame.now c.args.kind.now in
-    zip_all good c.args.arcs.now c.loop-arc.moves.items c.loop-arc.arc-index c.loop-arc.invariant.zipped c.loop-arc-test.false
+    zip_all good c.args.arcs.now c.loop-arc.moves.items c.loop-arc.arc-index c.loop-arc.invariant.zipped
+    c.loop-arc-test.false

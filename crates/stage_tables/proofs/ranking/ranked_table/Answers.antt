@@ -8,28 +8,37 @@ pub of_states-requires-clause-targets : goal.of_states-requires-clause-targets
 of_states-requires-clause-targets c =
     let found = c.args.found.now in
     let states = c.in-Ok.states.items in
-    alike_targets (states_of found.table) states (are_alike c.args.frame.now found.kinds.items (states_of found.table) c.requires states c.in-Ok.ensures) found.table.targets
+    alike_targets (states_of found.table) states
+    (are_alike c.args.frame.now found.kinds.items
+    (states_of found.table) c.requires states c.in-Ok.ensures) found.table.targets
 
 pub of_states-requires-clause-disjoint : goal.of_states-requires-clause-disjoint
 of_states-requires-clause-disjoint c =
     let found = c.args.found.now in
     let states = c.in-Ok.states.items in
-    alike_disjoint (states_of found.table) states (are_alike c.args.frame.now found.kinds.items (states_of found.table) c.requires states c.in-Ok.ensures) found.table.disjoint
+    alike_disjoint (states_of found.table) states
+    (are_alike c.args.frame.now found.kinds.items
+    (states_of found.table) c.requires states c.in-Ok.ensures) found.table.disjoint
 
 pub of_states-requires-clause-filled : goal.of_states-requires-clause-filled
 of_states-requires-clause-filled c =
     let found = c.args.found.now in
     let states = c.in-Ok.states.items in
-    alike_filled (states_of found.table) states (are_alike c.args.frame.now found.kinds.items (states_of found.table) c.requires states c.in-Ok.ensures) found.table.filled
+    alike_filled (states_of found.table) states
+    (are_alike c.args.frame.now found.kinds.items
+    (states_of found.table) c.requires states c.in-Ok.ensures) found.table.filled
 
 pub of_states-requires-clause-one_width : goal.of_states-requires-clause-one_width
 of_states-requires-clause-one_width c =
     let found = c.args.found.now in
     let states = c.in-Ok.states.items in
-    alike_width (states_of found.table) states (are_alike c.args.frame.now found.kinds.items (states_of found.table) c.requires states c.in-Ok.ensures) found.table.one_width
+    alike_width (states_of found.table) states
+    (are_alike c.args.frame.now found.kinds.items
+    (states_of found.table) c.requires states c.in-Ok.ensures) found.table.one_width
 
 pub returns-in-Ok : goal.returns-in-Ok
 returns-in-Ok c =
     let found = c.args.found.now in
     let states = c.in-Ok.states.items in
-    rw c.of_states.ensures (is_ranked c.args.frame.now found.kinds.items (states_of found.table) c.requires states c.in-Ok.ensures)
+    rw c.of_states.ensures (is_ranked c.args.frame.now found.kinds.items
+    (states_of found.table) c.requires states c.in-Ok.ensures)

@@ -1,0 +1,5 @@
+pub mod Surfaces
+pub mod Searches
+pub mod Steps
+pub mod Entering
+pub mod Choices

@@ -1,2 +1,11 @@
 pub mod Reaching
 pub mod Searching
+pub mod FirstStep
+pub mod Cells
+pub mod Looks
+pub mod Alongs
+pub mod Results
+pub mod Bettering
+pub mod Shared
+pub mod Numbers
+pub mod Comings

@@ -1,6 +1,6 @@
 -- Arcs turned round: for each state those that enter it.
 use Rattle.std.specs.Prelude.{◌≡◌, ◌<◌, ◌+◌, ◌*◌, ◌⊎◌, ℕ, IsTrue, List, [], Contains, Some, length, map, slice_get, slice_index_or}
-use Rattle.std.specs.declared.vec.Vec.{Vec}
+use Rattle.std.specs.Global.{Vec}
 use Rattle.tier_core.specs.declared.sym.Sym.{Sym}
 use Rattle.tier_core.specs.declared.class.Class.{Class}
 use Rattle.tier_core.specs.Classes.{has}

@@ -1,6 +1,6 @@
 -- Steps of an automaton along tests: the cells of a search are the pairs of a state and a place, and
 -- there is one test, a class of columns, for staying at a place, and one for going on to each place.
-use Rattle.std.specs.Prelude.{◌≡◌, ◌<◌, ◌+◌, ◌*◌, ◌⊎◌, ℕ, Bool, false, IsTrue, List, [], All, AllPairs, Contains, Some, length, map, slice_get, slice_index_or}
+use Rattle.std.specs.Prelude.{◌≡◌, ◌<◌, ◌+◌, ◌*◌, ◌^◌, ◌⊎◌, ℕ, Bool, false, IsTrue, List, [], All, AllPairs, Contains, Some, length, map, slice_get, slice_index_or}
 use Rattle.tier_core.specs.declared.sym.Sym.{Sym}
 use Rattle.tier_core.specs.declared.class.Class.{Class}
 use Rattle.tier_core.specs.Classes.{has, sets_of, AreDisjoint}
@@ -56,6 +56,8 @@ pub record AreSearchable (width : ℕ) (states : List StateLine) (tests : List C
   pub arc_widths : (s : ℕ) (arc : ArcLine) → Contains (arcs_at states s) arc → length (sets_of arc.class) ≡ width
   pub test_widths : All (λ test. length (sets_of test) ≡ width) tests
   pub some_test : 0 < length tests
+  pub few_states : length states < 2 ^ 32
+  pub few_tests : length tests < 2 ^ 32
   pub few : length states * length tests < far
 
 -- no column is in two arcs of a state

@@ -36,7 +36,7 @@ not_after Equal e = refl
 not_after Greater e = absurd (false≢true (sym e))
 
 -- the order of timelines says the same
-first_le : (w v : List (List Sym)) → IsFirstOf w v → is_le (timeline_cmp w v) ≡ true
+pub first_le : (w v : List (List Sym)) → IsFirstOf w v → is_le (timeline_cmp w v) ≡ true
 first_le w v h = go (nat_cmp (length w) (length v)) refl h
   where
     go : (r : Ordering) → r ≡ nat_cmp (length w) (length v) → IsFirstOf w v → is_le (ordering_then r (word_cmp w v)) ≡ true

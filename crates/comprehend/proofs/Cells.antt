@@ -1,5 +1,5 @@
 -- Cells by their numbers.
-use Rattle.std.proofs.Common.{◌≡◌, ℕ, ◌+◌, ◌*◌, ◌<◌, ◌≤◌, refl, sym, ap, ◌∙◌, arith, ◌⊎◌, inl, inr}
+use Rattle.std.proofs.Common.{◌≡◌, ℕ, ◌+◌, ◌*◌, ◌/◌, ◌%◌, ◌<◌, ◌≤◌, refl, sym, ap, ◌∙◌, arith, ◌⊎◌, inl, inr}
 use Rattle.std.proofs.Math.Nat.{mul-le-mul_right}
 use Rattle.std.proofs.lemmas.Bool.{cases_order}
 
@@ -34,3 +34,10 @@ state_inside i p n width l = elim (cases_order i n) [
     | inr more ↦ absurd (omega (arith, cells_inside n i width more))
   ]
 ]
+
+-- the cell of a number
+pub cell_of : (v width : ℕ) → 0 < width → v ≡ v / width * width + v % width
+cell_of v width some = omega arith
+
+pub place_below : (v width : ℕ) → 0 < width → v % width < width
+place_below v width some = omega arith

@@ -3,9 +3,12 @@ pub mod Searching
 pub mod FirstStep
 pub mod Cells
 pub mod Looks
+pub mod Ends
 pub mod Alongs
 pub mod Results
 pub mod Bettering
 pub mod Shared
 pub mod Numbers
 pub mod Comings
+pub mod Levels
+pub mod Choosing

@@ -1,5 +1,5 @@
 -- Results that are no errors.
-use Rattle.std.specs.Prelude.{OnOk}
+use Rattle.std.specs.Prelude.{OnOk, IfOk}
 use Rattle.std.specs.Result.{is_err}
 use Rattle.std.proofs.lemmas.Bool.{false≢true}
 use Rattle.std.proofs.Common.{Result, Ok, Err, false, ◌≡◌, sym}
@@ -8,3 +8,8 @@ use Rattle.std.proofs.Common.{Result, Ok, Err, false, ◌≡◌, sym}
 pub on_ok : {A E P : Type 0} (r : Result A E) → OnOk r P → is_err r ≡ false → P
 on_ok (Ok x) h e = h
 on_ok (Err x) h e = absurd (false≢true (sym e))
+
+-- where an `Ok` has this, it has that
+pub if_ok_then : {A E : Type 0} (P Q : A → Type 0) → ((x : A) → P x → Q x) → (r : Result A E) → IfOk r P → IfOk r Q
+if_ok_then P Q step (Ok x) h = step x h
+if_ok_then P Q step (Err e) h = h

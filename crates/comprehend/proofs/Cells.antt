@@ -41,3 +41,7 @@ cell_of v width some = omega arith
 
 pub place_below : (v width : ℕ) → 0 < width → v % width < width
 place_below v width some = omega arith
+
+-- the state of a cell of n states is one of them
+pub state_of : (v n width : ℕ) → 0 < width → v < n * width → v / width < n
+state_of v n width some l = state_inside (v / width) (v % width) n width (omega (arith, cell_of v width some, l))

@@ -18,9 +18,9 @@ use Rattle.comprehend.proofs.Reaching.{reaches_both}
 use Rattle.comprehend.proofs.Cells.{cells_inside}
 use Rattle.comprehend.proofs.Comings.{comes_goes, goes_comes}
 
--- the arcs of a state of the list
-pub arcs_are : (states : List StateLine) (s : ℕ) (state : StateLine) → s < length states → state ≡ get_or states s state → arcs_at states s ≡ state.arcs.items
-arcs_are states s state inside is = get_or-map (λ (x : StateLine). x.arcs.items) states s state [] inside ∙ ap (λ (x : StateLine). x.arcs.items) (sym is)
+-- the arcs of a state of the list, as they are read
+pub arcs_read : (states : List StateLine) (s : ℕ) (state : StateLine) (arcs : List ArcLine) → s < length states → arcs ≡ (get_or states s state).arcs.items → arcs ≡ arcs_at states s
+arcs_read states s state arcs inside e = e ∙ sym (get_or-map (λ (x : StateLine). x.arcs.items) states s state [] inside)
 
 -- only states of the list have arcs
 pub arcs_inside : (states : List StateLine) (s : ℕ) (arc : ArcLine) → Contains (arcs_at states s) arc → s < length states

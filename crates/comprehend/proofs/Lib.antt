@@ -12,3 +12,5 @@ pub mod Numbers
 pub mod Comings
 pub mod Levels
 pub mod Choosing
+pub mod OneStep
+pub mod Turned

@@ -1,24 +1,16 @@
 use Rattle.std.proofs.Common.{◌≡◌, ◌<◌, ◌*◌, ℕ, List, None, [], length, get_or, ◌/◌, ◌%◌, sym, ap, ◌∙◌, subst, arith}
 use Rattle.std.specs.Prelude.{All}
 use Rattle.std.proofs.lemmas.List.Elements.{Contains-get_or}
-use Rattle.std.proofs.lemmas.List.{get_or-map}
 use Rattle.tier_core.specs.Classes.{sets_of}
 use Rattle.answer_text.specs.declared.automaton.ArcLine.{ArcLine}
 use Rattle.answer_text.specs.declared.automaton.StateLine.{StateLine}
 use Rattle.answer_text.specs.Right.{numbers_of}
 use Rattle.comprehend.specs.Choices.{IsBetter, LeadsByOne}
 use Rattle.comprehend.specs.Steps.{arcs_at}
-use Rattle.comprehend.proofs.Cells.{cell_of, place_below, state_inside}
+use Rattle.comprehend.proofs.Cells.{cell_of, place_below, state_of}
+use Rattle.comprehend.proofs.Levels.{arcs_read}
 use Rattle.comprehend.proofs.Choosing.{chosen, none_chosen}
 use Rattle.comprehend.proofs.choose.choose.Goals as goal
-
--- the state of a cell is one of the list
-state_of : (v n width : ℕ) → 0 < width → v < n * width → v / width < n
-state_of v n width some l = state_inside (v / width) (v % width) n width (omega (arith, cell_of v width some, l))
-
--- its arcs, as they are read
-arcs_read : (states : List StateLine) (s : ℕ) (state : StateLine) (arcs : List ArcLine) → s < length states → arcs ≡ (get_or states s state).arcs.items → arcs ≡ arcs_at states s
-arcs_read states s state arcs inside e = e ∙ sym (get_or-map (λ (x : StateLine). x.arcs.items) states s state [] inside)
 
 pub best_of-requires-clause-widths : goal.best_of-requires-clause-widths
 best_of-requires-clause-widths c =

@@ -6,13 +6,9 @@ use Rattle.answer_text.specs.declared.automaton.StateLine.{StateLine}
 use Rattle.comprehend.specs.declared.entering.Entering.{Entering}
 use Rattle.comprehend.specs.Searches.{Reaches}
 use Rattle.comprehend.specs.Entering.{entering_at, ComesByOne}
-use Rattle.comprehend.proofs.Cells.{cell_of, place_below, state_inside}
+use Rattle.comprehend.proofs.Cells.{cell_of, place_below, state_of}
 use Rattle.comprehend.proofs.Levels.{entering_are, entry_widths, entry_cells, level_more}
 use Rattle.comprehend.proofs.level.next_level.Goals as goal
-
--- the state of a cell is one of the list
-state_of : (v n width : ℕ) → 0 < width → v < n * width → v / width < n
-state_of v n width some l = state_inside (v / width) (v % width) n width (omega (arith, cell_of v width some, l))
 
 pub reach-requires-clause-widths : goal.reach-requires-clause-widths
 reach-requires-clause-widths c =

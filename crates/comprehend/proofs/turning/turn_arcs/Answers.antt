@@ -7,7 +7,7 @@ use Rattle.answer_text.specs.declared.automaton.StateLine.{StateLine}
 use Rattle.answer_text.specs.Right.{numbers_of}
 use Rattle.comprehend.specs.declared.entering.Entering.{Entering}
 use Rattle.comprehend.specs.Steps.{arcs_at}
-use Rattle.comprehend.proofs.Levels.{arcs_read}
+use Rattle.comprehend.proofs.Levels.{arcs_read, entering_are}
 use Rattle.comprehend.proofs.Turned.{so_far_none, so_far_all, turned_skip, turned_push}
 use Rattle.comprehend.proofs.turning.turn_arcs.Goals as goal
 
@@ -45,9 +45,8 @@ loop-arc-preserved c =
     let at : slice_get numbers target ≡ Some arc.target = ap (λ ns. slice_get ns target) (sym c.requires.numbers) ∙ (c.place_of.ensures target).0 c.in-Some.is in
     let entry : Entering = record { source = n; class = arc.class } in
     let within : target < length c.loop-arc.into.items = omega (arith, slice_get_within numbers target arc.target at, c.loop-arc.invariant.each_state) in
-    let h = c.index_mut.ensures.value in
     turned_push states n k arc inside (c.arc-item.is ∙ ap (λ xs. get_or xs k arc) items) numbers c.loop-arc.into.items c.loop-arc.invariant c.requires.once target at entry refl refl c.push.new.self
-    (c.in_ok-push.ensures.items ∙ ap (λ xs. xs ++ entry ∷ []) ?)
+    (c.in_ok-push.ensures.items ∙ ap (λ xs. xs ++ entry ∷ []) (sym (entering_are c.loop-arc.into.items target c.index_mut.result.now within c.index_mut.ensures.value)))
 
 pub returns : goal.returns
 returns c =

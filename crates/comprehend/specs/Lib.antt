@@ -1,4 +1,5 @@
 pub mod Surfaces
+pub mod Tests
 pub mod Searches
 pub mod Steps
 pub mod Entering

@@ -10,6 +10,10 @@ mod look;
 mod meets;
 mod numbering;
 mod search;
+mod surface;
+mod tests_of;
 mod turning;
+
+pub use surface::has_surface;
 
 

@@ -13,4 +13,6 @@ pub mod Comings
 pub mod Levels
 pub mod Choosing
 pub mod OneStep
+pub mod Hearing
+pub mod Readings
 pub mod Turned

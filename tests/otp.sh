@@ -1,7 +1,8 @@
 #!/bin/sh
 # Tries the real program: its exit status, what it writes to standard output and to standard error,
-# and what it does where standard output cannot take the answer. Run by hand, at any place:
-# `tests/otp.sh`. It ends with 0 where all is as it should be.
+# and what it does when standard output cannot take the answer. It runs from any folder, by hand and
+# in `.ci/run`, and its last line is `N passed, M failed`. It says what fails, and with the word
+# `all` also what passes.
 top=$(cd "$(dirname "$0")/.." && pwd) || exit 1
 place=$(mktemp -d) || exit 1
 trap 'rm -rf "$place"' EXIT
@@ -13,7 +14,29 @@ printf 'otp 1\ntier A input\ntier a overt\nconstraint Max A -> a\n' > strict.otp
 { cat base.otp; echo 'constraint X b -> a'; } > unknown.otp
 head -c 65537 /dev/zero > long.otp
 tr '\0' 'x' < /dev/zero | head -c 65536 > full.otp
+passed=0
 failed=0
+verbose=$1
+
+# has_passed NAME, has_failed WORD..: counts a case
+has_passed() {
+    passed=$((passed + 1))
+    [ "$verbose" != all ] || echo "passed $1"
+}
+
+has_failed() {
+    failed=$((failed + 1))
+    echo "FAILED $*"
+}
+
+# has_text FILE FILE NAME: two files are the same
+has_text() {
+    if cmp -s "$1" "$2"; then
+        has_passed "$3"
+    else
+        has_failed "$3: it wrote $(cat "$1")"
+    fi
+}
 
 # try NAME STATUS LINE WORD..: the status, the line on standard error, and no text but for status 0
 try() {
@@ -24,30 +47,25 @@ try() {
     printf '%s' "$line" > line
     [ -z "$line" ] || echo >> line
     if [ "$found" != "$status" ] || ! cmp -s err line; then
-        echo "FAILED $name: status $found, $(cat err)"
-        failed=1
+        has_failed "$name: status $found, $(cat err)"
     elif [ "$status" != 0 ] && [ -s out ]; then
-        echo "FAILED $name: it wrote to standard output"
-        failed=1
+        has_failed "$name: it wrote to standard output"
     else
-        echo "passed $name"
+        has_passed "$name"
     fi
 }
 
 # wrote LINE..: the lines that the last command wrote
 wrote() {
     printf '%s\n' "$@" > lines
-    if ! cmp -s out lines; then
-        echo "FAILED: it wrote $(cat out)"
-        failed=1
-    fi
+    has_text out lines "$name, text"
 }
 
 "$top/otp" > /dev/null 2>&1 # builds it where need be
 
 # what each command writes
 try "empty form" 0 "" generate base.otp empty
-cmp out "$top/crates/otp/stdout" || failed=1
+has_text out "$top/crates/otp/stdout" "empty form, text"
 try "one constituent" 0 "" generate base.otp "[ ]"
 try "spelled empty form" 0 "" generate base.otp =
 try "counts and example" 0 "" show base.otp "[ | ]"
@@ -58,9 +76,9 @@ try "largest budget" 0 "" show base.otp "[ ]" 65536
 try "as many kinds as the budget" 0 "" show base.otp "[ ]" 6
 wrote "counts" "example [- ]-"
 try "canonical text of a canonical text" 0 "" canon syllables.otp
-cmp out syllables.otp || failed=1
+has_text out syllables.otp "canonical text of a canonical text, text"
 try "canonical text of a loose text" 0 "" canon loose.otp
-cmp out strict.otp || failed=1
+has_text out strict.otp "canonical text of a loose text, text"
 try "three counts" 0 "" score ranked.otp "-[ [| ]]"
 wrote "counts 0 1 2"
 try "no counts" 0 "" score base.otp "[- ]-"
@@ -102,7 +120,6 @@ try "as many kinds as every stage has" 0 "" show faithful.otp "[ ]" 8
 wrote "counts 0 0" "example [[ ]]"
 
 # each refusal
-try "no words" 2 "usage"
 try "unknown command" 2 "usage" foo base.otp empty
 try "two words" 2 "usage" generate base.otp
 try "a word too many" 2 "usage" canon base.otp empty
@@ -137,19 +154,58 @@ try "form before stages" 4 "form word 2: NotWellFormed 0" show ranked.otp "] ["
 try "budget of generate" 7 "budget entry 0 stage 0" generate hidden.otp empty 3
 try "word that is no text" 15 "" generate base.otp "$(printf '\377')"
 
+# the slips of docs/TROUBLE.md: slip NAME CAUSE TEXT, a file of that text that is refused so
+slip() {
+    printf "$3" > slip.otp
+    try "$1" 3 "grammar word 1 $2" canon slip.otp
+}
+begin='otp 1\ntier A input\ntier a overt\n'
+slip "byte order mark" "line 1: BadByte" "\357\273\277$begin"
+slip "UTF-16" "line 1: BadByte" '\377\376o\000t\000p\000 \0001\000\n\000'
+slip "carriage returns alone" "line 1: BadByte" 'otp 1\rtier A input\rtier a overt\r'
+slip "no-break space" "line 4: BadByte" "${begin}constraint X A\302\240-> a\n"
+slip "arrow sign" "line 4: BadByte" "${begin}constraint X A \342\206\222 a\n"
+slip "double arrow" "line 4: BadByte" "${begin}constraint X A => a\n"
+slip "star in a name" "line 4: BadByte" "${begin}constraint *X A -> a\n"
+slip "hyphen in a name" "line 4: BadByte" "${begin}constraint No-X A -> a\n"
+slip "comment by slashes" "line 4: BadByte" "${begin}// a comment\n"
+slip "comment by # at the top" "line 1: BadHeader" "# a comment\n$begin"
+slip "header without space" "line 1: BadHeader" 'otp1\n'
+slip "header in capitals" "line 1: BadHeader" 'OTP 1\n'
+slip "next version" "line 1: BadHeader" 'otp 2\n'
+slip "comment by # after a line" "line 4: BadLine" "${begin}tier b overt # a comment\n"
+slip "unknown kind of tier" "line 4: BadLine" "${begin}tier b given\n"
+slip "two tiers on a line" "line 4: BadLine" "${begin}tier b c input\n"
+slip "no name" "line 4: BadLine" "${begin}constraint A -> a\n"
+slip "or on the left" "line 4: BadLine" "${begin}constraint X A or a -> a\n"
+slip "or in a clash" "line 4: BadLine" "${begin}constraint X A # a or A\n"
+slip "and on the right" "line 4: BadLine" "${begin}constraint X A -> a and a\n"
+slip "bracket after the tier" "line 4: BadLine" "${begin}constraint X A[ -> a\n"
+slip "another case" "line 4: UnknownTier" "${begin}constraint X B -> a\n"
+slip "letter of two signs" "line 4: BadName" "${begin}letter ta = A\n"
+printf 'otp 1\r\ntier A input\r\ntier a overt\r\n' > slip.otp
+try "Windows line ends" 0 "" canon slip.otp
+try "tab in a form" 4 "form word 2: BadSymbol 1" show base.otp "$(printf '[\t]')"
+try "line end in a form" 4 "form word 2: BadSymbol 3" show base.otp "[ ]
+"
+try "budget for a form" 4 "form word 2: BadSymbol 0" show base.otp 30
+try "form before the grammar" 8 "read fault word 1" show "[ ]" base.otp
+
 # status_is NAME WANTED FOUND
 status_is() {
     if [ "$2" = "$3" ]; then
-        echo "passed $1"
+        has_passed "$1"
     else
-        echo "FAILED $1: status $3"
-        failed=1
+        has_failed "$1: status $3"
     fi
 }
 
+"$top/otp" > out 2> err
+status_is "no words" 2 $?
+status_is "no words, line" "usage" "$(head -n 1 err)"
 "$top/otp" generate base.otp empty > /dev/full 2> err
 status_is "full disk" 9 $?
-grep -qx "write fault" err || failed=1
+status_is "full disk, line" "write fault" "$(cat err)"
 for words in "canon base.otp" "score base.otp empty" "show base.otp empty"; do
     "$top/otp" $words > /dev/full 2> err
     status_is "full disk, $words" 9 $?
@@ -162,4 +218,5 @@ mkfifo pipe
 : < pipe
 wait
 status_is "broken pipe" 9 "$(cat pipe_status)"
-exit $failed
+echo "$passed passed, $failed failed"
+[ $failed = 0 ]

@@ -1,6 +1,6 @@
 pub mod Acceptance
 pub mod Right
-pub mod Shown
-pub mod Faithful
+pub mod Certified
+pub mod Sound
 pub mod Text
 pub mod Shape

@@ -11,7 +11,7 @@ use Rattle.tier_core.specs.Orders.{IsFirst}
 use Rattle.tier_core.specs.Tiers.{Tiers}
 use Rattle.tier_core.specs.Kinds.{PrefixKind, prefix_kind}
 use Rattle.violation.specs.Candidates.{IsOptimal, IsLeastVector}
-use Rattle.violation.specs.Prefixes.{kind_of, stretches}
+use Rattle.violation.specs.Prefixes.{kind_of, stretches, kind_of_bits}
 use Rattle.violation.specs.Stages.{IsPassed, AreKindsOfStage, IsRemaining}
 use Rattle.answer_text.specs.declared.stage.Node.{Node}
 use Rattle.answer_text.specs.declared.stage.Stage.{Stage}
@@ -19,26 +19,27 @@ use Rattle.answer_text.specs.declared.automaton.ArcLine.{ArcLine}
 use Rattle.answer_text.specs.declared.automaton.StateLine.{StateLine}
 use Rattle.answer_text.specs.declared.answer.Answer.{Answer}
 use Rattle.answer_text.specs.Acceptance.{Leads, Accepts}
+use Rattle.violation.specs.Problems.{Problem, last_stage}
 
 -- the nodes of a stage
 abbrev pub nodes_at : List Stage → ℕ → List Node
 nodes_at stages r = slice_index_or (map (λ stage. stage.nodes.items) stages) r []
 
 -- the kinds that the nodes of a stage tell, where the stage counts the first r constraints
-abbrev pub kinds_at : Tiers → List Constraint → ℕ → List Node → List PrefixKind
-kinds_at tiers constraints r nodes = map (λ node. prefix_kind (length tiers.free) (length (stretches constraints r)) node.kind) nodes
+abbrev pub kinds_at : Problem → ℕ → List Node → List PrefixKind
+kinds_at problem r nodes = map (λ node. kind_of_bits problem r node.kind) nodes
 
 -- Stage r is right: its kinds are those of the stage, in kind order, and each potential is what
 -- remains from its kind.
-pub record IsRightStage (tiers : Tiers) (constraints : List Constraint) (u : List (List Sym)) (r : ℕ) (nodes : List Node) : Type 0 where
-  pub kinds : AreKindsOfStage tiers constraints u r (kinds_at tiers constraints r nodes)
-  pub potentials : All (λ node. IsRemaining tiers constraints u r (prefix_kind (length tiers.free) (length (stretches constraints r)) node.kind) node.potential) nodes
+pub record IsRightStage (problem : Problem) (r : ℕ) (nodes : List Node) : Type 0 where
+  pub kinds : AreKindsOfStage problem r (kinds_at problem r nodes)
+  pub potentials : All (λ node. IsRemaining problem r (kind_of_bits problem r node.kind) node.potential) nodes
 
 -- node number n tells this kind, under all constraints
-pub record IsNodeOf (tiers : Tiers) (constraints : List Constraint) (nodes : List Node) (n : ℕ) (k : PrefixKind) : Type 0 where
+pub record IsNodeOf (problem : Problem) (nodes : List Node) (n : ℕ) (k : PrefixKind) : Type 0 where
   pub node : Node
   pub numbered : slice_get nodes n ≡ Some node
-  pub tells : prefix_kind (length tiers.free) (length (stretches constraints (length constraints))) node.kind ≡ k
+  pub tells : kind_of_bits problem (last_stage problem) node.kind ≡ k
 
 -- arcs are ordered by target, then by class, which is compared by the numbers of its sets
 abbrev pub arc_cmp : ArcLine → ArcLine → Ordering
@@ -60,19 +61,19 @@ numbers_of states = map (λ state. state.node) states
 -- The automaton is right, where the last stage has these nodes: its states are the kinds under all
 -- constraints of prefixes of optimal candidates, each once and in order; it accepts exactly the
 -- optimal candidates; reading a prefix of one ends at the state of its kind; and its arcs are right.
-pub record IsRightAutomaton (tiers : Tiers) (constraints : List Constraint) (u : List (List Sym)) (nodes : List Node) (states : List StateLine) : Type 0 where
+pub record IsRightAutomaton (problem : Problem) (nodes : List Node) (states : List StateLine) : Type 0 where
   pub ascending : IsStrictlySortedBy nat_cmp (numbers_of states)
-  pub passed : (n : ℕ) → Contains (numbers_of states) n → (k : PrefixKind) × (IsNodeOf tiers constraints nodes n k × IsPassed tiers constraints u (length constraints) (length constraints) k)
-  pub accepts : (T : List (List Sym)) → Accepts states T ↔ IsOptimal tiers constraints u T
-  pub reads : (T : List (List Sym)) (n : ℕ) → IsOptimal tiers constraints u T → n ≤ length T
-      → (m : ℕ) × (Leads states 0 (take n T) m × Contains (numbers_of states) m × IsNodeOf tiers constraints nodes m (kind_of tiers constraints (length constraints) (take n T)))
-  pub arcs : All (λ state. AreRightArcs tiers.width (numbers_of states) state.arcs.items) states
+  pub passed : (n : ℕ) → Contains (numbers_of states) n → (k : PrefixKind) × (IsNodeOf problem nodes n k × IsPassed problem (last_stage problem) (last_stage problem) k)
+  pub accepts : (T : List (List Sym)) → Accepts states T ↔ IsOptimal problem T
+  pub reads : (T : List (List Sym)) (n : ℕ) → IsOptimal problem T → n ≤ length T
+      → (m : ℕ) × (Leads states 0 (take n T) m × Contains (numbers_of states) m × IsNodeOf problem nodes m (kind_of problem (last_stage problem) (take n T)))
+  pub arcs : All (λ state. AreRightArcs problem.tiers.width (numbers_of states) state.arcs.items) states
 
 -- An answer is right for a grammar and the form u.
-pub record IsRight (tiers : Tiers) (constraints : List Constraint) (u : List (List Sym)) (answer : Answer) : Type 0 where
-  pub form : answer.form ≡ u
-  pub counts : IsLeastVector tiers constraints u answer.counts.items
-  pub example : IsFirst (IsOptimal tiers constraints u) answer.example
-  pub stage_count : length answer.stages.items ≡ length constraints + 1
-  pub each_stage : (r : ℕ) → r ≤ length constraints → IsRightStage tiers constraints u r (nodes_at answer.stages.items r)
-  pub automaton : IsRightAutomaton tiers constraints u (nodes_at answer.stages.items (length constraints)) answer.automaton.states.items
+pub record IsRight (problem : Problem) (answer : Answer) : Type 0 where
+  pub form : answer.form ≡ problem.form
+  pub counts : IsLeastVector problem answer.counts.items
+  pub example : IsFirst (IsOptimal problem) answer.example
+  pub stage_count : length answer.stages.items ≡ last_stage problem + 1
+  pub each_stage : (r : ℕ) → r ≤ last_stage problem → IsRightStage problem r (nodes_at answer.stages.items r)
+  pub automaton : IsRightAutomaton problem (nodes_at answer.stages.items (last_stage problem)) answer.automaton.states.items

@@ -3,7 +3,7 @@ pub mod Listing
 pub mod Potentials
 pub mod Optima
 pub mod Reading
-pub mod Faithfulness
+pub mod Soundness
 pub mod RightAnswers
 pub mod Joining
 pub mod Rests

@@ -13,12 +13,13 @@ use Rattle.std.proofs.lemmas.Option.{slice_get_within, slice_get-get_or, get_or_
 use Rattle.tier_core.specs.declared.constraint.Constraint.{Constraint}
 use Rattle.tier_core.specs.Kinds.{PrefixKind, open_rank, phase_rank, prefix_kind, kind_order}
 use Rattle.tier_core.specs.Tiers.{Tiers}
-use Rattle.violation.specs.Prefixes.{stretches}
+use Rattle.violation.specs.Prefixes.{stretches, kind_of_bits}
 use Rattle.answer_text.specs.declared.stage.Node.{Node}
 use Rattle.answer_text.specs.declared.stage.Stage.{Stage}
 use Rattle.answer_text.specs.Right.{nodes_at, kinds_at, IsNodeOf}
-use Rattle.answer_text.specs.Shown.{Lists}
+use Rattle.answer_text.specs.Certified.{Lists}
 use Rattle.check_laws.proofs.Members.{contains_map, contains_of_map}
+use Rattle.violation.specs.Problems.{Problem, last_stage}
 
 pub kinds_total : IsTotalOrder kind_order
 kinds_total =
@@ -44,33 +45,33 @@ one_place ks sorted i j d a b e = elim (cases_order i j) [
   ]
 ]
 
-module _ (tiers : Tiers) (constraints : List Constraint) (r : ℕ) where
+module _ (problem : Problem) (r : ℕ) where
   -- the kind that a node of stage r tells
   abbrev pub told : Node → PrefixKind
-  told node = prefix_kind (length tiers.free) (length (stretches constraints r)) node.kind
+  told node = kind_of_bits problem r node.kind
 
   -- the place of a member that tells a kind
   told_at : (nodes : List Node) (node : Node) (k : PrefixKind) (i : ℕ) → i < length nodes → get_or nodes i node ≡ node → told node ≡ k → get_or (map told nodes) i k ≡ k
   told_at nodes node k i l e t = get_or-map told nodes i node k l ∙ ap told e ∙ t
 
   module _ (stages : List Stage) where
-    pub lists_kind : (k : PrefixKind) (p : ℕ) → Lists tiers constraints stages r k p → Contains (kinds_at tiers constraints r (nodes_at stages r)) k
-    lists_kind k p l = subst (Contains (kinds_at tiers constraints r (nodes_at stages r))) l.tells (contains_map told (nodes_at stages r) l.node l.listed)
+    pub lists_kind : (k : PrefixKind) (p : ℕ) → Lists problem stages r k p → Contains (kinds_at problem r (nodes_at stages r)) k
+    lists_kind k p l = subst (Contains (kinds_at problem r (nodes_at stages r))) l.tells (contains_map told (nodes_at stages r) l.node l.listed)
 
-    pub kind_listed : (k : PrefixKind) → Contains (kinds_at tiers constraints r (nodes_at stages r)) k → (p : ℕ) × Lists tiers constraints stages r k p
+    pub kind_listed : (k : PrefixKind) → Contains (kinds_at problem r (nodes_at stages r)) k → (p : ℕ) × Lists problem stages r k p
     kind_listed k h =
         let m = contains_of_map told (nodes_at stages r) k h in
         let node : Node = m.0 in
         (node.potential, record { node = node; listed = m.1.0; tells = m.1.1; potential = refl })
 
     -- the start, which comes first, is listed
-    pub first_listed : (k : PrefixKind) → slice_get (kinds_at tiers constraints r (nodes_at stages r)) 0 ≡ Some k → (p : ℕ) × Lists tiers constraints stages r k p
+    pub first_listed : (k : PrefixKind) → slice_get (kinds_at problem r (nodes_at stages r)) 0 ≡ Some k → (p : ℕ) × Lists problem stages r k p
     first_listed k e =
-        let kinds : List PrefixKind = kinds_at tiers constraints r (nodes_at stages r) in
+        let kinds : List PrefixKind = kinds_at problem r (nodes_at stages r) in
         kind_listed k (0, slice_get_within kinds 0 k e, get_or_from_slice_get kinds 0 k k e)
 
     -- a kind has one potential
-    pub one_potential : IsStrictlySortedBy kind_order (kinds_at tiers constraints r (nodes_at stages r)) → (k : PrefixKind) (p q : ℕ) → Lists tiers constraints stages r k p → Lists tiers constraints stages r k q → p ≡ q
+    pub one_potential : IsStrictlySortedBy kind_order (kinds_at problem r (nodes_at stages r)) → (k : PrefixKind) (p q : ℕ) → Lists problem stages r k p → Lists problem stages r k q → p ≡ q
     one_potential sorted k p q a b =
         let nodes : List Node = nodes_at stages r in
         let i = a.listed in
@@ -82,43 +83,43 @@ module _ (tiers : Tiers) (constraints : List Constraint) (r : ℕ) where
         sym a.potential ∙ ap (λ (node : Node). node.potential) one ∙ b.potential
 
 -- Nodes by their numbers, under all constraints.
-module _ (tiers : Tiers) (constraints : List Constraint) (nodes : List Node) where
+module _ (problem : Problem) (nodes : List Node) where
   abbrev told_last : Node → PrefixKind
-  told_last = told tiers constraints (length constraints)
+  told_last = told problem (last_stage problem)
 
-  pub kind_numbered : (k : PrefixKind) → Contains (kinds_at tiers constraints (length constraints) nodes) k → (n : ℕ) × IsNodeOf tiers constraints nodes n k
+  pub kind_numbered : (k : PrefixKind) → Contains (kinds_at problem (last_stage problem) nodes) k → (n : ℕ) × IsNodeOf problem nodes n k
   kind_numbered k h =
       let m = contains_of_map told_last nodes k h in
       let i = m.1.0 in
       (i.0, record { node = m.0; numbered = slice_get-get_or nodes i.0 m.0 i.1 ∙ ap (λ (node : Node). Some node) i.2; tells = m.1.1 })
 
-  pub numbered_kind : (n : ℕ) (k : PrefixKind) → IsNodeOf tiers constraints nodes n k → Contains (kinds_at tiers constraints (length constraints) nodes) k
+  pub numbered_kind : (n : ℕ) (k : PrefixKind) → IsNodeOf problem nodes n k → Contains (kinds_at problem (last_stage problem) nodes) k
   numbered_kind n k h =
-      subst (Contains (kinds_at tiers constraints (length constraints) nodes)) h.tells
+      subst (Contains (kinds_at problem (last_stage problem) nodes)) h.tells
       (contains_map told_last nodes h.node (n, slice_get_within nodes n h.node h.numbered, get_or_from_slice_get nodes n h.node h.node h.numbered))
 
   -- a kind has one number
-  pub one_number : IsStrictlySortedBy kind_order (kinds_at tiers constraints (length constraints) nodes) → (k : PrefixKind) (m n : ℕ) → IsNodeOf tiers constraints nodes m k → IsNodeOf tiers constraints nodes n k → m ≡ n
+  pub one_number : IsStrictlySortedBy kind_order (kinds_at problem (last_stage problem) nodes) → (k : PrefixKind) (m n : ℕ) → IsNodeOf problem nodes m k → IsNodeOf problem nodes n k → m ≡ n
   one_number sorted k m n a b =
       let size : length (map told_last nodes) ≡ length nodes = length-map nodes told_last in
       let below : m < length nodes = slice_get_within nodes m a.node a.numbered in
       let under : n < length nodes = slice_get_within nodes n b.node b.numbered in
       one_place (map told_last nodes) sorted m n k (omega (arith, size, below)) (omega (arith, size, under))
-      (told_at tiers constraints (length constraints) nodes a.node k m below (get_or_from_slice_get nodes m a.node a.node a.numbered) a.tells
-      ∙ sym (told_at tiers constraints (length constraints) nodes b.node k n under (get_or_from_slice_get nodes n b.node b.node b.numbered) b.tells))
+      (told_at problem (last_stage problem) nodes a.node k m below (get_or_from_slice_get nodes m a.node a.node a.numbered) a.tells
+      ∙ sym (told_at problem (last_stage problem) nodes b.node k n under (get_or_from_slice_get nodes n b.node b.node b.numbered) b.tells))
 
   -- a number has one kind
-  pub one_kind : (k l : PrefixKind) (n : ℕ) → IsNodeOf tiers constraints nodes n k → IsNodeOf tiers constraints nodes n l → k ≡ l
+  pub one_kind : (k l : PrefixKind) (n : ℕ) → IsNodeOf problem nodes n k → IsNodeOf problem nodes n l → k ≡ l
   one_kind k l n a b =
       sym a.tells
       ∙ ap told_last (sym (get_or_from_slice_get nodes n a.node a.node a.numbered) ∙ get_or_from_slice_get nodes n b.node a.node b.numbered)
       ∙ b.tells
 
 -- the kind that comes first has number 0
-pub first_numbered : (tiers : Tiers) (constraints : List Constraint) (nodes : List Node) (k : PrefixKind) → slice_get (kinds_at tiers constraints (length constraints) nodes) 0 ≡ Some k → IsNodeOf tiers constraints nodes 0 k
-first_numbered tiers constraints [] k e = absurd (omega (arith, slice_get_within [] 0 k e))
-first_numbered tiers constraints (node ∷ nodes) k e = record {
+pub first_numbered : (problem : Problem) (nodes : List Node) (k : PrefixKind) → slice_get (kinds_at problem (last_stage problem) nodes) 0 ≡ Some k → IsNodeOf problem nodes 0 k
+first_numbered problem [] k e = absurd (omega (arith, slice_get_within [] 0 k e))
+first_numbered problem (node ∷ nodes) k e = record {
   node = node;
   numbered = refl;
-  tells = get_or_from_slice_get (kinds_at tiers constraints (length constraints) (node ∷ nodes)) 0 k k e;
+  tells = get_or_from_slice_get (kinds_at problem (last_stage problem) (node ∷ nodes)) 0 k k e;
 }

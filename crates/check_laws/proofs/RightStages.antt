@@ -1,4 +1,4 @@
--- The stages of a right answer are shown.
+-- The stages of a right answer are certified.
 use Rattle.std.proofs.Common.{◌≡◌, ℕ, zero, suc, ◌+◌, ◌-◌, ◌<◌, ◌≤◌, IsTrue, List, [], ◌∷◌, ◌++◌, take, drop, length, get_or, refl, sym, ap, ◌∙◌, subst, arith, inl, inr, append-nil, append_assoc, take_at, All, Contains, Some, slice_get}
 use Rattle.std.proofs.lemmas.Bool.{cases_lt}
 use Rattle.std.proofs.lemmas.List.{length-append, length-map, take-append-drop}
@@ -6,7 +6,7 @@ use Rattle.tier_core.specs.declared.sym.Sym.{Sym}
 use Rattle.tier_core.specs.declared.constraint.Constraint.{Constraint}
 use Rattle.tier_core.specs.Kinds.{PrefixKind, kind_order}
 use Rattle.tier_core.specs.Tiers.{Tiers}
-use Rattle.violation.specs.Candidates.{IsCandidate, vec, IsOptimalFor}
+use Rattle.violation.specs.Candidates.{IsCandidate, vec, IsOptimalFor, counts_on, count_at}
 use Rattle.violation.specs.Counts.{violations_of}
 use Rattle.violation.specs.Moves.{moved, cost_of, cut, is_final}
 use Rattle.violation.specs.Prefixes.{kind_of}
@@ -20,221 +20,222 @@ use Rattle.violation.proofs.WalkLemmas.{begun_of, final_candidate}
 use Rattle.violation.proofs.WalkSums.{none_at, walk_cost, walk_step, violations_walk}
 use Rattle.answer_text.specs.declared.answer.Answer.{Answer}
 use Rattle.answer_text.specs.Right.{nodes_at, kinds_at}
-use Rattle.answer_text.specs.Shown.{Lists, IsKeptBelow, IsPossibleKind, start_potential, IsShownStage}
+use Rattle.answer_text.specs.Certified.{Lists, IsKeptBelow, IsPossibleKind, start_potential, IsCertifiedStage}
 use Rattle.check_laws.proofs.Members.{all_from_members}
 use Rattle.check_laws.proofs.Potentials.{stage_at, over_at, goes_to}
 use Rattle.check_laws.proofs.Optima.{start_count, AllFall, AreTold}
 use Rattle.check_laws.proofs.Rests.{least_rest, HasRest, rest_some, rest_least}
 use Rattle.check_laws.proofs.Continuing.{IsGiven, same_fewer, counts_are, remains, passed_by, listed_by, told_by, falls_to, kept_longer, exchanged, swapped, goes_on}
 use Rattle.check_laws.proofs.Starts.{first_is, none_before_start, possible}
+use Rattle.violation.specs.Problems.{Problem, last_stage}
 
 -- at stage 0 nothing remains
-none_remains : (tiers : Tiers) (constraints : List Constraint) (u : List (List Sym)) (r : ℕ) (k : PrefixKind) (p : ℕ) → r ≤ 0 → IsRemaining tiers constraints u r k p → p ≡ 0
-none_remains tiers constraints u zero k p l h = h
-none_remains tiers constraints u (suc i) k p l h = absurd (omega arith)
+none_remains : (problem : Problem) (r : ℕ) (k : PrefixKind) (p : ℕ) → r ≤ 0 → IsRemaining problem r k p → p ≡ 0
+none_remains problem zero k p l h = h
+none_remains problem (suc i) k p l h = absurd (omega arith)
 
 start_none : (counts : List ℕ) (r : ℕ) → r ≤ 0 → start_potential counts r ≡ 0
 start_none counts zero l = refl
 start_none counts (suc i) l = absurd (omega arith)
 
-module _ (tiers : Tiers) (constraints : List Constraint) (answer : Answer) (given : IsGiven tiers constraints answer) where
+module _ (problem : Problem) (answer : Answer) (given : IsGiven problem answer) where
   -- what is passed, in two parts
-  pub parted_passed : (r s : ℕ) (k : PrefixKind) → IsPassed tiers constraints answer.form r s k → (v : List (List Sym)) × ((q : List (List Sym)) × (IsOptimalFor tiers constraints answer.form r (v ++ q) × (kind_of tiers constraints s v ≡ k)))
+  pub parted_passed : (r s : ℕ) (k : PrefixKind) → IsPassed problem r s k → (v : List (List Sym)) × ((q : List (List Sym)) × (IsOptimalFor problem r (v ++ q) × (kind_of problem s v ≡ k)))
   parted_passed r s k passed =
       let T : List (List Sym) = passed.candidate in
       let n : ℕ = passed.columns in
-      (take n T, (drop n T, (subst (IsOptimalFor tiers constraints answer.form r) (sym (take-append-drop n T)) passed.passes.optimal, passed.passes.of_kind)))
+      (take n T, (drop n T, (subst (IsOptimalFor problem r) (sym (take-append-drop n T)) passed.passes.optimal, passed.passes.of_kind)))
 
-  pub passed_parts : (r s : ℕ) (v q : List (List Sym)) → IsOptimalFor tiers constraints answer.form r (v ++ q) → IsPassed tiers constraints answer.form r s (kind_of tiers constraints s v)
+  pub passed_parts : (r s : ℕ) (v q : List (List Sym)) → IsOptimalFor problem r (v ++ q) → IsPassed problem r s (kind_of problem s v)
   passed_parts r s v q o = record {
     candidate = v ++ q;
     columns = length v;
-    passes = record { optimal = o; within = omega (arith, length-append v q); of_kind = ap (kind_of tiers constraints s) (take_at v q (length v) refl) };
+    passes = record { optimal = o; within = omega (arith, length-append v q); of_kind = ap (kind_of problem s) (take_at v q (length v) refl) };
   }
 
-  pub example_optimal : (r : ℕ) → r ≤ length constraints → IsOptimalFor tiers constraints answer.form r answer.example
-  example_optimal r w = optimal_for_fewer tiers constraints answer.form r (length constraints) w answer.example given.right.example.member
+  pub example_optimal : (r : ℕ) → r ≤ last_stage problem → IsOptimalFor problem r answer.example
+  example_optimal r w = optimal_for_fewer problem r (last_stage problem) w answer.example given.right.example.member
 
-  module _ (r : ℕ) (within : r ≤ length constraints) (before : (j : ℕ) → 1 ≤ j → j < r → IsShownStage tiers constraints answer.form answer.counts.items answer.stages.items j) where
+  module _ (r : ℕ) (within : r ≤ last_stage problem) (before : (j : ℕ) → 1 ≤ j → j < r → IsCertifiedStage problem answer.counts.items answer.stages.items j) where
     abbrev kinds : List PrefixKind
-    kinds = kinds_at tiers constraints r (nodes_at answer.stages.items r)
+    kinds = kinds_at problem r (nodes_at answer.stages.items r)
 
-    earlier : (j : ℕ) → 1 ≤ j → j ≤ r - 1 → IsShownStage tiers constraints answer.form answer.counts.items answer.stages.items j
+    earlier : (j : ℕ) → 1 ≤ j → j ≤ r - 1 → IsCertifiedStage problem answer.counts.items answer.stages.items j
     earlier j a b = before j a (omega arith)
 
-    told : AreTold tiers constraints answer.form answer.stages.items answer.example (r - 1)
-    told = told_by tiers constraints answer given (r - 1) (omega arith) earlier
+    told : AreTold problem answer.stages.items answer.example (r - 1)
+    told = told_by problem answer given (r - 1) (omega arith) earlier
 
-    stage : IsStage tiers constraints answer.form r
-    stage = stage_at tiers constraints answer.form answer.stages.items given.split given.form given.over r within
+    stage : IsStage problem r
+    stage = stage_at problem answer.stages.items given.split given.form given.over r within
 
-    member_passed : (k : PrefixKind) → Contains kinds k → IsKindOfStage tiers constraints answer.form r k
+    member_passed : (k : PrefixKind) → Contains kinds k → IsKindOfStage problem r k
     member_passed k m = ((given.right.each_stage r within).kinds.members k).0 m
 
-    listed_passed : (k : PrefixKind) (p : ℕ) → Lists tiers constraints answer.stages.items r k p → IsKindOfStage tiers constraints answer.form r k
-    listed_passed = passed_by tiers constraints answer given r within
+    listed_passed : (k : PrefixKind) (p : ℕ) → Lists problem answer.stages.items r k p → IsKindOfStage problem r k
+    listed_passed = passed_by problem answer given r within
 
-    begun : (v q : List (List Sym)) → IsOptimalFor tiers constraints answer.form (r - 1) (v ++ q) → IsBegun tiers answer.form v
-    begun v q o = begun_of tiers answer.form v q o.candidate
+    begun : (v q : List (List Sym)) → IsOptimalFor problem (r - 1) (v ++ q) → IsBegun problem v
+    begun v q o = begun_of problem v q o.candidate
 
-    kinds_possible : All (IsPossibleKind tiers constraints answer.form r) kinds
-    kinds_possible = all_from_members (IsPossibleKind tiers constraints answer.form r) kinds (λ k m.
+    kinds_possible : All (IsPossibleKind problem r) kinds
+    kinds_possible = all_from_members (IsPossibleKind problem r) kinds (λ k m.
         let h = parted_passed (r - 1) r k (member_passed k m) in
-        subst (IsPossibleKind tiers constraints answer.form r) h.1.1.1
-        (possible tiers constraints answer.form given.split given.form r h.0 (begun h.0 h.1.0 h.1.1.0) (over_at tiers constraints answer.form answer.stages.items given.split given.form given.over r within)))
+        subst (IsPossibleKind problem r) h.1.1.1
+        (possible problem given.split given.form r h.0 (begun h.0 h.1.0 h.1.1.0) (over_at problem answer.stages.items given.split given.form given.over r within)))
 
-    cuts_listed : 1 ≤ r → All (λ k. Contains (kinds_at tiers constraints (r - 1) (nodes_at answer.stages.items (r - 1))) (cut constraints (r - 1) k)) kinds
+    cuts_listed : 1 ≤ r → All (λ k. Contains (kinds_at problem (r - 1) (nodes_at answer.stages.items (r - 1))) (cut problem (r - 1) k)) kinds
     cuts_listed ranked = all_from_members _ kinds (λ k m.
         let h = parted_passed (r - 1) r k (member_passed k m) in
-        let fewer : IsOptimalFor tiers constraints answer.form (r - 1 - 1) (h.0 ++ h.1.0) = optimal_for_fewer tiers constraints answer.form (r - 1 - 1) (r - 1) (omega arith) (h.0 ++ h.1.0) h.1.1.0 in
-        subst (Contains (kinds_at tiers constraints (r - 1) (nodes_at answer.stages.items (r - 1)))) (sym (cut-kind_of constraints (r - 1) r (omega arith) tiers h.0) ∙ ap (cut constraints (r - 1)) h.1.1.1)
-        (((given.right.each_stage (r - 1) (omega arith)).kinds.members (kind_of tiers constraints (r - 1) h.0)).1 (passed_parts (r - 1 - 1) (r - 1) h.0 h.1.0 fewer)))
+        let fewer : IsOptimalFor problem (r - 1 - 1) (h.0 ++ h.1.0) = optimal_for_fewer problem (r - 1 - 1) (r - 1) (omega arith) (h.0 ++ h.1.0) h.1.1.0 in
+        subst (Contains (kinds_at problem (r - 1) (nodes_at answer.stages.items (r - 1)))) (sym (cut-kind_of problem (r - 1) r (omega arith) h.0) ∙ ap (cut problem (r - 1)) h.1.1.1)
+        (((given.right.each_stage (r - 1) (omega arith)).kinds.members (kind_of problem (r - 1) h.0)).1 (passed_parts (r - 1 - 1) (r - 1) h.0 h.1.0 fewer)))
 
-    start_first : slice_get kinds 0 ≡ Some (kind_of tiers constraints r [])
+    start_first : slice_get kinds 0 ≡ Some (kind_of problem r [])
     start_first =
-        first_is kinds (given.right.each_stage r within).kinds.ascending (kind_of tiers constraints r [])
-        (((given.right.each_stage r within).kinds.members (kind_of tiers constraints r [])).1 (passed_parts (r - 1) r [] answer.example (example_optimal (r - 1) (omega arith))))
+        first_is kinds (given.right.each_stage r within).kinds.ascending (kind_of problem r [])
+        (((given.right.each_stage r within).kinds.members (kind_of problem r [])).1 (passed_parts (r - 1) r [] answer.example (example_optimal (r - 1) (omega arith))))
         (λ k m e.
         let h = parted_passed (r - 1) r k (member_passed k m) in
-        none_before_start tiers constraints r (over_at tiers constraints answer.form answer.stages.items given.split given.form given.over r within) h.0 (ap (λ l. kind_order l (kind_of tiers constraints r [])) h.1.1.1 ∙ e))
+        none_before_start problem r (over_at problem answer.stages.items given.split given.form given.over r within) h.0 (ap (λ l. kind_order l (kind_of problem r [])) h.1.1.1 ∙ e))
 
     -- at a final kind nothing remains
-    final_none : (k : PrefixKind) (p : ℕ) → Lists tiers constraints answer.stages.items r k p → IsTrue (is_final answer.form k) → p ≡ 0
+    final_none : (k : PrefixKind) (p : ℕ) → Lists problem answer.stages.items r k p → IsTrue (is_final problem k) → p ≡ 0
     final_none k p l f =
-        let remain : IsRemaining tiers constraints answer.form r k p = remains tiers constraints answer given r within k p l in
+        let remain : IsRemaining problem r k p = remains problem answer given r within k p l in
         let h = parted_passed (r - 1) r k (listed_passed k p l) in
         elim (cases_lt 0 r) [
-          | inr none ↦ none_remains tiers constraints answer.form r k p none remain
+          | inr none ↦ none_remains problem r k p none remain
           | inl ranked ↦
               (let v : List (List Sym) = h.0 in
-              let ended : IsCandidate tiers answer.form v =
-              final_candidate tiers constraints r answer.form given.split given.form (over_at tiers constraints answer.form answer.stages.items given.split given.form given.over r within) v (begun v h.1.0 h.1.1.0) (ap (is_final answer.form) h.1.1.1 ∙ f) in
-              let o : IsOptimalFor tiers constraints answer.form (r - 1) v = (told.optimal v ended).1 (λ j a b. (falls_to tiers constraints answer given (r - 1) told v h.1.0 h.1.1.0 j a b).0) in
-              let low : p ≤ walk_cost tiers constraints answer.form r stage (r - 1) (kind_of tiers constraints r v) [] =
-              rest_least tiers constraints answer.form r stage ranked k p (least_rest tiers constraints answer.form r k p ranked remain) v [] (subst (IsOptimalFor tiers constraints answer.form (r - 1)) (sym (append-nil v)) o) h.1.1.1 in
-              omega (arith, low, none_at (take r constraints) (r - 1)))
+              let ended : IsCandidate problem v =
+              final_candidate problem r given.split given.form (over_at problem answer.stages.items given.split given.form given.over r within) v (begun v h.1.0 h.1.1.0) (ap (is_final problem) h.1.1.1 ∙ f) in
+              let o : IsOptimalFor problem (r - 1) v = (told.optimal v ended).1 (λ j a b. (falls_to problem answer given (r - 1) told v h.1.0 h.1.1.0 j a b).0) in
+              let low : p ≤ walk_cost problem r stage (r - 1) (kind_of problem r v) [] =
+              rest_least problem r stage ranked k p (least_rest problem r k p ranked remain) v [] (subst (IsOptimalFor problem (r - 1)) (sym (append-nil v)) o) h.1.1.1 in
+              omega (arith, low, none_at (take r problem.constraints) (r - 1)))
         ]
 
-    module _ (v q : List (List Sym)) (o : IsOptimalFor tiers constraints answer.form (r - 1) (v ++ q)) (p : ℕ) (here : Lists tiers constraints answer.stages.items r (kind_of tiers constraints r v) p)
-        (column : List Sym) (kept : IsKeptBelow tiers constraints answer.form answer.stages.items r (kind_of tiers constraints r v) column) where
-      longer : BeginsCandidate tiers answer.form (v ++ column ∷ []) × AllFall tiers constraints answer.form answer.stages.items (r - 1) (v ++ column ∷ [])
-      longer = kept_longer tiers constraints answer given (r - 1) r r (omega arith) within (λ j a b. omega arith) told v q o column kept
+    module _ (v q : List (List Sym)) (o : IsOptimalFor problem (r - 1) (v ++ q)) (p : ℕ) (here : Lists problem answer.stages.items r (kind_of problem r v) p)
+        (column : List Sym) (kept : IsKeptBelow problem answer.stages.items r (kind_of problem r v) column) where
+      longer : BeginsCandidate problem (v ++ column ∷ []) × AllFall problem answer.stages.items (r - 1) (v ++ column ∷ [])
+      longer = kept_longer problem answer given (r - 1) r r (omega arith) within (λ j a b. omega arith) told v q o column kept
 
-      more : BeginsCandidate tiers answer.form (v ++ column ∷ [])
+      more : BeginsCandidate problem (v ++ column ∷ [])
       more = longer.0
 
-      fall : AllFall tiers constraints answer.form answer.stages.items (r - 1) (v ++ column ∷ [])
+      fall : AllFall problem answer.stages.items (r - 1) (v ++ column ∷ [])
       fall = longer.1
 
-      next_kind : moved tiers constraints r (kind_of tiers constraints r v) column ≡ kind_of tiers constraints r (v ++ column ∷ [])
-      next_kind = goes_to tiers constraints answer.form answer.stages.items given.split given.form given.over r within v column more
+      next_kind : moved problem r (kind_of problem r v) column ≡ kind_of problem r (v ++ column ∷ [])
+      next_kind = goes_to problem answer.stages.items given.split given.form given.over r within v column more
 
       -- some optimal candidate goes on from the longer prefix
-      next_listed : (n : ℕ) × Lists tiers constraints answer.stages.items r (kind_of tiers constraints r (v ++ column ∷ [])) n
+      next_listed : (n : ℕ) × Lists problem answer.stages.items r (kind_of problem r (v ++ column ∷ [])) n
       next_listed =
-          let far = goes_on tiers constraints answer given (r - 1) (omega arith) earlier (v ++ column ∷ []) more fall in
-          listed_by tiers constraints answer given r within (kind_of tiers constraints r (v ++ column ∷ [])) (passed_parts (r - 1) r (v ++ column ∷ []) far.0 far.1)
+          let far = goes_on problem answer given (r - 1) (omega arith) earlier (v ++ column ∷ []) more fall in
+          listed_by problem answer given r within (kind_of problem r (v ++ column ∷ [])) (passed_parts (r - 1) r (v ++ column ∷ []) far.0 far.1)
 
-      remaining : IsRemaining tiers constraints answer.form r (kind_of tiers constraints r v) p
-      remaining = remains tiers constraints answer given r within (kind_of tiers constraints r v) p here
+      remaining : IsRemaining problem r (kind_of problem r v) p
+      remaining = remains problem answer given r within (kind_of problem r v) p here
 
       -- what remains here is at most the cost and what remains there
       module _ (ranked : 1 ≤ r) where
-        rest : HasRest tiers constraints answer.form r stage (kind_of tiers constraints r (v ++ column ∷ [])) next_listed.0
+        rest : HasRest problem r stage (kind_of problem r (v ++ column ∷ [])) next_listed.0
         rest =
-            let far : PrefixKind = kind_of tiers constraints r (v ++ column ∷ []) in
-            rest_some tiers constraints answer.form r stage ranked far next_listed.0
-            (least_rest tiers constraints answer.form r far next_listed.0 ranked (remains tiers constraints answer given r within far next_listed.0 next_listed.1))
+            let far : PrefixKind = kind_of problem r (v ++ column ∷ []) in
+            rest_some problem r stage ranked far next_listed.0
+            (least_rest problem r far next_listed.0 ranked (remains problem answer given r within far next_listed.0 next_listed.1))
 
-        joined : IsOptimalFor tiers constraints answer.form (r - 1) ((v ++ column ∷ []) ++ rest.rest)
+        joined : IsOptimalFor problem (r - 1) ((v ++ column ∷ []) ++ rest.rest)
         joined =
-            exchanged tiers constraints answer given (r - 1) (omega arith) told rest.before (v ++ column ∷ []) rest.rest rest.optimal
-            (swapped tiers constraints answer given r within rest.before (v ++ column ∷ []) rest.rest more rest.optimal.candidate rest.of_kind)
-            (same_fewer tiers constraints (r - 1) r (omega arith) rest.before (v ++ column ∷ []) rest.of_kind) fall
+            exchanged problem answer given (r - 1) (omega arith) told rest.before (v ++ column ∷ []) rest.rest rest.optimal
+            (swapped problem answer given r within rest.before (v ++ column ∷ []) rest.rest more rest.optimal.candidate rest.of_kind)
+            (same_fewer problem (r - 1) r (omega arith) rest.before (v ++ column ∷ []) rest.of_kind) fall
 
-        low : p ≤ walk_cost tiers constraints answer.form r stage (r - 1) (kind_of tiers constraints r v) (column ∷ rest.rest)
+        low : p ≤ walk_cost problem r stage (r - 1) (kind_of problem r v) (column ∷ rest.rest)
         low =
-            rest_least tiers constraints answer.form r stage ranked (kind_of tiers constraints r v) p (least_rest tiers constraints answer.form r (kind_of tiers constraints r v) p ranked remaining)
-            v (column ∷ rest.rest) (subst (IsOptimalFor tiers constraints answer.form (r - 1)) (append_assoc v (column ∷ []) rest.rest) joined) refl
+            rest_least problem r stage ranked (kind_of problem r v) p (least_rest problem r (kind_of problem r v) p ranked remaining)
+            v (column ∷ rest.rest) (subst (IsOptimalFor problem (r - 1)) (append_assoc v (column ∷ []) rest.rest) joined) refl
 
-        costs_there : walk_cost tiers constraints answer.form r stage (r - 1) (kind_of tiers constraints r v) (column ∷ rest.rest) ≡ cost_of tiers constraints answer.form r (kind_of tiers constraints r v) column + next_listed.0
+        costs_there : walk_cost problem r stage (r - 1) (kind_of problem r v) (column ∷ rest.rest) ≡ cost_of problem r (kind_of problem r v) column + next_listed.0
         costs_there =
-            walk_step tiers constraints answer.form r stage (r - 1) (kind_of tiers constraints r v) column rest.rest
-            ∙ ap (λ k. cost_of tiers constraints answer.form r (kind_of tiers constraints r v) column + walk_cost tiers constraints answer.form r stage (r - 1) k rest.rest) (next_kind ∙ sym rest.of_kind)
-            ∙ ap (λ n. cost_of tiers constraints answer.form r (kind_of tiers constraints r v) column + n) rest.costs
+            walk_step problem r stage (r - 1) (kind_of problem r v) column rest.rest
+            ∙ ap (λ k. cost_of problem r (kind_of problem r v) column + walk_cost problem r stage (r - 1) k rest.rest) (next_kind ∙ sym rest.of_kind)
+            ∙ ap (λ n. cost_of problem r (kind_of problem r v) column + n) rest.costs
 
-        no_more_ranked : p ≤ cost_of tiers constraints answer.form r (kind_of tiers constraints r v) column + next_listed.0
+        no_more_ranked : p ≤ cost_of problem r (kind_of problem r v) column + next_listed.0
         no_more_ranked = omega (arith, low, costs_there)
 
-      no_more : p ≤ cost_of tiers constraints answer.form r (kind_of tiers constraints r v) column + next_listed.0
+      no_more : p ≤ cost_of problem r (kind_of problem r v) column + next_listed.0
       no_more = elim (cases_lt 0 r) [
-        | inr none ↦ (let zero_here : p ≡ 0 = none_remains tiers constraints answer.form r (kind_of tiers constraints r v) p none remaining in omega arith)
+        | inr none ↦ (let zero_here : p ≡ 0 = none_remains problem r (kind_of problem r v) p none remaining in omega arith)
         | inl ranked ↦ no_more_ranked ranked
       ]
 
-      step_listed : (n : ℕ) × (Lists tiers constraints answer.stages.items r (moved tiers constraints r (kind_of tiers constraints r v) column) n × (p ≤ cost_of tiers constraints answer.form r (kind_of tiers constraints r v) column + n))
-      step_listed = (next_listed.0, (subst (λ k. Lists tiers constraints answer.stages.items r k next_listed.0) (sym next_kind) next_listed.1, no_more))
+      step_listed : (n : ℕ) × (Lists problem answer.stages.items r (moved problem r (kind_of problem r v) column) n × (p ≤ cost_of problem r (kind_of problem r v) column + n))
+      step_listed = (next_listed.0, (subst (λ k. Lists problem answer.stages.items r k next_listed.0) (sym next_kind) next_listed.1, no_more))
 
-    closed_on : (k : PrefixKind) (p : ℕ) (column : List Sym) → Lists tiers constraints answer.stages.items r k p → IsKeptBelow tiers constraints answer.form answer.stages.items r k column
-        → (n : ℕ) × (Lists tiers constraints answer.stages.items r (moved tiers constraints r k column) n × (p ≤ cost_of tiers constraints answer.form r k column + n))
+    closed_on : (k : PrefixKind) (p : ℕ) (column : List Sym) → Lists problem answer.stages.items r k p → IsKeptBelow problem answer.stages.items r k column
+        → (n : ℕ) × (Lists problem answer.stages.items r (moved problem r k column) n × (p ≤ cost_of problem r k column + n))
     closed_on k p column l kept =
         let h = parted_passed (r - 1) r k (listed_passed k p l) in
-        let same : kind_of tiers constraints r h.0 ≡ k = h.1.1.1 in
-        let next = step_listed h.0 h.1.0 h.1.1.0 p (subst (λ x. Lists tiers constraints answer.stages.items r x p) (sym same) l) column
-        (subst (λ x. IsKeptBelow tiers constraints answer.form answer.stages.items r x column) (sym same) kept) in
-        (next.0, (subst (λ x. Lists tiers constraints answer.stages.items r (moved tiers constraints r x column) next.0) same next.1.0, subst (λ x. p ≤ cost_of tiers constraints answer.form r x column + next.0) same next.1.1))
+        let same : kind_of problem r h.0 ≡ k = h.1.1.1 in
+        let next = step_listed h.0 h.1.0 h.1.1.0 p (subst (λ x. Lists problem answer.stages.items r x p) (sym same) l) column
+        (subst (λ x. IsKeptBelow problem answer.stages.items r x column) (sym same) kept) in
+        (next.0, (subst (λ x. Lists problem answer.stages.items r (moved problem r x column) next.0) same next.1.0, subst (λ x. p ≤ cost_of problem r x column + next.0) same next.1.1))
 
     -- from the start the count of the constraint remains
-    module _ (p : ℕ) (here : Lists tiers constraints answer.stages.items r (kind_of tiers constraints r []) p) where
-      remaining_first : IsRemaining tiers constraints answer.form r (kind_of tiers constraints r []) p
-      remaining_first = remains tiers constraints answer given r within (kind_of tiers constraints r []) p here
+    module _ (p : ℕ) (here : Lists problem answer.stages.items r (kind_of problem r []) p) where
+      remaining_first : IsRemaining problem r (kind_of problem r []) p
+      remaining_first = remains problem answer given r within (kind_of problem r []) p here
 
-      best : IsOptimalFor tiers constraints answer.form (r - 1) answer.example
+      best : IsOptimalFor problem (r - 1) answer.example
       best = example_optimal (r - 1) (omega arith)
 
       module _ (ranked : 1 ≤ r) where
-        least : IsLeastRest tiers constraints answer.form r (kind_of tiers constraints r []) p
-        least = least_rest tiers constraints answer.form r (kind_of tiers constraints r []) p ranked remaining_first
+        least : IsLeastRest problem r (kind_of problem r []) p
+        least = least_rest problem r (kind_of problem r []) p ranked remaining_first
 
-        low_first : p ≤ walk_cost tiers constraints answer.form r stage (r - 1) (kind_of tiers constraints r []) answer.example
-        low_first = rest_least tiers constraints answer.form r stage ranked (kind_of tiers constraints r []) p least [] answer.example best refl
+        low_first : p ≤ walk_cost problem r stage (r - 1) (kind_of problem r []) answer.example
+        low_first = rest_least problem r stage ranked (kind_of problem r []) p least [] answer.example best refl
 
         -- a candidate that has no more, which goes on from the start as another does from the kind of the start
-        whole_rest : HasRest tiers constraints answer.form r stage (kind_of tiers constraints r []) p
-        whole_rest = rest_some tiers constraints answer.form r stage ranked (kind_of tiers constraints r []) p least
+        whole_rest : HasRest problem r stage (kind_of problem r []) p
+        whole_rest = rest_some problem r stage ranked (kind_of problem r []) p least
 
-        other : IsOptimalFor tiers constraints answer.form (r - 1) whole_rest.rest
+        other : IsOptimalFor problem (r - 1) whole_rest.rest
         other =
-            exchanged tiers constraints answer given (r - 1) (omega arith) told whole_rest.before [] whole_rest.rest whole_rest.optimal
-            (swapped tiers constraints answer given r within whole_rest.before [] whole_rest.rest (answer.example, best.candidate) whole_rest.optimal.candidate whole_rest.of_kind)
-            (same_fewer tiers constraints (r - 1) r (omega arith) whole_rest.before [] whole_rest.of_kind) (λ j a b. tt)
+            exchanged problem answer given (r - 1) (omega arith) told whole_rest.before [] whole_rest.rest whole_rest.optimal
+            (swapped problem answer given r within whole_rest.before [] whole_rest.rest (answer.example, best.candidate) whole_rest.optimal.candidate whole_rest.of_kind)
+            (same_fewer problem (r - 1) r (omega arith) whole_rest.before [] whole_rest.of_kind) (λ j a b. tt)
 
-        other_count : get_or (vec constraints whole_rest.rest) (r - 1) 0 ≡ p
+        other_count : count_at problem r whole_rest.rest ≡ p
         other_count =
-            violations_walk tiers constraints answer.form r stage ranked whole_rest.rest other.candidate
-            ∙ ap (λ k. walk_cost tiers constraints answer.form r stage (r - 1) k whole_rest.rest) (sym whole_rest.of_kind) ∙ whole_rest.costs
+            violations_walk problem r stage ranked whole_rest.rest other.candidate
+            ∙ ap (λ k. walk_cost problem r stage (r - 1) k whole_rest.rest) (sym whole_rest.of_kind) ∙ whole_rest.costs
 
-        high : get_or (vec constraints answer.example) (r - 1) 0 ≤ get_or (vec constraints whole_rest.rest) (r - 1) 0
+        high : count_at problem r answer.example ≤ count_at problem r whole_rest.rest
         high =
             let E : List (List Sym) = answer.example in
             let U : List (List Sym) = whole_rest.rest in
-            at_most_last r ranked (vec constraints E) (vec constraints U) (omega (arith, within, length-map constraints (λ c. violations_of c E))) (omega (arith, within, length-map constraints (λ c. violations_of c U)))
+            at_most_last r ranked (counts_on problem E) (counts_on problem U) (omega (arith, within, length-map problem.constraints (λ c. violations_of c E))) (omega (arith, within, length-map problem.constraints (λ c. violations_of c U)))
             ((example_optimal r within).least U other.candidate)
-            (both_equal (take (r - 1) (vec constraints E)) (take (r - 1) (vec constraints U)) (best.least U other.candidate) (other.least E best.candidate))
+            (both_equal (take (r - 1) (counts_on problem E)) (take (r - 1) (counts_on problem U)) (best.least U other.candidate) (other.least E best.candidate))
 
         counted : p ≡ start_potential answer.counts.items r
         counted =
-            let total : p ≡ get_or (vec constraints answer.example) (r - 1) 0 = omega (arith, low_first, high, other_count, violations_walk tiers constraints answer.form r stage ranked answer.example best.candidate) in
-            total ∙ ap (λ (ns : List ℕ). get_or ns (r - 1) 0) (sym (counts_are tiers constraints answer given)) ∙ sym (start_count answer.counts.items r ranked)
+            let total : p ≡ count_at problem r answer.example = omega (arith, low_first, high, other_count, violations_walk problem r stage ranked answer.example best.candidate) in
+            total ∙ ap (λ (ns : List ℕ). get_or ns (r - 1) 0) (sym (counts_are problem answer given)) ∙ sym (start_count answer.counts.items r ranked)
 
       start_count_is : p ≡ start_potential answer.counts.items r
       start_count_is = elim (cases_lt 0 r) [
-        | inr none ↦ none_remains tiers constraints answer.form r (kind_of tiers constraints r []) p none remaining_first ∙ sym (start_none answer.counts.items r none)
+        | inr none ↦ none_remains problem r (kind_of problem r []) p none remaining_first ∙ sym (start_none answer.counts.items r none)
         | inl ranked ↦ counted ranked
       ]
 
-    pub stage_shown : IsShownStage tiers constraints answer.form answer.counts.items answer.stages.items r
-    stage_shown = record {
+    pub stage_certified : IsCertifiedStage problem answer.counts.items answer.stages.items r
+    stage_certified = record {
       kinds = kinds_possible;
       ascending = (given.right.each_stage r within).kinds.ascending;
       cuts = cuts_listed;
@@ -245,12 +246,12 @@ module _ (tiers : Tiers) (constraints : List Constraint) (answer : Answer) (give
     }
 
   -- one stage after the other
-  stages_below : (n : ℕ) → (j : ℕ) → j < n → j ≤ length constraints → IsShownStage tiers constraints answer.form answer.counts.items answer.stages.items j
+  stages_below : (n : ℕ) → (j : ℕ) → j < n → j ≤ last_stage problem → IsCertifiedStage problem answer.counts.items answer.stages.items j
   stages_below zero j l w = absurd (omega arith)
   stages_below (suc n) j l w = elim (cases_lt j n) [
     | inl less ↦ stages_below n j less w
-    | inr more ↦ (let same : n ≡ j = omega arith in stage_shown j w (λ i a b. stages_below n i (omega arith) (omega arith)))
+    | inr more ↦ (let same : n ≡ j = omega arith in stage_certified j w (λ i a b. stages_below n i (omega arith) (omega arith)))
   ]
 
-  pub all_stages : (r : ℕ) → r ≤ length constraints → IsShownStage tiers constraints answer.form answer.counts.items answer.stages.items r
+  pub all_stages : (r : ℕ) → r ≤ last_stage problem → IsCertifiedStage problem answer.counts.items answer.stages.items r
   all_stages r w = stages_below (suc r) r (omega arith) w

@@ -1,4 +1,4 @@
--- The automaton of a right answer is shown, and so is the answer.
+-- The automaton of a right answer is certified, and so is the answer.
 use Rattle.std.proofs.Common.{◌≡◌, ℕ, ◌+◌, ◌≤◌, List, [], ◌∷◌, ◌++◌, take, length, refl, sym, ap, ◌∙◌, subst, arith, append_assoc, take_at, All, AllPairs, Contains}
 use Rattle.std.specs.Cmp.{both_ways}
 use Rattle.std.specs.List.{AllByRecursion}
@@ -21,7 +21,7 @@ use Rattle.answer_text.specs.declared.automaton.StateLine.{StateLine}
 use Rattle.answer_text.specs.declared.stage.Node.{Node}
 use Rattle.answer_text.specs.Acceptance.{HasArc, Leads, Accepts}
 use Rattle.answer_text.specs.Right.{nodes_at, IsNodeOf, numbers_of, IsRight}
-use Rattle.answer_text.specs.Shown.{IsKeptBelow, IsShownStage, IsShownAutomaton, IsShown}
+use Rattle.answer_text.specs.Certified.{IsKeptBelow, IsCertifiedStage, IsCertifiedAutomaton, IsCertified}
 use Rattle.check_laws.proofs.Members.{contains_map}
 use Rattle.check_laws.proofs.Listing.{one_number, one_kind}
 use Rattle.check_laws.proofs.Potentials.{over_at, goes_to, kept_from_falls}
@@ -29,10 +29,11 @@ use Rattle.check_laws.proofs.Optima.{AllFall, AreTold}
 use Rattle.check_laws.proofs.Continuing.{IsGiven, counts_are, told_by, falls_to, kept_longer, goes_on}
 use Rattle.check_laws.proofs.RightStages.{parted_passed, all_stages}
 use Rattle.check_laws.proofs.Leading.{leads_joined, leads_parts, one_state, leads_one}
+use Rattle.violation.specs.Problems.{Problem, last_stage, last_place}
 
-module _ (tiers : Tiers) (constraints : List Constraint) (answer : Answer) (given : IsGiven tiers constraints answer) where
+module _ (problem : Problem) (answer : Answer) (given : IsGiven problem answer) where
   abbrev last : ℕ
-  last = length constraints
+  last = last_stage problem
 
   abbrev nodes : List Node
   nodes = nodes_at answer.stages.items last
@@ -40,11 +41,11 @@ module _ (tiers : Tiers) (constraints : List Constraint) (answer : Answer) (give
   abbrev states : List StateLine
   states = answer.automaton.states.items
 
-  all_shown : (j : ℕ) → 1 ≤ j → j ≤ last → IsShownStage tiers constraints answer.form answer.counts.items answer.stages.items j
-  all_shown j a w = all_stages tiers constraints answer given j w
+  all_certified : (j : ℕ) → 1 ≤ j → j ≤ last → IsCertifiedStage problem answer.counts.items answer.stages.items j
+  all_certified j a w = all_stages problem answer given j w
 
-  told : AreTold tiers constraints answer.form answer.stages.items answer.example last
-  told = told_by tiers constraints answer given last (omega arith) all_shown
+  told : AreTold problem answer.stages.items answer.example last
+  told = told_by problem answer given last (omega arith) all_certified
 
   apart : All (λ state. AllPairs (λ a b. AreDisjoint a.class b.class) state.arcs.items) states
   apart = λ i d l. (given.right.automaton.arcs i d l).apart
@@ -55,53 +56,53 @@ module _ (tiers : Tiers) (constraints : List Constraint) (answer : Answer) (give
   one_end : (q : List (List Sym)) (m l : ℕ) → Leads states 0 q m → Leads states 0 q l → m ≡ l
   one_end q m l a b = leads_one states given.right.automaton.ascending apart q 0 m l a b
 
-  same_number : (k : PrefixKind) (m n : ℕ) → IsNodeOf tiers constraints nodes m k → IsNodeOf tiers constraints nodes n k → m ≡ n
-  same_number = one_number tiers constraints nodes (given.right.each_stage last (omega arith)).kinds.ascending
+  same_number : (k : PrefixKind) (m n : ℕ) → IsNodeOf problem nodes m k → IsNodeOf problem nodes n k → m ≡ n
+  same_number = one_number problem nodes (given.right.each_stage last (omega arith)).kinds.ascending
 
   -- reading a prefix of an optimal candidate ends at its kind
-  reads_to : (v q : List (List Sym)) → IsOptimalFor tiers constraints answer.form last (v ++ q) → (m : ℕ) × (Leads states 0 v m × IsNodeOf tiers constraints nodes m (kind_of tiers constraints last v))
+  reads_to : (v q : List (List Sym)) → IsOptimalFor problem last (v ++ q) → (m : ℕ) × (Leads states 0 v m × IsNodeOf problem nodes m (kind_of problem last v))
   reads_to v q o =
       let read = given.right.automaton.reads (v ++ q) (length v) o (omega (arith, length-append v q)) in
       let front : take (length v) (v ++ q) ≡ v = take_at v q (length v) refl in
-      (read.0, (subst (λ w. Leads states 0 w read.0) front read.1.0, subst (λ w. IsNodeOf tiers constraints nodes read.0 (kind_of tiers constraints last w)) front read.1.2))
+      (read.0, (subst (λ w. Leads states 0 w read.0) front read.1.0, subst (λ w. IsNodeOf problem nodes read.0 (kind_of problem last w)) front read.1.2))
 
   -- a state with its kind, a prefix of an optimal candidate that is read up to it, and what follows
   pub record IsReached (n : ℕ) (k : PrefixKind) : Type 0 where
     pub before : List (List Sym)
     pub rest : List (List Sym)
-    pub optimal : IsOptimalFor tiers constraints answer.form (length constraints) (before ++ rest)
-    pub of_kind : kind_of tiers constraints (length constraints) before ≡ k
+    pub optimal : IsOptimalFor problem (last_stage problem) (before ++ rest)
+    pub of_kind : kind_of problem (last_stage problem) before ≡ k
     pub leads : Leads answer.automaton.states.items 0 before n
 
-  reached : (n : ℕ) (k : PrefixKind) → Contains (numbers_of states) n → IsNodeOf tiers constraints nodes n k → IsReached n k
+  reached : (n : ℕ) (k : PrefixKind) → Contains (numbers_of states) n → IsNodeOf problem nodes n k → IsReached n k
   reached n k c node =
       let passed = given.right.automaton.passed n c in
-      let same : passed.0 ≡ k = one_kind tiers constraints nodes passed.0 k n passed.1.0 node in
-      let parts = parted_passed tiers constraints answer given last last passed.0 passed.1.1 in
+      let same : passed.0 ≡ k = one_kind problem nodes passed.0 k n passed.1.0 node in
+      let parts = parted_passed problem answer given last last passed.0 passed.1.1 in
       let read = reads_to parts.0 parts.1.0 parts.1.1.0 in
-      let kind : kind_of tiers constraints last parts.0 ≡ k = parts.1.1.1 ∙ same in
-      let number : read.0 ≡ n = same_number k read.0 n (subst (IsNodeOf tiers constraints nodes read.0) kind read.1.1) node in
+      let kind : kind_of problem last parts.0 ≡ k = parts.1.1.1 ∙ same in
+      let number : read.0 ≡ n = same_number k read.0 n (subst (IsNodeOf problem nodes read.0) kind read.1.1) node in
       record { before = parts.0; rest = parts.1.0; optimal = parts.1.1.0; of_kind = kind; leads = subst (Leads states 0 parts.0) number read.1.0 }
 
-  finals : (state : StateLine) (k : PrefixKind) → Contains states state → IsNodeOf tiers constraints nodes state.node k → state.accepting ≡ is_final answer.form k
+  finals : (state : StateLine) (k : PrefixKind) → Contains states state → IsNodeOf problem nodes state.node k → state.accepting ≡ is_final problem k
   finals state k listed node =
       let at : IsReached state.node k = reached state.node k (contains_map (λ (line : StateLine). line.node) states state listed) node in
       let v : List (List Sym) = at.before in
-      both_ways state.accepting (is_final answer.form k)
+      both_ways state.accepting (is_final problem k)
       (λ t.
       let o = (given.right.automaton.accepts v).0 (record { last = state.node; leads = at.leads; final = record { state = state; listed = listed; numbered = refl; final = t } }) in
-      ap (is_final answer.form) (sym at.of_kind) ∙ candidate_final tiers constraints last answer.form given.split given.form (over_at tiers constraints answer.form answer.stages.items given.split given.form given.over last (omega arith)) v o.candidate)
+      ap (is_final problem) (sym at.of_kind) ∙ candidate_final problem last given.split given.form (over_at problem answer.stages.items given.split given.form given.over last (omega arith)) v o.candidate)
       (λ f.
-      let c : IsCandidate tiers answer.form v =
-      final_candidate tiers constraints last answer.form given.split given.form (over_at tiers constraints answer.form answer.stages.items given.split given.form given.over last (omega arith)) v
-      (begun_of tiers answer.form v at.rest at.optimal.candidate) (ap (is_final answer.form) at.of_kind ∙ f) in
-      let o : IsOptimalFor tiers constraints answer.form last v = (told.optimal v c).1 (λ j a b. (falls_to tiers constraints answer given last told v at.rest at.optimal j a b).0) in
+      let c : IsCandidate problem v =
+      final_candidate problem last given.split given.form (over_at problem answer.stages.items given.split given.form given.over last (omega arith)) v
+      (begun_of problem v at.rest at.optimal.candidate) (ap (is_final problem) at.of_kind ∙ f) in
+      let o : IsOptimalFor problem last v = (told.optimal v c).1 (λ j a b. (falls_to problem answer given last told v at.rest at.optimal j a b).0) in
       let a : Accepts states v = (given.right.automaton.accepts v).1 o in
       let end : a.last ≡ state.node = one_end v a.last state.node a.leads at.leads in
       let same : a.final.state ≡ state = one_state states given.right.automaton.ascending a.final.state state a.final.listed listed (a.final.numbered ∙ end) in
       ap (λ (line : StateLine). line.accepting) (sym same) ∙ a.final.final)
 
-  module _ (n m : ℕ) (k : PrefixKind) (column : List Sym) (c : Contains (numbers_of states) n) (node : IsNodeOf tiers constraints nodes n k) where
+  module _ (n m : ℕ) (k : PrefixKind) (column : List Sym) (c : Contains (numbers_of states) n) (node : IsNodeOf problem nodes n k) where
     here : IsReached n k
     here = reached n k c node
 
@@ -131,51 +132,51 @@ module _ (tiers : Tiers) (constraints : List Constraint) (answer : Answer) (give
           let onward : Leads states m q a.last = subst (λ i. Leads states i q a.last) (one_end there.1.before parts.0 m parts.1.0 there.1.leads) parts.1.1 in
           record { last = a.last; leads = leads_joined states longer q 0 m a.last step onward; final = a.final }
 
-      whole : IsOptimalFor tiers constraints answer.form last (longer ++ there.1.rest)
+      whole : IsOptimalFor problem last (longer ++ there.1.rest)
       whole = (given.right.automaton.accepts (longer ++ there.1.rest)).0 accepted
 
-      through : IsOptimalFor tiers constraints answer.form last (here.before ++ column ∷ there.1.rest)
+      through : IsOptimalFor problem last (here.before ++ column ∷ there.1.rest)
       unfolding longer
-      through = subst (IsOptimalFor tiers constraints answer.form last) (append_assoc here.before (column ∷ []) there.1.rest) whole
+      through = subst (IsOptimalFor problem last) (append_assoc here.before (column ∷ []) there.1.rest) whole
 
-      target_kind : kind_of tiers constraints last longer ≡ moved tiers constraints last k column
+      target_kind : kind_of problem last longer ≡ moved problem last k column
       unfolding longer
       target_kind =
-          sym (goes_to tiers constraints answer.form answer.stages.items given.split given.form given.over last (omega arith) here.before column (there.1.rest, whole.candidate))
-          ∙ ap (λ x. moved tiers constraints last x column) here.of_kind
+          sym (goes_to problem answer.stages.items given.split given.form given.over last (omega arith) here.before column (there.1.rest, whole.candidate))
+          ∙ ap (λ x. moved problem last x column) here.of_kind
 
-      target_node : IsNodeOf tiers constraints nodes m (kind_of tiers constraints last longer)
+      target_node : IsNodeOf problem nodes m (kind_of problem last longer)
       target_node =
           let read = reads_to longer there.1.rest whole in
-          subst (λ i. IsNodeOf tiers constraints nodes i (kind_of tiers constraints last longer)) (one_end longer read.0 m read.1.0 step) read.1.1
+          subst (λ i. IsNodeOf problem nodes i (kind_of problem last longer)) (one_end longer read.0 m read.1.0 step) read.1.1
 
-      arc_kept : IsKeptBelow tiers constraints answer.form answer.stages.items (last + 1) k column × IsNodeOf tiers constraints nodes m (moved tiers constraints last k column)
+      arc_kept : IsKeptBelow problem answer.stages.items (last + 1) k column × IsNodeOf problem nodes m (moved problem last k column)
       arc_kept = (
-        subst (λ x. IsKeptBelow tiers constraints answer.form answer.stages.items (last + 1) x column) here.of_kind
-            (kept_from_falls tiers constraints answer.form answer.stages.items given.split given.form given.over (last + 1) last (omega arith) (omega arith) here.before column there.1.rest through.candidate
-            (λ j b l. (falls_to tiers constraints answer given last told here.before (column ∷ there.1.rest) through j b (omega arith)).1.0)),
-        subst (IsNodeOf tiers constraints nodes m) target_kind target_node,
+        subst (λ x. IsKeptBelow problem answer.stages.items (last + 1) x column) here.of_kind
+            (kept_from_falls problem answer.stages.items given.split given.form given.over (last + 1) last (omega arith) (omega arith) here.before column there.1.rest through.candidate
+            (λ j b l. (falls_to problem answer given last told here.before (column ∷ there.1.rest) through j b (omega arith)).1.0)),
+        subst (IsNodeOf problem nodes m) target_kind target_node,
       )
 
     -- A kept move goes on from that prefix to an optimal candidate, which is read by an arc on the column.
-    module _ (kept : IsKeptBelow tiers constraints answer.form answer.stages.items (last + 1) k column) (node_there : IsNodeOf tiers constraints nodes m (moved tiers constraints last k column)) where
-      more : BeginsCandidate tiers answer.form (here.before ++ column ∷ []) × AllFall tiers constraints answer.form answer.stages.items last (here.before ++ column ∷ [])
+    module _ (kept : IsKeptBelow problem answer.stages.items (last + 1) k column) (node_there : IsNodeOf problem nodes m (moved problem last k column)) where
+      more : BeginsCandidate problem (here.before ++ column ∷ []) × AllFall problem answer.stages.items last (here.before ++ column ∷ [])
       more =
-          kept_longer tiers constraints answer given last last (last + 1) (omega arith) (omega arith) (λ j a b. omega arith) told here.before here.rest here.optimal column
-          (subst (λ x. IsKeptBelow tiers constraints answer.form answer.stages.items (last + 1) x column) (sym here.of_kind) kept)
+          kept_longer problem answer given last last (last + 1) (omega arith) (omega arith) (λ j a b. omega arith) told here.before here.rest here.optimal column
+          (subst (λ x. IsKeptBelow problem answer.stages.items (last + 1) x column) (sym here.of_kind) kept)
 
-      far : (q : List (List Sym)) × IsOptimalFor tiers constraints answer.form last ((here.before ++ column ∷ []) ++ q)
-      far = goes_on tiers constraints answer given last (omega arith) all_shown (here.before ++ column ∷ []) more.0 more.1
+      far : (q : List (List Sym)) × IsOptimalFor problem last ((here.before ++ column ∷ []) ++ q)
+      far = goes_on problem answer given last (omega arith) all_certified (here.before ++ column ∷ []) more.0 more.1
 
-      kind_there : moved tiers constraints last k column ≡ kind_of tiers constraints last (here.before ++ column ∷ [])
+      kind_there : moved problem last k column ≡ kind_of problem last (here.before ++ column ∷ [])
       kind_there =
-          ap (λ x. moved tiers constraints last x column) (sym here.of_kind)
-          ∙ goes_to tiers constraints answer.form answer.stages.items given.split given.form given.over last (omega arith) here.before column more.0
+          ap (λ x. moved problem last x column) (sym here.of_kind)
+          ∙ goes_to problem answer.stages.items given.split given.form given.over last (omega arith) here.before column more.0
 
       read_there : (i : ℕ) × (Leads states 0 (here.before ++ column ∷ []) i × (i ≡ m))
       read_there =
           let read = reads_to (here.before ++ column ∷ []) far.0 far.1 in
-          (read.0, (read.1.0, same_number (kind_of tiers constraints last (here.before ++ column ∷ [])) read.0 m read.1.1 (subst (IsNodeOf tiers constraints nodes m) kind_there node_there)))
+          (read.0, (read.1.0, same_number (kind_of problem last (here.before ++ column ∷ [])) read.0 m read.1.1 (subst (IsNodeOf problem nodes m) kind_there node_there)))
 
       kept_arc : HasArc states n m column
       kept_arc =
@@ -184,8 +185,8 @@ module _ (tiers : Tiers) (constraints : List Constraint) (answer : Answer) (give
           let arc = parts.1.1 in
           subst (λ i. HasArc states n i column) (arc.1.1 ∙ read_there.1.1) (subst (λ i. HasArc states i arc.0 column) start arc.1.0)
 
-  automaton_shown : IsShownAutomaton tiers constraints answer.form answer.stages.items states
-  automaton_shown = record {
+  automaton_certified : IsCertifiedAutomaton problem answer.stages.items states
+  automaton_certified = record {
     start = first_state;
     targets = targets;
     finals = finals;
@@ -198,21 +199,14 @@ module _ (tiers : Tiers) (constraints : List Constraint) (answer : Answer) (give
           let read = given.right.automaton.reads answer.example 0 given.right.example.member (omega arith) in
           subst (Contains (numbers_of states)) (sym read.1.0) read.1.1
 
-  pub shown_from_right : length answer.form ≤ 64 → IsShown tiers constraints answer
-  shown_from_right short = record {
-    form = given.form;
+  pub certified_from_right : last_place problem ≤ 64 → IsCertified problem answer
+  certified_from_right short = record {
+    form = given.right.form;
+    well_formed = given.form;
     short = short;
     stage_count = given.right.stage_count;
     example = given.right.example.member.candidate;
-    counts = counts_are tiers constraints answer given;
-    each_stage = all_stages tiers constraints answer given;
-    automaton = automaton_shown;
+    counts = counts_are problem answer given;
+    each_stage = all_stages problem answer given;
+    automaton = automaton_certified;
   }
-
--- by the form that the answer has
-pub shown_of_form : (tiers : Tiers) (constraints : List Constraint) (u : List (List Sym)) (answer : Answer) → AreSplit tiers → AllByRecursion (IsOverTiers tiers.width) constraints → IsForm tiers u → length u ≤ 64 → IsRight tiers constraints u answer → IsShown tiers constraints answer
-shown_of_form tiers constraints u answer split over form short right =
-    let same : u ≡ answer.form = sym right.form in
-    shown_from_right tiers constraints answer
-    (record { split = split; over = over; form = subst (IsForm tiers) same form; right = subst (λ v. IsRight tiers constraints v answer) same right })
-    (subst (λ v. length v ≤ 64) same short)

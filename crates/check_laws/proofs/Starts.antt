@@ -24,7 +24,8 @@ use Rattle.violation.specs.Phases.{is_closed, is_left_open, AreClosedOr}
 use Rattle.violation.specs.Prefixes.{is_open, phase, kind_of, stretches}
 use Rattle.violation.proofs.CountSteps.{all_agree}
 use Rattle.violation.proofs.PrefixLemmas.{IsBegun, input_part, tier_open_is}
-use Rattle.answer_text.specs.Shown.{IsPossibleKind}
+use Rattle.answer_text.specs.Certified.{IsPossibleKind}
+use Rattle.violation.specs.Problems.{Problem}
 
 -- ---- the first of a list that ascends
 
@@ -56,15 +57,15 @@ closed_first : (left right : List Event) → 0 < length left → ◌≡◌ {A = 
 closed_first [] right l = absurd (omega arith)
 closed_first (e ∷ es) right l = refl
 
-pub none_before_start : (tiers : Tiers) (constraints : List Constraint) (r : ℕ) → AllByRecursion (IsOverTiers tiers.width) (stretches constraints r) → (p : List (List Sym)) → kind_order (kind_of tiers constraints r p) (kind_of tiers constraints r []) ≡ Less → ⊥
-none_before_start tiers constraints r over p e =
-    let k : PrefixKind = kind_of tiers constraints r p in
-    let start : PrefixKind = kind_of tiers constraints r [] in
+pub none_before_start : (problem : Problem) (r : ℕ) → AllByRecursion (IsOverTiers problem.tiers.width) (stretches problem r) → (p : List (List Sym)) → kind_order (kind_of problem r p) (kind_of problem r []) ≡ Less → ⊥
+none_before_start problem r over p e =
+    let k : PrefixKind = kind_of problem r p in
+    let start : PrefixKind = kind_of problem r [] in
     not_less (nat_cmp k.place start.place) (ordering_then (open_order k.opened start.opened) (phase_order k.phases start.phases)) (not_below_zero k.place 0 refl)
     (not_less (open_order k.opened start.opened) (phase_order k.phases start.phases)
-    (not_below_zeros open_rank (λ t. is_open (word p t)) (λ t. is_open (word (let none : List (List Sym) = [] in none) t)) tiers.free (all_of _ tiers.free (λ t. refl)))
-    (not_below_zeros phase_rank (λ c. phase c.left c.right p) (λ c. phase c.left c.right []) (stretches constraints r)
-    (all_weaker (IsOverTiers tiers.width) _ (stretches constraints r) (λ c o. closed_first c.left c.right o.some_left) over)))
+    (not_below_zeros open_rank (λ t. is_open (word p t)) (λ t. is_open (word (let none : List (List Sym) = [] in none) t)) problem.tiers.free (all_of _ problem.tiers.free (λ t. refl)))
+    (not_below_zeros phase_rank (λ c. phase c.left c.right p) (λ c. phase c.left c.right []) (stretches problem r)
+    (all_weaker (IsOverTiers problem.tiers.width) _ (stretches problem r) (λ c o. closed_first c.left c.right o.some_left) over)))
     e
 
 -- ---- the kind of a prefix
@@ -74,18 +75,18 @@ closed_is true true = refl
 closed_is true false = refl
 closed_is false b = refl
 
-module _ (tiers : Tiers) (constraints : List Constraint) (u : List (List Sym)) (split : AreSplit tiers) (form : IsForm tiers u) (r : ℕ) (p : List (List Sym)) (begun : IsBegun tiers u p) where
-  left_open : (c : Constraint) → IsOverTiers tiers.width c → list_all (λ e. is_open (word p e.tier)) c.left ≡ is_left_open tiers u (kind_of tiers constraints r p) c
+module _ (problem : Problem) (split : AreSplit problem.tiers) (form : IsForm problem.tiers problem.form) (r : ℕ) (p : List (List Sym)) (begun : IsBegun problem p) where
+  left_open : (c : Constraint) → IsOverTiers problem.tiers.width c → list_all (λ e. is_open (word p e.tier)) c.left ≡ is_left_open problem (kind_of problem r p) c
   left_open c o =
-      sym (all_agree (λ e. is_tier_open tiers u (kind_of tiers constraints r p) e.tier) (λ e. is_open (word p e.tier)) c.left
-      (all_weaker (λ e. e.tier < tiers.width) _ c.left (λ e l. tier_open_is tiers u split form constraints r p begun e.tier l) o.left_below))
+      sym (all_agree (λ e. is_tier_open problem (kind_of problem r p) e.tier) (λ e. is_open (word p e.tier)) c.left
+      (all_weaker (λ e. e.tier < problem.tiers.width) _ c.left (λ e l. tier_open_is problem split form r p begun e.tier l) o.left_below))
 
-  phases_closed : (cs : List Constraint) → AllByRecursion (IsOverTiers tiers.width) cs → AreClosedOr (is_left_open tiers u (kind_of tiers constraints r p)) cs (map (λ c. phase c.left c.right p) cs)
+  phases_closed : (cs : List Constraint) → AllByRecursion (IsOverTiers problem.tiers.width) cs → AreClosedOr (is_left_open problem (kind_of problem r p)) cs (map (λ c. phase c.left c.right p) cs)
   phases_closed [] o = tt
   phases_closed (c ∷ cs) o = (closed_is (list_all (λ e. is_open (word p e.tier)) c.left) _ ∙ ap not (left_open c o.0), phases_closed cs o.1)
 
-  pub possible : AllByRecursion (IsOverTiers tiers.width) (stretches constraints r) → IsPossibleKind tiers constraints u r (kind_of tiers constraints r p)
+  pub possible : AllByRecursion (IsOverTiers problem.tiers.width) (stretches problem r) → IsPossibleKind problem r (kind_of problem r p)
   possible over = record {
-    place = omega (arith, ap length begun.place, length-take (length (input_part tiers p)) u);
-    phases = phases_closed (stretches constraints r) over;
+    place = omega (arith, ap length begun.place, length-take (length (input_part problem.tiers p)) problem.form);
+    phases = phases_closed (stretches problem r) over;
   }

@@ -1,8 +1,8 @@
 //! The theory of checked answers, as laws over definitions. The functions do nothing: each says by its
 //! contract what holds of every answer, and nothing is built or searched.
 //!
-//! A shown answer is one in which a checker, which looks at one move at a time, finds no fault. It is
-//! faithful: its automaton accepts exactly the optimal candidates, and its counts are the least. The
+//! A certified answer is one in which a checker, which looks at one move at a time, finds no fault. It is
+//! sound: its automaton accepts exactly the optimal candidates, and its counts are the least. The
 //! potentials of a stage bound from below what every candidate still violates, and the example reaches
 //! the bound. So a candidate that the constraints before have left is left by this one exactly where
 //! the potential falls on each of its columns by just what the column costs. Whoever wrote the answer,
@@ -12,7 +12,7 @@
 
 pub mod examples;
 mod right;
-mod shown;
+mod certified;
 
-pub use right::{right_answers_are_faithful, right_answers_are_shown};
-pub use shown::shown_answers_are_faithful;
+pub use right::{right_answers_are_sound, right_answers_are_certified};
+pub use certified::certified_answers_are_sound;

@@ -10,7 +10,7 @@ use Rattle.tier_core.specs.Kinds.{Phase}
 use Rattle.tier_core.specs.Tiers.{Tiers, has_tier}
 use Rattle.tier_core.specs.Sides.{is_stretch}
 use Rattle.tier_core.proofs.CountLemmas.{all_of}
-use Rattle.violation.specs.Candidates.{IsForm, IsCandidate, vec}
+use Rattle.violation.specs.Candidates.{IsForm, IsCandidate, vec, counts_on}
 use Rattle.violation.specs.Conditions.{AreSplit, IsOverTiers}
 use Rattle.violation.specs.Counts.{violations_so_far}
 use Rattle.violation.specs.Moves.{costs, first_phase, is_tier_open, is_unmet_phase, move_costs, moved}
@@ -25,6 +25,8 @@ use Rattle.kind_moves.specs.declared.frame.Frame.{Frame}
 use Rattle.kind_moves.specs.Frames.{tiers_in, constraints_in, form_in, stretches_in, kind_at_stage, IsStart}
 use Rattle.kind_moves.proofs.GrammarTiers.{over_tiers, over_stretches, form_from}
 use Rattle.kind_moves.proofs.CostSteps.{unmet_told, cost_at}
+use Rattle.violation.specs.Problems.{Problem, last_stage}
+use Rattle.kind_moves.specs.Frames.{problem_in}
 
 all_taken : {X : Type 0} (P : X → Type 0) (xs : List X) (n : ℕ) → AllByRecursion P xs → AllByRecursion P (take n xs)
 all_taken P xs zero h = tt
@@ -41,16 +43,16 @@ take_less (x ∷ xs) (suc i) (suc n) l = ap (λ ys. x ∷ ys) (take_less xs i n 
 -- ---- one move
 
 -- each constraint of a frame is over its tiers
-pub over_at : (frame : Frame) (number : ℕ) (c : Constraint) → number < length (constraints_in frame) → c ≡ get_or (constraints_in frame) number c → IsOverTiers (tiers_in frame).width c
+pub over_at : (frame : Frame) (number : ℕ) (c : Constraint) → number < last_stage (problem_in frame) → c ≡ get_or (constraints_in frame) number c → IsOverTiers (tiers_in frame).width c
 over_at frame number c l is = subst (IsOverTiers (tiers_in frame).width) (sym is) (All-from_recursion (IsOverTiers (tiers_in frame).width) (constraints_in frame) (over_tiers frame.grammar.now) number c l)
 
 -- what a move costs under the constraint after so many
 pub move_cost : (frame : Frame) (stage number place mask : ℕ) (kind : Kind) (column : List Sym) (c : Constraint) (is_unmet b : Bool)
-    → stage ≤ length (constraints_in frame) → number < stage → c ≡ get_or (constraints_in frame) number c → place ≡ length (filter is_stretch (take number (constraints_in frame)))
-    → ((t : ℕ) → has_tier mask t ≡ is_tier_open (tiers_in frame) (form_in frame) (kind_at_stage frame stage kind) t)
+    → stage ≤ last_stage (problem_in frame) → number < stage → c ≡ get_or (constraints_in frame) number c → place ≡ length (filter is_stretch (take number (constraints_in frame)))
+    → ((t : ℕ) → has_tier mask t ≡ is_tier_open (problem_in frame) (kind_at_stage frame stage kind) t)
     → is_unmet ≡ has_tier kind.unmet place → kind.unmet < 2 ^ length (stretches_in frame stage)
     → ((phase : Phase) → is_unmet ≡ is_unmet_phase phase → b ≡ costs c.family c.left c.right (has_tier mask) phase column)
-    → cond b 1 0 ≡ get_or (move_costs (tiers_in frame) (constraints_in frame) (form_in frame) stage (kind_at_stage frame stage kind) column) number 0
+    → cond b 1 0 ≡ get_or (move_costs (problem_in frame) stage (kind_at_stage frame stage kind) column) number 0
 move_cost frame stage number place mask kind column c is_unmet b few within is count opened unmet below on =
     let cs = constraints_in frame in
     let k = kind_at_stage frame stage kind in
@@ -60,8 +62,8 @@ move_cost frame stage number place mask kind column c is_unmet b few within is c
     let before : place ≡ length (filter is_stretch (take number (take stage cs))) = count ∙ ap (λ xs. length (filter is_stretch xs)) (sym (take_less cs number stage (omega arith))) in
     ap (λ x. cond x 1 0)
     (on ph (unmet ∙ unmet_told kind (length (stretches_in frame stage)) place below)
-    ∙ costs_agree c.family c.left c.right (has_tier mask) (is_tier_open (tiers_in frame) (form_in frame) k) ph column (all_of _ (c.left ++ c.right) (λ e. opened e.tier)))
-    ∙ cost_at (take stage cs) (is_tier_open (tiers_in frame) (form_in frame) k) k.phases column number place c c (omega (arith, size)) at before
+    ∙ costs_agree c.family c.left c.right (has_tier mask) (is_tier_open (problem_in frame) k) ph column (all_of _ (c.left ++ c.right) (λ e. opened e.tier)))
+    ∙ cost_at (take stage cs) (is_tier_open (problem_in frame) k) k.phases column number place c c (omega (arith, size)) at before
 
 -- ---- moves in turn
 
@@ -69,50 +71,49 @@ add_nothing : (f : Constraint → ℕ) (cs : List Constraint) → map f cs ≡ a
 add_nothing f [] = refl
 add_nothing f (c ∷ cs) = let same : f c ≡ f c + 0 = omega arith in ap (λ n. n ∷ map f cs) same ∙ ap (λ ns. (f c + 0) ∷ ns) (add_nothing f cs)
 
-module _ (tiers : Tiers) (constraints : List Constraint) (r : ℕ) (u : List (List Sym)) (split : AreSplit tiers) (form : IsForm tiers u)
-    (over : AllByRecursion (IsOverTiers tiers.width) (take r constraints)) (stretches_over : AllByRecursion (IsOverTiers tiers.width) (stretches constraints r)) where
+module _ (problem : Problem) (r : ℕ) (split : AreSplit problem.tiers) (form : IsForm problem.tiers problem.form) (over : AllByRecursion (IsOverTiers problem.tiers.width) (take r problem.constraints)) (stretches_over : AllByRecursion (IsOverTiers problem.tiers.width) (stretches problem r)) where
   -- what a candidate has violated after more columns, and what the moves by them cost
-  pub costs_so_far : (q p w T : List (List Sym)) → T ≡ p ++ (q ++ w) → IsCandidate tiers u T
-      → map (λ c. violations_so_far c T (length (p ++ q))) (take r constraints)
-      ≡ add_each (map (λ c. violations_so_far c T (length p)) (take r constraints)) (walk_costs tiers constraints u r (kind_of tiers constraints r p) q)
+  pub costs_so_far : (q p w T : List (List Sym)) → T ≡ p ++ (q ++ w) → IsCandidate problem T
+      → map (λ c. violations_so_far c T (length (p ++ q))) (take r problem.constraints)
+      ≡ add_each (map (λ c. violations_so_far c T (length p)) (take r problem.constraints)) (walk_costs problem r (kind_of problem r p) q)
   costs_so_far [] p w T e c =
-      ap (λ n. map (λ c. violations_so_far c T n) (take r constraints)) (ap length (append-nil p))
-      ∙ add_nothing (λ c. violations_so_far c T (length p)) (take r constraints)
+      ap (λ n. map (λ c. violations_so_far c T n) (take r problem.constraints)) (ap length (append-nil p))
+      ∙ add_nothing (λ c. violations_so_far c T (length p)) (take r problem.constraints)
   costs_so_far (column ∷ q) p w T e c =
       let on : T ≡ (p ++ column ∷ []) ++ (q ++ w) = e ∙ sym (append_assoc p (column ∷ []) (q ++ w)) in
-      let next : moved tiers constraints r (kind_of tiers constraints r p) column ≡ kind_of tiers constraints r (p ++ column ∷ []) =
-      moved_is tiers constraints r u split form stretches_over p column (q ++ w, subst (IsCandidate tiers u) on c) in
+      let next : moved problem r (kind_of problem r p) column ≡ kind_of problem r (p ++ column ∷ []) =
+      moved_is problem r split form stretches_over p column (q ++ w, subst (IsCandidate problem) on c) in
       let size : length (p ++ column ∷ []) ≡ suc (length p) = omega (arith, length_push p column) in
-      ap (λ (x : List (List Sym)). map (λ c. violations_so_far c T (length x)) (take r constraints)) (sym (append_assoc p (column ∷ []) q))
+      ap (λ (x : List (List Sym)). map (λ c. violations_so_far c T (length x)) (take r problem.constraints)) (sym (append_assoc p (column ∷ []) q))
       ∙ costs_so_far q (p ++ column ∷ []) w T on c
-      ∙ ap (λ n. add_each (map (λ c. violations_so_far c T n) (take r constraints)) (walk_costs tiers constraints u r (kind_of tiers constraints r (p ++ column ∷ [])) q)) size
-      ∙ ap (λ ns. add_each ns (walk_costs tiers constraints u r (kind_of tiers constraints r (p ++ column ∷ [])) q)) (move_adds tiers constraints r u split form over T p column (q ++ w) e c)
-      ∙ add_assoc_each (map (λ c. violations_so_far c T (length p)) (take r constraints)) (move_costs tiers constraints u r (kind_of tiers constraints r p) column) (walk_costs tiers constraints u r (kind_of tiers constraints r (p ++ column ∷ [])) q)
-      ∙ ap (λ k. add_each (map (λ c. violations_so_far c T (length p)) (take r constraints)) (add_each (move_costs tiers constraints u r (kind_of tiers constraints r p) column) (walk_costs tiers constraints u r k q))) (sym next)
+      ∙ ap (λ n. add_each (map (λ c. violations_so_far c T n) (take r problem.constraints)) (walk_costs problem r (kind_of problem r (p ++ column ∷ [])) q)) size
+      ∙ ap (λ ns. add_each ns (walk_costs problem r (kind_of problem r (p ++ column ∷ [])) q)) (move_adds problem r split form over T p column (q ++ w) e c)
+      ∙ add_assoc_each (map (λ c. violations_so_far c T (length p)) (take r problem.constraints)) (move_costs problem r (kind_of problem r p) column) (walk_costs problem r (kind_of problem r (p ++ column ∷ [])) q)
+      ∙ ap (λ k. add_each (map (λ c. violations_so_far c T (length p)) (take r problem.constraints)) (add_each (move_costs problem r (kind_of problem r p) column) (walk_costs problem r k q))) (sym next)
 
 module _ (frame : Frame) (stage : ℕ) (start : Kind) (is_first : IsStart frame stage start) where
   split : AreSplit (tiers_in frame)
   split = tiers_split frame.grammar.now.tiers.kinds.items
 
   form : IsForm (tiers_in frame) (form_in frame)
-  form = form_from (tiers_in frame) (form_in frame) frame.well_formed
+  form = form_from (problem_in frame) frame.well_formed
 
   over : AllByRecursion (IsOverTiers (tiers_in frame).width) (take stage (constraints_in frame))
   over = all_taken (IsOverTiers (tiers_in frame).width) (constraints_in frame) stage (over_tiers frame.grammar.now)
 
-  pub prefix_costs : (p q : List (List Sym)) → IsCandidate (tiers_in frame) (form_in frame) (p ++ q)
-      → walk_costs (tiers_in frame) (constraints_in frame) (form_in frame) stage (kind_at_stage frame stage start) p ≡ map (λ c. violations_so_far c (p ++ q) (length p)) (take stage (constraints_in frame))
+  pub prefix_costs : (p q : List (List Sym)) → IsCandidate (problem_in frame) (p ++ q)
+      → walk_costs (problem_in frame) stage (kind_at_stage frame stage start) p ≡ map (λ c. violations_so_far c (p ++ q) (length p)) (take stage (constraints_in frame))
   prefix_costs p q c =
       let none : map (λ x. violations_so_far x (p ++ q) 0) (take stage (constraints_in frame)) ≡ map (λ x. 0) (take stage (constraints_in frame)) =
       map_agree (λ x. violations_so_far x (p ++ q) 0) (λ x. 0) (take stage (constraints_in frame)) (all_of _ (take stage (constraints_in frame)) (λ x. so_far_none x.family x.left x.right (p ++ q))) in
-      ap (λ k. walk_costs (tiers_in frame) (constraints_in frame) (form_in frame) stage k p) is_first.is
-      ∙ sym (costs_so_far (tiers_in frame) (constraints_in frame) stage (form_in frame) split form over (over_stretches frame.grammar.now stage) p [] q (p ++ q) refl c
-      ∙ ap (λ ns. add_each ns (walk_costs (tiers_in frame) (constraints_in frame) (form_in frame) stage (kind_of (tiers_in frame) (constraints_in frame) stage []) p)) none
-      ∙ add_none (take stage (constraints_in frame)) (walk_costs (tiers_in frame) (constraints_in frame) (form_in frame) stage (kind_of (tiers_in frame) (constraints_in frame) stage []) p)
-      (length_walk (tiers_in frame) (constraints_in frame) stage (form_in frame) split form over p (kind_of (tiers_in frame) (constraints_in frame) stage [])))
+      ap (λ k. walk_costs (problem_in frame) stage k p) is_first.is
+      ∙ sym (costs_so_far (problem_in frame) stage split form over (over_stretches frame.grammar.now stage) p [] q (p ++ q) refl c
+      ∙ ap (λ ns. add_each ns (walk_costs (problem_in frame) stage (kind_of (problem_in frame) stage []) p)) none
+      ∙ add_none (take stage (constraints_in frame)) (walk_costs (problem_in frame) stage (kind_of (problem_in frame) stage []) p)
+      (length_walk (problem_in frame) stage split form over p (kind_of (problem_in frame) stage [])))
 
-  pub whole_costs : (T : List (List Sym)) → IsCandidate (tiers_in frame) (form_in frame) T
-      → walk_costs (tiers_in frame) (constraints_in frame) (form_in frame) stage (kind_at_stage frame stage start) T ≡ take stage (vec (constraints_in frame) T)
+  pub whole_costs : (T : List (List Sym)) → IsCandidate (problem_in frame) T
+      → walk_costs (problem_in frame) stage (kind_at_stage frame stage start) T ≡ take stage (counts_on (problem_in frame) T)
   whole_costs T c =
-      ap (λ k. walk_costs (tiers_in frame) (constraints_in frame) (form_in frame) stage k T) is_first.is
-      ∙ sym (costs_sum (tiers_in frame) (constraints_in frame) stage (form_in frame) split form over T c)
+      ap (λ k. walk_costs (problem_in frame) stage k T) is_first.is
+      ∙ sym (costs_sum (problem_in frame) stage split form over T c)

@@ -22,6 +22,7 @@ use Rattle.violation.specs.Prefixes.{stretches}
 use Rattle.grammar_reader.specs.declared.grammar.Grammar.{Grammar}
 use Rattle.grammar_reader.specs.Values.{is_side, has_sides}
 use Rattle.grammar_reader.specs.Seen.{tiers_by, constraint_seen}
+use Rattle.violation.specs.Problems.{Problem}
 
 length-tiers_by : (ns : List (List ℕ)) (ks : List TierKind) → length ns ≡ length ks → length (tiers_by ns ks) ≡ length ks
 length-tiers_by [] [] e = refl
@@ -69,20 +70,20 @@ all_first P test (x ∷ xs) (suc n) h = own (test x) (all_first P test xs n h.1)
     own true r = (h.0, r)
     own false r = r
 
-pub over_stretches : (g : Grammar) (stage : ℕ) → AllByRecursion (IsOverTiers (length g.tiers.kinds.items)) (stretches g.constraints.items stage)
+pub over_stretches : (g : Grammar) (stage : ℕ) → AllByRecursion (IsOverTiers (length g.tiers.kinds.items)) (filter is_stretch (take stage g.constraints.items))
 over_stretches g stage = all_first (IsOverTiers (length g.tiers.kinds.items)) is_stretch g.constraints.items stage (over_tiers g)
 
 -- a form is a form, however that is known
-pub form_from : (tiers : Tiers) (u : List (List Sym)) → ∥ IsForm tiers u ∥₁ → IsForm tiers u
-form_from tiers u h = record {
+pub form_from : (problem : Problem) → ∥ IsForm problem.tiers problem.form ∥₁ → IsForm problem.tiers problem.form
+form_from problem h = record {
   well_formed = record {
-    one_width = recursion_from_All (λ column. length column ≡ length tiers.input) u
-        (λ k d l. let one : IsProp (length (get_or u k d) ≡ length tiers.input) = hlevel props in
-        ∥∥₁_elim h one (λ f. All-from_recursion (λ column. length column ≡ length tiers.input) u f.well_formed.one_width k d l));
-    each_tier = λ t l. let one : IsProp (runs false (word u t) ≡ true) = hlevel props in
-        well_formed_from_runs (word u t) (∥∥₁_elim h one (λ f. runs_from_well_formed (word u t) (f.well_formed.each_tier t l)));
+    one_width = recursion_from_All (λ column. length column ≡ length problem.tiers.input) problem.form
+        (λ k d l. let one : IsProp (length (get_or problem.form k d) ≡ length problem.tiers.input) = hlevel props in
+        ∥∥₁_elim h one (λ f. All-from_recursion (λ column. length column ≡ length problem.tiers.input) problem.form f.well_formed.one_width k d l));
+    each_tier = λ t l. let one : IsProp (runs false (word problem.form t) ≡ true) = hlevel props in
+        well_formed_from_runs (word problem.form t) (∥∥₁_elim h one (λ f. runs_from_well_formed (word problem.form t) (f.well_formed.each_tier t l)));
   };
-  reduced = recursion_from_All (λ column. IsTrue (has_edge column)) u
-      (λ k d l. let one : IsProp (has_edge (get_or u k d) ≡ true) = hlevel props in
-      ∥∥₁_elim h one (λ f. All-from_recursion (λ column. IsTrue (has_edge column)) u f.reduced k d l));
+  reduced = recursion_from_All (λ column. IsTrue (has_edge column)) problem.form
+      (λ k d l. let one : IsProp (has_edge (get_or problem.form k d) ≡ true) = hlevel props in
+      ∥∥₁_elim h one (λ f. All-from_recursion (λ column. IsTrue (has_edge column)) problem.form f.reduced k d l));
 }

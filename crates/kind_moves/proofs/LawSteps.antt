@@ -28,6 +28,7 @@ use Rattle.kind_moves.specs.Phases.{phases_by}
 use Rattle.kind_moves.proofs.GrammarTiers.{over_stretches, form_from}
 use Rattle.kind_moves.proofs.KindBits.{AreBits, bits_of, open_bits, phases_told, phases_apart}
 use Rattle.kind_moves.proofs.MoveSteps.{phases_next, phases_first}
+use Rattle.kind_moves.specs.Frames.{problem_in}
 
 none_open : {X : Type 0} (j : ℕ) (xs : List X) → map (has_tier 0) (range_with_len j (length xs)) ≡ map (λ x. false) xs
 none_open j [] = refl
@@ -56,14 +57,14 @@ module _ (frame : Frame) (stage : ℕ) where
   split = tiers_split frame.grammar.now.tiers.kinds.items
 
   form : IsForm (tiers_in frame) (form_in frame)
-  form = form_from (tiers_in frame) (form_in frame) frame.well_formed
+  form = form_from (problem_in frame) frame.well_formed
 
   over : AllByRecursion (IsOverTiers (tiers_in frame).width) (stretches_in frame stage)
   over = over_stretches frame.grammar.now stage
 
   -- ---- one move
 
-  place_next : (k : PrefixKind) (column : List Sym) → k.place ≤ length (form_in frame) → FitsKind (tiers_in frame) (form_in frame) k column
+  place_next : (k : PrefixKind) (column : List Sym) → k.place ≤ length (form_in frame) → FitsKind (problem_in frame) k column
       → (e : Bool) → has_edge (input_of (tiers_in frame) column) ≡ e → k.place + cond e 1 0 ≤ length (form_in frame)
   place_next k column l f true e = ⊎_elim (λ none. absurd (false≢true (sym none ∙ e))) (λ some. omega (arith, some.0)) f.input
   place_next k column l f false e = omega arith
@@ -71,14 +72,14 @@ module _ (frame : Frame) (stage : ℕ) where
   -- a kind that has the parts of the kind that a column leads to
   pub is_move : (kind next : Kind) (column : List Sym) → FitsFrame frame stage kind → FitsAt frame stage kind column
       → next.place ≡ kind.place + cond (has_edge (input_of (tiers_in frame) column)) 1 0
-      → open_tiers (length (tiers_in frame).free) next.opened ≡ (moved (tiers_in frame) (constraints_in frame) stage (kind_at_stage frame stage kind) column).opened
+      → open_tiers (length (tiers_in frame).free) next.opened ≡ (moved (problem_in frame) stage (kind_at_stage frame stage kind) column).opened
       → phases (length (stretches_in frame stage)) next ≡ next_phases (stretches_in frame stage) (kind_at_stage frame stage kind).phases column
       → next.opened < 2 ^ length (tiers_in frame).free → AreStretchesBelow (length (stretches_in frame stage)) next → IsMove frame stage kind column next
   is_move kind next column fits column_fits place opened phase_list within below =
       let k = kind_at_stage frame stage kind in
-      let leads : kind_at_stage frame stage next ≡ moved (tiers_in frame) (constraints_in frame) stage k column = same_kind _ _ _ _ _ _ place opened phase_list in
+      let leads : kind_at_stage frame stage next ≡ moved (problem_in frame) stage k column = same_kind _ _ _ _ _ _ place opened phase_list in
       let room = place_next k column fits.place column_fits (has_edge (input_of (tiers_in frame) column)) refl in
-      let P : PrefixKind → Type 0 = λ x. AreClosedOr (is_left_open (tiers_in frame) (form_in frame) x) (stretches_in frame stage) x.phases in
+      let P : PrefixKind → Type 0 = λ x. AreClosedOr (is_left_open (problem_in frame) x) (stretches_in frame stage) x.phases in
       record {
         column_fits = column_fits;
         leads = leads;
@@ -87,8 +88,8 @@ module _ (frame : Frame) (stage : ℕ) where
           opened = within;
           stretches = below;
           phases = subst P (sym leads)
-              (phases_next (tiers_in frame) (form_in frame) split form k column column_fits (constraints_in frame) stage (stretches_in frame stage)
-              (is_left_open (tiers_in frame) (form_in frame) k) k.phases over fits.phases);
+              (phases_next (problem_in frame) split form k column column_fits stage (stretches_in frame stage)
+              (is_left_open (problem_in frame) k) k.phases over fits.phases);
         };
       }
 
@@ -96,13 +97,13 @@ module _ (frame : Frame) (stage : ℕ) where
   pub some_move : (kind : Kind) (column : List Sym) → FitsFrame frame stage kind → FitsAt frame stage kind column → (next : Kind) × IsMove frame stage kind column next
   some_move kind column fits column_fits =
       let k = kind_at_stage frame stage kind in
-      let m = moved (tiers_in frame) (constraints_in frame) stage k column in
+      let m = moved (problem_in frame) stage k column in
       let opened : (mask : ℕ) × AreBits m.opened mask = bits_of m.opened in
       let unmets : (mask : ℕ) × AreBits (map is_unmet_phase m.phases) mask = bits_of (map is_unmet_phase m.phases) in
       let mets : (mask : ℕ) × AreBits (map is_met_phase m.phases) mask = bits_of (map is_met_phase m.phases) in
       let next : Kind = record { place = m.place; opened = opened.0; unmet = unmets.0; met = mets.0; apart = phases_apart m.phases unmets.0 mets.0 unmets.1 mets.1 } in
       let free : length m.opened ≡ length (tiers_in frame).free = length-map (tiers_in frame).free (λ t. opens (symbol column t)) in
-      let count : length m.phases ≡ length (stretches_in frame stage) = same_length (is_left_open (tiers_in frame) (form_in frame) k) (stretches_in frame stage) k.phases column fits.phases in
+      let count : length m.phases ≡ length (stretches_in frame stage) = same_length (is_left_open (problem_in frame) k) (stretches_in frame stage) k.phases column fits.phases in
       let Below : ℕ → ℕ → Type 0 = λ mask n. mask < 2 ^ n in (
         next,
         is_move kind next column fits column_fits refl
@@ -119,12 +120,12 @@ module _ (frame : Frame) (stage : ℕ) where
 
   pub is_start : (kind : Kind) → kind.place ≡ 0 → kind.opened ≡ 0 → kind.unmet ≡ 0 → kind.met ≡ 0 → IsStart frame stage kind
   is_start kind place opened unmet met =
-      let first = kind_of (tiers_in frame) (constraints_in frame) stage [] in
+      let first = kind_of (problem_in frame) stage [] in
       let same : kind_at_stage frame stage kind ≡ first = same_kind _ _ _ _ _ _ place
       (ap (open_tiers (length (tiers_in frame).free)) opened ∙ none_open 0 (tiers_in frame).free)
       (ap (λ n. phases_by (length (stretches_in frame stage)) n kind.met) unmet ∙ ap (phases_by (length (stretches_in frame stage)) 0) met
       ∙ none_told 0 (stretches_in frame stage) ∙ all_closed (tiers_in frame).width (stretches_in frame stage) over) in
-      let P : PrefixKind → Type 0 = λ x. AreClosedOr (is_left_open (tiers_in frame) (form_in frame) x) (stretches_in frame stage) x.phases in
+      let P : PrefixKind → Type 0 = λ x. AreClosedOr (is_left_open (problem_in frame) x) (stretches_in frame stage) x.phases in
       record {
         is = same;
         fits = record {
@@ -132,8 +133,8 @@ module _ (frame : Frame) (stage : ℕ) where
           opened = omega (arith, opened, pow_pos (length (tiers_in frame).free));
           stretches = record { unmet = omega (arith, unmet, pow_pos (length (stretches_in frame stage))); met = omega (arith, met, pow_pos (length (stretches_in frame stage))) };
           phases = subst P (sym same)
-              (phases_first (tiers_in frame) (form_in frame) first
-              (λ t l. tier_open_is (tiers_in frame) (form_in frame) split form (constraints_in frame) stage [] (nothing_begun (tiers_in frame) (form_in frame)) t l)
+              (phases_first (problem_in frame) first
+              (λ t l. tier_open_is (problem_in frame) split form stage [] (nothing_begun (problem_in frame)) t l)
               (stretches_in frame stage) over);
         };
       }
@@ -142,58 +143,58 @@ module _ (frame : Frame) (stage : ℕ) where
 
   -- moves by columns are moves of kinds of prefixes
   walk_of : (p : List (List Sym)) (kind last : Kind) → LeadsTo frame stage kind p last
-      → HasMoves (tiers_in frame) (constraints_in frame) stage (form_in frame) (kind_at_stage frame stage kind) p
-      × (reached (tiers_in frame) (constraints_in frame) stage (kind_at_stage frame stage kind) p ≡ kind_at_stage frame stage last)
+      → HasMoves (problem_in frame) stage (kind_at_stage frame stage kind) p
+      × (reached (problem_in frame) stage (kind_at_stage frame stage kind) p ≡ kind_at_stage frame stage last)
   walk_of [] kind last e = (tt, ap (kind_at_stage frame stage) e)
   walk_of (column ∷ p) kind last h =
       let next : Kind = h.0 in
       let move : IsMove frame stage kind column next = h.1.0 in
       let rest = walk_of p next last h.1.1 in (
-        (move.column_fits, subst (λ k. HasMoves (tiers_in frame) (constraints_in frame) stage (form_in frame) k p) move.leads rest.0),
-        ap (λ k. reached (tiers_in frame) (constraints_in frame) stage k p) (sym move.leads) ∙ rest.1,
+        (move.column_fits, subst (λ k. HasMoves (problem_in frame) stage k p) move.leads rest.0),
+        ap (λ k. reached (problem_in frame) stage k p) (sym move.leads) ∙ rest.1,
       )
 
   -- and these are told by bits
-  walk_by_bits : (p : List (List Sym)) (kind : Kind) → FitsFrame frame stage kind → HasMoves (tiers_in frame) (constraints_in frame) stage (form_in frame) (kind_at_stage frame stage kind) p
+  walk_by_bits : (p : List (List Sym)) (kind : Kind) → FitsFrame frame stage kind → HasMoves (problem_in frame) stage (kind_at_stage frame stage kind) p
       → (last : Kind) × LeadsTo frame stage kind p last
   walk_by_bits [] kind fits h = (kind, refl)
   walk_by_bits (column ∷ p) kind fits h =
       let move : (next : Kind) × IsMove frame stage kind column next = some_move kind column fits h.0 in
       let rest : (last : Kind) × LeadsTo frame stage move.0 p last =
-      walk_by_bits p move.0 move.1.next_fits (subst (λ k. HasMoves (tiers_in frame) (constraints_in frame) stage (form_in frame) k p) (sym move.1.leads) h.1) in
+      walk_by_bits p move.0 move.1.next_fits (subst (λ k. HasMoves (problem_in frame) stage k p) (sym move.1.leads) h.1) in
       (rest.0, (move.0, (move.1, rest.1)))
 
   module _ (start : Kind) (is_first : IsStart frame stage start) where
     -- from the start
     first_walk : (p : List (List Sym)) (last : Kind) → LeadsTo frame stage start p last
-        → HasMoves (tiers_in frame) (constraints_in frame) stage (form_in frame) (kind_of (tiers_in frame) (constraints_in frame) stage []) p
-        × (reached (tiers_in frame) (constraints_in frame) stage (kind_of (tiers_in frame) (constraints_in frame) stage []) p ≡ kind_at_stage frame stage last)
+        → HasMoves (problem_in frame) stage (kind_of (problem_in frame) stage []) p
+        × (reached (problem_in frame) stage (kind_of (problem_in frame) stage []) p ≡ kind_at_stage frame stage last)
     first_walk p last h =
         let w = walk_of p start last h in (
-          subst (λ k. HasMoves (tiers_in frame) (constraints_in frame) stage (form_in frame) k p) is_first.is w.0,
-          ap (λ k. reached (tiers_in frame) (constraints_in frame) stage k p) (sym is_first.is) ∙ w.1,
+          subst (λ k. HasMoves (problem_in frame) stage k p) is_first.is w.0,
+          ap (λ k. reached (problem_in frame) stage k p) (sym is_first.is) ∙ w.1,
         )
 
-    first_by_bits : (p : List (List Sym)) → HasMoves (tiers_in frame) (constraints_in frame) stage (form_in frame) (kind_of (tiers_in frame) (constraints_in frame) stage []) p → (last : Kind) × LeadsTo frame stage start p last
-    first_by_bits p h = walk_by_bits p start is_first.fits (subst (λ k. HasMoves (tiers_in frame) (constraints_in frame) stage (form_in frame) k p) (sym is_first.is) h)
+    first_by_bits : (p : List (List Sym)) → HasMoves (problem_in frame) stage (kind_of (problem_in frame) stage []) p → (last : Kind) × LeadsTo frame stage start p last
+    first_by_bits p h = walk_by_bits p start is_first.fits (subst (λ k. HasMoves (problem_in frame) stage k p) (sym is_first.is) h)
 
-    pub prefixes_law : (p : List (List Sym)) → ((last : Kind) × LeadsTo frame stage start p last) ↔ BeginsCandidate (tiers_in frame) (form_in frame) p
+    pub prefixes_law : (p : List (List Sym)) → ((last : Kind) × LeadsTo frame stage start p last) ↔ BeginsCandidate (problem_in frame) p
     prefixes_law p = (
-      λ h. (moves_begin (tiers_in frame) (constraints_in frame) stage (form_in frame) split form over p).0 (first_walk p h.0 h.1).0,
-      λ b. first_by_bits p ((moves_begin (tiers_in frame) (constraints_in frame) stage (form_in frame) split form over p).1 b),
+      λ h. (moves_begin (problem_in frame) stage split form over p).0 (first_walk p h.0 h.1).0,
+      λ b. first_by_bits p ((moves_begin (problem_in frame) stage split form over p).1 b),
     )
 
-    pub candidates_law : (T : List (List Sym)) → ((last : Kind) × (LeadsTo frame stage start T last × IsTrue (is_final (form_in frame) (kind_at_stage frame stage last)))) ↔ IsCandidate (tiers_in frame) (form_in frame) T
+    pub candidates_law : (T : List (List Sym)) → ((last : Kind) × (LeadsTo frame stage start T last × IsTrue (is_final (problem_in frame) (kind_at_stage frame stage last)))) ↔ IsCandidate (problem_in frame) T
     candidates_law T = (
       λ h. let w = first_walk T h.0 h.1.0 in
-          (moves_end (tiers_in frame) (constraints_in frame) stage (form_in frame) split form over T).0 (w.0, ap (is_final (form_in frame)) w.1 ∙ h.1.1),
+          (moves_end (problem_in frame) stage split form over T).0 (w.0, ap (is_final (problem_in frame)) w.1 ∙ h.1.1),
       λ c.
-          let m = (moves_end (tiers_in frame) (constraints_in frame) stage (form_in frame) split form over T).1 c in
+          let m = (moves_end (problem_in frame) stage split form over T).1 c in
           let on : (last : Kind) × LeadsTo frame stage start T last = first_by_bits T m.0 in
-          (on.0, (on.1, sym (ap (is_final (form_in frame)) (first_walk T on.0 on.1).1) ∙ m.1)),
+          (on.0, (on.1, sym (ap (is_final (problem_in frame)) (first_walk T on.0 on.1).1) ∙ m.1)),
     )
 
-    pub kinds_law : (p : List (List Sym)) (last : Kind) → LeadsTo frame stage start p last → kind_at_stage frame stage last ≡ kind_of (tiers_in frame) (constraints_in frame) stage p
+    pub kinds_law : (p : List (List Sym)) (last : Kind) → LeadsTo frame stage start p last → kind_at_stage frame stage last ≡ kind_of (problem_in frame) stage p
     kinds_law p last h =
         let w = first_walk p last h in
-        sym w.1 ∙ reached_is (tiers_in frame) (constraints_in frame) stage (form_in frame) split form over p w.0
+        sym w.1 ∙ reached_is (problem_in frame) stage split form over p w.0

@@ -7,6 +7,7 @@ use Rattle.tier_core.specs.Kinds.{PrefixKind, AreStretchesBelow, prefix_kind}
 use Rattle.tier_core.specs.Tables.{tiers_of_table}
 use Rattle.tier_core.specs.Tiers.{Tiers}
 use Rattle.violation.specs.Moves.{FitsKind, moved}
+use Rattle.violation.specs.Problems.{Problem, asked}
 use Rattle.violation.specs.Prefixes.{kind_of, stretches}
 pub use Rattle.violation.specs.Phases.{is_closed, is_left_open, AreClosedOr}
 use Rattle.kind_moves.specs.declared.frame.Frame.{Frame}
@@ -21,9 +22,13 @@ constraints_in frame = frame.grammar.now.constraints.items
 abbrev pub form_in : Frame → List (List Sym)
 form_in frame = frame.form.now
 
+-- what is asked by a frame's grammar and its form
+abbrev pub problem_in : Frame → Problem
+problem_in frame = asked frame.grammar.now.tiers frame.grammar.now.constraints.items frame.form.now
+
 -- the stretch implications among the first constraints of a frame
 abbrev pub stretches_in : Frame → ℕ → List Constraint
-stretches_in frame stage = stretches (constraints_in frame) stage
+stretches_in frame stage = stretches (problem_in frame) stage
 
 -- the kind that the bits of a kind tell at a stage
 abbrev pub kind_at_stage : Frame → ℕ → Kind → PrefixKind
@@ -35,20 +40,20 @@ pub record FitsFrame (frame : Frame) (stage : ℕ) (kind : Kind) : Type 0 where
   pub place : kind.place ≤ length (form_in frame)
   pub opened : kind.opened < 2 ^ length (tiers_in frame).free
   pub stretches : AreStretchesBelow (length (stretches_in frame stage)) kind
-  pub phases : AreClosedOr (is_left_open (tiers_in frame) (form_in frame) (kind_at_stage frame stage kind)) (stretches_in frame stage) (kind_at_stage frame stage kind).phases
+  pub phases : AreClosedOr (is_left_open (problem_in frame) (kind_at_stage frame stage kind)) (stretches_in frame stage) (kind_at_stage frame stage kind).phases
 
 -- a column fits a kind of a frame
 abbrev pub FitsAt : Frame → ℕ → Kind → List Sym → Type 0
-FitsAt frame stage kind column = FitsKind (tiers_in frame) (form_in frame) (kind_at_stage frame stage kind) column
+FitsAt frame stage kind column = FitsKind (problem_in frame) (kind_at_stage frame stage kind) column
 
 -- There is a move from a kind by a column to the next kind: the column fits, the next kind is the
 -- one that it leads to, and this fits the frame.
 pub record IsMove (frame : Frame) (stage : ℕ) (kind : Kind) (column : List Sym) (next : Kind) : Type 0 where
   pub column_fits : FitsAt frame stage kind column
-  pub leads : kind_at_stage frame stage next ≡ moved (tiers_in frame) (constraints_in frame) stage (kind_at_stage frame stage kind) column
+  pub leads : kind_at_stage frame stage next ≡ moved (problem_in frame) stage (kind_at_stage frame stage kind) column
   pub next_fits : FitsFrame frame stage next
 
 -- the kind of the empty prefix
 pub record IsStart (frame : Frame) (stage : ℕ) (kind : Kind) : Type 0 where
-  pub is : kind_at_stage frame stage kind ≡ kind_of (tiers_in frame) (constraints_in frame) stage []
+  pub is : kind_at_stage frame stage kind ≡ kind_of (problem_in frame) stage []
   pub fits : FitsFrame frame stage kind

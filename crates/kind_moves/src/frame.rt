@@ -36,8 +36,9 @@ impl<'a> Frame<'a> {
     ghost use Rattle.tier_core.specs.Timelines.{symbol, column_at, has_edge};
     ghost use Rattle.tier_core.specs.Kinds.{open_tiers};
     ghost use Rattle.violation.specs.Moves.{input_of, is_final, is_tier_open, move_costs, next_phases};
+    ghost use Rattle.violation.specs.Problems.{last_stage};
     ghost use Rattle.kind_moves.specs.Phases.{phases_by};
-    ghost use Rattle.kind_moves.specs.Frames.{tiers_in, constraints_in, form_in, stretches_in, kind_at_stage, FitsAt, FitsFrame, IsMove, IsStart};
+    ghost use Rattle.kind_moves.specs.Frames.{problem_in, tiers_in, constraints_in, form_in, stretches_in, kind_at_stage, FitsAt, FitsFrame, IsMove, IsStart};
 
     /// The frame of a grammar and a form over its input tiers, of at most 64 columns. It fails only
     /// for want of memory.
@@ -76,7 +77,7 @@ impl<'a> Frame<'a> {
     pub fn at_end(&self, kind: &Kind) -> bool
         requires place { kind.now.place ≤ length (form_in self.now) }
         requires opened { kind.now.opened < 2 ^ length (tiers_in self.now).free }
-        ensures { (stage : ℕ) → result ≡ is_final (form_in self.now) (kind_at_stage self.now stage kind.now) }
+        ensures { (stage : ℕ) → result ≡ is_final (problem_in self.now) (kind_at_stage self.now stage kind.now) }
     {
         kind.place as usize == self.form.len() && kind.opened == 0
     }
@@ -84,7 +85,7 @@ impl<'a> Frame<'a> {
     /// The mask of the tiers that are open at a kind.
     fn open_at(&self, kind: &Kind) -> u16
         requires { kind.now.place ≤ length (form_in self.now) }
-        ensures { (stage t : ℕ) → has_tier result t ≡ is_tier_open (tiers_in self.now) (form_in self.now) (kind_at_stage self.now stage kind.now) t }
+        ensures { (stage t : ℕ) → has_tier result t ≡ is_tier_open (problem_in self.now) (kind_at_stage self.now stage kind.now) t }
     {
         self.open_inputs[kind.place as usize] | laid_out(self.free, kind.opened)
     }
@@ -149,7 +150,7 @@ impl<'a> Frame<'a> {
 
     /// The phases of the stretch implications among the first constraints, after a column.
     fn next_phases(&self, stage: u32, kind: &Kind, column: &[Sym]) -> PhaseMasks
-        requires stage { stage ≤ length (constraints_in self.now) }
+        requires stage { stage ≤ last_stage (problem_in self.now) }
         requires width { length column.now ≡ (tiers_in self.now).width }
         ensures phases { phases_by (length (stretches_in self.now stage)) result.unmet result.met ≡ next_phases (stretches_in self.now stage) (kind_at_stage self.now stage kind.now).phases column.now }
         ensures unmet { result.unmet < 2 ^ length (stretches_in self.now stage) }
@@ -162,7 +163,7 @@ impl<'a> Frame<'a> {
     /// The kind that a column leads to from a kind, under the first `stage` constraints. None exactly
     /// where the column does not fit the kind.
     pub fn moved(&self, stage: u32, kind: &Kind, column: &Column) -> Option<Kind>
-        requires stage { stage ≤ length (constraints_in self.now) }
+        requires stage { stage ≤ last_stage (problem_in self.now) }
         requires fits { FitsFrame self.now stage kind.now }
         requires width { length column.now ≡ (tiers_in self.now).width }
         ensures { MatchOption result (FitsAt self.now stage kind.now column.now → ⊥) (IsMove self.now stage kind.now column.now) }
@@ -183,12 +184,12 @@ impl<'a> Frame<'a> {
     /// What the move from a kind by a column costs under a constraint, which is counted from 1 in
     /// ranked order and is one of the first `stage`: 0 or 1.
     pub fn cost(&self, stage: u32, constraint: u32, kind: &Kind, column: &Column) -> u32
-        requires stage { stage ≤ length (constraints_in self.now) }
+        requires stage { stage ≤ last_stage (problem_in self.now) }
         requires some { 1 ≤ constraint }
         requires within { constraint ≤ stage }
         requires fits { FitsFrame self.now stage kind.now }
         requires width { length column.now ≡ (tiers_in self.now).width }
-        ensures cost { result ≡ slice_index_or (move_costs (tiers_in self.now) (constraints_in self.now) (form_in self.now) stage (kind_at_stage self.now stage kind.now) column.now) (constraint - 1) 0 }
+        ensures cost { result ≡ slice_index_or (move_costs (problem_in self.now) stage (kind_at_stage self.now stage kind.now) column.now) (constraint - 1) 0 }
         ensures few { result ≤ 1 }
     {
         let number = constraint as usize - 1;

@@ -3,6 +3,8 @@ ghost use Rattle.std.specs.Prelude.{◌≡◌, ◌≤◌, IfOk, length};
 ghost use Rattle.tier_core.specs.Tables.{tiers_of_table};
 ghost use Rattle.violation.specs.Candidates.{IsForm};
 ghost use Rattle.kind_moves.specs.Frames.{constraints_in};
+ghost use Rattle.violation.specs.Problems.{last_stage};
+ghost use Rattle.kind_moves.specs.Frames.{problem_in};
 
 mod plain;
 
@@ -73,7 +75,7 @@ fn agrees(
     columns: u32,
     per: u32,
 ) -> Result<bool, Fail>
-    requires stage { stage ≤ length (constraints_in frame.now) }
+    requires stage { stage ≤ last_stage (problem_in frame.now) }
     requires per { 1 ≤ per }
 {
     let kinds = frame.grammar.tiers.kinds.as_slice();
@@ -205,7 +207,7 @@ fn an_empty_form_ends_where_it_starts(rt: HostRuntime) -> Result<(), Fail> {
 /// walk.
 fn cost_along(frame: &Frame<'_>, constraint: u32, columns: &[Column]) -> Option<u32>
     requires some { 1 ≤ constraint }
-    requires within { constraint ≤ length (constraints_in frame.now) }
+    requires within { constraint ≤ last_stage (problem_in frame.now) }
 {
     let width = frame.grammar.tiers.kinds.as_slice().len();
     let mut kind = frame.start();

@@ -8,12 +8,14 @@ use Rattle.tier_core.specs.Tiers.{Tiers}
 use Rattle.tier_core.specs.Timelines.{project, squeeze, word}
 use Rattle.tier_core.specs.Sides.{has_edge_type, is_implication, is_stretch}
 use Rattle.grammar_reader.specs.Seen.{constraint_seen}
-use Rattle.grammar_reader.specs.Values.{NamedConstraint}
-use Rattle.violation.specs.Candidates.{IsAtMost, IsOptimalFor, vec}
+use Rattle.grammar_reader.specs.Values.{GrammarValue, NamedConstraint}
+use Rattle.violation.specs.Candidates.{IsAtMost, IsCandidate, IsOptimalFor, vec}
+use Rattle.violation.specs.Problems.{Problem}
 use Rattle.violation.specs.Counts.{viol}
 use Rattle.violation.specs.Prefixes.{is_open, kind_of, phase, stretches}
 use Rattle.violation.specs.Stages.{AreKindsOfStage, IsKindOfStage, IsPassed, Passes}
 use Rattle.ranked_gen.specs.Budgets.{IsFirstOver, IsOver, IsWithin}
+use Rattle.otp_tool.specs.Grammars.{IsAsked}
 
 -- ---- what is counted and remembered of constraints as they are seen
 
@@ -36,25 +38,42 @@ seen_phases p (suc r) (c ∷ cs) = go (is_stretch c) (seen_phases p r cs)
     go true e = ap (λ ps. phase c.left c.right p ∷ ps) e
     go false e = e
 
-module _ (tiers : Tiers) (u : List (List Sym)) (cs ds : List Constraint) (alike : map constraint_seen cs ≡ map constraint_seen ds) where
+-- what is asked by these constraints in place of a problem's own
+abbrev with_constraints : Problem → List Constraint → Problem
+with_constraints problem cs = record { tiers = problem.tiers; constraints = cs; form = problem.form }
+
+module _ (problem : Problem) (cs ds : List Constraint) (alike : map constraint_seen cs ≡ map constraint_seen ds) where
   same_length : length cs ≡ length ds
   same_length = sym (length-map cs constraint_seen) ∙ ap length alike ∙ length-map ds constraint_seen
 
   same_vec : (T : List (List Sym)) → vec cs T ≡ vec ds T
   same_vec T = seen_vec T cs ∙ ap (map (λ n. viol n.family n.left n.right T)) alike ∙ sym (seen_vec T ds)
 
-  same_kind : (r : ℕ) (p : List (List Sym)) → kind_of tiers cs r p ≡ kind_of tiers ds r p
+  same_kind : (r : ℕ) (p : List (List Sym)) → kind_of (with_constraints problem cs) r p ≡ kind_of (with_constraints problem ds) r p
   same_kind r p =
-      let kind : List Phase → PrefixKind = λ ps. record { place = length (squeeze (project tiers.input p)); opened = map (λ t. is_open (word p t)) tiers.free; phases = ps } in
-      ap kind (seen_phases p r cs ∙ ap (λ ns. map (λ n. phase n.left n.right p) (filter is_seen_stretch (take r ns))) alike ∙ sym (seen_phases p r ds))
+      let kind : List Phase → PrefixKind = λ ps. record {
+        place = length (squeeze (project problem.tiers.input p));
+        opened = map (λ t. is_open (word p t)) problem.tiers.free;
+        phases = ps;
+      } in
+      let seen : List NamedConstraint → List Phase = λ ns. map (λ n. phase n.left n.right p) (filter is_seen_stretch (take r ns)) in
+      ap kind (seen_phases p r cs ∙ ap seen alike ∙ sym (seen_phases p r ds))
 
-  optimal_alike : (r : ℕ) (T : List (List Sym)) → IsOptimalFor tiers cs u r T → IsOptimalFor tiers ds u r T
+  optimal_alike : (r : ℕ) (T : List (List Sym)) → IsOptimalFor (with_constraints problem cs) r T → IsOptimalFor (with_constraints problem ds) r T
   optimal_alike r T o = record {
-    candidate = o.candidate;
-    least = λ U c. subst (λ w. IsAtMost (take r (vec ds T)) (take r w)) (same_vec U) (subst (λ v. IsAtMost (take r v) (take r (vec cs U))) (same_vec T) (o.least U c));
+    candidate = same T o.candidate;
+    least = λ U c.
+        subst (λ w. IsAtMost (take r (vec ds T)) (take r w)) (same_vec U)
+        (subst (λ v. IsAtMost (take r v) (take r (vec cs U))) (same_vec T) (o.least U (back U c)));
   }
+    where
+      same : (U : List (List Sym)) → IsCandidate (with_constraints problem cs) U → IsCandidate (with_constraints problem ds) U
+      same U c = record { well_formed = c.well_formed; reduced = c.reduced; input = c.input }
 
-  passed_alike : (r s : ℕ) (k : PrefixKind) → IsPassed tiers cs u r s k → IsPassed tiers ds u r s k
+      back : (U : List (List Sym)) → IsCandidate (with_constraints problem ds) U → IsCandidate (with_constraints problem cs) U
+      back U c = record { well_formed = c.well_formed; reduced = c.reduced; input = c.input }
+
+  passed_alike : (r s : ℕ) (k : PrefixKind) → IsPassed (with_constraints problem cs) r s k → IsPassed (with_constraints problem ds) r s k
   passed_alike r s k p = record {
     candidate = p.candidate;
     columns = p.columns;
@@ -65,26 +84,33 @@ module _ (tiers : Tiers) (u : List (List Sym)) (cs ds : List Constraint) (alike 
     };
   }
 
-module _ (tiers : Tiers) (u : List (List Sym)) (budget : ℕ) (cs ds : List Constraint) (alike : map constraint_seen cs ≡ map constraint_seen ds) where
-  kinds_alike : (r : ℕ) (ks : List PrefixKind) → AreKindsOfStage tiers cs u r ks → AreKindsOfStage tiers ds u r ks
+module _ (problem : Problem) (budget : ℕ) (cs ds : List Constraint) (alike : map constraint_seen cs ≡ map constraint_seen ds) where
+  kinds_alike : (r : ℕ) (ks : List PrefixKind) → AreKindsOfStage (with_constraints problem cs) r ks → AreKindsOfStage (with_constraints problem ds) r ks
   kinds_alike r ks a = record {
     ascending = a.ascending;
     members = λ k. (
-      (λ m. passed_alike tiers u cs ds alike (r - 1) r k ((a.members k).0 m)),
-      (λ p. (a.members k).1 (passed_alike tiers u ds cs (sym alike) (r - 1) r k p)),
+      (λ m. passed_alike problem cs ds alike (r - 1) r k ((a.members k).0 m)),
+      (λ p. (a.members k).1 (passed_alike problem ds cs (sym alike) (r - 1) r k p)),
     );
   }
 
-  over_alike : (r : ℕ) → IsOver tiers cs u budget r → IsOver tiers ds u budget r
+  over_alike : (r : ℕ) → IsOver (with_constraints problem cs) budget r → IsOver (with_constraints problem ds) budget r
   over_alike r o = record { kinds = o.kinds; are = kinds_alike r o.kinds o.are; more = o.more }
 
-within_alike : (tiers : Tiers) (u : List (List Sym)) (budget : ℕ) (cs ds : List Constraint) → map constraint_seen cs ≡ map constraint_seen ds → (r : ℕ) → IsWithin tiers cs u budget r → IsWithin tiers ds u budget r
-within_alike tiers u budget cs ds alike r w = λ ks a. w ks (kinds_alike tiers u budget ds cs (sym alike) r ks a)
+within_alike : (problem : Problem) (budget : ℕ) (cs ds : List Constraint) → map constraint_seen cs ≡ map constraint_seen ds → (r : ℕ)
+    → IsWithin (with_constraints problem cs) budget r → IsWithin (with_constraints problem ds) budget r
+within_alike problem budget cs ds alike r w = λ ks a. w ks (kinds_alike problem budget ds cs (sym alike) r ks a)
 
--- the first stage over the budget is the same
-pub first_over_alike : (tiers : Tiers) (u : List (List Sym)) (budget : ℕ) (cs ds : List Constraint) → map constraint_seen cs ≡ map constraint_seen ds → (r : ℕ) → IsFirstOver tiers cs u budget r → IsFirstOver tiers ds u budget r
-first_over_alike tiers u budget cs ds alike r o = record {
-  stage = subst (λ n. r ≤ n) (same_length tiers u cs ds alike) o.stage;
-  over = over_alike tiers u budget cs ds alike r o.over;
-  before = λ s l. within_alike tiers u budget cs ds alike s (o.before s l);
-}
+-- the first stage over the budget is the same for all problems that a grammar and a word ask
+pub first_over_alike : (g : GrammarValue) (form : List ℕ) (budget : ℕ) (p q : Problem) → IsAsked g form p → IsAsked g form q → p.form ≡ q.form → (r : ℕ)
+    → IsFirstOver p budget r → IsFirstOver q budget r
+first_over_alike g form budget p q a b same r over =
+    let alike : map constraint_seen p.constraints ≡ map constraint_seen q.constraints = a.constraints ∙ sym b.constraints in
+    let ask : Tiers → List (List Sym) → Problem = λ tiers u. record { tiers = tiers; constraints = p.constraints; form = u } in
+    let o : IsFirstOver (ask q.tiers q.form) budget r =
+    subst (λ u. IsFirstOver (ask q.tiers u) budget r) same (subst (λ tiers. IsFirstOver (ask tiers p.form) budget r) (a.tiers ∙ sym b.tiers) over) in
+    record {
+      stage = subst (λ n. r ≤ n) (same_length q p.constraints q.constraints alike) o.stage;
+      over = over_alike q budget p.constraints q.constraints alike r o.over;
+      before = λ s l. within_alike q budget p.constraints q.constraints alike s (o.before s l);
+    }

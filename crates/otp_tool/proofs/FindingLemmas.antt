@@ -2,8 +2,6 @@
 use Rattle.std.proofs.Common.{◌≡◌, ℕ, zero, suc, ◌<◌, ◌≤◌, Bool, true, false, List, [], ◌∷◌, length, map, Ok, Err, Result, refl, ap, sym, ◌∙◌, subst, arith}
 use Rattle.std.proofs.lemmas.Bool.{false≢true}
 use Rattle.tier_core.specs.declared.sym.Sym.{Sym}
-use Rattle.tier_core.specs.declared.constraint.Constraint.{Constraint}
-use Rattle.tier_core.specs.Tiers.{Tiers}
 use Rattle.timeline_text.specs.declared.form_err.FormErr.{FormErr}
 use Rattle.grammar_reader.specs.declared.grammar_err.GrammarCause.{GrammarCause}
 use Rattle.grammar_reader.specs.Values.{GrammarValue, NamedConstraint}
@@ -12,8 +10,8 @@ use Rattle.grammar_reader.specs.Seen.{constraint_seen}
 use Rattle.ranked_gen.specs.Budgets.{AreAllWithin, IsFirstOver, IsOver, IsWithin}
 use Rattle.command_words.specs.Commands.{Command, canon, score, generate, show}
 use Rattle.timeline_text.proofs.Deciding.{not_both}
-use Rattle.form_reader.specs.Forms.{IsReadAs}
-use Rattle.otp_tool.specs.Grammars.{AreOf, IsFileOf, OnGrammar, input_count, tiers_of}
+use Rattle.violation.specs.Problems.{Problem}
+use Rattle.otp_tool.specs.Grammars.{IsAsked, IsFileOf, OnGrammar, input_count}
 use Rattle.otp_tool.specs.Findings.{Finding, Finds, FindsIn, FindsForAnswer, FindsForCanon, FindsForScore, IsOverBudget, IsWithinBudget, long_file, no_grammar, no_form, over_budget, ready}
 use Rattle.otp_tool.proofs.ConstraintLemmas.{first_over_alike}
 use Rattle.form_reader.proofs.ReadingLemmas.{not_refused, one_cause, one_reading, one_refusal}
@@ -52,31 +50,28 @@ equal_where zero (suc b) f h = absurd (f (omega arith))
 equal_where (suc a) zero f h = absurd (h (omega arith))
 equal_where (suc a) (suc b) f h = ap suc (equal_where a b (λ l. f (omega (arith, l))) (λ l. h (omega (arith, l))))
 
-module _ (tiers : Tiers) (cs : List Constraint) (u : List (List Sym)) (budget : ℕ) where
-  more : (r : ℕ) → IsOver tiers cs u budget r → IsWithin tiers cs u budget r → ⊥
+module _ (problem : Problem) (budget : ℕ) where
+  more : (r : ℕ) → IsOver problem budget r → IsWithin problem budget r → ⊥
   more r o w = omega (arith, o.more, w o.kinds o.are)
 
-  over_within : (r : ℕ) → IsFirstOver tiers cs u budget r → AreAllWithin tiers cs u budget → ⊥
+  over_within : (r : ℕ) → IsFirstOver problem budget r → AreAllWithin problem budget → ⊥
   over_within r o w = more r o.over (w r o.stage)
 
-  one_stage : (r s : ℕ) → IsFirstOver tiers cs u budget r → IsFirstOver tiers cs u budget s → r ≡ s
+  one_stage : (r s : ℕ) → IsFirstOver problem budget r → IsFirstOver problem budget s → r ≡ s
   one_stage r s o p = equal_where r s (λ l. more r o.over (p.before r l)) (λ l. more s p.over (o.before s l))
 
 module _ (g : GrammarValue) (form : List ℕ) (budget : ℕ) where
-  same_form : (u v : List (List Sym)) → IsReadAs (input_count g) g.letters form u → IsReadAs (input_count g) g.letters form v → u ≡ v
-  same_form u v r s = one_reading (input_count g) g.letters form u v r s
-
-  -- over the budget by the form and constraints of another reading
-  over_by : (stage : ℕ) (o : IsOverBudget g form budget stage) (cs : List Constraint) (u : List (List Sym)) → AreOf g cs → IsReadAs (input_count g) g.letters form u → IsFirstOver (tiers_of g) cs u budget stage
-  over_by stage o cs u a r =
-      subst (λ (v : List (List Sym)). IsFirstOver (tiers_of g) cs v budget stage) (same_form o.u u o.read r)
-      (first_over_alike (tiers_of g) o.u budget o.constraints cs (o.are ∙ sym a) stage o.over)
+  -- over the budget by another reading of the grammar and the word
+  over_by : (stage : ℕ) (o : IsOverBudget g form budget stage) (problem : Problem) → IsAsked g form problem → IsFirstOver problem budget stage
+  over_by stage o problem a =
+      first_over_alike g form budget o.problem problem o.is_asked a
+      (one_reading (input_count g) g.letters form o.problem.form problem.form o.is_asked.form a.form) stage o.over
 
   never_both : (stage : ℕ) → IsOverBudget g form budget stage → IsWithinBudget g form budget → ⊥
-  never_both stage o w = over_within (tiers_of g) w.constraints w.u budget stage (over_by stage o w.constraints w.u w.are w.read) w.within
+  never_both stage o w = over_within w.problem budget stage (over_by stage o w.problem w.is_asked) w.within
 
   one_over : (stage other : ℕ) → IsOverBudget g form budget stage → IsOverBudget g form budget other → stage ≡ other
-  one_over stage other o p = one_stage (tiers_of g) p.constraints p.u budget stage other (over_by stage o p.constraints p.u p.are p.read) p.over
+  one_over stage other o p = one_stage p.problem budget stage other (over_by stage o p.problem p.is_asked) p.over
 
 for_answer : (g : GrammarValue) (form : List ℕ) (budget : ℕ) (x y : Finding) → FindsForAnswer g form budget x → FindsForAnswer g form budget y → x ≡ y
 for_answer g form budget long_file y a b = absurd a
@@ -84,16 +79,16 @@ for_answer g form budget (no_grammar line cause) y a b = absurd a
 for_answer g form budget (no_form cause) long_file a b = absurd b
 for_answer g form budget (no_form cause) (no_grammar line other) a b = absurd b
 for_answer g form budget (no_form cause) (no_form other) a b = ap no_form (one_refusal (input_count g) g.letters form cause other a b)
-for_answer g form budget (no_form cause) (over_budget stage) a b = absurd (not_refused (input_count g) g.letters form b.u cause b.read a)
-for_answer g form budget (no_form cause) ready a b = absurd (not_refused (input_count g) g.letters form b.u cause b.read a)
+for_answer g form budget (no_form cause) (over_budget stage) a b = absurd (not_refused (input_count g) g.letters form b.problem.form cause b.is_asked.form a)
+for_answer g form budget (no_form cause) ready a b = absurd (not_refused (input_count g) g.letters form b.problem.form cause b.is_asked.form a)
 for_answer g form budget (over_budget stage) long_file a b = absurd b
 for_answer g form budget (over_budget stage) (no_grammar line cause) a b = absurd b
-for_answer g form budget (over_budget stage) (no_form cause) a b = absurd (not_refused (input_count g) g.letters form a.u cause a.read b)
+for_answer g form budget (over_budget stage) (no_form cause) a b = absurd (not_refused (input_count g) g.letters form a.problem.form cause a.is_asked.form b)
 for_answer g form budget (over_budget stage) (over_budget other) a b = ap over_budget (one_over g form budget stage other a b)
 for_answer g form budget (over_budget stage) ready a b = absurd (never_both g form budget stage a b)
 for_answer g form budget ready long_file a b = absurd b
 for_answer g form budget ready (no_grammar line cause) a b = absurd b
-for_answer g form budget ready (no_form cause) a b = absurd (not_refused (input_count g) g.letters form a.u cause a.read b)
+for_answer g form budget ready (no_form cause) a b = absurd (not_refused (input_count g) g.letters form a.problem.form cause a.is_asked.form b)
 for_answer g form budget ready (over_budget stage) a b = absurd (never_both g form budget stage b a)
 for_answer g form budget ready ready a b = refl
 

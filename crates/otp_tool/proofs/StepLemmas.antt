@@ -46,6 +46,8 @@ use Rattle.otp_tool.specs.Steps.{IsEnd, IsMade, IsStep, Taking, end_of}
 use Rattle.form_reader.proofs.InputTiers.{less}
 use Rattle.otp_tool.proofs.GrammarLemmas.{same_kinds, same_tiers}
 use Rattle.otp_tool.proofs.ConstraintLemmas.{seen_vec}
+use Rattle.violation.specs.Problems.{Problem, asked}
+use Rattle.otp_tool.specs.Grammars.{IsAsked}
 
 -- ---- writing
 
@@ -90,41 +92,32 @@ module _ (g : Grammar) where
   -- ---- answers
 
   module _ (form : List ℕ) (budget : ℕ) where
-    read_seen : (u : List (List Sym)) → IsReadAs (length (tiers_of_table g.tiers).input) g.letters.items form u → IsReadAs (input_count (value_of g)) (value_of g).letters form u
-    read_seen u r = subst (λ (tiers : Tiers). IsReadAs (length tiers.input) g.letters.items form u) (sym (same_tiers g)) r
-
     pub no_form_for : (cause : FormErr) → IsRefusedFor (length (tiers_of_table g.tiers).input) g.letters.items form cause → FindsForAnswer (value_of g) form budget (no_form cause)
     no_form_for cause r = subst (λ (tiers : Tiers). IsRefusedFor (length tiers.input) g.letters.items form cause) (sym (same_tiers g)) r
 
-    pub over_for : (u : List (List Sym)) → IsReadAs (length (tiers_of_table g.tiers).input) g.letters.items form u
-        → (stage : ℕ) → IsFirstOver (tiers_of_table g.tiers) g.constraints.items u budget stage → FindsForAnswer (value_of g) form budget (over_budget stage)
-    over_for u r stage o = record {
-      u = u;
-      read = read_seen u r;
-      constraints = g.constraints.items;
-      are = refl;
-      over = subst (λ (tiers : Tiers). IsFirstOver tiers g.constraints.items u budget stage) (sym (same_tiers g)) o;
+    -- the grammar asks what is read of its word
+    pub asks : (u : List (List Sym)) → IsReadAs (length (tiers_of_table g.tiers).input) g.letters.items form u → IsAsked (value_of g) form (asked g.tiers g.constraints.items u)
+    asks u r = record {
+      tiers = sym (same_tiers g);
+      constraints = refl;
+      form = subst (λ (tiers : Tiers). IsReadAs (length tiers.input) g.letters.items form u) (sym (same_tiers g)) r;
     }
 
-    module _ (answer : Answer) (made : IsMade (tiers_of_table g.tiers) g.letters.items g.constraints.items form budget answer) where
-      pub made_ready : FindsForAnswer (value_of g) form budget ready
-      made_ready = record {
-        u = made.u;
-        read = read_seen made.u made.read;
-        constraints = g.constraints.items;
-        are = refl;
-        within = subst (λ (tiers : Tiers). AreAllWithin tiers g.constraints.items made.u budget) (sym (same_tiers g)) made.within;
-      }
+    pub over_for : (u : List (List Sym)) → IsReadAs (length (tiers_of_table g.tiers).input) g.letters.items form u
+        → (stage : ℕ) → IsFirstOver (asked g.tiers g.constraints.items u) budget stage → FindsForAnswer (value_of g) form budget (over_budget stage)
+    over_for u r stage o = record { problem = asked g.tiers g.constraints.items u; is_asked = asks u r; over = o }
 
-      pub made_right : (write : Tiers → List Constraint → Answer → List ℕ) (text : List ℕ) → text ≡ write (tiers_of_table g.tiers) g.constraints.items answer → IsOfRightAnswer write (value_of g) form text
+    module _ (answer : Answer) (made : IsMade g.tiers g.constraints.items (value_of g) form budget answer) where
+      pub made_ready : FindsForAnswer (value_of g) form budget ready
+      made_ready = record { problem = asked g.tiers g.constraints.items made.u; is_asked = made.is_asked; within = made.within }
+
+      pub made_right : (write : Problem → Answer → List ℕ) (text : List ℕ) → ((u : List (List Sym)) → text ≡ write (asked g.tiers g.constraints.items u) answer) → IsOfRightAnswer write (value_of g) form text
       made_right write text e = record {
-        u = made.u;
-        read = read_seen made.u made.read;
-        constraints = g.constraints.items;
-        are = refl;
+        problem = asked g.tiers g.constraints.items made.u;
+        is_asked = made.is_asked;
         answer = answer;
-        right = subst (λ (tiers : Tiers). IsRight tiers g.constraints.items made.u answer) (sym (same_tiers g)) made.right;
-        written = e ∙ ap (λ (tiers : Tiers). write tiers g.constraints.items answer) (sym (same_tiers g));
+        right = made.right;
+        written = e made.u;
       }
 
       pub stages_fit : (shape : Shape) → IsShapeOf g shape → length answer.stages.items ≤ length shape.phases.items
@@ -140,9 +133,9 @@ module _ (g : Grammar) where
       let second : Widths → List ℕ → Widths = λ w xs. record { free = w.free; stretches = xs } in
       ap (first a) e ∙ ap (second (first a b.free)) f
 
-  pub whole_written : (shape : Shape) → IsShapeOf g shape → (answer : Answer) → answer_text (widths_of shape) answer ≡ whole_text (tiers_of_table g.tiers) g.constraints.items answer
-  whole_written shape s answer =
+  pub whole_written : (shape : Shape) → IsShapeOf g shape → (answer : Answer) (u : List (List Sym)) → answer_text (widths_of shape) answer ≡ whole_text (asked g.tiers g.constraints.items u) answer
+  whole_written shape s answer u =
       ap (λ (w : Widths). answer_text w answer)
-      (same_widths (widths_of shape) (text_widths (tiers_of_table g.tiers) g.constraints.items)
+      (same_widths (widths_of shape) (text_widths (asked g.tiers g.constraints.items u))
       (ap (λ n. n - masked_count shape.inputs) s.width ∙ free_tiers g.tiers.kinds.items shape.inputs s.inputs)
       s.phases)

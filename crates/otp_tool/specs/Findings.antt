@@ -1,16 +1,16 @@
 -- What a command finds, from the file of its grammar on, before it writes.
 use Rattle.std.specs.Prelude.{◌≡◌, ℕ, ◌<◌, ◌≤◌, List, length, Err}
 use Rattle.tier_core.specs.declared.sym.Sym.{Sym}
-use Rattle.tier_core.specs.declared.constraint.Constraint.{Constraint}
 use Rattle.timeline_text.specs.declared.form_err.FormErr.{FormErr}
 use Rattle.grammar_reader.specs.declared.grammar_err.GrammarCause.{GrammarCause}
 use Rattle.grammar_reader.specs.Values.{GrammarValue}
 use Rattle.grammar_reader.specs.Reading.{grammar_of}
 use Rattle.ranked_gen.specs.Budgets.{AreAllWithin, IsFirstOver}
 use Rattle.command_words.specs.Commands.{Command, canon, score, generate, show}
-use Rattle.form_reader.specs.Forms.{IsReadAs, IsRefusedFor}
+use Rattle.form_reader.specs.Forms.{IsRefusedFor}
+use Rattle.violation.specs.Problems.{Problem}
 use Rattle.otp_tool.specs.Scored.{IsNotScored, IsScored}
-use Rattle.otp_tool.specs.Grammars.{AreOf, OnGrammar, input_count, tiers_of}
+use Rattle.otp_tool.specs.Grammars.{IsAsked, OnGrammar, input_count}
 
 pub data Finding : Type 0 where
   -- the file of the grammar is longer than its limit
@@ -26,19 +26,15 @@ pub data Finding : Type 0 where
 
 -- the word is a form, and a stage has more kinds than the budget
 pub record IsOverBudget (g : GrammarValue) (form : List ℕ) (budget stage : ℕ) : Type 0 where
-  pub u : List (List Sym)
-  pub read : IsReadAs (input_count g) g.letters form u
-  pub constraints : List Constraint
-  pub are : AreOf g constraints
-  pub over : IsFirstOver (tiers_of g) constraints u budget stage
+  pub problem : Problem
+  pub is_asked : IsAsked g form problem
+  pub over : IsFirstOver problem budget stage
 
 -- the word is a form, and no stage has more kinds than the budget
 pub record IsWithinBudget (g : GrammarValue) (form : List ℕ) (budget : ℕ) : Type 0 where
-  pub u : List (List Sym)
-  pub read : IsReadAs (input_count g) g.letters form u
-  pub constraints : List Constraint
-  pub are : AreOf g constraints
-  pub within : AreAllWithin (tiers_of g) constraints u budget
+  pub problem : Problem
+  pub is_asked : IsAsked g form problem
+  pub within : AreAllWithin problem budget
 
 -- what `canon` finds in a grammar
 abbrev pub FindsForCanon : Finding → Type 0

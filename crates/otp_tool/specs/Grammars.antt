@@ -1,11 +1,12 @@
 -- Files that are held, and the grammars that they tell.
 use Rattle.std.specs.Prelude.{◌≡◌, ℕ, ◌≤◌, List, length, map, Option, Some, None, Ok}
-use Rattle.tier_core.specs.declared.constraint.Constraint.{Constraint}
 use Rattle.tier_core.specs.declared.tier.TierKind.{TierKind}
 use Rattle.tier_core.specs.Tiers.{Tiers, tiers_by_kinds}
 use Rattle.grammar_reader.specs.Values.{GrammarValue}
 use Rattle.grammar_reader.specs.Reading.{grammar_of}
 use Rattle.grammar_reader.specs.Seen.{constraint_seen}
+use Rattle.violation.specs.Problems.{Problem}
+use Rattle.form_reader.specs.Forms.{IsReadAs}
 
 -- bytes are those that a shelf tells; where it tells nothing, they may be any
 abbrev pub IsHeld : Option (List ℕ) → List ℕ → Type 0
@@ -33,6 +34,9 @@ tiers_of g = tiers_by_kinds (kinds_of g)
 abbrev pub input_count : GrammarValue → ℕ
 input_count g = length (tiers_of g).input
 
--- the constraints are those of the grammar, in ranked order
-abbrev pub AreOf : GrammarValue → List Constraint → Type 0
-AreOf g constraints = map constraint_seen constraints ≡ g.constraints
+-- A problem is asked by a grammar and the word of a form: it has the grammar's tiers, constraints that
+-- are seen as the grammar's, in ranked order, and the form that the word is read as.
+pub record IsAsked (g : GrammarValue) (word : List ℕ) (problem : Problem) : Type 0 where
+  pub tiers : problem.tiers ≡ tiers_of g
+  pub constraints : map constraint_seen problem.constraints ≡ g.constraints
+  pub form : IsReadAs (input_count g) g.letters word problem.form

@@ -1,8 +1,6 @@
 -- What the commands write for a grammar.
 use Rattle.std.specs.Prelude.{◌≡◌, ℕ, List, map, length}
 use Rattle.tier_core.specs.declared.sym.Sym.{Sym}
-use Rattle.tier_core.specs.declared.constraint.Constraint.{Constraint}
-use Rattle.tier_core.specs.Tiers.{Tiers}
 use Rattle.grammar_reader.specs.Values.{GrammarValue}
 use Rattle.grammar_reader.specs.Canonical.{canonical}
 use Rattle.grammar_reader.specs.ShapeOf.{stretch_counts}
@@ -11,9 +9,9 @@ use Rattle.answer_text.specs.declared.answer.Answer.{Answer}
 use Rattle.answer_text.specs.Right.{IsRight}
 use Rattle.answer_text.specs.Text.{Widths, answer_text, counts_text, shown_text}
 use Rattle.command_words.specs.Commands.{Command, canon, score, generate, show}
-use Rattle.form_reader.specs.Forms.{IsReadAs}
+use Rattle.violation.specs.Problems.{Problem}
 use Rattle.otp_tool.specs.Scored.{IsScored}
-use Rattle.otp_tool.specs.Grammars.{AreOf, input_count, tiers_of}
+use Rattle.otp_tool.specs.Grammars.{IsAsked}
 
 -- the violation vector of a timeline: its violations of each constraint of the grammar, in ranked order
 abbrev pub vector_of : GrammarValue → List (List Sym) → List ℕ
@@ -26,26 +24,24 @@ pub record IsScoreText (g : GrammarValue) (word text : List ℕ) : Type 0 where
   pub written : text ≡ counts_text (vector_of g timeline)
 
 -- kinds are written over the free tiers, and over the stretch implications among the first r constraints at stage r
-abbrev pub text_widths : Tiers → List Constraint → Widths
-text_widths tiers constraints = record { free = length tiers.free; stretches = stretch_counts constraints }
+abbrev pub text_widths : Problem → Widths
+text_widths problem = record { free = length problem.tiers.free; stretches = stretch_counts problem.constraints }
 
 -- a text is what is written of a right answer for the grammar and the form that a word is read as
-pub record IsOfRightAnswer (write : Tiers → List Constraint → Answer → List ℕ) (g : GrammarValue) (form text : List ℕ) : Type 0 where
-  pub u : List (List Sym)
-  pub read : IsReadAs (input_count g) g.letters form u
-  pub constraints : List Constraint
-  pub are : AreOf g constraints
+pub record IsOfRightAnswer (write : Problem → Answer → List ℕ) (g : GrammarValue) (form text : List ℕ) : Type 0 where
+  pub problem : Problem
+  pub is_asked : IsAsked g form problem
   pub answer : Answer
-  pub right : IsRight (tiers_of g) constraints u answer
-  pub written : text ≡ write (tiers_of g) constraints answer
+  pub right : IsRight problem answer
+  pub written : text ≡ write problem answer
 
 -- the whole text of an answer
-abbrev pub whole_text : Tiers → List Constraint → Answer → List ℕ
-whole_text tiers constraints answer = answer_text (text_widths tiers constraints) answer
+abbrev pub whole_text : Problem → Answer → List ℕ
+whole_text problem answer = answer_text (text_widths problem) answer
 
 -- its lines `counts` and `example`
-abbrev pub short_text : Tiers → List Constraint → Answer → List ℕ
-short_text tiers constraints answer = shown_text answer
+abbrev pub short_text : Problem → Answer → List ℕ
+short_text problem answer = shown_text answer
 
 -- A text is what a command writes for a grammar.
 abbrev pub IsResult : Command → GrammarValue → List ℕ → Type 0

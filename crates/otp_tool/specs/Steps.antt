@@ -6,8 +6,8 @@ use Rattle.outside.specs.declared.sink.WriteErr.TheVariants.{Failed, NoMemory as
 use Rattle.outside.specs.Sent.{appended, HasSentPart}
 use Rattle.tier_core.specs.declared.sym.Sym.{Sym}
 use Rattle.tier_core.specs.declared.constraint.Constraint.{Constraint}
-use Rattle.tier_core.specs.Tiers.{Tiers}
-use Rattle.timeline_text.specs.declared.letter.Letter.{Letter}
+use Rattle.tier_core.specs.declared.tier.TierTable.{TierTable}
+use Rattle.violation.specs.Problems.{asked}
 use Rattle.answer_text.specs.declared.answer.Answer.{Answer}
 use Rattle.answer_text.specs.Right.{IsRight}
 use Rattle.ranked_gen.specs.Budgets.{AreAllWithin}
@@ -18,8 +18,7 @@ use Rattle.grammar_reader.specs.Reading.{grammar_of}
 use Rattle.command_words.specs.Commands.{Command, IsCommand, IsNoCommand, canon, score, generate, show}
 use Rattle.status_lines.specs.declared.status.Status.{Status}
 use Rattle.status_lines.specs.declared.status.Status.TheVariants.{Done, Usage, GrammarRefused, FormRefused, Budget, ReadFault, WriteFault, NoMemory, TooLong}
-use Rattle.form_reader.specs.Forms.{IsReadAs}
-use Rattle.otp_tool.specs.Grammars.{IsHeld, IsFileOf}
+use Rattle.otp_tool.specs.Grammars.{IsHeld, IsFileOf, IsAsked}
 use Rattle.otp_tool.specs.Findings.{Finding, long_file, no_grammar, no_form, over_budget, ready}
 use Rattle.otp_tool.specs.Outcomes.{IsBehind, IsWrittenBehind, HasReadFault}
 
@@ -67,11 +66,11 @@ IsRefusal finds NoMemory = Unit {0}
 IsRefusal finds (TooLong word) = ⊥
 
 -- an answer is right for the form that a word is read as, and no stage has more kinds than the budget
-pub record IsMade (tiers : Tiers) (letters : List Letter) (constraints : List Constraint) (form : List ℕ) (budget : ℕ) (answer : Answer) : Type 0 where
+pub record IsMade (table : TierTable) (constraints : List Constraint) (g : GrammarValue) (form : List ℕ) (budget : ℕ) (answer : Answer) : Type 0 where
   pub u : List (List Sym)
-  pub read : IsReadAs (length tiers.input) letters form u
-  pub right : IsRight tiers constraints u answer
-  pub within : AreAllWithin tiers constraints u budget
+  pub is_asked : IsAsked g form (asked table constraints u)
+  pub right : IsRight (asked table constraints u) answer
+  pub within : AreAllWithin (asked table constraints u) budget
 
 -- what a sink has taken, and its faults, before and after
 pub record Taking : Type 0 where

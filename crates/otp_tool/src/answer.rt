@@ -1,5 +1,4 @@
 ghost use Rattle.std.specs.Prelude.{◌≡◌, ◌≤◌, IfOk, IfErr};
-ghost use Rattle.tier_core.specs.Tables.{tiers_of_table};
 ghost use Rattle.grammar_reader.specs.Grammars.{value_of};
 ghost use Rattle.otp_tool.specs.Findings.{FindsForAnswer};
 ghost use Rattle.otp_tool.specs.Steps.{IsMade, IsRefusal};
@@ -21,7 +20,7 @@ pub(crate) fn make_answer(
 ) -> Result<Answer, Status>
     requires some { 1 ≤ budget }
     requires few { budget ≤ 65536 }
-    ensures ok { IfOk result (IsMade (tiers_of_table grammar.now.tiers) grammar.now.letters.items grammar.now.constraints.items word.now budget) }
+    ensures ok { IfOk result (IsMade grammar.now.tiers grammar.now.constraints.items (value_of grammar.now) word.now budget) }
     ensures err { IfErr result (IsRefusal (FindsForAnswer (value_of grammar.now) word.now budget)) }
 {
     let form = match read_form(alloc, grammar, word.as_bytes()) {

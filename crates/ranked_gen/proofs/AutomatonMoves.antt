@@ -21,12 +21,13 @@ use Rattle.ranked_gen.specs.Arcs.{moves_from}
 use Rattle.ranked_gen.specs.Listed.{kind_count, arc_view, move_view, AreNumbered}
 use Rattle.ranked_gen.proofs.NumberLemmas.{length-flags_of, number-lt}
 use Rattle.ranked_gen.proofs.MemberLemmas.{contains_none, contains_first, contains_later, contains_cases}
+use Rattle.violation.specs.Problems.{last_place, Problem}
 
 -- the line of the kind of a number
-pub record IsLineNumbered (tiers : Tiers) (u : List (List Sym)) (n : ℕ) (line : StateLine) : Type 0 where
+pub record IsLineNumbered (problem : Problem) (n : ℕ) (line : StateLine) : Type 0 where
   pub node : line.node ≡ n
-  pub final : line.accepting ≡ is_final u (kind_numbered (length tiers.free) n)
-  pub arcs : map arc_view line.arcs.items ≡ map move_view (moves_from tiers u (kind_numbered (length tiers.free) n))
+  pub final : line.accepting ≡ is_final problem (kind_numbered (length problem.tiers.free) n)
+  pub arcs : map arc_view line.arcs.items ≡ map move_view (moves_from problem (kind_numbered (length problem.tiers.free) n))
 
 -- elements that are numbered, by member and by number
 pub numbered_member : {X : Type 0} (P : ℕ → X → Type 0) (n : ℕ) (xs : List X) (x : X) → AreNumbered P n xs → Contains xs x → (i : ℕ) × ((i < n + length xs) × P i x)
@@ -49,55 +50,55 @@ no_flags [] = refl
 no_flags (t ∷ ts) = omega (arith, no_flags ts)
 
 -- a kind that the numbers tell: its place is in the form, and it has a flag for each free tier
-pub record IsWithin (tiers : Tiers) (u : List (List Sym)) (k : PrefixKind) : Type 0 where
-  pub place : k.place ≤ length u
-  pub flags : length k.opened ≡ length tiers.free
+pub record IsWithin (problem : Problem) (k : PrefixKind) : Type 0 where
+  pub place : k.place ≤ last_place problem
+  pub flags : length k.opened ≡ length problem.tiers.free
   pub phases : k.phases ≡ []
 
-pub number_within : (tiers : Tiers) (u : List (List Sym)) (k : PrefixKind) → IsWithin tiers u k → number_of_kind (length tiers.free) k < kind_count tiers u
-number_within tiers u k w =
-    let size = 2 ^ length tiers.free in
+pub number_within : (problem : Problem) (k : PrefixKind) → IsWithin problem k → number_of_kind (length problem.tiers.free) k < kind_count problem
+number_within problem k w =
+    let size = 2 ^ length problem.tiers.free in
     let below : number_of_flags k.opened < size = omega (arith, number-lt k.opened, ap (λ n. 2 ^ n) w.flags) in
-    let places : k.place * size ≤ length u * size = mul-le-mul_right size w.place in
+    let places : k.place * size ≤ last_place problem * size = mul-le-mul_right size w.place in
     omega (arith, below, places)
 
-pub numbered_within : (tiers : Tiers) (u : List (List Sym)) (i : ℕ) → i < kind_count tiers u → IsWithin tiers u (kind_numbered (length tiers.free) i)
-numbered_within tiers u i l = record {
-  place = let below : i / 2 ^ length tiers.free < length u + 1 = div_below i (2 ^ length tiers.free) (length u + 1) (pow_pos (length tiers.free)) l in omega arith;
-  flags = length-flags_of (length tiers.free) i;
+pub numbered_within : (problem : Problem) (i : ℕ) → i < kind_count problem → IsWithin problem (kind_numbered (length problem.tiers.free) i)
+numbered_within problem i l = record {
+  place = let below : i / 2 ^ length problem.tiers.free < last_place problem + 1 = div_below i (2 ^ length problem.tiers.free) (last_place problem + 1) (pow_pos (length problem.tiers.free)) l in omega arith;
+  flags = length-flags_of (length problem.tiers.free) i;
   phases = refl;
 }
 
-module _ (tiers : Tiers) (split : AreSplit tiers) (u : List (List Sym)) where
+module _ (problem : Problem) (split : AreSplit problem.tiers) where
   -- a move stays within
-  pub moved_within : (k : PrefixKind) (column : List Sym) → FitsKind tiers u k column → k.place ≤ length u → IsWithin tiers u (moved tiers [] 0 k column)
+  pub moved_within : (k : PrefixKind) (column : List Sym) → FitsKind problem k column → k.place ≤ last_place problem → IsWithin problem (moved problem 0 k column)
   moved_within k column fit l = record {
-    place = go (has_edge (input_of tiers column)) refl fit.input;
-    flags = length-map tiers.free (λ t. opens (symbol column t));
+    place = go (has_edge (input_of problem.tiers column)) refl fit.input;
+    flags = length-map problem.tiers.free (λ t. opens (symbol column t));
     phases = refl;
   }
     where
-      go : (b : Bool) → has_edge (input_of tiers column) ≡ b → (has_edge (input_of tiers column) ≡ false) ⊎ ((k.place < length u) × (input_of tiers column ≡ column_at u k.place)) → k.place + cond b 1 0 ≤ length u
+      go : (b : Bool) → has_edge (input_of problem.tiers column) ≡ b → (has_edge (input_of problem.tiers column) ≡ false) ⊎ ((k.place < last_place problem) × (input_of problem.tiers column ≡ column_at problem.form k.place)) → k.place + cond b 1 0 ≤ last_place problem
       go true e (inl none) = absurd (false≢true (sym none ∙ e))
       go true e (inr next) = omega (arith, next.0)
       go false e other = omega arith
 
   -- the kind of the empty prefix is the first
-  pub start_within : IsWithin tiers u (kind_of tiers [] 0 [])
-  start_within = record { place = omega arith; flags = length-map tiers.free (λ t. is_open (word [] t)); phases = refl }
+  pub start_within : IsWithin problem (kind_of problem 0 [])
+  start_within = record { place = omega arith; flags = length-map problem.tiers.free (λ t. is_open (word [] t)); phases = refl }
 
-  pub start_number : number_of_kind (length tiers.free) (kind_of tiers [] 0 []) ≡ 0
-  start_number = none tiers.free
+  pub start_number : number_of_kind (length problem.tiers.free) (kind_of problem 0 []) ≡ 0
+  start_number = none problem.tiers.free
     where
-      none : (ts : List ℕ) → 0 * 2 ^ length tiers.free + number_of_flags (map (λ t. is_open (word [] t)) ts) ≡ 0
+      none : (ts : List ℕ) → 0 * 2 ^ length problem.tiers.free + number_of_flags (map (λ t. is_open (word [] t)) ts) ≡ 0
       none ts = omega (arith, no_flags ts)
 
-  pub reached_within : (k : PrefixKind) (T : List (List Sym)) → IsWithin tiers u k → HasMoves tiers [] 0 u k T → IsWithin tiers u (reached tiers [] 0 k T)
+  pub reached_within : (k : PrefixKind) (T : List (List Sym)) → IsWithin problem k → HasMoves problem 0 k T → IsWithin problem (reached problem 0 k T)
   reached_within k [] w h = w
-  reached_within k (column ∷ T) w h = reached_within (moved tiers [] 0 k column) T (moved_within k column h.0 w.place) h.1
+  reached_within k (column ∷ T) w h = reached_within (moved problem 0 k column) T (moved_within k column h.0 w.place) h.1
 
   -- the kind of a prefix of a candidate is within
-  pub kind_within : IsForm tiers u → (p : List (List Sym)) → BeginsCandidate tiers u p → IsWithin tiers u (kind_of tiers [] 0 p)
+  pub kind_within : IsForm problem.tiers problem.form → (p : List (List Sym)) → BeginsCandidate problem p → IsWithin problem (kind_of problem 0 p)
   kind_within form p b =
-      let walk = (moves_begin tiers [] 0 u split form tt p).1 b in
-      subst (IsWithin tiers u) (reached_is tiers [] 0 u split form tt p walk) (reached_within (kind_of tiers [] 0 []) p start_within walk)
+      let walk = (moves_begin problem 0 split form tt p).1 b in
+      subst (IsWithin problem) (reached_is problem 0 split form tt p walk) (reached_within (kind_of problem 0 []) p start_within walk)

@@ -9,22 +9,19 @@ use Rattle.violation.specs.Candidates.{IsCandidate, IsOptimalFor}
 use Rattle.violation.specs.Conditions.{AreSplit}
 use Rattle.ranked_gen.specs.WideColumns.{widened}
 use Rattle.ranked_gen.proofs.WidenedColumns.{all_mapped, length_over, over_runs, over_reduced, squeeze_over}
+use Rattle.violation.specs.Problems.{Problem}
 
 -- the form with no constituent on the free tiers
 abbrev pub bare_form : Tiers → List (List Sym) → List (List Sym)
 bare_form tiers u = map (widened tiers) u
 
 -- The bare form is a candidate.
-pub bare_candidate : (tiers : Tiers) (u : List (List Sym)) → AreSplit tiers → IsWellFormed (length tiers.input) u → IsReduced u → IsCandidate tiers u (bare_form tiers u)
-bare_candidate tiers u split wf reduced = record {
+pub bare_candidate : (problem : Problem) → AreSplit problem.tiers → IsWellFormed (length problem.tiers.input) problem.form → IsReduced problem.form → IsCandidate problem (bare_form problem.tiers problem.form)
+bare_candidate problem split wf reduced = record {
   well_formed = record {
-    one_width = all_mapped _ (widened tiers) u (length_over tiers (λ t. false) Outside);
-    each_tier = λ t l. well_formed_from_runs (word (bare_form tiers u) t) (over_runs tiers (λ t. false) Outside split (λ t c. refl) u t wf l refl);
+    one_width = all_mapped _ (widened problem.tiers) problem.form (length_over problem.tiers (λ t. false) Outside);
+    each_tier = λ t l. well_formed_from_runs (word (bare_form problem.tiers problem.form) t) (over_runs problem.tiers (λ t. false) Outside split (λ t c. refl) problem.form t wf l refl);
   };
-  reduced = over_reduced tiers (λ t. false) Outside split (λ t c. refl) u wf.one_width reduced;
-  input = squeeze_over tiers (λ t. false) Outside split (λ t c. refl) u wf.one_width reduced;
+  reduced = over_reduced problem.tiers (λ t. false) Outside split (λ t c. refl) problem.form wf.one_width reduced;
+  input = squeeze_over problem.tiers (λ t. false) Outside split (λ t c. refl) problem.form wf.one_width reduced;
 }
-
--- where no constraint is ranked each candidate is optimal
-pub all_optimal : (tiers : Tiers) (u T : List (List Sym)) → IsCandidate tiers u T → IsOptimalFor tiers [] u 0 T
-all_optimal tiers u T c = record { candidate = c; least = λ U d. refl }

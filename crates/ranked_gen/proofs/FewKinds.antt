@@ -14,6 +14,7 @@ use Rattle.violation.specs.Stages.{IsKindOfStage, AreKindsOfStage}
 use Rattle.ranked_gen.proofs.MemberLemmas.{all_from_members, all_at_member}
 use Rattle.ranked_gen.proofs.Ascending.{Ascends, ascends_from}
 use Rattle.ranked_gen.proofs.StageKinds.{kind_not_below}
+use Rattle.violation.specs.Problems.{Problem}
 
 -- no member is the same as a later one
 abbrev pub Differ : {X : Type 0} → List X → Type 0
@@ -63,6 +64,6 @@ ascending_differ (k ∷ ks) a = (
 )
 
 -- a stage has no more kinds than there are names, where all its kinds are names
-pub stage_few : (tiers : Tiers) (constraints : List Constraint) (u : List (List Sym)) (r : ℕ) (names : List PrefixKind) → ((k : PrefixKind) → IsKindOfStage tiers constraints u r k → Contains names k)
-    → (ks : List PrefixKind) → AreKindsOfStage tiers constraints u r ks → length ks ≤ length names
-stage_few tiers constraints u r names all ks a = no_longer names ks (λ k c. all k ((a.members k).0 c)) (ascending_differ ks (ascends_from kind_order ks a.ascending))
+pub stage_few : (problem : Problem) (r : ℕ) (names : List PrefixKind) → ((k : PrefixKind) → IsKindOfStage problem r k → Contains names k)
+    → (ks : List PrefixKind) → AreKindsOfStage problem r ks → length ks ≤ length names
+stage_few problem r names all ks a = no_longer names ks (λ k c. all k ((a.members k).0 c)) (ascending_differ ks (ascends_from kind_order ks a.ascending))

@@ -15,6 +15,7 @@ use Rattle.tier_core.specs.Kinds.{closed, PrefixKind, open_rank, phase_rank, kin
 use Rattle.violation.specs.Conditions.{IsOverTiers}
 use Rattle.violation.specs.Prefixes.{is_open, phase, kind_of, stretches}
 use Rattle.ranked_gen.proofs.MoveList.{nat_less}
+use Rattle.violation.specs.Problems.{Problem}
 
 less_none : Equal ≡ Less → ⊥
 less_none e = false≢true (ap is_lt e)
@@ -55,21 +56,21 @@ none_met width [] h = tt
 none_met width (c ∷ cs) h = (ap phase_rank (closed_first width c h.0), none_met width cs h.1)
 
 -- No kind with as many flags and phases comes before that of the empty prefix.
-pub none_before : (tiers : Tiers) (constraints : List Constraint) (r : ℕ) (k : PrefixKind) → AllByRecursion (IsOverTiers tiers.width) (stretches constraints r) → length k.opened ≡ length tiers.free → length k.phases ≡ length (stretches constraints r)
-    → kind_order k (kind_of tiers constraints r []) ≡ Less → ⊥
-none_before tiers constraints r k over flags phases e =
-    let first = kind_of tiers constraints r [] in
+pub none_before : (problem : Problem) (r : ℕ) (k : PrefixKind) → AllByRecursion (IsOverTiers problem.tiers.width) (stretches problem r) → length k.opened ≡ length problem.tiers.free → length k.phases ≡ length (stretches problem r)
+    → kind_order k (kind_of problem r []) ≡ Less → ⊥
+none_before problem r k over flags phases e =
+    let first = kind_of problem r [] in
     let a = length-map k.opened open_rank in
     let b = length-map first.opened open_rank in
-    let c = length-map tiers.free (λ t. is_open (word [] t)) in
+    let c = length-map problem.tiers.free (λ t. is_open (word [] t)) in
     let d = length-map k.phases phase_rank in
     let f = length-map first.phases phase_rank in
-    let g = length-map (stretches constraints r) (λ c. phase c.left c.right []) in
+    let g = length-map (stretches problem r) (λ c. phase c.left c.right []) in
     let opened = slice_cmp nat_cmp (map open_rank k.opened) (map open_rank first.opened) in
     let later = slice_cmp nat_cmp (map phase_rank k.phases) (map phase_rank first.phases) in
     two_less (nat_cmp k.place 0) (ordering_then opened later)
     (below_zero k.place)
     (two_less opened later
-    (below_zeros (map open_rank k.opened) (map open_rank first.opened) (a ∙ flags ∙ sym c ∙ sym b) (none_open tiers.free))
-    (below_zeros (map phase_rank k.phases) (map phase_rank first.phases) (d ∙ phases ∙ sym g ∙ sym f) (none_met tiers.width (stretches constraints r) over)))
+    (below_zeros (map open_rank k.opened) (map open_rank first.opened) (a ∙ flags ∙ sym c ∙ sym b) (none_open problem.tiers.free))
+    (below_zeros (map phase_rank k.phases) (map phase_rank first.phases) (d ∙ phases ∙ sym g ∙ sym f) (none_met problem.tiers.width (stretches problem r) over)))
     e

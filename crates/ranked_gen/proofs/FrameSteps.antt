@@ -32,6 +32,8 @@ use Rattle.ranked_gen.proofs.NumberLemmas.{flags_of-low}
 use Rattle.ranked_gen.proofs.NumberedKinds.{free_distinct}
 use Rattle.ranked_gen.proofs.MoveList.{Move, listed_moves}
 use Rattle.ranked_gen.proofs.MoveSteps.{picked_between}
+use Rattle.violation.specs.Problems.{last_place}
+use Rattle.kind_moves.specs.Frames.{problem_in}
 
 -- what agrees on the members of a list
 members_agree : {X Y : Type 0} (f h : X → Y) (xs : List X) → ((x : X) → Contains xs x → f x ≡ h x) → map f xs ≡ map h xs
@@ -93,7 +95,7 @@ column_of_set tiers given opened o column l c =
     contains_flat (λ o. columns_between tiers given opened (flags_of (length tiers.free) o)) (range_with_len 0 (2 ^ length tiers.free)) o column (range_has 0 (2 ^ length tiers.free) o (omega arith) (omega arith)) c
 
 -- a kind by its number fits the frame
-pub numbered_fits : (frame : Frame) (kind : Kind) (free n : ℕ) → free ≡ length (tiers_in frame).free → IsKindNumbered free n kind → kind.place ≤ length (form_in frame) → FitsFrame frame 0 kind
+pub numbered_fits : (frame : Frame) (kind : Kind) (free n : ℕ) → free ≡ length (tiers_in frame).free → IsKindNumbered free n kind → kind.place ≤ last_place (problem_in frame) → FitsFrame frame 0 kind
 numbered_fits frame kind free n count k l = record {
   place = l;
   opened = subst (λ f. kind.opened < 2 ^ f) count k.within;
@@ -134,21 +136,21 @@ module _ (frame : Frame) (form : IsForm (tiers_in frame) (form_in frame)) (kind 
 
   stay_listed : (m : Move) → Contains (moves_with (tiers_in frame) (staying (tiers_in frame) (form_in frame) kind.place) (kind_at_stage frame 0 kind).opened (kind.place * 2 ^ length (tiers_in frame).free)) m
       → FitsAt frame 0 kind m.1 × (m.0 ≡ number_after frame kind m.1)
-  stay_listed m c = listed_moves (tiers_in frame) (tiers_split frame.grammar.now.tiers.kinds.items) (free_distinct frame.grammar.now.tiers.kinds.items) (form_in frame) form (kind_at_stage frame 0 kind) m (Contains-append_left _ _ m c)
+  stay_listed m c = listed_moves (problem_in frame) (tiers_split frame.grammar.now.tiers.kinds.items) (free_distinct frame.grammar.now.tiers.kinds.items) form (kind_at_stage frame 0 kind) m (Contains-append_left _ _ m c)
 
-  next_listed : kind.place < length (form_in frame) → (m : Move) → Contains (moves_with (tiers_in frame) (column_at (form_in frame) kind.place) (kind_at_stage frame 0 kind).opened ((kind.place + 1) * 2 ^ length (tiers_in frame).free)) m
+  next_listed : kind.place < last_place (problem_in frame) → (m : Move) → Contains (moves_with (tiers_in frame) (column_at (form_in frame) kind.place) (kind_at_stage frame 0 kind).opened ((kind.place + 1) * 2 ^ length (tiers_in frame).free)) m
       → FitsAt frame 0 kind m.1 × (m.0 ≡ number_after frame kind m.1)
-  next_listed l m c = listed_moves (tiers_in frame) (tiers_split frame.grammar.now.tiers.kinds.items) (free_distinct frame.grammar.now.tiers.kinds.items) (form_in frame) form (kind_at_stage frame 0 kind) m
-      (Contains-append_right _ _ m (subst (λ b. Contains (cond b (moves_with (tiers_in frame) (column_at (form_in frame) kind.place) (kind_at_stage frame 0 kind).opened ((kind.place + 1) * 2 ^ length (tiers_in frame).free)) []) m) (sym (lt-ltb kind.place (length (form_in frame)) l)) c))
+  next_listed l m c = listed_moves (problem_in frame) (tiers_split frame.grammar.now.tiers.kinds.items) (free_distinct frame.grammar.now.tiers.kinds.items) form (kind_at_stage frame 0 kind) m
+      (Contains-append_right _ _ m (subst (λ b. Contains (cond b (moves_with (tiers_in frame) (column_at (form_in frame) kind.place) (kind_at_stage frame 0 kind).opened ((kind.place + 1) * 2 ^ length (tiers_in frame).free)) []) m) (sym (lt-ltb kind.place (last_place (problem_in frame)) l)) c))
 
   pub stay_fit : AllFit frame kind (columns_from (tiers_in frame) (staying (tiers_in frame) (form_in frame) kind.place) (kind_at_stage frame 0 kind).opened)
   stay_fit column c = let m = column_move _ _ (kind.place * 2 ^ length (tiers_in frame).free) column c in (stay_listed (m.0, column) m.1).0
 
-  pub next_fit : kind.place < length (form_in frame) → AllFit frame kind (columns_from (tiers_in frame) (column_at (form_in frame) kind.place) (kind_at_stage frame 0 kind).opened)
+  pub next_fit : kind.place < last_place (problem_in frame) → AllFit frame kind (columns_from (tiers_in frame) (column_at (form_in frame) kind.place) (kind_at_stage frame 0 kind).opened)
   next_fit l column c = let m = column_move _ _ ((kind.place + 1) * 2 ^ length (tiers_in frame).free) column c in (next_listed l (m.0, column) m.1).0
 
-  pub arcs_end : (view : List (ℕ × List ℕ)) → view ≡ [] ++ map (arc_by frame kind) (columns_from (tiers_in frame) (staying (tiers_in frame) (form_in frame) kind.place) (kind_at_stage frame 0 kind).opened) → length (form_in frame) ≤ kind.place
-      → view ≡ map move_view (moves_from (tiers_in frame) (form_in frame) (kind_at_stage frame 0 kind))
+  pub arcs_end : (view : List (ℕ × List ℕ)) → view ≡ [] ++ map (arc_by frame kind) (columns_from (tiers_in frame) (staying (tiers_in frame) (form_in frame) kind.place) (kind_at_stage frame 0 kind).opened) → last_place (problem_in frame) ≤ kind.place
+      → view ≡ map move_view (moves_from (problem_in frame) (kind_at_stage frame 0 kind))
   arcs_end view e l =
       let tiers = tiers_in frame in
       let u = form_in frame in
@@ -159,8 +161,8 @@ module _ (frame : Frame) (form : IsForm (tiers_in frame) (form_in frame)) (kind 
       ∙ ap (map move_view) (sym (append-nil stay) ∙ ap (λ b. stay ++ cond b on []) (sym (le-ltb kind.place (length u) l)))
 
   pub arcs_on : (view now : List (ℕ × List ℕ)) → now ≡ [] ++ map (arc_by frame kind) (columns_from (tiers_in frame) (staying (tiers_in frame) (form_in frame) kind.place) (kind_at_stage frame 0 kind).opened)
-      → view ≡ now ++ map (arc_by frame kind) (columns_from (tiers_in frame) (column_at (form_in frame) kind.place) (kind_at_stage frame 0 kind).opened) → kind.place < length (form_in frame)
-      → view ≡ map move_view (moves_from (tiers_in frame) (form_in frame) (kind_at_stage frame 0 kind))
+      → view ≡ now ++ map (arc_by frame kind) (columns_from (tiers_in frame) (column_at (form_in frame) kind.place) (kind_at_stage frame 0 kind).opened) → kind.place < last_place (problem_in frame)
+      → view ≡ map move_view (moves_from (problem_in frame) (kind_at_stage frame 0 kind))
   arcs_on view now e g l =
       let tiers = tiers_in frame in
       let u = form_in frame in

@@ -37,4 +37,3 @@ pub mod SortedKinds
 pub mod OverBudget
 pub mod NextStage
 pub mod RankedSteps
-pub mod StageZero

@@ -31,6 +31,7 @@ use Rattle.ranked_gen.proofs.ChoiceLemmas.{AllAscend, choices_ascend}
 use Rattle.ranked_gen.proofs.SymbolLemmas.{between_ascends}
 use Rattle.ranked_gen.proofs.MoveMembers.{IsBetween, flags_on, between_of, of_between}
 use Rattle.ranked_gen.proofs.MoveFits.{stays, advances, staying_fits, advancing_fits}
+use Rattle.violation.specs.Problems.{last_place, Problem}
 
 -- a move of a list: the number of its target, with its column
 abbrev pub Move : Type 0
@@ -113,85 +114,85 @@ module _ (tiers : Tiers) (split : AreSplit tiers) (distinct : AreDistinct tiers.
       let below : m.0 < n.0 = omega (arith, nat_less o p l, ap (λ (x : Move). x.0) r.1.1, ap (λ (x : Move). x.0) s.1.1) in
       ap (λ x. ordering_then x (slice_cmp sym_cmp m.1 n.1)) (sym (nat_cmp_is m.0 n.0 Less below)))
 
-module _ (tiers : Tiers) (split : AreSplit tiers) (distinct : AreDistinct tiers.free) (u : List (List Sym)) (form : IsForm tiers u) where
-  place_number : (k : PrefixKind) (column : List Sym) (b : Bool) → has_edge (input_of tiers column) ≡ b
-      → number_of_kind (length tiers.free) (moved tiers [] 0 k column) ≡ (k.place + cond b 1 0) * 2 ^ length tiers.free + number_of_flags (map (λ t. opens (symbol column t)) tiers.free)
-  place_number k column b e = ap (λ c. (k.place + cond c 1 0) * 2 ^ length tiers.free + number_of_flags (map (λ t. opens (symbol column t)) tiers.free)) e
+module _ (problem : Problem) (split : AreSplit problem.tiers) (distinct : AreDistinct problem.tiers.free) (form : IsForm problem.tiers problem.form) where
+  place_number : (k : PrefixKind) (column : List Sym) (b : Bool) → has_edge (input_of problem.tiers column) ≡ b
+      → number_of_kind (length problem.tiers.free) (moved problem 0 k column) ≡ (k.place + cond b 1 0) * 2 ^ length problem.tiers.free + number_of_flags (map (λ t. opens (symbol column t)) problem.tiers.free)
+  place_number k column b e = ap (λ c. (k.place + cond c 1 0) * 2 ^ length problem.tiers.free + number_of_flags (map (λ t. opens (symbol column t)) problem.tiers.free)) e
 
-  form_edge : (place : ℕ) → place < length u → has_edge (column_at u place) ≡ true
-  form_edge place l = All-from_recursion (λ column. IsTrue (has_edge column)) u form.reduced place [] l
+  form_edge : (place : ℕ) → place < last_place problem → has_edge (column_at problem.form place) ≡ true
+  form_edge place l = All-from_recursion (λ column. IsTrue (has_edge column)) problem.form form.reduced place [] l
 
   -- a move that is listed is a move of kinds
-  pub listed_moves : (k : PrefixKind) (m : Move) → Contains (moves_from tiers u k) m → FitsKind tiers u k m.1 × (m.0 ≡ number_of_kind (length tiers.free) (moved tiers [] 0 k m.1))
-  listed_moves k m c = ⊎_elim stay (λ d. go (nat_lt k.place (length u)) refl d) (Contains-append_cases _ _ m c)
+  pub listed_moves : (k : PrefixKind) (m : Move) → Contains (moves_from problem k) m → FitsKind problem k m.1 × (m.0 ≡ number_of_kind (length problem.tiers.free) (moved problem 0 k m.1))
+  listed_moves k m c = ⊎_elim stay (λ d. go (nat_lt k.place (last_place problem)) refl d) (Contains-append_cases _ _ m c)
     where
       f : ℕ
-      f = length tiers.free
+      f = length problem.tiers.free
 
-      stay : Contains (moves_with tiers (staying tiers u k.place) k.opened (k.place * 2 ^ f)) m → FitsKind tiers u k m.1 × (m.0 ≡ number_of_kind f (moved tiers [] 0 k m.1))
+      stay : Contains (moves_with problem.tiers (staying problem.tiers problem.form k.place) k.opened (k.place * 2 ^ f)) m → FitsKind problem k m.1 × (m.0 ≡ number_of_kind f (moved problem 0 k m.1))
       stay d =
-          let r = of_moves_with tiers split distinct (staying tiers u k.place) k.opened (k.place * 2 ^ f) m d in
-          let fit = stays tiers split u form k (flags_of f r.0) m.1 r.1.1.0 in
+          let r = of_moves_with problem.tiers split distinct (staying problem.tiers problem.form k.place) k.opened (k.place * 2 ^ f) m d in
+          let fit = stays problem split form k (flags_of f r.0) m.1 r.1.1.0 in
           let place : k.place ≡ k.place + 0 = omega arith in (
             fit.0,
             r.1.1.1 ∙ ap (λ p. p * 2 ^ f + r.0) place
-                ∙ ap (λ n. (k.place + 0) * 2 ^ f + n) (sym (flags_left tiers split distinct (staying tiers u k.place) k.opened r.0 m.1 r.1.0 r.1.1.0))
+                ∙ ap (λ n. (k.place + 0) * 2 ^ f + n) (sym (flags_left problem.tiers split distinct (staying problem.tiers problem.form k.place) k.opened r.0 m.1 r.1.0 r.1.1.0))
                 ∙ sym (place_number k m.1 false fit.1),
           )
 
-      go : (b : Bool) → nat_lt k.place (length u) ≡ b → Contains (cond b (moves_with tiers (column_at u k.place) k.opened ((k.place + 1) * 2 ^ f)) []) m → FitsKind tiers u k m.1 × (m.0 ≡ number_of_kind f (moved tiers [] 0 k m.1))
+      go : (b : Bool) → nat_lt k.place (last_place problem) ≡ b → Contains (cond b (moves_with problem.tiers (column_at problem.form k.place) k.opened ((k.place + 1) * 2 ^ f)) []) m → FitsKind problem k m.1 × (m.0 ≡ number_of_kind f (moved problem 0 k m.1))
       go true e d =
-          let r = of_moves_with tiers split distinct (column_at u k.place) k.opened ((k.place + 1) * 2 ^ f) m d in
-          let l : k.place < length u = ltb-true k.place (length u) e in
-          let fit = advances tiers split u form k (flags_of f r.0) m.1 l r.1.1.0 in (
+          let r = of_moves_with problem.tiers split distinct (column_at problem.form k.place) k.opened ((k.place + 1) * 2 ^ f) m d in
+          let l : k.place < last_place problem = ltb-true k.place (last_place problem) e in
+          let fit = advances problem split form k (flags_of f r.0) m.1 l r.1.1.0 in (
             fit.0,
             r.1.1.1
-                ∙ ap (λ n. (k.place + 1) * 2 ^ f + n) (sym (flags_left tiers split distinct (column_at u k.place) k.opened r.0 m.1 r.1.0 r.1.1.0))
+                ∙ ap (λ n. (k.place + 1) * 2 ^ f + n) (sym (flags_left problem.tiers split distinct (column_at problem.form k.place) k.opened r.0 m.1 r.1.0 r.1.1.0))
                 ∙ sym (place_number k m.1 true (ap has_edge fit.1 ∙ form_edge k.place l)),
           )
       go false e d = absurd (contains_none m d)
 
   -- each move of kinds is listed
-  pub moves_listed : (k : PrefixKind) (column : List Sym) → FitsKind tiers u k column → Contains (moves_from tiers u k) (number_of_kind (length tiers.free) (moved tiers [] 0 k column), column)
+  pub moves_listed : (k : PrefixKind) (column : List Sym) → FitsKind problem k column → Contains (moves_from problem k) (number_of_kind (length problem.tiers.free) (moved problem 0 k column), column)
   moves_listed k column fit = ⊎_elim
       (λ none.
       let place : k.place + 0 ≡ k.place = omega arith in
-      let number : number_of_kind f (moved tiers [] 0 k column) ≡ k.place * 2 ^ f + number_of_flags left = place_number k column false none ∙ ap (λ p. p * 2 ^ f + number_of_flags left) place in
-      Contains-append_left _ _ _ (subst (λ n. Contains (moves_with tiers (staying tiers u k.place) k.opened (k.place * 2 ^ f)) (n, column)) (sym number)
-      (moves_with_has tiers split distinct (staying tiers u k.place) k.opened left (k.place * 2 ^ f) column (length-map tiers.free (λ t. opens (symbol column t))) (staying_fits tiers split u form k column fit none))))
+      let number : number_of_kind f (moved problem 0 k column) ≡ k.place * 2 ^ f + number_of_flags left = place_number k column false none ∙ ap (λ p. p * 2 ^ f + number_of_flags left) place in
+      Contains-append_left _ _ _ (subst (λ n. Contains (moves_with problem.tiers (staying problem.tiers problem.form k.place) k.opened (k.place * 2 ^ f)) (n, column)) (sym number)
+      (moves_with_has problem.tiers split distinct (staying problem.tiers problem.form k.place) k.opened left (k.place * 2 ^ f) column (length-map problem.tiers.free (λ t. opens (symbol column t))) (staying_fits problem split form k column fit none))))
       (λ next.
-      let number : number_of_kind f (moved tiers [] 0 k column) ≡ (k.place + 1) * 2 ^ f + number_of_flags left = place_number k column true (ap has_edge next.1 ∙ form_edge k.place next.0) in
-      let on : List Move = moves_with tiers (column_at u k.place) k.opened ((k.place + 1) * 2 ^ f) in
-      Contains-append_right _ _ _ (subst (λ b. Contains (cond b on []) (number_of_kind f (moved tiers [] 0 k column), column)) (sym (lt-ltb k.place (length u) next.0))
+      let number : number_of_kind f (moved problem 0 k column) ≡ (k.place + 1) * 2 ^ f + number_of_flags left = place_number k column true (ap has_edge next.1 ∙ form_edge k.place next.0) in
+      let on : List Move = moves_with problem.tiers (column_at problem.form k.place) k.opened ((k.place + 1) * 2 ^ f) in
+      Contains-append_right _ _ _ (subst (λ b. Contains (cond b on []) (number_of_kind f (moved problem 0 k column), column)) (sym (lt-ltb k.place (last_place problem) next.0))
       (subst (λ n. Contains on (n, column)) (sym number)
-      (moves_with_has tiers split distinct (column_at u k.place) k.opened left ((k.place + 1) * 2 ^ f) column (length-map tiers.free (λ t. opens (symbol column t))) (advancing_fits tiers split u form k column fit next.1)))))
+      (moves_with_has problem.tiers split distinct (column_at problem.form k.place) k.opened left ((k.place + 1) * 2 ^ f) column (length-map problem.tiers.free (λ t. opens (symbol column t))) (advancing_fits problem split form k column fit next.1)))))
       fit.input
     where
       f : ℕ
-      f = length tiers.free
+      f = length problem.tiers.free
 
       left : List Bool
-      left = map (λ t. opens (symbol column t)) tiers.free
+      left = map (λ t. opens (symbol column t)) problem.tiers.free
 
   -- the moves ascend
-  pub moves_ascend : (k : PrefixKind) → Ascends move_cmp (moves_from tiers u k)
-  moves_ascend k = ascends_append move_cmp _ _ (moves_with_ascend tiers split distinct (staying tiers u k.place) k.opened (k.place * 2 ^ f)) (go (nat_lt k.place (length u)))
-      (λ m n c d. across m n c (nat_lt k.place (length u)) d)
+  pub moves_ascend : (k : PrefixKind) → Ascends move_cmp (moves_from problem k)
+  moves_ascend k = ascends_append move_cmp _ _ (moves_with_ascend problem.tiers split distinct (staying problem.tiers problem.form k.place) k.opened (k.place * 2 ^ f)) (go (nat_lt k.place (last_place problem)))
+      (λ m n c d. across m n c (nat_lt k.place (last_place problem)) d)
     where
       f : ℕ
-      f = length tiers.free
+      f = length problem.tiers.free
 
       on : List Move
-      on = moves_with tiers (column_at u k.place) k.opened ((k.place + 1) * 2 ^ f)
+      on = moves_with problem.tiers (column_at problem.form k.place) k.opened ((k.place + 1) * 2 ^ f)
 
       go : (b : Bool) → Ascends move_cmp (cond b on [])
-      go true = moves_with_ascend tiers split distinct (column_at u k.place) k.opened ((k.place + 1) * 2 ^ f)
+      go true = moves_with_ascend problem.tiers split distinct (column_at problem.form k.place) k.opened ((k.place + 1) * 2 ^ f)
       go false = tt
 
-      across : (m n : Move) → Contains (moves_with tiers (staying tiers u k.place) k.opened (k.place * 2 ^ f)) m → (b : Bool) → Contains (cond b on []) n → move_cmp m n ≡ Less
+      across : (m n : Move) → Contains (moves_with problem.tiers (staying problem.tiers problem.form k.place) k.opened (k.place * 2 ^ f)) m → (b : Bool) → Contains (cond b on []) n → move_cmp m n ≡ Less
       across m n c false d = absurd (contains_none n d)
       across m n c true d =
-          let r = of_moves_with tiers split distinct (staying tiers u k.place) k.opened (k.place * 2 ^ f) m c in
-          let s = of_moves_with tiers split distinct (column_at u k.place) k.opened ((k.place + 1) * 2 ^ f) n d in
+          let r = of_moves_with problem.tiers split distinct (staying problem.tiers problem.form k.place) k.opened (k.place * 2 ^ f) m c in
+          let s = of_moves_with problem.tiers split distinct (column_at problem.form k.place) k.opened ((k.place + 1) * 2 ^ f) n d in
           let below : m.0 < n.0 = omega (arith, r.1.0, r.1.1.1, s.1.1.1) in
           ap (λ x. ordering_then x (slice_cmp sym_cmp m.1 n.1)) (sym (nat_cmp_is m.0 n.0 Less below))

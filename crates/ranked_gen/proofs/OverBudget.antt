@@ -1,6 +1,6 @@
 -- The kinds of a stage can be listed, whatever table the stage before has left. So a stage of which
 -- more kinds than a budget are found is over it.
-use Rattle.std.proofs.Common.{◌≡◌, ◌≢◌, ℕ, zero, suc, ◌+◌, ◌-◌, ◌<◌, ◌≤◌, ◌⊎◌, inl, inr, Bool, true, false, cond, List, [], ◌∷◌, ◌++◌, map, take, drop, length, get_or, refl, sym, ap, ap₂, ◌∙◌, subst, arith, ⊎_elim, take_at, Contains}
+use Rattle.std.proofs.Common.{filter, ◌≡◌, ◌≢◌, ℕ, zero, suc, ◌+◌, ◌-◌, ◌<◌, ◌≤◌, ◌⊎◌, inl, inr, Bool, true, false, cond, List, [], ◌∷◌, ◌++◌, map, take, drop, length, get_or, refl, sym, ap, ap₂, ◌∙◌, subst, arith, ⊎_elim, take_at, Contains}
 use Rattle.std.specs.Prelude.{◌↔◌}
 use Rattle.std.specs.List.{range_with_len, flat_map}
 use Rattle.std.proofs.lemmas.Bool.{cases_order}
@@ -40,6 +40,7 @@ use Rattle.ranked_gen.proofs.Ascending.{sorted_from, range_has}
 use Rattle.ranked_gen.proofs.FewKinds.{Differ, no_longer}
 use Rattle.ranked_gen.proofs.SortedKinds.{one_or_other, sorted_kinds}
 use Rattle.ranked_gen.proofs.Closures.{IsClosed, closure}
+use Rattle.violation.specs.Problems.{last_stage, Problem}
 
 -- a state and a kind over it
 abbrev Place : Type 0
@@ -84,9 +85,9 @@ take_longer zero (p ∷ q ∷ ps) l = absurd (omega arith)
 take_longer (suc n) [] l = inl refl
 take_longer (suc n) (p ∷ ps) l = ⊎_elim (λ e. inl (ap (λ qs. p ∷ qs) e)) (λ more. inr (more.0, ap (λ qs. p ∷ qs) more.1)) (take_longer n ps (omega arith))
 
-reached_push : (tiers : Tiers) (constraints : List Constraint) (r : ℕ) (k : PrefixKind) (p : List (List Sym)) (column : List Sym) → reached tiers constraints r k (p ++ column ∷ []) ≡ moved tiers constraints r (reached tiers constraints r k p) column
-reached_push tiers constraints r k [] column = refl
-reached_push tiers constraints r k (c ∷ p) column = reached_push tiers constraints r (moved tiers constraints r k c) p column
+reached_push : (problem : Problem) (r : ℕ) (k : PrefixKind) (p : List (List Sym)) (column : List Sym) → reached problem r k (p ++ column ∷ []) ≡ moved problem r (reached problem r k p) column
+reached_push problem r k [] column = refl
+reached_push problem r k (c ∷ p) column = reached_push problem r (moved problem r k c) p column
 
 reads_push : {g : Ghosts UnitWeight} (arcs : List (TableArc UnitWeight g)) (arc : TableArc UnitWeight g) (p : List (List Sym)) (column : List Sym) → Reads arcs p → Reads (arc ∷ []) (column ∷ []) → Reads (arcs ++ arc ∷ []) (p ++ column ∷ [])
 reads_push arcs arc p column a b = joined_reads [] arcs (arc ∷ []) p (column ∷ []) a b
@@ -96,22 +97,21 @@ bit_most true = omega arith
 bit_most false = omega arith
 
 -- one constraint more has one stretch implication more at most
-one_stretch : (constraints : List Constraint) (r : ℕ) → r < length constraints → length (stretches constraints (r + 1)) ≤ length (stretches constraints r) + 1
+one_stretch : (cs : List Constraint) (r : ℕ) → r < length cs
+    → length (filter is_stretch (take (r + 1) cs)) ≤ length (filter is_stretch (take r cs)) + 1
 one_stretch [] r l = absurd (omega arith)
 one_stretch (c ∷ cs) r l =
     let e = length-filter_more is_stretch (c ∷ cs) r c l in
     let b = bit_most (is_stretch (get_or (c ∷ cs) r c)) in
     omega (arith, e, b)
 
-module _ (tiers : Tiers) (constraints : List Constraint) (u : List (List Sym)) (r : ℕ) (stage : IsStage tiers constraints u r) (next : IsStage tiers constraints u (r + 1))
-    {g : Ghosts UnitWeight} (names : List PrefixKind) (kept : List (TableState UnitWeight g)) (some : 0 < length kept) (targets : TargetsExist kept) (filled : ClassesFilled kept)
-    (by : AreKeptByKinds tiers constraints u r names kept) (accepts : (T : List (List Sym)) → Accepts kept T ↔ IsOptimalFor tiers constraints u r T) where
-  named : AreNamedByKinds tiers constraints u r names kept
+module _ (problem : Problem) (r : ℕ) (stage : IsStage problem r) (next : IsStage problem (r + 1)) {g : Ghosts UnitWeight} (names : List PrefixKind) (kept : List (TableState UnitWeight g)) (some : 0 < length kept) (targets : TargetsExist kept) (filled : ClassesFilled kept) (by : AreKeptByKinds problem r names kept) (accepts : (T : List (List Sym)) → Accepts kept T ↔ IsOptimalFor problem r T) where
+  named : AreNamedByKinds problem r names kept
   named = by.named
 
   -- where a place goes on to
   abbrev onward : Place → List Place
-  onward (s, k) = map (λ (arc : TableArc UnitWeight g). (arc.target, moved tiers constraints (r + 1) k (first_column arc.class))) (moves_at kept s)
+  onward (s, k) = map (λ (arc : TableArc UnitWeight g). (arc.target, moved problem (r + 1) k (first_column arc.class))) (moves_at kept s)
 
   -- a place that is gone to by the columns of a path
   record IsGone (x : Place) : Type 0 where
@@ -120,40 +120,40 @@ module _ (tiers : Tiers) (constraints : List Constraint) (u : List (List Sym)) (
     pub arcs : List (TableArc UnitWeight g)
     pub path : IsPath kept 0 arcs x.0
     pub reads : Reads arcs columns
-    pub tells : reached tiers constraints (r + 1) (kind_of tiers constraints (r + 1) []) columns ≡ x.1
+    pub tells : reached problem (r + 1) (kind_of problem (r + 1) []) columns ≡ x.1
 
   goes_on : (x y : Place) → IsGone x → Contains (onward x) y → IsGone y
   goes_on (s, k) y gone c =
-      let a = contains_of_map (λ (arc : TableArc UnitWeight g). (arc.target, moved tiers constraints (r + 1) k (first_column arc.class))) (moves_at kept s) y c in
+      let a = contains_of_map (λ (arc : TableArc UnitWeight g). (arc.target, moved problem (r + 1) k (first_column arc.class))) (moves_at kept s) y c in
       let arc : TableArc UnitWeight g = a.0 in
       let column = first_column arc.class in
-      let z : Place = (arc.target, moved tiers constraints (r + 1) k column) in
+      let z : Place = (arc.target, moved problem (r + 1) k column) in
       let there : IsGone z = record {
         inside = targets s arc a.1.0;
         columns = gone.columns ++ column ∷ [];
         arcs = gone.arcs ++ arc ∷ [];
         path = path_push kept gone.arcs 0 s arc gone.path a.1.0;
         reads = reads_push gone.arcs arc gone.columns column gone.reads (has-first_column arc.class (filled s arc a.1.0), tt);
-        tells = reached_push tiers constraints (r + 1) (kind_of tiers constraints (r + 1) []) gone.columns column ∙ ap (λ q. moved tiers constraints (r + 1) q column) gone.tells;
+        tells = reached_push problem (r + 1) (kind_of problem (r + 1) []) gone.columns column ∙ ap (λ q. moved problem (r + 1) q column) gone.tells;
       } in
       subst IsGone a.1.1 there
 
   -- a run goes on from it, so its columns begin an r-optimal candidate
-  begun : (x : Place) → (gone : IsGone x) → (q : List (List Sym)) × IsOptimalFor tiers constraints u r (gone.columns ++ q)
+  begun : (x : Place) → (gone : IsGone x) → (q : List (List Sym)) × IsOptimalFor problem r (gone.columns ++ q)
   begun x gone =
       let on = by.on_runs x.0 gone.inside in
       let q = some_word kept filled x.0 on.2.0 on.2.1 in
       (q.0, (accepts (gone.columns ++ q.0)).0 (gone.arcs ++ on.2.0, record { run = joined_run kept gone.arcs on.2.0 0 x.0 gone.path on.2.1; reads = joined_reads kept gone.arcs on.2.0 gone.columns q.0 gone.reads q.1 }))
 
-  of_kind : (p q : List (List Sym)) → IsCandidate tiers u (p ++ q) → reached tiers constraints (r + 1) (kind_of tiers constraints (r + 1) []) p ≡ kind_of tiers constraints (r + 1) p
+  of_kind : (p q : List (List Sym)) → IsCandidate problem (p ++ q) → reached problem (r + 1) (kind_of problem (r + 1) []) p ≡ kind_of problem (r + 1) p
   of_kind p q c =
-      let over = over_stretches tiers constraints u (r + 1) next in
-      reached_is tiers constraints (r + 1) u stage.split stage.form over p ((moves_begin tiers constraints (r + 1) u stage.split stage.form over p).1 (q, c))
+      let over = over_stretches problem (r + 1) next in
+      reached_is problem (r + 1) stage.split stage.form over p ((moves_begin problem (r + 1) stage.split stage.form over p).1 (q, c))
 
-  kind_gone : (x : Place) (gone : IsGone x) → x.1 ≡ kind_of tiers constraints (r + 1) gone.columns
+  kind_gone : (x : Place) (gone : IsGone x) → x.1 ≡ kind_of problem (r + 1) gone.columns
   kind_gone x gone = let b = begun x gone in sym gone.tells ∙ of_kind gone.columns b.0 b.1.candidate
 
-  gone_kind : (x : Place) → IsGone x → IsPassed tiers constraints u r (r + 1) x.1
+  gone_kind : (x : Place) → IsGone x → IsPassed problem r (r + 1) x.1
   gone_kind x gone =
       let b = begun x gone in
       record {
@@ -162,7 +162,7 @@ module _ (tiers : Tiers) (constraints : List Constraint) (u : List (List Sym)) (
         passes = record {
           optimal = b.1;
           within = omega (arith, length-append gone.columns b.0);
-          of_kind = ap (kind_of tiers constraints (r + 1)) (take_at gone.columns b.0 (length gone.columns) refl) ∙ sym (kind_gone x gone);
+          of_kind = ap (kind_of problem (r + 1)) (take_at gone.columns b.0 (length gone.columns) refl) ∙ sym (kind_gone x gone);
         };
       }
 
@@ -171,13 +171,13 @@ module _ (tiers : Tiers) (constraints : List Constraint) (u : List (List Sym)) (
   abbrev bound : List Place
   bound = flat_map (λ s. map (λ k. (s, k)) (longer (name_of names s))) (range_with_len 0 (length kept))
 
-  is_longer : (n k : PrefixKind) → cut constraints r k ≡ n → length k.phases ≤ length (stretches constraints r) + 1 → Contains (longer n) k
+  is_longer : (n k : PrefixKind) → cut problem r k ≡ n → length k.phases ≤ length (stretches problem r) + 1 → Contains (longer n) k
   is_longer n k e l = ⊎_elim
-      (λ same. let one : k ≡ cut constraints r k = ap (kind_by k.place k.opened) same in
+      (λ same. let one : k ≡ cut problem r k = ap (kind_by k.place k.opened) same in
       subst (Contains (longer n)) (sym (one ∙ e)) (contains_first n (with_phase n closed ∷ with_phase n unmet ∷ with_phase n met ∷ [])))
-      (λ more. let one : k ≡ with_phase (cut constraints r k) more.0 = ap (kind_by k.place k.opened) more.1 in
+      (λ more. let one : k ≡ with_phase (cut problem r k) more.0 = ap (kind_by k.place k.opened) more.1 in
       subst (Contains (longer n)) (sym (one ∙ ap (λ q. with_phase q more.0) e)) (any_phase n more.0))
-      (take_longer (length (stretches constraints r)) k.phases l)
+      (take_longer (length (stretches problem r)) k.phases l)
 
   bounded : (x : Place) → IsGone x → Contains bound x
   bounded (s, k) gone =
@@ -185,47 +185,47 @@ module _ (tiers : Tiers) (constraints : List Constraint) (u : List (List Sym)) (
       let p = gone.columns in
       let whole = kind_gone x gone in
       let less : r ≤ r + 1 = omega arith in
-      let cuts : cut constraints r k ≡ name_of names s =
-      ap (cut constraints r) whole ∙ cut-kind_of constraints r (r + 1) less tiers p ∙ sym (path_kind tiers constraints u r stage names kept named gone.arcs s p gone.path gone.reads) in
-      let room : r < length constraints = omega (arith, next.within) in
-      let phases : length k.phases ≡ length (stretches constraints (r + 1)) = ap (λ (q : PrefixKind). length q.phases) whole ∙ length-map (stretches constraints (r + 1)) (λ c. phase c.left c.right p) in
-      let few : length k.phases ≤ length (stretches constraints r) + 1 = omega (arith, phases, one_stretch constraints r room) in
+      let cuts : cut problem r k ≡ name_of names s =
+      ap (cut problem r) whole ∙ cut-kind_of problem r (r + 1) less p ∙ sym (path_kind problem r stage names kept named gone.arcs s p gone.path gone.reads) in
+      let room : r < last_stage problem = omega (arith, next.within) in
+      let phases : length k.phases ≡ length (stretches problem (r + 1)) = ap (λ (q : PrefixKind). length q.phases) whole ∙ length-map (stretches problem (r + 1)) (λ c. phase c.left c.right p) in
+      let few : length k.phases ≤ length (stretches problem r) + 1 = omega (arith, phases, one_stretch problem.constraints r room) in
       contains_flat (λ s. map (λ k. (s, k)) (longer (name_of names s))) (range_with_len 0 (length kept)) s (s, k) (range_has 0 (length kept) s (omega arith) (omega (arith, gone.inside)))
       (contains_map (λ k. (s, k)) (longer (name_of names s)) k (is_longer (name_of names s) k cuts few))
 
-  first_gone : IsGone (0, kind_of tiers constraints (r + 1) [])
+  first_gone : IsGone (0, kind_of problem (r + 1) [])
   first_gone = record { inside = some; columns = []; arcs = []; path = refl; reads = tt; tells = refl }
 
-  module _ (all : List Place) (is : IsClosed same_place onward IsGone goes_on bound bounded (0, kind_of tiers constraints (r + 1) []) all) where
+  module _ (all : List Place) (is : IsClosed same_place onward IsGone goes_on bound bounded (0, kind_of problem (r + 1) []) all) where
     -- paths stay in what is closed
-    stays : (arcs : List (TableArc UnitWeight g)) (p : List (List Sym)) (s t : ℕ) (k : PrefixKind) → IsPath kept s arcs t → Reads arcs p → Contains all (s, k) → Contains all (t, reached tiers constraints (r + 1) k p)
+    stays : (arcs : List (TableArc UnitWeight g)) (p : List (List Sym)) (s t : ℕ) (k : PrefixKind) → IsPath kept s arcs t → Reads arcs p → Contains all (s, k) → Contains all (t, reached problem (r + 1) k p)
     stays [] [] s t k path reads c = subst (λ n. Contains all (n, k)) path c
     stays [] (column ∷ p) s t k path reads c = absurd reads
     stays (arc ∷ arcs) [] s t k path reads c = absurd reads
     stays (arc ∷ arcs) (column ∷ p) s t k path reads c =
-        let step : TableArc UnitWeight g → Place = λ arc. (arc.target, moved tiers constraints (r + 1) k (first_column arc.class)) in
+        let step : TableArc UnitWeight g → Place = λ arc. (arc.target, moved problem (r + 1) k (first_column arc.class)) in
         let one : first_column arc.class ≡ column = by.single s arc path.0 (first_column arc.class) column (has-first_column arc.class (filled s arc path.0)) reads.0 in
         let here : Contains all (step arc) = is.onward (s, k) (step arc) c (contains_map step (moves_at kept s) arc path.0) in
-        stays arcs p arc.target t (moved tiers constraints (r + 1) k column) path.1 reads.1 (subst (λ x. Contains all (arc.target, moved tiers constraints (r + 1) k x)) one here)
+        stays arcs p arc.target t (moved problem (r + 1) k column) path.1 reads.1 (subst (λ x. Contains all (arc.target, moved problem (r + 1) k x)) one here)
 
-    kinds_all : (k : PrefixKind) → Contains (map (λ (x : Place). x.1) all) k ↔ IsPassed tiers constraints u r (r + 1) k
+    kinds_all : (k : PrefixKind) → Contains (map (λ (x : Place). x.1) all) k ↔ IsPassed problem r (r + 1) k
     kinds_all k = (
-      λ c. let x = contains_of_map (λ (x : Place). x.1) all k c in subst (IsPassed tiers constraints u r (r + 1)) x.1.1 (gone_kind x.0 (is.good x.0 x.1.0)),
+      λ c. let x = contains_of_map (λ (x : Place). x.1) all k c in subst (IsPassed problem r (r + 1)) x.1.1 (gone_kind x.0 (is.good x.0 x.1.0)),
       λ passed.
           let T = passed.candidate in
           let n = passed.columns in
           let a = (accepts T).1 passed.passes.optimal in
           let parts : IsParted kept 0 (take n T) (drop n T) = parted kept (take n T) (drop n T) 0 a.0 a.1.run (subst (Reads a.0) (sym (take-append-drop n T)) a.1.reads) in
-          let there = stays parts.before (take n T) 0 parts.middle (kind_of tiers constraints (r + 1) []) parts.path parts.reads_before is.first in
-          let whole : IsCandidate tiers u (take n T ++ drop n T) = subst (IsCandidate tiers u) (sym (take-append-drop n T)) passed.passes.optimal.candidate in
-          let same : reached tiers constraints (r + 1) (kind_of tiers constraints (r + 1) []) (take n T) ≡ k = of_kind (take n T) (drop n T) whole ∙ passed.passes.of_kind in
-          subst (Contains (map (λ (x : Place). x.1) all)) same (contains_map (λ (x : Place). x.1) all (parts.middle, reached tiers constraints (r + 1) (kind_of tiers constraints (r + 1) []) (take n T)) there),
+          let there = stays parts.before (take n T) 0 parts.middle (kind_of problem (r + 1) []) parts.path parts.reads_before is.first in
+          let whole : IsCandidate problem (take n T ++ drop n T) = subst (IsCandidate problem) (sym (take-append-drop n T)) passed.passes.optimal.candidate in
+          let same : reached problem (r + 1) (kind_of problem (r + 1) []) (take n T) ≡ k = of_kind (take n T) (drop n T) whole ∙ passed.passes.of_kind in
+          subst (Contains (map (λ (x : Place). x.1) all)) same (contains_map (λ (x : Place). x.1) all (parts.middle, reached problem (r + 1) (kind_of problem (r + 1) []) (take n T)) there),
     )
 
   -- the kinds of the next stage, in kind order
-  pub next_kinds : (ks : List PrefixKind) × AreKindsOfStage tiers constraints u (r + 1) ks
+  pub next_kinds : (ks : List PrefixKind) × AreKindsOfStage problem (r + 1) ks
   next_kinds =
-      let found = closure same_place onward IsGone goes_on bound bounded (0, kind_of tiers constraints (r + 1) []) first_gone in
+      let found = closure same_place onward IsGone goes_on bound bounded (0, kind_of problem (r + 1) []) first_gone in
       let sorted = sorted_kinds (map (λ (x : Place). x.1) found.0) in
       let before : r + 1 - 1 ≡ r = omega arith in (
         sorted.0,
@@ -233,14 +233,14 @@ module _ (tiers : Tiers) (constraints : List Constraint) (u : List (List Sym)) (
           ascending = sorted_from kind_order sorted.0 sorted.1.0;
           members = λ k.
               let law = kinds_all found.0 found.1 k in
-              subst (λ n. Contains sorted.0 k ↔ IsPassed tiers constraints u n (r + 1) k) (sym before)
+              subst (λ n. Contains sorted.0 k ↔ IsPassed problem n (r + 1) k) (sym before)
               (λ c. law.0 ((sorted.1.1 k).0 c), λ p. (sorted.1.1 k).1 (law.1 p));
         },
       )
 
   -- more kinds than a budget, each of a prefix of what is kept
-  pub over_budget : (budget : ℕ) (kinds : List PrefixKind) → Differ kinds → ((k : PrefixKind) → Contains kinds k → (p : List (List Sym)) × ((q : List (List Sym)) × (Accepts kept (p ++ q) × (kind_of tiers constraints (r + 1) p ≡ k)))) → budget < length kinds
-      → IsOver tiers constraints u budget (r + 1)
+  pub over_budget : (budget : ℕ) (kinds : List PrefixKind) → Differ kinds → ((k : PrefixKind) → Contains kinds k → (p : List (List Sym)) × ((q : List (List Sym)) × (Accepts kept (p ++ q) × (kind_of problem (r + 1) p ≡ k)))) → budget < length kinds
+      → IsOver problem budget (r + 1)
   over_budget budget kinds differ each more =
       let all = next_kinds in
       let before : r ≡ r + 1 - 1 = omega arith in
@@ -248,15 +248,15 @@ module _ (tiers : Tiers) (constraints : List Constraint) (u : List (List Sym)) (
       let m = each k c in
       let p = m.0 in
       let q = m.1.0 in
-      let passed : IsPassed tiers constraints u r (r + 1) k = record {
+      let passed : IsPassed problem r (r + 1) k = record {
         candidate = p ++ q;
         columns = length p;
         passes = record {
           optimal = (accepts (p ++ q)).0 m.1.1.0;
           within = omega (arith, length-append p q);
-          of_kind = ap (kind_of tiers constraints (r + 1)) (take_at p q (length p) refl) ∙ m.1.1.1;
+          of_kind = ap (kind_of problem (r + 1)) (take_at p q (length p) refl) ∙ m.1.1.1;
         };
       } in
-      (all.1.members k).1 (subst (λ n. IsPassed tiers constraints u n (r + 1) k) before passed) in
+      (all.1.members k).1 (subst (λ n. IsPassed problem n (r + 1) k) before passed) in
       let few = no_longer all.0 kinds inside differ in
       record { kinds = all.0; are = all.1; more = omega (arith, more, few) }

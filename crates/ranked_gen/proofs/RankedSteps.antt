@@ -24,23 +24,23 @@ use Rattle.ranked_gen.specs.Budgets.{IsWithin}
 use Rattle.ranked_gen.specs.Left.{IsLeft, IsStaged, AreStages, IsRanked}
 use Rattle.ranked_gen.proofs.EndStage.{right_automaton}
 use Rattle.ranked_gen.proofs.StageList.{nodes_last, first_stages, next_stages, right_answer}
+use Rattle.violation.specs.Problems.{last_stage, Problem}
 
 -- stage 0 alone
-pub ranked_first : (tiers : Tiers) (constraints : List Constraint) (u : List (List Sym)) (budget : ℕ) (stage : Stage) {g : Ghosts UnitWeight} (kept : List (TableState UnitWeight g)) (states order : List ℕ)
-    → IsLeft tiers constraints u 0 stage.nodes.items kept states order → IsWithin tiers constraints u budget 0 → IsRanked tiers constraints u budget 0 (stage ∷ []) [] kept states order
-ranked_first tiers constraints u budget stage kept states order left within = record { so_far = first_stages tiers constraints u budget stage left.right within; left = left }
+pub ranked_first : (problem : Problem) (budget : ℕ) (stage : Stage) {g : Ghosts UnitWeight} (kept : List (TableState UnitWeight g)) (states order : List ℕ)
+    → IsLeft problem 0 stage.nodes.items kept states order → IsWithin problem budget 0 → IsRanked problem budget 0 (stage ∷ []) [] kept states order
+ranked_first problem budget stage kept states order left within = record { so_far = first_stages problem budget stage left.right within; left = left }
 
 -- and one more
-pub ranked_next : (tiers : Tiers) (constraints : List Constraint) (u : List (List Sym)) (budget r : ℕ) (stages : List Stage) (counts : List ℕ) → AreStages tiers constraints u budget r stages counts
-    → (stage : Stage) (count next : ℕ) → next ≡ r + 1 → r < length constraints → {g : Ghosts UnitWeight} (kept : List (TableState UnitWeight g)) (states order : List ℕ)
-    → IsStaged tiers constraints u next stage.nodes.items count kept states order → IsWithin tiers constraints u budget next → IsRanked tiers constraints u budget next (stages ++ stage ∷ []) (counts ++ count ∷ []) kept states order
-ranked_next tiers constraints u budget r stages counts so_far stage count next is inside kept states order staged within = record {
-  so_far = next_stages tiers constraints u budget r stages counts so_far stage count next is inside staged.left.right staged.counted within;
-  left = subst (λ ns. IsLeft tiers constraints u next ns kept states order) (sym (nodes_last stages stage next (omega (arith, is, so_far.stage_count)))) staged.left;
+pub ranked_next : (problem : Problem) (budget r : ℕ) (stages : List Stage) (counts : List ℕ) → AreStages problem budget r stages counts
+    → (stage : Stage) (count next : ℕ) → next ≡ r + 1 → r < last_stage problem → {g : Ghosts UnitWeight} (kept : List (TableState UnitWeight g)) (states order : List ℕ)
+    → IsStaged problem next stage.nodes.items count kept states order → IsWithin problem budget next → IsRanked problem budget next (stages ++ stage ∷ []) (counts ++ count ∷ []) kept states order
+ranked_next problem budget r stages counts so_far stage count next is inside kept states order staged within = record {
+  so_far = next_stages problem budget r stages counts so_far stage count next is inside staged.left.right staged.counted within;
+  left = subst (λ ns. IsLeft problem next ns kept states order) (sym (nodes_last stages stage next (omega (arith, is, so_far.stage_count)))) staged.left;
 }
 
-module _ (tiers : Tiers) (constraints : List Constraint) (u : List (List Sym)) {g : Ghosts UnitWeight} (nodes : List Node) (kept : List (TableState UnitWeight g)) (filled : ClassesFilled kept) (some : 0 < length kept) (states order : List ℕ)
-    (left : IsLeft tiers constraints u (length constraints) nodes kept states order) where
+module _ (problem : Problem) {g : Ghosts UnitWeight} (nodes : List Node) (kept : List (TableState UnitWeight g)) (filled : ClassesFilled kept) (some : 0 < length kept) (states order : List ℕ) (left : IsLeft problem (last_stage problem) nodes kept states order) where
   -- some timeline is left, and the first of them is found
   pub some_left : (found : Option (List (List Sym))) → MatchOption found (AcceptsNone kept) (IsFirst (Accepts kept)) → IsSome found
   some_left None none =
@@ -49,16 +49,16 @@ module _ (tiers : Tiers) (constraints : List Constraint) (u : List (List Sym)) {
       absurd (none q.0 (on.2.0, record { run = on.2.1; reads = q.1 }))
   some_left (Some T) first = refl
 
-  pub first_optimal : (found : Option (List (List Sym))) (T : List (List Sym)) → MatchOption found (AcceptsNone kept) (IsFirst (Accepts kept)) → found ≡ Some T → IsFirst (IsOptimal tiers constraints u) T
+  pub first_optimal : (found : Option (List (List Sym))) (T : List (List Sym)) → MatchOption found (AcceptsNone kept) (IsFirst (Accepts kept)) → found ≡ Some T → IsFirst (IsOptimal problem) T
   first_optimal found T match same =
       let first : IsFirst (Accepts kept) T = subst (λ o. MatchOption o (AcceptsNone kept) (IsFirst (Accepts kept))) same match in
       record { member = (left.accepts T).0 first.member; least = λ U o. first.least U ((left.accepts U).1 o) }
 
 -- The answer of all stages is right.
-pub whole_answer : (tiers : Tiers) (constraints : List Constraint) (u : List (List Sym)) (budget : ℕ) {g : Ghosts UnitWeight} (kept : List (TableState UnitWeight g)) → ClassesFilled kept → 0 < length kept → (states order : List ℕ) (stages : List Stage) (counts : List ℕ)
-    → IsRanked tiers constraints u budget (length constraints) stages counts kept states order → (ranks : List ℕ) → IsOrdering (length order) ranks → AreRanks order ranks
-    → (answer : Answer) → answer.form ≡ u → answer.counts.items ≡ counts → IsFirst (IsOptimal tiers constraints u) answer.example → answer.stages.items ≡ stages → IsAutomatonOf kept (nodes_of ranks states) answer.automaton.states.items
-    → IsRight tiers constraints u answer
-whole_answer tiers constraints u budget kept filled some states order stages counts ranked ranks numbers told answer form same first lists automaton =
-    right_answer tiers constraints u budget (length constraints) stages counts ranked.so_far refl answer form same first lists
-    (right_automaton tiers constraints u (nodes_at stages (length constraints)) kept filled some states order ranks ranked.left numbers told answer.automaton.states.items automaton)
+pub whole_answer : (problem : Problem) (budget : ℕ) {g : Ghosts UnitWeight} (kept : List (TableState UnitWeight g)) → ClassesFilled kept → 0 < length kept → (states order : List ℕ) (stages : List Stage) (counts : List ℕ)
+    → IsRanked problem budget (last_stage problem) stages counts kept states order → (ranks : List ℕ) → IsOrdering (length order) ranks → AreRanks order ranks
+    → (answer : Answer) → answer.form ≡ problem.form → answer.counts.items ≡ counts → IsFirst (IsOptimal problem) answer.example → answer.stages.items ≡ stages → IsAutomatonOf kept (nodes_of ranks states) answer.automaton.states.items
+    → IsRight problem answer
+whole_answer problem budget kept filled some states order stages counts ranked ranks numbers told answer form same first lists automaton =
+    right_answer problem budget (last_stage problem) stages counts ranked.so_far refl answer form same first lists
+    (right_automaton problem (nodes_at stages (last_stage problem)) kept filled some states order ranks ranked.left numbers told answer.automaton.states.items automaton)

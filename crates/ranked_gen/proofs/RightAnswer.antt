@@ -16,6 +16,7 @@ use Rattle.ranked_gen.proofs.NumberLemmas.{kind_numbered-number}
 use Rattle.ranked_gen.proofs.MemberLemmas.{all_from_members}
 use Rattle.ranked_gen.proofs.AutomatonMoves.{numbered_member, IsWithin, number_within}
 use Rattle.ranked_gen.proofs.StageKinds.{numbered_kinds}
+use Rattle.violation.specs.Problems.{Problem}
 
 -- numbered elements, seen by number, are a range
 pub numbered_range : {X Y : Type 0} (P : ℕ → X → Type 0) (view : X → Y) (g : ℕ → Y) → ((n : ℕ) (x : X) → P n x → view x ≡ g n) → (n : ℕ) (xs : List X) → AreNumbered P n xs → map view xs ≡ map g (range_with_len n (length xs))
@@ -28,22 +29,14 @@ numbered_get P n [] i a l = absurd (omega arith)
 numbered_get P n (x ∷ xs) zero a l = let here : n ≡ n + 0 = omega arith in (x, (refl, subst (λ k. P k x) here a.0))
 numbered_get P n (x ∷ xs) (suc i) a l = let r = numbered_get P (n + 1) xs i a.1 (omega arith) in let here : (n + 1) + i ≡ n + suc i = omega arith in (r.0, (r.1.0, subst (λ k. P k r.0) here r.1.1))
 
-module _ (tiers : Tiers) (split : AreSplit tiers) (distinct : AreDistinct tiers.free) (u : List (List Sym)) (form : IsForm tiers u)
-    (nodes : List Node) (node_count : length nodes ≡ kind_count tiers u) (each_node : AreNumbered (IsNodeNumbered tiers) 0 nodes) where
-  listed_kinds : kinds_at tiers [] 0 nodes ≡ map (kind_numbered (length tiers.free)) (range_with_len 0 (kind_count tiers u))
-  listed_kinds = numbered_range (IsNodeNumbered tiers) (λ node. prefix_kind (length tiers.free) 0 node.kind) (kind_numbered (length tiers.free)) (λ n x h. h.kind) 0 nodes each_node
-      ∙ ap (λ n. map (kind_numbered (length tiers.free)) (range_with_len 0 n)) node_count
+module _ (problem : Problem) (split : AreSplit problem.tiers) (distinct : AreDistinct problem.tiers.free) (form : IsForm problem.tiers problem.form) (nodes : List Node) (node_count : length nodes ≡ kind_count problem) (each_node : AreNumbered (IsNodeNumbered problem.tiers) 0 nodes) where
+  listed_kinds : kinds_at problem 0 nodes ≡ map (kind_numbered (length problem.tiers.free)) (range_with_len 0 (kind_count problem))
+  listed_kinds = numbered_range (IsNodeNumbered problem.tiers) (λ node. prefix_kind (length problem.tiers.free) 0 node.kind) (kind_numbered (length problem.tiers.free)) (λ n x h. h.kind) 0 nodes each_node
+      ∙ ap (λ n. map (kind_numbered (length problem.tiers.free)) (range_with_len 0 n)) node_count
 
   -- the nodes list the kinds of stage 0
-  pub right_stage : IsRightStage tiers [] u 0 nodes
+  pub right_stage : IsRightStage problem 0 nodes
   right_stage = record {
-    kinds = subst (AreKindsOfStage tiers [] u 0) (sym listed_kinds) (numbered_kinds tiers split distinct u form);
-    potentials = All-from_recursion _ nodes (all_from_members (λ node. node.potential ≡ 0) nodes (λ node m. (numbered_member (IsNodeNumbered tiers) 0 nodes node each_node m).1.1.potential));
+    kinds = subst (AreKindsOfStage problem 0) (sym listed_kinds) (numbered_kinds problem split distinct form);
+    potentials = All-from_recursion _ nodes (all_from_members (λ node. node.potential ≡ 0) nodes (λ node m. (numbered_member (IsNodeNumbered problem.tiers) 0 nodes node each_node m).1.1.potential));
   }
-
-  node_of : (k : PrefixKind) → IsWithin tiers u k → IsNodeOf tiers [] nodes (number_of_kind (length tiers.free) k) k
-  node_of k w =
-      let n = number_of_kind (length tiers.free) k in
-      let r = numbered_get (IsNodeNumbered tiers) 0 nodes n each_node (omega (arith, number_within tiers u k w)) in
-      let here : 0 + n ≡ n = omega arith in
-      record { node = r.0; numbered = r.1.0; tells = r.1.1.kind ∙ ap (kind_numbered (length tiers.free)) here ∙ kind_numbered-number (length tiers.free) k w.flags w.phases }

@@ -28,10 +28,11 @@ use Rattle.ranked_gen.proofs.MoveList.{nat_less}
 use Rattle.ranked_gen.proofs.ArcLemmas.{slice_same}
 use Rattle.ranked_gen.proofs.AutomatonMoves.{IsWithin, number_within, numbered_within, kind_within}
 use Rattle.ranked_gen.proofs.AllPassed.{all_passed}
+use Rattle.violation.specs.Problems.{Problem}
 
 -- the first columns of a candidate begin it
-pub begins : (tiers : Tiers) (u T : List (List Sym)) (n : ℕ) → IsCandidate tiers u T → BeginsCandidate tiers u (take n T)
-begins tiers u T n c = (drop n T, subst (IsCandidate tiers u) (sym (take-append-drop n T)) c)
+pub begins : (problem : Problem) (T : List (List Sym)) (n : ℕ) → IsCandidate problem T → BeginsCandidate problem (take n T)
+begins problem T n c = (drop n T, subst (IsCandidate problem) (sym (take-append-drop n T)) c)
 
 -- no kind comes before itself
 pub kind_not_below : (k : PrefixKind) → kind_order k k ≡ Less → ⊥
@@ -57,58 +58,51 @@ numbers_differ f (k ∷ ks) a h = (
   numbers_differ f ks a.1 (λ l m. h l (contains_later k ks l m)),
 )
 
-module _ (tiers : Tiers) (split : AreSplit tiers) (distinct : AreDistinct tiers.free) (u : List (List Sym)) (form : IsForm tiers u) where
+module _ (problem : Problem) (split : AreSplit problem.tiers) (distinct : AreDistinct problem.tiers.free) (form : IsForm problem.tiers problem.form) where
   -- each number is that of a kind that is passed
-  pub passed_number : (i : ℕ) → i < kind_count tiers u → IsPassed tiers [] u 0 0 (kind_numbered (length tiers.free) i)
-  passed_number i l = let w = numbered_within tiers u i l in
-      all_passed tiers u split distinct form.well_formed form.reduced (kind_numbered (length tiers.free) i).place (kind_numbered (length tiers.free) i).opened w.place w.flags
+  pub passed_number : (i : ℕ) → i < kind_count problem → IsPassed problem 0 0 (kind_numbered (length problem.tiers.free) i)
+  passed_number i l = let w = numbered_within problem i l in
+      all_passed problem split distinct form.well_formed form.reduced (kind_numbered (length problem.tiers.free) i).place (kind_numbered (length problem.tiers.free) i).opened w.place w.flags
 
-  passes_within : (k : PrefixKind) → IsPassed tiers [] u 0 0 k → IsWithin tiers u k
-  passes_within k p = subst (IsWithin tiers u) p.passes.of_kind (kind_within tiers split u form (take p.columns p.candidate) (begins tiers u p.candidate p.columns p.passes.optimal.candidate))
+  passes_within : (k : PrefixKind) → IsPassed problem 0 0 k → IsWithin problem k
+  passes_within k p = subst (IsWithin problem) p.passes.of_kind (kind_within problem split form (take p.columns p.candidate) (begins problem p.candidate p.columns p.passes.optimal.candidate))
 
   -- the kinds of all numbers are those of stage 0
-  pub numbered_kinds : AreKindsOfStage tiers [] u 0 (map (kind_numbered (length tiers.free)) (range_with_len 0 (kind_count tiers u)))
+  pub numbered_kinds : AreKindsOfStage problem 0 (map (kind_numbered (length problem.tiers.free)) (range_with_len 0 (kind_count problem)))
   numbered_kinds = record {
-    ascending = sorted_from kind_order _ (ascends_map kind_order nat_cmp (kind_numbered (length tiers.free)) (range_with_len 0 (kind_count tiers u)) (λ i j l. kinds_less (length tiers.free) i j (nat_less i j l)) (ascends_range 0 (kind_count tiers u)));
+    ascending = sorted_from kind_order _ (ascends_map kind_order nat_cmp (kind_numbered (length problem.tiers.free)) (range_with_len 0 (kind_count problem)) (λ i j l. kinds_less (length problem.tiers.free) i j (nat_less i j l)) (ascends_range 0 (kind_count problem)));
     members = λ k. (
-      λ c. let r = contains_of_map (kind_numbered (length tiers.free)) (range_with_len 0 (kind_count tiers u)) k c in
-          let b = in_range 0 (kind_count tiers u) r.0 r.1.0 in
-          subst (IsPassed tiers [] u 0 0) r.1.1 (passed_number r.0 (omega (arith, b.1))),
+      λ c. let r = contains_of_map (kind_numbered (length problem.tiers.free)) (range_with_len 0 (kind_count problem)) k c in
+          let b = in_range 0 (kind_count problem) r.0 r.1.0 in
+          subst (IsPassed problem 0 0) r.1.1 (passed_number r.0 (omega (arith, b.1))),
       λ p. let w = passes_within k p in
-          let n = number_of_kind (length tiers.free) k in
-          subst (λ q. Contains (map (kind_numbered (length tiers.free)) (range_with_len 0 (kind_count tiers u))) q) (kind_numbered-number (length tiers.free) k w.flags w.phases)
-          (contains_map (kind_numbered (length tiers.free)) (range_with_len 0 (kind_count tiers u)) n (range_has 0 (kind_count tiers u) n (omega arith) (omega (arith, number_within tiers u k w)))),
+          let n = number_of_kind (length problem.tiers.free) k in
+          subst (λ q. Contains (map (kind_numbered (length problem.tiers.free)) (range_with_len 0 (kind_count problem))) q) (kind_numbered-number (length problem.tiers.free) k w.flags w.phases)
+          (contains_map (kind_numbered (length problem.tiers.free)) (range_with_len 0 (kind_count problem)) n (range_has 0 (kind_count problem) n (omega arith) (omega (arith, number_within problem k w)))),
     );
   }
 
   -- a list of the kinds of stage 0 has no more
-  pub kinds_few : (ks : List PrefixKind) → AreKindsOfStage tiers [] u 0 ks → length ks ≤ kind_count tiers u
+  pub kinds_few : (ks : List PrefixKind) → AreKindsOfStage problem 0 ks → length ks ≤ kind_count problem
   kinds_few ks a =
-      let f = length tiers.free in
-      let within : (k : PrefixKind) → Contains ks k → IsWithin tiers u k = λ k c. passes_within k ((a.members k).0 c) in
+      let f = length problem.tiers.free in
+      let within : (k : PrefixKind) → Contains ks k → IsWithin problem k = λ k c. passes_within k ((a.members k).0 c) in
       let differ : IsDistinct eqb (map (number_of_kind f) ks) = numbers_differ f ks (ascends_from kind_order ks a.ascending) (λ k c. kind_numbered-number f k (within k c).flags (within k c).phases) in
-      let few : length (map (number_of_kind f) ks) ≤ kind_count tiers u = length-le_from_distinct_below (map (number_of_kind f) ks) (kind_count tiers u) differ
+      let few : length (map (number_of_kind f) ks) ≤ kind_count problem = length-le_from_distinct_below (map (number_of_kind f) ks) (kind_count problem) differ
       (λ q e. let r = contains_of_map (number_of_kind f) ks q (Contains-from_any (λ x y h. eqb-true x y h) q (map (number_of_kind f) ks) e) in
-      subst (λ n. n < kind_count tiers u) r.1.1 (number_within tiers u r.0 (within r.0 r.1.0))) in
+      subst (λ n. n < kind_count problem) r.1.1 (number_within problem r.0 (within r.0 r.1.0))) in
       omega (arith, few, length-map ks (number_of_kind f))
 
-  -- with no constraint, all stages are within a budget that stage 0 is within
-  pub all_within : (budget : ℕ) → kind_count tiers u ≤ budget → AreAllWithin tiers [] u budget
-  all_within budget l r none ks a =
-      let first : r ≡ 0 = omega arith in
-      let few = kinds_few ks (subst (λ s. AreKindsOfStage tiers [] u s ks) first a) in
-      omega arith
-
-  -- and stage 0 is the first that is over a budget of fewer kinds
-  pub first_over : (budget : ℕ) → budget < kind_count tiers u → IsFirstOver tiers [] u budget 0
+  -- stage 0 is the first that is over a budget of fewer kinds
+  pub first_over : (budget : ℕ) → budget < kind_count problem → IsFirstOver problem budget 0
   first_over budget l =
-      let f = length tiers.free in
+      let f = length problem.tiers.free in
       record {
         stage = omega arith;
         over = record {
-          kinds = map (kind_numbered f) (range_with_len 0 (kind_count tiers u));
+          kinds = map (kind_numbered f) (range_with_len 0 (kind_count problem));
           are = numbered_kinds;
-          more = omega (arith, length-map (range_with_len 0 (kind_count tiers u)) (kind_numbered f), length-range_with_len 0 (kind_count tiers u));
+          more = omega (arith, length-map (range_with_len 0 (kind_count problem)) (kind_numbered f), length-range_with_len 0 (kind_count problem));
         };
         before = λ s h. absurd (omega arith);
       }

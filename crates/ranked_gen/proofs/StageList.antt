@@ -7,7 +7,7 @@ use Rattle.tier_core.specs.declared.sym.Sym.{Sym}
 use Rattle.tier_core.specs.declared.constraint.Constraint.{Constraint}
 use Rattle.tier_core.specs.Orders.{IsFirst}
 use Rattle.tier_core.specs.Tiers.{Tiers}
-use Rattle.violation.specs.Candidates.{vec, IsOptimal, IsOptimalFor}
+use Rattle.violation.specs.Candidates.{vec, IsOptimal, IsOptimalFor, counts_on, count_at}
 use Rattle.violation.specs.Counts.{violations_of}
 use Rattle.answer_text.specs.declared.stage.Stage.{Stage}
 use Rattle.answer_text.specs.declared.answer.Answer.{Answer}
@@ -15,6 +15,7 @@ use Rattle.answer_text.specs.Right.{IsRightStage, IsRightAutomaton, IsRight, nod
 use Rattle.violation.proofs.StageLemmas.{optimal_for_fewer}
 use Rattle.ranked_gen.specs.Budgets.{IsWithin, IsOver, IsFirstOver, AreAllWithin}
 use Rattle.ranked_gen.specs.Left.{AreStages}
+use Rattle.violation.specs.Problems.{last_stage, Problem}
 
 nodes_kept : (stages : List Stage) (stage : Stage) (s : ℕ) → s < length stages → nodes_at (stages ++ stage ∷ []) s ≡ nodes_at stages s
 nodes_kept stages stage s l =
@@ -27,61 +28,61 @@ nodes_last stages stage s e =
     ∙ ap (λ n. get_or (map (λ (stage : Stage). stage.nodes.items) stages ++ stage.nodes.items ∷ []) n []) (e ∙ sym (length-map stages (λ (stage : Stage). stage.nodes.items)))
     ∙ get_or-append_seam (map (λ (stage : Stage). stage.nodes.items) stages) stage.nodes.items [] []
 
-module _ (tiers : Tiers) (constraints : List Constraint) (u : List (List Sym)) (budget : ℕ) where
-  pub first_stages : (stage : Stage) → IsRightStage tiers constraints u 0 stage.nodes.items → IsWithin tiers constraints u budget 0 → AreStages tiers constraints u budget 0 (stage ∷ []) []
+module _ (problem : Problem) (budget : ℕ) where
+  pub first_stages : (stage : Stage) → IsRightStage problem 0 stage.nodes.items → IsWithin problem budget 0 → AreStages problem budget 0 (stage ∷ []) []
   first_stages stage right within = record {
     stage_count = refl;
-    each_stage = λ s l. let first : 0 ≡ s = omega arith in subst (λ i. IsRightStage tiers constraints u i (nodes_at (stage ∷ []) i)) first right;
+    each_stage = λ s l. let first : 0 ≡ s = omega arith in subst (λ i. IsRightStage problem i (nodes_at (stage ∷ []) i)) first right;
     numbers = λ T o. refl;
-    within = λ s l. let first : 0 ≡ s = omega arith in subst (IsWithin tiers constraints u budget) first within;
+    within = λ s l. let first : 0 ≡ s = omega arith in subst (IsWithin problem budget) first within;
   }
 
-  module _ (r : ℕ) (stages : List Stage) (counts : List ℕ) (so_far : AreStages tiers constraints u budget r stages counts) where
-    pub next_stages : (stage : Stage) (count next : ℕ) → next ≡ r + 1 → r < length constraints → IsRightStage tiers constraints u next stage.nodes.items
-        → ((T : List (List Sym)) → IsOptimalFor tiers constraints u next T → get_or (vec constraints T) (next - 1) 0 ≡ count) → IsWithin tiers constraints u budget next
-        → AreStages tiers constraints u budget next (stages ++ stage ∷ []) (counts ++ count ∷ [])
+  module _ (r : ℕ) (stages : List Stage) (counts : List ℕ) (so_far : AreStages problem budget r stages counts) where
+    pub next_stages : (stage : Stage) (count next : ℕ) → next ≡ r + 1 → r < last_stage problem → IsRightStage problem next stage.nodes.items
+        → ((T : List (List Sym)) → IsOptimalFor problem next T → count_at problem next T ≡ count) → IsWithin problem budget next
+        → AreStages problem budget next (stages ++ stage ∷ []) (counts ++ count ∷ [])
     next_stages stage count next is inside right counted within = record {
       stage_count = omega (arith, length-append stages (stage ∷ []), so_far.stage_count);
       each_stage = λ s l. ⊎_elim
-          (λ less. subst (IsRightStage tiers constraints u s) (sym (nodes_kept stages stage s (omega (arith, less, so_far.stage_count)))) (so_far.each_stage s (omega (arith, less))))
+          (λ less. subst (IsRightStage problem s) (sym (nodes_kept stages stage s (omega (arith, less, so_far.stage_count)))) (so_far.each_stage s (omega (arith, less))))
           (λ last. let same : next ≡ s = omega (arith, last) in
-          subst (λ i. IsRightStage tiers constraints u i (nodes_at (stages ++ stage ∷ []) i)) same
-          (subst (IsRightStage tiers constraints u next) (sym (nodes_last stages stage next (omega (arith, so_far.stage_count)))) right))
+          subst (λ i. IsRightStage problem i (nodes_at (stages ++ stage ∷ []) i)) same
+          (subst (IsRightStage problem next) (sym (nodes_last stages stage next (omega (arith, so_far.stage_count)))) right))
           (cases_lt s (r + 1));
       numbers = λ T o.
-          let fewer = optimal_for_fewer tiers constraints u r next (omega arith) T o in
-          let long : r < length (vec constraints T) = omega (arith, length-map constraints (λ c. violations_of c T)) in
+          let fewer = optimal_for_fewer problem r next (omega arith) T o in
+          let long : r < length (counts_on problem T) = omega (arith, length-map problem.constraints (λ c. violations_of c T)) in
           let place : next - 1 ≡ r = omega arith in
-          ap (λ n. take n (vec constraints T)) is
-          ∙ take_more (vec constraints T) r 0 long
-          ∙ ap₂ (λ xs x. xs ++ x ∷ []) (so_far.numbers T fewer) (ap (λ i. get_or (vec constraints T) i 0) (sym place) ∙ counted T o);
+          ap (λ n. take n (counts_on problem T)) is
+          ∙ take_more (counts_on problem T) r 0 long
+          ∙ ap₂ (λ xs x. xs ++ x ∷ []) (so_far.numbers T fewer) (ap (λ i. get_or (counts_on problem T) i 0) (sym place) ∙ counted T o);
       within = λ s l. ⊎_elim
           (λ less. so_far.within s (omega (arith, less)))
-          (λ last. let same : next ≡ s = omega (arith, last) in subst (IsWithin tiers constraints u budget) same within)
+          (λ last. let same : next ≡ s = omega (arith, last) in subst (IsWithin problem budget) same within)
           (cases_lt s (r + 1));
     }
 
     -- a stage that is over the budget is the first
-    pub first_over : (next : ℕ) → next ≡ r + 1 → r < length constraints → IsOver tiers constraints u budget next → IsFirstOver tiers constraints u budget next
+    pub first_over : (next : ℕ) → next ≡ r + 1 → r < last_stage problem → IsOver problem budget next → IsFirstOver problem budget next
     first_over next is inside over = record {
       stage = omega arith;
       over = over;
       before = λ s l. so_far.within s (omega arith);
     }
 
-    module _ (all : r ≡ length constraints) where
-      pub all_within : AreAllWithin tiers constraints u budget
+    module _ (all : r ≡ last_stage problem) where
+      pub all_within : AreAllWithin problem budget
       all_within s l = so_far.within s (omega arith)
 
-      whole : (T : List (List Sym)) → IsOptimal tiers constraints u T → vec constraints T ≡ counts
+      whole : (T : List (List Sym)) → IsOptimal problem T → counts_on problem T ≡ counts
       whole T o =
-          let long : r ≡ length (vec constraints T) = all ∙ sym (length-map constraints (λ c. violations_of c T)) in
-          sym (ap (λ n. take n (vec constraints T)) long ∙ take-length (vec constraints T))
-          ∙ so_far.numbers T (subst (λ n. IsOptimalFor tiers constraints u n T) (sym all) o)
+          let long : r ≡ length (counts_on problem T) = all ∙ sym (length-map problem.constraints (λ c. violations_of c T)) in
+          sym (ap (λ n. take n (counts_on problem T)) long ∙ take-length (counts_on problem T))
+          ∙ so_far.numbers T (subst (λ n. IsOptimalFor problem n T) (sym all) o)
 
       -- the answer with these stages is right
-      pub right_answer : (answer : Answer) → answer.form ≡ u → answer.counts.items ≡ counts → IsFirst (IsOptimal tiers constraints u) answer.example → answer.stages.items ≡ stages
-          → IsRightAutomaton tiers constraints u (nodes_at stages r) answer.automaton.states.items → IsRight tiers constraints u answer
+      pub right_answer : (answer : Answer) → answer.form ≡ problem.form → answer.counts.items ≡ counts → IsFirst (IsOptimal problem) answer.example → answer.stages.items ≡ stages
+          → IsRightAutomaton problem (nodes_at stages r) answer.automaton.states.items → IsRight problem answer
       right_answer answer form same first lists automaton = record {
         form = form;
         counts = record {
@@ -90,8 +91,8 @@ module _ (tiers : Tiers) (constraints : List Constraint) (u : List (List Sym)) (
         };
         example = first;
         stage_count = ap length lists ∙ so_far.stage_count ∙ ap (λ n. n + 1) all;
-        each_stage = λ s l. subst (λ ss. IsRightStage tiers constraints u s (nodes_at ss s)) (sym lists) (so_far.each_stage s (omega arith));
+        each_stage = λ s l. subst (λ ss. IsRightStage problem s (nodes_at ss s)) (sym lists) (so_far.each_stage s (omega arith));
         automaton =
-            subst (λ ss. IsRightAutomaton tiers constraints u (nodes_at ss (length constraints)) answer.automaton.states.items) (sym lists)
-            (subst (λ n. IsRightAutomaton tiers constraints u (nodes_at stages n) answer.automaton.states.items) all automaton);
+            subst (λ ss. IsRightAutomaton problem (nodes_at ss (last_stage problem)) answer.automaton.states.items) (sym lists)
+            (subst (λ n. IsRightAutomaton problem (nodes_at stages n) answer.automaton.states.items) all automaton);
       }

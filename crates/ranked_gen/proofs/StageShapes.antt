@@ -15,18 +15,20 @@ use Rattle.violation.specs.Prefixes.{stretches}
 use Rattle.kind_moves.specs.declared.frame.Frame.{Frame}
 use Rattle.kind_moves.specs.Frames.{tiers_in, constraints_in, kind_at_stage, FitsFrame}
 use Rattle.kind_orders.specs.KindOrders.{AreFound}
+use Rattle.violation.specs.Problems.{last_stage}
+use Rattle.kind_moves.specs.Frames.{problem_in}
 
-module _ (frame : Frame) (shape : Shape) (of : IsShapeOf frame.grammar.now shape) (stage : ℕ) (within : stage ≤ length (constraints_in frame)) where
+module _ (frame : Frame) (shape : Shape) (of : IsShapeOf frame.grammar.now shape) (stage : ℕ) (within : stage ≤ last_stage (problem_in frame)) where
   pub free_same : free_count shape ≡ length (tiers_in frame).free
   free_same = ap (λ n. n - input_count shape.inputs) of.width ∙ free_tiers frame.grammar.now.tiers.kinds.items shape.inputs of.inputs
 
   pub stage_in : stage < length shape.phases.items
   stage_in = omega (arith, ap length of.phases, length-stretch_counts (constraints_in frame))
 
-  pub stretch_same : stretch_count shape stage ≡ length (stretches (constraints_in frame) stage)
+  pub stretch_same : stretch_count shape stage ≡ length (stretches (problem_in frame) stage)
   stretch_same =
       ap (λ ns. get_or ns stage 0) of.phases
-      ∙ get_or-map-range_with_len (λ i. length (filter is_stretch (take i (constraints_in frame)))) 0 (length (constraints_in frame) + 1) stage stage 0 (omega arith) (omega arith)
+      ∙ get_or-map-range_with_len (λ i. length (filter is_stretch (take i (constraints_in frame)))) 0 (last_stage (problem_in frame) + 1) stage stage 0 (omega arith) (omega arith)
 
   pub tell_same : (k : Kind) → kind_in shape stage k ≡ kind_at_stage frame stage k
   tell_same k = ap (λ n. prefix_kind n (stretch_count shape stage) k) free_same ∙ ap (λ n. prefix_kind (length (tiers_in frame).free) n k) stretch_same

@@ -25,6 +25,7 @@ use Rattle.ranked_gen.specs.Numbers.{flags_of, kind_numbered}
 use Rattle.ranked_gen.specs.Arcs.{still, staying}
 use Rattle.ranked_gen.specs.Listed.{IsNodeNumbered, IsStateNumbered, AreNumbered, AreListed}
 use Rattle.ranked_gen.proofs.NumberLemmas.{flags_of-low, same_kind, kind_from}
+use Rattle.violation.specs.Problems.{last_place, Problem}
 
 -- the kind of a place and a set
 pub kind_at_place : (f place opened : ℕ) → opened < 2 ^ f → kind_numbered f (place * 2 ^ f + opened) ≡ kind_from place (flags_of f opened) []
@@ -61,16 +62,16 @@ pub numbered_more : {X : Type 0} (P : ℕ → X → Type 0) (n : ℕ) (xs : List
 numbered_more P n [] x a p = let here : n + 0 ≡ n = omega arith in (subst (λ k. P k x) here p, tt)
 numbered_more P n (y ∷ ys) x a p = let here : n + suc (length ys) ≡ (n + 1) + length ys = omega arith in (a.0, numbered_more P (n + 1) ys x a.1 (subst (λ k. P k x) here p))
 
-pub listed_more : {W : Type 0} {g : Ghosts W} (tiers : Tiers) (u : List (List Sym)) (count : ℕ) (nodes : List Node) (states : List (TableState W g)) (node : Node) (state : TableState W g)
-    → AreListed tiers u count nodes states → IsNodeNumbered tiers count node → IsStateNumbered tiers u count state → AreListed tiers u (count + 1) (nodes ++ node ∷ []) (states ++ state ∷ [])
-listed_more {W} {g} tiers u count nodes states node state a n s =
+pub listed_more : {W : Type 0} {g : Ghosts W} (problem : Problem) (count : ℕ) (nodes : List Node) (states : List (TableState W g)) (node : Node) (state : TableState W g)
+    → AreListed problem count nodes states → IsNodeNumbered problem.tiers count node → IsStateNumbered problem count state → AreListed problem (count + 1) (nodes ++ node ∷ []) (states ++ state ∷ [])
+listed_more {W} {g} problem count nodes states node state a n s =
     let at_node : count ≡ 0 + length nodes = omega (arith, a.node_count) in
     let at_state : count ≡ 0 + length states = omega (arith, a.state_count) in
     record {
       node_count = omega (arith, a.node_count, length_push nodes node);
-      each_node = numbered_more (IsNodeNumbered tiers) 0 nodes node a.each_node (subst (λ k. IsNodeNumbered tiers k node) at_node n);
+      each_node = numbered_more (IsNodeNumbered problem.tiers) 0 nodes node a.each_node (subst (λ k. IsNodeNumbered problem.tiers k node) at_node n);
       state_count = omega (arith, a.state_count, length_push states state);
-      each_state = numbered_more (IsStateNumbered {W = W} {g = g} tiers u) 0 states state a.each_state (subst (λ k. IsStateNumbered {W = W} {g = g} tiers u k state) at_state s);
+      each_state = numbered_more (IsStateNumbered {W = W} {g = g} problem) 0 states state a.each_state (subst (λ k. IsStateNumbered {W = W} {g = g} problem k state) at_state s);
     }
 
 -- numbers of kinds are small
@@ -86,5 +87,5 @@ pub kind_counted : (free place opened mask : ℕ) → opened < 2 ^ free → map 
     → kind_from place (map (has_tier mask) (range_with_len 0 free)) [] ≡ kind_numbered free (place * 2 ^ free + opened)
 kind_counted free place opened mask l e = ap (λ o. kind_from place o []) e ∙ sym (kind_at_place free place opened l)
 
-pub nothing_listed : {W : Type 0} {g : Ghosts W} (tiers : Tiers) (u : List (List Sym)) (n : ℕ) → n ≡ 0 → AreListed {W = W} {g = g} tiers u n [] []
-nothing_listed {W} {g} tiers u n e = record { node_count = sym e; each_node = tt; state_count = sym e; each_state = tt }
+pub nothing_listed : {W : Type 0} {g : Ghosts W} (problem : Problem) (n : ℕ) → n ≡ 0 → AreListed {W = W} {g = g} problem n [] []
+nothing_listed {W} {g} problem n e = record { node_count = sym e; each_node = tt; state_count = sym e; each_state = tt }

@@ -11,6 +11,7 @@ use Rattle.violation.specs.Counts.{choices}
 use Rattle.violation.specs.Moves.{flag_of, form_opened}
 use Rattle.ranked_gen.specs.WideColumns.{symbol_on}
 use Rattle.ranked_gen.specs.Numbers.{flags_of}
+use Rattle.violation.specs.Problems.{last_place, Problem}
 
 -- the symbols of a free tier that is open before a column or not, and after it or not
 abbrev pub between : Bool → Bool → List Sym
@@ -53,7 +54,7 @@ abbrev pub staying : Tiers → List (List Sym) → ℕ → List Sym
 staying tiers u place = map still (form_opened tiers u place)
 
 -- the moves from a kind, ordered by target and then by column
-abbrev pub moves_from : Tiers → List (List Sym) → PrefixKind → List (ℕ × List Sym)
-moves_from tiers u k =
-    moves_with tiers (staying tiers u k.place) k.opened (k.place * 2 ^ length tiers.free)
-    ++ (if nat_lt k.place (length u) then moves_with tiers (column_at u k.place) k.opened ((k.place + 1) * 2 ^ length tiers.free) else [])
+abbrev pub moves_from : Problem → PrefixKind → List (ℕ × List Sym)
+moves_from problem k =
+    moves_with problem.tiers (staying problem.tiers problem.form k.place) k.opened (k.place * 2 ^ length problem.tiers.free)
+    ++ (if nat_lt k.place (last_place problem) then moves_with problem.tiers (column_at problem.form k.place) k.opened ((k.place + 1) * 2 ^ length problem.tiers.free) else [])

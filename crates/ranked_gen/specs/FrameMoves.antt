@@ -10,6 +10,7 @@ use Rattle.kind_moves.specs.Frames.{tiers_in, constraints_in, kind_at_stage, Fit
 use Rattle.ranked_gen.specs.Numbers.{flags_of, number_of_kind}
 use Rattle.ranked_gen.specs.Arcs.{columns_between}
 use Rattle.ranked_gen.specs.Listed.{move_view}
+use Rattle.kind_moves.specs.Frames.{problem_in}
 
 -- the columns with these input symbols, from one set of open free tiers to each set in turn
 abbrev pub columns_from : Tiers → List Sym → List Bool → List (List Sym)
@@ -17,7 +18,7 @@ columns_from tiers given opened = flat_map (λ o. columns_between tiers given op
 
 -- the number of the kind that a column leads to
 abbrev pub number_after : Frame → Kind → List Sym → ℕ
-number_after frame kind column = number_of_kind (length (tiers_in frame).free) (moved (tiers_in frame) (constraints_in frame) 0 (kind_at_stage frame 0 kind) column)
+number_after frame kind column = number_of_kind (length (tiers_in frame).free) (moved (problem_in frame) 0 (kind_at_stage frame 0 kind) column)
 
 -- the arc for a column, to the kind that the column leads to
 abbrev pub arc_by : Frame → Kind → List Sym → ℕ × List ℕ

@@ -10,8 +10,8 @@ use Rattle.weight_law.specs.declared.count.Count.{Count}
 use Rattle.weight_law.specs.declared.unit_weight.UnitWeight.{UnitWeight}
 use Rattle.arc_table.specs.declared.state.TableState.{TableState}
 use Rattle.arc_table.specs.Runs.{Accepts}
-use Rattle.violation.specs.Candidates.{vec, IsOptimalFor}
-use Rattle.violation.specs.Prefixes.{kind_of, stretches}
+use Rattle.violation.specs.Candidates.{vec, IsOptimalFor, counts_on, count_at}
+use Rattle.violation.specs.Prefixes.{kind_of, stretches, kind_of_bits}
 use Rattle.answer_text.specs.declared.stage.Node.{Node}
 use Rattle.answer_text.specs.declared.stage.Stage.{Stage}
 use Rattle.answer_text.specs.Right.{IsRightStage, nodes_at}
@@ -19,6 +19,7 @@ use Rattle.kind_orders.specs.Orderings.{IsOrdering}
 use Rattle.kind_orders.specs.Automata.{Reaches}
 use Rattle.stage_tables.specs.Kept.{IsKept}
 use Rattle.ranked_gen.specs.Budgets.{IsWithin}
+use Rattle.violation.specs.Problems.{Problem}
 
 -- the number of a weight that is found, and 0 where there is none
 abbrev pub weight_number : Option Count → ℕ
@@ -26,10 +27,10 @@ weight_number None = 0
 weight_number (Some w) = w.0
 
 -- node number n tells this kind, under the first r constraints
-pub record TellsKind (tiers : Tiers) (constraints : List Constraint) (r : ℕ) (nodes : List Node) (n : ℕ) (k : PrefixKind) : Type 0 where
+pub record TellsKind (problem : Problem) (r : ℕ) (nodes : List Node) (n : ℕ) (k : PrefixKind) : Type 0 where
   pub node : Node
   pub numbered : slice_get nodes n ≡ Some node
-  pub tells : prefix_kind (length tiers.free) (length (stretches constraints r)) node.kind ≡ k
+  pub tells : kind_of_bits problem r node.kind ≡ k
 
 -- Each of so many states has a number of the order, and no two have the same.
 pub record AreOrdered (order states : List ℕ) (count : ℕ) : Type 0 where
@@ -41,29 +42,29 @@ pub record AreOrdered (order states : List ℕ) (count : ℕ) : Type 0 where
 -- What stage r leaves: its nodes are right, and the kept table accepts exactly the r-optimal
 -- candidates. Its states have numbers of an order, of which the start's is the first, and the node
 -- at the place of a state's number tells the kind of each prefix that leads to the state.
-pub record IsLeft {g : Ghosts UnitWeight} (tiers : Tiers) (constraints : List Constraint) (u : List (List Sym)) (r : ℕ) (nodes : List Node) (kept : List (TableState UnitWeight g)) (states order : List ℕ) : Type 0 where
-  pub right : IsRightStage tiers constraints u r nodes
-  pub kept_by : IsKept tiers constraints u r kept
-  pub accepts : (T : List (List Sym)) → Accepts kept T ↔ IsOptimalFor tiers constraints u r T
+pub record IsLeft {g : Ghosts UnitWeight} (problem : Problem) (r : ℕ) (nodes : List Node) (kept : List (TableState UnitWeight g)) (states order : List ℕ) : Type 0 where
+  pub right : IsRightStage problem r nodes
+  pub kept_by : IsKept problem r kept
+  pub accepts : (T : List (List Sym)) → Accepts kept T ↔ IsOptimalFor problem r T
   pub ordered : AreOrdered order states (length kept)
   pub start : slice_index order 0 ≡ slice_index states 0
   pub tells : (p : List (List Sym)) (s place : ℕ) → s < length kept → Reaches kept p s → place < length order → slice_index order place ≡ slice_index states s
-      → TellsKind tiers constraints r nodes place (kind_of tiers constraints r p)
+      → TellsKind problem r nodes place (kind_of problem r p)
 
 -- and the count is the number of constraint r, counted from 1, of each r-optimal candidate
-pub record IsStaged {g : Ghosts UnitWeight} (tiers : Tiers) (constraints : List Constraint) (u : List (List Sym)) (r : ℕ) (nodes : List Node) (count : ℕ) (kept : List (TableState UnitWeight g)) (states order : List ℕ) : Type 0 where
-  pub left : IsLeft tiers constraints u r nodes kept states order
-  pub counted : (T : List (List Sym)) → IsOptimalFor tiers constraints u r T → slice_index_or (vec constraints T) (r - 1) 0 ≡ count
+pub record IsStaged {g : Ghosts UnitWeight} (problem : Problem) (r : ℕ) (nodes : List Node) (count : ℕ) (kept : List (TableState UnitWeight g)) (states order : List ℕ) : Type 0 where
+  pub left : IsLeft problem r nodes kept states order
+  pub counted : (T : List (List Sym)) → IsOptimalFor problem r T → count_at problem r T ≡ count
 
 -- The stages up to r are right and within the budget, and the counts are the first r numbers of
 -- each r-optimal candidate.
-pub record AreStages (tiers : Tiers) (constraints : List Constraint) (u : List (List Sym)) (budget r : ℕ) (stages : List Stage) (counts : List ℕ) : Type 0 where
+pub record AreStages (problem : Problem) (budget r : ℕ) (stages : List Stage) (counts : List ℕ) : Type 0 where
   pub stage_count : length stages ≡ r + 1
-  pub each_stage : (s : ℕ) → s ≤ r → IsRightStage tiers constraints u s (nodes_at stages s)
-  pub numbers : (T : List (List Sym)) → IsOptimalFor tiers constraints u r T → take r (vec constraints T) ≡ counts
-  pub within : (s : ℕ) → s ≤ r → IsWithin tiers constraints u budget s
+  pub each_stage : (s : ℕ) → s ≤ r → IsRightStage problem s (nodes_at stages s)
+  pub numbers : (T : List (List Sym)) → IsOptimalFor problem r T → take r (counts_on problem T) ≡ counts
+  pub within : (s : ℕ) → s ≤ r → IsWithin problem budget s
 
 -- These are the stages up to r, the counts of their constraints, and what the last of them leaves.
-pub record IsRanked {g : Ghosts UnitWeight} (tiers : Tiers) (constraints : List Constraint) (u : List (List Sym)) (budget r : ℕ) (stages : List Stage) (counts : List ℕ) (kept : List (TableState UnitWeight g)) (states order : List ℕ) : Type 0 where
-  pub so_far : AreStages tiers constraints u budget r stages counts
-  pub left : IsLeft tiers constraints u r (nodes_at stages r) kept states order
+pub record IsRanked {g : Ghosts UnitWeight} (problem : Problem) (budget r : ℕ) (stages : List Stage) (counts : List ℕ) (kept : List (TableState UnitWeight g)) (states order : List ℕ) : Type 0 where
+  pub so_far : AreStages problem budget r stages counts
+  pub left : IsLeft problem r (nodes_at stages r) kept states order

@@ -15,10 +15,11 @@ use Rattle.arc_table.specs.declared.arc.TableArc.{TableArc}
 use Rattle.arc_table.specs.declared.state.TableState.{TableState}
 use Rattle.ranked_gen.specs.Numbers.{kind_numbered}
 use Rattle.ranked_gen.specs.Arcs.{moves_from}
+use Rattle.violation.specs.Problems.{last_place, Problem}
 
 -- how many kinds there are
-abbrev pub kind_count : Tiers → List (List Sym) → ℕ
-kind_count tiers u = (length u + 1) * 2 ^ length tiers.free
+abbrev pub kind_count : Problem → ℕ
+kind_count problem = (last_place problem + 1) * 2 ^ length problem.tiers.free
 
 -- an arc of a table, by its target and the numbers of its sets
 abbrev pub table_view : {W : Type 0} {g : Ghosts W} → TableArc W g → ℕ × List ℕ
@@ -45,9 +46,9 @@ pub record IsNodeNumbered (tiers : Tiers) (n : ℕ) (node : Node) : Type 0 where
   pub potential : node.potential ≡ 0
 
 -- the state of the kind of a number
-pub record IsStateNumbered {W : Type 0} {g : Ghosts W} (tiers : Tiers) (u : List (List Sym)) (n : ℕ) (state : TableState W g) : Type 0 where
-  pub final : state.accepting ≡ is_final u (kind_numbered (length tiers.free) n)
-  pub arcs : map table_view state.arcs.items ≡ map move_view (moves_from tiers u (kind_numbered (length tiers.free) n))
+pub record IsStateNumbered {W : Type 0} {g : Ghosts W} (problem : Problem) (n : ℕ) (state : TableState W g) : Type 0 where
+  pub final : state.accepting ≡ is_final problem (kind_numbered (length problem.tiers.free) n)
+  pub arcs : map table_view state.arcs.items ≡ map move_view (moves_from problem (kind_numbered (length problem.tiers.free) n))
 
 -- elements that are numbered from n on
 abbrev pub AreNumbered : {X : Type 0} → (ℕ → X → Type 0) → ℕ → List X → Type 0
@@ -55,8 +56,8 @@ AreNumbered P n [] = Unit {0}
 AreNumbered P n (x ∷ xs) = P n x × AreNumbered P (n + 1) xs
 
 -- the first nodes and states, so many of each
-pub record AreListed {W : Type 0} {g : Ghosts W} (tiers : Tiers) (u : List (List Sym)) (count : ℕ) (nodes : List Node) (states : List (TableState W g)) : Type 0 where
+pub record AreListed {W : Type 0} {g : Ghosts W} (problem : Problem) (count : ℕ) (nodes : List Node) (states : List (TableState W g)) : Type 0 where
   pub node_count : length nodes ≡ count
-  pub each_node : AreNumbered (IsNodeNumbered tiers) 0 nodes
+  pub each_node : AreNumbered (IsNodeNumbered problem.tiers) 0 nodes
   pub state_count : length states ≡ count
-  pub each_state : AreNumbered (IsStateNumbered {W = W} {g = g} tiers u) 0 states
+  pub each_state : AreNumbered (IsStateNumbered {W = W} {g = g} problem) 0 states

@@ -8,6 +8,8 @@ ghost use Rattle.kind_moves.specs.Frames.{tiers_in, constraints_in, form_in};
 ghost use Rattle.ranked_gen.specs.Budgets.{AreAllWithin, IsFirstOver};
 ghost use Rattle.ranked_gen.specs.Left.{IsRanked};
 ghost use Rattle.ranked_gen.specs.Listed.{AreListed, kind_count};
+ghost use Rattle.violation.specs.Problems.{asked};
+ghost use Rattle.kind_moves.specs.Frames.{problem_in};
 
 use crate::gen_err::GenErr;
 use crate::place::{Listing, list_place};
@@ -39,7 +41,7 @@ fn list_all(alloc: Global, frame: &Frame, inputs: usize, free: u32) -> Result<Li
     requires few_inputs { inputs ≤ 12 }
     requires count { free ≡ length (tiers_in frame.now).free }
     requires few { free ≤ 12 }
-    ensures { IfOk result (λ listing. AreListed (tiers_in frame.now) (form_in frame.now) (kind_count (tiers_in frame.now) (form_in frame.now)) listing.nodes.items listing.states.items) }
+    ensures { IfOk result (λ listing. AreListed (problem_in frame.now) (kind_count (problem_in frame.now)) listing.nodes.items listing.states.items) }
 {
     let mut listing = Listing {
         nodes: Vec::new(alloc),
@@ -81,7 +83,7 @@ fn unranked(alloc: Global, frame: &Frame, free: u32) -> Result<Ranked, NoMemory>
     requires form { IsForm (tiers_in frame.now) (form_in frame.now) }
     requires count { free ≡ length (tiers_in frame.now).free }
     requires few { free ≤ 12 }
-    ensures { IfOk result (λ all. (budget : ℕ) → kind_count (tiers_in frame.now) (form_in frame.now) ≤ budget → IsRanked (tiers_in frame.now) (constraints_in frame.now) (form_in frame.now) budget 0 all.stages.items all.counts.items (states_of all.left.kept.table) all.left.kept.states.items all.left.order.items) }
+    ensures { IfOk result (λ all. (budget : ℕ) → kind_count (problem_in frame.now) ≤ budget → IsRanked (problem_in frame.now) budget 0 all.stages.items all.counts.items (states_of all.left.kept.table) all.left.kept.states.items all.left.order.items) }
 {
     let inputs = frame.grammar.tiers.input_count();
     let Listing { nodes, states } = list_all(alloc, frame, inputs, free)?;
@@ -102,12 +104,12 @@ fn answer_in(alloc: Global, frame: &Frame, free: u32, budget: u32) -> Result<Ans
     requires form { IsForm (tiers_in frame.now) (form_in frame.now) }
     requires count { free ≡ length (tiers_in frame.now).free }
     requires few { free ≤ 12 }
-    requires first { kind_count (tiers_in frame.now) (form_in frame.now) ≤ budget }
+    requires first { kind_count (problem_in frame.now) ≤ budget }
     requires some { 1 ≤ budget }
     requires few_kinds { budget ≤ 65536 }
-    ensures right { IfOk result (λ answer. IsRight (tiers_in frame.now) (constraints_in frame.now) (form_in frame.now) answer) }
-    ensures within { IfOk result (λ answer. AreAllWithin (tiers_in frame.now) (constraints_in frame.now) (form_in frame.now) budget) }
-    ensures over { (stage : ℕ) → result ≡ Err (GenErr.Budget stage) → IsFirstOver (tiers_in frame.now) (constraints_in frame.now) (form_in frame.now) budget stage }
+    ensures right { IfOk result (λ answer. IsRight (problem_in frame.now) answer) }
+    ensures within { IfOk result (λ answer. AreAllWithin (problem_in frame.now) budget) }
+    ensures over { (stage : ℕ) → result ≡ Err (GenErr.Budget stage) → IsFirstOver (problem_in frame.now) budget stage }
 {
     let Ok(start) = unranked(alloc, frame, free) else {
         return Err(GenErr::NoMemory);
@@ -133,9 +135,9 @@ pub fn generate(
     requires short { length form.now ≤ 64 }
     requires some { 1 ≤ budget }
     requires few { budget ≤ 65536 }
-    ensures right { IfOk result (λ answer. IsRight (tiers_of_table grammar.now.tiers) grammar.now.constraints.items form.now answer) }
-    ensures within { IfOk result (λ answer. AreAllWithin (tiers_of_table grammar.now.tiers) grammar.now.constraints.items form.now budget) }
-    ensures over { (stage : ℕ) → result ≡ Err (GenErr.Budget stage) → IsFirstOver (tiers_of_table grammar.now.tiers) grammar.now.constraints.items form.now budget stage }
+    ensures right { IfOk result (λ answer. IsRight (asked grammar.now.tiers grammar.now.constraints.items form.now) answer) }
+    ensures within { IfOk result (λ answer. AreAllWithin (asked grammar.now.tiers grammar.now.constraints.items form.now) budget) }
+    ensures over { (stage : ℕ) → result ≡ Err (GenErr.Budget stage) → IsFirstOver (asked grammar.now.tiers grammar.now.constraints.items form.now) budget stage }
 {
     let free = grammar.tiers.free_count() as u32;
     let kinds = count_kinds(form.len() as u32 + 1, free);

@@ -2,6 +2,8 @@ ghost use Rattle.std.specs.Prelude.{◌≡◌, ◌<◌, ◌≤◌, ◌+◌, ◌*
 ghost use Rattle.violation.specs.Candidates.{IsForm};
 ghost use Rattle.kind_moves.specs.Frames.{tiers_in, form_in};
 ghost use Rattle.ranked_gen.specs.Listed.{AreListed};
+ghost use Rattle.violation.specs.Problems.{last_place};
+ghost use Rattle.kind_moves.specs.Frames.{problem_in};
 
 use crate::state::{kind_at, state_at};
 use crate::stay::staying;
@@ -52,9 +54,9 @@ pub(crate) fn list_place(
     requires few_inputs { inputs ≤ 12 }
     requires count { free ≡ length (tiers_in frame.now).free }
     requires few { free ≤ 12 }
-    requires place { place ≤ length (form_in frame.now) }
-    requires before { AreListed (tiers_in frame.now) (form_in frame.now) (place * 2 ^ free) listing.old.nodes.items listing.old.states.items }
-    ensures { OnOk result (AreListed (tiers_in frame.now) (form_in frame.now) ((place + 1) * 2 ^ free) listing.new.nodes.items listing.new.states.items) }
+    requires place { place ≤ last_place (problem_in frame.now) }
+    requires before { AreListed (problem_in frame.now) (place * 2 ^ free) listing.old.nodes.items listing.old.states.items }
+    ensures { OnOk result (AreListed (problem_in frame.now) ((place + 1) * 2 ^ free) listing.new.nodes.items listing.new.states.items) }
 {
     let symbols = staying(&frame.grammar.tiers, inputs, frame.form, place as usize);
     let stay = &symbols[..inputs];

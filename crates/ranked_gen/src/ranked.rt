@@ -4,6 +4,8 @@ ghost use Rattle.answer_text.specs.Right.{IsRight};
 ghost use Rattle.kind_moves.specs.Frames.{tiers_in, constraints_in, form_in};
 ghost use Rattle.ranked_gen.specs.Budgets.{IsFirstOver};
 ghost use Rattle.ranked_gen.specs.Left.{IsRanked};
+ghost use Rattle.violation.specs.Problems.{last_stage};
+ghost use Rattle.kind_moves.specs.Frames.{problem_in};
 
 use crate::gen_err::GenErr;
 use crate::staged::{Left, Staged, next_stage};
@@ -52,11 +54,11 @@ pub(crate) fn all_ranked(
     start: Ranked,
     budget: u32,
 ) -> Result<Ranked, GenErr>
-    requires start { IsRanked (tiers_in frame.now) (constraints_in frame.now) (form_in frame.now) budget 0 start.stages.items start.counts.items (states_of start.left.kept.table) start.left.kept.states.items start.left.order.items }
+    requires start { IsRanked (problem_in frame.now) budget 0 start.stages.items start.counts.items (states_of start.left.kept.table) start.left.kept.states.items start.left.order.items }
     requires some { 1 ≤ budget }
     requires few { budget ≤ 65536 }
-    ensures ranked { IfOk result (λ all. IsRanked (tiers_in frame.now) (constraints_in frame.now) (form_in frame.now) budget (length (constraints_in frame.now)) all.stages.items all.counts.items (states_of all.left.kept.table) all.left.kept.states.items all.left.order.items) }
-    ensures over { (s : ℕ) → result ≡ Err (GenErr.Budget s) → IsFirstOver (tiers_in frame.now) (constraints_in frame.now) (form_in frame.now) budget s }
+    ensures ranked { IfOk result (λ all. IsRanked (problem_in frame.now) budget (last_stage (problem_in frame.now)) all.stages.items all.counts.items (states_of all.left.kept.table) all.left.kept.states.items all.left.order.items) }
+    ensures over { (s : ℕ) → result ≡ Err (GenErr.Budget s) → IsFirstOver (problem_in frame.now) budget s }
 {
     let mut ranked = start;
     for number in 0..frame.grammar.constraints.len() as u32 {
@@ -87,8 +89,8 @@ fn copied(alloc: Global, timeline: &Timeline) -> Result<Timeline, NoMemory>
 
 /// The answer of all stages of a frame. It fails only for want of memory.
 pub(crate) fn answered(alloc: Global, frame: &Frame, ranked: Ranked) -> Result<Answer, NoMemory>
-    requires ranked { (budget : ℕ) × IsRanked (tiers_in frame.now) (constraints_in frame.now) (form_in frame.now) budget (length (constraints_in frame.now)) ranked.stages.items ranked.counts.items (states_of ranked.left.kept.table) ranked.left.kept.states.items ranked.left.order.items }
-    ensures right { IfOk result (λ answer. IsRight (tiers_in frame.now) (constraints_in frame.now) (form_in frame.now) answer) }
+    requires ranked { (budget : ℕ) × IsRanked (problem_in frame.now) budget (last_stage (problem_in frame.now)) ranked.stages.items ranked.counts.items (states_of ranked.left.kept.table) ranked.left.kept.states.items ranked.left.order.items }
+    ensures right { IfOk result (λ answer. IsRight (problem_in frame.now) answer) }
 {
     let own = copied(alloc, frame.form)?;
     let Ranked {

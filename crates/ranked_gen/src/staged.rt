@@ -12,6 +12,8 @@ ghost use Rattle.stage_tables.specs.Kept.{IsKept, IsOfOneColumn};
 ghost use Rattle.stage_tables.specs.Explored.{names_at};
 ghost use Rattle.ranked_gen.specs.Budgets.{IsOver, IsWithin};
 ghost use Rattle.ranked_gen.specs.Left.{IsStaged, weight_number};
+ghost use Rattle.violation.specs.Problems.{last_stage};
+ghost use Rattle.kind_moves.specs.Frames.{problem_in};
 
 use crate::gen_err::GenErr;
 use answer_text::Stage;
@@ -68,11 +70,11 @@ fn potentials_of(alloc: Global, least: &[Option<Count>]) -> Result<Vec<u32>, All
 /// memory.
 fn pruned(alloc: Global, frame: &Frame, stage: u32, found: &StageTable) -> Result<Staged, NoMemory>
     requires some { 1 ≤ stage }
-    requires within { stage ≤ length (constraints_in frame.now) }
-    requires table { IsStageTable (tiers_in frame.now) (constraints_in frame.now) (form_in frame.now) stage (names_at frame.now stage found.now.kinds.items) (states_of found.now.table) }
+    requires within { stage ≤ last_stage (problem_in frame.now) }
+    requires table { IsStageTable (problem_in frame.now) stage (names_at frame.now stage found.now.kinds.items) (states_of found.now.table) }
     requires fit { All (FitsFrame frame.now stage) found.now.kinds.items }
     requires single { (s : ℕ) (arc : ArcOf Counted ⟦<Count as Weight>⟧) → Contains (moves_at (states_of found.now.table) s) arc → IsOfOneColumn arc.class }
-    ensures { IfOk result (λ staged. IsStaged (tiers_in frame.now) (constraints_in frame.now) (form_in frame.now) stage staged.stage.nodes.items staged.count (states_of staged.left.kept.table) staged.left.kept.states.items staged.left.order.items) }
+    ensures { IfOk result (λ staged. IsStaged (problem_in frame.now) stage staged.stage.nodes.items staged.count (states_of staged.left.kept.table) staged.left.kept.states.items staged.left.order.items) }
 {
     let least = to_final(alloc, &found.table)?;
     let Ok(potentials) = potentials_of(alloc, &least) else {
@@ -99,14 +101,14 @@ pub(crate) fn next_stage(
     budget: u32,
 ) -> Result<Staged, GenErr>
     requires some { 1 ≤ stage }
-    requires within { stage ≤ length (constraints_in frame.now) }
-    requires kept { IsKept (tiers_in frame.now) (constraints_in frame.now) (form_in frame.now) (stage - 1) (states_of kept.now) }
-    requires accepts { (T : List (List Sym)) → Accepts (states_of kept.now) T ↔ IsOptimalFor (tiers_in frame.now) (constraints_in frame.now) (form_in frame.now) (stage - 1) T }
+    requires within { stage ≤ last_stage (problem_in frame.now) }
+    requires kept { IsKept (problem_in frame.now) (stage - 1) (states_of kept.now) }
+    requires accepts { (T : List (List Sym)) → Accepts (states_of kept.now) T ↔ IsOptimalFor (problem_in frame.now) (stage - 1) T }
     requires some_budget { 1 ≤ budget }
     requires few { budget ≤ 65536 }
-    ensures staged { IfOk result (λ staged. IsStaged (tiers_in frame.now) (constraints_in frame.now) (form_in frame.now) stage staged.stage.nodes.items staged.count (states_of staged.left.kept.table) staged.left.kept.states.items staged.left.order.items) }
-    ensures within { IfOk result (λ staged. IsWithin (tiers_in frame.now) (constraints_in frame.now) (form_in frame.now) budget stage) }
-    ensures over { (s : ℕ) → result ≡ Err (GenErr.Budget s) → (s ≡ stage) × IsOver (tiers_in frame.now) (constraints_in frame.now) (form_in frame.now) budget stage }
+    ensures staged { IfOk result (λ staged. IsStaged (problem_in frame.now) stage staged.stage.nodes.items staged.count (states_of staged.left.kept.table) staged.left.kept.states.items staged.left.order.items) }
+    ensures within { IfOk result (λ staged. IsWithin (problem_in frame.now) budget stage) }
+    ensures over { (s : ℕ) → result ≡ Err (GenErr.Budget s) → (s ≡ stage) × IsOver (problem_in frame.now) budget stage }
 {
     match explore(alloc, frame, stage, kept, budget) {
         Ok(found) => pruned(alloc, frame, stage, &found).map_err(|_| GenErr::NoMemory),

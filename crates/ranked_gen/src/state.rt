@@ -3,6 +3,8 @@ ghost use Rattle.violation.specs.Candidates.{IsForm};
 ghost use Rattle.kind_moves.specs.Frames.{tiers_in, form_in, kind_at_stage};
 ghost use Rattle.ranked_gen.specs.Arcs.{staying, moves_from};
 ghost use Rattle.ranked_gen.specs.Listed.{table_view, move_view, IsKindNumbered, IsStateNumbered};
+ghost use Rattle.violation.specs.Problems.{last_place};
+ghost use Rattle.kind_moves.specs.Frames.{problem_in};
 
 use crate::flags::mask_of_flags;
 use crate::moves::push_moves;
@@ -39,11 +41,11 @@ fn arcs_at(
     requires form { IsForm (tiers_in frame.now) (form_in frame.now) }
     requires count { free ≡ length (tiers_in frame.now).free }
     requires few { free ≤ 12 }
-    requires place { kind.now.place ≤ length (form_in frame.now) }
+    requires place { kind.now.place ≤ last_place (problem_in frame.now) }
     requires opened { opened < 2 ^ free }
     requires numbered { IsKindNumbered free (kind.now.place * 2 ^ free + opened) kind.now }
     requires stay { stay.now ≡ staying (tiers_in frame.now) (form_in frame.now) kind.now.place }
-    ensures { IfOk result (λ arcs. map table_view arcs.items ≡ map move_view (moves_from (tiers_in frame.now) (form_in frame.now) (kind_at_stage frame.now 0 kind.now))) }
+    ensures { IfOk result (λ arcs. map table_view arcs.items ≡ map move_view (moves_from (problem_in frame.now) (kind_at_stage frame.now 0 kind.now))) }
 {
     let mut arcs = Vec::new(alloc);
     push_moves(alloc, &mut arcs, frame, free, kind, opened, stay)?;
@@ -67,11 +69,11 @@ pub(crate) fn state_at(
     requires form { IsForm (tiers_in frame.now) (form_in frame.now) }
     requires count { free ≡ length (tiers_in frame.now).free }
     requires few { free ≤ 12 }
-    requires place { kind.now.place ≤ length (form_in frame.now) }
+    requires place { kind.now.place ≤ last_place (problem_in frame.now) }
     requires opened { opened < 2 ^ free }
     requires numbered { IsKindNumbered free (kind.now.place * 2 ^ free + opened) kind.now }
     requires stay { stay.now ≡ staying (tiers_in frame.now) (form_in frame.now) kind.now.place }
-    ensures { IfOk result (λ state. IsStateNumbered (tiers_in frame.now) (form_in frame.now) (kind.now.place * 2 ^ free + opened) state) }
+    ensures { IfOk result (λ state. IsStateNumbered (problem_in frame.now) (kind.now.place * 2 ^ free + opened) state) }
 {
     let arcs = arcs_at(alloc, frame, free, kind, opened, stay)?;
     Ok(TableState {

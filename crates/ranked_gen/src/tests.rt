@@ -1,6 +1,7 @@
 ghost use Rattle.std.specs.Prelude.{IsTrue};
 ghost use Rattle.tier_core.specs.Tables.{tiers_of_table};
 ghost use Rattle.violation.specs.Candidates.{IsForm};
+ghost use Rattle.violation.specs.Problems.{asked};
 
 use crate::{GenErr, generate};
 use answer_text::Answer;

@@ -20,32 +20,33 @@ use Rattle.stage_laws.specs.FoundTables.{HasMoveOn, base_of, AreFoundFrom}
 use Rattle.violation.proofs.CutLemmas.{cut-moved, cut-kind_of, fits-cut}
 use Rattle.stage_laws.proofs.Naming.{same_state}
 use Rattle.stage_laws.proofs.Paths.{reached_path}
+use Rattle.violation.specs.Problems.{Problem}
 
-module _ (tiers : Tiers) (constraints : List Constraint) (u : List (List Sym)) (r : ℕ) {V : Type 0} {h : Ghosts V} (pruned_names : List PrefixKind) (pruned : List (TableState V h)) (before : AreNamedByKinds tiers constraints u r pruned_names pruned) where
+module _ (problem : Problem) (r : ℕ) {V : Type 0} {h : Ghosts V} (pruned_names : List PrefixKind) (pruned : List (TableState V h)) (before : AreNamedByKinds problem r pruned_names pruned) where
   -- a move of the pruned table, at a kind that is cut to the name of its state
-  pub fits_from_cut : (k : PrefixKind) (b : ℕ) (a : TableArc V h) (column : List Sym) → cut constraints r k ≡ name_of pruned_names b → Contains (moves_at pruned b) a → IsTrue (has a.class column) → FitsKind tiers u k column
+  pub fits_from_cut : (k : PrefixKind) (b : ℕ) (a : TableArc V h) (column : List Sym) → cut problem r k ≡ name_of pruned_names b → Contains (moves_at pruned b) a → IsTrue (has a.class column) → FitsKind problem k column
   fits_from_cut k b a column name here reads =
-      (fits-cut tiers constraints u r k column).0 (subst (λ n. FitsKind tiers u n column) (sym name) (before.moves b a column here reads).fits)
+      (fits-cut problem r k column).0 (subst (λ n. FitsKind problem n column) (sym name) (before.moves b a column here reads).fits)
 
-  pub cut_leads : (k : PrefixKind) (b : ℕ) (a : TableArc V h) (column : List Sym) → cut constraints r k ≡ name_of pruned_names b → Contains (moves_at pruned b) a → IsTrue (has a.class column)
-      → cut constraints r (moved tiers constraints (r + 1) k column) ≡ name_of pruned_names a.target
+  pub cut_leads : (k : PrefixKind) (b : ℕ) (a : TableArc V h) (column : List Sym) → cut problem r k ≡ name_of pruned_names b → Contains (moves_at pruned b) a → IsTrue (has a.class column)
+      → cut problem r (moved problem (r + 1) k column) ≡ name_of pruned_names a.target
   cut_leads k b a column name here reads =
-      cut-moved constraints r (r + 1) (omega arith) tiers k column ∙ ap (λ n. moved tiers constraints r n column) name ∙ sym (before.moves b a column here reads).leads
+      cut-moved problem r (r + 1) (omega arith) k column ∙ ap (λ n. moved problem r n column) name ∙ sym (before.moves b a column here reads).leads
 
-  module _ (stage : IsStage tiers constraints u r) {g : Ghosts Count} (bases : List ℕ) (names : List PrefixKind) (states : List (TableState Count g)) (found : AreFoundFrom tiers constraints r pruned_names pruned bases names states) where
+  module _ (stage : IsStage problem r) {g : Ghosts Count} (bases : List ℕ) (names : List PrefixKind) (states : List (TableState Count g)) (found : AreFoundFrom problem r pruned_names pruned bases names states) where
     -- moves on one column lead to a state and to its base
     based_alike : (s : ℕ) (arc : TableArc Count g) (a : TableArc V h) (column : List Sym) → Contains (moves_at states s) arc → IsTrue (has arc.class column) → Contains (moves_at pruned (base_of bases s)) a → IsTrue (has a.class column) → base_of bases arc.target ≡ a.target
     based_alike s arc a column here reads there holds =
         let inside : s < length states = moves_exist states s arc here in
         let target : arc.target < length states = found.targets s arc here in
         let name : name_of pruned_names (base_of bases arc.target) ≡ name_of pruned_names a.target =
-        sym (found.cuts arc.target target) ∙ ap (cut constraints r) (found.leads s arc column here reads) ∙ cut_leads (name_of names s) (base_of bases s) a column (found.cuts s inside) there holds in
-        same_state tiers constraints u r stage pruned_names pruned before (base_of bases arc.target) a.target (found.based arc.target target) (before.targets (base_of bases s) a there) name
+        sym (found.cuts arc.target target) ∙ ap (cut problem r) (found.leads s arc column here reads) ∙ cut_leads (name_of names s) (base_of bases s) a column (found.cuts s inside) there holds in
+        same_state problem r stage pruned_names pruned before (base_of bases arc.target) a.target (found.based arc.target target) (before.targets (base_of bases s) a there) name
 
     start_base : base_of bases 0 ≡ 0
     start_base =
-        same_state tiers constraints u r stage pruned_names pruned before (base_of bases 0) 0 (found.based 0 found.some) before.some
-        (sym (found.cuts 0 found.some) ∙ ap (cut constraints r) found.start ∙ cut-kind_of constraints r (r + 1) (omega arith) tiers [] ∙ sym before.start)
+        same_state problem r stage pruned_names pruned before (base_of bases 0) 0 (found.based 0 found.some) before.some
+        (sym (found.cuts 0 found.some) ∙ ap (cut problem r) found.start ∙ cut-kind_of problem r (r + 1) (omega arith) [] ∙ sym before.start)
 
     run_back : (arcs : List (TableArc Count g)) (p : List (List Sym)) (s : ℕ) → s < length states → IsRun states s arcs → Reads arcs p → (others : List (TableArc V h)) × IsRun pruned (base_of bases s) others × Reads others p
     run_back [] [] s inside run reads = ([], sym (found.ends s inside) ∙ run, tt)
@@ -87,7 +88,7 @@ module _ (tiers : Tiers) (constraints : List Constraint) (u : List (List Sym)) (
         let run = run_on on.2.0 q.0 s inside on.2.1 q.1 in
         (path.0, path.1, (run.0, run.1))
 
-    go_on : (s : ℕ) (arc : TableArc Count g) (column : List Sym) → Contains (moves_at states s) arc → IsTrue (has arc.class column) → GoesAsKinds tiers constraints u (r + 1) names s arc column
+    go_on : (s : ℕ) (arc : TableArc Count g) (column : List Sym) → Contains (moves_at states s) arc → IsTrue (has arc.class column) → GoesAsKinds problem (r + 1) names s arc column
     go_on s arc column here reads =
         let inside : s < length states = moves_exist states s arc here in
         let move : HasMoveOn pruned (base_of bases s) column = (found.columns s column inside).0 (arc, here, reads) in
@@ -96,13 +97,13 @@ module _ (tiers : Tiers) (constraints : List Constraint) (u : List (List Sym)) (
           leads = found.leads s arc column here reads;
         }
 
-    pub found_named : AreNamedByKinds tiers constraints u (r + 1) names states
+    pub found_named : AreNamedByKinds problem (r + 1) names states
     found_named = record {
       each_named = found.each_named;
       distinct = found.distinct;
       some = found.some;
       start = found.start;
-      ends = λ s l. found.ends s l ∙ before.ends (base_of bases s) (found.based s l) ∙ ap (is_final u) (sym (found.cuts s l));
+      ends = λ s l. found.ends s l ∙ before.ends (base_of bases s) (found.based s l) ∙ ap (is_final problem) (sym (found.cuts s l));
       moves = go_on;
       targets = found.targets;
       filled = found.filled;

@@ -17,7 +17,7 @@ use Rattle.arc_table.specs.declared.state.TableState.{TableState}
 use Rattle.arc_table.specs.Runs.{IsRun, Reads, weight_of, IsLeastFrom, HasNoRun, IsOnRun}
 use Rattle.distances.specs.Least.{AreLeast}
 use Rattle.prune_best.proofs.Words.{some_word}
-use Rattle.violation.specs.Candidates.{IsCandidate, vec, vec_so_far}
+use Rattle.violation.specs.Candidates.{IsCandidate, vec, vec_so_far, count_at, count_so_far_at}
 use Rattle.violation.specs.Prefixes.{kind_of}
 use Rattle.violation.specs.Stages.{Passes, IsLeastRest, IsRemaining}
 use Rattle.violation.specs.Walks.{walk_costs}
@@ -27,6 +27,7 @@ use Rattle.stage_laws.proofs.Paths.{IsParted, run_exists, path_word}
 use Rattle.stage_laws.proofs.Naming.{path_kind, same_state, passes_state, passed_state}
 use Rattle.violation.proofs.StageLemmas.{over_first}
 use Rattle.stage_laws.proofs.Weighing.{run_weight, rest_weight}
+use Rattle.violation.specs.Problems.{Problem}
 
 pub le_from_test : (x y : ℕ) → nat_lt y x ≡ false → x ≤ y
 le_from_test x y e = grind (arith, nat_tests)
@@ -57,36 +58,36 @@ some_weight states least are s l on = go (get_or least s None) (are.each s l)
     go None h = absurd (h on.2.0 on.2.1)
     go (Some w) h = refl
 
-module _ (tiers : Tiers) (constraints : List Constraint) (u : List (List Sym)) (r : ℕ) (stage : IsStage tiers constraints u r) {g : Ghosts Count} (meaning : g.meaning ≡ count_meaning) (names : List PrefixKind) (states : List (TableState Count g)) (table : IsStageTable tiers constraints u r names states) where
+module _ (problem : Problem) (r : ℕ) (stage : IsStage problem r) {g : Ghosts Count} (meaning : g.meaning ≡ count_meaning) (names : List PrefixKind) (states : List (TableState Count g)) (table : IsStageTable problem r names states) where
   module _ (ranked : 1 ≤ r) where
     -- what an (r-1)-optimal candidate violates after a prefix of the kind that names s is at least the least weight from s
-    least_of_all : (s : ℕ) (w : Count) → s < length states → IsLeastFrom states s w → (T : List (List Sym)) (n : ℕ) → Passes tiers constraints u (r - 1) r (name_of names s) T n
-        → get_or (vec_so_far constraints T n) (r - 1) 0 + w.0 ≤ get_or (vec constraints T) (r - 1) 0
+    least_of_all : (s : ℕ) (w : Count) → s < length states → IsLeastFrom states s w → (T : List (List Sym)) (n : ℕ) → Passes problem (r - 1) r (name_of names s) T n
+        → count_so_far_at problem r T n + w.0 ≤ count_at problem r T
     least_of_all s w here from T n passes =
-        let found = passed_state tiers constraints u r stage names states table.named (r - 1) table.accepts (name_of names s) T n passes in
+        let found = passed_state problem r stage names states table.named (r - 1) table.accepts (name_of names s) T n passes in
         let parts : IsParted states 0 (take n T) (drop n T) = found.0 in
-        let same : parts.middle ≡ s = same_state tiers constraints u r stage names states table.named parts.middle s (run_exists states parts.middle parts.after parts.run) here found.1 in
+        let same : parts.middle ≡ s = same_state problem r stage names states table.named parts.middle s (run_exists states parts.middle parts.after parts.run) here found.1 in
         let run : IsRun states s parts.after = subst (λ x. IsRun states x parts.after) same parts.run in
         let whole : take n T ++ drop n T ≡ T = take-append-drop n T in
-        let candidate : IsCandidate tiers u (take n T ++ drop n T) = subst (IsCandidate tiers u) (sym whole) passes.optimal.candidate in
-        let rest = rest_weight tiers constraints u r stage meaning names states table.named table.weighed ranked parts.after s (take n T) (drop n T) (sym passes.of_kind) run parts.reads_after candidate in
-        let total : get_or (vec constraints (take n T ++ drop n T)) (r - 1) 0 ≡ get_or (vec constraints T) (r - 1) 0 = ap (λ (v : List (List Sym)). get_or (vec constraints v) (r - 1) 0) whole in
-        let so_far : get_or (vec_so_far constraints (take n T ++ drop n T) (length (take n T))) (r - 1) 0 ≡ get_or (vec_so_far constraints T n) (r - 1) 0 =
-        ap (λ (v : List (List Sym)). get_or (vec_so_far constraints v (length (take n T))) (r - 1) 0) whole
-        ∙ ap (λ (m : ℕ). get_or (vec_so_far constraints T m) (r - 1) 0) (length-take-le n T passes.within) in
+        let candidate : IsCandidate problem (take n T ++ drop n T) = subst (IsCandidate problem) (sym whole) passes.optimal.candidate in
+        let rest = rest_weight problem r stage meaning names states table.named table.weighed ranked parts.after s (take n T) (drop n T) (sym passes.of_kind) run parts.reads_after candidate in
+        let total : count_at problem r (take n T ++ drop n T) ≡ count_at problem r T = ap (λ (v : List (List Sym)). count_at problem r v) whole in
+        let so_far : count_so_far_at problem r (take n T ++ drop n T) (length (take n T)) ≡ count_so_far_at problem r T n =
+        ap (λ (v : List (List Sym)). count_so_far_at problem r v (length (take n T))) whole
+        ∙ ap (λ (m : ℕ). count_so_far_at problem r T m) (length-take-le n T passes.within) in
         let bound : w.0 ≤ (weight_of parts.after).0 = at_most_le meaning w (weight_of parts.after) (from.least parts.after run) in
         omega (arith, rest, total, so_far, bound)
 
-    pub least_rest : (s : ℕ) (w : Count) → IsLeastFrom states s w → IsLeastRest tiers constraints u r (name_of names s) w.0
+    pub least_rest : (s : ℕ) (w : Count) → IsLeastFrom states s w → IsLeastRest problem r (name_of names s) w.0
     least_rest s w from =
         let found = from.some in
         let here : s < length states = run_exists states s found.0 found.1 in
         let on : IsOnRun states s = table.on_runs s here in
         let p = path_word states table.named.filled 0 s on.0 on.1 in
         let q = some_word states table.named.filled s found.0 found.1 in
-        let passes : Passes tiers constraints u (r - 1) r (name_of names s) (p.0 ++ q.0) (length p.0) =
-        passes_state tiers constraints u r stage names states table.named (r - 1) table.accepts on.0 found.0 s p.0 q.0 on.1 p.1 found.1 q.1 in
-        let name : name_of names s ≡ kind_of tiers constraints r p.0 = path_kind tiers constraints u r stage names states table.named on.0 s p.0 on.1 p.1 in
+        let passes : Passes problem (r - 1) r (name_of names s) (p.0 ++ q.0) (length p.0) =
+        passes_state problem r stage names states table.named (r - 1) table.accepts on.0 found.0 s p.0 q.0 on.1 p.1 found.1 q.1 in
+        let name : name_of names s ≡ kind_of problem r p.0 = path_kind problem r stage names states table.named on.0 s p.0 on.1 p.1 in
         record {
           some = (
             p.0 ++ q.0,
@@ -94,8 +95,8 @@ module _ (tiers : Tiers) (constraints : List Constraint) (u : List (List Sym)) (
               length p.0,
               (
                 passes,
-                rest_weight tiers constraints u r stage meaning names states table.named table.weighed ranked found.0 s p.0 q.0 name found.1 q.1 passes.optimal.candidate
-                    ∙ ap (λ (n : Count). get_or (vec_so_far constraints (p.0 ++ q.0) (length p.0)) (r - 1) 0 + n.0) found.2,
+                rest_weight problem r stage meaning names states table.named table.weighed ranked found.0 s p.0 q.0 name found.1 q.1 passes.optimal.candidate
+                    ∙ ap (λ (n : Count). count_so_far_at problem r (p.0 ++ q.0) (length p.0) + n.0) found.2,
               ),
             ),
           );
@@ -103,17 +104,16 @@ module _ (tiers : Tiers) (constraints : List Constraint) (u : List (List Sym)) (
         }
 
 -- at stage 0 no run weighs anything
-pub first_weight : {g : Ghosts Count} (meaning : g.meaning ≡ count_meaning) (names : List PrefixKind) (states : List (TableState Count g)) (tiers : Tiers) (constraints : List Constraint) (u : List (List Sym)) (stage : IsStage tiers constraints u 0) → IsStageTable tiers constraints u 0 names states
+pub first_weight : {g : Ghosts Count} (meaning : g.meaning ≡ count_meaning) (names : List PrefixKind) (states : List (TableState Count g)) (problem : Problem) (stage : IsStage problem 0) → IsStageTable problem 0 names states
     → (arcs : List (TableArc Count g)) (p : List (List Sym)) (s : ℕ) → IsRun states s arcs → Reads arcs p → (weight_of arcs).0 ≡ 0
-first_weight meaning names states tiers constraints u stage table arcs p s run reads =
-    run_weight tiers constraints u 0 stage meaning names states table.named table.weighed arcs p s run reads
-    ∙ get_or_past (walk_costs tiers constraints u 0 (name_of names s) p) (0 - 1) 0 (omega (arith, length_walk tiers constraints 0 u stage.split stage.form (over_first tiers constraints u 0 stage) p (name_of names s)))
+first_weight meaning names states problem stage table arcs p s run reads =
+    run_weight problem 0 stage meaning names states table.named table.weighed arcs p s run reads
+    ∙ get_or_past (walk_costs problem 0 (name_of names s) p) (0 - 1) 0 (omega (arith, length_walk problem 0 stage.split stage.form (over_first problem 0 stage) p (name_of names s)))
 
 -- the least weights are what remains
-pub remaining_law : (tiers : Tiers) (constraints : List Constraint) (u : List (List Sym)) (r : ℕ) (stage : IsStage tiers constraints u r) {g : Ghosts Count} (meaning : g.meaning ≡ count_meaning) (names : List PrefixKind) (states : List (TableState Count g)) (table : IsStageTable tiers constraints u r names states)
-    (s : ℕ) (w : Count) → IsLeastFrom states s w → IsRemaining tiers constraints u r (name_of names s) w.0
-remaining_law tiers constraints u zero stage meaning names states table s w from =
+pub remaining_law : (problem : Problem) (r : ℕ) (stage : IsStage problem r) {g : Ghosts Count} (meaning : g.meaning ≡ count_meaning) (names : List PrefixKind) (states : List (TableState Count g)) (table : IsStageTable problem r names states) (s : ℕ) (w : Count) → IsLeastFrom states s w → IsRemaining problem r (name_of names s) w.0
+remaining_law problem zero stage meaning names states table s w from =
     let found = from.some in
     let q = some_word states table.named.filled s found.0 found.1 in
-    ap (λ (n : Count). n.0) (sym found.2) ∙ first_weight meaning names states tiers constraints u stage table found.0 q.0 s found.1 q.1
-remaining_law tiers constraints u (suc i) stage meaning names states table s w from = least_rest tiers constraints u (suc i) stage meaning names states table (omega arith) s w from
+    ap (λ (n : Count). n.0) (sym found.2) ∙ first_weight meaning names states problem stage table found.0 q.0 s found.1 q.1
+remaining_law problem (suc i) stage meaning names states table s w from = least_rest problem (suc i) stage meaning names states table (omega arith) s w from

@@ -22,30 +22,30 @@ use Rattle.stage_laws.proofs.Following.{next_table}
 use Rattle.stage_laws.proofs.Naming.{names_law, prefix_path}
 use Rattle.stage_laws.proofs.Optimal.{all_words_law}
 use Rattle.stage_laws.proofs.Pruned.{kept_named}
+use Rattle.violation.specs.Problems.{Problem}
 
-module _ (tiers : Tiers) (constraints : List Constraint) (u : List (List Sym)) (r : ℕ) (stage : IsStage tiers constraints u r) {g : Ghosts Count} (meaning : g.meaning ≡ count_meaning) (names : List PrefixKind) (states : List (TableState Count g)) (table : IsStageTable tiers constraints u r names states)
-    {V : Type 0} {h : Ghosts V} (pruned : List (TableState V h)) (old : List ℕ) (tight : IsTight states pruned old) (some : 0 < length pruned) (targets : TargetsExist pruned) (filled : ClassesFilled pruned) where
-  named : AreNamedByKinds tiers constraints u r (names_kept names old) pruned
-  named = kept_named tiers constraints u r stage names states table.named pruned old tight some targets filled
+module _ (problem : Problem) (r : ℕ) (stage : IsStage problem r) {g : Ghosts Count} (meaning : g.meaning ≡ count_meaning) (names : List PrefixKind) (states : List (TableState Count g)) (table : IsStageTable problem r names states) {V : Type 0} {h : Ghosts V} (pruned : List (TableState V h)) (old : List ℕ) (tight : IsTight states pruned old) (some : 0 < length pruned) (targets : TargetsExist pruned) (filled : ClassesFilled pruned) where
+  named : AreNamedByKinds problem r (names_kept names old) pruned
+  named = kept_named problem r stage names states table.named pruned old tight some targets filled
 
   -- the pruned table accepts the r-optimal candidates
-  optimal_words : (T : List (List Sym)) → Accepts pruned T ↔ IsOptimalFor tiers constraints u r T
+  optimal_words : (T : List (List Sym)) → Accepts pruned T ↔ IsOptimalFor problem r T
   optimal_words T =
-      let law = all_words_law meaning names states tiers constraints u r stage table T in
+      let law = all_words_law meaning names states problem r stage table T in
       (λ a. law.0 ((tight.accepts T).0 a), λ o. (tight.accepts T).1 (law.1 o))
 
   -- its names are the kinds that these pass
-  pub kept_kinds : (k : PrefixKind) → Contains (names_kept names old) k ↔ IsPassed tiers constraints u r r k
-  kept_kinds = names_law tiers constraints u r stage (names_kept names old) pruned named r optimal_words tight.on_runs
+  pub kept_kinds : (k : PrefixKind) → Contains (names_kept names old) k ↔ IsPassed problem r r k
+  kept_kinds = names_law problem r stage (names_kept names old) pruned named r optimal_words tight.on_runs
 
-  pub kept_paths : (T : List (List Sym)) (n : ℕ) → IsOptimalFor tiers constraints u r T → n ≤ length T
-      → (s : ℕ) × ((arcs : List (TableArc V h)) × IsPath pruned 0 arcs s × Reads arcs (take n T)) × ((s < length pruned) × (name_of (names_kept names old) s ≡ kind_of tiers constraints r (take n T)))
-  kept_paths = prefix_path tiers constraints u r stage (names_kept names old) pruned named r optimal_words
+  pub kept_paths : (T : List (List Sym)) (n : ℕ) → IsOptimalFor problem r T → n ≤ length T
+      → (s : ℕ) × ((arcs : List (TableArc V h)) × IsPath pruned 0 arcs s × Reads arcs (take n T)) × ((s < length pruned) × (name_of (names_kept names old) s ≡ kind_of problem r (take n T)))
+  kept_paths = prefix_path problem r stage (names_kept names old) pruned named r optimal_words
 
   -- what is found from it is the next stage's table
-  pub next_stage : (bases : List ℕ) (kinds : List PrefixKind) (found : List (TableState Count g)) → AreFoundFrom tiers constraints r (names_kept names old) pruned bases kinds found → AreWeighed tiers constraints u (r + 1) kinds found
-      → IsStageTable tiers constraints u (r + 1) kinds found
+  pub next_stage : (bases : List ℕ) (kinds : List PrefixKind) (found : List (TableState Count g)) → AreFoundFrom problem r (names_kept names old) pruned bases kinds found → AreWeighed problem (r + 1) kinds found
+      → IsStageTable problem (r + 1) kinds found
   next_stage bases kinds found from weighed =
-      next_table tiers constraints u r kinds found (found_named tiers constraints u r (names_kept names old) pruned named stage bases kinds found from) weighed
-      (λ T. let same = same_words tiers constraints u r (names_kept names old) pruned named stage bases kinds found from T in (λ a. (optimal_words T).0 (same.0 a), λ o. same.1 ((optimal_words T).1 o)))
-      (found_on_runs tiers constraints u r (names_kept names old) pruned named stage bases kinds found from tight.on_runs)
+      next_table problem r kinds found (found_named problem r (names_kept names old) pruned named stage bases kinds found from) weighed
+      (λ T. let same = same_words problem r (names_kept names old) pruned named stage bases kinds found from T in (λ a. (optimal_words T).0 (same.0 a), λ o. same.1 ((optimal_words T).1 o)))
+      (found_on_runs problem r (names_kept names old) pruned named stage bases kinds found from tight.on_runs)

@@ -16,6 +16,7 @@ use Rattle.arc_table.specs.Moves.{moves_at, accepting_at}
 use Rattle.violation.specs.Moves.{FitsKind, moved, cut}
 use Rattle.violation.specs.Prefixes.{kind_of}
 use Rattle.stage_laws.specs.StageTables.{name_of}
+use Rattle.violation.specs.Problems.{Problem}
 
 -- some move from a state reads a column
 abbrev pub HasMoveOn : {W : Type 0} {g : Ghosts W} → List (TableState W g) → ℕ → List Sym → Type 0
@@ -26,8 +27,8 @@ abbrev pub AreReached : {W : Type 0} {g : Ghosts W} → List (TableState W g) �
 AreReached {W} {g} states = (s : ℕ) → 0 < s → s < length states → (t : ℕ) × (t < s) × ((arc : TableArc W g) × Contains (moves_at states t) arc × (arc.target ≡ s))
 
 -- from each state there is a move on each column that fits its name
-abbrev pub HaveAllMoves : {W : Type 0} {g : Ghosts W} → Tiers → List (List Sym) → List PrefixKind → List (TableState W g) → Type 0
-HaveAllMoves tiers u names states = (s : ℕ) (column : List Sym) → s < length states → FitsKind tiers u (name_of names s) column → HasMoveOn states s column
+abbrev pub HaveAllMoves : {W : Type 0} {g : Ghosts W} → Problem → List PrefixKind → List (TableState W g) → Type 0
+HaveAllMoves problem names states = (s : ℕ) (column : List Sym) → s < length states → FitsKind problem (name_of names s) column → HasMoveOn states s column
 
 -- the names of the states of a pruned table, which has the numbers of these states in the old one
 abbrev pub names_kept : List PrefixKind → List ℕ → List PrefixKind
@@ -42,16 +43,16 @@ base_of bases s = slice_index_or bases s 0
 -- own one cut to r constraints. It accepts where its base does, and has a move on each column on
 -- which its base has one, which leads to the state that is named by the kind to which the column
 -- leads. Each state but the start is the target of a move from an earlier one.
-pub record AreFoundFrom {V : Type 0} {h : Ghosts V} {g : Ghosts Count} (tiers : Tiers) (constraints : List Constraint) (r : ℕ) (pruned_names : List PrefixKind) (pruned : List (TableState V h)) (bases : List ℕ) (names : List PrefixKind) (found : List (TableState Count g)) : Type 0 where
+pub record AreFoundFrom {V : Type 0} {h : Ghosts V} {g : Ghosts Count} (problem : Problem) (r : ℕ) (pruned_names : List PrefixKind) (pruned : List (TableState V h)) (bases : List ℕ) (names : List PrefixKind) (found : List (TableState Count g)) : Type 0 where
   pub each_named : length names ≡ length found
   pub distinct : AllPairs (λ k l. k ≢ l) names
   pub some : 0 < length found
-  pub start : name_of names 0 ≡ kind_of tiers constraints (r + 1) []
+  pub start : name_of names 0 ≡ kind_of problem (r + 1) []
   pub based : (s : ℕ) → s < length found → base_of bases s < length pruned
-  pub cuts : (s : ℕ) → s < length found → cut constraints r (name_of names s) ≡ name_of pruned_names (base_of bases s)
+  pub cuts : (s : ℕ) → s < length found → cut problem r (name_of names s) ≡ name_of pruned_names (base_of bases s)
   pub ends : (s : ℕ) → s < length found → accepting_at found s ≡ accepting_at pruned (base_of bases s)
   pub columns : (s : ℕ) (column : List Sym) → s < length found → HasMoveOn found s column ↔ HasMoveOn pruned (base_of bases s) column
-  pub leads : (s : ℕ) (arc : TableArc Count g) (column : List Sym) → Contains (moves_at found s) arc → IsTrue (has arc.class column) → name_of names arc.target ≡ moved tiers constraints (r + 1) (name_of names s) column
+  pub leads : (s : ℕ) (arc : TableArc Count g) (column : List Sym) → Contains (moves_at found s) arc → IsTrue (has arc.class column) → name_of names arc.target ≡ moved problem (r + 1) (name_of names s) column
   pub targets : TargetsExist found
   pub filled : ClassesFilled found
   pub reached : AreReached found

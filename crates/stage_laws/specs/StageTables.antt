@@ -26,6 +26,7 @@ use Rattle.violation.specs.Moves.{FitsKind, moved, is_final}
 use Rattle.violation.specs.Prefixes.{kind_of}
 pub use Rattle.violation.specs.Moves.{cost_of}
 pub use Rattle.violation.specs.Stages.{IsStage}
+use Rattle.violation.specs.Problems.{Problem}
 
 -- the kind that names a state
 abbrev pub name_of : List PrefixKind → ℕ → PrefixKind
@@ -33,34 +34,34 @@ name_of names s = slice_index_or names s (record { place = 0; opened = []; phase
 
 -- On a column, a move from state s goes as the kinds do that name the states: the column fits the
 -- name of s, and leads to the name of the target.
-pub record GoesAsKinds {W : Type 0} {g : Ghosts W} (tiers : Tiers) (constraints : List Constraint) (u : List (List Sym)) (r : ℕ) (names : List PrefixKind) (s : ℕ) (arc : TableArc W g) (column : List Sym) : Type 0 where
-  pub fits : FitsKind tiers u (name_of names s) column
-  pub leads : name_of names arc.target ≡ moved tiers constraints r (name_of names s) column
+pub record GoesAsKinds {W : Type 0} {g : Ghosts W} (problem : Problem) (r : ℕ) (names : List PrefixKind) (s : ℕ) (arc : TableArc W g) (column : List Sym) : Type 0 where
+  pub fits : FitsKind problem (name_of names s) column
+  pub leads : name_of names arc.target ≡ moved problem r (name_of names s) column
 
 -- The states of a table are named by kinds under the first r constraints: each by one of its own,
 -- the start by that of the empty prefix. A state accepts where its name is final, and each move goes
 -- to a state as the kinds do, on each column of its class, which is not empty.
-pub record AreNamedByKinds {W : Type 0} {g : Ghosts W} (tiers : Tiers) (constraints : List Constraint) (u : List (List Sym)) (r : ℕ) (names : List PrefixKind) (states : List (TableState W g)) : Type 0 where
+pub record AreNamedByKinds {W : Type 0} {g : Ghosts W} (problem : Problem) (r : ℕ) (names : List PrefixKind) (states : List (TableState W g)) : Type 0 where
   pub each_named : length names ≡ length states
   pub distinct : AllPairs (λ k l. k ≢ l) names
   pub some : 0 < length states
-  pub start : name_of names 0 ≡ kind_of tiers constraints r []
-  pub ends : (s : ℕ) → s < length states → accepting_at states s ≡ is_final u (name_of names s)
-  pub moves : (s : ℕ) (arc : TableArc W g) (column : List Sym) → Contains (moves_at states s) arc → IsTrue (has arc.class column) → GoesAsKinds tiers constraints u r names s arc column
+  pub start : name_of names 0 ≡ kind_of problem r []
+  pub ends : (s : ℕ) → s < length states → accepting_at states s ≡ is_final problem (name_of names s)
+  pub moves : (s : ℕ) (arc : TableArc W g) (column : List Sym) → Contains (moves_at states s) arc → IsTrue (has arc.class column) → GoesAsKinds problem r names s arc column
   pub targets : TargetsExist states
   pub filled : ClassesFilled states
 
 -- each move weighs what each column of its class costs under constraint r from the name of its state
-abbrev pub AreWeighed : {g : Ghosts Count} → Tiers → List Constraint → List (List Sym) → ℕ → List PrefixKind → List (TableState Count g) → Type 0
-AreWeighed {g} tiers constraints u r names states =
-    (s : ℕ) (arc : TableArc Count g) (column : List Sym) → Contains (moves_at states s) arc → IsTrue (has arc.class column) → arc.weight.0 ≡ cost_of tiers constraints u r (name_of names s) column
+abbrev pub AreWeighed : {g : Ghosts Count} → Problem → ℕ → List PrefixKind → List (TableState Count g) → Type 0
+AreWeighed {g} problem r names states =
+    (s : ℕ) (arc : TableArc Count g) (column : List Sym) → Contains (moves_at states s) arc → IsTrue (has arc.class column) → arc.weight.0 ≡ cost_of problem r (name_of names s) column
 
 -- The table of stage r, with the names of its states: they are kinds under the first r constraints,
 -- its moves weigh what these cost under constraint r, it accepts exactly the (r-1)-optimal candidates,
 -- and each of its states is on a run. For r = 0 it accepts all candidates, since `0 - 1` is 0 and each
 -- candidate is 0-optimal.
-pub record IsStageTable {g : Ghosts Count} (tiers : Tiers) (constraints : List Constraint) (u : List (List Sym)) (r : ℕ) (names : List PrefixKind) (states : List (TableState Count g)) : Type 0 where
-  pub named : AreNamedByKinds tiers constraints u r names states
-  pub weighed : AreWeighed tiers constraints u r names states
-  pub accepts : (T : List (List Sym)) → Accepts states T ↔ IsOptimalFor tiers constraints u (r - 1) T
+pub record IsStageTable {g : Ghosts Count} (problem : Problem) (r : ℕ) (names : List PrefixKind) (states : List (TableState Count g)) : Type 0 where
+  pub named : AreNamedByKinds problem r names states
+  pub weighed : AreWeighed problem r names states
+  pub accepts : (T : List (List Sym)) → Accepts states T ↔ IsOptimalFor problem (r - 1) T
   pub on_runs : (s : ℕ) → s < length states → IsOnRun states s

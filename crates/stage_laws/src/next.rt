@@ -10,6 +10,7 @@ ghost use Rattle.violation.specs.Candidates.{IsCandidate, IsOptimalFor};
 ghost use Rattle.violation.specs.Moves.{FitsKind, moved, is_final, cut};
 ghost use Rattle.violation.specs.Prefixes.{kind_of};
 ghost use Rattle.stage_laws.specs.StageTables.{AreNamedByKinds, AreWeighed, IsStageTable};
+ghost use Rattle.violation.specs.Problems.{Problem};
 
 use weight_law::{Count, Weight};
 
@@ -17,15 +18,15 @@ use weight_law::{Count, Weight};
 /// candidates that the constraints before have left is a stage's table: at first all candidates, and
 /// then those that the last stage left.
 pub fn named_tables_are_stage_tables()
-    ensures first { (tiers : Tiers) (constraints : List Constraint) (u : List (List Sym)) (names : List PrefixKind) (states : List (TableState Count ⟦<Count as Weight>⟧)) → AreNamedByKinds tiers constraints u 0 names states → AreWeighed tiers constraints u 0 names states → ((T : List (List Sym)) → Accepts states T ↔ IsCandidate tiers u T) → ((s : ℕ) → s < length states → IsOnRun states s) → IsStageTable tiers constraints u 0 names states }
-    ensures next { (tiers : Tiers) (constraints : List Constraint) (u : List (List Sym)) (r : ℕ) (names : List PrefixKind) (states : List (TableState Count ⟦<Count as Weight>⟧)) → AreNamedByKinds tiers constraints u (r + 1) names states → AreWeighed tiers constraints u (r + 1) names states → ((T : List (List Sym)) → Accepts states T ↔ IsOptimalFor tiers constraints u r T) → ((s : ℕ) → s < length states → IsOnRun states s) → IsStageTable tiers constraints u (r + 1) names states }
+    ensures first { (problem : Problem) (names : List PrefixKind) (states : List (TableState Count ⟦<Count as Weight>⟧)) → AreNamedByKinds problem 0 names states → AreWeighed problem 0 names states → ((T : List (List Sym)) → Accepts states T ↔ IsCandidate problem T) → ((s : ℕ) → s < length states → IsOnRun states s) → IsStageTable problem 0 names states }
+    ensures next { (problem : Problem) (r : ℕ) (names : List PrefixKind) (states : List (TableState Count ⟦<Count as Weight>⟧)) → AreNamedByKinds problem (r + 1) names states → AreWeighed problem (r + 1) names states → ((T : List (List Sym)) → Accepts states T ↔ IsOptimalFor problem r T) → ((s : ℕ) → s < length states → IsOnRun states s) → IsStageTable problem (r + 1) names states }
 {}
 
 /// Kinds that are cut to fewer constraints go by the same columns as the whole ones, end where they
 /// do, and lead to what the whole ones lead to, cut. The kind of a prefix is cut to its kind.
 pub fn cut_kinds_go_alike()
-    ensures moves { (tiers : Tiers) (constraints : List Constraint) (r s : ℕ) (k : PrefixKind) (column : List Sym) → r ≤ s → cut constraints r (moved tiers constraints s k column) ≡ moved tiers constraints r (cut constraints r k) column }
-    ensures fits { (tiers : Tiers) (constraints : List Constraint) (u : List (List Sym)) (r : ℕ) (k : PrefixKind) (column : List Sym) → FitsKind tiers u (cut constraints r k) column ↔ FitsKind tiers u k column }
-    ensures ends { (constraints : List Constraint) (u : List (List Sym)) (r : ℕ) (k : PrefixKind) → is_final u (cut constraints r k) ≡ is_final u k }
-    ensures prefixes { (tiers : Tiers) (constraints : List Constraint) (r s : ℕ) (p : List (List Sym)) → r ≤ s → cut constraints r (kind_of tiers constraints s p) ≡ kind_of tiers constraints r p }
+    ensures moves { (problem : Problem) (r s : ℕ) (k : PrefixKind) (column : List Sym) → r ≤ s → cut problem r (moved problem s k column) ≡ moved problem r (cut problem r k) column }
+    ensures fits { (problem : Problem) (r : ℕ) (k : PrefixKind) (column : List Sym) → FitsKind problem (cut problem r k) column ↔ FitsKind problem k column }
+    ensures ends { (problem : Problem) (r : ℕ) (k : PrefixKind) → is_final problem (cut problem r k) ≡ is_final problem k }
+    ensures prefixes { (problem : Problem) (r s : ℕ) (p : List (List Sym)) → r ≤ s → cut problem r (kind_of problem s p) ≡ kind_of problem r p }
 {}

@@ -8,8 +8,9 @@ ghost use Rattle.arc_table.specs.declared.arc.TableArc.{TableArc};
 ghost use Rattle.arc_table.specs.declared.state.TableState.{TableState};
 ghost use Rattle.arc_table.specs.Moves.{moves_at};
 ghost use Rattle.arc_table.specs.Runs.{IsPath, Reads, weight_of, AcceptingRun, SizesWithin};
-ghost use Rattle.violation.specs.Candidates.{IsCandidate, vec, vec_so_far};
+ghost use Rattle.violation.specs.Candidates.{IsCandidate, vec, vec_so_far, count_at, count_so_far_at};
 ghost use Rattle.stage_laws.specs.StageTables.{IsStage, IsStageTable};
+ghost use Rattle.violation.specs.Problems.{Problem};
 
 use weight_law::{Count, Weight};
 
@@ -17,13 +18,13 @@ use weight_law::{Count, Weight};
 /// from 1, of the candidate that it reads. A path from the start weighs the violations so far of each
 /// candidate that begins with what it reads.
 pub fn weights_are_violations()
-    ensures runs { (tiers : Tiers) (constraints : List Constraint) (u : List (List Sym)) (r : ℕ) (names : List PrefixKind) (states : List (TableState Count ⟦<Count as Weight>⟧)) → IsStage tiers constraints u r → 1 ≤ r → IsStageTable tiers constraints u r names states → (arcs : List (TableArc Count ⟦<Count as Weight>⟧)) (T : List (List Sym)) → AcceptingRun states T arcs → (weight_of arcs).0 ≡ slice_index_or (vec constraints T) (r - 1) 0 }
-    ensures paths { (tiers : Tiers) (constraints : List Constraint) (u : List (List Sym)) (r : ℕ) (names : List PrefixKind) (states : List (TableState Count ⟦<Count as Weight>⟧)) → IsStage tiers constraints u r → 1 ≤ r → IsStageTable tiers constraints u r names states → (arcs : List (TableArc Count ⟦<Count as Weight>⟧)) (s : ℕ) (p q : List (List Sym)) → IsPath states 0 arcs s → Reads arcs p → IsCandidate tiers u (p ++ q) → (weight_of arcs).0 ≡ slice_index_or (vec_so_far constraints (p ++ q) (length p)) (r - 1) 0 }
+    ensures runs { (problem : Problem) (r : ℕ) (names : List PrefixKind) (states : List (TableState Count ⟦<Count as Weight>⟧)) → IsStage problem r → 1 ≤ r → IsStageTable problem r names states → (arcs : List (TableArc Count ⟦<Count as Weight>⟧)) (T : List (List Sym)) → AcceptingRun states T arcs → (weight_of arcs).0 ≡ count_at problem r T }
+    ensures paths { (problem : Problem) (r : ℕ) (names : List PrefixKind) (states : List (TableState Count ⟦<Count as Weight>⟧)) → IsStage problem r → 1 ≤ r → IsStageTable problem r names states → (arcs : List (TableArc Count ⟦<Count as Weight>⟧)) (s : ℕ) (p q : List (List Sym)) → IsPath states 0 arcs s → Reads arcs p → IsCandidate problem (p ++ q) → (weight_of arcs).0 ≡ count_so_far_at problem r (p ++ q) (length p) }
 {}
 
 /// Each move of a stage's table weighs 1 at most, so that the weights of its runs without repeats fit
 /// in 32 bits where the number of its states does.
 pub fn moves_weigh_one_at_most()
-    ensures moves { (tiers : Tiers) (constraints : List Constraint) (u : List (List Sym)) (r : ℕ) (names : List PrefixKind) (states : List (TableState Count ⟦<Count as Weight>⟧)) → IsStageTable tiers constraints u r names states → (s : ℕ) (arc : TableArc Count ⟦<Count as Weight>⟧) → Contains (moves_at states s) arc → arc.weight.0 ≤ 1 }
-    ensures sizes { (tiers : Tiers) (constraints : List Constraint) (u : List (List Sym)) (r : ℕ) (names : List PrefixKind) (states : List (TableState Count ⟦<Count as Weight>⟧)) → IsStageTable tiers constraints u r names states → length states < 2 ^ 32 → SizesWithin states u32.MAX }
+    ensures moves { (problem : Problem) (r : ℕ) (names : List PrefixKind) (states : List (TableState Count ⟦<Count as Weight>⟧)) → IsStageTable problem r names states → (s : ℕ) (arc : TableArc Count ⟦<Count as Weight>⟧) → Contains (moves_at states s) arc → arc.weight.0 ≤ 1 }
+    ensures sizes { (problem : Problem) (r : ℕ) (names : List PrefixKind) (states : List (TableState Count ⟦<Count as Weight>⟧)) → IsStageTable problem r names states → length states < 2 ^ 32 → SizesWithin states u32.MAX }
 {}

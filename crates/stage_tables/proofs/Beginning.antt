@@ -18,6 +18,7 @@ use Rattle.stage_tables.specs.declared.kind_key.KindKey.{KindKey}
 use Rattle.stage_tables.specs.Kept.{AreKeptByKinds}
 use Rattle.stage_tables.specs.Listed.{IsAt, AreListed, IsPutLast, IsNumbered, StandsOver, IsReached, AreFound, AreTaken}
 use Rattle.stage_tables.proofs.Listing.{at_cases}
+use Rattle.kind_moves.specs.Frames.{problem_in}
 
 pub nothing_listed : (keys : List KindKey) (kinds : List Kind) (over : List ℕ) → keys ≡ [] → kinds ≡ [] → over ≡ [] → AreListed keys kinds over
 nothing_listed keys kinds over a b d =
@@ -31,12 +32,12 @@ first_put kinds over k first s n = elim n.grows [
   | inr put ↦ put.0
 ]
 
-module _ {g : Ghosts UnitWeight} (frame : Frame) (stage : ℕ) (some : 1 ≤ stage) (kept : List (TableState UnitWeight g)) (names : List PrefixKind) (by : AreKeptByKinds (tiers_in frame) (constraints_in frame) (form_in frame) (stage - 1) names kept) where
-  start_named : (first : Kind) → IsStart frame stage first → cut (constraints_in frame) (stage - 1) (kind_at_stage frame stage first) ≡ kind_of (tiers_in frame) (constraints_in frame) (stage - 1) []
+module _ {g : Ghosts UnitWeight} (frame : Frame) (stage : ℕ) (some : 1 ≤ stage) (kept : List (TableState UnitWeight g)) (names : List PrefixKind) (by : AreKeptByKinds (problem_in frame) (stage - 1) names kept) where
+  start_named : (first : Kind) → IsStart frame stage first → cut (problem_in frame) (stage - 1) (kind_at_stage frame stage first) ≡ kind_of (problem_in frame) (stage - 1) []
   start_named first starts =
       let last : stage ≡ suc (stage - 1) = omega arith in
-      ap (cut (constraints_in frame) (stage - 1)) (starts.is ∙ ap (λ n. kind_of (tiers_in frame) (constraints_in frame) n []) last)
-      ∙ cut-kind_of (constraints_in frame) (stage - 1) (suc (stage - 1)) (omega arith) (tiers_in frame) []
+      ap (cut (problem_in frame) (stage - 1)) (starts.is ∙ ap (λ n. kind_of (problem_in frame) n []) last)
+      ∙ cut-kind_of (problem_in frame) (stage - 1) (suc (stage - 1)) (omega arith) []
 
   pub first_found : (keys : List KindKey) (kinds : List Kind) (over : List ℕ) (first : Kind) → AreListed keys kinds over → IsPutLast [] kinds [] over first 0 → IsStart frame stage first → AreFound frame stage kept keys kinds over
   first_found keys kinds over first listed put starts = record {

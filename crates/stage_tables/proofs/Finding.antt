@@ -31,6 +31,7 @@ use Rattle.violation.proofs.CutLemmas.{cut-moved, fits-cut}
 use Rattle.stage_tables.proofs.Keys.{same_told, same_fits}
 use Rattle.stage_tables.proofs.Zips.{zip_weaken}
 use Rattle.stage_tables.proofs.Listing.{at_number, at_last, at_cases, stays_put}
+use Rattle.kind_moves.specs.Frames.{problem_in}
 
 -- the names of two states are the same only where the states are
 pub one_name : (names : List PrefixKind) → AllPairs (λ k l. k ≢ l) names → (j k : ℕ) → j < length names → k < length names → name_of names j ≡ name_of names k → j ≡ k
@@ -68,29 +69,28 @@ pub record IsGiven (kinds : List Kind) (over : List ℕ) (k : ℕ) (kind : Kind)
 
 module _ {g : Ghosts UnitWeight} (frame : Frame) (stage : ℕ) (some : 1 ≤ stage) (kept : List (TableState UnitWeight g)) (exist : TargetsExist kept) where
   -- what stands over a state of the kept table
-  module _ (names : List PrefixKind) (by : AreKeptByKinds (tiers_in frame) (constraints_in frame) (form_in frame) (stage - 1) names kept) where
+  module _ (names : List PrefixKind) (by : AreKeptByKinds (problem_in frame) (stage - 1) names kept) where
     -- a column of a kept move fits the kind
     pub fits_kind : (kind : Kind) (s : ℕ) → StandsOver frame stage names kind s → (arc : TableArc UnitWeight g) (column : List Sym) → Contains (moves_at kept s) arc → IsTrue (has arc.class column) → FitsAt frame stage kind column
     fits_kind kind s stands arc column here h =
         let goes = by.named.moves s arc column here h in
-        (fits-cut (tiers_in frame) (constraints_in frame) (form_in frame) (stage - 1) (kind_at_stage frame stage kind) column).0
-        (subst (λ (k : PrefixKind). FitsKind (tiers_in frame) (form_in frame) k column) (sym stands.named) goes.fits)
+        (fits-cut (problem_in frame) (stage - 1) (kind_at_stage frame stage kind) column).0
+        (subst (λ (k : PrefixKind). FitsKind (problem_in frame) k column) (sym stands.named) goes.fits)
 
     -- and leads to a kind over the move's target
     pub next_stands : (kind : Kind) (s : ℕ) → StandsOver frame stage names kind s → (arc : TableArc UnitWeight g) (column : List Sym) → Contains (moves_at kept s) arc → IsTrue (has arc.class column) → (next : Kind) → IsMove frame stage kind column next → StandsOver frame stage names next arc.target
     next_stands kind s stands arc column here h next m =
-        let tiers = tiers_in frame in
-        let cs = constraints_in frame in
+        let problem = problem_in frame in
         let goes = by.named.moves s arc column here h in
         let last : stage ≡ suc (stage - 1) = omega arith in
         record {
           fits = m.next_fits;
           within = omega (arith, exist s arc here, by.named.each_named);
           named =
-              ap (cut cs (stage - 1)) m.leads
-              ∙ ap (λ n. cut cs (stage - 1) (moved tiers cs n (kind_at_stage frame stage kind) column)) last
-              ∙ cut-moved cs (stage - 1) (suc (stage - 1)) (omega arith) tiers (kind_at_stage frame stage kind) column
-              ∙ ap (λ k. moved tiers cs (stage - 1) k column) stands.named
+              ap (cut problem (stage - 1)) m.leads
+              ∙ ap (λ n. cut problem (stage - 1) (moved problem n (kind_at_stage frame stage kind) column)) last
+              ∙ cut-moved problem (stage - 1) (suc (stage - 1)) (omega arith) (kind_at_stage frame stage kind) column
+              ∙ ap (λ k. moved problem (stage - 1) k column) stands.named
               ∙ sym goes.leads;
         }
 
@@ -177,7 +177,7 @@ module _ {g : Ghosts UnitWeight} (frame : Frame) (stage : ℕ) (some : 1 ≤ sta
         names_same : (k : ℕ) (kind : Kind) (s : ℕ) (n : IsNumbered kinds next_kinds over next_over k kind s) → (other : Kind) (t : ℕ) → StandsOver frame stage found.names kind s → StandsOver frame stage found.names other t → key_of other ≡ key_of kind → t ≡ s
         names_same k kind s n other t stands that key =
             one_name found.names found.kept_by.named.distinct t s that.within stands.within
-            (sym that.named ∙ ap (cut (constraints_in frame) (stage - 1)) (same_told frame stage other kind key) ∙ stands.named)
+            (sym that.named ∙ ap (cut (problem_in frame) (stage - 1)) (same_told frame stage other kind key) ∙ stands.named)
 
         own : (k : ℕ) (kind : Kind) (s : ℕ) (n : IsNumbered kinds next_kinds over next_over k kind s) → StandsOver frame stage found.names kind s → IsReached frame stage kept kind s → (other : Kind) (t : ℕ) → IsAt next_kinds next_over k other t → key_of other ≡ key_of kind → t ≡ s
         own k kind s n stands reached other t at key = elim n.grows [
@@ -191,9 +191,9 @@ module _ {g : Ghosts UnitWeight} (frame : Frame) (stage : ℕ) (some : 1 ≤ sta
         ]
 
   -- the new move of a kept one
-  pub taken_move : {h : Ghosts Count} (kinds : List Kind) (over : List ℕ) (names : List PrefixKind) (by : AreKeptByKinds (tiers_in frame) (constraints_in frame) (form_in frame) (stage - 1) names kept)
+  pub taken_move : {h : Ghosts Count} (kinds : List Kind) (over : List ℕ) (names : List PrefixKind) (by : AreKeptByKinds (problem_in frame) (stage - 1) names kept)
       → (kind next : Kind) (s : ℕ) (a : TableArc UnitWeight g) (b : TableArc Count h) (column : List Sym) → Contains (moves_at kept s) a → IsTrue (has a.class column) → IsMove frame stage kind column next
-      → b.class ≡ a.class → b.weight.0 ≡ cost_of (tiers_in frame) (constraints_in frame) (form_in frame) stage (kind_at_stage frame stage kind) column
+      → b.class ≡ a.class → b.weight.0 ≡ cost_of (problem_in frame) stage (kind_at_stage frame stage kind) column
       → IsGiven kinds over b.target next a.target → IsTaken frame stage kinds over kind a b
   taken_move {h} kinds over names by kind next s a b column here has_column m class weight given = record {
     same_class = class;
@@ -210,7 +210,7 @@ module _ {g : Ghosts UnitWeight} (frame : Frame) (stage : ℕ) (some : 1 ≤ sta
         subst (λ (c : List Sym). IsMove frame stage kind c given.given) is moves);
     weighs = λ other other_has.
         (let is : column ≡ other = by.single s a here column other has_column other_has in
-        subst (λ (c : List Sym). b.weight.0 ≡ cost_of (tiers_in frame) (constraints_in frame) (form_in frame) stage (kind_at_stage frame stage kind) c) is weight);
+        subst (λ (c : List Sym). b.weight.0 ≡ cost_of (problem_in frame) stage (kind_at_stage frame stage kind) c) is weight);
   }
 
 -- moves are taken as before where what is listed stays

@@ -9,6 +9,8 @@ use Rattle.kind_moves.specs.Frames.{tiers_in, form_in, stretches_in, kind_at_sta
 use Rattle.kind_moves.proofs.KindEquality.{same_told as same_kind}
 use Rattle.stage_tables.specs.declared.kind_key.KindKey.{KindKey}
 use Rattle.stage_tables.specs.KindKeys.{key_of}
+use Rattle.kind_moves.specs.Frames.{problem_in}
+use Rattle.violation.specs.Problems.{last_place}
 
 -- kinds that fit a frame and tell the same have the same key
 pub same_key : (frame : Frame) (stage : ℕ) (a b : Kind) → FitsFrame frame stage a → FitsFrame frame stage b → kind_at_stage frame stage a ≡ kind_at_stage frame stage b → key_of a ≡ key_of b
@@ -28,11 +30,11 @@ same_told frame stage a b e = ap told e
 -- and the one fits where the other does
 pub same_fits : (frame : Frame) (stage : ℕ) (a b : Kind) → key_of a ≡ key_of b → FitsFrame frame stage a → FitsFrame frame stage b
 same_fits frame stage a b e f = record {
-  place = subst (λ (k : KindKey). k.place ≤ length (form_in frame)) e f.place;
+  place = subst (λ (k : KindKey). k.place ≤ last_place (problem_in frame)) e f.place;
   opened = subst (λ (k : KindKey). k.opened < 2 ^ length (tiers_in frame).free) e f.opened;
   stretches = record {
     unmet = subst (λ (k : KindKey). k.unmet < 2 ^ length (stretches_in frame stage)) e f.stretches.unmet;
     met = subst (λ (k : KindKey). k.met < 2 ^ length (stretches_in frame stage)) e f.stretches.met;
   };
-  phases = subst (λ (k : PrefixKind). AreClosedOr (is_left_open (tiers_in frame) (form_in frame) k) (stretches_in frame stage) k.phases) (same_told frame stage a b e) f.phases;
+  phases = subst (λ (k : PrefixKind). AreClosedOr (is_left_open (problem_in frame) k) (stretches_in frame stage) k.phases) (same_told frame stage a b e) f.phases;
 }

@@ -36,12 +36,14 @@ use Rattle.stage_tables.specs.Listed.{IsAt, AreFound, IsTaken, AreTaken}
 use Rattle.stage_tables.proofs.Keys.{same_key}
 use Rattle.stage_tables.proofs.Zips.{zip_from, zip_to, zip_pairs}
 use Rattle.stage_tables.proofs.Listing.{at_number, get_or_map, one_number}
+use Rattle.kind_moves.specs.Frames.{problem_in}
+use Rattle.violation.specs.Problems.{last_stage}
 
 -- what every stage of a frame meets
-pub frame_stage : (frame : Frame) (r : ℕ) → r ≤ length (constraints_in frame) → IsStage (tiers_in frame) (constraints_in frame) (form_in frame) r
+pub frame_stage : (frame : Frame) (r : ℕ) → r ≤ last_stage (problem_in frame) → IsStage (problem_in frame) r
 frame_stage frame r l = record {
   split = tiers_split frame.grammar.now.tiers.kinds.items;
-  form = form_from (tiers_in frame) (form_in frame) frame.well_formed;
+  form = form_from (problem_in frame) frame.well_formed;
   over = over_tiers frame.grammar.now;
   within = l;
 }
@@ -93,7 +95,7 @@ module _ {g : Ghosts UnitWeight} (frame : Frame) (stage : ℕ) (kept : List (Tab
     more = omega (arith, length-map kinds (kind_at_stage frame stage));
   }
 
-  module _ {h : Ghosts Count} (some : 1 ≤ stage) (within : stage ≤ length (constraints_in frame)) (states : List (TableState Count h)) (taken : AreTaken frame stage kept kinds over states) (all : length states ≡ length kinds) where
+  module _ {h : Ghosts Count} (some : 1 ≤ stage) (within : stage ≤ last_stage (problem_in frame)) (states : List (TableState Count h)) (taken : AreTaken frame stage kept kinds over states) (all : length states ≡ length kinds) where
     names : List PrefixKind
     names = names_at frame stage kinds
 
@@ -121,22 +123,22 @@ module _ {g : Ghosts UnitWeight} (frame : Frame) (stage : ℕ) (kept : List (Tab
     last : stage - 1 + 1 ≡ stage
     last = omega arith
 
-    leads : (k : ℕ) (b : TableArc Count h) (column : List Sym) → Contains (moves_at states k) b → IsTrue (has b.class column) → name_of (names_at frame stage kinds) b.target ≡ moved (tiers_in frame) (constraints_in frame) (stage - 1 + 1) (name_of (names_at frame stage kinds) k) column
+    leads : (k : ℕ) (b : TableArc Count h) (column : List Sym) → Contains (moves_at states k) b → IsTrue (has b.class column) → name_of (names_at frame stage kinds) b.target ≡ moved (problem_in frame) (stage - 1 + 1) (name_of (names_at frame stage kinds) k) column
     leads k b column here p =
         let m = old_move k b here in
         let t = m.3.2 in
         let move = t.moves column (has_old m.0 m.3.0 b t column p) in
         name_is b.target t.next m.3.0.target t.at
         ∙ move.leads
-        ∙ ap (λ n. moved (tiers_in frame) (constraints_in frame) n (kind_at_stage frame stage m.0) column) (sym last)
-        ∙ ap (λ x. moved (tiers_in frame) (constraints_in frame) (stage - 1 + 1) x column) (sym (name_is k m.0 m.1 m.2))
+        ∙ ap (λ n. moved (problem_in frame) n (kind_at_stage frame stage m.0) column) (sym last)
+        ∙ ap (λ x. moved (problem_in frame) (stage - 1 + 1) x column) (sym (name_is k m.0 m.1 m.2))
 
-    pub weighs : AreWeighed (tiers_in frame) (constraints_in frame) (form_in frame) stage (names_at frame stage kinds) states
+    pub weighs : AreWeighed (problem_in frame) stage (names_at frame stage kinds) states
     weighs k b column here p =
         let m = old_move k b here in
         let t = m.3.2 in
         t.weighs column (has_old m.0 m.3.0 b t column p)
-        ∙ ap (λ x. cost_of (tiers_in frame) (constraints_in frame) (form_in frame) stage x column) (sym (name_is k m.0 m.1 m.2))
+        ∙ ap (λ x. cost_of (problem_in frame) stage x column) (sym (name_is k m.0 m.1 m.2))
 
     columns_new : (k : ℕ) (column : List Sym) → k < length states → HasMoveOn kept (base_of over k) column → HasMoveOn states k column
     columns_new k column l move =
@@ -177,19 +179,19 @@ module _ {g : Ghosts UnitWeight} (frame : Frame) (stage : ℕ) (kept : List (Tab
           subst (λ (xs : List (TableArc Count h)). AllPairs (λ x y. AreDisjoint x.class y.class) xs) (sym gone) (λ i j d less inside. absurd (omega (arith, inside))))
     ]
 
-    from_kept : AreFoundFrom (tiers_in frame) (constraints_in frame) (stage - 1) found.names kept over (names_at frame stage kinds) states
+    from_kept : AreFoundFrom (problem_in frame) (stage - 1) found.names kept over (names_at frame stage kinds) states
     from_kept = record {
       each_named = length-map kinds (kind_at_stage frame stage) ∙ sym all;
       distinct = names_apart;
       some = (let l = slice_get_within kinds 0 found.start.0 found.start.1.0 in omega (arith, all));
-      start = name_is 0 found.start.0 0 found.start.1 ∙ found.start.2.is ∙ ap (λ n. kind_of (tiers_in frame) (constraints_in frame) n []) (sym last);
+      start = name_is 0 found.start.0 0 found.start.1 ∙ found.start.2.is ∙ ap (λ n. kind_of (problem_in frame) n []) (sym last);
       based = λ k l.
           (let a = kind_of_state k l in
           let base = base_is k a.0 a.1 a.2 in
           omega (arith, base, (found.stands k a.0 a.1 a.2).within, found.kept_by.named.each_named));
       cuts = λ k l.
           (let a = kind_of_state k l in
-          ap (cut (constraints_in frame) (stage - 1)) (name_is k a.0 a.1 a.2) ∙ (found.stands k a.0 a.1 a.2).named ∙ ap (name_of found.names) (sym (base_is k a.0 a.1 a.2)));
+          ap (cut (problem_in frame) (stage - 1)) (name_is k a.0 a.1 a.2) ∙ (found.stands k a.0 a.1 a.2).named ∙ ap (name_of found.names) (sym (base_is k a.0 a.1 a.2)));
       ends = λ k l.
           (let a = kind_of_state k l in
           (taken.each k a.0 a.1 l a.2).accepts ∙ ap (accepting_at kept) (sym (base_is k a.0 a.1 a.2)));
@@ -203,17 +205,15 @@ module _ {g : Ghosts UnitWeight} (frame : Frame) (stage : ℕ) (kept : List (Tab
     -- all kinds that are found make the table of the stage
     pub is_explored : IsExplored frame stage kept kinds states
     is_explored =
-        let tiers = tiers_in frame in
-        let cs = constraints_in frame in
-        let u = form_in frame in
+        let problem = problem_in frame in
         let before = frame_stage frame (stage - 1) (omega arith) in
         record {
-          named = subst (λ (n : ℕ). AreNamedByKinds tiers cs u n (names_at frame stage kinds) states) last (found_named tiers cs u (stage - 1) found.names kept found.kept_by.named before over (names_at frame stage kinds) states from_kept);
+          named = subst (λ (n : ℕ). AreNamedByKinds problem n (names_at frame stage kinds) states) last (found_named problem (stage - 1) found.names kept found.kept_by.named before over (names_at frame stage kinds) states from_kept);
           weighed = weighs;
           fit = λ k d l.
               (let a = at_number kinds over found.listed.each k l in
               subst (λ (x : Kind). FitsFrame frame stage x) (sym (get_or_from_slice_get kinds k a.0 d a.2.0)) (found.stands k a.0 a.1 a.2).fits);
           single = λ k b here. (let m = old_move k b here in subst IsOfOneColumn (sym m.3.2.same_class) (found.kept_by.single m.1 m.3.0 m.3.1));
-          accepts = λ T. same_words tiers cs u (stage - 1) found.names kept found.kept_by.named before over (names_at frame stage kinds) states from_kept T;
-          on_runs = λ s l. found_on_runs tiers cs u (stage - 1) found.names kept found.kept_by.named before over (names_at frame stage kinds) states from_kept found.kept_by.on_runs s l;
+          accepts = λ T. same_words problem (stage - 1) found.names kept found.kept_by.named before over (names_at frame stage kinds) states from_kept T;
+          on_runs = λ s l. found_on_runs problem (stage - 1) found.names kept found.kept_by.named before over (names_at frame stage kinds) states from_kept found.kept_by.on_runs s l;
         }

@@ -15,6 +15,7 @@ use Rattle.violation.specs.Prefixes.{kind_of}
 use Rattle.kind_moves.specs.declared.frame.Frame.{Frame}
 use Rattle.kind_moves.specs.Frames.{tiers_in, constraints_in, form_in, kind_at_stage, FitsFrame}
 use Rattle.stage_laws.specs.StageTables.{AreNamedByKinds, AreWeighed}
+use Rattle.kind_moves.specs.Frames.{problem_in}
 
 -- what the bits of kinds tell at a stage
 abbrev pub names_at : Frame → ℕ → List Kind → List PrefixKind
@@ -25,8 +26,8 @@ names_at frame stage kinds = map (kind_at_stage frame stage) kinds
 -- the table accepts the words that the kept one accepts, each state is on a run, and each move has one
 -- column.
 pub record IsExplored {g : Ghosts UnitWeight} {h : Ghosts Count} (frame : Frame) (stage : ℕ) (kept : List (TableState UnitWeight g)) (kinds : List Kind) (states : List (TableState Count h)) : Type 0 where
-  pub named : AreNamedByKinds (tiers_in frame) (constraints_in frame) (form_in frame) stage (names_at frame stage kinds) states
-  pub weighed : AreWeighed (tiers_in frame) (constraints_in frame) (form_in frame) stage (names_at frame stage kinds) states
+  pub named : AreNamedByKinds (problem_in frame) stage (names_at frame stage kinds) states
+  pub weighed : AreWeighed (problem_in frame) stage (names_at frame stage kinds) states
   pub fit : All (FitsFrame frame stage) kinds
   pub accepts : (T : List (List Sym)) → Accepts states T ↔ Accepts kept T
   pub on_runs : (s : ℕ) → s < length states → IsOnRun states s
@@ -37,7 +38,7 @@ pub record IsMet {g : Ghosts UnitWeight} (frame : Frame) (stage : ℕ) (kept : L
   pub prefix : List (List Sym)
   pub rest : List (List Sym)
   pub accepted : Accepts kept (prefix ++ rest)
-  pub of_kind : kind_of (tiers_in frame) (constraints_in frame) stage prefix ≡ kind
+  pub of_kind : kind_of (problem_in frame) stage prefix ≡ kind
 
 -- more kinds than the budget are those of prefixes of timelines that the kept table accepts
 pub record IsOverBudget {g : Ghosts UnitWeight} (frame : Frame) (stage : ℕ) (kept : List (TableState UnitWeight g)) (budget : ℕ) : Type 0 where

@@ -13,6 +13,7 @@ use Rattle.arc_table.specs.declared.state.TableState.{TableState}
 use Rattle.arc_table.specs.Moves.{moves_at}
 use Rattle.arc_table.specs.Runs.{IsOnRun}
 use Rattle.stage_laws.specs.StageTables.{AreNamedByKinds}
+use Rattle.violation.specs.Problems.{Problem}
 
 -- no two columns are in a class
 abbrev pub IsOfOneColumn : Class → Type 0
@@ -20,11 +21,11 @@ IsOfOneColumn class = (a b : List Sym) → IsTrue (has class a) → IsTrue (has 
 
 -- The states of a kept table are named by kinds under the first r constraints, each move is on one
 -- column, and each state is on a run.
-pub record AreKeptByKinds {g : Ghosts UnitWeight} (tiers : Tiers) (constraints : List Constraint) (u : List (List Sym)) (r : ℕ) (names : List PrefixKind) (states : List (TableState UnitWeight g)) : Type 0 where
-  pub named : AreNamedByKinds tiers constraints u r names states
+pub record AreKeptByKinds {g : Ghosts UnitWeight} (problem : Problem) (r : ℕ) (names : List PrefixKind) (states : List (TableState UnitWeight g)) : Type 0 where
+  pub named : AreNamedByKinds problem r names states
   pub single : (s : ℕ) (arc : TableArc UnitWeight g) → Contains (moves_at states s) arc → IsOfOneColumn arc.class
   pub on_runs : (s : ℕ) → s < length states → IsOnRun states s
 
 -- the states of a kept table can be named by kinds so
-abbrev pub IsKept : {g : Ghosts UnitWeight} → Tiers → List Constraint → List (List Sym) → ℕ → List (TableState UnitWeight g) → Type 0
-IsKept tiers constraints u r states = (names : List PrefixKind) × AreKeptByKinds tiers constraints u r names states
+abbrev pub IsKept : {g : Ghosts UnitWeight} → Problem → ℕ → List (TableState UnitWeight g) → Type 0
+IsKept problem r states = (names : List PrefixKind) × AreKeptByKinds problem r names states

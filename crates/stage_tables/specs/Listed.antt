@@ -20,6 +20,7 @@ use Rattle.stage_tables.specs.declared.kind_key.KindKey.{KindKey}
 use Rattle.stage_tables.specs.KindKeys.{key_of}
 use Rattle.stage_tables.specs.Kept.{AreKeptByKinds}
 use Rattle.stage_laws.specs.StageTables.{name_of, cost_of}
+use Rattle.kind_moves.specs.Frames.{problem_in}
 
 -- number k of a list is the kind, which stands over state s
 abbrev pub IsAt : List Kind → List ℕ → ℕ → Kind → ℕ → Type 0
@@ -51,7 +52,7 @@ pub record IsNumbered (kinds next_kinds : List Kind) (over next_over : List ℕ)
 pub record StandsOver (frame : Frame) (stage : ℕ) (names : List PrefixKind) (kind : Kind) (s : ℕ) : Type 0 where
   pub fits : FitsFrame frame stage kind
   pub within : s < length names
-  pub named : cut (constraints_in frame) (stage - 1) (kind_at_stage frame stage kind) ≡ name_of names s
+  pub named : cut (problem_in frame) (stage - 1) (kind_at_stage frame stage kind) ≡ name_of names s
 
 -- moves by a prefix lead from the start to the kind, and the kept table goes by it to state s
 pub record IsReached {g : Ghosts UnitWeight} (frame : Frame) (stage : ℕ) (kept : List (TableState UnitWeight g)) (kind : Kind) (s : ℕ) : Type 0 where
@@ -67,7 +68,7 @@ pub record IsReached {g : Ghosts UnitWeight} (frame : Frame) (stage : ℕ) (kept
 -- of the kept table and is reached over it.
 pub record AreFound {g : Ghosts UnitWeight} (frame : Frame) (stage : ℕ) (kept : List (TableState UnitWeight g)) (keys : List KindKey) (kinds : List Kind) (over : List ℕ) : Type 0 where
   pub names : List PrefixKind
-  pub kept_by : AreKeptByKinds (tiers_in frame) (constraints_in frame) (form_in frame) (stage - 1) names kept
+  pub kept_by : AreKeptByKinds (problem_in frame) (stage - 1) names kept
   pub listed : AreListed keys kinds over
   pub start : (first : Kind) × IsAt kinds over 0 first 0 × IsStart frame stage first
   pub stands : (k : ℕ) (kind : Kind) (s : ℕ) → IsAt kinds over k kind s → StandsOver frame stage names kind s
@@ -88,7 +89,7 @@ pub record IsTaken {g : Ghosts UnitWeight} {h : Ghosts Count} (frame : Frame) (s
   pub next : Kind
   pub at : IsAt kinds over b.target next a.target
   pub moves : (column : List Sym) → IsTrue (has a.class column) → IsMove frame stage kind column next
-  pub weighs : (column : List Sym) → IsTrue (has a.class column) → b.weight.0 ≡ cost_of (tiers_in frame) (constraints_in frame) (form_in frame) stage (kind_at_stage frame stage kind) column
+  pub weighs : (column : List Sym) → IsTrue (has a.class column) → b.weight.0 ≡ cost_of (problem_in frame) stage (kind_at_stage frame stage kind) column
 
 -- a new state is a kept one: it accepts where that does, and its moves are those of that, one by one
 pub record IsTakenState {g : Ghosts UnitWeight} {h : Ghosts Count} (frame : Frame) (stage : ℕ) (kept : List (TableState UnitWeight g)) (kinds : List Kind) (over : List ℕ) (kind : Kind) (s : ℕ) (accepting : Bool) (moves : List (TableArc Count h)) : Type 0 where

@@ -5,6 +5,8 @@ ghost use Rattle.stage_tables.specs.Kept.{IsKept};
 ghost use Rattle.stage_tables.specs.Explored.{IsExplored, IsOverBudget};
 ghost use Rattle.stage_tables.specs.Listed.{AreTaken};
 ghost use Rattle.stage_tables.specs.Exploring.{IsFoundWithin, IsFoundBeyond};
+ghost use Rattle.kind_moves.specs.Frames.{problem_in};
+ghost use Rattle.violation.specs.Problems.{last_stage};
 
 use crate::exploring::Exploring;
 use crate::kind_key::KindKey;
@@ -21,7 +23,7 @@ impl Exploring<'_> {
 
     /// The start, listed over state 0.
     fn start(&self, alloc: Global) -> Result<Listed, ExploreErr>
-        requires kept { IsKept (tiers_in self.now.frame.now) (constraints_in self.now.frame.now) (form_in self.now.frame.now) (self.now.stage - 1) (states_of self.now.kept.now) }
+        requires kept { IsKept (problem_in self.now.frame.now) (self.now.stage - 1) (states_of self.now.kept.now) }
         requires budget { 1 ≤ self.now.budget }
         ensures found { IfOk result (IsFoundWithin self.now) }
         ensures one { IfOk result (λ listed. length listed.kinds.items ≡ 1) }
@@ -81,8 +83,8 @@ pub fn explore(
     budget: u32,
 ) -> Result<StageTable, ExploreErr>
     requires some { 1 ≤ stage }
-    requires stage { stage ≤ length (constraints_in frame.now) }
-    requires kept { IsKept (tiers_in frame.now) (constraints_in frame.now) (form_in frame.now) (stage - 1) (states_of kept.now) }
+    requires stage { stage ≤ last_stage (problem_in frame.now) }
+    requires kept { IsKept (problem_in frame.now) (stage - 1) (states_of kept.now) }
     requires some_budget { 1 ≤ budget }
     requires budget { budget ≤ 65536 }
     ensures explored { IfOk result (λ found. IsExplored frame.now stage (states_of kept.now) found.kinds.items (states_of found.table)) }

@@ -1,5 +1,7 @@
 ghost use Rattle.std.specs.Prelude.{◌≤◌, length};
 ghost use Rattle.kind_moves.specs.Frames.{constraints_in};
+ghost use Rattle.violation.specs.Problems.{last_stage};
+ghost use Rattle.kind_moves.specs.Frames.{problem_in};
 
 use arc_table::Table;
 use kind_moves::Frame;
@@ -13,5 +15,5 @@ pub(crate) struct Exploring<'a> {
     pub kept: &'a Table<UnitWeight>,
     pub budget: u32,
     pub ghost some: { 1 ≤ stage },
-    pub ghost within: { stage ≤ length (constraints_in frame.now) },
+    pub ghost within: { stage ≤ last_stage (problem_in frame.now) },
 }

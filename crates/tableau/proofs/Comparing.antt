@@ -13,10 +13,11 @@ use Rattle.tier_core.specs.declared.sym.Sym.{Sym}
 use Rattle.tier_core.specs.declared.constraint.Constraint.{Constraint}
 use Rattle.tier_core.specs.Tiers.{Tiers}
 use Rattle.violation.specs.Counts.{violations_of}
-use Rattle.violation.specs.Candidates.{vec, IsAtMost, IsCandidate, IsLeastVector, IsOptimal}
+use Rattle.violation.specs.Candidates.{vec, IsAtMost, IsCandidate, IsLeastVector, IsOptimal, counts_on}
 use Rattle.tableau.specs.declared.table.TableauRow.{TableauRow}
 use Rattle.tableau.specs.Compared.{IsCompared, IsFirstOther}
 use Rattle.tableau.specs.Tableaux.{IsFirstWorse, IsTableauRow}
+use Rattle.violation.specs.Problems.{Problem, last_stage}
 
 -- the counts that differ first, by how they compare
 at_first : (m n : ℕ) (rest r : Ordering) → r ≡ nat_cmp m n → is_le (ordering_then r rest) ≡ true → n ≢ m → m < n
@@ -34,49 +35,49 @@ greater (m ∷ least) (n ∷ counts) (suc w) a l b o =
     let rest : take w counts ≡ take w least = cc in
     greater least counts w (ap (λ r. is_le (ordering_then r (slice_cmp nat_cmp least counts))) (nat_cmp_is m n Equal same) ∙ a) (omega arith) rest o
 
-module _ (tiers : Tiers) (constraints : List Constraint) (u : List (List Sym)) (least : List ℕ) (is_least : IsLeastVector tiers constraints u least) where
-  whole : (T : List (List Sym)) → take (length constraints) (vec constraints T) ≡ vec constraints T
-  whole T = let n = length-map constraints (λ c. violations_of c T) in take_all (length constraints) (vec constraints T) (omega arith)
+module _ (problem : Problem) (least : List ℕ) (is_least : IsLeastVector problem least) where
+  whole : (T : List (List Sym)) → take (last_stage problem) (counts_on problem T) ≡ counts_on problem T
+  whole T = let n = length-map problem.constraints (λ c. violations_of c T) in take_all (last_stage problem) (counts_on problem T) (omega arith)
 
   -- the least is at most the vector of each candidate
-  at_most : (T : List (List Sym)) → IsCandidate tiers u T → IsAtMost least (vec constraints T)
+  at_most : (T : List (List Sym)) → IsCandidate problem T → IsAtMost least (counts_on problem T)
   at_most T c =
       let best = is_least.some.0 in
-      subst (λ (v : List ℕ). IsAtMost v (vec constraints T)) (whole best ∙ is_least.some.1.1)
-      (subst (λ (v : List ℕ). IsAtMost (take (length constraints) (vec constraints best)) v) (whole T) (is_least.some.1.0.least T c))
+      subst (λ (v : List ℕ). IsAtMost v (counts_on problem T)) (whole best ∙ is_least.some.1.1)
+      (subst (λ (v : List ℕ). IsAtMost (take (last_stage problem) (counts_on problem best)) v) (whole T) (is_least.some.1.0.least T c))
 
   -- a candidate with the least vector is optimal
-  optimal : (T : List (List Sym)) → IsCandidate tiers u T → vec constraints T ≡ least → IsOptimal tiers constraints u T
+  optimal : (T : List (List Sym)) → IsCandidate problem T → counts_on problem T ≡ least → IsOptimal problem T
   optimal T c e = record {
     candidate = c;
-    least = λ U d. subst (λ (v : List ℕ). IsAtMost (take (length constraints) v) (take (length constraints) (vec constraints U))) (is_least.some.1.1 ∙ sym e) (is_least.some.1.0.least U d);
+    least = λ U d. subst (λ (v : List ℕ). IsAtMost (take (last_stage problem) v) (take (last_stage problem) (counts_on problem U))) (is_least.some.1.1 ∙ sym e) (is_least.some.1.0.least U d);
   }
 
-  pub length-least : length least ≡ length constraints
-  length-least = ap length (sym is_least.some.1.1) ∙ length-map constraints (λ c. violations_of c is_least.some.0)
+  pub length-least : length least ≡ last_stage problem
+  length-least = ap length (sym is_least.some.1.1) ∙ length-map problem.constraints (λ c. violations_of c is_least.some.0)
 
   -- what a comparison with the least says of a candidate
-  judged : (T : List (List Sym)) → IsCandidate tiers u T → (counts : List ℕ) → counts ≡ vec constraints T → (worse : Option ℕ) → MatchOption worse (counts ≡ least) (IsFirstOther least counts)
-      → (IsNone worse ↔ IsOptimal tiers constraints u T) × IfSome worse (IsFirstWorse least counts)
+  judged : (T : List (List Sym)) → IsCandidate problem T → (counts : List ℕ) → counts ≡ counts_on problem T → (worse : Option ℕ) → MatchOption worse (counts ≡ least) (IsFirstOther least counts)
+      → (IsNone worse ↔ IsOptimal problem T) × IfSome worse (IsFirstWorse least counts)
   judged T c counts e None same = ((λ _. optimal T c (sym e ∙ same), λ _. refl), tt)
   judged T c counts e (Some w) o = (
     (λ n. absurd (false≢true (sym n)), λ best. absurd (o.other (ap (λ xs. get_or xs w 0) (e ∙ is_least.shared T best)))),
     record { there = o.there; before = o.before; greater = greater least counts w (subst (λ (v : List ℕ). IsAtMost least v) (sym e) (at_most T c)) o.there o.before o.other },
   )
 
-  pub compared_row : (T : List (List Sym)) (row : TableauRow) → IsCandidate tiers u T → IsCompared constraints least T row → IsTableauRow tiers constraints u least row
+  pub compared_row : (T : List (List Sym)) (row : TableauRow) → IsCandidate problem T → IsCompared problem.constraints least T row → IsTableauRow problem least row
   compared_row T row c r =
       let judge = judged T c row.counts.items r.counts row.worse r.worse in
       record {
-        counts = r.counts ∙ ap (vec constraints) (sym r.timeline);
-        optimal = subst (λ (U : List (List Sym)). IsNone row.worse ↔ IsOptimal tiers constraints u U) (sym r.timeline) judge.0;
+        counts = r.counts ∙ ap (counts_on problem) (sym r.timeline);
+        optimal = subst (λ (U : List (List Sym)). IsNone row.worse ↔ IsOptimal problem U) (sym r.timeline) judge.0;
         worse = judge.1;
       }
 
   -- an optimal candidate with the least counts
-  pub optimal_row : (T : List (List Sym)) (row : TableauRow) → IsOptimal tiers constraints u T → row.timeline ≡ T → row.counts.items ≡ least → row.worse ≡ None → IsTableauRow tiers constraints u least row
+  pub optimal_row : (T : List (List Sym)) (row : TableauRow) → IsOptimal problem T → row.timeline ≡ T → row.counts.items ≡ least → row.worse ≡ None → IsTableauRow problem least row
   optimal_row T row best t e w =
-      let of_row : IsOptimal tiers constraints u row.timeline = subst (IsOptimal tiers constraints u) (sym t) best in
+      let of_row : IsOptimal problem row.timeline = subst (IsOptimal problem) (sym t) best in
       record {
         counts = e ∙ sym (is_least.shared row.timeline of_row);
         optimal = (λ _. of_row, λ _. ap is_some w);

@@ -11,6 +11,7 @@ use Rattle.tableau.specs.declared.rows_err.RowsErr.{RowsErr}
 use Rattle.tableau.specs.declared.rows_err.RowsErr.TheVariants.{At, NoMemory}
 use Rattle.tableau.specs.Rows.{AreRowsOf, IsLineCause, IsLineRefusal, IsRowOf, IsTextRefusal, filled, is_blank}
 use Rattle.tableau.proofs.LineCuts.{nothing_behind}
+use Rattle.violation.specs.Problems.{Problem}
 
 -- the lines so far and one more, which is passed over
 pub filled_blank : (front : List (List ℕ)) (line : List ℕ) → is_blank line ≡ true → filled (front ++ line ∷ []) ≡ filled front
@@ -25,27 +26,27 @@ filled_more front line behind h =
     ∙ ap (λ b. filled front ++ cond (not b) (line ∷ filled behind) (filled behind)) h
 
 -- no line has no rows
-pub no_rows : (tiers : Tiers) (u : List (List Sym)) → AreRowsOf tiers u [] []
-no_rows tiers u = record { texts = refl; candidates = All-nil (IsCandidate tiers u); within = All-nil (λ T. length T ≤ 4096); few = omega arith }
+pub no_rows : (problem : Problem) → AreRowsOf problem [] []
+no_rows problem = record { texts = refl; candidates = All-nil (IsCandidate problem); within = All-nil (λ T. length T ≤ 4096); few = omega arith }
 
-pub blank_line : (tiers : Tiers) (u : List (List Sym)) (front : List (List ℕ)) (line : List ℕ) (rows : List (List (List Sym))) → is_blank line ≡ true
-    → AreRowsOf tiers u front rows → AreRowsOf tiers u (front ++ line ∷ []) rows
-blank_line tiers u front line rows h a = record { texts = filled_blank front line h ∙ a.texts; candidates = a.candidates; within = a.within; few = a.few }
+pub blank_line : (problem : Problem) (front : List (List ℕ)) (line : List ℕ) (rows : List (List (List Sym))) → is_blank line ≡ true
+    → AreRowsOf problem front rows → AreRowsOf problem (front ++ line ∷ []) rows
+blank_line problem front line rows h a = record { texts = filled_blank front line h ∙ a.texts; candidates = a.candidates; within = a.within; few = a.few }
 
-pub row_line : (tiers : Tiers) (u : List (List Sym)) (front : List (List ℕ)) (line : List ℕ) (rows : List (List (List Sym))) (T : List (List Sym)) → is_blank line ≡ false
-    → length rows < 32 → IsRowOf tiers u line T → AreRowsOf tiers u front rows → AreRowsOf tiers u (front ++ line ∷ []) (rows ++ T ∷ [])
-row_line tiers u front line rows T h l r a = record {
+pub row_line : (problem : Problem) (front : List (List ℕ)) (line : List ℕ) (rows : List (List (List Sym))) (T : List (List Sym)) → is_blank line ≡ false
+    → length rows < 32 → IsRowOf problem line T → AreRowsOf problem front rows → AreRowsOf problem (front ++ line ∷ []) (rows ++ T ∷ [])
+row_line problem front line rows T h l r a = record {
   texts = filled_more front line [] h ∙ ap (λ ts. ts ++ line ∷ []) a.texts ∙ ap (λ t. map text_of rows ++ t ∷ []) r.text.text ∙ sym (map_push text_of rows T);
-  candidates = All-push (IsCandidate tiers u) rows T a.candidates r.candidate;
+  candidates = All-push (IsCandidate problem) rows T a.candidates r.candidate;
   within = All-push (λ U. length U ≤ 4096) rows T a.within r.text.within;
   few = omega (arith, length_push rows T);
 }
 
 -- a line that is refused behind these lines
-pub refused_line : (tiers : Tiers) (u : List (List Sym)) (front : List (List ℕ)) (line : List ℕ) (behind : List (List ℕ)) (rows : List (List (List Sym))) (number before : ℕ) (e : RowsErr) → is_blank line ≡ false
-    → length front + 1 ≡ number → before ≡ length rows → AreRowsOf tiers u front rows → IsLineRefusal tiers u number before line e → IsTextRefusal tiers u (front ++ line ∷ behind) e
-refused_line tiers u front line behind rows number before NoMemory h n b a r = tt
-refused_line tiers u front line behind rows number before (At row cause) h n b a r = record {
+pub refused_line : (problem : Problem) (front : List (List ℕ)) (line : List ℕ) (behind : List (List ℕ)) (rows : List (List (List Sym))) (number before : ℕ) (e : RowsErr) → is_blank line ≡ false
+    → length front + 1 ≡ number → before ≡ length rows → AreRowsOf problem front rows → IsLineRefusal problem number before line e → IsTextRefusal problem (front ++ line ∷ behind) e
+refused_line problem front line behind rows number before NoMemory h n b a r = tt
+refused_line problem front line behind rows number before (At row cause) h n b a r = record {
   front = front;
   line = line;
   behind = behind;
@@ -54,22 +55,22 @@ refused_line tiers u front line behind rows number before (At row cause) h n b a
   rows = rows;
   read = a;
   has_row = h;
-  comes = subst (λ (m : ℕ). IsLineCause tiers u m line cause) b r.1;
+  comes = subst (λ (m : ℕ). IsLineCause problem m line cause) b r.1;
 }
 
 -- The lines in front of the rest have these rows.
-pub record IsReadTo (tiers : Tiers) (u : List (List Sym)) (bytes rest : List ℕ) (number : ℕ) (rows : List (List (List Sym))) : Type 0 where
+pub record IsReadTo (problem : Problem) (bytes rest : List ℕ) (number : ℕ) (rows : List (List (List Sym))) : Type 0 where
   pub front : List (List ℕ)
   pub whole : lines bytes ≡ front ++ lines rest
-  pub read : AreRowsOf tiers u front rows
+  pub read : AreRowsOf problem front rows
   pub counted : length front ≡ number
   pub left : number + length rest ≤ length bytes
 
-pub read_none : (tiers : Tiers) (u : List (List Sym)) (bytes : List ℕ) (rows : List (List (List Sym))) → rows ≡ [] → IsReadTo tiers u bytes bytes 0 rows
-read_none tiers u bytes rows e = record {
+pub read_none : (problem : Problem) (bytes : List ℕ) (rows : List (List (List Sym))) → rows ≡ [] → IsReadTo problem bytes bytes 0 rows
+read_none problem bytes rows e = record {
   front = [];
   whole = refl;
-  read = subst (AreRowsOf tiers u []) (sym e) (no_rows tiers u);
+  read = subst (AreRowsOf problem []) (sym e) (no_rows problem);
   counted = refl;
   left = omega arith;
 }
@@ -78,8 +79,8 @@ read_none tiers u bytes rows e = record {
 pub next_line : (bytes rest behind line : List ℕ) (front : List (List ℕ)) → lines bytes ≡ front ++ lines rest → lines rest ≡ line ∷ lines behind → lines bytes ≡ front ++ line ∷ lines behind
 next_line bytes rest behind line front w e = w ∙ ap (λ ls. front ++ ls) e
 
-pub read_more : {tiers : Tiers} {u : List (List Sym)} {bytes rest : List ℕ} {number : ℕ} {rows : List (List (List Sym))} (behind line : List ℕ) (more : List (List (List Sym))) → lines rest ≡ line ∷ lines behind → length behind < length rest
-    → (r : IsReadTo tiers u bytes rest number rows) → AreRowsOf tiers u (r.front ++ line ∷ []) more → IsReadTo tiers u bytes behind (number + 1) more
+pub read_more : {problem : Problem} {bytes rest : List ℕ} {number : ℕ} {rows : List (List (List Sym))} (behind line : List ℕ) (more : List (List (List Sym))) → lines rest ≡ line ∷ lines behind → length behind < length rest
+    → (r : IsReadTo problem bytes rest number rows) → AreRowsOf problem (r.front ++ line ∷ []) more → IsReadTo problem bytes behind (number + 1) more
 read_more {bytes = bytes} {rest = rest} behind line more e l r a = record {
   front = r.front ++ line ∷ [];
   whole = next_line bytes rest behind line r.front r.whole e ∙ sym (append_assoc r.front (line ∷ []) (lines behind));
@@ -89,6 +90,6 @@ read_more {bytes = bytes} {rest = rest} behind line more e l r a = record {
 }
 
 -- all lines are read
-pub read_all : {tiers : Tiers} {u : List (List Sym)} {bytes rest : List ℕ} {number : ℕ} {rows : List (List (List Sym))} → length rest ≡ 0
-    → IsReadTo tiers u bytes rest number rows → AreRowsOf tiers u (lines bytes) rows
-read_all {tiers} {u} {bytes} {rest} {number} {rows} h r = subst (λ ls. AreRowsOf tiers u ls rows) (sym (r.whole ∙ ap (λ ls. r.front ++ ls) (nothing_behind rest h) ∙ append-nil r.front)) r.read
+pub read_all : {problem : Problem} {bytes rest : List ℕ} {number : ℕ} {rows : List (List (List Sym))} → length rest ≡ 0
+    → IsReadTo problem bytes rest number rows → AreRowsOf problem (lines bytes) rows
+read_all {problem} {bytes} {rest} {number} {rows} h r = subst (λ ls. AreRowsOf problem ls rows) (sym (r.whole ∙ ap (λ ls. r.front ++ ls) (nothing_behind rest h) ∙ append-nil r.front)) r.read

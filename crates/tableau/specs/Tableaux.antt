@@ -6,9 +6,10 @@ use Rattle.tier_core.specs.declared.sym.Sym.{Sym}
 use Rattle.tier_core.specs.declared.constraint.Constraint.{Constraint}
 use Rattle.tier_core.specs.Orders.{IsFirst}
 use Rattle.tier_core.specs.Tiers.{Tiers}
-use Rattle.violation.specs.Candidates.{vec, IsLeastVector, IsOptimal}
+use Rattle.violation.specs.Candidates.{vec, IsLeastVector, IsOptimal, counts_on}
 use Rattle.tableau.specs.declared.table.Tableau.{Tableau}
 use Rattle.tableau.specs.declared.table.TableauRow.{TableauRow}
+use Rattle.violation.specs.Problems.{Problem}
 
 -- The constraint with this number, from 0, is the first with another count than the least, and its
 -- count is greater.
@@ -19,19 +20,19 @@ pub record IsFirstWorse (least counts : List ℕ) (worse : ℕ) : Type 0 where
 
 -- A row has the violation vector of its timeline. Where the timeline is optimal it has no first worse
 -- constraint, and only there.
-pub record IsTableauRow (tiers : Tiers) (constraints : List Constraint) (u : List (List Sym)) (least : List ℕ) (row : TableauRow) : Type 0 where
-  pub counts : row.counts.items ≡ vec constraints row.timeline
-  pub optimal : IsNone row.worse ↔ IsOptimal tiers constraints u row.timeline
+pub record IsTableauRow (problem : Problem) (least : List ℕ) (row : TableauRow) : Type 0 where
+  pub counts : row.counts.items ≡ counts_on problem row.timeline
+  pub optimal : IsNone row.worse ↔ IsOptimal problem row.timeline
   pub worse : IfSome row.worse (IsFirstWorse least row.counts.items)
 
 -- The tableau of the form u and these timelines: the names of the constraints in ranked order, and a
 -- row for the first optimal candidate and then for each of the timelines.
-pub record IsTableauOf (tiers : Tiers) (constraints : List Constraint) (u : List (List Sym)) (timelines : List (List (List Sym))) (tableau : Tableau) : Type 0 where
-  pub form : tableau.form ≡ u
-  pub names : map string_bytes tableau.names.items ≡ map (λ c. string_bytes c.name) constraints
+pub record IsTableauOf (problem : Problem) (timelines : List (List (List Sym))) (tableau : Tableau) : Type 0 where
+  pub form : tableau.form ≡ problem.form
+  pub names : map string_bytes tableau.names.items ≡ map (λ c. string_bytes c.name) problem.constraints
   pub example : List (List Sym)
-  pub is_first : IsFirst (IsOptimal tiers constraints u) example
+  pub is_first : IsFirst (IsOptimal problem) example
   pub rows : map (λ row. row.timeline) tableau.rows.items ≡ example ∷ timelines
   pub least : List ℕ
-  pub is_least : IsLeastVector tiers constraints u least
-  pub each : All (IsTableauRow tiers constraints u least) tableau.rows.items
+  pub is_least : IsLeastVector problem least
+  pub each : All (IsTableauRow problem least) tableau.rows.items

@@ -1,6 +1,7 @@
-ghost use Rattle.std.specs.Prelude.{◌≡◌, ◌+◌, ◌<◌, ◌≤◌, ◌∷◌, [], ◌++◌, List, ℕ, length, IfOk, IfErr, OnOk};
-ghost use Rattle.tier_core.specs.Tables.{tiers_of_table};
+ghost use Rattle.std.specs.Prelude.{◌≡◌, ◌+◌, ◌<◌, ◌≤◌, ◌∷◌, [], ◌++◌, List, ℕ, length, ◌↔◌, IsTrue, IfOk, IfErr, OnOk};
 ghost use Rattle.tableau.specs.Rows.{AreRowsOf, IsLineRefusal, IsRowOf, IsTextRefusal};
+ghost use Rattle.violation.specs.Candidates.{IsCandidate};
+ghost use Rattle.violation.specs.Problems.{asked};
 
 use crate::line::is_blank;
 use crate::rows_err::{RowsCause, RowsErr};
@@ -16,6 +17,13 @@ const MOST_ROWS: usize = 32;
 /// How many columns a row has at most.
 const MOST_COLUMNS: usize = 4096;
 
+/// Whether a timeline is a candidate of a form over the tiers of a grammar.
+fn is_row(grammar: &Grammar, form: &Timeline, timeline: &Timeline) -> bool
+    ensures { IsTrue result ↔ IsCandidate (asked grammar.now.tiers grammar.now.constraints.items form.now) timeline.now }
+{
+    is_candidate(&grammar.tiers, form, timeline)
+}
+
 /// Reads a line that is not blank, with this number, where so many rows stand before it.
 fn read_row(
     alloc: Global,
@@ -25,9 +33,9 @@ fn read_row(
     before: usize,
     line: &[u8],
 ) -> Result<Timeline, RowsErr>
-    ensures ok { IfOk result (IsRowOf (tiers_of_table grammar.now.tiers) form.now line.now) }
+    ensures ok { IfOk result (IsRowOf (asked grammar.now.tiers grammar.now.constraints.items form.now) line.now) }
     ensures few { OnOk result (before < 32) }
-    ensures err { IfErr result (IsLineRefusal (tiers_of_table grammar.now.tiers) form.now number before line.now) }
+    ensures err { IfErr result (IsLineRefusal (asked grammar.now.tiers grammar.now.constraints.items form.now) number before line.now) }
 {
     if before >= MOST_ROWS {
         return Err(RowsErr::At {
@@ -46,7 +54,7 @@ fn read_row(
             });
         }
     };
-    if !is_candidate(&grammar.tiers, form, &timeline) {
+    if !is_row(grammar, form, &timeline) {
         return Err(RowsErr::At {
             row: number,
             cause: RowsCause::NotCandidate,
@@ -64,8 +72,8 @@ pub(crate) fn read_line(
     line: &[u8],
     rows: &mut Vec<Timeline>,
 ) -> Result<(), RowsErr>
-    ensures ok { OnOk result ((front : List (List ℕ)) → AreRowsOf (tiers_of_table grammar.now.tiers) form.now front rows.old.items → AreRowsOf (tiers_of_table grammar.now.tiers) form.now (front ++ line.now ∷ []) rows.new.items) }
-    ensures err { IfErr result (λ e. (front behind : List (List ℕ)) → length front + 1 ≡ number → AreRowsOf (tiers_of_table grammar.now.tiers) form.now front rows.old.items → IsTextRefusal (tiers_of_table grammar.now.tiers) form.now (front ++ line.now ∷ behind) e) }
+    ensures ok { OnOk result ((front : List (List ℕ)) → AreRowsOf (asked grammar.now.tiers grammar.now.constraints.items form.now) front rows.old.items → AreRowsOf (asked grammar.now.tiers grammar.now.constraints.items form.now) (front ++ line.now ∷ []) rows.new.items) }
+    ensures err { IfErr result (λ e. (front behind : List (List ℕ)) → length front + 1 ≡ number → AreRowsOf (asked grammar.now.tiers grammar.now.constraints.items form.now) front rows.old.items → IsTextRefusal (asked grammar.now.tiers grammar.now.constraints.items form.now) (front ++ line.now ∷ behind) e) }
 {
     if is_blank(line) {
         return Ok(());

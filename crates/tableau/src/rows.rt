@@ -2,6 +2,7 @@ ghost use Rattle.std.specs.Prelude.{◌≤◌, length, IfOk, IfErr};
 ghost use Rattle.std.specs.Str.Lines.{lines};
 ghost use Rattle.tier_core.specs.Tables.{tiers_of_table};
 ghost use Rattle.tableau.specs.Rows.{AreRowsOf, IsTextRefusal};
+ghost use Rattle.violation.specs.Problems.{asked};
 
 use crate::line::cut_line;
 use crate::row::read_line;
@@ -30,8 +31,8 @@ pub fn read_rows(
     bytes: &[u8],
 ) -> Result<Vec<Timeline>, RowsErr>
     requires { length bytes.now ≤ 4194304 }
-    ensures ok { IfOk result (λ rows. AreRowsOf (tiers_of_table grammar.now.tiers) form.now (lines bytes.now) rows.items) }
-    ensures err { IfErr result (IsTextRefusal (tiers_of_table grammar.now.tiers) form.now (lines bytes.now)) }
+    ensures ok { IfOk result (λ rows. AreRowsOf (asked grammar.now.tiers grammar.now.constraints.items form.now) (lines bytes.now) rows.items) }
+    ensures err { IfErr result (IsTextRefusal (asked grammar.now.tiers grammar.now.constraints.items form.now) (lines bytes.now)) }
 {
     let mut rows = Vec::new(alloc);
     let mut rest = bytes;

@@ -13,7 +13,7 @@ use Rattle.tier_core.specs.Tiers.{Tiers}
 use Rattle.tier_core.specs.Timelines.{word}
 use Rattle.tier_core.specs.Sides.{is_implication, has_edge_type, is_stretch, edge_among}
 use Rattle.tier_core.proofs.CountLemmas.{bit, all_weaker, all_append}
-use Rattle.violation.specs.Candidates.{IsForm, IsCandidate, vec}
+use Rattle.violation.specs.Candidates.{IsForm, IsCandidate, vec, counts_on}
 use Rattle.violation.specs.Conditions.{AreSplit, IsOverTiers, IsCountable}
 use Rattle.violation.specs.Counts.{violations_of, violations_so_far, so_far, viol}
 use Rattle.violation.specs.Moves.{costs, costs_each, first_phase, is_tier_open, move_costs, moved, is_final}
@@ -26,6 +26,7 @@ use Rattle.violation.specs.Columns.{edge_cost}
 use Rattle.violation.proofs.TierLemmas.{map_agree}
 use Rattle.violation.proofs.WalkLemmas.{begun_of, moved_is, walk_on, candidate_walk, candidate_final, final_candidate}
 use Rattle.violation.proofs.WholeCounts.{so_far_none}
+use Rattle.violation.specs.Problems.{Problem}
 
 -- two states agree on the tiers of some types
 abbrev pub AgreeOn : List Event → (ℕ → Bool) → (ℕ → Bool) → Type 0
@@ -94,35 +95,34 @@ pub length_costs : (cs : List Constraint) (o : ℕ → Bool) (phases : List Phas
 length_costs [] o phases column = refl
 length_costs (c ∷ cs) o phases column = ap suc (length_costs cs o (cond (is_stretch c) (drop 1 phases) phases) column)
 
-module _ (tiers : Tiers) (constraints : List Constraint) (r : ℕ) (u : List (List Sym)) (split : AreSplit tiers) (form : IsForm tiers u)
-    (over : AllByRecursion (IsOverTiers tiers.width) (take r constraints)) where
-  stretches_over : AllByRecursion (IsOverTiers tiers.width) (stretches constraints r)
-  stretches_over = kept (take r constraints) over
+module _ (problem : Problem) (r : ℕ) (split : AreSplit problem.tiers) (form : IsForm problem.tiers problem.form) (over : AllByRecursion (IsOverTiers problem.tiers.width) (take r problem.constraints)) where
+  stretches_over : AllByRecursion (IsOverTiers problem.tiers.width) (stretches problem r)
+  stretches_over = kept (take r problem.constraints) over
     where
-      kept : (cs : List Constraint) → AllByRecursion (IsOverTiers tiers.width) cs → AllByRecursion (IsOverTiers tiers.width) (filter is_stretch cs)
+      kept : (cs : List Constraint) → AllByRecursion (IsOverTiers problem.tiers.width) cs → AllByRecursion (IsOverTiers problem.tiers.width) (filter is_stretch cs)
       kept [] h = tt
       kept (c ∷ cs) h = step (is_stretch c) (kept cs h.1)
         where
-          step : (b : Bool) → AllByRecursion (IsOverTiers tiers.width) (filter is_stretch cs) → AllByRecursion (IsOverTiers tiers.width) (cond b (c ∷ filter is_stretch cs) (filter is_stretch cs))
+          step : (b : Bool) → AllByRecursion (IsOverTiers problem.tiers.width) (filter is_stretch cs) → AllByRecursion (IsOverTiers problem.tiers.width) (cond b (c ∷ filter is_stretch cs) (filter is_stretch cs))
           step true rest = (h.0, rest)
           step false rest = rest
 
-  pub length_walk : (q : List (List Sym)) (k : PrefixKind) → length (walk_costs tiers constraints u r k q) ≡ length (take r constraints)
-  length_walk [] k = length-map (take r constraints) (λ c. 0)
+  pub length_walk : (q : List (List Sym)) (k : PrefixKind) → length (walk_costs problem r k q) ≡ length (take r problem.constraints)
+  length_walk [] k = length-map (take r problem.constraints) (λ c. 0)
   length_walk (column ∷ q) k =
-      let size : length (move_costs tiers constraints u r k column) ≡ length (take r constraints) = length_costs (take r constraints) (is_tier_open tiers u k) k.phases column in
-      length_add (move_costs tiers constraints u r k column) (walk_costs tiers constraints u r (moved tiers constraints r k column) q)
-      (size ∙ sym (length_walk q (moved tiers constraints r k column)))
+      let size : length (move_costs problem r k column) ≡ length (take r problem.constraints) = length_costs (take r problem.constraints) (is_tier_open problem k) k.phases column in
+      length_add (move_costs problem r k column) (walk_costs problem r (moved problem r k column) q)
+      (size ∙ sym (length_walk q (moved problem r k column)))
       ∙ size
 
   -- a move costs what its column adds to the violations so far
-  pub move_adds : (T p : List (List Sym)) (column : List Sym) (q : List (List Sym)) → T ≡ p ++ column ∷ q → IsCandidate tiers u T
-      → map (λ c. violations_so_far c T (suc (length p))) (take r constraints)
-      ≡ add_each (map (λ c. violations_so_far c T (length p)) (take r constraints)) (move_costs tiers constraints u r (kind_of tiers constraints r p) column)
+  pub move_adds : (T p : List (List Sym)) (column : List Sym) (q : List (List Sym)) → T ≡ p ++ column ∷ q → IsCandidate problem T
+      → map (λ c. violations_so_far c T (suc (length p))) (take r problem.constraints)
+      ≡ add_each (map (λ c. violations_so_far c T (length p)) (take r problem.constraints)) (move_costs problem r (kind_of problem r p) column)
   move_adds T p column q e c =
-      add_maps (λ x. violations_so_far x T (suc (length p))) (λ x. violations_so_far x T (length p)) (λ x. bit (costs x.family x.left x.right (is_tier_open tiers u (kind_of tiers constraints r p)) (phase x.left x.right p) column)) (take r constraints)
-      (all_weaker (IsOverTiers tiers.width) _ (take r constraints) adds over)
-      ∙ ap (add_each (map (λ c. violations_so_far c T (length p)) (take r constraints))) (sym (costs_each_are (take r constraints) (is_tier_open tiers u (kind_of tiers constraints r p)) p column))
+      add_maps (λ x. violations_so_far x T (suc (length p))) (λ x. violations_so_far x T (length p)) (λ x. bit (costs x.family x.left x.right (is_tier_open problem (kind_of problem r p)) (phase x.left x.right p) column)) (take r problem.constraints)
+      (all_weaker (IsOverTiers problem.tiers.width) _ (take r problem.constraints) adds over)
+      ∙ ap (add_each (map (λ c. violations_so_far c T (length p)) (take r problem.constraints))) (sym (costs_each_are (take r problem.constraints) (is_tier_open problem (kind_of problem r p)) p column))
     where
       within : length p < length T
       within = omega (arith, ap length e, length-append p (column ∷ q))
@@ -133,65 +133,65 @@ module _ (tiers : Tiers) (constraints : List Constraint) (r : ℕ) (u : List (Li
       at : get_or T (length p) [] ≡ column
       at = ap (λ (v : List (List Sym)). get_or v (length p) []) e ∙ get_or_at p column q [] (length p) refl
 
-      begun : IsBegun tiers u p
-      begun = begun_of tiers u p (column ∷ q) (subst (IsCandidate tiers u) e c)
+      begun : IsBegun problem p
+      begun = begun_of problem p (column ∷ q) (subst (IsCandidate problem) e c)
 
-      adds : (x : Constraint) → IsOverTiers tiers.width x
-          → violations_so_far x T (suc (length p)) ≡ violations_so_far x T (length p) + bit (costs x.family x.left x.right (is_tier_open tiers u (kind_of tiers constraints r p)) (phase x.left x.right p) column)
+      adds : (x : Constraint) → IsOverTiers problem.tiers.width x
+          → violations_so_far x T (suc (length p)) ≡ violations_so_far x T (length p) + bit (costs x.family x.left x.right (is_tier_open problem (kind_of problem r p)) (phase x.left x.right p) column)
       adds x o =
-          let countable : IsCountable x.left x.right T = record { width = tiers.width; well_formed = c.well_formed; left_below = o.left_below; right_below = o.right_below; some_left = o.some_left } in
-          let agree : AgreeOn (x.left ++ x.right) (opened_after T (length p)) (is_tier_open tiers u (kind_of tiers constraints r p)) =
-          all_weaker (λ e. e.tier < tiers.width) _ (x.left ++ x.right)
-          (λ e b. ap (λ (v : List (List Sym)). is_open (word v e.tier)) before ∙ sym (tier_open_is tiers u split form constraints r p begun e.tier b))
+          let countable : IsCountable x.left x.right T = record { width = problem.tiers.width; well_formed = c.well_formed; left_below = o.left_below; right_below = o.right_below; some_left = o.some_left } in
+          let agree : AgreeOn (x.left ++ x.right) (opened_after T (length p)) (is_tier_open problem (kind_of problem r p)) =
+          all_weaker (λ e. e.tier < problem.tiers.width) _ (x.left ++ x.right)
+          (λ e b. ap (λ (v : List (List Sym)). is_open (word v e.tier)) before ∙ sym (tier_open_is problem split form r p begun e.tier b))
           (all_append _ x.left x.right o.left_below o.right_below) in
           column_costs x.family x.left x.right T (length p) countable within
           ∙ ap (λ (v : List (List Sym)). violations_so_far x T (length p) + bit (costs x.family x.left x.right (opened_after T (length p)) (phase x.left x.right v) (get_or T (length p) []))) before
           ∙ ap (λ (v : List Sym). violations_so_far x T (length p) + bit (costs x.family x.left x.right (opened_after T (length p)) (phase x.left x.right p) v)) at
-          ∙ ap (λ b. violations_so_far x T (length p) + bit b) (costs_agree x.family x.left x.right (opened_after T (length p)) (is_tier_open tiers u (kind_of tiers constraints r p)) (phase x.left x.right p) column agree)
+          ∙ ap (λ b. violations_so_far x T (length p) + bit b) (costs_agree x.family x.left x.right (opened_after T (length p)) (is_tier_open problem (kind_of problem r p)) (phase x.left x.right p) column agree)
 
   -- What a candidate violates is what a prefix has violated so far, and what the moves cost from its kind.
-  pub costs_on : (q p T : List (List Sym)) → T ≡ p ++ q → IsCandidate tiers u T
-      → map (λ c. violations_of c T) (take r constraints)
-      ≡ add_each (map (λ c. violations_so_far c T (length p)) (take r constraints)) (walk_costs tiers constraints u r (kind_of tiers constraints r p) q)
+  pub costs_on : (q p T : List (List Sym)) → T ≡ p ++ q → IsCandidate problem T
+      → map (λ c. violations_of c T) (take r problem.constraints)
+      ≡ add_each (map (λ c. violations_so_far c T (length p)) (take r problem.constraints)) (walk_costs problem r (kind_of problem r p) q)
   costs_on [] p T e c =
-      add_maps (λ x. violations_of x T) (λ x. violations_so_far x T (length p)) (λ x. 0) (take r constraints)
-      (all_weaker (IsOverTiers tiers.width) _ (take r constraints)
+      add_maps (λ x. violations_of x T) (λ x. violations_so_far x T (length p)) (λ x. 0) (take r problem.constraints)
+      (all_weaker (IsOverTiers problem.tiers.width) _ (take r problem.constraints)
       (λ x o.
       let size : length T ≡ length p = ap length (e ∙ append-nil p) in
       let all : so_far x.family x.left x.right T (length p) ≡ viol x.family x.left x.right T =
       whole x.family x.left x.right T (length p)
-      (record { width = tiers.width; well_formed = c.well_formed; left_below = o.left_below; right_below = o.right_below; some_left = o.some_left })
+      (record { width = problem.tiers.width; well_formed = c.well_formed; left_below = o.left_below; right_below = o.right_below; some_left = o.some_left })
       (omega (arith, size)) (omega (arith, size)) in
       omega (arith, all))
       over)
   costs_on (column ∷ q) p T e c =
       let on : T ≡ (p ++ column ∷ []) ++ q = e ∙ sym (append_assoc p (column ∷ []) q) in
-      let next : moved tiers constraints r (kind_of tiers constraints r p) column ≡ kind_of tiers constraints r (p ++ column ∷ []) =
-      moved_is tiers constraints r u split form stretches_over p column (q, subst (IsCandidate tiers u) on c) in
+      let next : moved problem r (kind_of problem r p) column ≡ kind_of problem r (p ++ column ∷ []) =
+      moved_is problem r split form stretches_over p column (q, subst (IsCandidate problem) on c) in
       let size : length (p ++ column ∷ []) ≡ suc (length p) = omega (arith, length_push p column) in
       costs_on q (p ++ column ∷ []) T on c
-      ∙ ap (λ n. add_each (map (λ c. violations_so_far c T n) (take r constraints)) (walk_costs tiers constraints u r (kind_of tiers constraints r (p ++ column ∷ [])) q)) size
-      ∙ ap (λ ns. add_each ns (walk_costs tiers constraints u r (kind_of tiers constraints r (p ++ column ∷ [])) q)) (move_adds T p column q e c)
-      ∙ add_assoc_each (map (λ c. violations_so_far c T (length p)) (take r constraints)) (move_costs tiers constraints u r (kind_of tiers constraints r p) column) (walk_costs tiers constraints u r (kind_of tiers constraints r (p ++ column ∷ [])) q)
-      ∙ ap (λ k. add_each (map (λ c. violations_so_far c T (length p)) (take r constraints)) (add_each (move_costs tiers constraints u r (kind_of tiers constraints r p) column) (walk_costs tiers constraints u r k q))) (sym next)
+      ∙ ap (λ n. add_each (map (λ c. violations_so_far c T n) (take r problem.constraints)) (walk_costs problem r (kind_of problem r (p ++ column ∷ [])) q)) size
+      ∙ ap (λ ns. add_each ns (walk_costs problem r (kind_of problem r (p ++ column ∷ [])) q)) (move_adds T p column q e c)
+      ∙ add_assoc_each (map (λ c. violations_so_far c T (length p)) (take r problem.constraints)) (move_costs problem r (kind_of problem r p) column) (walk_costs problem r (kind_of problem r (p ++ column ∷ [])) q)
+      ∙ ap (λ k. add_each (map (λ c. violations_so_far c T (length p)) (take r problem.constraints)) (add_each (move_costs problem r (kind_of problem r p) column) (walk_costs problem r k q))) (sym next)
 
   -- The moves of a candidate cost in all what it violates of the first r constraints.
-  pub costs_sum : (T : List (List Sym)) → IsCandidate tiers u T → take r (vec constraints T) ≡ walk_costs tiers constraints u r (kind_of tiers constraints r []) T
+  pub costs_sum : (T : List (List Sym)) → IsCandidate problem T → take r (counts_on problem T) ≡ walk_costs problem r (kind_of problem r []) T
   costs_sum T c =
-      take-map (λ c. violations_of c T) r constraints
+      take-map (λ c. violations_of c T) r problem.constraints
       ∙ costs_on T [] T refl c
-      ∙ ap (λ ns. add_each ns (walk_costs tiers constraints u r (kind_of tiers constraints r []) T))
-      (map_agree (λ x. violations_so_far x T 0) (λ x. 0) (take r constraints) (all_weaker (IsOverTiers tiers.width) _ (take r constraints) (λ x o. so_far_none x.family x.left x.right T) over))
-      ∙ add_none (take r constraints) (walk_costs tiers constraints u r (kind_of tiers constraints r []) T) (length_walk T (kind_of tiers constraints r []))
+      ∙ ap (λ ns. add_each ns (walk_costs problem r (kind_of problem r []) T))
+      (map_agree (λ x. violations_so_far x T 0) (λ x. 0) (take r problem.constraints) (all_weaker (IsOverTiers problem.tiers.width) _ (take r problem.constraints) (λ x o. so_far_none x.family x.left x.right T) over))
+      ∙ add_none (take r problem.constraints) (walk_costs problem r (kind_of problem r []) T) (length_walk T (kind_of problem r []))
 
   -- Prefixes of one kind may exchange what follows them: the result is a candidate.
-  pub exchange : (p q v w : List (List Sym)) → IsCandidate tiers u (p ++ q) → IsCandidate tiers u (v ++ w) → kind_of tiers constraints r p ≡ kind_of tiers constraints r v → IsCandidate tiers u (p ++ w)
+  pub exchange : (p q v w : List (List Sym)) → IsCandidate problem (p ++ q) → IsCandidate problem (v ++ w) → kind_of problem r p ≡ kind_of problem r v → IsCandidate problem (p ++ w)
   exchange p q v w c d e =
-      let moves : HasMoves tiers constraints r u (kind_of tiers constraints r v) w =
-      candidate_walk tiers constraints r u split form stretches_over w v [] (subst (λ z. IsCandidate tiers u (v ++ z)) (sym (append-nil w)) d) in
-      let on : IsBegun tiers u (p ++ w) × (reached tiers constraints r (kind_of tiers constraints r p) w ≡ kind_of tiers constraints r (p ++ w)) =
-      walk_on tiers constraints r u split form stretches_over w p (begun_of tiers u p q c) (subst (λ k. HasMoves tiers constraints r u k w) (sym e) moves) in
-      let other : IsBegun tiers u (v ++ w) × (reached tiers constraints r (kind_of tiers constraints r v) w ≡ kind_of tiers constraints r (v ++ w)) =
-      walk_on tiers constraints r u split form stretches_over w v (begun_of tiers u v w d) moves in
-      final_candidate tiers constraints r u split form stretches_over (p ++ w) on.0
-      (ap (is_final u) (sym on.1 ∙ ap (λ k. reached tiers constraints r k w) e ∙ other.1) ∙ candidate_final tiers constraints r u split form stretches_over (v ++ w) d)
+      let moves : HasMoves problem r (kind_of problem r v) w =
+      candidate_walk problem r split form stretches_over w v [] (subst (λ z. IsCandidate problem (v ++ z)) (sym (append-nil w)) d) in
+      let on : IsBegun problem (p ++ w) × (reached problem r (kind_of problem r p) w ≡ kind_of problem r (p ++ w)) =
+      walk_on problem r split form stretches_over w p (begun_of problem p q c) (subst (λ k. HasMoves problem r k w) (sym e) moves) in
+      let other : IsBegun problem (v ++ w) × (reached problem r (kind_of problem r v) w ≡ kind_of problem r (v ++ w)) =
+      walk_on problem r split form stretches_over w v (begun_of problem v w d) moves in
+      final_candidate problem r split form stretches_over (p ++ w) on.0
+      (ap (is_final problem) (sym on.1 ∙ ap (λ k. reached problem r k w) e ∙ other.1) ∙ candidate_final problem r split form stretches_over (v ++ w) d)

@@ -8,6 +8,7 @@ use Rattle.tier_core.specs.Tiers.{Tiers}
 use Rattle.tier_core.specs.Sides.{is_stretch}
 use Rattle.violation.specs.Moves.{FitsKind, next_phase, next_phases, moved, cut}
 use Rattle.violation.specs.Prefixes.{kind_of, stretches, phase}
+use Rattle.violation.specs.Problems.{Problem}
 
 -- kinds that differ in their phases alone
 with_phases : (k : PrefixKind) (ps qs : List Phase) → ps ≡ qs → (let l : PrefixKind = record { place = k.place; opened = k.opened; phases = ps } in l) ≡ record { place = k.place; opened = k.opened; phases = qs }
@@ -32,22 +33,22 @@ take_next (suc n) [] phases column = refl
 take_next (suc n) (c ∷ cs) [] column = refl
 take_next (suc n) (c ∷ cs) (phase ∷ phases) column = ap (λ ps. next_phase c.left c.right phase column ∷ ps) (take_next n cs phases column)
 
-module _ (constraints : List Constraint) (r s : ℕ) (fewer : r ≤ s) where
-  pub cut-moved : (tiers : Tiers) (k : PrefixKind) (column : List Sym) → cut constraints r (moved tiers constraints s k column) ≡ moved tiers constraints r (cut constraints r k) column
-  cut-moved tiers k column =
-      let n : ℕ = length (stretches constraints r) in
-      with_phases (moved tiers constraints r k column) (take n (next_phases (stretches constraints s) k.phases column)) (next_phases (stretches constraints r) (take n k.phases) column)
-      (take_next n (stretches constraints s) k.phases column ∙ ap (λ cs. next_phases cs (take n k.phases) column) (take_stretches r s constraints fewer))
+module _ (problem : Problem) (r s : ℕ) (fewer : r ≤ s) where
+  pub cut-moved : (k : PrefixKind) (column : List Sym) → cut problem r (moved problem s k column) ≡ moved problem r (cut problem r k) column
+  cut-moved k column =
+      let n : ℕ = length (stretches problem r) in
+      with_phases (moved problem r k column) (take n (next_phases (stretches problem s) k.phases column)) (next_phases (stretches problem r) (take n k.phases) column)
+      (take_next n (stretches problem s) k.phases column ∙ ap (λ cs. next_phases cs (take n k.phases) column) (take_stretches r s problem.constraints fewer))
 
-  pub cut-kind_of : (tiers : Tiers) (p : List (List Sym)) → cut constraints r (kind_of tiers constraints s p) ≡ kind_of tiers constraints r p
-  cut-kind_of tiers p =
-      let n : ℕ = length (stretches constraints r) in
-      with_phases (kind_of tiers constraints r p) (take n (map (λ c. phase c.left c.right p) (stretches constraints s))) (map (λ c. phase c.left c.right p) (stretches constraints r))
-      (take-map (λ c. phase c.left c.right p) n (stretches constraints s) ∙ ap (map (λ c. phase c.left c.right p)) (take_stretches r s constraints fewer))
+  pub cut-kind_of : (p : List (List Sym)) → cut problem r (kind_of problem s p) ≡ kind_of problem r p
+  cut-kind_of p =
+      let n : ℕ = length (stretches problem r) in
+      with_phases (kind_of problem r p) (take n (map (λ c. phase c.left c.right p) (stretches problem s))) (map (λ c. phase c.left c.right p) (stretches problem r))
+      (take-map (λ c. phase c.left c.right p) n (stretches problem s) ∙ ap (map (λ c. phase c.left c.right p)) (take_stretches r s problem.constraints fewer))
 
 -- a column fits a kind where it fits the cut one
-pub fits-cut : (tiers : Tiers) (constraints : List Constraint) (u : List (List Sym)) (r : ℕ) (k : PrefixKind) (column : List Sym) → FitsKind tiers u (cut constraints r k) column ↔ FitsKind tiers u k column
-fits-cut tiers constraints u r k column = (
+pub fits-cut : (problem : Problem) (r : ℕ) (k : PrefixKind) (column : List Sym) → FitsKind problem (cut problem r k) column ↔ FitsKind problem k column
+fits-cut problem r k column = (
   λ f. record { width = f.width; symbols = f.symbols; edge = f.edge; input = f.input },
   λ f. record { width = f.width; symbols = f.symbols; edge = f.edge; input = f.input },
 )

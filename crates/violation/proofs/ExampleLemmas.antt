@@ -15,6 +15,7 @@ use Rattle.std.specs.Ordering.{ordering_then}
 use Rattle.std.specs.List.Sorted.{IsStrictlySortedBy}
 use Rattle.tier_core.specs.Events.{events}
 use Rattle.tier_core.specs.Kinds.{PrefixKind}
+use Rattle.tier_core.specs.declared.constraint.Constraint.{Constraint}
 use Rattle.tier_core.specs.declared.event.Event.{Event}
 use Rattle.tier_core.specs.declared.constraint.Family.{Family}
 use Rattle.tier_core.specs.declared.constraint.Family.TheVariants.{Implication}
@@ -25,6 +26,7 @@ use Rattle.violation.specs.Stages.{Passes, IsKindOfStage, AreKindsOfStage, IsRem
 use Rattle.violation.specs.Examples.{two_tiers, timeline, types, max_a, kind_text}
 use Rattle.violation.proofs.PrefixLemmas.{input_part, input_append}
 use Rattle.violation.proofs.WholeCounts.{so_far_none}
+use Rattle.violation.specs.Examples.{over_two}
 
 pub right_words : (ws : List (List Sym)) → list_all (runs false) ws ≡ true → AllByRecursion IsWellFormedWord ws
 right_words [] h = tt
@@ -47,9 +49,9 @@ right_timeline width T w h = record { one_width = w; each_tier = λ t l. well_fo
 pub wrong_tier : (width : ℕ) (T : List (List Sym)) (t : ℕ) → t < width → runs false (word T t) ≡ false → IsWellFormed width T → ⊥
 wrong_tier width T t l h f = false≢true (sym h ∙ runs_from_well_formed (word T t) (f.each_tier t l))
 
-pub right_candidate : (u T : List (List Sym)) → AllByRecursion (λ column. length column ≡ 2) T → list_all (λ t. runs false (word T t)) (range_with_len 0 2) ≡ true → IsReduced T
-    → squeeze (project (0 ∷ []) T) ≡ u → IsCandidate two_tiers u T
-right_candidate u T w h r i = record { well_formed = right_timeline 2 T w h; reduced = r; input = i }
+pub right_candidate : (constraints : List Constraint) (u T : List (List Sym)) → AllByRecursion (λ column. length column ≡ 2) T → list_all (λ t. runs false (word T t)) (range_with_len 0 2) ≡ true → IsReduced T
+    → squeeze (project (0 ∷ []) T) ≡ u → IsCandidate (over_two constraints u) T
+right_candidate constraints u T w h r i = record { well_formed = right_timeline 2 T w h; reduced = r; input = i }
 
 -- the form of one constituent, the candidate that has it whole, and the one that has nothing
 abbrev one : List (List Sym)
@@ -61,8 +63,8 @@ whole = timeline (codes "[[ ]]")
 abbrev nothing : List (List Sym)
 nothing = timeline (codes "[- ]-")
 
-whole_candidate : IsCandidate two_tiers one whole
-whole_candidate = right_candidate one whole (refl, (refl, tt)) refl (refl, (refl, tt)) refl
+whole_candidate : (constraints : List Constraint) → IsCandidate (over_two constraints one) whole
+whole_candidate constraints = right_candidate constraints one whole (refl, (refl, tt)) refl (refl, (refl, tt)) refl
 
 whole_counts : (name : String Global) → vec (max_a name ∷ []) whole ≡ 0 ∷ []
 unfolding viol
@@ -83,25 +85,25 @@ zero_alone (suc n) h =
     let b : eqb (suc n) 0 ≡ false = ne_eqb (suc n) 0 (λ e. omega (arith, e)) in
     absurd (false≢true (sym (ap (λ c. is_le (ordering_then (cond c Less (cond (eqb (suc n) 0) Equal Greater)) Equal)) a ∙ ap (λ c. is_le (ordering_then (cond c Equal Greater) Equal)) b) ∙ h))
 
-pub whole_optimal : (name : String Global) → IsOptimalFor two_tiers (max_a name ∷ []) one 1 whole
+pub whole_optimal : (name : String Global) → IsOptimalFor (over_two (max_a name ∷ []) one) 1 whole
 whole_optimal name = record {
-  candidate = whole_candidate;
+  candidate = whole_candidate (max_a name ∷ []);
   least = λ U c. subst (λ v. IsAtMost (take 1 v) (take 1 (vec (max_a name ∷ []) U))) (sym (whole_counts name)) (zero_least (violations_of (max_a name) U));
 }
 
-pub none_not_optimal : (name : String Global) → IsOptimalFor two_tiers (max_a name ∷ []) one 1 nothing → ⊥
+pub none_not_optimal : (name : String Global) → IsOptimalFor (over_two (max_a name ∷ []) one) 1 nothing → ⊥
 none_not_optimal name o =
-    let at : IsAtMost (take 1 (vec (max_a name ∷ []) nothing)) (take 1 (vec (max_a name ∷ []) whole)) = o.least whole whole_candidate in
+    let at : IsAtMost (take 1 (vec (max_a name ∷ []) nothing)) (take 1 (vec (max_a name ∷ []) whole)) = o.least whole (whole_candidate (max_a name ∷ [])) in
     false≢true (subst (λ v. IsAtMost (1 ∷ []) (take 1 v)) (whole_counts name) (subst (λ v. IsAtMost (take 1 v) (take 1 (vec (max_a name ∷ []) whole))) (nothing_counts name) at))
 
-pub least_is_none : (name : String Global) → IsLeastVector two_tiers (max_a name ∷ []) one (0 ∷ [])
+pub least_is_none : (name : String Global) → IsLeastVector (over_two (max_a name ∷ []) one) (0 ∷ [])
 least_is_none name = record {
   some = (whole, (whole_optimal name, whole_counts name));
   shared = λ T o.
-      ap (λ (n : ℕ). n ∷ []) (zero_alone (violations_of (max_a name) T) (subst (λ v. IsAtMost (take 1 (vec (max_a name ∷ []) T)) (take 1 v)) (whole_counts name) (o.least whole whole_candidate)));
+      ap (λ (n : ℕ). n ∷ []) (zero_alone (violations_of (max_a name) T) (subst (λ v. IsAtMost (take 1 (vec (max_a name ∷ []) T)) (take 1 v)) (whole_counts name) (o.least whole (whole_candidate (max_a name ∷ [])))));
 }
 
-pub least_not_one : (name : String Global) → IsLeastVector two_tiers (max_a name ∷ []) one (1 ∷ []) → ⊥
+pub least_not_one : (name : String Global) → IsLeastVector (over_two (max_a name ∷ []) one) (1 ∷ []) → ⊥
 least_not_one name l =
     let same : 0 ∷ [] ≡ 1 ∷ [] = sym (whole_counts name) ∙ l.shared whole (whole_optimal name) in
     let wrong : 0 ≡ 1 = ap (λ (v : List ℕ). get_or v 0 0) same in
@@ -127,14 +129,14 @@ so_far_within family left right T n = count_fewer _ _ (choices (map (events T) (
 abbrev start : PrefixKind
 start = kind_text 0 (codes "-") (codes ".")
 
-whole_passes : (name : String Global) → Passes two_tiers (max_a name ∷ []) one 0 1 start whole 0
+whole_passes : (name : String Global) → Passes (over_two (max_a name ∷ []) one) 0 1 start whole 0
 whole_passes name = record {
-  optimal = record { candidate = whole_candidate; least = λ U c. refl };
+  optimal = record { candidate = whole_candidate (max_a name ∷ []); least = λ U c. refl };
   within = omega arith;
   of_kind = refl;
 }
 
-pub nothing_remains : (name : String Global) → IsRemaining two_tiers (max_a name ∷ []) one 1 start 0
+pub nothing_remains : (name : String Global) → IsRemaining (over_two (max_a name ∷ []) one) 1 start 0
 nothing_remains name = record {
   some = (whole, (0, (whole_passes name, omega (arith, ap (λ (v : List ℕ). get_or v 0 0) (whole_counts name), so_far_none Implication (types (codes "Aa") (codes "A")) (types (codes "Aa") (codes "a")) whole))));
   least = λ T n p.
@@ -143,28 +145,28 @@ nothing_remains name = record {
       omega arith;
 }
 
-pub not_one_remains : (name : String Global) → IsRemaining two_tiers (max_a name ∷ []) one 1 start 1 → ⊥
+pub not_one_remains : (name : String Global) → IsRemaining (over_two (max_a name ∷ []) one) 1 start 1 → ⊥
 not_one_remains name r =
     let least : so_far Implication (types (codes "Aa") (codes "A")) (types (codes "Aa") (codes "a")) whole 0 + 1 ≤ viol Implication (types (codes "Aa") (codes "A")) (types (codes "Aa") (codes "a")) whole =
     r.least whole 0 (whole_passes name) in
     let none : viol Implication (types (codes "Aa") (codes "A")) (types (codes "Aa") (codes "a")) whole ≡ 0 = ap (λ (v : List ℕ). get_or v 0 0) (whole_counts name) in
     omega (arith, least, none)
 
-pub nothing_candidate : IsCandidate two_tiers [] []
-nothing_candidate = right_candidate [] [] tt refl tt refl
+pub nothing_candidate : IsCandidate (over_two [] []) []
+nothing_candidate = right_candidate [] [] [] tt refl tt refl
 
 -- the candidate of the empty form that has one overt constituent
 abbrev alone : List (List Sym)
 alone = timeline (codes "-[ -]")
 
-alone_candidate : IsCandidate two_tiers [] alone
-alone_candidate = right_candidate [] alone (refl, (refl, tt)) refl (refl, (refl, tt)) refl
+alone_candidate : IsCandidate (over_two [] []) alone
+alone_candidate = right_candidate [] [] alone (refl, (refl, tt)) refl (refl, (refl, tt)) refl
 
 -- the kind of place 0 with this flag
 abbrev flagged : Bool → PrefixKind
 flagged b = record { place = 0; opened = b ∷ []; phases = [] }
 
-is_passed : (b : Bool) → IsKindOfStage two_tiers [] [] 0 (flagged b)
+is_passed : (b : Bool) → IsKindOfStage (over_two [] []) 0 (flagged b)
 is_passed false = record { candidate = []; columns = 0; passes = record { optimal = record { candidate = nothing_candidate; least = λ U c. refl }; within = omega arith; of_kind = refl } }
 is_passed true = record { candidate = alone; columns = 1; passes = record { optimal = record { candidate = alone_candidate; least = λ U c. refl }; within = omega arith; of_kind = refl } }
 
@@ -175,7 +177,7 @@ place_none T n h =
     ap (input_part two_tiers) (sym (take-append-drop n T)) ∙ input_append two_tiers (take n T) (drop n T) in
     omega (arith, ap length h, ap length parts, length-append (input_part two_tiers (take n T)) (input_part two_tiers (drop n T)))
 
-kind_is : (k : PrefixKind) → IsKindOfStage two_tiers [] [] 0 k → (b : Bool) × (flagged b ≡ k)
+kind_is : (k : PrefixKind) → IsKindOfStage (over_two [] []) 0 k → (b : Bool) × (flagged b ≡ k)
 kind_is k p =
     let T = p.candidate in
     let n = p.columns in
@@ -184,10 +186,10 @@ kind_is k p =
       ap (λ (m : ℕ). let k : PrefixKind = record { place = m; opened = is_open (word (take n T) 1) ∷ []; phases = [] } in k) (sym none) ∙ p.passes.of_kind,
     )
 
-pub not_place_one : IsKindOfStage two_tiers [] [] 0 (kind_text 1 (codes "-") []) → ⊥
+pub not_place_one : IsKindOfStage (over_two [] []) 0 (kind_text 1 (codes "-") []) → ⊥
 not_place_one p = let e : 0 ≡ 1 = ap (λ (k : PrefixKind). k.place) (kind_is _ p).1 in omega (arith, e)
 
-pub empty_kinds : AreKindsOfStage two_tiers [] [] 0 (flagged false ∷ flagged true ∷ [])
+pub empty_kinds : AreKindsOfStage (over_two [] []) 0 (flagged false ∷ flagged true ∷ [])
 unfolding IsStrictlySortedBy
 empty_kinds = record {
   ascending = ((refl, tt), (tt, tt));
@@ -198,27 +200,27 @@ empty_kinds = record {
     listed k false e = (0, omega arith, e)
     listed k true e = (1, omega arith, e)
 
-    at_index : (k : PrefixKind) (i : ℕ) → i < 2 → get_or (flagged false ∷ flagged true ∷ []) i k ≡ k → IsKindOfStage two_tiers [] [] 0 k
-    at_index k zero l e = subst (IsKindOfStage two_tiers [] [] 0) e (is_passed false)
-    at_index k (suc zero) l e = subst (IsKindOfStage two_tiers [] [] 0) e (is_passed true)
+    at_index : (k : PrefixKind) (i : ℕ) → i < 2 → get_or (flagged false ∷ flagged true ∷ []) i k ≡ k → IsKindOfStage (over_two [] []) 0 k
+    at_index k zero l e = subst (IsKindOfStage (over_two [] []) 0) e (is_passed false)
+    at_index k (suc zero) l e = subst (IsKindOfStage (over_two [] []) 0) e (is_passed true)
     at_index k (suc (suc i)) l e = absurd (omega arith)
 
-    member : (k : PrefixKind) → Contains (flagged false ∷ flagged true ∷ []) k → IsKindOfStage two_tiers [] [] 0 k
+    member : (k : PrefixKind) → Contains (flagged false ∷ flagged true ∷ []) k → IsKindOfStage (over_two [] []) 0 k
     member k c = at_index k c.0 c.1 c.2
 
-pub not_closed_alone : AreKindsOfStage two_tiers [] [] 0 (flagged false ∷ []) → ⊥
+pub not_closed_alone : AreKindsOfStage (over_two [] []) 0 (flagged false ∷ []) → ⊥
 not_closed_alone a = at (a.members (flagged true)).1
   where
     at_index : (i : ℕ) → i < 1 → get_or (flagged false ∷ []) i (flagged true) ≡ flagged true → ⊥
     at_index zero l e = false≢true (ap (λ (k : PrefixKind). get_or k.opened 0 false) e)
     at_index (suc i) l e = omega arith
 
-    at : (IsKindOfStage two_tiers [] [] 0 (flagged true) → Contains (flagged false ∷ []) (flagged true)) → ⊥
+    at : (IsKindOfStage (over_two [] []) 0 (flagged true) → Contains (flagged false ∷ []) (flagged true)) → ⊥
     at f = let c : Contains (flagged false ∷ []) (flagged true) = f (is_passed true) in at_index c.0 c.1 c.2
 
 greater_is : {A : Type 0} → Greater ≡ Less → A
 greater_is e = absurd (false≢true (ap (λ o. is_gt o) (sym e)))
 
-pub not_open_first : AreKindsOfStage two_tiers [] [] 0 (flagged true ∷ flagged false ∷ []) → ⊥
+pub not_open_first : AreKindsOfStage (over_two [] []) 0 (flagged true ∷ flagged false ∷ []) → ⊥
 unfolding IsStrictlySortedBy
 not_open_first a = greater_is a.ascending.0.0

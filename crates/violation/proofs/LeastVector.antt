@@ -9,9 +9,10 @@ use Rattle.std.proofs.lemmas.List.{ext_get_or, length-map}
 use Rattle.tier_core.specs.declared.sym.Sym.{Sym}
 use Rattle.tier_core.specs.declared.constraint.Constraint.{Constraint}
 use Rattle.tier_core.specs.Tiers.{Tiers}
-use Rattle.violation.specs.Candidates.{vec, vec_cmp, IsOptimal, IsLeastVector}
+use Rattle.violation.specs.Candidates.{vec, vec_cmp, IsOptimal, IsLeastVector, counts_on, count_at}
 use Rattle.violation.specs.Counts.{violations_of}
 use Rattle.violation.proofs.VectorLemmas.{both_equal}
+use Rattle.violation.specs.Problems.{Problem, last_stage}
 
 -- vectors that compare as equal are one
 same_vector : (a b : List ℕ) → vec_cmp a b ≡ Equal → a ≡ b
@@ -25,23 +26,23 @@ same_vector (x ∷ a) (y ∷ b) e = go (nat_cmp x y) (ranked x y (nat_cmp x y) r
     go Greater m rest e = absurd (false≢true (ap is_eq e))
     go Equal m rest e = ap (λ n. n ∷ a) m ∙ ap (λ ns. y ∷ ns) (rest e)
 
-module _ (tiers : Tiers) (constraints : List Constraint) (u : List (List Sym)) where
-  whole : (T : List (List Sym)) → take (length constraints) (vec constraints T) ≡ vec constraints T
-  whole T = take_all (length constraints) (vec constraints T) (omega (arith, length-map constraints (λ c. violations_of c T)))
+module _ (problem : Problem) where
+  whole : (T : List (List Sym)) → take (last_stage problem) (counts_on problem T) ≡ counts_on problem T
+  whole T = take_all (last_stage problem) (counts_on problem T) (omega (arith, length-map problem.constraints (λ c. violations_of c T)))
 
   -- the optimal candidates share their vector
-  one_vector : (T U : List (List Sym)) → IsOptimal tiers constraints u T → IsOptimal tiers constraints u U → vec constraints T ≡ vec constraints U
+  one_vector : (T U : List (List Sym)) → IsOptimal problem T → IsOptimal problem U → counts_on problem T ≡ counts_on problem U
   one_vector T U t v =
-      let n : ℕ = length constraints in
-      sym (whole T) ∙ same_vector (take n (vec constraints T)) (take n (vec constraints U)) (both_equal (take n (vec constraints T)) (take n (vec constraints U)) (t.least U v.candidate) (v.least T t.candidate)) ∙ whole U
+      let n : ℕ = last_stage problem in
+      sym (whole T) ∙ same_vector (take n (counts_on problem T)) (take n (counts_on problem U)) (both_equal (take n (counts_on problem T)) (take n (counts_on problem U)) (t.least U v.candidate) (v.least T t.candidate)) ∙ whole U
 
-  pub vector_of_numbers : (T : List (List Sym)) (v : List ℕ) → IsOptimal tiers constraints u T → length v ≡ length constraints
-      → ((r : ℕ) → 1 ≤ r → r ≤ length constraints → get_or (vec constraints T) (r - 1) 0 ≡ get_or v (r - 1) 0) → IsLeastVector tiers constraints u v
+  pub vector_of_numbers : (T : List (List Sym)) (v : List ℕ) → IsOptimal problem T → length v ≡ last_stage problem
+      → ((r : ℕ) → 1 ≤ r → r ≤ last_stage problem → count_at problem r T ≡ get_or v (r - 1) 0) → IsLeastVector problem v
   vector_of_numbers T v opt size numbers =
-      let long : length (vec constraints T) ≡ length constraints = length-map constraints (λ c. violations_of c T) in
-      let at : (i : ℕ) → i < length (vec constraints T) → get_or (vec constraints T) i 0 ≡ get_or v i 0 =
-      λ i l. (let back : suc i - 1 ≡ i = omega arith in ap (λ (j : ℕ). get_or (vec constraints T) j 0) (sym back) ∙ numbers (suc i) (omega arith) (omega arith) ∙ ap (λ (j : ℕ). get_or v j 0) back) in
-      let same : vec constraints T ≡ v = ext_get_or 0 (vec constraints T) v (omega arith) at in
+      let long : length (counts_on problem T) ≡ last_stage problem = length-map problem.constraints (λ c. violations_of c T) in
+      let at : (i : ℕ) → i < length (counts_on problem T) → get_or (counts_on problem T) i 0 ≡ get_or v i 0 =
+      λ i l. (let back : suc i - 1 ≡ i = omega arith in ap (λ (j : ℕ). get_or (counts_on problem T) j 0) (sym back) ∙ numbers (suc i) (omega arith) (omega arith) ∙ ap (λ (j : ℕ). get_or v j 0) back) in
+      let same : counts_on problem T ≡ v = ext_get_or 0 (counts_on problem T) v (omega arith) at in
       record {
         some = (T, (opt, same));
         shared = λ U o. one_vector U T o opt ∙ same;

@@ -5,29 +5,30 @@ use Rattle.std.proofs.lemmas.List.Elements.{All-from_recursion, recursion_from_A
 use Rattle.tier_core.specs.declared.sym.Sym.{Sym}
 use Rattle.tier_core.specs.declared.constraint.Constraint.{Constraint}
 use Rattle.tier_core.specs.Tiers.{Tiers}
-use Rattle.violation.specs.Candidates.{vec, IsCandidate, IsOptimalFor}
+use Rattle.violation.specs.Candidates.{vec, IsCandidate, IsOptimalFor, counts_on}
 use Rattle.violation.specs.Conditions.{IsOverTiers}
 use Rattle.violation.specs.Prefixes.{stretches}
 use Rattle.tier_core.specs.Sides.{is_stretch}
 use Rattle.violation.specs.Stages.{IsStage}
 use Rattle.violation.proofs.VectorLemmas.{at_most_fewer}
+use Rattle.violation.specs.Problems.{Problem}
 
 -- each candidate is 0-optimal
-pub all_optimal : (tiers : Tiers) (constraints : List Constraint) (u T : List (List Sym)) → IsCandidate tiers u T → IsOptimalFor tiers constraints u 0 T
-all_optimal tiers constraints u T c = record { candidate = c; least = λ U d. refl }
+pub all_optimal : (problem : Problem) (T : List (List Sym)) → IsCandidate problem T → IsOptimalFor problem 0 T
+all_optimal problem T c = record { candidate = c; least = λ U d. refl }
 
 -- what is optimal for more constraints is so for fewer
-pub optimal_for_fewer : (tiers : Tiers) (constraints : List Constraint) (u : List (List Sym)) (n m : ℕ) → n ≤ m → (T : List (List Sym)) → IsOptimalFor tiers constraints u m T → IsOptimalFor tiers constraints u n T
-optimal_for_fewer tiers constraints u n m l T opt = record {
+pub optimal_for_fewer : (problem : Problem) (n m : ℕ) → n ≤ m → (T : List (List Sym)) → IsOptimalFor problem m T → IsOptimalFor problem n T
+optimal_for_fewer problem n m l T opt = record {
   candidate = opt.candidate;
-  least = λ U c. at_most_fewer n m (vec constraints T) (vec constraints U) l (opt.least U c);
+  least = λ U c. at_most_fewer n m (counts_on problem T) (counts_on problem U) l (opt.least U c);
 }
 
-module _ (tiers : Tiers) (constraints : List Constraint) (u : List (List Sym)) (r : ℕ) (stage : IsStage tiers constraints u r) where
-  pub over_first : AllByRecursion (IsOverTiers tiers.width) (take r constraints)
-  over_first = recursion_from_All (IsOverTiers tiers.width) (take r constraints) (All-take (IsOverTiers tiers.width) r constraints (All-from_recursion (IsOverTiers tiers.width) constraints stage.over))
+module _ (problem : Problem) (r : ℕ) (stage : IsStage problem r) where
+  pub over_first : AllByRecursion (IsOverTiers problem.tiers.width) (take r problem.constraints)
+  over_first = recursion_from_All (IsOverTiers problem.tiers.width) (take r problem.constraints) (All-take (IsOverTiers problem.tiers.width) r problem.constraints (All-from_recursion (IsOverTiers problem.tiers.width) problem.constraints stage.over))
 
-  pub over_stretches : AllByRecursion (IsOverTiers tiers.width) (stretches constraints r)
+  pub over_stretches : AllByRecursion (IsOverTiers problem.tiers.width) (stretches problem r)
   over_stretches =
-      recursion_from_All (IsOverTiers tiers.width) (stretches constraints r)
-      (All-filter is_stretch (IsOverTiers tiers.width) (take r constraints) (All-take (IsOverTiers tiers.width) r constraints (All-from_recursion (IsOverTiers tiers.width) constraints stage.over)))
+      recursion_from_All (IsOverTiers problem.tiers.width) (stretches problem r)
+      (All-filter is_stretch (IsOverTiers problem.tiers.width) (take r problem.constraints) (All-take (IsOverTiers problem.tiers.width) r problem.constraints (All-from_recursion (IsOverTiers problem.tiers.width) problem.constraints stage.over)))

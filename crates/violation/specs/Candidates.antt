@@ -1,7 +1,7 @@
 -- Candidates of a form, their violation vectors, and which candidates are optimal.
 -- That the candidates of a form are a regular set of timelines is after Ellison, Phonological
 -- Derivation in Optimality Theory (COLING 1994); the input part is this project's.
-use Rattle.std.specs.Prelude.{ℕ, ◌≡◌, IsTrue, List, length, map, take}
+use Rattle.std.specs.Prelude.{ℕ, ◌-◌, ◌≡◌, IsTrue, List, length, map, take, slice_index_or}
 use Rattle.std.specs.Ordering.{nat_cmp, is_le}
 use Rattle.std.specs.Cmp.Lexicographic.{slice_cmp}
 use Rattle.std.specs.declared.cmp.Ordering.{Ordering}
@@ -10,6 +10,7 @@ use Rattle.tier_core.specs.declared.constraint.Constraint.{Constraint}
 use Rattle.tier_core.specs.Tiers.{Tiers}
 use Rattle.tier_core.specs.Timelines.{IsWellFormed, IsReduced, project, squeeze}
 use Rattle.violation.specs.Counts.{violations_of, violations_so_far}
+use Rattle.violation.specs.Problems.{Problem, last_stage}
 
 -- the violation vector of a timeline: its violations of each constraint in ranked order, the highest first
 abbrev pub vec : List Constraint → List (List Sym) → List ℕ
@@ -18,6 +19,21 @@ vec constraints T = map (λ c. violations_of c T) constraints
 -- the violations of each constraint so far, after n columns
 abbrev pub vec_so_far : List Constraint → List (List Sym) → ℕ → List ℕ
 vec_so_far constraints T n = map (λ c. violations_so_far c T n) constraints
+
+-- what each constraint of a problem counts on a timeline, the highest first, and so far after n columns
+abbrev pub counts_on : Problem → List (List Sym) → List ℕ
+counts_on problem T = vec problem.constraints T
+
+abbrev pub counts_so_far : Problem → List (List Sym) → ℕ → List ℕ
+counts_so_far problem T n = vec_so_far problem.constraints T n
+
+-- what stage r counts on a timeline: the violations of constraint r, which is counted from 1
+abbrev pub count_at : Problem → ℕ → List (List Sym) → ℕ
+count_at problem r T = slice_index_or (counts_on problem T) (r - 1) 0
+
+-- and so far, after n columns
+abbrev pub count_so_far_at : Problem → ℕ → List (List Sym) → ℕ → ℕ
+count_so_far_at problem r T n = slice_index_or (counts_so_far problem T n) (r - 1) 0
 
 -- Vectors are compared lexicographically, so that constraints are strictly ranked.
 abbrev pub vec_cmp : List ℕ → List ℕ → Ordering
@@ -33,21 +49,21 @@ pub record IsForm (tiers : Tiers) (u : List (List Sym)) : Type 0 where
 
 -- T is a candidate of the form u: it is well formed and reduced over the tiers of the grammar, and
 -- its projection to the input tiers, squeezed, is u.
-pub record IsCandidate (tiers : Tiers) (u T : List (List Sym)) : Type 0 where
-  pub well_formed : IsWellFormed tiers.width T
+pub record IsCandidate (problem : Problem) (T : List (List Sym)) : Type 0 where
+  pub well_formed : IsWellFormed problem.tiers.width T
   pub reduced : IsReduced T
-  pub input : squeeze (project tiers.input T) ≡ u
+  pub input : squeeze (project problem.tiers.input T) ≡ problem.form
 
 -- T is r-optimal: it is a candidate, and its first r counts are at most those of every candidate
-pub record IsOptimalFor (tiers : Tiers) (constraints : List Constraint) (u : List (List Sym)) (r : ℕ) (T : List (List Sym)) : Type 0 where
-  pub candidate : IsCandidate tiers u T
-  pub least : (U : List (List Sym)) → IsCandidate tiers u U → IsAtMost (take r (vec constraints T)) (take r (vec constraints U))
+pub record IsOptimalFor (problem : Problem) (r : ℕ) (T : List (List Sym)) : Type 0 where
+  pub candidate : IsCandidate problem T
+  pub least : (U : List (List Sym)) → IsCandidate problem U → IsAtMost (take r (counts_on problem T)) (take r (counts_on problem U))
 
 -- T is optimal: it is r-optimal for r the number of constraints
-abbrev pub IsOptimal : Tiers → List Constraint → List (List Sym) → List (List Sym) → Type 0
-IsOptimal tiers constraints u T = IsOptimalFor tiers constraints u (length constraints) T
+abbrev pub IsOptimal : Problem → List (List Sym) → Type 0
+IsOptimal problem T = IsOptimalFor problem (last_stage problem) T
 
 -- v is the least vector of u, which the optimal candidates share
-pub record IsLeastVector (tiers : Tiers) (constraints : List Constraint) (u : List (List Sym)) (v : List ℕ) : Type 0 where
-  pub some : (T : List (List Sym)) × (IsOptimal tiers constraints u T × (vec constraints T ≡ v))
-  pub shared : (T : List (List Sym)) → IsOptimal tiers constraints u T → vec constraints T ≡ v
+pub record IsLeastVector (problem : Problem) (v : List ℕ) : Type 0 where
+  pub some : (T : List (List Sym)) × (IsOptimal problem T × (counts_on problem T ≡ v))
+  pub shared : (T : List (List Sym)) → IsOptimal problem T → counts_on problem T ≡ v

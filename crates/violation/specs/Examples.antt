@@ -15,6 +15,7 @@ use Rattle.violation.specs.Counts.{viol}
 use Rattle.violation.specs.Candidates.{IsCandidate}
 use Rattle.violation.specs.Prefixes.{phase, kind_of}
 use Rattle.violation.specs.Moves.{moved, move_costs}
+use Rattle.violation.specs.Problems.{Problem, asked}
 
 -- a text cut at its spaces
 abbrev pub pieces : List ℕ → List (List ℕ)
@@ -57,6 +58,10 @@ clashing names left right text = viol Clash (types names left) (types names righ
 abbrev pub two_tiers : Tiers
 two_tiers = record { width = 2; input = 0 ∷ []; overt = 1 ∷ []; free = 1 ∷ [] }
 
+-- what is asked over these tiers
+abbrev pub over_two : List Constraint → List (List Sym) → Problem
+over_two constraints form = record { tiers = two_tiers; constraints = constraints; form = form }
+
 -- an implication over these two tiers, of any name
 abbrev pub implication : List ℕ → List ℕ → String Global → Constraint
 implication left right name = record { name = name; family = Implication; left = types (codes "Aa") left; right = types (codes "Aa") right }
@@ -78,15 +83,15 @@ kind_text place opened phases = record {
 
 -- the kind under `A -> a` and `a -> A`, whatever their names, of a prefix that is given by its text
 abbrev pub kind_after : String Global → String Global → List ℕ → PrefixKind
-kind_after max dep text = kind_of two_tiers (max_a max ∷ dep_a dep ∷ []) 2 (timeline text)
+kind_after max dep text = kind_of (over_two (max_a max ∷ dep_a dep ∷ []) []) 2 (timeline text)
 
 -- what the move from a kind by a column costs under these two, for the form `[ ]`
 abbrev pub costs_by : String Global → String Global → PrefixKind → List ℕ → List ℕ
-costs_by max dep k column = move_costs two_tiers (max_a max ∷ dep_a dep ∷ []) (timeline (codes "[ ]")) 2 k (read_syms column)
+costs_by max dep k column = move_costs (over_two (max_a max ∷ dep_a dep ∷ []) (timeline (codes "[ ]"))) 2 k (read_syms column)
 
 -- the kind that it leads to
 abbrev pub moved_by : String Global → String Global → PrefixKind → List ℕ → PrefixKind
-moved_by max dep k column = moved two_tiers (max_a max ∷ dep_a dep ∷ []) 2 k (read_syms column)
+moved_by max dep k column = moved (over_two (max_a max ∷ dep_a dep ∷ []) []) 2 k (read_syms column)
 
 -- the phase of the implication of two sides, with the tiers A and a, after a prefix
 abbrev pub phase_after : List ℕ → List ℕ → List ℕ → Phase
@@ -94,4 +99,4 @@ phase_after left right text = phase (types (codes "Aa") left) (types (codes "Aa"
 
 -- a timeline is a candidate of a form with the tiers A and a
 abbrev pub IsCandidateOf : List ℕ → List ℕ → Type 0
-IsCandidateOf form text = IsCandidate two_tiers (timeline form) (timeline text)
+IsCandidateOf form text = IsCandidate (over_two [] (timeline form)) (timeline text)

@@ -1,4 +1,5 @@
 pub mod Counts
+pub mod Problems
 pub mod Candidates
 pub mod Prefixes
 pub mod Stages

@@ -15,6 +15,7 @@ use Rattle.tier_core.specs.Sides.{has_edge_type, edge_among, is_stretch}
 use Rattle.violation.specs.Counts.{chosen}
 use Rattle.violation.specs.Columns.{is_present, opens_interior, opens_all, edge_cost}
 use Rattle.violation.specs.Prefixes.{is_open, stretches}
+use Rattle.violation.specs.Problems.{Problem, last_place}
 
 -- the input part of a column
 abbrev pub input_of : Tiers → List Sym → List Sym
@@ -32,16 +33,16 @@ form_opened tiers u place = map (λ j. is_open (word (take place u) j)) (range_w
 
 -- whether a tier is open at a kind: an input tier where it is open after the first PLACE columns of
 -- the form, a free tier where the kind says so
-abbrev pub is_tier_open : Tiers → List (List Sym) → PrefixKind → ℕ → Bool
-is_tier_open tiers u k t = flag_of tiers.input (form_opened tiers u k.place) t || flag_of tiers.free k.opened t
+abbrev pub is_tier_open : Problem → PrefixKind → ℕ → Bool
+is_tier_open problem k t = flag_of problem.tiers.input (form_opened problem.tiers problem.form k.place) t || flag_of problem.tiers.free k.opened t
 
 -- A column fits a kind: on each tier its symbol may come where the tier is open, or is not; it has
 -- an edge; and its input part has no edge, or is the form's column at PLACE.
-pub record FitsKind (tiers : Tiers) (u : List (List Sym)) (k : PrefixKind) (column : List Sym) : Type 0 where
-  pub width : length column ≡ tiers.width
-  pub symbols : (t : ℕ) → t < tiers.width → IsTrue (fits (is_tier_open tiers u k t) (symbol column t))
+pub record FitsKind (problem : Problem) (k : PrefixKind) (column : List Sym) : Type 0 where
+  pub width : length column ≡ problem.tiers.width
+  pub symbols : (t : ℕ) → t < problem.tiers.width → IsTrue (fits (is_tier_open problem k t) (symbol column t))
   pub edge : IsTrue (has_edge column)
-  pub input : (has_edge (input_of tiers column) ≡ false) ⊎ ((k.place < length u) × (input_of tiers column ≡ column_at u k.place))
+  pub input : (has_edge (input_of problem.tiers column) ≡ false) ⊎ ((k.place < last_place problem) × (input_of problem.tiers column ≡ column_at problem.form k.place))
 
 abbrev pub is_unmet_phase : Phase → Bool
 is_unmet_phase closed = false
@@ -70,11 +71,11 @@ next_phases (c ∷ cs) (phase ∷ phases) column = next_phase c.left c.right pha
 
 -- The kind that a column leads to, where it fits, under the first r constraints: PLACE grows by one
 -- where the input part has an edge, and a free tier is open where its symbol is `+`, `[` or `|`.
-abbrev pub moved : Tiers → List Constraint → ℕ → PrefixKind → List Sym → PrefixKind
-moved tiers constraints r k column = record {
-  place = k.place + (if has_edge (input_of tiers column) then 1 else 0);
-  opened = map (λ t. opens (symbol column t)) tiers.free;
-  phases = next_phases (stretches constraints r) k.phases column;
+abbrev pub moved : Problem → ℕ → PrefixKind → List Sym → PrefixKind
+moved problem r k column = record {
+  place = k.place + (if has_edge (input_of problem.tiers column) then 1 else 0);
+  opened = map (λ t. opens (symbol column t)) problem.tiers.free;
+  phases = next_phases (stretches problem r) k.phases column;
 }
 
 -- Whether a column costs 1, where `opened` tells which tiers are open before it and `phase` is that
@@ -102,21 +103,21 @@ costs_each (c ∷ cs) opened phases column =
     ∷ costs_each cs opened (if is_stretch c then drop 1 phases else phases) column
 
 -- the costs of the move from a kind under the first r constraints by a column: one for each of these
-abbrev pub move_costs : Tiers → List Constraint → List (List Sym) → ℕ → PrefixKind → List Sym → List ℕ
-move_costs tiers constraints u r k column = costs_each (take r constraints) (is_tier_open tiers u k) k.phases column
+abbrev pub move_costs : Problem → ℕ → PrefixKind → List Sym → List ℕ
+move_costs problem r k column = costs_each (take r problem.constraints) (is_tier_open problem k) k.phases column
 
 -- what a column costs from a kind under constraint r, counted from 1; 0 where r is 0
-abbrev pub cost_of : Tiers → List Constraint → List (List Sym) → ℕ → PrefixKind → List Sym → ℕ
-cost_of tiers constraints u r k column = slice_index_or (move_costs tiers constraints u r k column) (r - 1) 0
+abbrev pub cost_of : Problem → ℕ → PrefixKind → List Sym → ℕ
+cost_of problem r k column = slice_index_or (move_costs problem r k column) (r - 1) 0
 
 -- a kind cut to the first r constraints
-abbrev pub cut : List Constraint → ℕ → PrefixKind → PrefixKind
-cut constraints r k = record {
+abbrev pub cut : Problem → ℕ → PrefixKind → PrefixKind
+cut problem r k = record {
   place = k.place;
   opened = k.opened;
-  phases = take (length (stretches constraints r)) k.phases;
+  phases = take (length (stretches problem r)) k.phases;
 }
 
 -- A kind is final where PLACE is the form's number of columns and no free tier is open.
-abbrev pub is_final : List (List Sym) → PrefixKind → Bool
-is_final u k = (k.place == length u) && not (list_any (λ flag. flag) k.opened)
+abbrev pub is_final : Problem → PrefixKind → Bool
+is_final problem k = (k.place == last_place problem) && not (list_any (λ flag. flag) k.opened)

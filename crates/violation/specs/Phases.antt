@@ -6,6 +6,7 @@ use Rattle.tier_core.specs.declared.constraint.Constraint.{Constraint}
 use Rattle.tier_core.specs.Kinds.{Phase, closed, unmet, met, PrefixKind}
 use Rattle.tier_core.specs.Tiers.{Tiers}
 use Rattle.violation.specs.Moves.{is_tier_open}
+use Rattle.violation.specs.Problems.{Problem}
 
 abbrev pub is_closed : Phase → Bool
 is_closed closed = true
@@ -13,8 +14,8 @@ is_closed unmet = false
 is_closed met = false
 
 -- whether the tiers of a constraint's left types are all open at a kind
-abbrev pub is_left_open : Tiers → List (List Sym) → PrefixKind → Constraint → Bool
-is_left_open tiers u k c = list_all (λ e. is_tier_open tiers u k e.tier) c.left
+abbrev pub is_left_open : Problem → PrefixKind → Constraint → Bool
+is_left_open problem k c = list_all (λ e. is_tier_open problem k e.tier) c.left
 
 -- constraints have as many phases, and each is closed exactly where some left tier is not open
 abbrev pub AreClosedOr : (Constraint → Bool) → List Constraint → List Phase → Type 0

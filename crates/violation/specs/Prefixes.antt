@@ -12,8 +12,10 @@ use Rattle.tier_core.specs.Words.{starts, ends, next_end}
 use Rattle.tier_core.specs.Timelines.{word, column_at, project, squeeze}
 use Rattle.tier_core.specs.Events.{Interval, meet, is_there}
 use Rattle.tier_core.specs.Tiers.{Tiers}
-use Rattle.tier_core.specs.Kinds.{Phase, closed, unmet, met, PrefixKind}
+use Rattle.tier_core.specs.declared.kind.Kind.{Kind}
+use Rattle.tier_core.specs.Kinds.{Phase, closed, unmet, met, PrefixKind, prefix_kind}
 use Rattle.tier_core.specs.Sides.{edge_among, is_stretch}
+use Rattle.violation.specs.Problems.{Problem}
 
 -- in a word, a constituent has started and not ended
 abbrev pub is_open : List Sym → Bool
@@ -55,14 +57,18 @@ phase left right p =
     else closed
 
 -- the stretch implications among the first r constraints
-abbrev pub stretches : List Constraint → ℕ → List Constraint
-stretches constraints r = filter is_stretch (take r constraints)
+abbrev pub stretches : Problem → ℕ → List Constraint
+stretches problem r = filter is_stretch (take r problem.constraints)
 
 -- The kind of a prefix under the first r constraints: its place, which is the number of columns of
 -- its squeezed input part; which free tiers are open; and the phases of the stretch implications.
-abbrev pub kind_of : Tiers → List Constraint → ℕ → List (List Sym) → PrefixKind
-kind_of tiers constraints r p = record {
-  place = length (squeeze (project tiers.input p));
-  opened = map (λ t. is_open (word p t)) tiers.free;
-  phases = map (λ c. phase c.left c.right p) (stretches constraints r);
+abbrev pub kind_of : Problem → ℕ → List (List Sym) → PrefixKind
+kind_of problem r p = record {
+  place = length (squeeze (project problem.tiers.input p));
+  opened = map (λ t. is_open (word p t)) problem.tiers.free;
+  phases = map (λ c. phase c.left c.right p) (stretches problem r);
 }
+
+-- the kind that bits tell under the first r constraints
+abbrev pub kind_of_bits : Problem → ℕ → Kind → PrefixKind
+kind_of_bits problem r kind = prefix_kind (length problem.tiers.free) (length (stretches problem r)) kind

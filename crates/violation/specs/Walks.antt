@@ -6,21 +6,22 @@ use Rattle.tier_core.specs.Tiers.{Tiers}
 use Rattle.tier_core.specs.Kinds.{PrefixKind}
 use Rattle.violation.specs.Candidates.{IsCandidate}
 use Rattle.violation.specs.Moves.{FitsKind, moved, move_costs}
+use Rattle.violation.specs.Problems.{Problem}
 
 -- there is a move at each of the columns in turn, from a kind under the first r constraints
-abbrev pub HasMoves : Tiers → List Constraint → ℕ → List (List Sym) → PrefixKind → List (List Sym) → Type 0
-HasMoves tiers constraints r u k [] = Unit {0}
-HasMoves tiers constraints r u k (column ∷ columns) =
-    FitsKind tiers u k column × HasMoves tiers constraints r u (moved tiers constraints r k column) columns
+abbrev pub HasMoves : Problem → ℕ → PrefixKind → List (List Sym) → Type 0
+HasMoves problem r k [] = Unit {0}
+HasMoves problem r k (column ∷ columns) =
+    FitsKind problem k column × HasMoves problem r (moved problem r k column) columns
 
 -- the kind that the columns lead to
-abbrev pub reached : Tiers → List Constraint → ℕ → PrefixKind → List (List Sym) → PrefixKind
-reached tiers constraints r k [] = k
-reached tiers constraints r k (column ∷ columns) = reached tiers constraints r (moved tiers constraints r k column) columns
+abbrev pub reached : Problem → ℕ → PrefixKind → List (List Sym) → PrefixKind
+reached problem r k [] = k
+reached problem r k (column ∷ columns) = reached problem r (moved problem r k column) columns
 
 -- p is a prefix of a candidate of u
-abbrev pub BeginsCandidate : Tiers → List (List Sym) → List (List Sym) → Type 0
-BeginsCandidate tiers u p = (q : List (List Sym)) × IsCandidate tiers u (p ++ q)
+abbrev pub BeginsCandidate : Problem → List (List Sym) → Type 0
+BeginsCandidate problem p = (q : List (List Sym)) × IsCandidate problem (p ++ q)
 
 -- the sums of two lists of numbers, place by place
 abbrev pub add_each : List ℕ → List ℕ → List ℕ
@@ -29,7 +30,7 @@ add_each (m ∷ ms) [] = []
 add_each (m ∷ ms) (n ∷ ns) = (m + n) ∷ add_each ms ns
 
 -- what the moves along the columns cost in all, from a kind under the first r constraints: one number for each of these
-abbrev pub walk_costs : Tiers → List Constraint → List (List Sym) → ℕ → PrefixKind → List (List Sym) → List ℕ
-walk_costs tiers constraints u r k [] = map (λ c. 0) (take r constraints)
-walk_costs tiers constraints u r k (column ∷ columns) =
-    add_each (move_costs tiers constraints u r k column) (walk_costs tiers constraints u r (moved tiers constraints r k column) columns)
+abbrev pub walk_costs : Problem → ℕ → PrefixKind → List (List Sym) → List ℕ
+walk_costs problem r k [] = map (λ c. 0) (take r problem.constraints)
+walk_costs problem r k (column ∷ columns) =
+    add_each (move_costs problem r k column) (walk_costs problem r (moved problem r k column) columns)

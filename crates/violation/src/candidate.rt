@@ -1,8 +1,10 @@
-ghost use Rattle.std.specs.Prelude.{◌≡◌, ◌≤◌, ◌↔◌, length, map, All, IsTrue};
+ghost use Rattle.tier_core.specs.declared.constraint.Constraint.{Constraint};
+ghost use Rattle.std.specs.Prelude.{List, ◌≡◌, ◌≤◌, ◌↔◌, length, map, All, IsTrue};
 ghost use Rattle.tier_core.specs.Tables.{tiers_of_table};
 ghost use Rattle.tier_core.specs.Tiers.{is_input, numbers_from};
 ghost use Rattle.tier_core.specs.Timelines.{symbol, has_edge, squeeze, project};
 ghost use Rattle.violation.specs.Candidates.{IsCandidate};
+ghost use Rattle.violation.specs.Problems.{asked};
 
 use tier_core::{Column, Sym, TierKind, TierTable, Timeline, reduced, well_formed};
 
@@ -62,7 +64,7 @@ fn spells_form(kinds: &[TierKind], columns: &[Column], form: &[Column]) -> bool
 /// Whether a timeline is a candidate of a form: it is well formed and reduced over the tiers, and
 /// its projection to the input tiers, squeezed, is the form.
 pub fn is_candidate(tiers: &TierTable, form: &Timeline, timeline: &Timeline) -> bool
-    ensures { IsTrue result ↔ IsCandidate (tiers_of_table tiers.now) form.now timeline.now }
+    ensures { (constraints : List Constraint) → IsTrue result ↔ IsCandidate (asked tiers.now constraints form.now) timeline.now }
 {
     well_formed(timeline, tiers.kinds.len() as u32)
         && reduced(timeline)

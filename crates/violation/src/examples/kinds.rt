@@ -8,6 +8,7 @@ ghost use Rattle.tier_core.specs.Kinds.{closed, unmet, met, kind_order};
 ghost use Rattle.violation.specs.Counts.{so_far};
 ghost use Rattle.violation.specs.Moves.{FitsKind, cut, is_final};
 ghost use Rattle.violation.specs.Examples.{types, read_syms, timeline, two_tiers, max_a, dep_a, kind_text, kind_after, costs_by, moved_by, phase_after};
+ghost use Rattle.violation.specs.Examples.{over_two};
 
 /// Prefixes of each of the eight kinds. After `[[ +]` a has ended, so that A is met by it; after
 /// `[[ ]+` a is met by A, though A has ended.
@@ -62,19 +63,19 @@ pub fn move_costs()
 
 /// Which columns fit the kind of `[-`: the input tier is open, so that A may end there.
 pub fn fitting_columns()
-    ensures ends { FitsKind two_tiers (timeline (codes "[ ]")) (kind_text 1 (codes "-") (codes "u.")) (read_syms (codes "]-")) }
-    ensures begins_other { FitsKind two_tiers (timeline (codes "[ ]")) (kind_text 1 (codes "-") (codes "u.")) (read_syms (codes "+[")) }
-    ensures no_edge { FitsKind two_tiers (timeline (codes "[ ]")) (kind_text 1 (codes "-") (codes "u.")) (read_syms (codes "+-")) → ⊥ }
-    ensures starts_twice { FitsKind two_tiers (timeline (codes "[ ]")) (kind_text 1 (codes "-") (codes "u.")) (read_syms (codes "[-")) → ⊥ }
-    ensures not_the_form { FitsKind two_tiers (timeline (codes "[ ]")) (kind_text 1 (codes "-") (codes "u.")) (read_syms (codes "|-")) → ⊥ }
+    ensures ends { FitsKind (over_two [] (timeline (codes "[ ]"))) (kind_text 1 (codes "-") (codes "u.")) (read_syms (codes "]-")) }
+    ensures begins_other { FitsKind (over_two [] (timeline (codes "[ ]"))) (kind_text 1 (codes "-") (codes "u.")) (read_syms (codes "+[")) }
+    ensures no_edge { FitsKind (over_two [] (timeline (codes "[ ]"))) (kind_text 1 (codes "-") (codes "u.")) (read_syms (codes "+-")) → ⊥ }
+    ensures starts_twice { FitsKind (over_two [] (timeline (codes "[ ]"))) (kind_text 1 (codes "-") (codes "u.")) (read_syms (codes "[-")) → ⊥ }
+    ensures not_the_form { FitsKind (over_two [] (timeline (codes "[ ]"))) (kind_text 1 (codes "-") (codes "u.")) (read_syms (codes "|-")) → ⊥ }
 {}
 
 /// A kind is cut by dropping the phases of the later constraints, and is final at the end of the form
 /// where no free tier is open.
 pub fn cut_and_final_kinds()
-    ensures cut_to_one { (max dep : String Global) → cut (max_a max ∷ dep_a dep ∷ []) 1 (kind_text 1 (codes "+") (codes "mu")) ≡ kind_text 1 (codes "+") (codes "m") }
-    ensures cut_to_none { (max dep : String Global) → cut (max_a max ∷ dep_a dep ∷ []) 0 (kind_text 1 (codes "+") (codes "mu")) ≡ kind_text 1 (codes "+") [] }
-    ensures at_end { is_final (timeline (codes "[ ]")) (kind_text 2 (codes "-") (codes "..")) ≡ true }
-    ensures overt_open { is_final (timeline (codes "[ ]")) (kind_text 2 (codes "+") (codes ".m")) ≡ false }
-    ensures too_early { is_final (timeline (codes "[ ]")) (kind_text 1 (codes "-") (codes "u.")) ≡ false }
+    ensures cut_to_one { (max dep : String Global) → cut (over_two (max_a max ∷ dep_a dep ∷ []) []) 1 (kind_text 1 (codes "+") (codes "mu")) ≡ kind_text 1 (codes "+") (codes "m") }
+    ensures cut_to_none { (max dep : String Global) → cut (over_two (max_a max ∷ dep_a dep ∷ []) []) 0 (kind_text 1 (codes "+") (codes "mu")) ≡ kind_text 1 (codes "+") [] }
+    ensures at_end { is_final (over_two [] (timeline (codes "[ ]"))) (kind_text 2 (codes "-") (codes "..")) ≡ true }
+    ensures overt_open { is_final (over_two [] (timeline (codes "[ ]"))) (kind_text 2 (codes "+") (codes ".m")) ≡ false }
+    ensures too_early { is_final (over_two [] (timeline (codes "[ ]"))) (kind_text 1 (codes "-") (codes "u.")) ≡ false }
 {}

@@ -13,5 +13,5 @@ returns-in-Ok-clause-step g c =
     let text = shown_text c.in-Ok.answer in
     written (FindsForAnswer (value_of c.args.grammar.now) c.args.form.now c.args.budget) (IsOfRightAnswer short_text (value_of c.args.grammar.now) c.args.form.now) taking text
     (made_ready c.args.grammar.now c.args.form.now c.args.budget c.in-Ok.answer c.in-Ok.ensures.ok)
-    (made_right c.args.grammar.now c.args.form.now c.args.budget c.in-Ok.answer c.in-Ok.ensures.ok short_text text refl)
+    (made_right c.args.grammar.now c.args.form.now c.args.budget c.in-Ok.answer c.in-Ok.ensures.ok short_text text (λ u. refl))
     c.put_shown.result c.put_shown.ensures.ok c.put_shown.ensures.part c.put_shown.ensures.failed c.ended.result c.ended.ensures

@@ -11,12 +11,13 @@ use Rattle.ranked_gen.specs.Left.{IsStaged, weight_number}
 use Rattle.ranked_gen.proofs.StageShapes.{kinds_found}
 use Rattle.ranked_gen.proofs.StepStage.{staged}
 use Rattle.ranked_gen.proofs.staged.pruned.Goals as goal
+use Rattle.kind_moves.specs.Frames.{problem_in}
 
 pub to_final-requires : goal.to_final-requires
 to_final-requires c =
     let frame = c.args.frame.now in
     let found = c.args.found.now in
-    sizes_fit (tiers_in frame) (constraints_in frame) (form_in frame) c.args.stage (names_at frame c.args.stage found.kinds.items) (states_of found.table) c.requires.table refl 4294967295 (omega (arith, found.table.few))
+    sizes_fit (problem_in frame) c.args.stage (names_at frame c.args.stage found.kinds.items) (states_of found.table) c.requires.table refl 4294967295 (omega (arith, found.table.few))
 
 pub ordered-requires-clause-found : goal.ordered-requires-clause-found
 ordered-requires-clause-found c =
@@ -29,7 +30,7 @@ pub tight-requires-clause-sizes : goal.tight-requires-clause-sizes
 tight-requires-clause-sizes c =
     let frame = c.args.frame.now in
     let found = c.args.found.now in
-    sizes_fit (tiers_in frame) (constraints_in frame) (form_in frame) c.args.stage (names_at frame c.args.stage found.kinds.items) (states_of found.table) c.requires.table refl 4294967295 (omega (arith, found.table.few))
+    sizes_fit (problem_in frame) c.args.stage (names_at frame c.args.stage found.kinds.items) (states_of found.table) c.requires.table refl 4294967295 (omega (arith, found.table.few))
 
 pub returns : goal.returns
 returns c =
@@ -51,6 +52,6 @@ returns c =
     let inside : 0 < length c.in-Ok.potentials.items = omega (arith, long, c.in_ok-least.ensures.each_state, found.table.some) in
     let value : c.index.result.now ≡ get_or c.in-Ok.potentials.items 0 0 = c.index.ensures ∙ get_or_default c.in-Ok.potentials.items 0 c.index.result.now 0 inside in
     let first : get_or (map weight_number least) 0 0 ≡ c.index.result.now = sym (value ∙ ap (λ ns. get_or ns 0 0) numbers) in
-    subst (λ n. IsStaged (tiers_in frame) (constraints_in frame) (form_in frame) c.args.stage nodes n (states_of kept.table) kept.states.items order) first
+    subst (λ n. IsStaged (problem_in frame) c.args.stage nodes n (states_of kept.table) kept.states.items order) first
     (staged frame c.args.stage c.requires.some c.requires.within kinds refl (states_of found.table) c.requires.table least c.in_ok-least.ensures shape c.in_ok-shape.ensures order sorted nodes listed c.requires.single
     (states_of kept.table) kept.states.items c.in_ok-kept.ensures kept.table.some kept.table.targets kept.table.filled)

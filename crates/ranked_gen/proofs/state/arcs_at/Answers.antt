@@ -8,6 +8,8 @@ use Rattle.ranked_gen.specs.Listed.{table_view}
 use Rattle.ranked_gen.proofs.StateSteps.{length-staying}
 use Rattle.ranked_gen.proofs.FrameSteps.{numbered_fits, numbered_flags, stay_fit, next_fit, arcs_end, arcs_on}
 use Rattle.ranked_gen.proofs.state.arcs_at.Goals as goal
+use Rattle.violation.specs.Problems.{last_place}
+use Rattle.kind_moves.specs.Frames.{problem_in}
 
 pub push_moves-requires-clause-fits : goal.push_moves-requires-clause-fits
 push_moves-requires-clause-fits c = numbered_fits c.args.frame.now c.args.kind.now c.args.free (c.args.kind.now.place * 2 ^ c.args.free + c.args.opened) c.requires.count c.requires.numbered c.requires.place
@@ -28,7 +30,7 @@ push_moves-requires-2-clause-columns c =
     let frame = c.args.frame.now in
     let kind = c.args.kind.now in
     let flags = numbered_flags frame kind c.args.free kind.place c.args.opened c.requires.count c.requires.numbered in
-    let below : kind.place < length (form_in frame) = omega (arith, c.len.ensures, c.if-kind-len.false) in
+    let below : kind.place < last_place (problem_in frame) = omega (arith, c.len.ensures, c.if-kind-len.false) in
     subst (λ given. AllFit frame kind (columns_from (tiers_in frame) given (flags_of c.args.free c.args.opened))) (sym (c.syms-given.ensures.value ∙ c.column.ensures))
     (subst (λ fs. AllFit frame kind (columns_from (tiers_in frame) (column_at (form_in frame) kind.place) fs)) flags (next_fit frame c.requires.form kind below))
 

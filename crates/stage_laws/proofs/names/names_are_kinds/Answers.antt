@@ -2,7 +2,7 @@ use Rattle.stage_laws.proofs.Naming.{path_kind, names_law}
 use Rattle.stage_laws.proofs.names.names_are_kinds.Goals as goal
 
 pub returns-clause-paths : goal.returns-clause-paths
-returns-clause-paths c tiers constraints u r names states stage table = path_kind tiers constraints u r stage names states table.named
+returns-clause-paths c problem r names states stage table = path_kind problem r stage names states table.named
 
 pub returns-clause-names : goal.returns-clause-names
-returns-clause-names c tiers constraints u r names states stage table = names_law tiers constraints u r stage names states table.named _ table.accepts table.on_runs
+returns-clause-names c problem r names states stage table = names_law problem r stage names states table.named _ table.accepts table.on_runs

@@ -6,4 +6,4 @@ pub returns-clause-vector : goal.returns-clause-vector
 returns-clause-vector c = vector_of_numbers
 
 pub returns-clause-fewer : goal.returns-clause-fewer
-returns-clause-fewer c tiers constraints u T r s l opt = optimal_for_fewer tiers constraints u r s l T opt
+returns-clause-fewer c problem T r s l opt = optimal_for_fewer problem r s l T opt

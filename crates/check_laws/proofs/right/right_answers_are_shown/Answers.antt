@@ -1,5 +1,0 @@
-use Rattle.check_laws.proofs.RightStates.{shown_of_form}
-use Rattle.check_laws.proofs.right.right_answers_are_shown.Goals as goal
-
-pub returns : goal.returns
-returns c tiers constraints u answer split over form short right = shown_of_form tiers constraints u answer split over form short right

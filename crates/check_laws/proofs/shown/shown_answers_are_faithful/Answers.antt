@@ -1,5 +1,0 @@
-use Rattle.check_laws.proofs.Faithfulness.{faithful_from_shown}
-use Rattle.check_laws.proofs.shown.shown_answers_are_faithful.Goals as goal
-
-pub returns : goal.returns
-returns c tiers constraints answer split over states shown = faithful_from_shown tiers constraints answer split over shown states

@@ -1,0 +1,15 @@
+# Completion of otp for bash. In ~/.bashrc: source FOLDER/tools/completion/otp.bash
+# The first word is a command, and the second a grammar's file.
+_otp() {
+    local word=${COMP_WORDS[COMP_CWORD]}
+    COMPREPLY=()
+    case $COMP_CWORD in
+        1) COMPREPLY=($(compgen -W "canon score generate show" -- "$word")) ;;
+        2)
+            mapfile -t COMPREPLY < <(compgen -f -X '!*.otp' -- "$word"; compgen -d -- "$word")
+            compopt -o filenames 2> /dev/null
+            ;;
+    esac
+}
+complete -F _otp otp
+complete -F _otp ./otp

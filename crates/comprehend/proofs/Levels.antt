@@ -3,6 +3,7 @@ use Rattle.std.proofs.Common.{◌≡◌, ℕ, ◌+◌, ◌*◌, ◌<◌, ◌≤�
 use Rattle.std.specs.Prelude.{All, Contains}
 use Rattle.std.specs.Global.{Vec}
 use Rattle.std.proofs.lemmas.Bool.{cases_lt}
+use Rattle.std.proofs.lemmas.Option.{slice_get_cases}
 use Rattle.std.proofs.lemmas.List.{get_or-map, get_or_past, length-map, take_more}
 use Rattle.std.proofs.lemmas.List.Elements.{Contains-append_left, Contains-get_or, Contains-push, Contains-push_cases}
 use Rattle.tier_core.specs.declared.class.Class.{Class}
@@ -21,6 +22,13 @@ use Rattle.comprehend.proofs.Comings.{comes_goes, goes_comes}
 -- the arcs of a state of the list, as they are read
 pub arcs_read : (states : List StateLine) (s : ℕ) (state : StateLine) (arcs : List ArcLine) → s < length states → arcs ≡ (get_or states s state).arcs.items → arcs ≡ arcs_at states s
 arcs_read states s state arcs inside e = e ∙ sym (get_or-map (λ (x : StateLine). x.arcs.items) states s state [] inside)
+
+-- what holds of the arcs of each state of the list, and of none
+pub each_arcs : (P : List ArcLine → Type 0) (states : List StateLine) → P [] → All (λ state. P state.arcs.items) states → (s : ℕ) → P (arcs_at states s)
+each_arcs P states none all s = elim (slice_get_cases states s).1 [
+  | inl x ↦ subst P (sym (get_or-map (λ (y : StateLine). y.arcs.items) states s x.0 [] x.1)) (all s x.0 x.1)
+  | inr past ↦ subst P (sym (get_or_past (map (λ (y : StateLine). y.arcs.items) states) s [] (omega (arith, past.0, length-map states (λ (y : StateLine). y.arcs.items))))) none
+]
 
 -- only states of the list have arcs
 pub arcs_inside : (states : List StateLine) (s : ℕ) (arc : ArcLine) → Contains (arcs_at states s) arc → s < length states

@@ -13,6 +13,10 @@ pub mod Comings
 pub mod Levels
 pub mod Choosing
 pub mod OneStep
-pub mod Hearing
+pub mod HeldColumns
 pub mod Readings
+pub mod TestFacts
+pub mod Heard
+pub mod Hits
+pub mod FewStates
 pub mod Turned

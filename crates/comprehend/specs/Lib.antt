@@ -4,3 +4,5 @@ pub mod Searches
 pub mod Steps
 pub mod Entering
 pub mod Choices
+pub mod Hears
+pub mod HitText

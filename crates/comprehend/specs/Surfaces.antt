@@ -1,13 +1,13 @@
 -- Surfaces of timelines, and the timelines of an automaton that have one.
 use Rattle.std.specs.Prelude.{◌≡◌, ◌≢◌, ℕ, List, All, AllPairs, length, map}
-use Rattle.tier_core.specs.declared.constraint.Constraint.{Constraint}
 use Rattle.tier_core.specs.declared.sym.Sym.{Sym}
 use Rattle.tier_core.specs.Tiers.{Tiers}
 use Rattle.tier_core.specs.Timelines.{symbol, project, squeeze, IsReduced, IsWellFormed}
 use Rattle.violation.specs.Candidates.{IsOptimal}
+use Rattle.violation.specs.Problems.{Problem}
 use Rattle.answer_text.specs.declared.automaton.StateLine.{StateLine}
 use Rattle.answer_text.specs.Acceptance.{Accepts}
-use Rattle.answer_text.specs.Faithful.{AreFaithfulArcs}
+use Rattle.answer_text.specs.Sound.{AreSoundArcs}
 use Rattle.answer_text.specs.Right.{numbers_of}
 
 -- the symbols that a column has on the overt tiers
@@ -32,9 +32,9 @@ pub record AcceptsHeard (states : List StateLine) (overt : List ℕ) (surface T 
 -- leads to a state
 pub record AreReadable (width : ℕ) (states : List StateLine) : Type 0 where
   pub distinct : AllPairs (λ m n. m ≢ n) (numbers_of states)
-  pub arcs : All (λ state. AreFaithfulArcs width (numbers_of states) state.arcs.items) states
+  pub arcs : All (λ state. AreSoundArcs width (numbers_of states) state.arcs.items) states
 
--- an optimal candidate of the form u that has this surface
-pub record HasSurface (tiers : Tiers) (constraints : List Constraint) (u surface T : List (List Sym)) : Type 0 where
-  pub optimal : IsOptimal tiers constraints u T
-  pub heard : surface_of tiers.overt T ≡ surface
+-- an optimal candidate that has this surface
+pub record HasSurface (problem : Problem) (surface T : List (List Sym)) : Type 0 where
+  pub optimal : IsOptimal problem T
+  pub heard : surface_of problem.tiers.overt T ≡ surface

@@ -2,7 +2,8 @@ ghost use Rattle.std.specs.Prelude.{◌≡◌, ◌≤◌, IfOk, List, MatchOptio
 ghost use Rattle.tier_core.specs.declared.sym.Sym.{Sym};
 ghost use Rattle.tier_core.specs.Orders.{IsFirst};
 ghost use Rattle.tier_core.specs.Tables.{tiers_of_table};
-ghost use Rattle.answer_text.specs.Faithful.{IsFaithful};
+ghost use Rattle.answer_text.specs.Sound.{IsSound};
+ghost use Rattle.violation.specs.Problems.{asked};
 ghost use Rattle.comprehend.specs.Surfaces.{surface_of, AcceptsHeard, AreReadable, IsSurface, HasSurface};
 
 use crate::follow::first_along;
@@ -46,14 +47,14 @@ pub fn has_surface(
     answer: &Answer,
     surface: &Timeline,
 ) -> Result<Option<Timeline>, NoMemory>
-    requires sound { IsFaithful (tiers_of_table grammar.now.tiers) grammar.now.constraints.items answer.now }
+    requires sound { IsSound (asked grammar.now.tiers grammar.now.constraints.items answer.now.form) answer.now }
     requires few { length answer.now.automaton.states.items ≤ 65536 }
     requires surface { IsSurface (tiers_of_table grammar.now.tiers) surface.now }
     requires short { length surface.now ≤ 64 }
     ensures { IfOk result (λ first.
         MatchOption first
-            ((T : List (List Sym)) → HasSurface (tiers_of_table grammar.now.tiers) grammar.now.constraints.items answer.now.form surface.now T → ⊥)
-            (IsFirst (HasSurface (tiers_of_table grammar.now.tiers) grammar.now.constraints.items answer.now.form surface.now))) }
+            ((T : List (List Sym)) → HasSurface (asked grammar.now.tiers grammar.now.constraints.items answer.now.form) surface.now T → ⊥)
+            (IsFirst (HasSurface (asked grammar.now.tiers grammar.now.constraints.items answer.now.form) surface.now))) }
 {
     first_heard(alloc, &grammar.tiers, &answer.automaton.states, surface)
 }

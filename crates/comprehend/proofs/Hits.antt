@@ -1,22 +1,24 @@
 -- What each entry gives to the hits.
-use Rattle.std.proofs.Common.{◌≡◌, ℕ, zero, suc, ◌+◌, ◌<◌, ◌≤◌, List, [], ◌∷◌, ◌++◌, Option, None, Some, length, map, take, refl, sym, ap, ◌∙◌, subst, arith, ◌⊎◌, inl, inr}
-use Rattle.std.specs.Prelude.{Contains, slice_get}
+use Rattle.std.proofs.Common.{◌≡◌, ℕ, zero, suc, ◌+◌, ◌<◌, ◌≤◌, List, [], ◌∷◌, ◌++◌, Option, None, Some, length, get_or, map, take, refl, sym, ap, ◌∙◌, subst, arith, ◌⊎◌, inl, inr}
+use Rattle.std.specs.Prelude.{Contains, MatchOption, slice_get}
 use Rattle.std.specs.List.Sorted.{IsStrictlySortedBy}
 use Rattle.std.specs.Ordering.{nat_cmp}
 use Rattle.std.specs.Cmp.{nat_cmp_is}
 use Rattle.std.specs.declared.cmp.Ordering.TheVariants.{Less}
 use Rattle.std.proofs.lemmas.Bool.{cases_lt}
-use Rattle.std.proofs.lemmas.List.{map-append, take_all}
+use Rattle.std.proofs.lemmas.List.{get_or-map, length-map, map-append}
 use Rattle.std.proofs.lemmas.List.Elements.{Contains-append_left, Contains-append_right, Contains-push, Contains-push_cases}
 use Rattle.tier_core.specs.declared.sym.Sym.{Sym}
 use Rattle.tier_core.specs.Orders.{IsFirst}
+use Rattle.std.proofs.lemmas.Option.{slice_get-get_or}
 use Rattle.violation.specs.Problems.{Problem}
+use Rattle.lexicon.specs.declared.entry.Entry.{Entry}
 use Rattle.kind_orders.proofs.Members.{contains_of_map}
 use Rattle.ranked_gen.proofs.Ascending.{Ascends, sorted_from, ascends_from, ascends_append}
 use Rattle.ranked_gen.specs.Budgets.{AreAllWithin, IsFirstOver}
 use Rattle.comprehend.specs.declared.hit.Hit.{Hit}
 use Rattle.comprehend.specs.Surfaces.{HasSurface}
-use Rattle.comprehend.specs.Hears.{indexes_of, IsHit, Hears, AreEntriesWithin, IsFirstEntryOver}
+use Rattle.comprehend.specs.Hears.{forms_of, indexes_of, IsHit, IsPushed, Hears, AreEntriesWithin, IsFirstEntryOver}
 
 -- the elements of the first n
 pub of_taken : {X : Type 0} (n : ℕ) (xs : List X) (k : ℕ) (x : X) → slice_get (take n xs) k ≡ Some x → (k < n) × (slice_get xs k ≡ Some x)
@@ -85,17 +87,17 @@ module _ (ask : List (List Sym) → Problem) (forms : List (List (List Sym))) (s
           let l = (of_taken i forms own.0.index old.form old.numbered).0 in
           omega (arith, l, own.1.1))
 
-      in_order : IsStrictlySortedBy nat_cmp (indexes_of (hits ++ hit ∷ []))
-      in_order =
-          (let P : List ℕ → Type 0 = λ xs. IsStrictlySortedBy nat_cmp xs in
-          subst P (sym indexes) (sorted_from nat_cmp (indexes_of hits ++ hit.index ∷ [])
-          (ascends_append nat_cmp (indexes_of hits) (hit.index ∷ []) (ascends_from nat_cmp (indexes_of hits) h.in_order) (tt, tt) across)))
-
       across : (x y : ℕ) → Contains (indexes_of hits) x → Contains (hit.index ∷ []) y → nat_cmp x y ≡ Less
       across x y inx iny =
           (let l = below x inx in
           let same : hit.index ≡ y = elim (Contains-push_cases [] hit.index y iny) [ inl none ↦ absurd (omega (arith, none.1)) | inr now ↦ now ] in
           sym (nat_cmp_is x y Less (omega (arith, l, is, same))))
+
+      in_order : IsStrictlySortedBy nat_cmp (indexes_of (hits ++ hit ∷ []))
+      in_order =
+          (let P : List ℕ → Type 0 = λ xs. IsStrictlySortedBy nat_cmp xs in
+          subst P (sym indexes) (sorted_from nat_cmp (indexes_of hits ++ hit.index ∷ [])
+          (ascends_append nat_cmp (indexes_of hits) (hit.index ∷ []) (ascends_from nat_cmp (indexes_of hits) h.in_order) (tt, tt) across)))
 
       each : (x : Hit) → Contains (hits ++ hit ∷ []) x → IsHit ask (take (i + 1) forms) surface x
       each x here = elim (Contains-push_cases hits hit x here) [
@@ -120,3 +122,19 @@ hears_nothing ask forms surface = record {
   each = λ hit here. absurd (omega (arith, here.1));
   every = λ k other T e has. absurd (omega (arith, (of_taken 0 forms k other e).0));
 }
+
+-- the form of an entry stands at its number
+pub form_at : (lexicon : List Entry) (i : ℕ) (entry : Entry) → i < length lexicon → entry ≡ get_or lexicon i entry → slice_get (forms_of lexicon) i ≡ Some entry.form
+form_at lexicon i entry inside is =
+    slice_get-get_or (forms_of lexicon) i entry.form (omega (arith, inside, length-map lexicon (λ (e : Entry). e.form)))
+    ∙ ap (λ x. Some x) (get_or-map (λ (e : Entry). e.form) lexicon i entry entry.form inside ∙ ap (λ (e : Entry). e.form) (sym is))
+
+-- what is heard of an entry
+pub hears_next : (ask : List (List Sym) → Problem) (forms : List (List (List Sym))) (surface : List (List Sym)) (i : ℕ) (form : List (List Sym)) → slice_get forms i ≡ Some form → (hits new : List Hit) (heard : Option (List (List Sym)))
+    → MatchOption heard ((T : List (List Sym)) → HasSurface (ask form) surface T → ⊥) (IsFirst (HasSurface (ask form) surface)) → IsPushed hits new i heard → Hears ask (take i forms) surface hits → Hears ask (take (i + 1) forms) surface new
+hears_next ask forms surface i form at hits new None none pushed h =
+    (let P : List Hit → Type 0 = λ xs. Hears ask (take (i + 1) forms) surface xs in subst P (sym pushed) (hears_none ask forms surface i form at hits h none))
+hears_next ask forms surface i form at hits new (Some example) first pushed h =
+    (let P : List Hit → Type 0 = λ xs. Hears ask (take (i + 1) forms) surface xs in
+    let hit : Hit = record { index = i; example = example } in
+    subst P (sym pushed) (hears_more ask forms surface i form at hits hit refl first h))

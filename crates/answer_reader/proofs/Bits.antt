@@ -31,25 +31,36 @@ mask_within mark (b ∷ bytes) =
     let rest = mask_within mark bytes in
     let one = at_most_one (b == mark) in omega arith
 
-pub mask_at : (mark : ℕ) (bytes : List ℕ) (i : ℕ) → i < length bytes → has_tier (mask_of mark bytes) i ≡ (get_or bytes i 0 == mark)
+pub mask_at : (mark : ℕ) (bytes : List ℕ) (i : ℕ) → i < length bytes → has_tier (mask_of mark bytes) i
+    ≡ (get_or bytes i 0 == mark)
 mask_at mark [] i l = absurd (omega arith)
-mask_at mark (b ∷ bytes) zero l = ap (λ n. n == 1) (bit_at_lowest (mask_of mark (b ∷ bytes)) ∙ (halves (b == mark) (mask_of mark bytes)).0) ∙ lowest_flag (b == mark)
+mask_at mark (b ∷ bytes) zero l = ap (λ n. n == 1)
+    (bit_at_lowest (mask_of mark (b ∷ bytes)) ∙ (halves (b == mark) (mask_of mark bytes)).0) ∙ lowest_flag (b == mark)
 mask_at mark (b ∷ bytes) (suc i) l =
-    ap (λ n. n == 1) (bit_at-suc (mask_of mark (b ∷ bytes)) i ∙ ap (λ n. bit_at n i) (halves (b == mark) (mask_of mark bytes)).1)
+    ap (λ n. n == 1) (bit_at-suc (mask_of mark (b ∷ bytes)) i
+    ∙ ap (λ n. bit_at n i) (halves (b == mark) (mask_of mark bytes)).1)
     ∙ mask_at mark bytes i (omega arith)
 
 -- a mask tells the bytes that are its mark
-pub mask_told : (mark : ℕ) (bytes : List ℕ) → open_tiers (length bytes) (mask_of mark bytes) ≡ map (λ b. b == mark) bytes
-mask_told mark bytes = sym (fill_by_all (has_tier (mask_of mark bytes)) (map (λ b. b == mark) bytes) (length bytes) false (same_length bytes)
+pub mask_told : (mark : ℕ) (bytes : List ℕ) → open_tiers (length bytes) (mask_of mark bytes)
+    ≡ map (λ b. b == mark) bytes
+mask_told mark bytes = sym (fill_by_all (has_tier (mask_of mark bytes)) (map (λ b. b == mark) bytes) (length bytes)
+    false (same_length bytes)
     (λ i l. get_or-map (λ b. b == mark) bytes i 0 false l ∙ sym (mask_at mark bytes i l)))
   where
     same_length : (bs : List ℕ) → length (map (λ b. b == mark) bs) ≡ length bs
     same_length [] = refl
     same_length (b ∷ bs) = ap suc (same_length bs)
 
-pub phases_told : (bytes : List ℕ) → map (λ i. phase_by_bits (has_tier (mask_of 117 bytes) i) (has_tier (mask_of 109 bytes) i)) (range_with_len 0 (length bytes)) ≡ map phase_of bytes
-phases_told bytes = sym (fill_by_all (λ i. phase_by_bits (has_tier (mask_of 117 bytes) i) (has_tier (mask_of 109 bytes) i)) (map phase_of bytes) (length bytes) (phase_of 0) (same_length bytes)
-    (λ i l. get_or-map phase_of bytes i 0 (phase_of 0) l ∙ sym (ap (λ u. phase_by_bits u (has_tier (mask_of 109 bytes) i)) (mask_at 117 bytes i l) ∙ ap (phase_by_bits (get_or bytes i 0 == 117)) (mask_at 109 bytes i l))))
+pub phases_told : (bytes : List ℕ)
+    → map (λ i. phase_by_bits (has_tier (mask_of 117 bytes) i) (has_tier (mask_of 109 bytes) i))
+    (range_with_len 0 (length bytes)) ≡ map phase_of bytes
+phases_told bytes = sym (fill_by_all
+    (λ i. phase_by_bits (has_tier (mask_of 117 bytes) i) (has_tier (mask_of 109 bytes) i)) (map phase_of bytes)
+    (length bytes) (phase_of 0) (same_length bytes)
+    (λ i l. get_or-map phase_of bytes i 0 (phase_of 0) l
+    ∙ sym (ap (λ u. phase_by_bits u (has_tier (mask_of 109 bytes) i)) (mask_at 117 bytes i l)
+    ∙ ap (phase_by_bits (get_or bytes i 0 == 117)) (mask_at 109 bytes i l))))
   where
     same_length : (bs : List ℕ) → length (map phase_of bs) ≡ length bs
     same_length [] = refl
@@ -61,7 +72,8 @@ none_bit : (mask i : ℕ) → has_tier mask i ≡ false → bit_at mask i ≡ 0
 none_bit mask i h = let other = eqb-false (bit_at mask i) 1 h in omega (arith, bit_at-lt mask i)
 
 apart_from : (a b : ℕ) → ((i : ℕ) → has_tier a i ≡ true → has_tier b i ≡ false) → bit_and a b ≡ 0
-apart_from a b h = same_from_bits (bit_and a b) 0 (λ i. bit_at_and a b i ∙ none i (has_tier a i) refl ∙ sym (bit_at-zero i))
+apart_from a b h = same_from_bits (bit_and a b) 0
+    (λ i. bit_at_and a b i ∙ none i (has_tier a i) refl ∙ sym (bit_at-zero i))
   where
     none : (i : ℕ) (c : Bool) → has_tier a i ≡ c → min (bit_at a i) (bit_at b i) ≡ 0
     none i false e = omega (arith, none_bit a i e)
@@ -84,7 +96,8 @@ mask_shift m b x true = let p = mul-add b 1 (2 * x) in let q = mul_assoc b 2 x i
 mask_shift m b x false = let p = mul-add b 0 (2 * x) in let q = mul_assoc b 2 x in omega arith
 
 -- one byte more
-pub mask_next : (mark m b k r : ℕ) (bytes : List ℕ) (t : Bool) → k < length bytes → t ≡ (get_or bytes k 0 == mark) → r ≡ cond t b 0
+pub mask_next : (mark m b k r : ℕ) (bytes : List ℕ) (t : Bool) → k < length bytes → t ≡ (get_or bytes k 0 == mark) → r
+    ≡ cond t b 0
     → m + b * mask_of mark (drop k bytes) ≡ m + r + b * 2 * mask_of mark (drop (k + 1) bytes)
 mask_next mark m b k r bytes t l is e =
     ap (λ bs. m + b * mask_of mark bs) (drop_more bytes k 0 l)

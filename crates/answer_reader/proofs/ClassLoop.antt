@@ -9,49 +9,64 @@ use Rattle.answer_reader.proofs.Sets.{decoded_is_front}
 abbrev pub behind_sets : List ℕ → Option (List ℕ) → Option (List ℕ)
 behind_sets sets more = option_map (λ xs. sets ++ xs) more
 
-set_more : (sets : List ℕ) (x : ℕ) (o : Option (List ℕ)) → behind_sets sets (option_map (λ xs. x ∷ xs) o) ≡ behind_sets (sets ++ x ∷ []) o
+pub set_more : (sets : List ℕ) (x : ℕ) (o : Option (List ℕ)) → behind_sets sets (option_map (λ xs. x ∷ xs) o)
+    ≡ behind_sets (sets ++ x ∷ []) o
 set_more sets x None = refl
-set_more sets x (Some xs) = ap (λ (ys : List ℕ). let r : Option (List ℕ) = Some ys in r) (sym (append_assoc sets (x ∷ []) xs))
+set_more sets x (Some xs) = ap (λ (ys : List ℕ). let r : Option (List ℕ) = Some ys in r)
+    (sym (append_assoc sets (x ∷ []) xs))
 
-with_tier : (sets rest behind : List ℕ) (m x : ℕ) (whole : Option (List ℕ)) → decoded rest ≡ Some (x, behind) → behind_sets sets (class_of (suc m) rest) ≡ whole → behind_sets (sets ++ x ∷ []) (class_of m behind) ≡ whole
+with_tier : (sets rest behind : List ℕ) (m x : ℕ) (whole : Option (List ℕ)) → decoded rest ≡ Some (x, behind)
+    → behind_sets sets (class_of (suc m) rest) ≡ whole → behind_sets (sets ++ x ∷ []) (class_of m behind) ≡ whole
 with_tier sets rest behind m x whole d h =
     let e : front_of rest ≡ Some (x, behind) = sym (decoded_is_front rest) ∙ d in
     sym (set_more sets x (class_of m behind))
-    ∙ ap (λ f. behind_sets sets (option_and_then (λ (front : ℕ × List ℕ). option_map (λ xs. front.0 ∷ xs) (class_of m front.1)) f)) (sym e) ∙ h
+    ∙ ap (λ f. behind_sets sets (option_and_then
+    (λ (front : ℕ × List ℕ). option_map (λ xs. front.0 ∷ xs) (class_of m front.1)) f)) (sym e) ∙ h
 
 -- a tier's set stands at the front
-pub tier_read : (n tier : ℕ) (sets rest behind : List ℕ) (x : ℕ) (whole : Option (List ℕ)) → tier < n → tier < length sets → decoded rest ≡ Some (x, behind)
-    → behind_sets (take tier sets) (class_of (n - tier) rest) ≡ whole → behind_sets (take (tier + 1) (set sets tier x)) (class_of (n - (tier + 1)) behind) ≡ whole
+pub tier_read : (n tier : ℕ) (sets rest behind : List ℕ) (x : ℕ) (whole : Option (List ℕ)) → tier < n
+    → tier < length sets → decoded rest ≡ Some (x, behind)
+    → behind_sets (take tier sets) (class_of (n - tier) rest) ≡ whole
+    → behind_sets (take (tier + 1) (set sets tier x)) (class_of (n - (tier + 1)) behind) ≡ whole
 tier_read n tier sets rest behind x whole l within d h =
     let more : n - tier ≡ suc (n - (tier + 1)) = omega arith in
     ap (λ xs. behind_sets xs (class_of (n - (tier + 1)) behind)) (take_more_set sets tier x within)
-    ∙ with_tier (take tier sets) rest behind (n - (tier + 1)) x whole d (sym (ap (λ k. behind_sets (take tier sets) (class_of k rest)) more) ∙ h)
+    ∙ with_tier (take tier sets) rest behind (n - (tier + 1)) x whole d
+    (sym (ap (λ k. behind_sets (take tier sets) (class_of k rest)) more) ∙ h)
 
 -- or none does
-pub tier_missing : (n tier : ℕ) (sets rest : List ℕ) (whole : Option (List ℕ)) → tier < n → decoded rest ≡ None → behind_sets sets (class_of (n - tier) rest) ≡ whole → None ≡ whole
+pub tier_missing : (n tier : ℕ) (sets rest : List ℕ) (whole : Option (List ℕ)) → tier < n → decoded rest ≡ None
+    → behind_sets sets (class_of (n - tier) rest) ≡ whole → None ≡ whole
 tier_missing n tier sets rest whole l d h =
     let more : n - tier ≡ suc (n - (tier + 1)) = omega arith in
     let e : front_of rest ≡ None = sym (decoded_is_front rest) ∙ d in
-    ap (λ f. behind_sets sets (option_and_then (λ (front : ℕ × List ℕ). option_map (λ xs. front.0 ∷ xs) (class_of (n - (tier + 1)) front.1)) f)) (sym e)
+    ap (λ f. behind_sets sets (option_and_then
+    (λ (front : ℕ × List ℕ). option_map (λ xs. front.0 ∷ xs) (class_of (n - (tier + 1)) front.1)) f)) (sym e)
     ∙ sym (ap (λ k. behind_sets sets (class_of k rest)) more) ∙ h
 
 -- behind the last tier nothing stands
-pub tiers_end : (k : ℕ) (sets rest : List ℕ) (whole : Option (List ℕ)) → k ≡ 0 → length rest ≡ 0 → behind_sets sets (class_of k rest) ≡ whole → Some sets ≡ whole
-tiers_end zero sets [] whole z e h = ap (λ (ys : List ℕ). let r : Option (List ℕ) = Some ys in r) (sym (append-nil sets)) ∙ h
+pub tiers_end : (k : ℕ) (sets rest : List ℕ) (whole : Option (List ℕ)) → k ≡ 0 → length rest ≡ 0
+    → behind_sets sets (class_of k rest) ≡ whole → Some sets ≡ whole
+tiers_end zero sets [] whole z e h = ap (λ (ys : List ℕ). let r : Option (List ℕ) = Some ys in r)
+    (sym (append-nil sets)) ∙ h
 tiers_end zero sets (b ∷ rest) whole z e h = absurd (omega arith)
 tiers_end (suc k) sets rest whole z e h = absurd (omega arith)
 
-pub bytes_behind : (k : ℕ) (sets rest : List ℕ) (whole : Option (List ℕ)) → k ≡ 0 → 0 < length rest → behind_sets sets (class_of k rest) ≡ whole → None ≡ whole
+pub bytes_behind : (k : ℕ) (sets rest : List ℕ) (whole : Option (List ℕ)) → k ≡ 0 → 0 < length rest
+    → behind_sets sets (class_of k rest) ≡ whole → None ≡ whole
 bytes_behind zero sets [] whole z e h = absurd (omega arith)
 bytes_behind zero sets (b ∷ rest) whole z e h = h
 bytes_behind (suc k) sets rest whole z e h = absurd (omega arith)
 
-length_at : (width : ℕ) (o : Option (ℕ × List ℕ)) (sets : List ℕ) → ((bytes xs : List ℕ) → class_of width bytes ≡ Some xs → length xs ≡ width)
-    → option_and_then (λ (front : ℕ × List ℕ). option_map (λ xs. front.0 ∷ xs) (class_of width front.1)) o ≡ Some sets → length sets ≡ suc width
+length_at : (width : ℕ) (o : Option (ℕ × List ℕ)) (sets : List ℕ)
+    → ((bytes xs : List ℕ) → class_of width bytes ≡ Some xs → length xs ≡ width)
+    → option_and_then (λ (front : ℕ × List ℕ). option_map (λ xs. front.0 ∷ xs) (class_of width front.1)) o ≡ Some sets
+    → length sets ≡ suc width
 length_at width None sets h e = absurd (let n : ⊥ = cc in n)
 length_at width (Some front) sets h e = by (class_of width front.1) refl e
   where
-    by : (o : Option (List ℕ)) → class_of width front.1 ≡ o → option_map (λ xs. front.0 ∷ xs) o ≡ Some sets → length sets ≡ suc width
+    by : (o : Option (List ℕ)) → class_of width front.1 ≡ o → option_map (λ xs. front.0 ∷ xs) o ≡ Some sets
+        → length sets ≡ suc width
     by None is g = absurd (let n : ⊥ = cc in n)
     by (Some xs) is g = let same : front.0 ∷ xs ≡ sets = cc in sym (ap length same) ∙ ap suc (h front.1 xs is)
 

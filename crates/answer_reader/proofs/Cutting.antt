@@ -15,10 +15,12 @@ some_left bytes = let n = length-slice_split is_newline bytes in omega arith
 position_none : (p : ℕ → Bool) (xs : List ℕ) → position p xs ≡ None → length xs ≤ position_or_len p xs
 position_none p xs h = grind (arith, nat_tests)
 
-position_some : (p : ℕ → Bool) (xs : List ℕ) (k : ℕ) → position p xs ≡ Some k → (position_or_len p xs < length xs) × (k ≡ position_or_len p xs)
+position_some : (p : ℕ → Bool) (xs : List ℕ) (k : ℕ) → position p xs ≡ Some k
+    → (position_or_len p xs < length xs) × (k ≡ position_or_len p xs)
 position_some p xs k h = grind (arith, nat_tests)
 
-none_cut : (b : ℕ) (bytes : List ℕ) (o : Option ℕ) → position (λ x. x == b) bytes ≡ o → option_map (parts_at bytes) o ≡ None → position (λ x. x == b) bytes ≡ None
+none_cut : (b : ℕ) (bytes : List ℕ) (o : Option ℕ) → position (λ x. x == b) bytes ≡ o → option_map (parts_at bytes) o
+    ≡ None → position (λ x. x == b) bytes ≡ None
 none_cut b bytes None e h = e
 none_cut b bytes (Some k) e h = absurd (let n : ⊥ = cc in n)
 
@@ -34,7 +36,8 @@ pub record IsCut (b : ℕ) (bytes : List ℕ) (parts : List ℕ × List ℕ) : T
   pub before : parts.0 ≡ take place bytes
   pub after : parts.1 ≡ drop (place + 1) bytes
 
-some_cut : (b : ℕ) (bytes : List ℕ) (parts : List ℕ × List ℕ) (o : Option ℕ) → position (λ x. x == b) bytes ≡ o → option_map (parts_at bytes) o ≡ Some parts → IsCut b bytes parts
+some_cut : (b : ℕ) (bytes : List ℕ) (parts : List ℕ × List ℕ) (o : Option ℕ) → position (λ x. x == b) bytes ≡ o
+    → option_map (parts_at bytes) o ≡ Some parts → IsCut b bytes parts
 some_cut b bytes parts None e h = absurd (let n : ⊥ = cc in n)
 some_cut b bytes parts (Some k) e h =
     let is : parts_at bytes k ≡ parts = cc in
@@ -44,7 +47,8 @@ pub is_cut : (b : ℕ) (bytes : List ℕ) (parts : List ℕ × List ℕ) → cut
 is_cut b bytes parts h = some_cut b bytes parts (position (λ x. x == b) bytes) refl h
 
 -- a line ends at the first end of a line
-pub line_cut : (bytes : List ℕ) (parts : List ℕ × List ℕ) → cut 10 bytes ≡ Some parts → lines_of bytes ≡ parts.0 ∷ lines_of parts.1
+pub line_cut : (bytes : List ℕ) (parts : List ℕ × List ℕ) → cut 10 bytes ≡ Some parts → lines_of bytes
+    ≡ parts.0 ∷ lines_of parts.1
 line_cut bytes parts h =
     let c = is_cut 10 bytes parts h in
     let p = position_some is_newline bytes c.place c.at in
@@ -52,7 +56,8 @@ line_cut bytes parts h =
     ∙ ap (λ k. take k bytes ∷ lines_of (drop (k + 1) bytes)) (sym p.1)
     ∙ ap (λ x. x ∷ lines_of (drop (c.place + 1) bytes)) (sym c.before) ∙ ap (λ x. parts.0 ∷ lines_of x) (sym c.after)
 
-pub line_shorter : (bytes : List ℕ) (parts : List ℕ × List ℕ) → cut 10 bytes ≡ Some parts → length parts.1 < length bytes
+pub line_shorter : (bytes : List ℕ) (parts : List ℕ × List ℕ) → cut 10 bytes ≡ Some parts
+    → length parts.1 < length bytes
 line_shorter bytes parts h =
     let c = is_cut 10 bytes parts h in
     let p = position_some is_newline bytes c.place c.at in
@@ -61,9 +66,11 @@ line_shorter bytes parts h =
 
 -- ---- a front of what is left is a front of the next line
 
-front_at : (word line tail : List ℕ) → list_any is_newline word ≡ false → begins word (line ++ 10 ∷ tail) ≡ begins word line
+front_at : (word line tail : List ℕ) → list_any is_newline word ≡ false → begins word (line ++ 10 ∷ tail)
+    ≡ begins word line
 front_at [] line tail h = refl
-front_at (w ∷ word) [] tail h = ap (λ t. t && bytes_eq (take (length word) tail) word) (ne_eqb 10 w (λ e. false≢true (sym (or_left (w == 10) (list_any is_newline word) h) ∙ is_ten w (sym e))))
+front_at (w ∷ word) [] tail h = ap (λ t. t && bytes_eq (take (length word) tail) word)
+    (ne_eqb 10 w (λ e. false≢true (sym (or_left (w == 10) (list_any is_newline word) h) ∙ is_ten w (sym e))))
   where
     or_left : (a b : Bool) → (a || b) ≡ false → a ≡ false
     or_left true b h = h
@@ -71,13 +78,16 @@ front_at (w ∷ word) [] tail h = ap (λ t. t && bytes_eq (take (length word) ta
 
     is_ten : (n : ℕ) → n ≡ 10 → (n == 10) ≡ true
     is_ten n e = ap (λ m. m == 10) e
-front_at (w ∷ word) (b ∷ line) tail h = ap (λ t. nat_eq b w && t) (front_at word line tail (or_right (w == 10) (list_any is_newline word) h))
+front_at (w ∷ word) (b ∷ line) tail h = ap (λ t. nat_eq b w && t)
+    (front_at word line tail (or_right (w == 10) (list_any is_newline word) h))
   where
     or_right : (a b : Bool) → (a || b) ≡ false → b ≡ false
     or_right true b h = absurd (false≢true (sym h))
     or_right false b h = h
 
-pub begins_line : (word bytes line next : List ℕ) (lines : List (List ℕ)) → list_any is_newline word ≡ false → lines_of bytes ≡ line ∷ next ∷ lines → begins word bytes ≡ begins word line
+pub begins_line : (word bytes line next : List ℕ) (lines : List (List ℕ)) → list_any is_newline word ≡ false
+    → lines_of bytes ≡ line ∷ next ∷ lines → begins word bytes ≡ begins word line
 begins_line word bytes line next lines n e =
-    let whole : bytes ≡ line ++ 10 ∷ join_with_byte 10 (next ∷ lines) = sym (join_with_byte-slice_split 10 bytes) ∙ ap (join_with_byte 10) e in
+    let whole : bytes ≡ line ++ 10 ∷ join_with_byte 10 (next ∷ lines) = sym (join_with_byte-slice_split 10 bytes)
+    ∙ ap (join_with_byte 10) e in
     ap (begins word) whole ∙ front_at word line (join_with_byte 10 (next ∷ lines)) n

@@ -8,14 +8,16 @@ value_from_least n [] = omega arith
 value_from_least n (b ∷ bytes) = let more = value_from_least (n * 10 + (b - 48)) bytes in omega arith
 
 -- one digit more
-value_step : (n k : ℕ) (bytes : List ℕ) → k < length bytes → value_from n (drop k bytes) ≡ value_from (n * 10 + (get_or bytes k 0 - 48)) (drop (suc k) bytes)
+value_step : (n k : ℕ) (bytes : List ℕ) → k < length bytes → value_from n (drop k bytes)
+    ≡ value_from (n * 10 + (get_or bytes k 0 - 48)) (drop (suc k) bytes)
 value_step n k bytes l = ap (value_from n) (drop-cons bytes k 0 l)
 
 not_below : (bound v : ℕ) → bound ≤ v → cond (nat_lt v bound) (Some v) None ≡ None
 not_below bound v l = grind (arith, nat_tests)
 
 -- a number that is not below the bound before its end
-pub number_above : (bound n k : ℕ) (run : List ℕ) → k < length run → has_leading_zero run ≡ false → value_from n (drop k run) ≡ value_from 0 run
+pub number_above : (bound n k : ℕ) (run : List ℕ) → k < length run → has_leading_zero run ≡ false
+    → value_from n (drop k run) ≡ value_from 0 run
     → bound ≤ n * 10 + (get_or run k 0 - 48) → None ≡ number_below bound run
 number_above bound n k run l z rest above =
     let least = value_from_least (n * 10 + (get_or run k 0 - 48)) (drop (suc k) run) in

@@ -13,26 +13,35 @@ use Rattle.answer_reader.proofs.Cutting.{some_left}
 -- ---- a line that the code has read
 
 -- the lines from a line on
-two_lines : (lines : List (List ℕ)) (line : List ℕ) (rest : List (List ℕ)) → lines ≡ line ∷ rest → 0 < length rest → {X : Type 0} (of : List ℕ → Result X AnswerCause) (n : ℕ)
+two_lines : (lines : List (List ℕ)) (line : List ℕ) (rest : List (List ℕ)) → lines ≡ line ∷ rest → 0 < length rest
+    → {X : Type 0} (of : List ℕ → Result X AnswerCause) (n : ℕ)
     → first_line of n lines ≡ go_on (of line) n (λ x. let r : Result (X × List (List ℕ)) At = Ok (x, rest) in r)
 two_lines lines line [] e l of n = absurd (omega arith)
 two_lines lines line (next ∷ rest) e l of n = ap (first_line of n) e
 
-pub line_missing : {X : Type 0} (of : List ℕ → Result X AnswerCause) (n : ℕ) (lines : List (List ℕ)) (left : List ℕ) → lines ≡ left ∷ [] → first_line of n lines ≡ Err (at n CutShort)
+pub line_missing : {X : Type 0} (of : List ℕ → Result X AnswerCause) (n : ℕ) (lines : List (List ℕ)) (left : List ℕ)
+    → lines ≡ left ∷ [] → first_line of n lines ≡ Err (at n CutShort)
 line_missing of n lines left e = ap (first_line of n) e
 
-pub missing_fails : {X : Type 0} (of : List ℕ → Result X AnswerCause) (n : ℕ) (lines : List (List ℕ)) (left : List ℕ) (e : AnswerErr) → e ≡ code.At n CutShort → lines ≡ left ∷ [] → Fails e (first_line of n lines)
-missing_fails of n lines left e is l = subst (λ x. Fails x (first_line of n lines)) (sym is) (line_missing of n lines left l)
+pub missing_fails : {X : Type 0} (of : List ℕ → Result X AnswerCause) (n : ℕ) (lines : List (List ℕ)) (left : List ℕ)
+    (e : AnswerErr) → e ≡ code.At n CutShort → lines ≡ left ∷ [] → Fails e (first_line of n lines)
+missing_fails of n lines left e is l = subst (λ x. Fails x (first_line of n lines)) (sym is)
+    (line_missing of n lines left l)
 
 -- what the code says of a line is what reading it gives
-pub takes_said : {X Y : Type 0} (of : List ℕ → Result X AnswerCause) (seen : Y → X) (old new : Lines) (line : List ℕ) (said : Result Y AnswerCause) (result : Result Y AnswerErr)
+pub takes_said : {X Y : Type 0} (of : List ℕ → Result X AnswerCause) (seen : Y → X) (old new : Lines) (line : List ℕ)
+    (said : Result Y AnswerCause) (result : Result Y AnswerErr)
     → lines_left old ≡ line ∷ lines_left new → new.number ≡ old.number + 1
     → MatchResult said (λ y. of line ≡ Ok (seen y)) (λ cause. of line ≡ Err cause)
     → MatchResult said (λ y. result ≡ Ok y) (λ cause. result ≡ Err (code.At old.number cause))
     → Takes of seen old new result
 takes_said {X} {Y} of seen old new line (Ok y) result lines number is r =
-    subst (Takes of seen old new) (sym r)
-    (two_lines (lines_left old) line (lines_left new) lines (some_left new.rest.now) of old.number ∙ ap (λ s. go_on s old.number (λ x. let q : Result (X × List (List ℕ)) At = Ok (x, lines_left new) in q)) is, number)
+    subst (Takes of seen old new) (sym r) (
+      two_lines (lines_left old) line (lines_left new) lines (some_left new.rest.now) of old.number
+          ∙ ap (λ s. go_on s old.number (λ x. let q : Result (X × List (List ℕ)) At = Ok (x, lines_left new) in q)) is,
+      number,
+    )
 takes_said {X} {Y} of seen old new line (Err cause) result lines number is r =
     subst (Takes of seen old new) (sym r)
-    (two_lines (lines_left old) line (lines_left new) lines (some_left new.rest.now) of old.number ∙ ap (λ s. go_on s old.number (λ x. let q : Result (X × List (List ℕ)) At = Ok (x, lines_left new) in q)) is)
+    (two_lines (lines_left old) line (lines_left new) lines (some_left new.rest.now) of old.number
+    ∙ ap (λ s. go_on s old.number (λ x. let q : Result (X × List (List ℕ)) At = Ok (x, lines_left new) in q)) is)

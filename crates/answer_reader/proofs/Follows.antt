@@ -6,23 +6,30 @@ use Rattle.std.specs.declared.cmp.Ordering.TheVariants.{Less, Equal, Greater}
 use Rattle.std.proofs.lemmas.List.{get_or-map, length-map}
 use Rattle.answer_reader.specs.Orders.{follows}
 
-last_later : {X : Type 0} (y z : X) (ys : List X) (d : X) → get_or (y ∷ z ∷ ys) (length (y ∷ z ∷ ys) - 1) d ≡ get_or (z ∷ ys) (length (z ∷ ys) - 1) d
-last_later y z ys d = let e : length (y ∷ z ∷ ys) - 1 ≡ suc (length (z ∷ ys) - 1) = omega arith in ap (λ k. get_or (y ∷ z ∷ ys) k d) e
+last_later : {X : Type 0} (y z : X) (ys : List X) (d : X) → get_or (y ∷ z ∷ ys) (length (y ∷ z ∷ ys) - 1) d
+    ≡ get_or (z ∷ ys) (length (z ∷ ys) - 1) d
+last_later y z ys d = let e : length (y ∷ z ∷ ys) - 1
+    ≡ suc (length (z ∷ ys) - 1) = omega arith in ap (λ k. get_or (y ∷ z ∷ ys) k d) e
 
-pub follows_last : {X : Type 0} (less : X → X → Bool) (xs : List X) (x d : X) → 0 < length xs → follows less xs x ≡ less (get_or xs (length xs - 1) d) x
+pub follows_last : {X : Type 0} (less : X → X → Bool) (xs : List X) (x d : X) → 0 < length xs → follows less xs x
+    ≡ less (get_or xs (length xs - 1) d) x
 follows_last less [] x d l = absurd (omega arith)
 follows_last less (y ∷ []) x d l = refl
-follows_last less (y ∷ z ∷ ys) x d l = follows_last less (z ∷ ys) x d (omega arith) ∙ ap (λ w. less w x) (sym (last_later y z ys d))
+follows_last less (y ∷ z ∷ ys) x d l = follows_last less (z ∷ ys) x d (omega arith)
+    ∙ ap (λ w. less w x) (sym (last_later y z ys d))
 
 -- the same where the list is told by values
-pub follows_seen : {X Y : Type 0} (seen : Y → X) (less : X → X → Bool) (ys : List Y) (x : X) (last : Y) → 0 < length ys → last ≡ get_or ys (length ys - 1) last
+pub follows_seen : {X Y : Type 0} (seen : Y → X) (less : X → X → Bool) (ys : List Y) (x : X) (last : Y)
+    → 0 < length ys → last ≡ get_or ys (length ys - 1) last
     → follows less (map seen ys) x ≡ less (seen last) x
 follows_seen seen less ys x last l e =
     let n = length-map ys seen in
     follows_last less (map seen ys) x (seen last) (omega arith)
-    ∙ ap (λ w. less w x) (ap (λ k. get_or (map seen ys) (k - 1) (seen last)) n ∙ get_or-map seen ys (length ys - 1) last (seen last) (omega arith) ∙ ap seen (sym e))
+    ∙ ap (λ w. less w x) (ap (λ k. get_or (map seen ys) (k - 1) (seen last)) n
+    ∙ get_or-map seen ys (length ys - 1) last (seen last) (omega arith) ∙ ap seen (sym e))
 
-pub follows_none : {X Y : Type 0} (seen : Y → X) (less : X → X → Bool) (ys : List Y) (x : X) → length ys ≡ 0 → follows less (map seen ys) x ≡ true
+pub follows_none : {X Y : Type 0} (seen : Y → X) (less : X → X → Bool) (ys : List Y) (x : X) → length ys ≡ 0
+    → follows less (map seen ys) x ≡ true
 follows_none seen less [] x e = refl
 follows_none seen less (y ∷ ys) x e = absurd (omega arith)
 

@@ -16,13 +16,14 @@ use Rattle.answer_reader.specs.Decoding.{with_symbol, symbols_from, has_two, clo
 -- ---- a front
 
 pub begins_split : (front bytes : List ℕ) → begins front bytes ≡ true → bytes ≡ front ++ drop (length front) bytes
-begins_split front bytes h = sym (take-append-drop (length front) bytes) ∙ ap (λ f. f ++ drop (length front) bytes) ((bytes_eq-Decides (take (length front) bytes) front).0 h)
+begins_split front bytes h = sym (take-append-drop (length front) bytes)
+    ∙ ap (λ f. f ++ drop (length front) bytes) ((bytes_eq-Decides (take (length front) bytes) front).0 h)
 
-take_front : (front rest : List ℕ) → take (length front) (front ++ rest) ≡ front
+pub take_front : (front rest : List ℕ) → take (length front) (front ++ rest) ≡ front
 take_front [] rest = refl
 take_front (b ∷ front) rest = ap (λ xs. b ∷ xs) (take_front front rest)
 
-drop_front : (front rest : List ℕ) → drop (length front) (front ++ rest) ≡ rest
+pub drop_front : (front rest : List ℕ) → drop (length front) (front ++ rest) ≡ rest
 drop_front [] rest = refl
 drop_front (b ∷ front) rest = drop_front front rest
 
@@ -31,11 +32,95 @@ begins_front front rest = (bytes_eq-Decides (take (length front) (front ++ rest)
 
 -- ---- each text of a set is decoded as that set
 
-abbrev IsDecoded : ℕ → Type 0
+abbrev pub IsDecoded : ℕ → Type 0
 IsDecoded set = (rest : List ℕ) → decoded (set_text set ++ rest) ≡ Some (set, rest)
 
-each_decoded : AllByRecursion IsDecoded (range_with_len 1 31)
-each_decoded = (λ rest. refl, (λ rest. refl, (λ rest. refl, (λ rest. refl, (λ rest. refl, (λ rest. refl, (λ rest. refl, (λ rest. refl, (λ rest. refl, (λ rest. refl, (λ rest. refl, (λ rest. refl, (λ rest. refl, (λ rest. refl, (λ rest. refl, (λ rest. refl, (λ rest. refl, (λ rest. refl, (λ rest. refl, (λ rest. refl, (λ rest. refl, (λ rest. refl, (λ rest. refl, (λ rest. refl, (λ rest. refl, (λ rest. refl, (λ rest. refl, (λ rest. refl, (λ rest. refl, (λ rest. refl, (λ rest. refl, tt)))))))))))))))))))))))))))))))
+pub each_decoded : AllByRecursion IsDecoded (range_with_len 1 31)
+each_decoded = (
+  λ rest. refl,
+  (
+    λ rest. refl,
+    (
+      λ rest. refl,
+      (
+        λ rest. refl,
+        (
+          λ rest. refl,
+          (
+            λ rest. refl,
+            (
+              λ rest. refl,
+              (
+                λ rest. refl,
+                (
+                  λ rest. refl,
+                  (
+                    λ rest. refl,
+                    (
+                      λ rest. refl,
+                      (
+                        λ rest. refl,
+                        (
+                          λ rest. refl,
+                          (
+                            λ rest. refl,
+                            (
+                              λ rest. refl,
+                              (
+                                λ rest. refl,
+                                (
+                                  λ rest. refl,
+                                  (
+                                    λ rest. refl,
+                                    (
+                                      λ rest. refl,
+                                      (
+                                        λ rest. refl,
+                                        (
+                                          λ rest. refl,
+                                          (
+                                            λ rest. refl,
+                                            (
+                                              λ rest. refl,
+                                              (
+                                                λ rest. refl,
+                                                (
+                                                  λ rest. refl,
+                                                  (
+                                                    λ rest. refl,
+                                                    (
+                                                      λ rest. refl,
+                                                      (
+                                                        λ rest. refl,
+                                                        (λ rest. refl, (λ rest. refl, (λ rest. refl, tt))),
+                                                      ),
+                                                    ),
+                                                  ),
+                                                ),
+                                              ),
+                                            ),
+                                          ),
+                                        ),
+                                      ),
+                                    ),
+                                  ),
+                                ),
+                              ),
+                            ),
+                          ),
+                        ),
+                      ),
+                    ),
+                  ),
+                ),
+              ),
+            ),
+          ),
+        ),
+      ),
+    ),
+  ),
+)
 
 -- ---- the first number that passes
 
@@ -44,11 +129,13 @@ found_at : (P : ℕ → Type 0) (test : ℕ → Bool) (y : ℕ) (ys : List ℕ) 
 found_at P test y ys x true e p rest h = let same : y ≡ x = cc in (sym (ap test same) ∙ e, subst P same p)
 found_at P test y ys x false e p rest h = rest h
 
-found : (P : ℕ → Type 0) (test : ℕ → Bool) (xs : List ℕ) (x : ℕ) → AllByRecursion P xs → find test xs ≡ Some x → (test x ≡ true) × P x
+found : (P : ℕ → Type 0) (test : ℕ → Bool) (xs : List ℕ) (x : ℕ) → AllByRecursion P xs → find test xs ≡ Some x
+    → (test x ≡ true) × P x
 found P test [] x a h = absurd (let n : ⊥ = cc in n)
 found P test (y ∷ ys) x a h = found_at P test y ys x (test y) refl a.0 (found P test ys x a.1) h
 
-none_at : (test : ℕ → Bool) (a n x : ℕ) (t : Bool) → test a ≡ t → (a + 1 ≤ x → find test (range_with_len (a + 1) n) ≡ None → test x ≡ false)
+none_at : (test : ℕ → Bool) (a n x : ℕ) (t : Bool) → test a ≡ t
+    → (a + 1 ≤ x → find test (range_with_len (a + 1) n) ≡ None → test x ≡ false)
     → cond t (Some a) (find test (range_with_len (a + 1) n)) ≡ None → a ≤ x → test x ≡ false
 none_at test a n x true e rest h l = absurd (let n : ⊥ = cc in n)
 none_at test a n x false e rest h l = ⊎_elim
@@ -58,7 +145,8 @@ none_at test a n x false e rest h l = ⊎_elim
 
 none_passes : (test : ℕ → Bool) (a n x : ℕ) → find test (range_with_len a n) ≡ None → a ≤ x → x < a + n → test x ≡ false
 none_passes test a zero x h l u = absurd (omega arith)
-none_passes test a (suc n) x h l u = none_at test a n x (test a) refl (λ k g. none_passes test (a + 1) n x g k (omega arith)) h l
+none_passes test a (suc n) x h l u = none_at test a n x (test a) refl
+    (λ k g. none_passes test (a + 1) n x g k (omega arith)) h l
 
 -- ---- what is decoded stands at the front
 
@@ -77,7 +165,8 @@ record Took (bit byte : ℕ) (before after : ℕ × List ℕ) : Type 0 where
   set : after.0 ≡ before.0 + cond flag bit 0
   text : before.1 ≡ taken flag byte ++ after.1
 
-took_at : (bit byte set b : ℕ) (bytes : List ℕ) (t : Bool) → (b == byte) ≡ t → Took bit byte (set, b ∷ bytes) (cond t (set + bit, bytes) (set, b ∷ bytes))
+took_at : (bit byte set b : ℕ) (bytes : List ℕ) (t : Bool) → (b == byte) ≡ t
+    → Took bit byte (set, b ∷ bytes) (cond t (set + bit, bytes) (set, b ∷ bytes))
 took_at bit byte set b bytes true e = record { flag = true; set = refl; text = ap (λ x. x ∷ bytes) (eqb-true b byte e) }
 took_at bit byte set b bytes false e = record { flag = false; set = omega arith; text = refl }
 
@@ -115,7 +204,9 @@ symbols bytes =
       e = t5.flag;
       set = omega (arith, t1.set, t2.set, t3.set, t4.set, t5.set);
       text = t1.text
-          ∙ ap (λ x. taken t1.flag 45 ++ x) (t2.text ∙ ap (λ x. taken t2.flag 43 ++ x) (t3.text ∙ ap (λ x. taken t3.flag 91 ++ x) (t4.text ∙ ap (λ x. taken t4.flag 93 ++ x) t5.text)))
+          ∙ ap (λ x. taken t1.flag 45 ++ x)
+          (t2.text ∙ ap (λ x. taken t2.flag 43 ++ x)
+          (t3.text ∙ ap (λ x. taken t3.flag 91 ++ x) (t4.text ∙ ap (λ x. taken t4.flag 93 ++ x) t5.text)))
           ∙ sym (simp append_assoc);
     }
 
@@ -138,15 +229,18 @@ at_both p false h = and_right (p true) (p false) h
 -- the text in braces is that of the set
 abbrev braces : Bool → Bool → Bool → Bool → Bool → Bool
 braces a b c d e = not (has_two (number_of a b c d e))
-    || (bytes_eq (set_text (number_of a b c d e)) (123 ∷ (text_of a b c d e ++ 125 ∷ [])) && nat_le 1 (number_of a b c d e) && nat_lt (number_of a b c d e) 32)
+    || (bytes_eq (set_text (number_of a b c d e)) (123 ∷ (text_of a b c d e ++ 125 ∷ [])) && nat_le 1
+    (number_of a b c d e) && nat_lt (number_of a b c d e) 32)
 
 all_braces : both (λ a. both (λ b. both (λ c. both (λ d. both (λ e. braces a b c d e))))) ≡ true
 unfolding both
 all_braces = refl
 
 in_braces : (a b c d e : Bool) → braces a b c d e ≡ true
-in_braces a b c d e = at_both (braces a b c d) e (at_both (λ d. both (braces a b c d)) d (at_both (λ c. both (λ d. both (braces a b c d))) c
-    (at_both (λ b. both (λ c. both (λ d. both (braces a b c d)))) b (at_both (λ a. both (λ b. both (λ c. both (λ d. both (braces a b c d))))) a all_braces))))
+in_braces a b c d e = at_both (braces a b c d) e
+    (at_both (λ d. both (braces a b c d)) d (at_both (λ c. both (λ d. both (braces a b c d))) c
+    (at_both (λ b. both (λ c. both (λ d. both (braces a b c d)))) b
+    (at_both (λ a. both (λ b. both (λ c. both (λ d. both (braces a b c d))))) a all_braces))))
 
 -- a set from 1 to 31 whose text stands at the front
 record IsFront (bytes : List ℕ) (front : ℕ × List ℕ) : Type 0 where
@@ -159,23 +253,36 @@ record IsBraced (a b c d e : Bool) : Type 0 where
   most : number_of a b c d e < 32
   text : set_text (number_of a b c d e) ≡ 123 ∷ (text_of a b c d e ++ 125 ∷ [])
 
-braced_at : (n : ℕ) (t : Bool) (text braced : List ℕ) → (not t || (bytes_eq text braced && nat_le 1 n && nat_lt n 32)) ≡ true → t ≡ true → (text ≡ braced) × ((1 ≤ n) × (n < 32))
+braced_at : (n : ℕ) (t : Bool) (text braced : List ℕ) → (not t || (bytes_eq text braced && nat_le 1 n && nat_lt n 32))
+    ≡ true → t ≡ true → (text ≡ braced) × ((1 ≤ n) × (n < 32))
 braced_at n true text braced h e =
-    let same = and_left (bytes_eq text braced) (nat_le 1 n && nat_lt n 32) (and_first (bytes_eq text braced) (nat_le 1 n) (nat_lt n 32) h) in
-    let rest = and_right (bytes_eq text braced) (nat_le 1 n && nat_lt n 32) (and_first (bytes_eq text braced) (nat_le 1 n) (nat_lt n 32) h) in
-    ((bytes_eq-Decides text braced).0 same, (leb-true 1 n (and_left (nat_le 1 n) (nat_lt n 32) rest), ltb-true n 32 (and_right (nat_le 1 n) (nat_lt n 32) rest)))
+    let same = and_left (bytes_eq text braced) (nat_le 1 n && nat_lt n 32)
+    (and_first (bytes_eq text braced) (nat_le 1 n) (nat_lt n 32) h) in
+    let rest = and_right (bytes_eq text braced) (nat_le 1 n && nat_lt n 32)
+    (and_first (bytes_eq text braced) (nat_le 1 n) (nat_lt n 32) h) in (
+      (bytes_eq-Decides text braced).0 same,
+      (
+        leb-true 1 n (and_left (nat_le 1 n) (nat_lt n 32) rest),
+        ltb-true n 32
+            (and_right (nat_le 1 n) (nat_lt n 32) rest),
+      ),
+    )
   where
     and_first : (x y z : Bool) → (x && y && z) ≡ true → (x && (y && z)) ≡ true
     and_first true y z h = h
     and_first false y z h = h
 braced_at n false text braced h e = absurd (false≢true e)
 
-closed_at : (bytes : List ℕ) (n b : ℕ) (rest : List ℕ) (front : ℕ × List ℕ) (s : Symbols bytes (n, b ∷ rest)) (t : Bool) → (has_two n && (b == 125)) ≡ t
+closed_at : (bytes : List ℕ) (n b : ℕ) (rest : List ℕ) (front : ℕ × List ℕ) (s : Symbols bytes (n, b ∷ rest))
+    (t : Bool) → (has_two n && (b == 125)) ≡ t
     → cond t (Some (n, rest)) None ≡ Some front → IsFront (123 ∷ bytes) front
 closed_at bytes n b rest front s true e h =
-    let two : has_two (number_of s.a s.b s.c s.d s.e) ≡ true = sym (ap has_two s.set) ∙ and_left (has_two n) (b == 125) e in
+    let two : has_two (number_of s.a s.b s.c s.d s.e) ≡ true = sym (ap has_two s.set)
+    ∙ and_left (has_two n) (b == 125) e in
     let brace : b ≡ 125 = eqb-true b 125 (and_right (has_two n) (b == 125) e) in
-    let f = braced_at (number_of s.a s.b s.c s.d s.e) (has_two (number_of s.a s.b s.c s.d s.e)) (set_text (number_of s.a s.b s.c s.d s.e)) (123 ∷ (text_of s.a s.b s.c s.d s.e ++ 125 ∷ [])) (in_braces s.a s.b s.c s.d s.e) two in
+    let f = braced_at (number_of s.a s.b s.c s.d s.e) (has_two (number_of s.a s.b s.c s.d s.e))
+    (set_text (number_of s.a s.b s.c s.d s.e)) (123 ∷ (text_of s.a s.b s.c s.d s.e ++ 125 ∷ []))
+    (in_braces s.a s.b s.c s.d s.e) two in
     let is : (n, rest) ≡ front = cc in
     subst (IsFront (123 ∷ bytes)) is (record {
       least = omega (arith, f.1.0, s.set);
@@ -186,7 +293,8 @@ closed_at bytes n b rest front s true e h =
     })
 closed_at bytes n b rest front s false e h = absurd (let n : ⊥ = cc in n)
 
-closed : (bytes : List ℕ) (after front : ℕ × List ℕ) → Symbols bytes after → closed_by after ≡ Some front → IsFront (123 ∷ bytes) front
+closed : (bytes : List ℕ) (after front : ℕ × List ℕ) → Symbols bytes after → closed_by after ≡ Some front
+    → IsFront (123 ∷ bytes) front
 closed bytes (n, []) front s h = absurd (let n : ⊥ = cc in n)
 closed bytes (n, b ∷ rest) front s h = closed_at bytes n b rest front s (has_two n && (b == 125)) refl h
 
@@ -197,7 +305,8 @@ single Start = (refl, (omega arith, omega arith))
 single End = (refl, (omega arith, omega arith))
 single Both = (refl, (omega arith, omega arith))
 
-sym_here : (b : ℕ) (x : Sym) (xs : List Sym) (s : Sym) (t : Bool) → (byte_of x == b) ≡ t → (find (λ y. byte_of y == b) xs ≡ Some s → byte_of s ≡ b)
+sym_here : (b : ℕ) (x : Sym) (xs : List Sym) (s : Sym) (t : Bool) → (byte_of x == b) ≡ t
+    → (find (λ y. byte_of y == b) xs ≡ Some s → byte_of s ≡ b)
     → cond t (Some x) (find (λ y. byte_of y == b) xs) ≡ Some s → byte_of s ≡ b
 sym_here b x xs s true e rest h = let same : x ≡ s = cc in sym (ap byte_of same) ∙ eqb-true (byte_of x) b e
 sym_here b x xs s false e rest h = rest h
@@ -206,16 +315,25 @@ sym_at : (b : ℕ) (xs : List Sym) (s : Sym) → find (λ x. byte_of x == b) xs 
 sym_at b [] s h = absurd (let n : ⊥ = cc in n)
 sym_at b (x ∷ xs) s h = sym_here b x xs s (byte_of x == b) refl (sym_at b xs s) h
 
-alone_front : (b : ℕ) (bytes : List ℕ) (o : Option Sym) (front : ℕ × List ℕ) → sym_of b ≡ o → option_map (alone bytes) o ≡ Some front → IsFront (b ∷ bytes) front
+alone_front : (b : ℕ) (bytes : List ℕ) (o : Option Sym) (front : ℕ × List ℕ) → sym_of b ≡ o
+    → option_map (alone bytes) o ≡ Some front → IsFront (b ∷ bytes) front
 alone_front b bytes None front e h = absurd (let n : ⊥ = cc in n)
 alone_front b bytes (Some s) front e h =
     let is : (single_set s, bytes) ≡ front = cc in
     let f = single s in
-    subst (IsFront (b ∷ bytes)) is (record { least = f.1.0; most = f.1.1; text = ap (λ x. x ∷ bytes) (sym (sym_at b all_symbols s e)) ∙ ap (λ x. x ++ bytes) (sym f.0) })
+    subst (IsFront (b ∷ bytes)) is
+    (record {
+      least = f.1.0;
+      most = f.1.1;
+      text = ap (λ x. x ∷ bytes) (sym (sym_at b all_symbols s e))
+          ∙ ap (λ x. x ++ bytes) (sym f.0);
+    })
 
 decoded_at : (b : ℕ) (bytes : List ℕ) (front : ℕ × List ℕ) (t : Bool) → (b == 123) ≡ t
-    → cond t (closed_by (symbols_from bytes)) (option_map (alone bytes) (sym_of b)) ≡ Some front → IsFront (b ∷ bytes) front
-decoded_at b bytes front true e h = subst (λ x. IsFront (x ∷ bytes) front) (sym (eqb-true b 123 e)) (closed bytes (symbols_from bytes) front (symbols bytes) h)
+    → cond t (closed_by (symbols_from bytes)) (option_map (alone bytes) (sym_of b)) ≡ Some front
+    → IsFront (b ∷ bytes) front
+decoded_at b bytes front true e h = subst (λ x. IsFront (x ∷ bytes) front) (sym (eqb-true b 123 e))
+    (closed bytes (symbols_from bytes) front (symbols bytes) h)
 decoded_at b bytes front false e h = alone_front b bytes (sym_of b) front refl h
 
 stands : (bytes : List ℕ) (front : ℕ × List ℕ) → decoded bytes ≡ Some front → IsFront bytes front

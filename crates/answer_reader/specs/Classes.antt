@@ -19,4 +19,5 @@ front_of bytes = option_map (behind_set bytes) (front_set bytes)
 abbrev pub class_of : ℕ → List ℕ → Option (List ℕ)
 class_of zero [] = Some []
 class_of zero (b ∷ bytes) = None
-class_of (suc width) bytes = option_and_then (λ front. option_map (λ sets. front.0 ∷ sets) (class_of width front.1)) (front_of bytes)
+class_of (suc width) bytes = option_and_then (λ front. option_map (λ sets. front.0 ∷ sets) (class_of width front.1))
+    (front_of bytes)

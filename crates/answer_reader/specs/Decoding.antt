@@ -16,7 +16,8 @@ with_symbol bit byte (set, b ∷ bytes) = if b == byte then (set + bit, bytes) e
 
 -- the symbols at the front, in their order
 abbrev pub symbols_from : List ℕ → ℕ × List ℕ
-symbols_from bytes = with_symbol 16 124 (with_symbol 8 93 (with_symbol 4 91 (with_symbol 2 43 (with_symbol 1 45 (0, bytes)))))
+symbols_from bytes = with_symbol 16 124
+    (with_symbol 8 93 (with_symbol 4 91 (with_symbol 2 43 (with_symbol 1 45 (0, bytes)))))
 
 -- two symbols or more
 abbrev pub has_two : ℕ → Bool

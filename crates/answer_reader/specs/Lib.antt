@@ -14,3 +14,7 @@ pub mod Stages
 pub mod States
 pub mod Left
 pub mod Within
+pub mod Timelines
+pub mod Reading
+pub mod Heads
+pub mod Written

@@ -16,12 +16,14 @@ header_of line = if bytes_eq line (codes "answer 1") then Ok tt else Err BadHead
 
 -- `counts N N ..`: the words behind `counts`
 abbrev pub counts_words : List ℕ → Option (List (List ℕ))
-counts_words line = if bytes_eq line (codes "counts") then Some [] else option_map (slice_split is_space) (behind (codes "counts ") line)
+counts_words line = if bytes_eq line (codes "counts") then Some [] else option_map (slice_split is_space)
+    (behind (codes "counts ") line)
 
 abbrev pub counts_said : ℕ → Option (List (List ℕ)) → Result (List ℕ) AnswerCause
 counts_said constraints None = Err BadLine
 counts_said constraints (Some runs) =
-    if (length runs == constraints) && list_all is_run runs then ok_or (numbers_below 1000000001 runs) BadNumber else Err BadLine
+    if (length runs == constraints) && list_all is_run runs then ok_or (numbers_below 1000000001 runs) BadNumber else
+    Err BadLine
 
 -- one number for each constraint
 abbrev pub counts_of : ℕ → List ℕ → Result (List ℕ) AnswerCause
@@ -61,7 +63,8 @@ pub record StateWords : Type 0 where
 
 abbrev pub final_words : List ℕ → Option (List ℕ × List ℕ) → Option StateWords
 final_words rest None = Some (record { node = rest; accepting = false })
-final_words rest (Some parts) = if bytes_eq parts.1 (codes "final") then Some (record { node = parts.0; accepting = true }) else None
+final_words rest (Some parts) = if bytes_eq parts.1 (codes "final") then Some
+    (record { node = parts.0; accepting = true }) else None
 
 -- `state NODE` or `state NODE final`
 abbrev pub state_words : List ℕ → Option StateWords
@@ -72,7 +75,8 @@ state_with w node = record { node = node; accepting = w.accepting; arcs = [] }
 
 abbrev pub state_said : ℕ → Option StateWords → Result StateValue AnswerCause
 state_said nodes None = Err BadLine
-state_said nodes (Some w) = if is_run w.node then ok_or (option_map (state_with w) (number_below nodes w.node)) BadNumber else Err BadLine
+state_said nodes (Some w) = if is_run w.node then ok_or (option_map (state_with w) (number_below nodes w.node))
+    BadNumber else Err BadLine
 
 -- a state that is a node of the last stage
 abbrev pub state_of : ℕ → List ℕ → Result StateValue AnswerCause
@@ -83,7 +87,8 @@ abbrev pub arc_words : List ℕ → Option (List ℕ × List ℕ)
 arc_words line = option_and_then (cut 32) (behind (codes "arc ") line)
 
 abbrev pub arc_with : ℕ → ℕ → List ℕ → Result ArcValue AnswerCause
-arc_with width target text = ok_or (option_map (λ sets. record { target = target; sets = sets }) (class_of width text)) BadClass
+arc_with width target text = ok_or
+    (option_map (λ sets. record { target = target; sets = sets }) (class_of width text)) BadClass
 
 abbrev pub arc_to : ℕ → Option ℕ → List ℕ → Result ArcValue AnswerCause
 arc_to width None text = Err BadNumber

@@ -37,12 +37,14 @@ with_potential place opened parts = record { place = place; opened = opened; pha
 -- PLACE and OPEN end at the first slashes, PHASES at the first space behind them
 abbrev pub node_words : List ℕ → Option NodeWords
 node_words line = option_and_then
-    (λ kind. option_and_then (λ p. option_and_then (λ q. option_map (with_potential p.0 q.0) (cut 32 q.1)) (cut 47 p.1)) (cut 47 kind))
+    (λ kind. option_and_then (λ p. option_and_then (λ q. option_map (with_potential p.0 q.0) (cut 32 q.1))
+    (cut 47 p.1)) (cut 47 kind))
     (behind (codes "node ") line)
 
 -- runs of digits, and OPEN and PHASES of the widths that the grammar gives
 abbrev pub are_node_words : ℕ → ℕ → NodeWords → Bool
-are_node_words free stretches w = is_run w.place && are_each is_open_byte free w.opened && are_each is_phase_byte stretches w.phases && is_run w.potential
+are_node_words free stretches w = is_run w.place && are_each is_open_byte free w.opened && are_each is_phase_byte
+    stretches w.phases && is_run w.potential
 
 abbrev pub node_by : NodeWords → ℕ → ℕ → NodeValue
 node_by w place potential = record {
@@ -52,11 +54,13 @@ node_by w place potential = record {
 
 -- PLACE is at most the form's number of columns
 abbrev pub node_with : ℕ → NodeWords → Option NodeValue
-node_with columns w = option_and_then (λ place. option_map (node_by w place) (number_below 1000000001 w.potential)) (number_below (columns + 1) w.place)
+node_with columns w = option_and_then (λ place. option_map (node_by w place) (number_below 1000000001 w.potential))
+    (number_below (columns + 1) w.place)
 
 abbrev pub node_said : ℕ → ℕ → ℕ → Option NodeWords → Result NodeValue AnswerCause
 node_said free stretches columns None = Err BadLine
-node_said free stretches columns (Some w) = if are_node_words free stretches w then ok_or (node_with columns w) BadNumber else Err BadLine
+node_said free stretches columns (Some w) = if are_node_words free stretches w then ok_or (node_with columns w)
+    BadNumber else Err BadLine
 
 abbrev pub node_of : ℕ → ℕ → ℕ → List ℕ → Result NodeValue AnswerCause
 node_of free stretches columns line = node_said free stretches columns (node_words line)

@@ -27,4 +27,5 @@ number_below bound run = if has_leading_zero run then None else
 -- the numbers of runs, where each of them has one
 abbrev pub numbers_below : ℕ → List (List ℕ) → Option (List ℕ)
 numbers_below bound [] = Some []
-numbers_below bound (run ∷ runs) = option_and_then (λ n. option_map (λ ns. n ∷ ns) (numbers_below bound runs)) (number_below bound run)
+numbers_below bound (run ∷ runs) = option_and_then (λ n. option_map (λ ns. n ∷ ns) (numbers_below bound runs))
+    (number_below bound run)

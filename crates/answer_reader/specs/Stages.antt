@@ -38,7 +38,8 @@ is_automaton stages line = not (is_empty stages) && begins (codes "automaton ") 
 
 -- a node in its place among those of its stage
 abbrev pub next_node : Shape → ℕ → ℕ → List NodeValue → List ℕ → Result NodeValue AnswerCause
-next_node shape columns stage nodes line = in_order node_less nodes (node_of (free_count shape) (stretch_count shape stage) columns line)
+next_node shape columns stage nodes line = in_order node_less nodes
+    (node_of (free_count shape) (stretch_count shape stage) columns line)
 
 -- What is read of the stages, how many states are to come, and the lines behind, the first of which
 -- has a number.
@@ -49,7 +50,8 @@ pub record StagesRead : Type 0 where
   pub lines : List (List ℕ)
 
 abbrev pub stages_read : List (List NodeValue) → ℕ → List (List ℕ) → ℕ → Result StagesRead At
-stages_read stages number lines states = Ok (record { stages = stages; states = states; number = number; lines = lines })
+stages_read stages number lines states = Ok
+    (record { stages = stages; states = states; number = number; lines = lines })
 
 -- the lines from number n on, for a form with so many columns
 abbrev pub stages_from : Shape → ℕ → StagePlace → ℕ → List (List ℕ) → Result StagesRead At
@@ -57,6 +59,8 @@ stages_from shape columns place n [] = Err (at n CutShort)
 stages_from shape columns place n (left ∷ []) = Err (at n CutShort)
 stages_from shape columns (behind_stages stages) n (line ∷ next ∷ lines) = if is_automaton stages line
     then go_on (automaton_of (last_count stages) line) n (stages_read stages (n + 1) (next ∷ lines))
-    else go_on (stage_of (length shape.phases.items) (length stages) line) n (λ nodes. stages_from shape columns (with_nodes stages nodes []) (n + 1) (next ∷ lines))
+    else go_on (stage_of (length shape.phases.items) (length stages) line) n
+    (λ nodes. stages_from shape columns (with_nodes stages nodes []) (n + 1) (next ∷ lines))
 stages_from shape columns (in_stage stages more nodes) n (line ∷ next ∷ lines) =
-    go_on (next_node shape columns (length stages) nodes line) n (λ node. stages_from shape columns (with_nodes stages more (nodes ++ node ∷ [])) (n + 1) (next ∷ lines))
+    go_on (next_node shape columns (length stages) nodes line) n
+    (λ node. stages_from shape columns (with_nodes stages more (nodes ++ node ∷ [])) (n + 1) (next ∷ lines))

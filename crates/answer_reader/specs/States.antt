@@ -29,9 +29,11 @@ at_end states n ([] ∷ []) = Ok states
 at_end states n _ = Err (at n ExtraBytes)
 
 -- behind the arcs of a state comes the next state, or the end behind the last
-abbrev pub state_or_end : ℕ → ℕ → List StateValue → ℕ → List ℕ → List (List ℕ) → (StatePlace → Result (List StateValue) At) → Result (List StateValue) At
+abbrev pub state_or_end : ℕ → ℕ → List StateValue → ℕ → List ℕ → List (List ℕ)
+    → (StatePlace → Result (List StateValue) At) → Result (List StateValue) At
 state_or_end nodes zero states n line lines go = go_on (end_of line) n (λ done. at_end states (n + 1) lines)
-state_or_end nodes (suc more) states n line lines go = go_on (next_state nodes states line) n (λ state. go (in_state more states state))
+state_or_end nodes (suc more) states n line lines go = go_on (next_state nodes states line) n
+    (λ state. go (in_state more states state))
 
 -- the lines from number n on, where the last stage has so many nodes
 abbrev pub states_from : ℕ → ℕ → StatePlace → ℕ → List (List ℕ) → Result (List StateValue) At
@@ -40,5 +42,7 @@ states_from width nodes place n (left ∷ []) = Err (at n CutShort)
 states_from width nodes (behind_states more states) n (line ∷ next ∷ lines) =
     state_or_end nodes more states n line (next ∷ lines) (λ place. states_from width nodes place (n + 1) (next ∷ lines))
 states_from width nodes (in_state more states state) n (line ∷ next ∷ lines) = if begins (codes "arc ") line
-    then go_on (next_arc width nodes state.arcs line) n (λ arc. states_from width nodes (in_state more states (with_arc state arc)) (n + 1) (next ∷ lines))
-    else state_or_end nodes more (states ++ state ∷ []) n line (next ∷ lines) (λ place. states_from width nodes place (n + 1) (next ∷ lines))
+    then go_on (next_arc width nodes state.arcs line) n
+    (λ arc. states_from width nodes (in_state more states (with_arc state arc)) (n + 1) (next ∷ lines))
+    else state_or_end nodes more (states ++ state ∷ []) n line (next ∷ lines)
+    (λ place. states_from width nodes place (n + 1) (next ∷ lines))

@@ -13,7 +13,9 @@ use answer_text::ArcLine;
 
 /// The number that a word writes, below a bound.
 fn number_said(bound: u32, word: Option<&[u8]>) -> Result<u32, AnswerCause>
-    ensures said { MatchResult result (λ n. number_said bound (option_map part_seen word.entry) ≡ Ok n) (λ cause. number_said bound (option_map part_seen word.entry) ≡ Err cause) }
+    ensures said { MatchResult result
+        (λ n. number_said bound (option_map part_seen word.entry) ≡ Ok n)
+        (λ cause. number_said bound (option_map part_seen word.entry) ≡ Err cause) }
     ensures below { IfOk result (λ n. n < bound) }
 {
     let Some(word) = word else {
@@ -47,7 +49,8 @@ fn is_number(number: u32, said: Option<u32>) -> bool
 /// How many nodes a line `stage NUMBER NODES` says, where the stage has this number, and there are
 /// so many stages at most.
 pub(crate) fn stage_of(stages: u32, next: u32, line: &[u8]) -> Result<u32, AnswerCause>
-    ensures said { MatchResult result (λ n. stage_of stages next line.now ≡ Ok n) (λ cause. stage_of stages next line.now ≡ Err cause) }
+    ensures said { MatchResult result (λ n. stage_of stages next line.now ≡ Ok n)
+        (λ cause. stage_of stages next line.now ≡ Err cause) }
     ensures few { IfOk result (λ n. n ≤ 65536) }
     ensures there { IfOk result (λ n. next < stages) }
 {
@@ -69,7 +72,8 @@ pub(crate) fn stage_of(stages: u32, next: u32, line: &[u8]) -> Result<u32, Answe
 /// How many states a line `automaton STATES` says, which are at most so many as there are nodes.
 pub(crate) fn automaton_of(nodes: u32, line: &[u8]) -> Result<u32, AnswerCause>
     requires { nodes ≤ 65536 }
-    ensures said { MatchResult result (λ n. automaton_of nodes line.now ≡ Ok n) (λ cause. automaton_of nodes line.now ≡ Err cause) }
+    ensures said { MatchResult result (λ n. automaton_of nodes line.now ≡ Ok n)
+        (λ cause. automaton_of nodes line.now ≡ Err cause) }
     ensures few { IfOk result (λ n. n ≤ nodes) }
 {
     number_said(nodes + 1, behind(b"automaton ", line))
@@ -107,7 +111,8 @@ fn state_words(line: &[u8]) -> Option<StateWords<'_>>
 /// What a line of a state says: the number of its node, of which there are so many, and whether it is
 /// final.
 pub(crate) fn state_of(nodes: u32, line: &[u8]) -> Result<(u32, bool), AnswerCause>
-    ensures said { MatchResult result (λ state. state_of nodes line.now ≡ Ok (bare_state state)) (λ cause. state_of nodes line.now ≡ Err cause) }
+    ensures said { MatchResult result (λ state. state_of nodes line.now ≡ Ok (bare_state state))
+        (λ cause. state_of nodes line.now ≡ Err cause) }
     ensures there { IfOk result (λ state. state.0 < nodes) }
 {
     let Some(words) = state_words(line) else {
@@ -133,7 +138,8 @@ fn arc_words(line: &[u8]) -> Option<(&[u8], &[u8])>
 pub(crate) fn arc_of(width: u32, nodes: u32, line: &[u8]) -> Result<ArcLine, AnswerCause>
     requires some { 1 ≤ width }
     requires few { width ≤ 12 }
-    ensures said { MatchResult result (λ arc. arc_of width nodes line.now ≡ Ok (arc_value arc)) (λ cause. arc_of width nodes line.now ≡ Err cause) }
+    ensures said { MatchResult result (λ arc. arc_of width nodes line.now ≡ Ok (arc_value arc))
+        (λ cause. arc_of width nodes line.now ≡ Err cause) }
     ensures within { IfOk result (IsArcWithin width nodes) }
 {
     let Some((target, text)) = arc_words(line) else {

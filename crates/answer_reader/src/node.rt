@@ -80,7 +80,8 @@ fn kind_of(place: u32, open_text: &[u8], phase_text: &[u8]) -> Kind
     requires few_free { length open_text.now ≤ 12 }
     requires few_stretches { length phase_text.now ≤ 24 }
     ensures place { result.place ≡ place }
-    ensures opened { open_tiers (length open_text.now) result.opened ≡ map (λ b. b == 43) open_text.now }
+    ensures opened { open_tiers (length open_text.now) result.opened
+        ≡ map (λ b. b == 43) open_text.now }
     ensures phases { phases (length phase_text.now) result ≡ map phase_of phase_text.now }
     ensures free { result.opened < 2 ^ length open_text.now }
     ensures stretches { AreStretchesBelow (length phase_text.now) result }
@@ -100,11 +101,13 @@ fn node_with(columns: u32, words: &NodeWords<'_>) -> Option<Node>
     requires potential { is_run words.now.potential.now ≡ true }
     requires few_free { length words.now.opened.now ≤ 12 }
     requires few_stretches { length words.now.phases.now ≤ 24 }
-    ensures node { option_map (node_seen (length words.now.opened.now) (length words.now.phases.now)) result ≡ node_with columns (words_seen words.now) }
+    ensures node { option_map (node_seen (length words.now.opened.now)
+        (length words.now.phases.now)) result ≡ node_with columns (words_seen words.now) }
     ensures place { IfSome result (λ node. node.kind.place ≤ columns) }
     ensures potential { IfSome result (λ node. node.potential ≤ 1000000000) }
     ensures free { IfSome result (λ node. node.kind.opened < 2 ^ length words.now.opened.now) }
-    ensures stretches { IfSome result (λ node. AreStretchesBelow (length words.now.phases.now) node.kind) }
+    ensures stretches { IfSome result
+        (λ node. AreStretchesBelow (length words.now.phases.now) node.kind) }
 {
     let place = number_below(columns + 1, words.place)?;
     let potential = number_below(1_000_000_001, words.potential)?;
@@ -130,8 +133,10 @@ pub(crate) fn node_of(
     requires columns { columns ≤ 64 }
     requires stage { stage < length shape.now.phases.items }
     ensures said { MatchResult result
-        (λ node. node_of (free_count shape.now) (stretch_count shape.now stage) columns line.now ≡ Ok (node_value shape.now stage node))
-        (λ cause. node_of (free_count shape.now) (stretch_count shape.now stage) columns line.now ≡ Err cause) }
+        (λ node. node_of (free_count shape.now) (stretch_count shape.now stage) columns line.now
+        ≡ Ok (node_value shape.now stage node))
+        (λ cause. node_of (free_count shape.now) (stretch_count shape.now stage) columns line.now
+        ≡ Err cause) }
     ensures within { IfOk result (IsNodeWithin shape.now columns stage) }
 {
     let Some(words) = node_words(line) else {

@@ -5,7 +5,8 @@ use crate::answer_err::{AnswerCause, AnswerErr};
 
 /// What a line says, where a cause becomes the error of this line.
 pub(crate) fn on_line<T>(line: u32, said: Result<T, AnswerCause>) -> Result<T, AnswerErr>
-    ensures { MatchResult said (λ value. result ≡ Ok value) (λ cause. result ≡ Err (At line cause)) }
+    ensures { MatchResult said (λ value. result ≡ Ok value)
+        (λ cause. result ≡ Err (At line cause)) }
 {
     match said {
         Ok(value) => Ok(value),

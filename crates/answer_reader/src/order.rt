@@ -20,7 +20,8 @@ pub(crate) fn node_follows(
 ) -> bool
     requires within { All (IsNodeWithin shape.now columns stage) nodes.now }
     requires node { IsNodeWithin shape.now columns stage node.now }
-    ensures { result ≡ follows node_less (map (node_value shape.now stage) nodes.now) (node_value shape.now stage node.now) }
+    ensures { result ≡ follows node_less (map (node_value shape.now stage) nodes.now)
+        (node_value shape.now stage node.now) }
 {
     match nodes.last() {
         None => true,
@@ -47,7 +48,8 @@ pub(crate) fn arc_follows(arcs: &[ArcLine], arc: &ArcLine) -> bool
 
 /// Whether a state comes strictly after the last of those before it.
 pub(crate) fn state_follows(states: &[StateLine], node: u32, accepting: bool) -> bool
-    ensures { result ≡ follows state_less (map state_value states.now) (bare_state (node, accepting)) }
+    ensures { result ≡ follows state_less (map state_value states.now)
+        (bare_state (node, accepting)) }
 {
     match states.last() {
         None => true,

@@ -26,8 +26,10 @@ fn next_node(
     requires stage { stage < length shape.now.phases.items }
     requires within { All (IsNodeWithin shape.now columns stage) nodes.now }
     ensures said { MatchResult result
-        (λ node. next_node shape.now columns stage (map (node_value shape.now stage) nodes.now) line.now ≡ Ok (node_value shape.now stage node))
-        (λ cause. next_node shape.now columns stage (map (node_value shape.now stage) nodes.now) line.now ≡ Err cause) }
+        (λ node. next_node shape.now columns stage (map (node_value shape.now stage) nodes.now)
+        line.now ≡ Ok (node_value shape.now stage node))
+        (λ cause. next_node shape.now columns stage (map (node_value shape.now stage) nodes.now)
+        line.now ≡ Err cause) }
     ensures within { IfOk result (IsNodeWithin shape.now columns stage) }
 {
     let node = node_of(shape, columns, stage, line)?;
@@ -49,7 +51,9 @@ pub fn read_node(
     requires columns { columns ≤ 64 }
     requires stage { stage < length shape.now.phases.items }
     requires within { All (IsNodeWithin shape.now columns stage) nodes.now }
-    ensures takes { Takes (next_node shape.now columns stage (map (node_value shape.now stage) nodes.now)) (node_value shape.now stage) lines.old lines.new result }
+    ensures takes { Takes (next_node shape.now columns stage
+        (map (node_value shape.now stage) nodes.now)) (node_value shape.now stage) lines.old
+        lines.new result }
     ensures within { IfOk result (IsNodeWithin shape.now columns stage) }
     ensures shorter { OnOk result (length lines.new.rest.now < length lines.old.rest.now) }
 {

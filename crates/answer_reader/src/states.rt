@@ -1,6 +1,7 @@
-ghost use Rattle.std.specs.Prelude.{◌≡◌, ◌<◌, ◌≤◌, length, map, Ok, Err, MatchResult, IfOk, OnOk};
+ghost use Rattle.std.specs.Prelude.{◌≡◌, ◌<◌, ◌≤◌, length, map, true, Ok, Err, MatchResult, IfOk, OnOk};
 ghost use Rattle.answer_reader.specs.Left.{Takes};
 ghost use Rattle.answer_reader.specs.LineWords.{bare_state};
+ghost use Rattle.answer_reader.specs.Orders.{follows, state_less};
 ghost use Rattle.answer_reader.specs.States.{next_arc, next_state};
 ghost use Rattle.answer_reader.specs.Values.{arc_value, state_value};
 ghost use Rattle.answer_reader.specs.Within.{IsArcWithin};
@@ -38,7 +39,8 @@ pub fn read_arc(
 ) -> Result<ArcLine, AnswerErr>
     requires some { 1 ≤ width }
     requires few { width ≤ 12 }
-    ensures takes { Takes (next_arc width nodes (map arc_value arcs.now)) arc_value lines.old lines.new result }
+    ensures takes { Takes (next_arc width nodes (map arc_value arcs.now)) arc_value lines.old
+        lines.new result }
     ensures within { IfOk result (IsArcWithin width nodes) }
     ensures shorter { OnOk result (length lines.new.rest.now < length lines.old.rest.now) }
 {
@@ -53,6 +55,8 @@ fn next_state(nodes: u32, states: &[StateLine], line: &[u8]) -> Result<(u32, boo
         (λ state. next_state nodes (map state_value states.now) line.now ≡ Ok (bare_state state))
         (λ cause. next_state nodes (map state_value states.now) line.now ≡ Err cause) }
     ensures there { IfOk result (λ state. state.0 < nodes) }
+    ensures follows { IfOk result (λ state. follows state_less (map state_value states.now)
+        (bare_state state) ≡ true) }
 {
     let (node, accepting) = state_of(nodes, line)?;
     if !state_follows(states, node, accepting) {
@@ -68,8 +72,11 @@ pub fn read_state_line(
     nodes: u32,
     states: &[StateLine],
 ) -> Result<(u32, bool), AnswerErr>
-    ensures takes { Takes (next_state nodes (map state_value states.now)) bare_state lines.old lines.new result }
+    ensures takes { Takes (next_state nodes (map state_value states.now)) bare_state lines.old
+        lines.new result }
     ensures there { IfOk result (λ state. state.0 < nodes) }
+    ensures follows { IfOk result (λ state. follows state_less (map state_value states.now)
+        (bare_state state) ≡ true) }
 {
     let number = lines.number;
     let line = lines.next_line()?;

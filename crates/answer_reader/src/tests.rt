@@ -1,99 +1,10 @@
-ghost use Rattle.std.specs.Prelude.{◌≡◌, ◌<◌, ◌≤◌, length, IfOk};
+ghost use Rattle.std.specs.Prelude.{◌≡◌, ◌≤◌, length, IfOk};
 ghost use Rattle.tier_core.specs.Shapes.{NeverFalls};
 
-use crate::{
-    AnswerCause, AnswerErr, Lines, read_arc, read_automaton_line, read_header, read_node,
-    read_stage_line, read_state_line,
-};
+use crate::{AnswerCause, AnswerErr, read_answer};
 use std::alloc::{AllocError, Global};
 use std::test::Fail;
 use tier_core::Shape;
-
-const CUT_SHORT: AnswerErr = AnswerErr::At {
-    line: 1,
-    cause: AnswerCause::CutShort,
-};
-
-const BAD_HEADER: AnswerErr = AnswerErr::At {
-    line: 1,
-    cause: AnswerCause::BadHeader,
-};
-
-const BAD_LINE: AnswerErr = AnswerErr::At {
-    line: 1,
-    cause: AnswerCause::BadLine,
-};
-
-const BAD_NUMBER: AnswerErr = AnswerErr::At {
-    line: 1,
-    cause: AnswerCause::BadNumber,
-};
-
-const BAD_CLASS: AnswerErr = AnswerErr::At {
-    line: 1,
-    cause: AnswerCause::BadClass,
-};
-
-#[test]
-fn the_header_is_the_first_line(rt: HostRuntime) -> Result<(), Fail> {
-    let cases: [(&[u8], Result<(), AnswerErr>); 5] = [
-        (b"answer 1\n", Ok(())),
-        (b"answer 1", Err(CUT_SHORT)),
-        (b"answer 1 \n", Err(BAD_HEADER)),
-        (b"answer 2\n", Err(BAD_HEADER)),
-        (b"\n", Err(BAD_HEADER)),
-    ];
-    for (text, said) in cases {
-        assert!(rt; text.len() < 100);
-        assert_eq!(rt; read_header(&mut Lines::of_text(text)), said, "{text:?}");
-    }
-    Ok(())
-}
-
-// The stage that comes next has number 1, and there are four stages.
-#[test]
-fn a_stage_says_how_many_nodes_it_has(rt: HostRuntime) -> Result<(), Fail> {
-    let cases: [(&[u8], Result<u32, AnswerErr>); 13] = [
-        (b"stage 1 6\n", Ok(6)),
-        (b"stage 1 0\n", Ok(0)),
-        (b"stage 1 65536\n", Ok(65_536)),
-        (b"stage 1 65537\n", Err(BAD_NUMBER)),
-        (b"stage 1 06\n", Err(BAD_NUMBER)),
-        (b"stage 01 6\n", Err(BAD_NUMBER)),
-        (b"stage 2 6\n", Err(BAD_NUMBER)),
-        (b"stage 1 99999999999999999999999\n", Err(BAD_NUMBER)),
-        (b"stage 1 6 \n", Err(BAD_LINE)),
-        (b"stage 1  6\n", Err(BAD_LINE)),
-        (b"stage 1\n", Err(BAD_LINE)),
-        (b"stage 2 x\n", Err(BAD_LINE)),
-        (b"stage 1 6", Err(CUT_SHORT)),
-    ];
-    for (text, said) in cases {
-        assert!(rt; text.len() < 100);
-        let result = read_stage_line(&mut Lines::of_text(text), 4, 1);
-        assert_eq!(rt; result, said, "{text:?}");
-    }
-    Ok(())
-}
-
-// The last stage has three nodes.
-#[test]
-fn an_automaton_has_at_most_as_many_states_as_nodes(rt: HostRuntime) -> Result<(), Fail> {
-    let cases: [(&[u8], Result<u32, AnswerErr>); 6] = [
-        (b"automaton 3\n", Ok(3)),
-        (b"automaton 0\n", Ok(0)),
-        (b"automaton 4\n", Err(BAD_NUMBER)),
-        (b"automaton 03\n", Err(BAD_NUMBER)),
-        (b"automaton\n", Err(BAD_LINE)),
-        (b"automaton 3", Err(CUT_SHORT)),
-    ];
-    for (text, said) in cases {
-        assert!(rt; text.len() < 100);
-        let result = read_automaton_line(&mut Lines::of_text(text), 3);
-        assert_eq!(rt; result, said, "{text:?}");
-    }
-    Ok(())
-}
 
 // An input tier and a free one, with so many stretch implications at each stage.
 fn two_tiers(alloc: Global, phases: &[u32]) -> Result<Shape, AllocError>
@@ -110,127 +21,221 @@ fn two_tiers(alloc: Global, phases: &[u32]) -> Result<Shape, AllocError>
     })
 }
 
-// A node of stage 1 for a form with two columns: its place, its open tiers, its phases and its
-// potential.
-fn node_in(shape: &Shape, text: &[u8]) -> Result<(u32, u16, u32, u32, u32), AnswerErr>
-    requires stages { length shape.now.phases.items ≡ 2 }
-    requires short { length text.now < 100 }
+// The answer for a form of one constituent under a clash and two stretch implications.
+const LINES: [&[u8]; 33] = [
+    b"answer 1",
+    b"form [ ]",
+    b"counts 0 1 0",
+    b"example [- ]-",
+    b"stage 0 6",
+    b"node 0/-/ 0",
+    b"node 0/+/ 0",
+    b"node 1/-/ 0",
+    b"node 1/+/ 0",
+    b"node 2/-/ 0",
+    b"node 2/+/ 0",
+    b"stage 1 6",
+    b"node 0/-/ 0",
+    b"node 0/+/ 1",
+    b"node 1/-/ 0",
+    b"node 1/+/ 1",
+    b"node 2/-/ 0",
+    b"node 2/+/ 1",
+    b"stage 2 3",
+    b"node 0/-/. 1",
+    b"node 1/-/u 1",
+    b"node 2/-/. 0",
+    b"stage 3 3",
+    b"node 0/-/.. 0",
+    b"node 1/-/u. 0",
+    b"node 2/-/.. 0",
+    b"automaton 3",
+    b"state 0",
+    b"arc 1 [-",
+    b"state 1",
+    b"arc 2 ]-",
+    b"state 2 final",
+    b"end",
+];
+
+// The text of the answer, with another line in the place of the one with this number.
+fn altered(alloc: Global, number: usize, line: &[u8]) -> Result<Vec<u8>, AllocError> {
+    let mut text = Vec::new(alloc);
+    for (place, each) in LINES.iter().enumerate() {
+        let shown: &[u8] = if place + 1 == number { line } else { each };
+        text.extend_from_slice(shown)?;
+        text.push(b'\n')?;
+    }
+    Ok(text)
+}
+
+// The first cause of a text, if it has one.
+fn refusal(alloc: Global, shape: &Shape, text: &[u8]) -> Option<AnswerErr>
+    requires { length text.now ≤ 268435456 }
 {
-    let node = read_node(&mut Lines::of_text(text), shape, 2, 1, &[])?;
-    let kind = node.kind;
-    Ok((
-        kind.place,
-        kind.opened,
-        kind.unmet,
-        kind.met,
-        node.potential,
-    ))
+    read_answer(alloc, shape, text).err()
 }
 
-// The stage has one stretch implication.
+use AnswerCause::{BadClass, BadHeader, BadLine, BadNumber, BadOrder, CutShort, ExtraBytes};
+
+// A line that is altered, what stands there, and the line and the cause that come first.
+const REFUSED: [(usize, &[u8], u32, AnswerCause); 93] = [
+    (1, b"answer 2", 1, BadHeader),
+    (1, b"answer 1 ", 1, BadHeader),
+    (1, b"", 1, BadHeader),
+    (1, b"form [ ]", 1, BadHeader),
+    (2, b"form", 2, BadLine),
+    (2, b"form ", 2, BadLine),
+    (2, b"form ]", 2, BadLine),
+    (2, b"form [- ]-", 2, BadLine),
+    (2, b"form  [ ]", 2, BadLine),
+    (2, b"form [ \xff", 2, BadLine),
+    (2, b"form empty", 8, BadNumber),
+    (3, b"counts 0 1", 3, BadLine),
+    (3, b"counts", 3, BadLine),
+    (3, b"counts 0 1 0 0", 3, BadLine),
+    (3, b"counts 0 1 ", 3, BadLine),
+    (3, b"counts 0  1 0", 3, BadLine),
+    (3, b"counts 0 x 00", 3, BadLine),
+    (3, b"counts 0 01 0", 3, BadNumber),
+    (3, b"counts 0 1 1000000001", 3, BadNumber),
+    (3, b"counts 4294967296 1 0", 3, BadNumber),
+    (3, b"counts 00 1", 3, BadLine),
+    (4, b"example [- ]", 4, BadLine),
+    (4, b"example [ ]", 4, BadLine),
+    (4, b"example ", 4, BadLine),
+    (5, b"automaton 0", 5, BadLine),
+    (5, b"stage 0", 5, BadLine),
+    (5, b"stage 0 6 ", 5, BadLine),
+    (5, b"stage 1 6", 5, BadNumber),
+    (5, b"stage 00 6", 5, BadNumber),
+    (5, b"stage 0 06", 5, BadNumber),
+    (5, b"stage 0 65537", 5, BadNumber),
+    (5, b"stage 0 99999999999", 5, BadNumber),
+    (5, b"stage 1 x", 5, BadLine),
+    (5, b"stage 0 5", 11, BadLine),
+    (5, b"stage 0 7", 12, BadLine),
+    (6, b"node 0/-/0", 6, BadLine),
+    (6, b"node 0/--/ 0", 6, BadLine),
+    (6, b"node 0/x/ 00", 6, BadLine),
+    (6, b"node 00/-/ 0", 6, BadNumber),
+    (6, b"node 0/-/ 1000000001", 6, BadNumber),
+    (6, b"node 3/-/ 0", 6, BadNumber),
+    (9, b"node 1/-/ 0", 9, BadOrder),
+    (9, b"node 0/+/ 0", 9, BadOrder),
+    (9, b"node 0/+/ 00", 9, BadNumber),
+    (9, b"node 3/-/ 0", 9, BadNumber),
+    (20, b"node 0/-/ 1", 20, BadLine),
+    (20, b"node 0/-/.. 1", 20, BadLine),
+    (20, b"node 0/-/x 1", 20, BadLine),
+    (20, b"node 0/-/- 1", 20, BadLine),
+    (21, b"node 0/-/. 1", 21, BadOrder),
+    (23, b"stage 2 3", 23, BadNumber),
+    (23, b"stage 4 3", 23, BadNumber),
+    (26, b"node 3/-/.. 0", 26, BadNumber),
+    (26, b"node 1/-/.u 0", 26, BadOrder),
+    (26, b"node 2/-/..  0", 26, BadLine),
+    (27, b"stage 4 0", 27, BadNumber),
+    (27, b"automaton", 27, BadLine),
+    (27, b"automaton 4", 27, BadNumber),
+    (27, b"automaton 03", 27, BadNumber),
+    (27, b"automaton 2", 32, BadLine),
+    (27, b"node 2/+/.. 0", 27, BadLine),
+    (28, b"arc 1 [-", 28, BadLine),
+    (28, b"state 3", 28, BadNumber),
+    (28, b"state 0 final final", 28, BadLine),
+    (28, b"state 0 ", 28, BadLine),
+    (28, b"state 00 final", 28, BadNumber),
+    (28, b"state 1", 30, BadOrder),
+    (29, b"arc 3 [-", 29, BadNumber),
+    (29, b"arc 1", 29, BadLine),
+    (29, b"arc 1 ", 29, BadClass),
+    (29, b"arc 1 {}-", 29, BadClass),
+    (29, b"arc 1 {-}[", 29, BadClass),
+    (29, b"arc 1 {[-}-", 29, BadClass),
+    (29, b"arc 1 [ -", 29, BadClass),
+    (29, b"arc 1 [", 29, BadClass),
+    (29, b"arc 1 [--", 29, BadClass),
+    (29, b"arc 01 [x", 29, BadNumber),
+    (29, b"arc 3 [x", 29, BadNumber),
+    (29, b"arc 1 \xff-", 29, BadClass),
+    (30, b"state 0", 30, BadOrder),
+    (30, b"arc 1 [-", 30, BadOrder),
+    (30, b"arc 0 [x", 30, BadClass),
+    (30, b"arc 0 [-", 30, BadOrder),
+    (32, b"state 1 final", 32, BadOrder),
+    (32, b"state 3 final", 32, BadNumber),
+    (32, b"state 02", 32, BadNumber),
+    (32, b"end", 32, BadLine),
+    (33, b"end ", 33, BadLine),
+    (33, b"arc 2 ||", 34, CutShort),
+    (33, b"state 2", 33, BadLine),
+    (33, b"end\n", 34, ExtraBytes),
+    (33, b"end\nend", 34, ExtraBytes),
+    (33, b"end\n\xff", 34, ExtraBytes),
+];
+
 #[test]
-fn a_node_says_its_kind_and_its_potential(rt: HostRuntime) -> Result<(), Fail> {
-    let shape = two_tiers(rt.alloc(), &[0, 1])?;
-    let cases: [(&[u8], Result<(u32, u16, u32, u32, u32), AnswerErr>); 18] = [
-        (b"node 0/-/. 0\n", Ok((0, 0, 0, 0, 0))),
-        (b"node 2/+/u 1\n", Ok((2, 1, 1, 0, 1))),
-        (b"node 1/+/m 1000000000\n", Ok((1, 1, 0, 1, 1_000_000_000))),
-        (b"node 1/+/m 1000000001\n", Err(BAD_NUMBER)),
-        (b"node 3/+/m 0\n", Err(BAD_NUMBER)),
-        (b"node 01/+/m 0\n", Err(BAD_NUMBER)),
-        (b"node 1/+/m 00\n", Err(BAD_NUMBER)),
-        (b"node 1/++/m 0\n", Err(BAD_LINE)),
-        (b"node 1//m 0\n", Err(BAD_LINE)),
-        (b"node 1/x/m 0\n", Err(BAD_LINE)),
-        (b"node 1/+/ 0\n", Err(BAD_LINE)),
-        (b"node 1/+/mm 0\n", Err(BAD_LINE)),
-        (b"node 1/+/x 0\n", Err(BAD_LINE)),
-        (b"node /+/m 0\n", Err(BAD_LINE)),
-        (b"node 1/+/m \n", Err(BAD_LINE)),
-        (b"node 1/+/m 0 0\n", Err(BAD_LINE)),
-        (b"node 01/x/m 0\n", Err(BAD_LINE)),
-        (b"node 1/+/m 0", Err(CUT_SHORT)),
-    ];
-    for (text, said) in cases {
-        assert!(rt; text.len() < 100);
-        assert_eq!(rt; node_in(&shape, text), said, "{text:?}");
+fn the_first_line_with_a_cause_gives_it(rt: HostRuntime) -> Result<(), Fail> {
+    let alloc = rt.alloc();
+    let shape = two_tiers(alloc, &[0, 0, 1, 2])?;
+    for (number, text, line, cause) in REFUSED {
+        let text = altered(alloc, number, text)?;
+        assert!(rt; text.as_slice().len() < 10_000);
+        assert_eq!(rt;
+            refusal(alloc, &shape, &text),
+            Some(AnswerErr::At { line, cause }),
+            "{number} {line}"
+        );
     }
     Ok(())
 }
 
-// The last stage has three nodes.
+// A line that is altered, and what may stand there.
+const ACCEPTED: [(usize, &[u8]); 11] = [
+    (0, b""),
+    (3, b"counts 1000000000 1 0"),
+    (2, b"form [ | ]"),
+    (4, b"example empty"),
+    (6, b"node 0/-/ 1000000000"),
+    (22, b"node 2/-/m 0"),
+    (26, b"node 2/+/mm 0"),
+    (28, b"state 0 final"),
+    (29, b"arc 0 {-+[]|}{[|}"),
+    (32, b"state 2"),
+    (33, b"arc 0 ||\nend"),
+];
+
 #[test]
-fn a_state_says_its_node_and_whether_it_is_final(rt: HostRuntime) -> Result<(), Fail> {
-    let cases: [(&[u8], Result<(u32, bool), AnswerErr>); 9] = [
-        (b"state 2\n", Ok((2, false))),
-        (b"state 0 final\n", Ok((0, true))),
-        (b"state 3\n", Err(BAD_NUMBER)),
-        (b"state 00 final\n", Err(BAD_NUMBER)),
-        (b"state 0 \n", Err(BAD_LINE)),
-        (b"state 0  final\n", Err(BAD_LINE)),
-        (b"state 0 end\n", Err(BAD_LINE)),
-        (b"state\n", Err(BAD_LINE)),
-        (b"state 0", Err(CUT_SHORT)),
-    ];
-    for (text, said) in cases {
-        assert!(rt; text.len() < 100);
-        let result = read_state_line(&mut Lines::of_text(text), 3, &[]);
-        assert_eq!(rt; result, said, "{text:?}");
+fn an_answer_is_read(rt: HostRuntime) -> Result<(), Fail> {
+    let alloc = rt.alloc();
+    let shape = two_tiers(alloc, &[0, 0, 1, 2])?;
+    for (number, text) in ACCEPTED {
+        let text = altered(alloc, number, text)?;
+        assert!(rt; text.as_slice().len() < 10_000);
+        assert_eq!(rt; refusal(alloc, &shape, &text), None, "{number}");
     }
     Ok(())
 }
 
-// An arc where the last stage has three nodes, and there are two tiers: its target, and the sets of
-// its class.
-fn arc_in(text: &[u8]) -> Result<(u32, u8, u8), AnswerErr>
-    requires { length text.now < 100 }
-{
-    let arc = read_arc(&mut Lines::of_text(text), 2, 3, &[])?;
-    Ok((arc.target, arc.class.bits(0), arc.class.bits(1)))
-}
-
+// Every front of the text but the whole is cut short, on the line that it ends in.
 #[test]
-fn an_arc_says_its_target_and_its_class(rt: HostRuntime) -> Result<(), Fail> {
-    let cases: [(&[u8], Result<(u32, u8, u8), AnswerErr>); 16] = [
-        (b"arc 2 [-\n", Ok((2, 4, 1))),
-        (b"arc 0 {-[}|\n", Ok((0, 5, 16))),
-        (b"arc 1 {-+[]|}{+]}\n", Ok((1, 31, 10))),
-        (b"arc 3 [-\n", Err(BAD_NUMBER)),
-        (b"arc 01 [-\n", Err(BAD_NUMBER)),
-        (b"arc 3 [x\n", Err(BAD_NUMBER)),
-        (b"arc x [-\n", Err(BAD_LINE)),
-        (b"arc 1\n", Err(BAD_LINE)),
-        (b"arc 1 \n", Err(BAD_CLASS)),
-        (b"arc 1 [\n", Err(BAD_CLASS)),
-        (b"arc 1 [--\n", Err(BAD_CLASS)),
-        (b"arc 1  [-\n", Err(BAD_CLASS)),
-        (b"arc 1 {[}-\n", Err(BAD_CLASS)),
-        (b"arc 1 {[-}-\n", Err(BAD_CLASS)),
-        (b"arc 1 {-[-\n", Err(BAD_CLASS)),
-        (b"arc 1 [-", Err(CUT_SHORT)),
-    ];
-    for (text, said) in cases {
-        assert!(rt; text.len() < 100);
-        assert_eq!(rt; arc_in(text), said, "{text:?}");
+fn a_text_that_is_cut_is_too_short(rt: HostRuntime) -> Result<(), Fail> {
+    let alloc = rt.alloc();
+    let shape = two_tiers(alloc, &[0, 0, 1, 2])?;
+    let text = altered(alloc, 0, b"")?;
+    assert!(rt; text.as_slice().len() < 10_000);
+    let mut line: u32 = 1;
+    for place in 0..text.len() {
+        let cause = AnswerCause::CutShort;
+        assert_eq!(rt;
+            refusal(alloc, &shape, &text[..place]),
+            Some(AnswerErr::At { line, cause }),
+            "{place}"
+        );
+        if text[place] == b'\n' {
+            line = line.wrapping_add(1);
+        }
     }
-    Ok(())
-}
-
-// Lines are numbered from 1.
-#[test]
-fn a_cause_has_the_number_of_its_line(rt: HostRuntime) -> Result<(), Fail> {
-    let mut lines = Lines::of_text(b"answer 1\nstage 0 2\nstage 1 x\n");
-    assert_eq!(rt; read_header(&mut lines), Ok(()));
-    assert_eq!(rt; read_stage_line(&mut lines, 2, 0), Ok(2));
-    let third = AnswerErr::At {
-        line: 3,
-        cause: AnswerCause::BadLine,
-    };
-    assert_eq!(rt; read_stage_line(&mut lines, 2, 1), Err(third));
-    let fourth = AnswerErr::At {
-        line: 4,
-        cause: AnswerCause::CutShort,
-    };
-    assert_eq!(rt; read_stage_line(&mut lines, 2, 1), Err(fourth));
     Ok(())
 }

@@ -38,11 +38,14 @@ one_bit (suc (suc q)) n h = absurd (omega arith)
 
 -- the bits of a mask are as many as its tiers
 pub ones_below : (n mask : ℕ) → mask < 2 ^ n → count_ones mask ≡ length (tiers_below mask n)
-ones_below zero mask h = let none : mask ≡ 0 = omega arith in subst (λ m. count_ones m ≡ 0) (sym none) (one_bit 0 0 (omega arith))
+ones_below zero mask h = let none : mask
+    ≡ 0 = omega arith in subst (λ m. count_ones m ≡ 0) (sym none) (one_bit 0 0 (omega arith))
 ones_below (suc n) mask h =
     let low : mask % 2 ^ n < 2 ^ n = mod_below (2 ^ n) mask (pow_pos n) in
     let whole : mask ≡ (mask / 2 ^ n) * 2 ^ n + mask % 2 ^ n = cut (2 ^ n) mask (pow_pos n) in
-    let same = tiers_same (mask % 2 ^ n) mask n (λ t l. ap (λ b. b == 1) (sym (bit_at_cat_low (mask / 2 ^ n) n (mask % 2 ^ n) t l) ∙ ap (λ m. bit_at m t) (sym whole))) in
+    let same = tiers_same (mask % 2 ^ n) mask n
+    (λ t l. ap (λ b. b == 1) (sym (bit_at_cat_low (mask / 2 ^ n) n (mask % 2 ^ n) t l)
+    ∙ ap (λ m. bit_at m t) (sym whole))) in
     omega (
       arith,
       ap count_ones whole ∙ ones_cat n (mask / 2 ^ n) (mask % 2 ^ n) low,

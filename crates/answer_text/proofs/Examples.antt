@@ -15,14 +15,17 @@ use Rattle.answer_text.specs.Text.{after_space, kind_text, node_line}
 use Rattle.answer_text.specs.Acceptance.{HasArc, IsFinalState, Accepts}
 
 -- a line of a node by what the node tells
-pub node_line_is : (free stretches : ℕ) (node : Node) (k : PrefixKind) (potential : ℕ) → prefix_kind free stretches node.kind ≡ k → node.potential ≡ potential
+pub node_line_is : (free stretches : ℕ) (node : Node) (k : PrefixKind) (potential : ℕ)
+    → prefix_kind free stretches node.kind ≡ k → node.potential ≡ potential
     → node_line free stretches node ≡ codes "node " ++ kind_text k ++ after_space potential
 node_line_is free stretches node k potential e p =
-    ap (λ x. codes "node " ++ kind_text x ++ after_space node.potential) e ∙ ap (λ n. codes "node " ++ kind_text k ++ after_space n) p
+    ap (λ x. codes "node " ++ kind_text x ++ after_space node.potential) e
+    ∙ ap (λ n. codes "node " ++ kind_text k ++ after_space n) p
 
 -- The start is final, and opens a constituent of the second tier. The other state ends it, or ends it
 -- and starts the next.
-pub record IsTwoStates (states : List StateLine) (start inside : StateLine) (opens closes turns : ArcLine) : Type 0 where
+pub record IsTwoStates (states : List StateLine) (start inside : StateLine)
+    (opens closes turns : ArcLine) : Type 0 where
   pub listed : states ≡ start ∷ inside ∷ []
   pub start_node : start.node ≡ 0
   pub start_final : start.accepting ≡ true
@@ -59,20 +62,35 @@ one_of_two : {X : Type 0} (xs : List X) (y z x : X) → xs ≡ y ∷ z ∷ [] �
 one_of_two xs y z x e h = let p : Contains (y ∷ z ∷ []) x = subst (λ l. Contains l x) e h in at_two p.0 y z x p.1 p.2
 
 -- the state with each number
-zero_is : {states : List StateLine} {start inside : StateLine} {opens closes turns : ArcLine} (t : IsTwoStates states start inside opens closes turns) (state : StateLine) → Contains states state → state.node ≡ 0 → start ≡ state
-zero_is {states} {start} {inside} t state h e = ⊎_elim (λ a. a) (λ b. let n : 1 ≡ 0 = sym t.inside_node ∙ ap (λ x. x.node) b ∙ e in absurd (omega arith)) (one_of_two states start inside state t.listed h)
+zero_is : {states : List StateLine} {start inside : StateLine} {opens closes turns : ArcLine}
+    (t : IsTwoStates states start inside opens closes turns) (state : StateLine) → Contains states state
+    → state.node ≡ 0 → start ≡ state
+zero_is {states} {start} {inside} t state h e = ⊎_elim (λ a. a)
+    (λ b. let n : 1 ≡ 0 = sym t.inside_node ∙ ap (λ x. x.node) b ∙ e in absurd (omega arith))
+    (one_of_two states start inside state t.listed h)
 
-one_is : {states : List StateLine} {start inside : StateLine} {opens closes turns : ArcLine} (t : IsTwoStates states start inside opens closes turns) (state : StateLine) → Contains states state → state.node ≡ 1 → inside ≡ state
-one_is {states} {start} {inside} t state h e = ⊎_elim (λ a. let n : 0 ≡ 1 = sym t.start_node ∙ ap (λ x. x.node) a ∙ e in absurd (omega arith)) (λ b. b) (one_of_two states start inside state t.listed h)
+one_is : {states : List StateLine} {start inside : StateLine} {opens closes turns : ArcLine}
+    (t : IsTwoStates states start inside opens closes turns) (state : StateLine) → Contains states state
+    → state.node ≡ 1 → inside ≡ state
+one_is {states} {start} {inside} t state h e = ⊎_elim
+    (λ a. let n : 0 ≡ 1 = sym t.start_node ∙ ap (λ x. x.node) a ∙ e in absurd (omega arith)) (λ b. b)
+    (one_of_two states start inside state t.listed h)
 
-pub empty_is_accepted : {states : List StateLine} {start inside : StateLine} {opens closes turns : ArcLine} → IsTwoStates states start inside opens closes turns → Accepts states []
+pub empty_is_accepted : {states : List StateLine} {start inside : StateLine} {opens closes turns : ArcLine}
+    → IsTwoStates states start inside opens closes turns → Accepts states []
 empty_is_accepted {states} {start} {inside} t = record {
   last = 0;
   leads = refl;
-  final = record { state = start; listed = first_of states (inside ∷ []) start t.listed; numbered = t.start_node; final = t.start_final };
+  final = record {
+    state = start;
+    listed = first_of states (inside ∷ []) start t.listed;
+    numbered = t.start_node;
+    final = t.start_final;
+  };
 }
 
-opening : {states : List StateLine} {start inside : StateLine} {opens closes turns : ArcLine} → IsTwoStates states start inside opens closes turns → HasArc states 0 1 (Outside ∷ Start ∷ [])
+opening : {states : List StateLine} {start inside : StateLine} {opens closes turns : ArcLine}
+    → IsTwoStates states start inside opens closes turns → HasArc states 0 1 (Outside ∷ Start ∷ [])
 opening {states} {start} {inside} {opens} t = record {
   state = start;
   arc = opens;
@@ -83,7 +101,8 @@ opening {states} {start} {inside} {opens} t = record {
   holds = ap (λ sets. sets_have sets (Outside ∷ Start ∷ [])) t.opens_on;
 }
 
-closing : {states : List StateLine} {start inside : StateLine} {opens closes turns : ArcLine} → IsTwoStates states start inside opens closes turns → HasArc states 1 0 (Outside ∷ End ∷ [])
+closing : {states : List StateLine} {start inside : StateLine} {opens closes turns : ArcLine}
+    → IsTwoStates states start inside opens closes turns → HasArc states 1 0 (Outside ∷ End ∷ [])
 closing {states} {start} {inside} {opens} {closes} {turns} t = record {
   state = inside;
   arc = closes;
@@ -94,27 +113,39 @@ closing {states} {start} {inside} {opens} {closes} {turns} t = record {
   holds = ap (λ sets. sets_have sets (Outside ∷ End ∷ [])) t.closes_on;
 }
 
-pub constituent_is_accepted : {states : List StateLine} {start inside : StateLine} {opens closes turns : ArcLine} → IsTwoStates states start inside opens closes turns → Accepts states ((Outside ∷ Start ∷ []) ∷ (Outside ∷ End ∷ []) ∷ [])
+pub constituent_is_accepted : {states : List StateLine} {start inside : StateLine} {opens closes turns : ArcLine}
+    → IsTwoStates states start inside opens closes turns
+    → Accepts states ((Outside ∷ Start ∷ []) ∷ (Outside ∷ End ∷ []) ∷ [])
 constituent_is_accepted {states} {start} {inside} t = record {
   last = 0;
   leads = (1, (opening t, (0, (closing t, refl))));
-  final = record { state = start; listed = first_of states (inside ∷ []) start t.listed; numbered = t.start_node; final = t.start_final };
+  final = record {
+    state = start;
+    listed = first_of states (inside ∷ []) start t.listed;
+    numbered = t.start_node;
+    final = t.start_final;
+  };
 }
 
 -- from the start there is no way but to the other state
-only_inside : {states : List StateLine} {start inside : StateLine} {opens closes turns : ArcLine} (t : IsTwoStates states start inside opens closes turns) (next : ℕ) (column : List Sym) → HasArc states 0 next column → next ≡ 1
+only_inside : {states : List StateLine} {start inside : StateLine} {opens closes turns : ArcLine}
+    (t : IsTwoStates states start inside opens closes turns) (next : ℕ) (column : List Sym)
+    → HasArc states 0 next column → next ≡ 1
 only_inside {states} {start} {inside} {opens} t next column a =
     let here : start ≡ a.state = zero_is t a.state a.listed a.from in
-    let arc : opens ≡ a.arc = only_one start.arcs.items opens a.arc t.start_arcs (subst (λ s. Contains s.arcs.items a.arc) (sym here) a.leaves) in
+    let arc : opens ≡ a.arc = only_one start.arcs.items opens a.arc t.start_arcs
+    (subst (λ s. Contains s.arcs.items a.arc) (sym here) a.leaves) in
     sym a.to ∙ ap (λ x. x.target) (sym arc) ∙ t.opens_to
 
 -- the other state is not final
-not_at_inside : {states : List StateLine} {start inside : StateLine} {opens closes turns : ArcLine} (t : IsTwoStates states start inside opens closes turns) → IsFinalState states 1 → ⊥
+not_at_inside : {states : List StateLine} {start inside : StateLine} {opens closes turns : ArcLine}
+    (t : IsTwoStates states start inside opens closes turns) → IsFinalState states 1 → ⊥
 not_at_inside {states} {start} {inside} t f =
     let here : inside ≡ f.state = one_is t f.state f.listed f.numbered in
     false≢true (sym t.inside_final ∙ ap (λ x. x.accepting) here ∙ f.final)
 
-pub start_alone_is_refused : {states : List StateLine} {start inside : StateLine} {opens closes turns : ArcLine} → IsTwoStates states start inside opens closes turns → Accepts states ((Outside ∷ Start ∷ []) ∷ []) → ⊥
+pub start_alone_is_refused : {states : List StateLine} {start inside : StateLine} {opens closes turns : ArcLine}
+    → IsTwoStates states start inside opens closes turns → Accepts states ((Outside ∷ Start ∷ []) ∷ []) → ⊥
 start_alone_is_refused {states} t a =
     let last : a.last ≡ 1 = sym a.leads.1.1 ∙ only_inside t a.leads.0 (Outside ∷ Start ∷ []) a.leads.1.0 in
     not_at_inside t (subst (IsFinalState states) last a.final)

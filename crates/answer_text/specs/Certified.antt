@@ -30,7 +30,8 @@ pub record Lists (problem : Problem) (stages : List Stage) (r : ℕ) (k : Prefix
 
 -- On a column from the kind k, the potential of stage j falls by just what the column costs under
 -- constraint j. Stage j lists k and the kind to which the column leads, both cut to j constraints.
-pub record IsTightAt (problem : Problem) (stages : List Stage) (j : ℕ) (k : PrefixKind) (column : List Sym) : Type 0 where
+pub record IsTightAt (problem : Problem) (stages : List Stage) (j : ℕ) (k : PrefixKind)
+    (column : List Sym) : Type 0 where
   pub before : ℕ
   pub after : ℕ
   pub leaves : Lists problem stages j (cut problem j k) before
@@ -39,7 +40,8 @@ pub record IsTightAt (problem : Problem) (stages : List Stage) (j : ℕ) (k : Pr
 
 -- There is a move from k on the column, and it is tight at each stage from 1 on that is below r. At
 -- stage r it is kept so, and at the end for r one more than the number of constraints.
-pub record IsKeptBelow (problem : Problem) (stages : List Stage) (r : ℕ) (k : PrefixKind) (column : List Sym) : Type 0 where
+pub record IsKeptBelow (problem : Problem) (stages : List Stage) (r : ℕ) (k : PrefixKind)
+    (column : List Sym) : Type 0 where
   pub fits : FitsKind problem k column
   pub tight : (j : ℕ) → 1 ≤ j → j < r → IsTightAt problem stages j k column
 
@@ -61,10 +63,12 @@ start_potential counts (suc i) = slice_index_or counts i 0
 pub record IsCertifiedStage (problem : Problem) (counts : List ℕ) (stages : List Stage) (r : ℕ) : Type 0 where
   pub kinds : All (IsPossibleKind problem r) (kinds_at problem r (nodes_at stages r))
   pub ascending : IsStrictlySortedBy kind_order (kinds_at problem r (nodes_at stages r))
-  pub cuts : 1 ≤ r → All (λ k. Contains (kinds_at problem (r - 1) (nodes_at stages (r - 1))) (cut problem (r - 1) k)) (kinds_at problem r (nodes_at stages r))
+  pub cuts : 1 ≤ r → All (λ k. Contains (kinds_at problem (r - 1) (nodes_at stages (r - 1))) (cut problem (r - 1) k))
+      (kinds_at problem r (nodes_at stages r))
   pub first : slice_get (kinds_at problem r (nodes_at stages r)) 0 ≡ Some (kind_of problem r [])
   pub final : (k : PrefixKind) (p : ℕ) → Lists problem stages r k p → IsTrue (is_final problem k) → p ≡ 0
-  pub goes_on : (k : PrefixKind) (p : ℕ) (column : List Sym) → Lists problem stages r k p → IsKeptBelow problem stages r k column
+  pub goes_on : (k : PrefixKind) (p : ℕ) (column : List Sym) → Lists problem stages r k p
+      → IsKeptBelow problem stages r k column
       → (q : ℕ) × (Lists problem stages r (moved problem r k column) q × (p ≤ cost_of problem r k column + q))
   pub start : (p : ℕ) → Lists problem stages r (kind_of problem r []) p → p ≡ start_potential counts r
 
@@ -74,9 +78,11 @@ pub record IsCertifiedStage (problem : Problem) (counts : List ℕ) (stages : Li
 pub record IsCertifiedAutomaton (problem : Problem) (stages : List Stage) (states : List StateLine) : Type 0 where
   pub start : Contains (numbers_of states) 0
   pub targets : All (λ state. All (λ arc. Contains (numbers_of states) arc.target) state.arcs.items) states
-  pub finals : (state : StateLine) (k : PrefixKind) → Contains states state → IsNodeOf problem (nodes_at stages (last_stage problem)) state.node k → state.accepting ≡ is_final problem k
+  pub finals : (state : StateLine) (k : PrefixKind) → Contains states state
+      → IsNodeOf problem (nodes_at stages (last_stage problem)) state.node k → state.accepting ≡ is_final problem k
   pub once : All (λ state. AllPairs (λ a b. AreDisjoint a.class b.class) state.arcs.items) states
-  pub arcs : (n m : ℕ) (k : PrefixKind) (column : List Sym) → Contains (numbers_of states) n → IsNodeOf problem (nodes_at stages (last_stage problem)) n k
+  pub arcs : (n m : ℕ) (k : PrefixKind) (column : List Sym) → Contains (numbers_of states) n
+      → IsNodeOf problem (nodes_at stages (last_stage problem)) n k
       → HasArc states n m column ↔ (IsKeptBelow problem stages (last_stage problem + 1) k column
       × IsNodeOf problem (nodes_at stages (last_stage problem)) m (moved problem (last_stage problem) k column))
 

@@ -4,3 +4,5 @@ pub mod Certified
 pub mod Sound
 pub mod Text
 pub mod Shape
+pub mod Readable
+pub mod RightOnce

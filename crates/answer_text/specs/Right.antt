@@ -63,10 +63,12 @@ numbers_of states = map (λ state. state.node) states
 -- optimal candidates; reading a prefix of one ends at the state of its kind; and its arcs are right.
 pub record IsRightAutomaton (problem : Problem) (nodes : List Node) (states : List StateLine) : Type 0 where
   pub ascending : IsStrictlySortedBy nat_cmp (numbers_of states)
-  pub passed : (n : ℕ) → Contains (numbers_of states) n → (k : PrefixKind) × (IsNodeOf problem nodes n k × IsPassed problem (last_stage problem) (last_stage problem) k)
+  pub passed : (n : ℕ) → Contains (numbers_of states) n
+      → (k : PrefixKind) × (IsNodeOf problem nodes n k × IsPassed problem (last_stage problem) (last_stage problem) k)
   pub accepts : (T : List (List Sym)) → Accepts states T ↔ IsOptimal problem T
   pub reads : (T : List (List Sym)) (n : ℕ) → IsOptimal problem T → n ≤ length T
-      → (m : ℕ) × (Leads states 0 (take n T) m × Contains (numbers_of states) m × IsNodeOf problem nodes m (kind_of problem (last_stage problem) (take n T)))
+      → (m : ℕ) × (Leads states 0 (take n T) m × Contains (numbers_of states) m × IsNodeOf problem nodes m
+      (kind_of problem (last_stage problem) (take n T)))
   pub arcs : All (λ state. AreRightArcs problem.tiers.width (numbers_of states) state.arcs.items) states
 
 -- An answer is right for a grammar and the form u.
@@ -76,4 +78,5 @@ pub record IsRight (problem : Problem) (answer : Answer) : Type 0 where
   pub example : IsFirst (IsOptimal problem) answer.example
   pub stage_count : length answer.stages.items ≡ last_stage problem + 1
   pub each_stage : (r : ℕ) → r ≤ last_stage problem → IsRightStage problem r (nodes_at answer.stages.items r)
-  pub automaton : IsRightAutomaton problem (nodes_at answer.stages.items (last_stage problem)) answer.automaton.states.items
+  pub automaton : IsRightAutomaton problem
+      (nodes_at answer.stages.items (last_stage problem)) answer.automaton.states.items

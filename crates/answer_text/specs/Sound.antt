@@ -28,6 +28,8 @@ pub record IsSound (problem : Problem) (answer : Answer) : Type 0 where
   pub accepts : (T : List (List Sym)) → Accepts answer.automaton.states.items T ↔ IsOptimal problem T
   pub counts : IsLeastVector problem answer.counts.items
   pub example : IsOptimal problem answer.example
-  pub each_kind : (r : ℕ) → r ≤ last_stage problem → (k : PrefixKind) → IsKindOfStage problem r k → Contains (kinds_at problem r (nodes_at answer.stages.items r)) k
+  pub each_kind : (r : ℕ) → r ≤ last_stage problem → (k : PrefixKind) → IsKindOfStage problem r k
+      → Contains (kinds_at problem r (nodes_at answer.stages.items r)) k
   pub distinct : AllPairs (λ m n. m ≢ n) (numbers_of answer.automaton.states.items)
-  pub arcs : All (λ state. AreSoundArcs problem.tiers.width (numbers_of answer.automaton.states.items) state.arcs.items) answer.automaton.states.items
+  pub arcs : All (λ state. AreSoundArcs problem.tiers.width
+      (numbers_of answer.automaton.states.items) state.arcs.items) answer.automaton.states.items

@@ -55,17 +55,20 @@ pub record Widths : Type 0 where
   pub stretches : List ℕ
 
 abbrev pub node_line : ℕ → ℕ → Node → List ℕ
-node_line free stretches node = codes "node " ++ kind_text (prefix_kind free stretches node.kind) ++ after_space node.potential
+node_line free stretches node = codes "node " ++ kind_text (prefix_kind free stretches node.kind)
+    ++ after_space node.potential
 
 -- a stage says its number and how many nodes it has, and its nodes follow it
 abbrev pub stage_lines : ℕ → ℕ → ℕ → List Node → List (List ℕ)
-stage_lines free stretches r nodes = (codes "stage " ++ decimal r ++ after_space (length nodes)) ∷ map (node_line free stretches) nodes
+stage_lines free stretches r nodes = (codes "stage " ++ decimal r ++ after_space (length nodes)) ∷ map
+    (node_line free stretches) nodes
 
 -- the stages from number r on
 abbrev pub stages_lines : Widths → ℕ → List Stage → List (List ℕ)
 stages_lines widths r [] = []
 stages_lines widths r (stage ∷ stages) =
-    stage_lines widths.free (slice_index_or widths.stretches r 0) r stage.nodes.items ++ stages_lines widths (r + 1) stages
+    stage_lines widths.free (slice_index_or widths.stretches r 0) r stage.nodes.items
+    ++ stages_lines widths (r + 1) stages
 
 abbrev pub arc_line : ArcLine → List ℕ
 arc_line arc = codes "arc " ++ decimal arc.target ++ codes " " ++ class_text (sets_of arc.class)

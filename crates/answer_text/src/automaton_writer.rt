@@ -1,12 +1,11 @@
-ghost use Rattle.std.specs.Prelude.{◌≡◌, ◌≤◌, ◌++◌, map, Err, OnOk};
+ghost use Rattle.std.specs.Prelude.{◌≡◌, map};
 ghost use Rattle.std.specs.List.{flat_map};
-ghost use Rattle.outside.specs.Faults.{Rose};
-ghost use Rattle.outside.specs.Sent.{HasSentPart, Sends};
+ghost use Rattle.outside.specs.Writers.{Pushes};
 ghost use Rattle.answer_text.specs.Text.{arc_line, automaton_lines, final_mark, line, lines_text, state_lines};
 
 use crate::automaton::{ArcLine, StateLine};
-use crate::class::put_class;
-use outside::{Sink, Waiting, WriteErr, put_number};
+use crate::class::push_class;
+use outside::{OutBuffer, Sink, WriteErr, push_number};
 
 /// What a line of a state says of whether it is final.
 fn final_mark(accepting: bool) -> &'static [u8]
@@ -15,78 +14,63 @@ fn final_mark(accepting: bool) -> &'static [u8]
     if accepting { b" final" } else { b"" }
 }
 
-/// Puts the line of an arc.
-fn put_arc<O: Sink>(waiting: &mut Waiting, sink: &mut O, arc: &ArcLine) -> Result<(), WriteErr>
-    ensures ok { OnOk result (Sends (O.taken sink.old) (waiting.old ++ line (arc_line arc.now)) (O.taken sink.new) waiting.new) }
-    ensures part { HasSentPart (O.taken sink.old) (waiting.old ++ line (arc_line arc.now)) (O.taken sink.new) }
-    ensures never_falls { O.faults sink.old ≤ O.faults sink.new }
-    ensures failed { result ≡ Err WriteErr.Failed → Rose (O.faults sink.old) (O.faults sink.new) }
+/// Appends the line of an arc.
+fn push_arc<O: Sink>(out: &mut OutBuffer, sink: &mut O, arc: &ArcLine) -> Result<(), WriteErr>
+    ensures { Pushes O.Sink sink.old sink.new out.old out.new (line (arc_line arc.now)) result }
 {
-    put_number(waiting, sink, b"arc ", arc.target as usize)?;
-    waiting.put(sink, b" ")?;
-    put_class(waiting, sink, &arc.class)?;
-    waiting.put(sink, b"\n")
+    push_number(out, sink, b"arc ", arc.target as usize)?;
+    out.push(sink, b" ")?;
+    push_class(out, sink, &arc.class)?;
+    out.push(sink, b"\n")
 }
 
-/// Puts the lines of arcs.
-fn put_arcs<O: Sink>(waiting: &mut Waiting, sink: &mut O, arcs: &[ArcLine]) -> Result<(), WriteErr>
-    ensures ok { OnOk result (Sends (O.taken sink.old) (waiting.old ++ lines_text (map arc_line arcs.now)) (O.taken sink.new) waiting.new) }
-    ensures part { HasSentPart (O.taken sink.old) (waiting.old ++ lines_text (map arc_line arcs.now)) (O.taken sink.new) }
-    ensures never_falls { O.faults sink.old ≤ O.faults sink.new }
-    ensures failed { result ≡ Err WriteErr.Failed → Rose (O.faults sink.old) (O.faults sink.new) }
+/// Appends the lines of arcs.
+fn push_arcs<O: Sink>(out: &mut OutBuffer, sink: &mut O, arcs: &[ArcLine]) -> Result<(), WriteErr>
+    ensures { Pushes O.Sink sink.old sink.new out.old out.new
+        (lines_text (map arc_line arcs.now)) result }
 {
     for arc in arcs {
-        put_arc(waiting, sink, arc)?;
+        push_arc(out, sink, arc)?;
     }
     Ok(())
 }
 
-/// Puts the lines of a state.
-fn put_state<O: Sink>(
-    waiting: &mut Waiting,
-    sink: &mut O,
-    state: &StateLine,
-) -> Result<(), WriteErr>
-    ensures ok { OnOk result (Sends (O.taken sink.old) (waiting.old ++ lines_text (state_lines state.now)) (O.taken sink.new) waiting.new) }
-    ensures part { HasSentPart (O.taken sink.old) (waiting.old ++ lines_text (state_lines state.now)) (O.taken sink.new) }
-    ensures never_falls { O.faults sink.old ≤ O.faults sink.new }
-    ensures failed { result ≡ Err WriteErr.Failed → Rose (O.faults sink.old) (O.faults sink.new) }
+/// Appends the lines of a state.
+fn push_state<O: Sink>(out: &mut OutBuffer, sink: &mut O, state: &StateLine) -> Result<(), WriteErr>
+    ensures { Pushes O.Sink sink.old sink.new out.old out.new
+        (lines_text (state_lines state.now)) result }
 {
-    put_number(waiting, sink, b"state ", state.node as usize)?;
-    waiting.put(sink, final_mark(state.accepting))?;
-    waiting.put(sink, b"\n")?;
-    put_arcs(waiting, sink, &state.arcs)
+    push_number(out, sink, b"state ", state.node as usize)?;
+    out.push(sink, final_mark(state.accepting))?;
+    out.push(sink, b"\n")?;
+    push_arcs(out, sink, &state.arcs)
 }
 
-/// Puts the lines of states.
-fn put_states<O: Sink>(
-    waiting: &mut Waiting,
+/// Appends the lines of states.
+fn push_states<O: Sink>(
+    out: &mut OutBuffer,
     sink: &mut O,
     states: &[StateLine],
 ) -> Result<(), WriteErr>
-    ensures ok { OnOk result (Sends (O.taken sink.old) (waiting.old ++ lines_text (flat_map state_lines states.now)) (O.taken sink.new) waiting.new) }
-    ensures part { HasSentPart (O.taken sink.old) (waiting.old ++ lines_text (flat_map state_lines states.now)) (O.taken sink.new) }
-    ensures never_falls { O.faults sink.old ≤ O.faults sink.new }
-    ensures failed { result ≡ Err WriteErr.Failed → Rose (O.faults sink.old) (O.faults sink.new) }
+    ensures { Pushes O.Sink sink.old sink.new out.old out.new
+        (lines_text (flat_map state_lines states.now)) result }
 {
     for state in states {
-        put_state(waiting, sink, state)?;
+        push_state(out, sink, state)?;
     }
     Ok(())
 }
 
-/// Puts the lines of an automaton with these states.
-pub fn put_automaton<O: Sink>(
-    waiting: &mut Waiting,
+/// Appends the lines of an automaton with these states.
+pub fn push_automaton<O: Sink>(
+    out: &mut OutBuffer,
     sink: &mut O,
     states: &[StateLine],
 ) -> Result<(), WriteErr>
-    ensures ok { OnOk result (Sends (O.taken sink.old) (waiting.old ++ lines_text (automaton_lines states.now)) (O.taken sink.new) waiting.new) }
-    ensures part { HasSentPart (O.taken sink.old) (waiting.old ++ lines_text (automaton_lines states.now)) (O.taken sink.new) }
-    ensures never_falls { O.faults sink.old ≤ O.faults sink.new }
-    ensures failed { result ≡ Err WriteErr.Failed → Rose (O.faults sink.old) (O.faults sink.new) }
+    ensures { Pushes O.Sink sink.old sink.new out.old out.new
+        (lines_text (automaton_lines states.now)) result }
 {
-    put_number(waiting, sink, b"automaton ", states.len())?;
-    waiting.put(sink, b"\n")?;
-    put_states(waiting, sink, states)
+    push_number(out, sink, b"automaton ", states.len())?;
+    out.push(sink, b"\n")?;
+    push_states(out, sink, states)
 }

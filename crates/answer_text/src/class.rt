@@ -1,10 +1,9 @@
-ghost use Rattle.std.specs.Prelude.{◌≡◌, ◌<◌, ◌≤◌, ◌++◌, Err, OnOk};
-ghost use Rattle.outside.specs.Faults.{Rose};
-ghost use Rattle.outside.specs.Sent.{HasSentPart, Sends};
+ghost use Rattle.std.specs.Prelude.{◌≡◌, ◌<◌};
+ghost use Rattle.outside.specs.Writers.{Pushes};
 ghost use Rattle.tier_core.specs.Classes.{sets_of};
 ghost use Rattle.answer_text.specs.Text.{class_text, set_text};
 
-use outside::{Sink, Waiting, WriteErr};
+use outside::{OutBuffer, Sink, WriteErr};
 use tier_core::Class;
 
 /// The text of the set of symbols with this number.
@@ -48,19 +47,13 @@ fn set_text(set: u8) -> &'static [u8]
     }
 }
 
-/// Puts a class, set by set in tier order.
-pub fn put_class<O: Sink>(
-    waiting: &mut Waiting,
-    sink: &mut O,
-    class: &Class,
-) -> Result<(), WriteErr>
-    ensures ok { OnOk result (Sends (O.taken sink.old) (waiting.old ++ class_text (sets_of class.now)) (O.taken sink.new) waiting.new) }
-    ensures part { HasSentPart (O.taken sink.old) (waiting.old ++ class_text (sets_of class.now)) (O.taken sink.new) }
-    ensures never_falls { O.faults sink.old ≤ O.faults sink.new }
-    ensures failed { result ≡ Err WriteErr.Failed → Rose (O.faults sink.old) (O.faults sink.new) }
+/// Appends a class, set by set in tier order.
+pub fn push_class<O: Sink>(out: &mut OutBuffer, sink: &mut O, class: &Class) -> Result<(), WriteErr>
+    ensures { Pushes O.Sink sink.old sink.new out.old out.new
+        (class_text (sets_of class.now)) result }
 {
     for tier in 0..class.width() {
-        waiting.put(sink, set_text(class.bits(tier)))?;
+        out.push(sink, set_text(class.bits(tier)))?;
     }
     Ok(())
 }

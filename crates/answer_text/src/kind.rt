@@ -1,12 +1,11 @@
-ghost use Rattle.std.specs.Prelude.{◌≡◌, ◌<◌, ◌≤◌, ◌++◌, map, take, Err, OnOk};
+ghost use Rattle.std.specs.Prelude.{◌≡◌, ◌<◌, ◌≤◌, map, take};
 ghost use Rattle.std.specs.List.{range_with_len};
-ghost use Rattle.outside.specs.Faults.{Rose};
-ghost use Rattle.outside.specs.Sent.{HasSentPart, Sends};
+ghost use Rattle.outside.specs.Writers.{Pushes};
 ghost use Rattle.tier_core.specs.Kinds.{phase_by_bits, prefix_kind};
 ghost use Rattle.tier_core.specs.Tiers.{has_tier};
 ghost use Rattle.answer_text.specs.Text.{kind_text, open_byte, phase_byte};
 
-use outside::{Sink, Waiting, WriteErr, put_decimal};
+use outside::{OutBuffer, Sink, WriteErr, push_decimal};
 use tier_core::{Kind, has_bit};
 
 /// The byte of a free tier.
@@ -24,7 +23,8 @@ fn open_byte(opened: u16, tier: usize) -> u8
 /// The byte of a stretch implication.
 fn phase_byte(kind: &Kind, place: usize) -> u8
     requires { place < 32 }
-    ensures { result ≡ phase_byte (phase_by_bits (has_tier kind.now.unmet place) (has_tier kind.now.met place)) }
+    ensures { result
+        ≡ phase_byte (phase_by_bits (has_tier kind.now.unmet place) (has_tier kind.now.met place)) }
 {
     if has_bit(kind.met, place as u32) {
         b'm'
@@ -59,9 +59,9 @@ fn phase_bytes(kind: &Kind, stretches: usize) -> [u8; 24]
     bytes
 }
 
-/// Puts what a kind says of so many free tiers and so many stretch implications.
-pub fn put_kind<O: Sink>(
-    waiting: &mut Waiting,
+/// Appends what a kind says of so many free tiers and so many stretch implications.
+pub fn push_kind<O: Sink>(
+    out: &mut OutBuffer,
     sink: &mut O,
     kind: &Kind,
     free: usize,
@@ -69,14 +69,12 @@ pub fn put_kind<O: Sink>(
 ) -> Result<(), WriteErr>
     requires few_free { free ≤ 12 }
     requires few_stretches { stretches ≤ 24 }
-    ensures ok { OnOk result (Sends (O.taken sink.old) (waiting.old ++ kind_text (prefix_kind free stretches kind.now)) (O.taken sink.new) waiting.new) }
-    ensures part { HasSentPart (O.taken sink.old) (waiting.old ++ kind_text (prefix_kind free stretches kind.now)) (O.taken sink.new) }
-    ensures never_falls { O.faults sink.old ≤ O.faults sink.new }
-    ensures failed { result ≡ Err WriteErr.Failed → Rose (O.faults sink.old) (O.faults sink.new) }
+    ensures { Pushes O.Sink sink.old sink.new out.old out.new
+        (kind_text (prefix_kind free stretches kind.now)) result }
 {
-    put_decimal(waiting, sink, kind.place as usize)?;
-    waiting.put(sink, b"/")?;
-    waiting.put(sink, &open_bytes(kind.opened, free)[..free])?;
-    waiting.put(sink, b"/")?;
-    waiting.put(sink, &phase_bytes(kind, stretches)[..stretches])
+    push_decimal(out, sink, kind.place as usize)?;
+    out.push(sink, b"/")?;
+    out.push(sink, &open_bytes(kind.opened, free)[..free])?;
+    out.push(sink, b"/")?;
+    out.push(sink, &phase_bytes(kind, stretches)[..stretches])
 }

@@ -14,6 +14,7 @@ mod automaton_writer;
 mod class;
 mod kind;
 mod number;
+mod once_answer;
 mod parts;
 mod put;
 mod stage;
@@ -24,6 +25,7 @@ mod widths;
 
 pub use answer::Answer;
 pub use automaton::{ArcLine, Automaton, StateLine};
+pub use once_answer::{OnceAnswer, OnceNode};
 pub use parts::{put_counts, put_shown};
 pub use put::put_answer;
 pub use stage::{Node, Stage};

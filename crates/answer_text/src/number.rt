@@ -1,23 +1,18 @@
-ghost use Rattle.std.specs.Prelude.{◌≡◌, ◌≤◌, ◌++◌, Err, OnOk};
-ghost use Rattle.outside.specs.Faults.{Rose};
-ghost use Rattle.outside.specs.Sent.{HasSentPart, Sends};
+ghost use Rattle.outside.specs.Writers.{Pushes};
 ghost use Rattle.answer_text.specs.Text.{spaced};
 
-use outside::{Sink, Waiting, WriteErr, put_number};
+use outside::{OutBuffer, Sink, WriteErr, push_number};
 
-/// Puts numbers, each after a space.
-pub fn put_numbers<O: Sink>(
-    waiting: &mut Waiting,
+/// Appends numbers, each after a space.
+pub fn push_numbers<O: Sink>(
+    out: &mut OutBuffer,
     sink: &mut O,
     numbers: &[u32],
 ) -> Result<(), WriteErr>
-    ensures ok { OnOk result (Sends (O.taken sink.old) (waiting.old ++ spaced numbers.now) (O.taken sink.new) waiting.new) }
-    ensures part { HasSentPart (O.taken sink.old) (waiting.old ++ spaced numbers.now) (O.taken sink.new) }
-    ensures never_falls { O.faults sink.old ≤ O.faults sink.new }
-    ensures failed { result ≡ Err WriteErr.Failed → Rose (O.faults sink.old) (O.faults sink.new) }
+    ensures { Pushes O.Sink sink.old sink.new out.old out.new (spaced numbers.now) result }
 {
     for number in numbers {
-        put_number(waiting, sink, b" ", *number as usize)?;
+        push_number(out, sink, b" ", *number as usize)?;
     }
     Ok(())
 }

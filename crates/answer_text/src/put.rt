@@ -1,81 +1,72 @@
-ghost use Rattle.std.specs.Prelude.{◌≡◌, ◌≤◌, ◌++◌, length, Err, OnOk};
-ghost use Rattle.outside.specs.Faults.{Rose};
-ghost use Rattle.outside.specs.Sent.{appended, HasSentPart, Sends};
+ghost use Rattle.std.specs.Prelude.{◌≤◌, ◌++◌, length};
+ghost use Rattle.outside.specs.Writers.{Puts, Pushes};
 ghost use Rattle.answer_text.specs.Shape.{widths_of};
 ghost use Rattle.answer_text.specs.Text.{answer_text, counts_line, head_lines, line, lines_text};
 ghost use Rattle.timeline_text.specs.Texts.{text_of};
 
 use crate::answer::Answer;
-use crate::automaton_writer::put_automaton;
-use crate::number::put_numbers;
-use crate::stage_writer::put_stages;
-use outside::{Sink, Waiting, WriteErr};
+use crate::automaton_writer::push_automaton;
+use crate::number::push_numbers;
+use crate::stage_writer::push_stages;
+use outside::{OutBuffer, Sink, WriteErr};
 use tier_core::{Shape, Timeline};
-use timeline_text::wait_timeline;
+use timeline_text::push_timeline;
 
-/// Puts a line of a word and a timeline.
-pub fn put_timeline_line<O: Sink>(
-    waiting: &mut Waiting,
+/// Appends a line of a word and a timeline.
+pub fn push_timeline_line<O: Sink>(
+    out: &mut OutBuffer,
     sink: &mut O,
     word: &[u8],
     timeline: &Timeline,
 ) -> Result<(), WriteErr>
-    ensures ok { OnOk result (Sends (O.taken sink.old) (waiting.old ++ line (word.now ++ text_of timeline.now)) (O.taken sink.new) waiting.new) }
-    ensures part { HasSentPart (O.taken sink.old) (waiting.old ++ line (word.now ++ text_of timeline.now)) (O.taken sink.new) }
-    ensures never_falls { O.faults sink.old ≤ O.faults sink.new }
-    ensures failed { result ≡ Err WriteErr.Failed → Rose (O.faults sink.old) (O.faults sink.new) }
+    ensures { Pushes O.Sink sink.old sink.new out.old out.new
+        (line (word.now ++ text_of timeline.now)) result }
 {
-    waiting.put(sink, word)?;
-    wait_timeline(waiting, sink, timeline)?;
-    waiting.put(sink, b"\n")
+    out.push(sink, word)?;
+    push_timeline(out, sink, timeline)?;
+    out.push(sink, b"\n")
 }
 
-/// Puts the line of the counts.
-pub fn put_counts_line<O: Sink>(
-    waiting: &mut Waiting,
+/// Appends the line of the counts.
+pub fn push_counts_line<O: Sink>(
+    out: &mut OutBuffer,
     sink: &mut O,
     counts: &[u32],
 ) -> Result<(), WriteErr>
-    ensures ok { OnOk result (Sends (O.taken sink.old) (waiting.old ++ line (counts_line counts.now)) (O.taken sink.new) waiting.new) }
-    ensures part { HasSentPart (O.taken sink.old) (waiting.old ++ line (counts_line counts.now)) (O.taken sink.new) }
-    ensures never_falls { O.faults sink.old ≤ O.faults sink.new }
-    ensures failed { result ≡ Err WriteErr.Failed → Rose (O.faults sink.old) (O.faults sink.new) }
+    ensures { Pushes O.Sink sink.old sink.new out.old out.new
+        (line (counts_line counts.now)) result }
 {
-    waiting.put(sink, b"counts")?;
-    put_numbers(waiting, sink, counts)?;
-    waiting.put(sink, b"\n")
+    out.push(sink, b"counts")?;
+    push_numbers(out, sink, counts)?;
+    out.push(sink, b"\n")
 }
 
-/// Puts the lines before the stages.
-fn put_head<O: Sink>(waiting: &mut Waiting, sink: &mut O, answer: &Answer) -> Result<(), WriteErr>
-    ensures ok { OnOk result (Sends (O.taken sink.old) (waiting.old ++ lines_text (head_lines answer.now)) (O.taken sink.new) waiting.new) }
-    ensures part { HasSentPart (O.taken sink.old) (waiting.old ++ lines_text (head_lines answer.now)) (O.taken sink.new) }
-    ensures never_falls { O.faults sink.old ≤ O.faults sink.new }
-    ensures failed { result ≡ Err WriteErr.Failed → Rose (O.faults sink.old) (O.faults sink.new) }
+/// Appends the lines before the stages.
+fn push_head<O: Sink>(out: &mut OutBuffer, sink: &mut O, answer: &Answer) -> Result<(), WriteErr>
+    ensures { Pushes O.Sink sink.old sink.new out.old out.new
+        (lines_text (head_lines answer.now)) result }
 {
-    waiting.put(sink, b"answer 1\n")?;
-    put_timeline_line(waiting, sink, b"form ", &answer.form)?;
-    put_counts_line(waiting, sink, &answer.counts)?;
-    put_timeline_line(waiting, sink, b"example ", &answer.example)
+    out.push(sink, b"answer 1\n")?;
+    push_timeline_line(out, sink, b"form ", &answer.form)?;
+    push_counts_line(out, sink, &answer.counts)?;
+    push_timeline_line(out, sink, b"example ", &answer.example)
 }
 
-/// Puts the lines of an answer.
-fn put_lines<O: Sink>(
-    waiting: &mut Waiting,
+/// Appends the lines of an answer.
+fn push_lines<O: Sink>(
+    out: &mut OutBuffer,
     sink: &mut O,
     shape: &Shape,
     answer: &Answer,
 ) -> Result<(), WriteErr>
     requires { length answer.now.stages.items ≤ length shape.now.phases.items }
-    ensures ok { OnOk result (Sends (O.taken sink.old) (waiting.old ++ answer_text (widths_of shape.now) answer.now) (O.taken sink.new) waiting.new) }
-    ensures part { HasSentPart (O.taken sink.old) (waiting.old ++ answer_text (widths_of shape.now) answer.now) (O.taken sink.new) }
-    ensures never_falls { O.faults sink.old ≤ O.faults sink.new }
-    ensures failed { result ≡ Err WriteErr.Failed → Rose (O.faults sink.old) (O.faults sink.new) }
+    ensures { Pushes O.Sink sink.old sink.new out.old out.new
+        (answer_text (widths_of shape.now) answer.now) result }
 {
-    put_head(waiting, sink, answer)?;
-    put_stages(waiting, sink, shape, &answer.stages)?;
-    put_automaton(waiting, sink, &answer.automaton.states)?;
-    waiting.put(sink, b"end\n")
+    push_head(out, sink, answer)?;
+    push_stages(out, sink, shape, &answer.stages)?;
+    push_automaton(out, sink, &answer.automaton.states)?;
+    out.push(sink, b"end\n")
 }
 
 /// Writes the text of an answer. It takes no memory but what the sink takes in its writes.
@@ -88,12 +79,9 @@ fn put_lines<O: Sink>(
 /// of faults rose.
 pub fn put_answer<O: Sink>(sink: &mut O, shape: &Shape, answer: &Answer) -> Result<(), WriteErr>
     requires { length answer.now.stages.items ≤ length shape.now.phases.items }
-    ensures ok { OnOk result (O.taken sink.new ≡ appended (O.taken sink.old) (answer_text (widths_of shape.now) answer.now)) }
-    ensures part { HasSentPart (O.taken sink.old) (answer_text (widths_of shape.now) answer.now) (O.taken sink.new) }
-    ensures never_falls { O.faults sink.old ≤ O.faults sink.new }
-    ensures failed { result ≡ Err WriteErr.Failed → Rose (O.faults sink.old) (O.faults sink.new) }
+    ensures { Puts O.Sink sink.old sink.new (answer_text (widths_of shape.now) answer.now) result }
 {
-    let mut waiting = Waiting::new();
-    put_lines(&mut waiting, sink, shape, answer)?;
-    waiting.flush(sink)
+    let mut out = OutBuffer::new();
+    push_lines(&mut out, sink, shape, answer)?;
+    out.flush(sink)
 }

@@ -19,16 +19,26 @@ use tier_core::{Class, Column, Kind, Shape, Sym, Timeline};
 
 // The texts of single lines, which are proved.
 fn lines()
-    ensures node { (node : Node) → prefix_kind 1 1 node.kind ≡ record { place = 0; opened = false ∷ []; phases = closed ∷ [] } → node.potential ≡ 1 → node_line 1 1 node ≡ codes "node 0/-/. 1" }
-    ensures phases { (node : Node) → prefix_kind 2 3 node.kind ≡ record { place = 17; opened = true ∷ false ∷ []; phases = met ∷ closed ∷ unmet ∷ [] } → node.potential ≡ 20 → node_line 2 3 node ≡ codes "node 17/+-/m.u 20" }
+    ensures node { (node : Node)
+        → prefix_kind 1 1 node.kind
+        ≡ record { place = 0; opened = false ∷ []; phases = closed ∷ [] } → node.potential ≡ 1
+        → node_line 1 1 node ≡ codes "node 0/-/. 1" }
+    ensures phases { (node : Node)
+        → prefix_kind 2 3 node.kind
+        ≡ record { place = 17; opened = true ∷ false ∷ []; phases = met ∷ closed ∷ unmet ∷ [] }
+        → node.potential ≡ 20 → node_line 2 3 node ≡ codes "node 17/+-/m.u 20" }
     ensures stage { stage_lines 1 1 12 [] ≡ codes "stage 12 0" ∷ [] }
-    ensures arc { (arc : ArcLine) → arc.target ≡ 1 → sets_of arc.class ≡ 3 ∷ 4 ∷ 31 ∷ [] → arc_line arc ≡ codes "arc 1 {-+}[{-+[]|}" }
-    ensures state { (state : StateLine) → state.node ≡ 2 → state.accepting ≡ true → state.arcs.items ≡ [] → state_lines state ≡ codes "state 2 final" ∷ [] }
-    ensures other { (state : StateLine) → state.node ≡ 10 → state.accepting ≡ false → state.arcs.items ≡ [] → state_lines state ≡ codes "state 10" ∷ [] }
+    ensures arc { (arc : ArcLine) → arc.target ≡ 1 → sets_of arc.class ≡ 3 ∷ 4 ∷ 31 ∷ []
+        → arc_line arc ≡ codes "arc 1 {-+}[{-+[]|}" }
+    ensures state { (state : StateLine) → state.node ≡ 2 → state.accepting ≡ true
+        → state.arcs.items ≡ [] → state_lines state ≡ codes "state 2 final" ∷ [] }
+    ensures other { (state : StateLine) → state.node ≡ 10 → state.accepting ≡ false
+        → state.arcs.items ≡ [] → state_lines state ≡ codes "state 10" ∷ [] }
     ensures none { counts_line [] ≡ codes "counts" }
     ensures some { counts_line (0 ∷ 21 ∷ 0 ∷ []) ≡ codes "counts 0 21 0" }
     ensures empty { text_of [] ≡ codes "empty" }
-    ensures columns { text_of ((Sym.Start ∷ Sym.Outside ∷ []) ∷ (Sym.Both ∷ Sym.End ∷ []) ∷ []) ≡ codes "[- |]" }
+    ensures columns { text_of ((Sym.Start ∷ Sym.Outside ∷ []) ∷ (Sym.Both ∷ Sym.End ∷ []) ∷ [])
+        ≡ codes "[- |]" }
 {}
 
 #[test]
@@ -82,8 +92,12 @@ fn state(
 // Any number of constituents of the second tier, one after the other, and none of the first.
 fn two_states(alloc: Global) -> Result<Automaton, AllocError>
     ensures empty { IfOk result (λ a. Accepts a.states.items []) }
-    ensures one { IfOk result (λ a. Accepts a.states.items ((Sym.Outside ∷ Sym.Start ∷ []) ∷ (Sym.Outside ∷ Sym.End ∷ []) ∷ [])) }
-    ensures open { IfOk result (λ a. Accepts a.states.items ((Sym.Outside ∷ Sym.Start ∷ []) ∷ []) → ⊥) }
+    ensures one { IfOk result
+        (λ a.
+        Accepts a.states.items
+        ((Sym.Outside ∷ Sym.Start ∷ []) ∷ (Sym.Outside ∷ Sym.End ∷ []) ∷ [])) }
+    ensures open { IfOk result
+        (λ a. Accepts a.states.items ((Sym.Outside ∷ Sym.Start ∷ []) ∷ []) → ⊥) }
 {
     let opens = arc(alloc, 1, Sym::Outside, Sym::Start);
     let closes = arc(alloc, 0, Sym::Outside, Sym::End);

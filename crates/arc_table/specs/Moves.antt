@@ -4,7 +4,7 @@ use Rattle.weight_law.specs.declared.Weight.{Ghosts}
 use Rattle.arc_table.specs.declared.arc.TableArc.{TableArc}
 use Rattle.arc_table.specs.declared.state.TableState.{TableState}
 
--- the moves from a state, and none where there is no such state
+-- the moves from a state, and none if there is no such state
 abbrev pub moves_at : {W : Type 0} {g : Ghosts W} → List (TableState W g) → ℕ → List (TableArc W g)
 moves_at states s = slice_index_or (map (λ state. state.arcs.items) states) s []
 

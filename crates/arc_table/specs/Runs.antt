@@ -18,7 +18,7 @@ abbrev pub weight_of : {W : Type 0} {g : Ghosts W} → List (TableArc W g) → W
 weight_of {W} {g} [] = g.meaning.zero
 weight_of {W} {g} (arc ∷ arcs) = g.meaning.sum arc.weight (weight_of arcs)
 
--- the moves' classes hold the word's columns in turn
+-- the moves' classes contain the word's columns in turn
 abbrev pub Reads : {W : Type 0} {g : Ghosts W} → List (TableArc W g) → List (List Sym) → Type 0
 Reads [] [] = Unit {0}
 Reads [] (column ∷ word) = ⊥
@@ -26,7 +26,8 @@ Reads (arc ∷ arcs) [] = ⊥
 Reads (arc ∷ arcs) (column ∷ word) = IsTrue (has arc.class column) × Reads arcs word
 
 -- a run from the start that reads the word
-pub record AcceptingRun {W : Type 0} {g : Ghosts W} (states : List (TableState W g)) (word : List (List Sym)) (arcs : List (TableArc W g)) : Type 0 where
+pub record AcceptingRun {W : Type 0} {g : Ghosts W} (states : List (TableState W g)) (word : List (List Sym))
+    (arcs : List (TableArc W g)) : Type 0 where
   pub run : IsRun states 0 arcs
   pub reads : Reads arcs word
 
@@ -37,7 +38,8 @@ Accepts {W} {g} states word = (arcs : List (TableArc W g)) × AcceptingRun state
 abbrev pub IsLeastWord : {W : Type 0} {g : Ghosts W} → List (TableState W g) → List (List Sym) → Type 0
 IsLeastWord {W} {g} states word =
     (arcs : List (TableArc W g)) × AcceptingRun states word arcs
-    × ((other : List (List Sym)) (others : List (TableArc W g)) → AcceptingRun states other others → AtMost g.meaning (weight_of arcs) (weight_of others))
+    × ((other : List (List Sym)) (others : List (TableArc W g)) → AcceptingRun states other others
+    → AtMost g.meaning (weight_of arcs) (weight_of others))
 
 -- w is the least weight of a run from state s
 pub record IsLeastFrom {W : Type 0} {g : Ghosts W} (states : List (TableState W g)) (s : ℕ) (w : W) : Type 0 where
@@ -50,7 +52,8 @@ HasNoRun {W} {g} states s = (arcs : List (TableArc W g)) → IsRun states s arcs
 
 -- the number of states times the size of any arc is at most n
 abbrev pub SizesWithin : {W : Type 0} {g : Ghosts W} → List (TableState W g) → ℕ → Type 0
-SizesWithin {W} {g} states n = (s : ℕ) (arc : TableArc W g) → Contains (moves_at states s) arc → length states * g.meaning.size arc.weight ≤ n
+SizesWithin {W} {g} states n = (s : ℕ) (arc : TableArc W g) → Contains (moves_at states s) arc
+    → length states * g.meaning.size arc.weight ≤ n
 
 -- moves, one after another, from state s to state t
 abbrev pub IsPath : {W : Type 0} {g : Ghosts W} → List (TableState W g) → ℕ → List (TableArc W g) → ℕ → Type 0

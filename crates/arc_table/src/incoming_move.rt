@@ -1,6 +1,6 @@
 use weight_law::Weight;
 
-/// A move turned round: the state that it comes from, and its weight.
+/// A reversed move: the state that it comes from, and its weight.
 #[derive(Drop)]
 pub struct IncomingMove<W: Weight> {
     pub source: u32,

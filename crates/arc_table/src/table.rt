@@ -6,7 +6,7 @@ use crate::arc::TableArc;
 use crate::state::TableState;
 use weight_law::Weight;
 
-/// States, numbered from 0, of which state 0 is the start.
+/// States, numbered from 0; state 0 is the start.
 #[derive(Drop)]
 pub struct Table<W: Weight> {
     states: Vec<TableState<W>>,
@@ -21,7 +21,7 @@ pub struct Table<W: Weight> {
 impl<W: Weight> Table<W> {
     ghost use Rattle.arc_table.specs.States.{states_of};
 
-    /// The table of exactly these states. It takes no memory.
+    /// The table of exactly these states. Allocates no memory.
     pub fn of_states(states: Vec<TableState<W>>) -> Table<W>
         requires some { 0 < length states.items }
         requires few { length states.items < 2 ^ 32 }

@@ -24,7 +24,8 @@ use Rattle.violation.specs.Problems.{Problem, last_stage}
 pub kinds_total : IsTotalOrder kind_order
 kinds_total =
     then_total (on_total (λ (k : PrefixKind). k.place) nat_cmp_total)
-    (then_total (on_total (λ (k : PrefixKind). map open_rank k.opened) nat_list_cmp_total) (on_total (λ (k : PrefixKind). map phase_rank k.phases) nat_list_cmp_total))
+    (then_total (on_total (λ (k : PrefixKind). map open_rank k.opened) nat_list_cmp_total)
+    (on_total (λ (k : PrefixKind). map phase_rank k.phases) nat_list_cmp_total))
 
 turned : (o : Ordering) → o ≡ ordering_reverse o → is_lt o ≡ true → ⊥
 turned Less e h = true≢false (ap is_lt e)
@@ -36,12 +37,15 @@ pub not_before_itself : (k : PrefixKind) → kind_order k k ≡ Less → ⊥
 not_before_itself k e = turned (kind_order k k) (kinds_total.antisymm k k) (ap is_lt e)
 
 -- in a list that ascends, a kind has one place
-one_place : (ks : List PrefixKind) → IsStrictlySortedBy kind_order ks → (i j : ℕ) (d : PrefixKind) → i < length ks → j < length ks → get_or ks i d ≡ get_or ks j d → i ≡ j
+one_place : (ks : List PrefixKind) → IsStrictlySortedBy kind_order ks → (i j : ℕ) (d : PrefixKind) → i < length ks
+    → j < length ks → get_or ks i d ≡ get_or ks j d → i ≡ j
 one_place ks sorted i j d a b e = elim (cases_order i j) [
   | inl same ↦ same
   | inr other ↦ elim other [
-    | inl less ↦ absurd (not_before_itself (get_or ks j d) (ap (λ k. kind_order k (get_or ks j d)) (sym e) ∙ Less-from_sorted kind_order ks i j d sorted less b))
-    | inr more ↦ absurd (not_before_itself (get_or ks i d) (ap (λ k. kind_order k (get_or ks i d)) e ∙ Less-from_sorted kind_order ks j i d sorted more a))
+    | inl less ↦ absurd (not_before_itself (get_or ks j d)
+        (ap (λ k. kind_order k (get_or ks j d)) (sym e) ∙ Less-from_sorted kind_order ks i j d sorted less b))
+    | inr more ↦ absurd (not_before_itself (get_or ks i d)
+        (ap (λ k. kind_order k (get_or ks i d)) e ∙ Less-from_sorted kind_order ks j i d sorted more a))
   ]
 ]
 
@@ -51,35 +55,43 @@ module _ (problem : Problem) (r : ℕ) where
   told node = kind_of_bits problem r node.kind
 
   -- the place of a member that tells a kind
-  told_at : (nodes : List Node) (node : Node) (k : PrefixKind) (i : ℕ) → i < length nodes → get_or nodes i node ≡ node → told node ≡ k → get_or (map told nodes) i k ≡ k
+  told_at : (nodes : List Node) (node : Node) (k : PrefixKind) (i : ℕ) → i < length nodes → get_or nodes i node ≡ node
+      → told node ≡ k → get_or (map told nodes) i k ≡ k
   told_at nodes node k i l e t = get_or-map told nodes i node k l ∙ ap told e ∙ t
 
   module _ (stages : List Stage) where
-    pub lists_kind : (k : PrefixKind) (p : ℕ) → Lists problem stages r k p → Contains (kinds_at problem r (nodes_at stages r)) k
-    lists_kind k p l = subst (Contains (kinds_at problem r (nodes_at stages r))) l.tells (contains_map told (nodes_at stages r) l.node l.listed)
+    pub lists_kind : (k : PrefixKind) (p : ℕ) → Lists problem stages r k p
+        → Contains (kinds_at problem r (nodes_at stages r)) k
+    lists_kind k p l = subst (Contains (kinds_at problem r (nodes_at stages r))) l.tells
+        (contains_map told (nodes_at stages r) l.node l.listed)
 
-    pub kind_listed : (k : PrefixKind) → Contains (kinds_at problem r (nodes_at stages r)) k → (p : ℕ) × Lists problem stages r k p
+    pub kind_listed : (k : PrefixKind) → Contains (kinds_at problem r (nodes_at stages r)) k
+        → (p : ℕ) × Lists problem stages r k p
     kind_listed k h =
         let m = contains_of_map told (nodes_at stages r) k h in
         let node : Node = m.0 in
         (node.potential, record { node = node; listed = m.1.0; tells = m.1.1; potential = refl })
 
     -- the start, which comes first, is listed
-    pub first_listed : (k : PrefixKind) → slice_get (kinds_at problem r (nodes_at stages r)) 0 ≡ Some k → (p : ℕ) × Lists problem stages r k p
+    pub first_listed : (k : PrefixKind) → slice_get (kinds_at problem r (nodes_at stages r)) 0 ≡ Some k
+        → (p : ℕ) × Lists problem stages r k p
     first_listed k e =
         let kinds : List PrefixKind = kinds_at problem r (nodes_at stages r) in
         kind_listed k (0, slice_get_within kinds 0 k e, get_or_from_slice_get kinds 0 k k e)
 
     -- a kind has one potential
-    pub one_potential : IsStrictlySortedBy kind_order (kinds_at problem r (nodes_at stages r)) → (k : PrefixKind) (p q : ℕ) → Lists problem stages r k p → Lists problem stages r k q → p ≡ q
+    pub one_potential : IsStrictlySortedBy kind_order (kinds_at problem r (nodes_at stages r))
+        → (k : PrefixKind) (p q : ℕ) → Lists problem stages r k p → Lists problem stages r k q → p ≡ q
     one_potential sorted k p q a b =
         let nodes : List Node = nodes_at stages r in
         let i = a.listed in
         let j = b.listed in
         let size : length (map told nodes) ≡ length nodes = length-map nodes told in
-        let same : i.0 ≡ j.0 = one_place (map told nodes) sorted i.0 j.0 k (omega (arith, size, i.1)) (omega (arith, size, j.1))
+        let same : i.0 ≡ j.0 = one_place (map told nodes) sorted i.0 j.0 k (omega (arith, size, i.1))
+        (omega (arith, size, j.1))
         (told_at nodes a.node k i.0 i.1 i.2 a.tells ∙ sym (told_at nodes b.node k j.0 j.1 j.2 b.tells)) in
-        let one : a.node ≡ b.node = sym i.2 ∙ get_or_default nodes i.0 a.node b.node i.1 ∙ ap (λ n. get_or nodes n b.node) same ∙ j.2 in
+        let one : a.node ≡ b.node = sym i.2 ∙ get_or_default nodes i.0 a.node b.node i.1
+        ∙ ap (λ n. get_or nodes n b.node) same ∙ j.2 in
         sym a.potential ∙ ap (λ (node : Node). node.potential) one ∙ b.potential
 
 -- Nodes by their numbers, under all constraints.
@@ -87,36 +99,51 @@ module _ (problem : Problem) (nodes : List Node) where
   abbrev told_last : Node → PrefixKind
   told_last = told problem (last_stage problem)
 
-  pub kind_numbered : (k : PrefixKind) → Contains (kinds_at problem (last_stage problem) nodes) k → (n : ℕ) × IsNodeOf problem nodes n k
+  pub kind_numbered : (k : PrefixKind) → Contains (kinds_at problem (last_stage problem) nodes) k
+      → (n : ℕ) × IsNodeOf problem nodes n k
   kind_numbered k h =
       let m = contains_of_map told_last nodes k h in
-      let i = m.1.0 in
-      (i.0, record { node = m.0; numbered = slice_get-get_or nodes i.0 m.0 i.1 ∙ ap (λ (node : Node). Some node) i.2; tells = m.1.1 })
+      let i = m.1.0 in (
+        i.0,
+        record {
+          node = m.0;
+          numbered = slice_get-get_or nodes i.0 m.0 i.1
+              ∙ ap (λ (node : Node). Some node) i.2;
+          tells = m.1.1;
+        },
+      )
 
-  pub numbered_kind : (n : ℕ) (k : PrefixKind) → IsNodeOf problem nodes n k → Contains (kinds_at problem (last_stage problem) nodes) k
+  pub numbered_kind : (n : ℕ) (k : PrefixKind) → IsNodeOf problem nodes n k
+      → Contains (kinds_at problem (last_stage problem) nodes) k
   numbered_kind n k h =
       subst (Contains (kinds_at problem (last_stage problem) nodes)) h.tells
-      (contains_map told_last nodes h.node (n, slice_get_within nodes n h.node h.numbered, get_or_from_slice_get nodes n h.node h.node h.numbered))
+      (contains_map told_last nodes h.node
+      (n, slice_get_within nodes n h.node h.numbered, get_or_from_slice_get nodes n h.node h.node h.numbered))
 
   -- a kind has one number
-  pub one_number : IsStrictlySortedBy kind_order (kinds_at problem (last_stage problem) nodes) → (k : PrefixKind) (m n : ℕ) → IsNodeOf problem nodes m k → IsNodeOf problem nodes n k → m ≡ n
+  pub one_number : IsStrictlySortedBy kind_order (kinds_at problem (last_stage problem) nodes)
+      → (k : PrefixKind) (m n : ℕ) → IsNodeOf problem nodes m k → IsNodeOf problem nodes n k → m ≡ n
   one_number sorted k m n a b =
       let size : length (map told_last nodes) ≡ length nodes = length-map nodes told_last in
       let below : m < length nodes = slice_get_within nodes m a.node a.numbered in
       let under : n < length nodes = slice_get_within nodes n b.node b.numbered in
       one_place (map told_last nodes) sorted m n k (omega (arith, size, below)) (omega (arith, size, under))
-      (told_at problem (last_stage problem) nodes a.node k m below (get_or_from_slice_get nodes m a.node a.node a.numbered) a.tells
-      ∙ sym (told_at problem (last_stage problem) nodes b.node k n under (get_or_from_slice_get nodes n b.node b.node b.numbered) b.tells))
+      (told_at problem (last_stage problem) nodes a.node k m below
+      (get_or_from_slice_get nodes m a.node a.node a.numbered) a.tells
+      ∙ sym (told_at problem (last_stage problem) nodes b.node k n under
+      (get_or_from_slice_get nodes n b.node b.node b.numbered) b.tells))
 
   -- a number has one kind
   pub one_kind : (k l : PrefixKind) (n : ℕ) → IsNodeOf problem nodes n k → IsNodeOf problem nodes n l → k ≡ l
   one_kind k l n a b =
       sym a.tells
-      ∙ ap told_last (sym (get_or_from_slice_get nodes n a.node a.node a.numbered) ∙ get_or_from_slice_get nodes n b.node a.node b.numbered)
+      ∙ ap told_last (sym (get_or_from_slice_get nodes n a.node a.node a.numbered)
+      ∙ get_or_from_slice_get nodes n b.node a.node b.numbered)
       ∙ b.tells
 
 -- the kind that comes first has number 0
-pub first_numbered : (problem : Problem) (nodes : List Node) (k : PrefixKind) → slice_get (kinds_at problem (last_stage problem) nodes) 0 ≡ Some k → IsNodeOf problem nodes 0 k
+pub first_numbered : (problem : Problem) (nodes : List Node) (k : PrefixKind)
+    → slice_get (kinds_at problem (last_stage problem) nodes) 0 ≡ Some k → IsNodeOf problem nodes 0 k
 first_numbered problem [] k e = absurd (omega (arith, slice_get_within [] 0 k e))
 first_numbered problem (node ∷ nodes) k e = record {
   node = node;

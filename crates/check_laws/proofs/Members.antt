@@ -6,7 +6,8 @@ use Rattle.std.proofs.lemmas.List.Elements.{Contains-get_or}
 pub contains_map : {X Y : Type 0} (f : X → Y) (xs : List X) (x : X) → Contains xs x → Contains (map f xs) (f x)
 contains_map f xs x h = (h.0, omega (arith, length-map xs f, h.1), get_or-map f xs h.0 x (f x) h.1 ∙ ap f h.2)
 
-pub contains_of_map : {X Y : Type 0} (f : X → Y) (xs : List X) (y : Y) → Contains (map f xs) y → (x : X) × (Contains xs x × (f x ≡ y))
+pub contains_of_map : {X Y : Type 0} (f : X → Y) (xs : List X) (y : Y) → Contains (map f xs) y
+    → (x : X) × (Contains xs x × (f x ≡ y))
 contains_of_map f [] y h = absurd (omega (arith, h.1))
 contains_of_map f (x ∷ xs) y h =
     let inside : h.0 < length (x ∷ xs) = omega (arith, length-map (x ∷ xs) f, h.1) in

@@ -33,8 +33,13 @@ pub record AreTold (problem : Problem) (stages : List Stage) (example : List (Li
   pub optimal : (T : List (List Sym)) → IsCandidate problem T → IsOptimalFor problem r T ↔ AllFall problem stages r T
   pub shares : IsOptimalFor problem r example
 
-module _ (problem : Problem) (stages : List Stage) (split : AreSplit problem.tiers) (form : IsForm problem.tiers problem.form) (over : AllByRecursion (IsOverTiers problem.tiers.width) problem.constraints) (counts : List ℕ) (example : List (List Sym)) (candidate : IsCandidate problem example) (counted : counts ≡ counts_on problem example) where
-  module _ (r : ℕ) (within : r ≤ last_stage problem) (certified : IsCertifiedStage problem counts stages r) (ranked : 1 ≤ r) (told : AreTold problem stages example (r - 1)) where
+module _ (problem : Problem) (stages : List Stage) (split : AreSplit problem.tiers)
+    (form : IsForm problem.tiers problem.form)
+    (over : AllByRecursion (IsOverTiers problem.tiers.width) problem.constraints) (counts : List ℕ)
+    (example : List (List Sym)) (candidate : IsCandidate problem example)
+    (counted : counts ≡ counts_on problem example) where
+  module _ (r : ℕ) (within : r ≤ last_stage problem) (certified : IsCertifiedStage problem counts stages r)
+      (ranked : 1 ≤ r) (told : AreTold problem stages example (r - 1)) where
     -- the violations of constraint r
     abbrev count : List (List Sym) → ℕ
     count T = count_at problem r T
@@ -46,30 +51,42 @@ module _ (problem : Problem) (stages : List Stage) (split : AreSplit problem.tie
     first = first_listed problem r stages (kind_of problem r []) certified.first
 
     first_is : first.0 ≡ count example
-    first_is = certified.start first.0 first.1 ∙ start_count counts r ranked ∙ ap (λ (v : List ℕ). get_or v (r - 1) 0) counted
+    first_is = certified.start first.0 first.1 ∙ start_count counts r ranked
+        ∙ ap (λ (v : List ℕ). get_or v (r - 1) 0) counted
 
-    fall_before : (T : List (List Sym)) → IsOptimalFor problem (r - 1) T → (j : ℕ) → 1 ≤ j → j < r → FallsAlong problem stages j [] T
+    fall_before : (T : List (List Sym)) → IsOptimalFor problem (r - 1) T → (j : ℕ) → 1 ≤ j → j < r
+        → FallsAlong problem stages j [] T
     fall_before T o j a b = (told.optimal T o.candidate).0 o j a (omega arith)
 
-    walk : (T : List (List Sym)) → IsCandidate problem T → count T ≡ rest_cost problem stages split form over counts r within certified ranked [] T
+    walk : (T : List (List Sym)) → IsCandidate problem T
+        → count T ≡ rest_cost problem stages split form over counts r within certified ranked [] T
     walk T c = violations_walk problem r (stage_at problem stages split form over r within) ranked T c
 
     -- what the constraints before leave has at least the example's count
     at_least : (T : List (List Sym)) → IsOptimalFor problem (r - 1) T → count example ≤ count T
     at_least T o =
         let low : first.0 ≤ rest_cost problem stages split form over counts r within certified ranked [] T =
-        bound problem stages split form over counts r within certified ranked T [] first.0 o.candidate first.1 (fall_before T o) in
+        bound problem stages split form over counts r within certified ranked T [] first.0 o.candidate first.1
+        (fall_before T o) in
         omega (arith, low, first_is, walk T o.candidate)
 
     -- and with that count it is r-optimal
-    with_count : (T : List (List Sym)) → IsOptimalFor problem (r - 1) T → count T ≡ count example → IsOptimalFor problem r T
-    with_count T o e = record { candidate = o.candidate; least = λ U c. at_most_by_last r ranked (counts_on problem T) (counts_on problem U) (long T) (long U) (o.least U c) (no_less U c) }
+    with_count : (T : List (List Sym)) → IsOptimalFor problem (r - 1) T → count T ≡ count example
+        → IsOptimalFor problem r T
+    with_count T o e = record {
+      candidate = o.candidate;
+      least = λ U c. at_most_by_last r ranked (counts_on problem T) (counts_on problem U) (long T) (long U)
+          (o.least U c) (no_less U c);
+    }
       where
-        no_less : (U : List (List Sym)) → IsCandidate problem U → vec_cmp (take (r - 1) (counts_on problem T)) (take (r - 1) (counts_on problem U)) ≡ Equal → count T ≤ count U
+        no_less : (U : List (List Sym)) → IsCandidate problem U
+            → vec_cmp (take (r - 1) (counts_on problem T)) (take (r - 1) (counts_on problem U)) ≡ Equal
+            → count T ≤ count U
         no_less U c same =
             let other : IsOptimalFor problem (r - 1) U = record {
               candidate = c;
-              least = λ V d. equal_at_most (take (r - 1) (counts_on problem T)) (take (r - 1) (counts_on problem U)) (take (r - 1) (counts_on problem V)) same (o.least V d);
+              least = λ V d. equal_at_most (take (r - 1) (counts_on problem T)) (take (r - 1) (counts_on problem U))
+                  (take (r - 1) (counts_on problem V)) same (o.least V d);
             } in
             omega (arith, e, at_least U other)
 
@@ -77,8 +94,10 @@ module _ (problem : Problem) (stages : List Stage) (split : AreSplit problem.tie
     has_count T o =
         let before : IsOptimalFor problem (r - 1) T = optimal_for_fewer problem (r - 1) r (omega arith) T o in
         let same : vec_cmp (take (r - 1) (counts_on problem T)) (take (r - 1) (counts_on problem example)) ≡ Equal =
-        both_equal (take (r - 1) (counts_on problem T)) (take (r - 1) (counts_on problem example)) (before.least example candidate) (told.shares.least T o.candidate) in
-        let most : count T ≤ count example = at_most_last r ranked (counts_on problem T) (counts_on problem example) (long T) (long example) (o.least example candidate) same in
+        both_equal (take (r - 1) (counts_on problem T)) (take (r - 1) (counts_on problem example))
+        (before.least example candidate) (told.shares.least T o.candidate) in
+        let most : count T ≤ count example = at_most_last r ranked (counts_on problem T) (counts_on problem example)
+        (long T) (long example) (o.least example candidate) same in
         omega (arith, most, at_least T before)
 
     falls_from_optimal : (T : List (List Sym)) → IsOptimalFor problem r T → AllFall problem stages r T
@@ -89,14 +108,18 @@ module _ (problem : Problem) (stages : List Stage) (split : AreSplit problem.tie
           | inr l ↦
               (let here : r ≡ j = omega arith in
               subst (λ i. FallsAlong problem stages i [] T) here
-              (falls_from_sum problem stages split form over counts r within certified ranked T [] first.0 o.candidate first.1 (fall_before T before)
+              (falls_from_sum problem stages split form over counts r within certified ranked T [] first.0 o.candidate
+              first.1 (fall_before T before)
               (sym (walk T o.candidate) ∙ has_count T o ∙ sym first_is)))
         ]
 
-    optimal_from_falls : (T : List (List Sym)) → IsCandidate problem T → AllFall problem stages r T → IsOptimalFor problem r T
+    optimal_from_falls : (T : List (List Sym)) → IsCandidate problem T → AllFall problem stages r T
+        → IsOptimalFor problem r T
     optimal_from_falls T c f =
         with_count T ((told.optimal T c).1 (λ j a b. f j a (omega arith)))
-        (walk T c ∙ sum_from_falls problem stages split form over counts r within certified ranked T [] first.0 c first.1 (f r ranked (omega arith)) ∙ first_is)
+        (walk T c
+        ∙ sum_from_falls problem stages split form over counts r within certified ranked T [] first.0 c first.1
+        (f r ranked (omega arith)) ∙ first_is)
 
     pub told_more : AreTold problem stages example r
     told_more = record {
@@ -105,11 +128,14 @@ module _ (problem : Problem) (stages : List Stage) (split : AreSplit problem.tie
     }
 
   -- The stages from 1 to r tell the r-optimal candidates where they are certified.
-  pub all_told : (r : ℕ) → r ≤ last_stage problem → ((j : ℕ) → 1 ≤ j → j ≤ r → IsCertifiedStage problem counts stages j) → AreTold problem stages example r
+  pub all_told : (r : ℕ) → r ≤ last_stage problem
+      → ((j : ℕ) → 1 ≤ j → j ≤ r → IsCertifiedStage problem counts stages j) → AreTold problem stages example r
   all_told zero w s = record {
     optimal = λ T c. (λ o j a b. absurd (omega arith), λ f. all_optimal problem T c);
     shares = all_optimal problem example candidate;
   }
   all_told (suc i) w s =
       let back : suc i - 1 ≡ i = omega arith in
-      told_more (suc i) w (s (suc i) (omega arith) (omega arith)) (omega arith) (subst (AreTold problem stages example) (sym back) (all_told i (omega arith) (λ j a b. s j a (omega arith))))
+      told_more (suc i) w (s (suc i) (omega arith) (omega arith)) (omega arith)
+      (subst (AreTold problem stages example) (sym back)
+      (all_told i (omega arith) (λ j a b. s j a (omega arith))))

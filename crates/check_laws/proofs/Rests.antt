@@ -12,7 +12,8 @@ use Rattle.violation.proofs.WalkSums.{walk_cost, violations_on}
 use Rattle.violation.specs.Problems.{Problem}
 
 -- from stage 1 on
-pub least_rest : (problem : Problem) (r : ℕ) (k : PrefixKind) (p : ℕ) → 1 ≤ r → IsRemaining problem r k p → IsLeastRest problem r k p
+pub least_rest : (problem : Problem) (r : ℕ) (k : PrefixKind) (p : ℕ) → 1 ≤ r → IsRemaining problem r k p
+    → IsLeastRest problem r k p
 least_rest problem zero k p l h = absurd (omega arith)
 least_rest problem (suc i) k p l h = h
 
@@ -32,9 +33,12 @@ module _ (problem : Problem) (r : ℕ) (stage : IsStage problem r) where
         let n : ℕ = least.some.1.0 in
         let passes = least.some.1.1.0 in
         let parts : take n T ++ drop n T ≡ T = take-append-drop n T in
-        let optimal : IsOptimalFor problem (r - 1) (take n T ++ drop n T) = subst (IsOptimalFor problem (r - 1)) (sym parts) passes.optimal in
-        let total : count_at problem r (take n T ++ drop n T) ≡ count_at problem r T = ap (λ (v : List (List Sym)). count_at problem r v) parts in
-        let so_far : count_so_far_at problem r (take n T ++ drop n T) (length (take n T)) ≡ count_so_far_at problem r T n =
+        let optimal : IsOptimalFor problem (r - 1) (take n T ++ drop n T) = subst (IsOptimalFor problem (r - 1))
+        (sym parts) passes.optimal in
+        let total : count_at problem r (take n T ++ drop n T)
+        ≡ count_at problem r T = ap (λ (v : List (List Sym)). count_at problem r v) parts in
+        let so_far : count_so_far_at problem r (take n T ++ drop n T) (length (take n T))
+        ≡ count_so_far_at problem r T n =
         ap (λ (v : List (List Sym)). count_so_far_at problem r v (length (take n T))) parts
         ∙ ap (λ (m : ℕ). count_so_far_at problem r T m) (length-take-le n T passes.within) in
         record {
@@ -42,10 +46,22 @@ module _ (problem : Problem) (r : ℕ) (stage : IsStage problem r) where
           rest = drop n T;
           optimal = optimal;
           of_kind = passes.of_kind;
-          costs = omega (arith, violations_on problem r stage ranked (take n T) (drop n T) optimal.candidate, total, so_far, least.some.1.1.1);
+          costs = omega (
+            arith,
+            violations_on problem r stage ranked (take n T) (drop n T) optimal.candidate,
+            total,
+            so_far,
+            least.some.1.1.1,
+          );
         }
 
-    pub rest_least : (v q : List (List Sym)) → IsOptimalFor problem (r - 1) (v ++ q) → kind_of problem r v ≡ k → p ≤ walk_cost problem r stage (r - 1) (kind_of problem r v) q
+    pub rest_least : (v q : List (List Sym)) → IsOptimalFor problem (r - 1) (v ++ q) → kind_of problem r v ≡ k
+        → p ≤ walk_cost problem r stage (r - 1) (kind_of problem r v) q
     rest_least v q o same =
-        let low = least.least (v ++ q) (length v) (record { optimal = o; within = omega (arith, length-append v q); of_kind = ap (kind_of problem r) (take_at v q (length v) refl) ∙ same }) in
+        let low = least.least (v ++ q) (length v)
+        (record {
+          optimal = o;
+          within = omega (arith, length-append v q);
+          of_kind = ap (kind_of problem r) (take_at v q (length v) refl) ∙ same;
+        }) in
         omega (arith, low, violations_on problem r stage ranked v q o.candidate)

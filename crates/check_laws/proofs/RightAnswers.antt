@@ -19,5 +19,6 @@ sound_from_right problem answer right = record {
   example = right.example.member;
   each_kind = λ r w k passed. ((right.each_stage r w).kinds.members k).1 passed;
   distinct = numbers_apart (numbers_of answer.automaton.states.items) right.automaton.ascending;
-  arcs = λ i d l. let a = right.automaton.arcs i d l in record { apart = a.apart; one_width = a.one_width; targets = a.targets };
+  arcs = λ i d l. let a = right.automaton.arcs i d l in record
+      { apart = a.apart; one_width = a.one_width; targets = a.targets };
 }

@@ -60,11 +60,17 @@ module _ (problem : Problem) (answer : Answer) (given : IsGiven problem answer) 
   same_number = one_number problem nodes (given.right.each_stage last (omega arith)).kinds.ascending
 
   -- reading a prefix of an optimal candidate ends at its kind
-  reads_to : (v q : List (List Sym)) → IsOptimalFor problem last (v ++ q) → (m : ℕ) × (Leads states 0 v m × IsNodeOf problem nodes m (kind_of problem last v))
+  reads_to : (v q : List (List Sym)) → IsOptimalFor problem last (v ++ q)
+      → (m : ℕ) × (Leads states 0 v m × IsNodeOf problem nodes m (kind_of problem last v))
   reads_to v q o =
       let read = given.right.automaton.reads (v ++ q) (length v) o (omega (arith, length-append v q)) in
-      let front : take (length v) (v ++ q) ≡ v = take_at v q (length v) refl in
-      (read.0, (subst (λ w. Leads states 0 w read.0) front read.1.0, subst (λ w. IsNodeOf problem nodes read.0 (kind_of problem last w)) front read.1.2))
+      let front : take (length v) (v ++ q) ≡ v = take_at v q (length v) refl in (
+        read.0,
+        (
+          subst (λ w. Leads states 0 w read.0) front read.1.0,
+          subst (λ w. IsNodeOf problem nodes read.0 (kind_of problem last w)) front read.1.2,
+        ),
+      )
 
   -- a state with its kind, a prefix of an optimal candidate that is read up to it, and what follows
   pub record IsReached (n : ℕ) (k : PrefixKind) : Type 0 where
@@ -82,27 +88,47 @@ module _ (problem : Problem) (answer : Answer) (given : IsGiven problem answer) 
       let read = reads_to parts.0 parts.1.0 parts.1.1.0 in
       let kind : kind_of problem last parts.0 ≡ k = parts.1.1.1 ∙ same in
       let number : read.0 ≡ n = same_number k read.0 n (subst (IsNodeOf problem nodes read.0) kind read.1.1) node in
-      record { before = parts.0; rest = parts.1.0; optimal = parts.1.1.0; of_kind = kind; leads = subst (Leads states 0 parts.0) number read.1.0 }
+      record {
+        before = parts.0;
+        rest = parts.1.0;
+        optimal = parts.1.1.0;
+        of_kind = kind;
+        leads = subst (Leads states 0 parts.0) number read.1.0;
+      }
 
-  finals : (state : StateLine) (k : PrefixKind) → Contains states state → IsNodeOf problem nodes state.node k → state.accepting ≡ is_final problem k
+  finals : (state : StateLine) (k : PrefixKind) → Contains states state → IsNodeOf problem nodes state.node k
+      → state.accepting ≡ is_final problem k
   finals state k listed node =
-      let at : IsReached state.node k = reached state.node k (contains_map (λ (line : StateLine). line.node) states state listed) node in
+      let at : IsReached state.node k = reached state.node k
+      (contains_map (λ (line : StateLine). line.node) states state listed) node in
       let v : List (List Sym) = at.before in
       both_ways state.accepting (is_final problem k)
       (λ t.
-      let o = (given.right.automaton.accepts v).0 (record { last = state.node; leads = at.leads; final = record { state = state; listed = listed; numbered = refl; final = t } }) in
-      ap (is_final problem) (sym at.of_kind) ∙ candidate_final problem last given.split given.form (over_at problem answer.stages.items given.split given.form given.over last (omega arith)) v o.candidate)
+      let o = (given.right.automaton.accepts v).0
+      (record {
+        last = state.node;
+        leads = at.leads;
+        final = record { state = state; listed = listed; numbered = refl; final = t };
+      }) in
+      ap (is_final problem) (sym at.of_kind)
+      ∙ candidate_final problem last given.split given.form
+      (over_at problem answer.stages.items given.split given.form given.over last (omega arith)) v o.candidate)
       (λ f.
       let c : IsCandidate problem v =
-      final_candidate problem last given.split given.form (over_at problem answer.stages.items given.split given.form given.over last (omega arith)) v
+      final_candidate problem last given.split given.form
+      (over_at problem answer.stages.items given.split given.form given.over last (omega arith)) v
       (begun_of problem v at.rest at.optimal.candidate) (ap (is_final problem) at.of_kind ∙ f) in
-      let o : IsOptimalFor problem last v = (told.optimal v c).1 (λ j a b. (falls_to problem answer given last told v at.rest at.optimal j a b).0) in
+      let o : IsOptimalFor problem last v = (told.optimal v c).1
+      (λ j a b. (falls_to problem answer given last told v at.rest at.optimal j a b).0) in
       let a : Accepts states v = (given.right.automaton.accepts v).1 o in
       let end : a.last ≡ state.node = one_end v a.last state.node a.leads at.leads in
-      let same : a.final.state ≡ state = one_state states given.right.automaton.ascending a.final.state state a.final.listed listed (a.final.numbered ∙ end) in
+      let same : a.final.state
+      ≡ state = one_state states given.right.automaton.ascending a.final.state state a.final.listed listed
+      (a.final.numbered ∙ end) in
       ap (λ (line : StateLine). line.accepting) (sym same) ∙ a.final.final)
 
-  module _ (n m : ℕ) (k : PrefixKind) (column : List Sym) (c : Contains (numbers_of states) n) (node : IsNodeOf problem nodes n k) where
+  module _ (n m : ℕ) (k : PrefixKind) (column : List Sym) (c : Contains (numbers_of states) n)
+      (node : IsNodeOf problem nodes n k) where
     here : IsReached n k
     here = reached n k c node
 
@@ -112,7 +138,9 @@ module _ (problem : Problem) (answer : Answer) (given : IsGiven problem answer) 
       target =
           subst (Contains (numbers_of states)) arc.to
           (All-contains (λ (line : ArcLine). Contains (numbers_of states) line.target) arc.state.arcs.items arc.arc
-          (All-contains (λ (state : StateLine). All (λ (line : ArcLine). Contains (numbers_of states) line.target) state.arcs.items) states arc.state targets arc.listed) arc.leaves)
+          (All-contains (λ (state : StateLine). All
+          (λ (line : ArcLine). Contains
+          (numbers_of states) line.target) state.arcs.items) states arc.state targets arc.listed) arc.leaves)
 
       there : (l : PrefixKind) × IsReached m l
       there = let passed = given.right.automaton.passed m target in (passed.0, reached m passed.0 target passed.1.0)
@@ -127,9 +155,11 @@ module _ (problem : Problem) (answer : Answer) (given : IsGiven problem answer) 
       accepted : Accepts states (longer ++ there.1.rest)
       accepted =
           let q : List (List Sym) = there.1.rest in
-          let a : Accepts states (there.1.before ++ q) = (given.right.automaton.accepts (there.1.before ++ q)).1 there.1.optimal in
+          let a : Accepts states (there.1.before ++ q) =
+          (given.right.automaton.accepts (there.1.before ++ q)).1 there.1.optimal in
           let parts = leads_parts states there.1.before q 0 a.last a.leads in
-          let onward : Leads states m q a.last = subst (λ i. Leads states i q a.last) (one_end there.1.before parts.0 m parts.1.0 there.1.leads) parts.1.1 in
+          let onward : Leads states m q a.last = subst (λ i. Leads states i q a.last)
+          (one_end there.1.before parts.0 m parts.1.0 there.1.leads) parts.1.1 in
           record { last = a.last; leads = leads_joined states longer q 0 m a.last step onward; final = a.final }
 
       whole : IsOptimalFor problem last (longer ++ there.1.rest)
@@ -142,27 +172,35 @@ module _ (problem : Problem) (answer : Answer) (given : IsGiven problem answer) 
       target_kind : kind_of problem last longer ≡ moved problem last k column
       unfolding longer
       target_kind =
-          sym (goes_to problem answer.stages.items given.split given.form given.over last (omega arith) here.before column (there.1.rest, whole.candidate))
+          sym (goes_to problem answer.stages.items given.split given.form given.over last
+          (omega arith) here.before column (there.1.rest, whole.candidate))
           ∙ ap (λ x. moved problem last x column) here.of_kind
 
       target_node : IsNodeOf problem nodes m (kind_of problem last longer)
       target_node =
           let read = reads_to longer there.1.rest whole in
-          subst (λ i. IsNodeOf problem nodes i (kind_of problem last longer)) (one_end longer read.0 m read.1.0 step) read.1.1
+          subst (λ i. IsNodeOf problem nodes i (kind_of problem last longer))
+          (one_end longer read.0 m read.1.0 step) read.1.1
 
-      arc_kept : IsKeptBelow problem answer.stages.items (last + 1) k column × IsNodeOf problem nodes m (moved problem last k column)
+      arc_kept : IsKeptBelow problem answer.stages.items (last + 1) k column × IsNodeOf problem nodes m
+          (moved problem last k column)
       arc_kept = (
         subst (λ x. IsKeptBelow problem answer.stages.items (last + 1) x column) here.of_kind
-            (kept_from_falls problem answer.stages.items given.split given.form given.over (last + 1) last (omega arith) (omega arith) here.before column there.1.rest through.candidate
-            (λ j b l. (falls_to problem answer given last told here.before (column ∷ there.1.rest) through j b (omega arith)).1.0)),
+            (kept_from_falls problem answer.stages.items given.split given.form given.over (last + 1) last
+            (omega arith) (omega arith) here.before column there.1.rest through.candidate
+            (λ j b l. (falls_to problem answer given last told here.before (column ∷ there.1.rest) through j b
+            (omega arith)).1.0)),
         subst (IsNodeOf problem nodes m) target_kind target_node,
       )
 
     -- A kept move goes on from that prefix to an optimal candidate, which is read by an arc on the column.
-    module _ (kept : IsKeptBelow problem answer.stages.items (last + 1) k column) (node_there : IsNodeOf problem nodes m (moved problem last k column)) where
-      more : BeginsCandidate problem (here.before ++ column ∷ []) × AllFall problem answer.stages.items last (here.before ++ column ∷ [])
+    module _ (kept : IsKeptBelow problem answer.stages.items (last + 1) k column)
+        (node_there : IsNodeOf problem nodes m (moved problem last k column)) where
+      more : BeginsCandidate problem (here.before ++ column ∷ []) × AllFall problem answer.stages.items last
+          (here.before ++ column ∷ [])
       more =
-          kept_longer problem answer given last last (last + 1) (omega arith) (omega arith) (λ j a b. omega arith) told here.before here.rest here.optimal column
+          kept_longer problem answer given last last (last + 1) (omega arith) (omega arith)
+          (λ j a b. omega arith) told here.before here.rest here.optimal column
           (subst (λ x. IsKeptBelow problem answer.stages.items (last + 1) x column) (sym here.of_kind) kept)
 
       far : (q : List (List Sym)) × IsOptimalFor problem last ((here.before ++ column ∷ []) ++ q)
@@ -171,19 +209,27 @@ module _ (problem : Problem) (answer : Answer) (given : IsGiven problem answer) 
       kind_there : moved problem last k column ≡ kind_of problem last (here.before ++ column ∷ [])
       kind_there =
           ap (λ x. moved problem last x column) (sym here.of_kind)
-          ∙ goes_to problem answer.stages.items given.split given.form given.over last (omega arith) here.before column more.0
+          ∙ goes_to problem answer.stages.items given.split given.form given.over last
+          (omega arith) here.before column more.0
 
       read_there : (i : ℕ) × (Leads states 0 (here.before ++ column ∷ []) i × (i ≡ m))
       read_there =
-          let read = reads_to (here.before ++ column ∷ []) far.0 far.1 in
-          (read.0, (read.1.0, same_number (kind_of problem last (here.before ++ column ∷ [])) read.0 m read.1.1 (subst (IsNodeOf problem nodes m) kind_there node_there)))
+          let read = reads_to (here.before ++ column ∷ []) far.0 far.1 in (
+            read.0,
+            (
+              read.1.0,
+              same_number (kind_of problem last (here.before ++ column ∷ [])) read.0 m read.1.1
+                  (subst (IsNodeOf problem nodes m) kind_there node_there),
+            ),
+          )
 
       kept_arc : HasArc states n m column
       kept_arc =
           let parts = leads_parts states here.before (column ∷ []) 0 read_there.0 read_there.1.0 in
           let start : parts.0 ≡ n = one_end here.before parts.0 n parts.1.0 here.leads in
           let arc = parts.1.1 in
-          subst (λ i. HasArc states n i column) (arc.1.1 ∙ read_there.1.1) (subst (λ i. HasArc states i arc.0 column) start arc.1.0)
+          subst (λ i. HasArc states n i column) (arc.1.1 ∙ read_there.1.1)
+          (subst (λ i. HasArc states i arc.0 column) start arc.1.0)
 
   automaton_certified : IsCertifiedAutomaton problem answer.stages.items states
   automaton_certified = record {

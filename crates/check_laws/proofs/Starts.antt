@@ -29,13 +29,17 @@ use Rattle.violation.specs.Problems.{Problem}
 
 -- ---- the first of a list that ascends
 
-first_at : (ks : List PrefixKind) → IsStrictlySortedBy kind_order ks → (k : PrefixKind) (i : ℕ) → i < length ks → get_or ks i k ≡ k → ((l : PrefixKind) → Contains ks l → kind_order l k ≡ Less → ⊥) → slice_get ks 0 ≡ Some k
+first_at : (ks : List PrefixKind) → IsStrictlySortedBy kind_order ks → (k : PrefixKind) (i : ℕ) → i < length ks
+    → get_or ks i k ≡ k → ((l : PrefixKind) → Contains ks l → kind_order l k ≡ Less → ⊥) → slice_get ks 0 ≡ Some k
 first_at [] sorted k i l e bar = absurd (omega arith)
 first_at (x ∷ xs) sorted k zero l e bar = ap (λ y. Some y) e
-first_at (x ∷ xs) sorted k (suc i) l e bar = absurd (bar x (0, omega arith, refl) (ap (kind_order x) (sym e) ∙ Less-from_sorted kind_order (x ∷ xs) 0 (suc i) k sorted (omega arith) l))
+first_at (x ∷ xs) sorted k (suc i) l e bar = absurd
+    (bar x (0, omega arith, refl) (ap (kind_order x) (sym e)
+    ∙ Less-from_sorted kind_order (x ∷ xs) 0 (suc i) k sorted (omega arith) l))
 
 -- a member before which no other comes is the first
-pub first_is : (ks : List PrefixKind) → IsStrictlySortedBy kind_order ks → (k : PrefixKind) → Contains ks k → ((l : PrefixKind) → Contains ks l → kind_order l k ≡ Less → ⊥) → slice_get ks 0 ≡ Some k
+pub first_is : (ks : List PrefixKind) → IsStrictlySortedBy kind_order ks → (k : PrefixKind) → Contains ks k
+    → ((l : PrefixKind) → Contains ks l → kind_order l k ≡ Less → ⊥) → slice_get ks 0 ≡ Some k
 first_is ks sorted k h bar = first_at ks sorted k h.0 h.1 h.2 bar
 
 -- ---- no kind comes before that of the empty prefix
@@ -48,24 +52,33 @@ not_less Greater p f g e = false≢true (ap is_lt e)
 not_below_zero : (m n : ℕ) → n ≡ 0 → nat_cmp m n ≡ Less → ⊥
 not_below_zero m n z e = let less : m < n = ranked m n Less (sym e) in omega arith
 
-not_below_zeros : {A B : Type 0} (h : B → ℕ) (f g : A → B) (xs : List A) → AllByRecursion (λ x. h (g x) ≡ 0) xs → slice_cmp nat_cmp (map h (map f xs)) (map h (map g xs)) ≡ Less → ⊥
+not_below_zeros : {A B : Type 0} (h : B → ℕ) (f g : A → B) (xs : List A) → AllByRecursion (λ x. h (g x) ≡ 0) xs
+    → slice_cmp nat_cmp (map h (map f xs)) (map h (map g xs)) ≡ Less → ⊥
 not_below_zeros h f g [] z e = false≢true (ap is_lt e)
 not_below_zeros h f g (x ∷ xs) z e =
-    not_less (nat_cmp (h (f x)) (h (g x))) (slice_cmp nat_cmp (map h (map f xs)) (map h (map g xs))) (not_below_zero (h (f x)) (h (g x)) z.0) (not_below_zeros h f g xs z.1) e
+    not_less (nat_cmp (h (f x)) (h (g x))) (slice_cmp nat_cmp (map h (map f xs)) (map h (map g xs)))
+    (not_below_zero (h (f x)) (h (g x)) z.0) (not_below_zeros h f g xs z.1) e
 
 closed_first : (left right : List Event) → 0 < length left → ◌≡◌ {A = ℕ} (phase_rank (phase left right [])) 0
 closed_first [] right l = absurd (omega arith)
 closed_first (e ∷ es) right l = refl
 
-pub none_before_start : (problem : Problem) (r : ℕ) → AllByRecursion (IsOverTiers problem.tiers.width) (stretches problem r) → (p : List (List Sym)) → kind_order (kind_of problem r p) (kind_of problem r []) ≡ Less → ⊥
+pub none_before_start : (problem : Problem) (r : ℕ)
+    → AllByRecursion (IsOverTiers problem.tiers.width) (stretches problem r) → (p : List (List Sym))
+    → kind_order (kind_of problem r p) (kind_of problem r []) ≡ Less → ⊥
 none_before_start problem r over p e =
     let k : PrefixKind = kind_of problem r p in
     let start : PrefixKind = kind_of problem r [] in
-    not_less (nat_cmp k.place start.place) (ordering_then (open_order k.opened start.opened) (phase_order k.phases start.phases)) (not_below_zero k.place 0 refl)
+    not_less (nat_cmp k.place start.place)
+    (ordering_then (open_order k.opened start.opened) (phase_order k.phases start.phases))
+    (not_below_zero k.place 0 refl)
     (not_less (open_order k.opened start.opened) (phase_order k.phases start.phases)
-    (not_below_zeros open_rank (λ t. is_open (word p t)) (λ t. is_open (word (let none : List (List Sym) = [] in none) t)) problem.tiers.free (all_of _ problem.tiers.free (λ t. refl)))
+    (not_below_zeros open_rank (λ t. is_open (word p t))
+    (λ t. is_open (word (let none : List (List Sym) = [] in none) t)) problem.tiers.free
+    (all_of _ problem.tiers.free (λ t. refl)))
     (not_below_zeros phase_rank (λ c. phase c.left c.right p) (λ c. phase c.left c.right []) (stretches problem r)
-    (all_weaker (IsOverTiers problem.tiers.width) _ (stretches problem r) (λ c o. closed_first c.left c.right o.some_left) over)))
+    (all_weaker (IsOverTiers problem.tiers.width) _ (stretches problem r)
+    (λ c o. closed_first c.left c.right o.some_left) over)))
     e
 
 -- ---- the kind of a prefix
@@ -75,17 +88,26 @@ closed_is true true = refl
 closed_is true false = refl
 closed_is false b = refl
 
-module _ (problem : Problem) (split : AreSplit problem.tiers) (form : IsForm problem.tiers problem.form) (r : ℕ) (p : List (List Sym)) (begun : IsBegun problem p) where
-  left_open : (c : Constraint) → IsOverTiers problem.tiers.width c → list_all (λ e. is_open (word p e.tier)) c.left ≡ is_left_open problem (kind_of problem r p) c
+module _ (problem : Problem) (split : AreSplit problem.tiers) (form : IsForm problem.tiers problem.form) (r : ℕ)
+    (p : List (List Sym)) (begun : IsBegun problem p) where
+  left_open : (c : Constraint) → IsOverTiers problem.tiers.width c
+      → list_all (λ e. is_open (word p e.tier)) c.left ≡ is_left_open problem (kind_of problem r p) c
   left_open c o =
       sym (all_agree (λ e. is_tier_open problem (kind_of problem r p) e.tier) (λ e. is_open (word p e.tier)) c.left
-      (all_weaker (λ e. e.tier < problem.tiers.width) _ c.left (λ e l. tier_open_is problem split form r p begun e.tier l) o.left_below))
+      (all_weaker (λ e. e.tier < problem.tiers.width) _ c.left
+      (λ e l. tier_open_is problem split form r p begun e.tier l) o.left_below))
 
-  phases_closed : (cs : List Constraint) → AllByRecursion (IsOverTiers problem.tiers.width) cs → AreClosedOr (is_left_open problem (kind_of problem r p)) cs (map (λ c. phase c.left c.right p) cs)
+  phases_closed : (cs : List Constraint) → AllByRecursion (IsOverTiers problem.tiers.width) cs
+      → AreClosedOr (is_left_open problem (kind_of problem r p)) cs (map (λ c. phase c.left c.right p) cs)
   phases_closed [] o = tt
-  phases_closed (c ∷ cs) o = (closed_is (list_all (λ e. is_open (word p e.tier)) c.left) _ ∙ ap not (left_open c o.0), phases_closed cs o.1)
+  phases_closed (c ∷ cs) o = (
+    closed_is (list_all (λ e. is_open (word p e.tier)) c.left) _
+        ∙ ap not (left_open c o.0),
+    phases_closed cs o.1,
+  )
 
-  pub possible : AllByRecursion (IsOverTiers problem.tiers.width) (stretches problem r) → IsPossibleKind problem r (kind_of problem r p)
+  pub possible : AllByRecursion (IsOverTiers problem.tiers.width) (stretches problem r)
+      → IsPossibleKind problem r (kind_of problem r p)
   possible over = record {
     place = omega (arith, ap length begun.place, length-take (length (input_part problem.tiers p)) problem.form);
     phases = phases_closed (stretches problem r) over;

@@ -1,4 +1,5 @@
--- A worked grammar: an input tier A, an overt tier a, and the constraints `a # a`, `A -> a`, `a -> A`.
+-- A worked grammar: an input tier A, an overt tier a, and the constraints `a # a`, `A -> a`,
+-- `a -> A`.
 use Rattle.std.specs.Prelude.{ℕ, List, [], ◌∷◌, codes, String}
 use Rattle.std.specs.declared.alloc.Global.{Global}
 use Rattle.tier_core.specs.declared.constraint.Constraint.{Constraint}
@@ -10,7 +11,12 @@ use Rattle.violation.specs.Examples.{over_two}
 
 -- the constraints, all of one name
 abbrev pub worked : String Global → List Constraint
-worked name = record { name = name; family = Clash; left = types (codes "Aa") (codes "a"); right = types (codes "Aa") (codes "a") } ∷ max_a name ∷ dep_a name ∷ []
+worked name = record {
+  name = name;
+  family = Clash;
+  left = types (codes "Aa") (codes "a");
+  right = types (codes "Aa") (codes "a");
+} ∷ max_a name ∷ dep_a name ∷ []
 
 -- what a column costs at a stage from a kind, for the form `[ ]`
 abbrev pub cost_at : String Global → ℕ → PrefixKind → List ℕ → ℕ

@@ -10,5 +10,8 @@ ghost use Rattle.violation.specs.Problems.{Problem};
 
 /// An answer in which nothing is wrong, move by move, is sound, whoever wrote it.
 pub fn certified_answers_are_sound()
-    ensures { (problem : Problem) (answer : Answer) → AreSplit problem.tiers → AllByRecursion (IsOverTiers problem.tiers.width) problem.constraints → AreStatesInOrder problem.tiers.width answer.automaton.states.items → IsCertified problem answer → IsSound problem answer }
+    ensures { (problem : Problem) (answer : Answer) → AreSplit problem.tiers
+        → AllByRecursion (IsOverTiers problem.tiers.width) problem.constraints
+        → AreStatesInOrder problem.tiers.width answer.automaton.states.items
+        → IsCertified problem answer → IsSound problem answer }
 {}

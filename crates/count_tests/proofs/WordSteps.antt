@@ -32,20 +32,24 @@ module _ (T : List (List Sym)) (t k : ℕ) (column : List Sym) (h : k < length T
   pub end_later : ends (symbol column t) ≡ false → end_from T t k ≡ end_from T t (k + 1)
   end_later e = end_step ∙ ap (λ b. cond b (Some k) (end_from T t (k + 1))) e
 
-  left_step : left_from T t k ≡ cond (starts (symbol column t)) (pair_to k (end_from T t (k + 1))) [] ++ left_from T t (k + 1)
+  left_step : left_from T t k ≡ cond (starts (symbol column t)) (pair_to k (end_from T t (k + 1))) []
+      ++ left_from T t (k + 1)
   left_step =
       ap (λ rest. constituents_from k (word rest t)) next
-      ∙ ap (λ n. cond (starts (symbol column t)) (pair_to k (next_end n (word (drop (k + 1) T) t))) [] ++ constituents_from n (word (drop (k + 1) T) t)) (sym (add-one k))
+      ∙ ap (λ n. cond (starts (symbol column t)) (pair_to k (next_end n (word (drop (k + 1) T) t))) []
+      ++ constituents_from n (word (drop (k + 1) T) t)) (sym (add-one k))
 
   pub left_without_start : starts (symbol column t) ≡ false → left_from T t k ≡ left_from T t (k + 1)
   left_without_start e = left_step ∙ ap (λ b. cond b (pair_to k (end_from T t (k + 1))) [] ++ left_from T t (k + 1)) e
 
-  pub left_without_end : starts (symbol column t) ≡ true → end_from T t (k + 1) ≡ None → left_from T t k ≡ left_from T t (k + 1)
+  pub left_without_end : starts (symbol column t) ≡ true → end_from T t (k + 1) ≡ None
+      → left_from T t k ≡ left_from T t (k + 1)
   left_without_end e n =
       left_step ∙ ap (λ b. cond b (pair_to k (end_from T t (k + 1))) [] ++ left_from T t (k + 1)) e
       ∙ ap (λ j. pair_to k j ++ left_from T t (k + 1)) n
 
-  pub left_with_pair : (j : ℕ) → starts (symbol column t) ≡ true → end_from T t (k + 1) ≡ Some j → left_from T t k ≡ (k, j) ∷ left_from T t (k + 1)
+  pub left_with_pair : (j : ℕ) → starts (symbol column t) ≡ true → end_from T t (k + 1) ≡ Some j
+      → left_from T t k ≡ (k, j) ∷ left_from T t (k + 1)
   left_with_pair j e n =
       left_step ∙ ap (λ b. cond b (pair_to k (end_from T t (k + 1))) [] ++ left_from T t (k + 1)) e
       ∙ ap (λ o. pair_to k o ++ left_from T t (k + 1)) n
@@ -57,7 +61,8 @@ pub left_none : (T : List (List Sym)) (t k : ℕ) → length T ≤ k → left_fr
 left_none T t k h = ap (λ rest. constituents_from k (word rest t)) (drop_all k T h)
 
 -- a span more, which is the event of the next constituent
-pub one_more : (part : Part) (spans : List Span) (span : Span) (c : ℕ × ℕ) (rest : List (ℕ × ℕ)) → interval span ≡ event part c
+pub one_more : (part : Part) (spans : List Span) (span : Span) (c : ℕ × ℕ) (rest : List (ℕ × ℕ))
+    → interval span ≡ event part c
     → map interval (spans ++ (span ∷ [])) ++ map (event part) rest ≡ map interval spans ++ map (event part) (c ∷ rest)
 one_more part spans span c rest e =
     ap (λ xs. xs ++ map (event part) rest) (map-append interval spans (span ∷ []))

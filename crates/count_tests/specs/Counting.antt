@@ -20,7 +20,8 @@ abbrev pub counts_meet : Family → List Event → List (List Sym) → Interval 
 counts_meet Clash right T m = is_there m
 counts_meet Implication right T m = is_there m && not (is_met T right m)
 
--- how many choices of one event of each type are counted, where some intervals were chosen before
+-- how many choices of one event of each type are counted, given some intervals that were chosen
+-- before
 abbrev pub counted_after : Family → List Event → List (List Sym) → List Interval → List Event → ℕ
 counted_after family right T before types =
     count_by (λ choice. counts_meet family right T (meet (before ++ choice))) (choices (map (events T) types))

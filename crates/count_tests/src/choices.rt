@@ -18,7 +18,10 @@ const NOTHING: Span = Span { low: 0, high: 0 };
 fn is_met_by(alloc: Global, columns: &[Column], event: Event, met: Span) -> Result<bool, NoMemory>
     requires tier { HasTier columns.now event.tier }
     requires short { length columns.now ≤ 65536 }
-    ensures { IfOk result (λ found. found ≡ list_any (λ x. is_there (meet (interval met ∷ x ∷ []))) (events columns.now event)) }
+    ensures { IfOk result
+        (λ found.
+        found
+        ≡ list_any (λ x. is_there (meet (interval met ∷ x ∷ []))) (events columns.now event)) }
 {
     let spans = events_of(alloc, columns, event)?;
     Ok(met.meets_some(&spans))
@@ -48,7 +51,8 @@ fn is_counted(
 ) -> Result<bool, NoMemory>
     requires tiers { HasTiersOf columns.now right.now }
     requires short { length columns.now ≤ 65536 }
-    ensures { IfOk result (λ counted. counted ≡ counts_meet family right.now columns.now (interval met)) }
+    ensures { IfOk result
+        (λ counted. counted ≡ counts_meet family right.now columns.now (interval met)) }
 {
     match family {
         Family::Clash => Ok(met.is_there()),
@@ -69,7 +73,9 @@ fn counted_from(
     requires tiers { HasTiersOf columns.now types.now }
     requires short { length columns.now ≤ 8 }
     requires few { length types.now ≤ 16 }
-    ensures { IfOk result (λ count. count ≡ counted_after family right.now columns.now (intervals_of chosen) types.now) }
+    ensures { IfOk result
+        (λ count.
+        count ≡ counted_after family right.now columns.now (intervals_of chosen) types.now) }
 {
     let Some((first, others)) = types.split_first() else {
         let met = chosen.unwrap_or(NOTHING);
@@ -84,10 +90,12 @@ fn counted_from(
     Ok(count)
 }
 
-/// The types of which a choice has one event each: those of both sides of a clash, those of the left
-/// side of an implication.
+/// The types of which a choice has one event each: those of both sides of a clash, those of the
+/// left side of an implication.
 fn chosen_types(alloc: Global, constraint: &Constraint) -> Result<Vec<Event>, NoMemory>
-    ensures types { IfOk result (λ types. types.items ≡ chosen constraint.now.family constraint.now.left constraint.now.right) }
+    ensures types { IfOk result
+        (λ types.
+        types.items ≡ chosen constraint.now.family constraint.now.left constraint.now.right) }
     ensures few { IfOk result (λ types. length types.items ≤ 16) }
 {
     let mut types = constraint

@@ -1,9 +1,9 @@
-//! Tests of what constraints count, against a slow program that goes by the definition.
+//! Tests of what constraints count, against a slow program that follows the definition.
 //!
 //! [`counted_by_choices`] lists the events of each type, makes the choices one after the other, and
 //! counts those that the definition counts. The tests compare it with `violation::violations` on
-//! small timelines, and `violations` with counts that were worked out by hand. No other crate stands
-//! on this one.
+//! small timelines, and `violations` with counts that were worked out by hand. No other crate
+//! depends on this one.
 #![tactic(auto)]
 
 mod choices;

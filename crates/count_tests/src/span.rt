@@ -4,7 +4,7 @@ ghost use Rattle.tier_core.specs.Events.{event, is_there, meet};
 
 use tier_core::Part;
 
-/// An interval of doubled time: place k of a timeline stands at 2k. Both ends belong to it.
+/// An interval of doubled time: place k of a timeline is at 2k. Both ends belong to it.
 #[derive(Clone, Copy, Debug, PartialEq, Eq)]
 pub(crate) struct Span {
     pub low: u32,
@@ -65,7 +65,9 @@ impl Span {
 
     /// Whether it has a meet with one of the spans.
     pub(crate) fn meets_some(self, spans: &[Span]) -> bool
-        ensures { result ≡ list_any (λ span. is_there (meet (interval self ∷ interval span ∷ []))) spans.now }
+        ensures { result
+            ≡ list_any
+            (λ span. is_there (meet (interval self ∷ interval span ∷ []))) spans.now }
     {
         spans.iter().any(|span| self.meets(*span))
     }

@@ -11,7 +11,7 @@ const TWO: &[u8] = b"otp 1\ntier A input\ntier a overt\n";
 
 const THREE: &[u8] = b"otp 1\ntier A input\ntier a overt\ntier b hidden\n";
 
-/// The constraint over these tiers that is written so in the grammar language.
+/// The constraint over these tiers that is written in this way in the grammar language.
 fn constraint_of(alloc: Global, tiers: &[u8], constraint: &[u8]) -> Result<Constraint, Fail> {
     let mut text = tiers.to_vec(alloc)?;
     text.extend_from_slice(b"constraint X ")?;

@@ -24,17 +24,20 @@ use Rattle.distances.proofs.Steps.{step-witnessed, step-covered}
 use Rattle.distances.proofs.Ends.{fits}
 
 -- only states have a weight
-pub known_inside : {W : Type 0} (least : List (Option W)) (s : ℕ) (w : W) → get_or least s None ≡ Some w → s < length least
+pub known_inside : {W : Type 0} (least : List (Option W)) (s : ℕ) (w : W) → get_or least s None ≡ Some w
+    → s < length least
 known_inside least s w e = elim (cases_lt s (length least)) [
   | inl l ↦ l
   | inr l ↦ (let gone : get_or least s None ≡ None = get_or_past least s None l in cc)
 ]
 
 module _ {W : Type 0} {g : Ghosts W} (laws : IsLawful g.meaning) (states : List (TableState W g)) where
-  pub kept_itself : (least : List (Option W)) → length least ≡ length states → AreWitnessed states least → IsKept states least least
+  pub kept_itself : (least : List (Option W)) → length least ≡ length states → AreWitnessed states least
+      → IsKept states least least
   kept_itself least same wit = record { each_state = same; witnessed = wit; covered = λ k cov. cov }
 
-  pub kept_both : (old mid new : List (Option W)) → IsKept states old mid → IsKept states mid new → IsKept states old new
+  pub kept_both : (old mid new : List (Option W)) → IsKept states old mid → IsKept states mid new
+      → IsKept states old new
   kept_both old mid new first second = record {
     each_state = second.each_state;
     witnessed = second.witnessed;
@@ -42,11 +45,16 @@ module _ {W : Type 0} {g : Ghosts W} (laws : IsLawful g.meaning) (states : List 
   }
 
   -- one move
-  one-kept : (least : List (Option W)) → AreWitnessed states least → length least ≡ length states → (s : ℕ) (arc : TableArc W g) (w : W) → s < length states → Contains (moves_at states s) arc → get_or least arc.target None ≡ Some w → IsKept states least (lowered g.meaning least s (g.meaning.sum arc.weight w))
+  one-kept : (least : List (Option W)) → AreWitnessed states least → length least ≡ length states
+      → (s : ℕ) (arc : TableArc W g) (w : W) → s < length states → Contains (moves_at states s) arc
+      → get_or least arc.target None ≡ Some w
+      → IsKept states least (lowered g.meaning least s (g.meaning.sum arc.weight w))
   one-kept least wit same s arc w inside here known =
       let within : s < length least = omega (arith, same) in
-      let one : (a : TableArc W g) → Contains (arc ∷ []) a → Contains (moves_at states s) a = λ a inn. only a (head_or_tail arc a [] inn) in
-      let P : Option W → Type 0 = λ o. IsKept states least (set least s (lesser_of g.meaning (get_or least s None) (added g.meaning arc.weight o))) in
+      let one : (a : TableArc W g) → Contains (arc ∷ []) a
+      → Contains (moves_at states s) a = λ a inn. only a (head_or_tail arc a [] inn) in
+      let P : Option W → Type 0 = λ o. IsKept states least
+      (set least s (lesser_of g.meaning (get_or least s None) (added g.meaning arc.weight o))) in
       let looked : P (get_or least arc.target None) = record {
         each_state = length-set least s (best_of least (get_or least s None) (arc ∷ [])) ∙ same;
         witnessed = step-witnessed laws states least wit s within (arc ∷ []) one;
@@ -59,20 +67,29 @@ module _ {W : Type 0} {g : Ghosts W} (laws : IsLawful g.meaning) (states : List 
       only a (inr none) = absurd (omega (arith, none.1))
 
   -- a move gives its own target nothing less
-  still_known : (least : List (Option W)) (t s : ℕ) (w c : W) → g.meaning.lawful w ≡ true → g.meaning.lawful c ≡ true → t < length least → get_or least t None ≡ Some w → get_or (lowered g.meaning least s (g.meaning.sum c w)) t None ≡ Some w
+  still_known : (least : List (Option W)) (t s : ℕ) (w c : W) → g.meaning.lawful w ≡ true → g.meaning.lawful c ≡ true
+      → t < length least → get_or least t None ≡ Some w
+      → get_or (lowered g.meaning least s (g.meaning.sum c w)) t None ≡ Some w
   still_known least t s w c pw pc within known = elim (cases_eq t s) [
     | inl same ↦
         (let P : ℕ → Type 0 = λ x. get_or (lowered g.meaning least x (g.meaning.sum c w)) t None ≡ Some w in
         let not : g.meaning.below (g.meaning.sum c w) w ≡ false = at_most-added laws w c pw pc in
         let own : lesser_of g.meaning (get_or least t None) (Some (g.meaning.sum c w)) ≡ Some w =
-        ap (λ o. lesser_of g.meaning o (Some (g.meaning.sum c w))) known ∙ ap (λ b. if b then Some (g.meaning.sum c w) else Some w) not in
-        let here : P t = get_or-set_same least t (lesser_of g.meaning (get_or least t None) (Some (g.meaning.sum c w))) None within ∙ own in
+        ap (λ o. lesser_of g.meaning o (Some (g.meaning.sum c w))) known
+        ∙ ap (λ b. if b then Some (g.meaning.sum c w) else Some w) not in
+        let here : P t = get_or-set_same least t
+        (lesser_of g.meaning (get_or least t None) (Some (g.meaning.sum c w))) None within ∙ own in
         subst P same here)
-    | inr ne ↦ get_or-set_other least s t (lesser_of g.meaning (get_or least s None) (Some (g.meaning.sum c w))) None ne ∙ known
+    | inr ne ↦ get_or-set_other least s t
+        (lesser_of g.meaning (get_or least s None) (Some (g.meaning.sum c w))) None ne ∙ known
   ]
 
   -- all moves to state t
-  pub relaxed-kept : (t : ℕ) (w : W) → t < length states → g.meaning.lawful w ≡ true → (moves : List (IncomingMove W)) (least : List (Option W)) → AreWitnessed states least → length least ≡ length states → get_or least t None ≡ Some w → ((move : IncomingMove W) → Contains moves move → HasMove states move.source move.weight t) → IsKept states least (relaxed g.meaning w least moves)
+  pub relaxed-kept : (t : ℕ) (w : W) → t < length states → g.meaning.lawful w ≡ true
+      → (moves : List (IncomingMove W)) (least : List (Option W)) → AreWitnessed states least
+      → length least ≡ length states → get_or least t None ≡ Some w
+      → ((move : IncomingMove W) → Contains moves move → HasMove states move.source move.weight t)
+      → IsKept states least (relaxed g.meaning w least moves)
   relaxed-kept t w ins pw [] least wit same known has = kept_itself least same wit
   relaxed-kept t w ins pw (move ∷ moves) least wit same known has =
       let own = has move (head_in move moves) in
@@ -80,15 +97,20 @@ module _ {W : Type 0} {g : Ghosts W} (laws : IsLawful g.meaning) (states : List 
       let P : W → Type 0 = λ x. IsKept states least (lowered g.meaning least move.source (g.meaning.sum x w)) in
       let Q : W → Type 0 = λ x. get_or (lowered g.meaning least move.source (g.meaning.sum x w)) t None ≡ Some w in
       let target : get_or least arc.target None ≡ Some w = ap (λ x. get_or least x None) own.2 ∙ known in
-      let first : P move.weight = subst P own.3 (one-kept least wit same move.source arc w (moves_exist states move.source arc own.1) own.1 target) in
-      let still : Q move.weight = subst Q own.3 (still_known least t move.source w arc.weight pw arc.lawful (omega (arith, same)) known) in
+      let first : P move.weight = subst P own.3
+      (one-kept least wit same move.source arc w (moves_exist states move.source arc own.1) own.1 target) in
+      let still : Q move.weight = subst Q own.3
+      (still_known least t move.source w arc.weight pw arc.lawful (omega (arith, same)) known) in
       let next = lowered g.meaning least move.source (g.meaning.sum move.weight w) in
       kept_both least next (relaxed g.meaning w next moves) first
-      (relaxed-kept t w ins pw moves next first.witnessed first.each_state still (λ m inn. has m (tail_in move m moves inn)))
+      (relaxed-kept t w ins pw moves next first.witnessed first.each_state still
+      (λ m inn. has m (tail_in move m moves inn)))
 
   -- what the moves turned round have to be
-  module _ (exist : TargetsExist states) (incoming : Incoming W g) (turned : AreTurned states incoming) (t : ℕ) (ins : t < length states) where
-    has_move : (move : IncomingMove W) → Contains (moves_into incoming t) move → HasMove states move.source move.weight t
+  module _ (exist : TargetsExist states) (incoming : Incoming W g) (turned : AreTurned states incoming) (t : ℕ)
+      (ins : t < length states) where
+    has_move : (move : IncomingMove W) → Contains (moves_into incoming t) move
+        → HasMove states move.source move.weight t
     has_move move here = (turned.each t move ins).0 here
 
     pub sources_each : (n : ℕ) → n ≡ length states → All (λ move. move.source < n) (moves_into incoming t)
@@ -103,12 +125,18 @@ module _ {W : Type 0} {g : Ghosts W} (laws : IsLawful g.meaning) (states : List 
         let P : W → Type 0 = λ x. g.meaning.lawful x ≡ true in
         subst P own.3 own.0.lawful
 
-    pub sizes_each : SizesWithin states 4294967295 → (least : List (Option W)) → AreWitnessed states least → (w : W) → get_or least t None ≡ Some w → All (λ move. g.meaning.size move.weight + g.meaning.size w ≤ 4294967295) (moves_into incoming t)
+    pub sizes_each : SizesWithin states 4294967295 → (least : List (Option W)) → AreWitnessed states least → (w : W)
+        → get_or least t None ≡ Some w → All (λ move. g.meaning.size move.weight + g.meaning.size w ≤ 4294967295)
+        (moves_into incoming t)
     sizes_each sizes least wit w known k d l =
         let move = get_or (moves_into incoming t) k d in
         let own = has_move move (Contains-get_or (moves_into incoming t) k d l) in
         let P : W → Type 0 = λ x. g.meaning.size x + g.meaning.size w ≤ 4294967295 in
-        subst P own.3 (fits laws states 4294967295 exist sizes least wit move.source own.0 own.1 w (ap (λ x. get_or least x None) own.2 ∙ known))
+        subst P own.3 (fits laws states 4294967295 exist sizes least wit move.source own.0 own.1 w
+        (ap (λ x. get_or least x None) own.2 ∙ known))
 
-    pub incoming-kept : (least : List (Option W)) → AreWitnessed states least → length least ≡ length states → (w : W) → g.meaning.lawful w ≡ true → get_or least t None ≡ Some w → IsKept states least (relaxed g.meaning w least (moves_into incoming t))
-    incoming-kept least wit same w pw known = relaxed-kept t w ins pw (moves_into incoming t) least wit same known has_move
+    pub incoming-kept : (least : List (Option W)) → AreWitnessed states least → length least ≡ length states → (w : W)
+        → g.meaning.lawful w ≡ true → get_or least t None ≡ Some w
+        → IsKept states least (relaxed g.meaning w least (moves_into incoming t))
+    incoming-kept least wit same w pw known = relaxed-kept t w ins pw
+        (moves_into incoming t) least wit same known has_move

@@ -14,7 +14,8 @@ use Rattle.arc_table.specs.Runs.{IsRun, weight_of}
 use Rattle.distances.specs.Rounds.{IsWithin, places, IsWitness}
 
 -- a test that no element passes fails at each
-AllByRecursion-from_list_any : {X : Type 0} (p : X → Bool) (xs : List X) → list_any p xs ≡ false → AllByRecursion (λ x. p x ≡ false) xs
+AllByRecursion-from_list_any : {X : Type 0} (p : X → Bool) (xs : List X) → list_any p xs ≡ false
+    → AllByRecursion (λ x. p x ≡ false) xs
 AllByRecursion-from_list_any p [] e = tt
 AllByRecursion-from_list_any p (x ∷ xs) e =
     let parts : (p x ≡ false) × (list_any p xs ≡ false) = or_parts (p x) (list_any p xs) e in
@@ -30,15 +31,19 @@ module _ {W : Type 0} {g : Ghosts W} (laws : IsLawful g.meaning) where
   lawful-weight_of [] = laws.lawful_zero
   lawful-weight_of (arc ∷ arcs) = laws.lawful_sum arc.weight (weight_of arcs) arc.lawful (lawful-weight_of arcs)
 
-  pub IsWithin-more : (o : Option W) (a b : W) → g.meaning.lawful a ≡ true → g.meaning.lawful b ≡ true → IsWithin g.meaning o a → AtMost g.meaning a b → IsWithin g.meaning o b
+  pub IsWithin-more : (o : Option W) (a b : W) → g.meaning.lawful a ≡ true → g.meaning.lawful b ≡ true
+      → IsWithin g.meaning o a → AtMost g.meaning a b → IsWithin g.meaning o b
   IsWithin-more None a b pa pb h ab = h
   IsWithin-more (Some u) a b pa pb h ab = (h.0, at_most-trans laws u a b h.0 pa pb h.1 ab)
 
-  pub at_most-weight_of : (arc : TableArc W g) (arcs : List (TableArc W g)) → AtMost g.meaning (weight_of arcs) (weight_of (arc ∷ arcs))
+  pub at_most-weight_of : (arc : TableArc W g) (arcs : List (TableArc W g))
+      → AtMost g.meaning (weight_of arcs) (weight_of (arc ∷ arcs))
   at_most-weight_of arc arcs = at_most-added laws (weight_of arcs) arc.weight (lawful-weight_of arcs) arc.lawful
 
   -- what is known of a state that a witness comes to is at most its weight
-  pub passes : (states : List (TableState W g)) (least : List (Option W)) (s : ℕ) (arcs : List (TableArc W g)) → IsWitness states least s arcs → (q : ℕ) → list_any (eqb q) (places s arcs) ≡ true → IsWithin g.meaning (get_or least q None) (weight_of arcs)
+  pub passes : (states : List (TableState W g)) (least : List (Option W)) (s : ℕ) (arcs : List (TableArc W g))
+      → IsWitness states least s arcs → (q : ℕ) → list_any (eqb q) (places s arcs) ≡ true
+      → IsWithin g.meaning (get_or least q None) (weight_of arcs)
   passes states least s [] h q e =
       let same : q ≡ s = elim (or_cases (eqb q s) false e) [ inl a ↦ eqb-true q s a | inr b ↦ absurd (false≢true b) ] in
       let P : ℕ → Type 0 = λ x. IsWithin g.meaning (get_or least x None) g.meaning.zero in
@@ -47,20 +52,28 @@ module _ {W : Type 0} {g : Ghosts W} (laws : IsLawful g.meaning) where
       let P : ℕ → Type 0 = λ x. IsWithin g.meaning (get_or least x None) (weight_of (arc ∷ arcs)) in
       elim (or_cases (eqb q s) (list_any (eqb q) (places arc.target arcs)) e) [
         | inl a ↦ subst P (sym (eqb-true q s a)) h.1
-        | inr b ↦ IsWithin-more (get_or least q None) (weight_of arcs) (weight_of (arc ∷ arcs)) (lawful-weight_of arcs) (lawful-weight_of (arc ∷ arcs)) (passes states least arc.target arcs h.3 q b) (at_most-weight_of arc arcs)
+        | inr b ↦ IsWithin-more (get_or least q None) (weight_of arcs) (weight_of (arc ∷ arcs))
+            (lawful-weight_of arcs) (lawful-weight_of (arc ∷ arcs)) (passes states least arc.target arcs h.3 q b)
+            (at_most-weight_of arc arcs)
       ]
 
   -- a witness is a run
-  pub run_of : (states : List (TableState W g)) (least : List (Option W)) (s : ℕ) (arcs : List (TableArc W g)) → IsWitness states least s arcs → IsRun states s arcs
+  pub run_of : (states : List (TableState W g)) (least : List (Option W)) (s : ℕ) (arcs : List (TableArc W g))
+      → IsWitness states least s arcs → IsRun states s arcs
   run_of states least s [] h = h.0
   run_of states least s (arc ∷ arcs) h = (h.0, run_of states least arc.target arcs h.3)
 
-  distinct_places : (states : List (TableState W g)) (least : List (Option W)) (s : ℕ) (arcs : List (TableArc W g)) → IsWitness states least s arcs → IsDistinct eqb (places s arcs)
+  distinct_places : (states : List (TableState W g)) (least : List (Option W)) (s : ℕ) (arcs : List (TableArc W g))
+      → IsWitness states least s arcs → IsDistinct eqb (places s arcs)
   distinct_places states least s [] h = IsDistinct-cons eqb s [] tt (distinct_nil eqb)
   distinct_places states least s (arc ∷ arcs) h =
-      IsDistinct-cons eqb s (places arc.target arcs) (AllByRecursion-from_list_any (eqb s) (places arc.target arcs) h.2) (distinct_places states least arc.target arcs h.3)
+      IsDistinct-cons eqb s (places arc.target arcs)
+      (AllByRecursion-from_list_any (eqb s) (places arc.target arcs) h.2)
+      (distinct_places states least arc.target arcs h.3)
 
-  places_below : (states : List (TableState W g)) → TargetsExist states → (s : ℕ) (arcs : List (TableArc W g)) → s < length states → IsRun states s arcs → (q : ℕ) → list_any (eqb q) (places s arcs) ≡ true → q < length states
+  places_below : (states : List (TableState W g)) → TargetsExist states → (s : ℕ) (arcs : List (TableArc W g))
+      → s < length states → IsRun states s arcs → (q : ℕ) → list_any (eqb q) (places s arcs) ≡ true
+      → q < length states
   places_below states exist s [] within run q e =
       let same : q ≡ s = elim (or_cases (eqb q s) false e) [ inl a ↦ eqb-true q s a | inr b ↦ absurd (false≢true b) ] in
       omega arith
@@ -75,8 +88,11 @@ module _ {W : Type 0} {g : Ghosts W} (laws : IsLawful g.meaning) where
   length-places s (arc ∷ arcs) = omega (arith, length-places arc.target arcs)
 
   -- a run that comes to no state twice has fewer moves than there are states
-  pub short : (states : List (TableState W g)) (least : List (Option W)) → TargetsExist states → (s : ℕ) (arcs : List (TableArc W g)) → s < length states → IsWitness states least s arcs → length arcs + 1 ≤ length states
+  pub short : (states : List (TableState W g)) (least : List (Option W)) → TargetsExist states
+      → (s : ℕ) (arcs : List (TableArc W g)) → s < length states → IsWitness states least s arcs
+      → length arcs + 1 ≤ length states
   short states least exist s arcs within h =
       let bound : length (places s arcs) ≤ length states =
-      length-le_from_distinct_below (places s arcs) (length states) (distinct_places states least s arcs h) (places_below states exist s arcs within (run_of states least s arcs h)) in
+      length-le_from_distinct_below (places s arcs) (length states) (distinct_places states least s arcs h)
+      (places_below states exist s arcs within (run_of states least s arcs h)) in
       omega (arith, length-places s arcs, bound)

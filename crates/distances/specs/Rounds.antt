@@ -9,7 +9,7 @@ use Rattle.arc_table.specs.declared.state.TableState.{TableState}
 use Rattle.arc_table.specs.Moves.{moves_at, accepting_at}
 use Rattle.arc_table.specs.Runs.{IsRun, weight_of}
 
--- what is known is there, and at most w
+-- something is known, and it is at most w
 abbrev pub IsWithin : {W : Type 0} → Meaning W → Option W → W → Type 0
 IsWithin m None w = ⊥
 IsWithin m (Some u) w = (m.lawful u ≡ true) × AtMost m u w
@@ -19,8 +19,10 @@ abbrev pub places : {W : Type 0} {g : Ghosts W} → ℕ → List (TableArc W g) 
 places s [] = s ∷ []
 places s (arc ∷ arcs) = s ∷ places arc.target arcs
 
--- a run from s that comes to no state twice, and at each state weighs no less than what is known there
-abbrev pub IsWitness : {W : Type 0} {g : Ghosts W} → List (TableState W g) → List (Option W) → ℕ → List (TableArc W g) → Type 0
+-- a run from s that visits no state twice, and at each state weighs no less than what is known
+-- there
+abbrev pub IsWitness : {W : Type 0} {g : Ghosts W} → List (TableState W g) → List (Option W) → ℕ → List (TableArc W g)
+    → Type 0
 IsWitness {W} {g} states least s [] =
     IsTrue (accepting_at states s) × IsWithin g.meaning (slice_index_or least s None) g.meaning.zero
 IsWitness {W} {g} states least s (arc ∷ arcs) =
@@ -41,7 +43,7 @@ IsCoveredFrom {W} {g} states least n k =
     (s : ℕ) (arcs : List (TableArc W g)) → n ≤ s → s < length states → IsRun states s arcs → length arcs ≤ k →
     IsWithin g.meaning (slice_index_or least s None) (weight_of arcs)
 
--- the same of every state
+-- the same for every state
 abbrev pub IsCovered : {W : Type 0} {g : Ghosts W} → List (TableState W g) → List (Option W) → ℕ → Type 0
 IsCovered {W} {g} states least k =
     (s : ℕ) (arcs : List (TableArc W g)) → s < length states → IsRun states s arcs → length arcs ≤ k →

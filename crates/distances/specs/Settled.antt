@@ -7,7 +7,7 @@ use Rattle.arc_table.specs.declared.incoming_move.IncomingMove.{IncomingMove}
 use Rattle.distances.specs.Best.{lesser_of}
 use Rattle.distances.specs.Rounds.{AreWitnessed, IsCovered}
 
--- the weight c at state s, where it is less than what is known there
+-- the weight c at state s, if it is less than what is known there
 abbrev pub lowered : {W : Type 0} → Meaning W → List (Option W) → ℕ → W → List (Option W)
 lowered m least s c = slice_set least s (lesser_of m (slice_index_or least s None) (Some c))
 
@@ -17,7 +17,8 @@ relaxed m w least [] = least
 relaxed m w least (move ∷ moves) = relaxed m w (lowered m least move.source (m.sum move.weight w)) moves
 
 -- known weights are still those of runs, and none has risen
-pub record IsKept {W : Type 0} {g : Ghosts W} (states : List (TableState W g)) (old new : List (Option W)) : Type 0 where
+pub record IsKept {W : Type 0} {g : Ghosts W} (states : List (TableState W g))
+    (old new : List (Option W)) : Type 0 where
   pub each_state : length new ≡ length states
   pub witnessed : AreWitnessed states new
   pub covered : (k : ℕ) → IsCovered states old k → IsCovered states new k

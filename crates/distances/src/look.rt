@@ -28,7 +28,9 @@ pub(crate) fn best<W: Weight>(
     known: Option<W>,
 ) -> Option<W>
     requires targets { All (λ arc. arc.target < length least.now) arcs.now }
-    requires sizes { All (λ arc. FitsBoth W.meaning arc.weight (slice_index_or least.now arc.target None)) arcs.now }
+    requires sizes { All
+        (λ arc.
+        FitsBoth W.meaning arc.weight (slice_index_or least.now arc.target None)) arcs.now }
     ensures { result ≡ best_of least.now known arcs.now }
 {
     let mut best = known;

@@ -45,14 +45,15 @@ pub(crate) fn differ<W: Weight>(a: Option<W>, b: Option<W>) -> bool
 }
 
 /// Looks at the moves of each state once, the last state first, since arcs mostly lead to later
-/// states. Tells whether anything changed.
+/// states. Returns whether anything changed.
 fn round<W: Weight>(table: &Table<W>, least: &mut [Option<W>]) -> bool
     requires each_state { length least.old ≡ length (states_of table.now) }
     requires sizes { SizesWithin (states_of table.now) u32.MAX }
     requires witnessed { AreWitnessed (states_of table.now) least.old }
     ensures each_state { length least.new ≡ length (states_of table.now) }
     ensures witnessed { AreWitnessed (states_of table.now) least.new }
-    ensures covered { (k : ℕ) → IsCovered (states_of table.now) least.old k → IsCovered (states_of table.now) least.new (k + 1) }
+    ensures covered { (k : ℕ) → IsCovered (states_of table.now) least.old k
+        → IsCovered (states_of table.now) least.new (k + 1) }
     ensures closed { result ≡ false → AreClosed (states_of table.now) least.new }
 {
     let mut changed = false;
@@ -67,7 +68,7 @@ fn round<W: Weight>(table: &Table<W>, least: &mut [Option<W>]) -> bool
     changed
 }
 
-/// The least weights, by rounds until nothing changes. Of weights that are least already, the first
+/// The least weights, by rounds until nothing changes. If the weights are already least, the first
 /// round shows it.
 pub(crate) fn closed<W: Weight>(table: &Table<W>, mut least: Vec<Option<W>>) -> Vec<Option<W>>
     requires each_state { length least.items ≡ length (states_of table.now) }

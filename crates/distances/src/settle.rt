@@ -42,7 +42,7 @@ fn lowers<W: Weight>(weight: W, known: Option<W>) -> bool
     }
 }
 
-/// What is known of a state, and nothing where there is no such state.
+/// What is known of a state, and nothing if there is no such state.
 fn known_at<W: Weight>(least: &[Option<W>], state: u32) -> Option<W>
     ensures { result ≡ slice_index_or least.now state None }
 {
@@ -52,8 +52,8 @@ fn known_at<W: Weight>(least: &[Option<W>], state: u32) -> Option<W>
     }
 }
 
-/// Looks at each of the moves to a state with the weight `rest`. A state of which less is known by
-/// that waits with its new weight.
+/// Looks at each of the moves to a state with the weight `rest`. A state whose known weight this
+/// lowers waits with its new weight.
 fn relax<W: Weight>(
     moves: &[IncomingMove<W>],
     rest: W,
@@ -63,8 +63,10 @@ fn relax<W: Weight>(
     requires inside { All (λ move. move.source < length least.old.items) moves.now }
     requires lawful { IsTrue (W.meaning.lawful rest) }
     requires weights { All (λ move. IsTrue (W.meaning.lawful move.weight)) moves.now }
-    requires sizes { All (λ move. W.meaning.size move.weight + W.meaning.size rest ≤ u32.MAX) moves.now }
-    ensures { IfOk result (λ _. least.new.items ≡ relaxed W.meaning rest least.old.items moves.now) }
+    requires sizes { All
+        (λ move. W.meaning.size move.weight + W.meaning.size rest ≤ u32.MAX) moves.now }
+    ensures { IfOk result
+        (λ _. least.new.items ≡ relaxed W.meaning rest least.old.items moves.now) }
 {
     for incoming in moves {
         let state = incoming.source;
@@ -78,9 +80,9 @@ fn relax<W: Weight>(
     Ok(())
 }
 
-/// Takes the least weight that waits first, and looks at the moves to its state. A state of which less
-/// is known by now is passed over. The turns are more than any machine makes; whether all was seen is
-/// for the caller to find out.
+/// Takes the least weight that waits first, and looks at the moves to its state. A state for which
+/// less is known by now is skipped. The limit on turns is more than any machine makes; whether
+/// everything was seen is for the caller to find out.
 pub(crate) fn settle<W: Weight>(
     alloc: Global,
     table: &Table<W>,

@@ -7,8 +7,8 @@ ghost use Rattle.distances.specs.Waiting.{waiting_cmp, waiting_total};
 use std::cmp::Ordering;
 use weight_law::Weight;
 
-/// A state that waits in a heap with a weight. The lesser weight is the greater in order, so that it
-/// comes first.
+/// A state that waits in a heap with a weight. The lesser weight is the greater in order, so that
+/// it is taken first.
 #[derive(Drop)]
 pub(crate) struct Waiting<W: Weight> {
     pub weight: W,

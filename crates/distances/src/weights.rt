@@ -11,7 +11,7 @@ use std::alloc::{AllocError, Global};
 use tier_core::NoMemory;
 use weight_law::Weight;
 
-/// The least weights, over the moves turned round.
+/// The least weights, over the reversed moves.
 fn over_incoming<W: Weight>(
     alloc: Global,
     table: &Table<W>,
@@ -26,8 +26,9 @@ fn over_incoming<W: Weight>(
     Ok(closed(table, least))
 }
 
-/// For each state the least weight of a path from it to an accepting state, and `None` exactly where
-/// there is no such path. The number of states times the greatest size of an arc has to fit in 32 bits.
+/// For each state the least weight of a path from it to an accepting state, and `None` exactly if
+/// there is no such path. The number of states times the greatest size of an arc must fit in 32
+/// bits.
 pub fn to_final<W: Weight>(alloc: Global, table: &Table<W>) -> Result<Vec<Option<W>>, NoMemory>
     requires { SizesWithin (states_of table.now) u32.MAX }
     ensures { IfOk result (λ least. AreLeast (states_of table.now) least.items) }

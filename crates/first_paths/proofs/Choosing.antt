@@ -30,45 +30,78 @@ module _ {V : Type 0} {h : Ghosts V} where
   IsBestBelow left n arcs i None = (j : ℕ) (d : TableArc V h) → j < i → HasLeft left n (get_or arcs j d) → ⊥
   IsBestBelow left n arcs i (Some b) = IsLeastBelow left n arcs i b.column b.target
 
-  pub best-skip : (left : List (Option Count)) (n : ℕ) (arcs : List (TableArc V h)) (i : ℕ) (arc : TableArc V h) → i < length arcs → arc ≡ get_or arcs i arc → (HasLeft left n arc → ⊥) → (best : Option Choice) → IsBestBelow left n arcs i best → IsBestBelow left n arcs (i + 1) best
+  pub best-skip : (left : List (Option Count)) (n : ℕ) (arcs : List (TableArc V h)) (i : ℕ) (arc : TableArc V h)
+      → i < length arcs → arc ≡ get_or arcs i arc → (HasLeft left n arc → ⊥) → (best : Option Choice)
+      → IsBestBelow left n arcs i best → IsBestBelow left n arcs (i + 1) best
   best-skip left n arcs i arc inside read not best old = go best old
     where
       never : (j : ℕ) (d : TableArc V h) → i ≤ j → j < i + 1 → HasLeft left n (get_or arcs j d) → ⊥
       never j d low high has =
           let at : j ≡ i = omega arith in
-          let same : get_or arcs j d ≡ arc = ap (λ k. get_or arcs k d) at ∙ sym (get_or_read arcs i arc inside read d) in
+          let same : get_or arcs j d ≡ arc = ap (λ k. get_or arcs k d) at
+          ∙ sym (get_or_read arcs i arc inside read d) in
           let P : TableArc V h → Type 0 = HasLeft left n in
           not (subst P same has)
 
       go : (best : Option Choice) → IsBestBelow left n arcs i best → IsBestBelow left n arcs (i + 1) best
-      go None old = λ j d l has. elim (cases_lt j i) [ inl lower ↦ old j d lower has | inr upper ↦ never j d upper l has ]
-      go (Some b) old = (old.0, old.1, old.2, old.3, λ j d l has. elim (cases_lt j i) [ inl lower ↦ old.4 j d lower has | inr upper ↦ absurd (never j d upper l has) ])
+      go None old = λ j d l has. elim
+          (cases_lt j i) [ inl lower ↦ old j d lower has | inr upper ↦ never j d upper l has ]
+      go (Some b) old = (
+        old.0,
+        old.1,
+        old.2,
+        old.3,
+        λ j d l has. elim (cases_lt j i) [
+          | inl lower ↦ old.4 j d lower has
+          | inr upper ↦ absurd
+              (never j d upper l has)
+        ],
+      )
 
-  pub best-take : (left : List (Option Count)) (n : ℕ) (arcs : List (TableArc V h)) (i : ℕ) (arc : TableArc V h) → i < length arcs → arc ≡ get_or arcs i arc → HasLeft left n arc → (best : Option Choice) (choice : Choice) → IsBestBelow left n arcs i best → IsOf arc choice.column choice.target ⊎ (best ≡ Some choice) → is_gt (column_cmp choice.column (first_column arc.class)) ≡ false → MatchOption best ⊤ (λ other. is_gt (column_cmp choice.column other.column) ≡ false) → IsLeastBelow left n arcs (i + 1) choice.column choice.target
+  pub best-take : (left : List (Option Count)) (n : ℕ) (arcs : List (TableArc V h)) (i : ℕ) (arc : TableArc V h)
+      → i < length arcs → arc ≡ get_or arcs i arc → HasLeft left n arc → (best : Option Choice) (choice : Choice)
+      → IsBestBelow left n arcs i best → IsOf arc choice.column choice.target ⊎ (best ≡ Some choice)
+      → is_gt (column_cmp choice.column (first_column arc.class)) ≡ false
+      → MatchOption best ⊤ (λ other. is_gt (column_cmp choice.column other.column) ≡ false)
+      → IsLeastBelow left n arcs (i + 1) choice.column choice.target
   best-take left n arcs i arc inside read has best choice old of first least = go best old of least
     where
-      here : (j : ℕ) (d : TableArc V h) → i ≤ j → j < i + 1 → is_gt (column_cmp choice.column (first_column (get_or arcs j d).class)) ≡ false
+      here : (j : ℕ) (d : TableArc V h) → i ≤ j → j < i + 1
+          → is_gt (column_cmp choice.column (first_column (get_or arcs j d).class)) ≡ false
       here j d low high =
           let at : j ≡ i = omega arith in
-          let same : get_or arcs j d ≡ arc = ap (λ k. get_or arcs k d) at ∙ sym (get_or_read arcs i arc inside read d) in
+          let same : get_or arcs j d ≡ arc = ap (λ k. get_or arcs k d) at
+          ∙ sym (get_or_read arcs i arc inside read d) in
           let P : TableArc V h → Type 0 = λ a. is_gt (column_cmp choice.column (first_column a.class)) ≡ false in
           subst P (sym same) first
 
-      below : (best : Option Choice) → IsBestBelow left n arcs i best → MatchOption best ⊤ (λ other. is_gt (column_cmp choice.column other.column) ≡ false) → (j : ℕ) (d : TableArc V h) → j < i → HasLeft left n (get_or arcs j d) → is_gt (column_cmp choice.column (first_column (get_or arcs j d).class)) ≡ false
+      below : (best : Option Choice) → IsBestBelow left n arcs i best
+          → MatchOption best ⊤ (λ other. is_gt (column_cmp choice.column other.column) ≡ false)
+          → (j : ℕ) (d : TableArc V h) → j < i → HasLeft left n (get_or arcs j d)
+          → is_gt (column_cmp choice.column (first_column (get_or arcs j d).class)) ≡ false
       below None old least j d l left_j = absurd (old j d l left_j)
-      below (Some b) old least j d l left_j = column_upto choice.column b.column (first_column (get_or arcs j d).class) least (old.4 j d l left_j)
+      below (Some b) old least j d l left_j = column_upto choice.column b.column
+          (first_column (get_or arcs j d).class) least (old.4 j d l left_j)
 
-      each : (best : Option Choice) → IsBestBelow left n arcs i best → MatchOption best ⊤ (λ other. is_gt (column_cmp choice.column other.column) ≡ false) → (j : ℕ) (d : TableArc V h) → j < i + 1 → HasLeft left n (get_or arcs j d) → is_gt (column_cmp choice.column (first_column (get_or arcs j d).class)) ≡ false
-      each best old least j d l left_j = elim (cases_lt j i) [ inl lower ↦ below best old least j d lower left_j | inr upper ↦ here j d upper l ]
+      each : (best : Option Choice) → IsBestBelow left n arcs i best
+          → MatchOption best ⊤ (λ other. is_gt (column_cmp choice.column other.column) ≡ false)
+          → (j : ℕ) (d : TableArc V h) → j < i + 1 → HasLeft left n (get_or arcs j d)
+          → is_gt (column_cmp choice.column (first_column (get_or arcs j d).class)) ≡ false
+      each best old least j d l left_j = elim
+          (cases_lt j i) [ inl lower ↦ below best old least j d lower left_j | inr upper ↦ here j d upper l ]
 
-      go : (best : Option Choice) → IsBestBelow left n arcs i best → IsOf arc choice.column choice.target ⊎ (best ≡ Some choice) → MatchOption best ⊤ (λ other. is_gt (column_cmp choice.column other.column) ≡ false) → IsLeastBelow left n arcs (i + 1) choice.column choice.target
+      go : (best : Option Choice) → IsBestBelow left n arcs i best
+          → IsOf arc choice.column choice.target ⊎ (best ≡ Some choice)
+          → MatchOption best ⊤ (λ other. is_gt (column_cmp choice.column other.column) ≡ false)
+          → IsLeastBelow left n arcs (i + 1) choice.column choice.target
       go best old (inl mine) least = (arc, (i, inside, sym read), has, mine, each best old least)
       go best old (inr same) least =
           (let P : Option Choice → Type 0 = IsBestBelow left n arcs i in
           let kept : IsLeastBelow left n arcs i choice.column choice.target = subst P same old in
           (kept.0, kept.1, kept.2, kept.3, each best old least))
 
-  module _ (states : List (TableState V h)) (exist : TargetsExist states) (disjoint : ClassesDisjoint states) (filled : ClassesFilled states) (left : List (Option Count)) (are : AreLengths states left) where
+  module _ (states : List (TableState V h)) (exist : TargetsExist states) (disjoint : ClassesDisjoint states)
+      (filled : ClassesFilled states) (left : List (Option Count)) (are : AreLengths states left) where
     some_word : (s : ℕ) (arcs : List (TableArc V h)) → IsRun states s arcs → (word : List (List Sym)) × Reads arcs word
     some_word s [] run = ([], tt)
     some_word s (arc ∷ arcs) run =
@@ -91,30 +124,48 @@ module _ {V : Type 0} {h : Ghosts V} where
         first (c ∷ other) r = inl (omega arith)
 
     -- the first word has as many columns as there are moves left
-    first_length : (s n : ℕ) (word : List (List Sym)) → s < length states → IsLeft left s n → IsFirstFrom states s word → length word ≡ n
+    first_length : (s n : ℕ) (word : List (List Sym)) → s < length states → IsLeft left s n
+        → IsFirstFrom states s word → length word ≡ n
     first_length s n word inside at first =
         let mine = first.accepted in
         let bound = are.least s mine.0 inside mine.1 in
         let run = are.some s at.0 at.1 in
         let other = some_word s run.0 run.1 in
-        let same : bound.0.0 ≡ n = (let both : Some bound.0 ≡ Some at.0 = sym bound.1 ∙ at.1 in let one : bound.0 ≡ at.0 = cc in ap (λ c. c.0) one ∙ at.2) in
-        let upper : length word ≤ length other.0 = elim (first.first other.0 (run.0, run.1, other.1)) [ inl l ↦ omega arith | inr e ↦ omega (arith, e.0) ] in
-        omega (arith, length_read mine.0 word mine.2, length_read run.0 other.0 other.1, run.2, at.2, bound.2, same, upper)
+        let same : bound.0.0 ≡ n = (let both : Some bound.0 ≡ Some at.0 = sym bound.1
+        ∙ at.1 in let one : bound.0 ≡ at.0 = cc in ap (λ c. c.0) one ∙ at.2) in
+        let upper : length word ≤ length other.0 = elim
+        (first.first other.0 (run.0, run.1, other.1)) [ inl l ↦ omega arith | inr e ↦ omega (arith, e.0) ] in
+        omega (
+          arith,
+          length_read mine.0 word mine.2,
+          length_read run.0 other.0 other.1,
+          run.2,
+          at.2,
+          bound.2,
+          same,
+          upper,
+        )
 
     -- a state with moves left has one that leads nearer
-    pub choice_exists : (s n : ℕ) → IsLeft left s (n + 1) → s < length states → (arc : TableArc V h) × Contains (moves_at states s) arc × HasLeft left n arc
+    pub choice_exists : (s n : ℕ) → IsLeft left s (n + 1) → s < length states
+        → (arc : TableArc V h) × Contains (moves_at states s) arc × HasLeft left n arc
     choice_exists s n at inside = go (are.some s at.0 at.1).0 (are.some s at.0 at.1).1 ((are.some s at.0 at.1).2 ∙ at.2)
       where
-        go : (arcs : List (TableArc V h)) → IsRun states s arcs → length arcs ≡ n + 1 → (arc : TableArc V h) × Contains (moves_at states s) arc × HasLeft left n arc
+        go : (arcs : List (TableArc V h)) → IsRun states s arcs → length arcs ≡ n + 1
+            → (arc : TableArc V h) × Contains (moves_at states s) arc × HasLeft left n arc
         go [] run e = absurd (omega (arith, e))
         go (arc ∷ arcs) run e =
             let near = are.least arc.target arcs (exist s arc run.0) run.1 in
             let best = are.some arc.target near.0 near.1 in
             let back = are.least s (arc ∷ best.0) inside (run.0, best.1) in
-            let same : back.0.0 ≡ n + 1 = (let both : Some back.0 ≡ Some at.0 = sym back.1 ∙ at.1 in let one : back.0 ≡ at.0 = cc in ap (λ c. c.0) one ∙ at.2) in
+            let same : back.0.0 ≡ n + 1 =
+            (let both : Some back.0 ≡ Some at.0 = sym back.1
+            ∙ at.1 in let one : back.0 ≡ at.0 = cc in ap (λ c. c.0) one ∙ at.2) in
             (arc, run.0, (near.0, near.1, omega (arith, near.2, back.2, best.2, same, e)))
 
-    module _ (s n : ℕ) (inside : s < length states) (at : IsLeft left s (n + 1)) (column : List Sym) (target : ℕ) (choice : IsLeastChoice left n (moves_at states s) column target) (word : List (List Sym)) (rest : IsFirstFrom states target word) where
+    module _ (s n : ℕ) (inside : s < length states) (at : IsLeft left s (n + 1)) (column : List Sym) (target : ℕ)
+        (choice : IsLeastChoice left n (moves_at states s) column target) (word : List (List Sym))
+        (rest : IsFirstFrom states target word) where
       arc : TableArc V h
       arc = choice.0
 
@@ -125,13 +176,17 @@ module _ {V : Type 0} {h : Ghosts V} where
       rest_at = (let P : ℕ → Type 0 = λ t. IsFirstFrom states t word in subst P choice.3.1 rest)
 
       holds : IsTrue (has choice.0.class column)
-      holds = (let P : List Sym → Type 0 = λ c. IsTrue (has choice.0.class c) in subst P (sym column_is) (has-first_column choice.0.class (filled s choice.0 choice.1)))
+      holds = (let P : List Sym → Type 0 = λ c. IsTrue (has choice.0.class c) in subst P (sym column_is)
+          (has-first_column choice.0.class (filled s choice.0 choice.1)))
 
       word_length : length word ≡ n
       word_length = first_length choice.0.target n word (exist s choice.0 choice.1) choice.2 rest_at
 
-      at_most_other : (b : TableArc V h) (d : List Sym) (vs : List (List Sym)) (moves : List (TableArc V h)) → Contains (moves_at states s) b → HasLeft left n b → IsTrue (has b.class d) → IsRun states b.target moves → Reads moves vs → length vs ≡ n → is_gt (word_cmp (column ∷ word) (d ∷ vs)) ≡ false
-      at_most_other b d vs moves inb near hb run reads long = go (column_cmp column d) refl (column_upto column (first_column b.class) d least (first_column_least b.class d hb))
+      at_most_other : (b : TableArc V h) (d : List Sym) (vs : List (List Sym)) (moves : List (TableArc V h))
+          → Contains (moves_at states s) b → HasLeft left n b → IsTrue (has b.class d) → IsRun states b.target moves
+          → Reads moves vs → length vs ≡ n → is_gt (word_cmp (column ∷ word) (d ∷ vs)) ≡ false
+      at_most_other b d vs moves inb near hb run reads long = go (column_cmp column d) refl
+          (column_upto column (first_column b.class) d least (first_column_least b.class d hb))
         where
           least : is_gt (column_cmp column (first_column b.class)) ≡ false
           least =
@@ -139,15 +194,22 @@ module _ {V : Type 0} {h : Ghosts V} where
               let Q : TableArc V h → Type 0 = λ x. is_gt (column_cmp column (first_column x.class)) ≡ false in
               subst Q inb.2 (choice.4 inb.0 b inb.1 (subst P (sym inb.2) near)))
 
-          go : (r : Ordering) → column_cmp column d ≡ r → is_gt r ≡ false → is_gt (ordering_then (column_cmp column d) (word_cmp word vs)) ≡ false
+          go : (r : Ordering) → column_cmp column d ≡ r → is_gt r ≡ false
+              → is_gt (ordering_then (column_cmp column d) (word_cmp word vs)) ≡ false
           go Less e f = rw e refl
           go Equal e f =
               (let same : column ≡ d = equal_columns column d e in
               let P : List Sym → Type 0 = λ c. IsTrue (has choice.0.class c) in
-              let one : choice.0 ≡ b = same_move (moves_at states s) (disjoint s) choice.0 b d choice.1 inb (subst P same holds) hb in
+              let one : choice.0 ≡ b = same_move (moves_at states s) (disjoint s) choice.0 b d choice.1 inb
+              (subst P same holds) hb in
               let R : TableArc V h → Type 0 = λ x. IsRun states x.target moves in
               let tail : IsFirstOf word vs = rest_at.first vs (moves, subst R (sym one) run, reads) in
-              let later : is_gt (word_cmp word vs) ≡ false = elim tail [ inl shorter ↦ absurd (omega (arith, shorter, word_length, long)) | inr even ↦ even.1 ] in
+              let later : is_gt (word_cmp word vs)
+              ≡ false = elim tail [
+                | inl shorter ↦ absurd
+                    (omega (arith, shorter, word_length, long))
+                | inr even ↦ even.1
+              ] in
               rw e later)
           go Greater e f = absurd (false≢true (sym f))
 
@@ -157,25 +219,36 @@ module _ {V : Type 0} {h : Ghosts V} where
         first = first;
       }
         where
-          long : (b : TableArc V h) (moves : List (TableArc V h)) (d : List Sym) (vs : List (List Sym)) → IsRun states s (b ∷ moves) → Reads (b ∷ moves) (d ∷ vs) → IsFirstOf (column ∷ word) (d ∷ vs)
+          long : (b : TableArc V h) (moves : List (TableArc V h)) (d : List Sym) (vs : List (List Sym))
+              → IsRun states s (b ∷ moves) → Reads (b ∷ moves) (d ∷ vs) → IsFirstOf (column ∷ word) (d ∷ vs)
           long b moves d vs run reads =
               let near = are.least b.target moves (exist s b run.0) run.1 in
               let best = are.some b.target near.0 near.1 in
               let back = are.least s (b ∷ best.0) inside (run.0, best.1) in
-              let same : back.0.0 ≡ n + 1 = (let both : Some back.0 ≡ Some at.0 = sym back.1 ∙ at.1 in let one : back.0 ≡ at.0 = cc in ap (λ c. c.0) one ∙ at.2) in
+              let same : back.0.0 ≡ n + 1 =
+              (let both : Some back.0 ≡ Some at.0 = sym back.1
+              ∙ at.1 in let one : back.0 ≡ at.0 = cc in ap (λ c. c.0) one ∙ at.2) in
               let size = length_read moves vs reads.1 in
               elim (cases_lt n (length moves)) [
                 | inl more ↦ inl (omega (arith, word_length, size, more))
-                | inr few ↦ inr (omega (arith, word_length, size, few, near.2, back.2, best.2, same), at_most_other b d vs moves run.0 (near.0, near.1, omega (arith, few, near.2, back.2, best.2, same)) reads.0 run.1 reads.1 (omega (arith, size, few, near.2, back.2, best.2, same)))
+                | inr few ↦ inr (
+                  omega (arith, word_length, size, few, near.2, back.2, best.2, same),
+                  at_most_other b d vs moves run.0
+                      (near.0, near.1, omega (arith, few, near.2, back.2, best.2, same)) reads.0 run.1 reads.1
+                      (omega (arith, size, few, near.2, back.2, best.2, same)),
+                )
               ]
 
           first : (other : List (List Sym)) → ReadsFrom states s other → IsFirstOf (column ∷ word) other
           first other r = go r.0 other r.1 r.2
             where
-              go : (moves : List (TableArc V h)) (other : List (List Sym)) → IsRun states s moves → Reads moves other → IsFirstOf (column ∷ word) other
+              go : (moves : List (TableArc V h)) (other : List (List Sym)) → IsRun states s moves → Reads moves other
+                  → IsFirstOf (column ∷ word) other
               go [] other run reads =
                   (let back = are.least s [] inside run in
-                  let same : back.0.0 ≡ n + 1 = (let both : Some back.0 ≡ Some at.0 = sym back.1 ∙ at.1 in let one : back.0 ≡ at.0 = cc in ap (λ c. c.0) one ∙ at.2) in
+                  let same : back.0.0 ≡ n + 1 =
+                  (let both : Some back.0 ≡ Some at.0 = sym back.1
+                  ∙ at.1 in let one : back.0 ≡ at.0 = cc in ap (λ c. c.0) one ∙ at.2) in
                   absurd (omega (arith, back.2, same)))
               go (b ∷ moves) [] run reads = absurd reads
               go (b ∷ moves) (d ∷ vs) run reads = long b moves d vs run reads

@@ -26,7 +26,8 @@ abbrev pub ReadsFrom : {W : Type 0} {g : Ghosts W} → List (TableState W g) →
 ReadsFrom {W} {g} states s word = (arcs : List (TableArc W g)) × IsRun states s arcs × Reads arcs word
 
 -- the first of the words that runs from state s read
-pub record IsFirstFrom {W : Type 0} {g : Ghosts W} (states : List (TableState W g)) (s : ℕ) (word : List (List Sym)) : Type 0 where
+pub record IsFirstFrom {W : Type 0} {g : Ghosts W} (states : List (TableState W g)) (s : ℕ)
+    (word : List (List Sym)) : Type 0 where
   pub accepted : ReadsFrom states s word
   pub first : (other : List (List Sym)) → ReadsFrom states s other → IsFirstOf word other
 
@@ -39,14 +40,16 @@ not_after Greater e = absurd (false≢true (sym e))
 pub first_le : (w v : List (List Sym)) → IsFirstOf w v → is_le (timeline_cmp w v) ≡ true
 first_le w v h = go (nat_cmp (length w) (length v)) refl h
   where
-    go : (r : Ordering) → r ≡ nat_cmp (length w) (length v) → IsFirstOf w v → is_le (ordering_then r (word_cmp w v)) ≡ true
+    go : (r : Ordering) → r ≡ nat_cmp (length w) (length v) → IsFirstOf w v
+        → is_le (ordering_then r (word_cmp w v)) ≡ true
     go Less e h = refl
     go Equal e (inl less) = absurd (let same = ranked (length w) (length v) Equal e in omega (arith, less, same))
     go Equal e (inr even) = not_after (word_cmp w v) even.1
     go Greater e (inl less) = absurd (let more = ranked (length w) (length v) Greater e in omega (arith, less, more))
     go Greater e (inr even) = absurd (let more = ranked (length w) (length v) Greater e in omega (arith, even.0, more))
 
-pub is_first : {V : Type 0} {h : Ghosts V} (states : List (TableState V h)) (word : List (List Sym)) → IsFirstFrom states 0 word → IsFirst (Accepts states) word
+pub is_first : {V : Type 0} {h : Ghosts V} (states : List (TableState V h)) (word : List (List Sym))
+    → IsFirstFrom states 0 word → IsFirst (Accepts states) word
 is_first states word f = record {
   member = (f.accepted.0, record { run = f.accepted.1; reads = f.accepted.2 });
   least = λ other a. first_le word other (f.first other (a.0, a.1.run, a.1.reads));

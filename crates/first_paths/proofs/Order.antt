@@ -21,15 +21,18 @@ equal_columns [] (y ∷ ys) e = cc
 equal_columns (x ∷ xs) [] e = cc
 equal_columns (x ∷ xs) (y ∷ ys) e = go (nat_cmp (rank x) (rank y)) refl e (equal_columns xs ys)
   where
-    go : (r : Ordering) → r ≡ nat_cmp (rank x) (rank y) → ordering_then r (slice_cmp sym_cmp xs ys) ≡ Equal → (slice_cmp sym_cmp xs ys ≡ Equal → xs ≡ ys) → (x ∷ xs) ≡ (y ∷ ys)
+    go : (r : Ordering) → r ≡ nat_cmp (rank x) (rank y) → ordering_then r (slice_cmp sym_cmp xs ys) ≡ Equal
+        → (slice_cmp sym_cmp xs ys ≡ Equal → xs ≡ ys) → (x ∷ xs) ≡ (y ∷ ys)
     go Less h e more = cc
-    go Equal h e more = (let same : x ≡ y = rank_same x y (ranked (rank x) (rank y) Equal h) in let rest : xs ≡ ys = more e in cc)
+    go Equal h e more = (let same : x ≡ y = rank_same x y (ranked (rank x) (rank y) Equal h) in let rest : xs
+        ≡ ys = more e in cc)
     go Greater h e more = cc
 
 pub column_itself : (a : List Sym) → is_gt (column_cmp a a) ≡ false
 column_itself a = rw (tied_itself column_total a) refl
 
-pub column_upto : (a b c : List Sym) → is_gt (column_cmp a b) ≡ false → is_gt (column_cmp b c) ≡ false → is_gt (column_cmp a c) ≡ false
+pub column_upto : (a b c : List Sym) → is_gt (column_cmp a b) ≡ false → is_gt (column_cmp b c) ≡ false
+    → is_gt (column_cmp a c) ≡ false
 column_upto a b c ab bc = upto column_total a b c ab bc
 
 -- what is not less is not before

@@ -18,14 +18,16 @@ use Rattle.arc_table.proofs.Push.{moves_exist}
 use Rattle.first_paths.specs.Counted.{AreLengths, IsLeft}
 use Rattle.first_paths.specs.Search.{unknown, IsSource, IsBefore, Reaches, IsSearched}
 
-unknown-set : (left : List (Option Count)) (s : ℕ) (c : Count) → get_or left s None ≡ None → s < length left → unknown (set left s (Some c)) + 1 ≡ unknown left
+unknown-set : (left : List (Option Count)) (s : ℕ) (c : Count) → get_or left s None ≡ None → s < length left
+    → unknown (set left s (Some c)) + 1 ≡ unknown left
 unknown-set [] s c none l = absurd (omega (arith, l))
 unknown-set (None ∷ left) zero c none l = omega arith
 unknown-set (Some d ∷ left) zero c none l = cc
 unknown-set (None ∷ left) (suc s) c none l = (let rest = unknown-set left s c none (omega arith) in omega (arith, rest))
 unknown-set (Some d ∷ left) (suc s) c none l = unknown-set left s c none (omega arith)
 
-unknown-push : (left : List (Option Count)) (o : Option Count) → unknown (left ++ o ∷ []) ≡ unknown left + unknown (o ∷ [])
+unknown-push : (left : List (Option Count)) (o : Option Count)
+    → unknown (left ++ o ∷ []) ≡ unknown left + unknown (o ∷ [])
 unknown-push [] o = omega arith
 unknown-push (None ∷ left) o = (let rest = unknown-push left o in omega (arith, rest))
 unknown-push (Some d ∷ left) o = unknown-push left o
@@ -37,16 +39,19 @@ known_inside left s c e = elim (cases_lt s (length left)) [
   | inr l ↦ (let gone : get_or left s None ≡ None = get_or_past left s None l in cc)
 ]
 
-known_push : (left : List (Option Count)) (o : Option Count) (t : ℕ) (c : Count) → get_or (left ++ o ∷ []) t None ≡ Some c → (get_or left t None ≡ Some c) ⊎ ((t ≡ length left) × (o ≡ Some c))
+known_push : (left : List (Option Count)) (o : Option Count) (t : ℕ) (c : Count)
+    → get_or (left ++ o ∷ []) t None ≡ Some c → (get_or left t None ≡ Some c) ⊎ ((t ≡ length left) × (o ≡ Some c))
 known_push left o t c e = elim (cases_lt t (length left)) [
   | inl l ↦ inl (sym (get_or_append_left left (o ∷ []) None t l) ∙ e)
   | inr l ↦ elim (cases_eq t (length left)) [
     | inl same ↦ inr (same, sym (get_or_push left o None t (sym same)) ∙ e)
-    | inr ne ↦ (let gone : get_or (left ++ o ∷ []) t None ≡ None = get_or_past (left ++ o ∷ []) t None (omega (arith, length_push left o)) in cc)
+    | inr ne ↦ (let gone : get_or (left ++ o ∷ []) t None
+        ≡ None = get_or_past (left ++ o ∷ []) t None (omega (arith, length_push left o)) in cc)
   ]
 ]
 
-old_known : (left : List (Option Count)) (o : Option Count) (t : ℕ) (c : Count) → get_or left t None ≡ Some c → get_or (left ++ o ∷ []) t None ≡ Some c
+old_known : (left : List (Option Count)) (o : Option Count) (t : ℕ) (c : Count) → get_or left t None ≡ Some c
+    → get_or (left ++ o ∷ []) t None ≡ Some c
 old_known left o t c e = get_or_append_left left (o ∷ []) None t (known_inside left t c e) ∙ e
 
 pub some_known : (o : Option Count) → is_some o ≡ true → (c : Count) × (o ≡ Some c)
@@ -58,7 +63,8 @@ none_known None e = refl
 none_known (Some c) e = absurd (false≢true (sym e))
 
 -- one state of which something is known
-pub one_known : (n : ℕ) (left : List (Option Count)) (next : List ℕ) (s : ℕ) (c : Count) → get_or left s None ≡ Some c → Reaches (λ q. s ≡ q) n left left next next
+pub one_known : (n : ℕ) (left : List (Option Count)) (next : List ℕ) (s : ℕ) (c : Count) → get_or left s None ≡ Some c
+    → Reaches (λ q. s ≡ q) n left left next next
 one_known n left next s c e = record {
   same = refl;
   kept = λ q d known. known;
@@ -70,8 +76,18 @@ one_known n left next s c e = record {
 }
 
 -- one state of which nothing was known
-pub one_unknown : (n : ℕ) (left : List (Option Count)) (next : List ℕ) (s : ℕ) (c : Count) → c.0 ≡ n → get_or left s None ≡ None → s < length left → Reaches (λ q. s ≡ q) n left (set left s (Some c)) next (next ++ s ∷ [])
-one_unknown n left next s c is none inside = record { same = length-set left s (Some c); kept = kept; found = found; reached = reached; stays = λ q here. Contains-append_left next (s ∷ []) q here; listed = listed; number = number }
+pub one_unknown : (n : ℕ) (left : List (Option Count)) (next : List ℕ) (s : ℕ) (c : Count) → c.0 ≡ n
+    → get_or left s None ≡ None → s < length left
+    → Reaches (λ q. s ≡ q) n left (set left s (Some c)) next (next ++ s ∷ [])
+one_unknown n left next s c is none inside = record {
+  same = length-set left s (Some c);
+  kept = kept;
+  found = found;
+  reached = reached;
+  stays = λ q here. Contains-append_left next (s ∷ []) q here;
+  listed = listed;
+  number = number;
+}
   where
     here : get_or (set left s (Some c)) s None ≡ Some c
     here = get_or-set_same left s (Some c) None inside
@@ -85,7 +101,8 @@ one_unknown n left next s c is none inside = record { same = length-set left s (
       | inr ne ↦ get_or-set_other left s q (Some c) None ne ∙ e
     ]
 
-    found : (q : ℕ) (d : Count) → get_or (set left s (Some c)) q None ≡ Some d → (get_or left q None ≡ Some d) ⊎ ((d.0 ≡ n) × (s ≡ q) × Contains (next ++ s ∷ []) q)
+    found : (q : ℕ) (d : Count) → get_or (set left s (Some c)) q None ≡ Some d
+        → (get_or left q None ≡ Some d) ⊎ ((d.0 ≡ n) × (s ≡ q) × Contains (next ++ s ∷ []) q)
     found q d e = elim (cases_eq q s) [
       | inl same ↦
           (let both : Some c ≡ Some d = sym (there q (sym same)) ∙ e in
@@ -108,7 +125,8 @@ one_unknown n left next s c is none inside = record { same = length-set left s (
     number = omega (arith, unknown-set left s c none inside, length_push next s)
 
 -- where no state is to be reached
-pub reaches_none : (P : ℕ → Type 0) → ((q : ℕ) → P q → ⊥) → (n : ℕ) (left : List (Option Count)) (next : List ℕ) → Reaches P n left left next next
+pub reaches_none : (P : ℕ → Type 0) → ((q : ℕ) → P q → ⊥) → (n : ℕ) (left : List (Option Count)) (next : List ℕ)
+    → Reaches P n left left next next
 reaches_none P none n left next = record {
   same = refl;
   kept = λ q d known. known;
@@ -120,7 +138,9 @@ reaches_none P none n left next = record {
 }
 
 -- those of P, and then those of Q
-reaches_both : (P Q R : ℕ → Type 0) → ((q : ℕ) → R q → P q ⊎ Q q) → ((q : ℕ) → P q → R q) → ((q : ℕ) → Q q → R q) → (n : ℕ) (old mid new : List (Option Count)) (before between after : List ℕ) → Reaches P n old mid before between → Reaches Q n mid new between after → Reaches R n old new before after
+reaches_both : (P Q R : ℕ → Type 0) → ((q : ℕ) → R q → P q ⊎ Q q) → ((q : ℕ) → P q → R q) → ((q : ℕ) → Q q → R q)
+    → (n : ℕ) (old mid new : List (Option Count)) (before between after : List ℕ) → Reaches P n old mid before between
+    → Reaches Q n mid new between after → Reaches R n old new before after
 reaches_both P Q R split left right n old mid new before between after first second = record {
   same = second.same ∙ first.same;
   kept = λ q c e. second.kept q c (first.kept q c e);
@@ -131,7 +151,8 @@ reaches_both P Q R split left right n old mid new before between after first sec
   number = second.number ∙ first.number;
 }
   where
-    found : (q : ℕ) (c : Count) → get_or new q None ≡ Some c → (get_or old q None ≡ Some c) ⊎ ((c.0 ≡ n) × R q × Contains after q)
+    found : (q : ℕ) (c : Count) → get_or new q None ≡ Some c
+        → (get_or old q None ≡ Some c) ⊎ ((c.0 ≡ n) × R q × Contains after q)
     found q c e = elim (second.found q c e) [
       | inl known ↦ elim (first.found q c known) [
         | inl known2 ↦ inl known2
@@ -156,60 +177,85 @@ reaches_both P Q R split left right n old mid new before between after first sec
     ]
 
 module _ {V : Type 0} where
-  source_cases : (moves : List (IncomingMove V)) (move : IncomingMove V) (q : ℕ) → IsSource (moves ++ move ∷ []) q → IsSource moves q ⊎ (move.source ≡ q)
+  source_cases : (moves : List (IncomingMove V)) (move : IncomingMove V) (q : ℕ) → IsSource (moves ++ move ∷ []) q
+      → IsSource moves q ⊎ (move.source ≡ q)
   source_cases moves move q from = elim (Contains-push_cases moves move from.0 from.1) [
     | inl earlier ↦ inl (from.0, earlier, from.2)
     | inr last ↦ inr (ap (λ x. x.source) last ∙ from.2)
   ]
 
   -- the next of the moves
-  pub source_more : (moves : List (IncomingMove V)) (i : ℕ) (d : IncomingMove V) → i < length moves → (n : ℕ) (old mid new : List (Option Count)) (before between after : List ℕ) → Reaches (IsSource (take i moves)) n old mid before between → Reaches (λ q. (get_or moves i d).source ≡ q) n mid new between after → Reaches (IsSource (take (i + 1) moves)) n old new before after
+  pub source_more : (moves : List (IncomingMove V)) (i : ℕ) (d : IncomingMove V) → i < length moves
+      → (n : ℕ) (old mid new : List (Option Count)) (before between after : List ℕ)
+      → Reaches (IsSource (take i moves)) n old mid before between
+      → Reaches (λ q. (get_or moves i d).source ≡ q) n mid new between after
+      → Reaches (IsSource (take (i + 1) moves)) n old new before after
   source_more moves i d inside n old mid new before between after first second =
       let move = get_or moves i d in
       let P : List (IncomingMove V) → Type 0 = λ xs. Reaches (IsSource xs) n old new before after in
       subst P (sym (take_more moves i d inside))
-      (reaches_both (IsSource (take i moves)) (λ q. move.source ≡ q) (IsSource (take i moves ++ move ∷ [])) (source_cases (take i moves) move)
+      (reaches_both (IsSource (take i moves)) (λ q. move.source ≡ q) (IsSource (take i moves ++ move ∷ []))
+      (source_cases (take i moves) move)
       (λ q from. (from.0, Contains-append_left (take i moves) (move ∷ []) from.0 from.1, from.2))
       (λ q at. (move, Contains-push (take i moves) move, at)) n old mid new before between after first second)
 
   pub source_none : (q : ℕ) → IsSource (let none : List (IncomingMove V) = [] in none) q → ⊥
   source_none q from = omega (arith, from.1.1)
 
-  pub source_all : (moves : List (IncomingMove V)) (i : ℕ) → length moves ≤ i → (n : ℕ) (old new : List (Option Count)) (before after : List ℕ) → Reaches (IsSource (take i moves)) n old new before after → Reaches (IsSource moves) n old new before after
-  source_all moves i le n old new before after r = (let P : List (IncomingMove V) → Type 0 = λ xs. Reaches (IsSource xs) n old new before after in subst P (take_all i moves le) r)
+  pub source_all : (moves : List (IncomingMove V)) (i : ℕ) → length moves ≤ i
+      → (n : ℕ) (old new : List (Option Count)) (before after : List ℕ)
+      → Reaches (IsSource (take i moves)) n old new before after → Reaches (IsSource moves) n old new before after
+  source_all moves i le n old new before after r =
+      (let P : List (IncomingMove V) → Type 0 = λ xs. Reaches (IsSource xs) n old new before after in subst P
+      (take_all i moves le) r)
 
   module _ {h : Ghosts V} (incoming : Incoming V h) where
-    before_cases : (level : List ℕ) (t q : ℕ) → IsBefore incoming (level ++ t ∷ []) q → IsBefore incoming level q ⊎ IsSource (moves_into incoming t) q
+    before_cases : (level : List ℕ) (t q : ℕ) → IsBefore incoming (level ++ t ∷ []) q
+        → IsBefore incoming level q ⊎ IsSource (moves_into incoming t) q
     before_cases level t q from = elim (Contains-push_cases level t from.0 from.1) [
       | inl earlier ↦ inl (from.0, earlier, from.2)
       | inr last ↦ (let P : ℕ → Type 0 = λ x. IsSource (moves_into incoming x) q in inr (subst P (sym last) from.2))
     ]
 
     -- the next state of the level
-    pub level_more : (level : List ℕ) (i t : ℕ) → i < length level → t ≡ get_or level i 0 → (n : ℕ) (old mid new : List (Option Count)) (before between after : List ℕ) → Reaches (IsBefore incoming (take i level)) n old mid before between → Reaches (IsSource (moves_into incoming t)) n mid new between after → Reaches (IsBefore incoming (take (i + 1) level)) n old new before after
+    pub level_more : (level : List ℕ) (i t : ℕ) → i < length level → t ≡ get_or level i 0
+        → (n : ℕ) (old mid new : List (Option Count)) (before between after : List ℕ)
+        → Reaches (IsBefore incoming (take i level)) n old mid before between
+        → Reaches (IsSource (moves_into incoming t)) n mid new between after
+        → Reaches (IsBefore incoming (take (i + 1) level)) n old new before after
     level_more level i t inside read n old mid new before between after first second =
-        let last : take (i + 1) level ≡ take i level ++ t ∷ [] = take_more level i 0 inside ∙ ap (λ x. take i level ++ x ∷ []) (sym read) in
+        let last : take (i + 1) level ≡ take i level ++ t ∷ [] = take_more level i 0 inside
+        ∙ ap (λ x. take i level ++ x ∷ []) (sym read) in
         let P : List ℕ → Type 0 = λ xs. Reaches (IsBefore incoming xs) n old new before after in
         subst P (sym last)
-        (reaches_both (IsBefore incoming (take i level)) (IsSource (moves_into incoming t)) (IsBefore incoming (take i level ++ t ∷ [])) (before_cases (take i level) t)
+        (reaches_both (IsBefore incoming (take i level)) (IsSource (moves_into incoming t))
+        (IsBefore incoming (take i level ++ t ∷ [])) (before_cases (take i level) t)
         (λ q from. (from.0, Contains-append_left (take i level) (t ∷ []) from.0 from.1, from.2))
         (λ q from. (t, Contains-push (take i level) t, from)) n old mid new before between after first second)
 
     pub level_none : (q : ℕ) → IsBefore incoming [] q → ⊥
     level_none q from = omega (arith, from.1.1)
 
-    pub level_all : (level : List ℕ) (i : ℕ) → length level ≤ i → (n : ℕ) (old new : List (Option Count)) (before after : List ℕ) → Reaches (IsBefore incoming (take i level)) n old new before after → Reaches (IsBefore incoming level) n old new before after
-    level_all level i le n old new before after r = (let P : List ℕ → Type 0 = λ xs. Reaches (IsBefore incoming xs) n old new before after in subst P (take_all i level le) r)
+    pub level_all : (level : List ℕ) (i : ℕ) → length level ≤ i
+        → (n : ℕ) (old new : List (Option Count)) (before after : List ℕ)
+        → Reaches (IsBefore incoming (take i level)) n old new before after
+        → Reaches (IsBefore incoming level) n old new before after
+    level_all level i le n old new before after r =
+        (let P : List ℕ → Type 0 = λ xs. Reaches (IsBefore incoming xs) n old new before after in subst P
+        (take_all i level le) r)
 
     -- the sources of the moves to a state of the level
-    pub sources_inside : (level : List ℕ) (i t m : ℕ) → i < length level → t ≡ get_or level i 0 → ((q : ℕ) → IsBefore incoming level q → q < m) → All (λ move. move.source < m) (moves_into incoming t)
+    pub sources_inside : (level : List ℕ) (i t m : ℕ) → i < length level → t ≡ get_or level i 0
+        → ((q : ℕ) → IsBefore incoming level q → q < m) → All (λ move. move.source < m) (moves_into incoming t)
     sources_inside level i t m inside read all k d l =
         let P : ℕ → Type 0 = λ x. Contains level x in
         let here : P t = subst P (sym read) (Contains-get_or level i 0 inside) in
-        all (get_or (moves_into incoming t) k d).source (t, here, (get_or (moves_into incoming t) k d, Contains-get_or (moves_into incoming t) k d l, refl))
+        all (get_or (moves_into incoming t) k d).source
+        (t, here, (get_or (moves_into incoming t) k d, Contains-get_or (moves_into incoming t) k d l, refl))
 
 -- the first states, of which those that accept have no move left
-pub record AreEnds {V : Type 0} {h : Ghosts V} (states : List (TableState V h)) (left : List (Option Count)) (level : List ℕ) : Type 0 where
+pub record AreEnds {V : Type 0} {h : Ghosts V} (states : List (TableState V h)) (left : List (Option Count))
+    (level : List ℕ) : Type 0 where
   pub number : unknown left + length level ≡ length left
   pub zero : (t : ℕ) (c : Count) → get_or left t None ≡ Some c → IsTrue (accepting_at states t) × (c.0 ≡ 0)
   pub ends : (t : ℕ) → t < length left → IsTrue (accepting_at states t) → IsLeft left t 0
@@ -227,13 +273,16 @@ module _ {V : Type 0} {h : Ghosts V} (states : List (TableState V h)) where
   }
 
   -- a state that does not accept
-  pub ends_skip : (left : List (Option Count)) (level : List ℕ) (s : ℕ) → s ≡ length left → accepting_at states s ≡ false → AreEnds states left level → AreEnds states (left ++ None ∷ []) level
+  pub ends_skip : (left : List (Option Count)) (level : List ℕ) (s : ℕ) → s ≡ length left
+      → accepting_at states s ≡ false → AreEnds states left level → AreEnds states (left ++ None ∷ []) level
   ends_skip left level s at not are = record {
     number = omega (arith, unknown-push left None, length_push left None, are.number);
     zero = λ t c e. are.zero t c (old t c e);
     ends = λ t l accepts. elim (cases_eq t s) [
-      | inl same ↦ (let fails : accepting_at states t ≡ false = ap (λ x. accepting_at states x) same ∙ not in absurd (false≢true (sym fails ∙ accepts)))
-      | inr ne ↦ (let own = are.ends t (omega (arith, l, length_push left None, at, ne)) accepts in (own.0, old_known left None t own.0 own.1, own.2))
+      | inl same ↦ (let fails : accepting_at states t ≡ false = ap (λ x. accepting_at states x) same
+          ∙ not in absurd (false≢true (sym fails ∙ accepts)))
+      | inr ne ↦ (let own = are.ends t (omega (arith, l, length_push left None, at, ne)) accepts in
+          (own.0, old_known left None t own.0 own.1, own.2))
     ];
     listed = λ t c e. are.listed t c (old t c e);
     level_is = λ t here. (let own = are.level_is t here in (own.0, old_known left None t own.0 own.1, own.2));
@@ -243,7 +292,9 @@ module _ {V : Type 0} {h : Ghosts V} (states : List (TableState V h)) where
       old t c e = elim (known_push left None t c e) [ inl known ↦ known | inr now ↦ (let no = now.1 in cc) ]
 
   -- a state that accepts
-  pub ends_take : (left : List (Option Count)) (level : List ℕ) (s : ℕ) (z : Count) → s ≡ length left → z.0 ≡ 0 → accepting_at states s ≡ true → AreEnds states left level → AreEnds states (left ++ Some z ∷ []) (level ++ s ∷ [])
+  pub ends_take : (left : List (Option Count)) (level : List ℕ) (s : ℕ) (z : Count) → s ≡ length left → z.0 ≡ 0
+      → accepting_at states s ≡ true → AreEnds states left level
+      → AreEnds states (left ++ Some z ∷ []) (level ++ s ∷ [])
   ends_take left level s z at none accepts are = record {
     number = omega (arith, unknown-push left (Some z), length_push left (Some z), length_push level s, are.number);
     zero = λ t c e. elim (known_push left (Some z) t c e) [
@@ -254,11 +305,13 @@ module _ {V : Type 0} {h : Ghosts V} (states : List (TableState V h)) where
     ];
     ends = λ t l ok. elim (cases_eq t s) [
       | inl same ↦ here t same
-      | inr ne ↦ (let own = are.ends t (omega (arith, l, length_push left (Some z), at, ne)) ok in (own.0, old_known left (Some z) t own.0 own.1, own.2))
+      | inr ne ↦ (let own = are.ends t (omega (arith, l, length_push left (Some z), at, ne)) ok in
+          (own.0, old_known left (Some z) t own.0 own.1, own.2))
     ];
     listed = λ t c e. elim (known_push left (Some z) t c e) [
       | inl known ↦ Contains-append_left level (s ∷ []) t (are.listed t c known)
-      | inr now ↦ (let P : ℕ → Type 0 = λ x. Contains (level ++ s ∷ []) x in let same : s ≡ t = at ∙ sym now.0 in subst P same (Contains-push level s))
+      | inr now ↦ (let P : ℕ → Type 0 = λ x. Contains (level ++ s ∷ []) x in let same : s ≡ t = at
+          ∙ sym now.0 in subst P same (Contains-push level s))
     ];
     level_is = λ t inn. elim (Contains-push_cases level s t inn) [
       | inl earlier ↦ (let own = are.level_is t earlier in (own.0, old_known left (Some z) t own.0 own.1, own.2))
@@ -267,9 +320,15 @@ module _ {V : Type 0} {h : Ghosts V} (states : List (TableState V h)) where
   }
     where
       here : (t : ℕ) → t ≡ s → IsLeft (left ++ Some z ∷ []) t 0
-      here t same = (z, ap (λ x. get_or (left ++ Some z ∷ []) x None) same ∙ get_or_push left (Some z) None s (sym at), none)
+      here t same = (
+        z,
+        ap (λ x. get_or (left ++ Some z ∷ []) x None) same
+            ∙ get_or_push left (Some z) None s (sym at),
+        none,
+      )
 
-  pub search_start : (left : List (Option Count)) (level : List ℕ) → length left ≡ length states → AreEnds states left level → IsSearched states left level 0
+  pub search_start : (left : List (Option Count)) (level : List ℕ) → length left ≡ length states
+      → AreEnds states left level → IsSearched states left level 0
   search_start left level same are = record {
     each_state = same;
     few = omega (arith, are.number, same);
@@ -283,23 +342,28 @@ module _ {V : Type 0} {h : Ghosts V} (states : List (TableState V h)) where
 
   module _ (exist : TargetsExist states) where
     -- once a level is empty, each run has been counted
-    pub search_end : (left : List (Option Count)) (level : List ℕ) (k : ℕ) → IsSearched states left level k → length level ≡ 0 → AreLengths states left
+    pub search_end : (left : List (Option Count)) (level : List ℕ) (k : ℕ) → IsSearched states left level k
+        → length level ≡ 0 → AreLengths states left
     search_end left level k are empty = record { each_state = are.each_state; some = are.some; least = least }
       where
-        least : (s : ℕ) (arcs : List (TableArc V h)) → s < length states → IsRun states s arcs → (n : Count) × (get_or left s None ≡ Some n) × (n.0 ≤ length arcs)
+        least : (s : ℕ) (arcs : List (TableArc V h)) → s < length states → IsRun states s arcs
+            → (n : Count) × (get_or left s None ≡ Some n) × (n.0 ≤ length arcs)
         least s [] inside run = (let own = are.ends s inside run in (own.0, own.1, omega (arith, own.2)))
         least s (arc ∷ arcs) inside run =
             let rest = least arc.target arcs (exist s arc run.0) run.1 in
             let less : rest.0.0 < k = elim (cases_lt rest.0.0 k) [
               | inl l ↦ l
-              | inr ge ↦ absurd (let last = are.last arc.target (rest.0, rest.1, omega (arith, ge, are.at_most arc.target rest.0 rest.1)) in omega (arith, last.1, empty))
+              | inr ge ↦ absurd (let last = are.last arc.target
+                  (rest.0, rest.1, omega (arith, ge, are.at_most arc.target rest.0 rest.1)) in omega
+                  (arith, last.1, empty))
             ] in
             let own = are.closed s arc rest.0 run.0 rest.1 less in
             (own.0, own.1, omega (arith, own.2, rest.2))
 
     module _ (incoming : Incoming V h) (turned : AreTurned states incoming) where
       -- only states come before those of a level
-      pub before_inside : (level : List ℕ) → All (λ t. t < length states) level → (q : ℕ) → IsBefore incoming level q → q < length states
+      pub before_inside : (level : List ℕ) → All (λ t. t < length states) level → (q : ℕ) → IsBefore incoming level q
+          → q < length states
       before_inside level inside q from =
           let at = from.1 in
           let P : ℕ → Type 0 = λ x. x < length states in
@@ -308,12 +372,15 @@ module _ {V : Type 0} {h : Ghosts V} (states : List (TableState V h)) where
           let has = (turned.each from.0 move ins).0 from.2.1 in
           omega (arith, moves_exist states move.source has.0 has.1, from.2.2)
 
-      pub level_inside : (left : List (Option Count)) (level : List ℕ) (k : ℕ) → IsSearched states left level k → All (λ t. t < length states) level
+      pub level_inside : (left : List (Option Count)) (level : List ℕ) (k : ℕ) → IsSearched states left level k
+          → All (λ t. t < length states) level
       level_inside left level k are i d l =
           let at = are.level_is (get_or level i d) (Contains-get_or level i d l) in
           omega (arith, known_inside left (get_or level i d) at.0 at.1, are.each_state)
 
-      pub search_next : (left new : List (Option Count)) (level next : List ℕ) (k : ℕ) → IsSearched states left level k → 0 < length level → Reaches (IsBefore incoming level) (k + 1) left new [] next → IsSearched states new next (k + 1)
+      pub search_next : (left new : List (Option Count)) (level next : List ℕ) (k : ℕ)
+          → IsSearched states left level k → 0 < length level
+          → Reaches (IsBefore incoming level) (k + 1) left new [] next → IsSearched states new next (k + 1)
       search_next left new level next k are some_level reach = record {
         each_state = reach.same ∙ are.each_state;
         few = omega (arith, are.few, reach.number, some_level);
@@ -332,7 +399,8 @@ module _ {V : Type 0} {h : Ghosts V} (states : List (TableState V h)) where
           ]
 
           -- a state before the level has a run of one move more
-          longer : (s : ℕ) → IsBefore incoming level s → (arcs : List (TableArc V h)) × IsRun states s arcs × (length arcs ≡ k + 1)
+          longer : (s : ℕ) → IsBefore incoming level s
+              → (arcs : List (TableArc V h)) × IsRun states s arcs × (length arcs ≡ k + 1)
           longer s from =
               let t = from.0 in
               let at = are.level_is t from.1 in
@@ -344,20 +412,32 @@ module _ {V : Type 0} {h : Ghosts V} (states : List (TableState V h)) where
               let Q : ℕ → Type 0 = λ x. Contains (moves_at states x) has.0 in
               (has.0 ∷ run.0, (subst Q from.2.2 has.1, subst P (sym has.2) run.1), omega (arith, run.2, at.2))
 
-          some : (s : ℕ) (n : Count) → get_or new s None ≡ Some n → (arcs : List (TableArc V h)) × IsRun states s arcs × (length arcs ≡ n.0)
+          some : (s : ℕ) (n : Count) → get_or new s None ≡ Some n
+              → (arcs : List (TableArc V h)) × IsRun states s arcs × (length arcs ≡ n.0)
           some s n e = elim (reach.found s n e) [
             | inl known ↦ are.some s n known
             | inr now ↦ (let own = longer s now.1 in (own.0, own.1, omega (arith, own.2, now.0)))
           ]
 
-          closed : (s : ℕ) (arc : TableArc V h) (n : Count) → Contains (moves_at states s) arc → get_or new arc.target None ≡ Some n → n.0 < k + 1 → (m : Count) × (get_or new s None ≡ Some m) × (m.0 ≤ n.0 + 1)
+          closed : (s : ℕ) (arc : TableArc V h) (n : Count) → Contains (moves_at states s) arc
+              → get_or new arc.target None ≡ Some n → n.0 < k + 1
+              → (m : Count) × (get_or new s None ≡ Some m) × (m.0 ≤ n.0 + 1)
           closed s arc n here e less = elim (reach.found arc.target n e) [
             | inl known ↦ elim (cases_lt n.0 k) [
               | inl l ↦ (let own = are.closed s arc n here known l in (own.0, reach.kept s own.0 own.1, own.2))
               | inr ge ↦
                   (let move : IncomingMove V = record { source = s; weight = arc.weight } in
                   let inn = are.last arc.target (n, known, omega (arith, ge, less)) in
-                  let own = reach.reached s (arc.target, inn, (move, (turned.each arc.target move (exist s arc here)).1 (arc, here, refl, refl), refl)) in
+                  let own = reach.reached s (
+                    arc.target,
+                    inn,
+                    (
+                      move,
+                      (turned.each arc.target move (exist s arc here)).1
+                          (arc, here, refl, refl),
+                      refl,
+                    ),
+                  ) in
                   (own.0, own.1, omega (arith, ge, at_most s own.0 own.1)))
             ]
             | inr now ↦ absurd (omega (arith, now.0, less))

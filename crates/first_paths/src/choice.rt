@@ -33,7 +33,8 @@ fn has_left(left: &[Option<Count>], state: u32, n: u32) -> bool
 fn better(alloc: Global, best: Option<Choice>, arc: &TableArc<UnitWeight>) -> Choice
     ensures of { IsOf arc.now result.column result.target ⊎ (best ≡ Some result) }
     ensures arc { is_gt (column_cmp result.column (first_column arc.now.class)) ≡ false }
-    ensures best { MatchOption best ⊤ (λ other. is_gt (column_cmp result.column other.column) ≡ false) }
+    ensures best { MatchOption best ⊤
+        (λ other. is_gt (column_cmp result.column other.column) ≡ false) }
 {
     let column = least_column(alloc, &arc.class);
     match best {

@@ -11,7 +11,7 @@ use std::alloc::Global;
 use tier_core::{NoMemory, Timeline};
 use weight_law::UnitWeight;
 
-/// The first of the timelines that the table accepts, and `None` exactly where it accepts none.
+/// The first of the timelines that the table accepts, and `None` exactly if it accepts none.
 pub fn first(alloc: Global, table: &Table<UnitWeight>) -> Result<Option<Timeline>, NoMemory>
     ensures { IfOk result (λ first.
         MatchOption first (AcceptsNone (states_of table.now)) (IsFirst (Accepts (states_of table.now)))) }

@@ -9,7 +9,7 @@ use std::alloc::{AllocError, Global};
 use tier_core::NoMemory;
 use weight_law::{Count, UnitWeight};
 
-/// How far the search backward has come: for each state how few moves are left, where that is known,
+/// How far the backward search has come: for each state how few moves are left, if that is known,
 /// and the states of the last level.
 #[derive(Drop)]
 struct Search {
@@ -19,7 +19,8 @@ struct Search {
 
 /// The accepting states, at which no move is left.
 fn at_the_end(alloc: Global, table: &Table<UnitWeight>) -> Result<Search, AllocError>
-    ensures { IfOk result (λ search. IsSearched (states_of table.now) search.left.items search.level.items 0) }
+    ensures { IfOk result
+        (λ search. IsSearched (states_of table.now) search.left.items search.level.items 0) }
 {
     let mut left = Vec::new(alloc);
     let mut level = Vec::new(alloc);
@@ -43,7 +44,10 @@ fn reach(
     next: &mut Vec<u32>,
 ) -> Result<(), AllocError>
     requires { All (λ move. move.source < length left.old.items) moves.now }
-    ensures { IfOk result (λ _. Reaches (IsSource moves.now) n left.old.items left.new.items next.old.items next.new.items) }
+    ensures { IfOk result
+        (λ _.
+        Reaches
+        (IsSource moves.now) n left.old.items left.new.items next.old.items next.new.items) }
 {
     for incoming in moves {
         if left[incoming.source as usize].is_some() {
@@ -65,7 +69,10 @@ fn next_level(
 ) -> Result<Vec<u32>, AllocError>
     requires inside { All (λ state. state < states_in incoming.now) level.now }
     requires sources { (q : ℕ) → IsBefore incoming.now level.now q → q < length left.old.items }
-    ensures { IfOk result (λ next. Reaches (IsBefore incoming.now level.now) n left.old.items left.new.items [] next.items) }
+    ensures { IfOk result
+        (λ next.
+        Reaches
+        (IsBefore incoming.now level.now) n left.old.items left.new.items [] next.items) }
 {
     let mut next = Vec::new(alloc);
     for state in level {
@@ -74,7 +81,7 @@ fn next_level(
     Ok(next)
 }
 
-/// For each state how few moves lead to an accepting one, by a search backward in breadth.
+/// For each state how few moves lead to an accepting one, by a backward breadth-first search.
 fn searched(
     alloc: Global,
     table: &Table<UnitWeight>,

@@ -18,7 +18,8 @@ use Rattle.grammar_reader.proofs.Shaping.{length-inputs, some_input}
 pub less : (a b : ℕ) → nat_lt a b ≡ true → a < b
 less a b h = grind (arith, nat_tests)
 
-letter_sounds : (n : ℕ) (letters : List Letter) → list_all (has_sound n) letters ≡ true → AllByRecursion (HasSound n) letters
+letter_sounds : (n : ℕ) (letters : List Letter) → list_all (has_sound n) letters ≡ true
+    → AllByRecursion (HasSound n) letters
 letter_sounds n [] h = tt
 letter_sounds n (letter ∷ letters) h =
     let parts = and_parts _ _ h in
@@ -30,7 +31,8 @@ module _ (g : Grammar) where
   same_length = length-map g.tiers.names.items string_bytes ∙ g.tiers.one_length
 
   inputs_are : length (tiers_of_table g.tiers).input ≡ length (inputs_of (value_of g).tiers)
-  inputs_are = length-numbers_from is_input 0 g.tiers.kinds.items ∙ sym (length-inputs (map string_bytes g.tiers.names.items) g.tiers.kinds.items same_length)
+  inputs_are = length-numbers_from is_input 0 g.tiers.kinds.items
+      ∙ sym (length-inputs (map string_bytes g.tiers.names.items) g.tiers.kinds.items same_length)
 
   pub some_inputs : 1 ≤ length (tiers_of_table g.tiers).input
   some_inputs =
@@ -45,4 +47,5 @@ module _ (g : Grammar) where
   pub sounds : (n : ℕ) → n ≡ length (tiers_of_table g.tiers).input → All (HasSound n) g.letters.items
   sounds n e =
       subst (λ m. All (HasSound m) g.letters.items) (sym (e ∙ inputs_are))
-      (All-from_recursion (HasSound (length (inputs_of (value_of g).tiers))) g.letters.items (letter_sounds (length (inputs_of (value_of g).tiers)) g.letters.items g.lawful.made.sounds))
+      (All-from_recursion (HasSound (length (inputs_of (value_of g).tiers))) g.letters.items
+      (letter_sounds (length (inputs_of (value_of g).tiers)) g.letters.items g.lawful.made.sounds))

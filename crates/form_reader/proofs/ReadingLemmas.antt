@@ -22,28 +22,35 @@ pub by_choices : (b : Bool) (A B C D X : Type 0) → MatchBool b A B → MatchBo
 by_choices true A B C D X m n f g = f m n
 by_choices false A B C D X m n f g = g m n
 
-pub one_cause : (width limit : ℕ) (bytes : List ℕ) (e f : FormErr) → IsCause width limit bytes e → IsCause width limit bytes f → e ≡ f
+pub one_cause : (width limit : ℕ) (bytes : List ℕ) (e f : FormErr) → IsCause width limit bytes e
+    → IsCause width limit bytes f → e ≡ f
 one_cause width limit bytes e f a b = search rules
 
-one_spelling_cause : (letters : List Letter) (bytes : List ℕ) (e f : FormErr) → IsSpellingCause letters bytes e → IsSpellingCause letters bytes f → e ≡ f
+one_spelling_cause : (letters : List Letter) (bytes : List ℕ) (e f : FormErr) → IsSpellingCause letters bytes e
+    → IsSpellingCause letters bytes f → e ≡ f
 one_spelling_cause letters bytes e f a b = search rules
 
 module _ (inputs : ℕ) (letters : List Letter) (word : List ℕ) where
   pub one_reading : (u v : List (List Sym)) → IsReadAs inputs letters word u → IsReadAs inputs letters word v → u ≡ v
   one_reading u v r s =
-      by_choices (is_spelled word) (IsSpelledBy letters inputs word u) (IsTextOf inputs 64 word u) (IsSpelledBy letters inputs word v) (IsTextOf inputs 64 word v) (u ≡ v) r s
+      by_choices (is_spelled word) (IsSpelledBy letters inputs word u) (IsTextOf inputs 64 word u)
+      (IsSpelledBy letters inputs word v) (IsTextOf inputs 64 word v) (u ≡ v) r s
       (λ a b. one_form letters inputs word u v a b)
       (λ a b. one_value inputs 64 word u v a b)
 
-  pub not_refused : (u : List (List Sym)) (cause : FormErr) → IsReadAs inputs letters word u → IsRefusedFor inputs letters word cause → ⊥
+  pub not_refused : (u : List (List Sym)) (cause : FormErr) → IsReadAs inputs letters word u
+      → IsRefusedFor inputs letters word cause → ⊥
   not_refused u cause r f =
-      by_choices (is_spelled word) (IsSpelledBy letters inputs word u) (IsTextOf inputs 64 word u) (IsSpellingCause letters word cause) (IsCause inputs 64 word cause) ⊥ r f
+      by_choices (is_spelled word) (IsSpelledBy letters inputs word u) (IsTextOf inputs 64 word u)
+      (IsSpellingCause letters word cause) (IsCause inputs 64 word cause) ⊥ r f
       (λ s k. never_both letters inputs word u cause s k)
       (λ t k. not_both inputs 64 word u cause t k)
 
-  pub one_refusal : (cause other : FormErr) → IsRefusedFor inputs letters word cause → IsRefusedFor inputs letters word other → cause ≡ other
+  pub one_refusal : (cause other : FormErr) → IsRefusedFor inputs letters word cause
+      → IsRefusedFor inputs letters word other → cause ≡ other
   one_refusal cause other r f =
-      by_choices (is_spelled word) (IsSpellingCause letters word cause) (IsCause inputs 64 word cause) (IsSpellingCause letters word other) (IsCause inputs 64 word other) (cause ≡ other) r f
+      by_choices (is_spelled word) (IsSpellingCause letters word cause) (IsCause inputs 64 word cause)
+      (IsSpellingCause letters word other) (IsCause inputs 64 word other) (cause ≡ other) r f
       (λ s k. one_spelling_cause letters word cause other s k)
       (λ t k. one_cause inputs 64 word cause other t k)
 

@@ -11,14 +11,18 @@ use Rattle.timeline_text.specs.Spelling.{IsSpelledBy, IsSpellingCause}
 abbrev pub is_spelled : List ℕ → Bool
 is_spelled word = slice_index_or word 0 0 == 61
 
--- the form over so many input tiers that a word is read as: spelled by letters, or the text of a timeline of at most 64 columns
+-- the form over so many input tiers that a word is read as: spelled by letters, or the text of a
+-- timeline of at most 64 columns
 abbrev pub IsReadAs : ℕ → List Letter → List ℕ → List (List Sym) → Type 0
-IsReadAs inputs letters word u = MatchBool (is_spelled word) (IsSpelledBy letters inputs word u) (IsTextOf inputs 64 word u)
+IsReadAs inputs letters word u = MatchBool (is_spelled word) (IsSpelledBy letters inputs word u)
+    (IsTextOf inputs 64 word u)
 
--- why a word is read as no form
+-- why a word is not read as a form
 abbrev pub IsRefusedFor : ℕ → List Letter → List ℕ → FormErr → Type 0
-IsRefusedFor inputs letters word cause = MatchBool (is_spelled word) (IsSpellingCause letters word cause) (IsCause inputs 64 word cause)
+IsRefusedFor inputs letters word cause = MatchBool (is_spelled word) (IsSpellingCause letters word cause)
+    (IsCause inputs 64 word cause)
 
 -- a word is read as a form, or it has a cause
 abbrev pub HasForm : ℕ → List Letter → List ℕ → Type 0
-HasForm inputs letters word = ((u : List (List Sym)) × IsReadAs inputs letters word u) ⊎ ((cause : FormErr) × IsRefusedFor inputs letters word cause)
+HasForm inputs letters word = ((u : List (List Sym)) × IsReadAs inputs letters word u) ⊎
+    ((cause : FormErr) × IsRefusedFor inputs letters word cause)

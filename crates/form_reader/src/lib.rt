@@ -1,10 +1,10 @@
 //! Words of forms: what a grammar reads a word as, on a command line or in a lexicon.
 //!
-//! A word that begins with `=` spells a form by the letters of the grammar. Any other is the text of
-//! a timeline over the input tiers, of at most 64 columns. The layers above read by [`read_form`],
-//! and what they get meets what the generator asks of a form.
+//! A word that begins with `=` spells a form by the letters of the grammar. Any other is the text
+//! of a timeline over the input tiers, of at most 64 columns. The layers above use [`read_form`],
+//! and what they get meets what the generator requires of a form.
 //!
-//! The definitions of `specs/` say which form a word is read as, and why one is refused.
+//! The definitions in `specs/` say which form a word is read as, and why one is refused.
 #![tactic(auto)]
 
 mod form;

@@ -24,15 +24,18 @@ use Rattle.grammar_reader.proofs.Lexing.{none_of}
 use denote.Ref.{Bor}
 
 -- a name that no tier has is no key
-pub absent_by : (name : List ℕ) (es : List (Bor (List ℕ) × TierKind)) → list_any (is_named name) (tiers_seen es) ≡ false → lookup (λ k. pointwise nat_eq name k.now) es ≡ None
+pub absent_by : (name : List ℕ) (es : List (Bor (List ℕ) × TierKind))
+    → list_any (is_named name) (tiers_seen es) ≡ false → lookup (λ k. pointwise nat_eq name k.now) es ≡ None
 absent_by name es h = none_of (lookup (λ k. pointwise nat_eq name k.now) es) (known_any name es ∙ h)
 
 -- one tier more
-pub tier_added : (es new : List (Bor (List ℕ) × TierKind)) (name : Bor (List ℕ)) (kind : TierKind) → new ≡ es ++ (name, kind) ∷ [] → tiers_seen new ≡ tiers_seen es ++ record { name = name.now; kind = kind } ∷ []
+pub tier_added : (es new : List (Bor (List ℕ) × TierKind)) (name : Bor (List ℕ)) (kind : TierKind)
+    → new ≡ es ++ (name, kind) ∷ [] → tiers_seen new ≡ tiers_seen es ++ record { name = name.now; kind = kind } ∷ []
 tier_added es new name kind e = ap tiers_seen e ∙ map-append tier_seen es ((name, kind) ∷ [])
 
 -- where there is room for a tier
-pub room_for : (es : List (Bor (List ℕ) × TierKind)) (a b : Bool) → (nat_le 12 (length (tiers_seen es)) || a || b) ≡ false → length es < 12
+pub room_for : (es : List (Bor (List ℕ) × TierKind)) (a b : Bool)
+    → (nat_le 12 (length (tiers_seen es)) || a || b) ≡ false → length es < 12
 room_for es a b h =
     let n = length-map es tier_seen in
     let x = or_parts (nat_le 12 (length (tiers_seen es)) || a) b h in
@@ -48,46 +51,65 @@ grammar_by tiers letters constraints = record { tiers = tiers; letters = letters
 abbrev named : List ℕ → Family → List Event → List Event → NamedConstraint
 named n f l r = record { name = n; family = f; left = l; right = r }
 
-pub with_tiers : (ts us : List NamedTier) (letters : List Letter) (constraints : List NamedConstraint) → ts ≡ us → grammar_with letters constraints ts ≡ grammar_with letters constraints us
+pub with_tiers : (ts us : List NamedTier) (letters : List Letter) (constraints : List NamedConstraint) → ts ≡ us
+    → grammar_with letters constraints ts ≡ grammar_with letters constraints us
 with_tiers ts us letters constraints e = ap (grammar_with letters constraints) e
 
 -- one event of a side more
-pub event_more : {X Y : Type 0} (f : X → Y) (events : List X) (found : List Y) (p : ℕ) (d : X) (y : Y) → p < length events → p < length found → take p found ≡ map f (take p events) → y ≡ f (get_or events p d)
+pub event_more : {X Y : Type 0} (f : X → Y) (events : List X) (found : List Y) (p : ℕ) (d : X) (y : Y)
+    → p < length events → p < length found → take p found ≡ map f (take p events) → y ≡ f (get_or events p d)
     → take (p + 1) (set found p y) ≡ map f (take (p + 1) events)
-event_more f events found p d y l m e g = take_more_set found p y m ∙ ap (λ xs. xs ++ y ∷ []) e ∙ ap (λ x. map f (take p events) ++ x ∷ []) g
+event_more f events found p d y l m e g = take_more_set found p y m ∙ ap (λ xs. xs ++ y ∷ []) e
+    ∙ ap (λ x. map f (take p events) ++ x ∷ []) g
     ∙ sym (ap (map f) (take_more events p d l) ∙ map-append f (take p events) (get_or events p d ∷ []))
 
 -- a constraint by its parts
-pub constraint_is : (c : Constraint) (name : List ℕ) (family : Family) (left right : List Event) → string_bytes c.name ≡ name → c.family ≡ family → c.left ≡ left → c.right ≡ right
+pub constraint_is : (c : Constraint) (name : List ℕ) (family : Family) (left right : List Event)
+    → string_bytes c.name ≡ name → c.family ≡ family → c.left ≡ left → c.right ≡ right
     → constraint_seen c ≡ record { name = name; family = family; left = left; right = right }
 constraint_is c name family left right n f l r =
-    ap (λ x. named x c.family c.left c.right) n ∙ ap (λ x. named name x c.left c.right) f ∙ ap (λ x. named name family x c.right) l ∙ ap (named name family left) r
+    ap (λ x. named x c.family c.left c.right) n ∙ ap (λ x. named name x c.left c.right) f
+    ∙ ap (λ x. named name family x c.right) l ∙ ap (named name family left) r
 
 -- one constraint more
-pub constraint_added : (ts : List NamedTier) (ls : List Letter) (cs new : List Constraint) (c : Constraint) (n : NamedConstraint) → new ≡ cs ++ c ∷ [] → constraint_seen c ≡ n
+pub constraint_added : (ts : List NamedTier) (ls : List Letter) (cs new : List Constraint) (c : Constraint)
+    (n : NamedConstraint) → new ≡ cs ++ c ∷ [] → constraint_seen c ≡ n
     → grammar_by ts ls (map constraint_seen new) ≡ grammar_by ts ls (map constraint_seen cs ++ n ∷ [])
-constraint_added ts ls cs new c n e f = ap (grammar_by ts ls) (ap (map constraint_seen) e ∙ map-append constraint_seen cs (c ∷ []) ∙ ap (λ x. map constraint_seen cs ++ x ∷ []) f)
+constraint_added ts ls cs new c n e f = ap (grammar_by ts ls)
+    (ap (map constraint_seen) e ∙ map-append constraint_seen cs (c ∷ [])
+    ∙ ap (λ x. map constraint_seen cs ++ x ∷ []) f)
 
 -- the next tier, and those after it
-pub tiers_next : (names : List (String Global)) (kinds same : List TierKind) (i : ℕ) (n : String Global) (k : TierKind) → same ≡ kinds → i < length same → length names ≡ length kinds
-    → tiers_by (map string_bytes (drop i names)) (drop i kinds) ≡ record { name = string_bytes (get_or names i n); kind = get_or same i k } ∷ tiers_by (map string_bytes (drop (i + 1) names)) (drop (i + 1) kinds)
+pub tiers_next : (names : List (String Global)) (kinds same : List TierKind) (i : ℕ) (n : String Global)
+    (k : TierKind) → same ≡ kinds → i < length same → length names ≡ length kinds
+    → tiers_by (map string_bytes (drop i names)) (drop i kinds)
+    ≡ record { name = string_bytes (get_or names i n); kind = get_or same i k } ∷ tiers_by
+    (map string_bytes (drop (i + 1) names)) (drop (i + 1) kinds)
 tiers_next names kinds same i n k e l m =
     ap (λ ks. tiers_by (map string_bytes (drop i names)) (drop i ks)) (sym e)
     ∙ ap (λ ns. tiers_by (map string_bytes ns) (drop i same)) (drop_more names i n (let w = ap length e in omega arith))
-    ∙ ap (λ ks. tiers_by (string_bytes (get_or names i n) ∷ map string_bytes (drop (i + 1) names)) ks) (drop_more same i k l)
-    ∙ ap (λ ks. record { name = string_bytes (get_or names i n); kind = get_or same i k } ∷ tiers_by (map string_bytes (drop (i + 1) names)) (drop (i + 1) ks)) e
+    ∙ ap (λ ks. tiers_by (string_bytes (get_or names i n) ∷ map string_bytes (drop (i + 1) names)) ks)
+    (drop_more same i k l)
+    ∙ ap (λ ks. record { name = string_bytes (get_or names i n); kind = get_or same i k } ∷ tiers_by
+    (map string_bytes (drop (i + 1) names)) (drop (i + 1) ks)) e
 
 -- the names of tiers by their names
-pub names_back : (ns : List (List ℕ)) (ks : List TierKind) → length ns ≡ length ks → map (λ t. t.name) (tiers_by ns ks) ≡ ns
+pub names_back : (ns : List (List ℕ)) (ks : List TierKind) → length ns ≡ length ks
+    → map (λ t. t.name) (tiers_by ns ks) ≡ ns
 names_back [] ks l = refl
 names_back (n ∷ ns) [] l = absurd (omega arith)
 names_back (n ∷ ns) (k ∷ ks) l = ap (λ xs. n ∷ xs) (names_back ns ks (omega arith))
 
 -- a tier that is no input tier is not among those of a mask
-pub names_skip : (names : List (String Global)) (kinds same : List TierKind) (i mask : ℕ) (k : TierKind) → same ≡ kinds → i < length same → length names ≡ length kinds → is_input (get_or same i k) ≡ false
-    → names_in (inputs_of (tiers_by (map string_bytes (drop i names)) (drop i kinds))) mask ≡ names_in (inputs_of (tiers_by (map string_bytes (drop (i + 1) names)) (drop (i + 1) kinds))) mask
+pub names_skip : (names : List (String Global)) (kinds same : List TierKind) (i mask : ℕ) (k : TierKind)
+    → same ≡ kinds → i < length same → length names ≡ length kinds → is_input (get_or same i k) ≡ false
+    → names_in (inputs_of (tiers_by (map string_bytes (drop i names)) (drop i kinds))) mask
+    ≡ names_in (inputs_of (tiers_by (map string_bytes (drop (i + 1) names)) (drop (i + 1) kinds))) mask
 names_skip [] kinds same i mask k e l m o = let w = ap length e in absurd (omega arith)
 names_skip (n ∷ names) kinds same i mask k e l m o =
     let rest = tiers_by (map string_bytes (drop (i + 1) (n ∷ names))) (drop (i + 1) kinds) in
     ap (λ ts. names_in (inputs_of ts) mask) (tiers_next (n ∷ names) kinds same i n k e l m)
-    ∙ ap (λ t. names_in (cond t (record { name = string_bytes (get_or (n ∷ names) i n); kind = get_or same i k } ∷ inputs_of rest) (inputs_of rest)) mask) o
+    ∙ ap (λ t. names_in (cond t (record {
+      name = string_bytes (get_or (n ∷ names) i n);
+      kind = get_or same i k;
+    } ∷ inputs_of rest) (inputs_of rest)) mask) o

@@ -32,7 +32,8 @@ pub record Name (w : List ℕ) : Type 0 where
 
 pub name_parts : (w : List ℕ) → is_name w ≡ true → Name w
 name_parts w h =
-    let a = and_parts (nat_le (length w) 32 && begins_with_letter w && list_all is_word_byte w) (not (is_connective w)) h in
+    let a = and_parts (nat_le (length w) 32 && begins_with_letter w && list_all is_word_byte w)
+    (not (is_connective w)) h in
     let b = and_parts (nat_le (length w) 32 && begins_with_letter w) (list_all is_word_byte w) a.0 in
     let c = and_parts (nat_le (length w) 32) (begins_with_letter w) b.0 in
     record { short = c.0; begins = c.1; bytes = b.1; other = a.1 }
@@ -41,10 +42,12 @@ pub name_utf8 : (w : List ℕ) → is_name w ≡ true → IsUtf8 w
 name_utf8 w h = IsUtf8-from_ascii w (λ i. ascii_at w i (name_parts w h).bytes)
 
 -- each key of the map of tiers is a name
-pub key_name : (es : List (Bor (List ℕ) × TierKind)) (i : ℕ) (d : Bor (List ℕ)) → i < length (keys_of es) → list_all (λ t. is_name t.name) (tiers_seen es) ≡ true → is_name (get_or (keys_of es) i d).now ≡ true
+pub key_name : (es : List (Bor (List ℕ) × TierKind)) (i : ℕ) (d : Bor (List ℕ)) → i < length (keys_of es)
+    → list_all (λ t. is_name t.name) (tiers_seen es) ≡ true → is_name (get_or (keys_of es) i d).now ≡ true
 key_name [] i d l h = absurd (omega arith)
 key_name (e ∷ es) zero d l h = (and_parts (is_name e.0.now) (list_all (λ t. is_name t.name) (tiers_seen es)) h).0
-key_name (e ∷ es) (suc i) d l h = key_name es i d (omega arith) ((and_parts (is_name e.0.now) (list_all (λ t. is_name t.name) (tiers_seen es)) h).1)
+key_name (e ∷ es) (suc i) d l h = key_name es i d (omega arith)
+    ((and_parts (is_name e.0.now) (list_all (λ t. is_name t.name) (tiers_seen es)) h).1)
 
 -- tiers by the names and kinds of tiers
 pub tiers_back : (ts : List NamedTier) → tiers_by (map (λ t. t.name) ts) (map (λ t. t.kind) ts) ≡ ts

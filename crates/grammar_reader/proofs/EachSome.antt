@@ -5,21 +5,30 @@ use Rattle.grammar_reader.specs.Statements.{each_some}
 use Rattle.grammar_reader.specs.Lexemes.{with_front}
 use Rattle.grammar_reader.proofs.Lexing.{cons_front}
 
-pub some_more : {X Y : Type 0} (f : X → Option Y) (done : List Y) (x : X) (xs : List X) (y : Y) → f x ≡ Some y → with_front done (each_some f (x ∷ xs)) ≡ with_front (done ++ y ∷ []) (each_some f xs)
-some_more f done x xs y h = ap (λ o. with_front done (option_and_then (λ z. option_map (λ zs. z ∷ zs) (each_some f xs)) o)) h ∙ cons_front done y (each_some f xs)
+pub some_more : {X Y : Type 0} (f : X → Option Y) (done : List Y) (x : X) (xs : List X) (y : Y) → f x ≡ Some y
+    → with_front done (each_some f (x ∷ xs)) ≡ with_front (done ++ y ∷ []) (each_some f xs)
+some_more f done x xs y h = ap (λ o. with_front done
+    (option_and_then (λ z. option_map (λ zs. z ∷ zs) (each_some f xs)) o)) h ∙ cons_front done y (each_some f xs)
 
-pub some_none : {X Y : Type 0} (f : X → Option Y) (done : List Y) (x : X) (xs : List X) → f x ≡ None → with_front done (each_some f (x ∷ xs)) ≡ None
-some_none f done x xs h = ap (λ o. with_front done (option_and_then (λ z. option_map (λ zs. z ∷ zs) (each_some f xs)) o)) h
+pub some_none : {X Y : Type 0} (f : X → Option Y) (done : List Y) (x : X) (xs : List X) → f x ≡ None
+    → with_front done (each_some f (x ∷ xs)) ≡ None
+some_none f done x xs h = ap (λ o. with_front done
+    (option_and_then (λ z. option_map (λ zs. z ∷ zs) (each_some f xs)) o)) h
 
-onto_map : {X Y : Type 0} (f : X → Y) (x : X) (parts : List (List X)) → onto_first (f x) (map (map f) parts) ≡ map (map f) (onto_first x parts)
+onto_map : {X Y : Type 0} (f : X → Y) (x : X) (parts : List (List X))
+    → onto_first (f x) (map (map f) parts) ≡ map (map f) (onto_first x parts)
 onto_map f x [] = refl
 onto_map f x (part ∷ parts) = refl
 
-split_step : {X Y : Type 0} (f : X → Y) (x : X) (t : Bool) (us : List (List Y)) (parts : List (List X)) → us ≡ map (map f) parts → cond t ([] ∷ us) (onto_first (f x) us) ≡ map (map f) (cond t ([] ∷ parts) (onto_first x parts))
+split_step : {X Y : Type 0} (f : X → Y) (x : X) (t : Bool) (us : List (List Y)) (parts : List (List X))
+    → us ≡ map (map f) parts → cond t ([] ∷ us) (onto_first (f x) us)
+    ≡ map (map f) (cond t ([] ∷ parts) (onto_first x parts))
 split_step f x true us parts h = ap (λ ps. [] ∷ ps) h
 split_step f x false us parts h = ap (onto_first (f x)) h ∙ onto_map f x parts
 
 -- what is cut after a change is what is changed after the cut
-pub slice_split-map : {X Y : Type 0} (f : X → Y) (q : Y → Bool) (xs : List X) → slice_split q (map f xs) ≡ map (map f) (slice_split (λ x. q (f x)) xs)
+pub slice_split-map : {X Y : Type 0} (f : X → Y) (q : Y → Bool) (xs : List X)
+    → slice_split q (map f xs) ≡ map (map f) (slice_split (λ x. q (f x)) xs)
 slice_split-map f q [] = refl
-slice_split-map f q (x ∷ xs) = split_step f x (q (f x)) (slice_split q (map f xs)) (slice_split (λ y. q (f y)) xs) (slice_split-map f q xs)
+slice_split-map f q (x ∷ xs) = split_step f x (q (f x)) (slice_split q (map f xs)) (slice_split (λ y. q (f y)) xs)
+    (slice_split-map f q xs)

@@ -48,7 +48,8 @@ parts_tier (word name ∷ implies ∷ ls) = tt
 parts_tier (word name ∷ word kind ∷ []) = parts_kind name (kind_of kind)
 parts_tier (word name ∷ word kind ∷ l ∷ ls) = tt
 
-parts_names : (x : List ℕ) (o : Option (List ℕ)) (r : Option (List (List ℕ))) → PartsOf (option_map (letter x) (option_and_then (λ y. option_map (λ ys. y ∷ ys) r) o))
+parts_names : (x : List ℕ) (o : Option (List ℕ)) (r : Option (List (List ℕ)))
+    → PartsOf (option_map (letter x) (option_and_then (λ y. option_map (λ ys. y ∷ ys) r) o))
 parts_names x None r = tt
 parts_names x (Some y) None = tt
 parts_names x (Some y) (Some ys) = omega arith
@@ -73,7 +74,8 @@ abbrev HasSome : Option (List NamedEvent) → Type 0
 HasSome None = Unit {0}
 HasSome (Some es) = 0 < length es
 
-each_one : (o : Option NamedEvent) (r : Option (List NamedEvent)) → HasSome (option_and_then (λ y. option_map (λ ys. y ∷ ys) r) o)
+each_one : (o : Option NamedEvent) (r : Option (List NamedEvent))
+    → HasSome (option_and_then (λ y. option_map (λ ys. y ∷ ys) r) o)
 each_one None r = tt
 each_one (Some y) None = tt
 each_one (Some y) (Some ys) = omega arith
@@ -83,9 +85,11 @@ each_nonempty [] l = absurd (omega arith)
 each_nonempty (p ∷ ps) l = each_one (event_of p) (each_some event_of ps)
 
 events_nonempty : (w : List ℕ) (ls : List Lexeme) → HasSome (events_of w ls)
-events_nonempty w ls = let n = length-slice_split (is_the_word w) ls in each_nonempty (slice_split (is_the_word w) ls) (omega arith)
+events_nonempty w ls = let n = length-slice_split (is_the_word w) ls in each_nonempty (slice_split (is_the_word w) ls)
+    (omega arith)
 
-parts_both : (name : List ℕ) (family : Family) (l r : Option (List NamedEvent)) → HasSome l → HasSome r → PartsOf (option_and_then (λ ls. option_map (λ rs. constraint name family ls rs) r) l)
+parts_both : (name : List ℕ) (family : Family) (l r : Option (List NamedEvent)) → HasSome l → HasSome r
+    → PartsOf (option_and_then (λ ls. option_map (λ rs. constraint name family ls rs) r) l)
 parts_both name family None r h k = tt
 parts_both name family (Some ls) None h k = tt
 parts_both name family (Some ls) (Some rs) h k = (h, k)
@@ -96,8 +100,10 @@ parts_sides name left (opens ∷ ls) = tt
 parts_sides name left (closes ∷ ls) = tt
 parts_sides name left (equals ∷ ls) = tt
 parts_sides name left (word w ∷ ls) = tt
-parts_sides name left (implies ∷ right) = parts_both name Implication _ _ (events_nonempty (joined_by Clash) left) (events_nonempty (joined_by Implication) right)
-parts_sides name left (clash ∷ right) = parts_both name Clash _ _ (events_nonempty (joined_by Clash) left) (events_nonempty (joined_by Clash) right)
+parts_sides name left (implies ∷ right) = parts_both name Implication _ _ (events_nonempty (joined_by Clash) left)
+    (events_nonempty (joined_by Implication) right)
+parts_sides name left (clash ∷ right) = parts_both name Clash _ _ (events_nonempty (joined_by Clash) left)
+    (events_nonempty (joined_by Clash) right)
 
 parts_constraint : (ls : List Lexeme) → PartsOf (constraint_line ls)
 parts_constraint [] = tt
@@ -106,7 +112,8 @@ parts_constraint (closes ∷ ls) = tt
 parts_constraint (equals ∷ ls) = tt
 parts_constraint (clash ∷ ls) = tt
 parts_constraint (implies ∷ ls) = tt
-parts_constraint (word name ∷ ls) = parts_sides name (take (position_or_len is_sign ls) ls) (drop (position_or_len is_sign ls) ls)
+parts_constraint (word name ∷ ls) = parts_sides name (take (position_or_len is_sign ls) ls)
+    (drop (position_or_len is_sign ls) ls)
 
 parts_statement : (ls : List Lexeme) → PartsOf (statement_of ls)
 parts_statement [] = tt
@@ -117,19 +124,24 @@ parts_statement (clash ∷ ls) = tt
 parts_statement (implies ∷ ls) = tt
 parts_statement (word k ∷ ls) =
     let third = parts_test (bytes_eq k (codes "constraint")) (constraint_line ls) None (parts_constraint ls) tt in
-    let second = parts_test (bytes_eq k (codes "letter")) (letter_line ls) (cond (bytes_eq k (codes "constraint")) (constraint_line ls) None) (parts_letter ls) third in
-    parts_test (bytes_eq k (codes "tier")) (tier_line ls) (cond (bytes_eq k (codes "letter")) (letter_line ls) (cond (bytes_eq k (codes "constraint")) (constraint_line ls) None)) (parts_tier ls) second
+    let second = parts_test (bytes_eq k (codes "letter")) (letter_line ls)
+    (cond (bytes_eq k (codes "constraint")) (constraint_line ls) None) (parts_letter ls) third in
+    parts_test (bytes_eq k (codes "tier")) (tier_line ls)
+    (cond (bytes_eq k (codes "letter")) (letter_line ls)
+    (cond (bytes_eq k (codes "constraint")) (constraint_line ls) None)) (parts_tier ls) second
 
 pub has_parts : (ls : List Lexeme) (s : Statement) → statement_of ls ≡ Some s → HasParts s
 has_parts ls s e = subst PartsOf e (parts_statement ls)
 
 -- ---- a statement without a cause
 
-pub statement_made : (g : GrammarValue) (s : Statement) → HasParts s → IsMade g → cause_of g s ≡ None → IsMade (with_statement g s)
+pub statement_made : (g : GrammarValue) (s : Statement) → HasParts s → IsMade g → cause_of g s ≡ None
+    → IsMade (with_statement g s)
 statement_made g (tier name kind) h m n = tier_made g name kind m (no_cause g (tier name kind) n)
 statement_made g (letter x []) h m n = absurd (omega arith)
 statement_made g (letter x (name ∷ names)) h m n = letter_made g x name names m (no_cause g (letter x (name ∷ names)) n)
-statement_made g (constraint name family left right) h m n = constraint_made g name family left right h.0 h.1 m (no_cause g (constraint name family left right) n)
+statement_made g (constraint name family left right) h m n = constraint_made g name family left right h.0 h.1 m
+    (no_cause g (constraint name family left right) n)
 
 -- ---- lines
 
@@ -143,23 +155,28 @@ made g = Ok (Some g)
 ok_some : (g : GrammarValue) (after : Option GrammarValue) → IsMade g → made g ≡ Ok after → SoFar after
 ok_some g after m e = subst SoFar (let same : Some g ≡ after = cc in same) m
 
-by_cause : (g : GrammarValue) (s : Statement) (c : Option GrammarCause) (after : Option GrammarValue) → HasParts s → IsMade g → cause_of g s ≡ c → kept (after_cause g s c) ≡ Ok after → SoFar after
+by_cause : (g : GrammarValue) (s : Statement) (c : Option GrammarCause) (after : Option GrammarValue) → HasParts s
+    → IsMade g → cause_of g s ≡ c → kept (after_cause g s c) ≡ Ok after → SoFar after
 by_cause g s None after h m e k = ok_some (with_statement g s) after (statement_made g s h m e) k
 by_cause g s (Some c) after h m e k = cc
 
-by_statement : (g : GrammarValue) (o : Option Statement) (after : Option GrammarValue) → PartsOf o → IsMade g → kept (after_statement g o) ≡ Ok after → SoFar after
+by_statement : (g : GrammarValue) (o : Option Statement) (after : Option GrammarValue) → PartsOf o → IsMade g
+    → kept (after_statement g o) ≡ Ok after → SoFar after
 by_statement g None after h m k = cc
 by_statement g (Some s) after h m k = by_cause g s (cause_of g s) after h m refl k
 
-by_header : (t : Bool) (after : Option GrammarValue) (c : GrammarCause) → cond t (Ok (Some nothing)) (Err c) ≡ Ok after → SoFar after
+by_header : (t : Bool) (after : Option GrammarValue) (c : GrammarCause)
+    → cond t (Ok (Some nothing)) (Err c) ≡ Ok after → SoFar after
 by_header true after c k = ok_some nothing after nothing_made k
 by_header false after c k = cc
 
-by_lexemes : (before : Option GrammarValue) (o : Option (List Lexeme)) (after : Option GrammarValue) → SoFar before → after_lexemes before o ≡ Ok after → SoFar after
+by_lexemes : (before : Option GrammarValue) (o : Option (List Lexeme)) (after : Option GrammarValue) → SoFar before
+    → after_lexemes before o ≡ Ok after → SoFar after
 by_lexemes before None after h k = cc
 by_lexemes before (Some []) after h k = subst SoFar (let same : before ≡ after = cc in same) h
 by_lexemes None (Some (l ∷ ls)) after h k = by_header (is_header (l ∷ ls)) after _ k
-by_lexemes (Some g) (Some (l ∷ ls)) after h k = by_statement g (statement_of (l ∷ ls)) after (parts_statement (l ∷ ls)) h k
+by_lexemes (Some g) (Some (l ∷ ls)) after h k = by_statement g (statement_of (l ∷ ls)) after
+    (parts_statement (l ∷ ls)) h k
 
 at_end : (before : Option GrammarValue) (g : GrammarValue) → SoFar before → whole before ≡ Ok g → IsGrammar g
 at_end None g h k = cc
@@ -171,29 +188,43 @@ at_end (Some before) g h k = by_test (list_any (λ t. is_input t.kind) before.ti
     (λ o. let e = sym (tests true false i o) ∙ k in cc))
     (λ i. let e = sym (first_test i) ∙ k in cc)
   where
-    tests : (a b : Bool) → list_any (λ t. is_input t.kind) before.tiers ≡ a → list_any (λ t. is_overt t.kind) before.tiers ≡ b
-        → whole (Some before) ≡ cond (not a) (Err (record { line = 0; cause = NoInput })) (cond (not b) (Err (record { line = 0; cause = NoOvert })) (Ok before))
-    tests a b x y = ap (λ u. cond (not u) (Err (record { line = 0; cause = NoInput })) (cond (not (list_any (λ t. is_overt t.kind) before.tiers)) (Err (record { line = 0; cause = NoOvert })) (Ok before))) x ∙ ap (λ u. cond (not a) (Err (record { line = 0; cause = NoInput })) (cond (not u) (Err (record { line = 0; cause = NoOvert })) (Ok before))) y
+    tests : (a b : Bool) → list_any (λ t. is_input t.kind) before.tiers ≡ a
+        → list_any (λ t. is_overt t.kind) before.tiers ≡ b
+        → whole (Some before) ≡ cond (not a) (Err (record { line = 0; cause = NoInput }))
+        (cond (not b) (Err (record { line = 0; cause = NoOvert })) (Ok before))
+    tests a b x y = ap (λ u. cond (not u) (Err (record { line = 0; cause = NoInput }))
+        (cond (not (list_any (λ t. is_overt t.kind) before.tiers)) (Err (record { line = 0; cause = NoOvert }))
+        (Ok before))) x ∙ ap (λ u. cond (not a) (Err (record { line = 0; cause = NoInput }))
+        (cond (not u) (Err (record { line = 0; cause = NoOvert })) (Ok before))) y
 
-    first_test : list_any (λ t. is_input t.kind) before.tiers ≡ false → whole (Some before) ≡ Err (record { line = 0; cause = NoInput })
-    first_test x = ap (λ u. cond (not u) (Err (record { line = 0; cause = NoInput })) (cond (not (list_any (λ t. is_overt t.kind) before.tiers)) (Err (record { line = 0; cause = NoOvert })) (Ok before))) x
+    first_test : list_any (λ t. is_input t.kind) before.tiers ≡ false
+        → whole (Some before) ≡ Err (record { line = 0; cause = NoInput })
+    first_test x = ap (λ u. cond (not u) (Err (record { line = 0; cause = NoInput }))
+        (cond (not (list_any (λ t. is_overt t.kind) before.tiers)) (Err (record { line = 0; cause = NoOvert }))
+        (Ok before))) x
 
-by_line : (n : ℕ) (r : Result (Option GrammarValue) GrammarCause) (rest : Option GrammarValue → Result GrammarValue At) (g : GrammarValue)
-    → ((after : Option GrammarValue) → r ≡ Ok after → rest after ≡ Ok g → IsGrammar g) → go_on r n rest ≡ Ok g → IsGrammar g
+by_line : (n : ℕ) (r : Result (Option GrammarValue) GrammarCause)
+    (rest : Option GrammarValue → Result GrammarValue At) (g : GrammarValue)
+    → ((after : Option GrammarValue) → r ≡ Ok after → rest after ≡ Ok g → IsGrammar g) → go_on r n rest ≡ Ok g
+    → IsGrammar g
 by_line n (Ok after) rest g h k = h after refl k
 by_line n (Err c) rest g h k = cc
 
-by_lines : (before : Option GrammarValue) (n : ℕ) (lines : List (List ℕ)) (g : GrammarValue) → SoFar before → after_lines before n lines ≡ Ok g → IsGrammar g
+by_lines : (before : Option GrammarValue) (n : ℕ) (lines : List (List ℕ)) (g : GrammarValue) → SoFar before
+    → after_lines before n lines ≡ Ok g → IsGrammar g
 by_lines before n [] g h k = at_end before g h k
 by_lines before n (line ∷ lines) g h k = by_line n (after_line before line) (λ after. after_lines after (n + 1) lines) g
-    (λ after e r. by_lines after (n + 1) lines g (by_lexemes before (each_some lexeme_of (parts_of line)) after h e) r) k
+    (λ after e r. by_lines after (n + 1) lines g
+    (by_lexemes before (each_some lexeme_of (parts_of line)) after h e) r) k
 
 -- a grammar that is read is lawful
 pub read_is_lawful : (bytes : List ℕ) (g : GrammarValue) → grammar_of bytes ≡ Ok g → IsGrammar g
 read_is_lawful bytes g e = by_lines None 1 (lines_of bytes) g tt e
 
 -- a grammar with an input tier and an overt tier is whole
-pub whole_is : (g : GrammarValue) → list_any (λ t. is_input t.kind) g.tiers ≡ true → list_any (λ t. is_overt t.kind) g.tiers ≡ true → whole (Some g) ≡ Ok g
+pub whole_is : (g : GrammarValue) → list_any (λ t. is_input t.kind) g.tiers ≡ true
+    → list_any (λ t. is_overt t.kind) g.tiers ≡ true → whole (Some g) ≡ Ok g
 whole_is g i o =
-    ap (λ u. cond (not u) (Err (record { line = 0; cause = NoInput })) (cond (not (list_any (λ t. is_overt t.kind) g.tiers)) (Err (record { line = 0; cause = NoOvert })) (Ok g))) i
+    ap (λ u. cond (not u) (Err (record { line = 0; cause = NoInput }))
+    (cond (not (list_any (λ t. is_overt t.kind) g.tiers)) (Err (record { line = 0; cause = NoOvert })) (Ok g))) i
     ∙ ap (λ u. cond (not u) (Err (record { line = 0; cause = NoOvert })) (Ok g)) o

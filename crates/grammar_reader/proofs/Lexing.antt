@@ -8,37 +8,45 @@ pub none_of : {X : Type 0} (o : Option X) → is_some o ≡ false → o ≡ None
 none_of None h = refl
 none_of (Some x) h = cc
 
-pub cons_front : {X : Type 0} (xs : List X) (y : X) (o : Option (List X)) → with_front xs (option_map (λ ys. y ∷ ys) o) ≡ with_front (xs ++ y ∷ []) o
+pub cons_front : {X : Type 0} (xs : List X) (y : X) (o : Option (List X))
+    → with_front xs (option_map (λ ys. y ∷ ys) o) ≡ with_front (xs ++ y ∷ []) o
 cons_front xs y None = refl
 cons_front xs y (Some ys) = ap Some (sym (append_assoc xs (y ∷ []) ys))
 
 -- one more lexeme
-pub lex_more : (xs : List Lexeme) (marks : List Mark) (m : Mark) (ms : List Mark) (y : Lexeme) → marks ≡ m ∷ ms → lexeme_of m.text ≡ Some y →
+pub lex_more : (xs : List Lexeme) (marks : List Mark) (m : Mark) (ms : List Mark) (y : Lexeme) → marks ≡ m ∷ ms
+    → lexeme_of m.text ≡ Some y →
     with_front xs (each_some lexeme_of (texts marks)) ≡ with_front (xs ++ y ∷ []) (each_some lexeme_of (texts ms))
 lex_more xs marks m ms y e h = ap (λ k. with_front xs (each_some lexeme_of (texts k))) e
     ∙ ap (λ o. with_front xs (option_and_then (λ z. option_map (λ zs. z ∷ zs) (each_some lexeme_of (texts ms))) o)) h
     ∙ cons_front xs y (each_some lexeme_of (texts ms))
 
 -- a piece that is no lexeme
-pub lex_none : (xs : List Lexeme) (marks : List Mark) (m : Mark) (ms : List Mark) → marks ≡ m ∷ ms → lexeme_of m.text ≡ None → with_front xs (each_some lexeme_of (texts marks)) ≡ None
+pub lex_none : (xs : List Lexeme) (marks : List Mark) (m : Mark) (ms : List Mark) → marks ≡ m ∷ ms
+    → lexeme_of m.text ≡ None → with_front xs (each_some lexeme_of (texts marks)) ≡ None
 lex_none xs marks m ms e h = ap (λ k. with_front xs (each_some lexeme_of (texts k))) e
     ∙ ap (λ o. with_front xs (option_and_then (λ z. option_map (λ zs. z ∷ zs) (each_some lexeme_of (texts ms))) o)) h
 
 -- the end
-pub lex_end : (xs : List Lexeme) (marks : List Mark) → marks ≡ [] → with_front xs (each_some lexeme_of (texts marks)) ≡ Some xs
+pub lex_end : (xs : List Lexeme) (marks : List Mark) → marks ≡ []
+    → with_front xs (each_some lexeme_of (texts marks)) ≡ Some xs
 lex_end xs marks e = ap (λ k. with_front xs (each_some lexeme_of (texts k))) e ∙ ap Some (append-nil xs)
 
-texts_placed : (n at : ℕ) (ps : List (List ℕ)) → texts (filter is_no_spacing (placed n at ps)) ≡ filter (λ p. not (is_spacing p)) ps
+texts_placed : (n at : ℕ) (ps : List (List ℕ))
+    → texts (filter is_no_spacing (placed n at ps)) ≡ filter (λ p. not (is_spacing p)) ps
 texts_placed n at [] = refl
 texts_placed n at (p ∷ ps) =
     let ih = texts_placed n (at + length p) ps in
-    elim (not (is_spacing p)) as (λ t. texts (cond t (record { text = p; at = at; line = n } ∷ filter is_no_spacing (placed n (at + length p) ps)) (filter is_no_spacing (placed n (at + length p) ps)))
+    elim (not (is_spacing p)) as (λ t. texts
+    (cond t (record { text = p; at = at; line = n } ∷ filter is_no_spacing (placed n (at + length p) ps))
+    (filter is_no_spacing (placed n (at + length p) ps)))
     ≡ cond t (p ∷ filter (λ q. not (is_spacing q)) ps) (filter (λ q. not (is_spacing q)) ps))
     [ true ↦ ap (λ qs. p ∷ qs) ih | false ↦ ih ]
 
 -- the pieces of a text of one line
 pub line_texts : (n : ℕ) (line : List ℕ) → lines_of line ≡ line ∷ [] → texts (marks_from n 0 line) ≡ parts_of line
-line_texts n line e = ap (λ ls. texts (marks_of n 0 ls)) e ∙ ap texts (append-nil _) ∙ texts_placed n 0 (pieces_of (content line))
+line_texts n line e = ap (λ ls. texts (marks_of n 0 ls)) e ∙ ap texts (append-nil _)
+    ∙ texts_placed n 0 (pieces_of (content line))
 
 pub front_nil : {X : Type 0} (o : Option (List X)) → with_front [] o ≡ o
 front_nil None = refl

@@ -15,20 +15,26 @@ shift : (m b x : ℕ) (t : Bool) → m + b * (cond t 1 0 + 2 * x) ≡ m + cond t
 shift m b x true = let p = mul-add b 1 (2 * x) in let q = mul_assoc b 2 x in omega arith
 shift m b x false = let p = mul-add b 0 (2 * x) in let q = mul_assoc b 2 x in omega arith
 
-module _ (es : List (Bor (List ℕ) × TierKind)) (names : List (List ℕ)) (k : ℕ) (e : Bor (List ℕ) × TierKind) (here : k < length es) (is : e ≡ get_or es k e) where
+module _ (es : List (Bor (List ℕ) × TierKind)) (names : List (List ℕ)) (k : ℕ) (e : Bor (List ℕ) × TierKind)
+    (here : k < length es) (is : e ≡ get_or es k e) where
   next : drop k es ≡ e ∷ drop (k + 1) es
   next = drop_more es k e here ∙ ap (λ x. x ∷ drop (k + 1) es) (sym is)
 
   -- a tier that is no input tier
-  pub mask_skip : (m b : ℕ) → is_input e.1 ≡ false → m + b * mask_of (inputs_of (tiers_seen (drop k es))) names ≡ m + b * mask_of (inputs_of (tiers_seen (drop (k + 1) es))) names
+  pub mask_skip : (m b : ℕ) → is_input e.1 ≡ false
+      → m + b * mask_of (inputs_of (tiers_seen (drop k es))) names
+      ≡ m + b * mask_of (inputs_of (tiers_seen (drop (k + 1) es))) names
   mask_skip m b i = ap (λ xs. m + b * mask_of (inputs_of (tiers_seen xs)) names) next
-      ∙ ap (λ t. m + b * mask_of (cond t (tier_seen e ∷ inputs_of (tiers_seen (drop (k + 1) es))) (inputs_of (tiers_seen (drop (k + 1) es)))) names) i
+      ∙ ap (λ t. m + b * mask_of (cond t (tier_seen e ∷ inputs_of (tiers_seen (drop (k + 1) es)))
+      (inputs_of (tiers_seen (drop (k + 1) es)))) names) i
 
   -- an input tier, which is named or not
   pub mask_next : (m b : ℕ) (t : Bool) → is_input e.1 ≡ true → t ≡ list_any (λ n. bytes_eq n e.0.now) names
-      → m + b * mask_of (inputs_of (tiers_seen (drop k es))) names ≡ m + cond t b 0 + b * 2 * mask_of (inputs_of (tiers_seen (drop (k + 1) es))) names
+      → m + b * mask_of (inputs_of (tiers_seen (drop k es))) names
+      ≡ m + cond t b 0 + b * 2 * mask_of (inputs_of (tiers_seen (drop (k + 1) es))) names
   mask_next m b t i n = ap (λ xs. m + b * mask_of (inputs_of (tiers_seen xs)) names) next
-      ∙ ap (λ u. m + b * mask_of (cond u (tier_seen e ∷ inputs_of (tiers_seen (drop (k + 1) es))) (inputs_of (tiers_seen (drop (k + 1) es)))) names) i
+      ∙ ap (λ u. m + b * mask_of (cond u (tier_seen e ∷ inputs_of (tiers_seen (drop (k + 1) es)))
+      (inputs_of (tiers_seen (drop (k + 1) es)))) names) i
       ∙ ap (λ u. m + b * (cond u 1 0 + 2 * mask_of (inputs_of (tiers_seen (drop (k + 1) es))) names)) (sym n)
       ∙ shift m b (mask_of (inputs_of (tiers_seen (drop (k + 1) es))) names) t
 
@@ -37,7 +43,9 @@ chosen_below m b true r e l = omega arith
 chosen_below m b false r e l = omega arith
 
 pub power_more : (n b k : ℕ) → n ≡ k + 1 → b ≤ 2 ^ k → b * 2 ≤ 2 ^ n
-power_more n b k e l = let p : 2 ^ (suc k) ≡ 2 ^ n = ap (λ i. 2 ^ i) (let s : suc k ≡ n = omega arith in s) in omega arith
+power_more n b k e l = let p : 2 ^ (suc k)
+    ≡ 2 ^ n = ap (λ i. 2 ^ i) (let s : suc k ≡ n = omega arith in s) in omega arith
 
 pub power_later : (n b k : ℕ) → n ≡ k + 1 → b ≤ 2 ^ k → b ≤ 2 ^ n
-power_later n b k e l = let p : 2 ^ (suc k) ≡ 2 ^ n = ap (λ i. 2 ^ i) (let s : suc k ≡ n = omega arith in s) in omega arith
+power_later n b k e l = let p : 2 ^ (suc k)
+    ≡ 2 ^ n = ap (λ i. 2 ^ i) (let s : suc k ≡ n = omega arith in s) in omega arith

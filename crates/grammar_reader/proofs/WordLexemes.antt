@@ -26,17 +26,20 @@ use Rattle.grammar_reader.proofs.Walk.{joins, apart}
 inner_byte : (b : ℕ) → is_word_byte b ≡ true → is_inner b ≡ true
 inner_byte b h =
     let p = plain_word b h in
-    and_from (not (is_newline b) && not (is_comment b)) (not (b == 13)) (and_from (not (is_newline b)) (not (is_comment b)) (ap not p.newline) (ap not p.comment)) (ap not p.return)
+    and_from (not (is_newline b) && not (is_comment b)) (not (b == 13))
+    (and_from (not (is_newline b)) (not (is_comment b)) (ap not p.newline) (ap not p.comment)) (ap not p.return)
 
 one_piece : (b : ℕ) (bs : List ℕ) → list_all is_word_byte (b ∷ bs) ≡ true → pieces_of (b ∷ bs) ≡ (b ∷ bs) ∷ []
 one_piece b [] h = refl
 one_piece b (c ∷ bs) h =
     let x = and_parts (is_word_byte b) (list_all is_word_byte (c ∷ bs)) h in
     let y = and_parts (is_word_byte c) (list_all is_word_byte bs) x.1 in
-    let t : holds_together b c ≡ true = ap (λ s. (s && is_word_byte c) || ((b == 45) && (c == 62))) x.0 ∙ ap (λ s. s || ((b == 45) && (c == 62))) y.0 in
+    let t : holds_together b c ≡ true = ap (λ s. (s && is_word_byte c) || ((b == 45) && (c == 62))) x.0
+    ∙ ap (λ s. s || ((b == 45) && (c == 62))) y.0 in
     ap (onto_piece b) (one_piece c bs x.1) ∙ ap (λ s. cond s ((b ∷ c ∷ bs) ∷ []) ((b ∷ []) ∷ (c ∷ bs) ∷ [])) t
 
-no_sign : (b c : ℕ) (bs cs : List ℕ) → is_word_byte b ≡ true → is_word_byte c ≡ false → bytes_eq (b ∷ bs) (c ∷ cs) ≡ false
+no_sign : (b c : ℕ) (bs cs : List ℕ) → is_word_byte b ≡ true → is_word_byte c ≡ false
+    → bytes_eq (b ∷ bs) (c ∷ cs) ≡ false
 no_sign b c bs cs h k = ap (λ t. t && bytes_eq bs cs) (is_other is_word_byte b c h k)
 
 otherwise : {X : Type 0} (t : Bool) (x r y : X) → t ≡ false → r ≡ y → cond t x r ≡ y
@@ -62,7 +65,8 @@ pub word_read : (b : ℕ) (bs : List ℕ) → list_all is_word_byte (b ∷ bs) �
 word_read b bs h = record {
   inner = all_weaker is_word_byte is_inner (b ∷ bs) inner_byte h;
   lexemes = ap (λ ps. each_some lexeme_of (filter (λ piece. not (is_spacing piece)) ps)) (one_piece b bs h)
-      ∙ ap (λ t. each_some lexeme_of (cond (not t) ((b ∷ bs) ∷ []) [])) (plain_word b (and_parts (is_word_byte b) (list_all is_word_byte bs) h).0).spacing
+      ∙ ap (λ t. each_some lexeme_of (cond (not t) ((b ∷ bs) ∷ []) []))
+      (plain_word b (and_parts (is_word_byte b) (list_all is_word_byte bs) h).0).spacing
       ∙ ap (option_and_then (λ y. option_map (λ ys. y ∷ ys) (Some []))) (lexeme_word b bs h);
 }
 
@@ -118,16 +122,20 @@ closes_before : (w : List ℕ) → joins 93 w ≡ false
 closes_before [] = refl
 closes_before (c ∷ w) = refl
 
-part_read : (part : Part) (w : List ℕ) → IsRead w (word w ∷ []) → IsRead (part_text part ++ w) (part_lexemes part ++ word w ∷ [])
+part_read : (part : Part) (w : List ℕ) → IsRead w (word w ∷ [])
+    → IsRead (part_text part ++ w) (part_lexemes part ++ word w ∷ [])
 part_read Start w r = record {
   inner = r.inner;
-  lexemes = ap (λ ps. each_some lexeme_of (filter (λ piece. not (is_spacing piece)) ps)) (apart 91 w (opens_before w)) ∙ ap (option_map (λ ls. opens ∷ ls)) r.lexemes;
+  lexemes = ap (λ ps. each_some lexeme_of (filter (λ piece. not (is_spacing piece)) ps)) (apart 91 w (opens_before w))
+      ∙ ap (option_map (λ ls. opens ∷ ls)) r.lexemes;
 }
 part_read End w r = record {
   inner = r.inner;
-  lexemes = ap (λ ps. each_some lexeme_of (filter (λ piece. not (is_spacing piece)) ps)) (apart 93 w (closes_before w)) ∙ ap (option_map (λ ls. closes ∷ ls)) r.lexemes;
+  lexemes = ap (λ ps. each_some lexeme_of (filter (λ piece. not (is_spacing piece)) ps))
+      (apart 93 w (closes_before w)) ∙ ap (option_map (λ ls. closes ∷ ls)) r.lexemes;
 }
 part_read Interior w r = r
 
-pub event_read : (names : List (List ℕ)) (e : Event) → is_name (slice_index_or names e.tier []) ≡ true → IsRead (event_text names e) (event_lexemes names e)
+pub event_read : (names : List (List ℕ)) (e : Event) → is_name (slice_index_or names e.tier []) ≡ true
+    → IsRead (event_text names e) (event_lexemes names e)
 event_read names e h = part_read e.part (slice_index_or names e.tier []) (name_read (slice_index_or names e.tier []) h)

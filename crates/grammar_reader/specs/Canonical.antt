@@ -73,4 +73,5 @@ constraint_lines names constraints = flat_map (λ c. line_of_words (constraint_w
 
 abbrev pub canonical : GrammarValue → List ℕ
 canonical g = line_of_words header_words
-    ++ (tier_lines g.tiers ++ (letter_lines g.tiers g.letters ++ constraint_lines (map (λ t. t.name) g.tiers) g.constraints))
+    ++ (tier_lines g.tiers ++ (letter_lines g.tiers g.letters
+    ++ constraint_lines (map (λ t. t.name) g.tiers) g.constraints))

@@ -15,3 +15,4 @@ pub mod Grammars
 pub mod Canonical
 pub mod Words
 pub mod ShapeOf
+pub mod NamedTiers

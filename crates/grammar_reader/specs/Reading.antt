@@ -37,7 +37,8 @@ is_unknown tiers name = not (list_any (is_named name) tiers)
 abbrev pub has_unknown_tier : GrammarValue → Statement → Bool
 has_unknown_tier g (tier name kind) = false
 has_unknown_tier g (letter x names) = list_any (is_unknown g.tiers) names
-has_unknown_tier g (constraint name family left right) = list_any (λ e. is_unknown g.tiers e.tier) left || list_any (λ e. is_unknown g.tiers e.tier) right
+has_unknown_tier g (constraint name family left right) = list_any (λ e. is_unknown g.tiers e.tier) left || list_any
+    (λ e. is_unknown g.tiers e.tier) right
 
 abbrev pub is_input_named : List NamedTier → List ℕ → Bool
 is_input_named tiers name = option_map_or (λ t. is_input t.kind) (find (is_named name) tiers) false
@@ -95,10 +96,16 @@ first_byte (b ∷ bs) = b
 
 abbrev pub with_statement : GrammarValue → Statement → GrammarValue
 with_statement g (tier name kind) = record g { tiers = g.tiers ++ record { name = name; kind = kind } ∷ [] }
-with_statement g (letter x names) = record g { letters = g.letters ++ record { byte = first_byte x; tiers = mask_of (inputs_of g.tiers) names } ∷ [] }
+with_statement g (letter x names) = record g
+    { letters = g.letters ++ record { byte = first_byte x; tiers = mask_of (inputs_of g.tiers) names } ∷ [] }
 with_statement g (constraint name family left right) = record g {
   constraints = g.constraints ++
-      record { name = name; family = family; left = map (numbered g.tiers) left; right = map (numbered g.tiers) right } ∷ [];
+      record {
+        name = name;
+        family = family;
+        left = map (numbered g.tiers) left;
+        right = map (numbered g.tiers) right;
+      } ∷ [];
 }
 
 abbrev pub after_cause : GrammarValue → Statement → Option GrammarCause → Result GrammarValue GrammarCause
@@ -136,7 +143,8 @@ whole (Some g) =
     if not (list_any (λ t. is_overt t.kind) g.tiers) then Err (record { line = 0; cause = NoOvert }) else Ok g
 
 -- a line's cause ends the reading, and else the rest of the lines goes on
-abbrev pub go_on : Result (Option GrammarValue) GrammarCause → ℕ → (Option GrammarValue → Result GrammarValue At) → Result GrammarValue At
+abbrev pub go_on : Result (Option GrammarValue) GrammarCause → ℕ → (Option GrammarValue → Result GrammarValue At)
+    → Result GrammarValue At
 go_on (Ok after) n rest = rest after
 go_on (Err cause) n rest = Err (record { line = n; cause = cause })
 

@@ -9,7 +9,8 @@ use Rattle.grammar_reader.specs.declared.lexeme.LineErr.{LineErr}
 abbrev pub statement_seen : code.Statement → said.Statement
 statement_seen (Tier name kind) = said.tier name.now kind
 statement_seen (Letter byte names) = said.letter byte.now (map (λ n. n.now) names.items)
-statement_seen (Constraint name family left right) = said.constraint name.now family (map seen_event left.items) (map seen_event right.items)
+statement_seen (Constraint name family left right) = said.constraint name.now family (map seen_event left.items)
+    (map seen_event right.items)
 
 -- a line's form, or that it has none, unless memory ran out
 abbrev pub SaysLine : Result code.Statement LineErr → Option said.Statement → Type 0

@@ -10,7 +10,8 @@ use Rattle.grammar_reader.specs.declared.grammar.Grammar.{Grammar}
 
 -- how many stretch implications are among the first r constraints, for each r from 0 to their number
 abbrev pub stretch_counts : List Constraint → List ℕ
-stretch_counts constraints = map (λ r. length (filter is_stretch (take r constraints))) (range_with_len 0 (length constraints + 1))
+stretch_counts constraints = map (λ r. length (filter is_stretch (take r constraints)))
+    (range_with_len 0 (length constraints + 1))
 
 -- its width, its input tiers, and its stretch implications
 pub record IsShapeOf (g : Grammar) (shape : Shape) : Type 0 where

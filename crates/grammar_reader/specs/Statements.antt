@@ -73,7 +73,9 @@ is_sign l = is_implies l || is_clash l
 
 -- the events before a sign, and those after it
 abbrev pub sides : List ℕ → Family → List Lexeme → List Lexeme → Option Statement
-sides name family left right = option_and_then (λ ls. option_map (λ rs. constraint name family ls rs) (events_of (joined_by family) right)) (events_of (codes "and") left)
+sides name family left right = option_and_then
+    (λ ls. option_map (λ rs. constraint name family ls rs) (events_of (joined_by family) right))
+    (events_of (codes "and") left)
 
 -- what stands before a sign, and the rest from the sign on
 abbrev pub sides_of : List ℕ → List Lexeme → List Lexeme → Option Statement
@@ -97,7 +99,8 @@ letter_line _ = None
 
 -- it is cut at its first sign
 abbrev pub constraint_line : List Lexeme → Option Statement
-constraint_line (word name ∷ lexemes) = let at = position_or_len is_sign lexemes in sides_of name (take at lexemes) (drop at lexemes)
+constraint_line (word name ∷ lexemes) = let at = position_or_len is_sign lexemes in sides_of name (take at lexemes)
+    (drop at lexemes)
 constraint_line _ = None
 
 -- None where the tokens have none of the forms

@@ -43,7 +43,8 @@ has_sound inputs letter = nat_lt 0 letter.tiers && nat_lt letter.tiers (2 ^ inpu
 
 -- from 1 to 8 events on tiers that exist
 abbrev pub is_side : ℕ → List Event → Bool
-is_side tiers events = nat_le 1 (length events) && nat_le (length events) 8 && list_all (λ e. nat_lt e.tier tiers) events
+is_side tiers events = nat_le 1 (length events) && nat_le (length events) 8 && list_all
+    (λ e. nat_lt e.tier tiers) events
 
 abbrev pub has_sides : ℕ → NamedConstraint → Bool
 has_sides tiers c = is_side tiers c.left && is_side tiers c.right

@@ -71,7 +71,8 @@ fn chosen(is_named: bool, bit: u16) -> u16
 /// The mask of the input tiers that are named.
 fn mask_of(tiers: &Tiers<'_>, names: &[&[u8]]) -> u16
     requires { length tiers.now.entries ≤ 12 }
-    ensures { result ≡ mask_of (inputs_of (tiers_seen tiers.now.entries)) (map (λ n. n.now) names.now) }
+    ensures { result
+        ≡ mask_of (inputs_of (tiers_seen tiers.now.entries)) (map (λ n. n.now) names.now) }
 {
     let mut mask = 0;
     let mut bit = 1;
@@ -97,7 +98,9 @@ fn first_byte(word: &[u8]) -> u8
 fn add_tier<'a>(made: &mut Made<'a>, name: &'a [u8], kind: TierKind) -> Result<(), LineErr>
     requires absent { list_any (is_named name.now) (tiers_seen made.old.tiers.entries) ≡ false }
     requires few { length made.old.tiers.entries < 12 }
-    ensures ok { OnOk result (made_value made.new ≡ with_statement (made_value made.old) (tier name.entry.now kind)) }
+    ensures ok { OnOk result
+        (made_value made.new
+        ≡ with_statement (made_value made.old) (tier name.entry.now kind)) }
     ensures err { IfErr result (λ e. e ≡ LineErr.NoMemory) }
 {
     made.tiers.insert(name, kind)?;
@@ -106,7 +109,9 @@ fn add_tier<'a>(made: &mut Made<'a>, name: &'a [u8], kind: TierKind) -> Result<(
 
 fn add_letter(made: &mut Made<'_>, byte: &[u8], names: &[&[u8]]) -> Result<(), LineErr>
     ensures err { IfErr result (λ e. e ≡ LineErr.NoMemory) }
-    ensures ok { OnOk result (made_value made.new ≡ with_statement (made_value made.old) (letter byte.now (map (λ n. n.now) names.now))) }
+    ensures ok { OnOk result
+        (made_value made.new
+        ≡ with_statement (made_value made.old) (letter byte.now (map (λ n. n.now) names.now))) }
 {
     let letter = Letter {
         byte: first_byte(byte),
@@ -130,7 +135,10 @@ fn add_constraint(
     requires some_right { 0 < length right.now }
     requires few_right { length right.now ≤ 8 }
     ensures err { IfErr result (λ e. e ≡ LineErr.NoMemory) }
-    ensures ok { OnOk result (made_value made.new ≡ with_statement (made_value made.old) (constraint name.now family (map seen_event left.now) (map seen_event right.now))) }
+    ensures ok { OnOk result
+        (made_value made.new
+        ≡ with_statement (made_value made.old)
+        (constraint name.now family (map seen_event left.now) (map seen_event right.now))) }
 {
     let left = side(alloc, &made.tiers, left);
     let right = side(alloc, &made.tiers, right);
@@ -153,7 +161,9 @@ pub(crate) fn add<'a>(
 ) -> Result<(), LineErr>
     requires parts { HasParts (statement_seen statement.now) }
     requires no_cause { cause_of (made_value made.old) (statement_seen statement.now) ≡ None }
-    ensures ok { OnOk result (made_value made.new ≡ with_statement (made_value made.old) (statement_seen statement.entry.now)) }
+    ensures ok { OnOk result
+        (made_value made.new
+        ≡ with_statement (made_value made.old) (statement_seen statement.entry.now)) }
     ensures err { IfErr result (λ e. e ≡ LineErr.NoMemory) }
 {
     match statement {

@@ -40,7 +40,8 @@ fn is_known(tiers: &Tiers<'_>, name: &[u8]) -> bool
 
 /// Whether some name stands twice in a list.
 fn has_twice(alloc: Global, names: &[&[u8]]) -> Result<bool, LineErr>
-    ensures { MatchResult result (λ twice. twice ≡ has_twice (map (λ n. n.now) names.now)) (λ e. e ≡ LineErr.NoMemory) }
+    ensures { MatchResult result (λ twice. twice ≡ has_twice (map (λ n. n.now) names.now))
+        (λ e. e ≡ LineErr.NoMemory) }
 {
     let mut seen = IndexSet::new(alloc);
     for name in names {
@@ -63,7 +64,9 @@ fn has_letter(made: &Made<'_>, byte: &[u8]) -> bool
 
 /// Whether a constraint of that name has been made.
 fn has_constraint(made: &Made<'_>, name: &[u8]) -> bool
-    ensures { result ≡ list_any (λ c. bytes_eq name.now c.name) (map constraint_seen made.now.constraints.items) }
+    ensures { result
+        ≡ list_any (λ c. bytes_eq name.now c.name)
+        (map constraint_seen made.now.constraints.items) }
 {
     made.constraints
         .iter()
@@ -76,7 +79,9 @@ fn is_twice_named(
     made: &Made<'_>,
     statement: &Statement<'_>,
 ) -> Result<bool, LineErr>
-    ensures { MatchResult result (λ twice. twice ≡ is_twice_named (made_value made.now) (statement_seen statement.now)) (λ e. e ≡ LineErr.NoMemory) }
+    ensures { MatchResult result
+        (λ twice. twice ≡ is_twice_named (made_value made.now) (statement_seen statement.now))
+        (λ e. e ≡ LineErr.NoMemory) }
 {
     match statement {
         Statement::Tier(name, _) => Ok(is_known(&made.tiers, name)),
@@ -92,7 +97,9 @@ fn is_twice_named(
 
 /// Whether an event is on a tier that no line before has made.
 fn has_unknown_event(tiers: &Tiers<'_>, events: &[NamedEvent<'_>]) -> bool
-    ensures { result ≡ list_any (λ e. is_unknown (tiers_seen tiers.now.entries) e.tier) (map seen_event events.now) }
+    ensures { result
+        ≡ list_any (λ e. is_unknown (tiers_seen tiers.now.entries) e.tier)
+        (map seen_event events.now) }
 {
     events.iter().any(|event| !is_known(tiers, event.tier))
 }

@@ -70,7 +70,8 @@ fn kind_of_token(text: &[u8]) -> Option<Lexeme<'_>>
 pub(crate) fn lexemes(alloc: Global, line: &[u8], number: u32) -> Result<Vec<Lexeme<'_>>, LineErr>
     requires whole { lines_of line.now ≡ line.now ∷ [] }
     requires number { number + length line.now < 2 ^ 32 }
-    ensures { MatchResult result (λ v. lexemes_of line.entry.now ≡ Some (map seen v.items)) (FailsLine line.entry.now) }
+    ensures { MatchResult result (λ v. lexemes_of line.entry.now ≡ Some (map seen v.items))
+        (FailsLine line.entry.now) }
 {
     let mut found = Vec::new(alloc);
     let mut tokens = Tokens::from_line(line, number);

@@ -34,7 +34,7 @@ mod words;
 
 pub use grammar::Grammar;
 pub use grammar_err::{GrammarCause, GrammarErr};
-pub use put::{put_grammar, wait_grammar};
+pub use put::{push_grammar, put_grammar};
 pub use read::read_grammar;
 pub use reading::canonical_is_read_again;
 pub use scan::tokens;

@@ -3,7 +3,8 @@ ghost use Rattle.std.specs.String.{string_bytes};
 ghost use Rattle.grammar_reader.specs.Canonical.{is_odd, kind_text, part_text, sign_text, event_text, joined, tier_words, letter_words, constraint_words, header_words};
 ghost use Rattle.grammar_reader.specs.Statements.{joined_by};
 ghost use Rattle.grammar_reader.specs.Words.{texts_of};
-ghost use Rattle.grammar_reader.specs.Seen.{tiers_by, constraint_seen};
+ghost use Rattle.grammar_reader.specs.NamedTiers.{named_tiers};
+ghost use Rattle.grammar_reader.specs.Seen.{constraint_seen};
 
 use crate::statement::joined_by;
 use crate::words::Words;
@@ -43,7 +44,8 @@ pub(crate) fn tier_words(name: &[u8], kind: TierKind) -> Words<'_>
 /// Adds the name of the tier of the lowest bit, where the mask has it.
 fn push_where_odd<'a>(words: &mut Words<'a>, mask: u16, name: &'a [u8])
     requires { words.old.len < 40 }
-    ensures words { texts_of words.new ≡ texts_of words.old ++ (if is_odd mask then name.entry.now ∷ [] else []) }
+    ensures words { texts_of words.new
+        ≡ texts_of words.old ++ (if is_odd mask then name.entry.now ∷ [] else []) }
     ensures len { words.new.len ≤ words.old.len + 1 }
 {
     if mask % 2 == 1 {
@@ -53,7 +55,7 @@ fn push_where_odd<'a>(words: &mut Words<'a>, mask: u16, name: &'a [u8])
 
 /// The words of the line of a letter, whose tiers stand in tier order.
 pub(crate) fn letter_words<'a>(tiers: &'a TierTable, letter: &'a Letter) -> Words<'a>
-    ensures { texts_of result ≡ letter_words (tiers_by (map string_bytes tiers.entry.now.names.items) tiers.entry.now.kinds.items) letter.entry.now }
+    ensures { texts_of result ≡ letter_words (named_tiers tiers.entry.now) letter.entry.now }
 {
     let mut words = Words::begin(b"letter");
     words.push(slice::from_ref(&letter.byte));
@@ -90,7 +92,8 @@ fn sign_text(family: Family) -> &'static [u8]
 
 fn push_event<'a>(words: &mut Words<'a>, names: &'a [String], event: Event)
     requires { words.old.len < 40 }
-    ensures words { texts_of words.new ≡ texts_of words.old ++ event_text (map string_bytes names.entry.now) event ∷ [] }
+    ensures words { texts_of words.new
+        ≡ texts_of words.old ++ event_text (map string_bytes names.entry.now) event ∷ [] }
     ensures len { words.new.len ≡ words.old.len + 1 }
 {
     let name = match names.get(event.tier as usize) {
@@ -105,7 +108,9 @@ fn push_side<'a>(words: &mut Words<'a>, names: &'a [String], joint: &'a [u8], ev
     requires some { 1 ≤ length events.now }
     requires few { length events.now ≤ 8 }
     requires room { words.old.len ≤ 24 }
-    ensures words { texts_of words.new ≡ texts_of words.old ++ joined joint.entry.now (map (event_text (map string_bytes names.entry.now)) events.now) }
+    ensures words { texts_of words.new
+        ≡ texts_of words.old ++ joined joint.entry.now
+        (map (event_text (map string_bytes names.entry.now)) events.now) }
     ensures room { words.new.len ≤ words.old.len + 15 }
 {
     let Some((first, others)) = events.split_first() else {
@@ -120,7 +125,9 @@ fn push_side<'a>(words: &mut Words<'a>, names: &'a [String], joint: &'a [u8], ev
 
 /// The words of the line of a constraint.
 pub(crate) fn constraint_words<'a>(names: &'a [String], constraint: &'a Constraint) -> Words<'a>
-    ensures { texts_of result ≡ constraint_words (map string_bytes names.entry.now) (constraint_seen constraint.entry.now) }
+    ensures { texts_of result
+        ≡ constraint_words (map string_bytes names.entry.now)
+        (constraint_seen constraint.entry.now) }
 {
     let mut words = Words::begin(b"constraint");
     words.push(constraint.name.as_bytes());

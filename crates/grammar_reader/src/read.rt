@@ -105,7 +105,9 @@ fn has_overt(tiers: &Tiers<'_>) -> bool
 
 fn names_of(alloc: Global, tiers: &Tiers<'_>) -> Result<Vec<String>, GrammarErr>
     requires { IsTrue (list_all (λ t. is_name t.name) (tiers_seen tiers.now.entries)) }
-    ensures { MatchResult result (λ v. map string_bytes v.items ≡ map (λ t. t.name) (tiers_seen tiers.now.entries)) (λ e. e ≡ GrammarErr.NoMemory) }
+    ensures { MatchResult result
+        (λ v. map string_bytes v.items ≡ map (λ t. t.name) (tiers_seen tiers.now.entries))
+        (λ e. e ≡ GrammarErr.NoMemory) }
 {
     let mut names = Vec::new(alloc);
     for name in tiers.keys() {
@@ -116,7 +118,8 @@ fn names_of(alloc: Global, tiers: &Tiers<'_>) -> Result<Vec<String>, GrammarErr>
 }
 
 fn kinds_of(alloc: Global, tiers: &Tiers<'_>) -> Result<Vec<TierKind>, GrammarErr>
-    ensures { MatchResult result (λ v. v.items ≡ map (λ t. t.kind) (tiers_seen tiers.now.entries)) (λ e. e ≡ GrammarErr.NoMemory) }
+    ensures { MatchResult result (λ v. v.items ≡ map (λ t. t.kind) (tiers_seen tiers.now.entries))
+        (λ e. e ≡ GrammarErr.NoMemory) }
 {
     let mut kinds = Vec::new(alloc);
     for kind in tiers.values() {
@@ -128,7 +131,8 @@ fn kinds_of(alloc: Global, tiers: &Tiers<'_>) -> Result<Vec<TierKind>, GrammarEr
 /// The grammar of what all lines have made.
 fn finish(alloc: Global, made: Made<'_>) -> Result<Grammar, GrammarErr>
     requires { IsGrammar (made_value made) }
-    ensures { MatchResult result (λ g. value_of g ≡ made_value made.entry) (λ e. e ≡ GrammarErr.NoMemory) }
+    ensures { MatchResult result (λ g. value_of g ≡ made_value made.entry)
+        (λ e. e ≡ GrammarErr.NoMemory) }
 {
     let names = names_of(alloc, &made.tiers)?;
     let kinds = kinds_of(alloc, &made.tiers)?;

@@ -8,7 +8,9 @@ ghost use Rattle.grammar_reader.specs.Reading.{grammar_of};
 /// enough for [`crate::read_grammar`], and no line of it has a cause. So grammars with the same
 /// canonical text have the same value.
 pub fn canonical_is_read_again()
-    ensures value { (grammar : Grammar) → grammar_of (canonical (value_of grammar)) ≡ Ok (value_of grammar) }
+    ensures value { (grammar : Grammar)
+        → grammar_of (canonical (value_of grammar)) ≡ Ok (value_of grammar) }
     ensures short { (grammar : Grammar) → length (canonical (value_of grammar)) ≤ 65536 }
-    ensures alike { (g h : Grammar) → canonical (value_of g) ≡ canonical (value_of h) ↔ value_of g ≡ value_of h }
+    ensures alike { (g h : Grammar) → canonical (value_of g) ≡ canonical (value_of h)
+        ↔ value_of g ≡ value_of h }
 {}

@@ -123,7 +123,8 @@ fn sides<'a>(
     left: &[Lexeme<'a>],
     right: &[Lexeme<'a>],
 ) -> Result<Statement<'a>, LineErr>
-    ensures { SaysLine result (sides name.entry.now family (map seen left.entry.now) (map seen right.entry.now)) }
+    ensures { SaysLine result
+        (sides name.entry.now family (map seen left.entry.now) (map seen right.entry.now)) }
 {
     let left = events(alloc, b"and", left)?;
     let right = events(alloc, joined_by(family), right)?;
@@ -137,7 +138,8 @@ fn sides_of<'a>(
     left: &[Lexeme<'a>],
     rest: &[Lexeme<'a>],
 ) -> Result<Statement<'a>, LineErr>
-    ensures { SaysLine result (sides_of name.entry.now (map seen left.entry.now) (map seen rest.entry.now)) }
+    ensures { SaysLine result
+        (sides_of name.entry.now (map seen left.entry.now) (map seen rest.entry.now)) }
 {
     match rest.split_first() {
         Some((Lexeme::Implies, right)) => sides(alloc, name, Family::Implication, left, right),

@@ -36,7 +36,8 @@ impl<'a> Words<'a> {
     /// Adds a word with its mark.
     pub fn push_marked(&mut self, mark: &'a [u8], text: &'a [u8])
         requires { self.old.len < 40 }
-        ensures words { texts_of self.new ≡ texts_of self.old ++ (mark.entry.now ++ text.entry.now) ∷ [] }
+        ensures words { texts_of self.new
+            ≡ texts_of self.old ++ (mark.entry.now ++ text.entry.now) ∷ [] }
         ensures len { self.new.len ≡ self.old.len + 1 }
     {
         self.words[self.len] = Word { mark, text };

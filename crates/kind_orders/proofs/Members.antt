@@ -6,7 +6,8 @@ use Rattle.std.proofs.lemmas.List.Elements.{Contains-get_or}
 pub contains_map : {X Y : Type 0} (f : X → Y) (xs : List X) (x : X) → Contains xs x → Contains (map f xs) (f x)
 contains_map f xs x h = (h.0, omega (arith, length-map xs f, h.1), get_or-map f xs h.0 x (f x) h.1 ∙ ap f h.2)
 
-pub contains_of_map : {X Y : Type 0} (f : X → Y) (xs : List X) (y : Y) → Contains (map f xs) y → (x : X) × (Contains xs x × (f x ≡ y))
+pub contains_of_map : {X Y : Type 0} (f : X → Y) (xs : List X) (y : Y) → Contains (map f xs) y
+    → (x : X) × (Contains xs x × (f x ≡ y))
 contains_of_map f [] y h = absurd (omega (arith, h.1))
 contains_of_map f (x ∷ xs) y h =
     let inside : h.0 < length (x ∷ xs) = omega (arith, length-map (x ∷ xs) f, h.1) in
@@ -17,7 +18,8 @@ pub all_from_members : {X : Type 0} (P : X → Type 0) (xs : List X) → ((x : X
 all_from_members P xs h = λ k d l. h (get_or xs k d) (Contains-get_or xs k d l)
 
 -- one number more
-pub mapped_more : {Y : Type 0} (f : ℕ → Y) (xs : List ℕ) (i : ℕ) (ys : List Y) (y : Y) → i < length xs → ys ≡ map f (take i xs) → y ≡ f (get_or xs i 0) → ys ++ y ∷ [] ≡ map f (take (i + 1) xs)
+pub mapped_more : {Y : Type 0} (f : ℕ → Y) (xs : List ℕ) (i : ℕ) (ys : List Y) (y : Y) → i < length xs
+    → ys ≡ map f (take i xs) → y ≡ f (get_or xs i 0) → ys ++ y ∷ [] ≡ map f (take (i + 1) xs)
 mapped_more f xs i ys y inside so_far same =
     ap (λ zs. zs ++ y ∷ []) so_far ∙ ap (λ z. map f (take i xs) ++ z ∷ []) same
     ∙ sym (map-append f (take i xs) (get_or xs i 0 ∷ [])) ∙ sym (ap (map f) (take_more xs i 0 inside))

@@ -19,12 +19,14 @@ use Rattle.kind_orders.proofs.Strict.{strict_from_sorted, same_kind, kind_order_
 -- the numbers below n, rearranged
 pub ordering_from : (n : ℕ) (order : List ℕ) → IsPermutation (range_with_len 0 n) order → IsOrdering n order
 ordering_from n order p =
-    let read : (k d : ℕ) → k < n → get_or (range_with_len 0 n) k d ≡ k = λ k d l. let here : 0 + k ≡ k = omega arith in get_or-range_with_len 0 n k d l ∙ here in
+    let read : (k d : ℕ) → k < n → get_or (range_with_len 0 n) k d ≡ k = λ k d l. let here : 0 + k
+    ≡ k = omega arith in get_or-range_with_len 0 n k d l ∙ here in
     record {
       count = length_permutation (range_with_len 0 n) order p ∙ length-range_with_len 0 n;
       below = All-permutation (λ number. number < n) (range_with_len 0 n) order p
           (λ k d l. let inside : k < n = omega (arith, length-range_with_len 0 n) in omega (arith, read k d inside));
-      every = λ number l. Contains-permutation (range_with_len 0 n) order number p (number, omega (arith, length-range_with_len 0 n), read number number l);
+      every = λ number l. Contains-permutation (range_with_len 0 n) order number p
+          (number, omega (arith, length-range_with_len 0 n), read number number l);
       once = pairs_permuted (λ a b. a ≢ b) (λ a b other e. other (sym e)) (range_with_len 0 n) order p
           (λ i j d less inside e.
           let lj : j < n = omega (arith, length-range_with_len 0 n) in
@@ -40,7 +42,8 @@ fits_empty shape stage l = record {
 }
 
 -- whatever the number
-pub fits_numbered : (shape : Shape) (stage : ℕ) (kinds : List Kind) → stage < length shape.phases.items → All (FitsShape shape stage) kinds → (number : ℕ) → FitsShape shape stage (kind_numbered kinds number)
+pub fits_numbered : (shape : Shape) (stage : ℕ) (kinds : List Kind) → stage < length shape.phases.items
+    → All (FitsShape shape stage) kinds → (number : ℕ) → FitsShape shape stage (kind_numbered kinds number)
 fits_numbered shape stage kinds l fit number =
     ⊎_elim (λ inside. fit number empty_kind inside)
     (λ past. subst (FitsShape shape stage) (sym (get_or_past kinds number empty_kind past)) (fits_empty shape stage l))
@@ -48,17 +51,21 @@ fits_numbered shape stage kinds l fit number =
 
 module _ (shape : Shape) (stage : ℕ) (kinds : List Kind) (found : AreFound shape stage kinds) where
   -- numbers that differ tell kinds that differ
-  told_apart : (a b : ℕ) → a ≢ b → a < length kinds → b < length kinds → told shape stage kinds a ≢ told shape stage kinds b
-  told_apart a b other la lb = pairs_apart (λ k l. kind_in shape stage k ≢ kind_in shape stage l) (λ k l h e. h (sym e)) kinds found.differ a b empty_kind other la lb
+  told_apart : (a b : ℕ) → a ≢ b → a < length kinds → b < length kinds
+      → told shape stage kinds a ≢ told shape stage kinds b
+  told_apart a b other la lb = pairs_apart (λ k l. kind_in shape stage k ≢ kind_in shape stage l)
+      (λ k l h e. h (sym e)) kinds found.differ a b empty_kind other la lb
 
-  pub is_kind_order : (order : List ℕ) → IsPermutation (range_with_len 0 (length kinds)) order → IsSortedByKey (told shape stage kinds) kind_order order → IsKindOrder shape stage kinds order
+  pub is_kind_order : (order : List ℕ) → IsPermutation (range_with_len 0 (length kinds)) order
+      → IsSortedByKey (told shape stage kinds) kind_order order → IsKindOrder shape stage kinds order
   is_kind_order order p sorted =
       let numbers = ordering_from (length kinds) order p in
       record {
         numbers = numbers;
         ascending = strict_from_sorted kind_order_total (told shape stage kinds) 0 order sorted
             (λ i j d less inside e.
-            told_apart (get_or order i d) (get_or order j d) (numbers.once i j d less inside) (numbers.below i d (omega arith)) (numbers.below j d inside)
+            told_apart (get_or order i d) (get_or order j d) (numbers.once i j d less inside)
+            (numbers.below i d (omega arith)) (numbers.below j d inside)
             (same_kind (told shape stage kinds (get_or order i d)) (told shape stage kinds (get_or order j d)) e));
       }
 

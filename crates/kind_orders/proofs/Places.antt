@@ -10,7 +10,8 @@ pub record ArePlaced (order : List ℕ) (n : ℕ) (ranks : List ℕ) : Type 0 wh
   pub placed : (place : ℕ) → place < n → get_or ranks (get_or order place 0) 0 ≡ place
 
 -- numbers of 32 bits of which each below a length is there are not more than they can be
-pub few_numbers : (order : List ℕ) → IsOrdering (length order) order → ((k : ℕ) → k < length order → get_or order k 0 < 2 ^ 32) → length order ≤ 2 ^ 32
+pub few_numbers : (order : List ℕ) → IsOrdering (length order) order
+    → ((k : ℕ) → k < length order → get_or order k 0 < 2 ^ 32) → length order ≤ 2 ^ 32
 few_numbers order o small =
     ⊎_elim (λ more. absurd
     (let h = o.every (2 ^ 32) more in
@@ -20,20 +21,23 @@ few_numbers order o small =
     (λ few. few) (cases_lt (2 ^ 32) (length order))
 
 module _ (order : List ℕ) (o : IsOrdering (length order) order) where
-  pub placed_more : (n : ℕ) (ranks : List ℕ) → n < length order → ArePlaced order n ranks → ArePlaced order (n + 1) (set ranks (get_or order n 0) n)
+  pub placed_more : (n : ℕ) (ranks : List ℕ) → n < length order → ArePlaced order n ranks
+      → ArePlaced order (n + 1) (set ranks (get_or order n 0) n)
   placed_more n ranks l p =
       let number = get_or order n 0 in
       let inside : number < length ranks = omega (arith, o.below n 0 l, p.count) in
       record {
         count = length-set ranks number n ∙ p.count;
         placed = below_more (λ place. get_or (set ranks number n) (get_or order place 0) 0 ≡ place) n
-            (λ place less. get_or-set_other ranks number (get_or order place 0) n 0 (o.once place n 0 less l) ∙ p.placed place less)
+            (λ place less. get_or-set_other ranks number (get_or order place 0) n 0 (o.once place n 0 less l)
+            ∙ p.placed place less)
             (get_or-set_same ranks number n 0 inside);
       }
 
   module _ (ranks : List ℕ) (p : ArePlaced order (length order) ranks) where
     -- where a number stands
-    place_of : (number : ℕ) → number < length order → (place : ℕ) × (place < length order) × (get_or order place 0 ≡ number) × (get_or ranks number 0 ≡ place)
+    place_of : (number : ℕ) → number < length order
+        → (place : ℕ) × (place < length order) × (get_or order place 0 ≡ number) × (get_or ranks number 0 ≡ place)
     place_of number l =
         let h = o.every number l in
         let there : get_or order h.0 0 ≡ number = sym (get_or_default order h.0 number 0 h.1) ∙ h.2 in
@@ -50,7 +54,8 @@ module _ (order : List ℕ) (o : IsOrdering (length order) order) where
     pub ranks_numbers : IsOrdering (length order) ranks
     ranks_numbers = record {
       count = p.count;
-      below = λ k d l. let h = place_of k (omega (arith, p.count)) in omega (arith, h.1, h.3, get_or_default ranks k d 0 l);
+      below = λ k d l. let h = place_of k (omega (arith, p.count)) in omega
+          (arith, h.1, h.3, get_or_default ranks k d 0 l);
       every = λ place l.
           let number = get_or order place 0 in
           let inside : number < length ranks = omega (arith, o.below place 0 l, p.count) in
@@ -59,7 +64,8 @@ module _ (order : List ℕ) (o : IsOrdering (length order) order) where
           let li : i < length ranks = omega arith in
           let first = place_of i (omega (arith, p.count)) in
           let second = place_of j (omega (arith, p.count)) in
-          let same : first.0 ≡ second.0 = sym first.3 ∙ sym (get_or_default ranks i d 0 li) ∙ e ∙ get_or_default ranks j d 0 inside ∙ second.3 in
+          let same : first.0 ≡ second.0 = sym first.3 ∙ sym (get_or_default ranks i d 0 li) ∙ e
+          ∙ get_or_default ranks j d 0 inside ∙ second.3 in
           let one : i ≡ j = sym first.2 ∙ ap (λ n. get_or order n 0) same ∙ second.2 in
           omega arith;
     }

@@ -28,19 +28,23 @@ module _ {W : Type 0} {g : Ghosts W} (kept : List (TableState W g)) where
   accepting_exists s h =
       ⊎_elim (λ l. l)
       (λ past. absurd
-      (false≢true (sym (get_or_past (map (λ (state : TableState W g). state.accepting) kept) s false (omega (arith, length-map kept (λ (state : TableState W g). state.accepting)))) ∙ h)))
+      (false≢true (sym (get_or_past (map (λ (state : TableState W g). state.accepting) kept) s false
+      (omega (arith, length-map kept (λ (state : TableState W g). state.accepting)))) ∙ h)))
       (cases_lt s (length kept))
 
   -- a run is a path to a state that accepts
-  run_path : (s : ℕ) (arcs : List (TableArc W g)) → IsRun kept s arcs → (t : ℕ) × (IsPath kept s arcs t × (accepting_at kept t ≡ true))
+  run_path : (s : ℕ) (arcs : List (TableArc W g)) → IsRun kept s arcs
+      → (t : ℕ) × (IsPath kept s arcs t × (accepting_at kept t ≡ true))
   run_path s [] run = (s, (refl, run))
   run_path s (arc ∷ arcs) run = let rest = run_path arc.target arcs run.1 in (rest.0, ((run.0, rest.1.0), rest.1.1))
 
-  path_run : (s t : ℕ) (arcs : List (TableArc W g)) → IsPath kept s arcs t → accepting_at kept t ≡ true → IsRun kept s arcs
+  path_run : (s t : ℕ) (arcs : List (TableArc W g)) → IsPath kept s arcs t → accepting_at kept t ≡ true
+      → IsRun kept s arcs
   path_run s t [] path h = ap (accepting_at kept) path ∙ h
   path_run s t (arc ∷ arcs) path h = (path.0, path_run arc.target t arcs path.1 h)
 
-module _ {W : Type 0} {g : Ghosts W} (kept : List (TableState W g)) (exist : TargetsExist kept) (nodes : List ℕ) (count : length nodes ≡ length kept) (once : AllPairs (λ a b. a ≢ b) nodes)
+module _ {W : Type 0} {g : Ghosts W} (kept : List (TableState W g)) (exist : TargetsExist kept) (nodes : List ℕ)
+    (count : length nodes ≡ length kept) (once : AllPairs (λ a b. a ≢ b) nodes)
     (lines : List StateLine) (are : AreLinesOf kept nodes lines) where
   abbrev node : ℕ → ℕ
   node s = get_or nodes s 0
@@ -56,31 +60,46 @@ module _ {W : Type 0} {g : Ghosts W} (kept : List (TableState W g)) (exist : Tar
   ]
 
   -- the line that has the node number of a state is that of the state
-  line_is : (line : StateLine) (s : ℕ) → Contains lines line → s < length kept → line.node ≡ node s → IsLineOf kept nodes s line
-  line_is line s c l e = let h = are.each line c in subst (λ t. IsLineOf kept nodes t line) (same_state h.0 s h.1 l (sym h.2.node ∙ e)) h.2
+  line_is : (line : StateLine) (s : ℕ) → Contains lines line → s < length kept → line.node ≡ node s
+      → IsLineOf kept nodes s line
+  line_is line s c l e = let h = are.each line c in subst (λ t. IsLineOf kept nodes t line)
+      (same_state h.0 s h.1 l (sym h.2.node ∙ e)) h.2
 
-  path_leads : (s t : ℕ) (T : List (List Sym)) (arcs : List (TableArc W g)) → IsPath kept s arcs t → Reads arcs T → Leads lines (node s) T (node t)
+  path_leads : (s t : ℕ) (T : List (List Sym)) (arcs : List (TableArc W g)) → IsPath kept s arcs t → Reads arcs T
+      → Leads lines (node s) T (node t)
   path_leads s t [] [] path reads = ap node path
   path_leads s t (column ∷ T) [] path reads = absurd reads
   path_leads s t [] (arc ∷ arcs) path reads = absurd reads
   path_leads s t (column ∷ T) (arc ∷ arcs) path reads =
       let l = are.every s (moves_exist kept s arc path.0) in
       let leaves : Contains l.0.arcs.items (line_of nodes arc) =
-      Contains-permutation (map (line_of nodes) (moves_at kept s)) l.0.arcs.items (line_of nodes arc) l.2.arcs (contains_map (line_of nodes) (moves_at kept s) arc path.0) in (
+      Contains-permutation (map (line_of nodes) (moves_at kept s)) l.0.arcs.items (line_of nodes arc) l.2.arcs
+      (contains_map (line_of nodes) (moves_at kept s) arc path.0) in (
         node arc.target,
         (
-          record { state = l.0; arc = line_of nodes arc; listed = l.1; from = l.2.node; leaves = leaves; to = refl; holds = reads.0 },
+          record {
+            state = l.0;
+            arc = line_of nodes arc;
+            listed = l.1;
+            from = l.2.node;
+            leaves = leaves;
+            to = refl;
+            holds = reads.0;
+          },
           path_leads arc.target t T arcs path.1 reads.1,
         ),
       )
 
-  leads_path : (s m : ℕ) (T : List (List Sym)) → s < length kept → Leads lines (node s) T m → (t : ℕ) × ((t < length kept) × ((node t ≡ m) × ((arcs : List (TableArc W g)) × (IsPath kept s arcs t × Reads arcs T))))
+  leads_path : (s m : ℕ) (T : List (List Sym)) → s < length kept → Leads lines (node s) T m
+      → (t : ℕ) × ((t < length kept) × ((node t ≡ m) ×
+      ((arcs : List (TableArc W g)) × (IsPath kept s arcs t × Reads arcs T))))
   leads_path s m [] l leads = (s, (l, (leads, ([], (refl, tt)))))
   leads_path s m (column ∷ T) l leads =
       let a = leads.1.0 in
       let is = line_is a.state s a.listed l a.from in
       let b = contains_of_map (line_of nodes) (moves_at kept s) a.arc
-      (Contains-permutation a.state.arcs.items (map (line_of nodes) (moves_at kept s)) a.arc (IsPermutation-sym (map (line_of nodes) (moves_at kept s)) a.state.arcs.items is.arcs) a.leaves) in
+      (Contains-permutation a.state.arcs.items (map (line_of nodes) (moves_at kept s)) a.arc
+      (IsPermutation-sym (map (line_of nodes) (moves_at kept s)) a.state.arcs.items is.arcs) a.leaves) in
       let target : leads.0 ≡ node b.0.target = sym a.to ∙ sym (ap (λ (arc : ArcLine). arc.target) b.1.1) in
       let holds : has b.0.class column ≡ true = ap (λ (arc : ArcLine). has arc.class column) b.1.1 ∙ a.holds in
       let rest = leads_path b.0.target m T (exist s b.0 b.1.0) (subst (λ n. Leads lines n T m) target leads.1.1) in
@@ -101,7 +120,8 @@ module _ {W : Type 0} {g : Ghosts W} (kept : List (TableState W g)) (exist : Tar
     pub table_leads : (T : List (List Sym)) (s : ℕ) → Reaches kept T s → Leads lines 0 T (node s)
     table_leads T s r = subst (λ n. Leads lines n T (node s)) zeroth (path_leads 0 s T r.0 r.1 r.2)
 
-    pub lines_reach : (T : List (List Sym)) (m : ℕ) → Leads lines 0 T m → (s : ℕ) × (s < length kept) × (node s ≡ m) × Reaches kept T s
+    pub lines_reach : (T : List (List Sym)) (m : ℕ) → Leads lines 0 T m
+        → (s : ℕ) × (s < length kept) × (node s ≡ m) × Reaches kept T s
     lines_reach T m leads =
         let h = leads_path 0 m T some (subst (λ n. Leads lines n T m) (sym zeroth) leads) in
         (h.0, h.1.0, h.1.1.0, (h.1.1.1.0, h.1.1.1.1.0, h.1.1.1.1.1))
@@ -136,15 +156,20 @@ module _ {W : Type 0} {g : Ghosts W} (kept : List (TableState W g)) (exist : Tar
       let inside : c.0 < length kept = omega (arith, c.1) in
       subst (Contains (numbers_of lines)) (get_or_default nodes c.0 0 n c.1 ∙ c.2) (number_has c.0 inside)
 
-  pub right_arcs : ClassesDisjoint kept → ClassesFilled kept → (width : ℕ) → HasWidth width kept → All (λ (state : StateLine). AreRightArcs width (numbers_of lines) state.arcs.items) lines
-  right_arcs disjoint filled width wide = all_from_members (λ (state : StateLine). AreRightArcs width (numbers_of lines) state.arcs.items) lines (λ line c.
+  pub right_arcs : ClassesDisjoint kept → ClassesFilled kept → (width : ℕ) → HasWidth width kept
+      → All (λ (state : StateLine). AreRightArcs width (numbers_of lines) state.arcs.items) lines
+  right_arcs disjoint filled width wide = all_from_members
+      (λ (state : StateLine). AreRightArcs width (numbers_of lines) state.arcs.items) lines (λ line c.
       let h = are.each line c in
       let moves = moves_at kept h.0 in
       record {
         apart = lines_apart nodes moves line.arcs.items h.2.arcs (disjoint h.0);
         filled = lines_filled nodes moves line.arcs.items h.2.arcs (λ arc m. filled h.0 arc m);
-        one_width = all_lines_have nodes moves line.arcs.items h.2.arcs (λ (arc : ArcLine). length (sets_of arc.class) ≡ width) (λ arc m. wide h.0 arc m);
-        targets = all_lines_have nodes moves line.arcs.items h.2.arcs (λ (arc : ArcLine). Contains (numbers_of lines) arc.target) (λ arc m. number_has arc.target (exist h.0 arc m));
+        one_width = all_lines_have nodes moves line.arcs.items h.2.arcs
+            (λ (arc : ArcLine). length (sets_of arc.class) ≡ width) (λ arc m. wide h.0 arc m);
+        targets = all_lines_have nodes moves line.arcs.items h.2.arcs
+            (λ (arc : ArcLine). Contains (numbers_of lines) arc.target)
+            (λ arc m. number_has arc.target (exist h.0 arc m));
         in_order = h.2.in_order;
       })
 

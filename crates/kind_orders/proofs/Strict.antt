@@ -21,11 +21,13 @@ module _ {X K : Type 0} {R : K → K → Ordering} (o : IsTotalOrder R) (key : X
       go Equal e h = absurd (other (o.antisymm x y ∙ ap ordering_reverse e))
       go Greater e h = o.antisymm x y ∙ ap ordering_reverse e
 
-  pub strict_from_sorted : (d : X) (xs : List X) → IsSortedByKey key R xs → AllPairs (λ x y. R (key x) (key y) ≢ Equal) xs → IsStrictlySortedBy R (map key xs)
+  pub strict_from_sorted : (d : X) (xs : List X) → IsSortedByKey key R xs
+      → AllPairs (λ x y. R (key x) (key y) ≢ Equal) xs → IsStrictlySortedBy R (map key xs)
   strict_from_sorted d xs sorted differ = sorted_from_all_adjacent o (map key xs) (key d) (λ k l.
       let inside : k + 1 < length xs = omega (arith, length-map xs key) in
       ap₂ R (get_or-map key xs k d (key d) (omega arith)) (get_or-map key xs (k + 1) d (key d) inside)
-      ∙ less_from (key (get_or xs k d)) (key (get_or xs (k + 1) d)) (sorted k d (omega arith) inside) (differ k (k + 1) d (omega arith) inside))
+      ∙ less_from (key (get_or xs k d)) (key (get_or xs (k + 1) d)) (sorted k d (omega arith) inside)
+      (differ k (k + 1) d (omega arith) inside))
 
 -- ---- what ties is the same
 
@@ -58,8 +60,10 @@ same_phase met met e = refl
 abbrev kind_of_parts : ℕ → List Bool → List Phase → PrefixKind
 kind_of_parts p a s = record { place = p; opened = a; phases = s }
 
-of_parts : (p q : ℕ) (a b : List Bool) (s t : List Phase) → p ≡ q → a ≡ b → s ≡ t → kind_of_parts p a s ≡ kind_of_parts q b t
-of_parts p q a b s t e f g = ap (λ n. kind_of_parts n a s) e ∙ ap (λ c. kind_of_parts q c s) f ∙ ap (kind_of_parts q b) g
+of_parts : (p q : ℕ) (a b : List Bool) (s t : List Phase) → p ≡ q → a ≡ b → s ≡ t
+    → kind_of_parts p a s ≡ kind_of_parts q b t
+of_parts p q a b s t e f g = ap (λ n. kind_of_parts n a s) e ∙ ap (λ c. kind_of_parts q c s) f
+    ∙ ap (kind_of_parts q b) g
 
 -- kinds that tie are one
 pub same_kind : (k l : PrefixKind) → kind_order k l ≡ Equal → k ≡ l
@@ -69,10 +73,13 @@ same_kind k l e =
     let first = both_equal (nat_cmp k.place l.place) (ordering_then opened phases) e in
     let second = both_equal opened phases first.1 in
     of_parts k.place l.place k.opened l.opened k.phases l.phases (same_number k.place l.place first.0)
-    (unmapped open_rank same_open k.opened l.opened (same_numbers (map open_rank k.opened) (map open_rank l.opened) second.0))
-    (unmapped phase_rank same_phase k.phases l.phases (same_numbers (map phase_rank k.phases) (map phase_rank l.phases) second.1))
+    (unmapped open_rank same_open k.opened l.opened
+    (same_numbers (map open_rank k.opened) (map open_rank l.opened) second.0))
+    (unmapped phase_rank same_phase k.phases l.phases
+    (same_numbers (map phase_rank k.phases) (map phase_rank l.phases) second.1))
 
 pub kind_order_total : IsTotalOrder kind_order
 kind_order_total =
     then_total (on_total (λ (k : PrefixKind). k.place) nat_cmp_total)
-    (then_total (on_total (λ (k : PrefixKind). map open_rank k.opened) nat_list_cmp_total) (on_total (λ (k : PrefixKind). map phase_rank k.phases) nat_list_cmp_total))
+    (then_total (on_total (λ (k : PrefixKind). map open_rank k.opened) nat_list_cmp_total)
+    (on_total (λ (k : PrefixKind). map phase_rank k.phases) nat_list_cmp_total))

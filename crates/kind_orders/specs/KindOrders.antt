@@ -11,16 +11,16 @@ use Rattle.kind_orders.specs.Orderings.{IsOrdering}
 abbrev pub empty_kind : Kind
 empty_kind = record { place = 0; opened = 0; unmet = 0; met = 0; apart = refl }
 
--- the kind of a number, and that of the empty prefix where there is no such number
+-- the kind of a number, or that of the empty prefix if there is no such number
 abbrev pub kind_numbered : List Kind → ℕ → Kind
 kind_numbered kinds number = slice_index_or kinds number empty_kind
 
--- Kinds that are found for a stage: their bits fit the shape there, and no two tell the same.
+-- Kinds that are found for a stage: their bits fit the shape there, and no two mean the same.
 pub record AreFound (shape : Shape) (stage : ℕ) (kinds : List Kind) : Type 0 where
   pub fit : All (FitsShape shape stage) kinds
   pub differ : AllPairs (λ a b. kind_in shape stage a ≢ kind_in shape stage b) kinds
 
--- what a kind tells, by its number
+-- what a kind means, by its number
 abbrev pub told : Shape → ℕ → List Kind → ℕ → PrefixKind
 told shape stage kinds number = kind_in shape stage (kind_numbered kinds number)
 

@@ -7,11 +7,15 @@ use Rattle.kind_orders.specs.KindOrders.{kind_numbered}
 
 -- the node of a number: its kind and its potential
 abbrev pub node_numbered : List Kind → List ℕ → ℕ → Node
-node_numbered kinds potentials number = record { kind = kind_numbered kinds number; potential = slice_index potentials number }
+node_numbered kinds potentials number = record
+    { kind = kind_numbered kinds number; potential = slice_index potentials number }
 
--- The nodes are those of the numbers in their order. So whatever is told of kinds, the nodes tell it
--- in that order, and they tell what the kinds that are found tell.
+-- The nodes are those of the numbers in their order. So any function of kinds gives the same list
+-- on the nodes as on the kinds in that order, and the same values on the nodes as on the kinds
+-- that are found.
 pub record AreNodesInOrder (kinds : List Kind) (potentials order : List ℕ) (nodes : List Node) : Type 0 where
   pub each : nodes ≡ map (node_numbered kinds potentials) order
-  pub in_order : (tell : Kind → PrefixKind) → map (λ node. tell node.kind) nodes ≡ map (λ number. tell (kind_numbered kinds number)) order
-  pub same : (tell : Kind → PrefixKind) (k : PrefixKind) → Contains (map (λ node. tell node.kind) nodes) k ↔ Contains (map tell kinds) k
+  pub in_order : (tell : Kind → PrefixKind)
+      → map (λ node. tell node.kind) nodes ≡ map (λ number. tell (kind_numbered kinds number)) order
+  pub same : (tell : Kind → PrefixKind) (k : PrefixKind)
+      → Contains (map (λ node. tell node.kind) nodes) k ↔ Contains (map tell kinds) k

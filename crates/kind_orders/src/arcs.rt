@@ -43,7 +43,8 @@ pub(crate) fn arc_lines(
     nodes: &[u32],
 ) -> Result<Vec<ArcLine>, AllocError>
     requires { All (λ arc. arc.target < length nodes.now) moves.now }
-    ensures same { IfOk result (λ lines. IsPermutation (map (line_of nodes.now) moves.now) lines.items) }
+    ensures same { IfOk result
+        (λ lines. IsPermutation (map (line_of nodes.now) moves.now) lines.items) }
     ensures sorted { IfOk result (λ lines. IsSorted arc_cmp lines.items) }
 {
     let mut lines = unsorted_lines(alloc, moves, nodes)?;

@@ -34,7 +34,8 @@ fn lines_by_node(
     requires kinds { All (λ kind. kind < length ranks.now) states.now }
     requires once { AllPairs (λ a b. a ≢ b) states.now }
     requires ranks { IsOrdering (length ranks.now) ranks.now }
-    ensures { IfOk result (λ lines. AreLinesOf (states_of kept.now) (nodes_of ranks.now states.now) lines.items) }
+    ensures { IfOk result
+        (λ lines. AreLinesOf (states_of kept.now) (nodes_of ranks.now states.now) lines.items) }
 {
     let nodes = node_numbers(alloc, states, ranks)?;
     let by_node = states_by_node(alloc, &nodes, ranks.len())?;
@@ -42,8 +43,8 @@ fn lines_by_node(
 }
 
 /// The automaton of a table, whose states stand for kinds: `states` has the number of each state's
-/// kind, all of them different, and `ranks` the node number of each kind. It fails only for want of
-/// memory.
+/// kind, all of them different, and `ranks` the node number of each kind. Fails only if memory
+/// runs out.
 pub fn automaton_of(
     alloc: Global,
     kept: &Table<UnitWeight>,
@@ -54,7 +55,10 @@ pub fn automaton_of(
     requires kinds { All (λ kind. kind < length ranks.now) states.now }
     requires once { AllPairs (λ a b. a ≢ b) states.now }
     requires ranks { IsOrdering (length ranks.now) ranks.now }
-    ensures { IfOk result (λ automaton. IsAutomatonOf (states_of kept.now) (nodes_of ranks.now states.now) automaton.states.items) }
+    ensures { IfOk result
+        (λ automaton.
+        IsAutomatonOf (states_of kept.now)
+        (nodes_of ranks.now states.now) automaton.states.items) }
 {
     match lines_by_node(alloc, kept, states, ranks) {
         Ok(states) => Ok(Automaton { states }),

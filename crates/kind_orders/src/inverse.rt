@@ -17,8 +17,8 @@ fn places(alloc: Global, order: &[u32]) -> Result<Vec<u32>, AllocError>
     Ok(ranks)
 }
 
-/// The place of each number in an order of all numbers below its length, counted from 0. It fails
-/// only for want of memory.
+/// The place of each number in an order of all numbers below its length, counted from 0. Fails
+/// only if memory runs out.
 pub fn ranks(alloc: Global, order: &[u32]) -> Result<Vec<u32>, NoMemory>
     requires { IsOrdering (length order.now) order.now }
     ensures numbers { IfOk result (λ ranks. IsOrdering (length order.now) ranks.items) }

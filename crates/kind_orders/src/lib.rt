@@ -1,9 +1,10 @@
 //! From what a staged generator finds to the order in which an answer is written.
 //!
 //! A generator numbers kinds in the order in which it finds them, and an answer lists them in kind
-//! order. `ordered` sorts the numbers, `ranks` turns the order around, `stage_of` makes the nodes of a
-//! stage, and `automaton_of` the lines of an automaton from the table that is left after pruning. All
-//! is linear but for sorting. Below stand kinds, tables and answers; above, the staged generator.
+//! order. `ordered` sorts the numbers, `ranks` inverts the order, `stage_of` makes the nodes of a
+//! stage, and `automaton_of` the lines of an automaton from the table that is left after pruning.
+//! Everything is linear except for sorting. Below are kinds, tables and answers; above, the staged
+//! generator.
 #![tactic(auto)]
 
 mod arcs;

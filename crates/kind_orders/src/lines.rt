@@ -8,8 +8,8 @@ use arc_table::Table;
 use std::alloc::{AllocError, Global};
 use weight_law::UnitWeight;
 
-/// The state of each of so many node numbers, where there is one. `nodes` has the node number of
-/// each state.
+/// The state of each of so many node numbers, if there is one. `nodes` has the node number of each
+/// state.
 pub(crate) fn states_by_node(
     alloc: Global,
     nodes: &[u32],

@@ -8,7 +8,7 @@ use std::alloc::{AllocError, Global};
 use std::cmp::Ordering;
 use tier_core::{Kind, NoMemory, Shape, kind_cmp};
 
-/// The kind of a number, and that of the empty prefix where there is no such number.
+/// The kind of a number, or that of the empty prefix if there is no such number.
 fn kind_of(kinds: &[Kind], number: u32) -> Kind
     ensures { result ≡ kind_numbered kinds.now number }
 {
@@ -27,12 +27,13 @@ fn kind_of(kinds: &[Kind], number: u32) -> Kind
 fn cmp_numbers(kinds: &[Kind], shape: &Shape, stage: u32, a: u32, b: u32) -> Ordering
     requires stage { stage < length shape.now.phases.items }
     requires fit { All (FitsShape shape.now stage) kinds.now }
-    ensures { result ≡ kind_order (told shape.now stage kinds.now a) (told shape.now stage kinds.now b) }
+    ensures { result
+        ≡ kind_order (told shape.now stage kinds.now a) (told shape.now stage kinds.now b) }
 {
     kind_cmp(&kind_of(kinds, a), &kind_of(kinds, b), shape, stage)
 }
 
-/// The numbers below `count`, from 0. It fails only for want of memory.
+/// The numbers below `count`, from 0. Fails only if memory runs out.
 pub fn numbers_below(alloc: Global, count: u32) -> Result<Vec<u32>, AllocError>
     ensures { IfOk result (λ numbers. numbers.items ≡ range_with_len 0 count) }
 {
@@ -57,8 +58,8 @@ fn sorted_numbers(
 }
 
 /// The numbers of kinds in kind order. The kinds are those that are found for a stage of the shape:
-/// no two of them tell the same, and their bits fit the shape at that stage. It fails only for want
-/// of memory.
+/// no two of them mean the same, and their bits fit the shape at that stage. Fails only if memory
+/// runs out.
 pub fn ordered(
     alloc: Global,
     shape: &Shape,

@@ -15,7 +15,8 @@ fn nodes_in(
 ) -> Result<Vec<Node>, AllocError>
     requires kinds { All (λ number. number < length kinds.now) order.now }
     requires potentials { All (λ number. number < length potentials.now) order.now }
-    ensures { IfOk result (λ nodes. nodes.items ≡ map (node_numbered kinds.now potentials.now) order.now) }
+    ensures { IfOk result
+        (λ nodes. nodes.items ≡ map (node_numbered kinds.now potentials.now) order.now) }
 {
     let mut nodes = Vec::new(alloc);
     for number in order {
@@ -27,8 +28,8 @@ fn nodes_in(
     Ok(nodes)
 }
 
-/// The stage of kinds and potentials that are found, in an order of their numbers. It fails only for
-/// want of memory.
+/// The stage of kinds and potentials that are found, in an order of their numbers. Fails only if
+/// memory runs out.
 pub fn stage_of(
     alloc: Global,
     kinds: &[Kind],
@@ -37,7 +38,8 @@ pub fn stage_of(
 ) -> Result<Stage, NoMemory>
     requires order { IsOrdering (length kinds.now) order.now }
     requires potentials { length potentials.now ≡ length kinds.now }
-    ensures { IfOk result (λ stage. AreNodesInOrder kinds.now potentials.now order.now stage.nodes.items) }
+    ensures { IfOk result
+        (λ stage. AreNodesInOrder kinds.now potentials.now order.now stage.nodes.items) }
 {
     match nodes_in(alloc, kinds, potentials, order) {
         Ok(nodes) => Ok(Stage { nodes }),

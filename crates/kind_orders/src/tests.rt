@@ -11,7 +11,7 @@ use std::test::Fail;
 use tier_core::{Kind, NoMemory, Shape};
 use weight_law::UnitWeight;
 
-// The kind of a place and a mask of open tiers, where all stretch implications are closed.
+// The kind of a place and a mask of open tiers, with all stretch implications closed.
 fn kind(place: u32, opened: u16) -> Kind
     ensures place { result.place ≡ place }
     ensures opened { result.opened ≡ opened }

@@ -1,5 +1,5 @@
--- What stands in the table of a lexicon file. The words on tables are those of the crate `toml`.
--- The format is this project's own.
+-- What the table of a lexicon file contains. The definitions of tables are those of the crate
+-- `toml`. The format is this project's own.
 use Rattle.std.specs.Prelude.{ℕ, ◌==◌, ◌&&◌, Bool, not, nat_le, List, [], ◌∷◌, length, Option, Some, None, option_and_then, option_map, if◌then◌else◌, codes}
 use Rattle.std.specs.List.{list_all}
 use Rattle.toml.specs.Data.{Data, Items, no_items, item, Members, as_array, as_str, get, get_member}
@@ -9,7 +9,7 @@ abbrev pub list_of : Items → List Data
 list_of no_items = []
 list_of (item d ds) = d ∷ list_of ds
 
--- the elements under a key: none where the key is absent, and no list where it holds no array
+-- the elements under a key: none if the key is absent, and no list if it does not hold an array
 abbrev pub elements_under : Option Data → Option (List Data)
 elements_under None = Some []
 elements_under (Some d) = option_map list_of (as_array d)
@@ -36,4 +36,5 @@ named name word = if is_entry_name name then Some (name, word) else None
 
 -- what an element writes: the name of an entry, and the word of its form
 abbrev pub written : Data → Option (List ℕ × List ℕ)
-written element = option_and_then (λ name. option_and_then (named name) (text_under (codes "form") element)) (text_under (codes "name") element)
+written element = option_and_then (λ name. option_and_then (named name) (text_under (codes "form") element))
+    (text_under (codes "name") element)

@@ -30,8 +30,9 @@ pub record IsEntry (inputs : ℕ) (letters : List Letter) (element : Data) (entr
   pub writes : written element ≡ Some (entry.name, word)
   pub read : IsReadAs inputs letters word entry.form
 
--- elements are entries, one for one, and no name is there twice
-pub record AreEntries (inputs : ℕ) (letters : List Letter) (elements : List Data) (entries : List LexicalEntry) : Type 0 where
+-- elements are entries, one for one, and no name occurs twice
+pub record AreEntries (inputs : ℕ) (letters : List Letter) (elements : List Data)
+    (entries : List LexicalEntry) : Type 0 where
   pub each : AllZip (IsEntry inputs letters) elements entries
   pub once : has_twice (names_of entries) ≡ false
 
@@ -42,24 +43,26 @@ pub record IsTwiceNamed (names : List (List ℕ)) (element : Data) : Type 0 wher
   pub writes : written element ≡ Some (name, word)
   pub taken : is_among name names ≡ true
 
--- an element writes a name that is none of those, and a word that is read as no form
-pub record HasBadForm (inputs : ℕ) (letters : List Letter) (names : List (List ℕ)) (element : Data) (cause : FormErr) : Type 0 where
+-- an element writes a name that is not one of those, and a word that is not read as a form
+pub record HasBadForm (inputs : ℕ) (letters : List Letter) (names : List (List ℕ)) (element : Data)
+    (cause : FormErr) : Type 0 where
   pub name : List ℕ
   pub word : List ℕ
   pub writes : written element ≡ Some (name, word)
   pub new : is_among name names ≡ false
   pub refused : IsRefusedFor inputs letters word cause
 
--- why an element is no entry, behind entries of those names; elements are counted from 0
+-- why an element is not an entry, after entries with those names; elements are counted from 0
 abbrev pub IsFault : ℕ → List Letter → List (List ℕ) → Data → LexErr → Type 0
 IsFault inputs letters names element (BadEntry index) = (index ≡ length names) × (written element ≡ None)
 IsFault inputs letters names element (TwiceNamed index) = (index ≡ length names) × IsTwiceNamed names element
-IsFault inputs letters names element (BadForm index cause) = (index ≡ length names) × HasBadForm inputs letters names element cause
+IsFault inputs letters names element (BadForm index cause) =
+    (index ≡ length names) × HasBadForm inputs letters names element cause
 IsFault inputs letters names element NotToml = ⊥
 IsFault inputs letters names element TooMany = ⊥
 IsFault inputs letters names element NoMemory = ⊥
 
--- The first element that is no entry gives the cause: those before it are entries.
+-- The first element that is not an entry gives the cause: those before it are entries.
 pub record IsFirstFault (inputs : ℕ) (letters : List Letter) (elements : List Data) (cause : LexErr) : Type 0 where
   pub front : List Data
   pub element : Data

@@ -8,7 +8,7 @@ use Rattle.lexicon.specs.declared.lex_err.LexErr.TheVariants.{NotToml, TooMany, 
 use Rattle.lexicon.specs.Elements.{elements_of}
 use Rattle.lexicon.specs.Entries.{LexicalEntry, AreEntries, IsFirstFault}
 
--- bytes are UTF-8, and tell a table by the grammar of TOML
+-- bytes are UTF-8, and denote a table by the grammar of TOML
 pub record IsToml (bytes : List ℕ) (table : Members) : Type 0 where
   pub utf8 : IsUtf8 bytes
   pub told : parse_document bytes ≡ Some table
@@ -25,21 +25,24 @@ pub record IsLexicon (inputs : ℕ) (letters : List Letter) (bytes : List ℕ) (
   pub few : length elements ≤ 1000
   pub are : AreEntries inputs letters elements entries
 
--- why a table is no lexicon: it has no list of elements, or too many of them, or one is no entry
+-- why a table is not a lexicon: it has no list of elements, or too many of them, or one is not an
+-- entry
 abbrev pub IsTableCause : ℕ → List Letter → Option (List Data) → LexErr → Type 0
 IsTableCause inputs letters None cause = cause ≡ BadEntry 0
-IsTableCause inputs letters (Some elements) cause = MatchBool (nat_lt 1000 (length elements)) (cause ≡ TooMany) (IsFirstFault inputs letters elements cause)
+IsTableCause inputs letters (Some elements) cause = MatchBool (nat_lt 1000 (length elements)) (cause ≡ TooMany)
+    (IsFirstFault inputs letters elements cause)
 
--- bytes tell a table that is no lexicon
+-- bytes denote a table that is not a lexicon
 pub record IsBadTable (inputs : ℕ) (letters : List Letter) (bytes : List ℕ) (cause : LexErr) : Type 0 where
   pub table : Members
   pub toml : IsToml bytes table
   pub refused : IsTableCause inputs letters (elements_of table) cause
 
--- Why bytes are no lexicon. Each cause stands behind those before it, so that there is one at most.
+-- Why bytes are not a lexicon. Each cause yields to those before it, so that there is at most one.
 abbrev pub IsLexiconCause : ℕ → List Letter → List ℕ → LexErr → Type 0
 IsLexiconCause inputs letters bytes cause = ((cause ≡ NotToml) × IsNoToml bytes) ⊎ IsBadTable inputs letters bytes cause
 
 -- bytes are a lexicon, or they have a cause
 abbrev pub HasLexicon : ℕ → List Letter → List ℕ → Type 0
-HasLexicon inputs letters bytes = ((entries : List LexicalEntry) × IsLexicon inputs letters bytes entries) ⊎ ((cause : LexErr) × IsLexiconCause inputs letters bytes cause)
+HasLexicon inputs letters bytes = ((entries : List LexicalEntry) × IsLexicon inputs letters bytes entries) ⊎
+    ((cause : LexErr) × IsLexiconCause inputs letters bytes cause)

@@ -8,7 +8,7 @@ use toml::Value;
 /// How many bytes the name of an entry may have.
 const NAME_LIMIT: usize = 64;
 
-/// Whether a byte may stand in a name.
+/// Whether a byte may occur in a name.
 fn is_name_byte(byte: u8) -> bool
     ensures { result ≡ is_name_byte byte }
 {
@@ -22,7 +22,7 @@ fn is_name_length(len: usize) -> bool
     1 <= len && len <= NAME_LIMIT
 }
 
-/// Whether each byte may stand in a name.
+/// Whether each byte may occur in a name.
 fn has_name_bytes(name: &[u8]) -> bool
     ensures { result ≡ list_all is_name_byte name.now }
 {
@@ -48,7 +48,8 @@ fn text_under<'a>(element: &'a Value, key: &str) -> Option<&'a str>
 
 /// What an element writes: the name of an entry, and the word of its form.
 pub(crate) fn written(element: &Value) -> Option<(&str, &str)>
-    ensures { option_map (λ pair. (pair.0.now, pair.1.now)) result ≡ written (view element.entry.now) }
+    ensures { option_map (λ pair. (pair.0.now, pair.1.now)) result
+        ≡ written (view element.entry.now) }
 {
     let name = text_under(element, "name")?;
     let word = text_under(element, "form")?;

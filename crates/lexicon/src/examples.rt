@@ -6,24 +6,29 @@ ghost use Rattle.toml.specs.Parse.{parse_document};
 ghost use Rattle.lexicon.specs.Elements.{elements_of, is_entry_name};
 ghost use Rattle.lexicon.specs.Examples.{written_in};
 
-/// Entries write their names and the words of their forms, and other keys are passed over.
+/// Entries write their names and the words of their forms, and other keys are ignored.
 pub fn what_entries_write()
-    ensures { written_in (codes "[[entry]]\nname = 'one'\nform = '[ ]'\ngloss = 'passed over'\n[[entry]]\nform = '=ta'\nname = 'two'\n[other]\n") ≡ Some (Some (codes "one", codes "[ ]") ∷ Some (codes "two", codes "=ta") ∷ []) }
+    ensures { written_in
+        (codes "[[entry]]\nname = 'one'\nform = '[ ]'\ngloss = 'passed over'\n[[entry]]\nform = '=ta'\nname = 'two'\n[other]\n") ≡ Some (Some (codes "one", codes "[ ]") ∷ Some (codes "two", codes "=ta") ∷ []) }
 {}
 
-/// Elements that write nothing: no table, no form, a name that is no string, and no name.
+/// Elements that write nothing: one that is not a table, one with no form, one whose name is not a
+/// string, and one with no name.
 pub fn what_writes_nothing()
-    ensures { written_in (codes "entry = [1, {name = 'a'}, {name = 1, form = ''}, {name = '', form = ''}]") ≡ Some (None ∷ None ∷ None ∷ None ∷ []) }
+    ensures { written_in
+        (codes "entry = [1, {name = 'a'}, {name = 1, form = ''}, {name = '', form = ''}]")
+        ≡ Some (None ∷ None ∷ None ∷ None ∷ []) }
 {}
 
-/// Where the key is absent there are no elements, and where it holds no array there is no list.
+/// If the key is absent there are no elements, and if it does not hold an array there is no list.
 pub fn what_stands_under_the_key()
     ensures absent { written_in (codes "title = 'none'") ≡ Some [] }
-    ensures table { option_map elements_of (parse_document (codes "[entry]\nname = 'one'")) ≡ Some None }
+    ensures table { option_map elements_of (parse_document (codes "[entry]\nname = 'one'"))
+        ≡ Some None }
     ensures refused { parse_document (codes "x = ") ≡ None }
 {}
 
-/// Names have 1 to 64 bytes, none below 32 and none 127.
+/// Names have 1 to 64 bytes, none of them below 32 or equal to 127.
 pub fn names_and_their_limit()
     ensures word { is_entry_name (codes "one two") ≡ true }
     ensures empty { is_entry_name [] ≡ false }

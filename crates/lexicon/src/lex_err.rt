@@ -2,7 +2,7 @@ use std::alloc::{AllocError, AllocFailed};
 use thiserror::Error;
 use timeline_text::FormErr;
 
-/// Why a file is no lexicon. Entries are counted from 0.
+/// Why a file is not a lexicon. Entries are counted from 0.
 #[derive(Clone, Copy, Debug, PartialEq, Eq, Error)]
 pub enum LexErr {
     /// The bytes are not UTF-8, or the text is not TOML.
@@ -11,17 +11,18 @@ pub enum LexErr {
     /// There are more than 1,000 entries.
     #[error("there are too many entries")]
     TooMany,
-    /// This entry is no table, or has no string `name` or `form`, or its name breaks its limit of 1
-    /// to 64 bytes, none below 32 and none 127. The index is 0 where `entry` is no array.
-    #[error("entry {index} is no entry")]
+    /// This entry is not a table, or has no string `name` or `form`, or its name is not 1 to 64
+    /// bytes long, or has a byte below 32 or equal to 127. The index is 0 if `entry` is not an
+    /// array.
+    #[error("entry {index} is not an entry")]
     BadEntry { index: u32 },
     /// An earlier entry has the name of this one.
-    #[error("the name of entry {index} is there twice")]
+    #[error("the name of entry {index} is already used")]
     TwiceNamed { index: u32 },
-    /// The form of this entry is refused for this cause, which is never want of memory.
+    /// The form of this entry is refused for this cause, which is never that memory ran out.
     #[error("the form of entry {index}: {cause}")]
     BadForm { index: u32, cause: FormErr },
-    /// Memory was wanting.
+    /// Memory ran out.
     #[error("out of memory")]
     NoMemory,
 }

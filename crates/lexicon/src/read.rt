@@ -23,10 +23,11 @@ use toml::{Table, Value};
 /// How many entries a lexicon may have.
 const ENTRY_LIMIT: usize = 1000;
 
-/// The table that a text of TOML tells.
+/// The table that a text of TOML denotes.
 fn table_of(alloc: Global, bytes: &[u8]) -> Result<Table, LexErr>
     ensures ok { IfOk result (λ table. IsToml bytes.now (table_view table)) }
-    ensures err { IfErr result (λ e. e ≢ LexErr.NoMemory → (e ≡ LexErr.NotToml) × IsNoToml bytes.now) }
+    ensures err { IfErr result
+        (λ e. e ≢ LexErr.NoMemory → (e ≡ LexErr.NotToml) × IsNoToml bytes.now) }
 {
     let Ok(text) = std::str::from_utf8(bytes) else {
         return Err(LexErr::NotToml);
@@ -38,19 +39,27 @@ fn table_of(alloc: Global, bytes: &[u8]) -> Result<Table, LexErr>
     }
 }
 
-/// What stands under the key `entry`.
+/// The value under the key `entry`.
 fn entry_value(table: &Table) -> Option<&Value>
-    ensures { option_map (λ value. view value.now) result ≡ get_member (codes "entry") (table_view table.entry.now) }
+    ensures { option_map (λ value. view value.now) result
+        ≡ get_member (codes "entry") (table_view table.entry.now) }
 {
     table.get("entry")
 }
 
-/// Reads the form of the entry of that index.
+/// Reads the form of the entry with that index.
 fn read_word(alloc: Global, grammar: &Grammar, index: u32, word: &str) -> Result<Timeline, LexErr>
-    ensures ok { IfOk result (IsReadAs (length (tiers_of_table grammar.now.tiers).input) grammar.now.letters.items word.now) }
+    ensures ok { IfOk result
+        (IsReadAs
+        (length (tiers_of_table grammar.now.tiers).input) grammar.now.letters.items word.now) }
     ensures form { IfOk result (IsForm (tiers_of_table grammar.now.tiers)) }
     ensures short { IfOk result (λ form. length form ≤ 64) }
-    ensures err { IfErr result (λ e. e ≢ LexErr.NoMemory → (cause : FormErr) × (e ≡ LexErr.BadForm index cause) × IsRefusedFor (length (tiers_of_table grammar.now.tiers).input) grammar.now.letters.items word.now cause) }
+    ensures err { IfErr result
+        (λ e. e ≢ LexErr.NoMemory
+        → (cause : FormErr) × (e ≡ LexErr.BadForm index cause)
+        × IsRefusedFor
+        (length
+        (tiers_of_table grammar.now.tiers).input) grammar.now.letters.items word.now cause) }
 {
     match read_form(alloc, grammar, word.as_bytes()) {
         Ok(form) => Ok(form),
@@ -62,10 +71,19 @@ fn read_word(alloc: Global, grammar: &Grammar, index: u32, word: &str) -> Result
 /// Reads the elements one by one, with the names so far in a set.
 fn read_elements(alloc: Global, grammar: &Grammar, elements: &[Value]) -> Result<Vec<Entry>, LexErr>
     requires { length elements.now ≤ 1000 }
-    ensures ok { IfOk result (λ entries. AreEntries (length (tiers_of_table grammar.now.tiers).input) grammar.now.letters.items (map view elements.now) (entries_seen entries.items)) }
-    ensures forms { IfOk result (λ entries. All (λ entry. IsForm (tiers_of_table grammar.now.tiers) entry.form) entries.items) }
+    ensures ok { IfOk result
+        (λ entries.
+        AreEntries (length (tiers_of_table grammar.now.tiers).input) grammar.now.letters.items
+        (map view elements.now) (entries_seen entries.items)) }
+    ensures forms { IfOk result
+        (λ entries.
+        All (λ entry. IsForm (tiers_of_table grammar.now.tiers) entry.form) entries.items) }
     ensures short { IfOk result (λ entries. All (λ entry. length entry.form ≤ 64) entries.items) }
-    ensures err { IfErr result (λ e. e ≢ LexErr.NoMemory → IsFirstFault (length (tiers_of_table grammar.now.tiers).input) grammar.now.letters.items (map view elements.now) e) }
+    ensures err { IfErr result
+        (λ e. e ≢ LexErr.NoMemory
+        → IsFirstFault
+        (length (tiers_of_table grammar.now.tiers).input) grammar.now.letters.items
+        (map view elements.now) e) }
 {
     let mut names = IndexSet::new(alloc);
     let mut entries = Vec::new(alloc);
@@ -87,32 +105,44 @@ fn read_elements(alloc: Global, grammar: &Grammar, elements: &[Value]) -> Result
 
 /// Reads the bytes of a lexicon file, whose forms are over the input tiers of the grammar.
 ///
-/// The causes on the whole file are tried first, in this order.
+/// The causes that concern the whole file are tried first, in this order.
 ///
 /// - `NotToml`: the bytes are not UTF-8, or the text is not TOML.
-/// - `BadEntry` with index 0: the key `entry` is there, and is no array.
+/// - `BadEntry` with index 0: the key `entry` is present, and is not an array.
 /// - `TooMany`: the array has more than 1,000 elements.
 ///
-/// Then the first entry with a cause gives it. On one entry they are tried in this order.
+/// Then the first entry with a cause gives it. For one entry they are tried in this order.
 ///
-/// - `BadEntry`: it is no table, or `name` or `form` is absent or no string, or the name has not 1 to
-///   64 bytes, none below 32 and none 127.
+/// - `BadEntry`: it is not a table, or `name` or `form` is absent or not a string, or the name is
+///   not 1 to 64 bytes long, or has a byte below 32 or equal to 127.
 /// - `TwiceNamed`: an earlier entry has its name.
 /// - `BadForm`: its form is refused as the word of a form would be, for that cause.
 ///
-/// Where `entry` is absent there are no entries, and other keys are passed over. `NoMemory` may come
-/// in place of any answer.
+/// If `entry` is absent there are no entries, and other keys are ignored. `NoMemory` may occur in
+/// place of any answer.
 pub fn read_lexicon(alloc: Global, grammar: &Grammar, bytes: &[u8]) -> Result<Vec<Entry>, LexErr>
-    ensures ok { IfOk result (λ entries. IsLexicon (length (tiers_of_table grammar.now.tiers).input) grammar.now.letters.items bytes.now (entries_seen entries.items)) }
+    ensures ok { IfOk result
+        (λ entries.
+        IsLexicon
+        (length (tiers_of_table grammar.now.tiers).input) grammar.now.letters.items bytes.now
+        (entries_seen entries.items)) }
 
-    // What the entries are fit for: names that tell them apart, and forms that the generator takes.
+    // What the entries are fit for: names that distinguish them, and forms that the generator
+    // takes.
     ensures few { IfOk result (λ entries. length entries.items ≤ 1000) }
-    ensures names { IfOk result (λ entries. has_twice (names_of (entries_seen entries.items)) ≡ false) }
-    ensures forms { IfOk result (λ entries. All (λ entry. IsForm (tiers_of_table grammar.now.tiers) entry.form) entries.items) }
+    ensures names { IfOk result
+        (λ entries. has_twice (names_of (entries_seen entries.items)) ≡ false) }
+    ensures forms { IfOk result
+        (λ entries.
+        All (λ entry. IsForm (tiers_of_table grammar.now.tiers) entry.form) entries.items) }
     ensures short { IfOk result (λ entries. All (λ entry. length entry.form ≤ 64) entries.items) }
 
     // Each refusal has its cause.
-    ensures err { IfErr result (λ e. e ≢ LexErr.NoMemory → IsLexiconCause (length (tiers_of_table grammar.now.tiers).input) grammar.now.letters.items bytes.now e) }
+    ensures err { IfErr result
+        (λ e. e ≢ LexErr.NoMemory
+        → IsLexiconCause
+        (length
+        (tiers_of_table grammar.now.tiers).input) grammar.now.letters.items bytes.now e) }
 {
     let table = table_of(alloc, bytes)?;
     let Some(value) = entry_value(&table) else {

@@ -8,7 +8,7 @@ use timeline_text::{FormErr, put_timeline};
 /// One input tier with a letter, and one overt tier.
 const BASE: &[u8] = b"otp 1\ntier A input\ntier a overt\nletter t = A\n";
 
-/// Three entries, one of which has a key that is passed over.
+/// Three entries, one of which has a key that is ignored.
 const THREE: &str = "[[entry]]
 name = \"none\"
 form = \"empty\"
@@ -112,7 +112,7 @@ fn files_and_their_causes(rt: HostRuntime) -> Result<(), Fail> {
     Ok(())
 }
 
-/// What a second entry says, behind one that is named `one`, and its cause.
+/// What a second entry says, after one that is named `one`, and its cause.
 const SECOND: [(&str, LexErr); 12] = [
     ("form = 'empty'", LexErr::BadEntry { index: 1 }),
     ("name = 'a'", LexErr::BadEntry { index: 1 }),
@@ -140,7 +140,7 @@ const SECOND: [(&str, LexErr); 12] = [
     ),
 ];
 
-/// The cause of a second entry, behind one that is named `one`.
+/// The cause of a second entry, after one that is named `one`.
 fn second_cause(
     alloc: Global,
     grammar: &Grammar,
@@ -150,7 +150,7 @@ fn second_cause(
     Ok(read_lexicon(alloc, grammar, file.as_bytes()).err())
 }
 
-// Entries that are refused behind one that is not.
+// Entries that are refused after one that is not.
 #[test]
 fn entries_and_their_causes(rt: HostRuntime) -> Result<(), Fail> {
     let grammar = grammar(rt.alloc())?;
@@ -161,7 +161,7 @@ fn entries_and_their_causes(rt: HostRuntime) -> Result<(), Fail> {
     Ok(())
 }
 
-// Forms that are refused behind an entry that is not.
+// Forms that are refused after an entry that is not.
 #[test]
 fn forms_and_their_causes(rt: HostRuntime) -> Result<(), Fail> {
     let cases = [
@@ -222,7 +222,7 @@ fn names_of_sixty_four_bytes(rt: HostRuntime) -> Result<(), Fail> {
     Ok(())
 }
 
-// A thousand entries are read, and one more is too many, whatever stands in them.
+// A thousand entries are read, and one more is too many, whatever they contain.
 #[test]
 fn a_thousand_entries(rt: HostRuntime) -> Result<(), Fail> {
     let grammar = grammar(rt.alloc())?;

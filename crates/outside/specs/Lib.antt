@@ -4,3 +4,4 @@ pub mod MemSink
 pub mod Held
 pub mod Counts
 pub mod MemShelf
+pub mod Writers

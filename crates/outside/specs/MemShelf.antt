@@ -26,7 +26,8 @@ faults_of shelf name = count_of shelf.faults name
 
 -- whether the load that was the last fails: its number is one of those, or the name is not held
 abbrev pub fails : MemShelf → List ℕ → Bool
-fails shelf name = list_any (λ number. nat_eq number (loads_of shelf)) (failing_of shelf) || is_none (text_of (files_in shelf) name)
+fails shelf name =
+    list_any (λ number. nat_eq number (loads_of shelf)) (failing_of shelf) || is_none (text_of (files_in shelf) name)
 
 -- the count of faults after a load with this answer
 abbrev pub faults_after : {Z : Type 0} → Result (Vec ℕ Z) LoadErr → ℕ → ℕ

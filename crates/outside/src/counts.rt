@@ -25,7 +25,8 @@ pub(crate) fn raise(counts: &mut Counts, name: &str)
     requires ready { IsSome (get_by_text counts.old name.now) }
     ensures raised { count_of counts.new name.now ≡ counted (count_of counts.old name.now) }
     ensures never_falls { (other : List ℕ) → count_of counts.old other ≤ count_of counts.new other }
-    ensures others { (other : List ℕ) → other ≢ name.now → count_of counts.new other ≡ count_of counts.old other }
+    ensures others { (other : List ℕ) → other ≢ name.now
+        → count_of counts.new other ≡ count_of counts.old other }
 {
     if let Some(count) = counts.get_mut(name) {
         *count = count.saturating_add(1);

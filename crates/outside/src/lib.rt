@@ -2,12 +2,13 @@
 //! the repository, and every crate that loads or writes stands on it.
 //!
 //! ```text
-//! words, files ─► Shelf ─► readers ─► grammar, timeline ─► .. ─► answer ─► writers ─► Waiting ─► Sink
+//! words, files ─► Shelf ─► readers ─► grammar, timeline ─► .. ─► answer ─► writers ─► OutBuffer ─► Sink
 //! ```
 //!
 //! - The layers above load whole files by name from a [`Shelf`], and write texts to a [`Sink`]. A
-//!   writer puts the pieces of its text through one [`Waiting`], so that the sink sees few writes;
-//!   [`put_all`] writes one piece at once.
+//!   writer `put_x` gives a sink a whole text. It calls writers `push_x`, which append the pieces to
+//!   one [`OutBuffer`], so that the sink sees few writes; [`put_all`] writes one piece at once.
+//! - What a writer promises is said once: `Puts` and `Pushes` in `specs/Writers.antt`.
 //! - Faults are counted by the shelf, for each name, and by the sink. Whoever answers `Failed` shows
 //!   by the count that there was a fault, and no count ever falls.
 //! - [`MemShelf`], [`SafeShelf`], [`MemSink`] and [`SafeSink`] hold their bytes in memory and tell
@@ -18,14 +19,14 @@
 pub use file_shelf::FileShelf;
 pub use mem_shelf::MemShelf;
 pub use mem_sink::MemSink;
-pub use number::{put_decimal, put_number};
+pub use number::{push_decimal, push_number};
+pub use out_buffer::OutBuffer;
 pub use put::put_all;
 pub use safe_shelf::SafeShelf;
 pub use safe_sink::SafeSink;
 pub use shelf::{LoadErr, Shelf};
 pub use sink::{Sink, WriteErr};
 pub use stream_sink::StreamSink;
-pub use waiting::Waiting;
 
 mod counts;
 mod file_shelf;
@@ -33,6 +34,7 @@ mod files;
 mod mem_shelf;
 mod mem_sink;
 mod number;
+mod out_buffer;
 mod put;
 mod safe_shelf;
 mod safe_sink;
@@ -41,4 +43,3 @@ mod sink;
 mod stream_sink;
 #[cfg(test)]
 mod tests;
-mod waiting;

@@ -38,9 +38,14 @@ impl MemShelf {
 
     // The answer of the load that is numbered now.
     fn answer(&self, alloc: Global, name: &str, limit: u64) -> Result<Vec<u8>, LoadErr>
-        ensures ok { IfOk result (λ bytes. (length bytes.items ≤ limit) × IfSome (told (files_in self.now) name.now) (λ text. bytes.items ≡ text)) }
-        ensures too_long { result ≡ Err LoadErr.TooLong → IfSome (told (files_in self.now) name.now) (λ text. limit < length text) }
-        ensures failed { result ≢ Err LoadErr.NoMemory → (result ≡ Err LoadErr.Failed) ↔ IsTrue (fails self.now name.now) }
+        ensures ok { IfOk result
+            (λ bytes.
+            (length bytes.items ≤ limit)
+            × IfSome (told (files_in self.now) name.now) (λ text. bytes.items ≡ text)) }
+        ensures too_long { result ≡ Err LoadErr.TooLong
+            → IfSome (told (files_in self.now) name.now) (λ text. limit < length text) }
+        ensures failed { result ≢ Err LoadErr.NoMemory → (result ≡ Err LoadErr.Failed)
+            ↔ IsTrue (fails self.now name.now) }
     {
         if self.failing.contains(&self.loads) {
             return Err(LoadErr::Failed);
@@ -61,14 +66,21 @@ impl Shelf for MemShelf {
     /// else, so a load that fails can count it.
     fn load(&mut self, alloc: Global, name: &str, limit: u64) -> Result<Vec<u8>, LoadErr>
         ensures within_limit { IfOk result (λ bytes. length bytes.items ≤ limit) }
-        ensures ok { IfOk result (λ bytes. IfSome (told (files_in self.old) name.now) (λ text. bytes.items ≡ text)) }
-        ensures too_long { result ≡ Err LoadErr.TooLong → IfSome (told (files_in self.old) name.now) (λ text. limit < length text) }
-        ensures failed { result ≢ Err LoadErr.NoMemory → (result ≡ Err LoadErr.Failed) ↔ IsTrue (fails self.new name.now) }
-        ensures faults { faults_of self.new name.now ≡ faults_after result (faults_of self.old name.now) }
-        ensures never_falls { (other : List ℕ) → faults_of self.old other ≤ faults_of self.new other }
-        ensures others { (other : List ℕ) → other ≢ name.now → faults_of self.new other ≡ faults_of self.old other }
+        ensures ok { IfOk result
+            (λ bytes. IfSome (told (files_in self.old) name.now) (λ text. bytes.items ≡ text)) }
+        ensures too_long { result ≡ Err LoadErr.TooLong
+            → IfSome (told (files_in self.old) name.now) (λ text. limit < length text) }
+        ensures failed { result ≢ Err LoadErr.NoMemory → (result ≡ Err LoadErr.Failed)
+            ↔ IsTrue (fails self.new name.now) }
+        ensures faults { faults_of self.new name.now
+            ≡ faults_after result (faults_of self.old name.now) }
+        ensures never_falls { (other : List ℕ)
+            → faults_of self.old other ≤ faults_of self.new other }
+        ensures others { (other : List ℕ) → other ≢ name.now
+            → faults_of self.new other ≡ faults_of self.old other }
         ensures loads { loads_of self.new ≡ counted (loads_of self.old) }
-        ensures settings { (files_in self.new ≡ files_in self.old) × (failing_of self.new ≡ failing_of self.old) }
+        ensures settings { (files_in self.new ≡ files_in self.old)
+            × (failing_of self.new ≡ failing_of self.old) }
     {
         self.loads = self.loads.saturating_add(1);
         if counts::prepare(&mut self.faults, alloc, name).is_err() {

@@ -34,7 +34,8 @@ impl MemSink {
     /// whose numbers are in `failing` fail.
     pub fn new(alloc: Global, most: usize, failing: Vec<u64>) -> MemSink
         requires { 0 < most }
-        ensures { result ≡ record { bytes = []; most = most; failing = failing.items; writes = 0; faults = 0 } }
+        ensures { result ≡ record
+            { bytes = []; most = most; failing = failing.items; writes = 0; faults = 0 } }
     {
         MemSink {
             bytes: Vec::new(alloc),
@@ -67,7 +68,8 @@ impl Sink for MemSink {
         ensures some { IfOk result (λ n. 0 < length piece.now → 0 < n) }
         ensures ok { IfOk result (λ n. self.new.bytes ≡ self.old.bytes ++ take n piece.now) }
         ensures err { OnErr result (self.new.bytes ≡ self.old.bytes) }
-        ensures failed { (result ≡ Err WriteErr.Failed) ↔ Contains self.old.failing self.new.writes }
+        ensures failed { (result ≡ Err WriteErr.Failed)
+            ↔ Contains self.old.failing self.new.writes }
         ensures faults { self.new.faults ≡ faults_after result self.old.faults }
         ensures never_falls { self.old.faults ≤ self.new.faults }
         ensures writes { self.new.writes ≡ counted self.old.writes }

@@ -1,39 +1,32 @@
-ghost use Rattle.std.specs.Prelude.{◌≡◌, ◌≤◌, ◌++◌, Err, OnOk};
+ghost use Rattle.std.specs.Prelude.{◌++◌};
 ghost use Rattle.std.specs.Fmt.{decimal};
-ghost use Rattle.outside.specs.Faults.{Rose};
-ghost use Rattle.outside.specs.Sent.{HasSentPart, Sends};
+ghost use Rattle.outside.specs.Writers.{Pushes};
 
+use crate::out_buffer::OutBuffer;
 use crate::sink::{Sink, WriteErr};
-use crate::waiting::Waiting;
 use itoa::Buffer;
 
-/// Puts a number in decimal digits behind what waits.
-pub fn put_decimal<O: Sink>(
-    waiting: &mut Waiting,
+/// Appends a number in decimal digits.
+pub fn push_decimal<O: Sink>(
+    out: &mut OutBuffer,
     sink: &mut O,
     number: usize,
 ) -> Result<(), WriteErr>
-    ensures ok { OnOk result (Sends (O.taken sink.old) (waiting.old ++ decimal number) (O.taken sink.new) waiting.new) }
-    ensures part { HasSentPart (O.taken sink.old) (waiting.old ++ decimal number) (O.taken sink.new) }
-    ensures never_falls { O.faults sink.old ≤ O.faults sink.new }
-    ensures failed { result ≡ Err WriteErr.Failed → Rose (O.faults sink.old) (O.faults sink.new) }
+    ensures { Pushes O.Sink sink.old sink.new out.old out.new (decimal number) result }
 {
     let mut buffer = Buffer::new();
-    waiting.put(sink, buffer.format(number).as_bytes())
+    out.push(sink, buffer.format(number).as_bytes())
 }
 
-/// Puts a text behind what waits, and then a number in decimal digits.
-pub fn put_number<O: Sink>(
-    waiting: &mut Waiting,
+/// Appends a text, and then a number in decimal digits.
+pub fn push_number<O: Sink>(
+    out: &mut OutBuffer,
     sink: &mut O,
     front: &[u8],
     number: usize,
 ) -> Result<(), WriteErr>
-    ensures ok { OnOk result (Sends (O.taken sink.old) (waiting.old ++ (front.now ++ decimal number)) (O.taken sink.new) waiting.new) }
-    ensures part { HasSentPart (O.taken sink.old) (waiting.old ++ (front.now ++ decimal number)) (O.taken sink.new) }
-    ensures never_falls { O.faults sink.old ≤ O.faults sink.new }
-    ensures failed { result ≡ Err WriteErr.Failed → Rose (O.faults sink.old) (O.faults sink.new) }
+    ensures { Pushes O.Sink sink.old sink.new out.old out.new (front.now ++ decimal number) result }
 {
-    waiting.put(sink, front)?;
-    put_decimal(waiting, sink, number)
+    out.push(sink, front)?;
+    push_decimal(out, sink, number)
 }

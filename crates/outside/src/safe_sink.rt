@@ -47,7 +47,8 @@ impl Sink for SafeSink {
 
     /// Takes the whole piece. Only where memory is wanting does it refuse.
     fn write(&mut self, piece: &[u8]) -> Result<usize, WriteErr>
-        ensures ok { IfOk result (λ n. (n ≡ length piece.now) × (self.new ≡ self.old ++ piece.now)) }
+        ensures ok { IfOk result
+            (λ n. (n ≡ length piece.now) × (self.new ≡ self.old ++ piece.now)) }
         ensures err { OnErr result (self.new ≡ self.old) }
         ensures only_memory { OnErr result (result ≡ Err WriteErr.NoMemory) }
     {

@@ -33,12 +33,16 @@ pub trait Shelf {
         ensures within_limit { IfOk result (λ bytes. length bytes.items ≤ limit) }
 
         // Where it tells, the whole file is given, and it is too long exactly where it is said to be.
-        ensures ok { IfOk result (λ bytes. IfSome (held self.old name.now) (λ text. bytes.items ≡ text)) }
-        ensures too_long { result ≡ Err LoadErr.TooLong → IfSome (held self.old name.now) (λ text. limit < length text) }
+        ensures ok { IfOk result
+            (λ bytes. IfSome (held self.old name.now) (λ text. bytes.items ≡ text)) }
+        ensures too_long { result ≡ Err LoadErr.TooLong
+            → IfSome (held self.old name.now) (λ text. limit < length text) }
         ensures held { (other : List ℕ) → held self.new other ≡ held self.old other }
 
         // A fault has its cause, and only this name's count changes.
-        ensures failed { result ≡ Err LoadErr.Failed → Rose (faults self.old name.now) (faults self.new name.now) }
+        ensures failed { result ≡ Err LoadErr.Failed
+            → Rose (faults self.old name.now) (faults self.new name.now) }
         ensures never_falls { (other : List ℕ) → faults self.old other ≤ faults self.new other }
-        ensures others { (other : List ℕ) → other ≢ name.now → faults self.new other ≡ faults self.old other };
+        ensures others { (other : List ℕ) → other ≢ name.now
+            → faults self.new other ≡ faults self.old other };
 }

@@ -27,7 +27,8 @@ pub trait Sink {
     /// empty. After a refusal it has taken none.
     fn write(&mut self, piece: &[u8]) -> Result<usize, WriteErr>
         ensures count { IfOk result (λ n. (n ≤ length piece.now) × (0 < length piece.now → 0 < n)) }
-        ensures ok { IfOk result (λ n. taken self.new ≡ appended (taken self.old) (take n piece.now)) }
+        ensures ok { IfOk result
+            (λ n. taken self.new ≡ appended (taken self.old) (take n piece.now)) }
         ensures err { OnErr result (taken self.new ≡ taken self.old) }
         ensures never_falls { faults self.old ≤ faults self.new }
         ensures failed { result ≡ Err WriteErr.Failed → Rose (faults self.old) (faults self.new) };

@@ -1,6 +1,5 @@
-ghost use Rattle.std.specs.Prelude.{◌≡◌, ◌≤◌, ◌++◌, Err, OnOk};
-ghost use Rattle.outside.specs.Faults.{Rose};
-ghost use Rattle.outside.specs.Sent.{appended, HasSentPart, Sends};
+ghost use Rattle.std.specs.Prelude.{◌++◌};
+ghost use Rattle.outside.specs.Writers.{Puts, Pushes};
 
 use super::*;
 use std::alloc::{AllocError, Global};
@@ -9,30 +8,24 @@ use std::test::Fail;
 
 // A writer of a text in two pieces, as the crates above write theirs.
 fn put_two<O: Sink>(sink: &mut O, first: &[u8], second: &[u8]) -> Result<(), WriteErr>
-    ensures ok { OnOk result (O.taken sink.new ≡ appended (O.taken sink.old) (first.now ++ second.now)) }
-    ensures part { HasSentPart (O.taken sink.old) (first.now ++ second.now) (O.taken sink.new) }
-    ensures never_falls { O.faults sink.old ≤ O.faults sink.new }
-    ensures failed { result ≡ Err WriteErr.Failed → Rose (O.faults sink.old) (O.faults sink.new) }
+    ensures { Puts O.Sink sink.old sink.new (first.now ++ second.now) result }
 {
-    let mut waiting = Waiting::new();
-    wait_two(&mut waiting, sink, first, second)?;
-    waiting.flush(sink)
+    let mut out = OutBuffer::new();
+    push_two(&mut out, sink, first, second)?;
+    out.flush(sink)
 }
 
 // The same, as a part of a longer text.
-fn wait_two<O: Sink>(
-    waiting: &mut Waiting,
+fn push_two<O: Sink>(
+    out: &mut OutBuffer,
     sink: &mut O,
     first: &[u8],
     second: &[u8],
 ) -> Result<(), WriteErr>
-    ensures ok { OnOk result (Sends (O.taken sink.old) (waiting.old ++ (first.now ++ second.now)) (O.taken sink.new) waiting.new) }
-    ensures part { HasSentPart (O.taken sink.old) (waiting.old ++ (first.now ++ second.now)) (O.taken sink.new) }
-    ensures never_falls { O.faults sink.old ≤ O.faults sink.new }
-    ensures failed { result ≡ Err WriteErr.Failed → Rose (O.faults sink.old) (O.faults sink.new) }
+    ensures { Pushes O.Sink sink.old sink.new out.old out.new (first.now ++ second.now) result }
 {
-    waiting.put(sink, first)?;
-    waiting.put(sink, second)
+    out.push(sink, first)?;
+    out.push(sink, second)
 }
 
 // A sink that takes 16 bytes a write and fails at some writes takes a front of the text.

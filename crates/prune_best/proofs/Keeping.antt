@@ -18,22 +18,29 @@ pub some_added : {W : Type 0} (m : Meaning W) (a w : W) (o : Option W) → added
 some_added m a w None e = cc
 some_added m a w (Some b) e = refl
 
-module _ {W V : Type 0} {g : Ghosts W} {h : Ghosts V} (least : List (Option W)) (w : W) (arcs : List (TableArc W g)) where
-  pub skip : (names : List ℕ) (moves : List (TableArc V h)) (n : ℕ) (arc : TableArc W g) → n < length arcs → arc ≡ get_or arcs n arc → (IsKept least w arc → ⊥) → AreKept least names w arcs moves n → AreKept least names w arcs moves (n + 1)
+module _ {W V : Type 0} {g : Ghosts W} {h : Ghosts V} (least : List (Option W)) (w : W)
+    (arcs : List (TableArc W g)) where
+  pub skip : (names : List ℕ) (moves : List (TableArc V h)) (n : ℕ) (arc : TableArc W g) → n < length arcs
+      → arc ≡ get_or arcs n arc → (IsKept least w arc → ⊥) → AreKept least names w arcs moves n
+      → AreKept least names w arcs moves (n + 1)
   skip names moves n arc inside read not old = record {
     from = λ b c. (let f = old.from b c in (f.0, omega (arith, f.1), f.2));
     to = λ j d l kept. elim (cases_lt j n) [
       | inl lower ↦ old.to j d lower kept
       | inr upper ↦
           (let at : j ≡ n = omega arith in
-          let same : get_or arcs j d ≡ arc = ap (λ k. get_or arcs k d) at ∙ sym (get_or_read arcs n arc inside read d) in
+          let same : get_or arcs j d ≡ arc = ap (λ k. get_or arcs k d) at
+          ∙ sym (get_or_read arcs n arc inside read d) in
           let P : TableArc W g → Type 0 = IsKept least w in
           absurd (not (subst P same kept)))
     ];
     apart = old.apart;
   }
 
-  pub keep : (names next : List ℕ) (moves : List (TableArc V h)) (n : ℕ) (arc : TableArc W g) (b : TableArc V h) → n < length arcs → arc ≡ get_or arcs n arc → ((j t : ℕ) → IsNamed names j t → IsNamed next j t) → IsKept least w arc → Matches next arc b → AreKept least names w arcs moves n → AreKept least next w arcs (moves ++ b ∷ []) (n + 1)
+  pub keep : (names next : List ℕ) (moves : List (TableArc V h)) (n : ℕ) (arc : TableArc W g) (b : TableArc V h)
+      → n < length arcs → arc ≡ get_or arcs n arc → ((j t : ℕ) → IsNamed names j t → IsNamed next j t)
+      → IsKept least w arc → Matches next arc b → AreKept least names w arcs moves n
+      → AreKept least next w arcs (moves ++ b ∷ []) (n + 1)
   keep names next moves n arc b inside read stays kept match old = record { from = from; to = to; apart = apart }
     where
       at_n : (d : TableArc W g) → arc ≡ get_or arcs n d
@@ -42,29 +49,43 @@ module _ {W V : Type 0} {g : Ghosts W} {h : Ghosts V} (least : List (Option W)) 
       Good : TableArc V h → TableArc W g → Type 0
       Good c a = IsKept least w a × Matches next a c
 
-      from : (c : TableArc V h) → Contains (moves ++ b ∷ []) c → (j : ℕ) × (j < n + 1) × ((d : TableArc W g) → IsKept least w (get_or arcs j d) × Matches next (get_or arcs j d) c)
+      from : (c : TableArc V h) → Contains (moves ++ b ∷ []) c
+          → (j : ℕ) × (j < n + 1) × ((d : TableArc W g)
+          → IsKept least w (get_or arcs j d) × Matches next (get_or arcs j d) c)
       from c here = elim (Contains-push_cases moves b c here) [
-        | inl there ↦ (let f = old.from c there in (f.0, omega (arith, f.1), λ d. (let e = f.2 d in (e.0, (e.1.0, stays c.target (get_or arcs f.0 d).target e.1.1)))))
+        | inl there ↦ (let f = old.from c there in (
+          f.0,
+          omega (arith, f.1),
+          λ d.
+              (let e = f.2 d in (e.0, (e.1.0, stays c.target (get_or arcs f.0 d).target e.1.1))),
+        ))
         | inr same ↦ (
           n,
           omega arith,
           λ d.
-              (let P : TableArc V h → Type 0 = λ x. IsKept least w (get_or arcs n d) × Matches next (get_or arcs n d) x in
+              (let P : TableArc V h → Type 0 = λ x. IsKept least w (get_or arcs n d) × Matches next
+              (get_or arcs n d) x in
               let Q : TableArc W g → Type 0 = λ x. IsKept least w x × Matches next x b in
               subst P same (subst Q (at_n d) (kept, match))),
         )
       ]
 
-      to : (j : ℕ) (d : TableArc W g) → j < n + 1 → IsKept least w (get_or arcs j d) → (c : TableArc V h) × Contains (moves ++ b ∷ []) c × Matches next (get_or arcs j d) c
+      to : (j : ℕ) (d : TableArc W g) → j < n + 1 → IsKept least w (get_or arcs j d)
+          → (c : TableArc V h) × Contains (moves ++ b ∷ []) c × Matches next (get_or arcs j d) c
       to j d l k = elim (cases_lt j n) [
-        | inl lower ↦ (let f = old.to j d lower k in (f.0, Contains-append_left moves (b ∷ []) f.0 f.1, (f.2.0, stays f.0.target (get_or arcs j d).target f.2.1)))
+        | inl lower ↦ (let f = old.to j d lower k in (
+          f.0,
+          Contains-append_left moves (b ∷ []) f.0 f.1,
+          (f.2.0, stays f.0.target (get_or arcs j d).target f.2.1),
+        ))
         | inr upper ↦
             (let at : n ≡ j = omega arith in
             let Q : TableArc W g → Type 0 = λ x. Matches next x b in
             (b, Contains-push moves b, subst Q (at_n d ∙ ap (λ k. get_or arcs k d) at) match))
       ]
 
-      apart : AllPairs (λ a b. AreDisjoint a.class b.class) arcs → AllPairs (λ a b. AreDisjoint a.class b.class) (moves ++ b ∷ [])
+      apart : AllPairs (λ a b. AreDisjoint a.class b.class) arcs
+          → AllPairs (λ a b. AreDisjoint a.class b.class) (moves ++ b ∷ [])
       apart p = all_pairs_push (λ a b. AreDisjoint a.class b.class) moves b (old.apart p)
           (λ k d l.
           (let f = old.from (get_or moves k d) (Contains-get_or moves k d l) in
@@ -73,7 +94,10 @@ module _ {W V : Type 0} {g : Ghosts W} {h : Ghosts V} (least : List (Option W)) 
           let Q : Class → Type 0 = λ x. AreDisjoint (get_or arcs f.0 arc).class x in
           subst P (sym (f.2 arc).1.0) (subst Q (ap (λ x. x.class) (sym (at_n arc)) ∙ sym match.0) pair)))
 
-pub keep-names : {W V : Type 0} {h : Ghosts V} (least : List (Option W)) (first names next : List ℕ) (moves : List (TableArc V h)) (b : TableArc V h) (k s : ℕ) → NamesTargets least first names moves → Grows names next k s → b.target ≡ k → IsSome (get_or least s None) → NamesTargets least first next (moves ++ b ∷ [])
+pub keep-names : {W V : Type 0} {h : Ghosts V} (least : List (Option W)) (first names next : List ℕ)
+    (moves : List (TableArc V h)) (b : TableArc V h) (k s : ℕ) → NamesTargets least first names moves
+    → Grows names next k s → b.target ≡ k → IsSome (get_or least s None)
+    → NamesTargets least first next (moves ++ b ∷ [])
 keep-names {W} {V} {h} least first names next moves b k s old grows target some = record {
   stays = λ j t n. grows.stays j t (old.stays j t n);
   others = λ j t n. elim (grows.others j t n) [
@@ -81,6 +105,7 @@ keep-names {W} {V} {h} least first names next moves b k s old grows target some 
       | inl was ↦ inl was
       | inr new ↦ inr (new.0, Contains-append_left moves (b ∷ []) new.0 new.1, new.2, new.3)
     ]
-    | inr here ↦ (let P : ℕ → Type 0 = λ x. IsSome (get_or least x None) in inr (b, Contains-push moves b, target ∙ sym here.0, subst P (sym here.1) some))
+    | inr here ↦ (let P : ℕ → Type 0 = λ x. IsSome (get_or least x None) in inr
+        (b, Contains-push moves b, target ∙ sym here.0, subst P (sym here.1) some))
   ];
 }

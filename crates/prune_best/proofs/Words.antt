@@ -46,7 +46,8 @@ module _ {W V : Type 0} {g : Ghosts W} {h : Ghosts V} where
   SameClasses (a ∷ as') [] = ⊥
   SameClasses (a ∷ as') (b ∷ bs) = (b.class ≡ a.class) × SameClasses as' bs
 
-  reads_new : (arcs : List (TableArc W g)) (moves : List (TableArc V h)) (word : List (List Sym)) → SameClasses arcs moves → Reads arcs word → Reads moves word
+  reads_new : (arcs : List (TableArc W g)) (moves : List (TableArc V h)) (word : List (List Sym))
+      → SameClasses arcs moves → Reads arcs word → Reads moves word
   reads_new [] [] [] s r = tt
   reads_new [] [] (x ∷ word) s r = r
   reads_new [] (b ∷ bs) word s r = absurd s
@@ -55,7 +56,8 @@ module _ {W V : Type 0} {g : Ghosts W} {h : Ghosts V} where
   reads_new (a ∷ arcs) (b ∷ bs) (x ∷ word) s r =
       (let P : Class → Type 0 = λ c. IsTrue (has c x) in subst P (sym s.0) r.0, reads_new arcs bs word s.1 r.1)
 
-  reads_old : (arcs : List (TableArc W g)) (moves : List (TableArc V h)) (word : List (List Sym)) → SameClasses arcs moves → Reads moves word → Reads arcs word
+  reads_old : (arcs : List (TableArc W g)) (moves : List (TableArc V h)) (word : List (List Sym))
+      → SameClasses arcs moves → Reads moves word → Reads arcs word
   reads_old [] [] [] s r = tt
   reads_old [] [] (x ∷ word) s r = r
   reads_old [] (b ∷ bs) word s r = absurd s
@@ -65,19 +67,29 @@ module _ {W V : Type 0} {g : Ghosts W} {h : Ghosts V} where
       (let P : Class → Type 0 = λ c. IsTrue (has c x) in subst P s.0 r.0, reads_old arcs bs word s.1 r.1)
 
 -- a run reads a word
-pub some_word : {W : Type 0} {g : Ghosts W} (states : List (TableState W g)) → ClassesFilled states → (s : ℕ) (arcs : List (TableArc W g)) → IsRun states s arcs → (word : List (List Sym)) × Reads arcs word
+pub some_word : {W : Type 0} {g : Ghosts W} (states : List (TableState W g)) → ClassesFilled states
+    → (s : ℕ) (arcs : List (TableArc W g)) → IsRun states s arcs → (word : List (List Sym)) × Reads arcs word
 some_word states filled s [] run = ([], tt)
 some_word states filled s (arc ∷ arcs) run =
     let rest = some_word states filled arc.target arcs run.1 in
     (first_column arc.class ∷ rest.0, (has-first_column arc.class (filled s arc run.0), rest.1))
 
-module _ {W V : Type 0} {g : Ghosts W} {h : Ghosts V} (laws : IsLawful g.meaning) (old : List (TableState W g)) (exist : TargetsExist old) (least : List (Option W)) (are : AreLeast old least) (names : List ℕ) (new : List (TableState V h)) (f : SoFar old least names new) (all : length new ≡ length names) where
-  to_old : (moves : List (TableArc V h)) (k s : ℕ) → IsNamed names k s → IsRun new k moves → (w : W) → get_or least s None ≡ Some w → (arcs : List (TableArc W g)) × IsRun old s arcs × SameClasses arcs moves × (weight_of arcs ≡ w)
+module _ {W V : Type 0} {g : Ghosts W} {h : Ghosts V} (laws : IsLawful g.meaning) (old : List (TableState W g))
+    (exist : TargetsExist old) (least : List (Option W)) (are : AreLeast old least) (names : List ℕ)
+    (new : List (TableState V h)) (f : SoFar old least names new) (all : length new ≡ length names) where
+  to_old : (moves : List (TableArc V h)) (k s : ℕ) → IsNamed names k s → IsRun new k moves → (w : W)
+      → get_or least s None ≡ Some w → (arcs : List (TableArc W g)) × IsRun old s arcs × SameClasses arcs moves ×
+      (weight_of arcs ≡ w)
   to_old [] k s n run w e =
       let state = f.states k s (omega (arith, all)) n in
       let accepts : IsTrue (accepting_at old s) = sym state.accepts ∙ run in
-      let pw = lawful_least laws old exist least are s w e in
-      ([], accepts, tt, at_most-both laws g.meaning.zero w laws.lawful_zero pw (laws.below_zero w pw) ((least_at laws old exist least are s w e).least [] accepts))
+      let pw = lawful_least laws old exist least are s w e in (
+        [],
+        accepts,
+        tt,
+        at_most-both laws g.meaning.zero w laws.lawful_zero pw (laws.below_zero w pw)
+            ((least_at laws old exist least are s w e).least [] accepts),
+      )
   to_old (b ∷ moves) k s n run w e =
       let state = f.states k s (omega (arith, all)) n in
       let kept = state.kept w e in
@@ -88,10 +100,16 @@ module _ {W V : Type 0} {g : Ghosts W} {h : Ghosts V} (laws : IsLawful g.meaning
       let P : TableArc W g → Type 0 = λ x. IsKept least w x × Matches names x b in
       let good : P arc = subst P place.1 both in
       let rest = added-some laws arc.weight (get_or least arc.target None) w good.0 in
-      let later = to_old moves b.target arc.target good.1.1 run.1 rest.0 rest.1 in
-      (arc ∷ later.0, ((from.0, from.1, place.1), later.1), (good.1.0, later.2), ap (λ x. g.meaning.sum arc.weight x) later.3 ∙ sym rest.2)
+      let later = to_old moves b.target arc.target good.1.1 run.1 rest.0 rest.1 in (
+        arc ∷ later.0,
+        ((from.0, from.1, place.1), later.1),
+        (good.1.0, later.2),
+        ap (λ x. g.meaning.sum arc.weight x) later.3 ∙ sym rest.2,
+      )
 
-  to_new : (arcs : List (TableArc W g)) (k s : ℕ) → IsNamed names k s → IsRun old s arcs → (w : W) → get_or least s None ≡ Some w → weight_of arcs ≡ w → (moves : List (TableArc V h)) × IsRun new k moves × SameClasses arcs moves
+  to_new : (arcs : List (TableArc W g)) (k s : ℕ) → IsNamed names k s → IsRun old s arcs → (w : W)
+      → get_or least s None ≡ Some w → weight_of arcs ≡ w
+      → (moves : List (TableArc V h)) × IsRun new k moves × SameClasses arcs moves
   to_new [] k s n run w e same =
       let state = f.states k s (omega (arith, all)) n in
       ([], state.accepts ∙ run, tt)
@@ -114,7 +132,8 @@ module _ {W V : Type 0} {g : Ghosts W} {h : Ghosts V} (laws : IsLawful g.meaning
       let P : W → (List (TableArc W g)) → Type 0 = λ x others. AtMost g.meaning x (weight_of others) in (
         found.0,
         record { run = found.1; reads = reads_old found.0 a.0 word found.2 a.1.reads },
-        λ other others run. (let Q : W → Type 0 = λ x. AtMost g.meaning x (weight_of others) in subst Q (sym found.3) ((least_at laws old exist least are 0 start.0 start.1).least others run.run)),
+        λ other others run. (let Q : W → Type 0 = λ x. AtMost g.meaning x (weight_of others) in subst Q (sym found.3)
+            ((least_at laws old exist least are 0 start.0 start.1).least others run.run)),
       )
 
   pub least_accepts : ClassesFilled old → (word : List (List Sym)) → IsLeastWord old word → Accepts new word
@@ -125,7 +144,8 @@ module _ {W V : Type 0} {g : Ghosts W} {h : Ghosts V} (laws : IsLawful g.meaning
       let other = some_word old filled 0 best.some.0 best.some.1 in
       let P : W → Type 0 = λ x. AtMost g.meaning (weight_of a.0) x in
       let upper : P w = subst P best.some.2 (a.2 other.0 best.some.0 (record { run = best.some.1; reads = other.1 })) in
-      let same : weight_of a.0 ≡ w = at_most-both laws (weight_of a.0) w (lawful-weight_of laws a.0) (lawful_least laws old exist least are 0 w start.1) upper (best.least a.0 a.1.run) in
+      let same : weight_of a.0 ≡ w = at_most-both laws (weight_of a.0) w (lawful-weight_of laws a.0)
+      (lawful_least laws old exist least are 0 w start.1) upper (best.least a.0 a.1.run) in
       let found = to_new a.0 0 0 f.start a.1.run w start.1 same in
       (found.0, record { run = found.1; reads = reads_new a.0 found.0 word found.2 a.1.reads })
 
@@ -142,7 +162,9 @@ module _ {W V : Type 0} {g : Ghosts W} {h : Ghosts V} (laws : IsLawful g.meaning
       (path.0, path.1, (run.0, run.1))
 
   -- the old move of a new one
-  old_move : (k : ℕ) (b : TableArc V h) → k < length new → Contains (moves_at new k) b → (a : TableArc W g) × Contains (moves_at old (get_or names k 0)) a × IsLeastMove old (get_or names k 0) a × Matches names a b
+  old_move : (k : ℕ) (b : TableArc V h) → k < length new → Contains (moves_at new k) b
+      → (a : TableArc W g) × Contains (moves_at old (get_or names k 0)) a × IsLeastMove old
+      (get_or names k 0) a × Matches names a b
   old_move k b l here =
       let n = name_of k l in
       let state = f.states k (get_or names k 0) l n in
@@ -153,12 +175,18 @@ module _ {W V : Type 0} {g : Ghosts W} {h : Ghosts V} (laws : IsLawful g.meaning
       let P : TableArc W g → Type 0 = λ x. IsKept least start.0 x × Matches names x b in
       let good : P place.0 = subst P place.1 both in
       let rest = added-some laws place.0.weight (get_or least place.0.target None) start.0 good.0 in
-      let least_move : IsLeastMove old (get_or names k 0) place.0 =
-      (start.0, rest.0, least_at laws old exist least are (get_or names k 0) start.0 start.1, least_at laws old exist least are place.0.target rest.0 rest.1, sym rest.2) in
+      let least_move : IsLeastMove old (get_or names k 0) place.0 = (
+        start.0,
+        rest.0,
+        least_at laws old exist least are (get_or names k 0) start.0 start.1,
+        least_at laws old exist least are place.0.target rest.0 rest.1,
+        sym rest.2,
+      ) in
       (place.0, (from.0, from.1, place.1), least_move, good.1)
 
   -- the new move of a least old one
-  new_move : (k : ℕ) (a : TableArc W g) → k < length new → Contains (moves_at old (get_or names k 0)) a → IsLeastMove old (get_or names k 0) a → (b : TableArc V h) × Contains (moves_at new k) b × Matches names a b
+  new_move : (k : ℕ) (a : TableArc W g) → k < length new → Contains (moves_at old (get_or names k 0)) a
+      → IsLeastMove old (get_or names k 0) a → (b : TableArc V h) × Contains (moves_at new k) b × Matches names a b
   new_move k a l here m =
       let s = get_or names k 0 in
       let n = name_of k l in
@@ -176,7 +204,8 @@ module _ {W V : Type 0} {g : Ghosts W} {h : Ghosts V} (laws : IsLawful g.meaning
       let Q : TableArc W g → Type 0 = λ x. Matches names x found.0 in
       (found.0, found.1, subst Q here.2 found.2)
 
-  pub is_tight : ClassesFilled old → (numbers : List (Option ℕ)) → AreNumbered names numbers → length numbers ≡ length old → IsTight old new names
+  pub is_tight : ClassesFilled old → (numbers : List (Option ℕ)) → AreNumbered names numbers
+      → length numbers ≡ length old → IsTight old new names
   is_tight filled numbers numbered same = record {
     accepts = λ word. (accepts_least word, least_accepts filled word);
     on_runs = on_run;
@@ -202,7 +231,8 @@ module _ {W V : Type 0} {g : Ghosts W} {h : Ghosts V} (laws : IsLawful g.meaning
   new_width one k l a b here there =
       let m = old_move k a (moves_exist new k a here) here in
       let n = old_move l b (moves_exist new l b there) there in
-      ap (λ c. length (sets_of c)) m.3.0 ∙ (one (get_or names k 0) (get_or names l 0) m.0 n.0 m.1 n.1 ∙ ap (λ c. length (sets_of c)) (sym n.3.0))
+      ap (λ c. length (sets_of c)) m.3.0
+      ∙ (one (get_or names k 0) (get_or names l 0) m.0 n.0 m.1 n.1 ∙ ap (λ c. length (sets_of c)) (sym n.3.0))
 
   pub new_disjoint : ClassesDisjoint old → ClassesDisjoint new
   new_disjoint apart k i j d less inside =
@@ -211,5 +241,6 @@ module _ {W V : Type 0} {g : Ghosts W} {h : Ghosts V} (laws : IsLawful g.meaning
       let start = some_of (get_or least (get_or names k 0) None) (f.weighed k (get_or names k 0) n) in
       ((f.states k (get_or names k 0) l n).kept start.0 start.1).apart (apart (get_or names k 0)) i j d less inside
 
-  pub new_few : (numbers : List (Option ℕ)) → AreNumbered names numbers → length numbers < 4294967296 → length new < 4294967296
+  pub new_few : (numbers : List (Option ℕ)) → AreNumbered names numbers → length numbers < 4294967296
+      → length new < 4294967296
   new_few numbers numbered few = omega (arith, names_few names numbers numbered, few, all)

@@ -1,9 +1,10 @@
-// The part of a table that accepts exactly its words of least weight.
-//
-// Given the least weights to an accepting state, an arc is kept where its weight and the least weight
-// from its target make the least weight from its source. Every path over such arcs from the start is
-// one of least weight, and every path of least weight goes over such arcs. The staged generator
-// prunes by one constraint after another so, and the last table is the automaton of its answer.
+//! The part of a table that accepts exactly its words of least weight.
+//!
+//! Given the least weights to an accepting state, an arc is kept if its weight and the least
+//! weight from its target add up to the least weight from its source. Every path over such arcs
+//! from the start is one of least weight, and every path of least weight goes over such arcs. The
+//! staged generator prunes by one constraint after another in this way, and the last table is the
+//! automaton of its answer.
 #![tactic(auto)]
 
 mod moves;

@@ -12,10 +12,11 @@ use std::alloc::{AllocError, Global};
 use std::cmp::Ordering;
 use weight_law::{UnitWeight, Weight};
 
-/// Whether a move and the least weight from its target make the weight `here`.
+/// Whether the weight of a move and the least weight from its target add up to `here`.
 fn is_kept<W: Weight>(arc: &TableArc<W>, here: W, least: &[Option<W>]) -> bool
     requires target { arc.now.target < length least.now }
-    requires sizes { FitsBoth W.meaning arc.now.weight (slice_index_or least.now arc.now.target None) }
+    requires sizes { FitsBoth W.meaning arc.now.weight
+        (slice_index_or least.now arc.now.target None) }
     ensures { IsTrue result ↔ IsKept least.now here arc.now }
 {
     match least[arc.target as usize] {
@@ -37,14 +38,19 @@ fn kept_moves<W: Weight>(
     numbers: &mut Vec<Option<u32>>,
 ) -> Result<Vec<TableArc<UnitWeight>>, AllocError>
     requires targets { All (λ arc. arc.target < length least.now) arcs.now }
-    requires sizes { All (λ arc. FitsBoth W.meaning arc.weight (slice_index_or least.now arc.target None)) arcs.now }
+    requires sizes { All
+        (λ arc.
+        FitsBoth W.meaning arc.weight (slice_index_or least.now arc.target None)) arcs.now }
     requires same { length numbers.old.items ≡ length least.now }
     requires few { length numbers.old.items < 2 ^ 32 }
     requires numbered { AreNumbered names.old.items numbers.old.items }
     ensures same { length numbers.new.items ≡ length numbers.old.items }
     ensures numbered { IfOk result (λ _. AreNumbered names.new.items numbers.new.items) }
-    ensures moves { IfOk result (λ moves. AreKept least.now names.new.items here arcs.now moves.items (length arcs.now)) }
-    ensures names { IfOk result (λ moves. NamesTargets least.now names.old.items names.new.items moves.items) }
+    ensures moves { IfOk result
+        (λ moves.
+        AreKept least.now names.new.items here arcs.now moves.items (length arcs.now)) }
+    ensures names { IfOk result
+        (λ moves. NamesTargets least.now names.old.items names.new.items moves.items) }
 {
     let mut moves = Vec::new(alloc);
     for arc in arcs {
@@ -80,7 +86,8 @@ pub(crate) fn new_state<W: Weight>(
     ensures numbered { IfOk result (λ _. AreNumbered names.new.items numbers.new.items) }
     ensures made { IfOk result (λ made.
         IsNewState least.now names.new.items (states_of table.now) state made.accepting made.arcs.items) }
-    ensures names { IfOk result (λ made. NamesTargets least.now names.old.items names.new.items made.arcs.items) }
+    ensures names { IfOk result
+        (λ made. NamesTargets least.now names.old.items names.new.items made.arcs.items) }
 {
     let here = least[state as usize].unwrap();
     let arcs = kept_moves(alloc, table.arcs(state), here, least, names, numbers)?;

@@ -3,8 +3,8 @@ ghost use Rattle.prune_best.specs.Names.{AreNumbered, Grows};
 
 use std::alloc::AllocError;
 
-/// The new number of an old state, which gets the next one if it has none. `names` has the old state
-/// of each number, and `numbers` the number of each old state.
+/// The new number of an old state, which gets the next one if it has none. `names` has the old
+/// state of each number, and `numbers` the number of each old state.
 pub(crate) fn number_of(
     names: &mut Vec<u32>,
     numbers: &mut Vec<Option<u32>>,

@@ -21,7 +21,8 @@ fn pruned<W: Weight>(
     requires sizes { SizesWithin (states_of table.now) u32.MAX }
     requires least { AreLeast (states_of table.now) least.now }
     requires start { IsSome (slice_index_or least.now 0 None) }
-    ensures { IfOk result (λ tight. IsTight (states_of table.now) (states_of tight.table) tight.states.items) }
+    ensures { IfOk result
+        (λ tight. IsTight (states_of table.now) (states_of tight.table) tight.states.items) }
 {
     let mut numbers = vec![in alloc; None; table.len() as usize]?;
     let mut names = Vec::new(alloc);
@@ -38,11 +39,12 @@ fn pruned<W: Weight>(
     })
 }
 
-/// The part of the table that accepts exactly its words of least weight. `least` has what `to_final`
-/// gives, with a weight at the start.
+/// The part of the table that accepts exactly its words of least weight. `least` is what
+/// `to_final` gives, with a weight at the start.
 ///
 /// The new table's states are those that least moves lead to from the start, and each is on a path
-/// to an accepting state. Its moves are exactly the least moves between them. State 0 stays state 0.
+/// to an accepting state. Its moves are exactly the least moves between them. State 0 remains
+/// state 0.
 pub fn tight<W: Weight>(
     alloc: Global,
     table: &Table<W>,
@@ -51,7 +53,8 @@ pub fn tight<W: Weight>(
     requires sizes { SizesWithin (states_of table.now) u32.MAX }
     requires least { AreLeast (states_of table.now) least.now }
     requires start { IsSome (slice_index_or least.now 0 None) }
-    ensures { IfOk result (λ tight. IsTight (states_of table.now) (states_of tight.table) tight.states.items) }
+    ensures { IfOk result
+        (λ tight. IsTight (states_of table.now) (states_of tight.table) tight.states.items) }
 {
     pruned(alloc, table, least).map_err(|_| NoMemory)
 }

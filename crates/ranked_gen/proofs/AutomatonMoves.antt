@@ -27,17 +27,20 @@ use Rattle.violation.specs.Problems.{last_place, Problem}
 pub record IsLineNumbered (problem : Problem) (n : ℕ) (line : StateLine) : Type 0 where
   pub node : line.node ≡ n
   pub final : line.accepting ≡ is_final problem (kind_numbered (length problem.tiers.free) n)
-  pub arcs : map arc_view line.arcs.items ≡ map move_view (moves_from problem (kind_numbered (length problem.tiers.free) n))
+  pub arcs : map arc_view line.arcs.items
+      ≡ map move_view (moves_from problem (kind_numbered (length problem.tiers.free) n))
 
 -- elements that are numbered, by member and by number
-pub numbered_member : {X : Type 0} (P : ℕ → X → Type 0) (n : ℕ) (xs : List X) (x : X) → AreNumbered P n xs → Contains xs x → (i : ℕ) × ((i < n + length xs) × P i x)
+pub numbered_member : {X : Type 0} (P : ℕ → X → Type 0) (n : ℕ) (xs : List X) (x : X) → AreNumbered P n xs
+    → Contains xs x → (i : ℕ) × ((i < n + length xs) × P i x)
 numbered_member P n [] x a c = absurd (contains_none x c)
 numbered_member P n (y ∷ ys) x a c = ⊎_elim
     (λ e. (n, (omega arith, subst (P n) e a.0)))
     (λ m. let r = numbered_member P (n + 1) ys x a.1 m in (r.0, (omega (arith, r.1.0), r.1.1)))
     (contains_cases y ys x c)
 
-pub numbered_at : {X : Type 0} (P : ℕ → X → Type 0) (n : ℕ) (xs : List X) (i : ℕ) → AreNumbered P n xs → n ≤ i → i < n + length xs → (x : X) × (Contains xs x × P i x)
+pub numbered_at : {X : Type 0} (P : ℕ → X → Type 0) (n : ℕ) (xs : List X) (i : ℕ) → AreNumbered P n xs → n ≤ i
+    → i < n + length xs → (x : X) × (Contains xs x × P i x)
 numbered_at P n [] i a l h = absurd (omega arith)
 numbered_at P n (y ∷ ys) i a l h = go (i - n) refl (λ m. numbered_at P (n + 1) ys i a.1 m (omega arith))
   where
@@ -55,37 +58,48 @@ pub record IsWithin (problem : Problem) (k : PrefixKind) : Type 0 where
   pub flags : length k.opened ≡ length problem.tiers.free
   pub phases : k.phases ≡ []
 
-pub number_within : (problem : Problem) (k : PrefixKind) → IsWithin problem k → number_of_kind (length problem.tiers.free) k < kind_count problem
+pub number_within : (problem : Problem) (k : PrefixKind) → IsWithin problem k
+    → number_of_kind (length problem.tiers.free) k < kind_count problem
 number_within problem k w =
     let size = 2 ^ length problem.tiers.free in
     let below : number_of_flags k.opened < size = omega (arith, number-lt k.opened, ap (λ n. 2 ^ n) w.flags) in
     let places : k.place * size ≤ last_place problem * size = mul-le-mul_right size w.place in
     omega (arith, below, places)
 
-pub numbered_within : (problem : Problem) (i : ℕ) → i < kind_count problem → IsWithin problem (kind_numbered (length problem.tiers.free) i)
+pub numbered_within : (problem : Problem) (i : ℕ) → i < kind_count problem
+    → IsWithin problem (kind_numbered (length problem.tiers.free) i)
 numbered_within problem i l = record {
-  place = let below : i / 2 ^ length problem.tiers.free < last_place problem + 1 = div_below i (2 ^ length problem.tiers.free) (last_place problem + 1) (pow_pos (length problem.tiers.free)) l in omega arith;
+  place = let below : i / 2 ^ length problem.tiers.free < last_place problem + 1 = div_below i
+      (2 ^ length problem.tiers.free) (last_place problem + 1) (pow_pos (length problem.tiers.free)) l in omega arith;
   flags = length-flags_of (length problem.tiers.free) i;
   phases = refl;
 }
 
 module _ (problem : Problem) (split : AreSplit problem.tiers) where
   -- a move stays within
-  pub moved_within : (k : PrefixKind) (column : List Sym) → FitsKind problem k column → k.place ≤ last_place problem → IsWithin problem (moved problem 0 k column)
+  pub moved_within : (k : PrefixKind) (column : List Sym) → FitsKind problem k column → k.place ≤ last_place problem
+      → IsWithin problem (moved problem 0 k column)
   moved_within k column fit l = record {
     place = go (has_edge (input_of problem.tiers column)) refl fit.input;
     flags = length-map problem.tiers.free (λ t. opens (symbol column t));
     phases = refl;
   }
     where
-      go : (b : Bool) → has_edge (input_of problem.tiers column) ≡ b → (has_edge (input_of problem.tiers column) ≡ false) ⊎ ((k.place < last_place problem) × (input_of problem.tiers column ≡ column_at problem.form k.place)) → k.place + cond b 1 0 ≤ last_place problem
+      go : (b : Bool) → has_edge (input_of problem.tiers column) ≡ b
+          → (has_edge (input_of problem.tiers column) ≡ false) ⊎
+          ((k.place < last_place problem) × (input_of problem.tiers column ≡ column_at problem.form k.place))
+          → k.place + cond b 1 0 ≤ last_place problem
       go true e (inl none) = absurd (false≢true (sym none ∙ e))
       go true e (inr next) = omega (arith, next.0)
       go false e other = omega arith
 
   -- the kind of the empty prefix is the first
   pub start_within : IsWithin problem (kind_of problem 0 [])
-  start_within = record { place = omega arith; flags = length-map problem.tiers.free (λ t. is_open (word [] t)); phases = refl }
+  start_within = record {
+    place = omega arith;
+    flags = length-map problem.tiers.free (λ t. is_open (word [] t));
+    phases = refl;
+  }
 
   pub start_number : number_of_kind (length problem.tiers.free) (kind_of problem 0 []) ≡ 0
   start_number = none problem.tiers.free
@@ -93,12 +107,16 @@ module _ (problem : Problem) (split : AreSplit problem.tiers) where
       none : (ts : List ℕ) → 0 * 2 ^ length problem.tiers.free + number_of_flags (map (λ t. is_open (word [] t)) ts) ≡ 0
       none ts = omega (arith, no_flags ts)
 
-  pub reached_within : (k : PrefixKind) (T : List (List Sym)) → IsWithin problem k → HasMoves problem 0 k T → IsWithin problem (reached problem 0 k T)
+  pub reached_within : (k : PrefixKind) (T : List (List Sym)) → IsWithin problem k → HasMoves problem 0 k T
+      → IsWithin problem (reached problem 0 k T)
   reached_within k [] w h = w
-  reached_within k (column ∷ T) w h = reached_within (moved problem 0 k column) T (moved_within k column h.0 w.place) h.1
+  reached_within k (column ∷ T) w h = reached_within (moved problem 0 k column) T
+      (moved_within k column h.0 w.place) h.1
 
   -- the kind of a prefix of a candidate is within
-  pub kind_within : IsForm problem.tiers problem.form → (p : List (List Sym)) → BeginsCandidate problem p → IsWithin problem (kind_of problem 0 p)
+  pub kind_within : IsForm problem.tiers problem.form → (p : List (List Sym)) → BeginsCandidate problem p
+      → IsWithin problem (kind_of problem 0 p)
   kind_within form p b =
       let walk = (moves_begin problem 0 split form tt p).1 b in
-      subst (IsWithin problem) (reached_is problem 0 split form tt p walk) (reached_within (kind_of problem 0 []) p start_within walk)
+      subst (IsWithin problem) (reached_is problem 0 split form tt p walk)
+      (reached_within (kind_of problem 0 []) p start_within walk)

@@ -16,11 +16,14 @@ abbrev pub bare_form : Tiers → List (List Sym) → List (List Sym)
 bare_form tiers u = map (widened tiers) u
 
 -- The bare form is a candidate.
-pub bare_candidate : (problem : Problem) → AreSplit problem.tiers → IsWellFormed (length problem.tiers.input) problem.form → IsReduced problem.form → IsCandidate problem (bare_form problem.tiers problem.form)
+pub bare_candidate : (problem : Problem) → AreSplit problem.tiers
+    → IsWellFormed (length problem.tiers.input) problem.form → IsReduced problem.form
+    → IsCandidate problem (bare_form problem.tiers problem.form)
 bare_candidate problem split wf reduced = record {
   well_formed = record {
     one_width = all_mapped _ (widened problem.tiers) problem.form (length_over problem.tiers (λ t. false) Outside);
-    each_tier = λ t l. well_formed_from_runs (word (bare_form problem.tiers problem.form) t) (over_runs problem.tiers (λ t. false) Outside split (λ t c. refl) problem.form t wf l refl);
+    each_tier = λ t l. well_formed_from_runs (word (bare_form problem.tiers problem.form) t)
+        (over_runs problem.tiers (λ t. false) Outside split (λ t c. refl) problem.form t wf l refl);
   };
   reduced = over_reduced problem.tiers (λ t. false) Outside split (λ t c. refl) problem.form wf.one_width reduced;
   input = squeeze_over problem.tiers (λ t. false) Outside split (λ t c. refl) problem.form wf.one_width reduced;

@@ -25,13 +25,18 @@ use Rattle.stage_laws.proofs.Paths.{IsParted, run_exists, parted, joined_run, jo
 use Rattle.kind_orders.specs.Orderings.{IsOrdering, AreRanks}
 use Rattle.kind_orders.specs.AutomatonLines.{nodes_of}
 use Rattle.kind_orders.specs.Automata.{HasWidth, Reaches, IsAutomatonOf}
-use Rattle.ranked_gen.specs.Left.{TellsKind, IsLeft}
+use Rattle.ranked_gen.specs.Left.{TellsKind}
+use Rattle.ranked_gen.specs.OptimalParts.{IsOptimalPart}
 use Rattle.violation.specs.Problems.{last_stage, Problem}
 
-node_of : (problem : Problem) (nodes : List Node) (n : ℕ) (k : PrefixKind) → TellsKind problem (last_stage problem) nodes n k → IsNodeOf problem nodes n k
+node_of : (problem : Problem) (nodes : List Node) (n : ℕ) (k : PrefixKind)
+    → TellsKind problem (last_stage problem) nodes n k → IsNodeOf problem nodes n k
 node_of problem nodes n k t = record { node = t.node; numbered = t.numbered; tells = t.tells }
 
-module _ {g : Ghosts UnitWeight} (problem : Problem) (nodes : List Node) (kept : List (TableState UnitWeight g)) (filled : ClassesFilled kept) (some : 0 < length kept) (states order ranks : List ℕ) (left : IsLeft problem (last_stage problem) nodes kept states order) (numbers : IsOrdering (length order) ranks) (told : AreRanks order ranks) where
+module _ {g : Ghosts UnitWeight} (problem : Problem) (nodes : List Node) (kept : List (TableState UnitWeight g))
+    (filled : ClassesFilled kept) (some : 0 < length kept) (states order ranks : List ℕ)
+    (left : IsOptimalPart problem (last_stage problem) nodes kept states order)
+    (numbers : IsOrdering (length order) ranks) (told : AreRanks order ranks) where
   abbrev rank_of : ℕ → ℕ
   rank_of s = get_or ranks (get_or states s 0) 0
 
@@ -48,16 +53,22 @@ module _ {g : Ghosts UnitWeight} (problem : Problem) (nodes : List Node) (kept :
   at_rank s l = told.back (get_or states s 0) (omega (arith, number_inside s l, numbers.count))
 
   start : get_or (nodes_of ranks states) 0 0 ≡ 0
-  start = let one : 0 < length order = omega (arith, number_inside 0 some) in has_rank 0 some ∙ ap (λ i. get_or ranks i 0) (sym left.start) ∙ told.forth 0 one
+  start = let one : 0 < length order = omega (arith, number_inside 0 some) in has_rank 0 some
+      ∙ ap (λ i. get_or ranks i 0) (sym left.start) ∙ told.forth 0 one
 
-  state_node : (s : ℕ) (p : List (List Sym)) → s < length kept → Reaches kept p s → IsNodeOf problem nodes (get_or (nodes_of ranks states) s 0) (kind_of problem (last_stage problem) p)
-  state_node s p l r = node_of problem nodes (get_or (nodes_of ranks states) s 0) (kind_of problem (last_stage problem) p)
-      (subst (λ n. TellsKind problem (last_stage problem) nodes n (kind_of problem (last_stage problem) p)) (sym (has_rank s l))
+  state_node : (s : ℕ) (p : List (List Sym)) → s < length kept → Reaches kept p s
+      → IsNodeOf problem nodes (get_or (nodes_of ranks states) s 0) (kind_of problem (last_stage problem) p)
+  state_node s p l r = node_of problem nodes (get_or (nodes_of ranks states) s 0)
+      (kind_of problem (last_stage problem) p)
+      (subst (λ n. TellsKind problem (last_stage problem) nodes n (kind_of problem (last_stage problem) p))
+      (sym (has_rank s l))
       (left.tells p s (rank_of s) l r (rank_inside s l) (at_rank s l)))
 
-  node_passed : (s : ℕ) → s < length kept → (k : PrefixKind) × (IsNodeOf problem nodes (get_or (nodes_of ranks states) s 0) k × IsPassed problem (last_stage problem) (last_stage problem) k)
+  node_passed : (s : ℕ) → s < length kept
+      → (k : PrefixKind) × (IsNodeOf problem nodes (get_or (nodes_of ranks states) s 0) k × IsPassed problem
+      (last_stage problem) (last_stage problem) k)
   node_passed s l =
-      let on = left.kept_by.1.on_runs s l in
+      let on = left.on_runs s l in
       let p = path_word kept filled 0 s on.0 on.1 in
       let q = some_word kept filled s on.2.0 on.2.1 in
       let k = kind_of problem (last_stage problem) p.0 in (
@@ -68,7 +79,13 @@ module _ {g : Ghosts UnitWeight} (problem : Problem) (nodes : List Node) (kept :
             candidate = p.0 ++ q.0;
             columns = length p.0;
             passes = record {
-              optimal = (left.accepts (p.0 ++ q.0)).0 (on.0 ++ on.2.0, record { run = joined_run kept on.0 on.2.0 0 s on.1 on.2.1; reads = joined_reads kept on.0 on.2.0 p.0 q.0 p.1 q.1 });
+              optimal = (left.accepts (p.0 ++ q.0)).0 (
+                on.0 ++ on.2.0,
+                record {
+                  run = joined_run kept on.0 on.2.0 0 s on.1 on.2.1;
+                  reads = joined_reads kept on.0 on.2.0 p.0 q.0 p.1 q.1;
+                },
+              );
               within = omega (arith, length-append p.0 q.0);
               of_kind = ap (kind_of problem (last_stage problem)) (take_at p.0 q.0 (length p.0) refl);
             };
@@ -79,19 +96,23 @@ module _ {g : Ghosts UnitWeight} (problem : Problem) (nodes : List Node) (kept :
   has_width : HasWidth problem.tiers.width kept
   has_width s arc c =
       let have = has-first_column arc.class (filled s arc c) in
-      let fit = (left.kept_by.1.named.moves s arc (first_column arc.class) c have).fits in
+      let fit = (left.named.moves s arc (first_column arc.class) c have).fits in
       sym (same_width (sets_of arc.class) (first_column arc.class) have) ∙ fit.width
 
-  pub right_automaton : (lines : List StateLine) → IsAutomatonOf kept (nodes_of ranks states) lines → IsRightAutomaton problem nodes lines
+  pub right_automaton : (lines : List StateLine) → IsAutomatonOf kept (nodes_of ranks states) lines
+      → IsRightAutomaton problem nodes lines
   right_automaton lines a = record {
     ascending = a.lines.ascending;
     passed = λ n c.
         let m : Contains (nodes_of ranks states) n = (a.numbers n).0 c in
-        let l : m.0 < length kept = omega (arith, m.1, length-map states (λ i. get_or ranks i 0), left.ordered.each_state) in
-        let here : get_or (nodes_of ranks states) m.0 0 ≡ n = get_or_default (nodes_of ranks states) m.0 0 n m.1 ∙ m.2 in
+        let l : m.0 < length kept = omega
+        (arith, m.1, length-map states (λ i. get_or ranks i 0), left.ordered.each_state) in
+        let here : get_or (nodes_of ranks states) m.0 0 ≡ n = get_or_default (nodes_of ranks states) m.0 0 n m.1
+        ∙ m.2 in
         let r = node_passed m.0 l in
         (r.0, (subst (λ i. IsNodeOf problem nodes i r.0) here r.1.0, r.1.1));
-    accepts = λ T. let law = a.accepts start T in (λ h. (left.accepts T).0 (law.0 h), λ o. law.1 ((left.accepts T).1 o));
+    accepts = λ T. let law = a.accepts start T in
+        (λ h. (left.accepts T).0 (law.0 h), λ o. law.1 ((left.accepts T).1 o));
     reads = λ T n o l.
         let h = (left.accepts T).1 o in
         let parts : IsParted kept 0 (take n T) (drop n T) =
@@ -102,7 +123,9 @@ module _ {g : Ghosts UnitWeight} (problem : Problem) (nodes : List Node) (kept :
           get_or (nodes_of ranks states) s 0,
           (
             a.leads start (take n T) s reach,
-            (a.numbers (get_or (nodes_of ranks states) s 0)).1 (Contains-get_or (nodes_of ranks states) s 0 (omega (arith, inside, length-map states (λ i. get_or ranks i 0), left.ordered.each_state))),
+            (a.numbers (get_or (nodes_of ranks states) s 0)).1
+                (Contains-get_or (nodes_of ranks states) s 0
+                (omega (arith, inside, length-map states (λ i. get_or ranks i 0), left.ordered.each_state))),
             state_node s (take n T) inside reach,
           ),
         );

@@ -34,11 +34,13 @@ below_zero : (n : ℕ) → nat_cmp n 0 ≡ Less → ⊥
 below_zero n e = let l = nat_less n 0 e in omega (arith, l)
 
 -- a list of numbers of which each is 0 comes first among those of its length
-below_zeros : (xs ys : List ℕ) → length xs ≡ length ys → AllByRecursion (λ y. y ≡ 0) ys → slice_cmp nat_cmp xs ys ≡ Less → ⊥
+below_zeros : (xs ys : List ℕ) → length xs ≡ length ys → AllByRecursion (λ y. y ≡ 0) ys
+    → slice_cmp nat_cmp xs ys ≡ Less → ⊥
 below_zeros [] [] l z e = less_none e
 below_zeros [] (y ∷ ys) l z e = absurd (omega arith)
 below_zeros (x ∷ xs) [] l z e = absurd (omega arith)
-below_zeros (x ∷ xs) (y ∷ ys) l z e = two_less (nat_cmp x y) (slice_cmp nat_cmp xs ys) (λ a. let below = nat_less x y a in omega (arith, below, z.0)) (below_zeros xs ys (omega arith) z.1) e
+below_zeros (x ∷ xs) (y ∷ ys) l z e = two_less (nat_cmp x y) (slice_cmp nat_cmp xs ys)
+    (λ a. let below = nat_less x y a in omega (arith, below, z.0)) (below_zeros xs ys (omega arith) z.1) e
 
 none_open : (ts : List ℕ) → AllByRecursion (λ y. y ≡ 0) (map open_rank (map (λ t. is_open (word [] t)) ts))
 none_open [] = tt
@@ -51,12 +53,15 @@ closed_first width c over = go c.left over.some_left
     go [] l = absurd (omega arith)
     go (e ∷ es) l = refl
 
-none_met : (width : ℕ) (cs : List Constraint) → AllByRecursion (IsOverTiers width) cs → AllByRecursion (λ y. y ≡ 0) (map phase_rank (map (λ c. phase c.left c.right []) cs))
+none_met : (width : ℕ) (cs : List Constraint) → AllByRecursion (IsOverTiers width) cs
+    → AllByRecursion (λ y. y ≡ 0) (map phase_rank (map (λ c. phase c.left c.right []) cs))
 none_met width [] h = tt
 none_met width (c ∷ cs) h = (ap phase_rank (closed_first width c h.0), none_met width cs h.1)
 
 -- No kind with as many flags and phases comes before that of the empty prefix.
-pub none_before : (problem : Problem) (r : ℕ) (k : PrefixKind) → AllByRecursion (IsOverTiers problem.tiers.width) (stretches problem r) → length k.opened ≡ length problem.tiers.free → length k.phases ≡ length (stretches problem r)
+pub none_before : (problem : Problem) (r : ℕ) (k : PrefixKind)
+    → AllByRecursion (IsOverTiers problem.tiers.width) (stretches problem r)
+    → length k.opened ≡ length problem.tiers.free → length k.phases ≡ length (stretches problem r)
     → kind_order k (kind_of problem r []) ≡ Less → ⊥
 none_before problem r k over flags phases e =
     let first = kind_of problem r [] in
@@ -71,6 +76,8 @@ none_before problem r k over flags phases e =
     two_less (nat_cmp k.place 0) (ordering_then opened later)
     (below_zero k.place)
     (two_less opened later
-    (below_zeros (map open_rank k.opened) (map open_rank first.opened) (a ∙ flags ∙ sym c ∙ sym b) (none_open problem.tiers.free))
-    (below_zeros (map phase_rank k.phases) (map phase_rank first.phases) (d ∙ phases ∙ sym g ∙ sym f) (none_met problem.tiers.width (stretches problem r) over)))
+    (below_zeros (map open_rank k.opened) (map open_rank first.opened) (a ∙ flags ∙ sym c ∙ sym b)
+    (none_open problem.tiers.free))
+    (below_zeros (map phase_rank k.phases) (map phase_rank first.phases) (d ∙ phases ∙ sym g ∙ sym f)
+    (none_met problem.tiers.width (stretches problem r) over)))
     e

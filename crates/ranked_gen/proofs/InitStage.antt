@@ -49,18 +49,23 @@ use Rattle.ranked_gen.proofs.TableOfKinds.{kinds_some, moves_shown, move_single,
 use Rattle.ranked_gen.proofs.RightAnswer.{numbered_get, right_stage}
 use Rattle.violation.specs.Problems.{Problem}
 
-module _ (problem : Problem) (distinct : AreDistinct problem.tiers.free) (stage : IsStage problem 0) {g : Ghosts UnitWeight} (nodes : List Node) (states : List (TableState UnitWeight g)) (listed : AreListed problem (kind_count problem) nodes states) where
+module _ (problem : Problem) (distinct : AreDistinct problem.tiers.free) (stage : IsStage problem 0)
+    {g : Ghosts UnitWeight} (nodes : List Node) (states : List (TableState UnitWeight g))
+    (listed : AreListed problem (kind_count problem) nodes states) where
   abbrev names : List PrefixKind
   names = map (kind_numbered (length problem.tiers.free)) (range_with_len 0 (kind_count problem))
 
   count_names : length names ≡ length states
-  count_names = length-map (range_with_len 0 (kind_count problem)) (kind_numbered (length problem.tiers.free)) ∙ length-range_with_len 0 (kind_count problem) ∙ sym listed.state_count
+  count_names = length-map (range_with_len 0 (kind_count problem)) (kind_numbered (length problem.tiers.free))
+      ∙ length-range_with_len 0 (kind_count problem) ∙ sym listed.state_count
 
-  name_any : (s : ℕ) (d : PrefixKind) → s < length states → get_or names s d ≡ kind_numbered (length problem.tiers.free) s
+  name_any : (s : ℕ) (d : PrefixKind) → s < length states
+      → get_or names s d ≡ kind_numbered (length problem.tiers.free) s
   name_any s d l =
       let inside : s < kind_count problem = omega (arith, listed.state_count) in
       let here : 0 + s ≡ s = omega arith in
-      get_or-map (kind_numbered (length problem.tiers.free)) (range_with_len 0 (kind_count problem)) s 0 d (omega (arith, inside, length-range_with_len 0 (kind_count problem)))
+      get_or-map (kind_numbered (length problem.tiers.free)) (range_with_len 0 (kind_count problem)) s 0 d
+      (omega (arith, inside, length-range_with_len 0 (kind_count problem)))
       ∙ ap (kind_numbered (length problem.tiers.free)) (get_or-range_with_len 0 (kind_count problem) s 0 inside ∙ here)
 
   name_is : (s : ℕ) → s < length states → name_of names s ≡ kind_numbered (length problem.tiers.free) s
@@ -71,35 +76,47 @@ module _ (problem : Problem) (distinct : AreDistinct problem.tiers.free) (stage 
 
   -- the name of the number of a kind
   name_back : (k : PrefixKind) → IsWithin problem k → name_of names (number_of_kind (length problem.tiers.free) k) ≡ k
-  name_back k w = name_is (number_of_kind (length problem.tiers.free) k) (omega (arith, number_within problem k w, listed.state_count)) ∙ kind_numbered-number (length problem.tiers.free) k w.flags w.phases
+  name_back k w = name_is (number_of_kind (length problem.tiers.free) k)
+      (omega (arith, number_within problem k w, listed.state_count))
+      ∙ kind_numbered-number (length problem.tiers.free) k w.flags w.phases
 
-  shown : (s : ℕ) → s < length states → map table_view (moves_at states s) ≡ map move_view (moves_from problem (kind_numbered (length problem.tiers.free) s))
+  shown : (s : ℕ) → s < length states → map table_view (moves_at states s)
+      ≡ map move_view (moves_from problem (kind_numbered (length problem.tiers.free) s))
   shown s l = moves_shown problem stage.split distinct stage.form states listed.state_count listed.each_state s l
 
-  view_of : (s : ℕ) (arc : TableArc UnitWeight g) → Contains (moves_at states s) arc → IsMoveView problem s (table_view arc)
-  view_of s arc c = move_single problem stage.split distinct stage.form states listed.state_count listed.each_state s arc c
+  view_of : (s : ℕ) (arc : TableArc UnitWeight g) → Contains (moves_at states s) arc
+      → IsMoveView problem s (table_view arc)
+  view_of s arc c = move_single problem stage.split distinct stage.form states listed.state_count listed.each_state s
+      arc c
 
-  only : (s : ℕ) (arc : TableArc UnitWeight g) (c : Contains (moves_at states s) arc) (column : List Sym) → IsTrue (has arc.class column) → column ≡ (view_of s arc c).column
-  only s arc c column h = let m = view_of s arc c in only_have m.column column (ap (λ sets. sets_have sets column) (sym m.sets) ∙ h)
+  only : (s : ℕ) (arc : TableArc UnitWeight g) (c : Contains (moves_at states s) arc) (column : List Sym)
+      → IsTrue (has arc.class column) → column ≡ (view_of s arc c).column
+  only s arc c column h = let m = view_of s arc c in only_have m.column column
+      (ap (λ sets. sets_have sets column) (sym m.sets) ∙ h)
 
-  goes : (s : ℕ) (arc : TableArc UnitWeight g) (column : List Sym) → Contains (moves_at states s) arc → IsTrue (has arc.class column) → GoesAsKinds problem 0 names s arc column
+  goes : (s : ℕ) (arc : TableArc UnitWeight g) (column : List Sym) → Contains (moves_at states s) arc
+      → IsTrue (has arc.class column) → GoesAsKinds problem 0 names s arc column
   goes s arc column c h =
       let m = view_of s arc c in
       let l = moves_exist states s arc c in
       let k = kind_numbered (length problem.tiers.free) s in
       let same = only s arc c column h in
       let fits : FitsKind problem k column = subst (FitsKind problem k) (sym same) m.fits_kind in
-      let w : IsWithin problem (moved problem 0 k column) = moved_within problem stage.split k column fits (within s l).place in
+      let w : IsWithin problem (moved problem 0 k column) = moved_within problem stage.split k column fits
+      (within s l).place in
       record {
         fits = subst (λ q. FitsKind problem q column) (sym (name_is s l)) fits;
-        leads = ap (name_of names) (m.to ∙ ap (λ x. number_of_kind (length problem.tiers.free) (moved problem 0 k x)) (sym same))
+        leads = ap (name_of names) (m.to
+            ∙ ap (λ x. number_of_kind (length problem.tiers.free) (moved problem 0 k x)) (sym same))
             ∙ name_back (moved problem 0 k column) w
             ∙ ap (λ q. moved problem 0 q column) (sym (name_is s l));
       }
 
-  final : (s : ℕ) → s < length states → accepting_at states s ≡ is_final problem (kind_numbered (length problem.tiers.free) s)
+  final : (s : ℕ) → s < length states → accepting_at states s
+      ≡ is_final problem (kind_numbered (length problem.tiers.free) s)
   final s l =
-      let r = numbered_seen (IsStateNumbered {W = UnitWeight} {g = g} problem) (λ state. state.arcs.items) (λ state. state.accepting) [] false 0 states s listed.each_state l in
+      let r = numbered_seen (IsStateNumbered {W = UnitWeight} {g = g} problem) (λ state. state.arcs.items)
+      (λ state. state.accepting) [] false 0 states s listed.each_state l in
       let here : 0 + s ≡ s = omega arith in
       r.1.1.0 ∙ r.1.1.1.final ∙ ap (λ n. is_final problem (kind_numbered (length problem.tiers.free) n)) here
 
@@ -109,7 +126,8 @@ module _ (problem : Problem) (distinct : AreDistinct problem.tiers.free) (stage 
   first_kind : kind_numbered (length problem.tiers.free) 0 ≡ kind_of problem 0 []
   first_kind =
       let w = start_within problem stage.split in
-      ap (kind_numbered (length problem.tiers.free)) (sym (start_number problem stage.split)) ∙ kind_numbered-number (length problem.tiers.free) (kind_of problem 0 []) w.flags w.phases
+      ap (kind_numbered (length problem.tiers.free)) (sym (start_number problem stage.split))
+      ∙ kind_numbered-number (length problem.tiers.free) (kind_of problem 0 []) w.flags w.phases
 
   named : AreNamedByKinds problem 0 names states
   named = record {
@@ -117,8 +135,11 @@ module _ (problem : Problem) (distinct : AreDistinct problem.tiers.free) (stage 
     distinct = λ i j d less inside e.
         let lj : j < length states = omega (arith, count_names) in
         let li : i < length states = omega arith in
-        let same : kind_numbered (length problem.tiers.free) i ≡ kind_numbered (length problem.tiers.free) j = sym (name_any i d li) ∙ e ∙ name_any j d lj in
-        let one : i ≡ j = sym (number-kind_numbered (length problem.tiers.free) i) ∙ ap (number_of_kind (length problem.tiers.free)) same ∙ number-kind_numbered (length problem.tiers.free) j in
+        let same : kind_numbered (length problem.tiers.free) i
+        ≡ kind_numbered (length problem.tiers.free) j = sym (name_any i d li) ∙ e ∙ name_any j d lj in
+        let one : i ≡ j = sym (number-kind_numbered (length problem.tiers.free) i)
+        ∙ ap (number_of_kind (length problem.tiers.free)) same
+        ∙ number-kind_numbered (length problem.tiers.free) j in
         omega arith;
     some = some;
     start = name_is 0 some ∙ first_kind;
@@ -133,8 +154,11 @@ module _ (problem : Problem) (distinct : AreDistinct problem.tiers.free) (stage 
       let k = kind_numbered (length problem.tiers.free) s in
       let j = number_of_kind (length problem.tiers.free) (moved problem 0 k column) in
       let there : Contains (map move_view (moves_from problem k)) (move_view (j, column)) =
-      contains_map move_view (moves_from problem k) (j, column) (moves_listed problem stage.split distinct stage.form k column (subst (λ q. FitsKind problem q column) (name_is s l) fit)) in
-      let a = contains_of_map table_view (moves_at states s) (move_view (j, column)) (subst (λ vs. Contains vs (move_view (j, column))) (sym (shown s l)) there) in
+      contains_map move_view (moves_from problem k) (j, column)
+      (moves_listed problem stage.split distinct stage.form k column
+      (subst (λ q. FitsKind problem q column) (name_is s l) fit)) in
+      let a = contains_of_map table_view (moves_at states s) (move_view (j, column))
+      (subst (λ vs. Contains vs (move_view (j, column))) (sym (shown s l)) there) in
       (a.0, a.1.0, ap (λ x. sets_have x column) (ap (λ (v : ℕ × List ℕ). v.1) a.1.1) ∙ alone_have column)
 
   accepts : (T : List (List Sym)) → Accepts states T ↔ IsOptimalFor problem 0 T
@@ -148,9 +172,12 @@ module _ (problem : Problem) (distinct : AreDistinct problem.tiers.free) (stage 
       let T = passed.candidate in
       let n = passed.columns in
       let a = (accepts T).1 (all_optimal problem T passed.passes.optimal.candidate) in
-      let parts : IsParted states 0 (take n T) (drop n T) = parted states (take n T) (drop n T) 0 a.0 a.1.run (subst (Reads a.0) (sym (take-append-drop n T)) a.1.reads) in
+      let parts : IsParted states 0 (take n T) (drop n T) = parted states (take n T) (drop n T) 0 a.0 a.1.run
+      (subst (Reads a.0) (sym (take-append-drop n T)) a.1.reads) in
       let inside = run_exists states parts.middle parts.after parts.run in
-      let kinds : name_of names parts.middle ≡ name_of names s = path_kind problem 0 stage names states named parts.before parts.middle (take n T) parts.path parts.reads_before ∙ passed.passes.of_kind ∙ sym (name_is s l) in
+      let kinds : name_of names parts.middle
+      ≡ name_of names s = path_kind problem 0 stage names states named parts.before parts.middle
+      (take n T) parts.path parts.reads_before ∙ passed.passes.of_kind ∙ sym (name_is s l) in
       let same : parts.middle ≡ s = same_state problem 0 stage names states named parts.middle s inside l kinds in
       subst (IsOnRun states) same (parts.before, parts.path, (parts.after, parts.run))
 
@@ -189,21 +216,26 @@ module _ (problem : Problem) (distinct : AreDistinct problem.tiers.free) (stage 
   right : IsRightStage problem 0 nodes
   right = right_stage problem stage.split distinct stage.form nodes listed.node_count listed.each_node
 
-  tells : (p : List (List Sym)) (s place : ℕ) → s < length states → Reaches states p s → place < length (range_with_len 0 (length states)) → get_or (range_with_len 0 (length states)) place 0 ≡ get_or (range_with_len 0 (length states)) s 0
+  tells : (p : List (List Sym)) (s place : ℕ) → s < length states → Reaches states p s
+      → place < length (range_with_len 0 (length states))
+      → get_or (range_with_len 0 (length states)) place 0 ≡ get_or (range_with_len 0 (length states)) s 0
       → TellsKind problem 0 nodes place (kind_of problem 0 p)
   tells p s place l reach inside same =
       let long = length-range_with_len 0 (length states) in
       let li : place < length states = omega (arith, long) in
       let one : place ≡ s = sym (read place 0 li) ∙ same ∙ read s 0 l in
-      let r = numbered_get (IsNodeNumbered problem.tiers) 0 nodes place listed.each_node (omega (arith, listed.node_count, listed.state_count)) in
+      let r = numbered_get (IsNodeNumbered problem.tiers) 0 nodes place listed.each_node
+      (omega (arith, listed.node_count, listed.state_count)) in
       let here : 0 + place ≡ s = omega (arith, one) in
       record {
         node = r.0;
         numbered = r.1.0;
-        tells = r.1.1.kind ∙ ap (kind_numbered (length problem.tiers.free)) here ∙ sym (name_is s l) ∙ path_kind problem 0 stage names states named reach.0 s p reach.1 reach.2;
+        tells = r.1.1.kind ∙ ap (kind_numbered (length problem.tiers.free)) here ∙ sym (name_is s l)
+            ∙ path_kind problem 0 stage names states named reach.0 s p reach.1 reach.2;
       }
 
-  pub first_left : (some_order some_states : List ℕ) → some_order ≡ range_with_len 0 (length states) → some_states ≡ range_with_len 0 (length states) → IsLeft problem 0 nodes states some_states some_order
+  pub first_left : (some_order some_states : List ℕ) → some_order ≡ range_with_len 0 (length states)
+      → some_states ≡ range_with_len 0 (length states) → IsLeft problem 0 nodes states some_states some_order
   first_left some_order some_states eo es =
       subst (IsLeft problem 0 nodes states some_states) (sym eo)
       (subst (λ ss. IsLeft problem 0 nodes states ss (range_with_len 0 (length states))) (sym es)

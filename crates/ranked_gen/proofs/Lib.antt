@@ -37,3 +37,8 @@ pub mod SortedKinds
 pub mod OverBudget
 pub mod NextStage
 pub mod RankedSteps
+pub mod OrderedNames
+pub mod OnceSteps
+pub mod OnceBudgets
+pub mod OnceTables
+pub mod AgreeingAnswers

@@ -15,39 +15,56 @@ pub contains_later : {X : Type 0} (y : X) (xs : List X) (x : X) → Contains xs 
 contains_later y xs x h = Contains-append_right (y ∷ []) xs x h
 
 pub contains_cases : {X : Type 0} (y : X) (xs : List X) (x : X) → Contains (y ∷ xs) x → (y ≡ x) ⊎ Contains xs x
-contains_cases y xs x h = ⊎_map (λ a. ⊎_elim (λ n. absurd (contains_none x n)) (λ e. e) (Contains-push_cases [] y x a)) (λ b. b) (Contains-append_cases (y ∷ []) xs x h)
+contains_cases y xs x h = ⊎_map (λ a. ⊎_elim (λ n. absurd (contains_none x n)) (λ e. e)
+    (Contains-push_cases [] y x a)) (λ b. b) (Contains-append_cases (y ∷ []) xs x h)
 
 pub contains_one : {X : Type 0} (y x : X) → Contains (y ∷ []) x → y ≡ x
 contains_one y x h = ⊎_elim (λ e. e) (λ n. absurd (contains_none x n)) (contains_cases y [] x h)
 
-pub contains_flat : {X Y : Type 0} (f : X → List Y) (xs : List X) (x : X) (y : Y) → Contains xs x → Contains (f x) y → Contains (flat_map f xs) y
+pub contains_flat : {X Y : Type 0} (f : X → List Y) (xs : List X) (x : X) (y : Y) → Contains xs x → Contains (f x) y
+    → Contains (flat_map f xs) y
 contains_flat f [] x y h m = absurd (contains_none x h)
-contains_flat f (z ∷ zs) x y h m = ⊎_elim (λ e. Contains-append_left (f z) (flat_map f zs) y (subst (λ w. Contains (f w) y) (sym e) m)) (λ n. Contains-append_right (f z) (flat_map f zs) y (contains_flat f zs x y n m)) (contains_cases z zs x h)
+contains_flat f (z ∷ zs) x y h m = ⊎_elim
+    (λ e. Contains-append_left (f z) (flat_map f zs) y (subst (λ w. Contains (f w) y) (sym e) m))
+    (λ n. Contains-append_right (f z) (flat_map f zs) y (contains_flat f zs x y n m)) (contains_cases z zs x h)
 
-pub contains_of_flat : {X Y : Type 0} (f : X → List Y) (xs : List X) (y : Y) → Contains (flat_map f xs) y → (x : X) × (Contains xs x × Contains (f x) y)
+pub contains_of_flat : {X Y : Type 0} (f : X → List Y) (xs : List X) (y : Y) → Contains (flat_map f xs) y
+    → (x : X) × (Contains xs x × Contains (f x) y)
 contains_of_flat f [] y h = absurd (contains_none y h)
-contains_of_flat f (z ∷ zs) y h = ⊎_elim (λ m. (z, (contains_first z zs, m))) (λ n. let r = contains_of_flat f zs y n in (r.0, (contains_later z zs r.0 r.1.0, r.1.1))) (Contains-append_cases (f z) (flat_map f zs) y h)
+contains_of_flat f (z ∷ zs) y h = ⊎_elim (λ m. (z, (contains_first z zs, m)))
+    (λ n. let r = contains_of_flat f zs y n in (r.0, (contains_later z zs r.0 r.1.0, r.1.1)))
+    (Contains-append_cases (f z) (flat_map f zs) y h)
 
-pub contains_kept : {X : Type 0} (p : X → Bool) (xs : List X) (x : X) → Contains xs x → p x ≡ true → Contains (filter p xs) x
+pub contains_kept : {X : Type 0} (p : X → Bool) (xs : List X) (x : X) → Contains xs x → p x ≡ true
+    → Contains (filter p xs) x
 contains_kept p [] x h t = absurd (contains_none x h)
 contains_kept p (y ∷ ys) x h t = go (λ m. contains_kept p ys x m t) (p y) refl
   where
-    go : (Contains ys x → Contains (filter p ys) x) → (b : Bool) → p y ≡ b → Contains (cond b (y ∷ filter p ys) (filter p ys)) x
-    go more true e = ⊎_elim (λ s. subst (λ z. Contains (y ∷ filter p ys) z) s (contains_first y (filter p ys))) (λ m. contains_later y (filter p ys) x (more m)) (contains_cases y ys x h)
+    go : (Contains ys x → Contains (filter p ys) x) → (b : Bool) → p y ≡ b
+        → Contains (cond b (y ∷ filter p ys) (filter p ys)) x
+    go more true e = ⊎_elim (λ s. subst (λ z. Contains (y ∷ filter p ys) z) s (contains_first y (filter p ys)))
+        (λ m. contains_later y (filter p ys) x (more m)) (contains_cases y ys x h)
     go more false e = ⊎_elim (λ s. absurd (false≢true (sym e ∙ ap p s ∙ t))) more (contains_cases y ys x h)
 
-pub contains_of_kept : {X : Type 0} (p : X → Bool) (xs : List X) (x : X) → Contains (filter p xs) x → Contains xs x × (p x ≡ true)
+pub contains_of_kept : {X : Type 0} (p : X → Bool) (xs : List X) (x : X) → Contains (filter p xs) x
+    → Contains xs x × (p x ≡ true)
 contains_of_kept p [] x h = absurd (contains_none x h)
 contains_of_kept p (y ∷ ys) x h = go (contains_of_kept p ys x) (p y) refl h
   where
-    go : (Contains (filter p ys) x → Contains ys x × (p x ≡ true)) → (b : Bool) → p y ≡ b → Contains (cond b (y ∷ filter p ys) (filter p ys)) x → Contains (y ∷ ys) x × (p x ≡ true)
-    go more true e m = ⊎_elim (λ s. (subst (λ z. Contains (y ∷ ys) z) s (contains_first y ys), ap p (sym s) ∙ e)) (λ n. let r = more n in (contains_later y ys x r.0, r.1)) (contains_cases y (filter p ys) x m)
+    go : (Contains (filter p ys) x → Contains ys x × (p x ≡ true)) → (b : Bool) → p y ≡ b
+        → Contains (cond b (y ∷ filter p ys) (filter p ys)) x → Contains (y ∷ ys) x × (p x ≡ true)
+    go more true e m = ⊎_elim (λ s. (subst (λ z. Contains (y ∷ ys) z) s (contains_first y ys), ap p (sym s) ∙ e))
+        (λ n. let r = more n in (contains_later y ys x r.0, r.1)) (contains_cases y (filter p ys) x m)
     go more false e m = let r = more m in (contains_later y ys x r.0, r.1)
 
 -- what holds of each member
-pub all_from_members : {X : Type 0} (P : X → Type 0) (xs : List X) → ((x : X) → Contains xs x → P x) → AllByRecursion P xs
+pub all_from_members : {X : Type 0} (P : X → Type 0) (xs : List X) → ((x : X) → Contains xs x → P x)
+    → AllByRecursion P xs
 all_from_members P [] h = tt
-all_from_members P (x ∷ xs) h = (h x (contains_first x xs), all_from_members P xs (λ y m. h y (contains_later x xs y m)))
+all_from_members P (x ∷ xs) h = (
+  h x (contains_first x xs),
+  all_from_members P xs (λ y m. h y (contains_later x xs y m)),
+)
 
 pub all_at_member : {X : Type 0} (P : X → Type 0) (xs : List X) (x : X) → AllByRecursion P xs → Contains xs x → P x
 all_at_member P [] x a h = absurd (contains_none x h)

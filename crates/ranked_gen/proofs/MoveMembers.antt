@@ -27,17 +27,21 @@ symbol_on_in f (x ∷ xs) t c = ⊎_elim
     (cases_eq x t)
 
 -- tiers that stand once have the symbols that they are given
-pub symbols_on : (xs : List ℕ) (column : List Sym) → AreDistinct xs → length column ≡ length xs → map (symbol_on xs column) xs ≡ column
+pub symbols_on : (xs : List ℕ) (column : List Sym) → AreDistinct xs → length column ≡ length xs
+    → map (symbol_on xs column) xs ≡ column
 symbols_on [] [] d e = refl
 symbols_on [] (s ∷ column) d e = absurd (omega arith)
 symbols_on (x ∷ xs) [] d e = absurd (omega arith)
 symbols_on (x ∷ xs) (s ∷ column) d e =
-    ap (λ y. y ∷ map (symbol_on (x ∷ xs) (s ∷ column)) xs) (ap (λ b. cond b s (symbol_on xs column x)) (eq-eqb x x refl))
+    ap (λ y. y ∷ map (symbol_on (x ∷ xs) (s ∷ column)) xs)
+    (ap (λ b. cond b s (symbol_on xs column x)) (eq-eqb x x refl))
     ∙ ap (λ ys. s ∷ ys)
-    (map_agree _ _ xs (all_weaker (λ t. x ≢ t) _ xs (λ t n. ap (λ b. cond b s (symbol_on xs column t)) (ne_eqb x t n)) d.0)
+    (map_agree _ _ xs (all_weaker (λ t. x ≢ t) _ xs
+    (λ t n. ap (λ b. cond b s (symbol_on xs column t)) (ne_eqb x t n)) d.0)
     ∙ symbols_on xs column d.1 (omega arith))
 
-pub flags_on : (xs : List ℕ) (flags : List Bool) → AreDistinct xs → length flags ≡ length xs → map (flag_of xs flags) xs ≡ flags
+pub flags_on : (xs : List ℕ) (flags : List Bool) → AreDistinct xs → length flags ≡ length xs
+    → map (flag_of xs flags) xs ≡ flags
 flags_on [] [] d e = refl
 flags_on [] (s ∷ flags) d e = absurd (omega arith)
 flags_on (x ∷ xs) [] d e = absurd (omega arith)
@@ -51,7 +55,9 @@ flags_on (x ∷ xs) (s ∷ flags) d e =
 pub record IsBetween (tiers : Tiers) (given : List Sym) (opened flags : List Bool) (column : List Sym) : Type 0 where
   pub width : length column ≡ tiers.width
   pub inputs : (t : ℕ) → t < tiers.width → Contains tiers.input t → symbol column t ≡ symbol_on tiers.input given t
-  pub frees : (t : ℕ) → t < tiers.width → Contains tiers.free t → (fits (flag_of tiers.free opened t) (symbol column t) ≡ true) × (opens (symbol column t) ≡ flag_of tiers.free flags t)
+  pub frees : (t : ℕ) → t < tiers.width → Contains tiers.free t
+      → (fits (flag_of tiers.free opened t) (symbol column t) ≡ true) ×
+      (opens (symbol column t) ≡ flag_of tiers.free flags t)
   pub edge : has_edge column ≡ true
 
 pub among_is : (xs : List ℕ) (t : ℕ) → Contains xs t → is_among xs t ≡ true
@@ -69,31 +75,52 @@ not_among xs t n = go (is_among xs t) (among_contains xs t)
     go false c = refl
 
 module _ (tiers : Tiers) (split : AreSplit tiers) where
-  input_symbols : (given : List Sym) (opened flags : List Bool) (t : ℕ) → Contains tiers.input t → symbols_at tiers given opened flags t ≡ symbol_on tiers.input given t ∷ []
-  input_symbols given opened flags t c = ap (λ b. cond b (symbol_on tiers.input given t ∷ []) (between (flag_of tiers.free opened t) (flag_of tiers.free flags t))) (among_is tiers.input t c)
+  input_symbols : (given : List Sym) (opened flags : List Bool) (t : ℕ) → Contains tiers.input t
+      → symbols_at tiers given opened flags t ≡ symbol_on tiers.input given t ∷ []
+  input_symbols given opened flags t c = ap
+      (λ b. cond b (symbol_on tiers.input given t ∷ [])
+      (between (flag_of tiers.free opened t) (flag_of tiers.free flags t))) (among_is tiers.input t c)
 
-  free_symbols : (given : List Sym) (opened flags : List Bool) (t : ℕ) → Contains tiers.free t → symbols_at tiers given opened flags t ≡ between (flag_of tiers.free opened t) (flag_of tiers.free flags t)
-  free_symbols given opened flags t c = ap (λ b. cond b (symbol_on tiers.input given t ∷ []) (between (flag_of tiers.free opened t) (flag_of tiers.free flags t))) (not_among tiers.input t (λ i. split.apart t i c))
+  free_symbols : (given : List Sym) (opened flags : List Bool) (t : ℕ) → Contains tiers.free t
+      → symbols_at tiers given opened flags t ≡ between (flag_of tiers.free opened t) (flag_of tiers.free flags t)
+  free_symbols given opened flags t c = ap
+      (λ b. cond b (symbol_on tiers.input given t ∷ [])
+      (between (flag_of tiers.free opened t) (flag_of tiers.free flags t)))
+      (not_among tiers.input t (λ i. split.apart t i c))
 
-  pub between_of : (given : List Sym) (opened flags : List Bool) (column : List Sym) → Contains (columns_between tiers given opened flags) column → IsBetween tiers given opened flags column
+  pub between_of : (given : List Sym) (opened flags : List Bool) (column : List Sym)
+      → Contains (columns_between tiers given opened flags) column → IsBetween tiers given opened flags column
   between_of given opened flags column c =
       let f = symbols_at tiers given opened flags in
       let kept = contains_of_kept has_edge (choices (map f (range_with_len 0 tiers.width))) column c in
-      let each : (length column ≡ tiers.width) × ((t : ℕ) → t < tiers.width → Contains (f (0 + t)) (get_or column t Outside)) = of_choice f Outside 0 tiers.width column (choice_in _ column kept.0) in
-      let here : (t : ℕ) → t < tiers.width → Contains (f t) (symbol column t) = λ t l. let e : 0 + t ≡ t = omega arith in subst (λ k. Contains (f k) (symbol column t)) e (each.1 t l) in
+      let each : (length column ≡ tiers.width) ×
+      ((t : ℕ) → t < tiers.width → Contains (f (0 + t))
+      (get_or column t Outside)) = of_choice f Outside 0 tiers.width column (choice_in _ column kept.0) in
+      let here : (t : ℕ) → t < tiers.width
+      → Contains (f t) (symbol column t) = λ t l. let e : 0 + t
+      ≡ t = omega arith in subst (λ k. Contains (f k) (symbol column t)) e (each.1 t l) in
       record {
         width = each.0;
-        inputs = λ t l i. sym (contains_one (symbol_on tiers.input given t) (symbol column t) (subst (λ xs. Contains xs (symbol column t)) (input_symbols given opened flags t i) (here t l)));
-        frees = λ t l i. between_in _ _ (symbol column t) (subst (λ xs. Contains xs (symbol column t)) (free_symbols given opened flags t i) (here t l));
+        inputs = λ t l i. sym (contains_one (symbol_on tiers.input given t) (symbol column t)
+            (subst (λ xs. Contains xs (symbol column t)) (input_symbols given opened flags t i) (here t l)));
+        frees = λ t l i. between_in _ _ (symbol column t)
+            (subst (λ xs. Contains xs (symbol column t)) (free_symbols given opened flags t i) (here t l));
         edge = kept.1;
       }
 
-  pub of_between : (given : List Sym) (opened flags : List Bool) (column : List Sym) → IsBetween tiers given opened flags column → Contains (columns_between tiers given opened flags) column
+  pub of_between : (given : List Sym) (opened flags : List Bool) (column : List Sym)
+      → IsBetween tiers given opened flags column → Contains (columns_between tiers given opened flags) column
   of_between given opened flags column b =
       let f = symbols_at tiers given opened flags in
       let here : (t : ℕ) → t < tiers.width → Contains (f t) (symbol column t) = λ t l. ⊎_elim
-      (λ i. subst (λ xs. Contains xs (symbol column t)) (sym (input_symbols given opened flags t i)) (subst (λ s. Contains (symbol_on tiers.input given t ∷ []) s) (sym (b.inputs t l i)) (contains_first (symbol_on tiers.input given t) [])))
-      (λ i. subst (λ xs. Contains xs (symbol column t)) (sym (free_symbols given opened flags t i)) (subst (λ c. Contains (between (flag_of tiers.free opened t) c) (symbol column t)) (b.frees t l i).1 (between_has (flag_of tiers.free opened t) (symbol column t) (b.frees t l i).0)))
+      (λ i. subst (λ xs. Contains xs (symbol column t)) (sym (input_symbols given opened flags t i))
+      (subst (λ s. Contains (symbol_on tiers.input given t ∷ []) s) (sym (b.inputs t l i))
+      (contains_first (symbol_on tiers.input given t) [])))
+      (λ i. subst (λ xs. Contains xs (symbol column t)) (sym (free_symbols given opened flags t i))
+      (subst (λ c. Contains (between (flag_of tiers.free opened t) c) (symbol column t)) (b.frees t l i).1
+      (between_has (flag_of tiers.free opened t) (symbol column t) (b.frees t l i).0)))
       (split.each t l) in
       contains_kept has_edge (choices (map f (range_with_len 0 tiers.width))) column
-      (choices_have _ column (is_choice f Outside 0 tiers.width column b.width (λ t l. let e : t ≡ 0 + t = omega arith in subst (λ k. Contains (f k) (symbol column t)) e (here t l)))) b.edge
+      (choices_have _ column (is_choice f Outside 0 tiers.width column b.width
+      (λ t l. let e : t ≡ 0 + t = omega arith in subst (λ k. Contains (f k) (symbol column t)) e
+      (here t l)))) b.edge

@@ -26,17 +26,20 @@ use Rattle.stage_tables.proofs.Named.{frame_stage}
 use Rattle.violation.specs.Problems.{last_stage}
 use Rattle.kind_moves.specs.Frames.{problem_in}
 
-pairs_differ : {X : Type 0} (xs : List X) → AllPairs (λ x y. x ≢ y) xs → Differ xs
+pub pairs_differ : {X : Type 0} (xs : List X) → AllPairs (λ x y. x ≢ y) xs → Differ xs
 pairs_differ [] h = tt
 pairs_differ (x ∷ xs) h = (
   all_from_members (λ y. x ≢ y) xs (λ y c e. h 0 (suc c.0) y (omega arith) (omega (arith, c.1)) (e ∙ sym c.2)),
   pairs_differ xs (λ i j d less l. h (suc i) (suc j) d (omega arith) (omega arith)),
 )
 
-module _ (frame : Frame) (stage : ℕ) (ranked : 1 ≤ stage) (within : stage ≤ last_stage (problem_in frame)) {h : Ghosts UnitWeight} (kept : List (TableState UnitWeight h))
+module _ (frame : Frame) (stage : ℕ) (ranked : 1 ≤ stage) (within : stage ≤ last_stage (problem_in frame))
+    {h : Ghosts UnitWeight} (kept : List (TableState UnitWeight h))
     (accepts : (T : List (List Sym)) → Accepts kept T ↔ IsOptimalFor (problem_in frame) (stage - 1) T) where
   -- a table that is explored is that of the stage
-  pub stage_table : {g : Ghosts Count} (kinds : List Kind) (states : List (TableState Count g)) → IsExplored frame stage kept kinds states → IsStageTable (problem_in frame) stage (names_at frame stage kinds) states
+  pub stage_table : {g : Ghosts Count} (kinds : List Kind) (states : List (TableState Count g))
+      → IsExplored frame stage kept kinds states
+      → IsStageTable (problem_in frame) stage (names_at frame stage kinds) states
   stage_table kinds states explored = record {
     named = explored.named;
     weighed = explored.weighed;
@@ -45,22 +48,30 @@ module _ (frame : Frame) (stage : ℕ) (ranked : 1 ≤ stage) (within : stage �
   }
 
   -- with no more kinds than the budget it is within the budget
-  pub stage_within : {g : Ghosts Count} (kinds : List Kind) (states : List (TableState Count g)) (budget : ℕ) → IsExplored frame stage kept kinds states → length kinds ≤ budget → IsWithin (problem_in frame) budget stage
+  pub stage_within : {g : Ghosts Count} (kinds : List Kind) (states : List (TableState Count g)) (budget : ℕ)
+      → IsExplored frame stage kept kinds states → length kinds ≤ budget → IsWithin (problem_in frame) budget stage
   stage_within kinds states budget explored few ks are =
       let table = stage_table kinds states explored in
-      let law = names_law (problem_in frame) stage (frame_stage frame stage within) (names_at frame stage kinds) states table.named (stage - 1) table.accepts table.on_runs in
+      let law = names_law (problem_in frame) stage (frame_stage frame stage within)
+      (names_at frame stage kinds) states table.named (stage - 1) table.accepts table.on_runs in
       let most = stage_few (problem_in frame) stage (names_at frame stage kinds) (λ k p. (law k).1 p) ks are in
       omega (arith, most, few, length-map kinds (kind_at_stage frame stage))
 
 -- and a stage of which more kinds than the budget are found is over it
-module _ (frame : Frame) (r : ℕ) (within : r + 1 ≤ last_stage (problem_in frame)) {h : Ghosts UnitWeight} (kept : List (TableState UnitWeight h)) (some : 0 < length kept) (targets : TargetsExist kept) (filled : ClassesFilled kept)
-    (by : IsKept (problem_in frame) r kept) (accepts : (T : List (List Sym)) → Accepts kept T ↔ IsOptimalFor (problem_in frame) r T) (budget : ℕ) where
+module _ (frame : Frame) (r : ℕ) (within : r + 1 ≤ last_stage (problem_in frame)) {h : Ghosts UnitWeight}
+    (kept : List (TableState UnitWeight h)) (some : 0 < length kept) (targets : TargetsExist kept)
+    (filled : ClassesFilled kept)
+    (by : IsKept (problem_in frame) r kept)
+    (accepts : (T : List (List Sym)) → Accepts kept T ↔ IsOptimalFor (problem_in frame) r T) (budget : ℕ) where
   next_over : IsOverBudget frame (r + 1) kept budget → IsOver (problem_in frame) budget (r + 1)
   next_over over =
-      over_budget (problem_in frame) r (frame_stage frame r (omega arith)) (frame_stage frame (r + 1) within) by.0 kept some targets filled by.1 accepts budget over.kinds
+      over_budget (problem_in frame) r (frame_stage frame r (omega arith))
+      (frame_stage frame (r + 1) within) by.0 kept some targets filled by.1 accepts budget over.kinds
       (pairs_differ over.kinds over.distinct)
-      (λ k c. let m = All-contains (IsMet frame (r + 1) kept) over.kinds k over.met c in (m.prefix, (m.rest, (m.accepted, m.of_kind))))
+      (λ k c. let m = All-contains (IsMet frame (r + 1) kept) over.kinds k over.met c in
+      (m.prefix, (m.rest, (m.accepted, m.of_kind))))
       over.more
 
-  pub stage_over : (stage : ℕ) → r + 1 ≡ stage → IsOverBudget frame stage kept budget → IsOver (problem_in frame) budget stage
+  pub stage_over : (stage : ℕ) → r + 1 ≡ stage → IsOverBudget frame stage kept budget
+      → IsOver (problem_in frame) budget stage
   stage_over stage e = subst (λ n. IsOverBudget frame n kept budget → IsOver (problem_in frame) budget n) e next_over

@@ -37,13 +37,15 @@ pub number-lt : (flags : List Bool) → number_of_flags flags < 2 ^ length flags
 number-lt [] = omega arith
 number-lt (flag ∷ flags) = go flag (number-lt flags)
   where
-    go : (b : Bool) → number_of_flags flags < 2 ^ length flags → cond b (2 ^ length flags) 0 + number_of_flags flags < 2 ^ suc (length flags)
+    go : (b : Bool) → number_of_flags flags < 2 ^ length flags
+        → cond b (2 ^ length flags) 0 + number_of_flags flags < 2 ^ suc (length flags)
     go true h = omega arith
     go false h = omega arith
 
 -- n % 2^(f+1) by its highest bit
 pub mod_step : (n f : ℕ) → n % 2 ^ suc f ≡ bit_of (has_tier n f) * 2 ^ f + n % 2 ^ f
-mod_step n f = ap (λ k. n % 2 ^ k) (omega arith) ∙ mod-pow-add n 1 f ∙ ap (λ b. b * 2 ^ f + n % 2 ^ f) (sym (bit_of_has n f))
+mod_step n f = ap (λ k. n % 2 ^ k) (omega arith) ∙ mod-pow-add n 1 f
+    ∙ ap (λ b. b * 2 ^ f + n % 2 ^ f) (sym (bit_of_has n f))
 
 pub number-flags_of : (f n : ℕ) → number_of_flags (flags_of f n) ≡ n % 2 ^ f
 number-flags_of zero n = omega arith
@@ -56,25 +58,39 @@ number-flags_of (suc f) n =
 -- the lowest bits do not depend on what is above them
 pub flags_of-low : (k f a b : ℕ) → f ≤ k → flags_of f (a * 2 ^ k + b) ≡ flags_of f b
 flags_of-low k zero a b l = refl
-flags_of-low k (suc f) a b l = cc (ap (λ x. x == 1) (bit_at_cat_low a k b f (omega arith)), flags_of-low k f a b (omega arith))
+flags_of-low k (suc f) a b l = cc (
+  ap (λ x. x == 1) (bit_at_cat_low a k b f (omega arith)),
+  flags_of-low k f a b (omega arith),
+)
 
 has_bit_above : (flag : Bool) (k b : ℕ) → b < 2 ^ k → has_tier (bit_of flag * 2 ^ k + b) k ≡ flag
-has_bit_above flag k b l = let none : k - k ≡ 0 = omega arith in ap (λ x. x == 1) (bit_at_cat_high (bit_of flag) k b k l (omega arith) ∙ ap (bit_at (bit_of flag)) none) ∙ low flag
+has_bit_above flag k b l = let none : k - k
+    ≡ 0 = omega arith in ap (λ x. x == 1)
+    (bit_at_cat_high (bit_of flag) k b k l (omega arith) ∙ ap (bit_at (bit_of flag)) none) ∙ low flag
   where
     low : (b : Bool) → (bit_at (bit_of b) 0 == 1) ≡ b
     low true = refl
     low false = refl
 
 -- the flags of a number of flags, with anything above them
-pub flags_of-number : (flags : List Bool) (a : ℕ) → flags_of (length flags) (a * 2 ^ length flags + number_of_flags flags) ≡ flags
-flags_of-number flags a = flags_of-low (length flags) (length flags) a (number_of_flags flags) (omega arith) ∙ same flags
+pub flags_of-number : (flags : List Bool) (a : ℕ)
+    → flags_of (length flags) (a * 2 ^ length flags + number_of_flags flags) ≡ flags
+flags_of-number flags a = flags_of-low (length flags) (length flags) a (number_of_flags flags) (omega arith)
+    ∙ same flags
   where
     same : (flags : List Bool) → flags_of (length flags) (number_of_flags flags) ≡ flags
     same [] = refl
     same (flag ∷ flags) =
-        let value : number_of_flags (flag ∷ flags) ≡ bit_of flag * 2 ^ length flags + number_of_flags flags = ap (λ x. x + number_of_flags flags) (flag_value flag (2 ^ length flags)) in
-        let head : has_tier (number_of_flags (flag ∷ flags)) (length flags) ≡ flag = ap (λ n. has_tier n (length flags)) value ∙ has_bit_above flag (length flags) (number_of_flags flags) (number-lt flags) in
-        let tail : flags_of (length flags) (number_of_flags (flag ∷ flags)) ≡ flags = ap (flags_of (length flags)) value ∙ flags_of-low (length flags) (length flags) (bit_of flag) (number_of_flags flags) (omega arith) ∙ same flags in
+        let value : number_of_flags (flag ∷ flags)
+        ≡ bit_of flag * 2 ^ length flags + number_of_flags flags = ap (λ x. x + number_of_flags flags)
+        (flag_value flag (2 ^ length flags)) in
+        let head : has_tier (number_of_flags (flag ∷ flags)) (length flags)
+        ≡ flag = ap (λ n. has_tier n (length flags)) value
+        ∙ has_bit_above flag (length flags) (number_of_flags flags) (number-lt flags) in
+        let tail : flags_of (length flags) (number_of_flags (flag ∷ flags))
+        ≡ flags = ap (flags_of (length flags)) value
+        ∙ flags_of-low (length flags) (length flags) (bit_of flag) (number_of_flags flags) (omega arith)
+        ∙ same flags in
         cc (head, tail)
 
 -- the kind of a number has that number
@@ -84,25 +100,34 @@ number-kind_numbered f n = omega (arith, number-flags_of f n, pow_pos f)
 abbrev pub kind_from : ℕ → List Bool → List Phase → PrefixKind
 kind_from place opened phases = record { place = place; opened = opened; phases = phases }
 
-pub same_kind : {p q : ℕ} {a b : List Bool} {x y : List Phase} → p ≡ q → a ≡ b → x ≡ y → kind_from p a x ≡ kind_from q b y
-same_kind {p} {q} {a} {b} {x} {y} e f g = ap (λ n. kind_from n a x) e ∙ ap (λ l. kind_from q l x) f ∙ ap (kind_from q b) g
+pub same_kind : {p q : ℕ} {a b : List Bool} {x y : List Phase} → p ≡ q → a ≡ b → x ≡ y
+    → kind_from p a x ≡ kind_from q b y
+same_kind {p} {q} {a} {b} {x} {y} e f g = ap (λ n. kind_from n a x) e ∙ ap (λ l. kind_from q l x) f
+    ∙ ap (kind_from q b) g
 
 -- the number of a kind tells the kind
-pub kind_numbered-number : (f : ℕ) (k : PrefixKind) → length k.opened ≡ f → k.phases ≡ [] → kind_numbered f (number_of_kind f k) ≡ k
+pub kind_numbered-number : (f : ℕ) (k : PrefixKind) → length k.opened ≡ f → k.phases ≡ []
+    → kind_numbered f (number_of_kind f k) ≡ k
 kind_numbered-number f k e none =
-    let flags : flags_of f (k.place * 2 ^ f + number_of_flags k.opened) ≡ k.opened = ap (λ m. flags_of m (k.place * 2 ^ m + number_of_flags k.opened)) (sym e) ∙ flags_of-number k.opened k.place in
+    let flags : flags_of f (k.place * 2 ^ f + number_of_flags k.opened)
+    ≡ k.opened = ap (λ m. flags_of m (k.place * 2 ^ m + number_of_flags k.opened)) (sym e)
+    ∙ flags_of-number k.opened k.place in
     let below : number_of_flags k.opened < 2 ^ f = omega (arith, number-lt k.opened, ap (λ m. 2 ^ m) e) in
-    let place : (k.place * 2 ^ f + number_of_flags k.opened) / 2 ^ f ≡ k.place = div-mul-add k.place (2 ^ f) (number_of_flags k.opened) below in
+    let place : (k.place * 2 ^ f + number_of_flags k.opened) / 2 ^ f
+    ≡ k.place = div-mul-add k.place (2 ^ f) (number_of_flags k.opened) below in
     same_kind place flags (sym none)
 
 -- flags are ordered as their numbers
-pub flags_less : (f m n : ℕ) → m % 2 ^ f < n % 2 ^ f → slice_cmp nat_cmp (map open_rank (flags_of f m)) (map open_rank (flags_of f n)) ≡ Less
+pub flags_less : (f m n : ℕ) → m % 2 ^ f < n % 2 ^ f
+    → slice_cmp nat_cmp (map open_rank (flags_of f m)) (map open_rank (flags_of f n)) ≡ Less
 flags_less zero m n l = absurd (omega arith)
 flags_less (suc f) m n l = go (has_tier m f) (has_tier n f) (mod_step m f) (mod_step n f) (flags_less f m n)
   where
     go : (a b : Bool) → m % 2 ^ suc f ≡ bit_of a * 2 ^ f + m % 2 ^ f → n % 2 ^ suc f ≡ bit_of b * 2 ^ f + n % 2 ^ f
-        → (m % 2 ^ f < n % 2 ^ f → slice_cmp nat_cmp (map open_rank (flags_of f m)) (map open_rank (flags_of f n)) ≡ Less)
-        → ordering_then (nat_cmp (open_rank a) (open_rank b)) (slice_cmp nat_cmp (map open_rank (flags_of f m)) (map open_rank (flags_of f n))) ≡ Less
+        → (m % 2 ^ f < n % 2 ^ f → slice_cmp nat_cmp (map open_rank (flags_of f m)) (map open_rank (flags_of f n))
+        ≡ Less)
+        → ordering_then (nat_cmp (open_rank a) (open_rank b))
+        (slice_cmp nat_cmp (map open_rank (flags_of f m)) (map open_rank (flags_of f n))) ≡ Less
     go false true em en more = refl
     go false false em en more = more (omega (arith, l))
     go true true em en more = more (omega (arith, l))
@@ -110,11 +135,14 @@ flags_less (suc f) m n l = go (has_tier m f) (has_tier n f) (mod_step m f) (mod_
 
 -- kinds are ordered as their numbers
 pub kinds_less : (f i j : ℕ) → i < j → kind_order (kind_numbered f i) (kind_numbered f j) ≡ Less
-kinds_less f i j l = let rest : Ordering = ordering_then (slice_cmp nat_cmp (map open_rank (flags_of f i)) (map open_rank (flags_of f j))) Equal in ⊎_elim
+kinds_less f i j l = let rest : Ordering = ordering_then
+    (slice_cmp nat_cmp (map open_rank (flags_of f i)) (map open_rank (flags_of f j))) Equal in ⊎_elim
     (λ before. ap (λ o. ordering_then o rest) (sym (nat_cmp_is (i / 2 ^ f) (j / 2 ^ f) Less before)))
     (λ not_before.
-    let same : i / 2 ^ f ≡ j / 2 ^ f = omega (arith, le-div (i / 2 ^ f) j (2 ^ f) (pow_pos f) (omega (arith, div-add-mod' i (2 ^ f)))) in
+    let same : i / 2 ^ f ≡ j / 2 ^ f = omega
+    (arith, le-div (i / 2 ^ f) j (2 ^ f) (pow_pos f) (omega (arith, div-add-mod' i (2 ^ f)))) in
     let parts : i / 2 ^ f * 2 ^ f ≡ j / 2 ^ f * 2 ^ f = ap (λ q. q * 2 ^ f) same in
     let flags : i % 2 ^ f < j % 2 ^ f = omega (arith, div-add-mod' i (2 ^ f), div-add-mod' j (2 ^ f)) in
-    ap (λ o. ordering_then o rest) (sym (nat_cmp_is (i / 2 ^ f) (j / 2 ^ f) Equal same)) ∙ ap (λ o. ordering_then o Equal) (flags_less f i j flags))
+    ap (λ o. ordering_then o rest) (sym (nat_cmp_is (i / 2 ^ f) (j / 2 ^ f) Equal same))
+    ∙ ap (λ o. ordering_then o Equal) (flags_less f i j flags))
     (cases_lt (i / 2 ^ f) (j / 2 ^ f))

@@ -9,37 +9,49 @@ use Rattle.violation.specs.Conditions.{AreDistinct}
 use Rattle.violation.proofs.SplitLemmas.{numbers_distinct}
 
 -- each number is one of an element that passes
-numbers_pass : (test : TierKind → Bool) (g : ℕ → Bool) (n : ℕ) (kinds : List TierKind) → ((k : ℕ) → k < length kinds → g (n + k) ≡ test (kind_at kinds k))
+numbers_pass : (test : TierKind → Bool) (g : ℕ → Bool) (n : ℕ) (kinds : List TierKind)
+    → ((k : ℕ) → k < length kinds → g (n + k) ≡ test (kind_at kinds k))
     → AllByRecursion (λ t. (n ≤ t) × (t < n + length kinds) × (g t ≡ true)) (numbers_from test n kinds)
 numbers_pass test g n [] h = tt
 numbers_pass test g n (x ∷ xs) h =
     by_test (test x) (let here : n + 0 ≡ n = omega arith in sym (ap g here) ∙ h 0 (omega arith))
-    (all_weaker _ _ _ (λ t a. (omega arith, omega arith, a.2)) (numbers_pass test g (suc n) xs (λ k l. let same : suc n + k ≡ n + suc k = omega arith in ap g same ∙ h (suc k) (omega arith))))
+    (all_weaker _ _ _ (λ t a. (omega arith, omega arith, a.2))
+    (numbers_pass test g (suc n) xs (λ k l. let same : suc n + k ≡ n + suc k = omega arith in ap g same
+    ∙ h (suc k) (omega arith))))
   where
-    by_test : (b : Bool) → g n ≡ b → AllByRecursion (λ t. (n ≤ t) × (t < n + suc (length xs)) × (g t ≡ true)) (numbers_from test (suc n) xs)
-        → AllByRecursion (λ t. (n ≤ t) × (t < n + suc (length xs)) × (g t ≡ true)) (cond b (n ∷ []) [] ++ numbers_from test (suc n) xs)
+    by_test : (b : Bool) → g n ≡ b → AllByRecursion (λ t. (n ≤ t) × (t < n + suc (length xs)) × (g t ≡ true))
+        (numbers_from test (suc n) xs)
+        → AllByRecursion (λ t. (n ≤ t) × (t < n + suc (length xs)) × (g t ≡ true))
+        (cond b (n ∷ []) [] ++ numbers_from test (suc n) xs)
     by_test true e rest = ((omega arith, omega arith, e), rest)
     by_test false e rest = rest
 
 -- the number of an element that passes comes after those of the elements before it
-pub number_at : (test : TierKind → Bool) (n k : ℕ) (kinds : List TierKind) → k < length kinds → test (kind_at kinds k) ≡ true
-    → (length (numbers_from test n (take k kinds)) < length (numbers_from test n kinds)) × (get_or (numbers_from test n kinds) (length (numbers_from test n (take k kinds))) 0 ≡ n + k)
+pub number_at : (test : TierKind → Bool) (n k : ℕ) (kinds : List TierKind) → k < length kinds
+    → test (kind_at kinds k) ≡ true
+    → (length (numbers_from test n (take k kinds)) < length (numbers_from test n kinds)) ×
+    (get_or (numbers_from test n kinds) (length (numbers_from test n (take k kinds))) 0 ≡ n + k)
 number_at test n k [] l h = absurd (omega arith)
 number_at test n zero (x ∷ xs) l h = rw h (omega arith, omega arith)
 number_at test n (suc k) (x ∷ xs) l h = by_test (test x) (number_at test (suc n) k xs (omega arith) h)
   where
-    by_test : (b : Bool) → (length (numbers_from test (suc n) (take k xs)) < length (numbers_from test (suc n) xs)) × (get_or (numbers_from test (suc n) xs) (length (numbers_from test (suc n) (take k xs))) 0 ≡ suc n + k)
-        → (length (cond b (n ∷ []) [] ++ numbers_from test (suc n) (take k xs)) < length (cond b (n ∷ []) [] ++ numbers_from test (suc n) xs))
-        × (get_or (cond b (n ∷ []) [] ++ numbers_from test (suc n) xs) (length (cond b (n ∷ []) [] ++ numbers_from test (suc n) (take k xs))) 0 ≡ n + suc k)
+    by_test : (b : Bool) → (length (numbers_from test (suc n) (take k xs)) < length (numbers_from test (suc n) xs)) ×
+        (get_or (numbers_from test (suc n) xs) (length (numbers_from test (suc n) (take k xs))) 0 ≡ suc n + k)
+        → (length (cond b (n ∷ []) [] ++ numbers_from test (suc n) (take k xs)) < length
+        (cond b (n ∷ []) [] ++ numbers_from test (suc n) xs))
+        × (get_or (cond b (n ∷ []) [] ++ numbers_from test (suc n) xs)
+        (length (cond b (n ∷ []) [] ++ numbers_from test (suc n) (take k xs))) 0 ≡ n + suc k)
     by_test true a = (omega arith, omega arith)
     by_test false a = (a.0, omega arith)
 
 -- an element that is numbered passes
-pub passes : (kinds : List TierKind) (test : TierKind → Bool) (t : ℕ) → Contains (numbers_from test 0 kinds) t → test (kind_at kinds t) ≡ true
+pub passes : (kinds : List TierKind) (test : TierKind → Bool) (t : ℕ) → Contains (numbers_from test 0 kinds) t
+    → test (kind_at kinds t) ≡ true
 passes kinds test t c =
     All-contains (λ t. test (kind_at kinds t) ≡ true) _ t
     (All-from_recursion (λ t. test (kind_at kinds t) ≡ true) _
-    (all_weaker _ _ _ (λ t a. a.2) (numbers_pass test (λ t. test (kind_at kinds t)) 0 kinds (λ k l. let same : 0 + k ≡ k = omega arith in ap (λ (m : ℕ). test (kind_at kinds m)) same))))
+    (all_weaker _ _ _ (λ t a. a.2) (numbers_pass test (λ t. test (kind_at kinds t)) 0 kinds
+    (λ k l. let same : 0 + k ≡ k = omega arith in ap (λ (m : ℕ). test (kind_at kinds m)) same))))
     c
 
 -- no free tier of a table comes twice

@@ -48,8 +48,10 @@ Place = ℕ × PrefixKind
 
 same_place : (x y : Place) → (x ≡ y) ⊎ (x ≢ y)
 same_place (s, k) (t, l) = ⊎_elim
-    (λ es. ⊎_elim (λ ek. inl (ap₂ (λ n (q : PrefixKind). (n, q)) es ek)) (λ other. inr (λ e. other (ap (λ (p : Place). p.1) e))) (one_or_other k l))
-    (λ other. inr (λ e. ⊎_elim (λ less. omega (arith, less, ap (λ (p : Place). p.0) e)) (λ more. omega (arith, more, ap (λ (p : Place). p.0) e)) other))
+    (λ es. ⊎_elim (λ ek. inl (ap₂ (λ n (q : PrefixKind). (n, q)) es ek))
+    (λ other. inr (λ e. other (ap (λ (p : Place). p.1) e))) (one_or_other k l))
+    (λ other. inr (λ e. ⊎_elim (λ less. omega (arith, less, ap (λ (p : Place). p.0) e))
+    (λ more. omega (arith, more, ap (λ (p : Place). p.0) e)) other))
     (cases_order s t)
 
 -- a kind with one phase more
@@ -70,7 +72,8 @@ any_phase k closed =
 any_phase k unmet =
     let rest = with_phase k met ∷ [] in
     contains_later k (with_phase k closed ∷ with_phase k unmet ∷ rest) (with_phase k unmet)
-    (contains_later (with_phase k closed) (with_phase k unmet ∷ rest) (with_phase k unmet) (contains_first (with_phase k unmet) rest))
+    (contains_later (with_phase k closed) (with_phase k unmet ∷ rest) (with_phase k unmet)
+    (contains_first (with_phase k unmet) rest))
 any_phase k met =
     let last = with_phase k met ∷ [] in
     contains_later k (with_phase k closed ∷ with_phase k unmet ∷ last) (with_phase k met)
@@ -78,18 +81,23 @@ any_phase k met =
     (contains_later (with_phase k unmet) last (with_phase k met) (contains_first (with_phase k met) [])))
 
 -- a list with one element at most behind its first is the first, or has one more
-take_longer : (n : ℕ) (ps : List Phase) → length ps ≤ n + 1 → (ps ≡ take n ps) ⊎ ((p : Phase) × (ps ≡ take n ps ++ p ∷ []))
+take_longer : (n : ℕ) (ps : List Phase) → length ps ≤ n + 1
+    → (ps ≡ take n ps) ⊎ ((p : Phase) × (ps ≡ take n ps ++ p ∷ []))
 take_longer zero [] l = inl refl
 take_longer zero (p ∷ []) l = inr (p, refl)
 take_longer zero (p ∷ q ∷ ps) l = absurd (omega arith)
 take_longer (suc n) [] l = inl refl
-take_longer (suc n) (p ∷ ps) l = ⊎_elim (λ e. inl (ap (λ qs. p ∷ qs) e)) (λ more. inr (more.0, ap (λ qs. p ∷ qs) more.1)) (take_longer n ps (omega arith))
+take_longer (suc n) (p ∷ ps) l = ⊎_elim (λ e. inl (ap (λ qs. p ∷ qs) e))
+    (λ more. inr (more.0, ap (λ qs. p ∷ qs) more.1)) (take_longer n ps (omega arith))
 
-reached_push : (problem : Problem) (r : ℕ) (k : PrefixKind) (p : List (List Sym)) (column : List Sym) → reached problem r k (p ++ column ∷ []) ≡ moved problem r (reached problem r k p) column
+reached_push : (problem : Problem) (r : ℕ) (k : PrefixKind) (p : List (List Sym)) (column : List Sym)
+    → reached problem r k (p ++ column ∷ []) ≡ moved problem r (reached problem r k p) column
 reached_push problem r k [] column = refl
 reached_push problem r k (c ∷ p) column = reached_push problem r (moved problem r k c) p column
 
-reads_push : {g : Ghosts UnitWeight} (arcs : List (TableArc UnitWeight g)) (arc : TableArc UnitWeight g) (p : List (List Sym)) (column : List Sym) → Reads arcs p → Reads (arc ∷ []) (column ∷ []) → Reads (arcs ++ arc ∷ []) (p ++ column ∷ [])
+reads_push : {g : Ghosts UnitWeight} (arcs : List (TableArc UnitWeight g)) (arc : TableArc UnitWeight g)
+    (p : List (List Sym)) (column : List Sym) → Reads arcs p → Reads (arc ∷ []) (column ∷ [])
+    → Reads (arcs ++ arc ∷ []) (p ++ column ∷ [])
 reads_push arcs arc p column a b = joined_reads [] arcs (arc ∷ []) p (column ∷ []) a b
 
 bit_most : (b : Bool) → cond b 1 0 ≤ 1
@@ -105,13 +113,17 @@ one_stretch (c ∷ cs) r l =
     let b = bit_most (is_stretch (get_or (c ∷ cs) r c)) in
     omega (arith, e, b)
 
-module _ (problem : Problem) (r : ℕ) (stage : IsStage problem r) (next : IsStage problem (r + 1)) {g : Ghosts UnitWeight} (names : List PrefixKind) (kept : List (TableState UnitWeight g)) (some : 0 < length kept) (targets : TargetsExist kept) (filled : ClassesFilled kept) (by : AreKeptByKinds problem r names kept) (accepts : (T : List (List Sym)) → Accepts kept T ↔ IsOptimalFor problem r T) where
+module _ (problem : Problem) (r : ℕ) (stage : IsStage problem r) (next : IsStage problem (r + 1))
+    {g : Ghosts UnitWeight} (names : List PrefixKind) (kept : List (TableState UnitWeight g)) (some : 0 < length kept)
+    (targets : TargetsExist kept) (filled : ClassesFilled kept) (by : AreKeptByKinds problem r names kept)
+    (accepts : (T : List (List Sym)) → Accepts kept T ↔ IsOptimalFor problem r T) where
   named : AreNamedByKinds problem r names kept
   named = by.named
 
   -- where a place goes on to
   abbrev onward : Place → List Place
-  onward (s, k) = map (λ (arc : TableArc UnitWeight g). (arc.target, moved problem (r + 1) k (first_column arc.class))) (moves_at kept s)
+  onward (s, k) = map (λ (arc : TableArc UnitWeight g).
+      (arc.target, moved problem (r + 1) k (first_column arc.class))) (moves_at kept s)
 
   -- a place that is gone to by the columns of a path
   record IsGone (x : Place) : Type 0 where
@@ -124,7 +136,8 @@ module _ (problem : Problem) (r : ℕ) (stage : IsStage problem r) (next : IsSta
 
   goes_on : (x y : Place) → IsGone x → Contains (onward x) y → IsGone y
   goes_on (s, k) y gone c =
-      let a = contains_of_map (λ (arc : TableArc UnitWeight g). (arc.target, moved problem (r + 1) k (first_column arc.class))) (moves_at kept s) y c in
+      let a = contains_of_map (λ (arc : TableArc UnitWeight g).
+      (arc.target, moved problem (r + 1) k (first_column arc.class))) (moves_at kept s) y c in
       let arc : TableArc UnitWeight g = a.0 in
       let column = first_column arc.class in
       let z : Place = (arc.target, moved problem (r + 1) k column) in
@@ -133,8 +146,10 @@ module _ (problem : Problem) (r : ℕ) (stage : IsStage problem r) (next : IsSta
         columns = gone.columns ++ column ∷ [];
         arcs = gone.arcs ++ arc ∷ [];
         path = path_push kept gone.arcs 0 s arc gone.path a.1.0;
-        reads = reads_push gone.arcs arc gone.columns column gone.reads (has-first_column arc.class (filled s arc a.1.0), tt);
-        tells = reached_push problem (r + 1) (kind_of problem (r + 1) []) gone.columns column ∙ ap (λ q. moved problem (r + 1) q column) gone.tells;
+        reads = reads_push gone.arcs arc gone.columns column gone.reads
+            (has-first_column arc.class (filled s arc a.1.0), tt);
+        tells = reached_push problem (r + 1) (kind_of problem (r + 1) []) gone.columns column
+            ∙ ap (λ q. moved problem (r + 1) q column) gone.tells;
       } in
       subst IsGone a.1.1 there
 
@@ -142,13 +157,23 @@ module _ (problem : Problem) (r : ℕ) (stage : IsStage problem r) (next : IsSta
   begun : (x : Place) → (gone : IsGone x) → (q : List (List Sym)) × IsOptimalFor problem r (gone.columns ++ q)
   begun x gone =
       let on = by.on_runs x.0 gone.inside in
-      let q = some_word kept filled x.0 on.2.0 on.2.1 in
-      (q.0, (accepts (gone.columns ++ q.0)).0 (gone.arcs ++ on.2.0, record { run = joined_run kept gone.arcs on.2.0 0 x.0 gone.path on.2.1; reads = joined_reads kept gone.arcs on.2.0 gone.columns q.0 gone.reads q.1 }))
+      let q = some_word kept filled x.0 on.2.0 on.2.1 in (
+        q.0,
+        (accepts (gone.columns ++ q.0)).0 (
+          gone.arcs ++ on.2.0,
+          record {
+            run = joined_run kept gone.arcs on.2.0 0 x.0 gone.path on.2.1;
+            reads = joined_reads kept gone.arcs on.2.0 gone.columns q.0 gone.reads q.1;
+          },
+        ),
+      )
 
-  of_kind : (p q : List (List Sym)) → IsCandidate problem (p ++ q) → reached problem (r + 1) (kind_of problem (r + 1) []) p ≡ kind_of problem (r + 1) p
+  of_kind : (p q : List (List Sym)) → IsCandidate problem (p ++ q)
+      → reached problem (r + 1) (kind_of problem (r + 1) []) p ≡ kind_of problem (r + 1) p
   of_kind p q c =
       let over = over_stretches problem (r + 1) next in
-      reached_is problem (r + 1) stage.split stage.form over p ((moves_begin problem (r + 1) stage.split stage.form over p).1 (q, c))
+      reached_is problem (r + 1) stage.split stage.form over p
+      ((moves_begin problem (r + 1) stage.split stage.form over p).1 (q, c))
 
   kind_gone : (x : Place) (gone : IsGone x) → x.1 ≡ kind_of problem (r + 1) gone.columns
   kind_gone x gone = let b = begun x gone in sym gone.tells ∙ of_kind gone.columns b.0 b.1.candidate
@@ -162,7 +187,8 @@ module _ (problem : Problem) (r : ℕ) (stage : IsStage problem r) (next : IsSta
         passes = record {
           optimal = b.1;
           within = omega (arith, length-append gone.columns b.0);
-          of_kind = ap (kind_of problem (r + 1)) (take_at gone.columns b.0 (length gone.columns) refl) ∙ sym (kind_gone x gone);
+          of_kind = ap (kind_of problem (r + 1)) (take_at gone.columns b.0 (length gone.columns) refl)
+              ∙ sym (kind_gone x gone);
         };
       }
 
@@ -171,10 +197,12 @@ module _ (problem : Problem) (r : ℕ) (stage : IsStage problem r) (next : IsSta
   abbrev bound : List Place
   bound = flat_map (λ s. map (λ k. (s, k)) (longer (name_of names s))) (range_with_len 0 (length kept))
 
-  is_longer : (n k : PrefixKind) → cut problem r k ≡ n → length k.phases ≤ length (stretches problem r) + 1 → Contains (longer n) k
+  is_longer : (n k : PrefixKind) → cut problem r k ≡ n → length k.phases ≤ length (stretches problem r) + 1
+      → Contains (longer n) k
   is_longer n k e l = ⊎_elim
       (λ same. let one : k ≡ cut problem r k = ap (kind_by k.place k.opened) same in
-      subst (Contains (longer n)) (sym (one ∙ e)) (contains_first n (with_phase n closed ∷ with_phase n unmet ∷ with_phase n met ∷ [])))
+      subst (Contains (longer n)) (sym (one ∙ e))
+      (contains_first n (with_phase n closed ∷ with_phase n unmet ∷ with_phase n met ∷ [])))
       (λ more. let one : k ≡ with_phase (cut problem r k) more.0 = ap (kind_by k.place k.opened) more.1 in
       subst (Contains (longer n)) (sym (one ∙ ap (λ q. with_phase q more.0) e)) (any_phase n more.0))
       (take_longer (length (stretches problem r)) k.phases l)
@@ -186,40 +214,59 @@ module _ (problem : Problem) (r : ℕ) (stage : IsStage problem r) (next : IsSta
       let whole = kind_gone x gone in
       let less : r ≤ r + 1 = omega arith in
       let cuts : cut problem r k ≡ name_of names s =
-      ap (cut problem r) whole ∙ cut-kind_of problem r (r + 1) less p ∙ sym (path_kind problem r stage names kept named gone.arcs s p gone.path gone.reads) in
+      ap (cut problem r) whole ∙ cut-kind_of problem r (r + 1) less p
+      ∙ sym (path_kind problem r stage names kept named gone.arcs s p gone.path gone.reads) in
       let room : r < last_stage problem = omega (arith, next.within) in
-      let phases : length k.phases ≡ length (stretches problem (r + 1)) = ap (λ (q : PrefixKind). length q.phases) whole ∙ length-map (stretches problem (r + 1)) (λ c. phase c.left c.right p) in
-      let few : length k.phases ≤ length (stretches problem r) + 1 = omega (arith, phases, one_stretch problem.constraints r room) in
-      contains_flat (λ s. map (λ k. (s, k)) (longer (name_of names s))) (range_with_len 0 (length kept)) s (s, k) (range_has 0 (length kept) s (omega arith) (omega (arith, gone.inside)))
+      let phases : length k.phases ≡ length (stretches problem (r + 1)) = ap
+      (λ (q : PrefixKind). length q.phases) whole
+      ∙ length-map (stretches problem (r + 1)) (λ c. phase c.left c.right p) in
+      let few : length k.phases ≤ length (stretches problem r) + 1 = omega
+      (arith, phases, one_stretch problem.constraints r room) in
+      contains_flat (λ s. map (λ k. (s, k)) (longer (name_of names s))) (range_with_len 0 (length kept)) s (s, k)
+      (range_has 0 (length kept) s (omega arith) (omega (arith, gone.inside)))
       (contains_map (λ k. (s, k)) (longer (name_of names s)) k (is_longer (name_of names s) k cuts few))
 
   first_gone : IsGone (0, kind_of problem (r + 1) [])
   first_gone = record { inside = some; columns = []; arcs = []; path = refl; reads = tt; tells = refl }
 
-  module _ (all : List Place) (is : IsClosed same_place onward IsGone goes_on bound bounded (0, kind_of problem (r + 1) []) all) where
+  module _ (all : List Place) (is : IsClosed same_place onward IsGone goes_on bound bounded
+      (0, kind_of problem (r + 1) []) all) where
     -- paths stay in what is closed
-    stays : (arcs : List (TableArc UnitWeight g)) (p : List (List Sym)) (s t : ℕ) (k : PrefixKind) → IsPath kept s arcs t → Reads arcs p → Contains all (s, k) → Contains all (t, reached problem (r + 1) k p)
+    stays : (arcs : List (TableArc UnitWeight g)) (p : List (List Sym)) (s t : ℕ) (k : PrefixKind)
+        → IsPath kept s arcs t → Reads arcs p → Contains all (s, k) → Contains all (t, reached problem (r + 1) k p)
     stays [] [] s t k path reads c = subst (λ n. Contains all (n, k)) path c
     stays [] (column ∷ p) s t k path reads c = absurd reads
     stays (arc ∷ arcs) [] s t k path reads c = absurd reads
     stays (arc ∷ arcs) (column ∷ p) s t k path reads c =
-        let step : TableArc UnitWeight g → Place = λ arc. (arc.target, moved problem (r + 1) k (first_column arc.class)) in
-        let one : first_column arc.class ≡ column = by.single s arc path.0 (first_column arc.class) column (has-first_column arc.class (filled s arc path.0)) reads.0 in
-        let here : Contains all (step arc) = is.onward (s, k) (step arc) c (contains_map step (moves_at kept s) arc path.0) in
-        stays arcs p arc.target t (moved problem (r + 1) k column) path.1 reads.1 (subst (λ x. Contains all (arc.target, moved problem (r + 1) k x)) one here)
+        let step : TableArc UnitWeight g
+        → Place = λ arc. (arc.target, moved problem (r + 1) k (first_column arc.class)) in
+        let one : first_column arc.class
+        ≡ column = by.single s arc path.0 (first_column arc.class) column
+        (has-first_column arc.class (filled s arc path.0)) reads.0 in
+        let here : Contains all (step arc) = is.onward (s, k) (step arc) c
+        (contains_map step (moves_at kept s) arc path.0) in
+        stays arcs p arc.target t (moved problem (r + 1) k column) path.1 reads.1
+        (subst (λ x. Contains all (arc.target, moved problem (r + 1) k x)) one here)
 
     kinds_all : (k : PrefixKind) → Contains (map (λ (x : Place). x.1) all) k ↔ IsPassed problem r (r + 1) k
     kinds_all k = (
-      λ c. let x = contains_of_map (λ (x : Place). x.1) all k c in subst (IsPassed problem r (r + 1)) x.1.1 (gone_kind x.0 (is.good x.0 x.1.0)),
+      λ c. let x = contains_of_map (λ (x : Place). x.1) all k c in subst (IsPassed problem r (r + 1)) x.1.1
+          (gone_kind x.0 (is.good x.0 x.1.0)),
       λ passed.
           let T = passed.candidate in
           let n = passed.columns in
           let a = (accepts T).1 passed.passes.optimal in
-          let parts : IsParted kept 0 (take n T) (drop n T) = parted kept (take n T) (drop n T) 0 a.0 a.1.run (subst (Reads a.0) (sym (take-append-drop n T)) a.1.reads) in
-          let there = stays parts.before (take n T) 0 parts.middle (kind_of problem (r + 1) []) parts.path parts.reads_before is.first in
-          let whole : IsCandidate problem (take n T ++ drop n T) = subst (IsCandidate problem) (sym (take-append-drop n T)) passed.passes.optimal.candidate in
-          let same : reached problem (r + 1) (kind_of problem (r + 1) []) (take n T) ≡ k = of_kind (take n T) (drop n T) whole ∙ passed.passes.of_kind in
-          subst (Contains (map (λ (x : Place). x.1) all)) same (contains_map (λ (x : Place). x.1) all (parts.middle, reached problem (r + 1) (kind_of problem (r + 1) []) (take n T)) there),
+          let parts : IsParted kept 0 (take n T) (drop n T) = parted kept (take n T) (drop n T) 0 a.0 a.1.run
+          (subst (Reads a.0) (sym (take-append-drop n T)) a.1.reads) in
+          let there = stays parts.before (take n T) 0 parts.middle
+          (kind_of problem (r + 1) []) parts.path parts.reads_before is.first in
+          let whole : IsCandidate problem (take n T ++ drop n T) = subst (IsCandidate problem)
+          (sym (take-append-drop n T)) passed.passes.optimal.candidate in
+          let same : reached problem (r + 1) (kind_of problem (r + 1) []) (take n T)
+          ≡ k = of_kind (take n T) (drop n T) whole ∙ passed.passes.of_kind in
+          subst (Contains (map (λ (x : Place). x.1) all)) same
+          (contains_map (λ (x : Place). x.1) all
+          (parts.middle, reached problem (r + 1) (kind_of problem (r + 1) []) (take n T)) there),
     )
 
   -- the kinds of the next stage, in kind order
@@ -239,7 +286,10 @@ module _ (problem : Problem) (r : ℕ) (stage : IsStage problem r) (next : IsSta
       )
 
   -- more kinds than a budget, each of a prefix of what is kept
-  pub over_budget : (budget : ℕ) (kinds : List PrefixKind) → Differ kinds → ((k : PrefixKind) → Contains kinds k → (p : List (List Sym)) × ((q : List (List Sym)) × (Accepts kept (p ++ q) × (kind_of problem (r + 1) p ≡ k)))) → budget < length kinds
+  pub over_budget : (budget : ℕ) (kinds : List PrefixKind) → Differ kinds
+      → ((k : PrefixKind) → Contains kinds k
+      → (p : List (List Sym)) × ((q : List (List Sym)) × (Accepts kept (p ++ q) × (kind_of problem (r + 1) p ≡ k))))
+      → budget < length kinds
       → IsOver problem budget (r + 1)
   over_budget budget kinds differ each more =
       let all = next_kinds in

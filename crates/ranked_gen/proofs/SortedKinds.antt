@@ -17,7 +17,8 @@ one_or_other k l = go (kind_order k l) refl
     go : (o : Ordering) → kind_order k l ≡ o → (k ≡ l) ⊎ (k ≢ l)
     go Less e = inr (λ same. kind_not_below k (ap (kind_order k) same ∙ e))
     go Equal e = inl (same_kind k l e)
-    go Greater e = inr (λ same. kind_not_below l (ap (kind_order l) (sym same) ∙ kind_order_total.antisymm l k ∙ ap ordering_reverse e))
+    go Greater e = inr (λ same. kind_not_below l
+        (ap (kind_order l) (sym same) ∙ kind_order_total.antisymm l k ∙ ap ordering_reverse e))
 
 -- An ascending list with one kind more.
 pub record IsPut (k : PrefixKind) (ks more : List PrefixKind) : Type 0 where
@@ -27,23 +28,46 @@ pub record IsPut (k : PrefixKind) (ks more : List PrefixKind) : Type 0 where
 put : (k : PrefixKind) (ks : List PrefixKind) → Ascends kind_order ks → (more : List PrefixKind) × IsPut k ks more
 put k [] a = (
   k ∷ [],
-  record { ascends = (tt, tt); has = λ l. (λ c. contains_cases k [] l c, λ d. ⊎_elim (λ e. subst (Contains (k ∷ [])) e (contains_first k [])) (λ none. absurd (contains_none l none)) d) },
+  record {
+    ascends = (tt, tt);
+    has = λ l. (
+      λ c. contains_cases k [] l c,
+      λ d. ⊎_elim (λ e. subst (Contains (k ∷ [])) e (contains_first k []))
+          (λ none. absurd (contains_none l none)) d,
+    );
+  },
 )
 put k (x ∷ xs) a = go (kind_order k x) refl (put k xs a.1)
   where
-    go : (o : Ordering) → kind_order k x ≡ o → (more : List PrefixKind) × IsPut k xs more → (more : List PrefixKind) × IsPut k (x ∷ xs) more
+    go : (o : Ordering) → kind_order k x ≡ o → (more : List PrefixKind) × IsPut k xs more
+        → (more : List PrefixKind) × IsPut k (x ∷ xs) more
     go Less e rest = (
       k ∷ x ∷ xs,
       record {
-        ascends = ((e, all_from_members (λ l. kind_order k l ≡ Less) xs (λ l m. kind_order_total.trans k x l e (all_at_member (λ y. kind_order x y ≡ Less) xs l a.0 m))), a);
-        has = λ l. (λ c. contains_cases k (x ∷ xs) l c, λ d. ⊎_elim (λ s. subst (Contains (k ∷ x ∷ xs)) s (contains_first k (x ∷ xs))) (contains_later k (x ∷ xs) l) d);
+        ascends = (
+          (
+            e,
+            all_from_members (λ l. kind_order k l ≡ Less) xs
+                (λ l m. kind_order_total.trans k x l e (all_at_member (λ y. kind_order x y ≡ Less) xs l a.0 m)),
+          ),
+          a,
+        );
+        has = λ l. (
+          λ c. contains_cases k (x ∷ xs) l c,
+          λ d. ⊎_elim (λ s. subst (Contains (k ∷ x ∷ xs)) s (contains_first k (x ∷ xs)))
+              (contains_later k (x ∷ xs) l) d,
+        );
       },
     )
     go Equal e rest = (
       x ∷ xs,
       record {
         ascends = a;
-        has = λ l. (inr, λ d. ⊎_elim (λ s. subst (Contains (x ∷ xs)) (sym (same_kind k x e) ∙ s) (contains_first x xs)) (λ c. c) d);
+        has = λ l. (
+          inr,
+          λ d. ⊎_elim (λ s. subst (Contains (x ∷ xs)) (sym (same_kind k x e) ∙ s)
+              (contains_first x xs)) (λ c. c) d,
+        );
       },
     )
     go Greater e rest = (
@@ -72,7 +96,9 @@ put k (x ∷ xs) a = go (kind_order k x) refl (put k xs a.1)
       },
     )
 
-pub sorted_kinds : (ks : List PrefixKind) → (sorted : List PrefixKind) × (Ascends kind_order sorted × ((k : PrefixKind) → Contains sorted k ↔ Contains ks k))
+pub sorted_kinds : (ks : List PrefixKind)
+    → (sorted : List PrefixKind) × (Ascends kind_order sorted ×
+    ((k : PrefixKind) → Contains sorted k ↔ Contains ks k))
 sorted_kinds [] = ([], (tt, λ k. (λ c. c, λ c. c)))
 sorted_kinds (x ∷ xs) =
     let rest = sorted_kinds xs in
@@ -81,7 +107,8 @@ sorted_kinds (x ∷ xs) =
       (
         more.1.ascends,
         λ k. (
-          λ c. ⊎_elim (λ s. subst (Contains (x ∷ xs)) s (contains_first x xs)) (λ m. contains_later x xs k ((rest.1.1 k).0 m)) ((more.1.has k).0 c),
+          λ c. ⊎_elim (λ s. subst (Contains (x ∷ xs)) s (contains_first x xs))
+              (λ m. contains_later x xs k ((rest.1.1 k).0 m)) ((more.1.has k).0 c),
           λ c. (more.1.has k).1 (⊎_elim inl (λ m. inr ((rest.1.1 k).1 m)) (contains_cases x xs k c)),
         ),
       ),

@@ -31,7 +31,8 @@ use Rattle.ranked_gen.proofs.AllPassed.{all_passed}
 use Rattle.violation.specs.Problems.{Problem}
 
 -- the first columns of a candidate begin it
-pub begins : (problem : Problem) (T : List (List Sym)) (n : ℕ) → IsCandidate problem T → BeginsCandidate problem (take n T)
+pub begins : (problem : Problem) (T : List (List Sym)) (n : ℕ) → IsCandidate problem T
+    → BeginsCandidate problem (take n T)
 begins problem T n c = (drop n T, subst (IsCandidate problem) (sym (take-append-drop n T)) c)
 
 -- no kind comes before itself
@@ -39,46 +40,65 @@ pub kind_not_below : (k : PrefixKind) → kind_order k k ≡ Less → ⊥
 kind_not_below k l =
     let place : nat_cmp k.place k.place ≡ Equal = sym (nat_cmp_is k.place k.place Equal refl) in
     let same : kind_order k k ≡ Equal =
-    ap (λ o. ordering_then o (ordering_then (slice_cmp nat_cmp (map open_rank k.opened) (map open_rank k.opened)) (slice_cmp nat_cmp (map phase_rank k.phases) (map phase_rank k.phases)))) place
-    ∙ ap (λ o. ordering_then o (slice_cmp nat_cmp (map phase_rank k.phases) (map phase_rank k.phases))) (slice_same (map open_rank k.opened))
+    ap (λ o. ordering_then o (ordering_then (slice_cmp nat_cmp (map open_rank k.opened) (map open_rank k.opened))
+    (slice_cmp nat_cmp (map phase_rank k.phases) (map phase_rank k.phases)))) place
+    ∙ ap (λ o. ordering_then o (slice_cmp nat_cmp (map phase_rank k.phases) (map phase_rank k.phases)))
+    (slice_same (map open_rank k.opened))
     ∙ slice_same (map phase_rank k.phases) in
     false≢true (sym (ap is_lt same) ∙ ap is_lt l)
 
 -- kinds that ascend, of which each is told by its number, have numbers that differ
-numbers_differ : (f : ℕ) (ks : List PrefixKind) → Ascends kind_order ks → ((k : PrefixKind) → Contains ks k → kind_numbered f (number_of_kind f k) ≡ k) → IsDistinct eqb (map (number_of_kind f) ks)
+numbers_differ : (f : ℕ) (ks : List PrefixKind) → Ascends kind_order ks
+    → ((k : PrefixKind) → Contains ks k → kind_numbered f (number_of_kind f k) ≡ k)
+    → IsDistinct eqb (map (number_of_kind f) ks)
 unfolding IsDistinct
 numbers_differ f [] a h = tt
 numbers_differ f (k ∷ ks) a h = (
   all_from_members (λ n. eqb (number_of_kind f k) n ≡ false) (map (number_of_kind f) ks) (λ n m.
       let r = contains_of_map (number_of_kind f) ks n m in
       let other : number_of_kind f k ≢ n = λ e.
-      let same : k ≡ r.0 = sym (h k (contains_first k ks)) ∙ ap (kind_numbered f) (e ∙ sym r.1.1) ∙ h r.0 (contains_later k ks r.0 r.1.0) in
+      let same : k ≡ r.0 = sym (h k (contains_first k ks)) ∙ ap (kind_numbered f) (e ∙ sym r.1.1)
+      ∙ h r.0 (contains_later k ks r.0 r.1.0) in
       kind_not_below k (ap (kind_order k) same ∙ all_at_member (λ l. kind_order k l ≡ Less) ks r.0 a.0 r.1.0) in
       ne_eqb (number_of_kind f k) n other),
   numbers_differ f ks a.1 (λ l m. h l (contains_later k ks l m)),
 )
 
-module _ (problem : Problem) (split : AreSplit problem.tiers) (distinct : AreDistinct problem.tiers.free) (form : IsForm problem.tiers problem.form) where
+module _ (problem : Problem) (split : AreSplit problem.tiers) (distinct : AreDistinct problem.tiers.free)
+    (form : IsForm problem.tiers problem.form) where
   -- each number is that of a kind that is passed
-  pub passed_number : (i : ℕ) → i < kind_count problem → IsPassed problem 0 0 (kind_numbered (length problem.tiers.free) i)
+  pub passed_number : (i : ℕ) → i < kind_count problem
+      → IsPassed problem 0 0 (kind_numbered (length problem.tiers.free) i)
   passed_number i l = let w = numbered_within problem i l in
-      all_passed problem split distinct form.well_formed form.reduced (kind_numbered (length problem.tiers.free) i).place (kind_numbered (length problem.tiers.free) i).opened w.place w.flags
+      all_passed problem split distinct form.well_formed form.reduced
+      (kind_numbered (length problem.tiers.free) i).place
+      (kind_numbered (length problem.tiers.free) i).opened w.place w.flags
 
   passes_within : (k : PrefixKind) → IsPassed problem 0 0 k → IsWithin problem k
-  passes_within k p = subst (IsWithin problem) p.passes.of_kind (kind_within problem split form (take p.columns p.candidate) (begins problem p.candidate p.columns p.passes.optimal.candidate))
+  passes_within k p = subst (IsWithin problem) p.passes.of_kind
+      (kind_within problem split form (take p.columns p.candidate)
+      (begins problem p.candidate p.columns p.passes.optimal.candidate))
 
   -- the kinds of all numbers are those of stage 0
-  pub numbered_kinds : AreKindsOfStage problem 0 (map (kind_numbered (length problem.tiers.free)) (range_with_len 0 (kind_count problem)))
+  pub numbered_kinds : AreKindsOfStage problem 0
+      (map (kind_numbered (length problem.tiers.free)) (range_with_len 0 (kind_count problem)))
   numbered_kinds = record {
-    ascending = sorted_from kind_order _ (ascends_map kind_order nat_cmp (kind_numbered (length problem.tiers.free)) (range_with_len 0 (kind_count problem)) (λ i j l. kinds_less (length problem.tiers.free) i j (nat_less i j l)) (ascends_range 0 (kind_count problem)));
+    ascending = sorted_from kind_order _
+        (ascends_map kind_order nat_cmp (kind_numbered (length problem.tiers.free))
+        (range_with_len 0 (kind_count problem)) (λ i j l. kinds_less (length problem.tiers.free) i j (nat_less i j l))
+        (ascends_range 0 (kind_count problem)));
     members = λ k. (
-      λ c. let r = contains_of_map (kind_numbered (length problem.tiers.free)) (range_with_len 0 (kind_count problem)) k c in
+      λ c. let r = contains_of_map (kind_numbered (length problem.tiers.free))
+          (range_with_len 0 (kind_count problem)) k c in
           let b = in_range 0 (kind_count problem) r.0 r.1.0 in
           subst (IsPassed problem 0 0) r.1.1 (passed_number r.0 (omega (arith, b.1))),
       λ p. let w = passes_within k p in
           let n = number_of_kind (length problem.tiers.free) k in
-          subst (λ q. Contains (map (kind_numbered (length problem.tiers.free)) (range_with_len 0 (kind_count problem))) q) (kind_numbered-number (length problem.tiers.free) k w.flags w.phases)
-          (contains_map (kind_numbered (length problem.tiers.free)) (range_with_len 0 (kind_count problem)) n (range_has 0 (kind_count problem) n (omega arith) (omega (arith, number_within problem k w)))),
+          subst (λ q. Contains (map (kind_numbered (length problem.tiers.free))
+          (range_with_len 0 (kind_count problem))) q)
+          (kind_numbered-number (length problem.tiers.free) k w.flags w.phases)
+          (contains_map (kind_numbered (length problem.tiers.free)) (range_with_len 0 (kind_count problem)) n
+          (range_has 0 (kind_count problem) n (omega arith) (omega (arith, number_within problem k w)))),
     );
   }
 
@@ -87,9 +107,13 @@ module _ (problem : Problem) (split : AreSplit problem.tiers) (distinct : AreDis
   kinds_few ks a =
       let f = length problem.tiers.free in
       let within : (k : PrefixKind) → Contains ks k → IsWithin problem k = λ k c. passes_within k ((a.members k).0 c) in
-      let differ : IsDistinct eqb (map (number_of_kind f) ks) = numbers_differ f ks (ascends_from kind_order ks a.ascending) (λ k c. kind_numbered-number f k (within k c).flags (within k c).phases) in
-      let few : length (map (number_of_kind f) ks) ≤ kind_count problem = length-le_from_distinct_below (map (number_of_kind f) ks) (kind_count problem) differ
-      (λ q e. let r = contains_of_map (number_of_kind f) ks q (Contains-from_any (λ x y h. eqb-true x y h) q (map (number_of_kind f) ks) e) in
+      let differ : IsDistinct eqb (map (number_of_kind f) ks) = numbers_differ f ks
+      (ascends_from kind_order ks a.ascending)
+      (λ k c. kind_numbered-number f k (within k c).flags (within k c).phases) in
+      let few : length (map (number_of_kind f) ks) ≤ kind_count problem = length-le_from_distinct_below
+      (map (number_of_kind f) ks) (kind_count problem) differ
+      (λ q e. let r = contains_of_map (number_of_kind f) ks q
+      (Contains-from_any (λ x y h. eqb-true x y h) q (map (number_of_kind f) ks) e) in
       subst (λ n. n < kind_count problem) r.1.1 (number_within problem r.0 (within r.0 r.1.0))) in
       omega (arith, few, length-map ks (number_of_kind f))
 
@@ -102,13 +126,18 @@ module _ (problem : Problem) (split : AreSplit problem.tiers) (distinct : AreDis
         over = record {
           kinds = map (kind_numbered f) (range_with_len 0 (kind_count problem));
           are = numbered_kinds;
-          more = omega (arith, length-map (range_with_len 0 (kind_count problem)) (kind_numbered f), length-range_with_len 0 (kind_count problem));
+          more = omega (
+            arith,
+            length-map (range_with_len 0 (kind_count problem)) (kind_numbered f),
+            length-range_with_len 0 (kind_count problem),
+          );
         };
         before = λ s h. absurd (omega arith);
       }
 
 -- a count of kinds by its places and its free tiers
-pub counted_kinds : (n places free columns tiers : ℕ) → n ≡ places * 2 ^ free → places ≡ columns + 1 → free ≡ tiers → n ≡ (columns + 1) * 2 ^ tiers
+pub counted_kinds : (n places free columns tiers : ℕ) → n ≡ places * 2 ^ free → places ≡ columns + 1 → free ≡ tiers
+    → n ≡ (columns + 1) * 2 ^ tiers
 counted_kinds n places free columns tiers e p f = e ∙ ap (λ m. m * 2 ^ free) p ∙ ap (λ m. (columns + 1) * 2 ^ m) f
 
 -- what needs no value holds of the value in a result

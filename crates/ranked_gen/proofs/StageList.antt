@@ -17,45 +17,58 @@ use Rattle.ranked_gen.specs.Budgets.{IsWithin, IsOver, IsFirstOver, AreAllWithin
 use Rattle.ranked_gen.specs.Left.{AreStages}
 use Rattle.violation.specs.Problems.{last_stage, Problem}
 
-nodes_kept : (stages : List Stage) (stage : Stage) (s : ℕ) → s < length stages → nodes_at (stages ++ stage ∷ []) s ≡ nodes_at stages s
+nodes_kept : (stages : List Stage) (stage : Stage) (s : ℕ) → s < length stages
+    → nodes_at (stages ++ stage ∷ []) s ≡ nodes_at stages s
 nodes_kept stages stage s l =
     ap (λ ns. get_or ns s []) (map-append (λ (stage : Stage). stage.nodes.items) stages (stage ∷ []))
-    ∙ get_or_append_left (map (λ (stage : Stage). stage.nodes.items) stages) (stage.nodes.items ∷ []) [] s (omega (arith, length-map stages (λ (stage : Stage). stage.nodes.items)))
+    ∙ get_or_append_left (map (λ (stage : Stage). stage.nodes.items) stages) (stage.nodes.items ∷ []) [] s
+    (omega (arith, length-map stages (λ (stage : Stage). stage.nodes.items)))
 
-pub nodes_last : (stages : List Stage) (stage : Stage) (s : ℕ) → s ≡ length stages → nodes_at (stages ++ stage ∷ []) s ≡ stage.nodes.items
+pub nodes_last : (stages : List Stage) (stage : Stage) (s : ℕ) → s ≡ length stages
+    → nodes_at (stages ++ stage ∷ []) s ≡ stage.nodes.items
 nodes_last stages stage s e =
     ap (λ ns. get_or ns s []) (map-append (λ (stage : Stage). stage.nodes.items) stages (stage ∷ []))
-    ∙ ap (λ n. get_or (map (λ (stage : Stage). stage.nodes.items) stages ++ stage.nodes.items ∷ []) n []) (e ∙ sym (length-map stages (λ (stage : Stage). stage.nodes.items)))
+    ∙ ap (λ n. get_or (map (λ (stage : Stage). stage.nodes.items) stages ++ stage.nodes.items ∷ []) n [])
+    (e ∙ sym (length-map stages (λ (stage : Stage). stage.nodes.items)))
     ∙ get_or-append_seam (map (λ (stage : Stage). stage.nodes.items) stages) stage.nodes.items [] []
 
 module _ (problem : Problem) (budget : ℕ) where
-  pub first_stages : (stage : Stage) → IsRightStage problem 0 stage.nodes.items → IsWithin problem budget 0 → AreStages problem budget 0 (stage ∷ []) []
+  pub first_stages : (stage : Stage) → IsRightStage problem 0 stage.nodes.items → IsWithin problem budget 0
+      → AreStages problem budget 0 (stage ∷ []) []
   first_stages stage right within = record {
     stage_count = refl;
-    each_stage = λ s l. let first : 0 ≡ s = omega arith in subst (λ i. IsRightStage problem i (nodes_at (stage ∷ []) i)) first right;
+    each_stage = λ s l. let first : 0 ≡ s = omega arith in subst
+        (λ i. IsRightStage problem i (nodes_at (stage ∷ []) i)) first right;
     numbers = λ T o. refl;
     within = λ s l. let first : 0 ≡ s = omega arith in subst (IsWithin problem budget) first within;
   }
 
   module _ (r : ℕ) (stages : List Stage) (counts : List ℕ) (so_far : AreStages problem budget r stages counts) where
-    pub next_stages : (stage : Stage) (count next : ℕ) → next ≡ r + 1 → r < last_stage problem → IsRightStage problem next stage.nodes.items
-        → ((T : List (List Sym)) → IsOptimalFor problem next T → count_at problem next T ≡ count) → IsWithin problem budget next
+    pub next_stages : (stage : Stage) (count next : ℕ) → next ≡ r + 1 → r < last_stage problem
+        → IsRightStage problem next stage.nodes.items
+        → ((T : List (List Sym)) → IsOptimalFor problem next T → count_at problem next T ≡ count)
+        → IsWithin problem budget next
         → AreStages problem budget next (stages ++ stage ∷ []) (counts ++ count ∷ [])
     next_stages stage count next is inside right counted within = record {
       stage_count = omega (arith, length-append stages (stage ∷ []), so_far.stage_count);
       each_stage = λ s l. ⊎_elim
-          (λ less. subst (IsRightStage problem s) (sym (nodes_kept stages stage s (omega (arith, less, so_far.stage_count)))) (so_far.each_stage s (omega (arith, less))))
+          (λ less. subst (IsRightStage problem s)
+          (sym (nodes_kept stages stage s (omega (arith, less, so_far.stage_count))))
+          (so_far.each_stage s (omega (arith, less))))
           (λ last. let same : next ≡ s = omega (arith, last) in
           subst (λ i. IsRightStage problem i (nodes_at (stages ++ stage ∷ []) i)) same
-          (subst (IsRightStage problem next) (sym (nodes_last stages stage next (omega (arith, so_far.stage_count)))) right))
+          (subst (IsRightStage problem next)
+          (sym (nodes_last stages stage next (omega (arith, so_far.stage_count)))) right))
           (cases_lt s (r + 1));
       numbers = λ T o.
           let fewer = optimal_for_fewer problem r next (omega arith) T o in
-          let long : r < length (counts_on problem T) = omega (arith, length-map problem.constraints (λ c. violations_of c T)) in
+          let long : r < length (counts_on problem T) = omega
+          (arith, length-map problem.constraints (λ c. violations_of c T)) in
           let place : next - 1 ≡ r = omega arith in
           ap (λ n. take n (counts_on problem T)) is
           ∙ take_more (counts_on problem T) r 0 long
-          ∙ ap₂ (λ xs x. xs ++ x ∷ []) (so_far.numbers T fewer) (ap (λ i. get_or (counts_on problem T) i 0) (sym place) ∙ counted T o);
+          ∙ ap₂ (λ xs x. xs ++ x ∷ []) (so_far.numbers T fewer)
+          (ap (λ i. get_or (counts_on problem T) i 0) (sym place) ∙ counted T o);
       within = λ s l. ⊎_elim
           (λ less. so_far.within s (omega (arith, less)))
           (λ last. let same : next ≡ s = omega (arith, last) in subst (IsWithin problem budget) same within)
@@ -63,7 +76,8 @@ module _ (problem : Problem) (budget : ℕ) where
     }
 
     -- a stage that is over the budget is the first
-    pub first_over : (next : ℕ) → next ≡ r + 1 → r < last_stage problem → IsOver problem budget next → IsFirstOver problem budget next
+    pub first_over : (next : ℕ) → next ≡ r + 1 → r < last_stage problem → IsOver problem budget next
+        → IsFirstOver problem budget next
     first_over next is inside over = record {
       stage = omega arith;
       over = over;
@@ -76,12 +90,14 @@ module _ (problem : Problem) (budget : ℕ) where
 
       whole : (T : List (List Sym)) → IsOptimal problem T → counts_on problem T ≡ counts
       whole T o =
-          let long : r ≡ length (counts_on problem T) = all ∙ sym (length-map problem.constraints (λ c. violations_of c T)) in
+          let long : r ≡ length (counts_on problem T) = all
+          ∙ sym (length-map problem.constraints (λ c. violations_of c T)) in
           sym (ap (λ n. take n (counts_on problem T)) long ∙ take-length (counts_on problem T))
           ∙ so_far.numbers T (subst (λ n. IsOptimalFor problem n T) (sym all) o)
 
       -- the answer with these stages is right
-      pub right_answer : (answer : Answer) → answer.form ≡ problem.form → answer.counts.items ≡ counts → IsFirst (IsOptimal problem) answer.example → answer.stages.items ≡ stages
+      pub right_answer : (answer : Answer) → answer.form ≡ problem.form → answer.counts.items ≡ counts
+          → IsFirst (IsOptimal problem) answer.example → answer.stages.items ≡ stages
           → IsRightAutomaton problem (nodes_at stages r) answer.automaton.states.items → IsRight problem answer
       right_answer answer form same first lists automaton = record {
         form = form;
@@ -91,8 +107,10 @@ module _ (problem : Problem) (budget : ℕ) where
         };
         example = first;
         stage_count = ap length lists ∙ so_far.stage_count ∙ ap (λ n. n + 1) all;
-        each_stage = λ s l. subst (λ ss. IsRightStage problem s (nodes_at ss s)) (sym lists) (so_far.each_stage s (omega arith));
+        each_stage = λ s l. subst (λ ss. IsRightStage problem s (nodes_at ss s)) (sym lists)
+            (so_far.each_stage s (omega arith));
         automaton =
-            subst (λ ss. IsRightAutomaton problem (nodes_at ss (last_stage problem)) answer.automaton.states.items) (sym lists)
+            subst (λ ss. IsRightAutomaton problem (nodes_at ss (last_stage problem)) answer.automaton.states.items)
+            (sym lists)
             (subst (λ n. IsRightAutomaton problem (nodes_at stages n) answer.automaton.states.items) all automaton);
       }

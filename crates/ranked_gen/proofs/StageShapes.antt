@@ -18,9 +18,11 @@ use Rattle.kind_orders.specs.KindOrders.{AreFound}
 use Rattle.violation.specs.Problems.{last_stage}
 use Rattle.kind_moves.specs.Frames.{problem_in}
 
-module _ (frame : Frame) (shape : Shape) (of : IsShapeOf frame.grammar.now shape) (stage : ℕ) (within : stage ≤ last_stage (problem_in frame)) where
+module _ (frame : Frame) (shape : Shape) (of : IsShapeOf frame.grammar.now shape) (stage : ℕ)
+    (within : stage ≤ last_stage (problem_in frame)) where
   pub free_same : free_count shape ≡ length (tiers_in frame).free
-  free_same = ap (λ n. n - input_count shape.inputs) of.width ∙ free_tiers frame.grammar.now.tiers.kinds.items shape.inputs of.inputs
+  free_same = ap (λ n. n - input_count shape.inputs) of.width
+      ∙ free_tiers frame.grammar.now.tiers.kinds.items shape.inputs of.inputs
 
   pub stage_in : stage < length shape.phases.items
   stage_in = omega (arith, ap length of.phases, length-stretch_counts (constraints_in frame))
@@ -28,13 +30,16 @@ module _ (frame : Frame) (shape : Shape) (of : IsShapeOf frame.grammar.now shape
   pub stretch_same : stretch_count shape stage ≡ length (stretches (problem_in frame) stage)
   stretch_same =
       ap (λ ns. get_or ns stage 0) of.phases
-      ∙ get_or-map-range_with_len (λ i. length (filter is_stretch (take i (constraints_in frame)))) 0 (last_stage (problem_in frame) + 1) stage stage 0 (omega arith) (omega arith)
+      ∙ get_or-map-range_with_len (λ i. length (filter is_stretch (take i (constraints_in frame)))) 0
+      (last_stage (problem_in frame) + 1) stage stage 0 (omega arith) (omega arith)
 
   pub tell_same : (k : Kind) → kind_in shape stage k ≡ kind_at_stage frame stage k
-  tell_same k = ap (λ n. prefix_kind n (stretch_count shape stage) k) free_same ∙ ap (λ n. prefix_kind (length (tiers_in frame).free) n k) stretch_same
+  tell_same k = ap (λ n. prefix_kind n (stretch_count shape stage) k) free_same
+      ∙ ap (λ n. prefix_kind (length (tiers_in frame).free) n k) stretch_same
 
   -- kinds that differ and fit the frame are found
-  pub kinds_found : (kinds : List Kind) → All (FitsFrame frame stage) kinds → AllPairs (λ a b. a ≢ b) (map (kind_at_stage frame stage) kinds) → AreFound shape stage kinds
+  pub kinds_found : (kinds : List Kind) → All (FitsFrame frame stage) kinds
+      → AllPairs (λ a b. a ≢ b) (map (kind_at_stage frame stage) kinds) → AreFound shape stage kinds
   kinds_found kinds fit differ = record {
     fit = λ i d l. let f = fit i d l in record {
       within = stage_in;
@@ -42,6 +47,8 @@ module _ (frame : Frame) (shape : Shape) (of : IsShapeOf frame.grammar.now shape
       stretches = subst (λ n. AreStretchesBelow n (get_or kinds i d)) (sym stretch_same) f.stretches;
     };
     differ = λ i j d less inside e.
-        differ i j (kind_at_stage frame stage d) less (omega (arith, inside, length-map kinds (kind_at_stage frame stage)))
-        (get_or-map (kind_at_stage frame stage) kinds i d _ (omega arith) ∙ sym (tell_same (get_or kinds i d)) ∙ e ∙ tell_same (get_or kinds j d) ∙ sym (get_or-map (kind_at_stage frame stage) kinds j d _ inside));
+        differ i j (kind_at_stage frame stage d) less
+        (omega (arith, inside, length-map kinds (kind_at_stage frame stage)))
+        (get_or-map (kind_at_stage frame stage) kinds i d _ (omega arith) ∙ sym (tell_same (get_or kinds i d)) ∙ e
+        ∙ tell_same (get_or kinds j d) ∙ sym (get_or-map (kind_at_stage frame stage) kinds j d _ inside));
   }

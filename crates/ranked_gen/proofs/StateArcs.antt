@@ -27,11 +27,15 @@ use Rattle.violation.specs.Problems.{Problem}
 pub record IsMoveView (problem : Problem) (i : ℕ) (view : ℕ × List ℕ) : Type 0 where
   pub column : List Sym
   pub sets : view.1 ≡ map single_set column
-  pub to : view.0 ≡ number_of_kind (length problem.tiers.free) (moved problem 0 (kind_numbered (length problem.tiers.free) i) column)
+  pub to : view.0 ≡ number_of_kind (length problem.tiers.free)
+      (moved problem 0 (kind_numbered (length problem.tiers.free) i) column)
   pub fits_kind : FitsKind problem (kind_numbered (length problem.tiers.free) i) column
 
-module _ (problem : Problem) (split : AreSplit problem.tiers) (distinct : AreDistinct problem.tiers.free) (form : IsForm problem.tiers problem.form) where
-  pub view_single : (i : ℕ) (view : ℕ × List ℕ) → Contains (map move_view (moves_from problem (kind_numbered (length problem.tiers.free) i))) view → IsMoveView problem i view
+module _ (problem : Problem) (split : AreSplit problem.tiers) (distinct : AreDistinct problem.tiers.free)
+    (form : IsForm problem.tiers problem.form) where
+  pub view_single : (i : ℕ) (view : ℕ × List ℕ)
+      → Contains (map move_view (moves_from problem (kind_numbered (length problem.tiers.free) i))) view
+      → IsMoveView problem i view
   view_single i view c =
       let k = kind_numbered (length problem.tiers.free) i in
       let m = contains_of_map move_view (moves_from problem k) view c in
@@ -43,26 +47,38 @@ module _ (problem : Problem) (split : AreSplit problem.tiers) (distinct : AreDis
         fits_kind = move.0;
       }
 
-  pub view_target : (i : ℕ) (view : ℕ × List ℕ) → i < kind_count problem → IsMoveView problem i view → view.0 < kind_count problem
+  pub view_target : (i : ℕ) (view : ℕ × List ℕ) → i < kind_count problem → IsMoveView problem i view
+      → view.0 < kind_count problem
   view_target i view l m =
       let k = kind_numbered (length problem.tiers.free) i in
       let w = moved_within problem split k m.column m.fits_kind (numbered_within problem i l).place in
       subst (λ n. n < kind_count problem) (sym m.to) (number_within problem (moved problem 0 k m.column) w)
 
-  pub right_arcs : (i : ℕ) (arcs : List ArcLine) → i < kind_count problem → map arc_view arcs ≡ map move_view (moves_from problem (kind_numbered (length problem.tiers.free) i))
+  pub right_arcs : (i : ℕ) (arcs : List ArcLine) → i < kind_count problem
+      → map arc_view arcs ≡ map move_view (moves_from problem (kind_numbered (length problem.tiers.free) i))
       → AreRightArcs problem.tiers.width (range_with_len 0 (kind_count problem)) arcs
   right_arcs i arcs l e =
       let k = kind_numbered (length problem.tiers.free) i in
-      let ascends : Ascends arc_cmp arcs = arcs_ascend arcs (moves_from problem k) e (moves_ascend problem split distinct form k) in
+      let ascends : Ascends arc_cmp arcs = arcs_ascend arcs (moves_from problem k) e
+      (moves_ascend problem split distinct form k) in
       let view : (arc : ArcLine) → Contains arcs arc → IsMoveView problem i (arc_view arc) =
-      λ arc c. view_single i (arc_view arc) (subst (λ vs. Contains vs (arc_view arc)) e (contains_map arc_view arcs arc c)) in
-      let single : (arc : ArcLine) → Contains arcs arc → IsSingleArc (λ column. number_of_kind (length problem.tiers.free) (moved problem 0 k column)) arc =
+      λ arc c. view_single i (arc_view arc)
+      (subst (λ vs. Contains vs (arc_view arc)) e (contains_map arc_view arcs arc c)) in
+      let single : (arc : ArcLine) → Contains arcs arc
+      → IsSingleArc (λ column. number_of_kind (length problem.tiers.free) (moved problem 0 k column)) arc =
       λ arc c. let m = view arc c in record { column = m.column; to = m.to; sets = m.sets } in
       record {
-        apart = arcs_apart (λ column. number_of_kind (length problem.tiers.free) (moved problem 0 k column)) arcs single ascends;
-        filled = All-from_recursion _ arcs (all_from_members (λ arc. (column : List Sym) × IsTrue (has arc.class column)) arcs (λ arc c. ((single arc c).column, single_holds _ arc (single arc c))));
-        one_width = All-from_recursion _ arcs (all_from_members (λ arc. length (sets_of arc.class) ≡ problem.tiers.width) arcs (λ arc c. let m = view arc c in ap length m.sets ∙ length-map m.column single_set ∙ m.fits_kind.width));
-        targets = All-from_recursion _ arcs (all_from_members (λ arc. Contains (range_with_len 0 (kind_count problem)) arc.target) arcs (λ arc c.
-            range_has 0 (kind_count problem) arc.target (omega arith) (omega (arith, view_target i (arc_view arc) l (view arc c)))));
+        apart = arcs_apart (λ column. number_of_kind (length problem.tiers.free)
+            (moved problem 0 k column)) arcs single ascends;
+        filled = All-from_recursion _ arcs
+            (all_from_members (λ arc. (column : List Sym) × IsTrue (has arc.class column)) arcs
+            (λ arc c. ((single arc c).column, single_holds _ arc (single arc c))));
+        one_width = All-from_recursion _ arcs
+            (all_from_members (λ arc. length (sets_of arc.class) ≡ problem.tiers.width) arcs
+            (λ arc c. let m = view arc c in ap length m.sets ∙ length-map m.column single_set ∙ m.fits_kind.width));
+        targets = All-from_recursion _ arcs
+            (all_from_members (λ arc. Contains (range_with_len 0 (kind_count problem)) arc.target) arcs (λ arc c.
+            range_has 0 (kind_count problem) arc.target (omega arith)
+            (omega (arith, view_target i (arc_view arc) l (view arc c)))));
         in_order = sorted_from arc_cmp arcs ascends;
       }

@@ -53,149 +53,98 @@ use Rattle.stage_tables.specs.Kept.{IsOfOneColumn, IsKept}
 use Rattle.stage_tables.specs.Explored.{names_at}
 use Rattle.stage_tables.proofs.Named.{frame_stage}
 use Rattle.ranked_gen.specs.Left.{weight_number, TellsKind, AreOrdered, IsStaged}
-use Rattle.ranked_gen.proofs.Ascending.{Ascends, ascends_from}
-use Rattle.ranked_gen.proofs.FirstKind.{none_before}
+use Rattle.ranked_gen.proofs.OrderedNames.{count_kinds, name_is, first_number, kept_by_names, ordered, tells}
 use Rattle.ranked_gen.proofs.StageShapes.{tell_same, free_same, stretch_same}
 use Rattle.violation.specs.Problems.{last_stage}
 use Rattle.kind_moves.specs.Frames.{problem_in}
 
-all_read : {X : Type 0} (R : X → Type 0) (xs : List X) (d : X) (i : ℕ) → AllByRecursion R xs → i < length xs → R (get_or xs i d)
-all_read R [] d i h l = absurd (omega arith)
-all_read R (x ∷ xs) d zero h l = h.0
-all_read R (x ∷ xs) d (suc i) h l = all_read R xs d i h.1 (omega arith)
-
--- the first of an ascending list comes before a later one
-first_less : {X : Type 0} (c : X → X → Ordering) (xs : List X) (d : X) (i : ℕ) → Ascends c xs → 0 < i → i < length xs → c (get_or xs 0 d) (get_or xs i d) ≡ Less
-first_less c [] d i a some l = absurd (omega arith)
-first_less c (x ∷ xs) d zero a some l = absurd (omega arith)
-first_less c (x ∷ xs) d (suc i) a some l = all_read (λ y. c x y ≡ Less) xs d i a.0 (omega arith)
-
-module _ (frame : Frame) (stage : ℕ) (ranked : 1 ≤ stage) (within : stage ≤ last_stage (problem_in frame)) (kinds : List Kind) {g : Ghosts Count} (meaning : g.meaning ≡ count_meaning) (states : List (TableState Count g))
+module _ (frame : Frame) (stage : ℕ) (ranked : 1 ≤ stage) (within : stage ≤ last_stage (problem_in frame))
+    (kinds : List Kind) {g : Ghosts Count} (meaning : g.meaning ≡ count_meaning) (states : List (TableState Count g))
     (table : IsStageTable (problem_in frame) stage (names_at frame stage kinds) states)
     (least : List (Option Count)) (are : AreLeast states least) where
   here : IsStage (problem_in frame) stage
   here = frame_stage frame stage within
 
-  pub count_kinds : length kinds ≡ length states
-  count_kinds = sym (length-map kinds (kind_at_stage frame stage)) ∙ table.named.each_named
-
-  name_is : (number : ℕ) (d : Kind) → number < length kinds → name_of (names_at frame stage kinds) number ≡ kind_at_stage frame stage (get_or kinds number d)
-  name_is number d l = get_or-map (kind_at_stage frame stage) kinds number d _ l
+  many : length kinds ≡ length states
+  many = count_kinds frame stage within kinds states table.named
 
   weight_at : (s : ℕ) → s < length states → (w : Count) × (get_or least s None ≡ Some w)
   weight_at s l = some_of (get_or least s None) (some_weight states least are s l (table.on_runs s l))
 
-  remains : (number : ℕ) → number < length kinds → IsRemaining (problem_in frame) stage (kind_at_stage frame stage (kind_numbered kinds number)) (get_or (map weight_number least) number 0)
+  remains : (number : ℕ) → number < length kinds
+      → IsRemaining (problem_in frame) stage (kind_at_stage frame stage (kind_numbered kinds number))
+      (get_or (map weight_number least) number 0)
   remains number l =
-      let inside : number < length states = omega (arith, count_kinds) in
+      let inside : number < length states = omega (arith, many) in
       let w = weight_at number inside in
-      let law = remaining_law (problem_in frame) stage here meaning (names_at frame stage kinds) states table number w.0 (least_from states least are number w.0 w.1) in
-      let value : get_or (map weight_number least) number 0 ≡ w.0.0 = get_or-map weight_number least number None 0 (omega (arith, are.each_state)) ∙ ap weight_number w.1 in
-      subst (λ n. IsRemaining (problem_in frame) stage (kind_at_stage frame stage (kind_numbered kinds number)) n) (sym value)
-      (subst (λ k. IsRemaining (problem_in frame) stage k w.0.0) (name_is number empty_kind l) law)
+      let law = remaining_law (problem_in frame) stage here meaning
+      (names_at frame stage kinds) states table number w.0 (least_from states least are number w.0 w.1) in
+      let value : get_or (map weight_number least) number 0
+      ≡ w.0.0 = get_or-map weight_number least number None 0 (omega (arith, are.each_state))
+      ∙ ap weight_number w.1 in
+      subst (λ n. IsRemaining (problem_in frame) stage (kind_at_stage frame stage (kind_numbered kinds number)) n)
+      (sym value)
+      (subst (λ k. IsRemaining (problem_in frame) stage k w.0.0)
+      (name_is frame stage within kinds states table.named number empty_kind l) law)
 
-  pub counted : (T : List (List Sym)) → IsOptimalFor (problem_in frame) stage T → count_at (problem_in frame) stage T ≡ get_or (map weight_number least) 0 0
+  pub counted : (T : List (List Sym)) → IsOptimalFor (problem_in frame) stage T
+      → count_at (problem_in frame) stage T ≡ get_or (map weight_number least) 0 0
   counted T o =
       let some = table.named.some in
       let w = weight_at 0 some in
-      let law = number_law (problem_in frame) stage here meaning (names_at frame stage kinds) states table ranked w.0 (least_from states least are 0 w.0 w.1) T o in
+      let law = number_law (problem_in frame) stage here meaning (names_at frame stage kinds) states table ranked w.0
+      (least_from states least are 0 w.0 w.1) T o in
       law ∙ sym (get_or-map weight_number least 0 None 0 (omega (arith, are.each_state)) ∙ ap weight_number w.1)
 
-  module _ (shape : Shape) (of : IsShapeOf frame.grammar.now shape) (order : List ℕ) (sorted : IsKindOrder shape stage kinds order)
+  module _ (shape : Shape) (of : IsShapeOf frame.grammar.now shape) (order : List ℕ)
+      (sorted : IsKindOrder shape stage kinds order)
       (nodes : List Node) (listed : AreNodesInOrder kinds (map weight_number least) order nodes) where
     kinds_seen : kinds_at (problem_in frame) stage nodes ≡ map (told shape stage kinds) order
     kinds_seen =
-        sym (ap (λ n. map (λ (node : Node). prefix_kind n (stretch_count shape stage) node.kind) nodes) (free_same frame shape of stage within)
-        ∙ ap (λ n. map (λ (node : Node). prefix_kind (length (tiers_in frame).free) n node.kind) nodes) (stretch_same frame shape of stage within))
+        sym (ap (λ n. map (λ (node : Node). prefix_kind n (stretch_count shape stage) node.kind) nodes)
+        (free_same frame shape of stage within)
+        ∙ ap (λ n. map (λ (node : Node). prefix_kind (length (tiers_in frame).free) n node.kind) nodes)
+        (stretch_same frame shape of stage within))
         ∙ listed.in_order (kind_in shape stage)
-
-    order_count : length order ≡ length kinds
-    order_count = sorted.numbers.count
 
     right_stage : IsRightStage (problem_in frame) stage nodes
     right_stage = record {
       kinds = record {
         ascending = subst (IsStrictlySortedBy kind_order) (sym kinds_seen) sorted.ascending;
         members = λ k.
-            let names = names_law (problem_in frame) stage here (names_at frame stage kinds) states table.named (stage - 1) table.accepts table.on_runs k in
+            let names = names_law (problem_in frame) stage here (names_at frame stage kinds) states table.named
+            (stage - 1) table.accepts table.on_runs k in
             let same = listed.same (kind_at_stage frame stage) k in
             (λ c. names.0 (same.0 c), λ p. same.1 (names.1 p));
       };
-      potentials = subst (All (λ (node : Node). IsRemaining (problem_in frame) stage (kind_at_stage frame stage node.kind) node.potential)) (sym listed.each)
+      potentials = subst (All (λ (node : Node). IsRemaining (problem_in frame) stage
+          (kind_at_stage frame stage node.kind) node.potential)) (sym listed.each)
           (λ i d l.
-          let inside : i < length order = omega (arith, l, length-map order (node_numbered kinds (map weight_number least))) in
+          let inside : i < length order = omega
+          (arith, l, length-map order (node_numbered kinds (map weight_number least))) in
           let number = get_or order i 0 in
-          subst (λ (node : Node). IsRemaining (problem_in frame) stage (kind_at_stage frame stage node.kind) node.potential)
+          subst (λ (node : Node). IsRemaining (problem_in frame) stage
+          (kind_at_stage frame stage node.kind) node.potential)
           (sym (get_or-map (node_numbered kinds (map weight_number least)) order i 0 d inside))
           (remains number (sorted.numbers.below i 0 inside)));
     }
 
-    first_number : get_or order 0 0 ≡ 0
-    first_number =
-        let some : 0 < length kinds = omega (arith, count_kinds, table.named.some) in
-        let c = sorted.numbers.every 0 some in
-        let there : get_or order c.0 0 ≡ 0 = get_or_default order c.0 0 0 c.1 ∙ c.2 in
-        ⊎_elim (λ same. ap (λ i. get_or order i 0) (sym same) ∙ there)
-        (λ other. ⊎_elim (λ none. absurd (omega (arith, none))) (λ more. absurd (not_later c.0 more c.1 there)) other)
-        (cases_order c.0 0)
-      where
-        not_later : (place : ℕ) → 0 < place → place < length order → get_or order place 0 ≡ 0 → ⊥
-        not_later place some l there =
-            let tell = told shape stage kinds in
-            let d = tell 0 in
-            let less = first_less kind_order (map tell order) d place (ascends_from kind_order (map tell order) sorted.ascending) some (omega (arith, l, length-map order tell)) in
-            let one : 0 < length order = omega arith in
-            let first : get_or (map tell order) 0 d ≡ tell (get_or order 0 0) = get_or-map tell order 0 0 d one in
-            let start : get_or (map tell order) place d ≡ kind_of (problem_in frame) stage [] =
-            get_or-map tell order place 0 d l ∙ ap tell there ∙ tell_same frame shape of stage within (kind_numbered kinds 0)
-            ∙ sym (name_is 0 empty_kind (omega (arith, count_kinds, table.named.some))) ∙ table.named.start in
-            let k = tell (get_or order 0 0) in
-            none_before (problem_in frame) stage k (over_stretches (problem_in frame) stage here)
-            (length-map-range_with_len (has_tier (kind_numbered kinds (get_or order 0 0)).opened) 0 (free_count shape) ∙ free_same frame shape of stage within)
-            (length-map-range_with_len (phase_at (kind_numbered kinds (get_or order 0 0))) 0 (stretch_count shape stage) ∙ stretch_same frame shape of stage within)
-            (ap (λ x. kind_order x (kind_of (problem_in frame) stage [])) (sym first) ∙ ap (kind_order (get_or (map tell order) 0 d)) (sym start) ∙ less)
-
     module _ (single : (s : ℕ) (arc : TableArc Count g) → Contains (moves_at states s) arc → IsOfOneColumn arc.class)
-        {h : Ghosts UnitWeight} (pruned : List (TableState UnitWeight h)) (old : List ℕ) (tight : IsTight states pruned old) (some : 0 < length pruned) (targets : TargetsExist pruned) (filled : ClassesFilled pruned) where
-      kept_by_names : AreNamedByKinds (problem_in frame) stage (names_kept (names_at frame stage kinds) old) pruned
-      kept_by_names = kept_named (problem_in frame) stage here (names_at frame stage kinds) states table.named pruned old tight some targets filled
-
+        {h : Ghosts UnitWeight} (pruned : List (TableState UnitWeight h)) (old : List ℕ)
+        (tight : IsTight states pruned old) (some : 0 < length pruned) (targets : TargetsExist pruned)
+        (filled : ClassesFilled pruned) where
       kept_by : IsKept (problem_in frame) stage pruned
       kept_by = (
         names_kept (names_at frame stage kinds) old,
         record {
-          named = kept_by_names;
+          named = kept_by_names frame stage within kinds states table.named shape of order sorted pruned old tight
+              some targets filled;
           single = λ s arc c.
               let m = tight.moves s arc (moves_exist pruned s arc c) c in
               subst IsOfOneColumn (sym m.3.0) (single (get_or old s 0) m.0 m.1);
           on_runs = tight.on_runs;
         },
       )
-
-      ordered : AreOrdered order old (length pruned)
-      ordered = record {
-        numbers = subst (λ n. IsOrdering n order) (sym order_count) sorted.numbers;
-        each_state = tight.each_named;
-        inside = λ i d l. omega (arith, tight.within i l, get_or_default old i d 0 l, count_kinds, order_count);
-        once = λ i j d less inside e. tight.distinct i j less inside (sym (get_or_default old i d 0 (omega arith)) ∙ e ∙ get_or_default old j d 0 inside);
-      }
-
-      tells : (p : List (List Sym)) (s place : ℕ) → s < length pruned → Reaches pruned p s → place < length order → get_or order place 0 ≡ get_or old s 0
-          → TellsKind (problem_in frame) stage nodes place (kind_of (problem_in frame) stage p)
-      tells p s place l reach inside same =
-          let number = get_or order place 0 in
-          let node = node_numbered kinds (map weight_number least) in
-          let below : number < length kinds = sorted.numbers.below place 0 inside in
-          record {
-            node = node number;
-            numbered = ap (λ ns. slice_get ns place) listed.each
-                ∙ slice_get-get_or (map node order) place (node 0) (omega (arith, inside, length-map order node))
-                ∙ ap Some (get_or-map node order place 0 (node 0) inside);
-            tells = sym (name_is number empty_kind below)
-                ∙ ap (name_of (names_at frame stage kinds)) same
-                ∙ sym (get_or-map (name_of (names_at frame stage kinds)) old s 0 _ (omega (arith, tight.each_named)))
-                ∙ path_kind (problem_in frame) stage here (names_kept (names_at frame stage kinds) old) pruned kept_by_names reach.0 s p reach.1 reach.2;
-          }
 
       accepts : (T : List (List Sym)) → Accepts pruned T ↔ IsOptimalFor (problem_in frame) stage T
       accepts T =
@@ -208,9 +157,11 @@ module _ (frame : Frame) (stage : ℕ) (ranked : 1 ≤ stage) (within : stage �
           right = right_stage;
           kept_by = kept_by;
           accepts = accepts;
-          ordered = ordered;
-          start = first_number ∙ sym tight.start;
-          tells = tells;
+          ordered = ordered frame stage within kinds states table.named shape of order sorted pruned old tight some
+              targets filled;
+          start = first_number frame stage within kinds states table.named shape of order sorted ∙ sym tight.start;
+          tells = tells frame stage within kinds states table.named shape of order sorted pruned old tight some
+              targets filled nodes (node_numbered kinds (map weight_number least)) listed.each (λ number. refl);
         };
         counted = counted;
       }

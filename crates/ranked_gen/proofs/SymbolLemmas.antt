@@ -14,11 +14,13 @@ use Rattle.ranked_gen.proofs.Ascending.{Ascends}
 
 -- a symbol between fits before the column, and tells whether the tier is open after it
 pub between_in : (a b : Bool) (s : Sym) → Contains (between a b) s → (fits a s ≡ true) × (opens s ≡ b)
-between_in false false s h = subst (λ x. (fits false x ≡ true) × (opens x ≡ false)) (contains_one Outside s h) (refl, refl)
+between_in false false s h = subst (λ x. (fits false x ≡ true) × (opens x ≡ false)) (contains_one Outside s h)
+    (refl, refl)
 between_in false true s h = subst (λ x. (fits false x ≡ true) × (opens x ≡ true)) (contains_one Start s h) (refl, refl)
 between_in true false s h = subst (λ x. (fits true x ≡ true) × (opens x ≡ false)) (contains_one End s h) (refl, refl)
 between_in true true s h = ⊎_elim (λ e. subst (λ x. (fits true x ≡ true) × (opens x ≡ true)) e (refl, refl))
-    (λ m. subst (λ x. (fits true x ≡ true) × (opens x ≡ true)) (contains_one Both s m) (refl, refl)) (contains_cases Inside (Both ∷ []) s h)
+    (λ m. subst (λ x. (fits true x ≡ true) × (opens x ≡ true)) (contains_one Both s m) (refl, refl))
+    (contains_cases Inside (Both ∷ []) s h)
 
 pub between_has : (a : Bool) (s : Sym) → fits a s ≡ true → Contains (between a (opens s)) s
 between_has true Outside h = absurd (false≢true h)
@@ -63,7 +65,8 @@ pub among_contains : (xs : List ℕ) (t : ℕ) → is_among xs t ≡ true → Co
 among_contains [] t h = absurd (false≢true h)
 among_contains (x ∷ xs) t h = go (x == t) refl h (among_contains xs t)
   where
-    go : (b : Bool) → (x == t) ≡ b → (b || is_among xs t) ≡ true → (is_among xs t ≡ true → Contains xs t) → Contains (x ∷ xs) t
+    go : (b : Bool) → (x == t) ≡ b → (b || is_among xs t) ≡ true → (is_among xs t ≡ true → Contains xs t)
+        → Contains (x ∷ xs) t
     go true e h more = subst (λ y. Contains (x ∷ xs) y) (eqb-true x t e) (contains_first x xs)
     go false e h more = contains_later x xs t (more h)
 
@@ -71,16 +74,19 @@ pub among_not : (xs : List ℕ) (t : ℕ) → is_among xs t ≡ false → Contai
 among_not [] t h m = contains_none t m
 among_not (x ∷ xs) t h m = go (x == t) refl h (among_not xs t) (contains_cases x xs t m)
   where
-    go : (b : Bool) → (x == t) ≡ b → (b || is_among xs t) ≡ false → (is_among xs t ≡ false → Contains xs t → ⊥) → (x ≡ t) ⊎ Contains xs t → ⊥
+    go : (b : Bool) → (x == t) ≡ b → (b || is_among xs t) ≡ false → (is_among xs t ≡ false → Contains xs t → ⊥)
+        → (x ≡ t) ⊎ Contains xs t → ⊥
     go true e h more m = false≢true (sym h)
     go false e h more m = ⊎_elim (λ same. false≢true (sym e ∙ ap (λ y. y == t) same ∙ itself t)) (λ n. more h n) m
 
 -- the symbols of the input tiers where they stay
-pub symbol_on_still : (xs : List ℕ) (flags : List Bool) (t : ℕ) → symbol_on xs (map still flags) t ≡ still (flag_of xs flags t)
+pub symbol_on_still : (xs : List ℕ) (flags : List Bool) (t : ℕ)
+    → symbol_on xs (map still flags) t ≡ still (flag_of xs flags t)
 symbol_on_still [] flags t = refl
 symbol_on_still (x ∷ xs) [] t = refl
 symbol_on_still (x ∷ xs) (flag ∷ flags) t = go (x == t) (symbol_on_still xs flags t)
   where
-    go : (b : Bool) → symbol_on xs (map still flags) t ≡ still (flag_of xs flags t) → cond b (still flag) (symbol_on xs (map still flags) t) ≡ still (cond b flag (flag_of xs flags t))
+    go : (b : Bool) → symbol_on xs (map still flags) t ≡ still (flag_of xs flags t)
+        → cond b (still flag) (symbol_on xs (map still flags) t) ≡ still (cond b flag (flag_of xs flags t))
     go true e = refl
     go false e = e

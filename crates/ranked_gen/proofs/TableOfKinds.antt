@@ -31,10 +31,14 @@ use Rattle.violation.specs.Problems.{last_place, Problem}
 pub kinds_some : (problem : Problem) → 0 < kind_count problem
 kinds_some problem =
     let power = pow_pos (length problem.tiers.free) in
-    let size : 1 * 2 ^ length problem.tiers.free ≤ (last_place problem + 1) * 2 ^ length problem.tiers.free = mul-le-mul (let l : 1 ≤ last_place problem + 1 = omega arith in l) (let l : 2 ^ length problem.tiers.free ≤ 2 ^ length problem.tiers.free = omega arith in l) in
+    let size : 1 * 2 ^ length problem.tiers.free ≤
+    (last_place problem + 1) * 2 ^ length problem.tiers.free = mul-le-mul
+    (let l : 1 ≤ last_place problem + 1 = omega arith in l)
+    (let l : 2 ^ length problem.tiers.free ≤ 2 ^ length problem.tiers.free = omega arith in l) in
     omega (arith, power, size)
 
-pub kinds_small : (problem : Problem) → last_place problem ≤ 64 → length problem.tiers.free ≤ 12 → kind_count problem < 2 ^ 32
+pub kinds_small : (problem : Problem) → last_place problem ≤ 64 → length problem.tiers.free ≤ 12
+    → kind_count problem < 2 ^ 32
 kinds_small problem l h =
     let two : 0 < 2 = omega arith in
     let power : 2 ^ length problem.tiers.free ≤ 2 ^ 12 = pow-le-pow_right two h in
@@ -46,17 +50,26 @@ kinds_small problem l h =
 abbrev line_of : {W : Type 0} {g : Ghosts W} → TableArc W g → ArcLine
 line_of arc = record { target = arc.target; class = arc.class }
 
-module _ {W : Type 0} {g : Ghosts W} (problem : Problem) (split : AreSplit problem.tiers) (distinct : AreDistinct problem.tiers.free) (form : IsForm problem.tiers problem.form) (states : List (TableState W g)) (count : length states ≡ kind_count problem) (each : AreNumbered (IsStateNumbered {W = W} {g = g} problem) 0 states) where
+module _ {W : Type 0} {g : Ghosts W} (problem : Problem) (split : AreSplit problem.tiers)
+    (distinct : AreDistinct problem.tiers.free) (form : IsForm problem.tiers problem.form)
+    (states : List (TableState W g)) (count : length states ≡ kind_count problem)
+    (each : AreNumbered (IsStateNumbered {W = W} {g = g} problem) 0 states) where
   -- the moves of a state show those of its kind
-  pub moves_shown : (s : ℕ) → s < length states → map table_view (moves_at states s) ≡ map move_view (moves_from problem (kind_numbered (length problem.tiers.free) s))
+  pub moves_shown : (s : ℕ) → s < length states
+      → map table_view (moves_at states s)
+      ≡ map move_view (moves_from problem (kind_numbered (length problem.tiers.free) s))
   moves_shown s l =
-      let r = numbered_seen (IsStateNumbered {W = W} {g = g} problem) (λ state. state.arcs.items) (λ state. state.accepting) [] false 0 states s each l in
+      let r = numbered_seen (IsStateNumbered {W = W} {g = g} problem) (λ state. state.arcs.items)
+      (λ state. state.accepting) [] false 0 states s each l in
       let here : 0 + s ≡ s = omega arith in
-      ap (map table_view) r.1.0 ∙ r.1.1.1.arcs ∙ ap (λ n. map move_view (moves_from problem (kind_numbered (length problem.tiers.free) n))) here
+      ap (map table_view) r.1.0 ∙ r.1.1.1.arcs
+      ∙ ap (λ n. map move_view (moves_from problem (kind_numbered (length problem.tiers.free) n))) here
 
-  pub move_single : (s : ℕ) (arc : TableArc W g) → Contains (moves_at states s) arc → IsMoveView problem s (table_view arc)
+  pub move_single : (s : ℕ) (arc : TableArc W g) → Contains (moves_at states s) arc
+      → IsMoveView problem s (table_view arc)
   move_single s arc c = view_single problem split distinct form s (table_view arc)
-      (subst (λ vs. Contains vs (table_view arc)) (moves_shown s (moves_exist states s arc c)) (contains_map table_view (moves_at states s) arc c))
+      (subst (λ vs. Contains vs (table_view arc)) (moves_shown s (moves_exist states s arc c))
+      (contains_map table_view (moves_at states s) arc c))
 
   pub targets_exist : TargetsExist states
   targets_exist s arc c =
@@ -64,7 +77,8 @@ module _ {W : Type 0} {g : Ghosts W} (problem : Problem) (split : AreSplit probl
       omega (arith, view_target problem split distinct form s (table_view arc) l (move_single s arc c))
 
   pub classes_filled : ClassesFilled states
-  classes_filled s arc c = let m = move_single s arc c in filled_from arc.class m.column (ap (λ sets. sets_have sets m.column) m.sets ∙ alone_have m.column)
+  classes_filled s arc c = let m = move_single s arc c in filled_from arc.class m.column
+      (ap (λ sets. sets_have sets m.column) m.sets ∙ alone_have m.column)
 
   pub one_width : OneWidth states
   one_width s t a b c d =
@@ -79,10 +93,14 @@ module _ {W : Type 0} {g : Ghosts W} (problem : Problem) (split : AreSplit probl
       let l = moves_exist states s (get_or moves j d) (Contains-get_or moves j d inside) in
       let here : s < kind_count problem = omega arith in
       let lines : List ArcLine = map line_of moves in
-      let shown : map arc_view lines ≡ map move_view (moves_from problem (kind_numbered (length problem.tiers.free) s)) = map-map arc_view line_of moves ∙ moves_shown s l in
+      let shown : map arc_view lines ≡ map move_view
+      (moves_from problem (kind_numbered (length problem.tiers.free) s)) = map-map arc_view line_of moves
+      ∙ moves_shown s l in
       let right = right_arcs problem split distinct form s lines here shown in
-      let first : get_or lines i (line_of d) ≡ line_of (get_or moves i d) = get_or-map line_of moves i d (line_of d) (omega arith) in
-      let second : get_or lines j (line_of d) ≡ line_of (get_or moves j d) = get_or-map line_of moves j d (line_of d) inside in
+      let first : get_or lines i (line_of d)
+      ≡ line_of (get_or moves i d) = get_or-map line_of moves i d (line_of d) (omega arith) in
+      let second : get_or lines j (line_of d)
+      ≡ line_of (get_or moves j d) = get_or-map line_of moves j d (line_of d) inside in
       let P : ArcLine → ArcLine → Type 0 = λ a b. AreDisjoint a.class b.class in
       subst (λ b. P (line_of (get_or moves i d)) b) second (subst (λ a. P a (get_or lines j (line_of d))) first
       (right.apart i j (line_of d) less (omega (arith, length-map moves (λ (arc : TableArc W g). line_of arc)))))

@@ -1,4 +1,4 @@
--- The moves from a kind where no constraint is ranked: the columns that lead from one set of open
+-- The moves from a kind when no constraint is ranked: the columns that lead from one set of open
 -- free tiers to another, tier by tier.
 use Rattle.std.specs.Prelude.{ℕ, ◌+◌, ◌*◌, ◌^◌, ◌==◌, ◌||◌, Bool, true, false, if◌then◌else◌, nat_lt, List, [], ◌∷◌, ◌++◌, length, map, filter}
 use Rattle.std.specs.List.{flat_map, range_with_len}
@@ -42,11 +42,12 @@ abbrev pub columns_between : Tiers → List Sym → List Bool → List Bool → 
 columns_between tiers given opened flags =
     filter has_edge (choices (map (symbols_at tiers given opened flags) (range_with_len 0 tiers.width)))
 
--- the moves with these input symbols to all sets of open free tiers, where the first of these has
--- the number `first`: the number of the target with the column
+-- the moves with these input symbols to all sets of open free tiers, the first of which has the
+-- number `first`: the number of the target with the column
 abbrev pub moves_with : Tiers → List Sym → List Bool → ℕ → List (ℕ × List Sym)
 moves_with tiers given opened first =
-    flat_map (λ o. map (λ column. (first + o, column)) (columns_between tiers given opened (flags_of (length tiers.free) o)))
+    flat_map (λ o. map (λ column. (first + o, column))
+    (columns_between tiers given opened (flags_of (length tiers.free) o)))
     (range_with_len 0 (2 ^ length tiers.free))
 
 -- the input symbols that stay at a place
@@ -56,5 +57,7 @@ staying tiers u place = map still (form_opened tiers u place)
 -- the moves from a kind, ordered by target and then by column
 abbrev pub moves_from : Problem → PrefixKind → List (ℕ × List Sym)
 moves_from problem k =
-    moves_with problem.tiers (staying problem.tiers problem.form k.place) k.opened (k.place * 2 ^ length problem.tiers.free)
-    ++ (if nat_lt k.place (last_place problem) then moves_with problem.tiers (column_at problem.form k.place) k.opened ((k.place + 1) * 2 ^ length problem.tiers.free) else [])
+    moves_with problem.tiers (staying problem.tiers problem.form k.place) k.opened
+    (k.place * 2 ^ length problem.tiers.free)
+    ++ (if nat_lt k.place (last_place problem) then moves_with problem.tiers (column_at problem.form k.place) k.opened
+    ((k.place + 1) * 2 ^ length problem.tiers.free) else [])

@@ -1,5 +1,5 @@
--- What a stage leaves of the candidates, and how the states of the table that accepts them stand
--- among the nodes of the stage.
+-- What a stage leaves of the candidates, and how the states of the table that accepts them relate
+-- to the nodes of the stage.
 use Rattle.std.specs.Prelude.{ℕ, ◌+◌, ◌-◌, ◌≡◌, ◌≢◌, ◌<◌, ◌≤◌, ◌↔◌, List, length, take, slice_get, slice_index, slice_index_or, Some, Option, None, All, AllPairs}
 use Rattle.tier_core.specs.declared.sym.Sym.{Sym}
 use Rattle.tier_core.specs.declared.constraint.Constraint.{Constraint}
@@ -21,12 +21,12 @@ use Rattle.stage_tables.specs.Kept.{IsKept}
 use Rattle.ranked_gen.specs.Budgets.{IsWithin}
 use Rattle.violation.specs.Problems.{Problem}
 
--- the number of a weight that is found, and 0 where there is none
+-- the number of a weight that is found, or 0 if there is none
 abbrev pub weight_number : Option Count → ℕ
 weight_number None = 0
 weight_number (Some w) = w.0
 
--- node number n tells this kind, under the first r constraints
+-- node number n encodes this kind, under the first r constraints
 pub record TellsKind (problem : Problem) (r : ℕ) (nodes : List Node) (n : ℕ) (k : PrefixKind) : Type 0 where
   pub node : Node
   pub numbered : slice_get nodes n ≡ Some node
@@ -41,18 +41,21 @@ pub record AreOrdered (order states : List ℕ) (count : ℕ) : Type 0 where
 
 -- What stage r leaves: its nodes are right, and the kept table accepts exactly the r-optimal
 -- candidates. Its states have numbers of an order, of which the start's is the first, and the node
--- at the place of a state's number tells the kind of each prefix that leads to the state.
-pub record IsLeft {g : Ghosts UnitWeight} (problem : Problem) (r : ℕ) (nodes : List Node) (kept : List (TableState UnitWeight g)) (states order : List ℕ) : Type 0 where
+-- at the place of a state's number encodes the kind of each prefix that leads to the state.
+pub record IsLeft {g : Ghosts UnitWeight} (problem : Problem) (r : ℕ) (nodes : List Node)
+    (kept : List (TableState UnitWeight g)) (states order : List ℕ) : Type 0 where
   pub right : IsRightStage problem r nodes
   pub kept_by : IsKept problem r kept
   pub accepts : (T : List (List Sym)) → Accepts kept T ↔ IsOptimalFor problem r T
   pub ordered : AreOrdered order states (length kept)
   pub start : slice_index order 0 ≡ slice_index states 0
-  pub tells : (p : List (List Sym)) (s place : ℕ) → s < length kept → Reaches kept p s → place < length order → slice_index order place ≡ slice_index states s
+  pub tells : (p : List (List Sym)) (s place : ℕ) → s < length kept → Reaches kept p s → place < length order
+      → slice_index order place ≡ slice_index states s
       → TellsKind problem r nodes place (kind_of problem r p)
 
 -- and the count is the number of constraint r, counted from 1, of each r-optimal candidate
-pub record IsStaged {g : Ghosts UnitWeight} (problem : Problem) (r : ℕ) (nodes : List Node) (count : ℕ) (kept : List (TableState UnitWeight g)) (states order : List ℕ) : Type 0 where
+pub record IsStaged {g : Ghosts UnitWeight} (problem : Problem) (r : ℕ) (nodes : List Node) (count : ℕ)
+    (kept : List (TableState UnitWeight g)) (states order : List ℕ) : Type 0 where
   pub left : IsLeft problem r nodes kept states order
   pub counted : (T : List (List Sym)) → IsOptimalFor problem r T → count_at problem r T ≡ count
 
@@ -65,6 +68,7 @@ pub record AreStages (problem : Problem) (budget r : ℕ) (stages : List Stage) 
   pub within : (s : ℕ) → s ≤ r → IsWithin problem budget s
 
 -- These are the stages up to r, the counts of their constraints, and what the last of them leaves.
-pub record IsRanked {g : Ghosts UnitWeight} (problem : Problem) (budget r : ℕ) (stages : List Stage) (counts : List ℕ) (kept : List (TableState UnitWeight g)) (states order : List ℕ) : Type 0 where
+pub record IsRanked {g : Ghosts UnitWeight} (problem : Problem) (budget r : ℕ) (stages : List Stage) (counts : List ℕ)
+    (kept : List (TableState UnitWeight g)) (states order : List ℕ) : Type 0 where
   pub so_far : AreStages problem budget r stages counts
   pub left : IsLeft problem r (nodes_at stages r) kept states order

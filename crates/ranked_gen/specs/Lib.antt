@@ -6,3 +6,5 @@ pub mod FrameMoves
 pub mod Picks
 pub mod Budgets
 pub mod Left
+pub mod OptimalParts
+pub mod Once

@@ -1,4 +1,4 @@
--- What the generator lists where no constraint is ranked: a node and a state for each number of a
+-- What the generator lists when no constraint is ranked: a node and a state for each number of a
 -- kind, and the moves of the kind as the arcs of its state.
 use Rattle.std.specs.Prelude.{ℕ, ◌+◌, ◌*◌, ◌^◌, ◌≡◌, ◌<◌, List, [], ◌∷◌, length, map}
 use Rattle.tier_core.specs.declared.sym.Sym.{Sym}
@@ -46,9 +46,11 @@ pub record IsNodeNumbered (tiers : Tiers) (n : ℕ) (node : Node) : Type 0 where
   pub potential : node.potential ≡ 0
 
 -- the state of the kind of a number
-pub record IsStateNumbered {W : Type 0} {g : Ghosts W} (problem : Problem) (n : ℕ) (state : TableState W g) : Type 0 where
+pub record IsStateNumbered {W : Type 0} {g : Ghosts W} (problem : Problem) (n : ℕ)
+    (state : TableState W g) : Type 0 where
   pub final : state.accepting ≡ is_final problem (kind_numbered (length problem.tiers.free) n)
-  pub arcs : map table_view state.arcs.items ≡ map move_view (moves_from problem (kind_numbered (length problem.tiers.free) n))
+  pub arcs : map table_view state.arcs.items
+      ≡ map move_view (moves_from problem (kind_numbered (length problem.tiers.free) n))
 
 -- elements that are numbered from n on
 abbrev pub AreNumbered : {X : Type 0} → (ℕ → X → Type 0) → ℕ → List X → Type 0
@@ -56,7 +58,8 @@ AreNumbered P n [] = Unit {0}
 AreNumbered P n (x ∷ xs) = P n x × AreNumbered P (n + 1) xs
 
 -- the first nodes and states, so many of each
-pub record AreListed {W : Type 0} {g : Ghosts W} (problem : Problem) (count : ℕ) (nodes : List Node) (states : List (TableState W g)) : Type 0 where
+pub record AreListed {W : Type 0} {g : Ghosts W} (problem : Problem) (count : ℕ) (nodes : List Node)
+    (states : List (TableState W g)) : Type 0 where
   pub node_count : length nodes ≡ count
   pub each_node : AreNumbered (IsNodeNumbered problem.tiers) 0 nodes
   pub state_count : length states ≡ count

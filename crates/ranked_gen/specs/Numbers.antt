@@ -1,4 +1,5 @@
--- Numbers of kinds where no constraint is ranked: places and sets of open free tiers, in kind order.
+-- Numbers of kinds when no constraint is ranked: places and sets of open free tiers, in kind
+-- order.
 use Rattle.std.specs.Prelude.{ℕ, zero, suc, ◌+◌, ◌*◌, ◌/◌, ◌^◌, Bool, if◌then◌else◌, List, [], ◌∷◌, length}
 use Rattle.tier_core.specs.Tiers.{has_tier}
 use Rattle.tier_core.specs.Kinds.{PrefixKind}

@@ -42,4 +42,5 @@ is_two (Two s r) = true
 -- the symbols of a tier, by the flags of the tiers
 abbrev pub symbols_by_flags : List TierKind → List Sym → List Bool → List Bool → ℕ → List Sym
 symbols_by_flags kinds given before after t =
-    if is_input (kind_at kinds t) then symbol given t ∷ [] else between (slice_index_or before t false) (slice_index_or after t false)
+    if is_input (kind_at kinds t) then symbol given t ∷ [] else between (slice_index_or before t false)
+    (slice_index_or after t false)

@@ -5,7 +5,8 @@ use Rattle.tier_core.specs.declared.sym.Sym.{Sym}
 use Rattle.tier_core.specs.declared.sym.Sym.TheVariants.{Outside}
 use Rattle.tier_core.specs.Tiers.{Tiers}
 
--- the symbol of tier t, where the tiers of a list have the symbols of a column in turn; Outside elsewhere
+-- the symbol of tier t, if the tiers of a list have the symbols of a column in turn; Outside
+-- elsewhere
 abbrev pub symbol_on : List ℕ → List Sym → ℕ → Sym
 symbol_on [] column t = Outside
 symbol_on (x ∷ xs) [] t = Outside

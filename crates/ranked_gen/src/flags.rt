@@ -7,7 +7,7 @@ ghost use Rattle.ranked_gen.specs.Numbers.{flags_of};
 
 use tier_core::{TierKind, has_bit};
 
-/// The bit of a number: 1 where it is set, and else 0.
+/// The bit of a number: 1 if it is set, and otherwise 0.
 pub(crate) fn bit_of(number: u32, bit: u32) -> u32
     requires { bit < 32 }
     ensures value { result ≡ bit_at number bit }
@@ -20,7 +20,9 @@ pub(crate) fn bit_of(number: u32, bit: u32) -> u32
 pub(crate) fn flags_by_tier(kinds: &[TierKind], free: u32, number: u32) -> [bool; 12]
     requires few { length kinds.now ≤ 12 }
     requires count { free ≡ length (numbers_from is_free 0 kinds.now) }
-    ensures { (t : ℕ) → slice_index_or result t false ≡ flag_of (numbers_from is_free 0 kinds.now) (flags_of free number) t }
+    ensures { (t : ℕ)
+        → slice_index_or result t false
+        ≡ flag_of (numbers_from is_free 0 kinds.now) (flags_of free number) t }
 {
     let mut flags = [false; 12];
     let mut left = free;

@@ -6,7 +6,7 @@ pub enum GenErr {
     /// This stage is the first that has more kinds of prefix than the budget.
     #[error("stage {stage} has more kinds than the budget")]
     Budget { stage: u32 },
-    /// Memory was wanting.
+    /// Memory ran out.
     #[error("out of memory")]
     NoMemory,
 }

@@ -26,7 +26,7 @@ use tier_core::{NoMemory, Timeline};
 use weight_law::UnitWeight;
 
 /// How many kinds so many places have, one for each set of open free tiers.
-fn count_kinds(places: u32, free: u32) -> u32
+pub(crate) fn count_kinds(places: u32, free: u32) -> u32
     requires places { places ≤ 65 }
     requires few { free ≤ 12 }
     ensures { result ≡ places * 2 ^ free }
@@ -41,7 +41,10 @@ fn list_all(alloc: Global, frame: &Frame, inputs: usize, free: u32) -> Result<Li
     requires few_inputs { inputs ≤ 12 }
     requires count { free ≡ length (tiers_in frame.now).free }
     requires few { free ≤ 12 }
-    ensures { IfOk result (λ listing. AreListed (problem_in frame.now) (kind_count (problem_in frame.now)) listing.nodes.items listing.states.items) }
+    ensures { IfOk result
+        (λ listing.
+        AreListed (problem_in frame.now)
+        (kind_count (problem_in frame.now)) listing.nodes.items listing.states.items) }
 {
     let mut listing = Listing {
         nodes: Vec::new(alloc),
@@ -53,7 +56,7 @@ fn list_all(alloc: Global, frame: &Frame, inputs: usize, free: u32) -> Result<Li
     Ok(listing)
 }
 
-/// A stage of its own, in a list.
+/// A list of one stage.
 fn one_stage(alloc: Global, stage: Stage) -> Result<Vec<Stage>, NoMemory>
     ensures { IfOk result (λ stages. stages.items ≡ stage ∷ []) }
 {
@@ -67,8 +70,10 @@ fn one_stage(alloc: Global, stage: Stage) -> Result<Vec<Stage>, NoMemory>
 /// Each state with its own number, in the order of the numbers.
 fn in_order(alloc: Global, table: Table<UnitWeight>) -> Result<Left, AllocError>
     ensures table { IfOk result (λ left. left.kept.table ≡ table) }
-    ensures states { IfOk result (λ left. left.kept.states.items ≡ range_with_len 0 (length (states_of table))) }
-    ensures order { IfOk result (λ left. left.order.items ≡ range_with_len 0 (length (states_of table))) }
+    ensures states { IfOk result
+        (λ left. left.kept.states.items ≡ range_with_len 0 (length (states_of table))) }
+    ensures order { IfOk result
+        (λ left. left.order.items ≡ range_with_len 0 (length (states_of table))) }
 {
     let states = numbers_below(alloc, table.len())?;
     let order = numbers_below(alloc, table.len())?;
@@ -78,12 +83,15 @@ fn in_order(alloc: Global, table: Table<UnitWeight>) -> Result<Left, AllocError>
     })
 }
 
-/// Stage 0, whose candidates are all, for the form of a frame. It fails only for want of memory.
-fn unranked(alloc: Global, frame: &Frame, free: u32) -> Result<Ranked, NoMemory>
+/// Stage 0, whose candidates are all, for the form of a frame. Fails only if memory runs out.
+pub(crate) fn unranked(alloc: Global, frame: &Frame, free: u32) -> Result<Ranked, NoMemory>
     requires form { IsForm (tiers_in frame.now) (form_in frame.now) }
     requires count { free ≡ length (tiers_in frame.now).free }
     requires few { free ≤ 12 }
-    ensures { IfOk result (λ all. (budget : ℕ) → kind_count (problem_in frame.now) ≤ budget → IsRanked (problem_in frame.now) budget 0 all.stages.items all.counts.items (states_of all.left.kept.table) all.left.kept.states.items all.left.order.items) }
+    ensures { IfOk result
+        (λ all. (budget : ℕ) → kind_count (problem_in frame.now) ≤ budget
+        → IsRanked (problem_in frame.now) budget 0 all.stages.items all.counts.items
+        (states_of all.left.kept.table) all.left.kept.states.items all.left.order.items) }
 {
     let inputs = frame.grammar.tiers.input_count();
     let Listing { nodes, states } = list_all(alloc, frame, inputs, free)?;
@@ -109,7 +117,8 @@ fn answer_in(alloc: Global, frame: &Frame, free: u32, budget: u32) -> Result<Ans
     requires few_kinds { budget ≤ 65536 }
     ensures right { IfOk result (λ answer. IsRight (problem_in frame.now) answer) }
     ensures within { IfOk result (λ answer. AreAllWithin (problem_in frame.now) budget) }
-    ensures over { (stage : ℕ) → result ≡ Err (GenErr.Budget stage) → IsFirstOver (problem_in frame.now) budget stage }
+    ensures over { (stage : ℕ) → result ≡ Err (GenErr.Budget stage)
+        → IsFirstOver (problem_in frame.now) budget stage }
 {
     let Ok(start) = unranked(alloc, frame, free) else {
         return Err(GenErr::NoMemory);
@@ -121,10 +130,10 @@ fn answer_in(alloc: Global, frame: &Frame, free: u32, budget: u32) -> Result<Ans
 }
 
 /// The right answer for a grammar and a form, in which no stage has more kinds of prefix than the
-/// budget; `Budget` exactly where a stage has more, with the first such stage.
+/// budget; `Budget` exactly when a stage has more, with the first such stage.
 ///
 /// The form is well formed and reduced over the input tiers, and has at most 64 columns. The budget
-/// is from 1 to 65,536. `NoMemory` comes only for want of memory.
+/// is from 1 to 65,536. `NoMemory` occurs only if memory runs out.
 pub fn generate(
     alloc: Global,
     grammar: &Grammar,
@@ -135,9 +144,15 @@ pub fn generate(
     requires short { length form.now ≤ 64 }
     requires some { 1 ≤ budget }
     requires few { budget ≤ 65536 }
-    ensures right { IfOk result (λ answer. IsRight (asked grammar.now.tiers grammar.now.constraints.items form.now) answer) }
-    ensures within { IfOk result (λ answer. AreAllWithin (asked grammar.now.tiers grammar.now.constraints.items form.now) budget) }
-    ensures over { (stage : ℕ) → result ≡ Err (GenErr.Budget stage) → IsFirstOver (asked grammar.now.tiers grammar.now.constraints.items form.now) budget stage }
+    ensures right { IfOk result
+        (λ answer.
+        IsRight (asked grammar.now.tiers grammar.now.constraints.items form.now) answer) }
+    ensures within { IfOk result
+        (λ answer.
+        AreAllWithin (asked grammar.now.tiers grammar.now.constraints.items form.now) budget) }
+    ensures over { (stage : ℕ) → result ≡ Err (GenErr.Budget stage)
+        → IsFirstOver
+        (asked grammar.now.tiers grammar.now.constraints.items form.now) budget stage }
 {
     let free = grammar.tiers.free_count() as u32;
     let kinds = count_kinds(form.len() as u32 + 1, free);

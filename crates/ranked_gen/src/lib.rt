@@ -1,22 +1,30 @@
-//! The generator: from a grammar and an underlying form to a right answer, within a budget of kinds.
+//! The generator: from a grammar and an underlying form to a right answer, within a budget of
+//! kinds.
 //!
 //! Stage 0 counts no constraint: its states are all pairs of a place in the form and a set of open
 //! free tiers, in kind order. Each further stage explores the table that the stage before has left
-//! under one constraint more, finds what remains to be counted from each kind, and keeps the
-//! timelines that count least. The answer's automaton is what the last stage leaves, and its example
-//! the first timeline of it. The layer above uses `generate` and its promises: an answer is right,
-//! and `Budget` comes exactly where a stage has more kinds than the budget, with the first such
-//! stage.
+//! under one more constraint, finds what remains to be counted from each kind, and keeps the
+//! timelines that count least. The answer's automaton is what the last stage leaves, and its
+//! example the first timeline of it. The layer above uses `generate` and its promises: an answer
+//! is right, and `Budget` occurs exactly when a stage has more kinds than the budget, with the
+//! first such stage.
+//!
+//! A second generator, `generate_once`, prunes nothing on its way: it explores stage 0 under all
+//! constraints at once, weighs each move by the vector of what it costs, and prunes one table to its
+//! timelines of least weight. Both give the same counts and example, and accept the same timelines.
 //!
 //! That the candidates of a form are the paths of an automaton, which is pruned constraint by
-//! constraint, is after Ellison, Phonological Derivation in Optimality Theory (COLING 1994).
+//! constraint, goes back to Ellison, Phonological Derivation in Optimality Theory (COLING 1994).
 #![tactic(auto)]
 
+mod agreement;
+mod ending;
 mod flags;
 mod gen_err;
 mod generator;
 mod moves;
 mod number;
+mod once;
 mod pick;
 mod place;
 mod ranked;
@@ -27,5 +35,7 @@ mod stay;
 mod tests;
 mod wide_column;
 
+pub use agreement::both_generators_agree;
 pub use gen_err::GenErr;
 pub use generator::generate;
+pub use once::generate_once;

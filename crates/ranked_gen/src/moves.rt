@@ -44,7 +44,9 @@ fn pick_at(
 fn picks(kinds: &[TierKind], given: &[Sym], before: &[bool; 12], after: &[bool; 12]) -> [Pick; 12]
     requires few { length kinds.now ≤ 12 }
     requires wide { length given.now ≡ length kinds.now }
-    ensures { map symbols_of (take (length kinds.now) result) ≡ map (symbols_by_flags kinds.now given.now before.now after.now) (range_with_len 0 (length kinds.now)) }
+    ensures { map symbols_of (take (length kinds.now) result)
+        ≡ map (symbols_by_flags kinds.now given.now before.now after.now)
+        (range_with_len 0 (length kinds.now)) }
 {
     let mut picks = [Pick::One(Sym::Outside); 12];
     for tier in 0..kinds.len() {
@@ -106,7 +108,9 @@ fn push_arc(
     target: u32,
     column: &Column,
 ) -> Result<(), NoMemory>
-    ensures { OnOk result (map table_view arcs.new.items ≡ map table_view arcs.old.items ++ move_view (target, column.now) ∷ []) }
+    ensures { OnOk result
+        (map table_view arcs.new.items
+        ≡ map table_view arcs.old.items ++ move_view (target, column.now) ∷ []) }
 {
     let class = Class::single(column);
     match arcs.push(TableArc {
@@ -133,7 +137,10 @@ fn push_move(
     requires fits { FitsFrame frame.now 0 kind.now }
     requires width { length column.now ≡ (tiers_in frame.now).width }
     requires edge { IsTrue (has_edge column.now) → FitsAt frame.now 0 kind.now column.now }
-    ensures { OnOk result (map table_view arcs.new.items ≡ map table_view arcs.old.items ++ map (arc_by frame.now kind.now) (filter has_edge (column.now ∷ []))) }
+    ensures { OnOk result
+        (map table_view arcs.new.items
+        ≡ map table_view arcs.old.items ++ map (arc_by frame.now kind.now)
+        (filter has_edge (column.now ∷ []))) }
 {
     match frame.moved(0, kind, column) {
         Some(next) => push_arc(arcs, number_of(&next, free), column),
@@ -154,8 +161,14 @@ fn push_columns(
     requires few { free ≤ 12 }
     requires fits { FitsFrame frame.now 0 kind.now }
     requires width { length picks.now ≡ (tiers_in frame.now).width }
-    requires edges { AllFit frame.now kind.now (filter has_edge (map (picked picks.now) (range_with_len 0 (2 ^ two_count picks.now)))) }
-    ensures { OnOk result (map table_view arcs.new.items ≡ map table_view arcs.old.items ++ map (arc_by frame.now kind.now) (filter has_edge (map (picked picks.now) (range_with_len 0 (2 ^ two_count picks.now))))) }
+    requires edges { AllFit frame.now kind.now
+        (filter has_edge
+        (map (picked picks.now) (range_with_len 0 (2 ^ two_count picks.now)))) }
+    ensures { OnOk result
+        (map table_view arcs.new.items
+        ≡ map table_view arcs.old.items ++ map (arc_by frame.now kind.now)
+        (filter has_edge
+        (map (picked picks.now) (range_with_len 0 (2 ^ two_count picks.now))))) }
 {
     let twos = two_count(picks);
     for number in 0..1u32 << twos {
@@ -165,8 +178,8 @@ fn push_columns(
     Ok(())
 }
 
-/// Adds the arcs for the moves of a kind with given symbols on the input tiers, from its set of open
-/// free tiers, which has the number `opened`, to each set.
+/// Adds the arcs for the moves of a kind with given symbols on the input tiers, from its set of
+/// open free tiers, which has the number `opened`, to each set.
 pub(crate) fn push_moves(
     alloc: Global,
     arcs: &mut Vec<TableArc<UnitWeight>>,
@@ -180,8 +193,12 @@ pub(crate) fn push_moves(
     requires few { free ≤ 12 }
     requires fits { FitsFrame frame.now 0 kind.now }
     requires wide { length given.now ≡ length (tiers_in frame.now).input }
-    requires columns { AllFit frame.now kind.now (columns_from (tiers_in frame.now) given.now (flags_of free opened)) }
-    ensures { OnOk result (map table_view arcs.new.items ≡ map table_view arcs.old.items ++ map (arc_by frame.now kind.now) (columns_from (tiers_in frame.now) given.now (flags_of free opened))) }
+    requires columns { AllFit frame.now kind.now
+        (columns_from (tiers_in frame.now) given.now (flags_of free opened)) }
+    ensures { OnOk result
+        (map table_view arcs.new.items
+        ≡ map table_view arcs.old.items ++ map (arc_by frame.now kind.now)
+        (columns_from (tiers_in frame.now) given.now (flags_of free opened))) }
 {
     let kinds = frame.grammar.tiers.kinds.as_slice();
     let column = widened(alloc, kinds, given);

@@ -5,8 +5,8 @@ ghost use Rattle.ranked_gen.specs.Numbers.{number_of_kind};
 use crate::flags::bit_of;
 use tier_core::Kind;
 
-/// The number of a kind: the kinds before its place, and then those of fewer open free tiers in kind
-/// order.
+/// The number of a kind: how many come before it in kind order, those of earlier places and then
+/// those of its own place.
 pub(crate) fn number_of(kind: &Kind, free: u32) -> u32
     requires few { free ≤ 12 }
     requires place { kind.now.place ≤ 64 }

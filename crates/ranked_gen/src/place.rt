@@ -28,7 +28,8 @@ fn push_both(
     state: TableState<UnitWeight>,
 ) -> Result<(), NoMemory>
     ensures nodes { OnOk result (listing.new.nodes.items ≡ listing.old.nodes.items ++ node ∷ []) }
-    ensures states { OnOk result (listing.new.states.items ≡ listing.old.states.items ++ state ∷ []) }
+    ensures states { OnOk result
+        (listing.new.states.items ≡ listing.old.states.items ++ state ∷ []) }
 {
     if listing.nodes.push(node).is_err() {
         return Err(NoMemory);
@@ -55,8 +56,11 @@ pub(crate) fn list_place(
     requires count { free ≡ length (tiers_in frame.now).free }
     requires few { free ≤ 12 }
     requires place { place ≤ last_place (problem_in frame.now) }
-    requires before { AreListed (problem_in frame.now) (place * 2 ^ free) listing.old.nodes.items listing.old.states.items }
-    ensures { OnOk result (AreListed (problem_in frame.now) ((place + 1) * 2 ^ free) listing.new.nodes.items listing.new.states.items) }
+    requires before { AreListed (problem_in frame.now)
+        (place * 2 ^ free) listing.old.nodes.items listing.old.states.items }
+    ensures { OnOk result
+        (AreListed (problem_in frame.now)
+        ((place + 1) * 2 ^ free) listing.new.nodes.items listing.new.states.items) }
 {
     let symbols = staying(&frame.grammar.tiers, inputs, frame.form, place as usize);
     let stay = &symbols[..inputs];

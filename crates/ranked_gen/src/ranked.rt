@@ -7,12 +7,11 @@ ghost use Rattle.ranked_gen.specs.Left.{IsRanked};
 ghost use Rattle.violation.specs.Problems.{last_stage};
 ghost use Rattle.kind_moves.specs.Frames.{problem_in};
 
+use crate::ending::{Ending, ending_of};
 use crate::gen_err::GenErr;
 use crate::staged::{Left, Staged, next_stage};
 use answer_text::{Answer, Stage};
-use first_paths::first;
 use kind_moves::Frame;
-use kind_orders::{automaton_of, ranks};
 use std::alloc::Global;
 use tier_core::{NoMemory, Timeline};
 
@@ -26,8 +25,10 @@ pub(crate) struct Ranked {
 
 /// The stages with one more.
 fn with_next(ranked: Ranked, next: Staged) -> Result<Ranked, NoMemory>
-    ensures stages { IfOk result (λ all. all.stages.items ≡ ranked.stages.items ++ next.stage ∷ []) }
-    ensures counts { IfOk result (λ all. all.counts.items ≡ ranked.counts.items ++ next.count ∷ []) }
+    ensures stages { IfOk result
+        (λ all. all.stages.items ≡ ranked.stages.items ++ next.stage ∷ []) }
+    ensures counts { IfOk result
+        (λ all. all.counts.items ≡ ranked.counts.items ++ next.count ∷ []) }
     ensures left { IfOk result (λ all. all.left ≡ next.left) }
 {
     let Ranked {
@@ -46,19 +47,25 @@ fn with_next(ranked: Ranked, next: Staged) -> Result<Ranked, NoMemory>
     })
 }
 
-/// All stages of a frame, from stage 0 on. `Budget` comes with the first stage that has more kinds of
-/// prefix than the budget, and `NoMemory` only for want of memory.
+/// All stages of a frame, from stage 0 on. `Budget` occurs with the first stage that has more
+/// kinds of prefix than the budget, and `NoMemory` only if memory runs out.
 pub(crate) fn all_ranked(
     alloc: Global,
     frame: &Frame,
     start: Ranked,
     budget: u32,
 ) -> Result<Ranked, GenErr>
-    requires start { IsRanked (problem_in frame.now) budget 0 start.stages.items start.counts.items (states_of start.left.kept.table) start.left.kept.states.items start.left.order.items }
+    requires start { IsRanked (problem_in frame.now) budget 0 start.stages.items start.counts.items
+        (states_of start.left.kept.table) start.left.kept.states.items start.left.order.items }
     requires some { 1 ≤ budget }
     requires few { budget ≤ 65536 }
-    ensures ranked { IfOk result (λ all. IsRanked (problem_in frame.now) budget (last_stage (problem_in frame.now)) all.stages.items all.counts.items (states_of all.left.kept.table) all.left.kept.states.items all.left.order.items) }
-    ensures over { (s : ℕ) → result ≡ Err (GenErr.Budget s) → IsFirstOver (problem_in frame.now) budget s }
+    ensures ranked { IfOk result
+        (λ all.
+        IsRanked (problem_in frame.now) budget
+        (last_stage (problem_in frame.now)) all.stages.items all.counts.items
+        (states_of all.left.kept.table) all.left.kept.states.items all.left.order.items) }
+    ensures over { (s : ℕ) → result ≡ Err (GenErr.Budget s)
+        → IsFirstOver (problem_in frame.now) budget s }
 {
     let mut ranked = start;
     for number in 0..frame.grammar.constraints.len() as u32 {
@@ -74,8 +81,8 @@ pub(crate) fn all_ranked(
     Ok(ranked)
 }
 
-/// The same timeline once more. It fails only for want of memory.
-fn copied(alloc: Global, timeline: &Timeline) -> Result<Timeline, NoMemory>
+/// A copy of the timeline. Fails only if memory runs out.
+pub(crate) fn copied(alloc: Global, timeline: &Timeline) -> Result<Timeline, NoMemory>
     ensures { IfOk result (λ t. t ≡ timeline.now) }
 {
     let mut copy = Timeline::new(alloc);
@@ -87,24 +94,25 @@ fn copied(alloc: Global, timeline: &Timeline) -> Result<Timeline, NoMemory>
     Ok(copy)
 }
 
-/// The answer of all stages of a frame. It fails only for want of memory.
+/// The answer of all stages of a frame. Fails only if memory runs out.
 pub(crate) fn answered(alloc: Global, frame: &Frame, ranked: Ranked) -> Result<Answer, NoMemory>
-    requires ranked { (budget : ℕ) × IsRanked (problem_in frame.now) budget (last_stage (problem_in frame.now)) ranked.stages.items ranked.counts.items (states_of ranked.left.kept.table) ranked.left.kept.states.items ranked.left.order.items }
+    requires ranked { (budget : ℕ)
+        × IsRanked (problem_in frame.now) budget
+        (last_stage (problem_in frame.now)) ranked.stages.items ranked.counts.items
+        (states_of ranked.left.kept.table) ranked.left.kept.states.items ranked.left.order.items }
     ensures right { IfOk result (λ answer. IsRight (problem_in frame.now) answer) }
 {
     let own = copied(alloc, frame.form)?;
     let Ranked {
         stages,
         counts,
-        left: Left { kept, order },
+        left,
     } = ranked;
-    let found = first(alloc, &kept.table)?;
-    let places = ranks(alloc, &order)?;
-    let automaton = automaton_of(alloc, &kept.table, &kept.states, &places)?;
+    let Ending { example, automaton } = ending_of(alloc, frame, &left)?;
     Ok(Answer {
         form: own,
         counts,
-        example: found.unwrap(),
+        example,
         stages,
         automaton,
     })

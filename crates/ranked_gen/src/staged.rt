@@ -36,8 +36,8 @@ pub(crate) struct Left {
     pub(crate) order: Vec<u32>,
 }
 
-/// A stage: its nodes, the number of its constraint in the violations of what it leaves, and what it
-/// leaves.
+/// A stage: its nodes, the number of its constraint in the violations of what it leaves, and what
+/// it leaves.
 #[derive(Drop)]
 pub(crate) struct Staged {
     pub(crate) stage: Stage,
@@ -45,7 +45,7 @@ pub(crate) struct Staged {
     pub(crate) left: Left,
 }
 
-/// The number of a weight that is found, and 0 where there is none.
+/// The number of a weight that is found, or 0 if there is none.
 fn weight_number(weight: Option<Count>) -> u32
     ensures { result ≡ weight_number weight }
 {
@@ -66,15 +66,20 @@ fn potentials_of(alloc: Global, least: &[Option<Count>]) -> Result<Vec<u32>, All
     Ok(numbers)
 }
 
-/// The nodes of a table that was explored, and what its constraint leaves. It fails only for want of
-/// memory.
+/// The nodes of a table that was explored, and what its constraint leaves. Fails only if memory
+/// runs out.
 fn pruned(alloc: Global, frame: &Frame, stage: u32, found: &StageTable) -> Result<Staged, NoMemory>
     requires some { 1 ≤ stage }
     requires within { stage ≤ last_stage (problem_in frame.now) }
-    requires table { IsStageTable (problem_in frame.now) stage (names_at frame.now stage found.now.kinds.items) (states_of found.now.table) }
+    requires table { IsStageTable (problem_in frame.now) stage
+        (names_at frame.now stage found.now.kinds.items) (states_of found.now.table) }
     requires fit { All (FitsFrame frame.now stage) found.now.kinds.items }
-    requires single { (s : ℕ) (arc : ArcOf Counted ⟦<Count as Weight>⟧) → Contains (moves_at (states_of found.now.table) s) arc → IsOfOneColumn arc.class }
-    ensures { IfOk result (λ staged. IsStaged (problem_in frame.now) stage staged.stage.nodes.items staged.count (states_of staged.left.kept.table) staged.left.kept.states.items staged.left.order.items) }
+    requires single { (s : ℕ) (arc : ArcOf Counted ⟦<Count as Weight>⟧)
+        → Contains (moves_at (states_of found.now.table) s) arc → IsOfOneColumn arc.class }
+    ensures { IfOk result
+        (λ staged.
+        IsStaged (problem_in frame.now) stage staged.stage.nodes.items staged.count
+        (states_of staged.left.kept.table) staged.left.kept.states.items staged.left.order.items) }
 {
     let least = to_final(alloc, &found.table)?;
     let Ok(potentials) = potentials_of(alloc, &least) else {
@@ -91,8 +96,8 @@ fn pruned(alloc: Global, frame: &Frame, stage: u32, found: &StageTable) -> Resul
     })
 }
 
-/// The next stage of a frame, from what the stage before has left. `Budget` comes exactly where it has
-/// more kinds of prefix than the budget, and `NoMemory` only for want of memory.
+/// The next stage of a frame, from what the stage before has left. `Budget` occurs exactly when it
+/// has more kinds of prefix than the budget, and `NoMemory` only if memory runs out.
 pub(crate) fn next_stage(
     alloc: Global,
     frame: &Frame,
@@ -103,14 +108,19 @@ pub(crate) fn next_stage(
     requires some { 1 ≤ stage }
     requires within { stage ≤ last_stage (problem_in frame.now) }
     requires kept { IsKept (problem_in frame.now) (stage - 1) (states_of kept.now) }
-    requires accepts { (T : List (List Sym)) → Accepts (states_of kept.now) T ↔ IsOptimalFor (problem_in frame.now) (stage - 1) T }
+    requires accepts { (T : List (List Sym)) → Accepts (states_of kept.now) T
+        ↔ IsOptimalFor (problem_in frame.now) (stage - 1) T }
     requires some_budget { 1 ≤ budget }
     requires few { budget ≤ 65536 }
-    ensures staged { IfOk result (λ staged. IsStaged (problem_in frame.now) stage staged.stage.nodes.items staged.count (states_of staged.left.kept.table) staged.left.kept.states.items staged.left.order.items) }
+    ensures staged { IfOk result
+        (λ staged.
+        IsStaged (problem_in frame.now) stage staged.stage.nodes.items staged.count
+        (states_of staged.left.kept.table) staged.left.kept.states.items staged.left.order.items) }
     ensures within { IfOk result (λ staged. IsWithin (problem_in frame.now) budget stage) }
-    ensures over { (s : ℕ) → result ≡ Err (GenErr.Budget s) → (s ≡ stage) × IsOver (problem_in frame.now) budget stage }
+    ensures over { (s : ℕ) → result ≡ Err (GenErr.Budget s)
+        → (s ≡ stage) × IsOver (problem_in frame.now) budget stage }
 {
-    match explore(alloc, frame, stage, kept, budget) {
+    match explore(alloc, frame, stage - 1, stage, kept, budget) {
         Ok(found) => pruned(alloc, frame, stage, &found).map_err(|_| GenErr::NoMemory),
         Err(ExploreErr::OverBudget) => Err(GenErr::Budget { stage }),
         Err(ExploreErr::NoMemory) => Err(GenErr::NoMemory),

@@ -29,7 +29,7 @@ pub(crate) fn kind_at(free: u32, place: u32, opened: u32) -> Kind
     }
 }
 
-/// The arcs of a kind, where `stay` has the symbols of the input tiers that have no edge.
+/// The arcs of a kind; `stay` has the symbols of the input tiers that have no edge.
 fn arcs_at(
     alloc: Global,
     frame: &Frame,
@@ -45,7 +45,11 @@ fn arcs_at(
     requires opened { opened < 2 ^ free }
     requires numbered { IsKindNumbered free (kind.now.place * 2 ^ free + opened) kind.now }
     requires stay { stay.now ≡ staying (tiers_in frame.now) (form_in frame.now) kind.now.place }
-    ensures { IfOk result (λ arcs. map table_view arcs.items ≡ map move_view (moves_from (problem_in frame.now) (kind_at_stage frame.now 0 kind.now))) }
+    ensures { IfOk result
+        (λ arcs.
+        map table_view arcs.items
+        ≡ map move_view
+        (moves_from (problem_in frame.now) (kind_at_stage frame.now 0 kind.now))) }
 {
     let mut arcs = Vec::new(alloc);
     push_moves(alloc, &mut arcs, frame, free, kind, opened, stay)?;
@@ -73,7 +77,9 @@ pub(crate) fn state_at(
     requires opened { opened < 2 ^ free }
     requires numbered { IsKindNumbered free (kind.now.place * 2 ^ free + opened) kind.now }
     requires stay { stay.now ≡ staying (tiers_in frame.now) (form_in frame.now) kind.now.place }
-    ensures { IfOk result (λ state. IsStateNumbered (problem_in frame.now) (kind.now.place * 2 ^ free + opened) state) }
+    ensures { IfOk result
+        (λ state.
+        IsStateNumbered (problem_in frame.now) (kind.now.place * 2 ^ free + opened) state) }
 {
     let arcs = arcs_at(alloc, frame, free, kind, opened, stay)?;
     Ok(TableState {

@@ -3,8 +3,8 @@ ghost use Rattle.tier_core.specs.Tables.{tiers_of_table};
 ghost use Rattle.violation.specs.Candidates.{IsForm};
 ghost use Rattle.violation.specs.Problems.{asked};
 
-use crate::{GenErr, generate};
-use answer_text::Answer;
+use crate::{GenErr, generate, generate_once};
+use answer_text::{Answer, OnceAnswer};
 use grammar_reader::{Grammar, read_grammar};
 use std::alloc::Global;
 use std::cmp::Ordering;
@@ -13,6 +13,9 @@ use tier_core::{Timeline, reduced, timeline_cmp, well_formed};
 use timeline_text::read_timeline;
 
 const BASE: &[u8] = b"otp 1\ntier A input\ntier a overt\n";
+
+const RANKED: &[u8] =
+    b"otp 1\ntier A input\ntier a overt\nconstraint One a # a\nconstraint Max A -> a\nconstraint Dep a -> A\n";
 
 const HIDDEN: &[u8] = b"otp 1\ntier A input\ntier a overt\ntier b hidden\n";
 
@@ -42,14 +45,14 @@ fn is_form(grammar: &Grammar, form: &Timeline) -> bool
     well_formed(form, inputs as u32) && reduced(form)
 }
 
-/// What is generated, where all that is asked for holds.
+/// What is generated, if all that is required holds.
 fn generated(
     alloc: Global,
     grammar: &Grammar,
     form: &Timeline,
     budget: u32,
 ) -> Option<Result<Answer, GenErr>> {
-    if !grammar.constraints.is_empty() || form.len() > 64 || budget < 1 || budget > 65536 {
+    if form.len() > 64 || budget < 1 || budget > 65536 {
         return None;
     }
     if !is_form(grammar, form) {
@@ -98,6 +101,67 @@ fn budgets_and_examples(rt: HostRuntime) -> Result<(), Fail> {
     ];
     for (text, form, budget, example, nodes) in cases {
         let found = shown(rt.alloc(), text, form, budget, example);
+        let wanted = match nodes {
+            Ok(count) => Some(Ok((count, true))),
+            Err(e) => Some(Err(e)),
+        };
+        assert_eq!(rt; found, wanted, "at a budget of {budget}");
+    }
+    Ok(())
+}
+
+/// What a single pass gives, where all that is asked for holds.
+fn passed(
+    alloc: Global,
+    grammar: &Grammar,
+    form: &Timeline,
+    budget: u32,
+) -> Option<Result<OnceAnswer, GenErr>> {
+    if form.len() > 64 || budget < 1 || budget > 65536 {
+        return None;
+    }
+    if !is_form(grammar, form) {
+        return None;
+    }
+    Some(generate_once(alloc, grammar, form, budget))
+}
+
+/// The number of nodes of a single pass, and whether its counts and example are those that the stages
+/// give with this budget; or its error.
+fn compared(
+    alloc: Global,
+    text: &[u8],
+    form: &[u8],
+    stages_budget: u32,
+    budget: u32,
+) -> Option<Result<(usize, bool), GenErr>> {
+    let grammar = grammar(alloc, text)?;
+    let form = timeline(alloc, grammar.tiers.input_count(), form)?;
+    let staged = generated(alloc, &grammar, &form, stages_budget)?.ok()?;
+    match passed(alloc, &grammar, &form, budget)? {
+        Ok(once) => {
+            let same_example = timeline_cmp(&once.example, &staged.example) == Ordering::Equal;
+            let same_counts = once.counts.as_slice() == staged.counts.as_slice();
+            Some(Ok((once.nodes.len(), same_example && same_counts)))
+        }
+        Err(e) => Some(Err(e)),
+    }
+}
+
+// A grammar, a form, a budget of the stages and one of the single pass, and how many nodes the single
+// pass has, or the error.
+#[test]
+fn a_single_pass_gives_what_the_stages_give(rt: HostRuntime) -> Result<(), Fail> {
+    let cases: [(&[u8], &[u8], u32, u32, Result<usize, GenErr>); 6] = [
+        (RANKED, b"[ ]", 6, 8, Ok(8)),
+        (RANKED, b"[ ]", 6, 7, Err(GenErr::Budget { stage: 3 })),
+        (RANKED, b"[ ]", 6, 5, Err(GenErr::Budget { stage: 3 })),
+        (BASE, b"[ | ]", 8, 8, Ok(8)),
+        (BASE, b"[ | ]", 8, 7, Err(GenErr::Budget { stage: 0 })),
+        (MIXED, b"[- ][ -]", 16, 16, Ok(16)),
+    ];
+    for (text, form, stages_budget, budget, nodes) in cases {
+        let found = compared(rt.alloc(), text, form, stages_budget, budget);
         let wanted = match nodes {
             Ok(count) => Some(Ok((count, true))),
             Err(e) => Some(Err(e)),

@@ -5,7 +5,7 @@ ghost use Rattle.ranked_gen.specs.WideColumns.{widened};
 use std::alloc::Global;
 use tier_core::{Column, Sym, TierKind};
 
-/// A column of a form, widened to all tiers: Outside where a tier is free.
+/// A column of a form, widened to all tiers, with Outside on the free ones.
 pub(crate) fn widened(alloc: Global, kinds: &[TierKind], column: &[Sym]) -> Column
     requires some { 1 ≤ length kinds.now }
     requires few { length kinds.now ≤ 12 }

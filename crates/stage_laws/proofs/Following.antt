@@ -14,7 +14,9 @@ use Rattle.stage_laws.specs.StageTables.{AreNamedByKinds, AreWeighed, IsStageTab
 use Rattle.violation.specs.Problems.{Problem}
 
 pub first_table : (problem : Problem) {g : Ghosts Count} (names : List PrefixKind) (states : List (TableState Count g))
-    → AreNamedByKinds problem 0 names states → AreWeighed problem 0 names states → ((T : List (List Sym)) → Accepts states T ↔ IsCandidate problem T) → ((s : ℕ) → s < length states → IsOnRun states s) → IsStageTable problem 0 names states
+    → AreNamedByKinds problem 0 names states → AreWeighed problem 0 names states
+    → ((T : List (List Sym)) → Accepts states T ↔ IsCandidate problem T)
+    → ((s : ℕ) → s < length states → IsOnRun states s) → IsStageTable problem 0 names states
 first_table problem names states named weighed accepts on_runs = record {
   named = named;
   weighed = weighed;
@@ -22,8 +24,11 @@ first_table problem names states named weighed accepts on_runs = record {
   on_runs = on_runs;
 }
 
-pub next_table : (problem : Problem) (r : ℕ) {g : Ghosts Count} (names : List PrefixKind) (states : List (TableState Count g))
-    → AreNamedByKinds problem (r + 1) names states → AreWeighed problem (r + 1) names states → ((T : List (List Sym)) → Accepts states T ↔ IsOptimalFor problem r T) → ((s : ℕ) → s < length states → IsOnRun states s) → IsStageTable problem (r + 1) names states
+pub next_table : (problem : Problem) (r : ℕ) {g : Ghosts Count} (names : List PrefixKind)
+    (states : List (TableState Count g))
+    → AreNamedByKinds problem (r + 1) names states → AreWeighed problem (r + 1) names states
+    → ((T : List (List Sym)) → Accepts states T ↔ IsOptimalFor problem r T)
+    → ((s : ℕ) → s < length states → IsOnRun states s) → IsStageTable problem (r + 1) names states
 next_table problem r names states named weighed accepts on_runs =
     let before : r + 1 - 1 ≡ r = omega arith in
     record {

@@ -8,3 +8,6 @@ pub mod Pruned
 pub mod Exploring
 pub mod Staged
 pub mod Complete
+pub mod VectorWeights
+pub mod LeastVectors
+pub mod PrunedOnce

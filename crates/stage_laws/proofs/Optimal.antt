@@ -23,7 +23,9 @@ use Rattle.violation.proofs.VectorLemmas.{both_equal, equal_at_most, at_most_las
 use Rattle.stage_laws.proofs.Weighing.{run_weight_law}
 use Rattle.violation.specs.Problems.{Problem, last_stage}
 
-module _ (problem : Problem) (r : ℕ) (stage : IsStage problem r) {g : Ghosts Count} (meaning : g.meaning ≡ count_meaning) (names : List PrefixKind) (states : List (TableState Count g)) (table : IsStageTable problem r names states) (ranked : 1 ≤ r) where
+module _ (problem : Problem) (r : ℕ) (stage : IsStage problem r) {g : Ghosts Count}
+    (meaning : g.meaning ≡ count_meaning) (names : List PrefixKind) (states : List (TableState Count g))
+    (table : IsStageTable problem r names states) (ranked : 1 ≤ r) where
   within : (T : List (List Sym)) → r ≤ length (counts_on problem T)
   within T = omega (arith, stage.within, length-map problem.constraints (λ c. violations_of c T))
 
@@ -31,7 +33,8 @@ module _ (problem : Problem) (r : ℕ) (stage : IsStage problem r) {g : Ghosts C
   abbrev count : List (List Sym) → ℕ
   count T = count_at problem r T
 
-  weight_count : (arcs : List (TableArc Count g)) (T : List (List Sym)) → AcceptingRun states T arcs → (weight_of arcs).0 ≡ count T
+  weight_count : (arcs : List (TableArc Count g)) (T : List (List Sym)) → AcceptingRun states T arcs
+      → (weight_of arcs).0 ≡ count T
   weight_count arcs T run = run_weight_law problem r stage meaning names states table ranked arcs T run
 
   pub least_optimal : (T : List (List Sym)) → IsLeastWord states T → IsOptimalFor problem r T
@@ -41,17 +44,27 @@ module _ (problem : Problem) (r : ℕ) (stage : IsStage problem r) {g : Ghosts C
       before = (table.accepts T).0 (word.0, word.1)
 
       -- a candidate that the constraints before do not tell from T is accepted too, and weighs no less
-      no_less : (U : List (List Sym)) → IsCandidate problem U → vec_cmp (take (r - 1) (counts_on problem T)) (take (r - 1) (counts_on problem U)) ≡ Equal → count T ≤ count U
+      no_less : (U : List (List Sym)) → IsCandidate problem U
+          → vec_cmp (take (r - 1) (counts_on problem T)) (take (r - 1) (counts_on problem U)) ≡ Equal
+          → count T ≤ count U
       no_less U c e =
           let other : IsOptimalFor problem (r - 1) U = record {
             candidate = c;
-            least = λ V d. equal_at_most (take (r - 1) (counts_on problem T)) (take (r - 1) (counts_on problem U)) (take (r - 1) (counts_on problem V)) e (before.least V d);
+            least = λ V d. equal_at_most (take (r - 1) (counts_on problem T)) (take (r - 1) (counts_on problem U))
+                (take (r - 1) (counts_on problem V)) e (before.least V d);
           } in
           let accepted : Accepts states U = (table.accepts U).1 other in
-          omega (arith, at_most_le meaning (weight_of word.0) (weight_of accepted.0) (word.2 U accepted.0 accepted.1), weight_count word.0 T word.1, weight_count accepted.0 U accepted.1)
+          omega (
+            arith,
+            at_most_le meaning (weight_of word.0) (weight_of accepted.0) (word.2 U accepted.0 accepted.1),
+            weight_count word.0 T word.1,
+            weight_count accepted.0 U accepted.1,
+          )
 
-      least : (U : List (List Sym)) → IsCandidate problem U → IsAtMost (take r (counts_on problem T)) (take r (counts_on problem U))
-      least U c = at_most_by_last r ranked (counts_on problem T) (counts_on problem U) (within T) (within U) (before.least U c) (no_less U c)
+      least : (U : List (List Sym)) → IsCandidate problem U
+          → IsAtMost (take r (counts_on problem T)) (take r (counts_on problem U))
+      least U c = at_most_by_last r ranked (counts_on problem T) (counts_on problem U) (within T) (within U)
+          (before.least U c) (no_less U c)
 
   pub optimal_least : (T : List (List Sym)) → IsOptimalFor problem r T → IsLeastWord states T
   optimal_least T opt = (accepted.0, accepted.1, least)
@@ -62,19 +75,24 @@ module _ (problem : Problem) (r : ℕ) (stage : IsStage problem r) {g : Ghosts C
       accepted : Accepts states T
       accepted = (table.accepts T).1 before
 
-      least : (U : List (List Sym)) (others : List (TableArc Count g)) → AcceptingRun states U others → AtMost g.meaning (weight_of accepted.0) (weight_of others)
+      least : (U : List (List Sym)) (others : List (TableArc Count g)) → AcceptingRun states U others
+          → AtMost g.meaning (weight_of accepted.0) (weight_of others)
       least U others run =
           let other : IsOptimalFor problem (r - 1) U = (table.accepts U).0 (others, run) in
           let same : vec_cmp (take (r - 1) (counts_on problem T)) (take (r - 1) (counts_on problem U)) ≡ Equal =
-          both_equal (take (r - 1) (counts_on problem T)) (take (r - 1) (counts_on problem U)) (before.least U other.candidate) (other.least T opt.candidate) in
-          let bound : count T ≤ count U = at_most_last r ranked (counts_on problem T) (counts_on problem U) (within T) (within U) (opt.least U other.candidate) same in
-          le_at_most meaning (weight_of accepted.0) (weight_of others) (omega (arith, bound, weight_count accepted.0 T accepted.1, weight_count others U run))
+          both_equal (take (r - 1) (counts_on problem T)) (take (r - 1) (counts_on problem U))
+          (before.least U other.candidate) (other.least T opt.candidate) in
+          let bound : count T ≤ count U = at_most_last r ranked (counts_on problem T) (counts_on problem U) (within T)
+          (within U) (opt.least U other.candidate) same in
+          le_at_most meaning (weight_of accepted.0) (weight_of others)
+          (omega (arith, bound, weight_count accepted.0 T accepted.1, weight_count others U run))
 
   pub words_law : (T : List (List Sym)) → IsLeastWord states T ↔ IsOptimalFor problem r T
   words_law T = (least_optimal T, optimal_least T)
 
   -- the least weight from the start is what every r-optimal candidate violates of constraint r
-  pub number_law : (w : Count) → IsLeastFrom states 0 w → (T : List (List Sym)) → IsOptimalFor problem r T → count_at problem r T ≡ w.0
+  pub number_law : (w : Count) → IsLeastFrom states 0 w → (T : List (List Sym)) → IsOptimalFor problem r T
+      → count_at problem r T ≡ w.0
   number_law w from T opt =
       let word : IsLeastWord states T = optimal_least T opt in
       let found = from.some in
@@ -85,24 +103,37 @@ module _ (problem : Problem) (r : ℕ) (stage : IsStage problem r) {g : Ghosts C
         weight_count word.0 T word.1,
         weight,
         at_most_le meaning w (weight_of word.0) (from.least word.0 word.1.run),
-        at_most_le meaning (weight_of word.0) (weight_of found.0) (word.2 q.0 found.0 (record { run = found.1; reads = q.1 })),
+        at_most_le meaning (weight_of word.0) (weight_of found.0)
+            (word.2 q.0 found.0 (record { run = found.1; reads = q.1 })),
       )
 
-  pub vector_law : (w : Count) → IsLeastFrom states 0 w → (v : List ℕ) → IsLeastVector problem v → get_or v (r - 1) 0 ≡ w.0
+  pub vector_law : (w : Count) → IsLeastFrom states 0 w → (v : List ℕ) → IsLeastVector problem v
+      → get_or v (r - 1) 0 ≡ w.0
   vector_law w from v least =
       let best = least.some in
-      ap (λ (ns : List ℕ). get_or ns (r - 1) 0) (sym best.1.1) ∙ number_law w from best.0 (optimal_for_fewer problem r (last_stage problem) stage.within best.0 best.1.0)
+      ap (λ (ns : List ℕ). get_or ns (r - 1) 0) (sym best.1.1)
+      ∙ number_law w from best.0 (optimal_for_fewer problem r (last_stage problem) stage.within best.0 best.1.0)
 
-module _ {g : Ghosts Count} (meaning : g.meaning ≡ count_meaning) (names : List PrefixKind) (states : List (TableState Count g)) (problem : Problem) where
+module _ {g : Ghosts Count} (meaning : g.meaning ≡ count_meaning) (names : List PrefixKind)
+    (states : List (TableState Count g)) (problem : Problem) where
   -- at stage 0 nothing weighs, and each word is of least weight
-  first_words : IsStage problem 0 → IsStageTable problem 0 names states → (T : List (List Sym)) → IsLeastWord states T ↔ IsOptimalFor problem 0 T
+  first_words : IsStage problem 0 → IsStageTable problem 0 names states → (T : List (List Sym))
+      → IsLeastWord states T ↔ IsOptimalFor problem 0 T
   first_words stage table T = (
     λ w. (table.accepts T).0 (w.0, w.1),
     λ o.
-        let accepted : Accepts states T = (table.accepts T).1 o in
-        (accepted.0, accepted.1, λ U others run. le_at_most meaning (weight_of accepted.0) (weight_of others) (omega (arith, first_weight meaning names states problem stage table accepted.0 T 0 accepted.1.run accepted.1.reads))),
+        let accepted : Accepts states T = (table.accepts T).1 o in (
+          accepted.0,
+          accepted.1,
+          λ U others run. le_at_most meaning (weight_of accepted.0) (weight_of others)
+              (omega (
+                arith,
+                first_weight meaning names states problem stage table accepted.0 T 0 accepted.1.run accepted.1.reads,
+              )),
+        ),
   )
 
-  pub all_words_law : (r : ℕ) → IsStage problem r → IsStageTable problem r names states → (T : List (List Sym)) → IsLeastWord states T ↔ IsOptimalFor problem r T
+  pub all_words_law : (r : ℕ) → IsStage problem r → IsStageTable problem r names states → (T : List (List Sym))
+      → IsLeastWord states T ↔ IsOptimalFor problem r T
   all_words_law zero stage table = first_words stage table
   all_words_law (suc i) stage table = words_law problem (suc i) stage meaning names states table (omega arith)

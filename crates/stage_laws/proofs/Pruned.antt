@@ -21,38 +21,47 @@ use Rattle.stage_laws.specs.FoundTables.{names_kept}
 use Rattle.stage_laws.proofs.Naming.{same_state}
 use Rattle.violation.specs.Problems.{Problem}
 
-module _ (problem : Problem) (r : ℕ) (stage : IsStage problem r) {W V : Type 0} {g : Ghosts W} {h : Ghosts V} (names : List PrefixKind) (states : List (TableState W g)) (named : AreNamedByKinds problem r names states) (pruned : List (TableState V h)) (old : List ℕ) (tight : IsTight states pruned old) where
+module _ (problem : Problem) (r : ℕ) (stage : IsStage problem r) {W V : Type 0} {g : Ghosts W} {h : Ghosts V}
+    (names : List PrefixKind) (states : List (TableState W g)) (named : AreNamedByKinds problem r names states)
+    (pruned : List (TableState V h)) (old : List ℕ) (tight : IsTight states pruned old) where
   kept_name : (k : ℕ) → k < length pruned → name_of (names_kept names old) k ≡ name_of names (get_or old k 0)
   kept_name k l = get_or-map (name_of names) old k 0 _ (omega (arith, tight.each_named))
 
-  kept_distinct : (j k : ℕ) (d : PrefixKind) → j < k → k < length (names_kept names old) → get_or (names_kept names old) j d ≢ get_or (names_kept names old) k d
+  kept_distinct : (j k : ℕ) (d : PrefixKind) → j < k → k < length (names_kept names old)
+      → get_or (names_kept names old) j d ≢ get_or (names_kept names old) k d
   kept_distinct j k d less within e =
       let inside : k < length old = omega (arith, length-map old (name_of names)) in
       let same : name_of names (get_or old j 0) ≡ name_of names (get_or old k 0) =
       sym (get_or-map (name_of names) old j 0 d (omega arith)) ∙ e ∙ get_or-map (name_of names) old k 0 d inside in
-      tight.distinct j k less inside (same_state problem r stage names states named (get_or old j 0) (get_or old k 0) (tight.within j (omega arith)) (tight.within k inside) same)
+      tight.distinct j k less inside (same_state problem r stage names states named (get_or old j 0) (get_or old k 0)
+      (tight.within j (omega arith)) (tight.within k inside) same)
 
-  kept_moves : (k : ℕ) (b : TableArc V h) (column : List Sym) → Contains (moves_at pruned k) b → IsTrue (has b.class column) → GoesAsKinds problem r (names_kept names old) k b column
+  kept_moves : (k : ℕ) (b : TableArc V h) (column : List Sym) → Contains (moves_at pruned k) b
+      → IsTrue (has b.class column) → GoesAsKinds problem r (names_kept names old) k b column
   kept_moves k b column here reads =
       let inside : k < length pruned = moves_exist pruned k b here in
       let move = tight.moves k b inside here in
       let a : TableArc W g = move.0 in
       let match = move.3 in
       let P : Class → Type 0 = λ c. IsTrue (has c column) in
-      let goes : GoesAsKinds problem r names (get_or old k 0) a column = named.moves (get_or old k 0) a column move.1 (subst P match.0 reads) in
+      let goes : GoesAsKinds problem r names (get_or old k 0) a column = named.moves (get_or old k 0) a column move.1
+      (subst P match.0 reads) in
       let name : name_of (names_kept names old) k ≡ name_of names (get_or old k 0) = kept_name k inside in
       record {
         fits = subst (λ n. FitsKind problem n column) (sym name) goes.fits;
-        leads = get_or-map (name_of names) old b.target 0 _ match.1.0 ∙ ap (name_of names) match.1.1 ∙ goes.leads ∙ ap (λ n. moved problem r n column) (sym name);
+        leads = get_or-map (name_of names) old b.target 0 _ match.1.0 ∙ ap (name_of names) match.1.1 ∙ goes.leads
+            ∙ ap (λ n. moved problem r n column) (sym name);
       }
 
-  pub kept_named : 0 < length pruned → TargetsExist pruned → ClassesFilled pruned → AreNamedByKinds problem r (names_kept names old) pruned
+  pub kept_named : 0 < length pruned → TargetsExist pruned → ClassesFilled pruned
+      → AreNamedByKinds problem r (names_kept names old) pruned
   kept_named some targets filled = record {
     each_named = length-map old (name_of names) ∙ tight.each_named;
     distinct = kept_distinct;
     some = some;
     start = kept_name 0 some ∙ ap (name_of names) tight.start ∙ named.start;
-    ends = λ k l. tight.accepting k l ∙ named.ends (get_or old k 0) (tight.within k (omega (arith, tight.each_named))) ∙ ap (is_final problem) (sym (kept_name k l));
+    ends = λ k l. tight.accepting k l ∙ named.ends (get_or old k 0) (tight.within k (omega (arith, tight.each_named)))
+        ∙ ap (is_final problem) (sym (kept_name k l));
     moves = kept_moves;
     targets = targets;
     filled = filled;

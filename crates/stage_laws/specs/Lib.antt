@@ -1,2 +1,3 @@
 pub mod StageTables
 pub mod FoundTables
+pub mod RankedTables

@@ -13,10 +13,21 @@ ghost use Rattle.violation.specs.Problems.{Problem};
 
 use weight_law::{Count, Weight};
 
-/// A table that is named by kinds and has all their moves accepts exactly the candidates, and each of
-/// its states that is reached is on a run. Where no constraint is ranked it is the table of stage 0.
+/// A table that is named by kinds and has all their moves accepts exactly the candidates, and each
+/// of its states that is reached is on a run. When no constraint is ranked it is the table of
+/// stage 0.
 pub fn complete_tables_accept_the_candidates()
-    ensures words { (problem : Problem) (r : ℕ) (names : List PrefixKind) (states : List (TableState Count ⟦<Count as Weight>⟧)) → IsStage problem r → AreNamedByKinds problem r names states → HaveAllMoves problem names states → (T : List (List Sym)) → Accepts states T ↔ IsCandidate problem T }
-    ensures on_runs { (problem : Problem) (r : ℕ) (names : List PrefixKind) (states : List (TableState Count ⟦<Count as Weight>⟧)) → IsStage problem r → AreNamedByKinds problem r names states → HaveAllMoves problem names states → AreReached states → (s : ℕ) → s < length states → IsOnRun states s }
-    ensures first { (problem : Problem) (names : List PrefixKind) (states : List (TableState Count ⟦<Count as Weight>⟧)) → IsStage problem 0 → AreNamedByKinds problem 0 names states → AreWeighed problem 0 names states → HaveAllMoves problem names states → AreReached states → IsStageTable problem 0 names states }
+    ensures words { (problem : Problem) (r : ℕ) (names : List PrefixKind)
+        (states : List (TableState Count ⟦<Count as Weight>⟧)) → IsStage problem r
+        → AreNamedByKinds problem r names states → HaveAllMoves problem names states
+        → (T : List (List Sym)) → Accepts states T ↔ IsCandidate problem T }
+    ensures on_runs { (problem : Problem) (r : ℕ) (names : List PrefixKind)
+        (states : List (TableState Count ⟦<Count as Weight>⟧)) → IsStage problem r
+        → AreNamedByKinds problem r names states → HaveAllMoves problem names states
+        → AreReached states → (s : ℕ) → s < length states → IsOnRun states s }
+    ensures first { (problem : Problem) (names : List PrefixKind)
+        (states : List (TableState Count ⟦<Count as Weight>⟧)) → IsStage problem 0
+        → AreNamedByKinds problem 0 names states → AreWeighed problem 0 names states
+        → HaveAllMoves problem names states → AreReached states
+        → IsStageTable problem 0 names states }
 {}

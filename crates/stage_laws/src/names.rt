@@ -14,9 +14,16 @@ ghost use Rattle.violation.specs.Problems.{Problem};
 
 use weight_law::{Count, Weight};
 
-/// The names of a stage's table are exactly the kinds of the stage. A path from the start that reads
-/// some columns ends at the state that is named by their kind.
+/// The names of a stage's table are exactly the kinds of the stage. A path from the start that
+/// reads some columns ends at the state that is named by their kind.
 pub fn names_are_kinds()
-    ensures paths { (problem : Problem) (r : ℕ) (names : List PrefixKind) (states : List (TableState Count ⟦<Count as Weight>⟧)) → IsStage problem r → IsStageTable problem r names states → (arcs : List (TableArc Count ⟦<Count as Weight>⟧)) (s : ℕ) (p : List (List Sym)) → IsPath states 0 arcs s → Reads arcs p → name_of names s ≡ kind_of problem r p }
-    ensures names { (problem : Problem) (r : ℕ) (names : List PrefixKind) (states : List (TableState Count ⟦<Count as Weight>⟧)) → IsStage problem r → IsStageTable problem r names states → (k : PrefixKind) → Contains names k ↔ IsKindOfStage problem r k }
+    ensures paths { (problem : Problem) (r : ℕ) (names : List PrefixKind)
+        (states : List (TableState Count ⟦<Count as Weight>⟧)) → IsStage problem r
+        → IsStageTable problem r names states
+        → (arcs : List (TableArc Count ⟦<Count as Weight>⟧)) (s : ℕ) (p : List (List Sym))
+        → IsPath states 0 arcs s → Reads arcs p → name_of names s ≡ kind_of problem r p }
+    ensures names { (problem : Problem) (r : ℕ) (names : List PrefixKind)
+        (states : List (TableState Count ⟦<Count as Weight>⟧)) → IsStage problem r
+        → IsStageTable problem r names states → (k : PrefixKind) → Contains names k
+        ↔ IsKindOfStage problem r k }
 {}

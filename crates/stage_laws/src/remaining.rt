@@ -13,10 +13,21 @@ ghost use Rattle.violation.specs.Problems.{Problem};
 
 use weight_law::{Count, Weight};
 
-/// The least weight from a state of a stage's table is what remains to be counted from the kind that
-/// names it, however the weight was found. Each state has one.
+/// The least weight from a state of a stage's table is what remains to be counted from the kind
+/// that names it, however the weight was found. Each state has one.
 pub fn least_weights_remain()
-    ensures from_state { (problem : Problem) (r : ℕ) (names : List PrefixKind) (states : List (TableState Count ⟦<Count as Weight>⟧)) → IsStage problem r → IsStageTable problem r names states → (s : ℕ) (w : Count) → IsLeastFrom states s w → IsRemaining problem r (name_of names s) w.0 }
-    ensures of_all { (problem : Problem) (r : ℕ) (names : List PrefixKind) (states : List (TableState Count ⟦<Count as Weight>⟧)) → IsStage problem r → IsStageTable problem r names states → (least : List (Option Count)) → AreLeast states least → (s : ℕ) (w : Count) → slice_index_or least s None ≡ Some w → IsRemaining problem r (name_of names s) w.0 }
-    ensures each_state { (problem : Problem) (r : ℕ) (names : List PrefixKind) (states : List (TableState Count ⟦<Count as Weight>⟧)) → IsStageTable problem r names states → (least : List (Option Count)) → AreLeast states least → (s : ℕ) → s < length states → IsSome (slice_index_or least s None) }
+    ensures from_state { (problem : Problem) (r : ℕ) (names : List PrefixKind)
+        (states : List (TableState Count ⟦<Count as Weight>⟧)) → IsStage problem r
+        → IsStageTable problem r names states → (s : ℕ) (w : Count) → IsLeastFrom states s w
+        → IsRemaining problem r (name_of names s) w.0 }
+    ensures of_all { (problem : Problem) (r : ℕ) (names : List PrefixKind)
+        (states : List (TableState Count ⟦<Count as Weight>⟧)) → IsStage problem r
+        → IsStageTable problem r names states → (least : List (Option Count))
+        → AreLeast states least → (s : ℕ) (w : Count) → slice_index_or least s None ≡ Some w
+        → IsRemaining problem r (name_of names s) w.0 }
+    ensures each_state { (problem : Problem) (r : ℕ) (names : List PrefixKind)
+        (states : List (TableState Count ⟦<Count as Weight>⟧))
+        → IsStageTable problem r names states → (least : List (Option Count))
+        → AreLeast states least → (s : ℕ) → s < length states
+        → IsSome (slice_index_or least s None) }
 {}

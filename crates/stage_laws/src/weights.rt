@@ -14,17 +14,33 @@ ghost use Rattle.violation.specs.Problems.{Problem};
 
 use weight_law::{Count, Weight};
 
-/// From stage 1 on, an accepting run of a stage's table weighs the violations of constraint r, counted
-/// from 1, of the candidate that it reads. A path from the start weighs the violations so far of each
-/// candidate that begins with what it reads.
+/// From stage 1 on, an accepting run of a stage's table weighs the violations of constraint r,
+/// counted from 1, of the candidate that it reads. A path from the start weighs the violations so
+/// far of each candidate that begins with what it reads.
 pub fn weights_are_violations()
-    ensures runs { (problem : Problem) (r : ℕ) (names : List PrefixKind) (states : List (TableState Count ⟦<Count as Weight>⟧)) → IsStage problem r → 1 ≤ r → IsStageTable problem r names states → (arcs : List (TableArc Count ⟦<Count as Weight>⟧)) (T : List (List Sym)) → AcceptingRun states T arcs → (weight_of arcs).0 ≡ count_at problem r T }
-    ensures paths { (problem : Problem) (r : ℕ) (names : List PrefixKind) (states : List (TableState Count ⟦<Count as Weight>⟧)) → IsStage problem r → 1 ≤ r → IsStageTable problem r names states → (arcs : List (TableArc Count ⟦<Count as Weight>⟧)) (s : ℕ) (p q : List (List Sym)) → IsPath states 0 arcs s → Reads arcs p → IsCandidate problem (p ++ q) → (weight_of arcs).0 ≡ count_so_far_at problem r (p ++ q) (length p) }
+    ensures runs { (problem : Problem) (r : ℕ) (names : List PrefixKind)
+        (states : List (TableState Count ⟦<Count as Weight>⟧)) → IsStage problem r → 1 ≤ r
+        → IsStageTable problem r names states
+        → (arcs : List (TableArc Count ⟦<Count as Weight>⟧)) (T : List (List Sym))
+        → AcceptingRun states T arcs → (weight_of arcs).0 ≡ count_at problem r T }
+    ensures paths { (problem : Problem) (r : ℕ) (names : List PrefixKind)
+        (states : List (TableState Count ⟦<Count as Weight>⟧)) → IsStage problem r → 1 ≤ r
+        → IsStageTable problem r names states
+        → (arcs : List (TableArc Count ⟦<Count as Weight>⟧)) (s : ℕ) (p q : List (List Sym))
+        → IsPath states 0 arcs s → Reads arcs p → IsCandidate problem (p ++ q)
+        → (weight_of arcs).0 ≡ count_so_far_at problem r (p ++ q) (length p) }
 {}
 
-/// Each move of a stage's table weighs 1 at most, so that the weights of its runs without repeats fit
-/// in 32 bits where the number of its states does.
+/// Each move of a stage's table weighs at most 1, so that the weights of its runs without repeats
+/// fit in 32 bits if the number of its states does.
 pub fn moves_weigh_one_at_most()
-    ensures moves { (problem : Problem) (r : ℕ) (names : List PrefixKind) (states : List (TableState Count ⟦<Count as Weight>⟧)) → IsStageTable problem r names states → (s : ℕ) (arc : TableArc Count ⟦<Count as Weight>⟧) → Contains (moves_at states s) arc → arc.weight.0 ≤ 1 }
-    ensures sizes { (problem : Problem) (r : ℕ) (names : List PrefixKind) (states : List (TableState Count ⟦<Count as Weight>⟧)) → IsStageTable problem r names states → length states < 2 ^ 32 → SizesWithin states u32.MAX }
+    ensures moves { (problem : Problem) (r : ℕ) (names : List PrefixKind)
+        (states : List (TableState Count ⟦<Count as Weight>⟧))
+        → IsStageTable problem r names states
+        → (s : ℕ) (arc : TableArc Count ⟦<Count as Weight>⟧) → Contains (moves_at states s) arc
+        → arc.weight.0 ≤ 1 }
+    ensures sizes { (problem : Problem) (r : ℕ) (names : List PrefixKind)
+        (states : List (TableState Count ⟦<Count as Weight>⟧))
+        → IsStageTable problem r names states → length states < 2 ^ 32
+        → SizesWithin states u32.MAX }
 {}

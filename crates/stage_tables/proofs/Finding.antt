@@ -34,7 +34,8 @@ use Rattle.stage_tables.proofs.Listing.{at_number, at_last, at_cases, stays_put}
 use Rattle.kind_moves.specs.Frames.{problem_in}
 
 -- the names of two states are the same only where the states are
-pub one_name : (names : List PrefixKind) → AllPairs (λ k l. k ≢ l) names → (j k : ℕ) → j < length names → k < length names → name_of names j ≡ name_of names k → j ≡ k
+pub one_name : (names : List PrefixKind) → AllPairs (λ k l. k ≢ l) names → (j k : ℕ) → j < length names
+    → k < length names → name_of names j ≡ name_of names k → j ≡ k
 one_name names apart j k l m same =
     let d : PrefixKind = record { place = 0; opened = []; phases = [] } in
     elim (cases_lt j k) [
@@ -46,16 +47,19 @@ one_name names apart j k l m same =
     ]
 
 -- one move more
-leads_more : (frame : Frame) (stage : ℕ) (a : Kind) (p : List (List Sym)) (b : Kind) (column : List Sym) (c : Kind) → LeadsTo frame stage a p b → IsMove frame stage b column c → LeadsTo frame stage a (p ++ column ∷ []) c
+leads_more : (frame : Frame) (stage : ℕ) (a : Kind) (p : List (List Sym)) (b : Kind) (column : List Sym) (c : Kind)
+    → LeadsTo frame stage a p b → IsMove frame stage b column c → LeadsTo frame stage a (p ++ column ∷ []) c
 leads_more frame stage a [] b column c e m = (c, (subst (λ (k : Kind). IsMove frame stage k column c) (sym e) m, refl))
 leads_more frame stage a (x ∷ p) b column c h m = (h.0, (h.1.0, leads_more frame stage h.0 p b column c h.1.1 m))
 
 module _ {W : Type 0} {g : Ghosts W} where
-  path_more : (states : List (TableState W g)) (s : ℕ) (arcs : List (TableArc W g)) (t : ℕ) (arc : TableArc W g) → IsPath states s arcs t → Contains (moves_at states t) arc → IsPath states s (arcs ++ arc ∷ []) arc.target
+  path_more : (states : List (TableState W g)) (s : ℕ) (arcs : List (TableArc W g)) (t : ℕ) (arc : TableArc W g)
+      → IsPath states s arcs t → Contains (moves_at states t) arc → IsPath states s (arcs ++ arc ∷ []) arc.target
   path_more states s [] t arc path here = (subst (λ (x : ℕ). Contains (moves_at states x) arc) (sym path) here, refl)
   path_more states s (a ∷ arcs) t arc path here = (path.0, path_more states a.target arcs t arc path.1 here)
 
-  reads_more : (arcs : List (TableArc W g)) (word : List (List Sym)) (arc : TableArc W g) (column : List Sym) → Reads arcs word → IsTrue (has arc.class column) → Reads (arcs ++ arc ∷ []) (word ++ column ∷ [])
+  reads_more : (arcs : List (TableArc W g)) (word : List (List Sym)) (arc : TableArc W g) (column : List Sym)
+      → Reads arcs word → IsTrue (has arc.class column) → Reads (arcs ++ arc ∷ []) (word ++ column ∷ [])
   reads_more [] [] arc column r h = (h, tt)
   reads_more [] (x ∷ word) arc column r h = absurd r
   reads_more (a ∷ arcs) [] arc column r h = absurd r
@@ -67,35 +71,42 @@ pub record IsGiven (kinds : List Kind) (over : List ℕ) (k : ℕ) (kind : Kind)
   pub at : IsAt kinds over k given s
   pub same : key_of given ≡ key_of kind
 
-module _ {g : Ghosts UnitWeight} (frame : Frame) (stage : ℕ) (some : 1 ≤ stage) (kept : List (TableState UnitWeight g)) (exist : TargetsExist kept) where
+module _ {g : Ghosts UnitWeight} (frame : Frame) (before stage : ℕ) (further : before ≤ stage)
+    (kept : List (TableState UnitWeight g)) (exist : TargetsExist kept) where
   -- what stands over a state of the kept table
-  module _ (names : List PrefixKind) (by : AreKeptByKinds (problem_in frame) (stage - 1) names kept) where
+  module _ (names : List PrefixKind) (by : AreKeptByKinds (problem_in frame) before names kept) where
     -- a column of a kept move fits the kind
-    pub fits_kind : (kind : Kind) (s : ℕ) → StandsOver frame stage names kind s → (arc : TableArc UnitWeight g) (column : List Sym) → Contains (moves_at kept s) arc → IsTrue (has arc.class column) → FitsAt frame stage kind column
+    pub fits_kind : (kind : Kind) (s : ℕ) → StandsOver frame before stage names kind s
+        → (arc : TableArc UnitWeight g) (column : List Sym) → Contains (moves_at kept s) arc
+        → IsTrue (has arc.class column) → FitsAt frame stage kind column
     fits_kind kind s stands arc column here h =
         let goes = by.named.moves s arc column here h in
-        (fits-cut (problem_in frame) (stage - 1) (kind_at_stage frame stage kind) column).0
+        (fits-cut (problem_in frame) before (kind_at_stage frame stage kind) column).0
         (subst (λ (k : PrefixKind). FitsKind (problem_in frame) k column) (sym stands.named) goes.fits)
 
     -- and leads to a kind over the move's target
-    pub next_stands : (kind : Kind) (s : ℕ) → StandsOver frame stage names kind s → (arc : TableArc UnitWeight g) (column : List Sym) → Contains (moves_at kept s) arc → IsTrue (has arc.class column) → (next : Kind) → IsMove frame stage kind column next → StandsOver frame stage names next arc.target
+    pub next_stands : (kind : Kind) (s : ℕ) → StandsOver frame before stage names kind s
+        → (arc : TableArc UnitWeight g) (column : List Sym) → Contains (moves_at kept s) arc
+        → IsTrue (has arc.class column) → (next : Kind) → IsMove frame stage kind column next
+        → StandsOver frame before stage names next arc.target
     next_stands kind s stands arc column here h next m =
         let problem = problem_in frame in
         let goes = by.named.moves s arc column here h in
-        let last : stage ≡ suc (stage - 1) = omega arith in
         record {
           fits = m.next_fits;
           within = omega (arith, exist s arc here, by.named.each_named);
           named =
-              ap (cut problem (stage - 1)) m.leads
-              ∙ ap (λ n. cut problem (stage - 1) (moved problem n (kind_at_stage frame stage kind) column)) last
-              ∙ cut-moved problem (stage - 1) (suc (stage - 1)) (omega arith) (kind_at_stage frame stage kind) column
-              ∙ ap (λ k. moved problem (stage - 1) k column) stands.named
+              ap (cut problem before) m.leads
+              ∙ cut-moved problem before stage further (kind_at_stage frame stage kind) column
+              ∙ ap (λ k. moved problem before k column) stands.named
               ∙ sym goes.leads;
         }
 
   -- one move more is reached
-  pub next_reached : (kind : Kind) (s : ℕ) → IsReached frame stage kept kind s → (arc : TableArc UnitWeight g) (column : List Sym) → Contains (moves_at kept s) arc → IsTrue (has arc.class column) → (next : Kind) → IsMove frame stage kind column next → IsReached frame stage kept next arc.target
+  pub next_reached : (kind : Kind) (s : ℕ) → IsReached frame stage kept kind s
+      → (arc : TableArc UnitWeight g) (column : List Sym) → Contains (moves_at kept s) arc
+      → IsTrue (has arc.class column) → (next : Kind) → IsMove frame stage kind column next
+      → IsReached frame stage kept next arc.target
   next_reached kind s r arc column here h next m = record {
     prefix = r.prefix ++ column ∷ [];
     first = r.first;
@@ -106,45 +117,72 @@ module _ {g : Ghosts UnitWeight} (frame : Frame) (stage : ℕ) (some : 1 ≤ sta
     reads = reads_more r.arcs r.prefix arc column r.reads h;
   }
 
-  module _ (keys next_keys : List KindKey) (kinds next_kinds : List Kind) (over next_over : List ℕ) (found : AreFound frame stage kept keys kinds over) (listed : AreListed next_keys next_kinds next_over) where
+  module _ (keys next_keys : List KindKey) (kinds next_kinds : List Kind) (over next_over : List ℕ)
+      (found : AreFound frame before stage kept keys kinds over)
+      (listed : AreListed next_keys next_kinds next_over) where
     -- a kind is put last that stands over a state and is reached
-    pub found_put : (kind : Kind) (s : ℕ) → IsPutLast kinds next_kinds over next_over kind s → StandsOver frame stage found.names kind s → IsReached frame stage kept kind s → AreFound frame stage kept next_keys next_kinds next_over
+    pub found_put : (kind : Kind) (s : ℕ) → IsPutLast kinds next_kinds over next_over kind s
+        → StandsOver frame before stage found.names kind s → IsReached frame stage kept kind s
+        → AreFound frame before stage kept next_keys next_kinds next_over
     found_put kind s put stands reached = record {
       names = found.names;
       kept_by = found.kept_by;
       listed = listed;
-      start = (found.start.0, move 0 found.start.0 0 (stays_put kinds over kind s 0 found.start.0 0 found.start.1), found.start.2);
+      start = (
+        found.start.0,
+        move 0 found.start.0 0 (stays_put kinds over kind s 0 found.start.0 0 found.start.1),
+        found.start.2,
+      );
       stands = λ k other t at. elim (cases k other t at) [
         | inl was ↦ found.stands k other t was
-        | inr is ↦ subst (λ (x : Kind). StandsOver frame stage found.names x t) is.0 (subst (λ (x : ℕ). StandsOver frame stage found.names kind x) is.1 stands)
+        | inr is ↦ subst (λ (x : Kind). StandsOver frame before stage found.names x t) is.0
+            (subst (λ (x : ℕ). StandsOver frame before stage found.names kind x) is.1 stands)
       ];
       reached = λ k other t at. elim (cases k other t at) [
         | inl was ↦ found.reached k other t was
-        | inr is ↦ subst (λ (x : Kind). IsReached frame stage kept x t) is.0 (subst (λ (x : ℕ). IsReached frame stage kept kind x) is.1 reached)
+        | inr is ↦ subst (λ (x : Kind). IsReached frame stage kept x t) is.0
+            (subst (λ (x : ℕ). IsReached frame stage kept kind x) is.1 reached)
       ];
     }
       where
-        move : (k : ℕ) (other : Kind) (t : ℕ) → IsAt (kinds ++ kind ∷ []) (over ++ s ∷ []) k other t → IsAt next_kinds next_over k other t
+        move : (k : ℕ) (other : Kind) (t : ℕ) → IsAt (kinds ++ kind ∷ []) (over ++ s ∷ []) k other t
+            → IsAt next_kinds next_over k other t
         move k other t at = (ap (λ xs. slice_get xs k) put.put ∙ at.0, ap (λ xs. slice_get xs k) put.over_put ∙ at.1)
 
-        cases : (k : ℕ) (other : Kind) (t : ℕ) → IsAt next_kinds next_over k other t → IsAt kinds over k other t ⊎ ((kind ≡ other) × (s ≡ t))
-        cases k other t at = at_cases kinds over found.listed.each kind s k other t (ap (λ xs. slice_get xs k) (sym put.put) ∙ at.0, ap (λ xs. slice_get xs k) (sym put.over_put) ∙ at.1)
+        cases : (k : ℕ) (other : Kind) (t : ℕ) → IsAt next_kinds next_over k other t
+            → IsAt kinds over k other t ⊎ ((kind ≡ other) × (s ≡ t))
+        cases k other t at = at_cases kinds over found.listed.each kind s k other t
+            (ap (λ xs. slice_get xs k) (sym put.put) ∙ at.0, ap (λ xs. slice_get xs k) (sym put.over_put) ∙ at.1)
 
-    pub found_same : IsSame kinds next_kinds over next_over → AreFound frame stage kept next_keys next_kinds next_over
+    pub found_same : IsSame kinds next_kinds over next_over
+        → AreFound frame before stage kept next_keys next_kinds next_over
     found_same same = record {
       names = found.names;
       kept_by = found.kept_by;
       listed = listed;
-      start = (found.start.0, (ap (λ xs. slice_get xs 0) same.same ∙ found.start.1.0, ap (λ xs. slice_get xs 0) same.over_same ∙ found.start.1.1), found.start.2);
+      start = (
+        found.start.0,
+        (
+          ap (λ xs. slice_get xs 0) same.same
+              ∙ found.start.1.0,
+          ap (λ xs. slice_get xs 0) same.over_same ∙ found.start.1.1,
+        ),
+        found.start.2,
+      );
       stands = λ k other t at. found.stands k other t (back k other t at);
       reached = λ k other t at. found.reached k other t (back k other t at);
     }
       where
         back : (k : ℕ) (other : Kind) (t : ℕ) → IsAt next_kinds next_over k other t → IsAt kinds over k other t
-        back k other t at = (ap (λ xs. slice_get xs k) (sym same.same) ∙ at.0, ap (λ xs. slice_get xs k) (sym same.over_same) ∙ at.1)
+        back k other t at = (
+          ap (λ xs. slice_get xs k) (sym same.same)
+              ∙ at.0,
+          ap (λ xs. slice_get xs k) (sym same.over_same) ∙ at.1,
+        )
 
     -- what was listed stays
-    pub found_stays : (k : ℕ) (kind : Kind) (s : ℕ) → IsNumbered kinds next_kinds over next_over k kind s → Stays kinds next_kinds over next_over
+    pub found_stays : (k : ℕ) (kind : Kind) (s : ℕ) → IsNumbered kinds next_kinds over next_over k kind s
+        → Stays kinds next_kinds over next_over
     found_stays k kind s n j other t at = elim n.grows [
       | inl same ↦ (ap (λ xs. slice_get xs j) same.same ∙ at.0, ap (λ xs. slice_get xs j) same.over_same ∙ at.1)
       | inr put ↦
@@ -153,14 +191,18 @@ module _ {g : Ghosts UnitWeight} (frame : Frame) (stage : ℕ) (some : 1 ≤ sta
     ]
 
     -- a kind that is numbered is found
-    pub found_numbered : (k : ℕ) (kind : Kind) (s : ℕ) → IsNumbered kinds next_kinds over next_over k kind s → StandsOver frame stage found.names kind s → IsReached frame stage kept kind s → AreFound frame stage kept next_keys next_kinds next_over
+    pub found_numbered : (k : ℕ) (kind : Kind) (s : ℕ) → IsNumbered kinds next_kinds over next_over k kind s
+        → StandsOver frame before stage found.names kind s → IsReached frame stage kept kind s
+        → AreFound frame before stage kept next_keys next_kinds next_over
     found_numbered k kind s n stands reached = elim n.grows [
       | inl same ↦ found_same same
       | inr put ↦ found_put kind s put.0 stands reached
     ]
 
     -- its number is of a kind of its key, over its state
-    pub found_given : (k : ℕ) (kind : Kind) (s : ℕ) → IsNumbered kinds next_kinds over next_over k kind s → StandsOver frame stage found.names kind s → IsReached frame stage kept kind s → IsGiven next_kinds next_over k kind s
+    pub found_given : (k : ℕ) (kind : Kind) (s : ℕ) → IsNumbered kinds next_kinds over next_over k kind s
+        → StandsOver frame before stage found.names kind s → IsReached frame stage kept kind s
+        → IsGiven next_kinds next_over k kind s
     found_given k kind s n stands reached =
         let l = slice_get_within next_kinds k n.at.0 n.at.1 in
         let entry = at_number next_kinds next_over listed.each k l in
@@ -174,25 +216,36 @@ module _ {g : Ghosts UnitWeight} (frame : Frame) (stage : ℕ) (some : 1 ≤ sta
           same = key;
         }
       where
-        names_same : (k : ℕ) (kind : Kind) (s : ℕ) (n : IsNumbered kinds next_kinds over next_over k kind s) → (other : Kind) (t : ℕ) → StandsOver frame stage found.names kind s → StandsOver frame stage found.names other t → key_of other ≡ key_of kind → t ≡ s
+        names_same : (k : ℕ) (kind : Kind) (s : ℕ) (n : IsNumbered kinds next_kinds over next_over k kind s)
+            → (other : Kind) (t : ℕ) → StandsOver frame before stage found.names kind s
+            → StandsOver frame before stage found.names other t → key_of other ≡ key_of kind → t ≡ s
         names_same k kind s n other t stands that key =
             one_name found.names found.kept_by.named.distinct t s that.within stands.within
-            (sym that.named ∙ ap (cut (problem_in frame) (stage - 1)) (same_told frame stage other kind key) ∙ stands.named)
+            (sym that.named ∙ ap (cut (problem_in frame) before) (same_told frame stage other kind key) ∙ stands.named)
 
-        own : (k : ℕ) (kind : Kind) (s : ℕ) (n : IsNumbered kinds next_kinds over next_over k kind s) → StandsOver frame stage found.names kind s → IsReached frame stage kept kind s → (other : Kind) (t : ℕ) → IsAt next_kinds next_over k other t → key_of other ≡ key_of kind → t ≡ s
+        own : (k : ℕ) (kind : Kind) (s : ℕ) (n : IsNumbered kinds next_kinds over next_over k kind s)
+            → StandsOver frame before stage found.names kind s → IsReached frame stage kept kind s
+            → (other : Kind) (t : ℕ) → IsAt next_kinds next_over k other t → key_of other ≡ key_of kind → t ≡ s
         own k kind s n stands reached other t at key = elim n.grows [
           | inl same ↦
-              (let was : IsAt kinds over k other t = (ap (λ xs. slice_get xs k) (sym same.same) ∙ at.0, ap (λ xs. slice_get xs k) (sym same.over_same) ∙ at.1) in
+              (let was : IsAt kinds over k other t = (
+                ap (λ xs. slice_get xs k) (sym same.same) ∙ at.0,
+                ap (λ xs. slice_get xs k) (sym same.over_same)
+                    ∙ at.1,
+              ) in
               names_same k kind s n other t stands (found.stands k other t was) key)
           | inr put ↦
               (let last = at_last kinds over found.listed.each kind s in
-              let here : slice_get next_over k ≡ Some s = ap (λ xs. slice_get xs k) put.0.over_put ∙ ap (λ j. slice_get (over ++ s ∷ []) j) put.1 ∙ last.1 in
+              let here : slice_get next_over k ≡ Some s = ap (λ xs. slice_get xs k) put.0.over_put
+              ∙ ap (λ j. slice_get (over ++ s ∷ []) j) put.1 ∙ last.1 in
               same_Some t s (sym at.1 ∙ here))
         ]
 
   -- the new move of a kept one
-  pub taken_move : {h : Ghosts Count} (kinds : List Kind) (over : List ℕ) (names : List PrefixKind) (by : AreKeptByKinds (problem_in frame) (stage - 1) names kept)
-      → (kind next : Kind) (s : ℕ) (a : TableArc UnitWeight g) (b : TableArc Count h) (column : List Sym) → Contains (moves_at kept s) a → IsTrue (has a.class column) → IsMove frame stage kind column next
+  pub taken_move : {h : Ghosts Count} (kinds : List Kind) (over : List ℕ) (names : List PrefixKind)
+      (by : AreKeptByKinds (problem_in frame) before names kept)
+      → (kind next : Kind) (s : ℕ) (a : TableArc UnitWeight g) (b : TableArc Count h) (column : List Sym)
+      → Contains (moves_at kept s) a → IsTrue (has a.class column) → IsMove frame stage kind column next
       → b.class ≡ a.class → b.weight.0 ≡ cost_of (problem_in frame) stage (kind_at_stage frame stage kind) column
       → IsGiven kinds over b.target next a.target → IsTaken frame stage kinds over kind a b
   taken_move {h} kinds over names by kind next s a b column here has_column m class weight given = record {
@@ -210,11 +263,15 @@ module _ {g : Ghosts UnitWeight} (frame : Frame) (stage : ℕ) (some : 1 ≤ sta
         subst (λ (c : List Sym). IsMove frame stage kind c given.given) is moves);
     weighs = λ other other_has.
         (let is : column ≡ other = by.single s a here column other has_column other_has in
-        subst (λ (c : List Sym). b.weight.0 ≡ cost_of (problem_in frame) stage (kind_at_stage frame stage kind) c) is weight);
+        subst (λ (c : List Sym). b.weight.0
+        ≡ cost_of (problem_in frame) stage (kind_at_stage frame stage kind) c) is weight);
   }
 
 -- moves are taken as before where what is listed stays
-pub taken_stays : {g : Ghosts UnitWeight} {h : Ghosts Count} (frame : Frame) (stage : ℕ) (kinds next_kinds : List Kind) (over next_over : List ℕ) → Stays kinds next_kinds over next_over → (kind : Kind) (a : TableArc UnitWeight g) (b : TableArc Count h) → IsTaken frame stage kinds over kind a b → IsTaken frame stage next_kinds next_over kind a b
+pub taken_stays : {g : Ghosts UnitWeight} {h : Ghosts Count} (frame : Frame) (stage : ℕ)
+    (kinds next_kinds : List Kind) (over next_over : List ℕ) → Stays kinds next_kinds over next_over
+    → (kind : Kind) (a : TableArc UnitWeight g) (b : TableArc Count h) → IsTaken frame stage kinds over kind a b
+    → IsTaken frame stage next_kinds next_over kind a b
 taken_stays frame stage kinds next_kinds over next_over stays kind a b t = record {
   same_class = t.same_class;
   next = t.next;
@@ -223,30 +280,55 @@ taken_stays frame stage kinds next_kinds over next_over stays kind a b t = recor
   weighs = t.weighs;
 }
 
-pub all_taken_stay : {g : Ghosts UnitWeight} {h : Ghosts Count} (frame : Frame) (stage : ℕ) (kinds next_kinds : List Kind) (over next_over : List ℕ) → Stays kinds next_kinds over next_over → (kind : Kind) (arcs : List (TableArc UnitWeight g)) (moves : List (TableArc Count h)) → AllZip (IsTaken frame stage kinds over kind) arcs moves → AllZip (IsTaken frame stage next_kinds next_over kind) arcs moves
+pub all_taken_stay : {g : Ghosts UnitWeight} {h : Ghosts Count} (frame : Frame) (stage : ℕ)
+    (kinds next_kinds : List Kind) (over next_over : List ℕ) → Stays kinds next_kinds over next_over
+    → (kind : Kind) (arcs : List (TableArc UnitWeight g)) (moves : List (TableArc Count h))
+    → AllZip (IsTaken frame stage kinds over kind) arcs moves
+    → AllZip (IsTaken frame stage next_kinds next_over kind) arcs moves
 all_taken_stay frame stage kinds next_kinds over next_over stays kind arcs moves z =
-    zip_weaken (IsTaken frame stage kinds over kind) (IsTaken frame stage next_kinds next_over kind) (λ a b t. taken_stays frame stage kinds next_kinds over next_over stays kind a b t) arcs moves z
+    zip_weaken (IsTaken frame stage kinds over kind) (IsTaken frame stage next_kinds next_over kind)
+    (λ a b t. taken_stays frame stage kinds next_kinds over next_over stays kind a b t) arcs moves z
 
 -- one new state more
-pub taken_push : {g : Ghosts UnitWeight} {h : Ghosts Count} (frame : Frame) (stage : ℕ) (kept : List (TableState UnitWeight g)) (kinds next_kinds : List Kind) (over next_over : List ℕ) → length over ≡ length kinds → Stays kinds next_kinds over next_over
-    → (states : List (TableState Count h)) (state : TableState Count h) (kind : Kind) (s : ℕ) → AreTaken frame stage kept kinds over states → IsAt kinds over (length states) kind s
-    → IsTakenState frame stage kept next_kinds next_over kind s state.accepting state.arcs.items → AreTargets kinds next_kinds state.arcs.items → AreTaken frame stage kept next_kinds next_over (states ++ state ∷ [])
-taken_push {g} {h} frame stage kept kinds next_kinds over next_over each stays states state kind s taken at made targets = record {
-  reached = linked;
-  within = (let l = slice_get_within next_kinds (length states) kind (stays (length states) kind s at).0 in omega (arith, length_push states state));
-  each = all;
-}
+pub taken_push : {g : Ghosts UnitWeight} {h : Ghosts Count} (frame : Frame) (stage : ℕ)
+    (kept : List (TableState UnitWeight g)) (kinds next_kinds : List Kind) (over next_over : List ℕ)
+    → length over ≡ length kinds → Stays kinds next_kinds over next_over
+    → (states : List (TableState Count h)) (state : TableState Count h) (kind : Kind) (s : ℕ)
+    → AreTaken frame stage kept kinds over states → IsAt kinds over (length states) kind s
+    → IsTakenState frame stage kept next_kinds next_over kind s state.accepting state.arcs.items
+    → AreTargets kinds next_kinds state.arcs.items
+    → AreTaken frame stage kept next_kinds next_over (states ++ state ∷ [])
+taken_push {g}
+    {h} frame stage kept kinds next_kinds over next_over each stays states state kind s taken at made targets = record {
+      reached = linked;
+      within = (let l = slice_get_within next_kinds (length states) kind (stays (length states) kind s at).0 in omega
+          (arith, length_push states state));
+      each = all;
+    }
   where
-    still : (t : ℕ) (arc : TableArc Count h) → Contains (moves_at states t) arc → Contains (moves_at (states ++ state ∷ []) t) arc
-    still t arc here = subst (λ (xs : List (TableArc Count h)). Contains xs arc) (sym (moves_old states state t (moves_exist states t arc here))) here
+    still : (t : ℕ) (arc : TableArc Count h) → Contains (moves_at states t) arc
+        → Contains (moves_at (states ++ state ∷ []) t) arc
+    still t arc here = subst (λ (xs : List (TableArc Count h)). Contains xs arc)
+        (sym (moves_old states state t (moves_exist states t arc here))) here
 
-    linked : (k : ℕ) → 0 < k → k < length next_kinds → (t : ℕ) × (t < k) × ((arc : TableArc Count h) × Contains (moves_at (states ++ state ∷ []) t) arc × (arc.target ≡ k))
+    linked : (k : ℕ) → 0 < k → k < length next_kinds
+        → (t : ℕ) × (t < k) × ((arc : TableArc Count h) × Contains (moves_at (states ++ state ∷ []) t) arc ×
+        (arc.target ≡ k))
     linked k some l = elim (cases_lt k (length kinds)) [
-      | inl lower ↦ (let was = taken.reached k some lower in (was.0, was.1, (was.2.0, still was.0 was.2.0 was.2.1, was.2.2)))
+      | inl lower ↦ (let was = taken.reached k some lower in
+          (was.0, was.1, (was.2.0, still was.0 was.2.0 was.2.1, was.2.2)))
       | inr upper ↦
           (let new = targets k upper l in
-          let here = slice_get_within kinds (length states) kind at.0 in
-          (length states, omega (arith, here, upper), (new.0, subst (λ (xs : List (TableArc Count h)). Contains xs new.0) (sym (moves_new states state)) new.1, new.2)))
+          let here = slice_get_within kinds (length states) kind at.0 in (
+            length states,
+            omega (arith, here, upper),
+            (
+              new.0,
+              subst (λ (xs : List (TableArc Count h)). Contains xs new.0)
+                  (sym (moves_new states state)) new.1,
+              new.2,
+            ),
+          ))
     ]
 
     now_accepting : ℕ → Bool
@@ -255,32 +337,46 @@ taken_push {g} {h} frame stage kept kinds next_kinds over next_over each stays s
     now_moves : ℕ → List (TableArc Count h)
     now_moves k = moves_at (states ++ state ∷ []) k
 
-    moved_to : (k : ℕ) (was other : Kind) (u t : ℕ) (accepting : Bool) (moves : List (TableArc Count h)) → was ≡ other → u ≡ t → now_accepting k ≡ accepting → now_moves k ≡ moves
-        → IsTakenState frame stage kept next_kinds next_over was u accepting moves → IsTakenState frame stage kept next_kinds next_over other t (now_accepting k) (now_moves k)
+    moved_to : (k : ℕ) (was other : Kind) (u t : ℕ) (accepting : Bool) (moves : List (TableArc Count h)) → was ≡ other
+        → u ≡ t → now_accepting k ≡ accepting → now_moves k ≡ moves
+        → IsTakenState frame stage kept next_kinds next_over was u accepting moves
+        → IsTakenState frame stage kept next_kinds next_over other t (now_accepting k) (now_moves k)
     moved_to k was other u t accepting moves a b c d m =
         subst (λ (x : Kind). IsTakenState frame stage kept next_kinds next_over x t (now_accepting k) (now_moves k)) a
         (subst (λ (x : ℕ). IsTakenState frame stage kept next_kinds next_over was x (now_accepting k) (now_moves k)) b
-        (subst (λ (xs : List (TableArc Count h)). IsTakenState frame stage kept next_kinds next_over was u (now_accepting k) xs) (sym d)
+        (subst (λ (xs : List (TableArc Count h)). IsTakenState frame stage kept next_kinds next_over was u
+        (now_accepting k) xs) (sym d)
         (subst (λ (x : Bool). IsTakenState frame stage kept next_kinds next_over was u x moves) (sym c) m)))
 
-    all : (k : ℕ) (other : Kind) (t : ℕ) → k < length (states ++ state ∷ []) → IsAt next_kinds next_over k other t → IsTakenState frame stage kept next_kinds next_over other t (now_accepting k) (now_moves k)
+    all : (k : ℕ) (other : Kind) (t : ℕ) → k < length (states ++ state ∷ []) → IsAt next_kinds next_over k other t
+        → IsTakenState frame stage kept next_kinds next_over other t (now_accepting k) (now_moves k)
     all k other t l there = elim (cases_lt k (length states)) [
       | inl lower ↦
           (let was = at_number kinds over each k (omega (arith, taken.within, lower)) in
           let now = stays k was.0 was.1 was.2 in
           let before = taken.each k was.0 was.1 lower was.2 in
-          moved_to k was.0 other was.1 t (accepting_at states k) (moves_at states k) (same_Some was.0 other (sym now.0 ∙ there.0)) (same_Some was.1 t (sym now.1 ∙ there.1)) (accepting_old states state k lower) (moves_old states state k lower)
-          (record { accepts = before.accepts; taken = all_taken_stay frame stage kinds next_kinds over next_over stays was.0 (moves_at kept was.1) (moves_at states k) before.taken }))
+          moved_to k was.0 other was.1 t (accepting_at states k) (moves_at states k)
+          (same_Some was.0 other (sym now.0 ∙ there.0)) (same_Some was.1 t (sym now.1 ∙ there.1))
+          (accepting_old states state k lower) (moves_old states state k lower)
+          (record {
+            accepts = before.accepts;
+            taken = all_taken_stay frame stage kinds next_kinds over next_over stays was.0 (moves_at kept was.1)
+                (moves_at states k) before.taken;
+          }))
       | inr upper ↦
           (let is : length states ≡ k = omega (arith, length_push states state, l, upper) in
           let now = stays (length states) kind s at in
           let same : kind ≡ other = same_Some kind other (sym now.0 ∙ ap (λ n. slice_get next_kinds n) is ∙ there.0) in
           let state_same : s ≡ t = same_Some s t (sym now.1 ∙ ap (λ n. slice_get next_over n) is ∙ there.1) in
-          moved_to k kind other s t state.accepting state.arcs.items same state_same (ap now_accepting (sym is) ∙ accepting_new states state) (ap now_moves (sym is) ∙ moves_new states state) made)
+          moved_to k kind other s t state.accepting state.arcs.items same state_same
+          (ap now_accepting (sym is) ∙ accepting_new states state)
+          (ap now_moves (sym is) ∙ moves_new states state) made)
     ]
 
 -- the one move's target is what is listed since
-pub targets_one : {h : Ghosts Count} (kinds next_kinds : List Kind) (over next_over : List ℕ) (arc : TableArc Count h) (kind : Kind) (s : ℕ) → IsNumbered kinds next_kinds over next_over arc.target kind s → AreTargets kinds next_kinds (arc ∷ [])
+pub targets_one : {h : Ghosts Count} (kinds next_kinds : List Kind) (over next_over : List ℕ) (arc : TableArc Count h)
+    (kind : Kind) (s : ℕ) → IsNumbered kinds next_kinds over next_over arc.target kind s
+    → AreTargets kinds next_kinds (arc ∷ [])
 targets_one {h} kinds next_kinds over next_over arc kind s n k low high = elim n.grows [
   | inl same ↦ absurd (let e : length next_kinds ≡ length kinds = ap (λ xs. length xs) same.same in omega arith)
   | inr put ↦

@@ -6,3 +6,6 @@ mod Numbering
 mod Taking
 mod Beginning
 pub mod Named
+pub mod Alike
+pub mod FirstParts
+pub mod RankedStates

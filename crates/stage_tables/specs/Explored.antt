@@ -17,15 +17,16 @@ use Rattle.kind_moves.specs.Frames.{tiers_in, constraints_in, form_in, kind_at_s
 use Rattle.stage_laws.specs.StageTables.{AreNamedByKinds, AreWeighed}
 use Rattle.kind_moves.specs.Frames.{problem_in}
 
--- what the bits of kinds tell at a stage
+-- the kinds that bits encode at a stage
 abbrev pub names_at : Frame → ℕ → List Kind → List PrefixKind
 names_at frame stage kinds = map (kind_at_stage frame stage) kinds
 
 -- A kept table is explored under the first constraints of a frame: the new states are named by the
--- kinds, whose bits fit the frame, the moves weigh what they cost under the last of the constraints,
--- the table accepts the words that the kept one accepts, each state is on a run, and each move has one
--- column.
-pub record IsExplored {g : Ghosts UnitWeight} {h : Ghosts Count} (frame : Frame) (stage : ℕ) (kept : List (TableState UnitWeight g)) (kinds : List Kind) (states : List (TableState Count h)) : Type 0 where
+-- kinds, whose bits fit the frame, the moves weigh what they cost under the last of the
+-- constraints, the table accepts the words that the kept one accepts, each state is on a run, and
+-- each move has one column.
+pub record IsExplored {g : Ghosts UnitWeight} {h : Ghosts Count} (frame : Frame) (stage : ℕ)
+    (kept : List (TableState UnitWeight g)) (kinds : List Kind) (states : List (TableState Count h)) : Type 0 where
   pub named : AreNamedByKinds (problem_in frame) stage (names_at frame stage kinds) states
   pub weighed : AreWeighed (problem_in frame) stage (names_at frame stage kinds) states
   pub fit : All (FitsFrame frame stage) kinds
@@ -34,14 +35,16 @@ pub record IsExplored {g : Ghosts UnitWeight} {h : Ghosts Count} (frame : Frame)
   pub single : (s : ℕ) (arc : TableArc Count h) → Contains (moves_at states s) arc → IsOfOneColumn arc.class
 
 -- the kind is that of a prefix of a timeline that the kept table accepts
-pub record IsMet {g : Ghosts UnitWeight} (frame : Frame) (stage : ℕ) (kept : List (TableState UnitWeight g)) (kind : PrefixKind) : Type 0 where
+pub record IsMet {g : Ghosts UnitWeight} (frame : Frame) (stage : ℕ) (kept : List (TableState UnitWeight g))
+    (kind : PrefixKind) : Type 0 where
   pub prefix : List (List Sym)
   pub rest : List (List Sym)
   pub accepted : Accepts kept (prefix ++ rest)
   pub of_kind : kind_of (problem_in frame) stage prefix ≡ kind
 
 -- more kinds than the budget are those of prefixes of timelines that the kept table accepts
-pub record IsOverBudget {g : Ghosts UnitWeight} (frame : Frame) (stage : ℕ) (kept : List (TableState UnitWeight g)) (budget : ℕ) : Type 0 where
+pub record IsOverBudget {g : Ghosts UnitWeight} (frame : Frame) (stage : ℕ) (kept : List (TableState UnitWeight g))
+    (budget : ℕ) : Type 0 where
   pub kinds : List PrefixKind
   pub distinct : AllPairs (λ k l. k ≢ l) kinds
   pub met : All (IsMet frame stage kept) kinds

@@ -12,7 +12,8 @@ IsListing listed = AreListed listed.keys.keys listed.kinds.items listed.over.ite
 
 -- what is listed is found by exploring
 abbrev pub IsFoundBy : Exploring → Listed → Type 0
-IsFoundBy exploring listed = AreFound exploring.frame.now exploring.stage (states_of exploring.kept.now) listed.keys.keys listed.kinds.items listed.over.items
+IsFoundBy exploring listed = AreFound exploring.frame.now exploring.before exploring.stage
+    (states_of exploring.kept.now) listed.keys.keys listed.kinds.items listed.over.items
 
 -- and there are no more kinds than the budget
 pub record IsFoundWithin (exploring : Exploring) (listed : Listed) : Type 0 where

@@ -21,11 +21,12 @@ IsOfOneColumn class = (a b : List Sym) → IsTrue (has class a) → IsTrue (has 
 
 -- The states of a kept table are named by kinds under the first r constraints, each move is on one
 -- column, and each state is on a run.
-pub record AreKeptByKinds {g : Ghosts UnitWeight} (problem : Problem) (r : ℕ) (names : List PrefixKind) (states : List (TableState UnitWeight g)) : Type 0 where
+pub record AreKeptByKinds {g : Ghosts UnitWeight} (problem : Problem) (r : ℕ) (names : List PrefixKind)
+    (states : List (TableState UnitWeight g)) : Type 0 where
   pub named : AreNamedByKinds problem r names states
   pub single : (s : ℕ) (arc : TableArc UnitWeight g) → Contains (moves_at states s) arc → IsOfOneColumn arc.class
   pub on_runs : (s : ℕ) → s < length states → IsOnRun states s
 
--- the states of a kept table can be named by kinds so
+-- the states of a kept table can be named by kinds in this way
 abbrev pub IsKept : {g : Ghosts UnitWeight} → Problem → ℕ → List (TableState UnitWeight g) → Type 0
 IsKept problem r states = (names : List PrefixKind) × AreKeptByKinds problem r names states

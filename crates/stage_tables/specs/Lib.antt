@@ -3,3 +3,4 @@ pub mod Kept
 pub mod Explored
 pub mod Listed
 pub mod Exploring
+pub mod Ranking

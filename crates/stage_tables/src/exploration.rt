@@ -1,4 +1,4 @@
-ghost use Rattle.std.specs.Prelude.{◌≡◌, ◌-◌, ◌≤◌, length, IfOk, IfErr};
+ghost use Rattle.std.specs.Prelude.{◌≡◌, ◌≤◌, length, IfOk, IfErr};
 ghost use Rattle.arc_table.specs.States.{states_of};
 ghost use Rattle.kind_moves.specs.Frames.{tiers_in, constraints_in, form_in};
 ghost use Rattle.stage_tables.specs.Kept.{IsKept};
@@ -23,7 +23,8 @@ impl Exploring<'_> {
 
     /// The start, listed over state 0.
     fn start(&self, alloc: Global) -> Result<Listed, ExploreErr>
-        requires kept { IsKept (problem_in self.now.frame.now) (self.now.stage - 1) (states_of self.now.kept.now) }
+        requires kept { IsKept (problem_in self.now.frame.now) self.now.before
+            (states_of self.now.kept.now) }
         requires budget { 1 ≤ self.now.budget }
         ensures found { IfOk result (IsFoundWithin self.now) }
         ensures one { IfOk result (λ listed. length listed.kinds.items ≡ 1) }
@@ -47,9 +48,13 @@ impl Exploring<'_> {
         requires found { IsFoundWithin self.now listed.old }
         requires one { length listed.old.kinds.items ≡ 1 }
         ensures found { IfOk result (λ _. IsFoundWithin self.now listed.new) }
-        ensures taken { IfOk result (λ states. AreTaken self.now.frame.now self.now.stage (states_of self.now.kept.now) listed.new.kinds.items listed.new.over.items states.items) }
+        ensures taken { IfOk result
+            (λ states.
+            AreTaken self.now.frame.now self.now.stage
+            (states_of self.now.kept.now) listed.new.kinds.items listed.new.over.items states.items) }
         ensures each { IfOk result (λ states. length states.items ≡ length listed.new.kinds.items) }
-        ensures beyond { IfErr result (λ e. e ≡ ExploreErr.OverBudget → IsFoundBeyond self.now listed.new) }
+        ensures beyond { IfErr result
+            (λ e. e ≡ ExploreErr.OverBudget → IsFoundBeyond self.now listed.new) }
     {
         let mut states = Vec::new(alloc);
         'making: while states.len() < listed.kinds.len() {
@@ -68,31 +73,38 @@ impl Exploring<'_> {
     }
 }
 
-/// Explores what the constraints before the last of a stage have left, under the first constraints of
-/// the stage. The table that comes accepts the same timelines. Its states are the kinds that their
-/// prefixes have under these constraints, in the order in which they are found, and its moves weigh
-/// what they cost under the last one.
+/// Explores what the first `before` constraints have left, under the first `stage` constraints. The
+/// resulting table accepts the same timelines. Its states are the kinds that their prefixes have
+/// under these constraints, in the order in which they are found, and its moves weigh what they cost
+/// under the last one, and nothing if there is none.
 ///
-/// It fails with `OverBudget` where there are more kinds than the budget, and else only for want of
-/// memory.
+/// Fails with `OverBudget` if there are more kinds than the budget, and otherwise only if memory
+/// runs out.
 pub fn explore(
     alloc: Global,
     frame: &Frame<'_>,
+    before: u32,
     stage: u32,
     kept: &Table<UnitWeight>,
     budget: u32,
 ) -> Result<StageTable, ExploreErr>
-    requires some { 1 ≤ stage }
+    requires further { before ≤ stage }
     requires stage { stage ≤ last_stage (problem_in frame.now) }
-    requires kept { IsKept (problem_in frame.now) (stage - 1) (states_of kept.now) }
+    requires kept { IsKept (problem_in frame.now) before (states_of kept.now) }
     requires some_budget { 1 ≤ budget }
     requires budget { budget ≤ 65536 }
-    ensures explored { IfOk result (λ found. IsExplored frame.now stage (states_of kept.now) found.kinds.items (states_of found.table)) }
+    ensures explored { IfOk result
+        (λ found.
+        IsExplored frame.now stage (states_of kept.now) found.kinds.items
+        (states_of found.table)) }
     ensures few { IfOk result (λ found. length found.kinds.items ≤ budget) }
-    ensures over { IfErr result (λ e. e ≡ ExploreErr.OverBudget → IsOverBudget frame.now stage (states_of kept.now) budget) }
+    ensures over { IfErr result
+        (λ e. e ≡ ExploreErr.OverBudget
+        → IsOverBudget frame.now stage (states_of kept.now) budget) }
 {
     let exploring = Exploring {
         frame,
+        before,
         stage,
         kept,
         budget,

@@ -11,9 +11,10 @@ use weight_law::UnitWeight;
 #[derive(Drop)]
 pub(crate) struct Exploring<'a> {
     pub frame: &'a Frame<'a>,
+    pub before: u32,
     pub stage: u32,
     pub kept: &'a Table<UnitWeight>,
     pub budget: u32,
-    pub ghost some: { 1 ≤ stage },
+    pub ghost further: { before ≤ stage },
     pub ghost within: { stage ≤ last_stage (problem_in frame.now) },
 }

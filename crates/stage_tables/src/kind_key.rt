@@ -3,7 +3,7 @@ ghost use Rattle.stage_tables.specs.KindKeys.{key_of};
 
 use tier_core::Kind;
 
-/// What tells a kind from others, as a key of a set.
+/// What distinguishes a kind from others, as a key of a set.
 #[derive(Clone, Copy, Debug, PartialEq, Eq, Hash, Drop)]
 pub(crate) struct KindKey {
     pub place: u32,

@@ -1,14 +1,14 @@
 //! The tables of a stage, of which the generator prunes one after another.
 //!
-//! What the constraints before have left is a table whose states stand for kinds. Exploring it under
-//! one more constraint gives a table of the same timelines: its states are the kinds that the moves
-//! lead to under that constraint too, and its moves weigh what they cost under it. Below stand the
-//! moves of kinds and the tables of arcs; above, the generator prunes this table to its words of
-//! least weight, and explores again.
+//! What the constraints before have left is a table whose states stand for kinds. Exploring it
+//! under one more constraint gives a table of the same timelines: its states are the kinds that
+//! the moves lead to under that constraint too, and its moves weigh what they cost under it. Below
+//! are the moves of kinds and the tables of arcs; above, the generator prunes this table to its
+//! words of least weight, and explores again.
 //!
-//! That the candidates of a form are pruned constraint by constraint on an automaton is after
+//! That the candidates of a form are pruned constraint by constraint on an automaton goes back to
 //! Ellison, Phonological Derivation in Optimality Theory (COLING 1994); that states are kinds is
-//! this project's.
+//! this project's own.
 #![tactic(auto)]
 
 mod arcs;
@@ -16,7 +16,9 @@ mod exploration;
 mod exploring;
 mod kind_key;
 mod listed;
+mod ranking;
 mod stage_table;
 
 pub use exploration::explore;
+pub use ranking::ranked_table;
 pub use stage_table::{ExploreErr, StageTable};

@@ -2,8 +2,8 @@ use arc_table::Table;
 use tier_core::Kind;
 use weight_law::Count;
 
-/// The table of a stage, whose moves weigh what they cost under the stage's constraint, and for each
-/// of its states the kind that it stands for.
+/// The table of a stage, whose moves weigh what they cost under the stage's constraint, and for
+/// each of its states the kind that it stands for.
 #[derive(Drop)]
 pub struct StageTable {
     pub kinds: Vec<Kind>,
@@ -15,6 +15,6 @@ pub struct StageTable {
 pub enum ExploreErr {
     /// There are more kinds than the budget.
     OverBudget,
-    /// Memory was wanting.
+    /// Memory ran out.
     NoMemory,
 }

@@ -48,9 +48,13 @@ form_cause_text NoMemoryForForm = codes "NoMemory"
 abbrev pub status_text : Status → List ℕ
 status_text Done = []
 status_text Usage = codes "usage\n"
-status_text (GrammarRefused word line cause) = (codes "grammar word " ++ decimal word) ++ (((codes " line " ++ decimal line) ++ codes ": ") ++ (grammar_cause_text cause ++ codes "\n"))
-status_text (FormRefused word cause) = ((codes "form word " ++ decimal word) ++ codes ": ") ++ (form_cause_text cause ++ codes "\n")
-status_text (Budget entry stage) = (codes "budget entry " ++ decimal entry) ++ ((codes " stage " ++ decimal stage) ++ codes "\n")
+status_text (GrammarRefused word line cause) =
+    (codes "grammar word " ++ decimal word)
+    ++ (((codes " line " ++ decimal line) ++ codes ": ") ++ (grammar_cause_text cause ++ codes "\n"))
+status_text (FormRefused word cause) =
+    ((codes "form word " ++ decimal word) ++ codes ": ") ++ (form_cause_text cause ++ codes "\n")
+status_text (Budget entry stage) =
+    (codes "budget entry " ++ decimal entry) ++ ((codes " stage " ++ decimal stage) ++ codes "\n")
 status_text (ReadFault word) = (codes "read fault word " ++ decimal word) ++ codes "\n"
 status_text WriteFault = codes "write fault\n"
 status_text NoMemory = codes "no memory\n"

@@ -1,10 +1,9 @@
-ghost use Rattle.std.specs.Prelude.{◌≡◌, ◌≤◌, ◌++◌, codes, Err, OnOk};
-ghost use Rattle.outside.specs.Faults.{Rose};
-ghost use Rattle.outside.specs.Sent.{HasSentPart, Sends};
+ghost use Rattle.std.specs.Prelude.{◌≡◌, ◌++◌, codes};
+ghost use Rattle.outside.specs.Writers.{Pushes};
 ghost use Rattle.status_lines.specs.Lines.{form_cause_text, grammar_cause_text};
 
 use grammar_reader::GrammarCause;
-use outside::{Sink, Waiting, WriteErr, put_number};
+use outside::{OutBuffer, Sink, WriteErr, push_number};
 use timeline_text::FormErr;
 
 /// The name of a grammar's cause.
@@ -27,52 +26,45 @@ fn cause_name(cause: GrammarCause) -> &'static [u8]
     }
 }
 
-/// Puts the name of a grammar's cause, and the end of the line.
-pub(crate) fn put_grammar_cause<O: Sink>(
-    waiting: &mut Waiting,
+/// Appends the name of a grammar's cause, and the end of the line.
+pub(crate) fn push_grammar_cause<O: Sink>(
+    out: &mut OutBuffer,
     sink: &mut O,
     cause: GrammarCause,
 ) -> Result<(), WriteErr>
-    ensures ok { OnOk result (Sends (O.taken sink.old) (waiting.old ++ (grammar_cause_text cause ++ codes "\n")) (O.taken sink.new) waiting.new) }
-    ensures part { HasSentPart (O.taken sink.old) (waiting.old ++ (grammar_cause_text cause ++ codes "\n")) (O.taken sink.new) }
-    ensures never_falls { O.faults sink.old ≤ O.faults sink.new }
-    ensures failed { result ≡ Err WriteErr.Failed → Rose (O.faults sink.old) (O.faults sink.new) }
+    ensures { Pushes O.Sink sink.old sink.new out.old out.new
+        (grammar_cause_text cause ++ codes "\n") result }
 {
-    waiting.put(sink, cause_name(cause))?;
-    waiting.put(sink, b"\n")
+    out.push(sink, cause_name(cause))?;
+    out.push(sink, b"\n")
 }
 
-/// Puts the name of a form's cause, and its number.
-fn put_cause<O: Sink>(waiting: &mut Waiting, sink: &mut O, cause: FormErr) -> Result<(), WriteErr>
-    ensures ok { OnOk result (Sends (O.taken sink.old) (waiting.old ++ form_cause_text cause) (O.taken sink.new) waiting.new) }
-    ensures part { HasSentPart (O.taken sink.old) (waiting.old ++ form_cause_text cause) (O.taken sink.new) }
-    ensures never_falls { O.faults sink.old ≤ O.faults sink.new }
-    ensures failed { result ≡ Err WriteErr.Failed → Rose (O.faults sink.old) (O.faults sink.new) }
+/// Appends the name of a form's cause, and its number.
+fn push_cause<O: Sink>(out: &mut OutBuffer, sink: &mut O, cause: FormErr) -> Result<(), WriteErr>
+    ensures { Pushes O.Sink sink.old sink.new out.old out.new (form_cause_text cause) result }
 {
     match cause {
-        FormErr::BadSymbol { at } => put_number(waiting, sink, b"BadSymbol ", at),
-        FormErr::WrongWidth { column } => put_number(waiting, sink, b"WrongWidth ", column),
-        FormErr::TooLong => waiting.put(sink, b"TooLong"),
+        FormErr::BadSymbol { at } => push_number(out, sink, b"BadSymbol ", at),
+        FormErr::WrongWidth { column } => push_number(out, sink, b"WrongWidth ", column),
+        FormErr::TooLong => out.push(sink, b"TooLong"),
         FormErr::NotWellFormed { tier } => {
-            put_number(waiting, sink, b"NotWellFormed ", tier as usize)
+            push_number(out, sink, b"NotWellFormed ", tier as usize)
         }
-        FormErr::NotReduced { column } => put_number(waiting, sink, b"NotReduced ", column),
-        FormErr::UnknownLetter { at } => put_number(waiting, sink, b"UnknownLetter ", at),
-        FormErr::NoMemory => waiting.put(sink, b"NoMemory"),
+        FormErr::NotReduced { column } => push_number(out, sink, b"NotReduced ", column),
+        FormErr::UnknownLetter { at } => push_number(out, sink, b"UnknownLetter ", at),
+        FormErr::NoMemory => out.push(sink, b"NoMemory"),
     }
 }
 
-/// Puts the name of a form's cause, its number, and the end of the line.
-pub(crate) fn put_form_cause<O: Sink>(
-    waiting: &mut Waiting,
+/// Appends the name of a form's cause, its number, and the end of the line.
+pub(crate) fn push_form_cause<O: Sink>(
+    out: &mut OutBuffer,
     sink: &mut O,
     cause: FormErr,
 ) -> Result<(), WriteErr>
-    ensures ok { OnOk result (Sends (O.taken sink.old) (waiting.old ++ (form_cause_text cause ++ codes "\n")) (O.taken sink.new) waiting.new) }
-    ensures part { HasSentPart (O.taken sink.old) (waiting.old ++ (form_cause_text cause ++ codes "\n")) (O.taken sink.new) }
-    ensures never_falls { O.faults sink.old ≤ O.faults sink.new }
-    ensures failed { result ≡ Err WriteErr.Failed → Rose (O.faults sink.old) (O.faults sink.new) }
+    ensures { Pushes O.Sink sink.old sink.new out.old out.new
+        (form_cause_text cause ++ codes "\n") result }
 {
-    put_cause(waiting, sink, cause)?;
-    waiting.put(sink, b"\n")
+    push_cause(out, sink, cause)?;
+    out.push(sink, b"\n")
 }

@@ -1,23 +1,20 @@
-ghost use Rattle.std.specs.Prelude.{◌≡◌, ◌≤◌, ◌++◌, Err, OnOk};
+ghost use Rattle.std.specs.Prelude.{◌++◌};
 ghost use Rattle.std.specs.Fmt.{decimal};
-ghost use Rattle.outside.specs.Faults.{Rose};
-ghost use Rattle.outside.specs.Sent.{HasSentPart, Sends};
+ghost use Rattle.outside.specs.Writers.{Pushes};
 
-use outside::{Sink, Waiting, WriteErr, put_number};
+use outside::{OutBuffer, Sink, WriteErr, push_number};
 
-/// Puts a text, a number, and a text behind it.
-pub(crate) fn put_worded<O: Sink>(
-    waiting: &mut Waiting,
+/// Appends a text, a number, and a text behind it.
+pub(crate) fn push_worded<O: Sink>(
+    out: &mut OutBuffer,
     sink: &mut O,
     front: &[u8],
     word: u32,
     back: &[u8],
 ) -> Result<(), WriteErr>
-    ensures ok { OnOk result (Sends (O.taken sink.old) (waiting.old ++ ((front.now ++ decimal word) ++ back.now)) (O.taken sink.new) waiting.new) }
-    ensures part { HasSentPart (O.taken sink.old) (waiting.old ++ ((front.now ++ decimal word) ++ back.now)) (O.taken sink.new) }
-    ensures never_falls { O.faults sink.old ≤ O.faults sink.new }
-    ensures failed { result ≡ Err WriteErr.Failed → Rose (O.faults sink.old) (O.faults sink.new) }
+    ensures { Pushes O.Sink sink.old sink.new out.old out.new
+        ((front.now ++ decimal word) ++ back.now) result }
 {
-    put_number(waiting, sink, front, word as usize)?;
-    waiting.put(sink, back)
+    push_number(out, sink, front, word as usize)?;
+    out.push(sink, back)
 }

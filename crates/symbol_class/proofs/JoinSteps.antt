@@ -31,19 +31,25 @@ times_had boxes column = count_by (λ sets. sets_have sets column) boxes
 abbrev pub are_filled : List ℕ → Bool
 are_filled sets = list_all (λ set. list_any (is_in set) symbols) sets
 
-had-cons : (sets : List ℕ) (boxes : List (List ℕ)) (column : List Sym) → times_had (sets ∷ boxes) column ≡ once_if (sets_have sets column) + times_had boxes column
+had-cons : (sets : List ℕ) (boxes : List (List ℕ)) (column : List Sym)
+    → times_had (sets ∷ boxes) column ≡ once_if (sets_have sets column) + times_had boxes column
 had-cons sets boxes column = sum_by-cons (λ xs. once_if (sets_have xs column)) sets boxes
 
 -- neighbours that agree beside a tier are united, from the current sets on
 abbrev pub joined_from : ℕ → List ℕ → List (List ℕ) → List (List ℕ)
 joined_from t current [] = current ∷ []
-joined_from t current (next ∷ rest) = cond (is_eq (beside_cmp t current next)) (joined_from t (united t current next) rest) (current ∷ joined_from t next rest)
+joined_from t current (next ∷ rest) = cond (is_eq (beside_cmp t current next))
+    (joined_from t (united t current next) rest) (current ∷ joined_from t next rest)
 
-pub joined_alike : (t : ℕ) (current next : List ℕ) (rest : List (List ℕ)) → is_eq (beside_cmp t current next) ≡ true → joined_from t current (next ∷ rest) ≡ joined_from t (united t current next) rest
-joined_alike t current next rest e = cond-true (is_eq (beside_cmp t current next)) (joined_from t (united t current next) rest) (current ∷ joined_from t next rest) e
+pub joined_alike : (t : ℕ) (current next : List ℕ) (rest : List (List ℕ)) → is_eq (beside_cmp t current next) ≡ true
+    → joined_from t current (next ∷ rest) ≡ joined_from t (united t current next) rest
+joined_alike t current next rest e = cond-true (is_eq (beside_cmp t current next))
+    (joined_from t (united t current next) rest) (current ∷ joined_from t next rest) e
 
-pub joined_other : (t : ℕ) (current next : List ℕ) (rest : List (List ℕ)) → is_eq (beside_cmp t current next) ≡ false → joined_from t current (next ∷ rest) ≡ current ∷ joined_from t next rest
-joined_other t current next rest e = cond-false (is_eq (beside_cmp t current next)) (joined_from t (united t current next) rest) (current ∷ joined_from t next rest) e
+pub joined_other : (t : ℕ) (current next : List ℕ) (rest : List (List ℕ)) → is_eq (beside_cmp t current next) ≡ false
+    → joined_from t current (next ∷ rest) ≡ current ∷ joined_from t next rest
+joined_other t current next rest e = cond-false (is_eq (beside_cmp t current next))
+    (joined_from t (united t current next) rest) (current ∷ joined_from t next rest) e
 
 is_equal : (o : Ordering) → is_eq o ≡ true → o ≡ Equal
 is_equal Less e = absurd (false≢true e)
@@ -63,51 +69,69 @@ length-united t a b = length-set a t (bit_or (get_or a t 0) (get_or b t 0))
 
 -- ---- how many there are
 
-pub joined_fewer : (t : ℕ) (current : List ℕ) (rest : List (List ℕ)) → length (joined_from t current rest) ≤ suc (length rest)
+pub joined_fewer : (t : ℕ) (current : List ℕ) (rest : List (List ℕ))
+    → length (joined_from t current rest) ≤ suc (length rest)
 joined_fewer t current [] = omega arith
 joined_fewer t current (next ∷ rest) =
-    cond_both (is_eq (beside_cmp t current next)) (joined_from t (united t current next) rest) (current ∷ joined_from t next rest) (λ boxes. length boxes ≤ suc (suc (length rest)))
+    cond_both (is_eq (beside_cmp t current next)) (joined_from t (united t current next) rest)
+    (current ∷ joined_from t next rest) (λ boxes. length boxes ≤ suc (suc (length rest)))
     (λ e. let h = joined_fewer t (united t current next) rest in omega (arith, h))
     (λ e. let h = joined_fewer t next rest in omega (arith, h))
 
 -- where there are as many as before, none was united
-pub joined_kept : (t : ℕ) (current : List ℕ) (rest : List (List ℕ)) → length (joined_from t current rest) ≡ suc (length rest) → joined_from t current rest ≡ current ∷ rest
+pub joined_kept : (t : ℕ) (current : List ℕ) (rest : List (List ℕ))
+    → length (joined_from t current rest) ≡ suc (length rest) → joined_from t current rest ≡ current ∷ rest
 joined_kept t current [] = λ e. refl
 joined_kept t current (next ∷ rest) =
-    cond_both (is_eq (beside_cmp t current next)) (joined_from t (united t current next) rest) (current ∷ joined_from t next rest) (λ boxes. length boxes ≡ suc (suc (length rest)) → boxes ≡ current ∷ next ∷ rest)
+    cond_both (is_eq (beside_cmp t current next)) (joined_from t (united t current next) rest)
+    (current ∷ joined_from t next rest)
+    (λ boxes. length boxes ≡ suc (suc (length rest)) → boxes ≡ current ∷ next ∷ rest)
     (λ e many. let h = joined_fewer t (united t current next) rest in absurd (omega (arith, h, many)))
     (λ e many. ap (λ boxes. current ∷ boxes) (joined_kept t next rest (omega (arith, many))))
 
 -- ---- what holds of each
 
-pub joined_wide : (t width : ℕ) (current : List ℕ) (rest : List (List ℕ)) → length current ≡ width → All (λ sets. length sets ≡ width) rest → All (λ sets. length sets ≡ width) (joined_from t current rest)
-joined_wide t width current [] wide all = All-cons (λ sets. length sets ≡ width) current [] wide (All-nil (λ sets. length sets ≡ width))
+pub joined_wide : (t width : ℕ) (current : List ℕ) (rest : List (List ℕ)) → length current ≡ width
+    → All (λ sets. length sets ≡ width) rest → All (λ sets. length sets ≡ width) (joined_from t current rest)
+joined_wide t width current [] wide all = All-cons (λ sets. length sets ≡ width) current [] wide
+    (All-nil (λ sets. length sets ≡ width))
 joined_wide t width current (next ∷ rest) wide all =
     let here = All-head (λ sets. length sets ≡ width) next rest all in
     let later = All-tail (λ sets. length sets ≡ width) next rest all in
-    cond_both (is_eq (beside_cmp t current next)) (joined_from t (united t current next) rest) (current ∷ joined_from t next rest) (All (λ sets. length sets ≡ width))
+    cond_both (is_eq (beside_cmp t current next)) (joined_from t (united t current next) rest)
+    (current ∷ joined_from t next rest) (All (λ sets. length sets ≡ width))
     (λ e. joined_wide t width (united t current next) rest (length-united t current next ∙ wide) later)
-    (λ e. All-cons (λ sets. length sets ≡ width) current (joined_from t next rest) wide (joined_wide t width next rest here later))
+    (λ e. All-cons (λ sets. length sets ≡ width) current (joined_from t next rest) wide
+    (joined_wide t width next rest here later))
 
 -- sets that are united have the columns of both
-have_united : (t : ℕ) (a b : List ℕ) (column : List Sym) → t < length a → t < length b → is_eq (beside_cmp t a b) ≡ true → sets_have (united t a b) column ≡ (sets_have a column || sets_have b column)
+have_united : (t : ℕ) (a b : List ℕ) (column : List Sym) → t < length a → t < length b
+    → is_eq (beside_cmp t a b) ≡ true → sets_have (united t a b) column ≡ (sets_have a column || sets_have b column)
 have_united t a b column la lb e = have_either a b column t la lb (agree t a b e)
 
-filled-united : (t : ℕ) (a b : List ℕ) → t < length a → t < length b → is_eq (beside_cmp t a b) ≡ true → are_filled a ≡ true → are_filled (united t a b) ≡ true
+filled-united : (t : ℕ) (a b : List ℕ) → t < length a → t < length b → is_eq (beside_cmp t a b) ≡ true
+    → are_filled a ≡ true → are_filled (united t a b) ≡ true
 filled-united t a b la lb e filled =
     let column = map first_sym a in
-    sets_filled (united t a b) column (have_united t a b column la lb e ∙ ap (λ x. x || sets_have b column) (sets_have-first a filled))
+    sets_filled (united t a b) column (have_united t a b column la lb e
+    ∙ ap (λ x. x || sets_have b column) (sets_have-first a filled))
 
-pub joined_filled : (t : ℕ) (current : List ℕ) (rest : List (List ℕ)) → t < length current → All (λ sets. t < length sets) rest → are_filled current ≡ true → All (λ sets. are_filled sets ≡ true) rest → All (λ sets. are_filled sets ≡ true) (joined_from t current rest)
-joined_filled t current [] inside all_inside filled all = All-cons (λ sets. are_filled sets ≡ true) current [] filled (All-nil (λ sets. are_filled sets ≡ true))
+pub joined_filled : (t : ℕ) (current : List ℕ) (rest : List (List ℕ)) → t < length current
+    → All (λ sets. t < length sets) rest → are_filled current ≡ true → All (λ sets. are_filled sets ≡ true) rest
+    → All (λ sets. are_filled sets ≡ true) (joined_from t current rest)
+joined_filled t current [] inside all_inside filled all = All-cons (λ sets. are_filled sets ≡ true) current [] filled
+    (All-nil (λ sets. are_filled sets ≡ true))
 joined_filled t current (next ∷ rest) inside all_inside filled all =
     let l = All-head (λ sets. t < length sets) next rest all_inside in
     let ls = All-tail (λ sets. t < length sets) next rest all_inside in
     let here = All-head (λ sets. are_filled sets ≡ true) next rest all in
     let later = All-tail (λ sets. are_filled sets ≡ true) next rest all in
-    cond_both (is_eq (beside_cmp t current next)) (joined_from t (united t current next) rest) (current ∷ joined_from t next rest) (All (λ sets. are_filled sets ≡ true))
-    (λ e. joined_filled t (united t current next) rest (omega (arith, length-united t current next, inside)) ls (filled-united t current next inside l e filled) later)
-    (λ e. All-cons (λ sets. are_filled sets ≡ true) current (joined_from t next rest) filled (joined_filled t next rest l ls here later))
+    cond_both (is_eq (beside_cmp t current next)) (joined_from t (united t current next) rest)
+    (current ∷ joined_from t next rest) (All (λ sets. are_filled sets ≡ true))
+    (λ e. joined_filled t (united t current next) rest (omega (arith, length-united t current next, inside)) ls
+    (filled-united t current next inside l e filled) later)
+    (λ e. All-cons (λ sets. are_filled sets ≡ true) current (joined_from t next rest) filled
+    (joined_filled t next rest l ls here later))
 
 -- ---- how often each column is had
 
@@ -118,18 +142,25 @@ once_either false true h = refl
 once_either false false h = refl
 
 -- columns are had as often as before where none was had twice
-pub joined_had : (t : ℕ) (current : List ℕ) (rest : List (List ℕ)) → t < length current → All (λ sets. t < length sets) rest → (column : List Sym) → once_if (sets_have current column) + times_had rest column ≤ 1
+pub joined_had : (t : ℕ) (current : List ℕ) (rest : List (List ℕ)) → t < length current
+    → All (λ sets. t < length sets) rest → (column : List Sym)
+    → once_if (sets_have current column) + times_had rest column ≤ 1
     → times_had (joined_from t current rest) column ≡ once_if (sets_have current column) + times_had rest column
 joined_had t current [] inside all_inside column once = had-cons current [] column
 joined_had t current (next ∷ rest) inside all_inside column once =
     let l = All-head (λ sets. t < length sets) next rest all_inside in
     let ls = All-tail (λ sets. t < length sets) next rest all_inside in
     let all = had-cons next rest column in
-    cond_both (is_eq (beside_cmp t current next)) (joined_from t (united t current next) rest) (current ∷ joined_from t next rest) (λ boxes. times_had boxes column ≡ once_if (sets_have current column) + times_had (next ∷ rest) column)
+    cond_both (is_eq (beside_cmp t current next)) (joined_from t (united t current next) rest)
+    (current ∷ joined_from t next rest)
+    (λ boxes. times_had boxes column ≡ once_if (sets_have current column) + times_had (next ∷ rest) column)
     (λ e.
-    let either : once_if (sets_have (united t current next) column) ≡ once_if (sets_have current column) + once_if (sets_have next column) =
-    ap once_if (have_united t current next column inside l e) ∙ once_either (sets_have current column) (sets_have next column) (omega (arith, once, all)) in
-    let h = joined_had t (united t current next) rest (omega (arith, length-united t current next, inside)) ls column (omega (arith, either, once, all)) in
+    let either : once_if (sets_have (united t current next) column)
+    ≡ once_if (sets_have current column) + once_if (sets_have next column) =
+    ap once_if (have_united t current next column inside l e)
+    ∙ once_either (sets_have current column) (sets_have next column) (omega (arith, once, all)) in
+    let h = joined_had t (united t current next) rest (omega (arith, length-united t current next, inside)) ls column
+    (omega (arith, either, once, all)) in
     omega (arith, h, either, all))
     (λ e.
     let h = joined_had t next rest l ls column (omega (arith, once, all)) in
@@ -164,7 +195,8 @@ upto_alike : (t : ℕ) (a b c : List ℕ) → sets_beside t a ≡ sets_beside t 
 upto_alike t a b c e h = subst (λ xs. is_gt (slice_cmp nat_cmp xs (sets_beside t c)) ≡ false) (sym e) h
 
 -- of sorted sets those that are joined ascend strictly
-pub joined_strict : (t : ℕ) (current : List ℕ) (rest : List (List ℕ)) → All (Upto t current) rest → AllPairs (Upto t) rest
+pub joined_strict : (t : ℕ) (current : List ℕ) (rest : List (List ℕ)) → All (Upto t current) rest
+    → AllPairs (Upto t) rest
     → AllPairs (Below t) (joined_from t current rest) × All (Upto t current) (joined_from t current rest)
 joined_strict t current [] after sorted = (
   AllPairs-cons (Below t) current [] (All-nil (Below t current)) (λ i j d less inside. absurd (omega arith)),
@@ -175,21 +207,31 @@ joined_strict t current (next ∷ rest) after sorted =
     let later = All-tail (Upto t current) next rest after in
     let after_next = pairs_head (Upto t) next rest sorted in
     let sorted_rest = pairs_tail (Upto t) next rest sorted in
-    cond_both (is_eq (beside_cmp t current next)) (joined_from t (united t current next) rest) (current ∷ joined_from t next rest)
+    cond_both (is_eq (beside_cmp t current next)) (joined_from t (united t current next) rest)
+    (current ∷ joined_from t next rest)
     (λ boxes. AllPairs (Below t) boxes × All (Upto t current) boxes)
     (λ e.
     let same = beside-united t current next in
-    let h = joined_strict t (united t current next) rest (All-weaker (Upto t current) (Upto t (united t current next)) (λ x u. upto_alike t (united t current next) current x same u) rest later) sorted_rest in
-    (h.0, All-weaker (Upto t (united t current next)) (Upto t current) (λ x u. upto_alike t current (united t current next) x (sym same) u) (joined_from t (united t current next) rest) h.1))
+    let h = joined_strict t (united t current next) rest
+    (All-weaker (Upto t current) (Upto t (united t current next))
+    (λ x u. upto_alike t (united t current next) current x same u) rest later) sorted_rest in (
+      h.0,
+      All-weaker (Upto t (united t current next)) (Upto t current)
+          (λ x u. upto_alike t current (united t current next) x (sym same) u)
+          (joined_from t (united t current next) rest) h.1,
+    ))
     (λ e.
     let less = less_from (beside_cmp t current next) here e in
     let h = joined_strict t next rest after_next sorted_rest in
-    let below = All-weaker (Upto t next) (Below t current) (λ x u. below_upto t current next x less u) (joined_from t next rest) h.1 in (
+    let below = All-weaker (Upto t next) (Below t current) (λ x u. below_upto t current next x less u)
+    (joined_from t next rest) h.1 in (
       AllPairs-cons (Below t) current (joined_from t next rest) below h.0,
-      All-cons (Upto t current) current (joined_from t next rest) (upto_itself t current) (All-weaker (Below t current) (Upto t current) (λ x b. ap is_gt b) (joined_from t next rest) below),
+      All-cons (Upto t current) current (joined_from t next rest) (upto_itself t current)
+          (All-weaker (Below t current) (Upto t current) (λ x b. ap is_gt b) (joined_from t next rest) below),
     ))
 
 -- sets of which one is below the other differ beside the tier
 pub differ_from_below : (t : ℕ) (a b : List ℕ) → beside_cmp t a b ≡ Less → sets_beside t a ≢ sets_beside t b
 differ_from_below t a b less same =
-    true≢false (sym (ap is_lt less) ∙ ap (λ xs. is_lt (slice_cmp nat_cmp (sets_beside t a) xs)) (sym same) ∙ ap is_lt (tied_itself nat_list_cmp_total (sets_beside t a)))
+    true≢false (sym (ap is_lt less) ∙ ap (λ xs. is_lt (slice_cmp nat_cmp (sets_beside t a) xs)) (sym same)
+    ∙ ap is_lt (tied_itself nat_list_cmp_total (sets_beside t a)))

@@ -89,7 +89,8 @@ and_regrouped false b c = refl
 abbrev pub opened_at : ℕ → List ℕ → List ℕ
 opened_at t sets = set sets t 31
 
-pub have-set : (sets : List ℕ) (column : List Sym) (t x : ℕ) → t < length sets → sets_have (set sets t x) column ≡ (sets_have (opened_at t sets) column && is_in x (symbol column t))
+pub have-set : (sets : List ℕ) (column : List Sym) (t x : ℕ) → t < length sets
+    → sets_have (set sets t x) column ≡ (sets_have (opened_at t sets) column && is_in x (symbol column t))
 have-set [] column t x l = absurd (omega arith)
 have-set (y ∷ sets) [] zero x l = refl
 have-set (y ∷ sets) [] (suc t) x l = refl
@@ -101,26 +102,33 @@ have-set (y ∷ sets) (s ∷ column) (suc t) x l =
     ∙ and_regrouped (is_in y s) (sets_have (opened_at t sets) column) (is_in x (symbol column t))
 
 -- sets have a column where they do beside a tier, and the tier's set has its symbol
-pub have_at : (sets : List ℕ) (column : List Sym) (t : ℕ) → t < length sets → sets_have sets column ≡ (sets_have (opened_at t sets) column && is_in (get_or sets t 0) (symbol column t))
+pub have_at : (sets : List ℕ) (column : List Sym) (t : ℕ) → t < length sets
+    → sets_have sets column ≡ (sets_have (opened_at t sets) column && is_in (get_or sets t 0) (symbol column t))
 have_at sets column t l =
     ap (λ xs. sets_have xs column) (sym (set-get_or sets t 0)) ∙ have-set sets column t (get_or sets t 0) l
 
 -- one set is narrowed
-pub have-narrowed : (sets : List ℕ) (column : List Sym) (t x : ℕ) → t < length sets → sets_have (set sets t (bit_and (get_or sets t 0) x)) column ≡ (sets_have sets column && is_in x (symbol column t))
+pub have-narrowed : (sets : List ℕ) (column : List Sym) (t x : ℕ) → t < length sets
+    → sets_have (set sets t (bit_and (get_or sets t 0) x)) column
+    ≡ (sets_have sets column && is_in x (symbol column t))
 have-narrowed sets column t x l =
     have-set sets column t (bit_and (get_or sets t 0) x) l
     ∙ ap (λ b. sets_have (opened_at t sets) column && b) (is_in-and (get_or sets t 0) x (symbol column t))
-    ∙ and_regrouped (sets_have (opened_at t sets) column) (is_in (get_or sets t 0) (symbol column t)) (is_in x (symbol column t))
+    ∙ and_regrouped (sets_have (opened_at t sets) column) (is_in (get_or sets t 0) (symbol column t))
+    (is_in x (symbol column t))
     ∙ ap (λ b. b && is_in x (symbol column t)) (sym (have_at sets column t l))
 
 -- sets that agree beside a tier are united
 pub have_either : (xs ys : List ℕ) (column : List Sym) (t : ℕ) → t < length xs → t < length ys → set xs t 0 ≡ set ys t 0
-    → sets_have (set xs t (bit_or (get_or xs t 0) (get_or ys t 0))) column ≡ (sets_have xs column || sets_have ys column)
+    → sets_have (set xs t (bit_or (get_or xs t 0) (get_or ys t 0))) column
+    ≡ (sets_have xs column || sets_have ys column)
 have_either xs ys column t lx ly e =
     have-set xs column t (bit_or (get_or xs t 0) (get_or ys t 0)) lx
     ∙ ap (λ b. sets_have (opened_at t xs) column && b) (is_in-or (get_or xs t 0) (get_or ys t 0) (symbol column t))
-    ∙ over_or (sets_have (opened_at t xs) column) (is_in (get_or xs t 0) (symbol column t)) (is_in (get_or ys t 0) (symbol column t))
-    ∙ ap (λ b. b || (sets_have (opened_at t xs) column && is_in (get_or ys t 0) (symbol column t))) (sym (have_at xs column t lx))
+    ∙ over_or (sets_have (opened_at t xs) column) (is_in (get_or xs t 0) (symbol column t))
+    (is_in (get_or ys t 0) (symbol column t))
+    ∙ ap (λ b. b || (sets_have (opened_at t xs) column && is_in (get_or ys t 0) (symbol column t)))
+    (sym (have_at xs column t lx))
     ∙ ap (λ zs. sets_have xs column || (sets_have zs column && is_in (get_or ys t 0) (symbol column t))) same
     ∙ ap (λ b. sets_have xs column || b) (sym (have_at ys column t ly))
   where
@@ -133,7 +141,8 @@ have_either xs ys column t lx ly e =
 
 -- sets that are met tier by tier
 pub have_both : (xs ys zs : List ℕ) (column : List Sym) → length xs ≡ length zs → length ys ≡ length zs
-    → ((t : ℕ) → t < length zs → get_or zs t 0 ≡ bit_and (get_or xs t 0) (get_or ys t 0)) → sets_have zs column ≡ (sets_have xs column && sets_have ys column)
+    → ((t : ℕ) → t < length zs → get_or zs t 0 ≡ bit_and (get_or xs t 0) (get_or ys t 0))
+    → sets_have zs column ≡ (sets_have xs column && sets_have ys column)
 have_both [] [] [] [] ex ey h = refl
 have_both [] [] [] (s ∷ column) ex ey h = refl
 have_both [] [] (z ∷ zs) column ex ey h = absurd (omega arith)
@@ -144,7 +153,8 @@ have_both (x ∷ xs) (y ∷ ys) (z ∷ zs) [] ex ey h = refl
 have_both (x ∷ xs) (y ∷ ys) (z ∷ zs) (s ∷ column) ex ey h =
     ap (λ n. is_in n s && sets_have zs column) (h zero (omega arith))
     ∙ ap (λ b. b && sets_have zs column) (is_in-and x y s)
-    ∙ ap (λ b. (is_in x s && is_in y s) && b) (have_both xs ys zs column (omega arith) (omega arith) (λ t l. h (suc t) (omega arith)))
+    ∙ ap (λ b. (is_in x s && is_in y s) && b)
+    (have_both xs ys zs column (omega arith) (omega arith) (λ t l. h (suc t) (omega arith)))
     ∙ crossed (is_in x s) (is_in y s) (sets_have xs column) (sets_have ys column)
   where
     crossed : (a b c d : Bool) → ((a && b) && (c && d)) ≡ ((a && c) && (b && d))

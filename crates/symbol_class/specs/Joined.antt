@@ -37,7 +37,8 @@ DifferBeside tier classes = AllPairs (λ a b. sets_beside tier (sets_of a) ≢ s
 -- as often as before, and where there are as many classes as before, they are the same.
 pub record JoinsAlong (tier : ℕ) (old new : List Class) : Type 0 where
   pub held : (column : List Sym) → times_held new column ≡ times_held old column
-  pub one_width : (width : ℕ) → All (λ class. length (sets_of class) ≡ width) old → All (λ class. length (sets_of class) ≡ width) new
+  pub one_width : (width : ℕ) → All (λ class. length (sets_of class) ≡ width) old
+      → All (λ class. length (sets_of class) ≡ width) new
   pub filled : All (λ class. IsTrue (is_filled class)) new
   pub fewer : length new ≤ length old
   pub kept : length new ≡ length old → IsPermutation (map sets_of old) (map sets_of new)

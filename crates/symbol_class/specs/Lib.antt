@@ -3,3 +3,4 @@ pub mod FirstColumn
 pub mod ClassOrder
 pub mod Held
 pub mod Joined
+pub mod Parts

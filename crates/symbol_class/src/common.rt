@@ -8,12 +8,8 @@ use tier_core::Class;
 pub fn meet(a: &Class, b: &Class) -> Class
     requires { length (sets_of a.now) ≡ length (sets_of b.now) }
     ensures width { length (sets_of result) ≡ length (sets_of a.now) }
-    ensures columns { (column : List Sym) → has result column ≡ (has a.now column && has b.now column) }
+    ensures columns { (column : List Sym)
+        → has result column ≡ (has a.now column && has b.now column) }
 {
-    let width = a.width();
-    let mut sets = [0; 12];
-    for tier in 0..width {
-        sets[tier as usize] = a.bits(tier) & b.bits(tier);
-    }
-    Class::of_bits(&sets[..width as usize])
+    a.meet(b)
 }

@@ -7,13 +7,11 @@ use tier_core::Class;
 
 /// Whether a class holds no column of its width. It holds none of another width in any case.
 pub fn is_empty(class: &Class) -> bool
-    ensures columns { IsTrue result ↔ ((column : List Sym) → length column ≡ length (sets_of class.now) → has class.now column ≡ false) }
+    ensures columns { IsTrue result
+        ↔
+        ((column : List Sym) → length column ≡ length (sets_of class.now)
+        → has class.now column ≡ false) }
     ensures sets { result ≡ not (is_filled class.now) }
 {
-    for tier in 0..class.width() {
-        if class.bits(tier) == 0 {
-            return true;
-        }
-    }
-    false
+    class.has_empty_set()
 }

@@ -8,7 +8,6 @@ ghost use Rattle.symbol_class.specs.Held.{some_has, times_held, width_of, ArePie
 ghost use Rattle.symbol_class.specs.Joined.{DifferTwice, beside_cmp, united, JoinsAlong, JoinsBelow};
 
 use crate::order::class_cmp;
-use crate::sets::with_set;
 use std::alloc::{AllocError, Global};
 use std::cmp::Ordering;
 use tier_core::{Class, NoMemory};
@@ -17,7 +16,7 @@ use tier_core::{Class, NoMemory};
 fn beside_cmp(tier: u32, a: &Class, b: &Class) -> Ordering
     ensures { result ≡ beside_cmp tier (sets_of a.now) (sets_of b.now) }
 {
-    class_cmp(&with_set(a, tier, 0), &with_set(b, tier, 0))
+    class_cmp(&a.with_set(tier, 0), &b.with_set(tier, 0))
 }
 
 /// The class that has on a tier the symbols of both, and else the sets of the first.
@@ -26,7 +25,7 @@ fn united(tier: u32, a: &Class, b: &Class) -> Class
     requires second { tier < length (sets_of b.now) }
     ensures { sets_of result ≡ united tier (sets_of a.now) (sets_of b.now) }
 {
-    with_set(a, tier, a.bits(tier) | b.bits(tier))
+    a.with_set(tier, a.bits(tier) | b.bits(tier))
 }
 
 /// The class that is to be joined next: the current one with the next, where they agree on all other
@@ -39,8 +38,13 @@ fn joined_next(
 ) -> Result<Class, AllocError>
     requires first { tier < length (sets_of current.now) }
     requires second { tier < length (sets_of next.now) }
-    ensures alike { is_eq (beside_cmp tier (sets_of current.now) (sets_of next.now)) ≡ true → IfOk result (λ class. (done.new.items ≡ done.old.items) × (sets_of class ≡ united tier (sets_of current.now) (sets_of next.now))) }
-    ensures other { is_eq (beside_cmp tier (sets_of current.now) (sets_of next.now)) ≡ false → IfOk result (λ class. (done.new.items ≡ done.old.items ++ current.now ∷ []) × (class ≡ next.now)) }
+    ensures alike { is_eq (beside_cmp tier (sets_of current.now) (sets_of next.now)) ≡ true
+        → IfOk result
+        (λ class. (done.new.items ≡ done.old.items)
+        × (sets_of class ≡ united tier (sets_of current.now) (sets_of next.now))) }
+    ensures other { is_eq (beside_cmp tier (sets_of current.now) (sets_of next.now)) ≡ false
+        → IfOk result
+        (λ class. (done.new.items ≡ done.old.items ++ current.now ∷ []) × (class ≡ next.now)) }
 {
     if beside_cmp(tier, current, next) == Ordering::Equal {
         return Ok(united(tier, current, next));
@@ -99,7 +103,9 @@ fn joined_fully(alloc: Global, width: u32, classes: &[Class]) -> Result<Vec<Clas
     requires some { 0 < width }
     requires pieces { ArePieces width classes.now }
     ensures pieces { IfOk result (λ joined. ArePieces width joined.items) }
-    ensures held { IfOk result (λ joined. (column : List Sym) → times_held joined.items column ≡ times_held classes.now column) }
+    ensures held { IfOk result
+        (λ joined. (column : List Sym)
+        → times_held joined.items column ≡ times_held classes.now column) }
     ensures fewer { IfOk result (λ joined. length joined.items ≤ length classes.now) }
     ensures differ { IfOk result (λ joined. AllPairs DifferTwice joined.items) }
 {
@@ -118,7 +124,9 @@ fn joined_fully(alloc: Global, width: u32, classes: &[Class]) -> Result<Vec<Clas
 pub fn join(alloc: Global, classes: &[Class]) -> Result<Vec<Class>, NoMemory>
     requires { ArePieces (width_of classes.now) classes.now }
     ensures pieces { IfOk result (λ joined. ArePieces (width_of classes.now) joined.items) }
-    ensures columns { IfOk result (λ joined. (column : List Sym) → some_has joined.items column ≡ some_has classes.now column) }
+    ensures columns { IfOk result
+        (λ joined. (column : List Sym)
+        → some_has joined.items column ≡ some_has classes.now column) }
     ensures fewer { IfOk result (λ joined. length joined.items ≤ length classes.now) }
     ensures differ { IfOk result (λ joined. AllPairs DifferTwice joined.items) }
 {

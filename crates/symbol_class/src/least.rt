@@ -32,7 +32,8 @@ fn lowest(set: u8) -> Sym
 pub fn least_column(alloc: Global, class: &Class) -> Column
     ensures sets { result ≡ first_column class.now }
     ensures held { IsTrue (is_filled class.now) → IsTrue (has class.now result) }
-    ensures least { (column : List Sym) → IsTrue (has class.now column) → is_gt (column_cmp result column) ≡ false }
+    ensures least { (column : List Sym) → IsTrue (has class.now column)
+        → is_gt (column_cmp result column) ≡ false }
 {
     let width = class.width();
     let mut syms = [Sym::Outside; 12];

@@ -7,11 +7,13 @@
 #![tactic(auto)]
 
 mod common;
+mod difference;
 mod emptiness;
 mod joining;
 mod least;
 mod order;
 mod parting;
+mod parts;
 mod remainder;
 mod sets;
 mod sides;
@@ -19,10 +21,13 @@ mod sides;
 mod tests;
 
 pub use common::meet;
+pub use difference::Difference;
 pub use emptiness::is_empty;
 pub use joining::join;
 pub use least::least_column;
 pub use order::class_cmp;
 pub use parting::split;
-pub use remainder::minus;
+pub use parts::part;
+pub use remainder::{minus, push_minus};
+pub use sets::narrowed;
 pub use sides::Split;

@@ -9,11 +9,5 @@ use tier_core::Class;
 pub fn class_cmp(a: &Class, b: &Class) -> Ordering
     ensures { result ≡ class_cmp a.now b.now }
 {
-    for tier in 0..a.width().min(b.width()) {
-        let order = a.bits(tier).cmp(&b.bits(tier));
-        if order != Ordering::Equal {
-            return order;
-        }
-    }
-    a.width().cmp(&b.width())
+    a.sets_cmp(b)
 }

@@ -18,8 +18,14 @@ fn parted(
     inside: &mut Vec<Class>,
 ) -> Result<Vec<Class>, AllocError>
     requires { All (λ class. length (sets_of class) ≡ length (sets_of test.now)) classes.now }
-    ensures inside { IfOk result (λ outside. AddsClasses (length (sets_of test.now)) inside.old.items inside.new.items (λ column. if has test.now column then times_held classes.now column else 0)) }
-    ensures outside { IfOk result (λ outside. AddsClasses (length (sets_of test.now)) [] outside.items (λ column. if has test.now column then 0 else times_held classes.now column)) }
+    ensures inside { IfOk result
+        (λ outside.
+        AddsClasses (length (sets_of test.now)) inside.old.items inside.new.items
+        (λ column. if has test.now column then times_held classes.now column else 0)) }
+    ensures outside { IfOk result
+        (λ outside.
+        AddsClasses (length (sets_of test.now)) [] outside.items
+        (λ column. if has test.now column then 0 else times_held classes.now column)) }
 {
     let mut outside = Vec::new(alloc);
     for class in classes {
@@ -32,8 +38,14 @@ fn parted(
 /// Parts a class by all tests in turn.
 fn parted_by_all(alloc: Global, class: &Class, tests: &[Class]) -> Result<Split, AllocError>
     requires { All (λ test. length (sets_of test) ≡ length (sets_of class.now)) tests.now }
-    ensures inside { IfOk result (λ split. AddsClasses (length (sets_of class.now)) [] split.inside.items (λ column. once_if (has class.now column && some_has tests.now column))) }
-    ensures outside { IfOk result (λ split. AddsClasses (length (sets_of class.now)) [] split.outside.items (λ column. once_if (has class.now column && not (some_has tests.now column)))) }
+    ensures inside { IfOk result
+        (λ split.
+        AddsClasses (length (sets_of class.now)) [] split.inside.items
+        (λ column. once_if (has class.now column && some_has tests.now column))) }
+    ensures outside { IfOk result
+        (λ split.
+        AddsClasses (length (sets_of class.now)) [] split.outside.items
+        (λ column. once_if (has class.now column && not (some_has tests.now column)))) }
 {
     let mut inside = Vec::new(alloc);
     let mut outside = Vec::new(alloc);
@@ -49,9 +61,17 @@ fn parted_by_all(alloc: Global, class: &Class, tests: &[Class]) -> Result<Split,
 /// two. It fails only for want of memory.
 pub fn split(alloc: Global, class: &Class, tests: &[Class]) -> Result<Split, NoMemory>
     requires { All (λ test. length (sets_of test) ≡ length (sets_of class.now)) tests.now }
-    ensures pieces { IfOk result (λ split. ArePieces (length (sets_of class.now)) (split.inside.items ++ split.outside.items)) }
-    ensures inside { IfOk result (λ split. (column : List Sym) → some_has split.inside.items column ≡ (has class.now column && some_has tests.now column)) }
-    ensures outside { IfOk result (λ split. (column : List Sym) → some_has split.outside.items column ≡ (has class.now column && not (some_has tests.now column))) }
+    ensures pieces { IfOk result
+        (λ split.
+        ArePieces (length (sets_of class.now)) (split.inside.items ++ split.outside.items)) }
+    ensures inside { IfOk result
+        (λ split. (column : List Sym)
+        → some_has split.inside.items column
+        ≡ (has class.now column && some_has tests.now column)) }
+    ensures outside { IfOk result
+        (λ split. (column : List Sym)
+        → some_has split.outside.items column
+        ≡ (has class.now column && not (some_has tests.now column))) }
 {
     match parted_by_all(alloc, class, tests) {
         Ok(split) => Ok(split),

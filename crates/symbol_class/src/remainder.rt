@@ -10,7 +10,9 @@ use tier_core::{Class, NoMemory};
 
 /// Puts a class at the end of a list, unless it is empty.
 pub(crate) fn push_filled(pieces: &mut Vec<Class>, class: Class) -> Result<(), AllocError>
-    ensures held { OnOk result (AddsClasses (length (sets_of class)) pieces.old.items pieces.new.items (λ column. once_if (has class column))) }
+    ensures held { OnOk result
+        (AddsClasses (length (sets_of class)) pieces.old.items pieces.new.items
+        (λ column. once_if (has class column))) }
     ensures few { OnOk result (length pieces.new.items ≤ length pieces.old.items + 1) }
 {
     if is_empty(&class) {
@@ -22,10 +24,13 @@ pub(crate) fn push_filled(pieces: &mut Vec<Class>, class: Class) -> Result<(), A
 
 /// Puts the pieces of `a` without `b` at the end of a list: for each tier the columns that are in the
 /// sets of `b` on the tiers before it, and not on this one.
-pub(crate) fn push_minus(pieces: &mut Vec<Class>, a: &Class, b: &Class) -> Result<(), AllocError>
+pub fn push_minus(pieces: &mut Vec<Class>, a: &Class, b: &Class) -> Result<(), AllocError>
     requires { length (sets_of a.now) ≡ length (sets_of b.now) }
-    ensures held { OnOk result (AddsClasses (length (sets_of a.now)) pieces.old.items pieces.new.items (λ column. once_if (has a.now column && not (has b.now column)))) }
-    ensures few { OnOk result (length pieces.new.items ≤ length pieces.old.items + length (sets_of a.now)) }
+    ensures held { OnOk result
+        (AddsClasses (length (sets_of a.now)) pieces.old.items pieces.new.items
+        (λ column. once_if (has a.now column && not (has b.now column)))) }
+    ensures few { OnOk result
+        (length pieces.new.items ≤ length pieces.old.items + length (sets_of a.now)) }
 {
     let mut rest = *a;
     for tier in 0..a.width() {
@@ -42,7 +47,9 @@ pub(crate) fn push_minus(pieces: &mut Vec<Class>, a: &Class, b: &Class) -> Resul
 pub fn minus(alloc: Global, a: &Class, b: &Class) -> Result<Vec<Class>, NoMemory>
     requires { length (sets_of a.now) ≡ length (sets_of b.now) }
     ensures pieces { IfOk result (λ pieces. ArePieces (length (sets_of a.now)) pieces.items) }
-    ensures columns { IfOk result (λ pieces. (column : List Sym) → some_has pieces.items column ≡ (has a.now column && not (has b.now column))) }
+    ensures columns { IfOk result
+        (λ pieces. (column : List Sym)
+        → some_has pieces.items column ≡ (has a.now column && not (has b.now column))) }
     ensures few { IfOk result (λ pieces. length pieces.items ≤ length (sets_of a.now)) }
 {
     let mut pieces = Vec::new(alloc);

@@ -13,7 +13,8 @@ use Rattle.arc_table.proofs.Push.{moves_exist}
 use Rattle.table_tests.specs.Fit.{IsFit, AreFit}
 
 module _ {W : Type 0} {g : Ghosts W} where
-  state_at : (states : List (TableState W g)) (s : ℕ) → s < length states → (state : TableState W g) × (get_or states s state ≡ state) × (moves_at states s ≡ state.arcs.items)
+  state_at : (states : List (TableState W g)) (s : ℕ) → s < length states
+      → (state : TableState W g) × (get_or states s state ≡ state) × (moves_at states s ≡ state.arcs.items)
   state_at [] s l = absurd (omega (arith, l))
   state_at (x ∷ xs) zero l = (x, refl, refl)
   state_at (x ∷ xs) (suc s) l = state_at xs s (omega arith)
@@ -23,7 +24,8 @@ module _ {W : Type 0} {g : Ghosts W} where
     fit_at s arc here =
         let inside = moves_exist states s arc here in
         let found = state_at states s inside in
-        let P : TableState W g → Type 0 = λ state. (k : ℕ) (d : TableArc W g) → k < length state.arcs.items → IsFit (length states) (get_or state.arcs.items k d) in
+        let P : TableState W g → Type 0 = λ state. (k : ℕ) (d : TableArc W g) → k < length state.arcs.items
+        → IsFit (length states) (get_or state.arcs.items k d) in
         let all = subst P found.1 (fit s found.0 inside).0 in
         let Q : List (TableArc W g) → Type 0 = λ xs. Contains xs arc in
         let there : Q found.0.arcs.items = subst Q found.2 here in
@@ -44,7 +46,8 @@ module _ {W : Type 0} {g : Ghosts W} where
 
     pub fit_disjoint : ClassesDisjoint states
     fit_disjoint s i j d less inside =
-        let within = moves_exist states s (get_or (moves_at states s) j d) (Contains-get_or (moves_at states s) j d inside) in
+        let within = moves_exist states s (get_or (moves_at states s) j d)
+        (Contains-get_or (moves_at states s) j d inside) in
         let found = state_at states s within in
         let P : TableState W g → Type 0 = λ state. AllPairs (λ a b. AreDisjoint a.class b.class) state.arcs.items in
         let Q : List (TableArc W g) → Type 0 = λ xs. AllPairs (λ a b. AreDisjoint a.class b.class) xs in

@@ -14,8 +14,10 @@ in_both a b s = is_in a s && is_in b s
 -- a move that leads to one of n states, has some column, and whose weight is small enough
 abbrev pub IsFit : {W : Type 0} {g : Ghosts W} → ℕ → TableArc W g → Type 0
 IsFit {W} {g} n arc =
-    (arc.target < n) × (n * g.meaning.size arc.weight ≤ 4294967295) × (length (sets_of arc.class) ≡ 1) × IsTrue (is_filled arc.class)
+    (arc.target < n) × (n * g.meaning.size arc.weight ≤ 4294967295) × (length (sets_of arc.class) ≡ 1) × IsTrue
+    (is_filled arc.class)
 
 abbrev pub AreFit : {W : Type 0} {g : Ghosts W} → List (TableState W g) → Type 0
 AreFit states =
-    All (λ state. All (IsFit (length states)) state.arcs.items × AllPairs (λ a b. AreDisjoint a.class b.class) state.arcs.items) states
+    All (λ state. All (IsFit (length states)) state.arcs.items × AllPairs
+    (λ a b. AreDisjoint a.class b.class) state.arcs.items) states

@@ -35,7 +35,7 @@ fn arcs_from(
     Ok(arcs)
 }
 
-/// The table over one tier of a small graph, and `None` where the graph is none: for each state
+/// The table over one tier of a small graph, and `None` if the graph is not one: for each state
 /// whether it is accepting, and the arrows.
 pub fn small_table(
     alloc: Global,

@@ -73,7 +73,7 @@ fn follow(arrows: &[Arrow], state: u32, letter: u8) -> Option<Arrow> {
     None
 }
 
-/// The weight of a word from a state on, where it is accepted.
+/// The weight of a word from a state on, if it is accepted.
 fn weight_of(graph: &Graph, from: u32, letters: &[u8]) -> Option<u64> {
     let mut state = from;
     let mut weight: u64 = 0;
@@ -168,8 +168,8 @@ fn is_word(timeline: &Timeline, len: u32, code: u32) -> bool {
     true
 }
 
-/// What the three calls answer of a graph: the least weights, and, where the start has one, whether
-/// the pruned table and the first timeline are right.
+/// What the three functions return for a graph: the least weights, and, if the start has one,
+/// whether the pruned table and the first timeline are right.
 fn check(alloc: Global, graph: &Graph) -> Result<bool, Fail> {
     let Some(table) = small_table(alloc, graph.accepting, graph.arrows)? else {
         return Ok(false);
@@ -331,7 +331,7 @@ fn arrows_between(graph: &Graph, from: u32, to: u32, weight: u32) -> usize {
         .count()
 }
 
-/// Whether the moves turned round are the graph's arrows, each as often as it is there.
+/// Whether the reversed moves are the graph's arrows, each as often as it occurs there.
 fn are_turned(alloc: Global, graph: &Graph) -> Result<bool, Fail> {
     let Some(table) = small_table(alloc, graph.accepting, graph.arrows)? else {
         return Ok(false);

@@ -26,46 +26,63 @@ at_first m n rest Equal e h o = absurd (o (sym (ranked m n Equal e)))
 at_first m n rest Greater e h o = absurd (false≢true h)
 
 -- where the least is at most the counts, the first count that differs is greater
-greater : (least counts : List ℕ) (w : ℕ) → is_le (slice_cmp nat_cmp least counts) ≡ true → w < length least → take w counts ≡ take w least → get_or counts w 0 ≢ get_or least w 0 → get_or least w 0 < get_or counts w 0
+greater : (least counts : List ℕ) (w : ℕ) → is_le (slice_cmp nat_cmp least counts) ≡ true → w < length least
+    → take w counts ≡ take w least → get_or counts w 0 ≢ get_or least w 0 → get_or least w 0 < get_or counts w 0
 greater [] counts w a l b o = absurd (omega arith)
 greater (m ∷ least) [] w a l b o = absurd (false≢true a)
 greater (m ∷ least) (n ∷ counts) zero a l b o = at_first m n (slice_cmp nat_cmp least counts) (nat_cmp m n) refl a o
 greater (m ∷ least) (n ∷ counts) (suc w) a l b o =
     let same : m ≡ n = cc in
     let rest : take w counts ≡ take w least = cc in
-    greater least counts w (ap (λ r. is_le (ordering_then r (slice_cmp nat_cmp least counts))) (nat_cmp_is m n Equal same) ∙ a) (omega arith) rest o
+    greater least counts w (ap (λ r. is_le (ordering_then r (slice_cmp nat_cmp least counts)))
+    (nat_cmp_is m n Equal same) ∙ a) (omega arith) rest o
 
 module _ (problem : Problem) (least : List ℕ) (is_least : IsLeastVector problem least) where
   whole : (T : List (List Sym)) → take (last_stage problem) (counts_on problem T) ≡ counts_on problem T
-  whole T = let n = length-map problem.constraints (λ c. violations_of c T) in take_all (last_stage problem) (counts_on problem T) (omega arith)
+  whole T = let n = length-map problem.constraints (λ c. violations_of c T) in take_all (last_stage problem)
+      (counts_on problem T) (omega arith)
 
   -- the least is at most the vector of each candidate
   at_most : (T : List (List Sym)) → IsCandidate problem T → IsAtMost least (counts_on problem T)
   at_most T c =
       let best = is_least.some.0 in
       subst (λ (v : List ℕ). IsAtMost v (counts_on problem T)) (whole best ∙ is_least.some.1.1)
-      (subst (λ (v : List ℕ). IsAtMost (take (last_stage problem) (counts_on problem best)) v) (whole T) (is_least.some.1.0.least T c))
+      (subst (λ (v : List ℕ). IsAtMost (take (last_stage problem) (counts_on problem best)) v) (whole T)
+      (is_least.some.1.0.least T c))
 
   -- a candidate with the least vector is optimal
   optimal : (T : List (List Sym)) → IsCandidate problem T → counts_on problem T ≡ least → IsOptimal problem T
   optimal T c e = record {
     candidate = c;
-    least = λ U d. subst (λ (v : List ℕ). IsAtMost (take (last_stage problem) v) (take (last_stage problem) (counts_on problem U))) (is_least.some.1.1 ∙ sym e) (is_least.some.1.0.least U d);
+    least = λ U d. subst (λ (v : List ℕ). IsAtMost (take (last_stage problem) v)
+        (take (last_stage problem) (counts_on problem U))) (is_least.some.1.1 ∙ sym e) (is_least.some.1.0.least U d);
   }
 
   pub length-least : length least ≡ last_stage problem
-  length-least = ap length (sym is_least.some.1.1) ∙ length-map problem.constraints (λ c. violations_of c is_least.some.0)
+  length-least = ap length (sym is_least.some.1.1)
+      ∙ length-map problem.constraints (λ c. violations_of c is_least.some.0)
 
   -- what a comparison with the least says of a candidate
-  judged : (T : List (List Sym)) → IsCandidate problem T → (counts : List ℕ) → counts ≡ counts_on problem T → (worse : Option ℕ) → MatchOption worse (counts ≡ least) (IsFirstOther least counts)
+  judged : (T : List (List Sym)) → IsCandidate problem T → (counts : List ℕ) → counts ≡ counts_on problem T
+      → (worse : Option ℕ) → MatchOption worse (counts ≡ least) (IsFirstOther least counts)
       → (IsNone worse ↔ IsOptimal problem T) × IfSome worse (IsFirstWorse least counts)
   judged T c counts e None same = ((λ _. optimal T c (sym e ∙ same), λ _. refl), tt)
   judged T c counts e (Some w) o = (
-    (λ n. absurd (false≢true (sym n)), λ best. absurd (o.other (ap (λ xs. get_or xs w 0) (e ∙ is_least.shared T best)))),
-    record { there = o.there; before = o.before; greater = greater least counts w (subst (λ (v : List ℕ). IsAtMost least v) (sym e) (at_most T c)) o.there o.before o.other },
+    (
+      λ n. absurd (false≢true (sym n)),
+      λ best. absurd
+          (o.other (ap (λ xs. get_or xs w 0) (e ∙ is_least.shared T best))),
+    ),
+    record {
+      there = o.there;
+      before = o.before;
+      greater = greater least counts w
+          (subst (λ (v : List ℕ). IsAtMost least v) (sym e) (at_most T c)) o.there o.before o.other;
+    },
   )
 
-  pub compared_row : (T : List (List Sym)) (row : TableauRow) → IsCandidate problem T → IsCompared problem.constraints least T row → IsTableauRow problem least row
+  pub compared_row : (T : List (List Sym)) (row : TableauRow) → IsCandidate problem T
+      → IsCompared problem.constraints least T row → IsTableauRow problem least row
   compared_row T row c r =
       let judge = judged T c row.counts.items r.counts row.worse r.worse in
       record {
@@ -75,7 +92,8 @@ module _ (problem : Problem) (least : List ℕ) (is_least : IsLeastVector proble
       }
 
   -- an optimal candidate with the least counts
-  pub optimal_row : (T : List (List Sym)) (row : TableauRow) → IsOptimal problem T → row.timeline ≡ T → row.counts.items ≡ least → row.worse ≡ None → IsTableauRow problem least row
+  pub optimal_row : (T : List (List Sym)) (row : TableauRow) → IsOptimal problem T → row.timeline ≡ T
+      → row.counts.items ≡ least → row.worse ≡ None → IsTableauRow problem least row
   optimal_row T row best t e w =
       let of_row : IsOptimal problem row.timeline = subst (IsOptimal problem) (sym t) best in
       record {

@@ -30,30 +30,38 @@ below n (e ∷ events) h =
 
 side : (n : ℕ) (events : List Event) → is_side n events ≡ true → (0 < length events) × AreTiersBelow n events
 side n events h =
-    let parts = and_parts (nat_le 1 (length events) && nat_le (length events) 8) (list_all (λ e. nat_lt e.tier n) events) h in
+    let parts = and_parts (nat_le 1 (length events) && nat_le (length events) 8)
+    (list_all (λ e. nat_lt e.tier n) events) h in
     let front = and_parts (nat_le 1 (length events)) (nat_le (length events) 8) parts.0 in
     (at_least (length events) front.0, below n events parts.1)
 
-countable : (n : ℕ) (T : List (List Sym)) → IsWellFormed n T → (cs : List Constraint) → list_all (has_sides n) (map constraint_seen cs) ≡ true → AllByRecursion (λ c. IsCountable c.left c.right T) cs
+countable : (n : ℕ) (T : List (List Sym)) → IsWellFormed n T → (cs : List Constraint)
+    → list_all (has_sides n) (map constraint_seen cs) ≡ true → AllByRecursion (λ c. IsCountable c.left c.right T) cs
 countable n T w [] h = tt
 countable n T w (c ∷ cs) h =
     let parts = and_parts _ _ h in
     let sides = and_parts _ _ parts.0 in
     let left = side n c.left sides.0 in
-    let right = side n c.right sides.1 in
-    (record { width = n; well_formed = w; left_below = left.1; right_below = right.1; some_left = left.0 }, countable n T w cs parts.1)
+    let right = side n c.right sides.1 in (
+      record { width = n; well_formed = w; left_below = left.1; right_below = right.1; some_left = left.0 },
+      countable n T w cs parts.1,
+    )
 
-length-tiers_by : (ns : List (List ℕ)) (ks : List TierKind) → length ns ≡ length ks → length (tiers_by ns ks) ≡ length ks
+length-tiers_by : (ns : List (List ℕ)) (ks : List TierKind) → length ns ≡ length ks
+    → length (tiers_by ns ks) ≡ length ks
 length-tiers_by [] [] e = refl
 length-tiers_by [] (k ∷ ks) e = absurd (omega (arith, e))
 length-tiers_by (n ∷ ns) [] e = absurd (omega (arith, e))
 length-tiers_by (n ∷ ns) (k ∷ ks) e = let m = length-tiers_by ns ks (omega (arith, e)) in omega arith
 
-pub all_countable : (g : Grammar) (T : List (List Sym)) → IsWellFormed (length g.tiers.kinds.items) T → All (λ c. IsCountable c.left c.right T) g.constraints.items
+pub all_countable : (g : Grammar) (T : List (List Sym)) → IsWellFormed (length g.tiers.kinds.items) T
+    → All (λ c. IsCountable c.left c.right T) g.constraints.items
 all_countable g T w =
-    let same = length-tiers_by (map string_bytes g.tiers.names.items) g.tiers.kinds.items (length-map g.tiers.names.items string_bytes ∙ g.tiers.one_length) in
+    let same = length-tiers_by (map string_bytes g.tiers.names.items) g.tiers.kinds.items
+    (length-map g.tiers.names.items string_bytes ∙ g.tiers.one_length) in
     All-from_recursion (λ c. IsCountable c.left c.right T) g.constraints.items
-    (countable (length (value_of g).tiers) T (subst (λ n. IsWellFormed n T) (sym same) w) g.constraints.items g.lawful.made.sides)
+    (countable (length (value_of g).tiers) T
+    (subst (λ n. IsWellFormed n T) (sym same) w) g.constraints.items g.lawful.made.sides)
 
 -- there are few constraints
 pub few_constraints : (g : Grammar) → length g.constraints.items < 25

@@ -14,37 +14,51 @@ use Rattle.tableau.proofs.LineCuts.{nothing_behind}
 use Rattle.violation.specs.Problems.{Problem}
 
 -- the lines so far and one more, which is passed over
-pub filled_blank : (front : List (List ℕ)) (line : List ℕ) → is_blank line ≡ true → filled (front ++ line ∷ []) ≡ filled front
+pub filled_blank : (front : List (List ℕ)) (line : List ℕ) → is_blank line ≡ true
+    → filled (front ++ line ∷ []) ≡ filled front
 filled_blank front line h =
     filter-append (λ l. not (is_blank l)) front (line ∷ [])
     ∙ ap (λ b. filled front ++ cond (not b) (line ∷ []) []) h ∙ append-nil (filled front)
 
 -- or is not
-pub filled_more : (front : List (List ℕ)) (line : List ℕ) (behind : List (List ℕ)) → is_blank line ≡ false → filled (front ++ line ∷ behind) ≡ filled front ++ line ∷ filled behind
+pub filled_more : (front : List (List ℕ)) (line : List ℕ) (behind : List (List ℕ)) → is_blank line ≡ false
+    → filled (front ++ line ∷ behind) ≡ filled front ++ line ∷ filled behind
 filled_more front line behind h =
     filter-append (λ l. not (is_blank l)) front (line ∷ behind)
     ∙ ap (λ b. filled front ++ cond (not b) (line ∷ filled behind) (filled behind)) h
 
 -- no line has no rows
 pub no_rows : (problem : Problem) → AreRowsOf problem [] []
-no_rows problem = record { texts = refl; candidates = All-nil (IsCandidate problem); within = All-nil (λ T. length T ≤ 4096); few = omega arith }
+no_rows problem = record {
+  texts = refl;
+  candidates = All-nil (IsCandidate problem);
+  within = All-nil (λ T. length T ≤ 4096);
+  few = omega arith;
+}
 
-pub blank_line : (problem : Problem) (front : List (List ℕ)) (line : List ℕ) (rows : List (List (List Sym))) → is_blank line ≡ true
+pub blank_line : (problem : Problem) (front : List (List ℕ)) (line : List ℕ) (rows : List (List (List Sym)))
+    → is_blank line ≡ true
     → AreRowsOf problem front rows → AreRowsOf problem (front ++ line ∷ []) rows
-blank_line problem front line rows h a = record { texts = filled_blank front line h ∙ a.texts; candidates = a.candidates; within = a.within; few = a.few }
+blank_line problem front line rows h a = record
+    { texts = filled_blank front line h ∙ a.texts; candidates = a.candidates; within = a.within; few = a.few }
 
-pub row_line : (problem : Problem) (front : List (List ℕ)) (line : List ℕ) (rows : List (List (List Sym))) (T : List (List Sym)) → is_blank line ≡ false
-    → length rows < 32 → IsRowOf problem line T → AreRowsOf problem front rows → AreRowsOf problem (front ++ line ∷ []) (rows ++ T ∷ [])
+pub row_line : (problem : Problem) (front : List (List ℕ)) (line : List ℕ) (rows : List (List (List Sym)))
+    (T : List (List Sym)) → is_blank line ≡ false
+    → length rows < 32 → IsRowOf problem line T → AreRowsOf problem front rows
+    → AreRowsOf problem (front ++ line ∷ []) (rows ++ T ∷ [])
 row_line problem front line rows T h l r a = record {
-  texts = filled_more front line [] h ∙ ap (λ ts. ts ++ line ∷ []) a.texts ∙ ap (λ t. map text_of rows ++ t ∷ []) r.text.text ∙ sym (map_push text_of rows T);
+  texts = filled_more front line [] h ∙ ap (λ ts. ts ++ line ∷ []) a.texts
+      ∙ ap (λ t. map text_of rows ++ t ∷ []) r.text.text ∙ sym (map_push text_of rows T);
   candidates = All-push (IsCandidate problem) rows T a.candidates r.candidate;
   within = All-push (λ U. length U ≤ 4096) rows T a.within r.text.within;
   few = omega (arith, length_push rows T);
 }
 
 -- a line that is refused behind these lines
-pub refused_line : (problem : Problem) (front : List (List ℕ)) (line : List ℕ) (behind : List (List ℕ)) (rows : List (List (List Sym))) (number before : ℕ) (e : RowsErr) → is_blank line ≡ false
-    → length front + 1 ≡ number → before ≡ length rows → AreRowsOf problem front rows → IsLineRefusal problem number before line e → IsTextRefusal problem (front ++ line ∷ behind) e
+pub refused_line : (problem : Problem) (front : List (List ℕ)) (line : List ℕ) (behind : List (List ℕ))
+    (rows : List (List (List Sym))) (number before : ℕ) (e : RowsErr) → is_blank line ≡ false
+    → length front + 1 ≡ number → before ≡ length rows → AreRowsOf problem front rows
+    → IsLineRefusal problem number before line e → IsTextRefusal problem (front ++ line ∷ behind) e
 refused_line problem front line behind rows number before NoMemory h n b a r = tt
 refused_line problem front line behind rows number before (At row cause) h n b a r = record {
   front = front;
@@ -59,14 +73,16 @@ refused_line problem front line behind rows number before (At row cause) h n b a
 }
 
 -- The lines in front of the rest have these rows.
-pub record IsReadTo (problem : Problem) (bytes rest : List ℕ) (number : ℕ) (rows : List (List (List Sym))) : Type 0 where
+pub record IsReadTo (problem : Problem) (bytes rest : List ℕ) (number : ℕ)
+    (rows : List (List (List Sym))) : Type 0 where
   pub front : List (List ℕ)
   pub whole : lines bytes ≡ front ++ lines rest
   pub read : AreRowsOf problem front rows
   pub counted : length front ≡ number
   pub left : number + length rest ≤ length bytes
 
-pub read_none : (problem : Problem) (bytes : List ℕ) (rows : List (List (List Sym))) → rows ≡ [] → IsReadTo problem bytes bytes 0 rows
+pub read_none : (problem : Problem) (bytes : List ℕ) (rows : List (List (List Sym))) → rows ≡ []
+    → IsReadTo problem bytes bytes 0 rows
 read_none problem bytes rows e = record {
   front = [];
   whole = refl;
@@ -76,11 +92,15 @@ read_none problem bytes rows e = record {
 }
 
 -- the lines of the text, with the first line of the rest on its own
-pub next_line : (bytes rest behind line : List ℕ) (front : List (List ℕ)) → lines bytes ≡ front ++ lines rest → lines rest ≡ line ∷ lines behind → lines bytes ≡ front ++ line ∷ lines behind
+pub next_line : (bytes rest behind line : List ℕ) (front : List (List ℕ)) → lines bytes ≡ front ++ lines rest
+    → lines rest ≡ line ∷ lines behind → lines bytes ≡ front ++ line ∷ lines behind
 next_line bytes rest behind line front w e = w ∙ ap (λ ls. front ++ ls) e
 
-pub read_more : {problem : Problem} {bytes rest : List ℕ} {number : ℕ} {rows : List (List (List Sym))} (behind line : List ℕ) (more : List (List (List Sym))) → lines rest ≡ line ∷ lines behind → length behind < length rest
-    → (r : IsReadTo problem bytes rest number rows) → AreRowsOf problem (r.front ++ line ∷ []) more → IsReadTo problem bytes behind (number + 1) more
+pub read_more : {problem : Problem} {bytes rest : List ℕ} {number : ℕ} {rows : List (List (List Sym))}
+    (behind line : List ℕ) (more : List (List (List Sym))) → lines rest ≡ line ∷ lines behind
+    → length behind < length rest
+    → (r : IsReadTo problem bytes rest number rows) → AreRowsOf problem (r.front ++ line ∷ []) more
+    → IsReadTo problem bytes behind (number + 1) more
 read_more {bytes = bytes} {rest = rest} behind line more e l r a = record {
   front = r.front ++ line ∷ [];
   whole = next_line bytes rest behind line r.front r.whole e ∙ sym (append_assoc r.front (line ∷ []) (lines behind));
@@ -92,4 +112,5 @@ read_more {bytes = bytes} {rest = rest} behind line more e l r a = record {
 -- all lines are read
 pub read_all : {problem : Problem} {bytes rest : List ℕ} {number : ℕ} {rows : List (List (List Sym))} → length rest ≡ 0
     → IsReadTo problem bytes rest number rows → AreRowsOf problem (lines bytes) rows
-read_all {problem} {bytes} {rest} {number} {rows} h r = subst (λ ls. AreRowsOf problem ls rows) (sym (r.whole ∙ ap (λ ls. r.front ++ ls) (nothing_behind rest h) ∙ append-nil r.front)) r.read
+read_all {problem} {bytes} {rest} {number} {rows} h r = subst (λ ls. AreRowsOf problem ls rows)
+    (sym (r.whole ∙ ap (λ ls. r.front ++ ls) (nothing_behind rest h) ∙ append-nil r.front)) r.read

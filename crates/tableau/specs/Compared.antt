@@ -12,7 +12,8 @@ pub record IsFirstOther (least counts : List ℕ) (place : ℕ) : Type 0 where
   pub other : slice_index counts place ≢ slice_index least place
 
 -- a row has the timeline, its violation vector, and the first constraint with another count
-pub record IsCompared (constraints : List Constraint) (least : List ℕ) (T : List (List Sym)) (row : TableauRow) : Type 0 where
+pub record IsCompared (constraints : List Constraint) (least : List ℕ) (T : List (List Sym))
+    (row : TableauRow) : Type 0 where
   pub timeline : row.timeline ≡ T
   pub counts : row.counts.items ≡ vec constraints T
   pub worse : MatchOption row.worse (row.counts.items ≡ least) (IsFirstOther least row.counts.items)

@@ -33,10 +33,18 @@ count_texts worse j (count ∷ counts) = count_text worse j count ∷ count_text
 
 -- the line of the form and the names of the constraints
 abbrev pub head_line : Tableau → Line
-head_line tableau = record { mark = codes "  "; first = text_of tableau.form; texts = map string_bytes tableau.names.items }
+head_line tableau = record {
+  mark = codes "  ";
+  first = text_of tableau.form;
+  texts = map string_bytes tableau.names.items;
+}
 
 abbrev pub row_line : TableauRow → Line
-row_line row = record { mark = mark_of row.worse; first = text_of row.timeline; texts = count_texts row.worse 0 row.counts.items }
+row_line row = record {
+  mark = mark_of row.worse;
+  first = text_of row.timeline;
+  texts = count_texts row.worse 0 row.counts.items;
+}
 
 abbrev pub tableau_lines : Tableau → List Line
 tableau_lines tableau = head_line tableau ∷ map row_line tableau.rows.items

@@ -29,7 +29,9 @@ pub(crate) fn copied_counts(alloc: Global, counts: &[u32]) -> Result<Vec<u32>, N
 
 /// The names of constraints. It fails only for want of memory.
 pub(crate) fn names_of(alloc: Global, constraints: &[Constraint]) -> Result<Vec<String>, NoMemory>
-    ensures { IfOk result (λ names. map string_bytes names.items ≡ map (λ c. string_bytes c.name) constraints.now) }
+    ensures { IfOk result
+        (λ names.
+        map string_bytes names.items ≡ map (λ c. string_bytes c.name) constraints.now) }
 {
     let mut names = Vec::new(alloc);
     for constraint in constraints {

@@ -1,93 +1,80 @@
-ghost use Rattle.std.specs.Prelude.{◌≡◌, ◌≤◌, ◌-◌, ◌++◌, [], if◌then◌else◌, codes, Err, OnOk};
-ghost use Rattle.outside.specs.Faults.{Rose};
-ghost use Rattle.outside.specs.Sent.{HasSentPart, Sends};
+ghost use Rattle.std.specs.Prelude.{◌≡◌, ◌-◌, ◌++◌, [], if◌then◌else◌, codes};
+ghost use Rattle.outside.specs.Writers.{Pushes};
 ghost use Rattle.timeline_text.specs.Texts.{text_of};
 ghost use Rattle.tableau.specs.Layout.{count_text, is_at, left, right, spaces};
 
 use crate::lengths::{count_length, is_at, text_length};
-use itoa::Buffer;
-use outside::{Sink, Waiting, WriteErr};
+use outside::{OutBuffer, Sink, WriteErr, push_decimal};
 use tier_core::Timeline;
-use timeline_text::wait_timeline;
+use timeline_text::push_timeline;
 
-/// Puts so many spaces.
-fn put_spaces<O: Sink>(waiting: &mut Waiting, sink: &mut O, count: u128) -> Result<(), WriteErr>
-    ensures ok { OnOk result (Sends (O.taken sink.old) (waiting.old ++ spaces count) (O.taken sink.new) waiting.new) }
-    ensures part { HasSentPart (O.taken sink.old) (waiting.old ++ spaces count) (O.taken sink.new) }
-    ensures never_falls { O.faults sink.old ≤ O.faults sink.new }
-    ensures failed { result ≡ Err WriteErr.Failed → Rose (O.faults sink.old) (O.faults sink.new) }
+/// Appends so many spaces.
+fn push_spaces<O: Sink>(out: &mut OutBuffer, sink: &mut O, count: u128) -> Result<(), WriteErr>
+    ensures { Pushes O.Sink sink.old sink.new out.old out.new (spaces count) result }
 {
     let mut rest = count;
     while rest > 0 {
-        waiting.put(sink, b" ")?;
+        out.push(sink, b" ")?;
         rest -= 1;
     }
     Ok(())
 }
 
-/// Puts a text of a timeline left in a field.
-fn put_left<O: Sink>(
-    waiting: &mut Waiting,
+/// Appends a text of a timeline left in a field.
+fn push_left<O: Sink>(
+    out: &mut OutBuffer,
     sink: &mut O,
     width: u128,
     timeline: &Timeline,
 ) -> Result<(), WriteErr>
-    ensures ok { OnOk result (Sends (O.taken sink.old) (waiting.old ++ left width (text_of timeline.now)) (O.taken sink.new) waiting.new) }
-    ensures part { HasSentPart (O.taken sink.old) (waiting.old ++ left width (text_of timeline.now)) (O.taken sink.new) }
-    ensures never_falls { O.faults sink.old ≤ O.faults sink.new }
-    ensures failed { result ≡ Err WriteErr.Failed → Rose (O.faults sink.old) (O.faults sink.new) }
+    ensures { Pushes O.Sink sink.old sink.new out.old out.new
+        (left width (text_of timeline.now)) result }
 {
-    wait_timeline(waiting, sink, timeline)?;
-    put_spaces(waiting, sink, width.saturating_sub(text_length(timeline)))
+    push_timeline(out, sink, timeline)?;
+    push_spaces(out, sink, width.saturating_sub(text_length(timeline)))
 }
 
-/// Puts a mark, and then the text of a timeline left in a field.
-pub(crate) fn put_first<O: Sink>(
-    waiting: &mut Waiting,
+/// Appends a mark, and then the text of a timeline left in a field.
+pub(crate) fn push_first<O: Sink>(
+    out: &mut OutBuffer,
     sink: &mut O,
     mark: &[u8],
     width: u128,
     timeline: &Timeline,
 ) -> Result<(), WriteErr>
-    ensures ok { OnOk result (Sends (O.taken sink.old) (waiting.old ++ (mark.now ++ left width (text_of timeline.now))) (O.taken sink.new) waiting.new) }
-    ensures part { HasSentPart (O.taken sink.old) (waiting.old ++ (mark.now ++ left width (text_of timeline.now))) (O.taken sink.new) }
-    ensures never_falls { O.faults sink.old ≤ O.faults sink.new }
-    ensures failed { result ≡ Err WriteErr.Failed → Rose (O.faults sink.old) (O.faults sink.new) }
+    ensures { Pushes O.Sink sink.old sink.new out.old out.new
+        (mark.now ++ left width (text_of timeline.now)) result }
 {
-    waiting.put(sink, mark)?;
-    put_left(waiting, sink, width, timeline)
+    out.push(sink, mark)?;
+    push_left(out, sink, width, timeline)
 }
 
-/// Puts the spaces in front of a text of so many bytes that is right in a field.
-fn put_margin<O: Sink>(
-    waiting: &mut Waiting,
+/// Appends the spaces in front of a text of so many bytes that is right in a field.
+fn push_margin<O: Sink>(
+    out: &mut OutBuffer,
     sink: &mut O,
     width: usize,
     taken: usize,
 ) -> Result<(), WriteErr>
-    ensures ok { OnOk result (Sends (O.taken sink.old) (waiting.old ++ (codes " " ++ spaces (width - taken))) (O.taken sink.new) waiting.new) }
-    ensures part { HasSentPart (O.taken sink.old) (waiting.old ++ (codes " " ++ spaces (width - taken))) (O.taken sink.new) }
-    ensures never_falls { O.faults sink.old ≤ O.faults sink.new }
-    ensures failed { result ≡ Err WriteErr.Failed → Rose (O.faults sink.old) (O.faults sink.new) }
+    ensures { Pushes O.Sink sink.old sink.new out.old out.new
+        (codes " " ++ spaces (width - taken)) result }
 {
-    waiting.put(sink, b" ")?;
-    put_spaces(waiting, sink, width.saturating_sub(taken) as u128)
+    out.push(sink, b" ")?;
+    push_spaces(out, sink, width.saturating_sub(taken) as u128)
 }
 
-/// Puts a text right in a field, after one space.
-pub(crate) fn put_name<O: Sink>(
-    waiting: &mut Waiting,
+/// Appends a text right in a field, after one space.
+pub(crate) fn push_name<O: Sink>(
+    out: &mut OutBuffer,
     sink: &mut O,
     width: usize,
     name: &[u8],
 ) -> Result<(), WriteErr>
-    ensures ok { OnOk result (Sends (O.taken sink.old) (waiting.old ++ (codes " " ++ right width name.now)) (O.taken sink.new) waiting.new) }
-    ensures part { HasSentPart (O.taken sink.old) (waiting.old ++ (codes " " ++ right width name.now)) (O.taken sink.new) }
-    ensures never_falls { O.faults sink.old ≤ O.faults sink.new }
-    ensures failed { result ≡ Err WriteErr.Failed → Rose (O.faults sink.old) (O.faults sink.new) }
+    ensures { Pushes O.Sink sink.old sink.new out.old out.new
+        (codes " " ++ right width name.now) result }
 {
-    put_margin(waiting, sink, width, name.len())?;
-    waiting.put(sink, name)
+    push_margin(out, sink, width, name.len())?;
+    out.push(sink, name)
 }
 
 /// What stands behind a count.
@@ -97,38 +84,33 @@ fn sign(worse: Option<u32>, place: usize) -> &'static [u8]
     if is_at(worse, place) { b"!" } else { b"" }
 }
 
-/// Puts a count, and `!` behind it where it is at the first worse constraint.
-fn put_signed<O: Sink>(
-    waiting: &mut Waiting,
+/// Appends a count, and `!` behind it where it is at the first worse constraint.
+fn push_signed<O: Sink>(
+    out: &mut OutBuffer,
     sink: &mut O,
     worse: Option<u32>,
     place: usize,
     count: u32,
 ) -> Result<(), WriteErr>
-    ensures ok { OnOk result (Sends (O.taken sink.old) (waiting.old ++ count_text worse place count) (O.taken sink.new) waiting.new) }
-    ensures part { HasSentPart (O.taken sink.old) (waiting.old ++ count_text worse place count) (O.taken sink.new) }
-    ensures never_falls { O.faults sink.old ≤ O.faults sink.new }
-    ensures failed { result ≡ Err WriteErr.Failed → Rose (O.faults sink.old) (O.faults sink.new) }
+    ensures { Pushes O.Sink sink.old sink.new out.old out.new
+        (count_text worse place count) result }
 {
-    let mut buffer = Buffer::new();
-    waiting.put(sink, buffer.format(count as usize).as_bytes())?;
-    waiting.put(sink, sign(worse, place))
+    push_decimal(out, sink, count as usize)?;
+    out.push(sink, sign(worse, place))
 }
 
-/// Puts a count right in the field of its column, after one space.
-pub(crate) fn put_count<O: Sink>(
-    waiting: &mut Waiting,
+/// Appends a count right in the field of its column, after one space.
+pub(crate) fn push_count<O: Sink>(
+    out: &mut OutBuffer,
     sink: &mut O,
     width: usize,
     worse: Option<u32>,
     place: usize,
     count: u32,
 ) -> Result<(), WriteErr>
-    ensures ok { OnOk result (Sends (O.taken sink.old) (waiting.old ++ (codes " " ++ right width (count_text worse place count))) (O.taken sink.new) waiting.new) }
-    ensures part { HasSentPart (O.taken sink.old) (waiting.old ++ (codes " " ++ right width (count_text worse place count))) (O.taken sink.new) }
-    ensures never_falls { O.faults sink.old ≤ O.faults sink.new }
-    ensures failed { result ≡ Err WriteErr.Failed → Rose (O.faults sink.old) (O.faults sink.new) }
+    ensures { Pushes O.Sink sink.old sink.new out.old out.new
+        (codes " " ++ right width (count_text worse place count)) result }
 {
-    put_margin(waiting, sink, width, count_length(worse, place, count))?;
-    put_signed(waiting, sink, worse, place, count)
+    push_margin(out, sink, width, count_length(worse, place, count))?;
+    push_signed(out, sink, worse, place, count)
 }

@@ -44,7 +44,8 @@ pub(crate) fn count_length(worse: Option<u32>, place: usize, count: u32) -> usiz
 /// How many bytes a row has in a column, which are none beyond its counts.
 #[tactic(auto, using(crate::proofs::LengthLemmas::count_text_at, crate::proofs::LengthLemmas::no_text_at))]
 pub(crate) fn row_length(row: &TableauRow, place: usize) -> usize
-    ensures { result ≡ length (slice_index_or (count_texts row.now.worse 0 row.now.counts.items) place []) }
+    ensures { result
+        ≡ length (slice_index_or (count_texts row.now.worse 0 row.now.counts.items) place []) }
 {
     let counts = row.counts.as_slice();
     if place < counts.len() {

@@ -35,11 +35,19 @@ fn rows_of(
     answer: &Answer,
     timelines: &[Timeline],
 ) -> Result<Vec<TableauRow>, NoMemory>
-    requires right { IsRight (asked grammar.now.tiers grammar.now.constraints.items answer.now.form) answer.now }
-    requires candidates { All (IsCandidate (asked grammar.now.tiers grammar.now.constraints.items answer.now.form)) timelines.now }
+    requires right { IsRight
+        (asked grammar.now.tiers grammar.now.constraints.items answer.now.form) answer.now }
+    requires candidates { All
+        (IsCandidate
+        (asked grammar.now.tiers grammar.now.constraints.items answer.now.form)) timelines.now }
     requires few_columns { All (λ T. length T ≤ 65536) timelines.now }
-    ensures timelines { IfOk result (λ rows. map (λ row. row.timeline) rows.items ≡ answer.now.example ∷ timelines.now) }
-    ensures each { IfOk result (λ rows. All (IsTableauRow (asked grammar.now.tiers grammar.now.constraints.items answer.now.form) answer.now.counts.items) rows.items) }
+    ensures timelines { IfOk result
+        (λ rows. map (λ row. row.timeline) rows.items ≡ answer.now.example ∷ timelines.now) }
+    ensures each { IfOk result
+        (λ rows.
+        All
+        (IsTableauRow
+        (asked grammar.now.tiers grammar.now.constraints.items answer.now.form) answer.now.counts.items) rows.items) }
 {
     let mut rows = Vec::new(alloc);
     if rows.push(example_row(alloc, answer)?).is_err() {
@@ -63,10 +71,15 @@ pub fn tableau(
     answer: &Answer,
     rows: &[Timeline],
 ) -> Result<Tableau, NoMemory>
-    requires right { IsRight (asked grammar.now.tiers grammar.now.constraints.items answer.now.form) answer.now }
-    requires candidates { All (IsCandidate (asked grammar.now.tiers grammar.now.constraints.items answer.now.form)) rows.now }
+    requires right { IsRight
+        (asked grammar.now.tiers grammar.now.constraints.items answer.now.form) answer.now }
+    requires candidates { All
+        (IsCandidate
+        (asked grammar.now.tiers grammar.now.constraints.items answer.now.form)) rows.now }
     requires few_columns { All (λ T. length T ≤ 65536) rows.now }
-    ensures { IfOk result (IsTableauOf (asked grammar.now.tiers grammar.now.constraints.items answer.now.form) rows.now) }
+    ensures { IfOk result
+        (IsTableauOf
+        (asked grammar.now.tiers grammar.now.constraints.items answer.now.form) rows.now) }
 {
     let form = copied(alloc, &answer.form)?;
     let names = names_of(alloc, &grammar.constraints)?;

@@ -19,7 +19,9 @@ const MOST_COLUMNS: usize = 4096;
 
 /// Whether a timeline is a candidate of a form over the tiers of a grammar.
 fn is_row(grammar: &Grammar, form: &Timeline, timeline: &Timeline) -> bool
-    ensures { IsTrue result ↔ IsCandidate (asked grammar.now.tiers grammar.now.constraints.items form.now) timeline.now }
+    ensures { IsTrue result
+        ↔ IsCandidate
+        (asked grammar.now.tiers grammar.now.constraints.items form.now) timeline.now }
 {
     is_candidate(&grammar.tiers, form, timeline)
 }
@@ -33,9 +35,12 @@ fn read_row(
     before: usize,
     line: &[u8],
 ) -> Result<Timeline, RowsErr>
-    ensures ok { IfOk result (IsRowOf (asked grammar.now.tiers grammar.now.constraints.items form.now) line.now) }
+    ensures ok { IfOk result
+        (IsRowOf (asked grammar.now.tiers grammar.now.constraints.items form.now) line.now) }
     ensures few { OnOk result (before < 32) }
-    ensures err { IfErr result (IsLineRefusal (asked grammar.now.tiers grammar.now.constraints.items form.now) number before line.now) }
+    ensures err { IfErr result
+        (IsLineRefusal
+        (asked grammar.now.tiers grammar.now.constraints.items form.now) number before line.now) }
 {
     if before >= MOST_ROWS {
         return Err(RowsErr::At {
@@ -72,8 +77,18 @@ pub(crate) fn read_line(
     line: &[u8],
     rows: &mut Vec<Timeline>,
 ) -> Result<(), RowsErr>
-    ensures ok { OnOk result ((front : List (List ℕ)) → AreRowsOf (asked grammar.now.tiers grammar.now.constraints.items form.now) front rows.old.items → AreRowsOf (asked grammar.now.tiers grammar.now.constraints.items form.now) (front ++ line.now ∷ []) rows.new.items) }
-    ensures err { IfErr result (λ e. (front behind : List (List ℕ)) → length front + 1 ≡ number → AreRowsOf (asked grammar.now.tiers grammar.now.constraints.items form.now) front rows.old.items → IsTextRefusal (asked grammar.now.tiers grammar.now.constraints.items form.now) (front ++ line.now ∷ behind) e) }
+    ensures ok { OnOk result
+        ((front : List (List ℕ))
+        → AreRowsOf
+        (asked grammar.now.tiers grammar.now.constraints.items form.now) front rows.old.items
+        → AreRowsOf (asked grammar.now.tiers grammar.now.constraints.items form.now)
+        (front ++ line.now ∷ []) rows.new.items) }
+    ensures err { IfErr result
+        (λ e. (front behind : List (List ℕ)) → length front + 1 ≡ number
+        → AreRowsOf
+        (asked grammar.now.tiers grammar.now.constraints.items form.now) front rows.old.items
+        → IsTextRefusal (asked grammar.now.tiers grammar.now.constraints.items form.now)
+        (front ++ line.now ∷ behind) e) }
 {
     if is_blank(line) {
         return Ok(());

@@ -31,8 +31,13 @@ pub fn read_rows(
     bytes: &[u8],
 ) -> Result<Vec<Timeline>, RowsErr>
     requires { length bytes.now ≤ 4194304 }
-    ensures ok { IfOk result (λ rows. AreRowsOf (asked grammar.now.tiers grammar.now.constraints.items form.now) (lines bytes.now) rows.items) }
-    ensures err { IfErr result (IsTextRefusal (asked grammar.now.tiers grammar.now.constraints.items form.now) (lines bytes.now)) }
+    ensures ok { IfOk result
+        (λ rows.
+        AreRowsOf (asked grammar.now.tiers grammar.now.constraints.items form.now)
+        (lines bytes.now) rows.items) }
+    ensures err { IfErr result
+        (IsTextRefusal (asked grammar.now.tiers grammar.now.constraints.items form.now)
+        (lines bytes.now)) }
 {
     let mut rows = Vec::new(alloc);
     let mut rest = bytes;

@@ -13,7 +13,8 @@ use timeline_text::{FormErr, read_timeline};
 
 // The lines of texts, and those that are not passed over, which are proved.
 fn lines_of_texts()
-    ensures returns { lines (codes "[- ]-\r\n\r\n-[ -]\r") ≡ codes "[- ]-" ∷ [] ∷ codes "-[ -]\r" ∷ [] }
+    ensures returns { lines (codes "[- ]-\r\n\r\n-[ -]\r")
+        ≡ codes "[- ]-" ∷ [] ∷ codes "-[ -]\r" ∷ [] }
     ensures last { lines (codes "[- ]-\n") ≡ codes "[- ]-" ∷ [] }
     ensures filled { filled (lines (codes "\n  \n[- ]-\n x\n")) ≡ codes "[- ]-" ∷ codes " x" ∷ [] }
 {}

@@ -8,12 +8,15 @@ use Rattle.tier_core.specs.Classes.{sets_have, has, AreDisjoint}
 use Rattle.tier_core.specs.Timelines.{symbol}
 
 -- the class of one column holds that column
-pub holds_own : (c : Class) (column : List Sym) → ((other : List Sym) → IsTrue (has c other) ↔ (other ≡ column)) → IsTrue (has c column)
+pub holds_own : (c : Class) (column : List Sym) → ((other : List Sym) → IsTrue (has c other) ↔ (other ≡ column))
+    → IsTrue (has c column)
 holds_own c column alone = (alone column).1 refl
 
 -- the classes of two columns hold none in common
-pub apart_alone : (c d : Class) (a b : List Sym) → ((other : List Sym) → IsTrue (has c other) ↔ (other ≡ a)) → ((other : List Sym) → IsTrue (has d other) ↔ (other ≡ b)) → (a ≡ b → ⊥) → AreDisjoint c d
-apart_alone c d a b alone_c alone_d other column in_c in_d = other (sym ((alone_c column).0 in_c) ∙ (alone_d column).0 in_d)
+pub apart_alone : (c d : Class) (a b : List Sym) → ((other : List Sym) → IsTrue (has c other) ↔ (other ≡ a))
+    → ((other : List Sym) → IsTrue (has d other) ↔ (other ≡ b)) → (a ≡ b → ⊥) → AreDisjoint c d
+apart_alone c d a b alone_c alone_d other column in_c in_d = other
+    (sym ((alone_c column).0 in_c) ∙ (alone_d column).0 in_d)
 
 -- a column that sets have has as many symbols
 pub same_width : (sets : List ℕ) (column : List Sym) → sets_have sets column ≡ true → length column ≡ length sets
@@ -23,15 +26,18 @@ same_width (set ∷ sets) [] h = absurd (false≢true h)
 same_width (set ∷ sets) (s ∷ column) h = ap suc (same_width sets column (and_parts _ _ h).1)
 
 -- and each of its symbols is in the set of its tier
-pub each_in : (sets : List ℕ) (column : List Sym) → sets_have sets column ≡ true → (t : ℕ) → t < length sets → is_in (get_or sets t 0) (symbol column t) ≡ true
+pub each_in : (sets : List ℕ) (column : List Sym) → sets_have sets column ≡ true → (t : ℕ) → t < length sets
+    → is_in (get_or sets t 0) (symbol column t) ≡ true
 each_in [] column h t l = absurd (omega arith)
 each_in (set ∷ sets) [] h t l = absurd (false≢true h)
 each_in (set ∷ sets) (s ∷ column) h zero l = (and_parts _ _ h).0
 each_in (set ∷ sets) (s ∷ column) h (suc t) l = each_in sets column (and_parts _ _ h).1 t (omega arith)
 
 -- sets have each such column
-pub have_each : (sets : List ℕ) (column : List Sym) → length column ≡ length sets → ((t : ℕ) → t < length sets → is_in (get_or sets t 0) (symbol column t) ≡ true) → sets_have sets column ≡ true
+pub have_each : (sets : List ℕ) (column : List Sym) → length column ≡ length sets
+    → ((t : ℕ) → t < length sets → is_in (get_or sets t 0) (symbol column t) ≡ true) → sets_have sets column ≡ true
 have_each [] [] e h = refl
 have_each [] (s ∷ column) e h = absurd (omega arith)
 have_each (set ∷ sets) [] e h = absurd (omega arith)
-have_each (set ∷ sets) (s ∷ column) e h = and_from _ _ (h zero (omega arith)) (have_each sets column (omega arith) (λ t l. h (suc t) (omega arith)))
+have_each (set ∷ sets) (s ∷ column) e h = and_from _ _ (h zero (omega arith))
+    (have_each sets column (omega arith) (λ t l. h (suc t) (omega arith)))

@@ -11,12 +11,14 @@ use Rattle.tier_core.proofs.WordLemmas.{runs}
 use Rattle.tier_core.proofs.WordForm.{runs_from_well_formed, well_formed_from_runs}
 
 -- where the rest of a tier reads well, its next symbol fits
-pub fits_next : (T : List (List Sym)) (k t : ℕ) (b : Bool) (column : List Sym) → k < length T → column ≡ get_or T k column
+pub fits_next : (T : List (List Sym)) (k t : ℕ) (b : Bool) (column : List Sym) → k < length T
+    → column ≡ get_or T k column
     → runs b (word (drop k T) t) ≡ true → fits b (get_or column t Outside) ≡ true
 fits_next T k t b column l e r =
     let split : word (drop k T) t ≡ get_or column t Outside ∷ word (drop (k + 1) T) t =
     ap (λ U. word U t) (drop_more T k column l) ∙ ap (λ c. symbol c t ∷ word (drop (k + 1) T) t) (sym e) in
-    let read : (fits b (get_or column t Outside) && runs (opens (get_or column t Outside)) (word (drop (k + 1) T) t)) ≡ true =
+    let read : (fits b (get_or column t Outside) && runs (opens (get_or column t Outside)) (word (drop (k + 1) T) t))
+    ≡ true =
     subst (λ w. runs b w ≡ true) split r in
     (and_parts _ _ read).0
 
@@ -28,7 +30,8 @@ pub well_formed_at_end : (width k : ℕ) (T : List (List Sym)) (held : List Bool
 well_formed_at_end width k T held l one rest closed = record {
   one_width = subst (AllByRecursion (λ column. length column ≡ width)) (take_all k T l) one;
   each_tier = λ t g.
-      let end : runs (get_or held t false) (word (drop k T) t) ≡ not (get_or held t false) = ap (λ U. runs (get_or held t false) (word U t)) (drop_all k T l) in
+      let end : runs (get_or held t false) (word (drop k T) t)
+      ≡ not (get_or held t false) = ap (λ U. runs (get_or held t false) (word U t)) (drop_all k T l) in
       well_formed_from_runs (word T t) (rest t g ∙ end ∙ ap not (closed t g));
 }
 
@@ -36,7 +39,8 @@ pub closed_at_end : (width k t : ℕ) (T : List (List Sym)) (held : List Bool) �
     → runs false (word T t) ≡ runs (get_or held t false) (word (drop k T) t)
     → IsWellFormed width T → get_or held t false ≡ false
 closed_at_end width k t T held l g rest wf =
-    let end : runs (get_or held t false) (word (drop k T) t) ≡ not (get_or held t false) = ap (λ U. runs (get_or held t false) (word U t)) (drop_all k T l) in
+    let end : runs (get_or held t false) (word (drop k T) t)
+    ≡ not (get_or held t false) = ap (λ U. runs (get_or held t false) (word U t)) (drop_all k T l) in
     of_not (get_or held t false) (sym (rest ∙ end) ∙ runs_from_well_formed (word T t) (wf.each_tier t g))
   where
     of_not : (b : Bool) → not b ≡ true → b ≡ false
@@ -50,7 +54,9 @@ edge_at [] t h = absurd (false≢true h)
 edge_at (s ∷ ss) zero h = or_left (is_edge s) (list_any is_edge ss) h
 edge_at (s ∷ ss) (suc t) h = or_right (is_edge s) (list_any is_edge ss) (edge_at ss t h)
 
-pub edge_of_part : (inputs : List ℕ) (column : List Sym) → has_edge (map (symbol column) inputs) ≡ true → has_edge column ≡ true
+pub edge_of_part : (inputs : List ℕ) (column : List Sym) → has_edge (map (symbol column) inputs) ≡ true
+    → has_edge column ≡ true
 edge_of_part [] column h = absurd (false≢true h)
 edge_of_part (x ∷ xs) column h =
-    ⊎_elim (λ a. edge_at column x a) (λ a. edge_of_part xs column a) (or_cases (is_edge (symbol column x)) (has_edge (map (symbol column) xs)) h)
+    ⊎_elim (λ a. edge_at column x a) (λ a. edge_of_part xs column a)
+    (or_cases (is_edge (symbol column x)) (has_edge (map (symbol column) xs)) h)

@@ -19,13 +19,16 @@ tier_within keep width tier l h =
     ⊎_elim (λ g. g) (λ g. let none : bit_at keep tier ≡ 0 = bit_at_above keep width tier l g in
     let one : bit_at keep tier ≡ 1 = eqb-true (bit_at keep tier) 1 h in absurd (omega arith)) (cases_lt tier width)
 
-pub kept_more : (column : List Sym) (keep tier : ℕ) → has_tier keep tier ≡ true → map (symbol column) (tiers_below keep (tier + 1)) ≡ map (symbol column) (tiers_below keep tier) ++ symbol column tier ∷ []
+pub kept_more : (column : List Sym) (keep tier : ℕ) → has_tier keep tier ≡ true
+    → map (symbol column) (tiers_below keep (tier + 1)) ≡ map (symbol column) (tiers_below keep tier)
+    ++ symbol column tier ∷ []
 kept_more column keep tier h =
     ap (λ n. map (symbol column) (tiers_below keep n)) (add-one tier)
     ∙ ap (λ b. map (symbol column) (tiers_below keep tier ++ cond b (tier ∷ []) [])) h
     ∙ map-append (symbol column) (tiers_below keep tier) (tier ∷ [])
 
-pub kept_same : (column : List Sym) (keep tier : ℕ) → has_tier keep tier ≡ false → map (symbol column) (tiers_below keep (tier + 1)) ≡ map (symbol column) (tiers_below keep tier)
+pub kept_same : (column : List Sym) (keep tier : ℕ) → has_tier keep tier ≡ false
+    → map (symbol column) (tiers_below keep (tier + 1)) ≡ map (symbol column) (tiers_below keep tier)
 kept_same column keep tier h =
     ap (λ n. map (symbol column) (tiers_below keep n)) (add-one tier)
     ∙ ap (λ b. map (symbol column) (tiers_below keep tier ++ cond b (tier ∷ []) [])) h
@@ -69,22 +72,30 @@ pub record IsMaskBelow (kinds : List TierKind) (kind : TierKind) (mask n : ℕ) 
   pub bits : (t : ℕ) → t < n → IsTrue (has_tier mask t) ↔ (kind_at kinds t ≡ kind)
 
 -- one tier more, of the kind or not
-pub mask_with : (kinds : List TierKind) (kind : TierKind) (mask n : ℕ) → n < 16 → kind_at kinds n ≡ kind → IsMaskBelow kinds kind mask n → IsMaskBelow kinds kind (bit_or mask (1 * 2 ^ n % 2 ^ 16)) (n + 1)
+pub mask_with : (kinds : List TierKind) (kind : TierKind) (mask n : ℕ) → n < 16 → kind_at kinds n ≡ kind
+    → IsMaskBelow kinds kind mask n → IsMaskBelow kinds kind (bit_or mask (1 * 2 ^ n % 2 ^ 16)) (n + 1)
 mask_with kinds kind mask n h e m = record {
   within = with_tier_few mask n h m.within;
   bits = λ t l. ⊎_elim
-      (λ below. let same = with_tier_other mask n t h below in (λ x. (m.bits t below).0 (sym same ∙ x), λ y. same ∙ (m.bits t below).1 y))
-      (λ above. let here : t ≡ n = omega arith in
-      (λ x. ap (kind_at kinds) here ∙ e, λ y. ap (has_tier (bit_or mask (1 * 2 ^ n % 2 ^ 16))) here ∙ with_tier_same mask n h))
+      (λ below. let same = with_tier_other mask n t h below in
+      (λ x. (m.bits t below).0 (sym same ∙ x), λ y. same ∙ (m.bits t below).1 y))
+      (λ above. let here : t ≡ n = omega arith in (
+        λ x. ap (kind_at kinds) here ∙ e,
+        λ y. ap (has_tier (bit_or mask (1 * 2 ^ n % 2 ^ 16))) here
+            ∙ with_tier_same mask n h,
+      ))
       (cases_lt t n);
 }
 
-pub mask_without : (kinds : List TierKind) (kind : TierKind) (mask n : ℕ) → (kind_at kinds n ≡ kind → ⊥) → IsMaskBelow kinds kind mask n → IsMaskBelow kinds kind mask (n + 1)
+pub mask_without : (kinds : List TierKind) (kind : TierKind) (mask n : ℕ) → (kind_at kinds n ≡ kind → ⊥)
+    → IsMaskBelow kinds kind mask n → IsMaskBelow kinds kind mask (n + 1)
 mask_without kinds kind mask n other m = record {
   within = let next : 2 ^ n < 2 ^ (n + 1) = pow_below n (n + 1) (omega arith) in omega (arith, m.within);
   bits = λ t l. ⊎_elim (λ below. m.bits t below)
-      (λ above. let here : t ≡ n = omega arith in
-      (λ x. absurd (false≢true (sym (no_tier_above mask n m.within) ∙ (sym (ap (has_tier mask) here) ∙ x))), λ y. absurd (other (sym (ap (kind_at kinds) here) ∙ y))))
+      (λ above. let here : t ≡ n = omega arith in (
+        λ x. absurd (false≢true (sym (no_tier_above mask n m.within) ∙ (sym (ap (has_tier mask) here) ∙ x))),
+        λ y. absurd (other (sym (ap (kind_at kinds) here) ∙ y)),
+      ))
       (cases_lt t n);
 }
 
@@ -93,7 +104,8 @@ pub listed_below : (mask t n : ℕ) → has_tier mask t ≡ true → t < n → 0
 listed_below mask t zero h l = absurd (omega arith)
 listed_below mask t (suc n) h l =
     let last : List ℕ = cond (has_tier mask n) (n ∷ []) [] in
-    let long : length (tiers_below mask n ++ last) ≡ length (tiers_below mask n) + length last = length-append (tiers_below mask n) last in
+    let long : length (tiers_below mask n ++ last)
+    ≡ length (tiers_below mask n) + length last = length-append (tiers_below mask n) last in
     ⊎_elim
     (λ below. let more = listed_below mask t n h below in omega (arith, long, more))
     (λ above. let here : t ≡ n = omega arith in
@@ -108,7 +120,8 @@ some_tier mask width some few within =
     let twelve : 2 ^ width ≤ 2 ^ 12 = pow-le-pow_right {n = 2} (omega arith) few in
     let lowest = bit_at-trailing_zeros w16 mask some (omega (arith, twelve)) in
     let set : has_tier mask (trailing_zeros w16 mask) ≡ true = ap (λ b. b == 1) lowest.1 in
-    listed_below mask (trailing_zeros w16 mask) 12 set (tier_within mask 12 (trailing_zeros w16 mask) (omega (arith, twelve)) set)
+    listed_below mask (trailing_zeros w16 mask) 12 set
+    (tier_within mask 12 (trailing_zeros w16 mask) (omega (arith, twelve)) set)
 
 -- a mask that names a tier is not 0
 pub not_zero : (mask : ℕ) → 1 ≤ length (tiers_of mask) → 0 < mask
@@ -117,5 +130,7 @@ not_zero zero h = absurd (omega arith)
 not_zero (suc m) h = omega arith
 
 -- a mask that is within a width is within each column of a timeline of that width
-pub within_each : (width keep : ℕ) (T : List (List Sym)) → AllByRecursion (λ column. length column ≡ width) T → keep < 2 ^ width → AllByRecursion (λ column. keep < 2 ^ length column) T
-within_each width keep T one l = all_weaker (λ column. length column ≡ width) (λ column. keep < 2 ^ length column) T (λ column e. subst (λ n. keep < 2 ^ n) (sym e) l) one
+pub within_each : (width keep : ℕ) (T : List (List Sym)) → AllByRecursion (λ column. length column ≡ width) T
+    → keep < 2 ^ width → AllByRecursion (λ column. keep < 2 ^ length column) T
+within_each width keep T one l = all_weaker (λ column. length column ≡ width) (λ column. keep < 2 ^ length column) T
+    (λ column e. subst (λ n. keep < 2 ^ n) (sym e) l) one

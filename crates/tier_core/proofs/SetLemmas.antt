@@ -39,7 +39,8 @@ alone_in s = ap (λ n. n == 1) (bit_at-pow_same (rank s))
 
 pub only_in : (s r : Sym) → is_in (single_set s) r ≡ true → r ≡ s
 only_in s r h = ⊎_elim (rank_same r s)
-    (λ other. let none : bit_at (single_set s) (rank r) ≡ 0 = bit_at-pow_other (rank s) (rank r) other in absurd (false≢true (sym (ap (λ n. n == 1) none) ∙ h)))
+    (λ other. let none : bit_at (single_set s) (rank r)
+    ≡ 0 = bit_at-pow_other (rank s) (rank r) other in absurd (false≢true (sym (ap (λ n. n == 1) none) ∙ h)))
     (cases_eq (rank r) (rank s))
 
 -- single sets have their own column alone
@@ -51,10 +52,13 @@ pub only_have : (column other : List Sym) → sets_have (map single_set column) 
 only_have [] [] h = refl
 only_have [] (r ∷ other) h = absurd (false≢true h)
 only_have (s ∷ column) [] h = absurd (false≢true h)
-only_have (s ∷ column) (r ∷ other) h = let parts : (is_in (single_set s) r ≡ true) × (sets_have (map single_set column) other ≡ true) = and_parts _ _ h in cc (only_in s r parts.0, only_have column other parts.1)
+only_have (s ∷ column) (r ∷ other) h = let parts : (is_in (single_set s) r ≡ true) ×
+    (sets_have (map single_set column) other ≡ true) = and_parts _ _ h in cc
+    (only_in s r parts.0, only_have column other parts.1)
 
 -- sets have no column of another width
-pub other_width : (sets : List ℕ) (column : List Sym) → (length sets ≡ length column → ⊥) → sets_have sets column ≡ false
+pub other_width : (sets : List ℕ) (column : List Sym) → (length sets ≡ length column → ⊥)
+    → sets_have sets column ≡ false
 other_width [] [] h = absurd (h refl)
 other_width [] (s ∷ column) h = refl
 other_width (set ∷ sets) [] h = refl

@@ -31,7 +31,8 @@ starts_count b m zero k (s ∷ w) e h =
     count_append _ (cond (starts s) (pair_to m (next_end (suc m) w)) []) (constituents_from (suc m) w)
     ∙ ap (λ n. count_by (λ c. eqb c.0 k) (cond (starts s) (pair_to m (next_end (suc m) w)) []) + n) rest ∙ own s after
   where
-    own : (s : Sym) → runs (opens s) w ≡ true → count_by (λ c. eqb c.0 k) (cond (starts s) (pair_to m (next_end (suc m) w)) []) + 0 ≡ bit (starts s)
+    own : (s : Sym) → runs (opens s) w ≡ true
+        → count_by (λ c. eqb c.0 k) (cond (starts s) (pair_to m (next_end (suc m) w)) []) + 0 ≡ bit (starts s)
     own Outside a = refl
     own Inside a = refl
     own Start a = omega (arith, one_pair m k (next_end (suc m) w) (omega arith) (runs_end (suc m) w a))
@@ -46,9 +47,11 @@ starts_count b m (suc q) k (s ∷ w) e h =
     own : (s : Sym) → count_by (λ c. eqb c.0 k) (cond (starts s) (pair_to m (next_end (suc m) w)) []) ≡ 0
     own Outside = refl
     own Inside = refl
-    own Start = count_none _ _ (all_weaker _ _ _ (λ c a. ne_eqb c.0 k (λ x. omega arith)) (next_end_late m (suc m) w (omega arith)))
+    own Start = count_none _ _ (all_weaker _ _ _ (λ c a. ne_eqb c.0 k (λ x. omega arith))
+        (next_end_late m (suc m) w (omega arith)))
     own End = refl
-    own Both = count_none _ _ (all_weaker _ _ _ (λ c a. ne_eqb c.0 k (λ x. omega arith)) (next_end_late m (suc m) w (omega arith)))
+    own Both = count_none _ _ (all_weaker _ _ _ (λ c a. ne_eqb c.0 k (λ x. omega arith))
+        (next_end_late m (suc m) w (omega arith)))
 
     starts_count_zero : {x y : ℕ} → x ≡ y → 0 + x ≡ y
     starts_count_zero p = omega arith
@@ -68,7 +71,8 @@ ends_count i m q k [] e h = refl
 ends_count i m zero k (s ∷ w) e h =
     let here : eqb m k ≡ true = eq-eqb m k (omega arith) in
     let rest : count_by (λ c. eqb c.1 k) (ended (cond (starts s) m i) (suc m) w) ≡ 0 =
-    count_none _ _ (all_weaker _ _ _ (λ c a. ne_eqb c.1 k (λ x. omega arith)) (ended_late (cond (starts s) m i) (suc m) w (next_start (starts s)))) in
+    count_none _ _ (all_weaker _ _ _ (λ c a. ne_eqb c.1 k (λ x. omega arith))
+    (ended_late (cond (starts s) m i) (suc m) w (next_start (starts s)))) in
     step (λ c. eqb c.1 k) i m s w ∙ ap (λ n. bit (ends s && eqb m k) + n) rest ∙ (rw here (own (ends s)))
   where
     next_start : (b : Bool) → cond b m i ≤ suc m
@@ -81,7 +85,12 @@ ends_count i m zero k (s ∷ w) e h =
 ends_count i m (suc q) k (s ∷ w) e h =
     let here : eqb m k ≡ false = ne_eqb m k (λ x. omega arith) in
     let first : bit (ends s && eqb m k) ≡ 0 = ap bit (and_right (ends s) (eqb m k) here) in
-    omega (arith, step (λ c. eqb c.1 k) i m s w, first, ends_count (cond (starts s) m i) (suc m) q k w (omega arith) (next_start (starts s)))
+    omega (
+      arith,
+      step (λ c. eqb c.1 k) i m s w,
+      first,
+      ends_count (cond (starts s) m i) (suc m) q k w (omega arith) (next_start (starts s)),
+    )
   where
     next_start : (b : Bool) → cond b m i ≤ suc m
     next_start true = omega arith
@@ -90,7 +99,8 @@ ends_count i m (suc q) k (s ∷ w) e h =
 -- pairs that start at n or later
 late_count : (i m n : ℕ) (w : List Sym) → n ≤ i → i ≤ m → count_by (covers n) (ended i m w) ≡ 0
 late_count i m n w l g =
-    count_none _ _ (all_weaker _ _ _ (λ c a. and_left (ltb c.0 n) (leb n c.1) (le-ltb c.0 n (omega arith))) (ended_late i m w g))
+    count_none _ _ (all_weaker _ _ _ (λ c a. and_left (ltb c.0 n) (leb n c.1) (le-ltb c.0 n (omega arith)))
+    (ended_late i m w g))
 
 -- before any later place: only the pair that is open counts
 open_count : (b : Bool) (i m n : ℕ) (w : List Sym) → runs b w ≡ true → (b ≡ true → i < n) → n ≤ m → i ≤ m
@@ -103,7 +113,12 @@ open_count true i m n (Start ∷ w) r h l g = absurd (false≢true r)
 open_count true i m n (End ∷ w) r h l g =
     let here : (ltb i n && leb n m) ≡ true = and_from (ltb i n) (leb n m) (lt-ltb i n (h refl)) (le-leb n m l) in
     let one : bit (ltb i n && leb n m) ≡ 1 = ap bit here in
-    omega (arith, count_cons (covers n) (i, m) (ended i (suc m) w), one, open_count false i (suc m) n w r (λ x. absurd (false≢true x)) (omega arith) (omega arith))
+    omega (
+      arith,
+      count_cons (covers n) (i, m) (ended i (suc m) w),
+      one,
+      open_count false i (suc m) n w r (λ x. absurd (false≢true x)) (omega arith) (omega arith),
+    )
 open_count true i m n (Both ∷ w) r h l g =
     let here : (ltb i n && leb n m) ≡ true = and_from (ltb i n) (leb n m) (lt-ltb i n (h refl)) (le-leb n m l) in
     let one : bit (ltb i n && leb n m) ≡ 1 = ap bit here in
@@ -128,7 +143,8 @@ covers_count b i m (suc q) n (s ∷ w) e r h g =
       arith,
       step (covers n) i m s w,
       first,
-      covers_count (opens s) (cond (starts s) m i) (suc m) q n w (omega arith) after (next_open s) (next_start (starts s)),
+      covers_count (opens s) (cond (starts s) m i) (suc m) q n w (omega arith) after (next_open s)
+          (next_start (starts s)),
     )
   where
     next_start : (b : Bool) → cond b m i ≤ suc m
@@ -176,13 +192,22 @@ module _ (w : List Sym) (r : runs false w ≡ true) where
   end_at k = ap (count_by (λ c. eqb c.1 k)) constituents_are ∙ ends_count 0 0 k k w (omega arith) (omega arith)
 
   pub open_after : (n : ℕ) → count_by (covers n) (constituents w) ≡ bit (open_at false w n)
-  open_after n = ap (count_by (covers n)) constituents_are ∙ covers_count false 0 0 n n w (omega arith) r (λ x. absurd (false≢true x)) (omega arith)
+  open_after n = ap (count_by (covers n)) constituents_are
+      ∙ covers_count false 0 0 n n w (omega arith) r (λ x. absurd (false≢true x)) (omega arith)
 
-  pub inside_at : (k : ℕ) → count_by (λ c. ltb c.0 k && ltb k c.1) (constituents w) ≡ bit (is_inside_sym (get_or w k Outside))
+  pub inside_at : (k : ℕ) → count_by (λ c. ltb c.0 k && ltb k c.1) (constituents w)
+      ≡ bit (is_inside_sym (get_or w k Outside))
   inside_at k =
-      let split : count_by (covers k) (constituents w) ≡ count_by (λ c. ltb c.0 k && ltb k c.1) (constituents w) + count_by (λ c. eqb c.1 k) (constituents w) =
+      let split : count_by (covers k) (constituents w)
+      ≡ count_by (λ c. ltb c.0 k && ltb k c.1) (constituents w) + count_by (λ c. eqb c.1 k) (constituents w) =
       count_split _ _ _ _ (all_weaker _ _ _ (λ c a. covers_split c.0 c.1 k a.1) (constituents_late 0 w)) in
-      omega (arith, split, open_after k, end_at k, inside_of (open_at false w k) (get_or w k Outside) (runs_fits false w k r))
+      omega (
+        arith,
+        split,
+        open_after k,
+        end_at k,
+        inside_of (open_at false w k) (get_or w k Outside) (runs_fits false w k r),
+      )
 
 next_end_within : (i m : ℕ) (w : List Sym) → AllByRecursion (λ c. c.1 < m + length w) (pair_to i (next_end m w))
 next_end_within i m [] = tt
@@ -198,7 +223,8 @@ constituents_within m [] = tt
 constituents_within m (s ∷ w) =
     all_append _ _ _ (own s) (all_weaker _ _ _ (λ c a. omega arith) (constituents_within (suc m) w))
   where
-    own : (s : Sym) → AllByRecursion (λ c. c.1 < m + suc (length w)) (cond (starts s) (pair_to m (next_end (suc m) w)) [])
+    own : (s : Sym) → AllByRecursion (λ c. c.1 < m + suc (length w))
+        (cond (starts s) (pair_to m (next_end (suc m) w)) [])
     own Outside = tt
     own Inside = tt
     own Start = all_weaker _ _ _ (λ c a. omega arith) (next_end_within m (suc m) w)

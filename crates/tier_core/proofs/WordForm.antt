@@ -18,7 +18,8 @@ next_late : (i j m : ℕ) (w : List Sym) → runs false w ≡ true → j ≤ m �
 next_late i j m [] r l = tt
 next_late i j m (Outside ∷ w) r l = next_late i j (suc m) w r (omega arith)
 next_late i j m (Inside ∷ w) r l = absurd (false≢true r)
-next_late i j m (Start ∷ w) r l = next_from_all j (ended m (suc m) w) (all_weaker _ _ _ (λ c a. omega arith) (ended_late m (suc m) w (omega arith)))
+next_late i j m (Start ∷ w) r l = next_from_all j (ended m (suc m) w)
+    (all_weaker _ _ _ (λ c a. omega arith) (ended_late m (suc m) w (omega arith)))
 next_late i j m (End ∷ w) r l = absurd (false≢true r)
 next_late i j m (Both ∷ w) r l = absurd (false≢true r)
 
@@ -28,8 +29,10 @@ ended_apart true i m (Outside ∷ w) r = absurd (false≢true r)
 ended_apart true i m (Inside ∷ w) r = ended_apart true i (suc m) w r
 ended_apart true i m (Start ∷ w) r = absurd (false≢true r)
 ended_apart true i m (End ∷ w) r = (next_late i m (suc m) w r (omega arith), ended_apart false i (suc m) w r)
-ended_apart true i m (Both ∷ w) r =
-    (next_from_all m (ended m (suc m) w) (all_weaker _ _ _ (λ c a. a.0) (ended_late m (suc m) w (omega arith))), ended_apart true m (suc m) w r)
+ended_apart true i m (Both ∷ w) r = (
+  next_from_all m (ended m (suc m) w) (all_weaker _ _ _ (λ c a. a.0) (ended_late m (suc m) w (omega arith))),
+  ended_apart true m (suc m) w r,
+)
 ended_apart false i m (Outside ∷ w) r = ended_apart false i (suc m) w r
 ended_apart false i m (Inside ∷ w) r = absurd (false≢true r)
 ended_apart false i m (Start ∷ w) r = ended_apart true m (suc m) w r
@@ -57,7 +60,8 @@ well_formed_from_runs w r = record {
     ends_are k = any_from_count (λ c. eqb c.1 k) (constituents w) (ends (get_or w k Outside)) (end_at w r k)
 
     insides_are : (k : ℕ) → is_inside (constituents w) k ≡ is_inside_sym (get_or w k Outside)
-    insides_are k = any_from_count (λ c. ltb c.0 k && ltb k c.1) (constituents w) (is_inside_sym (get_or w k Outside)) (inside_at w r k)
+    insides_are k = any_from_count (λ c. ltb c.0 k && ltb k c.1) (constituents w) (is_inside_sym (get_or w k Outside))
+        (inside_at w r k)
 
 -- constituents that start after m draw nothing there
 module _ (m : ℕ) (w : List Sym) where
@@ -68,19 +72,22 @@ module _ (m : ℕ) (w : List Sym) where
   far_end = any_none _ _ (all_weaker _ _ _ (λ c a. ne_eqb c.1 m (λ x. omega arith)) (constituents_late (suc m) w))
 
   far_inside : is_inside (constituents_from (suc m) w) m ≡ false
-  far_inside = any_none _ _ (all_weaker _ _ _ (λ c a. and_left (ltb c.0 m) (ltb m c.1) (le-ltb c.0 m (omega arith))) (constituents_late (suc m) w))
+  far_inside = any_none _ _ (all_weaker _ _ _ (λ c a. and_left (ltb c.0 m) (ltb m c.1) (le-ltb c.0 m (omega arith)))
+      (constituents_late (suc m) w))
 
   far : drawn (constituents_from (suc m) w) m ≡ Outside
   far = rw (far_start, far_end, far_inside) refl
 
   -- what stands at m, where a pair may start there
-  start_here : (o : Option ℕ) (s : Sym) → s ≡ drawn (pair_to m o ++ constituents_from (suc m) w) m → starts s ≡ true → is_some o ≡ true
+  start_here : (o : Option ℕ) (s : Sym) → s ≡ drawn (pair_to m o ++ constituents_from (suc m) w) m → starts s ≡ true
+      → is_some o ≡ true
   start_here None s e h =
       let none : starts s ≡ false = ap starts (e ∙ far) in
       cc
   start_here (Some j) s e h = refl
 
-  not_both : (o : Option ℕ) → AllByRecursion (λ c. (c.0 ≡ m) × (suc m ≤ c.1)) (pair_to m o) → Both ≡ drawn (pair_to m o ++ constituents_from (suc m) w) m → ⊥
+  not_both : (o : Option ℕ) → AllByRecursion (λ c. (c.0 ≡ m) × (suc m ≤ c.1)) (pair_to m o)
+      → Both ≡ drawn (pair_to m o ++ constituents_from (suc m) w) m → ⊥
   not_both None a e = let x : Both ≡ Outside = e ∙ far in cc
   not_both (Some j) a e =
       let here : eqb m m ≡ true = eq-eqb m m refl in
@@ -90,7 +97,8 @@ module _ (m : ℕ) (w : List Sym) where
       cc
 
   -- where a pair is open, the place is not outside
-  not_outside : (i : ℕ) (o : Option ℕ) → i < m → is_some o ≡ true → AllByRecursion (λ c. (c.0 ≡ i) × (suc m ≤ c.1)) (pair_to i o)
+  not_outside : (i : ℕ) (o : Option ℕ) → i < m → is_some o ≡ true
+      → AllByRecursion (λ c. (c.0 ≡ i) × (suc m ≤ c.1)) (pair_to i o)
       → Outside ≡ drawn (pair_to i o ++ constituents_from (suc m) w) m → ⊥
   not_outside i None l h a e = false≢true h
   not_outside i (Some j) l h a e =
@@ -98,12 +106,15 @@ module _ (m : ℕ) (w : List Sym) where
       let there : eqb j m ≡ false = ne_eqb j m (λ x. omega arith) in
       let low : ltb i m ≡ true = lt-ltb i m l in
       let high : ltb m j ≡ true = lt-ltb m j (omega arith) in
-      let x : drawn ((i, j) ∷ constituents_from (suc m) w) m ≡ Inside = rw (here, there, low, high, far_start, far_end) refl in
+      let x : drawn ((i, j) ∷ constituents_from (suc m) w) m
+      ≡ Inside = rw (here, there, low, high, far_start, far_end) refl in
       let y : Outside ≡ Inside = e ∙ x in
       cc
 
-  not_started : (i : ℕ) (o : Option ℕ) (cs : List (ℕ × ℕ)) → is_some o ≡ true → AllByRecursion (λ c. (c.0 ≡ i) × (suc m ≤ c.1)) (pair_to i o)
-      → AllByRecursion (λ c. (c.0 ≡ m) × (suc m ≤ c.1)) (pair_to m o) → AreDisjoint (pair_to i o ++ (pair_to m o ++ cs)) → ⊥
+  not_started : (i : ℕ) (o : Option ℕ) (cs : List (ℕ × ℕ)) → is_some o ≡ true
+      → AllByRecursion (λ c. (c.0 ≡ i) × (suc m ≤ c.1)) (pair_to i o)
+      → AllByRecursion (λ c. (c.0 ≡ m) × (suc m ≤ c.1)) (pair_to m o)
+      → AreDisjoint (pair_to i o ++ (pair_to m o ++ cs)) → ⊥
   not_started i None cs h a b e = false≢true h
   not_started i (Some j) cs h a b e = omega arith
 
@@ -116,7 +127,8 @@ past i m p cs l g =
     rw (start, end, inside) refl
 
 -- a pair that ends at m does not start there
-past_start : (i m : ℕ) (o : Option ℕ) (w : List Sym) → i < m → Both ≡ drawn ((i, m) ∷ (pair_to m o ++ constituents_from (suc m) w)) m → is_some o ≡ true
+past_start : (i m : ℕ) (o : Option ℕ) (w : List Sym) → i < m
+    → Both ≡ drawn ((i, m) ∷ (pair_to m o ++ constituents_from (suc m) w)) m → is_some o ≡ true
 past_start i m None w l e =
     let start : eqb i m ≡ false = ne_eqb i m (λ x. omega arith) in
     let end : eqb m m ≡ true = eq-eqb m m refl in
@@ -126,36 +138,45 @@ past_start i m None w l e =
 past_start i m (Some j) w l e = refl
 
 runs_from : (b : Bool) (i m : ℕ) (w : List Sym) → (b ≡ true → i < m) → (b ≡ true → is_some (next_end m w) ≡ true)
-    → AreDisjoint (pending b i m w) → ((k p : ℕ) → k < length w → p ≡ m + k → get_or w k Outside ≡ drawn (pending b i m w) p)
+    → AreDisjoint (pending b i m w) → ((k p : ℕ) → k < length w → p ≡ m + k
+    → get_or w k Outside ≡ drawn (pending b i m w) p)
     → runs b w ≡ true
 runs_from true i m [] l h a d = h refl
 runs_from false i m [] l h a d = refl
 runs_from true i m (Outside ∷ w) l h a d =
-    absurd (not_outside m w i (next_end (suc m) w) (l refl) (h refl) (next_end_late i (suc m) w (let lt : i < m = l refl in omega arith)) (d 0 m (omega arith) (omega arith)))
+    absurd (not_outside m w i (next_end (suc m) w) (l refl) (h refl)
+    (next_end_late i (suc m) w (let lt : i < m = l refl in omega arith)) (d 0 m (omega arith) (omega arith)))
 runs_from true i m (Inside ∷ w) l h a d =
-    runs_from true i (suc m) w (λ x. let lt : i < m = l x in omega arith) h a (λ k p g e. d (suc k) p (omega arith) (omega arith))
+    runs_from true i (suc m) w (λ x. let lt : i < m = l x in omega arith) h a
+    (λ k p g e. d (suc k) p (omega arith) (omega arith))
 runs_from true i m (Start ∷ w) l h a d =
     absurd (not_started m w i (next_end (suc m) w) (constituents_from (suc m) w) (h refl)
     (next_end_late i (suc m) w (let lt : i < m = l refl in omega arith)) (next_end_late m (suc m) w (omega arith)) a)
 runs_from true i m (End ∷ w) l h a d =
     runs_from false i (suc m) w (λ x. absurd (false≢true x)) (λ x. absurd (false≢true x)) a.1
-    (λ k p g e. d (suc k) p (omega arith) (omega arith) ∙ past i m p (constituents_from (suc m) w) (l refl) (omega arith))
+    (λ k p g e. d (suc k) p (omega arith) (omega arith)
+    ∙ past i m p (constituents_from (suc m) w) (l refl) (omega arith))
 runs_from true i m (Both ∷ w) l h a d =
-    runs_from true m (suc m) w (λ x. omega arith) (λ x. past_start i m (next_end (suc m) w) w (l refl) (d 0 m (omega arith) (omega arith))) a.1
+    runs_from true m (suc m) w (λ x. omega arith)
+    (λ x. past_start i m (next_end (suc m) w) w (l refl) (d 0 m (omega arith) (omega arith))) a.1
     (λ k p g e. d (suc k) p (omega arith) (omega arith) ∙ past i m p (pending true m (suc m) w) (l refl) (omega arith))
 runs_from false i m (Outside ∷ w) l h a d =
-    runs_from false i (suc m) w (λ x. absurd (false≢true x)) (λ x. absurd (false≢true x)) a (λ k p g e. d (suc k) p (omega arith) (omega arith))
+    runs_from false i (suc m) w (λ x. absurd (false≢true x)) (λ x. absurd (false≢true x)) a
+    (λ k p g e. d (suc k) p (omega arith) (omega arith))
 runs_from false i m (Inside ∷ w) l h a d =
     let x : Inside ≡ Outside = d 0 m (omega arith) (omega arith) ∙ far m w in cc
 runs_from false i m (Start ∷ w) l h a d =
-    runs_from true m (suc m) w (λ x. omega arith) (λ x. start_here m w (next_end (suc m) w) Start (d 0 m (omega arith) (omega arith)) refl) a
+    runs_from true m (suc m) w (λ x. omega arith)
+    (λ x. start_here m w (next_end (suc m) w) Start (d 0 m (omega arith) (omega arith)) refl) a
     (λ k p g e. d (suc k) p (omega arith) (omega arith))
 runs_from false i m (End ∷ w) l h a d =
     let x : End ≡ Outside = d 0 m (omega arith) (omega arith) ∙ far m w in cc
 runs_from false i m (Both ∷ w) l h a d =
-    absurd (not_both m w (next_end (suc m) w) (next_end_late m (suc m) w (omega arith)) (d 0 m (omega arith) (omega arith)))
+    absurd (not_both m w (next_end (suc m) w) (next_end_late m (suc m) w (omega arith))
+    (d 0 m (omega arith) (omega arith)))
 
 pub runs_from_well_formed : (w : List Sym) → IsWellFormedWord w → runs false w ≡ true
 runs_from_well_formed w h =
     runs_from false 0 0 w (λ x. absurd (false≢true x)) (λ x. absurd (false≢true x)) h.apart
-    (λ k p l e. let same : k ≡ p = omega arith in subst (λ (q : ℕ). get_or w k Outside ≡ drawn (constituents w) q) same (h.symbols k l))
+    (λ k p l e. let same : k ≡ p = omega arith in subst
+    (λ (q : ℕ). get_or w k Outside ≡ drawn (constituents w) q) same (h.symbols k l))

@@ -49,10 +49,13 @@ ended_are false i m (End ∷ w) h = absurd (false≢true h)
 ended_are false i m (Both ∷ w) h = absurd (false≢true h)
 
 -- a place that is found is one of those searched
-pub next_end_late : (i m : ℕ) (w : List Sym) → i < m → AllByRecursion (λ c. (c.0 ≡ i) × (m ≤ c.1)) (pair_to i (next_end m w))
+pub next_end_late : (i m : ℕ) (w : List Sym) → i < m
+    → AllByRecursion (λ c. (c.0 ≡ i) × (m ≤ c.1)) (pair_to i (next_end m w))
 next_end_late i m [] h = tt
-next_end_late i m (Outside ∷ w) h = all_weaker _ _ _ (λ c a. (a.0, omega arith)) (next_end_late i (suc m) w (omega arith))
-next_end_late i m (Inside ∷ w) h = all_weaker _ _ _ (λ c a. (a.0, omega arith)) (next_end_late i (suc m) w (omega arith))
+next_end_late i m (Outside ∷ w) h = all_weaker _ _ _ (λ c a. (a.0, omega arith))
+    (next_end_late i (suc m) w (omega arith))
+next_end_late i m (Inside ∷ w) h = all_weaker _ _ _ (λ c a. (a.0, omega arith))
+    (next_end_late i (suc m) w (omega arith))
 next_end_late i m (Start ∷ w) h = all_weaker _ _ _ (λ c a. (a.0, omega arith)) (next_end_late i (suc m) w (omega arith))
 next_end_late i m (End ∷ w) h = ((refl, omega arith), tt)
 next_end_late i m (Both ∷ w) h = ((refl, omega arith), tt)
@@ -63,7 +66,8 @@ constituents_late m [] = tt
 constituents_late m (s ∷ w) =
     all_append _ _ _ (own s) (all_weaker _ _ _ (λ c a. (omega arith, a.1)) (constituents_late (suc m) w))
   where
-    own : (s : Sym) → AllByRecursion (λ c. (m ≤ c.0) × (c.0 < c.1)) (cond (starts s) (pair_to m (next_end (suc m) w)) [])
+    own : (s : Sym) → AllByRecursion (λ c. (m ≤ c.0) × (c.0 < c.1))
+        (cond (starts s) (pair_to m (next_end (suc m) w)) [])
     own Outside = tt
     own Inside = tt
     own Start = all_weaker _ _ _ (λ c a. (omega arith, omega arith)) (next_end_late m (suc m) w (omega arith))
@@ -81,8 +85,17 @@ runs_end m (Both ∷ w) h = refl
 
 pub ended_late : (i m : ℕ) (w : List Sym) → i ≤ m → AllByRecursion (λ c. (i ≤ c.0) × (m ≤ c.1)) (ended i m w)
 ended_late i m [] h = tt
-ended_late i m (Outside ∷ w) h = all_weaker _ _ _ (λ c a. (omega arith, omega arith)) (ended_late i (suc m) w (omega arith))
-ended_late i m (Inside ∷ w) h = all_weaker _ _ _ (λ c a. (omega arith, omega arith)) (ended_late i (suc m) w (omega arith))
-ended_late i m (Start ∷ w) h = all_weaker _ _ _ (λ c a. (omega arith, omega arith)) (ended_late m (suc m) w (omega arith))
-ended_late i m (End ∷ w) h = ((omega arith, omega arith), all_weaker _ _ _ (λ c a. (omega arith, omega arith)) (ended_late i (suc m) w (omega arith)))
-ended_late i m (Both ∷ w) h = ((omega arith, omega arith), all_weaker _ _ _ (λ c a. (omega arith, omega arith)) (ended_late m (suc m) w (omega arith)))
+ended_late i m (Outside ∷ w) h = all_weaker _ _ _ (λ c a. (omega arith, omega arith))
+    (ended_late i (suc m) w (omega arith))
+ended_late i m (Inside ∷ w) h = all_weaker _ _ _ (λ c a. (omega arith, omega arith))
+    (ended_late i (suc m) w (omega arith))
+ended_late i m (Start ∷ w) h = all_weaker _ _ _ (λ c a. (omega arith, omega arith))
+    (ended_late m (suc m) w (omega arith))
+ended_late i m (End ∷ w) h = (
+  (omega arith, omega arith),
+  all_weaker _ _ _ (λ c a. (omega arith, omega arith)) (ended_late i (suc m) w (omega arith)),
+)
+ended_late i m (Both ∷ w) h = (
+  (omega arith, omega arith),
+  all_weaker _ _ _ (λ c a. (omega arith, omega arith)) (ended_late m (suc m) w (omega arith)),
+)

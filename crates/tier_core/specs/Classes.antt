@@ -1,12 +1,13 @@
 -- Classes of columns, by a set of symbols for each tier.
-use Rattle.std.specs.Prelude.{ℕ, Bool, true, false, ◌&&◌, IsTrue, List, [], ◌∷◌, take}
+use Rattle.std.specs.Prelude.{ℕ, Bool, true, false, ◌&&◌, IsTrue, List, [], ◌∷◌}
 use Rattle.tier_core.specs.declared.sym.Sym.{Sym}
 use Rattle.tier_core.specs.declared.class.Class.{Class}
+use Rattle.tier_core.specs.ClassWords.{width_in, sets_in}
 use Rattle.tier_core.specs.Sets.{is_in}
 
 -- the numbers of the sets in tier order
-abbrev pub sets_of : Class → List ℕ
-sets_of class = take class.width class.sets
+unfoldable pub sets_of : Class → List ℕ
+sets_of class = sets_in class.word (width_in class.word)
 
 -- whether each set has the symbol of its tier
 abbrev pub sets_have : List ℕ → List Sym → Bool

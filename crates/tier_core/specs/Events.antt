@@ -37,6 +37,6 @@ least_high (x ∷ xs) = least_from x.high xs
 abbrev pub meet : List Interval → Interval
 meet xs = record { low = greatest_low xs; high = least_high xs }
 
--- a meet is there
+-- there is a meet
 abbrev pub is_there : Interval → Bool
 is_there m = nat_le m.low m.high

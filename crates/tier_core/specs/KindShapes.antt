@@ -20,6 +20,6 @@ pub record FitsShape (shape : Shape) (stage : ℕ) (kind : Kind) : Type 0 where
   pub opened : kind.opened < 2 ^ free_count shape
   pub stretches : AreStretchesBelow (stretch_count shape stage) kind
 
--- the kind that the bits tell at a stage of a shape
+-- the kind that the bits encode at a stage of a shape
 abbrev pub kind_in : Shape → ℕ → Kind → PrefixKind
 kind_in shape stage kind = prefix_kind (free_count shape) (stretch_count shape stage) kind

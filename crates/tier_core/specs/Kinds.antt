@@ -31,7 +31,7 @@ abbrev pub open_rank : Bool → ℕ
 open_rank false = 0
 open_rank true = 1
 
--- the first tier that is open in one of two alone decides
+-- the first tier that is open in only one of two decides
 abbrev pub open_order : List Bool → List Bool → Ordering
 open_order a b = slice_cmp nat_cmp (map open_rank a) (map open_rank b)
 
@@ -41,13 +41,14 @@ phase_order a b = slice_cmp nat_cmp (map phase_rank a) (map phase_rank b)
 
 -- kinds are compared by place, then by open tiers, then by phases
 abbrev pub kind_order : PrefixKind → PrefixKind → Ordering
-kind_order k l = ordering_then (nat_cmp k.place l.place) (ordering_then (open_order k.opened l.opened) (phase_order k.phases l.phases))
+kind_order k l = ordering_then (nat_cmp k.place l.place)
+    (ordering_then (open_order k.opened l.opened) (phase_order k.phases l.phases))
 
--- the phase that the bits of a stretch implication tell
+-- the phase that the bits of a stretch implication encode
 abbrev pub phase_by_bits : Bool → Bool → Phase
 phase_by_bits is_unmet is_met = if is_met then met else (if is_unmet then unmet else closed)
 
--- the phase that a kind's bits tell of a stretch implication
+-- the phase that a kind's bits encode for a stretch implication
 abbrev pub phase_at : Kind → ℕ → Phase
 phase_at kind i = phase_by_bits (has_tier kind.unmet i) (has_tier kind.met i)
 
@@ -64,7 +65,7 @@ open_tiers free opened = map (has_tier opened) (range_with_len 0 free)
 abbrev pub phases : ℕ → Kind → List Phase
 phases stretches kind = map (phase_at kind) (range_with_len 0 stretches)
 
--- what the bits of a kind say of so many free tiers and so many stretch implications
+-- what the bits of a kind say about so many free tiers and so many stretch implications
 abbrev pub prefix_kind : ℕ → ℕ → Kind → PrefixKind
 prefix_kind free stretches kind = record {
   place = kind.place;

@@ -8,6 +8,7 @@ pub mod Tables
 pub mod Scan
 pub mod Sides
 pub mod Sets
+pub mod ClassWords
 pub mod Classes
 pub mod Kinds
 pub mod Shapes

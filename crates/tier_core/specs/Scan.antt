@@ -3,7 +3,7 @@ use Rattle.std.specs.Prelude.{Bool, true, false}
 use Rattle.tier_core.specs.declared.sym.Sym.{Sym}
 use Rattle.tier_core.specs.declared.sym.Sym.TheVariants.{Outside, Inside, Start, End, Both}
 
--- whether a symbol may come where the tier is open, or is not
+-- whether a symbol may come next, given whether the tier is open
 abbrev pub fits : Bool → Sym → Bool
 fits true Outside = false
 fits true Inside = true

@@ -1,6 +1,6 @@
 -- Sets of symbols by their numbers: 1 for Outside, 2 for Inside, 4 for Start, 8 for End and 16 for Both.
 use Rattle.std.specs.Int.{bit_at}
-use Rattle.std.specs.Prelude.{◌≡◌, ℕ, ◌^◌, ◌==◌, ◌<◌, ◌≤◌, Bool, List, slice_index_or, All}
+use Rattle.std.specs.Prelude.{◌≡◌, ℕ, ◌^◌, ◌==◌, ◌<◌, Bool, List, length, slice_index_or, bit_and, All}
 use Rattle.tier_core.specs.declared.sym.Sym.{Sym}
 use Rattle.tier_core.specs.Symbols.{rank}
 
@@ -16,6 +16,11 @@ single_set s = 2 ^ rank s
 abbrev pub AreSets : List ℕ → Type 0
 AreSets sets = All (λ set. set < 32) sets
 
--- from a tier on the sets have no symbol
-abbrev pub AreEmptyFrom : ℕ → List ℕ → Type 0
-AreEmptyFrom width sets = (t : ℕ) → width ≤ t → slice_index_or sets t 0 ≡ 0
+-- sets have on each tier what both of two others have there
+abbrev pub MeetAt : List ℕ → List ℕ → List ℕ → Type 0
+MeetAt a b both = (t : ℕ) → t < length a
+    → slice_index_or both t 0 ≡ bit_and (slice_index_or a t 0) (slice_index_or b t 0)
+
+-- the set of some tier has no symbol
+abbrev pub SomeEmpty : List ℕ → Type 0
+SomeEmpty sets = (t : ℕ) × (t < length sets) × (slice_index_or sets t 0 ≡ 0)

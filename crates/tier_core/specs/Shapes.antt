@@ -1,4 +1,4 @@
--- What the type of a shape keeps.
+-- What the type of shapes guarantees.
 use Rattle.std.specs.Prelude.{◌≡◌, ℕ, ◌+◌, ◌<◌, ◌≤◌, List, length, slice_index_or}
 use Rattle.tier_core.specs.Tiers.{tiers_of}
 

@@ -27,6 +27,6 @@ abbrev pub is_implication : Family → Bool
 is_implication Implication = true
 is_implication Clash = false
 
--- A stretch implication is an implication whose left side has interiors alone (this project).
+-- A stretch implication is an implication whose left side has only interiors (this project).
 abbrev pub is_stretch : Constraint → Bool
 is_stretch c = is_implication c.family && not (has_edge_type c.left)

@@ -18,12 +18,13 @@ is_overt Hidden = false
 abbrev pub is_free : TierKind → Bool
 is_free kind = not (is_input kind)
 
--- the numbers of the elements that pass, where the first has number n
+-- the numbers of the elements that pass, if the first has number n
 abbrev pub numbers_from : {X : Type 0} → (X → Bool) → ℕ → List X → List ℕ
 numbers_from test n [] = []
 numbers_from test n (x ∷ xs) = (if test x then n ∷ [] else []) ++ numbers_from test (suc n) xs
 
--- The tiers of a grammar: how many there are, and which are input, overt and free, each in tier order.
+-- The tiers of a grammar: how many there are, and which are input, overt and free, each in tier
+-- order.
 pub record Tiers : Type 0 where
   pub width : ℕ
   pub input : List ℕ

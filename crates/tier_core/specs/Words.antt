@@ -30,7 +30,7 @@ abbrev pub next_end : ℕ → List Sym → Option ℕ
 next_end i [] = None
 next_end i (s ∷ w) = if ends s then Some i else next_end (suc i) w
 
--- the pair (i, j), where there is a j
+-- the pair (i, j), if there is a j
 abbrev pub pair_to : ℕ → Option ℕ → List (ℕ × ℕ)
 pair_to i None = []
 pair_to i (Some j) = (i, j) ∷ []
@@ -78,6 +78,7 @@ AreDisjoint [] = Unit {0}
 AreDisjoint (c ∷ cs) = NextFrom c.1 cs × AreDisjoint cs
 
 pub record IsWellFormedWord (w : List Sym) : Type 0 where
-  pub begun : (i : ℕ) → i < length w → IsTrue (starts (slice_index_or w i Outside)) → IsTrue (starts_at (constituents w) i)
+  pub begun : (i : ℕ) → i < length w → IsTrue (starts (slice_index_or w i Outside))
+      → IsTrue (starts_at (constituents w) i)
   pub apart : AreDisjoint (constituents w)
   pub symbols : (k : ℕ) → k < length w → slice_index_or w k Outside ≡ drawn (constituents w) k

@@ -1,27 +1,30 @@
-ghost use Rattle.std.specs.Prelude.{◌≡◌, ◌<◌, ◌≤◌, ◌↔◌, ℕ, List, length, IsTrue, slice_index_or, map};
+ghost use Rattle.std.specs.Prelude.{◌≡◌, ◌<◌, ◌≤◌, ◌↔◌, List, length, IsTrue, slice_index_or, slice_set, map};
+ghost use Rattle.std.specs.Ordering.{nat_cmp};
+ghost use Rattle.std.specs.Cmp.Lexicographic.{slice_cmp};
 ghost use Rattle.tier_core.specs.declared.sym.Sym.{Sym};
-ghost use Rattle.tier_core.specs.Sets.{AreSets, AreEmptyFrom, single_set, is_in};
+ghost use Rattle.tier_core.specs.ClassWords.{width_in, below_in};
+ghost use Rattle.tier_core.specs.Sets.{AreSets, MeetAt, SomeEmpty, single_set, is_in};
 
+use crate::class_word::{has_empty_in, set_in, with_set_in};
 use crate::column::Column;
 use crate::sym::Sym;
+use std::cmp::Ordering;
 
 /// A set of symbols for each tier, from 1 to 12 of them: the class of the columns whose symbol on
-/// each tier is in that tier's set.
+/// each tier is in that tier's set. It takes 8 bytes.
 ///
 /// A set has a number, the sum of 1 for Outside, 2 for Inside, 4 for Start, 8 for End and 16 for
 /// Both. Contracts see a class by the numbers of its sets in tier order.
 #[derive(Clone, Copy, Debug, PartialEq, Eq)]
 pub struct Class {
-    sets: [u8; 12],
-    width: u32,
-    ghost some: { 1 ≤ width },
-    ghost few: { width ≤ 12 },
-    ghost sets_are: { AreSets sets },
-    ghost rest: { AreEmptyFrom width sets },
+    word: u64,
+    ghost some: { 1 ≤ width_in word },
+    ghost few: { width_in word ≤ 12 },
+    ghost rest: { below_in word (width_in word) ≡ width_in word },
 }
 
 /// The number of the set that has a symbol alone.
-fn alone(sym: Sym) -> u8
+pub fn alone(sym: Sym) -> u8
     ensures value { result ≡ single_set sym }
     ensures few { result < 32 }
 {
@@ -56,14 +59,11 @@ impl Class {
         ensures sets { sets_of result ≡ map single_set column.now }
         ensures alone { (other : List Sym) → IsTrue (has result other) ↔ (other ≡ column.now) }
     {
-        let mut sets = [0; 12];
+        let mut word = u64::from(column.width());
         for (tier, sym) in column.syms().iter().enumerate() {
-            sets[tier] = alone(*sym);
+            word = with_set_in(word, tier as u32, alone(*sym));
         }
-        Class {
-            sets,
-            width: column.width(),
-        }
+        Class { word }
     }
 
     /// The class of the columns whose symbol on each tier is in the set of that tier's number. There
@@ -74,14 +74,11 @@ impl Class {
         requires sets { AreSets bits.now }
         ensures { sets_of result ≡ bits.now }
     {
-        let mut sets = [0; 12];
+        let mut word = bits.len() as u64;
         for (tier, set) in bits.iter().enumerate() {
-            sets[tier] = *set;
+            word = with_set_in(word, tier as u32, *set);
         }
-        Class {
-            sets,
-            width: bits.len() as u32,
-        }
+        Class { word }
     }
 
     /// Whether the column is in the class: it has as many tiers, and its symbol on each is in that
@@ -93,7 +90,7 @@ impl Class {
             return false;
         }
         for (tier, sym) in column.syms().iter().enumerate() {
-            if !is_in(self.sets[tier], *sym) {
+            if !is_in(self.bits(tier as u32), *sym) {
                 return false;
             }
         }
@@ -106,7 +103,7 @@ impl Class {
         ensures value { result ≡ slice_index_or (sets_of self.now) tier 0 }
         ensures set { result < 32 }
     {
-        self.sets[tier as usize]
+        set_in(self.word, tier)
     }
 
     /// The number of tiers.
@@ -115,6 +112,46 @@ impl Class {
         ensures some { 1 ≤ result }
         ensures few { result ≤ 12 }
     {
-        self.width
+        (self.word & 15) as u32
+    }
+
+    /// The class with another set on one tier, if it has this tier. The set's number is below 32.
+    pub fn with_set(&self, tier: u32, set: u8) -> Class
+        requires { set < 32 }
+        ensures { sets_of result ≡ slice_set (sets_of self.now) tier set }
+    {
+        if self.width() <= tier {
+            return *self;
+        }
+        Class {
+            word: with_set_in(self.word, tier, set),
+        }
+    }
+
+    /// The class whose sets have the symbols that are in both classes' sets. They have one width.
+    pub fn meet(&self, other: &Class) -> Class
+        requires { length (sets_of self.now) ≡ length (sets_of other.now) }
+        ensures width { length (sets_of result) ≡ length (sets_of self.now) }
+        ensures sets { MeetAt (sets_of self.now) (sets_of other.now) (sets_of result) }
+    {
+        Class {
+            word: self.word & other.word,
+        }
+    }
+
+    /// Whether the set of some tier has no symbol.
+    pub fn has_empty_set(&self) -> bool
+        ensures { IsTrue result ↔ SomeEmpty (sets_of self.now) }
+    {
+        has_empty_in(self.word, self.width())
+    }
+
+    /// Compares the numbers of the sets, from the first tier. Where one class has more tiers and none
+    /// before them differs, it comes after the other.
+    pub fn sets_cmp(&self, other: &Class) -> Ordering
+        ensures { result ≡ slice_cmp nat_cmp (sets_of self.now) (sets_of other.now) }
+    {
+        let (first, second) = (self.word, other.word);
+        first.cmp(&second)
     }
 }

@@ -28,7 +28,7 @@ impl Model for Column {
 }
 
 impl Column {
-    /// The column of these symbols. They fit in the value, so it takes no memory.
+    /// The column of these symbols. They fit in the value, so no memory is allocated.
     pub fn from_syms(alloc: Global, syms: &[Sym]) -> Column
         requires some { 1 ≤ length syms.now }
         requires few { length syms.now ≤ 12 }
@@ -66,7 +66,7 @@ impl Column {
         self.symbols.as_slice().len() as u32
     }
 
-    /// The same column once more. It takes no memory.
+    /// A copy of the column. Allocates no memory.
     pub fn copied(&self, alloc: Global) -> Column
         ensures { result ≡ self.now }
     {

@@ -5,7 +5,7 @@ use crate::event::{EventList, has_edge_type};
 /// The two families of constraints (Eisner 1997).
 #[derive(Clone, Copy, Debug, PartialEq, Eq)]
 pub enum Family {
-    /// Each meet of events of all left types wants an event of some right type that meets it.
+    /// Each meet of events of all left types requires an event of some right type that meets it.
     Implication,
     /// No events of all the types of both sides may have a meet.
     Clash,
@@ -34,7 +34,7 @@ pub struct Constraint {
 impl Constraint {
     ghost use Rattle.tier_core.specs.Sides.{is_stretch};
 
-    /// Whether it is a stretch implication: an implication whose left side has interiors alone.
+    /// Whether it is a stretch implication: an implication whose left side has only interiors.
     pub fn is_stretch(&self) -> bool
         ensures { result ≡ is_stretch self.now }
     {

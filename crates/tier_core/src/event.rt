@@ -57,7 +57,7 @@ impl Model for EventList {
 }
 
 impl EventList {
-    /// The side with these types of events. They fit in the value, so it takes no memory.
+    /// The side with these types of events. They fit in the value, so no memory is allocated.
     pub fn from_events(alloc: Global, events: &[Event]) -> EventList
         requires some { 1 ≤ length events.now }
         requires few { length events.now ≤ 8 }

@@ -10,9 +10,16 @@ use crate::timeline::Timeline;
 /// Reads one column: whether each symbol fits its tier, and then which tiers are open after it.
 fn advance(held: &mut [bool; 12], column: &[Sym]) -> bool
     requires { length column.now ≤ 12 }
-    ensures fits { IsTrue result ↔ ((t : ℕ) → t < length column.now → fits (slice_index_or held.old t false) (slice_index_or column.now t Sym.Outside) ≡ true) }
-    ensures opened { OnTrue result ((t : ℕ) → t < length column.now → slice_index_or held.new t false ≡ opens (slice_index_or column.now t Sym.Outside)) }
-    ensures others { (t : ℕ) → length column.now ≤ t → slice_index_or held.new t false ≡ slice_index_or held.old t false }
+    ensures fits { IsTrue result
+        ↔
+        ((t : ℕ) → t < length column.now
+        → fits (slice_index_or held.old t false) (slice_index_or column.now t Sym.Outside)
+        ≡ true) }
+    ensures opened { OnTrue result
+        ((t : ℕ) → t < length column.now
+        → slice_index_or held.new t false ≡ opens (slice_index_or column.now t Sym.Outside)) }
+    ensures others { (t : ℕ) → length column.now ≤ t
+        → slice_index_or held.new t false ≡ slice_index_or held.old t false }
 {
     for (tier, sym) in column.iter().enumerate() {
         if !sym.may_come(held[tier]) {

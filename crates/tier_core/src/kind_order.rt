@@ -7,10 +7,11 @@ use crate::mask::has_bit;
 use crate::shape::Shape;
 use std::cmp::Ordering;
 
-/// Compares masks of open tiers: the first tier that is open in one alone decides, and the mask
-/// in which it is open comes after the other.
+/// Compares masks of open tiers: the first tier that is open in only one decides, and the mask in
+/// which it is open comes after the other.
 fn cmp_opened(a: u16, b: u16) -> Ordering
-    ensures { (free : ℕ) → a < 2 ^ free → b < 2 ^ free → result ≡ open_order (open_tiers free a) (open_tiers free b) }
+    ensures { (free : ℕ) → a < 2 ^ free → b < 2 ^ free
+        → result ≡ open_order (open_tiers free a) (open_tiers free b) }
 {
     let apart = (a ^ b) as u32;
     if apart == 0 {
@@ -39,7 +40,8 @@ fn phase_rank(kind: &Kind, place: u32) -> u32
 
 /// Compares phases: the first stretch implication whose phases differ decides.
 fn cmp_phases(a: &Kind, b: &Kind) -> Ordering
-    ensures { (n : ℕ) → AreStretchesBelow n a.now → AreStretchesBelow n b.now → result ≡ phase_order (phases n a.now) (phases n b.now) }
+    ensures { (n : ℕ) → AreStretchesBelow n a.now → AreStretchesBelow n b.now
+        → result ≡ phase_order (phases n a.now) (phases n b.now) }
 {
     let apart = (a.unmet ^ b.unmet) | (a.met ^ b.met);
     if apart == 0 {

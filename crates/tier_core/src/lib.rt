@@ -1,17 +1,18 @@
 //! Symbols, columns, timelines, tiers, constraints, classes of columns and kinds of prefixes:
-//! the values that every other crate of the workspace speaks of, with the definitions of
-//! well-formed and reduced timelines, of constituents, of events and of the orders.
+//! the values that every other crate of the workspace uses, with the definitions of well-formed
+//! and reduced timelines, of constituents, of events and of the orders.
 //!
 //! Contracts see a column as a list of symbols, a timeline as a list of columns, one side of a
-//! constraint as a list of events, and a class by the sets of its tiers. The crate stands on no
-//! other crate of the workspace. The layers above use the types, their calls, and the definitions
-//! of `specs/`.
+//! constraint as a list of events, and a class by the sets of its tiers. The crate depends on no
+//! other crate of the workspace. The layers above use the types, their functions, and the
+//! definitions in `specs/`.
 //!
-//! Source: timelines, constituents and the two families of constraints are after Eisner,
-//! Efficient Generation in Primitive Optimality Theory (ACL 1997).
+//! Source: timelines, constituents and the two families of constraints follow Eisner, Efficient
+//! Generation in Primitive Optimality Theory (ACL 1997).
 #![tactic(auto)]
 
 mod class;
+mod class_word;
 mod column;
 mod constraint;
 mod event;
@@ -28,7 +29,7 @@ mod tests;
 mod tier;
 mod timeline;
 
-pub use class::Class;
+pub use class::{Class, alone};
 pub use column::Column;
 pub use constraint::{Constraint, Family};
 pub use event::{Event, EventList, Part, has_edge_type};

@@ -6,7 +6,7 @@ use crate::column::Column;
 use crate::timeline::Timeline;
 use std::cmp::Ordering;
 
-/// Compares columns symbol by symbol, from the first tier. Where one goes on after the other has
+/// Compares columns symbol by symbol, from the first tier. If one goes on after the other has
 /// ended, the shorter one comes first.
 pub fn column_cmp(a: &Column, b: &Column) -> Ordering
     ensures { result ≡ column_cmp a.now b.now }

@@ -38,8 +38,8 @@ fn kept_tiers(alloc: Global, column: &Column, keep: u16) -> Column
 }
 
 /// What a timeline has on the tiers in a mask, bit t of which, counted from the lowest, stands for
-/// tier t. The mask names at least one tier, and none that a column lacks. It fails only for want
-/// of memory.
+/// tier t. The mask names at least one tier, and none that a column lacks. Fails only if memory
+/// runs out.
 pub fn project(alloc: Global, timeline: &Timeline, keep: u16) -> Result<Timeline, NoMemory>
     requires some { 0 < keep }
     requires within { AllByRecursion (λ column. keep < 2 ^ length column) timeline.now }
@@ -55,7 +55,7 @@ pub fn project(alloc: Global, timeline: &Timeline, keep: u16) -> Result<Timeline
     Ok(kept)
 }
 
-/// The columns of a timeline that have an edge, in their order. It fails only for want of memory.
+/// The columns of a timeline that have an edge, in their order. Fails only if memory runs out.
 pub fn squeeze(alloc: Global, timeline: &Timeline) -> Result<Timeline, NoMemory>
     ensures { IfOk result (λ t. t ≡ squeeze timeline.now) }
 {

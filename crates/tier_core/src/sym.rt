@@ -22,7 +22,7 @@ pub enum Sym {
 }
 
 impl Sym {
-    /// The symbol that a byte is written for. None where the byte is none of the five.
+    /// The symbol that is written as this byte, or `None` if the byte is none of the five.
     pub fn of_byte(byte: u8) -> Option<Sym>
         ensures { result ≡ sym_of byte }
     {
@@ -56,7 +56,7 @@ impl Sym {
         matches!(self, Sym::Start | Sym::End | Sym::Both)
     }
 
-    /// Whether the symbol may come where its tier is open, or is not.
+    /// Whether the symbol may come next, given whether its tier is open.
     pub fn may_come(self, is_open: bool) -> bool
         ensures { result ≡ fits is_open self }
     {

@@ -71,11 +71,12 @@ impl TierTable {
         self.kinds.iter().filter(|kind| kind.is_free()).count()
     }
 
-    /// The mask of the tiers of a kind: bit t, counted from the lowest, is set exactly where tier
-    /// t has that kind.
+    /// The mask of the tiers of a kind: bit t, counted from the lowest, is set exactly if tier t
+    /// has that kind.
     pub fn mask(&self, kind: TierKind) -> u16
         ensures within { result < 2 ^ length self.now.kinds.items }
-        ensures bits { (t : ℕ) → t < length self.now.kinds.items → IsTrue (has_tier result t) ↔ (kind_at self.now.kinds.items t ≡ kind) }
+        ensures bits { (t : ℕ) → t < length self.now.kinds.items → IsTrue (has_tier result t)
+            ↔ (kind_at self.now.kinds.items t ≡ kind) }
     {
         let mut mask = 0u16;
         for (tier, each) in self.kinds.iter().enumerate() {

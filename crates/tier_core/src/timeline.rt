@@ -5,7 +5,7 @@ use crate::column::Column;
 use std::alloc::Global;
 use std::marker::Model;
 
-/// Memory was wanting.
+/// Memory ran out.
 #[derive(Clone, Copy, Debug, PartialEq, Eq)]
 pub struct NoMemory;
 
@@ -25,7 +25,7 @@ impl Model for Timeline {
 }
 
 impl Timeline {
-    /// The timeline without columns. It takes no memory.
+    /// The timeline without columns. Allocates no memory.
     pub fn new(alloc: Global) -> Timeline
         ensures { result ≡ [] }
     {
@@ -34,7 +34,7 @@ impl Timeline {
         }
     }
 
-    /// Adds a column at the end. For want of memory the column comes back, and the timeline is
+    /// Adds a column at the end. If memory runs out, the column is returned, and the timeline is
     /// unchanged.
     pub fn push(&mut self, column: Column) -> Result<(), Column>
         ensures ok { OnOk result (self.new ≡ self.old ++ column ∷ []) }

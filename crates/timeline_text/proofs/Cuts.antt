@@ -25,27 +25,35 @@ read_back Both = refl
 
 column_back : (column : List Sym) → map symbol_of_byte (map byte_of column) ≡ column
 column_back [] = refl
-column_back (s ∷ column) = ap (λ x. x ∷ map symbol_of_byte (map byte_of column)) (read_back s) ∙ ap (λ xs. s ∷ xs) (column_back column)
+column_back (s ∷ column) = ap (λ x. x ∷ map symbol_of_byte (map byte_of column)) (read_back s)
+    ∙ ap (λ xs. s ∷ xs) (column_back column)
 
 -- a column, then a space
-cut_space : (column : List Sym) (rest : List ℕ) → pieces_of (map byte_of column ++ (32 ∷ rest)) ≡ map byte_of column ∷ pieces_of rest
+cut_space : (column : List Sym) (rest : List ℕ)
+    → pieces_of (map byte_of column ++ (32 ∷ rest)) ≡ map byte_of column ∷ pieces_of rest
 cut_space [] rest = slice_split-cons_yes is_space 32 rest refl
-cut_space (s ∷ column) rest = slice_split-cons_no is_space (byte_of s) (map byte_of column ++ (32 ∷ rest)) (no_space s) ∙ ap (onto_first (byte_of s)) (cut_space column rest)
+cut_space (s ∷ column) rest = slice_split-cons_no is_space (byte_of s) (map byte_of column ++ (32 ∷ rest))
+    (no_space s) ∙ ap (onto_first (byte_of s)) (cut_space column rest)
 
 cut_last : (column : List Sym) → pieces_of (map byte_of column) ≡ map byte_of column ∷ []
 cut_last [] = refl
-cut_last (s ∷ column) = slice_split-cons_no is_space (byte_of s) (map byte_of column) (no_space s) ∙ ap (onto_first (byte_of s)) (cut_last column)
+cut_last (s ∷ column) = slice_split-cons_no is_space (byte_of s) (map byte_of column) (no_space s)
+    ∙ ap (onto_first (byte_of s)) (cut_last column)
 
 -- the pieces of the text of a timeline are the texts of its columns
-pub cut_back : (column : List Sym) (columns : List (List Sym)) → pieces_of (text_of (column ∷ columns)) ≡ map (map byte_of) (column ∷ columns)
+pub cut_back : (column : List Sym) (columns : List (List Sym))
+    → pieces_of (text_of (column ∷ columns)) ≡ map (map byte_of) (column ∷ columns)
 cut_back column [] = cut_last column
-cut_back column (next ∷ columns) = cut_space column (join_with_byte 32 (map (map byte_of) (next ∷ columns))) ∙ ap (λ ps. map byte_of column ∷ ps) (cut_back next columns)
+cut_back column (next ∷ columns) = cut_space column (join_with_byte 32 (map (map byte_of) (next ∷ columns)))
+    ∙ ap (λ ps. map byte_of column ∷ ps) (cut_back next columns)
 
 all_back : (columns : List (List Sym)) → map (map symbol_of_byte) (map (map byte_of) columns) ≡ columns
 all_back [] = refl
-all_back (column ∷ columns) = ap (λ x. x ∷ map (map symbol_of_byte) (map (map byte_of) columns)) (column_back column) ∙ ap (λ xs. column ∷ xs) (all_back columns)
+all_back (column ∷ columns) = ap (λ x. x ∷ map (map symbol_of_byte) (map (map byte_of) columns)) (column_back column)
+    ∙ ap (λ xs. column ∷ xs) (all_back columns)
 
-pub columns_back : (column : List Sym) (columns : List (List Sym)) → columns_of (text_of (column ∷ columns)) ≡ column ∷ columns
+pub columns_back : (column : List Sym) (columns : List (List Sym))
+    → columns_of (text_of (column ∷ columns)) ≡ column ∷ columns
 columns_back column columns = ap (map (map symbol_of_byte)) (cut_back column columns) ∙ all_back (column ∷ columns)
 
 -- no column begins as `empty`
@@ -66,6 +74,7 @@ not_empty_last (End ∷ column) = refl
 not_empty_last (Both ∷ column) = refl
 
 -- the text of a timeline with columns is not the word `empty`
-pub no_word : (column : List Sym) (columns : List (List Sym)) → bytes_eq (text_of (column ∷ columns)) (codes "empty") ≡ false
+pub no_word : (column : List Sym) (columns : List (List Sym))
+    → bytes_eq (text_of (column ∷ columns)) (codes "empty") ≡ false
 no_word column [] = not_empty_last column
 no_word column (next ∷ columns) = not_empty column (join_with_byte 32 (map (map byte_of) (next ∷ columns)))

@@ -17,9 +17,12 @@ sym_known Both = refl
 
 column_known : (column : List Sym) → list_any (λ b. not (is_known b)) (map byte_of column) ≡ false
 column_known [] = refl
-column_known (s ∷ column) = ap (λ t. t || list_any (λ b. not (is_known b)) (map byte_of column)) (sym_known s) ∙ column_known column
+column_known (s ∷ column) = ap (λ t. t || list_any (λ b. not (is_known b)) (map byte_of column)) (sym_known s)
+    ∙ column_known column
 
-pub text_known : (column : List Sym) (T : List (List Sym)) → list_any (λ b. not (is_known b)) (text_of (column ∷ T)) ≡ false
+pub text_known : (column : List Sym) (T : List (List Sym))
+    → list_any (λ b. not (is_known b)) (text_of (column ∷ T)) ≡ false
 text_known column [] = column_known column
 text_known column (next ∷ T) = list_any-append (λ b. not (is_known b)) (map byte_of column) (32 ∷ text_of (next ∷ T))
-    ∙ ap (λ t. t || list_any (λ b. not (is_known b)) (32 ∷ text_of (next ∷ T))) (column_known column) ∙ text_known next T
+    ∙ ap (λ t. t || list_any (λ b. not (is_known b)) (32 ∷ text_of (next ∷ T))) (column_known column)
+    ∙ text_known next T

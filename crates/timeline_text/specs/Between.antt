@@ -14,7 +14,8 @@ between false false = Outside
 
 -- the column between two sounds
 abbrev pub column_between : ℕ → ℕ → ℕ → List Sym
-column_between inputs before after = map (λ tier. between (has_tier before tier) (has_tier after tier)) (range_with_len 0 inputs)
+column_between inputs before after = map (λ tier. between (has_tier before tier) (has_tier after tier))
+    (range_with_len 0 inputs)
 
 -- the columns after a sound
 abbrev pub columns_after : ℕ → ℕ → List ℕ → List (List Sym)

@@ -9,8 +9,10 @@ use Rattle.timeline_text.specs.Spelling.{IsSpelledBy, IsSpellingCause}
 
 -- a text is a timeline's, or it has a cause
 abbrev pub HasReading : ℕ → ℕ → List ℕ → Type 0
-HasReading width limit bytes = ((T : List (List Sym)) × IsTextOf width limit bytes T) ⊎ ((cause : FormErr) × IsCause width limit bytes cause)
+HasReading width limit bytes = ((T : List (List Sym)) × IsTextOf width limit bytes T) ⊎
+    ((cause : FormErr) × IsCause width limit bytes cause)
 
 -- a word of letters spells a form, or it has a cause
 abbrev pub HasSpelling : List Letter → ℕ → List ℕ → Type 0
-HasSpelling letters inputs bytes = ((T : List (List Sym)) × IsSpelledBy letters inputs bytes T) ⊎ ((cause : FormErr) × IsSpellingCause letters bytes cause)
+HasSpelling letters inputs bytes = ((T : List (List Sym)) × IsSpelledBy letters inputs bytes T) ⊎
+    ((cause : FormErr) × IsSpellingCause letters bytes cause)

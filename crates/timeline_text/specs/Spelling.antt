@@ -48,7 +48,8 @@ pub record IsSpelledBy (letters : List Letter) (inputs : ℕ) (bytes : List ℕ)
 
 -- why a word spells no form
 abbrev pub IsSpellingCause : List Letter → List ℕ → FormErr → Type 0
-IsSpellingCause letters bytes (UnknownLetter at) = option_map (λ k. k + 1) (unknown_letter letters (drop 1 bytes)) ≡ Some at
+IsSpellingCause letters bytes (UnknownLetter at) = option_map (λ k. k + 1) (unknown_letter letters (drop 1 bytes))
+    ≡ Some at
 IsSpellingCause letters bytes TooLong = (unknown_letter letters (drop 1 bytes) ≡ None) × (63 < length (drop 1 bytes))
 IsSpellingCause letters bytes (BadSymbol at) = ⊥
 IsSpellingCause letters bytes (WrongWidth column) = ⊥

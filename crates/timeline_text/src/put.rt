@@ -1,10 +1,10 @@
-ghost use Rattle.std.specs.Prelude.{◌≡◌, ◌≤◌, ◌++◌, Err, OnOk, length, map, take};
-ghost use Rattle.outside.specs.Faults.{Rose};
-ghost use Rattle.outside.specs.Sent.{appended, HasSentPart, Sends};
+ghost use Rattle.std.specs.Prelude.{◌≡◌, length, map, take};
+ghost use Rattle.outside.specs.Writers.{Puts, Pushes};
 ghost use Rattle.tier_core.specs.Symbols.{byte_of};
+ghost use Rattle.timeline_text.specs.Tails.{tail_text};
 ghost use Rattle.timeline_text.specs.Texts.{text_of};
 
-use outside::{Sink, Waiting, WriteErr};
+use outside::{OutBuffer, Sink, WriteErr};
 use tier_core::{Column, Timeline};
 
 /// The bytes of a column, at the front of an array.
@@ -18,51 +18,44 @@ fn column_bytes(column: &Column) -> [u8; 12]
     bytes
 }
 
-fn wait_column<O: Sink>(
-    waiting: &mut Waiting,
-    sink: &mut O,
-    column: &Column,
-) -> Result<(), WriteErr>
-    ensures ok { OnOk result (Sends (O.taken sink.old) (waiting.old ++ map byte_of column.now) (O.taken sink.new) waiting.new) }
-    ensures part { HasSentPart (O.taken sink.old) (waiting.old ++ map byte_of column.now) (O.taken sink.new) }
-    ensures never_falls { O.faults sink.old ≤ O.faults sink.new }
-    ensures failed { result ≡ Err WriteErr.Failed → Rose (O.faults sink.old) (O.faults sink.new) }
+fn push_column<O: Sink>(out: &mut OutBuffer, sink: &mut O, column: &Column) -> Result<(), WriteErr>
+    ensures { Pushes O.Sink sink.old sink.new out.old out.new (map byte_of column.now) result }
 {
     let bytes = column_bytes(column);
-    waiting.put(sink, &bytes[..column.width() as usize])
+    out.push(sink, &bytes[..column.width() as usize])
 }
 
-/// Puts the one text of a timeline behind the bytes that wait, as a part of a longer text. After a
-/// refusal the sink has taken a front of what waited and of that text.
-pub fn wait_timeline<O: Sink>(
-    waiting: &mut Waiting,
-    sink: &mut O,
-    timeline: &Timeline,
-) -> Result<(), WriteErr>
-    ensures ok { OnOk result (Sends (O.taken sink.old) (waiting.old ++ text_of timeline.now) (O.taken sink.new) waiting.new) }
-    ensures part { HasSentPart (O.taken sink.old) (waiting.old ++ text_of timeline.now) (O.taken sink.new) }
-    ensures never_falls { O.faults sink.old ≤ O.faults sink.new }
-    ensures failed { result ≡ Err WriteErr.Failed → Rose (O.faults sink.old) (O.faults sink.new) }
+// Columns behind the first one, each after a space.
+fn push_tail<O: Sink>(out: &mut OutBuffer, sink: &mut O, columns: &[Column]) -> Result<(), WriteErr>
+    ensures { Pushes O.Sink sink.old sink.new out.old out.new (tail_text columns.now) result }
 {
-    let Some((first, others)) = timeline.columns().split_first() else {
-        return waiting.put(sink, b"empty");
-    };
-    wait_column(waiting, sink, first)?;
-    for column in others {
-        waiting.put(sink, b" ")?;
-        wait_column(waiting, sink, column)?;
+    for column in columns {
+        out.push(sink, b" ")?;
+        push_column(out, sink, column)?;
     }
     Ok(())
 }
 
-/// Writes the one text of a timeline. After a refusal the sink has taken a front of it.
-pub fn put_timeline<O: Sink>(sink: &mut O, timeline: &Timeline) -> Result<(), WriteErr>
-    ensures ok { OnOk result (O.taken sink.new ≡ appended (O.taken sink.old) (text_of timeline.now)) }
-    ensures part { HasSentPart (O.taken sink.old) (text_of timeline.now) (O.taken sink.new) }
-    ensures never_falls { O.faults sink.old ≤ O.faults sink.new }
-    ensures failed { result ≡ Err WriteErr.Failed → Rose (O.faults sink.old) (O.faults sink.new) }
+/// Appends the one text of a timeline, as a part of a longer text.
+pub fn push_timeline<O: Sink>(
+    out: &mut OutBuffer,
+    sink: &mut O,
+    timeline: &Timeline,
+) -> Result<(), WriteErr>
+    ensures { Pushes O.Sink sink.old sink.new out.old out.new (text_of timeline.now) result }
 {
-    let mut waiting = Waiting::new();
-    wait_timeline(&mut waiting, sink, timeline)?;
-    waiting.flush(sink)
+    let Some((first, others)) = timeline.columns().split_first() else {
+        return out.push(sink, b"empty");
+    };
+    push_column(out, sink, first)?;
+    push_tail(out, sink, others)
+}
+
+/// Writes the one text of a timeline.
+pub fn put_timeline<O: Sink>(sink: &mut O, timeline: &Timeline) -> Result<(), WriteErr>
+    ensures { Puts O.Sink sink.old sink.new (text_of timeline.now) result }
+{
+    let mut out = OutBuffer::new();
+    push_timeline(&mut out, sink, timeline)?;
+    out.flush(sink)
 }

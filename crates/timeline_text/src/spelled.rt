@@ -67,7 +67,9 @@ fn columns_of(
 ) -> Result<Timeline, FormErr>
     requires some { 1 ≤ inputs }
     requires few { inputs ≤ 6 }
-    ensures { MatchResult result (λ t. t ≡ columns_after inputs 0 (map (sound_of letters.now) word.now)) (λ e. e ≡ FormErr.NoMemory) }
+    ensures { MatchResult result
+        (λ t. t ≡ columns_after inputs 0 (map (sound_of letters.now) word.now))
+        (λ e. e ≡ FormErr.NoMemory) }
 {
     let mut timeline = Timeline::new(alloc);
     let mut before = 0;
@@ -108,7 +110,8 @@ pub fn read_spelled(
     requires word { take 1 bytes.now ≡ 61 ∷ [] }
     ensures ok { IfOk result (IsSpelledBy letters.now inputs bytes.now) }
     ensures reduced { IfOk result IsReduced }
-    ensures err { IfErr result (λ e. e ≢ FormErr.NoMemory → IsSpellingCause letters.now bytes.now e) }
+    ensures err { IfErr result
+        (λ e. e ≢ FormErr.NoMemory → IsSpellingCause letters.now bytes.now e) }
 {
     let word = &bytes[1..];
     if let Some(place) = unknown_letter(letters, word) {

@@ -26,7 +26,8 @@ fn is_well_formed_on(timeline: &Timeline, width: u32, tier: u32) -> bool
 /// The first tier that is not well formed.
 pub(crate) fn ill_formed(timeline: &Timeline, width: u32) -> Option<u32>
     requires { AllByRecursion (λ column. length column ≡ width) timeline.now }
-    ensures { MatchOption result ((t : ℕ) → t < width → IsWellFormedWord (word timeline.now t)) (IsFirstIllFormed width timeline.now) }
+    ensures { MatchOption result ((t : ℕ) → t < width → IsWellFormedWord (word timeline.now t))
+        (IsFirstIllFormed width timeline.now) }
 {
     for tier in 0..width {
         if !is_well_formed_on(timeline, width, tier) {

@@ -25,11 +25,13 @@ edge_point i k = grind (arith, nat_tests)
 inside_point : (i j k : ℕ) → i < j → (leb (2 * i + 1) (2 * k) && leb (2 * k) (2 * j - 1)) ≡ (ltb i k && ltb k j)
 inside_point i j k l = grind (arith, nat_tests)
 
-pub between_point : (i j k : ℕ) → i < j → (leb (2 * i + 1) (2 * k - 1) && leb (2 * k - 1) (2 * j - 1)) ≡ (ltb i k && leb k j)
+pub between_point : (i j k : ℕ) → i < j → (leb (2 * i + 1) (2 * k - 1) && leb (2 * k - 1) (2 * j - 1))
+    ≡ (ltb i k && leb k j)
 between_point i j k l = grind (arith, nat_tests)
 
 module _ (w : List Sym) (r : runs false w ≡ true) (k : ℕ) where
-  pub part_at : (part : Part) → count_by (contains (2 * k)) (map (event part) (constituents w)) ≡ bit (part_present part (get_or w k Outside))
+  pub part_at : (part : Part) → count_by (contains (2 * k)) (map (event part) (constituents w))
+      ≡ bit (part_present part (get_or w k Outside))
   part_at StartOf =
       count_map (contains (2 * k)) (event StartOf) (constituents w)
       ∙ count_agree _ (λ c. eqb c.0 k) (constituents w) (all_of _ (constituents w) (λ c. edge_point c.0 k))
@@ -44,7 +46,8 @@ module _ (w : List Sym) (r : runs false w ≡ true) (k : ℕ) where
       (all_weaker _ _ _ (λ c a. inside_point c.0 c.1 k a.1) (constituents_late 0 w))
       ∙ inside_at w r k
 
-  pub interior_before : count_by (contains (2 * k - 1)) (map (event Interior) (constituents w)) ≡ bit (open_at false w k)
+  pub interior_before : count_by (contains (2 * k - 1)) (map (event Interior) (constituents w))
+      ≡ bit (open_at false w k)
   interior_before =
       count_map (contains (2 * k - 1)) (event Interior) (constituents w)
       ∙ count_agree _ (covers k) (constituents w)
@@ -53,10 +56,12 @@ module _ (w : List Sym) (r : runs false w ≡ true) (k : ℕ) where
 
 module _ (width : ℕ) (T : List (List Sym)) (wf : IsWellFormed width T) (k : ℕ) (l : k < length T) where
   -- the events of a type at column k, which are one or none
-  pub event_at : (e : Event) → e.tier < width → count_by (contains (2 * k)) (events T e) ≡ bit (is_present (get_or T k []) e)
+  pub event_at : (e : Event) → e.tier < width
+      → count_by (contains (2 * k)) (events T e) ≡ bit (is_present (get_or T k []) e)
   event_at e t =
       part_at (word T e.tier) (runs_from_well_formed (word T e.tier) (wf.each_tier e.tier t)) k e.part
       ∙ ap (λ s. bit (part_present e.part s)) (get_or-map (λ column. symbol column e.tier) T k [] Outside l)
 
-  pub any_event_at : (e : Event) → e.tier < width → list_any (contains (2 * k)) (events T e) ≡ is_present (get_or T k []) e
+  pub any_event_at : (e : Event) → e.tier < width
+      → list_any (contains (2 * k)) (events T e) ≡ is_present (get_or T k []) e
   any_event_at e t = any_from_count (contains (2 * k)) (events T e) (is_present (get_or T k []) e) (event_at e t)

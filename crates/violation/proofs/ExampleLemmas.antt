@@ -30,9 +30,11 @@ use Rattle.violation.specs.Examples.{over_two}
 
 pub right_words : (ws : List (List Sym)) → list_all (runs false) ws ≡ true → AllByRecursion IsWellFormedWord ws
 right_words [] h = tt
-right_words (w ∷ ws) h = let parts : (runs false w ≡ true) × (list_all (runs false) ws ≡ true) = and_parts _ _ h in (well_formed_from_runs w parts.0, right_words ws parts.1)
+right_words (w ∷ ws) h = let parts : (runs false w ≡ true) × (list_all (runs false) ws ≡ true) = and_parts _ _ h in
+    (well_formed_from_runs w parts.0, right_words ws parts.1)
 
-pub wrong_words : (ws : List (List Sym)) → list_any (runs false) ws ≡ false → AllByRecursion (λ w. IsWellFormedWord w → ⊥) ws
+pub wrong_words : (ws : List (List Sym)) → list_any (runs false) ws ≡ false
+    → AllByRecursion (λ w. IsWellFormedWord w → ⊥) ws
 wrong_words [] h = tt
 wrong_words (w ∷ ws) h =
     let parts : (runs false w ≡ false) × (list_any (runs false) ws ≡ false) = or_parts _ _ h in
@@ -40,16 +42,24 @@ wrong_words (w ∷ ws) h =
 
 all_below : (p : ℕ → Bool) (n : ℕ) → list_all p (range_with_len 0 n) ≡ true → (t : ℕ) → t < n → p t ≡ true
 all_below p n h t l =
-    true_from_ne_false (p t) (λ f. false≢true (sym (list_all_at p (range_with_len 0 n) t 0 (omega (arith, length-range_with_len 0 n))
+    true_from_ne_false (p t) (λ f. false≢true
+    (sym (list_all_at p (range_with_len 0 n) t 0 (omega (arith, length-range_with_len 0 n))
     (ap p (get_or-range_with_len 0 n t 0 l ∙ omega arith) ∙ f)) ∙ h))
 
-pub right_timeline : (width : ℕ) (T : List (List Sym)) → AllByRecursion (λ column. length column ≡ width) T → list_all (λ t. runs false (word T t)) (range_with_len 0 width) ≡ true → IsWellFormed width T
-right_timeline width T w h = record { one_width = w; each_tier = λ t l. well_formed_from_runs (word T t) (all_below (λ t. runs false (word T t)) width h t l) }
+pub right_timeline : (width : ℕ) (T : List (List Sym)) → AllByRecursion (λ column. length column ≡ width) T
+    → list_all (λ t. runs false (word T t)) (range_with_len 0 width) ≡ true → IsWellFormed width T
+right_timeline width T w h = record {
+  one_width = w;
+  each_tier = λ t l. well_formed_from_runs (word T t) (all_below (λ t. runs false (word T t)) width h t l);
+}
 
-pub wrong_tier : (width : ℕ) (T : List (List Sym)) (t : ℕ) → t < width → runs false (word T t) ≡ false → IsWellFormed width T → ⊥
+pub wrong_tier : (width : ℕ) (T : List (List Sym)) (t : ℕ) → t < width → runs false (word T t) ≡ false
+    → IsWellFormed width T → ⊥
 wrong_tier width T t l h f = false≢true (sym h ∙ runs_from_well_formed (word T t) (f.each_tier t l))
 
-pub right_candidate : (constraints : List Constraint) (u T : List (List Sym)) → AllByRecursion (λ column. length column ≡ 2) T → list_all (λ t. runs false (word T t)) (range_with_len 0 2) ≡ true → IsReduced T
+pub right_candidate : (constraints : List Constraint) (u T : List (List Sym))
+    → AllByRecursion (λ column. length column ≡ 2) T
+    → list_all (λ t. runs false (word T t)) (range_with_len 0 2) ≡ true → IsReduced T
     → squeeze (project (0 ∷ []) T) ≡ u → IsCandidate (over_two constraints u) T
 right_candidate constraints u T w h r i = record { well_formed = right_timeline 2 T w h; reduced = r; input = i }
 
@@ -83,24 +93,31 @@ zero_alone zero h = refl
 zero_alone (suc n) h =
     let a : ltb (suc n) 0 ≡ false = le-ltb (suc n) 0 (omega arith) in
     let b : eqb (suc n) 0 ≡ false = ne_eqb (suc n) 0 (λ e. omega (arith, e)) in
-    absurd (false≢true (sym (ap (λ c. is_le (ordering_then (cond c Less (cond (eqb (suc n) 0) Equal Greater)) Equal)) a ∙ ap (λ c. is_le (ordering_then (cond c Equal Greater) Equal)) b) ∙ h))
+    absurd (false≢true (sym (ap (λ c. is_le
+    (ordering_then (cond c Less (cond (eqb (suc n) 0) Equal Greater)) Equal)) a
+    ∙ ap (λ c. is_le (ordering_then (cond c Equal Greater) Equal)) b) ∙ h))
 
 pub whole_optimal : (name : String Global) → IsOptimalFor (over_two (max_a name ∷ []) one) 1 whole
 whole_optimal name = record {
   candidate = whole_candidate (max_a name ∷ []);
-  least = λ U c. subst (λ v. IsAtMost (take 1 v) (take 1 (vec (max_a name ∷ []) U))) (sym (whole_counts name)) (zero_least (violations_of (max_a name) U));
+  least = λ U c. subst (λ v. IsAtMost (take 1 v) (take 1 (vec (max_a name ∷ []) U))) (sym (whole_counts name))
+      (zero_least (violations_of (max_a name) U));
 }
 
 pub none_not_optimal : (name : String Global) → IsOptimalFor (over_two (max_a name ∷ []) one) 1 nothing → ⊥
 none_not_optimal name o =
-    let at : IsAtMost (take 1 (vec (max_a name ∷ []) nothing)) (take 1 (vec (max_a name ∷ []) whole)) = o.least whole (whole_candidate (max_a name ∷ [])) in
-    false≢true (subst (λ v. IsAtMost (1 ∷ []) (take 1 v)) (whole_counts name) (subst (λ v. IsAtMost (take 1 v) (take 1 (vec (max_a name ∷ []) whole))) (nothing_counts name) at))
+    let at : IsAtMost (take 1 (vec (max_a name ∷ []) nothing)) (take 1 (vec (max_a name ∷ []) whole)) = o.least whole
+    (whole_candidate (max_a name ∷ [])) in
+    false≢true (subst (λ v. IsAtMost (1 ∷ []) (take 1 v)) (whole_counts name)
+    (subst (λ v. IsAtMost (take 1 v) (take 1 (vec (max_a name ∷ []) whole))) (nothing_counts name) at))
 
 pub least_is_none : (name : String Global) → IsLeastVector (over_two (max_a name ∷ []) one) (0 ∷ [])
 least_is_none name = record {
   some = (whole, (whole_optimal name, whole_counts name));
   shared = λ T o.
-      ap (λ (n : ℕ). n ∷ []) (zero_alone (violations_of (max_a name) T) (subst (λ v. IsAtMost (take 1 (vec (max_a name ∷ []) T)) (take 1 v)) (whole_counts name) (o.least whole (whole_candidate (max_a name ∷ [])))));
+      ap (λ (n : ℕ). n ∷ []) (zero_alone (violations_of (max_a name) T)
+      (subst (λ v. IsAtMost (take 1 (vec (max_a name ∷ []) T)) (take 1 v)) (whole_counts name)
+      (o.least whole (whole_candidate (max_a name ∷ [])))));
 }
 
 pub least_not_one : (name : String Global) → IsLeastVector (over_two (max_a name ∷ []) one) (1 ∷ []) → ⊥
@@ -113,7 +130,8 @@ least_not_one name l =
 count_fewer : {X : Type 0} (p q : X → Bool) (xs : List X) → count_by (λ x. p x && q x) xs ≤ count_by p xs
 count_fewer p q [] = omega arith
 count_fewer p q (x ∷ xs) =
-    let a : count_by (λ x. p x && q x) (x ∷ xs) ≡ bit (p x && q x) + count_by (λ x. p x && q x) xs = count_cons (λ x. p x && q x) x xs in
+    let a : count_by (λ x. p x && q x) (x ∷ xs)
+    ≡ bit (p x && q x) + count_by (λ x. p x && q x) xs = count_cons (λ x. p x && q x) x xs in
     let b : count_by p (x ∷ xs) ≡ bit (p x) + count_by p xs = count_cons p x xs in
     omega (arith, a, b, fewer (p x) (q x), count_fewer p q xs)
   where
@@ -122,7 +140,8 @@ count_fewer p q (x ∷ xs) =
     fewer true false = omega arith
     fewer false c = omega arith
 
-pub so_far_within : (family : Family) (left right : List Event) (T : List (List Sym)) (n : ℕ) → so_far family left right T n ≤ viol family left right T
+pub so_far_within : (family : Family) (left right : List Event) (T : List (List Sym)) (n : ℕ)
+    → so_far family left right T n ≤ viol family left right T
 unfolding so_far viol
 so_far_within family left right T n = count_fewer _ _ (choices (map (events T) (chosen family left right)))
 
@@ -138,18 +157,36 @@ whole_passes name = record {
 
 pub nothing_remains : (name : String Global) → IsRemaining (over_two (max_a name ∷ []) one) 1 start 0
 nothing_remains name = record {
-  some = (whole, (0, (whole_passes name, omega (arith, ap (λ (v : List ℕ). get_or v 0 0) (whole_counts name), so_far_none Implication (types (codes "Aa") (codes "A")) (types (codes "Aa") (codes "a")) whole))));
+  some = (
+    whole,
+    (
+      0,
+      (
+        whole_passes name,
+        omega (
+          arith,
+          ap (λ (v : List ℕ). get_or v 0 0) (whole_counts name),
+          so_far_none Implication (types (codes "Aa") (codes "A")) (types (codes "Aa") (codes "a")) whole,
+        ),
+      ),
+    ),
+  );
   least = λ T n p.
-      let l : so_far Implication (types (codes "Aa") (codes "A")) (types (codes "Aa") (codes "a")) T n ≤ viol Implication (types (codes "Aa") (codes "A")) (types (codes "Aa") (codes "a")) T =
+      let l : so_far Implication (types (codes "Aa") (codes "A"))
+      (types (codes "Aa") (codes "a")) T n ≤ viol Implication (types (codes "Aa") (codes "A"))
+      (types (codes "Aa") (codes "a")) T =
       so_far_within Implication (types (codes "Aa") (codes "A")) (types (codes "Aa") (codes "a")) T n in
       omega arith;
 }
 
 pub not_one_remains : (name : String Global) → IsRemaining (over_two (max_a name ∷ []) one) 1 start 1 → ⊥
 not_one_remains name r =
-    let least : so_far Implication (types (codes "Aa") (codes "A")) (types (codes "Aa") (codes "a")) whole 0 + 1 ≤ viol Implication (types (codes "Aa") (codes "A")) (types (codes "Aa") (codes "a")) whole =
+    let least : so_far Implication (types (codes "Aa") (codes "A"))
+    (types (codes "Aa") (codes "a")) whole 0 + 1 ≤ viol Implication (types (codes "Aa") (codes "A"))
+    (types (codes "Aa") (codes "a")) whole =
     r.least whole 0 (whole_passes name) in
-    let none : viol Implication (types (codes "Aa") (codes "A")) (types (codes "Aa") (codes "a")) whole ≡ 0 = ap (λ (v : List ℕ). get_or v 0 0) (whole_counts name) in
+    let none : viol Implication (types (codes "Aa") (codes "A")) (types (codes "Aa") (codes "a")) whole
+    ≡ 0 = ap (λ (v : List ℕ). get_or v 0 0) (whole_counts name) in
     omega (arith, least, none)
 
 pub nothing_candidate : IsCandidate (over_two [] []) []
@@ -167,15 +204,37 @@ abbrev flagged : Bool → PrefixKind
 flagged b = record { place = 0; opened = b ∷ []; phases = [] }
 
 is_passed : (b : Bool) → IsKindOfStage (over_two [] []) 0 (flagged b)
-is_passed false = record { candidate = []; columns = 0; passes = record { optimal = record { candidate = nothing_candidate; least = λ U c. refl }; within = omega arith; of_kind = refl } }
-is_passed true = record { candidate = alone; columns = 1; passes = record { optimal = record { candidate = alone_candidate; least = λ U c. refl }; within = omega arith; of_kind = refl } }
+is_passed false = record {
+  candidate = [];
+  columns = 0;
+  passes = record {
+    optimal = record { candidate = nothing_candidate; least = λ U c. refl };
+    within = omega arith;
+    of_kind = refl;
+  };
+}
+is_passed true = record {
+  candidate = alone;
+  columns = 1;
+  passes = record {
+    optimal = record { candidate = alone_candidate; least = λ U c. refl };
+    within = omega arith;
+    of_kind = refl;
+  };
+}
 
 -- a prefix of a candidate of the empty form has read nothing
-place_none : (T : List (List Sym)) (n : ℕ) → squeeze (project (0 ∷ []) T) ≡ [] → length (squeeze (project (0 ∷ []) (take n T))) ≡ 0
+place_none : (T : List (List Sym)) (n : ℕ) → squeeze (project (0 ∷ []) T) ≡ []
+    → length (squeeze (project (0 ∷ []) (take n T))) ≡ 0
 place_none T n h =
     let parts : input_part two_tiers T ≡ input_part two_tiers (take n T) ++ input_part two_tiers (drop n T) =
     ap (input_part two_tiers) (sym (take-append-drop n T)) ∙ input_append two_tiers (take n T) (drop n T) in
-    omega (arith, ap length h, ap length parts, length-append (input_part two_tiers (take n T)) (input_part two_tiers (drop n T)))
+    omega (
+      arith,
+      ap length h,
+      ap length parts,
+      length-append (input_part two_tiers (take n T)) (input_part two_tiers (drop n T)),
+    )
 
 kind_is : (k : PrefixKind) → IsKindOfStage (over_two [] []) 0 k → (b : Bool) × (flagged b ≡ k)
 kind_is k p =
@@ -183,7 +242,8 @@ kind_is k p =
     let n = p.columns in
     let none : length (squeeze (project (0 ∷ []) (take n T))) ≡ 0 = place_none T n p.passes.optimal.candidate.input in (
       is_open (word (take n T) 1),
-      ap (λ (m : ℕ). let k : PrefixKind = record { place = m; opened = is_open (word (take n T) 1) ∷ []; phases = [] } in k) (sym none) ∙ p.passes.of_kind,
+      ap (λ (m : ℕ). let k : PrefixKind = record
+          { place = m; opened = is_open (word (take n T) 1) ∷ []; phases = [] } in k) (sym none) ∙ p.passes.of_kind,
     )
 
 pub not_place_one : IsKindOfStage (over_two [] []) 0 (kind_text 1 (codes "-") []) → ⊥
@@ -200,7 +260,8 @@ empty_kinds = record {
     listed k false e = (0, omega arith, e)
     listed k true e = (1, omega arith, e)
 
-    at_index : (k : PrefixKind) (i : ℕ) → i < 2 → get_or (flagged false ∷ flagged true ∷ []) i k ≡ k → IsKindOfStage (over_two [] []) 0 k
+    at_index : (k : PrefixKind) (i : ℕ) → i < 2 → get_or (flagged false ∷ flagged true ∷ []) i k ≡ k
+        → IsKindOfStage (over_two [] []) 0 k
     at_index k zero l e = subst (IsKindOfStage (over_two [] []) 0) e (is_passed false)
     at_index k (suc zero) l e = subst (IsKindOfStage (over_two [] []) 0) e (is_passed true)
     at_index k (suc (suc i)) l e = absurd (omega arith)

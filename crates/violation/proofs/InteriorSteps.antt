@@ -48,20 +48,26 @@ odd_more i j l (y ∷ ys) h = record {
   high_is = omega (arith, h.high_is, least_swap y.high (2 * j - 1) ys);
 }
 
-pub odds : (T : List (List Sym)) (es : List Event) → has_edge_type es ≡ false → AllByRecursion IsOdd (choices (map (events T) es))
+pub odds : (T : List (List Sym)) (es : List Event) → has_edge_type es ≡ false
+    → AllByRecursion IsOdd (choices (map (events T) es))
 odds T [] h = (tt, tt)
 odds T (e ∷ es) h = all_flat IsOdd (events T e) (choices (map (events T) es)) (by_part e.part h (odds T es))
   where
-    by_part : (part : Part) → (is_edge_part part || has_edge_type es) ≡ false → (has_edge_type es ≡ false → AllByRecursion IsOdd (choices (map (events T) es)))
-        → AllByRecursion (λ x. AllByRecursion (λ choice. OddMeet (x ∷ choice)) (choices (map (events T) es))) (map (event part) (constituents (word T e.tier)))
+    by_part : (part : Part) → (is_edge_part part || has_edge_type es) ≡ false
+        → (has_edge_type es ≡ false → AllByRecursion IsOdd (choices (map (events T) es)))
+        → AllByRecursion (λ x. AllByRecursion (λ choice. OddMeet (x ∷ choice)) (choices (map (events T) es)))
+        (map (event part) (constituents (word T e.tier)))
     by_part StartOf g rest = absurd (false≢true (sym g))
     by_part EndOf g rest = absurd (false≢true (sym g))
     by_part Interior g rest = all_map _ (event Interior) (constituents (word T e.tier))
-        (all_weaker _ _ _ (λ c a. all_weaker IsOdd _ _ (λ choice p. odd_more c.0 c.1 a.1 choice p) (rest g)) (constituents_late 0 (word T e.tier)))
+        (all_weaker _ _ _ (λ c a. all_weaker IsOdd _ _ (λ choice p. odd_more c.0 c.1 a.1 choice p) (rest g))
+        (constituents_late 0 (word T e.tier)))
 
-pub filled : (T : List (List Sym)) (es : List Event) → AreSome es → AllByRecursion IsFilled (choices (map (events T) es))
+pub filled : (T : List (List Sym)) (es : List Event) → AreSome es
+    → AllByRecursion IsFilled (choices (map (events T) es))
 filled T [] h = absurd h
-filled T (e ∷ es) h = all_flat IsFilled (events T e) (choices (map (events T) es)) (all_of _ _ (λ x. all_of _ _ (λ choice. tt)))
+filled T (e ∷ es) h = all_flat IsFilled (events T e) (choices (map (events T) es))
+    (all_of _ _ (λ x. all_of _ _ (λ choice. tt)))
 
 odd_test : (l h p q k : ℕ) → l ≡ 2 * p + 1 → h ≡ 2 * q + 1
     → bit (leb l (2 * k - 1) && leb (2 * k - 1) h) ≡ bit (leb l h && is_at k h) + bit (leb l (2 * k) && leb (2 * k) h)
@@ -71,14 +77,18 @@ odd_test l h p q k a b = grind (arith, nat_tests)
 abbrev pub open_before : List (List Sym) → ℕ → Event → Bool
 open_before T n e = open_at false (word T e.tier) n
 
-pub open_event : (width : ℕ) (T : List (List Sym)) → IsWellFormed width T → (k : ℕ) (e : Event) → e.tier < width → is_edge_part e.part ≡ false
+pub open_event : (width : ℕ) (T : List (List Sym)) → IsWellFormed width T → (k : ℕ) (e : Event) → e.tier < width
+    → is_edge_part e.part ≡ false
     → count_by (contains (2 * k - 1)) (events T e) ≡ bit (open_before T k e)
 open_event width T wf k e t i = by_part e.part i
   where
-    by_part : (part : Part) → is_edge_part part ≡ false → count_by (contains (2 * k - 1)) (map (event part) (constituents (word T e.tier))) ≡ bit (open_at false (word T e.tier) k)
+    by_part : (part : Part) → is_edge_part part ≡ false
+        → count_by (contains (2 * k - 1)) (map (event part) (constituents (word T e.tier)))
+        ≡ bit (open_at false (word T e.tier) k)
     by_part StartOf g = absurd (false≢true (sym g))
     by_part EndOf g = absurd (false≢true (sym g))
-    by_part Interior g = interior_before (word T e.tier) (runs_from_well_formed (word T e.tier) (wf.each_tier e.tier t)) k
+    by_part Interior g = interior_before (word T e.tier)
+        (runs_from_well_formed (word T e.tier) (wf.each_tier e.tier t)) k
 
 pub interiors_each : (es : List Event) → has_edge_type es ≡ false → AllByRecursion (λ e. is_edge_part e.part ≡ false) es
 interiors_each [] h = tt
@@ -96,23 +106,29 @@ module _ (width : ℕ) (T : List (List Sym)) (wf : IsWellFormed width T) (k : �
   pub all_open : (es : List Event) → AreTiersBelow width es → has_edge_type es ≡ false
       → count_by (list_all (contains (2 * k - 1))) (choices (map (events T) es)) ≡ bit (list_all (open_before T k) es)
   all_open es t i = count_choices (contains (2 * k - 1)) (open_before T k) (events T) es
-      (all_weaker (λ e. (e.tier < width) × (is_edge_part e.part ≡ false)) _ es (λ e b. open_event width T wf k e b.0 b.1) (all_both _ _ es t (interiors_each es i)))
+      (all_weaker (λ e. (e.tier < width) × (is_edge_part e.part ≡ false)) _ es
+      (λ e b. open_event width T wf k e b.0 b.1) (all_both _ _ es t (interiors_each es i)))
 
   ends_at_place : (choice : List Interval) → IsFilled choice × IsOdd choice
-      → bit (list_all (contains (2 * k - 1)) choice) ≡ bit (is_there (meet choice) && is_at k (meet choice).high) + bit (list_all (contains (2 * k)) choice)
+      → bit (list_all (contains (2 * k - 1)) choice)
+      ≡ bit (is_there (meet choice) && is_at k (meet choice).high) + bit (list_all (contains (2 * k)) choice)
   ends_at_place [] h = absurd h.0
   ends_at_place (x ∷ xs) h =
       ap bit (meet_contains (2 * k - 1) x xs)
       ∙ odd_test (greatest_low (x ∷ xs)) (least_high (x ∷ xs)) h.1.low h.1.high k h.1.low_is h.1.high_is
-      ∙ ap (λ b. bit (is_there (meet (x ∷ xs)) && is_at k (meet (x ∷ xs)).high) + bit b) (sym (meet_contains (2 * k) x xs))
+      ∙ ap (λ b. bit (is_there (meet (x ∷ xs)) && is_at k (meet (x ∷ xs)).high) + bit b)
+      (sym (meet_contains (2 * k) x xs))
 
   -- the choices whose meet ends just before column k
   pub ends_before : (es : List Event) → AreSome es → AreTiersBelow width es → has_edge_type es ≡ false
       → bit (list_all (open_before T k) es)
-      ≡ count_by (λ choice. is_there (meet choice) && is_at k (meet choice).high) (choices (map (events T) es)) + bit (list_all (is_present (get_or T k [])) es)
+      ≡ count_by (λ choice. is_there (meet choice) && is_at k (meet choice).high) (choices (map (events T) es)) + bit
+      (list_all (is_present (get_or T k [])) es)
   ends_before es s t i =
       let split : count_by (list_all (contains (2 * k - 1))) (choices (map (events T) es))
-      ≡ count_by (λ choice. is_there (meet choice) && is_at k (meet choice).high) (choices (map (events T) es)) + count_by (list_all (contains (2 * k))) (choices (map (events T) es)) =
+      ≡ count_by (λ choice. is_there (meet choice) && is_at k (meet choice).high)
+      (choices (map (events T) es)) + count_by (list_all (contains (2 * k))) (choices (map (events T) es)) =
       count_split _ _ _ (choices (map (events T) es))
-      (all_weaker (λ choice. IsFilled choice × IsOdd choice) _ _ ends_at_place (all_both _ _ _ (filled T es s) (odds T es i))) in
+      (all_weaker (λ choice. IsFilled choice × IsOdd choice) _ _ ends_at_place
+      (all_both _ _ _ (filled T es s) (odds T es i))) in
       omega (arith, split, all_open es t i, all_present width T wf k l es t)

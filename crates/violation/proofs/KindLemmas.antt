@@ -70,7 +70,8 @@ late_misses StartOf a n i j l h g = late_point a n i l g
 late_misses EndOf a n i j l h g = late_point a n j (omega arith) g
 late_misses Interior a n i j l h g = late_interior a n i j l g
 
-open_interior : (a n i j : ℕ) → n ≤ j → leb (max a (max (2 * i + 1) 0)) (min (2 * n - 1) (2 * n - 1)) ≡ leb (max a (max (2 * i + 1) 0)) (min (2 * j - 1) (2 * n - 1))
+open_interior : (a n i j : ℕ) → n ≤ j → leb (max a (max (2 * i + 1) 0)) (min (2 * n - 1) (2 * n - 1))
+    ≡ leb (max a (max (2 * i + 1) 0)) (min (2 * j - 1) (2 * n - 1))
 open_interior a n i j l = grind (arith, nat_tests)
 
 or_false : (b : Bool) → b ≡ (b || false)
@@ -78,7 +79,8 @@ or_false true = refl
 or_false false = refl
 
 -- an event in the prefix meets them exactly where the whole one does
-cut_meets : (part : Part) (a n i j : ℕ) → i < j → 1 ≤ a → list_any (meets a n) (event_begun n part (i, cut n (Some j))) ≡ (meets a n (event part (i, j)) || false)
+cut_meets : (part : Part) (a n i j : ℕ) → i < j → 1 ≤ a
+    → list_any (meets a n) (event_begun n part (i, cut n (Some j))) ≡ (meets a n (event part (i, j)) || false)
 cut_meets StartOf a n i j h g = refl
 cut_meets EndOf a n i j h g = ⊎_elim
     (λ l. rw (lt-ltb j n l) refl)
@@ -89,7 +91,8 @@ cut_meets Interior a n i j h g = ⊎_elim
     (λ l. rw (le-ltb j n l) (ap (λ b. b || false) (open_interior a n i j l)))
     (cases_lt j n)
 
-own_meets : (part : Part) (a n i : ℕ) (o : Option ℕ) → is_some o ≡ true → AllByRecursion (λ c. (c.0 ≡ i) × (suc i ≤ c.1)) (pair_to i o) → 1 ≤ a
+own_meets : (part : Part) (a n i : ℕ) (o : Option ℕ) → is_some o ≡ true
+    → AllByRecursion (λ c. (c.0 ≡ i) × (suc i ≤ c.1)) (pair_to i o) → 1 ≤ a
     → list_any (meets a n) (event_begun n part (i, cut n o)) ≡ list_any (meets a n) (map (event part) (pair_to i o))
 own_meets part a n i None s h g = absurd (false≢true s)
 own_meets part a n i (Some j) s h g = cut_meets part a n i j (omega (arith, h.0.1)) g
@@ -99,38 +102,51 @@ map_append f [] ys = refl
 map_append f (x ∷ xs) ys = ap (λ zs. f x ∷ zs) (map_append f xs ys)
 
 prefix_meets : (part : Part) (a n : ℕ) → 1 ≤ a → (b : Bool) (i q : ℕ) (w : List Sym) → n ≡ i + q → runs b w ≡ true
-    → list_any (meets a n) (flat_map (event_begun n part) (begun_from i (take q w))) ≡ list_any (meets a n) (map (event part) (constituents_from i w))
+    → list_any (meets a n) (flat_map (event_begun n part) (begun_from i (take q w)))
+    ≡ list_any (meets a n) (map (event part) (constituents_from i w))
 prefix_meets part a n g b i zero w e r =
     sym (any_none (meets a n) _ (all_map (λ x. meets a n x ≡ false) (event part) (constituents_from i w)
     (all_weaker _ _ _ (λ c h. late_misses part a n c.0 c.1 (omega (arith, h.0)) h.1 g) (constituents_late i w))))
 prefix_meets part a n g b i (suc q) [] e r = refl
 prefix_meets part a n g b i (suc q) (s ∷ w) e r =
-    by_symbol s (and_parts (fits b s) (runs (opens s) w) r).1 (λ c h. prefix_meets part a n g c (suc i) q w (omega arith) h)
+    by_symbol s (and_parts (fits b s) (runs (opens s) w) r).1
+    (λ c h. prefix_meets part a n g c (suc i) q w (omega arith) h)
   where
     own_start : runs true w ≡ true
-        → list_any (meets a n) (flat_map (event_begun n part) (begun_from (suc i) (take q w))) ≡ list_any (meets a n) (map (event part) (constituents_from (suc i) w))
-        → list_any (meets a n) (event_begun n part (i, next_end (suc i) (take q w)) ++ flat_map (event_begun n part) (begun_from (suc i) (take q w)))
+        → list_any (meets a n) (flat_map (event_begun n part) (begun_from (suc i) (take q w)))
+        ≡ list_any (meets a n) (map (event part) (constituents_from (suc i) w))
+        → list_any (meets a n) (event_begun n part (i, next_end (suc i) (take q w))
+        ++ flat_map (event_begun n part) (begun_from (suc i) (take q w)))
         ≡ list_any (meets a n) (map (event part) (pair_to i (next_end (suc i) w) ++ constituents_from (suc i) w))
     own_start h rest =
         list_any-append (meets a n) (event_begun n part (i, next_end (suc i) (take q w))) _
-        ∙ ap (λ o. list_any (meets a n) (event_begun n part (i, o)) || list_any (meets a n) (flat_map (event_begun n part) (begun_from (suc i) (take q w)))) (next_end_take n (suc i) q w (omega arith))
+        ∙ ap (λ o. list_any (meets a n) (event_begun n part (i, o)) || list_any (meets a n)
+        (flat_map (event_begun n part) (begun_from (suc i) (take q w))))
+        (next_end_take n (suc i) q w (omega arith))
         ∙ ap (λ b. b || list_any (meets a n) (flat_map (event_begun n part) (begun_from (suc i) (take q w))))
         (own_meets part a n i (next_end (suc i) w) (runs_end (suc i) w h) (next_end_late i (suc i) w (omega arith)) g)
         ∙ ap (λ b. list_any (meets a n) (map (event part) (pair_to i (next_end (suc i) w))) || b) rest
-        ∙ sym (list_any-append (meets a n) (map (event part) (pair_to i (next_end (suc i) w))) (map (event part) (constituents_from (suc i) w)))
-        ∙ ap (list_any (meets a n)) (sym (map_append (event part) (pair_to i (next_end (suc i) w)) (constituents_from (suc i) w)))
+        ∙ sym (list_any-append (meets a n) (map (event part) (pair_to i (next_end (suc i) w)))
+        (map (event part) (constituents_from (suc i) w)))
+        ∙ ap (list_any (meets a n)) (sym
+        (map_append (event part) (pair_to i (next_end (suc i) w)) (constituents_from (suc i) w)))
 
     by_symbol : (s : Sym) → runs (opens s) w ≡ true
-        → ((c : Bool) → runs c w ≡ true → list_any (meets a n) (flat_map (event_begun n part) (begun_from (suc i) (take q w))) ≡ list_any (meets a n) (map (event part) (constituents_from (suc i) w)))
-        → list_any (meets a n) (flat_map (event_begun n part) (cond (starts s) ((i, next_end (suc i) (take q w)) ∷ []) [] ++ begun_from (suc i) (take q w)))
-        ≡ list_any (meets a n) (map (event part) (cond (starts s) (pair_to i (next_end (suc i) w)) [] ++ constituents_from (suc i) w))
+        → ((c : Bool) → runs c w ≡ true → list_any (meets a n)
+        (flat_map (event_begun n part) (begun_from (suc i) (take q w)))
+        ≡ list_any (meets a n) (map (event part) (constituents_from (suc i) w)))
+        → list_any (meets a n) (flat_map (event_begun n part)
+        (cond (starts s) ((i, next_end (suc i) (take q w)) ∷ []) [] ++ begun_from (suc i) (take q w)))
+        ≡ list_any (meets a n) (map (event part)
+        (cond (starts s) (pair_to i (next_end (suc i) w)) [] ++ constituents_from (suc i) w))
     by_symbol Outside h rest = rest false h
     by_symbol Inside h rest = rest true h
     by_symbol End h rest = rest false h
     by_symbol Start h rest = own_start h (rest true h)
     by_symbol Both h rest = own_start h (rest true h)
 
-last_take : (test : List Sym → Bool) (T : List (List Sym)) (m n : ℕ) → n ≤ m → last_where test (take m T) n ≡ last_where test T n
+last_take : (test : List Sym → Bool) (T : List (List Sym)) (m n : ℕ) → n ≤ m
+    → last_where test (take m T) n ≡ last_where test T n
 last_take test T m zero l = refl
 last_take test T m (suc n) l =
     let at : get_or (take m T) n [] ≡ get_or T n [] = get_or-take m T n [] (omega arith) in
@@ -142,31 +158,41 @@ module _ (width : ℕ) (T : List (List Sym)) (wf : IsWellFormed width T) (n : �
 
   pub open_in_prefix : (t : ℕ) → t < width → is_open (word (take n T) t) ≡ open_at false (word T t) n
   open_in_prefix t g =
-      ap is_open (take_word T n t) ∙ prefix_open (word T t) n (runs_from_well_formed (word T t) (wf.each_tier t g)) (omega (arith, length_word t))
+      ap is_open (take_word T n t) ∙ prefix_open (word T t) n (runs_from_well_formed (word T t) (wf.each_tier t g))
+      (omega (arith, length_word t))
 
   -- the prefix alone tells whether a span that ends with it is met
-  pub met_in_prefix : (right : List Event) → AreTiersBelow width right → (a : ℕ) → 1 ≤ a → is_met_in (take n T) right (span a n) ≡ is_met T right (span a n)
+  pub met_in_prefix : (right : List Event) → AreTiersBelow width right → (a : ℕ) → 1 ≤ a
+      → is_met_in (take n T) right (span a n) ≡ is_met T right (span a n)
   met_in_prefix right t a g =
       any_agree _ _ right
       (all_weaker (λ e. e.tier < width) _ right
       (λ e b.
-      ap (λ m. list_any (meets a n) (flat_map (event_begun m e.part) (begun_from 0 (word (take n T) e.tier)))) (length-take-le n T l)
+      ap (λ m. list_any (meets a n) (flat_map (event_begun m e.part) (begun_from 0 (word (take n T) e.tier))))
+      (length-take-le n T l)
       ∙ ap (λ w. list_any (meets a n) (flat_map (event_begun n e.part) (begun_from 0 w))) (take_word T n e.tier)
-      ∙ prefix_meets e.part a n g false 0 n (word T e.tier) (omega arith) (runs_from_well_formed (word T e.tier) (wf.each_tier e.tier b)))
+      ∙ prefix_meets e.part a n g false 0 n (word T e.tier) (omega arith)
+      (runs_from_well_formed (word T e.tier) (wf.each_tier e.tier b)))
       t)
 
   -- the phase of a prefix, read from the whole timeline
   pub phase_is : (left right : List Event) → AreTiersBelow width left → AreTiersBelow width right
-      → phase left right (take n T) ≡ cond (list_all (open_before T n) left) (cond (is_met T right (stretch T left n)) met unmet) closed
+      → phase left right (take n T) ≡ cond (list_all (open_before T n) left)
+      (cond (is_met T right (stretch T left n)) met unmet) closed
   phase_is left right a b =
       let size : length (take n T) ≡ n = length-take-le n T l in
       let last : last_where (edge_among left) (take n T) (length (take n T)) ≡ last_where (edge_among left) T n =
       ap (last_where (edge_among left) (take n T)) size ∙ last_take (edge_among left) T n n (omega arith) in
       let open_all : list_all (λ e. is_open (word (take n T) e.tier)) left ≡ list_all (open_before T n) left =
       all_agree _ _ left (all_weaker (λ e. e.tier < width) _ left (λ e h. open_in_prefix e.tier h) a) in
-      let met_so : is_met_in (take n T) right (span (2 * last_where (edge_among left) (take n T) (length (take n T)) + 1) (length (take n T))) ≡ is_met T right (stretch T left n) =
-      ap (λ (m : ℕ). is_met_in (take n T) right (span (2 * last_where (edge_among left) (take n T) (length (take n T)) + 1) m)) size
+      let met_so : is_met_in (take n T) right
+      (span (2 * last_where (edge_among left) (take n T) (length (take n T)) + 1) (length (take n T)))
+      ≡ is_met T right (stretch T left n) =
+      ap (λ (m : ℕ). is_met_in (take n T) right
+      (span (2 * last_where (edge_among left) (take n T) (length (take n T)) + 1) m)) size
       ∙ ap (λ (s : ℕ). is_met_in (take n T) right (span (2 * s + 1) n)) last
       ∙ met_in_prefix right b (2 * last_where (edge_among left) T n + 1) (omega arith) in
-      ap (λ c. cond c (cond (is_met_in (take n T) right (span (2 * last_where (edge_among left) (take n T) (length (take n T)) + 1) (length (take n T)))) met unmet) closed) open_all
+      ap (λ c. cond c (cond (is_met_in (take n T) right
+      (span (2 * last_where (edge_among left) (take n T) (length (take n T)) + 1)
+      (length (take n T)))) met unmet) closed) open_all
       ∙ ap (λ c. cond (list_all (open_before T n) left) (cond c met unmet) closed) met_so

@@ -21,27 +21,34 @@ same_vector [] (y ∷ b) e = absurd (false≢true (ap is_eq e))
 same_vector (x ∷ a) [] e = absurd (false≢true (ap is_eq e))
 same_vector (x ∷ a) (y ∷ b) e = go (nat_cmp x y) (ranked x y (nat_cmp x y) refl) (same_vector a b) e
   where
-    go : (o : Ordering) → MatchOrdering o (x < y) (x ≡ y) (y < x) → (vec_cmp a b ≡ Equal → a ≡ b) → ordering_then o (vec_cmp a b) ≡ Equal → x ∷ a ≡ y ∷ b
+    go : (o : Ordering) → MatchOrdering o (x < y) (x ≡ y) (y < x) → (vec_cmp a b ≡ Equal → a ≡ b)
+        → ordering_then o (vec_cmp a b) ≡ Equal → x ∷ a ≡ y ∷ b
     go Less m rest e = absurd (false≢true (ap is_eq e))
     go Greater m rest e = absurd (false≢true (ap is_eq e))
     go Equal m rest e = ap (λ n. n ∷ a) m ∙ ap (λ ns. y ∷ ns) (rest e)
 
 module _ (problem : Problem) where
   whole : (T : List (List Sym)) → take (last_stage problem) (counts_on problem T) ≡ counts_on problem T
-  whole T = take_all (last_stage problem) (counts_on problem T) (omega (arith, length-map problem.constraints (λ c. violations_of c T)))
+  whole T = take_all (last_stage problem) (counts_on problem T)
+      (omega (arith, length-map problem.constraints (λ c. violations_of c T)))
 
   -- the optimal candidates share their vector
-  one_vector : (T U : List (List Sym)) → IsOptimal problem T → IsOptimal problem U → counts_on problem T ≡ counts_on problem U
+  pub one_vector : (T U : List (List Sym)) → IsOptimal problem T → IsOptimal problem U
+      → counts_on problem T ≡ counts_on problem U
   one_vector T U t v =
       let n : ℕ = last_stage problem in
-      sym (whole T) ∙ same_vector (take n (counts_on problem T)) (take n (counts_on problem U)) (both_equal (take n (counts_on problem T)) (take n (counts_on problem U)) (t.least U v.candidate) (v.least T t.candidate)) ∙ whole U
+      sym (whole T) ∙ same_vector (take n (counts_on problem T)) (take n (counts_on problem U))
+      (both_equal (take n (counts_on problem T)) (take n (counts_on problem U)) (t.least U v.candidate)
+      (v.least T t.candidate)) ∙ whole U
 
   pub vector_of_numbers : (T : List (List Sym)) (v : List ℕ) → IsOptimal problem T → length v ≡ last_stage problem
       → ((r : ℕ) → 1 ≤ r → r ≤ last_stage problem → count_at problem r T ≡ get_or v (r - 1) 0) → IsLeastVector problem v
   vector_of_numbers T v opt size numbers =
-      let long : length (counts_on problem T) ≡ last_stage problem = length-map problem.constraints (λ c. violations_of c T) in
+      let long : length (counts_on problem T)
+      ≡ last_stage problem = length-map problem.constraints (λ c. violations_of c T) in
       let at : (i : ℕ) → i < length (counts_on problem T) → get_or (counts_on problem T) i 0 ≡ get_or v i 0 =
-      λ i l. (let back : suc i - 1 ≡ i = omega arith in ap (λ (j : ℕ). get_or (counts_on problem T) j 0) (sym back) ∙ numbers (suc i) (omega arith) (omega arith) ∙ ap (λ (j : ℕ). get_or v j 0) back) in
+      λ i l. (let back : suc i - 1 ≡ i = omega arith in ap (λ (j : ℕ). get_or (counts_on problem T) j 0) (sym back)
+      ∙ numbers (suc i) (omega arith) (omega arith) ∙ ap (λ (j : ℕ). get_or v j 0) back) in
       let same : counts_on problem T ≡ v = ext_get_or 0 (counts_on problem T) v (omega arith) at in
       record {
         some = (T, (opt, same));

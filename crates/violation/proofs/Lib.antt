@@ -25,3 +25,4 @@ pub mod CutLemmas
 pub mod WalkSums
 pub mod CandidateLemmas
 pub mod ExampleLemmas
+pub mod RestLemmas

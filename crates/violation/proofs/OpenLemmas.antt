@@ -23,7 +23,8 @@ reads_take b (s ∷ w) (suc n) r =
     let parts : (fits b s ≡ true) × (runs (opens s) w ≡ true) = and_parts _ _ r in
     and_from _ _ parts.0 (reads_take (opens s) w n parts.1)
 
-pub open_read : (b : Bool) (w : List Sym) → reads b w ≡ true → ((b && not (list_any ends w)) || is_open w) ≡ open_at b w (length w)
+pub open_read : (b : Bool) (w : List Sym) → reads b w ≡ true
+    → ((b && not (list_any ends w)) || is_open w) ≡ open_at b w (length w)
 open_read true [] r = refl
 open_read false [] r = refl
 open_read true (Outside ∷ w) r = absurd (false≢true r)
@@ -37,7 +38,8 @@ open_read false (Start ∷ w) r = open_read true w r
 open_read false (End ∷ w) r = absurd (false≢true r)
 open_read false (Both ∷ w) r = absurd (false≢true r)
 
-pub open_at_take : (b : Bool) (w : List Sym) (n : ℕ) → n ≤ length w → open_at b (take n w) (length (take n w)) ≡ open_at b w n
+pub open_at_take : (b : Bool) (w : List Sym) (n : ℕ) → n ≤ length w
+    → open_at b (take n w) (length (take n w)) ≡ open_at b w n
 open_at_take b w zero l = refl
 open_at_take b [] (suc n) l = absurd (omega arith)
 open_at_take b (s ∷ w) (suc n) l = open_at_take (opens s) w n (omega arith)
@@ -55,11 +57,13 @@ and_assoc false b c = refl
 
 pub runs_append : (b : Bool) (p q : List Sym) → runs b (p ++ q) ≡ (reads b p && runs (open_at b p (length p)) q)
 runs_append b [] q = refl
-runs_append b (s ∷ p) q = ap (λ r. fits b s && r) (runs_append (opens s) p q) ∙ and_assoc (fits b s) (reads (opens s) p) (runs (open_at (opens s) p (length p)) q)
+runs_append b (s ∷ p) q = ap (λ r. fits b s && r) (runs_append (opens s) p q)
+    ∙ and_assoc (fits b s) (reads (opens s) p) (runs (open_at (opens s) p (length p)) q)
 
 pub reads_append : (b : Bool) (p q : List Sym) → reads b (p ++ q) ≡ (reads b p && reads (open_at b p (length p)) q)
 reads_append b [] q = refl
-reads_append b (s ∷ p) q = ap (λ r. fits b s && r) (reads_append (opens s) p q) ∙ and_assoc (fits b s) (reads (opens s) p) (reads (open_at (opens s) p (length p)) q)
+reads_append b (s ∷ p) q = ap (λ r. fits b s && r) (reads_append (opens s) p q)
+    ∙ and_assoc (fits b s) (reads (opens s) p) (reads (open_at (opens s) p (length p)) q)
 
 -- after one more symbol
 pub open_more : (b : Bool) (w : List Sym) (s : Sym) → open_at b (w ++ s ∷ []) (length (w ++ s ∷ [])) ≡ opens s
@@ -73,8 +77,10 @@ runs_closed b (s ∷ w) r = runs_closed (opens s) w (and_parts _ _ r).1
 
 pub runs_reads : (b : Bool) (w : List Sym) → runs b w ≡ true → reads b w ≡ true
 runs_reads b [] r = refl
-runs_reads b (s ∷ w) r = and_from _ _ (and_parts (fits b s) (runs (opens s) w) r).0 (runs_reads (opens s) w (and_parts (fits b s) (runs (opens s) w) r).1)
+runs_reads b (s ∷ w) r = and_from _ _ (and_parts (fits b s) (runs (opens s) w) r).0
+    (runs_reads (opens s) w (and_parts (fits b s) (runs (opens s) w) r).1)
 
 pub runs_from_reads : (b : Bool) (w : List Sym) → reads b w ≡ true → open_at b w (length w) ≡ false → runs b w ≡ true
 runs_from_reads b [] r c = not_from_false b c
-runs_from_reads b (s ∷ w) r c = and_from _ _ (and_parts (fits b s) (reads (opens s) w) r).0 (runs_from_reads (opens s) w (and_parts (fits b s) (reads (opens s) w) r).1 c)
+runs_from_reads b (s ∷ w) r c = and_from _ _ (and_parts (fits b s) (reads (opens s) w) r).0
+    (runs_from_reads (opens s) w (and_parts (fits b s) (reads (opens s) w) r).1 c)

@@ -22,30 +22,45 @@ stays_open false Start f e = absurd (false≢true (sym e))
 stays_open false End f e = absurd (false≢true f)
 stays_open false Both f e = absurd (false≢true f)
 
-no_edge_at : (inputs : List ℕ) (column : List Sym) (j : ℕ) → j < length inputs → has_edge (map (symbol column) inputs) ≡ false → is_edge (symbol column (get_or inputs j 0)) ≡ false
+no_edge_at : (inputs : List ℕ) (column : List Sym) (j : ℕ) → j < length inputs
+    → has_edge (map (symbol column) inputs) ≡ false → is_edge (symbol column (get_or inputs j 0)) ≡ false
 no_edge_at inputs column j l h =
-    false_from_ne_true _ (λ e. false≢true (sym h ∙ list_any_at is_edge (map (symbol column) inputs) j Outside (omega (arith, length-map inputs (symbol column)))
+    false_from_ne_true _ (λ e. false≢true
+    (sym h ∙ list_any_at is_edge (map (symbol column) inputs) j Outside
+    (omega (arith, length-map inputs (symbol column)))
     (ap is_edge (get_or-map (symbol column) inputs j 0 Outside l) ∙ e)))
 
 -- an input tier is open after a prefix exactly where it is open after the squeezed input part
-pub input_open : (inputs : List ℕ) (j : ℕ) → j < length inputs → (b : Bool) (p : List (List Sym)) → reads b (word p (get_or inputs j 0)) ≡ true
-    → open_at b (word (squeeze (project inputs p)) j) (length (squeeze (project inputs p))) ≡ open_at b (word p (get_or inputs j 0)) (length p)
+pub input_open : (inputs : List ℕ) (j : ℕ) → j < length inputs → (b : Bool) (p : List (List Sym))
+    → reads b (word p (get_or inputs j 0)) ≡ true
+    → open_at b (word (squeeze (project inputs p)) j) (length (squeeze (project inputs p)))
+    ≡ open_at b (word p (get_or inputs j 0)) (length p)
 input_open inputs j l b [] r = refl
 input_open inputs j l b (column ∷ p) r =
     by_edge (has_edge (map (symbol column) inputs)) refl (λ d h. input_open inputs j l d p h)
   where
-    parts : (fits b (symbol column (get_or inputs j 0)) ≡ true) × (reads (opens (symbol column (get_or inputs j 0))) (word p (get_or inputs j 0)) ≡ true)
+    parts : (fits b (symbol column (get_or inputs j 0)) ≡ true) ×
+        (reads (opens (symbol column (get_or inputs j 0))) (word p (get_or inputs j 0)) ≡ true)
     parts = and_parts _ _ r
 
     by_edge : (e : Bool) → has_edge (map (symbol column) inputs) ≡ e
-        → ((d : Bool) → reads d (word p (get_or inputs j 0)) ≡ true → open_at d (word (squeeze (project inputs p)) j) (length (squeeze (project inputs p))) ≡ open_at d (word p (get_or inputs j 0)) (length p))
-        → open_at b (word (squeeze (project inputs (column ∷ p))) j) (length (squeeze (project inputs (column ∷ p)))) ≡ open_at b (word (column ∷ p) (get_or inputs j 0)) (length (column ∷ p))
+        → ((d : Bool) → reads d (word p (get_or inputs j 0)) ≡ true
+        → open_at d (word (squeeze (project inputs p)) j) (length (squeeze (project inputs p)))
+        ≡ open_at d (word p (get_or inputs j 0)) (length p))
+        → open_at b (word (squeeze (project inputs (column ∷ p))) j) (length (squeeze (project inputs (column ∷ p))))
+        ≡ open_at b (word (column ∷ p) (get_or inputs j 0)) (length (column ∷ p))
     by_edge true e rest =
-        ap (λ (U : List (List Sym)). open_at b (word U j) (length U)) (ap (λ c. cond c (map (symbol column) inputs ∷ squeeze (project inputs p)) (squeeze (project inputs p))) e)
-        ∙ ap (λ s. open_at (opens s) (word (squeeze (project inputs p)) j) (length (squeeze (project inputs p)))) (get_or-map (symbol column) inputs j 0 Outside l)
+        ap (λ (U : List (List Sym)). open_at b (word U j) (length U))
+        (ap (λ c. cond c (map (symbol column) inputs ∷ squeeze (project inputs p))
+        (squeeze (project inputs p))) e)
+        ∙ ap (λ s. open_at (opens s) (word (squeeze (project inputs p)) j) (length (squeeze (project inputs p))))
+        (get_or-map (symbol column) inputs j 0 Outside l)
         ∙ rest (opens (symbol column (get_or inputs j 0))) parts.1
     by_edge false e rest =
-        let same : opens (symbol column (get_or inputs j 0)) ≡ b = stays_open b (symbol column (get_or inputs j 0)) parts.0 (no_edge_at inputs column j l e) in
-        ap (λ (U : List (List Sym)). open_at b (word U j) (length U)) (ap (λ c. cond c (map (symbol column) inputs ∷ squeeze (project inputs p)) (squeeze (project inputs p))) e)
+        let same : opens (symbol column (get_or inputs j 0))
+        ≡ b = stays_open b (symbol column (get_or inputs j 0)) parts.0 (no_edge_at inputs column j l e) in
+        ap (λ (U : List (List Sym)). open_at b (word U j) (length U))
+        (ap (λ c. cond c (map (symbol column) inputs ∷ squeeze (project inputs p))
+        (squeeze (project inputs p))) e)
         ∙ rest b (subst (λ d. reads d (word p (get_or inputs j 0)) ≡ true) same parts.1)
         ∙ ap (λ d. open_at d (word p (get_or inputs j 0)) (length p)) (sym same)

@@ -26,9 +26,11 @@ use Rattle.violation.specs.Problems.{Problem, last_place}
 abbrev pub input_part : Tiers → List (List Sym) → List (List Sym)
 input_part tiers p = squeeze (project tiers.input p)
 
-pub input_append : (tiers : Tiers) (T U : List (List Sym)) → input_part tiers (T ++ U) ≡ input_part tiers T ++ input_part tiers U
+pub input_append : (tiers : Tiers) (T U : List (List Sym))
+    → input_part tiers (T ++ U) ≡ input_part tiers T ++ input_part tiers U
 input_append tiers T U =
-    ap squeeze (map-append (λ column. map (symbol column) tiers.input) T U) ∙ filter-append has_edge (project tiers.input T) (project tiers.input U)
+    ap squeeze (map-append (λ column. map (symbol column) tiers.input) T U)
+    ∙ filter-append has_edge (project tiers.input T) (project tiers.input U)
 
 -- p reads well so far over the tiers, and its squeezed input part begins u
 pub record IsBegun (problem : Problem) (p : List (List Sym)) : Type 0 where
@@ -51,22 +53,29 @@ module _ (problem : Problem) (split : AreSplit problem.tiers) (form : IsForm pro
 
   -- which tiers are open after the first columns of the form
   pub form_is : (p : List (List Sym)) → IsBegun problem p → (j : ℕ) → j < length problem.tiers.input
-      → is_open (word (take (length (input_part problem.tiers p)) problem.form) j) ≡ is_open (word p (get_or problem.tiers.input j 0))
+      → is_open (word (take (length (input_part problem.tiers p)) problem.form) j)
+      ≡ is_open (word p (get_or problem.tiers.input j 0))
   form_is p b j l =
       let t = get_or problem.tiers.input j 0 in
       let place = length (input_part problem.tiers p) in
       let part : reads false (word (take place problem.form) j) ≡ true =
-      ap (reads false) (take_word problem.form place j) ∙ reads_take false (word problem.form j) place (runs_from_well_formed (word problem.form j) (form.well_formed.each_tier j l)) in
+      ap (reads false) (take_word problem.form place j)
+      ∙ reads_take false (word problem.form j) place
+      (runs_from_well_formed (word problem.form j) (form.well_formed.each_tier j l)) in
       ap (λ q. is_open (word q j)) (sym b.place)
       ∙ open_read false (word (input_part problem.tiers p) j) (ap (λ q. reads false (word q j)) b.place ∙ part)
-      ∙ ap (open_at false (word (input_part problem.tiers p) j)) (length-map (input_part problem.tiers p) (λ column. symbol column j))
+      ∙ ap (open_at false (word (input_part problem.tiers p) j))
+      (length-map (input_part problem.tiers p) (λ column. symbol column j))
       ∙ input_open problem.tiers.input j l false p (b.read t (input_below j l))
       ∙ sym (ap (open_at false (word p t)) (length-map p (λ column. symbol column t)))
       ∙ sym (open_read false (word p t) (b.read t (input_below j l)))
 
-  form_opened_is : (p : List (List Sym)) → IsBegun problem p → form_opened problem.tiers problem.form (length (input_part problem.tiers p)) ≡ map (λ t. is_open (word p t)) problem.tiers.input
+  form_opened_is : (p : List (List Sym)) → IsBegun problem p
+      → form_opened problem.tiers problem.form (length (input_part problem.tiers p))
+      ≡ map (λ t. is_open (word p t)) problem.tiers.input
   form_opened_is p b =
-      sym (fill_by_all (λ j. is_open (word (take (length (input_part problem.tiers p)) problem.form) j)) (map (λ t. is_open (word p t)) problem.tiers.input) (length problem.tiers.input) false
+      sym (fill_by_all (λ j. is_open (word (take (length (input_part problem.tiers p)) problem.form) j))
+      (map (λ t. is_open (word p t)) problem.tiers.input) (length problem.tiers.input) false
       (length-map problem.tiers.input (λ t. is_open (word p t)))
       (λ j l. get_or-map (λ t. is_open (word p t)) problem.tiers.input j 0 false l ∙ sym (form_is p b j l)))
 
@@ -74,10 +83,19 @@ module _ (problem : Problem) (split : AreSplit problem.tiers) (form : IsForm pro
   pub tier_open_is : (r : ℕ) (p : List (List Sym)) → IsBegun problem p → (t : ℕ) → t < problem.tiers.width
       → is_tier_open problem (kind_of problem r p) t ≡ is_open (word p t)
   tier_open_is r p b t l =
-      ap (λ flags. flag_of problem.tiers.input flags t || flag_of problem.tiers.free (map (λ t. is_open (word p t)) problem.tiers.free) t) (form_opened_is p b)
+      ap (λ flags. flag_of problem.tiers.input flags t || flag_of problem.tiers.free
+      (map (λ t. is_open (word p t)) problem.tiers.free) t) (form_opened_is p b)
       ∙ ⊎_elim
-      (λ c. rw (flag_in (λ t. is_open (word p t)) problem.tiers.input t c, flag_out problem.tiers.free (map (λ t. is_open (word p t)) problem.tiers.free) t (λ d. split.apart t c d)) (or_none (is_open (word p t))))
-      (λ d. rw (flag_in (λ t. is_open (word p t)) problem.tiers.free t d, flag_out problem.tiers.input (map (λ t. is_open (word p t)) problem.tiers.input) t (λ c. split.apart t c d)) refl)
+      (λ c. rw (
+        flag_in (λ t. is_open (word p t)) problem.tiers.input t c,
+        flag_out problem.tiers.free (map (λ t. is_open (word p t)) problem.tiers.free) t (λ d. split.apart t c d),
+      )
+      (or_none (is_open (word p t))))
+      (λ d. rw (
+        flag_in (λ t. is_open (word p t)) problem.tiers.free t d,
+        flag_out problem.tiers.input (map (λ t. is_open (word p t)) problem.tiers.input) t
+            (λ c. split.apart t c d),
+      ) refl)
       (split.each t l)
     where
       or_none : (b : Bool) → (b || false) ≡ b
@@ -86,31 +104,45 @@ module _ (problem : Problem) (split : AreSplit problem.tiers) (form : IsForm pro
 
   -- one column more, where its symbols fit
   pub begun_more : (p : List (List Sym)) (column : List Sym) → IsBegun problem p
-      → length column ≡ problem.tiers.width → ((t : ℕ) → t < problem.tiers.width → fits (is_open (word p t)) (symbol column t) ≡ true) → IsTrue (has_edge column)
-      → (has_edge (input_of problem.tiers column) ≡ false) ⊎ ((length (input_part problem.tiers p) < last_place problem) × (input_of problem.tiers column ≡ column_at problem.form (length (input_part problem.tiers p))))
+      → length column ≡ problem.tiers.width
+      → ((t : ℕ) → t < problem.tiers.width → fits (is_open (word p t)) (symbol column t) ≡ true)
+      → IsTrue (has_edge column)
+      → (has_edge (input_of problem.tiers column) ≡ false) ⊎
+      ((length (input_part problem.tiers p) < last_place problem) ×
+      (input_of problem.tiers column ≡ column_at problem.form (length (input_part problem.tiers p))))
       → IsBegun problem (p ++ column ∷ [])
   begun_more p column b width symbols edge input = record {
     one_width = all_append _ p (column ∷ []) b.one_width (width, tt);
     read = λ t l.
         ap (reads false) (map-append (λ column. symbol column t) p (column ∷ []))
         ∙ reads_append false (word p t) (symbol column t ∷ [])
-        ∙ and_from _ _ (b.read t l) (and_from _ _ (ap (λ o. fits o (symbol column t)) (sym (open_read false (word p t) (b.read t l))) ∙ symbols t l) refl);
+        ∙ and_from _ _ (b.read t l) (and_from _ _
+        (ap (λ o. fits o (symbol column t)) (sym (open_read false (word p t) (b.read t l))) ∙ symbols t l) refl);
     reduced = all_append _ p (column ∷ []) b.reduced (edge, tt);
     place = by_edge (has_edge (input_of problem.tiers column)) refl input;
   }
     where
       by_edge : (e : Bool) → has_edge (input_of problem.tiers column) ≡ e
-          → (has_edge (input_of problem.tiers column) ≡ false) ⊎ ((length (input_part problem.tiers p) < last_place problem) × (input_of problem.tiers column ≡ column_at problem.form (length (input_part problem.tiers p))))
-          → input_part problem.tiers (p ++ column ∷ []) ≡ take (length (input_part problem.tiers (p ++ column ∷ []))) problem.form
+          → (has_edge (input_of problem.tiers column) ≡ false) ⊎
+          ((length (input_part problem.tiers p) < last_place problem) ×
+          (input_of problem.tiers column ≡ column_at problem.form (length (input_part problem.tiers p))))
+          → input_part problem.tiers (p ++ column ∷ [])
+          ≡ take (length (input_part problem.tiers (p ++ column ∷ []))) problem.form
       by_edge false e i =
           let same : input_part problem.tiers (p ++ column ∷ []) ≡ input_part problem.tiers p =
-          input_append problem.tiers p (column ∷ []) ∙ ap (λ c. input_part problem.tiers p ++ cond c (input_of problem.tiers column ∷ []) []) e ∙ append-nil (input_part problem.tiers p) in
+          input_append problem.tiers p (column ∷ [])
+          ∙ ap (λ c. input_part problem.tiers p ++ cond c (input_of problem.tiers column ∷ []) []) e
+          ∙ append-nil (input_part problem.tiers p) in
           same ∙ b.place ∙ ap (λ q. take (length q) problem.form) (sym same)
       by_edge true e (inl f) = absurd (false≢true (sym f ∙ e))
       by_edge true e (inr i) =
-          let more : input_part problem.tiers (p ++ column ∷ []) ≡ input_part problem.tiers p ++ input_of problem.tiers column ∷ [] =
-          input_append problem.tiers p (column ∷ []) ∙ ap (λ c. input_part problem.tiers p ++ cond c (input_of problem.tiers column ∷ []) []) e in
-          let size : length (input_part problem.tiers (p ++ column ∷ [])) ≡ length (input_part problem.tiers p) + 1 = ap length more ∙ length_push (input_part problem.tiers p) (input_of problem.tiers column) in
+          let more : input_part problem.tiers (p ++ column ∷ []) ≡ input_part problem.tiers p
+          ++ input_of problem.tiers column ∷ [] =
+          input_append problem.tiers p (column ∷ [])
+          ∙ ap (λ c. input_part problem.tiers p ++ cond c (input_of problem.tiers column ∷ []) []) e in
+          let size : length (input_part problem.tiers (p ++ column ∷ []))
+          ≡ length (input_part problem.tiers p) + 1 = ap length more
+          ∙ length_push (input_part problem.tiers p) (input_of problem.tiers column) in
           more
           ∙ ap (λ c. input_part problem.tiers p ++ c ∷ []) i.1
           ∙ ap (λ q. q ++ column_at problem.form (length (input_part problem.tiers p)) ∷ []) b.place

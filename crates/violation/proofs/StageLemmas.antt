@@ -18,7 +18,8 @@ pub all_optimal : (problem : Problem) (T : List (List Sym)) → IsCandidate prob
 all_optimal problem T c = record { candidate = c; least = λ U d. refl }
 
 -- what is optimal for more constraints is so for fewer
-pub optimal_for_fewer : (problem : Problem) (n m : ℕ) → n ≤ m → (T : List (List Sym)) → IsOptimalFor problem m T → IsOptimalFor problem n T
+pub optimal_for_fewer : (problem : Problem) (n m : ℕ) → n ≤ m → (T : List (List Sym)) → IsOptimalFor problem m T
+    → IsOptimalFor problem n T
 optimal_for_fewer problem n m l T opt = record {
   candidate = opt.candidate;
   least = λ U c. at_most_fewer n m (counts_on problem T) (counts_on problem U) l (opt.least U c);
@@ -26,9 +27,13 @@ optimal_for_fewer problem n m l T opt = record {
 
 module _ (problem : Problem) (r : ℕ) (stage : IsStage problem r) where
   pub over_first : AllByRecursion (IsOverTiers problem.tiers.width) (take r problem.constraints)
-  over_first = recursion_from_All (IsOverTiers problem.tiers.width) (take r problem.constraints) (All-take (IsOverTiers problem.tiers.width) r problem.constraints (All-from_recursion (IsOverTiers problem.tiers.width) problem.constraints stage.over))
+  over_first = recursion_from_All (IsOverTiers problem.tiers.width) (take r problem.constraints)
+      (All-take (IsOverTiers problem.tiers.width) r problem.constraints
+      (All-from_recursion (IsOverTiers problem.tiers.width) problem.constraints stage.over))
 
   pub over_stretches : AllByRecursion (IsOverTiers problem.tiers.width) (stretches problem r)
   over_stretches =
       recursion_from_All (IsOverTiers problem.tiers.width) (stretches problem r)
-      (All-filter is_stretch (IsOverTiers problem.tiers.width) (take r problem.constraints) (All-take (IsOverTiers problem.tiers.width) r problem.constraints (All-from_recursion (IsOverTiers problem.tiers.width) problem.constraints stage.over)))
+      (All-filter is_stretch (IsOverTiers problem.tiers.width) (take r problem.constraints)
+      (All-take (IsOverTiers problem.tiers.width) r problem.constraints
+      (All-from_recursion (IsOverTiers problem.tiers.width) problem.constraints stage.over)))

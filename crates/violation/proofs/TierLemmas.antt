@@ -25,12 +25,14 @@ pub contains_later : (x : ℕ) (xs : List ℕ) (t : ℕ) → Contains xs t → C
 contains_later x xs t c = (suc c.0, omega (arith, c.1), c.2)
 
 -- the flag of a tier by its place in the list
-pub flag_at : (xs : List ℕ) (flags : List Bool) (j : ℕ) → AreDistinct xs → j < length xs → flag_of xs flags (get_or xs j 0) ≡ get_or flags j false
+pub flag_at : (xs : List ℕ) (flags : List Bool) (j : ℕ) → AreDistinct xs → j < length xs
+    → flag_of xs flags (get_or xs j 0) ≡ get_or flags j false
 flag_at [] flags j d l = absurd (omega arith)
 flag_at (x ∷ xs) [] j d l = refl
 flag_at (x ∷ xs) (f ∷ fs) zero d l = ap (λ b. cond b f (flag_of xs fs x)) (eq-eqb x x refl)
 flag_at (x ∷ xs) (f ∷ fs) (suc j) d l =
-    ap (λ b. cond b f (flag_of xs fs (get_or xs j 0))) (ne_eqb x (get_or xs j 0) (All-from_recursion (λ t. x ≢ t) xs d.0 j 0 (omega arith)))
+    ap (λ b. cond b f (flag_of xs fs (get_or xs j 0)))
+    (ne_eqb x (get_or xs j 0) (All-from_recursion (λ t. x ≢ t) xs d.0 j 0 (omega arith)))
     ∙ flag_at xs fs j d.1 (omega arith)
 
 -- the flag of one of the tiers, where the flags are told by a function
@@ -51,7 +53,8 @@ flag_out (x ∷ xs) (flag ∷ flags) t n =
     rw (ne_eqb x t other) (flag_out xs flags t (λ c. n (contains_later x xs t c)))
 
 -- where no flag is set, none is found
-pub flag_none : (xs : List ℕ) (flags : List Bool) (t : ℕ) → list_any (λ flag. flag) flags ≡ false → flag_of xs flags t ≡ false
+pub flag_none : (xs : List ℕ) (flags : List Bool) (t : ℕ) → list_any (λ flag. flag) flags ≡ false
+    → flag_of xs flags t ≡ false
 flag_none [] flags t h = refl
 flag_none (x ∷ xs) [] t h = refl
 flag_none (x ∷ xs) (true ∷ flags) t h = absurd (false≢true (sym h))
@@ -67,7 +70,8 @@ given [] column other t = other
 given (x ∷ xs) [] other t = other
 given (x ∷ xs) (s ∷ column) other t = cond (x == t) s (given xs column other t)
 
-pub given_out : (xs : List ℕ) (column : List Sym) (other : Sym) (t : ℕ) → (Contains xs t → ⊥) → given xs column other t ≡ other
+pub given_out : (xs : List ℕ) (column : List Sym) (other : Sym) (t : ℕ) → (Contains xs t → ⊥)
+    → given xs column other t ≡ other
 given_out [] column other t n = refl
 given_out (x ∷ xs) [] other t n = refl
 given_out (x ∷ xs) (s ∷ column) other t n =
@@ -75,12 +79,15 @@ given_out (x ∷ xs) (s ∷ column) other t n =
     rw (ne_eqb x t differ) (given_out xs column other t (λ c. n (contains_later x xs t c)))
 
 -- the tiers of a list have the symbols that they are given
-pub given_in : (xs : List ℕ) (column : List Sym) (other : ℕ → Sym) → AreDistinct xs → length xs ≡ length column → map (λ t. given xs column (other t) t) xs ≡ column
+pub given_in : (xs : List ℕ) (column : List Sym) (other : ℕ → Sym) → AreDistinct xs → length xs ≡ length column
+    → map (λ t. given xs column (other t) t) xs ≡ column
 given_in [] [] other d l = refl
 given_in [] (s ∷ column) other d l = absurd (omega arith)
 given_in (x ∷ xs) [] other d l = absurd (omega arith)
 given_in (x ∷ xs) (s ∷ column) other d l =
-    ap (λ y. y ∷ map (λ t. given (x ∷ xs) (s ∷ column) (other t) t) xs) (ap (λ b. cond b s (given xs column (other x) x)) (eq-eqb x x refl))
+    ap (λ y. y ∷ map (λ t. given (x ∷ xs) (s ∷ column) (other t) t) xs)
+    (ap (λ b. cond b s (given xs column (other x) x)) (eq-eqb x x refl))
     ∙ ap (λ ys. s ∷ ys)
-    (map_agree _ _ xs (all_weaker (λ t. x ≢ t) _ xs (λ t n. ap (λ b. cond b s (given xs column (other t) t)) (ne_eqb x t n)) d.0)
+    (map_agree _ _ xs (all_weaker (λ t. x ≢ t) _ xs
+    (λ t n. ap (λ b. cond b s (given xs column (other t) t)) (ne_eqb x t n)) d.0)
     ∙ given_in xs column other d.1 (omega arith))

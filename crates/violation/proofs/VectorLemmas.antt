@@ -49,12 +49,15 @@ cmp_from_le x y = go (nat_cmp x y) (ranked x y (nat_cmp x y) refl)
     go Greater m l = absurd (omega arith)
 
 -- the first numbers of vectors, and one more
-cmp_more : (i : ℕ) (a b : List ℕ) → i < length a → i < length b → vec_cmp (take (suc i) a) (take (suc i) b) ≡ ordering_then (vec_cmp (take i a) (take i b)) (nat_cmp (get_or a i 0) (get_or b i 0))
+cmp_more : (i : ℕ) (a b : List ℕ) → i < length a → i < length b
+    → vec_cmp (take (suc i) a) (take (suc i) b)
+    ≡ ordering_then (vec_cmp (take i a) (take i b)) (nat_cmp (get_or a i 0) (get_or b i 0))
 cmp_more i [] b l m = absurd (omega arith)
 cmp_more i (x ∷ a) [] l m = absurd (omega arith)
 cmp_more zero (x ∷ a) (y ∷ b) l m = then_equal (nat_cmp x y)
 cmp_more (suc i) (x ∷ a) (y ∷ b) l m =
-    ap (ordering_then (nat_cmp x y)) (cmp_more i a b (omega arith) (omega arith)) ∙ then_assoc (nat_cmp x y) (vec_cmp (take i a) (take i b)) (nat_cmp (get_or a i 0) (get_or b i 0))
+    ap (ordering_then (nat_cmp x y)) (cmp_more i a b (omega arith) (omega arith))
+    ∙ then_assoc (nat_cmp x y) (vec_cmp (take i a) (take i b)) (nat_cmp (get_or a i 0) (get_or b i 0))
 
 -- what is at most another is so by fewer numbers
 pub at_most_fewer : (n m : ℕ) (a b : List ℕ) → n ≤ m → IsAtMost (take m a) (take m b) → IsAtMost (take n a) (take n b)
@@ -82,17 +85,23 @@ equal_at_most a b c e h = sym (ap is_le (nat_list_cmp_total.congr a b c e)) ∙ 
 
 -- The first r numbers, for r from 1 on, are compared by the first r - 1 and then by the last.
 module _ (r : ℕ) (ranked : 1 ≤ r) (a b : List ℕ) (in_a : r ≤ length a) (in_b : r ≤ length b) where
-  last_decides : vec_cmp (take r a) (take r b) ≡ ordering_then (vec_cmp (take (r - 1) a) (take (r - 1) b)) (nat_cmp (get_or a (r - 1) 0) (get_or b (r - 1) 0))
+  last_decides : vec_cmp (take r a) (take r b)
+      ≡ ordering_then (vec_cmp (take (r - 1) a) (take (r - 1) b)) (nat_cmp (get_or a (r - 1) 0) (get_or b (r - 1) 0))
   last_decides =
       let next : r ≡ suc (r - 1) = omega arith in
       ap (λ (n : ℕ). vec_cmp (take n a) (take n b)) next ∙ cmp_more (r - 1) a b (omega arith) (omega arith)
 
-  pub at_most_last : IsAtMost (take r a) (take r b) → vec_cmp (take (r - 1) a) (take (r - 1) b) ≡ Equal → get_or a (r - 1) 0 ≤ get_or b (r - 1) 0
+  pub at_most_last : IsAtMost (take r a) (take r b) → vec_cmp (take (r - 1) a) (take (r - 1) b) ≡ Equal
+      → get_or a (r - 1) 0 ≤ get_or b (r - 1) 0
   at_most_last h e =
       le_from_cmp (get_or a (r - 1) 0) (get_or b (r - 1) 0)
-      (then_second (vec_cmp (take (r - 1) a) (take (r - 1) b)) (nat_cmp (get_or a (r - 1) 0) (get_or b (r - 1) 0)) (ap is_le (sym last_decides) ∙ h) e)
+      (then_second (vec_cmp (take (r - 1) a) (take (r - 1) b)) (nat_cmp (get_or a (r - 1) 0) (get_or b (r - 1) 0))
+      (ap is_le (sym last_decides) ∙ h) e)
 
-  pub at_most_by_last : IsAtMost (take (r - 1) a) (take (r - 1) b) → (vec_cmp (take (r - 1) a) (take (r - 1) b) ≡ Equal → get_or a (r - 1) 0 ≤ get_or b (r - 1) 0) → IsAtMost (take r a) (take r b)
+  pub at_most_by_last : IsAtMost (take (r - 1) a) (take (r - 1) b)
+      → (vec_cmp (take (r - 1) a) (take (r - 1) b) ≡ Equal → get_or a (r - 1) 0 ≤ get_or b (r - 1) 0)
+      → IsAtMost (take r a) (take r b)
   at_most_by_last h k =
       ap is_le last_decides
-      ∙ then_both (vec_cmp (take (r - 1) a) (take (r - 1) b)) (nat_cmp (get_or a (r - 1) 0) (get_or b (r - 1) 0)) h (λ e. cmp_from_le (get_or a (r - 1) 0) (get_or b (r - 1) 0) (k e))
+      ∙ then_both (vec_cmp (take (r - 1) a) (take (r - 1) b)) (nat_cmp (get_or a (r - 1) 0) (get_or b (r - 1) 0)) h
+      (λ e. cmp_from_le (get_or a (r - 1) 0) (get_or b (r - 1) 0) (k e))

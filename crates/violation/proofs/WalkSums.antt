@@ -35,13 +35,16 @@ module _ (problem : Problem) (r : ℕ) (stage : IsStage problem r) where
   abbrev pub walk_cost : ℕ → PrefixKind → List (List Sym) → ℕ
   walk_cost i k p = get_or (walk_costs problem r k p) i 0
 
-  pub walk_step : (i : ℕ) (k : PrefixKind) (column : List Sym) (p : List (List Sym)) → walk_cost i k (column ∷ p) ≡ get_or (move_costs problem r k column) i 0 + walk_cost i (moved problem r k column) p
+  pub walk_step : (i : ℕ) (k : PrefixKind) (column : List Sym) (p : List (List Sym))
+      → walk_cost i k (column ∷ p) ≡ get_or (move_costs problem r k column) i 0 + walk_cost i
+      (moved problem r k column) p
   walk_step i k column p =
       add_at (move_costs problem r k column) (walk_costs problem r (moved problem r k column) p) i
       (length_costs (take r problem.constraints) (is_tier_open problem k) k.phases column
       ∙ sym (length_walk problem r stage.split stage.form (over_first problem r stage) p (moved problem r k column)))
 
-  pub walk_append : (i : ℕ) (p q : List (List Sym)) (k : PrefixKind) → walk_cost i k (p ++ q) ≡ walk_cost i k p + walk_cost i (reached problem r k p) q
+  pub walk_append : (i : ℕ) (p q : List (List Sym)) (k : PrefixKind)
+      → walk_cost i k (p ++ q) ≡ walk_cost i k p + walk_cost i (reached problem r k p) q
   walk_append i [] q k = omega (arith, none_at (take r problem.constraints) i)
   walk_append i (column ∷ p) q k =
       omega (arith, walk_step i k column (p ++ q), walk_step i k column p, walk_append i p q (moved problem r k column))
@@ -51,34 +54,47 @@ module _ (problem : Problem) (r : ℕ) (stage : IsStage problem r) where
     last = omega arith
 
     -- what a candidate violates of constraint r is what its walk costs under it
-    pub violations_walk : (T : List (List Sym)) → IsCandidate problem T → count_at problem r T ≡ walk_cost (r - 1) (kind_of problem r []) T
+    pub violations_walk : (T : List (List Sym)) → IsCandidate problem T
+        → count_at problem r T ≡ walk_cost (r - 1) (kind_of problem r []) T
     violations_walk T c =
         sym (get_or-take r (counts_on problem T) (r - 1) 0 last)
-        ∙ ap (λ (ns : List ℕ). get_or ns (r - 1) 0) (costs_sum problem r stage.split stage.form (over_first problem r stage) T c)
+        ∙ ap (λ (ns : List ℕ). get_or ns (r - 1) 0)
+        (costs_sum problem r stage.split stage.form (over_first problem r stage) T c)
 
     -- from a prefix on, it is what was violated so far and what the rest of the walk costs
     pub violations_on : (p q : List (List Sym)) → IsCandidate problem (p ++ q)
-        → count_at problem r (p ++ q) ≡ count_so_far_at problem r (p ++ q) (length p) + walk_cost (r - 1) (kind_of problem r p) q
+        → count_at problem r (p ++ q) ≡ count_so_far_at problem r (p ++ q) (length p) + walk_cost (r - 1)
+        (kind_of problem r p) q
     violations_on p q c =
         let T : List (List Sym) = p ++ q in
         let so_far : List ℕ = map (λ x. violations_so_far x T (length p)) (take r problem.constraints) in
-        let same : take r (counts_so_far problem T (length p)) ≡ so_far = take-map (λ x. violations_so_far x T (length p)) r problem.constraints in
+        let same : take r (counts_so_far problem T (length p))
+        ≡ so_far = take-map (λ x. violations_so_far x T (length p)) r problem.constraints in
         let cut : get_or so_far (r - 1) 0 ≡ count_so_far_at problem r T (length p) =
-        ap (λ (ns : List ℕ). get_or ns (r - 1) 0) (sym same) ∙ get_or-take r (counts_so_far problem T (length p)) (r - 1) 0 last in
+        ap (λ (ns : List ℕ). get_or ns (r - 1) 0) (sym same)
+        ∙ get_or-take r (counts_so_far problem T (length p)) (r - 1) 0 last in
         sym (get_or-take r (counts_on problem T) (r - 1) 0 last)
         ∙ ap (λ (ns : List ℕ). get_or ns (r - 1) 0) (take-map (λ x. violations_of x T) r problem.constraints)
-        ∙ ap (λ (ns : List ℕ). get_or ns (r - 1) 0) (costs_on problem r stage.split stage.form (over_first problem r stage) q p T refl c)
+        ∙ ap (λ (ns : List ℕ). get_or ns (r - 1) 0)
+        (costs_on problem r stage.split stage.form (over_first problem r stage) q p T refl c)
         ∙ add_at so_far (walk_costs problem r (kind_of problem r p) q) (r - 1) (even q p)
         ∙ ap (λ n. n + walk_cost (r - 1) (kind_of problem r p) q) cut
       where
-        even : (q p : List (List Sym)) → length (map (λ x. violations_so_far x (p ++ q) (length p)) (take r problem.constraints)) ≡ length (walk_costs problem r (kind_of problem r p) q)
-        even q p = length-map (take r problem.constraints) (λ x. violations_so_far x (p ++ q) (length p)) ∙ sym (length_walk problem r stage.split stage.form (over_first problem r stage) q (kind_of problem r p))
+        even : (q p : List (List Sym)) → length
+            (map (λ x. violations_so_far x (p ++ q) (length p)) (take r problem.constraints))
+            ≡ length (walk_costs problem r (kind_of problem r p) q)
+        even q p = length-map (take r problem.constraints) (λ x. violations_so_far x (p ++ q) (length p))
+            ∙ sym (length_walk problem r stage.split stage.form (over_first problem r stage) q (kind_of problem r p))
 
     -- what is violated so far is what the walk costs so far
-    pub so_far_walk : (p q : List (List Sym)) → IsCandidate problem (p ++ q) → count_so_far_at problem r (p ++ q) (length p) ≡ walk_cost (r - 1) (kind_of problem r []) p
+    pub so_far_walk : (p q : List (List Sym)) → IsCandidate problem (p ++ q)
+        → count_so_far_at problem r (p ++ q) (length p) ≡ walk_cost (r - 1) (kind_of problem r []) p
     so_far_walk p q c =
-        let moves : HasMoves problem r (kind_of problem r []) p = candidate_walk problem r stage.split stage.form (over_stretches problem r stage) p [] q c in
-        let parts : walk_cost (r - 1) (kind_of problem r []) (p ++ q) ≡ walk_cost (r - 1) (kind_of problem r []) p + walk_cost (r - 1) (kind_of problem r p) q =
+        let moves : HasMoves problem r (kind_of problem r []) p = candidate_walk problem r stage.split stage.form
+        (over_stretches problem r stage) p [] q c in
+        let parts : walk_cost (r - 1) (kind_of problem r []) (p ++ q)
+        ≡ walk_cost (r - 1) (kind_of problem r []) p + walk_cost (r - 1) (kind_of problem r p) q =
         walk_append (r - 1) p q (kind_of problem r [])
-        ∙ ap (λ k. walk_cost (r - 1) (kind_of problem r []) p + walk_cost (r - 1) k q) (reached_is problem r stage.split stage.form (over_stretches problem r stage) p moves) in
+        ∙ ap (λ k. walk_cost (r - 1) (kind_of problem r []) p + walk_cost (r - 1) k q)
+        (reached_is problem r stage.split stage.form (over_stretches problem r stage) p moves) in
         omega (arith, violations_on p q c, violations_walk (p ++ q) c, parts)

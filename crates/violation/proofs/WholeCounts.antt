@@ -22,7 +22,8 @@ pub so_far_none : (family : Family) (left right : List Event) (T : List (List Sy
 unfolding so_far
 so_far_none family left right T =
     count_none _ _ (all_of _ (choices (map (events T) (chosen family left right)))
-    (λ choice. and_right (counts family right T choice) (ltb (meet choice).high 0) (le-ltb (meet choice).high 0 (omega arith))))
+    (λ choice. and_right (counts family right T choice) (ltb (meet choice).high 0)
+    (le-ltb (meet choice).high 0 (omega arith))))
 
 -- the high end of each event is before the end of the timeline
 event_high : (part : Part) (i j n : ℕ) → i < j → j < n → (event part (i, j)).high < 2 * n - 1
@@ -41,20 +42,23 @@ abbrev pub AreSome : List Event → Type 0
 AreSome [] = ⊥
 AreSome (e ∷ es) = Unit {0}
 
-highs_within : (T : List (List Sym)) (es : List Event) → AreSome es → AllByRecursion (λ choice. least_high choice < 2 * length T - 1) (choices (map (events T) es))
+highs_within : (T : List (List Sym)) (es : List Event) → AreSome es
+    → AllByRecursion (λ choice. least_high choice < 2 * length T - 1) (choices (map (events T) es))
 highs_within T [] h = absurd h
 highs_within T (e ∷ es) h =
     all_flat (λ choice. least_high choice < 2 * length T - 1) (events T e) (choices (map (events T) es))
     (all_weaker (λ x. x.high < 2 * length T - 1) _ _
     (λ x a. all_of _ _ (λ choice. omega (arith, least_from_le x.high choice))) (events_within T e))
 
-pub so_far_whole : (family : Family) (left right : List Event) (T : List (List Sym)) → AreSome (chosen family left right)
+pub so_far_whole : (family : Family) (left right : List Event) (T : List (List Sym))
+    → AreSome (chosen family left right)
     → so_far family left right T (length T) ≡ viol family left right T
 unfolding so_far viol
 so_far_whole family left right T h =
     count_agree _ _ (choices (map (events T) (chosen family left right)))
     (all_weaker (λ choice. least_high choice < 2 * length T - 1) _ _
-    (λ choice a. and_with (counts family right T choice) (ltb (meet choice).high (2 * length T - 1)) (lt-ltb (meet choice).high (2 * length T - 1) a))
+    (λ choice a. and_with (counts family right T choice) (ltb (meet choice).high (2 * length T - 1))
+    (lt-ltb (meet choice).high (2 * length T - 1) a))
     (highs_within T (chosen family left right) h))
   where
     and_with : (a b : Bool) → b ≡ true → (a && b) ≡ a

@@ -1,6 +1,6 @@
 -- Candidates of a form, their violation vectors, and which candidates are optimal.
--- That the candidates of a form are a regular set of timelines is after Ellison, Phonological
--- Derivation in Optimality Theory (COLING 1994); the input part is this project's.
+-- That the candidates of a form are a regular set of timelines goes back to Ellison, Phonological
+-- Derivation in Optimality Theory (COLING 1994); the input part is this project's own.
 use Rattle.std.specs.Prelude.{ℕ, ◌-◌, ◌≡◌, IsTrue, List, length, map, take, slice_index_or}
 use Rattle.std.specs.Ordering.{nat_cmp, is_le}
 use Rattle.std.specs.Cmp.Lexicographic.{slice_cmp}
@@ -12,7 +12,8 @@ use Rattle.tier_core.specs.Timelines.{IsWellFormed, IsReduced, project, squeeze}
 use Rattle.violation.specs.Counts.{violations_of, violations_so_far}
 use Rattle.violation.specs.Problems.{Problem, last_stage}
 
--- the violation vector of a timeline: its violations of each constraint in ranked order, the highest first
+-- the violation vector of a timeline: its violations of each constraint in ranked order, the
+-- highest first
 abbrev pub vec : List Constraint → List (List Sym) → List ℕ
 vec constraints T = map (λ c. violations_of c T) constraints
 
@@ -20,7 +21,8 @@ vec constraints T = map (λ c. violations_of c T) constraints
 abbrev pub vec_so_far : List Constraint → List (List Sym) → ℕ → List ℕ
 vec_so_far constraints T n = map (λ c. violations_so_far c T n) constraints
 
--- what each constraint of a problem counts on a timeline, the highest first, and so far after n columns
+-- what each constraint of a problem counts on a timeline, the highest first, and so far after n
+-- columns
 abbrev pub counts_on : Problem → List (List Sym) → List ℕ
 counts_on problem T = vec problem.constraints T
 
@@ -57,7 +59,8 @@ pub record IsCandidate (problem : Problem) (T : List (List Sym)) : Type 0 where
 -- T is r-optimal: it is a candidate, and its first r counts are at most those of every candidate
 pub record IsOptimalFor (problem : Problem) (r : ℕ) (T : List (List Sym)) : Type 0 where
   pub candidate : IsCandidate problem T
-  pub least : (U : List (List Sym)) → IsCandidate problem U → IsAtMost (take r (counts_on problem T)) (take r (counts_on problem U))
+  pub least : (U : List (List Sym)) → IsCandidate problem U
+      → IsAtMost (take r (counts_on problem T)) (take r (counts_on problem U))
 
 -- T is optimal: it is r-optimal for r the number of constraints
 abbrev pub IsOptimal : Problem → List (List Sym) → Type 0

@@ -1,4 +1,4 @@
--- What one column tells of the types of events.
+-- What one column says about types of events.
 use Rattle.std.specs.Prelude.{Bool, not, ◌&&◌, List, ◌++◌}
 use Rattle.std.specs.List.{list_all, list_any}
 use Rattle.tier_core.specs.declared.sym.Sym.{Sym}
@@ -12,7 +12,7 @@ use Rattle.tier_core.specs.Scan.{opens}
 use Rattle.tier_core.specs.Timelines.{symbol}
 use Rattle.tier_core.specs.Sides.{is_edge_part}
 
--- a start stands at `[` and `|`, an end at `]` and `|`, an interior at `+`
+-- a start is present at `[` and `|`, an end at `]` and `|`, an interior at `+`
 abbrev pub part_present : Part → Sym → Bool
 part_present StartOf s = starts s
 part_present EndOf s = ends s

@@ -1,4 +1,4 @@
--- What calls and lemmas ask of tiers and of the types of events.
+-- What functions and lemmas require of tiers and of types of events.
 use Rattle.std.specs.Prelude.{ℕ, ◌≢◌, ◌<◌, ◌⊎◌, List, [], ◌∷◌, length, All, Contains}
 use Rattle.std.specs.List.{AllByRecursion}
 use Rattle.tier_core.specs.declared.sym.Sym.{Sym}
@@ -29,7 +29,7 @@ pub record IsCountable (left right : List Event) (T : List (List Sym)) : Type 0 
 abbrev pub AreInColumn : List Event → List Sym → Type 0
 AreInColumn types column = All (λ e. e.tier < length column) types
 
--- no tier stands twice in a list
+-- no tier occurs twice in a list
 abbrev pub AreDistinct : List ℕ → Type 0
 AreDistinct [] = Unit {0}
 AreDistinct (t ∷ ts) = AllByRecursion (λ s. t ≢ s) ts × AreDistinct ts

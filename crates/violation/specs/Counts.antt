@@ -1,6 +1,6 @@
 -- What a constraint counts on a timeline: choices of events that have a meet.
--- The two families are after Eisner, Efficient Generation in Primitive Optimality Theory
--- (ACL 1997). That each counts choices, and how, is this project's.
+-- The two families follow Eisner, Efficient Generation in Primitive Optimality Theory (ACL 1997).
+-- That each counts choices, and how, is this project's own.
 use Rattle.std.specs.Prelude.{ℕ, ◌-◌, ◌*◌, Bool, not, ◌&&◌, nat_lt, List, [], ◌∷◌, ◌++◌, map, count_by}
 use Rattle.std.specs.List.{list_any, flat_map}
 use Rattle.tier_core.specs.declared.sym.Sym.{Sym}
@@ -19,13 +19,14 @@ choices (xs ∷ xss) = flat_map (λ x. map (λ choice. x ∷ choice) (choices xs
 abbrev pub is_met : List (List Sym) → List Event → Interval → Bool
 is_met T types m = list_any (λ e. list_any (λ x. is_there (meet (m ∷ x ∷ []))) (events T e)) types
 
--- the types of which one event each is chosen: a clash chooses on both sides, an implication on the left
+-- the types of which one event each is chosen: a clash chooses on both sides, an implication on
+-- the left
 abbrev pub chosen : Family → List Event → List Event → List Event
 chosen Clash left right = left ++ right
 chosen Implication left right = left
 
 -- Whether a choice is counted. A clash counts each choice that has a meet. An implication counts
--- each that has a meet which no event of a right type meets.
+-- each that has a meet that no event of a right type meets.
 abbrev pub counts : Family → List Event → List (List Sym) → List Interval → Bool
 counts Clash right T choice = is_there (meet choice)
 counts Implication right T choice = is_there (meet choice) && not (is_met T right (meet choice))

@@ -30,14 +30,17 @@ pieces (b ∷ text) = if b == 32 then [] ∷ pieces text else onto b (pieces tex
 abbrev pub read_syms : List ℕ → List Sym
 read_syms text = map (λ b. unwrap_or (sym_of b) Outside) text
 
--- the timeline of a text such as `[- ]-`: its columns, with one space between two. It also reads words, one beside the other.
+-- the timeline of a text such as `[- ]-`: its columns, with one space between two. It also reads
+-- words, one beside the other.
 abbrev pub timeline : List ℕ → List (List Sym)
 timeline text = map read_syms (pieces text)
 
 -- the type of events of a text such as `[a`, `]a` or `a`, where each tier has a name of one byte
 abbrev pub event_of : List ℕ → List ℕ → Event
 event_of names [] = record { tier = 0; part = Interior }
-event_of names (b ∷ text) = if b == 91 then record { tier = tier_of text; part = StartOf } else (if b == 93 then record { tier = tier_of text; part = EndOf } else record { tier = tier_of (b ∷ text); part = Interior })
+event_of names (b ∷ text) = if b == 91 then record { tier = tier_of text; part = StartOf } else
+    (if b == 93 then record { tier = tier_of text; part = EndOf } else record
+    { tier = tier_of (b ∷ text); part = Interior })
   where
     tier_of : List ℕ → ℕ
     tier_of [] = 0
@@ -47,7 +50,8 @@ event_of names (b ∷ text) = if b == 91 then record { tier = tier_of text; part
 abbrev pub types : List ℕ → List ℕ → List Event
 types names text = map (event_of names) (pieces text)
 
--- the violations of the implication, or the clash, of two sides on a timeline, all given by their texts
+-- the violations of the implication, or the clash, of two sides on a timeline, all given by their
+-- texts
 abbrev pub implied : List ℕ → List ℕ → List ℕ → List ℕ → ℕ
 implied names left right text = viol Implication (types names left) (types names right) (timeline text)
 
@@ -64,7 +68,12 @@ over_two constraints form = record { tiers = two_tiers; constraints = constraint
 
 -- an implication over these two tiers, of any name
 abbrev pub implication : List ℕ → List ℕ → String Global → Constraint
-implication left right name = record { name = name; family = Implication; left = types (codes "Aa") left; right = types (codes "Aa") right }
+implication left right name = record {
+  name = name;
+  family = Implication;
+  left = types (codes "Aa") left;
+  right = types (codes "Aa") right;
+}
 
 -- `A -> a` and `a -> A`
 abbrev pub max_a : String Global → Constraint
@@ -73,7 +82,8 @@ max_a = implication (codes "A") (codes "a")
 abbrev pub dep_a : String Global → Constraint
 dep_a = implication (codes "a") (codes "A")
 
--- a kind from its place, `+` for each open tier and `-` for each other, and `u` for unmet, `m` for met and `.` for closed
+-- a kind from its place, `+` for each open tier and `-` for each other, and `u` for unmet, `m` for
+-- met and `.` for closed
 abbrev pub kind_text : ℕ → List ℕ → List ℕ → PrefixKind
 kind_text place opened phases = record {
   place = place;
@@ -87,7 +97,8 @@ kind_after max dep text = kind_of (over_two (max_a max ∷ dep_a dep ∷ []) [])
 
 -- what the move from a kind by a column costs under these two, for the form `[ ]`
 abbrev pub costs_by : String Global → String Global → PrefixKind → List ℕ → List ℕ
-costs_by max dep k column = move_costs (over_two (max_a max ∷ dep_a dep ∷ []) (timeline (codes "[ ]"))) 2 k (read_syms column)
+costs_by max dep k column = move_costs (over_two (max_a max ∷ dep_a dep ∷ []) (timeline (codes "[ ]"))) 2 k
+    (read_syms column)
 
 -- the kind that it leads to
 abbrev pub moved_by : String Global → String Global → PrefixKind → List ℕ → PrefixKind

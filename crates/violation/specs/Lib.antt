@@ -9,3 +9,4 @@ pub mod Phases
 pub mod Walks
 pub mod Conditions
 pub mod Examples
+pub mod Rests

@@ -1,4 +1,4 @@
--- Which phases a kind has: closed exactly where some left tier is not open.
+-- Which phases a kind has: closed exactly when some left tier is not open.
 use Rattle.std.specs.Prelude.{◌≡◌, Bool, true, false, not, List, [], ◌∷◌}
 use Rattle.std.specs.List.{list_all}
 use Rattle.tier_core.specs.declared.sym.Sym.{Sym}
@@ -17,7 +17,7 @@ is_closed met = false
 abbrev pub is_left_open : Problem → PrefixKind → Constraint → Bool
 is_left_open problem k c = list_all (λ e. is_tier_open problem k e.tier) c.left
 
--- constraints have as many phases, and each is closed exactly where some left tier is not open
+-- constraints have as many phases, and each is closed exactly when some left tier is not open
 abbrev pub AreClosedOr : (Constraint → Bool) → List Constraint → List Phase → Type 0
 AreClosedOr is_open [] [] = Unit {0}
 AreClosedOr is_open [] (phase ∷ phases) = ⊥

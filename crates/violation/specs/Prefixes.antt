@@ -27,7 +27,8 @@ abbrev pub begun_from : ℕ → List Sym → List (ℕ × Option ℕ)
 begun_from i [] = []
 begun_from i (s ∷ w) = (if starts s then (i, next_end (suc i) w) ∷ [] else []) ++ begun_from (suc i) w
 
--- the events of what has begun in n columns: what is open has no end, and its interior reaches 2n - 1
+-- the events of what has begun in n columns: what is open has no end, and its interior reaches
+-- 2n - 1
 abbrev pub event_begun : ℕ → Part → ℕ × Option ℕ → List Interval
 event_begun n StartOf c = record { low = 2 * c.0; high = 2 * c.0 } ∷ []
 event_begun n EndOf c = map (λ j. record { low = 2 * j; high = 2 * j }) (option_to_list c.1)
@@ -46,9 +47,9 @@ abbrev pub last_where : (List Sym → Bool) → List (List Sym) → ℕ → ℕ
 last_where test p zero = 0
 last_where test p (suc n) = if test (column_at p n) then n else last_where test p n
 
--- The phase of a stretch implication after a prefix of n columns. It is closed where some left tier
--- is not open. Otherwise let s be the last place with an edge on a left tier: it is met where some
--- event of a right type has a meet with [2s + 1, 2n - 1], and unmet where none has.
+-- The phase of a stretch implication after a prefix of n columns. It is closed if some left tier
+-- is not open. Otherwise let s be the last place with an edge on a left tier: it is met if some
+-- event of a right type has a meet with [2s + 1, 2n - 1], and unmet if none has.
 abbrev pub phase : List Event → List Event → List (List Sym) → Phase
 phase left right p =
     let s = last_where (edge_among left) p (length p) in
@@ -69,6 +70,6 @@ kind_of problem r p = record {
   phases = map (λ c. phase c.left c.right p) (stretches problem r);
 }
 
--- the kind that bits tell under the first r constraints
+-- the kind that bits encode under the first r constraints
 abbrev pub kind_of_bits : Problem → ℕ → Kind → PrefixKind
 kind_of_bits problem r kind = prefix_kind (length problem.tiers.free) (length (stretches problem r)) kind

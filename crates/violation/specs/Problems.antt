@@ -1,5 +1,5 @@
 -- What is asked of the generator: a grammar's tiers, its constraints in ranked order, and an
--- underlying form. Everything above these words takes a problem, and none of its parts.
+-- underlying form. Everything above these definitions takes a whole problem, never its parts.
 use Rattle.std.specs.Prelude.{ℕ, List, length}
 use Rattle.tier_core.specs.declared.sym.Sym.{Sym}
 use Rattle.tier_core.specs.declared.constraint.Constraint.{Constraint}
@@ -13,7 +13,7 @@ pub record Problem : Type 0 where
   pub constraints : List Constraint
   pub form : List (List Sym)
 
--- what is asked by the tiers and the constraints of a grammar with a form
+-- the problem that the tiers and the constraints of a grammar pose with a form
 abbrev pub asked : TierTable → List Constraint → List (List Sym) → Problem
 asked table constraints form = record { tiers = tiers_of_table table; constraints = constraints; form = form }
 
@@ -21,6 +21,6 @@ asked table constraints form = record { tiers = tiers_of_table table; constraint
 abbrev pub last_stage : Problem → ℕ
 last_stage problem = length problem.constraints
 
--- the place behind the whole form
+-- the place after the whole form
 abbrev pub last_place : Problem → ℕ
 last_place problem = length problem.form

@@ -41,7 +41,7 @@ pub record AreKindsOfStage (problem : Problem) (r : ℕ) (ks : List PrefixKind) 
   pub ascending : IsStrictlySortedBy kind_order ks
   pub members : (k : PrefixKind) → Contains ks k ↔ IsKindOfStage problem r k
 
--- m is the least of what constraint r, counted from 1, counts on T beside what it counts so far in
+-- m is the least of what constraint r, counted from 1, counts on T beyond what it counts so far in
 -- the first n columns, over the (r-1)-optimal T whose first n columns have the kind k
 pub record IsLeastRest (problem : Problem) (r : ℕ) (k : PrefixKind) (m : ℕ) : Type 0 where
   pub some : (T : List (List Sym)) × ((n : ℕ) × (Passes problem (r - 1) r k T n

@@ -29,7 +29,8 @@ add_each [] ns = []
 add_each (m ∷ ms) [] = []
 add_each (m ∷ ms) (n ∷ ns) = (m + n) ∷ add_each ms ns
 
--- what the moves along the columns cost in all, from a kind under the first r constraints: one number for each of these
+-- what the moves along the columns cost in all, from a kind under the first r constraints: one
+-- number for each of these
 abbrev pub walk_costs : Problem → ℕ → PrefixKind → List (List Sym) → List ℕ
 walk_costs problem r k [] = map (λ c. 0) (take r problem.constraints)
 walk_costs problem r k (column ∷ columns) =

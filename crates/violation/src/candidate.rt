@@ -30,7 +30,8 @@ pub fn has_input_edge(kinds: &[TierKind], column: &[Sym]) -> bool
 /// Whether what a column has on the input tiers is a column of the form.
 pub fn has_input_part(kinds: &[TierKind], column: &[Sym], form: &[Sym]) -> bool
     requires { length column.now ≡ length kinds.now }
-    ensures { IsTrue result ↔ (map (symbol column.now) (numbers_from is_input 0 kinds.now) ≡ form.now) }
+    ensures { IsTrue result
+        ↔ (map (symbol column.now) (numbers_from is_input 0 kinds.now) ≡ form.now) }
 {
     let mut next = 0;
     for (tier, kind) in kinds.iter().enumerate() {
@@ -47,7 +48,8 @@ pub fn has_input_part(kinds: &[TierKind], column: &[Sym], form: &[Sym]) -> bool
 /// Whether the input parts of the columns that have an edge there are the columns of the form.
 fn spells_form(kinds: &[TierKind], columns: &[Column], form: &[Column]) -> bool
     requires { All (λ column. length column ≡ length kinds.now) columns.now }
-    ensures { IsTrue result ↔ (squeeze (project (numbers_from is_input 0 kinds.now) columns.now) ≡ form.now) }
+    ensures { IsTrue result
+        ↔ (squeeze (project (numbers_from is_input 0 kinds.now) columns.now) ≡ form.now) }
 {
     let mut place = 0;
     for column in columns {
@@ -64,7 +66,8 @@ fn spells_form(kinds: &[TierKind], columns: &[Column], form: &[Column]) -> bool
 /// Whether a timeline is a candidate of a form: it is well formed and reduced over the tiers, and
 /// its projection to the input tiers, squeezed, is the form.
 pub fn is_candidate(tiers: &TierTable, form: &Timeline, timeline: &Timeline) -> bool
-    ensures { (constraints : List Constraint) → IsTrue result ↔ IsCandidate (asked tiers.now constraints form.now) timeline.now }
+    ensures { (constraints : List Constraint) → IsTrue result
+        ↔ IsCandidate (asked tiers.now constraints form.now) timeline.now }
 {
     well_formed(timeline, tiers.kinds.len() as u32)
         && reduced(timeline)

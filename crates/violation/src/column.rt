@@ -6,7 +6,7 @@ ghost use Rattle.violation.specs.Conditions.{AreInColumn};
 
 use tier_core::{Event, Part, Sym};
 
-/// Whether a part of a constituent stands at a symbol of its tier.
+/// Whether a part of a constituent is present at a symbol of its tier.
 fn part_at(part: Part, sym: Sym) -> bool
     ensures { result ≡ part_present part sym }
 {
@@ -17,7 +17,7 @@ fn part_at(part: Part, sym: Sym) -> bool
     }
 }
 
-/// Whether an event of each type stands at a column.
+/// Whether an event of each type is present at a column.
 pub fn all_present(column: &[Sym], types: &[Event]) -> bool
     requires { AreInColumn types.now column.now }
     ensures { result ≡ list_all (is_present column.now) types.now }
@@ -27,7 +27,7 @@ pub fn all_present(column: &[Sym], types: &[Event]) -> bool
         .all(|e| part_at(e.part, column[e.tier as usize]))
 }
 
-/// Whether an event of some type stands at a column.
+/// Whether an event of some type is present at a column.
 pub fn any_present(column: &[Sym], types: &[Event]) -> bool
     requires { AreInColumn types.now column.now }
     ensures { result ≡ list_any (is_present column.now) types.now }

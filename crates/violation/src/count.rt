@@ -41,7 +41,8 @@ fn count_edges(family: Family, left: &[Event], right: &[Event], columns: &[Colum
 fn ends_overlap(is_open: bool, left: &[Event], right: &[Event], column: &[Sym]) -> bool
     requires left_in { AreInColumn left.now column.now }
     requires right_in { AreInColumn right.now column.now }
-    ensures { result ≡ (is_open && (edge_among left.now column.now || edge_among right.now column.now)) }
+    ensures { result
+        ≡ (is_open && (edge_among left.now column.now || edge_among right.now column.now)) }
 {
     is_open && (has_edge_among(column, left) || has_edge_among(column, right))
 }
@@ -55,17 +56,21 @@ fn opens_both(left: &[Event], right: &[Event], column: &[Sym]) -> bool
     opens_each(column, left) && opens_each(column, right)
 }
 
-/// Whether a column ends a stretch that is not met.
+/// Whether a column ends a stretch that has not been met.
 fn ends_unmet(is_open: bool, edge: bool, is_met: bool) -> bool
     ensures { result ≡ ((is_open && edge) && not is_met) }
 {
     is_open && edge && !is_met
 }
 
-/// Whether a stretch that is open after a column is met, where the column begins one at an edge.
+/// Whether a stretch that is open after a column has been met; at an edge the column begins a new
+/// one.
 fn is_met_after(edge: bool, is_met: bool, right: &[Event], column: &[Sym]) -> bool
     requires { AreInColumn right.now column.now }
-    ensures { result ≡ (list_any (opens_interior column.now) right.now || (not edge && (is_met || list_any (is_present column.now) right.now))) }
+    ensures { result
+        ≡
+        (list_any (opens_interior column.now) right.now ||
+        (not edge && (is_met || list_any (is_present column.now) right.now))) }
 {
     opens_some(column, right) || (!edge && (is_met || any_present(column, right)))
 }
@@ -89,7 +94,7 @@ fn count_overlaps(left: &[Event], right: &[Event], columns: &[Column]) -> u32
     count
 }
 
-/// Counts the columns that end a stretch of the left interiors which no right event meets.
+/// Counts the columns that end a stretch of the left interiors that no right event meets.
 fn count_stretches(left: &[Event], right: &[Event], columns: &[Column]) -> u32
     requires countable { IsCountable left.now right.now columns.now }
     requires few { length columns.now ≤ 65536 }
@@ -115,7 +120,8 @@ fn count_stretches(left: &[Event], right: &[Event], columns: &[Column]) -> u32
 pub fn violations(timeline: &Timeline, constraint: &Constraint) -> u32
     requires countable { IsCountable constraint.now.left constraint.now.right timeline.now }
     requires few { length timeline.now ≤ 65536 }
-    ensures { result ≡ viol constraint.now.family constraint.now.left constraint.now.right timeline.now }
+    ensures { result
+        ≡ viol constraint.now.family constraint.now.left constraint.now.right timeline.now }
 {
     let left = constraint.left.as_slice();
     let right = constraint.right.as_slice();

@@ -2,12 +2,12 @@
 //! a form; with the definitions of violations, candidates, optima, kinds of prefixes, stages and
 //! the moves of kinds.
 //!
-//! The crate stands on `tier_core`. The layers above use its calls, and the definitions of `specs/`.
-//! From reading a grammar on, the flow is: timelines and constraints (`tier_core`), what they count
-//! (this crate), moves of kinds, pruning, answers.
+//! The crate builds on `tier_core`. The layers above use its functions and the definitions in
+//! `specs/`. From reading a grammar on, the flow is: timelines and constraints (`tier_core`), what
+//! they count (this crate), moves of kinds, pruning, answers.
 //!
-//! Source: the two families of constraints are after Eisner, Efficient Generation in Primitive
-//! Optimality Theory (ACL 1997). What they count is this project's.
+//! Source: the two families of constraints follow Eisner, Efficient Generation in Primitive
+//! Optimality Theory (ACL 1997). What they count is this project's own.
 #![tactic(auto)]
 
 mod candidate;

@@ -11,7 +11,7 @@ use tier_core::{
     well_formed,
 };
 
-/// The timeline whose columns are written so, two bytes for each.
+/// The timeline whose columns are written in this way, two bytes for each.
 fn read(alloc: Global, text: &[[u8; 2]]) -> Result<Timeline, Fail> {
     let mut timeline = Timeline::new(alloc);
     for bytes in text {

@@ -8,8 +8,8 @@ use std::cmp::Ordering;
 use tier_core::{Constraint, NoMemory, Timeline};
 
 /// The violation vector of a timeline: its violations of each constraint, in ranked order. The
-/// timeline is well formed over the tiers of the constraints, and has at most 65,536 columns. It
-/// fails only for want of memory.
+/// timeline is well formed over the tiers of the constraints, and has at most 65,536 columns.
+/// Fails only if memory runs out.
 pub fn vector(
     alloc: Global,
     constraints: &[Constraint],

@@ -1,5 +1,9 @@
 pub mod Meaning
 pub mod Count
 pub mod UnitWeight
+pub mod Ranked
+pub mod Pair
 pub mod CountLaws
 pub mod UnitLaws
+pub mod RankedLaws
+pub mod PairLaws

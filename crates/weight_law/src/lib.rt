@@ -9,9 +9,13 @@ ghost use Rattle.std.specs.Prelude.{◌≡◌, ◌+◌, ◌≤◌, IsTrue};
 ghost use Rattle.weight_law.specs.Meaning.{Meaning, IsLawful, order_of};
 
 mod count;
+mod pair;
+mod ranked;
 mod unit_weight;
 
 pub use count::Count;
+pub use pair::Pair;
+pub use ranked::Ranked;
 use std::cmp::Ordering;
 pub use unit_weight::UnitWeight;
 

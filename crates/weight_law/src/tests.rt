@@ -41,3 +41,52 @@ fn unit_weights_are_all_equal(rt: HostRuntime) {
         (UnitWeight, Ordering::Equal)
     );
 }
+
+#[test]
+fn ranked_weights_are_compared_from_the_first_part(rt: HostRuntime) {
+    let mut high = [0u32; 24];
+    high[0] = 1;
+    let mut low = [7u32; 24];
+    low[0] = 0;
+    let mut both = [7u32; 24];
+    both[0] = 1;
+    assert_eq!(rt; no_move::<Ranked>(), Ranked::of_parts([0; 24]));
+    assert_eq!(rt;
+        Ranked::of_parts(high).compare(&Ranked::of_parts(low)),
+        Ordering::Greater
+    );
+    assert_eq!(rt;
+        Ranked::of_parts(high).plus(&Ranked::of_parts(low)).parts(),
+        &both[..]
+    );
+}
+
+#[test]
+fn pairs_are_compared_by_the_first_weight_first(rt: HostRuntime) {
+    let cases = [
+        (0, 1, 0, 2, Ordering::Less),
+        (0, 9, 1, 0, Ordering::Less),
+        (2, 0, 1, 9, Ordering::Greater),
+        (3, 4, 3, 4, Ordering::Equal),
+    ];
+    for (a, b, c, d, order) in cases {
+        let one = Pair {
+            first: Count(a),
+            second: Count(b),
+        };
+        let other = Pair {
+            first: Count(c),
+            second: Count(d),
+        };
+        assert_eq!(rt; one.compare(&other), order);
+    }
+    let unit = Pair {
+        first: Count(1),
+        second: UnitWeight,
+    };
+    let sum = Pair {
+        first: Count(2),
+        second: UnitWeight,
+    };
+    assert_eq!(rt; sum_and_order(unit, unit), (sum, Ordering::Equal));
+}

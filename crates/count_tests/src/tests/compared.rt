@@ -70,7 +70,7 @@ fn timeline_by_code(alloc: Global, len: u32, code: u32) -> Result<Timeline, Fail
     Ok(timeline)
 }
 
-/// The two counts of a constraint, where it may be counted.
+/// The two counts of a constraint, if it may be counted.
 fn both_counts(
     alloc: Global,
     constraint: &Constraint,

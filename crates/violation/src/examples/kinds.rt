@@ -1,5 +1,5 @@
-//! Kinds of prefixes and moves of kinds, for the form `[ ]` of an input tier A, with one overt tier a
-//! and the constraints `A -> a` and `a -> A`.
+//! Kinds of prefixes and moves of kinds, for the form `[ ]` of an input tier A, with one overt
+//! tier a and the constraints `A -> a` and `a -> A`.
 ghost use Rattle.std.specs.Prelude.{◌≡◌, true, false, [], ◌∷◌, String, codes};
 ghost use Rattle.std.specs.List.Sorted.{IsStrictlySortedBy};
 ghost use Rattle.std.specs.declared.alloc.Global.{Global};
@@ -13,19 +13,32 @@ ghost use Rattle.violation.specs.Examples.{over_two};
 /// Prefixes of each of the eight kinds. After `[[ +]` a has ended, so that A is met by it; after
 /// `[[ ]+` a is met by A, though A has ended.
 pub fn prefix_kinds()
-    ensures nothing_read { (max dep : String Global) → kind_after max dep (codes "-[ -]") ≡ kind_text 0 (codes "-") (codes "..") }
-    ensures alone { (max dep : String Global) → kind_after max dep (codes "-[") ≡ kind_text 0 (codes "+") (codes ".u") }
-    ensures input_alone { (max dep : String Global) → kind_after max dep (codes "[-") ≡ kind_text 1 (codes "-") (codes "u.") }
-    ensures input_met { (max dep : String Global) → kind_after max dep (codes "[[ +]") ≡ kind_text 1 (codes "-") (codes "m.") }
-    ensures both { (max dep : String Global) → kind_after max dep (codes "[[") ≡ kind_text 1 (codes "+") (codes "mm") }
-    ensures ended { (max dep : String Global) → kind_after max dep (codes "[- ]-") ≡ kind_text 2 (codes "-") (codes "..") }
-    ensures after { (max dep : String Global) → kind_after max dep (codes "[- ][") ≡ kind_text 2 (codes "+") (codes ".u") }
-    ensures over { (max dep : String Global) → kind_after max dep (codes "[[ ]+") ≡ kind_text 2 (codes "+") (codes ".m") }
+    ensures nothing_read { (max dep : String Global)
+        → kind_after max dep (codes "-[ -]") ≡ kind_text 0 (codes "-") (codes "..") }
+    ensures alone { (max dep : String Global)
+        → kind_after max dep (codes "-[") ≡ kind_text 0 (codes "+") (codes ".u") }
+    ensures input_alone { (max dep : String Global)
+        → kind_after max dep (codes "[-") ≡ kind_text 1 (codes "-") (codes "u.") }
+    ensures input_met { (max dep : String Global)
+        → kind_after max dep (codes "[[ +]") ≡ kind_text 1 (codes "-") (codes "m.") }
+    ensures both { (max dep : String Global)
+        → kind_after max dep (codes "[[") ≡ kind_text 1 (codes "+") (codes "mm") }
+    ensures ended { (max dep : String Global)
+        → kind_after max dep (codes "[- ]-") ≡ kind_text 2 (codes "-") (codes "..") }
+    ensures after { (max dep : String Global)
+        → kind_after max dep (codes "[- ][") ≡ kind_text 2 (codes "+") (codes ".u") }
+    ensures over { (max dep : String Global)
+        → kind_after max dep (codes "[[ ]+") ≡ kind_text 2 (codes "+") (codes ".m") }
 {}
 
 /// These kinds ascend in kind order.
 pub fn ascending_kinds()
-    ensures { IsStrictlySortedBy kind_order (kind_text 0 (codes "-") (codes "..") ∷ kind_text 0 (codes "+") (codes ".u") ∷ kind_text 1 (codes "-") (codes "u.") ∷ kind_text 1 (codes "-") (codes "m.") ∷ kind_text 1 (codes "+") (codes "mm") ∷ kind_text 2 (codes "-") (codes "..") ∷ kind_text 2 (codes "+") (codes ".u") ∷ kind_text 2 (codes "+") (codes ".m") ∷ []) }
+    ensures { IsStrictlySortedBy kind_order
+        (kind_text 0 (codes "-") (codes "..") ∷ kind_text 0 (codes "+")
+        (codes ".u") ∷ kind_text 1 (codes "-") (codes "u.") ∷ kind_text 1 (codes "-")
+        (codes "m.") ∷ kind_text 1 (codes "+") (codes "mm") ∷ kind_text 2 (codes "-")
+        (codes "..") ∷ kind_text 2 (codes "+") (codes ".u") ∷ kind_text 2 (codes "+")
+        (codes ".m") ∷ []) }
 {}
 
 /// In `[[ |] ]-` the first A is met. The second begins where a ends, and is not met by what came
@@ -35,8 +48,10 @@ pub fn met_ends_with_the_stretch()
     ensures first { phase_after (codes "A") (codes "a") (codes "[[") ≡ met }
     ensures second { phase_after (codes "A") (codes "a") (codes "[[ |]") ≡ unmet }
     ensures ended { phase_after (codes "A") (codes "a") (codes "[[ |] ]-") ≡ closed }
-    ensures not_yet { so_far Implication (types (codes "Aa") (codes "A")) (types (codes "Aa") (codes "a")) (timeline (codes "[[ |] ]-")) 2 ≡ 0 }
-    ensures counted { so_far Implication (types (codes "Aa") (codes "A")) (types (codes "Aa") (codes "a")) (timeline (codes "[[ |] ]-")) 3 ≡ 1 }
+    ensures not_yet { so_far Implication (types (codes "Aa") (codes "A"))
+        (types (codes "Aa") (codes "a")) (timeline (codes "[[ |] ]-")) 2 ≡ 0 }
+    ensures counted { so_far Implication (types (codes "Aa") (codes "A"))
+        (types (codes "Aa") (codes "a")) (timeline (codes "[[ |] ]-")) 3 ≡ 1 }
 {}
 
 /// A start at the stretch's own start does not meet it, and one inside does.
@@ -45,37 +60,62 @@ pub fn own_start_does_not_meet()
     ensures later { phase_after (codes "A") (codes "[a") (codes "[- +[") ≡ met }
 {}
 
-/// Moves lead to the kind of the longer prefix: `|` on A begins a stretch, and one that is met stays so.
+/// Moves lead to the kind of the longer prefix: `|` on A begins a stretch, and one that is met
+/// stays met.
 pub fn moved_kinds()
-    ensures begins { (max dep : String Global) → moved_by max dep (kind_text 0 (codes "-") (codes "..")) (codes "[[") ≡ kind_text 1 (codes "+") (codes "mm") }
-    ensures stays_met { (max dep : String Global) → moved_by max dep (kind_text 1 (codes "+") (codes "mm")) (codes "+]") ≡ kind_text 1 (codes "-") (codes "m.") }
-    ensures begins_again { (max dep : String Global) → moved_by max dep (kind_text 1 (codes "-") (codes "m.")) (codes "|-") ≡ kind_text 2 (codes "-") (codes "u.") }
-    ensures ends { (max dep : String Global) → moved_by max dep (kind_text 1 (codes "+") (codes "mm")) (codes "]+") ≡ kind_text 2 (codes "+") (codes ".m") }
+    ensures begins { (max dep : String Global)
+        → moved_by max dep (kind_text 0 (codes "-") (codes ".."))
+        (codes "[[") ≡ kind_text 1 (codes "+") (codes "mm") }
+    ensures stays_met { (max dep : String Global)
+        → moved_by max dep (kind_text 1 (codes "+") (codes "mm")) (codes "+]")
+        ≡ kind_text 1 (codes "-") (codes "m.") }
+    ensures begins_again { (max dep : String Global)
+        → moved_by max dep (kind_text 1 (codes "-") (codes "m.")) (codes "|-")
+        ≡ kind_text 2 (codes "-") (codes "u.") }
+    ensures ends { (max dep : String Global)
+        → moved_by max dep (kind_text 1 (codes "+") (codes "mm")) (codes "]+")
+        ≡ kind_text 2 (codes "+") (codes ".m") }
 {}
 
 /// A stretch that is not met costs 1 where it ends.
 pub fn move_costs()
-    ensures input_ends { (max dep : String Global) → costs_by max dep (kind_text 1 (codes "-") (codes "u.")) (codes "]-") ≡ 1 ∷ 0 ∷ [] }
-    ensures input_met { (max dep : String Global) → costs_by max dep (kind_text 1 (codes "-") (codes "m.")) (codes "]-") ≡ 0 ∷ 0 ∷ [] }
-    ensures overt_ends { (max dep : String Global) → costs_by max dep (kind_text 2 (codes "+") (codes ".u")) (codes "-]") ≡ 0 ∷ 1 ∷ [] }
-    ensures begins { (max dep : String Global) → costs_by max dep (kind_text 0 (codes "-") (codes "..")) (codes "[[") ≡ 0 ∷ 0 ∷ [] }
+    ensures input_ends { (max dep : String Global)
+        → costs_by max dep (kind_text 1 (codes "-") (codes "u.")) (codes "]-") ≡ 1 ∷ 0 ∷ [] }
+    ensures input_met { (max dep : String Global)
+        → costs_by max dep (kind_text 1 (codes "-") (codes "m.")) (codes "]-") ≡ 0 ∷ 0 ∷ [] }
+    ensures overt_ends { (max dep : String Global)
+        → costs_by max dep (kind_text 2 (codes "+") (codes ".u")) (codes "-]") ≡ 0 ∷ 1 ∷ [] }
+    ensures begins { (max dep : String Global)
+        → costs_by max dep (kind_text 0 (codes "-") (codes "..")) (codes "[[") ≡ 0 ∷ 0 ∷ [] }
 {}
 
 /// Which columns fit the kind of `[-`: the input tier is open, so that A may end there.
 pub fn fitting_columns()
-    ensures ends { FitsKind (over_two [] (timeline (codes "[ ]"))) (kind_text 1 (codes "-") (codes "u.")) (read_syms (codes "]-")) }
-    ensures begins_other { FitsKind (over_two [] (timeline (codes "[ ]"))) (kind_text 1 (codes "-") (codes "u.")) (read_syms (codes "+[")) }
-    ensures no_edge { FitsKind (over_two [] (timeline (codes "[ ]"))) (kind_text 1 (codes "-") (codes "u.")) (read_syms (codes "+-")) → ⊥ }
-    ensures starts_twice { FitsKind (over_two [] (timeline (codes "[ ]"))) (kind_text 1 (codes "-") (codes "u.")) (read_syms (codes "[-")) → ⊥ }
-    ensures not_the_form { FitsKind (over_two [] (timeline (codes "[ ]"))) (kind_text 1 (codes "-") (codes "u.")) (read_syms (codes "|-")) → ⊥ }
+    ensures ends { FitsKind (over_two [] (timeline (codes "[ ]")))
+        (kind_text 1 (codes "-") (codes "u.")) (read_syms (codes "]-")) }
+    ensures begins_other { FitsKind (over_two [] (timeline (codes "[ ]")))
+        (kind_text 1 (codes "-") (codes "u.")) (read_syms (codes "+[")) }
+    ensures no_edge { FitsKind (over_two [] (timeline (codes "[ ]")))
+        (kind_text 1 (codes "-") (codes "u.")) (read_syms (codes "+-")) → ⊥ }
+    ensures starts_twice { FitsKind (over_two [] (timeline (codes "[ ]")))
+        (kind_text 1 (codes "-") (codes "u.")) (read_syms (codes "[-")) → ⊥ }
+    ensures not_the_form { FitsKind (over_two [] (timeline (codes "[ ]")))
+        (kind_text 1 (codes "-") (codes "u.")) (read_syms (codes "|-")) → ⊥ }
 {}
 
-/// A kind is cut by dropping the phases of the later constraints, and is final at the end of the form
-/// where no free tier is open.
+/// A kind is cut by dropping the phases of the later constraints, and is final at the end of the
+/// form if no free tier is open.
 pub fn cut_and_final_kinds()
-    ensures cut_to_one { (max dep : String Global) → cut (over_two (max_a max ∷ dep_a dep ∷ []) []) 1 (kind_text 1 (codes "+") (codes "mu")) ≡ kind_text 1 (codes "+") (codes "m") }
-    ensures cut_to_none { (max dep : String Global) → cut (over_two (max_a max ∷ dep_a dep ∷ []) []) 0 (kind_text 1 (codes "+") (codes "mu")) ≡ kind_text 1 (codes "+") [] }
-    ensures at_end { is_final (over_two [] (timeline (codes "[ ]"))) (kind_text 2 (codes "-") (codes "..")) ≡ true }
-    ensures overt_open { is_final (over_two [] (timeline (codes "[ ]"))) (kind_text 2 (codes "+") (codes ".m")) ≡ false }
-    ensures too_early { is_final (over_two [] (timeline (codes "[ ]"))) (kind_text 1 (codes "-") (codes "u.")) ≡ false }
+    ensures cut_to_one { (max dep : String Global)
+        → cut (over_two (max_a max ∷ dep_a dep ∷ []) []) 1
+        (kind_text 1 (codes "+") (codes "mu")) ≡ kind_text 1 (codes "+") (codes "m") }
+    ensures cut_to_none { (max dep : String Global)
+        → cut (over_two (max_a max ∷ dep_a dep ∷ []) []) 0
+        (kind_text 1 (codes "+") (codes "mu")) ≡ kind_text 1 (codes "+") [] }
+    ensures at_end { is_final (over_two [] (timeline (codes "[ ]")))
+        (kind_text 2 (codes "-") (codes "..")) ≡ true }
+    ensures overt_open { is_final (over_two [] (timeline (codes "[ ]")))
+        (kind_text 2 (codes "+") (codes ".m")) ≡ false }
+    ensures too_early { is_final (over_two [] (timeline (codes "[ ]")))
+        (kind_text 1 (codes "-") (codes "u.")) ≡ false }
 {}

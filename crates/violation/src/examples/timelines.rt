@@ -7,15 +7,17 @@ ghost use Rattle.tier_core.specs.Timelines.{IsWellFormed, IsReduced, squeeze, pr
 ghost use Rattle.tier_core.specs.Orders.{timeline_cmp};
 ghost use Rattle.violation.specs.Examples.{read_syms, timeline, IsCandidateOf};
 
-/// Words that are well formed, one beside the other.
+/// Well-formed words, one beside the other.
 pub fn well_formed_words()
-    ensures { AllByRecursion IsWellFormedWord (timeline (codes "- -- [] [+] -[]- [|] [||] []-[] [][] [+|+] -[++]-")) }
+    ensures { AllByRecursion IsWellFormedWord
+        (timeline (codes "- -- [] [+] -[]- [|] [||] []-[] [][] [+|+] -[++]-")) }
 {}
 
-/// Words that are not. In `[[]` two starts have one end, in `[]]` an end has no start, and in `[-]` and
-/// `[]+` a symbol is not the one that the constituents draw.
+/// Words that are not. In `[[]` two starts have one end, in `[]]` an end has no start, and in
+/// `[-]` and `[]+` a symbol is not the one that the constituents draw.
 pub fn ill_formed_words()
-    ensures { AllByRecursion (λ w. IsWellFormedWord w → ⊥) (timeline (codes "+ [ ] | [- [+ [-] [[] []] []+ [+-] -]")) }
+    ensures { AllByRecursion (λ w. IsWellFormedWord w → ⊥)
+        (timeline (codes "+ [ ] | [- [+ [-] [[] []] []+ [+-] -]")) }
 {}
 
 /// The constituents of a word: each start with the next end.
@@ -25,7 +27,8 @@ pub fn constituents_of_words()
     ensures unended { constituents (read_syms (codes "[++")) ≡ [] }
 {}
 
-/// A timeline is well formed over as many tiers as its columns have symbols, where each tier is.
+/// A timeline is well formed over as many tiers as its columns have symbols, provided that each
+/// tier is.
 pub fn well_formed_timelines()
     ensures right { IsWellFormed 2 (timeline (codes "[- ]-")) }
     ensures too_wide { IsWellFormed 3 (timeline (codes "[- ]-")) → ⊥ }
@@ -40,11 +43,12 @@ pub fn reduced_timelines()
     ensures projected { project (1 ∷ []) (timeline (codes "[- +[ ]|")) ≡ timeline (codes "- [ |") }
 {}
 
-/// Fewer columns come first, and then the least symbol at the first difference, in the order of
-/// `-`, `+`, `[`, `]` and `|`.
+/// Shorter timelines come first, and of those of one length the one with the lesser symbol at the
+/// first difference, in the order of `-`, `+`, `[`, `]` and `|`.
 pub fn ordered_timelines()
     ensures fewer { timeline_cmp (timeline (codes "|")) (timeline (codes "- -")) ≡ Less }
-    ensures first_column { timeline_cmp (timeline (codes "[- ]]")) (timeline (codes "[[ ]-")) ≡ Less }
+    ensures first_column { timeline_cmp (timeline (codes "[- ]]"))
+        (timeline (codes "[[ ]-")) ≡ Less }
     ensures outside { timeline_cmp (timeline (codes "-")) (timeline (codes "+")) ≡ Less }
     ensures inside { timeline_cmp (timeline (codes "+")) (timeline (codes "[")) ≡ Less }
     ensures start { timeline_cmp (timeline (codes "[")) (timeline (codes "]")) ≡ Less }
@@ -61,8 +65,8 @@ pub fn candidates_of_one()
     ensures around { IsCandidateOf (codes "[ ]") (codes "-[ [| +| ]+ -]") }
 {}
 
-/// Timelines that are no candidates of it: another input part, a column without an edge, a tier that
-/// is not well formed, and a column that is too wide.
+/// Timelines that are not candidates of it: another input part, a column without an edge, a tier
+/// that is not well formed, and a column that is too wide.
 pub fn no_candidates_of_one()
     ensures other_input { IsCandidateOf (codes "[ ]") (codes "[[ |+ ]]") → ⊥ }
     ensures no_input { IsCandidateOf (codes "[ ]") (codes "-[ -]") → ⊥ }

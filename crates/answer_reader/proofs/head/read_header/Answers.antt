@@ -3,4 +3,6 @@ use Rattle.answer_reader.proofs.FirstLines.{takes_said}
 use Rattle.answer_reader.proofs.head.read_header.Goals as goal
 
 pub returns : goal.returns
-returns c = takes_said header_of (λ (x : Unit {0}). tt) c.args.lines.now c.next_line.new.self c.in_ok-line.line.now c.header_of.result c.on_line.result c.in_ok-line.ensures.line c.in_ok-line.ensures.number c.header_of.ensures c.on_line.ensures
+returns c = takes_said header_of (λ (x : Unit {0}). tt) c.args.lines.now c.next_line.new.self c.in_ok-line.line.now
+    c.header_of.result c.on_line.result c.in_ok-line.ensures.line c.in_ok-line.ensures.number c.header_of.ensures
+    c.on_line.ensures

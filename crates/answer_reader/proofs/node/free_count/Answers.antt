@@ -6,4 +6,5 @@ pub overflow_sub-result : goal.overflow_sub-result
 overflow_sub-result c = ones_within c.args.shape.now.width c.args.shape.now.inputs c.args.shape.now.within
 
 pub returns-clause-value : goal.returns-clause-value
-returns-clause-value c = ap (λ n. c.args.shape.now.width - n) (ones_of c.args.shape.now.width c.args.shape.now.inputs c.args.shape.now.few c.args.shape.now.within)
+returns-clause-value c = ap (λ n. c.args.shape.now.width - n)
+    (ones_of c.args.shape.now.width c.args.shape.now.inputs c.args.shape.now.few c.args.shape.now.within)

@@ -8,5 +8,6 @@ use Rattle.answer_text.proofs.kind.open_bytes.Goals as goal
 pub loop-tier-preserved : goal.loop-tier-preserved
 loop-tier-preserved c = record {
   room = grind (arith, common_steps);
-  done = bytes_more open_byte (has_tier c.args.opened) c.loop-tier.bytes c.loop-tier.tier c.open_byte.result (omega arith) c.open_byte.ensures c.loop-tier.invariant.done;
+  done = bytes_more open_byte (has_tier c.args.opened) c.loop-tier.bytes c.loop-tier.tier c.open_byte.result
+      (omega arith) c.open_byte.ensures c.loop-tier.invariant.done;
 }

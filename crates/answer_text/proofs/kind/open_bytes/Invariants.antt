@@ -6,4 +6,7 @@ use Rattle.answer_text.proofs.kind.open_bytes.Given as goal
 
 -- the tiers so far have their bytes
 abbrev pub invariant-loop-tier : goal.invariant-loop-tier
-invariant-loop-tier l = record { room : length l.bytes ≡ 12; done : take l.tier l.bytes ≡ map open_byte (map (has_tier l.opened) (range_with_len 0 l.tier)) }
+invariant-loop-tier l = record {
+  room : length l.bytes ≡ 12;
+  done : take l.tier l.bytes ≡ map open_byte (map (has_tier l.opened) (range_with_len 0 l.tier));
+}

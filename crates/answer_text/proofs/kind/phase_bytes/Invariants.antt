@@ -9,5 +9,6 @@ use Rattle.answer_text.proofs.kind.phase_bytes.Given as goal
 abbrev pub invariant-loop-place : goal.invariant-loop-place
 invariant-loop-place l = record {
   room : length l.bytes ≡ 24;
-  done : take l.place l.bytes ≡ map phase_byte (map (λ i. phase_by_bits (has_tier l.kind.unmet i) (has_tier l.kind.met i)) (range_with_len 0 l.place));
+  done : take l.place l.bytes ≡ map phase_byte
+      (map (λ i. phase_by_bits (has_tier l.kind.unmet i) (has_tier l.kind.met i)) (range_with_len 0 l.place));
 }

@@ -10,7 +10,8 @@ use Rattle.count_tests.proofs.choices.+counted_from.Given as goal
 abbrev pub invariant-loop-span : goal.invariant-loop-span
 invariant-loop-span l =
     counted_after l.family l.right l.columns (intervals_of l.chosen) l.types
-    ≡ l.count + counted_by (counts_meet l.family l.right l.columns) (intervals_of l.chosen) (map interval (drop l.span-index l.span-items)) (choices (map (events l.columns) l.others))
+    ≡ l.count + counted_by (counts_meet l.family l.right l.columns) (intervals_of l.chosen)
+    (map interval (drop l.span-index l.span-items)) (choices (map (events l.columns) l.others))
 
 abbrev pub decreases-counted_from : goal.decreases-counted_from
 decreases-counted_from l = length l.types.now

@@ -9,4 +9,5 @@ pub returns : goal.returns
 returns c =
     c.meets_some.ensures
     ∙ any_map (λ x. is_there (meet (interval c.args.met ∷ x ∷ []))) interval c.deref.result.now
-    ∙ ap (list_any (λ x. is_there (meet (interval c.args.met ∷ x ∷ [])))) (ap (map interval) c.deref.ensures.value ∙ c.in_ok-spans.ensures)
+    ∙ ap (list_any (λ x. is_there (meet (interval c.args.met ∷ x ∷ []))))
+    (ap (map interval) c.deref.ensures.value ∙ c.in_ok-spans.ensures)

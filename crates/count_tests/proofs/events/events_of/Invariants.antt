@@ -6,4 +6,5 @@ use Rattle.count_tests.proofs.events.events_of.Given as goal
 
 -- the events so far, and those of the constituents that are left
 abbrev pub invariant-loop-place : goal.invariant-loop-place
-invariant-loop-place l = map interval l.spans.items ++ map (event l.event.part) (left_from l.columns l.event.tier l.place) ≡ events l.columns l.event
+invariant-loop-place l = map interval l.spans.items
+    ++ map (event l.event.part) (left_from l.columns l.event.tier l.place) ≡ events l.columns l.event

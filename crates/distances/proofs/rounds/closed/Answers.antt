@@ -11,8 +11,10 @@ returns-then-not-round g c =
     let new = c.round.new.least in
     let done = c.round.ensures in
     let whole : take c.loop-rounds.least.len (new ++ drop (length new) c.loop-rounds.least.items) ≡ new =
-    take_at new (drop (length new) c.loop-rounds.least.items) c.loop-rounds.least.len (omega (arith, done.each_state, c.loop-rounds.invariant.each_state, c.loop-rounds.least.ok)) in
-    let before : IsCovered states c.deref_mut.result.now c.loop-rounds._rounds = rw c.deref_mut.ensures.value c.loop-rounds.invariant.covered in
+    take_at new (drop (length new) c.loop-rounds.least.items) c.loop-rounds.least.len
+    (omega (arith, done.each_state, c.loop-rounds.invariant.each_state, c.loop-rounds.least.ok)) in
+    let before : IsCovered states c.deref_mut.result.now c.loop-rounds._rounds = rw c.deref_mut.ensures.value
+    c.loop-rounds.invariant.covered in
     rw whole (least-closed laws states c.args.table.now.targets new done.each_state done.witnessed
     (λ s arcs inside run short. done.covered c.loop-rounds._rounds before s arcs inside run (omega arith))
     (done.closed c.if-not-round.true))
@@ -22,8 +24,10 @@ loop-rounds-preserved g c =
     let new = c.round.new.least in
     let done = c.round.ensures in
     let whole : take c.loop-rounds.least.len (new ++ drop (length new) c.loop-rounds.least.items) ≡ new =
-    take_at new (drop (length new) c.loop-rounds.least.items) c.loop-rounds.least.len (omega (arith, done.each_state, c.loop-rounds.invariant.each_state, c.loop-rounds.least.ok)) in
-    let before : IsCovered c.args.table.now.states.items c.deref_mut.result.now c.loop-rounds._rounds = rw c.deref_mut.ensures.value c.loop-rounds.invariant.covered in
+    take_at new (drop (length new) c.loop-rounds.least.items) c.loop-rounds.least.len
+    (omega (arith, done.each_state, c.loop-rounds.invariant.each_state, c.loop-rounds.least.ok)) in
+    let before : IsCovered c.args.table.now.states.items c.deref_mut.result.now c.loop-rounds._rounds = rw
+    c.deref_mut.ensures.value c.loop-rounds.invariant.covered in
     record {
       each_state = rw whole done.each_state;
       witnessed = rw whole done.witnessed;

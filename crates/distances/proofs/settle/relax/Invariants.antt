@@ -6,5 +6,6 @@ abbrev pub invariant-loop-incoming : goal.invariant-loop-incoming
 invariant-loop-incoming g l = record {
   inside : l.incoming-index ≤ length l.moves;
   same : length l.least.items ≡ length l.initial.least.items;
-  relaxed_is : relaxed g.W.Weight.meaning l.rest l.least.items (drop l.incoming-index l.moves) ≡ relaxed g.W.Weight.meaning l.rest l.initial.least.items l.moves;
+  relaxed_is : relaxed g.W.Weight.meaning l.rest l.least.items (drop l.incoming-index l.moves)
+      ≡ relaxed g.W.Weight.meaning l.rest l.initial.least.items l.moves;
 }

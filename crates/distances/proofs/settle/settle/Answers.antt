@@ -7,28 +7,43 @@ relax-requires-clause-inside g c =
     let table = c.args.table.now in
     let least = c.loop-turn.least.items in
     let top = c.in-Some.top in
-    let known : get_or least top.state None ≡ Some top.weight = sym (c.known_at.ensures ∙ ap (λ l. get_or l top.state None) c.deref.ensures.value) ∙ c.differ.ensures c.if-differ.false in
+    let known : get_or least top.state None
+    ≡ Some top.weight = sym (c.known_at.ensures ∙ ap (λ l. get_or l top.state None) c.deref.ensures.value)
+    ∙ c.differ.ensures c.if-differ.false in
     let same = c.loop-turn.invariant.each_state in
-    let ins : top.state < length table.states.items = omega (arith, known_inside least top.state top.weight known, same) in
-    rw c.moves_to.ensures (sources_each g.met.W.Weight.laws table.states.items table.targets c.args.incoming.now c.requires.turned top.state ins (length least) same)
+    let ins : top.state < length table.states.items = omega
+    (arith, known_inside least top.state top.weight known, same) in
+    rw c.moves_to.ensures
+    (sources_each g.met.W.Weight.laws table.states.items table.targets c.args.incoming.now c.requires.turned
+    top.state ins (length least) same)
 
 pub relax-requires-clause-weights : goal.relax-requires-clause-weights
 relax-requires-clause-weights g c =
     let table = c.args.table.now in
     let least = c.loop-turn.least.items in
     let top = c.in-Some.top in
-    let known : get_or least top.state None ≡ Some top.weight = sym (c.known_at.ensures ∙ ap (λ l. get_or l top.state None) c.deref.ensures.value) ∙ c.differ.ensures c.if-differ.false in
-    let ins : top.state < length table.states.items = omega (arith, known_inside least top.state top.weight known, c.loop-turn.invariant.each_state) in
-    rw c.moves_to.ensures (lawful_each g.met.W.Weight.laws table.states.items table.targets c.args.incoming.now c.requires.turned top.state ins)
+    let known : get_or least top.state None
+    ≡ Some top.weight = sym (c.known_at.ensures ∙ ap (λ l. get_or l top.state None) c.deref.ensures.value)
+    ∙ c.differ.ensures c.if-differ.false in
+    let ins : top.state < length table.states.items = omega
+    (arith, known_inside least top.state top.weight known, c.loop-turn.invariant.each_state) in
+    rw c.moves_to.ensures
+    (lawful_each g.met.W.Weight.laws table.states.items table.targets c.args.incoming.now c.requires.turned
+    top.state ins)
 
 pub relax-requires-clause-sizes : goal.relax-requires-clause-sizes
 relax-requires-clause-sizes g c =
     let table = c.args.table.now in
     let least = c.loop-turn.least.items in
     let top = c.in-Some.top in
-    let known : get_or least top.state None ≡ Some top.weight = sym (c.known_at.ensures ∙ ap (λ l. get_or l top.state None) c.deref.ensures.value) ∙ c.differ.ensures c.if-differ.false in
-    let ins : top.state < length table.states.items = omega (arith, known_inside least top.state top.weight known, c.loop-turn.invariant.each_state) in
-    rw c.moves_to.ensures (sizes_each g.met.W.Weight.laws table.states.items table.targets c.args.incoming.now c.requires.turned top.state ins c.requires.sizes least c.loop-turn.invariant.witnessed top.weight known)
+    let known : get_or least top.state None
+    ≡ Some top.weight = sym (c.known_at.ensures ∙ ap (λ l. get_or l top.state None) c.deref.ensures.value)
+    ∙ c.differ.ensures c.if-differ.false in
+    let ins : top.state < length table.states.items = omega
+    (arith, known_inside least top.state top.weight known, c.loop-turn.invariant.each_state) in
+    rw c.moves_to.ensures
+    (sizes_each g.met.W.Weight.laws table.states.items table.targets c.args.incoming.now c.requires.turned
+    top.state ins c.requires.sizes least c.loop-turn.invariant.witnessed top.weight known)
 
 pub loop-turn-preserved : goal.loop-turn-preserved
 loop-turn-preserved g c =
@@ -37,6 +52,12 @@ loop-turn-preserved g c =
     let least = c.loop-turn.least.items in
     let top = c.in-Some.top in
     let inv = c.loop-turn.invariant in
-    let known : get_or least top.state None ≡ Some top.weight = sym (c.known_at.ensures ∙ ap (λ l. get_or l top.state None) c.deref.ensures.value) ∙ c.differ.ensures c.if-differ.false in
-    let ins : top.state < length table.states.items = omega (arith, known_inside least top.state top.weight known, inv.each_state) in
-    rw (c.in_ok-relax.ensures, c.moves_to.ensures) (kept_both laws table.states.items c.args.least.now.items least _ inv (incoming-kept laws table.states.items table.targets c.args.incoming.now c.requires.turned top.state ins least inv.witnessed inv.each_state top.weight top.lawful known))
+    let known : get_or least top.state None
+    ≡ Some top.weight = sym (c.known_at.ensures ∙ ap (λ l. get_or l top.state None) c.deref.ensures.value)
+    ∙ c.differ.ensures c.if-differ.false in
+    let ins : top.state < length table.states.items = omega
+    (arith, known_inside least top.state top.weight known, inv.each_state) in
+    rw (c.in_ok-relax.ensures, c.moves_to.ensures)
+    (kept_both laws table.states.items c.args.least.now.items least _ inv
+    (incoming-kept laws table.states.items table.targets c.args.incoming.now c.requires.turned top.state ins least
+    inv.witnessed inv.each_state top.weight top.lawful known))

@@ -19,6 +19,7 @@ returns-in_default c =
     let P : List Sym → Type 0 = λ x. is_gt (column_cmp other x) ≡ false in
     record {
       of = inr c.in-Some.is;
-      arc = subst P c.least_column-column.ensures.sets (not_before column other c.column_cmp.result c.column_cmp.ensures c.in_default.not-Less);
+      arc = subst P c.least_column-column.ensures.sets
+          (not_before column other c.column_cmp.result c.column_cmp.ensures c.in_default.not-Less);
       best = rw c.in-Some.is (column_itself other);
     }

@@ -7,17 +7,22 @@ use Rattle.first_paths.proofs.choice.choose.Goals as goal
 pub loop-arc-preserved-then-not-has_left : goal.loop-arc-preserved-then-not-has_left
 loop-arc-preserved-then-not-has_left c = record {
   inside = omega (arith, c.loop-arc-test.true);
-  best = best-skip c.args.left.now c.args.n c.args.arcs.now c.loop-arc.arc-index c.arc-item.result c.loop-arc-test.true c.arc-item.is
-      (λ has. (let yes = c.has_left.ensures.1 has in let no = c.if-not-has_left.true in cc)) c.loop-arc.best c.loop-arc.invariant.best;
+  best = best-skip c.args.left.now c.args.n c.args.arcs.now c.loop-arc.arc-index c.arc-item.result
+      c.loop-arc-test.true c.arc-item.is
+      (λ has. (let yes = c.has_left.ensures.1 has in let no = c.if-not-has_left.true in cc)) c.loop-arc.best
+      c.loop-arc.invariant.best;
 }
 
 pub loop-arc-preserved : goal.loop-arc-preserved
 loop-arc-preserved c =
     let made = c.better.ensures in
-    let has : HasLeft c.args.left.now c.args.n c.arc-item.result = (let yes = c.if-not-has_left.false in c.has_left.ensures.0 (cc)) in
+    let has : HasLeft c.args.left.now c.args.n c.arc-item.result =
+    (let yes = c.if-not-has_left.false in c.has_left.ensures.0 (cc)) in
     record {
       inside = omega (arith, c.loop-arc-test.true);
-      best = best-take c.args.left.now c.args.n c.args.arcs.now c.loop-arc.arc-index c.arc-item.result c.loop-arc-test.true c.arc-item.is has c.loop-arc.best c.better.result c.loop-arc.invariant.best made.of made.arc made.best;
+      best = best-take c.args.left.now c.args.n c.args.arcs.now c.loop-arc.arc-index c.arc-item.result
+          c.loop-arc-test.true c.arc-item.is has c.loop-arc.best c.better.result c.loop-arc.invariant.best made.of
+          made.arc made.best;
     }
 
 pub unreachable-requires : goal.unreachable-requires

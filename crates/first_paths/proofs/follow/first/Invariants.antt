@@ -8,5 +8,6 @@ abbrev pub invariant-loop-done : goal.invariant-loop-done
 invariant-loop-done l = record {
   inside : l.state < length l.table.states.items;
   left_is : IsLeft l.left.items l.state (l.most - l.done);
-  first : (word : List (List Sym)) → IsFirstFrom l.table.states.items l.state word → IsFirstFrom l.table.states.items 0 (l.timeline ++ word);
+  first : (word : List (List Sym)) → IsFirstFrom l.table.states.items l.state word
+      → IsFirstFrom l.table.states.items 0 (l.timeline ++ word);
 }

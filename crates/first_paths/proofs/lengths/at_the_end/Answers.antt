@@ -10,7 +10,9 @@ loop-state-preserved-then-not-accepting c =
     let inv = c.loop-state.invariant in
     record {
       same = rw c.in_ok-push.ensures.items (omega (arith, length_push left None, inv.same));
-      ends = rw c.in_ok-push.ensures.items (ends_skip c.args.table.now.states.items left c.loop-state.level.items c.loop-state.state (sym inv.same) (sym c.accepting.ensures ∙ c.if-not-accepting.true) inv.ends);
+      ends = rw c.in_ok-push.ensures.items
+          (ends_skip c.args.table.now.states.items left c.loop-state.level.items c.loop-state.state (sym inv.same)
+          (sym c.accepting.ensures ∙ c.if-not-accepting.true) inv.ends);
     }
 
 pub loop-state-preserved : goal.loop-state-preserved
@@ -20,5 +22,7 @@ loop-state-preserved c =
     let zero : Count = record { 0 = 0 } in
     record {
       same = rw c.in_ok-push-2.ensures.items (omega (arith, length_push left (Some zero), inv.same));
-      ends = rw (c.in_ok-push-2.ensures.items, c.in_ok-push-3.ensures.items) (ends_take c.args.table.now.states.items left c.loop-state.level.items c.loop-state.state zero (sym inv.same) refl (sym c.accepting.ensures ∙ c.if-not-accepting.false) inv.ends);
+      ends = rw (c.in_ok-push-2.ensures.items, c.in_ok-push-3.ensures.items)
+          (ends_take c.args.table.now.states.items left c.loop-state.level.items c.loop-state.state zero
+          (sym inv.same) refl (sym c.accepting.ensures ∙ c.if-not-accepting.false) inv.ends);
     }

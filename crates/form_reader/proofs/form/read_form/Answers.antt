@@ -17,7 +17,8 @@ read_spelled-requires-clause-few c =
 pub read_spelled-requires-clause-sounds : goal.read_spelled-requires-clause-sounds
 read_spelled-requires-clause-sounds c =
     let n = c.input_count-inputs.ensures.value in
-    subst (λ (letters : List Letter). All (HasSound c.input_count-inputs.result) letters) (sym c.deref.ensures.value) (sounds c.args.grammar.now c.input_count-inputs.result n)
+    subst (λ (letters : List Letter). All (HasSound c.input_count-inputs.result) letters) (sym c.deref.ensures.value)
+    (sounds c.args.grammar.now c.input_count-inputs.result n)
 
 pub read_timeline-requires-clause-some : goal.read_timeline-requires-clause-some
 read_timeline-requires-clause-some c =

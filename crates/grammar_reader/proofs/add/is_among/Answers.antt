@@ -6,5 +6,6 @@ use Rattle.grammar_reader.proofs.Lists.{list_any-map}
 use Rattle.grammar_reader.proofs.add.is_among.Goals as goal
 
 pub returns : goal.returns
-returns c = any_from_yields_List (λ n. bytes_eq n.now c.args.name.now) _ _ c.any.result c.any.ensures.ran (YieldsList-from_slice c.args.names.now cc) (λ x b q k. search (rules, tests))
+returns c = any_from_yields_List (λ n. bytes_eq n.now c.args.name.now) _ _ c.any.result c.any.ensures.ran
+    (YieldsList-from_slice c.args.names.now cc) (λ x b q k. search (rules, tests))
     ∙ sym (list_any-map (λ n. bytes_eq n c.args.name.now) (λ n. n.now) c.args.names.now)

@@ -9,5 +9,6 @@ abbrev pub invariant-loop-name : goal.invariant-loop-name
 invariant-loop-name l = record {
   small : l.bit ≤ 2 ^ length l.yielded;
   below : l.mask < l.bit;
-  rest : l.mask + l.bit * mask_of (inputs_of (tiers_seen (drop (length l.yielded) l.tiers.entries))) (map (λ n. n.now) l.names) ≡ mask_of (inputs_of (tiers_seen l.tiers.entries)) (map (λ n. n.now) l.names);
+  rest : l.mask + l.bit * mask_of (inputs_of (tiers_seen (drop (length l.yielded) l.tiers.entries)))
+      (map (λ n. n.now) l.names) ≡ mask_of (inputs_of (tiers_seen l.tiers.entries)) (map (λ n. n.now) l.names);
 }

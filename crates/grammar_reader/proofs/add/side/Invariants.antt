@@ -9,5 +9,6 @@ abbrev pub invariant-loop-place : goal.invariant-loop-place
 invariant-loop-place l = record {
   size : length l.found ≡ 8;
   small : All (λ event. event.tier < 12) l.found;
-  front : take l.place l.found ≡ map (λ e. numbered (tiers_seen l.tiers.entries) (seen_event e)) (take l.place l.events);
+  front : take l.place l.found ≡ map (λ e. numbered (tiers_seen l.tiers.entries) (seen_event e))
+      (take l.place l.events);
 }

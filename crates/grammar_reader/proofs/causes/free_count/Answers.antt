@@ -9,5 +9,6 @@ use Rattle.grammar_reader.proofs.causes.free_count.Goals as goal
 
 pub returns : goal.returns
 returns c = count_from_yields_List c.filter.result _ c.count.ensures.ran
-    (YieldsList-from_filter _ is_free (YieldsList-from_rest (values_of c.args.tiers.now.entries) cc) c.filter.ensures.closure (λ x b q k. search (rules, tests)))
+    (YieldsList-from_filter _ is_free (YieldsList-from_rest
+    (values_of c.args.tiers.now.entries) cc) c.filter.ensures.closure (λ x b q k. search (rules, tests)))
     ∙ count_kinds is_free c.args.tiers.now.entries

@@ -9,6 +9,9 @@ use Rattle.grammar_reader.proofs.Lists.{list_any-map}
 use Rattle.grammar_reader.proofs.causes.has_unknown_tier.Goals as goal
 
 pub returns-in-Letter : goal.returns-in-Letter
-returns-in-Letter c = any_from_yields_List (λ n. is_unknown (tiers_seen c.args.made.now.tiers.entries) n.now) _ _ c.any.result c.any.ensures.ran (YieldsList-from_slice c.in-Letter.names.items cc) (λ x b q k. search (rules, tests))
-    ∙ sym (list_any-map (λ n. is_unknown (tiers_seen c.args.made.now.tiers.entries) n) (λ n. n.now) c.in-Letter.names.items)
+returns-in-Letter c = any_from_yields_List
+    (λ n. is_unknown (tiers_seen c.args.made.now.tiers.entries) n.now) _ _ c.any.result c.any.ensures.ran
+    (YieldsList-from_slice c.in-Letter.names.items cc) (λ x b q k. search (rules, tests))
+    ∙ sym (list_any-map (λ n. is_unknown (tiers_seen c.args.made.now.tiers.entries) n)
+    (λ n. n.now) c.in-Letter.names.items)
     ∙ ap (λ s. has_unknown_tier (made_value c.args.made.now) (statement_seen s)) (sym c.in-Letter.is)

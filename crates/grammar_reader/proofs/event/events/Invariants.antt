@@ -7,5 +7,7 @@ use Rattle.grammar_reader.proofs.event.events.Given as goal
 
 -- the events so far, and those of the pieces that are left
 abbrev pub invariant-loop-piece : goal.invariant-loop-piece
-invariant-loop-piece l = with_front (map seen_event l.found.items) (each_some event_of (map (map seen) (drop (length l.yielded) (slice_split (λ x. is_the_word l.connective (seen x)) l.lexemes))))
+invariant-loop-piece l = with_front (map seen_event l.found.items)
+    (each_some event_of (map (map seen) (drop (length l.yielded)
+    (slice_split (λ x. is_the_word l.connective (seen x)) l.lexemes))))
     ≡ events_of l.connective (map seen l.lexemes)

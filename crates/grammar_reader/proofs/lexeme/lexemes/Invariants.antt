@@ -7,7 +7,8 @@ use Rattle.grammar_reader.proofs.lexeme.lexemes.Given as goal
 
 -- the lexemes so far, and those of what is left
 abbrev pub invariant-tokens : goal.invariant-tokens
-invariant-tokens l = with_front (map seen l.found.items) (each_some lexeme_of (texts (marks_left l.tokens))) ≡ lexemes_of l.line
+invariant-tokens l = with_front (map seen l.found.items) (each_some lexeme_of (texts (marks_left l.tokens)))
+    ≡ lexemes_of l.line
 
 abbrev pub decreases-tokens : goal.decreases-tokens
 decreases-tokens l = length (marks_left l.tokens)

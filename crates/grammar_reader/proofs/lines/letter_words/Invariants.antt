@@ -9,7 +9,8 @@ use Rattle.grammar_reader.proofs.lines.letter_words.Given as goal
 -- the words so far, and the names of the tiers that are left
 abbrev pub invariant-loop-place : goal.invariant-loop-place
 invariant-loop-place l = record {
-  words : texts_of l.words ++ names_in (inputs_of (tiers_by (map string_bytes (drop l.place l.tiers.names.items)) (drop l.place l.tiers.kinds.items))) l.mask
+  words : texts_of l.words ++ names_in (inputs_of
+      (tiers_by (map string_bytes (drop l.place l.tiers.names.items)) (drop l.place l.tiers.kinds.items))) l.mask
       ≡ letter_words (tiers_by (map string_bytes l.tiers.names.items) l.tiers.kinds.items) l.letter;
   count : l.words.len ≤ 3 + l.place;
 }

@@ -8,7 +8,8 @@ use Rattle.grammar_reader.proofs.lines.push_side.Given as goal
 -- the words so far, and those of the events that are left
 abbrev pub invariant-loop-event : goal.invariant-loop-event
 invariant-loop-event l = record {
-  words : texts_of l.words ++ joined_rest l.joint (map (event_text (map string_bytes l.names)) (drop l.event-index l.others))
+  words : texts_of l.words ++ joined_rest l.joint
+      (map (event_text (map string_bytes l.names)) (drop l.event-index l.others))
       ≡ texts_of l.fn.words ++ joined l.joint (map (event_text (map string_bytes l.names)) l.events);
   count : l.words.len ≡ l.fn.words.len + 1 + 2 * l.event-index;
 }

@@ -8,5 +8,7 @@ use Rattle.grammar_reader.proofs.Lists.{list_any-map}
 use Rattle.grammar_reader.proofs.read.has_overt.Goals as goal
 
 pub returns : goal.returns
-returns c = any_from_yields_List is_overt _ _ c.any.result c.any.ensures.ran (YieldsList-from_rest (values_of c.args.tiers.now.entries) cc) (λ x b q k. search (rules, tests))
-    ∙ list_any-map is_overt (λ e. e.1) c.args.tiers.now.entries ∙ sym (list_any-map (λ t. is_overt t.kind) tier_seen c.args.tiers.now.entries)
+returns c = any_from_yields_List is_overt _ _ c.any.result c.any.ensures.ran
+    (YieldsList-from_rest (values_of c.args.tiers.now.entries) cc) (λ x b q k. search (rules, tests))
+    ∙ list_any-map is_overt (λ e. e.1) c.args.tiers.now.entries
+    ∙ sym (list_any-map (λ t. is_overt t.kind) tier_seen c.args.tiers.now.entries)

@@ -7,5 +7,6 @@ use Rattle.grammar_reader.proofs.read.kinds_of.Goals as goal
 
 pub returns : goal.returns
 returns c =
-    let e = (YieldsList-end (YieldsList-from_rest (values_of c.args.tiers.now.entries) (cc)) c.loop-kind.yielded _ c.loop-kind.yielded_by _ _ c.in-None.is c.next.ensures.steps).0 in
+    let e = (YieldsList-end (YieldsList-from_rest (values_of c.args.tiers.now.entries)
+    (cc)) c.loop-kind.yielded _ c.loop-kind.yielded_by _ _ c.in-None.is c.next.ensures.steps).0 in
     c.loop-kind.invariant ∙ e ∙ sym (map-map (λ t. t.kind) tier_seen c.args.tiers.now.entries)

@@ -7,7 +7,10 @@ use Rattle.grammar_reader.proofs.Stated.{added}
 use Rattle.grammar_reader.proofs.read.read_statement.Goals as goal
 
 pub add-requires-clause-parts : goal.add-requires-clause-parts
-add-requires-clause-parts c = has_parts (map seen c.args.lexemes.now) (statement_seen c.in_ok-statement.statement) c.in_ok-statement.ensures
+add-requires-clause-parts c = has_parts (map seen c.args.lexemes.now)
+    (statement_seen c.in_ok-statement.statement) c.in_ok-statement.ensures
 
 pub returns : goal.returns
-returns c = added c.add.result (made_value c.args.made.now) (map seen c.args.lexemes.now) (statement_seen c.in_ok-statement.statement) (made_value c.add.new.made) c.in_ok-statement.ensures c.in_ok-check.ensures c.add.ensures.ok c.add.ensures.err
+returns c = added c.add.result (made_value c.args.made.now) (map seen c.args.lexemes.now)
+    (statement_seen c.in_ok-statement.statement)
+    (made_value c.add.new.made) c.in_ok-statement.ensures c.in_ok-check.ensures c.add.ensures.ok c.add.ensures.err

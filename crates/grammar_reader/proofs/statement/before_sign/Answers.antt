@@ -9,5 +9,9 @@ use Rattle.grammar_reader.proofs.statement.before_sign.Goals as goal
 
 pub returns-clause-place : goal.returns-clause-place
 returns-clause-place c =
-    let e : c.position.result ≡ position (λ l. is_sign (seen l)) c.args.lexemes.now = position_from_yields_List (λ l. is_sign (seen l)) _ _ c.position.result c.position.ensures.ran (YieldsList-from_slice c.args.lexemes.now cc) (λ x b q k. search (rules, tests)) in
-    c.unwrap_or.ensures ∙ ap (λ o. unwrap_or o (length c.args.lexemes.now)) e ∙ position_or (λ l. is_sign (seen l)) c.args.lexemes.now ∙ sym (position_or_len-map is_sign seen c.args.lexemes.now)
+    let e : c.position.result ≡ position (λ l. is_sign (seen l)) c.args.lexemes.now = position_from_yields_List
+    (λ l. is_sign (seen l)) _ _ c.position.result c.position.ensures.ran
+    (YieldsList-from_slice c.args.lexemes.now cc) (λ x b q k. search (rules, tests)) in
+    c.unwrap_or.ensures ∙ ap (λ o. unwrap_or o (length c.args.lexemes.now)) e
+    ∙ position_or (λ l. is_sign (seen l)) c.args.lexemes.now
+    ∙ sym (position_or_len-map is_sign seen c.args.lexemes.now)

@@ -7,4 +7,5 @@ use Rattle.kind_orders.proofs.arcs.arc_lines.Goals as goal
 
 pub returns-clause-sorted : goal.returns-clause-sorted
 returns-clause-sorted c =
-    sorted_by_closure arc_cmp c.sort_unstable_by.new.self.items (ranks_by arc_cmp_total (λ a. a)) c.sort_unstable_by.ensures.sorted (λ a r f k. search rules)
+    sorted_by_closure arc_cmp c.sort_unstable_by.new.self.items
+    (ranks_by arc_cmp_total (λ a. a)) c.sort_unstable_by.ensures.sorted (λ a r f k. search rules)

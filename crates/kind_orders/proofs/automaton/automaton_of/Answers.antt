@@ -9,5 +9,7 @@ use Rattle.kind_orders.proofs.automaton.automaton_of.Goals as goal
 pub returns-in-Ok : goal.returns-in-Ok
 returns-in-Ok c =
     let table = c.args.kept.now in
-    automaton_is (states_of table) table.targets (nodes_of c.args.ranks.now c.args.states.now) (length-map c.args.states.now (slice_index c.args.ranks.now) ∙ c.requires.count)
-    (nodes_once c.args.ranks.now c.args.states.now c.requires.ranks c.requires.kinds c.requires.once) c.in-Ok.states.items c.in-Ok.ensures table.some table.disjoint table.filled
+    automaton_is (states_of table) table.targets (nodes_of c.args.ranks.now c.args.states.now)
+    (length-map c.args.states.now (slice_index c.args.ranks.now) ∙ c.requires.count)
+    (nodes_once c.args.ranks.now c.args.states.now c.requires.ranks c.requires.kinds c.requires.once)
+    c.in-Ok.states.items c.in-Ok.ensures table.some table.disjoint table.filled

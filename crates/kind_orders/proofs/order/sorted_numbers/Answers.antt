@@ -15,4 +15,5 @@ returns c =
     is_kind_order shape c.args.stage kinds c.requires.found sorted
     (subst (λ xs. IsPermutation xs sorted) c.in_ok-order.ensures c.sort_unstable_by.ensures.permutation)
     (sorted_by_closure (λ a b. kind_order (told shape c.args.stage kinds a) (told shape c.args.stage kinds b)) sorted
-    (ranks_by kind_order_total (told shape c.args.stage kinds)) c.sort_unstable_by.ensures.sorted (λ a r f k. search rules))
+    (ranks_by kind_order_total (told shape c.args.stage kinds)) c.sort_unstable_by.ensures.sorted
+    (λ a r f k. search rules))

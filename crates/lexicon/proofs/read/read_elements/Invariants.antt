@@ -9,7 +9,8 @@ use Rattle.lexicon.proofs.read.read_elements.Given as goal
 -- the elements so far are the entries so far, whose names are in the set
 abbrev pub invariant-loop-place : goal.invariant-loop-place
 invariant-loop-place l = record {
-  are : AreEntries (length (tiers_of_table l.grammar.tiers).input) l.grammar.letters.items (map view (take l.place l.elements)) (entries_seen l.entries.items);
+  are : AreEntries (length (tiers_of_table l.grammar.tiers).input) l.grammar.letters.items
+      (map view (take l.place l.elements)) (entries_seen l.entries.items);
   keys : map (λ key. key.now) l.names.keys ≡ names_of (entries_seen l.entries.items);
   forms : All (λ entry. IsForm (tiers_of_table l.grammar.tiers) entry.form) l.entries.items;
   short : All (λ entry. length entry.form ≤ 64) l.entries.items;

@@ -1,6 +1,8 @@
-use Rattle.std.proofs.Common.{◌++◌}
-use Rattle.outside.proofs.Sending.{puts_end_part}
+use Rattle.outside.proofs.Writing.{puts_flushed, puts_stop}
 use Rattle.outside.proofs.tests.put_two.Goals as goal
 
-pub returns-clause-part : goal.returns-clause-part
-returns-clause-part g c = puts_end_part (c.args.first.now ++ c.args.second.now) c.new-waiting.ensures c.in_ok-wait_two.ensures.ok c.flush.ensures.part
+pub returns-in_err-push_two : goal.returns-in_err-push_two
+returns-in_err-push_two g c = puts_stop c.new-out.ensures c.from_residual.ensures.1 c.in_err-push_two.ensures
+
+pub returns : goal.returns
+returns g c = puts_flushed c.new-out.ensures c.in_ok-push_two.ensures c.flush.ensures.puts

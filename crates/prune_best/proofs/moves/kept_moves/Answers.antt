@@ -10,7 +10,8 @@ loop-arc-preserved-then-not-is_kept g c =
       inside = omega (arith, c.loop-arc-test.true);
       same = inv.same;
       numbered = inv.numbered;
-      kept = skip c.args.least.now c.args.here c.args.arcs.now c.loop-arc.names.items c.loop-arc.moves.items c.loop-arc.arc-index c.arc-item.result c.loop-arc-test.true c.arc-item.is
+      kept = skip c.args.least.now c.args.here c.args.arcs.now c.loop-arc.names.items c.loop-arc.moves.items
+          c.loop-arc.arc-index c.arc-item.result c.loop-arc-test.true c.arc-item.is
           (λ kept. (let yes = c.is_kept.ensures.1 kept in let no = c.if-not-is_kept.true in cc)) inv.kept;
       named = inv.named;
     }
@@ -26,12 +27,20 @@ loop-arc-preserved g c =
       inside = omega (arith, c.loop-arc-test.true);
       same = c.in_ok-target.ensures.same ∙ inv.same;
       numbered = c.in_ok-target.ensures.numbered;
-      kept = rw c.in_ok-push.ensures.items (keep least c.args.here c.args.arcs.now c.loop-arc.names.items c.number_of.new.names.items c.loop-arc.moves.items c.loop-arc.arc-index arc _ c.loop-arc-test.true c.arc-item.is grows.stays kept (refl, grows.named) inv.kept);
-      named = rw c.in_ok-push.ensures.items (keep-names least c.args.names.now.items c.loop-arc.names.items c.number_of.new.names.items c.loop-arc.moves.items _ c.in_ok-target.target arc.target inv.named grows refl (some_added g.W.Weight.meaning arc.weight c.args.here (get_or least arc.target None) kept));
+      kept = rw c.in_ok-push.ensures.items
+          (keep least c.args.here c.args.arcs.now c.loop-arc.names.items c.number_of.new.names.items
+          c.loop-arc.moves.items c.loop-arc.arc-index arc _ c.loop-arc-test.true c.arc-item.is grows.stays kept
+          (refl, grows.named) inv.kept);
+      named = rw c.in_ok-push.ensures.items
+          (keep-names least c.args.names.now.items c.loop-arc.names.items c.number_of.new.names.items
+          c.loop-arc.moves.items _ c.in_ok-target.target arc.target inv.named grows refl
+          (some_added g.W.Weight.meaning arc.weight c.args.here (get_or least arc.target None) kept));
     }
 
 pub returns-clause-moves : goal.returns-clause-moves
 returns-clause-moves g c =
     let last : c.loop-arc.arc-index ≡ length c.args.arcs.now = omega (arith, c.loop-arc-test.false) in
-    let P : ℕ → Type 0 = λ n. AreKept c.args.least.now c.loop-arc.names.items c.args.here c.args.arcs.now c.loop-arc.moves.items n in
+    let P : ℕ
+    → Type 0 = λ n. AreKept c.args.least.now c.loop-arc.names.items c.args.here c.args.arcs.now
+    c.loop-arc.moves.items n in
     subst P last c.loop-arc.invariant.kept

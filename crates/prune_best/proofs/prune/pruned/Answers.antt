@@ -8,11 +8,15 @@ use Rattle.prune_best.proofs.prune.pruned.Goals as goal
 pub making-init : goal.making-init
 making-init g c =
     let made = c.in_ok-_start.ensures in
-    let full : length c.in_ok-numbers.numbers.items ≡ length c.args.table.now.states.items = omega (arith, c.in_ok-numbers.ensures.len, c.in_ok-numbers.numbers.ok, c.len.ensures) in
+    let full : length c.in_ok-numbers.numbers.items
+    ≡ length c.args.table.now.states.items = omega
+    (arith, c.in_ok-numbers.ensures.len, c.in_ok-numbers.numbers.ok, c.len.ensures) in
     record {
       same = made.same ∙ full;
       numbered = made.numbered;
-      so_far = so_far-start c.args.table.now.states.items c.args.least.now c.number_of.new.names.items c.in_ok-_start._start c.new-states.result.items c.new-states.ensures.items (rw c.new-names.ensures.items at made.grows) c.requires.start;
+      so_far = so_far-start c.args.table.now.states.items c.args.least.now c.number_of.new.names.items
+          c.in_ok-_start._start c.new-states.result.items c.new-states.ensures.items
+          (rw c.new-names.ensures.items at made.grows) c.requires.start;
     }
 
 pub new_state-requires-clause-inside : goal.new_state-requires-clause-inside
@@ -21,9 +25,21 @@ new_state-requires-clause-inside g c =
     let new = c.making.states.items in
     let inv = c.making.invariant in
     let at : c.len-in-making-3.result ≡ length new = omega (arith, c.len-in-making-3.ensures, c.making.states.ok) in
-    let inside : length new < length names = omega (arith, c.making-test.true, c.len-in-making.ensures, c.len-in-making-2.ensures, c.making.states.ok, c.making.names.ok) in
-    let named = next_named names (length new) c.len-in-making-3.result c.index-old.result.now inside at c.index-old.ensures in
-    omega (arith, numbered_below names c.making.numbers.items inv.numbered (length new) c.index-old.result.now named, inv.same)
+    let inside : length new < length names = omega (
+      arith,
+      c.making-test.true,
+      c.len-in-making.ensures,
+      c.len-in-making-2.ensures,
+      c.making.states.ok,
+      c.making.names.ok,
+    ) in
+    let named = next_named names
+    (length new) c.len-in-making-3.result c.index-old.result.now inside at c.index-old.ensures in
+    omega (
+      arith,
+      numbered_below names c.making.numbers.items inv.numbered (length new) c.index-old.result.now named,
+      inv.same,
+    )
 
 pub new_state-requires-clause-weighed : goal.new_state-requires-clause-weighed
 new_state-requires-clause-weighed g c =
@@ -31,8 +47,16 @@ new_state-requires-clause-weighed g c =
     let new = c.making.states.items in
     let inv = c.making.invariant in
     let at : c.len-in-making-3.result ≡ length new = omega (arith, c.len-in-making-3.ensures, c.making.states.ok) in
-    let inside : length new < length names = omega (arith, c.making-test.true, c.len-in-making.ensures, c.len-in-making-2.ensures, c.making.states.ok, c.making.names.ok) in
-    let named = next_named names (length new) c.len-in-making-3.result c.index-old.result.now inside at c.index-old.ensures in
+    let inside : length new < length names = omega (
+      arith,
+      c.making-test.true,
+      c.len-in-making.ensures,
+      c.len-in-making-2.ensures,
+      c.making.states.ok,
+      c.making.names.ok,
+    ) in
+    let named = next_named names
+    (length new) c.len-in-making-3.result c.index-old.result.now inside at c.index-old.ensures in
     inv.so_far.weighed (length new) c.index-old.result.now named
 
 pub making-smaller : goal.making-smaller
@@ -40,9 +64,17 @@ making-smaller g c =
     let names = c.making.names.items in
     let new = c.making.states.items in
     let inv = c.making.invariant in
-    let inside : length new < length names = omega (arith, c.making-test.true, c.len-in-making.ensures, c.len-in-making-2.ensures, c.making.states.ok, c.making.names.ok) in
+    let inside : length new < length names = omega (
+      arith,
+      c.making-test.true,
+      c.len-in-making.ensures,
+      c.len-in-making-2.ensures,
+      c.making.states.ok,
+      c.making.names.ok,
+    ) in
     let few = names_few names c.making.numbers.items inv.numbered in
-    let more : length c.push.new.self.items ≡ length new + 1 = ap (λ xs. length xs) c.in_ok-push.ensures.items ∙ length_push new c.in_ok-state.state in
+    let more : length c.push.new.self.items ≡ length new + 1 = ap (λ xs. length xs) c.in_ok-push.ensures.items
+    ∙ length_push new c.in_ok-state.state in
     omega (arith, c.in_ok-state.ensures.same, more, few, inside)
 
 pub making-preserved : goal.making-preserved
@@ -52,46 +84,123 @@ making-preserved g c =
     let inv = c.making.invariant in
     let done = c.in_ok-state.ensures in
     let at : c.len-in-making-3.result ≡ length new = omega (arith, c.len-in-making-3.ensures, c.making.states.ok) in
-    let inside : length new < length names = omega (arith, c.making-test.true, c.len-in-making.ensures, c.len-in-making-2.ensures, c.making.states.ok, c.making.names.ok) in
-    let named = next_named names (length new) c.len-in-making-3.result c.index-old.result.now inside at c.index-old.ensures in
+    let inside : length new < length names = omega (
+      arith,
+      c.making-test.true,
+      c.len-in-making.ensures,
+      c.len-in-making-2.ensures,
+      c.making.states.ok,
+      c.making.names.ok,
+    ) in
+    let named = next_named names
+    (length new) c.len-in-making-3.result c.index-old.result.now inside at c.index-old.ensures in
     record {
       same = done.same ∙ inv.same;
       numbered = done.numbered;
-      so_far = rw c.in_ok-push.ensures.items (so_far-push c.args.table.now.states.items c.args.least.now names c.new_state.new.names.items new c.in_ok-state.state c.index-old.result.now inv.so_far named done.made done.names);
+      so_far = rw c.in_ok-push.ensures.items
+          (so_far-push c.args.table.now.states.items c.args.least.now names c.new_state.new.names.items new
+          c.in_ok-state.state c.index-old.result.now inv.so_far named done.made done.names);
     }
 
 pub of_states-requires-clause-few : goal.of_states-requires-clause-few
 of_states-requires-clause-few g c =
     let inv = c.making.invariant in
-    let all : length c.making.states.items ≡ length c.making.names.items = omega (arith, c.making-test.false, c.len-in-making.ensures, c.len-in-making-2.ensures, c.making.states.ok, c.making.names.ok, inv.so_far.within) in
-    omega (arith, names_few c.making.names.items c.making.numbers.items inv.numbered, inv.same, c.args.table.now.few, all)
+    let all : length c.making.states.items
+    ≡ length c.making.names.items = omega (
+      arith,
+      c.making-test.false,
+      c.len-in-making.ensures,
+      c.len-in-making-2.ensures,
+      c.making.states.ok,
+      c.making.names.ok,
+      inv.so_far.within,
+    ) in
+    omega (
+      arith,
+      names_few c.making.names.items c.making.numbers.items inv.numbered,
+      inv.same,
+      c.args.table.now.few,
+      all,
+    )
 
 pub of_states-requires-clause-targets : goal.of_states-requires-clause-targets
 of_states-requires-clause-targets g c =
     let inv = c.making.invariant in
-    let all : length c.making.states.items ≡ length c.making.names.items = omega (arith, c.making-test.false, c.len-in-making.ensures, c.len-in-making-2.ensures, c.making.states.ok, c.making.names.ok, inv.so_far.within) in
-    new_targets g.met.W.Weight.laws c.args.table.now.states.items c.args.table.now.targets c.args.least.now c.requires.least c.making.names.items c.making.states.items inv.so_far all
+    let all : length c.making.states.items
+    ≡ length c.making.names.items = omega (
+      arith,
+      c.making-test.false,
+      c.len-in-making.ensures,
+      c.len-in-making-2.ensures,
+      c.making.states.ok,
+      c.making.names.ok,
+      inv.so_far.within,
+    ) in
+    new_targets g.met.W.Weight.laws c.args.table.now.states.items c.args.table.now.targets c.args.least.now
+    c.requires.least c.making.names.items c.making.states.items inv.so_far all
 
 pub of_states-requires-clause-disjoint : goal.of_states-requires-clause-disjoint
 of_states-requires-clause-disjoint g c =
     let inv = c.making.invariant in
-    let all : length c.making.states.items ≡ length c.making.names.items = omega (arith, c.making-test.false, c.len-in-making.ensures, c.len-in-making-2.ensures, c.making.states.ok, c.making.names.ok, inv.so_far.within) in
-    new_disjoint g.met.W.Weight.laws c.args.table.now.states.items c.args.table.now.targets c.args.least.now c.requires.least c.making.names.items c.making.states.items inv.so_far all c.args.table.now.disjoint
+    let all : length c.making.states.items
+    ≡ length c.making.names.items = omega (
+      arith,
+      c.making-test.false,
+      c.len-in-making.ensures,
+      c.len-in-making-2.ensures,
+      c.making.states.ok,
+      c.making.names.ok,
+      inv.so_far.within,
+    ) in
+    new_disjoint g.met.W.Weight.laws c.args.table.now.states.items c.args.table.now.targets c.args.least.now
+    c.requires.least c.making.names.items c.making.states.items inv.so_far all c.args.table.now.disjoint
 
 pub of_states-requires-clause-filled : goal.of_states-requires-clause-filled
 of_states-requires-clause-filled g c =
     let inv = c.making.invariant in
-    let all : length c.making.states.items ≡ length c.making.names.items = omega (arith, c.making-test.false, c.len-in-making.ensures, c.len-in-making-2.ensures, c.making.states.ok, c.making.names.ok, inv.so_far.within) in
-    new_filled g.met.W.Weight.laws c.args.table.now.states.items c.args.table.now.targets c.args.least.now c.requires.least c.making.names.items c.making.states.items inv.so_far all c.args.table.now.filled
+    let all : length c.making.states.items
+    ≡ length c.making.names.items = omega (
+      arith,
+      c.making-test.false,
+      c.len-in-making.ensures,
+      c.len-in-making-2.ensures,
+      c.making.states.ok,
+      c.making.names.ok,
+      inv.so_far.within,
+    ) in
+    new_filled g.met.W.Weight.laws c.args.table.now.states.items c.args.table.now.targets c.args.least.now
+    c.requires.least c.making.names.items c.making.states.items inv.so_far all c.args.table.now.filled
 
 pub of_states-requires-clause-one_width : goal.of_states-requires-clause-one_width
 of_states-requires-clause-one_width g c =
     let inv = c.making.invariant in
-    let all : length c.making.states.items ≡ length c.making.names.items = omega (arith, c.making-test.false, c.len-in-making.ensures, c.len-in-making-2.ensures, c.making.states.ok, c.making.names.ok, inv.so_far.within) in
-    new_width g.met.W.Weight.laws c.args.table.now.states.items c.args.table.now.targets c.args.least.now c.requires.least c.making.names.items c.making.states.items inv.so_far all c.args.table.now.one_width
+    let all : length c.making.states.items
+    ≡ length c.making.names.items = omega (
+      arith,
+      c.making-test.false,
+      c.len-in-making.ensures,
+      c.len-in-making-2.ensures,
+      c.making.states.ok,
+      c.making.names.ok,
+      inv.so_far.within,
+    ) in
+    new_width g.met.W.Weight.laws c.args.table.now.states.items c.args.table.now.targets c.args.least.now
+    c.requires.least c.making.names.items c.making.states.items inv.so_far all c.args.table.now.one_width
 
 pub returns : goal.returns
 returns g c =
     let inv = c.making.invariant in
-    let all : length c.making.states.items ≡ length c.making.names.items = omega (arith, c.making-test.false, c.len-in-making.ensures, c.len-in-making-2.ensures, c.making.states.ok, c.making.names.ok, inv.so_far.within) in
-    rw c.of_states.ensures (is_tight g.met.W.Weight.laws c.args.table.now.states.items c.args.table.now.targets c.args.least.now c.requires.least c.making.names.items c.making.states.items inv.so_far all c.args.table.now.filled c.making.numbers.items inv.numbered inv.same)
+    let all : length c.making.states.items
+    ≡ length c.making.names.items = omega (
+      arith,
+      c.making-test.false,
+      c.len-in-making.ensures,
+      c.len-in-making-2.ensures,
+      c.making.states.ok,
+      c.making.names.ok,
+      inv.so_far.within,
+    ) in
+    rw c.of_states.ensures
+    (is_tight g.met.W.Weight.laws c.args.table.now.states.items c.args.table.now.targets c.args.least.now
+    c.requires.least c.making.names.items c.making.states.items inv.so_far all c.args.table.now.filled
+    c.making.numbers.items inv.numbered inv.same)

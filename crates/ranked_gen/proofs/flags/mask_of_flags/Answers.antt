@@ -5,9 +5,14 @@ use Rattle.ranked_gen.proofs.flags.mask_of_flags.Goals.{then-has_bit, else-has_b
 
 pub loop-flag-preserved : goal.loop-flag-preserved
 loop-flag-preserved c = elim c.if-has_bit.branch [
-  | then-has_bit w ↦ rw w.mask-is (mask_set c.args.free c.args.number c.loop-flag.mask c.loop-flag.flag c.loop-flag.invariant (omega arith) (sym c.has_bit.ensures ∙ w.if-has_bit.true))
-  | else-has_bit w ↦ rw w.mask-is (mask_clear c.args.free c.args.number c.loop-flag.mask c.loop-flag.flag c.loop-flag.invariant (sym c.has_bit.ensures ∙ w.if-has_bit.false))
+  | then-has_bit w ↦ rw w.mask-is
+      (mask_set c.args.free c.args.number c.loop-flag.mask c.loop-flag.flag c.loop-flag.invariant (omega arith)
+      (sym c.has_bit.ensures ∙ w.if-has_bit.true))
+  | else-has_bit w ↦ rw w.mask-is
+      (mask_clear c.args.free c.args.number c.loop-flag.mask c.loop-flag.flag c.loop-flag.invariant
+      (sym c.has_bit.ensures ∙ w.if-has_bit.false))
 ]
 
 pub returns-clause-flags : goal.returns-clause-flags
-returns-clause-flags c = mask_all c.args.free c.args.number c.loop-flag.mask c.loop-flag.flag c.loop-flag.invariant (omega arith)
+returns-clause-flags c = mask_all c.args.free c.args.number c.loop-flag.mask c.loop-flag.flag c.loop-flag.invariant
+    (omega arith)

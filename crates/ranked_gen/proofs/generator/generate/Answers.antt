@@ -17,18 +17,26 @@ returns-then-kinds-budget-clause-over c = λ stage e.
     counted_kinds _ _ _ (length problem.form) (length problem.tiers.free) c.count_kinds-kinds.ensures (omega arith)
     c.free_count-free.ensures.value in
     subst (λ s. IsFirstOver problem c.args.budget s) first
-    (first_over problem (tiers_split g.tiers.kinds.items) (free_distinct g.tiers.kinds.items) c.requires.form c.args.budget (omega (arith, counted, c.if-kinds-budget.true)))
+    (first_over problem (tiers_split g.tiers.kinds.items)
+    (free_distinct g.tiers.kinds.items) c.requires.form c.args.budget
+    (omega (arith, counted, c.if-kinds-budget.true)))
 
 pub returns-in-Ok-clause-within : goal.returns-in-Ok-clause-within
 returns-in-Ok-clause-within c =
     let made = c.in-Ok.ensures in
     let g = c.args.grammar.now in
-    subst (λ u. IfOk c.answer_in.result (λ answer. AreAllWithin (asked g.tiers g.constraints.items u) c.args.budget)) made.form
-    (subst (λ g. IfOk c.answer_in.result (λ answer. AreAllWithin (asked g.tiers g.constraints.items c.in-Ok.frame.form.now) c.args.budget)) made.grammar c.answer_in.ensures.within)
+    subst (λ u. IfOk c.answer_in.result (λ answer. AreAllWithin
+    (asked g.tiers g.constraints.items u) c.args.budget)) made.form
+    (subst (λ g. IfOk c.answer_in.result
+    (λ answer. AreAllWithin
+    (asked g.tiers g.constraints.items c.in-Ok.frame.form.now) c.args.budget)) made.grammar
+    c.answer_in.ensures.within)
 
 pub returns-in-Ok-clause-over : goal.returns-in-Ok-clause-over
 returns-in-Ok-clause-over c = λ stage e.
     let made = c.in-Ok.ensures in
     let g = c.args.grammar.now in
     subst (λ u. IsFirstOver (asked g.tiers g.constraints.items u) c.args.budget stage) made.form
-    (subst (λ g. IsFirstOver (asked g.tiers g.constraints.items c.in-Ok.frame.form.now) c.args.budget stage) made.grammar (c.answer_in.ensures.over stage e))
+    (subst (λ g. IsFirstOver
+    (asked g.tiers g.constraints.items c.in-Ok.frame.form.now) c.args.budget stage) made.grammar
+    (c.answer_in.ensures.over stage e))

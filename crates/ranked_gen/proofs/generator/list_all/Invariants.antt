@@ -5,4 +5,5 @@ use Rattle.ranked_gen.proofs.generator.list_all.Given as goal
 use Rattle.kind_moves.specs.Frames.{problem_in}
 
 abbrev pub invariant-loop-place : goal.invariant-loop-place
-invariant-loop-place l = AreListed (problem_in l.frame) (l.place * 2 ^ l.free) l.listing.nodes.items l.listing.states.items
+invariant-loop-place l = AreListed (problem_in l.frame)
+    (l.place * 2 ^ l.free) l.listing.nodes.items l.listing.states.items

@@ -10,4 +10,6 @@ loop-tier-preserved c = laid_more symbols_of _ _ _ _ c.loop-tier.invariant (omeg
 pub returns : goal.returns
 returns c =
     let end : length c.args.kinds.now ≡ c.loop-tier.tier = omega arith in
-    ap (λ n. map symbols_of (take n c.loop-tier.picks)) end ∙ c.loop-tier.invariant.done ∙ ap (λ n. map (symbols_by_flags c.args.kinds.now c.args.given.now c.args.before.now c.args.after.now) (range_with_len 0 n)) (sym end)
+    ap (λ n. map symbols_of (take n c.loop-tier.picks)) end ∙ c.loop-tier.invariant.done
+    ∙ ap (λ n. map (symbols_by_flags c.args.kinds.now c.args.given.now c.args.before.now c.args.after.now)
+    (range_with_len 0 n)) (sym end)

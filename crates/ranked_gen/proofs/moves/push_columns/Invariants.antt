@@ -7,4 +7,5 @@ use Rattle.ranked_gen.specs.Picks.{picked}
 use Rattle.ranked_gen.proofs.moves.push_columns.Given as goal
 
 abbrev pub invariant-loop-number : goal.invariant-loop-number
-invariant-loop-number l = map table_view l.arcs.items ≡ map table_view l.fn.arcs.items ++ map (arc_by l.frame l.kind) (filter has_edge (map (picked l.picks) (range_with_len 0 l.number)))
+invariant-loop-number l = map table_view l.arcs.items ≡ map table_view l.fn.arcs.items
+    ++ map (arc_by l.frame l.kind) (filter has_edge (map (picked l.picks) (range_with_len 0 l.number)))

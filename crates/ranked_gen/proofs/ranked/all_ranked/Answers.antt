@@ -23,24 +23,36 @@ next_stage-requires-clause-accepts c = λ T.
 pub returns-in-Err-clause-over : goal.returns-in-Err-clause-over
 returns-in-Err-clause-over c = λ s e.
     let frame = c.args.frame.now in
-    let inside : c.loop-number.number < last_stage (problem_in frame) = omega (arith, c.loop-number-test.true, c.loop-number.auto.number-end, c.len-number-end.ensures) in
+    let inside : c.loop-number.number < last_stage (problem_in frame) = omega
+    (arith, c.loop-number-test.true, c.loop-number.auto.number-end, c.len-number-end.ensures) in
     let same : c.in-Err.cause ≡ Budget s = cc in
     let over = c.in-Err.ensures.over s (ap Err same) in
     subst (λ n. IsFirstOver (problem_in frame) c.args.budget n) (sym over.0)
-    (first_over (problem_in frame) c.args.budget c.loop-number.number c.loop-number.ranked.stages.items c.loop-number.ranked.counts.items c.loop-number.invariant.so_far (c.loop-number.number + 1) refl inside over.1)
+    (first_over
+    (problem_in frame) c.args.budget c.loop-number.number c.loop-number.ranked.stages.items
+    c.loop-number.ranked.counts.items c.loop-number.invariant.so_far
+    (c.loop-number.number + 1) refl inside over.1)
 
 pub loop-number-preserved : goal.loop-number-preserved
 loop-number-preserved c =
     let frame = c.args.frame.now in
-    let inside : c.loop-number.number < last_stage (problem_in frame) = omega (arith, c.loop-number-test.true, c.loop-number.auto.number-end, c.len-number-end.ensures) in
+    let inside : c.loop-number.number < last_stage (problem_in frame) = omega
+    (arith, c.loop-number-test.true, c.loop-number.auto.number-end, c.len-number-end.ensures) in
     let next = c.in-Ok.next in
-    let ranked = ranked_next (problem_in frame) c.args.budget c.loop-number.number c.loop-number.ranked.stages.items c.loop-number.ranked.counts.items c.loop-number.invariant.so_far
-    next.stage next.count (c.loop-number.number + 1) refl inside (states_of next.left.kept.table) next.left.kept.states.items next.left.order.items c.in-Ok.ensures.staged c.in-Ok.ensures.within in
+    let ranked = ranked_next
+    (problem_in frame) c.args.budget c.loop-number.number c.loop-number.ranked.stages.items
+    c.loop-number.ranked.counts.items c.loop-number.invariant.so_far
+    next.stage next.count (c.loop-number.number + 1) refl inside
+    (states_of next.left.kept.table) next.left.kept.states.items next.left.order.items c.in-Ok.ensures.staged
+    c.in-Ok.ensures.within in
     rw (c.in-Ok-with_next.ensures.stages, c.in-Ok-with_next.ensures.counts, c.in-Ok-with_next.ensures.left) ranked
 
 pub returns-clause-ranked : goal.returns-clause-ranked
 returns-clause-ranked c =
     let frame = c.args.frame.now in
     let ranked = c.loop-number.ranked in
-    let end : c.loop-number.number ≡ last_stage (problem_in frame) = omega (arith, c.loop-number-test.false, c.loop-number.auto.number-end, c.len-number-end.ensures) in
-    subst (λ n. IsRanked (problem_in frame) c.args.budget n ranked.stages.items ranked.counts.items (states_of ranked.left.kept.table) ranked.left.kept.states.items ranked.left.order.items) end c.loop-number.invariant
+    let end : c.loop-number.number ≡ last_stage (problem_in frame) = omega
+    (arith, c.loop-number-test.false, c.loop-number.auto.number-end, c.len-number-end.ensures) in
+    subst (λ n. IsRanked (problem_in frame) c.args.budget n ranked.stages.items ranked.counts.items
+    (states_of ranked.left.kept.table) ranked.left.kept.states.items ranked.left.order.items) end
+    c.loop-number.invariant

@@ -17,20 +17,23 @@ pub to_final-requires : goal.to_final-requires
 to_final-requires c =
     let frame = c.args.frame.now in
     let found = c.args.found.now in
-    sizes_fit (problem_in frame) c.args.stage (names_at frame c.args.stage found.kinds.items) (states_of found.table) c.requires.table refl 4294967295 (omega (arith, found.table.few))
+    sizes_fit (problem_in frame) c.args.stage (names_at frame c.args.stage found.kinds.items)
+    (states_of found.table) c.requires.table refl 4294967295 (omega (arith, found.table.few))
 
 pub ordered-requires-clause-found : goal.ordered-requires-clause-found
 ordered-requires-clause-found c =
     let frame = c.args.frame.now in
     let found = c.args.found.now in
     subst (AreFound c.in_ok-shape.shape c.args.stage) (sym c.deref-2.ensures.value)
-    (kinds_found frame c.in_ok-shape.shape c.in_ok-shape.ensures c.args.stage c.requires.within found.kinds.items c.requires.fit c.requires.table.named.distinct)
+    (kinds_found frame c.in_ok-shape.shape c.in_ok-shape.ensures c.args.stage c.requires.within found.kinds.items
+    c.requires.fit c.requires.table.named.distinct)
 
 pub tight-requires-clause-sizes : goal.tight-requires-clause-sizes
 tight-requires-clause-sizes c =
     let frame = c.args.frame.now in
     let found = c.args.found.now in
-    sizes_fit (problem_in frame) c.args.stage (names_at frame c.args.stage found.kinds.items) (states_of found.table) c.requires.table refl 4294967295 (omega (arith, found.table.few))
+    sizes_fit (problem_in frame) c.args.stage (names_at frame c.args.stage found.kinds.items)
+    (states_of found.table) c.requires.table refl 4294967295 (omega (arith, found.table.few))
 
 pub returns : goal.returns
 returns c =
@@ -42,16 +45,24 @@ returns c =
     let order = c.in_ok-order.order.items in
     let nodes = c.in_ok-nodes.nodes.nodes.items in
     let kept = c.in_ok-kept.kept in
-    let numbers : c.in-Ok.potentials.items ≡ map weight_number least = c.in-Ok.ensures ∙ ap (map weight_number) c.deref.ensures.value in
-    let sorted : IsKindOrder shape c.args.stage kinds order = subst (λ (ks : List Kind). IsKindOrder shape c.args.stage ks order) c.deref-2.ensures.value c.in_ok-order.ensures in
+    let numbers : c.in-Ok.potentials.items ≡ map weight_number least = c.in-Ok.ensures
+    ∙ ap (map weight_number) c.deref.ensures.value in
+    let sorted : IsKindOrder shape c.args.stage kinds order = subst
+    (λ (ks : List Kind). IsKindOrder shape c.args.stage ks order) c.deref-2.ensures.value c.in_ok-order.ensures in
     let listed : AreNodesInOrder kinds (map weight_number least) order nodes =
     subst (λ ns. AreNodesInOrder kinds ns order nodes) (c.deref-4.ensures.value ∙ numbers)
     (subst (λ (ks : List Kind). AreNodesInOrder ks c.deref-4.result.now order nodes) c.deref-3.ensures.value
-    (subst (λ ns. AreNodesInOrder c.deref-3.result.now c.deref-4.result.now ns nodes) c.deref-5.ensures.value c.in_ok-nodes.ensures)) in
+    (subst (λ ns. AreNodesInOrder c.deref-3.result.now c.deref-4.result.now ns nodes) c.deref-5.ensures.value
+    c.in_ok-nodes.ensures)) in
     let long = ap length numbers ∙ length-map least weight_number in
-    let inside : 0 < length c.in-Ok.potentials.items = omega (arith, long, c.in_ok-least.ensures.each_state, found.table.some) in
-    let value : c.index.result.now ≡ get_or c.in-Ok.potentials.items 0 0 = c.index.ensures ∙ get_or_default c.in-Ok.potentials.items 0 c.index.result.now 0 inside in
-    let first : get_or (map weight_number least) 0 0 ≡ c.index.result.now = sym (value ∙ ap (λ ns. get_or ns 0 0) numbers) in
+    let inside : 0 < length c.in-Ok.potentials.items = omega
+    (arith, long, c.in_ok-least.ensures.each_state, found.table.some) in
+    let value : c.index.result.now ≡ get_or c.in-Ok.potentials.items 0 0 = c.index.ensures
+    ∙ get_or_default c.in-Ok.potentials.items 0 c.index.result.now 0 inside in
+    let first : get_or (map weight_number least) 0 0
+    ≡ c.index.result.now = sym (value ∙ ap (λ ns. get_or ns 0 0) numbers) in
     subst (λ n. IsStaged (problem_in frame) c.args.stage nodes n (states_of kept.table) kept.states.items order) first
-    (staged frame c.args.stage c.requires.some c.requires.within kinds refl (states_of found.table) c.requires.table least c.in_ok-least.ensures shape c.in_ok-shape.ensures order sorted nodes listed c.requires.single
+    (staged frame c.args.stage c.requires.some c.requires.within kinds refl
+    (states_of found.table) c.requires.table least c.in_ok-least.ensures shape c.in_ok-shape.ensures order sorted
+    nodes listed c.requires.single
     (states_of kept.table) kept.states.items c.in_ok-kept.ensures kept.table.some kept.table.targets kept.table.filled)

@@ -5,4 +5,5 @@ pub returns-clause-paths : goal.returns-clause-paths
 returns-clause-paths c problem r names states stage table = path_kind problem r stage names states table.named
 
 pub returns-clause-names : goal.returns-clause-names
-returns-clause-names c problem r names states stage table = names_law problem r stage names states table.named _ table.accepts table.on_runs
+returns-clause-names c problem r names states stage table = names_law problem r stage names states table.named _
+    table.accepts table.on_runs

@@ -13,11 +13,13 @@ pub loop-next-init : goal.loop-next-init
 loop-next-init c =
     let first = c.in-Some.parts.0.now in
     let rest = c.in-Some.parts.1.now in
-    let all : All (λ class. c.args.tier < length (sets_of class)) (first ∷ rest) = subst (All (λ class. c.args.tier < length (sets_of class))) c.in-Some.ensures.cases.0 c.requires.wide in
+    let all : All (λ class. c.args.tier < length (sets_of class)) (first ∷ rest) = subst
+    (All (λ class. c.args.tier < length (sets_of class))) c.in-Some.ensures.cases.0 c.requires.wide in
     record {
       within = omega arith;
       wide = All-head (λ class. c.args.tier < length (sets_of class)) first rest all;
-      so_far = ap (λ (xs : List Class). map sets_of xs ++ joined_from c.args.tier (sets_of first) (map sets_of rest)) c.new-joined.ensures.items;
+      so_far = ap (λ (xs : List Class). map sets_of xs
+          ++ joined_from c.args.tier (sets_of first) (map sets_of rest)) c.new-joined.ensures.items;
     }
 
 pub joined_next-requires-clause-first : goal.joined_next-requires-clause-first
@@ -27,8 +29,11 @@ pub joined_next-requires-clause-second : goal.joined_next-requires-clause-second
 joined_next-requires-clause-second c =
     let first = c.in-Some.parts.0.now in
     let rest = c.in-Some.parts.1.now in
-    let all : All (λ class. c.args.tier < length (sets_of class)) (first ∷ rest) = subst (All (λ class. c.args.tier < length (sets_of class))) c.in-Some.ensures.cases.0 c.requires.wide in
-    subst (λ (class : Class). c.args.tier < length (sets_of class)) (sym c.next-item.is) (All-tail (λ class. c.args.tier < length (sets_of class)) first rest all c.loop-next.next-index c.next-item.result c.loop-next-test.true)
+    let all : All (λ class. c.args.tier < length (sets_of class)) (first ∷ rest) = subst
+    (All (λ class. c.args.tier < length (sets_of class))) c.in-Some.ensures.cases.0 c.requires.wide in
+    subst (λ (class : Class). c.args.tier < length (sets_of class)) (sym c.next-item.is)
+    (All-tail (λ class. c.args.tier < length
+    (sets_of class)) first rest all c.loop-next.next-index c.next-item.result c.loop-next-test.true)
 
 pub loop-next-preserved : goal.loop-next-preserved
 loop-next-preserved c =
@@ -36,12 +41,24 @@ loop-next-preserved c =
     let rest = c.in-Some.parts.1.now in
     let tier = c.args.tier in
     let next = c.next-item.result in
-    let all : All (λ class. tier < length (sets_of class)) (first ∷ rest) = subst (All (λ class. tier < length (sets_of class))) c.in-Some.ensures.cases.0 c.requires.wide in
-    let wide : tier < length (sets_of next) = subst (λ (class : Class). tier < length (sets_of class)) (sym c.next-item.is) (All-tail (λ class. tier < length (sets_of class)) first rest all c.loop-next.next-index next c.loop-next-test.true) in
+    let all : All (λ class. tier < length (sets_of class)) (first ∷ rest) = subst
+    (All (λ class. tier < length (sets_of class))) c.in-Some.ensures.cases.0 c.requires.wide in
+    let wide : tier < length (sets_of next) = subst (λ (class : Class). tier < length (sets_of class))
+    (sym c.next-item.is) (All-tail (λ class. tier < length
+    (sets_of class)) first rest all c.loop-next.next-index next c.loop-next-test.true) in
     record {
       within = omega (arith, c.loop-next-test.true);
-      wide = wide_next tier c.loop-next.joined.items c.joined_next.new.done.items c.loop-next.current next c.in_ok-current.current (record { alike = c.in_ok-current.ensures.alike; other = c.in_ok-current.ensures.other }) c.loop-next.invariant.wide wide;
-      so_far = joined_more tier c.loop-next.joined.items c.joined_next.new.done.items c.loop-next.current next c.in_ok-current.current rest c.loop-next.next-index (joined_from tier (sets_of first) (map sets_of rest)) (record { alike = c.in_ok-current.ensures.alike; other = c.in_ok-current.ensures.other }) c.loop-next-test.true c.next-item.is c.loop-next.invariant.so_far;
+      wide = wide_next tier c.loop-next.joined.items c.joined_next.new.done.items c.loop-next.current next
+          c.in_ok-current.current (record {
+            alike = c.in_ok-current.ensures.alike;
+            other = c.in_ok-current.ensures.other;
+          }) c.loop-next.invariant.wide wide;
+      so_far = joined_more tier c.loop-next.joined.items c.joined_next.new.done.items c.loop-next.current next
+          c.in_ok-current.current rest c.loop-next.next-index (joined_from tier (sets_of first) (map sets_of rest))
+          (record {
+            alike = c.in_ok-current.ensures.alike;
+            other = c.in_ok-current.ensures.other;
+          }) c.loop-next-test.true c.next-item.is c.loop-next.invariant.so_far;
     }
 
 pub returns : goal.returns
@@ -51,7 +68,10 @@ returns c =
     let tier = c.args.tier in
     let all = joined_from tier (sets_of first) (map sets_of rest) in
     let is : c.args.sorted.now ≡ first ∷ rest = c.in-Some.ensures.cases.0 in
-    let made : map sets_of c.push.new.self.items ≡ all = joined_all tier c.loop-next.joined.items c.push.new.self.items c.loop-next.current rest c.loop-next.next-index all c.in_ok-push.ensures.items (omega (arith, c.loop-next-test.false)) c.loop-next.invariant.so_far in
+    let made : map sets_of c.push.new.self.items
+    ≡ all = joined_all tier c.loop-next.joined.items c.push.new.self.items c.loop-next.current rest
+    c.loop-next.next-index all c.in_ok-push.ensures.items
+    (omega (arith, c.loop-next-test.false)) c.loop-next.invariant.so_far in
     subst (λ (old : List Class). JoinsAlong tier old c.push.new.self.items) (sym is)
     (joins_sorted tier first rest c.push.new.self.items made
     (subst (All (λ class. tier < length (sets_of class))) is c.requires.wide)

@@ -8,5 +8,6 @@ abbrev pub invariant-loop-next : goal.invariant-loop-next
 invariant-loop-next l = record {
   within : l.next-index ≤ length l.rest;
   wide : l.tier < length (sets_of l.current);
-  so_far : map sets_of l.joined.items ++ joined_from l.tier (sets_of l.current) (map sets_of (drop l.next-index l.rest)) ≡ joined_from l.tier (sets_of l.initial.current) (map sets_of l.rest);
+  so_far : map sets_of l.joined.items ++ joined_from l.tier (sets_of l.current)
+      (map sets_of (drop l.next-index l.rest)) ≡ joined_from l.tier (sets_of l.initial.current) (map sets_of l.rest);
 }

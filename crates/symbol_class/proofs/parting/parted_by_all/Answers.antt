@@ -10,13 +10,19 @@ loop-test-preserved c =
     let class = c.args.class.now in
     let test = c.test-item.result in
     let width = length (sets_of class) in
-    let wide : length (sets_of test) ≡ width = subst (λ (x : Class). length (sets_of x) ≡ width) (sym c.test-item.is) (c.requires c.loop-test.test-index test c.loop-test-test.true) in
+    let wide : length (sets_of test) ≡ width = subst (λ (x : Class). length (sets_of x) ≡ width) (sym c.test-item.is)
+    (c.requires c.loop-test.test-index test c.loop-test-test.true) in
     record {
       within = omega (arith, c.loop-test-test.true);
-      so_far = split_more width class c.args.tests.now c.loop-test.test-index c.loop-test.inside.items c.loop-test.outside.items test c.parted.new.inside.items c.in_ok-outside.outside.items
+      so_far = split_more width class c.args.tests.now c.loop-test.test-index c.loop-test.inside.items
+          c.loop-test.outside.items test c.parted.new.inside.items c.in_ok-outside.outside.items
           c.loop-test.invariant.so_far c.loop-test-test.true c.test-item.is
-          (subst (λ (xs : List Class). AddsClasses width c.loop-test.inside.items c.parted.new.inside.items (times_in test xs)) c.deref.ensures.value
-          (subst (λ (n : ℕ). AddsClasses n c.loop-test.inside.items c.parted.new.inside.items (times_in test c.deref.result.now)) wide c.in_ok-outside.ensures.inside))
-          (subst (λ (xs : List Class). AddsClasses width [] c.in_ok-outside.outside.items (times_out test xs)) c.deref.ensures.value
-          (subst (λ (n : ℕ). AddsClasses n [] c.in_ok-outside.outside.items (times_out test c.deref.result.now)) wide c.in_ok-outside.ensures.outside));
+          (subst (λ (xs : List Class). AddsClasses width c.loop-test.inside.items c.parted.new.inside.items
+          (times_in test xs)) c.deref.ensures.value
+          (subst (λ (n : ℕ). AddsClasses n c.loop-test.inside.items c.parted.new.inside.items
+          (times_in test c.deref.result.now)) wide c.in_ok-outside.ensures.inside))
+          (subst (λ (xs : List Class). AddsClasses width [] c.in_ok-outside.outside.items
+          (times_out test xs)) c.deref.ensures.value
+          (subst (λ (n : ℕ). AddsClasses n [] c.in_ok-outside.outside.items
+          (times_out test c.deref.result.now)) wide c.in_ok-outside.ensures.outside));
     }

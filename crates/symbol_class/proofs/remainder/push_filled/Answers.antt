@@ -7,4 +7,5 @@ use Rattle.symbol_class.proofs.remainder.push_filled.Goals as goal
 
 pub returns-then-is_empty-clause-held : goal.returns-then-is_empty-clause-held
 returns-then-is_empty-clause-held c =
-    adds_empty (length (sets_of c.args.class)) c.args.pieces.now.items c.args.class (not-true (is_filled c.args.class) (sym c.is_empty.ensures.sets ∙ c.if-is_empty.true))
+    adds_empty (length (sets_of c.args.class)) c.args.pieces.now.items c.args.class
+    (not-true (is_filled c.args.class) (sym c.is_empty.ensures.sets ∙ c.if-is_empty.true))

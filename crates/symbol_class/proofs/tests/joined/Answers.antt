@@ -9,4 +9,5 @@ pub join-requires : goal.join-requires
 join-requires c =
     let parts = c.in_ok-parts.parts in
     subst (λ (classes : List Class). ArePieces (width_of classes) classes) (sym c.deref.ensures.value)
-    (pieces_of_width _ parts.inside.items (pieces_front _ parts.inside.items parts.outside.items c.in_ok-parts.ensures.pieces))
+    (pieces_of_width _ parts.inside.items
+    (pieces_front _ parts.inside.items parts.outside.items c.in_ok-parts.ensures.pieces))

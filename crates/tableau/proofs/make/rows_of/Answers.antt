@@ -15,23 +15,48 @@ use Rattle.violation.specs.Problems.{asked}
 
 pub compared-requires-clause-countable : goal.compared-requires-clause-countable
 compared-requires-clause-countable c =
-    let candidate = subst (IsCandidate (asked c.args.grammar.now.tiers c.args.grammar.now.constraints.items c.args.answer.now.form)) (sym c.timeline-item.is) (c.requires.candidates c.loop-timeline.timeline-index c.timeline-item.result c.loop-timeline-test.true) in
-    subst (λ (cs : List Constraint). All (λ k. IsCountable k.left k.right c.timeline-item.result) cs) (sym c.deref.ensures.value)
+    let candidate = subst
+    (IsCandidate (asked c.args.grammar.now.tiers c.args.grammar.now.constraints.items c.args.answer.now.form))
+    (sym c.timeline-item.is)
+    (c.requires.candidates c.loop-timeline.timeline-index c.timeline-item.result c.loop-timeline-test.true) in
+    subst (λ (cs : List Constraint). All (λ k. IsCountable k.left k.right c.timeline-item.result) cs)
+    (sym c.deref.ensures.value)
     (all_countable c.args.grammar.now c.timeline-item.result candidate.well_formed)
 
 pub loop-timeline-preserved : goal.loop-timeline-preserved
 loop-timeline-preserved c =
-    let candidate = subst (IsCandidate (asked c.args.grammar.now.tiers c.args.grammar.now.constraints.items c.args.answer.now.form)) (sym c.timeline-item.is) (c.requires.candidates c.loop-timeline.timeline-index c.timeline-item.result c.loop-timeline-test.true) in
-    let pushed : c.push-in-loop-timeline.new.self.items ≡ c.loop-timeline.rows.items ++ c.in_ok-row.row ∷ [] = search rules in
-    let compared = subst (λ (cs : List Constraint). IsCompared cs c.args.answer.now.counts.items c.timeline-item.result c.in_ok-row.row) c.deref.ensures.value
-    (subst (λ (least : List ℕ). IsCompared c.deref.result.now least c.timeline-item.result c.in_ok-row.row) c.deref-in-loop-timeline.ensures.value c.in_ok-row.ensures) in
-    let row = compared_row (asked c.args.grammar.now.tiers c.args.grammar.now.constraints.items c.args.answer.now.form) c.args.answer.now.counts.items c.requires.right.counts c.timeline-item.result c.in_ok-row.row candidate compared in
+    let candidate = subst
+    (IsCandidate (asked c.args.grammar.now.tiers c.args.grammar.now.constraints.items c.args.answer.now.form))
+    (sym c.timeline-item.is)
+    (c.requires.candidates c.loop-timeline.timeline-index c.timeline-item.result c.loop-timeline-test.true) in
+    let pushed : c.push-in-loop-timeline.new.self.items ≡ c.loop-timeline.rows.items
+    ++ c.in_ok-row.row ∷ [] = search rules in
+    let compared = subst
+    (λ (cs : List Constraint). IsCompared cs c.args.answer.now.counts.items c.timeline-item.result
+    c.in_ok-row.row) c.deref.ensures.value
+    (subst (λ
+    (least : List ℕ). IsCompared c.deref.result.now least c.timeline-item.result c.in_ok-row.row)
+    c.deref-in-loop-timeline.ensures.value c.in_ok-row.ensures) in
+    let row = compared_row
+    (asked c.args.grammar.now.tiers c.args.grammar.now.constraints.items c.args.answer.now.form)
+    c.args.answer.now.counts.items c.requires.right.counts c.timeline-item.result c.in_ok-row.row candidate
+    compared in
     record {
       timelines = ap (map (λ (r : TableauRow). r.timeline)) pushed
           ∙ map_push (λ (r : TableauRow). r.timeline) c.loop-timeline.rows.items c.in_ok-row.row
           ∙ ap (λ ts. ts ++ c.in_ok-row.row.timeline ∷ []) c.loop-timeline.invariant.timelines
-          ∙ ap (λ t. c.args.answer.now.example ∷ (take c.loop-timeline.timeline-index c.args.timelines.now ++ t ∷ [])) (compared.timeline ∙ c.timeline-item.is)
-          ∙ ap (λ ts. c.args.answer.now.example ∷ ts) (sym (take_more c.args.timelines.now c.loop-timeline.timeline-index c.timeline-item.result c.loop-timeline-test.true));
-      each = subst (λ (rs : List TableauRow). All (IsTableauRow (asked c.args.grammar.now.tiers c.args.grammar.now.constraints.items c.args.answer.now.form) c.args.answer.now.counts.items) rs) (sym pushed)
-          (All-push (IsTableauRow (asked c.args.grammar.now.tiers c.args.grammar.now.constraints.items c.args.answer.now.form) c.args.answer.now.counts.items) c.loop-timeline.rows.items c.in_ok-row.row c.loop-timeline.invariant.each row);
+          ∙ ap (λ t. c.args.answer.now.example ∷ (take c.loop-timeline.timeline-index c.args.timelines.now ++ t ∷ []))
+          (compared.timeline ∙ c.timeline-item.is)
+          ∙ ap (λ ts. c.args.answer.now.example ∷ ts)
+          (sym (take_more c.args.timelines.now c.loop-timeline.timeline-index c.timeline-item.result
+          c.loop-timeline-test.true));
+      each = subst (λ (rs : List TableauRow). All
+          (IsTableauRow
+          (asked c.args.grammar.now.tiers c.args.grammar.now.constraints.items c.args.answer.now.form)
+          c.args.answer.now.counts.items) rs) (sym pushed)
+          (All-push
+          (IsTableauRow
+          (asked c.args.grammar.now.tiers c.args.grammar.now.constraints.items c.args.answer.now.form)
+          c.args.answer.now.counts.items) c.loop-timeline.rows.items c.in_ok-row.row
+          c.loop-timeline.invariant.each row);
     }

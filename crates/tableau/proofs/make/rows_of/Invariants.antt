@@ -8,5 +8,7 @@ use Rattle.violation.specs.Problems.{asked}
 abbrev pub invariant-loop-timeline : goal.invariant-loop-timeline
 invariant-loop-timeline l = record {
   timelines : map (λ row. row.timeline) l.rows.items ≡ l.answer.example ∷ take l.timeline-index l.timelines;
-  each : All (IsTableauRow (asked l.grammar.tiers l.grammar.constraints.items l.answer.form) l.answer.counts.items) l.rows.items;
+  each : All
+      (IsTableauRow
+      (asked l.grammar.tiers l.grammar.constraints.items l.answer.form) l.answer.counts.items) l.rows.items;
 }

@@ -1,11 +1,8 @@
-use Rattle.std.proofs.lemmas.Result.{on_ok_weaker}
-use Rattle.outside.proofs.Sending.{puts_end_part}
-use Rattle.outside.proofs.Puts.{puts_end}
-use Rattle.tableau.specs.Layout.{tableau_text}
+use Rattle.outside.proofs.Writing.{puts_flushed, puts_stop}
 use Rattle.tableau.proofs.put.put_tableau.Goals as goal
 
-pub returns-clause-ok : goal.returns-clause-ok
-returns-clause-ok g c = on_ok_weaker c.flush.result (puts_end (tableau_text c.args.tableau.now) c.new-waiting.ensures c.in_ok-put_lines.ensures.ok) c.flush.ensures.ok
+pub returns-in_err-push_lines : goal.returns-in_err-push_lines
+returns-in_err-push_lines g c = puts_stop c.new-out.ensures c.from_residual.ensures.1 c.in_err-push_lines.ensures
 
-pub returns-clause-part : goal.returns-clause-part
-returns-clause-part g c = puts_end_part (tableau_text c.args.tableau.now) c.new-waiting.ensures c.in_ok-put_lines.ensures.ok c.flush.ensures.part
+pub returns : goal.returns
+returns g c = puts_flushed c.new-out.ensures c.in_ok-push_lines.ensures c.flush.ensures.puts

@@ -12,7 +12,9 @@ returns-in_err-row-clause-err c =
     let p = err_from_is_err_and c.from_residual.result c.from_residual.ensures.1 in
     let before : c.len.result ≡ length c.args.rows.now.items = search rules in
     rw (p.1, p.2) (λ front behind counted a.
-    refused_line (asked c.args.grammar.now.tiers c.args.grammar.now.constraints.items c.args.form.now) front c.args.line.now behind c.args.rows.now.items c.args.number c.len.result c.in_err-row.field-0.0
+    refused_line
+    (asked c.args.grammar.now.tiers c.args.grammar.now.constraints.items c.args.form.now) front c.args.line.now
+    behind c.args.rows.now.items c.args.number c.len.result c.in_err-row.field-0.0
     (sym c.is_blank.ensures ∙ c.if-is_blank.false) counted before a c.in_err-row.ensures.err)
 
 pub returns-clause-ok : goal.returns-clause-ok
@@ -21,5 +23,10 @@ returns-clause-ok c =
     let few : length c.args.rows.now.items < 32 = omega (arith, before, c.in_ok-row.ensures.few) in
     let pushed : c.push.new.self.items ≡ c.args.rows.now.items ++ c.in_ok-row.row ∷ [] = search rules in
     λ front a.
-    subst (λ (rows : List (List (List Sym))). AreRowsOf (asked c.args.grammar.now.tiers c.args.grammar.now.constraints.items c.args.form.now) (front ++ c.args.line.now ∷ []) rows) (sym pushed)
-    (row_line (asked c.args.grammar.now.tiers c.args.grammar.now.constraints.items c.args.form.now) front c.args.line.now c.args.rows.now.items c.in_ok-row.row (sym c.is_blank.ensures ∙ c.if-is_blank.false) few c.in_ok-row.ensures.ok a)
+    subst (λ (rows : List (List (List Sym))). AreRowsOf
+    (asked c.args.grammar.now.tiers c.args.grammar.now.constraints.items c.args.form.now)
+    (front ++ c.args.line.now ∷ []) rows) (sym pushed)
+    (row_line
+    (asked c.args.grammar.now.tiers c.args.grammar.now.constraints.items c.args.form.now) front c.args.line.now
+    c.args.rows.now.items c.in_ok-row.row
+    (sym c.is_blank.ensures ∙ c.if-is_blank.false) few c.in_ok-row.ensures.ok a)

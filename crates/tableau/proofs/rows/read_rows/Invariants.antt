@@ -6,7 +6,8 @@ use Rattle.violation.specs.Problems.{asked}
 
 -- the lines in front of the rest have the rows so far
 abbrev pub invariant-loop-rest : goal.invariant-loop-rest
-invariant-loop-rest l = IsReadTo (asked l.grammar.tiers l.grammar.constraints.items l.form) l.bytes l.rest l.number l.rows.items
+invariant-loop-rest l = IsReadTo
+    (asked l.grammar.tiers l.grammar.constraints.items l.form) l.bytes l.rest l.number l.rows.items
 
 abbrev pub decreases-loop-rest : goal.decreases-loop-rest
 decreases-loop-rest l = length l.rest

@@ -21,5 +21,7 @@ pub returns : goal.returns
 returns c =
     λ n k l.
     let first = lowest (apart_phases c.args.a.now c.args.b.now) in
-    c.cmp.ensures ∙ ap (λ r. nat_cmp r c.phase_rank-2.result) c.phase_rank.ensures ∙ ap (nat_cmp (phase_rank (phase_at c.args.a.now first))) c.phase_rank-2.ensures
-    ∙ phases_first c.args.a.now c.args.b.now n c.if-apart-eq0.false (apart_few c.args.a.now c.args.b.now (omega arith) (omega arith) (omega arith) (omega arith)) k l
+    c.cmp.ensures ∙ ap (λ r. nat_cmp r c.phase_rank-2.result) c.phase_rank.ensures
+    ∙ ap (nat_cmp (phase_rank (phase_at c.args.a.now first))) c.phase_rank-2.ensures
+    ∙ phases_first c.args.a.now c.args.b.now n c.if-apart-eq0.false
+    (apart_few c.args.a.now c.args.b.now (omega arith) (omega arith) (omega arith) (omega arith)) k l

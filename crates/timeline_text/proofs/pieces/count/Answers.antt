@@ -6,4 +6,5 @@ use Rattle.timeline_text.proofs.pieces.count.Goals as goal
 
 pub returns : goal.returns
 returns c = count_from_yields_List c.split.result _ c.count.ensures.ran
-    (YieldsList-from_slice_split _ is_space c.args.bytes.now c.split.ensures.rest c.split.ensures.done c.split.ensures.closure (λ x b q k. search (rules, tests)))
+    (YieldsList-from_slice_split _ is_space c.args.bytes.now c.split.ensures.rest c.split.ensures.done
+    c.split.ensures.closure (λ x b q k. search (rules, tests)))

@@ -3,4 +3,7 @@ use Rattle.tier_core.specs.Symbols.{byte_of}
 use Rattle.timeline_text.proofs.put.column_bytes.Given as goal
 
 abbrev pub invariant-loop-tier : goal.invariant-loop-tier
-invariant-loop-tier l = record { size : length l.bytes ≡ 12; front : take l.tier l.bytes ≡ map byte_of (take l.tier l.sym-items) }
+invariant-loop-tier l = record {
+  size : length l.bytes ≡ 12;
+  front : take l.tier l.bytes ≡ map byte_of (take l.tier l.sym-items);
+}

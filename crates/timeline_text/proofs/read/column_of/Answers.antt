@@ -12,5 +12,7 @@ loop-tier-preserved c =
     let n = take_more c.args.piece.now c.loop-tier.tier 0 h in
     record {
       size = omega (arith, length-set c.loop-tier.syms c.loop-tier.tier c.unwrap_or.result);
-      front = m ∙ ap (λ xs. xs ++ c.unwrap_or.result ∷ []) c.loop-tier.invariant.front ∙ ap (λ x. map symbol_of_byte (take c.loop-tier.tier c.args.piece.now) ++ x ∷ []) e ∙ sym (ap (map symbol_of_byte) n ∙ map-append symbol_of_byte (take c.loop-tier.tier c.args.piece.now) _);
+      front = m ∙ ap (λ xs. xs ++ c.unwrap_or.result ∷ []) c.loop-tier.invariant.front
+          ∙ ap (λ x. map symbol_of_byte (take c.loop-tier.tier c.args.piece.now) ++ x ∷ []) e
+          ∙ sym (ap (map symbol_of_byte) n ∙ map-append symbol_of_byte (take c.loop-tier.tier c.args.piece.now) _);
     }

@@ -8,12 +8,18 @@ use Rattle.timeline_text.proofs.read.columns_of.Goals as goal
 
 pub column_of-requires : goal.column_of-requires
 column_of-requires c =
-    let t = split_turn _ _ _ is_space c.args.bytes.now c.loop-piece.yielded c.loop-piece.yielded_by c.in-Some.is c.next.ensures.steps (cc) (cc) (cc) (λ x b q k. search (rules, tests)) in
-    let w = none_passes (λ piece. not (length piece == c.args.width)) (slice_split is_space c.args.bytes.now) c.requires.widths (length c.loop-piece.yielded) c.in-Some.piece.now t.0 in
-    let v : not (length c.in-Some.piece.now == c.args.width) ≡ false = ap (λ piece. not (length piece == c.args.width)) t.1 ∙ w in
+    let t = split_turn _ _ _ is_space c.args.bytes.now c.loop-piece.yielded c.loop-piece.yielded_by c.in-Some.is
+    c.next.ensures.steps (cc) (cc) (cc) (λ x b q k. search (rules, tests)) in
+    let w = none_passes (λ piece. not (length piece == c.args.width))
+    (slice_split is_space c.args.bytes.now) c.requires.widths
+    (length c.loop-piece.yielded) c.in-Some.piece.now t.0 in
+    let v : not (length c.in-Some.piece.now == c.args.width)
+    ≡ false = ap (λ piece. not (length piece == c.args.width)) t.1 ∙ w in
     grind (arith, nat_tests)
 
 pub returns : goal.returns
 returns c =
-    let t = split_end _ _ _ is_space c.args.bytes.now c.loop-piece.yielded c.loop-piece.yielded_by c.in-None.is c.next.ensures.steps (cc) (cc) (cc) (λ x b q k. search (rules, tests)) in
-    c.loop-piece.invariant ∙ sym (map-map (map symbol_of_byte) (λ piece. piece.now) c.loop-piece.yielded) ∙ ap (map (map symbol_of_byte)) t
+    let t = split_end _ _ _ is_space c.args.bytes.now c.loop-piece.yielded c.loop-piece.yielded_by c.in-None.is
+    c.next.ensures.steps (cc) (cc) (cc) (λ x b q k. search (rules, tests)) in
+    c.loop-piece.invariant ∙ sym (map-map (map symbol_of_byte) (λ piece. piece.now) c.loop-piece.yielded)
+    ∙ ap (map (map symbol_of_byte)) t

@@ -17,11 +17,15 @@ loop-column-init c = record {
 pub loop-column-preserved : goal.loop-column-preserved
 loop-column-preserved c =
     let step : so_far c.args.family c.args.left.now c.args.right.now c.args.columns.now (c.loop-column.column-index + 1)
-    ≡ so_far c.args.family c.args.left.now c.args.right.now c.args.columns.now c.loop-column.column-index + bit c.is_counted_at.result =
-    edge_step c.args.family c.args.left.now c.args.right.now c.args.columns.now c.loop-column.column-index c.column-item.result
+    ≡ so_far c.args.family c.args.left.now c.args.right.now c.args.columns.now c.loop-column.column-index + bit
+    c.is_counted_at.result =
+    edge_step c.args.family c.args.left.now c.args.right.now c.args.columns.now c.loop-column.column-index
+    c.column-item.result
     c.requires.countable c.requires.edge c.loop-column-test.true c.column-item.is
-    ∙ ap (λ b. so_far c.args.family c.args.left.now c.args.right.now c.args.columns.now c.loop-column.column-index + bit b)
-    (ap (edge_cost c.args.family c.args.left.now c.args.right.now) (sym c.syms.ensures.value) ∙ sym c.is_counted_at.ensures) in
+    ∙ ap (λ b. so_far c.args.family c.args.left.now c.args.right.now c.args.columns.now c.loop-column.column-index +
+    bit b)
+    (ap (edge_cost c.args.family c.args.left.now c.args.right.now) (sym c.syms.ensures.value)
+    ∙ sym c.is_counted_at.ensures) in
     elim c.if-is_counted_at.branch [
       | then-is_counted_at w ↦ let one : bit c.is_counted_at.result ≡ 1 = ap bit w.if-is_counted_at.true in
           record { counted = omega (arith, step, one, w.count-is); few = omega (arith, w.count-is) }
@@ -32,4 +36,5 @@ loop-column-preserved c =
 pub returns : goal.returns
 returns c =
     c.loop-column.invariant.counted
-    ∙ whole c.args.family c.args.left.now c.args.right.now c.args.columns.now c.loop-column.column-index c.requires.countable c.loop-column-test.false c.loop-column.auto.column-index-end
+    ∙ whole c.args.family c.args.left.now c.args.right.now c.args.columns.now c.loop-column.column-index
+    c.requires.countable c.loop-column-test.false c.loop-column.auto.column-index-end

@@ -6,7 +6,8 @@ use Rattle.stage_tables.proofs.exploring.Exploring.states.Given as goal
 abbrev pub invariant-making : goal.invariant-making
 invariant-making l = record {
   found : IsFoundWithin l.self l.listed;
-  taken : AreTaken l.self.frame.now l.self.stage l.self.kept.now.states.items l.listed.kinds.items l.listed.over.items l.states.items;
+  taken : AreTaken l.self.frame.now l.self.stage l.self.kept.now.states.items l.listed.kinds.items l.listed.over.items
+      l.states.items;
 }
 
 abbrev pub decreases-making : goal.decreases-making

@@ -5,14 +5,18 @@ use Rattle.stage_tables.proofs.exploring.Exploring.taken_arcs.Goals as goal
 pub loop-arc-init : goal.loop-arc-init
 loop-arc-init c = record {
   inside = omega arith;
-  so_far = none_taken c.args.self.now c.args.listed.now c.args.kind.now c.arcs-arc-items.result.now c.new-moves.result.items c.new-moves.ensures.items c.requires.found;
+  so_far = none_taken c.args.self.now c.args.listed.now c.args.kind.now c.arcs-arc-items.result.now
+      c.new-moves.result.items c.new-moves.ensures.items c.requires.found;
 }
 
 pub taken-requires-clause-found : goal.taken-requires-clause-found
 taken-requires-clause-found c = c.loop-arc.invariant.so_far.found
 
 pub taken-requires-clause-over : goal.taken-requires-clause-over
-taken-requires-clause-over c = (c.requires.over.0, c.loop-arc.invariant.so_far.stays c.requires.over.0 c.args.kind.now c.args.state c.requires.over.1)
+taken-requires-clause-over c = (
+  c.requires.over.0,
+  c.loop-arc.invariant.so_far.stays c.requires.over.0 c.args.kind.now c.args.state c.requires.over.1,
+)
 
 pub loop-arc-preserved : goal.loop-arc-preserved
 loop-arc-preserved c =
@@ -20,7 +24,10 @@ loop-arc-preserved c =
     let done = c.in_ok-made.ensures in
     record {
       inside = omega (arith, c.loop-arc-test.true);
-      so_far = rw (c.push.ensures.items, c.is_err.ensures.negation ∙ ap not c.if-is_err.false) (one_taken c.args.self.now c.args.listed.now c.loop-arc.listed c.taken.new.listed c.args.kind.now c.arcs-arc-items.result.now c.loop-arc.moves.items c.loop-arc.arc-index c.arc-item.result c.in_ok-made.made inv.so_far c.loop-arc-test.true c.arc-item.is done.found done.stays done.targets done.taken);
+      so_far = rw (c.push.ensures.items, c.is_err.ensures.negation ∙ ap not c.if-is_err.false)
+          (one_taken c.args.self.now c.args.listed.now c.loop-arc.listed c.taken.new.listed c.args.kind.now
+          c.arcs-arc-items.result.now c.loop-arc.moves.items c.loop-arc.arc-index c.arc-item.result c.in_ok-made.made
+          inv.so_far c.loop-arc-test.true c.arc-item.is done.found done.stays done.targets done.taken);
     }
 
 pub returns-clause-found : goal.returns-clause-found
@@ -36,4 +43,5 @@ pub returns-clause-taken : goal.returns-clause-taken
 returns-clause-taken c =
     let inv = c.loop-arc.invariant in
     let last : c.loop-arc.arc-index ≡ length c.arcs-arc-items.result.now = omega (arith, c.loop-arc-test.false) in
-    all_taken c.args.self.now c.args.listed.now c.loop-arc.listed c.args.kind.now c.arcs-arc-items.result.now _ c.loop-arc.moves.items c.loop-arc.arc-index inv.so_far last c.arcs-arc-items.ensures
+    all_taken c.args.self.now c.args.listed.now c.loop-arc.listed c.args.kind.now c.arcs-arc-items.result.now _
+    c.loop-arc.moves.items c.loop-arc.arc-index inv.so_far last c.arcs-arc-items.ensures

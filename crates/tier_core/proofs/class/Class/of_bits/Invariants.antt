@@ -1,12 +1,10 @@
-use Rattle.std.proofs.Common.{◌≡◌, length, take}
-use Rattle.tier_core.specs.Sets.{AreSets, AreEmptyFrom}
+use Rattle.std.proofs.Common.{◌≡◌, ℕ, ◌<◌, length, get_or}
+use Rattle.tier_core.specs.ClassWords.{set_in, below_in}
 use Rattle.tier_core.proofs.class.Class.of_bits.Given as goal
 
--- the sets so far are the numbers so far, and the others are empty
+-- the sets so far are those of the numbers, and below them stands how many there are
 abbrev pub invariant-loop-tier : goal.invariant-loop-tier
 invariant-loop-tier l = record {
-  twelve : length l.sets ≡ 12;
-  done : take l.tier l.sets ≡ take l.tier l.bits;
-  are_sets : AreSets l.sets;
-  rest : AreEmptyFrom l.tier l.sets;
+  done : (t : ℕ) → t < l.tier → set_in l.word t ≡ get_or l.bits t 0;
+  rest : below_in l.word (length l.bits) ≡ length l.bits;
 }

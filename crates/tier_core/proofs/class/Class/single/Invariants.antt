@@ -1,12 +1,11 @@
-use Rattle.std.proofs.Common.{◌≡◌, length, take, map}
-use Rattle.tier_core.specs.Sets.{AreSets, AreEmptyFrom, single_set}
+use Rattle.std.proofs.Common.{◌≡◌, ℕ, ◌<◌, length, get_or, map}
+use Rattle.tier_core.specs.ClassWords.{set_in, below_in}
+use Rattle.tier_core.specs.Sets.{single_set}
 use Rattle.tier_core.proofs.class.Class.single.Given as goal
 
--- the sets so far are those of the symbols so far, and the others are empty
+-- the sets so far are those of the symbols, and below them stands how many there are
 abbrev pub invariant-loop-tier : goal.invariant-loop-tier
 invariant-loop-tier l = record {
-  twelve : length l.sets ≡ 12;
-  done : take l.tier l.sets ≡ map single_set (take l.tier l.column);
-  are_sets : AreSets l.sets;
-  rest : AreEmptyFrom l.tier l.sets;
+  done : (t : ℕ) → t < l.tier → set_in l.word t ≡ get_or (map single_set l.column) t 0;
+  rest : below_in l.word (length l.column) ≡ length l.column;
 }

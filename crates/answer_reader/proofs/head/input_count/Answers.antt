@@ -1,0 +1,5 @@
+use Rattle.answer_text.proofs.Counts.{ones_of}
+use Rattle.answer_reader.proofs.head.input_count.Goals as goal
+
+pub returns : goal.returns
+returns c = ones_of c.args.shape.now.width c.args.shape.now.inputs c.args.shape.now.few c.args.shape.now.within

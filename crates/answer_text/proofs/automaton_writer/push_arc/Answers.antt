@@ -1,0 +1,17 @@
+use Rattle.outside.proofs.Writing.{◌▹◌, cut, stop}
+use Rattle.answer_text.proofs.automaton_writer.push_arc.Goals as goal
+
+pub returns-in_err-push_number : goal.returns-in_err-push_number
+returns-in_err-push_number g c = stop c.from_residual.ensures.1 (cut _ (cut _ (cut _ c.in_err-push_number.ensures)))
+
+pub returns-in_err-push : goal.returns-in_err-push
+returns-in_err-push g c =
+    stop c.from_residual-in_err-push.ensures.1 (cut _ (cut _ (c.in_ok-push_number.ensures ▹ c.in_err-push.ensures)))
+
+pub returns-in_err-push_class : goal.returns-in_err-push_class
+returns-in_err-push_class g c =
+    let pushed = c.in_ok-push_number.ensures ▹ c.in_ok-push.ensures ▹ c.in_err-push_class.ensures in
+    stop c.from_residual-in_err-push_class.ensures.1 (cut _ pushed)
+
+pub returns : goal.returns
+returns g c = c.in_ok-push_number.ensures ▹ c.in_ok-push.ensures ▹ c.in_ok-push_class.ensures ▹ c.push-2.ensures

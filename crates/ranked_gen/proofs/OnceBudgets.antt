@@ -1,0 +1,110 @@
+-- Kinds under all constraints, and a budget.
+use Rattle.std.proofs.Common.{◌≡◌, ◌≢◌, ℕ, ◌<◌, ◌≤◌, List, [], ◌∷◌, ◌++◌, map, take, length, get_or, refl, sym, ap, ◌∙◌, subst, arith, take_at, All, AllPairs, Contains}
+use Rattle.std.proofs.lemmas.List.{get_or-map, get_or_default, length-map, length-append}
+use Rattle.std.specs.List.{AllByRecursion}
+use Rattle.std.proofs.lemmas.List.Elements.{All-contains, All-from_recursion}
+use Rattle.std.proofs.lemmas.List.Kept.{AllPairs-cons}
+use Rattle.std.specs.Prelude.{◌↔◌}
+use Rattle.weight_law.specs.declared.Weight.{Ghosts}
+use Rattle.weight_law.specs.declared.unit_weight.UnitWeight.{UnitWeight}
+use Rattle.tier_core.specs.declared.sym.Sym.{Sym}
+use Rattle.tier_core.specs.declared.constraint.Constraint.{Constraint}
+use Rattle.tier_core.specs.Kinds.{PrefixKind, kind_order}
+use Rattle.tier_core.specs.Tiers.{Tiers}
+use Rattle.arc_table.specs.declared.state.TableState.{TableState}
+use Rattle.arc_table.specs.Runs.{Accepts}
+use Rattle.violation.specs.Candidates.{IsOptimalFor}
+use Rattle.violation.specs.Moves.{cut}
+use Rattle.violation.specs.Prefixes.{kind_of}
+use Rattle.violation.specs.Rests.{IsWholeKind, AreWholeKindsOver, AreWholeKindsWithin}
+use Rattle.violation.specs.Stages.{IsPassed}
+use Rattle.violation.proofs.CutLemmas.{cut-kind_of}
+use Rattle.kind_moves.specs.declared.frame.Frame.{Frame}
+use Rattle.kind_moves.specs.Frames.{problem_in}
+use Rattle.stage_tables.specs.Explored.{IsMet, IsOverBudget}
+use Rattle.ranked_gen.specs.Budgets.{IsOver}
+use Rattle.ranked_gen.proofs.Ascending.{ascends_from}
+use Rattle.ranked_gen.proofs.FewKinds.{Differ, ascending_differ, no_longer}
+use Rattle.ranked_gen.proofs.MemberLemmas.{all_from_members}
+use Rattle.ranked_gen.proofs.NextStage.{pairs_differ}
+use Rattle.violation.specs.Problems.{Problem, last_stage}
+
+-- what differs after a cut differs
+uncut_differ : (f : PrefixKind → PrefixKind) (ks : List PrefixKind) → AllPairs (λ k l. k ≢ l) (map f ks)
+    → AllPairs (λ k l. k ≢ l) ks
+uncut_differ f ks differ i j d less inside e =
+    differ i j (f d) less (omega (arith, inside, length-map ks f))
+    (get_or-map f ks i d (f d) (omega (arith, less, inside)) ∙ ap f e ∙ sym (get_or-map f ks j d (f d) inside))
+
+differ_pairs : (ks : List PrefixKind) → Differ ks → AllPairs (λ k l. k ≢ l) ks
+differ_pairs [] h = λ i j d less inside. absurd (omega (arith, inside))
+differ_pairs (k ∷ ks) h = AllPairs-cons (λ a b. a ≢ b) k ks (All-from_recursion (λ l. k ≢ l) ks h.0)
+    (differ_pairs ks h.1)
+
+module _ (problem : Problem) where
+  -- kinds where no constraint counts are cut from as many kinds under all constraints
+  whole_of : (ks : List PrefixKind) → AllByRecursion (IsPassed problem 0 0) ks
+      → (ls : List PrefixKind) × (map (cut problem 0) ls ≡ ks) × AllByRecursion (IsWholeKind problem) ls
+  whole_of [] h = ([], refl, tt)
+  whole_of (k ∷ ks) h =
+      let passed : IsPassed problem 0 0 k = h.0 in
+      let p : List (List Sym) = take passed.columns passed.candidate in
+      let whole : PrefixKind = kind_of problem (last_stage problem) p in
+      let few : 0 ≤ last_stage problem = omega arith in
+      let same : cut problem 0 whole ≡ k = cut-kind_of problem 0 (last_stage problem) few p ∙ passed.passes.of_kind in
+      let is : IsWholeKind problem whole = record {
+        candidate = passed.candidate;
+        columns = passed.columns;
+        passes = record { optimal = passed.passes.optimal; within = passed.passes.within; of_kind = refl };
+      } in
+      let rest = whole_of ks h.1 in
+      (whole ∷ rest.0, ap (λ x. x ∷ map (cut problem 0) rest.0) same ∙ ap (λ xs. k ∷ xs) rest.1, (is, rest.2))
+
+  -- where there are more kinds than the budget before any constraint counts, there are under all
+  pub first_over_whole : (budget : ℕ) → IsOver problem budget 0 → AreWholeKindsOver problem budget
+  first_over_whole budget over =
+      let whole = whole_of over.kinds (all_from_members (IsPassed problem 0 0) over.kinds
+      (λ k c. (over.are.members k).0 c)) in
+      let ascending = ascends_from kind_order over.kinds over.are.ascending in
+      let differ : AllPairs (λ k l. k ≢ l) (map (cut problem 0) whole.0) =
+      subst (AllPairs (λ k l. k ≢ l)) (sym whole.1) (differ_pairs over.kinds (ascending_differ over.kinds ascending)) in
+      let size : length whole.0 ≡ length over.kinds = sym (length-map whole.0 (cut problem 0))
+      ∙ ap (λ (ks : List PrefixKind). length ks) whole.1 in
+      record {
+        kinds = whole.0;
+        distinct = uncut_differ (cut problem 0) whole.0 differ;
+        each = All-from_recursion (IsWholeKind problem) whole.0 whole.2;
+        more = omega (arith, size, over.more);
+      }
+
+  -- no more kinds than there are names
+  pub names_within : (budget : ℕ) (names : List PrefixKind)
+      → ((k : PrefixKind) → Contains names k ↔ IsWholeKind problem k) → length names ≤ budget
+      → AreWholeKindsWithin problem budget
+  names_within budget names law few kinds distinct each =
+      let most = no_longer names kinds (λ k c. (law k).1 (All-contains (IsWholeKind problem) kinds k each c))
+      (pairs_differ kinds distinct) in
+      omega (arith, most, few)
+
+-- more kinds than the budget are met while all candidates are explored
+pub met_over_whole : {g : Ghosts UnitWeight} (frame : Frame) (kept : List (TableState UnitWeight g))
+    → ((T : List (List Sym)) → Accepts kept T ↔ IsOptimalFor (problem_in frame) 0 T)
+    → (budget : ℕ) → IsOverBudget frame (last_stage (problem_in frame)) kept budget
+    → AreWholeKindsOver (problem_in frame) budget
+met_over_whole frame kept accepts budget over = record {
+  kinds = over.kinds;
+  distinct = over.distinct;
+  each = λ i d l.
+      (let m = over.met i d l in
+      record {
+        candidate = m.prefix ++ m.rest;
+        columns = length m.prefix;
+        passes = record {
+          optimal = (accepts (m.prefix ++ m.rest)).0 m.accepted;
+          within = omega (arith, length-append m.prefix m.rest);
+          of_kind = ap (kind_of (problem_in frame) (last_stage (problem_in frame)))
+              (take_at m.prefix m.rest (length m.prefix) refl) ∙ m.of_kind;
+        };
+      });
+  more = over.more;
+}

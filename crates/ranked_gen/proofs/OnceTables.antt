@@ -1,0 +1,64 @@
+-- All candidates explored under all constraints.
+use Rattle.std.proofs.Common.{◌≡◌, ◌↔◌, ℕ, ◌≤◌, List, map, length, sym, ap, ◌∙◌, subst, arith}
+use Rattle.std.proofs.lemmas.List.{length-map}
+use Rattle.weight_law.specs.declared.Weight.{Ghosts}
+use Rattle.weight_law.specs.declared.count.Count.{Count}
+use Rattle.weight_law.specs.declared.unit_weight.UnitWeight.{UnitWeight}
+use Rattle.tier_core.specs.declared.kind.Kind.{Kind}
+use Rattle.tier_core.specs.declared.sym.Sym.{Sym}
+use Rattle.arc_table.specs.declared.state.TableState.{TableState}
+use Rattle.arc_table.specs.Runs.{Accepts}
+use Rattle.violation.specs.Candidates.{IsOptimalFor}
+use Rattle.violation.specs.Problems.{last_stage}
+use Rattle.violation.specs.Rests.{AreWholeKindsWithin, AreWholeKindsOver}
+use Rattle.violation.proofs.StageLemmas.{all_optimal}
+use Rattle.kind_moves.specs.declared.frame.Frame.{Frame}
+use Rattle.kind_moves.specs.Frames.{problem_in, kind_at_stage}
+use Rattle.stage_laws.proofs.Naming.{names_law}
+use Rattle.stage_tables.specs.Explored.{names_at, IsExplored, IsOverBudget}
+use Rattle.stage_tables.specs.Ranking.{IsWholeTable}
+use Rattle.stage_tables.proofs.Named.{frame_stage}
+use Rattle.ranked_gen.proofs.OnceBudgets.{names_within, met_over_whole}
+
+module _ (frame : Frame) {g : Ghosts UnitWeight} (kept : List (TableState UnitWeight g))
+    (accepts : (T : List (List Sym)) → Accepts kept T ↔ IsOptimalFor (problem_in frame) 0 T) where
+  last_table : {h : Ghosts Count} (kinds : List Kind) (states : List (TableState Count h))
+      → IsExplored frame (last_stage (problem_in frame)) kept kinds states → IsWholeTable frame kinds states
+  last_table kinds states explored = record {
+    named = explored.named;
+    fit = explored.fit;
+    accepts = λ T. (
+      λ a. ((accepts T).0 ((explored.accepts T).0 a)).candidate,
+      λ c. (explored.accepts T).1 ((accepts T).1 (all_optimal (problem_in frame) T c)),
+    );
+    on_runs = explored.on_runs;
+    single = explored.single;
+  }
+
+  -- what is explored is the table of all candidates
+  pub whole_table : {h : Ghosts Count} (stage : ℕ) → stage ≡ last_stage (problem_in frame)
+      → (kinds : List Kind) (states : List (TableState Count h)) → IsExplored frame stage kept kinds states
+      → IsWholeTable frame kinds states
+  whole_table stage is kinds states explored = last_table kinds states
+      (subst (λ n. IsExplored frame n kept kinds states) is explored)
+
+  -- and has no more kinds than the budget where no more are found
+  pub whole_within : {h : Ghosts Count} (kinds : List Kind) (states : List (TableState Count h))
+      → IsWholeTable frame kinds states → (budget : ℕ) → length kinds ≤ budget
+      → AreWholeKindsWithin (problem_in frame) budget
+  whole_within kinds states whole budget few =
+      let problem = problem_in frame in
+      let all : last_stage problem ≤ last_stage problem = omega arith in
+      let names = names_at frame (last_stage problem) kinds in
+      let zero_words : (T : List (List Sym))
+      → Accepts states T ↔ IsOptimalFor problem 0 T = λ T.
+      (λ a. all_optimal problem T ((whole.accepts T).0 a), λ o. (whole.accepts T).1 o.candidate) in
+      let law = names_law problem (last_stage problem)
+      (frame_stage frame (last_stage problem) all) names states whole.named 0 zero_words whole.on_runs in
+      names_within problem budget names law
+      (omega (arith, few, length-map kinds (kind_at_stage frame (last_stage problem))))
+
+  pub whole_over : (stage : ℕ) → stage ≡ last_stage (problem_in frame) → (budget : ℕ)
+      → IsOverBudget frame stage kept budget → AreWholeKindsOver (problem_in frame) budget
+  whole_over stage is budget over = met_over_whole frame kept accepts budget
+      (subst (λ n. IsOverBudget frame n kept budget) is over)

@@ -1,0 +1,169 @@
+-- Tables that differ in nothing but what their moves weigh.
+use Rattle.std.proofs.Common.{◌≡◌, ◌↔◌, ℕ, ◌<◌, List, [], ◌∷◌, map, length, refl, sym, ap, ◌∙◌, subst, arith, inl, inr}
+use Rattle.std.specs.Prelude.{Contains, AllPairs, IsTrue}
+use Rattle.std.specs.List.{AllZip}
+use Rattle.std.proofs.lemmas.Bool.{cases_lt}
+use Rattle.std.proofs.lemmas.List.{length-map, get_or_past}
+use Rattle.weight_law.specs.declared.Weight.{Ghosts}
+use Rattle.tier_core.specs.declared.class.Class.{Class}
+use Rattle.tier_core.specs.declared.sym.Sym.{Sym}
+use Rattle.tier_core.specs.declared.constraint.Constraint.{Constraint}
+use Rattle.tier_core.specs.Classes.{has, sets_of, AreDisjoint}
+use Rattle.tier_core.specs.Kinds.{PrefixKind}
+use Rattle.tier_core.specs.Tiers.{Tiers}
+use Rattle.symbol_class.specs.Filled.{is_filled}
+use Rattle.arc_table.specs.declared.arc.TableArc.{TableArc}
+use Rattle.arc_table.specs.declared.state.TableState.{TableState}
+use Rattle.arc_table.specs.Conditions.{TargetsExist, ClassesDisjoint, ClassesFilled, OneWidth}
+use Rattle.arc_table.specs.Moves.{moves_at, accepting_at}
+use Rattle.arc_table.specs.Runs.{IsRun, IsPath, Reads, Accepts, IsOnRun}
+use Rattle.arc_table.proofs.Push.{moves_exist}
+use Rattle.stage_laws.specs.StageTables.{name_of, GoesAsKinds, AreNamedByKinds}
+use Rattle.stage_laws.proofs.Paths.{run_exists}
+use Rattle.stage_tables.proofs.Zips.{zip_from, zip_to, zip_pairs}
+use Rattle.violation.specs.Problems.{Problem}
+
+-- moves on the same columns to the same state
+pub record IsAlike {W V : Type 0} {g : Ghosts W} {h : Ghosts V} (a : TableArc W g) (b : TableArc V h) : Type 0 where
+  pub same_class : b.class ≡ a.class
+  pub same_target : b.target ≡ a.target
+
+-- states that accept alike, and have the same moves one by one
+pub record AreAlike {W V : Type 0} {g : Ghosts W} {h : Ghosts V} (old : List (TableState W g))
+    (new : List (TableState V h)) : Type 0 where
+  pub each_state : length new ≡ length old
+  pub ends : (k : ℕ) → k < length old → accepting_at new k ≡ accepting_at old k
+  pub moves : (k : ℕ) → k < length old → AllZip IsAlike (moves_at old k) (moves_at new k)
+
+module _ {W V : Type 0} {g : Ghosts W} {h : Ghosts V} (old : List (TableState W g)) (new : List (TableState V h))
+    (alike : AreAlike old new) where
+  forth : (s : ℕ) (a : TableArc W g) → Contains (moves_at old s) a
+      → (b : TableArc V h) × Contains (moves_at new s) b × IsAlike a b
+  forth s a here = zip_to IsAlike (moves_at old s) (moves_at new s)
+      (alike.moves s (moves_exist old s a here)) here.0 a here.1 here.2
+
+  back : (s : ℕ) (b : TableArc V h) → Contains (moves_at new s) b
+      → (a : TableArc W g) × Contains (moves_at old s) a × IsAlike a b
+  back s b here = zip_from IsAlike (moves_at old s) (moves_at new s)
+      (alike.moves s (omega (arith, moves_exist new s b here, alike.each_state))) here.0 b here.1 here.2
+
+  reads_new : (a : TableArc W g) (b : TableArc V h) (column : List Sym) → IsAlike a b → IsTrue (has a.class column)
+      → IsTrue (has b.class column)
+  reads_new a b column same reads = subst (λ (c : Class). IsTrue (has c column)) (sym same.same_class) reads
+
+  reads_old : (a : TableArc W g) (b : TableArc V h) (column : List Sym) → IsAlike a b → IsTrue (has b.class column)
+      → IsTrue (has a.class column)
+  reads_old a b column same reads = subst (λ (c : Class). IsTrue (has c column)) same.same_class reads
+
+  path_forth : (arcs : List (TableArc W g)) (s t : ℕ) → IsPath old s arcs t
+      → (others : List (TableArc V h)) × IsPath new s others t
+  path_forth [] s t path = ([], path)
+  path_forth (a ∷ arcs) s t path =
+      let b = forth s a path.0 in
+      let rest = path_forth arcs a.target t path.1 in
+      (b.0 ∷ rest.0, (b.1, subst (λ x. IsPath new x rest.0 t) (sym b.2.same_target) rest.1))
+
+  run_forth : (arcs : List (TableArc W g)) (s : ℕ) → IsRun old s arcs
+      → (others : List (TableArc V h)) × IsRun new s others × ((p : List (List Sym)) → Reads arcs p → Reads others p)
+  run_forth [] s run = ([], alike.ends s (run_exists old s [] run) ∙ run, λ p r. reads_none p r)
+    where
+      reads_none : (p : List (List Sym)) → Reads (let none : List (TableArc W g) = [] in none) p
+          → Reads (let none : List (TableArc V h) = [] in none) p
+      reads_none [] r = tt
+      reads_none (column ∷ p) r = absurd r
+  run_forth (a ∷ arcs) s run = go (forth s a run.0) (run_forth arcs a.target run.1)
+    where
+      go : ((b : TableArc V h) × Contains (moves_at new s) b × IsAlike a b)
+          → ((others : List (TableArc V h)) × IsRun new a.target others ×
+          ((p : List (List Sym)) → Reads arcs p → Reads others p))
+          → (others : List (TableArc V h)) × IsRun new s others ×
+          ((p : List (List Sym)) → Reads (a ∷ arcs) p → Reads others p)
+      go b rest = (b.0 ∷ rest.0, (b.1, subst (λ x. IsRun new x rest.0) (sym b.2.same_target) rest.1), reads)
+        where
+          reads : (p : List (List Sym)) → Reads (a ∷ arcs) p → Reads (b.0 ∷ rest.0) p
+          reads [] r = absurd r
+          reads (column ∷ p) r = (reads_new a b.0 column b.2 r.0, rest.2 p r.1)
+
+  -- each state that is on a run stays on one
+  pub alike_on_runs : ((s : ℕ) → s < length old → IsOnRun old s) → (s : ℕ) → s < length new → IsOnRun new s
+  alike_on_runs on_runs s l =
+      let on = on_runs s (omega (arith, l, alike.each_state)) in
+      let path = path_forth on.0 0 s on.1 in
+      let run = run_forth on.2.0 s on.2.1 in
+      (path.0, path.1, (run.0, run.1))
+
+  pub alike_accepts : (T : List (List Sym)) → Accepts old T → Accepts new T
+  alike_accepts T a = (let run = run_forth a.0 0 a.1.run in (run.0, record { run = run.1; reads = run.2 T a.1.reads }))
+
+  pub alike_targets : TargetsExist old → TargetsExist new
+  alike_targets exist s b here =
+      let a = back s b here in
+      omega (arith, exist s a.0 a.1, a.2.same_target, alike.each_state)
+
+  pub alike_filled : ClassesFilled old → ClassesFilled new
+  alike_filled filled s b here =
+      let a = back s b here in
+      subst (λ (c : Class). IsTrue (is_filled c)) (sym a.2.same_class) (filled s a.0 a.1)
+
+  pub alike_width : OneWidth old → OneWidth new
+  alike_width one s t b d here there =
+      let a = back s b here in
+      let c = back t d there in
+      ap (λ c. length (sets_of c)) a.2.same_class ∙ one s t a.0 c.0 a.1 c.1
+      ∙ ap (λ c. length (sets_of c)) (sym c.2.same_class)
+
+  pub alike_disjoint : ClassesDisjoint old → ClassesDisjoint new
+  alike_disjoint apart s = elim (cases_lt s (length old)) [
+    | inl l ↦
+        zip_pairs IsAlike (λ x y. AreDisjoint x.class y.class) (λ x y. AreDisjoint x.class y.class)
+        (λ x z y w p q d. subst (λ (c : Class). AreDisjoint c w.class) (sym p.same_class)
+        (subst (λ (c : Class). AreDisjoint x.class c) (sym q.same_class) d))
+        (moves_at old s) (moves_at new s) (alike.moves s l) (apart s)
+    | inr l ↦
+        (let gone : moves_at new s ≡ [] = get_or_past (map (λ s. s.arcs.items) new) s []
+        (omega (arith, length-map new (λ s. s.arcs.items), alike.each_state)) in
+        subst (λ (xs : List (TableArc V h)). AllPairs (λ x y. AreDisjoint x.class y.class) xs) (sym gone)
+        (λ i j d less inside. absurd (omega (arith, inside))))
+  ]
+
+  pub alike_named : (problem : Problem) (r : ℕ) (names : List PrefixKind)
+      → AreNamedByKinds problem r names old → AreNamedByKinds problem r names new
+  alike_named problem r names named = record {
+    each_named = named.each_named ∙ sym alike.each_state;
+    distinct = named.distinct;
+    some = omega (arith, named.some, alike.each_state);
+    start = named.start;
+    ends = λ s l. (let inside : s < length old = omega (arith, l, alike.each_state) in alike.ends s inside
+        ∙ named.ends s inside);
+    moves = λ s b column here reads.
+        (let a = back s b here in
+        let goes = named.moves s a.0 column a.1 (reads_old a.0 b column a.2 reads) in
+        record { fits = goes.fits; leads = ap (name_of names) a.2.same_target ∙ goes.leads });
+    targets = alike_targets named.targets;
+    filled = alike_filled named.filled;
+  }
+
+-- tables that are alike accept the same words
+pub alike_turned : {W V : Type 0} {g : Ghosts W} {h : Ghosts V} (old : List (TableState W g))
+    (new : List (TableState V h))
+    → AreAlike old new → AreAlike new old
+alike_turned old new alike = record {
+  each_state = sym alike.each_state;
+  ends = λ k l. sym (alike.ends k (omega (arith, l, alike.each_state)));
+  moves = λ k l. turned (moves_at old k) (moves_at new k) (alike.moves k (omega (arith, l, alike.each_state)));
+}
+  where
+    turned : {W V : Type 0} {g : Ghosts W} {h : Ghosts V} (xs : List (TableArc W g)) (ys : List (TableArc V h))
+        → AllZip IsAlike xs ys → AllZip IsAlike ys xs
+    turned [] [] z = tt
+    turned [] (y ∷ ys) z = absurd z
+    turned (x ∷ xs) [] z = absurd z
+    turned (x ∷ xs) (y ∷ ys) z = (
+      record { same_class = sym z.0.same_class; same_target = sym z.0.same_target },
+      turned xs ys z.1,
+    )
+
+pub alike_words : {W V : Type 0} {g : Ghosts W} {h : Ghosts V} (old : List (TableState W g))
+    (new : List (TableState V h))
+    → AreAlike old new → (T : List (List Sym)) → Accepts new T ↔ Accepts old T
+alike_words old new alike T = (alike_accepts new old (alike_turned old new alike) T, alike_accepts old new alike T)

@@ -1,0 +1,47 @@
+use Rattle.std.proofs.Common.{◌≡◌, ◌<◌, ◌∙◌, length, ap, subst, sym, arith}
+use Rattle.std.specs.Prelude.{All}
+use Rattle.std.specs.List.{AllZip}
+use Rattle.arc_table.specs.States.{states_of}
+use Rattle.arc_table.specs.Moves.{moves_at}
+use Rattle.stage_tables.specs.Ranking.{kind_numbered, IsColumnOf, IsRankedMove}
+use Rattle.stage_tables.proofs.RankedStates.{no_states, next_state, kind_fits, kind_is, columns_of}
+use Rattle.stage_tables.proofs.ranking.ranked_states.Goals as goal
+
+pub ranked_moves-requires-clause-fits : goal.ranked_moves-requires-clause-fits
+ranked_moves-requires-clause-fits c =
+    let found = c.args.found.now in
+    kind_fits c.args.frame.now found.kinds.items
+    (states_of found.table) c.requires c.loop-state.state c.index.result.now
+    (omega (arith, c.loop-state-test.true, c.len-state-end.ensures)) c.index.ensures
+
+pub ranked_moves-requires-clause-columns : goal.ranked_moves-requires-clause-columns
+ranked_moves-requires-clause-columns c =
+    let found = c.args.found.now in
+    rw c.arcs.ensures (columns_of c.args.frame.now found.kinds.items
+    (states_of found.table) c.requires c.loop-state.state)
+
+pub loop-state-init : goal.loop-state-init
+loop-state-init c = record {
+  made = no_states c.args.frame.now c.args.found.now.kinds.items
+      (states_of c.args.found.now.table) c.new-states.result.items c.new-states.ensures.items;
+}
+
+pub loop-state-preserved : goal.loop-state-preserved
+loop-state-preserved c =
+    let frame = c.args.frame.now in
+    let found = c.args.found.now in
+    let n = c.loop-state.state in
+    let kind = c.index.result.now in
+    let arcs = c.in_ok-arcs.arcs.items in
+    let l : n < length (states_of found.table) = omega (arith, c.loop-state-test.true, c.len-state-end.ensures) in
+    let is : kind ≡ kind_numbered found.kinds.items n = kind_is frame found.kinds.items
+    (states_of found.table) c.requires n kind l c.index.ensures in
+    let moves : AllZip (IsRankedMove frame (kind_numbered found.kinds.items n))
+    (moves_at (states_of found.table) n) arcs =
+    subst (λ k. AllZip (IsRankedMove frame k) (moves_at (states_of found.table) n) arcs) is
+    (subst (λ xs. AllZip (IsRankedMove frame kind) xs arcs) c.arcs.ensures c.in_ok-arcs.ensures) in
+    record {
+      made = rw c.in_ok-push.ensures.items
+          (next_state frame found.kinds.items
+          (states_of found.table) c.loop-state.states.items n _ c.loop-state.invariant.made c.accepting.ensures moves);
+    }

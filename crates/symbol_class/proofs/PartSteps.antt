@@ -1,0 +1,244 @@
+-- Classes in their parts, by a difference of two classes.
+use Rattle.std.proofs.Common.{◌≡◌, ℕ, ◌+◌, ◌<◌, ◌≤◌, Bool, true, false, not, ◌&&◌, List, [], ◌∷◌, ◌++◌, length, get_or, take, refl, ap, sym, ◌∙◌, subst, arith, IsTrue, All}
+use Rattle.std.specs.List.{Contains}
+use Rattle.std.proofs.lemmas.Bool.{false≢true, and_parts}
+use Rattle.std.proofs.lemmas.List.{take_all}
+use Rattle.std.proofs.lemmas.List.Elements.{All-append, All-nil, Contains-get_or}
+use Rattle.std.proofs.lemmas.List.Sums.{get_or-le-sum_by, sum_by_more}
+use Rattle.tier_core.specs.declared.sym.Sym.{Sym}
+use Rattle.tier_core.specs.declared.class.Class.{Class}
+use Rattle.tier_core.specs.Classes.{sets_of, sets_have, has}
+use Rattle.tier_core.proofs.ClassSets.{same_sets}
+use Rattle.symbol_class.specs.declared.difference.Difference.{Difference}
+use Rattle.symbol_class.specs.Filled.{is_filled}
+use Rattle.symbol_class.specs.Held.{times_held, once_if, ArePieces, AddsClasses}
+use Rattle.symbol_class.specs.Parts.{differs, IsAlike, IsPartOf, AddsAlike, ArePartedBy}
+use Rattle.symbol_class.proofs.Filled.{empty_holds}
+use Rattle.symbol_class.proofs.Times.{held_by, adds_then, adds_none, pieces_from_once, once_from_apart, added_times}
+
+-- ---- classes that need not be parted
+
+constant : {X : Type 0} (f : List Sym → X) (class : Class) (x : X)
+    → ((column : List Sym) → has class column ≡ true → f column ≡ x) → IsAlike f class
+constant f class x h c d in_c in_d = h c in_c ∙ sym (h d in_d)
+
+within_none : (p w o : Bool) → p ≡ true → (p && w) ≡ false → (w && not o) ≡ false
+within_none true true o e h = absurd (false≢true (sym h))
+within_none true false o e h = refl
+within_none false w o e h = absurd (false≢true e)
+
+without_all : (p w o : Bool) → p ≡ true → (p && w) ≡ ((p && w) && o) → (w && not o) ≡ false
+without_all true true true e h = refl
+without_all true true false e h = absurd (false≢true (sym h))
+without_all true false o e h = refl
+without_all false w o e h = absurd (false≢true e)
+
+within_all : (p w o : Bool) → p ≡ true → (p && w) ≡ p → ((p && w) && o) ≡ false → (w && not o) ≡ true
+within_all true true true e h k = absurd (false≢true (sym k))
+within_all true true false e h k = refl
+within_all true false o e h k = absurd (false≢true h)
+within_all false w o e h k = absurd (false≢true e)
+
+module _ (class : Class) (test : Difference) (inside both : Class)
+    (has_inside : (column : List Sym) → has inside column ≡ (has class column && has test.within column))
+    (has_both : (column : List Sym) → has both column ≡ (has inside column && has test.without column)) where
+  in_both : (column : List Sym) → has both column
+      ≡ ((has class column && has test.within column) && has test.without column)
+  in_both column = has_both column ∙ ap (λ b. b && has test.without column) (has_inside column)
+
+  pub alike_none : is_filled inside ≡ false → IsAlike (differs test) class
+  alike_none empty = constant (differs test) class false (λ column held.
+      within_none (has class column) (has test.within column) (has test.without column) held
+      (sym (has_inside column) ∙ empty_holds inside column empty))
+
+  pub alike_without : inside.word ≡ both.word → IsAlike (differs test) class
+  alike_without same = constant (differs test) class false (λ column held.
+      without_all (has class column) (has test.within column) (has test.without column) held
+      (sym (has_inside column) ∙ ap (λ sets. sets_have sets column) (same_sets inside both same) ∙ in_both column))
+
+  pub alike_within : inside.word ≡ class.word → is_filled both ≡ false → IsAlike (differs test) class
+  alike_within same empty = constant (differs test) class true (λ column held.
+      within_all (has class column) (has test.within column) (has test.without column) held
+      (sym (has_inside column) ∙ ap (λ sets. sets_have sets column) (same_sets inside class same))
+      (sym (in_both column) ∙ empty_holds both column empty))
+
+-- ---- classes that are added in parts
+
+once_true : (b : Bool) → 1 ≤ once_if b → b ≡ true
+once_true true l = refl
+once_true false l = absurd (omega arith)
+
+-- a class that was added has only columns that some class that was added has
+added_held : (width : ℕ) (old new : List Class) (times : List Sym → ℕ) (a : AddsClasses width old new times) (k : ℕ)
+    (d : Class) → k < length a.added → (column : List Sym) → has (get_or a.added k d) column ≡ true → 1 ≤ times column
+added_held width old new times a k d inside column held =
+    omega (arith, get_or-le-sum_by (held_by column) a.added k d inside, ap once_if held, a.held column)
+
+-- all that is added is tested alike
+pub adds_constant : (width : ℕ) (old new : List Class) (p : List Sym → Bool) (test : List Sym → Bool) (b : Bool)
+    → AddsClasses width old new (λ column. once_if (p column))
+    → ((column : List Sym) → p column ≡ true → test column ≡ b)
+    → AddsAlike width old new (λ column. once_if (p column)) test
+adds_constant width old new p test b a h = record {
+  adds = a;
+  alike = λ k d inside. constant test (get_or a.added k d) b
+      (λ column held. h column (once_true (p column)
+      (added_held width old new (λ column. once_if (p column)) a k d inside column held)));
+}
+
+-- a class that need not be parted is added
+pub adds_whole : (width : ℕ) (old new : List Class) (class : Class) (test : List Sym → Bool) → IsAlike test class
+    → AddsClasses width old new (λ column. once_if (has class column))
+    → AddsAlike width old new (λ column. once_if (has class column)) test
+adds_whole width old new class test alike a = record {
+  adds = a;
+  alike = λ k d inside x y in_x in_y. alike x y (held k d inside x in_x) (held k d inside y in_y);
+}
+  where
+    held : (k : ℕ) (d : Class) → k < length a.added → (column : List Sym) → has (get_or a.added k d) column ≡ true
+        → has class column ≡ true
+    held k d inside column h = once_true (has class column)
+        (added_held width old new (λ column. once_if (has class column)) a k d inside column h)
+
+pub alike_then : {X : Type 0} (width : ℕ) (old mid new : List Class) (s t u : List Sym → ℕ) (test : List Sym → X)
+    → AddsAlike width old mid s test → AddsAlike width mid new t test
+    → ((column : List Sym) → s column + t column ≡ u column)
+    → AddsAlike width old new u test
+unfolding adds_then
+alike_then width old mid new s t u test a b e = record {
+  adds = adds_then width old mid new s t u a.adds b.adds e;
+  alike = All-append (IsAlike test) a.adds.added b.adds.added a.alike b.alike;
+}
+
+three_parts : (p w o : Bool) → (once_if (p && not w) + once_if ((p && w) && o)) + once_if ((p && w) && not o)
+    ≡ once_if p
+three_parts true true true = refl
+three_parts true true false = refl
+three_parts true false o = refl
+three_parts false w o = refl
+
+-- what is not in the one class, what is in both, and the rest
+pub adds_parts : (width wide both_wide : ℕ) (old one two new : List Class) (class inside both : Class)
+    (test : Difference)
+    → ((column : List Sym) → has inside column ≡ (has class column && has test.within column))
+    → ((column : List Sym) → has both column ≡ (has inside column && has test.without column))
+    → wide ≡ width → both_wide ≡ width
+    → AddsClasses width old one (λ column. once_if (has class column && not (has test.within column)))
+    → AddsClasses both_wide one two (λ column. once_if (has both column))
+    → AddsClasses wide two new (λ column. once_if (has inside column && not (has test.without column)))
+    → AddsAlike width old new (λ column. once_if (has class column)) (differs test)
+adds_parts width wide both_wide old one two new class inside both test has_inside has_both same both_same a b c =
+    alike_then width old two new (λ column. once_if (has class column && not (has test.within column)) + once_if
+    (has both column)) (λ column. once_if (has inside column && not (has test.without column)))
+    (λ column. once_if (has class column)) (differs test)
+    (alike_then width old one two (λ column. once_if (has class column && not (has test.within column)))
+    (λ column. once_if (has both column))
+    (λ column. once_if (has class column && not (has test.within column)) + once_if (has both column))
+    (differs test)
+    (adds_constant width old one (λ column. has class column && not (has test.within column)) (differs test) false a
+    (λ column h. not_within (has class column) (has test.within column) (has test.without column) h))
+    (adds_constant width one two (λ column. has both column) (differs test) false
+    (subst (λ n. AddsClasses n one two (λ column. once_if (has both column))) both_same b)
+    (λ column h. in_without (has inside column) (has test.within column) (has test.without column)
+    (sym (has_both column) ∙ h)))
+    (λ column. refl))
+    (adds_constant width two new (λ column. has inside column && not (has test.without column)) (differs test) true
+    (subst (λ n. AddsClasses n two new
+    (λ column. once_if (has inside column && not (has test.without column)))) same c)
+    (λ column h. in_rest (has class column) (has test.within column) (has test.without column)
+    (ap (λ b. b && not (has test.without column)) (sym (has_inside column)) ∙ h)))
+    (λ column.
+    ap (λ b. once_if (has class column && not (has test.within column)) + once_if b + once_if
+    (has inside column && not (has test.without column))) (has_both column)
+    ∙ ap (λ b. once_if (has class column && not (has test.within column)) + once_if
+    (b && has test.without column) + once_if (b && not (has test.without column))) (has_inside column)
+    ∙ three_parts (has class column) (has test.within column) (has test.without column))
+  where
+    not_within : (p w o : Bool) → (p && not w) ≡ true → (w && not o) ≡ false
+    not_within p false o h = refl
+    not_within true true o h = absurd (false≢true h)
+    not_within false true o h = absurd (false≢true h)
+
+    in_without : (i w o : Bool) → (i && o) ≡ true → (w && not o) ≡ false
+    in_without i true true h = refl
+    in_without i false o h = refl
+    in_without true true false h = absurd (false≢true h)
+    in_without false true false h = absurd (false≢true h)
+
+    in_rest : (p w o : Bool) → ((p && w) && not o) ≡ true → (w && not o) ≡ true
+    in_rest true true false h = refl
+    in_rest true true true h = absurd (false≢true h)
+    in_rest true false o h = absurd (false≢true h)
+    in_rest false w o h = absurd (false≢true h)
+
+-- ---- the parts of some classes
+
+-- the first i classes are parted
+pub record ArePartedBelow (width : ℕ) (test : List Sym → Bool) (wholes : List Class) (i : ℕ)
+    (parts : List Class) : Type 0 where
+  pub adds : AddsAlike width [] parts (times_held (take i wholes)) test
+  pub within : All (IsPartOf wholes) parts
+
+parts_of_one : (width : ℕ) (wholes old new : List Class) (class : Class) → Contains wholes class
+    → (a : AddsClasses width old new (λ column. once_if (has class column))) → All (IsPartOf wholes) a.added
+parts_of_one width wholes old new class listed a k d inside = record {
+  whole = class;
+  listed = listed;
+  within = λ column h. once_true (has class column)
+      (added_held width old new (λ column. once_if (has class column)) a k d inside column h);
+}
+
+pub parted_none : (width : ℕ) (test : List Sym → Bool) (wholes : List Class) → ArePartedBelow width test wholes 0 []
+unfolding adds_none
+parted_none width test wholes = record {
+  adds = record { adds = adds_none width [] (times_held []) (λ column. refl); alike = All-nil (IsAlike test) };
+  within = All-nil (IsPartOf wholes);
+}
+
+pub parted_next : (width : ℕ) (test : List Sym → Bool) (wholes : List Class) (i : ℕ) (parts more : List Class)
+    (class : Class)
+    → ArePartedBelow width test wholes i parts → i < length wholes → class ≡ get_or wholes i class
+    → AddsAlike width parts more (λ column. once_if (has class column)) test
+    → ArePartedBelow width test wholes (i + 1) more
+parted_next width test wholes i parts more class so_far l is a = record {
+  adds = alike_then width [] parts more (times_held (take i wholes)) (λ column. once_if (has class column))
+      (times_held (take (i + 1) wholes)) test so_far.adds a
+      (λ column. sym (sum_by_more (held_by column) wholes i class l
+      ∙ ap (λ c. times_held (take i wholes) column + once_if (has c column)) (sym is)));
+  within = subst (All (IsPartOf wholes)) (sym a.adds.new_is)
+      (All-append (IsPartOf wholes) parts a.adds.added so_far.within
+      (parts_of_one width wholes parts more class (i, l, sym is) a.adds));
+}
+
+pub parted_all : (width : ℕ) (test : List Sym → Bool) (wholes : List Class) (i : ℕ) (parts : List Class)
+    → ArePieces width wholes → ArePartedBelow width test wholes i parts → length wholes ≤ i
+    → ArePartedBy width test wholes parts
+parted_all width test wholes i parts pieces so_far all =
+    let times : (column : List Sym) → times_held parts column
+    ≡ times_held wholes column = (λ column. added_times width parts
+    (times_held (take i wholes)) so_far.adds.adds column
+    ∙ ap (λ xs. times_held xs column) (take_all i wholes all)) in
+    record {
+      pieces = pieces_from_once width parts
+          (subst (All (λ class. length (sets_of class) ≡ width))
+          (sym so_far.adds.adds.new_is) so_far.adds.adds.one_width)
+          (subst (All (λ class. IsTrue (is_filled class))) (sym so_far.adds.adds.new_is) so_far.adds.adds.filled)
+          (λ column. omega (arith, times column, once_from_apart wholes pieces.apart column));
+      held = times;
+      within = so_far.within;
+      alike = subst (All (IsAlike test)) (sym so_far.adds.adds.new_is) so_far.adds.alike;
+    }
+
+-- pieces that need not be parted
+pub parted_same : {X : Type 0} (width : ℕ) (test : List Sym → X) (wholes : List Class) → ArePieces width wholes
+    → All (IsAlike test) wholes → ArePartedBy width test wholes wholes
+parted_same width test wholes pieces alike = record {
+  pieces = pieces;
+  held = λ column. refl;
+  within = λ k d inside. record {
+    whole = get_or wholes k d;
+    listed = Contains-get_or wholes k d inside;
+    within = λ column h. h;
+  };
+  alike = alike;
+}

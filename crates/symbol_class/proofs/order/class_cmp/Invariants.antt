@@ -1,6 +1,0 @@
-use Rattle.tier_core.specs.Classes.{sets_of}
-use Rattle.symbol_class.proofs.SetOrder.{AgreeBelow}
-use Rattle.symbol_class.proofs.order.class_cmp.Given as goal
-
-abbrev pub invariant-loop-tier : goal.invariant-loop-tier
-invariant-loop-tier l = AgreeBelow l.tier (sets_of l.a) (sets_of l.b)

@@ -1,0 +1,96 @@
+ghost use Rattle.std.specs.Prelude.{◌≡◌, true, false, All, IfOk, OnOk, length};
+ghost use Rattle.tier_core.specs.Classes.{sets_of, has};
+ghost use Rattle.symbol_class.specs.Held.{once_if, ArePieces};
+ghost use Rattle.symbol_class.specs.Parts.{differs, IsAlike, AddsAlike, ArePartedBy};
+
+use crate::common::meet;
+use crate::difference::Difference;
+use crate::emptiness::is_empty;
+use crate::remainder::{push_filled, push_minus};
+use std::alloc::{AllocError, Global};
+use tier_core::{Class, NoMemory};
+
+/// Whether some columns of a class may be in a difference, and some not.
+fn is_parted(class: &Class, test: &Difference) -> bool
+    requires { length (sets_of class.now) ≡ length (sets_of test.now.within) }
+    ensures { result ≡ false → IsAlike (differs test.now) class.now }
+{
+    let inside = meet(class, &test.within);
+    let both = meet(&inside, &test.without);
+    if is_empty(&inside) {
+        return false;
+    }
+    if inside == both {
+        return false;
+    }
+    if inside != *class {
+        return true;
+    }
+    !is_empty(&both)
+}
+
+/// Whether a difference surely has all columns of each class, or none.
+fn are_whole(classes: &[Class], test: &Difference) -> bool
+    requires { All
+        (λ class. length (sets_of class) ≡ length (sets_of test.now.within)) classes.now }
+    ensures { result ≡ true → All (IsAlike (differs test.now)) classes.now }
+{
+    for class in classes {
+        if is_parted(class, test) {
+            return false;
+        }
+    }
+    true
+}
+
+/// Puts a class in its parts at the end of a list: those that are in a difference, and the others.
+fn push_parts(parts: &mut Vec<Class>, class: &Class, test: &Difference) -> Result<(), AllocError>
+    requires { length (sets_of class.now) ≡ length (sets_of test.now.within) }
+    ensures { OnOk result
+        (AddsAlike (length (sets_of class.now)) parts.old.items parts.new.items
+        (λ column. once_if (has class.now column)) (differs test.now)) }
+{
+    if !is_parted(class, test) {
+        push_filled(parts, *class)?;
+        return Ok(());
+    }
+    let inside = meet(class, &test.within);
+    push_minus(parts, class, &test.within)?;
+    push_filled(parts, meet(&inside, &test.without))?;
+    push_minus(parts, &inside, &test.without)?;
+    Ok(())
+}
+
+/// Parts classes by a difference.
+fn parts(alloc: Global, classes: &[Class], test: &Difference) -> Result<Vec<Class>, AllocError>
+    requires { ArePieces (length (sets_of test.now.within)) classes.now }
+    ensures { IfOk result
+        (λ parts.
+        ArePartedBy (length (sets_of test.now.within))
+        (differs test.now) classes.now parts.items) }
+{
+    let mut parts = Vec::new(alloc);
+    for class in classes {
+        push_parts(&mut parts, class, test)?;
+    }
+    Ok(parts)
+}
+
+/// Parts pieces, so that a difference has all columns of a part or none. They hold the same columns
+/// as before, each is a part of one piece, none is empty, and no column is in two. It fails only for
+/// want of memory.
+pub fn part(alloc: Global, classes: Vec<Class>, test: &Difference) -> Result<Vec<Class>, NoMemory>
+    requires { ArePieces (length (sets_of test.now.within)) classes.items }
+    ensures { IfOk result
+        (λ parts.
+        ArePartedBy (length (sets_of test.now.within))
+        (differs test.now) classes.items parts.items) }
+{
+    if are_whole(&classes, test) {
+        return Ok(classes);
+    }
+    match parts(alloc, &classes, test) {
+        Ok(parts) => Ok(parts),
+        Err(_) => Err(NoMemory),
+    }
+}

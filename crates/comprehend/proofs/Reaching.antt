@@ -1,0 +1,142 @@
+-- What one vertex, and several one after another, give to a search backward.
+use Rattle.std.proofs.Common.{◌≡◌, ℕ, zero, suc, ◌+◌, ◌<◌, ◌≤◌, true, false, Bool, List, [], ◌∷◌, ◌++◌, set, length, get_or, refl, sym, ap, ◌∙◌, subst, arith, ◌⊎◌, inl, inr, replicate}
+use Rattle.std.specs.Prelude.{Contains}
+use Rattle.std.proofs.lemmas.Bool.{cases_lt, cases_eq}
+use Rattle.std.proofs.lemmas.Bool.Decides.{nat_tests}
+use Rattle.std.proofs.lemmas.List.{length-set, get_or-set_same, get_or-set_other, get_or_past, length_push}
+use Rattle.std.proofs.lemmas.List.Elements.{Contains-append_left, Contains-push, Contains-push_cases}
+use Rattle.comprehend.specs.Searches.{far, IsLeft, unknown_at, unknown, Reaches}
+
+-- what a number adds to those of which nothing is known
+adds-far : (m : ℕ) → far ≤ m → unknown_at m ≡ 1
+adds-far m l = grind (arith, nat_tests)
+
+adds-near : (m : ℕ) → m < far → unknown_at m ≡ 0
+adds-near m l = grind (arith, nat_tests)
+
+unknown-set : (left : List ℕ) (s n : ℕ) → far ≤ get_or left s far → n < far → s < length left → unknown (set left s n) + 1 ≡ unknown left
+unknown-set [] s n none l in_list = absurd (omega (arith, in_list))
+unknown-set (m ∷ left) zero n none l in_list = omega (arith, adds-far m none, adds-near n l)
+unknown-set (m ∷ left) (suc s) n none l in_list = (let rest = unknown-set left s n none l (omega arith) in omega (arith, rest))
+
+-- only vertices have a number
+pub known_inside : (left : List ℕ) (s n : ℕ) → IsLeft left s n → s < length left
+known_inside left s n at = elim (cases_lt s (length left)) [
+  | inl l ↦ l
+  | inr l ↦ absurd (omega (arith, get_or_past left s far l, at.number, at.near))
+]
+
+-- one vertex of which something is known
+pub one_known : (n : ℕ) (left next : List ℕ) (s m : ℕ) → IsLeft left s m → Reaches (λ v. v ≡ s) n left left next next
+one_known n left next s m at = record {
+  same = refl;
+  kept = λ v d known. known;
+  found = λ v d known. inl known;
+  reached = λ v same. (m, (let P : ℕ → Type 0 = λ x. IsLeft left x m in subst P (sym same) at));
+  stays = λ v here. here;
+  listed = λ v here. inl here;
+  number = refl;
+}
+
+-- one vertex of which nothing was known
+pub one_unknown : (n : ℕ) (left next : List ℕ) (s : ℕ) → n < far → far ≤ get_or left s far → s < length left → Reaches (λ v. v ≡ s) n left (set left s n) next (next ++ s ∷ [])
+one_unknown n left next s near none inside = record { same = length-set left s n; kept = kept; found = found; reached = reached; stays = λ v here. Contains-append_left next (s ∷ []) v here; listed = listed; number = number }
+  where
+    there : (v : ℕ) → v ≡ s → IsLeft (set left s n) v n
+    there v at = record { number = ap (λ x. get_or (set left s n) x far) at ∙ get_or-set_same left s n far inside; near = near }
+
+    kept : (v d : ℕ) → IsLeft left v d → IsLeft (set left s n) v d
+    kept v d known = elim (cases_eq v s) [
+      | inl same ↦ absurd (omega (arith, ap (λ x. get_or left x far) same, known.number, known.near, none))
+      | inr ne ↦ record { number = get_or-set_other left s v n far ne ∙ known.number; near = known.near }
+    ]
+
+    found : (v d : ℕ) → IsLeft (set left s n) v d → IsLeft left v d ⊎ ((d ≡ n) × (v ≡ s) × Contains (next ++ s ∷ []) v)
+    found v d known = elim (cases_eq v s) [
+      | inl same ↦
+          (let P : ℕ → Type 0 = λ x. Contains (next ++ s ∷ []) x in
+          inr (sym known.number ∙ (there v same).number, same, subst P (sym same) (Contains-push next s)))
+      | inr ne ↦ inl (record { number = sym (get_or-set_other left s v n far ne) ∙ known.number; near = known.near })
+    ]
+
+    reached : (v : ℕ) → v ≡ s → (m : ℕ) × IsLeft (set left s n) v m
+    reached v at = (n, there v at)
+
+    listed : (v : ℕ) → Contains (next ++ s ∷ []) v → Contains next v ⊎ IsLeft (set left s n) v n
+    listed v inn = elim (Contains-push_cases next s v inn) [
+      | inl old ↦ inl old
+      | inr at ↦ inr (there v (sym at))
+    ]
+
+    number : unknown (set left s n) + length (next ++ s ∷ []) ≡ unknown left + length next
+    number = omega (arith, unknown-set left s n none near inside, length_push next s)
+
+-- where no vertex is to be reached
+pub reaches_none : (P : ℕ → Type 0) → ((v : ℕ) → P v → ⊥) → (n : ℕ) (left next : List ℕ) → Reaches P n left left next next
+reaches_none P none n left next = record {
+  same = refl;
+  kept = λ v d known. known;
+  found = λ v d known. inl known;
+  reached = λ v at. absurd (none v at);
+  stays = λ v here. here;
+  listed = λ v here. inl here;
+  number = refl;
+}
+
+-- the same vertices, said otherwise
+pub reaches_same : (P R : ℕ → Type 0) → ((v : ℕ) → P v → R v) → ((v : ℕ) → R v → P v) → (n : ℕ) (old new before after : List ℕ) → Reaches P n old new before after → Reaches R n old new before after
+reaches_same P R into back n old new before after r = record {
+  same = r.same;
+  kept = r.kept;
+  found = λ v m known. elim (r.found v m known) [ inl earlier ↦ inl earlier | inr now ↦ inr (now.0, into v now.1, now.2) ];
+  reached = λ v at. r.reached v (back v at);
+  stays = r.stays;
+  listed = r.listed;
+  number = r.number;
+}
+
+-- those of P, and then those of Q
+pub reaches_both : (P Q R : ℕ → Type 0) → ((v : ℕ) → R v → P v ⊎ Q v) → ((v : ℕ) → P v → R v) → ((v : ℕ) → Q v → R v) → (n : ℕ) (old mid new before between after : List ℕ) → Reaches P n old mid before between → Reaches Q n mid new between after → Reaches R n old new before after
+reaches_both P Q R split left right n old mid new before between after first second = record {
+  same = second.same ∙ first.same;
+  kept = λ v m e. second.kept v m (first.kept v m e);
+  found = found;
+  reached = reached;
+  stays = λ v here. second.stays v (first.stays v here);
+  listed = listed;
+  number = second.number ∙ first.number;
+}
+  where
+    found : (v m : ℕ) → IsLeft new v m → IsLeft old v m ⊎ ((m ≡ n) × R v × Contains after v)
+    found v m e = elim (second.found v m e) [
+      | inl known ↦ elim (first.found v m known) [
+        | inl earlier ↦ inl earlier
+        | inr now ↦ inr (now.0, left v now.1, second.stays v now.2)
+      ]
+      | inr now ↦ inr (now.0, right v now.1, now.2)
+    ]
+
+    reached : (v : ℕ) → R v → (m : ℕ) × IsLeft new v m
+    reached v r = elim (split v r) [
+      | inl p ↦ (let f = first.reached v p in (f.0, second.kept v f.0 f.1))
+      | inr p ↦ second.reached v p
+    ]
+
+    listed : (v : ℕ) → Contains after v → Contains before v ⊎ IsLeft new v n
+    listed v here = elim (second.listed v here) [
+      | inl earlier ↦ elim (first.listed v earlier) [
+        | inl first_is ↦ inl first_is
+        | inr at ↦ inr (second.kept v n at)
+      ]
+      | inr at ↦ inr at
+    ]
+
+-- numbers that are all far
+pub unknown-far : (total : ℕ) → unknown (replicate total far) ≡ total
+unknown-far zero = refl
+unknown-far (suc total) = (let rest = unknown-far total in omega (arith, adds-far far (omega arith), rest))
+
+pub none_left : (total v n : ℕ) → IsLeft (replicate total far) v n → ⊥
+none_left zero v n at = omega (arith, at.number, at.near)
+none_left (suc total) zero n at = omega (arith, at.number, at.near)
+none_left (suc total) (suc v) n at = none_left total v n (record { number = at.number; near = at.near })

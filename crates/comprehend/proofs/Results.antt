@@ -1,0 +1,26 @@
+-- Results that are no errors.
+use Rattle.std.specs.Prelude.{OnOk, IfOk, MatchOption}
+use Rattle.std.specs.Result.{is_err}
+use Rattle.std.proofs.lemmas.Bool.{false≢true}
+use Rattle.tier_core.specs.declared.sym.Sym.{Sym}
+use Rattle.tier_core.specs.Orders.{IsFirst}
+use Rattle.std.proofs.Common.{Option, None, Some, List, Result, Ok, Err, false, ◌≡◌, sym}
+
+-- what holds of an `Ok`, where the result is no `Err`
+pub on_ok : {A E P : Type 0} (r : Result A E) → OnOk r P → is_err r ≡ false → P
+on_ok (Ok x) h e = h
+on_ok (Err x) h e = absurd (false≢true (sym e))
+
+-- where an `Ok` has this, it has that
+pub if_ok_then : {A E : Type 0} (P Q : A → Type 0) → ((x : A) → P x → Q x) → (r : Result A E) → IfOk r P → IfOk r Q
+if_ok_then P Q step (Ok x) h = step x h
+if_ok_then P Q step (Err e) h = h
+
+-- the same of an `Option` that may be none
+pub match_then : {A : Type 0} (N M : Type 0) (P Q : A → Type 0) → (N → M) → ((x : A) → P x → Q x) → (o : Option A) → MatchOption o N P → MatchOption o M Q
+match_then N M P Q none some None h = none h
+match_then N M P Q none some (Some x) h = some x h
+
+-- the first of the same timelines, said otherwise
+pub first_same : (S R : List (List Sym) → Type 0) → ((T : List (List Sym)) → S T → R T) → ((T : List (List Sym)) → R T → S T) → (T : List (List Sym)) → IsFirst S T → IsFirst R T
+first_same S R to back T first = record { member = to T first.member; least = λ U r. first.least U (back U r) }

@@ -1,0 +1,50 @@
+use Rattle.std.proofs.Common.{◌≡◌, ◌<◌, ◌*◌, ℕ, List, None, [], length, get_or, ◌/◌, ◌%◌, sym, ap, ◌∙◌, subst, arith}
+use Rattle.std.specs.Prelude.{All}
+use Rattle.std.proofs.lemmas.List.Elements.{Contains-get_or}
+use Rattle.tier_core.specs.Classes.{sets_of}
+use Rattle.answer_text.specs.declared.automaton.ArcLine.{ArcLine}
+use Rattle.answer_text.specs.declared.automaton.StateLine.{StateLine}
+use Rattle.answer_text.specs.Right.{numbers_of}
+use Rattle.comprehend.specs.Choices.{IsBetter, LeadsByOne}
+use Rattle.comprehend.specs.Steps.{arcs_at}
+use Rattle.comprehend.proofs.Cells.{cell_of, place_below, state_of}
+use Rattle.comprehend.proofs.Levels.{arcs_read}
+use Rattle.comprehend.proofs.Choosing.{chosen, none_chosen}
+use Rattle.comprehend.proofs.choose.choose.Goals as goal
+
+pub best_of-requires-clause-widths : goal.best_of-requires-clause-widths
+best_of-requires-clause-widths c =
+    let states = c.args.states.now in
+    let tests = c.args.tests.now in
+    let search = c.requires.searchable.1 in
+    let s = c.args.from / length tests in
+    let inside : s < length states = state_of c.args.from (length states) (length tests) search.some_test (omega (arith, c.requires.from, c.requires.each)) in
+    let P : List ArcLine → Type 0 = λ xs. All (λ arc. All (λ test. length (sets_of arc.class) ≡ length (sets_of test)) tests) xs in
+    subst P (sym (arcs_read states s c.index-states-state.result c.deref.result.now inside c.deref.ensures.value))
+    (λ k d l j e m. search.arc_widths s (get_or (arcs_at states s) k d) (Contains-get_or (arcs_at states s) k d l) ∙ sym (search.test_widths j e m))
+
+pub unreachable-requires : goal.unreachable-requires
+unreachable-requires c =
+    let states = c.args.states.now in
+    let tests = c.args.tests.now in
+    let some = c.requires.searchable.1.some_test in
+    let s = c.args.from / length tests in
+    let p = c.args.from % length tests in
+    let inside : s < length states = state_of c.args.from (length states) (length tests) some (omega (arith, c.requires.from, c.requires.each)) in
+    let P : List ArcLine → Type 0 = λ xs. IsBetter (LeadsByOne c.args.numbers.now.keys tests p c.args.left.now c.args.n xs) None c.best_of.result in
+    let Q : List ℕ → Type 0 = λ ns. IsBetter (LeadsByOne ns tests p c.args.left.now c.args.n (arcs_at states s)) None c.best_of.result in
+    let best = subst Q c.requires.numbers (subst P (arcs_read states s c.index-states-state.result c.deref.result.now inside c.deref.ensures.value) c.best_of.ensures) in
+    none_chosen states tests c.args.left.now c.args.n c.args.from s p (cell_of c.args.from (length tests) some) (place_below c.args.from (length tests) some) c.best_of.result best c.in-None.is c.requires.some
+
+pub returns : goal.returns
+returns c =
+    let states = c.args.states.now in
+    let tests = c.args.tests.now in
+    let some = c.requires.searchable.1.some_test in
+    let s = c.args.from / length tests in
+    let p = c.args.from % length tests in
+    let inside : s < length states = state_of c.args.from (length states) (length tests) some (omega (arith, c.requires.from, c.requires.each)) in
+    let P : List ArcLine → Type 0 = λ xs. IsBetter (LeadsByOne c.args.numbers.now.keys tests p c.args.left.now c.args.n xs) None c.best_of.result in
+    let Q : List ℕ → Type 0 = λ ns. IsBetter (LeadsByOne ns tests p c.args.left.now c.args.n (arcs_at states s)) None c.best_of.result in
+    let best = subst Q c.requires.numbers (subst P (arcs_read states s c.index-states-state.result c.deref.result.now inside c.deref.ensures.value) c.best_of.ensures) in
+    chosen states tests c.args.left.now c.args.n c.args.from s p (cell_of c.args.from (length tests) some) (place_below c.args.from (length tests) some) c.best_of.result best c.in-Some.choice c.in-Some.is

@@ -1,0 +1,83 @@
+ghost use Rattle.std.specs.Prelude.{◌≡◌, ◌≢◌, ◌*◌, ◌<◌, ◌^◌, ℕ, AllPairs, IfOk, length};
+ghost use Rattle.answer_text.specs.Right.{numbers_of};
+ghost use Rattle.comprehend.specs.Searches.{AreLengths, IsSearched};
+ghost use Rattle.comprehend.specs.Steps.{Goes, IsEnd, AreSearchable};
+ghost use Rattle.comprehend.specs.Entering.{AreTurned, IsArcOf};
+
+use crate::cell::cell;
+use crate::entering::Entering;
+use crate::level::next_level;
+use crate::look::{FAR, look};
+use crate::turning::turned;
+use answer_text::StateLine;
+use indexmap::IndexSet;
+use std::alloc::{AllocError, Global};
+use tier_core::Class;
+
+/// How far the search backward has come: for each cell how few columns are left, where that is known,
+/// and the cells of the last level.
+#[derive(Drop)]
+struct Search {
+    left: Vec<u32>,
+    level: Vec<u32>,
+}
+
+/// The cells of final states and the last place, at which no column is left.
+fn at_the_ends(
+    alloc: Global,
+    states: &[StateLine],
+    tests: &[Class],
+) -> Result<Search, AllocError>
+    requires searchable { (width : ℕ) × AreSearchable width states.now tests.now }
+    ensures { IfOk result (λ search. IsSearched (Goes states.now tests.now) (IsEnd states.now tests.now) (length states.now * length tests.now) search.left.items search.level.items 0) }
+{
+    let places = tests.len() as u32;
+    let mut left = vec![in alloc; FAR; states.len() * tests.len()]?;
+    let mut level = Vec::new(alloc);
+    for (number, state) in states.iter().enumerate() {
+        let end = cell(number as u32, places - 1, places);
+        look(state.accepting, end, 0, &mut left, &mut level)?;
+    }
+    Ok(Search { left, level })
+}
+
+/// For each cell how few columns lead to an end, by a search backward in breadth.
+fn searched(
+    alloc: Global,
+    states: &[StateLine],
+    tests: &[Class],
+    into: &[Vec<Entering>],
+) -> Result<Vec<u32>, AllocError>
+    requires searchable { (width : ℕ) × AreSearchable width states.now tests.now }
+    requires turned { AreTurned (IsArcOf states.now) (numbers_of states.now) into.now }
+    ensures each { IfOk result (λ left. length left.items ≡ length states.now * length tests.now) }
+    ensures lengths { IfOk result (λ left. AreLengths (Goes states.now tests.now) (IsEnd states.now tests.now) left.items) }
+{
+    let search = at_the_ends(alloc, states, tests)?;
+    let mut left = search.left;
+    let mut level = search.level;
+    let mut n = 0;
+    'levels: while !level.is_empty() {
+        n += 1;
+        level = next_level(alloc, states, tests, into, &level, n, &mut left)?;
+    }
+    Ok(left)
+}
+
+/// For each cell how few columns lead to an end. It takes 4 bytes a cell, and each arc is looked at
+/// once for each place.
+pub(crate) fn lengths(
+    alloc: Global,
+    numbers: &IndexSet<u32>,
+    states: &[StateLine],
+    tests: &[Class],
+) -> Result<Vec<u32>, AllocError>
+    requires searchable { (width : ℕ) × AreSearchable width states.now tests.now }
+    requires numbers { numbers.now.keys ≡ numbers_of states.now }
+    requires once { AllPairs (λ m n. m ≢ n) (numbers_of states.now) }
+    ensures each { IfOk result (λ left. length left.items ≡ length states.now * length tests.now) }
+    ensures lengths { IfOk result (λ left. AreLengths (Goes states.now tests.now) (IsEnd states.now tests.now) left.items) }
+{
+    let into = turned(alloc, numbers, states)?;
+    searched(alloc, states, tests, &into)
+}

@@ -1,0 +1,6 @@
+mod Sets
+mod Conjunctions
+mod Repeats
+mod Ranks
+mod GoingOn
+mod Tight

@@ -4,3 +4,6 @@ mod Repeats
 mod Ranks
 mod GoingOn
 mod Tight
+mod Longest
+mod Names
+pub mod KindsFew

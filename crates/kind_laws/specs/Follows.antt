@@ -6,4 +6,5 @@ use Rattle.violation.specs.Problems.{Problem}
 
 -- the columns q after the prefix p add m to what stage r counts
 abbrev pub Adds : Problem → ℕ → List (List Sym) → List (List Sym) → ℕ → Type 0
-Adds problem r p q m = count_at problem r (p ++ q) ≡ count_so_far_at problem r (p ++ q) (length p) + m
+Adds problem r p q m =
+    count_at problem r (p ++ q) ≡ count_so_far_at problem r (p ++ q) (length p) + m

@@ -6,8 +6,10 @@ use Rattle.violation.specs.Prefixes.{kind_of}
 use Rattle.violation.specs.Problems.{Problem}
 use Rattle.violation.specs.Stages.{IsRemaining}
 
--- From the prefix p by one column, what remains at stage r falls by just what the column costs there.
-pub record IsTightStep (problem : Problem) (r : ℕ) (p : List (List Sym)) (column : List Sym) : Type 0 where
+-- From the prefix p by one column, what remains at stage r falls by just what the column costs
+-- there.
+pub record IsTightStep (problem : Problem) (r : ℕ) (p : List (List Sym))
+    (column : List Sym) : Type 0 where
   pub before : ℕ
   pub after : ℕ
   pub leaves : IsRemaining problem r (kind_of problem r p) before
@@ -16,5 +18,5 @@ pub record IsTightStep (problem : Problem) (r : ℕ) (p : List (List Sym)) (colu
 
 -- each step of T is tight at stage r
 abbrev pub HasTightSteps : Problem → ℕ → List (List Sym) → Type 0
-HasTightSteps problem r T = (p : List (List Sym)) (column : List Sym) (q : List (List Sym)) → T ≡ p ++ column ∷ q
-    → IsTightStep problem r p column
+HasTightSteps problem r T = (p : List (List Sym)) (column : List Sym) (q : List (List Sym))
+    → T ≡ p ++ column ∷ q → IsTightStep problem r p column

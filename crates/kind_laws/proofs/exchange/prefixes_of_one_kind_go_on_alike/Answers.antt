@@ -9,7 +9,8 @@ pub returns-clause-optimal : goal.returns-clause-optimal
 returns-clause-optimal c problem r stage p q v w o u same = optimal_exchanged problem r stage p q v w o u same
 
 pub returns-clause-some : goal.returns-clause-some
-returns-clause-some c problem r stage ranked v w d = (rest problem r stage ranked v w, adds_rest problem r stage ranked v w d)
+returns-clause-some c problem r stage ranked v w d =
+    (rest problem r stage ranked v w, adds_rest problem r stage ranked v w d)
 
 pub returns-clause-same : goal.returns-clause-same
 returns-clause-same c problem r stage i ranked few p q v w a b same m adds =

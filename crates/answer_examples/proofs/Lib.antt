@@ -1,0 +1,7 @@
+mod Fits
+mod Views
+mod Refused
+mod TwoStates
+mod TwoKinds
+mod AlteredStates
+mod OneRemains

@@ -69,7 +69,8 @@ module _ (answer : Answer) (example : List (List Sym)) (final : Bool) (arcs : Li
       ⊎_elim (λ e. subst (λ z. Contains z.arcs.items h.arc) (sym e) h.leaves)
       (λ e. let n : 1 ≡ 0 = sym y_node ∙ ap (λ z. z.node) e ∙ h.from in absurd (omega arith))
       (in_two x both.1.0 h.state (subst (λ l. Contains l h.state) both.1.1.0 h.listed)) in
-      subst (λ n. 0 < n) (as_many x.arcs.items ∙ ap length (ap (λ z. z.arcs) both.1.1.1)) (some x.arcs.items h.arc leaves)
+      subst (λ n. 0 < n) (as_many x.arcs.items ∙ ap length (ap (λ z. z.arcs) both.1.1.1))
+      (some x.arcs.items h.arc leaves)
     where
       as_many : (items : List ArcLine) → length items ≡ length (map arc_seen items)
       as_many [] = refl

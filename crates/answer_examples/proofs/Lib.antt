@@ -2,6 +2,8 @@ mod Fits
 mod Views
 mod Refused
 mod TwoStates
+mod StageZero
 mod TwoKinds
 mod AlteredStates
 mod OneRemains
+mod OneDep

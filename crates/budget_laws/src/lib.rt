@@ -5,4 +5,4 @@
 
 mod enough;
 
-pub use enough::stages_are_within_enough;
+pub use enough::{first_stage_over_a_budget, stages_are_within_enough};

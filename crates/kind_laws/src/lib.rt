@@ -4,9 +4,9 @@
 //! A kind tells of a prefix all that matters for how it goes on: prefixes of one kind may exchange
 //! what follows them, and it adds the same to each count. A candidate that the constraints before
 //! have left is left by this one exactly where each of its steps is tight. What is counted so far
-//! hangs on the prefix alone, and a type that is repeated in a conjunction changes no count. A stage
-//! has no more kinds than its places, open tiers and stretch implications allow. The crate builds on
-//! the definitions of `violation`, and on no table and no answer.
+//! hangs on the prefix alone, and a type that is repeated in a conjunction changes no count. A
+//! stage has no more kinds than its places, open tiers and stretch implications allow. The crate
+//! builds on the definitions of `violation`, and on no table and no answer.
 #![tactic(auto)]
 
 mod exchange;

@@ -27,7 +27,10 @@ module _ (step : ℕ → List Sym → ℕ → Type 0) (ends : ℕ → Type 0) wh
 
     -- with no column left the empty word is the first
     pub first_empty : (v : ℕ) → IsLeft left v 0 → IsFirstFrom v []
-    first_empty v at = record { read = go (are.some v 0 at).0 (are.some v 0 at).1.0 (are.some v 0 at).1.1; first = first }
+    first_empty v at = record {
+      read = go (are.some v 0 at).0 (are.some v 0 at).1.0 (are.some v 0 at).1.1;
+      first = first;
+    }
       where
         go : (word : List (List Sym)) → ReadsFrom step ends v word → length word ≡ 0 → ReadsFrom step ends v []
         go [] r e = r
@@ -43,7 +46,8 @@ module _ (step : ℕ → List Sym → ℕ → Type 0) (ends : ℕ → Type 0) wh
         let bound = are.least v word first.read in
         let some = are.some v n at in
         let same : bound.0 ≡ n = same_left v bound.0 n bound.1.0 at in
-        let upper : length word ≤ length some.0 = elim (first.first some.0 some.1.0) [ inl l ↦ omega arith | inr e ↦ omega (arith, e.0) ] in
+        let upper : length word ≤ length some.0 = elim
+        (first.first some.0 some.1.0) [ inl l ↦ omega arith | inr e ↦ omega (arith, e.0) ] in
         omega (arith, bound.1.1, some.1.1, same, upper)
 
     -- where columns are left, a step leads nearer
@@ -62,21 +66,30 @@ module _ (step : ℕ → List Sym → ℕ → Type 0) (ends : ℕ → Type 0) wh
             let here : near.0 ≡ n = omega (arith, near.1.1, back.1.1, best.1.1, same, e) in
             (c, w, (r.1.0, subst P here near.1.0))
 
-    module _ (one : (v w x : ℕ) (column : List Sym) → step v column w → step v column x → w ≡ x) (v n : ℕ) (at : IsLeft left v (n + 1)) (column : List Sym) (w : ℕ) (choice : IsLeastStep step left v n column w) (word : List (List Sym)) (rest : IsFirstFrom w word) where
+    module _ (one : (v w x : ℕ) (column : List Sym) → step v column w → step v column x → w ≡ x) (v n : ℕ)
+        (at : IsLeft left v (n + 1)) (column : List Sym) (w : ℕ) (choice : IsLeastStep step left v n column w)
+        (word : List (List Sym)) (rest : IsFirstFrom w word) where
       word_length : length word ≡ n
       word_length = first_length w n word choice.nearer rest
 
-      at_most_other : (d : List Sym) (x : ℕ) (vs : List (List Sym)) → step v d x → IsLeft left x n → ReadsFrom step ends x vs → length vs ≡ n → is_gt (word_cmp (column ∷ word) (d ∷ vs)) ≡ false
+      at_most_other : (d : List Sym) (x : ℕ) (vs : List (List Sym)) → step v d x → IsLeft left x n
+          → ReadsFrom step ends x vs → length vs ≡ n → is_gt (word_cmp (column ∷ word) (d ∷ vs)) ≡ false
       at_most_other d x vs steps near read long = go (column_cmp column d) refl (choice.least d x steps near)
         where
-          go : (r : Ordering) → column_cmp column d ≡ r → is_gt r ≡ false → is_gt (ordering_then (column_cmp column d) (word_cmp word vs)) ≡ false
+          go : (r : Ordering) → column_cmp column d ≡ r → is_gt r ≡ false
+              → is_gt (ordering_then (column_cmp column d) (word_cmp word vs)) ≡ false
           go Less e f = rw e refl
           go Equal e f =
               (let same : column ≡ d = equal_columns column d e in
               let P : List Sym → Type 0 = λ c. step v c w in
               let meets : x ≡ w = one v x w d steps (subst P same choice.steps) in
               let R : ℕ → Type 0 = λ y. ReadsFrom step ends y vs in
-              let later : is_gt (word_cmp word vs) ≡ false = elim (rest.first vs (subst R meets read)) [ inl shorter ↦ absurd (omega (arith, shorter, word_length, long)) | inr even ↦ even.1 ] in
+              let later : is_gt (word_cmp word vs)
+              ≡ false = elim (rest.first vs (subst R meets read)) [
+                | inl shorter ↦ absurd
+                    (omega (arith, shorter, word_length, long))
+                | inr even ↦ even.1
+              ] in
               rw e later)
           go Greater e f = absurd (false≢true (sym f))
 
@@ -100,5 +113,8 @@ module _ (step : ℕ → List Sym → ℕ → Type 0) (ends : ℕ → Type 0) wh
                     (let P : ℕ → Type 0 = λ k. IsLeft left x k in
                     let here : near.0 ≡ n = omega (arith, near.1.1, back.1.1, best.1.1, same, few) in
                     let long : length vs ≡ n = omega (arith, few, near.1.1, back.1.1, best.1.1, same) in
-                    inr (omega (arith, word_length, long), at_most_other d x vs r.1.0 (subst P here near.1.0) r.1.1 long))
+                    inr (
+                      omega (arith, word_length, long),
+                      at_most_other d x vs r.1.0 (subst P here near.1.0) r.1.1 long,
+                    ))
               ])

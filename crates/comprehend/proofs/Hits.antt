@@ -21,21 +21,25 @@ use Rattle.comprehend.specs.Surfaces.{HasSurface}
 use Rattle.comprehend.specs.Hears.{forms_of, indexes_of, IsHit, IsPushed, Hears, AreEntriesWithin, IsFirstEntryOver}
 
 -- the elements of the first n
-pub of_taken : {X : Type 0} (n : ℕ) (xs : List X) (k : ℕ) (x : X) → slice_get (take n xs) k ≡ Some x → (k < n) × (slice_get xs k ≡ Some x)
+pub of_taken : {X : Type 0} (n : ℕ) (xs : List X) (k : ℕ) (x : X) → slice_get (take n xs) k ≡ Some x
+    → (k < n) × (slice_get xs k ≡ Some x)
 of_taken zero xs k x e = absurd (let f : ⊥ = cc in f)
 of_taken (suc n) [] k x e = absurd (let f : ⊥ = cc in f)
 of_taken (suc n) (y ∷ xs) zero x e = (omega arith, e)
 of_taken (suc n) (y ∷ xs) (suc k) x e = (let rest = of_taken n xs k x e in (omega (arith, rest.0), rest.1))
 
-pub taken : {X : Type 0} (n : ℕ) (xs : List X) (k : ℕ) (x : X) → k < n → slice_get xs k ≡ Some x → slice_get (take n xs) k ≡ Some x
+pub taken : {X : Type 0} (n : ℕ) (xs : List X) (k : ℕ) (x : X) → k < n → slice_get xs k ≡ Some x
+    → slice_get (take n xs) k ≡ Some x
 taken zero xs k x l e = absurd (omega (arith, l))
 taken (suc n) [] k x l e = e
 taken (suc n) (y ∷ xs) zero x l e = e
 taken (suc n) (y ∷ xs) (suc k) x l e = taken n xs k x (omega (arith, l)) e
 
-module _ (ask : List (List Sym) → Problem) (forms : List (List (List Sym))) (surface : List (List Sym)) (i : ℕ) (form : List (List Sym)) (at : slice_get forms i ≡ Some form) where
+module _ (ask : List (List Sym) → Problem) (forms : List (List (List Sym))) (surface : List (List Sym)) (i : ℕ)
+    (form : List (List Sym)) (at : slice_get forms i ≡ Some form) where
   -- the entries of one number more
-  entry_cases : (k : ℕ) (other : List (List Sym)) → slice_get (take (i + 1) forms) k ≡ Some other → (slice_get (take i forms) k ≡ Some other) ⊎ ((k ≡ i) × (form ≡ other))
+  entry_cases : (k : ℕ) (other : List (List Sym)) → slice_get (take (i + 1) forms) k ≡ Some other
+      → (slice_get (take i forms) k ≡ Some other) ⊎ ((k ≡ i) × (form ≡ other))
   entry_cases k other e =
       let own = of_taken (i + 1) forms k other e in
       elim (cases_lt k i) [
@@ -47,34 +51,41 @@ module _ (ask : List (List Sym) → Problem) (forms : List (List (List Sym))) (s
             inr (same, one))
       ]
 
-  longer : (k : ℕ) (other : List (List Sym)) → slice_get (take i forms) k ≡ Some other → slice_get (take (i + 1) forms) k ≡ Some other
+  longer : (k : ℕ) (other : List (List Sym)) → slice_get (take i forms) k ≡ Some other
+      → slice_get (take (i + 1) forms) k ≡ Some other
   longer k other e = (let own = of_taken i forms k other e in taken (i + 1) forms k other (omega (arith, own.0)) own.1)
 
   still_hit : (hit : Hit) → IsHit ask (take i forms) surface hit → IsHit ask (take (i + 1) forms) surface hit
   still_hit hit h = record { form = h.form; numbered = longer hit.index h.form h.numbered; first = h.first }
 
-  pub within_more : (budget : ℕ) → AreEntriesWithin ask (take i forms) budget → AreAllWithin (ask form) budget → AreEntriesWithin ask (take (i + 1) forms) budget
+  pub within_more : (budget : ℕ) → AreEntriesWithin ask (take i forms) budget → AreAllWithin (ask form) budget
+      → AreEntriesWithin ask (take (i + 1) forms) budget
   within_more budget before own k other e = elim (entry_cases k other e) [
     | inl earlier ↦ before k other earlier
     | inr now ↦ (let P : List (List Sym) → Type 0 = λ f. AreAllWithin (ask f) budget in subst P now.1 own)
   ]
 
-  pub over_here : (budget stage : ℕ) → AreEntriesWithin ask (take i forms) budget → IsFirstOver (ask form) budget stage → IsFirstEntryOver ask forms budget i stage
-  over_here budget stage before over = record { form = form; numbered = at; over = over; before = λ k other l e. before k other (taken i forms k other l e) }
+  pub over_here : (budget stage : ℕ) → AreEntriesWithin ask (take i forms) budget
+      → IsFirstOver (ask form) budget stage → IsFirstEntryOver ask forms budget i stage
+  over_here budget stage before over = record
+      { form = form; numbered = at; over = over; before = λ k other l e. before k other (taken i forms k other l e) }
 
   -- an entry that is not heard
-  pub hears_none : (hits : List Hit) → Hears ask (take i forms) surface hits → ((T : List (List Sym)) → HasSurface (ask form) surface T → ⊥) → Hears ask (take (i + 1) forms) surface hits
+  pub hears_none : (hits : List Hit) → Hears ask (take i forms) surface hits
+      → ((T : List (List Sym)) → HasSurface (ask form) surface T → ⊥) → Hears ask (take (i + 1) forms) surface hits
   hears_none hits h none = record {
     in_order = h.in_order;
     each = λ hit here. still_hit hit (h.each hit here);
     every = λ k other T e has. elim (entry_cases k other e) [
       | inl earlier ↦ h.every k other T earlier has
-      | inr now ↦ (let P : List (List Sym) → Type 0 = λ f. HasSurface (ask f) surface T in absurd (none T (subst P (sym now.1) has)))
+      | inr now ↦ (let P : List (List Sym)
+          → Type 0 = λ f. HasSurface (ask f) surface T in absurd (none T (subst P (sym now.1) has)))
     ];
   }
 
   -- an entry that is heard
-  pub hears_more : (hits : List Hit) (hit : Hit) → hit.index ≡ i → IsFirst (HasSurface (ask form) surface) hit.example → Hears ask (take i forms) surface hits → Hears ask (take (i + 1) forms) surface (hits ++ hit ∷ [])
+  pub hears_more : (hits : List Hit) (hit : Hit) → hit.index ≡ i → IsFirst (HasSurface (ask form) surface) hit.example
+      → Hears ask (take i forms) surface hits → Hears ask (take (i + 1) forms) surface (hits ++ hit ∷ [])
   hears_more hits hit is first h = record { in_order = in_order; each = each; every = every }
     where
       indexes : indexes_of (hits ++ hit ∷ []) ≡ indexes_of hits ++ hit.index ∷ []
@@ -90,33 +101,43 @@ module _ (ask : List (List Sym) → Problem) (forms : List (List (List Sym))) (s
       across : (x y : ℕ) → Contains (indexes_of hits) x → Contains (hit.index ∷ []) y → nat_cmp x y ≡ Less
       across x y inx iny =
           (let l = below x inx in
-          let same : hit.index ≡ y = elim (Contains-push_cases [] hit.index y iny) [ inl none ↦ absurd (omega (arith, none.1)) | inr now ↦ now ] in
+          let same : hit.index ≡ y = elim
+          (Contains-push_cases [] hit.index y iny) [
+            | inl none ↦ absurd
+                (omega (arith, none.1))
+            | inr now ↦ now
+          ] in
           sym (nat_cmp_is x y Less (omega (arith, l, is, same))))
 
       in_order : IsStrictlySortedBy nat_cmp (indexes_of (hits ++ hit ∷ []))
       in_order =
           (let P : List ℕ → Type 0 = λ xs. IsStrictlySortedBy nat_cmp xs in
           subst P (sym indexes) (sorted_from nat_cmp (indexes_of hits ++ hit.index ∷ [])
-          (ascends_append nat_cmp (indexes_of hits) (hit.index ∷ []) (ascends_from nat_cmp (indexes_of hits) h.in_order) (tt, tt) across)))
+          (ascends_append nat_cmp (indexes_of hits) (hit.index ∷ [])
+          (ascends_from nat_cmp (indexes_of hits) h.in_order) (tt, tt) across)))
 
       each : (x : Hit) → Contains (hits ++ hit ∷ []) x → IsHit ask (take (i + 1) forms) surface x
       each x here = elim (Contains-push_cases hits hit x here) [
         | inl earlier ↦ still_hit x (h.each x earlier)
         | inr now ↦
             (let P : Hit → Type 0 = λ y. IsHit ask (take (i + 1) forms) surface y in
-            let own : slice_get (take (i + 1) forms) hit.index ≡ Some form = ap (slice_get (take (i + 1) forms)) is ∙ taken (i + 1) forms i form (omega arith) at in
+            let own : slice_get (take (i + 1) forms) hit.index ≡ Some form = ap (slice_get (take (i + 1) forms)) is
+            ∙ taken (i + 1) forms i form (omega arith) at in
             subst P now (record { form = form; numbered = own; first = first }))
       ]
 
-      every : (k : ℕ) (other T : List (List Sym)) → slice_get (take (i + 1) forms) k ≡ Some other → HasSurface (ask other) surface T → Contains (indexes_of (hits ++ hit ∷ [])) k
+      every : (k : ℕ) (other T : List (List Sym)) → slice_get (take (i + 1) forms) k ≡ Some other
+          → HasSurface (ask other) surface T → Contains (indexes_of (hits ++ hit ∷ [])) k
       every k other T e has =
           (let P : List ℕ → Type 0 = λ xs. Contains xs k in
           subst P (sym indexes) (elim (entry_cases k other e) [
             | inl earlier ↦ Contains-append_left (indexes_of hits) (hit.index ∷ []) k (h.every k other T earlier has)
-            | inr now ↦ (let Q : ℕ → Type 0 = λ y. Contains (indexes_of hits ++ hit.index ∷ []) y in subst Q (is ∙ sym now.0) (Contains-push (indexes_of hits) hit.index))
+            | inr now ↦ (let Q : ℕ → Type 0 = λ y. Contains (indexes_of hits ++ hit.index ∷ []) y in subst Q
+                (is ∙ sym now.0) (Contains-push (indexes_of hits) hit.index))
           ]))
 
-pub hears_nothing : (ask : List (List Sym) → Problem) (forms : List (List (List Sym))) (surface : List (List Sym)) → Hears ask (take 0 forms) surface []
+pub hears_nothing : (ask : List (List Sym) → Problem) (forms : List (List (List Sym))) (surface : List (List Sym))
+    → Hears ask (take 0 forms) surface []
 hears_nothing ask forms surface = record {
   in_order = sorted_from nat_cmp [] tt;
   each = λ hit here. absurd (omega (arith, here.1));
@@ -124,16 +145,23 @@ hears_nothing ask forms surface = record {
 }
 
 -- the form of an entry stands at its number
-pub form_at : (lexicon : List Entry) (i : ℕ) (entry : Entry) → i < length lexicon → entry ≡ get_or lexicon i entry → slice_get (forms_of lexicon) i ≡ Some entry.form
+pub form_at : (lexicon : List Entry) (i : ℕ) (entry : Entry) → i < length lexicon → entry ≡ get_or lexicon i entry
+    → slice_get (forms_of lexicon) i ≡ Some entry.form
 form_at lexicon i entry inside is =
     slice_get-get_or (forms_of lexicon) i entry.form (omega (arith, inside, length-map lexicon (λ (e : Entry). e.form)))
-    ∙ ap (λ x. Some x) (get_or-map (λ (e : Entry). e.form) lexicon i entry entry.form inside ∙ ap (λ (e : Entry). e.form) (sym is))
+    ∙ ap (λ x. Some x) (get_or-map (λ (e : Entry). e.form) lexicon i entry entry.form inside
+    ∙ ap (λ (e : Entry). e.form) (sym is))
 
 -- what is heard of an entry
-pub hears_next : (ask : List (List Sym) → Problem) (forms : List (List (List Sym))) (surface : List (List Sym)) (i : ℕ) (form : List (List Sym)) → slice_get forms i ≡ Some form → (hits new : List Hit) (heard : Option (List (List Sym)))
-    → MatchOption heard ((T : List (List Sym)) → HasSurface (ask form) surface T → ⊥) (IsFirst (HasSurface (ask form) surface)) → IsPushed hits new i heard → Hears ask (take i forms) surface hits → Hears ask (take (i + 1) forms) surface new
+pub hears_next : (ask : List (List Sym) → Problem) (forms : List (List (List Sym))) (surface : List (List Sym))
+    (i : ℕ) (form : List (List Sym)) → slice_get forms i ≡ Some form
+    → (hits new : List Hit) (heard : Option (List (List Sym)))
+    → MatchOption heard ((T : List (List Sym)) → HasSurface (ask form) surface T → ⊥)
+    (IsFirst (HasSurface (ask form) surface)) → IsPushed hits new i heard → Hears ask (take i forms) surface hits
+    → Hears ask (take (i + 1) forms) surface new
 hears_next ask forms surface i form at hits new None none pushed h =
-    (let P : List Hit → Type 0 = λ xs. Hears ask (take (i + 1) forms) surface xs in subst P (sym pushed) (hears_none ask forms surface i form at hits h none))
+    (let P : List Hit → Type 0 = λ xs. Hears ask (take (i + 1) forms) surface xs in subst P (sym pushed)
+    (hears_none ask forms surface i form at hits h none))
 hears_next ask forms surface i form at hits new (Some example) first pushed h =
     (let P : List Hit → Type 0 = λ xs. Hears ask (take (i + 1) forms) surface xs in
     let hit : Hit = record { index = i; example = example } in

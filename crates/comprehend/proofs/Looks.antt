@@ -13,13 +13,17 @@ use Rattle.comprehend.specs.Entering.{ComesByOne, ComesBy, MeetsTest}
 use Rattle.comprehend.proofs.Reaching.{reaches_same, reaches_both}
 
 -- a test at its number
-pub test_at : (tests : List Class) (k : ℕ) (test : Class) → k < length tests → test ≡ get_or tests k test → (column : List Sym) → test_has tests k column ≡ has test column
-test_at tests k test inside is column = get_or-map (λ (t : Class). has t column) tests k test false inside ∙ ap (λ (t : Class). has t column) (sym is)
+pub test_at : (tests : List Class) (k : ℕ) (test : Class) → k < length tests → test ≡ get_or tests k test
+    → (column : List Sym) → test_has tests k column ≡ has test column
+test_at tests k test inside is column = get_or-map (λ (t : Class). has t column) tests k test false inside
+    ∙ ap (λ (t : Class). has t column) (sym is)
 
 module _ (tests : List Class) (source place : ℕ) (class : Class) (n : ℕ) where
   -- a look along one test
-  looked : (k : ℕ) (test : Class) → k < length tests → test ≡ get_or tests k test → (steps : Bool) (cell : ℕ) → IsTrue steps ↔ ((column : List Sym) × (IsTrue (has class column) × IsTrue (has test column)))
-      → (old new before after : List ℕ) → Reaches (λ v. IsTrue steps × (v ≡ cell)) n old new before after → Reaches (λ v. MeetsTest tests k class × (v ≡ cell)) n old new before after
+  looked : (k : ℕ) (test : Class) → k < length tests → test ≡ get_or tests k test → (steps : Bool) (cell : ℕ)
+      → IsTrue steps ↔ ((column : List Sym) × (IsTrue (has class column) × IsTrue (has test column)))
+      → (old new before after : List ℕ) → Reaches (λ v. IsTrue steps × (v ≡ cell)) n old new before after
+      → Reaches (λ v. MeetsTest tests k class × (v ≡ cell)) n old new before after
   looked k test inside is steps cell meets old new before after r =
       reaches_same (λ v. IsTrue steps × (v ≡ cell)) (λ v. MeetsTest tests k class × (v ≡ cell))
       (λ v h. (let m = meets.0 h.0 in (m.0, (m.1.0, test_at tests k test inside is m.0 ∙ m.1.1)), h.1))
@@ -27,20 +31,38 @@ module _ (tests : List Class) (source place : ℕ) (class : Class) (n : ℕ) whe
       n old new before after r
 
   -- at the first place only staying leads there
-  pub first_place : place ≡ 0 → (test : Class) → 0 < length tests → test ≡ get_or tests 0 test → (steps : Bool) (cell : ℕ) → cell ≡ source * length tests + place → IsTrue steps ↔ ((column : List Sym) × (IsTrue (has class column) × IsTrue (has test column)))
-      → (old new before after : List ℕ) → Reaches (λ v. IsTrue steps × (v ≡ cell)) n old new before after → Reaches (ComesBy tests source class place) n old new before after
+  pub first_place : place ≡ 0 → (test : Class) → 0 < length tests → test ≡ get_or tests 0 test
+      → (steps : Bool) (cell : ℕ) → cell ≡ source * length tests + place
+      → IsTrue steps ↔ ((column : List Sym) × (IsTrue (has class column) × IsTrue (has test column)))
+      → (old new before after : List ℕ) → Reaches (λ v. IsTrue steps × (v ≡ cell)) n old new before after
+      → Reaches (ComesBy tests source class place) n old new before after
   first_place none test some is steps cell at meets old new before after r =
       reaches_same (λ v. MeetsTest tests 0 class × (v ≡ cell)) (ComesBy tests source class place)
       (λ v h. inl (h.0, h.1 ∙ at))
       (λ v h. elim h [ inl stays ↦ (stays.0, stays.1 ∙ sym at) | inr on ↦ absurd (omega (arith, on.1.0, none)) ])
       n old new before after (looked 0 test some is steps cell meets old new before after r)
 
-  pub two_places : (p : ℕ) → p + 1 ≡ place → place < length tests → (test next : Class) → test ≡ get_or tests 0 test → next ≡ get_or tests place next → (steps on : Bool) (cell other : ℕ) → cell ≡ source * length tests + place → other ≡ source * length tests + p
-      → IsTrue steps ↔ ((column : List Sym) × (IsTrue (has class column) × IsTrue (has test column))) → IsTrue on ↔ ((column : List Sym) × (IsTrue (has class column) × IsTrue (has next column)))
-      → (old mid new before between after : List ℕ) → Reaches (λ v. IsTrue steps × (v ≡ cell)) n old mid before between → Reaches (λ v. IsTrue on × (v ≡ other)) n mid new between after → Reaches (ComesBy tests source class place) n old new before after
-  two_places p at_place inside test next is next_is steps on cell other at at_other meets meets_on old mid new before between after first second =
-      reaches_both (λ v. MeetsTest tests 0 class × (v ≡ cell)) (λ v. MeetsTest tests place class × (v ≡ other)) (ComesBy tests source class place)
-      (λ v h. elim h [ inl stays ↦ inl (stays.0, stays.1 ∙ sym at) | inr goes ↦ inr (goes.1.1, (let same : goes.0 ≡ p = omega (arith, goes.1.0, at_place) in goes.1.2 ∙ ap (λ x. source * length tests + x) same ∙ sym at_other)) ])
+  pub two_places : (p : ℕ) → p + 1 ≡ place → place < length tests → (test next : Class) → test ≡ get_or tests 0 test
+      → next ≡ get_or tests place next → (steps on : Bool) (cell other : ℕ) → cell ≡ source * length tests + place
+      → other ≡ source * length tests + p
+      → IsTrue steps ↔ ((column : List Sym) × (IsTrue (has class column) × IsTrue (has test column)))
+      → IsTrue on ↔ ((column : List Sym) × (IsTrue (has class column) × IsTrue (has next column)))
+      → (old mid new before between after : List ℕ)
+      → Reaches (λ v. IsTrue steps × (v ≡ cell)) n old mid before between
+      → Reaches (λ v. IsTrue on × (v ≡ other)) n mid new between after
+      → Reaches (ComesBy tests source class place) n old new before after
+  two_places p at_place inside test next is next_is steps on cell other at at_other meets meets_on old mid new before
+      between after first second =
+      reaches_both (λ v. MeetsTest tests 0 class × (v ≡ cell)) (λ v. MeetsTest tests place class × (v ≡ other))
+      (ComesBy tests source class place)
+      (λ v h. elim h [
+        | inl stays ↦ inl (stays.0, stays.1 ∙ sym at)
+        | inr goes ↦ inr (
+          goes.1.1,
+          (let same : goes.0 ≡ p = omega (arith, goes.1.0, at_place) in goes.1.2
+              ∙ ap (λ x. source * length tests + x) same ∙ sym at_other),
+        )
+      ])
       (λ v h. inl (h.0, h.1 ∙ at))
       (λ v h. inr (p, (at_place, h.0, h.1 ∙ at_other)))
       n old mid new before between after
@@ -48,16 +70,23 @@ module _ (tests : List Class) (source place : ℕ) (class : Class) (n : ℕ) whe
       (looked place next inside next_is on other meets_on mid new between after second)
 
 -- one entry more
-pub entry_more : (tests : List Class) (place n : ℕ) (entries : List Entering) (i : ℕ) (entry : Entering) → i < length entries → entry ≡ get_or entries i entry
-    → (old mid new before between after : List ℕ) → Reaches (ComesByOne tests (take i entries) place) n old mid before between → Reaches (ComesBy tests entry.source entry.class place) n mid new between after → Reaches (ComesByOne tests (take (i + 1) entries) place) n old new before after
+pub entry_more : (tests : List Class) (place n : ℕ) (entries : List Entering) (i : ℕ) (entry : Entering)
+    → i < length entries → entry ≡ get_or entries i entry
+    → (old mid new before between after : List ℕ)
+    → Reaches (ComesByOne tests (take i entries) place) n old mid before between
+    → Reaches (ComesBy tests entry.source entry.class place) n mid new between after
+    → Reaches (ComesByOne tests (take (i + 1) entries) place) n old new before after
 entry_more tests place n entries i entry inside is old mid new before between after first second =
-    let last : take (i + 1) entries ≡ take i entries ++ entry ∷ [] = take_more entries i entry inside ∙ ap (λ x. take i entries ++ x ∷ []) (sym is) in
+    let last : take (i + 1) entries ≡ take i entries ++ entry ∷ [] = take_more entries i entry inside
+    ∙ ap (λ x. take i entries ++ x ∷ []) (sym is) in
     let P : List Entering → Type 0 = λ xs. Reaches (ComesByOne tests xs place) n old new before after in
     subst P (sym last)
-    (reaches_both (ComesByOne tests (take i entries) place) (ComesBy tests entry.source entry.class place) (ComesByOne tests (take i entries ++ entry ∷ []) place)
+    (reaches_both (ComesByOne tests (take i entries) place) (ComesBy tests entry.source entry.class place)
+    (ComesByOne tests (take i entries ++ entry ∷ []) place)
     (λ v h. elim (Contains-push_cases (take i entries) entry h.0 h.1.0) [
       | inl earlier ↦ inl (h.0, (earlier, h.1.1))
-      | inr now ↦ (let Q : Entering → Type 0 = λ e. ComesBy tests e.source e.class place v in inr (subst Q (sym now) h.1.1))
+      | inr now ↦ (let Q : Entering → Type 0 = λ e. ComesBy tests e.source e.class place v in inr
+          (subst Q (sym now) h.1.1))
     ])
     (λ v h. (h.0, (Contains-append_left (take i entries) (entry ∷ []) h.0 h.1.0, h.1.1)))
     (λ v h. (entry, (Contains-push (take i entries) entry, h)))

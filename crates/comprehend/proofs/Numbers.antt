@@ -26,7 +26,8 @@ module _ (numbers : List ℕ) (n : ℕ) where
       absurd (false≢true (sym fails ∙ eq-eqb n (get_or numbers k 0) (sym here)))
 
   -- no number stands twice
-  pub once_at : AllPairs (λ a b. a ≢ b) numbers → (j k : ℕ) → slice_get numbers j ≡ Some n → slice_get numbers k ≡ Some n → j ≡ k
+  pub once_at : AllPairs (λ a b. a ≢ b) numbers → (j k : ℕ) → slice_get numbers j ≡ Some n
+      → slice_get numbers k ≡ Some n → j ≡ k
   once_at once j k at_j at_k = elim (cases_order j k) [
     | inl same ↦ same
     | inr other ↦ elim other [
@@ -39,17 +40,22 @@ module _ (numbers : List ℕ) (n : ℕ) where
       there i at = get_or_from_slice_get numbers i n 0 at
 
 -- a number is none of those before it
-pub new_number : (numbers : List ℕ) (i : ℕ) → AllPairs (λ a b. a ≢ b) numbers → i < length numbers → list_any (eqb (get_or numbers i 0)) (take i numbers) ≡ false
+pub new_number : (numbers : List ℕ) (i : ℕ) → AllPairs (λ a b. a ≢ b) numbers → i < length numbers
+    → list_any (eqb (get_or numbers i 0)) (take i numbers) ≡ false
 new_number numbers i once inside = list_any_none (eqb (get_or numbers i 0)) (take i numbers) each
   where
-    each : (k : ℕ) (d : ℕ) → k < length (take i numbers) → eqb (get_or numbers i 0) (get_or (take i numbers) k d) ≡ false
+    each : (k : ℕ) (d : ℕ) → k < length (take i numbers)
+        → eqb (get_or numbers i 0) (get_or (take i numbers) k d) ≡ false
     each k d l =
         let below : k < i = omega (arith, l, length-take-le i numbers (omega arith)) in
-        let other : get_or numbers i 0 ≢ get_or (take i numbers) k d = λ e. once k i 0 below inside (sym (get_or-take i numbers k 0 below) ∙ get_or_default (take i numbers) k 0 d l ∙ sym e) in
+        let other : get_or numbers i 0 ≢ get_or (take i numbers) k d = λ e. once k i 0 below inside
+        (sym (get_or-take i numbers k 0 below) ∙ get_or_default (take i numbers) k 0 d l ∙ sym e) in
         ne_eqb (get_or numbers i 0) (get_or (take i numbers) k d) other
 
 -- one number more is put at the end
-pub numbered_more : (numbers : List ℕ) (i n : ℕ) (keys new : List ℕ) → AllPairs (λ a b. a ≢ b) numbers → i < length numbers → keys ≡ take i numbers → get_or numbers i 0 ≡ n → new ≡ insert_key eqb keys n → new ≡ take (i + 1) numbers
+pub numbered_more : (numbers : List ℕ) (i n : ℕ) (keys new : List ℕ) → AllPairs (λ a b. a ≢ b) numbers
+    → i < length numbers → keys ≡ take i numbers → get_or numbers i 0 ≡ n → new ≡ insert_key eqb keys n
+    → new ≡ take (i + 1) numbers
 numbered_more numbers i n keys new once inside before here put =
     put ∙ ap (λ ks. insert_key eqb ks n) before ∙ ap (insert_key eqb (take i numbers)) (sym here)
     ∙ ap (λ b. cond b (take i numbers) (take i numbers ++ get_or numbers i 0 ∷ [])) (new_number numbers i once inside)

@@ -14,10 +14,12 @@ adds-far m l = grind (arith, nat_tests)
 adds-near : (m : ℕ) → m < far → unknown_at m ≡ 0
 adds-near m l = grind (arith, nat_tests)
 
-unknown-set : (left : List ℕ) (s n : ℕ) → far ≤ get_or left s far → n < far → s < length left → unknown (set left s n) + 1 ≡ unknown left
+unknown-set : (left : List ℕ) (s n : ℕ) → far ≤ get_or left s far → n < far → s < length left
+    → unknown (set left s n) + 1 ≡ unknown left
 unknown-set [] s n none l in_list = absurd (omega (arith, in_list))
 unknown-set (m ∷ left) zero n none l in_list = omega (arith, adds-far m none, adds-near n l)
-unknown-set (m ∷ left) (suc s) n none l in_list = (let rest = unknown-set left s n none l (omega arith) in omega (arith, rest))
+unknown-set (m ∷ left) (suc s) n none l in_list =
+    (let rest = unknown-set left s n none l (omega arith) in omega (arith, rest))
 
 -- only vertices have a number
 pub known_inside : (left : List ℕ) (s n : ℕ) → IsLeft left s n → s < length left
@@ -39,11 +41,24 @@ one_known n left next s m at = record {
 }
 
 -- one vertex of which nothing was known
-pub one_unknown : (n : ℕ) (left next : List ℕ) (s : ℕ) → n < far → far ≤ get_or left s far → s < length left → Reaches (λ v. v ≡ s) n left (set left s n) next (next ++ s ∷ [])
-one_unknown n left next s near none inside = record { same = length-set left s n; kept = kept; found = found; reached = reached; stays = λ v here. Contains-append_left next (s ∷ []) v here; listed = listed; number = number }
+pub one_unknown : (n : ℕ) (left next : List ℕ) (s : ℕ) → n < far → far ≤ get_or left s far → s < length left
+    → Reaches (λ v. v ≡ s) n left (set left s n) next (next ++ s ∷ [])
+one_unknown n left next s near none inside = record {
+  same = length-set left s n;
+  kept = kept;
+  found = found;
+  reached = reached;
+  stays = λ v here. Contains-append_left next (s ∷ []) v here;
+  listed = listed;
+  number = number;
+}
   where
     there : (v : ℕ) → v ≡ s → IsLeft (set left s n) v n
-    there v at = record { number = ap (λ x. get_or (set left s n) x far) at ∙ get_or-set_same left s n far inside; near = near }
+    there v at = record {
+      number = ap (λ x. get_or (set left s n) x far) at
+          ∙ get_or-set_same left s n far inside;
+      near = near;
+    }
 
     kept : (v d : ℕ) → IsLeft left v d → IsLeft (set left s n) v d
     kept v d known = elim (cases_eq v s) [
@@ -72,7 +87,8 @@ one_unknown n left next s near none inside = record { same = length-set left s n
     number = omega (arith, unknown-set left s n none near inside, length_push next s)
 
 -- where no vertex is to be reached
-pub reaches_none : (P : ℕ → Type 0) → ((v : ℕ) → P v → ⊥) → (n : ℕ) (left next : List ℕ) → Reaches P n left left next next
+pub reaches_none : (P : ℕ → Type 0) → ((v : ℕ) → P v → ⊥) → (n : ℕ) (left next : List ℕ)
+    → Reaches P n left left next next
 reaches_none P none n left next = record {
   same = refl;
   kept = λ v d known. known;
@@ -84,11 +100,16 @@ reaches_none P none n left next = record {
 }
 
 -- the same vertices, said otherwise
-pub reaches_same : (P R : ℕ → Type 0) → ((v : ℕ) → P v → R v) → ((v : ℕ) → R v → P v) → (n : ℕ) (old new before after : List ℕ) → Reaches P n old new before after → Reaches R n old new before after
+pub reaches_same : (P R : ℕ → Type 0) → ((v : ℕ) → P v → R v) → ((v : ℕ) → R v → P v)
+    → (n : ℕ) (old new before after : List ℕ) → Reaches P n old new before after → Reaches R n old new before after
 reaches_same P R into back n old new before after r = record {
   same = r.same;
   kept = r.kept;
-  found = λ v m known. elim (r.found v m known) [ inl earlier ↦ inl earlier | inr now ↦ inr (now.0, into v now.1, now.2) ];
+  found = λ v m known. elim (r.found v m known) [
+    | inl earlier ↦ inl earlier
+    | inr now ↦ inr
+        (now.0, into v now.1, now.2)
+  ];
   reached = λ v at. r.reached v (back v at);
   stays = r.stays;
   listed = r.listed;
@@ -96,7 +117,9 @@ reaches_same P R into back n old new before after r = record {
 }
 
 -- those of P, and then those of Q
-pub reaches_both : (P Q R : ℕ → Type 0) → ((v : ℕ) → R v → P v ⊎ Q v) → ((v : ℕ) → P v → R v) → ((v : ℕ) → Q v → R v) → (n : ℕ) (old mid new before between after : List ℕ) → Reaches P n old mid before between → Reaches Q n mid new between after → Reaches R n old new before after
+pub reaches_both : (P Q R : ℕ → Type 0) → ((v : ℕ) → R v → P v ⊎ Q v) → ((v : ℕ) → P v → R v) → ((v : ℕ) → Q v → R v)
+    → (n : ℕ) (old mid new before between after : List ℕ) → Reaches P n old mid before between
+    → Reaches Q n mid new between after → Reaches R n old new before after
 reaches_both P Q R split left right n old mid new before between after first second = record {
   same = second.same ∙ first.same;
   kept = λ v m e. second.kept v m (first.kept v m e);

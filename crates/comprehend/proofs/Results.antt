@@ -17,10 +17,12 @@ if_ok_then P Q step (Ok x) h = step x h
 if_ok_then P Q step (Err e) h = h
 
 -- the same of an `Option` that may be none
-pub match_then : {A : Type 0} (N M : Type 0) (P Q : A → Type 0) → (N → M) → ((x : A) → P x → Q x) → (o : Option A) → MatchOption o N P → MatchOption o M Q
+pub match_then : {A : Type 0} (N M : Type 0) (P Q : A → Type 0) → (N → M) → ((x : A) → P x → Q x) → (o : Option A)
+    → MatchOption o N P → MatchOption o M Q
 match_then N M P Q none some None h = none h
 match_then N M P Q none some (Some x) h = some x h
 
 -- the first of the same timelines, said otherwise
-pub first_same : (S R : List (List Sym) → Type 0) → ((T : List (List Sym)) → S T → R T) → ((T : List (List Sym)) → R T → S T) → (T : List (List Sym)) → IsFirst S T → IsFirst R T
+pub first_same : (S R : List (List Sym) → Type 0) → ((T : List (List Sym)) → S T → R T)
+    → ((T : List (List Sym)) → R T → S T) → (T : List (List Sym)) → IsFirst S T → IsFirst R T
 first_same S R to back T first = record { member = to T first.member; least = λ U r. first.least U (back U r) }

@@ -6,7 +6,9 @@ use Rattle.tier_core.specs.declared.sym.Sym.{Sym}
 use Rattle.comprehend.specs.Searches.{IsLeft, unknown, ReadsFrom, AreLengths, IsBefore, Reaches, IsSearched}
 
 module _ (step : ℕ → List Sym → ℕ → Type 0) (ends : ℕ → Type 0) (total : ℕ) where
-  pub search_start : (start left level : List ℕ) → length start ≡ total → unknown start ≡ total → ((v n : ℕ) → IsLeft start v n → ⊥) → Reaches ends 0 start left [] level → IsSearched step ends total left level 0
+  pub search_start : (start left level : List ℕ) → length start ≡ total → unknown start ≡ total
+      → ((v n : ℕ) → IsLeft start v n → ⊥) → Reaches ends 0 start left [] level
+      → IsSearched step ends total left level 0
   search_start start left level size all none reach = record {
     each = reach.same ∙ size;
     few = omega (arith, reach.number, all);
@@ -28,23 +30,27 @@ module _ (step : ℕ → List Sym → ℕ → Type 0) (ends : ℕ → Type 0) (t
           subst P (now v at.0 at.1).0 at.1
 
   -- once a level is empty, each way has been counted
-  pub search_end : (left level : List ℕ) (k : ℕ) → IsSearched step ends total left level k → length level ≡ 0 → AreLengths step ends left
+  pub search_end : (left level : List ℕ) (k : ℕ) → IsSearched step ends total left level k → length level ≡ 0
+      → AreLengths step ends left
   search_end left level k are empty = record { some = are.some; least = least }
     where
-      least : (v : ℕ) (word : List (List Sym)) → ReadsFrom step ends v word → (n : ℕ) × (IsLeft left v n × (n ≤ length word))
+      least : (v : ℕ) (word : List (List Sym)) → ReadsFrom step ends v word
+          → (n : ℕ) × (IsLeft left v n × (n ≤ length word))
       least v [] end = (0, (are.ended v end, omega arith))
       least v (column ∷ word) way =
           let rest = least way.0 word way.1.1 in
           let less : rest.0 < k = elim (cases_lt rest.0 k) [
             | inl l ↦ l
             | inr ge ↦ absurd (let P : ℕ → Type 0 = λ n. IsLeft left way.0 n in
-              let same : rest.0 ≡ k = omega (arith, ge, are.at_most way.0 rest.0 rest.1.0) in
-              let here = are.last way.0 (subst P same rest.1.0) in omega (arith, here.1, empty))
+                let same : rest.0 ≡ k = omega (arith, ge, are.at_most way.0 rest.0 rest.1.0) in
+                let here = are.last way.0 (subst P same rest.1.0) in omega (arith, here.1, empty))
           ] in
           let own = are.closed v way.0 rest.0 column way.1.0 rest.1.0 less in
           (own.0, (own.1.0, omega (arith, own.1.1, rest.1.1)))
 
-  pub search_next : (left new level next : List ℕ) (k : ℕ) → IsSearched step ends total left level k → 0 < length level → Reaches (IsBefore step level) (k + 1) left new [] next → IsSearched step ends total new next (k + 1)
+  pub search_next : (left new level next : List ℕ) (k : ℕ) → IsSearched step ends total left level k
+      → 0 < length level → Reaches (IsBefore step level) (k + 1) left new [] next
+      → IsSearched step ends total new next (k + 1)
   search_next left new level next k are some_level reach = record {
     each = reach.same ∙ are.each;
     few = omega (arith, are.few, reach.number, some_level);
@@ -71,7 +77,8 @@ module _ (step : ℕ → List Sym → ℕ → Type 0) (ends : ℕ → Type 0) (t
             (from.1.1 ∷ rest.0, ((from.0, (from.1.2, rest.1.0)), omega (arith, rest.1.1, now.0))))
       ]
 
-      closed : (v w n : ℕ) (column : List Sym) → step v column w → IsLeft new w n → n < k + 1 → (m : ℕ) × (IsLeft new v m × (m ≤ n + 1))
+      closed : (v w n : ℕ) (column : List Sym) → step v column w → IsLeft new w n → n < k + 1
+          → (m : ℕ) × (IsLeft new v m × (m ≤ n + 1))
       closed v w n column steps at less = elim (reach.found w n at) [
         | inl known ↦ elim (cases_lt n k) [
           | inl l ↦ (let own = are.closed v w n column steps known l in (own.0, (reach.kept v own.0 own.1.0, own.1.1)))

@@ -25,10 +25,12 @@ module _ (a b both : Class) (columns : (column : List Sym) → has both column �
         go false h = absurd (false≢true h)
 
     pub shared : empty ≡ false → (column : List Sym) × (IsTrue (has a column) × IsTrue (has b column))
-    shared e = (let parts = in_both (first_column both) (has-first_column both (filled e)) in (first_column both, (parts.0, parts.1)))
+    shared e = (let parts = in_both (first_column both) (has-first_column both (filled e)) in
+        (first_column both, (parts.0, parts.1)))
 
   -- nothing is shared where no column is held
-  pub none_shared : ((column : List Sym) → length column ≡ length (sets_of both) → has both column ≡ false) → (column : List Sym) → IsTrue (has a column) → IsTrue (has b column) → ⊥
+  pub none_shared : ((column : List Sym) → length column ≡ length (sets_of both) → has both column ≡ false)
+      → (column : List Sym) → IsTrue (has a column) → IsTrue (has b column) → ⊥
   none_shared none column ha hb =
       let h = both_has column ha hb in
       false≢true (sym (none column (same_width (sets_of both) column h)) ∙ h)

@@ -13,8 +13,10 @@ use Rattle.comprehend.specs.Steps.{Turns}
 -- The best choice so far is replaced by another only where a new step reads a lesser column.
 pub record IsBetter (steps : List Sym → ℕ → Type 0) (best after : Option Choice) : Type 0 where
   pub from : (best ≡ after) ⊎ ((b : Choice) × ((after ≡ Some b) × steps b.column b.cell))
-  pub covers : (column : List Sym) (w : ℕ) → steps column w → (b : Choice) × ((after ≡ Some b) × (is_gt (column_cmp b.column column) ≡ false))
-  pub keeps : (b : Choice) → best ≡ Some b → (d : Choice) × ((after ≡ Some d) × (is_gt (column_cmp d.column b.column) ≡ false))
+  pub covers : (column : List Sym) (w : ℕ) → steps column w
+      → (b : Choice) × ((after ≡ Some b) × (is_gt (column_cmp b.column column) ≡ false))
+  pub keeps : (b : Choice) → best ≡ Some b
+      → (d : Choice) × ((after ≡ Some d) × (is_gt (column_cmp d.column b.column) ≡ false))
 
 -- a column of both classes leads to this cell, where n columns are left
 pub record LeadsTo (a b : Class) (cell : ℕ) (left : List ℕ) (n : ℕ) (column : List Sym) (w : ℕ) : Type 0 where
@@ -24,7 +26,8 @@ pub record LeadsTo (a b : Class) (cell : ℕ) (left : List ℕ) (n : ℕ) (colum
   pub left_at : IsLeft left w n
 
 -- a column of the class leads to a cell of the target, where n columns are left
-pub record LeadsAlong (tests : List Class) (place : ℕ) (left : List ℕ) (n : ℕ) (class : Class) (target : ℕ) (column : List Sym) (w : ℕ) : Type 0 where
+pub record LeadsAlong (tests : List Class) (place : ℕ) (left : List ℕ) (n : ℕ) (class : Class) (target : ℕ)
+    (column : List Sym) (w : ℕ) : Type 0 where
   pub next : ℕ
   pub arrives : w ≡ target * length tests + next
   pub after : next < length tests
@@ -33,7 +36,8 @@ pub record LeadsAlong (tests : List Class) (place : ℕ) (left : List ℕ) (n : 
   pub left_at : IsLeft left w n
 
 -- one of the arcs leads so, to a state with its target's number
-pub record LeadsByOne (numbers : List ℕ) (tests : List Class) (place : ℕ) (left : List ℕ) (n : ℕ) (arcs : List ArcLine) (column : List Sym) (w : ℕ) : Type 0 where
+pub record LeadsByOne (numbers : List ℕ) (tests : List Class) (place : ℕ) (left : List ℕ) (n : ℕ)
+    (arcs : List ArcLine) (column : List Sym) (w : ℕ) : Type 0 where
   pub arc : ArcLine
   pub target : ℕ
   pub listed : Contains arcs arc

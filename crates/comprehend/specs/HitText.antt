@@ -14,7 +14,8 @@ names_of entries = map (λ entry. string_bytes entry.name) entries
 
 -- a hit says the name of its entry, and its example
 abbrev pub hit_lines : List (List ℕ) → Hit → List (List ℕ)
-hit_lines names hit = (codes "entry " ++ slice_index_or names hit.index []) ∷ (codes "example " ++ text_of hit.example) ∷ []
+hit_lines names hit = (codes "entry " ++ slice_index_or names hit.index []) ∷
+    (codes "example " ++ text_of hit.example) ∷ []
 
 -- how many hits there are, and then each of them
 abbrev pub hits_text : List (List ℕ) → List Hit → List ℕ

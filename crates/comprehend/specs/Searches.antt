@@ -30,7 +30,8 @@ ReadsFrom step ends v (column ∷ word) = (w : ℕ) × (step v column w × Reads
 -- the numbers are how few columns are left, where there is a way to an end
 pub record AreLengths (step : ℕ → List Sym → ℕ → Type 0) (ends : ℕ → Type 0) (left : List ℕ) : Type 0 where
   pub some : (v n : ℕ) → IsLeft left v n → (word : List (List Sym)) × (ReadsFrom step ends v word × (length word ≡ n))
-  pub least : (v : ℕ) (word : List (List Sym)) → ReadsFrom step ends v word → (n : ℕ) × (IsLeft left v n × (n ≤ length word))
+  pub least : (v : ℕ) (word : List (List Sym)) → ReadsFrom step ends v word
+      → (n : ℕ) × (IsLeft left v n × (n ≤ length word))
 
 -- a step leads from v to one of the vertices of a level
 abbrev pub IsBefore : (ℕ → List Sym → ℕ → Type 0) → List ℕ → ℕ → Type 0
@@ -48,18 +49,21 @@ pub record Reaches (chosen : ℕ → Type 0) (n : ℕ) (old new before after : L
   pub number : unknown new + length after ≡ unknown old + length before
 
 -- the search has come to the vertices with at most k columns left, and `level` has those with k
-pub record IsSearched (step : ℕ → List Sym → ℕ → Type 0) (ends : ℕ → Type 0) (total : ℕ) (left level : List ℕ) (k : ℕ) : Type 0 where
+pub record IsSearched (step : ℕ → List Sym → ℕ → Type 0) (ends : ℕ → Type 0) (total : ℕ) (left level : List ℕ)
+    (k : ℕ) : Type 0 where
   pub each : length left ≡ total
   pub few : k + unknown left + length level ≤ total
   pub at_most : (v n : ℕ) → IsLeft left v n → n ≤ k
   pub some : (v n : ℕ) → IsLeft left v n → (word : List (List Sym)) × (ReadsFrom step ends v word × (length word ≡ n))
   pub ended : (v : ℕ) → ends v → IsLeft left v 0
-  pub closed : (v w n : ℕ) (column : List Sym) → step v column w → IsLeft left w n → n < k → (m : ℕ) × (IsLeft left v m × (m ≤ n + 1))
+  pub closed : (v w n : ℕ) (column : List Sym) → step v column w → IsLeft left w n → n < k
+      → (m : ℕ) × (IsLeft left v m × (m ≤ n + 1))
   pub last : (v : ℕ) → IsLeft left v k → Contains level v
   pub level_is : (v : ℕ) → Contains level v → IsLeft left v k
 
 -- of the steps from v to where n columns are left, this one reads the least column
-pub record IsLeastStep (step : ℕ → List Sym → ℕ → Type 0) (left : List ℕ) (v n : ℕ) (column : List Sym) (w : ℕ) : Type 0 where
+pub record IsLeastStep (step : ℕ → List Sym → ℕ → Type 0) (left : List ℕ) (v n : ℕ) (column : List Sym)
+    (w : ℕ) : Type 0 where
   pub steps : step v column w
   pub nearer : IsLeft left w n
   pub least : (other : List Sym) (x : ℕ) → step v other x → IsLeft left x n → is_gt (column_cmp column other) ≡ false

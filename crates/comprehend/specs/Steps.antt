@@ -66,7 +66,8 @@ AreApart states = (s : ℕ) → AllPairs (λ a b. AreDisjoint a.class b.class) (
 
 -- no column that stays at a place goes on to one
 abbrev pub AreTestsApart : List Class → Type 0
-AreTestsApart tests = (k : ℕ) (column : List Sym) → IsTrue (test_has tests 0 column) → IsTrue (test_has tests (k + 1) column) → ⊥
+AreTestsApart tests = (k : ℕ) (column : List Sym) → IsTrue (test_has tests 0 column)
+    → IsTrue (test_has tests (k + 1) column) → ⊥
 
 -- a timeline leads along the tests, from node number 0 and the first place to an end
 pub record ReadsAlong (states : List StateLine) (tests : List Class) (T : List (List Sym)) : Type 0 where

@@ -21,7 +21,8 @@ pub(crate) struct Choice {
 fn lesser(best: Option<Choice>, choice: Choice) -> Choice
     ensures either { (result ≡ choice) ⊎ (best ≡ Some result) }
     ensures choice { is_gt (column_cmp result.column choice.column) ≡ false }
-    ensures best { MatchOption best ⊤ (λ other. is_gt (column_cmp result.column other.column) ≡ false) }
+    ensures best { MatchOption best ⊤
+        (λ other. is_gt (column_cmp result.column other.column) ≡ false) }
 {
     match best {
         None => choice,

@@ -54,12 +54,15 @@ fn best_of(
 ) -> Option<Choice>
     requires few_numbers { length numbers.now.keys < 2 ^ 32 }
     requires once { AllPairs (λ m n. m ≢ n) numbers.now.keys }
-    requires widths { All (λ arc. All (λ test. length (sets_of arc.class) ≡ length (sets_of test)) tests.now) arcs.now }
+    requires widths { All
+        (λ arc.
+        All (λ test. length (sets_of arc.class) ≡ length (sets_of test)) tests.now) arcs.now }
     requires place { place < length tests.now }
     requires cells { length numbers.now.keys * length tests.now ≡ length left.now }
     requires few { length left.now < far }
     requires near { n < far }
-    ensures { IsBetter (LeadsByOne numbers.now.keys tests.now place left.now n arcs.now) None result }
+    ensures { IsBetter
+        (LeadsByOne numbers.now.keys tests.now place left.now n arcs.now) None result }
 {
     let mut best: Option<Choice> = None;
     for arc in arcs {

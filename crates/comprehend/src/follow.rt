@@ -31,9 +31,13 @@ fn follow(
     requires apart { AreApart states.now }
     requires tests_apart { AreTestsApart tests.now }
     requires each { length left.now ≡ length states.now * length tests.now }
-    requires lengths { AreLengths (Goes states.now tests.now) (IsEnd states.now tests.now) left.now }
+    requires lengths { AreLengths (Goes states.now tests.now)
+        (IsEnd states.now tests.now) left.now }
     requires start { IsLeft left.now start most }
-    ensures { IfOk result (λ first. IsFirst (ReadsFrom (Goes states.now tests.now) (IsEnd states.now tests.now) start) first) }
+    ensures { IfOk result
+        (λ first.
+        IsFirst
+        (ReadsFrom (Goes states.now tests.now) (IsEnd states.now tests.now) start) first) }
 {
     let mut timeline = Timeline::new(alloc);
     let mut from = start;

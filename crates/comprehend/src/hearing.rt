@@ -35,11 +35,15 @@ fn hear(
     requires few { budget ≤ 65536 }
     ensures first { IfOk result (λ first.
         MatchOption first
-            ((T : List (List Sym)) → HasSurface (asked grammar.now.tiers grammar.now.constraints.items form.now) surface.now T → ⊥)
-            (IsFirst (HasSurface (asked grammar.now.tiers grammar.now.constraints.items form.now) surface.now))) }
-    ensures within { IfOk result (λ first. AreAllWithin (asked grammar.now.tiers grammar.now.constraints.items form.now) budget) }
+        ((T : List (List Sym)) → HasSurface (asked grammar.now.tiers grammar.now.constraints.items form.now) surface.now T → ⊥)
+        (IsFirst (HasSurface (asked grammar.now.tiers grammar.now.constraints.items form.now) surface.now))) }
+    ensures within { IfOk result
+        (λ first.
+        AreAllWithin (asked grammar.now.tiers grammar.now.constraints.items form.now) budget) }
     ensures entry { (i stage : ℕ) → result ≡ Err (CompErr.Budget i stage) → i ≡ index }
-    ensures over { (i stage : ℕ) → result ≡ Err (CompErr.Budget i stage) → IsFirstOver (asked grammar.now.tiers grammar.now.constraints.items form.now) budget stage }
+    ensures over { (i stage : ℕ) → result ≡ Err (CompErr.Budget i stage)
+        → IsFirstOver
+        (asked grammar.now.tiers grammar.now.constraints.items form.now) budget stage }
 {
     match generate(alloc, grammar, form, budget) {
         Ok(answer) => match has_surface(alloc, grammar, &answer, surface) {
@@ -81,16 +85,25 @@ pub fn comprehend(
     surface: &Timeline,
     budget: u32,
 ) -> Result<Vec<Hit>, CompErr>
-    requires forms { All (λ entry. IsForm (tiers_of_table grammar.now.tiers) entry.form) lexicon.now }
+    requires forms { All
+        (λ entry. IsForm (tiers_of_table grammar.now.tiers) entry.form) lexicon.now }
     requires short_forms { All (λ entry. length entry.form ≤ 64) lexicon.now }
     requires few_entries { length lexicon.now ≤ 1000 }
     requires surface { IsSurface (tiers_of_table grammar.now.tiers) surface.now }
     requires short_surface { length surface.now ≤ 64 }
     requires some { 1 ≤ budget }
     requires few { budget ≤ 65536 }
-    ensures hears { IfOk result (λ hits. Hears (asked grammar.now.tiers grammar.now.constraints.items) (forms_of lexicon.now) surface.now hits.items) }
-    ensures within { IfOk result (λ hits. AreEntriesWithin (asked grammar.now.tiers grammar.now.constraints.items) (forms_of lexicon.now) budget) }
-    ensures over { (index stage : ℕ) → result ≡ Err (CompErr.Budget index stage) → IsFirstEntryOver (asked grammar.now.tiers grammar.now.constraints.items) (forms_of lexicon.now) budget index stage }
+    ensures hears { IfOk result
+        (λ hits.
+        Hears (asked grammar.now.tiers grammar.now.constraints.items)
+        (forms_of lexicon.now) surface.now hits.items) }
+    ensures within { IfOk result
+        (λ hits.
+        AreEntriesWithin (asked grammar.now.tiers grammar.now.constraints.items)
+        (forms_of lexicon.now) budget) }
+    ensures over { (index stage : ℕ) → result ≡ Err (CompErr.Budget index stage)
+        → IsFirstEntryOver (asked grammar.now.tiers grammar.now.constraints.items)
+        (forms_of lexicon.now) budget index stage }
 {
     let mut hits = Vec::new(alloc);
     for (index, entry) in lexicon.iter().enumerate() {

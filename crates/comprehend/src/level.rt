@@ -22,12 +22,17 @@ fn reach_by(
     left: &mut Vec<u32>,
     next: &mut Vec<u32>,
 ) -> Result<(), AllocError>
-    requires widths { All (λ test. length (sets_of test) ≡ length (sets_of entry.now.class)) tests.now }
+    requires widths { All
+        (λ test. length (sets_of test) ≡ length (sets_of entry.now.class)) tests.now }
     requires place { place < length tests.now }
-    requires cells { entry.now.source * length tests.now + length tests.now ≤ length left.old.items }
+    requires cells { entry.now.source * length tests.now + length tests.now
+        ≤ length left.old.items }
     requires few { length left.old.items < far }
     requires near { n < far }
-    ensures { IfOk result (λ _. Reaches (ComesBy tests.now entry.now.source entry.now.class place) n left.old.items left.new.items next.old.items next.new.items) }
+    ensures { IfOk result
+        (λ _.
+        Reaches
+        (ComesBy tests.now entry.now.source entry.now.class place) n left.old.items left.new.items next.old.items next.new.items) }
 {
     let places = tests.len() as u32;
     let stays = meets(&entry.class, &tests[0]);
@@ -36,7 +41,13 @@ fn reach_by(
         return Ok(());
     }
     let goes_on = meets(&entry.class, &tests[place as usize]);
-    look(goes_on, cell(entry.source, place - 1, places), n, left, next)
+    look(
+        goes_on,
+        cell(entry.source, place - 1, places),
+        n,
+        left,
+        next,
+    )
 }
 
 /// Looks at the cells from which the arcs that enter a state lead to a place.
@@ -48,12 +59,21 @@ fn reach(
     left: &mut Vec<u32>,
     next: &mut Vec<u32>,
 ) -> Result<(), AllocError>
-    requires widths { All (λ entry. All (λ test. length (sets_of test) ≡ length (sets_of entry.class)) tests.now) entries.now }
+    requires widths { All
+        (λ entry.
+        All
+        (λ test. length (sets_of test) ≡ length (sets_of entry.class)) tests.now) entries.now }
     requires place { place < length tests.now }
-    requires cells { All (λ entry. entry.source * length tests.now + length tests.now ≤ length left.old.items) entries.now }
+    requires cells { All
+        (λ entry.
+        entry.source * length tests.now + length tests.now
+        ≤ length left.old.items) entries.now }
     requires few { length left.old.items < far }
     requires near { n < far }
-    ensures { IfOk result (λ _. Reaches (ComesByOne tests.now entries.now place) n left.old.items left.new.items next.old.items next.new.items) }
+    ensures { IfOk result
+        (λ _.
+        Reaches
+        (ComesByOne tests.now entries.now place) n left.old.items left.new.items next.old.items next.new.items) }
 {
     for entry in entries {
         reach_by(tests, entry, place, n, left, next)?;
@@ -76,13 +96,24 @@ pub(crate) fn next_level(
     requires each { length left.old.items ≡ length states.now * length tests.now }
     requires inside { All (λ v. v < length left.old.items) level.now }
     requires near { n < far }
-    ensures { IfOk result (λ next. Reaches (IsBefore (Goes states.now tests.now) level.now) n left.old.items left.new.items [] next.items) }
+    ensures { IfOk result
+        (λ next.
+        Reaches
+        (IsBefore
+        (Goes states.now tests.now) level.now) n left.old.items left.new.items [] next.items) }
 {
     let places = tests.len() as u32;
     let mut next = Vec::new(alloc);
     for to in level {
         let state = *to / places;
-        reach(tests, &into[state as usize], *to % places, n, left, &mut next)?;
+        reach(
+            tests,
+            &into[state as usize],
+            *to % places,
+            n,
+            left,
+            &mut next,
+        )?;
     }
     Ok(next)
 }

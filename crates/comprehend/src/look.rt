@@ -17,7 +17,11 @@ pub(crate) fn look(
 ) -> Result<(), AllocError>
     requires cell { IsTrue steps → cell < length left.old.items }
     requires near { n < far }
-    ensures { IfOk result (λ _. Reaches (λ v. IsTrue steps × (v ≡ cell)) n left.old.items left.new.items next.old.items next.new.items) }
+    ensures { IfOk result
+        (λ _.
+        Reaches
+        (λ v. IsTrue steps
+        × (v ≡ cell)) n left.old.items left.new.items next.old.items next.new.items) }
 {
     if !steps {
         return Ok(());

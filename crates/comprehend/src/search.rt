@@ -23,13 +23,12 @@ struct Search {
 }
 
 /// The cells of final states and the last place, at which no column is left.
-fn at_the_ends(
-    alloc: Global,
-    states: &[StateLine],
-    tests: &[Class],
-) -> Result<Search, AllocError>
+fn at_the_ends(alloc: Global, states: &[StateLine], tests: &[Class]) -> Result<Search, AllocError>
     requires searchable { (width : ℕ) × AreSearchable width states.now tests.now }
-    ensures { IfOk result (λ search. IsSearched (Goes states.now tests.now) (IsEnd states.now tests.now) (length states.now * length tests.now) search.left.items search.level.items 0) }
+    ensures { IfOk result
+        (λ search.
+        IsSearched (Goes states.now tests.now) (IsEnd states.now tests.now)
+        (length states.now * length tests.now) search.left.items search.level.items 0) }
 {
     let places = tests.len() as u32;
     let mut left = vec![in alloc; FAR; states.len() * tests.len()]?;
@@ -51,7 +50,9 @@ fn searched(
     requires searchable { (width : ℕ) × AreSearchable width states.now tests.now }
     requires turned { AreTurned (IsArcOf states.now) (numbers_of states.now) into.now }
     ensures each { IfOk result (λ left. length left.items ≡ length states.now * length tests.now) }
-    ensures lengths { IfOk result (λ left. AreLengths (Goes states.now tests.now) (IsEnd states.now tests.now) left.items) }
+    ensures lengths { IfOk result
+        (λ left.
+        AreLengths (Goes states.now tests.now) (IsEnd states.now tests.now) left.items) }
 {
     let search = at_the_ends(alloc, states, tests)?;
     let mut left = search.left;
@@ -76,7 +77,9 @@ pub(crate) fn lengths(
     requires numbers { numbers.now.keys ≡ numbers_of states.now }
     requires once { AllPairs (λ m n. m ≢ n) (numbers_of states.now) }
     ensures each { IfOk result (λ left. length left.items ≡ length states.now * length tests.now) }
-    ensures lengths { IfOk result (λ left. AreLengths (Goes states.now tests.now) (IsEnd states.now tests.now) left.items) }
+    ensures lengths { IfOk result
+        (λ left.
+        AreLengths (Goes states.now tests.now) (IsEnd states.now tests.now) left.items) }
 {
     let into = turned(alloc, numbers, states)?;
     searched(alloc, states, tests, &into)

@@ -27,8 +27,8 @@ fn first_heard(
     requires short { length surface.now ≤ 64 }
     ensures { IfOk result (λ first.
         MatchOption first
-            ((T : List (List Sym)) → AcceptsHeard states.now (tiers_of_table tiers.now).overt surface.now T → ⊥)
-            (IsFirst (AcceptsHeard states.now (tiers_of_table tiers.now).overt surface.now))) }
+        ((T : List (List Sym)) → AcceptsHeard states.now (tiers_of_table tiers.now).overt surface.now T → ⊥)
+        (IsFirst (AcceptsHeard states.now (tiers_of_table tiers.now).overt surface.now))) }
 {
     match tests_of(alloc, &tiers.kinds, surface) {
         Ok(tests) => first_along(alloc, states, &tests),
@@ -47,14 +47,15 @@ pub fn has_surface(
     answer: &Answer,
     surface: &Timeline,
 ) -> Result<Option<Timeline>, NoMemory>
-    requires sound { IsSound (asked grammar.now.tiers grammar.now.constraints.items answer.now.form) answer.now }
+    requires sound { IsSound
+        (asked grammar.now.tiers grammar.now.constraints.items answer.now.form) answer.now }
     requires few { length answer.now.automaton.states.items ≤ 65536 }
     requires surface { IsSurface (tiers_of_table grammar.now.tiers) surface.now }
     requires short { length surface.now ≤ 64 }
     ensures { IfOk result (λ first.
         MatchOption first
-            ((T : List (List Sym)) → HasSurface (asked grammar.now.tiers grammar.now.constraints.items answer.now.form) surface.now T → ⊥)
-            (IsFirst (HasSurface (asked grammar.now.tiers grammar.now.constraints.items answer.now.form) surface.now))) }
+        ((T : List (List Sym)) → HasSurface (asked grammar.now.tiers grammar.now.constraints.items answer.now.form) surface.now T → ⊥)
+        (IsFirst (HasSurface (asked grammar.now.tiers grammar.now.constraints.items answer.now.form) surface.now))) }
 {
     first_heard(alloc, &grammar.tiers, &answer.automaton.states, surface)
 }

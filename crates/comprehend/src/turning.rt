@@ -30,8 +30,11 @@ fn turn_arcs(
     requires numbers { numbers.now.keys ≡ numbers_of states.now }
     requires few { length states.now < 2 ^ 32 }
     requires once { AllPairs (λ m n. m ≢ n) (numbers_of states.now) }
-    requires turned { AreTurned (IsArcBelow states.now source) (numbers_of states.now) into.old.items }
-    ensures { IfOk result (λ _. AreTurned (IsArcBelow states.now (source + 1)) (numbers_of states.now) into.new.items) }
+    requires turned { AreTurned (IsArcBelow states.now source)
+        (numbers_of states.now) into.old.items }
+    ensures { IfOk result
+        (λ _.
+        AreTurned (IsArcBelow states.now (source + 1)) (numbers_of states.now) into.new.items) }
 {
     for arc in &states[source as usize].arcs {
         let Some(target) = place_of(numbers, arc.target) else {
@@ -54,7 +57,8 @@ pub(crate) fn turned(
     requires numbers { numbers.now.keys ≡ numbers_of states.now }
     requires few { length states.now < 2 ^ 32 }
     requires once { AllPairs (λ m n. m ≢ n) (numbers_of states.now) }
-    ensures { IfOk result (λ into. AreTurned (IsArcOf states.now) (numbers_of states.now) into.items) }
+    ensures { IfOk result
+        (λ into. AreTurned (IsArcOf states.now) (numbers_of states.now) into.items) }
 {
     let mut into = not_entered(alloc, states.len())?;
     for source in 0..states.len() as u32 {

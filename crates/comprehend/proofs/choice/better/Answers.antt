@@ -13,14 +13,15 @@ pub returns-then-left-cell : goal.returns-then-left-cell
 returns-then-left-cell c =
     better_none (LeadsTo c.args.a.now c.args.b.now c.args.cell c.args.left.now c.args.n)
     (λ column w l. c.if-left-cell.true (let P : ℕ → Type 0 = λ x. IsLeft c.args.left.now x c.args.n in
-        let at : IsLeft c.args.left.now c.args.cell c.args.n = subst P l.at l.left_at in
-        get_or_default c.args.left.now c.args.cell 0 far c.requires.cell ∙ at.number))
+    let at : IsLeft c.args.left.now c.args.cell c.args.n = subst P l.at l.left_at in
+    get_or_default c.args.left.now c.args.cell 0 far c.requires.cell ∙ at.number))
     c.args.best
 
 pub returns-then-is_empty : goal.returns-then-is_empty
 returns-then-is_empty c =
     better_none (LeadsTo c.args.a.now c.args.b.now c.args.cell c.args.left.now c.args.n)
-    (λ column w l. none_shared c.args.a.now c.args.b.now c.meet-both.result c.meet-both.ensures.columns (c.is_empty.ensures.columns.0 c.if-is_empty.true) column l.first l.second)
+    (λ column w l. none_shared c.args.a.now c.args.b.now c.meet-both.result c.meet-both.ensures.columns
+    (c.is_empty.ensures.columns.0 c.if-is_empty.true) column l.first l.second)
     c.args.best
 
 pub returns : goal.returns
@@ -33,8 +34,13 @@ returns c =
     let column = c.least_column.result in
     let parts = in_both a b both columns column (c.least_column.ensures.held full) in
     let choice : Choice = record { column = column; cell = c.args.cell } in
-    let at : IsLeft c.args.left.now c.args.cell c.args.n = record { number = get_or_default c.args.left.now c.args.cell far 0 c.requires.cell ∙ c.if-left-cell.false; near = c.requires.near } in
-    let own : LeadsTo a b c.args.cell c.args.left.now c.args.n column c.args.cell = record { first = parts.0; second = parts.1; at = refl; left_at = at } in
+    let at : IsLeft c.args.left.now c.args.cell c.args.n = record {
+      number = get_or_default c.args.left.now c.args.cell far 0 c.requires.cell
+          ∙ c.if-left-cell.false;
+      near = c.requires.near;
+    } in
+    let own : LeadsTo a b c.args.cell c.args.left.now c.args.n column c.args.cell = record
+    { first = parts.0; second = parts.1; at = refl; left_at = at } in
     better_one (LeadsTo a b c.args.cell c.args.left.now c.args.n) c.args.best choice c.lesser.result own
     (λ other w l. c.least_column.ensures.least other (both_has a b both columns other l.first l.second))
     c.lesser.ensures.either c.lesser.ensures.choice c.lesser.ensures.best

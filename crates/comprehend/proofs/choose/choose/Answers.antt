@@ -18,10 +18,13 @@ best_of-requires-clause-widths c =
     let tests = c.args.tests.now in
     let search = c.requires.searchable.1 in
     let s = c.args.from / length tests in
-    let inside : s < length states = state_of c.args.from (length states) (length tests) search.some_test (omega (arith, c.requires.from, c.requires.each)) in
-    let P : List ArcLine → Type 0 = λ xs. All (λ arc. All (λ test. length (sets_of arc.class) ≡ length (sets_of test)) tests) xs in
+    let inside : s < length states = state_of c.args.from (length states) (length tests) search.some_test
+    (omega (arith, c.requires.from, c.requires.each)) in
+    let P : List ArcLine → Type 0 = λ xs. All
+    (λ arc. All (λ test. length (sets_of arc.class) ≡ length (sets_of test)) tests) xs in
     subst P (sym (arcs_read states s c.index-states-state.result c.deref.result.now inside c.deref.ensures.value))
-    (λ k d l j e m. search.arc_widths s (get_or (arcs_at states s) k d) (Contains-get_or (arcs_at states s) k d l) ∙ sym (search.test_widths j e m))
+    (λ k d l j e m. search.arc_widths s (get_or (arcs_at states s) k d) (Contains-get_or (arcs_at states s) k d l)
+    ∙ sym (search.test_widths j e m))
 
 pub unreachable-requires : goal.unreachable-requires
 unreachable-requires c =
@@ -30,11 +33,17 @@ unreachable-requires c =
     let some = c.requires.searchable.1.some_test in
     let s = c.args.from / length tests in
     let p = c.args.from % length tests in
-    let inside : s < length states = state_of c.args.from (length states) (length tests) some (omega (arith, c.requires.from, c.requires.each)) in
-    let P : List ArcLine → Type 0 = λ xs. IsBetter (LeadsByOne c.args.numbers.now.keys tests p c.args.left.now c.args.n xs) None c.best_of.result in
-    let Q : List ℕ → Type 0 = λ ns. IsBetter (LeadsByOne ns tests p c.args.left.now c.args.n (arcs_at states s)) None c.best_of.result in
-    let best = subst Q c.requires.numbers (subst P (arcs_read states s c.index-states-state.result c.deref.result.now inside c.deref.ensures.value) c.best_of.ensures) in
-    none_chosen states tests c.args.left.now c.args.n c.args.from s p (cell_of c.args.from (length tests) some) (place_below c.args.from (length tests) some) c.best_of.result best c.in-None.is c.requires.some
+    let inside : s < length states = state_of c.args.from (length states) (length tests) some
+    (omega (arith, c.requires.from, c.requires.each)) in
+    let P : List ArcLine → Type 0 = λ xs. IsBetter
+    (LeadsByOne c.args.numbers.now.keys tests p c.args.left.now c.args.n xs) None c.best_of.result in
+    let Q : List ℕ → Type 0 = λ ns. IsBetter
+    (LeadsByOne ns tests p c.args.left.now c.args.n (arcs_at states s)) None c.best_of.result in
+    let best = subst Q c.requires.numbers
+    (subst P (arcs_read states s c.index-states-state.result c.deref.result.now inside c.deref.ensures.value)
+    c.best_of.ensures) in
+    none_chosen states tests c.args.left.now c.args.n c.args.from s p (cell_of c.args.from (length tests) some)
+    (place_below c.args.from (length tests) some) c.best_of.result best c.in-None.is c.requires.some
 
 pub returns : goal.returns
 returns c =
@@ -43,8 +52,14 @@ returns c =
     let some = c.requires.searchable.1.some_test in
     let s = c.args.from / length tests in
     let p = c.args.from % length tests in
-    let inside : s < length states = state_of c.args.from (length states) (length tests) some (omega (arith, c.requires.from, c.requires.each)) in
-    let P : List ArcLine → Type 0 = λ xs. IsBetter (LeadsByOne c.args.numbers.now.keys tests p c.args.left.now c.args.n xs) None c.best_of.result in
-    let Q : List ℕ → Type 0 = λ ns. IsBetter (LeadsByOne ns tests p c.args.left.now c.args.n (arcs_at states s)) None c.best_of.result in
-    let best = subst Q c.requires.numbers (subst P (arcs_read states s c.index-states-state.result c.deref.result.now inside c.deref.ensures.value) c.best_of.ensures) in
-    chosen states tests c.args.left.now c.args.n c.args.from s p (cell_of c.args.from (length tests) some) (place_below c.args.from (length tests) some) c.best_of.result best c.in-Some.choice c.in-Some.is
+    let inside : s < length states = state_of c.args.from (length states) (length tests) some
+    (omega (arith, c.requires.from, c.requires.each)) in
+    let P : List ArcLine → Type 0 = λ xs. IsBetter
+    (LeadsByOne c.args.numbers.now.keys tests p c.args.left.now c.args.n xs) None c.best_of.result in
+    let Q : List ℕ → Type 0 = λ ns. IsBetter
+    (LeadsByOne ns tests p c.args.left.now c.args.n (arcs_at states s)) None c.best_of.result in
+    let best = subst Q c.requires.numbers
+    (subst P (arcs_read states s c.index-states-state.result c.deref.result.now inside c.deref.ensures.value)
+    c.best_of.ensures) in
+    chosen states tests c.args.left.now c.args.n c.args.from s p (cell_of c.args.from (length tests) some)
+    (place_below c.args.from (length tests) some) c.best_of.result best c.in-Some.choice c.in-Some.is

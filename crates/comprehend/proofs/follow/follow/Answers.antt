@@ -10,7 +10,8 @@ use Rattle.comprehend.proofs.FirstStep.{IsFirstFrom, is_first, first_empty, firs
 use Rattle.comprehend.proofs.follow.follow.Goals as goal
 
 pub choose-choice-requires-clause-from : goal.choose-choice-requires-clause-from
-choose-choice-requires-clause-from c = known_inside c.args.left.now c.loop-done.from (c.args.most - c.loop-done.done) c.loop-done.invariant.left_is
+choose-choice-requires-clause-from c = known_inside c.args.left.now c.loop-done.from
+    (c.args.most - c.loop-done.done) c.loop-done.invariant.left_is
 
 pub choose-choice-requires-clause-near : goal.choose-choice-requires-clause-near
 choose-choice-requires-clause-near c = omega (arith, c.loop-done.invariant.left_is.near)
@@ -22,7 +23,8 @@ choose-choice-requires-clause-some c =
     let n = c.args.most - 1 - c.loop-done.done in
     let P : ℕ → Type 0 = λ k. IsLeft c.args.left.now c.loop-done.from k in
     let more : c.args.most - c.loop-done.done ≡ n + 1 = omega (arith, c.loop-done-test.true) in
-    step_exists (Goes states tests) (IsEnd states tests) c.args.left.now c.requires.lengths c.loop-done.from n (subst P more c.loop-done.invariant.left_is)
+    step_exists (Goes states tests) (IsEnd states tests) c.args.left.now c.requires.lengths c.loop-done.from n
+    (subst P more c.loop-done.invariant.left_is)
 
 pub loop-done-preserved : goal.loop-done-preserved
 loop-done-preserved c =
@@ -46,8 +48,11 @@ loop-done-preserved c =
       first = λ word first.
           (let F : List (List Sym) → Type 0 = IsFirstFrom (Goes states tests) (IsEnd states tests) c.args.start in
           let one = one_step states tests c.requires.once c.requires.apart c.requires.tests_apart in
-          let whole = inv.first (choice.column ∷ word) (first_step (Goes states tests) (IsEnd states tests) left c.requires.lengths one v n here choice.column choice.cell least word first) in
-          subst F (sym (ap (λ xs. xs ++ word) longer ∙ append_assoc c.loop-done.timeline (choice.column ∷ []) word)) whole);
+          let whole = inv.first (choice.column ∷ word)
+          (first_step (Goes states tests)
+          (IsEnd states tests) left c.requires.lengths one v n here choice.column choice.cell least word first) in
+          subst F (sym (ap (λ xs. xs ++ word) longer
+          ∙ append_assoc c.loop-done.timeline (choice.column ∷ []) word)) whole);
     }
 
 pub returns : goal.returns
@@ -59,4 +64,6 @@ returns c =
     let P : ℕ → Type 0 = λ k. IsLeft c.args.left.now c.loop-done.from k in
     let none : c.args.most - c.loop-done.done ≡ 0 = omega (arith, c.loop-done-test.false) in
     is_first (Goes states tests) (IsEnd states tests) c.args.start columns
-    (subst F (append-nil columns) (c.loop-done.invariant.first [] (first_empty (Goes states tests) (IsEnd states tests) c.args.left.now c.requires.lengths c.loop-done.from (subst P none c.loop-done.invariant.left_is))))
+    (subst F (append-nil columns) (c.loop-done.invariant.first []
+    (first_empty (Goes states tests) (IsEnd states tests) c.args.left.now c.requires.lengths c.loop-done.from
+    (subst P none c.loop-done.invariant.left_is))))

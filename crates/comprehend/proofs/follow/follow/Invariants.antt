@@ -8,5 +8,6 @@ use Rattle.comprehend.proofs.follow.follow.Given as goal
 abbrev pub invariant-loop-done : goal.invariant-loop-done
 invariant-loop-done l = record {
   left_is : IsLeft l.left l.from (l.most - l.done);
-  first : (word : List (List Sym)) → IsFirstFrom (Goes l.states l.tests) (IsEnd l.states l.tests) l.from word → IsFirstFrom (Goes l.states l.tests) (IsEnd l.states l.tests) l.start (l.timeline ++ word);
+  first : (word : List (List Sym)) → IsFirstFrom (Goes l.states l.tests) (IsEnd l.states l.tests) l.from word
+      → IsFirstFrom (Goes l.states l.tests) (IsEnd l.states l.tests) l.start (l.timeline ++ word);
 }

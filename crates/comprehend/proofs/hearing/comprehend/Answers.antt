@@ -11,7 +11,9 @@ use Rattle.comprehend.proofs.hearing.comprehend.Goals as goal
 
 pub loop-index-init : goal.loop-index-init
 loop-index-init c = record {
-  hears = rw c.new-hits.ensures.items (hears_nothing (asked c.args.grammar.now.tiers c.args.grammar.now.constraints.items) (forms_of c.args.lexicon.now) c.args.surface.now);
+  hears = rw c.new-hits.ensures.items (hears_nothing
+      (asked c.args.grammar.now.tiers c.args.grammar.now.constraints.items)
+      (forms_of c.args.lexicon.now) c.args.surface.now);
   within = λ k form e. absurd (let f : ⊥ = cc in f);
 }
 
@@ -26,7 +28,9 @@ returns-in_err-heard-clause-over c = λ index stage e.
     let entry = c.index-lexicon-index.result in
     let here : index ≡ i = c.in_err-heard.ensures.entry index stage (cc) in
     let P : ℕ → Type 0 = λ k. IsFirstEntryOver ask forms c.args.budget k stage in
-    subst P (sym here) (over_here ask forms c.args.surface.now i entry.form (form_at c.args.lexicon.now i entry c.loop-index-test.true c.index-lexicon-index.is) c.args.budget stage c.loop-index.invariant.within (c.in_err-heard.ensures.over index stage (cc))))
+    subst P (sym here) (over_here ask forms c.args.surface.now i entry.form
+    (form_at c.args.lexicon.now i entry c.loop-index-test.true c.index-lexicon-index.is) c.args.budget stage
+    c.loop-index.invariant.within (c.in_err-heard.ensures.over index stage (cc))))
 
 pub loop-index-preserved : goal.loop-index-preserved
 loop-index-preserved c =
@@ -36,8 +40,11 @@ loop-index-preserved c =
     let entry = c.index-lexicon-index.result in
     let at = form_at c.args.lexicon.now i entry c.loop-index-test.true c.index-lexicon-index.is in
     record {
-      hears = hears_next ask forms c.args.surface.now i entry.form at c.loop-index.hits.items c.push_heard.new.hits.items c.in_ok-heard.heard c.in_ok-heard.ensures.first c.in_ok-push_heard.ensures.pushed c.loop-index.invariant.hears;
-      within = within_more ask forms c.args.surface.now i entry.form at c.args.budget c.loop-index.invariant.within c.in_ok-heard.ensures.within;
+      hears = hears_next ask forms c.args.surface.now i entry.form at c.loop-index.hits.items
+          c.push_heard.new.hits.items c.in_ok-heard.heard c.in_ok-heard.ensures.first
+          c.in_ok-push_heard.ensures.pushed c.loop-index.invariant.hears;
+      within = within_more ask forms c.args.surface.now i entry.form at c.args.budget c.loop-index.invariant.within
+          c.in_ok-heard.ensures.within;
     }
 
 pub returns-clause-within : goal.returns-clause-within
@@ -45,4 +52,9 @@ returns-clause-within c =
     let ask : List (List Sym) → Problem = asked c.args.grammar.now.tiers c.args.grammar.now.constraints.items in
     let forms = forms_of c.args.lexicon.now in
     let P : List (List (List Sym)) → Type 0 = λ xs. AreEntriesWithin ask xs c.args.budget in
-    subst P (take_all c.loop-index.index forms (omega (arith, c.loop-index-test.false, length-map c.args.lexicon.now (λ (e : Entry). e.form)))) c.loop-index.invariant.within
+    subst P (take_all c.loop-index.index forms
+    (omega (
+      arith,
+      c.loop-index-test.false,
+      length-map c.args.lexicon.now (λ (e : Entry). e.form),
+    ))) c.loop-index.invariant.within

@@ -10,4 +10,7 @@ returns c =
     let n = c.args.n in
     let cell = c.args.cell in
     let inside = c.requires.cell c.if-not-steps.false in
-    rw c.in_ok-push.ensures.items (reaches_same (λ v. v ≡ cell) _ (λ v at. (c.if-not-steps.false, at)) (λ v at. at.1) n left _ _ _ (one_unknown n left c.args.next.now.items cell c.requires.near (let read = get_or_read left cell c.index.result.now inside c.index.ensures far in omega (arith, read, c.if-index-lt-FAR.false)) inside))
+    rw c.in_ok-push.ensures.items (reaches_same (λ v. v ≡ cell) _ (λ v at. (c.if-not-steps.false, at))
+    (λ v at. at.1) n left _ _ _ (one_unknown n left c.args.next.now.items cell c.requires.near
+    (let read = get_or_read left cell c.index.result.now inside c.index.ensures far in omega
+    (arith, read, c.if-index-lt-FAR.false)) inside))

@@ -18,6 +18,8 @@ returns c =
     let a = c.args.a.now in
     let b = c.args.b.now in
     let both = c.meet.result in
-    let empty = c.is_empty.result in
-    (λ h. shared a b both c.meet.ensures.columns empty c.is_empty.ensures.sets (of_not empty h),
-    λ some. not_of empty (λ e. none_shared a b both c.meet.ensures.columns (c.is_empty.ensures.columns.0 e) some.0 some.1.0 some.1.1))
+    let empty = c.is_empty.result in (
+      λ h. shared a b both c.meet.ensures.columns empty c.is_empty.ensures.sets (of_not empty h),
+      λ some. not_of empty (λ e. none_shared a b both c.meet.ensures.columns
+          (c.is_empty.ensures.columns.0 e) some.0 some.1.0 some.1.1),
+    )

@@ -11,22 +11,38 @@ use Rattle.comprehend.proofs.search.at_the_ends.Goals as goal
 pub loop-number-init : goal.loop-number-init
 loop-number-init c =
     let size = length c.args.states.now * length c.args.tests.now in
-    rw (c.in_ok-left.ensures.items_if_clones_equal (λ y same. same), c.new-level.ensures.items) (reaches_none (IsEndBelow c.args.states.now c.args.tests.now 0) (no_end_below c.args.states.now c.args.tests.now) 0 (replicate size far) [])
+    rw (c.in_ok-left.ensures.items_if_clones_equal (λ y same. same), c.new-level.ensures.items)
+    (reaches_none (IsEndBelow c.args.states.now c.args.tests.now 0)
+    (no_end_below c.args.states.now c.args.tests.now) 0 (replicate size far) [])
 
 pub look-requires-clause-cell : goal.look-requires-clause-cell
 look-requires-clause-cell c =
     let size = length c.args.states.now * length c.args.tests.now in
-    λ accepting. omega (arith, c.cell-end.ensures, c.requires.searchable.1.some_test, c.loop-number.invariant.same, length-replicate size far, cells_inside c.loop-number.number (length c.args.states.now) (length c.args.tests.now) c.loop-number-test.true)
+    λ accepting. omega (
+      arith,
+      c.cell-end.ensures,
+      c.requires.searchable.1.some_test,
+      c.loop-number.invariant.same,
+      length-replicate size far,
+      cells_inside c.loop-number.number (length c.args.states.now)
+          (length c.args.tests.now) c.loop-number-test.true,
+    )
 
 pub loop-number-preserved : goal.loop-number-preserved
 loop-number-preserved c =
-    end_more c.args.states.now c.args.tests.now c.loop-number.number c.cell-end.result c.index-states-number.result c.loop-number-test.true c.index-states-number.is (omega (arith, c.cell-end.ensures, c.requires.searchable.1.some_test))
-    _ c.loop-number.left.items c.look.new.left.items _ c.loop-number.level.items c.look.new.next.items c.loop-number.invariant c.in_ok-look.ensures
+    end_more c.args.states.now c.args.tests.now c.loop-number.number c.cell-end.result c.index-states-number.result
+    c.loop-number-test.true c.index-states-number.is
+    (omega (arith, c.cell-end.ensures, c.requires.searchable.1.some_test))
+    _ c.loop-number.left.items c.look.new.left.items _ c.loop-number.level.items c.look.new.next.items
+    c.loop-number.invariant c.in_ok-look.ensures
 
 pub returns : goal.returns
 returns c =
     let states = c.args.states.now in
     let tests = c.args.tests.now in
     let size = length states * length tests in
-    search_start (Goes states tests) (IsEnd states tests) size (replicate size far) c.loop-number.left.items c.loop-number.level.items (length-replicate size far) (unknown-far size) (none_left size)
-    (all_ends states tests c.loop-number.number c.loop-number-test.false _ c.loop-number.left.items _ c.loop-number.level.items c.loop-number.invariant)
+    search_start (Goes states tests) (IsEnd states tests) size
+    (replicate size far) c.loop-number.left.items c.loop-number.level.items (length-replicate size far)
+    (unknown-far size) (none_left size)
+    (all_ends states tests c.loop-number.number c.loop-number-test.false _ c.loop-number.left.items _
+    c.loop-number.level.items c.loop-number.invariant)

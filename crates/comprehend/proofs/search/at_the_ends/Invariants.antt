@@ -4,4 +4,5 @@ use Rattle.comprehend.proofs.Ends.{IsEndBelow}
 use Rattle.comprehend.proofs.search.at_the_ends.Given as goal
 
 abbrev pub invariant-loop-number : goal.invariant-loop-number
-invariant-loop-number l = Reaches (IsEndBelow l.states l.tests l.number) 0 (replicate (length l.states * length l.tests) far) l.left.items [] l.level.items
+invariant-loop-number l = Reaches (IsEndBelow l.states l.tests l.number) 0
+    (replicate (length l.states * length l.tests) far) l.left.items [] l.level.items

@@ -10,7 +10,8 @@ use Rattle.comprehend.proofs.search.searched.Goals as goal
 pub next_level-requires-clause-inside : goal.next_level-requires-clause-inside
 next_level-requires-clause-inside c =
     let level = c.levels.level.items in
-    rw c.deref.ensures.value (λ k d l. known_inside c.levels.left.items (get_or level k d) c.levels.n (c.levels.invariant.level_is (get_or level k d) (Contains-get_or level k d l)))
+    rw c.deref.ensures.value (λ k d l. known_inside c.levels.left.items (get_or level k d) c.levels.n
+    (c.levels.invariant.level_is (get_or level k d) (Contains-get_or level k d l)))
 
 pub levels-preserved : goal.levels-preserved
 levels-preserved c =
@@ -20,10 +21,15 @@ levels-preserved c =
     let level = c.levels.level.items in
     let ne = eqb-false c.levels.level.len 0 (sym c.levels-test.ensures) in
     let some_level : 0 < length level = omega (arith, c.levels.level.ok) in
-    let R : List ℕ → Type 0 = λ xs. Reaches (IsBefore (Goes states tests) xs) (c.levels.n + 1) left c.next_level.new.left.items [] c.in_ok-level.level.items in
-    search_next (Goes states tests) (IsEnd states tests) _ left c.next_level.new.left.items level c.in_ok-level.level.items c.levels.n c.levels.invariant some_level (subst R c.deref.ensures.value c.in_ok-level.ensures)
+    let R : List ℕ → Type 0 = λ xs. Reaches (IsBefore (Goes states tests) xs)
+    (c.levels.n + 1) left c.next_level.new.left.items [] c.in_ok-level.level.items in
+    search_next (Goes states tests)
+    (IsEnd states tests) _ left c.next_level.new.left.items level c.in_ok-level.level.items c.levels.n
+    c.levels.invariant some_level (subst R c.deref.ensures.value c.in_ok-level.ensures)
 
 pub returns-clause-lengths : goal.returns-clause-lengths
 returns-clause-lengths c =
     let none : c.levels.level.len ≡ 0 = eqb-true c.levels.level.len 0 (sym c.levels-test.ensures) in
-    search_end (Goes c.args.states.now c.args.tests.now) (IsEnd c.args.states.now c.args.tests.now) _ c.levels.left.items c.levels.level.items c.levels.n c.levels.invariant (omega (arith, none, c.levels.level.ok))
+    search_end (Goes c.args.states.now c.args.tests.now)
+    (IsEnd c.args.states.now c.args.tests.now) _ c.levels.left.items c.levels.level.items c.levels.n
+    c.levels.invariant (omega (arith, none, c.levels.level.ok))

@@ -4,7 +4,8 @@ use Rattle.comprehend.specs.Steps.{Goes, IsEnd}
 use Rattle.comprehend.proofs.search.searched.Given as goal
 
 abbrev pub invariant-levels : goal.invariant-levels
-invariant-levels l = IsSearched (Goes l.states l.tests) (IsEnd l.states l.tests) (length l.states * length l.tests) l.left.items l.level.items l.n
+invariant-levels l = IsSearched (Goes l.states l.tests) (IsEnd l.states l.tests)
+    (length l.states * length l.tests) l.left.items l.level.items l.n
 
 abbrev pub decreases-levels : goal.decreases-levels
 decreases-levels l = unknown l.left.items + length l.level.items

@@ -13,8 +13,11 @@ first_along-requires-clause-searchable c =
     let tests = c.deref-in-Ok.result.now in
     let P : List TierKind → Type 0 = λ ks. AreTestsOf ks surface c.in-Ok.tests.items in
     let Q : List Class → Type 0 = λ ts. AreTestsOf kinds surface ts in
-    let are : Q tests = subst Q (sym c.deref-in-Ok.ensures.value) (subst P c.deref.ensures.value c.in-Ok.ensures) in
-    (length kinds, searchable kinds states surface tests c.requires.readable c.requires.few c.requires.surface c.requires.short are)
+    let are : Q tests = subst Q (sym c.deref-in-Ok.ensures.value) (subst P c.deref.ensures.value c.in-Ok.ensures) in (
+      length kinds,
+      searchable kinds states surface tests c.requires.readable c.requires.few c.requires.surface c.requires.short
+          are,
+    )
 
 pub first_along-requires-clause-apart : goal.first_along-requires-clause-apart
 first_along-requires-clause-apart c =
@@ -47,4 +50,5 @@ returns-in-Ok c =
     let P : List TierKind → Type 0 = λ ks. AreTestsOf ks surface c.in-Ok.tests.items in
     let Q : List Class → Type 0 = λ ts. AreTestsOf kinds surface ts in
     let are : Q tests = subst Q (sym c.deref-in-Ok.ensures.value) (subst P c.deref.ensures.value c.in-Ok.ensures) in
-    heard_first kinds states surface tests c.requires.readable c.requires.few c.requires.surface c.requires.short are c.first_along.result c.first_along.ensures
+    heard_first kinds states surface tests c.requires.readable c.requires.few c.requires.surface c.requires.short are
+    c.first_along.result c.first_along.ensures

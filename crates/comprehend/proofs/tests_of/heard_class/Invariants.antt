@@ -9,5 +9,6 @@ invariant-loop-tier l = record {
   twelve : length l.sets ≡ 12;
   are_sets : AreSets l.sets;
   few : l.before ≤ l.tier;
-  done : take l.tier l.sets ++ heard_sets (drop l.tier l.kinds) (sets_of l.own) l.before ≡ heard_sets l.kinds (sets_of l.own) 0;
+  done : take l.tier l.sets ++ heard_sets (drop l.tier l.kinds) (sets_of l.own) l.before
+      ≡ heard_sets l.kinds (sets_of l.own) 0;
 }

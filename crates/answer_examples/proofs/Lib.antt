@@ -1,0 +1,9 @@
+mod Fits
+mod Views
+mod Refused
+mod TwoStates
+mod StageZero
+mod TwoKinds
+mod AlteredStates
+mod OneRemains
+mod OneDep

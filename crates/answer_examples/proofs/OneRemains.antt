@@ -1,0 +1,108 @@
+-- One violation of `a -> A` remains where the overt tier is open and not met, and the form is empty.
+use Rattle.std.proofs.Common.{◌≡◌, ℕ, ◌+◌, ◌≤◌, true, List, [], ◌∷◌, ◌++◌, take, drop, length, refl, sym, ap, ◌∙◌, subst, arith, codes, String, append-nil, ⊎_elim}
+use Rattle.std.specs.declared.alloc.Global.{Global}
+use Rattle.std.proofs.lemmas.Bool.{false≢true}
+use Rattle.std.proofs.lemmas.List.{length-take-le, take-append-drop}
+use Rattle.tier_core.specs.declared.sym.Sym.{Sym}
+use Rattle.tier_core.specs.declared.tier.TierKind.TheVariants.{Input, Overt}
+use Rattle.tier_core.specs.Kinds.{PrefixKind, unmet}
+use Rattle.violation.specs.Candidates.{IsCandidate, count_at, count_so_far_at}
+use Rattle.violation.specs.Counts.{viol, so_far}
+use Rattle.violation.specs.Examples.{over_two, timeline, dep_a}
+use Rattle.violation.specs.Moves.{FitsKind, cost_of, is_final}
+use Rattle.violation.specs.Prefixes.{kind_of}
+use Rattle.violation.specs.Problems.{Problem}
+use Rattle.violation.specs.Stages.{IsStage, Passes, IsLeastRest}
+use Rattle.violation.proofs.ExampleLemmas.{right_timeline, right_candidate}
+use Rattle.violation.proofs.SplitLemmas.{tiers_split}
+use Rattle.violation.proofs.StageLemmas.{all_optimal, over_stretches}
+use Rattle.violation.proofs.WalkLemmas.{fits_next, candidate_final}
+use Rattle.violation.proofs.WalkSums.{walk_cost, walk_step, violations_on}
+use Rattle.answer_examples.proofs.Fits.{at_start, only_ends}
+
+abbrev later : List (List Sym)
+later = timeline (codes "-[ -]")
+
+module _ (name : String Global) where
+  abbrev one_dep : Problem
+  one_dep = over_two (dep_a name ∷ []) []
+
+  abbrev open_unmet : PrefixKind
+  open_unmet = at_start true (unmet ∷ [])
+
+  stage : IsStage one_dep 1
+  stage = record {
+    split = tiers_split (Input ∷ Overt ∷ []);
+    form = record { well_formed = right_timeline 1 [] tt refl; reduced = tt };
+    over = (
+      record { left_below = (omega arith, tt); right_below = (omega arith, tt); some_left = omega arith },
+      tt,
+    );
+    within = omega arith;
+  }
+
+  candidate : IsCandidate one_dep later
+  candidate = right_candidate (dep_a name ∷ []) [] later (refl, (refl, tt)) refl (refl, (refl, tt)) refl
+
+  counted : count_at one_dep 1 later ≡ count_so_far_at one_dep 1 later 1 + 1
+  unfolding viol so_far
+  counted = refl
+
+  first_costs : (column : List Sym) → FitsKind one_dep open_unmet column → cost_of one_dep 1 open_unmet column ≡ 1
+  first_costs column f =
+      ⊎_elim (λ e. ap (cost_of one_dep 1 open_unmet) e) (λ e. ap (cost_of one_dep 1 open_unmet) e)
+      (only_ends (dep_a name ∷ []) (unmet ∷ []) column f)
+
+  rest_costs : (p q : List (List Sym)) → IsCandidate one_dep (p ++ q) → kind_of one_dep 1 p ≡ open_unmet
+      → 1 ≤ walk_cost one_dep 1 stage 0 (kind_of one_dep 1 p) q
+  rest_costs p [] c same =
+      let final : is_final one_dep (kind_of one_dep 1 p) ≡ true =
+      candidate_final one_dep 1 stage.split stage.form (over_stretches one_dep 1 stage) p
+      (subst (IsCandidate one_dep) (append-nil p) c) in
+      absurd (false≢true (ap (is_final one_dep) (sym same) ∙ final))
+  rest_costs p (column ∷ q) c same =
+      let fits : FitsKind one_dep open_unmet column = subst (λ k. FitsKind one_dep k column) same
+      (fits_next one_dep 1 stage.split stage.form (over_stretches one_dep 1 stage) p column q c) in
+      let cost : cost_of one_dep 1 (kind_of one_dep 1 p) column ≡ 1 =
+      ap (λ k. cost_of one_dep 1 k column) same ∙ first_costs column fits in
+      omega (arith, walk_step one_dep 1 stage 0 (kind_of one_dep 1 p) column q, cost)
+
+  no_less : (T : List (List Sym)) (n : ℕ) → Passes one_dep 0 1 open_unmet T n
+      → count_so_far_at one_dep 1 T n + 1 ≤ count_at one_dep 1 T
+  no_less T n passes =
+      let parts : take n T ++ drop n T ≡ T = take-append-drop n T in
+      let whole : IsCandidate one_dep (take n T ++ drop n T) =
+      subst (IsCandidate one_dep) (sym parts) passes.optimal.candidate in
+      let total : count_at one_dep 1 (take n T ++ drop n T) ≡ count_at one_dep 1 T =
+      ap (λ (v : List (List Sym)). count_at one_dep 1 v) parts in
+      let before : count_so_far_at one_dep 1 (take n T ++ drop n T) (length (take n T))
+      ≡ count_so_far_at one_dep 1 T n =
+      ap (λ (v : List (List Sym)). count_so_far_at one_dep 1 v (length (take n T))) parts
+      ∙ ap (λ (m : ℕ). count_so_far_at one_dep 1 T m) (length-take-le n T passes.within) in
+      omega (
+        arith,
+        violations_on one_dep 1 stage (omega arith) (take n T) (drop n T) whole,
+        rest_costs (take n T) (drop n T) whole passes.of_kind,
+        total,
+        before,
+      )
+
+  pub one_remains : IsLeastRest one_dep 1 open_unmet 1
+  one_remains = record {
+    some = (
+      later,
+      (
+        1,
+        (
+          record { optimal = all_optimal one_dep later candidate; within = omega arith; of_kind = refl },
+          counted,
+        ),
+      ),
+    );
+    least = no_less;
+  }
+
+  -- so that it is not none
+  pub not_none : IsLeastRest one_dep 1 open_unmet 0 → ⊥
+  not_none none =
+      absurd (omega (arith, no_less none.some.0 none.some.1.0 none.some.1.1.0, none.some.1.1.1))

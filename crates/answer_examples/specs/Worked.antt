@@ -1,0 +1,42 @@
+-- Answers to the empty form over an input tier and an overt tier: without constraints, and under
+-- `a -> A`. Nodes and states are given by texts.
+use Rattle.std.specs.Prelude.{ℕ, Bool, true, false, List, [], ◌∷◌, map, codes, String}
+use Rattle.std.specs.declared.alloc.Global.{Global}
+use Rattle.tier_core.specs.Kinds.{PrefixKind}
+use Rattle.tier_core.specs.Sets.{single_set}
+use Rattle.violation.specs.Examples.{over_two, dep_a, kind_text, read_syms}
+use Rattle.violation.specs.Problems.{Problem}
+use Rattle.answer_examples.specs.Seen.{StateSeen}
+
+-- nothing is ranked, and the form is empty
+abbrev pub unranked : Problem
+unranked = over_two [] []
+
+-- a node of place 0, by `+` or `-` for the overt tier, the phases, and its potential
+abbrev pub node : List ℕ → List ℕ → ℕ → PrefixKind × ℕ
+node opened phases potential = (kind_text 0 opened phases, potential)
+
+-- an arc on one column
+abbrev pub arc_on : ℕ → List ℕ → ℕ × List ℕ
+arc_on target column = (target, map single_set (read_syms column))
+
+abbrev pub state : ℕ → Bool → List (ℕ × List ℕ) → StateSeen
+state node accepting arcs = record { node = node; accepting = accepting; arcs = arcs }
+
+-- the one stage, with two kinds
+abbrev pub two_kinds : List (List (PrefixKind × ℕ))
+two_kinds = (node (codes "-") [] 0 ∷ node (codes "+") [] 0 ∷ []) ∷ []
+
+-- the overt tier opens, ends, or ends and opens again
+abbrev pub two_states : List StateSeen
+two_states = state 0 true (arc_on 1 (codes "-[") ∷ [])
+    ∷ state 1 false (arc_on 0 (codes "-]") ∷ arc_on 1 (codes "-|") ∷ []) ∷ []
+
+-- `a -> A` is ranked alone, whatever its name, and the form is empty
+abbrev pub under_dep : String Global → Problem
+under_dep name = over_two (dep_a name ∷ []) []
+
+-- at stage 1 a violation remains where the overt tier is open
+abbrev pub dep_kinds : List (List (PrefixKind × ℕ))
+dep_kinds = (node (codes "-") [] 0 ∷ node (codes "+") [] 0 ∷ [])
+    ∷ (node (codes "-") (codes ".") 0 ∷ node (codes "+") (codes "u") 1 ∷ []) ∷ []

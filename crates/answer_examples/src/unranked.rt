@@ -1,0 +1,64 @@
+ghost use Rattle.std.specs.Prelude.{◌≡◌, true, false, [], ◌∷◌, List, codes};
+ghost use Rattle.tier_core.specs.declared.sym.Sym.{Sym};
+ghost use Rattle.violation.specs.Candidates.{IsCandidate};
+ghost use Rattle.violation.specs.Examples.{timeline};
+ghost use Rattle.answer_text.specs.declared.answer.Answer.{Answer};
+ghost use Rattle.answer_text.specs.Certified.{IsCertified};
+ghost use Rattle.answer_text.specs.Right.{IsRight};
+ghost use Rattle.answer_text.specs.Sound.{IsSound};
+ghost use Rattle.answer_examples.specs.Seen.{IsSeenAs};
+ghost use Rattle.answer_examples.specs.Worked.{unranked, node, arc_on, state, two_kinds, two_states};
+
+/// The empty form has, where nothing is ranked, an answer with two nodes and two states. It is
+/// certified and sound with every candidate as its example. With one that is not the first, it is
+/// not right.
+pub fn unranked_answers()
+    ensures certified { (answer : Answer) (example : List (List Sym))
+        → IsCandidate unranked example
+        → IsSeenAs unranked answer [] example two_kinds two_states → IsCertified unranked answer }
+    ensures sound { (answer : Answer) (example : List (List Sym))
+        → IsCandidate unranked example
+        → IsSeenAs unranked answer [] example two_kinds two_states → IsSound unranked answer }
+    ensures another_example { (answer : Answer)
+        → IsSeenAs unranked answer [] (timeline (codes "-[ -]")) two_kinds two_states
+        → IsSound unranked answer }
+    ensures not_right { (answer : Answer)
+        → IsSeenAs unranked answer [] (timeline (codes "-[ -]")) two_kinds two_states
+        → IsRight unranked answer → ⊥ }
+{}
+
+/// Alterations of this answer that are not certified: a potential that is raised, a node, an arc, a
+/// final mark or the stage taken out, an arc that leads elsewhere, a count that is added, and an
+/// example that is no candidate.
+pub fn altered_answers_are_refused()
+    ensures start_raised { (answer : Answer)
+        → IsSeenAs unranked answer [] []
+        ((node (codes "-") [] 1 ∷ node (codes "+") [] 0 ∷ []) ∷ []) two_states
+        → IsCertified unranked answer → ⊥ }
+    ensures potential_raised { (answer : Answer)
+        → IsSeenAs unranked answer [] []
+        ((node (codes "-") [] 0 ∷ node (codes "+") [] 1 ∷ []) ∷ []) two_states
+        → IsCertified unranked answer → ⊥ }
+    ensures node_taken_out { (answer : Answer)
+        → IsSeenAs unranked answer [] [] ((node (codes "-") [] 0 ∷ []) ∷ []) two_states
+        → IsCertified unranked answer → ⊥ }
+    ensures start_taken_out { (answer : Answer)
+        → IsSeenAs unranked answer [] [] ((node (codes "+") [] 0 ∷ []) ∷ []) two_states
+        → IsCertified unranked answer → ⊥ }
+    ensures stage_taken_out { (answer : Answer)
+        → IsSeenAs unranked answer [] [] [] two_states → IsCertified unranked answer → ⊥ }
+    ensures arc_taken_out { (answer : Answer)
+        → IsSeenAs unranked answer [] [] two_kinds (state 0 true [] ∷ state 1 false
+        (arc_on 0 (codes "-]") ∷ arc_on 1 (codes "-|") ∷ []) ∷ [])
+        → IsCertified unranked answer → ⊥ }
+    ensures mark_taken_out { (answer : Answer)
+        → IsSeenAs unranked answer [] [] two_kinds (state 0 false (arc_on 1 (codes "-[") ∷ [])
+        ∷ state 1 false (arc_on 0 (codes "-]") ∷ arc_on 1 (codes "-|") ∷ []) ∷ [])
+        → IsCertified unranked answer → ⊥ }
+    ensures count_added { (answer : Answer)
+        → IsSeenAs unranked answer (0 ∷ []) [] two_kinds two_states
+        → IsCertified unranked answer → ⊥ }
+    ensures no_candidate { (answer : Answer)
+        → IsSeenAs unranked answer [] (timeline (codes "-[")) two_kinds two_states
+        → IsCertified unranked answer → ⊥ }
+{}

@@ -1,0 +1,99 @@
+-- The kinds of a stage are among the names.
+use Rattle.std.proofs.Common.{◌≡◌, ℕ, zero, suc, ◌+◌, ◌*◌, ◌^◌, ◌<◌, ◌≤◌, Bool, true, false, not, cond, List, [], ◌∷◌, ◌++◌, map, filter, take, drop, length, refl, sym, ap, ◌∙◌, subst, arith, Contains}
+use Rattle.std.specs.List.{AllByRecursion, list_all}
+use Rattle.std.proofs.lemmas.List.{length-take, take-append-drop}
+use Rattle.std.proofs.lemmas.Nat.{mul-le}
+use Rattle.tier_core.specs.declared.sym.Sym.{Sym}
+use Rattle.tier_core.specs.declared.constraint.Constraint.{Constraint}
+use Rattle.tier_core.specs.Kinds.{closed, unmet, met, PrefixKind}
+use Rattle.tier_core.specs.Sides.{is_stretch}
+use Rattle.tier_core.specs.Timelines.{word}
+use Rattle.tier_core.proofs.CountLemmas.{all_weaker}
+use Rattle.violation.specs.Candidates.{IsCandidate}
+use Rattle.violation.specs.Conditions.{IsOverTiers}
+use Rattle.violation.specs.Moves.{is_tier_open}
+use Rattle.violation.specs.Phases.{is_closed, is_left_open, AreClosedOr}
+use Rattle.violation.specs.Prefixes.{is_open, phase, kind_of, stretches}
+use Rattle.violation.specs.Stages.{IsStage, IsKindOfStage, AreKindsOfStage}
+use Rattle.violation.proofs.CountSteps.{all_agree}
+use Rattle.violation.proofs.PrefixLemmas.{IsBegun, input_part, tier_open_is}
+use Rattle.violation.proofs.StageLemmas.{over_stretches}
+use Rattle.violation.proofs.WalkLemmas.{begun_of}
+use Rattle.violation.specs.Problems.{Problem, last_stage, last_place}
+use Rattle.kind_laws.proofs.Longest.{ascending_few}
+use Rattle.kind_laws.proofs.Names.{names, name_count, name_in}
+
+closed_is : (a b : Bool) → is_closed (cond a (cond b met unmet) closed) ≡ not a
+closed_is true true = refl
+closed_is true false = refl
+closed_is false b = refl
+
+module _ (problem : Problem) (r : ℕ) (stage : IsStage problem r) where
+  module _ (p : List (List Sym)) (begun : IsBegun problem p) where
+    left_open : (c : Constraint) → IsOverTiers problem.tiers.width c
+        → list_all (λ e. is_open (word p e.tier)) c.left ≡ is_left_open problem (kind_of problem r p) c
+    left_open c o =
+        sym (all_agree (λ e. is_tier_open problem (kind_of problem r p) e.tier) (λ e. is_open (word p e.tier)) c.left
+        (all_weaker (λ e. e.tier < problem.tiers.width) _ c.left
+        (λ e l. tier_open_is problem stage.split stage.form r p begun e.tier l) o.left_below))
+
+    phases_closed : (cs : List Constraint) → AllByRecursion (IsOverTiers problem.tiers.width) cs
+        → AreClosedOr (is_left_open problem (kind_of problem r p)) cs (map (λ c. phase c.left c.right p) cs)
+    phases_closed [] o = tt
+    phases_closed (c ∷ cs) o =
+        (closed_is (list_all (λ e. is_open (word p e.tier)) c.left) _ ∙ ap not (left_open c o.0), phases_closed cs o.1)
+
+    prefix_named : Contains (names problem r) (kind_of problem r p)
+    prefix_named =
+        name_in problem r (length (input_part problem.tiers p)) (λ t. is_open (word p t))
+        (map (λ c. phase c.left c.right p) (stretches problem r))
+        (omega (arith, ap length begun.place, length-take (length (input_part problem.tiers p)) problem.form))
+        (phases_closed (stretches problem r) (over_stretches problem r stage))
+
+  kind_named : (k : PrefixKind) → IsKindOfStage problem r k → Contains (names problem r) k
+  kind_named k h =
+      let T : List (List Sym) = h.candidate in
+      let whole : IsCandidate problem (take h.columns T ++ drop h.columns T) =
+      subst (IsCandidate problem) (sym (take-append-drop h.columns T)) h.passes.optimal.candidate in
+      subst (Contains (names problem r)) h.passes.of_kind
+      (prefix_named (take h.columns T) (begun_of problem (take h.columns T) (drop h.columns T) whole))
+
+  pub kinds_few : (ks : List PrefixKind) → AreKindsOfStage problem r ks
+      → length ks ≤ (last_place problem + 1) * 2 ^ length problem.tiers.free * 2 ^ length (stretches problem r)
+  kinds_few ks are =
+      subst (λ n. length ks ≤ n) (name_count problem r)
+      (ascending_few ks (names problem r) are.ascending (λ k c. kind_named k ((are.members k).0 c)))
+
+-- fewer constraints have fewer stretch implications
+filter_fewer : {X : Type 0} (f : X → Bool) (r s : ℕ) (xs : List X) → r ≤ s
+    → length (filter f (take r xs)) ≤ length (filter f (take s xs))
+filter_fewer f zero s xs l = omega arith
+filter_fewer f (suc r) zero xs l = absurd (omega arith)
+filter_fewer f (suc r) (suc s) [] l = omega arith
+filter_fewer f (suc r) (suc s) (x ∷ xs) l = step (f x) (filter_fewer f r s xs (omega arith))
+  where
+    step : (b : Bool) → length (filter f (take r xs)) ≤ length (filter f (take s xs))
+        → length (cond b (x ∷ filter f (take r xs)) (filter f (take r xs)))
+        ≤ length (cond b (x ∷ filter f (take s xs)) (filter f (take s xs)))
+    step true h = omega (arith, h)
+    step false h = h
+
+pub power_more : (a b : ℕ) → a ≤ b → 2 ^ a ≤ 2 ^ b
+power_more zero zero l = omega arith
+power_more zero (suc b) l = omega (arith, power_more zero b (omega arith))
+power_more (suc a) zero l = absurd (omega arith)
+power_more (suc a) (suc b) l = omega (arith, power_more a b (omega arith))
+
+pub all_few : (problem : Problem) (r : ℕ) (stage : IsStage problem r) (ks : List PrefixKind)
+    → AreKindsOfStage problem r ks
+    → length ks ≤ (last_place problem + 1) * 2 ^ length problem.tiers.free
+    * 2 ^ length (stretches problem (last_stage problem))
+all_few problem r stage ks are =
+    let n : ℕ = (last_place problem + 1) * 2 ^ length problem.tiers.free in
+    omega (
+      arith,
+      kinds_few problem r stage ks are,
+      mul-le n (2 ^ length (stretches problem r)) n (2 ^ length (stretches problem (last_stage problem))) (omega arith)
+          (power_more (length (stretches problem r)) (length (stretches problem (last_stage problem)))
+          (filter_fewer is_stretch r (last_stage problem) problem.constraints stage.within)),
+    )

@@ -1,0 +1,9 @@
+mod Sets
+mod Conjunctions
+mod Repeats
+mod Ranks
+mod GoingOn
+mod Tight
+mod Longest
+mod Names
+pub mod KindsFew

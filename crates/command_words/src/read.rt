@@ -57,6 +57,21 @@ fn show_of<'a>(grammar: &'a str, further: &'a [String]) -> Option<Command<'a>>
     }
 }
 
+/// What `tableau`, the name of a grammar and further words ask for.
+fn tableau_of<'a>(grammar: &'a str, further: &'a [String]) -> Option<Command<'a>>
+    ensures { MatchOption result (IsNoCommand (codes "tableau" ∷ grammar.now ∷ words_of further.now)) (λ c. IsCommand (codes "tableau" ∷ grammar.now ∷ words_of further.now) (command_seen c)) }
+{
+    match further {
+        [form, rows, rest @ ..] => Some(Command::Tableau {
+            grammar,
+            form: form.as_str(),
+            rows: rows.as_str(),
+            budget: budget_of(rest)?,
+        }),
+        _ => None,
+    }
+}
+
 /// The command that these words are. None where they are those of no command.
 ///
 /// ```text
@@ -66,6 +81,8 @@ fn show_of<'a>(grammar: &'a str, further: &'a [String]) -> Option<Command<'a>>
 /// generate G FORM BUDGET
 /// show G FORM
 /// show G FORM BUDGET
+/// tableau G FORM ROWS
+/// tableau G FORM ROWS BUDGET
 /// ```
 ///
 /// The first word stands exactly so, in lowercase. BUDGET is a number from 1 to 65,536 in decimal,
@@ -81,6 +98,7 @@ pub fn command_of(words: &[String]) -> Option<Command<'_>>
         "score" => score_of(grammar.as_str(), further),
         "generate" => generate_of(grammar.as_str(), further),
         "show" => show_of(grammar.as_str(), further),
+        "tableau" => tableau_of(grammar.as_str(), further),
         _ => None,
     }
 }

@@ -35,6 +35,15 @@ fn show<'a>(grammar: &'a str, form: &'a str, budget: u32) -> Option<Command<'a>>
     })
 }
 
+fn tableau<'a>(grammar: &'a str, form: &'a str, rows: &'a str, budget: u32) -> Option<Command<'a>> {
+    Some(Command::Tableau {
+        grammar,
+        form,
+        rows,
+        budget,
+    })
+}
+
 #[test]
 fn words_of_a_command_are_read(rt: HostRuntime) -> Result<(), Fail> {
     let alloc = rt.alloc();
@@ -62,6 +71,9 @@ fn words_of_a_command_are_read(rt: HostRuntime) -> Result<(), Fail> {
         ("show/g/empty/300", show("g", "empty", 300)),
         ("show/g/empty/65536", show("g", "empty", 65_536)),
         ("show//", show("", "", 20_000)),
+        ("tableau/g/[ ]/r", tableau("g", "[ ]", "r", 20_000)),
+        ("tableau/g/=ta/g/8", tableau("g", "=ta", "g", 8)),
+        ("tableau/g/f/8", tableau("g", "f", "8", 20_000)),
     ];
     for (text, command) in cases {
         let words = words(alloc, text)?;
@@ -95,6 +107,9 @@ fn other_words_are_no_command(rt: HostRuntime) -> Result<(), Fail> {
         "show/g/empty/1/1",
         "SHOW/g/empty",
         "draw/g/empty",
+        "tableau/g/empty",
+        "tableau/g/empty/r/1/1",
+        "tableau/g/empty/r/0",
         "generate/g/1/empty",
     ];
     for text in cases {

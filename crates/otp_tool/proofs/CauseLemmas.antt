@@ -1,14 +1,15 @@
 -- Each status has its cause: what stands behind it is read off its outcome.
-use Rattle.std.proofs.Common.{◌≡◌, ◌⊎◌, ◌↔◌, ℕ, List, Option, refl, subst}
+use Rattle.std.proofs.Common.{◌≡◌, ◌⊎◌, inl, inr, ◌↔◌, ℕ, List, refl, subst}
 use Rattle.outside.specs.Faults.{Rose}
 use Rattle.outside.specs.Sent.{appended, HasSentPart}
 use Rattle.timeline_text.specs.declared.form_err.FormErr.{FormErr}
 use Rattle.grammar_reader.specs.declared.grammar_err.GrammarCause.{GrammarCause}
+use Rattle.tableau.specs.declared.rows_err.RowsCause.{RowsCause}
 use Rattle.status_lines.specs.declared.status.Status.{Status}
-use Rattle.status_lines.specs.declared.status.Status.TheVariants.{Done, Usage, GrammarRefused, FormRefused, Budget, ReadFault, WriteFault, NoMemory, TooLong}
+use Rattle.status_lines.specs.declared.status.Status.TheVariants.{Done, Usage, GrammarRefused, FormRefused, Budget, ReadFault, WriteFault, NoMemory, RowsRefused, TooLong}
 use Rattle.command_words.specs.Commands.{IsNoCommand}
-use Rattle.otp_tool.specs.Findings.{long_file, no_grammar, no_form, over_budget, ready}
-use Rattle.otp_tool.specs.Outcomes.{HasReadFault, IsBehind, IsWrittenBehind}
+use Rattle.otp_tool.specs.Findings.{Finding, long_file, long_second, no_grammar, no_form, no_rows, over_budget, ready}
+use Rattle.otp_tool.specs.Outcomes.{HasReadFault, IsBehind, IsTooLong, IsWrittenBehind}
 use Rattle.otp_tool.specs.Steps.{Change, IsOutcome}
 
 module _ (words : List (List ℕ)) (c : Change) (s : Status) (o : IsOutcome words c s) where
@@ -18,16 +19,22 @@ module _ (words : List (List ℕ)) (c : Change) (s : Status) (o : IsOutcome word
   pub done : s ≡ Done → IsWrittenBehind words c.held (λ text. c.taking.new ≡ appended c.taking.old text)
   done e = (at Done e).1
 
-  pub by_reading : (word : ℕ) → s ≡ ReadFault word → (word ≡ 1) × HasReadFault words c.faults_before c.faults_after
-  by_reading word e = let p = at (ReadFault word) e in (p.0, p.1)
+  pub by_reading : (word : ℕ) → s ≡ ReadFault word → HasReadFault words c.held c.faults_before c.faults_after word
+  by_reading word e = (at (ReadFault word) e).0
 
-  pub by_length : (word : ℕ) → s ≡ TooLong word → (word ≡ 1) × IsBehind words c.held long_file
-  by_length word e = let p = at (TooLong word) e in (p.0, p.1)
+  pub by_length : (word : ℕ) → s ≡ TooLong word → IsTooLong words c.held word
+  by_length word e = (at (TooLong word) e).0
 
-  pub by_grammar : (word line : ℕ) (cause : GrammarCause) → s ≡ GrammarRefused word line cause → (word ≡ 1) × IsBehind words c.held (no_grammar line cause)
+  pub by_rows : (word row : ℕ) (cause : RowsCause) → s ≡ RowsRefused word row cause
+      → (word ≡ 3) × IsBehind words c.held (no_rows row cause)
+  by_rows word row cause e = let p = at (RowsRefused word row cause) e in (p.0, p.1)
+
+  pub by_grammar : (word line : ℕ) (cause : GrammarCause) → s ≡ GrammarRefused word line cause
+      → (word ≡ 1) × IsBehind words c.held (no_grammar line cause)
   by_grammar word line cause e = let p = at (GrammarRefused word line cause) e in (p.0, p.1)
 
-  pub by_form : (word : ℕ) (cause : FormErr) → s ≡ FormRefused word cause → (word ≡ 2) × IsBehind words c.held (no_form cause)
+  pub by_form : (word : ℕ) (cause : FormErr) → s ≡ FormRefused word cause
+      → (word ≡ 2) × IsBehind words c.held (no_form cause)
   by_form word cause e = let p = at (FormRefused word cause) e in (p.0, p.1)
 
   pub by_budget : (entry stage : ℕ) → s ≡ Budget entry stage → (entry ≡ 0) × IsBehind words c.held (over_budget stage)
@@ -39,20 +46,31 @@ module _ (words : List (List ℕ)) (c : Change) (s : Status) (o : IsOutcome word
   pub begun : s ≡ WriteFault → IsWrittenBehind words c.held (λ text. HasSentPart c.taking.old text c.taking.new)
   begun e = (at WriteFault e).1
 
-  pub by_memory : s ≡ NoMemory → (c.taking.new ≡ c.taking.old) ⊎ IsWrittenBehind words c.held (λ text. HasSentPart c.taking.old text c.taking.new)
+  pub by_memory : s ≡ NoMemory
+      → (c.taking.new ≡ c.taking.old)
+      ⊎ IsWrittenBehind words c.held (λ text. HasSentPart c.taking.old text c.taking.new)
   by_memory e = (at NoMemory e).1
 
 module _ (words : List (List ℕ)) (c : Change) where
+  -- words that something is behind are a command
+  no_behind : (x : Finding) → IsBehind words c.held x → IsNoCommand words → ⊥
+  no_behind x b n = n b.command b.reads.are
+
+  no_long : (word : ℕ) → IsTooLong words c.held word → IsNoCommand words → ⊥
+  no_long word (inl l) n = no_behind long_file l.1 n
+  no_long word (inr b) n = no_behind (long_second word) b n
+
   only_usage : (s : Status) → IsOutcome words c s → IsNoCommand words → s ≡ Usage
-  only_usage Done o n = absurd (n o.0.command o.0.are)
+  only_usage Done o n = absurd (no_behind ready o.0 n)
   only_usage Usage o n = refl
-  only_usage (GrammarRefused word line cause) o n = absurd (n o.1.command o.1.are)
-  only_usage (FormRefused word cause) o n = absurd (n o.1.command o.1.are)
-  only_usage (Budget entry stage) o n = absurd (n o.1.command o.1.are)
-  only_usage (ReadFault word) o n = absurd (n o.1.command o.1.are)
-  only_usage WriteFault o n = absurd (n o.0.command o.0.are)
+  only_usage (GrammarRefused word line cause) o n = absurd (no_behind (no_grammar line cause) o.1 n)
+  only_usage (FormRefused word cause) o n = absurd (no_behind (no_form cause) o.1 n)
+  only_usage (Budget entry stage) o n = absurd (no_behind (over_budget stage) o.1 n)
+  only_usage (ReadFault word) o n = absurd (n o.0.command o.0.are)
+  only_usage WriteFault o n = absurd (no_behind ready o.0 n)
   only_usage NoMemory o n = absurd (n o.0.0 o.0.1)
-  only_usage (TooLong word) o n = absurd (n o.1.command o.1.are)
+  only_usage (RowsRefused word row cause) o n = absurd (no_behind (no_rows row cause) o.1 n)
+  only_usage (TooLong word) o n = absurd (no_long word o.0 n)
 
   pub by_usage : (s : Status) → IsOutcome words c s → (s ≡ Usage) ↔ IsNoCommand words
   by_usage s o = (λ e. (subst (IsOutcome words c) e o).0, λ n. only_usage s o n)

@@ -1,5 +1,5 @@
 -- Constraints that are seen alike, by their families and sides, have the same stages.
-use Rattle.std.proofs.Common.{◌≡◌, ◌↔◌, ℕ, zero, suc, ◌-◌, ◌<◌, ◌≤◌, ◌&&◌, not, Bool, true, false, cond, List, [], ◌∷◌, length, map, take, filter, Contains, refl, ap, sym, ◌∙◌, subst}
+use Rattle.std.proofs.Common.{◌≡◌, ℕ, zero, suc, ◌-◌, ◌≤◌, ◌&&◌, not, Bool, true, false, cond, List, [], ◌∷◌, length, map, take, filter, refl, ap, sym, ◌∙◌, subst}
 use Rattle.std.proofs.lemmas.List.{length-map}
 use Rattle.tier_core.specs.declared.sym.Sym.{Sym}
 use Rattle.tier_core.specs.declared.constraint.Constraint.{Constraint}
@@ -12,14 +12,15 @@ use Rattle.grammar_reader.specs.Values.{GrammarValue, NamedConstraint}
 use Rattle.violation.specs.Candidates.{IsAtMost, IsCandidate, IsOptimalFor, vec}
 use Rattle.violation.specs.Problems.{Problem}
 use Rattle.violation.specs.Counts.{viol}
-use Rattle.violation.specs.Prefixes.{is_open, kind_of, phase, stretches}
-use Rattle.violation.specs.Stages.{AreKindsOfStage, IsKindOfStage, IsPassed, Passes}
+use Rattle.violation.specs.Prefixes.{is_open, kind_of, phase}
+use Rattle.violation.specs.Stages.{AreKindsOfStage, IsPassed}
 use Rattle.ranked_gen.specs.Budgets.{IsFirstOver, IsOver, IsWithin}
 use Rattle.otp_tool.specs.Grammars.{IsAsked}
 
 -- ---- what is counted and remembered of constraints as they are seen
 
-pub seen_vec : (T : List (List Sym)) (cs : List Constraint) → vec cs T ≡ map (λ n. viol n.family n.left n.right T) (map constraint_seen cs)
+pub seen_vec : (T : List (List Sym)) (cs : List Constraint)
+    → vec cs T ≡ map (λ n. viol n.family n.left n.right T) (map constraint_seen cs)
 seen_vec T [] = refl
 seen_vec T (c ∷ cs) = ap (λ ns. viol c.family c.left c.right T ∷ ns) (seen_vec T cs)
 
@@ -27,19 +28,23 @@ abbrev is_seen_stretch : NamedConstraint → Bool
 is_seen_stretch n = is_implication n.family && not (has_edge_type n.left)
 
 seen_phases : (p : List (List Sym)) (r : ℕ) (cs : List Constraint)
-    → map (λ c. phase c.left c.right p) (filter is_stretch (take r cs)) ≡ map (λ n. phase n.left n.right p) (filter is_seen_stretch (take r (map constraint_seen cs)))
+    → map (λ c. phase c.left c.right p) (filter is_stretch (take r cs))
+    ≡ map (λ n. phase n.left n.right p) (filter is_seen_stretch (take r (map constraint_seen cs)))
 seen_phases p zero cs = refl
 seen_phases p (suc r) [] = refl
 seen_phases p (suc r) (c ∷ cs) = go (is_stretch c) (seen_phases p r cs)
   where
-    go : (b : Bool) → map (λ c. phase c.left c.right p) (filter is_stretch (take r cs)) ≡ map (λ n. phase n.left n.right p) (filter is_seen_stretch (take r (map constraint_seen cs)))
+    go : (b : Bool) → map (λ c. phase c.left c.right p) (filter is_stretch (take r cs))
+        ≡ map (λ n. phase n.left n.right p) (filter is_seen_stretch (take r (map constraint_seen cs)))
         → map (λ c. phase c.left c.right p) (cond b (c ∷ filter is_stretch (take r cs)) (filter is_stretch (take r cs)))
-        ≡ map (λ n. phase n.left n.right p) (cond b (constraint_seen c ∷ filter is_seen_stretch (take r (map constraint_seen cs))) (filter is_seen_stretch (take r (map constraint_seen cs))))
+        ≡ map (λ n. phase n.left n.right p)
+        (cond b (constraint_seen c ∷ filter is_seen_stretch (take r (map constraint_seen cs)))
+        (filter is_seen_stretch (take r (map constraint_seen cs))))
     go true e = ap (λ ps. phase c.left c.right p ∷ ps) e
     go false e = e
 
 -- what is asked by these constraints in place of a problem's own
-abbrev with_constraints : Problem → List Constraint → Problem
+abbrev pub with_constraints : Problem → List Constraint → Problem
 with_constraints problem cs = record { tiers = problem.tiers; constraints = cs; form = problem.form }
 
 module _ (problem : Problem) (cs ds : List Constraint) (alike : map constraint_seen cs ≡ map constraint_seen ds) where
@@ -49,17 +54,20 @@ module _ (problem : Problem) (cs ds : List Constraint) (alike : map constraint_s
   same_vec : (T : List (List Sym)) → vec cs T ≡ vec ds T
   same_vec T = seen_vec T cs ∙ ap (map (λ n. viol n.family n.left n.right T)) alike ∙ sym (seen_vec T ds)
 
-  same_kind : (r : ℕ) (p : List (List Sym)) → kind_of (with_constraints problem cs) r p ≡ kind_of (with_constraints problem ds) r p
+  same_kind : (r : ℕ) (p : List (List Sym))
+      → kind_of (with_constraints problem cs) r p ≡ kind_of (with_constraints problem ds) r p
   same_kind r p =
       let kind : List Phase → PrefixKind = λ ps. record {
         place = length (squeeze (project problem.tiers.input p));
         opened = map (λ t. is_open (word p t)) problem.tiers.free;
         phases = ps;
       } in
-      let seen : List NamedConstraint → List Phase = λ ns. map (λ n. phase n.left n.right p) (filter is_seen_stretch (take r ns)) in
+      let seen : List NamedConstraint
+      → List Phase = λ ns. map (λ n. phase n.left n.right p) (filter is_seen_stretch (take r ns)) in
       ap kind (seen_phases p r cs ∙ ap seen alike ∙ sym (seen_phases p r ds))
 
-  optimal_alike : (r : ℕ) (T : List (List Sym)) → IsOptimalFor (with_constraints problem cs) r T → IsOptimalFor (with_constraints problem ds) r T
+  optimal_alike : (r : ℕ) (T : List (List Sym)) → IsOptimalFor (with_constraints problem cs) r T
+      → IsOptimalFor (with_constraints problem ds) r T
   optimal_alike r T o = record {
     candidate = same T o.candidate;
     least = λ U c.
@@ -67,13 +75,16 @@ module _ (problem : Problem) (cs ds : List Constraint) (alike : map constraint_s
         (subst (λ v. IsAtMost (take r v) (take r (vec cs U))) (same_vec T) (o.least U (back U c)));
   }
     where
-      same : (U : List (List Sym)) → IsCandidate (with_constraints problem cs) U → IsCandidate (with_constraints problem ds) U
+      same : (U : List (List Sym)) → IsCandidate (with_constraints problem cs) U
+          → IsCandidate (with_constraints problem ds) U
       same U c = record { well_formed = c.well_formed; reduced = c.reduced; input = c.input }
 
-      back : (U : List (List Sym)) → IsCandidate (with_constraints problem ds) U → IsCandidate (with_constraints problem cs) U
+      back : (U : List (List Sym)) → IsCandidate (with_constraints problem ds) U
+          → IsCandidate (with_constraints problem cs) U
       back U c = record { well_formed = c.well_formed; reduced = c.reduced; input = c.input }
 
-  passed_alike : (r s : ℕ) (k : PrefixKind) → IsPassed (with_constraints problem cs) r s k → IsPassed (with_constraints problem ds) r s k
+  passed_alike : (r s : ℕ) (k : PrefixKind) → IsPassed (with_constraints problem cs) r s k
+      → IsPassed (with_constraints problem ds) r s k
   passed_alike r s k p = record {
     candidate = p.candidate;
     columns = p.columns;
@@ -84,8 +95,10 @@ module _ (problem : Problem) (cs ds : List Constraint) (alike : map constraint_s
     };
   }
 
-module _ (problem : Problem) (budget : ℕ) (cs ds : List Constraint) (alike : map constraint_seen cs ≡ map constraint_seen ds) where
-  kinds_alike : (r : ℕ) (ks : List PrefixKind) → AreKindsOfStage (with_constraints problem cs) r ks → AreKindsOfStage (with_constraints problem ds) r ks
+module _ (problem : Problem) (budget : ℕ) (cs ds : List Constraint) (alike : map constraint_seen cs
+    ≡ map constraint_seen ds) where
+  kinds_alike : (r : ℕ) (ks : List PrefixKind) → AreKindsOfStage (with_constraints problem cs) r ks
+      → AreKindsOfStage (with_constraints problem ds) r ks
   kinds_alike r ks a = record {
     ascending = a.ascending;
     members = λ k. (
@@ -97,18 +110,23 @@ module _ (problem : Problem) (budget : ℕ) (cs ds : List Constraint) (alike : m
   over_alike : (r : ℕ) → IsOver (with_constraints problem cs) budget r → IsOver (with_constraints problem ds) budget r
   over_alike r o = record { kinds = o.kinds; are = kinds_alike r o.kinds o.are; more = o.more }
 
-within_alike : (problem : Problem) (budget : ℕ) (cs ds : List Constraint) → map constraint_seen cs ≡ map constraint_seen ds → (r : ℕ)
+within_alike : (problem : Problem) (budget : ℕ) (cs ds : List Constraint)
+    → map constraint_seen cs ≡ map constraint_seen ds → (r : ℕ)
     → IsWithin (with_constraints problem cs) budget r → IsWithin (with_constraints problem ds) budget r
 within_alike problem budget cs ds alike r w = λ ks a. w ks (kinds_alike problem budget ds cs (sym alike) r ks a)
 
 -- the first stage over the budget is the same for all problems that a grammar and a word ask
-pub first_over_alike : (g : GrammarValue) (form : List ℕ) (budget : ℕ) (p q : Problem) → IsAsked g form p → IsAsked g form q → p.form ≡ q.form → (r : ℕ)
+pub first_over_alike : (g : GrammarValue) (form : List ℕ) (budget : ℕ) (p q : Problem) → IsAsked g form p
+    → IsAsked g form q → p.form ≡ q.form → (r : ℕ)
     → IsFirstOver p budget r → IsFirstOver q budget r
 first_over_alike g form budget p q a b same r over =
-    let alike : map constraint_seen p.constraints ≡ map constraint_seen q.constraints = a.constraints ∙ sym b.constraints in
-    let ask : Tiers → List (List Sym) → Problem = λ tiers u. record { tiers = tiers; constraints = p.constraints; form = u } in
+    let alike : map constraint_seen p.constraints ≡ map constraint_seen q.constraints = a.constraints
+    ∙ sym b.constraints in
+    let ask : Tiers → List (List Sym)
+    → Problem = λ tiers u. record { tiers = tiers; constraints = p.constraints; form = u } in
     let o : IsFirstOver (ask q.tiers q.form) budget r =
-    subst (λ u. IsFirstOver (ask q.tiers u) budget r) same (subst (λ tiers. IsFirstOver (ask tiers p.form) budget r) (a.tiers ∙ sym b.tiers) over) in
+    subst (λ u. IsFirstOver (ask q.tiers u) budget r) same
+    (subst (λ tiers. IsFirstOver (ask tiers p.form) budget r) (a.tiers ∙ sym b.tiers) over) in
     record {
       stage = subst (λ n. r ≤ n) (same_length q p.constraints q.constraints alike) o.stage;
       over = over_alike q budget p.constraints q.constraints alike r o.over;

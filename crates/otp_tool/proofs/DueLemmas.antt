@@ -1,33 +1,32 @@
 -- Where the shelf tells, each finding has its status.
-use Rattle.std.proofs.Common.{◌≡◌, ◌⊎◌, inl, inr, ℕ, List, Option, Some, refl, ap, sym, ◌∙◌, subst}
+use Rattle.std.proofs.Common.{◌≡◌, ◌⊎◌, inl, inr, ℕ, List, Option, refl, ap, sym, ◌∙◌, subst}
 use Rattle.outside.specs.Faults.{Rose}
-use Rattle.timeline_text.specs.declared.form_err.FormErr.{FormErr}
-use Rattle.grammar_reader.specs.declared.grammar_err.GrammarCause.{GrammarCause}
 use Rattle.status_lines.specs.declared.status.Status.{Status}
-use Rattle.status_lines.specs.declared.status.Status.TheVariants.{Done, Usage, GrammarRefused, FormRefused, Budget, ReadFault, WriteFault, NoMemory, TooLong}
-use Rattle.command_words.specs.Commands.{Command, IsNoCommand, grammar_of as file_of}
+use Rattle.status_lines.specs.declared.status.Status.TheVariants.{Done, Usage, GrammarRefused, FormRefused, Budget, ReadFault, WriteFault, NoMemory, RowsRefused, TooLong}
+use Rattle.command_words.specs.Commands.{Command, IsNoCommand}
 use Rattle.command_words.proofs.CommandLemmas.{one_command}
-use Rattle.otp_tool.specs.Grammars.{IsHeld}
-use Rattle.otp_tool.specs.Findings.{Finding, Finds, long_file, no_grammar, no_form, over_budget, ready}
-use Rattle.otp_tool.specs.Outcomes.{HasReadFault, IsBeforeWriting, IsBehind, IsTold, Stands, answer_to}
+use Rattle.otp_tool.specs.Findings.{Finding, Finds, long_file, no_grammar, no_form, long_second, no_rows, over_budget, ready}
+use Rattle.otp_tool.specs.Outcomes.{HasReadFault, IsBeforeWriting, IsBehind, IsTold, IsTooLong, MayRead, Stands, answer_to}
 use Rattle.otp_tool.specs.Steps.{Change, IsOutcome}
 use Rattle.otp_tool.proofs.FindingLemmas.{one_finding}
 
 -- what is found is what is told
-same : (words : List (List ℕ)) (held : List ℕ → Option (List ℕ)) (x y : Finding) → IsTold words held x → IsBehind words held y → y ≡ x
+same : (words : List (List ℕ)) (held : List ℕ → Option (List ℕ)) (x y : Finding) → IsTold words held x
+    → IsBehind words held y → y ≡ x
 same words held x y t b =
-    let command : b.command ≡ t.command = one_command words b.command t.command b.are t.are in
-    let told : held (file_of b.command) ≡ Some t.bytes = ap (λ (k : Command). held (file_of k)) command ∙ t.told in
-    let bytes : b.bytes ≡ t.bytes = subst (λ (o : Option (List ℕ)). IsHeld o b.bytes) told b.holds in
-    one_finding t.command t.bytes y x
-    (subst (λ (text : List ℕ). Finds t.command text y) bytes (subst (λ (k : Command). Finds k b.bytes y) command b.finds))
-    t.finds
+    let command : b.command ≡ t.command = one_command words b.command t.command b.reads.are t.are in
+    let reads = subst (λ (k : Command). MayRead words held k b.bytes b.second) command b.reads in
+    one_finding t.command b.bytes b.second y x
+    (subst (λ (k : Command). Finds k b.bytes b.second y) command b.finds)
+    (t.finds b.bytes b.second reads)
 
 -- whether a finding is that nothing is refused
 abbrev IsReady : Finding → Type 0
 IsReady long_file = ⊥
 IsReady (no_grammar line cause) = ⊥
 IsReady (no_form cause) = ⊥
+IsReady (long_second word) = ⊥
+IsReady (no_rows row cause) = ⊥
 IsReady (over_budget stage) = ⊥
 IsReady ready = Unit {0}
 
@@ -35,33 +34,49 @@ module _ (words : List (List ℕ)) (c : Change) where
   no_usage : (x : Finding) → IsTold words c.held x → IsNoCommand words → ⊥
   no_usage x t u = u t.command t.are
 
-  pub due : (s : Status) → IsOutcome words c s → (x : Finding) → (x ≡ ready → ⊥) → IsTold words c.held x → Stands (answer_to x) s
+  due_long : (word : ℕ) → IsTooLong words c.held word → (x : Finding) → IsTold words c.held x
+      → TooLong word ≡ answer_to x
+  due_long word (inl l) x t = ap TooLong l.0 ∙ ap answer_to (same words c.held x long_file t l.1)
+  due_long word (inr b) x t = ap answer_to (same words c.held x (long_second word) t b)
+
+  pub due : (s : Status) → IsOutcome words c s → (x : Finding) → (x ≡ ready → ⊥) → IsTold words c.held x
+      → Stands (answer_to x) s
   due Done o x n t = absurd (n (sym (same words c.held x ready t o.0)))
   due Usage o x n t = absurd (no_usage x t o.0)
   due (GrammarRefused word line cause) o x n t =
-      inl (ap (λ (w : ℕ). GrammarRefused w line cause) o.0 ∙ ap answer_to (same words c.held x (no_grammar line cause) t o.1))
+      inl (ap (λ (w : ℕ). GrammarRefused w line cause) o.0
+      ∙ ap answer_to (same words c.held x (no_grammar line cause) t o.1))
   due (FormRefused word cause) o x n t =
       inl (ap (λ (w : ℕ). FormRefused w cause) o.0 ∙ ap answer_to (same words c.held x (no_form cause) t o.1))
   due (Budget entry stage) o x n t =
       inl (ap (λ (e : ℕ). Budget e stage) o.0 ∙ ap answer_to (same words c.held x (over_budget stage) t o.1))
-  due (ReadFault word) o x n t = inr (inr (ap ReadFault o.0))
+  due (ReadFault word) o x n t = inr (inr (word, refl))
   due WriteFault o x n t = absurd (n (sym (same words c.held x ready t o.0)))
   due NoMemory o x n t = inr (inl refl)
-  due (TooLong word) o x n t = inl (ap TooLong o.0 ∙ ap answer_to (same words c.held x long_file t o.1))
+  due (RowsRefused word row cause) o x n t =
+      inl (ap (λ (w : ℕ). RowsRefused w row cause) o.0 ∙ ap answer_to (same words c.held x (no_rows row cause) t o.1))
+  due (TooLong word) o x n t = inl (due_long word o.0 x t)
 
   not_ready : (x : Finding) → IsTold words c.held ready → IsBehind words c.held x → IsReady x
   not_ready x t b = subst IsReady (sym (same words c.held ready x t b)) tt
 
-  pub complete : (s : Status) → IsOutcome words c s → IsTold words c.held ready → (HasReadFault words c.faults_before c.faults_after → ⊥) → (Rose c.taking.before c.taking.after → ⊥) → (s ≡ Done) ⊎ (s ≡ NoMemory)
+  not_long : (word : ℕ) → IsTold words c.held ready → IsTooLong words c.held word → ⊥
+  not_long word t (inl l) = absurd (not_ready long_file t l.1)
+  not_long word t (inr b) = absurd (not_ready (long_second word) t b)
+
+  pub complete : (s : Status) → IsOutcome words c s → IsTold words c.held ready
+      → ((word : ℕ) → HasReadFault words c.held c.faults_before c.faults_after word → ⊥)
+      → (Rose c.taking.before c.taking.after → ⊥) → (s ≡ Done) ⊎ (s ≡ NoMemory)
   complete Done o t r w = inl refl
   complete Usage o t r w = absurd (no_usage ready t o.0)
   complete (GrammarRefused word line cause) o t r w = absurd (not_ready (no_grammar line cause) t o.1)
   complete (FormRefused word cause) o t r w = absurd (not_ready (no_form cause) t o.1)
   complete (Budget entry stage) o t r w = absurd (not_ready (over_budget stage) t o.1)
-  complete (ReadFault word) o t r w = absurd (r o.1)
+  complete (ReadFault word) o t r w = absurd (r word o.0)
   complete WriteFault o t r w = absurd (w o.2)
   complete NoMemory o t r w = inr refl
-  complete (TooLong word) o t r w = absurd (not_ready long_file t o.1)
+  complete (RowsRefused word row cause) o t r w = absurd (not_ready (no_rows row cause) t o.1)
+  complete (TooLong word) o t r w = absurd (not_long word t o.0)
 
   pub untouched : (s : Status) → IsOutcome words c s → IsBeforeWriting s → c.taking.new ≡ c.taking.old
   untouched Done o b = absurd b
@@ -69,7 +84,8 @@ module _ (words : List (List ℕ)) (c : Change) where
   untouched (GrammarRefused word line cause) o b = o.2
   untouched (FormRefused word cause) o b = o.2
   untouched (Budget entry stage) o b = o.2
-  untouched (ReadFault word) o b = o.2
+  untouched (ReadFault word) o b = o.1
   untouched WriteFault o b = absurd b
   untouched NoMemory o b = absurd b
-  untouched (TooLong word) o b = o.2
+  untouched (RowsRefused word row cause) o b = o.2
+  untouched (TooLong word) o b = o.1

@@ -9,7 +9,8 @@ use Rattle.grammar_reader.proofs.Shaping.{kinds_back}
 use Rattle.otp_tool.specs.Grammars.{kinds_of, tiers_of}
 
 pub same_kinds : (g : Grammar) → kinds_of (value_of g) ≡ g.tiers.kinds.items
-same_kinds g = kinds_back (map string_bytes g.tiers.names.items) g.tiers.kinds.items (length-map g.tiers.names.items string_bytes ∙ g.tiers.one_length)
+same_kinds g = kinds_back (map string_bytes g.tiers.names.items) g.tiers.kinds.items
+    (length-map g.tiers.names.items string_bytes ∙ g.tiers.one_length)
 
 pub same_tiers : (g : Grammar) → tiers_of (value_of g) ≡ tiers_of_table g.tiers
 same_tiers g = ap tiers_by_kinds (same_kinds g)

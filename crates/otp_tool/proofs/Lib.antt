@@ -1,7 +1,10 @@
 mod GrammarLemmas
 mod ConstraintLemmas
+mod RowsAlike
 mod FindingLemmas
 mod StepLemmas
 mod OutcomeLemmas
+mod RefusalLemmas
+mod TableauLemmas
 mod CauseLemmas
 mod DueLemmas

@@ -1,15 +1,17 @@
 -- From the steps of a command to what stands behind its status.
-use Rattle.std.proofs.Common.{◌≡◌, ◌⊎◌, inl, inr, ℕ, zero, suc, ◌+◌, ◌<◌, List, [], ◌∷◌, length, Option, Some, None, IfSome, refl, sym, subst, arith}
+use Rattle.std.proofs.Common.{◌≡◌, ◌⊎◌, inl, inr, ℕ, zero, suc, ◌<◌, ◌≤◌, List, [], ◌∷◌, length, Option, Some, None, IfSome, refl, sym, subst, arith}
+use Rattle.outside.specs.Faults.{Rose}
 use Rattle.outside.specs.Sent.{appended, HasSentPart}
 use Rattle.status_lines.specs.declared.status.Status.{Status}
-use Rattle.status_lines.specs.declared.status.Status.TheVariants.{Done, Usage, GrammarRefused, FormRefused, Budget, ReadFault, WriteFault, NoMemory, TooLong}
+use Rattle.status_lines.specs.declared.status.Status.TheVariants.{Done, Usage, GrammarRefused, FormRefused, Budget, ReadFault, WriteFault, NoMemory, RowsRefused, TooLong}
 use Rattle.grammar_reader.specs.Values.{GrammarValue}
 use Rattle.command_words.specs.Commands.{Command, IsCommand, grammar_of as file_of}
-use Rattle.otp_tool.specs.Grammars.{IsHeld, OnGrammar}
-use Rattle.otp_tool.specs.Findings.{Finding, FindsIn, Finds, long_file, no_grammar, no_form, over_budget, ready}
+use Rattle.otp_tool.specs.Files.{IsHeld, IsSecondHeld, NamedFile, grammar_file, second_file}
+use Rattle.otp_tool.specs.Grammars.{OnGrammar}
+use Rattle.otp_tool.specs.Findings.{Finding, FindsIn, Finds, Reaches, long_file, no_grammar, no_form, long_second, no_rows, over_budget, ready}
 use Rattle.otp_tool.specs.Results.{IsResult}
-use Rattle.otp_tool.specs.Outcomes.{IsBehind, IsWrittenBehind}
-use Rattle.otp_tool.specs.Steps.{Change, IsAllTaken, IsEnd, IsLoadRefusal, IsLoaded, IsOutcome, IsPartTaken, IsRefusal, IsStep}
+use Rattle.otp_tool.specs.Outcomes.{IsBehind, IsWrittenBehind, MayRead}
+use Rattle.otp_tool.specs.Steps.{Change, IsEnd, IsLoadRefusal, IsLoaded, IsNotRead, IsOutcome, IsPartTaken, IsRefusal, IsStep, IsWork, IsWorkOf}
 
 -- so many bytes
 abbrev zeros : ℕ → List ℕ
@@ -20,94 +22,208 @@ length_zeros : (n : ℕ) → length (zeros n) ≡ n
 length_zeros zero = refl
 length_zeros (suc n) = let e = length_zeros n in omega (arith, e)
 
-many : 65536 < length (zeros 65537)
-many = subst (λ (n : ℕ). 65536 < n) (sym (length_zeros 65537)) (omega arith)
-
 -- bytes that may be held, and are too long
-record IsLong (held : Option (List ℕ)) : Type 0 where
-  bytes : List ℕ
-  holds : IsHeld held bytes
-  long : 65536 < length bytes
+pub record IsLong (held : Option (List ℕ)) (limit : ℕ) : Type 0 where
+  pub bytes : List ℕ
+  pub holds : IsHeld held bytes
+  pub long : limit < length bytes
 
-long_held : (held : Option (List ℕ)) → IfSome held (λ text. 65536 < length text) → IsLong held
-long_held None l = record { bytes = zeros 65537; holds = tt; long = many }
-long_held (Some text) l = record { bytes = text; holds = refl; long = l }
+pub long_held : (held : Option (List ℕ)) (limit : ℕ) → IfSome held (λ text. limit < length text) → IsLong held limit
+long_held None limit l = record {
+  bytes = zeros (suc limit);
+  holds = tt;
+  long = subst (λ (n : ℕ). limit < n) (sym (length_zeros (suc limit))) (omega arith);
+}
+long_held (Some text) limit l = record { bytes = text; holds = refl; long = l }
+
+-- some bytes that may be held
+pub some_held : (held : Option (List ℕ)) → (bytes : List ℕ) × IsHeld held bytes
+some_held None = ([], tt)
+some_held (Some text) = (text, refl)
+
+pub some_second : (held : List ℕ → Option (List ℕ)) (second : Option NamedFile)
+    → (bytes : List ℕ) × IsSecondHeld held second bytes
+some_second held None = ([], tt)
+some_second held (Some file) = some_held (held file.name)
+
+-- ---- a shelf that has loaded one file before
+
+pub rose_before : (a b c : ℕ) → a ≤ b → Rose b c → Rose a c
+rose_before a b c l r = omega (arith, l, r)
+
+held_before : (now old : Option (List ℕ)) (bytes : List ℕ) → now ≡ old → IsHeld now bytes → IsHeld old bytes
+held_before now old bytes e h = subst (λ (o : Option (List ℕ)). IsHeld o bytes) e h
+
+second_before : (now old : List ℕ → Option (List ℕ)) → ((name : List ℕ) → now name ≡ old name)
+    → (second : Option NamedFile) (bytes : List ℕ)
+    → IsSecondHeld now second bytes → IsSecondHeld old second bytes
+second_before now old e None bytes h = tt
+second_before now old e (Some file) bytes h = held_before (now file.name) (old file.name) bytes (e file.name) h
+
+-- the work of a command, from before the load of its grammar on
+module _ (held : List ℕ → Option (List ℕ)) (before : List ℕ → ℕ) (c : Change) (same : (name : List ℕ)
+    → c.held name ≡ held name) (less : (name : List ℕ) → before name ≤ c.faults_before name) where
+  abbrev earlier : Change
+  earlier = record { held = held; faults_before = before; faults_after = c.faults_after; taking = c.taking }
+
+  pub work_before : (second : Option NamedFile) (reaches : Type 0) (finds : List ℕ → Finding → Type 0) (writes : List ℕ
+      → List ℕ → Type 0) (s : Status)
+      → IsWork second reaches finds writes c s → IsWork second reaches finds writes earlier s
+  work_before second reaches finds writes s (inl n) = inl (record {
+    file = n.file;
+    is_second = n.is_second;
+    reached = n.reached;
+    rose = rose_before (before n.file.name) (c.faults_before n.file.name) (c.faults_after n.file.name)
+        (less n.file.name) n.rose;
+    answer = n.answer;
+    untouched = n.untouched;
+  })
+  work_before second reaches finds writes s (inr w) = inr (record {
+    bytes = w.bytes;
+    holds = second_before c.held held same second w.bytes w.holds;
+    step = w.step;
+  })
 
 module _ (words : List (List ℕ)) (c : Change) (command : Command) (are : IsCommand words command) where
   -- ---- from loading
 
-  pub by_load : c.taking.new ≡ c.taking.old → (s : Status) → IsLoadRefusal (c.held (file_of command)) (c.faults_before (file_of command)) (c.faults_after (file_of command)) s → IsOutcome words c s
+  -- before a second file is loaded
+  found_first : (x : Finding) (bytes : List ℕ) → IsHeld (c.held (file_of command)) bytes
+      → ((second : List ℕ) → Finds command bytes second x) → IsBehind words c.held x
+  found_first x bytes h f =
+      let s = some_second c.held (second_file command) in record {
+        command = command;
+        bytes = bytes;
+        second = s.0;
+        reads = record { are = are; holds = h; holds_second = s.1 };
+        finds = f s.0;
+      }
+
+  pub by_load : c.taking.new ≡ c.taking.old → (s : Status)
+      → IsLoadRefusal (c.held (file_of command)) (c.faults_before (file_of command))
+      (c.faults_after (file_of command)) s → IsOutcome words c s
   by_load t Done r = absurd r
   by_load t Usage r = absurd r
   by_load t (GrammarRefused word line cause) r = (
     r.0,
-    record { command = command; bytes = r.1.bytes; are = are; holds = r.1.holds; finds = (r.1.within, r.1.refused) },
+    found_first (no_grammar line cause) r.1.bytes r.1.holds (λ second. (r.1.within, r.1.refused)),
     t,
   )
   by_load t (FormRefused word cause) r = absurd r
   by_load t (Budget entry stage) r = absurd r
-  by_load t (ReadFault word) r = (r.0, record { command = command; are = are; rose = r.1 }, t)
+  by_load t (ReadFault word) r = (
+    record {
+      command = command;
+      are = are;
+      file = grammar_file command;
+      loads = inl refl;
+      by_word = r.0;
+      rose = r.1;
+    },
+    t,
+  )
   by_load t WriteFault r = absurd r
   by_load t NoMemory r = ((command, are), inl t)
+  by_load t (RowsRefused word row cause) r = absurd r
   by_load t (TooLong word) r =
-      let l = long_held (c.held (file_of command)) r.1 in
-      (r.0, record { command = command; bytes = l.bytes; are = are; holds = l.holds; finds = l.long }, t)
+      let l = long_held (c.held (file_of command)) 65536 r.1 in
+      (inl (r.0, found_first long_file l.bytes l.holds (λ second. l.long)), t)
 
   module _ (g : GrammarValue) (l : IsLoaded (c.held (file_of command)) g) where
     on : (P : GrammarValue → Type 0) → P g → OnGrammar P l.bytes
     on P p = record { grammar = g; file = l.file; fact = p }
 
-    behind : (x : Finding) → Finds command l.bytes x → IsBehind words c.held x
-    behind x f = record { command = command; bytes = l.bytes; are = are; holds = l.holds; finds = f }
+    module _ (second : List ℕ) (holds : IsSecondHeld c.held (second_file command) second) where
+      reads : MayRead words c.held command l.bytes second
+      reads = record { are = are; holds = l.holds; holds_second = holds }
 
-    is_ready : FindsIn command g ready → IsBehind words c.held ready
-    is_ready f = behind ready (on (λ h. FindsIn command h ready) f)
+      behind : (x : Finding) → Finds command l.bytes second x → IsBehind words c.held x
+      behind x f = record { command = command; bytes = l.bytes; second = second; reads = reads; finds = f }
 
-    -- ---- from a refusal
+      is_ready : FindsIn command g second ready → IsBehind words c.held ready
+      is_ready f = behind ready (on (λ h. FindsIn command h second ready) f)
 
-    by_refusal : c.taking.new ≡ c.taking.old → (s : Status) → IsRefusal (FindsIn command g) s → IsOutcome words c s
-    by_refusal t Done r = absurd r
-    by_refusal t Usage r = absurd r
-    by_refusal t (GrammarRefused word line cause) r = absurd r
-    by_refusal t (FormRefused word cause) r = (r.0, behind (no_form cause) (on (λ h. FindsIn command h (no_form cause)) r.1), t)
-    by_refusal t (Budget entry stage) r = (r.0, behind (over_budget stage) (on (λ h. FindsIn command h (over_budget stage)) r.1), t)
-    by_refusal t (ReadFault word) r = absurd r
-    by_refusal t WriteFault r = absurd r
-    by_refusal t NoMemory r = ((command, are), inl t)
-    by_refusal t (TooLong word) r = absurd r
+      -- ---- from a refusal
 
-    -- ---- from writing
+      by_refusal : c.taking.new ≡ c.taking.old → (s : Status) → IsRefusal (FindsIn command g second) s
+          → IsOutcome words c s
+      by_refusal t Done r = absurd r
+      by_refusal t Usage r = absurd r
+      by_refusal t (GrammarRefused word line cause) r = absurd r
+      by_refusal t (FormRefused word cause) r =
+          (r.0, behind (no_form cause) (on (λ h. FindsIn command h second (no_form cause)) r.1), t)
+      by_refusal t (Budget entry stage) r =
+          (r.0, behind (over_budget stage) (on (λ h. FindsIn command h second (over_budget stage)) r.1), t)
+      by_refusal t (ReadFault word) r = absurd r
+      by_refusal t WriteFault r = absurd r
+      by_refusal t NoMemory r = ((command, are), inl t)
+      by_refusal t (RowsRefused word row cause) r =
+          (r.0, behind (no_rows row cause) (on (λ h. FindsIn command h second (no_rows row cause)) r.1), t)
+      by_refusal t (TooLong word) r =
+          (inr (behind (long_second word) (on (λ h. FindsIn command h second (long_second word)) r)), t)
 
-    written : (P : List ℕ → Type 0) (text : List ℕ) → IsResult command g text → P text → IsWrittenBehind words c.held P
-    written P text r p = record {
-      command = command;
-      bytes = l.bytes;
-      are = are;
-      holds = l.holds;
-      text = text;
-      result = on (λ h. IsResult command h text) r;
-      fact = p;
-    }
+      -- ---- from writing
 
-    part : IsPartTaken (IsResult command g) c.taking → IsWrittenBehind words c.held (λ text. HasSentPart c.taking.old text c.taking.new)
-    part p = written (λ text. HasSentPart c.taking.old text c.taking.new) p.text p.is p.part
+      written : (P : List ℕ → Type 0) (text : List ℕ) → IsResult command g second text → P text
+          → IsWrittenBehind words c.held P
+      written P text r p = record {
+        command = command;
+        bytes = l.bytes;
+        second = second;
+        reads = reads;
+        text = text;
+        result = on (λ h. IsResult command h second text) r;
+        fact = p;
+      }
 
-    memory : (c.taking.new ≡ c.taking.old) ⊎ IsPartTaken (IsResult command g) c.taking
-        → (c.taking.new ≡ c.taking.old) ⊎ IsWrittenBehind words c.held (λ text. HasSentPart c.taking.old text c.taking.new)
-    memory (inl e) = inl e
-    memory (inr p) = inr (part p)
+      part : IsPartTaken (IsResult command g second) c.taking
+          → IsWrittenBehind words c.held (λ text. HasSentPart c.taking.old text c.taking.new)
+      part p = written (λ text. HasSentPart c.taking.old text c.taking.new) p.text p.is p.part
 
-    by_end : FindsIn command g ready → (s : Status) → IsEnd (IsResult command g) c.taking s → IsOutcome words c s
-    by_end f Done e = (is_ready f, written (λ text. c.taking.new ≡ appended c.taking.old text) e.text e.is e.taken)
-    by_end f Usage e = absurd e
-    by_end f (GrammarRefused word line cause) e = absurd e
-    by_end f (FormRefused word cause) e = absurd e
-    by_end f (Budget entry stage) e = absurd e
-    by_end f (ReadFault word) e = absurd e
-    by_end f WriteFault e = (is_ready f, part e.0, e.1)
-    by_end f NoMemory e = ((command, are), memory e)
-    by_end f (TooLong word) e = absurd e
+      memory : (c.taking.new ≡ c.taking.old) ⊎ IsPartTaken (IsResult command g second) c.taking
+          → (c.taking.new ≡ c.taking.old)
+          ⊎ IsWrittenBehind words c.held (λ text. HasSentPart c.taking.old text c.taking.new)
+      memory (inl e) = inl e
+      memory (inr p) = inr (part p)
 
-    pub by_step : (s : Status) → IsStep (FindsIn command g) (IsResult command g) c.taking s → IsOutcome words c s
-    by_step s (inl r) = by_refusal r.1 s r.0
-    by_step s (inr e) = by_end e.0 s e.1
+      by_end : FindsIn command g second ready → (s : Status) → IsEnd (IsResult command g second) c.taking s
+          → IsOutcome words c s
+      by_end f Done e = (is_ready f, written (λ text. c.taking.new ≡ appended c.taking.old text) e.text e.is e.taken)
+      by_end f Usage e = absurd e
+      by_end f (GrammarRefused word line cause) e = absurd e
+      by_end f (FormRefused word cause) e = absurd e
+      by_end f (Budget entry stage) e = absurd e
+      by_end f (ReadFault word) e = absurd e
+      by_end f WriteFault e = (is_ready f, part e.0, e.1)
+      by_end f NoMemory e = ((command, are), memory e)
+      by_end f (RowsRefused word row cause) e = absurd e
+      by_end f (TooLong word) e = absurd e
+
+      by_step : (s : Status) → IsStep (FindsIn command g second) (IsResult command g second) c.taking s
+          → IsOutcome words c s
+      by_step s (inl r) = by_refusal r.1 s r.0
+      by_step s (inr e) = by_end e.0 s e.1
+
+    -- ---- from a second file
+
+    unread : (s : Status) → IsNotRead (second_file command) (Reaches command g) c s → IsOutcome words c s
+    unread s n =
+        subst (IsOutcome words c) (sym n.answer) (
+          record {
+            command = command;
+            are = are;
+            file = n.file;
+            loads = inr (
+              n.is_second,
+              record
+                  { bytes = l.bytes; holds = l.holds; accepts = on (Reaches command) n.reached },
+            );
+            by_word = refl;
+            rose = n.rose;
+          },
+          n.untouched,
+        )
+
+    pub by_work : (s : Status) → IsWorkOf command g c s → IsOutcome words c s
+    by_work s (inl n) = unread s n
+    by_work s (inr w) = by_step w.bytes w.holds s w.step

@@ -1,16 +1,19 @@
 -- What a command finds, from the file of its grammar on, before it writes.
 use Rattle.std.specs.Prelude.{◌≡◌, ℕ, ◌<◌, ◌≤◌, List, length, Err}
+use Rattle.std.specs.Str.Lines.{lines}
 use Rattle.tier_core.specs.declared.sym.Sym.{Sym}
 use Rattle.timeline_text.specs.declared.form_err.FormErr.{FormErr}
 use Rattle.grammar_reader.specs.declared.grammar_err.GrammarCause.{GrammarCause}
 use Rattle.grammar_reader.specs.Values.{GrammarValue}
 use Rattle.grammar_reader.specs.Reading.{grammar_of}
 use Rattle.ranked_gen.specs.Budgets.{AreAllWithin, IsFirstOver}
-use Rattle.command_words.specs.Commands.{Command, canon, score, generate, show}
-use Rattle.form_reader.specs.Forms.{IsRefusedFor}
+use Rattle.tableau.specs.declared.rows_err.RowsCause.{RowsCause}
+use Rattle.tableau.specs.Rows.{AreRowsOf, IsRefusedAt}
+use Rattle.command_words.specs.Commands.{Command, canon, score, generate, show, tableau}
+use Rattle.form_reader.specs.Forms.{IsReadAs, IsRefusedFor}
 use Rattle.violation.specs.Problems.{Problem}
 use Rattle.otp_tool.specs.Scored.{IsNotScored, IsScored}
-use Rattle.otp_tool.specs.Grammars.{IsAsked, OnGrammar, input_count}
+use Rattle.otp_tool.specs.Grammars.{IsAsked, OnGrammar, OnProblem, input_count}
 
 pub data Finding : Type 0 where
   -- the file of the grammar is longer than its limit
@@ -19,6 +22,10 @@ pub data Finding : Type 0 where
   no_grammar : ℕ → GrammarCause → Finding
   -- the word of the form, or of the timeline, is refused for a cause
   no_form : FormErr → Finding
+  -- the second file, which this word names, is longer than its limit
+  long_second : ℕ → Finding
+  -- the second file is no rows file: its first line that has a cause, and the cause
+  no_rows : ℕ → RowsCause → Finding
   -- this stage is the first that has more kinds than the budget
   over_budget : ℕ → Finding
   -- nothing is refused
@@ -36,11 +43,28 @@ pub record IsWithinBudget (g : GrammarValue) (form : List ℕ) (budget : ℕ) : 
   pub is_asked : IsAsked g form problem
   pub within : AreAllWithin problem budget
 
+-- the word is read as a form
+abbrev pub HasForm : GrammarValue → List ℕ → Type 0
+HasForm g word = (u : List (List Sym)) × IsReadAs (input_count g) g.letters word u
+
+-- bytes are those of a rows file for a problem
+pub record IsRowsFile (bytes : List ℕ) (problem : Problem) : Type 0 where
+  pub within : length bytes ≤ 4194304
+  pub rows : List (List (List Sym))
+  pub are : AreRowsOf problem (lines bytes) rows
+
+-- they are not: this line is the first that has a cause
+pub record IsNoRowsFile (bytes : List ℕ) (row : ℕ) (cause : RowsCause) (problem : Problem) : Type 0 where
+  pub within : length bytes ≤ 4194304
+  pub refused : IsRefusedAt problem (lines bytes) row cause
+
 -- what `canon` finds in a grammar
 abbrev pub FindsForCanon : Finding → Type 0
 FindsForCanon long_file = ⊥
 FindsForCanon (no_grammar line cause) = ⊥
 FindsForCanon (no_form cause) = ⊥
+FindsForCanon (long_second word) = ⊥
+FindsForCanon (no_rows row cause) = ⊥
 FindsForCanon (over_budget stage) = ⊥
 FindsForCanon ready = Unit {0}
 
@@ -49,28 +73,56 @@ abbrev pub FindsForScore : GrammarValue → List ℕ → Finding → Type 0
 FindsForScore g word long_file = ⊥
 FindsForScore g word (no_grammar line cause) = ⊥
 FindsForScore g word (no_form cause) = IsNotScored (length g.tiers) word cause
+FindsForScore g word (long_second number) = ⊥
+FindsForScore g word (no_rows row cause) = ⊥
 FindsForScore g word (over_budget stage) = ⊥
 FindsForScore g word ready = (T : List (List Sym)) × IsScored (length g.tiers) word T
 
--- What `generate` and `show` find in a grammar, a form's word and a budget.
+-- what `generate` and `show` find in a grammar, a form's word and a budget
 abbrev pub FindsForAnswer : GrammarValue → List ℕ → ℕ → Finding → Type 0
 FindsForAnswer g form budget long_file = ⊥
 FindsForAnswer g form budget (no_grammar line cause) = ⊥
 FindsForAnswer g form budget (no_form cause) = IsRefusedFor (input_count g) g.letters form cause
+FindsForAnswer g form budget (long_second word) = ⊥
+FindsForAnswer g form budget (no_rows row cause) = ⊥
 FindsForAnswer g form budget (over_budget stage) = IsOverBudget g form budget stage
 FindsForAnswer g form budget ready = IsWithinBudget g form budget
 
--- what a command finds in its grammar
-abbrev pub FindsIn : Command → GrammarValue → Finding → Type 0
-FindsIn (canon name) g finding = FindsForCanon finding
-FindsIn (score name word) g finding = FindsForScore g word finding
-FindsIn (generate name form budget) g finding = FindsForAnswer g form budget finding
-FindsIn (show name form budget) g finding = FindsForAnswer g form budget finding
+-- what `tableau` finds in a grammar, a form's word, a budget and the bytes of a rows file
+abbrev pub FindsForTableau : GrammarValue → List ℕ → ℕ → List ℕ → Finding → Type 0
+FindsForTableau g form budget bytes long_file = ⊥
+FindsForTableau g form budget bytes (no_grammar line cause) = ⊥
+FindsForTableau g form budget bytes (no_form cause) = IsRefusedFor (input_count g) g.letters form cause
+FindsForTableau g form budget bytes (long_second word) = (word ≡ 3) × (HasForm g form × (4194304 < length bytes))
+FindsForTableau g form budget bytes (no_rows row cause) = OnProblem (IsNoRowsFile bytes row cause) g form
+FindsForTableau g form budget bytes (over_budget stage) =
+    OnProblem (λ problem. IsRowsFile bytes problem × IsFirstOver problem budget stage) g form
+FindsForTableau g form budget bytes ready =
+    OnProblem (λ problem. IsRowsFile bytes problem × AreAllWithin problem budget) g form
 
--- what a command finds, where these are the bytes of its grammar's file
-abbrev pub Finds : Command → List ℕ → Finding → Type 0
-Finds command bytes long_file = 65536 < length bytes
-Finds command bytes (no_grammar line cause) = (length bytes ≤ 65536) × (grammar_of bytes ≡ Err (record { line = line; cause = cause }))
-Finds command bytes (no_form cause) = OnGrammar (λ g. FindsIn command g (no_form cause)) bytes
-Finds command bytes (over_budget stage) = OnGrammar (λ g. FindsIn command g (over_budget stage)) bytes
-Finds command bytes ready = OnGrammar (λ g. FindsIn command g ready) bytes
+-- what a command finds in its grammar, where these are the bytes of its second file
+abbrev pub FindsIn : Command → GrammarValue → List ℕ → Finding → Type 0
+FindsIn (canon name) g second finding = FindsForCanon finding
+FindsIn (score name word) g second finding = FindsForScore g word finding
+FindsIn (generate name form budget) g second finding = FindsForAnswer g form budget finding
+FindsIn (show name form budget) g second finding = FindsForAnswer g form budget finding
+FindsIn (tableau name form rows budget) g second finding = FindsForTableau g form budget second finding
+
+-- what a command finds, where these are the bytes of its grammar's file and of its second file
+abbrev pub Finds : Command → List ℕ → List ℕ → Finding → Type 0
+Finds command bytes second long_file = 65536 < length bytes
+Finds command bytes second (no_grammar line cause) =
+    (length bytes ≤ 65536) × (grammar_of bytes ≡ Err (record { line = line; cause = cause }))
+Finds command bytes second (no_form cause) = OnGrammar (λ g. FindsIn command g second (no_form cause)) bytes
+Finds command bytes second (long_second word) = OnGrammar (λ g. FindsIn command g second (long_second word)) bytes
+Finds command bytes second (no_rows row cause) = OnGrammar (λ g. FindsIn command g second (no_rows row cause)) bytes
+Finds command bytes second (over_budget stage) = OnGrammar (λ g. FindsIn command g second (over_budget stage)) bytes
+Finds command bytes second ready = OnGrammar (λ g. FindsIn command g second ready) bytes
+
+-- a command accepts in its grammar what stands before its second file, so that this file is loaded
+abbrev pub Reaches : Command → GrammarValue → Type 0
+Reaches (canon name) g = Unit {0}
+Reaches (score name word) g = Unit {0}
+Reaches (generate name form budget) g = Unit {0}
+Reaches (show name form budget) g = Unit {0}
+Reaches (tableau name form rows budget) g = HasForm g form

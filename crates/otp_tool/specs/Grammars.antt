@@ -1,5 +1,5 @@
--- Files that are held, and the grammars that they tell.
-use Rattle.std.specs.Prelude.{◌≡◌, ℕ, ◌≤◌, List, length, map, Option, Some, None, Ok}
+-- The grammars that files tell, and what they ask.
+use Rattle.std.specs.Prelude.{◌≡◌, ℕ, ◌≤◌, List, length, map, Ok}
 use Rattle.tier_core.specs.declared.tier.TierKind.{TierKind}
 use Rattle.tier_core.specs.Tiers.{Tiers, tiers_by_kinds}
 use Rattle.grammar_reader.specs.Values.{GrammarValue}
@@ -7,11 +7,6 @@ use Rattle.grammar_reader.specs.Reading.{grammar_of}
 use Rattle.grammar_reader.specs.Seen.{constraint_seen}
 use Rattle.violation.specs.Problems.{Problem}
 use Rattle.form_reader.specs.Forms.{IsReadAs}
-
--- bytes are those that a shelf tells; where it tells nothing, they may be any
-abbrev pub IsHeld : Option (List ℕ) → List ℕ → Type 0
-IsHeld None bytes = Unit {0}
-IsHeld (Some text) bytes = bytes ≡ text
 
 -- the bytes are within the limit of a grammar's file, and g is the grammar that they tell
 pub record IsFileOf (bytes : List ℕ) (g : GrammarValue) : Type 0 where
@@ -40,3 +35,9 @@ pub record IsAsked (g : GrammarValue) (word : List ℕ) (problem : Problem) : Ty
   pub tiers : problem.tiers ≡ tiers_of g
   pub constraints : map constraint_seen problem.constraints ≡ g.constraints
   pub form : IsReadAs (input_count g) g.letters word problem.form
+
+-- the word is a form, and something holds of the problem that is asked
+pub record OnProblem (P : Problem → Type 0) (g : GrammarValue) (word : List ℕ) : Type 0 where
+  pub problem : Problem
+  pub is_asked : IsAsked g word problem
+  pub fact : P problem

@@ -1,3 +1,4 @@
+pub mod Files
 pub mod Grammars
 pub mod Scored
 pub mod Results

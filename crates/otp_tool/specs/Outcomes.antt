@@ -3,54 +3,90 @@ use Rattle.std.specs.Prelude.{◌≡◌, ℕ, ◌⊎◌, List, Option, Some}
 use Rattle.outside.specs.Faults.{Rose}
 use Rattle.command_words.specs.Commands.{Command, IsCommand, grammar_of as file_of}
 use Rattle.status_lines.specs.declared.status.Status.{Status}
-use Rattle.status_lines.specs.declared.status.Status.TheVariants.{Done, Usage, GrammarRefused, FormRefused, Budget, ReadFault, WriteFault, NoMemory, TooLong}
-use Rattle.otp_tool.specs.Grammars.{IsHeld, OnGrammar}
-use Rattle.otp_tool.specs.Findings.{Finding, Finds, long_file, no_grammar, no_form, over_budget, ready}
+use Rattle.status_lines.specs.declared.status.Status.TheVariants.{Done, Usage, GrammarRefused, FormRefused, Budget, ReadFault, WriteFault, NoMemory, RowsRefused, TooLong}
+use Rattle.otp_tool.specs.Files.{IsHeld, IsSecondHeld, NamedFile, grammar_file, second_file}
+use Rattle.otp_tool.specs.Grammars.{OnGrammar}
+use Rattle.otp_tool.specs.Findings.{Finding, Finds, Reaches, long_file, no_grammar, no_form, long_second, no_rows, over_budget, ready}
 use Rattle.otp_tool.specs.Results.{IsResult}
 
--- the words are a command, which finds this in the bytes that the shelf holds under its grammar's name
+-- The words are a command, and these are bytes that the shelf may hold under the names of its grammar
+-- and of its second file: those that it tells, and any where it does not tell.
+pub record MayRead (words : List (List ℕ)) (held : List ℕ
+    → Option (List ℕ)) (command : Command) (bytes second : List ℕ) : Type 0 where
+  pub are : IsCommand words command
+  pub holds : IsHeld (held (file_of command)) bytes
+  pub holds_second : IsSecondHeld held (second_file command) second
+
+-- the words are a command, which finds this in bytes that the shelf may hold
 pub record IsBehind (words : List (List ℕ)) (held : List ℕ → Option (List ℕ)) (finding : Finding) : Type 0 where
   pub command : Command
   pub bytes : List ℕ
-  pub are : IsCommand words command
-  pub holds : IsHeld (held (file_of command)) bytes
-  pub finds : Finds command bytes finding
+  pub second : List ℕ
+  pub reads : MayRead words held command bytes second
+  pub finds : Finds command bytes second finding
 
--- the same, where the shelf tells the bytes
+-- the words are a command, which finds this in any bytes that the shelf may hold
 pub record IsTold (words : List (List ℕ)) (held : List ℕ → Option (List ℕ)) (finding : Finding) : Type 0 where
   pub command : Command
-  pub bytes : List ℕ
   pub are : IsCommand words command
-  pub told : held (file_of command) ≡ Some bytes
-  pub finds : Finds command bytes finding
+  pub finds : (bytes second : List ℕ) → MayRead words held command bytes second → Finds command bytes second finding
 
--- the words are a command, and something holds of a text that it writes for the grammar in those bytes
-pub record IsWrittenBehind (words : List (List ℕ)) (held : List ℕ → Option (List ℕ)) (P : List ℕ → Type 0) : Type 0 where
+-- the words are a command, and something holds of a text that it writes for bytes that the shelf may hold
+pub record IsWrittenBehind (words : List (List ℕ)) (held : List ℕ → Option (List ℕ)) (P : List ℕ
+    → Type 0) : Type 0 where
   pub command : Command
   pub bytes : List ℕ
-  pub are : IsCommand words command
-  pub holds : IsHeld (held (file_of command)) bytes
+  pub second : List ℕ
+  pub reads : MayRead words held command bytes second
   pub text : List ℕ
-  pub result : OnGrammar (λ g. IsResult command g text) bytes
+  pub result : OnGrammar (λ g. IsResult command g second text) bytes
   pub fact : P text
 
--- the words are a command, and the count of faults of its grammar's name rose
-pub record HasReadFault (words : List (List ℕ)) (before after : List ℕ → ℕ) : Type 0 where
+-- a command accepts all that stands before its second file
+pub record HasReached (held : List ℕ → Option (List ℕ)) (command : Command) : Type 0 where
+  pub bytes : List ℕ
+  pub holds : IsHeld (held (file_of command)) bytes
+  pub accepts : OnGrammar (Reaches command) bytes
+
+-- the file is that of a command's grammar, or its second one, and the command comes to load it
+abbrev pub Loads : (List ℕ → Option (List ℕ)) → Command → NamedFile → Type 0
+Loads held command file =
+    (file ≡ grammar_file command) ⊎ ((second_file command ≡ Some file) × HasReached held command)
+
+-- The words are a command, and this word of it names a file that it comes to load, and the count of
+-- faults of whose name rose.
+pub record HasReadFault (words : List (List ℕ)) (held : List ℕ → Option (List ℕ)) (before after : List ℕ
+    → ℕ) (word : ℕ) : Type 0 where
   pub command : Command
   pub are : IsCommand words command
-  pub rose : Rose (before (file_of command)) (after (file_of command))
+  pub file : NamedFile
+  pub loads : Loads held command file
+  pub by_word : word ≡ file.word
+  pub rose : Rose (before file.name) (after file.name)
+
+-- the file that this word names is too long
+abbrev pub IsTooLong : List (List ℕ) → (List ℕ → Option (List ℕ)) → ℕ → Type 0
+IsTooLong words held word = ((word ≡ 1) × IsBehind words held long_file) ⊎ IsBehind words held (long_second word)
+
+-- whatever command the words are, it names no file so
+abbrev pub IsUnnamed : List (List ℕ) → List ℕ → Type 0
+IsUnnamed words name =
+    (command : Command) → IsCommand words command
+    → (¬ (file_of command ≡ name)) × ((file : NamedFile) → second_file command ≡ Some file → ¬ (file.name ≡ name))
 
 -- the status that answers a finding
 abbrev pub answer_to : Finding → Status
 answer_to long_file = TooLong 1
 answer_to (no_grammar line cause) = GrammarRefused 1 line cause
 answer_to (no_form cause) = FormRefused 2 cause
+answer_to (long_second word) = TooLong word
+answer_to (no_rows row cause) = RowsRefused 3 row cause
 answer_to (over_budget stage) = Budget 0 stage
 answer_to ready = Done
 
 -- The status is this one. Want of memory may come instead, and so may a fault of reading.
 abbrev pub Stands : Status → Status → Type 0
-Stands due status = (status ≡ due) ⊎ ((status ≡ NoMemory) ⊎ (status ≡ ReadFault 1))
+Stands due status = (status ≡ due) ⊎ ((status ≡ NoMemory) ⊎ ((word : ℕ) × (status ≡ ReadFault word)))
 
 -- a status that comes before anything is written
 abbrev pub IsBeforeWriting : Status → Type 0
@@ -62,4 +98,5 @@ IsBeforeWriting (Budget entry stage) = Unit {0}
 IsBeforeWriting (ReadFault word) = Unit {0}
 IsBeforeWriting WriteFault = ⊥
 IsBeforeWriting NoMemory = ⊥
+IsBeforeWriting (RowsRefused word row cause) = Unit {0}
 IsBeforeWriting (TooLong word) = Unit {0}

@@ -8,9 +8,14 @@ use Rattle.violation.specs.Counts.{viol}
 use Rattle.answer_text.specs.declared.answer.Answer.{Answer}
 use Rattle.answer_text.specs.Right.{IsRight}
 use Rattle.answer_text.specs.Text.{Widths, answer_text, counts_text, shown_text}
-use Rattle.command_words.specs.Commands.{Command, canon, score, generate, show}
+use Rattle.command_words.specs.Commands.{Command, canon, score, generate, show, tableau}
 use Rattle.violation.specs.Problems.{Problem}
 use Rattle.otp_tool.specs.Scored.{IsScored}
+use Rattle.std.specs.Str.Lines.{lines}
+use Rattle.tableau.specs.declared.table.Tableau.{Tableau}
+use Rattle.tableau.specs.Layout.{tableau_text}
+use Rattle.tableau.specs.Rows.{AreRowsOf}
+use Rattle.tableau.specs.Tableaux.{IsTableauOf}
 use Rattle.otp_tool.specs.Grammars.{IsAsked}
 
 -- the violation vector of a timeline: its violations of each constraint of the grammar, in ranked order
@@ -43,9 +48,21 @@ whole_text problem answer = answer_text (text_widths problem) answer
 abbrev pub short_text : Problem → Answer → List ℕ
 short_text problem answer = shown_text answer
 
--- A text is what a command writes for a grammar.
-abbrev pub IsResult : Command → GrammarValue → List ℕ → Type 0
-IsResult (canon name) g text = text ≡ canonical g
-IsResult (score name word) g text = IsScoreText g word text
-IsResult (generate name form budget) g text = IsOfRightAnswer whole_text g form text
-IsResult (show name form budget) g text = IsOfRightAnswer short_text g form text
+-- A text is that of the tableau of the problem that is asked, with the rows of a rows file: the first
+-- optimal candidate, and then each of the rows.
+pub record IsTableauText (g : GrammarValue) (form bytes text : List ℕ) : Type 0 where
+  pub problem : Problem
+  pub is_asked : IsAsked g form problem
+  pub rows : List (List (List Sym))
+  pub read : AreRowsOf problem (lines bytes) rows
+  pub tableau : Tableau
+  pub is_tableau : IsTableauOf problem rows tableau
+  pub written : text ≡ tableau_text tableau
+
+-- A text is what a command writes for a grammar, where these are the bytes of its second file.
+abbrev pub IsResult : Command → GrammarValue → List ℕ → List ℕ → Type 0
+IsResult (canon name) g second text = text ≡ canonical g
+IsResult (score name word) g second text = IsScoreText g word text
+IsResult (generate name form budget) g second text = IsOfRightAnswer whole_text g form text
+IsResult (show name form budget) g second text = IsOfRightAnswer short_text g form text
+IsResult (tableau name form rows budget) g second text = IsTableauText g form second text

@@ -1,26 +1,35 @@
 -- What each step of a command answers.
-use Rattle.std.specs.Prelude.{◌≡◌, ℕ, ◌<◌, ◌≤◌, ◌⊎◌, List, length, Option, IfSome, Result, Ok, Err}
+use Rattle.std.specs.Prelude.{◌≡◌, ℕ, ◌<◌, ◌≤◌, ◌⊎◌, List, length, Option, Some, IfSome, Result, Ok, Err}
 use Rattle.outside.specs.Faults.{Rose}
+use Rattle.outside.specs.declared.shelf.Shelf.{Ghosts as ShelfGhosts}
+use Rattle.outside.specs.declared.sink.Sink.{Ghosts as SinkGhosts}
 use Rattle.outside.specs.declared.sink.WriteErr.{WriteErr}
 use Rattle.outside.specs.declared.sink.WriteErr.TheVariants.{Failed, NoMemory as NoRoom}
 use Rattle.outside.specs.Sent.{appended, HasSentPart}
 use Rattle.tier_core.specs.declared.sym.Sym.{Sym}
 use Rattle.tier_core.specs.declared.constraint.Constraint.{Constraint}
 use Rattle.tier_core.specs.declared.tier.TierTable.{TierTable}
-use Rattle.violation.specs.Problems.{asked}
+use Rattle.violation.specs.Problems.{Problem, asked}
 use Rattle.answer_text.specs.declared.answer.Answer.{Answer}
 use Rattle.answer_text.specs.Right.{IsRight}
-use Rattle.ranked_gen.specs.Budgets.{AreAllWithin}
-use Rattle.timeline_text.specs.declared.form_err.FormErr.{FormErr}
+use Rattle.ranked_gen.specs.Budgets.{AreAllWithin, IsFirstOver}
 use Rattle.grammar_reader.specs.declared.grammar_err.GrammarCause.{GrammarCause}
 use Rattle.grammar_reader.specs.Values.{GrammarValue}
 use Rattle.grammar_reader.specs.Reading.{grammar_of}
-use Rattle.command_words.specs.Commands.{Command, IsCommand, IsNoCommand, canon, score, generate, show}
+use Rattle.command_words.specs.Commands.{Command, IsCommand, IsNoCommand, canon, score, generate, show, tableau}
 use Rattle.status_lines.specs.declared.status.Status.{Status}
-use Rattle.status_lines.specs.declared.status.Status.TheVariants.{Done, Usage, GrammarRefused, FormRefused, Budget, ReadFault, WriteFault, NoMemory, TooLong}
-use Rattle.otp_tool.specs.Grammars.{IsHeld, IsFileOf, IsAsked}
-use Rattle.otp_tool.specs.Findings.{Finding, long_file, no_grammar, no_form, over_budget, ready}
-use Rattle.otp_tool.specs.Outcomes.{IsBehind, IsWrittenBehind, HasReadFault}
+use Rattle.status_lines.specs.declared.status.Status.TheVariants.{Done, Usage, GrammarRefused, FormRefused, Budget, ReadFault, WriteFault, NoMemory, RowsRefused, TooLong}
+use Rattle.otp_tool.specs.Files.{IsHeld, IsSecondHeld, NamedFile, rows_file, second_file}
+use Rattle.std.specs.Str.Lines.{lines}
+use Rattle.form_reader.specs.Forms.{IsRefusedFor}
+use Rattle.tableau.specs.declared.rows_err.RowsCause.{RowsCause}
+use Rattle.tableau.specs.declared.table.Tableau.{Tableau}
+use Rattle.tableau.specs.Rows.{AreRowsOf}
+use Rattle.tableau.specs.Tableaux.{IsTableauOf}
+use Rattle.otp_tool.specs.Grammars.{IsFileOf, IsAsked, input_count}
+use Rattle.otp_tool.specs.Findings.{Finding, FindsIn, FindsForTableau, HasForm, IsNoRowsFile, IsRowsFile, Reaches, no_grammar, no_form, long_second, no_rows, over_budget, ready}
+use Rattle.otp_tool.specs.Results.{IsResult, IsTableauText}
+use Rattle.otp_tool.specs.Outcomes.{IsBehind, IsTooLong, IsWrittenBehind, HasReadFault}
 
 -- the budget of a command is from 1 to 65,536
 abbrev pub HasFitBudget : Command → Type 0
@@ -28,6 +37,7 @@ HasFitBudget (canon name) = Unit {0}
 HasFitBudget (score name word) = Unit {0}
 HasFitBudget (generate name form budget) = (1 ≤ budget) × (budget ≤ 65536)
 HasFitBudget (show name form budget) = (1 ≤ budget) × (budget ≤ 65536)
+HasFitBudget (tableau name form rows budget) = (1 ≤ budget) × (budget ≤ 65536)
 
 -- a grammar is that of a file that is held
 pub record IsLoaded (held : Option (List ℕ)) (g : GrammarValue) : Type 0 where
@@ -51,7 +61,22 @@ IsLoadRefusal held before after (Budget entry stage) = ⊥
 IsLoadRefusal held before after (ReadFault word) = (word ≡ 1) × Rose before after
 IsLoadRefusal held before after WriteFault = ⊥
 IsLoadRefusal held before after NoMemory = Unit {0}
+IsLoadRefusal held before after (RowsRefused word row cause) = ⊥
 IsLoadRefusal held before after (TooLong word) = (word ≡ 1) × IfSome held (λ text. 65536 < length text)
+
+-- why a second file is not loaded
+abbrev pub IsSecondRefusal : NamedFile → Option (List ℕ) → ℕ → ℕ → Status → Type 0
+IsSecondRefusal file held before after Done = ⊥
+IsSecondRefusal file held before after Usage = ⊥
+IsSecondRefusal file held before after (GrammarRefused word line cause) = ⊥
+IsSecondRefusal file held before after (FormRefused word cause) = ⊥
+IsSecondRefusal file held before after (Budget entry stage) = ⊥
+IsSecondRefusal file held before after (ReadFault word) = (word ≡ file.word) × Rose before after
+IsSecondRefusal file held before after WriteFault = ⊥
+IsSecondRefusal file held before after NoMemory = Unit {0}
+IsSecondRefusal file held before after (RowsRefused word row cause) = ⊥
+IsSecondRefusal file held before after (TooLong word) =
+    (word ≡ file.word) × IfSome held (λ text. file.limit < length text)
 
 -- why nothing is made, before anything is written
 abbrev pub IsRefusal : (Finding → Type 0) → Status → Type 0
@@ -63,14 +88,47 @@ IsRefusal finds (Budget entry stage) = (entry ≡ 0) × finds (over_budget stage
 IsRefusal finds (ReadFault word) = ⊥
 IsRefusal finds WriteFault = ⊥
 IsRefusal finds NoMemory = Unit {0}
-IsRefusal finds (TooLong word) = ⊥
+IsRefusal finds (RowsRefused word row cause) = (word ≡ 3) × finds (no_rows row cause)
+IsRefusal finds (TooLong word) = finds (long_second word)
+
+-- a finding is this one, of something for which a relation holds
+pub record IsOf {A : Type 0} (finding : A → Finding) (P : A → Type 0) (x : Finding) : Type 0 where
+  pub value : A
+  pub is : x ≡ finding value
+  pub fact : P value
+
+-- the word of a form is refused
+abbrev pub RefusesForm : GrammarValue → List ℕ → Finding → Type 0
+RefusesForm g word = IsOf no_form (IsRefusedFor (input_count g) g.letters word)
+
+-- a stage has more kinds than the budget
+abbrev pub RefusesBudget : Problem → ℕ → Finding → Type 0
+RefusesBudget problem budget = IsOf over_budget (IsFirstOver problem budget)
+
+-- a file is no rows file for a problem
+abbrev pub RefusesFile : Problem → List ℕ → Finding → Type 0
+RefusesFile problem bytes =
+    IsOf (λ (at : ℕ × RowsCause). no_rows at.0 at.1) (λ at. IsNoRowsFile bytes at.0 at.1 problem)
+
+-- a tableau of a problem is refused for a rows file, or for the budget
+abbrev pub RefusesRows : Problem → ℕ → List ℕ → Finding → Type 0
+RefusesRows problem budget bytes x =
+    RefusesFile problem bytes x ⊎ (IsRowsFile bytes problem × RefusesBudget problem budget x)
 
 -- an answer is right for the form that a word is read as, and no stage has more kinds than the budget
-pub record IsMade (table : TierTable) (constraints : List Constraint) (g : GrammarValue) (form : List ℕ) (budget : ℕ) (answer : Answer) : Type 0 where
+pub record IsMade (table : TierTable) (constraints : List Constraint) (g : GrammarValue) (form : List ℕ) (budget : ℕ)
+    (answer : Answer) : Type 0 where
   pub u : List (List Sym)
   pub is_asked : IsAsked g form (asked table constraints u)
   pub right : IsRight (asked table constraints u) answer
   pub within : AreAllWithin (asked table constraints u) budget
+
+-- a tableau is that of a problem with the rows of a rows file, and no stage has more kinds than the budget
+pub record IsMadeTableau (problem : Problem) (budget : ℕ) (bytes : List ℕ) (made : Tableau) : Type 0 where
+  pub rows : List (List (List Sym))
+  pub read : AreRowsOf problem (lines bytes) rows
+  pub is_tableau : IsTableauOf problem rows made
+  pub within : AreAllWithin problem budget
 
 -- what a sink has taken, and its faults, before and after
 pub record Taking : Type 0 where
@@ -78,6 +136,10 @@ pub record Taking : Type 0 where
   pub new : Option (List ℕ)
   pub before : ℕ
   pub after : ℕ
+
+abbrev pub taking_of : {O : Type 0} → SinkGhosts O → O → O → Taking
+taking_of sink old new =
+    record { old = sink.taken old; new = sink.taken new; before = sink.faults old; after = sink.faults new }
 
 -- a text of this kind was written as a whole, or a front of it
 pub record IsAllTaken (writes : List ℕ → Type 0) (t : Taking) : Type 0 where
@@ -106,26 +168,80 @@ IsEnd writes t (Budget entry stage) = ⊥
 IsEnd writes t (ReadFault word) = ⊥
 IsEnd writes t WriteFault = IsPartTaken writes t × Rose t.before t.after
 IsEnd writes t NoMemory = (t.new ≡ t.old) ⊎ IsPartTaken writes t
+IsEnd writes t (RowsRefused word row cause) = ⊥
 IsEnd writes t (TooLong word) = ⊥
 
 -- what a command does with a grammar: it refuses and writes nothing, or it is ready and writes
 abbrev pub IsStep : (Finding → Type 0) → (List ℕ → Type 0) → Taking → Status → Type 0
 IsStep finds writes t status = (IsRefusal finds status × (t.new ≡ t.old)) ⊎ (finds ready × IsEnd writes t status)
 
--- what stands behind each status of a command; faults and written bytes before and after it
+-- what a shelf holds, and its faults and what a sink has taken, before and after
 pub record Change : Type 0 where
   pub held : List ℕ → Option (List ℕ)
   pub faults_before : List ℕ → ℕ
   pub faults_after : List ℕ → ℕ
   pub taking : Taking
 
+abbrev pub change_of : {F O : Type 0} → ShelfGhosts F → SinkGhosts O → F → F → O → O → Change
+change_of shelf sink from to old new = record {
+  held = shelf.held from;
+  faults_before = shelf.faults from;
+  faults_after = shelf.faults to;
+  taking = taking_of sink old new;
+}
+
+-- a second file that a command comes to load is not read
+pub record IsNotRead (second : Option NamedFile) (reaches : Type 0) (c : Change) (status : Status) : Type 0 where
+  pub file : NamedFile
+  pub is_second : second ≡ Some file
+  pub reached : reaches
+  pub rose : Rose (c.faults_before file.name) (c.faults_after file.name)
+  pub answer : status ≡ ReadFault file.word
+  pub untouched : c.taking.new ≡ c.taking.old
+
+-- a step that looks at bytes of a second file, which may be held
+pub record IsStepWith (second : Option NamedFile) (finds : List ℕ → Finding → Type 0) (writes : List ℕ → List ℕ
+    → Type 0)
+    (c : Change) (status : Status) : Type 0 where
+  pub bytes : List ℕ
+  pub holds : IsSecondHeld c.held second bytes
+  pub step : IsStep (finds bytes) (writes bytes) c.taking status
+
+-- what a command does with a grammar and perhaps a second file
+abbrev pub IsWork : Option NamedFile → Type 0 → (List ℕ → Finding → Type 0) → (List ℕ → List ℕ → Type 0) → Change
+    → Status → Type 0
+IsWork second reaches finds writes c status = IsNotRead second reaches c status
+    ⊎ IsStepWith second finds writes c status
+
+abbrev pub IsWorkOf : Command → GrammarValue → Change → Status → Type 0
+IsWorkOf command g c status =
+    IsWork (second_file command) (Reaches command g) (FindsIn command g) (IsResult command g) c status
+
+abbrev pub IsTableauWork : GrammarValue → List ℕ → List ℕ → ℕ → Change → Status → Type 0
+IsTableauWork g form rows budget c status =
+    IsWork (Some (rows_file rows)) (HasForm g form) (FindsForTableau g form budget) (IsTableauText g form) c status
+
+-- what stands behind each status of a command
 abbrev pub IsOutcome : List (List ℕ) → Change → Status → Type 0
-IsOutcome words c Done = IsBehind words c.held ready × IsWrittenBehind words c.held (λ text. c.taking.new ≡ appended c.taking.old text)
+IsOutcome words c Done =
+    IsBehind words c.held ready × IsWrittenBehind words c.held (λ text. c.taking.new ≡ appended c.taking.old text)
 IsOutcome words c Usage = IsNoCommand words × (c.taking.new ≡ c.taking.old)
-IsOutcome words c (GrammarRefused word line cause) = (word ≡ 1) × IsBehind words c.held (no_grammar line cause) × (c.taking.new ≡ c.taking.old)
-IsOutcome words c (FormRefused word cause) = (word ≡ 2) × IsBehind words c.held (no_form cause) × (c.taking.new ≡ c.taking.old)
-IsOutcome words c (Budget entry stage) = (entry ≡ 0) × IsBehind words c.held (over_budget stage) × (c.taking.new ≡ c.taking.old)
-IsOutcome words c (ReadFault word) = (word ≡ 1) × HasReadFault words c.faults_before c.faults_after × (c.taking.new ≡ c.taking.old)
-IsOutcome words c WriteFault = IsBehind words c.held ready × IsWrittenBehind words c.held (λ text. HasSentPart c.taking.old text c.taking.new) × Rose c.taking.before c.taking.after
-IsOutcome words c NoMemory = ((command : Command) × IsCommand words command) × ((c.taking.new ≡ c.taking.old) ⊎ IsWrittenBehind words c.held (λ text. HasSentPart c.taking.old text c.taking.new))
-IsOutcome words c (TooLong word) = (word ≡ 1) × IsBehind words c.held long_file × (c.taking.new ≡ c.taking.old)
+IsOutcome words c (GrammarRefused word line cause) =
+    (word ≡ 1) × IsBehind words c.held (no_grammar line cause) × (c.taking.new ≡ c.taking.old)
+IsOutcome words c (FormRefused word cause) =
+    (word ≡ 2) × IsBehind words c.held (no_form cause) × (c.taking.new ≡ c.taking.old)
+IsOutcome words c (Budget entry stage) =
+    (entry ≡ 0) × IsBehind words c.held (over_budget stage) × (c.taking.new ≡ c.taking.old)
+IsOutcome words c (ReadFault word) =
+    HasReadFault words c.held c.faults_before c.faults_after word × (c.taking.new ≡ c.taking.old)
+IsOutcome words c WriteFault =
+    IsBehind words c.held ready
+    × IsWrittenBehind words c.held (λ text. HasSentPart c.taking.old text c.taking.new)
+    × Rose c.taking.before c.taking.after
+IsOutcome words c NoMemory =
+    ((command : Command) × IsCommand words command)
+    × ((c.taking.new ≡ c.taking.old)
+    ⊎ IsWrittenBehind words c.held (λ text. HasSentPart c.taking.old text c.taking.new))
+IsOutcome words c (RowsRefused word row cause) =
+    (word ≡ 3) × IsBehind words c.held (no_rows row cause) × (c.taking.new ≡ c.taking.old)
+IsOutcome words c (TooLong word) = IsTooLong words c.held word × (c.taking.new ≡ c.taking.old)

@@ -1,7 +1,13 @@
-ghost use Rattle.std.specs.Prelude.{◌≡◌, ◌≤◌, IfOk, IfErr};
+ghost use Rattle.std.specs.Prelude.{◌≡◌, ◌≤◌, length, IfOk, IfErr};
+ghost use Rattle.tier_core.specs.Tables.{tiers_of_table};
+ghost use Rattle.violation.specs.Candidates.{IsForm};
+ghost use Rattle.violation.specs.Problems.{asked};
+ghost use Rattle.answer_text.specs.Right.{IsRight};
+ghost use Rattle.ranked_gen.specs.Budgets.{AreAllWithin};
 ghost use Rattle.grammar_reader.specs.Grammars.{value_of};
+ghost use Rattle.otp_tool.specs.Grammars.{IsAsked};
 ghost use Rattle.otp_tool.specs.Findings.{FindsForAnswer};
-ghost use Rattle.otp_tool.specs.Steps.{IsMade, IsRefusal};
+ghost use Rattle.otp_tool.specs.Steps.{IsMade, IsRefusal, RefusesBudget, RefusesForm};
 
 use answer_text::Answer;
 use form_reader::read_form;
@@ -9,7 +15,48 @@ use grammar_reader::Grammar;
 use ranked_gen::{GenErr, generate};
 use status_lines::Status;
 use std::alloc::Global;
+use tier_core::Timeline;
 use timeline_text::FormErr;
+
+/// Reads the form that word 2 is.
+pub(crate) fn form_of(alloc: Global, grammar: &Grammar, word: &str) -> Result<Timeline, Status>
+    ensures ok { IfOk result (λ form. IsAsked (value_of grammar.now) word.now
+        (asked grammar.now.tiers grammar.now.constraints.items form)) }
+    ensures form { IfOk result (IsForm (tiers_of_table grammar.now.tiers)) }
+    ensures short { IfOk result (λ form. length form ≤ 64) }
+    ensures err { IfErr result (IsRefusal (RefusesForm (value_of grammar.now) word.now)) }
+{
+    match read_form(alloc, grammar, word.as_bytes()) {
+        Ok(form) => Ok(form),
+        Err(FormErr::NoMemory) => Err(Status::NoMemory),
+        Err(cause) => Err(Status::FormRefused { word: 2, cause }),
+    }
+}
+
+/// Generates the answer for a grammar and a form.
+pub(crate) fn answer_for(
+    alloc: Global,
+    grammar: &Grammar,
+    form: &Timeline,
+    budget: u32,
+) -> Result<Answer, Status>
+    requires form { IsForm (tiers_of_table grammar.now.tiers) form.now }
+    requires short { length form.now ≤ 64 }
+    requires some { 1 ≤ budget }
+    requires few { budget ≤ 65536 }
+    ensures right { IfOk result (IsRight
+        (asked grammar.now.tiers grammar.now.constraints.items form.now)) }
+    ensures within { IfOk result (λ answer. AreAllWithin
+        (asked grammar.now.tiers grammar.now.constraints.items form.now) budget) }
+    ensures err { IfErr result (IsRefusal (RefusesBudget
+        (asked grammar.now.tiers grammar.now.constraints.items form.now) budget)) }
+{
+    match generate(alloc, grammar, form, budget) {
+        Ok(answer) => Ok(answer),
+        Err(GenErr::Budget { stage }) => Err(Status::Budget { entry: 0, stage }),
+        Err(GenErr::NoMemory) => Err(Status::NoMemory),
+    }
+}
 
 /// Makes the answer for a grammar and a form's word.
 pub(crate) fn make_answer(
@@ -20,17 +67,13 @@ pub(crate) fn make_answer(
 ) -> Result<Answer, Status>
     requires some { 1 ≤ budget }
     requires few { budget ≤ 65536 }
-    ensures ok { IfOk result (IsMade grammar.now.tiers grammar.now.constraints.items (value_of grammar.now) word.now budget) }
-    ensures err { IfErr result (IsRefusal (FindsForAnswer (value_of grammar.now) word.now budget)) }
+    ensures ok { IfOk result (IsMade grammar.now.tiers grammar.now.constraints.items
+        (value_of grammar.now) word.now budget) }
+    ensures err { IfErr result (IsRefusal
+        (FindsForAnswer (value_of grammar.now) word.now budget)) }
 {
-    let form = match read_form(alloc, grammar, word.as_bytes()) {
-        Ok(form) => form,
-        Err(FormErr::NoMemory) => return Err(Status::NoMemory),
-        Err(cause) => return Err(Status::FormRefused { word: 2, cause }),
-    };
-    match generate(alloc, grammar, &form, budget) {
-        Ok(answer) => Ok(answer),
-        Err(GenErr::Budget { stage }) => Err(Status::Budget { entry: 0, stage }),
-        Err(GenErr::NoMemory) => Err(Status::NoMemory),
+    match form_of(alloc, grammar, word) {
+        Ok(form) => answer_for(alloc, grammar, &form, budget),
+        Err(status) => Err(status),
     }
 }

@@ -1,19 +1,21 @@
-ghost use Rattle.std.specs.Prelude.{◌≡◌, ◌≢◌, ◌≤◌, ◌⊎◌, ◌↔◌, ℕ, List};
+ghost use Rattle.std.specs.Prelude.{◌≡◌, ◌≢◌, ◌≤◌, ◌⊎◌, ◌↔◌, ℕ, List, Some};
 ghost use Rattle.outside.specs.Faults.{Rose};
 ghost use Rattle.outside.specs.Sent.{appended, HasSentPart};
 ghost use Rattle.timeline_text.specs.declared.form_err.FormErr.{FormErr};
 ghost use Rattle.grammar_reader.specs.declared.grammar_err.GrammarCause.{GrammarCause};
 ghost use Rattle.grammar_reader.specs.Grammars.{value_of};
-ghost use Rattle.command_words.specs.Commands.{Command as Asked, IsCommand, IsNoCommand, grammar_of as file_of};
+ghost use Rattle.command_words.specs.Commands.{IsCommand, IsNoCommand, grammar_of as file_of};
 ghost use Rattle.command_words.specs.Words.{words_of};
 ghost use Rattle.command_words.specs.Seen.{command_seen};
-ghost use Rattle.otp_tool.specs.Findings.{Finding, FindsIn, long_file, no_grammar, no_form, over_budget, ready};
-ghost use Rattle.otp_tool.specs.Results.{IsResult};
-ghost use Rattle.otp_tool.specs.Outcomes.{HasReadFault, IsBeforeWriting, IsBehind, IsTold, IsWrittenBehind, Stands, answer_to};
-ghost use Rattle.otp_tool.specs.Steps.{HasFitBudget, IsOutcome, IsStep};
+ghost use Rattle.otp_tool.specs.Findings.{Finding, no_grammar, no_form, no_rows, over_budget, ready};
+ghost use Rattle.otp_tool.specs.Outcomes.{HasReadFault, IsBeforeWriting, IsBehind, IsTold, IsTooLong, IsUnnamed, IsWrittenBehind, Stands, answer_to};
+ghost use Rattle.otp_tool.specs.Steps.{HasFitBudget, IsOutcome, IsWorkOf, change_of};
+ghost use Rattle.otp_tool.specs.Files.{NamedFile, second_file};
+ghost use Rattle.tableau.specs.declared.rows_err.RowsCause.{RowsCause};
 
 use crate::grammar::load_grammar;
 use crate::results::{canon, generate, score, show};
+use crate::tableaux::tabulate;
 use command_words::{Command, command_of};
 use grammar_reader::Grammar;
 use outside::{Shelf, Sink};
@@ -29,20 +31,40 @@ fn grammar_name<'a>(command: &Command<'a>) -> &'a str
         Command::Score { grammar, .. } => grammar,
         Command::Generate { grammar, .. } => grammar,
         Command::Show { grammar, .. } => grammar,
+        Command::Tableau { grammar, .. } => grammar,
     }
 }
 
-/// Does what a command asks of its grammar.
-fn perform<O: Sink>(alloc: Global, command: &Command<'_>, grammar: &Grammar, sink: &mut O) -> Status
+/// Does what a command asks of its grammar, and of its second file where it has one.
+fn perform<F: Shelf, O: Sink>(
+    alloc: Global,
+    command: &Command<'_>,
+    grammar: &Grammar,
+    shelf: &mut F,
+    sink: &mut O,
+) -> Status
     requires { HasFitBudget (command_seen command.now) }
-    ensures step { IsStep (FindsIn (command_seen command.now) (value_of grammar.now)) (IsResult (command_seen command.now) (value_of grammar.now)) (record { old = O.taken sink.old; new = O.taken sink.new; before = O.faults sink.old; after = O.faults sink.new }) result }
-    ensures never_falls { O.faults sink.old ≤ O.faults sink.new }
+    ensures work { IsWorkOf (command_seen command.now) (value_of grammar.now)
+        (change_of F.Shelf O.Sink shelf.old shelf.new sink.old sink.new) result }
+    ensures held { (other : List ℕ) → F.held shelf.new other ≡ F.held shelf.old other }
+    ensures never_falls { (other : List ℕ) → F.faults shelf.old other ≤ F.faults shelf.new other }
+    ensures others { (other : List ℕ)
+        → ((file : NamedFile) → second_file (command_seen command.now) ≡ Some file
+        → ¬ (file.name ≡ other))
+        → F.faults shelf.new other ≡ F.faults shelf.old other }
+    ensures sink_never_falls { O.faults sink.old ≤ O.faults sink.new }
 {
     match *command {
         Command::Canon { .. } => canon(grammar, sink),
         Command::Score { timeline, .. } => score(alloc, grammar, timeline, sink),
         Command::Generate { form, budget, .. } => generate(alloc, grammar, form, budget, sink),
         Command::Show { form, budget, .. } => show(alloc, grammar, form, budget, sink),
+        Command::Tableau {
+            form,
+            rows,
+            budget,
+            ..
+        } => tabulate(alloc, grammar, form, rows, budget, shelf, sink),
     }
 }
 
@@ -54,14 +76,19 @@ fn execute<F: Shelf, O: Sink>(
     sink: &mut O,
 ) -> Status
     requires { HasFitBudget (command_seen command.now) }
-    ensures outcome { (words : List (List ℕ)) → IsCommand words (command_seen command.now) → IsOutcome words (record { held = F.held shelf.old; faults_before = F.faults shelf.old; faults_after = F.faults shelf.new; taking = record { old = O.taken sink.old; new = O.taken sink.new; before = O.faults sink.old; after = O.faults sink.new } }) result }
+    ensures outcome { (words : List (List ℕ)) → IsCommand words (command_seen command.now)
+        → IsOutcome words
+        (change_of F.Shelf O.Sink shelf.old shelf.new sink.old sink.new) result }
     ensures held { (other : List ℕ) → F.held shelf.new other ≡ F.held shelf.old other }
     ensures never_falls { (other : List ℕ) → F.faults shelf.old other ≤ F.faults shelf.new other }
-    ensures others { (other : List ℕ) → other ≢ file_of (command_seen command.now) → F.faults shelf.new other ≡ F.faults shelf.old other }
+    ensures others { (other : List ℕ) → ¬ (file_of (command_seen command.now) ≡ other)
+        → ((file : NamedFile) → second_file (command_seen command.now) ≡ Some file
+        → ¬ (file.name ≡ other))
+        → F.faults shelf.new other ≡ F.faults shelf.old other }
     ensures sink_never_falls { O.faults sink.old ≤ O.faults sink.new }
 {
     match load_grammar(alloc, shelf, grammar_name(command)) {
-        Ok(grammar) => perform(alloc, command, &grammar, sink),
+        Ok(grammar) => perform(alloc, command, &grammar, shelf, sink),
         Err(status) => status,
     }
 }
@@ -74,14 +101,17 @@ fn execute<F: Shelf, O: Sink>(
 /// | `score G TIMELINE` | the line of the counts of that timeline |
 /// | `generate G FORM [BUDGET]` | the text of a right answer |
 /// | `show G FORM [BUDGET]` | the lines `counts` and `example` of that answer |
+/// | `tableau G FORM ROWSFILE [BUDGET]` | the tableau: the example, and then the rows |
 ///
-/// `G` is the name of a grammar's file, of at most 65,536 bytes. TIMELINE is a timeline over all
+/// `G` is the name of a grammar's file, of at most 65,536 bytes, and ROWSFILE that of a rows file,
+/// of at most 4,194,304 bytes. TIMELINE is a timeline over all
 /// tiers, of at most 4,096 columns. FORM is a timeline over the input tiers, of at most 64 columns,
 /// or `=` and letters. BUDGET is how many kinds of prefix a stage may have: a decimal from 1 to
 /// 65,536 without sign and without leading zero, and 20,000 where it is left out.
 ///
 /// Each command makes its whole result before it writes. The refusals come in this order: Usage;
-/// ReadFault and TooLong for word 1; GrammarRefused; FormRefused for word 2; Budget; WriteFault.
+/// ReadFault and TooLong for word 1; GrammarRefused; FormRefused for word 2; ReadFault and TooLong
+/// for word 3; RowsRefused for word 3; Budget; WriteFault.
 /// NoMemory may come in place of any status but Usage.
 pub fn run<F: Shelf, O: Sink>(
     alloc: Global,
@@ -89,31 +119,58 @@ pub fn run<F: Shelf, O: Sink>(
     shelf: &mut F,
     sink: &mut O,
 ) -> Status
-    // Done: exactly the text that the command asks for was written. For `generate` it is the text of a right answer.
-    ensures done { result ≡ Status.Done → IsWrittenBehind (words_of words.now) (F.held shelf.old) (λ text. O.taken sink.new ≡ appended (O.taken sink.old) text) }
-    ensures complete { IsTold (words_of words.now) (F.held shelf.old) ready → ¬ HasReadFault (words_of words.now) (F.faults shelf.old) (F.faults shelf.new) → ¬ Rose (O.faults sink.old) (O.faults sink.new) → (result ≡ Status.Done) ⊎ (result ≡ Status.NoMemory) }
+    // Done: exactly the text that the command asks for was written. For `generate` it is the text of
+    // a right answer, and for `tableau` that of the tableau with the rows of the file.
+    ensures done { result ≡ Status.Done → IsWrittenBehind (words_of words.now) (F.held shelf.old)
+        (λ text. O.taken sink.new ≡ appended (O.taken sink.old) text) }
+    ensures complete { IsTold (words_of words.now) (F.held shelf.old) ready
+        → ((word : ℕ) → ¬ HasReadFault (words_of words.now) (F.held shelf.old)
+        (F.faults shelf.old) (F.faults shelf.new) word)
+        → ¬ Rose (O.faults sink.old) (O.faults sink.new)
+        → (result ≡ Status.Done) ⊎ (result ≡ Status.NoMemory) }
 
     // Each refusal has its cause.
     ensures usage { (result ≡ Status.Usage) ↔ IsNoCommand (words_of words.now) }
-    ensures read_fault { (word : ℕ) → result ≡ Status.ReadFault word → (word ≡ 1) × HasReadFault (words_of words.now) (F.faults shelf.old) (F.faults shelf.new) }
-    ensures too_long { (word : ℕ) → result ≡ Status.TooLong word → (word ≡ 1) × IsBehind (words_of words.now) (F.held shelf.old) long_file }
-    ensures grammar_refused { (word line : ℕ) (cause : GrammarCause) → result ≡ Status.GrammarRefused word line cause → (word ≡ 1) × IsBehind (words_of words.now) (F.held shelf.old) (no_grammar line cause) }
-    ensures form_refused { (word : ℕ) (cause : FormErr) → result ≡ Status.FormRefused word cause → (word ≡ 2) × IsBehind (words_of words.now) (F.held shelf.old) (no_form cause) }
-    ensures budget { (entry stage : ℕ) → result ≡ Status.Budget entry stage → (entry ≡ 0) × IsBehind (words_of words.now) (F.held shelf.old) (over_budget stage) }
-    ensures write_fault { result ≡ Status.WriteFault → IsBehind (words_of words.now) (F.held shelf.old) ready × Rose (O.faults sink.old) (O.faults sink.new) }
+    ensures read_fault { (word : ℕ) → result ≡ Status.ReadFault word
+        → HasReadFault (words_of words.now) (F.held shelf.old)
+        (F.faults shelf.old) (F.faults shelf.new) word }
+    ensures too_long { (word : ℕ) → result ≡ Status.TooLong word
+        → IsTooLong (words_of words.now) (F.held shelf.old) word }
+    ensures grammar_refused { (word line : ℕ) (cause : GrammarCause)
+        → result ≡ Status.GrammarRefused word line cause
+        → (word ≡ 1) × IsBehind (words_of words.now) (F.held shelf.old) (no_grammar line cause) }
+    ensures form_refused { (word : ℕ) (cause : FormErr) → result ≡ Status.FormRefused word cause
+        → (word ≡ 2) × IsBehind (words_of words.now) (F.held shelf.old) (no_form cause) }
+    ensures rows_refused { (word row : ℕ) (cause : RowsCause)
+        → result ≡ Status.RowsRefused word row cause
+        → (word ≡ 3) × IsBehind (words_of words.now) (F.held shelf.old) (no_rows row cause) }
+    ensures budget { (entry stage : ℕ) → result ≡ Status.Budget entry stage
+        → (entry ≡ 0) × IsBehind (words_of words.now) (F.held shelf.old) (over_budget stage) }
+    ensures write_fault { result ≡ Status.WriteFault
+        → IsBehind (words_of words.now) (F.held shelf.old) ready
+        × Rose (O.faults sink.old) (O.faults sink.new) }
 
-    // Where the shelf tells, each cause has its refusal.
-    ensures due { (finding : Finding) → finding ≢ ready → IsTold (words_of words.now) (F.held shelf.old) finding → Stands (answer_to finding) result }
+    // Where the shelf tells enough of its files, each cause has its refusal.
+    ensures due { (finding : Finding) → finding ≢ ready
+        → IsTold (words_of words.now) (F.held shelf.old) finding
+        → Stands (answer_to finding) result }
 
     // What was written where not all was done.
     ensures untouched { IsBeforeWriting result → O.taken sink.new ≡ O.taken sink.old }
-    ensures begun { result ≡ Status.WriteFault → IsWrittenBehind (words_of words.now) (F.held shelf.old) (λ text. HasSentPart (O.taken sink.old) text (O.taken sink.new)) }
-    ensures no_memory { result ≡ Status.NoMemory → (O.taken sink.new ≡ O.taken sink.old) ⊎ IsWrittenBehind (words_of words.now) (F.held shelf.old) (λ text. HasSentPart (O.taken sink.old) text (O.taken sink.new)) }
+    ensures begun { result ≡ Status.WriteFault
+        → IsWrittenBehind (words_of words.now) (F.held shelf.old)
+        (λ text. HasSentPart (O.taken sink.old) text (O.taken sink.new)) }
+    ensures no_memory { result ≡ Status.NoMemory
+        → (O.taken sink.new ≡ O.taken sink.old)
+        ⊎ IsWrittenBehind (words_of words.now) (F.held shelf.old)
+        (λ text. HasSentPart (O.taken sink.old) text (O.taken sink.new)) }
 
-    // What the shelf holds stays; no count of faults falls, and only that of word 1 changes.
+    // What the shelf holds stays; no count of faults falls, and only those of names that the command
+    // has change.
     ensures held { (other : List ℕ) → F.held shelf.new other ≡ F.held shelf.old other }
     ensures never_falls { (other : List ℕ) → F.faults shelf.old other ≤ F.faults shelf.new other }
-    ensures others { (other : List ℕ) → ((command : Asked) → IsCommand (words_of words.now) command → file_of command ≢ other) → F.faults shelf.new other ≡ F.faults shelf.old other }
+    ensures others { (other : List ℕ) → IsUnnamed (words_of words.now) other
+        → F.faults shelf.new other ≡ F.faults shelf.old other }
     ensures sink_never_falls { O.faults sink.old ≤ O.faults sink.new }
 {
     match command_of(words) {

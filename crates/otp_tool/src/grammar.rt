@@ -17,10 +17,12 @@ pub(crate) fn load_grammar<F: Shelf>(
     name: &str,
 ) -> Result<Grammar, Status>
     ensures ok { IfOk result (λ grammar. IsLoaded (F.held shelf.old name.now) (value_of grammar)) }
-    ensures err { IfErr result (IsLoadRefusal (F.held shelf.old name.now) (F.faults shelf.old name.now) (F.faults shelf.new name.now)) }
+    ensures err { IfErr result (IsLoadRefusal (F.held shelf.old name.now)
+        (F.faults shelf.old name.now) (F.faults shelf.new name.now)) }
     ensures held { (other : List ℕ) → F.held shelf.new other ≡ F.held shelf.old other }
     ensures never_falls { (other : List ℕ) → F.faults shelf.old other ≤ F.faults shelf.new other }
-    ensures others { (other : List ℕ) → other ≢ name.now → F.faults shelf.new other ≡ F.faults shelf.old other }
+    ensures others { (other : List ℕ) → other ≢ name.now
+        → F.faults shelf.new other ≡ F.faults shelf.old other }
 {
     let bytes = match shelf.load(alloc, name, GRAMMAR_LIMIT) {
         Ok(bytes) => bytes,

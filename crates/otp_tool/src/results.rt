@@ -3,7 +3,7 @@ ghost use Rattle.grammar_reader.specs.Canonical.{canonical};
 ghost use Rattle.grammar_reader.specs.Grammars.{value_of};
 ghost use Rattle.otp_tool.specs.Findings.{FindsForAnswer, FindsForCanon, FindsForScore};
 ghost use Rattle.otp_tool.specs.Results.{IsOfRightAnswer, IsScoreText, short_text, whole_text};
-ghost use Rattle.otp_tool.specs.Steps.{IsStep, end_of};
+ghost use Rattle.otp_tool.specs.Steps.{IsStep, end_of, taking_of};
 
 use crate::answer::make_answer;
 use crate::scored::read_scored;
@@ -16,7 +16,7 @@ use timeline_text::FormErr;
 use violation::vector;
 
 /// The status that the writing of a text ends with.
-fn ended(written: Result<(), WriteErr>) -> Status
+pub(crate) fn ended(written: Result<(), WriteErr>) -> Status
     ensures { result ≡ end_of written }
 {
     match written {
@@ -28,7 +28,8 @@ fn ended(written: Result<(), WriteErr>) -> Status
 
 /// Writes the canonical text of a grammar.
 pub(crate) fn canon<O: Sink>(grammar: &Grammar, sink: &mut O) -> Status
-    ensures step { IsStep FindsForCanon (λ text. text ≡ canonical (value_of grammar.now)) (record { old = O.taken sink.old; new = O.taken sink.new; before = O.faults sink.old; after = O.faults sink.new }) result }
+    ensures step { IsStep FindsForCanon (λ text. text ≡ canonical (value_of grammar.now))
+        (taking_of O.Sink sink.old sink.new) result }
     ensures never_falls { O.faults sink.old ≤ O.faults sink.new }
 {
     ended(put_grammar(sink, grammar))
@@ -36,7 +37,9 @@ pub(crate) fn canon<O: Sink>(grammar: &Grammar, sink: &mut O) -> Status
 
 /// Counts on the timeline that a word is read as, and writes the line of the counts.
 pub(crate) fn score<O: Sink>(alloc: Global, grammar: &Grammar, word: &str, sink: &mut O) -> Status
-    ensures step { IsStep (FindsForScore (value_of grammar.now) word.now) (IsScoreText (value_of grammar.now) word.now) (record { old = O.taken sink.old; new = O.taken sink.new; before = O.faults sink.old; after = O.faults sink.new }) result }
+    ensures step { IsStep (FindsForScore (value_of grammar.now) word.now)
+        (IsScoreText (value_of grammar.now) word.now)
+        (taking_of O.Sink sink.old sink.new) result }
     ensures never_falls { O.faults sink.old ≤ O.faults sink.new }
 {
     let timeline = match read_scored(alloc, grammar, word.as_bytes()) {
@@ -60,7 +63,9 @@ pub(crate) fn generate<O: Sink>(
 ) -> Status
     requires some { 1 ≤ budget }
     requires few { budget ≤ 65536 }
-    ensures step { IsStep (FindsForAnswer (value_of grammar.now) form.now budget) (IsOfRightAnswer whole_text (value_of grammar.now) form.now) (record { old = O.taken sink.old; new = O.taken sink.new; before = O.faults sink.old; after = O.faults sink.new }) result }
+    ensures step { IsStep (FindsForAnswer (value_of grammar.now) form.now budget)
+        (IsOfRightAnswer whole_text (value_of grammar.now) form.now)
+        (taking_of O.Sink sink.old sink.new) result }
     ensures never_falls { O.faults sink.old ≤ O.faults sink.new }
 {
     let answer = match make_answer(alloc, grammar, form, budget) {
@@ -83,7 +88,9 @@ pub(crate) fn show<O: Sink>(
 ) -> Status
     requires some { 1 ≤ budget }
     requires few { budget ≤ 65536 }
-    ensures step { IsStep (FindsForAnswer (value_of grammar.now) form.now budget) (IsOfRightAnswer short_text (value_of grammar.now) form.now) (record { old = O.taken sink.old; new = O.taken sink.new; before = O.faults sink.old; after = O.faults sink.new }) result }
+    ensures step { IsStep (FindsForAnswer (value_of grammar.now) form.now budget)
+        (IsOfRightAnswer short_text (value_of grammar.now) form.now)
+        (taking_of O.Sink sink.old sink.new) result }
     ensures never_falls { O.faults sink.old ≤ O.faults sink.new }
 {
     match make_answer(alloc, grammar, form, budget) {

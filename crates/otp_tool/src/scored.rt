@@ -16,7 +16,8 @@ pub(crate) fn read_scored(
     word: &[u8],
 ) -> Result<Timeline, FormErr>
     ensures ok { IfOk result (IsScored (length grammar.now.tiers.kinds.items) word.now) }
-    ensures err { IfErr result (λ cause. cause ≢ FormErr.NoMemory → IsNotScored (length grammar.now.tiers.kinds.items) word.now cause) }
+    ensures err { IfErr result (λ cause. cause ≢ FormErr.NoMemory
+        → IsNotScored (length grammar.now.tiers.kinds.items) word.now cause) }
 {
     let width = grammar.tiers.kinds.as_slice().len() as u32;
     read_timeline(alloc, width, SCORED_LIMIT, word)

@@ -2,6 +2,7 @@ mod answers;
 mod grammars;
 mod scores;
 mod statuses;
+mod tableaux;
 
 use crate::{Status, run};
 use outside::{MemShelf, SafeSink};

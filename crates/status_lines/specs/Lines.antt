@@ -5,8 +5,10 @@ use Rattle.timeline_text.specs.declared.form_err.FormErr.{FormErr}
 use Rattle.timeline_text.specs.declared.form_err.FormErr.TheVariants.{BadSymbol, WrongWidth, TooLong as TooManyColumns, NotWellFormed, NotReduced, UnknownLetter, NoMemory as NoMemoryForForm}
 use Rattle.grammar_reader.specs.declared.grammar_err.GrammarCause.{GrammarCause}
 use Rattle.grammar_reader.specs.declared.grammar_err.GrammarCause.TheVariants.{BadByte, BadHeader, BadLine, BadName, TwiceNamed, UnknownTier, NotInput, TooManyTiers, TooManyConstraints, TooManyEvents, NoInput, NoOvert}
+use Rattle.tableau.specs.declared.rows_err.RowsCause.{RowsCause}
+use Rattle.tableau.specs.declared.rows_err.RowsCause.TheVariants.{Form, NotCandidate, TooMany}
 use Rattle.status_lines.specs.declared.status.Status.{Status}
-use Rattle.status_lines.specs.declared.status.Status.TheVariants.{Done, Usage, GrammarRefused, FormRefused, Budget, ReadFault, WriteFault, NoMemory, TooLong}
+use Rattle.status_lines.specs.declared.status.Status.TheVariants.{Done, Usage, GrammarRefused, FormRefused, Budget, ReadFault, WriteFault, NoMemory, RowsRefused, TooLong}
 
 abbrev pub status_number : Status → ℕ
 status_number Done = 0
@@ -17,6 +19,7 @@ status_number (Budget entry stage) = 7
 status_number (ReadFault word) = 8
 status_number WriteFault = 9
 status_number NoMemory = 10
+status_number (RowsRefused word row cause) = 11
 status_number (TooLong word) = 12
 
 -- the cause of a grammar is its name
@@ -44,6 +47,12 @@ form_cause_text (NotReduced column) = codes "NotReduced " ++ decimal column
 form_cause_text (UnknownLetter at) = codes "UnknownLetter " ++ decimal at
 form_cause_text NoMemoryForForm = codes "NoMemory"
 
+-- the cause of a row is its name, or that of a form
+abbrev pub rows_cause_text : RowsCause → List ℕ
+rows_cause_text (Form cause) = form_cause_text cause
+rows_cause_text NotCandidate = codes "NotCandidate"
+rows_cause_text TooMany = codes "TooMany"
+
 -- the line of a status; where all is done there is none
 abbrev pub status_text : Status → List ℕ
 status_text Done = []
@@ -58,4 +67,7 @@ status_text (Budget entry stage) =
 status_text (ReadFault word) = (codes "read fault word " ++ decimal word) ++ codes "\n"
 status_text WriteFault = codes "write fault\n"
 status_text NoMemory = codes "no memory\n"
+status_text (RowsRefused word row cause) =
+    (codes "rows word " ++ decimal word)
+    ++ (((codes " row " ++ decimal row) ++ codes ": ") ++ (rows_cause_text cause ++ codes "\n"))
 status_text (TooLong word) = (codes "too long word " ++ decimal word) ++ codes "\n"

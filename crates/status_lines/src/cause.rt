@@ -1,9 +1,10 @@
 ghost use Rattle.std.specs.Prelude.{◌≡◌, ◌++◌, codes};
 ghost use Rattle.outside.specs.Writers.{Pushes};
-ghost use Rattle.status_lines.specs.Lines.{form_cause_text, grammar_cause_text};
+ghost use Rattle.status_lines.specs.Lines.{form_cause_text, grammar_cause_text, rows_cause_text};
 
 use grammar_reader::GrammarCause;
 use outside::{OutBuffer, Sink, WriteErr, push_number};
+use tableau::RowsCause;
 use timeline_text::FormErr;
 
 /// The name of a grammar's cause.
@@ -67,4 +68,20 @@ pub(crate) fn push_form_cause<O: Sink>(
 {
     push_cause(out, sink, cause)?;
     out.push(sink, b"\n")
+}
+
+/// Appends the cause of a row, and the end of the line.
+pub(crate) fn push_rows_cause<O: Sink>(
+    out: &mut OutBuffer,
+    sink: &mut O,
+    cause: RowsCause,
+) -> Result<(), WriteErr>
+    ensures { Pushes O.Sink sink.old sink.new out.old out.new
+        (rows_cause_text cause ++ codes "\n") result }
+{
+    match cause {
+        RowsCause::Form(cause) => push_form_cause(out, sink, cause),
+        RowsCause::NotCandidate => out.push(sink, b"NotCandidate\n"),
+        RowsCause::TooMany => out.push(sink, b"TooMany\n"),
+    }
 }

@@ -1,11 +1,12 @@
 ghost use Rattle.outside.specs.Writers.{Puts, Pushes};
 ghost use Rattle.status_lines.specs.Lines.{status_text};
 
-use crate::cause::{push_form_cause, push_grammar_cause};
+use crate::cause::{push_form_cause, push_grammar_cause, push_rows_cause};
 use crate::number::push_worded;
 use crate::status::Status;
 use grammar_reader::GrammarCause;
 use outside::{OutBuffer, Sink, WriteErr, push_number};
+use tableau::RowsCause;
 use timeline_text::FormErr;
 
 /// Appends the line of a file that is no grammar.
@@ -52,6 +53,22 @@ fn push_budget<O: Sink>(
     push_worded(out, sink, b" stage ", stage, b"\n")
 }
 
+/// Appends the line of a file that is no rows file.
+fn push_rows_refused<O: Sink>(
+    out: &mut OutBuffer,
+    sink: &mut O,
+    word: u32,
+    row: u32,
+    cause: RowsCause,
+) -> Result<(), WriteErr>
+    ensures { Pushes O.Sink sink.old sink.new out.old out.new
+        (status_text (Status.RowsRefused word row cause)) result }
+{
+    push_number(out, sink, b"rows word ", word as usize)?;
+    push_worded(out, sink, b" row ", row, b": ")?;
+    push_rows_cause(out, sink, cause)
+}
+
 /// Appends the line of a status.
 fn push_line<O: Sink>(out: &mut OutBuffer, sink: &mut O, status: &Status) -> Result<(), WriteErr>
     ensures { Pushes O.Sink sink.old sink.new out.old out.new (status_text status.now) result }
@@ -67,6 +84,9 @@ fn push_line<O: Sink>(out: &mut OutBuffer, sink: &mut O, status: &Status) -> Res
         Status::ReadFault { word } => push_worded(out, sink, b"read fault word ", word, b"\n"),
         Status::WriteFault => out.push(sink, b"write fault\n"),
         Status::NoMemory => out.push(sink, b"no memory\n"),
+        Status::RowsRefused { word, row, cause } => {
+            push_rows_refused(out, sink, word, row, cause)
+        }
         Status::TooLong { word } => push_worded(out, sink, b"too long word ", word, b"\n"),
     }
 }

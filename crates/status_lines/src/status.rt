@@ -2,6 +2,7 @@ ghost use Rattle.std.specs.Prelude.{◌≡◌};
 ghost use Rattle.status_lines.specs.Lines.{status_number};
 
 use grammar_reader::GrammarCause;
+use tableau::RowsCause;
 use timeline_text::FormErr;
 
 /// How a command ended. `word` is the index of a word, where the command is word 0.
@@ -37,6 +38,12 @@ pub enum Status {
     WriteFault,
     /// Memory was wanting.
     NoMemory,
+    /// The file is no rows file: its first line with a cause, counted from 1, and the cause.
+    RowsRefused {
+        word: u32,
+        row: u32,
+        cause: RowsCause,
+    },
     /// The file is longer than its limit.
     TooLong {
         word: u32,
@@ -57,6 +64,7 @@ impl Status {
             Status::ReadFault { .. } => 8,
             Status::WriteFault => 9,
             Status::NoMemory => 10,
+            Status::RowsRefused { .. } => 11,
             Status::TooLong { .. } => 12,
         }
     }

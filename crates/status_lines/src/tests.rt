@@ -2,12 +2,21 @@ use crate::{Status, put_status};
 use grammar_reader::GrammarCause;
 use outside::{MemSink, SafeSink, Sink, WriteErr};
 use std::test::Fail;
+use tableau::RowsCause;
 use timeline_text::FormErr;
 
 fn no_grammar(line: u32, cause: GrammarCause) -> Status {
     Status::GrammarRefused {
         word: 1,
         line,
+        cause,
+    }
+}
+
+fn no_rows(cause: RowsCause) -> Status {
+    Status::RowsRefused {
+        word: 3,
+        row: 2,
         cause,
     }
 }
@@ -155,6 +164,28 @@ fn each_cause_of_a_form(rt: HostRuntime) -> Result<(), Fail> {
         put_status(&mut sink, &status)?;
         assert_eq!(rt; sink.bytes(), line.as_bytes(), "{line}");
         assert_eq!(rt; status.number(), 4, "{line}");
+    }
+    Ok(())
+}
+
+#[test]
+fn each_cause_of_a_row(rt: HostRuntime) -> Result<(), Fail> {
+    let cases = [
+        (
+            no_rows(RowsCause::Form(FormErr::NotReduced { column: 1 })),
+            "rows word 3 row 2: NotReduced 1\n",
+        ),
+        (
+            no_rows(RowsCause::NotCandidate),
+            "rows word 3 row 2: NotCandidate\n",
+        ),
+        (no_rows(RowsCause::TooMany), "rows word 3 row 2: TooMany\n"),
+    ];
+    for (status, line) in cases {
+        let mut sink = SafeSink::new(rt.alloc());
+        put_status(&mut sink, &status)?;
+        assert_eq!(rt; sink.bytes(), line.as_bytes(), "{line}");
+        assert_eq!(rt; status.number(), 11, "{line}");
     }
     Ok(())
 }

@@ -1,35 +1,31 @@
-use Rattle.std.proofs.Common.{◌≡◌, ◌≢◌, ℕ, List, [], length, refl, sym, ◌∙◌, subst, rules}
-use Rattle.tier_core.specs.Tables.{tiers_of_table}
-use Rattle.timeline_text.specs.declared.form_err.FormErr.TheVariants.{NoMemory}
-use Rattle.form_reader.specs.Forms.{IsReadAs, IsRefusedFor}
-use Rattle.otp_tool.proofs.StepLemmas.{asks, no_form_for, over_for}
+use Rattle.std.proofs.lemmas.Result.{IfErr-weaker}
+use Rattle.grammar_reader.specs.Grammars.{value_of}
+use Rattle.violation.specs.Problems.{asked}
+use Rattle.otp_tool.specs.Findings.{FindsForAnswer}
+use Rattle.otp_tool.specs.Steps.{IsRefusal, RefusesBudget, RefusesForm}
+use Rattle.otp_tool.proofs.RefusalLemmas.{budget_for_answer, form_for_answer, refusal_weaker}
+use Rattle.otp_tool.proofs.StepLemmas.{made_for}
 use Rattle.otp_tool.proofs.answer.make_answer.Goals as goal
 
-pub returns-in-Err : goal.returns-in-Err
-returns-in-Err c =
-    let other : c.in-Err.cause ≢ NoMemory = search rules in
-    record {
-      ok = tt;
-      err = (
-        refl,
-        no_form_for c.args.grammar.now c.args.word.now c.args.budget c.in-Err.cause
-            (subst (λ (w : List ℕ). IsRefusedFor (length (tiers_of_table c.args.grammar.now.tiers).input) c.args.grammar.now.letters.items w c.in-Err.cause) c.as_bytes.ensures.value (c.in-Err.ensures.err other)),
-      );
-    }
+pub returns-in-Ok-clause-ok : goal.returns-in-Ok-clause-ok
+returns-in-Ok-clause-ok c =
+    made_for c.args.grammar.now c.args.word.now c.args.budget c.in-Ok.form c.in-Ok.ensures.ok c.answer_for.result
+    c.answer_for.ensures.right c.answer_for.ensures.within
 
-pub returns-in-Ok-generate-clause-ok : goal.returns-in-Ok-generate-clause-ok
-returns-in-Ok-generate-clause-ok c = record {
-  u = c.in-Ok.form;
-  is_asked = asks c.args.grammar.now c.args.word.now c.args.budget c.in-Ok.form
-      (subst (λ (w : List ℕ). IsReadAs (length (tiers_of_table c.args.grammar.now.tiers).input) c.args.grammar.now.letters.items w c.in-Ok.form) c.as_bytes.ensures.value c.in-Ok.ensures.ok);
-  right = c.in-Ok-generate.ensures.right;
-  within = c.in-Ok-generate.ensures.within;
-}
+pub returns-in-Ok-clause-err : goal.returns-in-Ok-clause-err
+returns-in-Ok-clause-err c =
+    let g = value_of c.args.grammar.now in
+    let problem = asked c.args.grammar.now.tiers c.args.grammar.now.constraints.items c.in-Ok.form in
+    let word = c.args.word.now in
+    IfErr-weaker c.answer_for.result (IsRefusal (RefusesBudget problem c.args.budget))
+    (IsRefusal (FindsForAnswer g word c.args.budget))
+    (refusal_weaker (RefusesBudget problem c.args.budget) (FindsForAnswer g word c.args.budget)
+    (budget_for_answer g word c.args.budget problem c.in-Ok.ensures.ok))
+    c.answer_for.ensures.err
 
-pub returns-in-Err-Budget-clause-err : goal.returns-in-Err-Budget-clause-err
-returns-in-Err-Budget-clause-err c = (
-  refl,
-  over_for c.args.grammar.now c.args.word.now c.args.budget c.in-Ok.form
-      (subst (λ (w : List ℕ). IsReadAs (length (tiers_of_table c.args.grammar.now.tiers).input) c.args.grammar.now.letters.items w c.in-Ok.form) c.as_bytes.ensures.value c.in-Ok.ensures.ok)
-      c.in-Err-Budget.stage (c.generate.ensures.over c.in-Err-Budget.stage (search rules)),
-)
+pub returns-in-Err-clause-err : goal.returns-in-Err-clause-err
+returns-in-Err-clause-err c =
+    let g = value_of c.args.grammar.now in
+    refusal_weaker (RefusesForm g c.args.word.now) (FindsForAnswer g c.args.word.now c.args.budget)
+    (form_for_answer g c.args.word.now c.args.budget)
+    c.in-Err.status c.in-Err.ensures.err

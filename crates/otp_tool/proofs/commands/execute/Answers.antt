@@ -1,28 +1,35 @@
 use Rattle.std.proofs.Common.{ℕ, List, refl, subst}
 use Rattle.command_words.specs.Seen.{command_seen}
 use Rattle.grammar_reader.specs.Grammars.{value_of}
-use Rattle.otp_tool.specs.Steps.{Change, IsLoadRefusal, IsLoaded}
-use Rattle.otp_tool.proofs.OutcomeLemmas.{by_load, by_step}
+use Rattle.otp_tool.specs.Files.{second_file}
+use Rattle.otp_tool.specs.Findings.{FindsIn, Reaches}
+use Rattle.otp_tool.specs.Results.{IsResult}
+use Rattle.otp_tool.specs.Steps.{IsLoadRefusal, IsLoaded, change_of}
+use Rattle.otp_tool.proofs.OutcomeLemmas.{by_load, by_work, work_before}
 use Rattle.otp_tool.proofs.commands.execute.Goals as goal
 
 pub returns-in-Ok-clause-outcome : goal.returns-in-Ok-clause-outcome
 returns-in-Ok-clause-outcome g c =
-    let change : Change = record {
-      held = g.F.Shelf.held c.args.shelf.now;
-      faults_before = g.F.Shelf.faults c.args.shelf.now;
-      faults_after = g.F.Shelf.faults c.load_grammar.new.shelf;
-      taking = record { old = g.O.Sink.taken c.args.sink.now; new = g.O.Sink.taken c.perform.new.sink; before = g.O.Sink.faults c.args.sink.now; after = g.O.Sink.faults c.perform.new.sink };
-    } in
-    let loaded = subst (λ (name : List ℕ). IsLoaded (g.F.Shelf.held c.args.shelf.now name) (value_of c.in-Ok.grammar)) c.grammar_name.ensures c.in-Ok.ensures.ok in
-    (λ words are. by_step words change (command_seen c.args.command.now) are (value_of c.in-Ok.grammar) loaded c.perform.result c.perform.ensures.step)
+    let command = command_seen c.args.command.now in
+    let value = value_of c.in-Ok.grammar in
+    let loaded = subst (λ (name : List ℕ). IsLoaded
+    (g.F.Shelf.held c.args.shelf.now name) value) c.grammar_name.ensures c.in-Ok.ensures.ok in
+    let change = change_of g.F.Shelf g.O.Sink c.load_grammar.new.shelf c.perform.new.shelf c.args.sink.now
+    c.perform.new.sink in
+    let work = work_before (g.F.Shelf.held c.args.shelf.now)
+    (g.F.Shelf.faults c.args.shelf.now) change c.load_grammar.ensures.held c.load_grammar.ensures.never_falls
+    (second_file command) (Reaches command value) (FindsIn command value)
+    (IsResult command value) c.perform.result c.perform.ensures.work in
+    (λ words are.
+    by_work words (change_of g.F.Shelf g.O.Sink c.args.shelf.now c.perform.new.shelf c.args.sink.now c.perform.new.sink)
+    command are value loaded c.perform.result work)
 
 pub returns-in-Err-clause-outcome : goal.returns-in-Err-clause-outcome
 returns-in-Err-clause-outcome g c =
-    let change : Change = record {
-      held = g.F.Shelf.held c.args.shelf.now;
-      faults_before = g.F.Shelf.faults c.args.shelf.now;
-      faults_after = g.F.Shelf.faults c.load_grammar.new.shelf;
-      taking = record { old = g.O.Sink.taken c.args.sink.now; new = g.O.Sink.taken c.args.sink.now; before = g.O.Sink.faults c.args.sink.now; after = g.O.Sink.faults c.args.sink.now };
-    } in
-    let refused = subst (λ (name : List ℕ). IsLoadRefusal (g.F.Shelf.held c.args.shelf.now name) (g.F.Shelf.faults c.args.shelf.now name) (g.F.Shelf.faults c.load_grammar.new.shelf name) c.in-Err.status) c.grammar_name.ensures c.in-Err.ensures.err in
-    (λ words are. by_load words change (command_seen c.args.command.now) are refl c.in-Err.status refused)
+    let refused = subst (λ (name : List ℕ). IsLoadRefusal (g.F.Shelf.held c.args.shelf.now name)
+    (g.F.Shelf.faults c.args.shelf.now name)
+    (g.F.Shelf.faults c.load_grammar.new.shelf name) c.in-Err.status) c.grammar_name.ensures c.in-Err.ensures.err in
+    (λ words are.
+    by_load words (change_of g.F.Shelf g.O.Sink c.args.shelf.now c.load_grammar.new.shelf c.args.sink.now
+    c.args.sink.now)
+    (command_seen c.args.command.now) are refl c.in-Err.status refused)

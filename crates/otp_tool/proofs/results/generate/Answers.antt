@@ -3,18 +3,19 @@ use Rattle.answer_text.specs.Text.{answer_text}
 use Rattle.grammar_reader.specs.Grammars.{value_of}
 use Rattle.otp_tool.specs.Findings.{FindsForAnswer}
 use Rattle.otp_tool.specs.Results.{IsOfRightAnswer, whole_text}
-use Rattle.otp_tool.specs.Steps.{Taking}
 use Rattle.otp_tool.proofs.StepLemmas.{made_ready, made_right, stages_fit, whole_written, written}
 use Rattle.otp_tool.proofs.results.generate.Goals as goal
 
 pub put_answer-requires : goal.put_answer-requires
-put_answer-requires g c = stages_fit c.args.grammar.now c.args.form.now c.args.budget c.in-Ok.answer c.in-Ok.ensures.ok c.in-Ok-shape.shape c.in-Ok-shape.ensures
+put_answer-requires g c = stages_fit c.args.grammar.now c.args.form.now c.args.budget c.in-Ok.answer c.in-Ok.ensures.ok
+    c.in-Ok-shape.shape c.in-Ok-shape.ensures
 
 pub returns-in-Ok-shape-clause-step : goal.returns-in-Ok-shape-clause-step
 returns-in-Ok-shape-clause-step g c =
-    let taking : Taking = record { old = g.O.Sink.taken c.args.sink.now; new = g.O.Sink.taken c.put_answer.new.sink; before = g.O.Sink.faults c.args.sink.now; after = g.O.Sink.faults c.put_answer.new.sink } in
     let text = answer_text (widths_of c.in-Ok-shape.shape) c.in-Ok.answer in
-    written (FindsForAnswer (value_of c.args.grammar.now) c.args.form.now c.args.budget) (IsOfRightAnswer whole_text (value_of c.args.grammar.now) c.args.form.now) taking text
+    written (IsOfRightAnswer whole_text (value_of c.args.grammar.now) c.args.form.now) text
+    (made_right c.args.grammar.now c.args.form.now c.args.budget c.in-Ok.answer c.in-Ok.ensures.ok whole_text text
+    (whole_written c.args.grammar.now c.in-Ok-shape.shape c.in-Ok-shape.ensures c.in-Ok.answer))
+    (FindsForAnswer (value_of c.args.grammar.now) c.args.form.now c.args.budget)
     (made_ready c.args.grammar.now c.args.form.now c.args.budget c.in-Ok.answer c.in-Ok.ensures.ok)
-    (made_right c.args.grammar.now c.args.form.now c.args.budget c.in-Ok.answer c.in-Ok.ensures.ok whole_text text (whole_written c.args.grammar.now c.in-Ok-shape.shape c.in-Ok-shape.ensures c.in-Ok.answer))
-    c.put_answer.result c.put_answer.ensures.ok c.put_answer.ensures.part c.put_answer.ensures.failed c.ended.result c.ended.ensures
+    c.put_answer.result c.put_answer.ensures c.ended.result c.ended.ensures

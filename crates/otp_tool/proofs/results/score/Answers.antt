@@ -1,4 +1,4 @@
-use Rattle.std.proofs.Common.{◌≡◌, ◌≢◌, ◌≤◌, ℕ, length, List, All, inl, refl, ap, sym, ◌∙◌, subst, rules, arith}
+use Rattle.std.proofs.Common.{◌≡◌, ◌≢◌, ℕ, length, List, All, inl, refl, ap, sym, ◌∙◌, subst, rules, arith}
 use Rattle.tier_core.specs.declared.constraint.Constraint.{Constraint}
 use Rattle.timeline_text.specs.declared.form_err.FormErr.TheVariants.{NoMemory}
 use Rattle.violation.specs.Candidates.{vec}
@@ -8,14 +8,15 @@ use Rattle.grammar_reader.specs.Grammars.{value_of}
 use Rattle.otp_tool.specs.Findings.{FindsForScore}
 use Rattle.otp_tool.specs.Scored.{IsNotScored, IsScored}
 use Rattle.otp_tool.specs.Results.{IsScoreText}
-use Rattle.otp_tool.specs.Steps.{Taking}
 use Rattle.otp_tool.proofs.StepLemmas.{all_countable, is_scored, not_scored, scored, written}
 use Rattle.otp_tool.proofs.results.score.Goals as goal
 
 pub returns-in-Err : goal.returns-in-Err
 returns-in-Err g c =
     let other : c.in-Err.cause ≢ NoMemory = search rules in
-    let refused = subst (λ (w : List ℕ). IsNotScored (length c.args.grammar.now.tiers.kinds.items) w c.in-Err.cause) c.as_bytes.ensures.value (c.in-Err.ensures.err other) in
+    let refused = subst (λ (w : List ℕ). IsNotScored
+    (length c.args.grammar.now.tiers.kinds.items) w c.in-Err.cause) c.as_bytes.ensures.value
+    (c.in-Err.ensures.err other) in
     record {
       step = inl ((refl, not_scored c.args.grammar.now c.args.word.now c.in-Err.cause refused), refl);
       never_falls = omega arith;
@@ -23,16 +24,19 @@ returns-in-Err g c =
 
 pub vector-requires-clause-countable : goal.vector-requires-clause-countable
 vector-requires-clause-countable g c =
-    subst (λ (cs : List Constraint). All (λ k. IsCountable k.left k.right c.in-Ok.timeline) cs) (sym c.deref.ensures.value)
+    subst (λ (cs : List Constraint). All (λ k. IsCountable k.left k.right c.in-Ok.timeline) cs)
+    (sym c.deref.ensures.value)
     (all_countable c.args.grammar.now c.in-Ok.timeline c.in-Ok.ensures.ok.form)
 
 pub returns-in-Ok-vector-clause-step : goal.returns-in-Ok-vector-clause-step
 returns-in-Ok-vector-clause-step g c =
-    let read = subst (λ (w : List ℕ). IsScored (length c.args.grammar.now.tiers.kinds.items) w c.in-Ok.timeline) c.as_bytes.ensures.value c.in-Ok.ensures.ok in
+    let read = subst (λ (w : List ℕ). IsScored
+    (length c.args.grammar.now.tiers.kinds.items) w c.in-Ok.timeline) c.as_bytes.ensures.value c.in-Ok.ensures.ok in
     let counts : c.in-Ok-vector.counts.items ≡ vec c.args.grammar.now.constraints.items c.in-Ok.timeline =
     c.in-Ok-vector.ensures ∙ ap (λ (cs : List Constraint). vec cs c.in-Ok.timeline) c.deref.ensures.value in
-    let taking : Taking = record { old = g.O.Sink.taken c.args.sink.now; new = g.O.Sink.taken c.put_counts.new.sink; before = g.O.Sink.faults c.args.sink.now; after = g.O.Sink.faults c.put_counts.new.sink } in
-    written (FindsForScore (value_of c.args.grammar.now) c.args.word.now) (IsScoreText (value_of c.args.grammar.now) c.args.word.now) taking (counts_text c.deref-in-Ok-vector.result.now)
+    written (IsScoreText (value_of c.args.grammar.now) c.args.word.now) (counts_text c.deref-in-Ok-vector.result.now)
+    (scored c.args.grammar.now c.args.word.now c.in-Ok.timeline c.deref-in-Ok-vector.result.now read
+    (c.deref-in-Ok-vector.ensures.value ∙ counts))
+    (FindsForScore (value_of c.args.grammar.now) c.args.word.now)
     (is_scored c.args.grammar.now c.args.word.now c.in-Ok.timeline read)
-    (scored c.args.grammar.now c.args.word.now c.in-Ok.timeline c.deref-in-Ok-vector.result.now read (c.deref-in-Ok-vector.ensures.value ∙ counts))
-    c.put_counts.result c.put_counts.ensures.ok c.put_counts.ensures.part c.put_counts.ensures.failed c.ended.result c.ended.ensures
+    c.put_counts.result c.put_counts.ensures c.ended.result c.ended.ensures

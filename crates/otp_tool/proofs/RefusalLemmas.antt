@@ -1,0 +1,96 @@
+-- Refusals of one step as those of a whole command.
+use Rattle.std.proofs.Common.{◌≡◌, inl, inr, ℕ, ◌<◌, List, length, Option, Some, refl, ap, sym, subst}
+use Rattle.status_lines.specs.declared.status.Status.{Status}
+use Rattle.status_lines.specs.declared.status.Status.TheVariants.{Done, Usage, GrammarRefused, FormRefused, Budget, ReadFault, WriteFault, NoMemory, RowsRefused, TooLong}
+use Rattle.grammar_reader.specs.Values.{GrammarValue}
+use Rattle.violation.specs.Problems.{Problem}
+use Rattle.otp_tool.specs.Files.{NamedFile}
+use Rattle.otp_tool.specs.Grammars.{IsAsked}
+use Rattle.otp_tool.specs.Findings.{Finding, FindsForAnswer, FindsForTableau, long_second, no_form, no_rows, over_budget}
+use Rattle.otp_tool.specs.Steps.{Change, IsRefusal, IsSecondRefusal, IsWork, RefusesBudget, RefusesForm, RefusesRows}
+use Rattle.otp_tool.proofs.OutcomeLemmas.{long_held, some_held, some_second}
+
+module _ (P Q : Finding → Type 0) (weaker : (x : Finding) → P x → Q x) where
+  pub refusal_weaker : (s : Status) → IsRefusal P s → IsRefusal Q s
+  refusal_weaker Done r = absurd r
+  refusal_weaker Usage r = absurd r
+  refusal_weaker (GrammarRefused word line cause) r = absurd r
+  refusal_weaker (FormRefused word cause) r = (r.0, weaker (no_form cause) r.1)
+  refusal_weaker (Budget entry stage) r = (r.0, weaker (over_budget stage) r.1)
+  refusal_weaker (ReadFault word) r = absurd r
+  refusal_weaker WriteFault r = absurd r
+  refusal_weaker NoMemory r = tt
+  refusal_weaker (RowsRefused word row cause) r = (r.0, weaker (no_rows row cause) r.1)
+  refusal_weaker (TooLong word) r = weaker (long_second word) r
+
+-- ---- answers
+
+module _ (g : GrammarValue) (word : List ℕ) (budget : ℕ) where
+  pub form_for_answer : (x : Finding) → RefusesForm g word x → FindsForAnswer g word budget x
+  form_for_answer x r = subst (FindsForAnswer g word budget) (sym r.is) r.fact
+
+  pub budget_for_answer : (problem : Problem) → IsAsked g word problem → (x : Finding) → RefusesBudget problem budget x
+      → FindsForAnswer g word budget x
+  budget_for_answer problem a x r =
+      subst (FindsForAnswer g word budget) (sym r.is) (record { problem = problem; is_asked = a; over = r.fact })
+
+-- ---- tableaux
+
+module _ (g : GrammarValue) (word : List ℕ) (budget : ℕ) (bytes : List ℕ) where
+  pub form_for_tableau : (x : Finding) → RefusesForm g word x → FindsForTableau g word budget bytes x
+  form_for_tableau x r = subst (FindsForTableau g word budget bytes) (sym r.is) r.fact
+
+  pub rows_for_tableau : (problem : Problem) → IsAsked g word problem → (x : Finding)
+      → RefusesRows problem budget bytes x → FindsForTableau g word budget bytes x
+  rows_for_tableau problem a x (inl r) =
+      subst (FindsForTableau g word budget bytes) (sym r.is) (record { problem = problem; is_asked = a; fact = r.fact })
+  rows_for_tableau problem a x (inr r) =
+      subst (FindsForTableau g word budget bytes) (sym r.1.is)
+      (record { problem = problem; is_asked = a; fact = (r.0, r.1.fact) })
+
+-- ---- second files
+
+module _ (reaches : Type 0) (finds : List ℕ → Finding → Type 0) (writes : List ℕ → List ℕ
+    → Type 0) (c : Change) (untouched : c.taking.new ≡ c.taking.old) where
+  -- a refusal before the second file is loaded
+  pub refused_before : (second : Option NamedFile) (P : Finding → Type 0)
+      → ((bytes : List ℕ) (x : Finding) → P x → finds bytes x) → (s : Status) → IsRefusal P s
+      → IsWork second reaches finds writes c s
+  refused_before second P weaker s r =
+      let b = some_second c.held second in
+      inr (record {
+        bytes = b.0;
+        holds = b.1;
+        step = inl (refusal_weaker P (finds b.0) (weaker b.0) s r, untouched);
+      })
+
+  module _ (file : NamedFile) (reached : reaches) (long : (bytes : List ℕ) → file.limit < length bytes
+      → finds bytes (long_second file.word)) where
+    pub second_refused : (s : Status)
+        → IsSecondRefusal file (c.held file.name) (c.faults_before file.name) (c.faults_after file.name) s
+        → IsWork (Some file) reaches finds writes c s
+    second_refused Done r = absurd r
+    second_refused Usage r = absurd r
+    second_refused (GrammarRefused word line cause) r = absurd r
+    second_refused (FormRefused word cause) r = absurd r
+    second_refused (Budget entry stage) r = absurd r
+    second_refused (ReadFault word) r = inl (record {
+      file = file;
+      is_second = refl;
+      reached = reached;
+      rose = r.1;
+      answer = ap ReadFault r.0;
+      untouched = untouched;
+    })
+    second_refused WriteFault r = absurd r
+    second_refused NoMemory r =
+        let b = some_held (c.held file.name) in
+        inr (record { bytes = b.0; holds = b.1; step = inl (tt, untouched) })
+    second_refused (RowsRefused word row cause) r = absurd r
+    second_refused (TooLong word) r =
+        let l = long_held (c.held file.name) file.limit r.1 in
+        inr (record {
+          bytes = l.bytes;
+          holds = l.holds;
+          step = inl (subst (λ (w : ℕ). finds l.bytes (long_second w)) (sym r.0) (long l.bytes l.long), untouched);
+        })

@@ -1,0 +1,35 @@
+use Rattle.std.proofs.Common.{inr, [], sym, subst}
+use Rattle.command_words.specs.Seen.{command_seen}
+use Rattle.command_words.specs.declared.command.Command.{Command}
+use Rattle.grammar_reader.specs.Grammars.{value_of}
+use Rattle.otp_tool.specs.Steps.{IsWorkOf, change_of}
+use Rattle.otp_tool.proofs.commands.perform.Goals as goal
+
+pub returns-in-Score-clause-work : goal.returns-in-Score-clause-work
+returns-in-Score-clause-work g c =
+    let change = change_of g.F.Shelf g.O.Sink c.args.shelf.now c.args.shelf.now c.args.sink.now c.score.new.sink in
+    subst (λ (k : Command). IsWorkOf (command_seen k) (value_of c.args.grammar.now) change c.score.result)
+    (sym c.in-Score.is)
+    (inr (record { bytes = []; holds = tt; step = c.score.ensures.step }))
+
+pub returns-in-Generate-clause-work : goal.returns-in-Generate-clause-work
+returns-in-Generate-clause-work g c =
+    let change = change_of g.F.Shelf g.O.Sink c.args.shelf.now c.args.shelf.now c.args.sink.now c.generate.new.sink in
+    subst (λ (k : Command). IsWorkOf (command_seen k) (value_of c.args.grammar.now) change c.generate.result)
+    (sym c.in-Generate.is)
+    (inr (record { bytes = []; holds = tt; step = c.generate.ensures.step }))
+
+pub returns-in-Show-clause-work : goal.returns-in-Show-clause-work
+returns-in-Show-clause-work g c =
+    let change = change_of g.F.Shelf g.O.Sink c.args.shelf.now c.args.shelf.now c.args.sink.now c.show.new.sink in
+    subst (λ (k : Command). IsWorkOf (command_seen k) (value_of c.args.grammar.now) change c.show.result)
+    (sym c.in-Show.is)
+    (inr (record { bytes = []; holds = tt; step = c.show.ensures.step }))
+
+pub returns-in-Tableau-clause-work : goal.returns-in-Tableau-clause-work
+returns-in-Tableau-clause-work g c =
+    let change = change_of g.F.Shelf g.O.Sink c.args.shelf.now c.tabulate.new.shelf c.args.sink.now c.tabulate.new.sink
+    in
+    subst (λ (k : Command). IsWorkOf (command_seen k) (value_of c.args.grammar.now) change c.tabulate.result)
+    (sym c.in-Tableau.is)
+    c.tabulate.ensures.work

@@ -1,0 +1,20 @@
+use Rattle.std.proofs.Common.{refl, subst}
+use Rattle.std.specs.Str.Lines.{lines}
+use Rattle.violation.specs.Problems.{asked}
+use Rattle.tableau.specs.Rows.{IsTextRefusal}
+use Rattle.otp_tool.proofs.tableaux.rows_of.Goals as goal
+
+pub returns-in-Err-At-clause-err : goal.returns-in-Err-At-clause-err
+returns-in-Err-At-clause-err c =
+    let problem = asked c.args.grammar.now.tiers c.args.grammar.now.constraints.items c.args.form.now in (
+      refl,
+      record {
+        value = (c.in-Err-At.row, c.in-Err-At.cause);
+        is = refl;
+        fact = record {
+          within = c.requires;
+          refused = subst (IsTextRefusal problem
+              (lines c.args.bytes.now)) c.in-Err-At.field-0-is c.in-Err-At.ensures.err;
+        };
+      },
+    )

@@ -1,0 +1,34 @@
+-- The files that commands name, and what a shelf may hold under their names.
+use Rattle.std.specs.Prelude.{◌≡◌, ℕ, List, Option, Some, None}
+use Rattle.command_words.specs.Commands.{Command, canon, score, generate, show, tableau, grammar_of}
+
+pub record NamedFile : Type 0 where
+  -- the number of the word that names it
+  pub word : ℕ
+  pub name : List ℕ
+  -- how many bytes it may have
+  pub limit : ℕ
+
+abbrev pub grammar_file : Command → NamedFile
+grammar_file command = record { word = 1; name = grammar_of command; limit = 65536 }
+
+abbrev pub rows_file : List ℕ → NamedFile
+rows_file name = record { word = 3; name = name; limit = 4194304 }
+
+-- the file that a command names beside its grammar
+abbrev pub second_file : Command → Option NamedFile
+second_file (canon name) = None
+second_file (score name word) = None
+second_file (generate name form budget) = None
+second_file (show name form budget) = None
+second_file (tableau name form rows budget) = Some (rows_file rows)
+
+-- bytes are those that a shelf tells; where it tells nothing, they may be any
+abbrev pub IsHeld : Option (List ℕ) → List ℕ → Type 0
+IsHeld None bytes = Unit {0}
+IsHeld (Some text) bytes = bytes ≡ text
+
+-- bytes are those of a second file; where there is none, they may be any
+abbrev pub IsSecondHeld : (List ℕ → Option (List ℕ)) → Option NamedFile → List ℕ → Type 0
+IsSecondHeld held None bytes = Unit {0}
+IsSecondHeld held (Some file) bytes = IsHeld (held file.name) bytes

@@ -1,1 +1,1 @@
-mod Enough
+mod Within

@@ -1,4 +1,4 @@
-use Rattle.budget_laws.proofs.Enough.{all_within, none_over, plain_within, grammar_within}
+use Rattle.budget_laws.proofs.Within.{all_within, none_over, plain_within, grammar_within}
 use Rattle.budget_laws.proofs.enough.stages_are_within_enough.Goals as goal
 
 pub returns-clause-within : goal.returns-clause-within

@@ -28,7 +28,7 @@ pub fn unranked_answers()
 {}
 
 /// Alterations of this answer that are not certified: a potential that is raised, a node, an arc, a
-/// final mark or the stage taken out, an arc that leads elsewhere, a count that is added, and an
+/// final mark or the stage taken out, a count that is added, and an
 /// example that is no candidate.
 pub fn altered_answers_are_refused()
     ensures start_raised { (answer : Answer)

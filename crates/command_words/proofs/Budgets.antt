@@ -5,7 +5,8 @@ use Rattle.std.proofs.lemmas.Fmt.{parse-decimal}
 use Rattle.command_words.specs.Commands.{IsBudget}
 
 -- a budget's word is read as the budget
-pub read_so : {E : Type 0} (word : List ℕ) (budget : ℕ) (read : Result ℕ E) → ParsesUnsigned 32 10 word read → IsBudget (word ∷ []) budget → read ≡ Ok budget
+pub read_so : {E : Type 0} (word : List ℕ) (budget : ℕ) (read : Result ℕ E) → ParsesUnsigned 32 10 word read
+    → IsBudget (word ∷ []) budget → read ≡ Ok budget
 read_so word budget read parsed is =
     let small : budget < 2 ^ 32 = omega (arith, is.1.1) in
     let wide : budget < 2 ^ 64 = omega (arith, is.1.1) in

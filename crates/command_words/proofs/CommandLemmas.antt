@@ -82,7 +82,8 @@ one_command words (generate g f a) (score h s) p q = absurd (apart words (genera
 one_command words (generate g f a) (generate h k b) p q =
     let same = one_asked words (codes "generate") g f a h k b p q in cc (same.0, same.1, same.2)
 one_command words (generate g f a) (show h k b) p q = absurd (apart words (generate g f a) (show h k b) refl p q)
-one_command words (generate g f a) (tableau h k s b) p q = absurd (apart words (generate g f a) (tableau h k s b) refl p q)
+one_command words (generate g f a) (tableau h k s b) p q = absurd
+    (apart words (generate g f a) (tableau h k s b) refl p q)
 one_command words (show g f a) (canon h) p q = absurd (apart words (show g f a) (canon h) refl p q)
 one_command words (show g f a) (score h s) p q = absurd (apart words (show g f a) (score h s) refl p q)
 one_command words (show g f a) (generate h k b) p q = absurd (apart words (show g f a) (generate h k b) refl p q)
@@ -91,7 +92,8 @@ one_command words (show g f a) (show h k b) p q =
 one_command words (show g f a) (tableau h k s b) p q = absurd (apart words (show g f a) (tableau h k s b) refl p q)
 one_command words (tableau g f r a) (canon h) p q = absurd (apart words (tableau g f r a) (canon h) refl p q)
 one_command words (tableau g f r a) (score h s) p q = absurd (apart words (tableau g f r a) (score h s) refl p q)
-one_command words (tableau g f r a) (generate h k b) p q = absurd (apart words (tableau g f r a) (generate h k b) refl p q)
+one_command words (tableau g f r a) (generate h k b) p q = absurd
+    (apart words (tableau g f r a) (generate h k b) refl p q)
 one_command words (tableau g f r a) (show h k b) p q = absurd (apart words (tableau g f r a) (show h k b) refl p q)
 one_command words (tableau g f r a) (tableau h k s b) p q =
     let same = one_asked_beside words (codes "tableau") g f r a h k s b p q in cc (same.0, same.1, same.2, same.3)

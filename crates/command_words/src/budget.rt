@@ -31,7 +31,8 @@ fn says(word: &str, budget: u32) -> bool
 
 /// The budget that a word says.
 fn read_budget(word: &str) -> Option<u32>
-    ensures { MatchOption result ((budget : ℕ) → ¬ IsBudget (word.now ∷ []) budget) (IsBudget (word.now ∷ [])) }
+    ensures { MatchOption result ((budget : ℕ) → ¬ IsBudget (word.now ∷ []) budget)
+        (IsBudget (word.now ∷ [])) }
 {
     match word.parse::<u32>() {
         Ok(budget) => {
@@ -48,7 +49,8 @@ fn read_budget(word: &str) -> Option<u32>
 /// The budget that the words behind a form say. None where they are more than one, or one that is
 /// no budget.
 pub(crate) fn budget_of(words: &[String]) -> Option<u32>
-    ensures { MatchOption result ((budget : ℕ) → ¬ IsBudget (words_of words.now) budget) (IsBudget (words_of words.now)) }
+    ensures { MatchOption result ((budget : ℕ) → ¬ IsBudget (words_of words.now) budget)
+        (IsBudget (words_of words.now)) }
 {
     match words {
         [] => Some(DEFAULT),

@@ -8,7 +8,8 @@ use crate::command::Command;
 
 /// What `canon`, the name of a grammar and further words ask for.
 fn canon_of<'a>(grammar: &'a str, further: &'a [String]) -> Option<Command<'a>>
-    ensures { MatchOption result (IsNoCommand (codes "canon" ∷ grammar.now ∷ words_of further.now)) (λ c. IsCommand (codes "canon" ∷ grammar.now ∷ words_of further.now) (command_seen c)) }
+    ensures { MatchOption result (IsNoCommand (codes "canon" ∷ grammar.now ∷ words_of further.now))
+        (λ c. IsCommand (codes "canon" ∷ grammar.now ∷ words_of further.now) (command_seen c)) }
 {
     match further {
         [] => Some(Command::Canon { grammar }),
@@ -18,7 +19,8 @@ fn canon_of<'a>(grammar: &'a str, further: &'a [String]) -> Option<Command<'a>>
 
 /// What `score`, the name of a grammar and further words ask for.
 fn score_of<'a>(grammar: &'a str, further: &'a [String]) -> Option<Command<'a>>
-    ensures { MatchOption result (IsNoCommand (codes "score" ∷ grammar.now ∷ words_of further.now)) (λ c. IsCommand (codes "score" ∷ grammar.now ∷ words_of further.now) (command_seen c)) }
+    ensures { MatchOption result (IsNoCommand (codes "score" ∷ grammar.now ∷ words_of further.now))
+        (λ c. IsCommand (codes "score" ∷ grammar.now ∷ words_of further.now) (command_seen c)) }
 {
     match further {
         [timeline] => Some(Command::Score {
@@ -31,7 +33,10 @@ fn score_of<'a>(grammar: &'a str, further: &'a [String]) -> Option<Command<'a>>
 
 /// What `generate`, the name of a grammar and further words ask for.
 fn generate_of<'a>(grammar: &'a str, further: &'a [String]) -> Option<Command<'a>>
-    ensures { MatchOption result (IsNoCommand (codes "generate" ∷ grammar.now ∷ words_of further.now)) (λ c. IsCommand (codes "generate" ∷ grammar.now ∷ words_of further.now) (command_seen c)) }
+    ensures { MatchOption result
+        (IsNoCommand (codes "generate" ∷ grammar.now ∷ words_of further.now))
+        (λ c.
+        IsCommand (codes "generate" ∷ grammar.now ∷ words_of further.now) (command_seen c)) }
 {
     match further {
         [form, rest @ ..] => Some(Command::Generate {
@@ -45,7 +50,8 @@ fn generate_of<'a>(grammar: &'a str, further: &'a [String]) -> Option<Command<'a
 
 /// What `show`, the name of a grammar and further words ask for.
 fn show_of<'a>(grammar: &'a str, further: &'a [String]) -> Option<Command<'a>>
-    ensures { MatchOption result (IsNoCommand (codes "show" ∷ grammar.now ∷ words_of further.now)) (λ c. IsCommand (codes "show" ∷ grammar.now ∷ words_of further.now) (command_seen c)) }
+    ensures { MatchOption result (IsNoCommand (codes "show" ∷ grammar.now ∷ words_of further.now))
+        (λ c. IsCommand (codes "show" ∷ grammar.now ∷ words_of further.now) (command_seen c)) }
 {
     match further {
         [form, rest @ ..] => Some(Command::Show {
@@ -59,7 +65,10 @@ fn show_of<'a>(grammar: &'a str, further: &'a [String]) -> Option<Command<'a>>
 
 /// What `tableau`, the name of a grammar and further words ask for.
 fn tableau_of<'a>(grammar: &'a str, further: &'a [String]) -> Option<Command<'a>>
-    ensures { MatchOption result (IsNoCommand (codes "tableau" ∷ grammar.now ∷ words_of further.now)) (λ c. IsCommand (codes "tableau" ∷ grammar.now ∷ words_of further.now) (command_seen c)) }
+    ensures { MatchOption result
+        (IsNoCommand (codes "tableau" ∷ grammar.now ∷ words_of further.now))
+        (λ c.
+        IsCommand (codes "tableau" ∷ grammar.now ∷ words_of further.now) (command_seen c)) }
 {
     match further {
         [form, rows, rest @ ..] => Some(Command::Tableau {
@@ -88,7 +97,8 @@ fn tableau_of<'a>(grammar: &'a str, further: &'a [String]) -> Option<Command<'a>
 /// The first word stands exactly so, in lowercase. BUDGET is a number from 1 to 65,536 in decimal,
 /// without sign and leading zero. The other words are any texts, also empty ones.
 pub fn command_of(words: &[String]) -> Option<Command<'_>>
-    ensures { MatchOption result (IsNoCommand (words_of words.entry.now)) (λ c. IsCommand (words_of words.entry.now) (command_seen c)) }
+    ensures { MatchOption result (IsNoCommand (words_of words.entry.now))
+        (λ c. IsCommand (words_of words.entry.now) (command_seen c)) }
 {
     let [name, grammar, further @ ..] = words else {
         return None;

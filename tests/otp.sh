@@ -6,7 +6,7 @@
 top=$(cd "$(dirname "$0")/.." && pwd) || exit 1
 place=$(mktemp -d) || exit 1
 trap 'rm -rf "$place"' EXIT
-cp "$top"/examples/*.otp "$place" && cd "$place" || exit 1
+cp "$top"/examples/*.otp "$top"/examples/*.rows "$place" && cd "$place" || exit 1
 printf 'otp 1\ntier A input\ntier a hidden\n' > no_overt.otp
 printf 'otp 1\ntier A input\ntier  a overt ; surface\n\nconstraint Max A->a' > loose.otp
 printf 'otp 1\ntier A input\ntier a overt\nconstraint Max A -> a\n' > strict.otp
@@ -14,6 +14,10 @@ printf 'otp 1\ntier A input\ntier a overt\nconstraint Max A -> a\n' > strict.otp
 { cat base.otp; echo 'constraint X b -> a'; } > unknown.otp
 head -c 65537 /dev/zero > long.otp
 tr '\0' 'x' < /dev/zero | head -c 65536 > full.otp
+head -c 4194305 /dev/zero > long.rows
+printf '\n[- ]-\n  \n[ ]\n' > narrow.rows
+printf '[- ]-\r\n\r\n[[ ]]' > optimal.rows
+yes '[- ]-' | head -n 33 > many.rows
 passed=0
 failed=0
 verbose=$1
@@ -119,6 +123,14 @@ wrote "counts 0 0 0 0 0 0 0 0 0 1 0 0 0" "example [-[-[ ][][+ [][]] ]-]--"
 try "as many kinds as every stage has" 0 "" show faithful.otp "[ ]" 8
 wrote "counts 0 0" "example [[ ]]"
 
+# tableaux
+try "two rows" 0 "" tableau ranked.otp "[ ]" ranked.rows
+wrote "  [ ]      Max Dep One" "> [[ ]]      0   0   1" "  [- ]-     1!   0   0" "  -[ [| ]]   0  1!   2"
+try "an optimal row" 0 "" tableau ranked.otp "[ ]" optimal.rows 20000
+wrote "  [ ]   Max Dep One" "> [[ ]]   0   0   1" "  [- ]-  1!   0   0" "> [[ ]]   0   0   1"
+try "no rows" 0 "" tableau ranked.otp "[ ]" /dev/null
+wrote "  [ ]   Max Dep One" "> [[ ]]   0   0   1"
+
 # each refusal
 try "unknown command" 2 "usage" foo base.otp empty
 try "two words" 2 "usage" generate base.otp
@@ -152,6 +164,19 @@ try "budget of the second constraint" 7 "budget entry 0 stage 2" show faithful.o
 try "budget before any constraint" 7 "budget entry 0 stage 0" show faithful.otp "[ ]" 5
 try "form before stages" 4 "form word 2: NotWellFormed 0" show ranked.otp "] ["
 try "budget of generate" 7 "budget entry 0 stage 0" generate hidden.otp empty 3
+try "no rows file" 2 "usage" tableau ranked.otp "[ ]"
+try "tableau, a word too many" 2 "usage" tableau ranked.otp "[ ]" ranked.rows 8 8
+try "tableau, budget of zero" 2 "usage" tableau ranked.otp "[ ]" ranked.rows 0
+try "rows of another form" 11 "rows word 3 row 1: NotCandidate" tableau ranked.otp "[ | ]" ranked.rows
+try "grammar for rows" 11 "rows word 3 row 1: BadSymbol 0" tableau ranked.otp "[ ]" ranked.otp
+try "row of one tier" 11 "rows word 3 row 4: WrongWidth 0" tableau ranked.otp "[ ]" narrow.rows
+try "one row too many" 11 "rows word 3 row 33: TooMany" tableau ranked.otp "[ ]" many.rows
+try "missing rows file" 8 "read fault word 3" tableau ranked.otp "[ ]" missing.rows
+try "long rows file" 12 "too long word 3" tableau ranked.otp "[ ]" long.rows
+try "form before rows" 4 "form word 2: NotWellFormed 0" tableau ranked.otp "] [" missing.rows
+try "grammar before rows" 8 "read fault word 1" tableau missing.otp "[ ]" missing.rows
+try "rows before budget" 11 "rows word 3 row 1: NotCandidate" tableau ranked.otp "[ | ]" ranked.rows 1
+try "budget of a tableau" 7 "budget entry 0 stage 0" tableau ranked.otp "[ ]" ranked.rows 5
 try "word that is no text" 15 "" generate base.otp "$(printf '\377')"
 
 # the slips of docs/TROUBLE.md: slip NAME CAUSE TEXT, a file of that text that is refused so
@@ -206,7 +231,8 @@ status_is "no words, line" "usage" "$(head -n 1 err)"
 "$top/otp" generate base.otp empty > /dev/full 2> err
 status_is "full disk" 9 $?
 status_is "full disk, line" "write fault" "$(cat err)"
-for words in "canon base.otp" "score base.otp empty" "show base.otp empty"; do
+for words in "canon base.otp" "score base.otp empty" "show base.otp empty" \
+    "tableau base.otp empty /dev/null"; do
     "$top/otp" $words > /dev/full 2> err
     status_is "full disk, $words" 9 $?
 done

@@ -1,0 +1,113 @@
+-- On columns that are alike, moves lead to one kind and cost the same; so what is kept on the one is kept
+-- on the other.
+use Rattle.std.proofs.Common.{◌≡◌, ℕ, zero, suc, ◌+◌, ◌-◌, ◌<◌, Bool, true, false, cond, IsTrue, List, [], ◌∷◌, map, take, drop, filter, get_or, refl, sym, ap, ap₂, ◌∙◌, subst, ◌⊎◌, inl, inr}
+use Rattle.std.specs.List.{AllByRecursion}
+use Rattle.tier_core.specs.declared.sym.Sym.{Sym}
+use Rattle.tier_core.specs.declared.constraint.Constraint.{Constraint}
+use Rattle.tier_core.specs.Kinds.{Phase, PrefixKind}
+use Rattle.tier_core.specs.Scan.{fits, opens}
+use Rattle.tier_core.specs.Sides.{is_stretch}
+use Rattle.tier_core.specs.Timelines.{symbol, column_at, has_edge}
+use Rattle.violation.specs.Moves.{input_of, FitsKind, is_tier_open, next_phase, next_phases, moved, costs_each, first_phase, cost_of, cut}
+use Rattle.violation.specs.Prefixes.{stretches}
+use Rattle.violation.specs.Problems.{Problem, last_place}
+use Rattle.violation.proofs.TierLemmas.{map_agree}
+use Rattle.answer_text.specs.declared.stage.Stage.{Stage}
+use Rattle.answer_text.specs.Certified.{Lists, IsTightAt, IsKeptBelow}
+use Rattle.cert_check.specs.Alike.{AreAlikeFor, AreAlike}
+
+-- ---- phases
+
+-- what is asked of the next phases
+abbrev IsNextAlike : List Sym → List Sym → Constraint → Type 0
+IsNextAlike c d x = (phase : Phase) → next_phase x.left x.right phase c ≡ next_phase x.left x.right phase d
+
+stretches_alike : (cs : List Constraint) (n : ℕ) (c d : List Sym) → AllByRecursion (λ x. AreAlikeFor x c d) cs
+    → AllByRecursion (IsNextAlike c d) (filter is_stretch (take n cs))
+stretches_alike cs zero c d a = tt
+stretches_alike [] (suc n) c d a = tt
+stretches_alike (x ∷ cs) (suc n) c d a = own (is_stretch x) refl (stretches_alike cs n c d a.1)
+  where
+    own : (b : Bool) → is_stretch x ≡ b → AllByRecursion (IsNextAlike c d) (filter is_stretch (take n cs))
+        → AllByRecursion (IsNextAlike c d)
+        (cond b (x ∷ filter is_stretch (take n cs)) (filter is_stretch (take n cs)))
+    own true e r = (a.0.next e, r)
+    own false e r = r
+
+all_next_alike : (cs : List Constraint) (c d : List Sym) → AllByRecursion (IsNextAlike c d) cs → (ps : List Phase)
+    → next_phases cs ps c ≡ next_phases cs ps d
+all_next_alike [] c d a ps = refl
+all_next_alike (x ∷ cs) c d a [] = refl
+all_next_alike (x ∷ cs) c d a (p ∷ ps) = ap₂ (λ q qs. q ∷ qs) (a.0 p) (all_next_alike cs c d a.1 ps)
+
+-- ---- costs
+
+all_costs_alike : (cs : List Constraint) (o : ℕ → Bool) (c d : List Sym) → AllByRecursion (λ x. AreAlikeFor x c d) cs
+    → (ps : List Phase) → costs_each cs o ps c ≡ costs_each cs o ps d
+all_costs_alike [] o c d a ps = refl
+all_costs_alike (x ∷ cs) o c d a ps =
+    ap₂ (λ (b : Bool) (ns : List ℕ). cond b 1 0 ∷ ns) (a.0.cost o (first_phase ps))
+    (all_costs_alike cs o c d a.1 (cond (is_stretch x) (drop 1 ps) ps))
+
+first_alike : (P : Constraint → Type 0) (xs : List Constraint) (n : ℕ) → AllByRecursion P xs
+    → AllByRecursion P (take n xs)
+first_alike P xs zero h = tt
+first_alike P [] (suc n) h = tt
+first_alike P (x ∷ xs) (suc n) h = (h.0, first_alike P xs n h.1)
+
+module _ (problem : Problem) (place : ℕ) (c d : List Sym) (a : AreAlike problem place c d) where
+  pub moved_alike : (r : ℕ) (k : PrefixKind) → moved problem r k c ≡ moved problem r k d
+  moved_alike r k =
+      let first : AllByRecursion (IsNextAlike c d)
+      (stretches problem r) = stretches_alike problem.constraints r c d a.constraints in
+      let of : Bool → List Bool → List Phase
+      → PrefixKind = λ e bs ps. record { place = k.place + cond e 1 0; opened = bs; phases = ps } in
+      ap (λ e. of e (map (λ t. opens (symbol c t)) problem.tiers.free)
+      (next_phases (stretches problem r) k.phases c)) a.input_edge
+      ∙ ap₂ (of (has_edge (input_of problem.tiers d)))
+      (map_agree (λ t. opens (symbol c t)) (λ t. opens (symbol d t)) problem.tiers.free a.free)
+      (all_next_alike (stretches problem r) c d first k.phases)
+
+  pub cost_alike : (r : ℕ) (k : PrefixKind) → cost_of problem r k c ≡ cost_of problem r k d
+  cost_alike r k = ap (λ ns. get_or ns (r - 1) 0)
+      (all_costs_alike (take r problem.constraints) (is_tier_open problem k) c d
+      (first_alike (λ x. AreAlikeFor x c d) problem.constraints r a.constraints) k.phases)
+
+  -- a column fits where one fits that is alike, and its symbols may come
+  pub fits_alike : (k : PrefixKind) → k.place ≡ place → FitsKind problem k c
+      → ((t : ℕ) → t < problem.tiers.width → IsTrue (fits (is_tier_open problem k t) (symbol d t)))
+      → FitsKind problem k d
+  fits_alike k e f symbols = record {
+    width = sym a.one_width ∙ f.width;
+    symbols = symbols;
+    edge = sym a.edge ∙ f.edge;
+    input = by f.input;
+  }
+    where
+      by : (has_edge (input_of problem.tiers c) ≡ false) ⊎
+          ((k.place < last_place problem) × (input_of problem.tiers c ≡ column_at problem.form k.place))
+          → (has_edge (input_of problem.tiers d) ≡ false) ⊎
+          ((k.place < last_place problem) × (input_of problem.tiers d ≡ column_at problem.form k.place))
+      by (inl none) = inl (sym a.input_edge ∙ none)
+      by (inr part) = inr (
+        part.0,
+        a.input_part.0 (part.1 ∙ ap (column_at problem.form) e)
+            ∙ sym (ap (column_at problem.form) e),
+      )
+
+  tight_alike : (stages : List Stage) (j : ℕ) (k : PrefixKind) → IsTightAt problem stages j k c
+      → IsTightAt problem stages j k d
+  tight_alike stages j k t = record {
+    before = t.before;
+    after = t.after;
+    leaves = t.leaves;
+    arrives = subst (λ l. Lists problem stages j l t.after) (moved_alike j (cut problem j k)) t.arrives;
+    falls = t.falls ∙ ap (λ n. n + t.after) (cost_alike j (cut problem j k));
+  }
+
+  -- so a move is kept on both columns or on neither
+  pub kept_alike : (stages : List Stage) (r : ℕ) (k : PrefixKind) → k.place ≡ place
+      → ((t : ℕ) → t < problem.tiers.width → IsTrue (fits (is_tier_open problem k t) (symbol d t)))
+      → IsKeptBelow problem stages r k c → IsKeptBelow problem stages r k d
+  kept_alike stages r k e symbols h = record
+      { fits = fits_alike k e h.fits symbols; tight = λ j a l. tight_alike stages j k (h.tight j a l) }

@@ -1,0 +1,15 @@
+pub mod Faultless
+pub mod Parts
+pub mod Heads
+pub mod Grammars
+pub mod Stops
+pub mod Opens
+pub mod Cuts
+pub mod KindTies
+pub mod Searches
+pub mod Subjects
+pub mod Orders
+pub mod Starts
+pub mod AlikeMoves
+pub mod Sets
+pub mod TestLemmas

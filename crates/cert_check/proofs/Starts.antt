@@ -1,0 +1,143 @@
+-- The kind of the empty prefix, by its bits, and at node 0 of a stage.
+use Rattle.std.proofs.Common.{◌≡◌, ◌↔◌, ℕ, zero, suc, ◌==◌, ◌<◌, ◌≤◌, IsTrue, Bool, true, false, List, [], ◌∷◌, map, length, slice_get, Some, refl, sym, ap, ap₂, ◌∙◌, subst, arith}
+use Rattle.std.specs.List.{AllByRecursion, range_with_len}
+use Rattle.std.specs.Ordering.{is_eq}
+use Rattle.std.specs.declared.cmp.Ordering.{Ordering}
+use Rattle.std.specs.declared.cmp.Ordering.TheVariants.{Less, Equal, Greater}
+use Rattle.std.proofs.lemmas.Bool.{false≢true}
+use Rattle.std.proofs.lemmas.Cmp.{tied_itself}
+use Rattle.std.proofs.lemmas.Nat.Bits.{bit_at-zero}
+use Rattle.tier_core.specs.declared.constraint.Constraint.{Constraint}
+use Rattle.tier_core.specs.declared.event.Event.{Event}
+use Rattle.tier_core.specs.declared.kind.Kind.{Kind}
+use Rattle.tier_core.specs.Kinds.{Phase, closed, PrefixKind, open_tiers, phase_at, phases, phase_by_bits, kind_order}
+use Rattle.tier_core.specs.Tiers.{has_tier}
+use Rattle.violation.specs.Conditions.{IsOverTiers}
+use Rattle.violation.specs.Prefixes.{kind_of, kind_of_bits, phase, stretches}
+use Rattle.violation.specs.Problems.{Problem, last_stage}
+use Rattle.check_laws.proofs.Listing.{kinds_total}
+use Rattle.cert_check.specs.declared.fault.Fault.TheVariants.{StartMissing}
+use Rattle.cert_check.specs.declared.subject.Subject.{Subject}
+use Rattle.cert_check.specs.Faults.{IsInOrder}
+use Rattle.cert_check.specs.Parts.{InStage, IsFirstInStage}
+use Rattle.cert_check.specs.Subjects.{IsReady, AreInOrder, problem_of, nodes_of, kinds_of}
+use Rattle.cert_check.proofs.KindTies.{same_kind}
+use Rattle.cert_check.proofs.Orders.{numbered_is}
+use Rattle.cert_check.proofs.Parts.{none_before}
+use Rattle.cert_check.proofs.Subjects.{in_stages, tell_same, each_first}
+use Rattle.cert_check.proofs.Grammars.{over_tiers}
+use Rattle.std.proofs.lemmas.List.FromFn.{length-range_with_len}
+use Rattle.std.proofs.lemmas.Option.{slice_get_within}
+use Rattle.tier_core.specs.KindShapes.{kind_in}
+use Rattle.tier_core.specs.Sides.{is_stretch}
+
+-- bits of which none is set
+abbrev pub nothing_read : Kind
+nothing_read = record { place = 0; opened = 0; unmet = 0; met = 0; apart = refl }
+
+no_bit : (i : ℕ) → has_tier 0 i ≡ false
+no_bit i = ap (λ n. n == 1) (bit_at-zero i)
+
+none_open : (ns is : List ℕ) → length ns ≡ length is → map (has_tier 0) is ≡ map (λ (t : ℕ). false) ns
+none_open [] [] e = refl
+none_open [] (i ∷ is) e = absurd (omega arith)
+none_open (n ∷ ns) [] e = absurd (omega arith)
+none_open (n ∷ ns) (i ∷ is) e = ap₂ (λ b bs. b ∷ bs) (no_bit i) (none_open ns is (omega arith))
+
+closed_first : (left right : List Event) → 0 < length left → phase left right [] ≡ closed
+closed_first [] right l = absurd (omega arith)
+closed_first (e ∷ es) right l = refl
+
+module _ (kind : Kind) (unmet : kind.unmet ≡ 0) (met : kind.met ≡ 0) where
+  closed_at : (i : ℕ) → phase_at kind i ≡ closed
+  closed_at i = ap₂ phase_by_bits (ap (λ m. has_tier m i) unmet ∙ no_bit i) (ap (λ m. has_tier m i) met ∙ no_bit i)
+
+  all_closed : (cs : List Constraint) (is : List ℕ) → length cs ≡ length is
+      → AllByRecursion (λ c. 0 < length c.left) cs
+      → map (phase_at kind) is ≡ map (λ (c : Constraint). phase c.left c.right []) cs
+  all_closed [] [] e h = refl
+  all_closed [] (i ∷ is) e h = absurd (omega arith)
+  all_closed (c ∷ cs) [] e h = absurd (omega arith)
+  all_closed (c ∷ cs) (i ∷ is) e h = ap₂ (λ p ps. p ∷ ps) (closed_at i ∙ sym (closed_first c.left c.right h.0))
+      (all_closed cs is (omega arith) h.1)
+
+equal_told : (o : Ordering) → is_eq o ≡ true → o ≡ Equal
+equal_told Less h = absurd (false≢true h)
+equal_told Equal h = refl
+equal_told Greater h = absurd (false≢true h)
+
+-- kinds tie exactly where they are one
+pub tie_is : (k l : PrefixKind) → IsTrue (is_eq (kind_order k l)) ↔ (k ≡ l)
+tie_is k l = (
+  λ h. same_kind k l (equal_told (kind_order k l) h),
+  λ e. ap is_eq (ap (λ x. kind_order k x) (sym e) ∙ tied_itself kinds_total k),
+)
+
+each_left : (n : ℕ) (cs : List Constraint) → AllByRecursion (IsOverTiers n) cs
+    → AllByRecursion (λ c. 0 < length c.left) cs
+each_left n [] h = tt
+each_left n (c ∷ cs) h = (h.0.some_left, each_left n cs h.1)
+
+module _ (s : Subject) (stage : ℕ) where
+  abbrev problem : Problem
+  problem = problem_of s
+
+  lefts : AllByRecursion (λ c. 0 < length c.left) (stretches problem stage)
+  lefts = each_left (length s.grammar.now.tiers.kinds.items) (stretches problem stage)
+      (each_first (IsOverTiers (length s.grammar.now.tiers.kinds.items)) is_stretch problem.constraints stage
+      (over_tiers s.grammar.now))
+
+  -- bits of which none is set tell the kind of the empty prefix
+  pub start_told : (kind : Kind) → kind.place ≡ 0 → kind.opened ≡ 0 → kind.unmet ≡ 0 → kind.met ≡ 0
+      → kind_of_bits problem stage kind ≡ kind_of problem stage []
+  start_told kind place opened unmet met =
+      let flags : open_tiers (length problem.tiers.free) kind.opened ≡ map (λ (t : ℕ). false) problem.tiers.free =
+      ap (open_tiers (length problem.tiers.free)) opened
+      ∙ none_open problem.tiers.free (range_with_len 0 (length problem.tiers.free))
+      (sym (length-range_with_len 0 (length problem.tiers.free))) in
+      let ps : phases (length (stretches problem stage)) kind
+      ≡ map (λ (c : Constraint). phase c.left c.right []) (stretches problem stage) =
+      all_closed kind unmet met (stretches problem stage) (range_with_len 0 (length (stretches problem stage)))
+      (sym (length-range_with_len 0 (length (stretches problem stage)))) lefts in
+      ap (λ (n : ℕ). let k : PrefixKind = record {
+        place = n;
+        opened = open_tiers (length problem.tiers.free) kind.opened;
+        phases = phases (length (stretches problem stage)) kind;
+      } in k) place
+      ∙ ap₂ (λ (bs : List Bool) (qs : List Phase). let k : PrefixKind = record
+      { place = 0; opened = bs; phases = qs } in k) flags ps
+
+  module _ (ready : IsReady s) (within : stage ≤ last_stage problem) where
+    -- a kind ties with these bits exactly where it is that of the empty prefix
+    pub start_by : (kind start : Kind) → start.place ≡ 0 → start.opened ≡ 0 → start.unmet ≡ 0 → start.met ≡ 0
+        → (o : Ordering) → o ≡ kind_order (kind_in s.shape.now stage kind) (kind_in s.shape.now stage start)
+        → IsTrue (is_eq o) ↔ (kind_of_bits problem stage kind ≡ kind_of problem stage [])
+    start_by kind start place opened unmet met o e =
+        let same : o ≡ kind_order (kind_of_bits problem stage kind) (kind_of problem stage []) =
+        e ∙ ap₂ kind_order (tell_same s ready stage within kind)
+        (tell_same s ready stage within start ∙ start_told start place opened unmet met) in
+        let t = tie_is (kind_of_bits problem stage kind) (kind_of problem stage []) in
+        (λ h. t.0 (sym (ap is_eq same) ∙ h), λ h. ap is_eq same ∙ t.1 h)
+
+    -- nodes that stand where they may leave no fault of theirs
+    pub order_part : AreInOrder s stage (length (nodes_of s stage)) → (rest : List ℕ)
+        → InStage problem s.answer.now stage 0 rest → ⊥
+    order_part order rest w =
+        let h = w.1.0 in
+        h.wrong (subst (IsInOrder problem s.answer.now.stages.items stage w.0)
+        (sym (numbered_is s stage w.0 h.node h.is))
+        (order w.0 (slice_get_within (nodes_of s stage) w.0 h.node h.is.numbered)))
+
+    below_one : AreInOrder s stage (length (nodes_of s stage)) → (m : ℕ) → m < 1 → (rest : List ℕ)
+        → InStage problem s.answer.now stage m rest → ⊥
+    below_one order zero l = order_part order
+    below_one order (suc m) l = absurd (omega arith)
+
+    pub first_missing : AreInOrder s stage (length (nodes_of s stage))
+        → (slice_get (kinds_of s stage) 0 ≡ Some (kind_of problem stage []) → ⊥)
+        → IsFirstInStage problem s.answer.now stage (StartMissing stage)
+    first_missing order lacks = record {
+      place = 1 ∷ [];
+      is = (record { within = in_stages s ready stage within; lacks = lacks }, refl);
+      first = none_before (InStage problem s.answer.now stage) 1 [] (below_one order) (λ rest w b. b);
+    }

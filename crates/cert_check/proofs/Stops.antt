@@ -1,0 +1,16 @@
+-- What a stop says, in other words.
+use Rattle.std.proofs.Common.{IfErr, Result}
+use Rattle.std.proofs.lemmas.Result.{IfErr-weaker}
+use Rattle.cert_check.specs.declared.fault.Fault.{Fault}
+use Rattle.cert_check.specs.declared.stop.Stop.{Stop}
+use Rattle.cert_check.specs.declared.stop.Stop.TheVariants.{Found, NoMemory}
+use Rattle.cert_check.specs.Stops.{StopsBy}
+
+stop_says : (P Q : Fault → Type 0) → ((fault : Fault) → P fault → Q fault) → (stop : Stop) → StopsBy P stop
+    → StopsBy Q stop
+stop_says P Q h (Found fault) p = h fault p
+stop_says P Q h NoMemory p = tt
+
+pub stops_say : {T : Type 0} (r : Result T Stop) (P Q : Fault → Type 0) → ((fault : Fault) → P fault → Q fault)
+    → IfErr r (StopsBy P) → IfErr r (StopsBy Q)
+stops_say r P Q h e = IfErr-weaker r (StopsBy P) (StopsBy Q) (stop_says P Q h) e

@@ -1,0 +1,270 @@
+-- What is known of an answer when its stages are looked at.
+use Rattle.std.proofs.Common.{◌≡◌, ◌↔◌, ℕ, zero, suc, ◌+◌, ◌-◌, ◌^◌, ◌<◌, ◌≤◌, ◌&&◌, not, cond, Bool, true, false, List, [], ◌∷◌, map, filter, take, length, get_or, refl, sym, ap, ap₂, ◌∙◌, subst, arith, All}
+use Rattle.std.specs.List.{AllByRecursion, list_all}
+use Rattle.std.proofs.lemmas.List.{get_or-map, get_or_default, get_or-take, length-take-le}
+use Rattle.std.proofs.lemmas.List.Elements.{All-from_recursion}
+use Rattle.std.proofs.lemmas.List.FromFn.{fill_by_all, length-map-range_with_len, get_or-map-range_with_len}
+use Rattle.tier_core.specs.declared.kind.Kind.{Kind}
+use Rattle.tier_core.specs.declared.sym.Sym.{Sym}
+use Rattle.tier_core.specs.declared.event.Event.{Event}
+use Rattle.tier_core.specs.declared.constraint.Constraint.{Constraint}
+use Rattle.tier_core.specs.declared.shape.Shape.{Shape}
+use Rattle.tier_core.specs.Shapes.{input_count}
+use Rattle.tier_core.specs.Sides.{is_stretch}
+use Rattle.tier_core.specs.Kinds.{AreStretchesBelow, Phase, closed, PrefixKind, prefix_kind, open_tiers, phase_at, phases}
+use Rattle.tier_core.specs.KindShapes.{free_count, stretch_count, kind_in, FitsShape}
+use Rattle.tier_core.specs.Tiers.{has_tier, is_input}
+use Rattle.tier_core.proofs.TableMasks.{free_tiers}
+use Rattle.std.proofs.lemmas.List.Filters.{length-filter_more}
+use Rattle.grammar_reader.proofs.Shaping.{length-stretch_counts}
+use Rattle.violation.specs.Conditions.{AreTiersBelow, IsOverTiers}
+use Rattle.violation.specs.Moves.{is_tier_open, cut}
+use Rattle.violation.specs.Phases.{is_left_open, AreClosedOr}
+use Rattle.violation.specs.Prefixes.{kind_of, stretches, kind_of_bits}
+use Rattle.violation.specs.Problems.{Problem, last_stage, last_place}
+use Rattle.answer_text.specs.declared.stage.Node.{Node}
+use Rattle.answer_text.specs.declared.stage.Stage.{Stage}
+use Rattle.answer_text.specs.Certified.{IsPossibleKind}
+use Rattle.answer_text.specs.Readable.{IsReadableStage}
+use Rattle.answer_text.specs.Right.{nodes_at, kinds_at}
+use Rattle.cert_check.specs.declared.subject.Subject.{Subject}
+use Rattle.cert_check.specs.Opens.{is_open_by, inputs_before}
+use Rattle.cert_check.specs.Possible.{all_open_in}
+use Rattle.cert_check.specs.Searches.{told_in}
+use Rattle.cert_check.specs.Subjects.{IsReady, problem_of, nodes_of, kinds_of, node_kind}
+use Rattle.cert_check.proofs.Grammars.{over_tiers}
+use Rattle.cert_check.proofs.Opens.{open_told, length-numbers, all_inputs}
+
+-- one constraint more has no fewer stretch implications
+not_below : (t : Bool) → 0 ≤ cond t 1 0
+not_below true = omega arith
+not_below false = omega arith
+
+count_rises : (xs : List Constraint) (r : ℕ) → r < length xs
+    → length (filter is_stretch (take r xs)) ≤ length (filter is_stretch (take (r + 1) xs))
+count_rises [] r k = absurd (omega arith)
+count_rises (x ∷ xs) r k =
+    let e = length-filter_more is_stretch (x ∷ xs) r x k in
+    let b = not_below (is_stretch (get_or (x ∷ xs) r x)) in
+    omega (arith, e, b)
+
+-- ---- masks that agree with the open tiers
+
+list_all_agree : (f g : Event → Bool) (es : List Event) → AllByRecursion (λ e. f e ≡ g e) es
+    → list_all f es ≡ list_all g es
+list_all_agree f g [] h = refl
+list_all_agree f g (e ∷ es) h = ap₂ (λ a b. a && b) h.0 (list_all_agree f g es h.1)
+
+each_event : (n : ℕ) (f g : ℕ → Bool) → ((t : ℕ) → t < n → f t ≡ g t) → (es : List Event) → AreTiersBelow n es
+    → AllByRecursion (λ e. f e.tier ≡ g e.tier) es
+each_event n f g h [] below = tt
+each_event n f g h (e ∷ es) below = (h e.tier below.0, each_event n f g h es below.1)
+
+closed_agree : (f g : Constraint → Bool) (cs : List Constraint) (ps : List Phase) → AllByRecursion (λ c. f c ≡ g c) cs
+    → AreClosedOr f cs ps → AreClosedOr g cs ps
+closed_agree f g [] [] h a = tt
+closed_agree f g [] (p ∷ ps) h a = a
+closed_agree f g (c ∷ cs) [] h a = a
+closed_agree f g (c ∷ cs) (p ∷ ps) h a = (a.0 ∙ ap not h.0, closed_agree f g cs ps h.1 a.1)
+
+pub each_first : (P : Constraint → Type 0) (test : Constraint → Bool) (xs : List Constraint) (n : ℕ)
+    → AllByRecursion P xs → AllByRecursion P (filter test (take n xs))
+each_first P test xs zero h = tt
+each_first P test [] (suc n) h = tt
+each_first P test (x ∷ xs) (suc n) h = own (test x) (each_first P test xs n h.1)
+  where
+    own : (b : Bool) → AllByRecursion P (filter test (take n xs))
+        → AllByRecursion P (cond b (x ∷ filter test (take n xs)) (filter test (take n xs)))
+    own true r = (h.0, r)
+    own false r = r
+
+agree_each : (n : ℕ) (f g : ℕ → Bool) → ((t : ℕ) → t < n → f t ≡ g t) → (cs : List Constraint)
+    → AllByRecursion (IsOverTiers n) cs
+    → AllByRecursion (λ c. list_all (λ e. f e.tier) c.left ≡ list_all (λ e. g e.tier) c.left) cs
+agree_each n f g h [] over = tt
+agree_each n f g h (c ∷ cs) over = (
+  list_all_agree (λ e. f e.tier) (λ e. g e.tier) c.left (each_event n f g h c.left over.0.left_below),
+  agree_each n f g h cs over.1,
+)
+
+module _ (s : Subject) (ready : IsReady s) (stage : ℕ) (within : stage ≤ last_stage (problem_of s)) where
+  abbrev shape : Shape
+  shape = s.shape.now
+
+  abbrev problem : Problem
+  problem = problem_of s
+
+  pub free_same : free_count shape ≡ length problem.tiers.free
+  free_same = ap (λ n. n - input_count shape.inputs) ready.of_grammar.width
+      ∙ free_tiers s.grammar.now.tiers.kinds.items shape.inputs ready.of_grammar.inputs
+
+  pub stage_in : stage < length shape.phases.items
+  stage_in = omega (arith, ap length ready.of_grammar.phases, length-stretch_counts problem.constraints, within)
+
+  pub stretch_same : stretch_count shape stage ≡ length (stretches problem stage)
+  stretch_same =
+      ap (λ ns. get_or ns stage 0) ready.of_grammar.phases
+      ∙ get_or-map-range_with_len (λ i. length (filter is_stretch (take i problem.constraints))) 0
+      (last_stage problem + 1) stage stage 0 (omega (arith, within)) (omega arith)
+
+  pub tell_same : (k : Kind) → kind_in shape stage k ≡ kind_of_bits problem stage k
+  tell_same k = ap₂ (λ m n. prefix_kind m n k) free_same stretch_same
+
+  pub told_same : (nodes : List Node) → told_in shape stage nodes ≡ kinds_at problem stage nodes
+  told_same nodes = ap₂ (λ m n. map (λ (node : Node). prefix_kind m n node.kind) nodes) free_same stretch_same
+
+  pub in_stages : stage < length s.answer.now.stages.items
+  in_stages = omega (arith, ready.numbers.stages, within)
+
+  pub readable_stage : IsReadableStage shape stage (nodes_of s stage)
+  readable_stage = ready.readable.stages stage in_stages
+
+  -- a column of the form has a symbol for each input tier
+  pub form_wide : All (λ column. length column
+      ≡ inputs_before s.grammar.now.tiers.kinds.items (length s.grammar.now.tiers.kinds.items)) s.answer.now.form
+  form_wide k d l =
+      All-from_recursion (λ (column : List Sym). length column
+      ≡ length problem.tiers.input) s.answer.now.form ready.form.form.well_formed.one_width k d l
+      ∙ length-numbers is_input 0 s.grammar.now.tiers.kinds.items ∙ sym (all_inputs s.grammar.now.tiers.kinds.items)
+
+  module _ (kind : Kind) (place : kind.place ≤ last_place problem) (mask : ℕ)
+      (bits : (t : ℕ) → t < length s.grammar.now.tiers.kinds.items
+      → has_tier mask t
+      ≡ is_open_by s.grammar.now.tiers.kinds.items s.answer.now.form kind.place kind.opened t) where
+    agree : (t : ℕ) → t < length s.grammar.now.tiers.kinds.items
+        → has_tier mask t ≡ is_tier_open problem (kind_of_bits problem stage kind) t
+    agree t l = bits t l
+        ∙ sym (open_told s.grammar.now.tiers problem.constraints s.answer.now.form ready.form.form stage kind place t
+        l)
+
+    over : AllByRecursion (IsOverTiers (length s.grammar.now.tiers.kinds.items)) (stretches problem stage)
+    over = each_first (IsOverTiers (length s.grammar.now.tiers.kinds.items)) is_stretch problem.constraints stage
+        (over_tiers s.grammar.now)
+
+    -- a kind is possible where its phases are closed as the mask of its open tiers tells
+    pub possible_by_mask : AreClosedOr (all_open_in mask) (stretches problem stage)
+        (phases (length (stretches problem stage)) kind) ↔ IsPossibleKind problem stage
+        (kind_of_bits problem stage kind)
+    possible_by_mask = (
+      λ a. record {
+        place = place;
+        phases = closed_agree (all_open_in mask) (is_left_open problem (kind_of_bits problem stage kind))
+            (stretches problem stage) (phases (length (stretches problem stage)) kind)
+            (agree_each (length s.grammar.now.tiers.kinds.items) (has_tier mask)
+            (is_tier_open problem (kind_of_bits problem stage kind)) agree (stretches problem stage) over) a;
+      },
+      λ p. closed_agree (is_left_open problem (kind_of_bits problem stage kind)) (all_open_in mask)
+          (stretches problem stage) (phases (length (stretches problem stage)) kind)
+          (agree_each (length s.grammar.now.tiers.kinds.items)
+          (is_tier_open problem (kind_of_bits problem stage kind)) (has_tier mask) (λ t l. sym (agree t l))
+          (stretches problem stage) over) p.phases,
+    )
+
+  -- the kind of a node by its number
+  pub kind_numbered : (n : ℕ) (d : Node) → n < length (nodes_of s stage)
+      → node_kind s stage n ≡ kind_of_bits problem stage (get_or (nodes_of s stage) n d).kind
+  kind_numbered n d l = get_or-map (λ (node : Node). kind_of_bits problem stage node.kind) (nodes_of s stage) n d
+      (kind_of problem stage []) l
+
+-- ---- kinds that are cut
+
+cut_phases : (k l : Kind) (m n : ℕ) → m ≤ n → ((i : ℕ) → i < m → phase_at k i ≡ phase_at l i)
+    → phases m k ≡ take m (phases n l)
+cut_phases k l m n w h =
+    let size : length (take m (phases n l))
+    ≡ m = omega (
+      arith,
+      length-take-le m (phases n l)
+          (omega (arith, w, length-map-range_with_len (phase_at l) 0 n)),
+    ) in
+    sym (fill_by_all (phase_at k) (take m (phases n l)) m closed size
+    (λ i b. get_or-take m (phases n l) i closed b
+    ∙ get_or-map-range_with_len (phase_at l) 0 n i i closed (omega (arith, b, w)) (omega arith) ∙ sym (h i b)))
+
+kind_parts : (place : ℕ) (opened : List Bool) (ps qs : List Phase) → ps ≡ qs
+    → (let k : PrefixKind = record { place = place; opened = opened; phases = ps } in k)
+    ≡ record { place = place; opened = opened; phases = qs }
+kind_parts place opened ps qs e = ap (λ (x : List Phase). let k : PrefixKind = record
+    { place = place; opened = opened; phases = x } in k) e
+
+-- a kind that has the same place and open tiers, and the first of the phases, tells the cut
+pub cut_told : (problem : Problem) (k l : Kind) (r s : ℕ)
+    → length (stretches problem r) ≤ length (stretches problem s) → k.place ≡ l.place → k.opened ≡ l.opened
+    → ((i : ℕ) → i < length (stretches problem r) → phase_at k i ≡ phase_at l i)
+    → kind_of_bits problem r k ≡ cut problem r (kind_of_bits problem s l)
+cut_told problem k l r s w p o h =
+    ap₂ (λ m n. let x : PrefixKind = record {
+      place = m;
+      opened = open_tiers (length problem.tiers.free) n;
+      phases = phases (length (stretches problem r)) k;
+    } in x) p o
+    ∙ kind_parts l.place (open_tiers (length problem.tiers.free) l.opened) (phases (length (stretches problem r)) k)
+    (take (length (stretches problem r)) (phases (length (stretches problem s)) l))
+    (cut_phases k l (length (stretches problem r)) (length (stretches problem s)) w h)
+
+-- the nodes of a stage of the list of stages
+pub nodes_at_is : (stages : List Stage) (r : ℕ) (d : Stage) → r < length stages
+    → (get_or stages r d).nodes.items ≡ nodes_at stages r
+nodes_at_is stages r d l = sym (get_or-map (λ (stage : Stage). stage.nodes.items) stages r d [] l)
+
+module _ (s : Subject) (ready : IsReady s) (stage : ℕ) (within : stage ≤ last_stage (problem_of s)) where
+  -- the nodes that code reads of a stage, and the kinds that they tell
+  pub nodes_read : (ns : List Node) (st : Stage) → ns ≡ st.nodes.items
+      → st ≡ get_or s.answer.now.stages.items stage st → ns ≡ nodes_of s stage
+  nodes_read ns st e f = e ∙ ap (λ (x : Stage). x.nodes.items) f
+      ∙ nodes_at_is s.answer.now.stages.items stage st (in_stages s ready stage within)
+
+  pub told_read : (ns : List Node) (st : Stage) → ns ≡ st.nodes.items → st ≡ get_or s.answer.now.stages.items stage st
+      → told_in s.shape.now stage ns ≡ kinds_of s stage
+  told_read ns st e f = told_same s ready stage within ns ∙ ap (kinds_at (problem_of s) stage) (nodes_read ns st e f)
+
+  pub fits_at : (n : ℕ) (d : Node) → n < length (nodes_of s stage)
+      → FitsShape s.shape.now stage (get_or (nodes_of s stage) n d).kind
+  fits_at n d l = (readable_stage s ready stage within).fits n d l
+
+  -- a cut fits the stage before, and tells the cut of a kind
+  pub cut_fits : (kind result : Kind) (count : ℕ) → 1 ≤ stage
+      → count ≡ get_or s.shape.now.phases.items (stage - 1) count → FitsShape s.shape.now stage kind
+      → result.opened ≡ kind.opened → AreStretchesBelow count result
+      → FitsShape s.shape.now (stage - 1) result
+  cut_fits kind result count some is fits opened below = record {
+    within = omega (arith, fits.within);
+    opened = subst (λ n. n < 2 ^ free_count s.shape.now) (sym opened) fits.opened;
+    stretches = subst (λ n. AreStretchesBelow n result)
+        (is ∙ get_or_default s.shape.now.phases.items (stage - 1) count 0 (omega (arith, fits.within))) below;
+  }
+
+  pub cut_before_told : (kind result : Kind) (count : ℕ) → 1 ≤ stage
+      → count ≡ get_or s.shape.now.phases.items (stage - 1) count → result.place ≡ kind.place
+      → result.opened ≡ kind.opened
+      → ((i : ℕ) → i < count → phase_at result i ≡ phase_at kind i)
+      → kind_of_bits (problem_of s) (stage - 1) result
+      ≡ cut (problem_of s) (stage - 1) (kind_of_bits (problem_of s) stage kind)
+  cut_before_told kind result count some is place opened same =
+      let before : stage - 1 ≤ last_stage (problem_of s) = omega (arith, within) in
+      let counted : count ≡ length (stretches (problem_of s) (stage - 1)) =
+      is ∙ get_or_default s.shape.now.phases.items (stage - 1) count 0 (stage_in s ready (stage - 1) before)
+      ∙ stretch_same s ready (stage - 1) before in
+      let rises : length (stretches (problem_of s) (stage - 1)) ≤ length (stretches (problem_of s) stage) =
+      subst (λ n. length (stretches (problem_of s) (stage - 1)) ≤ length (stretches (problem_of s) n))
+      (let e : stage - 1 + 1 ≡ stage = omega (arith, some) in e)
+      (count_rises (problem_of s).constraints (stage - 1) (omega (arith, within, some))) in
+      cut_told (problem_of s) result kind (stage - 1) stage rises place opened
+      (λ i l. same i (omega (arith, l, counted)))
+
+  -- the kind of a node that code reads
+  pub number_read : (ns : List Node) (n : ℕ) (d : Node) → ns ≡ nodes_of s stage → n < length ns
+      → kind_in s.shape.now stage (get_or ns n d).kind ≡ node_kind s stage n
+  number_read ns n d e l =
+      ap (λ (xs : List Node). kind_in s.shape.now stage (get_or xs n d).kind) e
+      ∙ tell_same s ready stage within (get_or (nodes_of s stage) n d).kind
+      ∙ sym (kind_numbered s ready stage within n d (omega (arith, l, ap length e)))
+
+  pub number_bits : (ns : List Node) (n : ℕ) (d : Node) → ns ≡ nodes_of s stage → n < length ns
+      → kind_of_bits (problem_of s) stage (get_or ns n d).kind ≡ node_kind s stage n
+  number_bits ns n d e l = sym (tell_same s ready stage within (get_or ns n d).kind) ∙ number_read ns n d e l
+
+  pub number_fits : (ns : List Node) (n : ℕ) (d : Node) → ns ≡ nodes_of s stage → n < length ns
+      → FitsShape s.shape.now stage (get_or ns n d).kind
+  number_fits ns n d e l = subst (λ (xs : List Node). FitsShape s.shape.now stage (get_or xs n d).kind) (sym e)
+      (fits_at n d (omega (arith, l, ap length e)))

@@ -1,0 +1,14 @@
+pub mod Places
+pub mod Faults
+pub mod FirstFaults
+pub mod Parts
+pub mod Heads
+pub mod Stops
+pub mod Subjects
+pub mod Opens
+pub mod Possible
+pub mod Searches
+pub mod Alike
+pub mod Boxes
+pub mod Tests
+pub mod Pieces

@@ -1,0 +1,22 @@
+-- Which tiers are open at a kind, tier by tier.
+use Rattle.std.specs.Prelude.{ℕ, zero, suc, ◌-◌, Bool, false, if◌then◌else◌, List, length, filter, take}
+use Rattle.tier_core.specs.declared.sym.Sym.{Sym}
+use Rattle.tier_core.specs.declared.tier.TierKind.{TierKind}
+use Rattle.tier_core.specs.Scan.{opens}
+use Rattle.tier_core.specs.Timelines.{symbol, column_at}
+use Rattle.tier_core.specs.Tiers.{is_input, kind_at, has_tier}
+
+-- whether an input tier is open at a place of a form: its symbol in the column before opens it
+abbrev pub is_open_before : List (List Sym) → ℕ → ℕ → Bool
+is_open_before u zero input = false
+is_open_before u (suc place) input = opens (symbol (column_at u place) input)
+
+-- how many of the tiers before this one are input tiers
+abbrev pub inputs_before : List TierKind → ℕ → ℕ
+inputs_before kinds tier = length (filter is_input (take tier kinds))
+
+-- Whether a tier is open: an input tier at this place of the form, and a free tier where its bit is set.
+abbrev pub is_open_by : List TierKind → List (List Sym) → ℕ → ℕ → ℕ → Bool
+is_open_by kinds u place opened tier =
+    if is_input (kind_at kinds tier) then is_open_before u place (inputs_before kinds tier)
+    else has_tier opened (tier - inputs_before kinds tier)

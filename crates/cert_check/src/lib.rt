@@ -1,0 +1,29 @@
+//! The separate checker of answers. It believes no one: it looks at the moves of each listed kind one by
+//! one, and answers with the first fault or with Yes. It runs no search, and shares with the generator
+//! the definitions of kinds and moves, and none of its code.
+//!
+//! So far it has the definitions of the faults and of the order in which they are gone through
+//! (`specs/Faults`, `Places`, `FirstFaults`), the laws that certified answers and right answers have
+//! none, and its first steps, each with the whole contract: the form, the numbers, the example and the
+//! counts (`head`), the order of a stage's nodes (`order`) and its start (`start`). The steps over moves
+//! and states, and the call that answers with a verdict, are not there yet.
+#![tactic(auto)]
+
+mod alike;
+mod boxes;
+mod cut;
+mod fault;
+mod find;
+mod head;
+mod laws;
+mod open;
+mod order;
+mod parting;
+mod possible;
+mod start;
+mod stop;
+mod subject;
+
+pub use alike::alike_columns_move_alike;
+pub use fault::{Fault, Verdict};
+pub use laws::{certified_answers_are_faultless, right_answers_are_faultless};

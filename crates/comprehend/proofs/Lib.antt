@@ -17,7 +17,6 @@ pub mod HeldColumns
 pub mod Readings
 pub mod TestFacts
 pub mod Heard
-pub mod HitLines
 pub mod Hits
 pub mod FewStates
 pub mod Turned

@@ -5,4 +5,3 @@ pub mod Steps
 pub mod Entering
 pub mod Choices
 pub mod Hears
-pub mod HitText

@@ -2,8 +2,7 @@
 //!
 //! The surface of a timeline is its projection to the overt tiers, squeezed. [`has_surface`] finds the
 //! first optimal candidate of a sound answer that has one. [`comprehend`] asks it of the answer of each
-//! entry, one after another, and [`put_hits`] writes what is found. The command `comprehend` of the
-//! program calls the two; kept answers are searched by the first.
+//! entry, one after another.
 //!
 //! The search goes over cells, the pairs of a state of the automaton and a place of the surface. An arc
 //! keeps the place where a column of its class has no edge on an overt tier, and goes on by one where a
@@ -11,8 +10,7 @@
 //! the end is found backward and in breadth (`search`), in 4 bytes a cell, and then the least column
 //! that keeps to these numbers is followed (`follow`).
 //!
-//! The definitions of `specs/` are surfaces (`Surfaces`), heard entries (`Hears`) and the text of hits
-//! (`HitText`).
+//! The definitions of `specs/` are surfaces (`Surfaces`) and heard entries (`Hears`).
 #![tactic(auto)]
 
 mod cell;
@@ -27,7 +25,6 @@ mod level;
 mod look;
 mod meets;
 mod numbering;
-mod put;
 mod search;
 mod surface;
 mod tests_of;
@@ -36,5 +33,4 @@ mod turning;
 pub use comp_err::CompErr;
 pub use hearing::comprehend;
 pub use hit::Hit;
-pub use put::put_hits;
 pub use surface::has_surface;

@@ -3,11 +3,11 @@ use Rattle.std.specs.Prelude.{ℕ, List, [], map, unwrap_or, Option, Some, Strin
 use Rattle.std.specs.Map.{lookup}
 use Rattle.std.specs.Str.{bytes_eq}
 
--- the bytes of the file of this name, if it is held; of two files of one name, those of the first
+-- the bytes of the file with this name, if it is held; if two share the name, those of the first
 abbrev pub text_of : List (List ℕ × List ℕ) → List ℕ → Option (List ℕ)
 text_of files name = lookup (λ known. bytes_eq known name) files
 
--- what is told of a name: one that is not held is an empty file
+-- what contracts see of a name: one that is not held is an empty file
 abbrev pub told : List (List ℕ × List ℕ) → List ℕ → Option (List ℕ)
 told files name = Some (unwrap_or (text_of files name) [])
 

@@ -16,15 +16,15 @@ files_in shelf = files_of shelf.files.items
 abbrev pub failing_of : MemShelf → List ℕ
 failing_of shelf = shelf.failing.items
 
--- how many loads there were
+-- how many loads there have been
 abbrev pub loads_of : MemShelf → ℕ
 loads_of shelf = shelf.loads
 
--- how many loads of a name failed
+-- how many loads of a name have failed
 abbrev pub faults_of : MemShelf → List ℕ → ℕ
 faults_of shelf name = count_of shelf.faults name
 
--- whether the load that was the last fails: its number is one of those, or the name is not held
+-- whether the latest load fails: its number is one of those, or the name is not held
 abbrev pub fails : MemShelf → List ℕ → Bool
 fails shelf name =
     list_any (λ number. nat_eq number (loads_of shelf)) (failing_of shelf) || is_none (text_of (files_in shelf) name)

@@ -5,15 +5,15 @@ use Rattle.outside.specs.declared.sink.WriteErr.{WriteErr}
 use Rattle.outside.specs.declared.sink.WriteErr.TheVariants.{Failed, NoMemory}
 
 pub record Taking : Type 0 where
-  -- the bytes that it has taken
+  -- the bytes that it has taken so far
   pub bytes : List ℕ
-  -- the most that it takes of a piece
+  -- how many bytes of a piece it takes at most
   pub most : ℕ
   -- the numbers of the writes that fail; the first write has number 1
   pub failing : List ℕ
-  -- how many writes there were
+  -- how many writes there have been
   pub writes : ℕ
-  -- how many of them failed
+  -- how many of them have failed
   pub faults : ℕ
 
 -- the count of faults after a write with this answer

@@ -6,10 +6,10 @@ ghost use Rattle.outside.specs.Counts.{count_of};
 use std::alloc::{AllocError, Global};
 use std::collections::BTreeMap;
 
-// A count of faults for each name that was asked for.
+// The number of faults of each name that was asked for.
 pub(crate) type Counts = BTreeMap<String, u64>;
 
-// Takes the memory for the count of a name.
+// Allocates the count of a name, unless it is already there.
 pub(crate) fn prepare(counts: &mut Counts, alloc: Global, name: &str) -> Result<(), AllocError>
     ensures ready { OnOk result (IsSome (get_by_text counts.new name.now)) }
     ensures same { (other : List ℕ) → count_of counts.new other ≡ count_of counts.old other }

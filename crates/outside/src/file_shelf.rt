@@ -9,10 +9,10 @@ use std::fs;
 use std::io::Read;
 use std::rt::Files;
 
-/// How many bytes are read at a time.
+/// How many bytes are read at a time, at most.
 const TURN: usize = 8192;
 
-/// The files of the system, by their paths. It does not tell what they hold.
+/// The files of the system, by their paths. It does not show what they hold.
 #[derive(Drop)]
 pub struct FileShelf<'a, R: Files> {
     runtime: &'a R,
@@ -38,8 +38,8 @@ impl<R: Files> Shelf for FileShelf<'_, R> {
 
     ghost faults = { λ s name. count_of s.faults name };
 
-    /// Opens the file and reads it to its end, or up to the first byte past the limit. A load takes
-    /// the memory for the count of its name before it opens the file.
+    /// Opens the file and reads it to its end, or up to the first byte past the limit. A load
+    /// allocates the count of its name before it opens the file.
     fn load(&mut self, alloc: Global, name: &str, limit: u64) -> Result<Vec<u8>, LoadErr> {
         if counts::prepare(&mut self.faults, alloc, name).is_err() {
             return Err(LoadErr::NoMemory);
@@ -55,7 +55,7 @@ impl<R: Files> Shelf for FileShelf<'_, R> {
     }
 }
 
-// Reads to the end, or up to the first byte past the limit.
+// Reads a file to its end, or up to the first byte past the limit.
 fn read_whole<F: Read>(alloc: Global, file: &mut F, limit: u64) -> Result<Vec<u8>, LoadErr>
     ensures { IfOk result (λ bytes. length bytes.items ≤ limit) }
 {

@@ -5,7 +5,7 @@ ghost use Rattle.outside.specs.Held.{files_of, text_of};
 use crate::shelf::LoadErr;
 use std::alloc::Global;
 
-// The file of a name.
+// The bytes of the first file with this name.
 pub(crate) fn find<'a>(files: &'a [(String, Vec<u8>)], name: &str) -> Option<&'a [u8]>
     ensures { option_copied result ≡ text_of (files_of files.now) name.now }
 {
@@ -17,7 +17,7 @@ pub(crate) fn find<'a>(files: &'a [(String, Vec<u8>)], name: &str) -> Option<&'a
     None
 }
 
-// A copy of a text that may have at most `limit` bytes.
+// A copy of a text that must have at most `limit` bytes.
 pub(crate) fn copy(alloc: Global, text: &[u8], limit: u64) -> Result<Vec<u8>, LoadErr>
     ensures ok { IfOk result (λ bytes. (bytes.items ≡ text.now) × (length text.now ≤ limit)) }
     ensures too_long { result ≡ Err LoadErr.TooLong → limit < length text.now }

@@ -1,19 +1,19 @@
-//! Everything that comes from outside the program or leaves it. This crate stands on no other of
-//! the repository, and every crate that loads or writes stands on it.
+//! Everything that enters the program from outside or leaves it. This crate depends on no other
+//! crate of the workspace, and every crate that loads or writes depends on it.
 //!
 //! ```text
 //! words, files ─► Shelf ─► readers ─► grammar, timeline ─► .. ─► answer ─► writers ─► OutBuffer ─► Sink
 //! ```
 //!
 //! - The layers above load whole files by name from a [`Shelf`], and write texts to a [`Sink`]. A
-//!   writer `put_x` gives a sink a whole text. It calls writers `push_x`, which append the pieces to
-//!   one [`OutBuffer`], so that the sink sees few writes; [`put_all`] writes one piece at once.
-//! - What a writer promises is said once: `Puts` and `Pushes` in `specs/Writers.antt`.
-//! - Faults are counted by the shelf, for each name, and by the sink. Whoever answers `Failed` shows
-//!   by the count that there was a fault, and no count ever falls.
-//! - [`MemShelf`], [`SafeShelf`], [`MemSink`] and [`SafeSink`] hold their bytes in memory and tell
-//!   them. [`FileShelf`] and [`StreamSink`] are the edge to the system, made by a program from its
-//!   runtime. They tell no content, and meet the same contracts.
+//!   writer `put_x` gives a sink a whole text. It calls writers `push_x`, which append their pieces
+//!   to one [`OutBuffer`], so that the sink sees few writes; [`put_all`] writes one piece directly.
+//! - What every writer promises is stated once: `Puts` and `Pushes` in `specs/Writers.antt`.
+//! - The shelf counts faults for each name, and the sink counts its own. An answer `Failed` is
+//!   backed by a count that has risen, and no count ever falls.
+//! - [`MemShelf`], [`SafeShelf`], [`MemSink`] and [`SafeSink`] keep their bytes in memory, and
+//!   contracts see them. [`FileShelf`] and [`StreamSink`] are the edge to the system; a program
+//!   makes them from its runtime. They meet the same contracts, but do not show their contents.
 #![tactic(auto)]
 
 pub use file_shelf::FileShelf;

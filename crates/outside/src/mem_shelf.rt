@@ -9,8 +9,8 @@ use crate::shelf::{LoadErr, Shelf};
 use std::alloc::Global;
 use std::collections::BTreeMap;
 
-/// Files in memory, of which chosen loads fail. A load of a name that it does not hold fails too;
-/// such a name is told as an empty file.
+/// Files in memory, some of whose loads fail, as chosen. A load of a name that it does not hold
+/// fails too; contracts see such a name as an empty file.
 #[derive(Drop)]
 pub struct MemShelf {
     files: Vec<(String, Vec<u8>)>,
@@ -20,8 +20,8 @@ pub struct MemShelf {
 }
 
 impl MemShelf {
-    /// A shelf of these files, by their names. Of two files of one name it holds the first. The
-    /// loads are numbered from 1, and those whose numbers are in `failing` fail.
+    /// A shelf of these files, by their names. If two files share a name, it holds the first. Loads
+    /// are numbered from 1, and those whose numbers are in `failing` fail.
     pub fn new(alloc: Global, files: Vec<(String, Vec<u8>)>, failing: Vec<u64>) -> MemShelf
         ensures files { files_in result ≡ files_of files.items }
         ensures failing { failing_of result ≡ failing.items }
@@ -36,7 +36,7 @@ impl MemShelf {
         }
     }
 
-    // The answer of the load that is numbered now.
+    // The answer of the load whose number was just counted.
     fn answer(&self, alloc: Global, name: &str, limit: u64) -> Result<Vec<u8>, LoadErr>
         ensures ok { IfOk result
             (λ bytes.
@@ -62,8 +62,7 @@ impl Shelf for MemShelf {
 
     ghost faults = { faults_of };
 
-    /// Copies the file. A load takes the memory for the count of its name before it does anything
-    /// else, so a load that fails can count it.
+    /// Copies the file. A load first allocates the count of its name, so that it can count a fault.
     fn load(&mut self, alloc: Global, name: &str, limit: u64) -> Result<Vec<u8>, LoadErr>
         ensures within_limit { IfOk result (λ bytes. length bytes.items ≤ limit) }
         ensures ok { IfOk result

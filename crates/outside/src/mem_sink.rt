@@ -7,7 +7,7 @@ use crate::sink::{Sink, WriteErr};
 use std::alloc::Global;
 use std::marker::Model;
 
-/// A sink in memory that takes little at a time, and of which chosen writes fail. Contracts see its
+/// A sink in memory that takes few bytes at a time, and whose chosen writes fail. Contracts see its
 /// bytes, its settings, and its counts of writes and faults.
 #[derive(Drop)]
 pub struct MemSink {
@@ -30,8 +30,8 @@ impl Model for MemSink {
 }
 
 impl MemSink {
-    /// A sink that takes at most `most` bytes of a piece. The writes are numbered from 1, and those
-    /// whose numbers are in `failing` fail.
+    /// A sink that takes at most `most` bytes of a piece; `most` is at least 1. Writes are numbered
+    /// from 1, and those whose numbers are in `failing` fail.
     pub fn new(alloc: Global, most: usize, failing: Vec<u64>) -> MemSink
         requires { 0 < most }
         ensures { result ≡ record
@@ -46,7 +46,7 @@ impl MemSink {
         }
     }
 
-    /// The bytes that it has taken.
+    /// The bytes that it has taken so far.
     pub fn bytes(&self) -> &[u8]
         ensures { result.now ≡ self.now.bytes }
     {
@@ -61,8 +61,8 @@ impl Sink for MemSink {
 
     ghost faults = { λ s. s.faults };
 
-    /// Takes as many bytes as it may. Only where memory is wanting does it refuse a write that is
-    /// not to fail.
+    /// Takes as many bytes as it may. It refuses a write that is not meant to fail only if memory
+    /// runs out.
     fn write(&mut self, piece: &[u8]) -> Result<usize, WriteErr>
         ensures count { IfOk result (λ n. n ≡ min (length piece.now) self.old.most) }
         ensures some { IfOk result (λ n. 0 < length piece.now → 0 < n) }

@@ -18,7 +18,7 @@ pub fn push_decimal<O: Sink>(
     out.push(sink, buffer.format(number).as_bytes())
 }
 
-/// Appends a text, and then a number in decimal digits.
+/// Appends a text, followed by a number in decimal digits.
 pub fn push_number<O: Sink>(
     out: &mut OutBuffer,
     sink: &mut O,

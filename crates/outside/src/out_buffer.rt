@@ -5,14 +5,14 @@ use crate::put::put_all;
 use crate::sink::{Sink, WriteErr};
 use std::marker::Model;
 
-/// How many bytes wait at most.
+/// How many bytes may wait.
 const ROOM: usize = 4096;
 
-/// Bytes that wait for a sink, so that the sink sees few writes. A writer puts the pieces of its
-/// text through one of these, and flushes it at the end. Contracts see the bytes that wait.
+/// Bytes that wait for a sink, so that the sink sees few writes. A writer passes the pieces of its
+/// text through one buffer, and flushes it at the end. Contracts see the bytes that wait.
 ///
-/// A refusal ends the text: after it nothing waits, and the sink has taken a front of what had
-/// waited and of the piece after it.
+/// A refusal ends the text: after it nothing waits, and the sink has taken some prefix of the bytes
+/// that had waited, followed by the piece.
 #[derive(Drop)]
 pub struct OutBuffer {
     bytes: [u8; ROOM],
@@ -30,7 +30,7 @@ impl Model for OutBuffer {
 }
 
 impl OutBuffer {
-    /// Nothing waits.
+    /// A buffer in which nothing waits.
     pub fn new() -> OutBuffer
         ensures { result ≡ [] }
     {
@@ -40,7 +40,7 @@ impl OutBuffer {
         }
     }
 
-    /// Appends a piece to what waits. Where it has no room, what waits is handed on first.
+    /// Appends a piece to the waiting bytes. If there is no room for it, they are handed on first.
     pub fn push<O: Sink>(&mut self, sink: &mut O, piece: &[u8]) -> Result<(), WriteErr>
         ensures { Pushes O.Sink sink.old sink.new self.old self.new piece.now result }
     {
@@ -56,7 +56,7 @@ impl OutBuffer {
         put_all(sink, piece)
     }
 
-    /// Hands on all that waits.
+    /// Hands on all waiting bytes.
     pub fn flush<O: Sink>(&mut self, sink: &mut O) -> Result<(), WriteErr>
         ensures puts { Puts O.Sink sink.old sink.new self.old result }
         ensures empty { self.new ≡ [] }

@@ -6,8 +6,8 @@ use crate::shelf::{LoadErr, Shelf};
 use std::alloc::Global;
 use std::marker::Model;
 
-/// Files in memory, of which each load is served. A name that it does not hold is an empty file.
-/// Contracts see the names and the bytes of its files.
+/// Files in memory whose loads never fail. A name that it does not hold is an empty file. Contracts
+/// see the names and the bytes of its files.
 #[derive(Drop)]
 pub struct SafeShelf {
     files: Vec<(String, Vec<u8>)>,
@@ -23,7 +23,7 @@ impl Model for SafeShelf {
 }
 
 impl SafeShelf {
-    /// A shelf of these files, by their names. Of two files of one name it holds the first.
+    /// A shelf of these files, by their names. If two files share a name, it holds the first.
     pub fn new(files: Vec<(String, Vec<u8>)>) -> SafeShelf
         ensures { result ≡ files_of files.items }
     {
@@ -36,7 +36,7 @@ impl Shelf for SafeShelf {
 
     ghost faults = { λ _ _. 0 };
 
-    /// Copies the file. Only a file that is too long and want of memory are refused.
+    /// Copies the file, unless it is too long or memory runs out.
     fn load(&mut self, alloc: Global, name: &str, limit: u64) -> Result<Vec<u8>, LoadErr> {
         files::copy(alloc, files::find(&self.files, name).unwrap_or(&[]), limit)
     }

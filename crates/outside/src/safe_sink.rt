@@ -30,7 +30,7 @@ impl SafeSink {
         }
     }
 
-    /// The bytes that it has taken.
+    /// The bytes that it has taken so far.
     pub fn bytes(&self) -> &[u8]
         ensures { result.now ≡ self.now }
     {
@@ -45,7 +45,7 @@ impl Sink for SafeSink {
 
     ghost faults = { λ _. 0 };
 
-    /// Takes the whole piece. Only where memory is wanting does it refuse.
+    /// Takes the whole piece, unless memory runs out.
     fn write(&mut self, piece: &[u8]) -> Result<usize, WriteErr>
         ensures ok { IfOk result
             (λ n. (n ≡ length piece.now) × (self.new ≡ self.old ++ piece.now)) }

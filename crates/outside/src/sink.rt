@@ -10,21 +10,21 @@ pub enum WriteErr {
     /// The sink failed, and counted the fault.
     #[error("the bytes cannot be written")]
     Failed,
-    /// The sink had no memory to hold the bytes.
+    /// Memory for the bytes ran out.
     #[error("out of memory")]
     NoMemory,
 }
 
 /// Where bytes go.
 pub trait Sink {
-    /// The bytes that it has taken so far, or None where it does not tell.
+    /// The bytes that it has taken so far, or None if it does not show them.
     ghost taken: { Self → Option (List ℕ) };
 
     /// How many faults it has had.
     ghost faults: { Self → ℕ };
 
-    /// Takes the first bytes of a piece, and answers how many: at least one of a piece that is not
-    /// empty. After a refusal it has taken none.
+    /// Takes the first bytes of a piece, and answers how many: at least one, if the piece is
+    /// nonempty. A refusal means that it has taken none.
     fn write(&mut self, piece: &[u8]) -> Result<usize, WriteErr>
         ensures count { IfOk result (λ n. (n ≤ length piece.now) × (0 < length piece.now → 0 < n)) }
         ensures ok { IfOk result

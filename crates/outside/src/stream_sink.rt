@@ -6,8 +6,7 @@ use std::io::Write;
 use std::marker::Model;
 
 /// A stream of the system as a sink: standard output or standard error, as the program's runtime
-/// gives them. It does not tell what it has taken.
-/// Contracts see its count of faults.
+/// gives them. It does not show what it has taken. Contracts see its count of faults.
 #[derive(Drop)]
 pub struct StreamSink<W: Write + Drop> {
     stream: W,
@@ -23,7 +22,7 @@ impl<W: Write + Drop> Model for StreamSink<W> {
 }
 
 impl<W: Write + Drop> StreamSink<W> {
-    /// A sink over a stream, with no fault so far.
+    /// A sink over this stream, with no fault so far.
     pub fn new(stream: W) -> StreamSink<W>
         ensures { result ≡ 0 }
     {
@@ -47,7 +46,7 @@ impl<W: Write + Drop> Sink for StreamSink<W> {
 
     ghost faults = { λ s. s };
 
-    /// Hands the piece to the stream. A stream that takes nothing of a piece that is not empty has
+    /// Hands the piece to the stream. If the stream takes nothing of a nonempty piece, it has
     /// failed.
     fn write(&mut self, piece: &[u8]) -> Result<usize, WriteErr> {
         match self.stream.write(piece) {

@@ -28,7 +28,7 @@ fn push_two<O: Sink>(
     out.push(sink, second)
 }
 
-// A sink that takes 16 bytes a write and fails at some writes takes a front of the text.
+// A sink that takes 16 bytes a write and fails at some writes takes a prefix of the text.
 #[test]
 fn failing_writes_leave_a_front(rt: HostRuntime) -> Result<(), Fail> {
     let text = b"The quick brown fox jumps over the lazy dog";
@@ -61,7 +61,7 @@ fn whole_texts_are_taken(rt: HostRuntime) -> Result<(), Fail> {
     Ok(())
 }
 
-// Pieces that wait reach the sink as few writes: the second write fails, and there is none.
+// Waiting pieces reach the sink in one write: the second write would fail, but there is none.
 #[test]
 fn pieces_wait(rt: HostRuntime) -> Result<(), Fail> {
     let failing = [2].to_vec(rt.alloc())?;
@@ -134,7 +134,7 @@ fn unknown_names_are_empty(rt: HostRuntime) -> Result<(), Fail> {
     Ok(())
 }
 
-// Files of less and of more than one turn, at their limits; a file that is missing, and a folder.
+// Files shorter and longer than one read, at their limits; a missing file, and a folder.
 #[test]
 fn files_are_loaded(rt: HostRuntime) -> Result<(), Fail> {
     let alloc = rt.alloc();

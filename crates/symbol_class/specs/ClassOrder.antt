@@ -1,4 +1,4 @@
--- Classes are compared by the numbers of their sets, from the first tier.
+-- Classes are compared by the numbers of their sets, from the first tier on.
 use Rattle.std.specs.Ordering.{nat_cmp}
 use Rattle.std.specs.Cmp.Lexicographic.{slice_cmp}
 use Rattle.std.specs.declared.cmp.Ordering.{Ordering}

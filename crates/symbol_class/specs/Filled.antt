@@ -1,4 +1,4 @@
--- A class is filled where it holds some column, which is so where each tier's set has a symbol.
+-- A class is filled if it holds some column, that is, if each tier's set has a symbol.
 use Rattle.std.specs.Prelude.{Bool}
 use Rattle.std.specs.List.{list_all, list_any}
 use Rattle.tier_core.specs.declared.class.Class.{Class}

@@ -4,7 +4,7 @@ ghost use Rattle.tier_core.specs.Classes.{sets_of, has};
 
 use tier_core::Class;
 
-/// The class of the columns that both classes hold. They have one width.
+/// The class of the columns that both classes hold. They have the same width.
 pub fn meet(a: &Class, b: &Class) -> Class
     requires { length (sets_of a.now) ≡ length (sets_of b.now) }
     ensures width { length (sets_of result) ≡ length (sets_of a.now) }

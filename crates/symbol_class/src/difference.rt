@@ -3,7 +3,7 @@ ghost use Rattle.tier_core.specs.Classes.{sets_of};
 
 use tier_core::Class;
 
-/// The columns that are in one class and not in another. Both have one width.
+/// The columns that are in one class and not in another. Both classes have the same width.
 #[derive(Clone, Copy, Debug)]
 pub struct Difference {
     pub within: Class,

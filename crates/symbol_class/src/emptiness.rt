@@ -5,7 +5,7 @@ ghost use Rattle.symbol_class.specs.Filled.{is_filled};
 
 use tier_core::Class;
 
-/// Whether a class holds no column of its width. It holds none of another width in any case.
+/// Whether a class holds no column of its width. It never holds one of another width.
 pub fn is_empty(class: &Class) -> bool
     ensures columns { IsTrue result
         ↔

@@ -12,14 +12,14 @@ use std::alloc::{AllocError, Global};
 use std::cmp::Ordering;
 use tier_core::{Class, NoMemory};
 
-/// Compares classes by their sets of the other tiers than this.
+/// Compares classes by their sets of all tiers but this one.
 fn beside_cmp(tier: u32, a: &Class, b: &Class) -> Ordering
     ensures { result ≡ beside_cmp tier (sets_of a.now) (sets_of b.now) }
 {
     class_cmp(&a.with_set(tier, 0), &b.with_set(tier, 0))
 }
 
-/// The class that has on a tier the symbols of both, and else the sets of the first.
+/// The class that has the symbols of both on this tier, and the sets of the first on all others.
 fn united(tier: u32, a: &Class, b: &Class) -> Class
     requires first { tier < length (sets_of a.now) }
     requires second { tier < length (sets_of b.now) }
@@ -28,8 +28,8 @@ fn united(tier: u32, a: &Class, b: &Class) -> Class
     a.with_set(tier, a.bits(tier) | b.bits(tier))
 }
 
-/// The class that is to be joined next: the current one with the next, where they agree on all other
-/// tiers than this, and else the next, and then the current one is done.
+/// The class that is to be joined next: the current one joined with the next, if they agree on all
+/// tiers but this one. Otherwise it is the next one, and the current one is done.
 fn joined_next(
     done: &mut Vec<Class>,
     tier: u32,
@@ -53,7 +53,7 @@ fn joined_next(
     Ok(*next)
 }
 
-/// Joins neighbours that agree on all other tiers than this, where classes are sorted by these.
+/// Joins neighbours that agree on all tiers but this one. The classes are sorted by those tiers.
 fn joined_neighbours(alloc: Global, tier: u32, sorted: &[Class]) -> Result<Vec<Class>, AllocError>
     requires wide { All (λ class. tier < length (sets_of class)) sorted.now }
     requires filled { All (λ class. IsTrue (is_filled class)) sorted.now }
@@ -74,7 +74,7 @@ fn joined_neighbours(alloc: Global, tier: u32, sorted: &[Class]) -> Result<Vec<C
     Ok(joined)
 }
 
-/// Joins classes that agree on all other tiers than this.
+/// Joins classes that agree on all tiers but this one.
 fn joined_along(alloc: Global, tier: u32, classes: Vec<Class>) -> Result<Vec<Class>, AllocError>
     requires wide { All (λ class. tier < length (sets_of class)) classes.items }
     requires filled { All (λ class. IsTrue (is_filled class)) classes.items }
@@ -86,7 +86,7 @@ fn joined_along(alloc: Global, tier: u32, classes: Vec<Class>) -> Result<Vec<Cla
     joined_neighbours(alloc, tier, &sorted)
 }
 
-/// Joins classes of a width along each tier in turn.
+/// Joins classes of one width along each tier in turn.
 fn joined_once(alloc: Global, width: u32, classes: Vec<Class>) -> Result<Vec<Class>, AllocError>
     requires { ArePieces width classes.items }
     ensures { IfOk result (λ joined. JoinsBelow width width classes.items joined.items) }
@@ -98,7 +98,7 @@ fn joined_once(alloc: Global, width: u32, classes: Vec<Class>) -> Result<Vec<Cla
     Ok(joined)
 }
 
-/// Joins classes of a width along each tier in turn, until none are joined any more.
+/// Joins classes of one width along each tier in turn, until no more can be joined.
 fn joined_fully(alloc: Global, width: u32, classes: &[Class]) -> Result<Vec<Class>, AllocError>
     requires some { 0 < width }
     requires pieces { ArePieces width classes.now }
@@ -118,9 +118,10 @@ fn joined_fully(alloc: Global, width: u32, classes: &[Class]) -> Result<Vec<Clas
     Ok(joined)
 }
 
-/// Classes that hold exactly the columns of the given ones, of which any two differ in the sets of
-/// at least two tiers. They are no more than the given ones, none is empty, and no column is in two;
-/// the given ones are so too, and of one width. It fails only for want of memory.
+/// Classes that hold exactly the columns of the given ones, and any two of which differ in the sets
+/// of at least two tiers. There are no more of them than of the given ones, none is empty, and no
+/// column is in two. The given classes have one width, none of them is empty, and no column is in
+/// two. Fails only if memory runs out.
 pub fn join(alloc: Global, classes: &[Class]) -> Result<Vec<Class>, NoMemory>
     requires { ArePieces (width_of classes.now) classes.now }
     ensures pieces { IfOk result (λ joined. ArePieces (width_of classes.now) joined.items) }

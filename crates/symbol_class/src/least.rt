@@ -9,7 +9,7 @@ ghost use Rattle.symbol_class.specs.FirstColumn.{first_sym, first_column};
 use std::alloc::Global;
 use tier_core::{Class, Column, Sym};
 
-/// The least symbol of a set, by the set's number, and Both where the set has none.
+/// The least symbol of the set with this number, and Both if the set has none.
 #[tactic(auto, unfolding(crate::specs::FirstColumn::first_sym))]
 fn lowest(set: u8) -> Sym
     ensures { result ≡ first_sym set }
@@ -27,8 +27,8 @@ fn lowest(set: u8) -> Sym
     }
 }
 
-/// The least column of a class that is not empty, in column order: on each tier the least symbol of
-/// its set. It takes no memory.
+/// The least column of a nonempty class, in column order: on each tier the least symbol of its set.
+/// Allocates no memory.
 pub fn least_column(alloc: Global, class: &Class) -> Column
     ensures sets { result ≡ first_column class.now }
     ensures held { IsTrue (is_filled class.now) → IsTrue (has class.now result) }

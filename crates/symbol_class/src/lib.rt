@@ -1,8 +1,8 @@
-//! Sets of columns: what classes have in common, what one has more than another, how a class is
-//! parted by tests, and lists of classes that are made shorter by joining them.
+//! Sets of columns: the intersection of classes, the columns of one class that another lacks, how
+//! tests divide a class, and how lists of classes are shortened by joining them.
 //!
 //! A class has a set of symbols for each tier, and holds the columns whose symbols are in these
-//! sets. No call here looks at single columns. Below stand columns and classes; above, the moves of
+//! sets. No call here looks at single columns. Below are columns and classes; above, the moves of
 //! kinds are given for classes of columns, and the automata of answers have them on their arcs.
 #![tactic(auto)]
 

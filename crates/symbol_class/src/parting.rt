@@ -9,8 +9,8 @@ use crate::sides::Split;
 use std::alloc::{AllocError, Global};
 use tier_core::{Class, NoMemory};
 
-/// Parts classes by a test: puts what they have in common with it at the end of a list, and gives
-/// what they have more.
+/// Divides classes by a test: appends what they have in common with it to a list, and gives the
+/// rest.
 fn parted(
     alloc: Global,
     classes: &[Class],
@@ -35,7 +35,7 @@ fn parted(
     Ok(outside)
 }
 
-/// Parts a class by all tests in turn.
+/// Divides a class by all tests in turn.
 fn parted_by_all(alloc: Global, class: &Class, tests: &[Class]) -> Result<Split, AllocError>
     requires { All (λ test. length (sets_of test) ≡ length (sets_of class.now)) tests.now }
     ensures inside { IfOk result
@@ -56,9 +56,9 @@ fn parted_by_all(alloc: Global, class: &Class, tests: &[Class]) -> Result<Split,
     Ok(Split { inside, outside })
 }
 
-/// Parts a class by tests of its width: classes that hold exactly its columns that are in some test,
-/// and classes that hold exactly the others. None of all these classes is empty, and no column is in
-/// two. It fails only for want of memory.
+/// Divides a class by tests of its width: into classes that hold exactly its columns that are in
+/// some test, and classes that hold exactly the others. None of these classes is empty, and no
+/// column is in two. Fails only if memory runs out.
 pub fn split(alloc: Global, class: &Class, tests: &[Class]) -> Result<Split, NoMemory>
     requires { All (λ test. length (sets_of test) ≡ length (sets_of class.now)) tests.now }
     ensures pieces { IfOk result

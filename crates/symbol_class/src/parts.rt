@@ -10,7 +10,7 @@ use crate::remainder::{push_filled, push_minus};
 use std::alloc::{AllocError, Global};
 use tier_core::{Class, NoMemory};
 
-/// Whether some columns of a class may be in a difference, and some not.
+/// Whether a difference may have some columns of a class and lack others.
 fn is_parted(class: &Class, test: &Difference) -> bool
     requires { length (sets_of class.now) ≡ length (sets_of test.now.within) }
     ensures { result ≡ false → IsAlike (differs test.now) class.now }
@@ -29,7 +29,7 @@ fn is_parted(class: &Class, test: &Difference) -> bool
     !is_empty(&both)
 }
 
-/// Whether a difference surely has all columns of each class, or none.
+/// Whether a difference surely has all columns or none of each class.
 fn are_whole(classes: &[Class], test: &Difference) -> bool
     requires { All
         (λ class. length (sets_of class) ≡ length (sets_of test.now.within)) classes.now }
@@ -43,7 +43,7 @@ fn are_whole(classes: &[Class], test: &Difference) -> bool
     true
 }
 
-/// Puts a class in its parts at the end of a list: those that are in a difference, and the others.
+/// Appends the parts of a class to a list: those that are in a difference, and the others.
 fn push_parts(parts: &mut Vec<Class>, class: &Class, test: &Difference) -> Result<(), AllocError>
     requires { length (sets_of class.now) ≡ length (sets_of test.now.within) }
     ensures { OnOk result
@@ -61,7 +61,7 @@ fn push_parts(parts: &mut Vec<Class>, class: &Class, test: &Difference) -> Resul
     Ok(())
 }
 
-/// Parts classes by a difference.
+/// Divides classes by a difference.
 fn parts(alloc: Global, classes: &[Class], test: &Difference) -> Result<Vec<Class>, AllocError>
     requires { ArePieces (length (sets_of test.now.within)) classes.now }
     ensures { IfOk result
@@ -76,9 +76,9 @@ fn parts(alloc: Global, classes: &[Class], test: &Difference) -> Result<Vec<Clas
     Ok(parts)
 }
 
-/// Parts pieces, so that a difference has all columns of a part or none. They hold the same columns
-/// as before, each is a part of one piece, none is empty, and no column is in two. It fails only for
-/// want of memory.
+/// Divides pieces into parts, so that a difference has all columns of a part or none. The parts
+/// hold the same columns as before, each is a part of one piece, none is empty, and no column is in
+/// two. Fails only if memory runs out.
 pub fn part(alloc: Global, classes: Vec<Class>, test: &Difference) -> Result<Vec<Class>, NoMemory>
     requires { ArePieces (length (sets_of test.now.within)) classes.items }
     ensures { IfOk result

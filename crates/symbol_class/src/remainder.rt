@@ -8,7 +8,7 @@ use crate::sets::narrowed;
 use std::alloc::{AllocError, Global};
 use tier_core::{Class, NoMemory};
 
-/// Puts a class at the end of a list, unless it is empty.
+/// Appends a class to a list, unless it is empty.
 pub(crate) fn push_filled(pieces: &mut Vec<Class>, class: Class) -> Result<(), AllocError>
     ensures held { OnOk result
         (AddsClasses (length (sets_of class)) pieces.old.items pieces.new.items
@@ -22,8 +22,8 @@ pub(crate) fn push_filled(pieces: &mut Vec<Class>, class: Class) -> Result<(), A
     Ok(())
 }
 
-/// Puts the pieces of `a` without `b` at the end of a list: for each tier the columns that are in the
-/// sets of `b` on the tiers before it, and not on this one.
+/// Appends the pieces of `a` without `b` to a list: for each tier the columns that are in the sets
+/// of `b` on the tiers before it, and not on this one.
 pub fn push_minus(pieces: &mut Vec<Class>, a: &Class, b: &Class) -> Result<(), AllocError>
     requires { length (sets_of a.now) ≡ length (sets_of b.now) }
     ensures held { OnOk result
@@ -42,8 +42,8 @@ pub fn push_minus(pieces: &mut Vec<Class>, a: &Class, b: &Class) -> Result<(), A
 }
 
 /// At most as many classes as there are tiers, none of them empty and no column in two, that hold
-/// exactly the columns of `a` that are not in `b`. Both have one width. It fails only for want of
-/// memory.
+/// exactly the columns of `a` that are not in `b`. Both have the same width. Fails only if memory
+/// runs out.
 pub fn minus(alloc: Global, a: &Class, b: &Class) -> Result<Vec<Class>, NoMemory>
     requires { length (sets_of a.now) ≡ length (sets_of b.now) }
     ensures pieces { IfOk result (λ pieces. ArePieces (length (sets_of a.now)) pieces.items) }

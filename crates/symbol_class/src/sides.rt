@@ -1,6 +1,6 @@
 use tier_core::Class;
 
-/// The pieces of a class: inside the tests, and outside of them.
+/// The pieces of a class: those inside the tests, and those outside them.
 #[derive(Drop)]
 pub struct Split {
     /// The columns that are in some test.

@@ -9,7 +9,7 @@ use tier_core::{Class, Column, NoMemory, Sym, column_cmp};
 
 const SYMBOLS: [Sym; 5] = [Sym::Outside, Sym::Inside, Sym::Start, Sym::End, Sym::Both];
 
-/// How many classes of two tiers there are whose sets have no symbols but Outside, Start and Both.
+/// How many classes of two tiers have no symbols but Outside, Start and Both in their sets.
 const CLASSES: u8 = 64;
 
 /// How many columns of two tiers there are.
@@ -190,7 +190,7 @@ fn cells(alloc: Global, mask: u32) -> Result<Vec<Class>, AllocError>
     Ok(cells)
 }
 
-/// What cells are joined to.
+/// The classes to which cells are joined.
 fn joined(alloc: Global, cells: &[Class]) -> Result<Vec<Class>, NoMemory>
     requires { All (λ class. length (sets_of class) ≡ 2) cells.now }
 {

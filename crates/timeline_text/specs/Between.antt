@@ -1,11 +1,11 @@
--- Spelled columns, one letter after the other, as they are made.
+-- The columns of a spelled form, letter by letter, as they are made.
 use Rattle.std.specs.Prelude.{ℕ, Bool, true, false, List, [], ◌∷◌, map}
 use Rattle.std.specs.List.{range_with_len}
 use Rattle.tier_core.specs.declared.sym.Sym.{Sym}
 use Rattle.tier_core.specs.declared.sym.Sym.TheVariants.{Outside, Start, End, Both}
 use Rattle.tier_core.specs.Tiers.{has_tier}
 
--- a constituent ends where the letter before has the tier, and one starts where the letter after has it
+-- a constituent ends if the letter before has the tier, and one starts if the letter after has it
 abbrev pub between : Bool → Bool → Sym
 between true true = Both
 between true false = End

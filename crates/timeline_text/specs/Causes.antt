@@ -1,4 +1,4 @@
--- Why a text is no timeline.
+-- Why a text is not a timeline.
 use Rattle.std.specs.Prelude.{◌≡◌, ◌≢◌, ℕ, ◌<◌, ◌==◌, ◌||◌, Bool, not, List, length, map, Option, Some, is_some, unwrap_or, codes, position}
 use Rattle.std.specs.List.{slice_split}
 use Rattle.tier_core.specs.declared.sym.Sym.{Sym}
@@ -16,7 +16,7 @@ is_space b = b == 32
 abbrev pub is_known : ℕ → Bool
 is_known b = is_some (sym_of b) || is_space b
 
--- what stands between spaces
+-- the pieces between spaces
 abbrev pub pieces_of : List ℕ → List (List ℕ)
 pieces_of bytes = slice_split is_space bytes
 
@@ -42,7 +42,7 @@ pub record IsFirstIllFormed (width : ℕ) (T : List (List Sym)) (tier : ℕ) : T
   pub broken : ¬ IsWellFormedWord (word T tier)
   pub before : (t : ℕ) → t < tier → IsWellFormedWord (word T t)
 
--- where each cause comes, whether or not another comes too
+-- when each cause applies, whether or not another applies too
 abbrev pub Comes : ℕ → ℕ → List ℕ → FormErr → Type 0
 Comes width limit bytes (BadSymbol at) = bad_symbol bytes ≡ Some at
 Comes width limit bytes (WrongWidth column) = wrong_width width bytes ≡ Some column
@@ -62,7 +62,7 @@ order (NotReduced column) = 4
 order (UnknownLetter at) = 5
 order NoMemory = 6
 
--- The cause of a text is the first that comes. The word `empty` has none.
+-- The cause of a text is the first that applies. The word `empty` has none.
 pub record IsCause (width limit : ℕ) (bytes : List ℕ) (cause : FormErr) : Type 0 where
   pub other_word : bytes ≢ codes "empty"
   pub comes : Comes width limit bytes cause

@@ -7,7 +7,7 @@ use Rattle.timeline_text.specs.Causes.{IsCause}
 use Rattle.timeline_text.specs.declared.letter.Letter.{Letter}
 use Rattle.timeline_text.specs.Spelling.{IsSpelledBy, IsSpellingCause}
 
--- a text is a timeline's, or it has a cause
+-- a text is that of a timeline, or it has a cause
 abbrev pub HasReading : ℕ → ℕ → List ℕ → Type 0
 HasReading width limit bytes = ((T : List (List Sym)) × IsTextOf width limit bytes T) ⊎
     ((cause : FormErr) × IsCause width limit bytes cause)

@@ -8,7 +8,7 @@ use Rattle.timeline_text.specs.declared.letter.Letter.{Letter}
 use Rattle.timeline_text.specs.declared.form_err.FormErr.{FormErr}
 use Rattle.timeline_text.specs.declared.form_err.FormErr.TheVariants.{BadSymbol, WrongWidth, TooLong, NotWellFormed, NotReduced, UnknownLetter, NoMemory}
 
--- a letter has a tier, and none from the number of input tiers on
+-- a letter has some tier, and only tiers below the number of input tiers
 pub record HasSound (inputs : ℕ) (letter : Letter) : Type 0 where
   pub some : 0 < letter.tiers
   pub within : letter.tiers < 2 ^ inputs
@@ -17,7 +17,7 @@ pub record HasSound (inputs : ℕ) (letter : Letter) : Type 0 where
 abbrev pub letter_of : List Letter → ℕ → Option Letter
 letter_of letters b = find (λ letter. letter.byte == b) letters
 
--- the first byte that is no letter
+-- the first byte that is not a letter
 abbrev pub unknown_letter : List Letter → List ℕ → Option ℕ
 unknown_letter letters bytes = position (λ b. not (is_some (letter_of letters b))) bytes
 
@@ -33,7 +33,7 @@ sounds_of letters bytes = map (sound_of letters) (drop 1 bytes)
 abbrev pub spelled_on : ℕ → List ℕ → List (ℕ × ℕ)
 spelled_on tier sounds = map (λ k. (k, suc k)) (numbers_from (λ sound. has_tier sound tier) 0 sounds)
 
--- n letters give n + 1 columns, and no letters none
+-- n letters give n + 1 columns, and no letters give none
 abbrev pub columns_for : List ℕ → ℕ
 columns_for [] = 0
 columns_for (sound ∷ sounds) = 2 + length sounds
@@ -46,7 +46,7 @@ pub record IsSpelledBy (letters : List Letter) (inputs : ℕ) (bytes : List ℕ)
   pub form : IsWellFormed inputs T
   pub drawn : (t : ℕ) → t < inputs → constituents (word T t) ≡ spelled_on t (sounds_of letters bytes)
 
--- why a word spells no form
+-- why a word does not spell a form
 abbrev pub IsSpellingCause : List Letter → List ℕ → FormErr → Type 0
 IsSpellingCause letters bytes (UnknownLetter at) = option_map (λ k. k + 1) (unknown_letter letters (drop 1 bytes))
     ≡ Some at

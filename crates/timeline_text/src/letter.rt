@@ -1,5 +1,5 @@
 /// A letter of a grammar: the byte that it is written as, and the mask of the input tiers of its
-/// sound. Bits are counted from the lowest, and count the input tiers alone.
+/// sound. The lowest bit is that of the first input tier; other tiers have no bits.
 #[derive(Clone, Copy, Debug, PartialEq, Eq)]
 pub struct Letter {
     pub byte: u8,

@@ -1,13 +1,14 @@
 //! Timelines as text, and forms that are spelled by the letters of a grammar.
 //!
-//! A text has each column as one symbol byte for each tier, and one space between two columns; the
-//! timeline without columns is the word `empty`. The layers above read underlying and surface
-//! forms, examples and rows by [`read_timeline`], words that begin with `=` by [`read_spelled`],
-//! and write by [`put_timeline`], or by [`push_timeline`] as a part of a longer text. A timeline that was read is well formed, reduced, of the width and
-//! within the limit, so it meets what those layers ask of a form.
+//! A text has one symbol byte for each tier of a column, and one space between two columns; the
+//! timeline without columns is written as the word `empty`. The layers above read underlying and surface
+//! forms, examples and rows with [`read_timeline`] and words that begin with `=` with
+//! [`read_spelled`], and write with [`put_timeline`], or with [`push_timeline`] as part of a longer
+//! text. A timeline that was read is well formed, reduced, of the given width and within the limit,
+//! as those layers require of a form.
 //!
-//! The definitions of `specs/` are the text of a timeline, the timeline of a text, the causes of a
-//! text that has none, and the form that letters spell.
+//! `specs/` defines the text of a timeline, the timeline of a text, the cause of a text that has
+//! none, and the form that letters spell.
 #![tactic(auto)]
 
 mod form_err;

@@ -12,7 +12,7 @@ pub(crate) fn bad_symbol(bytes: &[u8]) -> Option<usize>
         .position(|b| !(Sym::of_byte(*b).is_some() || *b == b' '))
 }
 
-/// The number of the first piece between spaces that has not this many bytes.
+/// The number of the first piece between spaces that does not have this many bytes.
 pub(crate) fn wrong_width(width: u32, bytes: &[u8]) -> Option<usize>
     ensures { result ≡ wrong_width width bytes.now }
 {

@@ -7,7 +7,7 @@ ghost use Rattle.timeline_text.specs.Texts.{text_of};
 use outside::{OutBuffer, Sink, WriteErr};
 use tier_core::{Column, Timeline};
 
-/// The bytes of a column, at the front of an array.
+/// An array that begins with the bytes of a column.
 fn column_bytes(column: &Column) -> [u8; 12]
     ensures { take (length column.now) result ≡ map byte_of column.now }
 {
@@ -25,7 +25,7 @@ fn push_column<O: Sink>(out: &mut OutBuffer, sink: &mut O, column: &Column) -> R
     out.push(sink, &bytes[..column.width() as usize])
 }
 
-// Columns behind the first one, each after a space.
+// The columns after the first one, each after a space.
 fn push_tail<O: Sink>(out: &mut OutBuffer, sink: &mut O, columns: &[Column]) -> Result<(), WriteErr>
     ensures { Pushes O.Sink sink.old sink.new out.old out.new (tail_text columns.now) result }
 {
@@ -36,7 +36,7 @@ fn push_tail<O: Sink>(out: &mut OutBuffer, sink: &mut O, columns: &[Column]) -> 
     Ok(())
 }
 
-/// Appends the one text of a timeline, as a part of a longer text.
+/// Appends the text of a timeline, as part of a longer text.
 pub fn push_timeline<O: Sink>(
     out: &mut OutBuffer,
     sink: &mut O,
@@ -51,7 +51,7 @@ pub fn push_timeline<O: Sink>(
     push_tail(out, sink, others)
 }
 
-/// Writes the one text of a timeline.
+/// Writes the text of a timeline.
 pub fn put_timeline<O: Sink>(sink: &mut O, timeline: &Timeline) -> Result<(), WriteErr>
     ensures { Puts O.Sink sink.old sink.new (text_of timeline.now) result }
 {

@@ -38,18 +38,19 @@ fn columns_of(alloc: Global, width: u32, bytes: &[u8]) -> Result<Timeline, FormE
     Ok(timeline)
 }
 
-/// Reads the text of a timeline over `width` tiers, which are 1 to 12, with at most `limit`
-/// columns. What is read is well formed and reduced.
+/// Reads the text of a timeline over `width` tiers, from 1 to 12, with at most `limit` columns. The
+/// timeline is well formed and reduced.
 ///
-/// The causes are tried in this order, and the first that comes is the error.
+/// The causes are tried in this order, and the first that applies is the error.
 ///
 /// - `BadSymbol`: a byte is neither a symbol nor a space; the first such offset.
-/// - `WrongWidth`: cut at each space, a piece has not `width` bytes; the first such piece.
+/// - `WrongWidth`: when the text is cut at each space, a piece does not have `width` bytes; the
+///   first such piece.
 /// - `TooLong`: there are more pieces than the limit.
 /// - `NotWellFormed`: a tier is not well formed; the first such tier.
 /// - `NotReduced`: a column has no edge; the first such column.
 ///
-/// The word `empty` has none of them. `NoMemory` may come in place of any answer.
+/// None of them applies to the word `empty`. `NoMemory` may come in place of any other answer.
 pub fn read_timeline(
     alloc: Global,
     width: u32,

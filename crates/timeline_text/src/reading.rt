@@ -7,7 +7,7 @@ ghost use Rattle.timeline_text.specs.Causes.{IsCause};
 ghost use Rattle.timeline_text.specs.Spelling.{IsSpelledBy, IsSpellingCause};
 ghost use Rattle.timeline_text.specs.Readings.{HasReading, HasSpelling};
 
-/// Each text has exactly one of a timeline and a cause.
+/// Each text has either a timeline or a cause, and only one of them.
 pub fn each_text_has_one_reading()
     ensures some { (width limit : ℕ) (bytes : List ℕ) → HasReading width limit bytes }
     ensures one_value { (width limit : ℕ) (bytes : List ℕ) (T U : List (List Sym))
@@ -18,14 +18,14 @@ pub fn each_text_has_one_reading()
         → IsTextOf width limit bytes T → IsCause width limit bytes e → ⊥ }
 {}
 
-/// A text that is written, and in which no cause is found, is read as the same timeline.
+/// If no cause is found in the text of a timeline, it is read as the same timeline.
 pub fn written_is_read_again()
     ensures { (width limit : ℕ) (T : List (List Sym))
         → ((e : FormErr) → ¬ IsCause width limit (text_of T) e)
         → IsTextOf width limit (text_of T) T }
 {}
 
-/// Each word of letters has exactly one of a form and a cause.
+/// Each word of letters has either a form or a cause, and only one of them.
 pub fn each_word_has_one_spelling()
     ensures some { (letters : List Letter) (inputs : ℕ) (bytes : List ℕ)
         → HasSpelling letters inputs bytes }

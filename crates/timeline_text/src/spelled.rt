@@ -16,7 +16,7 @@ fn letter_of(letters: &[Letter], byte: u8) -> Option<Letter>
     letters.iter().find(|letter| letter.byte == byte).copied()
 }
 
-/// The place of the first byte that is no letter.
+/// The place of the first byte that is not a letter.
 fn unknown_letter(letters: &[Letter], word: &[u8]) -> Option<usize>
     ensures { result ≡ unknown_letter letters.now word.now }
 {
@@ -88,16 +88,16 @@ fn columns_of(
     Ok(timeline)
 }
 
-/// Reads a word that begins with `=`, and spells a form over `inputs` input tiers by letters.
+/// Reads a word that begins with `=` and spells a form over `inputs` input tiers in letters.
 ///
 /// Letter k, counted from 0, makes a constituent (k, k + 1) on each tier of its sound. So n letters
-/// give n + 1 columns, and the word `=` alone is the form without columns. What is read is well
-/// formed, reduced, and has at most 64 columns.
+/// give n + 1 columns, and the word `=` alone is the form without columns. The form is well formed
+/// and reduced, and has at most 64 columns.
 ///
-/// - `UnknownLetter`: a byte after the first is no letter; the first such offset in the word.
+/// - `UnknownLetter`: a byte after the first is not a letter; the first such offset in the word.
 /// - `TooLong`: all are letters, and there are more than 63.
 ///
-/// `NoMemory` may come in place of any answer.
+/// `NoMemory` may come in place of any other answer.
 pub fn read_spelled(
     alloc: Global,
     letters: &[Letter],

@@ -2,7 +2,7 @@ use crate::{FormErr, Letter, put_timeline, read_spelled, read_timeline};
 use outside::{MemSink, SafeSink, Sink, WriteErr};
 use std::test::Fail;
 
-// Texts over some tiers with at most some columns: how many columns they have. Each is written again.
+// Texts, with their numbers of tiers and limits: how many columns each has. It is written again.
 #[test]
 fn texts_that_are_read(rt: HostRuntime) -> Result<(), Fail> {
     let cases: [(u32, usize, &[u8], usize); 14] = [
@@ -32,7 +32,7 @@ fn texts_that_are_read(rt: HostRuntime) -> Result<(), Fail> {
     Ok(())
 }
 
-// A byte that is no symbol, before all else.
+// A byte that is not a symbol, before all other causes.
 #[test]
 fn bytes_that_are_no_symbols(rt: HostRuntime) -> Result<(), Fail> {
     let cases: [(u32, usize, &[u8], FormErr); 10] = [
@@ -55,7 +55,7 @@ fn bytes_that_are_no_symbols(rt: HostRuntime) -> Result<(), Fail> {
     Ok(())
 }
 
-// A piece of another width, before what follows.
+// A piece of another width, before the causes that follow.
 #[test]
 fn pieces_of_another_width(rt: HostRuntime) -> Result<(), Fail> {
     let cases: [(u32, usize, &[u8], FormErr); 10] = [
@@ -78,7 +78,7 @@ fn pieces_of_another_width(rt: HostRuntime) -> Result<(), Fail> {
     Ok(())
 }
 
-// Too many columns, before what follows.
+// Too many columns, before the causes that follow.
 #[test]
 fn columns_over_the_limit(rt: HostRuntime) -> Result<(), Fail> {
     let cases: [(u32, usize, &[u8], FormErr); 3] = [
@@ -149,7 +149,7 @@ fn sixty_four_columns(rt: HostRuntime) -> Result<(), Fail> {
     Ok(())
 }
 
-// Words of letters: the form that they spell, or their cause.
+// Words of letters: the form that each spells, or its cause.
 #[test]
 fn words_and_their_forms(rt: HostRuntime) -> Result<(), Fail> {
     let letters = [
@@ -193,7 +193,7 @@ fn words_and_their_forms(rt: HostRuntime) -> Result<(), Fail> {
     Ok(())
 }
 
-// A sink that fails at its second write has taken a front of the text.
+// A sink that fails at its second write has taken a prefix of the text.
 #[test]
 fn a_failing_sink_has_a_front(rt: HostRuntime) -> Result<(), Fail> {
     let text = b"[[ ||";

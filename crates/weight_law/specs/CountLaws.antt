@@ -1,4 +1,4 @@
--- Numbers of violations keep the laws of weights.
+-- Numbers of violations satisfy the laws of weights.
 use Rattle.std.proofs.Common.{ap, arith, refl}
 use Rattle.std.proofs.lemmas.Bool.Decides.{nat_tests}
 use Rattle.weight_law.specs.Meaning.{IsLawful}

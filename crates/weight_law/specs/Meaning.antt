@@ -1,11 +1,11 @@
 -- What weights mean, as contracts see them, and their laws: an ordered commutative monoid whose
--- least value is its zero, as the semirings of weighted automata take costs (after Ellison 1994).
+-- least value is its zero, like costs in the semirings of weighted automata (after Ellison 1994).
 use Rattle.std.specs.Prelude.{◌≡◌, ℕ, ◌+◌, ◌≤◌, Bool, true, false, if◌then◌else◌}
 use Rattle.std.specs.declared.cmp.Ordering.{Ordering}
 use Rattle.std.specs.declared.cmp.Ordering.TheVariants.{Less, Equal, Greater}
 
 -- what a type of weights means: `below` is a strict order, and `lawful` holds of every value of the
--- type. Numbers in it have no limit: `size` bounds what a sum needs
+-- type. Its numbers are unlimited: `size` bounds what a sum needs
 pub record Meaning (W : Type 0) : Type 0 where
   pub zero : W
   pub size : W → ℕ
@@ -22,7 +22,7 @@ abbrev pub AtMost : {W : Type 0} → Meaning W → W → W → Type 0
 AtMost m a b = m.below b a ≡ false
 
 -- the laws, which hold for all lawful weights: sums are associative and commutative with `zero`
--- neutral, `below` is a total order with `zero` least, and adding the same weight keeps it
+-- neutral, `below` is a total order with `zero` least, and adding the same weight preserves it
 pub record IsLawful {W : Type 0} (m : Meaning W) : Type 0 where
   pub lawful_zero : m.lawful m.zero ≡ true
   pub lawful_sum : (a b : W) → m.lawful a ≡ true → m.lawful b ≡ true → m.lawful (m.sum a b) ≡ true

@@ -1,4 +1,4 @@
--- Two weights as one: added each to its like, and compared by the first and then by the second.
+-- Two weights as one: added part by part, and compared by the first and then by the second.
 use Rattle.std.specs.Prelude.{max, Bool, true, false, ◌&&◌}
 use Rattle.weight_law.specs.Meaning.{Meaning}
 use Rattle.weight_law.specs.declared.pair.Pair.{Pair}

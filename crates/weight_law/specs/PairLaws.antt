@@ -1,4 +1,4 @@
--- Two weights as one keep the laws of weights, where each of the two does.
+-- Two weights as one satisfy the laws of weights if each of the two does.
 use Rattle.std.specs.Prelude.{◌≡◌, Bool, true, false, ◌&&◌, refl}
 use Rattle.std.proofs.Common.{sym, ap, ◌∙◌, arith}
 use Rattle.std.proofs.lemmas.Bool.{and_parts, and_from, false≢true}

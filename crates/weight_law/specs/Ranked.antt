@@ -1,4 +1,4 @@
--- Vectors of violations as weights: added part by part, and compared from the first part.
+-- Vectors of violations as weights: added part by part, and compared from the first part on.
 use Rattle.std.specs.Prelude.{◌≡◌, ℕ, ◌+◌, ◌-◌, ◌==◌, max, List, [], ◌∷◌, ◌++◌, replicate, length}
 use Rattle.std.specs.Ordering.{nat_cmp, is_lt}
 use Rattle.std.specs.Cmp.Lexicographic.{slice_cmp}
@@ -16,7 +16,7 @@ sum_of_parts [] ys = []
 sum_of_parts (x ∷ xs) [] = []
 sum_of_parts (x ∷ xs) (y ∷ ys) = (x + y) ∷ sum_of_parts xs ys
 
--- a vector of at most 24 numbers as parts: zeros stand behind it
+-- a vector of at most 24 numbers as parts, with zeros after it
 abbrev pub padded : List ℕ → List ℕ
 padded v = v ++ replicate (24 - length v) 0
 

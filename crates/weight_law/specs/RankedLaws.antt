@@ -1,4 +1,4 @@
--- Vectors of violations keep the laws of weights.
+-- Vectors of violations satisfy the laws of weights.
 use Rattle.std.specs.Prelude.{◌≡◌, ℕ, zero, suc, ◌+◌, ◌<◌, ◌≤◌, ◌==◌, true, false, List, [], ◌∷◌, replicate, length, if◌then◌else◌, refl}
 use Rattle.std.specs.declared.cmp.Ordering.{Ordering}
 use Rattle.std.specs.declared.cmp.Ordering.TheVariants.{Less, Equal, Greater}
@@ -133,7 +133,7 @@ equal_from Greater Less t e f = absurd (false≢true (sym f))
 equal_from Greater Equal t e f = cc
 equal_from Greater Greater t e f = cc
 
--- an order and its reverse by whether each is `Less`
+-- an order and its reverse, by whether each is `Less`
 order_from : (r s : Ordering) → r ≡ ordering_reverse s
     → r ≡ (if is_lt r then Less else (if is_lt s then Greater else Equal))
 order_from Less s t = refl

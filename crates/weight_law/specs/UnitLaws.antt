@@ -1,4 +1,4 @@
--- The one value of what is not weighed keeps the laws of weights.
+-- The one value of unweighed moves satisfies the laws of weights.
 use Rattle.std.proofs.Common.{arith, refl}
 use Rattle.weight_law.specs.Meaning.{IsLawful}
 use Rattle.weight_law.specs.UnitWeight.{unit_meaning}

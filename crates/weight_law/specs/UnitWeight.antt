@@ -1,4 +1,4 @@
--- The weight of what is not weighed: one value, which is below nothing.
+-- The weight of unweighed moves: one value, which is below nothing.
 use Rattle.std.specs.Prelude.{true, false}
 use Rattle.weight_law.specs.Meaning.{Meaning}
 use Rattle.weight_law.specs.declared.unit_weight.UnitWeight.{UnitWeight}

@@ -1,8 +1,9 @@
-// Weights that can be added and compared, with the laws that least paths rest on.
-//
-// The tables of arcs, the least distances and the pruning to best paths are generic over `Weight`,
-// and use of a weight only its meaning and its laws. `Count` weighs a move by its violations of one
-// constraint, and `UnitWeight` weighs nothing. This crate stands on none of the others.
+//! Weights that can be added and compared, with the laws that least paths rest on.
+//!
+//! The tables of arcs, the least distances and the pruning to best paths are generic over `Weight`,
+//! and use only the meaning and the laws of a weight. `Count` weighs a move by its violations of
+//! one constraint, and `UnitWeight` weighs nothing. This crate depends on no other crate of the
+//! workspace.
 #![tactic(auto)]
 
 ghost use Rattle.std.specs.Prelude.{◌≡◌, ◌+◌, ◌≤◌, IsTrue};
@@ -19,23 +20,23 @@ pub use ranked::Ranked;
 use std::cmp::Ordering;
 pub use unit_weight::UnitWeight;
 
-/// The weight of a move. The weight of a path is the sum of its moves' weights, and `zero` where
-/// there is no move. No call takes memory.
+/// The weight of a move. The weight of a path is the sum of its moves' weights, and `zero` if it
+/// has no moves. No call allocates memory.
 pub trait Weight: Copy {
     /// What weights mean: their `zero`, `size`, `sum` and order `below`, over values whose numbers
-    /// have no limit. `lawful` holds of every value of the type, and the laws hold for those.
+    /// are unlimited. `lawful` holds of every value of the type, and the laws hold for lawful ones.
     ghost meaning: { Meaning Self };
 
     /// The weight of no move. Its size is 0.
     fn zero() -> Self
         ensures { result ≡ meaning.zero };
 
-    /// The sum of both weights, whose sizes fit in 32 bits together.
+    /// The sum of both weights. Their sizes together fit in 32 bits.
     fn plus(&self, other: &Self) -> Self
         requires { meaning.size self.now + meaning.size other.now ≤ u32.MAX }
         ensures { result ≡ meaning.sum self.now other.now };
 
-    /// `Less` where this weight is below the other. Every value of the type is lawful.
+    /// `Less` if this weight is below the other. Every value of the type is lawful.
     fn compare(&self, other: &Self) -> Ordering
         ensures order { result ≡ order_of meaning self.now other.now }
         ensures lawful { IsTrue (meaning.lawful self.now) }

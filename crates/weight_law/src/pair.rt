@@ -4,7 +4,7 @@ ghost use Rattle.weight_law.specs.PairLaws.{pair_lawful};
 use crate::Weight;
 use std::cmp::Ordering;
 
-/// Two weights, of which the first counts first. Its size is the greater of the two sizes.
+/// Two weights, compared by the first and then by the second. Its size is the greater of the two.
 #[derive(Clone, Copy, Debug, PartialEq, Eq)]
 pub struct Pair<A: Weight, B: Weight> {
     pub first: A,

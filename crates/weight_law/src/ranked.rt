@@ -5,22 +5,22 @@ ghost use Rattle.weight_law.specs.RankedLaws.{ranked_lawful};
 use crate::Weight;
 use std::cmp::Ordering;
 
-/// The violations of 24 constraints, of which the first counts first. Its size is its greatest
-/// part.
+/// The violations of 24 constraints, compared from the first constraint on. Its size is its
+/// greatest part.
 #[derive(Clone, Copy, Debug, PartialEq, Eq)]
 pub struct Ranked {
     parts: [u32; 24],
 }
 
 impl Ranked {
-    /// The weight of these parts.
+    /// The weight with these parts.
     pub fn of_parts(parts: [u32; 24]) -> Ranked
         ensures { result.parts ≡ parts }
     {
         Ranked { parts }
     }
 
-    /// The 24 parts, from the one that counts first.
+    /// The 24 parts, in the order in which they are compared.
     pub fn parts(&self) -> &[u32]
         ensures value { result.now ≡ self.now.parts }
         ensures number { length result.now ≡ 24 }

@@ -12,7 +12,7 @@ use Rattle.answer_text.specs.declared.automaton.StateLine.{StateLine}
 use Rattle.answer_text.specs.declared.answer.Answer.{Answer}
 use Rattle.answer_text.specs.Right.{nodes_at}
 
--- the kind that a node of stage r tells, and its potential
+-- the kind that a node of stage r has, and its potential
 abbrev pub node_seen : Problem → ℕ → Node → PrefixKind × ℕ
 node_seen problem r node = (kind_of_bits problem r node.kind, node.potential)
 
@@ -35,7 +35,7 @@ state_seen state = record {
   arcs = map arc_seen state.arcs.items;
 }
 
--- An answer to the form of a problem says these counts, this example, these nodes of its stages and
+-- An answer to the form of a problem has these counts, this example, these nodes of its stages and
 -- these states.
 pub record IsSeenAs (problem : Problem) (answer : Answer) (counts : List ℕ)
     (example : List (List Sym)) (stages : List (List (PrefixKind × ℕ)))

@@ -8,7 +8,7 @@ use Rattle.violation.specs.Examples.{over_two, dep_a, kind_text, read_syms}
 use Rattle.violation.specs.Problems.{Problem}
 use Rattle.answer_examples.specs.Seen.{StateSeen}
 
--- nothing is ranked, and the form is empty
+-- there are no constraints, and the form is empty
 abbrev pub unranked : Problem
 unranked = over_two [] []
 
@@ -36,7 +36,7 @@ two_states = state 0 true (arc_on 1 (codes "-[") ∷ [])
 abbrev pub under_dep : String Global → Problem
 under_dep name = over_two (dep_a name ∷ []) []
 
--- at stage 1 a violation remains where the overt tier is open
+-- at stage 1 a violation remains if the overt tier is open
 abbrev pub dep_kinds : List (List (PrefixKind × ℕ))
 dep_kinds = (node (codes "-") [] 0 ∷ node (codes "+") [] 0 ∷ [])
     ∷ (node (codes "-") (codes ".") 0 ∷ node (codes "+") (codes "u") 1 ∷ []) ∷ []

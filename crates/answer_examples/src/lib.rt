@@ -1,5 +1,5 @@
-//! Worked answers to the smallest problems, beside the definitions. The functions do nothing: each
-//! says by its contract that an answer is certified and sound, or that an altered one is refused.
+//! Worked answers to the smallest problems, beside the definitions. The functions do nothing: the
+//! contract of each says that an answer is certified and sound, or that an altered one is refused.
 #![tactic(auto)]
 
 mod one_dep;

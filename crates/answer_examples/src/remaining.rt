@@ -4,7 +4,7 @@ ghost use Rattle.violation.specs.Examples.{over_two, dep_a, kind_text};
 ghost use Rattle.violation.specs.Stages.{IsRemaining};
 
 /// Under `a -> A` one violation remains from the kind of the empty form in which the overt tier is
-/// open and not met: however a goes on, its end is counted.
+/// open and unmet: however a continues, its end is counted.
 pub fn one_violation_remains()
     ensures one { (dep : String Global) → IsRemaining (over_two (dep_a dep ∷ []) []) 1
         (kind_text 0 (codes "+") (codes "u")) 1 }

@@ -9,9 +9,8 @@ ghost use Rattle.answer_text.specs.Sound.{IsSound};
 ghost use Rattle.answer_examples.specs.Seen.{IsSeenAs};
 ghost use Rattle.answer_examples.specs.Worked.{unranked, node, arc_on, state, two_kinds, two_states};
 
-/// The empty form has, where nothing is ranked, an answer with two nodes and two states. It is
-/// certified and sound with every candidate as its example. With one that is not the first, it is
-/// not right.
+/// Without constraints, the empty form has an answer with two nodes and two states. It is certified
+/// and sound with any candidate as its example. With one that is not the first, it is not right.
 pub fn unranked_answers()
     ensures certified { (answer : Answer) (example : List (List Sym))
         → IsCandidate unranked example
@@ -27,9 +26,8 @@ pub fn unranked_answers()
         → IsRight unranked answer → ⊥ }
 {}
 
-/// Alterations of this answer that are not certified: a potential that is raised, a node, an arc, a
-/// final mark or the stage taken out, a count that is added, and an
-/// example that is no candidate.
+/// Alterations of this answer that are not certified: a potential that is raised; a node, an arc, a
+/// final mark or the stage taken out; a count that is added; an example that is not a candidate.
 pub fn altered_answers_are_refused()
     ensures start_raised { (answer : Answer)
         → IsSeenAs unranked answer [] []

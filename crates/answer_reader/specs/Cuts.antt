@@ -7,7 +7,7 @@ use denote.Ref.{Bor}
 abbrev pub is_newline : ℕ → Bool
 is_newline b = b == 10
 
--- What stands between the ends of lines: the lines that end, and then what is left behind them.
+-- What the line feeds separate: the lines that end, and then what is left after them.
 abbrev pub lines_of : List ℕ → List (List ℕ)
 lines_of bytes = slice_split is_newline bytes
 
@@ -17,14 +17,14 @@ is_space b = b == 32
 abbrev pub parts_at : List ℕ → ℕ → List ℕ × List ℕ
 parts_at bytes k = (take k bytes, drop (k + 1) bytes)
 
--- what stands before the first byte of this number, and what stands behind it
+-- what comes before the first byte with this value, and what comes after it
 abbrev pub cut : ℕ → List ℕ → Option (List ℕ × List ℕ)
 cut b bytes = option_map (parts_at bytes) (position (λ x. x == b) bytes)
 
 abbrev pub begins : List ℕ → List ℕ → Bool
 begins front bytes = bytes_eq (take (length front) bytes) front
 
--- what stands behind a front
+-- what follows a prefix
 abbrev pub behind : List ℕ → List ℕ → Option (List ℕ)
 behind front bytes = if begins front bytes then Some (drop (length front) bytes) else None
 

@@ -5,11 +5,11 @@ use Rattle.tier_core.specs.Sets.{single_set}
 use Rattle.tier_core.specs.Symbols.{sym_of}
 use denote.Ref.{Bor}
 
--- a set and what stands behind what was read of it
+-- a set and what follows what was read of it
 abbrev pub front_seen : ℕ × Bor (List ℕ) → ℕ × List ℕ
 front_seen front = (front.0, front.1.now)
 
--- a symbol that stands at the front joins the set
+-- the symbol at the front joins the set
 abbrev pub with_symbol : ℕ → ℕ → ℕ × List ℕ → ℕ × List ℕ
 with_symbol bit byte (set, []) = (set, [])
 with_symbol bit byte (set, b ∷ bytes) = if b == byte then (set + bit, bytes) else (set, b ∷ bytes)

@@ -1,4 +1,4 @@
--- What the lines that are left give, as the code goes through them.
+-- What the remaining lines give, as the code goes through them.
 use Rattle.std.specs.Prelude.{◌≡◌, ℕ, ◌+◌, List, Result, Ok, Err}
 use Rattle.answer_reader.specs.declared.answer_err.AnswerCause.{AnswerCause}
 use Rattle.answer_reader.specs.declared.answer_err.AnswerErr.{AnswerErr}
@@ -9,7 +9,7 @@ use Rattle.answer_reader.specs.Steps.{At, first_line, Fails}
 abbrev pub lines_left : Lines → List (List ℕ)
 lines_left lines = lines_of lines.rest.now
 
--- reading the next line gives what it says, and goes on behind it
+-- reading the next line gives what it says, and goes on after it
 abbrev pub Takes : {X Y : Type 0} → (List ℕ → Result X AnswerCause) → (Y → X) → Lines → Lines → Result Y AnswerErr
     → Type 0
 Takes of seen old new (Ok y) = (first_line of old.number (lines_left old) ≡ Ok (seen y, lines_left new))

@@ -1,4 +1,4 @@
--- What a line says, apart from the lines before it.
+-- What a line says, regardless of the lines before it.
 use Rattle.std.specs.Prelude.{ℕ, ◌+◌, ◌==◌, ◌&&◌, Bool, true, false, if◌then◌else◌, List, [], length, codes, Option, Some, None, option_map, option_and_then, Result, Ok, Err}
 use Rattle.std.specs.List.{list_all, slice_split}
 use Rattle.std.specs.Option.{ok_or}
@@ -14,7 +14,7 @@ use Rattle.answer_reader.specs.Values.{ArcValue, StateValue}
 abbrev pub header_of : List ℕ → Result (Unit {0}) AnswerCause
 header_of line = if bytes_eq line (codes "answer 1") then Ok tt else Err BadHeader
 
--- `counts N N ..`: the words behind `counts`
+-- `counts N N ..`: the words after `counts`
 abbrev pub counts_words : List ℕ → Option (List (List ℕ))
 counts_words line = if bytes_eq line (codes "counts") then Some [] else option_map (slice_split is_space)
     (behind (codes "counts ") line)
@@ -29,7 +29,7 @@ counts_said constraints (Some runs) =
 abbrev pub counts_of : ℕ → List ℕ → Result (List ℕ) AnswerCause
 counts_of constraints line = counts_said constraints (counts_words line)
 
--- a number in its range, or BadNumber; BadLine where the word is no run of digits
+-- a number in its range, or BadNumber; BadLine if the word is not a run of digits
 abbrev pub number_said : ℕ → Option (List ℕ) → Result ℕ AnswerCause
 number_said bound None = Err BadLine
 number_said bound (Some word) = if is_run word then ok_or (number_below bound word) BadNumber else Err BadLine
@@ -48,7 +48,7 @@ stage_said stages next (Some w) = if is_run w.0 && is_run w.1
     then (if is_number next (number_below stages w.0) then ok_or (number_below 65537 w.1) BadNumber else Err BadNumber)
     else Err BadLine
 
--- the number of its nodes, where the stage is the next
+-- the number of its nodes, if the stage is the next
 abbrev pub stage_of : ℕ → ℕ → List ℕ → Result ℕ AnswerCause
 stage_of stages next line = stage_said stages next (stage_words line)
 
@@ -56,7 +56,7 @@ stage_of stages next line = stage_said stages next (stage_words line)
 abbrev pub automaton_of : ℕ → List ℕ → Result ℕ AnswerCause
 automaton_of nodes line = number_said (nodes + 1) (behind (codes "automaton ") line)
 
--- a state's number, and whether ` final` stands behind it
+-- a state's number, and whether ` final` follows it
 pub record StateWords : Type 0 where
   pub node : List ℕ
   pub accepting : Bool
@@ -82,7 +82,7 @@ state_said nodes (Some w) = if is_run w.node then ok_or (option_map (state_with 
 abbrev pub state_of : ℕ → List ℕ → Result StateValue AnswerCause
 state_of nodes line = state_said nodes (state_words line)
 
--- `arc TARGET CLASS`: the class is all that stands behind the space
+-- `arc TARGET CLASS`: the class is all that follows the space
 abbrev pub arc_words : List ℕ → Option (List ℕ × List ℕ)
 arc_words line = option_and_then (cut 32) (behind (codes "arc ") line)
 

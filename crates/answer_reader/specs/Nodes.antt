@@ -21,7 +21,7 @@ is_phase_byte b = (b == 46) || (b == 117) || (b == 109)
 abbrev pub phase_of : ℕ → Phase
 phase_of b = if b == 109 then met else if b == 117 then unmet else closed
 
--- so many bytes, each of which passes
+-- this many bytes, each of which passes
 abbrev pub are_each : (ℕ → Bool) → ℕ → List ℕ → Bool
 are_each test n bytes = (length bytes == n) && list_all test bytes
 
@@ -34,14 +34,14 @@ pub record NodeWords : Type 0 where
 abbrev pub with_potential : List ℕ → List ℕ → List ℕ × List ℕ → NodeWords
 with_potential place opened parts = record { place = place; opened = opened; phases = parts.0; potential = parts.1 }
 
--- PLACE and OPEN end at the first slashes, PHASES at the first space behind them
+-- PLACE and OPEN end at the first slashes, PHASES at the first space after them
 abbrev pub node_words : List ℕ → Option NodeWords
 node_words line = option_and_then
     (λ kind. option_and_then (λ p. option_and_then (λ q. option_map (with_potential p.0 q.0) (cut 32 q.1))
     (cut 47 p.1)) (cut 47 kind))
     (behind (codes "node ") line)
 
--- runs of digits, and OPEN and PHASES of the widths that the grammar gives
+-- runs of digits, and OPEN and PHASES of the grammar's widths
 abbrev pub are_node_words : ℕ → ℕ → NodeWords → Bool
 are_node_words free stretches w = is_run w.place && are_each is_open_byte free w.opened && are_each is_phase_byte
     stretches w.phases && is_run w.potential

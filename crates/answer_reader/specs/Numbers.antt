@@ -9,7 +9,7 @@ is_digit b = nat_le 48 b && nat_le b 57
 abbrev pub is_run : List ℕ → Bool
 is_run bytes = nat_lt 0 (length bytes) && list_all is_digit bytes
 
--- the number of a run, behind the digits of n
+-- the number of a run that follows the digits of n
 abbrev pub value_from : ℕ → List ℕ → ℕ
 value_from n [] = n
 value_from n (b ∷ bytes) = value_from (n * 10 + (b - 48)) bytes
@@ -24,7 +24,7 @@ abbrev pub number_below : ℕ → List ℕ → Option ℕ
 number_below bound run = if has_leading_zero run then None else
     if nat_lt (value_from 0 run) bound then Some (value_from 0 run) else None
 
--- the numbers of runs, where each of them has one
+-- the numbers of runs, if each of them has one
 abbrev pub numbers_below : ℕ → List (List ℕ) → Option (List ℕ)
 numbers_below bound [] = Some []
 numbers_below bound (run ∷ runs) = option_and_then (λ n. option_map (λ ns. n ∷ ns) (numbers_below bound runs))

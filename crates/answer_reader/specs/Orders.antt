@@ -1,4 +1,4 @@
--- The lines of a list come strictly one after the other.
+-- The lines of a list ascend strictly.
 use Rattle.std.specs.Prelude.{Bool, true, if◌then◌else◌, List, [], ◌∷◌, nat_lt, Result, Ok, Err}
 use Rattle.std.specs.Ordering.{nat_cmp, ordering_then, is_lt}
 use Rattle.std.specs.Cmp.Lexicographic.{slice_cmp}

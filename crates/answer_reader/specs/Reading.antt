@@ -24,7 +24,7 @@ example_of shape line = timeline_said (codes "example ") shape.width 65536 line
 abbrev pub constraint_count : Shape → ℕ
 constraint_count shape = length shape.phases.items - 1
 
--- what the lines before the stages say
+-- what the lines before the stages contain
 pub record HeadValue : Type 0 where
   pub form : List (List Sym)
   pub counts : List ℕ
@@ -34,17 +34,17 @@ abbrev pub answer_with : HeadValue → StagesRead → List StateValue → Result
 answer_with head read states = Ok
     (record { form = head.form; counts = head.counts; example = head.example; stages = read.stages; states = states })
 
--- the states and the end, behind the stages
+-- the states and the end, after the stages
 abbrev pub states_behind : Shape → HeadValue → StagesRead → Result AnswerValue At
 states_behind shape head read = and_then (answer_with head read)
     (states_from shape.width (last_count read.stages) (behind_states read.states []) read.number read.lines)
 
--- the stages and all behind them, from line n on
+-- the stages and all that follows them, from line n on
 abbrev pub stages_behind : Shape → HeadValue → ℕ → List (List ℕ) → Result AnswerValue At
 stages_behind shape head n lines = and_then (states_behind shape head)
     (stages_from shape (length head.form) (behind_stages []) n lines)
 
--- the lines behind the form
+-- the lines after the form
 abbrev pub behind_form : Shape → List (List Sym) → ℕ → List (List ℕ) → Result AnswerValue At
 behind_form shape form = line_then (counts_of (constraint_count shape)) (λ counts. line_then (example_of shape)
     (λ example. stages_behind shape (record { form = form; counts = counts; example = example })))
@@ -53,7 +53,7 @@ behind_form shape form = line_then (counts_of (constraint_count shape)) (λ coun
 abbrev pub answer_from : Shape → ℕ → List (List ℕ) → Result AnswerValue At
 answer_from shape = line_then header_of (λ header. line_then (form_of shape) (behind_form shape))
 
--- what a text says, where the grammar has this shape
+-- what a text says, for a grammar of this shape
 abbrev pub answer_of : Shape → List ℕ → Result AnswerValue At
 answer_of shape bytes = answer_from shape 1 (lines_of bytes)
 
@@ -61,7 +61,7 @@ answer_of shape bytes = answer_from shape 1 (lines_of bytes)
 abbrev pub IsTextOf : Shape → List ℕ → AnswerValue → Type 0
 IsTextOf shape bytes value = answer_of shape bytes ≡ Ok value
 
--- this line is the first of a text that has a cause, and this is its first cause
+-- this line is the first with a cause in a text, and this is its first cause
 abbrev pub IsFirstCause : Shape → List ℕ → ℕ → AnswerCause → Type 0
 IsFirstCause shape bytes line cause = answer_of shape bytes ≡ Err (at line cause)
 

@@ -11,7 +11,7 @@ use Rattle.answer_reader.specs.declared.node.NodeWords as code
 abbrev pub words_seen : code.NodeWords → said.NodeWords
 words_seen w = record { place = w.place.now; opened = w.opened.now; phases = w.phases.now; potential = w.potential.now }
 
--- a node, for so many free tiers and so many stretch implications
+-- a node, for this many free tiers and stretch implications
 abbrev pub node_seen : ℕ → ℕ → Node → NodeValue
 node_seen free stretches node = record { kind = prefix_kind free stretches node.kind; potential = node.potential }
 

@@ -1,4 +1,4 @@
--- The lines of the stages, and the line of the automaton behind them.
+-- The lines of the stages, and the line of the automaton after them.
 use Rattle.std.specs.Prelude.{ℕ, zero, suc, ◌+◌, ◌&&◌, not, Bool, true, false, if◌then◌else◌, List, [], ◌∷◌, ◌++◌, length, codes, Result, Ok, Err}
 use Rattle.tier_core.specs.declared.shape.Shape.{Shape}
 use Rattle.tier_core.specs.KindShapes.{free_count, stretch_count}
@@ -12,12 +12,12 @@ use Rattle.answer_reader.specs.Steps.{At, at, go_on}
 use Rattle.answer_reader.specs.Values.{NodeValue}
 
 pub data StagePlace : Type 0 where
-  -- behind these stages
+  -- after these stages
   behind_stages : List (List NodeValue) → StagePlace
-  -- behind these stages and these nodes of the next: a node is to come, and then so many more
+  -- after these stages and these nodes of the next: a node is to come, and then so many more
   in_stage : List (List NodeValue) → ℕ → List NodeValue → StagePlace
 
--- behind these stages and these nodes of the next, where so many nodes are to come
+-- after these stages and these nodes of the next, when this many nodes are still to come
 abbrev pub with_nodes : List (List NodeValue) → ℕ → List NodeValue → StagePlace
 with_nodes stages zero nodes = behind_stages (stages ++ nodes ∷ [])
 with_nodes stages (suc more) nodes = in_stage stages more nodes
@@ -32,7 +32,7 @@ abbrev pub is_empty : {X : Type 0} → List X → Bool
 is_empty [] = true
 is_empty (x ∷ xs) = false
 
--- the automaton comes behind at least one stage
+-- the automaton follows at least one stage
 abbrev pub is_automaton : List (List NodeValue) → List ℕ → Bool
 is_automaton stages line = not (is_empty stages) && begins (codes "automaton ") line
 
@@ -41,8 +41,8 @@ abbrev pub next_node : Shape → ℕ → ℕ → List NodeValue → List ℕ →
 next_node shape columns stage nodes line = in_order node_less nodes
     (node_of (free_count shape) (stretch_count shape stage) columns line)
 
--- What is read of the stages, how many states are to come, and the lines behind, the first of which
--- has a number.
+-- What is read of the stages, how many states follow, and the remaining lines, the first of which has
+-- a number.
 pub record StagesRead : Type 0 where
   pub stages : List (List NodeValue)
   pub states : ℕ
@@ -53,7 +53,7 @@ abbrev pub stages_read : List (List NodeValue) → ℕ → List (List ℕ) → �
 stages_read stages number lines states = Ok
     (record { stages = stages; states = states; number = number; lines = lines })
 
--- the lines from number n on, for a form with so many columns
+-- the lines from number n on, for a form with this many columns
 abbrev pub stages_from : Shape → ℕ → StagePlace → ℕ → List (List ℕ) → Result StagesRead At
 stages_from shape columns place n [] = Err (at n CutShort)
 stages_from shape columns place n (left ∷ []) = Err (at n CutShort)

@@ -9,9 +9,9 @@ use Rattle.answer_reader.specs.Steps.{At, at, go_on}
 use Rattle.answer_reader.specs.Values.{ArcValue, StateValue}
 
 pub data StatePlace : Type 0 where
-  -- so many states are to come, behind these
+  -- this many states follow these
   behind_states : ℕ → List StateValue → StatePlace
-  -- so many states are to come, behind these and one whose arcs may go on
+  -- this many states follow these and one whose arcs may go on
   in_state : ℕ → List StateValue → StateValue → StatePlace
 
 abbrev pub with_arc : StateValue → ArcValue → StateValue
@@ -23,19 +23,19 @@ next_state nodes states line = in_order state_less states (state_of nodes line)
 abbrev pub next_arc : ℕ → ℕ → List ArcValue → List ℕ → Result ArcValue AnswerCause
 next_arc width nodes arcs line = in_order arc_less arcs (arc_of width nodes line)
 
--- nothing stands behind the line `end`
+-- nothing follows the line `end`
 abbrev pub at_end : List StateValue → ℕ → List (List ℕ) → Result (List StateValue) At
 at_end states n ([] ∷ []) = Ok states
 at_end states n _ = Err (at n ExtraBytes)
 
--- behind the arcs of a state comes the next state, or the end behind the last
+-- after the arcs of a state comes the next state, or the end after the last
 abbrev pub state_or_end : ℕ → ℕ → List StateValue → ℕ → List ℕ → List (List ℕ)
     → (StatePlace → Result (List StateValue) At) → Result (List StateValue) At
 state_or_end nodes zero states n line lines go = go_on (end_of line) n (λ done. at_end states (n + 1) lines)
 state_or_end nodes (suc more) states n line lines go = go_on (next_state nodes states line) n
     (λ state. go (in_state more states state))
 
--- the lines from number n on, where the last stage has so many nodes
+-- the lines from number n on, if the last stage has this many nodes
 abbrev pub states_from : ℕ → ℕ → StatePlace → ℕ → List (List ℕ) → Result (List StateValue) At
 states_from width nodes place n [] = Err (at n CutShort)
 states_from width nodes place n (left ∷ []) = Err (at n CutShort)

@@ -1,4 +1,4 @@
--- Going from line to line. A text falls into the lines that end and what is left behind the last.
+-- Going from line to line. A text falls into the lines that end and what is left after the last.
 use Rattle.std.specs.Prelude.{◌≡◌, ℕ, ◌+◌, List, [], ◌∷◌, Result, Ok, Err}
 use Rattle.answer_reader.specs.declared.answer_err.AnswerCause.{AnswerCause}
 use Rattle.answer_reader.specs.declared.answer_err.AnswerCause.TheVariants.{CutShort}
@@ -18,7 +18,7 @@ abbrev pub go_on : {X Y : Type 0} → Result X AnswerCause → ℕ → (X → Re
 go_on (Ok x) n more = more x
 go_on (Err cause) n more = Err (at n cause)
 
--- what line n says, and the lines behind it; CutShort where the bytes end before it does
+-- what line n says, and the lines after it; CutShort if the bytes end before it does
 abbrev pub first_line : {X : Type 0} → (List ℕ → Result X AnswerCause) → ℕ → List (List ℕ)
     → Result (X × List (List ℕ)) At
 first_line of n [] = Err (at n CutShort)
@@ -35,7 +35,7 @@ abbrev pub and_then : {X Y : Type 0} → (X → Result Y At) → Result X At →
 and_then more (Ok x) = more x
 and_then more (Err at) = Err at
 
--- reads line n, and goes on with what it says and the lines behind it
+-- reads line n, and goes on with what it says and the lines after it
 abbrev pub line_then : {X Y : Type 0} → (List ℕ → Result X AnswerCause) → (X → ℕ → List (List ℕ) → Result Y At) → ℕ
     → List (List ℕ) → Result Y At
 line_then of more n lines = and_then (λ read. more read.0 (n + 1) read.1) (first_line of n lines)

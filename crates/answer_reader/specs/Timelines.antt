@@ -22,19 +22,19 @@ abbrev pub are_drawn : ℕ → List (List Sym) → Bool
 are_drawn zero T = true
 are_drawn (suc tier) T = is_drawn false (word T tier) && are_drawn tier T
 
--- nothing of the kind that is looked for was found
+-- nothing of the kind that was looked for was found
 abbrev pub unless : {X : Type 0} → Option ℕ → Option X → Option X
 unless None read = read
 unless (Some place) read = None
 
--- the timeline of a text in which no cause comes
+-- the timeline of a text that has no cause
 abbrev pub timeline_of : ℕ → ℕ → List ℕ → Option (List (List Sym))
 timeline_of width limit bytes = if bytes_eq bytes (codes "empty") then Some [] else
     unless (bad_symbol bytes) (unless (wrong_width width bytes)
     (if nat_lt limit (length (pieces_of bytes)) then None else
     if are_drawn width (columns_of bytes) then unless (no_edge (columns_of bytes)) (Some (columns_of bytes)) else None))
 
--- whether memory was wanting
+-- whether memory ran out
 abbrev pub is_no_memory : FormErr → Bool
 is_no_memory (BadSymbol at) = false
 is_no_memory (WrongWidth column) = false
@@ -44,6 +44,6 @@ is_no_memory (NotReduced column) = false
 is_no_memory (UnknownLetter at) = false
 is_no_memory NoMemory = true
 
--- `form TIMELINE` or `example TIMELINE`: the timeline is all that stands behind the word and its space
+-- `form TIMELINE` or `example TIMELINE`: the timeline is all that follows the word and its space
 abbrev pub timeline_said : List ℕ → ℕ → ℕ → List ℕ → Result (List (List Sym)) AnswerCause
 timeline_said word width limit line = ok_or (option_and_then (timeline_of width limit) (behind word line)) BadLine

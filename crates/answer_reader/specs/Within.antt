@@ -1,4 +1,4 @@
--- What a checker needs to know of nodes and arcs that were read.
+-- What a checker needs to know about nodes and arcs that were read.
 use Rattle.std.specs.Prelude.{◌≡◌, ℕ, ◌<◌, ◌≤◌, length}
 use Rattle.tier_core.specs.declared.shape.Shape.{Shape}
 use Rattle.tier_core.specs.Classes.{sets_of}

@@ -16,7 +16,8 @@ use Rattle.answer_text.specs.Readable.{IsReadable}
 use Rattle.answer_text.specs.Right.{nodes_at, arc_cmp}
 use Rattle.answer_reader.specs.Reading.{constraint_count}
 
--- The nodes of stage r ascend strictly in kind order, and their places are those of a form with so many columns.
+-- The nodes of stage r ascend strictly in kind order, and their places are within a form with this many
+-- columns.
 pub record AreOrderedNodes (shape : Shape) (columns r : ℕ) (nodes : List Node) : Type 0 where
   pub places : All (λ node. node.kind.place ≤ columns) nodes
   pub ascending : IsStrictlySortedBy kind_order (map (λ node. kind_in shape r node.kind) nodes)

@@ -3,23 +3,23 @@ ghost use Rattle.std.specs.Prelude.{◌≡◌};
 use std::alloc::{AllocError, AllocFailed};
 use thiserror::Error;
 
-/// Why a line is no line of an answer's text. On one line the causes are tried in the order in which
+/// Why a line of an answer's text is refused. On one line the causes are tried in the order in which
 /// they are listed here.
 #[derive(Clone, Copy, Debug, PartialEq, Eq, Error)]
 pub enum AnswerCause {
-    /// The bytes end before the end of a line that must be there.
+    /// The bytes end before the end of a required line.
     #[error("the text ends before the line does")]
     CutShort,
     /// The first line is not `answer 1`.
     #[error("the first line is not `answer 1`")]
     BadHeader,
-    /// The line has not a form that may stand there, or its timeline is refused.
+    /// The line does not have a form that is allowed there, or its timeline is refused.
     #[error("the line has none of the forms")]
     BadLine,
     /// A number has a leading zero or is out of its range.
     #[error("a number is out of its range")]
     BadNumber,
-    /// A class is not written as classes are, or has not the width of the grammar.
+    /// A class is not written as classes are, or does not have the width of the grammar.
     #[error("a class is not written as classes are")]
     BadClass,
     /// A node, state or arc does not come strictly after the one before it.
@@ -30,13 +30,13 @@ pub enum AnswerCause {
     ExtraBytes,
 }
 
-/// Why a text is no answer's.
+/// Why a text is not that of an answer.
 #[derive(Clone, Copy, Debug, PartialEq, Eq, Error)]
 pub enum AnswerErr {
     /// The first line that has a cause, counted from 1, and its first cause.
     #[error("line {line}: {cause}")]
     At { line: u32, cause: AnswerCause },
-    /// Memory was wanting.
+    /// Memory ran out.
     #[error("out of memory")]
     NoMemory,
 }

@@ -6,7 +6,7 @@ ghost use Rattle.answer_reader.specs.Decoding.{closed_by, decoded, front_seen, h
 
 use tier_core::{Class, Sym};
 
-/// A symbol that stands at the front joins the set.
+/// Adds the symbol at the front to the set.
 fn with_symbol(set: u8, bytes: &[u8], bit: u8, byte: u8) -> (u8, &[u8])
     requires below { set < bit }
     requires few { bit ≤ 16 }
@@ -19,7 +19,7 @@ fn with_symbol(set: u8, bytes: &[u8], bit: u8, byte: u8) -> (u8, &[u8])
     }
 }
 
-/// The symbols at the front, in their order, and what stands behind them.
+/// The symbols at the front, in their order, and what follows them.
 fn symbols_from(bytes: &[u8]) -> (u8, &[u8])
     ensures front { front_seen result ≡ symbols_from bytes.entry.now }
     ensures set { result.0 < 32 }
@@ -37,7 +37,7 @@ fn has_two(set: u8) -> bool
     !matches!(set, 0 | 1 | 2 | 4 | 8 | 16)
 }
 
-/// A set that stands in braces, behind the first of them.
+/// A set in braces, after the opening one.
 fn braced(bytes: &[u8]) -> Option<(u8, &[u8])>
     ensures front { option_map front_seen result ≡ closed_by (symbols_from bytes.entry.now) }
     ensures set { IfSome result (λ front. front.0 < 32) }
@@ -49,7 +49,7 @@ fn braced(bytes: &[u8]) -> Option<(u8, &[u8])>
     }
 }
 
-/// The number of the set that has a symbol alone.
+/// The number of the set that has one symbol alone.
 fn alone(sym: Sym) -> u8
     ensures value { result ≡ single_set sym }
     ensures few { result < 32 }
@@ -63,7 +63,7 @@ fn alone(sym: Sym) -> u8
     }
 }
 
-/// The set at the front of bytes, and what stands behind it.
+/// The set at the front of the bytes, and what follows it.
 fn front_of(bytes: &[u8]) -> Option<(u8, &[u8])>
     ensures front { option_map front_seen result ≡ decoded bytes.entry.now }
     ensures set { IfSome result (λ front. front.0 < 32) }
@@ -76,9 +76,9 @@ fn front_of(bytes: &[u8]) -> Option<(u8, &[u8])>
     Some((alone(sym), rest))
 }
 
-/// The class of a text with a set for each of so many tiers, and nothing behind them. None where the
-/// text is no class's: a set of one symbol is the symbol, and a set of more has its symbols in their
-/// order, in braces.
+/// The class of a text with one set for each of `width` tiers, and nothing after them. None if the
+/// text is not a class: a set of one symbol is written as the symbol, and a larger set as its symbols
+/// in order, in braces.
 pub fn class_of(width: u32, text: &[u8]) -> Option<Class>
     requires some { 1 ≤ width }
     requires few { width ≤ 12 }

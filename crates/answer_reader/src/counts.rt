@@ -15,22 +15,22 @@ use crate::number::{is_run, number_below};
 use crate::on_line::on_line;
 use std::alloc::Global;
 
-/// How many words stand between spaces.
+/// How many words the spaces separate.
 fn word_count(text: &[u8]) -> usize
     ensures { result ≡ length (slice_split is_space text.now) }
 {
     text.split(|byte| *byte == b' ').count()
 }
 
-/// Whether each word between spaces is a run of digits.
+/// Whether each of the words is a run of digits.
 fn are_runs(text: &[u8]) -> bool
     ensures { result ≡ list_all is_run (slice_split is_space text.now) }
 {
     text.split(|byte| *byte == b' ').all(|word| is_run(word))
 }
 
-/// The numbers of words between spaces, each at most 1,000,000,000. None where one has a leading zero
-/// or is above that.
+/// The numbers of the words, each at most 1,000,000,000. None if one has a leading zero or is above
+/// that.
 fn numbers_of(alloc: Global, text: &[u8]) -> Result<Option<Vec<u32>>, AnswerErr>
     requires { list_all is_run (slice_split is_space text.now) ≡ true }
     ensures ok { IfOk result (λ read. option_map numbers_seen read
@@ -49,7 +49,7 @@ fn numbers_of(alloc: Global, text: &[u8]) -> Result<Option<Vec<u32>>, AnswerErr>
     Ok(Some(numbers))
 }
 
-/// No counts, where there is no constraint.
+/// No counts, for a grammar without constraints.
 fn no_counts(alloc: Global, constraints: usize) -> Result<Vec<u32>, AnswerCause>
     ensures { MatchResult result
         (λ counts. (constraints ≡ 0) × (counts.items ≡ []))
@@ -62,7 +62,7 @@ fn no_counts(alloc: Global, constraints: usize) -> Result<Vec<u32>, AnswerCause>
     }
 }
 
-/// The counts that a line says, one for each of so many constraints, or its cause.
+/// The counts on a line, one for each constraint, or the line's cause.
 fn counts_in(
     alloc: Global,
     constraints: usize,
@@ -90,7 +90,7 @@ fn counts_in(
     }
 }
 
-/// Reads the line of the counts, one for each of so many constraints.
+/// Reads the line of the counts, one for each constraint.
 pub(crate) fn read_counts_line(
     alloc: Global,
     lines: &mut Lines<'_>,

@@ -33,7 +33,7 @@ pub fn read_header(lines: &mut Lines<'_>) -> Result<(), AnswerErr>
     on_line(number, header_of(line))
 }
 
-/// What the lines before the stages say.
+/// What the lines before the stages contain.
 #[derive(Drop)]
 pub(crate) struct Head {
     pub form: Timeline,

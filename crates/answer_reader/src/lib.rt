@@ -2,13 +2,13 @@
 //! a cause, with that line's number and its first cause.
 //!
 //! [`read_answer`] goes through the bytes once, line by line, and copies none of them. The layers above
-//! check what it reads: it is `IsReadable`, which is what a checker asks for.
+//! check what it reads, which is `IsReadable`: the condition of a checker.
 //!
-//! The definitions of `specs/` are the value of an answer (`Values`), what a line says apart from
-//! others (`Nodes`, `Classes`, `Timelines`, `Lines`), what the lines of stages and of states say one
-//! after the other (`Stages`, `States`), and what a whole text says (`Reading`). Each text has exactly
-//! one of a value and a first cause, and what `put_answer` writes of an orderly answer (`Written`) is
-//! read as that answer's value: [`each_text_has_one_reading`] and [`written_is_read_again`].
+//! The definitions in `specs/` give the value of an answer (`Values`), the meaning of a single line
+//! (`Nodes`, `Classes`, `Timelines`, `Lines`), of the lines of stages and states in sequence
+//! (`Stages`, `States`), and of a whole text (`Reading`). Each text has exactly one of a value and a
+//! first cause, and what `put_answer` writes for an orderly answer (`Written`) is read as that
+//! answer's value: [`each_text_has_one_reading`] and [`written_is_read_again`].
 #![tactic(auto)]
 
 mod answer_err;

@@ -11,7 +11,7 @@ use crate::cut::{behind, cut};
 use crate::number::{is_run, number_below};
 use answer_text::ArcLine;
 
-/// The number that a word writes, below a bound.
+/// The number that a word stands for, below a bound.
 fn number_said(bound: u32, word: Option<&[u8]>) -> Result<u32, AnswerCause>
     ensures said { MatchResult result
         (λ n. number_said bound (option_map part_seen word.entry) ≡ Ok n)
@@ -46,8 +46,8 @@ fn is_number(number: u32, said: Option<u32>) -> bool
     }
 }
 
-/// How many nodes a line `stage NUMBER NODES` says, where the stage has this number, and there are
-/// so many stages at most.
+/// How many nodes a line `stage NUMBER NODES` announces, if the stage has this number and is one of
+/// the stages that there may be.
 pub(crate) fn stage_of(stages: u32, next: u32, line: &[u8]) -> Result<u32, AnswerCause>
     ensures said { MatchResult result (λ n. stage_of stages next line.now ≡ Ok n)
         (λ cause. stage_of stages next line.now ≡ Err cause) }
@@ -69,7 +69,7 @@ pub(crate) fn stage_of(stages: u32, next: u32, line: &[u8]) -> Result<u32, Answe
     }
 }
 
-/// How many states a line `automaton STATES` says, which are at most so many as there are nodes.
+/// How many states a line `automaton STATES` announces: at most as many as there are nodes.
 pub(crate) fn automaton_of(nodes: u32, line: &[u8]) -> Result<u32, AnswerCause>
     requires { nodes ≤ 65536 }
     ensures said { MatchResult result (λ n. automaton_of nodes line.now ≡ Ok n)
@@ -108,8 +108,8 @@ fn state_words(line: &[u8]) -> Option<StateWords<'_>>
     }
 }
 
-/// What a line of a state says: the number of its node, of which there are so many, and whether it is
-/// final.
+/// What the line of a state says: the number of its node, below the number of nodes, and whether it
+/// is final.
 pub(crate) fn state_of(nodes: u32, line: &[u8]) -> Result<(u32, bool), AnswerCause>
     ensures said { MatchResult result (λ state. state_of nodes line.now ≡ Ok (bare_state state))
         (λ cause. state_of nodes line.now ≡ Err cause) }
@@ -134,7 +134,7 @@ fn arc_words(line: &[u8]) -> Option<(&[u8], &[u8])>
     cut(b' ', behind(b"arc ", line)?)
 }
 
-/// The arc that a line says: its target is one of so many nodes, and its class has this width.
+/// The arc on a line: its target is below the number of nodes, and its class has this width.
 pub(crate) fn arc_of(width: u32, nodes: u32, line: &[u8]) -> Result<ArcLine, AnswerCause>
     requires some { 1 ≤ width }
     requires few { width ≤ 12 }

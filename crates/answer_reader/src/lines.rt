@@ -3,10 +3,10 @@ ghost use Rattle.std.specs.Prelude.{◌≡◌, ◌+◌, ◌∷◌, [], ◌<◌, 
 use crate::answer_err::{AnswerCause, AnswerErr};
 use crate::cut::{begins, cut};
 
-/// The lines of a text that are left. The next of them has this number, counted from 1.
+/// The remaining lines of a text, with the number of the next, counted from 1.
 #[derive(Drop)]
 pub struct Lines<'a> {
-    /// The bytes that are left.
+    /// The remaining bytes.
     pub rest: &'a [u8],
     /// The number of the next line.
     pub number: u32,
@@ -31,7 +31,7 @@ impl<'a> Lines<'a> {
         }
     }
 
-    /// The next line, without its end. CutShort where the bytes end before it does.
+    /// The next line, without its line feed. `CutShort` if the bytes end before the line does.
     pub fn next_line(&mut self) -> Result<&'a [u8], AnswerErr>
         ensures line { IfOk result (λ line. lines_left self.old ≡ line.now ∷ lines_left self.new) }
         ensures number { OnOk result (self.new.number ≡ self.old.number + 1) }
@@ -50,7 +50,7 @@ impl<'a> Lines<'a> {
         Ok(line)
     }
 
-    /// Whether what is left begins with a front.
+    /// Whether the remaining bytes begin with a prefix.
     pub fn begins(&self, front: &[u8]) -> bool
         ensures { result ≡ begins front.now self.now.rest.now }
     {

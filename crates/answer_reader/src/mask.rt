@@ -7,8 +7,8 @@ fn bit_of(is_set: bool, bit: u32) -> u32
     if is_set { bit } else { 0 }
 }
 
-/// The mask with a bit for each byte, which is set where the byte is this mark. The first byte has
-/// the lowest bit.
+/// The mask with a bit for each byte, which is set if the byte is this mark. The first byte has the
+/// lowest bit.
 pub fn mask_of(mark: u8, bytes: &[u8]) -> u32
     requires { length bytes.now ≤ 24 }
     ensures mask { result ≡ mask_of mark bytes.now }

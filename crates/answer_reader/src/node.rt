@@ -65,7 +65,7 @@ fn are_phase_bytes(count: usize, bytes: &[u8]) -> bool
     bytes.len() == count && have_phase_bytes(bytes)
 }
 
-/// Whether the words are runs of digits, and OPEN and PHASES have these widths.
+/// Whether PLACE and POTENTIAL are runs of digits, and OPEN and PHASES have these widths.
 fn are_node_words(free: usize, stretches: usize, words: &NodeWords<'_>) -> bool
     ensures { result ≡ are_node_words free stretches (words_seen words.now) }
 {
@@ -75,7 +75,7 @@ fn are_node_words(free: usize, stretches: usize, words: &NodeWords<'_>) -> bool
         && is_run(words.potential)
 }
 
-/// The kind of the texts of open tiers and of phases.
+/// The kind given by the texts of its open tiers and its phases.
 fn kind_of(place: u32, open_text: &[u8], phase_text: &[u8]) -> Kind
     requires few_free { length open_text.now ≤ 12 }
     requires few_stretches { length phase_text.now ≤ 24 }
@@ -94,7 +94,7 @@ fn kind_of(place: u32, open_text: &[u8], phase_text: &[u8]) -> Kind
     }
 }
 
-/// The node of words of the form. None where a number is out of its range.
+/// The node given by well-formed words. None if a number is out of its range.
 fn node_with(columns: u32, words: &NodeWords<'_>) -> Option<Node>
     requires columns { columns ≤ 64 }
     requires place { is_run words.now.place.now ≡ true }
@@ -123,7 +123,7 @@ fn free_count(shape: &Shape) -> usize
     (shape.width - shape.inputs.count_ones()) as usize
 }
 
-/// The node that a line says, for a stage of the shape and a form with so many columns.
+/// The node on a line, for a stage of the shape and a form with this many columns.
 pub(crate) fn node_of(
     shape: &Shape,
     columns: u32,

@@ -30,7 +30,7 @@ fn has_leading_zero(run: &[u8]) -> bool
     }
 }
 
-/// The number that a run of digits writes. None where it has a leading zero, or is not below the
+/// The number that a run of digits stands for. None if it has a leading zero, or is not below the
 /// bound.
 pub fn number_below(bound: u32, run: &[u8]) -> Option<u32>
     requires { is_run run.now ≡ true }

@@ -3,7 +3,7 @@ ghost use Rattle.answer_reader.specs.declared.answer_err.AnswerErr.TheVariants.{
 
 use crate::answer_err::{AnswerCause, AnswerErr};
 
-/// What a line says, where a cause becomes the error of this line.
+/// What a line says, with a cause turned into the error of this line.
 pub(crate) fn on_line<T>(line: u32, said: Result<T, AnswerCause>) -> Result<T, AnswerErr>
     ensures { MatchResult said (λ value. result ≡ Ok value)
         (λ cause. result ≡ Err (At line cause)) }

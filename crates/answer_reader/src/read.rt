@@ -18,17 +18,18 @@ use tier_core::Shape;
 /// Lines are read in order, and the first line with a cause gives it, with its number from 1. On one
 /// line the causes are tried in this order.
 ///
-/// - `CutShort`: the bytes end before the line does, which must be there.
+/// - `CutShort`: the bytes end before a required line does.
 /// - `BadHeader`: line 1 is not `answer 1`.
-/// - `BadLine`: the line has not a form that may stand there, its timeline is refused, or there is not
-///   one count for each constraint, one byte for each free tier, one byte for each stretch implication.
+/// - `BadLine`: the line does not have a form that is allowed there; its timeline is refused; or it
+///   does not have one count for each constraint, or one byte for each free tier and each stretch
+///   implication.
 /// - `BadNumber`: a number has a leading zero or is out of its range.
-/// - `BadClass`: a class is not written as classes are, or has not the width of the grammar.
+/// - `BadClass`: a class is not written as classes are, or does not have the width of the grammar.
 /// - `BadOrder`: a node, state or arc does not come strictly after the one before it.
-/// - `ExtraBytes`: bytes follow the line `end`; the line is the next one.
+/// - `ExtraBytes`: bytes follow the line `end`; the error names the line after it.
 ///
-/// What is read is within the limits that a checker asks for. `NoMemory` may come in place of any
-/// answer. The bytes are gone through once, and nothing is held but the answer.
+/// What is read is within the limits that a checker requires. `NoMemory` may be returned in place of
+/// any result. The bytes are passed over once, and nothing is held but the answer.
 pub fn read_answer(alloc: Global, shape: &Shape, bytes: &[u8]) -> Result<Answer, AnswerErr>
     requires { length bytes.now ≤ 268435456 }
     ensures ok { IfOk result (λ answer. IsTextOf shape.now bytes.now

@@ -13,7 +13,7 @@ use answer_text::{Node, Stage};
 use std::alloc::Global;
 use tier_core::Shape;
 
-/// Reads the nodes of the stage behind these, of which so many are to come.
+/// Reads the nodes of the stage after these; there are `count`.
 fn read_nodes(
     alloc: Global,
     lines: &mut Lines<'_>,
@@ -43,7 +43,7 @@ fn read_nodes(
     Ok(nodes)
 }
 
-/// Whether the line of the automaton comes next. It comes behind at least one stage.
+/// Whether the line of the automaton comes next. It follows at least one stage.
 fn is_automaton(lines: &Lines<'_>, stages: &[Stage]) -> bool
     ensures { result ≡ (not (is_empty stages.now) && begins (codes "automaton ")
         lines.now.rest.now) }
@@ -51,7 +51,7 @@ fn is_automaton(lines: &Lines<'_>, stages: &[Stage]) -> bool
     !stages.is_empty() && lines.begins(b"automaton ")
 }
 
-/// Reads the stage behind these.
+/// Reads the stage that follows these.
 fn read_stage(
     alloc: Global,
     lines: &mut Lines<'_>,
@@ -91,14 +91,14 @@ pub(crate) fn last_count(shape: &Shape, stages: &[Stage]) -> u32
     }
 }
 
-/// The stages of a text, and how many states are to come.
+/// The stages of a text, and how many states follow.
 #[derive(Drop)]
 pub(crate) struct StagesFound {
     pub stages: Vec<Stage>,
     pub states: u32,
 }
 
-/// Reads the line of the automaton behind these stages: how many states are to come.
+/// Reads the line of the automaton that follows these stages: how many states there are.
 fn read_state_count(
     lines: &mut Lines<'_>,
     shape: &Shape,
@@ -117,8 +117,8 @@ fn read_state_count(
     read_automaton_line(lines, last_count(shape, stages))
 }
 
-/// Reads the lines of the stages, for a form with so many columns, and the line of the automaton
-/// behind them.
+/// Reads the lines of the stages, for a form with this many columns, and the line of the automaton
+/// that follows them.
 pub(crate) fn read_stages(
     alloc: Global,
     lines: &mut Lines<'_>,

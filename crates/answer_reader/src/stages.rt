@@ -14,7 +14,7 @@ use crate::order::node_follows;
 use answer_text::Node;
 use tier_core::Shape;
 
-/// The node that a line says, behind those of its stage.
+/// The node on a line, after those of its stage.
 fn next_node(
     shape: &Shape,
     columns: u32,
@@ -39,8 +39,8 @@ fn next_node(
     Ok(node)
 }
 
-/// Reads the line of a node, behind those of its stage: its kind fits the shape, its place is one of a
-/// form with so many columns, and it comes strictly after the node before it.
+/// Reads the line of a node, after those of its stage: its kind fits the shape, its place is within a
+/// form with this many columns, and it comes strictly after the node before it.
 pub fn read_node(
     lines: &mut Lines<'_>,
     shape: &Shape,

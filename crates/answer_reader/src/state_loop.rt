@@ -15,7 +15,7 @@ use crate::states::{read_arc, read_state_line};
 use answer_text::{ArcLine, StateLine};
 use std::alloc::Global;
 
-/// Reads the arcs of a state, which has no arcs yet.
+/// Reads the arcs of a state that has none yet.
 fn read_arcs(
     alloc: Global,
     lines: &mut Lines<'_>,
@@ -39,7 +39,7 @@ fn read_arcs(
     Ok(arcs)
 }
 
-/// Reads the state behind these.
+/// Reads the state that follows these.
 fn read_state(
     alloc: Global,
     lines: &mut Lines<'_>,
@@ -87,7 +87,7 @@ fn read_end_line(lines: &mut Lines<'_>) -> Result<(), AnswerErr>
     on_line(number, end_of(line))
 }
 
-/// Says that nothing is left, or that this line has bytes that are too many.
+/// Ok if nothing is left, and `ExtraBytes` on this line otherwise.
 fn nothing_left(lines: &Lines<'_>) -> Result<(), AnswerErr>
     ensures { MatchResult result
         (λ _. lines_left lines.now ≡ [] ∷ [])
@@ -104,7 +104,7 @@ fn nothing_left(lines: &Lines<'_>) -> Result<(), AnswerErr>
     }
 }
 
-/// Reads the line `end`, behind which nothing stands.
+/// Reads the line `end`, which nothing follows.
 fn read_end(lines: &mut Lines<'_>) -> Result<(), AnswerErr>
     ensures { (width nodes : ℕ) (states : List StateValue) → Continues
         (states_from width nodes (behind_states 0 states))
@@ -115,7 +115,7 @@ fn read_end(lines: &mut Lines<'_>) -> Result<(), AnswerErr>
     nothing_left(lines)
 }
 
-/// Reads so many states, and the end behind them.
+/// Reads this many states, and the line `end` after them.
 pub(crate) fn read_states(
     alloc: Global,
     lines: &mut Lines<'_>,

@@ -13,7 +13,7 @@ use crate::on_line::on_line;
 use crate::order::{arc_follows, state_follows};
 use answer_text::{ArcLine, StateLine};
 
-/// The arc that a line says, behind those of its state.
+/// The arc on a line, after those of its state.
 fn next_arc(width: u32, nodes: u32, arcs: &[ArcLine], line: &[u8]) -> Result<ArcLine, AnswerCause>
     requires some { 1 ≤ width }
     requires few { width ≤ 12 }
@@ -29,8 +29,8 @@ fn next_arc(width: u32, nodes: u32, arcs: &[ArcLine], line: &[u8]) -> Result<Arc
     Ok(arc)
 }
 
-/// Reads the line of an arc, behind those of its state: it leads to one of so many nodes, its class has
-/// this width, and it comes strictly after the arc before it.
+/// Reads the line of an arc, after those of its state: its target is below the number of nodes, its
+/// class has this width, and it comes strictly after the arc before it.
 pub fn read_arc(
     lines: &mut Lines<'_>,
     width: u32,
@@ -49,7 +49,7 @@ pub fn read_arc(
     on_line(number, next_arc(width, nodes, arcs, line))
 }
 
-/// The state that a line says, behind those before it, with no arcs yet.
+/// The state on a line, after those before it, with no arcs yet.
 fn next_state(nodes: u32, states: &[StateLine], line: &[u8]) -> Result<(u32, bool), AnswerCause>
     ensures said { MatchResult result
         (λ state. next_state nodes (map state_value states.now) line.now ≡ Ok (bare_state state))
@@ -65,8 +65,8 @@ fn next_state(nodes: u32, states: &[StateLine], line: &[u8]) -> Result<(u32, boo
     Ok((node, accepting))
 }
 
-/// Reads the line of a state, behind those before it: the number of its node, which is one of so many,
-/// and whether it is final. It comes strictly after the state before it.
+/// Reads the line of a state, after those before it: the number of its node, which is below the number
+/// of nodes, and whether it is final. It comes strictly after the state before it.
 pub fn read_state_line(
     lines: &mut Lines<'_>,
     nodes: u32,

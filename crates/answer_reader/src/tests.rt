@@ -6,7 +6,7 @@ use std::alloc::{AllocError, Global};
 use std::test::Fail;
 use tier_core::Shape;
 
-// An input tier and a free one, with so many stretch implications at each stage.
+// An input tier and a free one, with this many stretch implications at each stage.
 fn two_tiers(alloc: Global, phases: &[u32]) -> Result<Shape, AllocError>
     requires some { 1 ≤ length phases.now }
     requires few { length phases.now ≤ 25 }
@@ -58,7 +58,7 @@ const LINES: [&[u8]; 33] = [
     b"end",
 ];
 
-// The text of the answer, with another line in the place of the one with this number.
+// The text of the answer, with another line in place of the one with this number.
 fn altered(alloc: Global, number: usize, line: &[u8]) -> Result<Vec<u8>, AllocError> {
     let mut text = Vec::new(alloc);
     for (place, each) in LINES.iter().enumerate() {
@@ -78,7 +78,7 @@ fn refusal(alloc: Global, shape: &Shape, text: &[u8]) -> Option<AnswerErr>
 
 use AnswerCause::{BadClass, BadHeader, BadLine, BadNumber, BadOrder, CutShort, ExtraBytes};
 
-// A line that is altered, what stands there, and the line and the cause that come first.
+// A line that is altered, what it becomes, and the line and the cause that come first.
 const REFUSED: [(usize, &[u8], u32, AnswerCause); 93] = [
     (1, b"answer 2", 1, BadHeader),
     (1, b"answer 1 ", 1, BadHeader),
@@ -191,7 +191,7 @@ fn the_first_line_with_a_cause_gives_it(rt: HostRuntime) -> Result<(), Fail> {
     Ok(())
 }
 
-// A line that is altered, and what may stand there.
+// A line that is altered, and what it may become.
 const ACCEPTED: [(usize, &[u8]); 11] = [
     (0, b""),
     (3, b"counts 1000000000 1 0"),
@@ -218,7 +218,7 @@ fn an_answer_is_read(rt: HostRuntime) -> Result<(), Fail> {
     Ok(())
 }
 
-// Every front of the text but the whole is cut short, on the line that it ends in.
+// Every proper prefix of the text is cut short, on the line that it ends in.
 #[test]
 fn a_text_that_is_cut_is_too_short(rt: HostRuntime) -> Result<(), Fail> {
     let alloc = rt.alloc();

@@ -13,15 +13,15 @@ use std::alloc::Global;
 use tier_core::Timeline;
 use timeline_text::{FormErr, read_timeline};
 
-/// Whether memory was wanting.
+/// Whether memory ran out.
 fn is_no_memory(cause: FormErr) -> bool
     ensures { result ≡ is_no_memory cause }
 {
     matches!(cause, FormErr::NoMemory)
 }
 
-/// The timeline of a text over so many tiers, with at most so many columns. None where the text is no
-/// timeline's.
+/// The timeline of a text over `width` tiers, with at most `limit` columns. None if the text is
+/// not a timeline.
 fn timeline_of(
     alloc: Global,
     width: u32,
@@ -44,7 +44,7 @@ fn timeline_of(
     }
 }
 
-/// The timeline that a line says behind a word.
+/// The timeline that follows a word on a line.
 fn timeline_behind(
     alloc: Global,
     word: &[u8],
@@ -65,7 +65,7 @@ fn timeline_behind(
     }
 }
 
-/// What was read, or the cause of a line that has not the form.
+/// What was read, or the cause of a line that does not have the form.
 fn in_form(read: Option<Timeline>) -> Result<Timeline, AnswerCause>
     ensures { MatchResult result
         (λ timeline. MatchOption read ⊥ (λ each. each ≡ timeline))
@@ -77,7 +77,7 @@ fn in_form(read: Option<Timeline>) -> Result<Timeline, AnswerCause>
     }
 }
 
-/// Reads a line of a word and a timeline over so many tiers, with at most so many columns.
+/// Reads a line of a word and a timeline over `width` tiers, with at most `limit` columns.
 pub(crate) fn read_timeline_line(
     alloc: Global,
     lines: &mut Lines<'_>,

@@ -1,5 +1,5 @@
 -- Which timelines an automaton accepts.
--- An automaton that stands for a set of candidates is after Ellison (COLING 1994).
+-- Automata that represent sets of candidates follow Ellison (COLING 1994).
 use Rattle.std.specs.Prelude.{ℕ, ◌≡◌, IsTrue, List, [], ◌∷◌, Contains}
 use Rattle.tier_core.specs.declared.sym.Sym.{Sym}
 use Rattle.tier_core.specs.Classes.{has}
@@ -29,7 +29,7 @@ Leads states node [] last = node ≡ last
 Leads states node (column ∷ columns) last =
     (next : ℕ) × (HasArc states node next column × Leads states next columns last)
 
--- An automaton accepts a timeline where reading it leads from node number 0 to a final state.
+-- An automaton accepts a timeline if reading it leads from node number 0 to a final state.
 pub record Accepts (states : List StateLine) (T : List (List Sym)) : Type 0 where
   pub last : ℕ
   pub leads : Leads states 0 T last

@@ -1,4 +1,4 @@
--- Certified answers: what a checker looks at, one move at a time and without any search (this project).
+-- Certified answers: what a checker looks at, one move at a time and without any search (our design).
 -- A potential is at most what a move costs and the potential to which it leads, and 0 at the end. So
 -- the potential of the start is a lower bound of what is counted, and the example reaches it.
 use Rattle.std.specs.Prelude.{ℕ, zero, suc, ◌+◌, ◌-◌, ◌≡◌, ◌<◌, ◌≤◌, ◌↔◌, IsTrue, List, [], length, slice_index_or, slice_get, Some, Contains, All, AllPairs}
@@ -38,15 +38,15 @@ pub record IsTightAt (problem : Problem) (stages : List Stage) (j : ℕ) (k : Pr
   pub arrives : Lists problem stages j (moved problem j (cut problem j k) column) after
   pub falls : before ≡ cost_of problem j (cut problem j k) column + after
 
--- There is a move from k on the column, and it is tight at each stage from 1 on that is below r. At
--- stage r it is kept so, and at the end for r one more than the number of constraints.
+-- There is a move from k on the column, and it is tight at each stage from 1 to r - 1. Such a move is
+-- kept at stage r, and at the end if r is one more than the number of constraints.
 pub record IsKeptBelow (problem : Problem) (stages : List Stage) (r : ℕ) (k : PrefixKind)
     (column : List Sym) : Type 0 where
   pub fits : FitsKind problem k column
   pub tight : (j : ℕ) → 1 ≤ j → j < r → IsTightAt problem stages j k column
 
 -- k may be the kind of a prefix under the first r constraints: its place is in the form u, and a
--- phase is closed exactly where some left tier is not open
+-- phase is closed exactly if some left tier is not open
 pub record IsPossibleKind (problem : Problem) (r : ℕ) (k : PrefixKind) : Type 0 where
   pub place : k.place ≤ last_place problem
   pub phases : AreClosedOr (is_left_open problem k) (stretches problem r) k.phases
@@ -73,8 +73,8 @@ pub record IsCertifiedStage (problem : Problem) (counts : List ℕ) (stages : Li
   pub start : (p : ℕ) → Lists problem stages r (kind_of problem r []) p → p ≡ start_potential counts r
 
 -- The automaton has exactly the moves that are kept at the end: node 0 is a state, each arc leads to
--- a state, a state is final where its kind is, no column is in two arcs of a state, and an arc on a
--- column leads from a state to a node exactly where the move is kept and the node tells its target.
+-- a state, a state is final exactly if its kind is, no column is in two arcs of a state, and an arc on
+-- a column leads from a state to a node exactly if the move is kept and the node has its target.
 pub record IsCertifiedAutomaton (problem : Problem) (stages : List Stage) (states : List StateLine) : Type 0 where
   pub start : Contains (numbers_of states) 0
   pub targets : All (λ state. All (λ arc. Contains (numbers_of states) arc.target) state.arcs.items) states

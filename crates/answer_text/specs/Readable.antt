@@ -25,16 +25,16 @@ pub record IsReadableStage (shape : Shape) (r : ℕ) (nodes : List Node) : Type 
 abbrev pub AreReadableStages : Shape → List Stage → Type 0
 AreReadableStages shape stages = (r : ℕ) → r < length stages → IsReadableStage shape r (nodes_at stages r)
 
--- the nodes of the last stage; none where there is no stage
+-- the nodes of the last stage; none if there is no stage
 abbrev pub last_nodes : List Stage → List Node
 last_nodes stages = nodes_at stages (length stages - 1)
 
--- An arc's class has the grammar's width, and it leads to one of so many nodes.
+-- An arc's class has the grammar's width, and its target is one of the nodes.
 pub record IsReadableArc (width nodes : ℕ) (arc : ArcLine) : Type 0 where
   pub wide : length (sets_of arc.class) ≡ width
   pub target : arc.target < nodes
 
--- A state is one of so many nodes, and its arcs are readable.
+-- A state is one of the nodes, and its arcs are readable.
 pub record IsReadableState (width nodes : ℕ) (state : StateLine) : Type 0 where
   pub node : state.node < nodes
   pub arcs : All (IsReadableArc width nodes) state.arcs.items

@@ -25,7 +25,7 @@ use Rattle.violation.specs.Problems.{Problem, last_stage}
 abbrev pub nodes_at : List Stage → ℕ → List Node
 nodes_at stages r = slice_index_or (map (λ stage. stage.nodes.items) stages) r []
 
--- the kinds that the nodes of a stage tell, where the stage counts the first r constraints
+-- the kinds that the nodes of a stage have, if the stage counts the first r constraints
 abbrev pub kinds_at : Problem → ℕ → List Node → List PrefixKind
 kinds_at problem r nodes = map (λ node. kind_of_bits problem r node.kind) nodes
 
@@ -35,7 +35,7 @@ pub record IsRightStage (problem : Problem) (r : ℕ) (nodes : List Node) : Type
   pub kinds : AreKindsOfStage problem r (kinds_at problem r nodes)
   pub potentials : All (λ node. IsRemaining problem r (kind_of_bits problem r node.kind) node.potential) nodes
 
--- node number n tells this kind, under all constraints
+-- node number n has this kind, under all constraints
 pub record IsNodeOf (problem : Problem) (nodes : List Node) (n : ℕ) (k : PrefixKind) : Type 0 where
   pub node : Node
   pub numbered : slice_get nodes n ≡ Some node
@@ -58,7 +58,7 @@ pub record AreRightArcs (width : ℕ) (states : List ℕ) (arcs : List ArcLine) 
 abbrev pub numbers_of : List StateLine → List ℕ
 numbers_of states = map (λ state. state.node) states
 
--- The automaton is right, where the last stage has these nodes: its states are the kinds under all
+-- The automaton is right, if the last stage has these nodes: its states are the kinds under all
 -- constraints of prefixes of optimal candidates, each once and in order; it accepts exactly the
 -- optimal candidates; reading a prefix of one ends at the state of its kind; and its arcs are right.
 pub record IsRightAutomaton (problem : Problem) (nodes : List Node) (states : List StateLine) : Type 0 where

@@ -15,11 +15,11 @@ use Rattle.answer_text.specs.declared.stage.Node.{Node}
 use Rattle.answer_text.specs.Right.{IsRightAutomaton}
 use Rattle.violation.specs.Problems.{Problem, last_stage}
 
--- the kind that a node tells, under all constraints
+-- the kind that a node has, under all constraints
 abbrev pub kind_told : Problem → OnceNode → PrefixKind
 kind_told problem node = kind_of_bits problem (last_stage problem) node.kind
 
--- the nodes with no potentials, as an automaton sees them
+-- the nodes without potentials, as an automaton sees them
 abbrev pub bare_nodes : List OnceNode → List Node
 bare_nodes nodes = map (λ node. record { kind = node.kind; potential = 0 }) nodes
 

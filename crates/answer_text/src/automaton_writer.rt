@@ -7,7 +7,7 @@ use crate::automaton::{ArcLine, StateLine};
 use crate::class::push_class;
 use outside::{OutBuffer, Sink, WriteErr, push_number};
 
-/// What a line of a state says of whether it is final.
+/// The end of a state's line: ` final` if the state is final.
 fn final_mark(accepting: bool) -> &'static [u8]
     ensures { result.now ≡ final_mark accepting }
 {

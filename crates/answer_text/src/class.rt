@@ -6,7 +6,7 @@ ghost use Rattle.answer_text.specs.Text.{class_text, set_text};
 use outside::{OutBuffer, Sink, WriteErr};
 use tier_core::Class;
 
-/// The text of the set of symbols with this number.
+/// The text of the set of symbols that has this number.
 fn set_text(set: u8) -> &'static [u8]
     requires { set < 32 }
     ensures { result.now ≡ set_text set }

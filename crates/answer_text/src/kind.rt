@@ -35,7 +35,7 @@ fn phase_byte(kind: &Kind, place: usize) -> u8
     }
 }
 
-/// The bytes of the free tiers, at the front.
+/// The bytes of the free tiers, at the start of the array.
 fn open_bytes(opened: u16, free: usize) -> [u8; 12]
     requires { free ≤ 12 }
     ensures { take free result ≡ map open_byte (map (has_tier opened) (range_with_len 0 free)) }
@@ -47,7 +47,7 @@ fn open_bytes(opened: u16, free: usize) -> [u8; 12]
     bytes
 }
 
-/// The bytes of the stretch implications, at the front.
+/// The bytes of the stretch implications, at the start of the array.
 fn phase_bytes(kind: &Kind, stretches: usize) -> [u8; 24]
     requires { stretches ≤ 24 }
     ensures { take stretches result ≡ map phase_byte (prefix_kind 0 stretches kind.now).phases }
@@ -59,7 +59,7 @@ fn phase_bytes(kind: &Kind, stretches: usize) -> [u8; 24]
     bytes
 }
 
-/// Appends what a kind says of so many free tiers and so many stretch implications.
+/// Appends a kind, with this many free tiers and this many stretch implications.
 pub fn push_kind<O: Sink>(
     out: &mut OutBuffer,
     sink: &mut O,

@@ -3,9 +3,9 @@
 //!
 //! An answer has the form, the least counts, the first optimal timeline, a stage of kinds with
 //! potentials for each constraint, and an automaton of all optimal timelines. The layers above make
-//! answers that are right, and write them by `put_answer`, or parts of them by `put_counts` and
-//! `put_shown`. Sets of candidates as automata are after Ellison, Phonological Derivation in
-//! Optimality Theory (COLING 1994).
+//! right answers, and write them with `put_answer`, or parts of them with `put_counts` and
+//! `put_shown`. Representing sets of candidates as automata follows Ellison, Phonological
+//! Derivation in Optimality Theory (COLING 1994).
 #![tactic(auto)]
 
 mod answer;

@@ -2,8 +2,8 @@ use crate::automaton::Automaton;
 use tier_core::{Kind, Timeline};
 use weight_law::Ranked;
 
-/// A kind of prefix under all constraints, and the least counts that remain from it: a part for each
-/// constraint in ranked order, and then zeros.
+/// A kind of prefix under all constraints, and the least counts that remain from it: one part for
+/// each constraint in ranked order, then zeros.
 #[derive(Clone, Copy, Debug, PartialEq, Eq)]
 pub struct OnceNode {
     pub kind: Kind,

@@ -5,11 +5,11 @@ use crate::answer::Answer;
 use crate::put::{push_counts_line, push_timeline_line};
 use outside::{OutBuffer, Sink, WriteErr};
 
-/// Writes the line of a timeline's counts, in ranked order, as `counts 0 1`. It takes no memory but
-/// what the sink takes in its writes.
+/// Writes the line of a timeline's counts, in ranked order, as `counts 0 1`. It uses no memory except
+/// what the sink uses for its writes.
 ///
-/// After a refusal the sink has taken a front of the line. Failed comes only where the sink's count
-/// of faults rose.
+/// After an error the sink has taken a prefix of the line. The error is `Failed` only if the sink's
+/// count of faults rose.
 pub fn put_counts<O: Sink>(sink: &mut O, counts: &[u32]) -> Result<(), WriteErr>
     ensures { Puts O.Sink sink.old sink.new (counts_text counts.now) result }
 {
@@ -30,11 +30,11 @@ fn push_shown_lines<O: Sink>(
     push_timeline_line(out, sink, b"example ", &answer.example)
 }
 
-/// Writes the lines `counts` and `example` of an answer. It takes no memory but what the sink takes
-/// in its writes.
+/// Writes the lines `counts` and `example` of an answer. It uses no memory except what the sink uses
+/// for its writes.
 ///
-/// After a refusal the sink has taken a front of these lines. Failed comes only where the sink's
-/// count of faults rose.
+/// After an error the sink has taken a prefix of these lines. The error is `Failed` only if the
+/// sink's count of faults rose.
 pub fn put_shown<O: Sink>(sink: &mut O, answer: &Answer) -> Result<(), WriteErr>
     ensures { Puts O.Sink sink.old sink.new (shown_text answer.now) result }
 {

@@ -69,14 +69,14 @@ fn push_lines<O: Sink>(
     out.push(sink, b"end\n")
 }
 
-/// Writes the text of an answer. It takes no memory but what the sink takes in its writes.
+/// Writes the text of an answer. It uses no memory except what the sink uses for its writes.
 ///
-/// The answer has at most a stage for each number of stretch implications of the shape. A kind is
-/// written over the free tiers and the stretch implications that the shape has at its stage, so
-/// bits beyond these are not written.
+/// The answer has at most as many stages as `shape.phases` has entries. A kind is written with the
+/// free tiers and the stretch implications that the shape has at its stage; any bits beyond these
+/// are not written.
 ///
-/// After a refusal the sink has taken a front of the text. Failed comes only where the sink's count
-/// of faults rose.
+/// After an error the sink has taken a prefix of the text. The error is `Failed` only if the sink's
+/// count of faults rose.
 pub fn put_answer<O: Sink>(sink: &mut O, shape: &Shape, answer: &Answer) -> Result<(), WriteErr>
     requires { length answer.now.stages.items ≤ length shape.now.phases.items }
     ensures { Puts O.Sink sink.old sink.new (answer_text (widths_of shape.now) answer.now) result }

@@ -67,8 +67,8 @@ fn push_stage<O: Sink>(
     push_nodes(out, sink, nodes, free, stretches)
 }
 
-/// Appends the lines of the stages, which are numbered from 0. Each has a number of stretch
-/// implications in the shape.
+/// Appends the lines of the stages, which are numbered from 0. The shape has a number of stretch
+/// implications for each.
 pub fn push_stages<O: Sink>(
     out: &mut OutBuffer,
     sink: &mut O,

@@ -141,7 +141,7 @@ arc 1 -|
 end
 ";
 
-// The answer where there is no constraint: any number of constituents of the free tier is optimal.
+// The answer without constraints: any number of constituents of the free tier is optimal.
 fn any_number(alloc: Global) -> Result<Answer, AllocError>
     ensures { IfOk result (λ answer. length answer.stages.items ≡ 1) }
 {
@@ -165,7 +165,7 @@ fn optimal_set_is_infinite(rt: HostRuntime) -> Result<(), Fail> {
     Ok(())
 }
 
-// A sink that takes 16 bytes a write, and whose third write fails, takes a front of the text.
+// A sink that takes 16 bytes a write, and whose third write fails, takes a prefix of the text.
 #[test]
 fn a_failing_write_leaves_a_front(rt: HostRuntime) -> Result<(), Fail> {
     let alloc = rt.alloc();
@@ -223,7 +223,7 @@ fn three_states(alloc: Global) -> Result<Automaton, AllocError> {
     Ok(Automaton { states })
 }
 
-// A timeline of two columns; where memory is wanting it has fewer.
+// A timeline of two columns; if memory runs out it has fewer.
 fn two_columns(alloc: Global, first: &[Sym], second: &[Sym]) -> Timeline
     requires some { (1 ≤ length first.now) × (1 ≤ length second.now) }
     requires few { (length first.now ≤ 12) × (length second.now ≤ 12) }
@@ -308,7 +308,7 @@ fn counts_are_written_alone(rt: HostRuntime) -> Result<(), Fail> {
     Ok(())
 }
 
-// An answer of which the counts and the example alone are to be written.
+// An answer of which only the counts and the example are written.
 fn counted(alloc: Global, counts: Vec<u32>, form: Timeline, example: Timeline) -> Answer {
     Answer {
         form,

@@ -13,9 +13,9 @@ ghost use Rattle.ranked_gen.specs.Budgets.{AreAllWithin, IsFirstOver};
 ghost use Rattle.budget_laws.specs.Enough.{enough};
 
 /// A budget of (columns of the form + 1) * 2^(free tiers) * 2^(stretch implications) is always
-/// enough: all stages are within it, and so none is the first that is over it. The conditions on a
-/// problem hold of what every grammar asks. Of a form of at most 64 columns, with at most 8 free
-/// tiers and no stretch implication, 16,640 kinds are enough.
+/// enough: all stages are within it, so no stage is the first to exceed it. The conditions on a
+/// problem hold for every grammar. For a form of at most 64 columns, with at most 8 free tiers and
+/// no stretch implication, 16,640 kinds are enough.
 pub fn stages_are_within_enough()
     ensures within { (problem : Problem) (budget : ℕ) → AreSplit problem.tiers
         → IsForm problem.tiers problem.form
@@ -37,8 +37,8 @@ pub fn stages_are_within_enough()
         → AreAllWithin (asked grammar.tiers grammar.constraints.items form) budget }
 {}
 
-/// Where nothing is ranked, stage 0 of the empty form, over an input tier and an overt tier, is the
-/// first that is over a budget of 1, and within one of 2.
+/// Without constraints, stage 0 of the empty form, over an input tier and an overt tier, is the
+/// first stage to exceed a budget of 1, and is within a budget of 2.
 pub fn first_stage_over_a_budget()
     ensures over { IsFirstOver (over_two [] []) 1 0 }
     ensures within { AreAllWithin (over_two [] []) 2 }

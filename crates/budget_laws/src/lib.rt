@@ -1,5 +1,5 @@
-//! Budgets that are always enough, as a law over definitions. The function does nothing: it says by
-//! its contract which budgets no stage of a problem can exceed. The crate builds on the kinds of
+//! Budgets that are always enough, as a law over definitions. The function does nothing: its contract
+//! says which budgets no stage of a problem can exceed. The crate builds on the kinds of
 //! stages (`kind_laws`) and on the generator's words about budgets (`ranked_gen`).
 #![tactic(auto)]
 

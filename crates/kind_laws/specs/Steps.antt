@@ -1,4 +1,4 @@
--- Tight steps: what remains to be counted falls by just what a column costs.
+-- Tight steps: what remains to be counted falls by exactly what a column costs.
 use Rattle.std.specs.Prelude.{ℕ, ◌+◌, ◌≡◌, List, [], ◌∷◌, ◌++◌}
 use Rattle.tier_core.specs.declared.sym.Sym.{Sym}
 use Rattle.violation.specs.Moves.{cost_of}
@@ -6,7 +6,7 @@ use Rattle.violation.specs.Prefixes.{kind_of}
 use Rattle.violation.specs.Problems.{Problem}
 use Rattle.violation.specs.Stages.{IsRemaining}
 
--- From the prefix p by one column, what remains at stage r falls by just what the column costs
+-- From the prefix p by one column, what remains at stage r falls by exactly what the column costs
 -- there.
 pub record IsTightStep (problem : Problem) (r : ℕ) (p : List (List Sym))
     (column : List Sym) : Type 0 where

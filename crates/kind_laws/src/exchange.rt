@@ -7,8 +7,8 @@ ghost use Rattle.violation.specs.Stages.{IsStage};
 ghost use Rattle.kind_laws.specs.Follows.{Adds};
 
 /// Prefixes of candidates that have one kind under the first r constraints may exchange what
-/// follows them: the result is a candidate, and r-optimal where both are. What follows a prefix
-/// adds a number to the count of each of these constraints, and the same one to each such prefix.
+/// follows them: the result is a candidate, and it is r-optimal if both are. What follows a prefix
+/// adds the same number to the count of each of these constraints for every such prefix.
 pub fn prefixes_of_one_kind_go_on_alike()
     ensures candidate { (problem : Problem) (r : ℕ) → IsStage problem r
         → (p q v w : List (List Sym)) → IsCandidate problem (p ++ q)

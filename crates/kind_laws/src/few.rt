@@ -5,8 +5,8 @@ ghost use Rattle.violation.specs.Problems.{Problem, last_stage, last_place};
 ghost use Rattle.violation.specs.Stages.{IsStage, AreKindsOfStage};
 
 /// A stage has at most (columns of the form + 1) * 2^(free tiers) * 2^(stretch implications) kinds,
-/// where the stretch implications are those that the stage looks at. All stages have at most as
-/// many as all stretch implications allow.
+/// counting only the stretch implications that the stage looks at. No stage has more than all
+/// stretch implications allow.
 pub fn stages_have_few_kinds()
     ensures of_stage { (problem : Problem) (r : ℕ) → IsStage problem r → (ks : List PrefixKind)
         → AreKindsOfStage problem r ks

@@ -1,10 +1,10 @@
 //! Facts about prefixes, their kinds and what is counted, as laws over definitions. The functions
-//! do nothing: each says by its contract what holds of every problem, and nothing is built.
+//! do nothing: the contract of each says what holds of every problem, and nothing is built.
 //!
 //! A kind tells of a prefix all that matters for how it goes on: prefixes of one kind may exchange
-//! what follows them, and it adds the same to each count. A candidate that the constraints before
-//! have left is left by this one exactly where each of its steps is tight. What is counted so far
-//! hangs on the prefix alone, and a type that is repeated in a conjunction changes no count. A
+//! what follows them, and it adds the same to each count. A candidate that survives the constraints
+//! before survives this one exactly if each of its steps is tight. What is counted so far depends
+//! on the prefix alone, and a type that is repeated in a conjunction changes no count. A
 //! stage has no more kinds than its places, open tiers and stretch implications allow. The crate
 //! builds on the definitions of `violation`, and on no table and no answer.
 #![tactic(auto)]

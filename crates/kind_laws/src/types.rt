@@ -7,8 +7,8 @@ ghost use Rattle.violation.specs.Conditions.{IsCountable};
 ghost use Rattle.violation.specs.Counts.{viol};
 ghost use Rattle.kind_laws.specs.Types.{AreSameTypes};
 
-/// Neither the order of the types in a conjunction changes a count, nor that a type is repeated. A
-/// clash looks at the types of both sides together.
+/// Neither the order of the types in a conjunction nor repeating a type changes a count. A clash
+/// looks at the types of both sides together.
 pub fn repeated_types_change_no_count()
     ensures implication { (left right others more : List Event) (T : List (List Sym))
         → IsCountable left right T → IsCountable others more T → AreSameTypes left others

@@ -1,6 +1,6 @@
 #!/bin/bash
 # The repository's own checks, after `rt ci` has built the program: the real program and its
-# launcher, what the documents show, the names that they cite, and the tools. The last line is
+# launcher, whole answers beside slow programs, what the documents show, the names that they cite, and the tools. The last line is
 # `N passed, M failed`, over all of them. A check whose tool is missing is skipped with a word.
 cd "$(dirname "$0")/.." || exit 2
 log=$(mktemp) || exit 2
@@ -27,10 +27,11 @@ check sh launcher.sh
 check python3 names.py
 if [ -x "$OTP_PROGRAM" ]; then
     check sh otp.sh
+    check python3 answers.py
     check python3 docs.py
     check python3 tools.py
 else
-    echo "tests/otp.sh, tests/docs.py, tests/tools.py: skipped, since $OTP_PROGRAM is missing"
+    echo "tests/otp.sh, tests/answers.py, tests/docs.py, tests/tools.py: skipped, since $OTP_PROGRAM is missing"
 fi
 echo "$passed passed, $failed failed"
 [ "$failed" = 0 ]

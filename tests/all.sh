@@ -1,7 +1,8 @@
 #!/bin/bash
-# The repository's own checks, after `rt ci` has built the program: the real program and its
-# launcher, whole answers beside slow programs, what the documents show, the names that they cite, and the tools. The last line is
-# `N passed, M failed`, over all of them. A check whose tool is missing is skipped with a word.
+# The repository's own checks, after `rt ci` has built the program: the launcher, the names that the
+# documents cite, the real program, whole answers beside slow programs, what the documents show, and
+# the tools. The last line is `N passed, M failed`, over all of them. A check whose tool is missing is
+# skipped with a word.
 cd "$(dirname "$0")/.." || exit 2
 log=$(mktemp) || exit 2
 trap 'rm -f "$log"' EXIT

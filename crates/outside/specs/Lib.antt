@@ -5,3 +5,5 @@ pub mod Held
 pub mod Counts
 pub mod MemShelf
 pub mod Writers
+pub mod StreamSink
+pub mod FileShelf

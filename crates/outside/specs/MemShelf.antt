@@ -1,6 +1,7 @@
 -- A shelf in memory: what it holds, and which of its loads fail.
-use Rattle.std.specs.Prelude.{ℕ, Bool, ◌||◌, nat_eq, is_none, List, Vec, Result, Ok, Err}
+use Rattle.std.specs.Prelude.{ℕ, Bool, ◌||◌, nat_eq, is_none, is_some, List, Vec, Result, Ok, Err}
 use Rattle.std.specs.List.{list_any}
+use Rattle.std.specs.BTreeMap.{get_by_text}
 use Rattle.outside.specs.Counts.{count_of}
 use Rattle.outside.specs.Faults.{counted}
 use Rattle.outside.specs.Held.{files_of, text_of}
@@ -23,6 +24,10 @@ loads_of shelf = shelf.loads
 -- how many loads of a name have failed
 abbrev pub faults_of : MemShelf → List ℕ → ℕ
 faults_of shelf name = count_of shelf.faults name
+
+-- whether there is a count of the faults of a name, which its first load allocates
+abbrev pub has_count : MemShelf → List ℕ → Bool
+has_count shelf name = is_some (get_by_text shelf.faults name)
 
 -- whether the latest load fails: its number is one of those, or the name is not held
 abbrev pub fails : MemShelf → List ℕ → Bool

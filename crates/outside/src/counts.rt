@@ -1,8 +1,10 @@
-ghost use Rattle.std.specs.Prelude.{◌≡◌, ◌≢◌, ◌≤◌, ℕ, List, IsSome, OnOk};
+ghost use Rattle.std.specs.Prelude.{◌≡◌, ◌≢◌, ◌≤◌, ℕ, List, IsNone, IsSome, OnErr, OnOk};
 ghost use Rattle.std.specs.BTreeMap.{get_by_text};
 ghost use Rattle.outside.specs.Faults.{counted};
 ghost use Rattle.outside.specs.Counts.{count_of};
+ghost use Rattle.outside.specs.MemShelf.{faults_after};
 
+use crate::shelf::LoadErr;
 use std::alloc::{AllocError, Global};
 use std::collections::BTreeMap;
 
@@ -12,6 +14,7 @@ pub(crate) type Counts = BTreeMap<String, u64>;
 // Allocates the count of a name, unless it is already there.
 pub(crate) fn prepare(counts: &mut Counts, alloc: Global, name: &str) -> Result<(), AllocError>
     ensures ready { OnOk result (IsSome (get_by_text counts.new name.now)) }
+    ensures err { OnErr result (IsNone (get_by_text counts.new name.now)) }
     ensures same { (other : List ℕ) → count_of counts.new other ≡ count_of counts.old other }
 {
     if !counts.contains_key(name) {
@@ -20,8 +23,22 @@ pub(crate) fn prepare(counts: &mut Counts, alloc: Global, name: &str) -> Result<
     Ok(())
 }
 
+// Counts a fault of a name if a load of it has failed.
+pub(crate) fn count_fault(counts: &mut Counts, name: &str, answer: &Result<Vec<u8>, LoadErr>)
+    requires ready { IsSome (get_by_text counts.old name.now) }
+    ensures faults { count_of counts.new name.now
+        ≡ faults_after answer.now (count_of counts.old name.now) }
+    ensures never_falls { (other : List ℕ) → count_of counts.old other ≤ count_of counts.new other }
+    ensures others { (other : List ℕ) → other ≢ name.now
+        → count_of counts.new other ≡ count_of counts.old other }
+{
+    if let Err(LoadErr::Failed) = answer {
+        raise(counts, name);
+    }
+}
+
 // Counts one more fault of a name.
-pub(crate) fn raise(counts: &mut Counts, name: &str)
+fn raise(counts: &mut Counts, name: &str)
     requires ready { IsSome (get_by_text counts.old name.now) }
     ensures raised { count_of counts.new name.now ≡ counted (count_of counts.old name.now) }
     ensures never_falls { (other : List ℕ) → count_of counts.old other ≤ count_of counts.new other }

@@ -1,12 +1,16 @@
-ghost use Rattle.std.specs.Prelude.{◌≡◌, ◌≤◌, List, ℕ, length, Err, IfOk};
+ghost use Rattle.std.specs.Prelude.{◌≡◌, ◌≢◌, ◌≤◌, List, ℕ, length, Err, IfOk, OnErr};
+ghost use Rattle.std.specs.Io.{ReadsAtMost};
+ghost use Rattle.std.specs.Io.KnownBytes.{ReadConsumes};
 ghost use Rattle.outside.specs.Counts.{count_of};
+ghost use Rattle.outside.specs.FileShelf.{HasRead, IsWhole};
+ghost use Rattle.outside.specs.MemShelf.{faults_after};
 
 use crate::counts::{self, Counts};
 use crate::shelf::{LoadErr, Shelf};
 use std::alloc::Global;
 use std::collections::BTreeMap;
 use std::fs;
-use std::io::Read;
+use std::io::{self, Read};
 use std::rt::Files;
 
 /// How many bytes are read at a time, at most.
@@ -39,38 +43,72 @@ impl<R: Files> Shelf for FileShelf<'_, R> {
     ghost faults = { λ s name. count_of s.faults name };
 
     /// Opens the file and reads it to its end, or up to the first byte past the limit. A load
-    /// allocates the count of its name before it opens the file.
-    fn load(&mut self, alloc: Global, name: &str, limit: u64) -> Result<Vec<u8>, LoadErr> {
+    /// allocates the count of its name before it opens the file, so that it can count a fault.
+    fn load(&mut self, alloc: Global, name: &str, limit: u64) -> Result<Vec<u8>, LoadErr>
+        ensures within_limit { IfOk result (λ bytes. length bytes.items ≤ limit) }
+        // What was loaded is all that remained in some file of the runtime, as far as that file
+        // shows it. No contract of the system says which file a name opens.
+        ensures whole { HasRead result
+            → (file : R.File) × IsWhole (R.File.remaining file) limit result }
+
+        // Exactly the failed loads are counted.
+        ensures faults { count_of self.new.faults name.now
+            ≡ faults_after result (count_of self.old.faults name.now) }
+        ensures never_falls { (other : List ℕ)
+            → count_of self.old.faults other ≤ count_of self.new.faults other }
+        ensures others { (other : List ℕ) → other ≢ name.now
+            → count_of self.new.faults other ≡ count_of self.old.faults other }
+    {
         if counts::prepare(&mut self.faults, alloc, name).is_err() {
             return Err(LoadErr::NoMemory);
         }
-        let answer = match fs::open(self.runtime, name) {
-            Ok(mut file) => read_whole(alloc, &mut file, limit),
-            Err(_) => Err(LoadErr::Failed),
-        };
-        if let Err(LoadErr::Failed) = answer {
-            counts::raise(&mut self.faults, name);
-        }
+        let answer = loaded(alloc, fs::open(self.runtime, name), limit);
+        counts::count_fault(&mut self.faults, name, &answer);
         answer
+    }
+}
+
+// Reads a file, if it could be opened.
+fn loaded<F: Read + Drop>(
+    alloc: Global,
+    opened: io::Result<F>,
+    limit: u64,
+) -> Result<Vec<u8>, LoadErr>
+    ensures within_limit { IfOk result (λ bytes. length bytes.items ≤ limit) }
+    ensures whole { IfOk opened (λ file. IsWhole (F.remaining file) limit result) }
+    ensures unopened { OnErr opened (result ≡ Err LoadErr.Failed) }
+{
+    match opened {
+        Ok(mut file) => read_whole(alloc, &mut file, limit),
+        Err(_) => Err(LoadErr::Failed),
     }
 }
 
 // Reads a file to its end, or up to the first byte past the limit.
 fn read_whole<F: Read>(alloc: Global, file: &mut F, limit: u64) -> Result<Vec<u8>, LoadErr>
-    ensures { IfOk result (λ bytes. length bytes.items ≤ limit) }
+    ensures within_limit { IfOk result (λ bytes. length bytes.items ≤ limit) }
+    ensures whole { IsWhole (F.remaining file.old) limit result }
 {
     let mut bytes = Vec::new(alloc);
     let mut turn = [0; TURN];
     while bytes.len() as u64 <= limit {
         let most = (limit - bytes.len() as u64).min(TURN as u64 - 1) as usize + 1;
-        let taken = match file.read(&mut turn[..most]) {
-            Ok(0) => return Ok(bytes),
-            Ok(taken) => taken,
-            Err(_) => return Err(LoadErr::Failed),
-        };
+        let taken = read_some(file, &mut turn[..most])?;
+        if taken == 0 {
+            return Ok(bytes);
+        }
         if bytes.extend_from_slice(&turn[..taken]).is_err() {
             return Err(LoadErr::NoMemory);
         }
     }
     Err(LoadErr::TooLong)
+}
+
+// Reads some bytes of a file. A failed read is a fault, and is never reported as want of memory.
+fn read_some<F: Read>(file: &mut F, turn: &mut [u8]) -> Result<usize, LoadErr>
+    ensures bound { ReadsAtMost result turn.new }
+    ensures bytes { ReadConsumes (F.remaining file.old) (F.remaining file.new) result turn.new }
+    ensures failed { OnErr result (result ≡ Err LoadErr.Failed) }
+{
+    file.read(turn).map_err(|_| LoadErr::Failed)
 }

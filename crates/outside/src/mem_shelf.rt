@@ -1,7 +1,7 @@
-ghost use Rattle.std.specs.Prelude.{◌≡◌, ◌≢◌, ◌<◌, ◌≤◌, ◌↔◌, IsTrue, List, Option, ℕ, length, Err, IfOk, IfSome};
+ghost use Rattle.std.specs.Prelude.{◌≡◌, ◌≢◌, ◌<◌, ◌≤◌, ◌↔◌, false, IsTrue, List, Option, ℕ, length, Err, IfOk, IfSome};
 ghost use Rattle.outside.specs.Faults.{Rose, counted};
 ghost use Rattle.outside.specs.Held.{files_of, text_of, told};
-ghost use Rattle.outside.specs.MemShelf.{failing_of, fails, faults_after, faults_of, files_in, loads_of};
+ghost use Rattle.outside.specs.MemShelf.{failing_of, fails, faults_after, faults_of, files_in, has_count, loads_of};
 
 use crate::counts::{self, Counts};
 use crate::files;
@@ -44,8 +44,7 @@ impl MemShelf {
             × IfSome (told (files_in self.now) name.now) (λ text. bytes.items ≡ text)) }
         ensures too_long { result ≡ Err LoadErr.TooLong
             → IfSome (told (files_in self.now) name.now) (λ text. limit < length text) }
-        ensures failed { result ≢ Err LoadErr.NoMemory → (result ≡ Err LoadErr.Failed)
-            ↔ IsTrue (fails self.now name.now) }
+        ensures failed { (result ≡ Err LoadErr.Failed) ↔ IsTrue (fails self.now name.now) }
     {
         if self.failing.contains(&self.loads) {
             return Err(LoadErr::Failed);
@@ -71,6 +70,10 @@ impl Shelf for MemShelf {
             → IfSome (told (files_in self.old) name.now) (λ text. limit < length text) }
         ensures failed { result ≢ Err LoadErr.NoMemory → (result ≡ Err LoadErr.Failed)
             ↔ IsTrue (fails self.new name.now) }
+
+        // A fault is reported as want of memory only if there was none for its count.
+        ensures no_memory { result ≡ Err LoadErr.NoMemory → IsTrue (fails self.new name.now)
+            → has_count self.new name.now ≡ false }
         ensures faults { faults_of self.new name.now
             ≡ faults_after result (faults_of self.old name.now) }
         ensures never_falls { (other : List ℕ)
@@ -86,9 +89,7 @@ impl Shelf for MemShelf {
             return Err(LoadErr::NoMemory);
         }
         let answer = self.answer(alloc, name, limit);
-        if let Err(LoadErr::Failed) = answer {
-            counts::raise(&mut self.faults, name);
-        }
+        counts::count_fault(&mut self.faults, name, &answer);
         answer
     }
 }

@@ -1,4 +1,4 @@
-ghost use Rattle.std.specs.Prelude.{◌≡◌};
+ghost use Rattle.std.specs.Prelude.{◌≡◌, ◌≢◌, ◌<◌, ◌≤◌, length, Err, IfOk, IfSome};
 ghost use Rattle.outside.specs.Held.{files_of, told};
 
 use crate::files;
@@ -37,7 +37,15 @@ impl Shelf for SafeShelf {
     ghost faults = { λ _ _. 0 };
 
     /// Copies the file, unless it is too long or memory runs out.
-    fn load(&mut self, alloc: Global, name: &str, limit: u64) -> Result<Vec<u8>, LoadErr> {
+    fn load(&mut self, alloc: Global, name: &str, limit: u64) -> Result<Vec<u8>, LoadErr>
+        ensures within_limit { IfOk result (λ bytes. length bytes.items ≤ limit) }
+        ensures ok { IfOk result
+            (λ bytes. IfSome (told self.old name.now) (λ text. bytes.items ≡ text)) }
+        ensures too_long { result ≡ Err LoadErr.TooLong
+            → IfSome (told self.old name.now) (λ text. limit < length text) }
+        ensures no_fault { result ≢ Err LoadErr.Failed }
+        ensures same { self.new ≡ self.old }
+    {
         files::copy(alloc, files::find(&self.files, name).unwrap_or(&[]), limit)
     }
 }

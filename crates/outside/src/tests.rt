@@ -4,6 +4,7 @@ ghost use Rattle.outside.specs.Writers.{Puts, Pushes};
 use super::*;
 use std::alloc::{AllocError, Global};
 use std::fs;
+use std::io::Cursor;
 use std::test::Fail;
 
 // A writer of a text in two pieces, as the crates above write theirs.
@@ -73,11 +74,21 @@ fn pieces_wait(rt: HostRuntime) -> Result<(), Fail> {
     Ok(())
 }
 
+// A stream with room for 16 bytes takes a text of 16, and fails at a longer one.
 #[test]
-fn standard_error_takes_text(rt: HostRuntime) -> Result<(), Fail> {
-    let mut sink = StreamSink::new(rt.stderr());
-    put_all(&mut sink, b"a line\n")?;
-    Ok(())
+fn full_streams_fail(rt: HostRuntime) {
+    let cases: [(&[u8], _); 2] = [
+        (b"sixteen bytes ..", Ok(())),
+        (b"seventeen bytes ..", Err(WriteErr::Failed)),
+    ];
+    for (text, answer) in cases {
+        let mut sink = StreamSink::new(Cursor::new([0; 16]));
+        assert_eq!(rt; put_all(&mut sink, text), answer, "{text:?}");
+    }
+    assert_eq!(rt;
+        put_all(&mut StreamSink::new(rt.stderr()), b"a line\n"),
+        Ok(())
+    );
 }
 
 fn two_files(alloc: Global) -> Result<Vec<(String, Vec<u8>)>, AllocError> {

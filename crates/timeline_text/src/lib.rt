@@ -1,8 +1,8 @@
 //! Timelines as text, and forms that are spelled by the letters of a grammar.
 //!
 //! A text has one symbol byte for each tier of a column, and one space between two columns; the
-//! timeline without columns is written as the word `empty`. The layers above read underlying and surface
-//! forms, examples and rows with [`read_timeline`] and words that begin with `=` with
+//! timeline without columns is written as the word `empty`. The layers above read underlying and
+//! surface forms, examples and rows with [`read_timeline`] and words that begin with `=` with
 //! [`read_spelled`], and write with [`put_timeline`], or with [`push_timeline`] as part of a longer
 //! text. A timeline that was read is well formed, reduced, of the given width and within the limit,
 //! as those layers require of a form.

@@ -1,4 +1,0 @@
-mod WordSteps
-mod MeetSteps
-mod ChoiceSteps
-mod Bounds

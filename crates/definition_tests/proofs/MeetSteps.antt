@@ -1,0 +1,53 @@
+-- The meet of what was chosen so far, and then of the rest of a choice.
+use Rattle.std.proofs.Common.{◌≡◌, ℕ, min, max, Option, Some, None, List, [], ◌∷◌, ◌++◌, map, refl, ap, ◌∙◌, arith, Bool}
+use Rattle.std.specs.List.{list_any}
+use Rattle.tier_core.specs.Events.{Interval, greatest_low, least_from, meet}
+use Rattle.definition_tests.specs.declared.span.Span.{Span}
+use Rattle.definition_tests.specs.Spans.{intervals_of}
+
+max_zero : (a : ℕ) → a ≡ max a 0
+max_zero a = omega arith
+
+max_of_three : (a b c : ℕ) → max a (max b c) ≡ max (max a (max b 0)) c
+max_of_three a b c = omega arith
+
+max_of_two : (a c : ℕ) → max a c ≡ max (max a 0) c
+max_of_two a c = omega arith
+
+min_swap : (a b c : ℕ) → min a (min b c) ≡ min b (min a c)
+min_swap a b c = omega arith
+
+both : {a b : ℕ} {c d : ℕ} → a ≡ b → c ≡ d
+    → let x : Interval = record { low = a; high = c } in let y : Interval = record { low = b; high = d } in x ≡ y
+both {a} {b} {c} {d} e f =
+    let lows : ℕ → Interval = λ n. record { low = n; high = c } in
+    let highs : ℕ → Interval = λ n. record { low = b; high = n } in
+    ap lows e ∙ ap highs f
+
+-- the meet of one interval
+pub meet_one : (x : Interval) → x ≡ meet (x ∷ [])
+meet_one x = both (max_zero x.low) refl
+
+-- the meet of two
+pub meet_two : (m x : Interval) (low high : ℕ) → low ≡ max m.low x.low → high ≡ min m.high x.high
+    → let y : Interval = record { low = low; high = high } in y ≡ meet (m ∷ x ∷ [])
+meet_two m x low high e f = both (e ∙ ap (max m.low) (max_zero x.low)) (f ∙ min_other m.high x.high)
+  where
+    min_other : (a b : ℕ) → min a b ≡ min b a
+    min_other a b = omega arith
+
+least_from_min : (a h : ℕ) (xs : List Interval) → min a (least_from h xs) ≡ least_from (min a h) xs
+least_from_min a h [] = refl
+least_from_min a h (x ∷ xs) = min_swap a x.high (least_from h xs) ∙ ap (min x.high) (least_from_min a h xs)
+
+-- an event more may be joined to what was chosen before
+pub meet_joined : (chosen : Option Span) (x : Interval) (choice : List Interval)
+    → meet (intervals_of chosen ++ (x ∷ choice)) ≡ meet (meet (intervals_of chosen ++ (x ∷ [])) ∷ choice)
+meet_joined None x choice = both (max_of_two x.low (greatest_low choice)) refl
+meet_joined (Some m) x choice = both (max_of_three m.low x.low (greatest_low choice))
+    (least_from_min x.high m.high choice)
+
+pub any_map : {X Y : Type 0} (p : Y → Bool) (f : X → Y) (xs : List X)
+    → list_any (λ x. p (f x)) xs ≡ list_any p (map f xs)
+any_map p f [] = refl
+any_map p f (x ∷ xs) = rw (any_map p f xs) refl

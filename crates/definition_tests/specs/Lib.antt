@@ -1,0 +1,3 @@
+pub mod Spans
+pub mod Counting
+pub mod Fit

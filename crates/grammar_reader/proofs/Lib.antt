@@ -2,6 +2,7 @@ pub mod Positions
 pub mod Walk
 pub mod Steps
 pub mod SliceLaw
+pub mod TokenOrder
 pub mod Splits
 pub mod Lexing
 pub mod EachSome

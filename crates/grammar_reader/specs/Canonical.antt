@@ -27,7 +27,7 @@ tier_words t = codes "tier" ∷ t.name ∷ kind_text t.kind ∷ []
 abbrev pub is_odd : ℕ → Bool
 is_odd n = n % 2 == 1
 
--- the names of the tiers of a mask, whose lowest bit is the first tier's
+-- the names of the tiers in a mask, whose lowest bit is that of the first tier
 abbrev pub names_in : List NamedTier → ℕ → List (List ℕ)
 names_in [] mask = []
 names_in (t ∷ ts) mask = (if is_odd mask then t.name ∷ [] else []) ++ names_in ts (mask / 2)
@@ -40,11 +40,11 @@ part_text Start = codes "["
 part_text End = codes "]"
 part_text Interior = []
 
--- an event, where the tiers have these names
+-- an event, if the tiers have these names
 abbrev pub event_text : List (List ℕ) → Event → List ℕ
 event_text names e = part_text e.part ++ slice_index_or names e.tier []
 
--- with a word between each two
+-- with a word between any two neighbours
 abbrev pub joined : List ℕ → List (List ℕ) → List (List ℕ)
 joined word [] = []
 joined word (e ∷ []) = e ∷ []

@@ -9,7 +9,7 @@ use Rattle.grammar_reader.specs.declared.grammar_err.GrammarCause.TheVariants.{B
 abbrev pub seen_event : NamedEvent → statement.NamedEvent
 seen_event e = record { part = e.part; tier = e.tier.now }
 
--- the form is not there, unless memory ran out
+-- the lexemes do not have the form, unless memory ran out
 abbrev pub FailsForm : {X : Type 0} → LineErr → Option X → Type 0
 FailsForm NoMemory o = Unit {0}
 FailsForm (Cause c) o = (c ≡ BadLine) × (o ≡ None)

@@ -18,11 +18,11 @@ seen Clash = pieces.clash
 seen Implies = pieces.implies
 seen (Word w) = pieces.word w.now
 
--- the lexemes of a line, or None where a byte is bad
+-- the lexemes of a line, or None if a byte is bad
 abbrev pub lexemes_of : List ℕ → Option (List pieces.Lexeme)
 lexemes_of line = each_some lexeme_of (parts_of line)
 
--- None, or the list behind another
+-- a list appended to another, or None
 abbrev pub with_front : {X : Type 0} → List X → Option (List X) → Option (List X)
 with_front xs None = None
 with_front xs (Some ys) = Some (xs ++ ys)

@@ -1,6 +1,7 @@
 pub mod Pieces
 pub mod Fronts
 pub mod Slices
+pub mod Ascending
 pub mod Tokens
 pub mod Statements
 pub mod Lexemes

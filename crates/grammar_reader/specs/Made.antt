@@ -18,7 +18,7 @@ made_value made = record {
   constraints = map constraint_seen made.constraints.items;
 }
 
--- None stands before the header
+-- None: no header has come yet
 abbrev pub so_far : Option Made → Option GrammarValue
 so_far None = None
 so_far (Some made) = Some (made_value made)

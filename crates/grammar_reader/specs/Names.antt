@@ -9,16 +9,16 @@ abbrev pub begins_with_letter : List ℕ → Bool
 begins_with_letter [] = false
 begins_with_letter (b ∷ bs) = is_letter b
 
--- a word of at most 32 bytes that begins with a letter and is no connective
+-- a word of at most 32 bytes that begins with a letter and is not a connective
 abbrev pub is_name : List ℕ → Bool
 is_name w = nat_le (length w) 32 && begins_with_letter w && list_all is_word_byte w && not (is_connective w)
 
--- one letter or digit
+-- a single letter or digit
 abbrev pub is_letter_byte : List ℕ → Bool
 is_letter_byte (b ∷ []) = is_letter b || is_digit b
 is_letter_byte _ = false
 
--- whether some name stands twice in a list
+-- whether some name is twice in a list
 abbrev pub has_twice : List (List ℕ) → Bool
 has_twice [] = false
 has_twice (n ∷ ns) = list_any (bytes_eq n) ns || has_twice ns

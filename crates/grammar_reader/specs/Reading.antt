@@ -12,19 +12,19 @@ use Rattle.grammar_reader.specs.Values.{GrammarValue, NamedTier, is_named, input
 use Rattle.grammar_reader.specs.declared.grammar_err.GrammarCause.{GrammarCause}
 use Rattle.grammar_reader.specs.declared.grammar_err.GrammarCause.TheVariants.{BadByte, BadHeader, BadLine, BadName, TwiceNamed, UnknownTier, NotInput, TooManyTiers, TooManyConstraints, TooManyEvents, NoInput, NoOvert}
 
--- what stands before the first line
+-- what has been made before the first line
 abbrev pub nothing : GrammarValue
 nothing = record { tiers = []; letters = []; constraints = [] }
 
--- The causes of a statement, after the lines before it made g.
+-- The causes of a statement, if the lines before it have made g.
 
--- a word in the place of a name is no name
+-- a word in the place of a name is not a name
 abbrev pub has_bad_name : Statement → Bool
 has_bad_name (tier name kind) = not (is_name name)
 has_bad_name (letter x names) = not (is_letter_byte x) || list_any (λ n. not (is_name n)) names
 has_bad_name (constraint name family left right) = not (is_name name)
 
--- the name was there before, or a letter has a tier twice
+-- the name is already defined, or a letter has a tier twice
 abbrev pub is_twice_named : GrammarValue → Statement → Bool
 is_twice_named g (tier name kind) = list_any (is_named name) g.tiers
 is_twice_named g (letter x names) = list_any (λ l. bytes_eq x (letter_name l)) g.letters || has_twice names
@@ -33,7 +33,7 @@ is_twice_named g (constraint name family left right) = list_any (λ c. bytes_eq 
 abbrev pub is_unknown : List NamedTier → List ℕ → Bool
 is_unknown tiers name = not (list_any (is_named name) tiers)
 
--- a tier is named that no line before has made
+-- a tier is named that no earlier line has defined
 abbrev pub has_unknown_tier : GrammarValue → Statement → Bool
 has_unknown_tier g (tier name kind) = false
 has_unknown_tier g (letter x names) = list_any (is_unknown g.tiers) names
@@ -62,7 +62,7 @@ abbrev pub has_too_many_events : Statement → Bool
 has_too_many_events (constraint name family left right) = nat_lt 8 (length left) || nat_lt 8 (length right)
 has_too_many_events _ = false
 
--- the first that comes, in this order
+-- the first that applies, in this order
 abbrev pub first_that_comes : {X : Type 0} → List (Bool × X) → Option X
 first_that_comes [] = None
 first_that_comes (row ∷ rows) = if row.0 then Some row.1 else first_that_comes rows
@@ -85,7 +85,7 @@ number_of tiers name = unwrap_or (position (is_named name) tiers) 0
 abbrev pub numbered : List NamedTier → NamedEvent → Event
 numbered tiers e = record { tier = number_of tiers e.tier; part = e.part }
 
--- a bit for each input tier, set where it is named
+-- a bit for each input tier, set if the tier is named
 abbrev pub mask_of : List NamedTier → List (List ℕ) → ℕ
 mask_of [] names = 0
 mask_of (t ∷ ts) names = (if list_any (λ n. is_named n t) names then 1 else 0) + 2 * mask_of ts names
@@ -120,7 +120,7 @@ abbrev pub kept : Result GrammarValue GrammarCause → Result (Option GrammarVal
 kept (Ok g) = Ok (Some g)
 kept (Err cause) = Err cause
 
--- None stands before the header
+-- None: no header has come yet
 abbrev pub after_lexemes : Option GrammarValue → Option (List Lexeme) → Result (Option GrammarValue) GrammarCause
 after_lexemes before None = Err BadByte
 after_lexemes before (Some []) = Ok before
@@ -142,7 +142,7 @@ whole (Some g) =
     if not (list_any (λ t. is_input t.kind) g.tiers) then Err (record { line = 0; cause = NoInput }) else
     if not (list_any (λ t. is_overt t.kind) g.tiers) then Err (record { line = 0; cause = NoOvert }) else Ok g
 
--- a line's cause ends the reading, and else the rest of the lines goes on
+-- a line's cause ends the reading; otherwise it goes on with the rest of the lines
 abbrev pub go_on : Result (Option GrammarValue) GrammarCause → ℕ → (Option GrammarValue → Result GrammarValue At)
     → Result GrammarValue At
 go_on (Ok after) n rest = rest after

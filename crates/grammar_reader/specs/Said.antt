@@ -12,7 +12,7 @@ statement_seen (Letter byte names) = said.letter byte.now (map (λ n. n.now) nam
 statement_seen (Constraint name family left right) = said.constraint name.now family (map seen_event left.items)
     (map seen_event right.items)
 
--- a line's form, or that it has none, unless memory ran out
+-- what the line says, or that it has none of the forms, unless memory ran out
 abbrev pub SaysLine : Result code.Statement LineErr → Option said.Statement → Type 0
 SaysLine (Ok s) o = o ≡ Some (statement_seen s)
 SaysLine (Err e) o = FailsForm e o

@@ -17,7 +17,7 @@ tiers_seen entries = map tier_seen entries
 abbrev pub constraint_seen : Constraint → NamedConstraint
 constraint_seen c = record { name = string_bytes c.name; family = c.family; left = c.left; right = c.right }
 
--- tiers by their names and kinds
+-- the names and kinds of tiers
 abbrev pub tiers_by : List (List ℕ) → List TierKind → List NamedTier
 tiers_by [] kinds = []
 tiers_by (name ∷ names) [] = []

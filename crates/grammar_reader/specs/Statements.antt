@@ -1,4 +1,4 @@
--- What a line says, apart from all other lines.
+-- What a line says, on its own.
 use Rattle.std.specs.Prelude.{ℕ, take, drop, Bool, true, false, List, [], ◌∷◌, ◌++◌, Option, Some, None, ◌||◌, if◌then◌else◌, codes, option_map, option_and_then}
 use Rattle.std.specs.List.{slice_split, position_or_len}
 use Rattle.std.specs.Str.{bytes_eq}
@@ -10,7 +10,7 @@ use Rattle.tier_core.specs.declared.event.Part.TheVariants.{Start, End, Interior
 use Rattle.tier_core.specs.declared.constraint.Family.{Family}
 use Rattle.tier_core.specs.declared.constraint.Family.TheVariants.{Implication, Clash}
 
--- an event by the name of its tier
+-- an event, with the name of its tier
 pub record NamedEvent : Type 0 where
   pub part : Part
   pub tier : List ℕ
@@ -23,7 +23,7 @@ pub data Statement : Type 0 where
   -- `constraint NAME EVENTS -> EVENTS` or `constraint NAME EVENTS # EVENTS`
   constraint : List ℕ → Family → List NamedEvent → List NamedEvent → Statement
 
--- what f gives of each element, where it gives something of every one
+-- what f gives for each element, if it gives something for every one
 abbrev pub each_some : {X Y : Type 0} → (X → Option Y) → List X → Option (List Y)
 each_some f [] = Some []
 each_some f (x ∷ xs) = option_and_then (λ y. option_map (λ ys. y ∷ ys) (each_some f xs)) (f x)
@@ -58,7 +58,7 @@ event_of (closes ∷ word w ∷ []) = event End w
 event_of (word w ∷ []) = event Interior w
 event_of _ = None
 
--- one or more events with this connective between each two
+-- one or more events, with this connective between any two neighbours
 abbrev pub events_of : List ℕ → List Lexeme → Option (List NamedEvent)
 events_of connective lexemes = each_some event_of (slice_split (is_the_word connective) lexemes)
 
@@ -77,7 +77,7 @@ sides name family left right = option_and_then
     (λ ls. option_map (λ rs. constraint name family ls rs) (events_of (joined_by family) right))
     (events_of (codes "and") left)
 
--- what stands before a sign, and the rest from the sign on
+-- the lexemes before a sign, and the rest from the sign on
 abbrev pub sides_of : List ℕ → List Lexeme → List Lexeme → Option Statement
 sides_of name left (implies ∷ right) = sides name Implication left right
 sides_of name left (clash ∷ right) = sides name Clash left right
@@ -103,7 +103,7 @@ constraint_line (word name ∷ lexemes) = let at = position_or_len is_sign lexem
     (drop at lexemes)
 constraint_line _ = None
 
--- None where the tokens have none of the forms
+-- None if the tokens have none of the forms
 abbrev pub statement_of : List Lexeme → Option Statement
 statement_of (word k ∷ lexemes) =
     if bytes_eq k (codes "tier") then tier_line lexemes else

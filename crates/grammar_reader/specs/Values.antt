@@ -37,7 +37,7 @@ free_of tiers = filter (λ t. is_free t.kind) tiers
 abbrev pub letter_name : Letter → List ℕ
 letter_name letter = letter.byte ∷ []
 
--- a letter has a tier, and input tiers alone
+-- a letter has at least one tier, and only input tiers
 abbrev pub has_sound : ℕ → Letter → Bool
 has_sound inputs letter = nat_lt 0 letter.tiers && nat_lt letter.tiers (2 ^ inputs)
 
@@ -49,7 +49,7 @@ is_side tiers events = nat_le 1 (length events) && nat_le (length events) 8 && l
 abbrev pub has_sides : ℕ → NamedConstraint → Bool
 has_sides tiers c = is_side tiers c.left && is_side tiers c.right
 
--- names are names, each is there once, and tiers are those of the grammar and within the limits
+-- names are proper names and unique, and the tiers of the grammar are within the limits
 pub record IsMade (g : GrammarValue) : Type 0 where
   pub tier_names : IsTrue (list_all (λ t. is_name t.name) g.tiers)
   pub tiers_once : has_twice (map (λ t. t.name) g.tiers) ≡ false
@@ -64,7 +64,7 @@ pub record IsMade (g : GrammarValue) : Type 0 where
   pub few_constraints : length g.constraints ≤ 24
   pub sides : IsTrue (list_all (has_sides (length g.tiers)) g.constraints)
 
--- and some tier is an input tier, and some tier is overt
+-- moreover some tier is an input tier, and some tier is overt
 pub record IsGrammar (g : GrammarValue) : Type 0 where
   pub made : IsMade g
   pub input : IsTrue (list_any (λ t. is_input t.kind) g.tiers)

@@ -1,4 +1,4 @@
--- The words of a line as they are written.
+-- The words of a line, as they are written.
 use Rattle.std.specs.Prelude.{ℕ, List, ◌∷◌, ◌++◌, map, take}
 use Rattle.grammar_reader.specs.declared.words.Word.{Word}
 use Rattle.grammar_reader.specs.declared.words.Words.{Words}

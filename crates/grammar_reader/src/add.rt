@@ -41,7 +41,7 @@ fn numbered(tiers: &Tiers<'_>, event: &NamedEvent<'_>) -> Event
     }
 }
 
-/// One side of a constraint, with the tiers by their numbers.
+/// One side of a constraint, with the numbers of its tiers.
 fn side(alloc: Global, tiers: &Tiers<'_>, events: &[NamedEvent<'_>]) -> EventList
     requires tiers { length tiers.now.entries ≤ 12 }
     requires some { 0 < length events.now }
@@ -61,7 +61,7 @@ fn is_among(name: &[u8], names: &[&[u8]]) -> bool
     names.iter().any(|each| *each == name)
 }
 
-/// A bit where its tier is named.
+/// The bit of a tier, set if the tier is named.
 fn chosen(is_named: bool, bit: u16) -> u16
     ensures { result ≡ (if is_named then bit else 0) }
 {
@@ -142,7 +142,7 @@ fn add_constraint(
 {
     let left = side(alloc, &made.tiers, left);
     let right = side(alloc, &made.tiers, right);
-    // A name is ASCII, so that nothing of it is lost.
+    // A name is ASCII, so nothing of it is lost.
     let name = String::from_utf8_lossy(alloc, name)?;
     made.constraints.push(Constraint {
         name,
@@ -153,7 +153,7 @@ fn add_constraint(
     Ok(())
 }
 
-/// Adds what a line says, where no cause comes.
+/// Adds what a line says, if it has no cause.
 pub(crate) fn add<'a>(
     alloc: Global,
     made: &mut Made<'a>,

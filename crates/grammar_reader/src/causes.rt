@@ -18,7 +18,7 @@ use crate::statement::Statement;
 use indexmap::IndexSet;
 use std::alloc::Global;
 
-/// Whether a word in the place of a name is no name.
+/// Whether a word in the place of a name is not a name.
 fn has_bad_name(statement: &Statement<'_>) -> bool
     ensures { result ≡ has_bad_name (statement_seen statement.now) }
 {
@@ -31,14 +31,14 @@ fn has_bad_name(statement: &Statement<'_>) -> bool
     }
 }
 
-/// Whether a tier of that name has been made.
+/// Whether a tier with this name is defined.
 fn is_known(tiers: &Tiers<'_>, name: &[u8]) -> bool
     ensures { result ≡ list_any (is_named name.now) (tiers_seen tiers.now.entries) }
 {
     tiers.contains_key(name)
 }
 
-/// Whether some name stands twice in a list.
+/// Whether some name is twice in a list.
 fn has_twice(alloc: Global, names: &[&[u8]]) -> Result<bool, LineErr>
     ensures { MatchResult result (λ twice. twice ≡ has_twice (map (λ n. n.now) names.now))
         (λ e. e ≡ LineErr.NoMemory) }
@@ -53,7 +53,7 @@ fn has_twice(alloc: Global, names: &[&[u8]]) -> Result<bool, LineErr>
     Ok(false)
 }
 
-/// Whether a letter with that byte has been made.
+/// Whether a letter with this byte is defined.
 fn has_letter(made: &Made<'_>, byte: &[u8]) -> bool
     ensures { result ≡ list_any (λ l. bytes_eq byte.now (letter_name l)) made.now.letters.items }
 {
@@ -62,7 +62,7 @@ fn has_letter(made: &Made<'_>, byte: &[u8]) -> bool
         .any(|letter| byte == [letter.byte].as_slice())
 }
 
-/// Whether a constraint of that name has been made.
+/// Whether a constraint with this name is defined.
 fn has_constraint(made: &Made<'_>, name: &[u8]) -> bool
     ensures { result
         ≡ list_any (λ c. bytes_eq name.now c.name)
@@ -73,7 +73,7 @@ fn has_constraint(made: &Made<'_>, name: &[u8]) -> bool
         .any(|constraint| name == constraint.name.as_bytes())
 }
 
-/// Whether the name was there before, or a letter has a tier twice.
+/// Whether the name is already defined, or a letter has a tier twice.
 fn is_twice_named(
     alloc: Global,
     made: &Made<'_>,
@@ -95,7 +95,7 @@ fn is_twice_named(
     }
 }
 
-/// Whether an event is on a tier that no line before has made.
+/// Whether an event is on a tier that no earlier line has defined.
 fn has_unknown_event(tiers: &Tiers<'_>, events: &[NamedEvent<'_>]) -> bool
     ensures { result
         ≡ list_any (λ e. is_unknown (tiers_seen tiers.now.entries) e.tier)
@@ -104,7 +104,7 @@ fn has_unknown_event(tiers: &Tiers<'_>, events: &[NamedEvent<'_>]) -> bool
     events.iter().any(|event| !is_known(tiers, event.tier))
 }
 
-/// Whether a tier is named that no line before has made.
+/// Whether a tier is named that no earlier line has defined.
 fn has_unknown_tier(made: &Made<'_>, statement: &Statement<'_>) -> bool
     ensures { result ≡ has_unknown_tier (made_value made.now) (statement_seen statement.now) }
 {
@@ -118,7 +118,7 @@ fn has_unknown_tier(made: &Made<'_>, statement: &Statement<'_>) -> bool
     }
 }
 
-/// Whether an input tier of that name has been made.
+/// Whether an input tier with this name is defined.
 fn is_input_named(tiers: &Tiers<'_>, name: &[u8]) -> bool
     ensures { result ≡ is_input_named (tiers_seen tiers.now.entries) name.now }
 {
@@ -138,14 +138,14 @@ fn has_no_input(made: &Made<'_>, statement: &Statement<'_>) -> bool
     }
 }
 
-/// How many tiers are input tiers.
+/// The number of input tiers.
 fn input_count(tiers: &Tiers<'_>) -> usize
     ensures { result ≡ length (inputs_of (tiers_seen tiers.now.entries)) }
 {
     tiers.values().filter(|kind| kind.is_input()).count()
 }
 
-/// How many tiers are overt or hidden.
+/// The number of overt and hidden tiers.
 fn free_count(tiers: &Tiers<'_>) -> usize
     ensures { result ≡ length (free_of (tiers_seen tiers.now.entries)) }
 {
@@ -186,7 +186,7 @@ fn has_too_many_events(statement: &Statement<'_>) -> bool
     }
 }
 
-/// Tries the causes of what a line says, and refuses it with the first that comes.
+/// Tries the causes of what a line says, and refuses the line with the first that applies.
 pub(crate) fn check(
     alloc: Global,
     made: &Made<'_>,

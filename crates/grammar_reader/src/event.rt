@@ -9,7 +9,7 @@ use crate::names::is_connective;
 use std::alloc::Global;
 use tier_core::Part;
 
-/// An event by the name of its tier.
+/// An event, with the name of its tier.
 #[derive(Clone, Copy)]
 pub(crate) struct NamedEvent<'a> {
     pub part: Part,
@@ -26,7 +26,7 @@ fn event_on(part: Part, word: &[u8]) -> Option<NamedEvent<'_>>
     }
 }
 
-/// `[NAME`, `]NAME` or `NAME`.
+/// The event at the front of lexemes: `[NAME`, `]NAME` or `NAME`.
 fn event_of<'a>(piece: &[Lexeme<'a>]) -> Option<NamedEvent<'a>>
     ensures { option_map seen_event result ≡ event_of (map seen piece.entry.now) }
 {
@@ -47,7 +47,7 @@ fn is_the_word(lexeme: &Lexeme<'_>, text: &[u8]) -> bool
     }
 }
 
-/// One or more events with a connective between each two.
+/// One or more events, with a connective between any two neighbours.
 pub(crate) fn events<'a>(
     alloc: Global,
     connective: &[u8],

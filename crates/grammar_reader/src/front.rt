@@ -3,14 +3,14 @@ ghost use Rattle.std.specs.List.{prefix_len, position_or_len, list_all};
 ghost use Rattle.grammar_reader.specs.Pieces.{is_newline, is_letter, is_word_byte};
 ghost use Rattle.grammar_reader.specs.Fronts.{Says, front_of, ends_line, begins_with, is_sign};
 
-/// What stands at the front of a source.
+/// What a source begins with.
 #[derive(Clone, Copy)]
 pub(crate) enum Front {
     End,
     Newline,
-    /// So many bytes are spacing or a comment.
+    /// This many bytes are spacing or a comment.
     Skip(usize),
-    /// So many bytes are a token.
+    /// This many bytes are a token.
     Token(usize),
     Bad,
 }
@@ -27,7 +27,7 @@ pub(crate) fn is_word_byte(b: u8) -> bool
     is_letter(b) || b.is_ascii_digit() || b == b'_'
 }
 
-/// Whether each byte is one of a word.
+/// Whether all bytes may stand in a word.
 pub(crate) fn is_word(text: &[u8]) -> bool
     ensures { result ≡ list_all is_word_byte text.now }
 {
@@ -58,7 +58,7 @@ fn begins_with(byte: u8, bytes: &[u8]) -> bool
     }
 }
 
-/// How many bytes stand before the end of the line.
+/// The number of bytes before the end of the line.
 fn line_len(bytes: &[u8]) -> usize
     ensures len { result ≡ position_or_len is_newline bytes.now }
     ensures within { result ≤ length bytes.now }
@@ -69,7 +69,7 @@ fn line_len(bytes: &[u8]) -> usize
         .unwrap_or(bytes.len())
 }
 
-/// How many bytes at the front are bytes of a word.
+/// The number of bytes at the front that may stand in a word.
 fn word_len(bytes: &[u8]) -> usize
     ensures len { result ≡ prefix_len is_word_byte bytes.now }
     ensures within { result ≤ length bytes.now }
@@ -106,7 +106,7 @@ fn look_at(bytes: &[u8]) -> Front
     }
 }
 
-/// What stands at the front of a source, and what that says of its pieces.
+/// What a source begins with, and what follows from that about its pieces.
 pub(crate) fn look(bytes: &[u8]) -> Front
     ensures { (line at : ℕ) → Says line at bytes.now result }
 {

@@ -6,8 +6,9 @@ use timeline_text::Letter;
 
 /// Tiers in their order, letters, and constraints in ranked order, the highest first.
 ///
-/// Each grammar is the value of some text: its limits hold, its names are names and are there once
-/// in their set, each event's tier exists, and each letter has input tiers alone, at least one.
+/// Each grammar is the value of some text: it is within the limits, its names are proper names and
+/// unique in their set, each event's tier exists, and each letter has at least one tier and only
+/// input tiers.
 #[derive(Drop)]
 pub struct Grammar {
     pub tiers: TierTable,

@@ -3,12 +3,12 @@ ghost use Rattle.std.specs.Prelude.{◌≡◌};
 use std::alloc::{AllocError, AllocFailed};
 use thiserror::Error;
 
-/// Why a line, or a text as a whole, is no part of a grammar. On one line the causes are tried in
-/// the order in which they are listed here.
+/// Why a line, or a text as a whole, is refused. On each line the causes are tried in the order in
+/// which they are listed here.
 #[derive(Clone, Copy, Debug, PartialEq, Eq, Error)]
 pub enum GrammarCause {
-    /// Outside a comment a byte is no spacing and begins no token.
-    #[error("a byte begins no token")]
+    /// A byte outside a comment is not spacing and does not begin a token.
+    #[error("a byte does not begin a token")]
     BadByte,
     /// The first line with tokens is not `otp 1`.
     #[error("the first line is not `otp 1`")]
@@ -16,17 +16,17 @@ pub enum GrammarCause {
     /// The tokens have none of the forms.
     #[error("the line has none of the forms")]
     BadLine,
-    /// A word in the place of a name is no name, or a letter is not one letter or digit.
-    #[error("a word is no name")]
+    /// A word in the place of a name is not a name, or a letter is not a single letter or digit.
+    #[error("a word is not a name")]
     BadName,
-    /// The name was there before, or a letter has one tier twice.
-    #[error("a name is there twice")]
+    /// The name is already defined, or a letter has a tier twice.
+    #[error("a name is already defined")]
     TwiceNamed,
-    /// A tier is named that no earlier line made.
+    /// A tier is named that no earlier line has defined.
     #[error("a tier is not known")]
     UnknownTier,
     /// A letter has a tier that is not an input tier.
-    #[error("a letter's tier is no input tier")]
+    #[error("a letter's tier is not an input tier")]
     NotInput,
     /// This is the 13th tier, the 7th input tier or the 9th free tier.
     #[error("there are too many tiers")]
@@ -45,14 +45,14 @@ pub enum GrammarCause {
     NoOvert,
 }
 
-/// Why a text is no grammar.
+/// Why a text is not a grammar.
 #[derive(Clone, Copy, Debug, PartialEq, Eq, Error)]
 pub enum GrammarErr {
-    /// The first line that has a cause, counted from 1, and its first cause. The line is 0 where
-    /// the text as a whole has no input tier or no overt tier.
+    /// The first line that has a cause, counted from 1, and its first cause. The line is 0 if the
+    /// text as a whole has no input tier or no overt tier.
     #[error("line {line}: {cause}")]
     At { line: u32, cause: GrammarCause },
-    /// Memory was wanting.
+    /// Memory ran out.
     #[error("out of memory")]
     NoMemory,
 }

@@ -18,7 +18,7 @@ pub(crate) enum Lexeme<'a> {
     Word(&'a [u8]),
 }
 
-/// Why a line can't be read.
+/// Why a line has no lexemes.
 #[derive(Clone, Copy)]
 pub(crate) enum LineErr {
     Cause(GrammarCause),
@@ -45,7 +45,7 @@ impl<T: Drop> From<AllocFailed<T>> for LineErr {
     }
 }
 
-/// None where the text is no token.
+/// What the text of a token is, and None if the text is not a token.
 fn kind_of_token(text: &[u8]) -> Option<Lexeme<'_>>
     ensures { option_map seen result ≡ lexeme_of text.entry.now }
 {

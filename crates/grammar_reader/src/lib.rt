@@ -1,13 +1,14 @@
 //! The grammar language: texts of tiers, letters and ranked constraints, and the grammars that they
-//! tell.
+//! define.
 //!
-//! A text goes from bytes to tokens, to lexemes line by line, to what a line says, and is refused by
-//! the first line that has a cause. The layers above take grammars from [`read_grammar`], write the
-//! canonical text by [`put_grammar`], and take from [`shape`] what the text of an answer needs. A
-//! [`Grammar`] keeps by its type all that a text of one shows: limits, names, and tiers that exist.
+//! A text is split into tokens, read as lexemes line by line and as the statement of each line, and
+//! refused at the first line that has a cause. The layers above get grammars from [`read_grammar`],
+//! write the canonical text with [`put_grammar`], and get from [`shape`] what the text of an answer
+//! needs. By its type a [`Grammar`] is within the limits, has proper names, and names only tiers
+//! that exist.
 //!
-//! The definitions of `specs/` are the pieces of a text (`Pieces`), what a line says (`Statements`),
-//! the value of a grammar (`Values`), and the causes in their order (`Reading`).
+//! `specs/` defines the pieces of a text (`Pieces`), what a line says (`Statements`), the value of
+//! a grammar (`Values`), and the causes in their order (`Reading`).
 #![tactic(auto)]
 
 mod add;

@@ -31,7 +31,7 @@ fn kind_text(kind: TierKind) -> &'static [u8]
     }
 }
 
-/// The words of the line of a tier.
+/// The words of a tier's line.
 pub(crate) fn tier_words(name: &[u8], kind: TierKind) -> Words<'_>
     ensures { texts_of result ≡ tier_words (record { name = name.entry.now; kind = kind }) }
 {
@@ -41,7 +41,7 @@ pub(crate) fn tier_words(name: &[u8], kind: TierKind) -> Words<'_>
     words
 }
 
-/// Adds the name of the tier of the lowest bit, where the mask has it.
+/// Adds the name of the tier of the lowest bit, if the mask has that bit.
 fn push_where_odd<'a>(words: &mut Words<'a>, mask: u16, name: &'a [u8])
     requires { words.old.len < 40 }
     ensures words { texts_of words.new
@@ -53,7 +53,7 @@ fn push_where_odd<'a>(words: &mut Words<'a>, mask: u16, name: &'a [u8])
     }
 }
 
-/// The words of the line of a letter, whose tiers stand in tier order.
+/// The words of a letter's line, with its tiers in tier order.
 pub(crate) fn letter_words<'a>(tiers: &'a TierTable, letter: &'a Letter) -> Words<'a>
     ensures { texts_of result ≡ letter_words (named_tiers tiers.entry.now) letter.entry.now }
 {
@@ -103,7 +103,7 @@ fn push_event<'a>(words: &mut Words<'a>, names: &'a [String], event: Event)
     words.push_marked(part_text(event.part), name);
 }
 
-/// Adds the events of a side, with a word between each two.
+/// Adds the events of a side, with a word between any two neighbours.
 fn push_side<'a>(words: &mut Words<'a>, names: &'a [String], joint: &'a [u8], events: &[Event])
     requires some { 1 ≤ length events.now }
     requires few { length events.now ≤ 8 }
@@ -123,7 +123,7 @@ fn push_side<'a>(words: &mut Words<'a>, names: &'a [String], joint: &'a [u8], ev
     }
 }
 
-/// The words of the line of a constraint.
+/// The words of a constraint's line.
 pub(crate) fn constraint_words<'a>(names: &'a [String], constraint: &'a Constraint) -> Words<'a>
     ensures { texts_of result
         ≡ constraint_words (map string_bytes names.entry.now)

@@ -22,7 +22,7 @@ impl<'a> Made<'a> {
     ghost use Rattle.grammar_reader.specs.Reading.{nothing};
     ghost use Rattle.grammar_reader.specs.Made.{made_value};
 
-    /// What stands before the first line. It takes no memory.
+    /// What has been made before the first line: nothing. Allocates no memory.
     pub fn new(alloc: Global) -> Made<'a>
         ensures { made_value result ≡ nothing }
     {

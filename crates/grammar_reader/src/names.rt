@@ -4,7 +4,7 @@ ghost use Rattle.grammar_reader.specs.Names.{begins_with_letter, is_name, is_let
 
 use crate::front::{is_letter, is_word};
 
-/// Whether a word joins events, and so is no name.
+/// Whether a word joins events, and so is not a name.
 pub(crate) fn is_connective(word: &[u8]) -> bool
     ensures { result ≡ is_connective word.now }
 {
@@ -27,7 +27,7 @@ pub(crate) fn is_name(word: &[u8]) -> bool
     word.len() <= 32 && begins_with_letter(word) && is_word(word) && !is_connective(word)
 }
 
-/// Whether a word is one letter or digit.
+/// Whether a word is a single letter or digit.
 pub(crate) fn is_letter_byte(word: &[u8]) -> bool
     ensures { result ≡ is_letter_byte word.now }
 {

@@ -103,7 +103,7 @@ fn push_constraints<O: Sink>(
     Ok(())
 }
 
-/// Appends the canonical text of a grammar, as a part of a longer text.
+/// Appends the canonical text of a grammar, as part of a longer text.
 pub fn push_grammar<O: Sink>(
     out: &mut OutBuffer,
     sink: &mut O,

@@ -22,7 +22,7 @@ use crate::statement::{is_header, statement_of};
 use std::alloc::Global;
 use tier_core::{TierKind, TierTable};
 
-/// Reads what the lexemes of a line say after the header.
+/// Reads what the lexemes of a line say, after the header.
 fn read_statement<'a>(
     alloc: Global,
     made: &mut Made<'a>,
@@ -37,7 +37,7 @@ fn read_statement<'a>(
     add(alloc, made, &statement)
 }
 
-/// Reads one line after those before it.
+/// Reads one line, after the lines before it.
 fn read_line<'a>(
     alloc: Global,
     state: &mut Option<Made<'a>>,
@@ -66,7 +66,7 @@ fn read_line<'a>(
     }
 }
 
-/// Reads the lines of a text, up to the first that has a cause. None stands before the header.
+/// Reads the lines of a text, up to the first that has a cause. None: no header has come yet.
 fn read_lines(alloc: Global, bytes: &[u8]) -> Result<Option<Made<'_>>, GrammarErr>
     requires { length bytes.now ≤ 65536 }
     ensures { MatchResult result
@@ -111,7 +111,7 @@ fn names_of(alloc: Global, tiers: &Tiers<'_>) -> Result<Vec<String>, GrammarErr>
 {
     let mut names = Vec::new(alloc);
     for name in tiers.keys() {
-        // A name is ASCII, so that nothing of it is lost.
+        // A name is ASCII, so nothing of it is lost.
         names.push(String::from_utf8_lossy(alloc, name)?)?;
     }
     Ok(names)
@@ -128,7 +128,7 @@ fn kinds_of(alloc: Global, tiers: &Tiers<'_>) -> Result<Vec<TierKind>, GrammarEr
     Ok(kinds)
 }
 
-/// The grammar of what all lines have made.
+/// The grammar that all lines together have made.
 fn finish(alloc: Global, made: Made<'_>) -> Result<Grammar, GrammarErr>
     requires { IsGrammar (made_value made) }
     ensures { MatchResult result (λ g. value_of g ≡ made_value made.entry)
@@ -145,9 +145,9 @@ fn finish(alloc: Global, made: Made<'_>) -> Result<Grammar, GrammarErr>
 
 /// Reads the text of a grammar, which has at most 65,536 bytes.
 ///
-/// The first line that has a cause gives it, with its number from 1. After the last line come
-/// `NoInput` and `NoOvert` with line 0. A text in which no line has tokens gives `BadHeader` with
-/// line 1. `NoMemory` may come in place of any answer.
+/// The error is the first cause of the first line that has one, with that line's number, counted
+/// from 1. If no line has a cause, `NoInput` and `NoOvert` are tried, with line 0. A text without
+/// any tokens gives `BadHeader` with line 1. `NoMemory` may come in place of any other answer.
 pub fn read_grammar(alloc: Global, bytes: &[u8]) -> Result<Grammar, GrammarErr>
     requires { length bytes.now ≤ 65536 }
     ensures { MatchResult result

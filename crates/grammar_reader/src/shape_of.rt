@@ -11,7 +11,7 @@ fn one_where(is_stretch: bool) -> u32
     if is_stretch { 1 } else { 0 }
 }
 
-/// How many stretch implications are among the first constraints, for none of them, one, and so on.
+/// The number of stretch implications among the first r constraints, for each r from 0.
 fn phases(alloc: Global, constraints: &[Constraint]) -> Result<Vec<u32>, NoMemory>
     requires { length constraints.now ≤ 24 }
     ensures { IfOk result (λ v. v.items ≡ stretch_counts constraints.now) }
@@ -31,8 +31,8 @@ fn phases(alloc: Global, constraints: &[Constraint]) -> Result<Vec<u32>, NoMemor
     Ok(phases)
 }
 
-/// What the text of an answer takes from a grammar: its width, its input tiers, and how many
-/// stretch implications are among its first constraints.
+/// What the text of an answer takes from a grammar: its width, its input tiers, and for each r the
+/// number of stretch implications among its first r constraints. Fails only if memory runs out.
 pub fn shape(alloc: Global, grammar: &Grammar) -> Result<Shape, NoMemory>
     ensures { IfOk result (IsShapeOf grammar.now) }
 {

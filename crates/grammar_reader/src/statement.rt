@@ -11,7 +11,7 @@ use crate::lexeme::{Lexeme, LineErr};
 use std::alloc::Global;
 use tier_core::{Family, TierKind};
 
-/// What a line says, apart from all other lines.
+/// What a line says, on its own.
 #[derive(Drop)]
 pub(crate) enum Statement<'a> {
     /// `tier NAME KIND`
@@ -67,7 +67,7 @@ fn word_of(lexeme: Lexeme<'_>) -> Option<&[u8]>
     }
 }
 
-/// The words of lexemes that are all words.
+/// The words of lexemes, if all of them are words.
 fn words<'a>(alloc: Global, lexemes: &[Lexeme<'a>]) -> Result<Vec<&'a [u8]>, LineErr>
     ensures { MatchResult result
         (λ v. each_some word_of (map seen lexemes.entry.now) ≡ Some (map (λ w. w.now) v.items))
@@ -95,7 +95,7 @@ fn letter_line<'a>(alloc: Global, lexemes: &[Lexeme<'a>]) -> Result<Statement<'a
     }
 }
 
-/// How many lexemes stand before the first `->` or `#`.
+/// The number of lexemes before the first `->` or `#`.
 fn before_sign(lexemes: &[Lexeme<'_>]) -> usize
     ensures place { result ≡ position_or_len is_sign (map seen lexemes.now) }
     ensures within { result ≤ length lexemes.now }
@@ -131,7 +131,7 @@ fn sides<'a>(
     Ok(Statement::Constraint(name, family, left, right))
 }
 
-/// A constraint line is cut at its first sign.
+/// The statement of a constraint's line, which is cut at its first sign.
 fn sides_of<'a>(
     alloc: Global,
     name: &'a [u8],
@@ -160,7 +160,7 @@ fn constraint_line<'a>(alloc: Global, lexemes: &[Lexeme<'a>]) -> Result<Statemen
     }
 }
 
-/// What a line says, or BadLine where its lexemes have none of the forms.
+/// What a line says, or BadLine if its lexemes have none of the forms.
 pub(crate) fn statement_of<'a>(
     alloc: Global,
     lexemes: &[Lexeme<'a>],

@@ -1,13 +1,13 @@
 ghost use Rattle.std.specs.Prelude.{◌≡◌, ◌+◌, ◌<◌, ◌≤◌, ◌∷◌, [], ◌++◌, length, map};
 
-/// A word of a line: a sign or a name, with the `[` or `]` that stands before it, if there is one.
+/// A word of a line: a sign or a name, with the `[` or `]` before it, if there is one.
 #[derive(Clone, Copy)]
 pub(crate) struct Word<'a> {
     pub mark: &'a [u8],
     pub text: &'a [u8],
 }
 
-/// How many words a line has at most.
+/// The greatest number of words in a line.
 const ROOM: usize = 40;
 
 /// The words of one line of a grammar text.
@@ -22,7 +22,7 @@ pub(crate) struct Words<'a> {
 impl<'a> Words<'a> {
     ghost use Rattle.grammar_reader.specs.Words.{texts_of, word_text};
 
-    /// A line that begins with this word.
+    /// A line that has this word so far.
     pub fn begin(text: &'a [u8]) -> Words<'a>
         ensures words { texts_of result ≡ text.entry.now ∷ [] }
         ensures len { result.len ≡ 1 }

@@ -1,5 +1,9 @@
 use Rattle.grammar_reader.proofs.SliceLaw.{tokens_slices}
+use Rattle.grammar_reader.proofs.TokenOrder.{tokens_ascending}
 use Rattle.grammar_reader.proofs.slices.tokens_are_slices.Goals as goal
 
-pub returns : goal.returns
-returns c = tokens_slices
+pub returns-clause-slices : goal.returns-clause-slices
+returns-clause-slices c = tokens_slices
+
+pub returns-clause-ascending : goal.returns-clause-ascending
+returns-clause-ascending c = tokens_ascending

@@ -52,7 +52,7 @@ met_told kind i = by (has_tier kind.unmet i) (has_tier kind.met i)
     by false true = refl
     by false false = refl
 
-next_append : (cs : List Constraint) (ps : List Phase) (c : Constraint) (p : Phase) (column : List Sym) → length ps ≡ length cs
+pub next_append : (cs : List Constraint) (ps : List Phase) (c : Constraint) (p : Phase) (column : List Sym) → length ps ≡ length cs
     → next_phases (cs ++ c ∷ []) (ps ++ p ∷ []) column ≡ next_phases cs ps column ++ next_phase c.left c.right p column ∷ []
 next_append [] [] c p column e = refl
 next_append [] (q ∷ ps) c p column e = absurd (omega arith)

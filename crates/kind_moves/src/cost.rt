@@ -11,7 +11,7 @@ use tier_core::{Constraint, Event, Family, Sym, has_bit, has_edge_type};
 use violation::{has_edge_among, is_counted_at};
 
 /// Whether the tiers of all types are in a mask.
-fn are_all_in(mask: u16, types: &[Event]) -> bool
+pub(crate) fn are_all_in(mask: u16, types: &[Event]) -> bool
     requires { All (λ e. e.tier < 12) types.now }
     ensures { result ≡ list_all (λ e. has_tier mask e.tier) types.now }
 {
@@ -20,7 +20,7 @@ fn are_all_in(mask: u16, types: &[Event]) -> bool
 
 /// Whether a type of which an event is chosen is an edge: a clash chooses on both sides, an
 /// implication on the left.
-fn is_edge_chosen(family: Family, left: &[Event], right: &[Event]) -> bool
+pub(crate) fn is_edge_chosen(family: Family, left: &[Event], right: &[Event]) -> bool
     ensures { result ≡ has_edge_type (chosen family left.now right.now) }
 {
     match family {

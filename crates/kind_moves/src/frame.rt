@@ -83,7 +83,7 @@ impl<'a> Frame<'a> {
     }
 
     /// The mask of the tiers that are open at a kind.
-    fn open_at(&self, kind: &Kind) -> u16
+    pub(crate) fn open_at(&self, kind: &Kind) -> u16
         requires { kind.now.place ≤ length (form_in self.now) }
         ensures { (stage t : ℕ) → has_tier result t ≡ is_tier_open (problem_in self.now) (kind_at_stage self.now stage kind.now) t }
     {

@@ -10,14 +10,24 @@
 //! Derivation in Optimality Theory (COLING 1994); that its states are kinds is this project's.
 #![tactic(auto)]
 
+mod ask;
+mod asked;
+mod boxes;
 mod cost;
+mod cost_tests;
 mod fit;
+mod fit_boxes;
+mod fitting;
 mod frame;
 mod laws;
 mod mask;
+mod move_tests;
 mod open;
+mod parting;
 mod phase;
 mod phase_masks;
+mod piece;
+mod pieces;
 #[cfg(test)]
 mod tests;
 
@@ -25,3 +35,4 @@ pub use frame::Frame;
 pub use laws::{
     costs_are_violations, kinds_are_told_apart, kinds_go_by_moves, moves_are_of_candidates,
 };
+pub use piece::Piece;

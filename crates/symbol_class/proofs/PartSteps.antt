@@ -8,6 +8,7 @@ use Rattle.std.proofs.lemmas.List.Sums.{get_or-le-sum_by, sum_by_more}
 use Rattle.tier_core.specs.declared.sym.Sym.{Sym}
 use Rattle.tier_core.specs.declared.class.Class.{Class}
 use Rattle.tier_core.specs.Classes.{sets_of, sets_have, has}
+use Rattle.tier_core.proofs.ClassLemmas.{same_width}
 use Rattle.tier_core.proofs.ClassSets.{same_sets}
 use Rattle.symbol_class.specs.declared.difference.Difference.{Difference}
 use Rattle.symbol_class.specs.Filled.{is_filled}
@@ -241,4 +242,45 @@ parted_same width test wholes pieces alike = record {
     within = λ column h. h;
   };
   alike = alike;
+}
+
+-- ---- parts of parts
+
+alike_at : {X : Type 0} (f : List Sym → X) (xs : List Class) (x : Class) → All (IsAlike f) xs → Contains xs x → IsAlike f x
+alike_at f xs x all c = subst (IsAlike f) c.2 (all c.0 x c.1)
+
+pub part_of_part : (xs ys : List Class) (z : Class) → All (IsPartOf xs) ys → IsPartOf ys z → IsPartOf xs z
+part_of_part xs ys z all p =
+    let q : IsPartOf xs p.whole = subst (IsPartOf xs) p.listed.2 (all p.listed.0 p.whole p.listed.1) in
+    record { whole = q.whole; listed = q.listed; within = λ column h. q.within column (p.within column h) }
+
+-- what is alike in some pieces is alike in their parts
+pub alike_parts : {X : Type 0} (f : List Sym → X) (xs ys : List Class) → All (IsAlike f) xs → All (IsPartOf xs) ys → All (IsAlike f) ys
+alike_parts f xs ys alike within k d inside x y in_x in_y =
+    let p = within k d inside in
+    alike_at f xs p.whole alike p.listed x y (p.within x in_x) (p.within y in_y)
+
+-- parts are parted again, and what hangs on both tests alone is alike in the last parts
+pub parted_then : {X Y Z : Type 0} (width : ℕ) (f : List Sym → X) (g : List Sym → Y) (h : List Sym → Z) (xs ys zs : List Class)
+    → ((c d : List Sym) → length c ≡ width → length d ≡ width → f c ≡ f d → g c ≡ g d → h c ≡ h d)
+    → ArePartedBy width f xs ys → ArePartedBy width g ys zs → ArePartedBy width h xs zs
+parted_then width f g h xs ys zs hangs p q = record {
+  pieces = q.pieces;
+  held = λ column. q.held column ∙ p.held column;
+  within = λ k d inside. part_of_part xs ys (get_or zs k d) p.within (q.within k d inside);
+  alike = λ k d inside x y in_x in_y.
+      let wide = q.pieces.one_width k d inside in
+      hangs x y (same_width (sets_of (get_or zs k d)) x in_x ∙ wide) (same_width (sets_of (get_or zs k d)) y in_y ∙ wide)
+      (alike_parts f ys zs p.alike q.within k d inside x y in_x in_y) (q.alike k d inside x y in_x in_y);
+}
+
+pub parted_weaker : {X Z : Type 0} (width : ℕ) (f : List Sym → X) (h : List Sym → Z) (xs ys : List Class)
+    → ((c d : List Sym) → length c ≡ width → length d ≡ width → f c ≡ f d → h c ≡ h d) → ArePartedBy width f xs ys → ArePartedBy width h xs ys
+parted_weaker width f h xs ys hangs p = record {
+  pieces = p.pieces;
+  held = p.held;
+  within = p.within;
+  alike = λ k d inside x y in_x in_y.
+      let wide = p.pieces.one_width k d inside in
+      hangs x y (same_width (sets_of (get_or ys k d)) x in_x ∙ wide) (same_width (sets_of (get_or ys k d)) y in_y ∙ wide) (p.alike k d inside x y in_x in_y);
 }

@@ -6,7 +6,7 @@ use Rattle.tier_core.specs.declared.sym.Sym.{Sym}
 use Rattle.tier_core.specs.declared.event.Event.{Event}
 use Rattle.tier_core.specs.Timelines.{symbol, is_edge}
 use Rattle.tier_core.specs.Sides.{edge_among}
-use Rattle.violation.specs.Columns.{is_present, part_present}
+use Rattle.violation.specs.Columns.{is_present}
 use Rattle.kind_moves.specs.declared.ask.Ask.TheVariants.{Present, Absent, NoEdge}
 use Rattle.kind_moves.specs.Asks.{answers}
 

@@ -7,10 +7,10 @@ use Rattle.tier_core.specs.declared.kind.Kind.{Kind}
 use Rattle.tier_core.specs.declared.sym.Sym.{Sym}
 use Rattle.tier_core.specs.declared.constraint.Constraint.{Constraint}
 use Rattle.tier_core.specs.Kinds.{Phase}
-use Rattle.tier_core.specs.Tiers.{Tiers, has_tier}
+use Rattle.tier_core.specs.Tiers.{has_tier}
 use Rattle.tier_core.specs.Sides.{is_stretch}
 use Rattle.tier_core.proofs.CountLemmas.{all_of}
-use Rattle.violation.specs.Candidates.{IsForm, IsCandidate, vec, counts_on}
+use Rattle.violation.specs.Candidates.{IsForm, IsCandidate, counts_on}
 use Rattle.violation.specs.Conditions.{AreSplit, IsOverTiers}
 use Rattle.violation.specs.Counts.{violations_so_far}
 use Rattle.violation.specs.Moves.{costs, first_phase, is_tier_open, is_unmet_phase, move_costs, moved}

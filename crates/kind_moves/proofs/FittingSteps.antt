@@ -1,7 +1,8 @@
 -- The pieces of a class that fit a kind.
-use Rattle.std.proofs.Common.{◌≡◌, ◌↔◌, ◌⊎◌, ℕ, zero, suc, ◌+◌, ◌<◌, ◌≤◌, Bool, true, false, not, ◌&&◌, ◌||◌, IsTrue, List, [], ◌∷◌, map, length, get_or, refl, ap, sym, ◌∙◌, subst, arith, ⊎_elim, inl, inr, All}
-use Rattle.std.specs.List.{list_any, AllByRecursion}
+use Rattle.std.proofs.Common.{◌≡◌, ◌↔◌, ◌⊎◌, ℕ, zero, suc, ◌+◌, ◌<◌, Bool, true, false, not, ◌&&◌, ◌||◌, IsTrue, List, [], ◌∷◌, ◌++◌, map, length, refl, ap, sym, ◌∙◌, subst, arith, ⊎_elim, inl, inr, All}
+use Rattle.std.specs.List.{AllByRecursion}
 use Rattle.std.proofs.lemmas.Bool.{false≢true, both_ways, and_parts, and_from, or_cases, or_left, or_right, and_right, or_from, not-true, false_from_ne_true, cases_Bool}
+use Rattle.std.proofs.lemmas.List.Elements.{All-from_recursion}
 use Rattle.std.proofs.lemmas.List.Folds.{list_any_at}
 use Rattle.tier_core.specs.declared.class.Class.{Class}
 use Rattle.tier_core.specs.declared.kind.Kind.{Kind}
@@ -12,10 +13,12 @@ use Rattle.tier_core.specs.Scan.{fits}
 use Rattle.tier_core.specs.Timelines.{symbol, column_at, is_edge, has_edge}
 use Rattle.tier_core.specs.Tiers.{has_tier}
 use Rattle.tier_core.proofs.ClassLemmas.{same_width}
-use Rattle.symbol_class.specs.Held.{some_has, once_if, ArePieces, AddsClasses}
-use Rattle.symbol_class.specs.Parts.{IsAlike, AddsAlike}
+use Rattle.symbol_class.specs.Filled.{is_filled}
+use Rattle.symbol_class.specs.Held.{once_if, times_held, AddsClasses}
+use Rattle.symbol_class.proofs.Filled.{empty_holds}
+use Rattle.symbol_class.specs.Parts.{AddsAlike}
 use Rattle.symbol_class.proofs.PartSteps.{adds_constant, alike_then}
-use Rattle.symbol_class.proofs.Times.{adds_same, pieces_added, columns_added}
+use Rattle.symbol_class.proofs.Times.{adds_none, adds_same, times-cons, pieces_added, columns_added}
 use Rattle.violation.specs.Moves.{input_of, is_tier_open}
 use Rattle.violation.proofs.SplitLemmas.{tiers_split}
 use Rattle.kind_moves.specs.declared.frame.Frame.{Frame}
@@ -39,6 +42,33 @@ input_edge [] column below e = absurd (false≢true e)
 input_edge (t ∷ ts) column below e =
     ⊎_elim (λ here. list_any_at is_edge column t Outside below.0 here) (λ there. input_edge ts column below.1 there)
     (or_cases (is_edge (symbol column t)) (has_edge (map (symbol column) ts)) e)
+
+-- ---- one class without another
+
+pub rest_of_none : (old : List Class) (a b : Class) → is_filled a ≡ false
+    → AddsClasses (length (sets_of a)) old old (λ column. once_if (has a column && not (has b column)))
+rest_of_none old a b empty =
+    adds_none (length (sets_of a)) old (λ column. once_if (has a column && not (has b column)))
+    (λ column. ap (λ held. once_if (held && not (has b column))) (empty_holds a column empty))
+
+apart_once : (p q : Bool) → (p && q) ≡ false → once_if p ≡ once_if (p && not q)
+apart_once true true h = absurd (false≢true (sym h))
+apart_once true false h = refl
+apart_once false q h = refl
+
+pub rest_apart : (old new : List Class) (a b both : Class) → is_filled a ≡ true → is_filled both ≡ false
+    → ((column : List Sym) → has both column ≡ (has a column && has b column)) → new ≡ old ++ a ∷ []
+    → AddsClasses (length (sets_of a)) old new (λ column. once_if (has a column && not (has b column)))
+rest_apart old new a b both filled empty meets is = record {
+  added = a ∷ [];
+  new_is = is;
+  one_width = All-from_recursion (λ class. length (sets_of class) ≡ length (sets_of a)) (a ∷ []) (refl, tt);
+  filled = All-from_recursion (λ class. IsTrue (is_filled class)) (a ∷ []) (filled, tt);
+  held = λ column.
+      let none : times_held [] column ≡ 0 = refl in
+      let once = apart_once (has a column) (has b column) (sym (meets column) ∙ empty_holds both column empty) in
+      omega (arith, times-cons a [] column, none, once);
+}
 
 -- ---- the two kinds of pieces
 

@@ -8,17 +8,14 @@ use Rattle.std.proofs.lemmas.List.{length-map}
 use Rattle.std.proofs.lemmas.List.Elements.{All-from_recursion, recursion_from_All}
 use Rattle.std.proofs.Props.{props}
 use Rattle.tier_core.specs.declared.event.Event.{Event}
-use Rattle.tier_core.specs.declared.sym.Sym.{Sym}
 use Rattle.tier_core.specs.declared.constraint.Constraint.{Constraint}
 use Rattle.tier_core.specs.declared.tier.TierKind.{TierKind}
 use Rattle.tier_core.specs.Timelines.{word, has_edge}
-use Rattle.tier_core.specs.Tiers.{Tiers}
 use Rattle.tier_core.specs.Sides.{is_stretch}
 use Rattle.tier_core.proofs.WordLemmas.{runs}
 use Rattle.tier_core.proofs.WordForm.{runs_from_well_formed, well_formed_from_runs}
 use Rattle.violation.specs.Candidates.{IsForm}
 use Rattle.violation.specs.Conditions.{AreTiersBelow, IsOverTiers}
-use Rattle.violation.specs.Prefixes.{stretches}
 use Rattle.grammar_reader.specs.declared.grammar.Grammar.{Grammar}
 use Rattle.grammar_reader.specs.Values.{is_side, has_sides}
 use Rattle.grammar_reader.specs.Seen.{tiers_by, constraint_seen}

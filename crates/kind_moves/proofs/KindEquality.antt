@@ -1,5 +1,5 @@
 -- Kinds that fit a frame are told apart by what their bits tell.
-use Rattle.std.proofs.Common.{◌≡◌, ℕ, zero, suc, ◌^◌, ◌==◌, ◌<◌, false, cond, map, length, get_or, refl, ap, sym, ◌∙◌, subst, arith, ⊎_elim, bit_and}
+use Rattle.std.proofs.Common.{◌≡◌, ℕ, ◌^◌, ◌<◌, false, cond, map, length, get_or, ap, sym, ◌∙◌, subst, arith, ⊎_elim, bit_and}
 use Rattle.std.specs.Int.{bit_at}
 use Rattle.std.specs.List.{range_with_len}
 use Rattle.std.proofs.Props.{props}

@@ -22,7 +22,7 @@ use Rattle.violation.proofs.PrefixLemmas.{nothing_begun, tier_open_is}
 use Rattle.violation.proofs.SplitLemmas.{tiers_split}
 use Rattle.violation.proofs.WalkLemmas.{moves_begin, moves_end, reached_is, same_kind}
 use Rattle.kind_moves.specs.declared.frame.Frame.{Frame}
-use Rattle.kind_moves.specs.Frames.{tiers_in, constraints_in, form_in, stretches_in, kind_at_stage, is_left_open, AreClosedOr, FitsAt, FitsFrame, IsMove, IsStart}
+use Rattle.kind_moves.specs.Frames.{tiers_in, form_in, stretches_in, kind_at_stage, is_left_open, AreClosedOr, FitsAt, FitsFrame, IsMove, IsStart}
 use Rattle.kind_moves.specs.Laws.{LeadsTo}
 use Rattle.kind_moves.specs.Phases.{phases_by}
 use Rattle.kind_moves.proofs.GrammarTiers.{over_stretches, form_from}

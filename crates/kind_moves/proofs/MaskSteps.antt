@@ -1,12 +1,12 @@
 -- Masks that loops make tier by tier.
-use Rattle.std.proofs.Common.{subst, ◌≡◌, ◌≢◌, ℕ, zero, suc, ◌+◌, ◌^◌, ◌==◌, ◌<◌, ◌≤◌, ◌||◌, Bool, true, false, cond, List, [], ◌∷◌, ◌++◌, map, max, length, refl, ap, sym, ◌∙◌, arith, add-one, ⊎_elim, eq-eqb, ne_eqb, bit_or}
+use Rattle.std.proofs.Common.{subst, ◌≡◌, ◌≢◌, ℕ, zero, suc, ◌+◌, ◌-◌, ◌^◌, ◌==◌, ◌<◌, ◌≤◌, ◌||◌, Bool, true, false, cond, List, [], ◌∷◌, ◌++◌, map, max, min, length, refl, ap, sym, ◌∙◌, arith, add-one, ⊎_elim, eq-eqb, ne_eqb, bit_and, bit_or}
 use Rattle.std.specs.Int.{bit_at}
 use Rattle.std.specs.List.{AllByRecursion}
 use Rattle.std.proofs.lemmas.Bool.{cases_lt}
 use Rattle.std.proofs.lemmas.List.{append-nil, map-append, length_push, get_or_past}
 use Rattle.std.proofs.lemmas.List.FromFn.{fill_by_all, length-map-range_with_len, get_or-map-range_with_len, map-range_with_len_more}
 use Rattle.std.proofs.lemmas.Nat.{pow_below}
-use Rattle.std.proofs.lemmas.Nat.Bits.{bit_at_above, bit_at_or, bit_at-lt}
+use Rattle.std.proofs.lemmas.Nat.Bits.{bit_at_above, bit_at_and, bit_at_ones, bit_at_or, bit_at-lt}
 use Rattle.tier_core.specs.declared.sym.Sym.{Sym}
 use Rattle.tier_core.specs.declared.sym.Sym.TheVariants.{Outside}
 use Rattle.tier_core.specs.Kinds.{open_tiers}
@@ -50,6 +50,23 @@ tiers_lower tiers (suc n) = all_append (λ t. t < suc n) (tiers_below tiers n) (
     own : (b : Bool) → AllByRecursion (λ t. t < suc n) (cond b (n ∷ []) [])
     own true = (omega arith, tt)
     own false = tt
+
+bit_and_one : (x : ℕ) → x < 2 → min x 1 ≡ x
+bit_and_one zero l = refl
+bit_and_one (suc zero) l = refl
+bit_and_one (suc (suc x)) l = absurd (omega arith)
+
+-- the lowest bits of a mask
+pub lowest_at : (mask count ones t : ℕ) → ones ≡ 2 ^ count - 1 → t < count
+    → has_tier (bit_and mask ones) t ≡ has_tier mask t
+lowest_at mask count ones t is l = ap (λ n. n == 1)
+    (bit_at_and mask ones t ∙ ap (λ n. min (bit_at mask t) n) (ap (λ m. bit_at m t) is ∙ bit_at_ones count t l)
+    ∙ bit_and_one (bit_at mask t) (bit_at-lt mask t))
+
+-- masks with the same lowest bits have the same flags
+pub same_flags : (n a b : ℕ) → ((t : ℕ) → t < n → has_tier a t ≡ has_tier b t) → open_tiers n a ≡ open_tiers n b
+same_flags n a b h = fill_by_all (has_tier b) (open_tiers n a) n false (length-map-range_with_len (has_tier a) 0 n)
+    (λ k l. get_or-map-range_with_len (has_tier a) 0 n k k false l (omega arith) ∙ h k l)
 
 -- ---- flags that are laid out on tiers
 
@@ -144,9 +161,7 @@ pub taken_more : (tiers mask n next flags more : ℕ) → AreTaken tiers mask n 
     → ((t : ℕ) → t < next → has_tier more t ≡ has_tier flags t) → AreTaken tiers mask (n + 1) (next + 1) more
 taken_more tiers mask n next flags more a h within here others =
     let tb = tiers_below tiers n in
-    let same : open_tiers next flags ≡ open_tiers next more = fill_by_all (has_tier more)
-    (open_tiers next flags) next false (length-map-range_with_len (has_tier flags) 0 next)
-    (λ k l. get_or-map-range_with_len (has_tier flags) 0 next k k false l (omega arith) ∙ sym (others k l)) in
+    let same : open_tiers next flags ≡ open_tiers next more = same_flags next flags more (λ t l. sym (others t l)) in
     record {
       count = omega (arith, a.count, ap length (tiers_more tiers n h), length_push tb n);
       few = omega (arith, a.few);

@@ -1,5 +1,5 @@
 -- Which tiers are open after a move, and which phases are closed.
-use Rattle.std.proofs.Common.{◌≡◌, ◌≢◌, ℕ, zero, suc, ◌+◌, ◌<◌, ◌||◌, ◌&&◌, not, Bool, true, false, cond, List, [], ◌∷◌, map, take, length, get_or, refl, ap, sym, ◌∙◌, arith, ⊎_elim, eq-eqb, ne_eqb, Contains}
+use Rattle.std.proofs.Common.{◌≡◌, ℕ, zero, suc, ◌+◌, ◌<◌, ◌||◌, ◌&&◌, not, Bool, true, false, cond, List, [], ◌∷◌, map, take, length, get_or, refl, ap, sym, ◌∙◌, arith, ⊎_elim, Contains}
 use Rattle.std.specs.List.{AllByRecursion, list_all, list_any}
 use Rattle.std.proofs.lemmas.Bool.{false≢true}
 use Rattle.std.proofs.lemmas.List.{length-map, get_or-map}
@@ -12,11 +12,10 @@ use Rattle.tier_core.specs.declared.constraint.Constraint.{Constraint}
 use Rattle.tier_core.specs.Kinds.{Phase, closed, unmet, met, PrefixKind}
 use Rattle.tier_core.specs.Scan.{fits, opens}
 use Rattle.tier_core.specs.Timelines.{word, symbol, is_edge, has_edge}
-use Rattle.tier_core.specs.Tiers.{Tiers}
 use Rattle.tier_core.proofs.CountLemmas.{all_weaker}
 use Rattle.violation.specs.Candidates.{IsForm}
 use Rattle.violation.specs.Columns.{opens_all}
-use Rattle.violation.specs.Conditions.{AreSplit, AreDistinct, AreTiersBelow, IsOverTiers}
+use Rattle.violation.specs.Conditions.{AreSplit, AreTiersBelow, IsOverTiers}
 use Rattle.violation.specs.Moves.{FitsKind, flag_of, form_opened, is_tier_open, input_of, moved, next_phase, next_phases}
 use Rattle.violation.specs.Prefixes.{is_open, phase}
 use Rattle.violation.proofs.CountSteps.{all_agree}

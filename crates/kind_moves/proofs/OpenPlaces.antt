@@ -1,5 +1,5 @@
 -- The masks of the tiers of a table, and which input tiers are open at the places of a form.
-use Rattle.std.proofs.Common.{◌≡◌, ◌↔◌, ℕ, zero, suc, ◌^◌, ◌==◌, ◌<◌, ◌≤◌, ◌||◌, Bool, true, false, cond, IsTrue, List, [], ◌∷◌, map, take, length, get_or, refl, ap, sym, ◌∙◌, arith, bit_or}
+use Rattle.std.proofs.Common.{◌≡◌, ◌↔◌, ℕ, suc, ◌^◌, ◌==◌, ◌<◌, ◌≤◌, ◌||◌, Bool, true, false, cond, IsTrue, List, [], ◌∷◌, map, take, length, get_or, refl, ap, sym, ◌∙◌, arith, bit_or}
 use Rattle.std.specs.List.{range_with_len}
 use Rattle.std.proofs.lemmas.Bool.{false≢true}
 use Rattle.std.proofs.lemmas.List.{length-map, get_or-map}
@@ -15,7 +15,7 @@ use Rattle.tier_core.specs.Scan.{opens}
 use Rattle.tier_core.specs.Timelines.{word, symbol, column_at}
 use Rattle.tier_core.specs.Tiers.{Tiers, is_free, is_overt, kind_at, has_tier, tiers_of, numbers_from}
 use Rattle.tier_core.proofs.TableMasks.{IsMaskOf, tiers_of_mask, mask_of_kind, overt_alone}
-use Rattle.tier_core.proofs.WordLemmas.{open_at, open_suc}
+use Rattle.tier_core.proofs.WordLemmas.{open_suc}
 use Rattle.tier_core.proofs.WordForm.{runs_from_well_formed}
 use Rattle.violation.specs.Candidates.{IsForm}
 use Rattle.violation.specs.Moves.{flag_of, form_opened}

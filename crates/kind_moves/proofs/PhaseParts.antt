@@ -1,5 +1,5 @@
 -- Pieces that are parted by the phases of the first stretch implications.
-use Rattle.std.proofs.Common.{◌≡◌, ℕ, ◌+◌, ◌<◌, ◌≤◌, Bool, true, false, cond, List, [], ◌∷◌, ◌++◌, take, filter, length, get_or, refl, ap, sym, ◌∙◌, subst, arith, All}
+use Rattle.std.proofs.Common.{◌≡◌, ℕ, ◌+◌, ◌<◌, ◌≤◌, true, false, cond, List, [], ◌∷◌, ◌++◌, take, filter, length, get_or, refl, ap, sym, ◌∙◌, subst, arith}
 use Rattle.std.proofs.lemmas.List.{length_push, append-nil, take_all}
 use Rattle.std.proofs.lemmas.List.Elements.{filter_more}
 use Rattle.std.proofs.lemmas.List.FromFn.{length-map-range_with_len, map-range_with_len_more}
@@ -10,8 +10,8 @@ use Rattle.tier_core.specs.declared.constraint.Constraint.{Constraint}
 use Rattle.tier_core.specs.Kinds.{Phase, phase_at, phases}
 use Rattle.tier_core.specs.Sides.{is_stretch}
 use Rattle.symbol_class.specs.Held.{ArePieces}
-use Rattle.symbol_class.specs.Parts.{IsAlike, ArePartedBy}
-use Rattle.symbol_class.proofs.PartSteps.{parted_same, parted_then, parted_weaker}
+use Rattle.symbol_class.specs.Parts.{ArePartedBy}
+use Rattle.symbol_class.proofs.PartSteps.{parted_same, parted_then}
 use Rattle.violation.specs.Moves.{next_phase, next_phases}
 use Rattle.kind_moves.proofs.PhaseMaskSteps.{next_append}
 

@@ -1,6 +1,5 @@
-use Rattle.std.proofs.Common.{ap, sym, ◌∙◌, arith}
+use Rattle.std.proofs.Common.{sym, ◌∙◌, arith}
 use Rattle.tier_core.specs.Classes.{has}
-use Rattle.tier_core.specs.Sets.{single_set}
 use Rattle.kind_moves.proofs.FitBoxSteps.{reads_more, reads_same, reads_none}
 use Rattle.kind_moves.proofs.fit_boxes.with_input.Goals as goal
 use Rattle.kind_moves.proofs.fit_boxes.with_input.Goals.{then-is_input+else-next-form, else-is_input}

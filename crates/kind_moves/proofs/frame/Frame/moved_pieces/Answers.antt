@@ -1,5 +1,4 @@
-use Rattle.std.proofs.Common.{◌≡◌, ℕ, List, take, filter, length, sym, ◌∙◌, subst, All}
-use Rattle.tier_core.specs.declared.class.Class.{Class}
+use Rattle.std.proofs.Common.{List, take, filter, length, sym, ◌∙◌, subst}
 use Rattle.tier_core.specs.declared.constraint.Constraint.{Constraint}
 use Rattle.tier_core.specs.Kinds.{phases}
 use Rattle.tier_core.specs.Sides.{is_stretch}

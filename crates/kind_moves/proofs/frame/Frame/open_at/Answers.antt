@@ -6,7 +6,6 @@ use Rattle.violation.specs.Moves.{flag_of, form_opened}
 use Rattle.kind_moves.specs.Frames.{tiers_in, form_in}
 use Rattle.kind_moves.proofs.MaskSteps.{or_tier}
 use Rattle.kind_moves.proofs.frame.Frame.open_at.Goals as goal
-use Rattle.kind_moves.specs.Frames.{problem_in}
 
 pub returns : goal.returns
 returns c stage t =

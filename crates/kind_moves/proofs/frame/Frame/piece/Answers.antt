@@ -1,7 +1,4 @@
-use Rattle.std.proofs.Common.{◌≡◌, IsTrue, length, sym, ◌∙◌}
-use Rattle.tier_core.specs.Classes.{sets_of, has}
-use Rattle.tier_core.proofs.ClassLemmas.{same_width}
-use Rattle.kind_moves.specs.Frames.{tiers_in}
+use Rattle.std.proofs.Common.{◌∙◌}
 use Rattle.kind_moves.proofs.frame.Frame.piece.Goals as goal
 
 pub returns-clause-piece : goal.returns-clause-piece

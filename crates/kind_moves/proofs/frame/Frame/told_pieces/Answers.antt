@@ -1,7 +1,6 @@
-use Rattle.std.proofs.Common.{◌≡◌, [], ◌∷◌, ◌++◌, map, take, get_or, All, ap, ap₂, sym, ◌∙◌, subst}
+use Rattle.std.proofs.Common.{[], ◌∷◌, ◌++◌, All, ap, ap₂, sym, ◌∙◌, subst}
 use Rattle.std.proofs.lemmas.List.{map-append, take_more}
 use Rattle.std.proofs.lemmas.List.Elements.{All-push}
-use Rattle.tier_core.specs.declared.class.Class.{Class}
 use Rattle.kind_moves.specs.declared.piece.Piece.{Piece}
 use Rattle.kind_moves.specs.Pieces.{classes_of, IsPiece}
 use Rattle.kind_moves.proofs.frame.Frame.told_pieces.Goals as goal

@@ -8,3 +8,11 @@ pub mod LawSteps
 pub mod CostSteps
 pub mod CostLaws
 pub mod KindEquality
+pub mod BoxSets
+pub mod Answering
+pub mod PhaseAlike
+pub mod PhaseParts
+pub mod FitBoxSteps
+pub mod FittingSteps
+pub mod PieceSteps
+pub mod StretchCounts

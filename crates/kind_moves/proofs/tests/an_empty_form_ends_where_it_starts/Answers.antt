@@ -1,7 +1,4 @@
 use Rattle.kind_moves.proofs.tests.an_empty_form_ends_where_it_starts.Goals as goal
 
-pub at_end-requires-clause-place : goal.at_end-requires-clause-place
-at_end-requires-clause-place g c = (c.start.ensures 0).fits.place
-
-pub at_end-requires-clause-opened : goal.at_end-requires-clause-opened
-at_end-requires-clause-opened g c = (c.start.ensures 0).fits.opened
+pub at_end-requires : goal.at_end-requires
+at_end-requires g c = (c.start.ensures 0).fits.place

@@ -1,0 +1,12 @@
+use Rattle.std.proofs.Common.{◌≡◌, ℕ, ◌<◌, ◌↔◌, false, IsTrue, List, length}
+use Rattle.tier_core.specs.declared.sym.Sym.{Sym}
+use Rattle.tier_core.specs.Classes.{sets_of, has}
+use Rattle.tier_core.specs.Timelines.{symbol, is_edge}
+use Rattle.kind_moves.proofs.fit_boxes.edgeless.Given as goal
+
+abbrev pub invariant-loop-tier : goal.invariant-loop-tier
+invariant-loop-tier l = record {
+  width : length (sets_of l.rest) ≡ length (sets_of l.class);
+  columns : (column : List Sym) → IsTrue (has l.rest column)
+      ↔ (IsTrue (has l.class column) × ((t : ℕ) → t < l.tier → is_edge (symbol column t) ≡ false));
+}

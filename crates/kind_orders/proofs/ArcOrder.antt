@@ -82,8 +82,7 @@ module _ {W : Type 0} {g : Ghosts W} (nodes : List ℕ) (moves : List (TableArc 
   move_from arc column c holds =
       let lines = map (line_of nodes) moves in
       let line = goes_too arcs lines (λ to col. sym (are.held to col)) arc column c holds in
-      let move = contains_of_map (line_of nodes) moves line.0 line.1.0 in
-      (
+      let move = contains_of_map (line_of nodes) moves line.0 line.1.0 in (
         move.0,
         (
           move.1.0,

@@ -63,6 +63,17 @@ adds_joined target width classes joined old new pieces made columns differ is = 
   differ = differ;
 }
 
+-- and so is one class as it is
+pub adds_one : (target width : ℕ) (classes : List Class) (old new : List ArcLine) → length classes < 2
+    → ArePieces width classes → new ≡ old ++ map (arc_to target) classes → AddsJoined target classes old new
+adds_one target width classes old new few pieces is = record {
+  added = classes;
+  new_is = is;
+  held = λ column. refl;
+  filled = pieces.filled;
+  differ = λ i j d less inside. absurd (omega arith);
+}
+
 -- ---- lines and groups
 
 -- The first n lines are joined, but for those of the group at hand.
@@ -258,7 +269,7 @@ targets_rise lines sorted = λ i j d less inside.
     let a = get_or lines i d in
     let b = get_or lines j d in
     let kept = sorted_far (λ (x y : ArcLine). is_lt (arc_cmp x y)) (ranks_by arc_cmp_total (λ (x : ArcLine). x))
-        lines sorted i j d (omega arith) inside in
+    lines sorted i j d (omega arith) inside in
     ⊎_elim
     (λ below. absurd (true≢false (sym (ap (λ o. is_lt (ordering_then o
     (slice_cmp nat_cmp (sets_of b.class) (sets_of a.class)))) (sym (nat_cmp_is b.target a.target Less below))) ∙ kept)))

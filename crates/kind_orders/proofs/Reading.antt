@@ -161,8 +161,7 @@ module _ {W : Type 0} {g : Ghosts W} (kept : List (TableState W g)) (exist : Tar
       let arcs = line.arcs.items in
       let have = All-contains (λ (a : ArcLine). (column : List Sym) × IsTrue (has a.class column)) arcs arc
       (arcs_filled nodes (moves_at kept s) arcs is.arcs) c in
-      let m = move_from nodes (moves_at kept s) arcs is.arcs arc have.0 c have.1 in
-      (
+      let m = move_from nodes (moves_at kept s) arcs is.arcs arc have.0 c have.1 in (
         m.0,
         (
           m.1.0,

@@ -29,7 +29,7 @@ fn unsorted_lines(
     requires { All (λ arc. arc.target < length nodes.now) moves.now }
     ensures { IfOk result (λ lines. lines.items ≡ map (line_of nodes.now) moves.now) }
 {
-    let mut lines = Vec::new(alloc);
+    let mut lines = Vec::with_capacity(alloc, moves.len())?;
     for arc in moves {
         lines.push(ArcLine {
             target: nodes[arc.target as usize],
@@ -71,5 +71,6 @@ pub(crate) fn arc_lines(
     let lines = sorted_lines(alloc, moves, nodes)?;
     let mut arcs = joined_lines(alloc, &lines)?;
     arcs.sort_unstable_by(|a, b| arc_cmp(a, b));
+    arcs.shrink_to_fit();
     Ok(arcs)
 }

@@ -1,5 +1,7 @@
-ghost use Rattle.std.specs.Prelude.{◌≡◌, ◌≢◌, ◌≤◌, ◌++◌, ◌∷◌, [], AllPairs, IfOk, OnOk, map};
-ghost use Rattle.symbol_class.specs.Held.{width_of, ArePieces};
+ghost use Rattle.std.specs.Prelude.{◌≡◌, ◌≢◌, ◌≤◌, ◌++◌, ◌∷◌, [], AllPairs, IfOk, List, OnOk, map};
+ghost use Rattle.tier_core.specs.declared.sym.Sym.{Sym};
+ghost use Rattle.symbol_class.specs.Held.{some_has, width_of, ArePieces};
+ghost use Rattle.symbol_class.specs.Joined.{DifferTwice};
 ghost use Rattle.kind_orders.specs.JoinedLines.{arc_to, classes_of, AddsJoined, AreJoinedFrom};
 
 use answer_text::ArcLine;
@@ -15,7 +17,11 @@ struct Group {
 }
 
 /// Puts arcs to a target at the end of a list, one on each class.
-fn push_arcs(arcs: &mut Vec<ArcLine>, target: u32, classes: &[Class]) -> Result<(), AllocError>
+pub(crate) fn push_arcs(
+    arcs: &mut Vec<ArcLine>,
+    target: u32,
+    classes: &[Class],
+) -> Result<(), AllocError>
     ensures { OnOk result
         (arcs.new.items ≡ arcs.old.items ++ map (arc_to target) classes.now) }
 {
@@ -28,7 +34,24 @@ fn push_arcs(arcs: &mut Vec<ArcLine>, target: u32, classes: &[Class]) -> Result<
     Ok(())
 }
 
-/// Puts arcs to a target at the end of a list, on classes that are joined first.
+/// Classes that hold the columns of the given ones, any two of which differ in the sets of at least
+/// two tiers.
+fn joined_classes(alloc: Global, classes: &[Class]) -> Result<Vec<Class>, AllocError>
+    requires { ArePieces (width_of classes.now) classes.now }
+    ensures pieces { IfOk result (λ joined. ArePieces (width_of classes.now) joined.items) }
+    ensures columns { IfOk result
+        (λ joined. (column : List Sym)
+        → some_has joined.items column ≡ some_has classes.now column) }
+    ensures differ { IfOk result (λ joined. AllPairs DifferTwice joined.items) }
+{
+    match join(alloc, classes) {
+        Ok(joined) => Ok(joined),
+        Err(_) => Err(AllocError),
+    }
+}
+
+/// Puts arcs to a target at the end of a list, on classes that are joined first. One class is as it
+/// is.
 fn push_joined(
     alloc: Global,
     arcs: &mut Vec<ArcLine>,
@@ -38,18 +61,20 @@ fn push_joined(
     requires { ArePieces (width_of classes.now) classes.now }
     ensures { OnOk result (AddsJoined target classes.now arcs.old.items arcs.new.items) }
 {
-    let Ok(joined) = join(alloc, classes) else {
-        return Err(AllocError);
-    };
+    if classes.len() < 2 {
+        return push_arcs(arcs, target, classes);
+    }
+    let joined = joined_classes(alloc, classes)?;
     push_arcs(arcs, target, &joined)
 }
 
-/// A group of one class.
-fn group_of(alloc: Global, line: &ArcLine) -> Result<Group, AllocError>
+/// The group of a line that is the first to its target, in the room of another group.
+fn next_group(before: Group, line: &ArcLine) -> Result<Group, AllocError>
     ensures target { IfOk result (λ group. group.target ≡ line.now.target) }
     ensures classes { IfOk result (λ group. group.classes.items ≡ line.now.class ∷ []) }
 {
-    let mut classes = Vec::new(alloc);
+    let Group { mut classes, .. } = before;
+    classes.clear();
     classes.push(line.class)?;
     Ok(Group {
         target: line.target,
@@ -93,7 +118,7 @@ fn group_after(
         return with_class(group, line);
     }
     push_joined(alloc, arcs, group.target, &group.classes)?;
-    group_of(alloc, line)
+    next_group(group, line)
 }
 
 /// Lines that are sorted by target, with the classes of those to one target joined.

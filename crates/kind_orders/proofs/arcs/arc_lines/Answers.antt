@@ -1,4 +1,4 @@
-use Rattle.std.proofs.Common.{◌≡◌, ◌≤◌, AllPairs, List, map, sym, subst, rules}
+use Rattle.std.proofs.Common.{◌≡◌, ◌≤◌, AllPairs, IsSorted, List, map, sym, subst, rules}
 use Rattle.std.proofs.lemmas.List.Sorted.{ranks_by}
 use Rattle.answer_text.specs.declared.automaton.ArcLine.{ArcLine}
 use Rattle.answer_text.specs.Right.{arc_cmp}
@@ -25,12 +25,16 @@ joined_lines-requires-clause-sorted c =
 
 pub returns-clause-joined : goal.returns-clause-joined
 returns-clause-joined c =
-    joined_permuted (map (line_of c.args.nodes.now) c.args.moves.now) c.in_ok-lines.lines.items
+    let lines = map (line_of c.args.nodes.now) c.args.moves.now in
+    rw c.shrink_to_fit.ensures.items
+    (joined_permuted lines c.in_ok-lines.lines.items
     c.in_ok-arcs.arcs.items c.sort_unstable_by.new.self.items c.in_ok-lines.ensures.same
     c.sort_unstable_by.ensures.permutation
-    (subst (λ ls. AreJoinedFrom ls c.in_ok-arcs.arcs.items) c.deref.ensures.value c.in_ok-arcs.ensures)
+    (subst (λ ls. AreJoinedFrom ls c.in_ok-arcs.arcs.items) c.deref.ensures.value c.in_ok-arcs.ensures))
 
 pub returns-clause-sorted : goal.returns-clause-sorted
 returns-clause-sorted c =
+    let sorted : IsSorted arc_cmp c.sort_unstable_by.new.self.items =
     sorted_by_closure arc_cmp c.sort_unstable_by.new.self.items
-    (ranks_by arc_cmp_total (λ a. a)) c.sort_unstable_by.ensures.sorted (λ a r f k. search rules)
+    (ranks_by arc_cmp_total (λ a. a)) c.sort_unstable_by.ensures.sorted (λ a r f k. search rules) in
+    subst (IsSorted arc_cmp) (sym c.shrink_to_fit.ensures.items) sorted

@@ -9,3 +9,4 @@ pub mod GroupSteps
 pub mod ByNode
 pub mod Reading
 pub mod AnswerParts
+mod TestLines

@@ -1,4 +1,4 @@
-use Rattle.std.proofs.Common.{◌≡◌, ◌≤◌, AllPairs, IsSorted, List, map, sym, subst, rules}
+use Rattle.std.proofs.Common.{◌≤◌, AllPairs, IsSorted, List, map, sym, subst, rules}
 use Rattle.std.proofs.lemmas.List.Sorted.{ranks_by}
 use Rattle.answer_text.specs.declared.automaton.ArcLine.{ArcLine}
 use Rattle.answer_text.specs.Right.{arc_cmp}

@@ -1,10 +1,10 @@
-use Rattle.std.proofs.Common.{◌≡◌, ◌≢◌, ◌<◌, ℕ, List, length, subst, sym, ◌∙◌, arith, inl, inr}
+use Rattle.std.proofs.Common.{◌≡◌, List, length, subst, sym, arith, inl, inr}
 use Rattle.std.proofs.lemmas.Bool.{cases_eq}
 use Rattle.tier_core.specs.declared.class.Class.{Class}
 use Rattle.symbol_class.specs.Held.{width_of, ArePieces}
 use Rattle.symbol_class.proofs.JoinedClasses.{pieces_of_width}
 use Rattle.kind_orders.specs.JoinedLines.{classes_of, AddsJoined}
-use Rattle.kind_orders.proofs.GroupSteps.{AreJoinedSoFar, none_joined, same_group, other_group, lines_joined}
+use Rattle.kind_orders.proofs.GroupSteps.{AreJoinedSoFar, same_group, other_group, lines_joined}
 use Rattle.kind_orders.proofs.joined_arcs.joined_lines.Goals as goal
 
 pub group_after-requires : goal.group_after-requires

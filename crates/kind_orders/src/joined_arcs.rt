@@ -9,7 +9,7 @@ use std::alloc::{AllocError, Global};
 use symbol_class::join;
 use tier_core::Class;
 
-/// The classes of the arcs to one target that are to be joined.
+/// The classes of lines to one target, which are to be joined.
 #[derive(Drop)]
 struct Group {
     target: u32,
@@ -82,7 +82,7 @@ fn next_group(before: Group, line: &ArcLine) -> Result<Group, AllocError>
     })
 }
 
-/// A group with a line more to its target.
+/// The group with the class of one line more.
 fn with_class(group: Group, line: &ArcLine) -> Result<Group, AllocError>
     ensures target { IfOk result (λ more. more.target ≡ group.target) }
     ensures classes { IfOk result
@@ -96,8 +96,9 @@ fn with_class(group: Group, line: &ArcLine) -> Result<Group, AllocError>
     Ok(Group { target, classes })
 }
 
-/// The group that a line belongs to: that of the lines before it if it has their target, and else a
-/// new one, and then the arcs of theirs are put at the end of a list.
+/// The group after one line more. If the line has the target of the group, its class joins it. If it
+/// has another target, the group is at an end: its arcs are put at the end of a list, and the line
+/// begins the next group.
 fn group_after(
     alloc: Global,
     arcs: &mut Vec<ArcLine>,
@@ -121,7 +122,8 @@ fn group_after(
     next_group(group, line)
 }
 
-/// Lines that are sorted by target, with the classes of those to one target joined.
+/// The arcs of lines that are sorted by target, where the classes of the lines to one target are
+/// joined.
 pub(crate) fn joined_lines(alloc: Global, lines: &[ArcLine]) -> Result<Vec<ArcLine>, AllocError>
     requires pieces { ArePieces (width_of (classes_of lines.now)) (classes_of lines.now) }
     requires sorted { AllPairs (λ a b. a.target ≤ b.target) lines.now }

@@ -1,5 +1,5 @@
--- The lines of a state's moves: no column is in two of them, each holds a column, and no two tie.
-use Rattle.std.proofs.Common.{◌≡◌, ◌≢◌, ℕ, ◌<◌, List, [], ◌∷◌, map, length, get_or, refl, ap, subst, arith, All, AllPairs, Contains, IsPermutation, IsSorted, IsTrue}
+-- The arcs of a state: no column is in two of them, each holds a column, no two tie, and they go where the moves go.
+use Rattle.std.proofs.Common.{◌≡◌, ◌≢◌, ℕ, ◌<◌, true, List, [], ◌∷◌, map, length, get_or, refl, ap, sym, ◌∙◌, subst, arith, All, AllPairs, Contains, IsSorted, IsTrue}
 use Rattle.std.specs.Cmp.{IsTotalOrder}
 use Rattle.std.specs.Cmp.Lexicographic.{slice_cmp}
 use Rattle.std.specs.List.Sorted.{IsStrictlySortedBy}
@@ -7,14 +7,14 @@ use Rattle.std.specs.Ordering.{nat_cmp}
 use Rattle.std.specs.declared.cmp.Ordering.TheVariants.{Equal}
 use Rattle.std.proofs.lemmas.Cmp.{nat_cmp_total, nat_list_cmp_total, on_total, then_total}
 use Rattle.std.proofs.lemmas.List.Elements.{All-map, Contains-get_or}
-use Rattle.std.proofs.lemmas.List.Sorted.{All-permutation}
 use Rattle.std.proofs.lemmas.List.{map-id}
 use Rattle.weight_law.specs.declared.Weight.{Ghosts}
 use Rattle.tier_core.specs.declared.sym.Sym.{Sym}
+use Rattle.tier_core.specs.declared.class.Class.{Class}
 use Rattle.tier_core.specs.Classes.{sets_of, sets_have, has, AreDisjoint}
 use Rattle.arc_table.specs.declared.arc.TableArc.{TableArc}
 use Rattle.arc_table.specs.declared.state.TableState.{TableState}
-use Rattle.arc_table.specs.Conditions.{TargetsExist, ClassesDisjoint, ClassesFilled}
+use Rattle.arc_table.specs.Conditions.{TargetsExist, ClassesDisjoint, ClassesFilled, OneWidth}
 use Rattle.symbol_class.specs.Filled.{is_filled}
 use Rattle.arc_table.specs.Moves.{moves_at, accepting_at}
 use Rattle.symbol_class.specs.FirstColumn.{first_column}
@@ -22,9 +22,13 @@ use Rattle.symbol_class.proofs.Filled.{has-first_column}
 use Rattle.answer_text.specs.declared.automaton.ArcLine.{ArcLine}
 use Rattle.answer_text.specs.declared.automaton.StateLine.{StateLine}
 use Rattle.answer_text.specs.Right.{arc_cmp}
-use Rattle.kind_orders.specs.AutomatonLines.{line_of, IsLineOf}
-use Rattle.symbol_class.proofs.Pairs.{pairs_map, pairs_permuted}
+use Rattle.kind_orders.specs.AutomatonLines.{line_of, move_classes, IsLineOf}
+use Rattle.kind_orders.specs.JoinedLines.{classes_of, AreJoinedFrom}
+use Rattle.symbol_class.specs.Held.{width_of, ArePieces}
+use Rattle.symbol_class.proofs.Pairs.{pairs_map}
 use Rattle.symbol_class.proofs.SetOrder.{both_equal, same_numbers}
+use Rattle.kind_orders.proofs.ArcCounts.{anywhere, apart_if_once, once_if_apart, goes_too}
+use Rattle.kind_orders.proofs.Members.{contains_map, contains_of_map}
 use Rattle.kind_orders.proofs.Strict.{strict_from_sorted}
 
 pub arc_cmp_total : IsTotalOrder arc_cmp
@@ -45,33 +49,75 @@ strict_arcs [] sorted differ = tt
 strict_arcs (x ∷ xs) sorted differ = subst (IsStrictlySortedBy arc_cmp) (map-id (x ∷ xs))
     (strict_from_sorted arc_cmp_total (λ arc. arc) x (x ∷ xs) sorted differ)
 
-module _ {W : Type 0} {g : Ghosts W} (nodes : List ℕ) (moves : List (TableArc W g)) (lines : List ArcLine)
-    (same : IsPermutation (map (line_of nodes) moves) lines) where
-  pub lines_apart : AllPairs (λ a b. AreDisjoint a.class b.class) moves
-      → AllPairs (λ (a b : ArcLine). AreDisjoint a.class b.class) lines
-  lines_apart disjoint =
-      pairs_permuted (λ (a b : ArcLine). AreDisjoint a.class b.class) (λ a b apart column hb ha. apart column ha hb)
-      (map (line_of nodes) moves) lines same
+module _ {W : Type 0} {g : Ghosts W} (nodes : List ℕ) (moves : List (TableArc W g)) (arcs : List ArcLine)
+    (are : AreJoinedFrom (map (line_of nodes) moves) arcs) where
+  lines_apart : AllPairs (λ a b. AreDisjoint a.class b.class) moves
+      → AllPairs AreDisjoint (classes_of (map (line_of nodes) moves))
+  lines_apart disjoint = pairs_map AreDisjoint (λ (arc : ArcLine). arc.class) (map (line_of nodes) moves)
       (pairs_map (λ (a b : ArcLine). AreDisjoint a.class b.class) (line_of nodes) moves disjoint)
 
-  -- what holds of the lines of all moves
-  pub all_lines_have : (P : ArcLine → Type 0) → ((arc : TableArc W g) → Contains moves arc → P (line_of nodes arc))
-      → All P lines
-  all_lines_have P h = All-permutation P (map (line_of nodes) moves) lines same
-      (All-map P (line_of nodes) moves (λ k d l. h (get_or moves k d) (Contains-get_or moves k d l)))
+  pub arcs_apart : AllPairs (λ a b. AreDisjoint a.class b.class) moves
+      → AllPairs (λ (a b : ArcLine). AreDisjoint a.class b.class) arcs
+  arcs_apart disjoint = apart_if_once arcs (λ column. omega (
+    arith,
+    are.held anywhere column,
+    once_if_apart (map (line_of nodes) moves) (lines_apart disjoint) column,
+  ))
 
-  pub lines_filled : ((arc : TableArc W g) → Contains moves arc → IsTrue (is_filled arc.class))
-      → All (λ (arc : ArcLine). (column : List Sym) × IsTrue (has arc.class column)) lines
-  lines_filled filled = all_lines_have (λ arc. (column : List Sym) × IsTrue (has arc.class column))
-      (λ arc c. (first_column arc.class, has-first_column arc.class (filled arc c)))
+  pub arcs_filled : All (λ (arc : ArcLine). (column : List Sym) × IsTrue (has arc.class column)) arcs
+  arcs_filled = λ k d l. let arc = get_or arcs k d in
+      (first_column arc.class, has-first_column arc.class (are.filled k d l))
 
-  pub lines_strict : AllPairs (λ a b. AreDisjoint a.class b.class) moves
-      → ((arc : TableArc W g) → Contains moves arc → IsTrue (is_filled arc.class)) → IsSorted arc_cmp lines
-      → IsStrictlySortedBy arc_cmp lines
-  lines_strict disjoint filled sorted = strict_arcs lines sorted (λ i j d less inside e.
-      let some = lines_filled filled i d (omega arith) in
-      lines_apart disjoint i j d less inside some.0 some.1
-      (tied_class (get_or lines i d) (get_or lines j d) some.0 e some.1))
+  pub arcs_strict : AllPairs (λ a b. AreDisjoint a.class b.class) moves → IsSorted arc_cmp arcs
+      → IsStrictlySortedBy arc_cmp arcs
+  arcs_strict disjoint sorted = strict_arcs arcs sorted (λ i j d less inside e.
+      let some = arcs_filled i d (omega arith) in
+      arcs_apart disjoint i j d less inside some.0 some.1
+      (tied_class (get_or arcs i d) (get_or arcs j d) some.0 e some.1))
+
+  -- where an arc goes, a move does
+  pub move_from : (arc : ArcLine) (column : List Sym) → Contains arcs arc → has arc.class column ≡ true
+      → (move : TableArc W g)
+      × (Contains moves move × ((get_or nodes move.target 0 ≡ arc.target) × (has move.class column ≡ true)))
+  move_from arc column c holds =
+      let lines = map (line_of nodes) moves in
+      let line = goes_too arcs lines (λ to col. sym (are.held to col)) arc column c holds in
+      let move = contains_of_map (line_of nodes) moves line.0 line.1.0 in (
+        move.0,
+        (
+          move.1.0,
+          (
+            ap (λ (a : ArcLine). a.target) move.1.1 ∙ line.1.1.0,
+            ap (λ (a : ArcLine). has a.class column) move.1.1 ∙ line.1.1.1,
+          ),
+        ),
+      )
+
+  -- and where a move goes, an arc does
+  pub arc_from : (move : TableArc W g) (column : List Sym) → Contains moves move → has move.class column ≡ true
+      → (arc : ArcLine)
+      × (Contains arcs arc × ((arc.target ≡ get_or nodes move.target 0) × (has arc.class column ≡ true)))
+  arc_from move column c holds = goes_too (map (line_of nodes) moves) arcs are.held (line_of nodes move) column
+      (contains_map (line_of nodes) moves move c) holds
+
+-- the classes of the lines of moves are those of the moves
+same_classes : {W : Type 0} {g : Ghosts W} (nodes : List ℕ) (moves : List (TableArc W g))
+    → classes_of (map (line_of nodes) moves) ≡ move_classes moves
+same_classes nodes [] = refl
+same_classes nodes (move ∷ moves) = ap (λ cs. move.class ∷ cs) (same_classes nodes moves)
+
+pub lines_are_pieces : {W : Type 0} {g : Ghosts W} (nodes : List ℕ) (moves : List (TableArc W g)) (width : ℕ)
+    → ArePieces width (move_classes moves) → ArePieces width (classes_of (map (line_of nodes) moves))
+lines_are_pieces nodes moves width pieces = subst (ArePieces width) (sym (same_classes nodes moves)) pieces
+
+-- moves of which any two have one width have that of the first
+width_at : {W : Type 0} {g : Ghosts W} (moves : List (TableArc W g)) (k : ℕ) (d : TableArc W g) → k < length moves
+    → ((a b : TableArc W g) → Contains moves a → Contains moves b
+    → length (sets_of a.class) ≡ length (sets_of b.class))
+    → length (sets_of (get_or moves k d).class) ≡ width_of (move_classes moves)
+width_at [] k d l one = absurd (omega arith)
+width_at (move ∷ moves) k d l one = one (get_or (move ∷ moves) k d) move (Contains-get_or (move ∷ moves) k d l)
+    (0, omega arith, refl)
 
 module _ {W : Type 0} {g : Ghosts W} (kept : List (TableState W g)) (nodes : List ℕ) (s : ℕ) where
   -- each move leads to a state that has a node number
@@ -80,14 +126,29 @@ module _ {W : Type 0} {g : Ghosts W} (kept : List (TableState W g)) (nodes : Lis
   targets_within exist count = λ k d l. let t = exist s (get_or (moves_at kept s) k d)
       (Contains-get_or (moves_at kept s) k d l) in omega arith
 
-  -- the line of a state, whose arcs are sorted
-  pub line_made : ClassesDisjoint kept → ClassesFilled kept → (line : StateLine) → line.node ≡ get_or nodes s 0
+  -- the classes of a state's moves are pieces
+  pub pieces_at : ClassesDisjoint kept → ClassesFilled kept → OneWidth kept
+      → ArePieces (width_of (move_classes (moves_at kept s))) (move_classes (moves_at kept s))
+  pieces_at disjoint filled one_width =
+      let moves = moves_at kept s in
+      let class_of : TableArc W g → Class = λ move. move.class in
+      record {
+        one_width = All-map (λ class. length (sets_of class) ≡ width_of (move_classes moves)) class_of moves
+            (λ k d l. width_at moves k d l
+            (λ a b ca cb. one_width s s a b ca cb));
+        filled = All-map (λ class. IsTrue (is_filled class)) class_of moves
+            (λ k d l. filled s (get_or moves k d) (Contains-get_or moves k d l));
+        apart = pairs_map AreDisjoint class_of moves (disjoint s);
+      }
+
+  -- the line of a state, whose arcs are joined and sorted
+  pub line_made : ClassesDisjoint kept → (line : StateLine) → line.node ≡ get_or nodes s 0
       → line.accepting ≡ accepting_at kept s
-      → IsPermutation (map (line_of nodes) (moves_at kept s)) line.arcs.items → IsSorted arc_cmp line.arcs.items
+      → AreJoinedFrom (map (line_of nodes) (moves_at kept s)) line.arcs.items → IsSorted arc_cmp line.arcs.items
       → IsLineOf kept nodes s line
-  line_made disjoint filled line node final same sorted = record {
+  line_made disjoint line node final are sorted = record {
     node = node;
     final = final;
-    arcs = same;
-    in_order = lines_strict nodes (moves_at kept s) line.arcs.items same (disjoint s) (λ arc c. filled s arc c) sorted;
+    arcs = are;
+    in_order = arcs_strict nodes (moves_at kept s) line.arcs.items are (disjoint s) sorted;
   }

@@ -1,15 +1,15 @@
 -- The lines of a table read what the table reads.
-use Rattle.std.proofs.Common.{◌≡◌, ◌≢◌, ℕ, ◌<◌, true, false, List, [], ◌∷◌, map, length, get_or, refl, ap, sym, ◌∙◌, subst, arith, ⊎_elim, inl, inr, All, AllPairs, Contains}
+use Rattle.std.proofs.Common.{◌≡◌, ◌≢◌, ℕ, ◌<◌, true, false, List, [], ◌∷◌, map, length, get_or, refl, ap, sym, ◌∙◌, subst, arith, ⊎_elim, inl, inr, All, AllPairs, Contains, IsTrue}
 use Rattle.std.proofs.lemmas.Bool.{false≢true, cases_lt, cases_order}
 use Rattle.std.proofs.lemmas.List.{get_or_default, get_or_past, length-map}
-use Rattle.std.proofs.lemmas.List.Elements.{Contains-get_or}
-use Rattle.std.proofs.lemmas.List.Sorted.{Contains-permutation, IsPermutation-sym}
+use Rattle.std.proofs.lemmas.List.Elements.{All-contains, Contains-get_or}
 use Rattle.tier_core.specs.declared.sym.Sym.{Sym}
 use Rattle.tier_core.specs.Classes.{sets_of, has}
+use Rattle.tier_core.proofs.ClassLemmas.{same_width}
 use Rattle.weight_law.specs.declared.Weight.{Ghosts}
 use Rattle.arc_table.specs.declared.arc.TableArc.{TableArc}
 use Rattle.arc_table.specs.declared.state.TableState.{TableState}
-use Rattle.arc_table.specs.Conditions.{TargetsExist, ClassesDisjoint, ClassesFilled}
+use Rattle.arc_table.specs.Conditions.{TargetsExist, ClassesDisjoint}
 use Rattle.arc_table.specs.Moves.{moves_at, accepting_at}
 use Rattle.arc_table.specs.Runs.{IsRun, IsPath, Reads, Accepts as IsAccepted}
 use Rattle.arc_table.proofs.Push.{moves_exist}
@@ -17,10 +17,11 @@ use Rattle.answer_text.specs.declared.automaton.ArcLine.{ArcLine}
 use Rattle.answer_text.specs.declared.automaton.StateLine.{StateLine}
 use Rattle.answer_text.specs.Acceptance.{IsFinalState, Leads, Accepts}
 use Rattle.answer_text.specs.Right.{numbers_of, AreRightArcs}
-use Rattle.kind_orders.specs.AutomatonLines.{line_of, IsLineOf, AreLinesOf}
+use Rattle.kind_orders.specs.AutomatonLines.{IsLineOf, AreLinesOf}
+use Rattle.kind_orders.specs.JoinedArcs.{AreJoined, HaveJoinedArcs}
 use Rattle.kind_orders.specs.Automata.{HasWidth, Reaches, IsAutomatonOf}
 use Rattle.kind_orders.proofs.Members.{contains_map, contains_of_map, all_from_members}
-use Rattle.kind_orders.proofs.ArcOrder.{lines_apart, lines_filled, all_lines_have}
+use Rattle.kind_orders.proofs.ArcOrder.{arcs_apart, arcs_filled, move_from, arc_from}
 
 module _ {W : Type 0} {g : Ghosts W} (kept : List (TableState W g)) where
   -- a state that accepts is there
@@ -72,19 +73,17 @@ module _ {W : Type 0} {g : Ghosts W} (kept : List (TableState W g)) (exist : Tar
   path_leads s t [] (arc ∷ arcs) path reads = absurd reads
   path_leads s t (column ∷ T) (arc ∷ arcs) path reads =
       let l = are.every s (moves_exist kept s arc path.0) in
-      let leaves : Contains l.0.arcs.items (line_of nodes arc) =
-      Contains-permutation (map (line_of nodes) (moves_at kept s)) l.0.arcs.items (line_of nodes arc) l.2.arcs
-      (contains_map (line_of nodes) (moves_at kept s) arc path.0) in (
+      let leaves = arc_from nodes (moves_at kept s) l.0.arcs.items l.2.arcs arc column path.0 reads.0 in (
         node arc.target,
         (
           record {
             state = l.0;
-            arc = line_of nodes arc;
+            arc = leaves.0;
             listed = l.1;
             from = l.2.node;
-            leaves = leaves;
-            to = refl;
-            holds = reads.0;
+            leaves = leaves.1.0;
+            to = leaves.1.1.0;
+            holds = leaves.1.1.1;
           },
           path_leads arc.target t T arcs path.1 reads.1,
         ),
@@ -97,13 +96,10 @@ module _ {W : Type 0} {g : Ghosts W} (kept : List (TableState W g)) (exist : Tar
   leads_path s m (column ∷ T) l leads =
       let a = leads.1.0 in
       let is = line_is a.state s a.listed l a.from in
-      let b = contains_of_map (line_of nodes) (moves_at kept s) a.arc
-      (Contains-permutation a.state.arcs.items (map (line_of nodes) (moves_at kept s)) a.arc
-      (IsPermutation-sym (map (line_of nodes) (moves_at kept s)) a.state.arcs.items is.arcs) a.leaves) in
-      let target : leads.0 ≡ node b.0.target = sym a.to ∙ sym (ap (λ (arc : ArcLine). arc.target) b.1.1) in
-      let holds : has b.0.class column ≡ true = ap (λ (arc : ArcLine). has arc.class column) b.1.1 ∙ a.holds in
+      let b = move_from nodes (moves_at kept s) a.state.arcs.items is.arcs a.arc column a.leaves a.holds in
+      let target : leads.0 ≡ node b.0.target = sym a.to ∙ sym b.1.1.0 in
       let rest = leads_path b.0.target m T (exist s b.0 b.1.0) (subst (λ n. Leads lines n T m) target leads.1.1) in
-      (rest.0, (rest.1.0, (rest.1.1.0, (b.0 ∷ rest.1.1.1.0, ((b.1.0, rest.1.1.1.1.0), (holds, rest.1.1.1.1.1))))))
+      (rest.0, (rest.1.0, (rest.1.1.0, (b.0 ∷ rest.1.1.1.0, ((b.1.0, rest.1.1.1.1.0), (b.1.1.1, rest.1.1.1.1.1))))))
 
   -- a final line is that of a state that accepts
   final_from : (t : ℕ) → accepting_at kept t ≡ true → IsFinalState lines (node t)
@@ -156,29 +152,55 @@ module _ {W : Type 0} {g : Ghosts W} (kept : List (TableState W g)) (exist : Tar
       let inside : c.0 < length kept = omega (arith, c.1) in
       subst (Contains (numbers_of lines)) (get_or_default nodes c.0 0 n c.1 ∙ c.2) (number_has c.0 inside)
 
-  pub right_arcs : ClassesDisjoint kept → ClassesFilled kept → (width : ℕ) → HasWidth width kept
+  -- each arc goes where a move of the same width goes
+  arc_move : (s : ℕ) (line : StateLine) → IsLineOf kept nodes s line → (arc : ArcLine)
+      → Contains line.arcs.items arc
+      → (move : TableArc W g) × (Contains (moves_at kept s) move
+      × ((node move.target ≡ arc.target) × (length (sets_of move.class) ≡ length (sets_of arc.class))))
+  arc_move s line is arc c =
+      let arcs = line.arcs.items in
+      let have = All-contains (λ (a : ArcLine). (column : List Sym) × IsTrue (has a.class column)) arcs arc
+      (arcs_filled nodes (moves_at kept s) arcs is.arcs) c in
+      let m = move_from nodes (moves_at kept s) arcs is.arcs arc have.0 c have.1 in (
+        m.0,
+        (
+          m.1.0,
+          (
+            m.1.1.0,
+            sym (same_width (sets_of m.0.class) have.0 m.1.1.1) ∙ same_width (sets_of arc.class) have.0 have.1,
+          ),
+        ),
+      )
+
+  pub right_arcs : ClassesDisjoint kept → (width : ℕ) → HasWidth width kept
       → All (λ (state : StateLine). AreRightArcs width (numbers_of lines) state.arcs.items) lines
-  right_arcs disjoint filled width wide = all_from_members
+  right_arcs disjoint width wide = all_from_members
       (λ (state : StateLine). AreRightArcs width (numbers_of lines) state.arcs.items) lines (λ line c.
       let h = are.each line c in
       let moves = moves_at kept h.0 in
+      let arcs = line.arcs.items in
       record {
-        apart = lines_apart nodes moves line.arcs.items h.2.arcs (disjoint h.0);
-        filled = lines_filled nodes moves line.arcs.items h.2.arcs (λ arc m. filled h.0 arc m);
-        one_width = all_lines_have nodes moves line.arcs.items h.2.arcs
-            (λ (arc : ArcLine). length (sets_of arc.class) ≡ width) (λ arc m. wide h.0 arc m);
-        targets = all_lines_have nodes moves line.arcs.items h.2.arcs
-            (λ (arc : ArcLine). Contains (numbers_of lines) arc.target)
-            (λ arc m. number_has arc.target (exist h.0 arc m));
+        apart = arcs_apart nodes moves arcs h.2.arcs (disjoint h.0);
+        filled = arcs_filled nodes moves arcs h.2.arcs;
+        one_width = all_from_members (λ (arc : ArcLine). length (sets_of arc.class) ≡ width) arcs
+            (λ arc m. let a = arc_move h.0 line h.2 arc m in sym a.1.1.1 ∙ wide h.0 a.0 a.1.0);
+        targets = all_from_members (λ (arc : ArcLine). Contains (numbers_of lines) arc.target) arcs
+            (λ arc m. let a = arc_move h.0 line h.2 arc m in subst (Contains (numbers_of lines)) a.1.1.0
+            (number_has a.0.target (exist h.0 a.0 a.1.0)));
         in_order = h.2.in_order;
       })
 
-  pub automaton_is : 0 < length kept → ClassesDisjoint kept → ClassesFilled kept → IsAutomatonOf kept nodes lines
-  automaton_is some disjoint filled = record {
+  -- and they are joined
+  pub joined_arcs : HaveJoinedArcs lines
+  joined_arcs = all_from_members (λ (state : StateLine). AreJoined state.arcs.items) lines
+      (λ line c. (are.each line c).2.arcs.joined)
+
+  pub automaton_is : 0 < length kept → ClassesDisjoint kept → IsAutomatonOf kept nodes lines
+  automaton_is some disjoint = record {
     lines = are;
     numbers = λ n. (numbers_from n, numbers_to n);
     accepts = λ zeroth T. (lines_accept zeroth some T, table_accepts zeroth some T);
     leads = λ zeroth T s r. table_leads zeroth some T s r;
     reached = λ zeroth T m l. lines_reach zeroth some T m l;
-    arcs = λ width wide. right_arcs disjoint filled width wide;
+    arcs = λ width wide. right_arcs disjoint width wide;
   }

@@ -2,6 +2,7 @@ ghost use Rattle.std.specs.Prelude.{◌≡◌, ◌≢◌, ◌<◌, All, AllPairs
 ghost use Rattle.arc_table.specs.States.{states_of};
 ghost use Rattle.kind_orders.specs.AutomatonLines.{AreLinesOf, nodes_of};
 ghost use Rattle.kind_orders.specs.Automata.{IsAutomatonOf};
+ghost use Rattle.kind_orders.specs.JoinedArcs.{HaveJoinedArcs};
 ghost use Rattle.kind_orders.specs.Orderings.{IsOrdering};
 
 use crate::lines::{all_lines, states_by_node};
@@ -43,7 +44,8 @@ fn lines_by_node(
 }
 
 /// The automaton of a table, whose states stand for kinds: `states` has the number of each state's
-/// kind, all of them different, and `ranks` the node number of each kind. Fails only if memory
+/// kind, all of them different, and `ranks` the node number of each kind. The arcs are joined: any
+/// two from one state to one target differ in the sets of at least two tiers. Fails only if memory
 /// runs out.
 pub fn automaton_of(
     alloc: Global,
@@ -55,10 +57,11 @@ pub fn automaton_of(
     requires kinds { All (λ kind. kind < length ranks.now) states.now }
     requires once { AllPairs (λ a b. a ≢ b) states.now }
     requires ranks { IsOrdering (length ranks.now) ranks.now }
-    ensures { IfOk result
+    ensures automaton { IfOk result
         (λ automaton.
         IsAutomatonOf (states_of kept.now)
         (nodes_of ranks.now states.now) automaton.states.items) }
+    ensures joined { IfOk result (λ automaton. HaveJoinedArcs automaton.states.items) }
 {
     match lines_by_node(alloc, kept, states, ranks) {
         Ok(states) => Ok(Automaton { states }),

@@ -3,13 +3,17 @@
 //! A generator numbers kinds in the order in which it finds them, and an answer lists them in kind
 //! order. `ordered` sorts the numbers, `ranks` inverts the order, `stage_of` makes the nodes of a
 //! stage, and `automaton_of` the lines of an automaton from the table that is left after pruning.
-//! Everything is linear except for sorting. Below are kinds, tables and answers; above, the staged
-//! generator.
+//!
+//! The arcs of an automaton are joined: any two from one state to one target differ in the sets of
+//! at least two tiers, so that no two of them could be written as one. Moves are sorted by target,
+//! and those to one target joined, so that no other pairs are compared. Everything is linear except
+//! for sorting and joining. Below are classes, kinds, tables and answers; above, the generator.
 #![tactic(auto)]
 
 mod arcs;
 mod automaton;
 mod inverse;
+mod joined_arcs;
 mod lines;
 mod order;
 mod stage;

@@ -1,14 +1,18 @@
-ghost use Rattle.std.specs.Prelude.{◌≡◌, ◌≢◌, ◌<◌, ◌≤◌, IfOk, length};
+ghost use Rattle.std.specs.Prelude.{◌≡◌, ◌≢◌, ◌<◌, ◌≤◌, ◌++◌, All, IfOk, length};
 ghost use Rattle.arc_table.specs.States.{states_of};
 ghost use Rattle.tier_core.specs.KindShapes.{free_count};
 ghost use Rattle.tier_core.specs.Shapes.{NeverFalls};
+ghost use Rattle.tier_core.specs.Classes.{sets_of};
+ghost use Rattle.symbol_class.specs.Held.{ArePieces};
 
 use super::*;
-use answer_text::{Automaton, Stage};
+use crate::joined_arcs::{joined_lines, push_arcs};
+use answer_text::{ArcLine, Automaton, Stage};
 use arc_table::{Table, TableState};
 use std::alloc::{AllocError, Global};
 use std::test::Fail;
-use tier_core::{Kind, NoMemory, Shape};
+use symbol_class::split;
+use tier_core::{Class, Column, Kind, NoMemory, Shape, Sym};
 use weight_law::UnitWeight;
 
 // The kind of a place and a mask of open tiers, with all stretch implications closed.
@@ -110,5 +114,86 @@ fn kinds_are_put_in_order(rt: HostRuntime) -> Result<(), Fail> {
         states.push((state.node, state.accepting, state.arcs.len()))?;
     }
     assert_eq!(rt; states.as_slice(), [(0, true, 0)].as_slice());
+    Ok(())
+}
+
+// The column of one cell of a square of Outside, Start and Both by Outside, Start and Both.
+fn cell(alloc: Global, code: u32) -> Column
+    requires { code < 9 }
+    ensures { length result ≡ 2 }
+{
+    let symbols = [Sym::Outside, Sym::Start, Sym::Both];
+    let first = symbols[(code / 3) as usize];
+    let second = symbols[(code % 3) as usize];
+    Column::from_syms(alloc, &[first, second])
+}
+
+fn has_bit(mask: u32, code: u32) -> bool
+    requires { code < 9 }
+{
+    (mask >> code) & 1 == 1
+}
+
+// The cells that a mask names, one class each.
+fn cells(alloc: Global, mask: u32) -> Result<Vec<Class>, AllocError>
+    ensures { IfOk result (λ cells. All (λ class. length (sets_of class) ≡ 2) cells.items) }
+{
+    let mut cells = Vec::new(alloc);
+    for code in 0..9 {
+        if has_bit(mask, code) {
+            cells.push(Class::single(&cell(alloc, code)))?;
+        }
+    }
+    Ok(cells)
+}
+
+// The arcs to 3 on some classes, and to 5 on others, joined.
+fn joined(alloc: Global, some: &[Class], others: &[Class]) -> Result<Vec<ArcLine>, AllocError>
+    requires { ArePieces 2 (some.now ++ others.now) }
+{
+    let mut lines = Vec::new(alloc);
+    push_arcs(&mut lines, 3, some)?;
+    push_arcs(&mut lines, 5, others)?;
+    joined_lines(alloc, &lines)
+}
+
+// The arcs to 3 on the cells that a mask names, and to 5 on the others, joined.
+fn joined_cells(alloc: Global, mask: u32) -> Result<Vec<ArcLine>, Fail> {
+    let cells = cells(alloc, mask)?;
+    let parts = split(alloc, &Class::of_bits(&[21, 21]), &cells)?;
+    Ok(joined(alloc, &parts.inside, &parts.outside)?)
+}
+
+fn count_to(arcs: &[ArcLine], target: u32) -> usize {
+    arcs.iter().filter(|arc| arc.target == target).count()
+}
+
+fn times_to(arcs: &[ArcLine], target: u32, column: &Column) -> usize {
+    arcs.iter()
+        .filter(|arc| arc.target == target && arc.class.has(column))
+        .count()
+}
+
+#[test]
+fn arcs_are_joined(rt: HostRuntime) -> Result<(), Fail> {
+    // the whole square, a row, a row and a cell, the diagonal, nothing
+    let cases = [
+        (0b111_111_111, 1, 0),
+        (0b000_111_000, 1, 1),
+        (0b000_111_001, 2, 2),
+        (0b100_010_001, 3, 3),
+        (0b000_000_000, 0, 1),
+    ];
+    for (mask, some, others) in cases {
+        let arcs = joined_cells(rt.alloc(), mask)?;
+        let counts = (count_to(&arcs, 3), count_to(&arcs, 5));
+        assert_eq!(rt; counts, (some, others), "at {mask}");
+        for code in 0..9 {
+            let column = cell(rt.alloc(), code);
+            let named = usize::from(has_bit(mask, code));
+            let times = (times_to(&arcs, 3, &column), times_to(&arcs, 5, &column));
+            assert_eq!(rt; times, (named, 1 - named), "at {mask}");
+        }
+    }
     Ok(())
 }

@@ -6,6 +6,7 @@ ghost use Rattle.violation.specs.Problems.{last_stage};
 ghost use Rattle.answer_text.specs.declared.stage.Node.{Node as NodeOf};
 ghost use Rattle.answer_text.specs.Right.{IsRightAutomaton};
 ghost use Rattle.kind_moves.specs.Frames.{problem_in};
+ghost use Rattle.kind_orders.specs.JoinedArcs.{HaveJoinedArcs};
 ghost use Rattle.ranked_gen.specs.OptimalParts.{IsOptimalPart};
 
 use crate::staged::Left;
@@ -23,8 +24,8 @@ pub(crate) struct Ending {
     pub(crate) automaton: Automaton,
 }
 
-/// The end of an answer for a frame, from what accepts its optimal timelines. It fails only for want
-/// of memory.
+/// The end of an answer for a frame, from what accepts its optimal timelines. Fails only if memory
+/// runs out.
 pub(crate) fn ending_of(alloc: Global, frame: &Frame, left: &Left) -> Result<Ending, NoMemory>
     requires part { (nodes : List NodeOf)
         × IsOptimalPart (problem_in frame.now) (last_stage (problem_in frame.now)) nodes
@@ -36,6 +37,7 @@ pub(crate) fn ending_of(alloc: Global, frame: &Frame, left: &Left) -> Result<End
         → IsOptimalPart (problem_in frame.now) (last_stage (problem_in frame.now)) nodes
         (states_of left.now.kept.table) left.now.kept.states.items left.now.order.items
         → IsRightAutomaton (problem_in frame.now) nodes ending.automaton.states.items) }
+    ensures joined { IfOk result (λ ending. HaveJoinedArcs ending.automaton.states.items) }
 {
     let found = first(alloc, &left.kept.table)?;
     let places = ranks(alloc, &left.order)?;

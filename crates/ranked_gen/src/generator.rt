@@ -5,6 +5,7 @@ ghost use Rattle.tier_core.specs.Tables.{tiers_of_table};
 ghost use Rattle.violation.specs.Candidates.{IsForm};
 ghost use Rattle.answer_text.specs.Right.{IsRight};
 ghost use Rattle.kind_moves.specs.Frames.{tiers_in, constraints_in, form_in};
+ghost use Rattle.kind_orders.specs.JoinedArcs.{HaveJoinedArcs};
 ghost use Rattle.ranked_gen.specs.Budgets.{AreAllWithin, IsFirstOver};
 ghost use Rattle.ranked_gen.specs.Left.{IsRanked};
 ghost use Rattle.ranked_gen.specs.Listed.{AreListed, kind_count};
@@ -116,6 +117,7 @@ fn answer_in(alloc: Global, frame: &Frame, free: u32, budget: u32) -> Result<Ans
     requires some { 1 ≤ budget }
     requires few_kinds { budget ≤ 65536 }
     ensures right { IfOk result (λ answer. IsRight (problem_in frame.now) answer) }
+    ensures joined { IfOk result (λ answer. HaveJoinedArcs answer.automaton.states.items) }
     ensures within { IfOk result (λ answer. AreAllWithin (problem_in frame.now) budget) }
     ensures over { (stage : ℕ) → result ≡ Err (GenErr.Budget stage)
         → IsFirstOver (problem_in frame.now) budget stage }
@@ -130,7 +132,9 @@ fn answer_in(alloc: Global, frame: &Frame, free: u32, budget: u32) -> Result<Ans
 }
 
 /// The right answer for a grammar and a form, in which no stage has more kinds of prefix than the
-/// budget; `Budget` exactly when a stage has more, with the first such stage.
+/// budget; `Budget` exactly when a stage has more, with the first such stage. The arcs of its
+/// automaton are joined: any two from one state to one target differ in the sets of at least two
+/// tiers.
 ///
 /// The form is well formed and reduced over the input tiers, and has at most 64 columns. The budget
 /// is from 1 to 65,536. `NoMemory` occurs only if memory runs out.
@@ -147,6 +151,7 @@ pub fn generate(
     ensures right { IfOk result
         (λ answer.
         IsRight (asked grammar.now.tiers grammar.now.constraints.items form.now) answer) }
+    ensures joined { IfOk result (λ answer. HaveJoinedArcs answer.automaton.states.items) }
     ensures within { IfOk result
         (λ answer.
         AreAllWithin (asked grammar.now.tiers grammar.now.constraints.items form.now) budget) }

@@ -7,6 +7,7 @@ ghost use Rattle.violation.specs.Problems.{asked, last_stage};
 ghost use Rattle.violation.specs.Rests.{AreWholeKindsOver, AreWholeKindsWithin};
 ghost use Rattle.answer_text.specs.RightOnce.{IsRightOnce};
 ghost use Rattle.kind_moves.specs.Frames.{tiers_in, form_in, problem_in};
+ghost use Rattle.kind_orders.specs.JoinedArcs.{HaveJoinedArcs};
 ghost use Rattle.stage_tables.specs.Ranking.{IsWholeTable};
 ghost use Rattle.ranked_gen.specs.Listed.{kind_count};
 ghost use Rattle.ranked_gen.specs.Once.{weight_found, once_node, IsOncePart};
@@ -74,7 +75,7 @@ fn first_parts(alloc: Global, weight: &Ranked, count: usize) -> Result<Vec<u32>,
     Vec::from_slice(alloc, &weight.parts()[..count])
 }
 
-/// What a single pass finds in the table of all candidates. It fails only for want of memory.
+/// What a single pass finds in the table of all candidates. Fails only if memory runs out.
 fn single_pass(alloc: Global, frame: &Frame, found: &StageTable) -> Result<Once, NoMemory>
     requires { IsWholeTable frame.now found.now.kinds.items (states_of found.now.table) }
     ensures { IfOk result
@@ -101,10 +102,11 @@ fn single_pass(alloc: Global, frame: &Frame, found: &StageTable) -> Result<Once,
     })
 }
 
-/// The answer of a single pass. It fails only for want of memory.
+/// The answer of a single pass. Fails only if memory runs out.
 fn once_answered(alloc: Global, frame: &Frame, found: &StageTable) -> Result<OnceAnswer, NoMemory>
     requires { IsWholeTable frame.now found.now.kinds.items (states_of found.now.table) }
-    ensures { IfOk result (λ answer. IsRightOnce (problem_in frame.now) answer) }
+    ensures right { IfOk result (λ answer. IsRightOnce (problem_in frame.now) answer) }
+    ensures joined { IfOk result (λ answer. HaveJoinedArcs answer.automaton.states.items) }
 {
     let form = copied(alloc, frame.form)?;
     let Once {
@@ -131,6 +133,7 @@ fn once_in(alloc: Global, frame: &Frame, free: u32, budget: u32) -> Result<OnceA
     requires some { 1 ≤ budget }
     requires few_kinds { budget ≤ 65536 }
     ensures right { IfOk result (λ answer. IsRightOnce (problem_in frame.now) answer) }
+    ensures joined { IfOk result (λ answer. HaveJoinedArcs answer.automaton.states.items) }
     ensures within { IfOk result (λ answer. AreWholeKindsWithin (problem_in frame.now) budget) }
     ensures over { (stage : ℕ) → result ≡ Err (GenErr.Budget stage)
         → (stage ≡ last_stage (problem_in frame.now))
@@ -148,12 +151,12 @@ fn once_in(alloc: Global, frame: &Frame, free: u32, budget: u32) -> Result<OnceA
 }
 
 /// The answer of a single pass for a grammar and a form: it explores all candidates under all
-/// constraints at once, and finds the least vectors of counts in one table. `Budget` comes exactly where
-/// more kinds under all constraints than the budget are those of prefixes of candidates, with the number
-/// of constraints as its stage.
+/// constraints at once, and finds the least vectors of counts in one table. `Budget` exactly when
+/// the prefixes of candidates have more kinds under all constraints than the budget, with the number
+/// of constraints as its stage. The arcs of its automaton are joined, as those of `generate` are.
 ///
-/// Form and budget are those that `generate` takes, and both accept the same timelines. `NoMemory` comes
-/// only for want of memory.
+/// Form and budget are those that `generate` takes, and both accept the same timelines. `NoMemory`
+/// occurs only if memory runs out.
 pub fn generate_once(
     alloc: Global,
     grammar: &Grammar,
@@ -167,6 +170,7 @@ pub fn generate_once(
     ensures right { IfOk result
         (λ answer.
         IsRightOnce (asked grammar.now.tiers grammar.now.constraints.items form.now) answer) }
+    ensures joined { IfOk result (λ answer. HaveJoinedArcs answer.automaton.states.items) }
     ensures within { IfOk result
         (λ answer.
         AreWholeKindsWithin

@@ -40,6 +40,6 @@ returns-clause-automaton c = λ nodes part.
     let automaton : IsAutomatonOf (states_of table) (nodes_of places states) lines =
     subst (λ ns. IsAutomatonOf (states_of table) (nodes_of ns states) lines) c.deref-3.ensures.value
     (subst (λ ns. IsAutomatonOf (states_of table)
-    (nodes_of c.deref-3.result.now ns) lines) c.deref-2.ensures.value c.in_ok-automaton.ensures) in
+    (nodes_of c.deref-3.result.now ns) lines) c.deref-2.ensures.value c.in_ok-automaton.ensures.automaton) in
     right_automaton (problem_in c.args.frame.now) nodes
     (states_of table) table.filled table.some states order places part numbers told lines automaton

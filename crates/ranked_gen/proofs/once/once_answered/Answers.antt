@@ -4,8 +4,8 @@ use Rattle.ranked_gen.proofs.once.once_answered.Goals as goal
 pub ending_of-requires : goal.ending_of-requires
 ending_of-requires c = record { part = (bare_nodes c.in_ok-nodes.field-0.nodes.items, c.in_ok-nodes.ensures.part) }
 
-pub returns : goal.returns
-returns c =
+pub returns-clause-right : goal.returns-clause-right
+returns-clause-right c =
     let once = c.in_ok-nodes.ensures in
     record {
       form = c.in_ok-form.ensures;

@@ -21,17 +21,15 @@ ending_of-requires c =
       );
     }
 
-pub returns : goal.returns
-returns c =
+pub returns-clause-right : goal.returns-clause-right
+returns-clause-right c =
     let problem = problem_in c.args.frame.now in
     let ranked = c.args.ranked in
     let nodes = nodes_at ranked.stages.items (last_stage problem) in
     let part = part_of problem (last_stage problem) nodes
     (states_of ranked.left.kept.table) ranked.left.kept.states.items ranked.left.order.items
     c.requires.ranked.1.left in
-    record {
-      right = right_answer problem c.requires.ranked.0
-          (last_stage problem) ranked.stages.items ranked.counts.items c.requires.ranked.1.so_far refl _
-          c.in_ok-own.ensures refl c.in_ok-example.ensures.example refl
-          (c.in_ok-example.ensures.automaton nodes part);
-    }
+    right_answer problem c.requires.ranked.0
+    (last_stage problem) ranked.stages.items ranked.counts.items c.requires.ranked.1.so_far refl _
+    c.in_ok-own.ensures refl c.in_ok-example.ensures.example refl
+    (c.in_ok-example.ensures.automaton nodes part)

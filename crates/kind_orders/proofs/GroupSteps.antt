@@ -1,0 +1,312 @@
+-- Lines that are sorted by target are joined group by group.
+use Rattle.std.proofs.Common.{◌≡◌, ◌≢◌, ℕ, suc, ◌+◌, ◌<◌, ◌≤◌, Bool, true, false, List, [], ◌∷◌, ◌++◌, map, take, length, get_or, refl, ap, sym, ◌∙◌, subst, arith, IsTrue, All, AllPairs, Contains, IsPermutation, ⊎_elim, true≢false}
+use Rattle.std.specs.Ordering.{is_lt, nat_cmp, ordering_then}
+use Rattle.std.specs.Cmp.Lexicographic.{slice_cmp}
+use Rattle.std.specs.Cmp.{nat_cmp_is}
+use Rattle.std.specs.declared.cmp.Ordering.TheVariants.{Less}
+use Rattle.std.specs.List.Sorted.{IsSorted}
+use Rattle.std.proofs.lemmas.Bool.{cases_lt}
+use Rattle.std.proofs.lemmas.List.{map-append, length-map, get_or-map, get_or_default, take_more, take_all}
+use Rattle.std.proofs.lemmas.List.Elements.{All-nil, All-append, All-map, All-push, All-contains}
+use Rattle.std.proofs.lemmas.List.Kept.{AllPairs-cons}
+use Rattle.std.proofs.lemmas.List.Sorted.{ranks_by, sorted_far, All-permutation, IsPermutation-map}
+use Rattle.tier_core.specs.declared.sym.Sym.{Sym}
+use Rattle.tier_core.specs.declared.class.Class.{Class}
+use Rattle.tier_core.specs.Classes.{sets_of, AreDisjoint}
+use Rattle.symbol_class.specs.Filled.{is_filled}
+use Rattle.symbol_class.specs.Held.{times_held, some_has, width_of, ArePieces}
+use Rattle.symbol_class.specs.Joined.{DifferTwice}
+use Rattle.symbol_class.proofs.Pairs.{pairs_map, pairs_permuted}
+use Rattle.symbol_class.proofs.Times.{pairs_head, pairs_tail, none_held, some_held, once_from_apart, pieces_from_once}
+use Rattle.symbol_class.proofs.JoinedClasses.{pieces_of_width, apart_permuted}
+use Rattle.answer_text.specs.declared.automaton.ArcLine.{ArcLine}
+use Rattle.answer_text.specs.Right.{arc_cmp}
+use Rattle.kind_orders.specs.JoinedArcs.{AreJoined}
+use Rattle.kind_orders.specs.JoinedLines.{arc_to, classes_of, times_to, AreJoinedFrom, AddsJoined}
+use Rattle.kind_orders.proofs.ArcOrder.{arc_cmp_total}
+use Rattle.kind_orders.proofs.ArcCounts.{adds, times-arc, times-both, times-take, times-permuted, times-target, times-same, anywhere, once_if_apart}
+
+-- pairs of two lists
+pub pairs-append : {X : Type 0} (R : X → X → Type 0) (xs ys : List X) → AllPairs R xs → AllPairs R ys
+    → ((x : X) → Contains xs x → All (R x) ys) → AllPairs R (xs ++ ys)
+pairs-append R [] ys left right across = right
+pairs-append R (x ∷ xs) ys left right across = AllPairs-cons R x (xs ++ ys)
+    (All-append (R x) xs ys (pairs_head R x xs left) (across x (0, omega arith, refl)))
+    (pairs-append R xs ys (pairs_tail R x xs left) right
+    (λ y c. across y (suc c.0, omega (arith, c.1), c.2)))
+
+-- classes that are apart hold each column as often as others that hold the same columns
+held_same : (xs ys : List Class) (column : List Sym) → AllPairs AreDisjoint xs → AllPairs AreDisjoint ys
+    → some_has xs column ≡ some_has ys column → times_held xs column ≡ times_held ys column
+held_same xs ys column apart_xs apart_ys same = go (some_has ys column) refl
+  where
+    go : (b : Bool) → some_has ys column ≡ b → times_held xs column ≡ times_held ys column
+    go true e = omega (
+      arith,
+      some_held xs column (same ∙ e),
+      some_held ys column e,
+      once_from_apart xs apart_xs column,
+      once_from_apart ys apart_ys column,
+    )
+    go false e = omega (arith, none_held xs column (same ∙ e), none_held ys column e)
+
+-- what `join` gives is put at the end of other arcs
+pub adds_joined : (target width : ℕ) (classes joined : List Class) (old new : List ArcLine)
+    → ArePieces width classes → ArePieces width joined
+    → ((column : List Sym) → some_has joined column ≡ some_has classes column) → AllPairs DifferTwice joined
+    → new ≡ old ++ map (arc_to target) joined → AddsJoined target classes old new
+adds_joined target width classes joined old new pieces made columns differ is = record {
+  added = joined;
+  new_is = is;
+  held = λ column. held_same joined classes column made.apart pieces.apart (columns column);
+  filled = made.filled;
+  differ = differ;
+}
+
+-- and so is one class as it is
+pub adds_one : (target width : ℕ) (classes : List Class) (old new : List ArcLine) → length classes < 2
+    → ArePieces width classes → new ≡ old ++ map (arc_to target) classes → AddsJoined target classes old new
+adds_one target width classes old new few pieces is = record {
+  added = classes;
+  new_is = is;
+  held = λ column. refl;
+  filled = pieces.filled;
+  differ = λ i j d less inside. absurd (omega arith);
+}
+
+-- ---- lines and groups
+
+-- The first n lines are joined, but for those of the group at hand.
+pub record AreJoinedSoFar (lines : List ArcLine) (n : ℕ) (done : List ArcLine) (target : ℕ)
+    (classes : List Class) : Type 0 where
+  pub held : (to : ℕ → Bool) (column : List Sym)
+      → times_to to done column + times_to to (map (arc_to target) classes) column ≡ times_to to (take n lines) column
+  pub filled : All (λ (arc : ArcLine). IsTrue (is_filled arc.class)) done
+  pub joined : AreJoined done
+  pub below : All (λ (arc : ArcLine). arc.target < target) done
+  pub pieces : ArePieces (width_of (classes_of lines)) classes
+  pub ahead : (k : ℕ) (d : ArcLine) → n ≤ k → k < length lines → target ≤ (get_or lines k d).target
+
+-- The first n lines are joined, and none has a greater target.
+pub record AreJoinedUpto (lines : List ArcLine) (n : ℕ) (done : List ArcLine) (target : ℕ) : Type 0 where
+  pub held : (to : ℕ → Bool) (column : List Sym) → times_to to done column ≡ times_to to (take n lines) column
+  pub filled : All (λ (arc : ArcLine). IsTrue (is_filled arc.class)) done
+  pub joined : AreJoined done
+  pub upto : All (λ (arc : ArcLine). arc.target ≤ target) done
+
+pub none_joined : (lines : List ArcLine) → AreJoinedSoFar lines 0 [] 0 []
+none_joined lines = record {
+  held = λ to column. refl;
+  filled = All-nil (λ (arc : ArcLine). IsTrue (is_filled arc.class));
+  joined = λ i j d less inside. absurd (omega arith);
+  below = All-nil (λ (arc : ArcLine). arc.target < 0);
+  pieces = record {
+    one_width = All-nil (λ class. length (sets_of class) ≡ width_of (classes_of lines));
+    filled = All-nil (λ class. IsTrue (is_filled class));
+    apart = λ i j d less inside. absurd (omega arith);
+  };
+  ahead = λ k d past inside. omega arith;
+}
+
+-- arcs of one target are joined if any two of their classes differ twice
+joined_to : (target : ℕ) (classes : List Class) → AllPairs DifferTwice classes → AreJoined (map (arc_to target) classes)
+joined_to target classes differ =
+    pairs_map (λ (a b : ArcLine). a.target ≡ b.target → DifferTwice a.class b.class) (arc_to target) classes
+    (λ i j d less inside same. differ i j d less inside)
+
+-- the group at hand is at an end
+pub group_joined : (lines : List ArcLine) (n : ℕ) (done new : List ArcLine) (target : ℕ) (classes : List Class)
+    → AreJoinedSoFar lines n done target classes → AddsJoined target classes done new
+    → AreJoinedUpto lines n new target
+group_joined lines n done new target classes a adds = subst (λ arcs. AreJoinedUpto lines n arcs target)
+    (sym adds.new_is) (record {
+      held = λ to column. omega (
+        arith,
+        times-both to column done (map (arc_to target) adds.added),
+        times-same to column target adds.added classes (adds.held column),
+        a.held to column,
+      );
+      filled = All-append (λ (arc : ArcLine). IsTrue (is_filled arc.class)) done (map (arc_to target) adds.added)
+          a.filled (All-map (λ (arc : ArcLine). IsTrue (is_filled arc.class)) (arc_to target) adds.added adds.filled);
+      joined = pairs-append (λ (x y : ArcLine). x.target ≡ y.target → DifferTwice x.class y.class) done
+          (map (arc_to target) adds.added) a.joined (joined_to target adds.added adds.differ)
+          (λ arc c. All-map (λ (y : ArcLine). arc.target ≡ y.target → DifferTwice arc.class y.class) (arc_to target)
+          adds.added (λ k d inside same. let less = All-contains (λ (x : ArcLine). x.target < target) done arc a.below c
+          in absurd (omega arith)));
+      upto = All-append (λ (arc : ArcLine). arc.target ≤ target) done (map (arc_to target) adds.added)
+          (λ k d inside. let less = a.below k d inside in omega arith)
+          (All-map (λ (arc : ArcLine). arc.target ≤ target) (arc_to target) adds.added (λ k d inside. omega arith));
+    })
+
+module _ (lines : List ArcLine) (pieces : ArePieces (width_of (classes_of lines)) (classes_of lines))
+    (sorted : AllPairs (λ (a b : ArcLine). a.target ≤ b.target) lines) (n : ℕ) (line : ArcLine)
+    (inside : n < length lines) (is : line ≡ get_or lines n line) where
+  abbrev width : ℕ
+  width = width_of (classes_of lines)
+
+  listed : Contains lines line
+  listed = (n, inside, sym is)
+
+  wide : length (sets_of line.class) ≡ width
+  wide = subst (λ (arc : ArcLine). length (sets_of arc.class) ≡ width) (sym is)
+      (subst (λ class. length (sets_of class) ≡ width)
+      (get_or-map (λ (arc : ArcLine). arc.class) lines n line line.class inside)
+      (pieces.one_width n line.class (omega (arith, length-map lines (λ (arc : ArcLine). arc.class)))))
+
+  filled : IsTrue (is_filled line.class)
+  filled = subst (λ (arc : ArcLine). IsTrue (is_filled arc.class)) (sym is)
+      (subst (λ class. IsTrue (is_filled class))
+      (get_or-map (λ (arc : ArcLine). arc.class) lines n line line.class inside)
+      (pieces.filled n line.class (omega (arith, length-map lines (λ (arc : ArcLine). arc.class)))))
+
+  -- no line behind it has a lower target
+  line_ahead : (k : ℕ) (d : ArcLine) → n + 1 ≤ k → k < length lines → line.target ≤ (get_or lines k d).target
+  line_ahead k d past within = subst (λ (arc : ArcLine). arc.target ≤ (get_or lines k d).target) (sym is)
+      (subst (λ (arc : ArcLine). (get_or lines n line).target ≤ arc.target) (get_or_default lines k line d within)
+      (sorted n k line (omega arith) within))
+
+  -- one line more is counted
+  taken : (to : ℕ → Bool) (column : List Sym)
+      → times_to to (take (n + 1) lines) column ≡ times_to to (take n lines) column + adds to column line
+  taken to column =
+      let more : take (n + 1) lines ≡ take n lines ++ line ∷ [] =
+      take_more lines n line inside ∙ ap (λ arc. take n lines ++ arc ∷ []) (sym is) in
+      let count = times-both to column (take n lines) (line ∷ []) in
+      let one = times-arc to column line [] in
+      omega (arith, ap (λ arcs. times_to to arcs column) more, count, one)
+
+  -- a group that is counted among the lines is one of pieces
+  pieces_if : (done : List ArcLine) (target : ℕ) (classes : List Class)
+      → All (λ class. length (sets_of class) ≡ width) classes → All (λ class. IsTrue (is_filled class)) classes
+      → ((column : List Sym) → times_to anywhere done column + times_to anywhere (map (arc_to target) classes) column
+      ≡ times_to anywhere (take (n + 1) lines) column) → ArePieces width classes
+  pieces_if done target classes one_width all_filled held = pieces_from_once width classes one_width all_filled
+      (λ column. omega (
+        arith,
+        times-target anywhere column target classes,
+        held column,
+        times-take anywhere column lines (n + 1),
+        once_if_apart lines pieces.apart column,
+      ))
+
+  -- the line has the target of the group
+  pub same_group : (done : List ArcLine) (target : ℕ) (classes : List Class) → line.target ≡ target
+      → AreJoinedSoFar lines n done target classes
+      → AreJoinedSoFar lines (n + 1) done target (classes ++ line.class ∷ [])
+  same_group done target classes same a =
+      let held : (to : ℕ → Bool) (column : List Sym)
+      → times_to to done column + times_to to (map (arc_to target) (classes ++ line.class ∷ [])) column
+      ≡ times_to to (take (n + 1) lines) column = λ to column. omega (
+        arith,
+        ap (λ arcs. times_to to arcs column) (map-append (arc_to target) classes (line.class ∷ [])),
+        times-both to column (map (arc_to target) classes) (arc_to target line.class ∷ []),
+        times-arc to column (arc_to target line.class) [],
+        ap (λ t. adds to column (arc_to t line.class)) same,
+        a.held to column,
+        taken to column,
+      ) in
+      record {
+        held = held;
+        filled = a.filled;
+        joined = a.joined;
+        below = a.below;
+        pieces = pieces_if done target (classes ++ line.class ∷ [])
+            (All-push (λ class. length (sets_of class) ≡ width) classes line.class a.pieces.one_width wide)
+            (All-push (λ class. IsTrue (is_filled class)) classes line.class a.pieces.filled filled)
+            (λ column. held anywhere column);
+        ahead = λ k d past within. a.ahead k d (omega arith) within;
+      }
+
+  -- the line has another target, and the group is joined
+  pub other_group : (done new : List ArcLine) (target : ℕ) (classes : List Class) → line.target ≢ target
+      → AreJoinedSoFar lines n done target classes → AddsJoined target classes done new
+      → AreJoinedSoFar lines (n + 1) new line.target (line.class ∷ [])
+  other_group done new target classes other a add =
+      let upto = group_joined lines n done new target classes a add in
+      let here : target ≤ line.target = subst (λ (arc : ArcLine). target ≤ arc.target) (sym is)
+      (a.ahead n line (omega arith) inside) in
+      let held : (to : ℕ → Bool) (column : List Sym)
+      → times_to to new column + times_to to (map (arc_to line.target) (line.class ∷ [])) column
+      ≡ times_to to (take (n + 1) lines) column = λ to column. omega (
+        arith,
+        times-arc to column line [],
+        upto.held to column,
+        taken to column,
+      ) in
+      record {
+        held = held;
+        filled = upto.filled;
+        joined = upto.joined;
+        below = λ k d within. let most = upto.upto k d within in omega (arith, other);
+        pieces = pieces_if new line.target (line.class ∷ [])
+            (All-push (λ class. length (sets_of class) ≡ width) [] line.class
+            (All-nil (λ class. length (sets_of class) ≡ width)) wide)
+            (All-push (λ class. IsTrue (is_filled class)) [] line.class
+            (All-nil (λ class. IsTrue (is_filled class))) filled)
+            (λ column. held anywhere column);
+        ahead = line_ahead;
+      }
+
+-- all lines are joined
+pub lines_joined : (lines : List ArcLine) (done new : List ArcLine) (target : ℕ) (classes : List Class)
+    → AreJoinedSoFar lines (length lines) done target classes → AddsJoined target classes done new
+    → AreJoinedFrom lines new
+lines_joined lines done new target classes a add =
+    let upto = group_joined lines (length lines) done new target classes a add in
+    record {
+      held = λ to column. upto.held to column
+          ∙ ap (λ arcs. times_to to arcs column) (take_all (length lines) lines (omega arith));
+      filled = upto.filled;
+      joined = upto.joined;
+    }
+
+-- ---- lines that are sorted, and arcs
+
+-- sorted lines have targets that never fall
+pub targets_rise : (lines : List ArcLine) → IsSorted arc_cmp lines
+    → AllPairs (λ (a b : ArcLine). a.target ≤ b.target) lines
+targets_rise lines sorted = λ i j d less inside.
+    let a = get_or lines i d in
+    let b = get_or lines j d in
+    let kept = sorted_far (λ (x y : ArcLine). is_lt (arc_cmp x y)) (ranks_by arc_cmp_total (λ (x : ArcLine). x))
+    lines sorted i j d (omega arith) inside in
+    ⊎_elim
+    (λ below. absurd (true≢false (sym (ap (λ o. is_lt (ordering_then o
+    (slice_cmp nat_cmp (sets_of b.class) (sets_of a.class)))) (sym (nat_cmp_is b.target a.target Less below))) ∙ kept)))
+    (λ upto. upto)
+    (cases_lt b.target a.target)
+
+-- the classes of lines are pieces in any order
+pub pieces_permuted : (width : ℕ) (lines others : List ArcLine) → IsPermutation lines others
+    → ArePieces width (classes_of lines) → ArePieces (width_of (classes_of others)) (classes_of others)
+pieces_permuted width lines others p pieces =
+    let same : IsPermutation (classes_of lines) (classes_of others)
+    = IsPermutation-map (λ (arc : ArcLine). arc.class) lines others p in
+    pieces_of_width width (classes_of others) (record {
+      one_width = All-permutation (λ class. length (sets_of class) ≡ width) (classes_of lines) (classes_of others) same
+          pieces.one_width;
+      filled = All-permutation (λ class. IsTrue (is_filled class)) (classes_of lines) (classes_of others) same
+          pieces.filled;
+      apart = apart_permuted (classes_of lines) (classes_of others) same pieces.apart;
+    })
+
+twice_turned : (a b : ArcLine) → (a.target ≡ b.target → DifferTwice a.class b.class)
+    → b.target ≡ a.target → DifferTwice b.class a.class
+twice_turned a b differ same = let d = differ (sym same) in record {
+  first = d.first;
+  second = d.second;
+  ascending = d.ascending;
+  at_first = λ e. d.at_first (sym e);
+  at_second = λ e. d.at_second (sym e);
+}
+
+-- what is joined stays so in any order of lines and arcs
+pub joined_permuted : (moves lines arcs others : List ArcLine) → IsPermutation moves lines
+    → IsPermutation arcs others → AreJoinedFrom lines arcs → AreJoinedFrom moves others
+joined_permuted moves lines arcs others p q a = record {
+  held = λ to column. times-permuted to column arcs others q ∙ a.held to column
+      ∙ times-permuted to column moves lines p;
+  filled = All-permutation (λ (arc : ArcLine). IsTrue (is_filled arc.class)) arcs others q a.filled;
+  joined = pairs_permuted (λ (x y : ArcLine). x.target ≡ y.target → DifferTwice x.class y.class) twice_turned
+      arcs others q a.joined;
+}

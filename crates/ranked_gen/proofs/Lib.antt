@@ -42,3 +42,4 @@ pub mod OnceSteps
 pub mod OnceBudgets
 pub mod OnceTables
 pub mod AgreeingAnswers
+mod MappedErrors

@@ -4,6 +4,9 @@ use Rattle.violation.specs.Problems.{last_stage}
 use Rattle.kind_moves.specs.Frames.{problem_in}
 use Rattle.ranked_gen.proofs.StageKinds.{whatever_ok}
 use Rattle.ranked_gen.proofs.OnceTables.{whole_table, whole_within, whole_over}
+use Rattle.answer_text.specs.declared.once_answer.OnceAnswer.{OnceAnswer}
+use Rattle.kind_orders.specs.JoinedArcs.{HaveJoinedArcs}
+use Rattle.ranked_gen.proofs.MappedErrors.{kept_by_map_err}
 use Rattle.ranked_gen.proofs.once.once_in.Goals as goal
 
 pub explore-requires-clause-kept : goal.explore-requires-clause-kept
@@ -45,3 +48,9 @@ returns-in-Err-OverBudget-clause-over c = λ stage e.
           (c.in-Ok.ensures c.args.budget c.requires.first).left.accepts c.len-stage.result number c.args.budget
           (c.in-Err-OverBudget.ensures.over c.in-Err-OverBudget.field-0-is),
     )
+
+pub returns-in-Ok-explore-clause-joined : goal.returns-in-Ok-explore-clause-joined
+returns-in-Ok-explore-clause-joined c =
+    kept_by_map_err c.once_answered.result c.map_err.result
+    (λ (answer : OnceAnswer). HaveJoinedArcs answer.automaton.states.items) _ c.map_err.ensures.cases
+    c.map_err.ensures.variant c.once_answered.ensures.joined

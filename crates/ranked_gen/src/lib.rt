@@ -19,21 +19,13 @@
 
 mod agreement;
 mod ending;
-mod flags;
 mod gen_err;
 mod generator;
-mod moves;
-mod number;
 mod once;
-mod pick;
-mod place;
 mod ranked;
 mod staged;
-mod state;
-mod stay;
 #[cfg(test)]
 mod tests;
-mod wide_column;
 
 pub use agreement::both_generators_agree;
 pub use gen_err::GenErr;

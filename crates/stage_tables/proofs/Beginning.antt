@@ -36,27 +36,18 @@ first_put kinds over k first s n = elim n.grows [
   | inr put ↦ put.0
 ]
 
-module _ {g : Ghosts UnitWeight} (frame : Frame) (before stage : ℕ) (further : before ≤ stage)
-    (kept : List (TableState UnitWeight g)) (names : List PrefixKind)
-    (by : AreKeptByKinds (problem_in frame) before names kept) where
-  start_named : (first : Kind) → IsStart frame stage first
-      → cut (problem_in frame) before (kind_at_stage frame stage first) ≡ kind_of (problem_in frame) before []
-  start_named first starts =
-      ap (cut (problem_in frame) before) starts.is
-      ∙ cut-kind_of (problem_in frame) before stage further []
-
+module _ {g : Ghosts UnitWeight} (frame : Frame) (stage : ℕ) (kept : List (TableState UnitWeight g))
+    (some : 0 < length kept) where
   pub first_found : (keys : List KindKey) (kinds : List Kind) (over : List ℕ) (first : Kind)
       → AreListed keys kinds over → IsPutLast [] kinds [] over first 0 → IsStart frame stage first
-      → AreFound frame before stage kept keys kinds over
+      → AreFound frame stage kept keys kinds over
   first_found keys kinds over first listed put starts = record {
-    names = names;
-    kept_by = by;
     listed = listed;
     start = (first, (ap (λ xs. slice_get xs 0) put.put, ap (λ xs. slice_get xs 0) put.over_put), starts);
     stands = λ k kind s at.
         (let is = only k kind s at in
-        subst (λ (x : Kind). StandsOver frame before stage names x s) is.0
-        (subst (λ (x : ℕ). StandsOver frame before stage names first x) is.1 stands));
+        subst (λ (x : Kind). StandsOver frame stage (length kept) x s) is.0
+        (subst (λ (x : ℕ). StandsOver frame stage (length kept) first x) is.1 stands));
     reached = λ k kind s at.
         (let is = only k kind s at in
         subst (λ (x : Kind). IsReached frame stage kept x s) is.0
@@ -70,22 +61,18 @@ module _ {g : Ghosts UnitWeight} (frame : Frame) (before stage : ℕ) (further :
             | inr is ↦ is
           ]
 
-      stands : StandsOver frame before stage names first 0
-      stands = record {
-        fits = starts.fits;
-        within = omega (arith, by.named.some, by.named.each_named);
-        named = start_named first starts ∙ sym by.named.start;
-      }
+      stands : StandsOver frame stage (length kept) first 0
+      stands = record { fits = starts.fits; within = some }
 
       reached : IsReached frame stage kept first 0
       reached = record { prefix = []; first = first; starts = starts; leads = refl; arcs = []; path = refl; reads = tt }
 
 -- before any state is made
-pub none_made : {g : Ghosts UnitWeight} {h : Ghosts Count} (frame : Frame) (stage : ℕ)
+pub none_made : {g : Ghosts UnitWeight} {h : Ghosts Count} (frame : Frame) (first stage : ℕ)
     (kept : List (TableState UnitWeight g)) (kinds : List Kind) (over : List ℕ) (states : List (TableState Count h))
-    → length kinds ≡ 1 → states ≡ [] → AreTaken frame stage kept kinds over states
-none_made {g} {h} frame stage kept kinds over states one none =
-    subst (λ (xs : List (TableState Count h)). AreTaken frame stage kept kinds over xs) (sym none) (record {
+    → length kinds ≡ 1 → states ≡ [] → AreTaken frame first stage kept kinds over states
+none_made {g} {h} frame first stage kept kinds over states one none =
+    subst (λ (xs : List (TableState Count h)). AreTaken frame first stage kept kinds over xs) (sym none) (record {
       within = omega arith;
       reached = λ k low high. absurd (omega (arith, low, high));
       each = λ k kind s l at. absurd (omega (arith, l));

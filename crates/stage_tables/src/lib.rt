@@ -16,9 +16,11 @@ mod exploration;
 mod exploring;
 mod kind_key;
 mod listed;
+mod pieces;
 mod ranking;
 mod stage_table;
+mod whole;
 
-pub use exploration::explore;
+pub use exploration::{explore, explore_all};
 pub use ranking::ranked_table;
 pub use stage_table::{ExploreErr, StageTable};

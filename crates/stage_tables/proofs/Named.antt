@@ -31,7 +31,7 @@ use Rattle.stage_laws.specs.StageTables.{IsStage, name_of, cost_of, AreNamedByKi
 use Rattle.stage_laws.specs.FoundTables.{HasMoveOn, AreReached, base_of}
 use Rattle.stage_tables.specs.declared.kind_key.KindKey.{KindKey}
 use Rattle.stage_tables.specs.Explored.{names_at, IsMet, IsOverBudget}
-use Rattle.stage_tables.specs.Listed.{IsAt, IsReached, AreFound, IsTaken, AreTaken, classes_of}
+use Rattle.stage_tables.specs.Listed.{IsAt, IsReached, AreFound, IsTaken, IsTakenFrom, AreTaken, classes_of}
 use Rattle.stage_tables.proofs.Keys.{same_key}
 use Rattle.stage_tables.proofs.HeldMoves.{move_on, held_on, classes_apart, moves_apart}
 use Rattle.stage_tables.proofs.Listing.{at_number, get_or_map, one_number}
@@ -112,7 +112,8 @@ module _ {g : Ghosts UnitWeight} (frame : Frame) (first stage : ℕ) (kept : Lis
         let l = moves_exist states k b here in
         let a = kind_of_state k l in
         let state = taken.each k a.0 a.1 l a.2 in
-        let from = All-contains _ (moves_at states k) b state.taken.each here in
+        let from = All-contains (IsTakenFrom frame first stage kinds over a.0 (moves_at kept a.1)) (moves_at states k) b
+        state.taken.each here in
         (a.0, a.1, a.2, (from.arc, from.listed, from.taken))
 
     -- a column of a new move fits the name of its state

@@ -1,5 +1,5 @@
 -- Moves that are taken one by one.
-use Rattle.std.proofs.Common.{◌≡◌, ℕ, zero, suc, ◌+◌, ◌-◌, ◌==◌, if◌then◌else◌, ◌<◌, ◌≤◌, Bool, true, false, List, [], ◌∷◌, ◌++◌, take, length, map, get_or, refl, ap, sym, ◌∙◌, subst, arith, inl, inr, All, Contains, IsTrue}
+use Rattle.std.proofs.Common.{◌≡◌, ℕ, zero, suc, ◌+◌, ◌-◌, ◌==◌, cond, ne_eqb, ◌<◌, ◌≤◌, Bool, true, false, List, [], ◌∷◌, ◌++◌, take, length, map, get_or, refl, ap, sym, ◌∙◌, subst, arith, inl, inr, All, Contains, IsTrue}
 use Rattle.std.proofs.lemmas.Bool.{cases_lt, false_from_ne_true}
 use Rattle.std.proofs.lemmas.List.Folds.{list_any_at}
 use Rattle.std.proofs.lemmas.List.{get_or-map, length-map, take_more, append-nil, append_assoc, map-append}
@@ -19,11 +19,11 @@ use Rattle.symbol_class.specs.FirstColumn.{first_column}
 use Rattle.symbol_class.proofs.Filled.{has-first_column}
 use Rattle.arc_table.specs.declared.arc.TableArc.{TableArc}
 use Rattle.arc_table.specs.Moves.{moves_at}
-use Rattle.arc_table.specs.States.{states_of}
+use Rattle.arc_table.specs.Conditions.{TargetsExist}
+use Rattle.arc_table.specs.declared.state.TableState.{TableState}
 use Rattle.tier_core.specs.Kinds.{PrefixKind}
 use Rattle.violation.specs.Moves.{move_costs, cost_of}
 use Rattle.violation.specs.Problems.{Problem}
-use Rattle.weight_law.specs.declared.Weight.{Weight}
 use Rattle.kind_moves.specs.declared.frame.Frame.{Frame}
 use Rattle.kind_moves.specs.declared.piece.Piece.{Piece}
 use Rattle.kind_moves.specs.Frames.{problem_in, tiers_in, kind_at_stage, FitsAt}
@@ -41,32 +41,28 @@ piece_column : (exploring : Exploring) (kind : Kind) (class : Class) (piece : Pi
     → IsPieceFrom exploring kind class piece → (column : List Sym) × IsTrue (has piece.class column)
 piece_column exploring kind class piece p = (first_column piece.class, has-first_column piece.class p.filled)
 
-pub piece_stands : (exploring : Exploring) (kind : Kind) (s : ℕ) (arc : TableArc UnitWeight ⟦<UnitWeight as Weight>⟧)
-    → Contains (moves_at (states_of exploring.kept.now) s) arc → (piece : Piece)
-    → IsPieceFrom exploring kind arc.class piece
-    → StandsOver exploring.frame.now exploring.stage (length (states_of exploring.kept.now)) piece.target arc.target
-piece_stands exploring kind s arc here piece p =
-    let column = piece_column exploring kind arc.class piece p in
-    next_stands exploring.frame.now exploring.stage (states_of exploring.kept.now) exploring.kept.now.targets kind s arc
-    column.0 here piece.target (p.is.moves column.0 column.1)
+module _ {g : Ghosts UnitWeight} (exploring : Exploring) (kept : List (TableState UnitWeight g))
+    (exist : TargetsExist kept) (kind : Kind) (s : ℕ) (arc : TableArc UnitWeight g)
+    (here : Contains (moves_at kept s) arc) (piece : Piece) (p : IsPieceFrom exploring kind arc.class piece) where
+  pub piece_stands : StandsOver exploring.frame.now exploring.stage (length kept) piece.target arc.target
+  piece_stands =
+      let column = piece_column exploring kind arc.class piece p in
+      next_stands exploring.frame.now exploring.stage kept exist kind s arc column.0 here piece.target
+      (p.is.moves column.0 column.1)
 
-pub piece_reached : (exploring : Exploring) (kind : Kind) (s : ℕ)
-    → IsReached exploring.frame.now exploring.stage (states_of exploring.kept.now) kind s
-    → (arc : TableArc UnitWeight ⟦<UnitWeight as Weight>⟧)
-    → Contains (moves_at (states_of exploring.kept.now) s) arc → (piece : Piece)
-    → IsPieceFrom exploring kind arc.class piece
-    → IsReached exploring.frame.now exploring.stage (states_of exploring.kept.now) piece.target arc.target
-piece_reached exploring kind s r arc here piece p =
-    let column = piece_column exploring kind arc.class piece p in
-    next_reached exploring.frame.now exploring.stage (states_of exploring.kept.now) exploring.kept.now.targets kind s r
-    arc column.0 here (p.within column.0 column.1) piece.target (p.is.moves column.0 column.1)
+  pub piece_reached : IsReached exploring.frame.now exploring.stage kept kind s
+      → IsReached exploring.frame.now exploring.stage kept piece.target arc.target
+  piece_reached r =
+      let column = piece_column exploring kind arc.class piece p in
+      next_reached exploring.frame.now exploring.stage kept exist kind s r arc column.0 here
+      (p.within column.0 column.1) piece.target (p.is.moves column.0 column.1)
 
 -- what a column costs under the last constraint, and 0 where there is none
 last_cost : (problem : Problem) (stage : ℕ) (k : PrefixKind) (column : List Sym)
-    → (if stage == 0 then 0 else get_or (move_costs problem stage k column) (stage - 1) 0)
-    ≡ cost_of problem stage k column
+    → cond (stage == 0) 0 (get_or (move_costs problem stage k column) (stage - 1) 0) ≡ cost_of problem stage k column
 last_cost problem zero k column = refl
-last_cost problem (suc n) k column = refl
+last_cost problem (suc n) k column =
+    ap (λ b. cond b 0 (get_or (move_costs problem (suc n) k column) (suc n - 1) 0)) (ne_eqb (suc n) 0 (λ e. omega (arith, e)))
 
 pub piece_weighs : (exploring : Exploring) (kind : Kind) {class : Class} (piece : Piece)
     → IsPieceFrom exploring kind class piece → (column : List Sym) → IsTrue (has piece.class column)
@@ -204,19 +200,19 @@ all_pushed exploring first now kind arc pieces old new n so_far last are = recor
 
 -- moves of two lists of kept ones
 taken_then : {g : Ghosts UnitWeight} {h : Ghosts Count} (frame : Frame) (first stage : ℕ) (kinds : List Kind)
-    (over : List ℕ) (kind : Kind) (as bs : List (TableArc UnitWeight g)) (xs ys : List (TableArc Count h))
-    → AreTakenMoves frame first stage kinds over kind as xs → AreTakenMoves frame first stage kinds over kind bs ys
-    → AreTakenMoves frame first stage kinds over kind (as ++ bs) (xs ++ ys)
-taken_then {g} {h} frame first stage kinds over kind as bs xs ys a b = record {
-  each = All-append (IsTakenFrom frame first stage kinds over kind (as ++ bs)) xs ys
+    (over : List ℕ) (kind : Kind) (ks ls : List (TableArc UnitWeight g)) (xs ys : List (TableArc Count h))
+    → AreTakenMoves frame first stage kinds over kind ks xs → AreTakenMoves frame first stage kinds over kind ls ys
+    → AreTakenMoves frame first stage kinds over kind (ks ++ ls) (xs ++ ys)
+taken_then {g} {h} frame first stage kinds over kind ks ls xs ys a b = record {
+  each = All-append (IsTakenFrom frame first stage kinds over kind (ks ++ ls)) xs ys
       (λ k d l. (let from = a.each k d l in record {
         arc = from.arc;
-        listed = Contains-append_left as bs from.arc from.listed;
+        listed = Contains-append_left ks ls from.arc from.listed;
         taken = from.taken;
       }))
       (λ k d l. (let from = b.each k d l in record {
         arc = from.arc;
-        listed = Contains-append_right as bs from.arc from.listed;
+        listed = Contains-append_right ks ls from.arc from.listed;
         taken = from.taken;
       }));
   held = λ column fits.
@@ -228,10 +224,10 @@ taken_then {g} {h} frame first stage kinds over kind as bs xs ys a b = record {
     split xs ys column = ap (λ cs. times_held cs column) (map-append (λ arc. arc.class) xs ys)
         ∙ times-append (classes_of xs) (classes_of ys) column
 
-    parts : (column : List Sym) → times_held (classes_of (as ++ bs)) column
-        ≡ times_held (classes_of as) column + times_held (classes_of bs) column
-    parts column = ap (λ cs. times_held cs column) (map-append (λ arc. arc.class) as bs)
-        ∙ times-append (classes_of as) (classes_of bs) column
+    parts : (column : List Sym) → times_held (classes_of (ks ++ ls)) column
+        ≡ times_held (classes_of ks) column + times_held (classes_of ls) column
+    parts column = ap (λ cs. times_held cs column) (map-append (λ arc. arc.class) ks ls)
+        ∙ times-append (classes_of ks) (classes_of ls) column
 
 -- the first n kept moves are taken
 pub record TakenSoFar {g : Ghosts UnitWeight} {h : Ghosts Count} (exploring : Exploring) (first now : Listed)

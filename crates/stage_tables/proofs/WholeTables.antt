@@ -33,7 +33,7 @@ use Rattle.stage_tables.proofs.KeptTables.{path_within}
 
 -- columns cost the same under all of the first constraints where they do under each
 one_more : (n k : ℕ) → k < n → (k + 1 == 0) ≡ false
-one_more n k l = ne_eqb (k + 1) 0 (λ e. omega arith)
+one_more n k l = ne_eqb (k + 1) 0 (λ e. omega (arith, e))
 
 same_costs : (frame : Frame) (stage : ℕ) → stage ≤ last_stage (problem_in frame) → (kind : Kind) (c d : List Sym)
     → ((r : ℕ) → 1 ≤ r → r ≤ stage → cost_under frame stage r kind c ≡ cost_under frame stage r kind d)

@@ -1,6 +1,6 @@
 use Rattle.std.proofs.Common.{◌≡◌, refl, sym, ◌∙◌, subst}
 use Rattle.std.proofs.lemmas.Result.{err_from_is_err_and}
-use Rattle.stage_tables.proofs.Finding.{next_stands, next_reached, found_numbered, found_put, found_stays, found_given, taken_move, targets_one}
+use Rattle.stage_tables.proofs.Finding.{found_numbered, found_put, found_stays, found_given, taken_move, targets_one}
 use Rattle.stage_tables.proofs.Taking.{piece_stands, piece_reached, piece_weighs}
 use Rattle.stage_tables.proofs.exploring.Exploring.taken.Goals as goal
 
@@ -13,10 +13,11 @@ returns-in_err-target-clause-beyond c =
     let arc = c.args.arc.now in
     let piece = c.args.piece.now in
     let new = c.number_of.new.listed in
-    let stands = piece_stands exploring c.args.kind.now c.args.state arc c.requires.arc piece c.requires.piece in
-    let reached = piece_reached exploring c.args.kind.now c.args.state
-    (found.reached c.requires.over.0 c.args.kind.now c.args.state c.requires.over.1) arc c.requires.arc piece
+    let stands = piece_stands exploring kept exploring.kept.now.targets c.args.kind.now c.args.state arc c.requires.arc piece
     c.requires.piece in
+    let reached = piece_reached exploring kept exploring.kept.now.targets c.args.kind.now c.args.state arc
+    c.requires.arc piece c.requires.piece
+    (found.reached c.requires.over.0 c.args.kind.now c.args.state c.requires.over.1) in
     let said = c.in_err-target.ensures in
     let same : p.0 ≡ c.in_err-target.field-0.0 = p.2 in
     rw p.1 (λ over. record {
@@ -35,10 +36,11 @@ returns-clause-found c =
     let arc = c.args.arc.now in
     let piece = c.args.piece.now in
     let new = c.number_of.new.listed in
-    let stands = piece_stands exploring c.args.kind.now c.args.state arc c.requires.arc piece c.requires.piece in
-    let reached = piece_reached exploring c.args.kind.now c.args.state
-    (found.reached c.requires.over.0 c.args.kind.now c.args.state c.requires.over.1) arc c.requires.arc piece
+    let stands = piece_stands exploring kept exploring.kept.now.targets c.args.kind.now c.args.state arc c.requires.arc piece
     c.requires.piece in
+    let reached = piece_reached exploring kept exploring.kept.now.targets c.args.kind.now c.args.state arc
+    c.requires.arc piece c.requires.piece
+    (found.reached c.requires.over.0 c.args.kind.now c.args.state c.requires.over.1) in
     record {
       found = found_numbered exploring.frame.now exploring.stage kept exploring.kept.now.targets
           c.args.listed.now.keys.keys new.keys.keys c.args.listed.now.kinds.items new.kinds.items
@@ -72,10 +74,10 @@ returns-clause-taken c =
     let arc = c.args.arc.now in
     let piece = c.args.piece.now in
     let new = c.number_of.new.listed in
-    let stands = piece_stands exploring kind c.args.state arc c.requires.arc piece c.requires.piece in
-    let reached = piece_reached exploring kind c.args.state
-    (found.reached c.requires.over.0 kind c.args.state c.requires.over.1) arc c.requires.arc piece
+    let stands = piece_stands exploring kept exploring.kept.now.targets kind c.args.state arc c.requires.arc piece
     c.requires.piece in
+    let reached = piece_reached exploring kept exploring.kept.now.targets kind c.args.state arc c.requires.arc piece
+    c.requires.piece (found.reached c.requires.over.0 kind c.args.state c.requires.over.1) in
     let given = found_given exploring.frame.now exploring.stage kept exploring.kept.now.targets
     c.args.listed.now.keys.keys new.keys.keys c.args.listed.now.kinds.items new.kinds.items
     c.args.listed.now.over.items new.over.items found c.in_ok-target.ensures.listed exploring.over_one

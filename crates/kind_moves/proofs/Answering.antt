@@ -27,21 +27,28 @@ some_edge types column =
     ap not (none_pass (λ e. is_edge (symbol column e.tier)) types) ∙ not_not (edge_among types column)
 
 -- a class that has what is asked of two sides has every column of some class; so it is not asked of some column
-pub is_ended : (has_left has_both whole : Bool) (left right : List Event) (column : List Sym) → whole ≡ true → has_left ≡ (whole && answers NoEdge left column) → has_both ≡ (has_left && answers NoEdge right column)
+pub is_ended : (has_left has_both whole : Bool) (left right : List Event) (column : List Sym) → whole ≡ true
+    → has_left ≡ (whole && answers NoEdge left column) → has_both ≡ (has_left && answers NoEdge right column)
     → not has_both ≡ edge_among (left ++ right) column
 is_ended has_left has_both whole left right column all a b =
-    ap not (b ∙ ap (λ x. x && answers NoEdge right column) (a ∙ ap (λ x. x && answers NoEdge left column) all) ∙ sym (list_all-append (λ e. not (is_edge (symbol column e.tier))) left right))
+    ap not (b ∙ ap (λ x. x && answers NoEdge right column) (a ∙ ap (λ x. x && answers NoEdge left column) all)
+    ∙ sym (list_all-append (λ e. not (is_edge (symbol column e.tier))) left right))
     ∙ some_edge (left ++ right) column
 
-pub is_left_ended : (has_left whole : Bool) (left : List Event) (column : List Sym) → whole ≡ true → has_left ≡ (whole && answers NoEdge left column) → not has_left ≡ edge_among left column
-is_left_ended has_left whole left column all a = ap not (a ∙ ap (λ x. x && answers NoEdge left column) all) ∙ some_edge left column
+pub is_left_ended : (has_left whole : Bool) (left : List Event) (column : List Sym) → whole ≡ true
+    → has_left ≡ (whole && answers NoEdge left column) → not has_left ≡ edge_among left column
+is_left_ended has_left whole left column all a = ap not (a ∙ ap (λ x. x && answers NoEdge left column) all)
+    ∙ some_edge left column
 
-pub are_present : (has_left has_both whole : Bool) (left right : List Event) (column : List Sym) → whole ≡ true → has_left ≡ (whole && answers Present left column) → has_both ≡ (has_left && answers Present right column)
+pub are_present : (has_left has_both whole : Bool) (left right : List Event) (column : List Sym) → whole ≡ true
+    → has_left ≡ (whole && answers Present left column) → has_both ≡ (has_left && answers Present right column)
     → has_both ≡ list_all (is_present column) (left ++ right)
 are_present has_left has_both whole left right column all a b =
-    b ∙ ap (λ x. x && answers Present right column) (a ∙ ap (λ x. x && answers Present left column) all) ∙ sym (list_all-append (is_present column) left right)
+    b ∙ ap (λ x. x && answers Present right column) (a ∙ ap (λ x. x && answers Present left column) all)
+    ∙ sym (list_all-append (is_present column) left right)
 
-pub are_missing : (has_left has_both whole : Bool) (left right : List Event) (column : List Sym) → whole ≡ true → has_left ≡ (whole && answers Present left column) → has_both ≡ (has_left && answers Absent right column)
+pub are_missing : (has_left has_both whole : Bool) (left right : List Event) (column : List Sym) → whole ≡ true
+    → has_left ≡ (whole && answers Present left column) → has_both ≡ (has_left && answers Absent right column)
     → has_both ≡ (list_all (is_present column) left && not (list_any (is_present column) right))
 are_missing has_left has_both whole left right column all a b =
     b ∙ ap (λ x. x && answers Absent right column) (a ∙ ap (λ x. x && answers Present left column) all)

@@ -12,17 +12,25 @@ use Rattle.tier_core.proofs.SetLemmas.{alone_in, only_in}
 use Rattle.violation.proofs.CandidateLemmas.{part_from, part_end}
 
 -- one tier more
-pub tier_more : (next rest inside whole : Bool) (test : ℕ → Bool) (tier : ℕ) → next ≡ (rest && inside) → inside ≡ test tier
-    → (IsTrue rest ↔ (IsTrue whole × ((t : ℕ) → t < tier → test t ≡ true))) → IsTrue next ↔ (IsTrue whole × ((t : ℕ) → t < tier + 1 → test t ≡ true))
+pub tier_more : (next rest inside whole : Bool) (test : ℕ → Bool) (tier : ℕ) → next ≡ (rest && inside)
+    → inside ≡ test tier
+    → (IsTrue rest ↔ (IsTrue whole × ((t : ℕ) → t < tier → test t ≡ true)))
+    → IsTrue next ↔ (IsTrue whole × ((t : ℕ) → t < tier + 1 → test t ≡ true))
 tier_more next rest inside whole test tier e is so_far = (
-  λ h. let parts = and_parts rest inside (sym e ∙ h) in let before = so_far.0 parts.0 in (before.0, below_more (λ t. test t ≡ true) tier before.1 (sym is ∙ parts.1)),
+  λ h. let parts = and_parts rest inside (sym e ∙ h) in let before = so_far.0 parts.0 in (
+    before.0,
+    below_more
+        (λ t. test t ≡ true) tier before.1 (sym is ∙ parts.1),
+  ),
   λ h. e ∙ and_from rest inside (so_far.1 (h.0, λ t l. h.1 t (omega arith))) (is ∙ h.1 tier (omega arith)),
 )
 
 -- ---- the input part
 
-part_step : (kinds : List TierKind) (column : List Sym) (k : ℕ) (d : TierKind) (b : Bool) → k < length kinds → is_input (get_or kinds k d) ≡ b
-    → part_from kinds column k ≡ cond b (symbol column k ∷ part_from kinds column (k + 1)) (part_from kinds column (k + 1))
+part_step : (kinds : List TierKind) (column : List Sym) (k : ℕ) (d : TierKind) (b : Bool) → k < length kinds
+    → is_input (get_or kinds k d) ≡ b
+    → part_from kinds column k ≡ cond b (symbol column k ∷ part_from kinds column (k + 1))
+    (part_from kinds column (k + 1))
 part_step kinds column k d b l h =
     let one : suc k ≡ k + 1 = omega arith in
     at_drop_more (λ ks. map (symbol column) (numbers_from is_input k ks)) kinds k d l
@@ -30,7 +38,8 @@ part_step kinds column k d b l h =
     ∙ ap (λ n. map (symbol column) (cond b (k ∷ []) [] ++ numbers_from is_input n (drop (k + 1) kinds))) one
     ∙ by b
   where
-    by : (b : Bool) → map (symbol column) (cond b (k ∷ []) [] ++ numbers_from is_input (k + 1) (drop (k + 1) kinds)) ≡ cond b (symbol column k ∷ part_from kinds column (k + 1)) (part_from kinds column (k + 1))
+    by : (b : Bool) → map (symbol column) (cond b (k ∷ []) [] ++ numbers_from is_input (k + 1) (drop (k + 1) kinds))
+        ≡ cond b (symbol column k ∷ part_from kinds column (k + 1)) (part_from kinds column (k + 1))
     by true = refl
     by false = refl
 
@@ -45,30 +54,48 @@ head_same x y xs ys e = cc
 tail_same : (x y : Sym) (xs ys : List Sym) → (x ∷ xs) ≡ (y ∷ ys) → xs ≡ ys
 tail_same x y xs ys e = cc
 
-pub reads_more : (after rest whole : Bool) (kinds : List TierKind) (column form : List Sym) (k next set : ℕ) (d : TierKind) → k < length kinds → is_input (get_or kinds k d) ≡ true
+pub reads_more : (after rest whole : Bool) (kinds : List TierKind) (column form : List Sym) (k next set : ℕ)
+    (d : TierKind) → k < length kinds → is_input (get_or kinds k d) ≡ true
     → next < length form → set ≡ single_set (symbol form next) → after ≡ (rest && is_in set (symbol column k))
     → ReadsOn rest whole kinds column form k next → ReadsOn after whole kinds column form (k + 1) (next + 1)
 reads_more after rest whole kinds column form k next set d l h within alone e so_far =
     let here = part_step kinds column k d true l h in
-    let read : drop next form ≡ symbol form next ∷ drop (next + 1) form = at_drop_more (λ xs. xs) form next Outside within in
+    let read : drop next form ≡ symbol form next ∷ drop (next + 1) form = at_drop_more
+    (λ xs. xs) form next Outside within in
     let same = e ∙ ap (λ x. rest && is_in x (symbol column k)) alone in (
       λ p. let parts = and_parts rest (is_in (single_set (symbol form next)) (symbol column k)) (sym same ∙ p.0) in
-          so_far.0 (parts.0, here ∙ ap₂ (λ x xs. x ∷ xs) (only_in (symbol form next) (symbol column k) parts.1) p.1 ∙ sym read),
+          so_far.0 (
+            parts.0,
+            here ∙ ap₂ (λ x xs. x ∷ xs) (only_in (symbol form next) (symbol column k) parts.1) p.1
+                ∙ sym read,
+          ),
       λ p. let q = so_far.1 p in
-          let both : (symbol column k ∷ part_from kinds column (k + 1)) ≡ (symbol form next ∷ drop (next + 1) form) = sym here ∙ q.1 ∙ read in
-          (same ∙ and_from rest (is_in (single_set (symbol form next)) (symbol column k)) q.0 (ap (is_in (single_set (symbol form next))) (head_same _ _ _ _ both) ∙ alone_in (symbol form next)), tail_same _ _ _ _ both),
+          let both : (symbol column k ∷ part_from kinds column (k + 1))
+          ≡ (symbol form next ∷ drop (next + 1) form) = sym here ∙ q.1 ∙ read in (
+            same ∙ and_from rest (is_in (single_set (symbol form next)) (symbol column k)) q.0
+                (ap (is_in (single_set (symbol form next))) (head_same _ _ _ _ both)
+                ∙ alone_in (symbol form next)),
+            tail_same _ _ _ _ both,
+          ),
     )
 
-pub reads_same : (rest whole : Bool) (kinds : List TierKind) (column form : List Sym) (k next : ℕ) (d : TierKind) → k < length kinds → is_input (get_or kinds k d) ≡ false
+pub reads_same : (rest whole : Bool) (kinds : List TierKind) (column form : List Sym) (k next : ℕ) (d : TierKind)
+    → k < length kinds → is_input (get_or kinds k d) ≡ false
     → ReadsOn rest whole kinds column form k next → ReadsOn rest whole kinds column form (k + 1) next
 reads_same rest whole kinds column form k next d l h so_far =
     let here = part_step kinds column k d false l h in
     (λ p. so_far.0 (p.0, here ∙ p.1), λ p. let q = so_far.1 p in (q.0, sym here ∙ q.1))
 
 -- where more of the form is left than of the tiers, no column reads it
-pub reads_none : (none rest whole : Bool) (kinds : List TierKind) (column form : List Sym) (k next : ℕ) → length kinds ≤ k → next < length form → none ≡ false
+pub reads_none : (none rest whole : Bool) (kinds : List TierKind) (column form : List Sym) (k next : ℕ)
+    → length kinds ≤ k → next < length form → none ≡ false
     → ReadsOn rest whole kinds column form k next → IsTrue none ↔ (IsTrue whole × (part_from kinds column 0 ≡ form))
 reads_none none rest whole kinds column form k next l within e so_far = (
   λ h. absurd (false≢true (sym e ∙ h)),
-  λ p. let q = so_far.1 p in absurd (omega (arith, ap length (sym q.1 ∙ part_end kinds column k l), length-drop next form)),
+  λ p. let q = so_far.1 p in absurd (omega (
+    arith,
+    ap length (sym q.1
+        ∙ part_end kinds column k l),
+    length-drop next form,
+  )),
 )

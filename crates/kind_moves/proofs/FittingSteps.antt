@@ -26,12 +26,15 @@ use Rattle.kind_moves.specs.Frames.{problem_in, tiers_in, form_in, kind_at_stage
 
 none_edge : (xs : List Sym) → ((t : ℕ) → t < length xs → is_edge (symbol xs t) ≡ false) → has_edge xs ≡ false
 none_edge [] h = refl
-none_edge (x ∷ xs) h = or_from (is_edge x) (has_edge xs) (h zero (omega arith)) (none_edge xs (λ t l. h (suc t) (omega arith)))
+none_edge (x ∷ xs) h = or_from (is_edge x) (has_edge xs) (h zero (omega arith))
+    (none_edge xs (λ t l. h (suc t) (omega arith)))
 
 each_edgeless : (xs : List Sym) → has_edge xs ≡ false → (t : ℕ) → t < length xs → is_edge (symbol xs t) ≡ false
-each_edgeless xs none t l = false_from_ne_true (is_edge (symbol xs t)) (λ e. both_ways (has_edge xs) none (list_any_at is_edge xs t Outside l e))
+each_edgeless xs none t l = false_from_ne_true (is_edge (symbol xs t))
+    (λ e. both_ways (has_edge xs) none (list_any_at is_edge xs t Outside l e))
 
-input_edge : (tiers : List ℕ) (column : List Sym) → AllByRecursion (λ t. t < length column) tiers → has_edge (map (symbol column) tiers) ≡ true → has_edge column ≡ true
+input_edge : (tiers : List ℕ) (column : List Sym) → AllByRecursion (λ t. t < length column) tiers
+    → has_edge (map (symbol column) tiers) ≡ true → has_edge column ≡ true
 input_edge [] column below e = absurd (false≢true e)
 input_edge (t ∷ ts) column below e =
     ⊎_elim (λ here. list_any_at is_edge column t Outside below.0 here) (λ there. input_edge ts column below.1 there)
@@ -58,26 +61,35 @@ first_true a b h = (and_parts a b h).0
 module _ (frame : Frame) (kind : Kind) (class following still bare : Class) (mask : ℕ) (reads : List Sym → Bool)
     (wide : length (sets_of class) ≡ (tiers_in frame).width)
     (opened : (stage t : ℕ) → has_tier mask t ≡ is_tier_open (problem_in frame) (kind_at_stage frame stage kind) t)
-    (follows : (column : List Sym) → IsTrue (has following column) ↔ (IsTrue (has class column) × ((t : ℕ) → t < length (sets_of class) → fits (has_tier mask t) (symbol column t) ≡ true)))
-    (has_still : (column : List Sym) → has still column ≡ (has following column && not (has_edge (input_of (tiers_in frame) column))))
-    (has_bare : (column : List Sym) → IsTrue (has bare column) ↔ (IsTrue (has still column) × ((t : ℕ) → t < length (sets_of class) → is_edge (symbol column t) ≡ false)))
-    (has_read : (column : List Sym) → IsTrue (reads column) ↔ (IsTrue (has following column) × ((kind.place < length (form_in frame)) × (input_of (tiers_in frame) column ≡ column_at (form_in frame) kind.place)))) where
+    (follows : (column : List Sym) → IsTrue (has following column)
+    ↔ (IsTrue (has class column) × ((t : ℕ) → t < length (sets_of class)
+    → fits (has_tier mask t) (symbol column t) ≡ true)))
+    (has_still : (column : List Sym) → has still column ≡ (has following column
+    && not (has_edge (input_of (tiers_in frame) column))))
+    (has_bare : (column : List Sym) → IsTrue (has bare column)
+    ↔ (IsTrue (has still column) × ((t : ℕ) → t < length (sets_of class) → is_edge (symbol column t) ≡ false)))
+    (has_read : (column : List Sym) → IsTrue (reads column) ↔ (IsTrue (has following column)
+    × ((kind.place < length (form_in frame)) × (input_of (tiers_in frame) column
+    ≡ column_at (form_in frame) kind.place)))) where
   width_of_column : (column : List Sym) → has class column ≡ true → length column ≡ (tiers_in frame).width
   width_of_column column h = same_width (sets_of class) column h ∙ wide
 
   abbrev is_read : List Sym → Bool
   is_read column = has_edge (input_of (tiers_in frame) column)
 
-  input_below : (column : List Sym) → length column ≡ (tiers_in frame).width → is_read column ≡ true → has_edge column ≡ true
+  input_below : (column : List Sym) → length column ≡ (tiers_in frame).width → is_read column ≡ true
+      → has_edge column ≡ true
   input_below column w e =
       input_edge (tiers_in frame).input column
-      (subst (λ n. AllByRecursion (λ t. t < n) (tiers_in frame).input) (sym w) (tiers_split frame.grammar.now.tiers.kinds.items).inputs_below) e
+      (subst (λ n. AllByRecursion (λ t. t < n) (tiers_in frame).input) (sym w)
+      (tiers_split frame.grammar.now.tiers.kinds.items).inputs_below) e
 
   abbrev holds : List Sym → Bool
   holds column = (has still column && not (has bare column)) || (reads column && not (has still column))
 
   fits_column : (stage : ℕ) (column : List Sym) → has following column ≡ true → has_edge column ≡ true
-      → ((is_read column ≡ false) ⊎ ((kind.place < length (form_in frame)) × (input_of (tiers_in frame) column ≡ column_at (form_in frame) kind.place)))
+      → ((is_read column ≡ false) ⊎ ((kind.place < length (form_in frame))
+      × (input_of (tiers_in frame) column ≡ column_at (form_in frame) kind.place)))
       → IsTrue (has class column) × FitsAt frame stage kind column
   fits_column stage column f e part =
       let g = (follows column).0 f in (
@@ -90,34 +102,53 @@ module _ (frame : Frame) (kind : Kind) (class following still bare : Class) (mas
         },
       )
 
-  still_fits : (stage : ℕ) (column : List Sym) → (has still column && not (has bare column)) ≡ true → IsTrue (has class column) × FitsAt frame stage kind column
+  still_fits : (stage : ℕ) (column : List Sym) → (has still column && not (has bare column)) ≡ true
+      → IsTrue (has class column) × FitsAt frame stage kind column
   still_fits stage column h =
       let s = first_true (has still column) (not (has bare column)) h in
       let parts = and_parts (has following column) (not (is_read column)) (sym (has_still column) ∙ s) in
       let in_class = ((follows column).0 parts.0).0 in
-      let edge : has_edge column ≡ true = ⊎_elim (λ y. y) (λ none. absurd (both_ways (has bare column) (second_false (has still column) (has bare column) h)
-      ((has_bare column).1 (s, λ t l. each_edgeless column none t (omega (arith, wide, width_of_column column in_class)))))) (cases_Bool (has_edge column)) in
+      let edge : has_edge column ≡ true = ⊎_elim (λ y. y) (λ none. absurd
+      (both_ways (has bare column) (second_false (has still column) (has bare column) h)
+      ((has_bare column).1 (
+        s,
+        λ t l. each_edgeless column none t
+            (omega (arith, wide, width_of_column column in_class)),
+      )))) (cases_Bool (has_edge column)) in
       fits_column stage column parts.0 edge (inl (not-true (is_read column) parts.1))
 
-  read_here : (column : List Sym) → has following column ≡ true → (reads column && not (has still column)) ≡ true → is_read column ≡ true
-  read_here column f h = ⊎_elim (λ y. y) (λ none. absurd (both_ways (has still column) (second_false (reads column) (has still column) h)
-      (has_still column ∙ and_from (has following column) (not (is_read column)) f (ap not none)))) (cases_Bool (is_read column))
+  read_here : (column : List Sym) → has following column ≡ true → (reads column && not (has still column)) ≡ true
+      → is_read column ≡ true
+  read_here column f h = ⊎_elim (λ y. y) (λ none. absurd (both_ways (has still column)
+      (second_false (reads column) (has still column) h)
+      (has_still column ∙ and_from (has following column) (not (is_read column)) f (ap not none))))
+      (cases_Bool (is_read column))
 
-  read_fits : (stage : ℕ) (column : List Sym) → (reads column && not (has still column)) ≡ true → IsTrue (has class column) × FitsAt frame stage kind column
+  read_fits : (stage : ℕ) (column : List Sym) → (reads column && not (has still column)) ≡ true
+      → IsTrue (has class column) × FitsAt frame stage kind column
   read_fits stage column h =
       let r = (has_read column).0 (first_true (reads column) (not (has still column)) h) in
-      fits_column stage column r.0 (input_below column (width_of_column column ((follows column).0 r.0).0) (read_here column r.0 h)) (inr r.1)
+      fits_column stage column r.0 (input_below column (width_of_column column ((follows column).0 r.0).0)
+      (read_here column r.0 h)) (inr r.1)
 
   bare_none : (column : List Sym) → has class column ≡ true → has_edge column ≡ true → has bare column ≡ false
-  bare_none column c e = false_from_ne_true (has bare column) (λ b. both_ways (has_edge column) (none_edge column (λ t l. ((has_bare column).0 b).1 t (omega (arith, wide, width_of_column column c)))) e)
+  bare_none column c e = false_from_ne_true (has bare column)
+      (λ b. both_ways (has_edge column) (none_edge column (λ t l. ((has_bare column).0 b).1 t
+      (omega (arith, wide, width_of_column column c)))) e)
 
-  fits_held : (stage : ℕ) (column : List Sym) → IsTrue (has class column) → FitsAt frame stage kind column → holds column ≡ true
+  fits_held : (stage : ℕ) (column : List Sym) → IsTrue (has class column) → FitsAt frame stage kind column
+      → holds column ≡ true
   fits_held stage column c f =
       ⊎_elim
       (λ read. or_right (has still column && not (has bare column)) (reads column && not (has still column))
       (and_from (reads column) (not (has still column))
-      ((has_read column).1 (after, ⊎_elim (λ none. absurd (both_ways (is_read column) none read)) (λ here. here) f.input))
-      (ap not (has_still column ∙ ap (λ b. has following column && not b) read ∙ and_right (has following column) false refl))))
+      ((has_read column).1 (
+        after,
+        ⊎_elim (λ none. absurd (both_ways (is_read column) none read))
+            (λ here. here) f.input,
+      ))
+      (ap not (has_still column ∙ ap (λ b. has following column && not b) read
+      ∙ and_right (has following column) false refl))))
       (λ none. or_left (has still column && not (has bare column)) (reads column && not (has still column))
       (and_from (has still column) (not (has bare column))
       (has_still column ∙ and_from (has following column) (not (is_read column)) after (ap not none))
@@ -125,22 +156,39 @@ module _ (frame : Frame) (kind : Kind) (class following still bare : Class) (mas
       (cases_Bool (is_read column))
     where
       after : has following column ≡ true
-      after = (follows column).1 (c, λ t l. ap (λ b. fits b (symbol column t)) (opened stage t) ∙ f.symbols t (omega (arith, wide)))
+      after = (follows column).1 (
+        c,
+        λ t l. ap (λ b. fits b (symbol column t)) (opened stage t)
+            ∙ f.symbols t (omega (arith, wide)),
+      )
 
-  module _ (w : ℕ) (one two : List Class) (same : w ≡ (tiers_in frame).width) (u : ℕ) (also : u ≡ (tiers_in frame).width)
+  module _ (w : ℕ) (one two : List Class) (same : w ≡ (tiers_in frame).width) (u : ℕ)
+      (also : u ≡ (tiers_in frame).width)
       (first : AddsClasses w [] one (λ column. once_if (has still column && not (has bare column))))
       (second : AddsClasses u one two (λ column. once_if (reads column && not (has still column)))) where
-    both : AddsAlike (tiers_in frame).width [] two (λ column. once_if (has still column && not (has bare column)) + once_if (reads column && not (has still column))) is_read
+    both : AddsAlike (tiers_in frame).width [] two (λ column. once_if
+        (has still column && not (has bare column)) + once_if (reads column && not (has still column))) is_read
     both =
-        alike_then (tiers_in frame).width [] one two (λ column. once_if (has still column && not (has bare column))) (λ column. once_if (reads column && not (has still column))) (λ column. once_if (has still column && not (has bare column)) + once_if (reads column && not (has still column))) is_read
-        (adds_constant (tiers_in frame).width [] one (λ column. has still column && not (has bare column)) is_read false (subst (λ n. AddsClasses n [] one (λ column. once_if (has still column && not (has bare column)))) same first)
-        (λ column h. not-true (is_read column) (and_parts (has following column) (not (is_read column)) (sym (has_still column) ∙ first_true (has still column) (not (has bare column)) h)).1))
-        (adds_constant (tiers_in frame).width one two (λ column. reads column && not (has still column)) is_read true (subst (λ n. AddsClasses n one two (λ column. once_if (reads column && not (has still column)))) also second)
-        (λ column h. read_here column ((has_read column).0 (first_true (reads column) (not (has still column)) h)).0 h))
+        alike_then (tiers_in frame).width [] one two (λ column. once_if (has still column && not (has bare column)))
+        (λ column. once_if (reads column && not (has still column)))
+        (λ column. once_if (has still column && not (has bare column)) + once_if
+        (reads column && not (has still column))) is_read
+        (adds_constant (tiers_in frame).width [] one (λ column. has still column
+        && not (has bare column)) is_read false (subst (λ n. AddsClasses n [] one
+        (λ column. once_if (has still column && not (has bare column)))) same first)
+        (λ column h. not-true (is_read column) (and_parts (has following column) (not (is_read column))
+        (sym (has_still column) ∙ first_true (has still column) (not (has bare column)) h)).1))
+        (adds_constant (tiers_in frame).width one two (λ column. reads column && not (has still column)) is_read true
+        (subst (λ n. AddsClasses n one two (λ column. once_if (reads column && not (has still column)))) also
+        second)
+        (λ column h. read_here column ((has_read column).0 (first_true (reads column) (not (has still column)) h)).0
+        h))
         (λ column. refl)
 
     all : AddsClasses (tiers_in frame).width [] two (λ column. once_if (holds column))
-    all = adds_same (tiers_in frame).width [] two (λ column. once_if (has still column && not (has bare column)) + once_if (reads column && not (has still column))) (λ column. once_if (holds column)) both.adds
+    all = adds_same (tiers_in frame).width [] two (λ column. once_if
+        (has still column && not (has bare column)) + once_if (reads column && not (has still column)))
+        (λ column. once_if (holds column)) both.adds
         (λ column. either_once (has still column) (has bare column) (reads column))
 
     pub are_fitting : (stage : ℕ) → AreFitting frame stage kind class two
@@ -148,7 +196,8 @@ module _ (frame : Frame) (kind : Kind) (class following still bare : Class) (mas
       pieces = pieces_added (tiers_in frame).width two holds all;
       columns = λ column. (
         λ h. ⊎_elim (still_fits stage column) (read_fits stage column)
-            (or_cases (has still column && not (has bare column)) (reads column && not (has still column)) (sym (columns_added (tiers_in frame).width two holds all column) ∙ h)),
+            (or_cases (has still column && not (has bare column)) (reads column && not (has still column))
+            (sym (columns_added (tiers_in frame).width two holds all column) ∙ h)),
         λ p. columns_added (tiers_in frame).width two holds all column ∙ fits_held stage column p.0 p.1,
       );
     }

@@ -33,20 +33,24 @@ at_most_one : (b : Bool) → cond b 1 0 ≤ 1
 at_most_one true = omega arith
 at_most_one false = omega arith
 
-bits_more : (b : Bool) (flags : List Bool) (mask : ℕ) → AreBits flags mask → AreBits (b ∷ flags) (cond b 1 0 + 2 * mask)
+bits_more : (b : Bool) (flags : List Bool) (mask : ℕ) → AreBits flags mask
+    → AreBits (b ∷ flags) (cond b 1 0 + 2 * mask)
 bits_more b flags mask a = record {
-  within = let twice : 2 ^ suc (length flags) ≡ 2 ^ length flags * 2 = pow-suc 2 (length flags) in omega (arith, twice, a.within, at_most_one b);
+  within = let twice : 2 ^ suc (length flags) ≡ 2 ^ length flags * 2 = pow-suc 2 (length flags) in omega
+      (arith, twice, a.within, at_most_one b);
   each = at;
 }
   where
     at : (i : ℕ) → i < length (b ∷ flags) → has_tier (cond b 1 0 + 2 * mask) i ≡ get_or (b ∷ flags) i false
     at zero l = ap (λ n. n == 1) (bit_at_lowest (cond b 1 0 + 2 * mask) ∙ (halves b mask).0) ∙ lowest_flag b
-    at (suc i) l = ap (λ n. n == 1) (bit_at-suc (cond b 1 0 + 2 * mask) i ∙ ap (λ n. bit_at n i) (halves b mask).1) ∙ a.each i (omega arith)
+    at (suc i) l = ap (λ n. n == 1) (bit_at-suc (cond b 1 0 + 2 * mask) i ∙ ap (λ n. bit_at n i) (halves b mask).1)
+        ∙ a.each i (omega arith)
 
 -- each list of flags has a mask
 pub bits_of : (flags : List Bool) → (mask : ℕ) × AreBits flags mask
 bits_of [] = (0, record { within = omega arith; each = λ i l. absurd (omega arith) })
-bits_of (b ∷ flags) = let rest : (mask : ℕ) × AreBits flags mask = bits_of flags in (cond b 1 0 + 2 * rest.0, bits_more b flags rest.0 rest.1)
+bits_of (b ∷ flags) = let rest : (mask : ℕ) × AreBits flags mask = bits_of flags in
+    (cond b 1 0 + 2 * rest.0, bits_more b flags rest.0 rest.1)
 
 -- and the mask tells them
 pub open_bits : (flags : List Bool) (mask : ℕ) → AreBits flags mask → open_tiers (length flags) mask ≡ flags
@@ -57,30 +61,37 @@ none_bit mask i h = let other = eqb-false (bit_at mask i) 1 h in omega (arith, b
 
 none_any : (is : List ℕ) → list_any (λ flag. flag) (map (has_tier 0) is) ≡ false
 none_any [] = refl
-none_any (i ∷ is) = ap (λ b. b || list_any (λ flag. flag) (map (has_tier 0) is)) (ap (λ n. n == 1) (bit_at-zero i)) ∙ none_any is
+none_any (i ∷ is) = ap (λ b. b || list_any (λ flag. flag) (map (has_tier 0) is)) (ap (λ n. n == 1) (bit_at-zero i))
+    ∙ none_any is
 
 -- a mask is 0 exactly where it has no flag
 pub no_flag : (n mask : ℕ) → mask < 2 ^ n → nat_eq mask 0 ≡ not (list_any (λ flag. flag) (open_tiers n mask))
 no_flag n mask l = by (list_any (λ flag. flag) (open_tiers n mask)) refl
   where
-    unset : list_any (λ flag. flag) (open_tiers n mask) ≡ false → (i : ℕ) → i < n → (b : Bool) → has_tier mask i ≡ b → has_tier mask i ≡ false
+    unset : list_any (λ flag. flag) (open_tiers n mask) ≡ false → (i : ℕ) → i < n → (b : Bool) → has_tier mask i ≡ b
+        → has_tier mask i ≡ false
     unset e i h false t = t
-    unset e i h true t = absurd (false≢true (sym e ∙ list_any_at (λ flag. flag) (open_tiers n mask) i false (omega (arith, length-map-range_with_len (has_tier mask) 0 n)) (get_or-map-range_with_len (has_tier mask) 0 n i i false h (omega arith) ∙ t)))
+    unset e i h true t = absurd (false≢true (sym e ∙ list_any_at (λ flag. flag) (open_tiers n mask) i false
+        (omega (arith, length-map-range_with_len (has_tier mask) 0 n))
+        (get_or-map-range_with_len (has_tier mask) 0 n i i false h (omega arith) ∙ t)))
 
     none : list_any (λ flag. flag) (open_tiers n mask) ≡ false → mask ≡ 0
     none e = same_from_bits mask 0 (λ i. ⊎_elim
         (λ h. none_bit mask i (unset e i h (has_tier mask i) refl) ∙ sym (bit_at-zero i))
         (λ h. none_bit mask i (none_from mask n i l h) ∙ sym (bit_at-zero i)) (cases_lt i n))
 
-    by : (b : Bool) → list_any (λ flag. flag) (open_tiers n mask) ≡ b → nat_eq mask 0 ≡ not (list_any (λ flag. flag) (open_tiers n mask))
+    by : (b : Bool) → list_any (λ flag. flag) (open_tiers n mask) ≡ b
+        → nat_eq mask 0 ≡ not (list_any (λ flag. flag) (open_tiers n mask))
     by false e = eq-eqb mask 0 (none e) ∙ sym (ap not e)
-    by true e = ne_eqb mask 0 (λ z. false≢true (sym (none_any (range_with_len 0 n)) ∙ ap (λ m. list_any (λ flag. flag) (open_tiers n m)) (sym z) ∙ e)) ∙ sym (ap not e)
+    by true e = ne_eqb mask 0 (λ z. false≢true (sym (none_any (range_with_len 0 n))
+        ∙ ap (λ m. list_any (λ flag. flag) (open_tiers n m)) (sym z) ∙ e)) ∙ sym (ap not e)
 
 -- ---- masks of phases
 
 -- masks that have no bit in common
 pub apart_from : (a b : ℕ) → ((i : ℕ) → (has_tier a i && has_tier b i) ≡ false) → bit_and a b ≡ 0
-apart_from a b h = same_from_bits (bit_and a b) 0 (λ i. bit_at_and a b i ∙ none i (has_tier a i) refl ∙ sym (bit_at-zero i))
+apart_from a b h = same_from_bits (bit_and a b) 0 (λ i. bit_at_and a b i ∙ none i (has_tier a i) refl
+    ∙ sym (bit_at-zero i))
   where
     none : (i : ℕ) (c : Bool) → has_tier a i ≡ c → min (bit_at a i) (bit_at b i) ≡ 0
     none i false e = omega (arith, none_bit a i e)
@@ -97,19 +108,24 @@ one_of unmet = refl
 one_of met = refl
 
 -- masks of the unmet and of the met ones of some phases
-module _ (ps : List Phase) (u m : ℕ) (unmets : AreBits (map is_unmet_phase ps) u) (mets : AreBits (map is_met_phase ps) m) where
+module _ (ps : List Phase) (u m : ℕ) (unmets : AreBits (map is_unmet_phase ps) u)
+    (mets : AreBits (map is_met_phase ps) m) where
   unmet_at : (i : ℕ) → i < length ps → has_tier u i ≡ is_unmet_phase (get_or ps i closed)
-  unmet_at i l = unmets.each i (omega (arith, length-map ps is_unmet_phase)) ∙ get_or-map is_unmet_phase ps i closed false l
+  unmet_at i l = unmets.each i (omega (arith, length-map ps is_unmet_phase))
+      ∙ get_or-map is_unmet_phase ps i closed false l
 
   met_at : (i : ℕ) → i < length ps → has_tier m i ≡ is_met_phase (get_or ps i closed)
   met_at i l = mets.each i (omega (arith, length-map ps is_met_phase)) ∙ get_or-map is_met_phase ps i closed false l
 
   pub phases_told : phases_by (length ps) u m ≡ ps
   phases_told = sym (fill_by_all (λ i. phase_by_bits (has_tier u i) (has_tier m i)) ps (length ps) closed refl
-      (λ i l. sym (ap (λ b. phase_by_bits b (has_tier m i)) (unmet_at i l) ∙ ap (phase_by_bits (is_unmet_phase (get_or ps i closed))) (met_at i l) ∙ phase_told (get_or ps i closed))))
+      (λ i l. sym (ap (λ b. phase_by_bits b (has_tier m i)) (unmet_at i l)
+      ∙ ap (phase_by_bits (is_unmet_phase (get_or ps i closed))) (met_at i l) ∙ phase_told (get_or ps i closed))))
 
   pub phases_apart : bit_and u m ≡ 0
   phases_apart = apart_from u m (λ i. ⊎_elim
-      (λ l. ap (λ b. b && has_tier m i) (unmet_at i l) ∙ ap (λ b. is_unmet_phase (get_or ps i closed) && b) (met_at i l) ∙ one_of (get_or ps i closed))
-      (λ l. ap (λ b. b && has_tier m i) (none_from u (length (map is_unmet_phase ps)) i unmets.within (omega (arith, length-map ps is_unmet_phase))))
+      (λ l. ap (λ b. b && has_tier m i) (unmet_at i l) ∙ ap (λ b. is_unmet_phase (get_or ps i closed) && b)
+      (met_at i l) ∙ one_of (get_or ps i closed))
+      (λ l. ap (λ b. b && has_tier m i) (none_from u (length (map is_unmet_phase ps)) i unmets.within
+      (omega (arith, length-map ps is_unmet_phase))))
       (cases_lt i (length ps)))

@@ -31,18 +31,21 @@ or_value (suc (suc x)) y l h = absurd (omega arith)
 
 -- a tier of either mask is one of both
 pub or_tier : (a b t : ℕ) → has_tier (bit_or a b) t ≡ (has_tier a t || has_tier b t)
-or_tier a b t = ap (λ n. n == 1) (bit_at_or a b t) ∙ or_value (bit_at a t) (bit_at b t) (bit_at-lt a t) (bit_at-lt b t)
+or_tier a b t = ap (λ n. n == 1) (bit_at_or a b t) ∙ or_value (bit_at a t) (bit_at b t) (bit_at-lt a t)
+    (bit_at-lt b t)
 
 pub tiers_more : (tiers n : ℕ) → has_tier tiers n ≡ true → tiers_below tiers (n + 1) ≡ tiers_below tiers n ++ n ∷ []
 tiers_more tiers n h = ap (tiers_below tiers) (add-one n) ∙ ap (λ b. tiers_below tiers n ++ cond b (n ∷ []) []) h
 
 pub tiers_same : (tiers n : ℕ) → has_tier tiers n ≡ false → tiers_below tiers (n + 1) ≡ tiers_below tiers n
-tiers_same tiers n h = ap (tiers_below tiers) (add-one n) ∙ ap (λ b. tiers_below tiers n ++ cond b (n ∷ []) []) h ∙ append-nil (tiers_below tiers n)
+tiers_same tiers n h = ap (tiers_below tiers) (add-one n) ∙ ap (λ b. tiers_below tiers n ++ cond b (n ∷ []) []) h
+    ∙ append-nil (tiers_below tiers n)
 
 pub tiers_lower : (tiers n : ℕ) → AllByRecursion (λ t. t < n) (tiers_below tiers n)
 tiers_lower tiers zero = tt
 tiers_lower tiers (suc n) = all_append (λ t. t < suc n) (tiers_below tiers n) (cond (has_tier tiers n) (n ∷ []) [])
-    (all_weaker (λ t. t < n) (λ t. t < suc n) (tiers_below tiers n) (λ t h. omega arith) (tiers_lower tiers n)) (own (has_tier tiers n))
+    (all_weaker (λ t. t < n) (λ t. t < suc n) (tiers_below tiers n) (λ t h. omega arith) (tiers_lower tiers n))
+    (own (has_tier tiers n))
   where
     own : (b : Bool) → AllByRecursion (λ t. t < suc n) (cond b (n ∷ []) [])
     own true = (omega arith, tt)
@@ -51,21 +54,24 @@ tiers_lower tiers (suc n) = all_append (λ t. t < suc n) (tiers_below tiers n) (
 -- ---- flags that are laid out on tiers
 
 -- one flag more, seen on the other tiers
-flag_other : (xs : List ℕ) (flags : List Bool) (x t : ℕ) (flag : Bool) → length flags ≡ length xs → x ≢ t → flag_of (xs ++ x ∷ []) (flags ++ flag ∷ []) t ≡ flag_of xs flags t
+flag_other : (xs : List ℕ) (flags : List Bool) (x t : ℕ) (flag : Bool) → length flags ≡ length xs → x ≢ t
+    → flag_of (xs ++ x ∷ []) (flags ++ flag ∷ []) t ≡ flag_of xs flags t
 flag_other [] [] x t flag e n = ap (λ b. cond b flag false) (ne_eqb x t n)
 flag_other [] (f ∷ fs) x t flag e n = absurd (omega arith)
 flag_other (y ∷ xs) [] x t flag e n = absurd (omega arith)
 flag_other (y ∷ xs) (f ∷ fs) x t flag e n = ap (λ b. cond (y == t) f b) (flag_other xs fs x t flag (omega arith) n)
 
 -- and on its own
-flag_own : (xs : List ℕ) (flags : List Bool) (x : ℕ) (flag : Bool) → length flags ≡ length xs → AllByRecursion (λ t. t < x) xs → flag_of (xs ++ x ∷ []) (flags ++ flag ∷ []) x ≡ flag
+flag_own : (xs : List ℕ) (flags : List Bool) (x : ℕ) (flag : Bool) → length flags ≡ length xs
+    → AllByRecursion (λ t. t < x) xs → flag_of (xs ++ x ∷ []) (flags ++ flag ∷ []) x ≡ flag
 flag_own [] [] x flag e a = ap (λ b. cond b flag false) (eq-eqb x x refl)
 flag_own [] (f ∷ fs) x flag e a = absurd (omega arith)
 flag_own (y ∷ xs) [] x flag e a = absurd (omega arith)
 flag_own (y ∷ xs) (f ∷ fs) x flag e a =
     let less : y < x = a.0 in
     let other : y ≢ x = λ s. absurd (omega arith) in
-    ap (λ b. cond b f (flag_of (xs ++ x ∷ []) (fs ++ flag ∷ []) x)) (ne_eqb y x other) ∙ flag_own xs fs x flag (omega arith) a.1
+    ap (λ b. cond b f (flag_of (xs ++ x ∷ []) (fs ++ flag ∷ []) x)) (ne_eqb y x other)
+    ∙ flag_own xs fs x flag (omega arith) a.1
 
 -- the flags of the tiers below n are laid out on them
 pub record AreLaid (tiers flags n next laid : ℕ) : Type 0 where
@@ -76,15 +82,21 @@ pub record AreLaid (tiers flags n next laid : ℕ) : Type 0 where
 
 -- one tier more, which takes the next flag
 pub laid_more : (tiers flags n next laid more : ℕ) → AreLaid tiers flags n next laid → has_tier tiers n ≡ true
-    → more < 2 ^ (n + 1) → has_tier more n ≡ has_tier flags next → ((t : ℕ) → t < n → has_tier more t ≡ has_tier laid t) → AreLaid tiers flags (n + 1) (next + 1) more
+    → more < 2 ^ (n + 1) → has_tier more n ≡ has_tier flags next
+    → ((t : ℕ) → t < n → has_tier more t ≡ has_tier laid t) → AreLaid tiers flags (n + 1) (next + 1) more
 laid_more tiers flags n next laid more a h within here others =
     let tb = tiers_below tiers n in
     let size : length (open_tiers next flags) ≡ next = length-map-range_with_len (has_tier flags) 0 next in
-    let flags_more : open_tiers (next + 1) flags ≡ open_tiers next flags ++ has_tier flags next ∷ [] = map-range_with_len_more (has_tier flags) 0 next next (omega arith) in
-    let same : (t : ℕ) → flag_of (tiers_below tiers (n + 1)) (open_tiers (next + 1) flags) t ≡ flag_of (tb ++ n ∷ []) (open_tiers next flags ++ has_tier flags next ∷ []) t =
-    λ t. ap (λ ts. flag_of ts (open_tiers (next + 1) flags) t) (tiers_more tiers n h) ∙ ap (λ fs. flag_of (tb ++ n ∷ []) fs t) flags_more in
-    let other : (t : ℕ) → n ≢ t → flag_of (tiers_below tiers (n + 1)) (open_tiers (next + 1) flags) t ≡ has_tier laid t =
-    λ t d. same t ∙ flag_other tb (open_tiers next flags) n t (has_tier flags next) (omega (arith, size, a.count)) d ∙ sym (a.bits t) in
+    let flags_more : open_tiers (next + 1) flags ≡ open_tiers next flags ++ has_tier flags
+    next ∷ [] = map-range_with_len_more (has_tier flags) 0 next next (omega arith) in
+    let same : (t : ℕ) → flag_of (tiers_below tiers (n + 1)) (open_tiers (next + 1) flags) t
+    ≡ flag_of (tb ++ n ∷ []) (open_tiers next flags ++ has_tier flags next ∷ []) t =
+    λ t. ap (λ ts. flag_of ts (open_tiers (next + 1) flags) t) (tiers_more tiers n h)
+    ∙ ap (λ fs. flag_of (tb ++ n ∷ []) fs t) flags_more in
+    let other : (t : ℕ) → n ≢ t → flag_of (tiers_below tiers (n + 1)) (open_tiers (next + 1) flags) t
+    ≡ has_tier laid t =
+    λ t d. same t ∙ flag_other tb (open_tiers next flags) n t (has_tier flags next) (omega (arith, size, a.count)) d
+    ∙ sym (a.bits t) in
     record {
       count = omega (arith, a.count, ap length (tiers_more tiers n h), length_push tb n);
       few = omega (arith, a.few);
@@ -92,14 +104,18 @@ laid_more tiers flags n next laid more a h within here others =
       bits = λ t. ⊎_elim
           (λ below. let d : n ≢ t = λ e. absurd (omega arith) in others t below ∙ sym (other t d))
           (λ above. ⊎_elim
-          (λ beyond. let d : n ≢ t = λ e. absurd (omega arith) in none_from more (n + 1) t within (omega arith) ∙ sym (other t d ∙ none_from laid n t a.within (omega arith)))
+          (λ beyond. let d : n ≢ t = λ e. absurd (omega arith) in none_from more (n + 1) t within (omega arith)
+          ∙ sym (other t d ∙ none_from laid n t a.within (omega arith)))
           (λ at. let is : t ≡ n = omega arith in
-          ap (has_tier more) is ∙ here ∙ sym (ap (flag_of (tiers_below tiers (n + 1)) (open_tiers (next + 1) flags)) is ∙ same n ∙ flag_own tb (open_tiers next flags) n (has_tier flags next) (omega (arith, size, a.count)) (tiers_lower tiers n)))
+          ap (has_tier more) is ∙ here ∙ sym (ap (flag_of (tiers_below tiers (n + 1))
+          (open_tiers (next + 1) flags)) is ∙ same n ∙ flag_own tb (open_tiers next flags) n (has_tier flags next)
+          (omega (arith, size, a.count)) (tiers_lower tiers n)))
           (cases_lt n t))
           (cases_lt t n);
     }
 
-pub laid_same : (tiers flags n next laid : ℕ) → AreLaid tiers flags n next laid → has_tier tiers n ≡ false → AreLaid tiers flags (n + 1) next laid
+pub laid_same : (tiers flags n next laid : ℕ) → AreLaid tiers flags n next laid → has_tier tiers n ≡ false
+    → AreLaid tiers flags (n + 1) next laid
 laid_same tiers flags n next laid a h = record {
   count = a.count ∙ sym (ap length (tiers_same tiers n h));
   few = omega (arith, a.few);
@@ -107,10 +123,12 @@ laid_same tiers flags n next laid a h = record {
   bits = λ t. a.bits t ∙ sym (ap (λ ts. flag_of ts (open_tiers next flags) t) (tiers_same tiers n h));
 }
 
-pub laid_all : (tiers flags n next laid : ℕ) → AreLaid tiers flags n next laid → n ≡ 12 → (t : ℕ) → has_tier laid t ≡ flag_of (tiers_of tiers) (open_tiers (length (tiers_of tiers)) flags) t
+pub laid_all : (tiers flags n next laid : ℕ) → AreLaid tiers flags n next laid → n ≡ 12 → (t : ℕ)
+    → has_tier laid t ≡ flag_of (tiers_of tiers) (open_tiers (length (tiers_of tiers)) flags) t
 unfolding tiers_of
 laid_all tiers flags n next laid a e t =
-    a.bits t ∙ ap (λ m. flag_of (tiers_below tiers n) (open_tiers m flags) t) a.count ∙ ap (λ m. flag_of (tiers_below tiers m) (open_tiers (length (tiers_below tiers m)) flags) t) e
+    a.bits t ∙ ap (λ m. flag_of (tiers_below tiers n) (open_tiers m flags) t) a.count
+    ∙ ap (λ m. flag_of (tiers_below tiers m) (open_tiers (length (tiers_below tiers m)) flags) t) e
 
 -- ---- flags that are taken from tiers
 
@@ -122,21 +140,25 @@ pub record AreTaken (tiers mask n next flags : ℕ) : Type 0 where
   pub taken : open_tiers next flags ≡ map (has_tier mask) (tiers_below tiers n)
 
 pub taken_more : (tiers mask n next flags more : ℕ) → AreTaken tiers mask n next flags → has_tier tiers n ≡ true
-    → more < 2 ^ (next + 1) → has_tier more next ≡ has_tier mask n → ((t : ℕ) → t < next → has_tier more t ≡ has_tier flags t) → AreTaken tiers mask (n + 1) (next + 1) more
+    → more < 2 ^ (next + 1) → has_tier more next ≡ has_tier mask n
+    → ((t : ℕ) → t < next → has_tier more t ≡ has_tier flags t) → AreTaken tiers mask (n + 1) (next + 1) more
 taken_more tiers mask n next flags more a h within here others =
     let tb = tiers_below tiers n in
-    let same : open_tiers next flags ≡ open_tiers next more = fill_by_all (has_tier more) (open_tiers next flags) next false (length-map-range_with_len (has_tier flags) 0 next)
+    let same : open_tiers next flags ≡ open_tiers next more = fill_by_all (has_tier more)
+    (open_tiers next flags) next false (length-map-range_with_len (has_tier flags) 0 next)
     (λ k l. get_or-map-range_with_len (has_tier flags) 0 next k k false l (omega arith) ∙ sym (others k l)) in
     record {
       count = omega (arith, a.count, ap length (tiers_more tiers n h), length_push tb n);
       few = omega (arith, a.few);
       within = within;
       taken = map-range_with_len_more (has_tier more) 0 next next (omega arith)
-          ∙ ap (λ fs. fs ++ has_tier more next ∷ []) (sym same ∙ a.taken) ∙ ap (λ b. map (has_tier mask) tb ++ b ∷ []) here
+          ∙ ap (λ fs. fs ++ has_tier more next ∷ []) (sym same ∙ a.taken)
+          ∙ ap (λ b. map (has_tier mask) tb ++ b ∷ []) here
           ∙ sym (ap (map (has_tier mask)) (tiers_more tiers n h) ∙ map-append (has_tier mask) tb (n ∷ []));
     }
 
-pub taken_same : (tiers mask n next flags : ℕ) → AreTaken tiers mask n next flags → has_tier tiers n ≡ false → AreTaken tiers mask (n + 1) next flags
+pub taken_same : (tiers mask n next flags : ℕ) → AreTaken tiers mask n next flags → has_tier tiers n ≡ false
+    → AreTaken tiers mask (n + 1) next flags
 taken_same tiers mask n next flags a h = record {
   count = a.count ∙ sym (ap length (tiers_same tiers n h));
   few = omega (arith, a.few);
@@ -144,12 +166,15 @@ taken_same tiers mask n next flags a h = record {
   taken = a.taken ∙ sym (ap (map (has_tier mask)) (tiers_same tiers n h));
 }
 
-pub taken_all : (tiers mask n next flags : ℕ) → AreTaken tiers mask n next flags → n ≡ 12 → open_tiers (length (tiers_of tiers)) flags ≡ map (has_tier mask) (tiers_of tiers)
+pub taken_all : (tiers mask n next flags : ℕ) → AreTaken tiers mask n next flags → n ≡ 12
+    → open_tiers (length (tiers_of tiers)) flags ≡ map (has_tier mask) (tiers_of tiers)
 unfolding tiers_of
 taken_all tiers mask n next flags a e =
-    ap (λ m. open_tiers (length (tiers_below tiers m)) flags) (sym e) ∙ ap (λ m. open_tiers m flags) (sym a.count) ∙ a.taken ∙ ap (λ m. map (has_tier mask) (tiers_below tiers m)) e
+    ap (λ m. open_tiers (length (tiers_below tiers m)) flags) (sym e) ∙ ap (λ m. open_tiers m flags) (sym a.count)
+    ∙ a.taken ∙ ap (λ m. map (has_tier mask) (tiers_below tiers m)) e
 
-pub taken_within : (tiers mask n next flags : ℕ) → AreTaken tiers mask n next flags → n ≡ 12 → flags < 2 ^ length (tiers_of tiers)
+pub taken_within : (tiers mask n next flags : ℕ) → AreTaken tiers mask n next flags → n ≡ 12
+    → flags < 2 ^ length (tiers_of tiers)
 unfolding tiers_of
 taken_within tiers mask n next flags a e =
     let P : ℕ → Type 0 = λ m. flags < 2 ^ m in
@@ -161,14 +186,18 @@ pub record AreOpened (column : List Sym) (n mask : ℕ) : Type 0 where
   pub within : mask < 2 ^ n
   pub bits : (t : ℕ) → t < n → has_tier mask t ≡ opens (symbol column t)
 
-pub opened_more : (column : List Sym) (n mask more : ℕ) → AreOpened column n mask → more < 2 ^ (n + 1) → has_tier more n ≡ opens (symbol column n)
+pub opened_more : (column : List Sym) (n mask more : ℕ) → AreOpened column n mask → more < 2 ^ (n + 1)
+    → has_tier more n ≡ opens (symbol column n)
     → ((t : ℕ) → t < n → has_tier more t ≡ has_tier mask t) → AreOpened column (n + 1) more
 opened_more column n mask more a within here others = record {
   within = within;
   bits = λ t l. ⊎_elim (λ below. others t below ∙ a.bits t below)
-      (λ above. let at : t ≡ n = omega arith in ap (has_tier more) at ∙ here ∙ ap (λ k. opens (symbol column k)) (sym at)) (cases_lt t n);
+      (λ above. let at : t ≡ n = omega arith in ap (has_tier more) at ∙ here
+      ∙ ap (λ k. opens (symbol column k)) (sym at)) (cases_lt t n);
 }
 
-pub opened_all : (column : List Sym) (n mask : ℕ) → AreOpened column n mask → n ≡ length column → (t : ℕ) → has_tier mask t ≡ opens (symbol column t)
+pub opened_all : (column : List Sym) (n mask : ℕ) → AreOpened column n mask → n ≡ length column → (t : ℕ)
+    → has_tier mask t ≡ opens (symbol column t)
 opened_all column n mask a e t = ⊎_elim (λ below. a.bits t below)
-    (λ above. none_from mask n t a.within above ∙ sym (ap opens (get_or_past column t Outside (omega arith)))) (cases_lt t n)
+    (λ above. none_from mask n t a.within above ∙ sym (ap opens (get_or_past column t Outside (omega arith))))
+    (cases_lt t n)

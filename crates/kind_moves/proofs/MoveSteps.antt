@@ -38,7 +38,8 @@ stays false Start f e = absurd (false≢true (sym e))
 stays false End f e = absurd (false≢true f)
 stays false Both f e = absurd (false≢true f)
 
-no_edge : (xs : List Sym) (j : ℕ) → list_any is_edge xs ≡ false → j < length xs → is_edge (get_or xs j Outside) ≡ false
+no_edge : (xs : List Sym) (j : ℕ) → list_any is_edge xs ≡ false → j < length xs
+    → is_edge (get_or xs j Outside) ≡ false
 no_edge [] j h l = absurd (omega arith)
 no_edge (x ∷ xs) zero h l = first (is_edge x) (list_any is_edge xs) h
   where
@@ -55,31 +56,41 @@ or_none : (b : Bool) → (b || false) ≡ b
 or_none true = refl
 or_none false = refl
 
-module _ (problem : Problem) (split : AreSplit problem.tiers) (form : IsForm problem.tiers problem.form) (k : PrefixKind) (column : List Sym) (f : FitsKind problem k column) where
+module _ (problem : Problem) (split : AreSplit problem.tiers) (form : IsForm problem.tiers problem.form)
+    (k : PrefixKind) (column : List Sym) (f : FitsKind problem k column) where
   -- the input tiers that are open at the next place
-  input_open_next : (e : Bool) → has_edge (input_of problem.tiers column) ≡ e → (j : ℕ) → j < length problem.tiers.input
-      → is_open (word (take (k.place + cond e 1 0) problem.form) j) ≡ opens (symbol column (get_or problem.tiers.input j 0))
+  input_open_next : (e : Bool) → has_edge (input_of problem.tiers column) ≡ e → (j : ℕ)
+      → j < length problem.tiers.input
+      → is_open (word (take (k.place + cond e 1 0) problem.form) j)
+      ≡ opens (symbol column (get_or problem.tiers.input j 0))
   input_open_next true e j l = ⊎_elim
       (λ none. absurd (false≢true (sym none ∙ e)))
       (λ some.
       let next : k.place + 1 ≡ suc k.place = omega arith in
-      ap (λ n. is_open (word (take n problem.form) j)) next ∙ form_open_after problem.tiers problem.form form k.place j some.0 l
-      ∙ ap (λ (c : List Sym). opens (symbol c j)) (sym some.1) ∙ ap opens (get_or-map (symbol column) problem.tiers.input j 0 Outside l))
+      ap (λ n. is_open (word (take n problem.form) j)) next ∙ form_open_after problem.tiers problem.form form k.place
+      j some.0 l
+      ∙ ap (λ (c : List Sym). opens (symbol c j)) (sym some.1)
+      ∙ ap opens (get_or-map (symbol column) problem.tiers.input j 0 Outside l))
       f.input
   input_open_next false e j l =
       let t = get_or problem.tiers.input j 0 in
       let here : k.place + 0 ≡ k.place = omega arith in
       let listed : Contains problem.tiers.input t = (j, l, get_or-same problem.tiers.input j 0 t l) in
-      let below : t < problem.tiers.width = All-from_recursion (λ t. t < problem.tiers.width) problem.tiers.input split.inputs_below j 0 l in
+      let below : t < problem.tiers.width = All-from_recursion
+      (λ t. t < problem.tiers.width) problem.tiers.input split.inputs_below j 0 l in
       let tier : is_tier_open problem k t ≡ is_open (word (take k.place problem.form) j) =
-      ap (λ b. flag_of problem.tiers.input (form_opened problem.tiers problem.form k.place) t || b) (flag_out problem.tiers.free k.opened t (λ d. split.apart t listed d))
+      ap (λ b. flag_of problem.tiers.input (form_opened problem.tiers problem.form k.place) t || b)
+      (flag_out problem.tiers.free k.opened t (λ d. split.apart t listed d))
       ∙ or_none (flag_of problem.tiers.input (form_opened problem.tiers problem.form k.place) t)
       ∙ flag_at problem.tiers.input (form_opened problem.tiers problem.form k.place) j split.distinct l
-      ∙ get_or-map-range_with_len (λ j. is_open (word (take k.place problem.form) j)) 0 (length problem.tiers.input) j j false l (omega arith) in
-      let size : length (input_of problem.tiers column) ≡ length problem.tiers.input = length-map problem.tiers.input (symbol column) in
+      ∙ get_or-map-range_with_len (λ j. is_open (word (take k.place problem.form) j)) 0
+      (length problem.tiers.input) j j false l (omega arith) in
+      let size : length (input_of problem.tiers column) ≡ length problem.tiers.input = length-map problem.tiers.input
+      (symbol column) in
       ap (λ n. is_open (word (take n problem.form) j)) here ∙ sym tier
       ∙ stays (is_tier_open problem k t) (symbol column t) (f.symbols t below)
-      (ap is_edge (sym (get_or-map (symbol column) problem.tiers.input j 0 Outside l)) ∙ no_edge (input_of problem.tiers column) j e (omega arith))
+      (ap is_edge (sym (get_or-map (symbol column) problem.tiers.input j 0 Outside l))
+      ∙ no_edge (input_of problem.tiers column) j e (omega arith))
     where
       get_or-same : (xs : List ℕ) (i d e : ℕ) → i < length xs → get_or xs i e ≡ get_or xs i d
       get_or-same [] i d e l = absurd (omega arith)
@@ -87,23 +98,40 @@ module _ (problem : Problem) (split : AreSplit problem.tiers) (form : IsForm pro
       get_or-same (x ∷ xs) (suc i) d e l = get_or-same xs i d e (omega arith)
 
   -- after a move a tier is open where its symbol opens it
-  pub open_next : (r t : ℕ) → t < problem.tiers.width → is_tier_open problem (moved problem r k column) t ≡ opens (symbol column t)
+  pub open_next : (r t : ℕ) → t < problem.tiers.width → is_tier_open problem (moved problem r k column) t
+      ≡ opens (symbol column t)
   open_next r t l =
-      let inputs : form_opened problem.tiers problem.form (moved problem r k column).place ≡ map (λ t. opens (symbol column t)) problem.tiers.input =
-      sym (fill_by_all (λ j. is_open (word (take (moved problem r k column).place problem.form) j)) (map (λ t. opens (symbol column t)) problem.tiers.input) (length problem.tiers.input) false
+      let inputs : form_opened problem.tiers problem.form (moved problem r k column).place
+      ≡ map (λ t. opens (symbol column t)) problem.tiers.input =
+      sym (fill_by_all (λ j. is_open (word (take (moved problem r k column).place problem.form) j))
+      (map (λ t. opens (symbol column t)) problem.tiers.input) (length problem.tiers.input) false
       (length-map problem.tiers.input (λ t. opens (symbol column t)))
-      (λ j h. get_or-map (λ t. opens (symbol column t)) problem.tiers.input j 0 false h ∙ sym (input_open_next (has_edge (input_of problem.tiers column)) refl j h))) in
-      ap (λ flags. flag_of problem.tiers.input flags t || flag_of problem.tiers.free (map (λ t. opens (symbol column t)) problem.tiers.free) t) inputs
+      (λ j h. get_or-map (λ t. opens (symbol column t)) problem.tiers.input j 0 false h
+      ∙ sym (input_open_next (has_edge (input_of problem.tiers column)) refl j h))) in
+      ap (λ flags. flag_of problem.tiers.input flags t || flag_of problem.tiers.free
+      (map (λ t. opens (symbol column t)) problem.tiers.free) t) inputs
       ∙ ⊎_elim
-      (λ c. rw (flag_in (λ t. opens (symbol column t)) problem.tiers.input t c, flag_out problem.tiers.free (map (λ t. opens (symbol column t)) problem.tiers.free) t (λ d. split.apart t c d)) (or_none (opens (symbol column t))))
-      (λ d. rw (flag_in (λ t. opens (symbol column t)) problem.tiers.free t d, flag_out problem.tiers.input (map (λ t. opens (symbol column t)) problem.tiers.input) t (λ c. split.apart t c d)) refl)
+      (λ c. rw (
+        flag_in (λ t. opens (symbol column t)) problem.tiers.input t c,
+        flag_out problem.tiers.free
+            (map (λ t. opens (symbol column t)) problem.tiers.free) t (λ d. split.apart t c d),
+      )
+      (or_none (opens (symbol column t))))
+      (λ d. rw (
+        flag_in (λ t. opens (symbol column t)) problem.tiers.free t d,
+        flag_out problem.tiers.input
+            (map (λ t. opens (symbol column t)) problem.tiers.input) t (λ c. split.apart t c d),
+      ) refl)
       (split.each t l)
 
-  left_next : (r : ℕ) (c : Constraint) → IsOverTiers problem.tiers.width c → is_left_open problem (moved problem r k column) c ≡ opens_all c.left column
-  left_next r c o = all_agree (λ e. is_tier_open problem (moved problem r k column) e.tier) (λ e. opens (symbol column e.tier)) c.left
+  left_next : (r : ℕ) (c : Constraint) → IsOverTiers problem.tiers.width c
+      → is_left_open problem (moved problem r k column) c ≡ opens_all c.left column
+  left_next r c o = all_agree (λ e. is_tier_open problem (moved problem r k column) e.tier)
+      (λ e. opens (symbol column e.tier)) c.left
       (all_weaker (λ e. e.tier < problem.tiers.width) _ c.left (λ e l. open_next r e.tier l) o.left_below)
 
-  closed_next : (left right : List Event) (phase : Phase) → is_closed (next_phase left right phase column) ≡ not (opens_all left column)
+  closed_next : (left right : List Event) (phase : Phase) → is_closed (next_phase left right phase column)
+      ≡ not (opens_all left column)
   closed_next left right phase = by (opens_all left column) _
     where
       by : (a b : Bool) → is_closed (cond a (cond b met unmet) closed) ≡ not a
@@ -112,7 +140,8 @@ module _ (problem : Problem) (split : AreSplit problem.tiers) (form : IsForm pro
       by false b = refl
 
   -- after a move a phase is closed where a left tier is
-  pub phases_next : (r : ℕ) (cs : List Constraint) (is_before : Constraint → Bool) (phases : List Phase) → AllByRecursion (IsOverTiers problem.tiers.width) cs → AreClosedOr is_before cs phases
+  pub phases_next : (r : ℕ) (cs : List Constraint) (is_before : Constraint → Bool) (phases : List Phase)
+      → AllByRecursion (IsOverTiers problem.tiers.width) cs → AreClosedOr is_before cs phases
       → AreClosedOr (is_left_open problem (moved problem r k column)) cs (next_phases cs phases column)
   phases_next r [] is_before [] o h = tt
   phases_next r [] is_before (p ∷ ps) o h = absurd h
@@ -121,11 +150,18 @@ module _ (problem : Problem) (split : AreSplit problem.tiers) (form : IsForm pro
       (closed_next c.left c.right p ∙ ap not (sym (left_next r c o.0)), phases_next r cs is_before ps o.1 h.1)
 
 -- before the first column each phase is closed, and no tier is open
-pub phases_first : (problem : Problem) (k : PrefixKind) → ((t : ℕ) → t < problem.tiers.width → is_tier_open problem k t ≡ false) → (cs : List Constraint) → AllByRecursion (IsOverTiers problem.tiers.width) cs
+pub phases_first : (problem : Problem) (k : PrefixKind) → ((t : ℕ) → t < problem.tiers.width
+    → is_tier_open problem k t ≡ false) → (cs : List Constraint) → AllByRecursion (IsOverTiers problem.tiers.width) cs
     → AreClosedOr (is_left_open problem k) cs (map (λ c. phase c.left c.right []) cs)
 phases_first problem k none [] o = tt
-phases_first problem k none (c ∷ cs) o = (own c.left c.right o.0.left_below o.0.some_left, phases_first problem k none cs o.1)
+phases_first problem k none (c ∷ cs) o = (
+  own c.left c.right o.0.left_below o.0.some_left,
+  phases_first problem k none
+      cs o.1,
+)
   where
-    own : (left right : List Event) → AreTiersBelow problem.tiers.width left → 0 < length left → is_closed (phase left right []) ≡ not (list_all (λ e. is_tier_open problem k e.tier) left)
+    own : (left right : List Event) → AreTiersBelow problem.tiers.width left → 0 < length left
+        → is_closed (phase left right []) ≡ not (list_all (λ e. is_tier_open problem k e.tier) left)
     own [] right b l = absurd (omega arith)
-    own (e ∷ es) right b l = sym (ap (λ b. not (b && list_all (λ e. is_tier_open problem k e.tier) es)) (none e.tier b.0))
+    own (e ∷ es) right b l = sym (ap (λ b. not (b && list_all (λ e. is_tier_open problem k e.tier) es))
+        (none e.tier b.0))

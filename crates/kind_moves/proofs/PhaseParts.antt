@@ -20,54 +20,71 @@ abbrev pub phases_after : List Constraint → Kind → ℕ → ℕ → List Sym 
 phases_after cs kind n next column = next_phases (filter is_stretch (take n cs)) (phases next kind) column
 
 -- pieces are parted by the phases of the first n constraints
-pub record ArePhasedBelow (width : ℕ) (cs : List Constraint) (kind : Kind) (n next : ℕ) (wholes parts : List Class) : Type 0 where
+pub record ArePhasedBelow (width : ℕ) (cs : List Constraint) (kind : Kind) (n next : ℕ)
+    (wholes parts : List Class) : Type 0 where
   pub count : next ≡ length (filter is_stretch (take n cs))
   pub few : next ≤ n
   pub parted : ArePartedBy width (phases_after cs kind n next) wholes parts
 
-pub phased_none : (width : ℕ) (cs : List Constraint) (kind : Kind) (wholes : List Class) → ArePieces width wholes → ArePhasedBelow width cs kind 0 0 wholes wholes
+pub phased_none : (width : ℕ) (cs : List Constraint) (kind : Kind) (wholes : List Class) → ArePieces width wholes
+    → ArePhasedBelow width cs kind 0 0 wholes wholes
 phased_none width cs kind wholes pieces = record {
   count = refl;
   few = omega arith;
   parted = parted_same width (phases_after cs kind 0 0) wholes pieces (λ k d inside x y _ _. refl);
 }
 
-pub phased_more : (width : ℕ) (cs : List Constraint) (kind : Kind) (n next : ℕ) (wholes parts more : List Class) (c : Constraint) → ArePhasedBelow width cs kind n next wholes parts
+pub phased_more : (width : ℕ) (cs : List Constraint) (kind : Kind) (n next : ℕ) (wholes parts more : List Class)
+    (c : Constraint) → ArePhasedBelow width cs kind n next wholes parts
     → n < length cs → c ≡ get_or cs n c → is_stretch c ≡ true
-    → ArePartedBy width (next_phase c.left c.right (phase_at kind next)) parts more → ArePhasedBelow width cs kind (n + 1) (next + 1) wholes more
+    → ArePartedBy width (next_phase c.left c.right (phase_at kind next)) parts more
+    → ArePhasedBelow width cs kind (n + 1) (next + 1) wholes more
 phased_more width cs kind n next wholes parts more c a l is h p =
     let fs = filter is_stretch (take n cs) in
     let longer : filter is_stretch (take (n + 1) cs) ≡ fs ++ c ∷ [] =
-    filter_more is_stretch cs n c l ∙ ap (λ x. fs ++ cond (is_stretch x) (x ∷ []) []) (sym is) ∙ ap (λ b. fs ++ cond b (c ∷ []) []) h in
+    filter_more is_stretch cs n c l ∙ ap (λ x. fs ++ cond (is_stretch x) (x ∷ []) []) (sym is)
+    ∙ ap (λ b. fs ++ cond b (c ∷ []) []) h in
     let size : length (phases next kind) ≡ length fs = length-map-range_with_len (phase_at kind) 0 next ∙ a.count in
-    let step : (column : List Sym) → phases_after cs kind (n + 1) (next + 1) column ≡ phases_after cs kind n next column ++ next_phase c.left c.right (phase_at kind next) column ∷ [] =
+    let step : (column : List Sym) → phases_after cs kind (n + 1) (next + 1) column
+    ≡ phases_after cs kind n next column ++ next_phase c.left c.right (phase_at kind next) column ∷ [] =
     (λ column. ap (λ x. next_phases x (phases (next + 1) kind) column) longer
-    ∙ ap (λ ps. next_phases (fs ++ c ∷ []) ps column) (map-range_with_len_more (phase_at kind) 0 next next (omega arith))
+    ∙ ap (λ ps. next_phases (fs ++ c ∷ []) ps column) (map-range_with_len_more (phase_at kind) 0 next next
+    (omega arith))
     ∙ next_append fs (phases next kind) c (phase_at kind next) column size) in
     record {
       count = omega (arith, a.count, ap length longer, length_push fs c);
       few = omega (arith, a.few);
-      parted = parted_then width (phases_after cs kind n next) (next_phase c.left c.right (phase_at kind next)) (phases_after cs kind (n + 1) (next + 1)) wholes parts more
-          (λ x y _ _ before here. step x ∙ ap (λ ps. ps ++ next_phase c.left c.right (phase_at kind next) x ∷ []) before ∙ ap (λ q. phases_after cs kind n next y ++ q ∷ []) here ∙ sym (step y))
+      parted = parted_then width (phases_after cs kind n next) (next_phase c.left c.right (phase_at kind next))
+          (phases_after cs kind (n + 1) (next + 1)) wholes parts more
+          (λ x y _ _ before here. step x ∙ ap (λ ps. ps ++ next_phase c.left c.right
+          (phase_at kind next) x ∷ []) before ∙ ap (λ q. phases_after cs kind n next y ++ q ∷ []) here
+          ∙ sym (step y))
           a.parted p;
     }
 
-pub phased_same : (width : ℕ) (cs : List Constraint) (kind : Kind) (n next : ℕ) (wholes parts : List Class) (c : Constraint) → ArePhasedBelow width cs kind n next wholes parts
-    → n < length cs → c ≡ get_or cs n c → is_stretch c ≡ false → ArePhasedBelow width cs kind (n + 1) next wholes parts
+pub phased_same : (width : ℕ) (cs : List Constraint) (kind : Kind) (n next : ℕ) (wholes parts : List Class)
+    (c : Constraint) → ArePhasedBelow width cs kind n next wholes parts
+    → n < length cs → c ≡ get_or cs n c → is_stretch c ≡ false
+    → ArePhasedBelow width cs kind (n + 1) next wholes parts
 phased_same width cs kind n next wholes parts c a l is h =
     let fs = filter is_stretch (take n cs) in
     let same : filter is_stretch (take (n + 1) cs) ≡ fs =
-    filter_more is_stretch cs n c l ∙ ap (λ x. fs ++ cond (is_stretch x) (x ∷ []) []) (sym is) ∙ ap (λ b. fs ++ cond b (c ∷ []) []) h ∙ append-nil fs in
+    filter_more is_stretch cs n c l ∙ ap (λ x. fs ++ cond (is_stretch x) (x ∷ []) []) (sym is)
+    ∙ ap (λ b. fs ++ cond b (c ∷ []) []) h ∙ append-nil fs in
     record {
       count = a.count ∙ sym (ap length same);
       few = omega (arith, a.few);
-      parted = subst (λ xs. ArePartedBy width (λ column. next_phases xs (phases next kind) column) wholes parts) (sym same) a.parted;
+      parted = subst (λ xs. ArePartedBy width (λ column. next_phases xs (phases next kind) column) wholes parts)
+          (sym same) a.parted;
     }
 
-pub phased_all : (width : ℕ) (cs : List Constraint) (kind : Kind) (n next : ℕ) (wholes parts : List Class) → ArePhasedBelow width cs kind n next wholes parts → length cs ≤ n
-    → ArePartedBy width (next_phases (filter is_stretch cs) (phases (length (filter is_stretch cs)) kind)) wholes parts
+pub phased_all : (width : ℕ) (cs : List Constraint) (kind : Kind) (n next : ℕ) (wholes parts : List Class)
+    → ArePhasedBelow width cs kind n next wholes parts → length cs ≤ n
+    → ArePartedBy width (next_phases (filter is_stretch cs) (phases (length (filter is_stretch cs)) kind)) wholes
+    parts
 phased_all width cs kind n next wholes parts a l =
     let whole : take n cs ≡ cs = take_all n cs l in
     let count : next ≡ length (filter is_stretch cs) = a.count ∙ ap (λ x. length (filter is_stretch x)) whole in
     subst (λ k. ArePartedBy width (next_phases (filter is_stretch cs) (phases k kind)) wholes parts) count
-    (subst (λ xs. ArePartedBy width (next_phases (filter is_stretch xs) (phases next kind)) wholes parts) whole a.parted)
+    (subst (λ xs. ArePartedBy width (next_phases (filter is_stretch xs) (phases next kind)) wholes parts) whole
+    a.parted)

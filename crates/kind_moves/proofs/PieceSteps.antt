@@ -27,7 +27,8 @@ use Rattle.kind_moves.proofs.GrammarTiers.{over_tiers}
 use Rattle.kind_moves.proofs.PhaseAlike.{open_alike}
 
 -- pieces that fit are parted, and still fit
-pub fitting_parts : {X : Type 0} (frame : Frame) (stage : ℕ) (kind : Kind) (class : Class) (test : List Sym → X) (xs ys : List Class) → AreFitting frame stage kind class xs
+pub fitting_parts : {X : Type 0} (frame : Frame) (stage : ℕ) (kind : Kind) (class : Class) (test : List Sym → X)
+    (xs ys : List Class) → AreFitting frame stage kind class xs
     → ArePartedBy (tiers_in frame).width test xs ys → AreFitting frame stage kind class ys
 fitting_parts frame stage kind class test xs ys f p = record {
   pieces = p.pieces;
@@ -36,7 +37,8 @@ fitting_parts frame stage kind class test xs ys f p = record {
       (λ h. (f.columns column).0 (sym same ∙ h), λ h. same ∙ (f.columns column).1 h);
 }
 
-free_alike : (tiers : List ℕ) (width : ℕ) (c d : List Sym) → AllByRecursion (λ t. t < width) tiers → opened_by width c ≡ opened_by width d
+free_alike : (tiers : List ℕ) (width : ℕ) (c d : List Sym) → AllByRecursion (λ t. t < width) tiers
+    → opened_by width c ≡ opened_by width d
     → map (λ t. opens (symbol c t)) tiers ≡ map (λ t. opens (symbol d t)) tiers
 free_alike [] width c d below same = refl
 free_alike (t ∷ ts) width c d below same =
@@ -56,25 +58,39 @@ module _ (frame : Frame) (stage : ℕ) (kind : Kind) where
   abbrev kind_of_parts : ℕ → List Bool → List Phase → PrefixKind
   kind_of_parts place opened phases = record { place = place; opened = opened; phases = phases }
 
-  same_moved : (c d : List Sym) → is_read c ≡ is_read d → opened_by (tiers_in frame).width c ≡ opened_by (tiers_in frame).width d → phases_then c ≡ phases_then d
-      → moved (problem_in frame) stage (kind_at_stage frame stage kind) c ≡ moved (problem_in frame) stage (kind_at_stage frame stage kind) d
+  same_moved : (c d : List Sym) → is_read c ≡ is_read d → opened_by (tiers_in frame).width c
+      ≡ opened_by (tiers_in frame).width d → phases_then c ≡ phases_then d
+      → moved (problem_in frame) stage (kind_at_stage frame stage kind) c
+      ≡ moved (problem_in frame) stage (kind_at_stage frame stage kind) d
   same_moved c d read opened phased =
-      ap (λ b. kind_of_parts (kind.place + cond b 1 0) (map (λ t. opens (symbol c t)) (tiers_in frame).free) (phases_then c)) read
-      ∙ ap (λ flags. kind_of_parts (kind.place + cond (is_read d) 1 0) flags (phases_then c)) (free_alike (tiers_in frame).free (tiers_in frame).width c d (tiers_split frame.grammar.now.tiers.kinds.items).free_below opened)
-      ∙ ap (λ ps. kind_of_parts (kind.place + cond (is_read d) 1 0) (map (λ t. opens (symbol d t)) (tiers_in frame).free) ps) phased
+      ap (λ b. kind_of_parts (kind.place + cond b 1 0) (map (λ t. opens (symbol c t)) (tiers_in frame).free)
+      (phases_then c)) read
+      ∙ ap (λ flags. kind_of_parts (kind.place + cond (is_read d) 1 0) flags (phases_then c))
+      (free_alike (tiers_in frame).free (tiers_in frame).width c d
+      (tiers_split frame.grammar.now.tiers.kinds.items).free_below opened)
+      ∙ ap (λ ps. kind_of_parts (kind.place + cond (is_read d) 1 0)
+      (map (λ t. opens (symbol d t)) (tiers_in frame).free) ps) phased
 
-  pub parted_moves : (xs ys zs : List Class) → ArePieces (tiers_in frame).width xs → All (IsReadAlike frame) xs → ArePartedBy (tiers_in frame).width (opened_by (tiers_in frame).width) xs ys
-      → ArePartedBy (tiers_in frame).width phases_then ys zs → ArePartedBy (tiers_in frame).width (moved (problem_in frame) stage (kind_at_stage frame stage kind)) xs zs
+  pub parted_moves : (xs ys zs : List Class) → ArePieces (tiers_in frame).width xs → All (IsReadAlike frame) xs
+      → ArePartedBy (tiers_in frame).width (opened_by (tiers_in frame).width) xs ys
+      → ArePartedBy (tiers_in frame).width phases_then ys zs
+      → ArePartedBy (tiers_in frame).width (moved (problem_in frame) stage (kind_at_stage frame stage kind)) xs zs
   parted_moves xs ys zs pieces read opened phased =
-      parted_then {X = Bool × List Bool} (tiers_in frame).width (λ column. (is_read column, opened_by (tiers_in frame).width column)) phases_then (moved (problem_in frame) stage (kind_at_stage frame stage kind)) xs ys zs
-      (λ c d _ _ both p. same_moved c d (ap (λ (x : Bool × List Bool). x.0) both) (ap (λ (x : Bool × List Bool). x.1) both) p)
-      (parted_then {Z = Bool × List Bool} (tiers_in frame).width is_read (opened_by (tiers_in frame).width) (λ column. (is_read column, opened_by (tiers_in frame).width column)) xs xs ys
-      (λ c d _ _ p q. pair_same (is_read c) (is_read d) (opened_by (tiers_in frame).width c) (opened_by (tiers_in frame).width d) p q)
+      parted_then {X = Bool × List Bool} (tiers_in frame).width
+      (λ column. (is_read column, opened_by (tiers_in frame).width column)) phases_then
+      (moved (problem_in frame) stage (kind_at_stage frame stage kind)) xs ys zs
+      (λ c d _ _ both p. same_moved c d (ap (λ (x : Bool × List Bool). x.0) both)
+      (ap (λ (x : Bool × List Bool). x.1) both) p)
+      (parted_then {Z = Bool × List Bool} (tiers_in frame).width is_read (opened_by (tiers_in frame).width)
+      (λ column. (is_read column, opened_by (tiers_in frame).width column)) xs xs ys
+      (λ c d _ _ p q. pair_same (is_read c) (is_read d) (opened_by (tiers_in frame).width c)
+      (opened_by (tiers_in frame).width d) p q)
       (parted_same (tiers_in frame).width is_read xs pieces read) opened)
       phased
 
 -- the first constraints are over the tiers of their grammar
-pub first_over : (frame : Frame) (stage width : ℕ) (xs : List Constraint) → xs ≡ constraints_in frame → width ≡ (tiers_in frame).width → All (IsOverTiers width) (take stage xs)
+pub first_over : (frame : Frame) (stage width : ℕ) (xs : List Constraint) → xs ≡ constraints_in frame
+    → width ≡ (tiers_in frame).width → All (IsOverTiers width) (take stage xs)
 first_over frame stage width xs same wide =
     subst (λ w. All (IsOverTiers w) (take stage xs)) (sym wide)
     (All-take (IsOverTiers (tiers_in frame).width) stage xs
@@ -83,21 +99,28 @@ first_over frame stage width xs same wide =
 
 -- ---- what the columns of pieces cost
 
-pub free_cost : (frame : Frame) (stage constraint : ℕ) (kind : Kind) (column : List Sym) → constraint ≡ 0 → cost_under frame stage constraint kind column ≡ 0
+pub free_cost : (frame : Frame) (stage constraint : ℕ) (kind : Kind) (column : List Sym) → constraint ≡ 0
+    → cost_under frame stage constraint kind column ≡ 0
 free_cost frame stage constraint kind column none =
-    ap (λ b. cond b 0 (get_or (move_costs (problem_in frame) stage (kind_at_stage frame stage kind) column) (constraint - 1) 0)) (eq-eqb constraint 0 none)
+    ap (λ b. cond b 0 (get_or (move_costs (problem_in frame) stage (kind_at_stage frame stage kind) column)
+    (constraint - 1) 0)) (eq-eqb constraint 0 none)
 
-pub cost_is : (frame : Frame) (stage constraint : ℕ) (kind : Kind) (column : List Sym) (n : ℕ) → (constraint ≡ 0 → ⊥) → n ≡ get_or (move_costs (problem_in frame) stage (kind_at_stage frame stage kind) column) (constraint - 1) 0
+pub cost_is : (frame : Frame) (stage constraint : ℕ) (kind : Kind) (column : List Sym) (n : ℕ) → (constraint ≡ 0 → ⊥)
+    → n ≡ get_or (move_costs (problem_in frame) stage (kind_at_stage frame stage kind) column) (constraint - 1) 0
     → cost_under frame stage constraint kind column ≡ n
 cost_is frame stage constraint kind column n some is =
-    ap (λ b. cond b 0 (get_or (move_costs (problem_in frame) stage (kind_at_stage frame stage kind) column) (constraint - 1) 0)) (ne_eqb constraint 0 some) ∙ sym is
+    ap (λ b. cond b 0 (get_or (move_costs (problem_in frame) stage (kind_at_stage frame stage kind) column)
+    (constraint - 1) 0)) (ne_eqb constraint 0 some) ∙ sym is
 
 pub same_cost : (frame : Frame) (stage constraint : ℕ) (kind : Kind) (c d : List Sym) (a b : Bool)
-    → cost_under frame stage constraint kind c ≡ cond a 1 0 → cost_under frame stage constraint kind d ≡ cond b 1 0 → a ≡ b → cost_under frame stage constraint kind c ≡ cost_under frame stage constraint kind d
+    → cost_under frame stage constraint kind c ≡ cond a 1 0 → cost_under frame stage constraint kind d ≡ cond b 1 0
+    → a ≡ b → cost_under frame stage constraint kind c ≡ cost_under frame stage constraint kind d
 same_cost frame stage constraint kind c d a b ec ed same = ec ∙ ap (λ x. cond x 1 0) same ∙ sym ed
 
 -- ---- pieces that fit
 
-pub piece_fits : (frame : Frame) (stage : ℕ) (kind : Kind) (class : Class) (parts : List Class) → AreFitting frame stage kind class parts
+pub piece_fits : (frame : Frame) (stage : ℕ) (kind : Kind) (class : Class) (parts : List Class)
+    → AreFitting frame stage kind class parts
     → All (λ part. (column : List Sym) → IsTrue (has part column) → FitsAt frame stage kind column) parts
-piece_fits frame stage kind class parts f k d inside column h = ((f.columns column).0 (list_any_at (λ part. has part column) parts k d inside h)).1
+piece_fits frame stage kind class parts f k d inside column h = ((f.columns column).0
+    (list_any_at (λ part. has part column) parts k d inside h)).1

@@ -14,7 +14,8 @@ use Rattle.kind_moves.specs.Frames.{problem_in, tiers_in, kind_at_stage, FitsAt}
 -- pieces hold exactly the columns of a class that fit a kind
 pub record AreFitting (frame : Frame) (stage : ℕ) (kind : Kind) (class : Class) (parts : List Class) : Type 0 where
   pub pieces : ArePieces (tiers_in frame).width parts
-  pub columns : (column : List Sym) → IsTrue (some_has parts column) ↔ (IsTrue (has class column) × FitsAt frame stage kind column)
+  pub columns : (column : List Sym) → IsTrue (some_has parts column)
+      ↔ (IsTrue (has class column) × FitsAt frame stage kind column)
 
 -- all columns of a class read a column of the form, or none does
 abbrev pub IsReadAlike : Frame → Class → Type 0

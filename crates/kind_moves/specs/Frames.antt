@@ -40,7 +40,8 @@ pub record FitsFrame (frame : Frame) (stage : ℕ) (kind : Kind) : Type 0 where
   pub place : kind.place ≤ length (form_in frame)
   pub opened : kind.opened < 2 ^ length (tiers_in frame).free
   pub stretches : AreStretchesBelow (length (stretches_in frame stage)) kind
-  pub phases : AreClosedOr (is_left_open (problem_in frame) (kind_at_stage frame stage kind)) (stretches_in frame stage) (kind_at_stage frame stage kind).phases
+  pub phases : AreClosedOr (is_left_open (problem_in frame) (kind_at_stage frame stage kind))
+      (stretches_in frame stage) (kind_at_stage frame stage kind).phases
 
 -- a column fits a kind of a frame
 abbrev pub FitsAt : Frame → ℕ → Kind → List Sym → Type 0

@@ -8,4 +8,5 @@ use Rattle.kind_moves.specs.Frames.{IsMove}
 -- moves by the columns in turn lead from one kind to another
 abbrev pub LeadsTo : Frame → ℕ → Kind → List (List Sym) → Kind → Type 0
 LeadsTo frame stage kind [] last = kind ≡ last
-LeadsTo frame stage kind (column ∷ columns) last = (next : Kind) × (IsMove frame stage kind column next × LeadsTo frame stage next columns last)
+LeadsTo frame stage kind (column ∷ columns) last = (next : Kind)
+    × (IsMove frame stage kind column next × LeadsTo frame stage next columns last)

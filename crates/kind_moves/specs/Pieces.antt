@@ -20,12 +20,14 @@ opened_by n column = map (λ t. opens (symbol column t)) (range_with_len 0 n)
 abbrev pub cost_under : Frame → ℕ → ℕ → Kind → List Sym → ℕ
 cost_under frame stage constraint kind column =
     if constraint == 0 then 0
-    else slice_index_or (move_costs (problem_in frame) stage (kind_at_stage frame stage kind) column) (constraint - 1) 0
+    else slice_index_or (move_costs (problem_in frame) stage (kind_at_stage frame stage kind) column)
+    (constraint - 1) 0
 
 -- Each column of a piece leads to its target, and costs what it does.
 pub record IsPiece (frame : Frame) (stage constraint : ℕ) (kind : Kind) (piece : Piece) : Type 0 where
   pub moves : (column : List Sym) → IsTrue (has piece.class column) → IsMove frame stage kind column piece.target
-  pub costs : (column : List Sym) → IsTrue (has piece.class column) → piece.cost ≡ cost_under frame stage constraint kind column
+  pub costs : (column : List Sym) → IsTrue (has piece.class column)
+      → piece.cost ≡ cost_under frame stage constraint kind column
 
 -- the classes of pieces
 abbrev pub classes_of : List Piece → List Class

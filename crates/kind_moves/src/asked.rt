@@ -40,7 +40,8 @@ fn set_asked(ask: Ask, part: Part) -> u8
 pub(crate) fn narrowed_by(class: &Class, ask: Ask, types: &[Event]) -> Class
     requires { All (λ e. e.tier < length (sets_of class.now)) types.now }
     ensures width { length (sets_of result) ≡ length (sets_of class.now) }
-    ensures columns { (column : List Sym) → has result column ≡ (has class.now column && answers ask types.now column) }
+    ensures columns { (column : List Sym) → has result column
+        ≡ (has class.now column && answers ask types.now column) }
 {
     let mut rest = *class;
     for event in types {

@@ -38,7 +38,8 @@ pub(crate) fn inside(class: &Class) -> Difference
 /// The test whether a column of the width of a class is not in it.
 pub(crate) fn outside(class: &Class) -> Difference
     ensures width { length (sets_of result.within) ≡ length (sets_of class.now) }
-    ensures columns { (column : List Sym) → length column ≡ length (sets_of class.now) → differs result column ≡ not (has class.now column) }
+    ensures columns { (column : List Sym) → length column ≡ length (sets_of class.now)
+        → differs result column ≡ not (has class.now column) }
 {
     Difference {
         within: whole(class.width()),

@@ -36,7 +36,8 @@ fn ends_overlap(opened: u16, left: &[Event], right: &[Event], column: &[Sym]) ->
     requires right_tiers { All (λ e. e.tier < 12) right.now }
     requires left_in { AreInColumn left.now column.now }
     requires right_in { AreInColumn right.now column.now }
-    ensures { result ≡ (list_all (λ e. has_tier opened e.tier) (left.now ++ right.now) && edge_among (left.now ++ right.now) column.now) }
+    ensures { result ≡ (list_all (λ e. has_tier opened e.tier) (left.now ++ right.now)
+        && edge_among (left.now ++ right.now) column.now) }
 {
     let are_open = are_all_in(opened, left) && are_all_in(opened, right);
     are_open && (has_edge_among(column, left) || has_edge_among(column, right))
@@ -46,7 +47,9 @@ fn ends_overlap(opened: u16, left: &[Event], right: &[Event], column: &[Sym]) ->
 /// constraint's phase, if it has one, is unmet or not.
 pub(crate) fn costs(constraint: &Constraint, opened: u16, is_unmet: bool, column: &[Sym]) -> bool
     requires { IsOverTiers (length column.now) constraint.now }
-    ensures { (phase : told.Phase) → is_unmet ≡ is_unmet_phase phase → result ≡ costs constraint.now.family constraint.now.left constraint.now.right (has_tier opened) phase column.now }
+    ensures { (phase : told.Phase) → is_unmet ≡ is_unmet_phase phase
+        → result ≡ costs constraint.now.family constraint.now.left constraint.now.right
+        (has_tier opened) phase column.now }
 {
     let left = constraint.left.as_slice();
     let right = constraint.right.as_slice();

@@ -24,7 +24,8 @@ fn counted_at(width: u32, family: Family, left: &[Event], right: &[Event]) -> Di
     requires left { AreTiersBelow width left.now }
     requires right { AreTiersBelow width right.now }
     ensures width { length (sets_of result.within) ≡ width }
-    ensures columns { (column : List Sym) → length column ≡ width → differs result column ≡ edge_cost family left.now right.now column }
+    ensures columns { (column : List Sym) → length column ≡ width
+        → differs result column ≡ edge_cost family left.now right.now column }
 {
     let present = narrowed_by(&whole(width), Ask::Present, left);
     match family {
@@ -41,7 +42,9 @@ fn overlap_ends(width: u32, opened: u16, left: &[Event], right: &[Event]) -> Dif
     requires left { AreTiersBelow width left.now }
     requires right { AreTiersBelow width right.now }
     ensures width { length (sets_of result.within) ≡ width }
-    ensures columns { (column : List Sym) → length column ≡ width → differs result column ≡ (list_all (λ e. has_tier opened e.tier) (left.now ++ right.now) && edge_among (left.now ++ right.now) column) }
+    ensures columns { (column : List Sym) → length column ≡ width
+        → differs result column ≡ (list_all (λ e. has_tier opened e.tier) (left.now ++ right.now)
+        && edge_among (left.now ++ right.now) column) }
 {
     if !are_all_in(opened, left) {
         return never(width);
@@ -59,7 +62,8 @@ fn stretch_ends(width: u32, is_unmet: bool, left: &[Event]) -> Difference
     requires few { width ≤ 12 }
     requires left { AreTiersBelow width left.now }
     ensures width { length (sets_of result.within) ≡ width }
-    ensures columns { (column : List Sym) → length column ≡ width → differs result column ≡ (is_unmet && edge_among left.now column) }
+    ensures columns { (column : List Sym) → length column ≡ width
+        → differs result column ≡ (is_unmet && edge_among left.now column) }
 {
     if !is_unmet {
         return never(width);
@@ -79,7 +83,10 @@ pub(crate) fn costing(
     requires few { width ≤ 12 }
     requires over { IsOverTiers width constraint.now }
     ensures width { length (sets_of result.within) ≡ width }
-    ensures columns { (phase : told.Phase) → is_unmet ≡ is_unmet_phase phase → (column : List Sym) → length column ≡ width → differs result column ≡ costs constraint.now.family constraint.now.left constraint.now.right (has_tier opened) phase column }
+    ensures columns { (phase : told.Phase) → is_unmet ≡ is_unmet_phase phase → (column : List Sym)
+        → length column ≡ width → differs result column
+        ≡ costs constraint.now.family constraint.now.left constraint.now.right
+        (has_tier opened) phase column }
 {
     let left = constraint.left.as_slice();
     let right = constraint.right.as_slice();

@@ -8,7 +8,8 @@ use tier_core::{Sym, has_bit};
 /// Whether each symbol of a column may come where the tiers of a mask are open.
 pub(crate) fn may_follow(opened: u16, column: &[Sym]) -> bool
     requires { length column.now ≤ 12 }
-    ensures { IsTrue result ↔ ((t : ℕ) → t < length column.now → fits (has_tier opened t) (symbol column.now t) ≡ true) }
+    ensures { IsTrue result ↔ ((t : ℕ) → t < length column.now
+        → fits (has_tier opened t) (symbol column.now t) ≡ true) }
 {
     for (tier, sym) in column.iter().enumerate() {
         if !sym.may_come(has_bit(opened as u32, tier as u32)) {

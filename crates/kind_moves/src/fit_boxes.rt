@@ -21,7 +21,9 @@ fn fitting_set(is_open: bool) -> u8
 /// The columns of a class whose symbols may come where the tiers of a mask are open.
 pub(crate) fn following(class: &Class, opened: u16) -> Class
     ensures width { length (sets_of result) ≡ length (sets_of class.now) }
-    ensures columns { (column : List Sym) → IsTrue (has result column) ↔ (IsTrue (has class.now column) × ((t : ℕ) → t < length (sets_of class.now) → fits (has_tier opened t) (symbol column t) ≡ true)) }
+    ensures columns { (column : List Sym) → IsTrue (has result column)
+        ↔ (IsTrue (has class.now column) × ((t : ℕ) → t < length (sets_of class.now)
+        → fits (has_tier opened t) (symbol column t) ≡ true)) }
 {
     let mut rest = *class;
     for tier in 0..class.width() {
@@ -33,7 +35,9 @@ pub(crate) fn following(class: &Class, opened: u16) -> Class
 /// The columns of a class without an edge.
 pub(crate) fn edgeless(class: &Class) -> Class
     ensures width { length (sets_of result) ≡ length (sets_of class.now) }
-    ensures columns { (column : List Sym) → IsTrue (has result column) ↔ (IsTrue (has class.now column) × ((t : ℕ) → t < length (sets_of class.now) → is_edge (symbol column t) ≡ false)) }
+    ensures columns { (column : List Sym) → IsTrue (has result column)
+        ↔ (IsTrue (has class.now column) × ((t : ℕ) → t < length (sets_of class.now)
+        → is_edge (symbol column t) ≡ false)) }
 {
     let mut rest = *class;
     for tier in 0..class.width() {
@@ -47,7 +51,9 @@ pub(crate) fn without_input(class: &Class, kinds: &[TierKind]) -> Class
     requires width { length kinds.now ≡ length (sets_of class.now) }
     requires few { length kinds.now ≤ 12 }
     ensures width { length (sets_of result) ≡ length (sets_of class.now) }
-    ensures columns { (column : List Sym) → has result column ≡ (has class.now column && not (has_edge (map (symbol column) (numbers_from is_input 0 kinds.now)))) }
+    ensures columns { (column : List Sym) → has result column
+        ≡ (has class.now column && not (has_edge (map (symbol column)
+        (numbers_from is_input 0 kinds.now)))) }
 {
     let mut rest = *class;
     for (tier, kind) in kinds.iter().enumerate() {
@@ -63,7 +69,9 @@ pub(crate) fn with_input(class: &Class, kinds: &[TierKind], form: &[Sym]) -> Cla
     requires width { length kinds.now ≡ length (sets_of class.now) }
     requires few { length kinds.now ≤ 12 }
     ensures width { length (sets_of result) ≡ length (sets_of class.now) }
-    ensures columns { (column : List Sym) → IsTrue (has result column) ↔ (IsTrue (has class.now column) × (map (symbol column) (numbers_from is_input 0 kinds.now) ≡ form.now)) }
+    ensures columns { (column : List Sym) → IsTrue (has result column)
+        ↔ (IsTrue (has class.now column) × (map (symbol column)
+        (numbers_from is_input 0 kinds.now) ≡ form.now)) }
 {
     let mut rest = *class;
     let mut next = 0;

@@ -20,7 +20,8 @@ impl<'a> Frame<'a> {
     ) -> Result<Vec<Class>, AllocError>
         requires place { kind.now.place ≤ length (form_in self.now) }
         requires width { length (sets_of class.now) ≡ (tiers_in self.now).width }
-        ensures fitting { (stage : ℕ) → IfOk result (λ pieces. AreFitting self.now stage kind.now class.now pieces.items) }
+        ensures fitting { (stage : ℕ) → IfOk result
+            (λ pieces. AreFitting self.now stage kind.now class.now pieces.items) }
         ensures read { IfOk result (λ pieces. All (IsReadAlike self.now) pieces.items) }
     {
         let kinds = self.grammar.tiers.kinds.as_slice();
@@ -46,7 +47,8 @@ impl<'a> Frame<'a> {
     ) -> Result<Vec<Class>, NoMemory>
         requires place { kind.now.place ≤ length (form_in self.now) }
         requires width { length (sets_of class.now) ≡ (tiers_in self.now).width }
-        ensures fitting { (stage : ℕ) → IfOk result (λ pieces. AreFitting self.now stage kind.now class.now pieces.items) }
+        ensures fitting { (stage : ℕ) → IfOk result
+            (λ pieces. AreFitting self.now stage kind.now class.now pieces.items) }
         ensures read { IfOk result (λ pieces. All (IsReadAlike self.now) pieces.items) }
     {
         match self.fitting_pieces(alloc, kind, class) {

@@ -26,7 +26,8 @@ pub struct Frame<'a> {
     pub ghost well_formed: { ∥ IsForm (tiers_of_table grammar.now.tiers) form.now ∥₁ },
     pub ghost short: { length form.now ≤ 64 },
     pub ghost free_tiers: { tiers_of free ≡ (tiers_of_table grammar.now.tiers).free },
-    pub ghost inputs: { AreOpenInputs (tiers_of_table grammar.now.tiers) form.now open_inputs.items },
+    pub ghost inputs: { AreOpenInputs (tiers_of_table grammar.now.tiers) form.now
+        open_inputs.items },
 }
 
 impl<'a> Frame<'a> {
@@ -77,7 +78,8 @@ impl<'a> Frame<'a> {
     pub fn at_end(&self, kind: &Kind) -> bool
         requires place { kind.now.place ≤ length (form_in self.now) }
         requires opened { kind.now.opened < 2 ^ length (tiers_in self.now).free }
-        ensures { (stage : ℕ) → result ≡ is_final (problem_in self.now) (kind_at_stage self.now stage kind.now) }
+        ensures { (stage : ℕ) → result ≡ is_final (problem_in self.now)
+            (kind_at_stage self.now stage kind.now) }
     {
         kind.place as usize == self.form.len() && kind.opened == 0
     }
@@ -85,7 +87,8 @@ impl<'a> Frame<'a> {
     /// The mask of the tiers that are open at a kind.
     pub(crate) fn open_at(&self, kind: &Kind) -> u16
         requires { kind.now.place ≤ length (form_in self.now) }
-        ensures { (stage t : ℕ) → has_tier result t ≡ is_tier_open (problem_in self.now) (kind_at_stage self.now stage kind.now) t }
+        ensures { (stage t : ℕ) → has_tier result t
+            ≡ is_tier_open (problem_in self.now) (kind_at_stage self.now stage kind.now) t }
     {
         self.open_inputs[kind.place as usize] | laid_out(self.free, kind.opened)
     }
@@ -102,7 +105,9 @@ impl<'a> Frame<'a> {
     fn goes_by_form(&self, place: usize, column: &[Sym]) -> bool
         requires width { length column.now ≡ (tiers_in self.now).width }
         requires place { place ≤ length (form_in self.now) }
-        ensures { IsTrue result ↔ ((has_edge (input_of (tiers_in self.now) column.now) ≡ false) ⊎ ((place < length (form_in self.now)) × (input_of (tiers_in self.now) column.now ≡ column_at (form_in self.now) place))) }
+        ensures { IsTrue result ↔ ((has_edge (input_of (tiers_in self.now) column.now) ≡ false) ⊎
+            ((place < length (form_in self.now)) × (input_of (tiers_in self.now) column.now
+            ≡ column_at (form_in self.now) place))) }
     {
         if !self.reads_form(column) {
             return true;
@@ -130,7 +135,8 @@ impl<'a> Frame<'a> {
     fn next_place(&self, place: u32, column: &[Sym]) -> u32
         requires width { length column.now ≡ (tiers_in self.now).width }
         requires place { place ≤ 64 }
-        ensures { result ≡ place + (if has_edge (input_of (tiers_in self.now) column.now) then 1 else 0) }
+        ensures { result ≡ place + (if has_edge (input_of
+            (tiers_in self.now) column.now) then 1 else 0) }
     {
         if self.reads_form(column) {
             place + 1
@@ -142,7 +148,8 @@ impl<'a> Frame<'a> {
     /// The free tiers that are open after a column.
     fn next_opened(&self, column: &[Sym]) -> u16
         requires { length column.now ≡ (tiers_in self.now).width }
-        ensures flags { open_tiers (length (tiers_in self.now).free) result ≡ map (λ t. opens (symbol column.now t)) (tiers_in self.now).free }
+        ensures flags { open_tiers (length (tiers_in self.now).free) result
+            ≡ map (λ t. opens (symbol column.now t)) (tiers_in self.now).free }
         ensures within { result < 2 ^ length (tiers_in self.now).free }
     {
         taken_from(self.free, open_after(column))
@@ -152,7 +159,9 @@ impl<'a> Frame<'a> {
     fn next_phases(&self, stage: u32, kind: &Kind, column: &[Sym]) -> PhaseMasks
         requires stage { stage ≤ last_stage (problem_in self.now) }
         requires width { length column.now ≡ (tiers_in self.now).width }
-        ensures phases { phases_by (length (stretches_in self.now stage)) result.unmet result.met ≡ next_phases (stretches_in self.now stage) (kind_at_stage self.now stage kind.now).phases column.now }
+        ensures phases { phases_by (length (stretches_in self.now stage)) result.unmet result.met
+            ≡ next_phases (stretches_in self.now stage)
+            (kind_at_stage self.now stage kind.now).phases column.now }
         ensures unmet { result.unmet < 2 ^ length (stretches_in self.now stage) }
         ensures met { result.met < 2 ^ length (stretches_in self.now stage) }
     {
@@ -166,7 +175,8 @@ impl<'a> Frame<'a> {
         requires stage { stage ≤ last_stage (problem_in self.now) }
         requires fits { FitsFrame self.now stage kind.now }
         requires width { length column.now ≡ (tiers_in self.now).width }
-        ensures { MatchOption result (FitsAt self.now stage kind.now column.now → ⊥) (IsMove self.now stage kind.now column.now) }
+        ensures { MatchOption result (FitsAt self.now stage kind.now column.now → ⊥)
+            (IsMove self.now stage kind.now column.now) }
     {
         let syms = column.syms();
         if !self.fits(kind, syms) {
@@ -189,7 +199,8 @@ impl<'a> Frame<'a> {
         requires within { constraint ≤ stage }
         requires fits { FitsFrame self.now stage kind.now }
         requires width { length column.now ≡ (tiers_in self.now).width }
-        ensures cost { result ≡ slice_index_or (move_costs (problem_in self.now) stage (kind_at_stage self.now stage kind.now) column.now) (constraint - 1) 0 }
+        ensures cost { result ≡ slice_index_or (move_costs (problem_in self.now) stage
+            (kind_at_stage self.now stage kind.now) column.now) (constraint - 1) 0 }
         ensures few { result ≤ 1 }
     {
         let number = constraint as usize - 1;

@@ -9,7 +9,8 @@ use tier_core::{Sym, has_bit, with_bit};
 
 /// Lays the bits of `flags` out on the tiers of a mask, the lowest on the first tier.
 pub(crate) fn laid_out(tiers: u16, flags: u16) -> u16
-    ensures { (t : ℕ) → has_tier result t ≡ flag_of (tiers_of tiers) (open_tiers (length (tiers_of tiers)) flags) t }
+    ensures { (t : ℕ) → has_tier result t ≡ flag_of (tiers_of tiers)
+        (open_tiers (length (tiers_of tiers)) flags) t }
 {
     let mut laid: u32 = 0;
     let mut next = 0;
@@ -24,7 +25,8 @@ pub(crate) fn laid_out(tiers: u16, flags: u16) -> u16
 
 /// The bits that a mask has on the tiers of another, the first in the lowest place.
 pub(crate) fn taken_from(tiers: u16, mask: u16) -> u16
-    ensures flags { open_tiers (length (tiers_of tiers)) result ≡ map (has_tier mask) (tiers_of tiers) }
+    ensures flags { open_tiers (length (tiers_of tiers)) result
+        ≡ map (has_tier mask) (tiers_of tiers) }
     ensures within { result < 2 ^ length (tiers_of tiers) }
 {
     let mut taken: u32 = 0;

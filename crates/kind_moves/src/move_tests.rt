@@ -23,7 +23,8 @@ pub(crate) fn opens_at(width: u32, tier: u32) -> Difference
     requires few { width ≤ 12 }
     requires tier { tier < width }
     ensures width { length (sets_of result.within) ≡ width }
-    ensures columns { (column : List Sym) → length column ≡ width → differs result column ≡ opens (symbol column tier) }
+    ensures columns { (column : List Sym) → length column ≡ width
+        → differs result column ≡ opens (symbol column tier) }
 {
     inside(&narrowed(&whole(width), tier, 22))
 }
@@ -35,7 +36,11 @@ pub(crate) fn goes_on_met(width: u32, constraint: &Constraint, was_met: bool) ->
     requires few { width ≤ 12 }
     requires over { IsOverTiers width constraint.now }
     ensures width { length (sets_of result.within) ≡ width }
-    ensures columns { (column : List Sym) → length column ≡ width → differs result column ≡ (((answers Open constraint.now.left column && answers NoInteriorOpen constraint.now.right column) && answers NoEdge constraint.now.left column) && (was_met || not (answers NoEdgePresent constraint.now.right column))) }
+    ensures columns { (column : List Sym) → length column ≡ width
+        → differs result column ≡ (((answers Open constraint.now.left column
+        && answers NoInteriorOpen constraint.now.right column)
+        && answers NoEdge constraint.now.left column)
+        && (was_met || not (answers NoEdgePresent constraint.now.right column))) }
 {
     let left = constraint.left.as_slice();
     let right = constraint.right.as_slice();

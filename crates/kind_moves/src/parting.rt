@@ -44,7 +44,9 @@ fn parts_by_phase(
     requires over { IsOverTiers width constraint.now }
     requires pieces { ArePieces width classes.items }
     requires opened { All (IsAlike (opened_by width)) classes.items }
-    ensures { (phase : told.Phase) → was_met ≡ is_met_phase phase → IfOk result (λ parts. ArePartedBy width (next_phase constraint.now.left constraint.now.right phase) classes.items parts.items) }
+    ensures { (phase : told.Phase) → was_met ≡ is_met_phase phase
+        → IfOk result (λ parts. ArePartedBy width (next_phase constraint.now.left
+        constraint.now.right phase) classes.items parts.items) }
 {
     let parts = part(alloc, classes, &goes_on_met(width, constraint, was_met))?;
     Ok(parts)
@@ -65,7 +67,10 @@ pub(crate) fn parts_by_phases(
     requires over { All (IsOverTiers width) constraints.now }
     requires pieces { ArePieces width classes.items }
     requires opened { All (IsAlike (opened_by width)) classes.items }
-    ensures { IfOk result (λ parts. ArePartedBy width (next_phases (filter is_stretch constraints.now) (phases (length (filter is_stretch constraints.now)) kind.now)) classes.items parts.items) }
+    ensures { IfOk result (λ parts. ArePartedBy width
+        (next_phases (filter is_stretch constraints.now)
+        (phases (length (filter is_stretch constraints.now)) kind.now)) classes.items
+        parts.items) }
 {
     let mut parts = classes;
     let mut next = 0;

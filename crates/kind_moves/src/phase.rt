@@ -42,7 +42,9 @@ impl Phase {
 fn is_met_after(left: &[Event], right: &[Event], was_met: bool, column: &[Sym]) -> bool
     requires left_in { AreInColumn left.now column.now }
     requires right_in { AreInColumn right.now column.now }
-    ensures { result ≡ ((if edge_among left.now column.now then false else (was_met || list_any (is_present column.now) right.now)) || list_any (opens_interior column.now) right.now) }
+    ensures { result ≡ ((if edge_among left.now column.now then false else
+        (was_met || list_any (is_present column.now) right.now))
+        || list_any (opens_interior column.now) right.now) }
 {
     let goes_on = !has_edge_among(column, left);
     (goes_on && (was_met || any_present(column, right))) || opens_some(column, right)
@@ -51,7 +53,8 @@ fn is_met_after(left: &[Event], right: &[Event], was_met: bool, column: &[Sym]) 
 /// The phase of a stretch implication after a column, where it was met before it or not.
 fn phase_after(constraint: &Constraint, was_met: bool, column: &[Sym]) -> Phase
     requires { IsOverTiers (length column.now) constraint.now }
-    ensures { (phase : told.Phase) → was_met ≡ is_met_phase phase → phase_of result ≡ next_phase constraint.now.left constraint.now.right phase column.now }
+    ensures { (phase : told.Phase) → was_met ≡ is_met_phase phase
+        → phase_of result ≡ next_phase constraint.now.left constraint.now.right phase column.now }
 {
     let left = constraint.left.as_slice();
     if !opens_each(column, left) {
@@ -67,7 +70,9 @@ fn phase_after(constraint: &Constraint, was_met: bool, column: &[Sym]) -> Phase
 pub(crate) fn next_phases(constraints: &[Constraint], kind: &Kind, column: &[Sym]) -> PhaseMasks
     requires few { length constraints.now ≤ 24 }
     requires over { All (IsOverTiers (length column.now)) constraints.now }
-    ensures phases { phases_by (length (filter is_stretch constraints.now)) result.unmet result.met ≡ next_phases (filter is_stretch constraints.now) (phases (length (filter is_stretch constraints.now)) kind.now) column.now }
+    ensures phases { phases_by (length (filter is_stretch constraints.now)) result.unmet
+        result.met ≡ next_phases (filter is_stretch constraints.now)
+        (phases (length (filter is_stretch constraints.now)) kind.now) column.now }
     ensures unmet { result.unmet < 2 ^ length (filter is_stretch constraints.now) }
     ensures met { result.met < 2 ^ length (filter is_stretch constraints.now) }
 {

@@ -29,8 +29,10 @@ impl<'a> Frame<'a> {
         requires stage { stage ≤ length (constraints_in self.now) }
         requires fits { FitsFrame self.now stage kind.now }
         requires width { length (sets_of class.now) ≡ (tiers_in self.now).width }
-        ensures fitting { IfOk result (λ pieces. AreFitting self.now stage kind.now class.now pieces.items) }
-        ensures moved { IfOk result (λ pieces. All (IsMovedAlike self.now stage kind.now) pieces.items) }
+        ensures fitting { IfOk result (λ pieces. AreFitting self.now stage kind.now class.now
+            pieces.items) }
+        ensures moved { IfOk result (λ pieces. All
+            (IsMovedAlike self.now stage kind.now) pieces.items) }
     {
         let width = class.width();
         let fitting = self.fitting(alloc, kind, class)?;
@@ -57,7 +59,8 @@ impl<'a> Frame<'a> {
         requires few { width ≤ 12 }
         requires width { width ≡ (tiers_in self.now).width }
         requires pieces { ArePieces width classes.items }
-        ensures { IfOk result (λ pieces. ArePartedBy (tiers_in self.now).width (cost_under self.now stage constraint kind.now) classes.items pieces.items) }
+        ensures { IfOk result (λ pieces. ArePartedBy (tiers_in self.now).width
+            (cost_under self.now stage constraint kind.now) classes.items pieces.items) }
     {
         if constraint == 0 {
             return Ok(classes);
@@ -92,7 +95,8 @@ impl<'a> Frame<'a> {
         requires within { constraint ≤ stage }
         requires fits { FitsFrame self.now stage kind.now }
         requires filled { IsTrue (is_filled class.now) }
-        requires columns { (column : List Sym) → IsTrue (has class.now column) → FitsAt self.now stage kind.now column }
+        requires columns { (column : List Sym) → IsTrue (has class.now column)
+            → FitsAt self.now stage kind.now column }
         requires moved { IsMovedAlike self.now stage kind.now class.now }
         requires costed { IsAlike (cost_under self.now stage constraint kind.now) class.now }
         ensures class { result.class ≡ class.now }
@@ -123,11 +127,14 @@ impl<'a> Frame<'a> {
         requires within { constraint ≤ stage }
         requires fits { FitsFrame self.now stage kind.now }
         requires filled { All (λ class. IsTrue (is_filled class)) classes.now }
-        requires columns { All (λ class. (column : List Sym) → IsTrue (has class column) → FitsAt self.now stage kind.now column) classes.now }
+        requires columns { All (λ class. (column : List Sym) → IsTrue (has class column)
+            → FitsAt self.now stage kind.now column) classes.now }
         requires moved { All (IsMovedAlike self.now stage kind.now) classes.now }
-        requires costed { All (IsAlike (cost_under self.now stage constraint kind.now)) classes.now }
+        requires costed { All (IsAlike (cost_under self.now stage constraint kind.now))
+            classes.now }
         ensures classes { IfOk result (λ pieces. classes_of pieces.items ≡ classes.now) }
-        ensures each { IfOk result (λ pieces. All (IsPiece self.now stage constraint kind.now) pieces.items) }
+        ensures each { IfOk result (λ pieces. All (IsPiece self.now stage constraint kind.now)
+            pieces.items) }
     {
         let mut pieces = Vec::new(alloc);
         for class in classes {
@@ -153,9 +160,13 @@ impl<'a> Frame<'a> {
         requires within { constraint ≤ stage }
         requires fits { FitsFrame self.now stage kind.now }
         requires width { length (sets_of class.now) ≡ (tiers_in self.now).width }
-        ensures pieces { IfOk result (λ pieces. ArePieces (tiers_in self.now).width (classes_of pieces.items)) }
-        ensures columns { IfOk result (λ pieces. (column : List Sym) → IsTrue (some_has (classes_of pieces.items) column) ↔ (IsTrue (has class.now column) × FitsAt self.now stage kind.now column)) }
-        ensures each { IfOk result (λ pieces. All (IsPiece self.now stage constraint kind.now) pieces.items) }
+        ensures pieces { IfOk result (λ pieces. ArePieces (tiers_in self.now).width
+            (classes_of pieces.items)) }
+        ensures columns { IfOk result (λ pieces. (column : List Sym)
+            → IsTrue (some_has (classes_of pieces.items) column)
+            ↔ (IsTrue (has class.now column) × FitsAt self.now stage kind.now column)) }
+        ensures each { IfOk result (λ pieces. All (IsPiece self.now stage constraint kind.now)
+            pieces.items) }
     {
         let moved = self.moved_pieces(alloc, stage, kind, class)?;
         let width = class.width();

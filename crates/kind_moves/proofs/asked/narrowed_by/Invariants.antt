@@ -8,5 +8,6 @@ use Rattle.kind_moves.proofs.asked.narrowed_by.Given as goal
 abbrev pub invariant-loop-event : goal.invariant-loop-event
 invariant-loop-event l = record {
   width : length (sets_of l.rest) ≡ length (sets_of l.class);
-  columns : (column : List Sym) → has l.rest column ≡ (has l.class column && answers l.ask (take l.event-index l.types) column);
+  columns : (column : List Sym) → has l.rest column ≡ (has l.class column
+      && answers l.ask (take l.event-index l.types) column);
 }

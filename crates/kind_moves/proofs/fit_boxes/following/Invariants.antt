@@ -9,5 +9,6 @@ use Rattle.kind_moves.proofs.fit_boxes.following.Given as goal
 abbrev pub invariant-loop-tier : goal.invariant-loop-tier
 invariant-loop-tier l = record {
   width : length (sets_of l.rest) ≡ length (sets_of l.class);
-  columns : (column : List Sym) → IsTrue (has l.rest column) ↔ (IsTrue (has l.class column) × ((t : ℕ) → t < l.tier → fits (has_tier l.opened t) (symbol column t) ≡ true));
+  columns : (column : List Sym) → IsTrue (has l.rest column)
+      ↔ (IsTrue (has l.class column) × ((t : ℕ) → t < l.tier → fits (has_tier l.opened t) (symbol column t) ≡ true));
 }

@@ -10,6 +10,7 @@ invariant-loop-tier l = record {
   width : length (sets_of l.rest) ≡ length (sets_of l.class);
   within : l.next ≤ length l.form;
   columns : (column : List Sym)
-      → (IsTrue (has l.rest column) × (map (symbol column) (numbers_from is_input l.tier (drop l.tier l.kinds)) ≡ drop l.next l.form))
+      → (IsTrue (has l.rest column) × (map (symbol column) (numbers_from is_input l.tier (drop l.tier l.kinds))
+      ≡ drop l.next l.form))
       ↔ (IsTrue (has l.class column) × (map (symbol column) (numbers_from is_input 0 l.kinds) ≡ l.form));
 }

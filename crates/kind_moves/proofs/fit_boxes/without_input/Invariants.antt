@@ -9,6 +9,7 @@ abbrev pub invariant-loop-tier : goal.invariant-loop-tier
 invariant-loop-tier l = record {
   width : length (sets_of l.rest) ≡ length (sets_of l.class);
   columns : (column : List Sym)
-      → (has l.rest column && not (has_edge (map (symbol column) (numbers_from is_input l.tier (drop l.tier l.kinds)))))
+      → (has l.rest column && not (has_edge (map (symbol column)
+      (numbers_from is_input l.tier (drop l.tier l.kinds)))))
       ≡ (has l.class column && not (has_edge (map (symbol column) (numbers_from is_input 0 l.kinds))));
 }

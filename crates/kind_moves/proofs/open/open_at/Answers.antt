@@ -19,5 +19,6 @@ returns c =
     let next : suc p ≡ c.args.place = omega (arith, c.if-place-eq0.false) in
     let same : c.syms.result.now ≡ column_at u p = c.syms.ensures.value ∙ c.column.ensures in
     let P : ℕ → Type 0 = λ n. AreOpenAt tiers u n c.laid_out.result in
-    subst P next (open_later tiers u c.requires.form p c.input_tiers.result c.open_after.result c.laid_out.result (omega (arith, c.requires.place)) c.input_tiers.ensures
+    subst P next (open_later tiers u c.requires.form p c.input_tiers.result c.open_after.result c.laid_out.result
+    (omega (arith, c.requires.place)) c.input_tiers.ensures
     (λ t. c.open_after.ensures t ∙ ap (λ column. opens (symbol column t)) same) c.laid_out.ensures)

@@ -10,4 +10,5 @@ returns-then-kind-len c stage =
     let frame = c.args.self.now in
     let kind = c.args.kind.now in
     no_flag (length (tiers_in frame).free) kind.opened c.requires.opened
-    ∙ sym (ap (λ b. b && not (list_any (λ flag. flag) (open_tiers (length (tiers_in frame).free) kind.opened))) (eq-eqb kind.place (length (form_in frame)) (c.if-kind-len.true ∙ c.len.ensures)))
+    ∙ sym (ap (λ b. b && not (list_any (λ flag. flag) (open_tiers (length (tiers_in frame).free) kind.opened)))
+    (eq-eqb kind.place (length (form_in frame)) (c.if-kind-len.true ∙ c.len.ensures)))

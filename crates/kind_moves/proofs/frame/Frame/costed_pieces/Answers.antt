@@ -15,7 +15,8 @@ pub returns-then-constraint-eq0 : goal.returns-then-constraint-eq0
 returns-then-constraint-eq0 c =
     let frame = c.args.self.now in
     let cost = free_cost frame c.args.stage c.args.constraint c.args.kind.now in
-    parted_same (tiers_in frame).width (cost_under frame c.args.stage c.args.constraint c.args.kind.now) c.args.classes.items
+    parted_same (tiers_in frame).width (cost_under frame c.args.stage c.args.constraint c.args.kind.now)
+    c.args.classes.items
     (subst (λ n. ArePieces n c.args.classes.items) c.requires.width c.requires.pieces)
     (λ k d inside x y _ _. cost x c.if-constraint-eq0.true ∙ sym (cost y c.if-constraint-eq0.true))
 
@@ -25,7 +26,8 @@ costing-test-requires-clause-over c =
     let item = c.index-constraints-number.result in
     let number = c.args.constraint - 1 in
     let same : c.as_slice-constraints.result.now ≡ constraints_in frame = c.as_slice-constraints.ensures.value in
-    subst (λ w. IsOverTiers w item) (sym c.requires.width) (over_at frame number item (omega arith) (c.index-constraints-number.is ∙ ap (λ xs. get_or xs number item) same))
+    subst (λ w. IsOverTiers w item) (sym c.requires.width) (over_at frame number item (omega arith)
+    (c.index-constraints-number.is ∙ ap (λ xs. get_or xs number item) same))
 
 pub returns : goal.returns
 returns c =
@@ -35,13 +37,19 @@ returns c =
     let number = c.args.constraint - 1 in
     let test = c.costing-test.result in
     let same : c.as_slice-constraints.result.now ≡ constraints_in frame = c.as_slice-constraints.ensures.value in
-    let cost : (column : List Sym) → length column ≡ (tiers_in frame).width → cost_under frame c.args.stage c.args.constraint kind column ≡ (if differs test column then 1 else 0) = (λ column wide.
+    let cost : (column : List Sym) → length column ≡ (tiers_in frame).width
+    → cost_under frame c.args.stage c.args.constraint kind column
+    ≡ (if differs test column then 1 else 0) = (λ column wide.
     cost_is frame c.args.stage c.args.constraint kind column _ c.if-constraint-eq0.false
-    (move_cost frame c.args.stage number c.count_stretches-place.result c.open_at-opened.result kind column item c.has_bit-is_unmet.result (differs test column)
+    (move_cost frame c.args.stage number c.count_stretches-place.result c.open_at-opened.result kind column item
+    c.has_bit-is_unmet.result (differs test column)
     c.requires.stage (omega arith) (c.index-constraints-number.is ∙ ap (λ xs. get_or xs number item) same)
     (c.count_stretches-place.ensures.count ∙ ap (λ xs. length (filter is_stretch (take number xs))) same)
     (c.open_at-opened.ensures c.args.stage) c.has_bit-is_unmet.ensures c.requires.fits.stretches.unmet
     (λ phase e. c.costing-test.ensures.columns phase e column (wide ∙ sym c.requires.width)))) in
-    parted_weaker (tiers_in frame).width (differs test) (cost_under frame c.args.stage c.args.constraint kind) c.args.classes.items c.in_ok-pieces.pieces.items
-    (λ x y wide_x wide_y told. same_cost frame c.args.stage c.args.constraint kind x y (differs test x) (differs test y) (cost x wide_x) (cost y wide_y) told)
-    (subst (λ n. ArePartedBy n (differs test) c.args.classes.items c.in_ok-pieces.pieces.items) (c.costing-test.ensures.width ∙ c.requires.width) c.in_ok-pieces.ensures)
+    parted_weaker (tiers_in frame).width (differs test) (cost_under frame c.args.stage c.args.constraint kind)
+    c.args.classes.items c.in_ok-pieces.pieces.items
+    (λ x y wide_x wide_y told. same_cost frame c.args.stage c.args.constraint kind x y (differs test x)
+    (differs test y) (cost x wide_x) (cost y wide_y) told)
+    (subst (λ n. ArePartedBy n (differs test) c.args.classes.items c.in_ok-pieces.pieces.items)
+    (c.costing-test.ensures.width ∙ c.requires.width) c.in_ok-pieces.ensures)

@@ -21,8 +21,10 @@ returns c =
     let same : c.syms-syms.result.now ≡ c.args.column.now = c.syms-syms.ensures.value in
     is_move frame c.args.stage kind _ c.args.column.now c.requires.fits
     (subst Fits same ((c.if-not-fits.ensures c.args.stage).0 refl))
-    (c.next_place.ensures ∙ ap (λ (d : List Sym). kind.place + cond (has_edge (input_of (tiers_in frame) d)) 1 0) same)
+    (c.next_place.ensures ∙ ap (λ (d : List Sym). kind.place + cond
+    (has_edge (input_of (tiers_in frame) d)) 1 0) same)
     (c.next_opened.ensures.flags ∙ ap (λ (d : List Sym). map (λ t. opens (symbol d t)) (tiers_in frame).free) same)
-    (c.next_phases-phases.ensures.phases ∙ ap (next_phases (stretches_in frame c.args.stage) (kind_at_stage frame c.args.stage kind).phases) same)
+    (c.next_phases-phases.ensures.phases ∙ ap (next_phases (stretches_in frame c.args.stage)
+    (kind_at_stage frame c.args.stage kind).phases) same)
     c.next_opened.ensures.within
     (record { unmet = c.next_phases-phases.ensures.unmet; met = c.next_phases-phases.ensures.met })

@@ -14,7 +14,8 @@ next_phases-requires-clause-over c k d l =
     let size = length-take c.args.stage xs in
     let within : k < c.args.stage = omega (arith, l, size) in
     let below : k < length g.constraints.items = omega (arith, l, size, ap length same) in
-    let at : get_or (take c.args.stage xs) k d ≡ get_or g.constraints.items k d = get_or-take c.args.stage xs k d within ∙ ap (λ ys. get_or ys k d) same in
+    let at : get_or (take c.args.stage xs) k d ≡ get_or g.constraints.items k d = get_or-take c.args.stage xs k d
+    within ∙ ap (λ ys. get_or ys k d) same in
     let Over : ℕ → Constraint → Type 0 = λ w x. IsOverTiers w x in
     subst (Over (length c.args.column.now)) (sym at)
     (subst (λ w. Over w (get_or g.constraints.items k d)) (sym c.requires.width)

@@ -15,6 +15,8 @@ loop-class-preserved c =
       classes = ap classes_of c.in_ok-push.ensures.items ∙ map-append (λ (p : Piece). p.class) before (piece ∷ [])
           ∙ ap₂ (λ xs x. xs ++ x ∷ []) c.loop-class.invariant.classes (c.piece-piece.ensures.class ∙ c.class-item.is)
           ∙ sym (take_more c.args.classes.now i c.class-item.result c.loop-class-test.true);
-      each = subst (All (IsPiece c.args.self.now c.args.stage c.args.constraint c.args.kind.now)) (sym c.in_ok-push.ensures.items)
-          (All-push (IsPiece c.args.self.now c.args.stage c.args.constraint c.args.kind.now) before piece c.loop-class.invariant.each c.piece-piece.ensures.piece);
+      each = subst (All (IsPiece c.args.self.now c.args.stage c.args.constraint c.args.kind.now))
+          (sym c.in_ok-push.ensures.items)
+          (All-push (IsPiece c.args.self.now c.args.stage c.args.constraint c.args.kind.now) before piece
+          c.loop-class.invariant.each c.piece-piece.ensures.piece);
     }

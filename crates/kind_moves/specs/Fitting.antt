@@ -11,16 +11,16 @@ use Rattle.violation.specs.Moves.{input_of, moved}
 use Rattle.kind_moves.specs.declared.frame.Frame.{Frame}
 use Rattle.kind_moves.specs.Frames.{problem_in, tiers_in, kind_at_stage, FitsAt}
 
--- pieces hold exactly the columns of a class that fit a kind
+-- the pieces hold exactly the columns of a class that fit a kind
 pub record AreFitting (frame : Frame) (stage : ℕ) (kind : Kind) (class : Class) (parts : List Class) : Type 0 where
   pub pieces : ArePieces (tiers_in frame).width parts
   pub columns : (column : List Sym) → IsTrue (some_has parts column)
       ↔ (IsTrue (has class column) × FitsAt frame stage kind column)
 
--- all columns of a class read a column of the form, or none does
+-- either all columns of a class read a column of the form, or none does
 abbrev pub IsReadAlike : Frame → Class → Type 0
 IsReadAlike frame class = IsAlike (λ column. has_edge (input_of (tiers_in frame) column)) class
 
--- all columns of a class lead from a kind to one kind
+-- all columns of a class lead from a kind to the same kind
 abbrev pub IsMovedAlike : Frame → ℕ → Kind → Class → Type 0
 IsMovedAlike frame stage kind class = IsAlike (moved (problem_in frame) stage (kind_at_stage frame stage kind)) class

@@ -10,8 +10,8 @@ impl<'a> Frame<'a> {
     ghost use Rattle.kind_moves.specs.Frames.{tiers_in, form_in};
     ghost use Rattle.kind_moves.specs.Fitting.{AreFitting, IsReadAlike};
 
-    /// The columns of a class that fit a kind, in pieces: those without an edge on the input tiers,
-    /// and those that have the form's next column there.
+    /// The columns of a class that fit a kind, in pieces: first those without an edge on the input
+    /// tiers, then those whose input part is the next column of the form.
     fn fitting_pieces(
         &self,
         alloc: Global,
@@ -38,7 +38,7 @@ impl<'a> Frame<'a> {
         Ok(pieces)
     }
 
-    /// The columns of a class that fit a kind, in pieces. It fails only for want of memory.
+    /// The columns of a class that fit a kind, in pieces. It fails only if memory runs out.
     pub(crate) fn fitting(
         &self,
         alloc: Global,

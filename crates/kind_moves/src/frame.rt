@@ -6,7 +6,7 @@ ghost use Rattle.kind_moves.specs.Masks.{AreOpenInputs};
 
 use crate::cost::{costs, count_stretches};
 use crate::fit::{has_edge, may_follow};
-use crate::mask::{laid_out, open_after, taken_from};
+use crate::mask::{laid_out, lowest_bits, open_after, taken_from};
 use crate::open::{free_tiers, open_inputs};
 use crate::phase::next_phases;
 use crate::phase_masks::PhaseMasks;
@@ -15,8 +15,8 @@ use std::alloc::Global;
 use tier_core::{Column, Kind, NoMemory, Sym, Timeline, has_bit};
 use violation::{has_input_edge, has_input_part};
 
-/// A grammar and a form, with what their moves ask again and again: the mask of the free tiers, and
-/// for each place of the form the mask of the input tiers that are open there.
+/// A grammar and a form, with what each move looks up: the mask of the free tiers, and for each place
+/// of the form the mask of the input tiers that are open there.
 #[derive(Drop)]
 pub struct Frame<'a> {
     pub grammar: &'a Grammar,
@@ -31,7 +31,8 @@ pub struct Frame<'a> {
 }
 
 impl<'a> Frame<'a> {
-    ghost use Rattle.std.specs.Prelude.{ℕ, ◌+◌, ◌-◌, ◌<◌, ◌^◌, ◌↔◌, ◌⊎◌, false, if◌then◌else◌, IsTrue, IfOk, MatchOption, map, slice_index_or};
+    ghost use Rattle.std.specs.Prelude.{ℕ, ◌+◌, ◌-◌, ◌<◌, ◌^◌, ◌↔◌, ◌⊎◌, false, not, if◌then◌else◌, IsTrue, IfOk, MatchOption, map, slice_index_or};
+    ghost use Rattle.std.specs.List.{list_any};
     ghost use Rattle.tier_core.specs.Scan.{opens};
     ghost use Rattle.tier_core.specs.Tiers.{has_tier};
     ghost use Rattle.tier_core.specs.Timelines.{symbol, column_at, has_edge};
@@ -42,7 +43,7 @@ impl<'a> Frame<'a> {
     ghost use Rattle.kind_moves.specs.Frames.{problem_in, tiers_in, constraints_in, form_in, stretches_in, kind_at_stage, FitsAt, FitsFrame, IsMove, IsStart};
 
     /// The frame of a grammar and a form over its input tiers, of at most 64 columns. It fails only
-    /// for want of memory.
+    /// if memory runs out.
     pub fn new(
         alloc: Global,
         grammar: &'a Grammar,
@@ -74,14 +75,21 @@ impl<'a> Frame<'a> {
         }
     }
 
+    /// Whether no free tier is open at a kind.
+    fn are_free_closed(&self, kind: &Kind) -> bool
+        ensures { result ≡ not (list_any (λ flag. flag) (open_tiers (length (tiers_in self.now).free) kind.now.opened)) }
+    {
+        let free = self.grammar.tiers.free_count() as u32;
+        lowest_bits(kind.opened, free) == 0
+    }
+
     /// Whether a kind is final: the whole form has been read, and no free tier is open.
     pub fn at_end(&self, kind: &Kind) -> bool
-        requires place { kind.now.place ≤ length (form_in self.now) }
-        requires opened { kind.now.opened < 2 ^ length (tiers_in self.now).free }
+        requires { kind.now.place ≤ length (form_in self.now) }
         ensures { (stage : ℕ) → result ≡ is_final (problem_in self.now)
             (kind_at_stage self.now stage kind.now) }
     {
-        kind.place as usize == self.form.len() && kind.opened == 0
+        kind.place as usize == self.form.len() && self.are_free_closed(kind)
     }
 
     /// The mask of the tiers that are open at a kind.
@@ -101,7 +109,7 @@ impl<'a> Frame<'a> {
         has_input_edge(self.grammar.tiers.kinds.as_slice(), column)
     }
 
-    /// Whether the input part of a column has no edge, or is the form's column at a place.
+    /// Whether the input part of a column has no edge or is the form's column at a place.
     fn goes_by_form(&self, place: usize, column: &[Sym]) -> bool
         requires width { length column.now ≡ (tiers_in self.now).width }
         requires place { place ≤ length (form_in self.now) }
@@ -131,7 +139,7 @@ impl<'a> Frame<'a> {
         self.goes_by_form(kind.place as usize, column)
     }
 
-    /// The place after a column that fits.
+    /// The place after a column that fits at a place.
     fn next_place(&self, place: u32, column: &[Sym]) -> u32
         requires width { length column.now ≡ (tiers_in self.now).width }
         requires place { place ≤ 64 }
@@ -170,7 +178,7 @@ impl<'a> Frame<'a> {
     }
 
     /// The kind that a column leads to from a kind, under the first `stage` constraints. None exactly
-    /// where the column does not fit the kind.
+    /// if the column does not fit the kind.
     pub fn moved(&self, stage: u32, kind: &Kind, column: &Column) -> Option<Kind>
         requires stage { stage ≤ last_stage (problem_in self.now) }
         requires fits { FitsFrame self.now stage kind.now }
@@ -191,8 +199,8 @@ impl<'a> Frame<'a> {
         })
     }
 
-    /// What the move from a kind by a column costs under a constraint, which is counted from 1 in
-    /// ranked order and is one of the first `stage`: 0 or 1.
+    /// What the move from a kind by a column costs under one of the first `stage` constraints, which
+    /// is counted from 1 in ranked order: 0 or 1.
     pub fn cost(&self, stage: u32, constraint: u32, kind: &Kind, column: &Column) -> u32
         requires stage { stage ≤ last_stage (problem_in self.now) }
         requires some { 1 ≤ constraint }

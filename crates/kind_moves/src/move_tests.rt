@@ -29,8 +29,9 @@ pub(crate) fn opens_at(width: u32, tier: u32) -> Difference
     inside(&narrowed(&whole(width), tier, 22))
 }
 
-/// The test whether a stretch on the left goes on over a column, all its tiers open after it, with an
-/// event on the right that has met it, where that is told by no interior on the right that is open.
+/// The test whether a column makes a stretch implication met although it opens no interior on the
+/// right: all left tiers are open after the column, it has no edge on them, and the stretch was met
+/// before it or an event of a right type is present at it.
 pub(crate) fn goes_on_met(width: u32, constraint: &Constraint, was_met: bool) -> Difference
     requires some { 1 ≤ width }
     requires few { width ≤ 12 }

@@ -30,8 +30,8 @@ pub(crate) fn parts_by_open(
     Ok(parts)
 }
 
-/// Parts pieces by the phase of a stretch implication after their columns, where it was met before
-/// them or not, and they are alike in the tiers that are open after them.
+/// Parts pieces by the phase of a stretch implication after their columns, given whether it was met
+/// before them. In each piece all columns leave the same tiers open.
 fn parts_by_phase(
     alloc: Global,
     width: u32,
@@ -52,8 +52,8 @@ fn parts_by_phase(
     Ok(parts)
 }
 
-/// Parts pieces by the phases of the stretch implications among some constraints after their columns,
-/// where the pieces are alike in the tiers that are open after them.
+/// Parts pieces by the phases of the stretch implications among some constraints after their
+/// columns. In each piece all columns leave the same tiers open.
 pub(crate) fn parts_by_phases(
     alloc: Global,
     width: u32,

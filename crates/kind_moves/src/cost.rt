@@ -1,8 +1,8 @@
-ghost use Rattle.std.specs.Prelude.{◌≡◌, ℕ, ◌<◌, ◌≤◌, ◌++◌, ◌&&◌, length, filter, All};
+ghost use Rattle.std.specs.Prelude.{◌≡◌, ℕ, ◌<◌, ◌≤◌, ◌++◌, ◌&&◌, length, All};
 ghost use Rattle.std.specs.List.{list_all};
 ghost use Rattle.tier_core.specs.Kinds as told;
 ghost use Rattle.tier_core.specs.Tiers.{has_tier};
-ghost use Rattle.tier_core.specs.Sides.{has_edge_type, edge_among, is_stretch};
+ghost use Rattle.tier_core.specs.Sides.{has_edge_type, edge_among};
 ghost use Rattle.violation.specs.Conditions.{AreInColumn, IsOverTiers};
 ghost use Rattle.violation.specs.Counts.{chosen};
 ghost use Rattle.violation.specs.Moves.{costs, is_unmet_phase};
@@ -60,19 +60,4 @@ pub(crate) fn costs(constraint: &Constraint, opened: u16, is_unmet: bool, column
         Family::Clash => ends_overlap(opened, left, right, column),
         Family::Implication => is_unmet && has_edge_among(column, left),
     }
-}
-
-/// How many of some constraints are stretch implications.
-pub(crate) fn count_stretches(constraints: &[Constraint]) -> u32
-    requires { length constraints.now ≤ 24 }
-    ensures count { result ≡ length (filter is_stretch constraints.now) }
-    ensures few { result ≤ 24 }
-{
-    let mut count = 0;
-    for constraint in constraints {
-        if constraint.is_stretch() {
-            count += 1;
-        }
-    }
-    count
 }

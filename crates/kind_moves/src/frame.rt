@@ -1,31 +1,36 @@
 ghost use Rattle.std.specs.Prelude.{◌≡◌, ◌≤◌, length};
 ghost use Rattle.tier_core.specs.Tables.{tiers_of_table};
 ghost use Rattle.tier_core.specs.Tiers.{tiers_of};
+ghost use Rattle.grammar_reader.specs.ShapeOf.{IsShapeOf};
 ghost use Rattle.violation.specs.Candidates.{IsForm};
 ghost use Rattle.kind_moves.specs.Masks.{AreOpenInputs};
 
-use crate::cost::{costs, count_stretches};
+use crate::cost::costs;
 use crate::fit::{has_edge, may_follow};
 use crate::mask::{laid_out, lowest_bits, open_after, taken_from};
 use crate::open::{free_tiers, open_inputs};
 use crate::phase::next_phases;
 use crate::phase_masks::PhaseMasks;
-use grammar_reader::Grammar;
+use grammar_reader::{Grammar, shape};
 use std::alloc::Global;
-use tier_core::{Column, Kind, NoMemory, Sym, Timeline, has_bit};
+use tier_core::{Column, Kind, NoMemory, Shape, Sym, Timeline, has_bit};
 use violation::{has_input_edge, has_input_part};
 
-/// A grammar and a form, with what each move looks up: the mask of the free tiers, and for each place
-/// of the form the mask of the input tiers that are open there.
+/// A grammar and a form, with what each move looks up: the grammar's shape, its free tiers, and for
+/// each place of the form the mask of the input tiers that are open there.
 #[derive(Drop)]
 pub struct Frame<'a> {
     pub grammar: &'a Grammar,
     pub form: &'a Timeline,
+    pub shape: Shape,
     free: u16,
+    free_count: u32,
     open_inputs: Vec<u16>,
     pub ghost well_formed: { ∥ IsForm (tiers_of_table grammar.now.tiers) form.now ∥₁ },
     pub ghost short: { length form.now ≤ 64 },
+    pub ghost shape_of: { IsShapeOf grammar.now shape },
     pub ghost free_tiers: { tiers_of free ≡ (tiers_of_table grammar.now.tiers).free },
+    pub ghost count: { free_count ≡ length (tiers_of_table grammar.now.tiers).free },
     pub ghost inputs: { AreOpenInputs (tiers_of_table grammar.now.tiers) form.now
         open_inputs.items },
 }
@@ -55,12 +60,32 @@ impl<'a> Frame<'a> {
         ensures form { IfOk result (λ frame. form_in frame ≡ form.entry.now) }
     {
         let open_inputs = open_inputs(alloc, &grammar.tiers, form)?;
+        let shape = shape(alloc, grammar)?;
         Ok(Frame {
             grammar,
             form,
+            shape,
             free: free_tiers(&grammar.tiers),
+            free_count: grammar.tiers.free_count() as u32,
             open_inputs,
         })
+    }
+
+    /// How many tiers are free: overt or hidden.
+    pub fn free_count(&self) -> u32
+        ensures value { result ≡ length (tiers_in self.now).free }
+        ensures few { result ≤ 12 }
+    {
+        self.free_count
+    }
+
+    /// How many stretch implications are among the first `stage` constraints.
+    pub fn stretch_count(&self, stage: u32) -> u32
+        requires { stage ≤ last_stage (problem_in self.now) }
+        ensures value { result ≡ length (stretches_in self.now stage) }
+        ensures few { result ≤ 24 }
+    {
+        self.shape.phases[stage as usize]
     }
 
     /// The kind of the empty prefix, which is the same at every stage.
@@ -79,8 +104,7 @@ impl<'a> Frame<'a> {
     fn are_free_closed(&self, kind: &Kind) -> bool
         ensures { result ≡ not (list_any (λ flag. flag) (open_tiers (length (tiers_in self.now).free) kind.now.opened)) }
     {
-        let free = self.grammar.tiers.free_count() as u32;
-        lowest_bits(kind.opened, free) == 0
+        lowest_bits(kind.opened, self.free_count()) == 0
     }
 
     /// Whether a kind is final: the whole form has been read, and no free tier is open.
@@ -213,8 +237,7 @@ impl<'a> Frame<'a> {
     {
         let number = constraint as usize - 1;
         let constraints = self.grammar.constraints.as_slice();
-        let place = count_stretches(&constraints[..number]);
-        let is_unmet = has_bit(kind.unmet, place);
+        let is_unmet = has_bit(kind.unmet, self.stretch_count(constraint - 1));
         let opened = self.open_at(kind);
         if costs(&constraints[number], opened, is_unmet, column.syms()) {
             1

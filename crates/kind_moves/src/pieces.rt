@@ -1,4 +1,3 @@
-use crate::cost::count_stretches;
 use crate::cost_tests::costing;
 use crate::frame::Frame;
 use crate::parting::{parts_by_open, parts_by_phases};
@@ -68,8 +67,7 @@ impl<'a> Frame<'a> {
         }
         let number = constraint as usize - 1;
         let constraints = self.grammar.constraints.as_slice();
-        let place = count_stretches(&constraints[..number]);
-        let is_unmet = has_bit(kind.unmet, place);
+        let is_unmet = has_bit(kind.unmet, self.stretch_count(constraint - 1));
         let opened = self.open_at(kind);
         let test = costing(width, &constraints[number], opened, is_unmet);
         let pieces = part(alloc, classes, &test)?;

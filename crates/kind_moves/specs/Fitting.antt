@@ -1,9 +1,9 @@
 -- The columns of a class that fit a kind, in pieces.
-use Rattle.std.specs.Prelude.{◌↔◌, ℕ, IsTrue, List, All}
+use Rattle.std.specs.Prelude.{◌≡◌, ◌↔◌, ℕ, IsTrue, true, List, All, length}
 use Rattle.tier_core.specs.declared.class.Class.{Class}
 use Rattle.tier_core.specs.declared.kind.Kind.{Kind}
 use Rattle.tier_core.specs.declared.sym.Sym.{Sym}
-use Rattle.tier_core.specs.Classes.{has}
+use Rattle.tier_core.specs.Classes.{sets_of, has}
 use Rattle.tier_core.specs.Timelines.{has_edge}
 use Rattle.symbol_class.specs.Held.{some_has, ArePieces}
 use Rattle.symbol_class.specs.Parts.{IsAlike}
@@ -16,6 +16,10 @@ pub record AreFitting (frame : Frame) (stage : ℕ) (kind : Kind) (class : Class
   pub pieces : ArePieces (tiers_in frame).width parts
   pub columns : (column : List Sym) → IsTrue (some_has parts column)
       ↔ (IsTrue (has class column) × FitsAt frame stage kind column)
+
+-- a class has all columns of its width
+abbrev pub HasAll : Class → Type 0
+HasAll class = (column : List Sym) → length column ≡ length (sets_of class) → has class column ≡ true
 
 -- either all columns of a class read a column of the form, or none does
 abbrev pub IsReadAlike : Frame → Class → Type 0

@@ -8,6 +8,7 @@ ghost use Rattle.violation.specs.Conditions.{IsOverTiers};
 ghost use Rattle.violation.specs.Moves.{is_met_phase, next_phase, next_phases};
 ghost use Rattle.kind_moves.specs.Pieces.{opened_by};
 
+use crate::boxes::whole;
 use crate::move_tests::{goes_on_met, opens_at};
 use std::alloc::Global;
 use symbol_class::part;
@@ -19,13 +20,15 @@ pub(crate) fn parts_by_open(
     width: u32,
     classes: Vec<Class>,
 ) -> Result<Vec<Class>, NoMemory>
+    requires some { 1 ≤ width }
     requires few { width ≤ 12 }
     requires pieces { ArePieces width classes.items }
     ensures { IfOk result (λ parts. ArePartedBy width (opened_by width) classes.items parts.items) }
 {
+    let all = whole(width);
     let mut parts = classes;
     for tier in 0..width {
-        parts = part(alloc, parts, &opens_at(width, tier))?;
+        parts = part(alloc, parts, &opens_at(&all, tier))?;
     }
     Ok(parts)
 }

@@ -15,3 +15,4 @@ pub mod PhaseParts
 pub mod FitBoxSteps
 pub mod FittingSteps
 pub mod PieceSteps
+pub mod StretchCounts

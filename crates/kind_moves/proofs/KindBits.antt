@@ -1,5 +1,5 @@
 -- Kinds by their bits: each list of flags and of phases is told by some masks.
-use Rattle.std.proofs.Common.{◌≡◌, ℕ, zero, suc, ◌+◌, ◌*◌, ◌/◌, ◌%◌, ◌^◌, ◌==◌, ◌<◌, ◌≤◌, ◌&&◌, ◌||◌, not, nat_eq, Bool, true, false, cond, min, List, [], ◌∷◌, map, length, get_or, refl, ap, sym, ◌∙◌, subst, arith, ⊎_elim, bit_and, eq-eqb, ne_eqb}
+use Rattle.std.proofs.Common.{◌≡◌, ℕ, zero, suc, ◌+◌, ◌*◌, ◌/◌, ◌%◌, ◌^◌, ◌==◌, ◌<◌, ◌≤◌, ◌&&◌, ◌||◌, not, nat_eq, Bool, true, false, cond, min, List, [], ◌∷◌, map, length, get_or, refl, ap, sym, ◌∙◌, arith, ⊎_elim, bit_and, eq-eqb, ne_eqb}
 use Rattle.std.specs.Int.{bit_at}
 use Rattle.std.specs.List.{range_with_len, list_any}
 use Rattle.std.proofs.lemmas.Bool.{false≢true, cases_lt, eqb-false}
@@ -12,7 +12,7 @@ use Rattle.tier_core.specs.Kinds.{Phase, closed, unmet, met, phase_by_bits, open
 use Rattle.tier_core.specs.Tiers.{has_tier}
 use Rattle.violation.specs.Moves.{is_unmet_phase, is_met_phase}
 use Rattle.kind_moves.specs.Phases.{phases_by}
-use Rattle.kind_moves.proofs.MaskSteps.{none_from, same_flags}
+use Rattle.kind_moves.proofs.MaskSteps.{none_from}
 
 -- ---- masks of flags
 
@@ -64,7 +64,7 @@ none_any [] = refl
 none_any (i ∷ is) = ap (λ b. b || list_any (λ flag. flag) (map (has_tier 0) is)) (ap (λ n. n == 1) (bit_at-zero i))
     ∙ none_any is
 
--- a mask is 0 exactly if it has no flag
+-- a mask is 0 exactly where it has no flag
 pub no_flag : (n mask : ℕ) → mask < 2 ^ n → nat_eq mask 0 ≡ not (list_any (λ flag. flag) (open_tiers n mask))
 no_flag n mask l = by (list_any (λ flag. flag) (open_tiers n mask)) refl
   where
@@ -85,14 +85,6 @@ no_flag n mask l = by (list_any (λ flag. flag) (open_tiers n mask)) refl
     by false e = eq-eqb mask 0 (none e) ∙ sym (ap not e)
     by true e = ne_eqb mask 0 (λ z. false≢true (sym (none_any (range_with_len 0 n))
         ∙ ap (λ m. list_any (λ flag. flag) (open_tiers n m)) (sym z) ∙ e)) ∙ sym (ap not e)
-
--- the lowest bits of a mask are 0 exactly if it has none of so many flags
-pub no_lowest : (n count mask low : ℕ) → count ≡ n → low < 2 ^ count
-    → ((t : ℕ) → t < count → has_tier low t ≡ has_tier mask t)
-    → nat_eq low 0 ≡ not (list_any (λ flag. flag) (open_tiers n mask))
-no_lowest n count mask low same within bits =
-    no_flag n low (subst (λ m. low < 2 ^ m) same within)
-    ∙ ap (λ flags. not (list_any (λ flag. flag) flags)) (same_flags n low mask (λ t l. bits t (omega (arith, same))))
 
 -- ---- masks of phases
 

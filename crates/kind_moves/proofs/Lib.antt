@@ -15,4 +15,3 @@ pub mod PhaseParts
 pub mod FitBoxSteps
 pub mod FittingSteps
 pub mod PieceSteps
-pub mod StretchCounts

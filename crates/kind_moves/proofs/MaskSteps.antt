@@ -51,11 +51,6 @@ tiers_lower tiers (suc n) = all_append (λ t. t < suc n) (tiers_below tiers n) (
     own true = (omega arith, tt)
     own false = tt
 
--- masks with the same lowest bits have the same flags
-pub same_flags : (n a b : ℕ) → ((t : ℕ) → t < n → has_tier a t ≡ has_tier b t) → open_tiers n a ≡ open_tiers n b
-same_flags n a b h = fill_by_all (has_tier b) (open_tiers n a) n false (length-map-range_with_len (has_tier a) 0 n)
-    (λ k l. get_or-map-range_with_len (has_tier a) 0 n k k false l (omega arith) ∙ h k l)
-
 -- ---- flags that are laid out on tiers
 
 -- one flag more, seen on the other tiers
@@ -149,7 +144,9 @@ pub taken_more : (tiers mask n next flags more : ℕ) → AreTaken tiers mask n 
     → ((t : ℕ) → t < next → has_tier more t ≡ has_tier flags t) → AreTaken tiers mask (n + 1) (next + 1) more
 taken_more tiers mask n next flags more a h within here others =
     let tb = tiers_below tiers n in
-    let same : open_tiers next flags ≡ open_tiers next more = same_flags next flags more (λ t l. sym (others t l)) in
+    let same : open_tiers next flags ≡ open_tiers next more = fill_by_all (has_tier more)
+    (open_tiers next flags) next false (length-map-range_with_len (has_tier flags) 0 next)
+    (λ k l. get_or-map-range_with_len (has_tier flags) 0 next k k false l (omega arith) ∙ sym (others k l)) in
     record {
       count = omega (arith, a.count, ap length (tiers_more tiers n h), length_push tb n);
       few = omega (arith, a.few);

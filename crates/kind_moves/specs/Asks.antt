@@ -1,4 +1,4 @@
--- Conditions on a column, asked for types of events.
+-- What is asked of the symbols of a column on the tiers of types of events.
 use Rattle.std.specs.Prelude.{ℕ, Bool, not, ◌&&◌, ◌||◌, List}
 use Rattle.std.specs.List.{list_all}
 use Rattle.tier_core.specs.declared.sym.Sym.{Sym}
@@ -12,7 +12,7 @@ use Rattle.violation.specs.Columns.{part_present}
 use Rattle.kind_moves.specs.declared.ask.Ask.{Ask}
 use Rattle.kind_moves.specs.declared.ask.Ask.TheVariants.{Present, Absent, NoEdge, Open, NoInteriorOpen, NoEdgePresent}
 
--- whether a symbol meets a condition for a part of its tier's constituents
+-- whether a symbol has what is asked for a part of its tier's constituents
 abbrev pub has_asked : Ask → Part → Sym → Bool
 has_asked Present part s = part_present part s
 has_asked Absent part s = not (part_present part s)
@@ -21,7 +21,7 @@ has_asked Open part s = opens s
 has_asked NoInteriorOpen part s = not (not (is_edge_part part) && opens s)
 has_asked NoEdgePresent part s = not (is_edge_part part && part_present part s)
 
--- the set of the symbols that meet a condition, as a number
+-- the number of the set of these symbols
 abbrev pub set_asked : Ask → Part → ℕ
 set_asked Present StartOf = 20
 set_asked Present EndOf = 24
@@ -38,6 +38,6 @@ set_asked NoEdgePresent StartOf = 11
 set_asked NoEdgePresent EndOf = 7
 set_asked NoEdgePresent Interior = 31
 
--- whether a column meets a condition for each type
+-- whether a column has what is asked on the tier of each type
 abbrev pub answers : Ask → List Event → List Sym → Bool
 answers ask types column = list_all (λ e. has_asked ask e.part (symbol column e.tier)) types

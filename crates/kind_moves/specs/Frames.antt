@@ -1,4 +1,4 @@
--- Frames: grammars with a form. Which kinds fit a frame, and what a move of a frame is.
+-- Frames: a grammar and a form. Which kinds fit a frame, and what a move of a frame is.
 use Rattle.std.specs.Prelude.{◌≡◌, ℕ, ◌^◌, ◌<◌, ◌≤◌, List, [], length}
 use Rattle.tier_core.specs.declared.kind.Kind.{Kind}
 use Rattle.tier_core.specs.declared.sym.Sym.{Sym}
@@ -22,7 +22,7 @@ constraints_in frame = frame.grammar.now.constraints.items
 abbrev pub form_in : Frame → List (List Sym)
 form_in frame = frame.form.now
 
--- the problem that a frame's grammar and its form pose
+-- what is asked by a frame's grammar and its form
 abbrev pub problem_in : Frame → Problem
 problem_in frame = asked frame.grammar.now.tiers frame.grammar.now.constraints.items frame.form.now
 
@@ -30,13 +30,12 @@ problem_in frame = asked frame.grammar.now.tiers frame.grammar.now.constraints.i
 abbrev pub stretches_in : Frame → ℕ → List Constraint
 stretches_in frame stage = stretches (problem_in frame) stage
 
--- the kind of prefixes that the bits of a kind encode at a stage
+-- the kind that the bits of a kind tell at a stage
 abbrev pub kind_at_stage : Frame → ℕ → Kind → PrefixKind
 kind_at_stage frame stage kind = prefix_kind (length (tiers_in frame).free) (length (stretches_in frame stage)) kind
 
--- A kind fits a frame at a stage: its place is in the form, it has bits only for the free tiers and
--- for the stage's stretch implications, and the phase of such an implication is closed exactly if one
--- of its left tiers is.
+-- A kind fits a frame at a stage: its place is in the form, its bits are those of the free tiers
+-- and of the stage's stretch implications, and a phase is closed exactly where a left tier is.
 pub record FitsFrame (frame : Frame) (stage : ℕ) (kind : Kind) : Type 0 where
   pub place : kind.place ≤ length (form_in frame)
   pub opened : kind.opened < 2 ^ length (tiers_in frame).free
@@ -48,8 +47,8 @@ pub record FitsFrame (frame : Frame) (stage : ℕ) (kind : Kind) : Type 0 where
 abbrev pub FitsAt : Frame → ℕ → Kind → List Sym → Type 0
 FitsAt frame stage kind column = FitsKind (problem_in frame) (kind_at_stage frame stage kind) column
 
--- There is a move from a kind by a column to a next kind: the column fits, and the next kind is the
--- one that it leads to and fits the frame.
+-- There is a move from a kind by a column to the next kind: the column fits, the next kind is the
+-- one that it leads to, and this fits the frame.
 pub record IsMove (frame : Frame) (stage : ℕ) (kind : Kind) (column : List Sym) (next : Kind) : Type 0 where
   pub column_fits : FitsAt frame stage kind column
   pub leads : kind_at_stage frame stage next ≡ moved (problem_in frame) stage (kind_at_stage frame stage kind) column

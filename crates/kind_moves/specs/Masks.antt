@@ -4,7 +4,7 @@ use Rattle.tier_core.specs.declared.sym.Sym.{Sym}
 use Rattle.tier_core.specs.Tiers.{Tiers, has_tier}
 use Rattle.violation.specs.Moves.{flag_of, form_opened}
 
--- a mask has exactly the input tiers that are open after the first `place` columns of the form u
+-- a mask has the input tiers that are open after the first columns of the form u
 abbrev pub AreOpenAt : Tiers → List (List Sym) → ℕ → ℕ → Type 0
 AreOpenAt tiers u place mask = (t : ℕ) → has_tier mask t ≡ flag_of tiers.input (form_opened tiers u place) t
 

@@ -1,4 +1,4 @@
--- Phases of stretch implications, as masks encode them.
+-- Phases by masks.
 use Rattle.std.specs.Prelude.{ℕ, List, map}
 use Rattle.std.specs.List.{range_with_len}
 use Rattle.tier_core.specs.Kinds.{Phase, closed, unmet, met, phase_by_bits}
@@ -6,13 +6,13 @@ use Rattle.tier_core.specs.Tiers.{has_tier}
 use Rattle.kind_moves.specs.declared.phase.Phase as code
 use Rattle.kind_moves.specs.declared.phase.Phase.TheVariants.{Closed, Unmet, Met}
 
--- the phase that a value of the code stands for
+-- the phase that the code names
 abbrev pub phase_of : code.Phase → Phase
 phase_of Closed = closed
 phase_of Unmet = unmet
 phase_of Met = met
 
--- the phase of stretch implication i, given the masks of those that are unmet and of those that are met
+-- the phase of a stretch implication, by the masks of those that are unmet and met
 abbrev pub told_at : ℕ → ℕ → ℕ → Phase
 told_at unmets mets i = phase_by_bits (has_tier unmets i) (has_tier mets i)
 

@@ -1,16 +1,16 @@
-/// A condition on a column, asked for a type of events.
+/// What is asked of a column for a type of events.
 #[derive(Clone, Copy, Debug, PartialEq, Eq)]
 pub(crate) enum Ask {
-    /// An event of the type is present at the column.
+    /// An event of the type stands at the column.
     Present,
-    /// No event of the type is present at the column.
+    /// None does.
     Absent,
     /// The column has no edge on the type's tier.
     NoEdge,
-    /// The type's tier is open after the column.
+    /// The tier is open after the column.
     Open,
-    /// The type is not an interior, or its tier is not open after the column.
+    /// The type is no interior, or its tier is not open after the column.
     NoInteriorOpen,
-    /// The type is an interior, or no event of it is present at the column.
+    /// The type is an interior, or no event of it stands at the column.
     NoEdgePresent,
 }

@@ -8,7 +8,7 @@ use crate::ask::Ask;
 use symbol_class::narrowed;
 use tier_core::{Class, Event, Part};
 
-/// The set of the symbols that meet a condition for a part.
+/// The set of the symbols that have what is asked for a part.
 fn set_asked(ask: Ask, part: Part) -> u8
     ensures value { result ≡ set_asked ask part }
     ensures few { result < 32 }
@@ -36,7 +36,7 @@ fn set_asked(ask: Ask, part: Part) -> u8
     }
 }
 
-/// The columns of a class that meet a condition for each of some types of events.
+/// The columns of a class that have what is asked for each type of some events.
 pub(crate) fn narrowed_by(class: &Class, ask: Ask, types: &[Event]) -> Class
     requires { All (λ e. e.tier < length (sets_of class.now)) types.now }
     ensures width { length (sets_of result) ≡ length (sets_of class.now) }

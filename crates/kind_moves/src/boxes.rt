@@ -16,7 +16,7 @@ pub(crate) fn whole(width: u32) -> Class
     Class::of_bits(&[31; 12][..width as usize])
 }
 
-/// The empty class of the same width as a class.
+/// The class of no columns, of the width of a class.
 pub(crate) fn nothing(class: &Class) -> Class
     ensures width { length (sets_of result) ≡ length (sets_of class.now) }
     ensures columns { (column : List Sym) → has result column ≡ false }
@@ -35,7 +35,7 @@ pub(crate) fn inside(class: &Class) -> Difference
     }
 }
 
-/// The test whether a column of the same width as a class is not in it.
+/// The test whether a column of the width of a class is not in it.
 pub(crate) fn outside(class: &Class) -> Difference
     ensures width { length (sets_of result.within) ≡ length (sets_of class.now) }
     ensures columns { (column : List Sym) → length column ≡ length (sets_of class.now)

@@ -1,8 +1,8 @@
-ghost use Rattle.std.specs.Prelude.{◌≡◌, ℕ, ◌<◌, ◌≤◌, ◌++◌, ◌&&◌, length, All};
+ghost use Rattle.std.specs.Prelude.{◌≡◌, ℕ, ◌<◌, ◌≤◌, ◌++◌, ◌&&◌, length, filter, All};
 ghost use Rattle.std.specs.List.{list_all};
 ghost use Rattle.tier_core.specs.Kinds as told;
 ghost use Rattle.tier_core.specs.Tiers.{has_tier};
-ghost use Rattle.tier_core.specs.Sides.{has_edge_type, edge_among};
+ghost use Rattle.tier_core.specs.Sides.{has_edge_type, edge_among, is_stretch};
 ghost use Rattle.violation.specs.Conditions.{AreInColumn, IsOverTiers};
 ghost use Rattle.violation.specs.Counts.{chosen};
 ghost use Rattle.violation.specs.Moves.{costs, is_unmet_phase};
@@ -18,8 +18,8 @@ pub(crate) fn are_all_in(mask: u16, types: &[Event]) -> bool
     types.iter().all(|e| has_bit(mask as u32, e.tier))
 }
 
-/// Whether an event that a constraint chooses can be an edge: a clash chooses events on both sides,
-/// an implication on the left.
+/// Whether a type of which an event is chosen is an edge: a clash chooses on both sides, an
+/// implication on the left.
 pub(crate) fn is_edge_chosen(family: Family, left: &[Event], right: &[Event]) -> bool
     ensures { result ≡ has_edge_type (chosen family left.now right.now) }
 {
@@ -29,8 +29,8 @@ pub(crate) fn is_edge_chosen(family: Family, left: &[Event], right: &[Event]) ->
     }
 }
 
-/// Whether a column ends an overlap of the interiors of all types, given which tiers are open before
-/// it.
+/// Whether a column ends an overlap of the interiors of all types, whose tiers are open before it or
+/// not.
 fn ends_overlap(opened: u16, left: &[Event], right: &[Event], column: &[Sym]) -> bool
     requires left_tiers { All (λ e. e.tier < 12) left.now }
     requires right_tiers { All (λ e. e.tier < 12) right.now }
@@ -43,8 +43,8 @@ fn ends_overlap(opened: u16, left: &[Event], right: &[Event], column: &[Sym]) ->
     are_open && (has_edge_among(column, left) || has_edge_among(column, right))
 }
 
-/// Whether a column costs 1 under a constraint, if the tiers in a mask are open before it.
-/// `is_unmet` says whether the constraint is a stretch implication that is unmet before it.
+/// Whether a column costs 1 under a constraint, where the tiers of a mask are open before it, and the
+/// constraint's phase, if it has one, is unmet or not.
 pub(crate) fn costs(constraint: &Constraint, opened: u16, is_unmet: bool, column: &[Sym]) -> bool
     requires { IsOverTiers (length column.now) constraint.now }
     ensures { (phase : told.Phase) → is_unmet ≡ is_unmet_phase phase
@@ -60,4 +60,19 @@ pub(crate) fn costs(constraint: &Constraint, opened: u16, is_unmet: bool, column
         Family::Clash => ends_overlap(opened, left, right, column),
         Family::Implication => is_unmet && has_edge_among(column, left),
     }
+}
+
+/// How many of some constraints are stretch implications.
+pub(crate) fn count_stretches(constraints: &[Constraint]) -> u32
+    requires { length constraints.now ≤ 24 }
+    ensures count { result ≡ length (filter is_stretch constraints.now) }
+    ensures few { result ≤ 24 }
+{
+    let mut count = 0;
+    for constraint in constraints {
+        if constraint.is_stretch() {
+            count += 1;
+        }
+    }
+    count
 }

@@ -17,7 +17,7 @@ use crate::cost::{are_all_in, is_edge_chosen};
 use symbol_class::Difference;
 use tier_core::{Constraint, Event, Family};
 
-/// The test whether a column costs 1 under a constraint that chooses some edge.
+/// The test whether a column costs 1 under a constraint with an edge among the chosen types.
 fn counted_at(width: u32, family: Family, left: &[Event], right: &[Event]) -> Difference
     requires some { 1 ≤ width }
     requires few { width ≤ 12 }
@@ -34,7 +34,7 @@ fn counted_at(width: u32, family: Family, left: &[Event], right: &[Event]) -> Di
     }
 }
 
-/// The test whether a column ends an overlap of the interiors of all types, if the tiers in a mask
+/// The test whether a column ends an overlap of the interiors of all types, where the tiers of a mask
 /// are open before it.
 fn overlap_ends(width: u32, opened: u16, left: &[Event], right: &[Event]) -> Difference
     requires some { 1 ≤ width }
@@ -56,8 +56,7 @@ fn overlap_ends(width: u32, opened: u16, left: &[Event], right: &[Event]) -> Dif
     outside(&narrowed_by(&still, Ask::NoEdge, right))
 }
 
-/// The test whether a column ends a stretch on the left that is unmet. No column passes it if the
-/// stretch is not unmet before it.
+/// The test whether a column ends a stretch on the left, which is unmet before it or not.
 fn stretch_ends(width: u32, is_unmet: bool, left: &[Event]) -> Difference
     requires some { 1 ≤ width }
     requires few { width ≤ 12 }
@@ -72,8 +71,8 @@ fn stretch_ends(width: u32, is_unmet: bool, left: &[Event]) -> Difference
     outside(&narrowed_by(&whole(width), Ask::NoEdge, left))
 }
 
-/// The test whether a column costs 1 under a constraint, if the tiers in a mask are open before it.
-/// `is_unmet` says whether the constraint is a stretch implication that is unmet before it.
+/// The test whether a column costs 1 under a constraint, where the tiers of a mask are open before it,
+/// and the constraint's phase, if it has one, is unmet or not.
 pub(crate) fn costing(
     width: u32,
     constraint: &Constraint,

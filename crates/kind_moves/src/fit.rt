@@ -5,7 +5,7 @@ ghost use Rattle.tier_core.specs.Tiers.{has_tier};
 
 use tier_core::{Sym, has_bit};
 
-/// Whether each symbol of a column may come next if exactly the tiers in a mask are open.
+/// Whether each symbol of a column may come where the tiers of a mask are open.
 pub(crate) fn may_follow(opened: u16, column: &[Sym]) -> bool
     requires { length column.now ≤ 12 }
     ensures { IsTrue result ↔ ((t : ℕ) → t < length column.now

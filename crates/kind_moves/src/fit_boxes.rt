@@ -10,7 +10,7 @@ use crate::boxes::nothing;
 use symbol_class::narrowed;
 use tier_core::{Class, Sym, TierKind, alone, has_bit};
 
-/// The set of the symbols that may come next on a tier that is open, or on one that is not.
+/// The set of the symbols that may come where a tier is open, or is not.
 fn fitting_set(is_open: bool) -> u8
     ensures few { result < 32 }
     ensures symbols { (s : Sym) → is_in result s ≡ fits is_open s }
@@ -18,8 +18,7 @@ fn fitting_set(is_open: bool) -> u8
     if is_open { 26 } else { 5 }
 }
 
-/// The columns of a class each of whose symbols may come next if exactly the tiers in a mask are
-/// open.
+/// The columns of a class whose symbols may come where the tiers of a mask are open.
 pub(crate) fn following(class: &Class, opened: u16) -> Class
     ensures width { length (sets_of result) ≡ length (sets_of class.now) }
     ensures columns { (column : List Sym) → IsTrue (has result column)
@@ -65,7 +64,7 @@ pub(crate) fn without_input(class: &Class, kinds: &[TierKind]) -> Class
     rest
 }
 
-/// The columns of a class whose input part is a column of the form.
+/// The columns of a class that have a column of the form on the input tiers.
 pub(crate) fn with_input(class: &Class, kinds: &[TierKind], form: &[Sym]) -> Class
     requires width { length kinds.now ≡ length (sets_of class.now) }
     requires few { length kinds.now ≤ 12 }

@@ -1,39 +1,17 @@
-ghost use Rattle.std.specs.Prelude.{◌≡◌, ◌&&◌, not, length, OnOk};
-ghost use Rattle.tier_core.specs.Classes.{sets_of, has};
-ghost use Rattle.symbol_class.specs.Held.{once_if, AddsClasses};
-
 use crate::fit_boxes::{edgeless, following, with_input, without_input};
 use crate::frame::Frame;
 use std::alloc::{AllocError, Global};
-use symbol_class::{is_empty, meet, push_minus};
+use symbol_class::push_minus;
 use tier_core::{Class, Kind, NoMemory};
 
-/// Puts the pieces of `a` without `b` at the end of a list: `a` itself if they have no column in
-/// common.
-fn push_rest(pieces: &mut Vec<Class>, a: &Class, b: &Class) -> Result<(), AllocError>
-    requires { length (sets_of a.now) ≡ length (sets_of b.now) }
-    ensures { OnOk result
-        (AddsClasses (length (sets_of a.now)) pieces.old.items pieces.new.items
-        (λ column. once_if (has a.now column && not (has b.now column)))) }
-{
-    if is_empty(a) {
-        return Ok(());
-    }
-    if is_empty(&meet(a, b)) {
-        pieces.push(*a)?;
-        return Ok(());
-    }
-    push_minus(pieces, a, b)?;
-    Ok(())
-}
-
 impl<'a> Frame<'a> {
-    ghost use Rattle.std.specs.Prelude.{◌≤◌, ℕ, All, IfOk};
+    ghost use Rattle.std.specs.Prelude.{◌≡◌, ◌≤◌, ℕ, All, IfOk, length};
+    ghost use Rattle.tier_core.specs.Classes.{sets_of};
     ghost use Rattle.kind_moves.specs.Frames.{tiers_in, form_in};
     ghost use Rattle.kind_moves.specs.Fitting.{AreFitting, IsReadAlike};
 
-    /// The columns of a class that fit a kind, in pieces: first those without an edge on the input
-    /// tiers, then those whose input part is the next column of the form.
+    /// The columns of a class that fit a kind, in pieces: those without an edge on the input tiers,
+    /// and those that have the form's next column there.
     fn fitting_pieces(
         &self,
         alloc: Global,
@@ -50,17 +28,17 @@ impl<'a> Frame<'a> {
         let following = following(class, self.open_at(kind));
         let still = without_input(&following, kinds);
         let mut pieces = Vec::new(alloc);
-        push_rest(&mut pieces, &still, &edgeless(&still))?;
+        push_minus(&mut pieces, &still, &edgeless(&still))?;
         let place = kind.place as usize;
         if place == self.form.len() {
             return Ok(pieces);
         }
         let read = with_input(&following, kinds, self.form.column(place).syms());
-        push_rest(&mut pieces, &read, &still)?;
+        push_minus(&mut pieces, &read, &still)?;
         Ok(pieces)
     }
 
-    /// The columns of a class that fit a kind, in pieces. It fails only if memory runs out.
+    /// The columns of a class that fit a kind, in pieces. It fails only for want of memory.
     pub(crate) fn fitting(
         &self,
         alloc: Global,

@@ -1,43 +1,37 @@
 ghost use Rattle.std.specs.Prelude.{◌≡◌, ◌≤◌, length};
 ghost use Rattle.tier_core.specs.Tables.{tiers_of_table};
 ghost use Rattle.tier_core.specs.Tiers.{tiers_of};
-ghost use Rattle.grammar_reader.specs.ShapeOf.{IsShapeOf};
 ghost use Rattle.violation.specs.Candidates.{IsForm};
 ghost use Rattle.kind_moves.specs.Masks.{AreOpenInputs};
 
-use crate::cost::costs;
+use crate::cost::{costs, count_stretches};
 use crate::fit::{has_edge, may_follow};
-use crate::mask::{laid_out, lowest_bits, open_after, taken_from};
+use crate::mask::{laid_out, open_after, taken_from};
 use crate::open::{free_tiers, open_inputs};
 use crate::phase::next_phases;
 use crate::phase_masks::PhaseMasks;
-use grammar_reader::{Grammar, shape};
+use grammar_reader::Grammar;
 use std::alloc::Global;
-use tier_core::{Column, Kind, NoMemory, Shape, Sym, Timeline, has_bit};
+use tier_core::{Column, Kind, NoMemory, Sym, Timeline, has_bit};
 use violation::{has_input_edge, has_input_part};
 
-/// A grammar and a form, with what each move looks up: the grammar's shape, its free tiers, and for
-/// each place of the form the mask of the input tiers that are open there.
+/// A grammar and a form, with what their moves ask again and again: the mask of the free tiers, and
+/// for each place of the form the mask of the input tiers that are open there.
 #[derive(Drop)]
 pub struct Frame<'a> {
     pub grammar: &'a Grammar,
     pub form: &'a Timeline,
-    pub shape: Shape,
     free: u16,
-    free_count: u32,
     open_inputs: Vec<u16>,
     pub ghost well_formed: { ∥ IsForm (tiers_of_table grammar.now.tiers) form.now ∥₁ },
     pub ghost short: { length form.now ≤ 64 },
-    pub ghost shape_of: { IsShapeOf grammar.now shape },
     pub ghost free_tiers: { tiers_of free ≡ (tiers_of_table grammar.now.tiers).free },
-    pub ghost count: { free_count ≡ length (tiers_of_table grammar.now.tiers).free },
     pub ghost inputs: { AreOpenInputs (tiers_of_table grammar.now.tiers) form.now
         open_inputs.items },
 }
 
 impl<'a> Frame<'a> {
-    ghost use Rattle.std.specs.Prelude.{ℕ, ◌+◌, ◌-◌, ◌<◌, ◌^◌, ◌↔◌, ◌⊎◌, false, not, if◌then◌else◌, IsTrue, IfOk, MatchOption, map, slice_index_or};
-    ghost use Rattle.std.specs.List.{list_any};
+    ghost use Rattle.std.specs.Prelude.{ℕ, ◌+◌, ◌-◌, ◌<◌, ◌^◌, ◌↔◌, ◌⊎◌, false, if◌then◌else◌, IsTrue, IfOk, MatchOption, map, slice_index_or};
     ghost use Rattle.tier_core.specs.Scan.{opens};
     ghost use Rattle.tier_core.specs.Tiers.{has_tier};
     ghost use Rattle.tier_core.specs.Timelines.{symbol, column_at, has_edge};
@@ -48,7 +42,7 @@ impl<'a> Frame<'a> {
     ghost use Rattle.kind_moves.specs.Frames.{problem_in, tiers_in, constraints_in, form_in, stretches_in, kind_at_stage, FitsAt, FitsFrame, IsMove, IsStart};
 
     /// The frame of a grammar and a form over its input tiers, of at most 64 columns. It fails only
-    /// if memory runs out.
+    /// for want of memory.
     pub fn new(
         alloc: Global,
         grammar: &'a Grammar,
@@ -60,32 +54,12 @@ impl<'a> Frame<'a> {
         ensures form { IfOk result (λ frame. form_in frame ≡ form.entry.now) }
     {
         let open_inputs = open_inputs(alloc, &grammar.tiers, form)?;
-        let shape = shape(alloc, grammar)?;
         Ok(Frame {
             grammar,
             form,
-            shape,
             free: free_tiers(&grammar.tiers),
-            free_count: grammar.tiers.free_count() as u32,
             open_inputs,
         })
-    }
-
-    /// How many tiers are free: overt or hidden.
-    pub fn free_count(&self) -> u32
-        ensures value { result ≡ length (tiers_in self.now).free }
-        ensures few { result ≤ 12 }
-    {
-        self.free_count
-    }
-
-    /// How many stretch implications are among the first `stage` constraints.
-    pub fn stretch_count(&self, stage: u32) -> u32
-        requires { stage ≤ last_stage (problem_in self.now) }
-        ensures value { result ≡ length (stretches_in self.now stage) }
-        ensures few { result ≤ 24 }
-    {
-        self.shape.phases[stage as usize]
     }
 
     /// The kind of the empty prefix, which is the same at every stage.
@@ -100,20 +74,14 @@ impl<'a> Frame<'a> {
         }
     }
 
-    /// Whether no free tier is open at a kind.
-    fn are_free_closed(&self, kind: &Kind) -> bool
-        ensures { result ≡ not (list_any (λ flag. flag) (open_tiers (length (tiers_in self.now).free) kind.now.opened)) }
-    {
-        lowest_bits(kind.opened, self.free_count()) == 0
-    }
-
     /// Whether a kind is final: the whole form has been read, and no free tier is open.
     pub fn at_end(&self, kind: &Kind) -> bool
-        requires { kind.now.place ≤ length (form_in self.now) }
+        requires place { kind.now.place ≤ length (form_in self.now) }
+        requires opened { kind.now.opened < 2 ^ length (tiers_in self.now).free }
         ensures { (stage : ℕ) → result ≡ is_final (problem_in self.now)
             (kind_at_stage self.now stage kind.now) }
     {
-        kind.place as usize == self.form.len() && self.are_free_closed(kind)
+        kind.place as usize == self.form.len() && kind.opened == 0
     }
 
     /// The mask of the tiers that are open at a kind.
@@ -133,7 +101,7 @@ impl<'a> Frame<'a> {
         has_input_edge(self.grammar.tiers.kinds.as_slice(), column)
     }
 
-    /// Whether the input part of a column has no edge or is the form's column at a place.
+    /// Whether the input part of a column has no edge, or is the form's column at a place.
     fn goes_by_form(&self, place: usize, column: &[Sym]) -> bool
         requires width { length column.now ≡ (tiers_in self.now).width }
         requires place { place ≤ length (form_in self.now) }
@@ -163,7 +131,7 @@ impl<'a> Frame<'a> {
         self.goes_by_form(kind.place as usize, column)
     }
 
-    /// The place after a column that fits at a place.
+    /// The place after a column that fits.
     fn next_place(&self, place: u32, column: &[Sym]) -> u32
         requires width { length column.now ≡ (tiers_in self.now).width }
         requires place { place ≤ 64 }
@@ -202,7 +170,7 @@ impl<'a> Frame<'a> {
     }
 
     /// The kind that a column leads to from a kind, under the first `stage` constraints. None exactly
-    /// if the column does not fit the kind.
+    /// where the column does not fit the kind.
     pub fn moved(&self, stage: u32, kind: &Kind, column: &Column) -> Option<Kind>
         requires stage { stage ≤ last_stage (problem_in self.now) }
         requires fits { FitsFrame self.now stage kind.now }
@@ -223,8 +191,8 @@ impl<'a> Frame<'a> {
         })
     }
 
-    /// What the move from a kind by a column costs under one of the first `stage` constraints, which
-    /// is counted from 1 in ranked order: 0 or 1.
+    /// What the move from a kind by a column costs under a constraint, which is counted from 1 in
+    /// ranked order and is one of the first `stage`: 0 or 1.
     pub fn cost(&self, stage: u32, constraint: u32, kind: &Kind, column: &Column) -> u32
         requires stage { stage ≤ last_stage (problem_in self.now) }
         requires some { 1 ≤ constraint }
@@ -237,7 +205,8 @@ impl<'a> Frame<'a> {
     {
         let number = constraint as usize - 1;
         let constraints = self.grammar.constraints.as_slice();
-        let is_unmet = has_bit(kind.unmet, self.stretch_count(constraint - 1));
+        let place = count_stretches(&constraints[..number]);
+        let is_unmet = has_bit(kind.unmet, place);
         let opened = self.open_at(kind);
         if costs(&constraints[number], opened, is_unmet, column.syms()) {
             1

@@ -11,8 +11,8 @@ ghost use Rattle.kind_moves.specs.Frames.{tiers_in, constraints_in, form_in, kin
 ghost use Rattle.kind_moves.specs.Laws.{LeadsTo};
 ghost use Rattle.kind_moves.specs.Frames.{problem_in};
 
-/// At every stage, the columns that moves lead by from the start are exactly the prefixes of the
-/// candidates of the form; those that lead to a final kind are exactly the candidates.
+/// At every stage, the columns that lead from the start to a kind by moves are the prefixes of the
+/// candidates of the form, and those that lead to a final kind are the candidates.
 pub fn moves_are_of_candidates()
     ensures prefixes { (frame : Frame) (stage : ℕ) (start : Kind) (p : List (List Sym))
         → IsStart frame stage start → ((last : Kind) × LeadsTo frame stage start p last)
@@ -31,8 +31,8 @@ pub fn kinds_go_by_moves()
         → kind_at_stage frame stage last ≡ kind_of (problem_in frame) stage p }
 {}
 
-/// Under each constraint, the moves by the columns of a prefix of a candidate cost what the candidate
-/// has violated it so far, and those by all columns of a candidate cost its violations.
+/// What the moves by the columns of a prefix of a candidate cost under each constraint is what the
+/// candidate has violated so far, and what those of a candidate cost is its violations.
 pub fn costs_are_violations()
     ensures prefixes { (frame : Frame) (stage : ℕ) (start : Kind) (p q : List (List Sym))
         → IsStart frame stage start → IsCandidate (problem_in frame) (p ++ q)
@@ -44,7 +44,7 @@ pub fn costs_are_violations()
         ≡ take stage (counts_on (problem_in frame) T) }
 {}
 
-/// Two kinds that fit a frame at a stage are equal if their bits encode the same kind of prefixes.
+/// Kinds that fit a frame at a stage are the same where their bits tell the same kind.
 pub fn kinds_are_told_apart()
     ensures { (frame : Frame) (stage : ℕ) (k l : Kind) → FitsFrame frame stage k
         → FitsFrame frame stage l → kind_at_stage frame stage k ≡ kind_at_stage frame stage l

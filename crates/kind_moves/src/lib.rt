@@ -1,16 +1,13 @@
-//! The moves of kinds as code: how the kind of a prefix goes on by one more column, or by all
-//! columns of a class at once.
+//! The moves of kinds as code: how the kind of a prefix goes on by one more column.
 //!
 //! A [`Frame`] borrows a grammar and a form. From the kind at which it starts it goes on by columns,
 //! one at a time, for the first constraints of any stage. Along its moves the layers above explore
-//! the candidates of the form: a timeline leads from the start to a final kind exactly if it is a
-//! candidate. [`Frame::pieces`] parts a class of columns by where they lead and what they cost,
-//! without looking at single columns: a constraint, an open tier and a phase each part a class by
-//! one test. The crate stands on the types of `tier_core`, on classes, on grammars, and on the
-//! definition of moves in `violation`.
+//! the candidates of the form: a timeline leads from the start to an end exactly where it is a
+//! candidate. The crate stands on the types of `tier_core`, on grammars, and on the definition of
+//! moves in `violation`.
 //!
 //! That the candidates of a form are the paths of an automaton is after Ellison, Phonological
-//! Derivation in Optimality Theory (COLING 1994); that its states are kinds is our own design.
+//! Derivation in Optimality Theory (COLING 1994); that its states are kinds is this project's.
 #![tactic(auto)]
 
 mod ask;

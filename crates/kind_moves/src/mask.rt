@@ -7,7 +7,7 @@ ghost use Rattle.violation.specs.Moves.{flag_of};
 
 use tier_core::{Sym, has_bit, with_bit};
 
-/// The bits of `flags`, moved to the tiers in a mask: the lowest bit to the first tier, and so on.
+/// Lays the bits of `flags` out on the tiers of a mask, the lowest on the first tier.
 pub(crate) fn laid_out(tiers: u16, flags: u16) -> u16
     ensures { (t : ℕ) → has_tier result t ≡ flag_of (tiers_of tiers)
         (open_tiers (length (tiers_of tiers)) flags) t }
@@ -23,8 +23,7 @@ pub(crate) fn laid_out(tiers: u16, flags: u16) -> u16
     laid as u16
 }
 
-/// The bits that a mask has at the tiers in another, moved to the lowest places: that of the first
-/// tier is the lowest.
+/// The bits that a mask has on the tiers of another, the first in the lowest place.
 pub(crate) fn taken_from(tiers: u16, mask: u16) -> u16
     ensures flags { open_tiers (length (tiers_of tiers)) result
         ≡ map (has_tier mask) (tiers_of tiers) }
@@ -51,13 +50,4 @@ pub(crate) fn open_after(column: &[Sym]) -> u16
         open = with_bit(open, tier as u32, sym.is_open_after());
     }
     open as u16
-}
-
-/// The `count` lowest bits of a mask.
-pub(crate) fn lowest_bits(mask: u16, count: u32) -> u16
-    requires { count ≤ 12 }
-    ensures within { result < 2 ^ count }
-    ensures bits { (t : ℕ) → t < count → has_tier result t ≡ has_tier mask t }
-{
-    mask & ((1 << count) - 1)
 }

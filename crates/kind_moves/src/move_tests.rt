@@ -10,29 +10,27 @@ ghost use Rattle.violation.specs.Conditions.{IsOverTiers};
 ghost use Rattle.violation.specs.Moves.{costs, is_unmet_phase};
 ghost use Rattle.kind_moves.specs.declared.ask.Ask.TheVariants.{Present, Absent, NoEdge, Open, NoInteriorOpen, NoEdgePresent};
 ghost use Rattle.kind_moves.specs.Asks.{answers};
-ghost use Rattle.kind_moves.specs.Fitting.{HasAll};
 
 use crate::ask::Ask;
 use crate::asked::narrowed_by;
 use crate::boxes::{inside, never, outside, whole};
 use crate::cost::{are_all_in, is_edge_chosen};
 use symbol_class::{Difference, narrowed};
-use tier_core::{Class, Constraint, Event, Family};
+use tier_core::{Constraint, Event, Family};
 
-/// The test whether a tier is open after a column, given the class of all columns.
-pub(crate) fn opens_at(all: &Class, tier: u32) -> Difference
-    requires tier { tier < length (sets_of all.now) }
-    requires all { HasAll all.now }
-    ensures width { length (sets_of result.within) ≡ length (sets_of all.now) }
-    ensures columns { (column : List Sym) → length column ≡ length (sets_of all.now)
+/// The test whether a tier is open after a column.
+pub(crate) fn opens_at(width: u32, tier: u32) -> Difference
+    requires few { width ≤ 12 }
+    requires tier { tier < width }
+    ensures width { length (sets_of result.within) ≡ width }
+    ensures columns { (column : List Sym) → length column ≡ width
         → differs result column ≡ opens (symbol column tier) }
 {
-    inside(&narrowed(all, tier, 22))
+    inside(&narrowed(&whole(width), tier, 22))
 }
 
-/// The test whether a column makes a stretch implication met although it opens no interior on the
-/// right: all left tiers are open after the column, it has no edge on them, and the stretch was met
-/// before it or an event of a right type is present at it.
+/// The test whether a stretch on the left goes on over a column, all its tiers open after it, with an
+/// event on the right that has met it, where that is told by no interior on the right that is open.
 pub(crate) fn goes_on_met(width: u32, constraint: &Constraint, was_met: bool) -> Difference
     requires some { 1 ≤ width }
     requires few { width ≤ 12 }

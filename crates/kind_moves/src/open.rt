@@ -37,8 +37,7 @@ fn open_at(tiers: &TierTable, form: &Timeline, place: usize) -> u16
     )
 }
 
-/// The mask of the open input tiers for each place of a form, from 0 to its number of columns. It
-/// fails only if memory runs out.
+/// The masks of the input tiers that are open, place by place. It fails only for want of memory.
 pub(crate) fn open_inputs(
     alloc: Global,
     tiers: &TierTable,

@@ -8,7 +8,6 @@ ghost use Rattle.violation.specs.Conditions.{IsOverTiers};
 ghost use Rattle.violation.specs.Moves.{is_met_phase, next_phase, next_phases};
 ghost use Rattle.kind_moves.specs.Pieces.{opened_by};
 
-use crate::boxes::whole;
 use crate::move_tests::{goes_on_met, opens_at};
 use std::alloc::Global;
 use symbol_class::part;
@@ -20,21 +19,19 @@ pub(crate) fn parts_by_open(
     width: u32,
     classes: Vec<Class>,
 ) -> Result<Vec<Class>, NoMemory>
-    requires some { 1 ≤ width }
     requires few { width ≤ 12 }
     requires pieces { ArePieces width classes.items }
     ensures { IfOk result (λ parts. ArePartedBy width (opened_by width) classes.items parts.items) }
 {
-    let all = whole(width);
     let mut parts = classes;
     for tier in 0..width {
-        parts = part(alloc, parts, &opens_at(&all, tier))?;
+        parts = part(alloc, parts, &opens_at(width, tier))?;
     }
     Ok(parts)
 }
 
-/// Parts pieces by the phase of a stretch implication after their columns, given whether it was met
-/// before them. In each piece all columns leave the same tiers open.
+/// Parts pieces by the phase of a stretch implication after their columns, where it was met before
+/// them or not, and they are alike in the tiers that are open after them.
 fn parts_by_phase(
     alloc: Global,
     width: u32,
@@ -55,8 +52,8 @@ fn parts_by_phase(
     Ok(parts)
 }
 
-/// Parts pieces by the phases of the stretch implications among some constraints after their
-/// columns. In each piece all columns leave the same tiers open.
+/// Parts pieces by the phases of the stretch implications among some constraints after their columns,
+/// where the pieces are alike in the tiers that are open after them.
 pub(crate) fn parts_by_phases(
     alloc: Global,
     width: u32,

@@ -18,9 +18,9 @@ use violation::{any_present, has_edge_among, opens_each, opens_some};
 enum Phase {
     /// Some left tier is not open.
     Closed,
-    /// All left tiers are open, and no event of a right type has met them since their last edge.
+    /// All are, and no event of a right type has met them since their last edge.
     Unmet,
-    /// All left tiers are open, and an event of a right type has met them since their last edge.
+    /// All are, and one has.
     Met,
 }
 
@@ -38,7 +38,7 @@ impl Phase {
     }
 }
 
-/// Whether a stretch that is open after a column has been met by then.
+/// Whether a stretch that is open after a column is met by then.
 fn is_met_after(left: &[Event], right: &[Event], was_met: bool, column: &[Sym]) -> bool
     requires left_in { AreInColumn left.now column.now }
     requires right_in { AreInColumn right.now column.now }
@@ -50,7 +50,7 @@ fn is_met_after(left: &[Event], right: &[Event], was_met: bool, column: &[Sym]) 
     (goes_on && (was_met || any_present(column, right))) || opens_some(column, right)
 }
 
-/// The phase of a stretch implication after a column, given whether it was met before it.
+/// The phase of a stretch implication after a column, where it was met before it or not.
 fn phase_after(constraint: &Constraint, was_met: bool, column: &[Sym]) -> Phase
     requires { IsOverTiers (length column.now) constraint.now }
     ensures { (phase : told.Phase) → was_met ≡ is_met_phase phase

@@ -1,6 +1,6 @@
 use tier_core::{Class, Kind};
 
-/// A class of columns that do the same from a kind: each of them leads to `target` and costs `cost`.
+/// A class of columns that go on from a kind alike: each leads to the target, and costs so much.
 #[derive(Clone, Copy, Debug, PartialEq, Eq)]
 pub struct Piece {
     pub class: Class,

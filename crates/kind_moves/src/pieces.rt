@@ -1,3 +1,4 @@
+use crate::cost::count_stretches;
 use crate::cost_tests::costing;
 use crate::frame::Frame;
 use crate::parting::{parts_by_open, parts_by_phases};
@@ -17,8 +18,7 @@ impl<'a> Frame<'a> {
     ghost use Rattle.kind_moves.specs.Fitting.{AreFitting, IsMovedAlike};
     ghost use Rattle.kind_moves.specs.Pieces.{cost_under, classes_of, IsPiece};
 
-    /// The columns of a class that fit a kind, in pieces: in each piece all columns lead to the same
-    /// kind.
+    /// The columns of a class that fit a kind, in pieces all columns of which lead to one kind.
     fn moved_pieces(
         &self,
         alloc: Global,
@@ -42,7 +42,7 @@ impl<'a> Frame<'a> {
         Ok(pieces)
     }
 
-    /// Parts pieces by what their columns cost under a constraint. `width` is that of the columns.
+    /// Parts pieces of a width by what their columns cost under a constraint.
     fn costed_pieces(
         &self,
         alloc: Global,
@@ -67,15 +67,15 @@ impl<'a> Frame<'a> {
         }
         let number = constraint as usize - 1;
         let constraints = self.grammar.constraints.as_slice();
-        let is_unmet = has_bit(kind.unmet, self.stretch_count(constraint - 1));
+        let place = count_stretches(&constraints[..number]);
+        let is_unmet = has_bit(kind.unmet, place);
         let opened = self.open_at(kind);
         let test = costing(width, &constraints[number], opened, is_unmet);
         let pieces = part(alloc, classes, &test)?;
         Ok(pieces)
     }
 
-    /// What the move from a kind by a column costs under a constraint, which is counted from 1 in
-    /// ranked order; 0 if `constraint` is 0.
+    /// What the move from a kind by a column costs under a constraint, and 0 where that is 0.
     fn cost_or_none(&self, stage: u32, constraint: u32, kind: &Kind, column: &Column) -> u32
         requires stage { stage ≤ length (constraints_in self.now) }
         requires within { constraint ≤ stage }
@@ -89,7 +89,7 @@ impl<'a> Frame<'a> {
         self.cost(stage, constraint, kind, column)
     }
 
-    /// The piece of a class whose columns fit a kind, lead to one kind, and cost the same.
+    /// A piece, of a class whose columns fit a kind, lead to one kind, and cost the same.
     fn piece(&self, alloc: Global, stage: u32, constraint: u32, kind: &Kind, class: &Class) -> Piece
         requires stage { stage ≤ length (constraints_in self.now) }
         requires within { constraint ≤ stage }
@@ -114,8 +114,7 @@ impl<'a> Frame<'a> {
         }
     }
 
-    /// The pieces of some classes. In each class all columns fit a kind, lead to one kind, and cost
-    /// the same.
+    /// The pieces of classes whose columns fit a kind, lead to one kind, and cost the same.
     fn told_pieces(
         &self,
         alloc: Global,
@@ -145,11 +144,10 @@ impl<'a> Frame<'a> {
         Ok(pieces)
     }
 
-    /// Parts the columns of a class that fit a kind: all columns of a piece lead to its target under
-    /// the first `stage` constraints, and cost what it says under one of these, which is counted from
-    /// 1 in ranked order. If `constraint` is 0, all costs are 0. No piece is empty, each column that
-    /// fits is in exactly one piece, and no other column is in any. It fails only if memory runs
-    /// out.
+    /// The columns of a class that fit a kind, in pieces all columns of which go on alike: they lead
+    /// to the piece's target under the first `stage` constraints, and cost so much under one of these,
+    /// which is counted from 1 in ranked order, or nothing where it is 0. No piece is empty, no column
+    /// is in two, and all that fit are in one. It fails only for want of memory.
     pub fn pieces(
         &self,
         alloc: Global,

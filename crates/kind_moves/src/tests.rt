@@ -6,7 +6,6 @@ ghost use Rattle.kind_moves.specs.Frames.{constraints_in};
 ghost use Rattle.violation.specs.Problems.{last_stage};
 ghost use Rattle.kind_moves.specs.Frames.{problem_in};
 
-mod parted;
 mod plain;
 
 use crate::Frame;
@@ -65,8 +64,9 @@ fn is_plain(frame: &Frame<'_>, stage: u32, kind: &Kind, columns: &[Column]) -> b
         && kind.met == met
 }
 
-/// Whether the moves along the columns that are the digits of a number to base `per` agree with the
-/// plain reading: in each kind, and in which column is the first without a move.
+/// Goes along the columns of a number to base `per`, of which there are `columns`, as far as there
+/// are moves.
+/// Whether each kind, and each column without a move, is that of the plain reading.
 fn agrees(
     alloc: Global,
     frame: &Frame<'_>,
@@ -84,9 +84,6 @@ fn agrees(
     let mut rest = number;
     for place in 0..columns {
         if !is_plain(frame, stage, &kind, seen.columns()) {
-            return Ok(false);
-        }
-        if !parted::agree(alloc, frame, stage, stage, &kind, per)? {
             return Ok(false);
         }
         let column = column_of(alloc, kinds.len(), rest % per);
@@ -110,8 +107,8 @@ fn agrees(
     Ok(true)
 }
 
-/// A case: a grammar and a form, how many columns its tiers have, how many columns each word has,
-/// and how many words there are.
+/// What a case reads: a grammar and a form, how many columns there are of its tiers, how many of them
+/// a word has, and how many words there are.
 #[derive(Clone, Copy)]
 struct Case {
     grammar: &'static [u8],
@@ -206,7 +203,7 @@ fn an_empty_form_ends_where_it_starts(rt: HostRuntime) -> Result<(), Fail> {
     Ok(())
 }
 
-/// What it costs under a constraint to go along columns to a final kind. None if there is no such
+/// What going along columns to a final kind costs under a constraint. None where there is no such
 /// walk.
 fn cost_along(frame: &Frame<'_>, constraint: u32, columns: &[Column]) -> Option<u32>
     requires some { 1 ≤ constraint }

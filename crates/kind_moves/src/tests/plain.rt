@@ -1,7 +1,7 @@
 //! A plain reading of prefixes, tier by tier and event by event, with which the moves are compared.
 use tier_core::{Column, Constraint, Event, EventList, Part, Sym, TierKind};
 
-/// The symbol of a tier at a place; Outside if there is none.
+/// The symbol of a tier at a place; Outside where there is none.
 fn sym_at(columns: &[Column], place: usize, tier: usize) -> Sym {
     match columns.get(place) {
         Some(column) => column.syms().get(tier).copied().unwrap_or(Sym::Outside),

@@ -15,9 +15,8 @@ loop-tier-preserved c =
     let tier = c.loop-tier.tier in
     parted_then c.args.width (opened_by tier) (differs test)
     (opened_by (tier + 1)) c.args.classes.items c.loop-tier.parts.items c.in_ok-parts.parts.items
-    (λ x y wide_x wide_y same told. open_more tier x y same
-    (sym (c.opens_at.ensures.columns x (wide_x ∙ sym c.whole-all.ensures.width)) ∙ told
-    ∙ c.opens_at.ensures.columns y (wide_y ∙ sym c.whole-all.ensures.width)))
+    (λ x y wide_x wide_y same told. open_more tier x y same (sym (c.opens_at.ensures.columns x wide_x) ∙ told
+    ∙ c.opens_at.ensures.columns y wide_y))
     c.loop-tier.invariant
     (subst (λ (n : ℕ). ArePartedBy n (differs test) c.loop-tier.parts.items c.in_ok-parts.parts.items)
-    (c.opens_at.ensures.width ∙ c.whole-all.ensures.width) c.in_ok-parts.ensures)
+    c.opens_at.ensures.width c.in_ok-parts.ensures)

@@ -27,10 +27,10 @@ returns-then-costs c =
     let opened = c.open_at-opened.result in
     let same : c.as_slice-constraints.result.now ≡ constraints_in frame = c.as_slice-constraints.ensures.value in
     record {
-      cost = move_cost frame c.args.stage number c.stretch_count.result opened c.args.kind.now
+      cost = move_cost frame c.args.stage number c.count_stretches-place.result opened c.args.kind.now
           c.args.column.now item c.has_bit-is_unmet.result true
           c.requires.stage (omega arith) (c.index-constraints-number.is ∙ ap (λ xs. get_or xs number item) same)
-          c.stretch_count.ensures.value
+          (c.count_stretches-place.ensures.count ∙ ap (λ xs. length (filter is_stretch (take number xs))) same)
           (c.open_at-opened.ensures c.args.stage) c.has_bit-is_unmet.ensures c.requires.fits.stretches.unmet
           (λ phase e. c.if-costs.ensures phase e ∙ ap (λ (d : List Sym). costs item.family item.left item.right
           (has_tier opened) phase d) c.syms.ensures.value);
@@ -45,10 +45,10 @@ returns-else-costs c =
     let opened = c.open_at-opened.result in
     let same : c.as_slice-constraints.result.now ≡ constraints_in frame = c.as_slice-constraints.ensures.value in
     record {
-      cost = move_cost frame c.args.stage number c.stretch_count.result opened c.args.kind.now
+      cost = move_cost frame c.args.stage number c.count_stretches-place.result opened c.args.kind.now
           c.args.column.now item c.has_bit-is_unmet.result false
           c.requires.stage (omega arith) (c.index-constraints-number.is ∙ ap (λ xs. get_or xs number item) same)
-          c.stretch_count.ensures.value
+          (c.count_stretches-place.ensures.count ∙ ap (λ xs. length (filter is_stretch (take number xs))) same)
           (c.open_at-opened.ensures c.args.stage) c.has_bit-is_unmet.ensures c.requires.fits.stretches.unmet
           (λ phase e. c.if-costs.ensures phase e ∙ ap (λ (d : List Sym). costs item.family item.left item.right
           (has_tier opened) phase d) c.syms.ensures.value);

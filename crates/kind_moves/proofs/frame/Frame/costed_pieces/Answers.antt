@@ -41,10 +41,10 @@ returns c =
     → cost_under frame c.args.stage c.args.constraint kind column
     ≡ (if differs test column then 1 else 0) = (λ column wide.
     cost_is frame c.args.stage c.args.constraint kind column _ c.if-constraint-eq0.false
-    (move_cost frame c.args.stage number c.stretch_count.result c.open_at-opened.result kind column item
+    (move_cost frame c.args.stage number c.count_stretches-place.result c.open_at-opened.result kind column item
     c.has_bit-is_unmet.result (differs test column)
     c.requires.stage (omega arith) (c.index-constraints-number.is ∙ ap (λ xs. get_or xs number item) same)
-    c.stretch_count.ensures.value
+    (c.count_stretches-place.ensures.count ∙ ap (λ xs. length (filter is_stretch (take number xs))) same)
     (c.open_at-opened.ensures c.args.stage) c.has_bit-is_unmet.ensures c.requires.fits.stretches.unmet
     (λ phase e. c.costing-test.ensures.columns phase e column (wide ∙ sym c.requires.width)))) in
     parted_weaker (tiers_in frame).width (differs test) (cost_under frame c.args.stage c.args.constraint kind)

@@ -65,7 +65,7 @@ returns-then-place-len-clause-fitting c stage =
     let following = c.following-following.result in
     let still = c.without_input-still.result in
     let bare = c.edgeless.result in
-    let pieces = c.push_rest.new.pieces.items in
+    let pieces = c.push_minus.new.pieces.items in
     let wide = c.without_input-still.ensures.width ∙ c.following-following.ensures.width in
     are_fitting frame c.args.kind.now class following still bare c.open_at.result
     (λ column. false) c.requires.width c.open_at.ensures
@@ -76,7 +76,7 @@ returns-then-place-len-clause-fitting c stage =
     (length (sets_of still)) pieces pieces (wide ∙ c.requires.width) (tiers_in frame).width refl
     (subst (λ (xs : List Class). AddsClasses (length (sets_of still)) xs pieces
     (λ column. once_if (has still column && not (has bare column)))) c.new-pieces.ensures.items
-    c.in_ok-push_rest.ensures)
+    c.in_ok-push_minus.ensures.held)
     (adds_none (tiers_in frame).width pieces (λ column. once_if (false && not (has still column))) (λ column. refl))
     stage
 
@@ -87,7 +87,7 @@ returns-then-place-len-clause-read c =
     let following = c.following-following.result in
     let still = c.without_input-still.result in
     let bare = c.edgeless.result in
-    let pieces = c.push_rest.new.pieces.items in
+    let pieces = c.push_minus.new.pieces.items in
     let wide = c.without_input-still.ensures.width ∙ c.following-following.ensures.width in
     are_read_alike frame c.args.kind.now class following still bare c.open_at.result
     (λ column. false) c.requires.width c.open_at.ensures
@@ -98,7 +98,7 @@ returns-then-place-len-clause-read c =
     (length (sets_of still)) pieces pieces (wide ∙ c.requires.width) (tiers_in frame).width refl
     (subst (λ (xs : List Class). AddsClasses (length (sets_of still)) xs pieces
     (λ column. once_if (has still column && not (has bare column)))) c.new-pieces.ensures.items
-    c.in_ok-push_rest.ensures)
+    c.in_ok-push_minus.ensures.held)
     (adds_none (tiers_in frame).width pieces (λ column. once_if (false && not (has still column))) (λ column. refl))
 
 pub returns-clause-fitting : goal.returns-clause-fitting
@@ -118,12 +118,12 @@ returns-clause-fitting c stage =
     (read_by frame c.args.kind.now.place following read _ _ c.as_slice-kinds.ensures.value (c.syms.ensures.value
     ∙ c.column.ensures) (omega (arith, c.requires.place, c.if-place-len.false, c.len.ensures))
     c.with_input-read.ensures.columns)
-    (length (sets_of still)) c.push_rest.new.pieces.items c.push_rest-2.new.pieces.items (wide ∙ c.requires.width)
+    (length (sets_of still)) c.push_minus.new.pieces.items c.push_minus-2.new.pieces.items (wide ∙ c.requires.width)
     (length (sets_of read)) (c.with_input-read.ensures.width ∙ c.following-following.ensures.width ∙ c.requires.width)
-    (subst (λ (xs : List Class). AddsClasses (length (sets_of still)) xs c.push_rest.new.pieces.items
+    (subst (λ (xs : List Class). AddsClasses (length (sets_of still)) xs c.push_minus.new.pieces.items
     (λ column. once_if (has still column && not (has bare column)))) c.new-pieces.ensures.items
-    c.in_ok-push_rest.ensures)
-    c.in_ok-push_rest-2.ensures
+    c.in_ok-push_minus.ensures.held)
+    c.in_ok-push_minus-2.ensures.held
     stage
 
 pub returns-clause-read : goal.returns-clause-read
@@ -143,9 +143,9 @@ returns-clause-read c =
     (read_by frame c.args.kind.now.place following read _ _ c.as_slice-kinds.ensures.value (c.syms.ensures.value
     ∙ c.column.ensures) (omega (arith, c.requires.place, c.if-place-len.false, c.len.ensures))
     c.with_input-read.ensures.columns)
-    (length (sets_of still)) c.push_rest.new.pieces.items c.push_rest-2.new.pieces.items (wide ∙ c.requires.width)
+    (length (sets_of still)) c.push_minus.new.pieces.items c.push_minus-2.new.pieces.items (wide ∙ c.requires.width)
     (length (sets_of read)) (c.with_input-read.ensures.width ∙ c.following-following.ensures.width ∙ c.requires.width)
-    (subst (λ (xs : List Class). AddsClasses (length (sets_of still)) xs c.push_rest.new.pieces.items
+    (subst (λ (xs : List Class). AddsClasses (length (sets_of still)) xs c.push_minus.new.pieces.items
     (λ column. once_if (has still column && not (has bare column)))) c.new-pieces.ensures.items
-    c.in_ok-push_rest.ensures)
-    c.in_ok-push_rest-2.ensures
+    c.in_ok-push_minus.ensures.held)
+    c.in_ok-push_minus-2.ensures.held

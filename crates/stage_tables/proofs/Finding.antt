@@ -1,5 +1,5 @@
 -- One kind more is found, or one that is listed already.
-use Rattle.std.proofs.Common.{◌≡◌, ◌≢◌, ℕ, suc, ◌+◌, ◌-◌, ◌<◌, ◌≤◌, Bool, List, [], ◌∷◌, ◌++◌, Some, length, refl, ap, sym, ◌∙◌, subst, arith, ◌⊎◌, inl, inr}
+use Rattle.std.proofs.Common.{◌≡◌, ◌≢◌, ℕ, suc, ◌+◌, ◌-◌, ◌<◌, ◌≤◌, Bool, List, [], ◌∷◌, ◌++◌, Some, length, get_or, refl, ap, sym, ◌∙◌, subst, arith, ◌⊎◌, inl, inr}
 use Rattle.std.specs.Prelude.{Contains, AllPairs, IsTrue, slice_get}
 use Rattle.std.specs.List.{AllZip}
 use Rattle.std.proofs.lemmas.Bool.{cases_lt}
@@ -11,7 +11,10 @@ use Rattle.weight_law.specs.declared.unit_weight.UnitWeight.{UnitWeight}
 use Rattle.tier_core.specs.declared.kind.Kind.{Kind}
 use Rattle.tier_core.specs.declared.sym.Sym.{Sym}
 use Rattle.tier_core.specs.Kinds.{PrefixKind}
-use Rattle.tier_core.specs.Classes.{has}
+use Rattle.tier_core.specs.Classes.{sets_of, has}
+use Rattle.symbol_class.specs.Filled.{is_filled}
+use Rattle.symbol_class.specs.Parts.{IsAlike}
+use Rattle.kind_moves.specs.Pieces.{cost_under}
 use Rattle.arc_table.specs.declared.arc.TableArc.{TableArc}
 use Rattle.arc_table.specs.declared.state.TableState.{TableState}
 use Rattle.arc_table.specs.Conditions.{TargetsExist}
@@ -26,7 +29,7 @@ use Rattle.stage_laws.specs.StageTables.{name_of, cost_of}
 use Rattle.stage_tables.specs.declared.kind_key.KindKey.{KindKey}
 use Rattle.stage_tables.specs.KindKeys.{key_of}
 use Rattle.stage_tables.specs.Kept.{AreKeptByKinds}
-use Rattle.stage_tables.specs.Listed.{IsAt, AreListed, IsPutLast, IsSame, IsNumbered, Stays, StandsOver, IsReached, AreFound, IsTaken, IsTakenState, AreTargets, AreTaken}
+use Rattle.stage_tables.specs.Listed.{IsAt, AreListed, IsPutLast, IsSame, IsNumbered, Stays, StandsOver, IsReached, IsOverOne, AreFound, IsTaken, AreTakenMoves, IsTakenState, AreTargets, AreTaken}
 use Rattle.violation.proofs.CutLemmas.{cut-moved, fits-cut}
 use Rattle.stage_tables.proofs.Keys.{same_told, same_fits}
 use Rattle.stage_tables.proofs.Zips.{zip_weaken}

@@ -1,6 +1,6 @@
 -- Pieces that are parted by one constraint after another.
 use Rattle.std.proofs.Common.{◌≡◌, ◌↔◌, ℕ, ◌+◌, ◌<◌, ◌≤◌, Bool, true, false, List, [], ◌∷◌, ◌++◌, take, map, length, get_or, refl, ap, sym, ◌∙◌, subst, arith, inl, inr, All, Contains, IsTrue}
-use Rattle.std.proofs.lemmas.Bool.{cases_lt, false_from_ne_true}
+use Rattle.std.proofs.lemmas.Bool.{false≢true, cases_lt, false_from_ne_true}
 use Rattle.std.proofs.lemmas.List.{append-nil, append_assoc, map-append, take_more, get_or-map, length-map}
 use Rattle.std.proofs.lemmas.List.Elements.{All-nil, All-append, All-push, Contains-append_left, Contains-append_right, Contains-push, All-contains, All-map}
 use Rattle.std.proofs.lemmas.List.Folds.{list_any_at}
@@ -27,6 +27,14 @@ piece_alike : (frame : Frame) (stage constraint : ℕ) (kind : Kind) (piece : Pi
     → IsPiece frame stage constraint kind piece → IsAlike (cost_under frame stage constraint kind) piece.class
 piece_alike frame stage constraint kind piece is c d has_c has_d = sym (is.costs c has_c) ∙ is.costs d has_d
 
+-- pieces of a piece that cost the same under a constraint
+pub record AreFiner (exploring : Exploring) (constraint : ℕ) (kind : Kind) (piece : Piece)
+    (finer : List Piece) : Type 0 where
+  pub apart : ArePieces (tiers_in exploring.frame.now).width (classes_of finer)
+  pub columns : (column : List Sym) → IsTrue (some_has (classes_of finer) column)
+      ↔ (IsTrue (has piece.class column) × FitsAt exploring.frame.now exploring.stage kind column)
+  pub each : All (IsPiece exploring.frame.now exploring.stage constraint kind) finer
+
 module _ (exploring : Exploring) (constraint : ℕ) (kind : Kind) where
   -- ---- the parts of one piece
 
@@ -46,10 +54,7 @@ module _ (exploring : Exploring) (constraint : ℕ) (kind : Kind) where
   }
 
   module _ (piece : Piece) (is : IsPiece exploring.frame.now exploring.stage exploring.stage kind piece)
-      (finer : List Piece) (apart : ArePieces (tiers_in exploring.frame.now).width (classes_of finer))
-      (columns : (column : List Sym) → IsTrue (some_has (classes_of finer) column)
-      ↔ (IsTrue (has piece.class column) × FitsAt exploring.frame.now exploring.stage kind column))
-      (each : All (IsPiece exploring.frame.now exploring.stage constraint kind) finer) where
+      (finer : List Piece) (are : AreFiner exploring constraint kind piece finer) where
     -- a finer piece, with the target and the cost of the piece
     part_of : (n : ℕ) (part made : Piece) → n < length finer → part ≡ get_or finer n part
         → made.class ≡ part.class → made.target ≡ piece.target → made.cost ≡ piece.cost
@@ -62,10 +67,10 @@ module _ (exploring : Exploring) (constraint : ℕ) (kind : Kind) where
       };
       alike = subst (IsAlike (cost_under exploring.frame.now exploring.stage constraint kind))
           (sym same) (piece_alike exploring.frame.now exploring.stage constraint kind (get_or finer n part)
-          (each n part inside));
-      filled = subst (λ (c : Class). IsTrue (is_filled c)) (listed ∙ sym same) (apart.filled n part.class long);
+          (are.each n part inside));
+      filled = subst (λ (c : Class). IsTrue (is_filled c)) (listed ∙ sym same) (are.apart.filled n part.class long);
       wide = subst (λ (c : Class). length (sets_of c) ≡ (tiers_in exploring.frame.now).width) (listed ∙ sym same)
-          (apart.one_width n part.class long);
+          (are.apart.one_width n part.class long);
     }
       where
         IsMoveTo : List Sym → Kind → Type 0
@@ -81,7 +86,7 @@ module _ (exploring : Exploring) (constraint : ℕ) (kind : Kind) where
         listed = get_or-map (λ (p : Piece). p.class) finer n part part.class inside
 
         within : (column : List Sym) → IsTrue (has made.class column) → IsTrue (has piece.class column)
-        within column h = ((columns column).0 (list_any_at (λ c. has c column) (classes_of finer) n part.class long
+        within column h = ((are.columns column).0 (list_any_at (λ c. has c column) (classes_of finer) n part.class long
             (ap (λ c. has c column) (listed ∙ sym same) ∙ h))).0
 
     pub next_part : (old new : List Piece) (n : ℕ) (part made : Piece) → PushedParts piece finer old new n
@@ -103,9 +108,9 @@ module _ (exploring : Exploring) (constraint : ℕ) (kind : Kind) where
 
     same_held : (column : List Sym) (b : Bool) → has piece.class column ≡ b
         → some_has (classes_of finer) column ≡ has piece.class column
-    same_held column true h = (columns column).1 (h, (is.moves column h).column_fits) ∙ sym h
+    same_held column true h = (are.columns column).1 (h, (is.moves column h).column_fits) ∙ sym h
     same_held column false h = false_from_ne_true (some_has (classes_of finer) column)
-        (λ some. let no : false ≡ true = sym h ∙ ((columns column).0 some).0 in absurd no) ∙ sym h
+        (λ some. false≢true (sym h ∙ ((are.columns column).0 some).0)) ∙ sym h
 
     pub all_parts : (old new : List Piece) (n : ℕ) → PushedParts piece finer old new n → n ≡ length finer
         → AddsParts exploring constraint kind piece old new
@@ -116,7 +121,7 @@ module _ (exploring : Exploring) (constraint : ℕ) (kind : Kind) where
           ap (λ cs. times_held cs column) (so_far.classes ∙ ap (λ k. classes_of (take k finer)) last
           ∙ ap classes_of (take-length finer))
           ∙ held_once (classes_of finer) column (has piece.class column)
-          (once_from_apart (classes_of finer) apart.apart column) (same_held column (has piece.class column) refl);
+          (once_from_apart (classes_of finer) are.apart.apart column) (same_held column (has piece.class column) refl);
       good = so_far.good;
     }
 

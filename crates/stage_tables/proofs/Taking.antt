@@ -1,6 +1,6 @@
 -- Moves that are taken one by one.
 use Rattle.std.proofs.Common.{◌≡◌, ℕ, zero, suc, ◌+◌, ◌-◌, ◌==◌, cond, ne_eqb, ◌<◌, ◌≤◌, Bool, true, false, List, [], ◌∷◌, ◌++◌, take, length, map, get_or, refl, ap, sym, ◌∙◌, subst, arith, inl, inr, All, Contains, IsTrue}
-use Rattle.std.proofs.lemmas.Bool.{cases_lt, false_from_ne_true}
+use Rattle.std.proofs.lemmas.Bool.{false≢true, cases_lt, false_from_ne_true}
 use Rattle.std.proofs.lemmas.List.Folds.{list_any_at}
 use Rattle.std.proofs.lemmas.List.{get_or-map, length-map, take_more, append-nil, append_assoc, map-append}
 use Rattle.std.proofs.lemmas.List.Elements.{All-nil, All-append, All-push, All-weaker, Contains-append_left, Contains-append_right}
@@ -93,7 +93,7 @@ pieces_hold exploring kind class pieces are column fits =
     same : (b : Bool) → has class column ≡ b → some_has (piece_classes pieces) column ≡ has class column
     same true h = (are.columns column).1 (h, fits) ∙ sym h
     same false h = false_from_ne_true (some_has (piece_classes pieces) column)
-        (λ some. let no : false ≡ true = sym h ∙ ((are.columns column).0 some).0 in absurd no) ∙ sym h
+        (λ some. false≢true (sym h ∙ ((are.columns column).0 some).0)) ∙ sym h
 
 -- a piece of the list
 pub piece_from : (exploring : Exploring) (kind : Kind) (class : Class) (pieces : List Piece)

@@ -1,7 +1,10 @@
 -- All candidates are explored from the table of one state that accepts every timeline.
-use Rattle.std.proofs.Common.{◌≡◌, ℕ, ◌<◌, ◌≤◌, false, cond, ◌+◌, ◌-◌, ◌==◌, ne_eqb, List, [], ◌∷◌, ◌++◌, take, length, get_or, refl, ap, sym, ◌∙◌, subst, arith, All, Contains, IsTrue}
+use Rattle.std.proofs.Common.{◌≡◌, ℕ, ◌<◌, ◌≤◌, false, cond, ◌+◌, ◌-◌, ◌==◌, ne_eqb, List, [], ◌∷◌, ◌++◌, take, length, get_or, refl, ap, sym, ◌∙◌, subst, arith, All, Contains, IsTrue, zero, suc, replicate, inl, inr}
 use Rattle.std.proofs.lemmas.Grind.{same_number_lists}
-use Rattle.std.proofs.lemmas.List.{length-take-le}
+use Rattle.std.proofs.lemmas.List.{length-take-le, length-replicate}
+use Rattle.std.proofs.lemmas.List.Elements.{Contains-push_cases}
+use Rattle.tier_core.specs.declared.sym.Sym.TheVariants.{Outside}
+use Rattle.symbol_class.proofs.Filled.{filled_from}
 use Rattle.weight_law.specs.declared.Weight.{Ghosts}
 use Rattle.weight_law.specs.declared.count.Count.{Count}
 use Rattle.weight_law.specs.declared.unit_weight.UnitWeight.{UnitWeight}
@@ -9,7 +12,7 @@ use Rattle.tier_core.specs.declared.kind.Kind.{Kind}
 use Rattle.tier_core.specs.declared.sym.Sym.{Sym}
 use Rattle.arc_table.specs.declared.arc.TableArc.{TableArc}
 use Rattle.arc_table.specs.declared.state.TableState.{TableState}
-use Rattle.arc_table.specs.Conditions.{TargetsExist}
+use Rattle.arc_table.specs.Conditions.{TargetsExist, ClassesFilled}
 use Rattle.arc_table.specs.Moves.{moves_at}
 use Rattle.symbol_class.specs.Parts.{IsAlike}
 use Rattle.tier_core.specs.Kinds.{PrefixKind}
@@ -18,7 +21,7 @@ use Rattle.violation.proofs.CostLemmas.{length_costs}
 use Rattle.violation.specs.Candidates.{IsCandidate}
 use Rattle.violation.specs.Problems.{last_stage}
 use Rattle.kind_moves.specs.declared.frame.Frame.{Frame}
-use Rattle.kind_moves.specs.Frames.{problem_in, kind_at_stage}
+use Rattle.kind_moves.specs.Frames.{tiers_in, problem_in, kind_at_stage}
 use Rattle.kind_moves.specs.Pieces.{cost_under}
 use Rattle.kind_moves.proofs.LawSteps.{prefixes_law}
 use Rattle.stage_laws.specs.StageTables.{name_of}
@@ -26,10 +29,45 @@ use Rattle.stage_laws.specs.FoundTables.{base_of, HaveAllMoves}
 use Rattle.stage_laws.proofs.Complete.{complete_words, complete_on_runs}
 use Rattle.stage_tables.specs.declared.kind_key.KindKey.{KindKey}
 use Rattle.stage_tables.specs.Explored.{names_at, IsComplete}
-use Rattle.stage_tables.specs.Whole.{IsWhole}
+use Rattle.stage_tables.specs.Whole.{IsWhole, IsWholeMove}
 use Rattle.stage_tables.specs.Listed.{IsReached, IsOverOne, IsOfWidth, AreFound, AreTaken}
 use Rattle.stage_tables.proofs.Named.{frame_stage, kind_of_state, name_is, old_move, base_is, weighs, columns_new, new_reached, is_named, all_fit}
 use Rattle.stage_tables.proofs.KeptTables.{path_within}
+
+-- ---- the table
+
+only : {X : Type 0} (y x : X) → Contains (y ∷ []) x → y ≡ x
+only y x here = elim (Contains-push_cases [] y x here) [
+  | inl none ↦ absurd (omega (arith, none.1))
+  | inr same ↦ same
+]
+
+-- one state with one move
+pub whole_states : {g : Ghosts UnitWeight} (frame : Frame) (old states : List (TableState UnitWeight g))
+    (state : TableState UnitWeight g) (arc : TableArc UnitWeight g) → old ≡ [] → states ≡ old ++ state ∷ []
+    → state.arcs.items ≡ arc ∷ [] → IsWholeMove frame arc → IsWhole frame states
+whole_states {g} frame old states state arc none put moves is =
+    subst (λ (xs : List (TableState UnitWeight g)). IsWhole frame xs)
+    (sym (put ∙ ap (λ (xs : List (TableState UnitWeight g)). xs ++ state ∷ []) none)) (record {
+      one = refl;
+      some = (arc, subst (λ (xs : List (TableArc UnitWeight g)). Contains xs arc) (sym moves) (0, omega arith, refl));
+      each = each;
+    })
+  where
+    each : (s : ℕ) (a : TableArc UnitWeight g)
+        → Contains (moves_at (let one : List (TableState UnitWeight g) = state ∷ [] in one) s) a
+        → IsWholeMove frame a
+    each zero a here = subst (IsWholeMove frame) (only arc a
+        (subst (λ (xs : List (TableArc UnitWeight g)). Contains xs a) moves here)) is
+    each (suc s) a here = absurd (omega (arith, here.1))
+
+-- its move is on some column
+pub whole_filled : {g : Ghosts UnitWeight} (frame : Frame) (states : List (TableState UnitWeight g))
+    → IsWhole frame states → ClassesFilled states
+whole_filled frame states whole s arc here =
+    filled_from arc.class (replicate (tiers_in frame).width Outside)
+    ((whole.each s arc here).every (replicate (tiers_in frame).width Outside)
+    (length-replicate (tiers_in frame).width Outside))
 
 -- columns cost the same under all of the first constraints where they do under each
 one_more : (n k : ℕ) → k < n → (k + 1 == 0) ≡ false

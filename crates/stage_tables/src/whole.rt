@@ -1,4 +1,4 @@
-ghost use Rattle.std.specs.Prelude.{◌≡◌, ◌∷◌, [], length, IfOk, List};
+ghost use Rattle.std.specs.Prelude.{◌≡◌, ◌∷◌, [], true, length, IfOk, List};
 ghost use Rattle.tier_core.specs.declared.sym.Sym.{Sym};
 ghost use Rattle.tier_core.specs.Classes.{sets_of, has};
 ghost use Rattle.arc_table.specs.declared.arc.TableArc.{TableArc as ArcOf};

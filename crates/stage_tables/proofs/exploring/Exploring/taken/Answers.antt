@@ -1,4 +1,4 @@
-use Rattle.std.proofs.Common.{◌≡◌, refl, sym, ◌∙◌, subst}
+use Rattle.std.proofs.Common.{◌≡◌, sym, ◌∙◌}
 use Rattle.std.proofs.lemmas.Result.{err_from_is_err_and}
 use Rattle.stage_tables.proofs.Finding.{found_numbered, found_put, found_stays, found_given, taken_move, targets_one}
 use Rattle.stage_tables.proofs.Taking.{piece_stands, piece_reached, piece_weighs}

@@ -1,5 +1,4 @@
-use Rattle.std.proofs.Common.{◌≡◌, length, sym, ◌∙◌, arith}
-use Rattle.std.proofs.lemmas.Result.{err_from_is_err_and}
+use Rattle.std.proofs.Common.{◌≡◌, length, arith}
 use Rattle.stage_tables.proofs.Taking.{none_taken, one_taken, all_taken}
 use Rattle.stage_tables.proofs.exploring.Exploring.taken_arcs.Goals as goal
 

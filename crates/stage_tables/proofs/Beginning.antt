@@ -1,5 +1,5 @@
 -- The start is found, and no state is made.
-use Rattle.std.proofs.Common.{◌≡◌, ℕ, suc, ◌-◌, ◌<◌, ◌≤◌, List, [], ◌∷◌, ◌++◌, Some, None, length, refl, ap, sym, ◌∙◌, subst, arith, inl, inr}
+use Rattle.std.proofs.Common.{◌≡◌, ℕ, ◌-◌, ◌<◌, List, [], ◌∷◌, ◌++◌, Some, None, length, refl, ap, sym, ◌∙◌, subst, arith, inl, inr}
 use Rattle.std.specs.Prelude.{slice_get}
 use Rattle.std.proofs.lemmas.List.{length_push}
 use Rattle.std.proofs.lemmas.Option.{slice_get_within}
@@ -7,18 +7,12 @@ use Rattle.weight_law.specs.declared.Weight.{Ghosts}
 use Rattle.weight_law.specs.declared.count.Count.{Count}
 use Rattle.weight_law.specs.declared.unit_weight.UnitWeight.{UnitWeight}
 use Rattle.tier_core.specs.declared.kind.Kind.{Kind}
-use Rattle.tier_core.specs.Kinds.{PrefixKind}
 use Rattle.arc_table.specs.declared.state.TableState.{TableState}
-use Rattle.violation.specs.Moves.{cut}
-use Rattle.violation.specs.Prefixes.{kind_of}
 use Rattle.kind_moves.specs.declared.frame.Frame.{Frame}
-use Rattle.kind_moves.specs.Frames.{tiers_in, constraints_in, form_in, kind_at_stage, IsStart}
-use Rattle.violation.proofs.CutLemmas.{cut-kind_of}
+use Rattle.kind_moves.specs.Frames.{IsStart}
 use Rattle.stage_tables.specs.declared.kind_key.KindKey.{KindKey}
-use Rattle.stage_tables.specs.Kept.{AreKeptByKinds}
 use Rattle.stage_tables.specs.Listed.{IsAt, AreListed, IsPutLast, IsNumbered, StandsOver, IsReached, AreFound, AreTaken}
 use Rattle.stage_tables.proofs.Listing.{at_cases}
-use Rattle.kind_moves.specs.Frames.{problem_in}
 
 pub nothing_listed : (keys : List KindKey) (kinds : List Kind) (over : List ℕ) → keys ≡ [] → kinds ≡ [] → over ≡ []
     → AreListed keys kinds over

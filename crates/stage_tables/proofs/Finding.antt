@@ -1,7 +1,6 @@
 -- One kind more is found, or one that is listed already.
-use Rattle.std.proofs.Common.{◌≡◌, ◌≢◌, ℕ, suc, ◌+◌, ◌-◌, ◌<◌, ◌≤◌, Bool, List, [], ◌∷◌, ◌++◌, Some, length, get_or, refl, ap, sym, ◌∙◌, subst, arith, ◌⊎◌, inl, inr}
+use Rattle.std.proofs.Common.{◌≡◌, ◌≢◌, ℕ, ◌+◌, ◌<◌, ◌≤◌, Bool, List, [], ◌∷◌, ◌++◌, Some, length, get_or, refl, ap, sym, ◌∙◌, subst, arith, ◌⊎◌, inl, inr}
 use Rattle.std.specs.Prelude.{Contains, AllPairs, IsTrue, slice_get}
-use Rattle.std.specs.List.{AllZip}
 use Rattle.std.proofs.lemmas.Bool.{cases_lt}
 use Rattle.std.proofs.lemmas.List.{length_push}
 use Rattle.std.proofs.lemmas.Option.{slice_get_within, same_Some}
@@ -21,18 +20,14 @@ use Rattle.arc_table.specs.Conditions.{TargetsExist}
 use Rattle.arc_table.specs.Moves.{moves_at, accepting_at}
 use Rattle.arc_table.specs.Runs.{IsPath, Reads}
 use Rattle.arc_table.proofs.Push.{moves_exist, accepting_old, accepting_new, moves_old, moves_new}
-use Rattle.violation.specs.Moves.{FitsKind, moved, cut}
 use Rattle.kind_moves.specs.declared.frame.Frame.{Frame}
-use Rattle.kind_moves.specs.Frames.{tiers_in, constraints_in, form_in, kind_at_stage, FitsAt, IsMove}
+use Rattle.kind_moves.specs.Frames.{tiers_in, kind_at_stage, IsMove}
 use Rattle.kind_moves.specs.Laws.{LeadsTo}
 use Rattle.stage_laws.specs.StageTables.{name_of, cost_of}
 use Rattle.stage_tables.specs.declared.kind_key.KindKey.{KindKey}
 use Rattle.stage_tables.specs.KindKeys.{key_of}
-use Rattle.stage_tables.specs.Kept.{AreKeptByKinds}
 use Rattle.stage_tables.specs.Listed.{IsAt, AreListed, IsPutLast, IsSame, IsNumbered, Stays, StandsOver, IsReached, IsOverOne, AreFound, IsTaken, AreTakenMoves, IsTakenState, AreTargets, AreTaken}
-use Rattle.violation.proofs.CutLemmas.{cut-moved, fits-cut}
 use Rattle.stage_tables.proofs.Keys.{same_told, same_fits}
-use Rattle.stage_tables.proofs.Zips.{zip_weaken}
 use Rattle.stage_tables.proofs.Listing.{at_number, at_last, at_cases, stays_put}
 use Rattle.kind_moves.specs.Frames.{problem_in}
 

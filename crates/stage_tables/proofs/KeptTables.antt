@@ -1,5 +1,5 @@
 -- A kept table whose states are named by kinds is explored.
-use Rattle.std.proofs.Common.{◌≡◌, ℕ, ◌<◌, ◌≤◌, List, [], ◌∷◌, ◌++◌, length, ap, sym, ◌∙◌, subst, arith, Contains, IsTrue}
+use Rattle.std.proofs.Common.{◌≡◌, ℕ, ◌<◌, ◌≤◌, List, [], ◌∷◌, ◌++◌, length, ap, sym, ◌∙◌, arith}
 use Rattle.weight_law.specs.declared.Weight.{Ghosts}
 use Rattle.weight_law.specs.declared.count.Count.{Count}
 use Rattle.weight_law.specs.declared.unit_weight.UnitWeight.{UnitWeight}
@@ -15,11 +15,10 @@ use Rattle.arc_table.specs.declared.state.TableState.{TableState}
 use Rattle.arc_table.specs.Conditions.{TargetsExist}
 use Rattle.arc_table.specs.Runs.{IsPath, Accepts}
 use Rattle.violation.specs.Moves.{is_final, cut}
-use Rattle.violation.specs.Prefixes.{kind_of}
 use Rattle.violation.specs.Problems.{last_stage}
 use Rattle.violation.proofs.CutLemmas.{cut-kind_of}
 use Rattle.kind_moves.specs.declared.frame.Frame.{Frame}
-use Rattle.kind_moves.specs.Frames.{tiers_in, problem_in, kind_at_stage}
+use Rattle.kind_moves.specs.Frames.{problem_in, kind_at_stage}
 use Rattle.kind_moves.proofs.LawSteps.{kinds_law}
 use Rattle.stage_laws.specs.StageTables.{IsStage, name_of}
 use Rattle.stage_laws.specs.FoundTables.{base_of, AreFoundFrom}
@@ -30,7 +29,7 @@ use Rattle.stage_tables.specs.declared.kind_key.KindKey.{KindKey}
 use Rattle.stage_tables.specs.Kept.{AreKeptByKinds}
 use Rattle.stage_tables.specs.Explored.{names_at, IsExplored}
 use Rattle.stage_tables.specs.Listed.{IsReached, IsOverOne, IsOfWidth, AreFound, AreTaken}
-use Rattle.stage_tables.proofs.Named.{frame_stage, names_apart, name_is, kind_of_state, base_is, fits_name, leads, weighs, columns_new, columns_old, new_targets, new_filled, new_reached, each_named, some_state, ends_at, start_named, is_named, all_fit}
+use Rattle.stage_tables.proofs.Named.{frame_stage, names_apart, name_is, kind_of_state, base_is, leads, weighs, columns_new, columns_old, new_targets, new_filled, new_reached, each_named, some_state, ends_at, start_named, is_named, all_fit}
 
 -- a path from a state ends at one
 pub path_within : {W : Type 0} {g : Ghosts W} (states : List (TableState W g)) → TargetsExist states

@@ -1,5 +1,5 @@
 -- The table of all kinds that are found is named and weighed by them.
-use Rattle.std.proofs.Common.{◌≡◌, ◌≢◌, ℕ, ◌+◌, ◌-◌, ◌<◌, ◌≤◌, Bool, true, false, List, [], ◌++◌, map, length, get_or, refl, ap, sym, ◌∙◌, subst, arith, inl, inr}
+use Rattle.std.proofs.Common.{◌≡◌, ◌≢◌, ℕ, ◌<◌, ◌≤◌, Bool, true, false, List, [], ◌++◌, map, length, get_or, refl, ap, sym, ◌∙◌, subst, arith, inl, inr}
 use Rattle.std.specs.Prelude.{All, Contains, AllPairs, IsTrue}
 use Rattle.std.proofs.lemmas.Bool.{cases_lt}
 use Rattle.std.proofs.lemmas.List.{length-map, get_or_past}
@@ -11,7 +11,7 @@ use Rattle.weight_law.specs.declared.unit_weight.UnitWeight.{UnitWeight}
 use Rattle.tier_core.specs.declared.kind.Kind.{Kind}
 use Rattle.tier_core.specs.declared.sym.Sym.{Sym}
 use Rattle.tier_core.specs.Kinds.{PrefixKind}
-use Rattle.tier_core.specs.Classes.{has, sets_of, AreDisjoint}
+use Rattle.tier_core.specs.Classes.{has, AreDisjoint}
 use Rattle.symbol_class.specs.Held.{some_has, times_held}
 use Rattle.symbol_class.proofs.Times.{none_held, once_from_apart, apart_from_once, some_from_same}
 use Rattle.arc_table.specs.declared.arc.TableArc.{TableArc}
@@ -24,7 +24,7 @@ use Rattle.violation.specs.Prefixes.{kind_of}
 use Rattle.violation.specs.Problems.{last_stage}
 use Rattle.violation.proofs.SplitLemmas.{tiers_split}
 use Rattle.kind_moves.specs.declared.frame.Frame.{Frame}
-use Rattle.kind_moves.specs.Frames.{tiers_in, problem_in, kind_at_stage, FitsFrame}
+use Rattle.kind_moves.specs.Frames.{problem_in, kind_at_stage, FitsFrame}
 use Rattle.kind_moves.proofs.GrammarTiers.{over_tiers, form_from}
 use Rattle.kind_moves.proofs.LawSteps.{kinds_law}
 use Rattle.stage_laws.specs.StageTables.{IsStage, name_of, cost_of, AreNamedByKinds, AreWeighed}

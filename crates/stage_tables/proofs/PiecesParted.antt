@@ -1,8 +1,8 @@
 -- Pieces that are parted by one constraint after another.
-use Rattle.std.proofs.Common.{◌≡◌, ◌↔◌, ℕ, ◌+◌, ◌<◌, ◌≤◌, Bool, true, false, List, [], ◌∷◌, ◌++◌, take, map, length, get_or, refl, ap, sym, ◌∙◌, subst, arith, inl, inr, All, Contains, IsTrue}
+use Rattle.std.proofs.Common.{◌≡◌, ◌↔◌, ℕ, ◌+◌, ◌<◌, ◌≤◌, Bool, true, false, List, [], ◌∷◌, ◌++◌, take, length, get_or, refl, ap, sym, ◌∙◌, subst, arith, inl, inr, All, IsTrue}
 use Rattle.std.proofs.lemmas.Bool.{false≢true, cases_lt, false_from_ne_true}
 use Rattle.std.proofs.lemmas.List.{append-nil, append_assoc, map-append, take_more, get_or-map, length-map}
-use Rattle.std.proofs.lemmas.List.Elements.{All-nil, All-append, All-push, Contains-append_left, Contains-append_right, Contains-push, All-contains, All-map}
+use Rattle.std.proofs.lemmas.List.Elements.{All-nil, All-append, All-push, Contains-append_left, Contains-push, All-contains, All-map}
 use Rattle.std.proofs.lemmas.List.Folds.{list_any_at}
 use Rattle.std.proofs.Math.Seq.{take-length}
 use Rattle.tier_core.specs.declared.class.Class.{Class}
@@ -10,7 +10,7 @@ use Rattle.tier_core.specs.declared.kind.Kind.{Kind}
 use Rattle.tier_core.specs.declared.sym.Sym.{Sym}
 use Rattle.tier_core.specs.Classes.{sets_of, has}
 use Rattle.symbol_class.specs.Filled.{is_filled}
-use Rattle.symbol_class.specs.Held.{some_has, times_held, once_if, ArePieces}
+use Rattle.symbol_class.specs.Held.{some_has, times_held, ArePieces}
 use Rattle.symbol_class.specs.Parts.{IsAlike}
 use Rattle.symbol_class.proofs.Times.{times-cons, times-append, once_from_apart, some_from_same, pieces_from_once}
 use Rattle.kind_moves.specs.declared.frame.Frame.{Frame}

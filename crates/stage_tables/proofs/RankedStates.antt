@@ -1,6 +1,6 @@
 -- The states of the table of a single pass, one after another.
-use Rattle.std.proofs.Common.{◌≡◌, ℕ, ◌+◌, ◌-◌, ◌<◌, ◌≤◌, List, [], ◌∷◌, ◌++◌, take, length, get_or, refl, sym, ap, ◌∙◌, subst, arith, inl, inr, take_all}
-use Rattle.std.specs.Prelude.{All, Contains, IsTrue}
+use Rattle.std.proofs.Common.{◌≡◌, ℕ, ◌+◌, ◌<◌, ◌≤◌, List, [], ◌∷◌, ◌++◌, take, length, get_or, sym, ap, ◌∙◌, subst, arith, inl, inr, take_all}
+use Rattle.std.specs.Prelude.{All, IsTrue}
 use Rattle.std.specs.List.{AllZip}
 use Rattle.std.proofs.lemmas.Bool.{cases_lt}
 use Rattle.std.proofs.lemmas.List.{take_more, length_push, get_or_default, get_or-map, length-map}
@@ -11,11 +11,9 @@ use Rattle.weight_law.specs.declared.ranked.Ranked.{Ranked}
 use Rattle.weight_law.specs.Ranked.{padded}
 use Rattle.tier_core.specs.declared.class.Class.{Class}
 use Rattle.tier_core.specs.declared.kind.Kind.{Kind}
-use Rattle.tier_core.specs.declared.sym.Sym.{Sym}
 use Rattle.tier_core.specs.Classes.{has}
 use Rattle.symbol_class.specs.Parts.{IsAlike as IsAlikeOn}
 use Rattle.tier_core.specs.Kinds.{PrefixKind}
-use Rattle.arc_table.specs.declared.arc.TableArc.{TableArc}
 use Rattle.arc_table.specs.declared.state.TableState.{TableState}
 use Rattle.arc_table.specs.Moves.{moves_at, accepting_at}
 use Rattle.arc_table.proofs.Push.{accepting_old, accepting_new, moves_old, moves_new, moves_exist}
@@ -25,7 +23,7 @@ use Rattle.kind_moves.specs.Frames.{kind_at_stage, FitsFrame, problem_in}
 use Rattle.stage_laws.specs.StageTables.{name_of}
 use Rattle.stage_laws.specs.RankedTables.{AreWeighedByAll, IsRankedTable}
 use Rattle.stage_tables.specs.Explored.{names_at}
-use Rattle.stage_tables.specs.Ranking.{costs_at, kind_numbered, AreColumnsOf, IsRankedMove, AreRankedStates, IsWholeTable}
+use Rattle.stage_tables.specs.Ranking.{kind_numbered, AreColumnsOf, IsRankedMove, AreRankedStates, IsWholeTable}
 use Rattle.stage_tables.proofs.Alike.{IsAlike, AreAlike, alike_on_runs, alike_named, alike_words}
 use Rattle.stage_tables.proofs.Zips.{zip_push, zip_from, zip_weaken}
 use Rattle.violation.specs.Problems.{last_stage}

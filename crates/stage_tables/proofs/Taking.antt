@@ -1,9 +1,9 @@
 -- Moves that are taken one by one.
-use Rattle.std.proofs.Common.{◌≡◌, ℕ, zero, suc, ◌+◌, ◌-◌, ◌==◌, cond, ne_eqb, ◌<◌, ◌≤◌, Bool, true, false, List, [], ◌∷◌, ◌++◌, take, length, map, get_or, refl, ap, sym, ◌∙◌, subst, arith, inl, inr, All, Contains, IsTrue}
+use Rattle.std.proofs.Common.{◌≡◌, ℕ, zero, suc, ◌+◌, ◌-◌, ◌==◌, cond, ne_eqb, ◌<◌, ◌≤◌, Bool, true, false, List, [], ◌∷◌, ◌++◌, take, length, get_or, refl, ap, sym, ◌∙◌, subst, arith, inl, inr, All, Contains, IsTrue}
 use Rattle.std.proofs.lemmas.Bool.{false≢true, cases_lt, false_from_ne_true}
 use Rattle.std.proofs.lemmas.List.Folds.{list_any_at}
 use Rattle.std.proofs.lemmas.List.{get_or-map, length-map, take_more, append-nil, append_assoc, map-append}
-use Rattle.std.proofs.lemmas.List.Elements.{All-nil, All-append, All-push, All-weaker, Contains-append_left, Contains-append_right}
+use Rattle.std.proofs.lemmas.List.Elements.{All-nil, All-append, All-push, Contains-append_left, Contains-append_right}
 use Rattle.std.proofs.Math.Seq.{take-length}
 use Rattle.weight_law.specs.declared.Weight.{Ghosts}
 use Rattle.weight_law.specs.declared.count.Count.{Count}
@@ -30,7 +30,7 @@ use Rattle.kind_moves.specs.Frames.{problem_in, tiers_in, kind_at_stage, FitsAt}
 use Rattle.kind_moves.specs.Pieces.{classes_of as piece_classes}
 use Rattle.stage_tables.specs.declared.exploring.Exploring.{Exploring}
 use Rattle.stage_tables.specs.declared.listed.Listed.{Listed}
-use Rattle.stage_tables.specs.Listed.{StandsOver, IsReached, AreTargets, IsTaken, IsTakenFrom, AreTakenMoves, classes_of, Stays}
+use Rattle.stage_tables.specs.Listed.{StandsOver, IsReached, AreTargets, IsTaken, IsTakenFrom, AreTakenMoves, classes_of}
 use Rattle.stage_tables.specs.Exploring.{IsFoundWithin, StaysListed, ArePiecesFrom, IsPieceFrom, AddsTaken}
 use Rattle.stage_tables.proofs.Finding.{next_stands, next_reached, taken_stays, moves_taken_stay}
 

@@ -1,5 +1,5 @@
 -- All candidates are explored from the table of one state that accepts every timeline.
-use Rattle.std.proofs.Common.{◌≡◌, ℕ, ◌<◌, ◌≤◌, false, cond, ◌+◌, ◌-◌, ◌==◌, ne_eqb, List, [], ◌∷◌, ◌++◌, take, length, get_or, refl, ap, sym, ◌∙◌, subst, arith, All, Contains, IsTrue, zero, suc, replicate, inl, inr}
+use Rattle.std.proofs.Common.{◌≡◌, ℕ, ◌<◌, ◌≤◌, false, cond, ◌+◌, ◌-◌, ◌==◌, ne_eqb, List, [], ◌∷◌, ◌++◌, take, length, get_or, refl, ap, sym, ◌∙◌, subst, arith, Contains, zero, suc, replicate, inl, inr}
 use Rattle.std.proofs.lemmas.Grind.{same_number_lists}
 use Rattle.std.proofs.lemmas.List.{length-take-le, length-replicate}
 use Rattle.std.proofs.lemmas.List.Elements.{Contains-push_cases}
@@ -41,6 +41,10 @@ only y x here = elim (Contains-push_cases [] y x here) [
   | inl none ↦ absurd (omega (arith, none.1))
   | inr same ↦ same
 ]
+
+-- what is put behind nothing is first
+pub put_first : {X : Type 0} (old new : List X) (x : X) → old ≡ [] → new ≡ old ++ x ∷ [] → new ≡ x ∷ []
+put_first {X} old new x none put = put ∙ ap (λ (xs : List X). xs ++ x ∷ []) none
 
 -- one state with one move
 pub whole_states : {g : Ghosts UnitWeight} (frame : Frame) (old states : List (TableState UnitWeight g))

@@ -15,7 +15,7 @@ use Rattle.arc_table.specs.Runs.{Accepts, IsOnRun}
 use Rattle.violation.specs.Candidates.{IsCandidate}
 use Rattle.violation.specs.Prefixes.{kind_of}
 use Rattle.kind_moves.specs.declared.frame.Frame.{Frame}
-use Rattle.kind_moves.specs.Frames.{tiers_in, constraints_in, form_in, kind_at_stage, FitsFrame}
+use Rattle.kind_moves.specs.Frames.{kind_at_stage, FitsFrame}
 use Rattle.stage_laws.specs.StageTables.{name_of, AreNamedByKinds, AreWeighed}
 use Rattle.kind_moves.specs.Frames.{problem_in}
 

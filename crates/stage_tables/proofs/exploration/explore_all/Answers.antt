@@ -17,8 +17,8 @@ pub invariant_of-exploring-clause-wide : goal.invariant_of-exploring-clause-wide
 invariant_of-exploring-clause-wide c =
     whole_wide c.args.frame.now c.args.stage c.requires.stage (states_of c.in-Ok.whole) c.in-Ok.ensures
 
-pub returns-in-Ok-clause-complete : goal.returns-in-Ok-clause-complete
-returns-in-Ok-clause-complete c =
+pub returns-clause-complete : goal.returns-clause-complete
+returns-clause-complete c =
     let frame = c.args.frame.now in
     let kept = states_of c.in-Ok.whole in
     IfOk-weaker c.explored.result _
@@ -27,8 +27,8 @@ returns-in-Ok-clause-complete c =
     is.found (states_of found.table) is.taken is.all (omega arith))
     c.explored.ensures.found
 
-pub returns-in-Ok-clause-over : goal.returns-in-Ok-clause-over
-returns-in-Ok-clause-over c =
+pub returns-clause-over : goal.returns-clause-over
+returns-clause-over c =
     let frame = c.args.frame.now in
     let kept = states_of c.in-Ok.whole in
     IfErr-weaker c.explored.result _

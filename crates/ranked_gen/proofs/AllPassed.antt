@@ -1,5 +1,5 @@
 -- With no constraint, each pair of a place in the form and a set of open free tiers is the kind of a prefix.
-use Rattle.std.proofs.Common.{◌≡◌, ℕ, zero, suc, ◌+◌, ◌<◌, ◌≤◌, ◌≢◌, ◌==◌, ◌⊎◌, Bool, true, false, List, [], ◌∷◌, ◌++◌, map, length, take, get_or, Contains, refl, sym, ap, ap₂, ◌∙◌, inl, inr, ⊎_elim, ext_get_or, append-nil, arith}
+use Rattle.std.proofs.Common.{◌≡◌, ℕ, zero, suc, ◌+◌, ◌<◌, ◌≤◌, ◌≢◌, ◌==◌, ◌⊎◌, Bool, true, false, List, [], ◌∷◌, ◌++◌, map, length, take, get_or, Contains, refl, sym, ap, ap₂, ◌∙◌, inl, inr, ⊎_elim, ext_get_or, append-nil, arith, cond, ne_eqb, eq-eqb}
 use Rattle.std.specs.List.{AllByRecursion, list_any}
 use Rattle.std.proofs.lemmas.Bool.{false≢true, cases_lt, cond-true, cond-false, eq-eqb, ne_eqb, and_parts, and_from}
 use Rattle.std.proofs.lemmas.List.{length-map, length-append, length-take-le, map-append, take-map, take-append-le, get_or-map}
@@ -25,8 +25,20 @@ use Rattle.ranked_gen.specs.WideColumns.{widened}
 use Rattle.ranked_gen.proofs.WidenedColumns.{over, all_at, all_mapped, on_nothing, not_listed, length_over, symbol_over, word_flagged, word_outside, part_bare, over_runs, over_reduced, squeeze_over}
 use Rattle.violation.proofs.StageLemmas.{all_optimal}
 use Rattle.ranked_gen.proofs.BareForm.{bare_form, bare_candidate}
-use Rattle.ranked_gen.proofs.MoveMembers.{flags_on}
+use Rattle.tier_core.proofs.CountLemmas.{all_weaker}
 use Rattle.violation.specs.Problems.{last_place, Problem}
+
+-- flags of tiers that stand once
+flags_on : (xs : List ℕ) (flags : List Bool) → AreDistinct xs → length flags ≡ length xs
+    → map (flag_of xs flags) xs ≡ flags
+flags_on [] [] d e = refl
+flags_on [] (s ∷ flags) d e = absurd (omega arith)
+flags_on (x ∷ xs) [] d e = absurd (omega arith)
+flags_on (x ∷ xs) (s ∷ flags) d e =
+    ap (λ y. y ∷ map (flag_of (x ∷ xs) (s ∷ flags)) xs) (ap (λ b. cond b s (flag_of xs flags x)) (eq-eqb x x refl))
+    ∙ ap (λ ys. s ∷ ys)
+    (map_agree _ _ xs (all_weaker (λ t. x ≢ t) _ xs (λ t n. ap (λ b. cond b s (flag_of xs flags t)) (ne_eqb x t n)) d.0)
+    ∙ flags_on xs flags d.1 (omega arith))
 
 -- the form's columns between a start and an end on the tiers of the flags
 abbrev pub marked : Problem → (ℕ → Bool) → List (List Sym)

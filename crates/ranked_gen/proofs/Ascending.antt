@@ -1,11 +1,13 @@
 -- Lists that ascend strictly.
-use Rattle.std.proofs.Common.{◌≡◌, ℕ, zero, suc, ◌+◌, ◌-◌, ◌<◌, ◌≤◌, Bool, true, false, cond, List, [], ◌∷◌, ◌++◌, map, filter, ap, sym, ◌∙◌, arith, ⊎_elim, Contains}
+use Rattle.std.proofs.Common.{◌≡◌, ℕ, zero, suc, ◌+◌, ◌-◌, ◌<◌, ◌≤◌, Bool, true, false, cond, List, [], ◌∷◌, ◌++◌, map, filter, refl, ap, sym, ◌∙◌, arith, ⊎_elim, Contains}
 use Rattle.std.specs.List.{flat_map, AllByRecursion, range_with_len}
 use Rattle.std.specs.List.Sorted.{IsStrictlySortedBy}
-use Rattle.std.specs.Ordering.{nat_cmp}
+use Rattle.std.specs.Ordering.{nat_cmp, ordering_then, is_lt}
 use Rattle.std.specs.Cmp.{nat_cmp_is}
+use Rattle.std.specs.Cmp.Lexicographic.{slice_cmp}
+use Rattle.std.proofs.lemmas.Bool.{false≢true, cases_order}
 use Rattle.std.specs.declared.cmp.Ordering.{Ordering}
-use Rattle.std.specs.declared.cmp.Ordering.TheVariants.{Less}
+use Rattle.std.specs.declared.cmp.Ordering.TheVariants.{Less, Equal, Greater}
 use Rattle.std.proofs.lemmas.List.FromFn.{length-range_with_len, get_or-range_with_len}
 use Rattle.std.proofs.lemmas.List.Elements.{Contains-append_cases}
 use Rattle.kind_orders.proofs.Members.{contains_of_map}
@@ -89,3 +91,17 @@ ascends_range m (suc n) = (
       (λ y h. let r = in_range (m + 1) n y h in sym (nat_cmp_is m y Less (omega (arith, r.0)))),
   ascends_range (m + 1) n,
 )
+
+-- numbers by their order
+pub nat_less : (a b : ℕ) → nat_cmp a b ≡ Less → a < b
+nat_less a b e = ⊎_elim (λ same. absurd (differ Equal refl (nat_cmp_is a b Equal same ∙ e)))
+    (λ other. ⊎_elim (λ l. l) (λ g. absurd (differ Greater refl (nat_cmp_is a b Greater g ∙ e))) other)
+    (cases_order a b)
+  where
+    differ : (o : Ordering) → is_lt o ≡ false → o ≡ Less → ⊥
+    differ o h l = false≢true (sym h ∙ ap is_lt l)
+
+pub slice_same : (xs : List ℕ) → slice_cmp nat_cmp xs xs ≡ Equal
+slice_same [] = refl
+slice_same (x ∷ xs) = ap (λ o. ordering_then o (slice_cmp nat_cmp xs xs)) (sym (nat_cmp_is x x Equal refl))
+    ∙ slice_same xs

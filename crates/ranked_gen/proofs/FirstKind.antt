@@ -12,9 +12,9 @@ use Rattle.tier_core.specs.declared.constraint.Constraint.{Constraint}
 use Rattle.tier_core.specs.Timelines.{word}
 use Rattle.tier_core.specs.Tiers.{Tiers}
 use Rattle.tier_core.specs.Kinds.{closed, PrefixKind, open_rank, phase_rank, kind_order}
+use Rattle.ranked_gen.proofs.Ascending.{nat_less}
 use Rattle.violation.specs.Conditions.{IsOverTiers}
 use Rattle.violation.specs.Prefixes.{is_open, phase, kind_of, stretches}
-use Rattle.ranked_gen.proofs.MoveList.{nat_less}
 use Rattle.violation.specs.Problems.{Problem}
 
 less_none : Equal ≡ Less → ⊥

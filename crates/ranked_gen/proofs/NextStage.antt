@@ -63,15 +63,15 @@ module _ (frame : Frame) (r : ℕ) (within : r + 1 ≤ last_stage (problem_in fr
     (filled : ClassesFilled kept)
     (by : IsKept (problem_in frame) r kept)
     (accepts : (T : List (List Sym)) → Accepts kept T ↔ IsOptimalFor (problem_in frame) r T) (budget : ℕ) where
-  next_over : IsOverBudget frame (r + 1) kept budget → IsOver (problem_in frame) budget (r + 1)
+  next_over : IsOverBudget frame (r + 1) (Accepts kept) budget → IsOver (problem_in frame) budget (r + 1)
   next_over over =
       over_budget (problem_in frame) r (frame_stage frame r (omega arith))
       (frame_stage frame (r + 1) within) by.0 kept some targets filled by.1 accepts budget over.kinds
       (pairs_differ over.kinds over.distinct)
-      (λ k c. let m = All-contains (IsMet frame (r + 1) kept) over.kinds k over.met c in
+      (λ k c. let m = All-contains (IsMet frame (r + 1) (Accepts kept)) over.kinds k over.met c in
       (m.prefix, (m.rest, (m.accepted, m.of_kind))))
       over.more
 
-  pub stage_over : (stage : ℕ) → r + 1 ≡ stage → IsOverBudget frame stage kept budget
+  pub stage_over : (stage : ℕ) → r + 1 ≡ stage → IsOverBudget frame stage (Accepts kept) budget
       → IsOver (problem_in frame) budget stage
-  stage_over stage e = subst (λ n. IsOverBudget frame n kept budget → IsOver (problem_in frame) budget n) e next_over
+  stage_over stage e = subst (λ n. IsOverBudget frame n (Accepts kept) budget → IsOver (problem_in frame) budget n) e next_over

@@ -5,19 +5,16 @@ use Rattle.std.specs.List.{AllByRecursion}
 use Rattle.std.proofs.lemmas.List.Elements.{All-contains, All-from_recursion}
 use Rattle.std.proofs.lemmas.List.Kept.{AllPairs-cons}
 use Rattle.std.specs.Prelude.{◌↔◌}
-use Rattle.weight_law.specs.declared.Weight.{Ghosts}
-use Rattle.weight_law.specs.declared.unit_weight.UnitWeight.{UnitWeight}
 use Rattle.tier_core.specs.declared.sym.Sym.{Sym}
 use Rattle.tier_core.specs.declared.constraint.Constraint.{Constraint}
 use Rattle.tier_core.specs.Kinds.{PrefixKind, kind_order}
 use Rattle.tier_core.specs.Tiers.{Tiers}
-use Rattle.arc_table.specs.declared.state.TableState.{TableState}
-use Rattle.arc_table.specs.Runs.{Accepts}
-use Rattle.violation.specs.Candidates.{IsOptimalFor}
+use Rattle.violation.specs.Candidates.{IsCandidate}
 use Rattle.violation.specs.Moves.{cut}
 use Rattle.violation.specs.Prefixes.{kind_of}
 use Rattle.violation.specs.Rests.{IsWholeKind, AreWholeKindsOver, AreWholeKindsWithin}
 use Rattle.violation.specs.Stages.{IsPassed}
+use Rattle.violation.proofs.StageLemmas.{all_optimal}
 use Rattle.violation.proofs.CutLemmas.{cut-kind_of}
 use Rattle.kind_moves.specs.declared.frame.Frame.{Frame}
 use Rattle.kind_moves.specs.Frames.{problem_in}
@@ -87,11 +84,10 @@ module _ (problem : Problem) where
       omega (arith, most, few)
 
 -- more kinds than the budget are met while all candidates are explored
-pub met_over_whole : {g : Ghosts UnitWeight} (frame : Frame) (kept : List (TableState UnitWeight g))
-    → ((T : List (List Sym)) → Accepts kept T ↔ IsOptimalFor (problem_in frame) 0 T)
-    → (budget : ℕ) → IsOverBudget frame (last_stage (problem_in frame)) kept budget
+pub met_over_whole : (frame : Frame) (budget : ℕ)
+    → IsOverBudget frame (last_stage (problem_in frame)) (IsCandidate (problem_in frame)) budget
     → AreWholeKindsOver (problem_in frame) budget
-met_over_whole frame kept accepts budget over = record {
+met_over_whole frame budget over = record {
   kinds = over.kinds;
   distinct = over.distinct;
   each = λ i d l.
@@ -100,7 +96,7 @@ met_over_whole frame kept accepts budget over = record {
         candidate = m.prefix ++ m.rest;
         columns = length m.prefix;
         passes = record {
-          optimal = (accepts (m.prefix ++ m.rest)).0 m.accepted;
+          optimal = all_optimal (problem_in frame) (m.prefix ++ m.rest) m.accepted;
           within = omega (arith, length-append m.prefix m.rest);
           of_kind = ap (kind_of (problem_in frame) (last_stage (problem_in frame)))
               (take_at m.prefix m.rest (length m.prefix) refl) ∙ m.of_kind;

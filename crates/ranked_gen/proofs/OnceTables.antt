@@ -3,44 +3,39 @@ use Rattle.std.proofs.Common.{◌≡◌, ◌↔◌, ℕ, ◌≤◌, List, map, l
 use Rattle.std.proofs.lemmas.List.{length-map}
 use Rattle.weight_law.specs.declared.Weight.{Ghosts}
 use Rattle.weight_law.specs.declared.count.Count.{Count}
-use Rattle.weight_law.specs.declared.unit_weight.UnitWeight.{UnitWeight}
 use Rattle.tier_core.specs.declared.kind.Kind.{Kind}
 use Rattle.tier_core.specs.declared.sym.Sym.{Sym}
 use Rattle.arc_table.specs.declared.state.TableState.{TableState}
 use Rattle.arc_table.specs.Runs.{Accepts}
-use Rattle.violation.specs.Candidates.{IsOptimalFor}
+use Rattle.violation.specs.Candidates.{IsCandidate, IsOptimalFor}
 use Rattle.violation.specs.Problems.{last_stage}
 use Rattle.violation.specs.Rests.{AreWholeKindsWithin, AreWholeKindsOver}
 use Rattle.violation.proofs.StageLemmas.{all_optimal}
 use Rattle.kind_moves.specs.declared.frame.Frame.{Frame}
 use Rattle.kind_moves.specs.Frames.{problem_in, kind_at_stage}
 use Rattle.stage_laws.proofs.Naming.{names_law}
-use Rattle.stage_tables.specs.Explored.{names_at, IsExplored, IsOverBudget}
+use Rattle.stage_tables.specs.Explored.{names_at, IsComplete, IsOverBudget}
 use Rattle.stage_tables.specs.Ranking.{IsWholeTable}
 use Rattle.stage_tables.proofs.Named.{frame_stage}
 use Rattle.ranked_gen.proofs.OnceBudgets.{names_within, met_over_whole}
 
-module _ (frame : Frame) {g : Ghosts UnitWeight} (kept : List (TableState UnitWeight g))
-    (accepts : (T : List (List Sym)) → Accepts kept T ↔ IsOptimalFor (problem_in frame) 0 T) where
+module _ (frame : Frame) where
   last_table : {h : Ghosts Count} (kinds : List Kind) (states : List (TableState Count h))
-      → IsExplored frame (last_stage (problem_in frame)) kept kinds states → IsWholeTable frame kinds states
-  last_table kinds states explored = record {
-    named = explored.named;
-    fit = explored.fit;
-    accepts = λ T. (
-      λ a. ((accepts T).0 ((explored.accepts T).0 a)).candidate,
-      λ c. (explored.accepts T).1 ((accepts T).1 (all_optimal (problem_in frame) T c)),
-    );
-    on_runs = explored.on_runs;
-    single = explored.single;
+      → IsComplete frame (last_stage (problem_in frame)) kinds states → IsWholeTable frame kinds states
+  last_table kinds states complete = record {
+    named = complete.named;
+    fit = complete.fit;
+    accepts = complete.accepts;
+    on_runs = complete.on_runs;
+    alike = complete.alike;
   }
 
   -- what is explored is the table of all candidates
   pub whole_table : {h : Ghosts Count} (stage : ℕ) → stage ≡ last_stage (problem_in frame)
-      → (kinds : List Kind) (states : List (TableState Count h)) → IsExplored frame stage kept kinds states
+      → (kinds : List Kind) (states : List (TableState Count h)) → IsComplete frame stage kinds states
       → IsWholeTable frame kinds states
-  whole_table stage is kinds states explored = last_table kinds states
-      (subst (λ n. IsExplored frame n kept kinds states) is explored)
+  whole_table stage is kinds states complete = last_table kinds states
+      (subst (λ n. IsComplete frame n kinds states) is complete)
 
   -- and has no more kinds than the budget where no more are found
   pub whole_within : {h : Ghosts Count} (kinds : List Kind) (states : List (TableState Count h))
@@ -59,6 +54,7 @@ module _ (frame : Frame) {g : Ghosts UnitWeight} (kept : List (TableState UnitWe
       (omega (arith, few, length-map kinds (kind_at_stage frame (last_stage problem))))
 
   pub whole_over : (stage : ℕ) → stage ≡ last_stage (problem_in frame) → (budget : ℕ)
-      → IsOverBudget frame stage kept budget → AreWholeKindsOver (problem_in frame) budget
-  whole_over stage is budget over = met_over_whole frame kept accepts budget
-      (subst (λ n. IsOverBudget frame n kept budget) is over)
+      → IsOverBudget frame stage (IsCandidate (problem_in frame)) budget
+      → AreWholeKindsOver (problem_in frame) budget
+  whole_over stage is budget over = met_over_whole frame budget
+      (subst (λ n. IsOverBudget frame n (IsCandidate (problem_in frame)) budget) is over)

@@ -16,10 +16,8 @@ use Rattle.tier_core.specs.Sides.{is_stretch}
 use Rattle.arc_table.specs.declared.arc.TableArc.{TableArc}
 use Rattle.arc_table.specs.declared.state.TableState.{TableState}
 use Rattle.arc_table.specs.Conditions.{TargetsExist, ClassesFilled}
-use Rattle.symbol_class.specs.FirstColumn.{first_column}
 use Rattle.arc_table.specs.Moves.{moves_at}
 use Rattle.arc_table.specs.Runs.{Accepts, IsPath, Reads}
-use Rattle.symbol_class.proofs.Filled.{has-first_column}
 use Rattle.prune_best.proofs.Words.{some_word}
 use Rattle.violation.specs.Candidates.{IsCandidate, IsOptimalFor}
 use Rattle.violation.specs.Moves.{moved, cut}
@@ -35,7 +33,8 @@ use Rattle.stage_laws.proofs.Paths.{IsParted, parted, joined_run, joined_reads, 
 use Rattle.stage_tables.specs.Kept.{AreKeptByKinds}
 use Rattle.kind_orders.proofs.Members.{contains_map, contains_of_map}
 use Rattle.ranked_gen.specs.Budgets.{IsOver}
-use Rattle.ranked_gen.proofs.MemberLemmas.{contains_first, contains_later, contains_flat}
+use Rattle.ranked_gen.proofs.MemberLemmas.{contains_first, contains_later, contains_flat, contains_of_flat}
+use Rattle.ranked_gen.proofs.ClassColumns.{columns_in, in_columns, of_columns}
 use Rattle.ranked_gen.proofs.Ascending.{sorted_from, range_has}
 use Rattle.ranked_gen.proofs.FewKinds.{Differ, no_longer}
 use Rattle.ranked_gen.proofs.SortedKinds.{one_or_other, sorted_kinds}
@@ -121,9 +120,14 @@ module _ (problem : Problem) (r : ℕ) (stage : IsStage problem r) (next : IsSta
   named = by.named
 
   -- where a place goes on to
+  abbrev step : PrefixKind → TableArc UnitWeight g → List Sym → Place
+  step k arc column = (arc.target, moved problem (r + 1) k column)
+
+  abbrev steps : PrefixKind → TableArc UnitWeight g → List Place
+  steps k arc = map (step k arc) (columns_in arc.class)
+
   abbrev onward : Place → List Place
-  onward (s, k) = map (λ (arc : TableArc UnitWeight g).
-      (arc.target, moved problem (r + 1) k (first_column arc.class))) (moves_at kept s)
+  onward (s, k) = flat_map (steps k) (moves_at kept s)
 
   -- a place that is gone to by the columns of a path
   record IsGone (x : Place) : Type 0 where
@@ -136,22 +140,20 @@ module _ (problem : Problem) (r : ℕ) (stage : IsStage problem r) (next : IsSta
 
   goes_on : (x y : Place) → IsGone x → Contains (onward x) y → IsGone y
   goes_on (s, k) y gone c =
-      let a = contains_of_map (λ (arc : TableArc UnitWeight g).
-      (arc.target, moved problem (r + 1) k (first_column arc.class))) (moves_at kept s) y c in
+      let a = contains_of_flat (steps k) (moves_at kept s) y c in
       let arc : TableArc UnitWeight g = a.0 in
-      let column = first_column arc.class in
-      let z : Place = (arc.target, moved problem (r + 1) k column) in
-      let there : IsGone z = record {
+      let b = contains_of_map (step k arc) (columns_in arc.class) y a.1.1 in
+      let column : List Sym = b.0 in
+      let there : IsGone (step k arc column) = record {
         inside = targets s arc a.1.0;
         columns = gone.columns ++ column ∷ [];
         arcs = gone.arcs ++ arc ∷ [];
         path = path_push kept gone.arcs 0 s arc gone.path a.1.0;
-        reads = reads_push gone.arcs arc gone.columns column gone.reads
-            (has-first_column arc.class (filled s arc a.1.0), tt);
+        reads = reads_push gone.arcs arc gone.columns column gone.reads (of_columns arc.class column b.1.0, tt);
         tells = reached_push problem (r + 1) (kind_of problem (r + 1) []) gone.columns column
             ∙ ap (λ q. moved problem (r + 1) q column) gone.tells;
       } in
-      subst IsGone a.1.1 there
+      subst IsGone b.1.1 there
 
   -- a run goes on from it, so its columns begin an r-optimal candidate
   begun : (x : Place) → (gone : IsGone x) → (q : List (List Sym)) × IsOptimalFor problem r (gone.columns ++ q)
@@ -238,15 +240,10 @@ module _ (problem : Problem) (r : ℕ) (stage : IsStage problem r) (next : IsSta
     stays [] (column ∷ p) s t k path reads c = absurd reads
     stays (arc ∷ arcs) [] s t k path reads c = absurd reads
     stays (arc ∷ arcs) (column ∷ p) s t k path reads c =
-        let step : TableArc UnitWeight g
-        → Place = λ arc. (arc.target, moved problem (r + 1) k (first_column arc.class)) in
-        let one : first_column arc.class
-        ≡ column = by.single s arc path.0 (first_column arc.class) column
-        (has-first_column arc.class (filled s arc path.0)) reads.0 in
-        let here : Contains all (step arc) = is.onward (s, k) (step arc) c
-        (contains_map step (moves_at kept s) arc path.0) in
-        stays arcs p arc.target t (moved problem (r + 1) k column) path.1 reads.1
-        (subst (λ x. Contains all (arc.target, moved problem (r + 1) k x)) one here)
+        let here : Contains all (step k arc column) = is.onward (s, k) (step k arc column) c
+        (contains_flat (steps k) (moves_at kept s) arc (step k arc column) path.0
+        (contains_map (step k arc) (columns_in arc.class) column (in_columns arc.class column reads.0))) in
+        stays arcs p arc.target t (moved problem (r + 1) k column) path.1 reads.1 here
 
     kinds_all : (k : PrefixKind) → Contains (map (λ (x : Place). x.1) all) k ↔ IsPassed problem r (r + 1) k
     kinds_all k = (

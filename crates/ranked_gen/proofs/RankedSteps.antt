@@ -58,7 +58,7 @@ pub ranked_next : (problem : Problem) (budget r : ℕ) (stages : List Stage) (co
     → IsRanked problem budget next (stages ++ stage ∷ []) (counts ++ count ∷ []) kept states order
 ranked_next problem budget r stages counts so_far stage count next is inside kept states order staged within = record {
   so_far = next_stages problem budget r stages counts so_far stage count next is inside staged.left.right
-      staged.counted within;
+      (λ T o. staged.counted T o (omega (arith, is))) within;
   left = subst (λ ns. IsLeft problem next ns kept states order)
       (sym (nodes_last stages stage next (omega (arith, is, so_far.stage_count)))) staged.left;
 }

@@ -8,6 +8,7 @@ use Rattle.std.specs.declared.cmp.Ordering.TheVariants.{Less, Equal}
 use Rattle.std.proofs.lemmas.Bool.{false≢true, eqb-true}
 use Rattle.std.proofs.lemmas.List.{length-map, take-append-drop}
 use Rattle.std.proofs.lemmas.List.FromFn.{length-range_with_len}
+use Rattle.std.proofs.Math.Nat.{mul-le-mul, pow-le-pow_right}
 use Rattle.std.proofs.lemmas.Map.Steps.{length-le_from_distinct_below}
 use Rattle.std.proofs.lemmas.Map.Views.{Contains-from_any}
 use Rattle.tier_core.specs.declared.sym.Sym.{Sym}
@@ -23,12 +24,18 @@ use Rattle.ranked_gen.specs.Numbers.{number_of_kind, kind_numbered}
 use Rattle.ranked_gen.specs.Listed.{kind_count}
 use Rattle.ranked_gen.proofs.NumberLemmas.{kind_numbered-number, kinds_less}
 use Rattle.ranked_gen.proofs.MemberLemmas.{contains_first, contains_later, all_from_members, all_at_member}
-use Rattle.ranked_gen.proofs.Ascending.{Ascends, sorted_from, ascends_from, ascends_map, ascends_range, in_range, range_has}
-use Rattle.ranked_gen.proofs.MoveList.{nat_less}
-use Rattle.ranked_gen.proofs.ArcLemmas.{slice_same}
-use Rattle.ranked_gen.proofs.AutomatonMoves.{IsWithin, number_within, numbered_within, kind_within}
+use Rattle.ranked_gen.proofs.Ascending.{Ascends, sorted_from, ascends_from, ascends_map, ascends_range, in_range, range_has, nat_less, slice_same}
+use Rattle.ranked_gen.proofs.KindsWithin.{IsWithin, number_within, numbered_within, kind_within}
 use Rattle.ranked_gen.proofs.AllPassed.{all_passed}
 use Rattle.violation.specs.Problems.{Problem}
+
+-- numbers of kinds are small
+pub first_small : (place free : ℕ) → place ≤ 65 → free ≤ 12 → (place * 2 ^ free ≤ 266240) × (2 ^ free ≤ 4096)
+first_small place free l h =
+    let two : 0 < 2 = omega arith in
+    let power : 2 ^ free ≤ 2 ^ 12 = pow-le-pow_right two h in
+    let times : place * 2 ^ free ≤ 65 * 2 ^ 12 = mul-le-mul l power in
+    (omega arith, omega arith)
 
 -- the first columns of a candidate begin it
 pub begins : (problem : Problem) (T : List (List Sym)) (n : ℕ) → IsCandidate problem T

@@ -49,7 +49,7 @@ use Rattle.kind_orders.specs.Orderings.{IsOrdering}
 use Rattle.kind_orders.specs.KindOrders.{empty_kind, kind_numbered, told, IsKindOrder}
 use Rattle.kind_orders.specs.StageNodes.{node_numbered, AreNodesInOrder}
 use Rattle.kind_orders.specs.Automata.{Reaches}
-use Rattle.stage_tables.specs.Kept.{IsOfOneColumn, IsKept}
+use Rattle.stage_tables.specs.Kept.{IsKept}
 use Rattle.stage_tables.specs.Explored.{names_at}
 use Rattle.stage_tables.proofs.Named.{frame_stage}
 use Rattle.ranked_gen.specs.Left.{weight_number, TellsKind, AreOrdered, IsStaged}
@@ -58,7 +58,7 @@ use Rattle.ranked_gen.proofs.StageShapes.{tell_same, free_same, stretch_same}
 use Rattle.violation.specs.Problems.{last_stage}
 use Rattle.kind_moves.specs.Frames.{problem_in}
 
-module _ (frame : Frame) (stage : ℕ) (ranked : 1 ≤ stage) (within : stage ≤ last_stage (problem_in frame))
+module _ (frame : Frame) (stage : ℕ) (within : stage ≤ last_stage (problem_in frame))
     (kinds : List Kind) {g : Ghosts Count} (meaning : g.meaning ≡ count_meaning) (states : List (TableState Count g))
     (table : IsStageTable (problem_in frame) stage (names_at frame stage kinds) states)
     (least : List (Option Count)) (are : AreLeast states least) where
@@ -87,9 +87,9 @@ module _ (frame : Frame) (stage : ℕ) (ranked : 1 ≤ stage) (within : stage �
       (subst (λ k. IsRemaining (problem_in frame) stage k w.0.0)
       (name_is frame stage within kinds states table.named number empty_kind l) law)
 
-  pub counted : (T : List (List Sym)) → IsOptimalFor (problem_in frame) stage T
+  pub counted : (T : List (List Sym)) → IsOptimalFor (problem_in frame) stage T → 1 ≤ stage
       → count_at (problem_in frame) stage T ≡ get_or (map weight_number least) 0 0
-  counted T o =
+  counted T o ranked =
       let some = table.named.some in
       let w = weight_at 0 some in
       let law = number_law (problem_in frame) stage here meaning (names_at frame stage kinds) states table ranked w.0
@@ -129,8 +129,7 @@ module _ (frame : Frame) (stage : ℕ) (ranked : 1 ≤ stage) (within : stage �
           (remains number (sorted.numbers.below i 0 inside)));
     }
 
-    module _ (single : (s : ℕ) (arc : TableArc Count g) → Contains (moves_at states s) arc → IsOfOneColumn arc.class)
-        {h : Ghosts UnitWeight} (pruned : List (TableState UnitWeight h)) (old : List ℕ)
+    module _ {h : Ghosts UnitWeight} (pruned : List (TableState UnitWeight h)) (old : List ℕ)
         (tight : IsTight states pruned old) (some : 0 < length pruned) (targets : TargetsExist pruned)
         (filled : ClassesFilled pruned) where
       kept_by : IsKept (problem_in frame) stage pruned
@@ -139,9 +138,6 @@ module _ (frame : Frame) (stage : ℕ) (ranked : 1 ≤ stage) (within : stage �
         record {
           named = kept_by_names frame stage within kinds states table.named shape of order sorted pruned old tight
               some targets filled;
-          single = λ s arc c.
-              let m = tight.moves s arc (moves_exist pruned s arc c) c in
-              subst IsOfOneColumn (sym m.3.0) (single (get_or old s 0) m.0 m.1);
           on_runs = tight.on_runs;
         },
       )

@@ -53,11 +53,12 @@ pub record IsLeft {g : Ghosts UnitWeight} (problem : Problem) (r : ℕ) (nodes :
       → slice_index order place ≡ slice_index states s
       → TellsKind problem r nodes place (kind_of problem r p)
 
--- and the count is the number of constraint r, counted from 1, of each r-optimal candidate
+-- and the count is the number of constraint r, counted from 1, of each r-optimal candidate, where r is
+-- not 0
 pub record IsStaged {g : Ghosts UnitWeight} (problem : Problem) (r : ℕ) (nodes : List Node) (count : ℕ)
     (kept : List (TableState UnitWeight g)) (states order : List ℕ) : Type 0 where
   pub left : IsLeft problem r nodes kept states order
-  pub counted : (T : List (List Sym)) → IsOptimalFor problem r T → count_at problem r T ≡ count
+  pub counted : (T : List (List Sym)) → IsOptimalFor problem r T → 1 ≤ r → count_at problem r T ≡ count
 
 -- The stages up to r are right and within the budget, and the counts are the first r numbers of
 -- each r-optimal candidate.

@@ -1,30 +1,22 @@
 ghost use Rattle.std.specs.Prelude.{◌≡◌, ◌≤◌, ◌*◌, ◌^◌, ℕ, [], ◌∷◌, length, Err, IfOk};
-ghost use Rattle.std.specs.List.{range_with_len};
 ghost use Rattle.arc_table.specs.States.{states_of};
 ghost use Rattle.tier_core.specs.Tables.{tiers_of_table};
 ghost use Rattle.violation.specs.Candidates.{IsForm};
+ghost use Rattle.violation.specs.Problems.{asked, last_stage};
 ghost use Rattle.answer_text.specs.Right.{IsRight};
-ghost use Rattle.kind_moves.specs.Frames.{tiers_in, constraints_in, form_in};
+ghost use Rattle.kind_moves.specs.Frames.{problem_in};
 ghost use Rattle.kind_orders.specs.JoinedArcs.{HaveJoinedArcs};
 ghost use Rattle.ranked_gen.specs.Budgets.{AreAllWithin, IsFirstOver};
 ghost use Rattle.ranked_gen.specs.Left.{IsRanked};
-ghost use Rattle.ranked_gen.specs.Listed.{AreListed, kind_count};
-ghost use Rattle.violation.specs.Problems.{asked};
-ghost use Rattle.kind_moves.specs.Frames.{problem_in};
 
 use crate::gen_err::GenErr;
-use crate::place::{Listing, list_place};
 use crate::ranked::{Ranked, all_ranked, answered};
-use crate::staged::Left;
+use crate::staged::{Staged, first_stage};
 use answer_text::{Answer, Stage};
-use arc_table::Table;
 use grammar_reader::Grammar;
 use kind_moves::Frame;
-use kind_orders::numbers_below;
-use prune_best::Tight;
-use std::alloc::{AllocError, Global};
+use std::alloc::Global;
 use tier_core::{NoMemory, Timeline};
-use weight_law::UnitWeight;
 
 /// How many kinds so many places have, one for each set of open free tiers.
 pub(crate) fn count_kinds(places: u32, free: u32) -> u32
@@ -33,28 +25,6 @@ pub(crate) fn count_kinds(places: u32, free: u32) -> u32
     ensures { result ≡ places * 2 ^ free }
 {
     places << free
-}
-
-/// Lists all kinds: each place of the form with each set of open free tiers.
-fn list_all(alloc: Global, frame: &Frame, inputs: usize, free: u32) -> Result<Listing, NoMemory>
-    requires form { IsForm (tiers_in frame.now) (form_in frame.now) }
-    requires input_count { inputs ≡ length (tiers_in frame.now).input }
-    requires few_inputs { inputs ≤ 12 }
-    requires count { free ≡ length (tiers_in frame.now).free }
-    requires few { free ≤ 12 }
-    ensures { IfOk result
-        (λ listing.
-        AreListed (problem_in frame.now)
-        (kind_count (problem_in frame.now)) listing.nodes.items listing.states.items) }
-{
-    let mut listing = Listing {
-        nodes: Vec::new(alloc),
-        states: Vec::new(alloc),
-    };
-    for place in 0..frame.form.len() as u32 + 1 {
-        list_place(alloc, frame, inputs, free, place, &mut listing)?;
-    }
-    Ok(listing)
 }
 
 /// A list of one stage.
@@ -68,52 +38,49 @@ fn one_stage(alloc: Global, stage: Stage) -> Result<Vec<Stage>, NoMemory>
     }
 }
 
-/// Each state with its own number, in the order of the numbers.
-fn in_order(alloc: Global, table: Table<UnitWeight>) -> Result<Left, AllocError>
-    ensures table { IfOk result (λ left. left.kept.table ≡ table) }
-    ensures states { IfOk result
-        (λ left. left.kept.states.items ≡ range_with_len 0 (length (states_of table))) }
-    ensures order { IfOk result
-        (λ left. left.order.items ≡ range_with_len 0 (length (states_of table))) }
+/// Stage 0 alone, which counts nothing, with what it leaves. It fails only if memory runs out.
+fn started(alloc: Global, first: Staged) -> Result<Ranked, NoMemory>
+    ensures stages { IfOk result (λ all. all.stages.items ≡ first.stage ∷ []) }
+    ensures counts { IfOk result (λ all. all.counts.items ≡ []) }
+    ensures left { IfOk result (λ all. all.left ≡ first.left) }
 {
-    let states = numbers_below(alloc, table.len())?;
-    let order = numbers_below(alloc, table.len())?;
-    Ok(Left {
-        kept: Tight { table, states },
-        order,
+    let Staged {
+        stage,
+        count: _,
+        left,
+    } = first;
+    let stages = one_stage(alloc, stage)?;
+    Ok(Ranked {
+        stages,
+        counts: Vec::new(alloc),
+        left,
     })
 }
 
-/// Stage 0, whose candidates are all, for the form of a frame. Fails only if memory runs out.
-pub(crate) fn unranked(alloc: Global, frame: &Frame, free: u32) -> Result<Ranked, NoMemory>
-    requires form { IsForm (tiers_in frame.now) (form_in frame.now) }
-    requires count { free ≡ length (tiers_in frame.now).free }
-    requires few { free ≤ 12 }
-    ensures { IfOk result
-        (λ all. (budget : ℕ) → kind_count (problem_in frame.now) ≤ budget
-        → IsRanked (problem_in frame.now) budget 0 all.stages.items all.counts.items
+/// All stages for the form of a frame, from stage 0 on, within the budget.
+fn stages_in(alloc: Global, frame: &Frame, budget: u32) -> Result<Ranked, GenErr>
+    requires some { 1 ≤ budget }
+    requires few_kinds { budget ≤ 65536 }
+    ensures ranked { IfOk result
+        (λ all.
+        IsRanked (problem_in frame.now) budget
+        (last_stage (problem_in frame.now)) all.stages.items all.counts.items
         (states_of all.left.kept.table) all.left.kept.states.items all.left.order.items) }
+    ensures over { (stage : ℕ) → result ≡ Err (GenErr.Budget stage)
+        → IsFirstOver (problem_in frame.now) budget stage }
 {
-    let inputs = frame.grammar.tiers.input_count();
-    let Listing { nodes, states } = list_all(alloc, frame, inputs, free)?;
-    let table = Table::of_states(states);
-    let stages = one_stage(alloc, Stage { nodes })?;
-    match in_order(alloc, table) {
-        Ok(left) => Ok(Ranked {
-            stages,
-            counts: Vec::new(alloc),
-            left,
-        }),
-        Err(_) => Err(NoMemory),
+    let first = match first_stage(alloc, frame, budget) {
+        Ok(first) => first,
+        Err(cause) => return Err(cause),
+    };
+    match started(alloc, first) {
+        Ok(start) => all_ranked(alloc, frame, start, budget),
+        Err(_) => Err(GenErr::NoMemory),
     }
 }
 
-/// The right answer for the form of a frame, whose stage 0 is within the budget.
-fn answer_in(alloc: Global, frame: &Frame, free: u32, budget: u32) -> Result<Answer, GenErr>
-    requires form { IsForm (tiers_in frame.now) (form_in frame.now) }
-    requires count { free ≡ length (tiers_in frame.now).free }
-    requires few { free ≤ 12 }
-    requires first { kind_count (problem_in frame.now) ≤ budget }
+/// The right answer for the form of a frame, within the budget.
+fn answer_in(alloc: Global, frame: &Frame, budget: u32) -> Result<Answer, GenErr>
     requires some { 1 ≤ budget }
     requires few_kinds { budget ≤ 65536 }
     ensures right { IfOk result (λ answer. IsRight (problem_in frame.now) answer) }
@@ -122,10 +89,7 @@ fn answer_in(alloc: Global, frame: &Frame, free: u32, budget: u32) -> Result<Ans
     ensures over { (stage : ℕ) → result ≡ Err (GenErr.Budget stage)
         → IsFirstOver (problem_in frame.now) budget stage }
 {
-    let Ok(start) = unranked(alloc, frame, free) else {
-        return Err(GenErr::NoMemory);
-    };
-    match all_ranked(alloc, frame, start, budget) {
+    match stages_in(alloc, frame, budget) {
         Ok(ranked) => answered(alloc, frame, ranked).map_err(|_| GenErr::NoMemory),
         Err(cause) => Err(cause),
     }
@@ -165,7 +129,7 @@ pub fn generate(
         return Err(GenErr::Budget { stage: 0 });
     }
     match Frame::new(alloc, grammar, form) {
-        Ok(frame) => answer_in(alloc, &frame, free, budget),
+        Ok(frame) => answer_in(alloc, &frame, budget),
         Err(_) => Err(GenErr::NoMemory),
     }
 }

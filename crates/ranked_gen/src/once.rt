@@ -6,15 +6,14 @@ ghost use Rattle.violation.specs.Candidates.{IsForm};
 ghost use Rattle.violation.specs.Problems.{asked, last_stage};
 ghost use Rattle.violation.specs.Rests.{AreWholeKindsOver, AreWholeKindsWithin};
 ghost use Rattle.answer_text.specs.RightOnce.{IsRightOnce};
-ghost use Rattle.kind_moves.specs.Frames.{tiers_in, form_in, problem_in};
+ghost use Rattle.kind_moves.specs.Frames.{problem_in};
 ghost use Rattle.kind_orders.specs.JoinedArcs.{HaveJoinedArcs};
 ghost use Rattle.stage_tables.specs.Ranking.{IsWholeTable};
-ghost use Rattle.ranked_gen.specs.Listed.{kind_count};
 ghost use Rattle.ranked_gen.specs.Once.{weight_found, once_node, IsOncePart};
 
 use crate::ending::{Ending, ending_of};
 use crate::gen_err::GenErr;
-use crate::generator::{count_kinds, unranked};
+use crate::generator::count_kinds;
 use crate::ranked::copied;
 use crate::staged::Left;
 use answer_text::{OnceAnswer, OnceNode};
@@ -23,7 +22,7 @@ use grammar_reader::{Grammar, shape};
 use kind_moves::Frame;
 use kind_orders::ordered;
 use prune_best::tight;
-use stage_tables::{ExploreErr, StageTable, explore, ranked_table};
+use stage_tables::{ExploreErr, StageTable, explore_all, ranked_table};
 use std::alloc::{AllocError, Global};
 use tier_core::{Kind, NoMemory, Timeline};
 use weight_law::{Ranked, Weight};
@@ -124,12 +123,8 @@ fn once_answered(alloc: Global, frame: &Frame, found: &StageTable) -> Result<Onc
     })
 }
 
-/// The answer of a single pass for the form of a frame, whose stage 0 is within the budget.
-fn once_in(alloc: Global, frame: &Frame, free: u32, budget: u32) -> Result<OnceAnswer, GenErr>
-    requires form { IsForm (tiers_in frame.now) (form_in frame.now) }
-    requires count { free ≡ length (tiers_in frame.now).free }
-    requires few { free ≤ 12 }
-    requires first { kind_count (problem_in frame.now) ≤ budget }
+/// The answer of a single pass for the form of a frame, within the budget.
+fn once_in(alloc: Global, frame: &Frame, budget: u32) -> Result<OnceAnswer, GenErr>
     requires some { 1 ≤ budget }
     requires few_kinds { budget ≤ 65536 }
     ensures right { IfOk result (λ answer. IsRightOnce (problem_in frame.now) answer) }
@@ -139,11 +134,8 @@ fn once_in(alloc: Global, frame: &Frame, free: u32, budget: u32) -> Result<OnceA
         → (stage ≡ last_stage (problem_in frame.now))
         × AreWholeKindsOver (problem_in frame.now) budget }
 {
-    let Ok(start) = unranked(alloc, frame, free) else {
-        return Err(GenErr::NoMemory);
-    };
     let stage = frame.grammar.constraints.len() as u32;
-    match explore(alloc, frame, 0, stage, &start.left.kept.table, budget) {
+    match explore_all(alloc, frame, stage, budget) {
         Ok(found) => once_answered(alloc, frame, &found).map_err(|_| GenErr::NoMemory),
         Err(ExploreErr::OverBudget) => Err(GenErr::Budget { stage }),
         Err(ExploreErr::NoMemory) => Err(GenErr::NoMemory),
@@ -187,7 +179,7 @@ pub fn generate_once(
         return Err(GenErr::Budget { stage });
     }
     match Frame::new(alloc, grammar, form) {
-        Ok(frame) => once_in(alloc, &frame, free, budget),
+        Ok(frame) => once_in(alloc, &frame, budget),
         Err(_) => Err(GenErr::NoMemory),
     }
 }

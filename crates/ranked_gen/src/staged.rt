@@ -1,14 +1,11 @@
-ghost use Rattle.std.specs.Prelude.{◌≡◌, ◌≤◌, ◌-◌, ℕ, All, Contains, Err, IfOk, ◌↔◌, List, length, map};
-ghost use Rattle.weight_law.specs.declared.count.Count.{Count as Counted};
-ghost use Rattle.arc_table.specs.declared.arc.TableArc.{TableArc as ArcOf};
-ghost use Rattle.arc_table.specs.Moves.{moves_at};
+ghost use Rattle.std.specs.Prelude.{◌≡◌, ◌≤◌, ◌-◌, ℕ, All, Err, IfOk, ◌↔◌, List, length, map};
 ghost use Rattle.arc_table.specs.Runs.{Accepts};
 ghost use Rattle.arc_table.specs.States.{states_of};
 ghost use Rattle.tier_core.specs.declared.sym.Sym.{Sym};
 ghost use Rattle.violation.specs.Candidates.{IsOptimalFor};
 ghost use Rattle.kind_moves.specs.Frames.{tiers_in, constraints_in, form_in, FitsFrame};
 ghost use Rattle.stage_laws.specs.StageTables.{IsStageTable};
-ghost use Rattle.stage_tables.specs.Kept.{IsKept, IsOfOneColumn};
+ghost use Rattle.stage_tables.specs.Kept.{IsKept};
 ghost use Rattle.stage_tables.specs.Explored.{names_at};
 ghost use Rattle.ranked_gen.specs.Budgets.{IsOver, IsWithin};
 ghost use Rattle.ranked_gen.specs.Left.{IsStaged, weight_number};
@@ -23,7 +20,7 @@ use grammar_reader::shape;
 use kind_moves::Frame;
 use kind_orders::{ordered, stage_of};
 use prune_best::{Tight, tight};
-use stage_tables::{ExploreErr, StageTable, explore};
+use stage_tables::{ExploreErr, StageTable, explore, explore_all};
 use std::alloc::{AllocError, Global};
 use tier_core::NoMemory;
 use weight_law::{Count, UnitWeight, Weight};
@@ -69,13 +66,10 @@ fn potentials_of(alloc: Global, least: &[Option<Count>]) -> Result<Vec<u32>, All
 /// The nodes of a table that was explored, and what its constraint leaves. Fails only if memory
 /// runs out.
 fn pruned(alloc: Global, frame: &Frame, stage: u32, found: &StageTable) -> Result<Staged, NoMemory>
-    requires some { 1 ≤ stage }
     requires within { stage ≤ last_stage (problem_in frame.now) }
     requires table { IsStageTable (problem_in frame.now) stage
         (names_at frame.now stage found.now.kinds.items) (states_of found.now.table) }
     requires fit { All (FitsFrame frame.now stage) found.now.kinds.items }
-    requires single { (s : ℕ) (arc : ArcOf Counted ⟦<Count as Weight>⟧)
-        → Contains (moves_at (states_of found.now.table) s) arc → IsOfOneColumn arc.class }
     ensures { IfOk result
         (λ staged.
         IsStaged (problem_in frame.now) stage staged.stage.nodes.items staged.count
@@ -94,6 +88,26 @@ fn pruned(alloc: Global, frame: &Frame, stage: u32, found: &StageTable) -> Resul
         count: potentials[0],
         left: Left { kept, order },
     })
+}
+
+/// Stage 0 of a frame, whose candidates are all. `Budget` occurs exactly when it has more kinds of
+/// prefix than the budget, and `NoMemory` only if memory runs out.
+pub(crate) fn first_stage(alloc: Global, frame: &Frame, budget: u32) -> Result<Staged, GenErr>
+    requires some_budget { 1 ≤ budget }
+    requires few { budget ≤ 65536 }
+    ensures staged { IfOk result
+        (λ staged.
+        IsStaged (problem_in frame.now) 0 staged.stage.nodes.items staged.count
+        (states_of staged.left.kept.table) staged.left.kept.states.items staged.left.order.items) }
+    ensures within { IfOk result (λ staged. IsWithin (problem_in frame.now) budget 0) }
+    ensures over { (s : ℕ) → result ≡ Err (GenErr.Budget s)
+        → (s ≡ 0) × IsOver (problem_in frame.now) budget 0 }
+{
+    match explore_all(alloc, frame, 0, budget) {
+        Ok(found) => pruned(alloc, frame, 0, &found).map_err(|_| GenErr::NoMemory),
+        Err(ExploreErr::OverBudget) => Err(GenErr::Budget { stage: 0 }),
+        Err(ExploreErr::NoMemory) => Err(GenErr::NoMemory),
+    }
 }
 
 /// The next stage of a frame, from what the stage before has left. `Budget` occurs exactly when it

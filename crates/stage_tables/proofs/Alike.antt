@@ -1,5 +1,5 @@
 -- Tables that differ in nothing but what their moves weigh.
-use Rattle.std.proofs.Common.{◌≡◌, ◌↔◌, ℕ, ◌<◌, List, [], ◌∷◌, map, length, refl, sym, ap, ◌∙◌, subst, arith, inl, inr}
+use Rattle.std.proofs.Common.{◌≡◌, ◌↔◌, ℕ, ◌<◌, List, [], ◌∷◌, map, length, sym, ap, ◌∙◌, subst, arith, inl, inr}
 use Rattle.std.specs.Prelude.{Contains, AllPairs, IsTrue}
 use Rattle.std.specs.List.{AllZip}
 use Rattle.std.proofs.lemmas.Bool.{cases_lt}
@@ -7,10 +7,8 @@ use Rattle.std.proofs.lemmas.List.{length-map, get_or_past}
 use Rattle.weight_law.specs.declared.Weight.{Ghosts}
 use Rattle.tier_core.specs.declared.class.Class.{Class}
 use Rattle.tier_core.specs.declared.sym.Sym.{Sym}
-use Rattle.tier_core.specs.declared.constraint.Constraint.{Constraint}
 use Rattle.tier_core.specs.Classes.{has, sets_of, AreDisjoint}
 use Rattle.tier_core.specs.Kinds.{PrefixKind}
-use Rattle.tier_core.specs.Tiers.{Tiers}
 use Rattle.symbol_class.specs.Filled.{is_filled}
 use Rattle.arc_table.specs.declared.arc.TableArc.{TableArc}
 use Rattle.arc_table.specs.declared.state.TableState.{TableState}
@@ -18,7 +16,7 @@ use Rattle.arc_table.specs.Conditions.{TargetsExist, ClassesDisjoint, ClassesFil
 use Rattle.arc_table.specs.Moves.{moves_at, accepting_at}
 use Rattle.arc_table.specs.Runs.{IsRun, IsPath, Reads, Accepts, IsOnRun}
 use Rattle.arc_table.proofs.Push.{moves_exist}
-use Rattle.stage_laws.specs.StageTables.{name_of, GoesAsKinds, AreNamedByKinds}
+use Rattle.stage_laws.specs.StageTables.{name_of, AreNamedByKinds}
 use Rattle.stage_laws.proofs.Paths.{run_exists}
 use Rattle.stage_tables.proofs.Zips.{zip_from, zip_to, zip_pairs}
 use Rattle.violation.specs.Problems.{Problem}

@@ -1,5 +1,5 @@
 -- The start is found, and no state is made.
-use Rattle.std.proofs.Common.{◌≡◌, ℕ, suc, ◌-◌, ◌<◌, ◌≤◌, List, [], ◌∷◌, ◌++◌, Some, None, length, refl, ap, sym, ◌∙◌, subst, arith, inl, inr}
+use Rattle.std.proofs.Common.{◌≡◌, ℕ, ◌-◌, ◌<◌, List, [], ◌∷◌, ◌++◌, Some, None, length, refl, ap, sym, ◌∙◌, subst, arith, inl, inr}
 use Rattle.std.specs.Prelude.{slice_get}
 use Rattle.std.proofs.lemmas.List.{length_push}
 use Rattle.std.proofs.lemmas.Option.{slice_get_within}
@@ -7,18 +7,12 @@ use Rattle.weight_law.specs.declared.Weight.{Ghosts}
 use Rattle.weight_law.specs.declared.count.Count.{Count}
 use Rattle.weight_law.specs.declared.unit_weight.UnitWeight.{UnitWeight}
 use Rattle.tier_core.specs.declared.kind.Kind.{Kind}
-use Rattle.tier_core.specs.Kinds.{PrefixKind}
 use Rattle.arc_table.specs.declared.state.TableState.{TableState}
-use Rattle.violation.specs.Moves.{cut}
-use Rattle.violation.specs.Prefixes.{kind_of}
 use Rattle.kind_moves.specs.declared.frame.Frame.{Frame}
-use Rattle.kind_moves.specs.Frames.{tiers_in, constraints_in, form_in, kind_at_stage, IsStart}
-use Rattle.violation.proofs.CutLemmas.{cut-kind_of}
+use Rattle.kind_moves.specs.Frames.{IsStart}
 use Rattle.stage_tables.specs.declared.kind_key.KindKey.{KindKey}
-use Rattle.stage_tables.specs.Kept.{AreKeptByKinds}
 use Rattle.stage_tables.specs.Listed.{IsAt, AreListed, IsPutLast, IsNumbered, StandsOver, IsReached, AreFound, AreTaken}
 use Rattle.stage_tables.proofs.Listing.{at_cases}
-use Rattle.kind_moves.specs.Frames.{problem_in}
 
 pub nothing_listed : (keys : List KindKey) (kinds : List Kind) (over : List ℕ) → keys ≡ [] → kinds ≡ [] → over ≡ []
     → AreListed keys kinds over
@@ -36,27 +30,18 @@ first_put kinds over k first s n = elim n.grows [
   | inr put ↦ put.0
 ]
 
-module _ {g : Ghosts UnitWeight} (frame : Frame) (before stage : ℕ) (further : before ≤ stage)
-    (kept : List (TableState UnitWeight g)) (names : List PrefixKind)
-    (by : AreKeptByKinds (problem_in frame) before names kept) where
-  start_named : (first : Kind) → IsStart frame stage first
-      → cut (problem_in frame) before (kind_at_stage frame stage first) ≡ kind_of (problem_in frame) before []
-  start_named first starts =
-      ap (cut (problem_in frame) before) starts.is
-      ∙ cut-kind_of (problem_in frame) before stage further []
-
+module _ {g : Ghosts UnitWeight} (frame : Frame) (stage : ℕ) (kept : List (TableState UnitWeight g))
+    (some : 0 < length kept) where
   pub first_found : (keys : List KindKey) (kinds : List Kind) (over : List ℕ) (first : Kind)
       → AreListed keys kinds over → IsPutLast [] kinds [] over first 0 → IsStart frame stage first
-      → AreFound frame before stage kept keys kinds over
+      → AreFound frame stage kept keys kinds over
   first_found keys kinds over first listed put starts = record {
-    names = names;
-    kept_by = by;
     listed = listed;
     start = (first, (ap (λ xs. slice_get xs 0) put.put, ap (λ xs. slice_get xs 0) put.over_put), starts);
     stands = λ k kind s at.
         (let is = only k kind s at in
-        subst (λ (x : Kind). StandsOver frame before stage names x s) is.0
-        (subst (λ (x : ℕ). StandsOver frame before stage names first x) is.1 stands));
+        subst (λ (x : Kind). StandsOver frame stage (length kept) x s) is.0
+        (subst (λ (x : ℕ). StandsOver frame stage (length kept) first x) is.1 stands));
     reached = λ k kind s at.
         (let is = only k kind s at in
         subst (λ (x : Kind). IsReached frame stage kept x s) is.0
@@ -70,22 +55,18 @@ module _ {g : Ghosts UnitWeight} (frame : Frame) (before stage : ℕ) (further :
             | inr is ↦ is
           ]
 
-      stands : StandsOver frame before stage names first 0
-      stands = record {
-        fits = starts.fits;
-        within = omega (arith, by.named.some, by.named.each_named);
-        named = start_named first starts ∙ sym by.named.start;
-      }
+      stands : StandsOver frame stage (length kept) first 0
+      stands = record { fits = starts.fits; within = some }
 
       reached : IsReached frame stage kept first 0
       reached = record { prefix = []; first = first; starts = starts; leads = refl; arcs = []; path = refl; reads = tt }
 
 -- before any state is made
-pub none_made : {g : Ghosts UnitWeight} {h : Ghosts Count} (frame : Frame) (stage : ℕ)
+pub none_made : {g : Ghosts UnitWeight} {h : Ghosts Count} (frame : Frame) (first stage : ℕ)
     (kept : List (TableState UnitWeight g)) (kinds : List Kind) (over : List ℕ) (states : List (TableState Count h))
-    → length kinds ≡ 1 → states ≡ [] → AreTaken frame stage kept kinds over states
-none_made {g} {h} frame stage kept kinds over states one none =
-    subst (λ (xs : List (TableState Count h)). AreTaken frame stage kept kinds over xs) (sym none) (record {
+    → length kinds ≡ 1 → states ≡ [] → AreTaken frame first stage kept kinds over states
+none_made {g} {h} frame first stage kept kinds over states one none =
+    subst (λ (xs : List (TableState Count h)). AreTaken frame first stage kept kinds over xs) (sym none) (record {
       within = omega arith;
       reached = λ k low high. absurd (omega (arith, low, high));
       each = λ k kind s l at. absurd (omega (arith, l));

@@ -1,7 +1,6 @@
 -- One kind more is found, or one that is listed already.
-use Rattle.std.proofs.Common.{◌≡◌, ◌≢◌, ℕ, suc, ◌+◌, ◌-◌, ◌<◌, ◌≤◌, Bool, List, [], ◌∷◌, ◌++◌, Some, length, refl, ap, sym, ◌∙◌, subst, arith, ◌⊎◌, inl, inr}
+use Rattle.std.proofs.Common.{◌≡◌, ◌≢◌, ℕ, ◌+◌, ◌<◌, ◌≤◌, Bool, List, [], ◌∷◌, ◌++◌, Some, length, get_or, refl, ap, sym, ◌∙◌, subst, arith, ◌⊎◌, inl, inr}
 use Rattle.std.specs.Prelude.{Contains, AllPairs, IsTrue, slice_get}
-use Rattle.std.specs.List.{AllZip}
 use Rattle.std.proofs.lemmas.Bool.{cases_lt}
 use Rattle.std.proofs.lemmas.List.{length_push}
 use Rattle.std.proofs.lemmas.Option.{slice_get_within, same_Some}
@@ -11,25 +10,24 @@ use Rattle.weight_law.specs.declared.unit_weight.UnitWeight.{UnitWeight}
 use Rattle.tier_core.specs.declared.kind.Kind.{Kind}
 use Rattle.tier_core.specs.declared.sym.Sym.{Sym}
 use Rattle.tier_core.specs.Kinds.{PrefixKind}
-use Rattle.tier_core.specs.Classes.{has}
+use Rattle.tier_core.specs.Classes.{sets_of, has}
+use Rattle.symbol_class.specs.Filled.{is_filled}
+use Rattle.symbol_class.specs.Parts.{IsAlike}
+use Rattle.kind_moves.specs.Pieces.{cost_under}
 use Rattle.arc_table.specs.declared.arc.TableArc.{TableArc}
 use Rattle.arc_table.specs.declared.state.TableState.{TableState}
 use Rattle.arc_table.specs.Conditions.{TargetsExist}
 use Rattle.arc_table.specs.Moves.{moves_at, accepting_at}
 use Rattle.arc_table.specs.Runs.{IsPath, Reads}
 use Rattle.arc_table.proofs.Push.{moves_exist, accepting_old, accepting_new, moves_old, moves_new}
-use Rattle.violation.specs.Moves.{FitsKind, moved, cut}
 use Rattle.kind_moves.specs.declared.frame.Frame.{Frame}
-use Rattle.kind_moves.specs.Frames.{tiers_in, constraints_in, form_in, kind_at_stage, FitsAt, IsMove}
+use Rattle.kind_moves.specs.Frames.{tiers_in, kind_at_stage, IsMove}
 use Rattle.kind_moves.specs.Laws.{LeadsTo}
 use Rattle.stage_laws.specs.StageTables.{name_of, cost_of}
 use Rattle.stage_tables.specs.declared.kind_key.KindKey.{KindKey}
 use Rattle.stage_tables.specs.KindKeys.{key_of}
-use Rattle.stage_tables.specs.Kept.{AreKeptByKinds}
-use Rattle.stage_tables.specs.Listed.{IsAt, AreListed, IsPutLast, IsSame, IsNumbered, Stays, StandsOver, IsReached, AreFound, IsTaken, IsTakenState, AreTargets, AreTaken}
-use Rattle.violation.proofs.CutLemmas.{cut-moved, fits-cut}
+use Rattle.stage_tables.specs.Listed.{IsAt, AreListed, IsPutLast, IsSame, IsNumbered, Stays, StandsOver, IsReached, IsOverOne, AreFound, IsTaken, AreTakenMoves, IsTakenState, AreTargets, AreTaken}
 use Rattle.stage_tables.proofs.Keys.{same_told, same_fits}
-use Rattle.stage_tables.proofs.Zips.{zip_weaken}
 use Rattle.stage_tables.proofs.Listing.{at_number, at_last, at_cases, stays_put}
 use Rattle.kind_moves.specs.Frames.{problem_in}
 
@@ -71,36 +69,13 @@ pub record IsGiven (kinds : List Kind) (over : List ℕ) (k : ℕ) (kind : Kind)
   pub at : IsAt kinds over k given s
   pub same : key_of given ≡ key_of kind
 
-module _ {g : Ghosts UnitWeight} (frame : Frame) (before stage : ℕ) (further : before ≤ stage)
-    (kept : List (TableState UnitWeight g)) (exist : TargetsExist kept) where
-  -- what stands over a state of the kept table
-  module _ (names : List PrefixKind) (by : AreKeptByKinds (problem_in frame) before names kept) where
-    -- a column of a kept move fits the kind
-    pub fits_kind : (kind : Kind) (s : ℕ) → StandsOver frame before stage names kind s
-        → (arc : TableArc UnitWeight g) (column : List Sym) → Contains (moves_at kept s) arc
-        → IsTrue (has arc.class column) → FitsAt frame stage kind column
-    fits_kind kind s stands arc column here h =
-        let goes = by.named.moves s arc column here h in
-        (fits-cut (problem_in frame) before (kind_at_stage frame stage kind) column).0
-        (subst (λ (k : PrefixKind). FitsKind (problem_in frame) k column) (sym stands.named) goes.fits)
-
-    -- and leads to a kind over the move's target
-    pub next_stands : (kind : Kind) (s : ℕ) → StandsOver frame before stage names kind s
-        → (arc : TableArc UnitWeight g) (column : List Sym) → Contains (moves_at kept s) arc
-        → IsTrue (has arc.class column) → (next : Kind) → IsMove frame stage kind column next
-        → StandsOver frame before stage names next arc.target
-    next_stands kind s stands arc column here h next m =
-        let problem = problem_in frame in
-        let goes = by.named.moves s arc column here h in
-        record {
-          fits = m.next_fits;
-          within = omega (arith, exist s arc here, by.named.each_named);
-          named =
-              ap (cut problem before) m.leads
-              ∙ cut-moved problem before stage further (kind_at_stage frame stage kind) column
-              ∙ ap (λ k. moved problem before k column) stands.named
-              ∙ sym goes.leads;
-        }
+module _ {g : Ghosts UnitWeight} (frame : Frame) (stage : ℕ) (kept : List (TableState UnitWeight g))
+    (exist : TargetsExist kept) where
+  -- a column of a kept move leads to a kind over the move's target
+  pub next_stands : (kind : Kind) (s : ℕ) (arc : TableArc UnitWeight g) (column : List Sym)
+      → Contains (moves_at kept s) arc → (next : Kind) → IsMove frame stage kind column next
+      → StandsOver frame stage (length kept) next arc.target
+  next_stands kind s arc column here next m = record { fits = m.next_fits; within = exist s arc here }
 
   -- one move more is reached
   pub next_reached : (kind : Kind) (s : ℕ) → IsReached frame stage kept kind s
@@ -118,15 +93,13 @@ module _ {g : Ghosts UnitWeight} (frame : Frame) (before stage : ℕ) (further :
   }
 
   module _ (keys next_keys : List KindKey) (kinds next_kinds : List Kind) (over next_over : List ℕ)
-      (found : AreFound frame before stage kept keys kinds over)
+      (found : AreFound frame stage kept keys kinds over)
       (listed : AreListed next_keys next_kinds next_over) where
     -- a kind is put last that stands over a state and is reached
     pub found_put : (kind : Kind) (s : ℕ) → IsPutLast kinds next_kinds over next_over kind s
-        → StandsOver frame before stage found.names kind s → IsReached frame stage kept kind s
-        → AreFound frame before stage kept next_keys next_kinds next_over
+        → StandsOver frame stage (length kept) kind s → IsReached frame stage kept kind s
+        → AreFound frame stage kept next_keys next_kinds next_over
     found_put kind s put stands reached = record {
-      names = found.names;
-      kept_by = found.kept_by;
       listed = listed;
       start = (
         found.start.0,
@@ -135,8 +108,8 @@ module _ {g : Ghosts UnitWeight} (frame : Frame) (before stage : ℕ) (further :
       );
       stands = λ k other t at. elim (cases k other t at) [
         | inl was ↦ found.stands k other t was
-        | inr is ↦ subst (λ (x : Kind). StandsOver frame before stage found.names x t) is.0
-            (subst (λ (x : ℕ). StandsOver frame before stage found.names kind x) is.1 stands)
+        | inr is ↦ subst (λ (x : Kind). StandsOver frame stage (length kept) x t) is.0
+            (subst (λ (x : ℕ). StandsOver frame stage (length kept) kind x) is.1 stands)
       ];
       reached = λ k other t at. elim (cases k other t at) [
         | inl was ↦ found.reached k other t was
@@ -155,10 +128,8 @@ module _ {g : Ghosts UnitWeight} (frame : Frame) (before stage : ℕ) (further :
             (ap (λ xs. slice_get xs k) (sym put.put) ∙ at.0, ap (λ xs. slice_get xs k) (sym put.over_put) ∙ at.1)
 
     pub found_same : IsSame kinds next_kinds over next_over
-        → AreFound frame before stage kept next_keys next_kinds next_over
+        → AreFound frame stage kept next_keys next_kinds next_over
     found_same same = record {
-      names = found.names;
-      kept_by = found.kept_by;
       listed = listed;
       start = (
         found.start.0,
@@ -192,48 +163,39 @@ module _ {g : Ghosts UnitWeight} (frame : Frame) (before stage : ℕ) (further :
 
     -- a kind that is numbered is found
     pub found_numbered : (k : ℕ) (kind : Kind) (s : ℕ) → IsNumbered kinds next_kinds over next_over k kind s
-        → StandsOver frame before stage found.names kind s → IsReached frame stage kept kind s
-        → AreFound frame before stage kept next_keys next_kinds next_over
+        → StandsOver frame stage (length kept) kind s → IsReached frame stage kept kind s
+        → AreFound frame stage kept next_keys next_kinds next_over
     found_numbered k kind s n stands reached = elim n.grows [
       | inl same ↦ found_same same
       | inr put ↦ found_put kind s put.0 stands reached
     ]
 
     -- its number is of a kind of its key, over its state
-    pub found_given : (k : ℕ) (kind : Kind) (s : ℕ) → IsNumbered kinds next_kinds over next_over k kind s
-        → StandsOver frame before stage found.names kind s → IsReached frame stage kept kind s
+    pub found_given : IsOverOne frame stage kept → (k : ℕ) (kind : Kind) (s : ℕ) → IsNumbered kinds next_kinds over next_over k kind s
+        → StandsOver frame stage (length kept) kind s → IsReached frame stage kept kind s
         → IsGiven next_kinds next_over k kind s
-    found_given k kind s n stands reached =
+    found_given one k kind s n stands reached =
         let l = slice_get_within next_kinds k n.at.0 n.at.1 in
         let entry = at_number next_kinds next_over listed.each k l in
         let is : entry.0 ≡ n.at.0 = same_Some entry.0 n.at.0 (sym entry.2.0 ∙ n.at.1) in
         let key : key_of entry.0 ≡ key_of kind = ap key_of is ∙ n.at.2 in
-        let all = found_numbered k kind s n stands reached in
-        let other = (found_numbered k kind s n stands reached).stands k entry.0 entry.1 entry.2 in
         record {
           given = entry.0;
-          at = (entry.2.0, entry.2.1 ∙ ap (λ x. Some x) (own k kind s n stands reached entry.0 entry.1 entry.2 key));
+          at = (entry.2.0, entry.2.1 ∙ ap (λ x. Some x) (own one k kind s n stands reached entry.0 entry.1 entry.2 key));
           same = key;
         }
       where
-        names_same : (k : ℕ) (kind : Kind) (s : ℕ) (n : IsNumbered kinds next_kinds over next_over k kind s)
-            → (other : Kind) (t : ℕ) → StandsOver frame before stage found.names kind s
-            → StandsOver frame before stage found.names other t → key_of other ≡ key_of kind → t ≡ s
-        names_same k kind s n other t stands that key =
-            one_name found.names found.kept_by.named.distinct t s that.within stands.within
-            (sym that.named ∙ ap (cut (problem_in frame) before) (same_told frame stage other kind key) ∙ stands.named)
-
-        own : (k : ℕ) (kind : Kind) (s : ℕ) (n : IsNumbered kinds next_kinds over next_over k kind s)
-            → StandsOver frame before stage found.names kind s → IsReached frame stage kept kind s
+        own : IsOverOne frame stage kept → (k : ℕ) (kind : Kind) (s : ℕ) (n : IsNumbered kinds next_kinds over next_over k kind s)
+            → StandsOver frame stage (length kept) kind s → IsReached frame stage kept kind s
             → (other : Kind) (t : ℕ) → IsAt next_kinds next_over k other t → key_of other ≡ key_of kind → t ≡ s
-        own k kind s n stands reached other t at key = elim n.grows [
+        own one k kind s n stands reached other t at key = elim n.grows [
           | inl same ↦
               (let was : IsAt kinds over k other t = (
                 ap (λ xs. slice_get xs k) (sym same.same) ∙ at.0,
                 ap (λ xs. slice_get xs k) (sym same.over_same)
                     ∙ at.1,
               ) in
-              names_same k kind s n other t stands (found.stands k other t was) key)
+              one other kind t s (found.reached k other t was) reached (same_told frame stage other kind key))
           | inr put ↦
               (let last = at_last kinds over found.listed.each kind s in
               let here : slice_get next_over k ≡ Some s = ap (λ xs. slice_get xs k) put.0.over_put
@@ -241,65 +203,75 @@ module _ {g : Ghosts UnitWeight} (frame : Frame) (before stage : ℕ) (further :
               same_Some t s (sym at.1 ∙ here))
         ]
 
-  -- the new move of a kept one
-  pub taken_move : {h : Ghosts Count} (kinds : List Kind) (over : List ℕ) (names : List PrefixKind)
-      (by : AreKeptByKinds (problem_in frame) before names kept)
-      → (kind next : Kind) (s : ℕ) (a : TableArc UnitWeight g) (b : TableArc Count h) (column : List Sym)
-      → Contains (moves_at kept s) a → IsTrue (has a.class column) → IsMove frame stage kind column next
-      → b.class ≡ a.class → b.weight.0 ≡ cost_of (problem_in frame) stage (kind_at_stage frame stage kind) column
-      → IsGiven kinds over b.target next a.target → IsTaken frame stage kinds over kind a b
-  taken_move {h} kinds over names by kind next s a b column here has_column m class weight given = record {
-    same_class = class;
+  -- the new move of a piece of a kept one
+  pub taken_move : {h : Ghosts Count} (kinds : List Kind) (over : List ℕ) (first : ℕ) (kind next : Kind)
+      (a : TableArc UnitWeight g) (b : TableArc Count h)
+      → ((column : List Sym) → IsTrue (has b.class column) → IsTrue (has a.class column))
+      → ((column : List Sym) → IsTrue (has b.class column) → IsMove frame stage kind column next)
+      → ((column : List Sym) → IsTrue (has b.class column)
+      → b.weight.0 ≡ cost_of (problem_in frame) stage (kind_at_stage frame stage kind) column)
+      → ((r : ℕ) → first ≤ r → r ≤ stage → IsAlike (cost_under frame stage r kind) b.class)
+      → IsTrue (is_filled b.class) → length (sets_of b.class) ≡ (tiers_in frame).width
+      → IsGiven kinds over b.target next a.target → IsTaken frame first stage kinds over kind a b
+  taken_move {h} kinds over first kind next a b within moves weighs alike filled wide given = record {
     next = given.given;
     at = given.at;
-    moves = λ other other_has.
-        (let is : column ≡ other = by.single s a here column other has_column other_has in
+    within = within;
+    moves = λ column has_column.
+        (let m = moves column has_column in
         let back : key_of next ≡ key_of given.given = sym given.same in
-        let moves : IsMove frame stage kind column given.given = record {
+        record {
           column_fits = m.column_fits;
           leads = sym (same_told frame stage next given.given back) ∙ m.leads;
           next_fits = same_fits frame stage next given.given back m.next_fits;
-        } in
-        subst (λ (c : List Sym). IsMove frame stage kind c given.given) is moves);
-    weighs = λ other other_has.
-        (let is : column ≡ other = by.single s a here column other has_column other_has in
-        subst (λ (c : List Sym). b.weight.0
-        ≡ cost_of (problem_in frame) stage (kind_at_stage frame stage kind) c) is weight);
+        });
+    weighs = weighs;
+    alike = alike;
+    filled = filled;
+    wide = wide;
   }
 
 -- moves are taken as before where what is listed stays
-pub taken_stays : {g : Ghosts UnitWeight} {h : Ghosts Count} (frame : Frame) (stage : ℕ)
+pub taken_stays : {g : Ghosts UnitWeight} {h : Ghosts Count} (frame : Frame) (first stage : ℕ)
     (kinds next_kinds : List Kind) (over next_over : List ℕ) → Stays kinds next_kinds over next_over
-    → (kind : Kind) (a : TableArc UnitWeight g) (b : TableArc Count h) → IsTaken frame stage kinds over kind a b
-    → IsTaken frame stage next_kinds next_over kind a b
-taken_stays frame stage kinds next_kinds over next_over stays kind a b t = record {
-  same_class = t.same_class;
+    → (kind : Kind) (a : TableArc UnitWeight g) (b : TableArc Count h) → IsTaken frame first stage kinds over kind a b
+    → IsTaken frame first stage next_kinds next_over kind a b
+taken_stays frame first stage kinds next_kinds over next_over stays kind a b t = record {
   next = t.next;
   at = stays b.target t.next a.target t.at;
+  within = t.within;
   moves = t.moves;
   weighs = t.weighs;
+  alike = t.alike;
+  filled = t.filled;
+  wide = t.wide;
 }
 
-pub all_taken_stay : {g : Ghosts UnitWeight} {h : Ghosts Count} (frame : Frame) (stage : ℕ)
+pub moves_taken_stay : {g : Ghosts UnitWeight} {h : Ghosts Count} (frame : Frame) (first stage : ℕ)
     (kinds next_kinds : List Kind) (over next_over : List ℕ) → Stays kinds next_kinds over next_over
     → (kind : Kind) (arcs : List (TableArc UnitWeight g)) (moves : List (TableArc Count h))
-    → AllZip (IsTaken frame stage kinds over kind) arcs moves
-    → AllZip (IsTaken frame stage next_kinds next_over kind) arcs moves
-all_taken_stay frame stage kinds next_kinds over next_over stays kind arcs moves z =
-    zip_weaken (IsTaken frame stage kinds over kind) (IsTaken frame stage next_kinds next_over kind)
-    (λ a b t. taken_stays frame stage kinds next_kinds over next_over stays kind a b t) arcs moves z
+    → AreTakenMoves frame first stage kinds over kind arcs moves
+    → AreTakenMoves frame first stage next_kinds next_over kind arcs moves
+moves_taken_stay frame first stage kinds next_kinds over next_over stays kind arcs moves t = record {
+  each = λ k d inside. (let was = t.each k d inside in record {
+    arc = was.arc;
+    listed = was.listed;
+    taken = taken_stays frame first stage kinds next_kinds over next_over stays kind was.arc (get_or moves k d) was.taken;
+  });
+  held = t.held;
+}
 
 -- one new state more
-pub taken_push : {g : Ghosts UnitWeight} {h : Ghosts Count} (frame : Frame) (stage : ℕ)
+pub taken_push : {g : Ghosts UnitWeight} {h : Ghosts Count} (frame : Frame) (first stage : ℕ)
     (kept : List (TableState UnitWeight g)) (kinds next_kinds : List Kind) (over next_over : List ℕ)
     → length over ≡ length kinds → Stays kinds next_kinds over next_over
     → (states : List (TableState Count h)) (state : TableState Count h) (kind : Kind) (s : ℕ)
-    → AreTaken frame stage kept kinds over states → IsAt kinds over (length states) kind s
-    → IsTakenState frame stage kept next_kinds next_over kind s state.accepting state.arcs.items
+    → AreTaken frame first stage kept kinds over states → IsAt kinds over (length states) kind s
+    → IsTakenState frame first stage kept next_kinds next_over kind s state.accepting state.arcs.items
     → AreTargets kinds next_kinds state.arcs.items
-    → AreTaken frame stage kept next_kinds next_over (states ++ state ∷ [])
+    → AreTaken frame first stage kept next_kinds next_over (states ++ state ∷ [])
 taken_push {g}
-    {h} frame stage kept kinds next_kinds over next_over each stays states state kind s taken at made targets = record {
+    {h} frame first stage kept kinds next_kinds over next_over each stays states state kind s taken at made targets = record {
       reached = linked;
       within = (let l = slice_get_within next_kinds (length states) kind (stays (length states) kind s at).0 in omega
           (arith, length_push states state));
@@ -339,17 +311,17 @@ taken_push {g}
 
     moved_to : (k : ℕ) (was other : Kind) (u t : ℕ) (accepting : Bool) (moves : List (TableArc Count h)) → was ≡ other
         → u ≡ t → now_accepting k ≡ accepting → now_moves k ≡ moves
-        → IsTakenState frame stage kept next_kinds next_over was u accepting moves
-        → IsTakenState frame stage kept next_kinds next_over other t (now_accepting k) (now_moves k)
+        → IsTakenState frame first stage kept next_kinds next_over was u accepting moves
+        → IsTakenState frame first stage kept next_kinds next_over other t (now_accepting k) (now_moves k)
     moved_to k was other u t accepting moves a b c d m =
-        subst (λ (x : Kind). IsTakenState frame stage kept next_kinds next_over x t (now_accepting k) (now_moves k)) a
-        (subst (λ (x : ℕ). IsTakenState frame stage kept next_kinds next_over was x (now_accepting k) (now_moves k)) b
-        (subst (λ (xs : List (TableArc Count h)). IsTakenState frame stage kept next_kinds next_over was u
+        subst (λ (x : Kind). IsTakenState frame first stage kept next_kinds next_over x t (now_accepting k) (now_moves k)) a
+        (subst (λ (x : ℕ). IsTakenState frame first stage kept next_kinds next_over was x (now_accepting k) (now_moves k)) b
+        (subst (λ (xs : List (TableArc Count h)). IsTakenState frame first stage kept next_kinds next_over was u
         (now_accepting k) xs) (sym d)
-        (subst (λ (x : Bool). IsTakenState frame stage kept next_kinds next_over was u x moves) (sym c) m)))
+        (subst (λ (x : Bool). IsTakenState frame first stage kept next_kinds next_over was u x moves) (sym c) m)))
 
     all : (k : ℕ) (other : Kind) (t : ℕ) → k < length (states ++ state ∷ []) → IsAt next_kinds next_over k other t
-        → IsTakenState frame stage kept next_kinds next_over other t (now_accepting k) (now_moves k)
+        → IsTakenState frame first stage kept next_kinds next_over other t (now_accepting k) (now_moves k)
     all k other t l there = elim (cases_lt k (length states)) [
       | inl lower ↦
           (let was = at_number kinds over each k (omega (arith, taken.within, lower)) in
@@ -360,7 +332,7 @@ taken_push {g}
           (accepting_old states state k lower) (moves_old states state k lower)
           (record {
             accepts = before.accepts;
-            taken = all_taken_stay frame stage kinds next_kinds over next_over stays was.0 (moves_at kept was.1)
+            taken = moves_taken_stay frame first stage kinds next_kinds over next_over stays was.0 (moves_at kept was.1)
                 (moves_at states k) before.taken;
           }))
       | inr upper ↦

@@ -5,7 +5,7 @@ use Rattle.tier_core.specs.declared.kind.Kind.{Kind}
 use Rattle.tier_core.specs.Kinds.{PrefixKind, phase_by_bits, open_tiers}
 use Rattle.tier_core.specs.Tiers.{has_tier}
 use Rattle.kind_moves.specs.declared.frame.Frame.{Frame}
-use Rattle.kind_moves.specs.Frames.{tiers_in, form_in, stretches_in, kind_at_stage, FitsFrame, is_left_open, AreClosedOr}
+use Rattle.kind_moves.specs.Frames.{tiers_in, stretches_in, kind_at_stage, FitsFrame, is_left_open, AreClosedOr}
 use Rattle.kind_moves.proofs.KindEquality.{same_told as same_kind}
 use Rattle.stage_tables.specs.declared.kind_key.KindKey.{KindKey}
 use Rattle.stage_tables.specs.KindKeys.{key_of}

@@ -4,8 +4,12 @@ mod Listing
 mod Finding
 mod Numbering
 mod Taking
+mod PiecesParted
 mod Beginning
+mod HeldMoves
 pub mod Named
+mod KeptTables
+mod WholeTables
 pub mod Alike
 pub mod FirstParts
 pub mod RankedStates

@@ -1,6 +1,6 @@
 -- The states of the table of a single pass, one after another.
-use Rattle.std.proofs.Common.{◌≡◌, ℕ, ◌+◌, ◌-◌, ◌<◌, ◌≤◌, List, [], ◌∷◌, ◌++◌, take, length, get_or, refl, sym, ap, ◌∙◌, subst, arith, inl, inr, take_all}
-use Rattle.std.specs.Prelude.{All, Contains, IsTrue}
+use Rattle.std.proofs.Common.{◌≡◌, ℕ, ◌+◌, ◌<◌, ◌≤◌, List, [], ◌∷◌, ◌++◌, take, length, get_or, sym, ap, ◌∙◌, subst, arith, inl, inr, take_all}
+use Rattle.std.specs.Prelude.{All, IsTrue}
 use Rattle.std.specs.List.{AllZip}
 use Rattle.std.proofs.lemmas.Bool.{cases_lt}
 use Rattle.std.proofs.lemmas.List.{take_more, length_push, get_or_default, get_or-map, length-map}
@@ -11,10 +11,9 @@ use Rattle.weight_law.specs.declared.ranked.Ranked.{Ranked}
 use Rattle.weight_law.specs.Ranked.{padded}
 use Rattle.tier_core.specs.declared.class.Class.{Class}
 use Rattle.tier_core.specs.declared.kind.Kind.{Kind}
-use Rattle.tier_core.specs.declared.sym.Sym.{Sym}
 use Rattle.tier_core.specs.Classes.{has}
+use Rattle.symbol_class.specs.Parts.{IsAlike as IsAlikeOn}
 use Rattle.tier_core.specs.Kinds.{PrefixKind}
-use Rattle.arc_table.specs.declared.arc.TableArc.{TableArc}
 use Rattle.arc_table.specs.declared.state.TableState.{TableState}
 use Rattle.arc_table.specs.Moves.{moves_at, accepting_at}
 use Rattle.arc_table.proofs.Push.{accepting_old, accepting_new, moves_old, moves_new, moves_exist}
@@ -24,7 +23,7 @@ use Rattle.kind_moves.specs.Frames.{kind_at_stage, FitsFrame, problem_in}
 use Rattle.stage_laws.specs.StageTables.{name_of}
 use Rattle.stage_laws.specs.RankedTables.{AreWeighedByAll, IsRankedTable}
 use Rattle.stage_tables.specs.Explored.{names_at}
-use Rattle.stage_tables.specs.Ranking.{costs_at, kind_numbered, IsColumnOf, IsRankedMove, AreRankedStates, IsWholeTable}
+use Rattle.stage_tables.specs.Ranking.{kind_numbered, AreColumnsOf, IsRankedMove, AreRankedStates, IsWholeTable}
 use Rattle.stage_tables.proofs.Alike.{IsAlike, AreAlike, alike_on_runs, alike_named, alike_words}
 use Rattle.stage_tables.proofs.Zips.{zip_push, zip_from, zip_weaken}
 use Rattle.violation.specs.Problems.{last_stage}
@@ -90,16 +89,25 @@ module _ {g : Ghosts Count} (frame : Frame) (kinds : List Kind) (old : List (Tab
   pub kind_is : (k : ℕ) (kind : Kind) → k < length old → kind ≡ get_or kinds k kind → kind ≡ kind_numbered kinds k
   kind_is k kind l is = is ∙ get_or_default kinds k kind _ (omega (arith, l, many_kinds))
 
-  -- each move of a state has one column of the frame
-  pub column_of : (s : ℕ) (arc : TableArc Count g) → Contains (moves_at old s) arc → IsColumnOf frame arc.class
-  column_of s arc here = record {
-    filled = whole.named.filled s arc here;
-    single = whole.single s arc here;
-    wide = λ column reads. (whole.named.moves s arc column here reads).fits.width;
-  }
+  name_is : (k : ℕ) → k < length old
+      → name_of (names_at frame (last_stage (problem_in frame)) kinds) k
+      ≡ kind_at_stage frame (last_stage (problem_in frame)) (kind_numbered kinds k)
+  name_is k l = get_or-map (kind_at_stage frame (last_stage (problem_in frame))) kinds k _ _
+      (omega (arith, l, many_kinds))
 
-  pub columns_of : (s : ℕ) → All (λ arc. IsColumnOf frame arc.class) (moves_at old s)
-  columns_of s k d l = column_of s (get_or (moves_at old s) k d) (Contains-get_or (moves_at old s) k d l)
+  -- the columns of each move of a state are the frame's, and cost the same
+  pub columns_of : (s : ℕ) (kind : Kind) → s < length old → kind ≡ get_or kinds s kind
+      → All (λ arc. AreColumnsOf frame kind arc.class) (moves_at old s)
+  columns_of s kind l is k d inside =
+      let arc = get_or (moves_at old s) k d in
+      let here = Contains-get_or (moves_at old s) k d inside in
+      let named = name_is s l ∙ ap (kind_at_stage frame (last_stage (problem_in frame))) (sym (kind_is s kind l is)) in
+      record {
+        filled = whole.named.filled s arc here;
+        alike = subst (λ (q : PrefixKind). IsAlikeOn (move_costs (problem_in frame) (last_stage (problem_in frame)) q)
+            arc.class) named (whole.alike s arc here);
+        wide = λ column reads. (whole.named.moves s arc column here reads).fits.width;
+      }
 
   module _ {h : Ghosts Ranked} (new : List (TableState Ranked h))
       (made : AreRankedStates frame kinds old new (length old)) where
@@ -112,12 +120,6 @@ module _ {g : Ghosts Count} (frame : Frame) (kinds : List Kind) (old : List (Tab
           (λ a b same. record { same_class = same.same_class; same_target = same.same_target })
           (moves_at old k) (moves_at new k) (made.moves k l);
     }
-
-    name_is : (k : ℕ) → k < length old
-        → name_of (names_at frame (last_stage (problem_in frame)) kinds) k
-        ≡ kind_at_stage frame (last_stage (problem_in frame)) (kind_numbered kinds k)
-    name_is k l = get_or-map (kind_at_stage frame (last_stage (problem_in frame))) kinds k _ _
-        (omega (arith, l, many_kinds))
 
     weighed : AreWeighedByAll (problem_in frame) (names_at frame (last_stage (problem_in frame)) kinds) new
     weighed s b column here reads =

@@ -1,77 +1,287 @@
 -- Moves that are taken one by one.
-use Rattle.std.proofs.Common.{◌≡◌, ℕ, ◌+◌, ◌<◌, List, [], ◌∷◌, ◌++◌, take, length, get_or, ap, sym, ◌∙◌, subst, arith, inl, inr}
-use Rattle.std.specs.List.{AllZip}
-use Rattle.std.proofs.lemmas.Bool.{cases_lt}
-use Rattle.std.proofs.lemmas.List.{take_more}
-use Rattle.std.proofs.lemmas.List.Elements.{Contains-append_left, Contains-append_right}
+use Rattle.std.proofs.Common.{◌≡◌, ℕ, zero, suc, ◌+◌, ◌-◌, ◌==◌, cond, ne_eqb, ◌<◌, ◌≤◌, Bool, true, false, List, [], ◌∷◌, ◌++◌, take, length, get_or, refl, ap, sym, ◌∙◌, subst, arith, inl, inr, All, Contains, IsTrue}
+use Rattle.std.proofs.lemmas.Bool.{false≢true, cases_lt, false_from_ne_true}
+use Rattle.std.proofs.lemmas.List.Folds.{list_any_at}
+use Rattle.std.proofs.lemmas.List.{get_or-map, length-map, take_more, append-nil, append_assoc, map-append}
+use Rattle.std.proofs.lemmas.List.Elements.{All-nil, All-append, All-push, Contains-append_left, Contains-append_right}
 use Rattle.std.proofs.Math.Seq.{take-length}
 use Rattle.weight_law.specs.declared.Weight.{Ghosts}
 use Rattle.weight_law.specs.declared.count.Count.{Count}
 use Rattle.weight_law.specs.declared.unit_weight.UnitWeight.{UnitWeight}
+use Rattle.tier_core.specs.declared.class.Class.{Class}
 use Rattle.tier_core.specs.declared.kind.Kind.{Kind}
+use Rattle.tier_core.specs.declared.sym.Sym.{Sym}
+use Rattle.tier_core.specs.Classes.{sets_of, has}
+use Rattle.symbol_class.specs.Filled.{is_filled}
+use Rattle.symbol_class.specs.Held.{some_has, times_held, once_if}
+use Rattle.symbol_class.proofs.Times.{times-cons, times-append, none_held, some_held, once_from_apart}
+use Rattle.symbol_class.specs.FirstColumn.{first_column}
+use Rattle.symbol_class.proofs.Filled.{has-first_column}
 use Rattle.arc_table.specs.declared.arc.TableArc.{TableArc}
+use Rattle.arc_table.specs.Moves.{moves_at}
+use Rattle.arc_table.specs.Conditions.{TargetsExist}
+use Rattle.arc_table.specs.declared.state.TableState.{TableState}
+use Rattle.tier_core.specs.Kinds.{PrefixKind}
+use Rattle.violation.specs.Moves.{move_costs, cost_of}
+use Rattle.violation.specs.Problems.{Problem}
+use Rattle.kind_moves.specs.declared.frame.Frame.{Frame}
+use Rattle.kind_moves.specs.declared.piece.Piece.{Piece}
+use Rattle.kind_moves.specs.Frames.{problem_in, tiers_in, kind_at_stage, FitsAt}
+use Rattle.kind_moves.specs.Pieces.{classes_of as piece_classes}
 use Rattle.stage_tables.specs.declared.exploring.Exploring.{Exploring}
 use Rattle.stage_tables.specs.declared.listed.Listed.{Listed}
-use Rattle.stage_tables.specs.Listed.{AreTargets, IsTaken}
-use Rattle.stage_tables.specs.Exploring.{IsFoundWithin, StaysListed}
-use Rattle.stage_tables.proofs.Zips.{zip_push}
-use Rattle.stage_tables.proofs.Finding.{all_taken_stay}
+use Rattle.stage_tables.specs.Listed.{StandsOver, IsReached, AreTargets, IsTaken, IsTakenFrom, AreTakenMoves, classes_of}
+use Rattle.stage_tables.specs.Exploring.{IsFoundWithin, StaysListed, ArePiecesFrom, IsPieceFrom, AddsTaken}
+use Rattle.stage_tables.proofs.Finding.{next_stands, next_reached, taken_stays, moves_taken_stay}
 
--- the first n moves are taken
+-- ---- a piece of a kept move
+
+-- it has a column
+piece_column : (exploring : Exploring) (kind : Kind) (class : Class) (piece : Piece)
+    → IsPieceFrom exploring kind class piece → (column : List Sym) × IsTrue (has piece.class column)
+piece_column exploring kind class piece p = (first_column piece.class, has-first_column piece.class p.filled)
+
+module _ {g : Ghosts UnitWeight} (exploring : Exploring) (kept : List (TableState UnitWeight g))
+    (exist : TargetsExist kept) (kind : Kind) (s : ℕ) (arc : TableArc UnitWeight g)
+    (here : Contains (moves_at kept s) arc) (piece : Piece) (p : IsPieceFrom exploring kind arc.class piece) where
+  pub piece_stands : StandsOver exploring.frame.now exploring.stage (length kept) piece.target arc.target
+  piece_stands =
+      let column = piece_column exploring kind arc.class piece p in
+      next_stands exploring.frame.now exploring.stage kept exist kind s arc column.0 here piece.target
+      (p.is.moves column.0 column.1)
+
+  pub piece_reached : IsReached exploring.frame.now exploring.stage kept kind s
+      → IsReached exploring.frame.now exploring.stage kept piece.target arc.target
+  piece_reached r =
+      let column = piece_column exploring kind arc.class piece p in
+      next_reached exploring.frame.now exploring.stage kept exist kind s r arc column.0 here
+      (p.within column.0 column.1) piece.target (p.is.moves column.0 column.1)
+
+-- what a column costs under the last constraint, and 0 where there is none
+last_cost : (problem : Problem) (stage : ℕ) (k : PrefixKind) (column : List Sym)
+    → cond (stage == 0) 0 (get_or (move_costs problem stage k column) (stage - 1) 0) ≡ cost_of problem stage k column
+last_cost problem zero k column = refl
+last_cost problem (suc n) k column =
+    ap (λ b. cond b 0 (get_or (move_costs problem (suc n) k column) (suc n - 1) 0)) (ne_eqb (suc n) 0 (λ e. omega (arith, e)))
+
+pub piece_weighs : (exploring : Exploring) (kind : Kind) {class : Class} (piece : Piece)
+    → IsPieceFrom exploring kind class piece → (column : List Sym) → IsTrue (has piece.class column)
+    → piece.cost ≡ cost_of (problem_in exploring.frame.now) exploring.stage
+    (kind_at_stage exploring.frame.now exploring.stage kind) column
+piece_weighs exploring kind piece p column has_column =
+    p.is.costs column has_column
+    ∙ last_cost (problem_in exploring.frame.now) exploring.stage
+    (kind_at_stage exploring.frame.now exploring.stage kind) column
+
+-- ---- the pieces of one kept move
+
+-- classes of which at most one holds a column hold it once where some does
+pub held_once : (classes : List Class) (column : List Sym) (b : Bool) → times_held classes column ≤ 1
+    → some_has classes column ≡ b → times_held classes column ≡ once_if b
+held_once classes column true few some = omega (arith, few, some_held classes column some)
+held_once classes column false few none = none_held classes column none
+
+pub pieces_hold : (exploring : Exploring) (kind : Kind) (class : Class) (pieces : List Piece)
+    → ArePiecesFrom exploring kind class pieces → (column : List Sym)
+    → FitsAt exploring.frame.now exploring.stage kind column
+    → times_held (piece_classes pieces) column ≡ times_held (class ∷ []) column
+pieces_hold exploring kind class pieces are column fits =
+    held_once (piece_classes pieces) column (has class column)
+    (once_from_apart (piece_classes pieces) are.apart.apart column) (same (has class column) refl)
+    ∙ sym (let one = times-cons class [] column in omega (arith, one))
+  where
+    same : (b : Bool) → has class column ≡ b → some_has (piece_classes pieces) column ≡ has class column
+    same true h = (are.columns column).1 (h, fits) ∙ sym h
+    same false h = false_from_ne_true (some_has (piece_classes pieces) column)
+        (λ some. false≢true (sym h ∙ ((are.columns column).0 some).0)) ∙ sym h
+
+-- a piece of the list
+pub piece_from : (exploring : Exploring) (kind : Kind) (class : Class) (pieces : List Piece)
+    → ArePiecesFrom exploring kind class pieces → (n : ℕ) (piece : Piece) → n < length pieces
+    → piece ≡ get_or pieces n piece → IsPieceFrom exploring kind class piece
+piece_from exploring kind class pieces are n piece inside is =
+    subst (IsPieceFrom exploring kind class) (sym is) (record {
+      within = λ column h. ((are.columns column).0 (list_any_at (λ c. has c column) (piece_classes pieces) n piece.class
+          long (ap (λ c. has c column) same ∙ h))).0;
+      is = are.each n piece inside;
+      alike = λ r low high. are.alike r low high n piece inside;
+      filled = subst (λ (c : Class). IsTrue (is_filled c)) same (are.apart.filled n piece.class long);
+      wide = subst (λ (c : Class). length (sets_of c) ≡ (tiers_in exploring.frame.now).width) same
+          (are.apart.one_width n piece.class long);
+    })
+  where
+    long : n < length (piece_classes pieces)
+    long = omega (arith, inside, length-map pieces (λ (p : Piece). p.class))
+
+    same : get_or (piece_classes pieces) n piece.class ≡ (get_or pieces n piece).class
+    same = get_or-map (λ (p : Piece). p.class) pieces n piece piece.class inside
+
+-- the moves of the first n pieces are put behind others
+pub record PushedSoFar {g : Ghosts UnitWeight} {h : Ghosts Count} (exploring : Exploring) (first now : Listed)
+    (kind : Kind) (arc : TableArc UnitWeight g) (pieces : List Piece) (old new : List (TableArc Count h))
+    (n : ℕ) : Type 0 where
+  pub found : IsFoundWithin exploring now
+  pub stays : StaysListed first now
+  pub added : List (TableArc Count h)
+  pub new_is : new ≡ old ++ added
+  pub targets : AreTargets first.kinds.items now.kinds.items added
+  pub classes : classes_of added ≡ piece_classes (take n pieces)
+  pub each : All (IsTaken exploring.frame.now exploring.first exploring.stage now.kinds.items now.over.items kind arc)
+      added
+
+pub none_pushed : {g : Ghosts UnitWeight} {h : Ghosts Count} (exploring : Exploring) (first : Listed) (kind : Kind)
+    (arc : TableArc UnitWeight g) (pieces : List Piece) (old : List (TableArc Count h)) → IsFoundWithin exploring first
+    → PushedSoFar exploring first first kind arc pieces old old 0
+none_pushed exploring first kind arc pieces old found = record {
+  found = found;
+  stays = λ k other s at. at;
+  added = [];
+  new_is = sym (append-nil old);
+  targets = λ k low high. absurd (omega (arith, low, high));
+  classes = refl;
+  each = All-nil (IsTaken exploring.frame.now exploring.first exploring.stage first.kinds.items first.over.items kind
+      arc);
+}
+
+-- targets of two lists of moves, one after the other
+targets_then : {h : Ghosts Count} (first now next : List Kind) (xs ys : List (TableArc Count h))
+    → AreTargets first now xs → AreTargets now next ys → AreTargets first next (xs ++ ys)
+targets_then first now next xs ys a b k low high = elim (cases_lt k (length now)) [
+  | inl lower ↦ (let was = a k low lower in (was.0, Contains-append_left xs ys was.0 was.1, was.2))
+  | inr upper ↦ (let new = b k upper high in (new.0, Contains-append_right xs ys new.0 new.1, new.2))
+]
+
+pub one_pushed : {g : Ghosts UnitWeight} {h : Ghosts Count} (exploring : Exploring) (first now next : Listed)
+    (kind : Kind) (arc : TableArc UnitWeight g) (pieces : List Piece) (old new : List (TableArc Count h)) (n : ℕ)
+    (piece : Piece) (made : TableArc Count h)
+    → PushedSoFar exploring first now kind arc pieces old new n → n < length pieces → piece ≡ get_or pieces n piece
+    → IsFoundWithin exploring next → StaysListed now next
+    → AreTargets now.kinds.items next.kinds.items (made ∷ []) → made.class ≡ piece.class
+    → IsTaken exploring.frame.now exploring.first exploring.stage next.kinds.items next.over.items kind arc made
+    → PushedSoFar exploring first next kind arc pieces old (new ++ made ∷ []) (n + 1)
+one_pushed exploring first now next kind arc pieces old new n piece made so_far inside is found stays targets class
+    taken = record {
+      found = found;
+      stays = λ k other s at. stays k other s (so_far.stays k other s at);
+      added = so_far.added ++ made ∷ [];
+      new_is = ap (λ xs. xs ++ made ∷ []) so_far.new_is ∙ append_assoc old so_far.added (made ∷ []);
+      targets = targets_then first.kinds.items now.kinds.items next.kinds.items so_far.added (made ∷ [])
+          so_far.targets targets;
+      classes =
+          map-append (λ arc. arc.class) so_far.added (made ∷ [])
+          ∙ ap (λ cs. cs ++ made.class ∷ []) so_far.classes
+          ∙ ap (λ c. piece_classes (take n pieces) ++ c ∷ []) (class ∙ ap (λ (p : Piece). p.class) is)
+          ∙ sym (map-append (λ (p : Piece). p.class) (take n pieces) (get_or pieces n piece ∷ []))
+          ∙ ap piece_classes (sym (take_more pieces n piece inside));
+      each = All-push (IsTaken exploring.frame.now exploring.first exploring.stage next.kinds.items next.over.items
+          kind arc) so_far.added made
+          (λ k d l. taken_stays exploring.frame.now exploring.first exploring.stage now.kinds.items next.kinds.items
+          now.over.items next.over.items stays kind arc (get_or so_far.added k d) (so_far.each k d l)) taken;
+    }
+
+pub all_pushed : {g : Ghosts UnitWeight} {h : Ghosts Count} (exploring : Exploring) (first now : Listed) (kind : Kind)
+    (arc : TableArc UnitWeight g) (pieces : List Piece) (old new : List (TableArc Count h)) (n : ℕ)
+    → PushedSoFar exploring first now kind arc pieces old new n → n ≡ length pieces
+    → ArePiecesFrom exploring kind arc.class pieces → AddsTaken exploring first now kind arc old new
+all_pushed exploring first now kind arc pieces old new n so_far last are = record {
+  added = so_far.added;
+  new_is = so_far.new_is;
+  targets = so_far.targets;
+  taken = record {
+    each = λ k d l. record { arc = arc; listed = (0, omega arith, refl); taken = so_far.each k d l };
+    held = λ column fits.
+        ap (λ cs. times_held cs column) (so_far.classes ∙ ap (λ k. piece_classes (take k pieces)) last
+        ∙ ap piece_classes (take-length pieces))
+        ∙ pieces_hold exploring kind arc.class pieces are column fits;
+  };
+}
+
+-- ---- all kept moves from a state
+
+-- moves of two lists of kept ones
+taken_then : {g : Ghosts UnitWeight} {h : Ghosts Count} (frame : Frame) (first stage : ℕ) (kinds : List Kind)
+    (over : List ℕ) (kind : Kind) (ks ls : List (TableArc UnitWeight g)) (xs ys : List (TableArc Count h))
+    → AreTakenMoves frame first stage kinds over kind ks xs → AreTakenMoves frame first stage kinds over kind ls ys
+    → AreTakenMoves frame first stage kinds over kind (ks ++ ls) (xs ++ ys)
+taken_then {g} {h} frame first stage kinds over kind ks ls xs ys a b = record {
+  each = All-append (IsTakenFrom frame first stage kinds over kind (ks ++ ls)) xs ys
+      (λ k d l. (let from = a.each k d l in record {
+        arc = from.arc;
+        listed = Contains-append_left ks ls from.arc from.listed;
+        taken = from.taken;
+      }))
+      (λ k d l. (let from = b.each k d l in record {
+        arc = from.arc;
+        listed = Contains-append_right ks ls from.arc from.listed;
+        taken = from.taken;
+      }));
+  held = λ column fits.
+      omega (arith, split xs ys column, a.held column fits, b.held column fits, parts column);
+}
+  where
+    split : (xs ys : List (TableArc Count h)) (column : List Sym) → times_held (classes_of (xs ++ ys)) column
+        ≡ times_held (classes_of xs) column + times_held (classes_of ys) column
+    split xs ys column = ap (λ cs. times_held cs column) (map-append (λ arc. arc.class) xs ys)
+        ∙ times-append (classes_of xs) (classes_of ys) column
+
+    parts : (column : List Sym) → times_held (classes_of (ks ++ ls)) column
+        ≡ times_held (classes_of ks) column + times_held (classes_of ls) column
+    parts column = ap (λ cs. times_held cs column) (map-append (λ arc. arc.class) ks ls)
+        ∙ times-append (classes_of ks) (classes_of ls) column
+
+-- the first n kept moves are taken
 pub record TakenSoFar {g : Ghosts UnitWeight} {h : Ghosts Count} (exploring : Exploring) (first now : Listed)
     (kind : Kind) (arcs : List (TableArc UnitWeight g)) (moves : List (TableArc Count h)) (n : ℕ) : Type 0 where
   pub found : IsFoundWithin exploring now
   pub stays : StaysListed first now
   pub targets : AreTargets first.kinds.items now.kinds.items moves
-  pub taken : AllZip (IsTaken exploring.frame.now exploring.stage now.kinds.items now.over.items kind)
+  pub taken : AreTakenMoves exploring.frame.now exploring.first exploring.stage now.kinds.items now.over.items kind
       (take n arcs) moves
 
 pub none_taken : {g : Ghosts UnitWeight} {h : Ghosts Count} (exploring : Exploring) (first : Listed) (kind : Kind)
     (arcs : List (TableArc UnitWeight g)) (moves : List (TableArc Count h)) → moves ≡ []
     → IsFoundWithin exploring first → TakenSoFar exploring first first kind arcs moves 0
-none_taken {g} {h} exploring first kind arcs moves none found = record {
-  found = found;
-  stays = λ k other s at. at;
-  targets = λ k low high. absurd (omega (arith, low, high));
-  taken = subst (λ (xs : List (TableArc Count h)). AllZip
-      (IsTaken {g = g} {h = h} exploring.frame.now exploring.stage first.kinds.items first.over.items kind) [] xs)
-      (sym none) tt;
-}
+none_taken {g} {h} exploring first kind arcs moves none found =
+    subst (λ (xs : List (TableArc Count h)). TakenSoFar exploring first first kind arcs xs 0) (sym none) (record {
+      found = found;
+      stays = λ k other s at. at;
+      targets = λ k low high. absurd (omega (arith, low, high));
+      taken = record {
+        each = All-nil (IsTakenFrom exploring.frame.now exploring.first exploring.stage first.kinds.items
+            first.over.items kind []);
+        held = λ column fits. refl;
+      };
+    })
 
 pub one_taken : {g : Ghosts UnitWeight} {h : Ghosts Count} (exploring : Exploring) (first now next : Listed)
-    (kind : Kind) (arcs : List (TableArc UnitWeight g)) (moves : List (TableArc Count h)) (n : ℕ)
-    (arc : TableArc UnitWeight g) (made : TableArc Count h)
+    (kind : Kind) (arcs : List (TableArc UnitWeight g)) (moves more : List (TableArc Count h)) (n : ℕ)
+    (arc : TableArc UnitWeight g)
     → TakenSoFar exploring first now kind arcs moves n → n < length arcs → arc ≡ get_or arcs n arc
-    → IsFoundWithin exploring next → StaysListed now next
-    → AreTargets now.kinds.items next.kinds.items (made ∷ [])
-    → IsTaken exploring.frame.now exploring.stage next.kinds.items next.over.items kind arc made
-    → TakenSoFar exploring first next kind arcs (moves ++ made ∷ []) (n + 1)
-one_taken {g}
-    {h} exploring first now next kind arcs moves n arc made so_far inside is found stays targets taken = record {
+    → IsFoundWithin exploring next → StaysListed now next → AddsTaken exploring now next kind arc moves more
+    → TakenSoFar exploring first next kind arcs more (n + 1)
+one_taken {g} {h} exploring first now next kind arcs moves more n arc so_far inside is found stays adds =
+    subst (λ (xs : List (TableArc Count h)). TakenSoFar exploring first next kind arcs xs (n + 1)) (sym adds.new_is)
+    (record {
       found = found;
       stays = λ k other s at. stays k other s (so_far.stays k other s at);
-      targets = λ k low high. elim (cases_lt k (length now.kinds.items)) [
-        | inl lower ↦ (let was = so_far.targets k low lower in
-            (was.0, Contains-append_left moves (made ∷ []) was.0 was.1, was.2))
-        | inr upper ↦ (let new = targets k upper high in
-            (new.0, Contains-append_right moves (made ∷ []) new.0 new.1, new.2))
-      ];
+      targets = targets_then first.kinds.items now.kinds.items next.kinds.items moves adds.added so_far.targets
+          adds.targets;
       taken =
-          (let Good = IsTaken {g = g} {h = h} exploring.frame.now exploring.stage next.kinds.items next.over.items kind in
-          let before : AllZip Good
-          (take n arcs) moves = all_taken_stay exploring.frame.now exploring.stage now.kinds.items next.kinds.items
-          now.over.items next.over.items stays kind (take n arcs) moves so_far.taken in
-          let more : take (n + 1) arcs ≡ take n arcs ++ arc ∷ [] = take_more arcs n arc inside
+          (let before = moves_taken_stay exploring.frame.now exploring.first exploring.stage now.kinds.items
+          next.kinds.items now.over.items next.over.items stays kind (take n arcs) moves so_far.taken in
+          let is_more : take (n + 1) arcs ≡ take n arcs ++ arc ∷ [] = take_more arcs n arc inside
           ∙ ap (λ x. take n arcs ++ x ∷ []) (sym is) in
-          subst (λ (xs : List (TableArc UnitWeight g)). AllZip Good xs (moves ++ made ∷ [])) (sym more)
-          (zip_push Good (take n arcs) moves arc made before taken));
-    }
+          subst (λ (xs : List (TableArc UnitWeight g)). AreTakenMoves exploring.frame.now exploring.first
+          exploring.stage next.kinds.items next.over.items kind xs (moves ++ adds.added)) (sym is_more)
+          (taken_then exploring.frame.now exploring.first exploring.stage next.kinds.items next.over.items kind
+          (take n arcs) (arc ∷ []) moves adds.added before adds.taken));
+    })
 
 pub all_taken : {g : Ghosts UnitWeight} {h : Ghosts Count} (exploring : Exploring) (first now : Listed) (kind : Kind)
     (arcs all : List (TableArc UnitWeight g)) (moves : List (TableArc Count h)) (n : ℕ)
     → TakenSoFar exploring first now kind arcs moves n → n ≡ length arcs → arcs ≡ all
-    → AllZip (IsTaken exploring.frame.now exploring.stage now.kinds.items now.over.items kind) all moves
+    → AreTakenMoves exploring.frame.now exploring.first exploring.stage now.kinds.items now.over.items kind all moves
 all_taken {g} {h} exploring first now kind arcs all moves n so_far last is =
     let whole : take n arcs ≡ all = ap (λ k. take k arcs) last ∙ take-length arcs ∙ is in
-    subst (λ (xs : List (TableArc UnitWeight g)). AllZip
-    (IsTaken exploring.frame.now exploring.stage now.kinds.items now.over.items kind) xs moves) whole so_far.taken
+    subst (λ (xs : List (TableArc UnitWeight g)). AreTakenMoves exploring.frame.now exploring.first exploring.stage
+    now.kinds.items now.over.items kind xs moves) whole so_far.taken

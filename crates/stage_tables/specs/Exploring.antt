@@ -1,10 +1,25 @@
 -- What is found while a kept table is explored.
-use Rattle.std.specs.Prelude.{ℕ, ◌<◌, ◌≤◌, length}
+use Rattle.std.specs.Prelude.{◌≡◌, ℕ, ◌<◌, ◌≤◌, ◌↔◌, List, [], ◌∷◌, ◌++◌, length, All, IsTrue}
+use Rattle.weight_law.specs.declared.Weight.{Ghosts}
+use Rattle.weight_law.specs.declared.count.Count.{Count}
+use Rattle.weight_law.specs.declared.unit_weight.UnitWeight.{UnitWeight}
+use Rattle.tier_core.specs.declared.class.Class.{Class}
 use Rattle.tier_core.specs.declared.kind.Kind.{Kind}
+use Rattle.tier_core.specs.declared.sym.Sym.{Sym}
+use Rattle.tier_core.specs.Classes.{sets_of, has}
+use Rattle.symbol_class.specs.Filled.{is_filled}
+use Rattle.symbol_class.specs.Held.{some_has, ArePieces}
+use Rattle.symbol_class.specs.Parts.{IsAlike}
+use Rattle.arc_table.specs.declared.arc.TableArc.{TableArc}
+use Rattle.arc_table.specs.declared.state.TableState.{TableState}
 use Rattle.arc_table.specs.States.{states_of}
 use Rattle.stage_tables.specs.declared.exploring.Exploring.{Exploring}
+use Rattle.stage_tables.specs.declared.kind_key.KindKey.{KindKey}
 use Rattle.stage_tables.specs.declared.listed.Listed.{Listed}
-use Rattle.stage_tables.specs.Listed.{AreListed, AreFound, IsAt, Stays}
+use Rattle.kind_moves.specs.declared.piece.Piece.{Piece}
+use Rattle.kind_moves.specs.Frames.{tiers_in, FitsAt}
+use Rattle.kind_moves.specs.Pieces.{cost_under, classes_of, IsPiece}
+use Rattle.stage_tables.specs.Listed.{AreListed, AreFound, AreTaken, AreTakenMoves, AreTargets, IsAt, Stays}
 
 -- what is listed is listed well
 abbrev pub IsListing : Listed → Type 0
@@ -12,7 +27,7 @@ IsListing listed = AreListed listed.keys.keys listed.kinds.items listed.over.ite
 
 -- what is listed is found by exploring
 abbrev pub IsFoundBy : Exploring → Listed → Type 0
-IsFoundBy exploring listed = AreFound exploring.frame.now exploring.before exploring.stage
+IsFoundBy exploring listed = AreFound exploring.frame.now exploring.stage
     (states_of exploring.kept.now) listed.keys.keys listed.kinds.items listed.over.items
 
 -- and there are no more kinds than the budget
@@ -32,3 +47,45 @@ IsListedOver listed kind s = (k : ℕ) × IsAt listed.kinds.items listed.over.it
 -- what is listed keeps its number
 abbrev pub StaysListed : Listed → Listed → Type 0
 StaysListed old new = Stays old.kinds.items new.kinds.items old.over.items new.over.items
+
+-- Pieces of a class that go on from a kind: they hold exactly its columns that fit the kind, no column
+-- is in two, and under each constraint from the first on the columns of each cost the same.
+pub record ArePiecesFrom (exploring : Exploring) (kind : Kind) (class : Class) (pieces : List Piece) : Type 0 where
+  pub apart : ArePieces (tiers_in exploring.frame.now).width (classes_of pieces)
+  pub columns : (column : List Sym) → IsTrue (some_has (classes_of pieces) column)
+      ↔ (IsTrue (has class column) × FitsAt exploring.frame.now exploring.stage kind column)
+  pub each : All (IsPiece exploring.frame.now exploring.stage exploring.stage kind) pieces
+  pub alike : (r : ℕ) → exploring.first ≤ r → r ≤ exploring.stage
+      → All (λ piece. IsAlike (cost_under exploring.frame.now exploring.stage r kind) piece.class) pieces
+
+-- A piece of a class that goes on from a kind, which is not empty.
+pub record IsPieceFrom (exploring : Exploring) (kind : Kind) (class : Class) (piece : Piece) : Type 0 where
+  pub within : (column : List Sym) → IsTrue (has piece.class column) → IsTrue (has class column)
+  pub is : IsPiece exploring.frame.now exploring.stage exploring.stage kind piece
+  pub alike : (r : ℕ) → exploring.first ≤ r → r ≤ exploring.stage
+      → IsAlike (cost_under exploring.frame.now exploring.stage r kind) piece.class
+  pub filled : IsTrue (is_filled piece.class)
+  pub wide : length (sets_of piece.class) ≡ (tiers_in exploring.frame.now).width
+
+-- New moves for a kept one from a kind are put at the end of others, while their targets are listed.
+pub record AddsTaken {g : Ghosts UnitWeight} {h : Ghosts Count} (exploring : Exploring) (first now : Listed)
+    (kind : Kind) (arc : TableArc UnitWeight g) (old new : List (TableArc Count h)) : Type 0 where
+  pub added : List (TableArc Count h)
+  pub new_is : new ≡ old ++ added
+  pub targets : AreTargets first.kinds.items now.kinds.items added
+  pub taken : AreTakenMoves exploring.frame.now exploring.first exploring.stage now.kinds.items now.over.items kind
+      (arc ∷ []) added
+
+-- The kinds are all that are found, and the states are theirs, which are made of the kept ones.
+pub record IsStageFound {h : Ghosts Count} (exploring : Exploring) (kinds : List Kind)
+    (states : List (TableState Count h)) : Type 0 where
+  pub keys : List KindKey
+  pub over : List ℕ
+  pub found : AreFound exploring.frame.now exploring.stage (states_of exploring.kept.now) keys kinds over
+  pub taken : AreTaken exploring.frame.now exploring.first exploring.stage
+      (states_of exploring.kept.now) kinds over states
+  pub all : length states ≡ length kinds
+
+-- more kinds than the budget are found
+abbrev pub IsTooMuchFound : Exploring → Type 0
+IsTooMuchFound exploring = (listed : Listed) × IsFoundBeyond exploring listed

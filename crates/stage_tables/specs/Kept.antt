@@ -1,30 +1,18 @@
 -- Kept tables: what the constraints before have left of a stage's table. Their moves weigh nothing.
-use Rattle.std.specs.Prelude.{◌≡◌, ℕ, ◌<◌, List, length, Contains, IsTrue}
+use Rattle.std.specs.Prelude.{ℕ, ◌<◌, List, length}
 use Rattle.weight_law.specs.declared.Weight.{Ghosts}
 use Rattle.weight_law.specs.declared.unit_weight.UnitWeight.{UnitWeight}
-use Rattle.tier_core.specs.declared.sym.Sym.{Sym}
-use Rattle.tier_core.specs.declared.class.Class.{Class}
-use Rattle.tier_core.specs.declared.constraint.Constraint.{Constraint}
-use Rattle.tier_core.specs.Tiers.{Tiers}
 use Rattle.tier_core.specs.Kinds.{PrefixKind}
-use Rattle.tier_core.specs.Classes.{has}
-use Rattle.arc_table.specs.declared.arc.TableArc.{TableArc}
 use Rattle.arc_table.specs.declared.state.TableState.{TableState}
-use Rattle.arc_table.specs.Moves.{moves_at}
 use Rattle.arc_table.specs.Runs.{IsOnRun}
 use Rattle.stage_laws.specs.StageTables.{AreNamedByKinds}
 use Rattle.violation.specs.Problems.{Problem}
 
--- no two columns are in a class
-abbrev pub IsOfOneColumn : Class → Type 0
-IsOfOneColumn class = (a b : List Sym) → IsTrue (has class a) → IsTrue (has class b) → a ≡ b
-
--- The states of a kept table are named by kinds under the first r constraints, each move is on one
--- column, and each state is on a run.
+-- The states of a kept table are named by kinds under the first r constraints, and each state is on a
+-- run.
 pub record AreKeptByKinds {g : Ghosts UnitWeight} (problem : Problem) (r : ℕ) (names : List PrefixKind)
     (states : List (TableState UnitWeight g)) : Type 0 where
   pub named : AreNamedByKinds problem r names states
-  pub single : (s : ℕ) (arc : TableArc UnitWeight g) → Contains (moves_at states s) arc → IsOfOneColumn arc.class
   pub on_runs : (s : ℕ) → s < length states → IsOnRun states s
 
 -- the states of a kept table can be named by kinds in this way

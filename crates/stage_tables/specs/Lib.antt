@@ -2,5 +2,7 @@ pub mod KindKeys
 pub mod Kept
 pub mod Explored
 pub mod Listed
+pub mod Whole
 pub mod Exploring
+pub mod PartedPieces
 pub mod Ranking

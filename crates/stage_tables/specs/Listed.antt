@@ -1,26 +1,27 @@
 -- Kinds that are listed one by one, and the kept states that they stand over.
-use Rattle.std.specs.Prelude.{◌≡◌, ◌≢◌, ℕ, ◌-◌, ◌<◌, ◌≤◌, ◌⊎◌, Bool, List, [], ◌∷◌, ◌++◌, Some, length, map, slice_get, Contains, AllPairs, IsTrue}
-use Rattle.std.specs.List.{AllZip}
+use Rattle.std.specs.Prelude.{◌≡◌, ◌≢◌, ℕ, ◌<◌, ◌≤◌, ◌⊎◌, Bool, List, [], ◌∷◌, ◌++◌, Some, length, map, slice_get, All, Contains, AllPairs, IsTrue}
 use Rattle.weight_law.specs.declared.Weight.{Ghosts}
 use Rattle.weight_law.specs.declared.count.Count.{Count}
 use Rattle.weight_law.specs.declared.unit_weight.UnitWeight.{UnitWeight}
 use Rattle.tier_core.specs.declared.kind.Kind.{Kind}
+use Rattle.tier_core.specs.declared.class.Class.{Class}
 use Rattle.tier_core.specs.declared.sym.Sym.{Sym}
-use Rattle.tier_core.specs.Kinds.{PrefixKind}
-use Rattle.tier_core.specs.Classes.{has}
+use Rattle.tier_core.specs.Classes.{sets_of, has}
+use Rattle.symbol_class.specs.Filled.{is_filled}
+use Rattle.symbol_class.specs.Held.{times_held}
+use Rattle.symbol_class.specs.Parts.{IsAlike}
 use Rattle.arc_table.specs.declared.arc.TableArc.{TableArc}
 use Rattle.arc_table.specs.declared.state.TableState.{TableState}
 use Rattle.arc_table.specs.Moves.{moves_at, accepting_at}
 use Rattle.arc_table.specs.Runs.{IsPath, Reads}
-use Rattle.violation.specs.Moves.{cut}
+use Rattle.violation.specs.Moves.{is_final}
 use Rattle.kind_moves.specs.declared.frame.Frame.{Frame}
-use Rattle.kind_moves.specs.Frames.{tiers_in, constraints_in, form_in, kind_at_stage, FitsFrame, IsMove, IsStart}
+use Rattle.kind_moves.specs.Frames.{tiers_in, problem_in, kind_at_stage, FitsAt, FitsFrame, IsMove, IsStart}
 use Rattle.kind_moves.specs.Laws.{LeadsTo}
+use Rattle.kind_moves.specs.Pieces.{cost_under}
 use Rattle.stage_tables.specs.declared.kind_key.KindKey.{KindKey}
 use Rattle.stage_tables.specs.KindKeys.{key_of}
-use Rattle.stage_tables.specs.Kept.{AreKeptByKinds}
-use Rattle.stage_laws.specs.StageTables.{name_of, cost_of}
-use Rattle.kind_moves.specs.Frames.{problem_in}
+use Rattle.stage_laws.specs.StageTables.{cost_of}
 
 -- number k of a list is the kind, which stands over state s
 abbrev pub IsAt : List Kind → List ℕ → ℕ → Kind → ℕ → Type 0
@@ -49,12 +50,10 @@ pub record IsNumbered (kinds next_kinds : List Kind) (over next_over : List ℕ)
   pub grows : IsSame kinds next_kinds over next_over ⊎
       (IsPutLast kinds next_kinds over next_over kind s × (k ≡ length kinds))
 
--- a kind under the first constraints of a stage fits the frame, and cut to those before the last it
--- is the name of state s
-pub record StandsOver (frame : Frame) (before stage : ℕ) (names : List PrefixKind) (kind : Kind) (s : ℕ) : Type 0 where
+-- a kind fits the frame at a stage, and stands over one of so many states
+pub record StandsOver (frame : Frame) (stage many : ℕ) (kind : Kind) (s : ℕ) : Type 0 where
   pub fits : FitsFrame frame stage kind
-  pub within : s < length names
-  pub named : cut (problem_in frame) before (kind_at_stage frame stage kind) ≡ name_of names s
+  pub within : s < many
 
 -- moves by a prefix lead from the start to the kind, and the kept table goes by it to state s
 pub record IsReached {g : Ghosts UnitWeight} (frame : Frame) (stage : ℕ) (kept : List (TableState UnitWeight g))
@@ -67,15 +66,23 @@ pub record IsReached {g : Ghosts UnitWeight} (frame : Frame) (stage : ℕ) (kept
   pub path : IsPath kept 0 arcs s
   pub reads : Reads arcs prefix
 
+-- a kind is reached over one state alone
+abbrev pub IsOverOne : {g : Ghosts UnitWeight} → Frame → ℕ → List (TableState UnitWeight g) → Type 0
+IsOverOne frame stage kept = (a b : Kind) (s t : ℕ) → IsReached frame stage kept a s → IsReached frame stage kept b t
+    → kind_at_stage frame stage a ≡ kind_at_stage frame stage b → s ≡ t
+
+-- the classes of a table's moves are of the width of the frame's columns
+abbrev pub IsOfWidth : {g : Ghosts UnitWeight} → Frame → List (TableState UnitWeight g) → Type 0
+IsOfWidth {g} frame kept = (s : ℕ) (arc : TableArc UnitWeight g) → Contains (moves_at kept s) arc
+    → length (sets_of arc.class) ≡ (tiers_in frame).width
+
 -- Kinds that are found so far: they are listed, the first is the start, and each stands over a
 -- state of the kept table and is reached over it.
-pub record AreFound {g : Ghosts UnitWeight} (frame : Frame) (before stage : ℕ) (kept : List (TableState UnitWeight g))
+pub record AreFound {g : Ghosts UnitWeight} (frame : Frame) (stage : ℕ) (kept : List (TableState UnitWeight g))
     (keys : List KindKey) (kinds : List Kind) (over : List ℕ) : Type 0 where
-  pub names : List PrefixKind
-  pub kept_by : AreKeptByKinds (problem_in frame) before names kept
   pub listed : AreListed keys kinds over
   pub start : (first : Kind) × IsAt kinds over 0 first 0 × IsStart frame stage first
-  pub stands : (k : ℕ) (kind : Kind) (s : ℕ) → IsAt kinds over k kind s → StandsOver frame before stage names kind s
+  pub stands : (k : ℕ) (kind : Kind) (s : ℕ) → IsAt kinds over k kind s → StandsOver frame stage (length kept) kind s
   pub reached : (k : ℕ) (kind : Kind) (s : ℕ) → IsAt kinds over k kind s → IsReached frame stage kept kind s
 
 -- what is listed keeps its number
@@ -88,31 +95,54 @@ abbrev pub AreTargets : {h : Ghosts Count} → List Kind → List Kind → List 
 AreTargets {h} kinds next_kinds moves = (k : ℕ) → length kinds ≤ k → k < length next_kinds
     → (arc : TableArc Count h) × Contains moves arc × (arc.target ≡ k)
 
--- The new move b from a kind is the kept move a: it has the same class and leads to the kind that
--- its columns lead to, which stands over the target of a, and weighs what they cost.
-pub record IsTaken {g : Ghosts UnitWeight} {h : Ghosts Count} (frame : Frame) (stage : ℕ) (kinds : List Kind)
+-- The new move b from a kind is a part of the kept move a: its columns are among those of a, it leads
+-- to the kind to which they all lead, which stands over the target of a, and weighs what they cost.
+-- Under each constraint from the first on they cost the same.
+pub record IsTaken {g : Ghosts UnitWeight} {h : Ghosts Count} (frame : Frame) (first stage : ℕ) (kinds : List Kind)
     (over : List ℕ) (kind : Kind) (a : TableArc UnitWeight g) (b : TableArc Count h) : Type 0 where
-  pub same_class : b.class ≡ a.class
   pub next : Kind
   pub at : IsAt kinds over b.target next a.target
-  pub moves : (column : List Sym) → IsTrue (has a.class column) → IsMove frame stage kind column next
-  pub weighs : (column : List Sym) → IsTrue (has a.class column)
+  pub within : (column : List Sym) → IsTrue (has b.class column) → IsTrue (has a.class column)
+  pub moves : (column : List Sym) → IsTrue (has b.class column) → IsMove frame stage kind column next
+  pub weighs : (column : List Sym) → IsTrue (has b.class column)
       → b.weight.0 ≡ cost_of (problem_in frame) stage (kind_at_stage frame stage kind) column
+  pub alike : (r : ℕ) → first ≤ r → r ≤ stage → IsAlike (cost_under frame stage r kind) b.class
+  pub filled : IsTrue (is_filled b.class)
+  pub wide : length (sets_of b.class) ≡ (tiers_in frame).width
 
--- a new state is a kept one: it accepts if that does, and its moves are those of that, one by one
-pub record IsTakenState {g : Ghosts UnitWeight} {h : Ghosts Count} (frame : Frame) (stage : ℕ)
+-- it is a part of one of some kept moves
+pub record IsTakenFrom {g : Ghosts UnitWeight} {h : Ghosts Count} (frame : Frame) (first stage : ℕ) (kinds : List Kind)
+    (over : List ℕ) (kind : Kind) (arcs : List (TableArc UnitWeight g)) (b : TableArc Count h) : Type 0 where
+  pub arc : TableArc UnitWeight g
+  pub listed : Contains arcs arc
+  pub taken : IsTaken frame first stage kinds over kind arc b
+
+-- the classes of moves
+abbrev pub classes_of : {W : Type 0} {g : Ghosts W} → List (TableArc W g) → List Class
+classes_of moves = map (λ arc. arc.class) moves
+
+-- New moves from a kind are the kept ones: each is a part of one of these, and they hold each column
+-- that fits the kind as often as these do.
+pub record AreTakenMoves {g : Ghosts UnitWeight} {h : Ghosts Count} (frame : Frame) (first stage : ℕ) (kinds : List Kind)
+    (over : List ℕ) (kind : Kind) (arcs : List (TableArc UnitWeight g)) (moves : List (TableArc Count h)) : Type 0 where
+  pub each : All (IsTakenFrom frame first stage kinds over kind arcs) moves
+  pub held : (column : List Sym) → FitsAt frame stage kind column
+      → times_held (classes_of moves) column ≡ times_held (classes_of arcs) column
+
+-- a new state is a kept one: it accepts if its kind is final, and its moves are those of the kept one
+pub record IsTakenState {g : Ghosts UnitWeight} {h : Ghosts Count} (frame : Frame) (first stage : ℕ)
     (kept : List (TableState UnitWeight g)) (kinds : List Kind) (over : List ℕ) (kind : Kind) (s : ℕ)
     (accepting : Bool) (moves : List (TableArc Count h)) : Type 0 where
-  pub accepts : accepting ≡ accepting_at kept s
-  pub taken : AllZip (IsTaken frame stage kinds over kind) (moves_at kept s) moves
+  pub accepts : accepting ≡ is_final (problem_in frame) (kind_at_stage frame stage kind)
+  pub taken : AreTakenMoves frame first stage kinds over kind (moves_at kept s) moves
 
 -- the new states so far are those of the first kinds, and each kind but the start is the target of
 -- a move from an earlier one
-pub record AreTaken {g : Ghosts UnitWeight} {h : Ghosts Count} (frame : Frame) (stage : ℕ)
+pub record AreTaken {g : Ghosts UnitWeight} {h : Ghosts Count} (frame : Frame) (first stage : ℕ)
     (kept : List (TableState UnitWeight g)) (kinds : List Kind) (over : List ℕ)
     (states : List (TableState Count h)) : Type 0 where
   pub within : length states ≤ length kinds
   pub reached : (k : ℕ) → 0 < k → k < length kinds
       → (t : ℕ) × (t < k) × ((arc : TableArc Count h) × Contains (moves_at states t) arc × (arc.target ≡ k))
   pub each : (k : ℕ) (kind : Kind) (s : ℕ) → k < length states → IsAt kinds over k kind s
-      → IsTakenState frame stage kept kinds over kind s (accepting_at states k) (moves_at states k)
+      → IsTakenState frame first stage kept kinds over kind s (accepting_at states k) (moves_at states k)

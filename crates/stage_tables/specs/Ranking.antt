@@ -10,6 +10,7 @@ use Rattle.tier_core.specs.declared.kind.Kind.{Kind}
 use Rattle.tier_core.specs.declared.sym.Sym.{Sym}
 use Rattle.tier_core.specs.Classes.{has}
 use Rattle.symbol_class.specs.Filled.{is_filled}
+use Rattle.symbol_class.specs.Parts.{IsAlike}
 use Rattle.arc_table.specs.declared.arc.TableArc.{TableArc}
 use Rattle.arc_table.specs.declared.state.TableState.{TableState}
 use Rattle.arc_table.specs.Moves.{moves_at, accepting_at}
@@ -18,8 +19,7 @@ use Rattle.violation.specs.Candidates.{IsCandidate}
 use Rattle.violation.specs.Moves.{move_costs}
 use Rattle.kind_moves.specs.declared.frame.Frame.{Frame}
 use Rattle.kind_moves.specs.Frames.{tiers_in, kind_at_stage, FitsFrame, problem_in}
-use Rattle.stage_laws.specs.StageTables.{AreNamedByKinds}
-use Rattle.stage_tables.specs.Kept.{IsOfOneColumn}
+use Rattle.stage_laws.specs.StageTables.{name_of, AreNamedByKinds}
 use Rattle.stage_tables.specs.Explored.{names_at}
 use Rattle.violation.specs.Problems.{last_stage}
 
@@ -29,13 +29,14 @@ costs_at frame kind column =
     move_costs (problem_in frame) (last_stage (problem_in frame))
     (kind_at_stage frame (last_stage (problem_in frame)) kind) column
 
--- a class holds one column, which is as wide as the frame's columns are
-pub record IsColumnOf (frame : Frame) (class : Class) : Type 0 where
+-- a class holds columns as wide as the frame's columns are, which cost the same from a kind under each
+-- constraint
+pub record AreColumnsOf (frame : Frame) (kind : Kind) (class : Class) : Type 0 where
   pub filled : IsTrue (is_filled class)
-  pub single : IsOfOneColumn class
+  pub alike : IsAlike (costs_at frame kind) class
   pub wide : (column : List Sym) → IsTrue (has class column) → length column ≡ (tiers_in frame).width
 
--- the new move b from a kind is the old move a, and weighs what its column costs
+-- the new move b from a kind is the old move a, and weighs what its columns cost
 pub record IsRankedMove {g : Ghosts Count} {h : Ghosts Ranked} (frame : Frame) (kind : Kind) (a : TableArc Count g)
     (b : TableArc Ranked h) : Type 0 where
   pub same_class : b.class ≡ a.class
@@ -56,7 +57,8 @@ pub record AreRankedStates {g : Ghosts Count} {h : Ghosts Ranked} (frame : Frame
   pub moves : (k : ℕ) → k < n → AllZip (IsRankedMove frame (kind_numbered kinds k)) (moves_at old k) (moves_at new k)
 
 -- The table of all candidates, whatever its moves weigh: its states are named by kinds under all
--- constraints, whose bits fit the frame, each state is on a run, and each move has one column.
+-- constraints, whose bits fit the frame, each state is on a run, and the columns of each move cost the
+-- same under each constraint.
 pub record IsWholeTable {g : Ghosts Count} (frame : Frame) (kinds : List Kind)
     (states : List (TableState Count g)) : Type 0 where
   pub named : AreNamedByKinds (problem_in frame) (last_stage (problem_in frame))
@@ -64,4 +66,6 @@ pub record IsWholeTable {g : Ghosts Count} (frame : Frame) (kinds : List Kind)
   pub fit : All (FitsFrame frame (last_stage (problem_in frame))) kinds
   pub accepts : (T : List (List Sym)) → Accepts states T ↔ IsCandidate (problem_in frame) T
   pub on_runs : (s : ℕ) → s < length states → IsOnRun states s
-  pub single : (s : ℕ) (arc : TableArc Count g) → Contains (moves_at states s) arc → IsOfOneColumn arc.class
+  pub alike : (s : ℕ) (arc : TableArc Count g) → Contains (moves_at states s) arc
+      → IsAlike (move_costs (problem_in frame) (last_stage (problem_in frame))
+      (name_of (names_at frame (last_stage (problem_in frame)) kinds) s)) arc.class

@@ -1,17 +1,18 @@
 ghost use Rattle.std.specs.Prelude.{◌≡◌, ◌≤◌, length, IfOk, IfErr};
 ghost use Rattle.arc_table.specs.States.{states_of};
-ghost use Rattle.kind_moves.specs.Frames.{tiers_in, constraints_in, form_in};
-ghost use Rattle.stage_tables.specs.Kept.{IsKept};
-ghost use Rattle.stage_tables.specs.Explored.{IsExplored, IsOverBudget};
-ghost use Rattle.stage_tables.specs.Listed.{AreTaken};
-ghost use Rattle.stage_tables.specs.Exploring.{IsFoundWithin, IsFoundBeyond};
+ghost use Rattle.arc_table.specs.Runs.{Accepts};
 ghost use Rattle.kind_moves.specs.Frames.{problem_in};
+ghost use Rattle.stage_tables.specs.Kept.{IsKept};
+ghost use Rattle.stage_tables.specs.Explored.{IsExplored, IsComplete, IsOverBudget};
+ghost use Rattle.stage_tables.specs.Listed.{AreTaken};
+ghost use Rattle.stage_tables.specs.Exploring.{IsFoundWithin, IsFoundBeyond, IsStageFound, IsTooMuchFound};
+ghost use Rattle.violation.specs.Candidates.{IsCandidate};
 ghost use Rattle.violation.specs.Problems.{last_stage};
 
 use crate::exploring::Exploring;
-use crate::kind_key::KindKey;
 use crate::listed::{Listed, number_of};
 use crate::stage_table::{ExploreErr, StageTable};
+use crate::whole::whole_table;
 use arc_table::{Table, TableState};
 use indexmap::IndexSet;
 use kind_moves::Frame;
@@ -23,8 +24,6 @@ impl Exploring<'_> {
 
     /// The start, listed over state 0.
     fn start(&self, alloc: Global) -> Result<Listed, ExploreErr>
-        requires kept { IsKept (problem_in self.now.frame.now) self.now.before
-            (states_of self.now.kept.now) }
         requires budget { 1 ≤ self.now.budget }
         ensures found { IfOk result (IsFoundWithin self.now) }
         ensures one { IfOk result (λ listed. length listed.kinds.items ≡ 1) }
@@ -50,7 +49,7 @@ impl Exploring<'_> {
         ensures found { IfOk result (λ _. IsFoundWithin self.now listed.new) }
         ensures taken { IfOk result
             (λ states.
-            AreTaken self.now.frame.now self.now.stage
+            AreTaken self.now.frame.now self.now.first self.now.stage
             (states_of self.now.kept.now) listed.new.kinds.items listed.new.over.items states.items) }
         ensures each { IfOk result (λ states. length states.items ≡ length listed.new.kinds.items) }
         ensures beyond { IfErr result
@@ -62,7 +61,7 @@ impl Exploring<'_> {
             let state = listed.over[states.len()];
             let arcs = self.taken_arcs(alloc, state, &kind, listed)?;
             let made = TableState {
-                accepting: self.kept.accepting(state),
+                accepting: self.frame.at_end(&kind),
                 arcs,
             };
             if states.push(made).is_err() {
@@ -70,6 +69,22 @@ impl Exploring<'_> {
             }
         }
         Ok(states)
+    }
+
+    /// All kinds, and the table of their states.
+    fn explored(&self, alloc: Global) -> Result<StageTable, ExploreErr>
+        requires some { 1 ≤ self.now.budget }
+        requires few { self.now.budget ≤ 65536 }
+        ensures found { IfOk result (λ found. IsStageFound self.now found.kinds.items (states_of found.table)) }
+        ensures few { IfOk result (λ found. length found.kinds.items ≤ self.now.budget) }
+        ensures over { IfErr result (λ e. e ≡ ExploreErr.OverBudget → IsTooMuchFound self.now) }
+    {
+        let mut listed = self.start(alloc)?;
+        let states = self.states(alloc, &mut listed)?;
+        Ok(StageTable {
+            kinds: listed.kinds,
+            table: Table::of_states(states),
+        })
     }
 }
 
@@ -100,19 +115,50 @@ pub fn explore(
     ensures few { IfOk result (λ found. length found.kinds.items ≤ budget) }
     ensures over { IfErr result
         (λ e. e ≡ ExploreErr.OverBudget
-        → IsOverBudget frame.now stage (states_of kept.now) budget) }
+        → IsOverBudget frame.now stage (Accepts (states_of kept.now)) budget) }
 {
     let exploring = Exploring {
         frame,
-        before,
+        first: stage,
         stage,
         kept,
         budget,
     };
-    let mut listed = exploring.start(alloc)?;
-    let states = exploring.states(alloc, &mut listed)?;
-    Ok(StageTable {
-        kinds: listed.kinds,
-        table: Table::of_states(states),
-    })
+    exploring.explored(alloc)
+}
+
+/// Explores all candidates under the first `stage` constraints. The resulting table accepts exactly
+/// the candidates. Its states are the kinds that their prefixes have under these constraints, in the
+/// order in which they are found. All columns of a move cost the same under each of them, and the
+/// move weighs what they cost under the last one, and nothing if there is none.
+///
+/// Fails with `OverBudget` if there are more kinds than the budget, and otherwise only if memory
+/// runs out.
+pub fn explore_all(
+    alloc: Global,
+    frame: &Frame<'_>,
+    stage: u32,
+    budget: u32,
+) -> Result<StageTable, ExploreErr>
+    requires stage { stage ≤ last_stage (problem_in frame.now) }
+    requires some_budget { 1 ≤ budget }
+    requires budget { budget ≤ 65536 }
+    ensures complete { IfOk result
+        (λ found. IsComplete frame.now stage found.kinds.items (states_of found.table)) }
+    ensures few { IfOk result (λ found. length found.kinds.items ≤ budget) }
+    ensures over { IfErr result
+        (λ e. e ≡ ExploreErr.OverBudget
+        → IsOverBudget frame.now stage (IsCandidate (problem_in frame.now)) budget) }
+{
+    let Ok(whole) = whole_table(alloc, frame) else {
+        return Err(ExploreErr::NoMemory);
+    };
+    let exploring = Exploring {
+        frame,
+        first: 1,
+        stage,
+        kept: &whole,
+        budget,
+    };
+    exploring.explored(alloc)
 }

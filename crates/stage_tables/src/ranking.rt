@@ -6,7 +6,7 @@ ghost use Rattle.kind_moves.specs.Frames.{tiers_in, problem_in, FitsFrame};
 ghost use Rattle.violation.specs.Problems.{last_stage};
 ghost use Rattle.stage_laws.specs.RankedTables.{IsRankedTable};
 ghost use Rattle.stage_tables.specs.Explored.{names_at};
-ghost use Rattle.stage_tables.specs.Ranking.{costs_at, IsColumnOf, IsRankedMove, AreRankedStates, IsWholeTable};
+ghost use Rattle.stage_tables.specs.Ranking.{costs_at, AreColumnsOf, IsRankedMove, AreRankedStates, IsWholeTable};
 
 use crate::stage_table::StageTable;
 use arc_table::{Table, TableArc, TableState};
@@ -30,7 +30,7 @@ fn all_costs(frame: &Frame<'_>, kind: &Kind, column: &Column) -> Ranked
     Ranked::of_parts(parts)
 }
 
-/// The same move from a kind, which weighs what its column costs.
+/// The same move from a kind, which weighs what its columns cost.
 fn ranked_move(
     alloc: Global,
     frame: &Frame<'_>,
@@ -38,7 +38,7 @@ fn ranked_move(
     arc: &TableArc<Count>,
 ) -> TableArc<Ranked>
     requires fits { FitsFrame frame.now (last_stage (problem_in frame.now)) kind.now }
-    requires column { IsColumnOf frame.now arc.now.class }
+    requires columns { AreColumnsOf frame.now kind.now arc.now.class }
     ensures { IsRankedMove frame.now kind.now arc.now result }
 {
     let column = least_column(alloc, &arc.class);
@@ -49,7 +49,7 @@ fn ranked_move(
     }
 }
 
-/// The same moves from a kind, each of which weighs what its column costs.
+/// The same moves from a kind, each of which weighs what its columns cost.
 fn ranked_moves(
     alloc: Global,
     frame: &Frame<'_>,
@@ -57,7 +57,7 @@ fn ranked_moves(
     arcs: &[TableArc<Count>],
 ) -> Result<Vec<TableArc<Ranked>>, AllocError>
     requires fits { FitsFrame frame.now (last_stage (problem_in frame.now)) kind.now }
-    requires columns { All (λ arc. IsColumnOf frame.now arc.class) arcs.now }
+    requires columns { All (λ arc. AreColumnsOf frame.now kind.now arc.class) arcs.now }
     ensures { IfOk result (λ moves. AllZip (IsRankedMove frame.now kind.now) arcs.now moves.items) }
 {
     let mut moves = Vec::new(alloc);
@@ -67,7 +67,7 @@ fn ranked_moves(
     Ok(moves)
 }
 
-/// The same states, each of whose moves weighs what its column costs.
+/// The same states, each of whose moves weighs what its columns cost.
 fn ranked_states(
     alloc: Global,
     frame: &Frame<'_>,
@@ -92,7 +92,7 @@ fn ranked_states(
 }
 
 /// The table of a single pass: the same states as those of a table that accepts all candidates, where
-/// each move weighs what its column costs under all constraints. It fails only for want of memory.
+/// each move weighs what its columns cost under all constraints. It fails only for want of memory.
 pub fn ranked_table(
     alloc: Global,
     frame: &Frame<'_>,

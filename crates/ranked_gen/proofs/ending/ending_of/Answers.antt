@@ -1,7 +1,6 @@
 use Rattle.std.proofs.Common.{ℕ, List, length, subst}
 use Rattle.arc_table.specs.States.{states_of}
 use Rattle.kind_moves.specs.Frames.{problem_in}
-use Rattle.answer_text.specs.declared.stage.Node.{Node}
 use Rattle.kind_orders.specs.Orderings.{IsOrdering, AreRanks}
 use Rattle.kind_orders.specs.AutomatonLines.{nodes_of}
 use Rattle.kind_orders.specs.Automata.{IsAutomatonOf}

@@ -1,5 +1,5 @@
 use Rattle.std.proofs.Common.{◌<◌, ◌*◌, ◌^◌, arith, mod-eq_of_lt}
-use Rattle.ranked_gen.proofs.StateSteps.{first_small}
+use Rattle.ranked_gen.proofs.StageKinds.{first_small}
 use Rattle.ranked_gen.proofs.generator.count_kinds.Goals as goal
 
 pub returns : goal.returns

@@ -9,43 +9,34 @@ use Rattle.kind_orders.specs.JoinedArcs.{HaveJoinedArcs}
 use Rattle.ranked_gen.proofs.MappedErrors.{kept_by_map_err}
 use Rattle.ranked_gen.proofs.once.once_in.Goals as goal
 
-pub explore-requires-clause-kept : goal.explore-requires-clause-kept
-explore-requires-clause-kept c = (c.in-Ok.ensures c.args.budget c.requires.first).left.kept_by
-
 pub once_answered-requires : goal.once_answered-requires
 once_answered-requires c =
     let frame = c.args.frame.now in
-    let kept = states_of c.in-Ok.start.left.kept.table in
-    let found = c.in-Ok-explore.found in
+    let found = c.in-Ok.found in
     let number : c.len-stage.result ≡ last_stage (problem_in frame) = omega
     (arith, c.len-stage.ensures, frame.grammar.now.constraints.ok) in
-    whole_table frame kept
-    (c.in-Ok.ensures c.args.budget c.requires.first).left.accepts c.len-stage.result number found.kinds.items
-    (states_of found.table) c.in-Ok-explore.ensures.explored
+    whole_table frame c.len-stage.result number found.kinds.items
+    (states_of found.table) c.in-Ok.ensures.complete
 
-pub returns-in-Ok-explore-clause-within : goal.returns-in-Ok-explore-clause-within
-returns-in-Ok-explore-clause-within c =
+pub returns-in-Ok-clause-within : goal.returns-in-Ok-clause-within
+returns-in-Ok-clause-within c =
     let frame = c.args.frame.now in
-    let kept = states_of c.in-Ok.start.left.kept.table in
-    let found = c.in-Ok-explore.found in
+    let found = c.in-Ok.found in
     let number : c.len-stage.result ≡ last_stage (problem_in frame) = omega
     (arith, c.len-stage.ensures, frame.grammar.now.constraints.ok) in
-    let accepts = (c.in-Ok.ensures c.args.budget c.requires.first).left.accepts in
-    let whole = whole_table frame kept accepts c.len-stage.result number found.kinds.items
-    (states_of found.table) c.in-Ok-explore.ensures.explored in
-    whatever_ok _ _ (whole_within frame kept accepts found.kinds.items
-    (states_of found.table) whole c.args.budget c.in-Ok-explore.ensures.few)
+    let whole = whole_table frame c.len-stage.result number found.kinds.items
+    (states_of found.table) c.in-Ok.ensures.complete in
+    whatever_ok _ _ (whole_within frame found.kinds.items
+    (states_of found.table) whole c.args.budget c.in-Ok.ensures.few)
 
 pub returns-in-Err-OverBudget-clause-over : goal.returns-in-Err-OverBudget-clause-over
 returns-in-Err-OverBudget-clause-over c = λ stage e.
     let frame = c.args.frame.now in
-    let kept = states_of c.in-Ok.start.left.kept.table in
     let number : c.len-stage.result ≡ last_stage (problem_in frame) = omega
     (arith, c.len-stage.ensures, frame.grammar.now.constraints.ok) in
     let same : c.len-stage.result ≡ stage = cc in (
       sym same ∙ number,
-      whole_over frame kept
-          (c.in-Ok.ensures c.args.budget c.requires.first).left.accepts c.len-stage.result number c.args.budget
+      whole_over frame c.len-stage.result number c.args.budget
           (c.in-Err-OverBudget.ensures.over c.in-Err-OverBudget.field-0-is),
     )
 

@@ -1,6 +1,5 @@
-use Rattle.std.proofs.Common.{◌≡◌, Err, ◌+◌, ◌-◌, ◌<◌, length, refl, ap, sym, subst, arith}
+use Rattle.std.proofs.Common.{◌≡◌, Err, ◌+◌, ◌-◌, ◌<◌, refl, ap, sym, subst, arith}
 use Rattle.arc_table.specs.States.{states_of}
-use Rattle.kind_moves.specs.Frames.{tiers_in, constraints_in, form_in}
 use Rattle.violation.specs.Candidates.{IsOptimalFor}
 use Rattle.ranked_gen.specs.declared.gen_err.GenErr.TheVariants.{Budget}
 use Rattle.ranked_gen.specs.Budgets.{IsFirstOver}

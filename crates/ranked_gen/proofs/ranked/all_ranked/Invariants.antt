@@ -1,5 +1,4 @@
 use Rattle.arc_table.specs.States.{states_of}
-use Rattle.kind_moves.specs.Frames.{tiers_in, constraints_in, form_in}
 use Rattle.ranked_gen.specs.Left.{IsRanked}
 use Rattle.ranked_gen.proofs.ranked.all_ranked.Given as goal
 use Rattle.kind_moves.specs.Frames.{problem_in}

@@ -1,6 +1,5 @@
-use Rattle.std.proofs.Common.{◌≡◌, ◌+◌, ◌-◌, ◌≤◌, length, arith}
+use Rattle.std.proofs.Common.{◌≡◌, ◌+◌, ◌-◌, ◌≤◌, arith}
 use Rattle.arc_table.specs.States.{states_of}
-use Rattle.kind_moves.specs.Frames.{constraints_in}
 use Rattle.ranked_gen.proofs.NextStage.{stage_table, stage_within, stage_over}
 use Rattle.ranked_gen.proofs.StageKinds.{whatever_ok}
 use Rattle.ranked_gen.proofs.staged.next_stage.Goals as goal

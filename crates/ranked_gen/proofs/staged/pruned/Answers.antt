@@ -2,7 +2,6 @@ use Rattle.std.proofs.Common.{◌≡◌, ◌<◌, List, map, length, get_or, ref
 use Rattle.std.proofs.lemmas.List.{get_or_default, length-map}
 use Rattle.arc_table.specs.States.{states_of}
 use Rattle.tier_core.specs.declared.kind.Kind.{Kind}
-use Rattle.kind_moves.specs.Frames.{tiers_in, constraints_in, form_in}
 use Rattle.stage_laws.proofs.Weighing.{sizes_fit}
 use Rattle.stage_tables.specs.Explored.{names_at}
 use Rattle.kind_orders.specs.KindOrders.{AreFound, IsKindOrder}
@@ -62,7 +61,7 @@ returns c =
     let first : get_or (map weight_number least) 0 0
     ≡ c.index.result.now = sym (value ∙ ap (λ ns. get_or ns 0 0) numbers) in
     subst (λ n. IsStaged (problem_in frame) c.args.stage nodes n (states_of kept.table) kept.states.items order) first
-    (staged frame c.args.stage c.requires.some c.requires.within kinds refl
+    (staged frame c.args.stage c.requires.within kinds refl
     (states_of found.table) c.requires.table least c.in_ok-least.ensures shape c.in_ok-shape.ensures order sorted
-    nodes listed c.requires.single
+    nodes listed
     (states_of kept.table) kept.states.items c.in_ok-kept.ensures kept.table.some kept.table.targets kept.table.filled)

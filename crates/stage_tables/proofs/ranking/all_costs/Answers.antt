@@ -1,4 +1,4 @@
-use Rattle.std.proofs.Common.{◌≡◌, ℕ, ◌+◌, ◌-◌, ◌<◌, ◌≤◌, List, length, get_or, ap, sym, ◌∙◌, arith}
+use Rattle.std.proofs.Common.{◌≡◌, ℕ, ◌+◌, ◌-◌, List, length, get_or, ap, ◌∙◌, arith}
 use Rattle.kind_moves.specs.Frames.{kind_at_stage, problem_in}
 use Rattle.kind_moves.proofs.GrammarTiers.{few_constraints}
 use Rattle.violation.specs.Moves.{move_costs}

@@ -1,9 +1,8 @@
-use Rattle.std.proofs.Common.{◌≡◌, ◌<◌, ◌∙◌, length, ap, subst, sym, arith}
-use Rattle.std.specs.Prelude.{All}
+use Rattle.std.proofs.Common.{◌≡◌, ◌<◌, length, subst, arith}
 use Rattle.std.specs.List.{AllZip}
 use Rattle.arc_table.specs.States.{states_of}
 use Rattle.arc_table.specs.Moves.{moves_at}
-use Rattle.stage_tables.specs.Ranking.{kind_numbered, IsColumnOf, IsRankedMove}
+use Rattle.stage_tables.specs.Ranking.{kind_numbered, IsRankedMove}
 use Rattle.stage_tables.proofs.RankedStates.{no_states, next_state, kind_fits, kind_is, columns_of}
 use Rattle.stage_tables.proofs.ranking.ranked_states.Goals as goal
 
@@ -18,7 +17,8 @@ pub ranked_moves-requires-clause-columns : goal.ranked_moves-requires-clause-col
 ranked_moves-requires-clause-columns c =
     let found = c.args.found.now in
     rw c.arcs.ensures (columns_of c.args.frame.now found.kinds.items
-    (states_of found.table) c.requires c.loop-state.state)
+    (states_of found.table) c.requires c.loop-state.state c.index.result.now
+    (omega (arith, c.loop-state-test.true, c.len-state-end.ensures)) c.index.ensures)
 
 pub loop-state-init : goal.loop-state-init
 loop-state-init c = record {

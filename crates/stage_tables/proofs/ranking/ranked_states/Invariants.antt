@@ -1,4 +1,3 @@
-use Rattle.std.proofs.Common.{◌≤◌, length}
 use Rattle.arc_table.specs.States.{states_of}
 use Rattle.stage_tables.specs.Ranking.{AreRankedStates}
 use Rattle.stage_tables.proofs.ranking.ranked_states.Given as goal

@@ -1,4 +1,3 @@
-use Rattle.std.proofs.Common.{◌<◌, arith}
 use Rattle.arc_table.specs.States.{states_of}
 use Rattle.stage_tables.proofs.Alike.{alike_targets, alike_filled, alike_width, alike_disjoint}
 use Rattle.stage_tables.proofs.RankedStates.{are_alike, is_ranked}

@@ -17,9 +17,9 @@ returns-clause-found c =
     (numbered_none c.new-2.result.items new.kinds.items c.new-3.result.items new.over.items c.in_ok-_start._start
     c.start.result 0 c.new-2.ensures.items c.new-3.ensures.items said.numbered) in
     record {
-      found = first_found exploring.frame.now exploring.before exploring.stage exploring.further
-          exploring.kept.now.states.items c.requires.kept.0 c.requires.kept.1 new.keys.keys new.kinds.items
-          new.over.items c.start.result said.listed put (c.start.ensures exploring.stage);
+      found = first_found exploring.frame.now exploring.stage exploring.kept.now.states.items exploring.kept.now.some
+          new.keys.keys new.kinds.items new.over.items c.start.result said.listed put
+          (c.start.ensures exploring.stage);
       few = said.few;
     }
 

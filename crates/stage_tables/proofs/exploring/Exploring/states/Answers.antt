@@ -8,7 +8,7 @@ use Rattle.stage_tables.proofs.exploring.Exploring.states.Goals as goal
 pub making-init : goal.making-init
 making-init c = record {
   found = c.requires.found;
-  taken = none_made c.args.self.now.frame.now c.args.self.now.stage c.args.self.now.kept.now.states.items
+  taken = none_made c.args.self.now.frame.now c.args.self.now.first c.args.self.now.stage c.args.self.now.kept.now.states.items
       c.args.listed.now.kinds.items c.args.listed.now.over.items c.new-states.result.items c.requires.one
       c.new-states.ensures.items;
 }
@@ -55,14 +55,10 @@ taken_arcs-requires-clause-state c =
     let at : IsAt listed.kinds.items listed.over.items n c.index.result.now c.index-state.result.now = at_index
     listed.kinds.items listed.over.items found.listed.each n c.len-in-making-2.result c.len-in-making-3.result
     c.index.result.now c.index-state.result.now inside a b c.index.ensures c.index-state.ensures in
-    omega (
-      arith,
-      (found.stands n c.index.result.now c.index-state.result.now at).within,
-      found.kept_by.named.each_named,
-    )
+    (found.stands n c.index.result.now c.index-state.result.now at).within
 
-pub accepting-requires : goal.accepting-requires
-accepting-requires c =
+pub at_end-requires-clause-place : goal.at_end-requires-clause-place
+at_end-requires-clause-place c =
     let listed = c.making.listed in
     let found = c.making.invariant.found.found in
     let n = length c.making.states.items in
@@ -73,11 +69,21 @@ accepting-requires c =
     let at : IsAt listed.kinds.items listed.over.items n c.index.result.now c.index-state.result.now = at_index
     listed.kinds.items listed.over.items found.listed.each n c.len-in-making-2.result c.len-in-making-3.result
     c.index.result.now c.index-state.result.now inside a b c.index.ensures c.index-state.ensures in
-    omega (
-      arith,
-      (found.stands n c.index.result.now c.index-state.result.now at).within,
-      found.kept_by.named.each_named,
-    )
+    (found.stands n c.index.result.now c.index-state.result.now at).fits.place
+
+pub at_end-requires-clause-opened : goal.at_end-requires-clause-opened
+at_end-requires-clause-opened c =
+    let listed = c.making.listed in
+    let found = c.making.invariant.found.found in
+    let n = length c.making.states.items in
+    let inside : n < length listed.kinds.items = omega
+    (arith, c.making-test.true, c.len.ensures, c.len-in-making.ensures, c.making.states.ok, listed.kinds.ok) in
+    let a : c.len-in-making-2.result ≡ n = omega (arith, c.len-in-making-2.ensures, c.making.states.ok) in
+    let b : c.len-in-making-3.result ≡ n = omega (arith, c.len-in-making-3.ensures, c.making.states.ok) in
+    let at : IsAt listed.kinds.items listed.over.items n c.index.result.now c.index-state.result.now = at_index
+    listed.kinds.items listed.over.items found.listed.each n c.len-in-making-2.result c.len-in-making-3.result
+    c.index.result.now c.index-state.result.now inside a b c.index.ensures c.index-state.ensures in
+    (found.stands n c.index.result.now c.index-state.result.now at).fits.opened
 
 pub making-smaller : goal.making-smaller
 making-smaller c =
@@ -111,10 +117,10 @@ making-preserved c =
     record {
       found = done.found;
       taken = rw (c.push.ensures.items, c.is_err.ensures.negation ∙ ap not c.if-is_err.false)
-          (taken_push c.args.self.now.frame.now c.args.self.now.stage c.args.self.now.kept.now.states.items
+          (taken_push c.args.self.now.frame.now c.args.self.now.first c.args.self.now.stage c.args.self.now.kept.now.states.items
           listed.kinds.items next.kinds.items listed.over.items next.over.items found.listed.each done.stays
           c.making.states.items _ c.index.result.now c.index-state.result.now c.making.invariant.taken at
-          (record { accepts = c.accepting.ensures; taken = done.taken }) done.targets);
+          (record { accepts = c.at_end.ensures c.args.self.now.stage; taken = done.taken }) done.targets);
     }
 
 pub returns-clause-found : goal.returns-clause-found

@@ -1,0 +1,73 @@
+-- Stage 0 of a frame, whose candidates are all.
+use Rattle.std.proofs.Common.{◌≡◌, ℕ, ◌<◌, ◌≤◌, List, ◌++◌, map, length, refl, ap, ◌∙◌, arith, take_at, Contains}
+use Rattle.std.specs.List.{range_with_len}
+use Rattle.std.proofs.lemmas.List.{length-map, length-append}
+use Rattle.std.proofs.lemmas.List.FromFn.{length-range_with_len}
+use Rattle.std.proofs.lemmas.List.Elements.{All-contains}
+use Rattle.weight_law.specs.declared.Weight.{Ghosts}
+use Rattle.weight_law.specs.declared.count.Count.{Count}
+use Rattle.tier_core.specs.declared.kind.Kind.{Kind}
+use Rattle.tier_core.specs.Kinds.{PrefixKind}
+use Rattle.arc_table.specs.declared.state.TableState.{TableState}
+use Rattle.violation.specs.Candidates.{IsCandidate}
+use Rattle.violation.specs.Prefixes.{kind_of}
+use Rattle.violation.specs.Problems.{Problem}
+use Rattle.violation.specs.Stages.{IsPassed}
+use Rattle.violation.proofs.SplitLemmas.{tiers_split}
+use Rattle.violation.proofs.StageLemmas.{all_optimal}
+use Rattle.kind_moves.specs.declared.frame.Frame.{Frame}
+use Rattle.kind_moves.specs.Frames.{problem_in, kind_at_stage}
+use Rattle.stage_laws.specs.StageTables.{IsStageTable}
+use Rattle.stage_laws.proofs.Following.{first_table}
+use Rattle.stage_laws.proofs.Naming.{names_law}
+use Rattle.stage_tables.specs.Explored.{names_at, IsComplete, IsMet, IsOverBudget}
+use Rattle.stage_tables.proofs.Named.{frame_stage}
+use Rattle.ranked_gen.specs.Budgets.{IsOver, IsWithin}
+use Rattle.ranked_gen.specs.Listed.{kind_count}
+use Rattle.ranked_gen.specs.Numbers.{kind_numbered}
+use Rattle.ranked_gen.proofs.FewKinds.{no_longer, stage_few}
+use Rattle.ranked_gen.proofs.NextStage.{pairs_differ}
+use Rattle.ranked_gen.proofs.NumberedKinds.{free_distinct}
+use Rattle.ranked_gen.proofs.StageKinds.{numbered_kinds}
+
+module _ (frame : Frame) where
+  -- a table of all candidates is that of stage 0
+  pub zero_table : {g : Ghosts Count} (kinds : List Kind) (states : List (TableState Count g))
+      → IsComplete frame 0 kinds states → IsStageTable (problem_in frame) 0 (names_at frame 0 kinds) states
+  zero_table kinds states complete =
+      first_table (problem_in frame) (names_at frame 0 kinds) states complete.named complete.weighed complete.accepts
+      complete.on_runs
+
+  -- with no more kinds than the budget it is within the budget
+  pub zero_within : {g : Ghosts Count} (kinds : List Kind) (states : List (TableState Count g)) (budget : ℕ)
+      → IsComplete frame 0 kinds states → length kinds ≤ budget → IsWithin (problem_in frame) budget 0
+  zero_within kinds states budget complete few ks are =
+      let table = zero_table kinds states complete in
+      let law = names_law (problem_in frame) 0 (frame_stage frame 0 (omega arith))
+      (names_at frame 0 kinds) states table.named 0 table.accepts table.on_runs in
+      let most = stage_few (problem_in frame) 0 (names_at frame 0 kinds) (λ k p. (law k).1 p) ks are in
+      omega (arith, most, few, length-map kinds (kind_at_stage frame 0))
+
+  -- and it is over the budget where more kinds are met
+  pub zero_over : (budget : ℕ) → IsOverBudget frame 0 (IsCandidate (problem_in frame)) budget
+      → IsOver (problem_in frame) budget 0
+  zero_over budget over =
+      let problem = problem_in frame in
+      let stage = frame_stage frame 0 (omega arith) in
+      let all = map (kind_numbered (length problem.tiers.free)) (range_with_len 0 (kind_count problem)) in
+      let are = numbered_kinds problem stage.split (free_distinct frame.grammar.now.tiers.kinds.items) stage.form in
+      let most : length over.kinds ≤ length all = no_longer all over.kinds
+      (λ k c. (are.members k).1 (passed k (All-contains (IsMet frame 0 (IsCandidate problem)) over.kinds k over.met c)))
+      (pairs_differ over.kinds over.distinct) in
+      record { kinds = all; are = are; more = omega (arith, most, over.more) }
+    where
+      passed : (k : PrefixKind) → IsMet frame 0 (IsCandidate (problem_in frame)) k → IsPassed (problem_in frame) 0 0 k
+      passed k m = record {
+        candidate = m.prefix ++ m.rest;
+        columns = length m.prefix;
+        passes = record {
+          optimal = all_optimal (problem_in frame) (m.prefix ++ m.rest) m.accepted;
+          within = omega (arith, length-append m.prefix m.rest);
+          of_kind = ap (kind_of (problem_in frame) 0) (take_at m.prefix m.rest (length m.prefix) refl) ∙ m.of_kind;
+        };
+      }

@@ -1,0 +1,20 @@
+use Rattle.std.proofs.Common.{◌≡◌, arith}
+use Rattle.arc_table.specs.States.{states_of}
+use Rattle.ranked_gen.proofs.FirstStage.{zero_table, zero_within, zero_over}
+use Rattle.ranked_gen.proofs.StageKinds.{whatever_ok}
+use Rattle.ranked_gen.proofs.staged.first_stage.Goals as goal
+
+pub pruned-requires-clause-table : goal.pruned-requires-clause-table
+pruned-requires-clause-table c =
+    zero_table c.args.frame.now c.in-Ok.found.kinds.items (states_of c.in-Ok.found.table) c.in-Ok.ensures.complete
+
+pub returns-in-Ok-clause-within : goal.returns-in-Ok-clause-within
+returns-in-Ok-clause-within c =
+    whatever_ok _ _
+    (zero_within c.args.frame.now c.in-Ok.found.kinds.items
+    (states_of c.in-Ok.found.table) c.args.budget c.in-Ok.ensures.complete c.in-Ok.ensures.few)
+
+pub returns-in-Err-OverBudget-clause-over : goal.returns-in-Err-OverBudget-clause-over
+returns-in-Err-OverBudget-clause-over c = λ s e.
+    let same : s ≡ 0 = cc in
+    (same, zero_over c.args.frame.now c.args.budget (c.in-Err-OverBudget.ensures.over c.in-Err-OverBudget.field-0-is))

@@ -1,0 +1,136 @@
+-- A kept table whose states are named by kinds is explored.
+use Rattle.std.proofs.Common.{◌≡◌, ℕ, ◌<◌, ◌≤◌, List, [], ◌∷◌, ◌++◌, length, ap, sym, ◌∙◌, arith}
+use Rattle.weight_law.specs.declared.Weight.{Ghosts}
+use Rattle.weight_law.specs.declared.count.Count.{Count}
+use Rattle.weight_law.specs.declared.unit_weight.UnitWeight.{UnitWeight}
+use Rattle.tier_core.specs.declared.kind.Kind.{Kind}
+use Rattle.tier_core.specs.declared.sym.Sym.{Sym}
+use Rattle.tier_core.specs.Classes.{sets_of}
+use Rattle.tier_core.specs.Kinds.{PrefixKind}
+use Rattle.tier_core.proofs.ClassLemmas.{same_width}
+use Rattle.symbol_class.specs.FirstColumn.{first_column}
+use Rattle.symbol_class.proofs.Filled.{has-first_column}
+use Rattle.arc_table.specs.declared.arc.TableArc.{TableArc}
+use Rattle.arc_table.specs.declared.state.TableState.{TableState}
+use Rattle.arc_table.specs.Conditions.{TargetsExist}
+use Rattle.arc_table.specs.Runs.{IsPath, Accepts}
+use Rattle.violation.specs.Moves.{is_final, cut}
+use Rattle.violation.specs.Problems.{last_stage}
+use Rattle.violation.proofs.CutLemmas.{cut-kind_of}
+use Rattle.kind_moves.specs.declared.frame.Frame.{Frame}
+use Rattle.kind_moves.specs.Frames.{problem_in, kind_at_stage}
+use Rattle.kind_moves.proofs.LawSteps.{kinds_law}
+use Rattle.stage_laws.specs.StageTables.{IsStage, name_of}
+use Rattle.stage_laws.specs.FoundTables.{base_of, AreFoundFrom}
+use Rattle.stage_laws.proofs.Exploring.{fits_from_cut, found_on_runs, same_words}
+use Rattle.stage_laws.proofs.Naming.{path_kind, same_state}
+use Rattle.stage_laws.proofs.Paths.{run_path, path_word, joined_run, joined_reads}
+use Rattle.stage_tables.specs.declared.kind_key.KindKey.{KindKey}
+use Rattle.stage_tables.specs.Kept.{AreKeptByKinds}
+use Rattle.stage_tables.specs.Explored.{names_at, IsExplored}
+use Rattle.stage_tables.specs.Listed.{IsReached, IsOverOne, IsOfWidth, AreFound, AreTaken}
+use Rattle.stage_tables.proofs.Named.{frame_stage, names_apart, name_is, kind_of_state, base_is, leads, weighs, columns_new, columns_old, new_targets, new_filled, new_reached, each_named, some_state, ends_at, start_named, is_named, all_fit}
+
+-- a path from a state ends at one
+pub path_within : {W : Type 0} {g : Ghosts W} (states : List (TableState W g)) → TargetsExist states
+    → (arcs : List (TableArc W g)) (s t : ℕ) → s < length states → IsPath states s arcs t → t < length states
+path_within states exist [] s t l path = omega (arith, l, path)
+path_within states exist (arc ∷ arcs) s t l path = path_within states exist arcs arc.target t (exist s arc path.0) path.1
+
+module _ {g : Ghosts UnitWeight} (frame : Frame) (before stage : ℕ) (further : before ≤ stage)
+    (within : stage ≤ last_stage (problem_in frame)) (kept : List (TableState UnitWeight g))
+    (names : List PrefixKind) (by : AreKeptByKinds (problem_in frame) before names kept) where
+  earlier : IsStage (problem_in frame) before
+  earlier = frame_stage frame before (omega (arith, further, within))
+
+  -- the kind of what leads to a state, cut, is the state's name
+  cut_named : (kind : Kind) (s : ℕ) → IsReached frame stage kept kind s
+      → cut (problem_in frame) before (kind_at_stage frame stage kind) ≡ name_of names s
+  cut_named kind s r =
+      ap (cut (problem_in frame) before) (kinds_law frame stage r.first r.starts r.prefix kind r.leads)
+      ∙ cut-kind_of (problem_in frame) before stage further r.prefix
+      ∙ sym (path_kind (problem_in frame) before earlier names kept by.named r.arcs s r.prefix r.path r.reads)
+
+  pub kept_over_one : IsOverOne frame stage kept
+  kept_over_one a b s t ra rb same =
+      same_state (problem_in frame) before earlier names kept by.named s t
+      (path_within kept by.named.targets ra.arcs 0 s by.named.some ra.path)
+      (path_within kept by.named.targets rb.arcs 0 t by.named.some rb.path)
+      (sym (cut_named a s ra) ∙ ap (cut (problem_in frame) before) same ∙ cut_named b t rb)
+
+  pub kept_wide : IsOfWidth frame kept
+  kept_wide s arc here =
+      let have = has-first_column arc.class (by.named.filled s arc here) in
+      let fits = (by.named.moves s arc (first_column arc.class) here have).fits in
+      sym (same_width (sets_of arc.class) (first_column arc.class) have) ∙ fits.width
+
+  -- each prefix that leads to a state goes on to a word
+  pub kept_goes_on : (kind : Kind) (s : ℕ) → s < length kept → (r : IsReached frame stage kept kind s)
+      → (rest : List (List Sym)) × Accepts kept (r.prefix ++ rest)
+  kept_goes_on kind s l r =
+      let run = by.on_runs s l in
+      let path = run_path kept s run.2.0 run.2.1 in
+      let word = path_word kept by.named.filled s path.0 run.2.0 path.1 in (
+        word.0,
+        (
+          r.arcs ++ run.2.0,
+          record {
+            run = joined_run kept r.arcs run.2.0 0 s r.path run.2.1;
+            reads = joined_reads kept r.arcs run.2.0 r.prefix word.0 r.reads word.1;
+          },
+        ),
+      )
+
+  module _ {h : Ghosts Count} (first : ℕ) (keys : List KindKey) (kinds : List Kind) (over : List ℕ)
+      (found : AreFound frame stage kept keys kinds over) (states : List (TableState Count h))
+      (taken : AreTaken frame first stage kept kinds over states) (all : length states ≡ length kinds) where
+    cuts_at : (k : ℕ) → k < length states
+        → cut (problem_in frame) before (name_of (names_at frame stage kinds) k) ≡ name_of names (base_of over k)
+    cuts_at k l =
+        let a = kind_of_state frame first stage kept keys kinds over found states taken all k l in
+        ap (cut (problem_in frame) before) (name_is frame first stage kept keys kinds over found states taken all
+        k a.0 a.1 a.2)
+        ∙ cut_named a.0 a.1 (found.reached k a.0 a.1 a.2)
+        ∙ ap (name_of names) (sym (base_is frame first stage kept keys kinds over found states taken all k a.0 a.1 a.2))
+
+    from_kept : AreFoundFrom (problem_in frame) before stage names kept over (names_at frame stage kinds) states
+    from_kept = record {
+      each_named = each_named frame first stage kept keys kinds over found states taken all;
+      distinct = names_apart frame first stage kept keys kinds over found;
+      some = some_state frame first stage kept keys kinds over found states taken all;
+      start = start_named frame first stage kept keys kinds over found states taken all;
+      based = λ k l.
+          (let a = kind_of_state frame first stage kept keys kinds over found states taken all k l in
+          let base = base_is frame first stage kept keys kinds over found states taken all k a.0 a.1 a.2 in
+          omega (arith, base, (found.stands k a.0 a.1 a.2).within));
+      cuts = cuts_at;
+      ends = λ k l.
+          (let a = kind_of_state frame first stage kept keys kinds over found states taken all k l in
+          let base = base_is frame first stage kept keys kinds over found states taken all k a.0 a.1 a.2 in
+          let inside = (found.stands k a.0 a.1 a.2).within in
+          ends_at frame first stage kept keys kinds over found states taken all k l
+          ∙ ap (is_final (problem_in frame)) (cuts_at k l)
+          ∙ sym (by.named.ends (base_of over k) (omega (arith, base, inside))));
+      columns = λ k column l. (
+        columns_old frame first stage kept keys kinds over found states taken all k column,
+        λ move. columns_new frame first stage kept keys kinds over found states taken all k column l move
+            (fits_from_cut (problem_in frame) before stage further names kept by.named
+            (name_of (names_at frame stage kinds) k) (base_of over k) move.0 column (cuts_at k l) move.1 move.2),
+      );
+      leads = leads frame first stage kept keys kinds over found states taken all;
+      targets = new_targets frame first stage kept keys kinds over found states taken all;
+      filled = new_filled frame first stage kept keys kinds over found states taken all;
+      reached = new_reached frame first stage kept keys kinds over found states taken all;
+    }
+
+    -- all kinds that are found make the table of the stage
+    pub is_explored : IsExplored frame stage kept kinds states
+    is_explored = record {
+      named = is_named frame first stage kept keys kinds over found states taken all;
+      weighed = weighs frame first stage kept keys kinds over found states taken all;
+      fit = all_fit frame first stage kept keys kinds over found states taken all;
+      accepts = λ T. same_words (problem_in frame) before stage further names kept by.named earlier over
+          (names_at frame stage kinds) states from_kept T;
+      on_runs = λ s l. found_on_runs (problem_in frame) before stage further names kept by.named earlier over
+          (names_at frame stage kinds) states from_kept by.on_runs s l;
+    }

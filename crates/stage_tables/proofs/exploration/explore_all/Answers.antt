@@ -1,0 +1,40 @@
+use Rattle.std.proofs.Common.{◌≡◌, arith}
+use Rattle.std.proofs.lemmas.Result.{IfOk-weaker, IfErr-weaker}
+use Rattle.arc_table.specs.States.{states_of}
+use Rattle.violation.specs.Candidates.{IsCandidate}
+use Rattle.kind_moves.specs.Frames.{problem_in}
+use Rattle.stage_tables.specs.declared.stage_table.ExploreErr.TheVariants.{OverBudget}
+use Rattle.stage_tables.specs.Explored.{IsComplete, IsOverBudget}
+use Rattle.stage_tables.proofs.WholeTables.{whole_over_one, whole_wide, whole_goes_on, is_complete}
+use Rattle.stage_tables.proofs.Named.{over_budget}
+use Rattle.stage_tables.proofs.exploration.explore_all.Goals as goal
+
+pub invariant_of-exploring-clause-over_one : goal.invariant_of-exploring-clause-over_one
+invariant_of-exploring-clause-over_one c =
+    whole_over_one c.args.frame.now c.args.stage c.requires.stage (states_of c.in-Ok.whole) c.in-Ok.ensures
+
+pub invariant_of-exploring-clause-wide : goal.invariant_of-exploring-clause-wide
+invariant_of-exploring-clause-wide c =
+    whole_wide c.args.frame.now c.args.stage c.requires.stage (states_of c.in-Ok.whole) c.in-Ok.ensures
+
+pub returns-clause-complete : goal.returns-clause-complete
+returns-clause-complete c =
+    let frame = c.args.frame.now in
+    let kept = states_of c.in-Ok.whole in
+    IfOk-weaker c.explored.result _
+    (λ found. IsComplete frame c.args.stage found.kinds.items (states_of found.table))
+    (λ found is. is_complete frame c.args.stage c.requires.stage kept c.in-Ok.ensures 1 is.keys found.kinds.items is.over
+    is.found (states_of found.table) is.taken is.all (omega arith))
+    c.explored.ensures.found
+
+pub returns-clause-over : goal.returns-clause-over
+returns-clause-over c =
+    let frame = c.args.frame.now in
+    let kept = states_of c.in-Ok.whole in
+    IfErr-weaker c.explored.result _
+    (λ e. e ≡ OverBudget → IsOverBudget frame c.args.stage (IsCandidate (problem_in frame)) c.args.budget)
+    (λ e told over. let listed = (told over).0 in let beyond = (told over).1 in
+    over_budget frame 1 c.args.stage kept listed.keys.keys listed.kinds.items listed.over.items beyond.found
+    (IsCandidate (problem_in frame)) (whole_goes_on frame c.args.stage c.requires.stage kept c.in-Ok.ensures)
+    c.args.budget beyond.more)
+    c.explored.ensures.over

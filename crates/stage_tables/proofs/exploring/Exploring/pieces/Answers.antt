@@ -1,0 +1,29 @@
+use Rattle.std.proofs.Common.{List, subst, arith}
+use Rattle.kind_moves.specs.declared.piece.Piece.{Piece}
+use Rattle.stage_tables.specs.PartedPieces.{ArePartedPieces}
+use Rattle.stage_tables.proofs.PiecesParted.{first_pieces, pieces_wide, next_constraint, all_constraints}
+use Rattle.stage_tables.proofs.exploring.Exploring.pieces.Goals as goal
+
+pub loop-constraint-init : goal.loop-constraint-init
+loop-constraint-init c =
+    let made = c.in_ok-pieces.ensures in
+    first_pieces c.args.self.now c.args.kind.now c.args.class.now c.in_ok-pieces.pieces.items made.pieces made.columns
+    made.each
+
+pub returns : goal.returns
+returns c =
+    all_constraints c.args.self.now c.args.kind.now c.args.class.now c.loop-constraint.pieces.items
+    c.loop-constraint.constraint c.loop-constraint.invariant (omega (arith, c.loop-constraint-test.false))
+
+pub parted-requires-clause-wide : goal.parted-requires-clause-wide
+parted-requires-clause-wide c =
+    rw c.deref.ensures.value
+    (pieces_wide c.args.self.now c.args.kind.now c.args.class.now c.loop-constraint.pieces.items
+    c.loop-constraint.constraint c.loop-constraint.invariant)
+
+pub loop-constraint-preserved : goal.loop-constraint-preserved
+loop-constraint-preserved c =
+    next_constraint c.args.self.now c.args.kind.now c.args.class.now c.loop-constraint.pieces.items
+    c.in_ok-pieces-2.pieces.items c.loop-constraint.constraint c.loop-constraint.invariant
+    (subst (λ (xs : List Piece). ArePartedPieces c.args.self.now c.loop-constraint.constraint c.args.kind.now xs
+    c.in_ok-pieces-2.pieces.items) c.deref.ensures.value c.in_ok-pieces-2.ensures)

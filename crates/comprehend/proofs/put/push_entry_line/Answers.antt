@@ -2,7 +2,7 @@ use Rattle.outside.proofs.Writing.{◌▹◌, cut, stop}
 use Rattle.comprehend.proofs.put.push_entry_line.Goals as goal
 
 pub returns-in_err-push : goal.returns-in_err-push
-returns-in_err-push g c = stop c.from_residual.ensures.1 (cut _ (cut _ c.in_err-push.ensures))
+returns-in_err-push g c = stop c.from_residual.ensures.1 (cut _ c.in_err-push.ensures)
 
 pub returns-in_err-push-2 : goal.returns-in_err-push-2
 returns-in_err-push-2 g c = stop c.from_residual-in_err-push-2.ensures.1

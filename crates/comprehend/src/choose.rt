@@ -74,7 +74,7 @@ fn best_of(
     best
 }
 
-/// Of the steps from a cell to where `n` columns are left, one with the least column.
+/// Of the steps from a cell to one with `n` columns left, a step with the least column.
 pub(crate) fn choose(
     alloc: Global,
     numbers: &IndexSet<u32>,

@@ -15,7 +15,7 @@ use indexmap::IndexSet;
 use std::alloc::Global;
 use tier_core::{Class, NoMemory, Timeline};
 
-/// The first of the timelines that lead from a cell to an end, where so many columns are left.
+/// The first of the timelines that lead from a cell to an end, if so many columns are left there.
 fn follow(
     alloc: Global,
     numbers: &IndexSet<u32>,
@@ -52,7 +52,7 @@ fn follow(
 }
 
 /// The first of the timelines that lead along the tests, from node number 0 and the first place to a
-/// final state and the last place; `None` exactly where none does.
+/// final state and the last place; `None` exactly if none does.
 pub(crate) fn first_along(
     alloc: Global,
     states: &[StateLine],

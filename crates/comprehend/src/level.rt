@@ -81,7 +81,7 @@ fn reach(
     Ok(())
 }
 
-/// The next level: the cells with a step to one of the last level, of which nothing is known.
+/// The next level: the cells with a step to one of the last level, if nothing is known of them yet.
 pub(crate) fn next_level(
     alloc: Global,
     states: &[StateLine],

@@ -13,7 +13,7 @@ use grammar_reader::Grammar;
 use std::alloc::Global;
 use tier_core::{NoMemory, TierTable, Timeline};
 
-/// The first of the timelines with a surface that an automaton accepts; `None` exactly where it accepts
+/// The first of the timelines with a surface that an automaton accepts; `None` exactly if it accepts
 /// none.
 fn first_heard(
     alloc: Global,
@@ -37,10 +37,10 @@ fn first_heard(
 }
 
 /// The first of the optimal candidates of a sound answer's form that have a surface; `None` exactly
-/// where none has it. It fails only for want of memory.
+/// if none has it. It fails only if memory runs out.
 ///
 /// The surface is well formed and reduced over the overt tiers and has at most 64 columns. The answer
-/// has at most 65,536 states. For each state and each place of the surface 4 bytes are held.
+/// has at most 65,536 states. For each state and each place in the surface 4 bytes are held.
 pub fn has_surface(
     alloc: Global,
     grammar: &Grammar,

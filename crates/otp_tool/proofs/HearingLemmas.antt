@@ -1,26 +1,18 @@
 -- What `comprehend` does with a grammar, a surface and a lexicon file.
 use Rattle.std.proofs.Common.{◌≡◌, inl, inr, ℕ, ◌<◌, ◌≤◌, List, length, map, All, Some, Result, string_bytes, refl, ap, sym, ◌∙◌, subst, arith}
-use Rattle.std.specs.Prelude.{Contains}
-use Rattle.std.specs.List.{list_any}
-use Rattle.std.proofs.lemmas.List.{length-map}
-use Rattle.std.proofs.lemmas.List.Elements.{All-contains_itself, All-weaker}
-use Rattle.std.proofs.lemmas.Option.{slice_get_within}
 use Rattle.std.proofs.lemmas.Simd.{map-map}
 use Rattle.outside.specs.Writers.{Puts}
 use Rattle.outside.specs.declared.sink.WriteErr.{WriteErr}
 use Rattle.outside.specs.declared.sink.Sink.{Ghosts as SinkGhosts}
 use Rattle.outside.specs.declared.shelf.Shelf.{Ghosts as ShelfGhosts}
 use Rattle.tier_core.specs.declared.sym.Sym.{Sym}
-use Rattle.tier_core.specs.Tiers.{Tiers, is_overt}
+use Rattle.tier_core.specs.Tiers.{Tiers}
 use Rattle.tier_core.specs.Tables.{tiers_of_table}
-use Rattle.tier_core.proofs.TableMasks.{length-numbers_from}
 use Rattle.timeline_text.specs.declared.form_err.FormErr.{FormErr}
 use Rattle.timeline_text.specs.Texts.{IsTextOf}
 use Rattle.timeline_text.specs.Causes.{IsCause}
 use Rattle.grammar_reader.specs.declared.grammar.Grammar.{Grammar}
 use Rattle.grammar_reader.specs.Grammars.{value_of}
-use Rattle.grammar_reader.proofs.Lists.{list_any-map}
-use Rattle.grammar_reader.proofs.Shaping.{any_filtered}
 use Rattle.violation.specs.Problems.{Problem, asked}
 use Rattle.lexicon.specs.declared.entry.Entry.{Entry}
 use Rattle.lexicon.specs.declared.lex_err.LexErr.{LexErr}
@@ -30,7 +22,6 @@ use Rattle.lexicon.specs.Seen.{entries_seen, entry_seen}
 use Rattle.comprehend.specs.declared.hit.Hit.{Hit}
 use Rattle.comprehend.specs.Hears.{AreEntriesWithin, Hears, forms_of}
 use Rattle.comprehend.specs.HitText.{hits_text, names_of}
-use Rattle.comprehend.specs.Surfaces.{IsSurface}
 use Rattle.status_lines.specs.declared.status.Status.{Status}
 use Rattle.otp_tool.specs.Files.{IsHeld, lexicon_file}
 use Rattle.otp_tool.specs.Grammars.{AreAsked, input_count, overt_count}
@@ -38,44 +29,30 @@ use Rattle.otp_tool.specs.Lexicons.{HasSurfaceWord, IsLexiconFile, IsNoLexiconFi
 use Rattle.otp_tool.specs.Findings.{FindsForHearing, no_form, no_lexicon, ready}
 use Rattle.otp_tool.specs.Results.{IsHeardText}
 use Rattle.otp_tool.specs.Steps.{Change, IsHearingWork, IsRefusal, IsSecondRefusal, RefusesEntry, RefusesLexicon, RefusesSurface, change_of, end_of}
-use Rattle.otp_tool.proofs.GrammarLemmas.{same_kinds, same_tiers}
+use Rattle.otp_tool.proofs.GrammarLemmas.{same_tiers}
 use Rattle.otp_tool.proofs.RefusalLemmas.{entry_for_hearing, lexicon_for_hearing, refusal_weaker, refused_before, second_refused, surface_for_hearing}
 use Rattle.otp_tool.proofs.StepLemmas.{written}
 
 -- ---- reading
 
 module _ (g : Grammar) where
-  -- some tier is overt
-  pub some_overt : 1 ≤ length (tiers_of_table g.tiers).overt
-  some_overt =
-      let long = length-numbers_from is_overt 0 g.tiers.kinds.items in
-      let some = any_filtered is_overt g.tiers.kinds.items
-      (ap (list_any is_overt) (sym (same_kinds g)) ∙ list_any-map is_overt (λ t. t.kind) (value_of g).tiers
-      ∙ g.lawful.overt) in
-      omega (arith, long, some)
-
   asks_all : AreAsked (value_of g) (asked g.tiers g.constraints.items)
   asks_all = record { tiers = λ u. sym (same_tiers g); constraints = λ u. refl; form = λ u. refl }
 
   same_overt : overt_count (value_of g) ≡ length (tiers_of_table g.tiers).overt
   same_overt = ap (λ (tiers : Tiers). length tiers.overt) (same_tiers g)
 
-  module _ (width : ℕ) (is : width ≡ length (tiers_of_table g.tiers).overt) (word : List ℕ) where
-    pub read_surface : (s : List (List Sym)) → IsTextOf width 64 word s → IsSurfaceOf (value_of g) word s
-    read_surface s t = subst (λ (n : ℕ). IsTextOf n 64 word s) (is ∙ sym same_overt) t
+  module _ (word : List ℕ) where
+    pub is_read : (s : List (List Sym)) → IsTextOf (length (tiers_of_table g.tiers).overt) 64 word s
+        → IsSurfaceOf (value_of g) word s
+    is_read s t = subst (λ (n : ℕ). IsTextOf n 64 word s) (sym same_overt) t
 
-    pub refused_surface : (cause : FormErr) → IsCause width 64 word cause
+    pub refused_surface : (cause : FormErr) → IsCause (length (tiers_of_table g.tiers).overt) 64 word cause
         → RefusesSurface (value_of g) word (no_form 3 cause)
     refused_surface cause r = record {
       value = cause;
       is = refl;
-      fact = subst (λ (n : ℕ). IsCause n 64 word cause) (is ∙ sym same_overt) r;
-    }
-
-    pub is_surface : (s : List (List Sym)) → IsTextOf width 64 word s → IsSurface (tiers_of_table g.tiers) s
-    is_surface s t = record {
-      well_formed = (subst (λ (n : ℕ). IsTextOf n 64 word s) is t).form;
-      reduced = t.reduced;
+      fact = subst (λ (n : ℕ). IsCause n 64 word cause) (sym same_overt) r;
     }
 
   module _ (bytes : List ℕ) (within : length bytes ≤ 4194304) where
@@ -108,18 +85,6 @@ same_forms entries = sym (map-map (λ (e : LexicalEntry). e.form) entry_seen ent
 
 same_names : (entries : List Entry) → names_of entries ≡ names_in (entries_seen entries)
 same_names entries = sym (map-map (λ (e : LexicalEntry). e.name) entry_seen entries)
-
--- each hit is of an entry
-pub hits_within : (ask : List (List Sym) → Problem) (entries : List Entry) (surface : List (List Sym)) (hits : List Hit)
-    → Hears ask (forms_of entries) surface hits → All (λ hit. hit.index < length entries) hits
-hits_within ask entries surface hits h =
-    All-weaker (Contains hits) (λ hit. hit.index < length entries)
-    (λ hit c.
-    let is = h.each hit c in
-    let below = slice_get_within (forms_of entries) hit.index is.form is.numbered in
-    let long = length-map entries (λ (e : Entry). e.form) in
-    omega (arith, below, long))
-    hits (All-contains_itself hits)
 
 -- ---- the command
 

@@ -1,4 +1,4 @@
-ghost use Rattle.std.specs.Prelude.{◌≡◌, ◌≢◌, ◌≤◌, ℕ, All, List, length, IfOk, IfErr};
+ghost use Rattle.std.specs.Prelude.{◌≡◌, ◌≢◌, ◌<◌, ◌≤◌, ℕ, All, List, length, IfOk, IfErr};
 ghost use Rattle.tier_core.specs.Tables.{tiers_of_table};
 ghost use Rattle.violation.specs.Candidates.{IsForm};
 ghost use Rattle.violation.specs.Problems.{asked};
@@ -11,28 +11,17 @@ ghost use Rattle.otp_tool.specs.Steps.{IsHearingWork, IsRefusal, RefusesEntry, R
 
 use crate::results::ended;
 use crate::second::load_second;
-use comprehend::{CompErr, Hit, comprehend, put_hits};
+use comprehend::{CompErr, Hit, comprehend, put_hits, read_surface};
 use grammar_reader::Grammar;
 use lexicon::{Entry, LexErr, read_lexicon};
 use outside::{Shelf, Sink};
 use status_lines::Status;
 use std::alloc::Global;
-use tier_core::{TierTable, Timeline};
-use timeline_text::{FormErr, read_timeline};
+use tier_core::Timeline;
+use timeline_text::FormErr;
 
 /// How many bytes a lexicon file may have.
 const LEXICON_LIMIT: u64 = 4194304;
-
-/// How many columns a surface may have.
-const SURFACE_LIMIT: usize = 64;
-
-/// How many tiers are overt.
-fn overt_count(tiers: &TierTable) -> usize
-    ensures value { result ≡ length (tiers_of_table tiers.now).overt }
-    ensures few { result ≤ 12 }
-{
-    tiers.kinds.iter().filter(|kind| kind.is_overt()).count()
-}
 
 /// Reads the surface that word 3 is.
 fn surface_of(alloc: Global, grammar: &Grammar, word: &str) -> Result<Timeline, Status>
@@ -41,8 +30,7 @@ fn surface_of(alloc: Global, grammar: &Grammar, word: &str) -> Result<Timeline, 
     ensures short { IfOk result (λ surface. length surface ≤ 64) }
     ensures err { IfErr result (IsRefusal (RefusesSurface (value_of grammar.now) word.now)) }
 {
-    let width = overt_count(&grammar.tiers) as u32;
-    match read_timeline(alloc, width, SURFACE_LIMIT, word.as_bytes()) {
+    match read_surface(alloc, grammar, word.as_bytes()) {
         Ok(surface) => Ok(surface),
         Err(FormErr::NoMemory) => Err(Status::NoMemory),
         Err(cause) => Err(Status::FormRefused { word: 3, cause }),
@@ -90,6 +78,8 @@ fn heard(
     ensures within { IfOk result (λ hits. AreEntriesWithin
         (asked grammar.now.tiers grammar.now.constraints.items)
         (forms_of entries.now) budget) }
+    ensures entries { IfOk result
+        (λ hits. All (λ hit. hit.index < length entries.now) hits.items) }
     ensures err { IfErr result (IsRefusal (RefusesEntry
         (asked grammar.now.tiers grammar.now.constraints.items)
         (forms_of entries.now) budget)) }

@@ -1,7 +1,7 @@
 use Rattle.std.proofs.Common.{◌≡◌, ◌≤◌, ℕ, List, length, refl, sym, subst}
 use Rattle.otp_tool.specs.Files.{IsHeld}
 use Rattle.otp_tool.specs.Steps.{change_of}
-use Rattle.otp_tool.proofs.HearingLemmas.{hits_within, hits_written, no_entry, no_lexicon_loaded, no_lexicon_read, no_surface}
+use Rattle.otp_tool.proofs.HearingLemmas.{hits_written, no_entry, no_lexicon_loaded, no_lexicon_read, no_surface}
 use Rattle.otp_tool.proofs.hearing.listen.Goals as goal
 
 pub returns-in-Err-clause-work : goal.returns-in-Err-clause-work

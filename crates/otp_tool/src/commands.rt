@@ -80,7 +80,7 @@ fn perform<F: Shelf, O: Sink>(
     }
 }
 
-/// Loads the grammar of a command, and does what the command asks of it.
+/// Loads and reads the grammar of a command, and does what the command asks of it.
 fn execute<F: Shelf, O: Sink>(
     alloc: Global,
     command: &Command<'_>,

@@ -42,11 +42,13 @@ module _ (forms : List (List (List Sym))) (budget : ℕ) where
   one_entry : (ask : List (List Sym) → Problem) (at other : ℕ × ℕ) → OverAt ask at → OverAt ask other
       → over_budget at.0 at.1 ≡ over_budget other.0 other.1
   one_entry ask at other o p =
-      let same : at.0 ≡ other.0 = equal_where at.0 other.0 (not_before ask at other o p) (not_before ask other at p o) in
+      let same : at.0 ≡ other.0 =
+      equal_where at.0 other.0 (not_before ask at other o p) (not_before ask other at p o) in
       let here : slice_get forms other.0 ≡ Some o.form = ap (slice_get forms) (sym same) ∙ o.numbered in
       let form : p.form ≡ o.form = same_form other.0 p.form o.form p.numbered here in
       let over = subst (λ u. IsFirstOver (ask u) budget other.1) form p.over in
-      ap (λ i. over_budget i at.1) same ∙ ap (over_budget other.0) (one_stage (ask o.form) budget at.1 other.1 o.over over)
+      ap (λ i. over_budget i at.1) same
+      ∙ ap (over_budget other.0) (one_stage (ask o.form) budget at.1 other.1 o.over over)
 
 -- ---- problems that are asked by one grammar
 

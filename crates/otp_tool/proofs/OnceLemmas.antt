@@ -36,8 +36,8 @@ last_stretches cs =
     let long = length-stretch_counts cs in
     let last : length (stretch_counts cs) - 1 ≡ length cs = omega (arith, long) in
     ap (λ n. get_or (stretch_counts cs) n 0) last
-    ∙ get_or-map-range_with_len (λ r. length (filter is_stretch (take r cs))) 0 (length cs + 1) (length cs) (length cs) 0
-    (omega arith) (omega arith)
+    ∙ get_or-map-range_with_len (λ r. length (filter is_stretch (take r cs))) 0 (length cs + 1) (length cs)
+    (length cs) 0 (omega arith) (omega arith)
     ∙ ap (λ ds. length (filter is_stretch ds)) (take_all (length cs) cs (omega arith))
 
 same_once_widths : (a b : OnceWidths) → a.free ≡ b.free → a.stretches ≡ b.stretches → a.constraints ≡ b.constraints

@@ -101,7 +101,8 @@ module _ (g : GrammarValue) (form : List ℕ) (budget : ℕ) (bytes : List ℕ) 
   form_apart x y r (inr (inl n)) = refused_form g form x (IsNoRowsFile bytes n.value.0 n.value.1) r n.fact
   form_apart x y r (inr (inr w)) = refused_form g form x (IsRowsFile bytes) r (has_rows y w)
 
-  pub for_tableau : (x y : Finding) → FindsForTableau g form budget bytes x → FindsForTableau g form budget bytes y → x ≡ y
+  pub for_tableau : (x y : Finding) → FindsForTableau g form budget bytes x → FindsForTableau g form budget bytes y
+      → x ≡ y
   for_tableau x y a b =
       one_choice (RefusesForm g form) (λ z. Long z ⊎ NotLong z) (one_refused_form g form) form_apart
       (one_choice Long NotLong (λ v w l m. l.0 ∙ sym m.0) long_apart

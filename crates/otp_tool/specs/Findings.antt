@@ -101,7 +101,8 @@ FindsForAnswer g form budget ready = IsWithinBudget g form budget
 abbrev pub FindsForTableau : GrammarValue → List ℕ → ℕ → List ℕ → Finding → Type 0
 FindsForTableau g form budget bytes long_file = ⊥
 FindsForTableau g form budget bytes (no_grammar line cause) = ⊥
-FindsForTableau g form budget bytes (no_form word cause) = (word ≡ 2) × IsRefusedFor (input_count g) g.letters form cause
+FindsForTableau g form budget bytes (no_form word cause) =
+    (word ≡ 2) × IsRefusedFor (input_count g) g.letters form cause
 FindsForTableau g form budget bytes (long_second word) = (word ≡ 3) × (HasForm g form × (4194304 < length bytes))
 FindsForTableau g form budget bytes (no_rows row cause) = OnProblem (IsNoRowsFile bytes row cause) g form
 FindsForTableau g form budget bytes (no_lexicon cause) = ⊥

@@ -68,7 +68,8 @@ pub record IsTableauText (g : GrammarValue) (form bytes text : List ℕ) : Type 
   pub is_tableau : IsTableauOf problem rows tableau
   pub written : text ≡ tableau_text tableau
 
--- under all constraints, kinds are written over all stretch implications, and potentials have a number for each constraint
+-- under all constraints, kinds are written over all stretch implications, and potentials have a number for each
+-- constraint
 abbrev pub once_widths : Problem → OnceWidths
 once_widths problem = record {
   free = length problem.tiers.free;

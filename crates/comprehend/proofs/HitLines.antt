@@ -1,5 +1,5 @@
 -- The lines of a hit, put together.
-use Rattle.std.proofs.Common.{◌≡◌, ◌<◌, ℕ, List, [], ◌∷◌, ◌++◌, codes, length, get_or, map, refl, sym, ap, ◌∙◌, append-nil}
+use Rattle.std.proofs.Common.{◌≡◌, ◌<◌, List, [], ◌++◌, codes, length, get_or, sym, ap, ◌∙◌, append-nil}
 use Rattle.std.specs.String.{string_bytes}
 use Rattle.std.proofs.lemmas.List.{get_or-map}
 use Rattle.answer_text.specs.Text.{line, lines_text}

@@ -174,9 +174,9 @@ pub hits_inside : (ask : List (List Sym) → Problem) (entries : List Entry) (su
 hits_inside ask entries surface hits heard =
     All-weaker (Contains hits) (λ (hit : Hit). hit.index < length entries)
     (λ hit there.
-        let own = heard.each hit there in
-        omega (
-          arith,
-          slice_get_within (forms_of entries) hit.index own.form own.numbered,
-          length-map entries (λ (e : Entry). e.form),
-        )) hits (All-contains_itself hits)
+    let own = heard.each hit there in
+    omega (
+      arith,
+      slice_get_within (forms_of entries) hit.index own.form own.numbered,
+      length-map entries (λ (e : Entry). e.form),
+    )) hits (All-contains_itself hits)

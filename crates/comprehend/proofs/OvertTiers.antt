@@ -16,7 +16,7 @@ some_overt g =
     let kinds = g.tiers.kinds.items in
     let same = length-map g.tiers.names.items string_bytes ∙ g.tiers.one_length in
     let some = any_filtered is_overt kinds
-        (ap (list_any is_overt) (sym (kinds_back names kinds same))
-        ∙ list_any-map is_overt (λ t. t.kind) (tiers_by names kinds) ∙ g.lawful.overt) in
+    (ap (list_any is_overt) (sym (kinds_back names kinds same))
+    ∙ list_any-map is_overt (λ t. t.kind) (tiers_by names kinds) ∙ g.lawful.overt) in
     let counted = length-numbers_from is_overt 0 kinds in
     omega (arith, counted, some)

@@ -33,8 +33,8 @@ fn lesser(best: Option<Choice>, choice: Choice) -> Choice
     }
 }
 
-/// The better of the best choice so far and the least column of both classes, if that leads to a cell
-/// with `n` columns left.
+/// The better of the best choice so far and the least column of both classes, if that leads to a
+/// cell with `n` columns left.
 pub(crate) fn better(
     alloc: Global,
     best: Option<Choice>,

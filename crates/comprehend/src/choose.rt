@@ -13,8 +13,8 @@ use indexmap::IndexSet;
 use std::alloc::Global;
 use tier_core::Class;
 
-/// The better of the best choice so far and the least column of an arc's class that leads from a place
-/// to a cell of the target with `n` columns left.
+/// The better of the best choice so far and the least column of an arc's class that leads from a
+/// place to a cell of the target with `n` columns left.
 fn along(
     alloc: Global,
     best: Option<Choice>,

@@ -35,8 +35,12 @@ fn hear(
     requires few { budget ≤ 65536 }
     ensures first { IfOk result (λ first.
         MatchOption first
-        ((T : List (List Sym)) → HasSurface (asked grammar.now.tiers grammar.now.constraints.items form.now) surface.now T → ⊥)
-        (IsFirst (HasSurface (asked grammar.now.tiers grammar.now.constraints.items form.now) surface.now))) }
+        ((T : List (List Sym))
+        → HasSurface (asked grammar.now.tiers grammar.now.constraints.items form.now)
+        surface.now T → ⊥)
+        (IsFirst
+        (HasSurface (asked grammar.now.tiers grammar.now.constraints.items form.now)
+        surface.now))) }
     ensures within { IfOk result
         (λ first.
         AreAllWithin (asked grammar.now.tiers grammar.now.constraints.items form.now) budget) }
@@ -69,16 +73,16 @@ fn push_heard(hits: &mut Vec<Hit>, index: u32, heard: Option<Timeline>) -> Resul
     }
 }
 
-/// The entries of a lexicon that have an optimal candidate with a surface, in the order of the lexicon,
-/// each with the first such candidate.
+/// The entries of a lexicon that have an optimal candidate with a surface, in the order of the
+/// lexicon, each with the first such candidate.
 ///
-/// `Budget` occurs exactly when an entry has a stage with more kinds of prefix than the budget, unless
-/// memory ran out: it names the first such entry, and its first such stage. `NoMemory` may occur in
-/// place of any answer.
+/// `Budget` occurs exactly when an entry has a stage with more kinds of prefix than the budget,
+/// unless memory ran out: it names the first such entry, and its first such stage. `NoMemory` may
+/// occur in place of any answer.
 ///
-/// Each form is well formed and reduced over the input tiers, and the surface over the overt tiers, and
-/// each has at most 64 columns. There are at most 1,000 entries, and the budget is from 1 to 65,536.
-/// What is held for the surface does not count against the budget.
+/// Each form is well formed and reduced over the input tiers, and the surface over the overt tiers,
+/// and each has at most 64 columns. There are at most 1,000 entries, and the budget is from 1 to
+/// 65,536. What is held for the surface does not count against the budget.
 pub fn comprehend(
     alloc: Global,
     grammar: &Grammar,

@@ -32,7 +32,8 @@ fn reach_by(
     ensures { IfOk result
         (λ _.
         Reaches
-        (ComesBy tests.now entry.now.source entry.now.class place) n left.old.items left.new.items next.old.items next.new.items) }
+        (ComesBy tests.now entry.now.source entry.now.class place) n
+        left.old.items left.new.items next.old.items next.new.items) }
 {
     let places = tests.len() as u32;
     let stays = meets(&entry.class, &tests[0]);

@@ -72,11 +72,11 @@ fn push_hits<O: Sink>(
     Ok(())
 }
 
-/// Writes the number of hits, and then for each hit the name of its entry and its example, each on a
-/// line of its own. It allocates nothing except what the sink allocates in its writes.
+/// Writes the number of hits, and then for each hit the name of its entry and its example, each on
+/// a line of its own. It allocates nothing except what the sink allocates in its writes.
 ///
-/// Each hit is of an entry of the lexicon. After an error the sink has taken a prefix of these lines.
-/// `Failed` is returned only if the sink's count of faults rose.
+/// Each hit is of an entry of the lexicon. After an error the sink has taken a prefix of these
+/// lines. `Failed` is returned only if the sink's count of faults rose.
 pub fn put_hits<O: Sink>(sink: &mut O, lexicon: &[Entry], hits: &[Hit]) -> Result<(), WriteErr>
     requires { All (λ hit. hit.index < length lexicon.now) hits.now }
     ensures { Puts O.Sink sink.old sink.new (hits_text (names_of lexicon.now) hits.now) result }

@@ -14,8 +14,8 @@ use indexmap::IndexSet;
 use std::alloc::{AllocError, Global};
 use tier_core::Class;
 
-/// How far the backward search has come: for each cell the least number of columns left, as far as it
-/// is known, and the cells of the last level.
+/// How far the backward search has come: for each cell the least number of columns left, as far as
+/// it is known, and the cells of the last level.
 #[derive(Drop)]
 struct Search {
     left: Vec<u32>,
@@ -65,8 +65,8 @@ fn searched(
     Ok(left)
 }
 
-/// For each cell the least number of columns to an end. This takes 4 bytes a cell, and looks at each
-/// arc once for each place.
+/// For each cell the least number of columns to an end. This takes 4 bytes a cell, and looks at
+/// each arc once for each place.
 pub(crate) fn lengths(
     alloc: Global,
     numbers: &IndexSet<u32>,

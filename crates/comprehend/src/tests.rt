@@ -22,7 +22,8 @@ const INSIDE: &[u8] =
 const THREE: &[u8] = b"entry = [{name = 'none', form = 'empty'}, {name = 'one', form = '[ ]'},
 {name = 'two', form = '[ | ]'}]";
 
-/// Writes what is heard of a surface, and gives the error if the lexicon is not searched to the end.
+/// Writes what is heard of a surface, and gives the error if the lexicon is not searched to the
+/// end.
 fn hear(
     alloc: Global,
     sink: &mut SafeSink,
@@ -43,8 +44,8 @@ fn hear(
     }
 }
 
-// Surfaces of the three entries, and the hits of each. The first optimal candidate of no entry has the
-// surface `[ ]` under Dep.
+// Surfaces of the three entries, and the hits of each. The first optimal candidate of no entry has
+// the surface `[ ]` under Dep.
 #[test]
 fn surfaces_and_their_hits(rt: HostRuntime) -> Result<(), Fail> {
     let cases: [(&[u8], &[u8], &[u8], &[u8]); 7] = [
@@ -94,8 +95,8 @@ fn over(index: u32, stage: u32) -> Result<(), CompErr> {
     Err(CompErr::Budget { index, stage })
 }
 
-// Budgets, and the first entry with its first stage that has more kinds. The entries have 2, 6 and 8
-// kinds at stage 0, and 2, 7 and 9 at stage 1.
+// Budgets, and the first entry with its first stage that has more kinds. The entries have 2, 6 and
+// 8 kinds at stage 0, and 2, 7 and 9 at stage 1.
 #[test]
 fn budgets_of_entries(rt: HostRuntime) -> Result<(), Fail> {
     let cases = [

@@ -2,8 +2,8 @@ use tier_core::Timeline;
 
 /// A candidate in a tableau.
 ///
-/// `counts` has its violations of each constraint in ranked order. `worse` is the number, from 0, of
-/// the first constraint at which they are more than the least, and `None` if the candidate is
+/// `counts` has its violations of each constraint in ranked order. `worse` is the number, from 0,
+/// of the first constraint at which they are more than the least, and `None` if the candidate is
 /// optimal.
 #[derive(Drop)]
 pub struct TableauRow {

@@ -4,4 +4,4 @@ use Rattle.comprehend.proofs.surface_word.read_surface.Goals as goal
 
 pub read_timeline-requires-clause-some : goal.read_timeline-requires-clause-some
 read_timeline-requires-clause-some c =
-    subst (λ m. 1 ≤ m) (sym c.overt_count.ensures.value) (some_overt c.args.grammar.now)
+    subst (λ m. 1 ≤ m) (sym c.overt_count-overt.ensures.value) (some_overt c.args.grammar.now)

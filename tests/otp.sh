@@ -6,7 +6,7 @@
 top=$(cd "$(dirname "$0")/.." && pwd) || exit 1
 place=$(mktemp -d) || exit 1
 trap 'rm -rf "$place"' EXIT
-cp "$top"/examples/*.otp "$top"/examples/*.rows "$place" && cd "$place" || exit 1
+cp "$top"/examples/*.otp "$top"/examples/*.rows "$top"/examples/*.toml "$place" && cd "$place" || exit 1
 printf 'otp 1\ntier A input\ntier a hidden\n' > no_overt.otp
 printf 'otp 1\ntier A input\ntier  a overt ; surface\n\nconstraint Max A->a' > loose.otp
 printf 'otp 1\ntier A input\ntier a overt\nconstraint Max A -> a\n' > strict.otp
@@ -14,6 +14,12 @@ printf 'otp 1\ntier A input\ntier a overt\nconstraint Max A -> a\n' > strict.otp
 { cat base.otp; echo 'constraint X b -> a'; } > unknown.otp
 head -c 65537 /dev/zero > long.otp
 tr '\0' 'x' < /dev/zero | head -c 65536 > full.otp
+{ cat base.otp; echo 'constraint Dep a -> A'; } > added.otp
+printf 'x = \n' > broken.toml
+printf "[[entry]]\nname = 'one'\n" > formless.toml
+printf "[[entry]]\nname = 'one'\nform = 'empty'\n[[entry]]\nname = 'one'\nform = 'empty'\n" > twice.toml
+printf "[[entry]]\nname = 'one'\nform = '['\n" > open.toml
+seq 1000 | sed "s/.*/[[entry]]\nname = '&'\nform = 'empty'/" > many.toml
 head -c 4194305 /dev/zero > long.rows
 printf '\n[- ]-\n  \n[ ]\n' > narrow.rows
 printf '[- ]-\r\n\r\n[[ ]]' > optimal.rows
@@ -131,6 +137,34 @@ wrote "  [ ]   Max Dep One" "> [[ ]]   0   0   1" "  [- ]-  1!   0   0" "> [[ ]]
 try "no rows" 0 "" tableau ranked.otp "[ ]" /dev/null
 wrote "  [ ]   Max Dep One" "> [[ ]]   0   0   1"
 
+# a single pass
+try "kinds of all candidates" 0 "" once least_overt.otp "[ ]" 8
+wrote "once 1" "form [ ]" "counts 0 1 0" "example [- ]-" \
+    "nodes 8" "node 0/-/.. 0 1 0" "node 0/+/.u 1 0 0" "node 1/-/u. 0 1 0" "node 1/-/m. 0 0 0" \
+    "node 1/+/mm 1 0 0" "node 2/-/.. 0 0 0" "node 2/+/.u 1 0 1" "node 2/+/.m 1 0 0" \
+    "automaton 3" "state 0" "arc 2 [-" "state 2" "arc 5 ]-" "state 5 final" "end"
+try "single pass without constraints" 0 "" once base.otp =
+wrote "once 1" "form empty" "counts" "example empty" "nodes 2" "node 0/-/" "node 0/+/" \
+    "automaton 2" "state 0 final" "arc 1 -[" "state 1" "arc 0 -]" "arc 1 -|" "end"
+for form in empty "[ ]" "[ | ]" "[ ] [ ]"; do
+    "$top/otp" once ranked.otp "$form" | sed -n '3,4p' > single
+    "$top/otp" show ranked.otp "$form" > staged
+    has_text single staged "both ways agree on $form"
+done
+
+# comprehension
+try "first optimal candidates that are silent" 0 "" comprehend added.otp ranked.toml "[ ]"
+wrote "hits 2" "entry one" "example [[ ]]" "entry two" "example [- |[ ]]"
+try "silence" 0 "" comprehend added.otp ranked.toml empty
+wrote "hits 3" "entry none" "example empty" "entry one" "example [- ]-" "entry two" "example [- |- ]-"
+try "unknown surface" 0 "" comprehend ranked.otp ranked.toml "[ | ]" 20000
+wrote "hits 0"
+try "no entries" 0 "" comprehend added.otp /dev/null "[ ]"
+wrote "hits 0"
+try "a thousand entries" 0 "" comprehend added.otp many.toml empty
+[ "$(head -n 1 out)" = "hits 1000" ] && [ "$(wc -l < out)" = 2001 ] && has_passed "a thousand hits" \
+    || has_failed "a thousand hits"
+
 # each refusal
 try "unknown command" 2 "usage" foo base.otp empty
 try "two words" 2 "usage" generate base.otp
@@ -177,6 +211,26 @@ try "form before rows" 4 "form word 2: NotWellFormed 0" tableau ranked.otp "] ["
 try "grammar before rows" 8 "read fault word 1" tableau missing.otp "[ ]" missing.rows
 try "rows before budget" 11 "rows word 3 row 1: NotCandidate" tableau ranked.otp "[ | ]" ranked.rows 1
 try "budget of a tableau" 7 "budget entry 0 stage 0" tableau ranked.otp "[ ]" ranked.rows 5
+try "single pass, two words" 2 "usage" once least_overt.otp
+try "single pass, form" 4 "form word 2: NotWellFormed 0" once least_overt.otp "] [" 1
+try "single pass, fewer kinds than there are" 7 "budget entry 0 stage 3" once least_overt.otp "[ ]" 7
+try "single pass, budget of no kinds" 7 "budget entry 0 stage 3" once least_overt.otp "[ ]" 1
+try "as many kinds as its stages have" 0 "" generate least_overt.otp "[ ]" 6
+try "no surface" 2 "usage" comprehend added.otp ranked.toml
+try "comprehend, a word too many" 2 "usage" comprehend added.otp ranked.toml "[ ]" 1 1
+try "comprehend, budget of the first entry" 7 "budget entry 0 stage 0" comprehend added.otp ranked.toml empty 1
+try "comprehend, budget of the second entry" 7 "budget entry 1 stage 0" comprehend added.otp ranked.toml empty 5
+try "surface of two tiers" 4 "form word 3: WrongWidth 0" comprehend added.otp ranked.toml "[[ ]]"
+try "surface that is spelled" 4 "form word 3: BadSymbol 0" comprehend letters.otp ranked.toml =na
+try "surface that never ends" 4 "form word 3: NotWellFormed 0" comprehend added.otp ranked.toml "["
+try "surface before lexicon" 4 "form word 3: NotWellFormed 0" comprehend added.otp missing.toml "["
+try "missing lexicon" 8 "read fault word 2" comprehend added.otp missing.toml "[ ]"
+try "grammar before lexicon" 8 "read fault word 1" comprehend missing.otp missing.toml "[ ]"
+try "long lexicon" 12 "too long word 2" comprehend added.otp long.rows "[ ]"
+try "lexicon that is no TOML" 5 "lexicon word 2: NotToml" comprehend added.otp broken.toml "[ ]" 1
+try "entry without form" 5 "lexicon word 2: BadEntry 0" comprehend added.otp formless.toml "[ ]"
+try "two entries of one name" 5 "lexicon word 2: TwiceNamed 1" comprehend added.otp twice.toml "[ ]"
+try "entry with a bad form" 5 "lexicon word 2: BadForm 0 NotWellFormed 0" comprehend added.otp open.toml "[ ]"
 try "word that is no text" 15 "" generate base.otp "$(printf '\377')"
 
 # the slips of docs/TROUBLE.md: slip NAME CAUSE TEXT, a file of that text that is refused so
@@ -232,7 +286,7 @@ status_is "no words, line" "usage" "$(head -n 1 err)"
 status_is "full disk" 9 $?
 status_is "full disk, line" "write fault" "$(cat err)"
 for words in "canon base.otp" "score base.otp empty" "show base.otp empty" \
-    "tableau base.otp empty /dev/null"; do
+    "tableau base.otp empty /dev/null" "once base.otp empty" "comprehend base.otp /dev/null empty"; do
     "$top/otp" $words > /dev/full 2> err
     status_is "full disk, $words" 9 $?
 done

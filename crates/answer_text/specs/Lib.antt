@@ -6,3 +6,4 @@ pub mod Text
 pub mod Shape
 pub mod Readable
 pub mod RightOnce
+pub mod OnceText

@@ -15,6 +15,9 @@ mod class;
 mod kind;
 mod number;
 mod once_answer;
+#[cfg(test)]
+mod once_tests;
+mod once_writer;
 mod parts;
 mod put;
 mod stage;
@@ -26,6 +29,7 @@ mod widths;
 pub use answer::Answer;
 pub use automaton::{ArcLine, Automaton, StateLine};
 pub use once_answer::{OnceAnswer, OnceNode};
+pub use once_writer::put_once;
 pub use parts::{put_counts, put_shown};
 pub use put::put_answer;
 pub use stage::{Node, Stage};

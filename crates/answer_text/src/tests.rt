@@ -111,7 +111,7 @@ fn two_states(alloc: Global) -> Result<Automaton, AllocError>
 }
 
 // The shape of two tiers, an input tier and then a free one.
-fn shape(alloc: Global, phases: &[u32]) -> Result<Shape, AllocError>
+pub(super) fn shape(alloc: Global, phases: &[u32]) -> Result<Shape, AllocError>
     requires some { 1 ≤ length phases.now }
     requires few { length phases.now ≤ 25 }
     requires rising { NeverFalls phases.now }

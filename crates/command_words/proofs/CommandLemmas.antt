@@ -1,11 +1,11 @@
 -- Words are those of one command at most.
-use Rattle.std.proofs.Common.{◌≡◌, ℕ, ◌<◌, ◌^◌, List, [], ◌∷◌, ◌++◌, codes, sym, ◌∙◌, subst, arith, false, true≢false, refl}
+use Rattle.std.proofs.Common.{◌≡◌, ℕ, ◌<◌, ◌^◌, List, [], ◌∷◌, ◌++◌, codes, drop, get_or, ap, sym, ◌∙◌, subst, arith, refl}
+use Rattle.std.specs.Prelude.{if◌then◌else◌}
 use Rattle.std.specs.Str.{bytes_eq}
-use Rattle.std.proofs.lemmas.Slice.Eq.{bytes_eq-Decides}
 use Rattle.std.proofs.lemmas.Fmt.{decimal_injective}
-use Rattle.command_words.specs.Commands.{Command, canon, score, generate, show, tableau, IsBudget, HasBudget, IsCommand}
+use Rattle.command_words.specs.Commands.{Command, canon, score, generate, show, tableau, once, comprehend, IsBudget, HasBudget, IsCommand}
 
--- one budget at most stands behind a form
+-- one budget at most is given
 one_budget : (words : List (List ℕ)) (a b : ℕ) → IsBudget words a → IsBudget words b → a ≡ b
 one_budget [] a b p q = p ∙ sym q
 one_budget (word ∷ []) a b p q =
@@ -14,86 +14,59 @@ one_budget (word ∷ []) a b p q =
     decimal_injective a b few less (sym p.0 ∙ q.0)
 one_budget (word ∷ other ∷ words) a b p q = absurd p
 
--- words with another first word than these are other words
-other_name : (a b : List ℕ) (v w : List (List ℕ)) → bytes_eq a b ≡ false → a ∷ v ≡ b ∷ w → ⊥
-other_name a b v w differ e =
-    let same : a ≡ b = cc e in
-    true≢false (sym ((bytes_eq-Decides a b).1 same) ∙ differ)
+-- the command that words are by the names and places of words, where they are one with this budget
+abbrev by_places : List (List ℕ) → ℕ → Command
+by_places words b =
+    let name = get_or words 0 [] in
+    let g = get_or words 1 [] in
+    let first = get_or words 2 [] in
+    let second = get_or words 3 [] in
+    if bytes_eq name (codes "canon") then canon g else
+    (if bytes_eq name (codes "score") then score g first else
+    (if bytes_eq name (codes "generate") then generate g first b else
+    (if bytes_eq name (codes "show") then show g first b else
+    (if bytes_eq name (codes "tableau") then tableau g first second b else
+    (if bytes_eq name (codes "once") then once g first b else comprehend g first second b)))))
 
--- words with a budget, of one name
-one_asked : (words : List (List ℕ)) (name g f : List ℕ) (a : ℕ) (h k : List ℕ) (b : ℕ)
-    → HasBudget words (name ∷ g ∷ f ∷ []) a → HasBudget words (name ∷ h ∷ k ∷ []) b → (g ≡ h) × (f ≡ k) × (a ≡ b)
-one_asked words name g f a h k b p q =
-    let same : name ∷ g ∷ f ∷ p.rest ≡ name ∷ h ∷ k ∷ q.rest = sym p.are ∙ q.are in
-    let rests : p.rest ≡ q.rest = cc same in
-    let here : IsBudget q.rest a = subst (λ (rest : List (List ℕ)). IsBudget rest a) rests p.budgeted in
-    (cc same, cc same, one_budget q.rest a b here q.budgeted)
+-- how many words stand before the budget of a command with this name
+abbrev words_before : List ℕ → ℕ
+words_before name =
+    if bytes_eq name (codes "canon") then 2 else
+    (if bytes_eq name (codes "tableau") then 4 else
+    (if bytes_eq name (codes "comprehend") then 4 else 3))
 
--- the same with two texts behind the grammar
-one_asked_beside : (words : List (List ℕ)) (name g f r : List ℕ) (a : ℕ) (h k s : List ℕ) (b : ℕ)
-    → HasBudget words (name ∷ g ∷ f ∷ r ∷ []) a → HasBudget words (name ∷ h ∷ k ∷ s ∷ []) b
-    → (g ≡ h) × (f ≡ k) × (r ≡ s) × (a ≡ b)
-one_asked_beside words name g f r a h k s b p q =
-    let same : name ∷ g ∷ f ∷ r ∷ p.rest ≡ name ∷ h ∷ k ∷ s ∷ q.rest = sym p.are ∙ q.are in
-    let rests : p.rest ≡ q.rest = cc same in
-    let here : IsBudget q.rest a = subst (λ (rest : List (List ℕ)). IsBudget rest a) rests p.budgeted in
-    (cc same, cc same, cc same, one_budget q.rest a b here q.budgeted)
+abbrev behind : List (List ℕ) → List (List ℕ)
+behind words = drop (words_before (get_or words 0 [])) words
 
--- the first word of a command, and the words behind it
-abbrev name_of : Command → List ℕ
-name_of (canon g) = codes "canon"
-name_of (score g t) = codes "score"
-name_of (generate g f b) = codes "generate"
-name_of (show g f b) = codes "show"
-name_of (tableau g f r b) = codes "tableau"
+-- the budget of a command, and the default one where it has none
+abbrev budget_in : Command → ℕ
+budget_in (canon g) = 20000
+budget_in (score g t) = 20000
+budget_in (generate g f b) = b
+budget_in (show g f b) = b
+budget_in (tableau g f r b) = b
+budget_in (once g f b) = b
+budget_in (comprehend g l s b) = b
 
-record Begins (words : List (List ℕ)) (name : List ℕ) : Type 0 where
-  behind : List (List ℕ)
-  are : words ≡ name ∷ behind
+said_so : (words : List (List ℕ)) (a : Command) → IsCommand words a → by_places words (budget_in a) ≡ a
+said_so words (canon g) p = ap (λ w. by_places w 20000) p
+said_so words (score g t) p = ap (λ w. by_places w 20000) p
+said_so words (generate g f b) p = ap (λ w. by_places w b) p.are
+said_so words (show g f b) p = ap (λ w. by_places w b) p.are
+said_so words (tableau g f r b) p = ap (λ w. by_places w b) p.are
+said_so words (once g f b) p = ap (λ w. by_places w b) p.are
+said_so words (comprehend g l s b) p = ap (λ w. by_places w b) p.are
 
-begins : (words : List (List ℕ)) (a : Command) → IsCommand words a → Begins words (name_of a)
-begins words (canon g) p = record { behind = g ∷ []; are = p }
-begins words (score g t) p = record { behind = g ∷ t ∷ []; are = p }
-begins words (generate g f b) p = record { behind = g ∷ f ∷ p.rest; are = p.are }
-begins words (show g f b) p = record { behind = g ∷ f ∷ p.rest; are = p.are }
-begins words (tableau g f r b) p = record { behind = g ∷ f ∷ r ∷ p.rest; are = p.are }
-
--- the words of commands with other names are other words
-apart : (words : List (List ℕ)) (a b : Command) → bytes_eq (name_of a) (name_of b) ≡ false
-    → IsCommand words a → IsCommand words b → ⊥
-apart words a b differ p q =
-    let x = begins words a p in
-    let y = begins words b q in
-    other_name (name_of a) (name_of b) x.behind y.behind differ (sym x.are ∙ y.are)
+budget_of : (words : List (List ℕ)) (a : Command) → IsCommand words a → IsBudget (behind words) (budget_in a)
+budget_of words (canon g) p = subst (λ w. IsBudget (behind w) 20000) (sym p) refl
+budget_of words (score g t) p = subst (λ w. IsBudget (behind w) 20000) (sym p) refl
+budget_of words (generate g f b) p = subst (λ w. IsBudget (behind w) b) (sym p.are) p.budgeted
+budget_of words (show g f b) p = subst (λ w. IsBudget (behind w) b) (sym p.are) p.budgeted
+budget_of words (tableau g f r b) p = subst (λ w. IsBudget (behind w) b) (sym p.are) p.budgeted
+budget_of words (once g f b) p = subst (λ w. IsBudget (behind w) b) (sym p.are) p.budgeted
+budget_of words (comprehend g l s b) p = subst (λ w. IsBudget (behind w) b) (sym p.are) p.budgeted
 
 pub one_command : (words : List (List ℕ)) (a b : Command) → IsCommand words a → IsCommand words b → a ≡ b
-one_command words (canon g) (canon h) p q = let same = sym p ∙ q in cc same
-one_command words (canon g) (score h s) p q = absurd (apart words (canon g) (score h s) refl p q)
-one_command words (canon g) (generate h k b) p q = absurd (apart words (canon g) (generate h k b) refl p q)
-one_command words (canon g) (show h k b) p q = absurd (apart words (canon g) (show h k b) refl p q)
-one_command words (canon g) (tableau h k s b) p q = absurd (apart words (canon g) (tableau h k s b) refl p q)
-one_command words (score g t) (canon h) p q = absurd (apart words (score g t) (canon h) refl p q)
-one_command words (score g t) (score h s) p q = let same = sym p ∙ q in cc same
-one_command words (score g t) (generate h k b) p q = absurd (apart words (score g t) (generate h k b) refl p q)
-one_command words (score g t) (show h k b) p q = absurd (apart words (score g t) (show h k b) refl p q)
-one_command words (score g t) (tableau h k s b) p q = absurd (apart words (score g t) (tableau h k s b) refl p q)
-one_command words (generate g f a) (canon h) p q = absurd (apart words (generate g f a) (canon h) refl p q)
-one_command words (generate g f a) (score h s) p q = absurd (apart words (generate g f a) (score h s) refl p q)
-one_command words (generate g f a) (generate h k b) p q =
-    let same = one_asked words (codes "generate") g f a h k b p q in cc (same.0, same.1, same.2)
-one_command words (generate g f a) (show h k b) p q = absurd (apart words (generate g f a) (show h k b) refl p q)
-one_command words (generate g f a) (tableau h k s b) p q = absurd
-    (apart words (generate g f a) (tableau h k s b) refl p q)
-one_command words (show g f a) (canon h) p q = absurd (apart words (show g f a) (canon h) refl p q)
-one_command words (show g f a) (score h s) p q = absurd (apart words (show g f a) (score h s) refl p q)
-one_command words (show g f a) (generate h k b) p q = absurd (apart words (show g f a) (generate h k b) refl p q)
-one_command words (show g f a) (show h k b) p q =
-    let same = one_asked words (codes "show") g f a h k b p q in cc (same.0, same.1, same.2)
-one_command words (show g f a) (tableau h k s b) p q = absurd (apart words (show g f a) (tableau h k s b) refl p q)
-one_command words (tableau g f r a) (canon h) p q = absurd (apart words (tableau g f r a) (canon h) refl p q)
-one_command words (tableau g f r a) (score h s) p q = absurd (apart words (tableau g f r a) (score h s) refl p q)
-one_command words (tableau g f r a) (generate h k b) p q = absurd
-    (apart words (tableau g f r a) (generate h k b) refl p q)
-one_command words (tableau g f r a) (show h k b) p q = absurd (apart words (tableau g f r a) (show h k b) refl p q)
-one_command words (tableau g f r a) (tableau h k s b) p q =
-    let same = one_asked_beside words (codes "tableau") g f r a h k s b p q in cc (same.0, same.1, same.2, same.3)
+one_command words a b p q =
+    let same = one_budget (behind words) (budget_in a) (budget_in b) (budget_of words a p) (budget_of words b q) in
+    sym (said_so words a p) ∙ ap (by_places words) same ∙ said_so words b q

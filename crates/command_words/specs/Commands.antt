@@ -1,5 +1,4 @@
--- What the words of a command ask for: the names of a grammar's file and of a rows file, and forms and
--- timelines, which are texts.
+-- What the words of a command ask for: names of files, and forms, timelines and surfaces, which are texts.
 use Rattle.std.specs.Prelude.{◌≡◌, ℕ, ◌≤◌, List, [], ◌∷◌, ◌++◌, codes}
 use Rattle.std.specs.Fmt.{decimal}
 
@@ -9,6 +8,8 @@ pub data Command : Type 0 where
   generate : List ℕ → List ℕ → ℕ → Command
   show : List ℕ → List ℕ → ℕ → Command
   tableau : List ℕ → List ℕ → List ℕ → ℕ → Command
+  once : List ℕ → List ℕ → ℕ → Command
+  comprehend : List ℕ → List ℕ → List ℕ → ℕ → Command
 
 -- the words at the end: none, for the default budget, or the budget in decimal
 abbrev pub IsBudget : List (List ℕ) → ℕ → Type 0
@@ -29,6 +30,8 @@ IsCommand words (score g t) = words ≡ codes "score" ∷ g ∷ t ∷ []
 IsCommand words (generate g f b) = HasBudget words (codes "generate" ∷ g ∷ f ∷ []) b
 IsCommand words (show g f b) = HasBudget words (codes "show" ∷ g ∷ f ∷ []) b
 IsCommand words (tableau g f r b) = HasBudget words (codes "tableau" ∷ g ∷ f ∷ r ∷ []) b
+IsCommand words (once g f b) = HasBudget words (codes "once" ∷ g ∷ f ∷ []) b
+IsCommand words (comprehend g l s b) = HasBudget words (codes "comprehend" ∷ g ∷ l ∷ s ∷ []) b
 
 -- the words are those of no command
 abbrev pub IsNoCommand : List (List ℕ) → Type 0
@@ -41,3 +44,5 @@ grammar_of (score g t) = g
 grammar_of (generate g f b) = g
 grammar_of (show g f b) = g
 grammar_of (tableau g f r b) = g
+grammar_of (once g f b) = g
+grammar_of (comprehend g l s b) = g

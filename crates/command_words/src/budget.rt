@@ -5,7 +5,7 @@ ghost use Rattle.command_words.specs.Words.{words_of};
 
 use itoa::Buffer;
 
-/// The budget where the words do not say one.
+/// The budget if the words do not give one.
 const DEFAULT: u32 = 20_000;
 
 /// Whether a number may be a budget.
@@ -15,21 +15,21 @@ fn is_allowed(number: u32) -> bool
     (1..=65_536).contains(&number)
 }
 
-/// Whether a word is a number in decimal, without sign and leading zero.
+/// Whether a word is this number in decimal, with no sign and no leading zero.
 fn is_decimal(word: &str, number: u32) -> bool
     ensures { IsTrue result ↔ (word.now ≡ decimal number) }
 {
     word == Buffer::new().format(number)
 }
 
-/// Whether a word says this budget.
+/// Whether a word gives this budget.
 fn says(word: &str, budget: u32) -> bool
     ensures { IsTrue result ↔ IsBudget (word.now ∷ []) budget }
 {
     is_allowed(budget) && is_decimal(word, budget)
 }
 
-/// The budget that a word says.
+/// The budget that a word gives.
 fn read_budget(word: &str) -> Option<u32>
     ensures { MatchOption result ((budget : ℕ) → ¬ IsBudget (word.now ∷ []) budget)
         (IsBudget (word.now ∷ [])) }
@@ -46,8 +46,8 @@ fn read_budget(word: &str) -> Option<u32>
     }
 }
 
-/// The budget that the words behind a form say. None where they are more than one, or one that is
-/// no budget.
+/// The budget that the last words of a command give, or `None` if there is more than one word, or
+/// one that is not a budget.
 pub(crate) fn budget_of(words: &[String]) -> Option<u32>
     ensures { MatchOption result ((budget : ℕ) → ¬ IsBudget (words_of words.now) budget)
         (IsBudget (words_of words.now)) }

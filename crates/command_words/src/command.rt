@@ -1,15 +1,15 @@
 /// What the words of a command ask for.
 ///
-/// `grammar` is the name of a grammar's file, and `rows` that of a rows file. `form` and `timeline` are
-/// texts as they stand in the words, and nothing is said of what they are read as. `budget` is how many kinds of prefix a stage
-/// may have, from 1 to 65,536, and 20,000 where the words do not say.
+/// `grammar`, `rows` and `lexicon` are names of files. `form`, `timeline` and `surface` are texts, as
+/// they stand in the words; whether they can be read is not yet known. `budget` is the number of
+/// kinds of prefix that are allowed, from 1 to 65,536, and 20,000 if the words do not give one.
 #[derive(Clone, Copy, Debug, PartialEq, Eq)]
 pub enum Command<'a> {
     /// `canon G`: the canonical text of a grammar.
     Canon {
         grammar: &'a str,
     },
-    /// `score G T`: what the constraints count in a timeline.
+    /// `score G TIMELINE`: what the constraints count in a timeline.
     Score {
         grammar: &'a str,
         timeline: &'a str,
@@ -31,6 +31,20 @@ pub enum Command<'a> {
         grammar: &'a str,
         form: &'a str,
         rows: &'a str,
+        budget: u32,
+    },
+    /// `once G FORM` or `once G FORM BUDGET`: the answer that a single pass finds for a form.
+    Once {
+        grammar: &'a str,
+        form: &'a str,
+        budget: u32,
+    },
+    /// `comprehend G LEXICON SURFACE` or `comprehend G LEXICON SURFACE BUDGET`: the entries of a
+    /// lexicon that have an optimal timeline with a surface.
+    Comprehend {
+        grammar: &'a str,
+        lexicon: &'a str,
+        surface: &'a str,
         budget: u32,
     },
 }

@@ -5,8 +5,8 @@
 //! ```
 //!
 //! The layer above reads its words by [`command_of`] and does what the [`Command`] asks for. The
-//! definitions of `specs/` say which words are those of which command, in both directions, and the
-//! lemma `one_command` that no words are those of two.
+//! definitions in `specs/` say which words are those of which command, and the lemma `one_command`
+//! says that no words are those of two.
 #![tactic(auto)]
 
 mod budget;

@@ -81,21 +81,53 @@ fn tableau_of<'a>(grammar: &'a str, further: &'a [String]) -> Option<Command<'a>
     }
 }
 
-/// The command that these words are. None where they are those of no command.
+/// What `once`, the name of a grammar and further words ask for.
+fn once_of<'a>(grammar: &'a str, further: &'a [String]) -> Option<Command<'a>>
+    ensures { MatchOption result (IsNoCommand (codes "once" ∷ grammar.now ∷ words_of further.now))
+        (λ c. IsCommand (codes "once" ∷ grammar.now ∷ words_of further.now) (command_seen c)) }
+{
+    match further {
+        [form, rest @ ..] => Some(Command::Once {
+            grammar,
+            form: form.as_str(),
+            budget: budget_of(rest)?,
+        }),
+        [] => None,
+    }
+}
+
+/// What `comprehend`, the name of a grammar and further words ask for.
+fn comprehend_of<'a>(grammar: &'a str, further: &'a [String]) -> Option<Command<'a>>
+    ensures { MatchOption result
+        (IsNoCommand (codes "comprehend" ∷ grammar.now ∷ words_of further.now))
+        (λ c.
+        IsCommand (codes "comprehend" ∷ grammar.now ∷ words_of further.now) (command_seen c)) }
+{
+    match further {
+        [lexicon, surface, rest @ ..] => Some(Command::Comprehend {
+            grammar,
+            lexicon: lexicon.as_str(),
+            surface: surface.as_str(),
+            budget: budget_of(rest)?,
+        }),
+        _ => None,
+    }
+}
+
+/// The command that these words are, or `None` if they are not those of a command.
 ///
 /// ```text
 /// canon G
-/// score G T
-/// generate G FORM
-/// generate G FORM BUDGET
-/// show G FORM
-/// show G FORM BUDGET
-/// tableau G FORM ROWS
-/// tableau G FORM ROWS BUDGET
+/// score G TIMELINE
+/// generate G FORM [BUDGET]
+/// show G FORM [BUDGET]
+/// tableau G FORM ROWS [BUDGET]
+/// once G FORM [BUDGET]
+/// comprehend G LEXICON SURFACE [BUDGET]
 /// ```
 ///
-/// The first word stands exactly so, in lowercase. BUDGET is a number from 1 to 65,536 in decimal,
-/// without sign and leading zero. The other words are any texts, also empty ones.
+/// The first word is in lowercase, exactly as above. BUDGET is a decimal number from 1 to 65,536,
+/// with no sign and no leading zero. The other words are any texts, which may be empty.
 pub fn command_of(words: &[String]) -> Option<Command<'_>>
     ensures { MatchOption result (IsNoCommand (words_of words.entry.now))
         (λ c. IsCommand (words_of words.entry.now) (command_seen c)) }
@@ -109,6 +141,8 @@ pub fn command_of(words: &[String]) -> Option<Command<'_>>
         "generate" => generate_of(grammar.as_str(), further),
         "show" => show_of(grammar.as_str(), further),
         "tableau" => tableau_of(grammar.as_str(), further),
+        "once" => once_of(grammar.as_str(), further),
+        "comprehend" => comprehend_of(grammar.as_str(), further),
         _ => None,
     }
 }

@@ -44,6 +44,28 @@ fn tableau<'a>(grammar: &'a str, form: &'a str, rows: &'a str, budget: u32) -> O
     })
 }
 
+fn once<'a>(grammar: &'a str, form: &'a str, budget: u32) -> Option<Command<'a>> {
+    Some(Command::Once {
+        grammar,
+        form,
+        budget,
+    })
+}
+
+fn comprehend<'a>(
+    grammar: &'a str,
+    lexicon: &'a str,
+    surface: &'a str,
+    budget: u32,
+) -> Option<Command<'a>> {
+    Some(Command::Comprehend {
+        grammar,
+        lexicon,
+        surface,
+        budget,
+    })
+}
+
 #[test]
 fn words_of_a_command_are_read(rt: HostRuntime) -> Result<(), Fail> {
     let alloc = rt.alloc();
@@ -56,7 +78,6 @@ fn words_of_a_command_are_read(rt: HostRuntime) -> Result<(), Fail> {
         ("score/score/score", score("score", "score")),
         ("generate/g/[ ]", generate("g", "[ ]", 20_000)),
         ("generate/g/empty/1", generate("g", "empty", 1)),
-        ("generate/g/empty/9", generate("g", "empty", 9)),
         ("generate/g/empty/10", generate("g", "empty", 10)),
         ("generate/g/empty/20000", generate("g", "empty", 20_000)),
         ("generate/g/empty/65535", generate("g", "empty", 65_535)),
@@ -74,6 +95,11 @@ fn words_of_a_command_are_read(rt: HostRuntime) -> Result<(), Fail> {
         ("tableau/g/[ ]/r", tableau("g", "[ ]", "r", 20_000)),
         ("tableau/g/=ta/g/8", tableau("g", "=ta", "g", 8)),
         ("tableau/g/f/8", tableau("g", "f", "8", 20_000)),
+        ("once/g/[ ]", once("g", "[ ]", 20_000)),
+        ("once/g/=ta/8", once("g", "=ta", 8)),
+        ("comprehend/g/l/[ ]", comprehend("g", "l", "[ ]", 20_000)),
+        ("comprehend/g/8/9", comprehend("g", "8", "9", 20_000)),
+        ("comprehend/g/l/s/1", comprehend("g", "l", "s", 1)),
     ];
     for (text, command) in cases {
         let words = words(alloc, text)?;
@@ -110,6 +136,10 @@ fn other_words_are_no_command(rt: HostRuntime) -> Result<(), Fail> {
         "tableau/g/empty",
         "tableau/g/empty/r/1/1",
         "tableau/g/empty/r/0",
+        "once/g",
+        "once/g/empty/1/1",
+        "comprehend/g/l",
+        "comprehend/g/l/empty/1/1",
         "generate/g/1/empty",
     ];
     for text in cases {

@@ -1,16 +1,16 @@
 -- What each entry gives to the hits.
 use Rattle.std.proofs.Common.{◌≡◌, ℕ, zero, suc, ◌+◌, ◌<◌, ◌≤◌, List, [], ◌∷◌, ◌++◌, Option, None, Some, length, get_or, map, take, refl, sym, ap, ◌∙◌, subst, arith, ◌⊎◌, inl, inr}
-use Rattle.std.specs.Prelude.{Contains, MatchOption, slice_get}
+use Rattle.std.specs.Prelude.{All, Contains, MatchOption, slice_get}
 use Rattle.std.specs.List.Sorted.{IsStrictlySortedBy}
 use Rattle.std.specs.Ordering.{nat_cmp}
 use Rattle.std.specs.Cmp.{nat_cmp_is}
 use Rattle.std.specs.declared.cmp.Ordering.TheVariants.{Less}
 use Rattle.std.proofs.lemmas.Bool.{cases_lt}
 use Rattle.std.proofs.lemmas.List.{get_or-map, length-map, map-append}
-use Rattle.std.proofs.lemmas.List.Elements.{Contains-append_left, Contains-append_right, Contains-push, Contains-push_cases}
+use Rattle.std.proofs.lemmas.List.Elements.{All-contains_itself, All-weaker, Contains-append_left, Contains-append_right, Contains-push, Contains-push_cases}
 use Rattle.tier_core.specs.declared.sym.Sym.{Sym}
 use Rattle.tier_core.specs.Orders.{IsFirst}
-use Rattle.std.proofs.lemmas.Option.{slice_get-get_or}
+use Rattle.std.proofs.lemmas.Option.{slice_get-get_or, slice_get_within}
 use Rattle.violation.specs.Problems.{Problem}
 use Rattle.lexicon.specs.declared.entry.Entry.{Entry}
 use Rattle.kind_orders.proofs.Members.{contains_of_map}
@@ -166,3 +166,17 @@ hears_next ask forms surface i form at hits new (Some example) first pushed h =
     (let P : List Hit → Type 0 = λ xs. Hears ask (take (i + 1) forms) surface xs in
     let hit : Hit = record { index = i; example = example } in
     subst P (sym pushed) (hears_more ask forms surface i form at hits hit refl first h))
+
+-- each hit is of an entry
+pub hits_inside : (ask : List (List Sym) → Problem) (entries : List Entry) (surface : List (List Sym))
+    (hits : List Hit) → Hears ask (forms_of entries) surface hits
+    → All (λ (hit : Hit). hit.index < length entries) hits
+hits_inside ask entries surface hits heard =
+    All-weaker (Contains hits) (λ (hit : Hit). hit.index < length entries)
+    (λ hit there.
+    let own = heard.each hit there in
+    omega (
+      arith,
+      slice_get_within (forms_of entries) hit.index own.form own.numbered,
+      length-map entries (λ (e : Entry). e.form),
+    )) hits (All-contains_itself hits)

@@ -20,3 +20,5 @@ pub mod Heard
 pub mod Hits
 pub mod FewStates
 pub mod Turned
+pub mod HitLines
+pub mod OvertTiers

@@ -10,7 +10,7 @@ use Rattle.comprehend.specs.declared.choice.Choice.{Choice}
 use Rattle.comprehend.specs.Searches.{IsLeft}
 use Rattle.comprehend.specs.Steps.{Turns}
 
--- The best choice so far is replaced by another only where a new step reads a lesser column.
+-- The best choice so far is replaced by another only if a new step reads a lesser column.
 pub record IsBetter (steps : List Sym → ℕ → Type 0) (best after : Option Choice) : Type 0 where
   pub from : (best ≡ after) ⊎ ((b : Choice) × ((after ≡ Some b) × steps b.column b.cell))
   pub covers : (column : List Sym) (w : ℕ) → steps column w
@@ -18,14 +18,14 @@ pub record IsBetter (steps : List Sym → ℕ → Type 0) (best after : Option C
   pub keeps : (b : Choice) → best ≡ Some b
       → (d : Choice) × ((after ≡ Some d) × (is_gt (column_cmp d.column b.column) ≡ false))
 
--- a column of both classes leads to this cell, where n columns are left
+-- a column of both classes leads to this cell, and n columns are left there
 pub record LeadsTo (a b : Class) (cell : ℕ) (left : List ℕ) (n : ℕ) (column : List Sym) (w : ℕ) : Type 0 where
   pub first : IsTrue (has a column)
   pub second : IsTrue (has b column)
   pub at : w ≡ cell
   pub left_at : IsLeft left w n
 
--- a column of the class leads to a cell of the target, where n columns are left
+-- a column of the class leads to a cell of the target, and n columns are left there
 pub record LeadsAlong (tests : List Class) (place : ℕ) (left : List ℕ) (n : ℕ) (class : Class) (target : ℕ)
     (column : List Sym) (w : ℕ) : Type 0 where
   pub next : ℕ
@@ -35,7 +35,7 @@ pub record LeadsAlong (tests : List Class) (place : ℕ) (left : List ℕ) (n : 
   pub turns : Turns tests place column next
   pub left_at : IsLeft left w n
 
--- one of the arcs leads so, to a state with its target's number
+-- one of the arcs leads there in this way, and the state has its target's number
 pub record LeadsByOne (numbers : List ℕ) (tests : List Class) (place : ℕ) (left : List ℕ) (n : ℕ)
     (arcs : List ArcLine) (column : List Sym) (w : ℕ) : Type 0 where
   pub arc : ArcLine

@@ -1,4 +1,4 @@
--- Arcs turned round: for each state those that enter it.
+-- Arcs reversed: for each state those that enter it.
 use Rattle.std.specs.Prelude.{◌≡◌, ◌<◌, ◌+◌, ◌*◌, ◌⊎◌, ℕ, IsTrue, List, [], Contains, Some, length, map, slice_get, slice_index_or}
 use Rattle.std.specs.Global.{Vec}
 use Rattle.tier_core.specs.declared.sym.Sym.{Sym}
@@ -14,12 +14,12 @@ use Rattle.comprehend.specs.Steps.{arcs_at, test_has}
 abbrev pub entering_at : List (Vec Entering) → ℕ → List Entering
 entering_at into t = slice_index_or (map (λ arcs. arcs.items) into) t []
 
--- each is an arc to state t, of those that pass, turned round
+-- each is an arc to state t, of those that pass, reversed
 abbrev pub IsTurned : (ℕ → ArcLine → Type 0) → List ℕ → ℕ → Entering → Type 0
 IsTurned passes numbers t entry =
     (arc : ArcLine) × (passes entry.source arc × (arc.class ≡ entry.class) × (slice_get numbers t ≡ Some arc.target))
 
--- the arcs that pass, from the state of a number in the list, are turned round
+-- the arcs that pass, from the state at a position in the list, are reversed
 pub record AreTurned (passes : ℕ → ArcLine → Type 0) (numbers : List ℕ) (into : List (Vec Entering)) : Type 0 where
   pub each_state : length into ≡ length numbers
   pub sound : (t : ℕ) (entry : Entering) → Contains (entering_at into t) entry → IsTurned passes numbers t entry
@@ -45,11 +45,11 @@ abbrev pub ComesByOne : List Class → List Entering → ℕ → ℕ → Type 0
 ComesByOne tests entries place v =
     (entry : Entering) × (Contains entries entry × ComesBy tests entry.source entry.class place v)
 
--- the arcs of the states before a number in the list
+-- the arcs of the states before a position in the list
 abbrev pub IsArcBelow : List StateLine → ℕ → ℕ → ArcLine → Type 0
 IsArcBelow states n s arc = (s < n) × Contains (arcs_at states s) arc
 
--- no arc enters a state of so many
+-- there are so many states, and no arc enters one of them
 pub record AreNotEntered (count : ℕ) (into : List (Vec Entering)) : Type 0 where
   pub each_state : length into ≡ count
   pub none : (t : ℕ) → entering_at into t ≡ []

@@ -14,7 +14,7 @@ use Rattle.comprehend.specs.Surfaces.{HasSurface}
 abbrev pub forms_of : List Entry → List (List (List Sym))
 forms_of entries = map (λ entry. entry.form) entries
 
--- the numbers of the entries that are hit
+-- the numbers of the entries of hits
 abbrev pub indexes_of : List Hit → List ℕ
 indexes_of hits = map (λ hit. hit.index) hits
 
@@ -26,7 +26,7 @@ pub record IsHit (ask : List (List Sym) → Problem) (forms : List (List (List S
   pub first : IsFirst (HasSurface (ask form) surface) hit.example
 
 -- The hits are exactly the entries that have an optimal candidate with the surface, in the order of
--- the lexicon and each once. What is asked with a form is told by `ask`.
+-- the lexicon and each once. With a form, `ask` says what problem is asked.
 pub record Hears (ask : List (List Sym) → Problem) (forms : List (List (List Sym))) (surface : List (List Sym))
     (hits : List Hit) : Type 0 where
   pub in_order : IsStrictlySortedBy nat_cmp (indexes_of hits)
@@ -49,7 +49,7 @@ pub record IsFirstEntryOver (ask : List (List Sym) → Problem) (forms : List (L
   pub before : (earlier : ℕ) (other : List (List Sym)) → earlier < index → slice_get forms earlier ≡ Some other
       → AreAllWithin (ask other) budget
 
--- a hit of this number stands last, where something is heard
+-- a hit of this number has been appended, if something is heard
 abbrev pub IsPushed : List Hit → List Hit → ℕ → Option (List (List Sym)) → Type 0
 IsPushed old new index None = new ≡ old
 IsPushed old new index (Some example) = new ≡ old ++ record { index = index; example = example } ∷ []

@@ -5,3 +5,4 @@ pub mod Steps
 pub mod Entering
 pub mod Choices
 pub mod Hears
+pub mod HitText

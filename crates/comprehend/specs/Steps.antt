@@ -9,11 +9,11 @@ use Rattle.answer_text.specs.declared.automaton.StateLine.{StateLine}
 use Rattle.answer_text.specs.Right.{numbers_of}
 use Rattle.comprehend.specs.Searches.{far, ReadsFrom}
 
--- the arcs of the state that stands at this number in the list
+-- the arcs of the state at this position in the list
 abbrev pub arcs_at : List StateLine → ℕ → List ArcLine
 arcs_at states s = slice_index_or (map (λ state. state.arcs.items) states) s []
 
--- whether the state that stands at this number in the list is final
+-- whether the state at this position in the list is final
 abbrev pub final_at : List StateLine → ℕ → Bool
 final_at states s = slice_index_or (map (λ state. state.accepting) states) s false
 
@@ -21,7 +21,7 @@ final_at states s = slice_index_or (map (λ state. state.accepting) states) s fa
 abbrev pub test_has : List Class → ℕ → List Sym → Bool
 test_has tests k column = slice_index_or (map (λ test. has test column) tests) k false
 
--- from a place a column leads to the next: test 0 holds it where the place stays, and else the test of
+-- from a place a column leads to the next: test 0 holds it if the place stays, and otherwise the test of
 -- the next place
 abbrev pub Turns : List Class → ℕ → List Sym → ℕ → Type 0
 Turns tests place column next =

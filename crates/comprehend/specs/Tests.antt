@@ -18,16 +18,16 @@ still_sets kinds = map still_set kinds
 abbrev pub heard_set : TierKind → List ℕ → ℕ → ℕ
 heard_set kind sets n = if is_overt kind then slice_index_or sets n 0 else 31
 
--- one overt tier more, where it is one
+-- one overt tier more, if it is one
 abbrev pub overt_after : TierKind → ℕ → ℕ
 overt_after kind n = if is_overt kind then n + 1 else n
 
--- the sets of all tiers, where n overt tiers stand before them
+-- the sets of all tiers, if n overt tiers come before them
 abbrev pub heard_sets : List TierKind → List ℕ → ℕ → List ℕ
 heard_sets [] sets n = []
 heard_sets (kind ∷ kinds) sets n = heard_set kind sets n ∷ heard_sets kinds sets (overt_after kind n)
 
--- test 0 is of the columns without an edge on an overt tier, and behind it stands for each column of
+-- test 0 is of the columns without an edge on an overt tier, and after it comes for each column of
 -- the surface the test of the columns that have it on the overt tiers
 pub record AreTestsOf (kinds : List TierKind) (surface : List (List Sym)) (tests : List Class) : Type 0 where
   pub sets : map sets_of tests ≡ still_sets kinds ∷ map (λ column. heard_sets kinds (map single_set column) 0) surface

@@ -33,7 +33,7 @@ fn lesser(best: Option<Choice>, choice: Choice) -> Choice
     }
 }
 
-/// The better of the best choice so far and the least column of both classes, where that leads to a
+/// The better of the best choice so far and the least column of both classes, if that leads to a
 /// cell with `n` columns left.
 pub(crate) fn better(
     alloc: Global,

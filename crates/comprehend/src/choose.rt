@@ -13,8 +13,8 @@ use indexmap::IndexSet;
 use std::alloc::Global;
 use tier_core::Class;
 
-/// The better of the best choice so far and the least column of an arc's class that leads from a place
-/// to a cell of the target with `n` columns left.
+/// The better of the best choice so far and the least column of an arc's class that leads from a
+/// place to a cell of the target with `n` columns left.
 fn along(
     alloc: Global,
     best: Option<Choice>,
@@ -74,7 +74,7 @@ fn best_of(
     best
 }
 
-/// Of the steps from a cell to where `n` columns are left, one with the least column.
+/// Of the steps from a cell to one with `n` columns left, a step with the least column.
 pub(crate) fn choose(
     alloc: Global,
     numbers: &IndexSet<u32>,

@@ -15,7 +15,7 @@ use indexmap::IndexSet;
 use std::alloc::Global;
 use tier_core::{Class, NoMemory, Timeline};
 
-/// The first of the timelines that lead from a cell to an end, where so many columns are left.
+/// The first of the timelines that lead from a cell to an end, if so many columns are left there.
 fn follow(
     alloc: Global,
     numbers: &IndexSet<u32>,
@@ -51,8 +51,8 @@ fn follow(
     Ok(timeline)
 }
 
-/// The first of the timelines that lead along the tests, from node number 0 and the first place to a
-/// final state and the last place; `None` exactly where none does.
+/// The first of the timelines that lead along the tests, from node number 0 and the first place to
+/// a final state and the last place; `None` exactly if none does.
 pub(crate) fn first_along(
     alloc: Global,
     states: &[StateLine],
@@ -63,7 +63,8 @@ pub(crate) fn first_along(
     requires apart { AreApart states.now }
     requires tests_apart { AreTestsApart tests.now }
     ensures { IfOk result (λ first.
-        MatchOption first ((T : List (List Sym)) → ReadsAlong states.now tests.now T → ⊥) (IsFirst (ReadsAlong states.now tests.now))) }
+        MatchOption first ((T : List (List Sym)) → ReadsAlong states.now tests.now T → ⊥)
+        (IsFirst (ReadsAlong states.now tests.now))) }
 {
     let Ok(numbers) = numbered(alloc, states) else {
         return Err(NoMemory);

@@ -1,4 +1,4 @@
-ghost use Rattle.std.specs.Prelude.{◌≡◌, ◌≤◌, ℕ, All, Err, IfErr, IfOk, List, MatchOption, length};
+ghost use Rattle.std.specs.Prelude.{◌≡◌, ◌<◌, ◌≤◌, ℕ, All, Err, IfErr, IfOk, List, MatchOption, length};
 ghost use Rattle.tier_core.specs.declared.sym.Sym.{Sym};
 ghost use Rattle.tier_core.specs.Orders.{IsFirst};
 ghost use Rattle.tier_core.specs.Tables.{tiers_of_table};
@@ -17,8 +17,8 @@ use ranked_gen::{GenErr, generate};
 use std::alloc::Global;
 use tier_core::Timeline;
 
-/// The first of the optimal candidates of an entry's form that have a surface. `Budget` comes with the
-/// entry's number.
+/// The first of the optimal candidates of an entry's form that have a surface. `Budget` is returned
+/// with the entry's number.
 fn hear(
     alloc: Global,
     grammar: &Grammar,
@@ -35,8 +35,12 @@ fn hear(
     requires few { budget ≤ 65536 }
     ensures first { IfOk result (λ first.
         MatchOption first
-        ((T : List (List Sym)) → HasSurface (asked grammar.now.tiers grammar.now.constraints.items form.now) surface.now T → ⊥)
-        (IsFirst (HasSurface (asked grammar.now.tiers grammar.now.constraints.items form.now) surface.now))) }
+        ((T : List (List Sym))
+        → HasSurface (asked grammar.now.tiers grammar.now.constraints.items form.now)
+        surface.now T → ⊥)
+        (IsFirst
+        (HasSurface (asked grammar.now.tiers grammar.now.constraints.items form.now)
+        surface.now))) }
     ensures within { IfOk result
         (λ first.
         AreAllWithin (asked grammar.now.tiers grammar.now.constraints.items form.now) budget) }
@@ -55,7 +59,7 @@ fn hear(
     }
 }
 
-/// Puts what is heard of an entry last among the hits.
+/// Appends what is heard of an entry to the hits.
 fn push_heard(hits: &mut Vec<Hit>, index: u32, heard: Option<Timeline>) -> Result<(), CompErr>
     ensures pushed { IfOk result (λ _. IsPushed hits.old.items hits.new.items index heard) }
     ensures err { IfErr result (λ e. e ≡ CompErr.NoMemory) }
@@ -69,15 +73,16 @@ fn push_heard(hits: &mut Vec<Hit>, index: u32, heard: Option<Timeline>) -> Resul
     }
 }
 
-/// The entries of a lexicon that have an optimal candidate with a surface, in the order of the lexicon,
-/// each with the first such candidate.
+/// The entries of a lexicon that have an optimal candidate with a surface, in the order of the
+/// lexicon, each with the first such candidate.
 ///
-/// `Budget` comes exactly where an entry has a stage with more kinds of prefix than the budget: the
-/// first such entry, and its first such stage. `NoMemory` comes only for want of memory.
+/// `Budget` occurs exactly when an entry has a stage with more kinds of prefix than the budget,
+/// unless memory ran out: it names the first such entry, and its first such stage. `NoMemory` may
+/// occur in place of any answer.
 ///
-/// Each form is well formed and reduced over the input tiers, and the surface over the overt tiers, and
-/// each has at most 64 columns. There are at most 1,000 entries, and the budget is from 1 to 65,536.
-/// What is kept for the surface is not counted against it.
+/// Each form is well formed and reduced over the input tiers, and the surface over the overt tiers,
+/// and each has at most 64 columns. There are at most 1,000 entries, and the budget is from 1 to
+/// 65,536. What is held for the surface does not count against the budget.
 pub fn comprehend(
     alloc: Global,
     grammar: &Grammar,
@@ -97,6 +102,8 @@ pub fn comprehend(
         (λ hits.
         Hears (asked grammar.now.tiers grammar.now.constraints.items)
         (forms_of lexicon.now) surface.now hits.items) }
+    ensures entries { IfOk result
+        (λ hits. All (λ hit. hit.index < length lexicon.now) hits.items) }
     ensures within { IfOk result
         (λ hits.
         AreEntriesWithin (asked grammar.now.tiers grammar.now.constraints.items)

@@ -32,7 +32,8 @@ fn reach_by(
     ensures { IfOk result
         (λ _.
         Reaches
-        (ComesBy tests.now entry.now.source entry.now.class place) n left.old.items left.new.items next.old.items next.new.items) }
+        (ComesBy tests.now entry.now.source entry.now.class place) n
+        left.old.items left.new.items next.old.items next.new.items) }
 {
     let places = tests.len() as u32;
     let stays = meets(&entry.class, &tests[0]);
@@ -81,7 +82,7 @@ fn reach(
     Ok(())
 }
 
-/// The next level: the cells with a step to one of the last level, of which nothing is known.
+/// The next level: the cells with a step to one of the last level, if nothing is known of them yet.
 pub(crate) fn next_level(
     alloc: Global,
     states: &[StateLine],

@@ -19,7 +19,7 @@ pub(crate) fn numbered(alloc: Global, states: &[StateLine]) -> Result<IndexSet<u
     Ok(numbers)
 }
 
-/// Where a node number stands, counted from 0, if it is there.
+/// The position of a node number, counted from 0, if it is there.
 pub(crate) fn place_of(numbers: &IndexSet<u32>, node: u32) -> Option<u32>
     requires few { length numbers.now.keys < 2 ^ 32 }
     requires once { AllPairs (λ m n. m ≢ n) numbers.now.keys }

@@ -14,15 +14,15 @@ use indexmap::IndexSet;
 use std::alloc::{AllocError, Global};
 use tier_core::Class;
 
-/// How far the search backward has come: for each cell how few columns are left, where that is known,
-/// and the cells of the last level.
+/// How far the backward search has come: for each cell the least number of columns left, as far as
+/// it is known, and the cells of the last level.
 #[derive(Drop)]
 struct Search {
     left: Vec<u32>,
     level: Vec<u32>,
 }
 
-/// The cells of final states and the last place, at which no column is left.
+/// The search at its start: no column is left at the cells of final states and the last place.
 fn at_the_ends(alloc: Global, states: &[StateLine], tests: &[Class]) -> Result<Search, AllocError>
     requires searchable { (width : ℕ) × AreSearchable width states.now tests.now }
     ensures { IfOk result
@@ -40,7 +40,7 @@ fn at_the_ends(alloc: Global, states: &[StateLine], tests: &[Class]) -> Result<S
     Ok(Search { left, level })
 }
 
-/// For each cell how few columns lead to an end, by a search backward in breadth.
+/// For each cell the least number of columns to an end, by a backward breadth-first search.
 fn searched(
     alloc: Global,
     states: &[StateLine],
@@ -65,8 +65,8 @@ fn searched(
     Ok(left)
 }
 
-/// For each cell how few columns lead to an end. It takes 4 bytes a cell, and each arc is looked at
-/// once for each place.
+/// For each cell the least number of columns to an end. This takes 4 bytes a cell, and looks at
+/// each arc once for each place.
 pub(crate) fn lengths(
     alloc: Global,
     numbers: &IndexSet<u32>,

@@ -13,8 +13,8 @@ use grammar_reader::Grammar;
 use std::alloc::Global;
 use tier_core::{NoMemory, TierTable, Timeline};
 
-/// The first of the timelines with a surface that an automaton accepts; `None` exactly where it accepts
-/// none.
+/// The first of the timelines with a surface that an automaton accepts; `None` exactly if it
+/// accepts none.
 fn first_heard(
     alloc: Global,
     tiers: &TierTable,
@@ -27,7 +27,8 @@ fn first_heard(
     requires short { length surface.now ≤ 64 }
     ensures { IfOk result (λ first.
         MatchOption first
-        ((T : List (List Sym)) → AcceptsHeard states.now (tiers_of_table tiers.now).overt surface.now T → ⊥)
+        ((T : List (List Sym))
+        → AcceptsHeard states.now (tiers_of_table tiers.now).overt surface.now T → ⊥)
         (IsFirst (AcceptsHeard states.now (tiers_of_table tiers.now).overt surface.now))) }
 {
     match tests_of(alloc, &tiers.kinds, surface) {
@@ -37,10 +38,10 @@ fn first_heard(
 }
 
 /// The first of the optimal candidates of a sound answer's form that have a surface; `None` exactly
-/// where none has it. It fails only for want of memory.
+/// if none has it. It fails only if memory runs out.
 ///
-/// The surface is well formed and reduced over the overt tiers and has at most 64 columns. The answer
-/// has at most 65,536 states. For each state and each place of the surface 4 bytes are held.
+/// The surface is well formed and reduced over the overt tiers and has at most 64 columns. The
+/// answer has at most 65,536 states. For each state and each place in the surface 4 bytes are held.
 pub fn has_surface(
     alloc: Global,
     grammar: &Grammar,
@@ -54,8 +55,12 @@ pub fn has_surface(
     requires short { length surface.now ≤ 64 }
     ensures { IfOk result (λ first.
         MatchOption first
-        ((T : List (List Sym)) → HasSurface (asked grammar.now.tiers grammar.now.constraints.items answer.now.form) surface.now T → ⊥)
-        (IsFirst (HasSurface (asked grammar.now.tiers grammar.now.constraints.items answer.now.form) surface.now))) }
+        ((T : List (List Sym))
+        → HasSurface (asked grammar.now.tiers grammar.now.constraints.items answer.now.form)
+        surface.now T → ⊥)
+        (IsFirst
+        (HasSurface (asked grammar.now.tiers grammar.now.constraints.items answer.now.form)
+        surface.now))) }
 {
     first_heard(alloc, &grammar.tiers, &answer.automaton.states, surface)
 }

@@ -27,8 +27,8 @@ fn still_class(kinds: &[TierKind]) -> Class
     Class::of_bits(&sets[..kinds.len()])
 }
 
-/// The number of a tier's set in the class of the columns that have a column on the overt tiers, which
-/// is in `own` alone. So many overt tiers stand before this one.
+/// The number of a tier's set in the class of the columns that have one column, the only one in
+/// `own`, on the overt tiers. So many overt tiers come before this one.
 fn heard_set(kind: TierKind, own: &Class, before: u32) -> u8
     ensures value { result ≡ heard_set kind (sets_of own.now) before }
     ensures few { result < 32 }
@@ -42,7 +42,7 @@ fn heard_set(kind: TierKind, own: &Class, before: u32) -> u8
     }
 }
 
-/// How many overt tiers stand before the next tier.
+/// How many overt tiers come before the next tier.
 fn overt_after(kind: TierKind, before: u32) -> u32
     requires { before < 12 }
     ensures value { result ≡ overt_after kind before }
@@ -67,7 +67,8 @@ fn heard_class(kinds: &[TierKind], column: &Column) -> Class
     Class::of_bits(&sets[..kinds.len()])
 }
 
-/// The tests of a surface.
+/// The tests of a surface: the class of the columns without an edge on an overt tier, and then for
+/// each column of the surface the class of the columns that have it on the overt tiers.
 pub(crate) fn tests_of(
     alloc: Global,
     kinds: &[TierKind],

@@ -8,7 +8,7 @@ use answer_text::StateLine;
 use indexmap::IndexSet;
 use std::alloc::{AllocError, Global};
 
-/// So many states that no arc enters.
+/// So many states, none of which an arc enters.
 fn not_entered(alloc: Global, count: usize) -> Result<Vec<Vec<Entering>>, AllocError>
     ensures { IfOk result (λ into. AreNotEntered count into.items) }
 {
@@ -19,7 +19,7 @@ fn not_entered(alloc: Global, count: usize) -> Result<Vec<Vec<Entering>>, AllocE
     Ok(into)
 }
 
-/// Turns the arcs of one state round.
+/// Reverses the arcs of one state.
 fn turn_arcs(
     numbers: &IndexSet<u32>,
     states: &[StateLine],

@@ -4,11 +4,12 @@ use Rattle.outside.specs.Faults.{Rose}
 use Rattle.outside.specs.Sent.{appended, HasSentPart}
 use Rattle.timeline_text.specs.declared.form_err.FormErr.{FormErr}
 use Rattle.grammar_reader.specs.declared.grammar_err.GrammarCause.{GrammarCause}
+use Rattle.lexicon.specs.declared.lex_err.LexErr.{LexErr}
 use Rattle.tableau.specs.declared.rows_err.RowsCause.{RowsCause}
 use Rattle.status_lines.specs.declared.status.Status.{Status}
-use Rattle.status_lines.specs.declared.status.Status.TheVariants.{Done, Usage, GrammarRefused, FormRefused, Budget, ReadFault, WriteFault, NoMemory, RowsRefused, TooLong}
+use Rattle.status_lines.specs.declared.status.Status.TheVariants.{Done, Usage, GrammarRefused, FormRefused, LexiconRefused, Budget, ReadFault, WriteFault, NoMemory, RowsRefused, TooLong}
 use Rattle.command_words.specs.Commands.{IsNoCommand}
-use Rattle.otp_tool.specs.Findings.{Finding, long_file, long_second, no_grammar, no_form, no_rows, over_budget, ready}
+use Rattle.otp_tool.specs.Findings.{Finding, long_file, long_second, no_grammar, no_form, no_rows, no_lexicon, over_budget, ready}
 use Rattle.otp_tool.specs.Outcomes.{HasReadFault, IsBehind, IsTooLong, IsWrittenBehind}
 use Rattle.otp_tool.specs.Steps.{Change, IsOutcome}
 
@@ -33,12 +34,15 @@ module _ (words : List (List ℕ)) (c : Change) (s : Status) (o : IsOutcome word
       → (word ≡ 1) × IsBehind words c.held (no_grammar line cause)
   by_grammar word line cause e = let p = at (GrammarRefused word line cause) e in (p.0, p.1)
 
-  pub by_form : (word : ℕ) (cause : FormErr) → s ≡ FormRefused word cause
-      → (word ≡ 2) × IsBehind words c.held (no_form cause)
-  by_form word cause e = let p = at (FormRefused word cause) e in (p.0, p.1)
+  pub by_form : (word : ℕ) (cause : FormErr) → s ≡ FormRefused word cause → IsBehind words c.held (no_form word cause)
+  by_form word cause e = (at (FormRefused word cause) e).0
 
-  pub by_budget : (entry stage : ℕ) → s ≡ Budget entry stage → (entry ≡ 0) × IsBehind words c.held (over_budget stage)
-  by_budget entry stage e = let p = at (Budget entry stage) e in (p.0, p.1)
+  pub by_lexicon : (word : ℕ) (cause : LexErr) → s ≡ LexiconRefused word cause
+      → (word ≡ 2) × IsBehind words c.held (no_lexicon cause)
+  by_lexicon word cause e = let p = at (LexiconRefused word cause) e in (p.0, p.1)
+
+  pub by_budget : (entry stage : ℕ) → s ≡ Budget entry stage → IsBehind words c.held (over_budget entry stage)
+  by_budget entry stage e = (at (Budget entry stage) e).0
 
   pub by_writing : s ≡ WriteFault → IsBehind words c.held ready × Rose c.taking.before c.taking.after
   by_writing e = let p = at WriteFault e in (p.0, p.2)
@@ -64,8 +68,9 @@ module _ (words : List (List ℕ)) (c : Change) where
   only_usage Done o n = absurd (no_behind ready o.0 n)
   only_usage Usage o n = refl
   only_usage (GrammarRefused word line cause) o n = absurd (no_behind (no_grammar line cause) o.1 n)
-  only_usage (FormRefused word cause) o n = absurd (no_behind (no_form cause) o.1 n)
-  only_usage (Budget entry stage) o n = absurd (no_behind (over_budget stage) o.1 n)
+  only_usage (FormRefused word cause) o n = absurd (no_behind (no_form word cause) o.0 n)
+  only_usage (LexiconRefused word cause) o n = absurd (no_behind (no_lexicon cause) o.1 n)
+  only_usage (Budget entry stage) o n = absurd (no_behind (over_budget entry stage) o.0 n)
   only_usage (ReadFault word) o n = absurd (n o.0.command o.0.are)
   only_usage WriteFault o n = absurd (no_behind ready o.0 n)
   only_usage NoMemory o n = absurd (n o.0.0 o.0.1)

@@ -1,6 +1,7 @@
 -- Constraints that are seen alike, by their families and sides, have the same stages.
-use Rattle.std.proofs.Common.{◌≡◌, ℕ, zero, suc, ◌-◌, ◌≤◌, ◌&&◌, not, Bool, true, false, cond, List, [], ◌∷◌, length, map, take, filter, refl, ap, sym, ◌∙◌, subst}
+use Rattle.std.proofs.Common.{◌≡◌, ℕ, zero, suc, ◌-◌, ◌≤◌, ◌&&◌, not, Bool, true, false, cond, List, [], ◌∷◌, length, map, take, filter, refl, ap, sym, ◌∙◌, subst, arith}
 use Rattle.std.proofs.lemmas.List.{length-map}
+use Rattle.std.proofs.lemmas.List.Elements.{All-weaker}
 use Rattle.tier_core.specs.declared.sym.Sym.{Sym}
 use Rattle.tier_core.specs.declared.constraint.Constraint.{Constraint}
 use Rattle.tier_core.specs.Kinds.{Phase, PrefixKind}
@@ -8,14 +9,14 @@ use Rattle.tier_core.specs.Tiers.{Tiers}
 use Rattle.tier_core.specs.Timelines.{project, squeeze, word}
 use Rattle.tier_core.specs.Sides.{has_edge_type, is_implication, is_stretch}
 use Rattle.grammar_reader.specs.Seen.{constraint_seen}
-use Rattle.grammar_reader.specs.Values.{GrammarValue, NamedConstraint}
+use Rattle.grammar_reader.specs.Values.{NamedConstraint}
 use Rattle.violation.specs.Candidates.{IsAtMost, IsCandidate, IsOptimalFor, vec}
-use Rattle.violation.specs.Problems.{Problem}
+use Rattle.violation.specs.Problems.{Problem, last_stage}
+use Rattle.violation.specs.Rests.{AreWholeKindsOver, AreWholeKindsWithin, IsWholeKind}
 use Rattle.violation.specs.Counts.{viol}
 use Rattle.violation.specs.Prefixes.{is_open, kind_of, phase}
 use Rattle.violation.specs.Stages.{AreKindsOfStage, IsPassed}
-use Rattle.ranked_gen.specs.Budgets.{IsFirstOver, IsOver, IsWithin}
-use Rattle.otp_tool.specs.Grammars.{IsAsked}
+use Rattle.ranked_gen.specs.Budgets.{AreAllWithin, IsFirstOver, IsOver, IsWithin}
 
 -- ---- what is counted and remembered of constraints as they are seen
 
@@ -115,20 +116,48 @@ within_alike : (problem : Problem) (budget : ℕ) (cs ds : List Constraint)
     → IsWithin (with_constraints problem cs) budget r → IsWithin (with_constraints problem ds) budget r
 within_alike problem budget cs ds alike r w = λ ks a. w ks (kinds_alike problem budget ds cs (sym alike) r ks a)
 
--- the first stage over the budget is the same for all problems that a grammar and a word ask
-pub first_over_alike : (g : GrammarValue) (form : List ℕ) (budget : ℕ) (p q : Problem) → IsAsked g form p
-    → IsAsked g form q → p.form ≡ q.form → (r : ℕ)
-    → IsFirstOver p budget r → IsFirstOver q budget r
-first_over_alike g form budget p q a b same r over =
-    let alike : map constraint_seen p.constraints ≡ map constraint_seen q.constraints = a.constraints
-    ∙ sym b.constraints in
+-- ---- problems that are asked alike
+
+-- problems have the same tiers, the same form, and constraints that are seen alike
+pub record AreAlike (p q : Problem) : Type 0 where
+  pub tiers : p.tiers ≡ q.tiers
+  pub constraints : map constraint_seen p.constraints ≡ map constraint_seen q.constraints
+  pub form : p.form ≡ q.form
+
+-- what constraints that are seen alike share, such problems share
+by_constraints : (P : Problem → Type 0)
+    → ((problem : Problem) (cs ds : List Constraint) → map constraint_seen cs ≡ map constraint_seen ds
+    → P (with_constraints problem cs) → P (with_constraints problem ds))
+    → (p q : Problem) → AreAlike p q → P p → P q
+by_constraints P step p q alike h =
     let ask : Tiers → List (List Sym)
     → Problem = λ tiers u. record { tiers = tiers; constraints = p.constraints; form = u } in
-    let o : IsFirstOver (ask q.tiers q.form) budget r =
-    subst (λ u. IsFirstOver (ask q.tiers u) budget r) same
-    (subst (λ tiers. IsFirstOver (ask tiers p.form) budget r) (a.tiers ∙ sym b.tiers) over) in
-    record {
-      stage = subst (λ n. r ≤ n) (same_length q p.constraints q.constraints alike) o.stage;
-      over = over_alike q budget p.constraints q.constraints alike r o.over;
-      before = λ s l. within_alike q budget p.constraints q.constraints alike s (o.before s l);
-    }
+    step q p.constraints q.constraints alike.constraints
+    (subst (λ u. P (ask q.tiers u)) alike.form (subst (λ tiers. P (ask tiers p.form)) alike.tiers h))
+
+pub same_stages : (p q : Problem) → AreAlike p q → last_stage p ≡ last_stage q
+same_stages p q alike = same_length p p.constraints q.constraints alike.constraints
+
+module _ (budget : ℕ) where
+  pub first_over_alike : (r : ℕ) (p q : Problem) → AreAlike p q → IsFirstOver p budget r → IsFirstOver q budget r
+  first_over_alike r = by_constraints (λ problem. IsFirstOver problem budget r) (λ problem cs ds alike o. record {
+    stage = subst (λ n. r ≤ n) (same_length problem cs ds alike) o.stage;
+    over = over_alike problem budget cs ds alike r o.over;
+    before = λ s l. within_alike problem budget cs ds alike s (o.before s l);
+  })
+
+  pub all_within_alike : (p q : Problem) → AreAlike p q → AreAllWithin p budget → AreAllWithin q budget
+  all_within_alike = by_constraints (λ problem. AreAllWithin problem budget) (λ problem cs ds alike w r l.
+      within_alike problem budget cs ds alike r (w r (subst (λ n. r ≤ n) (sym (same_length problem cs ds alike)) l)))
+
+  whole_kind_alike : (k : PrefixKind) (p q : Problem) → AreAlike p q → IsWholeKind p k → IsWholeKind q k
+  whole_kind_alike k = by_constraints (λ problem. IsWholeKind problem k) (λ problem cs ds alike w.
+      subst (λ n. IsPassed (with_constraints problem ds) 0 n k) (same_length problem cs ds alike)
+      (passed_alike problem cs ds alike 0 (length cs) k w))
+
+  -- there are not both more kinds under all constraints than the budget and no more
+  pub whole_over_within : (p q : Problem) → AreAlike p q → AreWholeKindsOver p budget
+      → AreWholeKindsWithin q budget → ⊥
+  whole_over_within p q alike o w =
+      let each = All-weaker (IsWholeKind p) (IsWholeKind q) (λ k. whole_kind_alike k p q alike) o.kinds o.each in
+      omega (arith, o.more, w o.kinds o.distinct each)

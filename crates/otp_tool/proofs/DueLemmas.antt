@@ -2,10 +2,10 @@
 use Rattle.std.proofs.Common.{◌≡◌, ◌⊎◌, inl, inr, ℕ, List, Option, refl, ap, sym, ◌∙◌, subst}
 use Rattle.outside.specs.Faults.{Rose}
 use Rattle.status_lines.specs.declared.status.Status.{Status}
-use Rattle.status_lines.specs.declared.status.Status.TheVariants.{Done, Usage, GrammarRefused, FormRefused, Budget, ReadFault, WriteFault, NoMemory, RowsRefused, TooLong}
+use Rattle.status_lines.specs.declared.status.Status.TheVariants.{Done, Usage, GrammarRefused, FormRefused, LexiconRefused, Budget, ReadFault, WriteFault, NoMemory, RowsRefused, TooLong}
 use Rattle.command_words.specs.Commands.{Command, IsNoCommand}
 use Rattle.command_words.proofs.CommandLemmas.{one_command}
-use Rattle.otp_tool.specs.Findings.{Finding, Finds, long_file, no_grammar, no_form, long_second, no_rows, over_budget, ready}
+use Rattle.otp_tool.specs.Findings.{Finding, Finds, long_file, no_grammar, no_form, long_second, no_rows, no_lexicon, over_budget, ready}
 use Rattle.otp_tool.specs.Outcomes.{HasReadFault, IsBeforeWriting, IsBehind, IsTold, IsTooLong, MayRead, Stands, answer_to}
 use Rattle.otp_tool.specs.Steps.{Change, IsOutcome}
 use Rattle.otp_tool.proofs.FindingLemmas.{one_finding}
@@ -24,10 +24,11 @@ same words held x y t b =
 abbrev IsReady : Finding → Type 0
 IsReady long_file = ⊥
 IsReady (no_grammar line cause) = ⊥
-IsReady (no_form cause) = ⊥
+IsReady (no_form word cause) = ⊥
 IsReady (long_second word) = ⊥
 IsReady (no_rows row cause) = ⊥
-IsReady (over_budget stage) = ⊥
+IsReady (no_lexicon cause) = ⊥
+IsReady (over_budget entry stage) = ⊥
 IsReady ready = Unit {0}
 
 module _ (words : List (List ℕ)) (c : Change) where
@@ -46,10 +47,10 @@ module _ (words : List (List ℕ)) (c : Change) where
   due (GrammarRefused word line cause) o x n t =
       inl (ap (λ (w : ℕ). GrammarRefused w line cause) o.0
       ∙ ap answer_to (same words c.held x (no_grammar line cause) t o.1))
-  due (FormRefused word cause) o x n t =
-      inl (ap (λ (w : ℕ). FormRefused w cause) o.0 ∙ ap answer_to (same words c.held x (no_form cause) t o.1))
-  due (Budget entry stage) o x n t =
-      inl (ap (λ (e : ℕ). Budget e stage) o.0 ∙ ap answer_to (same words c.held x (over_budget stage) t o.1))
+  due (FormRefused word cause) o x n t = inl (ap answer_to (same words c.held x (no_form word cause) t o.0))
+  due (LexiconRefused word cause) o x n t =
+      inl (ap (λ (w : ℕ). LexiconRefused w cause) o.0 ∙ ap answer_to (same words c.held x (no_lexicon cause) t o.1))
+  due (Budget entry stage) o x n t = inl (ap answer_to (same words c.held x (over_budget entry stage) t o.0))
   due (ReadFault word) o x n t = inr (inr (word, refl))
   due WriteFault o x n t = absurd (n (sym (same words c.held x ready t o.0)))
   due NoMemory o x n t = inr (inl refl)
@@ -70,8 +71,9 @@ module _ (words : List (List ℕ)) (c : Change) where
   complete Done o t r w = inl refl
   complete Usage o t r w = absurd (no_usage ready t o.0)
   complete (GrammarRefused word line cause) o t r w = absurd (not_ready (no_grammar line cause) t o.1)
-  complete (FormRefused word cause) o t r w = absurd (not_ready (no_form cause) t o.1)
-  complete (Budget entry stage) o t r w = absurd (not_ready (over_budget stage) t o.1)
+  complete (FormRefused word cause) o t r w = absurd (not_ready (no_form word cause) t o.0)
+  complete (LexiconRefused word cause) o t r w = absurd (not_ready (no_lexicon cause) t o.1)
+  complete (Budget entry stage) o t r w = absurd (not_ready (over_budget entry stage) t o.0)
   complete (ReadFault word) o t r w = absurd (r word o.0)
   complete WriteFault o t r w = absurd (w o.2)
   complete NoMemory o t r w = inr refl
@@ -82,8 +84,9 @@ module _ (words : List (List ℕ)) (c : Change) where
   untouched Done o b = absurd b
   untouched Usage o b = o.1
   untouched (GrammarRefused word line cause) o b = o.2
-  untouched (FormRefused word cause) o b = o.2
-  untouched (Budget entry stage) o b = o.2
+  untouched (FormRefused word cause) o b = o.1
+  untouched (LexiconRefused word cause) o b = o.2
+  untouched (Budget entry stage) o b = o.1
   untouched (ReadFault word) o b = o.1
   untouched WriteFault o b = absurd b
   untouched NoMemory o b = absurd b

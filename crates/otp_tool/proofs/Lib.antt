@@ -1,10 +1,16 @@
 mod GrammarLemmas
 mod ConstraintLemmas
 mod RowsAlike
+mod Choices
+mod AnswerFindings
+mod TableauFindings
+mod HearingFindings
 mod FindingLemmas
 mod StepLemmas
 mod OutcomeLemmas
 mod RefusalLemmas
 mod TableauLemmas
+mod OnceLemmas
+mod HearingLemmas
 mod CauseLemmas
 mod DueLemmas

@@ -3,12 +3,12 @@ use Rattle.std.proofs.Common.{◌≡◌, ◌⊎◌, inl, inr, ℕ, zero, suc, �
 use Rattle.outside.specs.Faults.{Rose}
 use Rattle.outside.specs.Sent.{appended, HasSentPart}
 use Rattle.status_lines.specs.declared.status.Status.{Status}
-use Rattle.status_lines.specs.declared.status.Status.TheVariants.{Done, Usage, GrammarRefused, FormRefused, Budget, ReadFault, WriteFault, NoMemory, RowsRefused, TooLong}
+use Rattle.status_lines.specs.declared.status.Status.TheVariants.{Done, Usage, GrammarRefused, FormRefused, LexiconRefused, Budget, ReadFault, WriteFault, NoMemory, RowsRefused, TooLong}
 use Rattle.grammar_reader.specs.Values.{GrammarValue}
 use Rattle.command_words.specs.Commands.{Command, IsCommand, grammar_of as file_of}
 use Rattle.otp_tool.specs.Files.{IsHeld, IsSecondHeld, NamedFile, grammar_file, second_file}
 use Rattle.otp_tool.specs.Grammars.{OnGrammar}
-use Rattle.otp_tool.specs.Findings.{Finding, FindsIn, Finds, Reaches, long_file, no_grammar, no_form, long_second, no_rows, over_budget, ready}
+use Rattle.otp_tool.specs.Findings.{Finding, FindsIn, Finds, Reaches, long_file, no_grammar, no_form, long_second, no_rows, no_lexicon, over_budget, ready}
 use Rattle.otp_tool.specs.Results.{IsResult}
 use Rattle.otp_tool.specs.Outcomes.{IsBehind, IsWrittenBehind, MayRead}
 use Rattle.otp_tool.specs.Steps.{Change, IsEnd, IsLoadRefusal, IsLoaded, IsNotRead, IsOutcome, IsPartTaken, IsRefusal, IsStep, IsWork, IsWorkOf}
@@ -110,6 +110,7 @@ module _ (words : List (List ℕ)) (c : Change) (command : Command) (are : IsCom
     t,
   )
   by_load t (FormRefused word cause) r = absurd r
+  by_load t (LexiconRefused word cause) r = absurd r
   by_load t (Budget entry stage) r = absurd r
   by_load t (ReadFault word) r = (
     record {
@@ -151,9 +152,11 @@ module _ (words : List (List ℕ)) (c : Change) (command : Command) (are : IsCom
       by_refusal t Usage r = absurd r
       by_refusal t (GrammarRefused word line cause) r = absurd r
       by_refusal t (FormRefused word cause) r =
-          (r.0, behind (no_form cause) (on (λ h. FindsIn command h second (no_form cause)) r.1), t)
+          (behind (no_form word cause) (on (λ h. FindsIn command h second (no_form word cause)) r), t)
+      by_refusal t (LexiconRefused word cause) r =
+          (r.0, behind (no_lexicon cause) (on (λ h. FindsIn command h second (no_lexicon cause)) r.1), t)
       by_refusal t (Budget entry stage) r =
-          (r.0, behind (over_budget stage) (on (λ h. FindsIn command h second (over_budget stage)) r.1), t)
+          (behind (over_budget entry stage) (on (λ h. FindsIn command h second (over_budget entry stage)) r), t)
       by_refusal t (ReadFault word) r = absurd r
       by_refusal t WriteFault r = absurd r
       by_refusal t NoMemory r = ((command, are), inl t)
@@ -192,6 +195,7 @@ module _ (words : List (List ℕ)) (c : Change) (command : Command) (are : IsCom
       by_end f Usage e = absurd e
       by_end f (GrammarRefused word line cause) e = absurd e
       by_end f (FormRefused word cause) e = absurd e
+      by_end f (LexiconRefused word cause) e = absurd e
       by_end f (Budget entry stage) e = absurd e
       by_end f (ReadFault word) e = absurd e
       by_end f WriteFault e = (is_ready f, part e.0, e.1)

@@ -1,13 +1,16 @@
 -- Refusals of one step as those of a whole command.
 use Rattle.std.proofs.Common.{◌≡◌, inl, inr, ℕ, ◌<◌, List, length, Option, Some, refl, ap, sym, subst}
 use Rattle.status_lines.specs.declared.status.Status.{Status}
-use Rattle.status_lines.specs.declared.status.Status.TheVariants.{Done, Usage, GrammarRefused, FormRefused, Budget, ReadFault, WriteFault, NoMemory, RowsRefused, TooLong}
+use Rattle.status_lines.specs.declared.status.Status.TheVariants.{Done, Usage, GrammarRefused, FormRefused, LexiconRefused, Budget, ReadFault, WriteFault, NoMemory, RowsRefused, TooLong}
 use Rattle.grammar_reader.specs.Values.{GrammarValue}
 use Rattle.violation.specs.Problems.{Problem}
 use Rattle.otp_tool.specs.Files.{NamedFile}
-use Rattle.otp_tool.specs.Grammars.{IsAsked}
-use Rattle.otp_tool.specs.Findings.{Finding, FindsForAnswer, FindsForTableau, long_second, no_form, no_rows, over_budget}
-use Rattle.otp_tool.specs.Steps.{Change, IsRefusal, IsSecondRefusal, IsWork, RefusesBudget, RefusesForm, RefusesRows}
+use Rattle.tier_core.specs.declared.sym.Sym.{Sym}
+use Rattle.lexicon.specs.Entries.{LexicalEntry}
+use Rattle.otp_tool.specs.Grammars.{AreAsked, IsAsked}
+use Rattle.otp_tool.specs.Lexicons.{IsLexiconFile, IsSurfaceOf, forms_in}
+use Rattle.otp_tool.specs.Findings.{Finding, FindsForAnswer, FindsForHearing, FindsForOnce, FindsForTableau, long_second, no_form, no_rows, no_lexicon, over_budget}
+use Rattle.otp_tool.specs.Steps.{Change, IsRefusal, IsSecondRefusal, IsWork, RefusesBudget, RefusesEntry, RefusesForm, RefusesLexicon, RefusesOnce, RefusesRows, RefusesSurface}
 use Rattle.otp_tool.proofs.OutcomeLemmas.{long_held, some_held, some_second}
 
 module _ (P Q : Finding → Type 0) (weaker : (x : Finding) → P x → Q x) where
@@ -15,8 +18,9 @@ module _ (P Q : Finding → Type 0) (weaker : (x : Finding) → P x → Q x) whe
   refusal_weaker Done r = absurd r
   refusal_weaker Usage r = absurd r
   refusal_weaker (GrammarRefused word line cause) r = absurd r
-  refusal_weaker (FormRefused word cause) r = (r.0, weaker (no_form cause) r.1)
-  refusal_weaker (Budget entry stage) r = (r.0, weaker (over_budget stage) r.1)
+  refusal_weaker (FormRefused word cause) r = weaker (no_form word cause) r
+  refusal_weaker (LexiconRefused word cause) r = (r.0, weaker (no_lexicon cause) r.1)
+  refusal_weaker (Budget entry stage) r = weaker (over_budget entry stage) r
   refusal_weaker (ReadFault word) r = absurd r
   refusal_weaker WriteFault r = absurd r
   refusal_weaker NoMemory r = tt
@@ -27,18 +31,26 @@ module _ (P Q : Finding → Type 0) (weaker : (x : Finding) → P x → Q x) whe
 
 module _ (g : GrammarValue) (word : List ℕ) (budget : ℕ) where
   pub form_for_answer : (x : Finding) → RefusesForm g word x → FindsForAnswer g word budget x
-  form_for_answer x r = subst (FindsForAnswer g word budget) (sym r.is) r.fact
+  form_for_answer x r = subst (FindsForAnswer g word budget) (sym r.is) (refl, r.fact)
 
   pub budget_for_answer : (problem : Problem) → IsAsked g word problem → (x : Finding) → RefusesBudget problem budget x
       → FindsForAnswer g word budget x
   budget_for_answer problem a x r =
-      subst (FindsForAnswer g word budget) (sym r.is) (record { problem = problem; is_asked = a; over = r.fact })
+      subst (FindsForAnswer g word budget) (sym r.is) (refl, record { problem = problem; is_asked = a; over = r.fact })
+
+  pub form_for_once : (x : Finding) → RefusesForm g word x → FindsForOnce g word budget x
+  form_for_once x r = subst (FindsForOnce g word budget) (sym r.is) (refl, r.fact)
+
+  pub budget_for_once : (problem : Problem) → IsAsked g word problem → (x : Finding) → RefusesOnce problem budget x
+      → FindsForOnce g word budget x
+  budget_for_once problem a x r =
+      subst (FindsForOnce g word budget) (sym r.is) (refl, record { problem = problem; is_asked = a; fact = r.fact })
 
 -- ---- tableaux
 
 module _ (g : GrammarValue) (word : List ℕ) (budget : ℕ) (bytes : List ℕ) where
   pub form_for_tableau : (x : Finding) → RefusesForm g word x → FindsForTableau g word budget bytes x
-  form_for_tableau x r = subst (FindsForTableau g word budget bytes) (sym r.is) r.fact
+  form_for_tableau x r = subst (FindsForTableau g word budget bytes) (sym r.is) (refl, r.fact)
 
   pub rows_for_tableau : (problem : Problem) → IsAsked g word problem → (x : Finding)
       → RefusesRows problem budget bytes x → FindsForTableau g word budget bytes x
@@ -46,7 +58,31 @@ module _ (g : GrammarValue) (word : List ℕ) (budget : ℕ) (bytes : List ℕ) 
       subst (FindsForTableau g word budget bytes) (sym r.is) (record { problem = problem; is_asked = a; fact = r.fact })
   rows_for_tableau problem a x (inr r) =
       subst (FindsForTableau g word budget bytes) (sym r.1.is)
-      (record { problem = problem; is_asked = a; fact = (r.0, r.1.fact) })
+      (refl, record { problem = problem; is_asked = a; fact = (r.0, r.1.fact) })
+
+-- ---- hearing
+
+module _ (g : GrammarValue) (word : List ℕ) (budget : ℕ) (bytes : List ℕ) where
+  pub surface_for_hearing : (x : Finding) → RefusesSurface g word x → FindsForHearing g word budget bytes x
+  surface_for_hearing x r = subst (FindsForHearing g word budget bytes) (sym r.is) (refl, r.fact)
+
+  module _ (surface : List (List Sym)) (read : IsSurfaceOf g word surface) where
+    pub lexicon_for_hearing : (x : Finding) → RefusesLexicon g bytes x → FindsForHearing g word budget bytes x
+    lexicon_for_hearing x r = subst (FindsForHearing g word budget bytes) (sym r.is) ((surface, read), r.fact)
+
+    pub entry_for_hearing : (ask : List (List Sym) → Problem) → AreAsked g ask → (entries : List LexicalEntry)
+        → IsLexiconFile g bytes entries → (x : Finding) → RefusesEntry ask (forms_in entries) budget x
+        → FindsForHearing g word budget bytes x
+    entry_for_hearing ask a entries file x r =
+        subst (FindsForHearing g word budget bytes) (sym r.is) (record {
+          ask = ask;
+          are_asked = a;
+          surface = surface;
+          read = read;
+          entries = entries;
+          file = file;
+          fact = r.fact;
+        })
 
 -- ---- second files
 
@@ -73,6 +109,7 @@ module _ (reaches : Type 0) (finds : List ℕ → Finding → Type 0) (writes : 
     second_refused Usage r = absurd r
     second_refused (GrammarRefused word line cause) r = absurd r
     second_refused (FormRefused word cause) r = absurd r
+    second_refused (LexiconRefused word cause) r = absurd r
     second_refused (Budget entry stage) r = absurd r
     second_refused (ReadFault word) r = inl (record {
       file = file;

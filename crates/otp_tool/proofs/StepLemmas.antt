@@ -82,8 +82,8 @@ module _ (g : Grammar) where
       (over_tiers g))
 
   pub not_scored : (word : List ℕ) (cause : FormErr) → IsNotScored (length g.tiers.kinds.items) word cause
-      → FindsForScore (value_of g) word (no_form cause)
-  not_scored word cause n = subst (λ w. IsNotScored w word cause) (sym same_width) n
+      → FindsForScore (value_of g) word (no_form 2 cause)
+  not_scored word cause n = (refl, subst (λ w. IsNotScored w word cause) (sym same_width) n)
 
   pub is_scored : (word : List ℕ) (T : List (List Sym)) → IsScored (length g.tiers.kinds.items) word T
       → FindsForScore (value_of g) word ready
@@ -102,7 +102,7 @@ module _ (g : Grammar) where
   module _ (form : List ℕ) where
     pub refused_for : (cause : FormErr)
         → IsRefusedFor (length (tiers_of_table g.tiers).input) g.letters.items form cause
-        → RefusesForm (value_of g) form (no_form cause)
+        → RefusesForm (value_of g) form (no_form 2 cause)
     refused_for cause r = record {
       value = cause;
       is = refl;

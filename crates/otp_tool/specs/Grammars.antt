@@ -2,6 +2,7 @@
 use Rattle.std.specs.Prelude.{◌≡◌, ℕ, ◌≤◌, List, length, map, Ok}
 use Rattle.tier_core.specs.declared.tier.TierKind.{TierKind}
 use Rattle.tier_core.specs.Tiers.{Tiers, tiers_by_kinds}
+use Rattle.tier_core.specs.declared.sym.Sym.{Sym}
 use Rattle.grammar_reader.specs.Values.{GrammarValue}
 use Rattle.grammar_reader.specs.Reading.{grammar_of}
 use Rattle.grammar_reader.specs.Seen.{constraint_seen}
@@ -29,6 +30,10 @@ tiers_of g = tiers_by_kinds (kinds_of g)
 abbrev pub input_count : GrammarValue → ℕ
 input_count g = length (tiers_of g).input
 
+-- how many overt tiers there are
+abbrev pub overt_count : GrammarValue → ℕ
+overt_count g = length (tiers_of g).overt
+
 -- A problem is asked by a grammar and the word of a form: it has the grammar's tiers, constraints that
 -- are seen as the grammar's, in ranked order, and the form that the word is read as.
 pub record IsAsked (g : GrammarValue) (word : List ℕ) (problem : Problem) : Type 0 where
@@ -41,3 +46,10 @@ pub record OnProblem (P : Problem → Type 0) (g : GrammarValue) (word : List �
   pub problem : Problem
   pub is_asked : IsAsked g word problem
   pub fact : P problem
+
+-- Problems are asked by a grammar, one with each form: each has the grammar's tiers, and constraints
+-- that are seen as the grammar's, in ranked order.
+pub record AreAsked (g : GrammarValue) (ask : List (List Sym) → Problem) : Type 0 where
+  pub tiers : (u : List (List Sym)) → (ask u).tiers ≡ tiers_of g
+  pub constraints : (u : List (List Sym)) → map constraint_seen (ask u).constraints ≡ g.constraints
+  pub form : (u : List (List Sym)) → (ask u).form ≡ u

@@ -3,10 +3,10 @@ use Rattle.std.specs.Prelude.{◌≡◌, ℕ, ◌⊎◌, List, Option, Some}
 use Rattle.outside.specs.Faults.{Rose}
 use Rattle.command_words.specs.Commands.{Command, IsCommand, grammar_of as file_of}
 use Rattle.status_lines.specs.declared.status.Status.{Status}
-use Rattle.status_lines.specs.declared.status.Status.TheVariants.{Done, Usage, GrammarRefused, FormRefused, Budget, ReadFault, WriteFault, NoMemory, RowsRefused, TooLong}
+use Rattle.status_lines.specs.declared.status.Status.TheVariants.{Done, Usage, GrammarRefused, FormRefused, LexiconRefused, Budget, ReadFault, WriteFault, NoMemory, RowsRefused, TooLong}
 use Rattle.otp_tool.specs.Files.{IsHeld, IsSecondHeld, NamedFile, grammar_file, second_file}
 use Rattle.otp_tool.specs.Grammars.{OnGrammar}
-use Rattle.otp_tool.specs.Findings.{Finding, Finds, Reaches, long_file, no_grammar, no_form, long_second, no_rows, over_budget, ready}
+use Rattle.otp_tool.specs.Findings.{Finding, Finds, Reaches, long_file, no_grammar, no_form, long_second, no_rows, no_lexicon, over_budget, ready}
 use Rattle.otp_tool.specs.Results.{IsResult}
 
 -- The words are a command, and these are bytes that the shelf may hold under the names of its grammar
@@ -78,10 +78,11 @@ IsUnnamed words name =
 abbrev pub answer_to : Finding → Status
 answer_to long_file = TooLong 1
 answer_to (no_grammar line cause) = GrammarRefused 1 line cause
-answer_to (no_form cause) = FormRefused 2 cause
+answer_to (no_form word cause) = FormRefused word cause
 answer_to (long_second word) = TooLong word
 answer_to (no_rows row cause) = RowsRefused 3 row cause
-answer_to (over_budget stage) = Budget 0 stage
+answer_to (no_lexicon cause) = LexiconRefused 2 cause
+answer_to (over_budget entry stage) = Budget entry stage
 answer_to ready = Done
 
 -- The status is this one. Want of memory may come instead, and so may a fault of reading.
@@ -94,6 +95,7 @@ IsBeforeWriting Done = ⊥
 IsBeforeWriting Usage = Unit {0}
 IsBeforeWriting (GrammarRefused word line cause) = Unit {0}
 IsBeforeWriting (FormRefused word cause) = Unit {0}
+IsBeforeWriting (LexiconRefused word cause) = Unit {0}
 IsBeforeWriting (Budget entry stage) = Unit {0}
 IsBeforeWriting (ReadFault word) = Unit {0}
 IsBeforeWriting WriteFault = ⊥

@@ -1,5 +1,5 @@
 -- What the commands write for a grammar.
-use Rattle.std.specs.Prelude.{◌≡◌, ℕ, List, map, length}
+use Rattle.std.specs.Prelude.{◌≡◌, ℕ, List, map, length, filter}
 use Rattle.tier_core.specs.declared.sym.Sym.{Sym}
 use Rattle.grammar_reader.specs.Values.{GrammarValue}
 use Rattle.grammar_reader.specs.Canonical.{canonical}
@@ -8,8 +8,16 @@ use Rattle.violation.specs.Counts.{viol}
 use Rattle.answer_text.specs.declared.answer.Answer.{Answer}
 use Rattle.answer_text.specs.Right.{IsRight}
 use Rattle.answer_text.specs.Text.{Widths, answer_text, counts_text, shown_text}
-use Rattle.command_words.specs.Commands.{Command, canon, score, generate, show, tableau}
-use Rattle.violation.specs.Problems.{Problem}
+use Rattle.command_words.specs.Commands.{Command, canon, score, generate, show, tableau, once, comprehend}
+use Rattle.tier_core.specs.Sides.{is_stretch}
+use Rattle.answer_text.specs.declared.once_answer.OnceAnswer.{OnceAnswer}
+use Rattle.answer_text.specs.OnceText.{OnceWidths, once_text}
+use Rattle.answer_text.specs.RightOnce.{IsRightOnce}
+use Rattle.lexicon.specs.Entries.{LexicalEntry, names_of}
+use Rattle.comprehend.specs.declared.hit.Hit.{Hit}
+use Rattle.comprehend.specs.Hears.{Hears}
+use Rattle.comprehend.specs.HitText.{hits_text}
+use Rattle.violation.specs.Problems.{Problem, last_stage}
 use Rattle.otp_tool.specs.Scored.{IsScored}
 use Rattle.std.specs.Str.Lines.{lines}
 use Rattle.tableau.specs.declared.table.Tableau.{Tableau}
@@ -17,6 +25,7 @@ use Rattle.tableau.specs.Layout.{tableau_text}
 use Rattle.tableau.specs.Rows.{AreRowsOf}
 use Rattle.tableau.specs.Tableaux.{IsTableauOf}
 use Rattle.otp_tool.specs.Grammars.{IsAsked}
+use Rattle.otp_tool.specs.Lexicons.{OnLexicon, forms_in}
 
 -- the violation vector of a timeline: its violations of each constraint of the grammar, in ranked order
 abbrev pub vector_of : GrammarValue → List (List Sym) → List ℕ
@@ -59,6 +68,33 @@ pub record IsTableauText (g : GrammarValue) (form bytes text : List ℕ) : Type 
   pub is_tableau : IsTableauOf problem rows tableau
   pub written : text ≡ tableau_text tableau
 
+-- under all constraints, kinds are written over all stretch implications, and potentials have a number for each
+-- constraint
+abbrev pub once_widths : Problem → OnceWidths
+once_widths problem = record {
+  free = length problem.tiers.free;
+  stretches = length (filter is_stretch problem.constraints);
+  constraints = last_stage problem;
+}
+
+-- A text is that of an answer of a single pass that is right for the problem that is asked.
+pub record IsOnceText (g : GrammarValue) (form text : List ℕ) : Type 0 where
+  pub problem : Problem
+  pub is_asked : IsAsked g form problem
+  pub answer : OnceAnswer
+  pub right : IsRightOnce problem answer
+  pub written : text ≡ once_text (once_widths problem) answer
+
+-- a text is that of the entries that are heard, each with its first optimal candidate with the surface
+pub record IsTextOfHeard (text : List ℕ) (ask : List (List Sym) → Problem) (entries : List LexicalEntry)
+    (surface : List (List Sym)) : Type 0 where
+  pub hits : List Hit
+  pub hears : Hears ask (forms_in entries) surface hits
+  pub written : text ≡ hits_text (names_of entries) hits
+
+abbrev pub IsHeardText : GrammarValue → List ℕ → List ℕ → List ℕ → Type 0
+IsHeardText g surface bytes text = OnLexicon (IsTextOfHeard text) g surface bytes
+
 -- A text is what a command writes for a grammar, where these are the bytes of its second file.
 abbrev pub IsResult : Command → GrammarValue → List ℕ → List ℕ → Type 0
 IsResult (canon name) g second text = text ≡ canonical g
@@ -66,3 +102,5 @@ IsResult (score name word) g second text = IsScoreText g word text
 IsResult (generate name form budget) g second text = IsOfRightAnswer whole_text g form text
 IsResult (show name form budget) g second text = IsOfRightAnswer short_text g form text
 IsResult (tableau name form rows budget) g second text = IsTableauText g form second text
+IsResult (once name form budget) g second text = IsOnceText g form text
+IsResult (comprehend name lexicon surface budget) g second text = IsHeardText g surface second text

@@ -9,17 +9,19 @@ use Rattle.outside.specs.Sent.{appended, HasSentPart}
 use Rattle.tier_core.specs.declared.sym.Sym.{Sym}
 use Rattle.tier_core.specs.declared.constraint.Constraint.{Constraint}
 use Rattle.tier_core.specs.declared.tier.TierTable.{TierTable}
-use Rattle.violation.specs.Problems.{Problem, asked}
+use Rattle.violation.specs.Problems.{Problem, asked, last_stage}
+use Rattle.violation.specs.Rests.{AreWholeKindsOver}
+use Rattle.comprehend.specs.Hears.{IsFirstEntryOver}
 use Rattle.answer_text.specs.declared.answer.Answer.{Answer}
 use Rattle.answer_text.specs.Right.{IsRight}
 use Rattle.ranked_gen.specs.Budgets.{AreAllWithin, IsFirstOver}
 use Rattle.grammar_reader.specs.declared.grammar_err.GrammarCause.{GrammarCause}
 use Rattle.grammar_reader.specs.Values.{GrammarValue}
 use Rattle.grammar_reader.specs.Reading.{grammar_of}
-use Rattle.command_words.specs.Commands.{Command, IsCommand, IsNoCommand, canon, score, generate, show, tableau}
+use Rattle.command_words.specs.Commands.{Command, IsCommand, IsNoCommand, canon, score, generate, show, tableau, once, comprehend}
 use Rattle.status_lines.specs.declared.status.Status.{Status}
-use Rattle.status_lines.specs.declared.status.Status.TheVariants.{Done, Usage, GrammarRefused, FormRefused, Budget, ReadFault, WriteFault, NoMemory, RowsRefused, TooLong}
-use Rattle.otp_tool.specs.Files.{IsHeld, IsSecondHeld, NamedFile, rows_file, second_file}
+use Rattle.status_lines.specs.declared.status.Status.TheVariants.{Done, Usage, GrammarRefused, FormRefused, LexiconRefused, Budget, ReadFault, WriteFault, NoMemory, RowsRefused, TooLong}
+use Rattle.otp_tool.specs.Files.{IsHeld, IsSecondHeld, NamedFile, lexicon_file, rows_file, second_file}
 use Rattle.std.specs.Str.Lines.{lines}
 use Rattle.form_reader.specs.Forms.{IsRefusedFor}
 use Rattle.tableau.specs.declared.rows_err.RowsCause.{RowsCause}
@@ -27,8 +29,9 @@ use Rattle.tableau.specs.declared.table.Tableau.{Tableau}
 use Rattle.tableau.specs.Rows.{AreRowsOf}
 use Rattle.tableau.specs.Tableaux.{IsTableauOf}
 use Rattle.otp_tool.specs.Grammars.{IsFileOf, IsAsked, input_count}
-use Rattle.otp_tool.specs.Findings.{Finding, FindsIn, FindsForTableau, HasForm, IsNoRowsFile, IsRowsFile, Reaches, no_grammar, no_form, long_second, no_rows, over_budget, ready}
-use Rattle.otp_tool.specs.Results.{IsResult, IsTableauText}
+use Rattle.otp_tool.specs.Findings.{Finding, FindsIn, FindsForHearing, FindsForTableau, HasForm, IsNoRowsFile, IsRowsFile, Reaches, no_grammar, no_form, long_second, no_rows, no_lexicon, over_budget, ready}
+use Rattle.otp_tool.specs.Lexicons.{HasSurfaceWord, IsNoLexiconFile, IsNoSurface}
+use Rattle.otp_tool.specs.Results.{IsHeardText, IsResult, IsTableauText}
 use Rattle.otp_tool.specs.Outcomes.{IsBehind, IsTooLong, IsWrittenBehind, HasReadFault}
 
 -- the budget of a command is from 1 to 65,536
@@ -38,6 +41,8 @@ HasFitBudget (score name word) = Unit {0}
 HasFitBudget (generate name form budget) = (1 ≤ budget) × (budget ≤ 65536)
 HasFitBudget (show name form budget) = (1 ≤ budget) × (budget ≤ 65536)
 HasFitBudget (tableau name form rows budget) = (1 ≤ budget) × (budget ≤ 65536)
+HasFitBudget (once name form budget) = (1 ≤ budget) × (budget ≤ 65536)
+HasFitBudget (comprehend name lexicon surface budget) = (1 ≤ budget) × (budget ≤ 65536)
 
 -- a grammar is that of a file that is held
 pub record IsLoaded (held : Option (List ℕ)) (g : GrammarValue) : Type 0 where
@@ -57,6 +62,7 @@ IsLoadRefusal held before after Done = ⊥
 IsLoadRefusal held before after Usage = ⊥
 IsLoadRefusal held before after (GrammarRefused word line cause) = (word ≡ 1) × IsUnread held line cause
 IsLoadRefusal held before after (FormRefused word cause) = ⊥
+IsLoadRefusal held before after (LexiconRefused word cause) = ⊥
 IsLoadRefusal held before after (Budget entry stage) = ⊥
 IsLoadRefusal held before after (ReadFault word) = (word ≡ 1) × Rose before after
 IsLoadRefusal held before after WriteFault = ⊥
@@ -70,6 +76,7 @@ IsSecondRefusal file held before after Done = ⊥
 IsSecondRefusal file held before after Usage = ⊥
 IsSecondRefusal file held before after (GrammarRefused word line cause) = ⊥
 IsSecondRefusal file held before after (FormRefused word cause) = ⊥
+IsSecondRefusal file held before after (LexiconRefused word cause) = ⊥
 IsSecondRefusal file held before after (Budget entry stage) = ⊥
 IsSecondRefusal file held before after (ReadFault word) = (word ≡ file.word) × Rose before after
 IsSecondRefusal file held before after WriteFault = ⊥
@@ -83,8 +90,9 @@ abbrev pub IsRefusal : (Finding → Type 0) → Status → Type 0
 IsRefusal finds Done = ⊥
 IsRefusal finds Usage = ⊥
 IsRefusal finds (GrammarRefused word line cause) = ⊥
-IsRefusal finds (FormRefused word cause) = (word ≡ 2) × finds (no_form cause)
-IsRefusal finds (Budget entry stage) = (entry ≡ 0) × finds (over_budget stage)
+IsRefusal finds (FormRefused word cause) = finds (no_form word cause)
+IsRefusal finds (LexiconRefused word cause) = (word ≡ 2) × finds (no_lexicon cause)
+IsRefusal finds (Budget entry stage) = finds (over_budget entry stage)
 IsRefusal finds (ReadFault word) = ⊥
 IsRefusal finds WriteFault = ⊥
 IsRefusal finds NoMemory = Unit {0}
@@ -99,11 +107,29 @@ pub record IsOf {A : Type 0} (finding : A → Finding) (P : A → Type 0) (x : F
 
 -- the word of a form is refused
 abbrev pub RefusesForm : GrammarValue → List ℕ → Finding → Type 0
-RefusesForm g word = IsOf no_form (IsRefusedFor (input_count g) g.letters word)
+RefusesForm g word = IsOf (no_form 2) (IsRefusedFor (input_count g) g.letters word)
 
 -- a stage has more kinds than the budget
 abbrev pub RefusesBudget : Problem → ℕ → Finding → Type 0
-RefusesBudget problem budget = IsOf over_budget (IsFirstOver problem budget)
+RefusesBudget problem budget = IsOf (over_budget 0) (IsFirstOver problem budget)
+
+-- there are more kinds under all constraints than the budget, which are those of the last stage
+abbrev pub RefusesOnce : Problem → ℕ → Finding → Type 0
+RefusesOnce problem budget =
+    IsOf (over_budget 0) (λ stage. (stage ≡ last_stage problem) × AreWholeKindsOver problem budget)
+
+-- the word of a surface is refused
+abbrev pub RefusesSurface : GrammarValue → List ℕ → Finding → Type 0
+RefusesSurface g word = IsOf (no_form 3) (IsNoSurface g word)
+
+-- a file is no lexicon file
+abbrev pub RefusesLexicon : GrammarValue → List ℕ → Finding → Type 0
+RefusesLexicon g bytes = IsOf no_lexicon (IsNoLexiconFile g bytes)
+
+-- an entry has a stage with more kinds than the budget
+abbrev pub RefusesEntry : (List (List Sym) → Problem) → List (List (List Sym)) → ℕ → Finding → Type 0
+RefusesEntry ask forms budget =
+    IsOf (λ (at : ℕ × ℕ). over_budget at.0 at.1) (λ at. IsFirstEntryOver ask forms budget at.0 at.1)
 
 -- a file is no rows file for a problem
 abbrev pub RefusesFile : Problem → List ℕ → Finding → Type 0
@@ -164,6 +190,7 @@ IsEnd writes t Done = IsAllTaken writes t
 IsEnd writes t Usage = ⊥
 IsEnd writes t (GrammarRefused word line cause) = ⊥
 IsEnd writes t (FormRefused word cause) = ⊥
+IsEnd writes t (LexiconRefused word cause) = ⊥
 IsEnd writes t (Budget entry stage) = ⊥
 IsEnd writes t (ReadFault word) = ⊥
 IsEnd writes t WriteFault = IsPartTaken writes t × Rose t.before t.after
@@ -221,6 +248,11 @@ abbrev pub IsTableauWork : GrammarValue → List ℕ → List ℕ → ℕ → Ch
 IsTableauWork g form rows budget c status =
     IsWork (Some (rows_file rows)) (HasForm g form) (FindsForTableau g form budget) (IsTableauText g form) c status
 
+abbrev pub IsHearingWork : GrammarValue → List ℕ → List ℕ → ℕ → Change → Status → Type 0
+IsHearingWork g lexicon surface budget c status =
+    IsWork (Some (lexicon_file lexicon)) (HasSurfaceWord g surface) (FindsForHearing g surface budget)
+    (IsHeardText g surface) c status
+
 -- what stands behind each status of a command
 abbrev pub IsOutcome : List (List ℕ) → Change → Status → Type 0
 IsOutcome words c Done =
@@ -229,9 +261,11 @@ IsOutcome words c Usage = IsNoCommand words × (c.taking.new ≡ c.taking.old)
 IsOutcome words c (GrammarRefused word line cause) =
     (word ≡ 1) × IsBehind words c.held (no_grammar line cause) × (c.taking.new ≡ c.taking.old)
 IsOutcome words c (FormRefused word cause) =
-    (word ≡ 2) × IsBehind words c.held (no_form cause) × (c.taking.new ≡ c.taking.old)
+    IsBehind words c.held (no_form word cause) × (c.taking.new ≡ c.taking.old)
+IsOutcome words c (LexiconRefused word cause) =
+    (word ≡ 2) × IsBehind words c.held (no_lexicon cause) × (c.taking.new ≡ c.taking.old)
 IsOutcome words c (Budget entry stage) =
-    (entry ≡ 0) × IsBehind words c.held (over_budget stage) × (c.taking.new ≡ c.taking.old)
+    IsBehind words c.held (over_budget entry stage) × (c.taking.new ≡ c.taking.old)
 IsOutcome words c (ReadFault word) =
     HasReadFault words c.held c.faults_before c.faults_after word × (c.taking.new ≡ c.taking.old)
 IsOutcome words c WriteFault =

@@ -58,7 +58,7 @@ pub(crate) fn answer_for(
     }
 }
 
-/// Makes the answer for a grammar and a form's word.
+/// Generates the answer for a grammar and the form that a word is read as.
 pub(crate) fn make_answer(
     alloc: Global,
     grammar: &Grammar,

@@ -7,14 +7,17 @@ ghost use Rattle.grammar_reader.specs.Grammars.{value_of};
 ghost use Rattle.command_words.specs.Commands.{IsCommand, IsNoCommand, grammar_of as file_of};
 ghost use Rattle.command_words.specs.Words.{words_of};
 ghost use Rattle.command_words.specs.Seen.{command_seen};
-ghost use Rattle.otp_tool.specs.Findings.{Finding, no_grammar, no_form, no_rows, over_budget, ready};
+ghost use Rattle.otp_tool.specs.Findings.{Finding, no_grammar, no_form, no_rows, no_lexicon, over_budget, ready};
 ghost use Rattle.otp_tool.specs.Outcomes.{HasReadFault, IsBeforeWriting, IsBehind, IsTold, IsTooLong, IsUnnamed, IsWrittenBehind, Stands, answer_to};
 ghost use Rattle.otp_tool.specs.Steps.{HasFitBudget, IsOutcome, IsWorkOf, change_of};
 ghost use Rattle.otp_tool.specs.Files.{NamedFile, second_file};
 ghost use Rattle.tableau.specs.declared.rows_err.RowsCause.{RowsCause};
+ghost use Rattle.lexicon.specs.declared.lex_err.LexErr.{LexErr};
 
 use crate::grammar::load_grammar;
+use crate::hearing::listen;
 use crate::results::{canon, generate, score, show};
+use crate::single_pass::once;
 use crate::tableaux::tabulate;
 use command_words::{Command, command_of};
 use grammar_reader::Grammar;
@@ -32,10 +35,12 @@ fn grammar_name<'a>(command: &Command<'a>) -> &'a str
         Command::Generate { grammar, .. } => grammar,
         Command::Show { grammar, .. } => grammar,
         Command::Tableau { grammar, .. } => grammar,
+        Command::Once { grammar, .. } => grammar,
+        Command::Comprehend { grammar, .. } => grammar,
     }
 }
 
-/// Does what a command asks of its grammar, and of its second file where it has one.
+/// Does what a command asks of its grammar, and of its second file if it has one.
 fn perform<F: Shelf, O: Sink>(
     alloc: Global,
     command: &Command<'_>,
@@ -65,10 +70,17 @@ fn perform<F: Shelf, O: Sink>(
             budget,
             ..
         } => tabulate(alloc, grammar, form, rows, budget, shelf, sink),
+        Command::Once { form, budget, .. } => once(alloc, grammar, form, budget, sink),
+        Command::Comprehend {
+            lexicon,
+            surface,
+            budget,
+            ..
+        } => listen(alloc, grammar, lexicon, surface, budget, shelf, sink),
     }
 }
 
-/// Loads the grammar of a command, and does what the command asks of it.
+/// Loads and reads the grammar of a command, and does what the command asks of it.
 fn execute<F: Shelf, O: Sink>(
     alloc: Global,
     command: &Command<'_>,
@@ -102,17 +114,21 @@ fn execute<F: Shelf, O: Sink>(
 /// | `generate G FORM [BUDGET]` | the text of a right answer |
 /// | `show G FORM [BUDGET]` | the lines `counts` and `example` of that answer |
 /// | `tableau G FORM ROWSFILE [BUDGET]` | the tableau: the example, and then the rows |
+/// | `once G FORM [BUDGET]` | the text of an answer that a single pass finds |
+/// | `comprehend G LEXFILE SURFACE [BUDGET]` | the entries of the lexicon that are heard |
 ///
-/// `G` is the name of a grammar's file, of at most 65,536 bytes, and ROWSFILE that of a rows file,
-/// of at most 4,194,304 bytes. TIMELINE is a timeline over all
+/// `G` is the name of a grammar's file, of at most 65,536 bytes. ROWSFILE and LEXFILE are the names
+/// of a rows file and a lexicon file, of at most 4,194,304 bytes. TIMELINE is a timeline over all
 /// tiers, of at most 4,096 columns. FORM is a timeline over the input tiers, of at most 64 columns,
-/// or `=` and letters. BUDGET is how many kinds of prefix a stage may have: a decimal from 1 to
-/// 65,536 without sign and without leading zero, and 20,000 where it is left out.
+/// or `=` and letters. SURFACE is a timeline over the overt tiers, of at most 64 columns. BUDGET is
+/// the number of kinds of prefix that a stage may have, and for `once` the number of kinds under all
+/// constraints: a decimal from 1 to 65,536, with no sign and no leading zero. If it is left out it
+/// is 20,000.
 ///
-/// Each command makes its whole result before it writes. The refusals come in this order: Usage;
-/// ReadFault and TooLong for word 1; GrammarRefused; FormRefused for word 2; ReadFault and TooLong
-/// for word 3; RowsRefused for word 3; Budget; WriteFault.
-/// NoMemory may come in place of any status but Usage.
+/// Each command makes its whole result before it writes. The refusals come in this order: `Usage`;
+/// `ReadFault` and `TooLong` for word 1; `GrammarRefused`; `FormRefused` for the word of the form,
+/// timeline or surface; `ReadFault` and `TooLong` for the word of the second file; `RowsRefused` or
+/// `LexiconRefused`; `Budget`; `WriteFault`. `NoMemory` may occur in place of any status but `Usage`.
 pub fn run<F: Shelf, O: Sink>(
     alloc: Global,
     words: &[String],
@@ -120,7 +136,8 @@ pub fn run<F: Shelf, O: Sink>(
     sink: &mut O,
 ) -> Status
     // Done: exactly the text that the command asks for was written. For `generate` it is the text of
-    // a right answer, and for `tableau` that of the tableau with the rows of the file.
+    // a right answer, for `once` that of an answer that is right once, for `tableau` that of the
+    // tableau with the rows of the file, and for `comprehend` that of the entries that are heard.
     ensures done { result ≡ Status.Done → IsWrittenBehind (words_of words.now) (F.held shelf.old)
         (λ text. O.taken sink.new ≡ appended (O.taken sink.old) text) }
     ensures complete { IsTold (words_of words.now) (F.held shelf.old) ready
@@ -140,22 +157,25 @@ pub fn run<F: Shelf, O: Sink>(
         → result ≡ Status.GrammarRefused word line cause
         → (word ≡ 1) × IsBehind (words_of words.now) (F.held shelf.old) (no_grammar line cause) }
     ensures form_refused { (word : ℕ) (cause : FormErr) → result ≡ Status.FormRefused word cause
-        → (word ≡ 2) × IsBehind (words_of words.now) (F.held shelf.old) (no_form cause) }
+        → IsBehind (words_of words.now) (F.held shelf.old) (no_form word cause) }
     ensures rows_refused { (word row : ℕ) (cause : RowsCause)
         → result ≡ Status.RowsRefused word row cause
         → (word ≡ 3) × IsBehind (words_of words.now) (F.held shelf.old) (no_rows row cause) }
+    ensures lexicon_refused { (word : ℕ) (cause : LexErr)
+        → result ≡ Status.LexiconRefused word cause
+        → (word ≡ 2) × IsBehind (words_of words.now) (F.held shelf.old) (no_lexicon cause) }
     ensures budget { (entry stage : ℕ) → result ≡ Status.Budget entry stage
-        → (entry ≡ 0) × IsBehind (words_of words.now) (F.held shelf.old) (over_budget stage) }
+        → IsBehind (words_of words.now) (F.held shelf.old) (over_budget entry stage) }
     ensures write_fault { result ≡ Status.WriteFault
         → IsBehind (words_of words.now) (F.held shelf.old) ready
         × Rose (O.faults sink.old) (O.faults sink.new) }
 
-    // Where the shelf tells enough of its files, each cause has its refusal.
+    // If the shelf tells enough of its files, each cause has its refusal.
     ensures due { (finding : Finding) → finding ≢ ready
         → IsTold (words_of words.now) (F.held shelf.old) finding
         → Stands (answer_to finding) result }
 
-    // What was written where not all was done.
+    // What was written if not everything was done.
     ensures untouched { IsBeforeWriting result → O.taken sink.new ≡ O.taken sink.old }
     ensures begun { result ≡ Status.WriteFault
         → IsWrittenBehind (words_of words.now) (F.held shelf.old)
@@ -165,8 +185,8 @@ pub fn run<F: Shelf, O: Sink>(
         ⊎ IsWrittenBehind (words_of words.now) (F.held shelf.old)
         (λ text. HasSentPart (O.taken sink.old) text (O.taken sink.new)) }
 
-    // What the shelf holds stays; no count of faults falls, and only those of names that the command
-    // has change.
+    // What the shelf holds stays. No count of faults falls, and only those of files that the command
+    // names change.
     ensures held { (other : List ℕ) → F.held shelf.new other ≡ F.held shelf.old other }
     ensures never_falls { (other : List ℕ) → F.faults shelf.old other ≤ F.faults shelf.new other }
     ensures others { (other : List ℕ) → IsUnnamed (words_of words.now) other

@@ -15,7 +15,7 @@ use std::alloc::Global;
 use timeline_text::FormErr;
 use violation::vector;
 
-/// The status that the writing of a text ends with.
+/// The status with which writing a text ends.
 pub(crate) fn ended(written: Result<(), WriteErr>) -> Status
     ensures { result ≡ end_of written }
 {
@@ -35,7 +35,7 @@ pub(crate) fn canon<O: Sink>(grammar: &Grammar, sink: &mut O) -> Status
     ended(put_grammar(sink, grammar))
 }
 
-/// Counts on the timeline that a word is read as, and writes the line of the counts.
+/// Counts the violations of the timeline that a word is read as, and writes the line of the counts.
 pub(crate) fn score<O: Sink>(alloc: Global, grammar: &Grammar, word: &str, sink: &mut O) -> Status
     ensures step { IsStep (FindsForScore (value_of grammar.now) word.now)
         (IsScoreText (value_of grammar.now) word.now)
@@ -53,7 +53,7 @@ pub(crate) fn score<O: Sink>(alloc: Global, grammar: &Grammar, word: &str, sink:
     }
 }
 
-/// Generates for a grammar and a form, and writes the answer.
+/// Generates the answer for a grammar and a form's word, and writes it.
 pub(crate) fn generate<O: Sink>(
     alloc: Global,
     grammar: &Grammar,
@@ -78,7 +78,7 @@ pub(crate) fn generate<O: Sink>(
     }
 }
 
-/// Generates for a grammar and a form, and writes the counts and the example of the answer.
+/// Generates the answer for a grammar and a form's word, and writes its counts and its example.
 pub(crate) fn show<O: Sink>(
     alloc: Global,
     grammar: &Grammar,

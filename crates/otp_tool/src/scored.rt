@@ -6,10 +6,10 @@ use std::alloc::Global;
 use tier_core::Timeline;
 use timeline_text::{FormErr, read_timeline};
 
-/// How many columns a timeline may have that is scored.
+/// How many columns a timeline that is scored may have.
 const SCORED_LIMIT: usize = 4096;
 
-/// Reads the word of a timeline over all tiers of the grammar.
+/// Reads a word as a timeline over all tiers of the grammar.
 pub(crate) fn read_scored(
     alloc: Global,
     grammar: &Grammar,

@@ -6,7 +6,8 @@ use outside::{LoadErr, Shelf};
 use status_lines::Status;
 use std::alloc::Global;
 
-/// Loads the file that this word names beside the grammar, of at most so many bytes.
+/// Loads the second file of a command, which the word of this number names. The file may have at most
+/// `limit` bytes.
 pub(crate) fn load_second<F: Shelf>(
     alloc: Global,
     shelf: &mut F,

@@ -5,16 +5,19 @@ use Rattle.timeline_text.specs.declared.form_err.FormErr.{FormErr}
 use Rattle.timeline_text.specs.declared.form_err.FormErr.TheVariants.{BadSymbol, WrongWidth, TooLong as TooManyColumns, NotWellFormed, NotReduced, UnknownLetter, NoMemory as NoMemoryForForm}
 use Rattle.grammar_reader.specs.declared.grammar_err.GrammarCause.{GrammarCause}
 use Rattle.grammar_reader.specs.declared.grammar_err.GrammarCause.TheVariants.{BadByte, BadHeader, BadLine, BadName, TwiceNamed, UnknownTier, NotInput, TooManyTiers, TooManyConstraints, TooManyEvents, NoInput, NoOvert}
+use Rattle.lexicon.specs.declared.lex_err.LexErr.{LexErr}
+use Rattle.lexicon.specs.declared.lex_err.LexErr.TheVariants.{NotToml, TooMany as TooManyEntries, BadEntry, TwiceNamed as NamedTwice, BadForm, NoMemory as NoMemoryForLexicon}
 use Rattle.tableau.specs.declared.rows_err.RowsCause.{RowsCause}
 use Rattle.tableau.specs.declared.rows_err.RowsCause.TheVariants.{Form, NotCandidate, TooMany}
 use Rattle.status_lines.specs.declared.status.Status.{Status}
-use Rattle.status_lines.specs.declared.status.Status.TheVariants.{Done, Usage, GrammarRefused, FormRefused, Budget, ReadFault, WriteFault, NoMemory, RowsRefused, TooLong}
+use Rattle.status_lines.specs.declared.status.Status.TheVariants.{Done, Usage, GrammarRefused, FormRefused, LexiconRefused, Budget, ReadFault, WriteFault, NoMemory, RowsRefused, TooLong}
 
 abbrev pub status_number : Status → ℕ
 status_number Done = 0
 status_number Usage = 2
 status_number (GrammarRefused word line cause) = 3
 status_number (FormRefused word cause) = 4
+status_number (LexiconRefused word cause) = 5
 status_number (Budget entry stage) = 7
 status_number (ReadFault word) = 8
 status_number WriteFault = 9
@@ -53,6 +56,15 @@ rows_cause_text (Form cause) = form_cause_text cause
 rows_cause_text NotCandidate = codes "NotCandidate"
 rows_cause_text TooMany = codes "TooMany"
 
+-- the cause of a lexicon is its name, the number of its entry, and the cause of the entry's form
+abbrev pub lexicon_cause_text : LexErr → List ℕ
+lexicon_cause_text NotToml = codes "NotToml"
+lexicon_cause_text TooManyEntries = codes "TooMany"
+lexicon_cause_text (BadEntry index) = codes "BadEntry " ++ decimal index
+lexicon_cause_text (NamedTwice index) = codes "TwiceNamed " ++ decimal index
+lexicon_cause_text (BadForm index cause) = ((codes "BadForm " ++ decimal index) ++ codes " ") ++ form_cause_text cause
+lexicon_cause_text NoMemoryForLexicon = codes "NoMemory"
+
 -- the line of a status; where all is done there is none
 abbrev pub status_text : Status → List ℕ
 status_text Done = []
@@ -62,6 +74,8 @@ status_text (GrammarRefused word line cause) =
     ++ (((codes " line " ++ decimal line) ++ codes ": ") ++ (grammar_cause_text cause ++ codes "\n"))
 status_text (FormRefused word cause) =
     ((codes "form word " ++ decimal word) ++ codes ": ") ++ (form_cause_text cause ++ codes "\n")
+status_text (LexiconRefused word cause) =
+    ((codes "lexicon word " ++ decimal word) ++ codes ": ") ++ (lexicon_cause_text cause ++ codes "\n")
 status_text (Budget entry stage) =
     (codes "budget entry " ++ decimal entry) ++ ((codes " stage " ++ decimal stage) ++ codes "\n")
 status_text (ReadFault word) = (codes "read fault word " ++ decimal word) ++ codes "\n"

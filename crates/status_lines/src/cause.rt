@@ -1,8 +1,10 @@
 ghost use Rattle.std.specs.Prelude.{◌≡◌, ◌++◌, codes};
 ghost use Rattle.outside.specs.Writers.{Pushes};
-ghost use Rattle.status_lines.specs.Lines.{form_cause_text, grammar_cause_text, rows_cause_text};
+ghost use Rattle.status_lines.specs.Lines.{form_cause_text, grammar_cause_text, lexicon_cause_text, rows_cause_text};
 
+use crate::number::push_worded;
 use grammar_reader::GrammarCause;
+use lexicon::LexErr;
 use outside::{OutBuffer, Sink, WriteErr, push_number};
 use tableau::RowsCause;
 use timeline_text::FormErr;
@@ -83,5 +85,38 @@ pub(crate) fn push_rows_cause<O: Sink>(
         RowsCause::Form(cause) => push_form_cause(out, sink, cause),
         RowsCause::NotCandidate => out.push(sink, b"NotCandidate\n"),
         RowsCause::TooMany => out.push(sink, b"TooMany\n"),
+    }
+}
+
+/// Appends the cause of an entry whose form is refused, and the end of the line.
+fn push_bad_form<O: Sink>(
+    out: &mut OutBuffer,
+    sink: &mut O,
+    index: u32,
+    cause: FormErr,
+) -> Result<(), WriteErr>
+    ensures { Pushes O.Sink sink.old sink.new out.old out.new
+        (lexicon_cause_text (LexErr.BadForm index cause) ++ codes "\n") result }
+{
+    push_worded(out, sink, b"BadForm ", index, b" ")?;
+    push_form_cause(out, sink, cause)
+}
+
+/// Appends the cause of a lexicon, and the end of the line.
+pub(crate) fn push_lexicon_cause<O: Sink>(
+    out: &mut OutBuffer,
+    sink: &mut O,
+    cause: LexErr,
+) -> Result<(), WriteErr>
+    ensures { Pushes O.Sink sink.old sink.new out.old out.new
+        (lexicon_cause_text cause ++ codes "\n") result }
+{
+    match cause {
+        LexErr::NotToml => out.push(sink, b"NotToml\n"),
+        LexErr::TooMany => out.push(sink, b"TooMany\n"),
+        LexErr::BadEntry { index } => push_worded(out, sink, b"BadEntry ", index, b"\n"),
+        LexErr::TwiceNamed { index } => push_worded(out, sink, b"TwiceNamed ", index, b"\n"),
+        LexErr::BadForm { index, cause } => push_bad_form(out, sink, index, cause),
+        LexErr::NoMemory => out.push(sink, b"NoMemory\n"),
     }
 }

@@ -4,7 +4,7 @@ ghost use Rattle.outside.specs.Writers.{Pushes};
 
 use outside::{OutBuffer, Sink, WriteErr, push_number};
 
-/// Appends a text, a number, and a text behind it.
+/// Appends a text, a number, and a text after it.
 pub(crate) fn push_worded<O: Sink>(
     out: &mut OutBuffer,
     sink: &mut O,

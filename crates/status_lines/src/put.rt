@@ -1,15 +1,16 @@
 ghost use Rattle.outside.specs.Writers.{Puts, Pushes};
 ghost use Rattle.status_lines.specs.Lines.{status_text};
 
-use crate::cause::{push_form_cause, push_grammar_cause, push_rows_cause};
+use crate::cause::{push_form_cause, push_grammar_cause, push_lexicon_cause, push_rows_cause};
 use crate::number::push_worded;
 use crate::status::Status;
 use grammar_reader::GrammarCause;
+use lexicon::LexErr;
 use outside::{OutBuffer, Sink, WriteErr, push_number};
 use tableau::RowsCause;
 use timeline_text::FormErr;
 
-/// Appends the line of a file that is no grammar.
+/// Appends the line of a file that is not a grammar.
 fn push_grammar_refused<O: Sink>(
     out: &mut OutBuffer,
     sink: &mut O,
@@ -39,6 +40,20 @@ fn push_form_refused<O: Sink>(
     push_form_cause(out, sink, cause)
 }
 
+/// Appends the line of a file that is not a lexicon.
+fn push_lexicon_refused<O: Sink>(
+    out: &mut OutBuffer,
+    sink: &mut O,
+    word: u32,
+    cause: LexErr,
+) -> Result<(), WriteErr>
+    ensures { Pushes O.Sink sink.old sink.new out.old out.new
+        (status_text (Status.LexiconRefused word cause)) result }
+{
+    push_worded(out, sink, b"lexicon word ", word, b": ")?;
+    push_lexicon_cause(out, sink, cause)
+}
+
 /// Appends the line of a stage that has more kinds of prefix than the budget.
 fn push_budget<O: Sink>(
     out: &mut OutBuffer,
@@ -53,7 +68,7 @@ fn push_budget<O: Sink>(
     push_worded(out, sink, b" stage ", stage, b"\n")
 }
 
-/// Appends the line of a file that is no rows file.
+/// Appends the line of a file that is not a rows file.
 fn push_rows_refused<O: Sink>(
     out: &mut OutBuffer,
     sink: &mut O,
@@ -80,6 +95,7 @@ fn push_line<O: Sink>(out: &mut OutBuffer, sink: &mut O, status: &Status) -> Res
             push_grammar_refused(out, sink, word, line, cause)
         }
         Status::FormRefused { word, cause } => push_form_refused(out, sink, word, cause),
+        Status::LexiconRefused { word, cause } => push_lexicon_refused(out, sink, word, cause),
         Status::Budget { entry, stage } => push_budget(out, sink, entry, stage),
         Status::ReadFault { word } => push_worded(out, sink, b"read fault word ", word, b"\n"),
         Status::WriteFault => out.push(sink, b"write fault\n"),
@@ -91,10 +107,10 @@ fn push_line<O: Sink>(out: &mut OutBuffer, sink: &mut O, status: &Status) -> Res
     }
 }
 
-/// Writes the line of a status, which ends with a line feed. Done has no line.
+/// Writes the line of a status, which ends with a line feed. `Done` has no line.
 ///
-/// After a refusal the sink has taken a front of the line. Failed comes only where the sink's count
-/// of faults rose.
+/// If writing is refused, the sink has taken a front of the line. `Failed` occurs only if the sink's
+/// count of faults rose.
 pub fn put_status<O: Sink>(sink: &mut O, status: &Status) -> Result<(), WriteErr>
     ensures { Puts O.Sink sink.old sink.new (status_text status.now) result }
 {

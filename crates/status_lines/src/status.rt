@@ -2,29 +2,36 @@ ghost use Rattle.std.specs.Prelude.{◌≡◌};
 ghost use Rattle.status_lines.specs.Lines.{status_number};
 
 use grammar_reader::GrammarCause;
+use lexicon::LexErr;
 use tableau::RowsCause;
 use timeline_text::FormErr;
 
-/// How a command ended. `word` is the index of a word, where the command is word 0.
+/// How a command ended. `word` is the index of a word; the command itself is word 0.
 #[derive(Clone, Copy, Debug, PartialEq, Eq)]
 pub enum Status {
-    /// All was done.
+    /// Everything was done.
     Done,
-    /// The words are no command.
+    /// The words are not a command.
     Usage,
-    /// The file is no grammar: its first line with a cause, counted from 1, and the cause. The line
-    /// is 0 where the file as a whole has no input tier or no overt tier.
+    /// The file is not a grammar: its first line with a cause, counted from 1, and the cause. The
+    /// line is 0 if the file as a whole has no input tier or no overt tier.
     GrammarRefused {
         word: u32,
         line: u32,
         cause: GrammarCause,
     },
-    /// The word is no form over the input tiers of the grammar, or no timeline over all its tiers.
+    /// The word is not a form over the input tiers of the grammar, not a timeline over all its
+    /// tiers, or not a surface over its overt tiers.
     FormRefused {
         word: u32,
         cause: FormErr,
     },
-    /// A stage has more kinds of prefix than the budget: the entry of a lexicon, or 0 where there is
+    /// The file is not a lexicon.
+    LexiconRefused {
+        word: u32,
+        cause: LexErr,
+    },
+    /// A stage has more kinds of prefix than the budget: the entry of a lexicon, or 0 if there is
     /// one form, and the first such stage.
     Budget {
         entry: u32,
@@ -36,9 +43,9 @@ pub enum Status {
     },
     /// The output could not be written.
     WriteFault,
-    /// Memory was wanting.
+    /// Memory ran out.
     NoMemory,
-    /// The file is no rows file: its first line with a cause, counted from 1, and the cause.
+    /// The file is not a rows file: its first line with a cause, counted from 1, and the cause.
     RowsRefused {
         word: u32,
         row: u32,
@@ -51,7 +58,7 @@ pub enum Status {
 }
 
 impl Status {
-    /// The number that a program ends with.
+    /// The exit status of a program that ends so.
     pub fn number(&self) -> u8
         ensures { result ≡ status_number self.now }
     {
@@ -60,6 +67,7 @@ impl Status {
             Status::Usage => 2,
             Status::GrammarRefused { .. } => 3,
             Status::FormRefused { .. } => 4,
+            Status::LexiconRefused { .. } => 5,
             Status::Budget { .. } => 7,
             Status::ReadFault { .. } => 8,
             Status::WriteFault => 9,

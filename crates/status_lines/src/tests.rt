@@ -1,5 +1,6 @@
 use crate::{Status, put_status};
 use grammar_reader::GrammarCause;
+use lexicon::LexErr;
 use outside::{MemSink, SafeSink, Sink, WriteErr};
 use std::test::Fail;
 use tableau::RowsCause;
@@ -23,6 +24,10 @@ fn no_rows(cause: RowsCause) -> Status {
 
 fn no_form(cause: FormErr) -> Status {
     Status::FormRefused { word: 2, cause }
+}
+
+fn no_lexicon(cause: LexErr) -> Status {
+    Status::LexiconRefused { word: 2, cause }
 }
 
 #[test]
@@ -57,67 +62,21 @@ fn numbers_and_lines(rt: HostRuntime) -> Result<(), Fail> {
     Ok(())
 }
 
-// Causes of a grammar's lines, and of the names in them.
+// Causes of a grammar's lines, of its names and limits, and of the kinds of tiers that it must have.
 #[test]
-fn causes_of_lines_and_names(rt: HostRuntime) -> Result<(), Fail> {
+fn causes_of_a_grammar(rt: HostRuntime) -> Result<(), Fail> {
     let cases = [
         (
             no_grammar(1, GrammarCause::BadByte),
             "grammar word 1 line 1: BadByte\n",
         ),
         (
-            no_grammar(1, GrammarCause::BadHeader),
-            "grammar word 1 line 1: BadHeader\n",
-        ),
-        (
-            no_grammar(9, GrammarCause::BadLine),
-            "grammar word 1 line 9: BadLine\n",
-        ),
-        (
-            no_grammar(10, GrammarCause::BadName),
-            "grammar word 1 line 10: BadName\n",
-        ),
-        (
-            no_grammar(11, GrammarCause::TwiceNamed),
-            "grammar word 1 line 11: TwiceNamed\n",
-        ),
-        (
             no_grammar(99, GrammarCause::UnknownTier),
             "grammar word 1 line 99: UnknownTier\n",
         ),
         (
-            no_grammar(100, GrammarCause::NotInput),
-            "grammar word 1 line 100: NotInput\n",
-        ),
-    ];
-    for (status, line) in cases {
-        let mut sink = SafeSink::new(rt.alloc());
-        put_status(&mut sink, &status)?;
-        assert_eq!(rt; sink.bytes(), line.as_bytes(), "{line}");
-        assert_eq!(rt; status.number(), 3, "{line}");
-    }
-    Ok(())
-}
-
-// Causes of a grammar's limits, and of the kinds that it must have.
-#[test]
-fn causes_of_limits_and_kinds(rt: HostRuntime) -> Result<(), Fail> {
-    let cases = [
-        (
-            no_grammar(12, GrammarCause::TooManyTiers),
-            "grammar word 1 line 12: TooManyTiers\n",
-        ),
-        (
             no_grammar(65536, GrammarCause::TooManyConstraints),
             "grammar word 1 line 65536: TooManyConstraints\n",
-        ),
-        (
-            no_grammar(2, GrammarCause::TooManyEvents),
-            "grammar word 1 line 2: TooManyEvents\n",
-        ),
-        (
-            no_grammar(0, GrammarCause::NoInput),
-            "grammar word 1 line 0: NoInput\n",
         ),
         (
             no_grammar(0, GrammarCause::NoOvert),
@@ -164,6 +123,32 @@ fn each_cause_of_a_form(rt: HostRuntime) -> Result<(), Fail> {
         put_status(&mut sink, &status)?;
         assert_eq!(rt; sink.bytes(), line.as_bytes(), "{line}");
         assert_eq!(rt; status.number(), 4, "{line}");
+    }
+    Ok(())
+}
+
+#[test]
+fn causes_of_a_lexicon(rt: HostRuntime) -> Result<(), Fail> {
+    let bad_form = LexErr::BadForm {
+        index: 0,
+        cause: FormErr::NotWellFormed { tier: 0 },
+    };
+    let cases = [
+        (no_lexicon(LexErr::NotToml), "lexicon word 2: NotToml\n"),
+        (
+            no_lexicon(LexErr::TwiceNamed { index: 1 }),
+            "lexicon word 2: TwiceNamed 1\n",
+        ),
+        (
+            no_lexicon(bad_form),
+            "lexicon word 2: BadForm 0 NotWellFormed 0\n",
+        ),
+    ];
+    for (status, line) in cases {
+        let mut sink = SafeSink::new(rt.alloc());
+        put_status(&mut sink, &status)?;
+        assert_eq!(rt; sink.bytes(), line.as_bytes(), "{line}");
+        assert_eq!(rt; status.number(), 5, "{line}");
     }
     Ok(())
 }

@@ -22,7 +22,7 @@ abbrev pub is_at : Option ℕ → ℕ → Bool
 is_at None j = false
 is_at (Some worse) j = worse == j
 
--- a count, and `!` behind it at the first worse constraint
+-- a count, and `!` after it at the first worse constraint
 abbrev pub count_text : Option ℕ → ℕ → ℕ → List ℕ
 count_text worse j count = decimal count ++ (if is_at worse j then codes "!" else [])
 
@@ -65,24 +65,24 @@ column j lines = map (λ line. slice_index_or line.texts j []) lines
 abbrev pub spaces : ℕ → List ℕ
 spaces n = replicate n 32
 
--- a text left in a field, and right in one
+-- a text aligned to the left in a field, and to the right
 abbrev pub left : ℕ → List ℕ → List ℕ
 left width text = text ++ spaces (width - length text)
 
 abbrev pub right : ℕ → List ℕ → List ℕ
 right width text = spaces (width - length text) ++ text
 
--- Each text is right in the field of its column, which is as wide as the widest text in it, after
--- one space. The first text is that of column j.
+-- Each text is aligned to the right in the field of its column, which is as wide as the widest text in
+-- it, after one space. The first text is that of column j.
 abbrev pub fields : List Line → ℕ → List (List ℕ) → List ℕ
 fields lines j [] = []
 fields lines j (text ∷ texts) = codes " " ++ right (widest (column j lines)) text ++ fields lines (j + 1) texts
 
--- the mark, the first text left in its field, and the fields of the columns
+-- the mark, the first text aligned to the left in its field, and the fields of the columns
 abbrev pub line_text : List Line → Line → List ℕ
 line_text lines line = line.mark ++ left (widest (firsts lines)) line.first ++ fields lines 0 line.texts ++ codes "\n"
 
--- the text of lines, one after the other
+-- the text of lines, one after another
 abbrev pub laid_out : List Line → List ℕ
 laid_out lines = flat_map (line_text lines) lines
 

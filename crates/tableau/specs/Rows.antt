@@ -17,11 +17,11 @@ use Rattle.violation.specs.Problems.{Problem}
 abbrev pub is_blank : List ℕ → Bool
 is_blank line = list_all is_space line
 
--- the lines that are not passed over
+-- the lines that are not ignored
 abbrev pub filled : List (List ℕ) → List (List ℕ)
 filled lines = filter (λ line. not (is_blank line)) lines
 
--- The rows of lines: the lines that are not passed over are their texts, one after the other, and
+-- The rows of lines: the lines that are not ignored are their texts, one after another, and
 -- each row is a candidate of the form u with at most 4,096 columns. There are at most 32.
 pub record AreRowsOf (problem : Problem) (lines : List (List ℕ)) (rows : List (List (List Sym))) : Type 0 where
   pub texts : filled lines ≡ map text_of rows
@@ -34,21 +34,21 @@ pub record IsRowOf (problem : Problem) (line : List ℕ) (T : List (List Sym)) :
   pub text : IsTextOf problem.tiers.width 4096 line T
   pub candidate : IsCandidate problem T
 
--- a line is the text of a timeline that is no candidate
+-- a line is the text of a timeline that is not a candidate
 pub record IsOther (problem : Problem) (line : List ℕ) : Type 0 where
   pub timeline : List (List Sym)
   pub text : IsTextOf problem.tiers.width 4096 line timeline
   pub other : ¬ IsCandidate problem timeline
 
--- The first cause of a line that is not passed over, where so many rows stand before it: it is the
--- 33rd row, it is no text of a timeline, or its timeline is no candidate.
+-- The first cause of a line that is not ignored, after so many rows: it is the 33rd row, it is not the
+-- text of a timeline, or its timeline is not a candidate.
 abbrev pub IsLineCause : Problem → ℕ → List ℕ → RowsCause → Type 0
 IsLineCause problem before line TooMany = 32 ≤ before
 IsLineCause problem before line (Form cause) = (before < 32) × IsCause problem.tiers.width 4096 line cause
 IsLineCause problem before line NotCandidate = (before < 32) × IsOther problem line
 
--- The line with this number, counted from 1, is the first that has a cause: the lines in front of it
--- have rows.
+-- The line with this number, counted from 1, is the first that has a cause: the lines before it have
+-- rows.
 pub record IsRefusedAt (problem : Problem) (lines : List (List ℕ)) (number : ℕ) (cause : RowsCause) : Type 0 where
   pub front : List (List ℕ)
   pub line : List ℕ
@@ -60,7 +60,7 @@ pub record IsRefusedAt (problem : Problem) (lines : List (List ℕ)) (number : �
   pub has_row : is_blank line ≡ false
   pub comes : IsLineCause problem (length rows) line cause
 
--- what a refusal says of the lines of a text; want of memory says nothing
+-- what a refusal says of the lines of a text; that memory ran out says nothing
 abbrev pub IsTextRefusal : Problem → List (List ℕ) → RowsErr → Type 0
 IsTextRefusal problem lines (At number cause) = IsRefusedAt problem lines number cause
 IsTextRefusal problem lines NoMemory = Unit {0}

@@ -11,15 +11,15 @@ use Rattle.tableau.specs.declared.table.Tableau.{Tableau}
 use Rattle.tableau.specs.declared.table.TableauRow.{TableauRow}
 use Rattle.violation.specs.Problems.{Problem}
 
--- The constraint with this number, from 0, is the first with another count than the least, and its
+-- The constraint with this number, from 0, is the first whose count differs from the least, and its
 -- count is greater.
 pub record IsFirstWorse (least counts : List ℕ) (worse : ℕ) : Type 0 where
   pub there : worse < length least
   pub before : take worse counts ≡ take worse least
   pub greater : slice_index least worse < slice_index counts worse
 
--- A row has the violation vector of its timeline. Where the timeline is optimal it has no first worse
--- constraint, and only there.
+-- A row has the violation vector of its timeline. It has no first worse constraint exactly if the
+-- timeline is optimal.
 pub record IsTableauRow (problem : Problem) (least : List ℕ) (row : TableauRow) : Type 0 where
   pub counts : row.counts.items ≡ counts_on problem row.timeline
   pub optimal : IsNone row.worse ↔ IsOptimal problem row.timeline

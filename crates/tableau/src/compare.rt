@@ -8,7 +8,7 @@ use std::alloc::Global;
 use tier_core::{Constraint, NoMemory, Timeline};
 use violation::vector;
 
-/// The number of the first constraint, from 0, with another count than the least.
+/// The number of the first constraint, from 0, whose count differs from the least.
 fn first_other(least: &[u32], counts: &[u32]) -> Option<u32>
     requires one_length { length counts.now ≡ length least.now }
     requires few { length least.now ≤ 24 }
@@ -22,7 +22,8 @@ fn first_other(least: &[u32], counts: &[u32]) -> Option<u32>
     None
 }
 
-/// A timeline as a row, beside the least counts of its form. It fails only for want of memory.
+/// A timeline as a row, compared with the least counts of its form. It fails only if memory runs
+/// out.
 pub(crate) fn compared(
     alloc: Global,
     constraints: &[Constraint],

@@ -4,7 +4,7 @@ ghost use Rattle.std.specs.String.{string_bytes};
 use std::alloc::Global;
 use tier_core::{Constraint, NoMemory, Timeline};
 
-/// The same timeline once more. It fails only for want of memory.
+/// A copy of a timeline. It fails only if memory runs out.
 pub(crate) fn copied(alloc: Global, timeline: &Timeline) -> Result<Timeline, NoMemory>
     ensures { IfOk result (λ t. t ≡ timeline.now) }
 {
@@ -17,7 +17,7 @@ pub(crate) fn copied(alloc: Global, timeline: &Timeline) -> Result<Timeline, NoM
     Ok(copy)
 }
 
-/// The same numbers once more. It fails only for want of memory.
+/// A copy of numbers. It fails only if memory runs out.
 pub(crate) fn copied_counts(alloc: Global, counts: &[u32]) -> Result<Vec<u32>, NoMemory>
     ensures { IfOk result (λ copy. copy.items ≡ counts.now) }
 {
@@ -27,7 +27,7 @@ pub(crate) fn copied_counts(alloc: Global, counts: &[u32]) -> Result<Vec<u32>, N
     }
 }
 
-/// The names of constraints. It fails only for want of memory.
+/// The names of constraints. It fails only if memory runs out.
 pub(crate) fn names_of(alloc: Global, constraints: &[Constraint]) -> Result<Vec<String>, NoMemory>
     ensures { IfOk result
         (λ names.

@@ -20,7 +20,7 @@ fn push_spaces<O: Sink>(out: &mut OutBuffer, sink: &mut O, count: u128) -> Resul
     Ok(())
 }
 
-/// Appends a text of a timeline left in a field.
+/// Appends the text of a timeline, aligned to the left in a field.
 fn push_left<O: Sink>(
     out: &mut OutBuffer,
     sink: &mut O,
@@ -34,7 +34,7 @@ fn push_left<O: Sink>(
     push_spaces(out, sink, width.saturating_sub(text_length(timeline)))
 }
 
-/// Appends a mark, and then the text of a timeline left in a field.
+/// Appends a mark, and then the text of a timeline, aligned to the left in a field.
 pub(crate) fn push_first<O: Sink>(
     out: &mut OutBuffer,
     sink: &mut O,
@@ -49,7 +49,7 @@ pub(crate) fn push_first<O: Sink>(
     push_left(out, sink, width, timeline)
 }
 
-/// Appends the spaces in front of a text of so many bytes that is right in a field.
+/// Appends the spaces before a text of so many bytes that is aligned to the right in a field.
 fn push_margin<O: Sink>(
     out: &mut OutBuffer,
     sink: &mut O,
@@ -63,7 +63,7 @@ fn push_margin<O: Sink>(
     push_spaces(out, sink, width.saturating_sub(taken) as u128)
 }
 
-/// Appends a text right in a field, after one space.
+/// Appends a text, aligned to the right in a field, after one space.
 pub(crate) fn push_name<O: Sink>(
     out: &mut OutBuffer,
     sink: &mut O,
@@ -77,14 +77,14 @@ pub(crate) fn push_name<O: Sink>(
     out.push(sink, name)
 }
 
-/// What stands behind a count.
+/// What follows a count.
 fn sign(worse: Option<u32>, place: usize) -> &'static [u8]
     ensures { result.now ≡ (if is_at worse place then codes "!" else []) }
 {
     if is_at(worse, place) { b"!" } else { b"" }
 }
 
-/// Appends a count, and `!` behind it where it is at the first worse constraint.
+/// Appends a count, and `!` after it if it is at the first worse constraint.
 fn push_signed<O: Sink>(
     out: &mut OutBuffer,
     sink: &mut O,
@@ -99,7 +99,7 @@ fn push_signed<O: Sink>(
     out.push(sink, sign(worse, place))
 }
 
-/// Appends a count right in the field of its column, after one space.
+/// Appends a count, aligned to the right in the field of its column, after one space.
 pub(crate) fn push_count<O: Sink>(
     out: &mut OutBuffer,
     sink: &mut O,

@@ -41,7 +41,7 @@ pub(crate) fn count_length(worse: Option<u32>, place: usize, count: u32) -> usiz
     }
 }
 
-/// How many bytes a row has in a column, which are none beyond its counts.
+/// How many bytes a row has in a column: none if the column is beyond its counts.
 #[tactic(auto, using(crate::proofs::LengthLemmas::count_text_at, crate::proofs::LengthLemmas::no_text_at))]
 pub(crate) fn row_length(row: &TableauRow, place: usize) -> usize
     ensures { result
@@ -55,7 +55,7 @@ pub(crate) fn row_length(row: &TableauRow, place: usize) -> usize
     }
 }
 
-/// How many bytes the name of a column has, which are none beyond the names.
+/// How many bytes the name of a column has: none if the column is beyond the names.
 pub(crate) fn name_length(names: &[String], place: usize) -> usize
     ensures { result ≡ length (slice_index_or (map string_bytes names.now) place []) }
 {

@@ -1,12 +1,12 @@
-//! Tableaux: rows files, the rows of a tableau beside the least counts, and the text of a tableau.
+//! Tableaux: rows files, rows that are compared with the least counts, and the text of a tableau.
 //!
 //! A rows file has a candidate of the form on each line, and is read by [`read_rows`]. From a right
 //! answer and such rows [`tableau`] makes the tableau: the example and then the rows, each with its
 //! violation vector and the first constraint at which it is worse than the least. [`put_tableau`]
-//! writes it. The command `tableau` of the program calls the three, one after the other.
+//! writes it. The command `tableau` of the program calls these three, one after another.
 //!
-//! The definitions of `specs/` are the rows of a text and its first cause (`Rows`), what a tableau
-//! of a form has (`Tableaux`), and its text field by field (`Layout`).
+//! The definitions in `specs/` say which rows a text has and what its first cause is (`Rows`), what
+//! a tableau of a form contains (`Tableaux`), and what its text is, field by field (`Layout`).
 #![tactic(auto)]
 
 mod compare;

@@ -9,7 +9,7 @@ pub(crate) fn is_blank(line: &[u8]) -> bool
     line.iter().all(|b| *b == b' ')
 }
 
-/// What stands before a line feed, without the carriage return at its end.
+/// What comes before a line feed, without the carriage return at its end.
 fn without_return(line: &[u8]) -> &[u8]
     ensures { result.now ≡ strip_carriage_return line.now }
 {
@@ -27,7 +27,7 @@ fn line_feed(bytes: &[u8]) -> Option<usize>
     bytes.iter().position(|b| *b == b'\n')
 }
 
-/// The first line of bytes that are not empty, and the bytes behind it.
+/// The first line of bytes that are not empty, and the bytes after it.
 pub(crate) fn cut_line(bytes: &[u8]) -> (&[u8], &[u8])
     requires { 0 < length bytes.now }
     ensures cut { lines bytes.now ≡ result.0.now ∷ lines result.1.now }

@@ -64,7 +64,7 @@ fn rows_of(
 
 /// The tableau of a right answer and candidates of its form: the example is the first row, and then
 /// each candidate has one, with its counts and the first constraint at which it is worse than the
-/// least. Each candidate has at most 65,536 columns. It fails only for want of memory.
+/// least. Each candidate has at most 65,536 columns. It fails only if memory runs out.
 pub fn tableau(
     alloc: Global,
     grammar: &Grammar,

@@ -9,7 +9,7 @@ use crate::table::{Tableau, TableauRow};
 use crate::widths::{column_width, first_width};
 use outside::{OutBuffer, Sink, WriteErr};
 
-/// What stands before a row.
+/// What comes before a row.
 fn mark_of(worse: Option<u32>) -> &'static [u8]
     ensures { result.now ≡ mark_of worse }
 {
@@ -111,16 +111,16 @@ fn push_lines<O: Sink>(out: &mut OutBuffer, sink: &mut O, tableau: &Tableau) -> 
     push_rows(out, sink, tableau, width, &tableau.rows)
 }
 
-/// Writes the text of a tableau. It takes no memory but what the sink takes in its writes, so the
-/// width of a column, which has a text in each line, is found again for each of these texts.
+/// Writes the text of a tableau. It allocates nothing except what the sink allocates in its writes,
+/// so the width of a column, which has a text in each line, is found again for each of these texts.
 ///
 /// The first line has the form and the names of the constraints, and each further line a row: `> `
-/// where the row is optimal, its timeline, and its counts, with `!` behind the one at the first worse
-/// constraint. The first texts stand left in a field, and the others right in the field of their
-/// column, after one space.
+/// if the row is optimal, its timeline, and its counts, with `!` after the one at the first worse
+/// constraint. The first texts are aligned to the left in a field, and the others to the right in
+/// the field of their column, after one space.
 ///
-/// After a refusal the sink has taken a front of the text. Failed comes only where the sink's count
-/// of faults rose.
+/// After an error the sink has taken a prefix of the text. `Failed` is returned only if the sink's
+/// count of faults rose.
 pub fn put_tableau<O: Sink>(sink: &mut O, tableau: &Tableau) -> Result<(), WriteErr>
     ensures { Puts O.Sink sink.old sink.new (tableau_text tableau.now) result }
 {

@@ -11,10 +11,10 @@ use tier_core::Timeline;
 use timeline_text::{FormErr, read_timeline};
 use violation::is_candidate;
 
-/// How many rows a text has at most.
+/// How many rows a text may have.
 const MOST_ROWS: usize = 32;
 
-/// How many columns a row has at most.
+/// How many columns a row may have.
 const MOST_COLUMNS: usize = 4096;
 
 /// Whether a timeline is a candidate of a form over the tiers of a grammar.
@@ -26,7 +26,7 @@ fn is_row(grammar: &Grammar, form: &Timeline, timeline: &Timeline) -> bool
     is_candidate(&grammar.tiers, form, timeline)
 }
 
-/// Reads a line that is not blank, with this number, where so many rows stand before it.
+/// Reads a line that is not blank, with this number, after so many rows.
 fn read_row(
     alloc: Global,
     grammar: &Grammar,

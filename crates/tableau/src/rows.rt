@@ -15,15 +15,15 @@ use tier_core::Timeline;
 /// a candidate of the form, over the tiers of the grammar and with at most 4,096 columns.
 ///
 /// A line ends at a line feed or at the end of the text, and a carriage return before the line feed
-/// is dropped. Lines that are empty or have only spaces are passed over, and are counted. The first
+/// is dropped. Lines that are empty or have only spaces are ignored, but counted. The first
 /// line that has a cause gives it, with its number from 1. On one line the causes are tried in this
 /// order.
 ///
 /// - `TooMany`: this is the 33rd row.
-/// - `Form`: the line is no text of such a timeline; the cause of `read_timeline`.
-/// - `NotCandidate`: the timeline is no candidate of the form.
+/// - `Form`: the line is not the text of such a timeline; the cause of `read_timeline`.
+/// - `NotCandidate`: the timeline is not a candidate of the form.
 ///
-/// `NoMemory` may come in place of any answer.
+/// `NoMemory` may occur in place of any answer.
 pub fn read_rows(
     alloc: Global,
     grammar: &Grammar,

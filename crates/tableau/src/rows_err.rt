@@ -8,12 +8,12 @@ use timeline_text::FormErr;
 /// `NotCandidate`.
 #[derive(Clone, Copy, Debug, PartialEq, Eq, Error)]
 pub enum RowsCause {
-    /// The line is no text of a timeline of at most 4,096 columns, for this cause, which is never
-    /// `NoMemory`.
+    /// The line is not the text of a timeline of at most 4,096 columns, for this cause, which is
+    /// never `NoMemory`.
     #[error("{0}")]
     Form(FormErr),
-    /// The timeline is no candidate of the form.
-    #[error("the row is no candidate of the form")]
+    /// The timeline is not a candidate of the form.
+    #[error("the row is not a candidate of the form")]
     NotCandidate,
     /// This is the 33rd row.
     #[error("there are too many rows")]
@@ -26,7 +26,7 @@ pub enum RowsErr {
     /// The first line that has a cause, counted from 1, and its first cause.
     #[error("row {row}: {cause}")]
     At { row: u32, cause: RowsCause },
-    /// Memory was wanting.
+    /// Memory ran out.
     #[error("out of memory")]
     NoMemory,
 }

@@ -2,8 +2,8 @@ use tier_core::Timeline;
 
 /// A candidate in a tableau.
 ///
-/// `counts` has its violations of each constraint in ranked order. `worse` is the number, from 0, of
-/// the first constraint at which they are more than the least, and None where the candidate is
+/// `counts` has its violations of each constraint in ranked order. `worse` is the number, from 0,
+/// of the first constraint at which they are more than the least, and `None` if the candidate is
 /// optimal.
 #[derive(Drop)]
 pub struct TableauRow {
@@ -12,7 +12,7 @@ pub struct TableauRow {
     pub worse: Option<u32>,
 }
 
-/// A form, the names of the constraints in ranked order, and candidates of the form beside them. The
+/// A form, the names of the constraints in ranked order, and rows with candidates of the form. The
 /// first row is the example of an answer.
 #[derive(Drop)]
 pub struct Tableau {

@@ -5,8 +5,8 @@ use Rattle.tier_core.specs.declared.sym.Sym.{Sym}
 use Rattle.violation.specs.Problems.{Problem, asked}
 use Rattle.lexicon.specs.declared.entry.Entry.{Entry}
 use Rattle.comprehend.specs.declared.comp_err.CompErr.TheVariants.{Budget}
-use Rattle.comprehend.specs.Hears.{forms_of, AreEntriesWithin, IsFirstEntryOver}
-use Rattle.comprehend.proofs.Hits.{form_at, hears_nothing, hears_next, within_more, over_here}
+use Rattle.comprehend.specs.Hears.{forms_of, Hears, AreEntriesWithin, IsFirstEntryOver}
+use Rattle.comprehend.proofs.Hits.{form_at, hears_nothing, hears_next, hits_inside, within_more, over_here}
 use Rattle.comprehend.proofs.hearing.comprehend.Goals as goal
 
 pub loop-index-init : goal.loop-index-init
@@ -58,3 +58,16 @@ returns-clause-within c =
       c.loop-index-test.false,
       length-map c.args.lexicon.now (λ (e : Entry). e.form),
     ))) c.loop-index.invariant.within
+
+pub returns-clause-entries : goal.returns-clause-entries
+returns-clause-entries c =
+    let ask : List (List Sym) → Problem = asked c.args.grammar.now.tiers c.args.grammar.now.constraints.items in
+    let forms = forms_of c.args.lexicon.now in
+    let hits = c.loop-index.hits.items in
+    let P : List (List (List Sym)) → Type 0 = λ xs. Hears ask xs c.args.surface.now hits in
+    hits_inside ask c.args.lexicon.now c.args.surface.now hits (subst P (take_all c.loop-index.index forms
+    (omega (
+      arith,
+      c.loop-index-test.false,
+      length-map c.args.lexicon.now (λ (e : Entry). e.form),
+    ))) c.loop-index.invariant.hears)

@@ -1,4 +1,4 @@
-use Rattle.std.proofs.Common.{◌≢◌, ℕ, List, length, refl, subst, rules}
+use Rattle.std.proofs.Common.{◌≢◌, ℕ, List, length, subst, rules}
 use Rattle.tier_core.specs.Tables.{tiers_of_table}
 use Rattle.timeline_text.specs.declared.form_err.FormErr.TheVariants.{NoMemory}
 use Rattle.form_reader.specs.Forms.{IsReadAs, IsRefusedFor}
@@ -13,9 +13,7 @@ returns-in-Ok-clause-ok c =
 
 pub returns-in-Err-clause-err : goal.returns-in-Err-clause-err
 returns-in-Err-clause-err c =
-    let other : c.in-Err.cause ≢ NoMemory = search rules in (
-      refl,
-      refused_for c.args.grammar.now c.args.word.now c.in-Err.cause
-          (subst (λ (w : List ℕ). IsRefusedFor (length (tiers_of_table c.args.grammar.now.tiers).input)
-          c.args.grammar.now.letters.items w c.in-Err.cause) c.as_bytes.ensures.value (c.in-Err.ensures.err other)),
-    )
+    let other : c.in-Err.cause ≢ NoMemory = search rules in
+    refused_for c.args.grammar.now c.args.word.now c.in-Err.cause
+    (subst (λ (w : List ℕ). IsRefusedFor (length (tiers_of_table c.args.grammar.now.tiers).input)
+    c.args.grammar.now.letters.items w c.in-Err.cause) c.as_bytes.ensures.value (c.in-Err.ensures.err other))

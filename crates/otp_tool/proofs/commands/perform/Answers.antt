@@ -33,3 +33,17 @@ returns-in-Tableau-clause-work g c =
     subst (λ (k : Command). IsWorkOf (command_seen k) (value_of c.args.grammar.now) change c.tabulate.result)
     (sym c.in-Tableau.is)
     c.tabulate.ensures.work
+
+pub returns-in-Once-clause-work : goal.returns-in-Once-clause-work
+returns-in-Once-clause-work g c =
+    let change = change_of g.F.Shelf g.O.Sink c.args.shelf.now c.args.shelf.now c.args.sink.now c.once.new.sink in
+    subst (λ (k : Command). IsWorkOf (command_seen k) (value_of c.args.grammar.now) change c.once.result)
+    (sym c.in-Once.is)
+    (inr (record { bytes = []; holds = tt; step = c.once.ensures.step }))
+
+pub returns-in-Comprehend-clause-work : goal.returns-in-Comprehend-clause-work
+returns-in-Comprehend-clause-work g c =
+    let change = change_of g.F.Shelf g.O.Sink c.args.shelf.now c.listen.new.shelf c.args.sink.now c.listen.new.sink in
+    subst (λ (k : Command). IsWorkOf (command_seen k) (value_of c.args.grammar.now) change c.listen.result)
+    (sym c.in-Comprehend.is)
+    c.listen.ensures.work

@@ -18,7 +18,7 @@ returns-in-Err g c =
     (length c.args.grammar.now.tiers.kinds.items) w c.in-Err.cause) c.as_bytes.ensures.value
     (c.in-Err.ensures.err other) in
     record {
-      step = inl ((refl, not_scored c.args.grammar.now c.args.word.now c.in-Err.cause refused), refl);
+      step = inl (not_scored c.args.grammar.now c.args.word.now c.in-Err.cause refused, refl);
       never_falls = omega arith;
     }
 

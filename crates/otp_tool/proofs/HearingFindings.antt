@@ -1,0 +1,174 @@
+-- `comprehend` finds one thing in its grammar and its lexicon file.
+use Rattle.std.proofs.Common.{◌≡◌, ◌⊎◌, inl, inr, ℕ, ◌<◌, List, length, Option, Some, refl, ap, sym, ◌∙◌, subst}
+use Rattle.std.specs.Prelude.{slice_get}
+use Rattle.tier_core.specs.declared.sym.Sym.{Sym}
+use Rattle.timeline_text.specs.declared.form_err.FormErr.{FormErr}
+use Rattle.timeline_text.proofs.Deciding.{not_both as surface_and_refused}
+use Rattle.grammar_reader.specs.Values.{GrammarValue}
+use Rattle.form_reader.proofs.ReadingLemmas.{one_cause}
+use Rattle.lexicon.specs.declared.lex_err.LexErr.{LexErr}
+use Rattle.lexicon.specs.Entries.{LexicalEntry}
+use Rattle.lexicon.proofs.LexiconLemmas.{not_both as lexicon_and_refused, one_cause as one_lexicon_cause, one_lexicon}
+use Rattle.ranked_gen.specs.Budgets.{IsFirstOver}
+use Rattle.comprehend.specs.Hears.{AreEntriesWithin, IsFirstEntryOver}
+use Rattle.violation.specs.Problems.{Problem}
+use Rattle.otp_tool.specs.Grammars.{AreAsked, input_count, overt_count}
+use Rattle.otp_tool.specs.Lexicons.{HasSurfaceWord, IsLexiconFile, IsNoLexiconFile, IsNoSurface, OnLexicon, forms_in}
+use Rattle.otp_tool.specs.Findings.{Finding, FindsForHearing, long_file, no_grammar, no_form, long_second, no_rows, no_lexicon, over_budget, ready}
+use Rattle.otp_tool.specs.Steps.{IsOf, RefusesSurface}
+use Rattle.otp_tool.proofs.AnswerFindings.{one_stage, over_within}
+use Rattle.otp_tool.proofs.Choices.{equal_where, one_choice, one_of, too_long}
+use Rattle.otp_tool.proofs.ConstraintLemmas.{AreAlike, all_within_alike, first_over_alike}
+
+-- ---- entries over the budget
+
+module _ (forms : List (List (List Sym))) (budget : ℕ) where
+  abbrev OverAt : (List (List Sym) → Problem) → ℕ × ℕ → Type 0
+  OverAt ask at = IsFirstEntryOver ask forms budget at.0 at.1
+
+  same_form : (i : ℕ) (u v : List (List Sym)) → slice_get forms i ≡ Some u → slice_get forms i ≡ Some v → u ≡ v
+  same_form i u v a b = let e = sym a ∙ b in cc e
+
+  entry_over_within : (ask : List (List Sym) → Problem) (at : ℕ × ℕ) → OverAt ask at → AreEntriesWithin ask forms budget
+      → ⊥
+  entry_over_within ask at o w = over_within (ask o.form) budget at.1 o.over (w at.0 o.form o.numbered)
+
+  -- no earlier entry is over the budget
+  not_before : (ask : List (List Sym) → Problem) (at other : ℕ × ℕ) → OverAt ask at → OverAt ask other
+      → at.0 < other.0 → ⊥
+  not_before ask at other o p l =
+      over_within (ask o.form) budget at.1 o.over (p.before at.0 o.form l o.numbered)
+
+  one_entry : (ask : List (List Sym) → Problem) (at other : ℕ × ℕ) → OverAt ask at → OverAt ask other
+      → over_budget at.0 at.1 ≡ over_budget other.0 other.1
+  one_entry ask at other o p =
+      let same : at.0 ≡ other.0 =
+      equal_where at.0 other.0 (not_before ask at other o p) (not_before ask other at p o) in
+      let here : slice_get forms other.0 ≡ Some o.form = ap (slice_get forms) (sym same) ∙ o.numbered in
+      let form : p.form ≡ o.form = same_form other.0 p.form o.form p.numbered here in
+      let over = subst (λ u. IsFirstOver (ask u) budget other.1) form p.over in
+      ap (λ i. over_budget i at.1) same
+      ∙ ap (over_budget other.0) (one_stage (ask o.form) budget at.1 other.1 o.over over)
+
+-- ---- problems that are asked by one grammar
+
+module _ (g : GrammarValue) (forms : List (List (List Sym))) (budget : ℕ) (ask another : List (List Sym)
+    → Problem) (a : AreAsked g ask) (b : AreAsked g another) where
+  alike : (u : List (List Sym)) → AreAlike (ask u) (another u)
+  alike u = record {
+    tiers = a.tiers u ∙ sym (b.tiers u);
+    constraints = a.constraints u ∙ sym (b.constraints u);
+    form = a.form u ∙ sym (b.form u);
+  }
+
+  over_by_another : (at : ℕ × ℕ) → OverAt forms budget ask at → OverAt forms budget another at
+  over_by_another at o = record {
+    form = o.form;
+    numbered = o.numbered;
+    over = first_over_alike budget at.1 (ask o.form) (another o.form) (alike o.form) o.over;
+    before = λ i u l n. all_within_alike budget (ask u) (another u) (alike u) (o.before i u l n);
+  }
+
+-- ---- in `comprehend`
+
+module _ (g : GrammarValue) (word : List ℕ) (budget : ℕ) (bytes : List ℕ) where
+  abbrev Long : Finding → Type 0
+  Long x = (x ≡ long_second 2) × (HasSurfaceWord g word × (4194304 < length bytes))
+
+  abbrev IsRefusedLexicon : LexErr → Type 0
+  IsRefusedLexicon cause = HasSurfaceWord g word × IsNoLexiconFile g bytes cause
+
+  abbrev NoLexicon : Finding → Type 0
+  NoLexicon = IsOf no_lexicon IsRefusedLexicon
+
+  abbrev IsEntryOver : ℕ × ℕ → Type 0
+  IsEntryOver at = OnLexicon (λ ask entries s. OverAt (forms_in entries) budget ask at) g word bytes
+
+  abbrev Over : Finding → Type 0
+  Over = IsOf (λ (at : ℕ × ℕ). over_budget at.0 at.1) IsEntryOver
+
+  abbrev AreWithin : Type 0
+  AreWithin = OnLexicon (λ ask entries s. AreEntriesWithin ask (forms_in entries) budget) g word bytes
+
+  abbrev Within : Finding → Type 0
+  Within x = (x ≡ ready) × AreWithin
+
+  abbrev WithLexicon : Finding → Type 0
+  WithLexicon x = Over x ⊎ Within x
+
+  abbrev NotLong : Finding → Type 0
+  NotLong x = NoLexicon x ⊎ WithLexicon x
+
+  steps : (x : Finding) → FindsForHearing g word budget bytes x → RefusesSurface g word x ⊎ (Long x ⊎ NotLong x)
+  steps long_file f = absurd f
+  steps (no_grammar line cause) f = absurd f
+  steps (no_form number cause) f = inl (record { value = cause; is = ap (λ n. no_form n cause) f.0; fact = f.1 })
+  steps (long_second number) f = inr (inl (ap long_second f.0, f.1))
+  steps (no_rows row cause) f = absurd f
+  steps (no_lexicon cause) f = inr (inr (inl (record { value = cause; is = refl; fact = f })))
+  steps (over_budget entry stage) f = inr (inr (inr (inl (record { value = (entry, stage); is = refl; fact = f }))))
+  steps ready f = inr (inr (inr (inr (refl, f))))
+
+  one_surface_refusal : (x y : Finding) → RefusesSurface g word x → RefusesSurface g word y → x ≡ y
+  one_surface_refusal =
+      one_of (no_form 3) (IsNoSurface g word) (λ e f c d. ap (no_form 3) (one_cause (overt_count g) 64 word e f c d))
+
+  surface_apart : (x : Finding) → RefusesSurface g word x → HasSurfaceWord g word → ⊥
+  surface_apart x r s = surface_and_refused (overt_count g) 64 word s.0 r.value s.1 r.fact
+
+  -- the word is a surface, and the file a lexicon
+  has_surface : (x : Finding) → WithLexicon x → HasSurfaceWord g word
+  has_surface x (inl o) = (o.fact.surface, o.fact.read)
+  has_surface x (inr i) = (i.1.surface, i.1.read)
+
+  has_entries : (x : Finding) → WithLexicon x → (entries : List LexicalEntry) × IsLexiconFile g bytes entries
+  has_entries x (inl o) = (o.fact.entries, o.fact.file)
+  has_entries x (inr i) = (i.1.entries, i.1.file)
+
+  refused_apart : (x y : Finding) → RefusesSurface g word x → Long y ⊎ NotLong y → ⊥
+  refused_apart x y r (inl l) = surface_apart x r l.1.0
+  refused_apart x y r (inr (inl n)) = surface_apart x r n.fact.0
+  refused_apart x y r (inr (inr w)) = surface_apart x r (has_surface y w)
+
+  long_apart : (x y : Finding) → Long x → NotLong y → ⊥
+  long_apart x y l (inl n) = too_long 4194304 (length bytes) l.1.1 n.fact.1.within
+  long_apart x y l (inr w) = too_long 4194304 (length bytes) l.1.1 (has_entries y w).1.within
+
+  no_lexicon_apart : (x y : Finding) → NoLexicon x → WithLexicon y → ⊥
+  no_lexicon_apart x y n w =
+      let e = has_entries y w in
+      lexicon_and_refused (input_count g) g.letters bytes e.0 n.value e.1.are n.fact.1.refused
+
+  one_no_lexicon : (x y : Finding) → NoLexicon x → NoLexicon y → x ≡ y
+  one_no_lexicon =
+      one_of no_lexicon IsRefusedLexicon
+      (λ e f c d. ap no_lexicon (one_lexicon_cause (input_count g) g.letters bytes e f c.1.refused d.1.refused))
+
+  -- an entry that is over the budget by another reading of the grammar and the file
+  over_in : (at : ℕ × ℕ) (o : IsEntryOver at) (entries : List LexicalEntry) (ask : List (List Sym) → Problem)
+      → IsLexiconFile g bytes entries → AreAsked g ask → OverAt (forms_in entries) budget ask at
+  over_in at o entries ask file a =
+      let same : o.entries ≡ entries =
+      one_lexicon (input_count g) g.letters bytes o.entries entries o.file.are file.are in
+      subst (λ (es : List LexicalEntry). OverAt (forms_in es) budget ask at) same
+      (over_by_another g (forms_in o.entries) budget o.ask ask o.are_asked a at o.fact)
+
+  over_apart : (x y : Finding) → Over x → Within y → ⊥
+  over_apart x y o i =
+      entry_over_within (forms_in i.1.entries) budget i.1.ask o.value
+      (over_in o.value o.fact i.1.entries i.1.ask i.1.file i.1.are_asked) i.1.fact
+
+  one_over : (x y : Finding) → Over x → Over y → x ≡ y
+  one_over =
+      one_of (λ (at : ℕ × ℕ). over_budget at.0 at.1) IsEntryOver
+      (λ at other o p. one_entry (forms_in p.entries) budget p.ask at other
+      (over_in at o p.entries p.ask p.file p.are_asked) p.fact)
+
+  pub for_hearing : (x y : Finding) → FindsForHearing g word budget bytes x → FindsForHearing g word budget bytes y
+      → x ≡ y
+  for_hearing x y a b =
+      one_choice (RefusesSurface g word) (λ z. Long z ⊎ NotLong z) one_surface_refusal refused_apart
+      (one_choice Long NotLong (λ v w l m. l.0 ∙ sym m.0) long_apart
+      (one_choice NoLexicon WithLexicon one_no_lexicon no_lexicon_apart
+      (one_choice Over Within one_over over_apart (λ v w i j. i.0 ∙ sym j.0))))
+      x y (steps x a) (steps y b)

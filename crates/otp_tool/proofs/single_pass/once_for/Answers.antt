@@ -1,0 +1,9 @@
+use Rattle.std.proofs.Common.{refl, rules}
+use Rattle.otp_tool.proofs.single_pass.once_for.Goals as goal
+
+pub returns-in-Err-Budget-clause-err : goal.returns-in-Err-Budget-clause-err
+returns-in-Err-Budget-clause-err c = record {
+  value = c.in-Err-Budget.stage;
+  is = refl;
+  fact = c.generate_once.ensures.over c.in-Err-Budget.stage (search rules);
+}

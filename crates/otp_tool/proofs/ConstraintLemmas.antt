@@ -148,12 +148,12 @@ module _ (budget : ℕ) where
 
   pub all_within_alike : (p q : Problem) → AreAlike p q → AreAllWithin p budget → AreAllWithin q budget
   all_within_alike = by_constraints (λ problem. AreAllWithin problem budget) (λ problem cs ds alike w r l.
-    within_alike problem budget cs ds alike r (w r (subst (λ n. r ≤ n) (sym (same_length problem cs ds alike)) l)))
+      within_alike problem budget cs ds alike r (w r (subst (λ n. r ≤ n) (sym (same_length problem cs ds alike)) l)))
 
   whole_kind_alike : (k : PrefixKind) (p q : Problem) → AreAlike p q → IsWholeKind p k → IsWholeKind q k
   whole_kind_alike k = by_constraints (λ problem. IsWholeKind problem k) (λ problem cs ds alike w.
-    subst (λ n. IsPassed (with_constraints problem ds) 0 n k) (same_length problem cs ds alike)
-    (passed_alike problem cs ds alike 0 (length cs) k w))
+      subst (λ n. IsPassed (with_constraints problem ds) 0 n k) (same_length problem cs ds alike)
+      (passed_alike problem cs ds alike 0 (length cs) k w))
 
   -- there are not both more kinds under all constraints than the budget and no more
   pub whole_over_within : (p q : Problem) → AreAlike p q → AreWholeKindsOver p budget

@@ -12,8 +12,8 @@
 //!
 //! The definitions in `specs/` are the files that commands name (`Files`), what files, timelines and
 //! surfaces are read as (`Grammars`, `Scored`, `Lexicons`), what each command writes (`Results`), what
-//! it may find before it writes (`Findings`), what stands behind each status (`Outcomes`),
-//! and how a program ends (`Endings`).
+//! it may find before it writes (`Findings`), what stands behind each status (`Outcomes`), and how a
+//! program ends (`Endings`).
 #![tactic(auto)]
 
 mod answer;

@@ -24,7 +24,8 @@ constraint Dep a -> A
 
 const ROWS: &str = "[- ]-\n\n-[ [| ]]\n";
 
-const ENTRIES: &str = "entry = [{name = 'none', form = 'empty'}, {name = 'one', form = '[ ]', gloss = 1},
+const ENTRIES: &str =
+    "entry = [{name = 'none', form = 'empty'}, {name = 'one', form = '[ ]', gloss = 1},
 {name = 'two', form = '[ | ]'}]";
 
 const STAGES: &str = "answer 1
@@ -204,7 +205,11 @@ fn failing_loads_are_read_faults(rt: HostRuntime) -> Result<(), Fail> {
         let fault = Status::ReadFault { word };
         assert_eq!(rt; run(alloc, &words, &mut shelf, &mut sink), fault, "{text}");
         assert_eq!(rt; sink.bytes(), b"".as_slice());
-        assert_eq!(rt; run(alloc, &words, &mut shelf, &mut sink), Status::Done, "{text}");
+        assert_eq!(rt;
+            run(alloc, &words, &mut shelf, &mut sink),
+            Status::Done,
+            "{text}"
+        );
     }
     Ok(())
 }

@@ -1,16 +1,16 @@
 //! The program: its words are those after its name, a grammar is a file, an answer goes to standard
 //! output, and the line of the status to standard error. It ends with the number of the status.
 //!
-//! Where the system does not hand over the words, it writes nothing and ends with 15.
+//! If the system does not hand over the words, it writes nothing and ends with 15.
 #![tactic(auto)]
 
-use otp_tool::{put_status, run};
+use otp_tool::run_to_end;
 use outside::{FileShelf, StreamSink};
 use std::alloc::AllocError;
 use std::env;
 use std::process::ExitCode;
 
-/// What the program ends with where there are no words.
+/// What the program ends with if there are no words.
 const NO_WORDS: u8 = 15;
 
 fn main(rt: HostRuntime) -> ExitCode {
@@ -24,8 +24,6 @@ fn main(rt: HostRuntime) -> ExitCode {
     };
     let mut shelf = FileShelf::new(alloc, &rt);
     let mut sink = StreamSink::new(rt.stdout());
-    let status = run(alloc, &words, &mut shelf, &mut sink);
     let mut errors = StreamSink::new(rt.stderr());
-    let _written = put_status(&mut errors, &status);
-    ExitCode::from(status.number())
+    ExitCode::from(run_to_end(alloc, &words, &mut shelf, &mut sink, &mut errors))
 }

@@ -6,3 +6,4 @@ pub mod Lexicons
 pub mod Findings
 pub mod Outcomes
 pub mod Steps
+pub mod Endings

@@ -5,17 +5,20 @@
 //!          ─► load and read the second file ─► generate or count ─► write ─► Status
 //! ```
 //!
-//! This is the topmost library of the workspace. A program gives its words, files and standard
-//! output to [`run`], writes the line of the [`Status`] by [`put_status`], and ends with its number.
-//! Each command makes its whole result before it writes.
+//! This is the topmost library of the workspace. A program gives its words, files, standard output
+//! and standard error to [`run_to_end`], and ends with the number that it gives. Over other shelves
+//! and sinks [`run`] answers the [`Status`], and [`put_status`] writes its line. Each command makes
+//! its whole result before it writes.
 //!
 //! The definitions in `specs/` are the files that commands name (`Files`), what files, timelines and
 //! surfaces are read as (`Grammars`, `Scored`, `Lexicons`), what each command writes (`Results`), what
-//! it may find before it writes (`Findings`), and what stands behind each status (`Outcomes`).
+//! it may find before it writes (`Findings`), what stands behind each status (`Outcomes`), and how a
+//! program ends (`Endings`).
 #![tactic(auto)]
 
 mod answer;
 mod commands;
+mod ending;
 mod grammar;
 mod hearing;
 mod results;
@@ -27,4 +30,5 @@ mod tableaux;
 mod tests;
 
 pub use commands::run;
+pub use ending::run_to_end;
 pub use status_lines::{Status, put_status};

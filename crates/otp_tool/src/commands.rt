@@ -120,7 +120,8 @@ pub fn run<F: Shelf, O: Sink>(
     sink: &mut O,
 ) -> Status
     // Done: exactly the text that the command asks for was written. For `generate` it is the text of
-    // a right answer, and for `tableau` that of the tableau with the rows of the file.
+    // a right answer with joined arcs, and for `tableau` that of the tableau with the rows of the
+    // file.
     ensures done { result ≡ Status.Done → IsWrittenBehind (words_of words.now) (F.held shelf.old)
         (λ text. O.taken sink.new ≡ appended (O.taken sink.old) text) }
     ensures complete { IsTold (words_of words.now) (F.held shelf.old) ready

@@ -24,6 +24,7 @@ use Rattle.violation.specs.Candidates.{vec}
 use Rattle.violation.specs.Conditions.{IsCountable, IsOverTiers}
 use Rattle.answer_text.specs.declared.answer.Answer.{Answer}
 use Rattle.answer_text.specs.Right.{IsRight}
+use Rattle.kind_orders.specs.JoinedArcs.{HaveJoinedArcs}
 use Rattle.answer_text.specs.Shape.{widths_of}
 use Rattle.answer_text.specs.Text.{Widths, answer_text, counts_text}
 use Rattle.ranked_gen.specs.Budgets.{AreAllWithin}
@@ -122,13 +123,20 @@ module _ (g : Grammar) where
     pub made_for : (budget : ℕ) (u : List (List Sym)) → IsAsked (value_of g) form (asked g.tiers g.constraints.items u)
         → (r : Result Answer Status)
         → IfOk r (IsRight (asked g.tiers g.constraints.items u))
+        → IfOk r (λ answer. HaveJoinedArcs answer.automaton.states.items)
         → IfOk r (λ answer. AreAllWithin (asked g.tiers g.constraints.items u) budget)
         → IfOk r (IsMade g.tiers g.constraints.items (value_of g) form budget)
-    made_for budget u a r right within =
-        both_ok r (IsRight (asked g.tiers g.constraints.items u))
+    made_for budget u a r right joined within =
+        both_ok r (λ answer. IsRight (asked g.tiers g.constraints.items u) answer
+        × HaveJoinedArcs answer.automaton.states.items)
         (λ answer. AreAllWithin (asked g.tiers g.constraints.items u) budget)
         (IsMade g.tiers g.constraints.items (value_of g) form budget)
-        (λ answer p q. record { u = u; is_asked = a; right = p; within = q }) right within
+        (λ answer p q. record { u = u; is_asked = a; right = p.0; joined = p.1; within = q })
+        (both_ok r (IsRight (asked g.tiers g.constraints.items u))
+        (λ answer. HaveJoinedArcs answer.automaton.states.items)
+        (λ answer. IsRight (asked g.tiers g.constraints.items u) answer
+        × HaveJoinedArcs answer.automaton.states.items)
+        (λ answer p q. (p, q)) right joined) within
 
     module _ (budget : ℕ) (answer : Answer)
         (made : IsMade g.tiers g.constraints.items (value_of g) form budget answer) where
@@ -148,6 +156,7 @@ module _ (g : Grammar) where
         is_asked = made.is_asked;
         answer = answer;
         right = made.right;
+        joined = made.joined;
         written = e made.u;
       }
 

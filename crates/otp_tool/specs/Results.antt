@@ -8,6 +8,7 @@ use Rattle.violation.specs.Counts.{viol}
 use Rattle.answer_text.specs.declared.answer.Answer.{Answer}
 use Rattle.answer_text.specs.Right.{IsRight}
 use Rattle.answer_text.specs.Text.{Widths, answer_text, counts_text, shown_text}
+use Rattle.kind_orders.specs.JoinedArcs.{HaveJoinedArcs}
 use Rattle.command_words.specs.Commands.{Command, canon, score, generate, show, tableau, once, comprehend}
 use Rattle.tier_core.specs.Sides.{is_stretch}
 use Rattle.answer_text.specs.declared.once_answer.OnceAnswer.{OnceAnswer}
@@ -41,12 +42,14 @@ pub record IsScoreText (g : GrammarValue) (word text : List ℕ) : Type 0 where
 abbrev pub text_widths : Problem → Widths
 text_widths problem = record { free = length problem.tiers.free; stretches = stretch_counts problem.constraints }
 
--- a text is what is written of a right answer for the grammar and the form that a word is read as
+-- A text is what is written of a right answer for the grammar and the form that a word is read as. The
+-- answer has joined arcs.
 pub record IsOfRightAnswer (write : Problem → Answer → List ℕ) (g : GrammarValue) (form text : List ℕ) : Type 0 where
   pub problem : Problem
   pub is_asked : IsAsked g form problem
   pub answer : Answer
   pub right : IsRight problem answer
+  pub joined : HaveJoinedArcs answer.automaton.states.items
   pub written : text ≡ write problem answer
 
 -- the whole text of an answer

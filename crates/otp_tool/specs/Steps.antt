@@ -14,6 +14,7 @@ use Rattle.violation.specs.Rests.{AreWholeKindsOver}
 use Rattle.comprehend.specs.Hears.{IsFirstEntryOver}
 use Rattle.answer_text.specs.declared.answer.Answer.{Answer}
 use Rattle.answer_text.specs.Right.{IsRight}
+use Rattle.kind_orders.specs.JoinedArcs.{HaveJoinedArcs}
 use Rattle.ranked_gen.specs.Budgets.{AreAllWithin, IsFirstOver}
 use Rattle.grammar_reader.specs.declared.grammar_err.GrammarCause.{GrammarCause}
 use Rattle.grammar_reader.specs.Values.{GrammarValue}
@@ -141,12 +142,14 @@ abbrev pub RefusesRows : Problem → ℕ → List ℕ → Finding → Type 0
 RefusesRows problem budget bytes x =
     RefusesFile problem bytes x ⊎ (IsRowsFile bytes problem × RefusesBudget problem budget x)
 
--- an answer is right for the form that a word is read as, and no stage has more kinds than the budget
+-- an answer is right for the form that a word is read as, its arcs are joined, and no stage has more
+-- kinds than the budget
 pub record IsMade (table : TierTable) (constraints : List Constraint) (g : GrammarValue) (form : List ℕ) (budget : ℕ)
     (answer : Answer) : Type 0 where
   pub u : List (List Sym)
   pub is_asked : IsAsked g form (asked table constraints u)
   pub right : IsRight (asked table constraints u) answer
+  pub joined : HaveJoinedArcs answer.automaton.states.items
   pub within : AreAllWithin (asked table constraints u) budget
 
 -- a tableau is that of a problem with the rows of a rows file, and no stage has more kinds than the budget

@@ -3,6 +3,7 @@ ghost use Rattle.tier_core.specs.Tables.{tiers_of_table};
 ghost use Rattle.violation.specs.Candidates.{IsForm};
 ghost use Rattle.violation.specs.Problems.{asked};
 ghost use Rattle.answer_text.specs.Right.{IsRight};
+ghost use Rattle.kind_orders.specs.JoinedArcs.{HaveJoinedArcs};
 ghost use Rattle.ranked_gen.specs.Budgets.{AreAllWithin};
 ghost use Rattle.grammar_reader.specs.Grammars.{value_of};
 ghost use Rattle.otp_tool.specs.Grammars.{IsAsked};
@@ -46,6 +47,7 @@ pub(crate) fn answer_for(
     requires few { budget ≤ 65536 }
     ensures right { IfOk result (IsRight
         (asked grammar.now.tiers grammar.now.constraints.items form.now)) }
+    ensures joined { IfOk result (λ answer. HaveJoinedArcs answer.automaton.states.items) }
     ensures within { IfOk result (λ answer. AreAllWithin
         (asked grammar.now.tiers grammar.now.constraints.items form.now) budget) }
     ensures err { IfErr result (IsRefusal (RefusesBudget

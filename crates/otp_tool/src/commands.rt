@@ -136,8 +136,9 @@ pub fn run<F: Shelf, O: Sink>(
     sink: &mut O,
 ) -> Status
     // Done: exactly the text that the command asks for was written. For `generate` it is the text of
-    // a right answer, for `once` that of an answer that is right once, for `tableau` that of the
-    // tableau with the rows of the file, and for `comprehend` that of the entries that are heard.
+    // a right answer with joined arcs, for `once` that of an answer that is right once, for `tableau`
+    // that of the tableau with the rows of the file, and for `comprehend` that of the entries that
+    // are heard.
     ensures done { result ≡ Status.Done → IsWrittenBehind (words_of words.now) (F.held shelf.old)
         (λ text. O.taken sink.new ≡ appended (O.taken sink.old) text) }
     ensures complete { IsTold (words_of words.now) (F.held shelf.old) ready

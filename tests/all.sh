@@ -1,7 +1,7 @@
 #!/bin/bash
 # The repository's own checks, after `rt ci` has built the program: the launcher, the names that the
-# documents cite, the real program, whole answers beside slow programs, what the documents show, and
-# the tools. The last line is `N passed, M failed`, over all of them. A check whose tool is missing is
+# documents cite, the real program, whole answers and hits beside slow programs, what the documents
+# show, and the tools. The last line is `N passed, M failed`, over all of them. A check whose tool is missing is
 # skipped with a word.
 cd "$(dirname "$0")/.." || exit 2
 log=$(mktemp) || exit 2
@@ -29,10 +29,11 @@ check python3 names.py
 if [ -x "$OTP_PROGRAM" ]; then
     check sh otp.sh
     check python3 answers.py
+    check python3 comprehend.py
     check python3 docs.py
     check python3 tools.py
 else
-    echo "tests/otp.sh, tests/answers.py, tests/docs.py, tests/tools.py: skipped, since $OTP_PROGRAM is missing"
+    echo "tests/otp.sh and the scripts after it: skipped, since $OTP_PROGRAM is missing"
 fi
 echo "$passed passed, $failed failed"
 [ "$failed" = 0 ]

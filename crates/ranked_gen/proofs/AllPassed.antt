@@ -1,15 +1,14 @@
 -- With no constraint, each pair of a place in the form and a set of open free tiers is the kind of a prefix.
-use Rattle.std.proofs.Common.{◌≡◌, ℕ, zero, suc, ◌+◌, ◌<◌, ◌≤◌, ◌≢◌, ◌==◌, ◌⊎◌, Bool, true, false, List, [], ◌∷◌, ◌++◌, map, length, take, get_or, Contains, refl, sym, ap, ap₂, ◌∙◌, inl, inr, ⊎_elim, ext_get_or, append-nil, arith, cond, ne_eqb, eq-eqb}
+use Rattle.std.proofs.Common.{◌≡◌, ℕ, zero, suc, ◌+◌, ◌<◌, ◌≤◌, ◌≢◌, ◌==◌, ◌⊎◌, Bool, true, false, List, [], ◌∷◌, ◌++◌, map, length, take, Contains, refl, sym, ap, ap₂, ◌∙◌, inl, inr, ⊎_elim, append-nil, arith, cond, ne_eqb, eq-eqb}
 use Rattle.std.specs.List.{AllByRecursion, list_any}
 use Rattle.std.proofs.lemmas.Bool.{false≢true, cases_lt, cond-true, cond-false, eq-eqb, ne_eqb, and_parts, and_from}
-use Rattle.std.proofs.lemmas.List.{length-map, length-append, length-take-le, map-append, take-map, take-append-le, get_or-map}
+use Rattle.std.proofs.lemmas.List.{length-map, length-append, length-take-le, map-append, take-map, take-append-le}
 use Rattle.std.proofs.lemmas.List.Elements.{All-from_recursion, recursion_from_All, All-take, All-contains_itself, filter-append}
 use Rattle.tier_core.specs.declared.sym.Sym.{Sym}
 use Rattle.tier_core.specs.declared.sym.Sym.TheVariants.{Outside, Inside, Start, End}
 use Rattle.tier_core.specs.Words.{ends}
 use Rattle.tier_core.specs.Scan.{fits, opens}
 use Rattle.tier_core.specs.Timelines.{symbol, word, is_edge, has_edge, project, squeeze, IsWellFormed, IsReduced}
-use Rattle.tier_core.specs.Tiers.{Tiers}
 use Rattle.tier_core.specs.Kinds.{PrefixKind}
 use Rattle.tier_core.proofs.CountLemmas.{all_append}
 use Rattle.tier_core.proofs.WordLemmas.{runs}
@@ -22,7 +21,7 @@ use Rattle.violation.specs.Prefixes.{is_open, kind_of}
 use Rattle.violation.specs.Stages.{IsPassed}
 use Rattle.violation.proofs.TierLemmas.{map_agree}
 use Rattle.ranked_gen.specs.WideColumns.{widened}
-use Rattle.ranked_gen.proofs.WidenedColumns.{over, all_at, all_mapped, on_nothing, not_listed, length_over, symbol_over, word_flagged, word_outside, part_bare, over_runs, over_reduced, squeeze_over}
+use Rattle.ranked_gen.proofs.WidenedColumns.{over, all_mapped, on_nothing, not_listed, length_over, symbol_over, word_flagged, word_outside, part_bare, over_runs, over_reduced, squeeze_over}
 use Rattle.violation.proofs.StageLemmas.{all_optimal}
 use Rattle.ranked_gen.proofs.BareForm.{bare_form, bare_candidate}
 use Rattle.tier_core.proofs.CountLemmas.{all_weaker}

@@ -1,5 +1,5 @@
 -- The columns of a class, listed.
-use Rattle.std.proofs.Common.{◌≡◌, ◌&&◌, true, ℕ, List, [], ◌∷◌, map, filter, refl, ap, sym, ◌∙◌, Contains, IsTrue}
+use Rattle.std.proofs.Common.{◌≡◌, ◌&&◌, true, ℕ, List, [], ◌∷◌, map, filter, refl, ap, ◌∙◌, Contains, IsTrue}
 use Rattle.std.proofs.lemmas.Bool.{false≢true, and_parts}
 use Rattle.tier_core.specs.declared.class.Class.{Class}
 use Rattle.tier_core.specs.declared.sym.Sym.{Sym}

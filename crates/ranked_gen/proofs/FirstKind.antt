@@ -10,7 +10,6 @@ use Rattle.std.proofs.lemmas.List.{length-map}
 use Rattle.tier_core.specs.declared.event.Event.{Event}
 use Rattle.tier_core.specs.declared.constraint.Constraint.{Constraint}
 use Rattle.tier_core.specs.Timelines.{word}
-use Rattle.tier_core.specs.Tiers.{Tiers}
 use Rattle.tier_core.specs.Kinds.{closed, PrefixKind, open_rank, phase_rank, kind_order}
 use Rattle.ranked_gen.proofs.Ascending.{nat_less}
 use Rattle.violation.specs.Conditions.{IsOverTiers}

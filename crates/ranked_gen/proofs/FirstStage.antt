@@ -1,8 +1,7 @@
 -- Stage 0 of a frame, whose candidates are all.
-use Rattle.std.proofs.Common.{◌≡◌, ℕ, ◌<◌, ◌≤◌, List, ◌++◌, map, length, refl, ap, ◌∙◌, arith, take_at, Contains}
+use Rattle.std.proofs.Common.{ℕ, ◌≤◌, List, ◌++◌, map, length, refl, ap, ◌∙◌, arith, take_at}
 use Rattle.std.specs.List.{range_with_len}
 use Rattle.std.proofs.lemmas.List.{length-map, length-append}
-use Rattle.std.proofs.lemmas.List.FromFn.{length-range_with_len}
 use Rattle.std.proofs.lemmas.List.Elements.{All-contains}
 use Rattle.weight_law.specs.declared.Weight.{Ghosts}
 use Rattle.weight_law.specs.declared.count.Count.{Count}
@@ -11,9 +10,7 @@ use Rattle.tier_core.specs.Kinds.{PrefixKind}
 use Rattle.arc_table.specs.declared.state.TableState.{TableState}
 use Rattle.violation.specs.Candidates.{IsCandidate}
 use Rattle.violation.specs.Prefixes.{kind_of}
-use Rattle.violation.specs.Problems.{Problem}
 use Rattle.violation.specs.Stages.{IsPassed}
-use Rattle.violation.proofs.SplitLemmas.{tiers_split}
 use Rattle.violation.proofs.StageLemmas.{all_optimal}
 use Rattle.kind_moves.specs.declared.frame.Frame.{Frame}
 use Rattle.kind_moves.specs.Frames.{problem_in, kind_at_stage}

@@ -13,7 +13,7 @@ use Rattle.arc_table.specs.Conditions.{TargetsExist, ClassesFilled}
 use Rattle.arc_table.specs.Runs.{Accepts}
 use Rattle.violation.specs.Candidates.{IsOptimalFor}
 use Rattle.kind_moves.specs.declared.frame.Frame.{Frame}
-use Rattle.kind_moves.specs.Frames.{tiers_in, constraints_in, form_in, kind_at_stage}
+use Rattle.kind_moves.specs.Frames.{kind_at_stage}
 use Rattle.stage_laws.specs.StageTables.{IsStageTable}
 use Rattle.stage_laws.proofs.Naming.{names_law}
 use Rattle.stage_tables.specs.Kept.{IsKept}

@@ -1,14 +1,12 @@
 -- Kinds under all constraints, and a budget.
-use Rattle.std.proofs.Common.{◌≡◌, ◌≢◌, ℕ, ◌<◌, ◌≤◌, List, [], ◌∷◌, ◌++◌, map, take, length, get_or, refl, sym, ap, ◌∙◌, subst, arith, take_at, All, AllPairs, Contains}
-use Rattle.std.proofs.lemmas.List.{get_or-map, get_or_default, length-map, length-append}
+use Rattle.std.proofs.Common.{◌≡◌, ◌≢◌, ℕ, ◌≤◌, List, [], ◌∷◌, ◌++◌, map, take, length, refl, sym, ap, ◌∙◌, subst, arith, take_at, AllPairs, Contains}
+use Rattle.std.proofs.lemmas.List.{get_or-map, length-map, length-append}
 use Rattle.std.specs.List.{AllByRecursion}
 use Rattle.std.proofs.lemmas.List.Elements.{All-contains, All-from_recursion}
 use Rattle.std.proofs.lemmas.List.Kept.{AllPairs-cons}
 use Rattle.std.specs.Prelude.{◌↔◌}
 use Rattle.tier_core.specs.declared.sym.Sym.{Sym}
-use Rattle.tier_core.specs.declared.constraint.Constraint.{Constraint}
 use Rattle.tier_core.specs.Kinds.{PrefixKind, kind_order}
-use Rattle.tier_core.specs.Tiers.{Tiers}
 use Rattle.violation.specs.Candidates.{IsCandidate}
 use Rattle.violation.specs.Moves.{cut}
 use Rattle.violation.specs.Prefixes.{kind_of}
@@ -18,7 +16,7 @@ use Rattle.violation.proofs.StageLemmas.{all_optimal}
 use Rattle.violation.proofs.CutLemmas.{cut-kind_of}
 use Rattle.kind_moves.specs.declared.frame.Frame.{Frame}
 use Rattle.kind_moves.specs.Frames.{problem_in}
-use Rattle.stage_tables.specs.Explored.{IsMet, IsOverBudget}
+use Rattle.stage_tables.specs.Explored.{IsOverBudget}
 use Rattle.ranked_gen.specs.Budgets.{IsOver}
 use Rattle.ranked_gen.proofs.Ascending.{ascends_from}
 use Rattle.ranked_gen.proofs.FewKinds.{Differ, ascending_differ, no_longer}

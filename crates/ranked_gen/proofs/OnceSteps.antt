@@ -1,25 +1,23 @@
 -- What a single pass finds, from its table that is ordered, weighed and pruned.
 use Rattle.std.proofs.Common.{◌≡◌, ℕ, ◌<◌, ◌≤◌, List, [], Option, None, Some, map, take, length, get_or, refl, sym, ap, ◌∙◌, subst, arith, All, Contains}
-use Rattle.std.specs.Prelude.{IsSome, ◌↔◌}
 use Rattle.std.specs.List.Sorted.{IsStrictlySortedBy}
 use Rattle.std.proofs.lemmas.List.{get_or-map, length-map}
 use Rattle.std.proofs.lemmas.Simd.{map-map}
 use Rattle.std.proofs.Math.Seq.{take-append_seam}
 use Rattle.tier_core.specs.declared.kind.Kind.{Kind}
 use Rattle.tier_core.specs.declared.shape.Shape.{Shape}
-use Rattle.tier_core.specs.declared.sym.Sym.{Sym}
-use Rattle.tier_core.specs.Kinds.{PrefixKind, prefix_kind, kind_order}
+use Rattle.tier_core.specs.Kinds.{prefix_kind, kind_order}
 use Rattle.tier_core.specs.KindShapes.{stretch_count, kind_in}
 use Rattle.weight_law.specs.declared.Weight.{Ghosts}
 use Rattle.weight_law.specs.declared.ranked.Ranked.{Ranked}
 use Rattle.weight_law.specs.declared.unit_weight.UnitWeight.{UnitWeight}
-use Rattle.weight_law.specs.Ranked.{padded, ranked_meaning, IsOfVector}
+use Rattle.weight_law.specs.Ranked.{padded, ranked_meaning}
 use Rattle.arc_table.specs.declared.state.TableState.{TableState}
 use Rattle.arc_table.specs.Conditions.{TargetsExist, ClassesFilled}
 use Rattle.distances.specs.Least.{AreLeast}
 use Rattle.prune_best.specs.Tight.{IsTight}
 use Rattle.prune_best.proofs.Words.{some_of}
-use Rattle.violation.specs.Candidates.{counts_on, IsLeastVector}
+use Rattle.violation.specs.Candidates.{IsLeastVector}
 use Rattle.violation.specs.Counts.{violations_of}
 use Rattle.violation.specs.Rests.{IsLeastRestVector, AreWholeKinds}
 use Rattle.grammar_reader.specs.ShapeOf.{IsShapeOf}
@@ -29,13 +27,13 @@ use Rattle.kind_moves.proofs.GrammarTiers.{few_constraints}
 use Rattle.answer_text.specs.declared.stage.Node.{Node}
 use Rattle.answer_text.specs.declared.once_answer.OnceNode.{OnceNode}
 use Rattle.answer_text.specs.RightOnce.{kind_told, bare_nodes, IsRightPotential}
-use Rattle.stage_laws.specs.StageTables.{IsStage, name_of}
+use Rattle.stage_laws.specs.StageTables.{IsStage}
 use Rattle.stage_laws.specs.FoundTables.{names_kept}
 use Rattle.stage_laws.specs.RankedTables.{IsRankedTable}
 use Rattle.stage_laws.proofs.LeastVectors.{least_vector, least_rest_vector}
 use Rattle.stage_laws.proofs.PrunedOnce.{whole_names, once_words}
 use Rattle.stage_laws.proofs.Resting.{least_from, some_weight}
-use Rattle.kind_orders.specs.KindOrders.{empty_kind, kind_numbered, told, IsKindOrder}
+use Rattle.kind_orders.specs.KindOrders.{empty_kind, told, IsKindOrder}
 use Rattle.kind_orders.specs.StageNodes.{node_numbered, AreNodesInOrder}
 use Rattle.kind_orders.proofs.Nodes.{are_nodes}
 use Rattle.stage_tables.specs.Explored.{names_at}

@@ -10,7 +10,6 @@ use Rattle.weight_law.specs.declared.Weight.{Ghosts}
 use Rattle.weight_law.specs.declared.unit_weight.UnitWeight.{UnitWeight}
 use Rattle.tier_core.specs.declared.sym.Sym.{Sym}
 use Rattle.tier_core.specs.declared.constraint.Constraint.{Constraint}
-use Rattle.tier_core.specs.Tiers.{Tiers}
 use Rattle.tier_core.specs.Kinds.{Phase, closed, unmet, met, PrefixKind, kind_order}
 use Rattle.tier_core.specs.Sides.{is_stretch}
 use Rattle.arc_table.specs.declared.arc.TableArc.{TableArc}

@@ -4,9 +4,7 @@ use Rattle.std.proofs.Common.{◌≡◌, ℕ, ◌+◌, ◌<◌, List, [], ◌∷
 use Rattle.weight_law.specs.declared.Weight.{Ghosts}
 use Rattle.weight_law.specs.declared.unit_weight.UnitWeight.{UnitWeight}
 use Rattle.tier_core.specs.declared.sym.Sym.{Sym}
-use Rattle.tier_core.specs.declared.constraint.Constraint.{Constraint}
 use Rattle.tier_core.specs.Orders.{IsFirst}
-use Rattle.tier_core.specs.Tiers.{Tiers}
 use Rattle.arc_table.specs.declared.state.TableState.{TableState}
 use Rattle.arc_table.specs.Conditions.{ClassesFilled}
 use Rattle.arc_table.specs.Runs.{Accepts}
@@ -15,16 +13,10 @@ use Rattle.prune_best.proofs.Words.{some_word}
 use Rattle.violation.specs.Candidates.{IsOptimal}
 use Rattle.answer_text.specs.declared.stage.Node.{Node}
 use Rattle.answer_text.specs.declared.stage.Stage.{Stage}
-use Rattle.answer_text.specs.declared.answer.Answer.{Answer}
-use Rattle.answer_text.specs.Right.{IsRight, nodes_at}
-use Rattle.kind_orders.specs.Orderings.{IsOrdering, AreRanks}
-use Rattle.kind_orders.specs.AutomatonLines.{nodes_of}
-use Rattle.kind_orders.specs.Automata.{IsAutomatonOf}
 use Rattle.ranked_gen.specs.Budgets.{IsWithin}
 use Rattle.ranked_gen.specs.Left.{IsLeft, IsStaged, AreStages, IsRanked}
 use Rattle.ranked_gen.specs.OptimalParts.{IsOptimalPart}
-use Rattle.ranked_gen.proofs.EndStage.{right_automaton}
-use Rattle.ranked_gen.proofs.StageList.{nodes_last, first_stages, next_stages, right_answer}
+use Rattle.ranked_gen.proofs.StageList.{nodes_last, first_stages, next_stages}
 use Rattle.violation.specs.Problems.{last_stage, Problem}
 
 -- what a stage leaves, whatever its nodes' potentials are

@@ -1,60 +1,43 @@
 -- A stage whose table is ordered, weighed and pruned is staged.
-use Rattle.std.proofs.Common.{◌≡◌, ℕ, zero, suc, ◌-◌, ◌<◌, ◌≤◌, List, [], ◌∷◌, Option, None, Some, map, length, get_or, slice_get, refl, sym, ap, ◌∙◌, subst, arith, ⊎_elim, All, Contains}
-use Rattle.std.specs.Prelude.{IsSome, ◌↔◌}
-use Rattle.std.specs.List.{AllByRecursion}
+use Rattle.std.proofs.Common.{◌≡◌, ℕ, ◌-◌, ◌<◌, ◌≤◌, List, Option, None, Some, map, length, get_or, refl, sym, ap, ◌∙◌, subst, arith, All}
+use Rattle.std.specs.Prelude.{◌↔◌}
 use Rattle.std.specs.List.Sorted.{IsStrictlySortedBy}
-use Rattle.std.specs.declared.cmp.Ordering.{Ordering}
-use Rattle.std.specs.declared.cmp.Ordering.TheVariants.{Less}
-use Rattle.std.proofs.lemmas.Bool.{false≢true, cases_order}
-use Rattle.std.proofs.lemmas.List.{get_or_default, get_or-map, length-map}
-use Rattle.std.proofs.lemmas.List.FromFn.{length-map-range_with_len}
-use Rattle.std.proofs.lemmas.Option.{slice_get-get_or}
+use Rattle.std.proofs.lemmas.List.{get_or-map, length-map}
 use Rattle.tier_core.specs.declared.kind.Kind.{Kind}
 use Rattle.tier_core.specs.declared.shape.Shape.{Shape}
 use Rattle.tier_core.specs.declared.sym.Sym.{Sym}
-use Rattle.tier_core.specs.Kinds.{prefix_kind, phase_at, kind_order}
-use Rattle.tier_core.specs.KindShapes.{free_count, stretch_count, kind_in}
-use Rattle.tier_core.specs.Tiers.{has_tier}
+use Rattle.tier_core.specs.Kinds.{prefix_kind, kind_order}
+use Rattle.tier_core.specs.KindShapes.{stretch_count, kind_in}
 use Rattle.weight_law.specs.declared.Weight.{Ghosts}
 use Rattle.weight_law.specs.declared.count.Count.{Count}
 use Rattle.weight_law.specs.declared.unit_weight.UnitWeight.{UnitWeight}
 use Rattle.weight_law.specs.Count.{count_meaning}
-use Rattle.arc_table.specs.declared.arc.TableArc.{TableArc}
 use Rattle.arc_table.specs.declared.state.TableState.{TableState}
 use Rattle.arc_table.specs.Conditions.{TargetsExist, ClassesFilled}
-use Rattle.arc_table.specs.Moves.{moves_at}
 use Rattle.arc_table.specs.Runs.{Accepts}
-use Rattle.arc_table.proofs.Push.{moves_exist}
 use Rattle.distances.specs.Least.{AreLeast}
 use Rattle.prune_best.specs.Tight.{IsTight}
 use Rattle.prune_best.proofs.Words.{some_of}
-use Rattle.violation.specs.Candidates.{vec, IsOptimalFor, count_at}
-use Rattle.violation.specs.Prefixes.{kind_of}
+use Rattle.violation.specs.Candidates.{IsOptimalFor, count_at}
 use Rattle.violation.specs.Stages.{IsRemaining}
-use Rattle.violation.proofs.SplitLemmas.{tiers_split}
 use Rattle.grammar_reader.specs.ShapeOf.{IsShapeOf}
 use Rattle.kind_moves.specs.declared.frame.Frame.{Frame}
-use Rattle.kind_moves.specs.Frames.{tiers_in, constraints_in, form_in, kind_at_stage}
-use Rattle.kind_moves.proofs.GrammarTiers.{over_tiers, form_from}
+use Rattle.kind_moves.specs.Frames.{tiers_in, kind_at_stage}
 use Rattle.answer_text.specs.declared.stage.Node.{Node}
 use Rattle.answer_text.specs.Right.{kinds_at, IsRightStage}
-use Rattle.stage_laws.specs.StageTables.{IsStage, name_of, AreNamedByKinds, IsStageTable}
+use Rattle.stage_laws.specs.StageTables.{IsStage, IsStageTable}
 use Rattle.stage_laws.specs.FoundTables.{names_kept}
-use Rattle.stage_laws.proofs.Naming.{path_kind, names_law}
-use Rattle.violation.proofs.StageLemmas.{over_stretches}
+use Rattle.stage_laws.proofs.Naming.{names_law}
 use Rattle.stage_laws.proofs.Resting.{remaining_law, least_from, some_weight}
 use Rattle.stage_laws.proofs.Optimal.{all_words_law, number_law}
-use Rattle.stage_laws.proofs.Pruned.{kept_named}
-use Rattle.kind_orders.specs.Orderings.{IsOrdering}
 use Rattle.kind_orders.specs.KindOrders.{empty_kind, kind_numbered, told, IsKindOrder}
 use Rattle.kind_orders.specs.StageNodes.{node_numbered, AreNodesInOrder}
-use Rattle.kind_orders.specs.Automata.{Reaches}
 use Rattle.stage_tables.specs.Kept.{IsKept}
 use Rattle.stage_tables.specs.Explored.{names_at}
 use Rattle.stage_tables.proofs.Named.{frame_stage}
-use Rattle.ranked_gen.specs.Left.{weight_number, TellsKind, AreOrdered, IsStaged}
+use Rattle.ranked_gen.specs.Left.{weight_number, IsStaged}
 use Rattle.ranked_gen.proofs.OrderedNames.{count_kinds, name_is, first_number, kept_by_names, ordered, tells}
-use Rattle.ranked_gen.proofs.StageShapes.{tell_same, free_same, stretch_same}
+use Rattle.ranked_gen.proofs.StageShapes.{free_same, stretch_same}
 use Rattle.violation.specs.Problems.{last_stage}
 use Rattle.kind_moves.specs.Frames.{problem_in}
 

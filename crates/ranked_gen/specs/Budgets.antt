@@ -1,8 +1,5 @@
 -- Which stages have more kinds of prefix than a budget.
 use Rattle.std.specs.Prelude.{ℕ, ◌<◌, ◌≤◌, List, length}
-use Rattle.tier_core.specs.declared.sym.Sym.{Sym}
-use Rattle.tier_core.specs.declared.constraint.Constraint.{Constraint}
-use Rattle.tier_core.specs.Tiers.{Tiers}
 use Rattle.tier_core.specs.Kinds.{PrefixKind}
 use Rattle.violation.specs.Stages.{AreKindsOfStage}
 use Rattle.violation.specs.Problems.{last_stage, Problem}

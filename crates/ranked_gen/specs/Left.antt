@@ -1,17 +1,15 @@
 -- What a stage leaves of the candidates, and how the states of the table that accepts them relate
 -- to the nodes of the stage.
-use Rattle.std.specs.Prelude.{ℕ, ◌+◌, ◌-◌, ◌≡◌, ◌≢◌, ◌<◌, ◌≤◌, ◌↔◌, List, length, take, slice_get, slice_index, slice_index_or, Some, Option, None, All, AllPairs}
+use Rattle.std.specs.Prelude.{ℕ, ◌+◌, ◌≡◌, ◌≢◌, ◌<◌, ◌≤◌, ◌↔◌, List, length, take, slice_get, slice_index, Some, Option, None, All, AllPairs}
 use Rattle.tier_core.specs.declared.sym.Sym.{Sym}
-use Rattle.tier_core.specs.declared.constraint.Constraint.{Constraint}
-use Rattle.tier_core.specs.Tiers.{Tiers}
-use Rattle.tier_core.specs.Kinds.{PrefixKind, prefix_kind}
+use Rattle.tier_core.specs.Kinds.{PrefixKind}
 use Rattle.weight_law.specs.declared.Weight.{Ghosts}
 use Rattle.weight_law.specs.declared.count.Count.{Count}
 use Rattle.weight_law.specs.declared.unit_weight.UnitWeight.{UnitWeight}
 use Rattle.arc_table.specs.declared.state.TableState.{TableState}
 use Rattle.arc_table.specs.Runs.{Accepts}
-use Rattle.violation.specs.Candidates.{vec, IsOptimalFor, counts_on, count_at}
-use Rattle.violation.specs.Prefixes.{kind_of, stretches, kind_of_bits}
+use Rattle.violation.specs.Candidates.{IsOptimalFor, counts_on, count_at}
+use Rattle.violation.specs.Prefixes.{kind_of, kind_of_bits}
 use Rattle.answer_text.specs.declared.stage.Node.{Node}
 use Rattle.answer_text.specs.declared.stage.Stage.{Stage}
 use Rattle.answer_text.specs.Right.{IsRightStage, nodes_at}

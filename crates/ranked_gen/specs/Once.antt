@@ -1,5 +1,5 @@
 -- What a single pass finds.
-use Rattle.std.specs.Prelude.{ℕ, List, Option, None, Some, length, map, replicate, slice_index_or, All}
+use Rattle.std.specs.Prelude.{ℕ, List, Option, None, Some, map, replicate, slice_index_or, All}
 use Rattle.weight_law.specs.declared.Weight.{Ghosts}
 use Rattle.weight_law.specs.declared.ranked.Ranked.{Ranked}
 use Rattle.weight_law.specs.declared.unit_weight.UnitWeight.{UnitWeight}

@@ -28,7 +28,9 @@ impl Exploring<'_> {
         ensures { OnOk result
             (AddsParts self.now constraint kind.now piece.now parts.old.items parts.new.items) }
     {
-        let finer = self.frame.pieces(alloc, self.stage, constraint, kind, &piece.class)?;
+        let finer = self
+            .frame
+            .pieces(alloc, self.stage, constraint, kind, &piece.class)?;
         for part in &finer {
             let pushed = parts.push(Piece {
                 class: part.class,
@@ -70,7 +72,9 @@ impl Exploring<'_> {
         requires width { length (sets_of class.now) ≡ (tiers_in self.now.frame.now).width }
         ensures { IfOk result (λ pieces. ArePiecesFrom self.now kind.now class.now pieces.items) }
     {
-        let mut pieces = self.frame.pieces(alloc, self.stage, self.stage, kind, class)?;
+        let mut pieces = self
+            .frame
+            .pieces(alloc, self.stage, self.stage, kind, class)?;
         for constraint in self.first..self.stage {
             pieces = self.parted(alloc, constraint, kind, &pieces)?;
         }

@@ -1,5 +1,4 @@
 use Rattle.std.proofs.Common.{◌≡◌, length, IfOk, subst, arith}
-use Rattle.tier_core.specs.Tables.{tiers_of_table}
 use Rattle.violation.proofs.SplitLemmas.{tiers_split}
 use Rattle.ranked_gen.specs.Budgets.{AreAllWithin, IsFirstOver}
 use Rattle.ranked_gen.specs.Listed.{kind_count}

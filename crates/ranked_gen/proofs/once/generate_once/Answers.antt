@@ -1,6 +1,6 @@
 use Rattle.std.proofs.Common.{◌≡◌, length, IfOk, subst, sym, ◌∙◌, arith}
 use Rattle.violation.specs.Problems.{asked}
-use Rattle.violation.specs.Rests.{AreWholeKindsWithin, AreWholeKindsOver}
+use Rattle.violation.specs.Rests.{AreWholeKindsWithin}
 use Rattle.violation.proofs.SplitLemmas.{tiers_split}
 use Rattle.ranked_gen.specs.Listed.{kind_count}
 use Rattle.ranked_gen.proofs.NumberedKinds.{free_distinct}

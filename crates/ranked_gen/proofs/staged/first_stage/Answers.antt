@@ -1,4 +1,4 @@
-use Rattle.std.proofs.Common.{◌≡◌, arith}
+use Rattle.std.proofs.Common.{◌≡◌}
 use Rattle.arc_table.specs.States.{states_of}
 use Rattle.ranked_gen.proofs.FirstStage.{zero_table, zero_within, zero_over}
 use Rattle.ranked_gen.proofs.StageKinds.{whatever_ok}

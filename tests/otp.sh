@@ -165,6 +165,18 @@ try "a thousand entries" 0 "" comprehend added.otp many.toml empty
 [ "$(head -n 1 out)" = "hits 1000" ] && [ "$(wc -l < out)" = 2001 ] && has_passed "a thousand hits" \
     || has_failed "a thousand hits"
 
+# the longest words
+bars() { yes '|' | head -n "$1" | tr '\n' ' '; }
+try "form of 64 columns" 0 "" show base.otp "[ $(bars 62)]"
+[ "$(tail -n 1 out | wc -w)" = 65 ] && has_passed "64 columns" || has_failed "64 columns: $(cat out)"
+try "form of 65 columns" 4 "form word 2: TooLong" show base.otp "[ $(bars 63)]"
+try "timeline of 4,096 columns" 0 "" score added.otp "[- $(bars 4094 | sed 's/|/|-/g')]-"
+wrote "counts 0"
+try "timeline of 4,097 columns" 4 "form word 2: TooLong" score added.otp "[- $(bars 4095 | sed 's/|/|-/g')]-"
+printf 'otp 1\ntier A input\ntier B input\ntier a overt\nletter x = B A\n' > swapped.otp
+try "tiers of a letter in their order" 0 "" canon swapped.otp
+wrote "otp 1" "tier A input" "tier B input" "tier a overt" "letter x = A B"
+
 # each refusal
 try "unknown command" 2 "usage" foo base.otp empty
 try "two words" 2 "usage" generate base.otp

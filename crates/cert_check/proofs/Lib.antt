@@ -13,3 +13,16 @@ pub mod Starts
 pub mod AlikeMoves
 pub mod Sets
 pub mod TestLemmas
+pub mod FitSteps
+pub mod BitSteps
+pub mod NextSteps
+pub mod CostSteps
+pub mod FlagSteps
+pub mod FittingSteps
+pub mod GoAlike
+pub mod UniformSteps
+pub mod TightSteps
+pub mod KeptSteps
+pub mod ColumnPlaces
+pub mod NodeSteps
+pub mod StageSteps

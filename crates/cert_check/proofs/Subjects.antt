@@ -268,3 +268,13 @@ module _ (s : Subject) (ready : IsReady s) (stage : ℕ) (within : stage ≤ las
       → FitsShape s.shape.now stage (get_or ns n d).kind
   number_fits ns n d e l = subst (λ (xs : List Node). FitsShape s.shape.now stage (get_or xs n d).kind) (sym e)
       (fits_at n d (omega (arith, l, ap length e)))
+
+-- a mask of the tiers that are open at a place tells those of a kind with this place
+pub mask_agrees : (s : Subject) → IsReady s → (stage : ℕ) (kind : Kind) → kind.place ≤ last_place (problem_of s)
+    → (mask : ℕ) → ((t : ℕ) → t < length s.grammar.now.tiers.kinds.items → has_tier mask t
+    ≡ is_open_by s.grammar.now.tiers.kinds.items s.answer.now.form kind.place kind.opened t)
+    → (t : ℕ) → t < length s.grammar.now.tiers.kinds.items
+    → has_tier mask t ≡ is_tier_open (problem_of s) (kind_of_bits (problem_of s) stage kind) t
+mask_agrees s ready stage kind place mask bits t l = bits t l
+    ∙ sym (open_told s.grammar.now.tiers (problem_of s).constraints s.answer.now.form ready.form.form stage kind place
+    t l)

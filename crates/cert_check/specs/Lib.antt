@@ -13,3 +13,5 @@ pub mod Boxes
 pub mod Tests
 pub mod Pieces
 pub mod Kept
+pub mod Fitting
+pub mod Nodes

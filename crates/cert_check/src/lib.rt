@@ -11,20 +11,31 @@
 
 mod alike;
 mod boxes;
+mod costs;
 mod cut;
 mod fault;
 mod find;
+mod fit_boxes;
+mod fitting;
 mod head;
 mod kept;
 mod kept_piece;
 mod laws;
+mod moves;
+mod node_check;
+mod node_pieces;
 mod open;
 mod order;
 mod parting;
 mod possible;
+mod stage_check;
+mod stage_tests;
+mod stages;
 mod start;
 mod stop;
 mod subject;
+mod tight;
+mod uniform;
 
 pub use alike::alike_columns_move_alike;
 pub use fault::{Fault, Verdict};

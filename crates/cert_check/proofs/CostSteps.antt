@@ -1,5 +1,5 @@
 -- What a move costs under one of its constraints.
-use Rattle.std.proofs.Common.{◌≡◌, ℕ, zero, suc, ◌^◌, ◌<◌, ◌&&◌, Bool, true, false, cond, List, [], ◌∷◌, filter, take, drop, length, get_or, refl, ap, sym, ◌∙◌, subst, arith, ⊎_elim}
+use Rattle.std.proofs.Common.{◌≡◌, ℕ, zero, suc, ◌^◌, ◌<◌, ◌≤◌, ◌&&◌, Bool, true, false, cond, List, [], ◌∷◌, filter, take, drop, length, get_or, refl, ap, sym, ◌∙◌, subst, arith, ⊎_elim}
 use Rattle.std.proofs.lemmas.Bool.{cases_lt}
 use Rattle.std.proofs.lemmas.List.{get_or_past}
 use Rattle.std.proofs.lemmas.List.FromFn.{length-map-range_with_len, get_or-map-range_with_len}
@@ -76,7 +76,8 @@ cost_at cs o ps column i n d c l e f =
     ∙ ap (λ (x : Constraint). cond (costs x.family x.left x.right o (first_phase (drop (length (filter is_stretch (take i cs))) ps)) column) 1 0) e
     ∙ sym (cost_from cs o ps column i d l)
 
-take_less : {X : Type 0} (xs : List X) (i n : ℕ) → i ≤ n → take i (take n xs) ≡ take i xs
+-- the first of the first
+pub take_less : {X : Type 0} (xs : List X) (i n : ℕ) → i ≤ n → take i (take n xs) ≡ take i xs
 take_less xs zero n l = refl
 take_less [] (suc i) zero l = absurd (omega arith)
 take_less [] (suc i) (suc n) l = refl

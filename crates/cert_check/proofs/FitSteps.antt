@@ -1,5 +1,5 @@
 -- Classes that are narrowed to the columns that fit a kind, tier by tier.
-use Rattle.std.proofs.Common.{◌≡◌, ℕ, suc, ◌+◌, ◌<◌, ◌≤◌, ◌↔◌, Bool, true, false, not, ◌&&◌, cond, IsTrue, List, [], ◌∷◌, ◌++◌, map, drop, length, get_or, refl, ap, ap₂, sym, ◌∙◌, subst, arith, below_more}
+use Rattle.std.proofs.Common.{◌≡◌, ℕ, suc, ◌+◌, ◌<◌, ◌≤◌, ◌↔◌, Bool, true, false, not, ◌&&◌, ◌||◌, cond, IsTrue, List, [], ◌∷◌, ◌++◌, map, drop, length, get_or, refl, ap, ap₂, sym, ◌∙◌, subst, arith, below_more}
 use Rattle.std.proofs.lemmas.Bool.{and_parts, and_from, false≢true}
 use Rattle.std.proofs.lemmas.List.{at_drop_more, length-drop, drop_all}
 use Rattle.tier_core.specs.declared.sym.Sym.{Sym}
@@ -7,7 +7,7 @@ use Rattle.tier_core.specs.declared.sym.Sym.TheVariants.{Outside, Inside, Start,
 use Rattle.tier_core.specs.declared.tier.TierKind.{TierKind}
 use Rattle.tier_core.specs.Sets.{is_in, single_set}
 use Rattle.tier_core.specs.Tiers.{is_input, numbers_from}
-use Rattle.tier_core.specs.Timelines.{symbol, is_edge}
+use Rattle.tier_core.specs.Timelines.{symbol, is_edge, has_edge}
 use Rattle.tier_core.proofs.SetLemmas.{alone_in, only_in}
 use Rattle.violation.proofs.CandidateLemmas.{part_from, part_end}
 
@@ -50,6 +50,28 @@ part_step kinds column k d b l h =
         ≡ cond b (symbol column k ∷ part_from kinds column (k + 1)) (part_from kinds column (k + 1))
     by true = refl
     by false = refl
+
+still_step : (a x h : Bool) → ((a && not x) && not h) ≡ (a && not (x || h))
+still_step true true h = refl
+still_step true false h = refl
+still_step false x h = refl
+
+-- an input tier more on which no edge stands
+pub still_more : (next rest : Bool) (kinds : List TierKind) (column : List Sym) (k : ℕ) (d : TierKind) (none : Bool)
+    → k < length kinds → is_input (get_or kinds k d) ≡ true → next ≡ (rest && is_in 3 (symbol column k))
+    → (rest && not (has_edge (part_from kinds column k))) ≡ none
+    → (next && not (has_edge (part_from kinds column (k + 1)))) ≡ none
+still_more next rest kinds column k d none l h e so_far =
+    ap (λ b. b && not (has_edge (part_from kinds column (k + 1)))) (e ∙ ap (λ b. rest && b) (in_edgeless (symbol column k)))
+    ∙ still_step rest (is_edge (symbol column k)) (has_edge (part_from kinds column (k + 1)))
+    ∙ ap (λ xs. rest && not (has_edge xs)) (sym (part_step kinds column k d true l h)) ∙ so_far
+
+pub still_same : (rest : Bool) (kinds : List TierKind) (column : List Sym) (k : ℕ) (d : TierKind) (none : Bool)
+    → k < length kinds → is_input (get_or kinds k d) ≡ false
+    → (rest && not (has_edge (part_from kinds column k))) ≡ none
+    → (rest && not (has_edge (part_from kinds column (k + 1)))) ≡ none
+still_same rest kinds column k d none l h so_far =
+    ap (λ xs. rest && not (has_edge xs)) (sym (part_step kinds column k d false l h)) ∙ so_far
 
 -- so far the class is narrowed, and the rest of the form is to be read
 abbrev pub ReadsOn : Bool → List TierKind → List Sym → List Sym → ℕ → ℕ → Type 0

@@ -18,10 +18,10 @@ abbrev pub IsReadAlike : Problem → Class → Type 0
 IsReadAlike problem class = IsAlike (λ column. has_edge (input_of problem.tiers column)) class
 
 -- pieces hold exactly the columns that fit a kind
-pub record AreFitting (problem : Problem) (k : PrefixKind) (pieces : List Class) : Type 0 where
-  pub pieces : ArePieces problem.tiers.width pieces
-  pub columns : (column : List Sym) → IsTrue (some_has pieces column) ↔ FitsKind problem k column
-  pub read : All (IsReadAlike problem) pieces
+pub record AreFitting (problem : Problem) (k : PrefixKind) (classes : List Class) : Type 0 where
+  pub pieces : ArePieces problem.tiers.width classes
+  pub columns : (column : List Sym) → IsTrue (some_has classes column) ↔ FitsKind problem k column
+  pub read : All (IsReadAlike problem) classes
 
 -- Pieces are parted by tests: the parts hold the same columns, each of them is a part of one piece, and
 -- the tests agree on each part.
@@ -53,7 +53,7 @@ IsGoingAlike problem stage class = (c d : List Sym) → IsTrue (has class c) →
     → GoOnAlike problem stage c d
 
 -- pieces hold exactly the columns that fit a kind, and all columns of each go on alike up to a stage
-pub record AreNodePieces (problem : Problem) (stage : ℕ) (k : PrefixKind) (pieces : List Class) : Type 0 where
-  pub pieces : ArePieces problem.tiers.width pieces
-  pub columns : (column : List Sym) → IsTrue (some_has pieces column) ↔ FitsKind problem k column
-  pub alike : All (IsGoingAlike problem stage) pieces
+pub record AreNodePieces (problem : Problem) (stage : ℕ) (k : PrefixKind) (classes : List Class) : Type 0 where
+  pub pieces : ArePieces problem.tiers.width classes
+  pub columns : (column : List Sym) → IsTrue (some_has classes column) ↔ FitsKind problem k column
+  pub alike : All (IsGoingAlike problem stage) classes

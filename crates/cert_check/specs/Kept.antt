@@ -37,8 +37,8 @@ AddsKept problem stages stage below k class old new =
 
 -- Pieces hold exactly the columns on which the move of a kind of a stage is kept, each in one piece.
 pub record AreKept (problem : Problem) (stages : List Stage) (stage below : ℕ) (k : PrefixKind)
-    (pieces : List KeptPiece) : Type 0 where
-  pub pieces : ArePieces problem.tiers.width (classes_of pieces)
-  pub columns : (column : List Sym) → IsTrue (some_has (classes_of pieces) column)
+    (kept : List KeptPiece) : Type 0 where
+  pub pieces : ArePieces problem.tiers.width (classes_of kept)
+  pub columns : (column : List Sym) → IsTrue (some_has (classes_of kept) column)
       ↔ IsKeptBelow problem stages below k column
-  pub each : All (IsKeptPiece problem stage k) pieces
+  pub each : All (IsKeptPiece problem stage k) kept

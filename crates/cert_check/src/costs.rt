@@ -44,7 +44,7 @@ fn ends_overlap(mask: u32, left: &[Event], right: &[Event], column: &[Sym]) -> b
 /// Whether a column costs 1 under a constraint, where the tiers of a mask are open before it, and the
 /// constraint's phase, if it has one, is unmet or not.
 fn costs(constraint: &Constraint, mask: u32, is_unmet: bool, column: &[Sym]) -> bool
-    requires { IsOverTiers (length column.now) constraint.now }
+    requires over { IsOverTiers (length column.now) constraint.now }
     requires few { length column.now ≤ 12 }
     ensures { (phase : Phase) → is_unmet ≡ is_unmet_phase phase
         → result

@@ -40,6 +40,15 @@ adds_no_tests width old alike always = record {
   told = λ c d lc ld agree. always c d;
 }
 
+pub adds_weaker : (width : ℕ) (old new : List Class) (P Q : List Sym → List Sym → Type 0)
+    → ((c d : List Sym) → P c d → Q c d) → AddsTests width old new P → AddsTests width old new Q
+adds_weaker width old new P Q weaker a = record {
+  added = a.added;
+  new_is = a.new_is;
+  one_width = a.one_width;
+  told = λ c d lc ld agree. weaker c d (a.told c d lc ld agree);
+}
+
 pub adds_then : (width : ℕ) (old mid new : List Class) (P Q R : List Sym → List Sym → Type 0)
     → ((c d : List Sym) → P c d → Q c d → R c d) → AddsTests width old mid P → AddsTests width mid new Q
     → AddsTests width old new R

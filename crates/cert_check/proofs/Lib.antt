@@ -26,3 +26,5 @@ pub mod KeptSteps
 pub mod ColumnPlaces
 pub mod NodeSteps
 pub mod StageSteps
+pub mod MovedSteps
+pub mod CheckSteps

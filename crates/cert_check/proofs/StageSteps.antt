@@ -3,6 +3,7 @@ use Rattle.std.proofs.Common.{◌≡◌, ◌≢◌, ℕ, zero, suc, ◌+◌, ◌
 use Rattle.std.proofs.lemmas.Bool.{cases_lt}
 use Rattle.std.proofs.lemmas.Option.{slice_get_within, slice_get-get_or, get_or_from_slice_get}
 use Rattle.std.proofs.lemmas.List.{length-map}
+use Rattle.tier_core.specs.declared.sym.Sym.{Sym}
 use Rattle.violation.specs.Prefixes.{kind_of, kind_of_bits}
 use Rattle.violation.specs.Problems.{Problem, last_place, last_stage}
 use Rattle.answer_text.specs.declared.answer.Answer.{Answer}
@@ -14,7 +15,7 @@ use Rattle.cert_check.specs.declared.subject.Subject.{Subject}
 use Rattle.cert_check.specs.Faults.{HasNode, HasWrongStart, LacksStart}
 use Rattle.cert_check.specs.Nodes.{IsRightNode, IsRightStage, IsFirstInNode}
 use Rattle.cert_check.specs.FirstFaults.{IsFirstFault}
-use Rattle.cert_check.specs.Parts.{HasRightHead, InAnswer, InNode, InStage, IsFirstInStage}
+use Rattle.cert_check.specs.Parts.{HasRightHead, InAnswer, InNode, InStage, IsFirstInStage, IsWrongMove}
 use Rattle.cert_check.specs.Places.{IsBefore}
 use Rattle.cert_check.specs.Subjects.{IsReady, AreInOrder, problem_of, nodes_of, kinds_of, node_kind}
 use Rattle.cert_check.proofs.NodeSteps.{one_node}
@@ -79,11 +80,11 @@ module _ (s : Subject) (stage : ℕ) (ready : IsReady s) (within : stage ≤ las
     module _ (nodes : (n : ℕ) → n < length (nodes_of s stage) → IsRightNode (problem_of s) s.answer.now stage n) where
       of_node : (n part : ℕ) (rest : List ℕ) → InNode problem answer stage n part rest → n < length (nodes_of s stage)
       of_node n zero rest w = slice_get_within (nodes_of s stage) n w.1.0.node w.1.0.is.numbered
-      of_node n (suc zero) rest w = by w.1.0
+      of_node n (suc zero) rest w = by w.0 w.1.0
         where
-          by : _ → n < length (nodes_of s stage)
-          by (inl v) = slice_get_within (nodes_of s stage) n v.1.node v.1.is.numbered
-          by (inr v) = slice_get_within (nodes_of s stage) n v.1.1.node v.1.1.is.numbered
+          by : (column : List Sym) → IsWrongMove problem answer stage n column → n < length (nodes_of s stage)
+          by column (inl v) = slice_get_within (nodes_of s stage) n v.1.node v.1.is.numbered
+          by column (inr v) = slice_get_within (nodes_of s stage) n v.1.1.node v.1.1.is.numbered
       of_node n (suc (suc part)) rest w = absurd w
 
       below_start : (m : ℕ) → m < 3 → (rest : List ℕ) → InStage problem answer stage m rest → ⊥

@@ -55,7 +55,7 @@ list_all_agree : (f g : Event → Bool) (es : List Event) → AllByRecursion (λ
 list_all_agree f g [] h = refl
 list_all_agree f g (e ∷ es) h = ap₂ (λ a b. a && b) h.0 (list_all_agree f g es h.1)
 
-each_event : (n : ℕ) (f g : ℕ → Bool) → ((t : ℕ) → t < n → f t ≡ g t) → (es : List Event) → AreTiersBelow n es
+pub each_event : (n : ℕ) (f g : ℕ → Bool) → ((t : ℕ) → t < n → f t ≡ g t) → (es : List Event) → AreTiersBelow n es
     → AllByRecursion (λ e. f e.tier ≡ g e.tier) es
 each_event n f g h [] below = tt
 each_event n f g h (e ∷ es) below = (h e.tier below.0, each_event n f g h es below.1)

@@ -14,6 +14,7 @@ mod boxes;
 mod costs;
 mod cut;
 mod fault;
+mod final_kind;
 mod find;
 mod fit_boxes;
 mod fitting;

@@ -1,9 +1,7 @@
-ghost use Rattle.std.specs.Prelude.{◌≡◌, ℕ, ◌+◌, ◌<◌, ◌≤◌, ◌^◌, ⊥, All, IfErr, IsTrue, List, MatchOption, OnOk, length, map, slice_index_or};
+ghost use Rattle.std.specs.Prelude.{◌≡◌, ℕ, ◌+◌, ◌<◌, ◌≤◌, ◌^◌, All, IfErr, IsTrue, List, MatchOption, OnOk, length, map, slice_index_or};
 ghost use Rattle.tier_core.specs.declared.sym.Sym.{Sym};
 ghost use Rattle.tier_core.specs.Classes.{has};
-ghost use Rattle.tier_core.specs.KindShapes.{FitsShape};
 ghost use Rattle.symbol_class.specs.Filled.{is_filled};
-ghost use Rattle.violation.specs.Moves.{is_final};
 ghost use Rattle.violation.specs.Prefixes.{kind_of_bits};
 ghost use Rattle.violation.specs.Problems.{last_place, last_stage};
 ghost use Rattle.answer_text.specs.Certified.{IsKeptBelow};
@@ -14,6 +12,7 @@ ghost use Rattle.cert_check.specs.Stops.{StopsBy};
 ghost use Rattle.cert_check.specs.Subjects.{IsReady, AscendsAt, problem_of};
 
 use crate::fault::Fault;
+use crate::final_kind::is_final;
 use crate::kept::kept_pieces;
 use crate::kept_piece::KeptPiece;
 use crate::stop::Stop;
@@ -22,17 +21,7 @@ use crate::tight::potential_of;
 use answer_text::Node;
 use std::alloc::Global;
 use symbol_class::least_column;
-use tier_core::{Kind, column_cmp};
-
-/// Whether a kind is final: the whole form has been read, and no free tier is open.
-fn is_final(subject: &Subject, kind: &Kind) -> bool
-    requires ready { IsReady subject.now }
-    requires opened { kind.now.opened < 2 ^ length (problem_of subject.now).tiers.free }
-    ensures { (stage : ℕ) → result
-        ≡ is_final (problem_of subject.now) (kind_of_bits (problem_of subject.now) stage kind.now) }
-{
-    kind.place as usize == subject.answer.form.len() && kind.opened == 0
-}
+use tier_core::column_cmp;
 
 /// Looks at the potential of a node.
 fn check_final(subject: &Subject, stage: u32, number: u32, node: &Node) -> Result<(), Stop>

@@ -54,3 +54,15 @@ read_by place last kinds own coming box reading column_read wanted same is l wid
 none_by : (place last : ℕ) (coming : Class) (P : List Sym → Type 0) → place ≡ last
     → (column : List Sym) → IsTrue false ↔ (IsTrue (has coming column) × ((place < last) × P column))
 none_by place last coming P e column = (λ h. absurd (false≢true h), λ r. absurd (omega (arith, r.1.0, e)))
+
+pub open_tiers-requires-clause-wide : goal.open_tiers-requires-clause-wide
+open_tiers-requires-clause-wide c = ?
+
+pub returns-then-place-len : goal.returns-then-place-len
+returns-then-place-len c stage = ?
+
+pub reading_box-requires-clause-form : goal.reading_box-requires-clause-form
+reading_box-requires-clause-form c = ?
+
+pub returns : goal.returns
+returns c stage = ?

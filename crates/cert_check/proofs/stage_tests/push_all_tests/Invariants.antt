@@ -4,5 +4,5 @@ use Rattle.cert_check.specs.Tests.{AddsTests}
 use Rattle.cert_check.proofs.stage_tests.push_all_tests.Given as goal
 
 abbrev pub invariant-loop-constraint : goal.invariant-loop-constraint
-invariant-loop-constraint l = AddsTests l.width l.tests.old.items l.tests.now.items
+invariant-loop-constraint l = AddsTests l.width l.fn.tests.items l.tests.items
     (λ c d. All (λ x. AreAlikeFor x c d) (take l.constraint-index l.constraints))

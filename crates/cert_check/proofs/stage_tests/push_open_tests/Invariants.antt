@@ -5,5 +5,5 @@ use Rattle.cert_check.specs.Tests.{AddsTests}
 use Rattle.cert_check.proofs.stage_tests.push_open_tests.Given as goal
 
 abbrev pub invariant-loop-tier : goal.invariant-loop-tier
-invariant-loop-tier l = AddsTests l.width l.tests.old.items l.tests.now.items
+invariant-loop-tier l = AddsTests l.width l.fn.tests.items l.tests.items
     (λ c d. (t : ℕ) → t < l.tier → opens (symbol c t) ≡ opens (symbol d t))

@@ -11,14 +11,52 @@ use Rattle.tier_core.specs.Kinds.{PrefixKind}
 use Rattle.symbol_class.specs.Filled.{is_filled}
 use Rattle.symbol_class.specs.Held.{some_has, times_held, once_if, ArePieces}
 use Rattle.symbol_class.proofs.Times.{times-append, times-cons, once_from_apart, pieces_from_once}
+use Rattle.violation.specs.Moves.{moved, cost_of}
 use Rattle.violation.specs.Problems.{Problem}
 use Rattle.answer_text.specs.declared.stage.Stage.{Stage}
 use Rattle.answer_text.specs.Certified.{IsKeptBelow, IsTightAt}
 use Rattle.cert_check.specs.declared.kept_piece.KeptPiece.{KeptPiece}
-use Rattle.cert_check.specs.Fitting.{AreNodePieces, GoOnAlike}
+use Rattle.cert_check.specs.Faults.{TellsKind}
+use Rattle.cert_check.specs.Fitting.{AreNodePieces, GoOnAlike, IsGoingAlike}
 use Rattle.cert_check.specs.Kept.{classes_of, IsKeptPiece, IsTightBelow, AddsKept, AreKept}
+use Rattle.cert_check.proofs.TightSteps.{tight_below_same}
 
 module _ (problem : Problem) (stages : List Stage) (stage below : ℕ) (k : PrefixKind) where
+  -- ---- one class, all columns of which go on alike
+
+  module _ (class : Class) (column : List Sym) (old : List KeptPiece) (within : below ≤ stage + 1)
+      (alike : IsGoingAlike problem stage class) (held : IsTrue (has class column)) where
+    pub adds_no_kept : (IsTightBelow problem stages below k column → ⊥)
+        → AddsKept problem stages stage below k class old old
+    adds_no_kept none = inl (refl, λ other h t. none
+        (tight_below_same problem stages stage below k other column (alike other column h held) within t))
+
+    pub adds_kept : (new : List KeptPiece) (piece : KeptPiece) → new ≡ old ++ piece ∷ [] → piece.class ≡ class
+        → TellsKind problem stage piece.target (moved problem stage k column)
+        → cost_of problem stage k column ≡ piece.cost → piece.cost ≤ 1
+        → IsTightBelow problem stages below k column → AddsKept problem stages stage below k class old new
+    adds_kept new piece e same tells costs few tight = inr (
+      piece,
+      (
+        e,
+        (
+          same,
+          (
+            record {
+              leads = λ other h. subst (TellsKind problem stage piece.target)
+                  ((alike column other held (here other h)).moves stage k (omega arith)) tells;
+              costs = λ other h. sym ((alike column other held (here other h)).costs stage k (omega arith)) ∙ costs;
+              few = few;
+            },
+            λ other h. tight_below_same problem stages stage below k column other (alike column other held h) within tight,
+          ),
+        ),
+      ),
+    )
+      where
+        here : (other : List Sym) → IsTrue (has piece.class other) → IsTrue (has class other)
+        here other h = ap (λ c. has c other) (sym same) ∙ h
+
   -- so far these pieces are kept, of the first classes of a list
   pub record KeptOf (classes : List Class) (n : ℕ) (kept : List KeptPiece) : Type 0 where
     pub one_width : All (λ class. length (sets_of class) ≡ problem.tiers.width) (classes_of kept)

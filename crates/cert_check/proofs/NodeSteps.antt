@@ -4,7 +4,8 @@ use Rattle.std.specs.List.{list_any}
 use Rattle.std.specs.Prelude.{unwrap_or}
 use Rattle.std.specs.List.Sorted.{IsStrictlySortedBy}
 use Rattle.std.proofs.lemmas.Bool.{cases_lt, true≢false, false≢true, both_ways, or_cases}
-use Rattle.std.proofs.lemmas.List.{get_or_default}
+use Rattle.std.proofs.lemmas.List.{get_or_default, get_or-map, length-map}
+use Rattle.std.proofs.lemmas.List.Folds.{list_any_at}
 use Rattle.tier_core.specs.declared.class.Class.{Class}
 use Rattle.tier_core.specs.declared.kind.Kind.{Kind}
 use Rattle.tier_core.specs.declared.sym.Sym.{Sym}
@@ -19,13 +20,15 @@ use Rattle.violation.specs.Prefixes.{kind_of_bits}
 use Rattle.violation.specs.Problems.{Problem}
 use Rattle.answer_text.specs.declared.answer.Answer.{Answer}
 use Rattle.answer_text.specs.declared.stage.Node.{Node}
+use Rattle.answer_text.specs.declared.stage.Stage.{Stage}
 use Rattle.answer_text.specs.Right.{nodes_at, kinds_at}
 use Rattle.answer_text.specs.Certified.{IsKeptBelow, Lists}
 use Rattle.check_laws.proofs.Listing.{one_potential}
 use Rattle.cert_check.specs.declared.fault.Fault.{Fault}
 use Rattle.cert_check.specs.declared.fault.Fault.TheVariants.{FinalPotential, NotClosed, Potential}
 use Rattle.cert_check.specs.Faults.{HasNode, HasFinalPotential, IsNotClosed, HasHighPotential, IsUnlisted, TellsKind}
-use Rattle.cert_check.specs.Kept.{IsKeptPiece}
+use Rattle.cert_check.specs.declared.kept_piece.KeptPiece.{KeptPiece}
+use Rattle.cert_check.specs.Kept.{AreKept, IsKeptPiece, classes_of}
 use Rattle.cert_check.specs.Nodes.{IsRightNode, IsRightPart, IsFirstInNode, IsMoveFault, AreWrongOn, AreRightOn, IsNotAfter, IsLeastWrong}
 use Rattle.cert_check.specs.Parts.{InNode, IsWrongMove}
 use Rattle.cert_check.specs.Places.{IsBefore, column_place}
@@ -245,11 +248,15 @@ module _ (problem : Problem) (answer : Answer) (stage n : ℕ) (classes : List C
         (one_node answer stage n w.1.1.node node w.1.1.is is) w.1.1.kept)
 
     -- none is chosen, so nothing is wrong
-    pub right_where_no_best : (d : Class) → best ≡ length classes → IsRightPart problem answer stage n 1
-    right_where_no_best d none rest w =
-        let i = some_index classes w.0 d (of_wrong w.0 w.1.0) in
-        ⊎_elim (λ right. right w.0 i.1.1 w.1.0) (λ later. absurd (omega (arith, later.0, none)))
-        (least.others i.0 d (omega (arith, i.1.0, all)))
+    pub right_where_no_best : best ≡ length classes → IsRightPart problem answer stage n 1
+    right_where_no_best none rest w = by classes refl
+      where
+        by : (cs : List Class) → cs ≡ classes → ⊥
+        by [] e = false≢true (ap (λ xs. some_has xs w.0) e ∙ of_wrong w.0 w.1.0)
+        by (d ∷ cs) e =
+            let i = some_index classes w.0 d (of_wrong w.0 w.1.0) in
+            ⊎_elim (λ right. right w.0 i.1.1 w.1.0) (λ later. absurd (omega (arith, later.0, none)))
+            (least.others i.0 d (omega (arith, i.1.0, all)))
 
     -- the fault of the chosen class comes first
     pub first_move : (class : Class) (fault : Fault) → best < length classes → class ≡ get_or classes best class
@@ -278,3 +285,45 @@ module _ (problem : Problem) (answer : Answer) (stage n : ℕ) (classes : List C
             (λ x. subst (λ c. IsNotAfter c other) (sym e) later.1 x)
             (before_or (column_place column) (column_place (first_column other)) (column_place (first_column class)) before))
             (least.others i.0 class (omega (arith, i.1.0, all)))
+
+-- a node is right where its parts are
+pub right_node : (problem : Problem) (answer : Answer) (stage n : ℕ) → IsRightPart problem answer stage n 0
+    → IsRightPart problem answer stage n 1 → IsRightNode problem answer stage n
+right_node problem answer stage n a b zero rest w = a rest w
+right_node problem answer stage n a b (suc zero) rest w = b rest w
+right_node problem answer stage n a b (suc (suc part)) rest w = w
+
+-- something is wrong on the class that is chosen
+pub never_none : (problem : Problem) (answer : Answer) (stage n : ℕ) (classes : List Class) (best count : ℕ)
+    → IsLeastWrong problem answer stage n classes count best → (class : Class) → best < length classes
+    → class ≡ get_or classes best class → IsTrue (is_filled class) → AreRightOn problem answer stage n class
+    → {A : Type 0} → A
+never_none problem answer stage n classes best count least class some e filled right =
+    let wrong : AreWrongOn problem answer stage n class =
+    subst (AreWrongOn problem answer stage n) (sym e) (least.wrong class some) in
+    let held = has-first_column class filled in
+    absurd (right (first_column class) held (wrong (first_column class) held))
+
+-- ---- the pieces that are kept
+
+module _ (problem : Problem) (stages : List Stage) (stage below : ℕ) (k : PrefixKind) (pieces : List KeptPiece)
+    (kept : AreKept problem stages stage below k pieces) (n : ℕ) (piece : KeptPiece) (inside : n < length pieces)
+    (is : piece ≡ get_or pieces n piece) where
+  pub piece_within : n < length (classes_of pieces)
+  piece_within = omega (arith, inside, length-map pieces (λ (p : KeptPiece). p.class))
+
+  pub piece_class : piece.class ≡ get_or (classes_of pieces) n piece.class
+  piece_class = ap (λ (p : KeptPiece). p.class) is
+      ∙ sym (get_or-map (λ (p : KeptPiece). p.class) pieces n piece piece.class inside)
+
+  pub piece_filled : IsTrue (is_filled piece.class)
+  piece_filled = subst (λ class. IsTrue (is_filled class)) (sym piece_class)
+      (kept.pieces.filled n piece.class piece_within)
+
+  pub piece_kept : (column : List Sym) → IsTrue (has piece.class column) → IsKeptBelow problem stages below k column
+  piece_kept column h = (kept.columns column).0
+      (list_any_at (λ class. has class column) (classes_of pieces) n piece.class piece_within
+      (ap (λ class. has class column) (sym piece_class) ∙ h))
+
+  pub piece_told : IsKeptPiece problem stage k piece
+  piece_told = subst (IsKeptPiece problem stage k) (sym is) (kept.each n piece inside)

@@ -112,27 +112,32 @@ module _ (s : Subject) (stage : ℕ) (ready : IsReady s) (within : stage ≤ las
           h.differs (h.listed_is ∙ ap (λ (x : Node). x.potential) (sym here) ∙ sym (is h.node) ∙ same ∙ sym h.count_is)
       right_stage listed is same (suc (suc (suc (suc m)))) rest w = absurd w
 
-      pub first_start : (listed count : ℕ) (node : Node)
+      pub first_start : (listed count : ℕ)
           → ((node : Node) → listed ≡ (get_or (nodes_of s stage) 0 node).potential)
           → count ≡ start_potential s.answer.now.counts.items stage → listed ≢ count
           → IsFirstInStage (problem_of s) s.answer.now stage (StartPotential stage listed count)
-      first_start listed count node is same differs = record {
-        place = 3 ∷ [];
-        is = (
-          record {
-            node = get_or (nodes_of s stage) 0 node;
-            is = record {
-              within = in_stages s ready stage within;
-              numbered = slice_get-get_or (nodes_of s stage) 0 node some_nodes;
-            };
-            listed_is = is node;
-            count_is = same;
-            differs = differs;
-          },
-          refl,
-        );
-        first = none_before (InStage problem answer stage) 3 [] below_start (λ rest w b. b);
-      }
+      first_start listed count is same differs = by (nodes_of s stage) refl
+        where
+          by : (ns : List Node) → nodes_of s stage ≡ ns
+              → IsFirstInStage (problem_of s) s.answer.now stage (StartPotential stage listed count)
+          by [] e = absurd (omega (arith, some_nodes, ap (λ (xs : List Node). length xs) e))
+          by (node ∷ ns) e = record {
+            place = 3 ∷ [];
+            is = (
+              record {
+                node = get_or (nodes_of s stage) 0 node;
+                is = record {
+                  within = in_stages s ready stage within;
+                  numbered = slice_get-get_or (nodes_of s stage) 0 node some_nodes;
+                };
+                listed_is = is node;
+                count_is = same;
+                differs = differs;
+              },
+              refl,
+            );
+            first = none_before (InStage problem answer stage) 3 [] below_start (λ rest w b. b);
+          }
 
 -- ---- all stages
 

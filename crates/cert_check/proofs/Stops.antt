@@ -6,7 +6,7 @@ use Rattle.cert_check.specs.declared.stop.Stop.{Stop}
 use Rattle.cert_check.specs.declared.stop.Stop.TheVariants.{Found, NoMemory}
 use Rattle.cert_check.specs.Stops.{StopsBy}
 
-stop_says : (P Q : Fault → Type 0) → ((fault : Fault) → P fault → Q fault) → (stop : Stop) → StopsBy P stop
+pub stop_says : (P Q : Fault → Type 0) → ((fault : Fault) → P fault → Q fault) → (stop : Stop) → StopsBy P stop
     → StopsBy Q stop
 stop_says P Q h (Found fault) p = h fault p
 stop_says P Q h NoMemory p = tt

@@ -65,6 +65,19 @@ module _ (problem : Problem) (stages : List Stage) (j : ℕ) where
         potential = sym same;
       }
 
+  pub lists_there : (k : PrefixKind) (n p : ℕ) → slice_get (kinds_at problem j (nodes_at stages j)) n ≡ Some k
+      → ((d : Node) → p ≡ (get_or (nodes_at stages j) n d).potential) → Lists problem stages j k p
+  lists_there k n p e same = by (nodes_at stages j) refl
+    where
+      by : (ns : List Node) → nodes_at stages j ≡ ns → Lists problem stages j k p
+      by [] is = absurd (omega (
+        arith,
+        slice_get_within (kinds_at problem j (nodes_at stages j)) n k e,
+        length-map (nodes_at stages j) (λ (node : Node). kind_of_bits problem j node.kind),
+        ap (λ (xs : List Node). length xs) is,
+      ))
+      by (d ∷ ns) is = lists_at k n p d e (same d)
+
   -- a kind that no node tells is not listed
   pub unlisted_by : (k : PrefixKind) → (Contains (kinds_at problem j (nodes_at stages j)) k → ⊥)
       → IsUnlisted problem stages j k

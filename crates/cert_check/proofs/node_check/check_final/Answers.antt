@@ -1,13 +1,17 @@
-use Rattle.std.proofs.Common.{◌≡◌, arith, sym, ◌∙◌, ap}
+use Rattle.std.proofs.Common.{◌≡◌, ℕ, ◌^◌, ◌<◌, arith, sym, ◌∙◌, ap, subst, length}
+use Rattle.std.proofs.lemmas.Option.{slice_get_within}
 use Rattle.cert_check.specs.Subjects.{problem_of}
 use Rattle.cert_check.proofs.NodeSteps.{right_where_open, first_final}
 use Rattle.cert_check.proofs.node_check.check_final.Goals as goal
 
-pub is_final-requires-clause-opened : goal.is_final-requires-clause-opened
-is_final-requires-clause-opened c = ?
-
 pub returns-then-not-is_final-clause-ok : goal.returns-then-not-is_final-clause-ok
-returns-then-not-is_final-clause-ok c = ?
+returns-then-not-is_final-clause-ok c =
+    let s = c.args.subject.now in
+    right_where_open (problem_of s) s.answer.now c.args.stage c.args.number c.args.node.now c.requires.is
+    (sym (c.is_final.ensures c.args.stage) ∙ c.if-not-is_final.true)
 
 pub returns-clause-err : goal.returns-clause-err
-returns-clause-err c = ?
+returns-clause-err c =
+    let s = c.args.subject.now in
+    first_final (problem_of s) s.answer.now c.args.stage c.args.number c.args.node.now c.requires.is
+    (sym (c.is_final.ensures c.args.stage) ∙ c.if-not-is_final.false) c.if-node-eq0.false

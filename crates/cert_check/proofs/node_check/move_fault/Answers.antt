@@ -18,10 +18,24 @@ potential_of-requires-clause-fits c =
     (c.requires.piece.leads first (has-first_column class c.requires.filled))
 
 pub returns-in_default : goal.returns-in_default
-returns-in_default c = ?
+returns-in_default c =
+    let s = c.args.subject.now in
+    let piece = c.args.piece.now in
+    not_closed (problem_of s) s.answer.now c.args.stage c.args.number c.args.node.now c.requires.is piece.class
+    piece.target piece.cost c.requires.kept c.requires.piece.leads c.requires.piece.costs c.in_default.ensures
 
 pub returns-then-node-allowed : goal.returns-then-node-allowed
-returns-then-node-allowed c = ?
+returns-then-node-allowed c =
+    let s = c.args.subject.now in
+    let piece = c.args.piece.now in
+    too_high (problem_of s) s.answer.now c.args.stage c.args.number c.args.node.now c.requires.is piece.class
+    piece.target piece.cost c.requires.kept c.requires.piece.leads c.requires.piece.costs c.in-Some.next
+    c.in-Some.ensures.1 c.if-node-allowed.true
 
 pub returns : goal.returns
-returns c = ?
+returns c =
+    let s = c.args.subject.now in
+    let piece = c.args.piece.now in
+    none_wrong (problem_of s) s.answer.now c.args.stage c.args.number c.args.node.now c.requires.is piece.class
+    piece.target piece.cost c.requires.kept c.requires.piece.leads c.requires.piece.costs c.in-Some.next
+    c.in-Some.ensures.1 c.requires.ascends c.if-node-allowed.false

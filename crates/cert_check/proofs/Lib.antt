@@ -6,6 +6,13 @@ pub mod Stops
 pub mod Opens
 pub mod Cuts
 pub mod KindTies
+pub mod Decisions
+pub mod DecidedForms
+pub mod DecidedMoves
+pub mod KindMasks
+pub mod Ascending
+pub mod Certifying
+pub mod OneFault
 pub mod Searches
 pub mod Subjects
 pub mod Orders

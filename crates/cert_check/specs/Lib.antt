@@ -12,3 +12,4 @@ pub mod Alike
 pub mod Boxes
 pub mod Tests
 pub mod Pieces
+pub mod Kept

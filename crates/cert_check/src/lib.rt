@@ -15,6 +15,8 @@ mod cut;
 mod fault;
 mod find;
 mod head;
+mod kept;
+mod kept_piece;
 mod laws;
 mod open;
 mod order;

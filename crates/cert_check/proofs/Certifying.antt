@@ -157,8 +157,8 @@ module _ (problem : Problem) (answer : Answer) (faultless : IsFaultless problem 
               → Decided (AreClosedOr (is_left_open problem (told node)) (stretches problem r) (told node).phases)
               → Decided (IsPossibleKind problem r (told node))
           told_possible (inl p) (inl q) = inl (record { place = p; phases = q })
-          told_possible (inl p) (inr no) = inr (λ h. no h.phases)
-          told_possible (inr no) d = inr (λ h. no h.place)
+          told_possible (inl p) (inr none) = inr (λ h. none h.phases)
+          told_possible (inr none) d = inr (λ h. none h.place)
 
       cut_before : 1 ≤ r → Contains (kinds_at problem (r - 1) (nodes_at answer.stages.items (r - 1)))
           (cut problem (r - 1) (told node))
@@ -189,10 +189,10 @@ module _ (problem : Problem) (answer : Answer) (faultless : IsFaultless problem 
                 ⊎ IsUnlisted problem answer.stages.items r next
                 → (q : ℕ) × Lists problem answer.stages.items r next q
             own (inl h) = h
-            own (inr no) = absurd (faultless (NotClosed r n missing.0) _ (
+            own (inr none) = absurd (faultless (NotClosed r n missing.0) _ (
               column,
               (
-                record { node = node; is = is; kept = kept; leads = missing.1; unlisted = no },
+                record { node = node; is = is; kept = kept; leads = missing.1; unlisted = none },
                 refl,
               ),
             ))
@@ -401,8 +401,8 @@ module _ (problem : Problem) (answer : Answer) (faultless : IsFaultless problem 
                   (arc, (c, holds, refl)) (kept, target.1) in
               (kept, subst (λ m. IsNodeOf problem last_nodes m goal_kind)
               (sym (ap (λ o. unwrap_or o 0) same)) target.1)
-          own (inr no) = absurd (some_not_none arc.target
-              (same_target (Some arc.target) None (arc, (c, holds, refl)) no))
+          own (inr none) = absurd (some_not_none arc.target
+              (same_target (Some arc.target) None (arc, (c, holds, refl)) none))
 
       kept_arc : (m : ℕ) → Kept → IsNodeOf problem last_nodes m goal_kind → HasArc states line.node m column
       kept_arc m kept target = own (arc_on line.arcs.items column)

@@ -1,5 +1,5 @@
 -- Whether a stage lists a kind, a column fits one, and a move is kept, can be told.
-use Rattle.std.proofs.Common.{◌≡◌, ℕ, ◌+◌, ◌<◌, ◌≤◌, ◌⊎◌, true, List, length, sym, ap, ◌∙◌, arith, inl, inr, Contains}
+use Rattle.std.proofs.Common.{◌≡◌, ℕ, ◌+◌, ◌<◌, ◌≤◌, ◌⊎◌, true, false, List, length, sym, ap, ◌∙◌, arith, inl, inr, Contains}
 use Rattle.std.specs.List.Sorted.{IsStrictlySortedBy}
 use Rattle.std.proofs.lemmas.Bool.{cases_eq, cases_lt}
 use Rattle.tier_core.specs.declared.sym.Sym.{Sym}
@@ -16,6 +16,14 @@ use Rattle.cert_check.specs.Faults.{IsUnlisted}
 use Rattle.cert_check.proofs.Decisions.{Decided, from_both, from_either, is_below, is_true, is_false, for_all_below, is_symbol, is_list, is_member, is_kind}
 
 module _ (problem : Problem) where
+  -- what is asked of a column's symbols, and of its input part
+  abbrev AreFitting : PrefixKind → List Sym → Type 0
+  AreFitting k column = (t : ℕ) → t < problem.tiers.width → fits (is_tier_open problem k t) (symbol column t) ≡ true
+
+  abbrev HasInput : PrefixKind → List Sym → Type 0
+  HasInput k column = (has_edge (input_of problem.tiers column) ≡ false) ⊎
+      ((k.place < last_place problem) × (input_of problem.tiers column ≡ column_at problem.form k.place))
+
   -- a column fits a kind or not
   pub is_fitting : (k : PrefixKind) (column : List Sym) → Decided (FitsKind problem k column)
   is_fitting k column =
@@ -27,15 +35,8 @@ module _ (problem : Problem) where
       (from_both (is_below k.place (last_place problem))
       (is_list is_symbol (input_of problem.tiers column) (column_at problem.form k.place))))
     where
-      abbrev Symbols : Type 0
-      Symbols = (t : ℕ) → t < problem.tiers.width → fits (is_tier_open problem k t) (symbol column t) ≡ true
-
-      abbrev Input : Type 0
-      Input = (has_edge (input_of problem.tiers column) ≡ false) ⊎
-          ((k.place < last_place problem) × (input_of problem.tiers column ≡ column_at problem.form k.place))
-
-      own : Decided (length column ≡ problem.tiers.width) → Decided Symbols → Decided (has_edge column ≡ true)
-          → Decided Input → Decided (FitsKind problem k column)
+      own : Decided (length column ≡ problem.tiers.width) → Decided (AreFitting k column)
+          → Decided (has_edge column ≡ true) → Decided (HasInput k column) → Decided (FitsKind problem k column)
       own (inl w) (inl s) (inl e) (inl i) = inl (record { width = w; symbols = s; edge = e; input = i })
       own (inl w) (inl s) (inl e) (inr n) = inr (λ f. n f.input)
       own (inl w) (inl s) (inr n) i = inr (λ f. n f.edge)
@@ -76,26 +77,26 @@ module _ (problem : Problem) where
         own (inl a) (inr n) = inr (λ t. n t.after t.arrives)
         own (inr n) b = inr (λ t. n t.before t.leaves)
 
+    abbrev IsTightFrom : PrefixKind → List Sym → ℕ → Type 0
+    IsTightFrom k column j = 1 ≤ j → IsTightAt problem stages j k column
+
     -- a move is kept below a stage, or not, where the kinds of the stages below it ascend
     pub is_kept : (r : ℕ) → ((j : ℕ) → j < r → IsStrictlySortedBy kind_order (kinds_at problem j (nodes_at stages j)))
         → (k : PrefixKind) (column : List Sym) → Decided (IsKeptBelow problem stages r k column)
-    is_kept r ascending k column = own (is_fitting k column) (for_all_below IsTightFrom r (λ j l. tight j (ascending j l)))
+    is_kept r ascending k column = own (is_fitting k column) (for_all_below (IsTightFrom k column) r (λ j l. tight j (ascending j l)))
       where
-        abbrev IsTightFrom : ℕ → Type 0
-        IsTightFrom j = 1 ≤ j → IsTightAt problem stages j k column
-
         tight : (j : ℕ) → IsStrictlySortedBy kind_order (kinds_at problem j (nodes_at stages j))
-            → Decided (IsTightFrom j)
+            → Decided (IsTightFrom k column j)
         tight j h = told (is_tight j h k column)
           where
-            told : Decided (IsTightAt problem stages j k column) → Decided (IsTightFrom j)
+            told : Decided (IsTightAt problem stages j k column) → Decided (IsTightFrom k column j)
             told (inl t) = inl (λ some. t)
             told (inr n) = elim (cases_lt 0 j) [
               | inl l ↦ inr (λ t. n (t (omega (arith, l))))
               | inr g ↦ inl (λ some. absurd (omega (arith, g, some)))
             ]
 
-        own : Decided (FitsKind problem k column) → Decided ((j : ℕ) → j < r → IsTightFrom j)
+        own : Decided (FitsKind problem k column) → Decided ((j : ℕ) → j < r → IsTightFrom k column j)
             → Decided (IsKeptBelow problem stages r k column)
         own (inl f) (inl t) = inl (record { fits = f; tight = λ j some l. t j l some })
         own (inl f) (inr n) = inr (λ h. n (λ j l some. h.tight j some l))

@@ -161,7 +161,7 @@ same_mask a b n la lb h = same_from_bits_below n a b la lb (λ i l.
 
 -- kinds with the same fields
 same_fields : (k l : Kind) → k.place ≡ l.place → k.opened ≡ l.opened → k.unmet ≡ l.unmet → k.met ≡ l.met → k ≡ l
-same_fields k l place opened unmet met =
+same_fields k l place opened unmets mets =
     let Unmet : ℕ → Type 0 = λ u. (a : bit_and u k.met ≡ 0) → k ≡ record
         { place = k.place; opened = k.opened; unmet = u; met = k.met; apart = a } in
     let own : Unmet k.unmet = λ a. let one : IsProp (bit_and k.unmet k.met ≡ 0) = hlevel props in
@@ -169,7 +169,7 @@ same_fields k l place opened unmet met =
         { place = k.place; opened = k.opened; unmet = k.unmet; met = k.met; apart = x } in r) (one k.apart a) in
     let Met : ℕ → Type 0 = λ m. (a : bit_and l.unmet m ≡ 0) → k ≡ record
         { place = k.place; opened = k.opened; unmet = l.unmet; met = m; apart = a } in
-    let masks : Met l.met = subst Met met (subst Unmet unmet own) in
+    let masks : Met l.met = subst Met mets (subst Unmet unmets own) in
     masks l.apart
     ∙ ap (λ (x : ℕ). let r : Kind = record
         { place = x; opened = k.opened; unmet = l.unmet; met = l.met; apart = l.apart } in r) place

@@ -13,6 +13,10 @@ pub mod KindMasks
 pub mod Ascending
 pub mod Certifying
 pub mod OneFault
+pub mod Gathering
+pub mod LeastColumns
+pub mod ArcLists
+pub mod StateFaults
 pub mod Searches
 pub mod Subjects
 pub mod Orders

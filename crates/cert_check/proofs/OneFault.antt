@@ -151,14 +151,14 @@ module _ (problem : Problem) (answer : Answer) where
   one_node : (stage n : ℕ) (a b : Node) → HasNode answer stage n a → HasNode answer stage n b → a ≡ b
   one_node stage n a b h k = some_same (sym h.numbered ∙ k.numbered)
 
+  abbrev IsListed : ℕ → ℕ → Type 0
+  IsListed n w = (n ≡ length answer.stages.items) ⊎
+      ((length answer.stages.items ≡ w) × (n ≡ length answer.counts.items + 1))
+
   one_lack : (listed other wanted more : ℕ) → LacksStage problem answer listed wanted
       → LacksStage problem answer other more → (listed ≡ other) × (wanted ≡ more)
   one_lack listed other wanted more a b = (numbers a.listed_is b.listed_is, a.wanted_is ∙ sym b.wanted_is)
     where
-      abbrev IsListed : ℕ → ℕ → Type 0
-      IsListed n w = (n ≡ length answer.stages.items) ⊎
-          ((length answer.stages.items ≡ w) × (n ≡ length answer.counts.items + 1))
-
       numbers : IsListed listed wanted → IsListed other more → listed ≡ other
       numbers (inl e) (inl f) = e ∙ sym f
       numbers (inl e) (inr f) = absurd (a.differs (e ∙ f.0 ∙ b.wanted_is ∙ sym a.wanted_is))

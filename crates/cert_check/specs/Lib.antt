@@ -13,3 +13,7 @@ pub mod Boxes
 pub mod Tests
 pub mod Pieces
 pub mod Kept
+pub mod Arcs
+pub mod Gathered
+pub mod States
+pub mod KeptArcs

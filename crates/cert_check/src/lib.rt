@@ -12,19 +12,28 @@
 mod alike;
 mod boxes;
 mod cut;
+mod differing;
 mod fault;
+mod final_kind;
 mod find;
+mod find_state;
 mod head;
 mod kept;
+mod kept_arcs;
 mod kept_piece;
 mod laws;
+mod least;
 mod open;
 mod order;
+mod overlap;
 mod parting;
 mod possible;
 mod start;
+mod state_check;
+mod states;
 mod stop;
 mod subject;
+mod target;
 
 pub use alike::alike_columns_move_alike;
 pub use fault::{Fault, Verdict};

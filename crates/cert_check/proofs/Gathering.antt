@@ -1,5 +1,5 @@
 -- Classes that are gathered: what they hold, one by one.
-use Rattle.std.proofs.Common.{◌≡◌, ℕ, ◌+◌, ◌<◌, ◌≤◌, ◌◌<◌, ◌==◌, ◌&&◌◌<◌, ◌==◌, ◌&&◌◌, ◌||◌, not, Bool, true, false, IsTrue, List, [], ◌∷◌, ◌++◌, take, drop, map, length, get_or, refl, sym, ap, ap₂, ◌∙◌, subst, arith, ⊎_elim, inl, inr, All, true≢false}
+use Rattle.std.proofs.Common.{◌≡◌, ℕ, ◌+◌, ◌<◌, ◌≤◌, ◌&&◌, ◌||◌, not, Bool, true, false, IsTrue, List, [], ◌∷◌, ◌++◌, take, drop, map, length, get_or, refl, sym, ap, ◌∙◌, subst, All}
 use Rattle.std.specs.List.{list_any}
 use Rattle.std.proofs.lemmas.Bool.{cases_Bool, cases_lt}
 use Rattle.std.proofs.lemmas.List.{get_or-map, length-map, drop_more, drop_all}
@@ -10,6 +10,7 @@ use Rattle.tier_core.specs.declared.class.Class.{Class}
 use Rattle.tier_core.specs.Classes.{has, sets_of}
 use Rattle.symbol_class.specs.Filled.{is_filled}
 use Rattle.symbol_class.specs.Held.{some_has}
+use Rattle.symbol_class.proofs.Filled.{empty_holds}
 use Rattle.answer_text.specs.declared.automaton.ArcLine.{ArcLine}
 use Rattle.cert_check.specs.Arcs.{arc_classes, is_twice, is_led, is_unmatched}
 use Rattle.cert_check.specs.Gathered.{AreFilled, AddsColumns}
@@ -118,3 +119,8 @@ twice_all old new arcs n l a = record {
   held = λ column. or_false (some_has new column)
       ∙ ap (λ xs. some_has new column || is_twice xs column) (sym (drop_all n arcs l)) ∙ a.held column;
 }
+
+-- an empty class has nothing to add
+pub adds_empty : (xs : List Class) (class : Class) → is_filled class ≡ false → AddsColumns xs xs (has class)
+adds_empty xs class e = adds_same xs xs (λ column. false) (has class) (λ column. sym (empty_holds class column e))
+    (adds_none xs)

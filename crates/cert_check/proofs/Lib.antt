@@ -16,6 +16,7 @@ pub mod OneFault
 pub mod Gathering
 pub mod LeastColumns
 pub mod ArcLists
+pub mod NumberSearch
 pub mod StateFaults
 pub mod Searches
 pub mod Subjects

@@ -1,10 +1,12 @@
 -- Lists of arcs: the columns that are in two of them, and those on which two lists lead to different
 -- targets; and the least of some columns.
-use Rattle.std.specs.Prelude.{ℕ, ◌==◌, ◌≡◌, ◌&&◌, ◌||◌, not, Bool, false, IsTrue, List, [], ◌∷◌, map}
+use Rattle.std.specs.Prelude.{ℕ, ◌==◌, ◌≡◌, ◌&&◌, ◌||◌, ◌⊎◌, not, Bool, false, IsTrue, List, [], ◌∷◌, map}
 use Rattle.std.specs.List.{list_any}
+use Rattle.std.specs.Ordering.{is_gt}
 use Rattle.tier_core.specs.declared.sym.Sym.{Sym}
 use Rattle.tier_core.specs.declared.class.Class.{Class}
 use Rattle.tier_core.specs.Classes.{has}
+use Rattle.tier_core.specs.Orders.{column_cmp}
 use Rattle.symbol_class.specs.Held.{some_has}
 use Rattle.answer_text.specs.declared.automaton.ArcLine.{ArcLine}
 use Rattle.cert_check.specs.Places.{IsBefore, column_place}
@@ -38,3 +40,9 @@ pub record IsLeastColumn (test : List Sym → Bool) (column : List Sym) : Type 0
 -- no column passes
 abbrev pub IsNoColumn : (List Sym → Bool) → Type 0
 IsNoColumn test = (column : List Sym) → test column ≡ false
+
+-- One of two columns, which does not come after either.
+pub record IsLesser (first second lesser : List Sym) : Type 0 where
+  pub one : (lesser ≡ first) ⊎ (lesser ≡ second)
+  pub not_after_first : is_gt (column_cmp lesser first) ≡ false
+  pub not_after_second : is_gt (column_cmp lesser second) ≡ false

@@ -1,9 +1,7 @@
-ghost use Rattle.std.specs.Prelude.{◌≡◌, ◌⊎◌, All, IsTrue, MatchOption, false};
-ghost use Rattle.std.specs.Ordering.{is_gt};
-ghost use Rattle.tier_core.specs.Orders.{column_cmp};
+ghost use Rattle.std.specs.Prelude.{◌≡◌, All, IsTrue, MatchOption};
 ghost use Rattle.symbol_class.specs.Filled.{is_filled};
 ghost use Rattle.symbol_class.specs.Held.{some_has};
-ghost use Rattle.cert_check.specs.Arcs.{IsLeastColumn, IsNoColumn};
+ghost use Rattle.cert_check.specs.Arcs.{IsLeastColumn, IsLesser, IsNoColumn};
 
 use std::alloc::Global;
 use symbol_class::least_column;
@@ -11,14 +9,22 @@ use tier_core::{Class, Column, column_cmp};
 
 /// The one of two columns that comes first.
 fn lesser(first: Column, second: Column) -> Column
-    ensures one { (result ≡ first) ⊎ (result ≡ second) }
-    ensures first { is_gt (column_cmp result first) ≡ false }
-    ensures second { is_gt (column_cmp result second) ≡ false }
+    ensures { IsLesser first second result }
 {
     if column_cmp(&first, &second).is_gt() {
         second
     } else {
         first
+    }
+}
+
+/// The lesser of a column and of another, if there is one.
+fn lesser_of(best: Option<Column>, column: Column) -> Column
+    ensures { MatchOption best (result ≡ column) (λ other. IsLesser other column result) }
+{
+    match best {
+        None => column,
+        Some(other) => lesser(other, column),
     }
 }
 
@@ -30,11 +36,7 @@ pub(crate) fn least_of(alloc: Global, classes: &[Class]) -> Option<Column>
 {
     let mut least = None;
     for class in classes {
-        let own = least_column(alloc, class);
-        least = match least {
-            None => Some(own),
-            Some(column) => Some(lesser(column, own)),
-        };
+        least = Some(lesser_of(least, least_column(alloc, class)));
     }
     least
 }

@@ -13,31 +13,42 @@ mod alike;
 mod boxes;
 mod costs;
 mod cut;
+mod differing;
 mod fault;
 mod final_kind;
 mod find;
 mod fit_boxes;
 mod fitting;
+mod find_state;
 mod head;
 mod kept;
+mod kept_arcs;
 mod kept_piece;
 mod laws;
 mod moves;
 mod node_check;
 mod node_pieces;
+mod least;
 mod open;
 mod order;
+mod overlap;
 mod parting;
 mod possible;
 mod stage_check;
 mod stage_tests;
 mod stages;
 mod start;
+mod state_check;
+mod states;
 mod stop;
 mod subject;
 mod tight;
 mod uniform;
+mod target;
 
 pub use alike::alike_columns_move_alike;
 pub use fault::{Fault, Verdict};
-pub use laws::{certified_answers_are_faultless, right_answers_are_faultless};
+pub use laws::{
+    certified_answers_are_faultless, faultless_answers_are_certified, faultless_answers_are_sound,
+    one_fault_comes_first, right_answers_are_faultless,
+};

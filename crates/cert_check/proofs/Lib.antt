@@ -28,3 +28,4 @@ pub mod NodeSteps
 pub mod StageSteps
 pub mod MovedSteps
 pub mod CheckSteps
+pub mod OpenedNodes

@@ -1,6 +1,6 @@
 -- Masks by their bits: none from the bound on, none at all, and none in common; and the phase that a bit
 -- of each of two masks tells.
-use Rattle.std.proofs.Common.{◌≡◌, ℕ, zero, suc, ◌+◌, ◌^◌, ◌==◌, ◌<◌, ◌≤◌, ◌&&◌, ◌||◌, not, nat_eq, Bool, true, false, min, List, [], ◌∷◌, map, refl, ap, sym, ◌∙◌, arith, ⊎_elim, bit_and, eq-eqb, ne_eqb}
+use Rattle.std.proofs.Common.{◌≡◌, ℕ, ◌^◌, ◌==◌, ◌<◌, ◌≤◌, ◌&&◌, ◌||◌, not, nat_eq, Bool, true, false, min, List, [], ◌∷◌, map, refl, ap, sym, ◌∙◌, arith, ⊎_elim, bit_and, eq-eqb, ne_eqb}
 use Rattle.std.specs.Int.{bit_at}
 use Rattle.std.specs.List.{range_with_len, list_any}
 use Rattle.std.proofs.lemmas.Bool.{false≢true, cases_lt, eqb-false}

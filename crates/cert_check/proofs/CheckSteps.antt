@@ -1,5 +1,5 @@
 -- The whole check: what is known after the stages, and when nothing is wrong.
-use Rattle.std.proofs.Common.{◌≡◌, ℕ, zero, suc, ◌+◌, ◌-◌, ◌<◌, ◌≤◌, ◌^◌, List, [], ◌∷◌, length, get_or, refl, sym, ap, ap₂, ◌∙◌, subst, arith, ⊎_elim, inl, inr, All}
+use Rattle.std.proofs.Common.{◌≡◌, ℕ, zero, suc, ◌+◌, ◌-◌, ◌<◌, ◌≤◌, ◌^◌, List, length, get_or, sym, ap, ap₂, ◌∙◌, subst, arith, ⊎_elim, inl, inr}
 use Rattle.std.specs.List.{AllByRecursion}
 use Rattle.std.proofs.lemmas.Bool.{cases_lt}
 use Rattle.tier_core.specs.declared.shape.Shape.{Shape}
@@ -14,11 +14,17 @@ use Rattle.answer_text.specs.declared.answer.Answer.{Answer}
 use Rattle.answer_text.specs.declared.stage.Node.{Node}
 use Rattle.answer_text.specs.Readable.{AreReadableStates, IsReadable, IsReadableStage, last_nodes}
 use Rattle.answer_text.specs.Right.{nodes_at}
-use Rattle.cert_check.specs.declared.fault.Fault.{Fault}
-use Rattle.cert_check.specs.FirstFaults.{IsFault, IsFaultless, IsReadableFor}
+use Rattle.cert_check.specs.FirstFaults.{IsFaultless, IsReadableFor}
 use Rattle.cert_check.specs.Nodes.{IsRightStage}
 use Rattle.cert_check.specs.Parts.{InAnswer, InNode, InStage, IsWrongMove}
+use Rattle.cert_check.specs.declared.subject.Subject.{Subject}
+use Rattle.cert_check.specs.Parts.{HasRightHead}
+use Rattle.cert_check.specs.Subjects.{IsReady, problem_of}
 use Rattle.cert_check.proofs.Parts.{parted}
+use Rattle.cert_check.proofs.StageSteps.{before_stages}
+use Rattle.std.proofs.lemmas.List.{length-map}
+use Rattle.tier_core.specs.declared.constraint.Constraint.{Constraint}
+use Rattle.violation.specs.Counts.{violations_of}
 
 -- ---- two shapes of one grammar
 
@@ -98,3 +104,27 @@ module _ (problem : Problem) (answer : Answer) where
   -- nothing is wrong where no part is
   pub faultless_by : ((part : ℕ) (rest : List ℕ) → InAnswer problem answer part rest → ⊥) → IsFaultless problem answer
   faultless_by none fault place h = let p = parted problem answer fault place h in none p.0 p.1.0 p.1.1.0
+
+-- what is known of an answer of which the head is right
+pub ready_by : (s : Subject) → IsReadableFor s.grammar.now s.answer.now → IsShapeOf s.grammar.now s.shape.now
+    → HasRightHead (problem_of s) s.answer.now → IsReady s
+ready_by s readable is head = record {
+  of_grammar = is;
+  readable = readable_for s.grammar.now s.answer.now s.shape.now readable is;
+  form = record { form = head.form; short = head.short };
+  numbers = record {
+    stages = head.stage_count;
+    counts = ap (λ (ns : List ℕ). length ns) head.counts
+        ∙ length-map (problem_of s).constraints (λ (x : Constraint). violations_of x s.answer.now.example);
+  };
+}
+
+-- nothing is wrong before the automaton where the head and the stages are right
+pub right_before : (s : Subject) → IsReady s → HasRightHead (problem_of s) s.answer.now
+    → ((r : ℕ) → r ≤ last_stage (problem_of s) → IsRightStage (problem_of s) s.answer.now r)
+    → (part : ℕ) → part < 5 → (rest : List ℕ) → InAnswer (problem_of s) s.answer.now part rest → ⊥
+right_before s ready head stages part l = ⊎_elim (λ below. before_stages s ready head part below)
+    (λ above. let is : 4 ≡ part = omega arith in
+    subst (λ m. (rest : List ℕ) → InAnswer (problem_of s) s.answer.now m rest → ⊥) is
+    (stages_part (problem_of s) s.answer.now ready.numbers.stages stages))
+    (cases_lt part 4)

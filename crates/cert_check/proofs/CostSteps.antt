@@ -83,4 +83,3 @@ take_less [] (suc i) zero l = absurd (omega arith)
 take_less [] (suc i) (suc n) l = refl
 take_less (x ∷ xs) (suc i) zero l = absurd (omega arith)
 take_less (x ∷ xs) (suc i) (suc n) l = ap (λ ys. x ∷ ys) (take_less xs i n (omega arith))
-

@@ -1,7 +1,7 @@
 -- The columns that fit a kind, in pieces: those without an edge on the input tiers, and those that read
 -- a column of the form.
-use Rattle.std.proofs.Common.{◌≡◌, ◌↔◌, ◌⊎◌, ℕ, zero, suc, ◌+◌, ◌<◌, ◌≤◌, Bool, true, false, not, ◌&&◌, ◌||◌, IsTrue, List, [], ◌∷◌, map, length, get_or, refl, ap, sym, ◌∙◌, subst, arith, ⊎_elim, inl, inr, All}
-use Rattle.std.specs.List.{list_any, AllByRecursion}
+use Rattle.std.proofs.Common.{◌≡◌, ◌↔◌, ◌⊎◌, ℕ, zero, suc, ◌+◌, ◌<◌, Bool, true, false, not, ◌&&◌, ◌||◌, IsTrue, List, [], ◌∷◌, map, length, refl, ap, sym, ◌∙◌, subst, arith, ⊎_elim, inl, inr, All}
+use Rattle.std.specs.List.{AllByRecursion}
 use Rattle.std.proofs.lemmas.Bool.{false≢true, both_ways, and_parts, and_from, or_cases, or_left, or_right, and_right, or_from, not-true, false_from_ne_true, cases_Bool}
 use Rattle.std.proofs.lemmas.List.Folds.{list_any_at}
 use Rattle.tier_core.specs.declared.class.Class.{Class}
@@ -13,8 +13,8 @@ use Rattle.tier_core.specs.Scan.{fits}
 use Rattle.tier_core.specs.Timelines.{symbol, column_at, is_edge, has_edge}
 use Rattle.tier_core.specs.Tiers.{has_tier}
 use Rattle.tier_core.proofs.ClassLemmas.{same_width}
-use Rattle.symbol_class.specs.Held.{some_has, once_if, ArePieces, AddsClasses}
-use Rattle.symbol_class.specs.Parts.{IsAlike, AddsAlike}
+use Rattle.symbol_class.specs.Held.{once_if, AddsClasses}
+use Rattle.symbol_class.specs.Parts.{AddsAlike}
 use Rattle.symbol_class.proofs.PartSteps.{adds_constant, alike_then}
 use Rattle.symbol_class.proofs.Times.{adds_same, pieces_added, columns_added}
 use Rattle.violation.specs.Moves.{FitsKind, input_of, is_tier_open}

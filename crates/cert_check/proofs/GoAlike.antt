@@ -1,6 +1,6 @@
 -- Columns on which the tests of a stage agree go on alike up to this stage; and tests that are put one
 -- behind the other.
-use Rattle.std.proofs.Common.{◌≡◌, ℕ, zero, suc, ◌+◌, ◌-◌, ◌<◌, ◌≤◌, ◌&&◌, Bool, true, false, cond, List, [], ◌∷◌, ◌++◌, length, map, take, filter, get_or, refl, sym, ap, ap₂, ◌∙◌, subst, arith, append_assoc, append-nil, All, below_more}
+use Rattle.std.proofs.Common.{◌≡◌, ℕ, ◌+◌, ◌-◌, ◌<◌, ◌≤◌, Bool, cond, List, [], ◌∷◌, ◌++◌, length, map, take, filter, get_or, sym, ap, ap₂, ◌∙◌, subst, append_assoc, append-nil, All, below_more}
 use Rattle.std.specs.List.{AllByRecursion}
 use Rattle.std.proofs.lemmas.List.Elements.{All-from_recursion, recursion_from_All, All-append, All-more}
 use Rattle.tier_core.specs.declared.class.Class.{Class}
@@ -11,7 +11,7 @@ use Rattle.tier_core.specs.Kinds.{Phase, PrefixKind}
 use Rattle.tier_core.specs.Scan.{opens}
 use Rattle.tier_core.specs.Sides.{is_stretch}
 use Rattle.tier_core.specs.Timelines.{symbol, has_edge}
-use Rattle.violation.specs.Moves.{input_of, is_tier_open, next_phases, moved, costs_each, cost_of}
+use Rattle.violation.specs.Moves.{input_of, is_tier_open, next_phases, moved, cost_of}
 use Rattle.violation.specs.Prefixes.{stretches}
 use Rattle.violation.specs.Problems.{Problem}
 use Rattle.violation.proofs.TierLemmas.{map_agree}

@@ -1,6 +1,6 @@
 -- The pieces on which the moves of a kind are kept, among all pieces of its columns.
-use Rattle.std.proofs.Common.{◌≡◌, ◌↔◌, ℕ, zero, suc, ◌+◌, ◌<◌, ◌≤◌, ◌⊎◌, ◌||◌, Bool, true, false, IsTrue, List, [], ◌∷◌, ◌++◌, length, map, take, get_or, refl, sym, ap, ◌∙◌, subst, arith, inl, inr, ⊎_elim, All}
-use Rattle.std.proofs.lemmas.Bool.{both_ways, cases_Bool, or_cases, or_left, or_right}
+use Rattle.std.proofs.Common.{◌≡◌, ℕ, ◌+◌, ◌<◌, ◌≤◌, ◌⊎◌, ◌||◌, Bool, true, false, IsTrue, List, [], ◌∷◌, ◌++◌, length, take, get_or, refl, sym, ap, ◌∙◌, subst, arith, inl, inr, ⊎_elim, All}
+use Rattle.std.proofs.lemmas.Bool.{both_ways, or_cases, or_left, or_right}
 use Rattle.std.proofs.lemmas.List.{map-append, take_all, take_more}
 use Rattle.std.proofs.lemmas.List.Elements.{All-from_recursion, All-push}
 use Rattle.std.proofs.lemmas.List.Folds.{list_any-append}
@@ -9,15 +9,14 @@ use Rattle.tier_core.specs.declared.sym.Sym.{Sym}
 use Rattle.tier_core.specs.Classes.{sets_of, has}
 use Rattle.tier_core.specs.Kinds.{PrefixKind}
 use Rattle.symbol_class.specs.Filled.{is_filled}
-use Rattle.symbol_class.specs.Held.{some_has, times_held, once_if, ArePieces}
-use Rattle.symbol_class.proofs.Times.{times-append, times-cons, once_from_apart, pieces_from_once}
+use Rattle.symbol_class.specs.Held.{some_has, times_held}
+use Rattle.symbol_class.proofs.Times.{times-append, once_from_apart, pieces_from_once}
 use Rattle.violation.specs.Moves.{moved, cost_of}
 use Rattle.violation.specs.Problems.{Problem}
 use Rattle.answer_text.specs.declared.stage.Stage.{Stage}
-use Rattle.answer_text.specs.Certified.{IsKeptBelow, IsTightAt}
 use Rattle.cert_check.specs.declared.kept_piece.KeptPiece.{KeptPiece}
 use Rattle.cert_check.specs.Faults.{TellsKind}
-use Rattle.cert_check.specs.Fitting.{AreNodePieces, GoOnAlike, IsGoingAlike}
+use Rattle.cert_check.specs.Fitting.{AreNodePieces, IsGoingAlike}
 use Rattle.cert_check.specs.Kept.{classes_of, IsKeptPiece, IsTightBelow, AddsKept, AreKept}
 use Rattle.cert_check.proofs.TightSteps.{tight_below_same}
 
@@ -28,8 +27,11 @@ module _ (problem : Problem) (stages : List Stage) (stage below : ℕ) (k : Pref
       (alike : IsGoingAlike problem stage class) (held : IsTrue (has class column)) where
     pub adds_no_kept : (IsTightBelow problem stages below k column → ⊥)
         → AddsKept problem stages stage below k class old old
-    adds_no_kept none = inl (refl, λ other h t. none
-        (tight_below_same problem stages stage below k other column (alike other column h held) within t))
+    adds_no_kept none = inl (
+      refl,
+      λ other h t. none
+          (tight_below_same problem stages stage below k other column (alike other column h held) within t),
+    )
 
     pub adds_kept : (new : List KeptPiece) (piece : KeptPiece) → new ≡ old ++ piece ∷ [] → piece.class ≡ class
         → TellsKind problem stage piece.target (moved problem stage k column)

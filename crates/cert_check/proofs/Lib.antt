@@ -40,3 +40,4 @@ pub mod NodeSteps
 pub mod StageSteps
 pub mod MovedSteps
 pub mod CheckSteps
+pub mod OpenedNodes

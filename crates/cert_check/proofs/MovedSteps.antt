@@ -1,6 +1,5 @@
 -- The kind to which a column leads, by its bits, and what a column costs.
-use Rattle.std.proofs.Common.{◌≡◌, ℕ, ◌+◌, ◌-◌, ◌^◌, ◌<◌, ◌≤◌, Bool, cond, List, ◌++◌, filter, map, drop, take, length, get_or, refl, sym, ap, ◌∙◌, subst, arith, length-take}
-use Rattle.std.specs.List.{AllByRecursion}
+use Rattle.std.proofs.Common.{◌≡◌, ℕ, ◌+◌, ◌-◌, ◌^◌, ◌<◌, ◌≤◌, Bool, cond, List, ◌++◌, filter, map, drop, take, length, get_or, sym, ap, ◌∙◌, subst, arith, length-take}
 use Rattle.std.proofs.lemmas.List.{get_or-take, get_or_default}
 use Rattle.std.proofs.lemmas.List.Elements.{All-from_recursion}
 use Rattle.tier_core.specs.declared.constraint.Constraint.{Constraint}

@@ -1,9 +1,8 @@
 -- The faults of one node: of its potential, and of its moves.
-use Rattle.std.proofs.Common.{◌≡◌, ◌≢◌, ℕ, zero, suc, ◌+◌, ◌<◌, ◌≤◌, ◌||◌, Bool, true, false, IsTrue, List, [], ◌∷◌, length, map, get_or, slice_get, Some, refl, sym, ap, ◌∙◌, subst, arith, ⊎_elim, inl, inr}
-use Rattle.std.specs.List.{list_any}
+use Rattle.std.proofs.Common.{◌≡◌, ◌≢◌, ℕ, zero, suc, ◌+◌, ◌<◌, ◌≤◌, true, false, IsTrue, List, [], ◌∷◌, length, get_or, Some, refl, sym, ap, ◌∙◌, subst, arith, ⊎_elim, inl, inr}
 use Rattle.std.specs.Prelude.{unwrap_or}
 use Rattle.std.specs.List.Sorted.{IsStrictlySortedBy}
-use Rattle.std.proofs.lemmas.Bool.{cases_lt, true≢false, false≢true, both_ways, or_cases}
+use Rattle.std.proofs.lemmas.Bool.{cases_lt, false≢true, both_ways, or_cases}
 use Rattle.std.proofs.lemmas.List.{get_or_default, get_or-map, length-map}
 use Rattle.std.proofs.lemmas.List.Folds.{list_any_at}
 use Rattle.tier_core.specs.declared.class.Class.{Class}
@@ -26,7 +25,7 @@ use Rattle.answer_text.specs.Certified.{IsKeptBelow, Lists}
 use Rattle.check_laws.proofs.Listing.{one_potential}
 use Rattle.cert_check.specs.declared.fault.Fault.{Fault}
 use Rattle.cert_check.specs.declared.fault.Fault.TheVariants.{FinalPotential, NotClosed, Potential}
-use Rattle.cert_check.specs.Faults.{HasNode, HasFinalPotential, IsNotClosed, HasHighPotential, IsUnlisted, TellsKind}
+use Rattle.cert_check.specs.Faults.{HasNode, IsNotClosed, HasHighPotential, IsUnlisted, TellsKind}
 use Rattle.cert_check.specs.declared.kept_piece.KeptPiece.{KeptPiece}
 use Rattle.cert_check.specs.Kept.{AreKept, IsKeptPiece, classes_of}
 use Rattle.cert_check.specs.Nodes.{IsRightNode, IsRightPart, IsFirstInNode, IsMoveFault, AreWrongOn, AreRightOn, IsNotAfter, IsLeastWrong}
@@ -197,15 +196,18 @@ module _ (problem : Problem) (answer : Answer) (stage n : ℕ) (classes : List C
       within = omega (arith, inside);
       wrong = λ d l. at_next (AreWrongOn problem answer stage n) class d e wrong;
       others = λ m d l. ⊎_elim
-          (λ below. ⊎_elim (λ right. inl right) (λ later. inr (inside, λ b.
-          let mine = at_next (λ c. IsBefore (column_place (first_column c)) (column_place (first_column first))) class d e before in
-          let best_is : first ≡ get_or classes best d = f ∙ get_or_default classes best first d some in
-          let mine : IsBefore (column_place (first_column (get_or classes next d)))
-          (column_place (first_column (get_or classes best d))) =
-          subst (λ c. IsBefore (column_place (first_column (get_or classes next d))) (column_place (first_column c))) best_is mine in
-          ⊎_elim (λ x. later.1 x) (λ x. not_both_before _ _ x mine)
-          (before_or (column_place (first_column (get_or classes m d))) (column_place (first_column (get_or classes best d)))
-          (column_place (first_column (get_or classes next d))) b))) (so_far.others m d below))
+          (λ below. ⊎_elim (λ right. inl right) (λ later. inr (
+            inside,
+            λ b.
+                let mine = at_next (λ c. IsBefore (column_place (first_column c)) (column_place (first_column first))) class d e before in
+                let best_is : first ≡ get_or classes best d = f ∙ get_or_default classes best first d some in
+                let mine : IsBefore (column_place (first_column (get_or classes next d)))
+                (column_place (first_column (get_or classes best d))) =
+                subst (λ c. IsBefore (column_place (first_column (get_or classes next d))) (column_place (first_column c))) best_is mine in
+                ⊎_elim (λ x. later.1 x) (λ x. not_both_before _ _ x mine)
+                (before_or (column_place (first_column (get_or classes m d))) (column_place (first_column (get_or classes best d)))
+                (column_place (first_column (get_or classes next d))) b),
+          )) (so_far.others m d below))
           (λ above. let same : m ≡ next = omega arith in
           inr (
             inside,

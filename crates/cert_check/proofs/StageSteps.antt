@@ -1,6 +1,5 @@
 -- The faults of a stage, node by node, and at last the potential of its start.
-use Rattle.std.proofs.Common.{◌≡◌, ◌≢◌, ℕ, zero, suc, ◌+◌, ◌<◌, ◌≤◌, List, [], ◌∷◌, length, get_or, slice_get, Some, refl, sym, ap, ◌∙◌, subst, arith, ⊎_elim, inl, inr}
-use Rattle.std.proofs.lemmas.Bool.{cases_lt}
+use Rattle.std.proofs.Common.{◌≡◌, ◌≢◌, ℕ, zero, suc, ◌<◌, ◌≤◌, List, [], ◌∷◌, length, get_or, slice_get, Some, refl, sym, ap, ◌∙◌, subst, arith, inl, inr}
 use Rattle.std.proofs.lemmas.Option.{slice_get_within, slice_get-get_or, get_or_from_slice_get}
 use Rattle.std.proofs.lemmas.List.{length-map}
 use Rattle.tier_core.specs.declared.sym.Sym.{Sym}
@@ -12,13 +11,12 @@ use Rattle.answer_text.specs.Certified.{start_potential}
 use Rattle.cert_check.specs.declared.fault.Fault.{Fault}
 use Rattle.cert_check.specs.declared.fault.Fault.TheVariants.{StartPotential}
 use Rattle.cert_check.specs.declared.subject.Subject.{Subject}
-use Rattle.cert_check.specs.Faults.{HasNode, HasWrongStart, LacksStart}
+use Rattle.cert_check.specs.Faults.{HasNode}
 use Rattle.cert_check.specs.Nodes.{IsRightNode, IsRightStage, IsFirstInNode}
 use Rattle.cert_check.specs.FirstFaults.{IsFirstFault}
 use Rattle.cert_check.specs.Parts.{HasRightHead, InAnswer, InNode, InStage, IsFirstInStage, IsWrongMove}
 use Rattle.cert_check.specs.Places.{IsBefore}
-use Rattle.cert_check.specs.Subjects.{IsReady, AreInOrder, problem_of, nodes_of, kinds_of, node_kind}
-use Rattle.cert_check.proofs.NodeSteps.{one_node}
+use Rattle.cert_check.specs.Subjects.{IsReady, AreInOrder, problem_of, nodes_of, kinds_of}
 use Rattle.cert_check.proofs.Orders.{numbered_is}
 use Rattle.cert_check.proofs.Heads.{form_part, numbers_part, example_part, counts_part, head_parts}
 use Rattle.cert_check.proofs.Parts.{none_before, first_by_stage}
@@ -143,7 +141,7 @@ module _ (s : Subject) (stage : ℕ) (ready : IsReady s) (within : stage ≤ las
 
 module _ (s : Subject) (ready : IsReady s) (head : HasRightHead (problem_of s) s.answer.now) where
   -- nothing is wrong before the stages
-  before_stages : (m : ℕ) → m < 4 → (rest : List ℕ) → InAnswer (problem_of s) s.answer.now m rest → ⊥
+  pub before_stages : (m : ℕ) → m < 4 → (rest : List ℕ) → InAnswer (problem_of s) s.answer.now m rest → ⊥
   before_stages = head_parts (problem_of s) s.answer.now
       (form_part (problem_of s) s.answer.now ready.form)
       (numbers_part (problem_of s) s.answer.now ready.numbers)

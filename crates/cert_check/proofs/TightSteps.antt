@@ -1,5 +1,5 @@
 -- Moves that are tight at a stage, by what is listed there.
-use Rattle.std.proofs.Common.{◌≡◌, ◌↔◌, ℕ, zero, suc, ◌+◌, ◌-◌, ◌==◌, ◌<◌, ◌≤◌, ◌^◌, Bool, true, false, cond, IsTrue, List, [], ◌∷◌, length, filter, take, get_or, slice_get, Some, refl, sym, ap, ap₂, ◌∙◌, subst, arith, eq-eqb, eqb-true, Contains}
+use Rattle.std.proofs.Common.{◌≡◌, ◌↔◌, ℕ, zero, suc, ◌+◌, ◌==◌, ◌<◌, ◌≤◌, ◌^◌, Bool, true, false, cond, IsTrue, List, [], ◌∷◌, length, filter, take, get_or, slice_get, Some, refl, sym, ap, ◌∙◌, subst, arith, eq-eqb, eqb-true, Contains}
 use Rattle.std.proofs.lemmas.Bool.{false≢true}
 use Rattle.std.proofs.lemmas.List.{get_or-map, get_or_default, length-map}
 use Rattle.std.proofs.lemmas.List.Elements.{Contains-get_or}
@@ -24,7 +24,7 @@ use Rattle.cert_check.specs.declared.subject.Subject.{Subject}
 use Rattle.cert_check.specs.Faults.{IsUnlisted, TellsKind}
 use Rattle.cert_check.specs.Fitting.{GoOnAlike}
 use Rattle.cert_check.specs.Kept.{IsTightBelow}
-use Rattle.cert_check.specs.Subjects.{IsReady, AscendsAt, problem_of, nodes_of, kinds_of}
+use Rattle.cert_check.specs.Subjects.{IsReady, AscendsAt, problem_of}
 use Rattle.cert_check.proofs.Subjects.{cut_told, free_same, stretch_same, stage_in}
 
 -- ---- columns that go on alike

@@ -1,5 +1,5 @@
 -- Pieces that are parted by one test after the other.
-use Rattle.std.proofs.Common.{◌≡◌, ◌↔◌, ℕ, ◌+◌, ◌<◌, IsTrue, List, [], length, take, get_or, refl, sym, ap, ◌∙◌, subst, arith, All, Contains}
+use Rattle.std.proofs.Common.{◌≡◌, ℕ, ◌+◌, ◌<◌, List, [], length, take, get_or, refl, sym, ◌∙◌, subst, All, Contains}
 use Rattle.std.proofs.lemmas.List.Elements.{All-from_recursion, All-more, Contains-get_or}
 use Rattle.tier_core.specs.declared.class.Class.{Class}
 use Rattle.tier_core.specs.declared.sym.Sym.{Sym}
@@ -7,10 +7,9 @@ use Rattle.tier_core.specs.Classes.{sets_of, has}
 use Rattle.tier_core.specs.Kinds.{PrefixKind}
 use Rattle.tier_core.proofs.ClassLemmas.{same_width}
 use Rattle.symbol_class.specs.declared.difference.Difference.{Difference}
-use Rattle.symbol_class.specs.Held.{some_has, ArePieces}
-use Rattle.symbol_class.specs.Parts.{differs, IsAlike, IsPartOf, ArePartedBy}
+use Rattle.symbol_class.specs.Held.{ArePieces}
+use Rattle.symbol_class.specs.Parts.{differs, IsPartOf, ArePartedBy}
 use Rattle.symbol_class.proofs.Times.{some_from_same}
-use Rattle.violation.specs.Moves.{FitsKind}
 use Rattle.violation.specs.Problems.{Problem}
 use Rattle.cert_check.specs.Fitting.{AreFitting, AreNodePieces, ArePartedByTests, IsReadAlike, TellStage}
 use Rattle.cert_check.specs.Pieces.{IsUniform}

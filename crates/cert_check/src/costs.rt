@@ -79,7 +79,11 @@ pub(crate) fn cost(subject: &Subject, stage: u32, kind: &Kind, column: &[Sym]) -
     }
     let number = stage as usize - 1;
     let is_unmet = has_bit(kind.unmet, subject.shape.phases[number]);
-    let mask = open_tiers(subject.grammar.tiers.kinds.as_slice(), &subject.answer.form, kind);
+    let mask = open_tiers(
+        subject.grammar.tiers.kinds.as_slice(),
+        &subject.answer.form,
+        kind,
+    );
     if costs(&subject.grammar.constraints[number], mask, is_unmet, column) {
         1
     } else {

@@ -13,7 +13,11 @@ use tier_core::{Class, Kind};
 
 /// The columns that fit a kind, in pieces: those without an edge on the input tiers, and those that
 /// have the form's next column there.
-pub(crate) fn fitting(alloc: Global, subject: &Subject, kind: &Kind) -> Result<Vec<Class>, AllocError>
+pub(crate) fn fitting(
+    alloc: Global,
+    subject: &Subject,
+    kind: &Kind,
+) -> Result<Vec<Class>, AllocError>
     requires ready { IsReady subject.now }
     requires place { kind.now.place ≤ last_place (problem_of subject.now) }
     ensures { (stage : ℕ) → IfOk result (λ pieces.

@@ -4,9 +4,12 @@
 //!
 //! So far it has the definitions of the faults and of the order in which they are gone through
 //! (`specs/Faults`, `Places`, `FirstFaults`), the laws that certified answers and right answers have
-//! none, and its first steps, each with the whole contract: the form, the numbers, the example and the
-//! counts (`head`), the order of a stage's nodes (`order`) and its start (`start`). The steps over moves
-//! and states, and the call that answers with a verdict, are not there yet.
+//! none, and its steps up to the last stage, each with the whole contract: the form, the numbers, the
+//! example and the counts (`head`), the order of a stage's nodes (`order`), its start (`start`), the
+//! potential and the moves of each node (`node_check`), the start's potential (`stage_check`), and all
+//! stages (`stages`). The moves of a node are looked at by classes: the columns that fit its kind, in
+//! pieces all columns of which go on alike (`node_pieces`), and those of them that are kept (`kept`).
+//! The steps over states, and the call that answers with a verdict, are not there yet.
 #![tactic(auto)]
 
 mod alike;

@@ -1,7 +1,10 @@
 ghost use Rattle.std.specs.Prelude.{◌≡◌, ℕ, ◌+◌, ◌<◌, ◌≤◌, ◌^◌, All, IfErr, IsTrue, List, MatchOption, OnOk, length, map, slice_index_or};
 ghost use Rattle.tier_core.specs.declared.sym.Sym.{Sym};
 ghost use Rattle.tier_core.specs.Classes.{has};
+ghost use Rattle.std.specs.Ordering.{is_gt};
+ghost use Rattle.tier_core.specs.Orders.{column_cmp};
 ghost use Rattle.symbol_class.specs.Filled.{is_filled};
+ghost use Rattle.symbol_class.specs.FirstColumn.{first_column};
 ghost use Rattle.violation.specs.Prefixes.{kind_of_bits};
 ghost use Rattle.violation.specs.Problems.{last_place, last_stage};
 ghost use Rattle.answer_text.specs.Certified.{IsKeptBelow};
@@ -21,7 +24,7 @@ use crate::tight::potential_of;
 use answer_text::Node;
 use std::alloc::Global;
 use symbol_class::least_column;
-use tier_core::column_cmp;
+use tier_core::{Class, column_cmp};
 
 /// Looks at the potential of a node.
 fn check_final(subject: &Subject, stage: u32, number: u32, node: &Node) -> Result<(), Stop>
@@ -87,6 +90,14 @@ fn move_fault(
     None
 }
 
+/// Whether the least column of a class comes after that of another.
+fn is_later(alloc: Global, class: &Class, other: &Class) -> bool
+    ensures { result ≡ is_gt (column_cmp (first_column class.now) (first_column other.now)) }
+{
+    let least = least_column(alloc, class);
+    column_cmp(&least, &least_column(alloc, other)).is_gt()
+}
+
 /// The number of the piece with wrong moves whose least column comes first, after one more piece.
 fn next_best(
     alloc: Global,
@@ -116,9 +127,7 @@ fn next_best(
             if best == pieces.len() {
                 return next;
             }
-            let first = least_column(alloc, &pieces[best].class);
-            let other = least_column(alloc, &pieces[next].class);
-            if column_cmp(&first, &other).is_gt() {
+            if is_later(alloc, &pieces[best].class, &pieces[next].class) {
                 next
             } else {
                 best

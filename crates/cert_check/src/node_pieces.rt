@@ -52,6 +52,6 @@ pub(crate) fn node_pieces(
 {
     let fitting = all_fitting(alloc, subject, kind)?;
     let tests = all_tests(alloc, subject, stage)?;
-    let width = subject.grammar.tiers.kinds.len() as u32;
+    let width = subject.grammar.tiers.kinds.as_slice().len() as u32;
     parted_by_tests(alloc, width, fitting, &tests)
 }

@@ -67,7 +67,7 @@ pub(crate) fn stage_tests(
     requires { stage ≤ last_stage (problem_of subject.now) }
     ensures { IfOk result (λ tests. TellStage (problem_of subject.now) stage tests.items) }
 {
-    let width = subject.grammar.tiers.kinds.len() as u32;
+    let width = subject.grammar.tiers.kinds.as_slice().len() as u32;
     let first = &subject.grammar.constraints.as_slice()[..stage as usize];
     let mut tests = Vec::new(alloc);
     push_open_tests(&mut tests, width)?;

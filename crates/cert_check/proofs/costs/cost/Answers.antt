@@ -1,10 +1,9 @@
-use Rattle.std.proofs.Common.{◌≡◌, ◌<◌, ◌≤◌, ℕ, ◌-◌, true, false, List, cond, length, get_or, ap, sym, ◌∙◌, subst, arith, All}
+use Rattle.std.proofs.Common.{◌≡◌, ◌<◌, ℕ, ◌-◌, true, false, List, length, sym, subst, arith, All}
 use Rattle.tier_core.specs.declared.sym.Sym.{Sym}
 use Rattle.tier_core.specs.declared.tier.TierKind.{TierKind}
 use Rattle.tier_core.specs.Tiers.{has_tier}
 use Rattle.violation.specs.Conditions.{IsOverTiers}
 use Rattle.cert_check.specs.Opens.{inputs_before, is_open_by}
-use Rattle.cert_check.specs.Subjects.{problem_of}
 use Rattle.cert_check.proofs.MovedSteps.{over_at, cost_told}
 use Rattle.cert_check.proofs.Subjects.{form_wide}
 use Rattle.cert_check.proofs.costs.cost.Goals as goal

@@ -1,4 +1,4 @@
-use Rattle.std.proofs.Common.{◌≡◌, ◌+◌, ◌<◌, ℕ, cond, true, false, length, ap, sym, ◌∙◌, arith}
+use Rattle.std.proofs.Common.{◌≡◌, ◌+◌, ℕ, cond, true, false, length, ap, sym, ◌∙◌, arith}
 use Rattle.tier_core.specs.Classes.{has}
 use Rattle.tier_core.specs.Tiers.{is_input, kind_at}
 use Rattle.tier_core.specs.declared.tier.TierKind.TheVariants.{Input}
@@ -12,8 +12,13 @@ pub bounds-form-next : goal.bounds-form-next
 bounds-form-next c =
     let kinds = c.args.kinds.now in
     let here : is_input (kind_at kinds c.loop-tier.tier) ≡ true = sym c.is_input.ensures ∙ c.if-is_input.true in
-    omega (arith, c.loop-tier.invariant.count, inputs_in kinds c.loop-tier.tier c.loop-tier-test.true here,
-    all_inputs kinds, c.requires.form)
+    omega (
+      arith,
+      c.loop-tier.invariant.count,
+      inputs_in kinds c.loop-tier.tier c.loop-tier-test.true here,
+      all_inputs kinds,
+      c.requires.form,
+    )
 
 pub overflow_add-next : goal.overflow_add-next
 overflow_add-next c = omega (arith, c.loop-tier.invariant.few, c.loop-tier-test.true, c.requires.few)
@@ -36,8 +41,13 @@ loop-tier-preserved c =
             few = omega (arith, c.loop-tier.invariant.few);
             columns = λ column l. reads_more (has w.narrowed-class.result column) (has c.loop-tier.class column) kinds
                 column form tier next w.alone.result Input c.loop-tier-test.true is
-                (omega (arith, c.loop-tier.invariant.count, inputs_in kinds tier c.loop-tier-test.true is,
-                all_inputs kinds, c.requires.form))
+                (omega (
+                  arith,
+                  c.loop-tier.invariant.count,
+                  inputs_in kinds tier c.loop-tier-test.true is,
+                  all_inputs kinds,
+                  c.requires.form,
+                ))
                 w.alone.ensures.value (w.narrowed-class.ensures.columns column)
                 (c.loop-tier.invariant.columns column l);
           })
@@ -57,6 +67,12 @@ returns-clause-columns c column l =
     let kinds = c.args.kinds.now in
     reads_all (has c.loop-tier.class column) kinds column c.args.form.now c.loop-tier.tier c.loop-tier.next
     c.loop-tier-test.false
-    (omega (arith, c.loop-tier.invariant.count, c.requires.form, c.loop-tier-test.false, c.loop-tier.auto.tier-end,
-    ap (λ (n : ℕ). inputs_before kinds n) (let e : c.loop-tier.tier ≡ length kinds = omega (arith, c.loop-tier-test.false, c.loop-tier.auto.tier-end) in e)))
+    (omega (
+      arith,
+      c.loop-tier.invariant.count,
+      c.requires.form,
+      c.loop-tier-test.false,
+      c.loop-tier.auto.tier-end,
+      ap (λ (n : ℕ). inputs_before kinds n) (let e : c.loop-tier.tier ≡ length kinds = omega (arith, c.loop-tier-test.false, c.loop-tier.auto.tier-end) in e),
+    ))
     (c.loop-tier.invariant.columns column l)

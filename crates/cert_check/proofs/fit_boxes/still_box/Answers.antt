@@ -1,8 +1,5 @@
-use Rattle.std.proofs.Common.{◌≡◌, true, false, ap, sym, ◌∙◌}
+use Rattle.std.proofs.Common.{sym, ◌∙◌}
 use Rattle.tier_core.specs.Classes.{has}
-use Rattle.tier_core.specs.Sets.{is_in}
-use Rattle.tier_core.specs.Tiers.{is_input, kind_at}
-use Rattle.tier_core.specs.Timelines.{symbol}
 use Rattle.tier_core.specs.declared.tier.TierKind.TheVariants.{Input}
 use Rattle.cert_check.proofs.FitSteps.{still_more, still_same}
 use Rattle.cert_check.proofs.fit_boxes.still_box.Goals as goal

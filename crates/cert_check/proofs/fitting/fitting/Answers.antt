@@ -1,5 +1,4 @@
-use Rattle.std.proofs.Common.{◌≡◌, ◌↔◌, ℕ, ◌<◌, ◌≤◌, Bool, true, false, not, ◌&&◌, IsTrue, List, [], map, length, refl, ap, sym, ◌∙◌, subst, arith, All}
-use Rattle.std.specs.List.{AllByRecursion}
+use Rattle.std.proofs.Common.{◌≡◌, ◌↔◌, ℕ, ◌<◌, true, false, not, ◌&&◌, IsTrue, List, [], map, length, refl, ap, sym, ◌∙◌, subst, arith, All}
 use Rattle.std.proofs.lemmas.Bool.{false≢true, and_parts, and_from}
 use Rattle.tier_core.specs.declared.class.Class.{Class}
 use Rattle.tier_core.specs.declared.sym.Sym.{Sym}
@@ -45,8 +44,11 @@ read_by place last kinds own coming box reading column_read wanted same is l wid
   λ h. let parts = and_parts (has coming column) (has box column) (sym (met column) ∙ h) in
       let width = same_width (sets_of coming) column parts.0 ∙ wide in (
         parts.0,
-        (l, ap (λ ks. map (symbol column) (numbers_from is_input 0 ks)) (sym same)
-            ∙ (told column width).0 parts.1 ∙ is),
+        (
+          l,
+          ap (λ ks. map (symbol column) (numbers_from is_input 0 ks)) (sym same)
+              ∙ (told column width).0 parts.1 ∙ is,
+        ),
       ),
   λ r. let width = same_width (sets_of coming) column r.0 ∙ wide in
       met column ∙ and_from (has coming column) (has box column) r.0

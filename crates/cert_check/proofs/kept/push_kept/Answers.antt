@@ -1,7 +1,6 @@
-use Rattle.std.proofs.Common.{◌≡◌, ℕ, List, IsTrue, refl, sym, ap, ◌∙◌, subst, true≢false, inl, inr}
+use Rattle.std.proofs.Common.{List, IsTrue, refl, sym, ◌∙◌, subst, true≢false}
 use Rattle.tier_core.specs.declared.sym.Sym.{Sym}
 use Rattle.tier_core.specs.Classes.{has}
-use Rattle.violation.specs.Moves.{moved, cost_of}
 use Rattle.violation.specs.Prefixes.{kind_of_bits}
 use Rattle.cert_check.specs.Subjects.{problem_of}
 use Rattle.cert_check.proofs.KeptSteps.{adds_no_kept, adds_kept}

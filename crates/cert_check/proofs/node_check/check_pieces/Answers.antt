@@ -1,16 +1,10 @@
-use Rattle.std.proofs.Common.{◌≡◌, ℕ, ◌<◌, List, length, sym, ap, ◌∙◌, subst, arith}
+use Rattle.std.proofs.Common.{◌<◌, length, sym, ◌∙◌, arith}
 use Rattle.std.proofs.lemmas.List.{length-map}
-use Rattle.tier_core.specs.declared.class.Class.{Class}
-use Rattle.tier_core.specs.declared.sym.Sym.{Sym}
-use Rattle.tier_core.specs.Classes.{has}
-use Rattle.tier_core.specs.Orders.{column_cmp}
-use Rattle.symbol_class.specs.FirstColumn.{first_column}
-use Rattle.symbol_class.proofs.Filled.{has-first_column}
 use Rattle.violation.specs.Prefixes.{kind_of_bits}
 use Rattle.cert_check.specs.declared.kept_piece.KeptPiece.{KeptPiece}
 use Rattle.cert_check.specs.Kept.{classes_of}
 use Rattle.cert_check.specs.Subjects.{problem_of}
-use Rattle.cert_check.proofs.NodeSteps.{piece_within, piece_class, piece_filled, piece_kept, piece_told, right_where_no_best, first_move, never_none}
+use Rattle.cert_check.proofs.NodeSteps.{piece_class, piece_filled, piece_kept, piece_told, right_where_no_best, first_move, never_none}
 use Rattle.cert_check.proofs.node_check.check_pieces.Goals as goal
 
 pub returns-then-best-pieces-clause-ok : goal.returns-then-best-pieces-clause-ok
@@ -25,8 +19,12 @@ returns-then-best-pieces-clause-ok c =
 pub move_fault-requires-clause-filled : goal.move_fault-requires-clause-filled
 move_fault-requires-clause-filled c =
     let s = c.args.subject.now in
-    let below : c.loop-next.best < length c.args.pieces.now = omega (arith, c.loop-next.invariant.within,
-    c.if-best-pieces.false, length-map c.args.pieces.now (λ (p : KeptPiece). p.class)) in
+    let below : c.loop-next.best < length c.args.pieces.now = omega (
+      arith,
+      c.loop-next.invariant.within,
+      c.if-best-pieces.false,
+      length-map c.args.pieces.now (λ (p : KeptPiece). p.class),
+    ) in
     piece_filled (problem_of s) s.answer.now.stages.items c.args.stage c.args.stage
     (kind_of_bits (problem_of s) c.args.stage c.args.node.now.kind) c.args.pieces.now c.requires.kept c.loop-next.best
     c.index-pieces-best.result below c.index-pieces-best.is
@@ -34,8 +32,12 @@ move_fault-requires-clause-filled c =
 pub move_fault-requires-clause-kept : goal.move_fault-requires-clause-kept
 move_fault-requires-clause-kept c =
     let s = c.args.subject.now in
-    let below : c.loop-next.best < length c.args.pieces.now = omega (arith, c.loop-next.invariant.within,
-    c.if-best-pieces.false, length-map c.args.pieces.now (λ (p : KeptPiece). p.class)) in
+    let below : c.loop-next.best < length c.args.pieces.now = omega (
+      arith,
+      c.loop-next.invariant.within,
+      c.if-best-pieces.false,
+      length-map c.args.pieces.now (λ (p : KeptPiece). p.class),
+    ) in
     piece_kept (problem_of s) s.answer.now.stages.items c.args.stage c.args.stage
     (kind_of_bits (problem_of s) c.args.stage c.args.node.now.kind) c.args.pieces.now c.requires.kept c.loop-next.best
     c.index-pieces-best.result below c.index-pieces-best.is
@@ -43,8 +45,12 @@ move_fault-requires-clause-kept c =
 pub move_fault-requires-clause-piece : goal.move_fault-requires-clause-piece
 move_fault-requires-clause-piece c =
     let s = c.args.subject.now in
-    let below : c.loop-next.best < length c.args.pieces.now = omega (arith, c.loop-next.invariant.within,
-    c.if-best-pieces.false, length-map c.args.pieces.now (λ (p : KeptPiece). p.class)) in
+    let below : c.loop-next.best < length c.args.pieces.now = omega (
+      arith,
+      c.loop-next.invariant.within,
+      c.if-best-pieces.false,
+      length-map c.args.pieces.now (λ (p : KeptPiece). p.class),
+    ) in
     piece_told (problem_of s) s.answer.now.stages.items c.args.stage c.args.stage
     (kind_of_bits (problem_of s) c.args.stage c.args.node.now.kind) c.args.pieces.now c.requires.kept c.loop-next.best
     c.index-pieces-best.result below c.index-pieces-best.is

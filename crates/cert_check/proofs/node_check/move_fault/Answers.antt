@@ -1,4 +1,3 @@
-use Rattle.std.proofs.Common.{◌≡◌, arith, sym, ◌∙◌, ap}
 use Rattle.symbol_class.specs.FirstColumn.{first_column}
 use Rattle.symbol_class.proofs.Filled.{has-first_column}
 use Rattle.violation.specs.Moves.{moved}

@@ -1,9 +1,8 @@
-use Rattle.std.proofs.Common.{◌≡◌, ℕ, ◌<◌, IfErr, sym, subst, arith, ⊎_elim}
+use Rattle.std.proofs.Common.{◌≡◌, subst, arith, ⊎_elim}
 use Rattle.std.proofs.lemmas.Bool.{cases_lt}
 use Rattle.std.proofs.lemmas.Result.{err_from_is_err_and}
 use Rattle.cert_check.specs.Nodes.{IsRightNode, IsFirstInNode}
 use Rattle.cert_check.specs.Parts.{IsFirstInStage}
-use Rattle.cert_check.specs.Stops.{StopsBy}
 use Rattle.cert_check.specs.Subjects.{problem_of}
 use Rattle.cert_check.proofs.StageSteps.{node_here, place_in, first_in_node}
 use Rattle.cert_check.proofs.Stops.{stop_says}

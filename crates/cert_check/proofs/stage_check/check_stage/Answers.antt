@@ -1,4 +1,4 @@
-use Rattle.std.proofs.Common.{◌≡◌, ◌<◌, ℕ, OnOk, subst, arith, ⊎_elim}
+use Rattle.std.proofs.Common.{◌≡◌, subst, arith, ⊎_elim}
 use Rattle.std.proofs.lemmas.Bool.{cases_lt}
 use Rattle.std.proofs.lemmas.Result.{on_ok_weaker}
 use Rattle.cert_check.specs.Subjects.{AscendsAt}
@@ -15,6 +15,6 @@ check_nodes-requires-clause-ascend c j l = ⊎_elim
 
 pub returns-clause-ascends : goal.returns-clause-ascends
 returns-clause-ascends c =
-    on_ok_weaker c.check_start_potential.result _ _
+    on_ok_weaker c.check_start_potential.result
     (λ right. ascends_by c.args.subject.now c.args.stage c.in_ok-check_order.ensures.ok)
     c.check_start_potential.ensures.ok

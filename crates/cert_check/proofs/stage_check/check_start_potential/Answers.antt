@@ -1,4 +1,4 @@
-use Rattle.std.proofs.Common.{◌≡◌, ℕ, ◌∙◌, arith}
+use Rattle.std.proofs.Common.{◌∙◌}
 use Rattle.cert_check.proofs.StageSteps.{right_stage, first_start}
 use Rattle.cert_check.proofs.stage_check.check_start_potential.Goals as goal
 

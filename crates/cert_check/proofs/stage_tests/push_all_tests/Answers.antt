@@ -1,4 +1,4 @@
-use Rattle.std.proofs.Common.{◌≡◌, All, take, arith, subst}
+use Rattle.std.proofs.Common.{All, take, subst}
 use Rattle.std.proofs.lemmas.List.{take_all}
 use Rattle.std.proofs.lemmas.List.Elements.{All-from_recursion}
 use Rattle.tier_core.specs.declared.constraint.Constraint.{Constraint}

@@ -1,4 +1,3 @@
-use Rattle.std.proofs.Common.{◌≡◌, ℕ, sym, subst, arith}
 use Rattle.std.proofs.lemmas.Result.{err_from_is_err_and}
 use Rattle.cert_check.specs.FirstFaults.{IsFirstFault}
 use Rattle.cert_check.specs.Parts.{IsFirstInStage}

@@ -1,6 +1,5 @@
-use Rattle.std.proofs.Common.{◌≡◌, ℕ, ◌<◌, ◌≤◌, ◌^◌, length, sym, ap, ◌∙◌, subst, arith}
-use Rattle.tier_core.specs.KindShapes.{free_count}
-use Rattle.violation.specs.Moves.{cost_of, cut, moved}
+use Rattle.std.proofs.Common.{◌≡◌, ℕ, ◌<◌, ◌^◌, sym, ap, ◌∙◌, subst}
+use Rattle.violation.specs.Moves.{cost_of, cut}
 use Rattle.violation.specs.Prefixes.{kind_of_bits}
 use Rattle.answer_text.specs.Certified.{Lists}
 use Rattle.cert_check.specs.Faults.{IsUnlisted}

@@ -1,5 +1,5 @@
-use Rattle.std.proofs.Common.{◌≡◌, ℕ, ◌<◌, sym, ◌∙◌, subst, arith, true≢false, ⊎_elim}
-use Rattle.std.proofs.lemmas.Bool.{cases_lt, false≢true}
+use Rattle.std.proofs.Common.{◌≡◌, subst, arith, ⊎_elim}
+use Rattle.std.proofs.lemmas.Bool.{cases_lt}
 use Rattle.violation.specs.Prefixes.{kind_of_bits}
 use Rattle.answer_text.specs.Certified.{IsTightAt}
 use Rattle.cert_check.specs.Subjects.{problem_of}

@@ -1,4 +1,3 @@
-use Rattle.std.proofs.Common.{ℕ, ◌<◌, ◌≤◌}
 use Rattle.violation.specs.Prefixes.{kind_of_bits}
 use Rattle.cert_check.specs.Kept.{IsTightBelow}
 use Rattle.cert_check.specs.Subjects.{problem_of}

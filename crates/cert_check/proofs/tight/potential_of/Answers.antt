@@ -1,8 +1,5 @@
-use Rattle.std.proofs.Common.{◌≡◌, length, slice_get, Some, arith}
-use Rattle.std.proofs.lemmas.Option.{slice_get_within}
-use Rattle.answer_text.specs.declared.stage.Node.{Node}
 use Rattle.violation.specs.Prefixes.{kind_of_bits}
-use Rattle.cert_check.specs.Subjects.{problem_of, nodes_of}
+use Rattle.cert_check.specs.Subjects.{problem_of}
 use Rattle.cert_check.proofs.TightSteps.{lists_there}
 use Rattle.cert_check.proofs.tight.potential_of.Goals as goal
 

@@ -1,7 +1,7 @@
-use Rattle.std.proofs.Common.{◌≡◌, not, ◌&&◌, true, false, Bool, refl, ap, sym, ◌∙◌, arith}
+use Rattle.std.proofs.Common.{◌≡◌, not, ◌&&◌, true, false, Bool, refl, ap, ◌∙◌, arith}
 use Rattle.tier_core.specs.declared.sym.Sym.{Sym}
 use Rattle.tier_core.specs.declared.sym.Sym.TheVariants.{Outside, Inside, Start, End, Both}
-use Rattle.tier_core.specs.Classes.{sets_of, has}
+use Rattle.tier_core.specs.Classes.{has}
 use Rattle.tier_core.specs.Sets.{is_in}
 use Rattle.tier_core.specs.Timelines.{symbol}
 use Rattle.tier_core.proofs.ClassSets.{width_is}

@@ -13,6 +13,7 @@ use Rattle.grammar_reader.specs.ShapeOf.{IsShapeOf}
 use Rattle.answer_text.specs.declared.answer.Answer.{Answer}
 use Rattle.answer_text.specs.declared.stage.Node.{Node}
 use Rattle.answer_text.specs.Readable.{AreReadableStates, IsReadable, IsReadableStage, last_nodes}
+use Rattle.answer_text.specs.Certified.{AreStatesInOrder}
 use Rattle.answer_text.specs.Right.{nodes_at}
 use Rattle.cert_check.specs.FirstFaults.{IsFaultless, IsReadableFor}
 use Rattle.cert_check.specs.Nodes.{IsRightStage}
@@ -21,7 +22,7 @@ use Rattle.cert_check.specs.declared.subject.Subject.{Subject}
 use Rattle.cert_check.specs.Parts.{HasRightHead}
 use Rattle.cert_check.specs.Subjects.{IsReady, problem_of}
 use Rattle.cert_check.proofs.Parts.{parted}
-use Rattle.cert_check.proofs.StageSteps.{before_stages}
+use Rattle.cert_check.proofs.Heads.{form_part, numbers_part, example_part, counts_part, head_parts}
 use Rattle.std.proofs.lemmas.List.{length-map}
 use Rattle.tier_core.specs.declared.constraint.Constraint.{Constraint}
 use Rattle.violation.specs.Counts.{violations_of}
@@ -101,9 +102,12 @@ module _ (problem : Problem) (answer : Answer) where
       let inside = in_stage_within w.0 w.1.0 w.1.1.0 w.1.1.1.0 in
       right w.0 (omega (arith, size, inside)) w.1.0 w.1.1.0 w.1.1.1.0
 
-  -- nothing is wrong where no part is
-  pub faultless_by : ((part : ℕ) (rest : List ℕ) → InAnswer problem answer part rest → ⊥) → IsFaultless problem answer
-  faultless_by none fault place h = let p = parted problem answer fault place h in none p.0 p.1.0 p.1.1.0
+  -- nothing is wrong where nothing is before the automaton, and nothing in it
+  pub faultless_whole : ((part : ℕ) → part < 5 → (rest : List ℕ) → InAnswer problem answer part rest → ⊥)
+      → ((part : ℕ) → 5 ≤ part → (rest : List ℕ) → InAnswer problem answer part rest → ⊥) → IsFaultless problem answer
+  faultless_whole before from fault place h =
+      let p = parted problem answer fault place h in
+      ⊎_elim (λ below. before p.0 below p.1.0 p.1.1.0) (λ above. from p.0 above p.1.0 p.1.1.0) (cases_lt p.0 5)
 
 -- what is known of an answer of which the head is right
 pub ready_by : (s : Subject) → IsReadableFor s.grammar.now s.answer.now → IsShapeOf s.grammar.now s.shape.now
@@ -120,11 +124,27 @@ ready_by s readable is head = record {
 }
 
 -- nothing is wrong before the automaton where the head and the stages are right
-pub right_before : (s : Subject) → IsReady s → HasRightHead (problem_of s) s.answer.now
-    → ((r : ℕ) → r ≤ last_stage (problem_of s) → IsRightStage (problem_of s) s.answer.now r)
-    → (part : ℕ) → part < 5 → (rest : List ℕ) → InAnswer (problem_of s) s.answer.now part rest → ⊥
-right_before s ready head stages part l = ⊎_elim (λ below. before_stages s ready head part below)
+pub right_before : (problem : Problem) (answer : Answer) → HasRightHead problem answer
+    → ((r : ℕ) → r ≤ last_stage problem → IsRightStage problem answer r)
+    → (part : ℕ) → part < 5 → (rest : List ℕ) → InAnswer problem answer part rest → ⊥
+right_before problem answer head stages part l = ⊎_elim
+    (λ below. head_parts problem answer (form_part problem answer (record { form = head.form; short = head.short }))
+    (numbers_part problem answer (record {
+      stages = head.stage_count;
+      counts = ap (λ (ns : List ℕ). length ns) head.counts
+          ∙ length-map problem.constraints (λ (x : Constraint). violations_of x answer.example);
+    })) (example_part problem answer head.example) (counts_part problem answer head.counts) part below)
     (λ above. let is : 4 ≡ part = omega arith in
-    subst (λ m. (rest : List ℕ) → InAnswer (problem_of s) s.answer.now m rest → ⊥) is
-    (stages_part (problem_of s) s.answer.now ready.numbers.stages stages))
+    subst (λ m. (rest : List ℕ) → InAnswer problem answer m rest → ⊥) is
+    (stages_part problem answer head.stage_count stages))
     (cases_lt part 4)
+
+-- the states of an answer that is within the limits are in order
+pub states_in_order : (grammar : Grammar) (answer : Answer) → IsReadableFor grammar answer
+    → AreStatesInOrder (length grammar.tiers.kinds.items) answer.automaton.states.items
+states_in_order grammar answer r = record {
+  ascending = r.readable.states.ascending;
+  one_width = λ k d l.
+      let state = r.readable.states.each k d l in
+      λ m e inside. (state.arcs m e inside).wide ∙ r.of_grammar.width;
+}

@@ -13,11 +13,6 @@ pub mod KindMasks
 pub mod Ascending
 pub mod Certifying
 pub mod OneFault
-pub mod Gathering
-pub mod LeastColumns
-pub mod ArcLists
-pub mod NumberSearch
-pub mod StateFaults
 pub mod Searches
 pub mod Subjects
 pub mod Orders

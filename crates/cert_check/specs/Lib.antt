@@ -15,7 +15,5 @@ pub mod Pieces
 pub mod Kept
 pub mod Fitting
 pub mod Nodes
-pub mod Arcs
-pub mod Gathered
 pub mod States
-pub mod KeptArcs
+pub mod Verdicts

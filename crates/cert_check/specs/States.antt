@@ -30,7 +30,7 @@ pub record IsStaged (s : Subject) : Type 0 where
 -- A state of an answer, and its node in the last stage.
 pub record IsStateAt (s : Subject) (state : StateLine) (node : Node) : Type 0 where
   pub listed : Contains s.answer.now.automaton.states.items state
-  pub node : HasNode s.answer.now (last_stage (problem_of s)) state.node node
+  pub has : HasNode s.answer.now (last_stage (problem_of s)) state.node node
 
 -- the kind of a node of the last stage
 abbrev pub last_kind : Subject → Node → PrefixKind

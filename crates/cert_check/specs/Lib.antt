@@ -12,3 +12,6 @@ pub mod Alike
 pub mod Boxes
 pub mod Tests
 pub mod Pieces
+pub mod Arcs
+pub mod Gathered
+pub mod States

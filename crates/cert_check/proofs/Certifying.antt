@@ -1,9 +1,9 @@
 -- An answer in which no fault is is certified.
-use Rattle.std.proofs.Common.{◌≡◌, ℕ, zero, suc, ◌+◌, ◌-◌, ◌<◌, ◌≤◌, ◌⊎◌, Bool, true, IsTrue, List, [], ◌∷◌, map, length, not, get_or, slice_get, Some, None, Option, refl, sym, ap, ◌∙◌, subst, arith, inl, inr, Contains, All, AllPairs}
+use Rattle.std.proofs.Common.{◌≡◌, ℕ, zero, suc, ◌+◌, ◌-◌, ◌<◌, ◌≤◌, ◌⊎◌, Bool, true, IsTrue, List, [], ◌∷◌, length, not, get_or, slice_get, Some, None, Option, refl, sym, ap, ◌∙◌, subst, arith, inl, inr, Contains, All, AllPairs}
 use Rattle.std.specs.List.Sorted.{IsStrictlySortedBy}
 use Rattle.std.specs.Prelude.{unwrap_or}
 use Rattle.std.proofs.lemmas.Bool.{cases_eq, cases_lt}
-use Rattle.std.proofs.lemmas.List.{length-map, get_or-map}
+use Rattle.std.proofs.lemmas.List.{length-map}
 use Rattle.std.proofs.lemmas.List.FromFn.{length-map-range_with_len}
 use Rattle.std.proofs.lemmas.Grind.{same_number_lists}
 use Rattle.std.proofs.lemmas.Option.{slice_get-get_or, get_or_from_slice_get, slice_get_within}
@@ -30,7 +30,7 @@ use Rattle.answer_text.specs.Certified.{Lists, IsKeptBelow, IsPossibleKind, IsCe
 use Rattle.check_laws.proofs.Members.{contains_of_map, all_from_members}
 use Rattle.check_laws.proofs.Listing.{lists_kind, kind_numbered, one_potential}
 use Rattle.cert_check.specs.declared.fault.Fault.TheVariants.{FormWrong, StageMissing, ExampleWrong, CountsDiffer, NodeWrong, StartMissing, FinalPotential, NotClosed, Potential, StartPotential, StateMissing, FinalsDiffer, ArcsTwice, ArcsDiffer}
-use Rattle.cert_check.specs.Faults.{HasNode, HasWrongNode, IsUnlisted, IsState, HasState, TellsKind, IsListedTarget, IsKeptTarget}
+use Rattle.cert_check.specs.Faults.{HasNode, HasWrongNode, IsUnlisted, HasState, TellsKind, IsListedTarget, IsKeptTarget}
 use Rattle.cert_check.specs.FirstFaults.{IsFaultless}
 use Rattle.cert_check.proofs.Decisions.{Decided, from_both, so_unless, at_most, is_bool, is_member, is_kind, is_option}
 use Rattle.cert_check.proofs.DecidedForms.{is_form, is_candidate}
@@ -238,7 +238,7 @@ module _ (problem : Problem) (answer : Answer) (faultless : IsFaultless problem 
     start p lists =
         let zero = node_at problem answer r in_stages 0 (slice_get_within kinds 0 (kind_of problem r []) first) in
         let tells : told zero.0 ≡ kind_of problem r [] = sym (kind_at problem answer r in_stages 0 zero.0 zero.1)
-            ∙ get_or_from_slice_get kinds 0 (kind_of problem r []) (kind_of problem r []) first in
+        ∙ get_or_from_slice_get kinds 0 (kind_of problem r []) (kind_of problem r []) first in
         one_potential problem r answer.stages.items ascending (kind_of problem r []) p zero.0.potential lists
         (record {
           node = zero.0;
@@ -271,12 +271,17 @@ module _ (problem : Problem) (answer : Answer) (faultless : IsFaultless problem 
           (subst (λ x. IsTrue (is_final problem x)) (sym lists.tells) h);
       goes_on = λ k p column lists kept. let numbered = has_number lists.node lists.listed in
           let stays : IsKeptBelow problem answer.stages.items r (told lists.node) column = subst
-              (λ x. IsKeptBelow problem answer.stages.items r x column) (sym lists.tells) kept in
+          (λ x. IsKeptBelow problem answer.stages.items r x column) (sym lists.tells) kept in
           let next = listed numbered.0 lists.node numbered.1 column stays in
           subst (λ x. (q : ℕ) × (Lists problem answer.stages.items r (moved problem r x column) q
-          × (p ≤ cost_of problem r x column + q))) lists.tells
-          (next.0, (next.1, subst (λ x. x ≤ cost_of problem r (told lists.node) column + next.0) lists.potential
-          (high_enough numbered.0 lists.node numbered.1 column stays)));
+          × (p ≤ cost_of problem r x column + q))) lists.tells (
+            next.0,
+            (
+              next.1,
+              subst (λ x. x ≤ cost_of problem r (told lists.node) column + next.0) lists.potential
+                  (high_enough numbered.0 lists.node numbered.1 column stays),
+            ),
+          );
       start = start;
     }
 
@@ -363,13 +368,13 @@ module _ (problem : Problem) (answer : Answer) (faultless : IsFaultless problem 
     kept_target : (n : ℕ) → IsNodeOf problem last_nodes n k → Kept → (m : ℕ) × IsNodeOf problem last_nodes m goal_kind
     kept_target n node kept =
         let listed = (certified_stage last (omega arith)).goes_on k node.node.potential column
-            (record {
-              node = node.node;
-              listed = contains_numbered last_nodes n node.node node.numbered;
-              tells = node.tells;
-              potential = refl;
-            })
-            (record { fits = kept.fits; tight = λ j some l. kept.tight j some (omega (arith, l)) }) in
+        (record {
+          node = node.node;
+          listed = contains_numbered last_nodes n node.node node.numbered;
+          tells = node.tells;
+          potential = refl;
+        })
+        (record { fits = kept.fits; tight = λ j some l. kept.tight j some (omega (arith, l)) }) in
         kind_numbered problem last_nodes goal_kind
         (lists_kind problem last answer.stages.items goal_kind listed.0 listed.1.0)
 
@@ -398,9 +403,11 @@ module _ (problem : Problem) (answer : Answer) (faultless : IsFaultless problem 
           own (inl kept) =
               let target = kept_target line.node node kept in
               let same : Some arc.target ≡ Some target.0 = same_target (Some arc.target) (Some target.0)
-                  (arc, (c, holds, refl)) (kept, target.1) in
-              (kept, subst (λ m. IsNodeOf problem last_nodes m goal_kind)
-              (sym (ap (λ o. unwrap_or o 0) same)) target.1)
+              (arc, (c, holds, refl)) (kept, target.1) in (
+                kept,
+                subst (λ m. IsNodeOf problem last_nodes m goal_kind)
+                    (sym (ap (λ o. unwrap_or o 0) same)) target.1,
+              )
           own (inr none) = absurd (some_not_none arc.target
               (same_target (Some arc.target) None (arc, (c, holds, refl)) none))
 

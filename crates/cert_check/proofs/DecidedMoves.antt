@@ -1,5 +1,5 @@
 -- Whether a stage lists a kind, a column fits one, and a move is kept, can be told.
-use Rattle.std.proofs.Common.{◌≡◌, ℕ, ◌+◌, ◌<◌, ◌≤◌, ◌⊎◌, true, false, List, length, sym, ap, ◌∙◌, arith, inl, inr, Contains}
+use Rattle.std.proofs.Common.{◌≡◌, ℕ, ◌+◌, ◌<◌, ◌≤◌, ◌⊎◌, true, false, List, length, ap, ◌∙◌, arith, inl, inr, Contains}
 use Rattle.std.specs.List.Sorted.{IsStrictlySortedBy}
 use Rattle.std.proofs.lemmas.Bool.{cases_eq, cases_lt}
 use Rattle.tier_core.specs.declared.sym.Sym.{Sym}
@@ -7,7 +7,7 @@ use Rattle.tier_core.specs.Kinds.{PrefixKind, kind_order}
 use Rattle.tier_core.specs.Scan.{fits}
 use Rattle.tier_core.specs.Timelines.{symbol, column_at, has_edge}
 use Rattle.violation.specs.Moves.{FitsKind, moved, cost_of, cut, is_tier_open, input_of}
-use Rattle.violation.specs.Problems.{Problem, last_stage, last_place}
+use Rattle.violation.specs.Problems.{Problem, last_place}
 use Rattle.answer_text.specs.declared.stage.Stage.{Stage}
 use Rattle.answer_text.specs.Right.{nodes_at, kinds_at}
 use Rattle.answer_text.specs.Certified.{Lists, IsTightAt, IsKeptBelow}
@@ -57,7 +57,8 @@ module _ (problem : Problem) where
     -- a column is tight at a stage whose kinds ascend, or not
     pub is_tight : (j : ℕ) → IsStrictlySortedBy kind_order (kinds_at problem j (nodes_at stages j))
         → (k : PrefixKind) (column : List Sym) → Decided (IsTightAt problem stages j k column)
-    is_tight j ascending k column = own (is_listed j (cut problem j k)) (is_listed j (moved problem j (cut problem j k) column))
+    is_tight j ascending k column = own (is_listed j (cut problem j k)) (is_listed j (moved problem j
+        (cut problem j k) column))
       where
         falls : (p q : ℕ) → Lists problem stages j (cut problem j k) p
             → Lists problem stages j (moved problem j (cut problem j k) column) q
@@ -67,7 +68,8 @@ module _ (problem : Problem) where
         falls p q a b (inr n) = inr (λ t. n
             (one_potential problem j stages ascending (cut problem j k) p t.before a t.leaves ∙ t.falls
             ∙ ap (λ x. cost_of problem j (cut problem j k) column + x)
-            (one_potential problem j stages ascending (moved problem j (cut problem j k) column) t.after q t.arrives b)))
+            (one_potential problem j stages ascending (moved problem j
+            (cut problem j k) column) t.after q t.arrives b)))
 
         own : ((p : ℕ) × Lists problem stages j (cut problem j k) p) ⊎ IsUnlisted problem stages j (cut problem j k)
             → ((p : ℕ) × Lists problem stages j (moved problem j (cut problem j k) column) p)
@@ -83,7 +85,8 @@ module _ (problem : Problem) where
     -- a move is kept below a stage, or not, where the kinds of the stages below it ascend
     pub is_kept : (r : ℕ) → ((j : ℕ) → j < r → IsStrictlySortedBy kind_order (kinds_at problem j (nodes_at stages j)))
         → (k : PrefixKind) (column : List Sym) → Decided (IsKeptBelow problem stages r k column)
-    is_kept r ascending k column = own (is_fitting k column) (for_all_below (IsTightFrom k column) r (λ j l. tight j (ascending j l)))
+    is_kept r ascending k column = own (is_fitting k column) (for_all_below (IsTightFrom k column) r
+        (λ j l. tight j (ascending j l)))
       where
         tight : (j : ℕ) → IsStrictlySortedBy kind_order (kinds_at problem j (nodes_at stages j))
             → Decided (IsTightFrom k column j)

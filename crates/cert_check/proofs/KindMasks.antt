@@ -123,7 +123,8 @@ module _ (ps : List Phase) (u m : ℕ) (unmets : AreBits (map is_unmet_phase ps)
       (λ l. ap (λ b. b && has_tier m i) (unmet_at i l) ∙ ap (λ b. is_unmet_phase (get_or ps i closed) && b) (met_at i l)
       ∙ one_of (get_or ps i closed))
       (λ l. ap (λ n. (n == 1) && has_tier m i)
-      (bit_at_above u (length (map is_unmet_phase ps)) i unmets.within (omega (arith, l, length-map ps is_unmet_phase))))
+      (bit_at_above u (length (map is_unmet_phase ps)) i unmets.within (omega
+      (arith, l, length-map ps is_unmet_phase))))
       (cases_lt i (length ps)))
 
 kind_parts : (place : ℕ) (a b : List Bool) (s t : List Phase) → a ≡ b → s ≡ t
@@ -137,7 +138,14 @@ module _ (problem : Problem) (stage : ℕ) where
   pub kind_for : (k : PrefixKind) → length k.opened ≡ length problem.tiers.free
       → length k.phases ≡ length (stretches problem stage) → (kind : Kind) × TellsKind problem stage kind k
   kind_for k free count = (
-    record { place = k.place; opened = opened.0; unmet = unmets.0; met = mets.0; apart = phases_apart k.phases unmets.0 mets.0 unmets.1 mets.1 },
+    record {
+      place = k.place;
+      opened = opened.0;
+      unmet = unmets.0;
+      met = mets.0;
+      apart =
+          phases_apart k.phases unmets.0 mets.0 unmets.1 mets.1;
+    },
     record {
       tells = kind_parts k.place (open_tiers (length problem.tiers.free) opened.0) k.opened told k.phases
           (ap (λ n. open_tiers n opened.0) (sym free) ∙ open_bits k.opened opened.0 opened.1)
@@ -161,7 +169,8 @@ module _ (problem : Problem) (stage : ℕ) where
       mets = bits_of (map is_met_phase k.phases)
 
       told : List Phase
-      told = map (λ i. phase_by_bits (has_tier unmets.0 i) (has_tier mets.0 i)) (range_with_len 0 (length (stretches problem stage)))
+      told = map (λ i. phase_by_bits (has_tier unmets.0 i) (has_tier mets.0 i)) (range_with_len 0 (length
+          (stretches problem stage)))
 
 -- ---- one kind alone
 
@@ -185,24 +194,25 @@ met_bit kind i = by (has_tier kind.unmet i) (has_tier kind.met i)
 
 same_mask : (a b n : ℕ) → a < 2 ^ n → b < 2 ^ n → ((i : ℕ) → i < n → has_tier a i ≡ has_tier b i) → a ≡ b
 same_mask a b n la lb h = same_from_bits_below n a b la lb (λ i l.
-    bit_value (bit_at a i) (bit_at-lt a i) ∙ ap (λ c. cond c 1 0) (h i l) ∙ sym (bit_value (bit_at b i) (bit_at-lt b i)))
+    bit_value (bit_at a i) (bit_at-lt a i) ∙ ap (λ c. cond c 1 0) (h i l) ∙ sym (bit_value (bit_at b i)
+    (bit_at-lt b i)))
 
 -- kinds with the same fields
 same_fields : (k l : Kind) → k.place ≡ l.place → k.opened ≡ l.opened → k.unmet ≡ l.unmet → k.met ≡ l.met → k ≡ l
 same_fields k l place opened unmets mets =
     let Unmet : ℕ → Type 0 = λ u. (a : bit_and u k.met ≡ 0) → k ≡ record
-        { place = k.place; opened = k.opened; unmet = u; met = k.met; apart = a } in
+    { place = k.place; opened = k.opened; unmet = u; met = k.met; apart = a } in
     let own : Unmet k.unmet = λ a. let one : IsProp (bit_and k.unmet k.met ≡ 0) = hlevel props in
     ap (λ (x : bit_and k.unmet k.met ≡ 0). let r : Kind = record
-        { place = k.place; opened = k.opened; unmet = k.unmet; met = k.met; apart = x } in r) (one k.apart a) in
+    { place = k.place; opened = k.opened; unmet = k.unmet; met = k.met; apart = x } in r) (one k.apart a) in
     let Met : ℕ → Type 0 = λ m. (a : bit_and l.unmet m ≡ 0) → k ≡ record
-        { place = k.place; opened = k.opened; unmet = l.unmet; met = m; apart = a } in
+    { place = k.place; opened = k.opened; unmet = l.unmet; met = m; apart = a } in
     let masks : Met l.met = subst Met mets (subst Unmet unmets own) in
     masks l.apart
     ∙ ap (λ (x : ℕ). let r : Kind = record
-        { place = x; opened = k.opened; unmet = l.unmet; met = l.met; apart = l.apart } in r) place
+    { place = x; opened = k.opened; unmet = l.unmet; met = l.met; apart = l.apart } in r) place
     ∙ ap (λ (x : ℕ). let r : Kind = record
-        { place = l.place; opened = x; unmet = l.unmet; met = l.met; apart = l.apart } in r) opened
+    { place = l.place; opened = x; unmet = l.unmet; met = l.met; apart = l.apart } in r) opened
 
 told_same : {X : Type 0} (f g : ℕ → X) (n i : ℕ) (d : X) → map f (range_with_len 0 n) ≡ map g (range_with_len 0 n)
     → i < n → f i ≡ g i

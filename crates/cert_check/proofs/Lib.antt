@@ -13,6 +13,15 @@ pub mod KindMasks
 pub mod Ascending
 pub mod Certifying
 pub mod OneFault
+pub mod Gathering
+pub mod LeastColumns
+pub mod ArcLists
+pub mod ArcSteps
+pub mod NumberSearch
+pub mod StateFaults
+pub mod StateSubjects
+pub mod LastStage
+pub mod StateSteps
 pub mod Searches
 pub mod Subjects
 pub mod Orders

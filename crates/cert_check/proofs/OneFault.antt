@@ -1,9 +1,7 @@
 -- Two faults that come first are one.
-use Rattle.std.proofs.Common.{◌≡◌, ℕ, zero, suc, ◌+◌, ◌-◌, ◌<◌, ◌≤◌, ◌⊎◌, Bool, IsTrue, List, [], ◌∷◌, map, length, get_or, slice_get, Some, None, Option, refl, sym, ap, ap₂, ◌∙◌, subst, arith, inl, inr, Contains}
+use Rattle.std.proofs.Common.{◌≡◌, ℕ, zero, suc, ◌+◌, ◌<◌, ◌⊎◌, Bool, IsTrue, List, [], ◌∷◌, length, get_or, slice_get, Some, None, Option, refl, sym, ap, ap₂, ◌∙◌, subst, arith, inl, inr, Contains}
 use Rattle.std.specs.List.Sorted.{IsStrictlySortedBy}
-use Rattle.std.specs.Prelude.{unwrap_or}
 use Rattle.std.proofs.lemmas.Bool.{cases_eq, cases_order}
-use Rattle.std.proofs.lemmas.List.{get_or_default}
 use Rattle.std.proofs.lemmas.Option.{slice_get-get_or}
 use Rattle.tier_core.specs.declared.sym.Sym.{Sym}
 use Rattle.tier_core.specs.declared.kind.Kind.{Kind}
@@ -11,20 +9,20 @@ use Rattle.tier_core.specs.Classes.{has}
 use Rattle.tier_core.specs.Kinds.{PrefixKind, kind_order}
 use Rattle.tier_core.specs.Symbols.{rank}
 use Rattle.violation.specs.Moves.{moved, cost_of}
-use Rattle.violation.specs.Prefixes.{kind_of, kind_of_bits}
+use Rattle.violation.specs.Prefixes.{kind_of_bits}
 use Rattle.violation.specs.Problems.{Problem, last_stage}
 use Rattle.answer_text.specs.declared.stage.Node.{Node}
 use Rattle.answer_text.specs.declared.automaton.ArcLine.{ArcLine}
 use Rattle.answer_text.specs.declared.automaton.StateLine.{StateLine}
 use Rattle.answer_text.specs.declared.answer.Answer.{Answer}
-use Rattle.answer_text.specs.Right.{nodes_at, kinds_at, IsNodeOf}
+use Rattle.answer_text.specs.Right.{nodes_at, kinds_at}
 use Rattle.answer_text.specs.Certified.{Lists, AreStatesInOrder}
 use Rattle.check_laws.proofs.Leading.{one_state}
 use Rattle.check_laws.proofs.Listing.{one_potential, one_number, one_kind}
 use Rattle.cert_check.specs.declared.fault.Fault.{Fault}
 use Rattle.cert_check.specs.declared.fault.Fault.TheVariants.{FormWrong, StageMissing, ExampleWrong, CountsDiffer, NodeWrong, StartMissing, FinalPotential, NotClosed, Potential, StartPotential, StateMissing, FinalsDiffer, ArcsTwice, ArcsDiffer}
-use Rattle.cert_check.specs.Places.{IsBefore, column_place, at_node, at_move, at_twice, at_arcs, in_stage, in_state}
-use Rattle.cert_check.specs.Faults.{HasWrongForm, LacksStage, HasWrongExample, HasWrongCount, HasNode, HasWrongNode, LacksStart, HasFinalPotential, IsNotClosed, HasHighPotential, HasWrongStart, IsState, HasState, LacksTarget, HasWrongMark, HasTwice, IsListedTarget, IsKeptTarget, HasWrongArcs, TellsKind}
+use Rattle.cert_check.specs.Places.{IsBefore, column_place, at_node, at_move, at_twice, at_arcs}
+use Rattle.cert_check.specs.Faults.{LacksStage, HasWrongCount, HasNode, HasWrongNode, HasFinalPotential, IsNotClosed, HasHighPotential, HasWrongStart, HasState, LacksTarget, HasWrongMark, HasTwice, IsListedTarget, IsKeptTarget, HasWrongArcs, TellsKind}
 use Rattle.cert_check.specs.FirstFaults.{IsFault, IsFirstFault}
 use Rattle.cert_check.proofs.Decisions.{so_unless, same_rank}
 use Rattle.cert_check.proofs.Faultless.{some_same}
@@ -113,11 +111,13 @@ AtPlace problem answer (suc (suc (suc (suc zero))) ∷ []) fault = ⊥
 AtPlace problem answer (suc (suc (suc (suc zero))) ∷ stage ∷ rest) fault = AtStage problem answer stage rest fault
 AtPlace problem answer (suc (suc (suc (suc (suc zero)))) ∷ rest) fault = fault ≡ StateMissing 0 0
 AtPlace problem answer (suc (suc (suc (suc (suc (suc n))))) ∷ []) fault = ⊥
-AtPlace problem answer (suc (suc (suc (suc (suc (suc n))))) ∷ state ∷ rest) fault = AtState problem answer state rest fault
+AtPlace problem answer (suc (suc (suc (suc (suc (suc n))))) ∷ state ∷ rest) fault =
+    AtState problem answer state rest fault
 
 module _ (problem : Problem) (answer : Answer) where
   at_place : (fault : Fault) (place : List ℕ) → IsFault problem answer fault place → AtPlace problem answer place fault
-  at_place fault place h = subst (λ p. AtPlace problem answer p fault) (sym (own fault place h).1.0) (own fault place h).1.1
+  at_place fault place h = subst (λ p. AtPlace problem answer p fault) (sym (own fault place h).1.0)
+      (own fault place h).1.1
     where
       own : (f : Fault) (p : List ℕ) → IsFault problem answer f p
           → (q : List ℕ) × ((p ≡ q) × AtPlace problem answer q f)
@@ -130,10 +130,14 @@ module _ (problem : Problem) (answer : Answer) where
       own (StartMissing stage) p h = (4 ∷ stage ∷ 1 ∷ [], (h.1, refl))
       own (FinalPotential stage node listed) p h =
           (4 ∷ stage ∷ 2 ∷ node ∷ 0 ∷ [], (h.1, (listed, (refl, h.0))))
-      own (NotClosed stage node missing) p h = (at_move stage node h.0,
-          (h.1.1, (refl, (h.0, (refl, inl (missing, (refl, h.1.0)))))))
-      own (Potential stage node listed allowed) p h = (at_move stage node h.0,
-          (h.1.1, (refl, (h.0, (refl, inr (listed, (allowed, (refl, h.1.0))))))))
+      own (NotClosed stage node missing) p h = (
+        at_move stage node h.0,
+        (h.1.1, (refl, (h.0, (refl, inl (missing, (refl, h.1.0)))))),
+      )
+      own (Potential stage node listed allowed) p h = (
+        at_move stage node h.0,
+        (h.1.1, (refl, (h.0, (refl, inr (listed, (allowed, (refl, h.1.0))))))),
+      )
       own (StartPotential stage listed count) p h =
           (4 ∷ stage ∷ 3 ∷ [], (h.1, (listed, (count, (refl, h.0)))))
       own (StateMissing state target) p (inl h) = (5 ∷ [], (h.3, both state target h.0 h.1))
@@ -204,8 +208,8 @@ module _ (problem : Problem) (answer : Answer) where
     one_potential_fault right listed allowed other more a b =
         let same : a.node ≡ b.node = one_node stage n a.node b.node a.is b.is in
         let nexts : a.next ≡ b.next = one_potential problem stage answer.stages.items
-            (ascends_unless problem answer stage a.is.within right) (next b.node) a.next b.next
-            (subst (λ x. Lists problem answer.stages.items stage (next x) a.next) same a.leads) b.leads in (
+        (ascends_unless problem answer stage a.is.within right) (next b.node) a.next b.next
+        (subst (λ x. Lists problem answer.stages.items stage (next x) a.next) same a.leads) b.leads in (
           a.listed_is ∙ ap (λ (x : Node). x.potential) same ∙ sym b.listed_is,
           a.allowed_is
               ∙ ap₂ (λ (x : Node) (q : ℕ). cost_of problem stage (kind_of_bits problem stage x.kind) column + q)
@@ -259,7 +263,7 @@ module _ (problem : Problem) (answer : Answer) where
     one_lacking state arc target other a b =
         let line : a.line ≡ b.line = one_line state a.line b.line a.is b.is in
         let same : a.arc_line ≡ b.arc_line = some_same (sym a.numbered
-            ∙ ap (λ (x : StateLine). slice_get x.arcs.items arc) line ∙ b.numbered) in
+        ∙ ap (λ (x : StateLine). slice_get x.arcs.items arc) line ∙ b.numbered) in
         a.target_is ∙ ap (λ (x : ArcLine). x.target) same ∙ sym b.target_is
 
     one_mark : (state : ℕ) (listed other : Bool) → HasWrongMark problem answer state listed
@@ -323,7 +327,7 @@ module _ (problem : Problem) (answer : Answer) where
     one_arcs ascending state column once listed other kept more a b =
         let line : a.line ≡ b.line = one_line state a.line b.line a.is b.is in
         let kind : a.kind ≡ b.kind = one_kind problem (nodes_at answer.stages.items (last_stage problem)) a.kind
-            b.kind state a.of_kind b.of_kind in (
+        b.kind state a.of_kind b.of_kind in (
           one_listed state column b.line b.is once listed other
               (subst (λ (x : StateLine). IsListedTarget x.arcs.items column listed) line a.listed_is) b.listed_is,
           one_kept ascending b.kind column kept more
@@ -346,8 +350,8 @@ module _ (problem : Problem) (answer : Answer) where
     one_in_state state (suc (suc (suc n)) ∷ rest) f g ascending none a b =
         let column : a.0 ≡ b.0 = same_column a.0 b.0 (sym a.1.0 ∙ b.1.0) in
         let same = one_arcs ascending state b.0 (λ w. none b.0 w (inl (omega arith)))
-            a.1.1.0 b.1.1.0 a.1.1.1.0 b.1.1.1.0
-            (subst (λ c. HasWrongArcs problem answer state c a.1.1.0 a.1.1.1.0) column a.1.1.1.1.1) b.1.1.1.1.1 in
+        a.1.1.0 b.1.1.0 a.1.1.1.0 b.1.1.1.0
+        (subst (λ c. HasWrongArcs problem answer state c a.1.1.0 a.1.1.1.0) column a.1.1.1.1.1) b.1.1.1.1.1 in
         a.1.1.1.1.0 ∙ ap₂ (λ c x. ArcsDiffer state c x a.1.1.1.0) column same.0
         ∙ ap (λ x. ArcsDiffer state b.0 b.1.1.0 x) same.1 ∙ sym b.1.1.1.1.0
 
@@ -366,9 +370,9 @@ module _ (problem : Problem) (answer : Answer) where
         (kinds_at problem (last_stage problem) (nodes_at answer.stages.items (last_stage problem)))
     last_ascends n rest none =
         let count : length answer.stages.items ≡ last_stage problem + 1 = so_unless
-            (cases_eq (length answer.stages.items) (last_stage problem + 1))
-            (λ no. none (StageMissing (length answer.stages.items) (last_stage problem + 1)) (1 ∷ [])
-            (record { wanted_is = refl; differs = no; listed_is = inl refl }, refl) (inl (omega arith))) in
+        (cases_eq (length answer.stages.items) (last_stage problem + 1))
+        (λ no. none (StageMissing (length answer.stages.items) (last_stage problem + 1)) (1 ∷ [])
+        (record { wanted_is = refl; differs = no; listed_is = inl refl }, refl) (inl (omega arith))) in
         ascends_unless problem answer (last_stage problem) (omega (arith, count))
         (λ m w. none (NodeWrong (last_stage problem) m) (at_node (last_stage problem) m) (w, refl) (inl (omega arith)))
 
@@ -383,7 +387,7 @@ module _ (problem : Problem) (answer : Answer) where
     one_at (suc (suc (suc zero)) ∷ rest) f g none a b =
         let head : a.0 ≡ b.0 = same_head a.0 b.0 rest a.1.1.1.0 b.1.1.1.0 in
         let same = one_count b.0 a.1.0 a.1.1.0 b.1.0 b.1.1.0
-            (subst (λ n. HasWrongCount problem answer n a.1.0 a.1.1.0) head a.1.1.1.1.1) b.1.1.1.1.1 in
+        (subst (λ n. HasWrongCount problem answer n a.1.0 a.1.1.0) head a.1.1.1.1.1) b.1.1.1.1.1 in
         a.1.1.1.1.0 ∙ ap₂ (λ n x. CountsDiffer n x a.1.1.0) head same.0
         ∙ ap (λ x. CountsDiffer b.0 b.1.0 x) same.1 ∙ sym b.1.1.1.1.0
     one_at (suc (suc (suc (suc zero))) ∷ []) f g none a b = absurd a

@@ -16,4 +16,7 @@ pub mod Kept
 pub mod Fitting
 pub mod Nodes
 pub mod States
+pub mod KeptArcs
 pub mod Verdicts
+pub mod Arcs
+pub mod Gathered

@@ -11,7 +11,7 @@ use Rattle.answer_text.specs.declared.automaton.StateLine.{StateLine}
 use Rattle.answer_text.specs.declared.stage.Node.{Node}
 use Rattle.cert_check.specs.declared.subject.Subject.{Subject}
 use Rattle.cert_check.specs.Faults.{HasNode, IsListedTarget, IsKeptTarget}
-use Rattle.cert_check.specs.Parts.{InStage, InState, InAnswer}
+use Rattle.cert_check.specs.Parts.{InState, InAnswer}
 use Rattle.cert_check.specs.Subjects.{IsReady, problem_of}
 
 -- nothing is wrong in any part of the answer before the automaton
@@ -30,7 +30,7 @@ pub record IsStaged (s : Subject) : Type 0 where
 -- A state of an answer, and its node in the last stage.
 pub record IsStateAt (s : Subject) (state : StateLine) (node : Node) : Type 0 where
   pub listed : Contains s.answer.now.automaton.states.items state
-  pub has : HasNode s.answer.now (last_stage (problem_of s)) state.node node
+  pub is : HasNode s.answer.now (last_stage (problem_of s)) state.node node
 
 -- the kind of a node of the last stage
 abbrev pub last_kind : Subject → Node → PrefixKind

@@ -11,6 +11,7 @@ use Rattle.violation.specs.Problems.{Problem, last_stage}
 use Rattle.answer_text.specs.declared.answer.Answer.{Answer}
 use Rattle.answer_text.specs.declared.automaton.StateLine.{StateLine}
 use Rattle.answer_text.specs.declared.stage.Node.{Node}
+use Rattle.answer_text.specs.declared.stage.Stage.{Stage}
 use Rattle.answer_text.specs.Readable.{IsReadableState, last_nodes}
 use Rattle.answer_text.specs.Right.{nodes_at, numbers_of}
 use Rattle.cert_check.specs.declared.fault.Fault.{Fault}
@@ -20,10 +21,11 @@ use Rattle.cert_check.specs.Faults.{IsState, HasState}
 use Rattle.cert_check.specs.FirstFaults.{IsFirstFault}
 use Rattle.cert_check.specs.Parts.{InState, InAnswer, IsFirstInState}
 use Rattle.cert_check.specs.Places.{IsBefore, in_state}
-use Rattle.cert_check.specs.States.{AreRightBefore, IsRightFrom, IsRightState, IsStaged}
+use Rattle.cert_check.specs.States.{AreRightBefore, IsRightFrom, IsRightState, IsStaged, IsStateAt}
 use Rattle.cert_check.specs.Subjects.{problem_of, nodes_of}
 use Rattle.cert_check.proofs.Faultless.{some_same}
 use Rattle.cert_check.proofs.Parts.{none_before, none_first, first_fault}
+use Rattle.cert_check.proofs.Subjects.{in_stages, nodes_read}
 
 module _ (problem : Problem) (answer : Answer)
     (ascending : IsStrictlySortedBy nat_cmp (numbers_of answer.automaton.states.items))
@@ -159,3 +161,32 @@ state_node_within s staged line h =
     (All-contains (λ (x : StateLine). IsReadableState s.shape.now.width
     (length (last_nodes s.answer.now.stages.items)) x) s.answer.now.automaton.states.items line
     staged.ready.readable.states.each h).node
+
+-- the state that code reads, and the node that it reads for it
+module _ (states : List StateLine) (s : Subject) (staged : IsStaged s)
+    (is : states ≡ s.answer.now.automaton.states.items) (i : ℕ) (line : StateLine) (within : i < length states)
+    (item : line ≡ get_or states i line) where
+  pub state_read : slice_get s.answer.now.automaton.states.items i ≡ Some line
+  state_read = ap (λ (xs : List StateLine). slice_get xs i) (sym is)
+      ∙ slice_get-get_or states i line within ∙ ap (λ (x : StateLine). Some x) (sym item)
+
+  pub state_here : (nodes : List Node) (stage : Stage) (count : ℕ) (node : Node) → nodes ≡ stage.nodes.items
+      → count ≡ last_stage (problem_of s) → stage ≡ get_or s.answer.now.stages.items count stage
+      → node ≡ get_or nodes line.node node → IsStateAt s line node
+  state_here nodes stage count node here counted e f =
+      let lines : List StateLine = s.answer.now.automaton.states.items in
+      let listed : Contains lines line = (i, slice_get_within lines i line state_read,
+      get_or_from_slice_get lines i line line state_read) in
+      let own : nodes ≡ nodes_of s (last_stage (problem_of s)) =
+      nodes_read s staged.ready (last_stage (problem_of s)) (omega arith) nodes stage here
+      (subst (λ n. stage ≡ get_or s.answer.now.stages.items n stage) counted e) in
+      let inside : line.node < length nodes = subst (λ (xs : List Node). line.node < length xs) (sym own)
+      (state_node_within s staged line listed) in
+      record {
+        listed = listed;
+        is = record {
+          within = in_stages s staged.ready (last_stage (problem_of s)) (omega arith);
+          numbered = ap (λ (xs : List Node). slice_get xs line.node) (sym own)
+              ∙ slice_get-get_or nodes line.node node inside ∙ ap (λ (x : Node). Some x) (sym f);
+        };
+      }

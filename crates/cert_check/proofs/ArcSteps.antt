@@ -1,12 +1,11 @@
 -- Arcs that are made of the pieces of a kind's kept moves lead where those moves lead.
-use Rattle.std.proofs.Common.{◌≡◌, ℕ, ◌+◌, ◌<◌, ◌≤◌, ◌⊎◌, IsTrue, List, [], ◌∷◌, ◌++◌, map, take, length, get_or, slice_get, Some, None, Option, refl, sym, ap, ◌∙◌, subst, arith, inl, inr, ⊎_elim, All, Contains}
+use Rattle.std.proofs.Common.{◌≡◌, ℕ, ◌+◌, ◌<◌, ◌≤◌, IsTrue, List, [], ◌∷◌, ◌++◌, take, length, get_or, slice_get, Some, None, Option, refl, sym, ap, ◌∙◌, subst, All, Contains}
 use Rattle.std.specs.List.Sorted.{IsStrictlySortedBy}
 use Rattle.std.proofs.lemmas.List.{map-append, take_all, take_more}
-use Rattle.std.proofs.lemmas.List.Elements.{All-contains, All-push, Contains-get_or}
+use Rattle.std.proofs.lemmas.List.Elements.{All-contains, All-push}
 use Rattle.std.proofs.lemmas.List.Folds.{list_any_at}
 use Rattle.std.specs.Prelude.{option_map}
 use Rattle.std.proofs.lemmas.Option.{slice_get_within, slice_get-map, get_or_from_slice_get}
-use Rattle.tier_core.specs.declared.class.Class.{Class}
 use Rattle.tier_core.specs.declared.sym.Sym.{Sym}
 use Rattle.tier_core.specs.Classes.{has, sets_of}
 use Rattle.tier_core.specs.Kinds.{PrefixKind, kind_order}
@@ -15,16 +14,15 @@ use Rattle.violation.specs.Moves.{moved}
 use Rattle.violation.specs.Prefixes.{kind_of_bits}
 use Rattle.violation.specs.Problems.{Problem, last_stage}
 use Rattle.answer_text.specs.declared.automaton.ArcLine.{ArcLine}
-use Rattle.answer_text.specs.declared.answer.Answer.{Answer}
 use Rattle.answer_text.specs.declared.stage.Node.{Node}
 use Rattle.answer_text.specs.Certified.{IsKeptBelow}
 use Rattle.answer_text.specs.Right.{nodes_at, kinds_at, IsNodeOf}
-use Rattle.check_laws.proofs.Listing.{kind_numbered, one_number}
+use Rattle.check_laws.proofs.Listing.{one_number}
 use Rattle.check_laws.proofs.Members.{all_from_members, contains_map}
 use Rattle.cert_check.specs.declared.kept_piece.KeptPiece.{KeptPiece}
 use Rattle.cert_check.specs.declared.subject.Subject.{Subject}
 use Rattle.cert_check.specs.Arcs.{arc_classes}
-use Rattle.cert_check.specs.Faults.{TellsKind, IsListedTarget, IsKeptTarget}
+use Rattle.cert_check.specs.Faults.{IsListedTarget, IsKeptTarget}
 use Rattle.cert_check.specs.Kept.{classes_of, IsKeptPiece, AreKept}
 use Rattle.cert_check.specs.KeptArcs.{IsArcOf, AreArcsOf}
 use Rattle.cert_check.specs.States.{AreKeptArcs}
@@ -107,8 +105,7 @@ module _ (s : Subject) (k : PrefixKind) (pieces : List KeptPiece) (arcs : List A
       let a = arc_of arc h in
       let held : IsTrue (has a.piece.class column) = ap (λ c. has c column) (sym a.same_class) ∙ holds in
       let m = contains_map (λ (p : KeptPiece). p.class) pieces a.piece a.of in
-      let own : IsKeptPiece problem last k a.piece = All-contains (IsKeptPiece problem last k) pieces a.piece kept.each a.of in
-      (
+      let own : IsKeptPiece problem last k a.piece = All-contains (IsKeptPiece problem last k) pieces a.piece kept.each a.of in (
         (kept.columns column).0 (list_any_at (λ c. has c column) (classes_of pieces) m.0 a.piece.class m.1
             (ap (λ c. has c column) m.2 ∙ held)),
         node_of_number problem nodes arc.target (moved problem last k column)
@@ -120,9 +117,21 @@ module _ (s : Subject) (k : PrefixKind) (pieces : List KeptPiece) (arcs : List A
       let some : some_has (arc_classes arcs) column ≡ some_has (classes_of pieces) column =
       ap (λ cs. some_has cs column) are.classes in
       let there = arc_there arcs column (some ∙ (kept.columns column).1 h) in
-      let arc : ArcLine = there.1.0 in
-      (arc.target, (arc, ((there.0, slice_get_within arcs there.0 arc there.1.1.0,
-      get_or_from_slice_get arcs there.0 arc arc there.1.1.0), there.1.1.1, refl)))
+      let arc : ArcLine = there.1.0 in (
+        arc.target,
+        (
+          arc,
+          (
+            (
+              there.0,
+              slice_get_within arcs there.0 arc there.1.1.0,
+              get_or_from_slice_get arcs there.0 arc arc there.1.1.0,
+            ),
+            there.1.1.1,
+            refl,
+          ),
+        ),
+      )
 
   module _ (ascending : IsStrictlySortedBy kind_order (kinds_of s (last_stage (problem_of s)))) where
     listed_to : (column : List Sym) (target : Option ℕ) → IsListedTarget arcs column target

@@ -1,12 +1,11 @@
 -- What is known of the last stage when a state is looked at: its kinds ascend, the place of the state's node
 -- is in the form, and each kept move of the node leads to a kind that is listed.
-use Rattle.std.proofs.Common.{◌≡◌, ℕ, ◌+◌, ◌^◌, ◌<◌, ◌≤◌, ◌⊎◌, IsTrue, List, [], ◌∷◌, length, get_or, refl, sym, subst, arith, inl, inr, All, Contains}
+use Rattle.std.proofs.Common.{◌≡◌, ℕ, ◌+◌, ◌^◌, ◌<◌, ◌≤◌, ◌⊎◌, List, [], ◌∷◌, get_or, refl, sym, subst, arith, inl, inr, All, Contains}
 use Rattle.std.proofs.lemmas.List.{get_or_default}
 use Rattle.tier_core.specs.declared.kind.Kind.{Kind}
 use Rattle.tier_core.specs.declared.sym.Sym.{Sym}
 use Rattle.tier_core.specs.KindShapes.{free_count, stretch_count}
-use Rattle.tier_core.specs.Classes.{has}
-use Rattle.tier_core.specs.Kinds.{AreStretchesBelow, PrefixKind}
+use Rattle.tier_core.specs.Kinds.{AreStretchesBelow}
 use Rattle.symbol_class.specs.FirstColumn.{first_column}
 use Rattle.symbol_class.proofs.Filled.{has-first_column}
 use Rattle.violation.specs.Moves.{moved}
@@ -47,12 +46,29 @@ module _ (s : Subject) (staged : IsStaged s) where
     -- the place of its node is in the form
     pub place_within : node.kind.place ≤ last_place (problem_of s)
     place_within = so_unless (at_most node.kind.place (last_place (problem_of s)))
-        (λ no. staged.right 4 (omega arith) (last ∷ 0 ∷ state.node ∷ [])
-        (last, (0, (state.node ∷ [], ((state.node, (record {
-          node = node;
-          is = at.is;
-          wrong = λ o. no o.possible.place;
-        }, refl)), refl)))))
+        (λ no. staged.right 4 (omega arith) (last ∷ 0 ∷ state.node ∷ []) (
+          last,
+          (
+            0,
+            (
+              state.node ∷ [],
+              (
+                (
+                  state.node,
+                  (
+                    record {
+                      node = node;
+                      is = at.is;
+                      wrong = λ o. no o.possible.place;
+                    },
+                    refl,
+                  ),
+                ),
+                refl,
+              ),
+            ),
+          ),
+        ))
 
     -- a kept move leads to a kind that is listed
     module _ (column : List Sym) (target : Kind)
@@ -69,15 +85,46 @@ module _ (s : Subject) (staged : IsStaged s) where
               → Contains (kinds_of s last) (moved problem last (last_kind s node) column)
           own (inl h) = lists_kind problem last s.answer.now.stages.items
               (moved problem last (last_kind s node) column) h.0 h.1
-          own (inr none) = absurd (staged.right 4 (omega arith) (last ∷ 2 ∷ state.node ∷ 1 ∷ column_place column)
-              (last, (2, (state.node ∷ 1 ∷ column_place column, ((state.node, (1, (column_place column,
-              ((column, (inl (target, record {
-                node = node;
-                is = at.is;
-                kept = record { fits = kept.fits; tight = λ j some l. kept.tight j some (omega (arith, l)) };
-                leads = tells;
-                unlisted = none;
-              }), refl)), refl)))), refl)))))
+          own (inr none) = absurd (staged.right 4 (omega arith) (last ∷ 2 ∷ state.node ∷ 1 ∷ column_place column) (
+            last,
+            (
+              2,
+              (
+                state.node ∷ 1 ∷ column_place column,
+                (
+                  (
+                    state.node,
+                    (
+                      1,
+                      (
+                        column_place column,
+                        (
+                          (
+                            column,
+                            (
+                              inl (
+                                target,
+                                record {
+                                  node = node;
+                                  is = at.is;
+                                  kept = record { fits = kept.fits; tight = λ j some l. kept.tight j some (omega (arith, l)) };
+                                  leads = tells;
+                                  unlisted = none;
+                                },
+                              ),
+                              refl,
+                            ),
+                          ),
+                          refl,
+                        ),
+                      ),
+                    ),
+                  ),
+                  refl,
+                ),
+              ),
+            ),
+          ))
 
       target_listed : (piece : KeptPiece) → piece.target ≡ target
           → IsTargetListed s (last_stage (problem_of s)) piece

@@ -1,5 +1,5 @@
 -- The faults of the states, one after the other.
-use Rattle.std.proofs.Common.{◌≡◌, ℕ, zero, suc, ◌+◌, ◌-◌, ◌<◌, ◌≤◌, List, [], ◌∷◌, length, get_or, slice_get, Some, refl, sym, ap, ◌∙◌, subst, arith, inl, inr, ⊎_elim, Contains}
+use Rattle.std.proofs.Common.{◌≡◌, ℕ, zero, suc, ◌+◌, ◌-◌, ◌<◌, List, [], ◌∷◌, length, get_or, slice_get, Some, refl, sym, ap, ◌∙◌, subst, arith, inl, inr, ⊎_elim, Contains}
 use Rattle.std.specs.List.Sorted.{IsStrictlySortedBy}
 use Rattle.std.specs.Ordering.{nat_cmp}
 use Rattle.std.proofs.lemmas.Bool.{cases_lt}
@@ -89,11 +89,15 @@ module _ (problem : Problem) (answer : Answer)
       (λ over.
       let rises = below_from_sorted (numbers_of states) count h.0 0 ascending over
       (omega (arith, h.1, length-map states (λ (x : StateLine). x.node))) in
-      absurd (omega (arith, less, rises,
-      get_or-map (λ (x : StateLine). x.node) states count line 0 within,
-      ap (λ (x : StateLine). x.node) at,
-      get_or-map (λ (x : StateLine). x.node) states h.0 other 0 h.1,
-      ap (λ (x : StateLine). x.node) h.2)))
+      absurd (omega (
+        arith,
+        less,
+        rises,
+        get_or-map (λ (x : StateLine). x.node) states count line 0 within,
+        ap (λ (x : StateLine). x.node) at,
+        get_or-map (λ (x : StateLine). x.node) states h.0 other 0 h.1,
+        ap (λ (x : StateLine). x.node) h.2,
+      )))
       (λ same.
       let here : h.0 ≡ count = omega (arith, above, same) in
       let one : other ≡ line = some_same (sym (numbered other h) ∙ ap (slice_get states) here ∙ is) in
@@ -175,8 +179,11 @@ module _ (states : List StateLine) (s : Subject) (staged : IsStaged s)
       → node ≡ get_or nodes line.node node → IsStateAt s line node
   state_here nodes stage count node here counted e f =
       let lines : List StateLine = s.answer.now.automaton.states.items in
-      let listed : Contains lines line = (i, slice_get_within lines i line state_read,
-      get_or_from_slice_get lines i line line state_read) in
+      let listed : Contains lines line = (
+        i,
+        slice_get_within lines i line state_read,
+        get_or_from_slice_get lines i line line state_read,
+      ) in
       let own : nodes ≡ nodes_of s (last_stage (problem_of s)) =
       nodes_read s staged.ready (last_stage (problem_of s)) (omega arith) nodes stage here
       (subst (λ n. stage ≡ get_or s.answer.now.stages.items n stage) counted e) in

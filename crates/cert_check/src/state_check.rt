@@ -67,12 +67,7 @@ fn check_mark(subject: &Subject, state: &StateLine, node: &Node) -> Result<(), S
 }
 
 /// Looks for columns that are in two arcs of a state, after its mark.
-fn check_once(
-    alloc: Global,
-    subject: &Subject,
-    state: &StateLine,
-    node: &Node,
-) -> Result<(), Stop>
+fn check_once(alloc: Global, subject: &Subject, state: &StateLine, node: &Node) -> Result<(), Stop>
     requires staged { IsStaged subject.now }
     requires at { IsStateAt subject.now state.now node.now }
     requires targets { IsRightPartOf (problem_of subject.now) subject.now.answer.now
@@ -95,12 +90,7 @@ fn check_once(
 }
 
 /// Compares the arcs of a state with the moves that are kept at the end, where no column is in two.
-fn check_arcs(
-    alloc: Global,
-    subject: &Subject,
-    state: &StateLine,
-    node: &Node,
-) -> Result<(), Stop>
+fn check_arcs(alloc: Global, subject: &Subject, state: &StateLine, node: &Node) -> Result<(), Stop>
     requires staged { IsStaged subject.now }
     requires at { IsStateAt subject.now state.now node.now }
     requires targets { IsRightPartOf (problem_of subject.now) subject.now.answer.now

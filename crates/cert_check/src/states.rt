@@ -25,7 +25,9 @@ pub(crate) fn check_states(alloc: Global, subject: &Subject) -> Result<(), Stop>
             target: 0,
         }));
     }
-    let nodes = subject.answer.stages[subject.grammar.constraints.len()].nodes.as_slice();
+    let nodes = subject.answer.stages[subject.grammar.constraints.len()]
+        .nodes
+        .as_slice();
     for state in states {
         check_state(alloc, subject, state, &nodes[state.node as usize])?;
     }

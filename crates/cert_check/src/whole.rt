@@ -10,8 +10,8 @@ ghost use Rattle.cert_check.specs.Verdicts.{IsVerdict};
 
 use crate::fault::Verdict;
 use crate::head::check_head;
-use crate::states::check_states;
 use crate::stages::check_stages;
+use crate::states::check_states;
 use crate::stop::Stop;
 use crate::subject::Subject;
 use answer_text::Answer;

@@ -1,4 +1,4 @@
-use Rattle.std.proofs.Common.{◌≡◌, ℕ, ◌+◌, List, sym, subst, arith, All}
+use Rattle.std.proofs.Common.{◌≡◌, ◌+◌, List, sym, subst, arith, All}
 use Rattle.tier_core.specs.KindShapes.{FitsShape}
 use Rattle.violation.specs.Prefixes.{kind_of_bits}
 use Rattle.violation.specs.Problems.{last_stage}

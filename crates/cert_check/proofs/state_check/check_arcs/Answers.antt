@@ -1,4 +1,4 @@
-use Rattle.std.proofs.Common.{◌≡◌, List, length, sym, ap, subst, arith, All, Option, MatchOption}
+use Rattle.std.proofs.Common.{◌≡◌, List, length, sym, subst, arith, All, Option, MatchOption}
 use Rattle.tier_core.specs.declared.sym.Sym.{Sym}
 use Rattle.tier_core.specs.Classes.{sets_of}
 use Rattle.violation.specs.Problems.{last_stage}

@@ -19,10 +19,10 @@ use Rattle.cert_check.specs.Alike.{AreAlikeFor, AreAlike}
 -- ---- phases
 
 -- what is asked of the next phases
-abbrev IsNextAlike : List Sym → List Sym → Constraint → Type 0
+abbrev pub IsNextAlike : List Sym → List Sym → Constraint → Type 0
 IsNextAlike c d x = (phase : Phase) → next_phase x.left x.right phase c ≡ next_phase x.left x.right phase d
 
-stretches_alike : (cs : List Constraint) (n : ℕ) (c d : List Sym) → AllByRecursion (λ x. AreAlikeFor x c d) cs
+pub stretches_alike : (cs : List Constraint) (n : ℕ) (c d : List Sym) → AllByRecursion (λ x. AreAlikeFor x c d) cs
     → AllByRecursion (IsNextAlike c d) (filter is_stretch (take n cs))
 stretches_alike cs zero c d a = tt
 stretches_alike [] (suc n) c d a = tt
@@ -34,7 +34,7 @@ stretches_alike (x ∷ cs) (suc n) c d a = own (is_stretch x) refl (stretches_al
     own true e r = (a.0.next e, r)
     own false e r = r
 
-all_next_alike : (cs : List Constraint) (c d : List Sym) → AllByRecursion (IsNextAlike c d) cs → (ps : List Phase)
+pub all_next_alike : (cs : List Constraint) (c d : List Sym) → AllByRecursion (IsNextAlike c d) cs → (ps : List Phase)
     → next_phases cs ps c ≡ next_phases cs ps d
 all_next_alike [] c d a ps = refl
 all_next_alike (x ∷ cs) c d a [] = refl
@@ -42,14 +42,14 @@ all_next_alike (x ∷ cs) c d a (p ∷ ps) = ap₂ (λ q qs. q ∷ qs) (a.0 p) (
 
 -- ---- costs
 
-all_costs_alike : (cs : List Constraint) (o : ℕ → Bool) (c d : List Sym) → AllByRecursion (λ x. AreAlikeFor x c d) cs
+pub all_costs_alike : (cs : List Constraint) (o : ℕ → Bool) (c d : List Sym) → AllByRecursion (λ x. AreAlikeFor x c d) cs
     → (ps : List Phase) → costs_each cs o ps c ≡ costs_each cs o ps d
 all_costs_alike [] o c d a ps = refl
 all_costs_alike (x ∷ cs) o c d a ps =
     ap₂ (λ (b : Bool) (ns : List ℕ). cond b 1 0 ∷ ns) (a.0.cost o (first_phase ps))
     (all_costs_alike cs o c d a.1 (cond (is_stretch x) (drop 1 ps) ps))
 
-first_alike : (P : Constraint → Type 0) (xs : List Constraint) (n : ℕ) → AllByRecursion P xs
+pub first_alike : (P : Constraint → Type 0) (xs : List Constraint) (n : ℕ) → AllByRecursion P xs
     → AllByRecursion P (take n xs)
 first_alike P xs zero h = tt
 first_alike P [] (suc n) h = tt

@@ -28,7 +28,7 @@ use Rattle.cert_check.specs.declared.fault.Fault.TheVariants.{FormWrong, StageMi
 use Rattle.cert_check.specs.Faults.{LacksStage, HasWrongCount, HasNode, IsInOrder, HasWrongNode, LacksStart, HasFinalPotential, IsNotClosed, HasHighPotential, HasWrongStart, IsState, HasState, LacksTarget, HasWrongMark, HasTwice, IsListedTarget, IsKeptTarget, HasWrongArcs}
 use Rattle.cert_check.specs.FirstFaults.{LacksState, IsFaultless}
 
-some_same : {X : Type 0} {x y : X} → Some x ≡ Some y → x ≡ y
+pub some_same : {X : Type 0} {x y : X} → Some x ≡ Some y → x ≡ y
 some_same {x = x} e = ap (λ o. unwrap_or o x) e
 
 -- a member is named by its number

@@ -1,12 +1,16 @@
 -- What a stop says, in other words.
-use Rattle.std.proofs.Common.{IfErr, Result}
+use Rattle.std.proofs.Common.{◌≡◌, IfErr, Result, subst}
 use Rattle.std.proofs.lemmas.Result.{IfErr-weaker}
 use Rattle.cert_check.specs.declared.fault.Fault.{Fault}
 use Rattle.cert_check.specs.declared.stop.Stop.{Stop}
 use Rattle.cert_check.specs.declared.stop.Stop.TheVariants.{Found, NoMemory}
 use Rattle.cert_check.specs.Stops.{StopsBy}
 
-stop_says : (P Q : Fault → Type 0) → ((fault : Fault) → P fault → Q fault) → (stop : Stop) → StopsBy P stop
+-- what a stop by a fault says
+pub stop_said : (P : Fault → Type 0) (stop : Stop) (fault : Fault) → stop ≡ Found fault → StopsBy P stop → P fault
+stop_said P stop fault e p = subst (StopsBy P) e p
+
+pub stop_says : (P Q : Fault → Type 0) → ((fault : Fault) → P fault → Q fault) → (stop : Stop) → StopsBy P stop
     → StopsBy Q stop
 stop_says P Q h (Found fault) p = h fault p
 stop_says P Q h NoMemory p = tt

@@ -55,7 +55,7 @@ list_all_agree : (f g : Event → Bool) (es : List Event) → AllByRecursion (λ
 list_all_agree f g [] h = refl
 list_all_agree f g (e ∷ es) h = ap₂ (λ a b. a && b) h.0 (list_all_agree f g es h.1)
 
-each_event : (n : ℕ) (f g : ℕ → Bool) → ((t : ℕ) → t < n → f t ≡ g t) → (es : List Event) → AreTiersBelow n es
+pub each_event : (n : ℕ) (f g : ℕ → Bool) → ((t : ℕ) → t < n → f t ≡ g t) → (es : List Event) → AreTiersBelow n es
     → AllByRecursion (λ e. f e.tier ≡ g e.tier) es
 each_event n f g h [] below = tt
 each_event n f g h (e ∷ es) below = (h e.tier below.0, each_event n f g h es below.1)
@@ -268,3 +268,13 @@ module _ (s : Subject) (ready : IsReady s) (stage : ℕ) (within : stage ≤ las
       → FitsShape s.shape.now stage (get_or ns n d).kind
   number_fits ns n d e l = subst (λ (xs : List Node). FitsShape s.shape.now stage (get_or xs n d).kind) (sym e)
       (fits_at n d (omega (arith, l, ap length e)))
+
+-- a mask of the tiers that are open at a place tells those of a kind with this place
+pub mask_agrees : (s : Subject) → IsReady s → (stage : ℕ) (kind : Kind) → kind.place ≤ last_place (problem_of s)
+    → (mask : ℕ) → ((t : ℕ) → t < length s.grammar.now.tiers.kinds.items → has_tier mask t
+    ≡ is_open_by s.grammar.now.tiers.kinds.items s.answer.now.form kind.place kind.opened t)
+    → (t : ℕ) → t < length s.grammar.now.tiers.kinds.items
+    → has_tier mask t ≡ is_tier_open (problem_of s) (kind_of_bits (problem_of s) stage kind) t
+mask_agrees s ready stage kind place mask bits t l = bits t l
+    ∙ sym (open_told s.grammar.now.tiers (problem_of s).constraints s.answer.now.form ready.form.form stage kind place
+    t l)

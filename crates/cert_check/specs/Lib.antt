@@ -12,3 +12,11 @@ pub mod Alike
 pub mod Boxes
 pub mod Tests
 pub mod Pieces
+pub mod Kept
+pub mod Fitting
+pub mod Nodes
+pub mod States
+pub mod KeptArcs
+pub mod Verdicts
+pub mod Arcs
+pub mod Gathered

@@ -1,4 +1,4 @@
-ghost use Rattle.std.specs.Prelude.{◌≤◌, List};
+ghost use Rattle.std.specs.Prelude.{◌≡◌, ◌≤◌, List};
 ghost use Rattle.std.specs.List.{AllByRecursion};
 ghost use Rattle.violation.specs.Candidates.{IsForm};
 ghost use Rattle.violation.specs.Conditions.{AreSplit, IsOverTiers};
@@ -6,7 +6,9 @@ ghost use Rattle.violation.specs.Problems.{Problem, last_place};
 ghost use Rattle.answer_text.specs.declared.answer.Answer.{Answer};
 ghost use Rattle.answer_text.specs.Certified.{AreStatesInOrder, IsCertified};
 ghost use Rattle.answer_text.specs.Right.{IsRight};
-ghost use Rattle.cert_check.specs.FirstFaults.{IsFaultless};
+ghost use Rattle.answer_text.specs.Sound.{IsSound};
+ghost use Rattle.cert_check.specs.declared.fault.Fault.{Fault};
+ghost use Rattle.cert_check.specs.FirstFaults.{IsFaultless, IsFirstFault};
 
 /// No fault is in a certified answer whose states are in order.
 pub fn certified_answers_are_faultless()
@@ -22,4 +24,26 @@ pub fn right_answers_are_faultless()
         → IsForm problem.tiers problem.form → last_place problem ≤ 64
         → AreStatesInOrder problem.tiers.width answer.automaton.states.items
         → IsRight problem answer → IsFaultless problem answer }
+{}
+
+/// An answer in which no fault is, of the form that was asked, is certified.
+pub fn faultless_answers_are_certified()
+    ensures { (problem : Problem) (answer : Answer) → answer.form ≡ problem.form
+        → IsFaultless problem answer → IsCertified problem answer }
+{}
+
+/// And so it is sound: its automaton accepts exactly the optimal candidates, and its counts are the
+/// least.
+pub fn faultless_answers_are_sound()
+    ensures { (problem : Problem) (answer : Answer) → AreSplit problem.tiers
+        → AllByRecursion (IsOverTiers problem.tiers.width) problem.constraints
+        → AreStatesInOrder problem.tiers.width answer.automaton.states.items
+        → answer.form ≡ problem.form → IsFaultless problem answer → IsSound problem answer }
+{}
+
+/// Of an answer whose states are in order, one fault alone comes first.
+pub fn one_fault_comes_first()
+    ensures { (problem : Problem) (answer : Answer) (fault other : Fault)
+        → AreStatesInOrder problem.tiers.width answer.automaton.states.items
+        → IsFirstFault problem answer fault → IsFirstFault problem answer other → fault ≡ other }
 {}

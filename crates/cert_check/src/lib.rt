@@ -2,28 +2,60 @@
 //! one, and answers with the first fault or with Yes. It runs no search, and shares with the generator
 //! the definitions of kinds and moves, and none of its code.
 //!
-//! So far it has the definitions of the faults and of the order in which they are gone through
-//! (`specs/Faults`, `Places`, `FirstFaults`), the laws that certified answers and right answers have
-//! none, and its first steps, each with the whole contract: the form, the numbers, the example and the
-//! counts (`head`), the order of a stage's nodes (`order`) and its start (`start`). The steps over moves
-//! and states, and the call that answers with a verdict, are not there yet.
+//! It has the definitions of the faults and of the order in which they are gone through
+//! (`specs/Faults`, `Places`, `FirstFaults`), the laws that an answer is certified exactly if no fault is
+//! in it, that right answers have none, and that one fault alone comes first (`laws`), and its steps,
+//! each with the whole contract: the form, the numbers, the example and the counts (`head`), the order of
+//! a stage's nodes (`order`), its start (`start`), the potential and the moves of each node
+//! (`node_check`), the start's potential (`stage_check`), and all stages (`stages`); of a state the
+//! targets of its arcs, its mark, the columns that are in two arcs, and its arcs (`state_check`), and all
+//! states (`states`). Moves are looked at by classes: the columns that fit a kind, in pieces all columns
+//! of which go on alike (`node_pieces`), and those of them that are kept (`kept`). `check` answers with a
+//! verdict.
 #![tactic(auto)]
 
 mod alike;
 mod boxes;
+mod costs;
 mod cut;
+mod differing;
 mod fault;
+mod final_kind;
 mod find;
+mod find_state;
+mod fit_boxes;
+mod fitting;
 mod head;
+mod kept;
+mod kept_arcs;
+mod kept_piece;
 mod laws;
+mod least;
+mod moves;
+mod node_check;
+mod node_pieces;
 mod open;
 mod order;
+mod overlap;
 mod parting;
 mod possible;
+mod stage_check;
+mod stage_tests;
+mod stages;
 mod start;
+mod state_check;
+mod states;
 mod stop;
 mod subject;
+mod target;
+mod tight;
+mod uniform;
+mod whole;
 
 pub use alike::alike_columns_move_alike;
 pub use fault::{Fault, Verdict};
-pub use laws::{certified_answers_are_faultless, right_answers_are_faultless};
+pub use laws::{
+    certified_answers_are_faultless, faultless_answers_are_certified, faultless_answers_are_sound,
+    one_fault_comes_first, right_answers_are_faultless,
+};
+pub use whole::check;

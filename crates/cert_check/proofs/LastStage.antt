@@ -1,0 +1,157 @@
+-- What is known of the last stage when a state is looked at: its kinds ascend, the place of the state's node
+-- is in the form, and each kept move of the node leads to a kind that is listed.
+use Rattle.std.proofs.Common.{◌≡◌, ℕ, ◌+◌, ◌^◌, ◌<◌, ◌≤◌, ◌⊎◌, List, [], ◌∷◌, get_or, refl, sym, subst, arith, inl, inr, All, Contains}
+use Rattle.std.proofs.lemmas.List.{get_or_default}
+use Rattle.tier_core.specs.declared.kind.Kind.{Kind}
+use Rattle.tier_core.specs.declared.sym.Sym.{Sym}
+use Rattle.tier_core.specs.KindShapes.{free_count, stretch_count}
+use Rattle.tier_core.specs.Kinds.{AreStretchesBelow}
+use Rattle.symbol_class.specs.FirstColumn.{first_column}
+use Rattle.symbol_class.proofs.Filled.{has-first_column}
+use Rattle.violation.specs.Moves.{moved}
+use Rattle.violation.specs.Prefixes.{kind_of_bits}
+use Rattle.violation.specs.Problems.{Problem, last_place, last_stage}
+use Rattle.answer_text.specs.declared.automaton.StateLine.{StateLine}
+use Rattle.answer_text.specs.declared.stage.Node.{Node}
+use Rattle.answer_text.specs.Certified.{Lists, IsKeptBelow}
+use Rattle.check_laws.proofs.Listing.{lists_kind}
+use Rattle.cert_check.specs.declared.kept_piece.KeptPiece.{KeptPiece}
+use Rattle.cert_check.specs.declared.subject.Subject.{Subject}
+use Rattle.cert_check.specs.Faults.{TellsKind, IsUnlisted}
+use Rattle.cert_check.specs.Kept.{AreKept}
+use Rattle.cert_check.specs.KeptArcs.{IsTargetListed}
+use Rattle.cert_check.specs.Places.{column_place}
+use Rattle.cert_check.specs.States.{IsStaged, IsStateAt, last_kind}
+use Rattle.cert_check.specs.Subjects.{AscendsAt, problem_of, kinds_of}
+use Rattle.cert_check.proofs.Ascending.{ascends_unless}
+use Rattle.cert_check.proofs.Decisions.{so_unless, at_most}
+use Rattle.cert_check.proofs.DecidedMoves.{is_listed}
+use Rattle.cert_check.proofs.NodeSteps.{piece_filled, piece_kept, piece_told}
+use Rattle.cert_check.proofs.StateSubjects.{node_fits}
+use Rattle.cert_check.proofs.Subjects.{in_stages, free_same, stretch_same}
+
+module _ (s : Subject) (staged : IsStaged s) where
+  abbrev problem : Problem
+  problem = problem_of s
+
+  abbrev last : ℕ
+  last = last_stage (problem_of s)
+
+  -- the kinds of each stage ascend
+  pub ascends_at : (j : ℕ) → j ≤ last_stage (problem_of s) → AscendsAt s j
+  ascends_at j l = ascends_unless (problem_of s) s.answer.now j (in_stages s staged.ready j l)
+      (λ n w. staged.right 4 (omega arith) (j ∷ 0 ∷ n ∷ []) (j, (0, (n ∷ [], ((n, (w, refl)), refl)))))
+
+  module _ (state : StateLine) (node : Node) (at : IsStateAt s state node) where
+    -- the place of its node is in the form
+    pub place_within : node.kind.place ≤ last_place (problem_of s)
+    place_within = so_unless (at_most node.kind.place (last_place (problem_of s)))
+        (λ no. staged.right 4 (omega arith) (last ∷ 0 ∷ state.node ∷ []) (
+          last,
+          (
+            0,
+            (
+              state.node ∷ [],
+              (
+                (
+                  state.node,
+                  (
+                    record {
+                      node = node;
+                      is = at.is;
+                      wrong = λ o. no o.possible.place;
+                    },
+                    refl,
+                  ),
+                ),
+                refl,
+              ),
+            ),
+          ),
+        ))
+
+    -- a kept move leads to a kind that is listed
+    module _ (column : List Sym) (target : Kind)
+        (kept : IsKeptBelow (problem_of s) s.answer.now.stages.items (last_stage (problem_of s) + 1) (last_kind s node)
+        column)
+        (tells : TellsKind (problem_of s) (last_stage (problem_of s)) target
+        (moved (problem_of s) (last_stage (problem_of s)) (last_kind s node) column)) where
+      listed_told : Contains (kinds_of s (last_stage (problem_of s)))
+          (moved (problem_of s) (last_stage (problem_of s)) (last_kind s node) column)
+      listed_told = own (is_listed problem s.answer.now.stages.items last (moved problem last (last_kind s node) column))
+        where
+          own : ((p : ℕ) × Lists problem s.answer.now.stages.items last (moved problem last (last_kind s node) column) p)
+              ⊎ IsUnlisted problem s.answer.now.stages.items last (moved problem last (last_kind s node) column)
+              → Contains (kinds_of s last) (moved problem last (last_kind s node) column)
+          own (inl h) = lists_kind problem last s.answer.now.stages.items
+              (moved problem last (last_kind s node) column) h.0 h.1
+          own (inr none) = absurd (staged.right 4 (omega arith) (last ∷ 2 ∷ state.node ∷ 1 ∷ column_place column) (
+            last,
+            (
+              2,
+              (
+                state.node ∷ 1 ∷ column_place column,
+                (
+                  (
+                    state.node,
+                    (
+                      1,
+                      (
+                        column_place column,
+                        (
+                          (
+                            column,
+                            (
+                              inl (
+                                target,
+                                record {
+                                  node = node;
+                                  is = at.is;
+                                  kept = record { fits = kept.fits; tight = λ j some l. kept.tight j some (omega (arith, l)) };
+                                  leads = tells;
+                                  unlisted = none;
+                                },
+                              ),
+                              refl,
+                            ),
+                          ),
+                          refl,
+                        ),
+                      ),
+                    ),
+                  ),
+                  refl,
+                ),
+              ),
+            ),
+          ))
+
+      target_listed : (piece : KeptPiece) → piece.target ≡ target
+          → IsTargetListed s (last_stage (problem_of s)) piece
+      target_listed piece is = record {
+        fits = record {
+          within = (node_fits s staged state node at).within;
+          opened = subst (λ (k : Kind). k.opened < 2 ^ free_count s.shape.now) (sym is)
+              (subst (λ n. target.opened < 2 ^ n) (sym (free_same s staged.ready last (omega arith))) tells.opened);
+          stretches = subst (λ (k : Kind). AreStretchesBelow (stretch_count s.shape.now last) k) (sym is)
+              (subst (λ n. AreStretchesBelow n target) (sym (stretch_same s staged.ready last (omega arith)))
+              tells.stretches);
+        };
+        listed = subst (λ (k : Kind). Contains (kinds_of s last) (kind_of_bits problem last k)) (sym is)
+            (subst (Contains (kinds_of s last)) (sym tells.tells) listed_told);
+      }
+
+    -- so do the pieces of its kept moves
+    pub targets_listed : (pieces : List KeptPiece)
+        → AreKept (problem_of s) s.answer.now.stages.items (last_stage (problem_of s)) (last_stage (problem_of s) + 1)
+        (last_kind s node) pieces → All (IsTargetListed s (last_stage (problem_of s))) pieces
+    targets_listed pieces kept i d l =
+        let stages = s.answer.now.stages.items in
+        let k = last_kind s node in
+        let piece = get_or pieces i d in
+        let is : piece ≡ get_or pieces i piece = get_or_default pieces i d piece l in
+        let held = has-first_column piece.class (piece_filled problem stages last (last + 1) k pieces kept i piece l is) in
+        target_listed (first_column piece.class) piece.target
+        (piece_kept problem stages last (last + 1) k pieces kept i piece l is (first_column piece.class) held)
+        ((piece_told problem stages last (last + 1) k pieces kept i piece l is).leads (first_column piece.class) held)
+        piece refl

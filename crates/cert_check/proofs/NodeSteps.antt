@@ -1,0 +1,331 @@
+-- The faults of one node: of its potential, and of its moves.
+use Rattle.std.proofs.Common.{◌≡◌, ◌≢◌, ℕ, zero, suc, ◌+◌, ◌<◌, ◌≤◌, true, false, IsTrue, List, [], ◌∷◌, length, get_or, Some, refl, sym, ap, ◌∙◌, subst, arith, ⊎_elim, inl, inr}
+use Rattle.std.specs.Prelude.{unwrap_or}
+use Rattle.std.specs.List.Sorted.{IsStrictlySortedBy}
+use Rattle.std.proofs.lemmas.Bool.{cases_lt, false≢true, both_ways, or_cases}
+use Rattle.std.proofs.lemmas.List.{get_or_default, get_or-map, length-map}
+use Rattle.std.proofs.lemmas.List.Folds.{list_any_at}
+use Rattle.tier_core.specs.declared.class.Class.{Class}
+use Rattle.tier_core.specs.declared.kind.Kind.{Kind}
+use Rattle.tier_core.specs.declared.sym.Sym.{Sym}
+use Rattle.tier_core.specs.Classes.{has}
+use Rattle.tier_core.specs.Kinds.{PrefixKind, kind_order}
+use Rattle.symbol_class.specs.Filled.{is_filled}
+use Rattle.symbol_class.specs.FirstColumn.{first_column}
+use Rattle.symbol_class.specs.Held.{some_has}
+use Rattle.symbol_class.proofs.Filled.{has-first_column, first_column_least}
+use Rattle.violation.specs.Moves.{moved, cost_of, is_final}
+use Rattle.violation.specs.Prefixes.{kind_of_bits}
+use Rattle.violation.specs.Problems.{Problem}
+use Rattle.answer_text.specs.declared.answer.Answer.{Answer}
+use Rattle.answer_text.specs.declared.stage.Node.{Node}
+use Rattle.answer_text.specs.declared.stage.Stage.{Stage}
+use Rattle.answer_text.specs.Right.{nodes_at, kinds_at}
+use Rattle.answer_text.specs.Certified.{IsKeptBelow, Lists}
+use Rattle.check_laws.proofs.Listing.{one_potential}
+use Rattle.cert_check.specs.declared.fault.Fault.{Fault}
+use Rattle.cert_check.specs.declared.fault.Fault.TheVariants.{FinalPotential, NotClosed, Potential}
+use Rattle.cert_check.specs.Faults.{HasNode, IsNotClosed, HasHighPotential, IsUnlisted, TellsKind}
+use Rattle.cert_check.specs.declared.kept_piece.KeptPiece.{KeptPiece}
+use Rattle.cert_check.specs.Kept.{AreKept, IsKeptPiece, classes_of}
+use Rattle.cert_check.specs.Nodes.{IsRightNode, IsRightPart, IsFirstInNode, IsMoveFault, AreWrongOn, AreRightOn, IsNotAfter, IsLeastWrong}
+use Rattle.cert_check.specs.Parts.{InNode, IsWrongMove}
+use Rattle.cert_check.specs.Places.{IsBefore, column_place}
+use Rattle.cert_check.proofs.ColumnPlaces.{before_or, not_both_before, not_after_is}
+use Rattle.cert_check.proofs.Parts.{none_before}
+
+some_same : {X : Type 0} {x y : X} → Some x ≡ Some y → x ≡ y
+some_same {x = x} e = ap (λ o. unwrap_or o x) e
+
+-- a number is that of one node
+pub one_node : (answer : Answer) (stage n : ℕ) (a b : Node) → HasNode answer stage n a → HasNode answer stage n b → a ≡ b
+one_node answer stage n a b h k = some_same (sym h.numbered ∙ k.numbered)
+
+module _ (problem : Problem) (answer : Answer) (stage n : ℕ) (node : Node) (is : HasNode answer stage n node) where
+  abbrev kind : PrefixKind
+  kind = kind_of_bits problem stage node.kind
+
+  -- ---- the potential of a final node
+
+  pub right_where_none : node.potential ≡ 0 → IsRightPart problem answer stage n 0
+  right_where_none e rest w =
+      let h = w.1.0 in
+      h.differs (h.listed_is ∙ ap (λ (x : Node). x.potential) (one_node answer stage n h.node node h.is is) ∙ e)
+
+  pub right_where_open : is_final problem (kind_of_bits problem stage node.kind) ≡ false
+      → IsRightPart problem answer stage n 0
+  right_where_open e rest w =
+      let h = w.1.0 in
+      both_ways (is_final problem (kind_of_bits problem stage node.kind)) e
+      (subst (λ (x : Node). IsTrue (is_final problem (kind_of_bits problem stage x.kind)))
+      (one_node answer stage n h.node node h.is is) h.final)
+
+  pub first_final : is_final problem (kind_of_bits problem stage node.kind) ≡ true → node.potential ≢ 0
+      → IsFirstInNode problem answer stage n (FinalPotential stage n node.potential)
+  first_final e some = record {
+    place = 0 ∷ [];
+    is = (record { node = node; is = is; final = e; listed_is = refl; differs = some }, refl);
+    first = none_before (InNode problem answer stage n) 0 [] (λ m l. absurd (omega arith)) (λ rest w b. b);
+  }
+
+  -- ---- moves that are kept on the columns of a class, and lead to one target
+
+  module _ (class : Class) (target : Kind) (cost : ℕ)
+      (kept : (column : List Sym) → IsTrue (has class column)
+      → IsKeptBelow problem answer.stages.items stage (kind_of_bits problem stage node.kind) column)
+      (leads : (column : List Sym) → IsTrue (has class column)
+      → TellsKind problem stage target (moved problem stage (kind_of_bits problem stage node.kind) column))
+      (costs : (column : List Sym) → IsTrue (has class column)
+      → cost_of problem stage (kind_of_bits problem stage node.kind) column ≡ cost) where
+    pub not_closed : IsUnlisted problem answer.stages.items stage (kind_of_bits problem stage target)
+        → IsMoveFault problem answer stage n class (NotClosed stage n target)
+    not_closed none column h =
+        let wrong : IsNotClosed problem answer stage n column target = record {
+          node = node;
+          is = is;
+          kept = kept column h;
+          leads = leads column h;
+          unlisted = subst (IsUnlisted problem answer.stages.items stage) (leads column h).tells none;
+        } in
+        (inl (target, wrong), (column, (wrong, refl)))
+
+    module _ (next : ℕ) (lists : Lists problem answer.stages.items stage (kind_of_bits problem stage target) next) where
+      listed_at : (column : List Sym) → IsTrue (has class column)
+          → Lists problem answer.stages.items stage (moved problem stage (kind_of_bits problem stage node.kind) column) next
+      listed_at column h = subst (λ k. Lists problem answer.stages.items stage k next) (leads column h).tells lists
+
+      pub too_high : cost + next < node.potential
+          → IsMoveFault problem answer stage n class (Potential stage n node.potential (cost + next))
+      too_high above column h =
+          let wrong : HasHighPotential problem answer stage n column node.potential (cost + next) = record {
+            node = node;
+            is = is;
+            kept = kept column h;
+            next = next;
+            leads = listed_at column h;
+            listed_is = refl;
+            allowed_is = ap (λ m. m + next) (sym (costs column h));
+            above = above;
+          } in
+          (inr (node.potential, (cost + next, wrong)), (column, (wrong, refl)))
+
+      pub none_wrong : IsStrictlySortedBy kind_order (kinds_at problem stage (nodes_at answer.stages.items stage))
+          → node.potential ≤ cost + next → AreRightOn problem answer stage n class
+      none_wrong ascends low column h (inl w) =
+          let f = w.1 in
+          f.unlisted next (subst (λ (x : Node). Lists problem answer.stages.items stage
+          (moved problem stage (kind_of_bits problem stage x.kind) column) next)
+          (one_node answer stage n node f.node is f.is) (listed_at column h))
+      none_wrong ascends low column h (inr w) =
+          let f = w.1.1 in
+          let same : f.node ≡ node = one_node answer stage n f.node node f.is is in
+          let to : Lists problem answer.stages.items stage
+          (moved problem stage (kind_of_bits problem stage node.kind) column) f.next =
+          subst (λ (x : Node). Lists problem answer.stages.items stage
+          (moved problem stage (kind_of_bits problem stage x.kind) column) f.next) same f.leads in
+          let one : f.next ≡ next = one_potential problem stage answer.stages.items ascends
+          (moved problem stage (kind_of_bits problem stage node.kind) column) f.next next to (listed_at column h) in
+          let here : cost_of problem stage (kind_of_bits problem stage f.node.kind) column ≡ cost =
+          ap (λ (x : Node). cost_of problem stage (kind_of_bits problem stage x.kind) column) same ∙ costs column h in
+          let potential : f.node.potential ≡ node.potential = ap (λ (x : Node). x.potential) same in
+          omega (arith, f.above, f.listed_is, f.allowed_is, one, here, potential, low)
+
+-- ---- the least column with a wrong move
+
+some_index : (classes : List Class) (column : List Sym) (d : Class) → some_has classes column ≡ true
+    → (i : ℕ) × ((i < length classes) × (has (get_or classes i d) column ≡ true))
+some_index [] column d h = absurd (false≢true h)
+some_index (class ∷ classes) column d h = ⊎_elim
+    (λ here. (zero, (omega arith, here)))
+    (λ there. let rest = some_index classes column d there in (suc rest.0, (omega (arith, rest.1.0), rest.1.1)))
+    (or_cases (has class column) (some_has classes column) h)
+
+module _ (problem : Problem) (answer : Answer) (stage n : ℕ) (classes : List Class) where
+  pub least_none : (best : ℕ) → best ≡ length classes → IsLeastWrong problem answer stage n classes 0 best
+  least_none best e = record {
+    within = omega (arith, e);
+    wrong = λ class l. absurd (omega (arith, e, l));
+    others = λ m class l. absurd (omega arith);
+  }
+
+  module _ (best next : ℕ) (so_far : IsLeastWrong problem answer stage n classes next best)
+      (inside : next < length classes) where
+    at_next : (P : Class → Type 0) (class d : Class) → class ≡ get_or classes next class → P class
+        → P (get_or classes next d)
+    at_next P class d e p = subst P (e ∙ default next class d) p
+      where
+        default : (m : ℕ) (a b : Class) → get_or classes next a ≡ get_or classes next b
+        default m a b = get_or_default classes next a b inside
+
+    -- nothing is wrong on the next class
+    pub least_same : (class : Class) → class ≡ get_or classes next class → AreRightOn problem answer stage n class
+        → IsLeastWrong problem answer stage n classes (next + 1) best
+    least_same class e right = record {
+      within = so_far.within;
+      wrong = so_far.wrong;
+      others = λ m d l. ⊎_elim (λ below. so_far.others m d below)
+          (λ above. let same : next ≡ m = omega arith in
+          inl (subst (λ i. AreRightOn problem answer stage n (get_or classes i d)) same
+          (at_next (AreRightOn problem answer stage n) class d e right)))
+          (cases_lt m next);
+    }
+
+    -- the next class is the first on which something is wrong
+    pub least_first : (class : Class) → class ≡ get_or classes next class → AreWrongOn problem answer stage n class
+        → best ≡ length classes → IsLeastWrong problem answer stage n classes (next + 1) next
+    least_first class e wrong none = record {
+      within = omega (arith, inside);
+      wrong = λ d l. at_next (AreWrongOn problem answer stage n) class d e wrong;
+      others = λ m d l. ⊎_elim
+          (λ below. ⊎_elim (λ right. inl right) (λ later. absurd (omega (arith, later.0, none))) (so_far.others m d below))
+          (λ above. let same : m ≡ next = omega arith in
+          inr (
+            inside,
+            subst (λ i. IsNotAfter (get_or classes next d) (get_or classes i d)) (sym same)
+                (λ b. not_both_before _ _ b b),
+          ))
+          (cases_lt m next);
+    }
+
+    -- its least column comes before that of the class so far
+    pub least_next : (class first : Class) → class ≡ get_or classes next class → first ≡ get_or classes best first
+        → best < length classes → AreWrongOn problem answer stage n class
+        → IsBefore (column_place (first_column class)) (column_place (first_column first))
+        → IsLeastWrong problem answer stage n classes (next + 1) next
+    least_next class first e f some wrong before = record {
+      within = omega (arith, inside);
+      wrong = λ d l. at_next (AreWrongOn problem answer stage n) class d e wrong;
+      others = λ m d l. ⊎_elim
+          (λ below. ⊎_elim (λ right. inl right) (λ later. inr (
+            inside,
+            λ b.
+                let mine = at_next (λ c. IsBefore (column_place (first_column c)) (column_place (first_column first))) class d e before in
+                let best_is : first ≡ get_or classes best d = f ∙ get_or_default classes best first d some in
+                let mine : IsBefore (column_place (first_column (get_or classes next d)))
+                (column_place (first_column (get_or classes best d))) =
+                subst (λ c. IsBefore (column_place (first_column (get_or classes next d))) (column_place (first_column c))) best_is mine in
+                ⊎_elim (λ x. later.1 x) (λ x. not_both_before _ _ x mine)
+                (before_or (column_place (first_column (get_or classes m d))) (column_place (first_column (get_or classes best d)))
+                (column_place (first_column (get_or classes next d))) b),
+          )) (so_far.others m d below))
+          (λ above. let same : m ≡ next = omega arith in
+          inr (
+            inside,
+            subst (λ i. IsNotAfter (get_or classes next d) (get_or classes i d)) (sym same)
+                (λ b. not_both_before _ _ b b),
+          ))
+          (cases_lt m next);
+    }
+
+    -- it does not
+    pub least_later : (class first : Class) → class ≡ get_or classes next class → first ≡ get_or classes best first
+        → best < length classes → IsNotAfter first class
+        → IsLeastWrong problem answer stage n classes (next + 1) best
+    least_later class first e f some later = record {
+      within = so_far.within;
+      wrong = so_far.wrong;
+      others = λ m d l. ⊎_elim (λ below. so_far.others m d below)
+          (λ above. let same : next ≡ m = omega arith in
+          let best_is : first ≡ get_or classes best d = f ∙ get_or_default classes best first d some in
+          inr (
+            some,
+            subst (λ i. IsNotAfter (get_or classes best d) (get_or classes i d)) same
+                (at_next (IsNotAfter (get_or classes best d)) class d e
+                (subst (λ c. IsNotAfter c class) best_is later)),
+          ))
+          (cases_lt m next);
+    }
+
+  module _ (node : Node) (is : HasNode answer stage n node) (best count : ℕ)
+      (least : IsLeastWrong problem answer stage n classes count best) (all : length classes ≤ count)
+      (held : (column : List Sym) → IsKeptBelow problem answer.stages.items stage
+      (kind_of_bits problem stage node.kind) column → IsTrue (some_has classes column)) where
+    -- a wrong move is on a column of some class
+    of_wrong : (column : List Sym) → IsWrongMove problem answer stage n column → IsTrue (some_has classes column)
+    of_wrong column (inl w) = held column
+        (subst (λ (x : Node). IsKeptBelow problem answer.stages.items stage (kind_of_bits problem stage x.kind) column)
+        (one_node answer stage n w.1.node node w.1.is is) w.1.kept)
+    of_wrong column (inr w) = held column
+        (subst (λ (x : Node). IsKeptBelow problem answer.stages.items stage (kind_of_bits problem stage x.kind) column)
+        (one_node answer stage n w.1.1.node node w.1.1.is is) w.1.1.kept)
+
+    -- none is chosen, so nothing is wrong
+    pub right_where_no_best : best ≡ length classes → IsRightPart problem answer stage n 1
+    right_where_no_best none rest w = by classes refl
+      where
+        by : (cs : List Class) → cs ≡ classes → ⊥
+        by [] e = false≢true (ap (λ xs. some_has xs w.0) e ∙ of_wrong w.0 w.1.0)
+        by (d ∷ cs) e =
+            let i = some_index classes w.0 d (of_wrong w.0 w.1.0) in
+            ⊎_elim (λ right. right w.0 i.1.1 w.1.0) (λ later. absurd (omega (arith, later.0, none)))
+            (least.others i.0 d (omega (arith, i.1.0, all)))
+
+    -- the fault of the chosen class comes first
+    pub first_move : (class : Class) (fault : Fault) → best < length classes → class ≡ get_or classes best class
+        → IsTrue (is_filled class) → IsRightPart problem answer stage n 0
+        → IsMoveFault problem answer stage n class fault → IsFirstInNode problem answer stage n fault
+    first_move class fault some e filled potential faulty = record {
+      place = 1 ∷ column_place (first_column class);
+      is = (faulty (first_column class) (has-first_column class filled)).1;
+      first = none_before (InNode problem answer stage n) 1 (column_place (first_column class)) lower here;
+    }
+      where
+        lower : (m : ℕ) → m < 1 → (rest : List ℕ) → InNode problem answer stage n m rest → ⊥
+        lower zero l = potential
+        lower (suc m) l = absurd (omega arith)
+
+        here : (rest : List ℕ) → InNode problem answer stage n 1 rest → IsBefore rest (column_place (first_column class)) → ⊥
+        here rest w b =
+            let column : List Sym = w.0 in
+            let i = some_index classes column class (of_wrong column w.1.0) in
+            let other : Class = get_or classes i.0 class in
+            let before : IsBefore (column_place column) (column_place (first_column class)) =
+            subst (λ q. IsBefore q (column_place (first_column class))) w.1.1 b in
+            ⊎_elim (λ right. right column i.1.1 w.1.0)
+            (λ later. ⊎_elim
+            (λ x. not_after_is (first_column other) column (first_column_least other column i.1.1) x)
+            (λ x. subst (λ c. IsNotAfter c other) (sym e) later.1 x)
+            (before_or (column_place column) (column_place (first_column other)) (column_place (first_column class)) before))
+            (least.others i.0 class (omega (arith, i.1.0, all)))
+
+-- a node is right where its parts are
+pub right_node : (problem : Problem) (answer : Answer) (stage n : ℕ) → IsRightPart problem answer stage n 0
+    → IsRightPart problem answer stage n 1 → IsRightNode problem answer stage n
+right_node problem answer stage n a b zero rest w = a rest w
+right_node problem answer stage n a b (suc zero) rest w = b rest w
+right_node problem answer stage n a b (suc (suc part)) rest w = w
+
+-- something is wrong on the class that is chosen
+pub never_none : (problem : Problem) (answer : Answer) (stage n : ℕ) (classes : List Class) (best count : ℕ)
+    → IsLeastWrong problem answer stage n classes count best → (class : Class) → best < length classes
+    → class ≡ get_or classes best class → IsTrue (is_filled class) → AreRightOn problem answer stage n class
+    → {A : Type 0} → A
+never_none problem answer stage n classes best count least class some e filled right =
+    let wrong : AreWrongOn problem answer stage n class =
+    subst (AreWrongOn problem answer stage n) (sym e) (least.wrong class some) in
+    let held = has-first_column class filled in
+    absurd (right (first_column class) held (wrong (first_column class) held))
+
+-- ---- the pieces that are kept
+
+module _ (problem : Problem) (stages : List Stage) (stage below : ℕ) (k : PrefixKind) (pieces : List KeptPiece)
+    (kept : AreKept problem stages stage below k pieces) (n : ℕ) (piece : KeptPiece) (inside : n < length pieces)
+    (is : piece ≡ get_or pieces n piece) where
+  pub piece_within : n < length (classes_of pieces)
+  piece_within = omega (arith, inside, length-map pieces (λ (p : KeptPiece). p.class))
+
+  pub piece_class : piece.class ≡ get_or (classes_of pieces) n piece.class
+  piece_class = ap (λ (p : KeptPiece). p.class) is
+      ∙ sym (get_or-map (λ (p : KeptPiece). p.class) pieces n piece piece.class inside)
+
+  pub piece_filled : IsTrue (is_filled piece.class)
+  piece_filled = subst (λ class. IsTrue (is_filled class)) (sym piece_class)
+      (kept.pieces.filled n piece.class piece_within)
+
+  pub piece_kept : (column : List Sym) → IsTrue (has piece.class column) → IsKeptBelow problem stages below k column
+  piece_kept column h = (kept.columns column).0
+      (list_any_at (λ class. has class column) (classes_of pieces) n piece.class piece_within
+      (ap (λ class. has class column) (sym piece_class) ∙ h))
+
+  pub piece_told : IsKeptPiece problem stage k piece
+  piece_told = subst (IsKeptPiece problem stage k) (sym is) (kept.each n piece inside)

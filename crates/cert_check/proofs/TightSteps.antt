@@ -1,0 +1,173 @@
+-- Moves that are tight at a stage, by what is listed there.
+use Rattle.std.proofs.Common.{◌≡◌, ◌↔◌, ℕ, zero, suc, ◌+◌, ◌==◌, ◌<◌, ◌≤◌, ◌^◌, Bool, true, false, cond, IsTrue, List, [], ◌∷◌, length, filter, take, get_or, slice_get, Some, refl, sym, ap, ◌∙◌, subst, arith, eq-eqb, eqb-true, Contains}
+use Rattle.std.proofs.lemmas.Bool.{false≢true}
+use Rattle.std.proofs.lemmas.List.{get_or-map, get_or_default, length-map}
+use Rattle.std.proofs.lemmas.List.Elements.{Contains-get_or}
+use Rattle.std.proofs.lemmas.Option.{slice_get_within, get_or_from_slice_get}
+use Rattle.tier_core.specs.declared.constraint.Constraint.{Constraint}
+use Rattle.tier_core.specs.declared.kind.Kind.{Kind}
+use Rattle.tier_core.specs.declared.sym.Sym.{Sym}
+use Rattle.tier_core.specs.Kinds.{AreStretchesBelow, PrefixKind, phase_at}
+use Rattle.tier_core.specs.KindShapes.{FitsShape, free_count}
+use Rattle.tier_core.specs.Sides.{is_stretch}
+use Rattle.violation.specs.Moves.{moved, cost_of, cut}
+use Rattle.violation.specs.Prefixes.{kind_of_bits, stretches}
+use Rattle.violation.specs.Problems.{Problem, last_stage}
+use Rattle.violation.proofs.CutLemmas.{cut-moved}
+use Rattle.answer_text.specs.declared.stage.Node.{Node}
+use Rattle.answer_text.specs.declared.stage.Stage.{Stage}
+use Rattle.answer_text.specs.Right.{nodes_at, kinds_at}
+use Rattle.answer_text.specs.Certified.{IsTightAt, Lists}
+use Rattle.check_laws.proofs.Listing.{one_potential}
+use Rattle.check_laws.proofs.Members.{contains_map}
+use Rattle.cert_check.specs.declared.subject.Subject.{Subject}
+use Rattle.cert_check.specs.Faults.{IsUnlisted, TellsKind}
+use Rattle.cert_check.specs.Fitting.{GoOnAlike}
+use Rattle.cert_check.specs.Kept.{IsTightBelow}
+use Rattle.cert_check.specs.Subjects.{IsReady, AscendsAt, problem_of}
+use Rattle.cert_check.proofs.Subjects.{cut_told, free_same, stretch_same, stage_in}
+
+-- ---- columns that go on alike
+
+pub tight_same : (problem : Problem) (stages : List Stage) (stage j : ℕ) (k : PrefixKind) (c d : List Sym)
+    → GoOnAlike problem stage c d → j ≤ stage → IsTightAt problem stages j k c → IsTightAt problem stages j k d
+tight_same problem stages stage j k c d a l t = record {
+  before = t.before;
+  after = t.after;
+  leaves = t.leaves;
+  arrives = subst (λ x. Lists problem stages j x t.after) (a.moves j (cut problem j k) l) t.arrives;
+  falls = t.falls ∙ ap (λ n. n + t.after) (a.costs j (cut problem j k) l);
+}
+
+pub tight_below_same : (problem : Problem) (stages : List Stage) (stage below : ℕ) (k : PrefixKind) (c d : List Sym)
+    → GoOnAlike problem stage c d → below ≤ stage + 1 → IsTightBelow problem stages below k c
+    → IsTightBelow problem stages below k d
+tight_below_same problem stages stage below k c d a l t j one less =
+    tight_same problem stages stage j k c d a (omega arith) (t j one less)
+
+-- ---- what is listed
+
+module _ (problem : Problem) (stages : List Stage) (j : ℕ) where
+  -- a kind that stands at a number has the potential of the node there
+  pub lists_at : (k : PrefixKind) (n p : ℕ) (d : Node) → slice_get (kinds_at problem j (nodes_at stages j)) n ≡ Some k
+      → p ≡ (get_or (nodes_at stages j) n d).potential → Lists problem stages j k p
+  lists_at k n p d e same =
+      let inside : n < length (nodes_at stages j) = omega (
+        arith,
+        slice_get_within (kinds_at problem j (nodes_at stages j)) n k e,
+        length-map (nodes_at stages j) (λ (node : Node). kind_of_bits problem j node.kind),
+      ) in
+      record {
+        node = get_or (nodes_at stages j) n d;
+        listed = Contains-get_or (nodes_at stages j) n d inside;
+        tells = sym (get_or-map (λ (node : Node). kind_of_bits problem j node.kind) (nodes_at stages j) n d k inside)
+            ∙ get_or_from_slice_get (kinds_at problem j (nodes_at stages j)) n k k e;
+        potential = sym same;
+      }
+
+  pub lists_there : (k : PrefixKind) (n p : ℕ) → slice_get (kinds_at problem j (nodes_at stages j)) n ≡ Some k
+      → ((d : Node) → p ≡ (get_or (nodes_at stages j) n d).potential) → Lists problem stages j k p
+  lists_there k n p e same = by (nodes_at stages j) refl
+    where
+      by : (ns : List Node) → nodes_at stages j ≡ ns → Lists problem stages j k p
+      by [] is = absurd (omega (
+        arith,
+        slice_get_within (kinds_at problem j (nodes_at stages j)) n k e,
+        length-map (nodes_at stages j) (λ (node : Node). kind_of_bits problem j node.kind),
+        ap (λ (xs : List Node). length xs) is,
+      ))
+      by (d ∷ ns) is = lists_at k n p d e (same d)
+
+  -- a kind that no node tells is not listed
+  pub unlisted_by : (k : PrefixKind) → (Contains (kinds_at problem j (nodes_at stages j)) k → ⊥)
+      → IsUnlisted problem stages j k
+  unlisted_by k none p l = none (subst (Contains (kinds_at problem j (nodes_at stages j))) l.tells
+      (contains_map (λ (node : Node). kind_of_bits problem j node.kind) (nodes_at stages j) l.node l.listed))
+
+-- ---- tight moves
+
+module _ (s : Subject) (j : ℕ) (ascends : AscendsAt s j) (k : PrefixKind) (column : List Sym) where
+  abbrev stages : List Stage
+  stages = s.answer.now.stages.items
+
+  pub tight_by : (before after cost : ℕ) → Lists (problem_of s) stages j (cut (problem_of s) j k) before
+      → Lists (problem_of s) stages j (moved (problem_of s) j (cut (problem_of s) j k) column) after
+      → cost ≡ cost_of (problem_of s) j (cut (problem_of s) j k) column
+      → IsTrue (before == (cost + after)) ↔ IsTightAt (problem_of s) stages j k column
+  tight_by before after cost leaves arrives e = (
+    λ h. record {
+      before = before;
+      after = after;
+      leaves = leaves;
+      arrives = arrives;
+      falls = eqb-true before (cost + after) h ∙ ap (λ n. n + after) e;
+    },
+    λ t. eq-eqb before (cost + after)
+        (let first = one_potential (problem_of s) j stages ascends (cut (problem_of s) j k) before t.before leaves
+        t.leaves in
+        let last = one_potential (problem_of s) j stages ascends
+        (moved (problem_of s) j (cut (problem_of s) j k) column) after t.after arrives t.arrives in
+        omega (arith, first, last, t.falls, e)),
+  )
+
+  pub never_left : IsUnlisted (problem_of s) stages j (cut (problem_of s) j k)
+      → IsTrue false ↔ IsTightAt (problem_of s) stages j k column
+  never_left none = (λ h. absurd (false≢true h), λ t. absurd (none t.before t.leaves))
+
+  pub never_reached : IsUnlisted (problem_of s) stages j (moved (problem_of s) j (cut (problem_of s) j k) column)
+      → IsTrue false ↔ IsTightAt (problem_of s) stages j k column
+  never_reached none = (λ h. absurd (false≢true h), λ t. absurd (none t.after t.arrives))
+
+-- ---- kinds that are cut to an earlier stage
+
+counted : (b : Bool) (x : Constraint) (xs ys : List Constraint) → length xs ≤ length ys
+    → length (cond b (x ∷ xs) xs) ≤ length (cond b (x ∷ ys) ys)
+counted true x xs ys l = omega arith
+counted false x xs ys l = l
+
+stretches_rise : (cs : List Constraint) (r n : ℕ) → r ≤ n
+    → length (filter is_stretch (take r cs)) ≤ length (filter is_stretch (take n cs))
+stretches_rise cs zero n l = omega arith
+stretches_rise cs (suc r) zero l = absurd (omega arith)
+stretches_rise [] (suc r) (suc n) l = omega arith
+stretches_rise (c ∷ cs) (suc r) (suc n) l = counted (is_stretch c) c (filter is_stretch (take r cs))
+    (filter is_stretch (take n cs)) (stretches_rise cs r n (omega arith))
+
+module _ (s : Subject) (ready : IsReady s) (stage j : ℕ) (within : stage ≤ last_stage (problem_of s)) (earlier : j ≤ stage)
+    (kind result : Kind) (count : ℕ) (is : count ≡ get_or s.shape.now.phases.items j count)
+    (opened : result.opened ≡ kind.opened) (below : AreStretchesBelow count result) where
+  last : j ≤ last_stage (problem_of s)
+  last = omega arith
+
+  pub cut_fits_at : kind.opened < 2 ^ free_count s.shape.now → FitsShape s.shape.now j result
+  cut_fits_at less = record {
+    within = stage_in s ready j last;
+    opened = subst (λ n. n < 2 ^ free_count s.shape.now) (sym opened) less;
+    stretches = subst (λ n. AreStretchesBelow n result)
+        (is ∙ get_or_default s.shape.now.phases.items j count 0 (stage_in s ready j last)) below;
+  }
+
+  pub cut_told_at : result.place ≡ kind.place → ((i : ℕ) → i < count → phase_at result i ≡ phase_at kind i)
+      → kind_of_bits (problem_of s) j result ≡ cut (problem_of s) j (kind_of_bits (problem_of s) stage kind)
+  cut_told_at place same =
+      let number : count ≡ length (stretches (problem_of s) j) =
+      is ∙ get_or_default s.shape.now.phases.items j count 0 (stage_in s ready j last) ∙ stretch_same s ready j last in
+      cut_told (problem_of s) result kind j stage (stretches_rise (problem_of s).constraints j stage earlier) place
+      opened (λ i l. same i (omega (arith, l, number)))
+
+  -- the cut of a kind to which a column leads is that to which it leads from the cut
+  pub target_told_at : (k : PrefixKind) (column : List Sym) → result.place ≡ kind.place
+      → ((i : ℕ) → i < count → phase_at result i ≡ phase_at kind i)
+      → kind_of_bits (problem_of s) stage kind ≡ moved (problem_of s) stage k column
+      → kind_of_bits (problem_of s) j result ≡ moved (problem_of s) j (cut (problem_of s) j k) column
+  target_told_at k column place same tells =
+      cut_told_at place same ∙ ap (cut (problem_of s) j) tells ∙ cut-moved (problem_of s) j stage earlier k column
+
+-- bits that tell a kind of a stage fit the shape there
+pub tells_fit : (s : Subject) → IsReady s → (stage : ℕ) → stage ≤ last_stage (problem_of s) → (kind : Kind)
+    (k : PrefixKind) → TellsKind (problem_of s) stage kind k → FitsShape s.shape.now stage kind
+tells_fit s ready stage within kind k t = record {
+  within = stage_in s ready stage within;
+  opened = subst (λ n. kind.opened < 2 ^ n) (sym (free_same s ready stage within)) t.opened;
+  stretches = subst (λ n. AreStretchesBelow n kind) (sym (stretch_same s ready stage within)) t.stretches;
+}

@@ -1,0 +1,20 @@
+use Rattle.std.proofs.Common.{ap, ◌∙◌}
+use Rattle.tier_core.specs.Classes.{has}
+use Rattle.tier_core.specs.Scan.{fits}
+use Rattle.tier_core.specs.Sets.{is_in}
+use Rattle.tier_core.specs.Tiers.{has_tier}
+use Rattle.tier_core.specs.Timelines.{symbol}
+use Rattle.cert_check.proofs.FitSteps.{tier_more}
+use Rattle.cert_check.proofs.fit_boxes.coming_box.Goals as goal
+
+pub loop-tier-preserved : goal.loop-tier-preserved
+loop-tier-preserved c =
+    let tier = c.loop-tier.tier in
+    record {
+      width = c.narrowed-class.ensures.width ∙ c.loop-tier.invariant.width;
+      columns = λ column l. tier_more (has c.narrowed-class.result column) (has c.loop-tier.class column)
+          (is_in c.coming.result (symbol column tier)) (λ t. fits (has_tier c.args.mask t) (symbol column t)) tier
+          (c.narrowed-class.ensures.columns column)
+          (c.coming.ensures.symbols (symbol column tier) ∙ ap (λ b. fits b (symbol column tier)) c.has_bit.ensures)
+          (c.loop-tier.invariant.columns column l);
+    }

@@ -1,0 +1,17 @@
+use Rattle.std.proofs.Common.{not, ◌∙◌}
+use Rattle.tier_core.specs.Classes.{has}
+use Rattle.tier_core.specs.Sets.{is_in}
+use Rattle.tier_core.specs.Timelines.{symbol, is_edge}
+use Rattle.cert_check.proofs.FitSteps.{tier_more, in_edgeless}
+use Rattle.cert_check.proofs.fit_boxes.edgeless_box.Goals as goal
+
+pub loop-tier-preserved : goal.loop-tier-preserved
+loop-tier-preserved c =
+    let tier = c.loop-tier.tier in
+    record {
+      width = c.narrowed-class.ensures.width ∙ c.loop-tier.invariant.width;
+      columns = λ column l. tier_more (has c.narrowed-class.result column) (has c.loop-tier.class column)
+          (is_in 3 (symbol column tier)) (λ t. not (is_edge (symbol column t))) tier
+          (c.narrowed-class.ensures.columns column) (in_edgeless (symbol column tier))
+          (c.loop-tier.invariant.columns column l);
+    }

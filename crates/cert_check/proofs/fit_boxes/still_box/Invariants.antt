@@ -1,0 +1,15 @@
+use Rattle.std.proofs.Common.{◌≡◌, not, ◌&&◌, List, length, map, drop}
+use Rattle.tier_core.specs.declared.sym.Sym.{Sym}
+use Rattle.tier_core.specs.Classes.{sets_of, has}
+use Rattle.tier_core.specs.Tiers.{is_input, numbers_from}
+use Rattle.tier_core.specs.Timelines.{symbol, has_edge}
+use Rattle.cert_check.proofs.fit_boxes.still_box.Given as goal
+
+abbrev pub invariant-loop-tier : goal.invariant-loop-tier
+invariant-loop-tier l = record {
+  width : length (sets_of l.class) ≡ length l.kinds;
+  columns : (column : List Sym) → length column ≡ length l.kinds
+      → (has l.class column && not (has_edge
+      (map (symbol column) (numbers_from is_input l.tier (drop l.tier l.kinds)))))
+      ≡ not (has_edge (map (symbol column) (numbers_from is_input 0 l.kinds)));
+}

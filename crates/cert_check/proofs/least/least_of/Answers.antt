@@ -1,0 +1,27 @@
+use Rattle.std.proofs.Common.{IsTrue, arith, sym, subst, refl}
+use Rattle.std.proofs.lemmas.List.{take_all}
+use Rattle.tier_core.specs.declared.class.Class.{Class}
+use Rattle.symbol_class.specs.Filled.{is_filled}
+use Rattle.cert_check.proofs.LeastColumns.{IsLeastOf, least_more}
+use Rattle.cert_check.proofs.least.least_of.Goals as goal
+
+pub loop-class-init : goal.loop-class-init
+loop-class-init c = record { within = omega arith; least = λ column. refl }
+
+pub loop-class-preserved : goal.loop-class-preserved
+loop-class-preserved c =
+    let class = c.class-item.result in
+    record {
+      within = omega (arith, c.loop-class-test.true);
+      least = least_more c.args.classes.now c.loop-class.class-index class c.loop-class-test.true c.class-item.is
+          c.least_column.result
+          (c.least_column.ensures.held (subst (λ (x : Class). IsTrue (is_filled x)) (sym c.class-item.is)
+          (c.requires c.loop-class.class-index class c.loop-class-test.true)))
+          c.least_column.ensures.least c.loop-class.least c.lesser_of.result c.loop-class.invariant.least
+          c.lesser_of.ensures;
+    }
+
+pub returns : goal.returns
+returns c = subst (λ classes. IsLeastOf classes c.loop-class.least)
+    (take_all c.loop-class.class-index c.args.classes.now (omega (arith, c.loop-class-test.false)))
+    c.loop-class.invariant.least

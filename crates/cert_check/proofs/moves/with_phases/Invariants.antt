@@ -1,0 +1,5 @@
+use Rattle.cert_check.proofs.NextSteps.{AreNext}
+use Rattle.cert_check.proofs.moves.with_phases.Given as goal
+
+abbrev pub invariant-loop-constraint : goal.invariant-loop-constraint
+invariant-loop-constraint l = AreNext l.constraints l.kind l.column l.constraint-index l.next l.unmet l.met

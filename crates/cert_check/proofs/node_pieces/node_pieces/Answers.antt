@@ -1,0 +1,29 @@
+use Rattle.std.proofs.Common.{◌≡◌, ℕ, List, length, sym, ap, subst}
+use Rattle.std.proofs.lemmas.Result.{IfOk-weaker}
+use Rattle.tier_core.specs.declared.class.Class.{Class}
+use Rattle.tier_core.specs.declared.tier.TierKind.{TierKind}
+use Rattle.symbol_class.specs.Held.{ArePieces}
+use Rattle.violation.specs.Prefixes.{kind_of_bits}
+use Rattle.cert_check.specs.Fitting.{ArePartedByTests}
+use Rattle.cert_check.specs.Subjects.{problem_of}
+use Rattle.cert_check.proofs.UniformSteps.{node_pieces_are}
+use Rattle.cert_check.proofs.node_pieces.node_pieces.Goals as goal
+
+pub parted_by_tests-requires-clause-pieces : goal.parted_by_tests-requires-clause-pieces
+parted_by_tests-requires-clause-pieces c =
+    let same : length c.as_slice.result.now ≡ (problem_of c.args.subject.now).tiers.width =
+    ap (λ (ks : List TierKind). length ks) c.as_slice.ensures.value in
+    subst (λ (n : ℕ). ArePieces n c.in_ok-fitting.fitting.items) (sym same)
+    (c.in_ok-fitting.ensures c.args.stage).pieces
+
+pub returns : goal.returns
+returns c =
+    let s = c.args.subject.now in
+    let same : length c.as_slice.result.now ≡ (problem_of s).tiers.width =
+    ap (λ (ks : List TierKind). length ks) c.as_slice.ensures.value in
+    IfOk-weaker c.parted_by_tests.result _ _
+    (λ parts p. node_pieces_are (problem_of s) c.args.stage (kind_of_bits (problem_of s) c.args.stage c.args.kind.now)
+    (length c.as_slice.result.now) c.in_ok-tests.tests.items c.in_ok-fitting.fitting.items parts.items same
+    (c.in_ok-fitting.ensures c.args.stage) c.in_ok-tests.ensures
+    (subst (λ (ts : List Class). ArePartedByTests (length c.as_slice.result.now) ts c.in_ok-fitting.fitting.items parts.items)
+    c.deref.ensures.value p)) c.parted_by_tests.ensures

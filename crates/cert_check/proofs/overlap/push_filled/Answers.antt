@@ -1,0 +1,13 @@
+use Rattle.std.proofs.Common.{sym, ◌∙◌}
+use Rattle.std.proofs.lemmas.Bool.{not-true, not-false}
+use Rattle.symbol_class.specs.Filled.{is_filled}
+use Rattle.cert_check.proofs.Gathering.{adds_empty, adds_one}
+use Rattle.cert_check.proofs.overlap.push_filled.Goals as goal
+
+pub returns-then-is_empty : goal.returns-then-is_empty
+returns-then-is_empty c = adds_empty c.args.classes.now.items c.args.class
+    (not-true (is_filled c.args.class) (sym c.is_empty.ensures.sets ∙ c.if-is_empty.true))
+
+pub returns : goal.returns
+returns c = adds_one c.args.classes.now.items c.push.new.self.items c.args.class c.in_ok-push.ensures.items
+    (not-false (is_filled c.args.class) (sym c.is_empty.ensures.sets ∙ c.if-is_empty.false))

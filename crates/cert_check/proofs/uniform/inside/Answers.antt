@@ -1,0 +1,26 @@
+use Rattle.std.proofs.Common.{◌≡◌, not, ◌&&◌, true, false, Bool, refl, ap, ◌∙◌, arith}
+use Rattle.tier_core.specs.declared.sym.Sym.{Sym}
+use Rattle.tier_core.specs.declared.sym.Sym.TheVariants.{Outside, Inside, Start, End, Both}
+use Rattle.tier_core.specs.Classes.{has}
+use Rattle.tier_core.specs.Sets.{is_in}
+use Rattle.tier_core.specs.Timelines.{symbol}
+use Rattle.tier_core.proofs.ClassSets.{width_is}
+use Rattle.cert_check.proofs.uniform.inside.Goals as goal
+
+in_none : (s : Sym) → is_in 0 s ≡ false
+in_none Outside = refl
+in_none Inside = refl
+in_none Start = refl
+in_none End = refl
+in_none Both = refl
+
+but_none : (a b i : Bool) → b ≡ (a && i) → i ≡ false → (a && not b) ≡ a
+but_none true b i e f = ap not (e ∙ f)
+but_none false b i e f = refl
+
+pub narrowed-requires : goal.narrowed-requires
+narrowed-requires c = let class = c.args.class.now in omega (arith, width_is class, class.some)
+
+pub returns-clause-columns : goal.returns-clause-columns
+returns-clause-columns c column = but_none (has c.args.class.now column) (has c.narrowed.result column)
+    (is_in 0 (symbol column 0)) (c.narrowed.ensures.columns column) (in_none (symbol column 0))

@@ -3,7 +3,7 @@ use Rattle.std.proofs.Common.{◌≡◌, ℕ, ◌<◌, ◌^◌, List, [], ◌∷
 use Rattle.std.specs.Prelude.{if◌then◌else◌}
 use Rattle.std.specs.Str.{bytes_eq}
 use Rattle.std.proofs.lemmas.Fmt.{decimal_injective}
-use Rattle.command_words.specs.Commands.{Command, canon, score, generate, show, tableau, once, comprehend, IsBudget, HasBudget, IsCommand}
+use Rattle.command_words.specs.Commands.{Command, canon, score, generate, show, tableau, once, comprehend, check, IsBudget, HasBudget, IsCommand}
 
 -- one budget at most is given
 one_budget : (words : List (List ℕ)) (a b : ℕ) → IsBudget words a → IsBudget words b → a ≡ b
@@ -26,7 +26,8 @@ by_places words b =
     (if bytes_eq name (codes "generate") then generate g first b else
     (if bytes_eq name (codes "show") then show g first b else
     (if bytes_eq name (codes "tableau") then tableau g first second b else
-    (if bytes_eq name (codes "once") then once g first b else comprehend g first second b)))))
+    (if bytes_eq name (codes "once") then once g first b else
+    (if bytes_eq name (codes "comprehend") then comprehend g first second b else check g first))))))
 
 -- how many words stand before the budget of a command with this name
 abbrev words_before : List ℕ → ℕ
@@ -47,6 +48,7 @@ budget_in (show g f b) = b
 budget_in (tableau g f r b) = b
 budget_in (once g f b) = b
 budget_in (comprehend g l s b) = b
+budget_in (check g a) = 20000
 
 said_so : (words : List (List ℕ)) (a : Command) → IsCommand words a → by_places words (budget_in a) ≡ a
 said_so words (canon g) p = ap (λ w. by_places w 20000) p
@@ -56,6 +58,7 @@ said_so words (show g f b) p = ap (λ w. by_places w b) p.are
 said_so words (tableau g f r b) p = ap (λ w. by_places w b) p.are
 said_so words (once g f b) p = ap (λ w. by_places w b) p.are
 said_so words (comprehend g l s b) p = ap (λ w. by_places w b) p.are
+said_so words (check g a) p = ap (λ w. by_places w 20000) p
 
 budget_of : (words : List (List ℕ)) (a : Command) → IsCommand words a → IsBudget (behind words) (budget_in a)
 budget_of words (canon g) p = subst (λ w. IsBudget (behind w) 20000) (sym p) refl
@@ -65,6 +68,7 @@ budget_of words (show g f b) p = subst (λ w. IsBudget (behind w) b) (sym p.are)
 budget_of words (tableau g f r b) p = subst (λ w. IsBudget (behind w) b) (sym p.are) p.budgeted
 budget_of words (once g f b) p = subst (λ w. IsBudget (behind w) b) (sym p.are) p.budgeted
 budget_of words (comprehend g l s b) p = subst (λ w. IsBudget (behind w) b) (sym p.are) p.budgeted
+budget_of words (check g a) p = subst (λ w. IsBudget (behind w) 20000) (sym p) refl
 
 pub one_command : (words : List (List ℕ)) (a b : Command) → IsCommand words a → IsCommand words b → a ≡ b
 one_command words a b p q =

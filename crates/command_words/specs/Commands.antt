@@ -10,6 +10,7 @@ pub data Command : Type 0 where
   tableau : List ℕ → List ℕ → List ℕ → ℕ → Command
   once : List ℕ → List ℕ → ℕ → Command
   comprehend : List ℕ → List ℕ → List ℕ → ℕ → Command
+  check : List ℕ → List ℕ → Command
 
 -- the words at the end: none, for the default budget, or the budget in decimal
 abbrev pub IsBudget : List (List ℕ) → ℕ → Type 0
@@ -32,6 +33,7 @@ IsCommand words (show g f b) = HasBudget words (codes "show" ∷ g ∷ f ∷ [])
 IsCommand words (tableau g f r b) = HasBudget words (codes "tableau" ∷ g ∷ f ∷ r ∷ []) b
 IsCommand words (once g f b) = HasBudget words (codes "once" ∷ g ∷ f ∷ []) b
 IsCommand words (comprehend g l s b) = HasBudget words (codes "comprehend" ∷ g ∷ l ∷ s ∷ []) b
+IsCommand words (check g a) = words ≡ codes "check" ∷ g ∷ a ∷ []
 
 -- the words are those of no command
 abbrev pub IsNoCommand : List (List ℕ) → Type 0
@@ -46,3 +48,4 @@ grammar_of (show g f b) = g
 grammar_of (tableau g f r b) = g
 grammar_of (once g f b) = g
 grammar_of (comprehend g l s b) = g
+grammar_of (check g a) = g

@@ -1,8 +1,8 @@
 /// What the words of a command ask for.
 ///
-/// `grammar`, `rows` and `lexicon` are names of files. `form`, `timeline` and `surface` are texts, as
-/// they stand in the words; whether they can be read is not yet known. `budget` is the number of
-/// kinds of prefix that are allowed, from 1 to 65,536, and 20,000 if the words do not give one.
+/// `grammar`, `rows`, `lexicon` and `answer` are names of files. `form`, `timeline` and `surface` are
+/// texts, as they stand in the words; whether they can be read is not yet known. `budget` is the number
+/// of kinds of prefix that are allowed, from 1 to 65,536, and 20,000 if the words do not give one.
 #[derive(Clone, Copy, Debug, PartialEq, Eq)]
 pub enum Command<'a> {
     /// `canon G`: the canonical text of a grammar.
@@ -46,5 +46,10 @@ pub enum Command<'a> {
         lexicon: &'a str,
         surface: &'a str,
         budget: u32,
+    },
+    /// `check G ANSWER`: whether an answer is faultless, and its first fault if it is not.
+    Check {
+        grammar: &'a str,
+        answer: &'a str,
     },
 }

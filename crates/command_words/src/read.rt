@@ -114,6 +114,20 @@ fn comprehend_of<'a>(grammar: &'a str, further: &'a [String]) -> Option<Command<
     }
 }
 
+/// What `check`, the name of a grammar and further words ask for.
+fn check_of<'a>(grammar: &'a str, further: &'a [String]) -> Option<Command<'a>>
+    ensures { MatchOption result (IsNoCommand (codes "check" ∷ grammar.now ∷ words_of further.now))
+        (λ c. IsCommand (codes "check" ∷ grammar.now ∷ words_of further.now) (command_seen c)) }
+{
+    match further {
+        [answer] => Some(Command::Check {
+            grammar,
+            answer: answer.as_str(),
+        }),
+        _ => None,
+    }
+}
+
 /// The command that these words are, or `None` if they are not those of a command.
 ///
 /// ```text
@@ -124,6 +138,7 @@ fn comprehend_of<'a>(grammar: &'a str, further: &'a [String]) -> Option<Command<
 /// tableau G FORM ROWS [BUDGET]
 /// once G FORM [BUDGET]
 /// comprehend G LEXICON SURFACE [BUDGET]
+/// check G ANSWER
 /// ```
 ///
 /// The first word is in lowercase, exactly as above. BUDGET is a decimal number from 1 to 65,536,
@@ -143,6 +158,7 @@ pub fn command_of(words: &[String]) -> Option<Command<'_>>
         "tableau" => tableau_of(grammar.as_str(), further),
         "once" => once_of(grammar.as_str(), further),
         "comprehend" => comprehend_of(grammar.as_str(), further),
+        "check" => check_of(grammar.as_str(), further),
         _ => None,
     }
 }

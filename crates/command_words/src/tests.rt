@@ -66,6 +66,10 @@ fn comprehend<'a>(
     })
 }
 
+fn check<'a>(grammar: &'a str, answer: &'a str) -> Option<Command<'a>> {
+    Some(Command::Check { grammar, answer })
+}
+
 #[test]
 fn words_of_a_command_are_read(rt: HostRuntime) -> Result<(), Fail> {
     let alloc = rt.alloc();
@@ -100,6 +104,8 @@ fn words_of_a_command_are_read(rt: HostRuntime) -> Result<(), Fail> {
         ("comprehend/g/l/[ ]", comprehend("g", "l", "[ ]", 20_000)),
         ("comprehend/g/8/9", comprehend("g", "8", "9", 20_000)),
         ("comprehend/g/l/s/1", comprehend("g", "l", "s", 1)),
+        ("check/g/a", check("g", "a")),
+        ("check/a/", check("a", "")),
     ];
     for (text, command) in cases {
         let words = words(alloc, text)?;
@@ -141,6 +147,8 @@ fn other_words_are_no_command(rt: HostRuntime) -> Result<(), Fail> {
         "comprehend/g/l",
         "comprehend/g/l/empty/1/1",
         "generate/g/1/empty",
+        "check/g",
+        "check/g/a/1",
     ];
     for text in cases {
         let words = words(alloc, text)?;

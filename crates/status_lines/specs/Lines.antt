@@ -5,19 +5,23 @@ use Rattle.timeline_text.specs.declared.form_err.FormErr.{FormErr}
 use Rattle.timeline_text.specs.declared.form_err.FormErr.TheVariants.{BadSymbol, WrongWidth, TooLong as TooManyColumns, NotWellFormed, NotReduced, UnknownLetter, NoMemory as NoMemoryForForm}
 use Rattle.grammar_reader.specs.declared.grammar_err.GrammarCause.{GrammarCause}
 use Rattle.grammar_reader.specs.declared.grammar_err.GrammarCause.TheVariants.{BadByte, BadHeader, BadLine, BadName, TwiceNamed, UnknownTier, NotInput, TooManyTiers, TooManyConstraints, TooManyEvents, NoInput, NoOvert}
+use Rattle.answer_reader.specs.declared.answer_err.AnswerCause.{AnswerCause}
+use Rattle.answer_reader.specs.declared.answer_err.AnswerCause.TheVariants.{CutShort, BadHeader as BadAnswerHeader, BadLine as BadAnswerLine, BadNumber, BadClass, BadOrder, ExtraBytes}
 use Rattle.lexicon.specs.declared.lex_err.LexErr.{LexErr}
 use Rattle.lexicon.specs.declared.lex_err.LexErr.TheVariants.{NotToml, TooMany as TooManyEntries, BadEntry, TwiceNamed as NamedTwice, BadForm, NoMemory as NoMemoryForLexicon}
 use Rattle.tableau.specs.declared.rows_err.RowsCause.{RowsCause}
 use Rattle.tableau.specs.declared.rows_err.RowsCause.TheVariants.{Form, NotCandidate, TooMany}
 use Rattle.status_lines.specs.declared.status.Status.{Status}
-use Rattle.status_lines.specs.declared.status.Status.TheVariants.{Done, Usage, GrammarRefused, FormRefused, LexiconRefused, Budget, ReadFault, WriteFault, NoMemory, RowsRefused, TooLong}
+use Rattle.status_lines.specs.declared.status.Status.TheVariants.{Done, No, Usage, GrammarRefused, FormRefused, LexiconRefused, AnswerRefused, Budget, ReadFault, WriteFault, NoMemory, RowsRefused, TooLong}
 
 abbrev pub status_number : Status → ℕ
 status_number Done = 0
+status_number No = 1
 status_number Usage = 2
 status_number (GrammarRefused word line cause) = 3
 status_number (FormRefused word cause) = 4
 status_number (LexiconRefused word cause) = 5
+status_number (AnswerRefused word line cause) = 6
 status_number (Budget entry stage) = 7
 status_number (ReadFault word) = 8
 status_number WriteFault = 9
@@ -65,9 +69,20 @@ lexicon_cause_text (NamedTwice index) = codes "TwiceNamed " ++ decimal index
 lexicon_cause_text (BadForm index cause) = ((codes "BadForm " ++ decimal index) ++ codes " ") ++ form_cause_text cause
 lexicon_cause_text NoMemoryForLexicon = codes "NoMemory"
 
+-- the cause of an answer is its name
+abbrev pub answer_cause_text : AnswerCause → List ℕ
+answer_cause_text CutShort = codes "CutShort"
+answer_cause_text BadAnswerHeader = codes "BadHeader"
+answer_cause_text BadAnswerLine = codes "BadLine"
+answer_cause_text BadNumber = codes "BadNumber"
+answer_cause_text BadClass = codes "BadClass"
+answer_cause_text BadOrder = codes "BadOrder"
+answer_cause_text ExtraBytes = codes "ExtraBytes"
+
 -- the line of a status; where all is done there is none
 abbrev pub status_text : Status → List ℕ
 status_text Done = []
+status_text No = codes "no\n"
 status_text Usage = codes "usage\n"
 status_text (GrammarRefused word line cause) =
     (codes "grammar word " ++ decimal word)
@@ -76,6 +91,9 @@ status_text (FormRefused word cause) =
     ((codes "form word " ++ decimal word) ++ codes ": ") ++ (form_cause_text cause ++ codes "\n")
 status_text (LexiconRefused word cause) =
     ((codes "lexicon word " ++ decimal word) ++ codes ": ") ++ (lexicon_cause_text cause ++ codes "\n")
+status_text (AnswerRefused word line cause) =
+    (codes "answer word " ++ decimal word)
+    ++ (((codes " line " ++ decimal line) ++ codes ": ") ++ (answer_cause_text cause ++ codes "\n"))
 status_text (Budget entry stage) =
     (codes "budget entry " ++ decimal entry) ++ ((codes " stage " ++ decimal stage) ++ codes "\n")
 status_text (ReadFault word) = (codes "read fault word " ++ decimal word) ++ codes "\n"

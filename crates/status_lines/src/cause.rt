@@ -1,8 +1,9 @@
 ghost use Rattle.std.specs.Prelude.{◌≡◌, ◌++◌, codes};
 ghost use Rattle.outside.specs.Writers.{Pushes};
-ghost use Rattle.status_lines.specs.Lines.{form_cause_text, grammar_cause_text, lexicon_cause_text, rows_cause_text};
+ghost use Rattle.status_lines.specs.Lines.{answer_cause_text, form_cause_text, grammar_cause_text, lexicon_cause_text, rows_cause_text};
 
 use crate::number::push_worded;
+use answer_reader::AnswerCause;
 use grammar_reader::GrammarCause;
 use lexicon::LexErr;
 use outside::{OutBuffer, Sink, WriteErr, push_number};
@@ -119,4 +120,32 @@ pub(crate) fn push_lexicon_cause<O: Sink>(
         LexErr::BadForm { index, cause } => push_bad_form(out, sink, index, cause),
         LexErr::NoMemory => out.push(sink, b"NoMemory\n"),
     }
+}
+
+/// The name of an answer's cause.
+fn answer_cause_name(cause: AnswerCause) -> &'static [u8]
+    ensures { result.now ≡ answer_cause_text cause }
+{
+    match cause {
+        AnswerCause::CutShort => b"CutShort",
+        AnswerCause::BadHeader => b"BadHeader",
+        AnswerCause::BadLine => b"BadLine",
+        AnswerCause::BadNumber => b"BadNumber",
+        AnswerCause::BadClass => b"BadClass",
+        AnswerCause::BadOrder => b"BadOrder",
+        AnswerCause::ExtraBytes => b"ExtraBytes",
+    }
+}
+
+/// Appends the name of an answer's cause, and the end of the line.
+pub(crate) fn push_answer_cause<O: Sink>(
+    out: &mut OutBuffer,
+    sink: &mut O,
+    cause: AnswerCause,
+) -> Result<(), WriteErr>
+    ensures { Pushes O.Sink sink.old sink.new out.old out.new
+        (answer_cause_text cause ++ codes "\n") result }
+{
+    out.push(sink, answer_cause_name(cause))?;
+    out.push(sink, b"\n")
 }

@@ -1,9 +1,12 @@
 ghost use Rattle.outside.specs.Writers.{Puts, Pushes};
 ghost use Rattle.status_lines.specs.Lines.{status_text};
 
-use crate::cause::{push_form_cause, push_grammar_cause, push_lexicon_cause, push_rows_cause};
+use crate::cause::{
+    push_answer_cause, push_form_cause, push_grammar_cause, push_lexicon_cause, push_rows_cause,
+};
 use crate::number::push_worded;
 use crate::status::Status;
+use answer_reader::AnswerCause;
 use grammar_reader::GrammarCause;
 use lexicon::LexErr;
 use outside::{OutBuffer, Sink, WriteErr, push_number};
@@ -54,6 +57,22 @@ fn push_lexicon_refused<O: Sink>(
     push_lexicon_cause(out, sink, cause)
 }
 
+/// Appends the line of a file that is not an answer.
+fn push_answer_refused<O: Sink>(
+    out: &mut OutBuffer,
+    sink: &mut O,
+    word: u32,
+    line: u32,
+    cause: AnswerCause,
+) -> Result<(), WriteErr>
+    ensures { Pushes O.Sink sink.old sink.new out.old out.new
+        (status_text (Status.AnswerRefused word line cause)) result }
+{
+    push_number(out, sink, b"answer word ", word as usize)?;
+    push_worded(out, sink, b" line ", line, b": ")?;
+    push_answer_cause(out, sink, cause)
+}
+
 /// Appends the line of a stage that has more kinds of prefix than the budget.
 fn push_budget<O: Sink>(
     out: &mut OutBuffer,
@@ -90,12 +109,16 @@ fn push_line<O: Sink>(out: &mut OutBuffer, sink: &mut O, status: &Status) -> Res
 {
     match *status {
         Status::Done => out.push(sink, b""),
+        Status::No => out.push(sink, b"no\n"),
         Status::Usage => out.push(sink, b"usage\n"),
         Status::GrammarRefused { word, line, cause } => {
             push_grammar_refused(out, sink, word, line, cause)
         }
         Status::FormRefused { word, cause } => push_form_refused(out, sink, word, cause),
         Status::LexiconRefused { word, cause } => push_lexicon_refused(out, sink, word, cause),
+        Status::AnswerRefused { word, line, cause } => {
+            push_answer_refused(out, sink, word, line, cause)
+        }
         Status::Budget { entry, stage } => push_budget(out, sink, entry, stage),
         Status::ReadFault { word } => push_worded(out, sink, b"read fault word ", word, b"\n"),
         Status::WriteFault => out.push(sink, b"write fault\n"),

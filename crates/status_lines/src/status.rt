@@ -1,6 +1,7 @@
 ghost use Rattle.std.specs.Prelude.{◌≡◌};
 ghost use Rattle.status_lines.specs.Lines.{status_number};
 
+use answer_reader::AnswerCause;
 use grammar_reader::GrammarCause;
 use lexicon::LexErr;
 use tableau::RowsCause;
@@ -11,6 +12,8 @@ use timeline_text::FormErr;
 pub enum Status {
     /// Everything was done.
     Done,
+    /// Everything was done, and the answer that was checked has a fault.
+    No,
     /// The words are not a command.
     Usage,
     /// The file is not a grammar: its first line with a cause, counted from 1, and the cause. The
@@ -30,6 +33,12 @@ pub enum Status {
     LexiconRefused {
         word: u32,
         cause: LexErr,
+    },
+    /// The file is not an answer: its first line with a cause, counted from 1, and the cause.
+    AnswerRefused {
+        word: u32,
+        line: u32,
+        cause: AnswerCause,
     },
     /// A stage has more kinds of prefix than the budget: the entry of a lexicon, or 0 if there is
     /// one form, and the first such stage.
@@ -64,10 +73,12 @@ impl Status {
     {
         match self {
             Status::Done => 0,
+            Status::No => 1,
             Status::Usage => 2,
             Status::GrammarRefused { .. } => 3,
             Status::FormRefused { .. } => 4,
             Status::LexiconRefused { .. } => 5,
+            Status::AnswerRefused { .. } => 6,
             Status::Budget { .. } => 7,
             Status::ReadFault { .. } => 8,
             Status::WriteFault => 9,

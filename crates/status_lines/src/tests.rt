@@ -1,4 +1,5 @@
 use crate::{Status, put_status};
+use answer_reader::AnswerCause;
 use grammar_reader::GrammarCause;
 use lexicon::LexErr;
 use outside::{MemSink, SafeSink, Sink, WriteErr};
@@ -34,7 +35,17 @@ fn no_lexicon(cause: LexErr) -> Status {
 fn numbers_and_lines(rt: HostRuntime) -> Result<(), Fail> {
     let cases = [
         (Status::Done, 0, ""),
+        (Status::No, 1, "no\n"),
         (Status::Usage, 2, "usage\n"),
+        (
+            Status::AnswerRefused {
+                word: 2,
+                line: 9,
+                cause: AnswerCause::BadOrder,
+            },
+            6,
+            "answer word 2 line 9: BadOrder\n",
+        ),
         (
             Status::Budget { entry: 0, stage: 7 },
             7,

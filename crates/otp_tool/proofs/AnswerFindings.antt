@@ -11,7 +11,7 @@ use Rattle.violation.specs.Problems.{Problem, last_stage}
 use Rattle.violation.specs.Rests.{AreWholeKindsOver, AreWholeKindsWithin}
 use Rattle.otp_tool.specs.Scored.{IsNotScored, IsScored}
 use Rattle.otp_tool.specs.Grammars.{IsAsked, OnProblem, input_count}
-use Rattle.otp_tool.specs.Findings.{Finding, FindsForAnswer, FindsForCanon, FindsForOnce, FindsForScore, IsOverBudget, IsWithinBudget, long_file, no_grammar, no_form, long_second, no_rows, no_lexicon, over_budget, ready}
+use Rattle.otp_tool.specs.Findings.{Finding, FindsForAnswer, FindsForCanon, FindsForOnce, FindsForScore, IsOverBudget, IsWithinBudget, long_file, no_grammar, no_form, long_second, no_rows, no_lexicon, no_answer, over_budget, ready}
 use Rattle.otp_tool.specs.Steps.{IsOf, RefusesForm}
 use Rattle.otp_tool.proofs.Choices.{equal_where, one_choice, one_of}
 use Rattle.otp_tool.proofs.ConstraintLemmas.{AreAlike, first_over_alike, same_stages, whole_over_within}
@@ -25,6 +25,7 @@ all_ready (no_form word cause) a = absurd a
 all_ready (long_second word) a = absurd a
 all_ready (no_rows row cause) a = absurd a
 all_ready (no_lexicon cause) a = absurd a
+all_ready (no_answer line cause) a = absurd a
 all_ready (over_budget entry stage) a = absurd a
 all_ready ready a = refl
 
@@ -45,6 +46,7 @@ module _ (g : GrammarValue) (word : List ℕ) where
   score_steps (long_second number) a = absurd a
   score_steps (no_rows row cause) a = absurd a
   score_steps (no_lexicon cause) a = absurd a
+  score_steps (no_answer line cause) a = absurd a
   score_steps (over_budget entry stage) a = absurd a
   score_steps ready a = inr (refl, a)
 
@@ -128,6 +130,7 @@ module _ (g : GrammarValue) (form : List ℕ) (budget : ℕ) where
   answer_steps (long_second word) a = absurd a
   answer_steps (no_rows row cause) a = absurd a
   answer_steps (no_lexicon cause) a = absurd a
+  answer_steps (no_answer line cause) a = absurd a
   answer_steps (over_budget entry stage) a =
       inr (inl (record { value = stage; is = ap (λ e. over_budget e stage) a.0; fact = a.1 }))
   answer_steps ready a = inr (inr (refl, a))
@@ -161,6 +164,7 @@ module _ (g : GrammarValue) (form : List ℕ) (budget : ℕ) where
   once_steps (long_second word) a = absurd a
   once_steps (no_rows row cause) a = absurd a
   once_steps (no_lexicon cause) a = absurd a
+  once_steps (no_answer line cause) a = absurd a
   once_steps (over_budget entry stage) a =
       inr (inl (record { value = stage; is = ap (λ e. over_budget e stage) a.0; fact = a.1 }))
   once_steps ready a = inr (inr (refl, a))

@@ -4,21 +4,26 @@ use Rattle.outside.specs.Faults.{Rose}
 use Rattle.outside.specs.Sent.{appended, HasSentPart}
 use Rattle.timeline_text.specs.declared.form_err.FormErr.{FormErr}
 use Rattle.grammar_reader.specs.declared.grammar_err.GrammarCause.{GrammarCause}
+use Rattle.answer_reader.specs.declared.answer_err.AnswerCause.{AnswerCause}
 use Rattle.lexicon.specs.declared.lex_err.LexErr.{LexErr}
 use Rattle.tableau.specs.declared.rows_err.RowsCause.{RowsCause}
 use Rattle.status_lines.specs.declared.status.Status.{Status}
-use Rattle.status_lines.specs.declared.status.Status.TheVariants.{Done, Usage, GrammarRefused, FormRefused, LexiconRefused, Budget, ReadFault, WriteFault, NoMemory, RowsRefused, TooLong}
+use Rattle.status_lines.specs.declared.status.Status.TheVariants.{Done, No, Usage, GrammarRefused, FormRefused, LexiconRefused, AnswerRefused, Budget, ReadFault, WriteFault, NoMemory, RowsRefused, TooLong}
 use Rattle.command_words.specs.Commands.{IsNoCommand}
-use Rattle.otp_tool.specs.Findings.{Finding, long_file, long_second, no_grammar, no_form, no_rows, no_lexicon, over_budget, ready}
+use Rattle.otp_tool.specs.Findings.{Finding, long_file, long_second, no_grammar, no_form, no_rows, no_lexicon, no_answer, over_budget, ready}
 use Rattle.otp_tool.specs.Outcomes.{HasReadFault, IsBehind, IsTooLong, IsWrittenBehind}
+use Rattle.otp_tool.specs.Results.{IsNoResult, IsResult, IsWhole}
 use Rattle.otp_tool.specs.Steps.{Change, IsOutcome}
 
 module _ (words : List (List ℕ)) (c : Change) (s : Status) (o : IsOutcome words c s) where
   at : (t : Status) → s ≡ t → IsOutcome words c t
   at t e = subst (IsOutcome words c) e o
 
-  pub done : s ≡ Done → IsWrittenBehind words c.held (λ text. c.taking.new ≡ appended c.taking.old text)
+  pub done : s ≡ Done → IsWrittenBehind words c.held IsResult (λ text. c.taking.new ≡ appended c.taking.old text)
   done e = (at Done e).1
+
+  pub no : s ≡ No → IsWrittenBehind words c.held IsNoResult (λ text. c.taking.new ≡ appended c.taking.old text)
+  no e = (at No e).1
 
   pub by_reading : (word : ℕ) → s ≡ ReadFault word → HasReadFault words c.held c.faults_before c.faults_after word
   by_reading word e = (at (ReadFault word) e).0
@@ -41,18 +46,22 @@ module _ (words : List (List ℕ)) (c : Change) (s : Status) (o : IsOutcome word
       → (word ≡ 2) × IsBehind words c.held (no_lexicon cause)
   by_lexicon word cause e = let p = at (LexiconRefused word cause) e in (p.0, p.1)
 
+  pub by_answer : (word line : ℕ) (cause : AnswerCause) → s ≡ AnswerRefused word line cause
+      → (word ≡ 2) × IsBehind words c.held (no_answer line cause)
+  by_answer word line cause e = let p = at (AnswerRefused word line cause) e in (p.0, p.1)
+
   pub by_budget : (entry stage : ℕ) → s ≡ Budget entry stage → IsBehind words c.held (over_budget entry stage)
   by_budget entry stage e = (at (Budget entry stage) e).0
 
   pub by_writing : s ≡ WriteFault → IsBehind words c.held ready × Rose c.taking.before c.taking.after
   by_writing e = let p = at WriteFault e in (p.0, p.2)
 
-  pub begun : s ≡ WriteFault → IsWrittenBehind words c.held (λ text. HasSentPart c.taking.old text c.taking.new)
+  pub begun : s ≡ WriteFault → IsWrittenBehind words c.held IsWhole (λ text. HasSentPart c.taking.old text c.taking.new)
   begun e = (at WriteFault e).1
 
   pub by_memory : s ≡ NoMemory
       → (c.taking.new ≡ c.taking.old)
-      ⊎ IsWrittenBehind words c.held (λ text. HasSentPart c.taking.old text c.taking.new)
+      ⊎ IsWrittenBehind words c.held IsWhole (λ text. HasSentPart c.taking.old text c.taking.new)
   by_memory e = (at NoMemory e).1
 
 module _ (words : List (List ℕ)) (c : Change) where
@@ -66,10 +75,12 @@ module _ (words : List (List ℕ)) (c : Change) where
 
   only_usage : (s : Status) → IsOutcome words c s → IsNoCommand words → s ≡ Usage
   only_usage Done o n = absurd (no_behind ready o.0 n)
+  only_usage No o n = absurd (no_behind ready o.0 n)
   only_usage Usage o n = refl
   only_usage (GrammarRefused word line cause) o n = absurd (no_behind (no_grammar line cause) o.1 n)
   only_usage (FormRefused word cause) o n = absurd (no_behind (no_form word cause) o.0 n)
   only_usage (LexiconRefused word cause) o n = absurd (no_behind (no_lexicon cause) o.1 n)
+  only_usage (AnswerRefused word line cause) o n = absurd (no_behind (no_answer line cause) o.1 n)
   only_usage (Budget entry stage) o n = absurd (no_behind (over_budget entry stage) o.0 n)
   only_usage (ReadFault word) o n = absurd (n o.0.command o.0.are)
   only_usage WriteFault o n = absurd (no_behind ready o.0 n)

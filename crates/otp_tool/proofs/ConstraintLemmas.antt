@@ -25,7 +25,7 @@ pub seen_vec : (T : List (List Sym)) (cs : List Constraint)
 seen_vec T [] = refl
 seen_vec T (c ∷ cs) = ap (λ ns. viol c.family c.left c.right T ∷ ns) (seen_vec T cs)
 
-abbrev is_seen_stretch : NamedConstraint → Bool
+abbrev pub is_seen_stretch : NamedConstraint → Bool
 is_seen_stretch n = is_implication n.family && not (has_edge_type n.left)
 
 seen_phases : (p : List (List Sym)) (r : ℕ) (cs : List Constraint)

@@ -2,10 +2,10 @@
 use Rattle.std.proofs.Common.{◌≡◌, ◌⊎◌, inl, inr, ℕ, List, Option, refl, ap, sym, ◌∙◌, subst}
 use Rattle.outside.specs.Faults.{Rose}
 use Rattle.status_lines.specs.declared.status.Status.{Status}
-use Rattle.status_lines.specs.declared.status.Status.TheVariants.{Done, Usage, GrammarRefused, FormRefused, LexiconRefused, Budget, ReadFault, WriteFault, NoMemory, RowsRefused, TooLong}
+use Rattle.status_lines.specs.declared.status.Status.TheVariants.{Done, No, Usage, GrammarRefused, FormRefused, LexiconRefused, AnswerRefused, Budget, ReadFault, WriteFault, NoMemory, RowsRefused, TooLong}
 use Rattle.command_words.specs.Commands.{Command, IsNoCommand}
 use Rattle.command_words.proofs.CommandLemmas.{one_command}
-use Rattle.otp_tool.specs.Findings.{Finding, Finds, long_file, no_grammar, no_form, long_second, no_rows, no_lexicon, over_budget, ready}
+use Rattle.otp_tool.specs.Findings.{Finding, Finds, long_file, no_grammar, no_form, long_second, no_rows, no_lexicon, no_answer, over_budget, ready}
 use Rattle.otp_tool.specs.Outcomes.{HasReadFault, IsBeforeWriting, IsBehind, IsTold, IsTooLong, MayRead, Stands, answer_to}
 use Rattle.otp_tool.specs.Steps.{Change, IsOutcome}
 use Rattle.otp_tool.proofs.FindingLemmas.{one_finding}
@@ -28,6 +28,7 @@ IsReady (no_form word cause) = ⊥
 IsReady (long_second word) = ⊥
 IsReady (no_rows row cause) = ⊥
 IsReady (no_lexicon cause) = ⊥
+IsReady (no_answer line cause) = ⊥
 IsReady (over_budget entry stage) = ⊥
 IsReady ready = Unit {0}
 
@@ -43,6 +44,7 @@ module _ (words : List (List ℕ)) (c : Change) where
   pub due : (s : Status) → IsOutcome words c s → (x : Finding) → (x ≡ ready → ⊥) → IsTold words c.held x
       → Stands (answer_to x) s
   due Done o x n t = absurd (n (sym (same words c.held x ready t o.0)))
+  due No o x n t = absurd (n (sym (same words c.held x ready t o.0)))
   due Usage o x n t = absurd (no_usage x t o.0)
   due (GrammarRefused word line cause) o x n t =
       inl (ap (λ (w : ℕ). GrammarRefused w line cause) o.0
@@ -50,6 +52,9 @@ module _ (words : List (List ℕ)) (c : Change) where
   due (FormRefused word cause) o x n t = inl (ap answer_to (same words c.held x (no_form word cause) t o.0))
   due (LexiconRefused word cause) o x n t =
       inl (ap (λ (w : ℕ). LexiconRefused w cause) o.0 ∙ ap answer_to (same words c.held x (no_lexicon cause) t o.1))
+  due (AnswerRefused word line cause) o x n t =
+      inl (ap (λ (w : ℕ). AnswerRefused w line cause) o.0
+      ∙ ap answer_to (same words c.held x (no_answer line cause) t o.1))
   due (Budget entry stage) o x n t = inl (ap answer_to (same words c.held x (over_budget entry stage) t o.0))
   due (ReadFault word) o x n t = inr (inr (word, refl))
   due WriteFault o x n t = absurd (n (sym (same words c.held x ready t o.0)))
@@ -67,25 +72,29 @@ module _ (words : List (List ℕ)) (c : Change) where
 
   pub complete : (s : Status) → IsOutcome words c s → IsTold words c.held ready
       → ((word : ℕ) → HasReadFault words c.held c.faults_before c.faults_after word → ⊥)
-      → (Rose c.taking.before c.taking.after → ⊥) → (s ≡ Done) ⊎ (s ≡ NoMemory)
+      → (Rose c.taking.before c.taking.after → ⊥) → (s ≡ Done) ⊎ ((s ≡ No) ⊎ (s ≡ NoMemory))
   complete Done o t r w = inl refl
+  complete No o t r w = inr (inl refl)
   complete Usage o t r w = absurd (no_usage ready t o.0)
   complete (GrammarRefused word line cause) o t r w = absurd (not_ready (no_grammar line cause) t o.1)
   complete (FormRefused word cause) o t r w = absurd (not_ready (no_form word cause) t o.0)
   complete (LexiconRefused word cause) o t r w = absurd (not_ready (no_lexicon cause) t o.1)
+  complete (AnswerRefused word line cause) o t r w = absurd (not_ready (no_answer line cause) t o.1)
   complete (Budget entry stage) o t r w = absurd (not_ready (over_budget entry stage) t o.0)
   complete (ReadFault word) o t r w = absurd (r word o.0)
   complete WriteFault o t r w = absurd (w o.2)
-  complete NoMemory o t r w = inr refl
+  complete NoMemory o t r w = inr (inr refl)
   complete (RowsRefused word row cause) o t r w = absurd (not_ready (no_rows row cause) t o.1)
   complete (TooLong word) o t r w = absurd (not_long word t o.0)
 
   pub untouched : (s : Status) → IsOutcome words c s → IsBeforeWriting s → c.taking.new ≡ c.taking.old
   untouched Done o b = absurd b
+  untouched No o b = absurd b
   untouched Usage o b = o.1
   untouched (GrammarRefused word line cause) o b = o.2
   untouched (FormRefused word cause) o b = o.1
   untouched (LexiconRefused word cause) o b = o.2
+  untouched (AnswerRefused word line cause) o b = o.2
   untouched (Budget entry stage) o b = o.1
   untouched (ReadFault word) o b = o.1
   untouched WriteFault o b = absurd b

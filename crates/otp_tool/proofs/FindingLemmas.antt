@@ -3,12 +3,13 @@ use Rattle.std.proofs.Common.{◌≡◌, ◌⊎◌, inl, inr, ℕ, ◌<◌, ◌�
 use Rattle.std.proofs.lemmas.Bool.{false≢true}
 use Rattle.grammar_reader.specs.Values.{GrammarValue}
 use Rattle.grammar_reader.specs.Reading.{At, grammar_of}
-use Rattle.command_words.specs.Commands.{Command, canon, score, generate, show, tableau, once, comprehend}
+use Rattle.command_words.specs.Commands.{Command, canon, score, generate, show, tableau, once, comprehend, check}
 use Rattle.otp_tool.specs.Grammars.{OnGrammar}
-use Rattle.otp_tool.specs.Findings.{Finding, Finds, FindsIn, long_file, no_grammar, no_form, long_second, no_rows, no_lexicon, over_budget, ready}
+use Rattle.otp_tool.specs.Findings.{Finding, Finds, FindsIn, long_file, no_grammar, no_form, long_second, no_rows, no_lexicon, no_answer, over_budget, ready}
 use Rattle.otp_tool.specs.Steps.{IsOf}
 use Rattle.otp_tool.proofs.AnswerFindings.{all_ready, for_answer, for_once, for_score}
 use Rattle.otp_tool.proofs.Choices.{one_choice, one_of, too_long}
+use Rattle.otp_tool.proofs.CheckFindings.{for_check}
 use Rattle.otp_tool.proofs.HearingFindings.{for_hearing}
 use Rattle.otp_tool.proofs.TableauFindings.{for_tableau}
 
@@ -21,6 +22,7 @@ in_grammar (show name form budget) g second x y a b = for_answer g form budget x
 in_grammar (tableau name form rows budget) g second x y a b = for_tableau g form budget second x y a b
 in_grammar (once name form budget) g second x y a b = for_once g form budget x y a b
 in_grammar (comprehend name lexicon surface budget) g second x y a b = for_hearing g surface budget second x y a b
+in_grammar (check name answer) g second x y a b = for_check g second x y a b
 
 -- ---- in the files
 
@@ -55,6 +57,7 @@ module _ (command : Command) (bytes second : List ℕ) where
   steps (long_second word) a = inr (inr a)
   steps (no_rows row cause) a = inr (inr a)
   steps (no_lexicon cause) a = inr (inr a)
+  steps (no_answer line cause) a = inr (inr a)
   steps (over_budget entry stage) a = inr (inr a)
   steps ready a = inr (inr a)
 

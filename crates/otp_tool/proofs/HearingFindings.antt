@@ -14,7 +14,7 @@ use Rattle.comprehend.specs.Hears.{AreEntriesWithin, IsFirstEntryOver}
 use Rattle.violation.specs.Problems.{Problem}
 use Rattle.otp_tool.specs.Grammars.{AreAsked, input_count, overt_count}
 use Rattle.otp_tool.specs.Lexicons.{HasSurfaceWord, IsLexiconFile, IsNoLexiconFile, IsNoSurface, OnLexicon, forms_in}
-use Rattle.otp_tool.specs.Findings.{Finding, FindsForHearing, long_file, no_grammar, no_form, long_second, no_rows, no_lexicon, over_budget, ready}
+use Rattle.otp_tool.specs.Findings.{Finding, FindsForHearing, long_file, no_grammar, no_form, long_second, no_rows, no_lexicon, no_answer, over_budget, ready}
 use Rattle.otp_tool.specs.Steps.{IsOf, RefusesSurface}
 use Rattle.otp_tool.proofs.AnswerFindings.{one_stage, over_within}
 use Rattle.otp_tool.proofs.Choices.{equal_where, one_choice, one_of, too_long}
@@ -106,6 +106,7 @@ module _ (g : GrammarValue) (word : List ℕ) (budget : ℕ) (bytes : List ℕ) 
   steps (long_second number) f = inr (inl (ap long_second f.0, f.1))
   steps (no_rows row cause) f = absurd f
   steps (no_lexicon cause) f = inr (inr (inl (record { value = cause; is = refl; fact = f })))
+  steps (no_answer line cause) f = absurd f
   steps (over_budget entry stage) f = inr (inr (inr (inl (record { value = (entry, stage); is = refl; fact = f }))))
   steps ready f = inr (inr (inr (inr (refl, f))))
 

@@ -4,6 +4,8 @@ mod RowsAlike
 mod Choices
 mod AnswerFindings
 mod TableauFindings
+mod ShapesAlike
+mod CheckFindings
 mod HearingFindings
 mod FindingLemmas
 mod StepLemmas
@@ -12,5 +14,6 @@ mod RefusalLemmas
 mod TableauLemmas
 mod OnceLemmas
 mod HearingLemmas
+mod CheckLemmas
 mod CauseLemmas
 mod DueLemmas

@@ -3,15 +3,15 @@ use Rattle.std.proofs.Common.{◌≡◌, ◌⊎◌, inl, inr, ℕ, zero, suc, �
 use Rattle.outside.specs.Faults.{Rose}
 use Rattle.outside.specs.Sent.{appended, HasSentPart}
 use Rattle.status_lines.specs.declared.status.Status.{Status}
-use Rattle.status_lines.specs.declared.status.Status.TheVariants.{Done, Usage, GrammarRefused, FormRefused, LexiconRefused, Budget, ReadFault, WriteFault, NoMemory, RowsRefused, TooLong}
+use Rattle.status_lines.specs.declared.status.Status.TheVariants.{Done, No, Usage, GrammarRefused, FormRefused, LexiconRefused, AnswerRefused, Budget, ReadFault, WriteFault, NoMemory, RowsRefused, TooLong}
 use Rattle.grammar_reader.specs.Values.{GrammarValue}
 use Rattle.command_words.specs.Commands.{Command, IsCommand, grammar_of as file_of}
 use Rattle.otp_tool.specs.Files.{IsHeld, IsSecondHeld, NamedFile, grammar_file, second_file}
 use Rattle.otp_tool.specs.Grammars.{OnGrammar}
-use Rattle.otp_tool.specs.Findings.{Finding, FindsIn, Finds, Reaches, long_file, no_grammar, no_form, long_second, no_rows, no_lexicon, over_budget, ready}
-use Rattle.otp_tool.specs.Results.{IsResult}
+use Rattle.otp_tool.specs.Findings.{Finding, FindsIn, Finds, Reaches, long_file, no_grammar, no_form, long_second, no_rows, no_lexicon, no_answer, over_budget, ready}
+use Rattle.otp_tool.specs.Results.{IsNoResult, IsResult, IsWhole}
 use Rattle.otp_tool.specs.Outcomes.{IsBehind, IsWrittenBehind, MayRead}
-use Rattle.otp_tool.specs.Steps.{Change, IsEnd, IsLoadRefusal, IsLoaded, IsNotRead, IsOutcome, IsPartTaken, IsRefusal, IsStep, IsWork, IsWorkOf}
+use Rattle.otp_tool.specs.Steps.{Change, IsEnd, IsLoadRefusal, IsLoaded, IsNoEnd, IsNoWork, IsNotRead, IsOutcome, IsPartTaken, IsRefusal, IsStep, IsWork, IsWorkOf}
 
 -- so many bytes
 abbrev zeros : ℕ → List ℕ
@@ -84,6 +84,17 @@ module _ (held : List ℕ → Option (List ℕ)) (before : List ℕ → ℕ) (c 
     step = w.step;
   })
 
+  pub work_of_before : (command : Command) (g : GrammarValue) (s : Status) → IsWorkOf command g c s
+      → IsWorkOf command g earlier s
+  work_of_before command g s (inl w) =
+      inl (work_before (second_file command) (Reaches command g) (FindsIn command g) (IsResult command g) s w)
+  work_of_before command g s (inr n) = inr (record {
+    bytes = n.bytes;
+    holds = second_before c.held held same (second_file command) n.bytes n.holds;
+    found = n.found;
+    end = n.end;
+  })
+
 module _ (words : List (List ℕ)) (c : Change) (command : Command) (are : IsCommand words command) where
   -- ---- from loading
 
@@ -103,6 +114,7 @@ module _ (words : List (List ℕ)) (c : Change) (command : Command) (are : IsCom
       → IsLoadRefusal (c.held (file_of command)) (c.faults_before (file_of command))
       (c.faults_after (file_of command)) s → IsOutcome words c s
   by_load t Done r = absurd r
+  by_load t No r = absurd r
   by_load t Usage r = absurd r
   by_load t (GrammarRefused word line cause) r = (
     r.0,
@@ -111,6 +123,7 @@ module _ (words : List (List ℕ)) (c : Change) (command : Command) (are : IsCom
   )
   by_load t (FormRefused word cause) r = absurd r
   by_load t (LexiconRefused word cause) r = absurd r
+  by_load t (AnswerRefused word line cause) r = absurd r
   by_load t (Budget entry stage) r = absurd r
   by_load t (ReadFault word) r = (
     record {
@@ -149,12 +162,15 @@ module _ (words : List (List ℕ)) (c : Change) (command : Command) (are : IsCom
       by_refusal : c.taking.new ≡ c.taking.old → (s : Status) → IsRefusal (FindsIn command g second) s
           → IsOutcome words c s
       by_refusal t Done r = absurd r
+      by_refusal t No r = absurd r
       by_refusal t Usage r = absurd r
       by_refusal t (GrammarRefused word line cause) r = absurd r
       by_refusal t (FormRefused word cause) r =
           (behind (no_form word cause) (on (λ h. FindsIn command h second (no_form word cause)) r), t)
       by_refusal t (LexiconRefused word cause) r =
           (r.0, behind (no_lexicon cause) (on (λ h. FindsIn command h second (no_lexicon cause)) r.1), t)
+      by_refusal t (AnswerRefused word line cause) r =
+          (r.0, behind (no_answer line cause) (on (λ h. FindsIn command h second (no_answer line cause)) r.1), t)
       by_refusal t (Budget entry stage) r =
           (behind (over_budget entry stage) (on (λ h. FindsIn command h second (over_budget entry stage)) r), t)
       by_refusal t (ReadFault word) r = absurd r
@@ -167,41 +183,74 @@ module _ (words : List (List ℕ)) (c : Change) (command : Command) (are : IsCom
 
       -- ---- from writing
 
-      written : (P : List ℕ → Type 0) (text : List ℕ) → IsResult command g second text → P text
-          → IsWrittenBehind words c.held P
-      written P text r p = record {
+      written : (writes : Command → GrammarValue → List ℕ → List ℕ → Type 0) (P : List ℕ → Type 0) (text : List ℕ)
+          → writes command g second text → P text → IsWrittenBehind words c.held writes P
+      written writes P text r p = record {
         command = command;
         bytes = l.bytes;
         second = second;
         reads = reads;
         text = text;
-        result = on (λ h. IsResult command h second text) r;
+        result = on (λ h. writes command h second text) r;
         fact = p;
       }
 
-      part : IsPartTaken (IsResult command g second) c.taking
-          → IsWrittenBehind words c.held (λ text. HasSentPart c.taking.old text c.taking.new)
-      part p = written (λ text. HasSentPart c.taking.old text c.taking.new) p.text p.is p.part
+      part : IsPartTaken (IsWhole command g second) c.taking
+          → IsWrittenBehind words c.held IsWhole (λ text. HasSentPart c.taking.old text c.taking.new)
+      part p = written IsWhole (λ text. HasSentPart c.taking.old text c.taking.new) p.text p.is p.part
 
-      memory : (c.taking.new ≡ c.taking.old) ⊎ IsPartTaken (IsResult command g second) c.taking
+      -- a front of a text of one kind is one of either
+      plain_part : IsPartTaken (IsResult command g second) c.taking → IsPartTaken (IsWhole command g second) c.taking
+      plain_part p = record { text = p.text; is = inl p.is; part = p.part }
+
+      no_part : IsPartTaken (IsNoResult command g second) c.taking → IsPartTaken (IsWhole command g second) c.taking
+      no_part p = record { text = p.text; is = inr p.is; part = p.part }
+
+      memory : (writes : List ℕ → Type 0) → (IsPartTaken writes c.taking → IsPartTaken (IsWhole command g second)
+          c.taking)
+          → (c.taking.new ≡ c.taking.old) ⊎ IsPartTaken writes c.taking
           → (c.taking.new ≡ c.taking.old)
-          ⊎ IsWrittenBehind words c.held (λ text. HasSentPart c.taking.old text c.taking.new)
-      memory (inl e) = inl e
-      memory (inr p) = inr (part p)
+          ⊎ IsWrittenBehind words c.held IsWhole (λ text. HasSentPart c.taking.old text c.taking.new)
+      memory writes turn (inl e) = inl e
+      memory writes turn (inr p) = inr (part (turn p))
 
       by_end : FindsIn command g second ready → (s : Status) → IsEnd (IsResult command g second) c.taking s
           → IsOutcome words c s
-      by_end f Done e = (is_ready f, written (λ text. c.taking.new ≡ appended c.taking.old text) e.text e.is e.taken)
+      by_end f Done e = (
+        is_ready f,
+        written IsResult (λ text. c.taking.new ≡ appended c.taking.old text) e.text e.is e.taken,
+      )
+      by_end f No e = absurd e
       by_end f Usage e = absurd e
       by_end f (GrammarRefused word line cause) e = absurd e
       by_end f (FormRefused word cause) e = absurd e
       by_end f (LexiconRefused word cause) e = absurd e
+      by_end f (AnswerRefused word line cause) e = absurd e
       by_end f (Budget entry stage) e = absurd e
       by_end f (ReadFault word) e = absurd e
-      by_end f WriteFault e = (is_ready f, part e.0, e.1)
-      by_end f NoMemory e = ((command, are), memory e)
+      by_end f WriteFault e = (is_ready f, part (plain_part e.0), e.1)
+      by_end f NoMemory e = ((command, are), memory (IsResult command g second) plain_part e)
       by_end f (RowsRefused word row cause) e = absurd e
       by_end f (TooLong word) e = absurd e
+
+      by_no_end : FindsIn command g second ready → (s : Status) → IsNoEnd (IsNoResult command g second) c.taking s
+          → IsOutcome words c s
+      by_no_end f Done e = absurd e
+      by_no_end f No e = (
+        is_ready f,
+        written IsNoResult (λ text. c.taking.new ≡ appended c.taking.old text) e.text e.is e.taken,
+      )
+      by_no_end f Usage e = absurd e
+      by_no_end f (GrammarRefused word line cause) e = absurd e
+      by_no_end f (FormRefused word cause) e = absurd e
+      by_no_end f (LexiconRefused word cause) e = absurd e
+      by_no_end f (AnswerRefused word line cause) e = absurd e
+      by_no_end f (Budget entry stage) e = absurd e
+      by_no_end f (ReadFault word) e = absurd e
+      by_no_end f WriteFault e = (is_ready f, part (no_part e.0), e.1)
+      by_no_end f NoMemory e = ((command, are), memory (IsNoResult command g second) no_part e)
+      by_no_end f (RowsRefused word row cause) e = absurd e
+      by_no_end f (TooLong word) e = absurd e
 
       by_step : (s : Status) → IsStep (FindsIn command g second) (IsResult command g second) c.taking s
           → IsOutcome words c s
@@ -229,5 +278,6 @@ module _ (words : List (List ℕ)) (c : Change) (command : Command) (are : IsCom
         )
 
     pub by_work : (s : Status) → IsWorkOf command g c s → IsOutcome words c s
-    by_work s (inl n) = unread s n
-    by_work s (inr w) = by_step w.bytes w.holds s w.step
+    by_work s (inl (inl n)) = unread s n
+    by_work s (inl (inr w)) = by_step w.bytes w.holds s w.step
+    by_work s (inr n) = by_no_end n.bytes n.holds n.found s n.end

@@ -1,7 +1,7 @@
 -- Refusals of one step as those of a whole command.
 use Rattle.std.proofs.Common.{◌≡◌, inl, inr, ℕ, ◌<◌, List, length, Option, Some, refl, ap, sym, subst}
 use Rattle.status_lines.specs.declared.status.Status.{Status}
-use Rattle.status_lines.specs.declared.status.Status.TheVariants.{Done, Usage, GrammarRefused, FormRefused, LexiconRefused, Budget, ReadFault, WriteFault, NoMemory, RowsRefused, TooLong}
+use Rattle.status_lines.specs.declared.status.Status.TheVariants.{Done, No, Usage, GrammarRefused, FormRefused, LexiconRefused, AnswerRefused, Budget, ReadFault, WriteFault, NoMemory, RowsRefused, TooLong}
 use Rattle.grammar_reader.specs.Values.{GrammarValue}
 use Rattle.violation.specs.Problems.{Problem}
 use Rattle.otp_tool.specs.Files.{NamedFile}
@@ -9,17 +9,19 @@ use Rattle.tier_core.specs.declared.sym.Sym.{Sym}
 use Rattle.lexicon.specs.Entries.{LexicalEntry}
 use Rattle.otp_tool.specs.Grammars.{AreAsked, IsAsked}
 use Rattle.otp_tool.specs.Lexicons.{IsLexiconFile, IsSurfaceOf, forms_in}
-use Rattle.otp_tool.specs.Findings.{Finding, FindsForAnswer, FindsForHearing, FindsForOnce, FindsForTableau, long_second, no_form, no_rows, no_lexicon, over_budget}
+use Rattle.otp_tool.specs.Findings.{Finding, FindsForAnswer, FindsForHearing, FindsForOnce, FindsForTableau, long_second, no_form, no_rows, no_lexicon, no_answer, over_budget}
 use Rattle.otp_tool.specs.Steps.{Change, IsRefusal, IsSecondRefusal, IsWork, RefusesBudget, RefusesEntry, RefusesForm, RefusesLexicon, RefusesOnce, RefusesRows, RefusesSurface}
 use Rattle.otp_tool.proofs.OutcomeLemmas.{long_held, some_held, some_second}
 
 module _ (P Q : Finding → Type 0) (weaker : (x : Finding) → P x → Q x) where
   pub refusal_weaker : (s : Status) → IsRefusal P s → IsRefusal Q s
   refusal_weaker Done r = absurd r
+  refusal_weaker No r = absurd r
   refusal_weaker Usage r = absurd r
   refusal_weaker (GrammarRefused word line cause) r = absurd r
   refusal_weaker (FormRefused word cause) r = weaker (no_form word cause) r
   refusal_weaker (LexiconRefused word cause) r = (r.0, weaker (no_lexicon cause) r.1)
+  refusal_weaker (AnswerRefused word line cause) r = (r.0, weaker (no_answer line cause) r.1)
   refusal_weaker (Budget entry stage) r = weaker (over_budget entry stage) r
   refusal_weaker (ReadFault word) r = absurd r
   refusal_weaker WriteFault r = absurd r
@@ -106,10 +108,12 @@ module _ (reaches : Type 0) (finds : List ℕ → Finding → Type 0) (writes : 
         → IsSecondRefusal file (c.held file.name) (c.faults_before file.name) (c.faults_after file.name) s
         → IsWork (Some file) reaches finds writes c s
     second_refused Done r = absurd r
+    second_refused No r = absurd r
     second_refused Usage r = absurd r
     second_refused (GrammarRefused word line cause) r = absurd r
     second_refused (FormRefused word cause) r = absurd r
     second_refused (LexiconRefused word cause) r = absurd r
+    second_refused (AnswerRefused word line cause) r = absurd r
     second_refused (Budget entry stage) r = absurd r
     second_refused (ReadFault word) r = inl (record {
       file = file;

@@ -63,7 +63,7 @@ both_ok (Err e) P Q R f p q = tt
 -- ---- counting
 
 module _ (g : Grammar) where
-  same_width : length (value_of g).tiers ≡ length g.tiers.kinds.items
+  pub same_width : length (value_of g).tiers ≡ length g.tiers.kinds.items
   same_width = sym (length-map (value_of g).tiers (λ t. t.kind)) ∙ ap length (same_kinds g)
 
   -- the constraints may be counted on a timeline of the grammar
@@ -174,10 +174,15 @@ module _ (g : Grammar) where
       let second : Widths → List ℕ → Widths = λ w xs. record { free = w.free; stretches = xs } in
       ap (first a) e ∙ ap (second (first a b.free)) f
 
+  -- the widths that the shape of a grammar gives are those of each problem that is asked
+  pub same_shape_widths : (shape : Shape) → IsShapeOf g shape → (u : List (List Sym))
+      → widths_of shape ≡ text_widths (asked g.tiers g.constraints.items u)
+  same_shape_widths shape s u =
+      same_widths (widths_of shape) (text_widths (asked g.tiers g.constraints.items u))
+      (ap (λ n. n - masked_count shape.inputs) s.width ∙ free_tiers g.tiers.kinds.items shape.inputs s.inputs)
+      s.phases
+
   pub whole_written : (shape : Shape) → IsShapeOf g shape → (answer : Answer) (u : List (List Sym))
       → answer_text (widths_of shape) answer ≡ whole_text (asked g.tiers g.constraints.items u) answer
   whole_written shape s answer u =
-      ap (λ (w : Widths). answer_text w answer)
-      (same_widths (widths_of shape) (text_widths (asked g.tiers g.constraints.items u))
-      (ap (λ n. n - masked_count shape.inputs) s.width ∙ free_tiers g.tiers.kinds.items shape.inputs s.inputs)
-      s.phases)
+      ap (λ (w : Widths). answer_text w answer) (same_shape_widths shape s u)

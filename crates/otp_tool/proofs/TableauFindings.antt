@@ -8,7 +8,7 @@ use Rattle.tableau.specs.declared.rows_err.RowsCause.{RowsCause}
 use Rattle.tableau.proofs.Readings.{never_both as rows_and_refused, one_refusal as one_row}
 use Rattle.violation.specs.Problems.{Problem}
 use Rattle.otp_tool.specs.Grammars.{IsAsked, OnProblem, input_count}
-use Rattle.otp_tool.specs.Findings.{Finding, FindsForTableau, HasForm, IsNoRowsFile, IsRowsFile, long_file, no_grammar, no_form, long_second, no_rows, no_lexicon, over_budget, ready}
+use Rattle.otp_tool.specs.Findings.{Finding, FindsForTableau, HasForm, IsNoRowsFile, IsRowsFile, long_file, no_grammar, no_form, long_second, no_rows, no_lexicon, no_answer, over_budget, ready}
 use Rattle.otp_tool.specs.Steps.{IsOf, RefusesForm}
 use Rattle.otp_tool.proofs.Choices.{one_choice, one_of, too_long}
 use Rattle.otp_tool.proofs.AnswerFindings.{Over, Within, form_refused, one_form, one_in_budget, one_refused_form, refused_form}
@@ -39,6 +39,7 @@ module _ (g : GrammarValue) (form : List ℕ) (budget : ℕ) (bytes : List ℕ) 
   tableau_steps (long_second word) a = inr (inl (ap long_second a.0, a.1))
   tableau_steps (no_rows row cause) a = inr (inr (inl (record { value = (row, cause); is = refl; fact = a })))
   tableau_steps (no_lexicon cause) a = absurd a
+  tableau_steps (no_answer line cause) a = absurd a
   tableau_steps (over_budget entry stage) a =
       inr (inr (inr (inl (record { value = stage; is = ap (λ e. over_budget e stage) a.0; fact = a.1 }))))
   tableau_steps ready a = inr (inr (inr (inr (refl, a))))

@@ -8,21 +8,26 @@ use Rattle.outside.specs.declared.sink.WriteErr.{WriteErr}
 use Rattle.timeline_text.specs.declared.form_err.FormErr.{FormErr}
 use Rattle.grammar_reader.specs.declared.grammar_err.GrammarCause.{GrammarCause}
 use Rattle.tableau.specs.declared.rows_err.RowsCause.{RowsCause}
+use Rattle.answer_reader.specs.declared.answer_err.AnswerCause.{AnswerCause}
 use Rattle.lexicon.specs.declared.lex_err.LexErr.{LexErr}
 use Rattle.command_words.specs.Commands.{IsNoCommand}
 use Rattle.status_lines.specs.declared.status.Status.{Status}
-use Rattle.status_lines.specs.declared.status.Status.TheVariants.{Done, Usage, GrammarRefused, FormRefused, LexiconRefused, Budget, ReadFault, WriteFault, NoMemory, RowsRefused, TooLong}
+use Rattle.status_lines.specs.declared.status.Status.TheVariants.{Done, No, Usage, GrammarRefused, FormRefused, LexiconRefused, AnswerRefused, Budget, ReadFault, WriteFault, NoMemory, RowsRefused, TooLong}
 use Rattle.status_lines.specs.Lines.{status_number, status_text}
-use Rattle.otp_tool.specs.Findings.{Finding, no_grammar, no_form, no_rows, no_lexicon, over_budget, ready}
+use Rattle.otp_tool.specs.Findings.{Finding, no_grammar, no_form, no_rows, no_lexicon, no_answer, over_budget, ready}
 use Rattle.otp_tool.specs.Outcomes.{HasReadFault, IsBeforeWriting, IsBehind, IsTold, IsTooLong, IsWrittenBehind, Stands, answer_to}
+use Rattle.otp_tool.specs.Results.{IsNoResult, IsResult, IsWhole}
 use Rattle.otp_tool.specs.Steps.{Change}
 
 -- all that `run` promises of a status
 pub record IsStatusOf (words : List (List ℕ)) (c : Change) (status : Status) : Type 0 where
-  pub done : status ≡ Done → IsWrittenBehind words c.held (λ text. c.taking.new ≡ appended c.taking.old text)
+  pub done : status ≡ Done
+      → IsWrittenBehind words c.held IsResult (λ text. c.taking.new ≡ appended c.taking.old text)
+  pub no : status ≡ No
+      → IsWrittenBehind words c.held IsNoResult (λ text. c.taking.new ≡ appended c.taking.old text)
   pub complete : IsTold words c.held ready
       → ((word : ℕ) → ¬ HasReadFault words c.held c.faults_before c.faults_after word)
-      → ¬ Rose c.taking.before c.taking.after → (status ≡ Done) ⊎ (status ≡ NoMemory)
+      → ¬ Rose c.taking.before c.taking.after → (status ≡ Done) ⊎ ((status ≡ No) ⊎ (status ≡ NoMemory))
   pub usage : (status ≡ Usage) ↔ IsNoCommand words
   pub read_fault : (word : ℕ) → status ≡ ReadFault word
       → HasReadFault words c.held c.faults_before c.faults_after word
@@ -35,14 +40,16 @@ pub record IsStatusOf (words : List (List ℕ)) (c : Change) (status : Status) :
       → (word ≡ 3) × IsBehind words c.held (no_rows row cause)
   pub lexicon_refused : (word : ℕ) (cause : LexErr) → status ≡ LexiconRefused word cause
       → (word ≡ 2) × IsBehind words c.held (no_lexicon cause)
+  pub answer_refused : (word line : ℕ) (cause : AnswerCause) → status ≡ AnswerRefused word line cause
+      → (word ≡ 2) × IsBehind words c.held (no_answer line cause)
   pub budget : (entry stage : ℕ) → status ≡ Budget entry stage → IsBehind words c.held (over_budget entry stage)
   pub write_fault : status ≡ WriteFault → IsBehind words c.held ready × Rose c.taking.before c.taking.after
   pub due : (finding : Finding) → finding ≢ ready → IsTold words c.held finding → Stands (answer_to finding) status
   pub untouched : IsBeforeWriting status → c.taking.new ≡ c.taking.old
   pub begun : status ≡ WriteFault
-      → IsWrittenBehind words c.held (λ text. HasSentPart c.taking.old text c.taking.new)
+      → IsWrittenBehind words c.held IsWhole (λ text. HasSentPart c.taking.old text c.taking.new)
   pub no_memory : status ≡ NoMemory → (c.taking.new ≡ c.taking.old)
-      ⊎ IsWrittenBehind words c.held (λ text. HasSentPart c.taking.old text c.taking.new)
+      ⊎ IsWrittenBehind words c.held IsWhole (λ text. HasSentPart c.taking.old text c.taking.new)
 
 -- the number is that of a status of these words, and a second sink was given the line of that status
 pub record IsEnding {E : Type 0} (words : List (List ℕ)) (c : Change) (errors : SinkGhosts E) (old new : E)

@@ -1,6 +1,6 @@
 -- The files that commands name, and what a shelf may hold under their names.
 use Rattle.std.specs.Prelude.{◌≡◌, ℕ, List, Option, Some, None}
-use Rattle.command_words.specs.Commands.{Command, canon, score, generate, show, tableau, once, comprehend, grammar_of}
+use Rattle.command_words.specs.Commands.{Command, canon, score, generate, show, tableau, once, comprehend, check, grammar_of}
 
 pub record NamedFile : Type 0 where
   -- the number of the word that names it
@@ -15,6 +15,9 @@ grammar_file command = record { word = 1; name = grammar_of command; limit = 655
 abbrev pub rows_file : List ℕ → NamedFile
 rows_file name = record { word = 3; name = name; limit = 4194304 }
 
+abbrev pub answer_file : List ℕ → NamedFile
+answer_file name = record { word = 2; name = name; limit = 268435456 }
+
 abbrev pub lexicon_file : List ℕ → NamedFile
 lexicon_file name = record { word = 2; name = name; limit = 4194304 }
 
@@ -27,6 +30,7 @@ second_file (show name form budget) = None
 second_file (tableau name form rows budget) = Some (rows_file rows)
 second_file (once name form budget) = None
 second_file (comprehend name lexicon surface budget) = Some (lexicon_file lexicon)
+second_file (check name answer) = Some (answer_file answer)
 
 -- bytes are those that a shelf tells; where it tells nothing, they may be any
 abbrev pub IsHeld : Option (List ℕ) → List ℕ → Type 0

@@ -9,12 +9,14 @@ use Rattle.grammar_reader.specs.Reading.{grammar_of}
 use Rattle.ranked_gen.specs.Budgets.{AreAllWithin, IsFirstOver}
 use Rattle.tableau.specs.declared.rows_err.RowsCause.{RowsCause}
 use Rattle.tableau.specs.Rows.{AreRowsOf, IsRefusedAt}
-use Rattle.command_words.specs.Commands.{Command, canon, score, generate, show, tableau, once, comprehend}
+use Rattle.command_words.specs.Commands.{Command, canon, score, generate, show, tableau, once, comprehend, check}
 use Rattle.form_reader.specs.Forms.{IsReadAs, IsRefusedFor}
 use Rattle.lexicon.specs.declared.lex_err.LexErr.{LexErr}
 use Rattle.comprehend.specs.Hears.{AreEntriesWithin, IsFirstEntryOver}
 use Rattle.violation.specs.Problems.{Problem, last_stage}
 use Rattle.violation.specs.Rests.{AreWholeKindsOver, AreWholeKindsWithin}
+use Rattle.answer_reader.specs.declared.answer_err.AnswerCause.{AnswerCause}
+use Rattle.otp_tool.specs.Answers.{HasAnswer, IsNoAnswer}
 use Rattle.otp_tool.specs.Scored.{IsNotScored, IsScored}
 use Rattle.otp_tool.specs.Grammars.{IsAsked, OnGrammar, OnProblem, input_count}
 use Rattle.otp_tool.specs.Lexicons.{HasSurfaceWord, IsNoLexiconFile, IsNoSurface, OnLexicon, forms_in}
@@ -32,6 +34,8 @@ pub data Finding : Type 0 where
   no_rows : ℕ → RowsCause → Finding
   -- the second file is no lexicon, for a cause
   no_lexicon : LexErr → Finding
+  -- the second file is no answer: its first line that has a cause, and the cause
+  no_answer : ℕ → AnswerCause → Finding
   -- of this entry, which is 0 where there is one form, this stage is the first with more kinds than the budget
   over_budget : ℕ → ℕ → Finding
   -- nothing is refused
@@ -72,6 +76,7 @@ FindsForCanon (no_form word cause) = ⊥
 FindsForCanon (long_second word) = ⊥
 FindsForCanon (no_rows row cause) = ⊥
 FindsForCanon (no_lexicon cause) = ⊥
+FindsForCanon (no_answer line cause) = ⊥
 FindsForCanon (over_budget entry stage) = ⊥
 FindsForCanon ready = Unit {0}
 
@@ -83,6 +88,7 @@ FindsForScore g word (no_form number cause) = (number ≡ 2) × IsNotScored (len
 FindsForScore g word (long_second number) = ⊥
 FindsForScore g word (no_rows row cause) = ⊥
 FindsForScore g word (no_lexicon cause) = ⊥
+FindsForScore g word (no_answer line cause) = ⊥
 FindsForScore g word (over_budget entry stage) = ⊥
 FindsForScore g word ready = (T : List (List Sym)) × IsScored (length g.tiers) word T
 
@@ -94,6 +100,7 @@ FindsForAnswer g form budget (no_form word cause) = (word ≡ 2) × IsRefusedFor
 FindsForAnswer g form budget (long_second word) = ⊥
 FindsForAnswer g form budget (no_rows row cause) = ⊥
 FindsForAnswer g form budget (no_lexicon cause) = ⊥
+FindsForAnswer g form budget (no_answer line cause) = ⊥
 FindsForAnswer g form budget (over_budget entry stage) = (entry ≡ 0) × IsOverBudget g form budget stage
 FindsForAnswer g form budget ready = IsWithinBudget g form budget
 
@@ -106,6 +113,7 @@ FindsForTableau g form budget bytes (no_form word cause) =
 FindsForTableau g form budget bytes (long_second word) = (word ≡ 3) × (HasForm g form × (4194304 < length bytes))
 FindsForTableau g form budget bytes (no_rows row cause) = OnProblem (IsNoRowsFile bytes row cause) g form
 FindsForTableau g form budget bytes (no_lexicon cause) = ⊥
+FindsForTableau g form budget bytes (no_answer line cause) = ⊥
 FindsForTableau g form budget bytes (over_budget entry stage) =
     (entry ≡ 0) × OnProblem (λ problem. IsRowsFile bytes problem × IsFirstOver problem budget stage) g form
 FindsForTableau g form budget bytes ready =
@@ -119,6 +127,7 @@ FindsForOnce g form budget (no_form word cause) = (word ≡ 2) × IsRefusedFor (
 FindsForOnce g form budget (long_second word) = ⊥
 FindsForOnce g form budget (no_rows row cause) = ⊥
 FindsForOnce g form budget (no_lexicon cause) = ⊥
+FindsForOnce g form budget (no_answer line cause) = ⊥
 FindsForOnce g form budget (over_budget entry stage) =
     (entry ≡ 0) × OnProblem (λ problem. (stage ≡ last_stage problem) × AreWholeKindsOver problem budget) g form
 FindsForOnce g form budget ready = OnProblem (λ problem. AreWholeKindsWithin problem budget) g form
@@ -132,10 +141,23 @@ FindsForHearing g surface budget bytes (long_second word) =
     (word ≡ 2) × (HasSurfaceWord g surface × (4194304 < length bytes))
 FindsForHearing g surface budget bytes (no_rows row cause) = ⊥
 FindsForHearing g surface budget bytes (no_lexicon cause) = HasSurfaceWord g surface × IsNoLexiconFile g bytes cause
+FindsForHearing g surface budget bytes (no_answer line cause) = ⊥
 FindsForHearing g surface budget bytes (over_budget entry stage) =
     OnLexicon (λ ask entries s. IsFirstEntryOver ask (forms_in entries) budget entry stage) g surface bytes
 FindsForHearing g surface budget bytes ready =
     OnLexicon (λ ask entries s. AreEntriesWithin ask (forms_in entries) budget) g surface bytes
+
+-- what `check` finds in a grammar and the bytes of an answer's file
+abbrev pub FindsForCheck : GrammarValue → List ℕ → Finding → Type 0
+FindsForCheck g bytes long_file = ⊥
+FindsForCheck g bytes (no_grammar line cause) = ⊥
+FindsForCheck g bytes (no_form word cause) = ⊥
+FindsForCheck g bytes (long_second word) = (word ≡ 2) × (268435456 < length bytes)
+FindsForCheck g bytes (no_rows row cause) = ⊥
+FindsForCheck g bytes (no_lexicon cause) = ⊥
+FindsForCheck g bytes (no_answer line cause) = IsNoAnswer g bytes line cause
+FindsForCheck g bytes (over_budget entry stage) = ⊥
+FindsForCheck g bytes ready = HasAnswer g bytes
 
 -- what a command finds in its grammar, where these are the bytes of its second file
 abbrev pub FindsIn : Command → GrammarValue → List ℕ → Finding → Type 0
@@ -146,6 +168,7 @@ FindsIn (show name form budget) g second finding = FindsForAnswer g form budget 
 FindsIn (tableau name form rows budget) g second finding = FindsForTableau g form budget second finding
 FindsIn (once name form budget) g second finding = FindsForOnce g form budget finding
 FindsIn (comprehend name lexicon surface budget) g second finding = FindsForHearing g surface budget second finding
+FindsIn (check name answer) g second finding = FindsForCheck g second finding
 
 -- what a command finds, where these are the bytes of its grammar's file and of its second file
 abbrev pub Finds : Command → List ℕ → List ℕ → Finding → Type 0
@@ -156,6 +179,8 @@ Finds command bytes second (no_form word cause) = OnGrammar (λ g. FindsIn comma
 Finds command bytes second (long_second word) = OnGrammar (λ g. FindsIn command g second (long_second word)) bytes
 Finds command bytes second (no_rows row cause) = OnGrammar (λ g. FindsIn command g second (no_rows row cause)) bytes
 Finds command bytes second (no_lexicon cause) = OnGrammar (λ g. FindsIn command g second (no_lexicon cause)) bytes
+Finds command bytes second (no_answer line cause) =
+    OnGrammar (λ g. FindsIn command g second (no_answer line cause)) bytes
 Finds command bytes second (over_budget entry stage) =
     OnGrammar (λ g. FindsIn command g second (over_budget entry stage)) bytes
 Finds command bytes second ready = OnGrammar (λ g. FindsIn command g second ready) bytes
@@ -169,3 +194,4 @@ Reaches (show name form budget) g = Unit {0}
 Reaches (tableau name form rows budget) g = HasForm g form
 Reaches (once name form budget) g = Unit {0}
 Reaches (comprehend name lexicon surface budget) g = HasSurfaceWord g surface
+Reaches (check name answer) g = Unit {0}

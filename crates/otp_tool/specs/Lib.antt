@@ -7,3 +7,4 @@ pub mod Findings
 pub mod Outcomes
 pub mod Steps
 pub mod Endings
+pub mod Answers

@@ -1,13 +1,13 @@
 -- What stands behind a status.
 use Rattle.std.specs.Prelude.{◌≡◌, ℕ, ◌⊎◌, List, Option, Some}
 use Rattle.outside.specs.Faults.{Rose}
+use Rattle.grammar_reader.specs.Values.{GrammarValue}
 use Rattle.command_words.specs.Commands.{Command, IsCommand, grammar_of as file_of}
 use Rattle.status_lines.specs.declared.status.Status.{Status}
-use Rattle.status_lines.specs.declared.status.Status.TheVariants.{Done, Usage, GrammarRefused, FormRefused, LexiconRefused, Budget, ReadFault, WriteFault, NoMemory, RowsRefused, TooLong}
+use Rattle.status_lines.specs.declared.status.Status.TheVariants.{Done, No, Usage, GrammarRefused, FormRefused, LexiconRefused, AnswerRefused, Budget, ReadFault, WriteFault, NoMemory, RowsRefused, TooLong}
 use Rattle.otp_tool.specs.Files.{IsHeld, IsSecondHeld, NamedFile, grammar_file, second_file}
 use Rattle.otp_tool.specs.Grammars.{OnGrammar}
-use Rattle.otp_tool.specs.Findings.{Finding, Finds, Reaches, long_file, no_grammar, no_form, long_second, no_rows, no_lexicon, over_budget, ready}
-use Rattle.otp_tool.specs.Results.{IsResult}
+use Rattle.otp_tool.specs.Findings.{Finding, Finds, Reaches, long_file, no_grammar, no_form, long_second, no_rows, no_lexicon, no_answer, over_budget, ready}
 
 -- The words are a command, and these are bytes that the shelf may hold under the names of its grammar
 -- and of its second file: those that it tells, and any where it does not tell.
@@ -31,15 +31,15 @@ pub record IsTold (words : List (List ℕ)) (held : List ℕ → Option (List �
   pub are : IsCommand words command
   pub finds : (bytes second : List ℕ) → MayRead words held command bytes second → Finds command bytes second finding
 
--- the words are a command, and something holds of a text that it writes for bytes that the shelf may hold
-pub record IsWrittenBehind (words : List (List ℕ)) (held : List ℕ → Option (List ℕ)) (P : List ℕ
-    → Type 0) : Type 0 where
+-- the words are a command, and something holds of a text of this kind that it writes for bytes that the shelf may hold
+pub record IsWrittenBehind (words : List (List ℕ)) (held : List ℕ → Option (List ℕ))
+    (writes : Command → GrammarValue → List ℕ → List ℕ → Type 0) (P : List ℕ → Type 0) : Type 0 where
   pub command : Command
   pub bytes : List ℕ
   pub second : List ℕ
   pub reads : MayRead words held command bytes second
   pub text : List ℕ
-  pub result : OnGrammar (λ g. IsResult command g second text) bytes
+  pub result : OnGrammar (λ g. writes command g second text) bytes
   pub fact : P text
 
 -- a command accepts all that stands before its second file
@@ -82,6 +82,7 @@ answer_to (no_form word cause) = FormRefused word cause
 answer_to (long_second word) = TooLong word
 answer_to (no_rows row cause) = RowsRefused 3 row cause
 answer_to (no_lexicon cause) = LexiconRefused 2 cause
+answer_to (no_answer line cause) = AnswerRefused 2 line cause
 answer_to (over_budget entry stage) = Budget entry stage
 answer_to ready = Done
 
@@ -92,10 +93,12 @@ Stands due status = (status ≡ due) ⊎ ((status ≡ NoMemory) ⊎ ((word : ℕ
 -- a status that comes before anything is written
 abbrev pub IsBeforeWriting : Status → Type 0
 IsBeforeWriting Done = ⊥
+IsBeforeWriting No = ⊥
 IsBeforeWriting Usage = Unit {0}
 IsBeforeWriting (GrammarRefused word line cause) = Unit {0}
 IsBeforeWriting (FormRefused word cause) = Unit {0}
 IsBeforeWriting (LexiconRefused word cause) = Unit {0}
+IsBeforeWriting (AnswerRefused word line cause) = Unit {0}
 IsBeforeWriting (Budget entry stage) = Unit {0}
 IsBeforeWriting (ReadFault word) = Unit {0}
 IsBeforeWriting WriteFault = ⊥

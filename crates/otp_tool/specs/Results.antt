@@ -1,5 +1,5 @@
 -- What the commands write for a grammar.
-use Rattle.std.specs.Prelude.{◌≡◌, ℕ, List, map, length, filter}
+use Rattle.std.specs.Prelude.{◌≡◌, ◌⊎◌, ℕ, List, map, length, filter}
 use Rattle.tier_core.specs.declared.sym.Sym.{Sym}
 use Rattle.grammar_reader.specs.Values.{GrammarValue}
 use Rattle.grammar_reader.specs.Canonical.{canonical}
@@ -9,7 +9,7 @@ use Rattle.answer_text.specs.declared.answer.Answer.{Answer}
 use Rattle.answer_text.specs.Right.{IsRight}
 use Rattle.answer_text.specs.Text.{Widths, answer_text, counts_text, shown_text}
 use Rattle.kind_orders.specs.JoinedArcs.{HaveJoinedArcs}
-use Rattle.command_words.specs.Commands.{Command, canon, score, generate, show, tableau, once, comprehend}
+use Rattle.command_words.specs.Commands.{Command, canon, score, generate, show, tableau, once, comprehend, check}
 use Rattle.tier_core.specs.Sides.{is_stretch}
 use Rattle.answer_text.specs.declared.once_answer.OnceAnswer.{OnceAnswer}
 use Rattle.answer_text.specs.OnceText.{OnceWidths, once_text}
@@ -19,6 +19,9 @@ use Rattle.comprehend.specs.declared.hit.Hit.{Hit}
 use Rattle.comprehend.specs.Hears.{Hears}
 use Rattle.comprehend.specs.HitText.{hits_text}
 use Rattle.violation.specs.Problems.{Problem, last_stage}
+use Rattle.cert_check.specs.declared.fault.Fault.{Fault}
+use Rattle.cert_check.specs.declared.fault.Verdict.TheVariants.{Yes, No}
+use Rattle.otp_tool.specs.Answers.{IsVerdictText}
 use Rattle.otp_tool.specs.Scored.{IsScored}
 use Rattle.std.specs.Str.Lines.{lines}
 use Rattle.tableau.specs.declared.table.Tableau.{Tableau}
@@ -98,7 +101,16 @@ pub record IsTextOfHeard (text : List ℕ) (ask : List (List Sym) → Problem) (
 abbrev pub IsHeardText : GrammarValue → List ℕ → List ℕ → List ℕ → Type 0
 IsHeardText g surface bytes text = OnLexicon (IsTextOfHeard text) g surface bytes
 
--- A text is what a command writes for a grammar, where these are the bytes of its second file.
+-- a text is the verdict Yes on an answer that bytes are read as
+abbrev pub IsYesText : GrammarValue → List ℕ → List ℕ → Type 0
+IsYesText g bytes text = IsVerdictText text_widths Yes g bytes text
+
+-- a text is the verdict No with the fault that comes first
+abbrev pub IsNoText : GrammarValue → List ℕ → List ℕ → Type 0
+IsNoText g bytes text = (fault : Fault) × IsVerdictText text_widths (No fault) g bytes text
+
+-- A text is what a command writes for a grammar if it does everything that it is asked, where these are the bytes of
+-- its second file.
 abbrev pub IsResult : Command → GrammarValue → List ℕ → List ℕ → Type 0
 IsResult (canon name) g second text = text ≡ canonical g
 IsResult (score name word) g second text = IsScoreText g word text
@@ -107,3 +119,19 @@ IsResult (show name form budget) g second text = IsOfRightAnswer short_text g fo
 IsResult (tableau name form rows budget) g second text = IsTableauText g form second text
 IsResult (once name form budget) g second text = IsOnceText g form text
 IsResult (comprehend name lexicon surface budget) g second text = IsHeardText g surface second text
+IsResult (check name answer) g second text = IsYesText g second text
+
+-- a text is what a command writes that does everything, and says No
+abbrev pub IsNoResult : Command → GrammarValue → List ℕ → List ℕ → Type 0
+IsNoResult (canon name) g second text = ⊥
+IsNoResult (score name word) g second text = ⊥
+IsNoResult (generate name form budget) g second text = ⊥
+IsNoResult (show name form budget) g second text = ⊥
+IsNoResult (tableau name form rows budget) g second text = ⊥
+IsNoResult (once name form budget) g second text = ⊥
+IsNoResult (comprehend name lexicon surface budget) g second text = ⊥
+IsNoResult (check name answer) g second text = IsNoText g second text
+
+-- one or the other
+abbrev pub IsWhole : Command → GrammarValue → List ℕ → List ℕ → Type 0
+IsWhole command g second text = IsResult command g second text ⊎ IsNoResult command g second text

@@ -14,15 +14,20 @@ use Rattle.violation.specs.Rests.{AreWholeKindsOver}
 use Rattle.comprehend.specs.Hears.{IsFirstEntryOver}
 use Rattle.answer_text.specs.declared.answer.Answer.{Answer}
 use Rattle.answer_text.specs.Right.{IsRight}
+use Rattle.tier_core.specs.declared.shape.Shape.{Shape}
+use Rattle.answer_reader.specs.Reading.{answer_of}
+use Rattle.answer_reader.specs.Steps.{At}
+use Rattle.cert_check.specs.declared.fault.Verdict.{Verdict}
+use Rattle.cert_check.specs.declared.fault.Verdict.TheVariants.{Yes, No as Not}
 use Rattle.kind_orders.specs.JoinedArcs.{HaveJoinedArcs}
 use Rattle.ranked_gen.specs.Budgets.{AreAllWithin, IsFirstOver}
 use Rattle.grammar_reader.specs.declared.grammar_err.GrammarCause.{GrammarCause}
 use Rattle.grammar_reader.specs.Values.{GrammarValue}
 use Rattle.grammar_reader.specs.Reading.{grammar_of}
-use Rattle.command_words.specs.Commands.{Command, IsCommand, IsNoCommand, canon, score, generate, show, tableau, once, comprehend}
+use Rattle.command_words.specs.Commands.{Command, IsCommand, IsNoCommand, canon, score, generate, show, tableau, once, comprehend, check}
 use Rattle.status_lines.specs.declared.status.Status.{Status}
-use Rattle.status_lines.specs.declared.status.Status.TheVariants.{Done, Usage, GrammarRefused, FormRefused, LexiconRefused, Budget, ReadFault, WriteFault, NoMemory, RowsRefused, TooLong}
-use Rattle.otp_tool.specs.Files.{IsHeld, IsSecondHeld, NamedFile, lexicon_file, rows_file, second_file}
+use Rattle.status_lines.specs.declared.status.Status.TheVariants.{Done, No, Usage, GrammarRefused, FormRefused, LexiconRefused, AnswerRefused, Budget, ReadFault, WriteFault, NoMemory, RowsRefused, TooLong}
+use Rattle.otp_tool.specs.Files.{IsHeld, IsSecondHeld, NamedFile, answer_file, lexicon_file, rows_file, second_file}
 use Rattle.std.specs.Str.Lines.{lines}
 use Rattle.form_reader.specs.Forms.{IsRefusedFor}
 use Rattle.tableau.specs.declared.rows_err.RowsCause.{RowsCause}
@@ -30,9 +35,9 @@ use Rattle.tableau.specs.declared.table.Tableau.{Tableau}
 use Rattle.tableau.specs.Rows.{AreRowsOf}
 use Rattle.tableau.specs.Tableaux.{IsTableauOf}
 use Rattle.otp_tool.specs.Grammars.{IsFileOf, IsAsked, input_count}
-use Rattle.otp_tool.specs.Findings.{Finding, FindsIn, FindsForHearing, FindsForTableau, HasForm, IsNoRowsFile, IsRowsFile, Reaches, no_grammar, no_form, long_second, no_rows, no_lexicon, over_budget, ready}
+use Rattle.otp_tool.specs.Findings.{Finding, FindsIn, FindsForCheck, FindsForHearing, FindsForTableau, HasForm, IsNoRowsFile, IsRowsFile, Reaches, no_grammar, no_form, long_second, no_rows, no_lexicon, no_answer, over_budget, ready}
 use Rattle.otp_tool.specs.Lexicons.{HasSurfaceWord, IsNoLexiconFile, IsNoSurface}
-use Rattle.otp_tool.specs.Results.{IsHeardText, IsResult, IsTableauText}
+use Rattle.otp_tool.specs.Results.{IsHeardText, IsNoResult, IsNoText, IsResult, IsTableauText, IsWhole, IsYesText}
 use Rattle.otp_tool.specs.Outcomes.{IsBehind, IsTooLong, IsWrittenBehind, HasReadFault}
 
 -- the budget of a command is from 1 to 65,536
@@ -44,6 +49,7 @@ HasFitBudget (show name form budget) = (1 ≤ budget) × (budget ≤ 65536)
 HasFitBudget (tableau name form rows budget) = (1 ≤ budget) × (budget ≤ 65536)
 HasFitBudget (once name form budget) = (1 ≤ budget) × (budget ≤ 65536)
 HasFitBudget (comprehend name lexicon surface budget) = (1 ≤ budget) × (budget ≤ 65536)
+HasFitBudget (check name answer) = Unit {0}
 
 -- a grammar is that of a file that is held
 pub record IsLoaded (held : Option (List ℕ)) (g : GrammarValue) : Type 0 where
@@ -60,10 +66,12 @@ pub record IsUnread (held : Option (List ℕ)) (line : ℕ) (cause : GrammarCaus
 
 abbrev pub IsLoadRefusal : Option (List ℕ) → ℕ → ℕ → Status → Type 0
 IsLoadRefusal held before after Done = ⊥
+IsLoadRefusal held before after No = ⊥
 IsLoadRefusal held before after Usage = ⊥
 IsLoadRefusal held before after (GrammarRefused word line cause) = (word ≡ 1) × IsUnread held line cause
 IsLoadRefusal held before after (FormRefused word cause) = ⊥
 IsLoadRefusal held before after (LexiconRefused word cause) = ⊥
+IsLoadRefusal held before after (AnswerRefused word line cause) = ⊥
 IsLoadRefusal held before after (Budget entry stage) = ⊥
 IsLoadRefusal held before after (ReadFault word) = (word ≡ 1) × Rose before after
 IsLoadRefusal held before after WriteFault = ⊥
@@ -74,10 +82,12 @@ IsLoadRefusal held before after (TooLong word) = (word ≡ 1) × IfSome held (λ
 -- why a second file is not loaded
 abbrev pub IsSecondRefusal : NamedFile → Option (List ℕ) → ℕ → ℕ → Status → Type 0
 IsSecondRefusal file held before after Done = ⊥
+IsSecondRefusal file held before after No = ⊥
 IsSecondRefusal file held before after Usage = ⊥
 IsSecondRefusal file held before after (GrammarRefused word line cause) = ⊥
 IsSecondRefusal file held before after (FormRefused word cause) = ⊥
 IsSecondRefusal file held before after (LexiconRefused word cause) = ⊥
+IsSecondRefusal file held before after (AnswerRefused word line cause) = ⊥
 IsSecondRefusal file held before after (Budget entry stage) = ⊥
 IsSecondRefusal file held before after (ReadFault word) = (word ≡ file.word) × Rose before after
 IsSecondRefusal file held before after WriteFault = ⊥
@@ -89,10 +99,12 @@ IsSecondRefusal file held before after (TooLong word) =
 -- why nothing is made, before anything is written
 abbrev pub IsRefusal : (Finding → Type 0) → Status → Type 0
 IsRefusal finds Done = ⊥
+IsRefusal finds No = ⊥
 IsRefusal finds Usage = ⊥
 IsRefusal finds (GrammarRefused word line cause) = ⊥
 IsRefusal finds (FormRefused word cause) = finds (no_form word cause)
 IsRefusal finds (LexiconRefused word cause) = (word ≡ 2) × finds (no_lexicon cause)
+IsRefusal finds (AnswerRefused word line cause) = (word ≡ 2) × finds (no_answer line cause)
 IsRefusal finds (Budget entry stage) = finds (over_budget entry stage)
 IsRefusal finds (ReadFault word) = ⊥
 IsRefusal finds WriteFault = ⊥
@@ -131,6 +143,11 @@ RefusesLexicon g bytes = IsOf no_lexicon (IsNoLexiconFile g bytes)
 abbrev pub RefusesEntry : (List (List Sym) → Problem) → List (List (List Sym)) → ℕ → Finding → Type 0
 RefusesEntry ask forms budget =
     IsOf (λ (at : ℕ × ℕ). over_budget at.0 at.1) (λ at. IsFirstEntryOver ask forms budget at.0 at.1)
+
+-- bytes are those of no answer, for a shape
+abbrev pub RefusesAnswer : Shape → List ℕ → Finding → Type 0
+RefusesAnswer shape bytes =
+    IsOf (λ (at : At). no_answer at.line at.cause) (λ at. answer_of shape bytes ≡ Err at)
 
 -- a file is no rows file for a problem
 abbrev pub RefusesFile : Problem → List ℕ → Finding → Type 0
@@ -190,16 +207,44 @@ end_of (Err NoRoom) = NoMemory
 -- how the writing of a text ends
 abbrev pub IsEnd : (List ℕ → Type 0) → Taking → Status → Type 0
 IsEnd writes t Done = IsAllTaken writes t
+IsEnd writes t No = ⊥
 IsEnd writes t Usage = ⊥
 IsEnd writes t (GrammarRefused word line cause) = ⊥
 IsEnd writes t (FormRefused word cause) = ⊥
 IsEnd writes t (LexiconRefused word cause) = ⊥
+IsEnd writes t (AnswerRefused word line cause) = ⊥
 IsEnd writes t (Budget entry stage) = ⊥
 IsEnd writes t (ReadFault word) = ⊥
 IsEnd writes t WriteFault = IsPartTaken writes t × Rose t.before t.after
 IsEnd writes t NoMemory = (t.new ≡ t.old) ⊎ IsPartTaken writes t
 IsEnd writes t (RowsRefused word row cause) = ⊥
 IsEnd writes t (TooLong word) = ⊥
+
+-- how the writing of a text ends that says No
+abbrev pub no_end_of : {A : Type 0} → Result A WriteErr → Status
+no_end_of (Ok done) = No
+no_end_of (Err Failed) = WriteFault
+no_end_of (Err NoRoom) = NoMemory
+
+-- the status that the writing of a verdict ends with
+abbrev pub verdict_end : {A : Type 0} → Verdict → Result A WriteErr → Status
+verdict_end Yes written = end_of written
+verdict_end (Not fault) written = no_end_of written
+
+abbrev pub IsNoEnd : (List ℕ → Type 0) → Taking → Status → Type 0
+IsNoEnd writes t Done = ⊥
+IsNoEnd writes t No = IsAllTaken writes t
+IsNoEnd writes t Usage = ⊥
+IsNoEnd writes t (GrammarRefused word line cause) = ⊥
+IsNoEnd writes t (FormRefused word cause) = ⊥
+IsNoEnd writes t (LexiconRefused word cause) = ⊥
+IsNoEnd writes t (AnswerRefused word line cause) = ⊥
+IsNoEnd writes t (Budget entry stage) = ⊥
+IsNoEnd writes t (ReadFault word) = ⊥
+IsNoEnd writes t WriteFault = IsPartTaken writes t × Rose t.before t.after
+IsNoEnd writes t NoMemory = (t.new ≡ t.old) ⊎ IsPartTaken writes t
+IsNoEnd writes t (RowsRefused word row cause) = ⊥
+IsNoEnd writes t (TooLong word) = ⊥
 
 -- what a command does with a grammar: it refuses and writes nothing, or it is ready and writes
 abbrev pub IsStep : (Finding → Type 0) → (List ℕ → Type 0) → Taking → Status → Type 0
@@ -243,9 +288,30 @@ abbrev pub IsWork : Option NamedFile → Type 0 → (List ℕ → Finding → Ty
 IsWork second reaches finds writes c status = IsNotRead second reaches c status
     ⊎ IsStepWith second finds writes c status
 
+-- a command that looks at bytes of a second file, which may be held, is ready, and writes a text that says No
+pub record IsNoWork (second : Option NamedFile) (finds : List ℕ → Finding → Type 0) (writes : List ℕ → List ℕ
+    → Type 0)
+    (c : Change) (status : Status) : Type 0 where
+  pub bytes : List ℕ
+  pub holds : IsSecondHeld c.held second bytes
+  pub found : finds bytes ready
+  pub end : IsNoEnd (writes bytes) c.taking status
+
 abbrev pub IsWorkOf : Command → GrammarValue → Change → Status → Type 0
 IsWorkOf command g c status =
     IsWork (second_file command) (Reaches command g) (FindsIn command g) (IsResult command g) c status
+    ⊎ IsNoWork (second_file command) (FindsIn command g) (IsNoResult command g) c status
+
+-- what `check` does with a grammar and the bytes of an answer's file
+abbrev pub IsCheckStep : GrammarValue → List ℕ → Taking → Status → Type 0
+IsCheckStep g bytes t status =
+    IsStep (FindsForCheck g bytes) (IsYesText g bytes) t status
+    ⊎ (FindsForCheck g bytes ready × IsNoEnd (IsNoText g bytes) t status)
+
+abbrev pub IsCheckWork : GrammarValue → List ℕ → Change → Status → Type 0
+IsCheckWork g answer c status =
+    IsWork (Some (answer_file answer)) (Unit {0}) (FindsForCheck g) (IsYesText g) c status
+    ⊎ IsNoWork (Some (answer_file answer)) (FindsForCheck g) (IsNoText g) c status
 
 abbrev pub IsTableauWork : GrammarValue → List ℕ → List ℕ → ℕ → Change → Status → Type 0
 IsTableauWork g form rows budget c status =
@@ -259,7 +325,11 @@ IsHearingWork g lexicon surface budget c status =
 -- what stands behind each status of a command
 abbrev pub IsOutcome : List (List ℕ) → Change → Status → Type 0
 IsOutcome words c Done =
-    IsBehind words c.held ready × IsWrittenBehind words c.held (λ text. c.taking.new ≡ appended c.taking.old text)
+    IsBehind words c.held ready
+    × IsWrittenBehind words c.held IsResult (λ text. c.taking.new ≡ appended c.taking.old text)
+IsOutcome words c No =
+    IsBehind words c.held ready
+    × IsWrittenBehind words c.held IsNoResult (λ text. c.taking.new ≡ appended c.taking.old text)
 IsOutcome words c Usage = IsNoCommand words × (c.taking.new ≡ c.taking.old)
 IsOutcome words c (GrammarRefused word line cause) =
     (word ≡ 1) × IsBehind words c.held (no_grammar line cause) × (c.taking.new ≡ c.taking.old)
@@ -267,18 +337,20 @@ IsOutcome words c (FormRefused word cause) =
     IsBehind words c.held (no_form word cause) × (c.taking.new ≡ c.taking.old)
 IsOutcome words c (LexiconRefused word cause) =
     (word ≡ 2) × IsBehind words c.held (no_lexicon cause) × (c.taking.new ≡ c.taking.old)
+IsOutcome words c (AnswerRefused word line cause) =
+    (word ≡ 2) × IsBehind words c.held (no_answer line cause) × (c.taking.new ≡ c.taking.old)
 IsOutcome words c (Budget entry stage) =
     IsBehind words c.held (over_budget entry stage) × (c.taking.new ≡ c.taking.old)
 IsOutcome words c (ReadFault word) =
     HasReadFault words c.held c.faults_before c.faults_after word × (c.taking.new ≡ c.taking.old)
 IsOutcome words c WriteFault =
     IsBehind words c.held ready
-    × IsWrittenBehind words c.held (λ text. HasSentPart c.taking.old text c.taking.new)
+    × IsWrittenBehind words c.held IsWhole (λ text. HasSentPart c.taking.old text c.taking.new)
     × Rose c.taking.before c.taking.after
 IsOutcome words c NoMemory =
     ((command : Command) × IsCommand words command)
     × ((c.taking.new ≡ c.taking.old)
-    ⊎ IsWrittenBehind words c.held (λ text. HasSentPart c.taking.old text c.taking.new))
+    ⊎ IsWrittenBehind words c.held IsWhole (λ text. HasSentPart c.taking.old text c.taking.new))
 IsOutcome words c (RowsRefused word row cause) =
     (word ≡ 3) × IsBehind words c.held (no_rows row cause) × (c.taking.new ≡ c.taking.old)
 IsOutcome words c (TooLong word) = IsTooLong words c.held word × (c.taking.new ≡ c.taking.old)

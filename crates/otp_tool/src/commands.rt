@@ -7,13 +7,16 @@ ghost use Rattle.grammar_reader.specs.Grammars.{value_of};
 ghost use Rattle.command_words.specs.Commands.{IsCommand, IsNoCommand, grammar_of as file_of};
 ghost use Rattle.command_words.specs.Words.{words_of};
 ghost use Rattle.command_words.specs.Seen.{command_seen};
-ghost use Rattle.otp_tool.specs.Findings.{Finding, no_grammar, no_form, no_rows, no_lexicon, over_budget, ready};
+ghost use Rattle.otp_tool.specs.Findings.{Finding, no_grammar, no_form, no_rows, no_lexicon, no_answer, over_budget, ready};
 ghost use Rattle.otp_tool.specs.Outcomes.{HasReadFault, IsBeforeWriting, IsBehind, IsTold, IsTooLong, IsUnnamed, IsWrittenBehind, Stands, answer_to};
+ghost use Rattle.otp_tool.specs.Results.{IsNoResult, IsResult, IsWhole};
 ghost use Rattle.otp_tool.specs.Steps.{HasFitBudget, IsOutcome, IsWorkOf, change_of};
 ghost use Rattle.otp_tool.specs.Files.{NamedFile, second_file};
 ghost use Rattle.tableau.specs.declared.rows_err.RowsCause.{RowsCause};
+ghost use Rattle.answer_reader.specs.declared.answer_err.AnswerCause.{AnswerCause};
 ghost use Rattle.lexicon.specs.declared.lex_err.LexErr.{LexErr};
 
+use crate::checking::check;
 use crate::grammar::load_grammar;
 use crate::hearing::listen;
 use crate::results::{canon, generate, score, show};
@@ -37,6 +40,7 @@ fn grammar_name<'a>(command: &Command<'a>) -> &'a str
         Command::Tableau { grammar, .. } => grammar,
         Command::Once { grammar, .. } => grammar,
         Command::Comprehend { grammar, .. } => grammar,
+        Command::Check { grammar, .. } => grammar,
     }
 }
 
@@ -77,6 +81,7 @@ fn perform<F: Shelf, O: Sink>(
             budget,
             ..
         } => listen(alloc, grammar, lexicon, surface, budget, shelf, sink),
+        Command::Check { answer, .. } => check(alloc, grammar, answer, shelf, sink),
     }
 }
 
@@ -116,6 +121,7 @@ fn execute<F: Shelf, O: Sink>(
 /// | `tableau G FORM ROWSFILE [BUDGET]` | the tableau: the example, and then the rows |
 /// | `once G FORM [BUDGET]` | the text of an answer that a single pass finds |
 /// | `comprehend G LEXFILE SURFACE [BUDGET]` | the entries of the lexicon that are heard |
+/// | `check G ANSWERFILE` | the verdict on an answer: `Yes`, or `No` with its first fault |
 ///
 /// `G` is the name of a grammar's file, of at most 65,536 bytes. ROWSFILE and LEXFILE are the names
 /// of a rows file and a lexicon file, of at most 4,194,304 bytes. TIMELINE is a timeline over all
@@ -128,7 +134,8 @@ fn execute<F: Shelf, O: Sink>(
 /// Each command makes its whole result before it writes. The refusals come in this order: `Usage`;
 /// `ReadFault` and `TooLong` for word 1; `GrammarRefused`; `FormRefused` for the word of the form,
 /// timeline or surface; `ReadFault` and `TooLong` for the word of the second file; `RowsRefused` or
-/// `LexiconRefused`; `Budget`; `WriteFault`. `NoMemory` may occur in place of any status but `Usage`.
+/// `LexiconRefused` or `AnswerRefused`; `Budget`; `WriteFault`. The status `No` comes in place of `Done` if
+/// the verdict is No. `NoMemory` may occur in place of any status but `Usage`.
 pub fn run<F: Shelf, O: Sink>(
     alloc: Global,
     words: &[String],
@@ -137,15 +144,20 @@ pub fn run<F: Shelf, O: Sink>(
 ) -> Status
     // Done: exactly the text that the command asks for was written. For `generate` it is the text of
     // a right answer with joined arcs, for `once` that of an answer that is right once, for `tableau`
-    // that of the tableau with the rows of the file, and for `comprehend` that of the entries that
-    // are heard.
-    ensures done { result ≡ Status.Done → IsWrittenBehind (words_of words.now) (F.held shelf.old)
+    // that of the tableau with the rows of the file, for `comprehend` that of the entries that are
+    // heard, and for `check` the line `Yes`: no fault is in the answer, and it is sound.
+    ensures done { result ≡ Status.Done
+        → IsWrittenBehind (words_of words.now) (F.held shelf.old) IsResult
+        (λ text. O.taken sink.new ≡ appended (O.taken sink.old) text) }
+    // No: exactly the line of the fault that comes first in the answer was written.
+    ensures no { result ≡ Status.No
+        → IsWrittenBehind (words_of words.now) (F.held shelf.old) IsNoResult
         (λ text. O.taken sink.new ≡ appended (O.taken sink.old) text) }
     ensures complete { IsTold (words_of words.now) (F.held shelf.old) ready
         → ((word : ℕ) → ¬ HasReadFault (words_of words.now) (F.held shelf.old)
         (F.faults shelf.old) (F.faults shelf.new) word)
         → ¬ Rose (O.faults sink.old) (O.faults sink.new)
-        → (result ≡ Status.Done) ⊎ (result ≡ Status.NoMemory) }
+        → (result ≡ Status.Done) ⊎ ((result ≡ Status.No) ⊎ (result ≡ Status.NoMemory)) }
 
     // Each refusal has its cause.
     ensures usage { (result ≡ Status.Usage) ↔ IsNoCommand (words_of words.now) }
@@ -165,6 +177,9 @@ pub fn run<F: Shelf, O: Sink>(
     ensures lexicon_refused { (word : ℕ) (cause : LexErr)
         → result ≡ Status.LexiconRefused word cause
         → (word ≡ 2) × IsBehind (words_of words.now) (F.held shelf.old) (no_lexicon cause) }
+    ensures answer_refused { (word line : ℕ) (cause : AnswerCause)
+        → result ≡ Status.AnswerRefused word line cause
+        → (word ≡ 2) × IsBehind (words_of words.now) (F.held shelf.old) (no_answer line cause) }
     ensures budget { (entry stage : ℕ) → result ≡ Status.Budget entry stage
         → IsBehind (words_of words.now) (F.held shelf.old) (over_budget entry stage) }
     ensures write_fault { result ≡ Status.WriteFault
@@ -179,11 +194,11 @@ pub fn run<F: Shelf, O: Sink>(
     // What was written if not everything was done.
     ensures untouched { IsBeforeWriting result → O.taken sink.new ≡ O.taken sink.old }
     ensures begun { result ≡ Status.WriteFault
-        → IsWrittenBehind (words_of words.now) (F.held shelf.old)
+        → IsWrittenBehind (words_of words.now) (F.held shelf.old) IsWhole
         (λ text. HasSentPart (O.taken sink.old) text (O.taken sink.new)) }
     ensures no_memory { result ≡ Status.NoMemory
         → (O.taken sink.new ≡ O.taken sink.old)
-        ⊎ IsWrittenBehind (words_of words.now) (F.held shelf.old)
+        ⊎ IsWrittenBehind (words_of words.now) (F.held shelf.old) IsWhole
         (λ text. HasSentPart (O.taken sink.old) text (O.taken sink.new)) }
 
     // What the shelf holds stays. No count of faults falls, and only those of files that the command

@@ -2,7 +2,7 @@
 //!
 //! ```text
 //! words ─► run: load the grammar ─► read it ─► read the form, timeline or surface
-//!          ─► load and read the second file ─► generate or count ─► write ─► Status
+//!          ─► load and read the second file ─► generate, count or check ─► write ─► Status
 //! ```
 //!
 //! This is the topmost library of the workspace. A program gives its words, files, standard output
@@ -11,12 +11,14 @@
 //! its whole result before it writes.
 //!
 //! The definitions in `specs/` are the files that commands name (`Files`), what files, timelines and
-//! surfaces are read as (`Grammars`, `Scored`, `Lexicons`), what each command writes (`Results`), what
+//! surfaces are read as (`Grammars`, `Scored`, `Lexicons`), what an answer is read as and its verdict
+//! (`Answers`), what each command writes (`Results`), what
 //! it may find before it writes (`Findings`), what stands behind each status (`Outcomes`), and how a
 //! program ends (`Endings`).
 #![tactic(auto)]
 
 mod answer;
+mod checking;
 mod commands;
 mod ending;
 mod grammar;

@@ -1,11 +1,8 @@
 use Rattle.std.proofs.Common.{ℕ, List, refl, subst}
 use Rattle.command_words.specs.Seen.{command_seen}
 use Rattle.grammar_reader.specs.Grammars.{value_of}
-use Rattle.otp_tool.specs.Files.{second_file}
-use Rattle.otp_tool.specs.Findings.{FindsIn, Reaches}
-use Rattle.otp_tool.specs.Results.{IsResult}
 use Rattle.otp_tool.specs.Steps.{IsLoadRefusal, IsLoaded, change_of}
-use Rattle.otp_tool.proofs.OutcomeLemmas.{by_load, by_work, work_before}
+use Rattle.otp_tool.proofs.OutcomeLemmas.{by_load, by_work, work_of_before}
 use Rattle.otp_tool.proofs.commands.execute.Goals as goal
 
 pub returns-in-Ok-clause-outcome : goal.returns-in-Ok-clause-outcome
@@ -16,10 +13,9 @@ returns-in-Ok-clause-outcome g c =
     (g.F.Shelf.held c.args.shelf.now name) value) c.grammar_name.ensures c.in-Ok.ensures.ok in
     let change = change_of g.F.Shelf g.O.Sink c.load_grammar.new.shelf c.perform.new.shelf c.args.sink.now
     c.perform.new.sink in
-    let work = work_before (g.F.Shelf.held c.args.shelf.now)
+    let work = work_of_before (g.F.Shelf.held c.args.shelf.now)
     (g.F.Shelf.faults c.args.shelf.now) change c.load_grammar.ensures.held c.load_grammar.ensures.never_falls
-    (second_file command) (Reaches command value) (FindsIn command value)
-    (IsResult command value) c.perform.result c.perform.ensures.work in
+    command value c.perform.result c.perform.ensures.work in
     (λ words are.
     by_work words (change_of g.F.Shelf g.O.Sink c.args.shelf.now c.perform.new.shelf c.args.sink.now c.perform.new.sink)
     command are value loaded c.perform.result work)

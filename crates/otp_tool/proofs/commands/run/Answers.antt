@@ -1,12 +1,18 @@
 use Rattle.command_words.specs.Words.{words_of}
 use Rattle.otp_tool.specs.Steps.{change_of}
 use Rattle.otp_tool.proofs.DueLemmas.{complete, due, untouched}
-use Rattle.otp_tool.proofs.CauseLemmas.{begun, by_budget, by_form, by_grammar, by_length, by_lexicon, by_memory, by_reading, by_rows, by_usage, by_writing, done}
+use Rattle.otp_tool.proofs.CauseLemmas.{begun, by_answer, by_budget, by_form, by_grammar, by_length, by_lexicon, by_memory, by_reading, by_rows, by_usage, by_writing, done, no}
 use Rattle.otp_tool.proofs.commands.run.Goals as goal
 
 pub returns-in-Some-clause-done : goal.returns-in-Some-clause-done
 returns-in-Some-clause-done g c =
     done (words_of c.args.words.now)
+    (change_of g.F.Shelf g.O.Sink c.args.shelf.now c.execute.new.shelf c.args.sink.now c.execute.new.sink)
+    c.execute.result (c.execute.ensures.outcome (words_of c.args.words.now) c.in-Some.ensures)
+
+pub returns-in-Some-clause-no : goal.returns-in-Some-clause-no
+returns-in-Some-clause-no g c =
+    no (words_of c.args.words.now)
     (change_of g.F.Shelf g.O.Sink c.args.shelf.now c.execute.new.shelf c.args.sink.now c.execute.new.sink)
     c.execute.result (c.execute.ensures.outcome (words_of c.args.words.now) c.in-Some.ensures)
 
@@ -55,6 +61,12 @@ returns-in-Some-clause-rows_refused g c =
 pub returns-in-Some-clause-lexicon_refused : goal.returns-in-Some-clause-lexicon_refused
 returns-in-Some-clause-lexicon_refused g c =
     by_lexicon (words_of c.args.words.now)
+    (change_of g.F.Shelf g.O.Sink c.args.shelf.now c.execute.new.shelf c.args.sink.now c.execute.new.sink)
+    c.execute.result (c.execute.ensures.outcome (words_of c.args.words.now) c.in-Some.ensures)
+
+pub returns-in-Some-clause-answer_refused : goal.returns-in-Some-clause-answer_refused
+returns-in-Some-clause-answer_refused g c =
+    by_answer (words_of c.args.words.now)
     (change_of g.F.Shelf g.O.Sink c.args.shelf.now c.execute.new.shelf c.args.sink.now c.execute.new.sink)
     c.execute.result (c.execute.ensures.outcome (words_of c.args.words.now) c.in-Some.ensures)
 

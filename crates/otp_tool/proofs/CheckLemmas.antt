@@ -1,0 +1,122 @@
+-- What `check` does with a grammar and the file of an answer.
+use Rattle.std.proofs.Common.{◌≡◌, ◌⊎◌, inl, inr, ℕ, ◌<◌, ◌≤◌, List, length, map, Some, Result, Ok, Err, refl, ap, sym, ◌∙◌, subst}
+use Rattle.std.proofs.lemmas.List.{length-map}
+use Rattle.outside.specs.Writers.{Puts}
+use Rattle.outside.specs.declared.sink.Sink.{Ghosts}
+use Rattle.outside.specs.declared.sink.WriteErr.{WriteErr}
+use Rattle.outside.specs.declared.sink.WriteErr.TheVariants.{Failed, NoMemory as NoRoom}
+use Rattle.tier_core.specs.declared.shape.Shape.{Shape}
+use Rattle.tier_core.specs.Tiers.{Tiers}
+use Rattle.grammar_reader.specs.declared.grammar.Grammar.{Grammar}
+use Rattle.grammar_reader.specs.Grammars.{value_of}
+use Rattle.grammar_reader.specs.ShapeOf.{IsShapeOf}
+use Rattle.violation.specs.Problems.{Problem}
+use Rattle.answer_text.specs.declared.answer.Answer.{Answer}
+use Rattle.answer_text.specs.Readable.{IsReadable}
+use Rattle.answer_text.specs.Shape.{widths_of}
+use Rattle.answer_text.specs.Sound.{IsSound}
+use Rattle.answer_text.specs.Text.{Widths}
+use Rattle.answer_reader.specs.Reading.{IsTextOf, answer_of}
+use Rattle.answer_reader.specs.Steps.{At}
+use Rattle.answer_reader.specs.Values.{answer_value}
+use Rattle.cert_check.specs.FirstFaults.{IsReadableFor, asked_by}
+use Rattle.cert_check.specs.Verdicts.{IsVerdict}
+use Rattle.cert_check.specs.declared.fault.Fault.{Fault}
+use Rattle.cert_check.specs.declared.fault.Verdict.{Verdict}
+use Rattle.cert_check.specs.declared.fault.Verdict.TheVariants.{Yes, No as Not}
+use Rattle.verdict_text.specs.VerdictText.{verdict_text}
+use Rattle.status_lines.specs.declared.status.Status.{Status}
+use Rattle.otp_tool.specs.Answers.{IsShapeFor, IsVerdictText}
+use Rattle.otp_tool.specs.Files.{IsHeld, answer_file}
+use Rattle.otp_tool.specs.Findings.{Finding, FindsForCheck, ready}
+use Rattle.otp_tool.specs.Results.{IsNoText, IsYesText, text_widths}
+use Rattle.otp_tool.specs.Steps.{Change, IsCheckStep, IsCheckWork, IsNoEnd, IsRefusal, IsSecondRefusal, RefusesAnswer, Taking, end_of, no_end_of, taking_of, verdict_end}
+use Rattle.otp_tool.proofs.GrammarLemmas.{same_tiers}
+use Rattle.otp_tool.proofs.RefusalLemmas.{refusal_weaker, second_refused}
+use Rattle.otp_tool.proofs.StepLemmas.{same_shape_widths, same_width, written}
+
+-- a text that says No is written
+module _ {O A : Type 0} {sink : Ghosts O} {old new : O} (writes : List ℕ
+    → Type 0) (text : List ℕ) (w : writes text) where
+  no_ends : (r : Result A WriteErr) → Puts sink old new text r → IsNoEnd writes (taking_of sink old new) (no_end_of r)
+  no_ends (Ok done) p = record { text = text; is = w; taken = p.ok }
+  no_ends (Err Failed) p = (record { text = text; is = w; part = p.part }, p.failed refl)
+  no_ends (Err NoRoom) p = inr (record { text = text; is = w; part = p.part })
+
+module _ (g : Grammar) where
+  pub shape_for : (shape : Shape) → IsShapeOf g shape → IsShapeFor (value_of g) shape
+  shape_for shape s = record {
+    constraints = g.constraints.items;
+    seen = refl;
+    width = s.width ∙ sym (same_width g);
+    inputs = s.inputs ∙ ap (λ (tiers : Tiers). tiers.input) (sym (same_tiers g));
+    phases = s.phases;
+  }
+
+  module _ (bytes : List ℕ) (within : length bytes ≤ 268435456) (shape : Shape) (of_grammar : IsShapeOf g shape) where
+    refused_for_check : (x : Finding) → RefusesAnswer shape bytes x → FindsForCheck (value_of g) bytes x
+    refused_for_check x r = subst (FindsForCheck (value_of g) bytes) (sym r.is) (record {
+      within = within;
+      shape = shape;
+      of_grammar = shape_for shape of_grammar;
+      is = r.fact;
+    })
+
+    pub no_answer_read : (t : Taking) → t.new ≡ t.old → (s : Status) → IsRefusal (RefusesAnswer shape bytes) s
+        → IsCheckStep (value_of g) bytes t s
+    no_answer_read t e s r = inl (inl (
+      refusal_weaker (RefusesAnswer shape bytes) (FindsForCheck (value_of g) bytes) refused_for_check s r,
+      e,
+    ))
+
+    module _ (answer : Answer) (read : IsTextOf shape bytes (answer_value shape answer)) where
+      pub is_readable : IsReadable shape answer → IsReadableFor g answer
+      is_readable r = record { shape = shape; of_grammar = of_grammar; readable = r }
+
+      is_ready : FindsForCheck (value_of g) bytes ready
+      is_ready = (
+        answer_value shape answer,
+        record { within = within; shape = shape; of_grammar = shape_for shape of_grammar; is = read },
+      )
+
+      is_text : (verdict : Verdict) → IsVerdict (asked_by g answer) answer verdict
+          → (verdict ≡ Yes → IsSound (asked_by g answer) answer)
+          → IsVerdictText text_widths verdict (value_of g) bytes (verdict_text (widths_of shape) verdict)
+      is_text verdict v sound = record {
+        shape = shape;
+        of_grammar = shape_for shape of_grammar;
+        answer = answer;
+        read = read;
+        problem = asked_by g answer;
+        is_asked = record { tiers = sym (same_tiers g); constraints = refl; form = refl };
+        is_verdict = v;
+        sound = sound;
+        written = ap (λ (w : Widths). verdict_text w verdict) (same_shape_widths g shape of_grammar answer.form);
+      }
+
+      pub verdict_written : {O A : Type 0} {sink : Ghosts O} {old new : O} (verdict : Verdict)
+          → IsVerdict (asked_by g answer) answer verdict → (verdict ≡ Yes → IsSound (asked_by g answer) answer)
+          → (r : Result A WriteErr) → Puts sink old new (verdict_text (widths_of shape) verdict) r
+          → (s : Status) → s ≡ verdict_end verdict r → IsCheckStep (value_of g) bytes (taking_of sink old new) s
+      verdict_written {sink = sink} {old} {new} Yes v sound r p s e =
+          inl (written (IsYesText (value_of g) bytes) (verdict_text (widths_of shape) Yes) (is_text Yes v sound)
+          (FindsForCheck (value_of g) bytes) is_ready r p s e)
+      verdict_written {sink = sink} {old} {new} (Not fault) v sound r p s e =
+          inr (is_ready, subst (IsNoEnd (IsNoText (value_of g) bytes) (taking_of sink old new)) (sym e)
+          (no_ends (IsNoText (value_of g) bytes) (verdict_text (widths_of shape) (Not fault))
+          (fault, is_text (Not fault) v sound) r p))
+
+  -- ---- the command
+
+  module _ (answer : List ℕ) (c : Change) where
+    pub no_file_loaded : c.taking.new ≡ c.taking.old → (s : Status)
+        → IsSecondRefusal (answer_file answer) (c.held answer) (c.faults_before answer) (c.faults_after answer) s
+        → IsCheckWork (value_of g) answer c s
+    no_file_loaded t s r =
+        inl (second_refused (Unit {0}) (FindsForCheck (value_of g)) (IsYesText (value_of g)) c t
+        (answer_file answer) tt (λ bytes l. (refl, l)) s r)
+
+    pub judged : (bytes : List ℕ) → IsHeld (c.held answer) bytes → (s : Status)
+        → IsCheckStep (value_of g) bytes c.taking s → IsCheckWork (value_of g) answer c s
+    judged bytes h s (inl step) = inl (inr (record { bytes = bytes; holds = h; step = step }))
+    judged bytes h s (inr n) = inr (record { bytes = bytes; holds = h; found = n.0; end = n.1 })

@@ -1,0 +1,67 @@
+-- What the bytes of an answer's file are read as for a grammar, and the verdict on it.
+use Rattle.std.specs.Prelude.{◌≡◌, ℕ, ◌≤◌, List, length, map, Result, Ok, Err}
+use Rattle.tier_core.specs.declared.constraint.Constraint.{Constraint}
+use Rattle.tier_core.specs.declared.shape.Shape.{Shape}
+use Rattle.tier_core.specs.Tiers.{tiers_of as tiers_in}
+use Rattle.grammar_reader.specs.Values.{GrammarValue}
+use Rattle.grammar_reader.specs.Seen.{constraint_seen}
+use Rattle.grammar_reader.specs.ShapeOf.{stretch_counts}
+use Rattle.violation.specs.Problems.{Problem}
+use Rattle.answer_text.specs.declared.answer.Answer.{Answer}
+use Rattle.answer_text.specs.Sound.{IsSound}
+use Rattle.answer_text.specs.Text.{Widths}
+use Rattle.answer_reader.specs.declared.answer_err.AnswerCause.{AnswerCause}
+use Rattle.answer_reader.specs.Reading.{IsTextOf, answer_of}
+use Rattle.answer_reader.specs.Steps.{At, at}
+use Rattle.answer_reader.specs.Values.{AnswerValue, answer_value}
+use Rattle.cert_check.specs.declared.fault.Fault.{Fault}
+use Rattle.cert_check.specs.declared.fault.Verdict.{Verdict}
+use Rattle.cert_check.specs.declared.fault.Verdict.TheVariants.{Yes, No}
+use Rattle.cert_check.specs.Verdicts.{IsVerdict}
+use Rattle.verdict_text.specs.VerdictText.{verdict_text}
+use Rattle.otp_tool.specs.Grammars.{tiers_of}
+
+-- a shape is that of a grammar: its width, its input tiers, and its stretch implications
+pub record IsShapeFor (g : GrammarValue) (shape : Shape) : Type 0 where
+  pub constraints : List Constraint
+  pub seen : map constraint_seen constraints ≡ g.constraints
+  pub width : shape.width ≡ length g.tiers
+  pub inputs : tiers_in shape.inputs ≡ (tiers_of g).input
+  pub phases : shape.phases.items ≡ stretch_counts constraints
+
+-- the bytes are within the limit of an answer's file, and this is what they are read as: the value of an
+-- answer, or their first line with a cause
+pub record IsAnswerFile (g : GrammarValue) (bytes : List ℕ) (read : Result AnswerValue At) : Type 0 where
+  pub within : length bytes ≤ 268435456
+  pub shape : Shape
+  pub of_grammar : IsShapeFor g shape
+  pub is : answer_of shape bytes ≡ read
+
+-- the bytes are those of an answer
+abbrev pub HasAnswer : GrammarValue → List ℕ → Type 0
+HasAnswer g bytes = (value : AnswerValue) × IsAnswerFile g bytes (Ok value)
+
+-- they are not: this line is the first that has a cause
+abbrev pub IsNoAnswer : GrammarValue → List ℕ → ℕ → AnswerCause → Type 0
+IsNoAnswer g bytes line cause = IsAnswerFile g bytes (Err (at line cause))
+
+-- A problem is what a grammar is asked by the form of an answer: it has the grammar's tiers, constraints
+-- that are seen as the grammar's, in ranked order, and that form.
+pub record IsAskedBy (g : GrammarValue) (answer : Answer) (problem : Problem) : Type 0 where
+  pub tiers : problem.tiers ≡ tiers_of g
+  pub constraints : map constraint_seen problem.constraints ≡ g.constraints
+  pub form : problem.form ≡ answer.form
+
+-- A text is the line of a verdict on the answer that bytes are read as: Yes where no fault is in it, and No
+-- with the fault that comes first. An answer that gets Yes is sound.
+pub record IsVerdictText (widths : Problem → Widths) (verdict : Verdict) (g : GrammarValue) (bytes text : List ℕ)
+    : Type 0 where
+  pub shape : Shape
+  pub of_grammar : IsShapeFor g shape
+  pub answer : Answer
+  pub read : IsTextOf shape bytes (answer_value shape answer)
+  pub problem : Problem
+  pub is_asked : IsAskedBy g answer problem
+  pub is_verdict : IsVerdict problem answer verdict
+  pub sound : verdict ≡ Yes → IsSound problem answer
+  pub written : text ≡ verdict_text (widths problem) verdict

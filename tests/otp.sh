@@ -48,7 +48,7 @@ has_text() {
     fi
 }
 
-# try NAME STATUS LINE WORD..: the status, the line on standard error, and no text but for status 0
+# try NAME STATUS LINE WORD..: the status, the line on standard error, and no text but for status 0 or 1
 try() {
     name=$1 status=$2 line=$3
     shift 3
@@ -58,7 +58,7 @@ try() {
     [ -z "$line" ] || echo >> line
     if [ "$found" != "$status" ] || ! cmp -s err line; then
         has_failed "$name: status $found, $(cat err)"
-    elif [ "$status" != 0 ] && [ -s out ]; then
+    elif [ "$status" -gt 1 ] && [ -s out ]; then
         has_failed "$name: it wrote to standard output"
     else
         has_passed "$name"
@@ -165,6 +165,38 @@ try "a thousand entries" 0 "" comprehend added.otp many.toml empty
 [ "$(head -n 1 out)" = "hits 1000" ] && [ "$(wc -l < out)" = 2001 ] && has_passed "a thousand hits" \
     || has_failed "a thousand hits"
 
+# verdicts on an answer, and on its text with one alteration
+"$top/otp" generate base.otp empty > base.answer
+"$top/otp" generate least_overt.otp "[ ]" > right.answer
+# verdict TEXT LINE FILE GRAMMAR: what `check` writes, with status 0 for Yes and 1 for No
+verdict() {
+    status=1 line=no
+    [ "$2" != Yes ] || { status=0; line=; }
+    try "$1" "$status" "$line" check "$4" "$3"
+    wrote "$2"
+}
+verdict "an answer of generate" "Yes" right.answer least_overt.otp
+awk '/^stage/ { stage = $2; node = -1 } /^node/ && ++node == 1 && stage == 1 { sub(/ 1$/, " 2") } { print }' \
+    right.answer > altered.answer
+verdict "a higher potential" "No potential 1 1 2 1" altered.answer least_overt.otp
+awk '/^stage 0 / { $0 = "stage 0 5" } /^stage/ { stage = $2 } stage == 0 && /^node 2\/\+\// { next } { print }' \
+    right.answer > altered.answer
+verdict "a kind is missing" "No closed 0 2 2/+/" altered.answer least_overt.otp
+sed '/^arc 2 ]-$/d' right.answer > altered.answer
+verdict "an arc is missing" "No arcs 1 ]- none 2" altered.answer least_overt.otp
+sed 's/^counts .*/counts 0 0 0/' right.answer > altered.answer
+verdict "another count" "No counts 2 0 1" altered.answer least_overt.otp
+head -c -1 right.answer > cut.answer
+try "the last byte is cut" 6 "answer word 2 line 33: CutShort" check least_overt.otp cut.answer
+{ cat right.answer; echo; } > longer.answer
+try "a line too many" 6 "answer word 2 line 34: ExtraBytes" check least_overt.otp longer.answer
+for form in empty "[ ]" "[ | ]" "[ ] [ ]"; do
+    for grammar in base added least_overt ranked; do
+        "$top/otp" generate $grammar.otp "$form" > made.answer
+        verdict "generated and checked, $grammar, $form" "Yes" made.answer $grammar.otp
+    done
+done
+
 # the longest words
 bars() { yes '|' | head -n "$1" | tr '\n' ' '; }
 try "form of 64 columns" 0 "" show base.otp "[ $(bars 62)]"
@@ -243,6 +275,17 @@ try "lexicon that is no TOML" 5 "lexicon word 2: NotToml" comprehend added.otp b
 try "entry without form" 5 "lexicon word 2: BadEntry 0" comprehend added.otp formless.toml "[ ]"
 try "two entries of one name" 5 "lexicon word 2: TwiceNamed 1" comprehend added.otp twice.toml "[ ]"
 try "entry with a bad form" 5 "lexicon word 2: BadForm 0 NotWellFormed 0" comprehend added.otp open.toml "[ ]"
+try "no answer file" 2 "usage" check base.otp
+try "check, a word too many" 2 "usage" check base.otp right.answer 1
+try "missing answer" 8 "read fault word 2" check base.otp missing.answer
+try "grammar before answer" 8 "read fault word 1" check missing.otp missing.answer
+try "refused grammar before answer" 3 "grammar word 1 line 4: UnknownTier" check unknown.otp missing.answer
+try "grammar for an answer" 6 "answer word 2 line 1: BadHeader" check base.otp base.otp
+try "empty answer" 6 "answer word 2 line 1: CutShort" check base.otp /dev/null
+try "answer of another grammar" 6 "answer word 2 line 3: BadLine" check base.otp right.answer
+head -c 268435457 /dev/zero > long.answer
+try "long answer" 12 "too long word 2" check base.otp long.answer
+rm -f long.answer
 try "word that is no text" 15 "" generate base.otp "$(printf '\377')"
 
 # the slips of docs/TROUBLE.md: slip NAME CAUSE TEXT, a file of that text that is refused so
@@ -298,7 +341,8 @@ status_is "no words, line" "usage" "$(head -n 1 err)"
 status_is "full disk" 9 $?
 status_is "full disk, line" "write fault" "$(cat err)"
 for words in "canon base.otp" "score base.otp empty" "show base.otp empty" \
-    "tableau base.otp empty /dev/null" "once base.otp empty" "comprehend base.otp /dev/null empty"; do
+    "tableau base.otp empty /dev/null" "once base.otp empty" "comprehend base.otp /dev/null empty" \
+    "check base.otp base.answer"; do
     "$top/otp" $words > /dev/full 2> err
     status_is "full disk, $words" 9 $?
 done

@@ -1,18 +1,21 @@
 # Completion of otp for bash. In ~/.bashrc: source FOLDER/tools/completion/otp.bash
-# The first word is a command, and the second a grammar's file; the third of `comprehend` is a lexicon, and the
-# fourth of `tableau` a rows file.
+# The first word is a command, and the second a grammar's file; the third of `comprehend` is a lexicon, that
+# of `check` an answer, and the fourth of `tableau` a rows file.
 _otp() {
     local word=${COMP_WORDS[COMP_CWORD]}
     COMPREPLY=()
     case $COMP_CWORD in
-        1) COMPREPLY=($(compgen -W "canon score generate show tableau once comprehend" -- "$word")) ;;
+        1) COMPREPLY=($(compgen -W "canon score generate show tableau once comprehend check" -- "$word")) ;;
         2)
             mapfile -t COMPREPLY < <(compgen -f -X '!*.otp' -- "$word"; compgen -d -- "$word")
             compopt -o filenames 2> /dev/null
             ;;
         3)
-            [[ ${COMP_WORDS[1]} == comprehend ]] || return 0
-            mapfile -t COMPREPLY < <(compgen -f -X '!*.toml' -- "$word"; compgen -d -- "$word")
+            case ${COMP_WORDS[1]} in
+                comprehend) mapfile -t COMPREPLY < <(compgen -f -X '!*.toml' -- "$word"; compgen -d -- "$word") ;;
+                check) mapfile -t COMPREPLY < <(compgen -f -- "$word") ;;
+                *) return 0 ;;
+            esac
             compopt -o filenames 2> /dev/null
             ;;
         4)

@@ -1,4 +1,5 @@
 use crate::{Status, run};
+use answer_reader::AnswerCause;
 use lexicon::LexErr;
 use outside::{MemShelf, MemSink, SafeSink};
 use std::alloc::{AllocError, Global};
@@ -63,6 +64,16 @@ state 2 final
 end
 ";
 
+/// An answer that lacks stages, with another count.
+const ALTERED: &str = "answer 1
+form [ ]
+counts 1 1 0
+example [- ]-
+stage 0 0
+automaton 0
+end
+";
+
 const SINGLE_PASS: &str = "once 1
 form [ ]
 counts 0 1 0
@@ -102,11 +113,11 @@ fn words(alloc: Global, text: &str) -> Result<Vec<String>, AllocError> {
     Ok(words)
 }
 
-/// A shelf with the file `g` of a grammar, the files `r` and `l` of rows and entries, and loads that
-/// fail.
+/// A shelf with the file `g` of a grammar, the files `r` and `l` of rows and entries, the files `a` and
+/// `b` of an answer and an altered one, and loads that fail.
 fn shelf(alloc: Global, grammar: &str, failing: Vec<u64>) -> Result<MemShelf, AllocError> {
     let mut files = Vec::new(alloc);
-    for (name, text) in [("g", grammar), ("r", ROWS), ("l", ENTRIES)] {
+    for (name, text) in [("g", grammar), ("r", ROWS), ("l", ENTRIES), ("a", STAGES), ("b", ALTERED)] {
         files.push((
             String::from_str(alloc, name)?,
             text.as_bytes().to_vec(alloc)?,
@@ -135,12 +146,27 @@ fn each_command_writes_its_text(rt: HostRuntime) -> Result<(), Fail> {
         (LEAST, "tableau/g/[ ]/r/6", TABLEAU),
         (ADDED, "comprehend/g/l/[ ]", HITS),
         (ADDED, "comprehend/g/l/[ | ]/20", "hits 0\n"),
+        (LEAST, "check/g/a", "Yes\n"),
     ];
     for (grammar, words, text) in cases {
         let (status, written) = outcome(rt.alloc(), grammar, words)?;
         assert_eq!(rt; status, Status::Done, "{words}");
         assert_eq!(rt; written.as_str(), text, "{words}");
     }
+    Ok(())
+}
+
+// Too few stages, and an answer for another grammar.
+#[test]
+fn verdict_on_an_altered_answer(rt: HostRuntime) -> Result<(), Fail> {
+    let (status, written) = outcome(rt.alloc(), LEAST, "check/g/b")?;
+    assert_eq!(rt; status, Status::No);
+    assert_eq!(rt; written.as_str(), "No stages 1 4\n");
+    let (status, written) = outcome(rt.alloc(), ADDED, "check/g/a")?;
+    let cause = AnswerCause::BadLine;
+    let (word, line) = (2, 3);
+    assert_eq!(rt; status, Status::AnswerRefused { word, line, cause });
+    assert!(rt; written.is_empty());
     Ok(())
 }
 
@@ -177,6 +203,8 @@ fn refusals_have_an_order(rt: HostRuntime) -> Result<(), Fail> {
         ("comprehend/g/s/[", refused(3, broken)),
         ("comprehend/g/s/[ ]", Status::ReadFault { word: 2 }),
         ("comprehend/g/r/[ ]/1", no_toml),
+        ("check/g/s", Status::ReadFault { word: 2 }),
+        ("check/h/s", Status::ReadFault { word: 1 }),
         (
             "comprehend/g/l/[ ]/5",
             Status::Budget { entry: 1, stage: 0 },
@@ -198,6 +226,7 @@ fn failing_loads_are_read_faults(rt: HostRuntime) -> Result<(), Fail> {
         ("once/g/[ ]", 1, 1),
         ("tableau/g/[ ]/r", 2, 3),
         ("comprehend/g/l/[ ]", 2, 2),
+        ("check/g/a", 2, 2),
     ] {
         let mut shelf = shelf(alloc, LEAST, [load].to_vec(alloc)?)?;
         let mut sink = SafeSink::new(alloc);
@@ -222,6 +251,7 @@ fn failing_writes_are_write_faults(rt: HostRuntime) -> Result<(), Fail> {
         ("canon/g", "otp 1\ntier"),
         ("once/g/[ ]", "once 1\nfor"),
         ("comprehend/g/l/empty", "hits 3\nent"),
+        ("check/g/b", "No stages "),
     ] {
         let mut shelf = shelf(alloc, LEAST, Vec::new(alloc))?;
         let mut sink = MemSink::new(alloc, 5, [3].to_vec(alloc)?);

@@ -23,6 +23,3 @@ returns-in-Ok-check-clause-step g c =
     c.in-Ok-answer_of.answer c.in-Ok-answer_of.ensures.ok
     c.in-Ok-check.verdict c.in-Ok-check.ensures.verdict c.in-Ok-check.ensures.sound
     c.put_verdict.result c.put_verdict.ensures c.told.result c.told.ensures
-
-pub returns-in-Err-check-clause-step : goal.returns-in-Err-check-clause-step
-returns-in-Err-check-clause-step g c = inl (inl (tt, refl))

@@ -42,7 +42,8 @@ all_next_alike (x ∷ cs) c d a (p ∷ ps) = ap₂ (λ q qs. q ∷ qs) (a.0 p) (
 
 -- ---- costs
 
-pub all_costs_alike : (cs : List Constraint) (o : ℕ → Bool) (c d : List Sym) → AllByRecursion (λ x. AreAlikeFor x c d) cs
+pub all_costs_alike : (cs : List Constraint) (o : ℕ → Bool) (c d : List Sym)
+    → AllByRecursion (λ x. AreAlikeFor x c d) cs
     → (ps : List Phase) → costs_each cs o ps c ≡ costs_each cs o ps d
 all_costs_alike [] o c d a ps = refl
 all_costs_alike (x ∷ cs) o c d a ps =

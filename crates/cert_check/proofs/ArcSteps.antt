@@ -105,7 +105,8 @@ module _ (s : Subject) (k : PrefixKind) (pieces : List KeptPiece) (arcs : List A
       let a = arc_of arc h in
       let held : IsTrue (has a.piece.class column) = ap (λ c. has c column) (sym a.same_class) ∙ holds in
       let m = contains_map (λ (p : KeptPiece). p.class) pieces a.piece a.of in
-      let own : IsKeptPiece problem last k a.piece = All-contains (IsKeptPiece problem last k) pieces a.piece kept.each a.of in (
+      let own : IsKeptPiece problem last k a.piece = All-contains
+      (IsKeptPiece problem last k) pieces a.piece kept.each a.of in (
         (kept.columns column).0 (list_any_at (λ c. has c column) (classes_of pieces) m.0 a.piece.class m.1
             (ap (λ c. has c column) m.2 ∙ held)),
         node_of_number problem nodes arc.target (moved problem last k column)
@@ -167,5 +168,6 @@ pub one_kept_target : (s : Subject) (k : PrefixKind) (kept : List ArcLine)
     → (column : List Sym) → HasOneTarget kept column
 one_kept_target s k kept are ascending column m n a b =
     let last = last_stage (problem_of s) in
-    one_number (problem_of s) (nodes_at s.answer.now.stages.items last) ascending (moved (problem_of s) last k column) m n
+    one_number (problem_of s) (nodes_at s.answer.now.stages.items last) ascending
+    (moved (problem_of s) last k column) m n
     ((are.targets column (Some m)).0 a).1 ((are.targets column (Some n)).0 b).1

@@ -20,28 +20,35 @@ none_bit mask i h = let other = eqb-false (bit_at mask i) 1 h in omega (arith, b
 
 none_any : (is : List ℕ) → list_any (λ flag. flag) (map (has_tier 0) is) ≡ false
 none_any [] = refl
-none_any (i ∷ is) = ap (λ b. b || list_any (λ flag. flag) (map (has_tier 0) is)) (ap (λ n. n == 1) (bit_at-zero i)) ∙ none_any is
+none_any (i ∷ is) = ap (λ b. b || list_any (λ flag. flag) (map (has_tier 0) is)) (ap (λ n. n == 1) (bit_at-zero i))
+    ∙ none_any is
 
 -- a mask is 0 exactly where it has no flag
 pub no_flag : (n mask : ℕ) → mask < 2 ^ n → nat_eq mask 0 ≡ not (list_any (λ flag. flag) (open_tiers n mask))
 no_flag n mask l = by (list_any (λ flag. flag) (open_tiers n mask)) refl
   where
-    unset : list_any (λ flag. flag) (open_tiers n mask) ≡ false → (i : ℕ) → i < n → (b : Bool) → has_tier mask i ≡ b → has_tier mask i ≡ false
+    unset : list_any (λ flag. flag) (open_tiers n mask) ≡ false → (i : ℕ) → i < n → (b : Bool) → has_tier mask i ≡ b
+        → has_tier mask i ≡ false
     unset e i h false t = t
-    unset e i h true t = absurd (false≢true (sym e ∙ list_any_at (λ flag. flag) (open_tiers n mask) i false (omega (arith, length-map-range_with_len (has_tier mask) 0 n)) (get_or-map-range_with_len (has_tier mask) 0 n i i false h (omega arith) ∙ t)))
+    unset e i h true t = absurd (false≢true (sym e ∙ list_any_at (λ flag. flag) (open_tiers n mask) i false
+        (omega (arith, length-map-range_with_len (has_tier mask) 0 n))
+        (get_or-map-range_with_len (has_tier mask) 0 n i i false h (omega arith) ∙ t)))
 
     none : list_any (λ flag. flag) (open_tiers n mask) ≡ false → mask ≡ 0
     none e = same_from_bits mask 0 (λ i. ⊎_elim
         (λ h. none_bit mask i (unset e i h (has_tier mask i) refl) ∙ sym (bit_at-zero i))
         (λ h. none_bit mask i (none_from mask n i l h) ∙ sym (bit_at-zero i)) (cases_lt i n))
 
-    by : (b : Bool) → list_any (λ flag. flag) (open_tiers n mask) ≡ b → nat_eq mask 0 ≡ not (list_any (λ flag. flag) (open_tiers n mask))
+    by : (b : Bool) → list_any (λ flag. flag) (open_tiers n mask) ≡ b → nat_eq mask 0
+        ≡ not (list_any (λ flag. flag) (open_tiers n mask))
     by false e = eq-eqb mask 0 (none e) ∙ sym (ap not e)
-    by true e = ne_eqb mask 0 (λ z. false≢true (sym (none_any (range_with_len 0 n)) ∙ ap (λ m. list_any (λ flag. flag) (open_tiers n m)) (sym z) ∙ e)) ∙ sym (ap not e)
+    by true e = ne_eqb mask 0 (λ z. false≢true (sym (none_any (range_with_len 0 n)) ∙ ap
+        (λ m. list_any (λ flag. flag) (open_tiers n m)) (sym z) ∙ e)) ∙ sym (ap not e)
 
 -- masks that have no bit in common
 pub apart_from : (a b : ℕ) → ((i : ℕ) → (has_tier a i && has_tier b i) ≡ false) → bit_and a b ≡ 0
-apart_from a b h = same_from_bits (bit_and a b) 0 (λ i. bit_at_and a b i ∙ none i (has_tier a i) refl ∙ sym (bit_at-zero i))
+apart_from a b h = same_from_bits (bit_and a b) 0 (λ i. bit_at_and a b i ∙ none i (has_tier a i) refl ∙ sym
+    (bit_at-zero i))
   where
     none : (i : ℕ) (c : Bool) → has_tier a i ≡ c → min (bit_at a i) (bit_at b i) ≡ 0
     none i false e = omega (arith, none_bit a i e)

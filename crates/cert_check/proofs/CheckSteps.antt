@@ -55,7 +55,8 @@ module _ (grammar : Grammar) (one two : Shape) (a : IsShapeOf grammar one) (b : 
 
   pub readable_both : (answer : Answer) → IsReadable one answer → IsReadable two answer
   readable_both answer r = record {
-    form_width = subst (λ n. AllByRecursion (λ (column : List Sym). length column ≡ n) answer.form) same_inputs r.form_width;
+    form_width = subst (λ n. AllByRecursion (λ (column : List Sym). length column
+        ≡ n) answer.form) same_inputs r.form_width;
     example_width = subst (λ n. AllByRecursion (λ (column : List Sym). length column ≡ n) answer.example) same_width
         r.example_width;
     example_size = r.example_size;

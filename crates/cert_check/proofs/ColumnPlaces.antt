@@ -54,7 +54,8 @@ then_not : (x y : Sym) (a b : List Sym) (o : Ordering)
     → r ≡ nat_cmp (rank x) (rank y) → is_gt (ordering_then r o) ≡ false
     → IsBefore (column_place (y ∷ b)) (column_place (x ∷ a)) → ⊥
 then_not x y a b o rest Less e h (inl less) = absurd (let q = ranked (rank x) (rank y) Less e in omega (arith, q))
-then_not x y a b o rest Less e h (inr same) = absurd (let q = ranked (rank x) (rank y) Less e in let s = same.0 in omega (arith, q, s))
+then_not x y a b o rest Less e h (inr same) = absurd
+    (let q = ranked (rank x) (rank y) Less e in let s = same.0 in omega (arith, q, s))
 then_not x y a b o rest Equal e h (inl less) = absurd (let q = ranked (rank x) (rank y) Equal e in omega (arith, q))
 then_not x y a b o rest Equal e h (inr same) = rest h same.1
 then_not x y a b o rest Greater e h p = absurd (true≢false h)
@@ -64,4 +65,5 @@ pub not_after_is : (a b : List Sym) → is_gt (column_cmp a b) ≡ false
 not_after_is [] [] h p = p
 not_after_is [] (y ∷ b) h p = p
 not_after_is (x ∷ a) [] h p = absurd (true≢false h)
-not_after_is (x ∷ a) (y ∷ b) h p = then_not x y a b (column_cmp a b) (not_after_is a b) (nat_cmp (rank x) (rank y)) refl h p
+not_after_is (x ∷ a) (y ∷ b) h p = then_not x y a b (column_cmp a b) (not_after_is a b)
+    (nat_cmp (rank x) (rank y)) refl h p

@@ -62,7 +62,8 @@ pub still_more : (next rest : Bool) (kinds : List TierKind) (column : List Sym) 
     → (rest && not (has_edge (part_from kinds column k))) ≡ none
     → (next && not (has_edge (part_from kinds column (k + 1)))) ≡ none
 still_more next rest kinds column k d none l h e so_far =
-    ap (λ b. b && not (has_edge (part_from kinds column (k + 1)))) (e ∙ ap (λ b. rest && b) (in_edgeless (symbol column k)))
+    ap (λ b. b && not (has_edge (part_from kinds column (k + 1))))
+    (e ∙ ap (λ b. rest && b) (in_edgeless (symbol column k)))
     ∙ still_step rest (is_edge (symbol column k)) (has_edge (part_from kinds column (k + 1)))
     ∙ ap (λ xs. rest && not (has_edge xs)) (sym (part_step kinds column k d true l h)) ∙ so_far
 

@@ -134,15 +134,21 @@ module _ (problem : Problem) (k : PrefixKind) (coming still bare : Class) (mask 
   bare_none : (column : List Sym) → length column ≡ problem.tiers.width → has_edge column ≡ true
       → has bare column ≡ false
   bare_none column w e = false_from_ne_true (has bare column) (λ b. both_ways (has_edge column)
-      (none_edge column (λ t l. not-true (is_edge (symbol column t)) ((has_bare column w).0 b t (omega (arith, w, l))))) e)
+      (none_edge column (λ t l. not-true (is_edge (symbol column t))
+      ((has_bare column w).0 b t (omega (arith, w, l))))) e)
 
   fits_held : (column : List Sym) → FitsKind problem k column → holds column ≡ true
   fits_held column f =
       ⊎_elim
       (λ read. or_right (is_quiet column) (is_reading column)
       (and_from (reads column) (not (has still column))
-      ((has_read column).1 (after, ⊎_elim (λ none. absurd (both_ways (is_read column) none read)) (λ here. here) f.input))
-      (ap not (has_still column ∙ ap (λ b. has coming column && not b) read ∙ and_right (has coming column) false refl))))
+      ((has_read column).1 (
+        after,
+        ⊎_elim (λ none. absurd (both_ways (is_read column) none read))
+            (λ here. here) f.input,
+      ))
+      (ap not (has_still column ∙ ap (λ b. has coming column && not b) read
+      ∙ and_right (has coming column) false refl))))
       (λ none. or_left (is_quiet column) (is_reading column)
       (and_from (has still column) (not (has bare column))
       (has_still column ∙ and_from (has coming column) (not (is_read column)) after (ap not none))
@@ -159,7 +165,8 @@ module _ (problem : Problem) (k : PrefixKind) (coming still bare : Class) (mask 
         (λ column. once_if (is_quiet column) + once_if (is_reading column)) is_read
     both =
         alike_then problem.tiers.width [] one two (λ column. once_if (is_quiet column))
-        (λ column. once_if (is_reading column)) (λ column. once_if (is_quiet column) + once_if (is_reading column)) is_read
+        (λ column. once_if (is_reading column)) (λ column. once_if (is_quiet column) + once_if
+        (is_reading column)) is_read
         (adds_constant problem.tiers.width [] one is_quiet is_read false
         (subst (λ n. AddsClasses n [] one (λ column. once_if (is_quiet column))) same first)
         (λ column h. not-true (is_read column) (and_parts (has coming column) (not (is_read column))

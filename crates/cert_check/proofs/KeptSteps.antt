@@ -50,7 +50,8 @@ module _ (problem : Problem) (stages : List Stage) (stage below : ℕ) (k : Pref
               costs = λ other h. sym ((alike column other held (here other h)).costs stage k (omega arith)) ∙ costs;
               few = few;
             },
-            λ other h. tight_below_same problem stages stage below k column other (alike column other held h) within tight,
+            λ other h. tight_below_same problem stages stage below k column other
+                (alike column other held h) within tight,
           ),
         ),
       ),
@@ -106,7 +107,8 @@ module _ (problem : Problem) (stages : List Stage) (stage below : ℕ) (k : Pref
 
     last_more : (column : List Sym) → IsTrue (has class column) → IsTrue (some_has (take (n + 1) classes) column)
     last_more column h = some_more column ∙ list_any-append (λ c. has c column) (take n classes) (class ∷ [])
-        ∙ or_right (some_has (take n classes) column) (some_has (class ∷ []) column) (or_left (has class column) false h)
+        ∙ or_right (some_has (take n classes) column) (some_has (class ∷ []) column)
+        (or_left (has class column) false h)
 
     times_more : (column : List Sym) → times_held (take (n + 1) classes) column
         ≡ times_held (take n classes) column + times_held (class ∷ []) column
@@ -137,7 +139,8 @@ module _ (problem : Problem) (stages : List Stage) (stage below : ℕ) (k : Pref
         ∙ ap (λ c. classes_of old ++ c ∷ []) same in
         let some : (column : List Sym) → some_has (classes_of new) column
         ≡ (some_has (classes_of old) column || some_has (class ∷ []) column) =
-        λ column. ap (λ xs. some_has xs column) all ∙ list_any-append (λ c. has c column) (classes_of old) (class ∷ []) in
+        λ column. ap (λ xs. some_has xs column) all
+        ∙ list_any-append (λ c. has c column) (classes_of old) (class ∷ []) in
         record {
           one_width = subst (All (λ c. length (sets_of c) ≡ problem.tiers.width)) (sym all)
               (All-push (λ c. length (sets_of c) ≡ problem.tiers.width) (classes_of old) class so_far.one_width wide);

@@ -1,22 +1,22 @@
 -- The bits that tell a kind: there are some, and they are one.
-use Rattle.std.proofs.Common.{◌≡◌, ℕ, zero, suc, ◌+◌, ◌*◌, ◌/◌, ◌%◌, ◌^◌, ◌==◌, ◌<◌, ◌≤◌, ◌&&◌, ◌||◌, not, nat_eq, Bool, true, false, cond, min, List, [], ◌∷◌, map, length, get_or, refl, ap, ap₂, sym, ◌∙◌, subst, arith, ⊎_elim, bit_and, eq-eqb, ne_eqb}
+use Rattle.std.proofs.Common.{◌≡◌, ℕ, zero, suc, ◌+◌, ◌*◌, ◌/◌, ◌%◌, ◌^◌, ◌==◌, ◌<◌, ◌≤◌, ◌&&◌, Bool, true, false, cond, List, [], ◌∷◌, map, length, get_or, refl, ap, ap₂, sym, ◌∙◌, subst, arith, ⊎_elim, bit_and}
 use Rattle.std.specs.Int.{bit_at}
-use Rattle.std.specs.List.{range_with_len, list_any}
+use Rattle.std.specs.List.{range_with_len}
 use Rattle.std.proofs.Props.{props}
 use Rattle.std.proofs.Math.Nat.{pow-suc}
-use Rattle.std.proofs.lemmas.Bool.{cases_lt, eqb-false, false≢true}
+use Rattle.std.proofs.lemmas.Bool.{cases_lt}
 use Rattle.std.proofs.lemmas.List.{length-map, get_or-map}
-use Rattle.std.proofs.lemmas.List.FromFn.{fill_by_all, length-map-range_with_len, get_or-map-range_with_len}
-use Rattle.std.proofs.lemmas.List.Folds.{list_any_at}
-use Rattle.std.proofs.lemmas.Nat.Bits.{bit_at_lowest, bit_at-suc, bit_at_and, bit_at-zero, bit_at-lt, bit_at_above, same_from_bits, same_from_bits_below}
+use Rattle.std.proofs.lemmas.List.FromFn.{fill_by_all, get_or-map-range_with_len}
+use Rattle.std.proofs.lemmas.Nat.Bits.{bit_at_lowest, bit_at-suc, bit_at-lt, bit_at_above, same_from_bits_below}
 use Rattle.tier_core.specs.declared.kind.Kind.{Kind}
-use Rattle.tier_core.specs.Kinds.{Phase, closed, unmet, met, PrefixKind, phase_by_bits, phase_at, phases, open_tiers}
+use Rattle.tier_core.specs.Kinds.{Phase, closed, PrefixKind, phase_by_bits, phase_at, phases, open_tiers}
 use Rattle.tier_core.specs.Tiers.{has_tier}
 use Rattle.tier_core.proofs.KindLemmas.{bit_value, not_both}
 use Rattle.violation.specs.Moves.{is_unmet_phase, is_met_phase}
 use Rattle.violation.specs.Prefixes.{stretches, kind_of_bits}
 use Rattle.violation.specs.Problems.{Problem}
 use Rattle.cert_check.specs.Faults.{TellsKind}
+use Rattle.cert_check.proofs.BitSteps.{apart_from, phase_told, one_of}
 
 -- a mask has the flags of a list
 record AreBits (flags : List Bool) (mask : ℕ) : Type 0 where
@@ -54,54 +54,6 @@ bits_of (b ∷ flags) = let rest : (mask : ℕ) × AreBits flags mask = bits_of 
 
 open_bits : (flags : List Bool) (mask : ℕ) → AreBits flags mask → open_tiers (length flags) mask ≡ flags
 open_bits flags mask a = sym (fill_by_all (has_tier mask) flags (length flags) false refl (λ i l. sym (a.each i l)))
-
-none_bit : (mask i : ℕ) → has_tier mask i ≡ false → bit_at mask i ≡ 0
-none_bit mask i h = let other = eqb-false (bit_at mask i) 1 h in omega (arith, bit_at-lt mask i)
-
-apart_from : (a b : ℕ) → ((i : ℕ) → (has_tier a i && has_tier b i) ≡ false) → bit_and a b ≡ 0
-apart_from a b h = same_from_bits (bit_and a b) 0
-    (λ i. bit_at_and a b i ∙ none i (has_tier a i) refl ∙ sym (bit_at-zero i))
-  where
-    none : (i : ℕ) (c : Bool) → has_tier a i ≡ c → min (bit_at a i) (bit_at b i) ≡ 0
-    none i false e = omega (arith, none_bit a i e)
-    none i true e = omega (arith, none_bit b i (sym (ap (λ x. x && has_tier b i) e) ∙ h i))
-
-phase_told : (p : Phase) → phase_by_bits (is_unmet_phase p) (is_met_phase p) ≡ p
-phase_told closed = refl
-phase_told unmet = refl
-phase_told met = refl
-
-one_of : (p : Phase) → (is_unmet_phase p && is_met_phase p) ≡ false
-one_of closed = refl
-one_of unmet = refl
-one_of met = refl
-
-none_any : (is : List ℕ) → list_any (λ flag. flag) (map (has_tier 0) is) ≡ false
-none_any [] = refl
-none_any (i ∷ is) = ap (λ b. b || list_any (λ flag. flag) (map (has_tier 0) is)) (ap (λ n. n == 1) (bit_at-zero i))
-    ∙ none_any is
-
--- a mask is 0 exactly where it has no flag
-pub no_flag : (n mask : ℕ) → mask < 2 ^ n → nat_eq mask 0 ≡ not (list_any (λ flag. flag) (open_tiers n mask))
-no_flag n mask l = by (list_any (λ flag. flag) (open_tiers n mask)) refl
-  where
-    unset : list_any (λ flag. flag) (open_tiers n mask) ≡ false → (i : ℕ) → i < n → (b : Bool) → has_tier mask i ≡ b
-        → has_tier mask i ≡ false
-    unset e i h false t = t
-    unset e i h true t = absurd (false≢true (sym e ∙ list_any_at (λ flag. flag) (open_tiers n mask) i false
-        (omega (arith, h, length-map-range_with_len (has_tier mask) 0 n))
-        (get_or-map-range_with_len (has_tier mask) 0 n i i false h (omega arith) ∙ t)))
-
-    none : list_any (λ flag. flag) (open_tiers n mask) ≡ false → mask ≡ 0
-    none e = same_from_bits mask 0 (λ i. ⊎_elim
-        (λ h. none_bit mask i (unset e i h (has_tier mask i) refl) ∙ sym (bit_at-zero i))
-        (λ h. bit_at_above mask n i l h ∙ sym (bit_at-zero i)) (cases_lt i n))
-
-    by : (b : Bool) → list_any (λ flag. flag) (open_tiers n mask) ≡ b
-        → nat_eq mask 0 ≡ not (list_any (λ flag. flag) (open_tiers n mask))
-    by false e = eq-eqb mask 0 (none e) ∙ sym (ap not e)
-    by true e = ne_eqb mask 0 (λ z. false≢true (sym (none_any (range_with_len 0 n))
-        ∙ ap (λ m. list_any (λ flag. flag) (open_tiers n m)) (sym z) ∙ e)) ∙ sym (ap not e)
 
 -- masks of the unmet and of the met ones of some phases
 module _ (ps : List Phase) (u m : ℕ) (unmets : AreBits (map is_unmet_phase ps) u)

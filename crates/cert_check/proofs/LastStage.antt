@@ -78,9 +78,11 @@ module _ (s : Subject) (staged : IsStaged s) where
         (moved (problem_of s) (last_stage (problem_of s)) (last_kind s node) column)) where
       listed_told : Contains (kinds_of s (last_stage (problem_of s)))
           (moved (problem_of s) (last_stage (problem_of s)) (last_kind s node) column)
-      listed_told = own (is_listed problem s.answer.now.stages.items last (moved problem last (last_kind s node) column))
+      listed_told = own (is_listed problem s.answer.now.stages.items last
+          (moved problem last (last_kind s node) column))
         where
-          own : ((p : ℕ) × Lists problem s.answer.now.stages.items last (moved problem last (last_kind s node) column) p)
+          own : ((p : ℕ) × Lists problem s.answer.now.stages.items last
+              (moved problem last (last_kind s node) column) p)
               ⊎ IsUnlisted problem s.answer.now.stages.items last (moved problem last (last_kind s node) column)
               → Contains (kinds_of s last) (moved problem last (last_kind s node) column)
           own (inl h) = lists_kind problem last s.answer.now.stages.items
@@ -107,7 +109,11 @@ module _ (s : Subject) (staged : IsStaged s) where
                                 record {
                                   node = node;
                                   is = at.is;
-                                  kept = record { fits = kept.fits; tight = λ j some l. kept.tight j some (omega (arith, l)) };
+                                  kept = record {
+                                    fits = kept.fits;
+                                    tight = λ j some l. kept.tight j some
+                                        (omega (arith, l));
+                                  };
                                   leads = tells;
                                   unlisted = none;
                                 },
@@ -150,7 +156,8 @@ module _ (s : Subject) (staged : IsStaged s) where
         let k = last_kind s node in
         let piece = get_or pieces i d in
         let is : piece ≡ get_or pieces i piece = get_or_default pieces i d piece l in
-        let held = has-first_column piece.class (piece_filled problem stages last (last + 1) k pieces kept i piece l is) in
+        let held = has-first_column piece.class (piece_filled problem stages last
+        (last + 1) k pieces kept i piece l is) in
         target_listed (first_column piece.class) piece.target
         (piece_kept problem stages last (last + 1) k pieces kept i piece l is (first_column piece.class) held)
         ((piece_told problem stages last (last + 1) k pieces kept i piece l is).leads (first_column piece.class) held)

@@ -15,6 +15,7 @@ use Rattle.tier_core.specs.Symbols.{rank}
 use Rattle.symbol_class.specs.Held.{some_has}
 use Rattle.cert_check.specs.Arcs.{IsLeastColumn, IsNoColumn, IsLesser}
 use Rattle.cert_check.specs.Places.{IsBefore, column_place}
+use Rattle.cert_check.proofs.ColumnPlaces.{not_after_is}
 
 greater : (m n : ℕ) → n < m → nat_cmp m n ≡ Greater
 greater m n l = ap (λ b. cond b Less (cond (m == n) Equal Greater)) (le-ltb m n (omega (arith, l)))
@@ -23,20 +24,6 @@ greater m n l = ap (λ b. cond b Less (cond (m == n) Equal Greater)) (le-ltb m n
 equal : (m n : ℕ) → m ≡ n → nat_cmp m n ≡ Equal
 equal m n e = ap (λ b. cond b Less (cond (m == n) Equal Greater)) (le-ltb m n (omega (arith, e)))
     ∙ ap (λ b. cond b Equal Greater) (eq-eqb m n e)
-
--- a column whose place is before that of another compares as less
-pub compared : (c d : List Sym) → IsBefore (column_place d) (column_place c) → is_gt (column_cmp c d) ≡ true
-compared [] [] b = absurd b
-compared [] (t ∷ d) b = absurd b
-compared (s ∷ c) [] b = refl
-compared (s ∷ c) (t ∷ d) (inl less) = ap (λ o. is_gt (ordering_then o (column_cmp c d)))
-    (greater (rank s) (rank t) less)
-compared (s ∷ c) (t ∷ d) (inr same) = ap (λ o. is_gt (ordering_then o (column_cmp c d)))
-    (equal (rank s) (rank t) (sym same.0)) ∙ compared c d same.1
-
--- of two columns that do not come after a third, neither is after it
-pub not_before : (c d : List Sym) → is_gt (column_cmp c d) ≡ false → IsBefore (column_place d) (column_place c) → ⊥
-not_before c d h b = true≢false (sym (compared c d b) ∙ h)
 
 -- what is before a column that does not come after another is before that one too
 earlier : (other column lesser : List Sym) → IsBefore (column_place other) (column_place lesser)
@@ -97,7 +84,7 @@ module _ (classes : List Class) (n : ℕ) (class : Class) (within : n < length c
     first = λ other h before. elim (or_cases (some_has (take n classes) other) (has class other) (sym (more other)
         ∙ h)) [
           | inl e ↦ true≢false (sym e ∙ none other)
-          | inr e ↦ not_before own other (first other e) before
+          | inr e ↦ not_after_is own other (first other e) before
         ];
   }
 
@@ -109,7 +96,7 @@ module _ (classes : List Class) (n : ℕ) (class : Class) (within : n < length c
     first = λ other h before. elim (or_cases (some_has (take n classes) other) (has class other) (sym (more other)
         ∙ h)) [
           | inl e ↦ so_far.first other e (earlier other column lesser before two.not_after_first)
-          | inr e ↦ not_before own other (first other e) (earlier other own lesser before two.not_after_second)
+          | inr e ↦ not_after_is own other (first other e) (earlier other own lesser before two.not_after_second)
         ];
   }
     where

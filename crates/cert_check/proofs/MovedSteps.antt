@@ -85,5 +85,6 @@ module _ (s : Subject) (ready : IsReady s) (stage : ℕ) (within : stage ≤ las
       (each_event (problem_of s).tiers.width (has_tier mask) (is_tier_open (problem_of s) k)
       (λ t l. mask_agrees s ready stage kind at mask bits t l) (c.left ++ c.right)
       (all_append (λ e. e.tier < (problem_of s).tiers.width) c.left c.right over.left_below over.right_below)))
-      ∙ cost_at (take stage cs) (is_tier_open (problem_of s) k) k.phases column number place c c (omega (arith, size)) here
+      ∙ cost_at (take stage cs) (is_tier_open (problem_of s) k) k.phases column number place c c
+      (omega (arith, size)) here
       before

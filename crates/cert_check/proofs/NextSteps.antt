@@ -33,21 +33,26 @@ pub record HasMore (mask n : ℕ) (b : Bool) (more : ℕ) : Type 0 where
 
 -- ---- one phase more
 
-module _ (u m n u' m' : ℕ) (phase : Phase) (hu : HasMore u n (is_unmet_phase phase) u') (hm : HasMore m n (is_met_phase phase) m') where
+module _ (u m n u' m' : ℕ) (phase : Phase) (hu : HasMore u n (is_unmet_phase phase) u')
+    (hm : HasMore m n (is_met_phase phase) m') where
   more_apart : bit_and u m ≡ 0 → bit_and u' m' ≡ 0
   more_apart a = apart_from u' m' (λ i. ⊎_elim
-      (λ below. ap (λ b. b && has_tier m' i) (hu.others i below) ∙ ap (λ b. has_tier u i && b) (hm.others i below) ∙ not_both u m i a)
+      (λ below. ap (λ b. b && has_tier m' i) (hu.others i below) ∙ ap (λ b. has_tier u i && b) (hm.others i below)
+      ∙ not_both u m i a)
       (λ above. ⊎_elim
       (λ beyond. ap (λ b. b && has_tier m' i) (none_from u' (n + 1) i hu.within (omega arith)))
-      (λ at. let is : i ≡ n = omega arith in ap (λ k. has_tier u' k && has_tier m' k) is ∙ ap (λ b. b && has_tier m' n) hu.here ∙ ap (λ b. is_unmet_phase phase && b) hm.here ∙ one_of phase)
+      (λ at. let is : i ≡ n = omega arith in ap (λ k. has_tier u' k && has_tier m' k) is
+      ∙ ap (λ b. b && has_tier m' n) hu.here ∙ ap (λ b. is_unmet_phase phase && b) hm.here ∙ one_of phase)
       (cases_lt n i))
       (cases_lt i n))
 
   told_others : (i : ℕ) → i < n → told_at u' m' i ≡ told_at u m i
-  told_others i l = ap (λ b. phase_by_bits b (has_tier m' i)) (hu.others i l) ∙ ap (phase_by_bits (has_tier u i)) (hm.others i l)
+  told_others i l = ap (λ b. phase_by_bits b (has_tier m' i)) (hu.others i l)
+      ∙ ap (phase_by_bits (has_tier u i)) (hm.others i l)
 
   told_here : told_at u' m' n ≡ phase
-  told_here = ap (λ b. phase_by_bits b (has_tier m' n)) hu.here ∙ ap (phase_by_bits (is_unmet_phase phase)) hm.here ∙ phase_told phase
+  told_here = ap (λ b. phase_by_bits b (has_tier m' n)) hu.here ∙ ap (phase_by_bits (is_unmet_phase phase)) hm.here
+      ∙ phase_told phase
 
 -- whether the bit of `met` is set tells whether the phase is met, where no bit of `unmet` stands beside it
 pub met_told : (kind : Kind) (i : ℕ) → has_tier kind.met i ≡ is_met_phase (phase_at kind i)
@@ -59,12 +64,15 @@ met_told kind i = by (has_tier kind.unmet i) (has_tier kind.met i)
     by false true = refl
     by false false = refl
 
-next_append : (cs : List Constraint) (ps : List Phase) (c : Constraint) (p : Phase) (column : List Sym) → length ps ≡ length cs
-    → next_phases (cs ++ c ∷ []) (ps ++ p ∷ []) column ≡ next_phases cs ps column ++ next_phase c.left c.right p column ∷ []
+next_append : (cs : List Constraint) (ps : List Phase) (c : Constraint) (p : Phase) (column : List Sym) → length ps
+    ≡ length cs
+    → next_phases (cs ++ c ∷ []) (ps ++ p ∷ []) column
+    ≡ next_phases cs ps column ++ next_phase c.left c.right p column ∷ []
 next_append [] [] c p column e = refl
 next_append [] (q ∷ ps) c p column e = absurd (omega arith)
 next_append (d ∷ cs) [] c p column e = absurd (omega arith)
-next_append (d ∷ cs) (q ∷ ps) c p column e = ap (λ x. next_phase d.left d.right q column ∷ x) (next_append cs ps c p column (omega arith))
+next_append (d ∷ cs) (q ∷ ps) c p column e = ap (λ x. next_phase d.left d.right q column ∷ x)
+    (next_append cs ps c p column (omega arith))
 
 -- the masks tell the next phases of the stretch implications among the first n constraints
 pub record AreNext (cs : List Constraint) (kind : Kind) (column : List Sym) (n next u m : ℕ) : Type 0 where
@@ -75,15 +83,20 @@ pub record AreNext (cs : List Constraint) (kind : Kind) (column : List Sym) (n n
   pub met_within : m < 2 ^ next
   pub told : phases_by next u m ≡ next_phases (filter is_stretch (take n cs)) (phases next kind) column
 
-pub next_more : (cs : List Constraint) (kind : Kind) (column : List Sym) (n next u m u' m' : ℕ) (c : Constraint) (phase : Phase) → AreNext cs kind column n next u m → n < length cs → c ≡ get_or cs n c → is_stretch c ≡ true
-    → HasMore u next (is_unmet_phase phase) u' → HasMore m next (is_met_phase phase) m' → phase ≡ next_phase c.left c.right (phase_at kind next) column
+pub next_more : (cs : List Constraint) (kind : Kind) (column : List Sym) (n next u m u' m' : ℕ) (c : Constraint)
+    (phase : Phase) → AreNext cs kind column n next u m → n < length cs → c ≡ get_or cs n c → is_stretch c ≡ true
+    → HasMore u next (is_unmet_phase phase) u' → HasMore m next (is_met_phase phase) m' → phase
+    ≡ next_phase c.left c.right (phase_at kind next) column
     → AreNext cs kind column (n + 1) (next + 1) u' m'
 next_more cs kind column n next u m u' m' c phase a l is h hu hm here =
     let fs = filter is_stretch (take n cs) in
     let more : filter is_stretch (take (n + 1) cs) ≡ fs ++ c ∷ [] =
-    filter_more is_stretch cs n c l ∙ ap (λ x. fs ++ cond (is_stretch x) (x ∷ []) []) (sym is) ∙ ap (λ b. fs ++ cond b (c ∷ []) []) h in
-    let same : phases_by next u m ≡ phases_by next u' m' = fill_by_all (told_at u' m') (phases_by next u m) next closed (length-map-range_with_len (told_at u m) 0 next)
-    (λ i b. get_or-map-range_with_len (told_at u m) 0 next i i closed b (omega arith) ∙ sym (told_others u m next u' m' phase hu hm i b)) in
+    filter_more is_stretch cs n c l ∙ ap (λ x. fs ++ cond (is_stretch x) (x ∷ []) []) (sym is)
+    ∙ ap (λ b. fs ++ cond b (c ∷ []) []) h in
+    let same : phases_by next u m ≡ phases_by next u' m' = fill_by_all (told_at u' m')
+    (phases_by next u m) next closed (length-map-range_with_len (told_at u m) 0 next)
+    (λ i b. get_or-map-range_with_len (told_at u m) 0 next i i closed b (omega arith)
+    ∙ sym (told_others u m next u' m' phase hu hm i b)) in
     let size : length (phases next kind) ≡ length fs = length-map-range_with_len (phase_at kind) 0 next ∙ a.count in
     record {
       count = omega (arith, a.count, ap length more, length_push fs c);
@@ -92,17 +105,23 @@ next_more cs kind column n next u m u' m' c phase a l is h hu hm here =
       unmet_within = hu.within;
       met_within = hm.within;
       told = map-range_with_len_more (told_at u' m') 0 next next (omega arith)
-          ∙ ap (λ ps. ps ++ told_at u' m' next ∷ []) (sym same ∙ a.told) ∙ ap (λ p. next_phases fs (phases next kind) column ++ p ∷ []) (told_here u m next u' m' phase hu hm ∙ here)
-          ∙ sym (ap (λ x. next_phases x (phases (next + 1) kind) column) more ∙ ap (λ ps. next_phases (fs ++ c ∷ []) ps column) (map-range_with_len_more (phase_at kind) 0 next next (omega arith))
+          ∙ ap (λ ps. ps ++ told_at u' m' next ∷ []) (sym same ∙ a.told)
+          ∙ ap (λ p. next_phases fs (phases next kind) column ++ p ∷ [])
+          (told_here u m next u' m' phase hu hm ∙ here)
+          ∙ sym (ap (λ x. next_phases x (phases (next + 1) kind) column) more
+          ∙ ap (λ ps. next_phases (fs ++ c ∷ []) ps column)
+          (map-range_with_len_more (phase_at kind) 0 next next (omega arith))
           ∙ next_append fs (phases next kind) c (phase_at kind next) column size);
     }
 
-pub next_same : (cs : List Constraint) (kind : Kind) (column : List Sym) (n next u m : ℕ) (c : Constraint) → AreNext cs kind column n next u m → n < length cs → c ≡ get_or cs n c → is_stretch c ≡ false
+pub next_same : (cs : List Constraint) (kind : Kind) (column : List Sym) (n next u m : ℕ) (c : Constraint)
+    → AreNext cs kind column n next u m → n < length cs → c ≡ get_or cs n c → is_stretch c ≡ false
     → AreNext cs kind column (n + 1) next u m
 next_same cs kind column n next u m c a l is h =
     let fs = filter is_stretch (take n cs) in
     let same : filter is_stretch (take (n + 1) cs) ≡ fs =
-    filter_more is_stretch cs n c l ∙ ap (λ x. fs ++ cond (is_stretch x) (x ∷ []) []) (sym is) ∙ ap (λ b. fs ++ cond b (c ∷ []) []) h ∙ append-nil fs in
+    filter_more is_stretch cs n c l ∙ ap (λ x. fs ++ cond (is_stretch x) (x ∷ []) []) (sym is)
+    ∙ ap (λ b. fs ++ cond b (c ∷ []) []) h ∙ append-nil fs in
     record {
       count = a.count ∙ sym (ap length same);
       few = omega (arith, a.few);
@@ -114,15 +133,18 @@ next_same cs kind column n next u m c a l is h =
 
 -- the masks tell the next phases of all
 pub record AreAllNext (cs : List Constraint) (kind : Kind) (column : List Sym) (u m : ℕ) : Type 0 where
-  pub told : phases_by (length (filter is_stretch cs)) u m ≡ next_phases (filter is_stretch cs) (phases (length (filter is_stretch cs)) kind) column
+  pub told : phases_by (length (filter is_stretch cs)) u m
+      ≡ next_phases (filter is_stretch cs) (phases (length (filter is_stretch cs)) kind) column
   pub unmet_within : u < 2 ^ length (filter is_stretch cs)
   pub met_within : m < 2 ^ length (filter is_stretch cs)
 
-pub next_all : (cs : List Constraint) (kind : Kind) (column : List Sym) (n next u m : ℕ) → AreNext cs kind column n next u m → length cs ≤ n → AreAllNext cs kind column u m
+pub next_all : (cs : List Constraint) (kind : Kind) (column : List Sym) (n next u m : ℕ)
+    → AreNext cs kind column n next u m → length cs ≤ n → AreAllNext cs kind column u m
 next_all cs kind column n next u m a l =
     let whole : take n cs ≡ cs = take_all n cs l in
     let count : next ≡ length (filter is_stretch cs) = a.count ∙ ap (λ x. length (filter is_stretch x)) whole in
-    let Told : ℕ → List Constraint → Type 0 = λ k x. phases_by k u m ≡ next_phases (filter is_stretch x) (phases k kind) column in
+    let Told : ℕ → List Constraint → Type 0 = λ k x. phases_by k u m
+    ≡ next_phases (filter is_stretch x) (phases k kind) column in
     let Below : ℕ → ℕ → Type 0 = λ mask k. mask < 2 ^ k in
     record {
       told = subst (λ k. Told k cs) count (subst (Told next) whole a.told);

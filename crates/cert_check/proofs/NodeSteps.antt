@@ -38,7 +38,8 @@ some_same : {X : Type 0} {x y : X} → Some x ≡ Some y → x ≡ y
 some_same {x = x} e = ap (λ o. unwrap_or o x) e
 
 -- a number is that of one node
-pub one_node : (answer : Answer) (stage n : ℕ) (a b : Node) → HasNode answer stage n a → HasNode answer stage n b → a ≡ b
+pub one_node : (answer : Answer) (stage n : ℕ) (a b : Node) → HasNode answer stage n a → HasNode answer stage n b → a
+    ≡ b
 one_node answer stage n a b h k = some_same (sym h.numbered ∙ k.numbered)
 
 module _ (problem : Problem) (answer : Answer) (stage n : ℕ) (node : Node) (is : HasNode answer stage n node) where
@@ -91,7 +92,8 @@ module _ (problem : Problem) (answer : Answer) (stage n : ℕ) (node : Node) (is
 
     module _ (next : ℕ) (lists : Lists problem answer.stages.items stage (kind_of_bits problem stage target) next) where
       listed_at : (column : List Sym) → IsTrue (has class column)
-          → Lists problem answer.stages.items stage (moved problem stage (kind_of_bits problem stage node.kind) column) next
+          → Lists problem answer.stages.items stage
+          (moved problem stage (kind_of_bits problem stage node.kind) column) next
       listed_at column h = subst (λ k. Lists problem answer.stages.items stage k next) (leads column h).tells lists
 
       pub too_high : cost + next < node.potential
@@ -177,7 +179,8 @@ module _ (problem : Problem) (answer : Answer) (stage n : ℕ) (classes : List C
       within = omega (arith, inside);
       wrong = λ d l. at_next (AreWrongOn problem answer stage n) class d e wrong;
       others = λ m d l. ⊎_elim
-          (λ below. ⊎_elim (λ right. inl right) (λ later. absurd (omega (arith, later.0, none))) (so_far.others m d below))
+          (λ below. ⊎_elim (λ right. inl right) (λ later. absurd (omega (arith, later.0, none)))
+          (so_far.others m d below))
           (λ above. let same : m ≡ next = omega arith in
           inr (
             inside,
@@ -199,13 +202,16 @@ module _ (problem : Problem) (answer : Answer) (stage n : ℕ) (classes : List C
           (λ below. ⊎_elim (λ right. inl right) (λ later. inr (
             inside,
             λ b.
-                let mine = at_next (λ c. IsBefore (column_place (first_column c)) (column_place (first_column first))) class d e before in
+                let mine = at_next (λ c. IsBefore (column_place (first_column c))
+                (column_place (first_column first))) class d e before in
                 let best_is : first ≡ get_or classes best d = f ∙ get_or_default classes best first d some in
                 let mine : IsBefore (column_place (first_column (get_or classes next d)))
                 (column_place (first_column (get_or classes best d))) =
-                subst (λ c. IsBefore (column_place (first_column (get_or classes next d))) (column_place (first_column c))) best_is mine in
+                subst (λ c. IsBefore (column_place (first_column (get_or classes next d)))
+                (column_place (first_column c))) best_is mine in
                 ⊎_elim (λ x. later.1 x) (λ x. not_both_before _ _ x mine)
-                (before_or (column_place (first_column (get_or classes m d))) (column_place (first_column (get_or classes best d)))
+                (before_or (column_place (first_column (get_or classes m d)))
+                (column_place (first_column (get_or classes best d)))
                 (column_place (first_column (get_or classes next d))) b),
           )) (so_far.others m d below))
           (λ above. let same : m ≡ next = omega arith in
@@ -274,7 +280,8 @@ module _ (problem : Problem) (answer : Answer) (stage n : ℕ) (classes : List C
         lower zero l = potential
         lower (suc m) l = absurd (omega arith)
 
-        here : (rest : List ℕ) → InNode problem answer stage n 1 rest → IsBefore rest (column_place (first_column class)) → ⊥
+        here : (rest : List ℕ) → InNode problem answer stage n 1 rest
+            → IsBefore rest (column_place (first_column class)) → ⊥
         here rest w b =
             let column : List Sym = w.0 in
             let i = some_index classes column class (of_wrong column w.1.0) in
@@ -285,7 +292,8 @@ module _ (problem : Problem) (answer : Answer) (stage n : ℕ) (classes : List C
             (λ later. ⊎_elim
             (λ x. not_after_is (first_column other) column (first_column_least other column i.1.1) x)
             (λ x. subst (λ c. IsNotAfter c other) (sym e) later.1 x)
-            (before_or (column_place column) (column_place (first_column other)) (column_place (first_column class)) before))
+            (before_or (column_place column) (column_place (first_column other))
+            (column_place (first_column class)) before))
             (least.others i.0 class (omega (arith, i.1.0, all)))
 
 -- a node is right where its parts are

@@ -14,6 +14,7 @@ pub node_opened : (s : Subject) (stage : ℕ) → IsReady s → stage ≤ last_s
     → HasNode s.answer.now stage n node → node.kind.opened < 2 ^ length (problem_of s).tiers.free
 node_opened s stage ready within n node h =
     let fits = fits_at s ready stage within n node (slice_get_within (nodes_of s stage) n node h.numbered) in
-    let here : get_or (nodes_of s stage) n node ≡ node = get_or_from_slice_get (nodes_of s stage) n node node h.numbered in
+    let here : get_or (nodes_of s stage) n node ≡ node = get_or_from_slice_get
+    (nodes_of s stage) n node node h.numbered in
     subst (λ m. node.kind.opened < 2 ^ m) (free_same s ready stage within)
     (subst (λ (x : Node). x.kind.opened < 2 ^ free_count s.shape.now) here fits.opened)

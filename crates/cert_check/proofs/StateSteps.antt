@@ -160,7 +160,8 @@ pub state_node_within : (s : Subject) → IsStaged s → (line : StateLine)
     → Contains s.answer.now.automaton.states.items line
     → line.node < length (nodes_of s (last_stage (problem_of s)))
 state_node_within s staged line h =
-    let size : length s.answer.now.stages.items - 1 ≡ last_stage (problem_of s) = omega (arith, staged.ready.numbers.stages) in
+    let size : length s.answer.now.stages.items - 1
+    ≡ last_stage (problem_of s) = omega (arith, staged.ready.numbers.stages) in
     subst (λ n. line.node < length (nodes_at s.answer.now.stages.items n)) size
     (All-contains (λ (x : StateLine). IsReadableState s.shape.now.width
     (length (last_nodes s.answer.now.stages.items)) x) s.answer.now.automaton.states.items line

@@ -133,7 +133,8 @@ stretches_rise [] (suc r) (suc n) l = omega arith
 stretches_rise (c ∷ cs) (suc r) (suc n) l = counted (is_stretch c) c (filter is_stretch (take r cs))
     (filter is_stretch (take n cs)) (stretches_rise cs r n (omega arith))
 
-module _ (s : Subject) (ready : IsReady s) (stage j : ℕ) (within : stage ≤ last_stage (problem_of s)) (earlier : j ≤ stage)
+module _ (s : Subject) (ready : IsReady s) (stage j : ℕ) (within : stage ≤ last_stage (problem_of s))
+    (earlier : j ≤ stage)
     (kind result : Kind) (count : ℕ) (is : count ≡ get_or s.shape.now.phases.items j count)
     (opened : result.opened ≡ kind.opened) (below : AreStretchesBelow count result) where
   last : j ≤ last_stage (problem_of s)

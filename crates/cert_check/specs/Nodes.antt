@@ -52,7 +52,8 @@ pub record IsLeastWrong (problem : Problem) (answer : Answer) (stage node : ℕ)
   pub within : best ≤ length classes
   pub wrong : (class : Class) → best < length classes → AreWrongOn problem answer stage node
       (slice_index_or classes best class)
-  pub others : (n : ℕ) (class : Class) → n < count → AreRightOn problem answer stage node (slice_index_or classes n class)
+  pub others : (n : ℕ) (class : Class) → n < count
+      → AreRightOn problem answer stage node (slice_index_or classes n class)
       ⊎ ((best < length classes) × IsNotAfter (slice_index_or classes best class) (slice_index_or classes n class))
 
 -- nothing is wrong in a stage

@@ -11,7 +11,8 @@ use Rattle.cert_check.proofs.costs.cost.Goals as goal
 pub open_tiers-mask-requires-clause-wide : goal.open_tiers-mask-requires-clause-wide
 open_tiers-mask-requires-clause-wide c =
     let s = c.args.subject.now in
-    subst (λ (ks : List TierKind). All (λ (column : List Sym). length column ≡ inputs_before ks (length ks)) s.answer.now.form)
+    subst (λ (ks : List TierKind). All (λ (column : List Sym). length column ≡ inputs_before ks
+    (length ks)) s.answer.now.form)
     (sym c.as_slice.ensures.value) (form_wide s c.requires.ready c.args.stage c.requires.stage)
 
 pub costs-requires-clause-over : goal.costs-requires-clause-over

@@ -73,6 +73,7 @@ returns-clause-columns c column l =
       c.requires.form,
       c.loop-tier-test.false,
       c.loop-tier.auto.tier-end,
-      ap (λ (n : ℕ). inputs_before kinds n) (let e : c.loop-tier.tier ≡ length kinds = omega (arith, c.loop-tier-test.false, c.loop-tier.auto.tier-end) in e),
+      ap (λ (n : ℕ). inputs_before kinds n) (let e : c.loop-tier.tier ≡ length kinds = omega
+          (arith, c.loop-tier-test.false, c.loop-tier.auto.tier-end) in e),
     ))
     (c.loop-tier.invariant.columns column l)

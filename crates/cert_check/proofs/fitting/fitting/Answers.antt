@@ -62,7 +62,8 @@ none_by place last coming P e column = (λ h. absurd (false≢true h), λ r. abs
 pub open_tiers-requires-clause-wide : goal.open_tiers-requires-clause-wide
 open_tiers-requires-clause-wide c =
     let s = c.args.subject.now in
-    subst (λ (ks : List TierKind). All (λ (column : List Sym). length column ≡ inputs_before ks (length ks)) s.answer.now.form)
+    subst (λ (ks : List TierKind). All (λ (column : List Sym). length column ≡ inputs_before ks
+    (length ks)) s.answer.now.form)
     (sym c.as_slice-kinds.ensures.value) (form_wide s c.requires.ready 0 (omega arith))
 
 pub returns-then-place-len : goal.returns-then-place-len
@@ -92,7 +93,8 @@ returns-then-place-len c stage =
     (subst (λ (n : ℕ). (column : List Sym) → length column ≡ n → IsTrue (has bare column)
     ↔ ((t : ℕ) → t < n → not (is_edge (symbol column t)) ≡ true))
     (ap (λ (ks : List TierKind). length ks) same) c.edgeless_box.ensures.columns)
-    (none_by kind.place (last_place problem) coming (λ column. input_of problem.tiers column ≡ column_at problem.form kind.place)
+    (none_by kind.place (last_place problem) coming
+    (λ column. input_of problem.tiers column ≡ column_at problem.form kind.place)
     (c.if-place-len.true ∙ c.len.ensures))
     (length (sets_of still)) c.push_minus.new.pieces.items c.push_minus.new.pieces.items
     (c.meet-still.ensures.width ∙ wide) problem.tiers.width refl
@@ -106,7 +108,8 @@ pub reading_box-requires-clause-form : goal.reading_box-requires-clause-form
 reading_box-requires-clause-form c =
     let s = c.args.subject.now in
     ap (λ (xs : List Sym). length xs) (c.syms.ensures.value ∙ c.column.ensures)
-    ∙ subst (λ (ks : List TierKind). length (column_at s.answer.now.form c.args.kind.now.place) ≡ inputs_before ks (length ks))
+    ∙ subst (λ (ks : List TierKind). length (column_at s.answer.now.form c.args.kind.now.place)
+    ≡ inputs_before ks (length ks))
     (sym c.as_slice-kinds.ensures.value)
     (form_wide s c.requires.ready 0 (omega arith) c.args.kind.now.place []
     (omega (arith, c.requires.place, c.if-place-len.false, c.len.ensures)))

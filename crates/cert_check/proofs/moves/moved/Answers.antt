@@ -31,7 +31,8 @@ returns c =
     let same = c.as_slice-kinds.ensures.value in
     moved_told (problem_of s) c.args.stage c.args.kind.now c.with_phases.result c.args.column.now
     (numbers_from is_input 0 kinds) (numbers_from is_free 0 kinds) (take c.args.stage c.as_slice.result.now)
-    c.place_after-place.result c.opened_after.result (ap (numbers_from is_input 0) same) (ap (numbers_from is_free 0) same)
+    c.place_after-place.result c.opened_after.result (ap (numbers_from is_input 0) same)
+    (ap (numbers_from is_free 0) same)
     (ap (take c.args.stage) c.as_slice.ensures.value) c.with_phases.ensures.place c.place_after-place.ensures
     c.with_phases.ensures.opened c.opened_after.ensures.flags c.opened_after.ensures.within
     c.with_phases.ensures.phases c.with_phases.ensures.stretches

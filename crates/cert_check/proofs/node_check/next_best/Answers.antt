@@ -96,4 +96,5 @@ returns c =
     least_later (problem_of s) s.answer.now c.args.stage c.args.number (classes_of c.args.pieces.now) c.args.best
     c.args.next c.requires.so_far inside c.index-pieces-next.result.class c.index-pieces-best.result.class class first
     (omega (arith, below, size))
-    (not_after_is (first_column c.index-pieces-best.result.class) (first_column c.index-pieces-next.result.class) compared)
+    (not_after_is (first_column c.index-pieces-best.result.class)
+    (first_column c.index-pieces-next.result.class) compared)

@@ -25,5 +25,6 @@ returns c =
     (λ parts p. node_pieces_are (problem_of s) c.args.stage (kind_of_bits (problem_of s) c.args.stage c.args.kind.now)
     (length c.as_slice.result.now) c.in_ok-tests.tests.items c.in_ok-fitting.fitting.items parts.items same
     (c.in_ok-fitting.ensures c.args.stage) c.in_ok-tests.ensures
-    (subst (λ (ts : List Class). ArePartedByTests (length c.as_slice.result.now) ts c.in_ok-fitting.fitting.items parts.items)
+    (subst (λ (ts : List Class). ArePartedByTests
+    (length c.as_slice.result.now) ts c.in_ok-fitting.fitting.items parts.items)
     c.deref.ensures.value p)) c.parted_by_tests.ensures

@@ -18,7 +18,8 @@ IsLeastDiffering arcs others least = MatchOption least (IsNoColumn (do_differ ar
     (IsLeastColumn (do_differ arcs others))
 
 -- what is said of two lists is said of those that they are
-on_both : (P : List ArcLine → List ArcLine → Type 0) (xs ys zs ws : List ArcLine) → xs ≡ zs → ys ≡ ws → P xs ys → P zs ws
+on_both : (P : List ArcLine → List ArcLine → Type 0) (xs ys zs ws : List ArcLine) → xs ≡ zs → ys ≡ ws → P xs ys
+    → P zs ws
 on_both P xs ys zs ws e f h = subst (λ (us : List ArcLine). P us ws) e (subst (λ (us : List ArcLine). P xs us) f h)
 
 pub least_differing-requires : goal.least_differing-requires

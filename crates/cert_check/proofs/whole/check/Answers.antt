@@ -24,7 +24,8 @@ returns-in-Err-Found-clause-right c right form short =
     let answer = c.args.answer.now in
     let problem = asked_by g answer in
     let first : IsFirstFault problem answer c.in-Err-Found.fault =
-    stop_said (IsFirstFault problem answer) c.in-Err-Found.field-0 c.in-Err-Found.fault c.in-Err-Found.field-0-is c.in-Err-Found.ensures.err in
+    stop_said (IsFirstFault problem answer) c.in-Err-Found.field-0 c.in-Err-Found.fault
+    c.in-Err-Found.field-0-is c.in-Err-Found.ensures.err in
     absurd (faultless_if_certified problem answer (states_in_order g answer c.requires)
     (certified_from_right problem answer
     (record { split = tiers_split g.tiers.kinds.items; over = over_tiers g; form = form; right = right }) short)

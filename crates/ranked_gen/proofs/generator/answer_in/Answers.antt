@@ -10,8 +10,8 @@ returns-in-Err-clause-over c = λ stage e.
     let same : c.in-Err.cause ≡ Budget stage = cc in
     c.in-Err.ensures.over stage (ap Err same)
 
-pub returns-in-Ok-all_ranked-clause-joined : goal.returns-in-Ok-all_ranked-clause-joined
-returns-in-Ok-all_ranked-clause-joined c =
+pub returns-in-Ok-clause-joined : goal.returns-in-Ok-clause-joined
+returns-in-Ok-clause-joined c =
     kept_by_map_err c.answered.result c.map_err.result
     (λ (answer : Answer). HaveJoinedArcs answer.automaton.states.items) _ c.map_err.ensures.cases
     c.map_err.ensures.variant c.answered.ensures.joined

@@ -40,8 +40,8 @@ returns-in-Err-OverBudget-clause-over c = λ stage e.
           (c.in-Err-OverBudget.ensures.over c.in-Err-OverBudget.field-0-is),
     )
 
-pub returns-in-Ok-explore-clause-joined : goal.returns-in-Ok-explore-clause-joined
-returns-in-Ok-explore-clause-joined c =
+pub returns-in-Ok-clause-joined : goal.returns-in-Ok-clause-joined
+returns-in-Ok-clause-joined c =
     kept_by_map_err c.once_answered.result c.map_err.result
     (λ (answer : OnceAnswer). HaveJoinedArcs answer.automaton.states.items) _ c.map_err.ensures.cases
     c.map_err.ensures.variant c.once_answered.ensures.joined

@@ -57,8 +57,8 @@ taken_arcs-requires-clause-state c =
     c.index.result.now c.index-state.result.now inside a b c.index.ensures c.index-state.ensures in
     (found.stands n c.index.result.now c.index-state.result.now at).within
 
-pub at_end-requires-clause-place : goal.at_end-requires-clause-place
-at_end-requires-clause-place c =
+pub at_end-requires : goal.at_end-requires
+at_end-requires c =
     let listed = c.making.listed in
     let found = c.making.invariant.found.found in
     let n = length c.making.states.items in
@@ -70,20 +70,6 @@ at_end-requires-clause-place c =
     listed.kinds.items listed.over.items found.listed.each n c.len-in-making-2.result c.len-in-making-3.result
     c.index.result.now c.index-state.result.now inside a b c.index.ensures c.index-state.ensures in
     (found.stands n c.index.result.now c.index-state.result.now at).fits.place
-
-pub at_end-requires-clause-opened : goal.at_end-requires-clause-opened
-at_end-requires-clause-opened c =
-    let listed = c.making.listed in
-    let found = c.making.invariant.found.found in
-    let n = length c.making.states.items in
-    let inside : n < length listed.kinds.items = omega
-    (arith, c.making-test.true, c.len.ensures, c.len-in-making.ensures, c.making.states.ok, listed.kinds.ok) in
-    let a : c.len-in-making-2.result ≡ n = omega (arith, c.len-in-making-2.ensures, c.making.states.ok) in
-    let b : c.len-in-making-3.result ≡ n = omega (arith, c.len-in-making-3.ensures, c.making.states.ok) in
-    let at : IsAt listed.kinds.items listed.over.items n c.index.result.now c.index-state.result.now = at_index
-    listed.kinds.items listed.over.items found.listed.each n c.len-in-making-2.result c.len-in-making-3.result
-    c.index.result.now c.index-state.result.now inside a b c.index.ensures c.index-state.ensures in
-    (found.stands n c.index.result.now c.index-state.result.now at).fits.opened
 
 pub making-smaller : goal.making-smaller
 making-smaller c =

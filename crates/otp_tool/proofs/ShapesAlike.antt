@@ -137,7 +137,7 @@ seen_stretches (suc r) (c ∷ cs) = go (is_stretch c) (seen_stretches r cs)
         → length (cond b (c ∷ filter is_stretch (take r cs)) (filter is_stretch (take r cs)))
         ≡ length (cond b (constraint_seen c ∷ filter is_seen_stretch (take r (map constraint_seen cs)))
         (filter is_seen_stretch (take r (map constraint_seen cs))))
-    go true e = ap (λ n. n + 1) e
+    go true e = ap suc e
     go false e = e
 
 -- the counts by what is seen

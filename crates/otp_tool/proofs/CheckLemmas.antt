@@ -1,6 +1,5 @@
 -- What `check` does with a grammar and the file of an answer.
-use Rattle.std.proofs.Common.{◌≡◌, ◌⊎◌, inl, inr, ℕ, ◌<◌, ◌≤◌, List, length, map, Some, Result, Ok, Err, refl, ap, sym, ◌∙◌, subst}
-use Rattle.std.proofs.lemmas.List.{length-map}
+use Rattle.std.proofs.Common.{◌≡◌, inl, inr, ℕ, ◌≤◌, List, length, Result, Ok, Err, refl, ap, sym, ◌∙◌, subst}
 use Rattle.outside.specs.Writers.{Puts}
 use Rattle.outside.specs.declared.sink.Sink.{Ghosts}
 use Rattle.outside.specs.declared.sink.WriteErr.{WriteErr}
@@ -10,18 +9,15 @@ use Rattle.tier_core.specs.Tiers.{Tiers}
 use Rattle.grammar_reader.specs.declared.grammar.Grammar.{Grammar}
 use Rattle.grammar_reader.specs.Grammars.{value_of}
 use Rattle.grammar_reader.specs.ShapeOf.{IsShapeOf}
-use Rattle.violation.specs.Problems.{Problem}
 use Rattle.answer_text.specs.declared.answer.Answer.{Answer}
 use Rattle.answer_text.specs.Readable.{IsReadable}
 use Rattle.answer_text.specs.Shape.{widths_of}
 use Rattle.answer_text.specs.Sound.{IsSound}
 use Rattle.answer_text.specs.Text.{Widths}
-use Rattle.answer_reader.specs.Reading.{IsTextOf, answer_of}
-use Rattle.answer_reader.specs.Steps.{At}
+use Rattle.answer_reader.specs.Reading.{IsTextOf}
 use Rattle.answer_reader.specs.Values.{answer_value}
 use Rattle.cert_check.specs.FirstFaults.{IsReadableFor, asked_by}
 use Rattle.cert_check.specs.Verdicts.{IsVerdict}
-use Rattle.cert_check.specs.declared.fault.Fault.{Fault}
 use Rattle.cert_check.specs.declared.fault.Verdict.{Verdict}
 use Rattle.cert_check.specs.declared.fault.Verdict.TheVariants.{Yes, No as Not}
 use Rattle.verdict_text.specs.VerdictText.{verdict_text}
@@ -30,7 +26,7 @@ use Rattle.otp_tool.specs.Answers.{IsShapeFor, IsVerdictText}
 use Rattle.otp_tool.specs.Files.{IsHeld, answer_file}
 use Rattle.otp_tool.specs.Findings.{Finding, FindsForCheck, ready}
 use Rattle.otp_tool.specs.Results.{IsNoText, IsYesText, text_widths}
-use Rattle.otp_tool.specs.Steps.{Change, IsCheckStep, IsCheckWork, IsNoEnd, IsRefusal, IsSecondRefusal, RefusesAnswer, Taking, end_of, no_end_of, taking_of, verdict_end}
+use Rattle.otp_tool.specs.Steps.{Change, IsCheckStep, IsCheckWork, IsNoEnd, IsRefusal, IsSecondRefusal, RefusesAnswer, Taking, no_end_of, taking_of, verdict_end}
 use Rattle.otp_tool.proofs.GrammarLemmas.{same_tiers}
 use Rattle.otp_tool.proofs.RefusalLemmas.{refusal_weaker, second_refused}
 use Rattle.otp_tool.proofs.StepLemmas.{same_shape_widths, same_width, written}
@@ -102,9 +98,12 @@ module _ (g : Grammar) where
           inl (written (IsYesText (value_of g) bytes) (verdict_text (widths_of shape) Yes) (is_text Yes v sound)
           (FindsForCheck (value_of g) bytes) is_ready r p s e)
       verdict_written {sink = sink} {old} {new} (Not fault) v sound r p s e =
-          inr (is_ready, subst (IsNoEnd (IsNoText (value_of g) bytes) (taking_of sink old new)) (sym e)
-          (no_ends (IsNoText (value_of g) bytes) (verdict_text (widths_of shape) (Not fault))
-          (fault, is_text (Not fault) v sound) r p))
+          inr (
+            is_ready,
+            subst (IsNoEnd (IsNoText (value_of g) bytes) (taking_of sink old new)) (sym e)
+                (no_ends (IsNoText (value_of g) bytes) (verdict_text (widths_of shape) (Not fault))
+                (fault, is_text (Not fault) v sound) r p),
+          )
 
   -- ---- the command
 

@@ -1,8 +1,7 @@
 -- `comprehend` finds one thing in its grammar and its lexicon file.
-use Rattle.std.proofs.Common.{◌≡◌, ◌⊎◌, inl, inr, ℕ, ◌<◌, List, length, Option, Some, refl, ap, sym, ◌∙◌, subst}
+use Rattle.std.proofs.Common.{◌≡◌, ◌⊎◌, inl, inr, ℕ, ◌<◌, List, length, Some, refl, ap, sym, ◌∙◌, subst}
 use Rattle.std.specs.Prelude.{slice_get}
 use Rattle.tier_core.specs.declared.sym.Sym.{Sym}
-use Rattle.timeline_text.specs.declared.form_err.FormErr.{FormErr}
 use Rattle.timeline_text.proofs.Deciding.{not_both as surface_and_refused}
 use Rattle.grammar_reader.specs.Values.{GrammarValue}
 use Rattle.form_reader.proofs.ReadingLemmas.{one_cause}

@@ -1,5 +1,5 @@
 -- What `comprehend` does with a grammar, a surface and a lexicon file.
-use Rattle.std.proofs.Common.{◌≡◌, inl, inr, ℕ, ◌<◌, ◌≤◌, List, length, map, All, Some, Result, string_bytes, refl, ap, sym, ◌∙◌, subst, arith}
+use Rattle.std.proofs.Common.{◌≡◌, inl, inr, ℕ, ◌≤◌, List, length, Some, Result, refl, ap, sym, subst}
 use Rattle.std.proofs.lemmas.Simd.{map-map}
 use Rattle.outside.specs.Writers.{Puts}
 use Rattle.outside.specs.declared.sink.WriteErr.{WriteErr}
@@ -24,8 +24,8 @@ use Rattle.comprehend.specs.Hears.{AreEntriesWithin, Hears, forms_of}
 use Rattle.comprehend.specs.HitText.{hits_text, names_of}
 use Rattle.status_lines.specs.declared.status.Status.{Status}
 use Rattle.otp_tool.specs.Files.{IsHeld, lexicon_file}
-use Rattle.otp_tool.specs.Grammars.{AreAsked, input_count, overt_count}
-use Rattle.otp_tool.specs.Lexicons.{HasSurfaceWord, IsLexiconFile, IsNoLexiconFile, IsSurfaceOf, forms_in}
+use Rattle.otp_tool.specs.Grammars.{AreAsked, overt_count}
+use Rattle.otp_tool.specs.Lexicons.{HasSurfaceWord, IsLexiconFile, IsSurfaceOf, forms_in}
 use Rattle.otp_tool.specs.Findings.{FindsForHearing, no_form, no_lexicon, ready}
 use Rattle.otp_tool.specs.Results.{IsHeardText}
 use Rattle.otp_tool.specs.Steps.{Change, IsHearingWork, IsRefusal, IsSecondRefusal, RefusesEntry, RefusesLexicon, RefusesSurface, change_of, end_of}

@@ -11,7 +11,7 @@ use Rattle.otp_tool.specs.Grammars.{OnGrammar}
 use Rattle.otp_tool.specs.Findings.{Finding, FindsIn, Finds, Reaches, long_file, no_grammar, no_form, long_second, no_rows, no_lexicon, no_answer, over_budget, ready}
 use Rattle.otp_tool.specs.Results.{IsNoResult, IsResult, IsWhole}
 use Rattle.otp_tool.specs.Outcomes.{IsBehind, IsWrittenBehind, MayRead}
-use Rattle.otp_tool.specs.Steps.{Change, IsEnd, IsLoadRefusal, IsLoaded, IsNoEnd, IsNoWork, IsNotRead, IsOutcome, IsPartTaken, IsRefusal, IsStep, IsWork, IsWorkOf}
+use Rattle.otp_tool.specs.Steps.{Change, IsEnd, IsLoadRefusal, IsLoaded, IsNoEnd, IsNotRead, IsOutcome, IsPartTaken, IsRefusal, IsStep, IsWork, IsWorkOf}
 
 -- so many bytes
 abbrev zeros : ℕ → List ℕ

@@ -14,9 +14,8 @@ use Rattle.answer_reader.specs.declared.answer_err.AnswerCause.{AnswerCause}
 use Rattle.answer_reader.specs.Reading.{IsTextOf, answer_of}
 use Rattle.answer_reader.specs.Steps.{At, at}
 use Rattle.answer_reader.specs.Values.{AnswerValue, answer_value}
-use Rattle.cert_check.specs.declared.fault.Fault.{Fault}
 use Rattle.cert_check.specs.declared.fault.Verdict.{Verdict}
-use Rattle.cert_check.specs.declared.fault.Verdict.TheVariants.{Yes, No}
+use Rattle.cert_check.specs.declared.fault.Verdict.TheVariants.{Yes}
 use Rattle.cert_check.specs.Verdicts.{IsVerdict}
 use Rattle.verdict_text.specs.VerdictText.{verdict_text}
 use Rattle.otp_tool.specs.Grammars.{tiers_of}

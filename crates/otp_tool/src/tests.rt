@@ -102,6 +102,8 @@ const TABLEAU: &str = "  [ ]      One Max Dep
   -[ [| ]]  2!   0   1
 ";
 
+const TWO_OF_ONE: &str = "hits 2\nentry one\nexample [[ +| ]]\nentry two\nexample [[ || ]]\n";
+
 const HITS: &str = "hits 2\nentry one\nexample [[ ]]\nentry two\nexample [- |[ ]]\n";
 
 /// The words of a command, from one text with a slash between two words.
@@ -117,7 +119,13 @@ fn words(alloc: Global, text: &str) -> Result<Vec<String>, AllocError> {
 /// `b` of an answer and an altered one, and loads that fail.
 fn shelf(alloc: Global, grammar: &str, failing: Vec<u64>) -> Result<MemShelf, AllocError> {
     let mut files = Vec::new(alloc);
-    for (name, text) in [("g", grammar), ("r", ROWS), ("l", ENTRIES), ("a", STAGES), ("b", ALTERED)] {
+    for (name, text) in [
+        ("g", grammar),
+        ("r", ROWS),
+        ("l", ENTRIES),
+        ("a", STAGES),
+        ("b", ALTERED),
+    ] {
         files.push((
             String::from_str(alloc, name)?,
             text.as_bytes().to_vec(alloc)?,
@@ -145,7 +153,8 @@ fn each_command_writes_its_text(rt: HostRuntime) -> Result<(), Fail> {
         (LEAST, "once/g/[ ]/8", SINGLE_PASS),
         (LEAST, "tableau/g/[ ]/r/6", TABLEAU),
         (ADDED, "comprehend/g/l/[ ]", HITS),
-        (ADDED, "comprehend/g/l/[ | ]/20", "hits 0\n"),
+        (ADDED, "comprehend/g/l/[ | ]/20", TWO_OF_ONE),
+        (LEAST, "comprehend/g/l/[ ]/20", "hits 0\n"),
         (LEAST, "check/g/a", "Yes\n"),
     ];
     for (grammar, words, text) in cases {

@@ -25,7 +25,13 @@ fn push_closed<O: Sink>(
 {
     push_numbered(out, sink, b"closed", &[stage, node])?;
     out.push(sink, b" ")?;
-    push_kind(out, sink, missing, free_count(shape), stretch_count(shape, stage))
+    push_kind(
+        out,
+        sink,
+        missing,
+        free_count(shape),
+        stretch_count(shape, stage),
+    )
 }
 
 /// Appends the line of a column that is in two arcs.
@@ -100,12 +106,7 @@ pub(crate) fn push_fault<O: Sink>(
             node,
             listed,
             allowed,
-        } => push_numbered(
-            out,
-            sink,
-            b"potential",
-            &[*stage, *node, *listed, *allowed],
-        ),
+        } => push_numbered(out, sink, b"potential", &[*stage, *node, *listed, *allowed]),
         Fault::StartPotential {
             stage,
             listed,

@@ -6,11 +6,7 @@ ghost use Rattle.verdict_text.specs.VerdictText.{mark_number, target_after_space
 use outside::{OutBuffer, Sink, WriteErr, push_number};
 
 /// Appends numbers, each after a space.
-fn push_spaced<O: Sink>(
-    out: &mut OutBuffer,
-    sink: &mut O,
-    numbers: &[u32],
-) -> Result<(), WriteErr>
+fn push_spaced<O: Sink>(out: &mut OutBuffer, sink: &mut O, numbers: &[u32]) -> Result<(), WriteErr>
     ensures { Pushes O.Sink sink.old sink.new out.old out.new (spaced numbers.now) result }
 {
     for number in numbers {

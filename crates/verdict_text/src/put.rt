@@ -46,11 +46,7 @@ fn push_verdict<O: Sink>(
 ///
 /// After an error the sink has taken a prefix of the line. The error is `Failed` only if the sink's
 /// count of faults rose.
-pub fn put_verdict<O: Sink>(
-    sink: &mut O,
-    shape: &Shape,
-    verdict: &Verdict,
-) -> Result<(), WriteErr>
+pub fn put_verdict<O: Sink>(sink: &mut O, shape: &Shape, verdict: &Verdict) -> Result<(), WriteErr>
     ensures { Puts O.Sink sink.old sink.new
         (verdict_text (widths_of shape.now) verdict.now) result }
 {

@@ -1,18 +1,16 @@
 use crate::put_verdict;
 use cert_check::{Fault, Verdict};
+use grammar_reader::{read_grammar, shape};
 use outside::SafeSink;
 use std::test::Fail;
-use tier_core::Shape;
+use tier_core::Kind;
 
-/// The faults of an answer for a grammar of two tiers and no stretch implication, and their lines.
+/// Verdicts on an answer for a grammar of an input tier and an overt one, and their lines.
 #[test]
 fn lines_of_faults(rt: HostRuntime) -> Result<(), Fail> {
-    let mut phases = Vec::new_in(rt.alloc());
-    phases.push(0)?;
-    let shape = Shape {
-        width: 2,
-        inputs: 1,
-        phases,
+    let grammar = read_grammar(rt.alloc(), b"otp 1\ntier A input\ntier a overt\n")?;
+    let Ok(shape) = shape(rt.alloc(), &grammar) else {
+        return Err(Fail::new("no memory"));
     };
     let cases = [
         (Verdict::Yes, "Yes\n"),
@@ -25,6 +23,19 @@ fn lines_of_faults(rt: HostRuntime) -> Result<(), Fail> {
                 allowed: 1,
             }),
             "No potential 1 1 2 1\n",
+        ),
+        (
+            Verdict::No(Fault::NotClosed {
+                stage: 0,
+                node: 2,
+                missing: Kind {
+                    place: 2,
+                    opened: 1,
+                    unmet: 0,
+                    met: 0,
+                },
+            }),
+            "No closed 0 2 2/+/\n",
         ),
         (
             Verdict::No(Fault::FinalsDiffer {

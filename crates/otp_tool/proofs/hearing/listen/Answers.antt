@@ -1,4 +1,4 @@
-use Rattle.std.proofs.Common.{◌≡◌, ◌≤◌, ℕ, List, length, refl, sym, subst}
+use Rattle.std.proofs.Common.{◌≡◌, List, refl, sym, subst}
 use Rattle.outside.specs.Writers.{Puts}
 use Rattle.violation.specs.Problems.{asked}
 use Rattle.lexicon.specs.declared.entry.Entry.{Entry}

@@ -64,7 +64,8 @@ module _ (s t : Shape) (alike : AreAlike s t) where
   same_node : (columns stage : ℕ) (nodes : List NodeValue) (line : List ℕ)
       → next_node s columns stage nodes line ≡ next_node t columns stage nodes line
   same_node columns stage nodes line =
-      ap (λ free. in_order node_less nodes (node_of free (slice_index_or s.phases.items stage 0) columns line)) same_free
+      ap (λ free. in_order node_less nodes (node_of free (slice_index_or s.phases.items stage 0) columns line))
+      same_free
       ∙ ap (λ phases. in_order node_less nodes (node_of (free_count t) (slice_index_or phases stage 0) columns line))
       alike.phases
 

@@ -133,9 +133,9 @@ fn execute<F: Shelf, O: Sink>(
 ///
 /// Each command makes its whole result before it writes. The refusals come in this order: `Usage`;
 /// `ReadFault` and `TooLong` for word 1; `GrammarRefused`; `FormRefused` for the word of the form,
-/// timeline or surface; `ReadFault` and `TooLong` for the word of the second file; `RowsRefused` or
-/// `LexiconRefused` or `AnswerRefused`; `Budget`; `WriteFault`. The status `No` comes in place of `Done` if
-/// the verdict is No. `NoMemory` may occur in place of any status but `Usage`.
+/// timeline or surface; `ReadFault` and `TooLong` for the word of the second file; `RowsRefused`,
+/// `LexiconRefused` or `AnswerRefused`; `Budget`; `WriteFault`. If the verdict is No, the status `No` comes
+/// in place of `Done`. `NoMemory` may occur in place of any status but `Usage`.
 pub fn run<F: Shelf, O: Sink>(
     alloc: Global,
     words: &[String],

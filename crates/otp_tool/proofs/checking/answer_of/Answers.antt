@@ -9,6 +9,7 @@ returns-in-Err-At-clause-err c = (
   record {
     value = record { line = c.in-Err-At.line; cause = c.in-Err-At.cause };
     is = refl;
-    fact = subst (λ e. Fails e (answer_of c.args.shape.now c.args.bytes.now)) c.in-Err-At.field-0-is c.in-Err-At.ensures.err;
+    fact = subst (λ e. Fails e (answer_of c.args.shape.now c.args.bytes.now)) c.in-Err-At.field-0-is
+        c.in-Err-At.ensures.err;
   },
 )

@@ -6,4 +6,7 @@ pub returns-in_err-push : goal.returns-in_err-push
 returns-in_err-push g c = stop c.from_residual.ensures.1 (cut _ c.in_err-push.ensures)
 
 pub returns : goal.returns
-returns g c = c.in_ok-push.ensures ▹ (pushes_as (ap (λ n. take n c.column_bytes-bytes.result) c.width.ensures.value ∙ c.column_bytes-bytes.ensures) c.push-2.ensures)
+returns g c =
+    c.in_ok-push.ensures
+    ▹ (pushes_as (ap (λ n. take n c.column_bytes-bytes.result) c.width.ensures.value ∙ c.column_bytes-bytes.ensures)
+    c.push-2.ensures)

@@ -7,7 +7,9 @@ The first slow program goes by the definitions: it lists timelines up to a lengt
 of events as intervals, and compares all of them. The second goes by the table of moves, one column
 at a time: stages, potentials, the first optimal timeline, and the automaton, of which each column
 leads from a state to the same state as in the program's answer. Any two arcs of a state with one
-target must differ in the sets of two tiers at least.
+target must differ in the sets of two tiers at least. What `otp once` writes has the same counts, the same
+example, and the same automaton by the kinds of its states; its nodes are the kinds that the moves of
+all candidates lead to, each with the vector that remains.
 
 The grammars are the same at each run. The program is the one that ./otp runs, or the file in the
 environment variable OTP_PROGRAM.
@@ -334,6 +336,51 @@ def slow_answer(grammar, form):
     return stages, arcs, final, counts
 
 
+def single_pass(text):
+    """What `otp once` wrote: an answer without stages, and the kinds of its nodes with their vectors."""
+    nodes = [line.split(" ", 2)[1:] for line in text.splitlines() if line.startswith("node ")]
+    return read.answer(text), [(node[0], [int(word) for word in " ".join(node[1:]).split()]) for node in nodes]
+
+
+def by_kinds(answer, kinds):
+    """The arcs of an automaton, by columns and by the kinds of its states."""
+    return {kinds[state]: {column: kinds[target] for column, target in moves}
+            for state, moves in read.moves(answer).items()}
+
+
+def least_vectors(moves, found):
+    """The least vector that remains from each kind, by rounds."""
+    least = {kind: [0] * len(moves.grammar.constraints) if moves.is_final(kind) else None for kind in found}
+    changed = True
+    while changed:
+        changed = False
+        for kind, steps in found.items():
+            for _column, target, costs in steps:
+                if least[target] is None:
+                    continue
+                sum_ = [one + other for one, other in zip(least[target], costs)]
+                if least[kind] is None or sum_ < least[kind]:
+                    least[kind], changed = sum_, True
+    return least
+
+
+def compare_single_pass(name, path, grammar, form, answer):
+    """What a single pass finds, beside the stages and beside a slow program."""
+    text, status = run("once", path, read.text_of(form))
+    judge(name + ", status of a single pass", status, 0)
+    if status != 0:
+        return
+    single, nodes = single_pass(text)
+    judge(name + ", counts both ways", single.counts, answer.counts)
+    judge(name + ", example both ways", single.example, answer.example)
+    judge(name + ", automaton both ways", by_kinds(single, [kind for kind, _vector in nodes]),
+          by_kinds(answer, [kind for kind, _potential in answer.stages[-1]]))
+    moves, rank = Moves(grammar, form), len(grammar.constraints)
+    least = least_vectors(moves, reached(moves, rank, [], 0))
+    judge(name + ", nodes of a single pass", nodes,
+          [(kind_text(kind), least[kind]) for kind in sorted(least, key=order_of)])
+
+
 def differ(one, other):
     """In how many tiers the sets of two classes differ."""
     cut = lambda text: read.re.findall(r"\{[^}]*\}|.", text)  # noqa: E731
@@ -403,6 +450,7 @@ def compare(name, path, text, form, most):
         grammar, answer = read.grammar(text), read.answer(written)
         judge(name + ", form", answer.form, form)
         compare_moves(name, grammar, form, answer)
+        compare_single_pass(name, path, grammar, form, answer)
         if most:
             compare_definitions(name, grammar, form, answer, most)
 

@@ -2,7 +2,7 @@
 """Compares `otp comprehend` with a plain program, on worked lexicons and on small grammars at random.
 
     tests/comprehend.py          the last line is `N passed, M failed`
-    tests/comprehend.py COUNT    so many grammars at random, in place of 40
+    tests/comprehend.py COUNT    so many grammars at random, in place of 100
 
 The plain program knows two things. By the definitions of docs/DEFINITIONS.md it lists every
 candidate of a form up to a length, with the violations of each, event by event. And it walks
@@ -335,7 +335,7 @@ def test_grammar(folder, dice, number):
 
 def main():
     """Runs all tests."""
-    count = int(sys.argv[1]) if sys.argv[1:] else 40
+    count = int(sys.argv[1]) if sys.argv[1:] else 100
     with tempfile.TemporaryDirectory() as folder:
         test_worked(folder)
         dice = random.Random(16)

@@ -1,8 +1,8 @@
 #!/bin/bash
 # The repository's own checks, after `rt ci` has built the program: the launcher, the names that the
-# documents cite, the real program, whole answers and hits beside slow programs, what the documents
-# show, and the tools. The last line is `N passed, M failed`, over all of them. A check whose tool is missing is
-# skipped with a word.
+# documents cite, the real program, whole answers, verdicts and hits beside slow programs, what the
+# documents show, and the tools. The last line is `N passed, M failed`, over all of them. A check
+# whose tool is missing is skipped with a word.
 cd "$(dirname "$0")/.." || exit 2
 log=$(mktemp) || exit 2
 trap 'rm -f "$log"' EXIT
@@ -29,6 +29,7 @@ check python3 names.py
 if [ -x "$OTP_PROGRAM" ]; then
     check sh otp.sh
     check python3 answers.py
+    check python3 check.py
     check python3 comprehend.py
     check python3 docs.py
     check python3 tools.py

@@ -449,6 +449,9 @@ def compare(name, path, text, form, most):
     if status == 0:
         grammar, answer = read.grammar(text), read.answer(written)
         judge(name + ", form", answer.form, form)
+        with open(path + ".answer", "w", encoding="ascii") as file:
+            file.write(written)
+        judge(name + ", verdict", run("check", path, path + ".answer"), ("Yes\n", 0))
         compare_moves(name, grammar, form, answer)
         compare_single_pass(name, path, grammar, form, answer)
         if most:
@@ -479,11 +482,44 @@ def worked(folder):
     judge("64 letters", run("show", syllables, "=" + 32 * "ta"), ("", 4))
 
 
+EIGHT = "otp 1\ntier A input\n" + "".join("tier b%d overt\n" % tier for tier in range(1, 9))
+
+
+def twenty_four():
+    """Constraints on eight tiers. Under the first four and six more the kinds are halved again and again;
+    if nothing were pruned before the last, there would be more than a million."""
+    sides = ["b%d # b%d" % (tier, tier) for tier in range(1, 5)]
+    sides += ["b1 -> [b%d" % tier for tier in range(2, 9)]
+    sides += ["b1 -> ]b%d" % tier for tier in range(2, 9)]
+    sides += ["b1 and b2 -> [b%d" % tier for tier in range(3, 9)]
+    return "".join("constraint C%d %s\n" % (number, side) for number, side in enumerate(sides))
+
+
+def many_tiers(folder):
+    """Eight overt tiers, without constraints and under twenty-four."""
+    path = os.path.join(folder, "eight.otp")
+    with open(path, "w", encoding="ascii") as file:
+        file.write(EIGHT)
+    answer = read.answer(run("generate", path, "empty")[0])
+    judge("eight tiers, kinds", [len(stage) for stage in answer.stages], [256])
+    judge("eight tiers, states", len(answer.final), 256)
+    judge("eight tiers, columns", sum(len(moves) for moves in read.moves(answer).values()), 390369)
+    judge("eight tiers, example", answer.example, [])
+    with open(path, "w", encoding="ascii") as file:
+        file.write(EIGHT + twenty_four())
+    judge("24 constraints, budget 256", run("show", path, "empty", "256"),
+          ("counts" + 24 * " 0" + "\nexample empty\n", 0))
+    judge("24 constraints, budget 255", run("show", path, "empty", "255"), ("", 7))
+    answer = read.answer(run("generate", path, "empty")[0])
+    judge("24 constraints, kinds", [len(stage) for stage in answer.stages], [256, 256, 128, 64, 32] + 20 * [16])
+
+
 def main():
     draw = random.Random(1997)
     wanted = int(sys.argv[1]) if len(sys.argv) > 1 else 300
     with tempfile.TemporaryDirectory() as folder:
         worked(folder)
+        many_tiers(folder)
         for number in range(wanted):
             text = grammar_text(draw)
             grammar = read.grammar(text)

@@ -197,6 +197,22 @@ for form in empty "[ ]" "[ | ]" "[ ] [ ]"; do
     done
 done
 
+# the largest grammar: 12 tiers, 24 constraints with 8 events on each side, and names of 32 bytes
+name=abcdefghijklmnopqrstuvwxyz
+{
+    echo "otp 1"
+    for number in $(seq -w 1 6); do echo "tier ${name}_i00$number input"; done
+    for number in $(seq -w 1 6); do echo "tier ${name}_o00$number overt"; done
+    for number in $(seq -w 1 24); do
+        printf 'constraint %s_c0%s' "$name" "$number"
+        for event in 1 2 3 4 5 6 1 2; do printf ' [%s_i00%s and' "$name" "$event"; done | sed 's/ and$/ ->/'
+        for event in 1 2 3 4 5 6 1 2; do printf ' %s_o00%s or' "$name" "$event"; done | sed 's/ or$//'
+        echo
+    done
+} > largest.otp
+try "the largest grammar" 0 "" canon largest.otp
+has_text out largest.otp "the largest grammar is its canonical text"
+
 # the longest words
 bars() { yes '|' | head -n "$1" | tr '\n' ' '; }
 try "form of 64 columns" 0 "" show base.otp "[ $(bars 62)]"

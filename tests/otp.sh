@@ -198,7 +198,7 @@ for form in empty "[ ]" "[ | ]" "[ ] [ ]"; do
 done
 
 # the largest grammar: 12 tiers, 24 constraints with 8 events on each side, and names of 32 bytes
-name=abcdefghijklmnopqrstuvwxyz
+name=abcdefghijklmnopqrstuvwxyzA
 {
     echo "otp 1"
     for number in $(seq -w 1 6); do echo "tier ${name}_i00$number input"; done

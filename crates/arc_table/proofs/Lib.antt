@@ -1,3 +1,4 @@
 pub mod Push
 pub mod OneRun
 pub mod Places
+pub mod SomeWord

@@ -7,9 +7,9 @@ use Rattle.std.proofs.lemmas.List.Folds.{list_any-append, list_any_more}
 use Rattle.tier_core.specs.declared.sym.Sym.{Sym}
 use Rattle.tier_core.specs.declared.class.Class.{Class}
 use Rattle.tier_core.specs.Classes.{has}
-use Rattle.symbol_class.specs.Filled.{is_filled}
+use Rattle.tier_core.specs.Filled.{is_filled}
 use Rattle.symbol_class.specs.Held.{some_has}
-use Rattle.symbol_class.proofs.Filled.{empty_holds}
+use Rattle.tier_core.proofs.Filled.{empty_holds}
 use Rattle.answer_text.specs.declared.automaton.ArcLine.{ArcLine}
 use Rattle.cert_check.specs.Arcs.{arc_classes, is_twice}
 use Rattle.cert_check.specs.Gathered.{AreFilled, AddsColumns}

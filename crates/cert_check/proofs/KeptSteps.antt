@@ -8,7 +8,7 @@ use Rattle.tier_core.specs.declared.class.Class.{Class}
 use Rattle.tier_core.specs.declared.sym.Sym.{Sym}
 use Rattle.tier_core.specs.Classes.{sets_of, has}
 use Rattle.tier_core.specs.Kinds.{PrefixKind}
-use Rattle.symbol_class.specs.Filled.{is_filled}
+use Rattle.tier_core.specs.Filled.{is_filled}
 use Rattle.symbol_class.specs.Held.{some_has, times_held}
 use Rattle.symbol_class.proofs.Times.{times-append, once_from_apart, pieces_from_once}
 use Rattle.violation.specs.Moves.{moved, cost_of}

@@ -10,10 +10,10 @@ use Rattle.tier_core.specs.declared.kind.Kind.{Kind}
 use Rattle.tier_core.specs.declared.sym.Sym.{Sym}
 use Rattle.tier_core.specs.Classes.{has}
 use Rattle.tier_core.specs.Kinds.{PrefixKind, kind_order}
-use Rattle.symbol_class.specs.Filled.{is_filled}
-use Rattle.symbol_class.specs.FirstColumn.{first_column}
+use Rattle.tier_core.specs.Filled.{is_filled}
+use Rattle.tier_core.specs.FirstColumn.{first_column}
 use Rattle.symbol_class.specs.Held.{some_has}
-use Rattle.symbol_class.proofs.Filled.{has-first_column, first_column_least}
+use Rattle.tier_core.proofs.Filled.{has-first_column, first_column_least}
 use Rattle.violation.specs.Moves.{moved, cost_of, is_final}
 use Rattle.violation.specs.Prefixes.{kind_of_bits}
 use Rattle.violation.specs.Problems.{Problem}

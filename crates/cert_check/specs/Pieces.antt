@@ -3,7 +3,7 @@ use Rattle.std.specs.Prelude.{ℕ, ◌≡◌, Bool, IsTrue, List, length, All}
 use Rattle.tier_core.specs.declared.sym.Sym.{Sym}
 use Rattle.tier_core.specs.declared.class.Class.{Class}
 use Rattle.tier_core.specs.Classes.{sets_of, has}
-use Rattle.symbol_class.specs.Filled.{is_filled}
+use Rattle.tier_core.specs.Filled.{is_filled}
 use Rattle.symbol_class.specs.Held.{some_has}
 use Rattle.cert_check.specs.Tests.{AgreeOn}
 

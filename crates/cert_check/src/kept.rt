@@ -2,7 +2,7 @@ ghost use Rattle.std.specs.Prelude.{◌≡◌, ◌+◌, ◌<◌, ◌≤◌, ℕ,
 ghost use Rattle.tier_core.specs.declared.sym.Sym.{Sym};
 ghost use Rattle.tier_core.specs.Classes.{has, sets_of};
 ghost use Rattle.tier_core.specs.KindShapes.{FitsShape};
-ghost use Rattle.symbol_class.specs.Filled.{is_filled};
+ghost use Rattle.tier_core.specs.Filled.{is_filled};
 ghost use Rattle.violation.specs.Prefixes.{kind_of_bits};
 ghost use Rattle.violation.specs.Problems.{last_place, last_stage};
 ghost use Rattle.cert_check.specs.Fitting.{AreNodePieces, IsGoingAlike};

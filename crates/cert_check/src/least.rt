@@ -1,5 +1,5 @@
 ghost use Rattle.std.specs.Prelude.{◌≡◌, All, IsTrue, MatchOption};
-ghost use Rattle.symbol_class.specs.Filled.{is_filled};
+ghost use Rattle.tier_core.specs.Filled.{is_filled};
 ghost use Rattle.symbol_class.specs.Held.{some_has};
 ghost use Rattle.cert_check.specs.Arcs.{IsLeastColumn, IsLesser, IsNoColumn};
 

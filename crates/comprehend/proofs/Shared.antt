@@ -5,9 +5,9 @@ use Rattle.tier_core.specs.declared.sym.Sym.{Sym}
 use Rattle.tier_core.specs.declared.class.Class.{Class}
 use Rattle.tier_core.specs.Classes.{sets_of, has}
 use Rattle.tier_core.proofs.ClassLemmas.{same_width}
-use Rattle.symbol_class.specs.Filled.{is_filled}
-use Rattle.symbol_class.specs.FirstColumn.{first_column}
-use Rattle.symbol_class.proofs.Filled.{has-first_column}
+use Rattle.tier_core.specs.Filled.{is_filled}
+use Rattle.tier_core.specs.FirstColumn.{first_column}
+use Rattle.tier_core.proofs.Filled.{has-first_column}
 
 module _ (a b both : Class) (columns : (column : List Sym) → has both column ≡ (has a column && has b column)) where
   pub in_both : (column : List Sym) → IsTrue (has both column) → IsTrue (has a column) × IsTrue (has b column)

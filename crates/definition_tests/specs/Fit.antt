@@ -6,7 +6,7 @@ use Rattle.tier_core.specs.Sets.{is_in}
 use Rattle.tier_core.specs.Classes.{sets_of, AreDisjoint}
 use Rattle.arc_table.specs.declared.arc.TableArc.{TableArc}
 use Rattle.arc_table.specs.declared.state.TableState.{TableState}
-use Rattle.symbol_class.specs.Filled.{is_filled}
+use Rattle.tier_core.specs.Filled.{is_filled}
 
 abbrev pub in_both : ℕ → ℕ → Sym → Bool
 in_both a b s = is_in a s && is_in b s

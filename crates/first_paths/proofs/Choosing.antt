@@ -11,8 +11,8 @@ use Rattle.weight_law.specs.declared.count.Count.{Count}
 use Rattle.tier_core.specs.declared.sym.Sym.{Sym}
 use Rattle.tier_core.specs.Classes.{has}
 use Rattle.tier_core.specs.Orders.{column_cmp}
-use Rattle.symbol_class.specs.FirstColumn.{first_column}
-use Rattle.symbol_class.proofs.Filled.{has-first_column, first_column_least}
+use Rattle.tier_core.specs.FirstColumn.{first_column}
+use Rattle.tier_core.proofs.Filled.{has-first_column, first_column_least}
 use Rattle.arc_table.proofs.OneRun.{length_read, same_move}
 use Rattle.arc_table.specs.declared.arc.TableArc.{TableArc}
 use Rattle.arc_table.specs.declared.state.TableState.{TableState}

@@ -3,7 +3,7 @@ use Rattle.std.specs.Prelude.{◌≡◌, ◌<◌, ◌≤◌, ℕ, List, Option, 
 use Rattle.std.specs.Ordering.{is_gt}
 use Rattle.tier_core.specs.declared.sym.Sym.{Sym}
 use Rattle.tier_core.specs.Orders.{column_cmp}
-use Rattle.symbol_class.specs.FirstColumn.{first_column}
+use Rattle.tier_core.specs.FirstColumn.{first_column}
 use Rattle.weight_law.specs.declared.Weight.{Ghosts}
 use Rattle.weight_law.specs.declared.count.Count.{Count}
 use Rattle.arc_table.specs.declared.arc.TableArc.{TableArc}

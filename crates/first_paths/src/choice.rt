@@ -1,7 +1,7 @@
 ghost use Rattle.std.specs.Prelude.{◌≡◌, ◌<◌, All, IsTrue, MatchOption, Some, ⊤, ◌↔◌, ◌⊎◌, false, length};
 ghost use Rattle.std.specs.Ordering.{is_gt};
 ghost use Rattle.tier_core.specs.Orders.{column_cmp};
-ghost use Rattle.symbol_class.specs.FirstColumn.{first_column};
+ghost use Rattle.tier_core.specs.FirstColumn.{first_column};
 ghost use Rattle.first_paths.specs.Counted.{IsLeft, IsOf, HasChoice, IsLeastChoice};
 
 use arc_table::TableArc;

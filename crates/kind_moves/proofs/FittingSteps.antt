@@ -13,9 +13,9 @@ use Rattle.tier_core.specs.Scan.{fits}
 use Rattle.tier_core.specs.Timelines.{symbol, column_at, is_edge, has_edge}
 use Rattle.tier_core.specs.Tiers.{has_tier}
 use Rattle.tier_core.proofs.ClassLemmas.{same_width}
-use Rattle.symbol_class.specs.Filled.{is_filled}
+use Rattle.tier_core.specs.Filled.{is_filled}
 use Rattle.symbol_class.specs.Held.{once_if, times_held, AddsClasses}
-use Rattle.symbol_class.proofs.Filled.{empty_holds}
+use Rattle.tier_core.proofs.Filled.{empty_holds}
 use Rattle.symbol_class.specs.Parts.{AddsAlike}
 use Rattle.symbol_class.proofs.PartSteps.{adds_constant, alike_then}
 use Rattle.symbol_class.proofs.Times.{adds_none, adds_same, times-cons, pieces_added, columns_added}

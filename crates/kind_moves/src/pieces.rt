@@ -10,7 +10,7 @@ impl<'a> Frame<'a> {
     ghost use Rattle.std.specs.Prelude.{◌≡◌, ◌<◌, ◌≤◌, ◌↔◌, ℕ, All, IfOk, IsTrue, List, length};
     ghost use Rattle.tier_core.specs.declared.sym.Sym.{Sym};
     ghost use Rattle.tier_core.specs.Classes.{sets_of, has};
-    ghost use Rattle.symbol_class.specs.Filled.{is_filled};
+    ghost use Rattle.tier_core.specs.Filled.{is_filled};
     ghost use Rattle.symbol_class.specs.Held.{some_has, ArePieces};
     ghost use Rattle.symbol_class.specs.Parts.{IsAlike, ArePartedBy};
     ghost use Rattle.kind_moves.specs.Frames.{tiers_in, constraints_in, FitsAt, FitsFrame};

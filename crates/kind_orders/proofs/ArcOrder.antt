@@ -15,10 +15,10 @@ use Rattle.tier_core.specs.Classes.{sets_of, sets_have, has, AreDisjoint}
 use Rattle.arc_table.specs.declared.arc.TableArc.{TableArc}
 use Rattle.arc_table.specs.declared.state.TableState.{TableState}
 use Rattle.arc_table.specs.Conditions.{TargetsExist, ClassesDisjoint, ClassesFilled, OneWidth}
-use Rattle.symbol_class.specs.Filled.{is_filled}
+use Rattle.tier_core.specs.Filled.{is_filled}
 use Rattle.arc_table.specs.Moves.{moves_at, accepting_at}
-use Rattle.symbol_class.specs.FirstColumn.{first_column}
-use Rattle.symbol_class.proofs.Filled.{has-first_column}
+use Rattle.tier_core.specs.FirstColumn.{first_column}
+use Rattle.tier_core.proofs.Filled.{has-first_column}
 use Rattle.answer_text.specs.declared.automaton.ArcLine.{ArcLine}
 use Rattle.answer_text.specs.declared.automaton.StateLine.{StateLine}
 use Rattle.answer_text.specs.Right.{arc_cmp}

@@ -13,7 +13,7 @@ use Rattle.std.proofs.lemmas.List.Sorted.{ranks_by, sorted_far, All-permutation,
 use Rattle.tier_core.specs.declared.sym.Sym.{Sym}
 use Rattle.tier_core.specs.declared.class.Class.{Class}
 use Rattle.tier_core.specs.Classes.{sets_of, AreDisjoint}
-use Rattle.symbol_class.specs.Filled.{is_filled}
+use Rattle.tier_core.specs.Filled.{is_filled}
 use Rattle.symbol_class.specs.Held.{times_held, some_has, width_of, ArePieces}
 use Rattle.symbol_class.specs.Joined.{DifferTwice}
 use Rattle.symbol_class.proofs.Pairs.{pairs_map, pairs_permuted}

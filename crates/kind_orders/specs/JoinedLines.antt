@@ -4,7 +4,7 @@ use Rattle.std.specs.List.{count_by}
 use Rattle.tier_core.specs.declared.sym.Sym.{Sym}
 use Rattle.tier_core.specs.declared.class.Class.{Class}
 use Rattle.tier_core.specs.Classes.{has}
-use Rattle.symbol_class.specs.Filled.{is_filled}
+use Rattle.tier_core.specs.Filled.{is_filled}
 use Rattle.symbol_class.specs.Held.{times_held}
 use Rattle.symbol_class.specs.Joined.{DifferTwice}
 use Rattle.answer_text.specs.declared.automaton.ArcLine.{ArcLine}

@@ -8,14 +8,13 @@ use Rattle.weight_law.proofs.Order.{at_most-both}
 use Rattle.tier_core.specs.declared.class.Class.{Class}
 use Rattle.tier_core.specs.declared.sym.Sym.{Sym}
 use Rattle.tier_core.specs.Classes.{sets_of, has}
-use Rattle.symbol_class.specs.FirstColumn.{first_column}
-use Rattle.symbol_class.proofs.Filled.{has-first_column}
 use Rattle.arc_table.specs.declared.arc.TableArc.{TableArc}
 use Rattle.arc_table.specs.declared.state.TableState.{TableState}
 use Rattle.arc_table.specs.Moves.{moves_at, accepting_at}
 use Rattle.arc_table.specs.Conditions.{TargetsExist, ClassesDisjoint, ClassesFilled, OneWidth}
-use Rattle.symbol_class.specs.Filled.{is_filled}
+use Rattle.tier_core.specs.Filled.{is_filled}
 use Rattle.arc_table.specs.Runs.{IsRun, weight_of, Reads, Accepts, IsLeastWord, IsOnRun}
+use Rattle.arc_table.proofs.SomeWord.{some_word}
 use Rattle.distances.specs.Best.{added}
 use Rattle.distances.specs.Least.{AreLeast}
 use Rattle.distances.proofs.Witness.{lawful-weight_of}
@@ -65,14 +64,6 @@ module _ {W V : Type 0} {g : Ghosts W} {h : Ghosts V} where
   reads_old (a ∷ arcs) (b ∷ bs) [] s r = r
   reads_old (a ∷ arcs) (b ∷ bs) (x ∷ word) s r =
       (let P : Class → Type 0 = λ c. IsTrue (has c x) in subst P s.0 r.0, reads_old arcs bs word s.1 r.1)
-
--- a run reads a word
-pub some_word : {W : Type 0} {g : Ghosts W} (states : List (TableState W g)) → ClassesFilled states
-    → (s : ℕ) (arcs : List (TableArc W g)) → IsRun states s arcs → (word : List (List Sym)) × Reads arcs word
-some_word states filled s [] run = ([], tt)
-some_word states filled s (arc ∷ arcs) run =
-    let rest = some_word states filled arc.target arcs run.1 in
-    (first_column arc.class ∷ rest.0, (has-first_column arc.class (filled s arc run.0), rest.1))
 
 module _ {W V : Type 0} {g : Ghosts W} {h : Ghosts V} (laws : IsLawful g.meaning) (old : List (TableState W g))
     (exist : TargetsExist old) (least : List (Option W)) (are : AreLeast old least) (names : List ℕ)

@@ -11,15 +11,15 @@ use Rattle.tier_core.proofs.ClassLemmas.{same_width}
 use Rattle.arc_table.specs.declared.state.TableState.{TableState}
 use Rattle.arc_table.specs.Conditions.{ClassesFilled}
 use Rattle.arc_table.specs.Runs.{Reads}
-use Rattle.symbol_class.specs.FirstColumn.{first_column}
-use Rattle.symbol_class.proofs.Filled.{has-first_column}
-use Rattle.prune_best.proofs.Words.{some_word}
+use Rattle.tier_core.specs.FirstColumn.{first_column}
+use Rattle.tier_core.proofs.Filled.{has-first_column}
+use Rattle.arc_table.proofs.SomeWord.{some_word}
 use Rattle.violation.specs.Prefixes.{kind_of}
 use Rattle.violation.specs.Stages.{IsPassed}
 use Rattle.answer_text.specs.declared.stage.Node.{Node}
 use Rattle.answer_text.specs.declared.automaton.StateLine.{StateLine}
 use Rattle.answer_text.specs.Right.{IsNodeOf, IsRightAutomaton}
-use Rattle.stage_laws.proofs.Paths.{IsParted, run_exists, parted, joined_run, joined_reads, path_word}
+use Rattle.kind_tables.proofs.Paths.{IsParted, run_exists, parted, joined_run, joined_reads, path_word}
 use Rattle.kind_orders.specs.Orderings.{IsOrdering, AreRanks}
 use Rattle.kind_orders.specs.AutomatonLines.{nodes_of}
 use Rattle.kind_orders.specs.Automata.{HasWidth, Reaches, IsAutomatonOf}

@@ -14,9 +14,9 @@ use Rattle.violation.specs.Stages.{IsPassed}
 use Rattle.violation.proofs.StageLemmas.{all_optimal}
 use Rattle.kind_moves.specs.declared.frame.Frame.{Frame}
 use Rattle.kind_moves.specs.Frames.{problem_in, kind_at_stage}
-use Rattle.stage_laws.specs.StageTables.{IsStageTable}
-use Rattle.stage_laws.proofs.Following.{first_table}
-use Rattle.stage_laws.proofs.Naming.{names_law}
+use Rattle.kind_tables.specs.StageTables.{IsStageTable}
+use Rattle.kind_tables.proofs.Following.{first_table}
+use Rattle.kind_tables.proofs.Naming.{names_law}
 use Rattle.stage_tables.specs.Explored.{names_at, IsComplete, IsMet, IsOverBudget}
 use Rattle.stage_tables.proofs.Named.{frame_stage}
 use Rattle.ranked_gen.specs.Budgets.{IsOver, IsWithin}

@@ -14,8 +14,8 @@ use Rattle.arc_table.specs.Runs.{Accepts}
 use Rattle.violation.specs.Candidates.{IsOptimalFor}
 use Rattle.kind_moves.specs.declared.frame.Frame.{Frame}
 use Rattle.kind_moves.specs.Frames.{kind_at_stage}
-use Rattle.stage_laws.specs.StageTables.{IsStageTable}
-use Rattle.stage_laws.proofs.Naming.{names_law}
+use Rattle.kind_tables.specs.StageTables.{IsStageTable}
+use Rattle.kind_tables.proofs.Naming.{names_law}
 use Rattle.stage_tables.specs.Kept.{IsKept}
 use Rattle.stage_tables.specs.Explored.{names_at, IsExplored, IsMet, IsOverBudget}
 use Rattle.ranked_gen.specs.Budgets.{IsOver, IsWithin}

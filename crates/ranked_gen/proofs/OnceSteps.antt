@@ -27,9 +27,9 @@ use Rattle.kind_moves.proofs.GrammarTiers.{few_constraints}
 use Rattle.answer_text.specs.declared.stage.Node.{Node}
 use Rattle.answer_text.specs.declared.once_answer.OnceNode.{OnceNode}
 use Rattle.answer_text.specs.RightOnce.{kind_told, bare_nodes, IsRightPotential}
-use Rattle.stage_laws.specs.StageTables.{IsStage}
-use Rattle.stage_laws.specs.FoundTables.{names_kept}
-use Rattle.stage_laws.specs.RankedTables.{IsRankedTable}
+use Rattle.kind_tables.specs.StageTables.{IsStage}
+use Rattle.kind_tables.specs.FoundTables.{names_kept}
+use Rattle.kind_tables.specs.RankedTables.{IsRankedTable}
 use Rattle.stage_laws.proofs.LeastVectors.{least_vector, least_rest_vector}
 use Rattle.stage_laws.proofs.PrunedOnce.{whole_names, once_words}
 use Rattle.stage_laws.proofs.Resting.{least_from, some_weight}

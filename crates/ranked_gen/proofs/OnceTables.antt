@@ -13,7 +13,7 @@ use Rattle.violation.specs.Rests.{AreWholeKindsWithin, AreWholeKindsOver}
 use Rattle.violation.proofs.StageLemmas.{all_optimal}
 use Rattle.kind_moves.specs.declared.frame.Frame.{Frame}
 use Rattle.kind_moves.specs.Frames.{problem_in, kind_at_stage}
-use Rattle.stage_laws.proofs.Naming.{names_law}
+use Rattle.kind_tables.proofs.Naming.{names_law}
 use Rattle.stage_tables.specs.Explored.{names_at, IsComplete, IsOverBudget}
 use Rattle.stage_tables.specs.Ranking.{IsWholeTable}
 use Rattle.stage_tables.proofs.Named.{frame_stage}

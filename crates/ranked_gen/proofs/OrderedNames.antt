@@ -23,9 +23,9 @@ use Rattle.grammar_reader.specs.ShapeOf.{IsShapeOf}
 use Rattle.kind_moves.specs.declared.frame.Frame.{Frame}
 use Rattle.kind_moves.specs.Frames.{kind_at_stage, problem_in}
 use Rattle.answer_text.specs.declared.stage.Node.{Node}
-use Rattle.stage_laws.specs.StageTables.{IsStage, name_of, AreNamedByKinds}
-use Rattle.stage_laws.specs.FoundTables.{names_kept}
-use Rattle.stage_laws.proofs.Naming.{path_kind}
+use Rattle.kind_tables.specs.StageTables.{IsStage, name_of, AreNamedByKinds}
+use Rattle.kind_tables.specs.FoundTables.{names_kept}
+use Rattle.kind_tables.proofs.Naming.{path_kind}
 use Rattle.stage_laws.proofs.Pruned.{kept_named}
 use Rattle.kind_orders.specs.Orderings.{IsOrdering}
 use Rattle.kind_orders.specs.KindOrders.{empty_kind, kind_numbered, told, IsKindOrder}

@@ -17,18 +17,18 @@ use Rattle.arc_table.specs.declared.state.TableState.{TableState}
 use Rattle.arc_table.specs.Conditions.{TargetsExist, ClassesFilled}
 use Rattle.arc_table.specs.Moves.{moves_at}
 use Rattle.arc_table.specs.Runs.{Accepts, IsPath, Reads}
-use Rattle.prune_best.proofs.Words.{some_word}
+use Rattle.arc_table.proofs.SomeWord.{some_word}
 use Rattle.violation.specs.Candidates.{IsCandidate, IsOptimalFor}
 use Rattle.violation.specs.Moves.{moved, cut}
 use Rattle.violation.specs.Prefixes.{kind_of, phase, stretches}
 use Rattle.violation.specs.Stages.{IsPassed, AreKindsOfStage}
 use Rattle.violation.specs.Walks.{reached}
 use Rattle.violation.proofs.WalkLemmas.{moves_begin, reached_is}
-use Rattle.stage_laws.specs.StageTables.{IsStage, name_of, AreNamedByKinds}
+use Rattle.kind_tables.specs.StageTables.{IsStage, name_of, AreNamedByKinds}
 use Rattle.violation.proofs.CutLemmas.{cut-kind_of}
-use Rattle.stage_laws.proofs.Naming.{path_kind}
+use Rattle.kind_tables.proofs.Naming.{path_kind}
 use Rattle.violation.proofs.StageLemmas.{over_stretches}
-use Rattle.stage_laws.proofs.Paths.{IsParted, parted, joined_run, joined_reads, path_push}
+use Rattle.kind_tables.proofs.Paths.{IsParted, parted, joined_run, joined_reads, path_push}
 use Rattle.stage_tables.specs.Kept.{AreKeptByKinds}
 use Rattle.kind_orders.proofs.Members.{contains_map, contains_of_map}
 use Rattle.ranked_gen.specs.Budgets.{IsOver}

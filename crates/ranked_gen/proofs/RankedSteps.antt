@@ -9,7 +9,7 @@ use Rattle.arc_table.specs.declared.state.TableState.{TableState}
 use Rattle.arc_table.specs.Conditions.{ClassesFilled}
 use Rattle.arc_table.specs.Runs.{Accepts}
 use Rattle.first_paths.specs.First.{AcceptsNone}
-use Rattle.prune_best.proofs.Words.{some_word}
+use Rattle.arc_table.proofs.SomeWord.{some_word}
 use Rattle.violation.specs.Candidates.{IsOptimal}
 use Rattle.answer_text.specs.declared.stage.Node.{Node}
 use Rattle.answer_text.specs.declared.stage.Stage.{Stage}

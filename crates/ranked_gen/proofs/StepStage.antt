@@ -25,9 +25,9 @@ use Rattle.kind_moves.specs.declared.frame.Frame.{Frame}
 use Rattle.kind_moves.specs.Frames.{tiers_in, kind_at_stage}
 use Rattle.answer_text.specs.declared.stage.Node.{Node}
 use Rattle.answer_text.specs.Right.{kinds_at, IsRightStage}
-use Rattle.stage_laws.specs.StageTables.{IsStage, IsStageTable}
-use Rattle.stage_laws.specs.FoundTables.{names_kept}
-use Rattle.stage_laws.proofs.Naming.{names_law}
+use Rattle.kind_tables.specs.StageTables.{IsStage, IsStageTable}
+use Rattle.kind_tables.specs.FoundTables.{names_kept}
+use Rattle.kind_tables.proofs.Naming.{names_law}
 use Rattle.stage_laws.proofs.Resting.{remaining_law, least_from, some_weight}
 use Rattle.stage_laws.proofs.Optimal.{all_words_law, number_law}
 use Rattle.kind_orders.specs.KindOrders.{empty_kind, kind_numbered, told, IsKindOrder}

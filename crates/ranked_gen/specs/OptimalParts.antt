@@ -10,7 +10,7 @@ use Rattle.violation.specs.Candidates.{IsOptimalFor}
 use Rattle.violation.specs.Prefixes.{kind_of}
 use Rattle.answer_text.specs.declared.stage.Node.{Node}
 use Rattle.kind_orders.specs.Automata.{Reaches}
-use Rattle.stage_laws.specs.StageTables.{AreNamedByKinds}
+use Rattle.kind_tables.specs.StageTables.{AreNamedByKinds}
 use Rattle.ranked_gen.specs.Left.{TellsKind, AreOrdered}
 use Rattle.violation.specs.Problems.{Problem}
 

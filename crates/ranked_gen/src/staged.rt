@@ -4,7 +4,7 @@ ghost use Rattle.arc_table.specs.States.{states_of};
 ghost use Rattle.tier_core.specs.declared.sym.Sym.{Sym};
 ghost use Rattle.violation.specs.Candidates.{IsOptimalFor};
 ghost use Rattle.kind_moves.specs.Frames.{tiers_in, constraints_in, form_in, FitsFrame};
-ghost use Rattle.stage_laws.specs.StageTables.{IsStageTable};
+ghost use Rattle.kind_tables.specs.StageTables.{IsStageTable};
 ghost use Rattle.stage_tables.specs.Kept.{IsKept};
 ghost use Rattle.stage_tables.specs.Explored.{names_at};
 ghost use Rattle.ranked_gen.specs.Budgets.{IsOver, IsWithin};

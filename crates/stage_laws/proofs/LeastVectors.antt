@@ -16,18 +16,18 @@ use Rattle.tier_core.specs.Kinds.{PrefixKind}
 use Rattle.arc_table.specs.declared.arc.TableArc.{TableArc}
 use Rattle.arc_table.specs.declared.state.TableState.{TableState}
 use Rattle.arc_table.specs.Runs.{IsRun, Reads, weight_of, AcceptingRun, Accepts, IsLeastWord, IsLeastFrom, IsOnRun}
-use Rattle.prune_best.proofs.Words.{some_word}
+use Rattle.arc_table.proofs.SomeWord.{some_word}
 use Rattle.violation.specs.Candidates.{IsCandidate, counts_on, IsAtMost, IsOptimalFor, IsOptimal, IsLeastVector}
 use Rattle.violation.specs.Counts.{violations_of, violations_so_far}
 use Rattle.violation.specs.Prefixes.{kind_of}
 use Rattle.violation.specs.Rests.{counts_rest, PassesWhole, IsLeastRestVector}
 use Rattle.violation.proofs.LeastVector.{one_vector}
 use Rattle.violation.proofs.StageLemmas.{all_optimal}
-use Rattle.stage_laws.specs.StageTables.{IsStage, name_of}
-use Rattle.stage_laws.specs.RankedTables.{IsRankedTable}
-use Rattle.stage_laws.proofs.Naming.{path_kind, same_state, passes_state, passed_state}
-use Rattle.stage_laws.proofs.Paths.{IsParted, run_exists, path_word}
-use Rattle.stage_laws.proofs.VectorWeights.{run_vector_law, rest_vector}
+use Rattle.kind_tables.specs.StageTables.{IsStage, name_of}
+use Rattle.kind_tables.specs.RankedTables.{IsRankedTable}
+use Rattle.kind_tables.proofs.Naming.{path_kind, same_state, passes_state, passed_state}
+use Rattle.kind_tables.proofs.Paths.{IsParted, run_exists, path_word}
+use Rattle.kind_tables.proofs.VectorWeights.{run_vector_law, rest_vector}
 use Rattle.violation.specs.Problems.{Problem, last_stage}
 
 module _ (problem : Problem) (stage : IsStage problem (last_stage problem)) (few : last_stage problem ≤ 24)

@@ -1,13 +1,6 @@
-pub mod Paths
-pub mod Naming
-pub mod Weighing
 pub mod Resting
 pub mod Optimal
-pub mod Following
 pub mod Pruned
-pub mod Exploring
 pub mod Staged
-pub mod Complete
-pub mod VectorWeights
 pub mod LeastVectors
 pub mod PrunedOnce

@@ -13,14 +13,14 @@ use Rattle.tier_core.specs.Kinds.{PrefixKind}
 use Rattle.arc_table.specs.declared.arc.TableArc.{TableArc}
 use Rattle.arc_table.specs.declared.state.TableState.{TableState}
 use Rattle.arc_table.specs.Runs.{weight_of, AcceptingRun, Accepts, IsLeastWord, IsLeastFrom}
-use Rattle.prune_best.proofs.Words.{some_word}
+use Rattle.arc_table.proofs.SomeWord.{some_word}
 use Rattle.violation.specs.Candidates.{IsCandidate, vec, vec_cmp, IsAtMost, IsOptimalFor, IsLeastVector, counts_on, count_at}
 use Rattle.violation.specs.Counts.{violations_of}
 use Rattle.violation.proofs.StageLemmas.{optimal_for_fewer}
-use Rattle.stage_laws.specs.StageTables.{IsStage, IsStageTable}
+use Rattle.kind_tables.specs.StageTables.{IsStage, IsStageTable}
 use Rattle.stage_laws.proofs.Resting.{at_most_le, le_at_most, first_weight}
 use Rattle.violation.proofs.VectorLemmas.{both_equal, equal_at_most, at_most_last, at_most_by_last}
-use Rattle.stage_laws.proofs.Weighing.{run_weight_law}
+use Rattle.kind_tables.proofs.Weighing.{run_weight_law}
 use Rattle.violation.specs.Problems.{Problem, last_stage}
 
 module _ (problem : Problem) (r : ℕ) (stage : IsStage problem r) {g : Ghosts Count}

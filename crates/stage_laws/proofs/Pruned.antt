@@ -16,9 +16,9 @@ use Rattle.arc_table.specs.Moves.{moves_at}
 use Rattle.arc_table.proofs.Push.{moves_exist}
 use Rattle.prune_best.specs.Tight.{IsTight}
 use Rattle.violation.specs.Moves.{FitsKind, moved, is_final}
-use Rattle.stage_laws.specs.StageTables.{IsStage, name_of, GoesAsKinds, AreNamedByKinds}
-use Rattle.stage_laws.specs.FoundTables.{names_kept}
-use Rattle.stage_laws.proofs.Naming.{same_state}
+use Rattle.kind_tables.specs.StageTables.{IsStage, name_of, GoesAsKinds, AreNamedByKinds}
+use Rattle.kind_tables.specs.FoundTables.{names_kept}
+use Rattle.kind_tables.proofs.Naming.{same_state}
 use Rattle.violation.specs.Problems.{Problem}
 
 module _ (problem : Problem) (r : ℕ) (stage : IsStage problem r) {W V : Type 0} {g : Ghosts W} {h : Ghosts V}

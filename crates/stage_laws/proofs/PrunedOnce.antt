@@ -16,11 +16,11 @@ use Rattle.violation.specs.Candidates.{IsOptimal}
 use Rattle.violation.specs.Prefixes.{kind_of}
 use Rattle.violation.specs.Rests.{IsWholeKind}
 use Rattle.violation.specs.Stages.{IsPassed}
-use Rattle.stage_laws.specs.StageTables.{IsStage, name_of, AreNamedByKinds}
-use Rattle.stage_laws.specs.FoundTables.{names_kept}
-use Rattle.stage_laws.specs.RankedTables.{IsRankedTable}
+use Rattle.kind_tables.specs.StageTables.{IsStage, name_of, AreNamedByKinds}
+use Rattle.kind_tables.specs.FoundTables.{names_kept}
+use Rattle.kind_tables.specs.RankedTables.{IsRankedTable}
 use Rattle.stage_laws.proofs.LeastVectors.{optimal_words, zero_words}
-use Rattle.stage_laws.proofs.Naming.{names_law, prefix_path}
+use Rattle.kind_tables.proofs.Naming.{names_law, prefix_path}
 use Rattle.stage_laws.proofs.Pruned.{kept_named}
 use Rattle.violation.specs.Problems.{Problem, last_stage}
 

@@ -16,17 +16,17 @@ use Rattle.arc_table.specs.declared.arc.TableArc.{TableArc}
 use Rattle.arc_table.specs.declared.state.TableState.{TableState}
 use Rattle.arc_table.specs.Runs.{IsRun, Reads, weight_of, IsLeastFrom, HasNoRun, IsOnRun}
 use Rattle.distances.specs.Least.{AreLeast}
-use Rattle.prune_best.proofs.Words.{some_word}
+use Rattle.arc_table.proofs.SomeWord.{some_word}
 use Rattle.violation.specs.Candidates.{IsCandidate, vec, vec_so_far, count_at, count_so_far_at}
 use Rattle.violation.specs.Prefixes.{kind_of}
 use Rattle.violation.specs.Stages.{Passes, IsLeastRest, IsRemaining}
 use Rattle.violation.specs.Walks.{walk_costs}
 use Rattle.violation.proofs.CostLemmas.{length_walk}
-use Rattle.stage_laws.specs.StageTables.{IsStage, name_of, IsStageTable}
-use Rattle.stage_laws.proofs.Paths.{IsParted, run_exists, path_word}
-use Rattle.stage_laws.proofs.Naming.{path_kind, same_state, passes_state, passed_state}
+use Rattle.kind_tables.specs.StageTables.{IsStage, name_of, IsStageTable}
+use Rattle.kind_tables.proofs.Paths.{IsParted, run_exists, path_word}
+use Rattle.kind_tables.proofs.Naming.{path_kind, same_state, passes_state, passed_state}
 use Rattle.violation.proofs.StageLemmas.{over_first}
-use Rattle.stage_laws.proofs.Weighing.{run_weight, rest_weight}
+use Rattle.kind_tables.proofs.Weighing.{run_weight, rest_weight}
 use Rattle.violation.specs.Problems.{Problem}
 
 pub le_from_test : (x y : ℕ) → nat_lt y x ≡ false → x ≤ y

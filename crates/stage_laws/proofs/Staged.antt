@@ -15,11 +15,11 @@ use Rattle.violation.specs.Candidates.{IsOptimalFor}
 use Rattle.violation.specs.Prefixes.{kind_of}
 use Rattle.violation.specs.Stages.{IsPassed}
 use Rattle.prune_best.specs.Tight.{IsTight}
-use Rattle.stage_laws.specs.StageTables.{IsStage, name_of, AreNamedByKinds, AreWeighed, IsStageTable}
-use Rattle.stage_laws.specs.FoundTables.{names_kept, AreFoundFrom}
-use Rattle.stage_laws.proofs.Exploring.{found_named, found_on_runs, same_words}
-use Rattle.stage_laws.proofs.Following.{next_table}
-use Rattle.stage_laws.proofs.Naming.{names_law, prefix_path}
+use Rattle.kind_tables.specs.StageTables.{IsStage, name_of, AreNamedByKinds, AreWeighed, IsStageTable}
+use Rattle.kind_tables.specs.FoundTables.{names_kept, AreFoundFrom}
+use Rattle.kind_tables.proofs.Exploring.{found_named, found_on_runs, same_words}
+use Rattle.kind_tables.proofs.Following.{next_table}
+use Rattle.kind_tables.proofs.Naming.{names_law, prefix_path}
 use Rattle.stage_laws.proofs.Optimal.{all_words_law}
 use Rattle.stage_laws.proofs.Pruned.{kept_named}
 use Rattle.violation.specs.Problems.{Problem}

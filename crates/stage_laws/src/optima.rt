@@ -9,7 +9,7 @@ ghost use Rattle.arc_table.specs.declared.state.TableState.{TableState};
 ghost use Rattle.arc_table.specs.Runs.{Accepts, IsLeastWord, IsLeastFrom};
 ghost use Rattle.prune_best.specs.Tight.{IsTight};
 ghost use Rattle.violation.specs.Candidates.{vec, IsOptimalFor, IsOptimal, IsLeastVector, count_at};
-ghost use Rattle.stage_laws.specs.StageTables.{IsStage, IsStageTable};
+ghost use Rattle.kind_tables.specs.StageTables.{IsStage, IsStageTable};
 ghost use Rattle.violation.specs.Problems.{Problem, last_stage};
 
 use weight_law::{Count, UnitWeight, Weight};

@@ -8,7 +8,7 @@ ghost use Rattle.arc_table.specs.declared.state.TableState.{TableState};
 ghost use Rattle.arc_table.specs.Runs.{IsLeastFrom};
 ghost use Rattle.distances.specs.Least.{AreLeast};
 ghost use Rattle.violation.specs.Stages.{IsRemaining};
-ghost use Rattle.stage_laws.specs.StageTables.{IsStage, IsStageTable, name_of};
+ghost use Rattle.kind_tables.specs.StageTables.{IsStage, IsStageTable, name_of};
 ghost use Rattle.violation.specs.Problems.{Problem};
 
 use weight_law::{Count, Weight};

@@ -1,4 +1,4 @@
-ghost use Rattle.std.specs.Prelude.{ℕ, ◌≡◌, ◌<◌, ◌≤◌, ◌^◌, ◌↔◌, List, length, take, Contains};
+ghost use Rattle.std.specs.Prelude.{ℕ, ◌≡◌, ◌<◌, ◌≤◌, ◌↔◌, List, length, take, Contains};
 ghost use Rattle.weight_law.specs.declared.ranked.Ranked.{Ranked};
 ghost use Rattle.weight_law.specs.declared.unit_weight.UnitWeight.{UnitWeight};
 ghost use Rattle.weight_law.specs.Ranked.{IsOfVector};
@@ -6,34 +6,20 @@ ghost use Rattle.tier_core.specs.declared.sym.Sym.{Sym};
 ghost use Rattle.tier_core.specs.Kinds.{PrefixKind};
 ghost use Rattle.arc_table.specs.declared.arc.TableArc.{TableArc};
 ghost use Rattle.arc_table.specs.declared.state.TableState.{TableState};
-ghost use Rattle.arc_table.specs.Runs.{IsPath, Reads, weight_of, AcceptingRun, Accepts, IsLeastWord, IsLeastFrom, SizesWithin};
+ghost use Rattle.arc_table.specs.Runs.{IsPath, Reads, Accepts, IsLeastWord, IsLeastFrom};
 ghost use Rattle.arc_table.specs.States.{states_of};
 ghost use Rattle.prune_best.specs.declared.tight_table.Tight.{Tight};
 ghost use Rattle.prune_best.specs.Tight.{IsTight};
-ghost use Rattle.violation.specs.Candidates.{counts_on, IsOptimal, IsLeastVector};
+ghost use Rattle.violation.specs.Candidates.{IsOptimal, IsLeastVector};
 ghost use Rattle.violation.specs.Prefixes.{kind_of};
 ghost use Rattle.violation.specs.Problems.{Problem, last_stage};
 ghost use Rattle.violation.specs.Rests.{IsWholeKind, IsLeastRestVector};
 ghost use Rattle.violation.specs.Stages.{IsPassed};
-ghost use Rattle.stage_laws.specs.StageTables.{name_of};
-ghost use Rattle.stage_laws.specs.FoundTables.{names_kept};
-ghost use Rattle.stage_laws.specs.RankedTables.{IsRankedTable, IsSinglePass};
+ghost use Rattle.kind_tables.specs.StageTables.{name_of};
+ghost use Rattle.kind_tables.specs.FoundTables.{names_kept};
+ghost use Rattle.kind_tables.specs.RankedTables.{IsSinglePass};
 
 use weight_law::{Ranked, UnitWeight, Weight};
-
-/// An accepting run of the table of a single pass weighs the vector of the timeline that it reads. The
-/// weights of its runs without repeats fit in 32 bits where the number of its states does.
-pub fn weights_are_vectors()
-    ensures runs { (problem : Problem) (names : List PrefixKind)
-        (states : List (TableState Ranked ⟦<Ranked as Weight>⟧))
-        → IsSinglePass problem names states
-        → (arcs : List (TableArc Ranked ⟦<Ranked as Weight>⟧)) (T : List (List Sym))
-        → AcceptingRun states T arcs → IsOfVector (weight_of arcs) (counts_on problem T) }
-    ensures sizes { (problem : Problem) (names : List PrefixKind)
-        (states : List (TableState Ranked ⟦<Ranked as Weight>⟧))
-        → IsRankedTable problem names states → length states < 2 ^ 32
-        → SizesWithin states u32.MAX }
-{}
 
 /// The words of least weight of the table of a single pass are exactly the optimal candidates. Pruned to
 /// these words it accepts them, the kinds of its states are those that they pass, and each prefix of one

@@ -9,15 +9,15 @@ use Rattle.tier_core.specs.declared.class.Class.{Class}
 use Rattle.tier_core.specs.declared.sym.Sym.{Sym}
 use Rattle.tier_core.specs.Classes.{has, sets_of, AreDisjoint}
 use Rattle.tier_core.specs.Kinds.{PrefixKind}
-use Rattle.symbol_class.specs.Filled.{is_filled}
+use Rattle.tier_core.specs.Filled.{is_filled}
 use Rattle.arc_table.specs.declared.arc.TableArc.{TableArc}
 use Rattle.arc_table.specs.declared.state.TableState.{TableState}
 use Rattle.arc_table.specs.Conditions.{TargetsExist, ClassesDisjoint, ClassesFilled, OneWidth}
 use Rattle.arc_table.specs.Moves.{moves_at, accepting_at}
 use Rattle.arc_table.specs.Runs.{IsRun, IsPath, Reads, Accepts, IsOnRun}
 use Rattle.arc_table.proofs.Push.{moves_exist}
-use Rattle.stage_laws.specs.StageTables.{name_of, AreNamedByKinds}
-use Rattle.stage_laws.proofs.Paths.{run_exists}
+use Rattle.kind_tables.specs.StageTables.{name_of, AreNamedByKinds}
+use Rattle.kind_tables.proofs.Paths.{run_exists}
 use Rattle.stage_tables.proofs.Zips.{zip_from, zip_to, zip_pairs}
 use Rattle.violation.specs.Problems.{Problem}
 

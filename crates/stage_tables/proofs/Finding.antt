@@ -11,7 +11,7 @@ use Rattle.tier_core.specs.declared.kind.Kind.{Kind}
 use Rattle.tier_core.specs.declared.sym.Sym.{Sym}
 use Rattle.tier_core.specs.Kinds.{PrefixKind}
 use Rattle.tier_core.specs.Classes.{sets_of, has}
-use Rattle.symbol_class.specs.Filled.{is_filled}
+use Rattle.tier_core.specs.Filled.{is_filled}
 use Rattle.symbol_class.specs.Parts.{IsAlike}
 use Rattle.kind_moves.specs.Pieces.{cost_under}
 use Rattle.arc_table.specs.declared.arc.TableArc.{TableArc}
@@ -23,7 +23,7 @@ use Rattle.arc_table.proofs.Push.{moves_exist, accepting_old, accepting_new, mov
 use Rattle.kind_moves.specs.declared.frame.Frame.{Frame}
 use Rattle.kind_moves.specs.Frames.{tiers_in, kind_at_stage, IsMove}
 use Rattle.kind_moves.specs.Laws.{LeadsTo}
-use Rattle.stage_laws.specs.StageTables.{name_of, cost_of}
+use Rattle.kind_tables.specs.StageTables.{name_of, cost_of}
 use Rattle.stage_tables.specs.declared.kind_key.KindKey.{KindKey}
 use Rattle.stage_tables.specs.KindKeys.{key_of}
 use Rattle.stage_tables.specs.Listed.{IsAt, AreListed, IsPutLast, IsSame, IsNumbered, Stays, StandsOver, IsReached, IsOverOne, AreFound, IsTaken, AreTakenMoves, IsTakenState, AreTargets, AreTaken}

@@ -8,8 +8,8 @@ use Rattle.tier_core.specs.declared.sym.Sym.{Sym}
 use Rattle.tier_core.specs.Classes.{sets_of}
 use Rattle.tier_core.specs.Kinds.{PrefixKind}
 use Rattle.tier_core.proofs.ClassLemmas.{same_width}
-use Rattle.symbol_class.specs.FirstColumn.{first_column}
-use Rattle.symbol_class.proofs.Filled.{has-first_column}
+use Rattle.tier_core.specs.FirstColumn.{first_column}
+use Rattle.tier_core.proofs.Filled.{has-first_column}
 use Rattle.arc_table.specs.declared.arc.TableArc.{TableArc}
 use Rattle.arc_table.specs.declared.state.TableState.{TableState}
 use Rattle.arc_table.specs.Conditions.{TargetsExist}
@@ -20,11 +20,11 @@ use Rattle.violation.proofs.CutLemmas.{cut-kind_of}
 use Rattle.kind_moves.specs.declared.frame.Frame.{Frame}
 use Rattle.kind_moves.specs.Frames.{problem_in, kind_at_stage}
 use Rattle.kind_moves.proofs.LawSteps.{kinds_law}
-use Rattle.stage_laws.specs.StageTables.{IsStage, name_of}
-use Rattle.stage_laws.specs.FoundTables.{base_of, AreFoundFrom}
-use Rattle.stage_laws.proofs.Exploring.{fits_from_cut, found_on_runs, same_words}
-use Rattle.stage_laws.proofs.Naming.{path_kind, same_state}
-use Rattle.stage_laws.proofs.Paths.{run_path, path_word, joined_run, joined_reads}
+use Rattle.kind_tables.specs.StageTables.{IsStage, name_of}
+use Rattle.kind_tables.specs.FoundTables.{base_of, AreFoundFrom}
+use Rattle.kind_tables.proofs.Exploring.{fits_from_cut, found_on_runs, same_words}
+use Rattle.kind_tables.proofs.Naming.{path_kind, same_state}
+use Rattle.kind_tables.proofs.Paths.{run_path, path_word, joined_run, joined_reads}
 use Rattle.stage_tables.specs.declared.kind_key.KindKey.{KindKey}
 use Rattle.stage_tables.specs.Kept.{AreKeptByKinds}
 use Rattle.stage_tables.specs.Explored.{names_at, IsExplored}

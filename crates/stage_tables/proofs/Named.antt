@@ -27,8 +27,8 @@ use Rattle.kind_moves.specs.declared.frame.Frame.{Frame}
 use Rattle.kind_moves.specs.Frames.{problem_in, kind_at_stage, FitsFrame}
 use Rattle.kind_moves.proofs.GrammarTiers.{over_tiers, form_from}
 use Rattle.kind_moves.proofs.LawSteps.{kinds_law}
-use Rattle.stage_laws.specs.StageTables.{IsStage, name_of, cost_of, AreNamedByKinds, AreWeighed}
-use Rattle.stage_laws.specs.FoundTables.{HasMoveOn, AreReached, base_of}
+use Rattle.kind_tables.specs.StageTables.{IsStage, name_of, cost_of, AreNamedByKinds, AreWeighed}
+use Rattle.kind_tables.specs.FoundTables.{HasMoveOn, AreReached, base_of}
 use Rattle.stage_tables.specs.declared.kind_key.KindKey.{KindKey}
 use Rattle.stage_tables.specs.Explored.{names_at, IsMet, IsOverBudget}
 use Rattle.stage_tables.specs.Listed.{IsAt, IsReached, AreFound, IsTaken, IsTakenFrom, AreTaken, classes_of}

@@ -20,8 +20,8 @@ use Rattle.arc_table.proofs.Push.{accepting_old, accepting_new, moves_old, moves
 use Rattle.violation.specs.Moves.{move_costs}
 use Rattle.kind_moves.specs.declared.frame.Frame.{Frame}
 use Rattle.kind_moves.specs.Frames.{kind_at_stage, FitsFrame, problem_in}
-use Rattle.stage_laws.specs.StageTables.{name_of}
-use Rattle.stage_laws.specs.RankedTables.{AreWeighedByAll, IsRankedTable}
+use Rattle.kind_tables.specs.StageTables.{name_of}
+use Rattle.kind_tables.specs.RankedTables.{AreWeighedByAll, IsRankedTable}
 use Rattle.stage_tables.specs.Explored.{names_at}
 use Rattle.stage_tables.specs.Ranking.{kind_numbered, AreColumnsOf, IsRankedMove, AreRankedStates, IsWholeTable}
 use Rattle.stage_tables.proofs.Alike.{IsAlike, AreAlike, alike_on_runs, alike_named, alike_words}

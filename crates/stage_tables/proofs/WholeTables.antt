@@ -4,7 +4,7 @@ use Rattle.std.proofs.lemmas.Grind.{same_number_lists}
 use Rattle.std.proofs.lemmas.List.{length-take-le, length-replicate}
 use Rattle.std.proofs.lemmas.List.Elements.{Contains-push_cases}
 use Rattle.tier_core.specs.declared.sym.Sym.TheVariants.{Outside}
-use Rattle.symbol_class.proofs.Filled.{filled_from}
+use Rattle.tier_core.proofs.Filled.{filled_from}
 use Rattle.weight_law.specs.declared.Weight.{Ghosts}
 use Rattle.weight_law.specs.declared.count.Count.{Count}
 use Rattle.weight_law.specs.declared.unit_weight.UnitWeight.{UnitWeight}
@@ -24,9 +24,9 @@ use Rattle.kind_moves.specs.declared.frame.Frame.{Frame}
 use Rattle.kind_moves.specs.Frames.{tiers_in, problem_in, kind_at_stage}
 use Rattle.kind_moves.specs.Pieces.{cost_under}
 use Rattle.kind_moves.proofs.LawSteps.{prefixes_law}
-use Rattle.stage_laws.specs.StageTables.{name_of}
-use Rattle.stage_laws.specs.FoundTables.{base_of, HaveAllMoves}
-use Rattle.stage_laws.proofs.Complete.{complete_words, complete_on_runs}
+use Rattle.kind_tables.specs.StageTables.{name_of}
+use Rattle.kind_tables.specs.FoundTables.{base_of, HaveAllMoves}
+use Rattle.kind_tables.proofs.Complete.{complete_words, complete_on_runs}
 use Rattle.stage_tables.specs.declared.kind_key.KindKey.{KindKey}
 use Rattle.stage_tables.specs.Explored.{names_at, IsComplete}
 use Rattle.stage_tables.specs.Whole.{IsWhole, IsWholeMove}

@@ -16,7 +16,7 @@ use Rattle.violation.specs.Candidates.{IsCandidate}
 use Rattle.violation.specs.Prefixes.{kind_of}
 use Rattle.kind_moves.specs.declared.frame.Frame.{Frame}
 use Rattle.kind_moves.specs.Frames.{kind_at_stage, FitsFrame}
-use Rattle.stage_laws.specs.StageTables.{name_of, AreNamedByKinds, AreWeighed}
+use Rattle.kind_tables.specs.StageTables.{name_of, AreNamedByKinds, AreWeighed}
 use Rattle.kind_moves.specs.Frames.{problem_in}
 
 -- the kinds that bits encode at a stage

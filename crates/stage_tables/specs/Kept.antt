@@ -5,7 +5,7 @@ use Rattle.weight_law.specs.declared.unit_weight.UnitWeight.{UnitWeight}
 use Rattle.tier_core.specs.Kinds.{PrefixKind}
 use Rattle.arc_table.specs.declared.state.TableState.{TableState}
 use Rattle.arc_table.specs.Runs.{IsOnRun}
-use Rattle.stage_laws.specs.StageTables.{AreNamedByKinds}
+use Rattle.kind_tables.specs.StageTables.{AreNamedByKinds}
 use Rattle.violation.specs.Problems.{Problem}
 
 -- The states of a kept table are named by kinds under the first r constraints, and each state is on a

@@ -7,7 +7,7 @@ use Rattle.tier_core.specs.declared.kind.Kind.{Kind}
 use Rattle.tier_core.specs.declared.class.Class.{Class}
 use Rattle.tier_core.specs.declared.sym.Sym.{Sym}
 use Rattle.tier_core.specs.Classes.{sets_of, has}
-use Rattle.symbol_class.specs.Filled.{is_filled}
+use Rattle.tier_core.specs.Filled.{is_filled}
 use Rattle.symbol_class.specs.Held.{times_held}
 use Rattle.symbol_class.specs.Parts.{IsAlike}
 use Rattle.arc_table.specs.declared.arc.TableArc.{TableArc}
@@ -21,7 +21,7 @@ use Rattle.kind_moves.specs.Laws.{LeadsTo}
 use Rattle.kind_moves.specs.Pieces.{cost_under}
 use Rattle.stage_tables.specs.declared.kind_key.KindKey.{KindKey}
 use Rattle.stage_tables.specs.KindKeys.{key_of}
-use Rattle.stage_laws.specs.StageTables.{cost_of}
+use Rattle.kind_tables.specs.StageTables.{cost_of}
 
 -- number k of a list is the kind, which stands over state s
 abbrev pub IsAt : List Kind → List ℕ → ℕ → Kind → ℕ → Type 0

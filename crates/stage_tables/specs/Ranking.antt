@@ -9,7 +9,7 @@ use Rattle.tier_core.specs.declared.class.Class.{Class}
 use Rattle.tier_core.specs.declared.kind.Kind.{Kind}
 use Rattle.tier_core.specs.declared.sym.Sym.{Sym}
 use Rattle.tier_core.specs.Classes.{has}
-use Rattle.symbol_class.specs.Filled.{is_filled}
+use Rattle.tier_core.specs.Filled.{is_filled}
 use Rattle.symbol_class.specs.Parts.{IsAlike}
 use Rattle.arc_table.specs.declared.arc.TableArc.{TableArc}
 use Rattle.arc_table.specs.declared.state.TableState.{TableState}
@@ -19,7 +19,7 @@ use Rattle.violation.specs.Candidates.{IsCandidate}
 use Rattle.violation.specs.Moves.{move_costs}
 use Rattle.kind_moves.specs.declared.frame.Frame.{Frame}
 use Rattle.kind_moves.specs.Frames.{tiers_in, kind_at_stage, FitsFrame, problem_in}
-use Rattle.stage_laws.specs.StageTables.{name_of, AreNamedByKinds}
+use Rattle.kind_tables.specs.StageTables.{name_of, AreNamedByKinds}
 use Rattle.stage_tables.specs.Explored.{names_at}
 use Rattle.violation.specs.Problems.{last_stage}
 

@@ -4,7 +4,7 @@ ghost use Rattle.weight_law.specs.Ranked.{IsOfVector};
 ghost use Rattle.arc_table.specs.States.{states_of};
 ghost use Rattle.kind_moves.specs.Frames.{tiers_in, problem_in, FitsFrame};
 ghost use Rattle.violation.specs.Problems.{last_stage};
-ghost use Rattle.stage_laws.specs.RankedTables.{IsRankedTable};
+ghost use Rattle.kind_tables.specs.RankedTables.{IsRankedTable};
 ghost use Rattle.stage_tables.specs.Explored.{names_at};
 ghost use Rattle.stage_tables.specs.Ranking.{costs_at, AreColumnsOf, IsRankedMove, AreRankedStates, IsWholeTable};
 

@@ -15,10 +15,10 @@ use Rattle.tier_core.specs.declared.sym.Sym.{Sym}
 use Rattle.tier_core.specs.Symbols.{symbols}
 use Rattle.tier_core.specs.Sets.{is_in}
 use Rattle.tier_core.specs.Classes.{sets_have}
-use Rattle.symbol_class.specs.FirstColumn.{first_sym}
+use Rattle.tier_core.specs.FirstColumn.{first_sym}
 use Rattle.symbol_class.specs.Held.{once_if}
 use Rattle.symbol_class.specs.Joined.{sets_beside, beside_cmp, united}
-use Rattle.symbol_class.proofs.Filled.{sets_filled, sets_have-first}
+use Rattle.tier_core.proofs.Filled.{sets_filled, sets_have-first}
 use Rattle.symbol_class.proofs.SetLists.{have_either}
 use Rattle.symbol_class.proofs.SetOrder.{same_numbers}
 use Rattle.symbol_class.proofs.Times.{pairs_head, pairs_tail}

@@ -13,7 +13,7 @@ use Rattle.std.proofs.lemmas.List.Sorted.{ranks_by, sorted_far, IsPermutation-re
 use Rattle.tier_core.specs.declared.sym.Sym.{Sym}
 use Rattle.tier_core.specs.declared.class.Class.{Class}
 use Rattle.tier_core.specs.Classes.{sets_of, sets_have, has, AreDisjoint}
-use Rattle.symbol_class.specs.Filled.{is_filled}
+use Rattle.tier_core.specs.Filled.{is_filled}
 use Rattle.symbol_class.specs.Held.{times_held, once_if, width_of, ArePieces}
 use Rattle.symbol_class.specs.Joined.{DifferTwice, sets_beside, beside_cmp, united, DifferBeside, JoinsAlong, JoinsBelow}
 use Rattle.symbol_class.proofs.JoinSteps.{times_had, are_filled, length-united, joined_from, joined_alike, joined_other, joined_fewer, joined_kept, joined_wide, joined_filled, joined_had, joined_strict, differ_from_below}

@@ -1,4 +1,3 @@
-pub mod Filled
 pub mod SetOrder
 pub mod SetLists
 pub mod Pairs

@@ -11,10 +11,10 @@ use Rattle.tier_core.specs.Classes.{sets_of, sets_have, has}
 use Rattle.tier_core.proofs.ClassLemmas.{same_width}
 use Rattle.tier_core.proofs.ClassSets.{same_sets}
 use Rattle.symbol_class.specs.declared.difference.Difference.{Difference}
-use Rattle.symbol_class.specs.Filled.{is_filled}
+use Rattle.tier_core.specs.Filled.{is_filled}
 use Rattle.symbol_class.specs.Held.{times_held, once_if, ArePieces, AddsClasses}
 use Rattle.symbol_class.specs.Parts.{differs, IsAlike, IsPartOf, AddsAlike, ArePartedBy}
-use Rattle.symbol_class.proofs.Filled.{empty_holds}
+use Rattle.tier_core.proofs.Filled.{empty_holds}
 use Rattle.symbol_class.proofs.Times.{held_by, adds_then, adds_none, pieces_from_once, once_from_apart, added_times}
 
 -- ---- classes that need not be parted

@@ -1,13 +1,11 @@
 -- Sets of symbols that are met, united or turned around, and lists of sets in which one is replaced.
 use Rattle.std.proofs.Common.{◌≡◌, ℕ, zero, suc, ◌-◌, ◌^◌, ◌<◌, ◌==◌, min, max, Bool, true, false, not, ◌&&◌, ◌||◌, List, [], ◌∷◌, length, get_or, set, bit_and, bit_or, w8, refl, ap, sym, ◌∙◌, arith}
 use Rattle.std.specs.Int.{bit_at, bit_not}
-use Rattle.std.specs.List.{list_any}
-use Rattle.std.proofs.lemmas.Bool.{agree_below_at}
 use Rattle.std.proofs.lemmas.List.{set-get_or, set-set}
 use Rattle.std.proofs.lemmas.Nat.Bits.{bit_at_and, bit_at_or, bit_at_not, bit_at-lt}
 use Rattle.tier_core.specs.declared.sym.Sym.{Sym}
 use Rattle.tier_core.specs.declared.sym.Sym.TheVariants.{Outside, Inside, Start, End, Both}
-use Rattle.tier_core.specs.Symbols.{rank, symbols}
+use Rattle.tier_core.specs.Symbols.{rank}
 use Rattle.tier_core.specs.Sets.{is_in}
 use Rattle.tier_core.specs.Classes.{sets_have}
 use Rattle.tier_core.specs.Timelines.{symbol}
@@ -61,10 +59,6 @@ pub is_in-not : (x : ℕ) (s : Sym) → x < 2 ^ 8 → is_in (bit_not w8 x) s ≡
 is_in-not x s l =
     ap (λ n. n == 1) (bit_at_not w8 x (rank s) l (rank_few s))
     ∙ turned_one (bit_at x (rank s)) (bit_at-lt x (rank s))
-
--- a set has a symbol unless its number is 0
-pub some_symbol : (x : ℕ) → x < 32 → list_any (is_in x) symbols ≡ not (x == 0)
-some_symbol x l = agree_below_at (λ x. list_any (is_in x) symbols) (λ x. not (x == 0)) 32 x refl l
 
 -- ---- lists of sets
 

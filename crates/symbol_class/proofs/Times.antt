@@ -10,9 +10,9 @@ use Rattle.std.proofs.lemmas.List.Sorted.{sum_by-IsPermutation}
 use Rattle.tier_core.specs.declared.sym.Sym.{Sym}
 use Rattle.tier_core.specs.declared.class.Class.{Class}
 use Rattle.tier_core.specs.Classes.{sets_of, has, AreDisjoint}
-use Rattle.symbol_class.specs.Filled.{is_filled}
+use Rattle.tier_core.specs.Filled.{is_filled}
 use Rattle.symbol_class.specs.Held.{some_has, times_held, once_if, ArePieces, AddsClasses}
-use Rattle.symbol_class.proofs.Filled.{empty_holds}
+use Rattle.tier_core.proofs.Filled.{empty_holds}
 
 -- ---- pairs of a list
 

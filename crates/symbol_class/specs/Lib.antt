@@ -1,5 +1,3 @@
-pub mod Filled
-pub mod FirstColumn
 pub mod ClassOrder
 pub mod Held
 pub mod Joined

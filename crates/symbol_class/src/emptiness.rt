@@ -1,7 +1,7 @@
 ghost use Rattle.std.specs.Prelude.{◌≡◌, ◌↔◌, IsTrue, List, false, not, length};
 ghost use Rattle.tier_core.specs.declared.sym.Sym.{Sym};
 ghost use Rattle.tier_core.specs.Classes.{sets_of, has};
-ghost use Rattle.symbol_class.specs.Filled.{is_filled};
+ghost use Rattle.tier_core.specs.Filled.{is_filled};
 
 use tier_core::Class;
 

@@ -3,7 +3,7 @@ ghost use Rattle.std.specs.Ordering.{is_eq};
 ghost use Rattle.std.specs.List.Sorted.{IsSortedByKey};
 ghost use Rattle.tier_core.specs.declared.sym.Sym.{Sym};
 ghost use Rattle.tier_core.specs.Classes.{sets_of, AreDisjoint};
-ghost use Rattle.symbol_class.specs.Filled.{is_filled};
+ghost use Rattle.tier_core.specs.Filled.{is_filled};
 ghost use Rattle.symbol_class.specs.Held.{some_has, times_held, width_of, ArePieces};
 ghost use Rattle.symbol_class.specs.Joined.{DifferTwice, beside_cmp, united, JoinsAlong, JoinsBelow};
 

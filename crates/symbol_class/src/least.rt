@@ -3,14 +3,14 @@ ghost use Rattle.std.specs.Ordering.{is_gt};
 ghost use Rattle.tier_core.specs.declared.sym.Sym.{Sym};
 ghost use Rattle.tier_core.specs.Classes.{has};
 ghost use Rattle.tier_core.specs.Orders.{column_cmp};
-ghost use Rattle.symbol_class.specs.Filled.{is_filled};
-ghost use Rattle.symbol_class.specs.FirstColumn.{first_sym, first_column};
+ghost use Rattle.tier_core.specs.Filled.{is_filled};
+ghost use Rattle.tier_core.specs.FirstColumn.{first_sym, first_column};
 
 use std::alloc::Global;
 use tier_core::{Class, Column, Sym};
 
 /// The least symbol of the set with this number, and Both if the set has none.
-#[tactic(auto, unfolding(crate::specs::FirstColumn::first_sym))]
+#[tactic(auto, unfolding(tier_core::specs::FirstColumn::first_sym))]
 fn lowest(set: u8) -> Sym
     ensures { result ≡ first_sym set }
 {

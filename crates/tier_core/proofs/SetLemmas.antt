@@ -1,7 +1,7 @@
 -- Sets of symbols by their numbers.
-use Rattle.std.proofs.Common.{◌≡◌, ℕ, suc, length, ◌==◌, ◌&&◌, Bool, true, false, List, [], ◌∷◌, map, refl, ap, sym, ◌∙◌, get_or, ⊎_elim, ◌<◌, arith}
+use Rattle.std.proofs.Common.{◌≡◌, ℕ, suc, length, ◌==◌, ◌&&◌, not, Bool, true, false, List, [], ◌∷◌, map, refl, ap, sym, ◌∙◌, get_or, ⊎_elim, ◌<◌, arith}
 use Rattle.std.specs.Int.{bit_at}
-use Rattle.std.proofs.lemmas.Bool.{false≢true, cases_eq, and_parts, and_from}
+use Rattle.std.proofs.lemmas.Bool.{false≢true, cases_eq, and_parts, and_from, agree_below_at}
 use Rattle.std.proofs.lemmas.Nat.Bits.{bit_at-pow_same, bit_at-pow_other}
 use Rattle.std.proofs.lemmas.List.Folds.{list_any_at}
 use Rattle.std.specs.List.{list_any}
@@ -68,3 +68,7 @@ other_width (set ∷ sets) (s ∷ column) h =
     and_false : (b : Bool) → (b && false) ≡ false
     and_false true = refl
     and_false false = refl
+
+-- a set has a symbol unless its number is 0
+pub some_symbol : (x : ℕ) → x < 32 → list_any (is_in x) symbols ≡ not (x == 0)
+some_symbol x l = agree_below_at (λ x. list_any (is_in x) symbols) (λ x. not (x == 0)) 32 x refl l

@@ -13,3 +13,5 @@ pub mod Classes
 pub mod Kinds
 pub mod Shapes
 pub mod KindShapes
+pub mod Filled
+pub mod FirstColumn

@@ -1,5 +1,5 @@
-use Rattle.symbol_class.specs.FirstColumn.{first_column}
-use Rattle.symbol_class.proofs.Filled.{has-first_column}
+use Rattle.tier_core.specs.FirstColumn.{first_column}
+use Rattle.tier_core.proofs.Filled.{has-first_column}
 use Rattle.violation.specs.Moves.{moved}
 use Rattle.violation.specs.Prefixes.{kind_of_bits}
 use Rattle.cert_check.specs.Subjects.{problem_of}

@@ -1,7 +1,7 @@
 use Rattle.std.proofs.Common.{◌≡◌, ◌<◌, length, sym, ap₂, ◌∙◌, arith}
 use Rattle.std.proofs.lemmas.List.{get_or_default, length-map}
 use Rattle.tier_core.specs.Orders.{column_cmp}
-use Rattle.symbol_class.specs.FirstColumn.{first_column}
+use Rattle.tier_core.specs.FirstColumn.{first_column}
 use Rattle.violation.specs.Prefixes.{kind_of_bits}
 use Rattle.cert_check.specs.declared.kept_piece.KeptPiece.{KeptPiece}
 use Rattle.cert_check.specs.Kept.{classes_of}

@@ -6,7 +6,7 @@ use Rattle.tier_core.specs.declared.kind.Kind.{Kind}
 use Rattle.weight_law.specs.declared.ranked.Ranked.{Ranked}
 use Rattle.violation.specs.Problems.{last_stage}
 use Rattle.kind_moves.specs.Frames.{problem_in}
-use Rattle.stage_laws.proofs.VectorWeights.{vectors_fit}
+use Rattle.kind_tables.proofs.VectorWeights.{vectors_fit}
 use Rattle.stage_laws.proofs.Resting.{some_weight}
 use Rattle.stage_tables.specs.Explored.{names_at}
 use Rattle.kind_orders.specs.KindOrders.{AreFound, IsKindOrder}

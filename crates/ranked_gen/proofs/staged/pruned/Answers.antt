@@ -2,7 +2,7 @@ use Rattle.std.proofs.Common.{◌≡◌, ◌<◌, List, map, length, get_or, ref
 use Rattle.std.proofs.lemmas.List.{get_or_default, length-map}
 use Rattle.arc_table.specs.States.{states_of}
 use Rattle.tier_core.specs.declared.kind.Kind.{Kind}
-use Rattle.stage_laws.proofs.Weighing.{sizes_fit}
+use Rattle.kind_tables.proofs.Weighing.{sizes_fit}
 use Rattle.stage_tables.specs.Explored.{names_at}
 use Rattle.kind_orders.specs.KindOrders.{AreFound, IsKindOrder}
 use Rattle.kind_orders.specs.StageNodes.{AreNodesInOrder}

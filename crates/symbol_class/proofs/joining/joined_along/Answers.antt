@@ -5,7 +5,7 @@ use Rattle.std.proofs.lemmas.List.Sorted.{All-permutation, ranks_by}
 use Rattle.std.proofs.lemmas.Result.{IfOk-weaker}
 use Rattle.tier_core.specs.declared.class.Class.{Class}
 use Rattle.tier_core.specs.Classes.{sets_of, AreDisjoint}
-use Rattle.symbol_class.specs.Filled.{is_filled}
+use Rattle.tier_core.specs.Filled.{is_filled}
 use Rattle.symbol_class.specs.Joined.{sets_beside, beside_cmp, JoinsAlong}
 use Rattle.symbol_class.proofs.JoinedClasses.{joins_permuted, apart_permuted}
 use Rattle.symbol_class.proofs.Pairs.{sorted_by_closure}

@@ -5,8 +5,8 @@ use Rattle.tier_core.specs.declared.sym.Sym.{Sym}
 use Rattle.tier_core.specs.declared.class.Class.{Class}
 use Rattle.tier_core.specs.Classes.{sets_of, has}
 use Rattle.tier_core.specs.Orders.{column_cmp}
-use Rattle.symbol_class.specs.FirstColumn.{first_sym, first_column}
-use Rattle.symbol_class.proofs.Filled.{has-first_column, first_column_least}
+use Rattle.tier_core.specs.FirstColumn.{first_sym, first_column}
+use Rattle.tier_core.proofs.Filled.{has-first_column, first_column_least}
 use Rattle.symbol_class.proofs.least.least_column.Goals as goal
 
 -- the symbols that were found for all tiers are the first column

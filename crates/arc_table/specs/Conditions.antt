@@ -1,7 +1,6 @@
 -- What the states of every table satisfy.
 use Rattle.std.specs.Prelude.{◌≡◌, ℕ, ◌<◌, List, Contains, AllPairs, IsTrue, length}
 use Rattle.weight_law.specs.declared.Weight.{Ghosts}
-use Rattle.tier_core.specs.declared.class.Class.{Class}
 use Rattle.tier_core.specs.Classes.{sets_of, AreDisjoint}
 use Rattle.tier_core.specs.Filled.{is_filled}
 use Rattle.arc_table.specs.declared.arc.TableArc.{TableArc}

@@ -7,7 +7,6 @@ use Rattle.weight_law.specs.declared.ranked.Ranked.{Ranked}
 use Rattle.weight_law.proofs.Padded.{sum-padded, padded_zero, greatest-padded}
 use Rattle.tier_core.specs.declared.sym.Sym.{Sym}
 use Rattle.tier_core.specs.declared.constraint.Constraint.{Constraint}
-use Rattle.tier_core.specs.Tiers.{Tiers}
 use Rattle.tier_core.specs.Kinds.{Phase, PrefixKind}
 use Rattle.tier_core.specs.Sides.{is_stretch}
 use Rattle.tier_core.specs.FirstColumn.{first_column}

@@ -5,12 +5,11 @@ use Rattle.weight_law.specs.declared.Weight.{Ghosts}
 use Rattle.weight_law.specs.declared.count.Count.{Count}
 use Rattle.tier_core.specs.declared.sym.Sym.{Sym}
 use Rattle.tier_core.specs.declared.constraint.Constraint.{Constraint}
-use Rattle.tier_core.specs.Tiers.{Tiers}
 use Rattle.tier_core.specs.Kinds.{PrefixKind}
 use Rattle.arc_table.specs.declared.arc.TableArc.{TableArc}
 use Rattle.arc_table.specs.declared.state.TableState.{TableState}
 use Rattle.arc_table.specs.Runs.{IsRun, IsPath, Reads, weight_of, AcceptingRun, SizesWithin}
-use Rattle.violation.specs.Candidates.{IsCandidate, vec, vec_so_far, count_at, count_so_far_at}
+use Rattle.violation.specs.Candidates.{IsCandidate, count_at, count_so_far_at}
 use Rattle.tier_core.specs.Kinds.{Phase}
 use Rattle.tier_core.specs.Sides.{is_stretch}
 use Rattle.tier_core.specs.FirstColumn.{first_column}

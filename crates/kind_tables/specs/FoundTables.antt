@@ -1,12 +1,10 @@
 -- How the tables of the stages are found: that of stage 0 by going on by kinds from the start, and
 -- each later one from the table that was pruned before it, by going on by kinds under one more
 -- constraint (this project). More than one may be added at once.
-use Rattle.std.specs.Prelude.{[], ◌≡◌, ◌≢◌, ℕ, ◌+◌, ◌<◌, ◌↔◌, List, length, map, slice_index_or, Contains, AllPairs, IsTrue}
+use Rattle.std.specs.Prelude.{[], ◌≡◌, ◌≢◌, ℕ, ◌<◌, ◌↔◌, List, length, map, slice_index_or, Contains, AllPairs, IsTrue}
 use Rattle.weight_law.specs.declared.Weight.{Ghosts}
 use Rattle.weight_law.specs.declared.count.Count.{Count}
 use Rattle.tier_core.specs.declared.sym.Sym.{Sym}
-use Rattle.tier_core.specs.declared.constraint.Constraint.{Constraint}
-use Rattle.tier_core.specs.Tiers.{Tiers}
 use Rattle.tier_core.specs.Kinds.{PrefixKind}
 use Rattle.tier_core.specs.Classes.{has}
 use Rattle.arc_table.specs.declared.arc.TableArc.{TableArc}

@@ -1,21 +1,17 @@
 -- The words of least weight of the table of a single pass are the optimal candidates, and its least
 -- weights are the least vectors that remain.
-use Rattle.std.proofs.Common.{◌≡◌, ◌↔◌, ℕ, ◌≤◌, ◌<◌, List, ◌++◌, take, drop, map, length, ◌-◌, refl, sym, ap, ◌∙◌, subst, arith, take_all}
+use Rattle.std.proofs.Common.{◌≡◌, ◌↔◌, ℕ, ◌≤◌, ◌<◌, List, ◌++◌, take, drop, length, ◌-◌, refl, sym, ap, ◌∙◌, subst, arith, take_all}
 use Rattle.std.proofs.lemmas.List.{length-map, take-append-drop, length-take-le}
-use Rattle.std.specs.Ordering.{is_le}
 use Rattle.weight_law.specs.Meaning.{AtMost}
 use Rattle.weight_law.specs.Ranked.{padded, ranked_meaning}
-use Rattle.weight_law.specs.RankedLaws.{parts_cmp}
 use Rattle.weight_law.specs.declared.Weight.{Ghosts}
 use Rattle.weight_law.specs.declared.ranked.Ranked.{Ranked}
 use Rattle.weight_law.proofs.Padded.{at_most_vector, vector_at_most}
 use Rattle.tier_core.specs.declared.sym.Sym.{Sym}
-use Rattle.tier_core.specs.declared.constraint.Constraint.{Constraint}
-use Rattle.tier_core.specs.Tiers.{Tiers}
 use Rattle.tier_core.specs.Kinds.{PrefixKind}
 use Rattle.arc_table.specs.declared.arc.TableArc.{TableArc}
 use Rattle.arc_table.specs.declared.state.TableState.{TableState}
-use Rattle.arc_table.specs.Runs.{IsRun, Reads, weight_of, AcceptingRun, Accepts, IsLeastWord, IsLeastFrom, IsOnRun}
+use Rattle.arc_table.specs.Runs.{IsRun, weight_of, AcceptingRun, Accepts, IsLeastWord, IsLeastFrom, IsOnRun}
 use Rattle.arc_table.proofs.SomeWord.{some_word}
 use Rattle.violation.specs.Candidates.{IsCandidate, counts_on, IsAtMost, IsOptimalFor, IsOptimal, IsLeastVector}
 use Rattle.violation.specs.Counts.{violations_of, violations_so_far}

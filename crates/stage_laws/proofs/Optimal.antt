@@ -7,14 +7,12 @@ use Rattle.weight_law.specs.Count.{count_meaning}
 use Rattle.weight_law.specs.declared.Weight.{Ghosts}
 use Rattle.weight_law.specs.declared.count.Count.{Count}
 use Rattle.tier_core.specs.declared.sym.Sym.{Sym}
-use Rattle.tier_core.specs.declared.constraint.Constraint.{Constraint}
-use Rattle.tier_core.specs.Tiers.{Tiers}
 use Rattle.tier_core.specs.Kinds.{PrefixKind}
 use Rattle.arc_table.specs.declared.arc.TableArc.{TableArc}
 use Rattle.arc_table.specs.declared.state.TableState.{TableState}
 use Rattle.arc_table.specs.Runs.{weight_of, AcceptingRun, Accepts, IsLeastWord, IsLeastFrom}
 use Rattle.arc_table.proofs.SomeWord.{some_word}
-use Rattle.violation.specs.Candidates.{IsCandidate, vec, vec_cmp, IsAtMost, IsOptimalFor, IsLeastVector, counts_on, count_at}
+use Rattle.violation.specs.Candidates.{IsCandidate, vec_cmp, IsAtMost, IsOptimalFor, IsLeastVector, counts_on, count_at}
 use Rattle.violation.specs.Counts.{violations_of}
 use Rattle.violation.proofs.StageLemmas.{optimal_for_fewer}
 use Rattle.kind_tables.specs.StageTables.{IsStage, IsStageTable}

@@ -9,15 +9,13 @@ use Rattle.weight_law.specs.Count.{count_meaning}
 use Rattle.weight_law.specs.declared.Weight.{Ghosts}
 use Rattle.weight_law.specs.declared.count.Count.{Count}
 use Rattle.tier_core.specs.declared.sym.Sym.{Sym}
-use Rattle.tier_core.specs.declared.constraint.Constraint.{Constraint}
-use Rattle.tier_core.specs.Tiers.{Tiers}
 use Rattle.tier_core.specs.Kinds.{PrefixKind}
 use Rattle.arc_table.specs.declared.arc.TableArc.{TableArc}
 use Rattle.arc_table.specs.declared.state.TableState.{TableState}
 use Rattle.arc_table.specs.Runs.{IsRun, Reads, weight_of, IsLeastFrom, HasNoRun, IsOnRun}
 use Rattle.distances.specs.Least.{AreLeast}
 use Rattle.arc_table.proofs.SomeWord.{some_word}
-use Rattle.violation.specs.Candidates.{IsCandidate, vec, vec_so_far, count_at, count_so_far_at}
+use Rattle.violation.specs.Candidates.{IsCandidate, count_at, count_so_far_at}
 use Rattle.violation.specs.Prefixes.{kind_of}
 use Rattle.violation.specs.Stages.{Passes, IsLeastRest, IsRemaining}
 use Rattle.violation.specs.Walks.{walk_costs}

@@ -64,6 +64,7 @@ first_is_over = record {
     more = omega arith;
   };
   before = λ s l. absurd (omega arith);
+  listed = λ s l. absurd (omega arith);
 }
 
 pub two_are_enough : AreAllWithin (over_two [] []) 2

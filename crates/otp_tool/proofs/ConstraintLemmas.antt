@@ -16,7 +16,7 @@ use Rattle.violation.specs.Rests.{AreWholeKindsOver, AreWholeKindsWithin, IsWhol
 use Rattle.violation.specs.Counts.{viol}
 use Rattle.violation.specs.Prefixes.{is_open, kind_of, phase}
 use Rattle.violation.specs.Stages.{AreKindsOfStage, IsPassed}
-use Rattle.ranked_gen.specs.Budgets.{AreAllWithin, IsFirstOver, IsOver, IsWithin}
+use Rattle.ranked_gen.specs.Budgets.{AreAllWithin, HasFewKinds, IsFirstOver, IsOver, IsWithin}
 
 -- ---- what is counted and remembered of constraints as they are seen
 
@@ -111,6 +111,15 @@ module _ (problem : Problem) (budget : ℕ) (cs ds : List Constraint) (alike : m
   over_alike : (r : ℕ) → IsOver (with_constraints problem cs) budget r → IsOver (with_constraints problem ds) budget r
   over_alike r o = record { kinds = o.kinds; are = kinds_alike r o.kinds o.are; more = o.more }
 
+few_alike : (problem : Problem) (budget : ℕ) (cs ds : List Constraint)
+    → map constraint_seen cs ≡ map constraint_seen ds → (r : ℕ)
+    → HasFewKinds (with_constraints problem cs) budget r → HasFewKinds (with_constraints problem ds) budget r
+few_alike problem budget cs ds alike r h = record {
+  kinds = h.kinds;
+  are = kinds_alike problem budget cs ds alike r h.kinds h.are;
+  few = h.few;
+}
+
 within_alike : (problem : Problem) (budget : ℕ) (cs ds : List Constraint)
     → map constraint_seen cs ≡ map constraint_seen ds → (r : ℕ)
     → IsWithin (with_constraints problem cs) budget r → IsWithin (with_constraints problem ds) budget r
@@ -144,6 +153,7 @@ module _ (budget : ℕ) where
     stage = subst (λ n. r ≤ n) (same_length problem cs ds alike) o.stage;
     over = over_alike problem budget cs ds alike r o.over;
     before = λ s l. within_alike problem budget cs ds alike s (o.before s l);
+    listed = λ s l. few_alike problem budget cs ds alike s (o.listed s l);
   })
 
   pub all_within_alike : (p q : Problem) → AreAlike p q → AreAllWithin p budget → AreAllWithin q budget

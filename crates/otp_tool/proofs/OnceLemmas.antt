@@ -23,6 +23,7 @@ use Rattle.answer_text.specs.RightOnce.{IsRightOnce}
 use Rattle.status_lines.specs.declared.status.Status.{Status}
 use Rattle.otp_tool.specs.Grammars.{IsAsked}
 use Rattle.otp_tool.specs.Findings.{FindsForOnce, ready}
+use Rattle.kind_orders.specs.JoinedArcs.{HaveJoinedArcs}
 use Rattle.otp_tool.specs.Results.{IsOnceText, once_widths}
 use Rattle.otp_tool.specs.Steps.{IsRefusal, IsStep, RefusesForm, RefusesOnce, end_of, taking_of}
 use Rattle.otp_tool.proofs.RefusalLemmas.{budget_for_once, form_for_once, refusal_weaker}
@@ -76,7 +77,7 @@ module _ (g : Grammar) where
           (budget_for_once (value_of g) form budget problem a)
 
       module _ (answer : OnceAnswer) (right : IsRightOnce problem answer)
-          (within : AreWholeKindsWithin problem budget) where
+          (joined : HaveJoinedArcs answer.automaton.states.items) (within : AreWholeKindsWithin problem budget) where
         is_ready : FindsForOnce (value_of g) form budget ready
         is_ready = record { problem = problem; is_asked = a; fact = within }
 
@@ -87,6 +88,7 @@ module _ (g : Grammar) where
           is_asked = a;
           answer = answer;
           right = right;
+          joined = joined;
           written = ap (λ (w : OnceWidths). once_text w answer) (widths_are shape s u);
         }
 

@@ -27,7 +27,7 @@ use Rattle.answer_text.specs.Right.{IsRight}
 use Rattle.kind_orders.specs.JoinedArcs.{HaveJoinedArcs}
 use Rattle.answer_text.specs.Shape.{widths_of}
 use Rattle.answer_text.specs.Text.{Widths, answer_text, counts_text}
-use Rattle.ranked_gen.specs.Budgets.{AreAllWithin}
+use Rattle.ranked_gen.specs.Budgets.{AreAllWithin, HaveFewKinds}
 use Rattle.status_lines.specs.declared.status.Status.{Status}
 use Rattle.kind_moves.proofs.GrammarTiers.{over_tiers}
 use Rattle.form_reader.specs.Forms.{IsReadAs, IsRefusedFor}
@@ -125,18 +125,18 @@ module _ (g : Grammar) where
         → IfOk r (IsRight (asked g.tiers g.constraints.items u))
         → IfOk r (λ answer. HaveJoinedArcs answer.automaton.states.items)
         → IfOk r (λ answer. AreAllWithin (asked g.tiers g.constraints.items u) budget)
+        → IfOk r (λ answer. HaveFewKinds (asked g.tiers g.constraints.items u) budget)
         → IfOk r (IsMade g.tiers g.constraints.items (value_of g) form budget)
-    made_for budget u a r right joined within =
-        both_ok r (λ answer. IsRight (asked g.tiers g.constraints.items u) answer
-        × HaveJoinedArcs answer.automaton.states.items)
-        (λ answer. AreAllWithin (asked g.tiers g.constraints.items u) budget)
-        (IsMade g.tiers g.constraints.items (value_of g) form budget)
-        (λ answer p q. record { u = u; is_asked = a; right = p.0; joined = p.1; within = q })
-        (both_ok r (IsRight (asked g.tiers g.constraints.items u))
-        (λ answer. HaveJoinedArcs answer.automaton.states.items)
-        (λ answer. IsRight (asked g.tiers g.constraints.items u) answer
-        × HaveJoinedArcs answer.automaton.states.items)
-        (λ answer p q. (p, q)) right joined) within
+    made_for budget u a r right joined within listed =
+        let problem = asked g.tiers g.constraints.items u in
+        let Is : Answer → Type 0 = λ answer. IsRight problem answer × HaveJoinedArcs answer.automaton.states.items in
+        let Few : Answer → Type 0 = λ answer. AreAllWithin problem budget × HaveFewKinds problem budget in
+        both_ok r Is Few (IsMade g.tiers g.constraints.items (value_of g) form budget)
+        (λ answer p q. record { u = u; is_asked = a; right = p.0; joined = p.1; within = q.0; listed = q.1 })
+        (both_ok r (IsRight problem) (λ answer. HaveJoinedArcs answer.automaton.states.items) Is
+        (λ answer p q. (p, q)) right joined)
+        (both_ok r (λ answer. AreAllWithin problem budget) (λ answer. HaveFewKinds problem budget) Few
+        (λ answer p q. (p, q)) within listed)
 
     module _ (budget : ℕ) (answer : Answer)
         (made : IsMade g.tiers g.constraints.items (value_of g) form budget answer) where
@@ -144,8 +144,8 @@ module _ (g : Grammar) where
       made_ready = record {
         problem = asked g.tiers g.constraints.items made.u;
         is_asked = made.is_asked;
-        within =
-            made.within;
+        within = made.within;
+        listed = made.listed;
       }
 
       pub made_right : (write : Problem → Answer → List ℕ) (text : List ℕ)

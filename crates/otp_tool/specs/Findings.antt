@@ -6,7 +6,7 @@ use Rattle.timeline_text.specs.declared.form_err.FormErr.{FormErr}
 use Rattle.grammar_reader.specs.declared.grammar_err.GrammarCause.{GrammarCause}
 use Rattle.grammar_reader.specs.Values.{GrammarValue}
 use Rattle.grammar_reader.specs.Reading.{grammar_of}
-use Rattle.ranked_gen.specs.Budgets.{AreAllWithin, IsFirstOver}
+use Rattle.ranked_gen.specs.Budgets.{AreAllWithin, HaveFewKinds, IsFirstOver}
 use Rattle.tableau.specs.declared.rows_err.RowsCause.{RowsCause}
 use Rattle.tableau.specs.Rows.{AreRowsOf, IsRefusedAt}
 use Rattle.command_words.specs.Commands.{Command, canon, score, generate, show, tableau, once, comprehend, check}
@@ -47,11 +47,12 @@ pub record IsOverBudget (g : GrammarValue) (form : List ℕ) (budget stage : ℕ
   pub is_asked : IsAsked g form problem
   pub over : IsFirstOver problem budget stage
 
--- the word is a form, and no stage has more kinds than the budget
+-- the word is a form, and no stage has more kinds than the budget: each has its list of kinds
 pub record IsWithinBudget (g : GrammarValue) (form : List ℕ) (budget : ℕ) : Type 0 where
   pub problem : Problem
   pub is_asked : IsAsked g form problem
   pub within : AreAllWithin problem budget
+  pub listed : HaveFewKinds problem budget
 
 -- the word is read as a form
 abbrev pub HasForm : GrammarValue → List ℕ → Type 0

@@ -83,12 +83,14 @@ once_widths problem = record {
   constraints = last_stage problem;
 }
 
--- A text is that of an answer of a single pass that is right for the problem that is asked.
+-- A text is that of an answer of a single pass that is right for the problem that is asked. The answer
+-- has joined arcs.
 pub record IsOnceText (g : GrammarValue) (form text : List ℕ) : Type 0 where
   pub problem : Problem
   pub is_asked : IsAsked g form problem
   pub answer : OnceAnswer
   pub right : IsRightOnce problem answer
+  pub joined : HaveJoinedArcs answer.automaton.states.items
   pub written : text ≡ once_text (once_widths problem) answer
 
 -- a text is that of the entries that are heard, each with its first optimal candidate with the surface

@@ -20,7 +20,7 @@ use Rattle.answer_reader.specs.Steps.{At}
 use Rattle.cert_check.specs.declared.fault.Verdict.{Verdict}
 use Rattle.cert_check.specs.declared.fault.Verdict.TheVariants.{Yes, No as Not}
 use Rattle.kind_orders.specs.JoinedArcs.{HaveJoinedArcs}
-use Rattle.ranked_gen.specs.Budgets.{AreAllWithin, IsFirstOver}
+use Rattle.ranked_gen.specs.Budgets.{AreAllWithin, HaveFewKinds, IsFirstOver}
 use Rattle.grammar_reader.specs.declared.grammar_err.GrammarCause.{GrammarCause}
 use Rattle.grammar_reader.specs.Values.{GrammarValue}
 use Rattle.grammar_reader.specs.Reading.{grammar_of}
@@ -160,7 +160,7 @@ RefusesRows problem budget bytes x =
     RefusesFile problem bytes x ⊎ (IsRowsFile bytes problem × RefusesBudget problem budget x)
 
 -- an answer is right for the form that a word is read as, its arcs are joined, and no stage has more
--- kinds than the budget
+-- kinds than the budget: each has its list of kinds
 pub record IsMade (table : TierTable) (constraints : List Constraint) (g : GrammarValue) (form : List ℕ) (budget : ℕ)
     (answer : Answer) : Type 0 where
   pub u : List (List Sym)
@@ -168,6 +168,7 @@ pub record IsMade (table : TierTable) (constraints : List Constraint) (g : Gramm
   pub right : IsRight (asked table constraints u) answer
   pub joined : HaveJoinedArcs answer.automaton.states.items
   pub within : AreAllWithin (asked table constraints u) budget
+  pub listed : HaveFewKinds (asked table constraints u) budget
 
 -- a tableau is that of a problem with the rows of a rows file, and no stage has more kinds than the budget
 pub record IsMadeTableau (problem : Problem) (budget : ℕ) (bytes : List ℕ) (made : Tableau) : Type 0 where

@@ -4,7 +4,7 @@ ghost use Rattle.violation.specs.Candidates.{IsForm};
 ghost use Rattle.violation.specs.Problems.{asked};
 ghost use Rattle.answer_text.specs.Right.{IsRight};
 ghost use Rattle.kind_orders.specs.JoinedArcs.{HaveJoinedArcs};
-ghost use Rattle.ranked_gen.specs.Budgets.{AreAllWithin};
+ghost use Rattle.ranked_gen.specs.Budgets.{AreAllWithin, HaveFewKinds};
 ghost use Rattle.grammar_reader.specs.Grammars.{value_of};
 ghost use Rattle.otp_tool.specs.Grammars.{IsAsked};
 ghost use Rattle.otp_tool.specs.Findings.{FindsForAnswer};
@@ -49,6 +49,8 @@ pub(crate) fn answer_for(
         (asked grammar.now.tiers grammar.now.constraints.items form.now)) }
     ensures joined { IfOk result (λ answer. HaveJoinedArcs answer.automaton.states.items) }
     ensures within { IfOk result (λ answer. AreAllWithin
+        (asked grammar.now.tiers grammar.now.constraints.items form.now) budget) }
+    ensures listed { IfOk result (λ answer. HaveFewKinds
         (asked grammar.now.tiers grammar.now.constraints.items form.now) budget) }
     ensures err { IfErr result (IsRefusal (RefusesBudget
         (asked grammar.now.tiers grammar.now.constraints.items form.now) budget)) }

@@ -5,6 +5,7 @@ ghost use Rattle.violation.specs.Problems.{asked};
 ghost use Rattle.violation.specs.Rests.{AreWholeKindsWithin};
 ghost use Rattle.answer_text.specs.RightOnce.{IsRightOnce};
 ghost use Rattle.grammar_reader.specs.Grammars.{value_of};
+ghost use Rattle.kind_orders.specs.JoinedArcs.{HaveJoinedArcs};
 ghost use Rattle.otp_tool.specs.Findings.{FindsForOnce};
 ghost use Rattle.otp_tool.specs.Results.{IsOnceText};
 ghost use Rattle.otp_tool.specs.Steps.{IsRefusal, IsStep, RefusesOnce, taking_of};
@@ -32,6 +33,7 @@ fn once_for(
     requires few { budget ≤ 65536 }
     ensures right { IfOk result (IsRightOnce
         (asked grammar.now.tiers grammar.now.constraints.items form.now)) }
+    ensures joined { IfOk result (λ answer. HaveJoinedArcs answer.automaton.states.items) }
     ensures within { IfOk result (λ answer. AreWholeKindsWithin
         (asked grammar.now.tiers grammar.now.constraints.items form.now) budget) }
     ensures err { IfErr result (IsRefusal (RefusesOnce

@@ -139,6 +139,7 @@ module _ (problem : Problem) (split : AreSplit problem.tiers) (distinct : AreDis
           );
         };
         before = λ s h. absurd (omega arith);
+        listed = λ s h. absurd (omega arith);
       }
 
 -- a count of kinds by its places and its free tiers

@@ -9,9 +9,9 @@ use Rattle.violation.specs.Candidates.{IsOptimal, IsOptimalFor, counts_on, count
 use Rattle.violation.specs.Counts.{violations_of}
 use Rattle.answer_text.specs.declared.stage.Stage.{Stage}
 use Rattle.answer_text.specs.declared.answer.Answer.{Answer}
-use Rattle.answer_text.specs.Right.{IsRightStage, IsRightAutomaton, IsRight, nodes_at}
+use Rattle.answer_text.specs.Right.{IsRightStage, IsRightAutomaton, IsRight, kinds_at, nodes_at}
 use Rattle.violation.proofs.StageLemmas.{optimal_for_fewer}
-use Rattle.ranked_gen.specs.Budgets.{IsWithin, IsOver, IsFirstOver, AreAllWithin}
+use Rattle.ranked_gen.specs.Budgets.{IsWithin, IsOver, IsFirstOver, HasFewKinds, AreAllWithin}
 use Rattle.ranked_gen.specs.Left.{AreStages}
 use Rattle.violation.specs.Problems.{last_stage, Problem}
 
@@ -73,6 +73,16 @@ module _ (problem : Problem) (budget : ℕ) where
           (cases_lt s (r + 1));
     }
 
+    -- each stage so far has its list of kinds
+    pub has_few : (s : ℕ) → s ≤ r → HasFewKinds problem budget s
+    has_few s l =
+        let right = so_far.each_stage s l in
+        record {
+          kinds = kinds_at problem s (nodes_at stages s);
+          are = right.kinds;
+          few = so_far.within s l (kinds_at problem s (nodes_at stages s)) right.kinds;
+        }
+
     -- a stage that is over the budget is the first
     pub first_over : (next : ℕ) → next ≡ r + 1 → r < last_stage problem → IsOver problem budget next
         → IsFirstOver problem budget next
@@ -80,6 +90,7 @@ module _ (problem : Problem) (budget : ℕ) where
       stage = omega arith;
       over = over;
       before = λ s l. so_far.within s (omega arith);
+      listed = λ s l. has_few s (omega arith);
     }
 
     module _ (all : r ≡ last_stage problem) where

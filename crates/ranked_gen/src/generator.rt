@@ -6,7 +6,7 @@ ghost use Rattle.violation.specs.Problems.{asked, last_stage};
 ghost use Rattle.answer_text.specs.Right.{IsRight};
 ghost use Rattle.kind_moves.specs.Frames.{problem_in};
 ghost use Rattle.kind_orders.specs.JoinedArcs.{HaveJoinedArcs};
-ghost use Rattle.ranked_gen.specs.Budgets.{AreAllWithin, IsFirstOver};
+ghost use Rattle.ranked_gen.specs.Budgets.{AreAllWithin, HaveFewKinds, IsFirstOver};
 ghost use Rattle.ranked_gen.specs.Left.{IsRanked};
 
 use crate::gen_err::GenErr;
@@ -86,6 +86,7 @@ fn answer_in(alloc: Global, frame: &Frame, budget: u32) -> Result<Answer, GenErr
     ensures right { IfOk result (λ answer. IsRight (problem_in frame.now) answer) }
     ensures joined { IfOk result (λ answer. HaveJoinedArcs answer.automaton.states.items) }
     ensures within { IfOk result (λ answer. AreAllWithin (problem_in frame.now) budget) }
+    ensures listed { IfOk result (λ answer. HaveFewKinds (problem_in frame.now) budget) }
     ensures over { (stage : ℕ) → result ≡ Err (GenErr.Budget stage)
         → IsFirstOver (problem_in frame.now) budget stage }
 {
@@ -119,6 +120,9 @@ pub fn generate(
     ensures within { IfOk result
         (λ answer.
         AreAllWithin (asked grammar.now.tiers grammar.now.constraints.items form.now) budget) }
+    ensures listed { IfOk result
+        (λ answer.
+        HaveFewKinds (asked grammar.now.tiers grammar.now.constraints.items form.now) budget) }
     ensures over { (stage : ℕ) → result ≡ Err (GenErr.Budget stage)
         → IsFirstOver
         (asked grammar.now.tiers grammar.now.constraints.items form.now) budget stage }

@@ -1,6 +1,6 @@
 use Rattle.std.proofs.Common.{◌≡◌, length, IfOk, subst, arith}
 use Rattle.violation.proofs.SplitLemmas.{tiers_split}
-use Rattle.ranked_gen.specs.Budgets.{AreAllWithin, IsFirstOver}
+use Rattle.ranked_gen.specs.Budgets.{AreAllWithin, HaveFewKinds, IsFirstOver}
 use Rattle.ranked_gen.specs.Listed.{kind_count}
 use Rattle.ranked_gen.proofs.NumberedKinds.{free_distinct}
 use Rattle.ranked_gen.proofs.StageKinds.{counted_kinds, first_over}
@@ -30,6 +30,17 @@ returns-in-Ok-clause-within c =
     (λ answer. AreAllWithin
     (asked g.tiers g.constraints.items c.in-Ok.frame.form.now) c.args.budget)) made.grammar
     c.answer_in.ensures.within)
+
+pub returns-in-Ok-clause-listed : goal.returns-in-Ok-clause-listed
+returns-in-Ok-clause-listed c =
+    let made = c.in-Ok.ensures in
+    let g = c.args.grammar.now in
+    subst (λ u. IfOk c.answer_in.result (λ answer. HaveFewKinds
+    (asked g.tiers g.constraints.items u) c.args.budget)) made.form
+    (subst (λ g. IfOk c.answer_in.result
+    (λ answer. HaveFewKinds
+    (asked g.tiers g.constraints.items c.in-Ok.frame.form.now) c.args.budget)) made.grammar
+    c.answer_in.ensures.listed)
 
 pub returns-in-Ok-clause-over : goal.returns-in-Ok-clause-over
 returns-in-Ok-clause-over c = λ stage e.

@@ -18,6 +18,7 @@ mod asked;
 mod boxes;
 mod cost;
 mod cost_tests;
+mod costing;
 mod fit;
 mod fit_boxes;
 mod fitting;

@@ -1,10 +1,9 @@
-use crate::cost_tests::costing;
 use crate::frame::Frame;
 use crate::parting::{parts_by_open, parts_by_phases};
 use crate::piece::Piece;
 use std::alloc::{AllocError, Global};
 use symbol_class::{least_column, part};
-use tier_core::{Class, Column, Kind, NoMemory, has_bit};
+use tier_core::{Class, Column, Kind, NoMemory};
 
 impl<'a> Frame<'a> {
     ghost use Rattle.std.specs.Prelude.{◌≡◌, ◌<◌, ◌≤◌, ◌↔◌, ℕ, All, IfOk, IsTrue, List, length};
@@ -42,34 +41,26 @@ impl<'a> Frame<'a> {
         Ok(pieces)
     }
 
-    /// Parts pieces by what their columns cost under a constraint. `width` is that of the columns.
+    /// Parts pieces by what their columns cost under a constraint.
     fn costed_pieces(
         &self,
         alloc: Global,
         stage: u32,
         constraint: u32,
         kind: &Kind,
-        width: u32,
         classes: Vec<Class>,
     ) -> Result<Vec<Class>, NoMemory>
         requires stage { stage ≤ length (constraints_in self.now) }
         requires within { constraint ≤ stage }
         requires fits { FitsFrame self.now stage kind.now }
-        requires some { 1 ≤ width }
-        requires few { width ≤ 12 }
-        requires width { width ≡ (tiers_in self.now).width }
-        requires pieces { ArePieces width classes.items }
+        requires pieces { ArePieces (tiers_in self.now).width classes.items }
         ensures { IfOk result (λ pieces. ArePartedBy (tiers_in self.now).width
             (cost_under self.now stage constraint kind.now) classes.items pieces.items) }
     {
         if constraint == 0 {
             return Ok(classes);
         }
-        let number = constraint as usize - 1;
-        let constraints = self.grammar.constraints.as_slice();
-        let is_unmet = has_bit(kind.unmet, self.stretch_count(constraint - 1));
-        let opened = self.open_at(kind);
-        let test = costing(width, &constraints[number], opened, is_unmet);
+        let test = self.costing(stage, constraint, kind);
         let pieces = part(alloc, classes, &test)?;
         Ok(pieces)
     }
@@ -171,8 +162,7 @@ impl<'a> Frame<'a> {
             pieces.items) }
     {
         let moved = self.moved_pieces(alloc, stage, kind, class)?;
-        let width = class.width();
-        let costed = self.costed_pieces(alloc, stage, constraint, kind, width, moved)?;
+        let costed = self.costed_pieces(alloc, stage, constraint, kind, moved)?;
         match self.told_pieces(alloc, stage, constraint, kind, &costed) {
             Ok(pieces) => Ok(pieces),
             Err(_) => Err(NoMemory),

@@ -1,7 +1,7 @@
 -- Classes in their parts, by a difference of two classes.
-use Rattle.std.proofs.Common.{◌≡◌, ℕ, ◌+◌, ◌<◌, ◌≤◌, Bool, true, false, not, ◌&&◌, List, [], ◌∷◌, ◌++◌, length, get_or, take, refl, ap, sym, ◌∙◌, subst, arith, IsTrue, All}
+use Rattle.std.proofs.Common.{◌≡◌, ℕ, ◌+◌, ◌<◌, ◌≤◌, Bool, true, false, not, ◌&&◌, List, [], length, get_or, take, refl, ap, sym, ◌∙◌, subst, arith, IsTrue, All}
 use Rattle.std.specs.List.{Contains}
-use Rattle.std.proofs.lemmas.Bool.{false≢true, and_parts}
+use Rattle.std.proofs.lemmas.Bool.{false≢true, and_parts, not-true}
 use Rattle.std.proofs.lemmas.List.{take_all}
 use Rattle.std.proofs.lemmas.List.Elements.{All-append, All-nil, Contains-get_or}
 use Rattle.std.proofs.lemmas.List.Sums.{get_or-le-sum_by, sum_by_more}
@@ -15,11 +15,11 @@ use Rattle.tier_core.specs.Filled.{is_filled}
 use Rattle.symbol_class.specs.Held.{times_held, once_if, ArePieces, AddsClasses}
 use Rattle.symbol_class.specs.Parts.{differs, IsAlike, IsPartOf, AddsAlike, ArePartedBy}
 use Rattle.tier_core.proofs.Filled.{empty_holds}
-use Rattle.symbol_class.proofs.Times.{held_by, adds_then, adds_none, pieces_from_once, once_from_apart, added_times}
+use Rattle.symbol_class.proofs.Times.{held_by, adds_same, adds_then, adds_none, pieces_from_once, once_from_apart, added_times}
 
 -- ---- classes that need not be parted
 
-constant : {X : Type 0} (f : List Sym → X) (class : Class) (x : X)
+pub constant : {X : Type 0} (f : List Sym → X) (class : Class) (x : X)
     → ((column : List Sym) → has class column ≡ true → f column ≡ x) → IsAlike f class
 constant f class x h c d in_c in_d = h c in_c ∙ sym (h d in_d)
 
@@ -40,6 +40,13 @@ within_all true true false e h k = refl
 within_all true false o e h k = absurd (false≢true h)
 within_all false w o e h k = absurd (false≢true e)
 
+pub shares_none : (class : Class) (test : Difference) (inside : Class)
+    → ((column : List Sym) → has inside column ≡ (has class column && has test.within column))
+    → is_filled inside ≡ false → (column : List Sym) → has class column ≡ true → differs test column ≡ false
+shares_none class test inside has_inside empty column held =
+    within_none (has class column) (has test.within column) (has test.without column) held
+    (sym (has_inside column) ∙ empty_holds inside column empty)
+
 module _ (class : Class) (test : Difference) (inside both : Class)
     (has_inside : (column : List Sym) → has inside column ≡ (has class column && has test.within column))
     (has_both : (column : List Sym) → has both column ≡ (has inside column && has test.without column)) where
@@ -47,21 +54,18 @@ module _ (class : Class) (test : Difference) (inside both : Class)
       ≡ ((has class column && has test.within column) && has test.without column)
   in_both column = has_both column ∙ ap (λ b. b && has test.without column) (has_inside column)
 
-  pub alike_none : is_filled inside ≡ false → IsAlike (differs test) class
-  alike_none empty = constant (differs test) class false (λ column held.
-      within_none (has class column) (has test.within column) (has test.without column) held
-      (sym (has_inside column) ∙ empty_holds inside column empty))
-
-  pub alike_without : inside.word ≡ both.word → IsAlike (differs test) class
-  alike_without same = constant (differs test) class false (λ column held.
+  pub shares_without : inside.word ≡ both.word → (column : List Sym) → has class column ≡ true
+      → differs test column ≡ false
+  shares_without same column held =
       without_all (has class column) (has test.within column) (has test.without column) held
-      (sym (has_inside column) ∙ ap (λ sets. sets_have sets column) (same_sets inside both same) ∙ in_both column))
+      (sym (has_inside column) ∙ ap (λ sets. sets_have sets column) (same_sets inside both same) ∙ in_both column)
 
-  pub alike_within : inside.word ≡ class.word → is_filled both ≡ false → IsAlike (differs test) class
-  alike_within same empty = constant (differs test) class true (λ column held.
+  pub shares_all : inside.word ≡ class.word → is_filled both ≡ false → (column : List Sym) → has class column ≡ true
+      → differs test column ≡ true
+  shares_all same empty column held =
       within_all (has class column) (has test.within column) (has test.without column) held
       (sym (has_inside column) ∙ ap (λ sets. sets_have sets column) (same_sets inside class same))
-      (sym (in_both column) ∙ empty_holds both column empty))
+      (sym (in_both column) ∙ empty_holds both column empty)
 
 -- ---- classes that are added in parts
 
@@ -111,66 +115,66 @@ alike_then width old mid new s t u test a b e = record {
   alike = All-append (IsAlike test) a.adds.added b.adds.added a.alike b.alike;
 }
 
-three_parts : (p w o : Bool) → (once_if (p && not w) + once_if ((p && w) && o)) + once_if ((p && w) && not o)
-    ≡ once_if p
-three_parts true true true = refl
-three_parts true true false = refl
-three_parts true false o = refl
-three_parts false w o = refl
+-- what is in a difference
+pub adds_inside : (width wide : ℕ) (old new : List Class) (class inside : Class) (test : Difference)
+    → ((column : List Sym) → has inside column ≡ (has class column && has test.within column))
+    → wide ≡ width
+    → AddsClasses wide old new (λ column. once_if (has inside column && not (has test.without column)))
+    → AddsClasses width old new (λ column. once_if (has class column && differs test column))
+adds_inside width wide old new class inside test has_inside same a =
+    adds_same width old new (λ column. once_if (has inside column && not (has test.without column)))
+    (λ column. once_if (has class column && differs test column))
+    (subst (λ n. AddsClasses n old new (λ column. once_if (has inside column && not (has test.without column)))) same a)
+    (λ column. ap (λ b. once_if (b && not (has test.without column))) (has_inside column)
+    ∙ ap once_if (turned (has class column) (has test.within column) (has test.without column)))
+  where
+    turned : (p w o : Bool) → ((p && w) && not o) ≡ (p && (w && not o))
+    turned true w o = refl
+    turned false w o = refl
 
--- what is not in the one class, what is in both, and the rest
-pub adds_parts : (width wide both_wide : ℕ) (old one two new : List Class) (class inside both : Class)
-    (test : Difference)
+-- what is not in a difference: what is not in the one class, and what is in both
+pub adds_outside : (width both_wide : ℕ) (old one new : List Class) (class inside both : Class) (test : Difference)
     → ((column : List Sym) → has inside column ≡ (has class column && has test.within column))
     → ((column : List Sym) → has both column ≡ (has inside column && has test.without column))
-    → wide ≡ width → both_wide ≡ width
+    → both_wide ≡ width
     → AddsClasses width old one (λ column. once_if (has class column && not (has test.within column)))
-    → AddsClasses both_wide one two (λ column. once_if (has both column))
-    → AddsClasses wide two new (λ column. once_if (has inside column && not (has test.without column)))
-    → AddsAlike width old new (λ column. once_if (has class column)) (differs test)
-adds_parts width wide both_wide old one two new class inside both test has_inside has_both same both_same a b c =
-    alike_then width old two new (λ column. once_if (has class column && not (has test.within column)) + once_if
-    (has both column)) (λ column. once_if (has inside column && not (has test.without column)))
-    (λ column. once_if (has class column)) (differs test)
-    (alike_then width old one two (λ column. once_if (has class column && not (has test.within column)))
-    (λ column. once_if (has both column))
-    (λ column. once_if (has class column && not (has test.within column)) + once_if (has both column))
-    (differs test)
-    (adds_constant width old one (λ column. has class column && not (has test.within column)) (differs test) false a
-    (λ column h. not_within (has class column) (has test.within column) (has test.without column) h))
-    (adds_constant width one two (λ column. has both column) (differs test) false
-    (subst (λ n. AddsClasses n one two (λ column. once_if (has both column))) both_same b)
-    (λ column h. in_without (has inside column) (has test.within column) (has test.without column)
-    (sym (has_both column) ∙ h)))
-    (λ column. refl))
-    (adds_constant width two new (λ column. has inside column && not (has test.without column)) (differs test) true
-    (subst (λ n. AddsClasses n two new
-    (λ column. once_if (has inside column && not (has test.without column)))) same c)
-    (λ column h. in_rest (has class column) (has test.within column) (has test.without column)
-    (ap (λ b. b && not (has test.without column)) (sym (has_inside column)) ∙ h)))
+    → AddsClasses both_wide one new (λ column. once_if (has both column))
+    → AddsClasses width old new (λ column. once_if (has class column && not (differs test column)))
+adds_outside width both_wide old one new class inside both test has_inside has_both same a b =
+    adds_then width old one new (λ column. once_if (has class column && not (has test.within column)))
+    (λ column. once_if (has both column)) (λ column. once_if (has class column && not (differs test column))) a
+    (subst (λ n. AddsClasses n one new (λ column. once_if (has both column))) same b)
     (λ column.
-    ap (λ b. once_if (has class column && not (has test.within column)) + once_if b + once_if
-    (has inside column && not (has test.without column))) (has_both column)
-    ∙ ap (λ b. once_if (has class column && not (has test.within column)) + once_if
-    (b && has test.without column) + once_if (b && not (has test.without column))) (has_inside column)
-    ∙ three_parts (has class column) (has test.within column) (has test.without column))
+    ap (λ b. once_if (has class column && not (has test.within column)) + once_if b) (has_both column)
+    ∙ ap (λ b. once_if (has class column && not (has test.within column)) + once_if (b && has test.without column))
+    (has_inside column)
+    ∙ two_parts (has class column) (has test.within column) (has test.without column))
   where
-    not_within : (p w o : Bool) → (p && not w) ≡ true → (w && not o) ≡ false
-    not_within p false o h = refl
-    not_within true true o h = absurd (false≢true h)
-    not_within false true o h = absurd (false≢true h)
+    two_parts : (p w o : Bool) → once_if (p && not w) + once_if ((p && w) && o) ≡ once_if (p && not (w && not o))
+    two_parts true true true = refl
+    two_parts true true false = refl
+    two_parts true false o = refl
+    two_parts false w o = refl
 
-    in_without : (i w o : Bool) → (i && o) ≡ true → (w && not o) ≡ false
-    in_without i true true h = refl
-    in_without i false o h = refl
-    in_without true true false h = absurd (false≢true h)
-    in_without false true false h = absurd (false≢true h)
-
-    in_rest : (p w o : Bool) → ((p && w) && not o) ≡ true → (w && not o) ≡ true
-    in_rest true true false h = refl
-    in_rest true true true h = absurd (false≢true h)
-    in_rest true false o h = absurd (false≢true h)
-    in_rest false w o h = absurd (false≢true h)
+-- what is not in a difference, and what is
+pub adds_parts : (width : ℕ) (old mid new : List Class) (class : Class) (test : Difference)
+    → AddsClasses width old mid (λ column. once_if (has class column && not (differs test column)))
+    → AddsClasses width mid new (λ column. once_if (has class column && differs test column))
+    → AddsAlike width old new (λ column. once_if (has class column)) (differs test)
+adds_parts width old mid new class test a b =
+    alike_then width old mid new (λ column. once_if (has class column && not (differs test column)))
+    (λ column. once_if (has class column && differs test column)) (λ column. once_if (has class column))
+    (differs test)
+    (adds_constant width old mid (λ column. has class column && not (differs test column)) (differs test) false a
+    (λ column h. not-true (differs test column) (and_parts (has class column) (not (differs test column)) h).1))
+    (adds_constant width mid new (λ column. has class column && differs test column) (differs test) true b
+    (λ column h. (and_parts (has class column) (differs test column) h).1))
+    (λ column. two_sides (has class column) (differs test column))
+  where
+    two_sides : (p d : Bool) → once_if (p && not d) + once_if (p && d) ≡ once_if p
+    two_sides true true = refl
+    two_sides true false = refl
+    two_sides false d = refl
 
 -- ---- the parts of some classes
 

@@ -1,9 +1,9 @@
 -- Parts of classes: a test that decides all columns of a class alike.
-use Rattle.std.specs.Prelude.{ℕ, Bool, not, ◌&&◌, IsTrue, ◌≡◌, List, All, length}
+use Rattle.std.specs.Prelude.{ℕ, Bool, not, ◌&&◌, IsTrue, ◌≡◌, List, All}
 use Rattle.std.specs.List.{Contains}
 use Rattle.tier_core.specs.declared.sym.Sym.{Sym}
 use Rattle.tier_core.specs.declared.class.Class.{Class}
-use Rattle.tier_core.specs.Classes.{sets_of, has}
+use Rattle.tier_core.specs.Classes.{has}
 use Rattle.symbol_class.specs.declared.difference.Difference.{Difference}
 use Rattle.symbol_class.specs.Held.{times_held, ArePieces, AddsClasses}
 

@@ -16,6 +16,7 @@ mod parting;
 mod parts;
 mod remainder;
 mod sets;
+mod sharing;
 mod sides;
 #[cfg(test)]
 mod tests;
@@ -30,4 +31,5 @@ pub use parting::split;
 pub use parts::part;
 pub use remainder::{minus, push_minus};
 pub use sets::narrowed;
+pub use sharing::{Shares, push_inside, push_outside, shared};
 pub use sides::Split;

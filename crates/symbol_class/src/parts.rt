@@ -3,10 +3,9 @@ ghost use Rattle.tier_core.specs.Classes.{sets_of, has};
 ghost use Rattle.symbol_class.specs.Held.{once_if, ArePieces};
 ghost use Rattle.symbol_class.specs.Parts.{differs, IsAlike, AddsAlike, ArePartedBy};
 
-use crate::common::meet;
 use crate::difference::Difference;
-use crate::emptiness::is_empty;
-use crate::remainder::{push_filled, push_minus};
+use crate::remainder::push_filled;
+use crate::sharing::{Shares, push_inside, push_outside, shared};
 use std::alloc::{AllocError, Global};
 use tier_core::{Class, NoMemory};
 
@@ -15,18 +14,11 @@ fn is_parted(class: &Class, test: &Difference) -> bool
     requires { length (sets_of class.now) ≡ length (sets_of test.now.within) }
     ensures { result ≡ false → IsAlike (differs test.now) class.now }
 {
-    let inside = meet(class, &test.within);
-    let both = meet(&inside, &test.without);
-    if is_empty(&inside) {
-        return false;
+    match shared(class, test) {
+        Shares::Nothing => false,
+        Shares::Everything => false,
+        Shares::Part => true,
     }
-    if inside == both {
-        return false;
-    }
-    if inside != *class {
-        return true;
-    }
-    !is_empty(&both)
 }
 
 /// Whether a difference surely has all columns or none of each class.
@@ -54,10 +46,8 @@ fn push_parts(parts: &mut Vec<Class>, class: &Class, test: &Difference) -> Resul
         push_filled(parts, *class)?;
         return Ok(());
     }
-    let inside = meet(class, &test.within);
-    push_minus(parts, class, &test.within)?;
-    push_filled(parts, meet(&inside, &test.without))?;
-    push_minus(parts, &inside, &test.without)?;
+    push_outside(parts, class, test)?;
+    push_inside(parts, class, test)?;
     Ok(())
 }
 

@@ -88,6 +88,49 @@ fn pieces_hold_what_the_other_does_not(rt: HostRuntime) -> Result<(), Fail> {
     Ok(())
 }
 
+/// Whether lists of classes hold a column just if it is in a class, and there inside or outside of
+/// a difference.
+fn are_sides(
+    inside: &[Class],
+    outside: &[Class],
+    held: bool,
+    tested: bool,
+    column: &Column,
+) -> bool {
+    times(inside, column) == usize::from(held && tested)
+        && times(outside, column) == usize::from(held && !tested)
+}
+
+#[test]
+fn a_class_has_two_sides(rt: HostRuntime) -> Result<(), Fail> {
+    for code in [63, 45, 26, 5] {
+        assert!(rt; code < CLASSES);
+        let class = class_of(code);
+        for a in 0..CLASSES {
+            let test = Difference {
+                within: class_of(a),
+                without: class_of(code / 2),
+            };
+            let mut inside = Vec::new(rt.alloc());
+            let mut outside = Vec::new(rt.alloc());
+            push_inside(&mut inside, &class, &test)?;
+            push_outside(&mut outside, &class, &test)?;
+            let expected = match (inside.is_empty(), outside.is_empty()) {
+                (true, _) => Shares::Nothing,
+                (false, true) => Shares::Everything,
+                (false, false) => Shares::Part,
+            };
+            assert_eq!(rt; shared(&class, &test), expected);
+            for code in 0..COLUMNS {
+                let column = column_of(rt.alloc(), code);
+                let tested = test.within.has(&column) && !test.without.has(&column);
+                assert!(rt; are_sides(&inside, &outside, class.has(&column), tested, &column));
+            }
+        }
+    }
+    Ok(())
+}
+
 #[test]
 fn tests_part_a_class(rt: HostRuntime) -> Result<(), Fail> {
     for class in [63, 45, 26, 0] {

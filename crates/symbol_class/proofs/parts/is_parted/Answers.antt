@@ -1,18 +1,12 @@
-use Rattle.std.proofs.Common.{sym, ◌∙◌}
-use Rattle.std.proofs.lemmas.Bool.{not-true, not-false, eqb-true}
-use Rattle.tier_core.specs.Filled.{is_filled}
-use Rattle.symbol_class.proofs.PartSteps.{alike_none, alike_without, alike_within}
+use Rattle.std.proofs.Common.{true, false}
+use Rattle.symbol_class.specs.Parts.{differs}
+use Rattle.symbol_class.proofs.PartSteps.{constant}
 use Rattle.symbol_class.proofs.parts.is_parted.Goals as goal
 
-pub returns-then-is_empty : goal.returns-then-is_empty
-returns-then-is_empty c _ =
-    alike_none c.args.class.now c.args.test.now c.meet-inside.result c.meet-both.result c.meet-inside.ensures.columns
-    c.meet-both.ensures.columns
-    (not-true (is_filled c.meet-inside.result) (sym c.is_empty.ensures.sets ∙ c.if-is_empty.true))
+pub returns-in-Nothing : goal.returns-in-Nothing
+returns-in-Nothing c _ =
+    constant (differs c.args.test.now) c.args.class.now false (c.shared.ensures.nothing c.in-Nothing.is)
 
-pub returns : goal.returns
-returns c h =
-    alike_within c.args.class.now c.args.test.now c.meet-inside.result c.meet-both.result
-    c.meet-inside.ensures.columns c.meet-both.ensures.columns
-    (eqb-true c.meet-inside.result.word c.args.class.now.word (not-false _ (sym c.ne.ensures ∙ c.if-ne.false)))
-    (not-true (is_filled c.meet-both.result) (sym c.is_empty-2.ensures.sets ∙ not-false c.is_empty-2.result h))
+pub returns-in-Everything : goal.returns-in-Everything
+returns-in-Everything c _ =
+    constant (differs c.args.test.now) c.args.class.now true (c.shared.ensures.everything c.in-Everything.is)

@@ -50,7 +50,7 @@ SeenAlike cs ds = map constraint_seen cs ≡ map constraint_seen ds
 abbrev pub is_seen_stretch : NamedConstraint → Bool
 is_seen_stretch n = is_implication n.family && not (has_edge_type n.left)
 
-seen_filter : (cs : List Constraint)
+pub seen_filter : (cs : List Constraint)
     → map constraint_seen (filter is_stretch cs) ≡ filter is_seen_stretch (map constraint_seen cs)
 seen_filter [] = refl
 seen_filter (c ∷ cs) = go (is_stretch c) (seen_filter cs)

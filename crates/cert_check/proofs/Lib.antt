@@ -45,3 +45,6 @@ pub mod StageSteps
 pub mod MovedSteps
 pub mod CheckSteps
 pub mod OpenedNodes
+pub mod AskedAlike
+pub mod SeenLists
+pub mod FaultsSeen

@@ -20,3 +20,4 @@ pub mod KeptArcs
 pub mod Verdicts
 pub mod Arcs
 pub mod Gathered
+pub mod Seen

@@ -1,4 +1,4 @@
-ghost use Rattle.std.specs.Prelude.{◌≡◌, ◌≤◌, List};
+ghost use Rattle.std.specs.Prelude.{ℕ, ◌≡◌, ◌≤◌, ◌↔◌, List};
 ghost use Rattle.std.specs.List.{AllByRecursion};
 ghost use Rattle.violation.specs.Candidates.{IsForm};
 ghost use Rattle.violation.specs.Conditions.{AreSplit, IsOverTiers};
@@ -8,7 +8,10 @@ ghost use Rattle.answer_text.specs.Certified.{AreStatesInOrder, IsCertified};
 ghost use Rattle.answer_text.specs.Right.{IsRight};
 ghost use Rattle.answer_text.specs.Sound.{IsSound};
 ghost use Rattle.cert_check.specs.declared.fault.Fault.{Fault};
-ghost use Rattle.cert_check.specs.FirstFaults.{IsFaultless, IsFirstFault};
+ghost use Rattle.cert_check.specs.declared.fault.Verdict.{Verdict};
+ghost use Rattle.cert_check.specs.FirstFaults.{IsFault, IsFaultless, IsFirstFault};
+ghost use Rattle.cert_check.specs.Seen.{AreAskedAlike, AreSeenAlike};
+ghost use Rattle.cert_check.specs.Verdicts.{IsVerdict};
 
 /// No fault is in a certified answer whose states are in order.
 pub fn certified_answers_are_faultless()
@@ -46,4 +49,18 @@ pub fn one_fault_comes_first()
     ensures { (problem : Problem) (answer : Answer) (fault other : Fault)
         → AreStatesInOrder problem.tiers.width answer.automaton.states.items
         → IsFirstFault problem answer fault → IsFirstFault problem answer other → fault ≡ other }
+{}
+
+/// Whether a fault is in an answer, whether it comes first, and which verdict an answer gets, is in what
+/// is seen of the problem and of the answer.
+pub fn faults_are_in_what_is_seen()
+    ensures faults { (problem other : Problem) (answer seen : Answer) → AreAskedAlike problem other
+        → AreSeenAlike problem answer seen → (fault : Fault) (place : List ℕ)
+        → IsFault problem answer fault place ↔ IsFault other seen fault place }
+    ensures first { (problem other : Problem) (answer seen : Answer) → AreAskedAlike problem other
+        → AreSeenAlike problem answer seen → (fault : Fault)
+        → IsFirstFault problem answer fault → IsFirstFault other seen fault }
+    ensures verdict { (problem other : Problem) (answer seen : Answer) → AreAskedAlike problem other
+        → AreSeenAlike problem answer seen → (verdict : Verdict)
+        → IsVerdict problem answer verdict ↔ IsVerdict other seen verdict }
 {}

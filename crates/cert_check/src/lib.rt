@@ -56,6 +56,6 @@ pub use alike::alike_columns_move_alike;
 pub use fault::{Fault, Verdict};
 pub use laws::{
     certified_answers_are_faultless, faultless_answers_are_certified, faultless_answers_are_sound,
-    one_fault_comes_first, right_answers_are_faultless,
+    faults_are_in_what_is_seen, one_fault_comes_first, right_answers_are_faultless,
 };
 pub use whole::check;

@@ -14,7 +14,8 @@ use Rattle.otp_tool.specs.Grammars.{IsAsked, OnProblem, input_count}
 use Rattle.otp_tool.specs.Findings.{Finding, FindsForAnswer, FindsForCanon, FindsForOnce, FindsForScore, IsOverBudget, IsWithinBudget, long_file, no_grammar, no_form, long_second, no_rows, no_lexicon, no_answer, over_budget, ready}
 use Rattle.otp_tool.specs.Steps.{IsOf, RefusesForm}
 use Rattle.otp_tool.proofs.Choices.{equal_where, one_choice, one_of}
-use Rattle.otp_tool.proofs.ConstraintLemmas.{AreAlike, first_over_alike, same_stages, whole_over_within}
+use Rattle.cert_check.specs.Seen.{AreAskedAlike}
+use Rattle.otp_tool.proofs.ConstraintLemmas.{first_over_alike, same_stages, whole_over_within}
 
 -- ---- in `canon`
 
@@ -75,7 +76,7 @@ module _ (g : GrammarValue) (form : List ℕ) where
   pub one_form : (p q : Problem) → IsAsked g form p → IsAsked g form q → p.form ≡ q.form
   one_form p q a b = one_reading (input_count g) g.letters form p.form q.form a.form b.form
 
-  pub asked_alike : (p q : Problem) → IsAsked g form p → IsAsked g form q → AreAlike p q
+  pub asked_alike : (p q : Problem) → IsAsked g form p → IsAsked g form q → AreAskedAlike p q
   asked_alike p q a b = record {
     tiers = a.tiers ∙ sym b.tiers;
     constraints = a.constraints ∙ sym b.constraints;

@@ -1,11 +1,10 @@
 -- What `check` does with a grammar and the file of an answer.
-use Rattle.std.proofs.Common.{◌≡◌, inl, inr, ℕ, ◌≤◌, List, length, Result, Ok, Err, refl, ap, sym, ◌∙◌, subst}
+use Rattle.std.proofs.Common.{◌≡◌, inl, inr, ℕ, ◌≤◌, List, length, Result, Ok, Err, refl, ap, sym, subst}
 use Rattle.outside.specs.Writers.{Puts}
 use Rattle.outside.specs.declared.sink.Sink.{Ghosts}
 use Rattle.outside.specs.declared.sink.WriteErr.{WriteErr}
 use Rattle.outside.specs.declared.sink.WriteErr.TheVariants.{Failed, NoMemory as NoRoom}
 use Rattle.tier_core.specs.declared.shape.Shape.{Shape}
-use Rattle.tier_core.specs.Tiers.{Tiers}
 use Rattle.grammar_reader.specs.declared.grammar.Grammar.{Grammar}
 use Rattle.grammar_reader.specs.Grammars.{value_of}
 use Rattle.grammar_reader.specs.ShapeOf.{IsShapeOf}
@@ -22,14 +21,15 @@ use Rattle.cert_check.specs.declared.fault.Verdict.{Verdict}
 use Rattle.cert_check.specs.declared.fault.Verdict.TheVariants.{Yes, No as Not}
 use Rattle.verdict_text.specs.VerdictText.{verdict_text}
 use Rattle.status_lines.specs.declared.status.Status.{Status}
-use Rattle.otp_tool.specs.Answers.{IsShapeFor, IsVerdictText}
+use Rattle.otp_tool.specs.Answers.{IsVerdictText}
 use Rattle.otp_tool.specs.Files.{IsHeld, answer_file}
 use Rattle.otp_tool.specs.Findings.{Finding, FindsForCheck, ready}
 use Rattle.otp_tool.specs.Results.{IsNoText, IsYesText, text_widths}
 use Rattle.otp_tool.specs.Steps.{Change, IsCheckStep, IsCheckWork, IsNoEnd, IsRefusal, IsSecondRefusal, RefusesAnswer, Taking, no_end_of, taking_of, verdict_end}
 use Rattle.otp_tool.proofs.GrammarLemmas.{same_tiers}
 use Rattle.otp_tool.proofs.RefusalLemmas.{refusal_weaker, second_refused}
-use Rattle.otp_tool.proofs.StepLemmas.{same_shape_widths, same_width, written}
+use Rattle.otp_tool.proofs.SettledLemmas.{settled_by, shape_for}
+use Rattle.otp_tool.proofs.StepLemmas.{same_shape_widths, written}
 
 -- a text that says No is written
 module _ {O A : Type 0} {sink : Ghosts O} {old new : O} (writes : List ℕ
@@ -40,21 +40,12 @@ module _ {O A : Type 0} {sink : Ghosts O} {old new : O} (writes : List ℕ
   no_ends (Err NoRoom) p = inr (record { text = text; is = w; part = p.part })
 
 module _ (g : Grammar) where
-  pub shape_for : (shape : Shape) → IsShapeOf g shape → IsShapeFor (value_of g) shape
-  shape_for shape s = record {
-    constraints = g.constraints.items;
-    seen = refl;
-    width = s.width ∙ sym (same_width g);
-    inputs = s.inputs ∙ ap (λ (tiers : Tiers). tiers.input) (sym (same_tiers g));
-    phases = s.phases;
-  }
-
   module _ (bytes : List ℕ) (within : length bytes ≤ 268435456) (shape : Shape) (of_grammar : IsShapeOf g shape) where
     refused_for_check : (x : Finding) → RefusesAnswer shape bytes x → FindsForCheck (value_of g) bytes x
     refused_for_check x r = subst (FindsForCheck (value_of g) bytes) (sym r.is) (record {
       within = within;
       shape = shape;
-      of_grammar = shape_for shape of_grammar;
+      of_grammar = shape_for g shape of_grammar;
       is = r.fact;
     })
 
@@ -65,27 +56,31 @@ module _ (g : Grammar) where
       e,
     ))
 
-    module _ (answer : Answer) (read : IsTextOf shape bytes (answer_value shape answer)) where
-      pub is_readable : IsReadable shape answer → IsReadableFor g answer
-      is_readable r = record { shape = shape; of_grammar = of_grammar; readable = r }
+    module _ (answer : Answer) (read : IsTextOf shape bytes (answer_value shape answer)) (readable : IsReadable shape
+        answer) where
+      pub is_readable : IsReadableFor g answer
+      is_readable = record { shape = shape; of_grammar = of_grammar; readable = readable }
 
       is_ready : FindsForCheck (value_of g) bytes ready
       is_ready = (
         answer_value shape answer,
-        record { within = within; shape = shape; of_grammar = shape_for shape of_grammar; is = read },
+        record { within = within; shape = shape; of_grammar = shape_for g shape of_grammar; is = read },
       )
 
       is_text : (verdict : Verdict) → IsVerdict (asked_by g answer) answer verdict
           → (verdict ≡ Yes → IsSound (asked_by g answer) answer)
           → IsVerdictText text_widths verdict (value_of g) bytes (verdict_text (widths_of shape) verdict)
       is_text verdict v sound = record {
-        shape = shape;
-        of_grammar = shape_for shape of_grammar;
         answer = answer;
-        read = read;
         problem = asked_by g answer;
-        is_asked = record { tiers = sym (same_tiers g); constraints = refl; form = refl };
+        reading = record {
+          shape = shape;
+          of_grammar = shape_for g shape of_grammar;
+          read = read;
+          is_asked = record { tiers = sym (same_tiers g); constraints = refl; form = refl };
+        };
         is_verdict = v;
+        settled = settled_by g bytes shape of_grammar answer read readable verdict v;
         sound = sound;
         written = ap (λ (w : Widths). verdict_text w verdict) (same_shape_widths g shape of_grammar answer.form);
       }

@@ -4,7 +4,7 @@ use Rattle.std.proofs.lemmas.Bool.{false≢true}
 use Rattle.grammar_reader.specs.Values.{GrammarValue}
 use Rattle.grammar_reader.specs.Reading.{At, grammar_of}
 use Rattle.command_words.specs.Commands.{Command, canon, score, generate, show, tableau, once, comprehend, check}
-use Rattle.otp_tool.specs.Grammars.{OnGrammar}
+use Rattle.otp_tool.specs.Grammars.{IsFileOf, OnGrammar}
 use Rattle.otp_tool.specs.Findings.{Finding, Finds, FindsIn, long_file, no_grammar, no_form, long_second, no_rows, no_lexicon, no_answer, over_budget, ready}
 use Rattle.otp_tool.specs.Steps.{IsOf}
 use Rattle.otp_tool.proofs.AnswerFindings.{all_ready, for_answer, for_once, for_score}
@@ -38,6 +38,10 @@ abbrev is_ok : Result GrammarValue At → Bool
 is_ok (Ok g) = true
 is_ok (Err e) = false
 
+-- bytes tell one grammar
+pub same_grammar : (bytes : List ℕ) (g h : GrammarValue) → IsFileOf bytes g → IsFileOf bytes h → g ≡ h
+same_grammar bytes g h a b = ap (λ r. ok_of r g) (sym a.tells ∙ b.tells)
+
 module _ (command : Command) (bytes second : List ℕ) where
   abbrev LongFile : Finding → Type 0
   LongFile x = (x ≡ long_file) × (65536 < length bytes)
@@ -63,7 +67,7 @@ module _ (command : Command) (bytes second : List ℕ) where
 
   both_in : (x y : Finding) → InGrammar x → InGrammar y → x ≡ y
   both_in x y a b =
-      let same : b.grammar ≡ a.grammar = ap (λ r. ok_of r a.grammar) (sym b.file.tells ∙ a.file.tells) in
+      let same = same_grammar bytes b.grammar a.grammar b.file a.file in
       in_grammar command a.grammar second x y a.fact (subst (λ g. FindsIn command g second y) same b.fact)
 
   refused_in : (x y : Finding) → NoGrammar x → InGrammar y → ⊥

@@ -17,7 +17,8 @@ use Rattle.otp_tool.specs.Findings.{Finding, FindsForHearing, long_file, no_gram
 use Rattle.otp_tool.specs.Steps.{IsOf, RefusesSurface}
 use Rattle.otp_tool.proofs.AnswerFindings.{one_stage, over_within}
 use Rattle.otp_tool.proofs.Choices.{equal_where, one_choice, one_of, too_long}
-use Rattle.otp_tool.proofs.ConstraintLemmas.{AreAlike, all_within_alike, first_over_alike}
+use Rattle.cert_check.specs.Seen.{AreAskedAlike}
+use Rattle.otp_tool.proofs.ConstraintLemmas.{all_within_alike, first_over_alike}
 
 -- ---- entries over the budget
 
@@ -53,7 +54,7 @@ module _ (forms : List (List (List Sym))) (budget : ℕ) where
 
 module _ (g : GrammarValue) (forms : List (List (List Sym))) (budget : ℕ) (ask another : List (List Sym)
     → Problem) (a : AreAsked g ask) (b : AreAsked g another) where
-  alike : (u : List (List Sym)) → AreAlike (ask u) (another u)
+  alike : (u : List (List Sym)) → AreAskedAlike (ask u) (another u)
   alike u = record {
     tiers = a.tiers u ∙ sym (b.tiers u);
     constraints = a.constraints u ∙ sym (b.constraints u);

@@ -14,6 +14,8 @@ mod RefusalLemmas
 mod TableauLemmas
 mod OnceLemmas
 mod HearingLemmas
+mod SettledLemmas
 mod CheckLemmas
 mod CauseLemmas
 mod DueLemmas
+mod VerdictLemmas

@@ -9,7 +9,7 @@ use Rattle.tableau.specs.declared.rows_err.RowsCause.TheVariants.{Form, NotCandi
 use Rattle.tableau.specs.Rows.{AreRowsOf, IsLineCause, IsRefusedAt}
 use Rattle.violation.specs.Candidates.{IsCandidate}
 use Rattle.violation.specs.Problems.{Problem}
-use Rattle.otp_tool.proofs.ConstraintLemmas.{with_constraints}
+use Rattle.cert_check.proofs.AskedAlike.{with_constraints}
 
 module _ (problem : Problem) (cs ds : List Constraint) where
   candidate_alike : (T : List (List Sym)) → IsCandidate (with_constraints problem cs) T

@@ -1,8 +1,8 @@
 -- Shapes of one grammar have the same readings of a text.
-use Rattle.std.proofs.Common.{◌≡◌, ℕ, ◌+◌, ◌-◌, zero, suc, Bool, true, false, cond, List, [], ◌∷◌, ◌++◌, length, map, filter, take, Result, Ok, Err, codes, refl, ap, sym, ◌∙◌}
+use Rattle.std.proofs.Common.{◌≡◌, ℕ, ◌+◌, ◌-◌, Bool, true, false, List, [], ◌∷◌, ◌++◌, length, map, filter, take, Result, Ok, Err, codes, refl, ap, sym, ◌∙◌}
 use Rattle.std.specs.Prelude.{if◌then◌else◌, slice_index_or}
 use Rattle.std.specs.List.{range_with_len}
-use Rattle.std.proofs.lemmas.List.{length-map}
+use Rattle.std.proofs.lemmas.List.{length-map, take-map}
 use Rattle.tier_core.specs.declared.sym.Sym.{Sym}
 use Rattle.tier_core.specs.declared.constraint.Constraint.{Constraint}
 use Rattle.tier_core.specs.declared.shape.Shape.{Shape}
@@ -24,7 +24,7 @@ use Rattle.answer_reader.specs.Steps.{At, and_then, first_line, go_on, line_then
 use Rattle.answer_reader.specs.Timelines.{timeline_said}
 use Rattle.answer_reader.specs.Values.{NodeValue}
 use Rattle.otp_tool.specs.Answers.{IsShapeFor}
-use Rattle.otp_tool.proofs.ConstraintLemmas.{is_seen_stretch}
+use Rattle.cert_check.proofs.AskedAlike.{is_seen_stretch, seen_filter}
 
 -- ---- going on alike
 
@@ -129,23 +129,15 @@ module _ (s t : Shape) (alike : AreAlike s t) where
 
 seen_stretches : (r : ℕ) (cs : List Constraint)
     → length (filter is_stretch (take r cs)) ≡ length (filter is_seen_stretch (take r (map constraint_seen cs)))
-seen_stretches zero cs = refl
-seen_stretches (suc r) [] = refl
-seen_stretches (suc r) (c ∷ cs) = go (is_stretch c) (seen_stretches r cs)
-  where
-    go : (b : Bool) → length (filter is_stretch (take r cs))
-        ≡ length (filter is_seen_stretch (take r (map constraint_seen cs)))
-        → length (cond b (c ∷ filter is_stretch (take r cs)) (filter is_stretch (take r cs)))
-        ≡ length (cond b (constraint_seen c ∷ filter is_seen_stretch (take r (map constraint_seen cs)))
-        (filter is_seen_stretch (take r (map constraint_seen cs))))
-    go true e = ap suc e
-    go false e = e
+seen_stretches r cs =
+    sym (length-map (filter is_stretch (take r cs)) constraint_seen)
+    ∙ ap length (seen_filter (take r cs) ∙ ap (filter is_seen_stretch) (sym (take-map constraint_seen r cs)))
 
 -- the counts by what is seen
 abbrev seen_counts : List NamedConstraint → List ℕ
 seen_counts ns = map (λ r. length (filter is_seen_stretch (take r ns))) (range_with_len 0 (length ns + 1))
 
-map_alike : {X Y : Type 0} (f h : X → Y) (xs : List X) → ((x : X) → f x ≡ h x) → map f xs ≡ map h xs
+pub map_alike : {X Y : Type 0} (f h : X → Y) (xs : List X) → ((x : X) → f x ≡ h x) → map f xs ≡ map h xs
 map_alike f h [] e = refl
 map_alike f h (x ∷ xs) e = ap (λ y. y ∷ map f xs) (e x) ∙ ap (λ ys. h x ∷ ys) (map_alike f h xs e)
 

@@ -36,7 +36,7 @@ use Rattle.otp_tool.specs.Findings.{Finding, FindsForAnswer, FindsForScore, no_f
 use Rattle.otp_tool.specs.Results.{IsOfRightAnswer, IsScoreText, text_widths, whole_text}
 use Rattle.otp_tool.specs.Steps.{IsEnd, IsMade, IsStep, RefusesForm, end_of, taking_of}
 use Rattle.otp_tool.proofs.GrammarLemmas.{same_kinds, same_tiers}
-use Rattle.otp_tool.proofs.ConstraintLemmas.{seen_vec}
+use Rattle.cert_check.proofs.AskedAlike.{seen_vec}
 use Rattle.violation.specs.Problems.{Problem, asked}
 use Rattle.otp_tool.specs.Grammars.{IsAsked}
 

@@ -51,16 +51,34 @@ pub record IsAskedBy (g : GrammarValue) (answer : Answer) (problem : Problem) : 
   pub constraints : map constraint_seen problem.constraints ≡ g.constraints
   pub form : problem.form ≡ answer.form
 
--- A text is the line of a verdict on the answer that bytes are read as: Yes where no fault is in it, and No
--- with the fault that comes first. An answer that gets Yes is sound.
-pub record IsVerdictText (widths : Problem → Widths) (verdict : Verdict) (g : GrammarValue) (bytes text : List ℕ)
-    : Type 0 where
+-- The bytes are read as this answer, and this problem is what the grammar is asked by it.
+pub record IsReading (g : GrammarValue) (bytes : List ℕ) (answer : Answer) (problem : Problem) : Type 0 where
   pub shape : Shape
   pub of_grammar : IsShapeFor g shape
-  pub answer : Answer
   pub read : IsTextOf shape bytes (answer_value shape answer)
-  pub problem : Problem
   pub is_asked : IsAskedBy g answer problem
+
+-- The bytes settle this verdict: it is the one on whatever answer they are read as.
+abbrev pub IsSettled : GrammarValue → List ℕ → Verdict → Type 0
+IsSettled g bytes verdict = (answer : Answer) (problem : Problem) → IsReading g bytes answer problem
+    → IsVerdict problem answer verdict
+
+-- The bytes are within the limit of an answer's file, and this is the verdict on an answer that they are read as.
+pub record IsJudged (g : GrammarValue) (bytes : List ℕ) (verdict : Verdict) : Type 0 where
+  pub within : length bytes ≤ 268435456
+  pub answer : Answer
+  pub problem : Problem
+  pub reading : IsReading g bytes answer problem
   pub is_verdict : IsVerdict problem answer verdict
+
+-- A text is the line of a verdict on the answer that bytes are read as: Yes where no fault is in it, and No
+-- with the fault that comes first. The bytes settle it, and an answer that gets Yes is sound.
+pub record IsVerdictText (widths : Problem → Widths) (verdict : Verdict) (g : GrammarValue) (bytes text : List ℕ)
+    : Type 0 where
+  pub answer : Answer
+  pub problem : Problem
+  pub reading : IsReading g bytes answer problem
+  pub is_verdict : IsVerdict problem answer verdict
+  pub settled : IsSettled g bytes verdict
   pub sound : verdict ≡ Yes → IsSound problem answer
   pub written : text ≡ verdict_text (widths problem) verdict

@@ -10,12 +10,13 @@ use Rattle.grammar_reader.specs.declared.grammar_err.GrammarCause.{GrammarCause}
 use Rattle.tableau.specs.declared.rows_err.RowsCause.{RowsCause}
 use Rattle.answer_reader.specs.declared.answer_err.AnswerCause.{AnswerCause}
 use Rattle.lexicon.specs.declared.lex_err.LexErr.{LexErr}
+use Rattle.cert_check.specs.declared.fault.Verdict.{Verdict}
 use Rattle.command_words.specs.Commands.{IsNoCommand}
 use Rattle.status_lines.specs.declared.status.Status.{Status}
 use Rattle.status_lines.specs.declared.status.Status.TheVariants.{Done, No, Usage, GrammarRefused, FormRefused, LexiconRefused, AnswerRefused, Budget, ReadFault, WriteFault, NoMemory, RowsRefused, TooLong}
 use Rattle.status_lines.specs.Lines.{status_number, status_text}
 use Rattle.otp_tool.specs.Findings.{Finding, no_grammar, no_form, no_rows, no_lexicon, no_answer, over_budget, ready}
-use Rattle.otp_tool.specs.Outcomes.{HasReadFault, IsBeforeWriting, IsBehind, IsTold, IsTooLong, IsWrittenBehind, Stands, answer_to}
+use Rattle.otp_tool.specs.Outcomes.{HasReadFault, IsBeforeWriting, IsBehind, IsTold, IsToldVerdict, IsTooLong, IsWrittenBehind, Stands, answer_to, status_of}
 use Rattle.otp_tool.specs.Results.{IsNoResult, IsResult, IsWhole}
 use Rattle.otp_tool.specs.Steps.{Change}
 
@@ -28,6 +29,9 @@ pub record IsStatusOf (words : List (List ℕ)) (c : Change) (status : Status) :
   pub complete : IsTold words c.held ready
       → ((word : ℕ) → ¬ HasReadFault words c.held c.faults_before c.faults_after word)
       → ¬ Rose c.taking.before c.taking.after → (status ≡ Done) ⊎ ((status ≡ No) ⊎ (status ≡ NoMemory))
+  pub settled : (verdict : Verdict) → IsToldVerdict words c.held verdict
+      → ((word : ℕ) → ¬ HasReadFault words c.held c.faults_before c.faults_after word)
+      → ¬ Rose c.taking.before c.taking.after → (status ≡ status_of verdict) ⊎ (status ≡ NoMemory)
   pub usage : (status ≡ Usage) ↔ IsNoCommand words
   pub read_fault : (word : ℕ) → status ≡ ReadFault word
       → HasReadFault words c.held c.faults_before c.faults_after word

@@ -2,9 +2,12 @@
 use Rattle.std.specs.Prelude.{◌≡◌, ℕ, ◌⊎◌, List, Option, Some}
 use Rattle.outside.specs.Faults.{Rose}
 use Rattle.grammar_reader.specs.Values.{GrammarValue}
-use Rattle.command_words.specs.Commands.{Command, IsCommand, grammar_of as file_of}
+use Rattle.cert_check.specs.declared.fault.Verdict.{Verdict}
+use Rattle.cert_check.specs.declared.fault.Verdict.TheVariants.{Yes, No as Not}
+use Rattle.command_words.specs.Commands.{Command, IsCommand, canon, score, generate, show, tableau, once, comprehend, check, grammar_of as file_of}
 use Rattle.status_lines.specs.declared.status.Status.{Status}
 use Rattle.status_lines.specs.declared.status.Status.TheVariants.{Done, No, Usage, GrammarRefused, FormRefused, LexiconRefused, AnswerRefused, Budget, ReadFault, WriteFault, NoMemory, RowsRefused, TooLong}
+use Rattle.otp_tool.specs.Answers.{IsJudged}
 use Rattle.otp_tool.specs.Files.{IsHeld, IsSecondHeld, NamedFile, grammar_file, second_file}
 use Rattle.otp_tool.specs.Grammars.{OnGrammar}
 use Rattle.otp_tool.specs.Findings.{Finding, Finds, Reaches, long_file, no_grammar, no_form, long_second, no_rows, no_lexicon, no_answer, over_budget, ready}
@@ -89,6 +92,29 @@ answer_to ready = Done
 -- The status is this one. Want of memory may come instead, and so may a fault of reading.
 abbrev pub Stands : Status → Status → Type 0
 Stands due status = (status ≡ due) ⊎ ((status ≡ NoMemory) ⊎ ((word : ℕ) × (status ≡ ReadFault word)))
+
+-- a command checks the answer of its second file, and this is the verdict on it
+abbrev pub Judges : Command → GrammarValue → List ℕ → Verdict → Type 0
+Judges (canon name) g second verdict = ⊥
+Judges (score name word) g second verdict = ⊥
+Judges (generate name form budget) g second verdict = ⊥
+Judges (show name form budget) g second verdict = ⊥
+Judges (tableau name form rows budget) g second verdict = ⊥
+Judges (once name form budget) g second verdict = ⊥
+Judges (comprehend name lexicon surface budget) g second verdict = ⊥
+Judges (check name answer) g second verdict = IsJudged g second verdict
+
+-- the words are a command that checks an answer, and this is the verdict for any bytes that the shelf may hold
+pub record IsToldVerdict (words : List (List ℕ)) (held : List ℕ → Option (List ℕ)) (verdict : Verdict) : Type 0 where
+  pub command : Command
+  pub are : IsCommand words command
+  pub judges : (bytes second : List ℕ) → MayRead words held command bytes second
+      → OnGrammar (λ g. Judges command g second verdict) bytes
+
+-- the status of a verdict
+abbrev pub status_of : Verdict → Status
+status_of Yes = Done
+status_of (Not fault) = No
 
 -- a status that comes before anything is written
 abbrev pub IsBeforeWriting : Status → Type 0

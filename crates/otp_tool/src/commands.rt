@@ -4,11 +4,12 @@ ghost use Rattle.outside.specs.Sent.{appended, HasSentPart};
 ghost use Rattle.timeline_text.specs.declared.form_err.FormErr.{FormErr};
 ghost use Rattle.grammar_reader.specs.declared.grammar_err.GrammarCause.{GrammarCause};
 ghost use Rattle.grammar_reader.specs.Grammars.{value_of};
+ghost use Rattle.cert_check.specs.declared.fault.Verdict.{Verdict};
 ghost use Rattle.command_words.specs.Commands.{IsCommand, IsNoCommand, grammar_of as file_of};
 ghost use Rattle.command_words.specs.Words.{words_of};
 ghost use Rattle.command_words.specs.Seen.{command_seen};
 ghost use Rattle.otp_tool.specs.Findings.{Finding, no_grammar, no_form, no_rows, no_lexicon, no_answer, over_budget, ready};
-ghost use Rattle.otp_tool.specs.Outcomes.{HasReadFault, IsBeforeWriting, IsBehind, IsTold, IsTooLong, IsUnnamed, IsWrittenBehind, Stands, answer_to};
+ghost use Rattle.otp_tool.specs.Outcomes.{HasReadFault, IsBeforeWriting, IsBehind, IsTold, IsToldVerdict, IsTooLong, IsUnnamed, IsWrittenBehind, Stands, answer_to, status_of};
 ghost use Rattle.otp_tool.specs.Results.{IsNoResult, IsResult, IsWhole};
 ghost use Rattle.otp_tool.specs.Steps.{HasFitBudget, IsOutcome, IsWorkOf, change_of};
 ghost use Rattle.otp_tool.specs.Files.{NamedFile, second_file};
@@ -145,11 +146,13 @@ pub fn run<F: Shelf, O: Sink>(
     // Done: exactly the text that the command asks for was written. For `generate` it is the text of
     // a right answer with joined arcs, for `once` that of an answer that is right once, for `tableau`
     // that of the tableau with the rows of the file, for `comprehend` that of the entries that are
-    // heard, and for `check` the line `Yes`: no fault is in the answer, and it is sound.
+    // heard, and for `check` the line `Yes`: no fault is in the answer, whatever answer its bytes are
+    // read as, and it is sound.
     ensures done { result ≡ Status.Done
         → IsWrittenBehind (words_of words.now) (F.held shelf.old) IsResult
         (λ text. O.taken sink.new ≡ appended (O.taken sink.old) text) }
-    // No: exactly the line of the fault that comes first in the answer was written.
+    // No: exactly the line of the fault that comes first in the answer was written, whatever answer
+    // its bytes are read as.
     ensures no { result ≡ Status.No
         → IsWrittenBehind (words_of words.now) (F.held shelf.old) IsNoResult
         (λ text. O.taken sink.new ≡ appended (O.taken sink.old) text) }
@@ -158,6 +161,14 @@ pub fn run<F: Shelf, O: Sink>(
         (F.faults shelf.old) (F.faults shelf.new) word)
         → ¬ Rose (O.faults sink.old) (O.faults sink.new)
         → (result ≡ Status.Done) ⊎ ((result ≡ Status.No) ⊎ (result ≡ Status.NoMemory)) }
+    // The bytes of the grammar and of an answer settle the verdict: if it is this one on an answer that
+    // they are read as, the status is that of this verdict.
+    ensures settled { (verdict : Verdict)
+        → IsToldVerdict (words_of words.now) (F.held shelf.old) verdict
+        → ((word : ℕ) → ¬ HasReadFault (words_of words.now) (F.held shelf.old)
+        (F.faults shelf.old) (F.faults shelf.new) word)
+        → ¬ Rose (O.faults sink.old) (O.faults sink.new)
+        → (result ≡ status_of verdict) ⊎ (result ≡ Status.NoMemory) }
 
     // Each refusal has its cause.
     ensures usage { (result ≡ Status.Usage) ↔ IsNoCommand (words_of words.now) }

@@ -1,6 +1,7 @@
 use Rattle.command_words.specs.Words.{words_of}
 use Rattle.otp_tool.specs.Steps.{change_of}
 use Rattle.otp_tool.proofs.DueLemmas.{complete, due, untouched}
+use Rattle.otp_tool.proofs.VerdictLemmas.{settled}
 use Rattle.otp_tool.proofs.CauseLemmas.{begun, by_answer, by_budget, by_form, by_grammar, by_length, by_lexicon, by_memory, by_reading, by_rows, by_usage, by_writing, done, no}
 use Rattle.otp_tool.proofs.commands.run.Goals as goal
 
@@ -19,6 +20,12 @@ returns-in-Some-clause-no g c =
 pub returns-in-Some-clause-complete : goal.returns-in-Some-clause-complete
 returns-in-Some-clause-complete g c =
     complete (words_of c.args.words.now)
+    (change_of g.F.Shelf g.O.Sink c.args.shelf.now c.execute.new.shelf c.args.sink.now c.execute.new.sink)
+    c.execute.result (c.execute.ensures.outcome (words_of c.args.words.now) c.in-Some.ensures)
+
+pub returns-in-Some-clause-settled : goal.returns-in-Some-clause-settled
+returns-in-Some-clause-settled g c =
+    settled (words_of c.args.words.now)
     (change_of g.F.Shelf g.O.Sink c.args.shelf.now c.execute.new.shelf c.args.sink.now c.execute.new.sink)
     c.execute.result (c.execute.ensures.outcome (words_of c.args.words.now) c.in-Some.ensures)
 

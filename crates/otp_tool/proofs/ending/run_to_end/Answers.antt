@@ -7,6 +7,7 @@ returns-clause-ending g c = record {
     done = c.run-status.ensures.done;
     no = c.run-status.ensures.no;
     complete = c.run-status.ensures.complete;
+    settled = c.run-status.ensures.settled;
     usage = c.run-status.ensures.usage;
     read_fault = c.run-status.ensures.read_fault;
     too_long = c.run-status.ensures.too_long;

@@ -1,0 +1,178 @@
+-- Constraints that are seen alike, by their families and sides, count, phase and move alike.
+use Rattle.std.proofs.Common.{◌≡◌, ℕ, ◌&&◌, not, Bool, true, false, cond, List, [], ◌∷◌, length, map, take, filter, drop, refl, ap, ap₂, sym, ◌∙◌, subst}
+use Rattle.std.specs.Prelude.{if◌then◌else◌, slice_index_or, ◌-◌}
+use Rattle.std.specs.List.{list_all}
+use Rattle.std.proofs.lemmas.List.{length-map, take-map}
+use Rattle.tier_core.specs.declared.sym.Sym.{Sym}
+use Rattle.tier_core.specs.declared.constraint.Constraint.{Constraint}
+use Rattle.tier_core.specs.Kinds.{Phase, PrefixKind}
+use Rattle.tier_core.specs.Tiers.{Tiers}
+use Rattle.tier_core.specs.Timelines.{project, squeeze, word, symbol}
+use Rattle.tier_core.specs.Scan.{opens}
+use Rattle.tier_core.specs.Sides.{has_edge_type, is_implication, is_stretch}
+use Rattle.grammar_reader.specs.Seen.{constraint_seen}
+use Rattle.grammar_reader.specs.Values.{NamedConstraint}
+use Rattle.violation.specs.Candidates.{vec}
+use Rattle.violation.specs.Counts.{viol}
+use Rattle.violation.specs.Moves.{costs, costs_each, cost_of, cut, first_phase, is_tier_open, moved, next_phase, next_phases}
+use Rattle.violation.specs.Phases.{AreClosedOr, is_left_open}
+use Rattle.violation.specs.Prefixes.{is_open, kind_of, phase, stretches}
+use Rattle.violation.specs.Problems.{Problem}
+use Rattle.cert_check.specs.Seen.{AreAskedAlike}
+
+-- what is asked by these constraints in place of a problem's own
+abbrev pub with_constraints : Problem → List Constraint → Problem
+with_constraints problem cs = record { tiers = problem.tiers; constraints = cs; form = problem.form }
+
+-- what relates two problems that differ in constraints alone, which are seen alike, relates any that are asked alike
+pub by_alike : (R : Problem → Problem → Type 0)
+    → ((problem : Problem) (cs ds : List Constraint) → map constraint_seen cs ≡ map constraint_seen ds
+    → R (with_constraints problem cs) (with_constraints problem ds))
+    → (p q : Problem) → AreAskedAlike p q → R p q
+by_alike R step p q alike =
+    let ask : Tiers → List (List Sym)
+    → Problem = λ tiers u. record { tiers = tiers; constraints = q.constraints; form = u } in
+    subst (λ u. R p (ask q.tiers u)) alike.form (subst (λ tiers. R p (ask tiers p.form)) alike.tiers
+    (step p p.constraints q.constraints alike.constraints))
+
+-- and what holds of one holds of the other
+pub by_constraints : (P : Problem → Type 0)
+    → ((problem : Problem) (cs ds : List Constraint) → map constraint_seen cs ≡ map constraint_seen ds
+    → P (with_constraints problem cs) → P (with_constraints problem ds))
+    → (p q : Problem) → AreAskedAlike p q → P p → P q
+by_constraints P step = by_alike (λ p q. P p → P q) step
+
+-- ---- lists of constraints
+
+abbrev SeenAlike : List Constraint → List Constraint → Type 0
+SeenAlike cs ds = map constraint_seen cs ≡ map constraint_seen ds
+
+abbrev pub is_seen_stretch : NamedConstraint → Bool
+is_seen_stretch n = is_implication n.family && not (has_edge_type n.left)
+
+pub seen_filter : (cs : List Constraint)
+    → map constraint_seen (filter is_stretch cs) ≡ filter is_seen_stretch (map constraint_seen cs)
+seen_filter [] = refl
+seen_filter (c ∷ cs) = go (is_stretch c) (seen_filter cs)
+  where
+    go : (b : Bool) → map constraint_seen (filter is_stretch cs) ≡ filter is_seen_stretch (map constraint_seen cs)
+        → map constraint_seen (cond b (c ∷ filter is_stretch cs) (filter is_stretch cs))
+        ≡ cond b (constraint_seen c ∷ filter is_seen_stretch (map constraint_seen cs))
+        (filter is_seen_stretch (map constraint_seen cs))
+    go true e = ap (λ ns. constraint_seen c ∷ ns) e
+    go false e = e
+
+pub same_count : (cs ds : List Constraint) → SeenAlike cs ds → length cs ≡ length ds
+same_count cs ds e = sym (length-map cs constraint_seen) ∙ ap length e ∙ length-map ds constraint_seen
+
+first_ones : (r : ℕ) (cs ds : List Constraint) → SeenAlike cs ds → SeenAlike (take r cs) (take r ds)
+first_ones r cs ds e = sym (take-map constraint_seen r cs) ∙ ap (take r) e ∙ take-map constraint_seen r ds
+
+stretches_seen : (r : ℕ) (cs ds : List Constraint) → SeenAlike cs ds
+    → SeenAlike (filter is_stretch (take r cs)) (filter is_stretch (take r ds))
+stretches_seen r cs ds e =
+    seen_filter (take r cs) ∙ ap (filter is_seen_stretch) (first_ones r cs ds e) ∙ sym (seen_filter (take r ds))
+
+pub seen_vec : (T : List (List Sym)) (cs : List Constraint)
+    → vec cs T ≡ map (λ n. viol n.family n.left n.right T) (map constraint_seen cs)
+seen_vec T [] = refl
+seen_vec T (c ∷ cs) = ap (λ ns. viol c.family c.left c.right T ∷ ns) (seen_vec T cs)
+
+seen_phases : (p : List (List Sym)) (cs : List Constraint)
+    → map (λ c. phase c.left c.right p) cs ≡ map (λ n. phase n.left n.right p) (map constraint_seen cs)
+seen_phases p [] = refl
+seen_phases p (c ∷ cs) = ap (λ ps. phase c.left c.right p ∷ ps) (seen_phases p cs)
+
+-- ---- moves
+
+next_alike : (column : List Sym) (cs ds : List Constraint) → SeenAlike cs ds → (phases : List Phase)
+    → next_phases cs phases column ≡ next_phases ds phases column
+next_alike column [] [] e phases = refl
+next_alike column [] (d ∷ ds) e phases = cc
+next_alike column (c ∷ cs) [] e phases = cc
+next_alike column (c ∷ cs) (d ∷ ds) e [] = refl
+next_alike column (c ∷ cs) (d ∷ ds) e (p ∷ ps) =
+    let head : constraint_seen c ≡ constraint_seen d = cc in
+    let tail : SeenAlike cs ds = cc in
+    ap₂ (λ (n : NamedConstraint) qs. next_phase n.left n.right p column ∷ qs) head (next_alike column cs ds tail ps)
+
+costs_alike : (column : List Sym) (opened : ℕ → Bool) (cs ds : List Constraint) → SeenAlike cs ds
+    → (phases : List Phase) → costs_each cs opened phases column ≡ costs_each ds opened phases column
+costs_alike column opened [] [] e phases = refl
+costs_alike column opened [] (d ∷ ds) e phases = cc
+costs_alike column opened (c ∷ cs) [] e phases = cc
+costs_alike column opened (c ∷ cs) (d ∷ ds) e phases =
+    let head : constraint_seen c ≡ constraint_seen d = cc in
+    let tail : SeenAlike cs ds = cc in
+    let left : Bool → List Phase = λ stretch. if stretch then drop 1 phases else phases in
+    ap₂ (λ (n : NamedConstraint) (ns : List ℕ).
+    (if costs n.family n.left n.right opened (first_phase phases) column then 1 else 0) ∷ ns) head
+    (costs_alike column opened cs ds tail (left (is_stretch c))
+    ∙ ap (λ (n : NamedConstraint). costs_each ds opened (left (is_seen_stretch n)) column) head)
+
+closed_alike : (is_left : Constraint → Bool) (of : NamedConstraint → Bool)
+    → ((c : Constraint) → is_left c ≡ of (constraint_seen c)) → (cs ds : List Constraint) → SeenAlike cs ds
+    → (phases : List Phase) → AreClosedOr is_left cs phases → AreClosedOr is_left ds phases
+closed_alike is_left of tells [] [] e phases h = h
+closed_alike is_left of tells [] (d ∷ ds) e phases h = cc
+closed_alike is_left of tells (c ∷ cs) [] e phases h = cc
+closed_alike is_left of tells (c ∷ cs) (d ∷ ds) e [] h = absurd h
+closed_alike is_left of tells (c ∷ cs) (d ∷ ds) e (p ∷ ps) h =
+    let head : constraint_seen c ≡ constraint_seen d = cc in
+    let tail : SeenAlike cs ds = cc in
+    (
+      h.0 ∙ ap not (tells c ∙ ap of head ∙ sym (tells d)),
+      closed_alike is_left of tells cs ds tail ps h.1,
+    )
+
+-- ---- problems
+
+module _ (problem : Problem) (cs ds : List Constraint) (alike : map constraint_seen cs ≡ map constraint_seen ds) where
+  abbrev here : Problem
+  here = with_constraints problem cs
+
+  abbrev there : Problem
+  there = with_constraints problem ds
+
+  pub same_vec : (T : List (List Sym)) → vec cs T ≡ vec ds T
+  same_vec T = seen_vec T cs ∙ ap (map (λ n. viol n.family n.left n.right T)) alike ∙ sym (seen_vec T ds)
+
+  pub same_stretch_count : (r : ℕ) → length (stretches here r) ≡ length (stretches there r)
+  same_stretch_count r = same_count (stretches here r) (stretches there r) (stretches_seen r cs ds alike)
+
+  pub same_kind : (r : ℕ) (p : List (List Sym)) → kind_of here r p ≡ kind_of there r p
+  same_kind r p =
+      let kind : List Phase → PrefixKind = λ ps. record {
+        place = length (squeeze (project problem.tiers.input p));
+        opened = map (λ t. is_open (word p t)) problem.tiers.free;
+        phases = ps;
+      } in
+      ap kind (seen_phases p (stretches here r)
+      ∙ ap (map (λ n. phase n.left n.right p)) (stretches_seen r cs ds alike)
+      ∙ sym (seen_phases p (stretches there r)))
+
+  pub same_cut : (r : ℕ) (k : PrefixKind) → cut here r k ≡ cut there r k
+  same_cut r k =
+      let kind : List Phase → PrefixKind = λ ps. record { place = k.place; opened = k.opened; phases = ps } in
+      ap (λ n. kind (take n k.phases)) (same_stretch_count r)
+
+  pub same_move : (r : ℕ) (k : PrefixKind) (column : List Sym) → moved here r k column ≡ moved there r k column
+  same_move r k column =
+      let kind : List Phase → PrefixKind = λ ps. record {
+        place = (moved here r k column).place;
+        opened = map (λ t. opens (symbol column t)) problem.tiers.free;
+        phases = ps;
+      } in
+      ap kind (next_alike column (stretches here r) (stretches there r) (stretches_seen r cs ds alike) k.phases)
+
+  pub same_cost : (r : ℕ) (k : PrefixKind) (column : List Sym) → cost_of here r k column ≡ cost_of there r k column
+  same_cost r k column =
+      ap (λ ns. slice_index_or ns (r - 1) 0)
+      (costs_alike column (is_tier_open problem k) (take r cs) (take r ds) (first_ones r cs ds alike) k.phases)
+
+  pub same_closed : (r : ℕ) (k : PrefixKind) (phases : List Phase)
+      → AreClosedOr (is_left_open here k) (stretches here r) phases
+      → AreClosedOr (is_left_open there k) (stretches there r) phases
+  same_closed r k =
+      closed_alike (is_left_open problem k) (λ n. list_all (λ e. is_tier_open problem k e.tier) n.left) (λ c. refl)
+      (stretches here r) (stretches there r) (stretches_seen r cs ds alike)

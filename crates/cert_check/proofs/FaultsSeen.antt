@@ -1,0 +1,504 @@
+-- Two answers that are seen alike have the same faults.
+use Rattle.std.proofs.Common.{◌≡◌, ℕ, ◌+◌, ◌-◌, ◌<◌, ◌≤◌, ◌⊎◌, Bool, IsTrue, List, [], length, map, slice_get, Some, None, Option, sym, ap, ◌∙◌, subst, inl, inr, Contains}
+use Rattle.std.specs.Prelude.{◌↔◌, slice_index_or}
+use Rattle.std.proofs.lemmas.Simd.{map-map}
+use Rattle.tier_core.specs.declared.sym.Sym.{Sym}
+use Rattle.tier_core.specs.declared.kind.Kind.{Kind}
+use Rattle.tier_core.specs.declared.constraint.Constraint.{Constraint}
+use Rattle.tier_core.specs.Classes.{has, sets_have}
+use Rattle.tier_core.specs.Kinds.{AreStretchesBelow, PrefixKind, prefix_kind}
+use Rattle.grammar_reader.specs.Seen.{constraint_seen}
+use Rattle.violation.specs.Candidates.{IsCandidate, count_at}
+use Rattle.violation.specs.Moves.{moved, cost_of, cut, is_final}
+use Rattle.violation.specs.Prefixes.{kind_of_bits, stretches}
+use Rattle.violation.specs.Problems.{Problem, last_stage}
+use Rattle.answer_text.specs.declared.stage.Node.{Node}
+use Rattle.answer_text.specs.declared.automaton.ArcLine.{ArcLine}
+use Rattle.answer_text.specs.declared.automaton.StateLine.{StateLine}
+use Rattle.answer_text.specs.declared.answer.Answer.{Answer}
+use Rattle.answer_text.specs.Right.{nodes_at, kinds_at, numbers_of}
+use Rattle.answer_text.specs.Certified.{Lists, IsKeptBelow, IsTightAt, start_potential}
+use Rattle.cert_check.specs.declared.fault.Fault.{Fault}
+use Rattle.cert_check.specs.declared.fault.Verdict.{Verdict}
+use Rattle.cert_check.specs.declared.fault.Verdict.TheVariants.{Yes, No}
+use Rattle.cert_check.specs.declared.fault.Fault.TheVariants.{FormWrong, StageMissing, ExampleWrong, CountsDiffer, NodeWrong, StartMissing, FinalPotential, NotClosed, Potential, StartPotential, StateMissing, FinalsDiffer, ArcsTwice, ArcsDiffer}
+use Rattle.cert_check.specs.Faults.{LacksStage, HasWrongCount, HasNode, IsInOrder, HasWrongNode, LacksStart, HasFinalPotential, TellsKind, IsNotClosed, HasHighPotential, HasWrongStart, HasState, IsKindOfState, LacksTarget, HasWrongMark, HasTwice, IsListedTarget, IsKeptTarget, HasWrongArcs}
+use Rattle.cert_check.specs.FirstFaults.{IsFault, IsFirstFault, LacksState}
+use Rattle.cert_check.specs.Verdicts.{IsVerdict}
+use Rattle.cert_check.specs.Seen.{AreAskedAlike, AreSeenAlike, arc_seen, node_seen, state_seen}
+use Rattle.cert_check.proofs.AskedAlike.{by_alike, same_closed, same_cost, same_count, same_cut, same_kind, same_move, same_stretch_count, same_vec, with_constraints}
+use Rattle.cert_check.proofs.SeenLists.{at_number, member}
+
+-- Two answers that are seen alike, each for its own constraints, which are seen alike.
+record Two : Type 0 where
+  base : Problem
+  cs : List Constraint
+  ds : List Constraint
+  asked : map constraint_seen cs ≡ map constraint_seen ds
+  a : Answer
+  b : Answer
+  seen : AreSeenAlike (with_constraints base cs) a b
+
+abbrev here : Two → Problem
+here s = with_constraints s.base s.cs
+
+abbrev there : Two → Problem
+there s = with_constraints s.base s.ds
+
+same_told : (s : Two) (r : ℕ) (kind : Kind) → kind_of_bits (here s) r kind ≡ kind_of_bits (there s) r kind
+same_told s r kind =
+    ap (λ n. prefix_kind (length s.base.tiers.free) n kind) (same_stretch_count s.base s.cs s.ds s.asked r)
+
+-- nodes are seen alike for either
+nodes_there : (s : Two) (r : ℕ) → map (node_seen (there s) r) (nodes_at s.a.stages.items r)
+    ≡ map (node_seen (there s) r) (nodes_at s.b.stages.items r)
+nodes_there s r =
+    let seen_by : ℕ → Node → PrefixKind × ℕ = λ n node. (prefix_kind (length s.base.tiers.free) n node.kind,
+    node.potential) in
+    subst (λ n. map (seen_by n) (nodes_at s.a.stages.items r) ≡ map (seen_by n) (nodes_at s.b.stages.items r))
+    (same_stretch_count s.base s.cs s.ds s.asked r) (s.seen.nodes r)
+
+abbrev turned : Two → Two
+turned s = record {
+  base = s.base;
+  cs = s.ds;
+  ds = s.cs;
+  asked = sym s.asked;
+  a = s.b;
+  b = s.a;
+  seen = record {
+    form = sym s.seen.form;
+    counts = sym s.seen.counts;
+    example = sym s.seen.example;
+    stages = sym s.seen.stages;
+    nodes = λ r. sym (nodes_there s r);
+    states = sym s.seen.states;
+  };
+}
+
+-- ---- nodes
+
+same_stage : (s : Two) → last_stage (here s) ≡ last_stage (there s)
+same_stage s = same_count s.cs s.ds s.asked
+
+same_kinds : (s : Two) (r : ℕ)
+    → kinds_at (here s) r (nodes_at s.a.stages.items r) ≡ kinds_at (there s) r (nodes_at s.b.stages.items r)
+same_kinds s r =
+    let by : List (PrefixKind × ℕ) → List PrefixKind = map (λ (v : PrefixKind × ℕ). v.0) in
+    sym (map-map (λ (v : PrefixKind × ℕ). v.0) (node_seen (here s) r) (nodes_at s.a.stages.items r))
+    ∙ ap by (s.seen.nodes r)
+    ∙ map-map (λ (v : PrefixKind × ℕ). v.0) (node_seen (here s) r) (nodes_at s.b.stages.items r)
+    ∙ ap (λ n. map (λ (node : Node). prefix_kind (length s.base.tiers.free) n node.kind) (nodes_at s.b.stages.items r))
+    (same_stretch_count s.base s.cs s.ds s.asked r)
+
+-- a node of the other answer that is seen as the same
+record Matches (s : Two) (stage n : ℕ) (node : Node) : Type 0 where
+  other : Node
+  is : HasNode s.b stage n other
+  told : kind_of_bits (here s) stage node.kind ≡ kind_of_bits (there s) stage other.kind
+  potential : node.potential ≡ other.potential
+
+matching : (s : Two) (stage n : ℕ) (node : Node) → HasNode s.a stage n node → Matches s stage n node
+matching s stage n node h =
+    let found = at_number (node_seen (here s) stage) (nodes_at s.a.stages.items stage) (nodes_at s.b.stages.items stage)
+    (s.seen.nodes stage) n node h.numbered in record {
+      other = found.0;
+      is = record { within = subst (λ l. stage < l) s.seen.stages h.within; numbered = found.1.0 };
+      told = sym (ap (λ (v : PrefixKind × ℕ). v.0) found.1.1) ∙ same_told s stage found.0.kind;
+      potential = sym (ap (λ (v : PrefixKind × ℕ). v.1) found.1.1);
+    }
+
+lists : (s : Two) (r : ℕ) (k : PrefixKind) (p : ℕ) → Lists (here s) s.a.stages.items r k p
+    → Lists (there s) s.b.stages.items r k p
+lists s r k p l =
+    let found = member (node_seen (here s) r) (nodes_at s.a.stages.items r) (nodes_at s.b.stages.items r)
+    (s.seen.nodes r) l.node l.listed in record {
+      node = found.0;
+      listed = found.1.0;
+      tells = sym (same_told s r found.0.kind) ∙ ap (λ (v : PrefixKind × ℕ). v.0) found.1.1 ∙ l.tells;
+      potential = ap (λ (v : PrefixKind × ℕ). v.1) found.1.1 ∙ l.potential;
+    }
+
+-- ---- kept moves
+
+move : (s : Two) (r : ℕ) (k : PrefixKind) (column : List Sym)
+    → moved (here s) r k column ≡ moved (there s) r k column
+move s r k column = same_move s.base s.cs s.ds s.asked r k column
+
+cost : (s : Two) (r : ℕ) (k : PrefixKind) (column : List Sym)
+    → cost_of (here s) r k column ≡ cost_of (there s) r k column
+cost s r k column = same_cost s.base s.cs s.ds s.asked r k column
+
+is_tight : (s : Two) (j : ℕ) (k : PrefixKind) (column : List Sym) → IsTightAt (here s) s.a.stages.items j k column
+    → IsTightAt (there s) s.b.stages.items j k column
+is_tight s j k column t =
+    let cuts = same_cut s.base s.cs s.ds s.asked j k in record {
+      before = t.before;
+      after = t.after;
+      leaves = lists s j (cut (there s) j k) t.before
+          (subst (λ l. Lists (here s) s.a.stages.items j l t.before) cuts t.leaves);
+      arrives = lists s j (moved (there s) j (cut (there s) j k) column) t.after
+          (subst (λ l. Lists (here s) s.a.stages.items j l t.after)
+          (ap (λ l. moved (here s) j l column) cuts ∙ move s j (cut (there s) j k) column) t.arrives);
+      falls = t.falls
+          ∙ ap (λ n. n + t.after) (ap (λ l. cost_of (here s) j l column) cuts ∙ cost s j (cut (there s) j k) column);
+    }
+
+is_kept : (s : Two) (r : ℕ) (k : PrefixKind) (column : List Sym) → IsKeptBelow (here s) s.a.stages.items r k column
+    → IsKeptBelow (there s) s.b.stages.items r k column
+is_kept s r k column kept = record {
+  fits = record {
+    width = kept.fits.width;
+    symbols = kept.fits.symbols;
+    edge = kept.fits.edge;
+    input = kept.fits.input;
+  };
+  tight = λ j some less. is_tight s j k column (kept.tight j some less);
+}
+
+-- ---- the whole of an answer
+
+lacks_stage : (s : Two) (listed wanted : ℕ) → LacksStage (here s) s.a listed wanted
+    → LacksStage (there s) s.b listed wanted
+lacks_stage s listed wanted l = record {
+  wanted_is = l.wanted_is ∙ ap (λ n. n + 1) (same_stage s);
+  differs = l.differs;
+  listed_is = subst (λ (ns : List ℕ). (listed ≡ length s.b.stages.items)
+      ⊎ ((length s.b.stages.items ≡ wanted) × (listed ≡ length ns + 1))) s.seen.counts
+      (subst (λ n. (listed ≡ n) ⊎ ((n ≡ wanted) × (listed ≡ length s.a.counts.items + 1))) s.seen.stages l.listed_is);
+}
+
+candidate : (s : Two) → IsCandidate (here s) s.a.example → IsCandidate (there s) s.b.example
+candidate s h = subst (IsCandidate (there s)) s.seen.example
+    (record { well_formed = h.well_formed; reduced = h.reduced; input = h.input })
+
+wrong_count : (s : Two) (constraint listed counted : ℕ) → HasWrongCount (here s) s.a constraint listed counted
+    → HasWrongCount (there s) s.b constraint listed counted
+wrong_count s constraint listed counted h = record {
+  some = h.some;
+  within = subst (λ n. constraint ≤ n) (same_stage s) h.within;
+  listed_is = h.listed_is ∙ ap (λ ns. slice_index_or ns (constraint - 1) 0) s.seen.counts;
+  counted_is = h.counted_is
+      ∙ ap (λ ns. slice_index_or ns (constraint - 1) 0) (same_vec s.base s.cs s.ds s.asked s.a.example)
+      ∙ ap (count_at (there s) constraint) s.seen.example;
+  differs = h.differs;
+}
+
+-- ---- the stages
+
+in_order : (s : Two) (stage n : ℕ) (k : PrefixKind) → IsInOrder (here s) s.a.stages.items stage n k
+    → IsInOrder (there s) s.b.stages.items stage n k
+in_order s stage n k h = record {
+  possible = record {
+    place = h.possible.place;
+    phases = same_closed s.base s.cs s.ds s.asked stage k k.phases h.possible.phases;
+  };
+  after = λ l some before. h.after l some
+      (subst (λ ks. slice_get ks (n - 1) ≡ Some l) (sym (same_kinds s stage)) before);
+  cut_before = λ some.
+      subst (Contains (kinds_at (there s) (stage - 1) (nodes_at s.b.stages.items (stage - 1))))
+      (same_cut s.base s.cs s.ds s.asked (stage - 1) k)
+      (subst (λ ks. Contains ks (cut (here s) (stage - 1) k)) (same_kinds s (stage - 1)) (h.cut_before some));
+}
+
+wrong_node : (s : Two) (stage n : ℕ) → HasWrongNode (here s) s.a stage n → HasWrongNode (there s) s.b stage n
+wrong_node s stage n h =
+    let m = matching s stage n h.node h.is in record {
+      node = m.other;
+      is = m.is;
+      wrong = λ o. h.wrong (subst (IsInOrder (here s) s.a.stages.items stage n) (sym m.told)
+          (in_order (turned s) stage n (kind_of_bits (there s) stage m.other.kind) o));
+    }
+
+lacks_start : (s : Two) (stage : ℕ) → LacksStart (here s) s.a stage → LacksStart (there s) s.b stage
+lacks_start s stage h = record {
+  within = subst (λ l. stage < l) s.seen.stages h.within;
+  lacks = λ e. h.lacks (ap (λ ks. slice_get ks 0) (same_kinds s stage) ∙ e
+      ∙ ap (λ k. Some k) (sym (same_kind s.base s.cs s.ds s.asked stage [])));
+}
+
+final_potential : (s : Two) (stage n listed : ℕ) → HasFinalPotential (here s) s.a stage n listed
+    → HasFinalPotential (there s) s.b stage n listed
+final_potential s stage n listed h =
+    let m = matching s stage n h.node h.is in record {
+      node = m.other;
+      is = m.is;
+      final = subst (λ k. IsTrue (is_final (there s) k)) m.told h.final;
+      listed_is = h.listed_is ∙ m.potential;
+      differs = h.differs;
+    }
+
+-- what is said of the moves of a kind of one node is said of the node that matches it
+abbrev kind_at : Problem → ℕ → Node → PrefixKind
+kind_at problem stage node = kind_of_bits problem stage node.kind
+
+kept_there : (s : Two) (stage n : ℕ) (node : Node) (m : Matches s stage n node) (column : List Sym)
+    → IsKeptBelow (here s) s.a.stages.items stage (kind_at (here s) stage node) column
+    → IsKeptBelow (there s) s.b.stages.items stage (kind_at (there s) stage m.other) column
+kept_there s stage n node m column kept =
+    subst (λ k. IsKeptBelow (there s) s.b.stages.items stage k column) m.told
+    (is_kept s stage (kind_at (here s) stage node) column kept)
+
+target_there : (s : Two) (stage n : ℕ) (node : Node) (m : Matches s stage n node) (column : List Sym)
+    → moved (here s) stage (kind_at (here s) stage node) column
+    ≡ moved (there s) stage (kind_at (there s) stage m.other) column
+target_there s stage n node m column =
+    move s stage (kind_at (here s) stage node) column ∙ ap (λ k. moved (there s) stage k column) m.told
+
+tells : (s : Two) (stage : ℕ) (kind : Kind) (k l : PrefixKind) → k ≡ l → TellsKind (here s) stage kind k
+    → TellsKind (there s) stage kind l
+tells s stage kind k l e t = record {
+  tells = sym (same_told s stage kind) ∙ t.tells ∙ e;
+  opened = t.opened;
+  stretches = subst (λ n. AreStretchesBelow n kind) (same_stretch_count s.base s.cs s.ds s.asked stage) t.stretches;
+}
+
+not_closed : (s : Two) (stage n : ℕ) (column : List Sym) (missing : Kind)
+    → IsNotClosed (here s) s.a stage n column missing → IsNotClosed (there s) s.b stage n column missing
+not_closed s stage n column missing h =
+    let m = matching s stage n h.node h.is in
+    let target = target_there s stage n h.node m column in record {
+      node = m.other;
+      is = m.is;
+      kept = kept_there s stage n h.node m column h.kept;
+      leads = tells s stage missing _ _ target h.leads;
+      unlisted = λ p l. h.unlisted p (subst (λ k. Lists (here s) s.a.stages.items stage k p) (sym target)
+          (lists (turned s) stage (moved (there s) stage (kind_at (there s) stage m.other) column) p l));
+    }
+
+high_potential : (s : Two) (stage n : ℕ) (column : List Sym) (listed allowed : ℕ)
+    → HasHighPotential (here s) s.a stage n column listed allowed
+    → HasHighPotential (there s) s.b stage n column listed allowed
+high_potential s stage n column listed allowed h =
+    let m = matching s stage n h.node h.is in record {
+      node = m.other;
+      is = m.is;
+      kept = kept_there s stage n h.node m column h.kept;
+      next = h.next;
+      leads = subst (λ k. Lists (there s) s.b.stages.items stage k h.next) (target_there s stage n h.node m column)
+          (lists s stage (moved (here s) stage (kind_at (here s) stage h.node) column) h.next h.leads);
+      listed_is = h.listed_is ∙ m.potential;
+      allowed_is = h.allowed_is ∙ ap (λ c. c + h.next) (cost s stage (kind_at (here s) stage h.node) column
+          ∙ ap (λ k. cost_of (there s) stage k column) m.told);
+      above = h.above;
+    }
+
+wrong_start : (s : Two) (stage listed count : ℕ) → HasWrongStart s.a stage listed count
+    → HasWrongStart s.b stage listed count
+wrong_start s stage listed count h =
+    let m = matching s stage 0 h.node h.is in record {
+      node = m.other;
+      is = m.is;
+      listed_is = h.listed_is ∙ m.potential;
+      count_is = h.count_is ∙ ap (λ counts. start_potential counts stage) s.seen.counts;
+      differs = h.differs;
+    }
+
+-- ---- the automaton
+
+abbrev StateSeen : Type 0
+StateSeen = ℕ × Bool × List (ℕ × List ℕ)
+
+same_numbers : (s : Two) → numbers_of s.a.automaton.states.items ≡ numbers_of s.b.automaton.states.items
+same_numbers s =
+    sym (map-map (λ (v : StateSeen). v.0) state_seen s.a.automaton.states.items)
+    ∙ ap (map (λ (v : StateSeen). v.0)) s.seen.states
+    ∙ map-map (λ (v : StateSeen). v.0) state_seen s.b.automaton.states.items
+
+-- a state of the other answer that is seen as the same
+record Pairs (s : Two) (state : ℕ) (line : StateLine) : Type 0 where
+  other : StateLine
+  is : HasState s.b state other
+  mark : line.accepting ≡ other.accepting
+  arcs : map arc_seen line.arcs.items ≡ map arc_seen other.arcs.items
+
+pairing : (s : Two) (state : ℕ) (line : StateLine) → HasState s.a state line → Pairs s state line
+pairing s state line h =
+    let found = member state_seen s.a.automaton.states.items s.b.automaton.states.items s.seen.states line h.listed
+    in record {
+      other = found.0;
+      is = record { listed = found.1.0; numbered = ap (λ (v : StateSeen). v.0) found.1.1 ∙ h.numbered };
+      mark = sym (ap (λ (v : StateSeen). v.1) found.1.1);
+      arcs = sym (ap (λ (v : StateSeen). v.2) found.1.1);
+    }
+
+holds : (x y : ArcLine) (column : List Sym) → arc_seen y ≡ arc_seen x → IsTrue (has x.class column)
+    → IsTrue (has y.class column)
+holds x y column e h = subst (λ sets. IsTrue (sets_have sets column)) (sym (ap (λ (v : ℕ × List ℕ). v.1) e)) h
+
+lacks_target : (s : Two) (state arc target : ℕ) → LacksTarget s.a state arc target → LacksTarget s.b state arc target
+lacks_target s state arc target h =
+    let m = pairing s state h.line h.is in
+    let found = at_number arc_seen h.line.arcs.items m.other.arcs.items m.arcs arc h.arc_line h.numbered in record {
+      line = m.other;
+      is = m.is;
+      arc_line = found.0;
+      numbered = found.1.0;
+      target_is = h.target_is ∙ sym (ap (λ (v : ℕ × List ℕ). v.0) found.1.1);
+      lacks = λ i. h.lacks (subst (λ ns. Contains ns target) (sym (same_numbers s)) i);
+    }
+
+lacks_state : (s : Two) (state target : ℕ) (place : List ℕ) → LacksState s.a state target place
+    → LacksState s.b state target place
+lacks_state s state target place (inl h) =
+    inl (h.0, h.1, (λ i. h.2 (subst (λ ns. Contains ns 0) (sym (same_numbers s)) i)), h.3)
+lacks_state s state target place (inr h) = inr (h.0, (lacks_target s state h.0 target h.1.0, h.1.1))
+
+node_of : (s : Two) (n : ℕ) (k : PrefixKind) → IsKindOfState (here s) s.a n k → IsKindOfState (there s) s.b n k
+node_of s n k h =
+    let last : ℕ = last_stage (here s) in
+    let found = at_number (node_seen (here s) last) (nodes_at s.a.stages.items last) (nodes_at s.b.stages.items last)
+    (s.seen.nodes last) n h.node h.numbered in
+    let told : kind_of_bits (there s) last found.0.kind ≡ k = sym (same_told s last found.0.kind)
+    ∙ ap (λ (v : PrefixKind × ℕ). v.0) found.1.1 ∙ h.tells in record {
+      node = found.0;
+      numbered = subst (λ r. slice_get (nodes_at s.b.stages.items r) n ≡ Some found.0) (same_stage s) found.1.0;
+      tells = subst (λ r. kind_of_bits (there s) r found.0.kind ≡ k) (same_stage s) told;
+    }
+
+wrong_mark : (s : Two) (state : ℕ) (listed : Bool) → HasWrongMark (here s) s.a state listed
+    → HasWrongMark (there s) s.b state listed
+wrong_mark s state listed h =
+    let m = pairing s state h.line h.is in record {
+      line = m.other;
+      is = m.is;
+      kind = h.kind;
+      of_kind = node_of s state h.kind h.of_kind;
+      listed_is = h.listed_is ∙ m.mark;
+      differs = h.differs;
+    }
+
+twice : (s : Two) (state : ℕ) (column : List Sym) → HasTwice s.a state column → HasTwice s.b state column
+twice s state column h =
+    let m = pairing s state h.line h.is in
+    let first = at_number arc_seen h.line.arcs.items m.other.arcs.items m.arcs h.first h.first_arc h.first_is in
+    let second = at_number arc_seen h.line.arcs.items m.other.arcs.items m.arcs h.second h.second_arc h.second_is
+    in record {
+      line = m.other;
+      is = m.is;
+      first = h.first;
+      second = h.second;
+      ascending = h.ascending;
+      first_arc = first.0;
+      first_is = first.1.0;
+      second_arc = second.0;
+      second_is = second.1.0;
+      in_first = holds h.first_arc first.0 column first.1.1 h.in_first;
+      in_second = holds h.second_arc second.0 column second.1.1 h.in_second;
+    }
+
+listed_target : (xs ys : List ArcLine) → map arc_seen xs ≡ map arc_seen ys → (column : List Sym) (target : Option ℕ)
+    → IsListedTarget xs column target → IsListedTarget ys column target
+listed_target xs ys e column None h = λ y in_ys held.
+    let found = member arc_seen ys xs (sym e) y in_ys in
+    h found.0 found.1.0 (holds y found.0 column found.1.1 held)
+listed_target xs ys e column (Some m) h =
+    let found = member arc_seen xs ys e h.0 h.1.0 in
+    (
+      found.0,
+      (found.1.0, holds h.0 found.0 column found.1.1 h.1.1, ap (λ (v : ℕ × List ℕ). v.0) found.1.1 ∙ h.1.2),
+    )
+
+kept_at_end : (s : Two) (k : PrefixKind) (column : List Sym)
+    → IsKeptBelow (here s) s.a.stages.items (last_stage (here s) + 1) k column
+    → IsKeptBelow (there s) s.b.stages.items (last_stage (there s) + 1) k column
+kept_at_end s k column kept =
+    subst (λ r. IsKeptBelow (there s) s.b.stages.items (r + 1) k column) (same_stage s)
+    (is_kept s (last_stage (here s) + 1) k column kept)
+
+kept_target : (s : Two) (k : PrefixKind) (column : List Sym) (target : Option ℕ)
+    → IsKeptTarget (here s) s.a k column target → IsKeptTarget (there s) s.b k column target
+kept_target s k column None h = λ kept. h (kept_at_end (turned s) k column kept)
+kept_target s k column (Some m) h =
+    (
+      kept_at_end s k column h.0,
+      subst (IsKindOfState (there s) s.b m)
+          (move s (last_stage (here s)) k column
+          ∙ ap (λ r. moved (there s) r k column) (same_stage s))
+          (node_of s m (moved (here s) (last_stage (here s)) k column) h.1),
+    )
+
+wrong_arcs : (s : Two) (state : ℕ) (column : List Sym) (listed kept : Option ℕ)
+    → HasWrongArcs (here s) s.a state column listed kept → HasWrongArcs (there s) s.b state column listed kept
+wrong_arcs s state column listed kept h =
+    let m = pairing s state h.line h.is in record {
+      line = m.other;
+      is = m.is;
+      kind = h.kind;
+      of_kind = node_of s state h.kind h.of_kind;
+      listed_is = listed_target h.line.arcs.items m.other.arcs.items m.arcs column listed h.listed_is;
+      kept_is = kept_target s h.kind column kept h.kept_is;
+      differs = h.differs;
+    }
+
+-- ---- all faults
+
+fault_there : (s : Two) (fault : Fault) (place : List ℕ) → IsFault (here s) s.a fault place
+    → IsFault (there s) s.b fault place
+fault_there s FormWrong place f = (f.0, f.1)
+fault_there s (StageMissing listed wanted) place f = (lacks_stage s listed wanted f.0, f.1)
+fault_there s ExampleWrong place f = ((λ c. f.0 (candidate (turned s) c)), f.1)
+fault_there s (CountsDiffer constraint listed counted) place f = (wrong_count s constraint listed counted f.0, f.1)
+fault_there s (NodeWrong stage node) place f = (wrong_node s stage node f.0, f.1)
+fault_there s (StartMissing stage) place f = (lacks_start s stage f.0, f.1)
+fault_there s (FinalPotential stage node listed) place f = (final_potential s stage node listed f.0, f.1)
+fault_there s (NotClosed stage node missing) place f = (f.0, (not_closed s stage node f.0 missing f.1.0, f.1.1))
+fault_there s (Potential stage node listed allowed) place f =
+    (f.0, (high_potential s stage node f.0 listed allowed f.1.0, f.1.1))
+fault_there s (StartPotential stage listed count) place f = (wrong_start s stage listed count f.0, f.1)
+fault_there s (StateMissing state target) place f = lacks_state s state target place f
+fault_there s (FinalsDiffer state listed) place f = (wrong_mark s state listed f.0, f.1)
+fault_there s (ArcsTwice state column) place f = (twice s state column f.0, f.1)
+fault_there s (ArcsDiffer state column listed kept) place f = (wrong_arcs s state column listed kept f.0, f.1)
+
+-- ---- any two problems that are asked alike
+
+abbrev two : (base : Problem) (cs ds : List Constraint) → map constraint_seen cs ≡ map constraint_seen ds
+    → (a b : Answer) → AreSeenAlike (with_constraints base cs) a b → Two
+two base cs ds asked a b seen = record { base = base; cs = cs; ds = ds; asked = asked; a = a; b = b; seen = seen }
+
+asked_back : (p q : Problem) → AreAskedAlike p q → AreAskedAlike q p
+asked_back p q alike =
+    record { tiers = sym alike.tiers; constraints = sym alike.constraints; form = sym alike.form }
+
+module _ (a b : Answer) where
+  faults : (p q : Problem) → AreAskedAlike p q → AreSeenAlike p a b → (fault : Fault) (place : List ℕ)
+      → IsFault p a fault place → IsFault q b fault place
+  faults = by_alike
+      (λ p q. AreSeenAlike p a b → (fault : Fault) (place : List ℕ) → IsFault p a fault place
+      → IsFault q b fault place)
+      (λ base cs ds asked seen. fault_there (two base cs ds asked a b seen))
+
+  seen_back : (p q : Problem) → AreAskedAlike p q → AreSeenAlike p a b → AreSeenAlike q b a
+  seen_back = by_alike (λ p q. AreSeenAlike p a b → AreSeenAlike q b a)
+      (λ base cs ds asked seen. (turned (two base cs ds asked a b seen)).seen)
+
+pub same_faults : (p q : Problem) (a b : Answer) → AreAskedAlike p q → AreSeenAlike p a b → (fault : Fault)
+    (place : List ℕ) → IsFault p a fault place ↔ IsFault q b fault place
+same_faults p q a b alike seen fault place =
+    (
+      faults a b p q alike seen fault place,
+      faults b a q p (asked_back p q alike) (seen_back a b p q alike seen) fault place,
+    )
+
+pub same_first : (p q : Problem) (a b : Answer) → AreAskedAlike p q → AreSeenAlike p a b → (fault : Fault)
+    → IsFirstFault p a fault → IsFirstFault q b fault
+same_first p q a b alike seen fault f = record {
+  place = f.place;
+  is = (same_faults p q a b alike seen fault f.place).0 f.is;
+  first = λ other before is. f.first other before ((same_faults p q a b alike seen other before).1 is);
+}
+
+verdict_there : (p q : Problem) (a b : Answer) → AreAskedAlike p q → AreSeenAlike p a b → (verdict : Verdict)
+    → IsVerdict p a verdict → IsVerdict q b verdict
+verdict_there p q a b alike seen Yes v = λ fault place f. v fault place
+    ((same_faults p q a b alike seen fault place).1 f)
+verdict_there p q a b alike seen (No fault) v = same_first p q a b alike seen fault v
+
+pub same_verdict : (p q : Problem) (a b : Answer) → AreAskedAlike p q → AreSeenAlike p a b → (verdict : Verdict)
+    → IsVerdict p a verdict ↔ IsVerdict q b verdict
+same_verdict p q a b alike seen verdict =
+    (
+      verdict_there p q a b alike seen verdict,
+      verdict_there q p b a (asked_back p q alike) (seen_back a b p q alike seen) verdict,
+    )

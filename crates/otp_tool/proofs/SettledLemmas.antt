@@ -1,0 +1,187 @@
+-- The bytes of an answer settle the verdict: whatever answer they are read as is seen alike.
+use Rattle.std.proofs.Common.{◌≡◌, ℕ, zero, suc, ◌+◌, ◌<◌, ◌≤◌, inl, inr, Bool, List, [], ◌∷◌, length, map, filter, take, get_or, Result, Ok, Err, refl, ap, ap₂, sym, ◌∙◌, arith}
+use Rattle.std.proofs.lemmas.Bool.{cases_order}
+use Rattle.std.proofs.lemmas.List.{get_or_past, length-map}
+use Rattle.std.proofs.lemmas.List.FromFn.{get_or-map-range_with_len}
+use Rattle.std.proofs.lemmas.Simd.{map-map}
+use Rattle.tier_core.specs.declared.shape.Shape.{Shape}
+use Rattle.tier_core.specs.Kinds.{PrefixKind, prefix_kind}
+use Rattle.tier_core.specs.KindShapes.{free_count, stretch_count}
+use Rattle.tier_core.specs.Sides.{is_stretch}
+use Rattle.tier_core.specs.Tiers.{Tiers}
+use Rattle.grammar_reader.specs.declared.grammar.Grammar.{Grammar}
+use Rattle.grammar_reader.specs.Grammars.{value_of}
+use Rattle.grammar_reader.specs.ShapeOf.{IsShapeOf}
+use Rattle.grammar_reader.proofs.Shaping.{length-stretch_counts}
+use Rattle.violation.specs.Prefixes.{stretches}
+use Rattle.violation.specs.Problems.{Problem}
+use Rattle.answer_text.specs.declared.stage.Node.{Node}
+use Rattle.answer_text.specs.declared.stage.Stage.{Stage}
+use Rattle.answer_text.specs.declared.automaton.StateLine.{StateLine}
+use Rattle.answer_text.specs.declared.answer.Answer.{Answer}
+use Rattle.answer_text.specs.Readable.{IsReadable}
+use Rattle.answer_text.specs.Right.{nodes_at}
+use Rattle.answer_text.specs.Text.{Widths}
+use Rattle.answer_reader.specs.Reading.{IsTextOf}
+use Rattle.answer_reader.specs.Steps.{At}
+use Rattle.answer_reader.specs.Values.{AnswerValue, ArcValue, NodeValue, StateValue, answer_value, arc_value, node_value, stage_values, state_value}
+use Rattle.cert_check.specs.FirstFaults.{asked_by}
+use Rattle.cert_check.specs.Seen.{AreAskedAlike, AreSeenAlike, node_seen, state_seen}
+use Rattle.cert_check.specs.Verdicts.{IsVerdict}
+use Rattle.cert_check.specs.declared.fault.Verdict.{Verdict}
+use Rattle.cert_check.proofs.FaultsSeen.{same_verdict}
+use Rattle.otp_tool.specs.Answers.{IsAskedBy, IsSettled, IsShapeFor}
+use Rattle.otp_tool.proofs.GrammarLemmas.{same_tiers}
+use Rattle.otp_tool.proofs.ShapesAlike.{AreAlike, map_alike, same_reading, shapes_alike}
+use Rattle.otp_tool.proofs.StepLemmas.{same_shape_widths, same_width}
+
+pub shape_for : (g : Grammar) (shape : Shape) → IsShapeOf g shape → IsShapeFor (value_of g) shape
+shape_for g shape s = record {
+  constraints = g.constraints.items;
+  seen = refl;
+  width = s.width ∙ sym (same_width g);
+  inputs = s.inputs ∙ ap (λ (tiers : Tiers). tiers.input) (sym (same_tiers g));
+  phases = s.phases;
+}
+
+-- ---- the values of stages
+
+values_length : (shape : Shape) (n : ℕ) (stages : List Stage) → length (stage_values shape n stages) ≡ length stages
+values_length shape n [] = refl
+values_length shape n (stage ∷ stages) = ap suc (values_length shape (n + 1) stages)
+
+-- a stage behind the last has no nodes
+no_nodes : (stages : List Stage) (r : ℕ) → length stages ≤ r → nodes_at stages r ≡ []
+no_nodes stages r past = get_or_past (map (λ (stage : Stage). stage.nodes.items) stages) r []
+    (omega (arith, length-map stages (λ (stage : Stage). stage.nodes.items), past))
+
+value_at : (shape : Shape) (n : ℕ) (stages : List Stage) (r : ℕ)
+    → get_or (stage_values shape n stages) r [] ≡ map (node_value shape (n + r)) (nodes_at stages r)
+value_at shape n [] r =
+    get_or_past [] r [] (omega arith) ∙ ap (map (node_value shape (n + r))) (sym (no_nodes [] r (omega arith)))
+value_at shape n (stage ∷ stages) zero = ap (λ m. map (node_value shape m) stage.nodes.items) (omega arith)
+value_at shape n (stage ∷ stages) (suc r) =
+    value_at shape (n + 1) stages r ∙ ap (λ m. map (node_value shape m) (nodes_at stages r)) (omega arith)
+
+-- ---- nodes and states by what is seen of them
+
+abbrev by_numbers : ℕ → ℕ → Node → PrefixKind × ℕ
+by_numbers free stretches node = (prefix_kind free stretches node.kind, node.potential)
+
+abbrev pair_of : NodeValue → PrefixKind × ℕ
+pair_of v = (v.kind, v.potential)
+
+-- the nodes of a stage, from their values
+nodes_by : (shape : Shape) (r : ℕ) (nodes : List Node)
+    → map pair_of (map (node_value shape r) nodes) ≡ map (by_numbers (free_count shape) (stretch_count shape r)) nodes
+nodes_by shape r nodes = map-map pair_of (node_value shape r) nodes
+
+abbrev arc_of : ArcValue → ℕ × List ℕ
+arc_of v = (v.target, v.sets)
+
+abbrev StateSeen : Type 0
+StateSeen = ℕ × Bool × List (ℕ × List ℕ)
+
+abbrev state_of : StateValue → StateSeen
+state_of v = (v.node, v.accepting, map arc_of v.arcs)
+
+states_by : (states : List StateLine) → map state_of (map state_value states) ≡ map state_seen states
+states_by states = map-map state_of state_value states
+    ∙ map_alike (λ state. state_of (state_value state)) state_seen states (λ state.
+    ap (λ (arcs : List (ℕ × List ℕ)). (state.node, state.accepting, arcs)) (map-map arc_of arc_value state.arcs.items))
+
+-- ---- two readings
+
+abbrev value_in : Result AnswerValue At → AnswerValue → AnswerValue
+value_in (Ok value) other = value
+value_in (Err at) other = other
+
+module _ (g : Grammar) (bytes : List ℕ) (shape : Shape) (of_grammar : IsShapeOf g shape) (answer : Answer)
+    (read : IsTextOf shape bytes (answer_value shape answer)) (readable : IsReadable shape answer) where
+  abbrev problem : Problem
+  problem = asked_by g answer
+
+  -- a stage that may be listed has as many stretch implications in the shape as in the problem
+  stretch_told : (r : ℕ) → r < length answer.stages.items → stretch_count shape r ≡ length (stretches problem r)
+  stretch_told r within =
+      let few : r < length g.constraints.items + 1 = omega (arith, within, readable.few_stages,
+      ap length of_grammar.phases, length-stretch_counts g.constraints.items) in
+      ap (λ ns. get_or ns r 0) of_grammar.phases
+      ∙ get_or-map-range_with_len (λ i. length (filter is_stretch (take i g.constraints.items))) 0
+      (length g.constraints.items + 1) r r 0 few (omega arith)
+
+  free_told : free_count shape ≡ length problem.tiers.free
+  free_told = ap (λ (w : Widths). w.free) (same_shape_widths g shape of_grammar answer.form)
+
+  module _ (other : Answer) (form_shape : Shape) (for : IsShapeFor (value_of g) form_shape)
+      (also : IsTextOf form_shape bytes (answer_value form_shape other)) where
+    alike : AreAlike shape form_shape
+    alike = shapes_alike (value_of g) shape form_shape (shape_for g shape of_grammar) for
+
+    same_value : answer_value shape answer ≡ answer_value form_shape other
+    same_value = ap (λ r. value_in r (answer_value shape answer))
+        (sym read ∙ same_reading shape form_shape alike bytes ∙ also)
+
+    same_stages : stage_values shape 0 answer.stages.items ≡ stage_values form_shape 0 other.stages.items
+    same_stages = ap (λ (v : AnswerValue). v.stages) same_value
+
+    stages_long : length answer.stages.items ≡ length other.stages.items
+    stages_long = sym (values_length shape 0 answer.stages.items) ∙ ap length same_stages
+        ∙ values_length form_shape 0 other.stages.items
+
+    stage_seen : (r : ℕ) → r < length answer.stages.items
+        → map (node_seen problem r) (nodes_at answer.stages.items r)
+        ≡ map (node_seen problem r) (nodes_at other.stages.items r)
+    stage_seen r within =
+        let values = sym (value_at shape 0 answer.stages.items r) ∙ ap (λ vs. get_or vs r []) same_stages
+        ∙ value_at form_shape 0 other.stages.items r in
+        let free : free_count form_shape ≡ length problem.tiers.free =
+        sym (ap₂ (λ (w i : ℕ). w - i) alike.width alike.inputs) ∙ free_told in
+        let count : stretch_count form_shape r ≡ length (stretches problem r) =
+        sym (ap (λ ns. get_or ns r 0) alike.phases) ∙ stretch_told r within in
+        ap₂ (λ m n. map (by_numbers m n) (nodes_at answer.stages.items r)) (sym free_told) (sym (stretch_told r within))
+        ∙ sym (nodes_by shape r (nodes_at answer.stages.items r))
+        ∙ ap (map pair_of) values
+        ∙ nodes_by form_shape r (nodes_at other.stages.items r)
+        ∙ ap₂ (λ m n. map (by_numbers m n) (nodes_at other.stages.items r)) free count
+
+    nodes_seen : (r : ℕ) → map (node_seen problem r) (nodes_at answer.stages.items r)
+        ≡ map (node_seen problem r) (nodes_at other.stages.items r)
+    nodes_seen r = elim (cases_order r (length answer.stages.items)) [
+      | inl e ↦ beyond (omega (arith, e))
+      | inr more ↦ elim more [
+        | inl less ↦ stage_seen r less
+        | inr past ↦ beyond (omega (arith, past))
+      ]
+    ]
+      where
+        beyond : length answer.stages.items ≤ r → map (node_seen problem r) (nodes_at answer.stages.items r)
+            ≡ map (node_seen problem r) (nodes_at other.stages.items r)
+        beyond past = ap (map (node_seen problem r)) (no_nodes answer.stages.items r past
+            ∙ sym (no_nodes other.stages.items r (omega (arith, past, stages_long))))
+
+    seen_alike : AreSeenAlike problem answer other
+    seen_alike = record {
+      form = ap (λ (v : AnswerValue). v.form) same_value;
+      counts = ap (λ (v : AnswerValue). v.counts) same_value;
+      example = ap (λ (v : AnswerValue). v.example) same_value;
+      stages = stages_long;
+      nodes = nodes_seen;
+      states = sym (states_by answer.automaton.states.items)
+          ∙ ap (λ (v : AnswerValue). map state_of v.states) same_value
+          ∙ states_by other.automaton.states.items;
+    }
+
+    asked_alike : (asks : Problem) → IsAskedBy (value_of g) other asks → AreAskedAlike problem asks
+    asked_alike asks is = record {
+      tiers = sym (same_tiers g) ∙ sym is.tiers;
+      constraints = sym is.constraints;
+      form = seen_alike.form ∙ sym is.form;
+    }
+
+  -- the verdict on what is read is the one on whatever the bytes are read as
+  pub settled_by : (verdict : Verdict) → IsVerdict problem answer verdict → IsSettled (value_of g) bytes verdict
+  settled_by verdict v = λ other asks reading.
+      (same_verdict problem asks answer other
+      (asked_alike other reading.shape reading.of_grammar reading.read asks reading.is_asked)
+      (seen_alike other reading.shape reading.of_grammar reading.read) verdict).0 v

@@ -302,7 +302,7 @@ try "answer of another grammar" 6 "answer word 2 line 3: BadLine" check base.otp
 head -c 268435457 /dev/zero > long.answer
 try "long answer" 12 "too long word 2" check base.otp long.answer
 rm -f long.answer
-try "word that is no text" 15 "" generate base.otp "$(printf '\377')"
+try "word that is not text" 15 "" generate base.otp "$(printf '\377')"
 
 # the slips of docs/TROUBLE.md: slip NAME CAUSE TEXT, a file of that text that is refused so
 slip() {

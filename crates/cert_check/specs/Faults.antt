@@ -31,7 +31,7 @@ pub record LacksStage (problem : Problem) (answer : Answer) (listed wanted : ℕ
   pub listed_is : (listed ≡ length answer.stages.items) ⊎
       ((length answer.stages.items ≡ wanted) × (listed ≡ length answer.counts.items + 1))
 
--- The example is no candidate of the form.
+-- The example is not a candidate of the form.
 abbrev pub HasWrongExample : Problem → Answer → Type 0
 HasWrongExample problem answer = IsCandidate problem answer.example → ⊥
 
@@ -48,7 +48,7 @@ pub record HasNode (answer : Answer) (stage n : ℕ) (node : Node) : Type 0 wher
   pub within : stage < length answer.stages.items
   pub numbered : slice_get (nodes_at answer.stages.items stage) n ≡ Some node
 
--- A node that stands where it may: its place is in the form, each phase is closed exactly where some
+-- A node that is in order: its place is in the form, each phase is closed exactly if some
 -- left tier is not open, it comes after the node before it, and from stage 1 on its cut is in the stage
 -- before.
 pub record IsInOrder (problem : Problem) (stages : List Stage) (stage n : ℕ) (k : PrefixKind) : Type 0 where
@@ -58,7 +58,7 @@ pub record IsInOrder (problem : Problem) (stages : List Stage) (stage n : ℕ) (
   pub cut_before : 1 ≤ stage → Contains (kinds_at problem (stage - 1) (nodes_at stages (stage - 1)))
       (cut problem (stage - 1) k)
 
--- A node does not stand where it may.
+-- A node is not in order.
 pub record HasWrongNode (problem : Problem) (answer : Answer) (stage n : ℕ) : Type 0 where
   pub node : Node
   pub is : HasNode answer stage n node
@@ -133,7 +133,7 @@ pub record HasState (answer : Answer) (n : ℕ) (state : StateLine) : Type 0 whe
 abbrev pub IsKindOfState : Problem → Answer → ℕ → PrefixKind → Type 0
 IsKindOfState problem answer n k = IsNodeOf problem (nodes_at answer.stages.items (last_stage problem)) n k
 
--- An arc of a state, which is counted from 0, leads to a node that is no state.
+-- An arc of a state, which is counted from 0, leads to a node that is not a state.
 pub record LacksTarget (answer : Answer) (state arc target : ℕ) : Type 0 where
   pub line : StateLine
   pub is : HasState answer state line
@@ -165,13 +165,13 @@ pub record HasTwice (answer : Answer) (state : ℕ) (column : List Sym) : Type 0
   pub in_first : IsTrue (has first_arc.class column)
   pub in_second : IsTrue (has second_arc.class column)
 
--- the target that a list of arcs has on a column; none where no arc holds it
+-- the target that a list of arcs has on a column; none if no arc holds it
 abbrev pub IsListedTarget : List ArcLine → List Sym → Option ℕ → Type 0
 IsListedTarget arcs column (Some m) = (arc : ArcLine) ×
     (Contains arcs arc × IsTrue (has arc.class column) × (arc.target ≡ m))
 IsListedTarget arcs column None = (arc : ArcLine) → Contains arcs arc → IsTrue (has arc.class column) → ⊥
 
--- the node to which the move on a column leads that is kept at the end; none where no move is kept
+-- the node to which the move on a column leads that is kept at the end; none if no move is kept
 abbrev pub IsKeptTarget : Problem → Answer → PrefixKind → List Sym → Option ℕ → Type 0
 IsKeptTarget problem answer k column (Some m) =
     IsKeptBelow problem answer.stages.items (last_stage problem + 1) k column × IsKindOfState problem answer m

@@ -12,7 +12,7 @@ use Rattle.cert_check.specs.declared.fault.Fault.TheVariants.{FormWrong, StageMi
 use Rattle.cert_check.specs.Places.{IsBefore, at_form, at_stages, at_example, at_count, at_node, at_start, at_final, at_move, at_start_potential, at_first_state, at_target, at_mark, at_twice, at_arcs}
 use Rattle.cert_check.specs.Faults.{HasWrongForm, LacksStage, HasWrongExample, HasWrongCount, HasWrongNode, LacksStart, HasFinalPotential, IsNotClosed, HasHighPotential, HasWrongStart, IsState, LacksTarget, HasWrongMark, HasTwice, HasWrongArcs}
 
--- Node 0 is no state, or an arc of a state leads to a node that is none.
+-- Node 0 is not a state, or an arc of a state leads to a node that is not one.
 abbrev pub LacksState : Answer → ℕ → ℕ → List ℕ → Type 0
 LacksState answer state target place =
     ((state ≡ 0) × (target ≡ 0) × (IsState answer 0 → ⊥) × (place ≡ at_first_state))

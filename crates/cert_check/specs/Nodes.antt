@@ -45,7 +45,7 @@ abbrev pub IsNotAfter : Class → Class → Type 0
 IsNotAfter class other = IsBefore (column_place (first_column other)) (column_place (first_column class)) → ⊥
 
 -- Of the first classes of a list, one with wrong moves is chosen whose least column comes first: on
--- each of them nothing is wrong, or its least column does not come before that of the chosen one. Where
+-- each of them nothing is wrong, or its least column does not come before that of the chosen one. If
 -- the chosen number is that of all classes, none is chosen.
 pub record IsLeastWrong (problem : Problem) (answer : Answer) (stage node : ℕ) (classes : List Class)
     (count best : ℕ) : Type 0 where

@@ -15,7 +15,7 @@ is_open_before u (suc place) input = opens (symbol (column_at u place) input)
 abbrev pub inputs_before : List TierKind → ℕ → ℕ
 inputs_before kinds tier = length (filter is_input (take tier kinds))
 
--- Whether a tier is open: an input tier at this place of the form, and a free tier where its bit is set.
+-- Whether a tier is open: an input tier at this place of the form, and a free tier if its bit is set.
 abbrev pub is_open_by : List TierKind → List (List Sym) → ℕ → ℕ → ℕ → Bool
 is_open_by kinds u place opened tier =
     if is_input (kind_at kinds tier) then is_open_before u place (inputs_before kinds tier)

@@ -25,7 +25,7 @@ InNode problem answer stage node (suc zero) rest = (column : List Sym) ×
     (IsWrongMove problem answer stage node column × (rest ≡ column_place column))
 InNode problem answer stage node (suc (suc n)) rest = ⊥
 
--- in a stage: where the nodes stand, the start, each node, and the start's potential
+-- in a stage: the order of the nodes, the start, each node, and the start's potential
 abbrev pub InStage : Problem → Answer → ℕ → ℕ → List ℕ → Type 0
 InStage problem answer stage zero rest = (node : ℕ) × (HasWrongNode problem answer stage node × (rest ≡ node ∷ []))
 InStage problem answer stage (suc zero) rest = LacksStart problem answer stage × (rest ≡ [])

@@ -1,4 +1,5 @@
--- Why a checker stops: by a fault of which this is said, or for want of memory, which says nothing.
+-- Why a checker stops: by a fault of which this is said, or because memory ran out, which says
+-- nothing.
 use Rattle.cert_check.specs.declared.fault.Fault.{Fault}
 use Rattle.cert_check.specs.declared.stop.Stop.{Stop}
 use Rattle.cert_check.specs.declared.stop.Stop.TheVariants.{Found, NoMemory}

@@ -40,7 +40,7 @@ AscendsAt s stage = IsStrictlySortedBy kind_order (kinds_of s stage)
 abbrev pub node_kind : Subject → ℕ → ℕ → PrefixKind
 node_kind s stage n = slice_index_or (kinds_of s stage) n (kind_of (problem_of s) stage [])
 
--- the first nodes of a stage stand where they may
+-- the first nodes of a stage are in order
 abbrev pub AreInOrder : Subject → ℕ → ℕ → Type 0
 AreInOrder s stage count = (n : ℕ) → n < count
     → IsInOrder (problem_of s) s.answer.now.stages.items stage n (node_kind s stage n)

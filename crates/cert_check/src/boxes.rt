@@ -14,11 +14,11 @@ use tier_core::{Class, Event, Part};
 pub(crate) enum Asked {
     /// An event of the type is present.
     Present,
-    /// None is.
+    /// No event of the type is present.
     Absent,
     /// The tier is open after the column.
     Open,
-    /// The tier is not open after the column, where the type is an interior.
+    /// The tier is not open after the column, if the type is an interior.
     NotInside,
     /// There is no edge.
     NoEdge,

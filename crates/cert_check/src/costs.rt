@@ -41,7 +41,7 @@ fn ends_overlap(mask: u32, left: &[Event], right: &[Event], column: &[Sym]) -> b
     are_open && (has_edge_among(column, left) || has_edge_among(column, right))
 }
 
-/// Whether a column costs 1 under a constraint, where the tiers of a mask are open before it, and the
+/// Whether a column costs 1 under a constraint, if the tiers of a mask are open before it, and the
 /// constraint's phase, if it has one, is unmet or not.
 fn costs(constraint: &Constraint, mask: u32, is_unmet: bool, column: &[Sym]) -> bool
     requires over { IsOverTiers (length column.now) constraint.now }

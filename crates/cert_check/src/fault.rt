@@ -12,7 +12,7 @@ pub enum Fault {
         listed: u32,
         wanted: u32,
     },
-    /// The example is no candidate of the form.
+    /// The example is not a candidate of the form.
     ExampleWrong,
     /// A count is not what the constraint counts on the example.
     CountsDiffer {
@@ -20,9 +20,9 @@ pub enum Fault {
         listed: u32,
         counted: u32,
     },
-    /// The place of a node is behind the form; a phase is closed and all left tiers are open, or
-    /// the other way round; the node does not come after the one before it; or, from stage 1 on,
-    /// its cut is no node of the stage before.
+    /// The place of a node is past the end of the form; a phase is closed although all left tiers are
+    /// open, or the other way round; the node does not come after the one before it; or, from stage 1
+    /// on, its cut is not a node of the stage before.
     NodeWrong {
         stage: u32,
         node: u32,
@@ -56,12 +56,12 @@ pub enum Fault {
         listed: u32,
         count: u32,
     },
-    /// Node 0 is no state, where both numbers are 0; or an arc leads to a node that is no state.
+    /// Node 0 is not a state, if both numbers are 0; or an arc leads to a node that is not a state.
     StateMissing {
         state: u32,
         target: u32,
     },
-    /// A state is marked as final where its kind is not final, or the other way round.
+    /// A state is marked as final although its kind is not final, or the other way round.
     FinalsDiffer {
         state: u32,
         listed: bool,
@@ -72,7 +72,7 @@ pub enum Fault {
         column: Column,
     },
     /// On a column the listed target is not that of the move that is kept at the end. It is the least
-    /// such column, and where there is no target, none is given.
+    /// such column. If there is no target, none is given.
     ArcsDiffer {
         state: u32,
         column: Column,

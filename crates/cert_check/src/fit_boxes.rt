@@ -11,7 +11,7 @@ use crate::boxes::all_columns;
 use symbol_class::narrowed;
 use tier_core::{Class, Sym, TierKind, alone, has_bit};
 
-/// The number of the set of the symbols that may come where a tier is open, or is not.
+/// The number of the set of the symbols that may come next on a tier that is open, or is not.
 fn coming(is_open: bool) -> u8
     ensures symbols { (s : Sym) → is_in result s ≡ fits is_open s }
     ensures few { result < 32 }
@@ -19,7 +19,7 @@ fn coming(is_open: bool) -> u8
     if is_open { 26 } else { 5 }
 }
 
-/// The class of the columns whose symbols may come where the tiers of a mask are open.
+/// The class of the columns whose symbols may come next if the tiers of a mask are open.
 pub(crate) fn coming_box(width: u32, mask: u32) -> Class
     requires some { 1 ≤ width }
     requires few { width ≤ 12 }

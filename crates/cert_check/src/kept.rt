@@ -88,7 +88,7 @@ fn kept_among(
 }
 
 /// The columns on which the move of a kind of a stage is kept below another stage, in pieces that lead
-/// to one kind and cost the same. It fails only for want of memory.
+/// to one kind and cost the same. Fails only if memory runs out.
 pub(crate) fn kept_pieces(
     alloc: Global,
     subject: &Subject,

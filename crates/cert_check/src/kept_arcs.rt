@@ -54,7 +54,7 @@ fn arcs_of(
     Ok(arcs)
 }
 
-/// The arcs that a state has where nothing is wrong with it.
+/// The arcs that a state has if nothing is wrong with it. Fails only if memory runs out.
 pub(crate) fn kept_arcs(
     alloc: Global,
     subject: &Subject,

@@ -28,7 +28,7 @@ fn lesser_of(best: Option<Column>, column: Column) -> Column
     }
 }
 
-/// The least column of some classes, of which none is empty; none if there is no class.
+/// The least column of some classes, none of which is empty; none if there is no class.
 pub(crate) fn least_of(alloc: Global, classes: &[Class]) -> Option<Column>
     requires { All (λ class. IsTrue (is_filled class)) classes.now }
     ensures { MatchOption result (IsNoColumn (some_has classes.now))

@@ -51,7 +51,7 @@ fn is_stretch_met(left: &[Event], right: &[Event], was_met: bool, column: &[Sym]
     (goes_on && (was_met || any_present(column, right))) || opens_some(column, right)
 }
 
-/// Whether a stretch implication is met after a column, where it was met before it or not.
+/// Whether a stretch implication is met after a column, if it was met before the column or was not.
 fn is_met_after(constraint: &Constraint, was_met: bool, column: &[Sym]) -> bool
     requires { IsOverTiers (length column.now) constraint.now }
     ensures { (phase : Phase) → was_met ≡ is_met_phase phase
@@ -65,7 +65,7 @@ fn is_met_after(constraint: &Constraint, was_met: bool, column: &[Sym]) -> bool
     is_stretch_met(left, constraint.right.as_slice(), was_met, column)
 }
 
-/// Whether a stretch implication is unmet after a column, where it was met before it or not.
+/// Whether a stretch implication is unmet after a column, if it was met before the column or was not.
 fn is_unmet_after(constraint: &Constraint, was_met: bool, column: &[Sym]) -> bool
     requires { IsOverTiers (length column.now) constraint.now }
     ensures { (phase : Phase) → was_met ≡ is_met_phase phase

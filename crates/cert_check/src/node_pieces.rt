@@ -11,7 +11,7 @@ use crate::uniform::parted_by_tests;
 use std::alloc::Global;
 use tier_core::{Class, Kind, NoMemory};
 
-/// The columns that fit a kind, in pieces. It fails only for want of memory.
+/// The columns that fit a kind, in pieces. Fails only if memory runs out.
 fn all_fitting(alloc: Global, subject: &Subject, kind: &Kind) -> Result<Vec<Class>, NoMemory>
     requires ready { IsReady subject.now }
     requires place { kind.now.place ≤ last_place (problem_of subject.now) }
@@ -25,7 +25,7 @@ fn all_fitting(alloc: Global, subject: &Subject, kind: &Kind) -> Result<Vec<Clas
     }
 }
 
-/// Tests that tell how columns go on up to a stage. It fails only for want of memory.
+/// Tests that tell how columns go on up to a stage. Fails only if memory runs out.
 fn all_tests(alloc: Global, subject: &Subject, stage: u32) -> Result<Vec<Class>, NoMemory>
     requires { stage ≤ last_stage (problem_of subject.now) }
     ensures { IfOk result (λ tests. TellStage (problem_of subject.now) stage tests.items) }

@@ -23,7 +23,7 @@ use answer_text::Node;
 use tier_core::{Kind, kind_cmp};
 
 /// Whether a kind may be that of a prefix: its place is in the form, and each phase is closed exactly
-/// where some left tier is not open.
+/// if some left tier is not open.
 fn is_possible(subject: &Subject, stage: u32, kind: &Kind) -> bool
     requires ready { IsReady subject.now }
     requires stage { stage ≤ last_stage (problem_of subject.now) }
@@ -80,7 +80,7 @@ fn has_cut_before(subject: &Subject, stage: u32, kind: &Kind) -> bool
     has_kind(subject, stage - 1, &cut)
 }
 
-/// Whether a node of a stage stands where it may.
+/// Whether a node of a stage is in order.
 fn is_in_order(subject: &Subject, stage: u32, nodes: &[Node], number: usize) -> bool
     requires ready { IsReady subject.now }
     requires stage { stage ≤ last_stage (problem_of subject.now) }
@@ -101,7 +101,7 @@ fn is_in_order(subject: &Subject, stage: u32, nodes: &[Node], number: usize) -> 
     has_cut_before(subject, stage, &kind)
 }
 
-/// Looks at where the nodes of a stage stand. It stops at the first that is wrong.
+/// Looks at the order of the nodes of a stage. It stops at the first that is wrong.
 pub(crate) fn check_order(subject: &Subject, stage: u32) -> Result<(), Stop>
     requires ready { IsReady subject.now }
     requires stage { stage ≤ last_stage (problem_of subject.now) }

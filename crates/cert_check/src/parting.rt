@@ -62,8 +62,8 @@ fn is_edge_among(left: &[Event], right: &[Event]) -> bool
     has_edge_type(left) || has_edge_type(right)
 }
 
-/// The one test of a constraint that is no stretch implication: whether it costs 1 on a column, if its
-/// tiers are open before it.
+/// The one test of a constraint that is not a stretch implication: whether it costs 1 on a column, if
+/// its tiers are open before it.
 fn only_test(width: u32, constraint: &Constraint) -> Class
     requires some { 1 ≤ width }
     requires few { width ≤ 12 }

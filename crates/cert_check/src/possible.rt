@@ -7,7 +7,7 @@ ghost use Rattle.cert_check.specs.Possible.{all_open_in};
 use crate::open::are_all_open;
 use tier_core::{Constraint, Kind, has_bit};
 
-/// Whether the phase of a stretch implication is closed exactly where some left tier is not in a mask.
+/// Whether the phase of a stretch implication is closed exactly if some left tier is not in a mask.
 fn is_phase_right(constraint: &Constraint, mask: u32, kind: &Kind, number: u32) -> bool
     requires { number < 32 }
     ensures { IsTrue result
@@ -17,7 +17,7 @@ fn is_phase_right(constraint: &Constraint, mask: u32, kind: &Kind, number: u32) 
     is_closed != are_all_open(mask, constraint.left.as_slice())
 }
 
-/// Whether each phase of the stretch implications among some constraints is closed exactly where some
+/// Whether each phase of the stretch implications among some constraints is closed exactly if some
 /// left tier is not in a mask.
 pub(crate) fn are_phases_right(constraints: &[Constraint], mask: u32, kind: &Kind) -> bool
     requires { length constraints.now ≤ 24 }

@@ -16,7 +16,7 @@ use crate::subject::Subject;
 use crate::tight::potential_at;
 use std::alloc::Global;
 
-/// Looks at each node of a stage, whose nodes stand where they may. It stops at the first fault.
+/// Looks at each node of a stage whose nodes are in order. It stops at the first fault.
 fn check_nodes(alloc: Global, subject: &Subject, stage: u32) -> Result<(), Stop>
     requires ready { IsReady subject.now }
     requires stage { stage ≤ last_stage (problem_of subject.now) }
@@ -75,7 +75,7 @@ fn check_start_potential(subject: &Subject, stage: u32) -> Result<(), Stop>
     Ok(())
 }
 
-/// Looks at a stage, where those before it are right. It stops at the first fault.
+/// Looks at a stage. Those before it are right. It stops at the first fault.
 pub(crate) fn check_stage(alloc: Global, subject: &Subject, stage: u32) -> Result<(), Stop>
     requires ready { IsReady subject.now }
     requires stage { stage ≤ last_stage (problem_of subject.now) }

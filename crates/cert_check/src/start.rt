@@ -30,7 +30,7 @@ fn is_start(subject: &Subject, stage: u32, kind: &Kind) -> bool
     kind_cmp(kind, &start, subject.shape, stage).is_eq()
 }
 
-/// Looks at node 0 of a stage, whose nodes stand where they may. It is the kind of the empty prefix.
+/// Looks at node 0 of a stage whose nodes are in order. It is the kind of the empty prefix.
 pub(crate) fn check_start(subject: &Subject, stage: u32) -> Result<(), Stop>
     requires ready { IsReady subject.now }
     requires stage { stage ≤ last_stage (problem_of subject.now) }

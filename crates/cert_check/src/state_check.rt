@@ -89,7 +89,8 @@ fn check_once(alloc: Global, subject: &Subject, state: &StateLine, node: &Node) 
     }
 }
 
-/// Compares the arcs of a state with the moves that are kept at the end, where no column is in two.
+/// Compares the arcs of a state, no two of which share a column, with the moves that are kept at the
+/// end.
 fn check_arcs(alloc: Global, subject: &Subject, state: &StateLine, node: &Node) -> Result<(), Stop>
     requires staged { IsStaged subject.now }
     requires at { IsStateAt subject.now state.now node.now }

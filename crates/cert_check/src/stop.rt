@@ -7,7 +7,7 @@ use tier_core::NoMemory;
 pub(crate) enum Stop {
     /// Something is wrong.
     Found(Fault),
-    /// Memory was wanting.
+    /// Memory ran out.
     NoMemory,
 }
 

@@ -38,7 +38,7 @@ fn check_all(alloc: Global, grammar: &Grammar, answer: &Answer) -> Result<(), St
 }
 
 /// What a checker says of an answer that is within the limits of what is read: No with the fault that
-/// comes first, and Yes where there is none. It fails only for want of memory.
+/// comes first, or Yes if there is none. Fails only if memory runs out.
 ///
 /// An answer that gets Yes is sound, whoever made it: its automaton accepts exactly the optimal
 /// candidates of its form, and its counts are the least. A right answer never gets No.

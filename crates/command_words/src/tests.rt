@@ -157,7 +157,7 @@ fn other_words_are_no_command(rt: HostRuntime) -> Result<(), Fail> {
     Ok(())
 }
 
-// Last words that are no budget.
+// Last words that are not a budget.
 #[test]
 fn other_budgets_are_no_command(rt: HostRuntime) -> Result<(), Fail> {
     let alloc = rt.alloc();

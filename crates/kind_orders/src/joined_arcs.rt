@@ -122,7 +122,7 @@ fn group_after(
     next_group(group, line)
 }
 
-/// The arcs of lines that are sorted by target, where the classes of the lines to one target are
+/// The arcs of lines that are sorted by target. The classes of the lines to one target are
 /// joined.
 pub(crate) fn joined_lines(alloc: Global, lines: &[ArcLine]) -> Result<Vec<ArcLine>, AllocError>
     requires pieces { ArePieces (width_of (classes_of lines.now)) (classes_of lines.now) }

@@ -66,7 +66,7 @@ struct Made {
     automaton: Automaton,
 }
 
-// What is made of three kinds of different places, where a table's one state stands for the second.
+// What is made of three kinds of different places, if a table's one state stands for the second.
 fn made_of(
     alloc: Global,
     shape: &Shape,

@@ -24,17 +24,17 @@ use Rattle.otp_tool.specs.Lexicons.{HasSurfaceWord, IsNoLexiconFile, IsNoSurface
 pub data Finding : Type 0 where
   -- the file of the grammar is longer than its limit
   long_file : Finding
-  -- the file is no grammar: its first line that has a cause, and the cause
+  -- the file is not a grammar: its first line that has a cause, and the cause
   no_grammar : ℕ → GrammarCause → Finding
   -- this word, which is to be a form, a timeline or a surface, is refused for a cause
   no_form : ℕ → FormErr → Finding
   -- the second file, which this word names, is longer than its limit
   long_second : ℕ → Finding
-  -- the second file is no rows file: its first line that has a cause, and the cause
+  -- the second file is not a rows file: its first line that has a cause, and the cause
   no_rows : ℕ → RowsCause → Finding
-  -- the second file is no lexicon, for a cause
+  -- the second file is not a lexicon, for a cause
   no_lexicon : LexErr → Finding
-  -- the second file is no answer: its first line that has a cause, and the cause
+  -- the second file is not an answer: its first line that has a cause, and the cause
   no_answer : ℕ → AnswerCause → Finding
   -- of this entry, which is 0 where there is one form, this stage is the first with more kinds than the budget
   over_budget : ℕ → ℕ → Finding

@@ -57,7 +57,7 @@ pub record IsLoaded (held : Option (List ℕ)) (g : GrammarValue) : Type 0 where
   pub holds : IsHeld held bytes
   pub file : IsFileOf bytes g
 
--- a file that is held is no grammar
+-- a file that is held is not a grammar
 pub record IsUnread (held : Option (List ℕ)) (line : ℕ) (cause : GrammarCause) : Type 0 where
   pub bytes : List ℕ
   pub holds : IsHeld held bytes
@@ -135,7 +135,7 @@ RefusesOnce problem budget =
 abbrev pub RefusesSurface : GrammarValue → List ℕ → Finding → Type 0
 RefusesSurface g word = IsOf (no_form 3) (IsNoSurface g word)
 
--- a file is no lexicon file
+-- a file is not a lexicon file
 abbrev pub RefusesLexicon : GrammarValue → List ℕ → Finding → Type 0
 RefusesLexicon g bytes = IsOf no_lexicon (IsNoLexiconFile g bytes)
 
@@ -149,7 +149,7 @@ abbrev pub RefusesAnswer : Shape → List ℕ → Finding → Type 0
 RefusesAnswer shape bytes =
     IsOf (λ (at : At). no_answer at.line at.cause) (λ at. answer_of shape bytes ≡ Err at)
 
--- a file is no rows file for a problem
+-- a file is not a rows file for a problem
 abbrev pub RefusesFile : Problem → List ℕ → Finding → Type 0
 RefusesFile problem bytes =
     IsOf (λ (at : ℕ × RowsCause). no_rows at.0 at.1) (λ at. IsNoRowsFile bytes at.0 at.1 problem)

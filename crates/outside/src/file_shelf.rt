@@ -104,7 +104,7 @@ fn read_whole<F: Read>(alloc: Global, file: &mut F, limit: u64) -> Result<Vec<u8
     Err(LoadErr::TooLong)
 }
 
-// Reads some bytes of a file. A failed read is a fault, and is never reported as want of memory.
+// Reads some bytes of a file. A failed read is a fault, and is never reported as lack of memory.
 fn read_some<F: Read>(file: &mut F, turn: &mut [u8]) -> Result<usize, LoadErr>
     ensures bound { ReadsAtMost result turn.new }
     ensures bytes { ReadConsumes (F.remaining file.old) (F.remaining file.new) result turn.new }

@@ -71,7 +71,7 @@ impl Shelf for MemShelf {
         ensures failed { result ≢ Err LoadErr.NoMemory → (result ≡ Err LoadErr.Failed)
             ↔ IsTrue (fails self.new name.now) }
 
-        // A fault is reported as want of memory only if there was none for its count.
+        // A fault is reported as lack of memory only if there was none for its count.
         ensures no_memory { result ≡ Err LoadErr.NoMemory → IsTrue (fails self.new name.now)
             → has_count self.new name.now ≡ false }
         ensures faults { faults_of self.new name.now

@@ -7,7 +7,7 @@ ghost use Rattle.answer_text.specs.Acceptance.{Accepts};
 ghost use Rattle.answer_text.specs.Right.{IsRight};
 ghost use Rattle.answer_text.specs.RightOnce.{IsRightOnce};
 
-/// A right answer of the stages and one of a single pass agree where both are for one problem: they
+/// A right answer of the stages and one of a single pass agree if both are for one problem: they
 /// accept the same timelines, and have the same counts and the same example.
 pub fn both_generators_agree()
     ensures accepts { (problem : Problem) (answer : Answer) (once : OnceAnswer)

@@ -35,7 +35,7 @@ struct Once {
     left: Left,
 }
 
-/// A weight that is found, and zeros where there is none.
+/// A weight that is found, or zeros if there is none.
 fn weight_found(weight: Option<Ranked>) -> Ranked
     ensures { result ≡ weight_found weight }
 {

@@ -25,7 +25,7 @@ use std::alloc::{AllocError, Global};
 use tier_core::NoMemory;
 use weight_law::{Count, UnitWeight, Weight};
 
-/// What a stage leaves of the candidates: the table that accepts them, where each state has the
+/// What a stage leaves of the candidates: the table that accepts them, in which each state has the
 /// number of its kind, and the order of these numbers.
 #[derive(Drop)]
 pub(crate) struct Left {

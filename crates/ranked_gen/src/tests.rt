@@ -110,7 +110,7 @@ fn budgets_and_examples(rt: HostRuntime) -> Result<(), Fail> {
     Ok(())
 }
 
-/// What a single pass gives, where all that is asked for holds.
+/// What a single pass gives, if all that is asked for holds.
 fn passed(
     alloc: Global,
     grammar: &Grammar,

@@ -43,7 +43,7 @@ pub record IsRankedMove {g : Ghosts Count} {h : Ghosts Ranked} (frame : Frame) (
   pub same_target : b.target ≡ a.target
   pub weighs : (column : List Sym) → IsTrue (has a.class column) → IsOfVector b.weight (costs_at frame kind column)
 
--- the kind of a number, and that of the empty prefix where there is no such number
+-- the kind of a number, and that of the empty prefix if there is no such number
 abbrev pub kind_numbered : List Kind → ℕ → Kind
 kind_numbered kinds number = slice_index_or kinds number
     (record { place = 0; opened = 0; unmet = 0; met = 0; apart = refl })

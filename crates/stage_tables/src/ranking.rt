@@ -91,8 +91,8 @@ fn ranked_states(
     Ok(states)
 }
 
-/// The table of a single pass: the same states as those of a table that accepts all candidates, where
-/// each move weighs what its columns cost under all constraints. It fails only for want of memory.
+/// The table of a single pass: the same states as those of a table that accepts all candidates. Each
+/// move weighs what its columns cost under all constraints. Fails only if memory runs out.
 pub fn ranked_table(
     alloc: Global,
     frame: &Frame<'_>,

@@ -112,7 +112,7 @@ fn no_column_at(column: usize) -> RowsCause {
     RowsCause::Form(FormErr::WrongWidth { column })
 }
 
-// The 33rd row is one too many, whatever it says; lines that are passed over are no rows.
+// The 33rd row is one too many, whatever it says; lines that are passed over are not rows.
 #[test]
 fn thirty_two_rows(rt: HostRuntime) -> Result<(), Fail> {
     let mut text = Vec::new(rt.alloc());

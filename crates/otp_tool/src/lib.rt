@@ -8,7 +8,7 @@
 //! This is the topmost library of the workspace. A program gives its words, files, standard output
 //! and standard error to [`run_to_end`], and ends with the number that it gives. Over other shelves
 //! and sinks [`run`] answers the [`Status`], and [`put_status`] writes its line. Each command makes
-//! its whole result before it writes.
+//! its whole result before it writes. [`run_in_memory`] is [`run`] over stores that never fail.
 //!
 //! The definitions in `specs/` are the files that commands name (`Files`), what files, timelines and
 //! surfaces are read as (`Grammars`, `Scored`, `Lexicons`), what an answer is read as and its verdict
@@ -23,6 +23,7 @@ mod commands;
 mod ending;
 mod grammar;
 mod hearing;
+mod in_memory;
 mod results;
 mod scored;
 mod second;
@@ -33,4 +34,5 @@ mod tests;
 
 pub use commands::run;
 pub use ending::run_to_end;
+pub use in_memory::run_in_memory;
 pub use status_lines::{Status, put_status};

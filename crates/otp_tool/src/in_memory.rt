@@ -1,0 +1,29 @@
+ghost use Rattle.std.specs.Prelude.{◌≡◌, ◌≢◌, ◌⊎◌, ℕ, Some};
+ghost use Rattle.command_words.specs.Words.{words_of};
+ghost use Rattle.outside.specs.Held.{told};
+ghost use Rattle.otp_tool.specs.Findings.{Finding, ready};
+ghost use Rattle.otp_tool.specs.Outcomes.{IsTold, answer_to};
+
+use crate::commands::run;
+use outside::{SafeShelf, SafeSink};
+use status_lines::Status;
+use std::alloc::Global;
+
+/// Runs the words of a command over files and a sink in memory, which never fail. So no fault of
+/// reading or writing occurs, and what the command finds has its own status, unless memory runs out.
+pub fn run_in_memory(
+    alloc: Global,
+    words: &[String],
+    shelf: &mut SafeShelf,
+    sink: &mut SafeSink,
+) -> Status
+    ensures no_read_fault { (word : ℕ) → result ≢ Status.ReadFault word }
+    ensures no_write_fault { result ≢ Status.WriteFault }
+    ensures complete { IsTold (words_of words.now) (told shelf.old) ready
+        → (result ≡ Status.Done) ⊎ ((result ≡ Status.No) ⊎ (result ≡ Status.NoMemory)) }
+    ensures due { (finding : Finding) → finding ≢ ready
+        → IsTold (words_of words.now) (told shelf.old) finding
+        → (result ≡ answer_to finding) ⊎ (result ≡ Status.NoMemory) }
+{
+    run(alloc, words, shelf, sink)
+}

@@ -15,7 +15,10 @@ pub returns-clause-complete : goal.returns-clause-complete
 returns-clause-complete c = λ told. c.run.ensures.complete told (λ word fault. never_rose fault.rose) never_rose
 
 pub returns-clause-due : goal.returns-clause-due
-returns-clause-due c = λ finding refused told. c.run.ensures.due finding refused told |λ
-    { inl is ↦ inl is
-    | inr (inl none) ↦ inr none
-    | inr (inr fault) ↦ absurd (never_rose (c.run.ensures.read_fault fault.0 fault.1).rose) }
+returns-clause-due c = λ finding refused told. elim (c.run.ensures.due finding refused told) [
+  | inl is ↦ inl is
+  | inr more ↦ elim more [
+    | inl none ↦ inr none
+    | inr fault ↦ absurd (never_rose (c.run.ensures.read_fault fault.0 fault.1).rose)
+  ]
+]

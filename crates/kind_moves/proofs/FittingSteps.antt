@@ -11,7 +11,8 @@ use Rattle.tier_core.specs.declared.sym.Sym.TheVariants.{Outside}
 use Rattle.tier_core.specs.Classes.{sets_of, has}
 use Rattle.tier_core.specs.Scan.{fits}
 use Rattle.tier_core.specs.Timelines.{symbol, column_at, is_edge, has_edge}
-use Rattle.tier_core.specs.Tiers.{has_tier}
+use Rattle.tier_core.specs.declared.tier.TierKind.{TierKind}
+use Rattle.tier_core.specs.Tiers.{has_tier, is_input, numbers_from}
 use Rattle.tier_core.proofs.ClassLemmas.{same_width}
 use Rattle.tier_core.specs.Filled.{is_filled}
 use Rattle.symbol_class.specs.Held.{once_if, times_held, AddsClasses}
@@ -70,6 +71,50 @@ rest_apart old new a b both filled empty meets is = record {
       omega (arith, times-cons a [] column, none, once);
 }
 
+-- ---- classes by what is read
+
+pub still_by : (frame : Frame) (following still : Class) (kinds : List TierKind)
+    → kinds ≡ frame.grammar.now.tiers.kinds.items
+    → ((column : List Sym) → has still column ≡ (has following column
+    && not (has_edge (map (symbol column) (numbers_from is_input 0 kinds)))))
+    → (column : List Sym) → has still column ≡ (has following column
+    && not (has_edge (input_of (tiers_in frame) column)))
+still_by frame following still kinds same h column =
+    h column ∙ ap (λ ks. has following column && not (has_edge (map (symbol column) (numbers_from is_input 0 ks))))
+    same
+
+pub bare_by : (class still bare : Class) → length (sets_of still) ≡ length (sets_of class)
+    → ((column : List Sym) → IsTrue (has bare column) ↔ (IsTrue (has still column)
+    × ((t : ℕ) → t < length (sets_of still) → is_edge (symbol column t) ≡ false)))
+    → (column : List Sym) → IsTrue (has bare column) ↔ (IsTrue (has still column)
+    × ((t : ℕ) → t < length (sets_of class) → is_edge (symbol column t) ≡ false))
+bare_by class still bare same h column = subst (λ n. IsTrue (has bare column)
+    ↔ (IsTrue (has still column) × ((t : ℕ) → t < n → is_edge (symbol column t) ≡ false))) same (h column)
+
+pub read_by : (frame : Frame) (place : ℕ) (following read : Class) (kinds : List TierKind) (form : List Sym)
+    → kinds ≡ frame.grammar.now.tiers.kinds.items → form ≡ column_at (form_in frame) place
+    → place < length (form_in frame)
+    → ((column : List Sym) → IsTrue (has read column) ↔ (IsTrue (has following column)
+    × (map (symbol column) (numbers_from is_input 0 kinds) ≡ form)))
+    → (column : List Sym) → IsTrue (has read column) ↔ (IsTrue (has following column)
+    × ((place < length (form_in frame)) × (input_of (tiers_in frame) column ≡ column_at (form_in frame) place)))
+read_by frame place following read kinds form same is l h column = (
+  λ r. let g = (h column).0 r in (
+    g.0,
+    (
+      l,
+      ap (λ ks. map (symbol column) (numbers_from is_input 0 ks)) (sym same)
+          ∙ g.1 ∙ is,
+    ),
+  ),
+  λ r. (h column).1 (r.0, ap (λ ks. map (symbol column) (numbers_from is_input 0 ks)) same ∙ r.1.1 ∙ sym is),
+)
+
+pub none_by : (frame : Frame) (place : ℕ) (following : Class) → place ≡ length (form_in frame)
+    → (column : List Sym) → IsTrue false ↔ (IsTrue (has following column)
+    × ((place < length (form_in frame)) × (input_of (tiers_in frame) column ≡ column_at (form_in frame) place)))
+none_by frame place following e column = (λ h. absurd (false≢true h), λ r. absurd (omega (arith, r.1.0)))
+
 -- ---- the two kinds of pieces
 
 either_once : (s b r : Bool) → once_if (s && not b) + once_if (r && not s) ≡ once_if ((s && not b) || (r && not s))
@@ -85,7 +130,7 @@ second_false true true h = absurd (false≢true h)
 second_false true false h = refl
 second_false false b h = absurd (false≢true h)
 
-first_true : (a b : Bool) → (a && b) ≡ true → a ≡ true
+pub first_true : (a b : Bool) → (a && b) ≡ true → a ≡ true
 first_true a b h = (and_parts a b h).0
 
 module _ (frame : Frame) (kind : Kind) (class following still bare : Class) (mask : ℕ) (reads : List Sym → Bool)
@@ -132,7 +177,7 @@ module _ (frame : Frame) (kind : Kind) (class following still bare : Class) (mas
         },
       )
 
-  still_fits : (stage : ℕ) (column : List Sym) → (has still column && not (has bare column)) ≡ true
+  pub still_fits : (stage : ℕ) (column : List Sym) → (has still column && not (has bare column)) ≡ true
       → IsTrue (has class column) × FitsAt frame stage kind column
   still_fits stage column h =
       let s = first_true (has still column) (not (has bare column)) h in
@@ -147,14 +192,14 @@ module _ (frame : Frame) (kind : Kind) (class following still bare : Class) (mas
       )))) (cases_Bool (has_edge column)) in
       fits_column stage column parts.0 edge (inl (not-true (is_read column) parts.1))
 
-  read_here : (column : List Sym) → has following column ≡ true → (reads column && not (has still column)) ≡ true
+  pub read_here : (column : List Sym) → has following column ≡ true → (reads column && not (has still column)) ≡ true
       → is_read column ≡ true
   read_here column f h = ⊎_elim (λ y. y) (λ none. absurd (both_ways (has still column)
       (second_false (reads column) (has still column) h)
       (has_still column ∙ and_from (has following column) (not (is_read column)) f (ap not none))))
       (cases_Bool (is_read column))
 
-  read_fits : (stage : ℕ) (column : List Sym) → (reads column && not (has still column)) ≡ true
+  pub read_fits : (stage : ℕ) (column : List Sym) → (reads column && not (has still column)) ≡ true
       → IsTrue (has class column) × FitsAt frame stage kind column
   read_fits stage column h =
       let r = (has_read column).0 (first_true (reads column) (not (has still column)) h) in

@@ -18,7 +18,7 @@ use Rattle.kind_moves.proofs.MaskSteps.{none_from}
 use Rattle.kind_moves.proofs.PhaseMaskSteps.{met_told}
 
 -- masks with the same tiers below what bounds them are the same
-same_mask : (a b n : ℕ) → a < 2 ^ n → b < 2 ^ n → ((i : ℕ) → i < n → has_tier a i ≡ has_tier b i) → a ≡ b
+pub same_mask : (a b n : ℕ) → a < 2 ^ n → b < 2 ^ n → ((i : ℕ) → i < n → has_tier a i ≡ has_tier b i) → a ≡ b
 same_mask a b n la lb h = same_from_bits a b (λ i.
     let same : has_tier a i ≡ has_tier b i = ⊎_elim (λ l. h i l) (λ g. none_from a n i la g
     ∙ sym (none_from b n i lb g)) (cases_lt i n) in
@@ -57,7 +57,7 @@ same_fields k l place opened unmet met =
     } in r) opened
 
 -- what is told place by place
-told_same : {X : Type 0} (f g : ℕ → X) (n i : ℕ) (d : X) → map f (range_with_len 0 n) ≡ map g (range_with_len 0 n)
+pub told_same : {X : Type 0} (f g : ℕ → X) (n i : ℕ) (d : X) → map f (range_with_len 0 n) ≡ map g (range_with_len 0 n)
     → i < n → f i ≡ g i
 told_same f g n i d e l = sym (get_or-map-range_with_len f 0 n i i d l (omega arith)) ∙ ap (λ xs. get_or xs i d) e
     ∙ get_or-map-range_with_len g 0 n i i d l (omega arith)

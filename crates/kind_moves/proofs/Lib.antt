@@ -16,3 +16,5 @@ pub mod FitBoxSteps
 pub mod FittingSteps
 pub mod PieceSteps
 pub mod StretchCounts
+pub mod LeavingSteps
+pub mod LeavingPieces

@@ -5,3 +5,4 @@ pub mod Laws
 pub mod Asks
 pub mod Pieces
 pub mod Fitting
+pub mod Leaving

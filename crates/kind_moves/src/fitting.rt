@@ -2,6 +2,7 @@ ghost use Rattle.std.specs.Prelude.{◌≡◌, ◌&&◌, not, length, OnOk};
 ghost use Rattle.tier_core.specs.Classes.{sets_of, has};
 ghost use Rattle.symbol_class.specs.Held.{once_if, AddsClasses};
 
+use crate::boxes::nothing;
 use crate::fit_boxes::{edgeless, following, with_input, without_input};
 use crate::frame::Frame;
 use std::alloc::{AllocError, Global};
@@ -28,9 +29,30 @@ fn push_rest(pieces: &mut Vec<Class>, a: &Class, b: &Class) -> Result<(), AllocE
 }
 
 impl<'a> Frame<'a> {
-    ghost use Rattle.std.specs.Prelude.{◌≤◌, ℕ, All, IfOk};
+    ghost use Rattle.std.specs.Prelude.{◌≤◌, ◌<◌, ◌↔◌, ℕ, All, IfOk, IsTrue, List};
+    ghost use Rattle.tier_core.specs.declared.sym.Sym.{Sym};
+    ghost use Rattle.tier_core.specs.Timelines.{column_at};
+    ghost use Rattle.violation.specs.Moves.{input_of};
     ghost use Rattle.kind_moves.specs.Frames.{tiers_in, form_in};
     ghost use Rattle.kind_moves.specs.Fitting.{AreFitting, IsReadAlike};
+
+    /// The columns of a class whose input part is the form's column at a place. There is none where
+    /// the form ends.
+    pub(crate) fn reading(&self, class: &Class, place: u32) -> Class
+        requires width { length (sets_of class.now) ≡ (tiers_in self.now).width }
+        requires place { place ≤ length (form_in self.now) }
+        ensures width { length (sets_of result) ≡ length (sets_of class.now) }
+        ensures columns { (column : List Sym) → IsTrue (has result column)
+            ↔ (IsTrue (has class.now column) × ((place < length (form_in self.now))
+            × (input_of (tiers_in self.now) column ≡ column_at (form_in self.now) place))) }
+    {
+        let place = place as usize;
+        if place == self.form.len() {
+            return nothing(class);
+        }
+        let kinds = self.grammar.tiers.kinds.as_slice();
+        with_input(class, kinds, self.form.column(place).syms())
+    }
 
     /// The columns of a class that fit a kind, in pieces: first those without an edge on the input
     /// tiers, then those whose input part is the next column of the form.
@@ -49,13 +71,9 @@ impl<'a> Frame<'a> {
         let kinds = self.grammar.tiers.kinds.as_slice();
         let following = following(class, self.open_at(kind));
         let still = without_input(&following, kinds);
+        let read = self.reading(&following, kind.place);
         let mut pieces = Vec::new(alloc);
         push_rest(&mut pieces, &still, &edgeless(&still))?;
-        let place = kind.place as usize;
-        if place == self.form.len() {
-            return Ok(pieces);
-        }
-        let read = with_input(&following, kinds, self.form.column(place).syms());
         push_rest(&mut pieces, &read, &still)?;
         Ok(pieces)
     }

@@ -23,7 +23,7 @@ pub struct Frame<'a> {
     pub grammar: &'a Grammar,
     pub form: &'a Timeline,
     pub shape: Shape,
-    free: u16,
+    pub(crate) free: u16,
     free_count: u32,
     open_inputs: Vec<u16>,
     pub ghost well_formed: { ∥ IsForm (tiers_of_table grammar.now.tiers) form.now ∥₁ },

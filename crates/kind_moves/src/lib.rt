@@ -13,6 +13,7 @@
 //! Derivation in Optimality Theory (COLING 1994); that its states are kinds is our own design.
 #![tactic(auto)]
 
+mod all_moves;
 mod ask;
 mod asked;
 mod boxes;
@@ -24,6 +25,7 @@ mod fit_boxes;
 mod fitting;
 mod frame;
 mod laws;
+mod leaving;
 mod mask;
 mod move_tests;
 mod open;

@@ -13,6 +13,7 @@ use Rattle.tier_core.specs.Filled.{is_filled}
 use Rattle.symbol_class.specs.Held.{some_has, times_held, ArePieces}
 use Rattle.symbol_class.specs.Parts.{IsAlike}
 use Rattle.symbol_class.proofs.Times.{times-cons, times-append, once_from_apart, some_from_same, pieces_from_once}
+use Rattle.kind_moves.proofs.LeavingPieces.{held_once}
 use Rattle.kind_moves.specs.declared.frame.Frame.{Frame}
 use Rattle.kind_moves.specs.declared.piece.Piece.{Piece}
 use Rattle.kind_moves.specs.Frames.{tiers_in, FitsAt, IsMove}
@@ -20,7 +21,6 @@ use Rattle.kind_moves.specs.Pieces.{cost_under, classes_of, IsPiece}
 use Rattle.stage_tables.specs.declared.exploring.Exploring.{Exploring}
 use Rattle.stage_tables.specs.Exploring.{ArePiecesFrom}
 use Rattle.stage_tables.specs.PartedPieces.{IsPartOfPiece, AddsParts, IsPartOfSome, ArePartedPieces, ArePiecesBefore}
-use Rattle.stage_tables.proofs.Taking.{held_once}
 
 -- what a piece costs is what each of its columns does
 piece_alike : (frame : Frame) (stage constraint : ℕ) (kind : Kind) (piece : Piece)
@@ -241,3 +241,18 @@ module _ (exploring : Exploring) (kind : Kind) (class : Class) where
           (piece_alike exploring.frame.now exploring.stage exploring.stage kind (get_or pieces k d) (are.each k d l)))
     ];
   }
+
+-- ---- under no constraint
+
+pub moves_unranked : (exploring : Exploring) (kind : Kind) (class : Class) (pieces : List Piece) → exploring.stage ≡ 0
+    → ArePieces (tiers_in exploring.frame.now).width (classes_of pieces)
+    → ((column : List Sym) → IsTrue (some_has (classes_of pieces) column)
+    ↔ (IsTrue (has class column) × FitsAt exploring.frame.now 0 kind column))
+    → All (IsPiece exploring.frame.now 0 0 kind) pieces → ArePiecesFrom exploring kind class pieces
+moves_unranked exploring kind class pieces none apart columns each =
+    all_constraints exploring kind class pieces exploring.first
+    (first_pieces exploring kind class pieces apart
+    (subst (λ stage. (column : List Sym) → IsTrue (some_has (classes_of pieces) column)
+    ↔ (IsTrue (has class column) × FitsAt exploring.frame.now stage kind column)) (sym none) columns)
+    (subst (λ stage. All (IsPiece exploring.frame.now stage stage kind) pieces) (sym none) each))
+    (omega (arith, none))

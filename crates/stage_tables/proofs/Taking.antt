@@ -14,7 +14,7 @@ use Rattle.tier_core.specs.declared.sym.Sym.{Sym}
 use Rattle.tier_core.specs.Classes.{sets_of, has}
 use Rattle.tier_core.specs.Filled.{is_filled}
 use Rattle.symbol_class.specs.Held.{some_has, times_held, once_if}
-use Rattle.symbol_class.proofs.Times.{times-cons, times-append, none_held, some_held, once_from_apart}
+use Rattle.symbol_class.proofs.Times.{times-cons, times-append, once_from_apart}
 use Rattle.tier_core.specs.FirstColumn.{first_column}
 use Rattle.tier_core.proofs.Filled.{has-first_column}
 use Rattle.arc_table.specs.declared.arc.TableArc.{TableArc}
@@ -24,6 +24,7 @@ use Rattle.arc_table.specs.declared.state.TableState.{TableState}
 use Rattle.tier_core.specs.Kinds.{PrefixKind}
 use Rattle.violation.specs.Moves.{move_costs, cost_of}
 use Rattle.violation.specs.Problems.{Problem}
+use Rattle.kind_moves.proofs.LeavingPieces.{held_once}
 use Rattle.kind_moves.specs.declared.frame.Frame.{Frame}
 use Rattle.kind_moves.specs.declared.piece.Piece.{Piece}
 use Rattle.kind_moves.specs.Frames.{problem_in, tiers_in, kind_at_stage, FitsAt}
@@ -74,12 +75,6 @@ piece_weighs exploring kind piece p column has_column =
     (kind_at_stage exploring.frame.now exploring.stage kind) column
 
 -- ---- the pieces of one kept move
-
--- classes of which at most one holds a column hold it once where some does
-pub held_once : (classes : List Class) (column : List Sym) (b : Bool) → times_held classes column ≤ 1
-    → some_has classes column ≡ b → times_held classes column ≡ once_if b
-held_once classes column true few some = omega (arith, few, some_held classes column some)
-held_once classes column false few none = none_held classes column none
 
 pub pieces_hold : (exploring : Exploring) (kind : Kind) (class : Class) (pieces : List Piece)
     → ArePiecesFrom exploring kind class pieces → (column : List Sym)

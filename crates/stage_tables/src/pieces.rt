@@ -72,6 +72,10 @@ impl Exploring<'_> {
         requires width { length (sets_of class.now) ≡ (tiers_in self.now.frame.now).width }
         ensures { IfOk result (λ pieces. ArePiecesFrom self.now kind.now class.now pieces.items) }
     {
+        if self.stage == 0 {
+            let all = self.frame.all_moves(alloc, kind, class)?;
+            return Ok(all);
+        }
         let mut pieces = self
             .frame
             .pieces(alloc, self.stage, self.stage, kind, class)?;

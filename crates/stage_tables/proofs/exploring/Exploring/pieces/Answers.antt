@@ -1,8 +1,20 @@
-use Rattle.std.proofs.Common.{List, subst, arith}
+use Rattle.std.proofs.Common.{◌≡◌, List, subst, arith}
 use Rattle.kind_moves.specs.declared.piece.Piece.{Piece}
+use Rattle.kind_moves.specs.Frames.{FitsFrame}
 use Rattle.stage_tables.specs.PartedPieces.{ArePartedPieces}
-use Rattle.stage_tables.proofs.PiecesParted.{first_pieces, pieces_wide, next_constraint, all_constraints}
+use Rattle.stage_tables.proofs.PiecesParted.{first_pieces, pieces_wide, next_constraint, all_constraints, moves_unranked}
 use Rattle.stage_tables.proofs.exploring.Exploring.pieces.Goals as goal
+
+pub all_moves-requires-clause-fits : goal.all_moves-requires-clause-fits
+all_moves-requires-clause-fits c =
+    let none : c.args.self.now.stage ≡ 0 = c.if-self-eq0.true in
+    subst (λ stage. FitsFrame c.args.self.now.frame.now stage c.args.kind.now) none c.requires.fits
+
+pub returns-then-self-eq0 : goal.returns-then-self-eq0
+returns-then-self-eq0 c =
+    let made = c.in_ok-all.ensures in
+    moves_unranked c.args.self.now c.args.kind.now c.args.class.now c.in_ok-all.all.items c.if-self-eq0.true
+    made.pieces made.columns made.each
 
 pub loop-constraint-init : goal.loop-constraint-init
 loop-constraint-init c =

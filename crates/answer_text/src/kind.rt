@@ -59,7 +59,9 @@ fn phase_bytes(kind: &Kind, stretches: usize) -> [u8; 24]
     bytes
 }
 
-/// Appends a kind, with this many free tiers and this many stretch implications.
+/// Appends a kind, as `2/+-/m.`: its place, which of this many free tiers are open, and the phases of
+/// this many stretch implications. After an error the sink has taken a prefix of the waiting bytes
+/// and the kind, and no bytes wait.
 pub fn push_kind<O: Sink>(
     out: &mut OutBuffer,
     sink: &mut O,

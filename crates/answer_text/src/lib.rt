@@ -4,8 +4,9 @@
 //! An answer has the form, the least counts, the first optimal timeline, a stage of kinds with
 //! potentials for each constraint, and an automaton of all optimal timelines. The layers above make
 //! right answers, and write them with `put_answer`, or parts of them with `put_counts` and
-//! `put_shown`. Representing sets of candidates as automata follows Ellison, Phonological
-//! Derivation in Optimality Theory (COLING 1994).
+//! `put_shown`. `push_kind` and `push_numbers` serve other writers of kinds and numbers.
+//! Representing sets of candidates as automata follows Ellison, Phonological Derivation in
+//! Optimality Theory (COLING 1994).
 #![tactic(auto)]
 
 mod answer;
@@ -28,8 +29,11 @@ mod widths;
 
 pub use answer::Answer;
 pub use automaton::{ArcLine, Automaton, StateLine};
+pub use kind::push_kind;
+pub use number::push_numbers;
 pub use once_answer::{OnceAnswer, OnceNode};
 pub use once_writer::put_once;
 pub use parts::{put_counts, put_shown};
 pub use put::put_answer;
 pub use stage::{Node, Stage};
+pub use widths::free_count;

@@ -3,7 +3,8 @@ ghost use Rattle.answer_text.specs.Text.{spaced};
 
 use outside::{OutBuffer, Sink, WriteErr, push_number};
 
-/// Appends numbers, each after a space.
+/// Appends numbers, each after a space. After an error the sink has taken a prefix of the waiting
+/// bytes and the numbers, and no bytes wait.
 pub fn push_numbers<O: Sink>(
     out: &mut OutBuffer,
     sink: &mut O,

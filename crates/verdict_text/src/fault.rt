@@ -4,9 +4,10 @@ ghost use Rattle.answer_text.specs.Shape.{widths_of};
 ghost use Rattle.cert_check.specs.declared.fault.Fault.TheVariants.{ArcsDiffer, ArcsTwice, NotClosed};
 ghost use Rattle.verdict_text.specs.VerdictText.{fault_text};
 
-use crate::kind::{free_count, push_kind, stretch_count};
 use crate::numbers::{mark_number, push_numbered, push_target};
+use crate::stretches::stretch_count;
 use crate::symbols::push_column;
+use answer_text::{free_count, push_kind};
 use cert_check::Fault;
 use outside::{OutBuffer, Sink, WriteErr};
 use tier_core::{Column, Kind, Shape};

@@ -5,9 +5,9 @@
 #![tactic(auto)]
 
 mod fault;
-mod kind;
 mod numbers;
 mod put;
+mod stretches;
 mod symbols;
 #[cfg(test)]
 mod tests;

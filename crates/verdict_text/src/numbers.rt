@@ -3,17 +3,8 @@ ghost use Rattle.outside.specs.Writers.{Pushes};
 ghost use Rattle.answer_text.specs.Text.{spaced};
 ghost use Rattle.verdict_text.specs.VerdictText.{mark_number, target_after_space};
 
+use answer_text::push_numbers;
 use outside::{OutBuffer, Sink, WriteErr, push_number};
-
-/// Appends numbers, each after a space.
-fn push_spaced<O: Sink>(out: &mut OutBuffer, sink: &mut O, numbers: &[u32]) -> Result<(), WriteErr>
-    ensures { Pushes O.Sink sink.old sink.new out.old out.new (spaced numbers.now) result }
-{
-    for number in numbers {
-        push_number(out, sink, b" ", *number as usize)?;
-    }
-    Ok(())
-}
 
 /// Appends a word and the numbers after it.
 pub(crate) fn push_numbered<O: Sink>(
@@ -26,7 +17,7 @@ pub(crate) fn push_numbered<O: Sink>(
         (word.now ++ spaced numbers.now) result }
 {
     out.push(sink, word)?;
-    push_spaced(out, sink, numbers)
+    push_numbers(out, sink, numbers)
 }
 
 /// Appends the target of a move after a space, or `none`.

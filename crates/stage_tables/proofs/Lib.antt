@@ -13,3 +13,6 @@ mod WholeTables
 pub mod Alike
 pub mod FirstParts
 pub mod RankedStates
+mod SameWords
+mod WeighedMoves
+mod WeighedTables

@@ -59,7 +59,7 @@ module _ {g : Ghosts UnitWeight} (exploring : Exploring) (kept : List (TableStat
       (p.within column.0 column.1) piece.target (p.is.moves column.0 column.1)
 
 -- what a column costs under the last constraint, and 0 where there is none
-last_cost : (problem : Problem) (stage : ℕ) (k : PrefixKind) (column : List Sym)
+pub last_cost : (problem : Problem) (stage : ℕ) (k : PrefixKind) (column : List Sym)
     → cond (stage == 0) 0 (get_or (move_costs problem stage k column) (stage - 1) 0) ≡ cost_of problem stage k column
 last_cost problem zero k column = refl
 last_cost problem (suc n) k column =

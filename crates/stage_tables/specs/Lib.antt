@@ -6,3 +6,4 @@ pub mod Whole
 pub mod Exploring
 pub mod PartedPieces
 pub mod Ranking
+pub mod Weighing

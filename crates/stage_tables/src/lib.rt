@@ -21,8 +21,10 @@ mod listed;
 mod pieces;
 mod ranking;
 mod stage_table;
+mod weighing;
 mod whole;
 
 pub use exploration::{explore, explore_all};
 pub use ranking::ranked_table;
 pub use stage_table::{ExploreErr, StageTable};
+pub use weighing::weigh;

@@ -156,6 +156,12 @@ adds_outside width both_wide old one new class inside both test has_inside has_b
     two_parts true false o = refl
     two_parts false w o = refl
 
+-- what is so and not otherwise, and what is both
+pub two_sides : (p d : Bool) → once_if (p && not d) + once_if (p && d) ≡ once_if p
+two_sides true true = refl
+two_sides true false = refl
+two_sides false d = refl
+
 -- what is not in a difference, and what is
 pub adds_parts : (width : ℕ) (old mid new : List Class) (class : Class) (test : Difference)
     → AddsClasses width old mid (λ column. once_if (has class column && not (differs test column)))
@@ -170,11 +176,6 @@ adds_parts width old mid new class test a b =
     (adds_constant width mid new (λ column. has class column && differs test column) (differs test) true b
     (λ column h. (and_parts (has class column) (differs test column) h).1))
     (λ column. two_sides (has class column) (differs test column))
-  where
-    two_sides : (p d : Bool) → once_if (p && not d) + once_if (p && d) ≡ once_if p
-    two_sides true true = refl
-    two_sides true false = refl
-    two_sides false d = refl
 
 -- ---- the parts of some classes
 

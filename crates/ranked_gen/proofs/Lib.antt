@@ -26,4 +26,5 @@ pub mod OnceSteps
 pub mod OnceBudgets
 pub mod OnceTables
 pub mod AgreeingAnswers
+pub mod KindsLeft
 mod MappedErrors

@@ -5,3 +5,4 @@ pub mod Budgets
 pub mod Left
 pub mod OptimalParts
 pub mod Once
+pub mod KindsLeft

@@ -43,17 +43,20 @@ fn started(alloc: Global, first: Staged) -> Result<Ranked, NoMemory>
     ensures stages { IfOk result (λ all. all.stages.items ≡ first.stage ∷ []) }
     ensures counts { IfOk result (λ all. all.counts.items ≡ []) }
     ensures left { IfOk result (λ all. all.left ≡ first.left) }
+    ensures kinds { IfOk result (λ all. all.kinds ≡ first.kinds) }
 {
     let Staged {
         stage,
         count: _,
         left,
+        kinds,
     } = first;
     let stages = one_stage(alloc, stage)?;
     Ok(Ranked {
         stages,
         counts: Vec::new(alloc),
         left,
+        kinds,
     })
 }
 

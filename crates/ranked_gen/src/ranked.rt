@@ -4,6 +4,7 @@ ghost use Rattle.answer_text.specs.Right.{IsRight};
 ghost use Rattle.kind_moves.specs.Frames.{tiers_in, constraints_in, form_in};
 ghost use Rattle.kind_orders.specs.JoinedArcs.{HaveJoinedArcs};
 ghost use Rattle.ranked_gen.specs.Budgets.{IsFirstOver};
+ghost use Rattle.ranked_gen.specs.KindsLeft.{AreKindsLeft};
 ghost use Rattle.ranked_gen.specs.Left.{IsRanked};
 ghost use Rattle.violation.specs.Problems.{last_stage};
 ghost use Rattle.kind_moves.specs.Frames.{problem_in};
@@ -14,14 +15,16 @@ use crate::staged::{Left, Staged, next_stage};
 use answer_text::{Answer, Stage};
 use kind_moves::Frame;
 use std::alloc::Global;
-use tier_core::{NoMemory, Timeline};
+use tier_core::{Kind, NoMemory, Timeline};
 
-/// Stages one after another, the counts of their constraints, and what the last of them leaves.
+/// Stages one after another, the counts of their constraints, what the last of them leaves, and the
+/// kinds that the states of this stand for.
 #[derive(Drop)]
 pub(crate) struct Ranked {
     pub(crate) stages: Vec<Stage>,
     pub(crate) counts: Vec<u32>,
     pub(crate) left: Left,
+    pub(crate) kinds: Vec<Kind>,
 }
 
 /// The stages with one more.
@@ -31,13 +34,20 @@ fn with_next(ranked: Ranked, next: Staged) -> Result<Ranked, NoMemory>
     ensures counts { IfOk result
         (λ all. all.counts.items ≡ ranked.counts.items ++ next.count ∷ []) }
     ensures left { IfOk result (λ all. all.left ≡ next.left) }
+    ensures kinds { IfOk result (λ all. all.kinds ≡ next.kinds) }
 {
     let Ranked {
         mut stages,
         mut counts,
         left: _,
+        kinds: _,
     } = ranked;
-    let Staged { stage, count, left } = next;
+    let Staged {
+        stage,
+        count,
+        left,
+        kinds,
+    } = next;
     if stages.push(stage).is_err() || counts.push(count).is_err() {
         return Err(NoMemory);
     }
@@ -45,6 +55,7 @@ fn with_next(ranked: Ranked, next: Staged) -> Result<Ranked, NoMemory>
         stages,
         counts,
         left,
+        kinds,
     })
 }
 
@@ -58,6 +69,8 @@ pub(crate) fn all_ranked(
 ) -> Result<Ranked, GenErr>
     requires start { IsRanked (problem_in frame.now) budget 0 start.stages.items start.counts.items
         (states_of start.left.kept.table) start.left.kept.states.items start.left.order.items }
+    requires kinds { AreKindsLeft frame.now 0 (states_of start.left.kept.table) start.kinds.items }
+    requires few_kinds { length start.kinds.items ≤ budget }
     requires some { 1 ≤ budget }
     requires few { budget ≤ 65536 }
     ensures ranked { IfOk result
@@ -70,7 +83,8 @@ pub(crate) fn all_ranked(
 {
     let mut ranked = start;
     for number in 0..frame.grammar.constraints.len() as u32 {
-        let next = match next_stage(alloc, frame, number + 1, &ranked.left.kept.table, budget) {
+        let kept = &ranked.left.kept.table;
+        let next = match next_stage(alloc, frame, number + 1, kept, &ranked.kinds, budget) {
             Ok(next) => next,
             Err(cause) => return Err(cause),
         };
@@ -109,6 +123,7 @@ pub(crate) fn answered(alloc: Global, frame: &Frame, ranked: Ranked) -> Result<A
         stages,
         counts,
         left,
+        kinds: _,
     } = ranked;
     let Ending { example, automaton } = ending_of(alloc, frame, &left)?;
     Ok(Answer {

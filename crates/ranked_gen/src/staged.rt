@@ -1,13 +1,15 @@
-ghost use Rattle.std.specs.Prelude.{◌≡◌, ◌≤◌, ◌-◌, ℕ, All, Err, IfOk, ◌↔◌, List, length, map};
+ghost use Rattle.std.specs.Prelude.{◌≡◌, ◌<◌, ◌≤◌, ◌-◌, ℕ, All, Err, IfOk, ◌↔◌, List, false, length, map};
 ghost use Rattle.arc_table.specs.Runs.{Accepts};
 ghost use Rattle.arc_table.specs.States.{states_of};
 ghost use Rattle.tier_core.specs.declared.sym.Sym.{Sym};
 ghost use Rattle.violation.specs.Candidates.{IsOptimalFor};
-ghost use Rattle.kind_moves.specs.Frames.{tiers_in, constraints_in, form_in, FitsFrame};
+ghost use Rattle.kind_moves.specs.Frames.{stretches_in, FitsFrame};
+ghost use Rattle.kind_orders.specs.KindOrders.{kind_numbered};
 ghost use Rattle.kind_tables.specs.StageTables.{IsStageTable};
 ghost use Rattle.stage_tables.specs.Kept.{IsKept};
 ghost use Rattle.stage_tables.specs.Explored.{names_at};
 ghost use Rattle.ranked_gen.specs.Budgets.{IsOver, IsWithin};
+ghost use Rattle.ranked_gen.specs.KindsLeft.{AreKindsLeft};
 ghost use Rattle.ranked_gen.specs.Left.{IsStaged, weight_number};
 ghost use Rattle.violation.specs.Problems.{last_stage};
 ghost use Rattle.kind_moves.specs.Frames.{problem_in};
@@ -20,9 +22,9 @@ use grammar_reader::shape;
 use kind_moves::Frame;
 use kind_orders::{ordered, stage_of};
 use prune_best::{Tight, tight};
-use stage_tables::{ExploreErr, StageTable, explore, explore_all};
+use stage_tables::{ExploreErr, explore, explore_all, weigh};
 use std::alloc::{AllocError, Global};
-use tier_core::NoMemory;
+use tier_core::{Kind, NoMemory};
 use weight_law::{Count, UnitWeight, Weight};
 
 /// What a stage leaves of the candidates: the table that accepts them, in which each state has the
@@ -33,13 +35,14 @@ pub(crate) struct Left {
     pub(crate) order: Vec<u32>,
 }
 
-/// A stage: its nodes, the number of its constraint in the violations of what it leaves, and what
-/// it leaves.
+/// A stage: its nodes, the number of its constraint in the violations of what it leaves, what it
+/// leaves, and the kinds that the states of this stand for.
 #[derive(Drop)]
 pub(crate) struct Staged {
     pub(crate) stage: Stage,
     pub(crate) count: u32,
     pub(crate) left: Left,
+    pub(crate) kinds: Vec<Kind>,
 }
 
 /// The number of a weight that is found, or 0 if there is none.
@@ -63,30 +66,56 @@ fn potentials_of(alloc: Global, least: &[Option<Count>]) -> Result<Vec<u32>, All
     Ok(numbers)
 }
 
-/// The nodes of a table that was explored, and what its constraint leaves. Fails only if memory
-/// runs out.
-fn pruned(alloc: Global, frame: &Frame, stage: u32, found: &StageTable) -> Result<Staged, NoMemory>
+/// The kinds of some numbers. Fails only if memory runs out.
+fn kinds_of(alloc: Global, kinds: &[Kind], numbers: &[u32]) -> Result<Vec<Kind>, NoMemory>
+    requires { All (λ number. number < length kinds.now) numbers.now }
+    ensures { IfOk result (λ found. found.items ≡ map (kind_numbered kinds.now) numbers.now) }
+{
+    let mut found = Vec::new(alloc);
+    for number in numbers {
+        if found.push(kinds[*number as usize]).is_err() {
+            return Err(NoMemory);
+        }
+    }
+    Ok(found)
+}
+
+/// The nodes of a table whose states stand for kinds, one by one, and what its constraint leaves.
+/// Fails only if memory runs out.
+fn pruned(
+    alloc: Global,
+    frame: &Frame,
+    stage: u32,
+    kinds: &[Kind],
+    table: &Table<Count>,
+) -> Result<Staged, NoMemory>
     requires within { stage ≤ last_stage (problem_in frame.now) }
     requires table { IsStageTable (problem_in frame.now) stage
-        (names_at frame.now stage found.now.kinds.items) (states_of found.now.table) }
-    requires fit { All (FitsFrame frame.now stage) found.now.kinds.items }
-    ensures { IfOk result
+        (names_at frame.now stage kinds.now) (states_of table.now) }
+    requires fit { All (FitsFrame frame.now stage) kinds.now }
+    ensures staged { IfOk result
         (λ staged.
         IsStaged (problem_in frame.now) stage staged.stage.nodes.items staged.count
         (states_of staged.left.kept.table) staged.left.kept.states.items staged.left.order.items) }
+    ensures kinds { IfOk result
+        (λ staged.
+        AreKindsLeft frame.now stage (states_of staged.left.kept.table) staged.kinds.items) }
+    ensures few { IfOk result (λ staged. length staged.kinds.items ≤ length kinds.now) }
 {
-    let least = to_final(alloc, &found.table)?;
+    let least = to_final(alloc, table)?;
     let Ok(potentials) = potentials_of(alloc, &least) else {
         return Err(NoMemory);
     };
     let shape = shape(alloc, frame.grammar)?;
-    let order = ordered(alloc, &shape, stage, &found.kinds)?;
-    let nodes = stage_of(alloc, &found.kinds, &potentials, &order)?;
-    let kept = tight(alloc, &found.table, &least)?;
+    let order = ordered(alloc, &shape, stage, kinds)?;
+    let nodes = stage_of(alloc, kinds, &potentials, &order)?;
+    let kept = tight(alloc, table, &least)?;
+    let left = kinds_of(alloc, kinds, &kept.states)?;
     Ok(Staged {
         stage: nodes,
         count: potentials[0],
         left: Left { kept, order },
+        kinds: left,
     })
 }
 
@@ -99,24 +128,42 @@ pub(crate) fn first_stage(alloc: Global, frame: &Frame, budget: u32) -> Result<S
         (λ staged.
         IsStaged (problem_in frame.now) 0 staged.stage.nodes.items staged.count
         (states_of staged.left.kept.table) staged.left.kept.states.items staged.left.order.items) }
+    ensures kinds { IfOk result
+        (λ staged.
+        AreKindsLeft frame.now 0 (states_of staged.left.kept.table) staged.kinds.items) }
+    ensures few { IfOk result (λ staged. length staged.kinds.items ≤ budget) }
     ensures within { IfOk result (λ staged. IsWithin (problem_in frame.now) budget 0) }
     ensures over { (s : ℕ) → result ≡ Err (GenErr.Budget s)
         → (s ≡ 0) × IsOver (problem_in frame.now) budget 0 }
 {
     match explore_all(alloc, frame, 0, budget) {
-        Ok(found) => pruned(alloc, frame, 0, &found).map_err(|_| GenErr::NoMemory),
+        Ok(found) => {
+            pruned(alloc, frame, 0, &found.kinds, &found.table).map_err(|_| GenErr::NoMemory)
+        }
         Err(ExploreErr::OverBudget) => Err(GenErr::Budget { stage: 0 }),
         Err(ExploreErr::NoMemory) => Err(GenErr::NoMemory),
     }
 }
 
-/// The next stage of a frame, from what the stage before has left. `Budget` occurs exactly when it
-/// has more kinds of prefix than the budget, and `NoMemory` only if memory runs out.
+/// Whether a stage tells the phase of one more stretch implication than the stage before.
+fn has_new_phase(frame: &Frame, stage: u32) -> bool
+    requires some { 1 ≤ stage }
+    requires within { stage ≤ last_stage (problem_in frame.now) }
+    ensures { result ≡ false
+        → stretches_in frame.now stage ≡ stretches_in frame.now (stage - 1) }
+{
+    frame.stretch_count(stage) != frame.stretch_count(stage - 1)
+}
+
+/// The next stage of a frame, from what the stage before has left, and the kinds that the states of
+/// this stand for. If it has no new phase, its kinds are these. `Budget` occurs exactly when it has
+/// more kinds of prefix than the budget, and `NoMemory` only if memory runs out.
 pub(crate) fn next_stage(
     alloc: Global,
     frame: &Frame,
     stage: u32,
     kept: &Table<UnitWeight>,
+    kinds: &[Kind],
     budget: u32,
 ) -> Result<Staged, GenErr>
     requires some { 1 ≤ stage }
@@ -124,18 +171,32 @@ pub(crate) fn next_stage(
     requires kept { IsKept (problem_in frame.now) (stage - 1) (states_of kept.now) }
     requires accepts { (T : List (List Sym)) → Accepts (states_of kept.now) T
         ↔ IsOptimalFor (problem_in frame.now) (stage - 1) T }
+    requires kinds { AreKindsLeft frame.now (stage - 1) (states_of kept.now) kinds.now }
+    requires few_kinds { length kinds.now ≤ budget }
     requires some_budget { 1 ≤ budget }
     requires few { budget ≤ 65536 }
     ensures staged { IfOk result
         (λ staged.
         IsStaged (problem_in frame.now) stage staged.stage.nodes.items staged.count
         (states_of staged.left.kept.table) staged.left.kept.states.items staged.left.order.items) }
+    ensures kinds { IfOk result
+        (λ staged.
+        AreKindsLeft frame.now stage (states_of staged.left.kept.table) staged.kinds.items) }
+    ensures few { IfOk result (λ staged. length staged.kinds.items ≤ budget) }
     ensures within { IfOk result (λ staged. IsWithin (problem_in frame.now) budget stage) }
     ensures over { (s : ℕ) → result ≡ Err (GenErr.Budget s)
         → (s ≡ stage) × IsOver (problem_in frame.now) budget stage }
 {
+    if !has_new_phase(frame, stage) {
+        let Ok(table) = weigh(alloc, frame, stage, kept, kinds) else {
+            return Err(GenErr::NoMemory);
+        };
+        return pruned(alloc, frame, stage, kinds, &table).map_err(|_| GenErr::NoMemory);
+    }
     match explore(alloc, frame, stage - 1, stage, kept, budget) {
-        Ok(found) => pruned(alloc, frame, stage, &found).map_err(|_| GenErr::NoMemory),
+        Ok(found) => {
+            pruned(alloc, frame, stage, &found.kinds, &found.table).map_err(|_| GenErr::NoMemory)
+        }
         Err(ExploreErr::OverBudget) => Err(GenErr::Budget { stage }),
         Err(ExploreErr::NoMemory) => Err(GenErr::NoMemory),
     }

@@ -179,8 +179,14 @@ module _ {g : Ghosts UnitWeight} {h : Ghosts Count} (cost : List Sym → ℕ) wh
             });
         held = λ column.
             let one = times-cons arc.class [] column in
-            omega (arith, held_append old a.added column, held_append arcs (arc ∷ []) column, so_far.held column,
-            a.held column, one);
+            omega (
+              arith,
+              held_append old a.added column,
+              held_append arcs (arc ∷ []) column,
+              so_far.held column,
+              a.held column,
+              one,
+            );
       })
 
   pub one_weighed : (arcs : List (TableArc UnitWeight g)) (n : ℕ) (arc : TableArc UnitWeight g)

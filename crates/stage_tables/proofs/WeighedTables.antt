@@ -133,8 +133,11 @@ module _ {g : Ghosts UnitWeight} {h : Ghosts Count} (cost : ℕ → List Sym →
   pub weighed_disjoint : ClassesDisjoint states
   weighed_disjoint s = elim (cases_lt s (length kept)) [
     | inl l ↦ moves_apart (moves_at states s) (apart_from_once (classes_of (moves_at states s)) (λ column.
-        omega (arith, (are.moves s l).held column,
-        once_from_apart (classes_of (moves_at kept s)) (classes_apart (moves_at kept s) (apart s)) column)))
+        omega (
+          arith,
+          (are.moves s l).held column,
+          once_from_apart (classes_of (moves_at kept s)) (classes_apart (moves_at kept s) (apart s)) column,
+        )))
     | inr l ↦
         (let gone : moves_at states s ≡ [] = get_or_past (map (λ x. x.arcs.items) states) s []
         (omega (arith, l, are.count, length-map states (λ x. x.arcs.items))) in

@@ -3,6 +3,7 @@ use Rattle.arc_table.specs.States.{states_of}
 use Rattle.violation.specs.Candidates.{IsOptimalFor}
 use Rattle.ranked_gen.specs.declared.gen_err.GenErr.TheVariants.{Budget}
 use Rattle.ranked_gen.specs.Budgets.{IsFirstOver}
+use Rattle.ranked_gen.specs.KindsLeft.{AreKindsLeft}
 use Rattle.ranked_gen.specs.Left.{IsRanked}
 use Rattle.ranked_gen.proofs.StageList.{first_over}
 use Rattle.ranked_gen.proofs.RankedSteps.{ranked_next}
@@ -14,10 +15,21 @@ pub next_stage-requires-clause-accepts : goal.next_stage-requires-clause-accepts
 next_stage-requires-clause-accepts c = λ T.
     let frame = c.args.frame.now in
     let before : c.loop-number.number ≡ c.loop-number.number + 1 - 1 = omega arith in
-    let law = c.loop-number.invariant.left.accepts T in (
+    let law = c.loop-number.invariant.ranked.left.accepts T in (
       λ a. subst (λ n. IsOptimalFor (problem_in frame) n T) before (law.0 a),
       λ o. law.1 (subst (λ n. IsOptimalFor (problem_in frame) n T) (sym before) o),
     )
+
+pub next_stage-requires-clause-kinds : goal.next_stage-requires-clause-kinds
+next_stage-requires-clause-kinds c =
+    let frame = c.args.frame.now in
+    let ranked = c.loop-number.ranked in
+    let before : c.loop-number.number ≡ c.loop-number.number + 1 - 1 = omega arith in
+    rw c.deref.ensures.value (subst (λ n. AreKindsLeft frame n (states_of ranked.left.kept.table) ranked.kinds.items)
+    before c.loop-number.invariant.kinds)
+
+pub next_stage-requires-clause-few_kinds : goal.next_stage-requires-clause-few_kinds
+next_stage-requires-clause-few_kinds c = rw c.deref.ensures.value c.loop-number.invariant.few
 
 pub returns-in-Err-clause-over : goal.returns-in-Err-clause-over
 returns-in-Err-clause-over c = λ s e.
@@ -29,8 +41,11 @@ returns-in-Err-clause-over c = λ s e.
     subst (λ n. IsFirstOver (problem_in frame) c.args.budget n) (sym over.0)
     (first_over
     (problem_in frame) c.args.budget c.loop-number.number c.loop-number.ranked.stages.items
-    c.loop-number.ranked.counts.items c.loop-number.invariant.so_far
+    c.loop-number.ranked.counts.items c.loop-number.invariant.ranked.so_far
     (c.loop-number.number + 1) refl inside over.1)
+
+pub loop-number-init : goal.loop-number-init
+loop-number-init c = record { ranked = c.requires.start; kinds = c.requires.kinds; few = c.requires.few_kinds }
 
 pub loop-number-preserved : goal.loop-number-preserved
 loop-number-preserved c =
@@ -40,11 +55,16 @@ loop-number-preserved c =
     let next = c.in-Ok.next in
     let ranked = ranked_next
     (problem_in frame) c.args.budget c.loop-number.number c.loop-number.ranked.stages.items
-    c.loop-number.ranked.counts.items c.loop-number.invariant.so_far
+    c.loop-number.ranked.counts.items c.loop-number.invariant.ranked.so_far
     next.stage next.count (c.loop-number.number + 1) refl inside
     (states_of next.left.kept.table) next.left.kept.states.items next.left.order.items c.in-Ok.ensures.staged
     c.in-Ok.ensures.within in
-    rw (c.in-Ok-with_next.ensures.stages, c.in-Ok-with_next.ensures.counts, c.in-Ok-with_next.ensures.left) ranked
+    rw (
+      c.in-Ok-with_next.ensures.stages,
+      c.in-Ok-with_next.ensures.counts,
+      c.in-Ok-with_next.ensures.left,
+      c.in-Ok-with_next.ensures.kinds,
+    ) (record { ranked = ranked; kinds = c.in-Ok.ensures.kinds; few = c.in-Ok.ensures.few })
 
 pub returns-clause-ranked : goal.returns-clause-ranked
 returns-clause-ranked c =
@@ -54,4 +74,4 @@ returns-clause-ranked c =
     (arith, c.loop-number-test.false, c.loop-number.auto.number-end, c.len-number-end.ensures) in
     subst (λ n. IsRanked (problem_in frame) c.args.budget n ranked.stages.items ranked.counts.items
     (states_of ranked.left.kept.table) ranked.left.kept.states.items ranked.left.order.items) end
-    c.loop-number.invariant
+    c.loop-number.invariant.ranked

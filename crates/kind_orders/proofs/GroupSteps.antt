@@ -3,9 +3,10 @@ use Rattle.std.proofs.Common.{◌≡◌, ◌≢◌, ℕ, suc, ◌+◌, ◌<◌, 
 use Rattle.std.specs.Ordering.{is_lt, nat_cmp, ordering_then}
 use Rattle.std.specs.Cmp.Lexicographic.{slice_cmp}
 use Rattle.std.specs.Cmp.{nat_cmp_is}
-use Rattle.std.specs.declared.cmp.Ordering.TheVariants.{Less}
+use Rattle.std.specs.declared.cmp.Ordering.TheVariants.{Less, Equal, Greater}
 use Rattle.std.specs.List.Sorted.{IsSorted}
 use Rattle.std.proofs.lemmas.Bool.{cases_lt}
+use Rattle.std.proofs.lemmas.Cmp.{nat_cmp_total, nat_list_cmp_total}
 use Rattle.std.proofs.lemmas.List.{map-append, length-map, get_or-map, get_or_default, take_more, take_all}
 use Rattle.std.proofs.lemmas.List.Elements.{All-nil, All-append, All-map, All-push, All-contains}
 use Rattle.std.proofs.lemmas.List.Kept.{AllPairs-cons}
@@ -14,16 +15,16 @@ use Rattle.tier_core.specs.declared.sym.Sym.{Sym}
 use Rattle.tier_core.specs.declared.class.Class.{Class}
 use Rattle.tier_core.specs.Classes.{sets_of, AreDisjoint}
 use Rattle.tier_core.specs.Filled.{is_filled}
+use Rattle.symbol_class.specs.ClassOrder.{class_cmp}
 use Rattle.symbol_class.specs.Held.{times_held, some_has, width_of, ArePieces}
 use Rattle.symbol_class.specs.Joined.{DifferTwice}
 use Rattle.symbol_class.proofs.Pairs.{pairs_map, pairs_permuted}
-use Rattle.symbol_class.proofs.Times.{pairs_head, pairs_tail, none_held, some_held, once_from_apart, pieces_from_once}
+use Rattle.symbol_class.proofs.Times.{pairs_head, pairs_tail, none_held, some_held, some_from_same, times_permuted, once_from_apart, pieces_from_once}
 use Rattle.symbol_class.proofs.JoinedClasses.{pieces_of_width, apart_permuted}
 use Rattle.answer_text.specs.declared.automaton.ArcLine.{ArcLine}
 use Rattle.answer_text.specs.Right.{arc_cmp}
 use Rattle.kind_orders.specs.JoinedArcs.{AreJoined}
 use Rattle.kind_orders.specs.JoinedLines.{arc_to, classes_of, times_to, AreJoinedFrom, AddsJoined}
-use Rattle.kind_orders.proofs.ArcOrder.{arc_cmp_total}
 use Rattle.kind_orders.proofs.ArcCounts.{adds, times-arc, times-both, times-take, times-permuted, times-target, times-same, anywhere, once_if_apart}
 
 -- pairs of two lists
@@ -50,17 +51,44 @@ held_same xs ys column apart_xs apart_ys same = go (some_has ys column) refl
     )
     go false e = omega (arith, none_held xs column (same ∙ e), none_held ys column e)
 
+turned : (a b : Class) → DifferTwice a b → DifferTwice b a
+turned a b differ = record {
+  first = differ.first;
+  second = differ.second;
+  ascending = differ.ascending;
+  at_first = λ e. differ.at_first (sym e);
+  at_second = λ e. differ.at_second (sym e);
+}
+
+-- what holds of joined classes holds in any order
+pub sorted_pieces : (width : ℕ) (joined sorted : List Class) → IsPermutation joined sorted → ArePieces width joined
+    → ArePieces width sorted
+sorted_pieces width joined sorted p pieces = record {
+  one_width = All-permutation (λ class. length (sets_of class) ≡ width) joined sorted p pieces.one_width;
+  filled = All-permutation (λ class. IsTrue (is_filled class)) joined sorted p pieces.filled;
+  apart = apart_permuted joined sorted p pieces.apart;
+}
+
+pub sorted_columns : (joined sorted : List Class) → IsPermutation joined sorted → (column : List Sym)
+    → some_has sorted column ≡ some_has joined column
+sorted_columns joined sorted p column = some_from_same sorted joined column (times_permuted joined sorted p column)
+
+pub sorted_differ : (joined sorted : List Class) → IsPermutation joined sorted → AllPairs DifferTwice joined
+    → AllPairs DifferTwice sorted
+sorted_differ joined sorted p differ = pairs_permuted DifferTwice turned joined sorted p differ
+
 -- what `join` gives is put at the end of other arcs
 pub adds_joined : (target width : ℕ) (classes joined : List Class) (old new : List ArcLine)
     → ArePieces width classes → ArePieces width joined
     → ((column : List Sym) → some_has joined column ≡ some_has classes column) → AllPairs DifferTwice joined
-    → new ≡ old ++ map (arc_to target) joined → AddsJoined target classes old new
-adds_joined target width classes joined old new pieces made columns differ is = record {
+    → IsSorted class_cmp joined → new ≡ old ++ map (arc_to target) joined → AddsJoined target classes old new
+adds_joined target width classes joined old new pieces made columns differ sorted is = record {
   added = joined;
   new_is = is;
   held = λ column. held_same joined classes column made.apart pieces.apart (columns column);
   filled = made.filled;
   differ = differ;
+  sorted = sorted;
 }
 
 -- and so is one class as it is
@@ -72,9 +100,31 @@ adds_one target width classes old new few pieces is = record {
   held = λ column. refl;
   filled = pieces.filled;
   differ = λ i j d less inside. absurd (omega arith);
+  sorted = λ k d low inside. absurd (omega arith);
 }
 
 -- ---- lines and groups
+
+-- an arc is not above another in the order of arcs
+abbrev pub NotAbove : ArcLine → ArcLine → Type 0
+NotAbove a b = is_lt (arc_cmp b a) ≡ false
+
+-- an arc to a lower target is not above
+below_not_above : (a b : ArcLine) → a.target < b.target → NotAbove a b
+below_not_above a b less =
+    sym (ap (λ o. is_lt (ordering_then o (slice_cmp nat_cmp (sets_of b.class) (sets_of a.class))))
+    (nat_cmp_is b.target a.target Greater less))
+
+-- arcs to one target on sorted classes
+sorted_to : (target : ℕ) (classes : List Class) → IsSorted class_cmp classes
+    → AllPairs NotAbove (map (arc_to target) classes)
+sorted_to target classes sorted = pairs_map NotAbove (arc_to target) classes (λ i j d less inside.
+    let a = get_or classes i d in
+    let b = get_or classes j d in
+    sym (ap (λ o. is_lt (ordering_then o (slice_cmp nat_cmp (sets_of b) (sets_of a))))
+    (nat_cmp_is target target Equal refl))
+    ∙ sorted_far (λ x y. is_lt (class_cmp x y)) (ranks_by nat_list_cmp_total sets_of) classes sorted i j d
+    (omega arith) inside)
 
 -- The first n lines are joined, but for those of the group at hand.
 pub record AreJoinedSoFar (lines : List ArcLine) (n : ℕ) (done : List ArcLine) (target : ℕ)
@@ -83,6 +133,7 @@ pub record AreJoinedSoFar (lines : List ArcLine) (n : ℕ) (done : List ArcLine)
       → times_to to done column + times_to to (map (arc_to target) classes) column ≡ times_to to (take n lines) column
   pub filled : All (λ (arc : ArcLine). IsTrue (is_filled arc.class)) done
   pub joined : AreJoined done
+  pub rising : AllPairs NotAbove done
   pub below : All (λ (arc : ArcLine). arc.target < target) done
   pub pieces : ArePieces (width_of (classes_of lines)) classes
   pub ahead : (k : ℕ) (d : ArcLine) → n ≤ k → k < length lines → target ≤ (get_or lines k d).target
@@ -92,6 +143,7 @@ pub record AreJoinedUpto (lines : List ArcLine) (n : ℕ) (done : List ArcLine) 
   pub held : (to : ℕ → Bool) (column : List Sym) → times_to to done column ≡ times_to to (take n lines) column
   pub filled : All (λ (arc : ArcLine). IsTrue (is_filled arc.class)) done
   pub joined : AreJoined done
+  pub rising : AllPairs NotAbove done
   pub upto : All (λ (arc : ArcLine). arc.target ≤ target) done
 
 pub none_joined : (lines : List ArcLine) → AreJoinedSoFar lines 0 [] 0 []
@@ -99,6 +151,7 @@ none_joined lines = record {
   held = λ to column. refl;
   filled = All-nil (λ (arc : ArcLine). IsTrue (is_filled arc.class));
   joined = λ i j d less inside. absurd (omega arith);
+  rising = λ i j d less inside. absurd (omega arith);
   below = All-nil (λ (arc : ArcLine). arc.target < 0);
   pieces = record {
     one_width = All-nil (λ class. length (sets_of class) ≡ width_of (classes_of lines));
@@ -133,6 +186,11 @@ group_joined lines n done new target classes a adds = subst (λ arcs. AreJoinedU
           (λ arc c. All-map (λ (y : ArcLine). arc.target ≡ y.target → DifferTwice arc.class y.class) (arc_to target)
           adds.added (λ k d inside same. let less = All-contains (λ (x : ArcLine). x.target < target) done arc a.below c
           in absurd (omega arith)));
+      rising = pairs-append NotAbove done (map (arc_to target) adds.added) a.rising
+          (sorted_to target adds.added adds.sorted)
+          (λ arc c. All-map (NotAbove arc) (arc_to target) adds.added (λ k d inside.
+          below_not_above arc (arc_to target (get_or adds.added k d))
+          (All-contains (λ (x : ArcLine). x.target < target) done arc a.below c)));
       upto = All-append (λ (arc : ArcLine). arc.target ≤ target) done (map (arc_to target) adds.added)
           (λ k d inside. let less = a.below k d inside in omega arith)
           (All-map (λ (arc : ArcLine). arc.target ≤ target) (arc_to target) adds.added (λ k d inside. omega arith));
@@ -209,6 +267,7 @@ module _ (lines : List ArcLine) (pieces : ArePieces (width_of (classes_of lines)
         held = held;
         filled = a.filled;
         joined = a.joined;
+        rising = a.rising;
         below = a.below;
         pieces = pieces_if done target (classes ++ line.class ∷ [])
             (All-push (λ class. length (sets_of class) ≡ width) classes line.class a.pieces.one_width wide)
@@ -237,6 +296,7 @@ module _ (lines : List ArcLine) (pieces : ArePieces (width_of (classes_of lines)
         held = held;
         filled = upto.filled;
         joined = upto.joined;
+        rising = upto.rising;
         below = λ k d within. let most = upto.upto k d within in omega (arith, other);
         pieces = pieces_if new line.target (line.class ∷ [])
             (All-push (λ class. length (sets_of class) ≡ width) [] line.class
@@ -260,19 +320,24 @@ lines_joined lines done new target classes a add =
       joined = upto.joined;
     }
 
+-- and sorted
+pub arcs_rise : (lines : List ArcLine) (n : ℕ) (done new : List ArcLine) (target : ℕ) (classes : List Class)
+    → AreJoinedSoFar lines n done target classes → AddsJoined target classes done new → IsSorted arc_cmp new
+arcs_rise lines n done new target classes a add k d low inside =
+    (group_joined lines n done new target classes a add).rising k (k + 1) d (omega arith) inside
+
 -- ---- lines that are sorted, and arcs
 
 -- sorted lines have targets that never fall
-pub targets_rise : (lines : List ArcLine) → IsSorted arc_cmp lines
+pub targets_rise : (lines : List ArcLine) → IsSorted (λ (a b : ArcLine). nat_cmp a.target b.target) lines
     → AllPairs (λ (a b : ArcLine). a.target ≤ b.target) lines
 targets_rise lines sorted = λ i j d less inside.
     let a = get_or lines i d in
     let b = get_or lines j d in
-    let kept = sorted_far (λ (x y : ArcLine). is_lt (arc_cmp x y)) (ranks_by arc_cmp_total (λ (x : ArcLine). x))
-    lines sorted i j d (omega arith) inside in
+    let kept = sorted_far (λ (x y : ArcLine). is_lt (nat_cmp x.target y.target))
+    (ranks_by nat_cmp_total (λ (x : ArcLine). x.target)) lines sorted i j d (omega arith) inside in
     ⊎_elim
-    (λ below. absurd (true≢false (sym (ap (λ o. is_lt (ordering_then o
-    (slice_cmp nat_cmp (sets_of b.class) (sets_of a.class)))) (sym (nat_cmp_is b.target a.target Less below))) ∙ kept)))
+    (λ below. absurd (true≢false (ap is_lt (nat_cmp_is b.target a.target Less below) ∙ kept)))
     (λ upto. upto)
     (cases_lt b.target a.target)
 
@@ -282,31 +347,17 @@ pub pieces_permuted : (width : ℕ) (lines others : List ArcLine) → IsPermutat
 pieces_permuted width lines others p pieces =
     let same : IsPermutation (classes_of lines) (classes_of others)
     = IsPermutation-map (λ (arc : ArcLine). arc.class) lines others p in
-    pieces_of_width width (classes_of others) (record {
-      one_width = All-permutation (λ class. length (sets_of class) ≡ width) (classes_of lines) (classes_of others) same
-          pieces.one_width;
-      filled = All-permutation (λ class. IsTrue (is_filled class)) (classes_of lines) (classes_of others) same
-          pieces.filled;
-      apart = apart_permuted (classes_of lines) (classes_of others) same pieces.apart;
-    })
+    pieces_of_width width (classes_of others) (sorted_pieces width (classes_of lines) (classes_of others) same pieces)
 
 twice_turned : (a b : ArcLine) → (a.target ≡ b.target → DifferTwice a.class b.class)
     → b.target ≡ a.target → DifferTwice b.class a.class
-twice_turned a b differ same = let d = differ (sym same) in record {
-  first = d.first;
-  second = d.second;
-  ascending = d.ascending;
-  at_first = λ e. d.at_first (sym e);
-  at_second = λ e. d.at_second (sym e);
-}
+twice_turned a b differ same = turned a.class b.class (differ (sym same))
 
--- what is joined stays so in any order of lines and arcs
-pub joined_permuted : (moves lines arcs others : List ArcLine) → IsPermutation moves lines
-    → IsPermutation arcs others → AreJoinedFrom lines arcs → AreJoinedFrom moves others
-joined_permuted moves lines arcs others p q a = record {
-  held = λ to column. times-permuted to column arcs others q ∙ a.held to column
-      ∙ times-permuted to column moves lines p;
-  filled = All-permutation (λ (arc : ArcLine). IsTrue (is_filled arc.class)) arcs others q a.filled;
-  joined = pairs_permuted (λ (x y : ArcLine). x.target ≡ y.target → DifferTwice x.class y.class) twice_turned
-      arcs others q a.joined;
+-- what is joined stays so in any order of lines
+pub joined_permuted : (moves lines arcs : List ArcLine) → IsPermutation moves lines → AreJoinedFrom lines arcs
+    → AreJoinedFrom moves arcs
+joined_permuted moves lines arcs p a = record {
+  held = λ to column. a.held to column ∙ times-permuted to column moves lines p;
+  filled = a.filled;
+  joined = a.joined;
 }

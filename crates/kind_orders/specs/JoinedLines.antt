@@ -1,10 +1,11 @@
 -- Arcs that read what others read, and are joined.
-use Rattle.std.specs.Prelude.{ℕ, ◌≡◌, Bool, ◌&&◌, IsTrue, List, ◌++◌, map, All, AllPairs}
+use Rattle.std.specs.Prelude.{ℕ, ◌≡◌, Bool, ◌&&◌, IsTrue, List, ◌++◌, map, All, AllPairs, IsSorted}
 use Rattle.std.specs.List.{count_by}
 use Rattle.tier_core.specs.declared.sym.Sym.{Sym}
 use Rattle.tier_core.specs.declared.class.Class.{Class}
 use Rattle.tier_core.specs.Classes.{has}
 use Rattle.tier_core.specs.Filled.{is_filled}
+use Rattle.symbol_class.specs.ClassOrder.{class_cmp}
 use Rattle.symbol_class.specs.Held.{times_held}
 use Rattle.symbol_class.specs.Joined.{DifferTwice}
 use Rattle.answer_text.specs.declared.automaton.ArcLine.{ArcLine}
@@ -30,10 +31,11 @@ pub record AreJoinedFrom (lines arcs : List ArcLine) : Type 0 where
   pub joined : AreJoined arcs
 
 -- Arcs to one target are put at the end of others: their classes hold each column as often as these
--- classes, none is empty, and any two differ in the sets of at least two tiers.
+-- classes, none is empty, any two differ in the sets of at least two tiers, and they are sorted.
 pub record AddsJoined (target : ℕ) (classes : List Class) (old new : List ArcLine) : Type 0 where
   pub added : List Class
   pub new_is : new ≡ old ++ map (arc_to target) added
   pub held : (column : List Sym) → times_held added column ≡ times_held classes column
   pub filled : All (λ class. IsTrue (is_filled class)) added
   pub differ : AllPairs DifferTwice added
+  pub sorted : IsSorted class_cmp added

@@ -1,4 +1,4 @@
-ghost use Rattle.std.specs.Prelude.{◌≡◌, ◌<◌, All, IfOk, IsPermutation, IsSorted, length, map};
+ghost use Rattle.std.specs.Prelude.{◌≡◌, ◌<◌, ◌≤◌, All, AllPairs, IfOk, IsPermutation, IsSorted, length, map};
 ghost use Rattle.answer_text.specs.Right.{arc_cmp};
 ghost use Rattle.symbol_class.specs.Held.{width_of, ArePieces};
 ghost use Rattle.kind_orders.specs.AutomatonLines.{line_of, move_classes};
@@ -8,16 +8,7 @@ use crate::joined_arcs::joined_lines;
 use answer_text::ArcLine;
 use arc_table::TableArc;
 use std::alloc::{AllocError, Global};
-use std::cmp::Ordering;
-use symbol_class::class_cmp;
 use weight_law::UnitWeight;
-
-/// Compares arcs by target, then by class.
-fn arc_cmp(a: &ArcLine, b: &ArcLine) -> Ordering
-    ensures { result ≡ arc_cmp a.now b.now }
-{
-    a.target.cmp(&b.target).then(class_cmp(&a.class, &b.class))
-}
 
 /// The arcs of moves, in which each target is a node number. `nodes` has the node number of each
 /// state.
@@ -39,7 +30,7 @@ fn unsorted_lines(
     Ok(lines)
 }
 
-/// The arcs of moves, in which each target is a node number, sorted by target and then by class.
+/// The arcs of moves, in which each target is a node number, sorted by target.
 fn sorted_lines(
     alloc: Global,
     moves: &[TableArc<UnitWeight>],
@@ -48,10 +39,10 @@ fn sorted_lines(
     requires { All (λ arc. arc.target < length nodes.now) moves.now }
     ensures same { IfOk result
         (λ lines. IsPermutation (map (line_of nodes.now) moves.now) lines.items) }
-    ensures sorted { IfOk result (λ lines. IsSorted arc_cmp lines.items) }
+    ensures sorted { IfOk result (λ lines. AllPairs (λ a b. a.target ≤ b.target) lines.items) }
 {
     let mut lines = unsorted_lines(alloc, moves, nodes)?;
-    lines.sort_unstable_by(|a, b| arc_cmp(a, b));
+    lines.sort_unstable_by(|a, b| a.target.cmp(&b.target));
     Ok(lines)
 }
 
@@ -70,7 +61,6 @@ pub(crate) fn arc_lines(
 {
     let lines = sorted_lines(alloc, moves, nodes)?;
     let mut arcs = joined_lines(alloc, &lines)?;
-    arcs.sort_unstable_by(|a, b| arc_cmp(a, b));
     arcs.shrink_to_fit();
     Ok(arcs)
 }

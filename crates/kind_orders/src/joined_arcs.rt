@@ -1,12 +1,14 @@
-ghost use Rattle.std.specs.Prelude.{◌≡◌, ◌≢◌, ◌≤◌, ◌++◌, ◌∷◌, [], AllPairs, IfOk, List, OnOk, map};
+ghost use Rattle.std.specs.Prelude.{◌≡◌, ◌≢◌, ◌≤◌, ◌++◌, ◌∷◌, [], AllPairs, IfOk, IsSorted, List, OnOk, map};
 ghost use Rattle.tier_core.specs.declared.sym.Sym.{Sym};
+ghost use Rattle.symbol_class.specs.ClassOrder.{class_cmp};
 ghost use Rattle.symbol_class.specs.Held.{some_has, width_of, ArePieces};
 ghost use Rattle.symbol_class.specs.Joined.{DifferTwice};
+ghost use Rattle.answer_text.specs.Right.{arc_cmp};
 ghost use Rattle.kind_orders.specs.JoinedLines.{arc_to, classes_of, AddsJoined, AreJoinedFrom};
 
 use answer_text::ArcLine;
 use std::alloc::{AllocError, Global};
-use symbol_class::join;
+use symbol_class::{class_cmp, join};
 use tier_core::Class;
 
 /// The classes of lines to one target, which are to be joined.
@@ -35,7 +37,7 @@ pub(crate) fn push_arcs(
 }
 
 /// Classes that hold the columns of the given ones, any two of which differ in the sets of at least
-/// two tiers.
+/// two tiers, and which are sorted.
 fn joined_classes(alloc: Global, classes: &[Class]) -> Result<Vec<Class>, AllocError>
     requires { ArePieces (width_of classes.now) classes.now }
     ensures pieces { IfOk result (λ joined. ArePieces (width_of classes.now) joined.items) }
@@ -43,15 +45,18 @@ fn joined_classes(alloc: Global, classes: &[Class]) -> Result<Vec<Class>, AllocE
         (λ joined. (column : List Sym)
         → some_has joined.items column ≡ some_has classes.now column) }
     ensures differ { IfOk result (λ joined. AllPairs DifferTwice joined.items) }
+    ensures sorted { IfOk result (λ joined. IsSorted class_cmp joined.items) }
 {
-    match join(alloc, classes) {
-        Ok(joined) => Ok(joined),
-        Err(_) => Err(AllocError),
-    }
+    let mut joined = match join(alloc, classes) {
+        Ok(joined) => joined,
+        Err(_) => return Err(AllocError),
+    };
+    joined.sort_unstable_by(|a, b| class_cmp(a, b));
+    Ok(joined)
 }
 
-/// Puts arcs to a target at the end of a list, on classes that are joined first. One class is as it
-/// is.
+/// Puts arcs to a target at the end of a list, on classes that are joined first and sorted. One
+/// class is as it is.
 fn push_joined(
     alloc: Global,
     arcs: &mut Vec<ArcLine>,
@@ -122,12 +127,13 @@ fn group_after(
     next_group(group, line)
 }
 
-/// The arcs of lines that are sorted by target. The classes of the lines to one target are
-/// joined.
+/// The arcs of lines that are sorted by target, where the classes of the lines to one target are
+/// joined. They are sorted by target and then by class.
 pub(crate) fn joined_lines(alloc: Global, lines: &[ArcLine]) -> Result<Vec<ArcLine>, AllocError>
     requires pieces { ArePieces (width_of (classes_of lines.now)) (classes_of lines.now) }
     requires sorted { AllPairs (λ a b. a.target ≤ b.target) lines.now }
-    ensures { IfOk result (λ arcs. AreJoinedFrom lines.now arcs.items) }
+    ensures joined { IfOk result (λ arcs. AreJoinedFrom lines.now arcs.items) }
+    ensures sorted { IfOk result (λ arcs. IsSorted arc_cmp arcs.items) }
 {
     let mut arcs = Vec::new(alloc);
     let mut group = Group {

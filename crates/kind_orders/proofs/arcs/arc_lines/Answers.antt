@@ -1,13 +1,11 @@
-use Rattle.std.proofs.Common.{◌≤◌, AllPairs, IsSorted, List, map, sym, subst, rules}
-use Rattle.std.proofs.lemmas.List.Sorted.{ranks_by}
+use Rattle.std.proofs.Common.{◌≤◌, AllPairs, IsSorted, List, map, sym, subst}
 use Rattle.answer_text.specs.declared.automaton.ArcLine.{ArcLine}
 use Rattle.answer_text.specs.Right.{arc_cmp}
 use Rattle.symbol_class.specs.Held.{width_of, ArePieces}
-use Rattle.symbol_class.proofs.Pairs.{sorted_by_closure}
 use Rattle.kind_orders.specs.AutomatonLines.{line_of, move_classes}
 use Rattle.kind_orders.specs.JoinedLines.{classes_of, AreJoinedFrom}
-use Rattle.kind_orders.proofs.ArcOrder.{arc_cmp_total, lines_are_pieces}
-use Rattle.kind_orders.proofs.GroupSteps.{targets_rise, pieces_permuted, joined_permuted}
+use Rattle.kind_orders.proofs.ArcOrder.{lines_are_pieces}
+use Rattle.kind_orders.proofs.GroupSteps.{pieces_permuted, joined_permuted}
 use Rattle.kind_orders.proofs.arcs.arc_lines.Goals as goal
 
 pub joined_lines-requires-clause-pieces : goal.joined_lines-requires-clause-pieces
@@ -21,20 +19,14 @@ joined_lines-requires-clause-pieces c =
 pub joined_lines-requires-clause-sorted : goal.joined_lines-requires-clause-sorted
 joined_lines-requires-clause-sorted c =
     subst (AllPairs (λ (a b : ArcLine). a.target ≤ b.target)) (sym c.deref.ensures.value)
-    (targets_rise c.in_ok-lines.lines.items c.in_ok-lines.ensures.sorted)
+    c.in_ok-lines.ensures.sorted
 
 pub returns-clause-joined : goal.returns-clause-joined
 returns-clause-joined c =
     let lines = map (line_of c.args.nodes.now) c.args.moves.now in
     rw c.shrink_to_fit.ensures.items
-    (joined_permuted lines c.in_ok-lines.lines.items
-    c.in_ok-arcs.arcs.items c.sort_unstable_by.new.self.items c.in_ok-lines.ensures.same
-    c.sort_unstable_by.ensures.permutation
-    (subst (λ ls. AreJoinedFrom ls c.in_ok-arcs.arcs.items) c.deref.ensures.value c.in_ok-arcs.ensures))
+    (joined_permuted lines c.in_ok-lines.lines.items c.in_ok-arcs.arcs.items c.in_ok-lines.ensures.same
+    (subst (λ ls. AreJoinedFrom ls c.in_ok-arcs.arcs.items) c.deref.ensures.value c.in_ok-arcs.ensures.joined))
 
 pub returns-clause-sorted : goal.returns-clause-sorted
-returns-clause-sorted c =
-    let sorted : IsSorted arc_cmp c.sort_unstable_by.new.self.items =
-    sorted_by_closure arc_cmp c.sort_unstable_by.new.self.items
-    (ranks_by arc_cmp_total (λ a. a)) c.sort_unstable_by.ensures.sorted (λ a r f k. search rules) in
-    subst (IsSorted arc_cmp) (sym c.shrink_to_fit.ensures.items) sorted
+returns-clause-sorted c = subst (IsSorted arc_cmp) (sym c.shrink_to_fit.ensures.items) c.in_ok-arcs.ensures.sorted

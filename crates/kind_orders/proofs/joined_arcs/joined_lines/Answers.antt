@@ -4,7 +4,7 @@ use Rattle.tier_core.specs.declared.class.Class.{Class}
 use Rattle.symbol_class.specs.Held.{width_of, ArePieces}
 use Rattle.symbol_class.proofs.JoinedClasses.{pieces_of_width}
 use Rattle.kind_orders.specs.JoinedLines.{classes_of, AddsJoined}
-use Rattle.kind_orders.proofs.GroupSteps.{AreJoinedSoFar, same_group, other_group, lines_joined}
+use Rattle.kind_orders.proofs.GroupSteps.{AreJoinedSoFar, same_group, other_group, lines_joined, arcs_rise}
 use Rattle.kind_orders.proofs.joined_arcs.joined_lines.Goals as goal
 
 pub group_after-requires : goal.group_after-requires
@@ -36,8 +36,8 @@ push_joined-requires c = subst (λ (cs : List Class). ArePieces (width_of cs) cs
     (pieces_of_width (width_of (classes_of c.args.lines.now)) c.loop-line.group.classes.items
     c.loop-line.invariant.pieces)
 
-pub returns : goal.returns
-returns c =
+pub returns-clause-joined : goal.returns-clause-joined
+returns-clause-joined c =
     let lines = c.args.lines.now in
     let done = c.loop-line.arcs.items in
     let new = c.push_joined.new.arcs.items in
@@ -46,4 +46,13 @@ returns c =
     (arith, c.loop-line-test.false, c.loop-line.auto.line-index-end) in
     lines_joined lines done new group.target group.classes.items
     (subst (λ n. AreJoinedSoFar lines n done group.target group.classes.items) last c.loop-line.invariant)
+    (subst (λ cs. AddsJoined group.target cs done new) c.deref.ensures.value c.in_ok-push_joined.ensures)
+
+pub returns-clause-sorted : goal.returns-clause-sorted
+returns-clause-sorted c =
+    let done = c.loop-line.arcs.items in
+    let new = c.push_joined.new.arcs.items in
+    let group = c.loop-line.group in
+    arcs_rise c.args.lines.now c.loop-line.line-index done new group.target group.classes.items
+    c.loop-line.invariant
     (subst (λ cs. AddsJoined group.target cs done new) c.deref.ensures.value c.in_ok-push_joined.ensures)

@@ -16,5 +16,5 @@ returns c =
     let made = c.in_ok-joined.ensures in
     on_ok_weaker c.push_arcs-2.result
     (λ is. adds_joined c.args.target (width_of c.args.classes.now) c.args.classes.now c.in_ok-joined.joined.items old
-    c.push_arcs-2.new.arcs.items c.requires made.pieces made.columns made.differ
+    c.push_arcs-2.new.arcs.items c.requires made.pieces made.columns made.differ made.sorted
     (is ∙ ap (λ cs. old ++ map (arc_to c.args.target) cs) c.deref.ensures.value)) c.push_arcs-2.ensures

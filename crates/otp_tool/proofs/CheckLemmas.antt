@@ -69,13 +69,13 @@ module _ (g : Grammar) where
       pub is_readable : IsReadable shape answer → IsReadableFor g answer
       is_readable r = record { shape = shape; of_grammar = of_grammar; readable = r }
 
-      is_ready : FindsForCheck (value_of g) bytes ready
+      pub is_ready : FindsForCheck (value_of g) bytes ready
       is_ready = (
         answer_value shape answer,
         record { within = within; shape = shape; of_grammar = shape_for shape of_grammar; is = read },
       )
 
-      is_text : (verdict : Verdict) → IsVerdict (asked_by g answer) answer verdict
+      pub is_text : (verdict : Verdict) → IsVerdict (asked_by g answer) answer verdict
           → (verdict ≡ Yes → IsSound (asked_by g answer) answer)
           → IsVerdictText text_widths verdict (value_of g) bytes (verdict_text (widths_of shape) verdict)
       is_text verdict v sound = record {

@@ -15,5 +15,6 @@ mod TableauLemmas
 mod OnceLemmas
 mod HearingLemmas
 mod CheckLemmas
+mod GeneratedLemmas
 mod CauseLemmas
 mod DueLemmas

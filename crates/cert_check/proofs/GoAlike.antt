@@ -1,11 +1,10 @@
--- Columns on which the tests of a stage agree go on alike up to this stage; and tests that are put one
--- behind the other.
-use Rattle.std.proofs.Common.{◌≡◌, ℕ, ◌+◌, ◌-◌, ◌<◌, ◌≤◌, Bool, cond, List, [], ◌∷◌, ◌++◌, length, map, take, filter, get_or, sym, ap, ap₂, ◌∙◌, subst, append_assoc, append-nil, All, below_more}
+-- Columns that no constraint of a stage tells apart go on alike up to this stage; and tests that are put
+-- one behind the other.
+use Rattle.std.proofs.Common.{◌≡◌, ℕ, ◌+◌, ◌-◌, ◌<◌, ◌≤◌, Bool, cond, List, [], ◌∷◌, ◌++◌, length, map, take, filter, get_or, sym, ap, ap₂, ◌∙◌, subst, append_assoc, append-nil, below_more}
 use Rattle.std.specs.List.{AllByRecursion}
-use Rattle.std.proofs.lemmas.List.Elements.{All-from_recursion, recursion_from_All, All-append, All-more}
+use Rattle.std.proofs.lemmas.List.Elements.{All-from_recursion, recursion_from_All, All-append}
 use Rattle.tier_core.specs.declared.class.Class.{Class}
 use Rattle.tier_core.specs.declared.sym.Sym.{Sym}
-use Rattle.tier_core.specs.declared.constraint.Constraint.{Constraint}
 use Rattle.tier_core.specs.Classes.{sets_of, has}
 use Rattle.tier_core.specs.Kinds.{Phase, PrefixKind}
 use Rattle.tier_core.specs.Scan.{opens}
@@ -17,7 +16,7 @@ use Rattle.violation.specs.Problems.{Problem}
 use Rattle.violation.proofs.TierLemmas.{map_agree}
 use Rattle.violation.proofs.WalkLemmas.{all_split}
 use Rattle.cert_check.specs.Alike.{AreAlikeFor}
-use Rattle.cert_check.specs.Fitting.{GoOnAlike, OpenAlike, TellStage}
+use Rattle.cert_check.specs.Fitting.{GoOnAlike, OpenAlike}
 use Rattle.cert_check.specs.Tests.{AddsTests, AgreeOn}
 use Rattle.cert_check.proofs.AlikeMoves.{IsNextAlike, stretches_alike, all_next_alike, all_costs_alike, first_alike}
 use Rattle.cert_check.proofs.CostSteps.{take_less}
@@ -75,17 +74,6 @@ open_more width old mid new test tier a is wide told =
     (adds_one width mid new test (λ c d. opens (symbol c tier) ≡ opens (symbol d tier)) is wide
     (λ c d lc ld e. sym (told c lc) ∙ e ∙ told d ld))
 
--- one more constraint is tested
-pub constraint_more : (width : ℕ) (old mid new : List Class) (xs : List Constraint) (n : ℕ) (x : Constraint)
-    → n < length xs → x ≡ get_or xs n x
-    → AddsTests width old mid (λ c d. All (λ y. AreAlikeFor y c d) (take n xs))
-    → AddsTests width mid new (AreAlikeFor x)
-    → AddsTests width old new (λ c d. All (λ y. AreAlikeFor y c d) (take (n + 1) xs))
-constraint_more width old mid new xs n x l is a b =
-    adds_then width old mid new (λ c d. All (λ y. AreAlikeFor y c d) (take n xs)) (AreAlikeFor x)
-    (λ c d. All (λ y. AreAlikeFor y c d) (take (n + 1) xs))
-    (λ c d so_far here. All-more (λ y. AreAlikeFor y c d) xs n x l so_far (subst (λ y. AreAlikeFor y c d) is here)) a b
-
 -- ---- columns that go on alike
 
 each_open : (ts : List ℕ) (width : ℕ) (c d : List Sym) → AllByRecursion (λ t. t < width) ts → OpenAlike width c d
@@ -121,24 +109,3 @@ module _ (problem : Problem) (stage : ℕ) (below : AllByRecursion (λ t. t < pr
 
   pub go_on_alike : GoOnAlike problem stage c d
   go_on_alike = record { moves = moves; costs = costs }
-
--- the tests of the open tiers and those of the constraints of a stage tell how columns go on
-pub tell_stage : (problem : Problem) (stage : ℕ) (one two first : List Class) (xs : List Constraint)
-    → AllByRecursion (λ t. t < problem.tiers.width) problem.tiers.free
-    → first ≡ [] → xs ≡ take stage problem.constraints
-    → AddsTests problem.tiers.width first one (OpenAlike problem.tiers.width)
-    → AddsTests problem.tiers.width one two (λ c d. All (λ x. AreAlikeFor x c d) xs)
-    → TellStage problem stage two
-tell_stage problem stage one two first xs below none is a b =
-    let all = adds_then problem.tiers.width first one two (OpenAlike problem.tiers.width)
-    (λ c d. All (λ x. AreAlikeFor x c d) xs)
-    (λ c d. OpenAlike problem.tiers.width c d × All (λ x. AreAlikeFor x c d) xs) (λ c d x y. (x, y)) a b in
-    let whole : two ≡ all.added = all.new_is ∙ ap (λ ys. ys ++ all.added) none in
-    record {
-      one_width = subst (All (λ (test : Class). length (sets_of test) ≡ problem.tiers.width)) (sym whole) all.one_width;
-      told = λ c d lc ld agree edge.
-          let t = all.told c d lc ld (subst (λ ys. AgreeOn ys c d) whole agree) in
-          go_on_alike problem stage below c d edge t.0
-          (recursion_from_All (λ x. AreAlikeFor x c d) (take stage problem.constraints)
-          (subst (All (λ x. AreAlikeFor x c d)) is t.1));
-    }

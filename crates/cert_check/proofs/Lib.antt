@@ -38,6 +38,8 @@ pub mod FittingSteps
 pub mod GoAlike
 pub mod UniformSteps
 pub mod TightSteps
+pub mod PrunedSteps
+pub mod TightLists
 pub mod KeptSteps
 pub mod ColumnPlaces
 pub mod NodeSteps

@@ -13,7 +13,6 @@ use Rattle.tier_core.specs.Sides.{is_stretch}
 use Rattle.violation.specs.Moves.{moved, cost_of, cut}
 use Rattle.violation.specs.Prefixes.{kind_of_bits, stretches}
 use Rattle.violation.specs.Problems.{Problem, last_stage}
-use Rattle.violation.proofs.CutLemmas.{cut-moved}
 use Rattle.answer_text.specs.declared.stage.Node.{Node}
 use Rattle.answer_text.specs.declared.stage.Stage.{Stage}
 use Rattle.answer_text.specs.Right.{nodes_at, kinds_at}
@@ -23,7 +22,6 @@ use Rattle.check_laws.proofs.Members.{contains_map}
 use Rattle.cert_check.specs.declared.subject.Subject.{Subject}
 use Rattle.cert_check.specs.Faults.{IsUnlisted, TellsKind}
 use Rattle.cert_check.specs.Fitting.{GoOnAlike}
-use Rattle.cert_check.specs.Kept.{IsTightBelow}
 use Rattle.cert_check.specs.Subjects.{IsReady, AscendsAt, problem_of}
 use Rattle.cert_check.proofs.Subjects.{cut_told, free_same, stretch_same, stage_in}
 
@@ -38,12 +36,6 @@ tight_same problem stages stage j k c d a l t = record {
   arrives = subst (λ x. Lists problem stages j x t.after) (a.moves j (cut problem j k) l) t.arrives;
   falls = t.falls ∙ ap (λ n. n + t.after) (a.costs j (cut problem j k) l);
 }
-
-pub tight_below_same : (problem : Problem) (stages : List Stage) (stage below : ℕ) (k : PrefixKind) (c d : List Sym)
-    → GoOnAlike problem stage c d → below ≤ stage + 1 → IsTightBelow problem stages below k c
-    → IsTightBelow problem stages below k d
-tight_below_same problem stages stage below k c d a l t j one less =
-    tight_same problem stages stage j k c d a (omega arith) (t j one less)
 
 -- ---- what is listed
 
@@ -155,14 +147,6 @@ module _ (s : Subject) (ready : IsReady s) (stage j : ℕ) (within : stage ≤ l
       is ∙ get_or_default s.shape.now.phases.items j count 0 (stage_in s ready j last) ∙ stretch_same s ready j last in
       cut_told (problem_of s) result kind j stage (stretches_rise (problem_of s).constraints j stage earlier) place
       opened (λ i l. same i (omega (arith, l, number)))
-
-  -- the cut of a kind to which a column leads is that to which it leads from the cut
-  pub target_told_at : (k : PrefixKind) (column : List Sym) → result.place ≡ kind.place
-      → ((i : ℕ) → i < count → phase_at result i ≡ phase_at kind i)
-      → kind_of_bits (problem_of s) stage kind ≡ moved (problem_of s) stage k column
-      → kind_of_bits (problem_of s) j result ≡ moved (problem_of s) j (cut (problem_of s) j k) column
-  target_told_at k column place same tells =
-      cut_told_at place same ∙ ap (cut (problem_of s) j) tells ∙ cut-moved (problem_of s) j stage earlier k column
 
 -- bits that tell a kind of a stage fit the shape there
 pub tells_fit : (s : Subject) → IsReady s → (stage : ℕ) → stage ≤ last_stage (problem_of s) → (kind : Kind)

@@ -3,19 +3,16 @@ use Rattle.std.proofs.Common.{◌≡◌, ℕ, ◌+◌, ◌<◌, List, [], length
 use Rattle.std.proofs.lemmas.List.Elements.{All-from_recursion, All-more, Contains-get_or}
 use Rattle.tier_core.specs.declared.class.Class.{Class}
 use Rattle.tier_core.specs.declared.sym.Sym.{Sym}
-use Rattle.tier_core.specs.Classes.{sets_of, has}
-use Rattle.tier_core.specs.Kinds.{PrefixKind}
-use Rattle.tier_core.proofs.ClassLemmas.{same_width}
+use Rattle.tier_core.specs.Classes.{has}
 use Rattle.symbol_class.specs.declared.difference.Difference.{Difference}
 use Rattle.symbol_class.specs.Held.{ArePieces}
 use Rattle.symbol_class.specs.Parts.{differs, IsPartOf, ArePartedBy}
 use Rattle.symbol_class.proofs.Times.{some_from_same}
-use Rattle.violation.specs.Problems.{Problem}
-use Rattle.cert_check.specs.Fitting.{AreFitting, AreNodePieces, ArePartedByTests, IsReadAlike, TellStage}
+use Rattle.cert_check.specs.Fitting.{ArePartedByTests}
 use Rattle.cert_check.specs.Pieces.{IsUniform}
 
 -- what is so of each class of a list is so of one that is in it
-of_listed : (P : Class → Type 0) (xs : List Class) (x : Class) → All P xs → Contains xs x → P x
+pub of_listed : (P : Class → Type 0) (xs : List Class) (x : Class) → All P xs → Contains xs x → P x
 of_listed P xs x all c = subst P c.2 (all c.0 x c.1)
 
 pub parted_none : (width : ℕ) (wholes : List Class) → ArePieces width wholes → ArePartedByTests width [] wholes wholes
@@ -48,24 +45,4 @@ parted_more width tests n test wholes parts new w difference l is same told a b 
       (p.within x hx) (p.within y hy) in
       All-more (λ (t : Class). has t x ≡ has t y) tests n test l so_far
       (subst (λ (t : Class). has t x ≡ has t y) is (sym (told x) ∙ b.alike k d inside x y hx hy ∙ told y));
-}
-
--- the pieces of a kind's columns that are parted by the tests of a stage
-pub node_pieces_are : (problem : Problem) (stage : ℕ) (k : PrefixKind) (width : ℕ) (tests fitting parts : List Class)
-    → width ≡ problem.tiers.width → AreFitting problem k fitting → TellStage problem stage tests
-    → ArePartedByTests width tests fitting parts → AreNodePieces problem stage k parts
-node_pieces_are problem stage k width tests fitting parts same f t p = record {
-  pieces = subst (λ m. ArePieces m parts) same p.pieces;
-  columns = λ column. (
-    λ h. (f.columns column).0 (sym (p.columns column) ∙ h),
-    λ h. p.columns column ∙ (f.columns column).1 h,
-  );
-  alike = λ n d inside x y hx hy.
-      let wide = p.pieces.one_width n d inside ∙ same in
-      let whole = p.within n d inside in
-      let piece : Class = get_or parts n d in
-      t.told x y (same_width (sets_of piece) x hx ∙ wide) (same_width (sets_of piece) y hy ∙ wide)
-      (p.uniform n d inside x y hx hy)
-      (of_listed (IsReadAlike problem) fitting whole.whole f.read whole.listed x y
-      (whole.within x hx) (whole.within y hy));
 }

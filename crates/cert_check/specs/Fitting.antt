@@ -1,8 +1,8 @@
 -- The columns that fit a kind, in pieces; and pieces that tests part.
-use Rattle.std.specs.Prelude.{ℕ, ◌≡◌, ◌<◌, ◌≤◌, ◌↔◌, IsTrue, List, length, All}
+use Rattle.std.specs.Prelude.{ℕ, ◌≡◌, ◌<◌, ◌≤◌, ◌↔◌, IsTrue, List, All}
 use Rattle.tier_core.specs.declared.sym.Sym.{Sym}
 use Rattle.tier_core.specs.declared.class.Class.{Class}
-use Rattle.tier_core.specs.Classes.{sets_of, has}
+use Rattle.tier_core.specs.Classes.{has}
 use Rattle.tier_core.specs.Kinds.{PrefixKind}
 use Rattle.tier_core.specs.Scan.{opens}
 use Rattle.tier_core.specs.Timelines.{symbol, has_edge}
@@ -11,7 +11,6 @@ use Rattle.symbol_class.specs.Parts.{IsAlike, IsPartOf}
 use Rattle.violation.specs.Moves.{input_of, FitsKind, moved, cost_of}
 use Rattle.violation.specs.Problems.{Problem}
 use Rattle.cert_check.specs.Pieces.{IsUniform}
-use Rattle.cert_check.specs.Tests.{AgreeOn}
 
 -- all columns of a class have an edge on the input tiers, or none has
 abbrev pub IsReadAlike : Problem → Class → Type 0
@@ -40,20 +39,7 @@ pub record GoOnAlike (problem : Problem) (stage : ℕ) (c d : List Sym) : Type 0
   pub moves : (r : ℕ) (k : PrefixKind) → r ≤ stage → moved problem r k c ≡ moved problem r k d
   pub costs : (r : ℕ) (k : PrefixKind) → r ≤ stage → cost_of problem r k c ≡ cost_of problem r k d
 
--- Tests of a width tell how columns go on up to a stage: those on which they agree, and of which both
--- have an edge on the input tiers or neither has, go on alike.
-pub record TellStage (problem : Problem) (stage : ℕ) (tests : List Class) : Type 0 where
-  pub one_width : All (λ test. length (sets_of test) ≡ problem.tiers.width) tests
-  pub told : (c d : List Sym) → length c ≡ problem.tiers.width → length d ≡ problem.tiers.width → AgreeOn tests c d
-      → has_edge (input_of problem.tiers c) ≡ has_edge (input_of problem.tiers d) → GoOnAlike problem stage c d
-
 -- all columns of a class go on alike up to a stage
 abbrev pub IsGoingAlike : Problem → ℕ → Class → Type 0
 IsGoingAlike problem stage class = (c d : List Sym) → IsTrue (has class c) → IsTrue (has class d)
     → GoOnAlike problem stage c d
-
--- pieces hold exactly the columns that fit a kind, and all columns of each go on alike up to a stage
-pub record AreNodePieces (problem : Problem) (stage : ℕ) (k : PrefixKind) (classes : List Class) : Type 0 where
-  pub pieces : ArePieces problem.tiers.width classes
-  pub columns : (column : List Sym) → IsTrue (some_has classes column) ↔ FitsKind problem k column
-  pub alike : All (IsGoingAlike problem stage) classes

@@ -1,5 +1,5 @@
 -- The moves of a kind that are kept, by pieces: columns that lead to one kind and cost the same.
-use Rattle.std.specs.Prelude.{ℕ, ◌≡◌, ◌<◌, ◌≤◌, ◌↔◌, ◌⊎◌, IsTrue, List, [], ◌∷◌, ◌++◌, map, All}
+use Rattle.std.specs.Prelude.{ℕ, ◌≡◌, ◌≤◌, ◌↔◌, IsTrue, List, [], ◌∷◌, ◌++◌, map, All}
 use Rattle.tier_core.specs.declared.sym.Sym.{Sym}
 use Rattle.tier_core.specs.declared.class.Class.{Class}
 use Rattle.tier_core.specs.Classes.{has}
@@ -8,7 +8,7 @@ use Rattle.symbol_class.specs.Held.{some_has, ArePieces}
 use Rattle.violation.specs.Moves.{moved, cost_of}
 use Rattle.violation.specs.Problems.{Problem}
 use Rattle.answer_text.specs.declared.stage.Stage.{Stage}
-use Rattle.answer_text.specs.Certified.{IsKeptBelow, IsTightAt}
+use Rattle.answer_text.specs.Certified.{IsKeptBelow}
 use Rattle.cert_check.specs.declared.kept_piece.KeptPiece.{KeptPiece}
 use Rattle.cert_check.specs.Faults.{TellsKind}
 
@@ -24,16 +24,19 @@ pub record IsKeptPiece (problem : Problem) (stage : ℕ) (k : PrefixKind) (piece
   pub costs : (column : List Sym) → IsTrue (has piece.class column) → cost_of problem stage k column ≡ piece.cost
   pub few : piece.cost ≤ 1
 
--- The move from a kind on a column is tight at each stage from 1 on that is below another.
-abbrev pub IsTightBelow : Problem → List Stage → ℕ → PrefixKind → List Sym → Type 0
-IsTightBelow problem stages below k column = (j : ℕ) → 1 ≤ j → j < below → IsTightAt problem stages j k column
+-- A class is put at the end of a list as a piece.
+pub record AddsKept (problem : Problem) (stage : ℕ) (k : PrefixKind) (class : Class) (old new : List KeptPiece)
+    : Type 0 where
+  pub piece : KeptPiece
+  pub new_is : new ≡ old ++ piece ∷ []
+  pub same_class : piece.class ≡ class
+  pub is : IsKeptPiece problem stage k piece
 
--- A class is put at the end of a list as a piece, if the moves on its columns are tight.
-abbrev pub AddsKept : Problem → List Stage → ℕ → ℕ → PrefixKind → Class → List KeptPiece → List KeptPiece → Type 0
-AddsKept problem stages stage below k class old new =
-    ((new ≡ old) × ((column : List Sym) → IsTrue (has class column) → IsTightBelow problem stages below k column → ⊥))
-    ⊎ ((piece : KeptPiece) × ((new ≡ old ++ piece ∷ []) × ((piece.class ≡ class) × (IsKeptPiece problem stage k piece
-    × ((column : List Sym) → IsTrue (has class column) → IsTightBelow problem stages below k column)))))
+-- Pieces have these classes, one after the other.
+pub record AreKeptOf (problem : Problem) (stage : ℕ) (k : PrefixKind) (classes : List Class) (kept : List KeptPiece)
+    : Type 0 where
+  pub same_classes : classes_of kept ≡ classes
+  pub each : All (IsKeptPiece problem stage k) kept
 
 -- Pieces hold exactly the columns on which the move of a kind of a stage is kept, each in one piece.
 pub record AreKept (problem : Problem) (stages : List Stage) (stage below : ℕ) (k : PrefixKind)

@@ -13,6 +13,7 @@ pub mod Boxes
 pub mod Tests
 pub mod Pieces
 pub mod Kept
+pub mod Pruned
 pub mod Fitting
 pub mod Nodes
 pub mod States

@@ -1,54 +1,48 @@
-ghost use Rattle.std.specs.Prelude.{◌≡◌, ◌+◌, ◌<◌, ◌≤◌, ℕ, All, IfOk, IsTrue, List, OnOk, length, slice_index_or};
+ghost use Rattle.std.specs.Prelude.{◌≡◌, ◌+◌, ◌<◌, ◌≤◌, ℕ, All, IfOk, IsTrue, List, OnOk, length};
 ghost use Rattle.tier_core.specs.declared.sym.Sym.{Sym};
-ghost use Rattle.tier_core.specs.Classes.{has, sets_of};
+ghost use Rattle.tier_core.specs.Classes.{sets_of};
 ghost use Rattle.tier_core.specs.KindShapes.{FitsShape};
 ghost use Rattle.tier_core.specs.Filled.{is_filled};
 ghost use Rattle.violation.specs.Prefixes.{kind_of_bits};
 ghost use Rattle.violation.specs.Problems.{last_place, last_stage};
-ghost use Rattle.cert_check.specs.Fitting.{AreNodePieces, IsGoingAlike};
-ghost use Rattle.cert_check.specs.Kept.{AddsKept, AreKept};
+ghost use Rattle.cert_check.specs.Fitting.{IsGoingAlike};
+ghost use Rattle.cert_check.specs.Kept.{AddsKept, AreKept, AreKeptOf};
+ghost use Rattle.cert_check.specs.Pruned.{IsAlikeTo};
 ghost use Rattle.cert_check.specs.Subjects.{IsReady, AscendsAt, problem_of};
 
 use crate::costs::cost;
 use crate::kept_piece::KeptPiece;
 use crate::moves::moved;
-use crate::node_pieces::node_pieces;
+use crate::pruned::pruned_pieces;
 use crate::subject::Subject;
-use crate::tight::is_tight_below;
 use std::alloc::{AllocError, Global};
 use symbol_class::least_column;
 use tier_core::{Class, Kind, NoMemory};
 
-/// Puts a piece of columns that go on alike at the end of a list, if the moves on them are kept.
+/// Puts columns that go on alike at the end of a list, with the kind to which they lead and their cost.
 fn push_kept(
     alloc: Global,
     kept: &mut Vec<KeptPiece>,
     subject: &Subject,
     stage: u32,
-    below: u32,
     kind: &Kind,
     class: &Class,
 ) -> Result<(), AllocError>
     requires ready { IsReady subject.now }
     requires stage { stage ≤ last_stage (problem_of subject.now) }
-    requires below { below ≤ stage + 1 }
-    requires ascend { (j : ℕ) → 1 ≤ j → j < below → AscendsAt subject.now j }
     requires fits { FitsShape subject.now.shape.now stage kind.now }
     requires place { kind.now.place ≤ last_place (problem_of subject.now) }
     requires width { length (sets_of class.now) ≡ (problem_of subject.now).tiers.width }
     requires filled { IsTrue (is_filled class.now) }
     requires alike { IsGoingAlike (problem_of subject.now) stage class.now }
     ensures { OnOk result
-        (AddsKept (problem_of subject.now) subject.now.answer.now.stages.items stage below
+        (AddsKept (problem_of subject.now) stage
         (kind_of_bits (problem_of subject.now) stage kind.now) class.now kept.old.items
         kept.new.items) }
 {
     let least = least_column(alloc, class);
     let column = least.syms();
     let target = moved(subject, stage, kind, column);
-    if !is_tight_below(subject, stage, below, kind, &target, column) {
-        return Ok(());
-    }
     let cost = cost(subject, stage, kind, column);
     kept.push(KeptPiece {
         class: *class,
@@ -58,31 +52,30 @@ fn push_kept(
     Ok(())
 }
 
-/// Those of pieces on which the moves of a kind are kept.
-fn kept_among(
+/// Pieces of the columns of a kind, each with the kind to which its columns lead and what they cost.
+fn kept_of(
     alloc: Global,
     subject: &Subject,
     stage: u32,
-    below: u32,
     kind: &Kind,
     pieces: &[Class],
 ) -> Result<Vec<KeptPiece>, AllocError>
     requires ready { IsReady subject.now }
     requires stage { stage ≤ last_stage (problem_of subject.now) }
-    requires below { below ≤ stage + 1 }
-    requires ascend { (j : ℕ) → 1 ≤ j → j < below → AscendsAt subject.now j }
     requires fits { FitsShape subject.now.shape.now stage kind.now }
     requires place { kind.now.place ≤ last_place (problem_of subject.now) }
-    requires pieces { AreNodePieces (problem_of subject.now) stage
-        (kind_of_bits (problem_of subject.now) stage kind.now) pieces.now }
+    requires width { All
+        (λ class. length (sets_of class) ≡ (problem_of subject.now).tiers.width) pieces.now }
+    requires filled { All (λ class. IsTrue (is_filled class)) pieces.now }
+    requires alike { All (IsAlikeTo (problem_of subject.now) stage) pieces.now }
     ensures { IfOk result
         (λ kept.
-        AreKept (problem_of subject.now) subject.now.answer.now.stages.items stage below
-        (kind_of_bits (problem_of subject.now) stage kind.now) kept.items) }
+        AreKeptOf (problem_of subject.now) stage
+        (kind_of_bits (problem_of subject.now) stage kind.now) pieces.now kept.items) }
 {
     let mut kept = Vec::new(alloc);
     for class in pieces {
-        push_kept(alloc, &mut kept, subject, stage, below, kind, class)?;
+        push_kept(alloc, &mut kept, subject, stage, kind, class)?;
     }
     Ok(kept)
 }
@@ -107,8 +100,8 @@ pub(crate) fn kept_pieces(
         AreKept (problem_of subject.now) subject.now.answer.now.stages.items stage below
         (kind_of_bits (problem_of subject.now) stage kind.now) pieces.items) }
 {
-    let pieces = node_pieces(alloc, subject, stage, kind)?;
-    match kept_among(alloc, subject, stage, below, kind, &pieces) {
+    let pieces = pruned_pieces(alloc, subject, stage, below, kind)?;
+    match kept_of(alloc, subject, stage, kind, &pieces) {
         Ok(kept) => Ok(kept),
         Err(_) => Err(NoMemory),
     }

@@ -9,13 +9,15 @@
 //! a stage's nodes (`order`), its start (`start`), the potential and the moves of each node
 //! (`node_check`), the start's potential (`stage_check`), and all stages (`stages`); of a state the
 //! targets of its arcs, its mark, the columns that are in two arcs, and its arcs (`state_check`), and all
-//! states (`states`). Moves are looked at by classes: the columns that fit a kind, in pieces all columns
-//! of which go on alike (`node_pieces`), and those of them that are kept (`kept`). `check` answers with a
-//! verdict.
+//! states (`states`). Moves are looked at by classes: the columns that fit a kind, in pieces after which
+//! the same tiers are open (`node_pieces`), are parted by one constraint after the other, and after each
+//! only those are left whose moves are tight (`pruned`). What is left is kept (`kept`). `check` answers
+//! with a verdict.
 #![tactic(auto)]
 
 mod alike;
 mod boxes;
+mod column_tests;
 mod costs;
 mod cut;
 mod differing;
@@ -39,8 +41,8 @@ mod order;
 mod overlap;
 mod parting;
 mod possible;
+mod pruned;
 mod stage_check;
-mod stage_tests;
 mod stages;
 mod start;
 mod state_check;

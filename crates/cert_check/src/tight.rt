@@ -1,18 +1,26 @@
-ghost use Rattle.std.specs.Prelude.{◌≡◌, ◌↔◌, ◌+◌, ◌<◌, ◌≤◌, ℕ, IsTrue, MatchOption, length, slice_index_or};
+ghost use Rattle.std.specs.Prelude.{◌≡◌, ◌↔◌, ◌+◌, ◌<◌, ◌≤◌, All, IfOk, IsTrue, MatchOption, OnOk, length, slice_index_or};
+ghost use Rattle.tier_core.specs.Classes.{sets_of};
+ghost use Rattle.tier_core.specs.Filled.{is_filled};
+ghost use Rattle.tier_core.specs.Kinds.{PrefixKind};
 ghost use Rattle.tier_core.specs.KindShapes.{FitsShape};
-ghost use Rattle.violation.specs.Moves.{moved};
+ghost use Rattle.symbol_class.specs.Held.{ArePieces};
+ghost use Rattle.violation.specs.Moves.{cut};
 ghost use Rattle.violation.specs.Prefixes.{kind_of_bits};
 ghost use Rattle.violation.specs.Problems.{last_place, last_stage};
 ghost use Rattle.answer_text.specs.declared.stage.Node.{Node};
 ghost use Rattle.answer_text.specs.Certified.{IsTightAt, Lists};
-ghost use Rattle.cert_check.specs.Faults.{IsUnlisted, TellsKind};
+ghost use Rattle.cert_check.specs.Faults.{IsUnlisted};
+ghost use Rattle.cert_check.specs.Pruned.{AddsTight, AreTightAmong, IsAlikeTo};
 ghost use Rattle.cert_check.specs.Subjects.{IsReady, AscendsAt, nodes_of, problem_of};
 
 use crate::costs::cost;
 use crate::cut::cut_to;
 use crate::find::find_kind;
+use crate::moves::moved;
 use crate::subject::Subject;
-use tier_core::{Kind, Sym};
+use std::alloc::{AllocError, Global};
+use symbol_class::least_column;
+use tier_core::{Class, Kind, NoMemory, Sym};
 
 /// The potential of a node of a stage, by its number.
 pub(crate) fn potential_at(subject: &Subject, stage: u32, number: usize) -> u32
@@ -46,72 +54,123 @@ pub(crate) fn potential_of(subject: &Subject, stage: u32, kind: &Kind) -> Option
     }
 }
 
-/// Whether the move from a kind of a stage by a column, which leads to this target, is tight at a stage
-/// that is not after it.
-fn is_tight_at(
+/// Whether the move from a kind of a stage by a column is tight there. The kind has this potential.
+fn is_tight_at(subject: &Subject, stage: u32, kind: &Kind, before: u32, column: &[Sym]) -> bool
+    requires ready { IsReady subject.now }
+    requires stage { stage ≤ last_stage (problem_of subject.now) }
+    requires ascends { AscendsAt subject.now stage }
+    requires fits { FitsShape subject.now.shape.now stage kind.now }
+    requires place { kind.now.place ≤ last_place (problem_of subject.now) }
+    requires width { length column.now ≡ (problem_of subject.now).tiers.width }
+    requires leaves { Lists (problem_of subject.now) subject.now.answer.now.stages.items stage
+        (kind_of_bits (problem_of subject.now) stage kind.now) before }
+    ensures { (k : PrefixKind) → cut (problem_of subject.now) stage k
+        ≡ kind_of_bits (problem_of subject.now) stage kind.now
+        → IsTrue result
+        ↔ IsTightAt (problem_of subject.now) subject.now.answer.now.stages.items stage k
+        column.now }
+{
+    let target = moved(subject, stage, kind, column);
+    let Some(after) = potential_of(subject, stage, &target) else {
+        return false;
+    };
+    before == cost(subject, stage, kind, column) + after
+}
+
+/// Puts a piece of columns that are alike at the end of a list, if the moves on them are tight.
+fn push_tight(
+    alloc: Global,
+    tight: &mut Vec<Class>,
+    subject: &Subject,
+    stage: u32,
+    kind: &Kind,
+    before: u32,
+    class: &Class,
+) -> Result<(), AllocError>
+    requires ready { IsReady subject.now }
+    requires stage { stage ≤ last_stage (problem_of subject.now) }
+    requires ascends { AscendsAt subject.now stage }
+    requires fits { FitsShape subject.now.shape.now stage kind.now }
+    requires place { kind.now.place ≤ last_place (problem_of subject.now) }
+    requires leaves { Lists (problem_of subject.now) subject.now.answer.now.stages.items stage
+        (kind_of_bits (problem_of subject.now) stage kind.now) before }
+    requires width { length (sets_of class.now) ≡ (problem_of subject.now).tiers.width }
+    requires filled { IsTrue (is_filled class.now) }
+    requires alike { IsAlikeTo (problem_of subject.now) stage class.now }
+    ensures { (k : PrefixKind) → cut (problem_of subject.now) stage k
+        ≡ kind_of_bits (problem_of subject.now) stage kind.now
+        → OnOk result
+        (AddsTight (problem_of subject.now) subject.now.answer.now.stages.items stage k
+        class.now tight.old.items tight.new.items) }
+{
+    let least = least_column(alloc, class);
+    if !is_tight_at(subject, stage, kind, before, least.syms()) {
+        return Ok(());
+    }
+    tight.push(*class)?;
+    Ok(())
+}
+
+/// Those of pieces on whose columns the moves from a kind of a stage are tight there. The kind has
+/// this potential.
+fn tight_from(
+    alloc: Global,
+    subject: &Subject,
+    stage: u32,
+    kind: &Kind,
+    before: u32,
+    pieces: &[Class],
+) -> Result<Vec<Class>, AllocError>
+    requires ready { IsReady subject.now }
+    requires stage { stage ≤ last_stage (problem_of subject.now) }
+    requires ascends { AscendsAt subject.now stage }
+    requires fits { FitsShape subject.now.shape.now stage kind.now }
+    requires place { kind.now.place ≤ last_place (problem_of subject.now) }
+    requires leaves { Lists (problem_of subject.now) subject.now.answer.now.stages.items stage
+        (kind_of_bits (problem_of subject.now) stage kind.now) before }
+    requires pieces { ArePieces (problem_of subject.now).tiers.width pieces.now }
+    requires alike { All (IsAlikeTo (problem_of subject.now) stage) pieces.now }
+    ensures { (k : PrefixKind) → cut (problem_of subject.now) stage k
+        ≡ kind_of_bits (problem_of subject.now) stage kind.now
+        → IfOk result (λ tight.
+        AreTightAmong (problem_of subject.now) subject.now.answer.now.stages.items stage k
+        pieces.now tight.items) }
+{
+    let mut tight = Vec::new(alloc);
+    for class in pieces {
+        push_tight(alloc, &mut tight, subject, stage, kind, before, class)?;
+    }
+    Ok(tight)
+}
+
+/// Those of pieces on whose columns the moves from a kind of a stage are tight at a stage that is not
+/// after it.
+pub(crate) fn tight_among(
+    alloc: Global,
     subject: &Subject,
     stage: u32,
     earlier: u32,
     kind: &Kind,
-    target: &Kind,
-    column: &[Sym],
-) -> bool
+    pieces: &[Class],
+) -> Result<Vec<Class>, NoMemory>
     requires ready { IsReady subject.now }
     requires stage { stage ≤ last_stage (problem_of subject.now) }
     requires earlier { earlier ≤ stage }
     requires ascends { AscendsAt subject.now earlier }
     requires fits { FitsShape subject.now.shape.now stage kind.now }
     requires place { kind.now.place ≤ last_place (problem_of subject.now) }
-    requires width { length column.now ≡ (problem_of subject.now).tiers.width }
-    requires target { TellsKind (problem_of subject.now) stage target.now
-        (moved (problem_of subject.now) stage
-        (kind_of_bits (problem_of subject.now) stage kind.now) column.now) }
-    ensures { IsTrue result
-        ↔ IsTightAt (problem_of subject.now) subject.now.answer.now.stages.items earlier
-        (kind_of_bits (problem_of subject.now) stage kind.now) column.now }
+    requires pieces { ArePieces (problem_of subject.now).tiers.width pieces.now }
+    requires alike { All (IsAlikeTo (problem_of subject.now) earlier) pieces.now }
+    ensures { IfOk result (λ tight.
+        AreTightAmong (problem_of subject.now) subject.now.answer.now.stages.items earlier
+        (kind_of_bits (problem_of subject.now) stage kind.now) pieces.now tight.items) }
 {
-    let count = subject.shape.phases[earlier as usize];
-    let from = cut_to(kind, count);
-    let to = cut_to(target, count);
+    let from = cut_to(kind, subject.shape.phases[earlier as usize]);
     let Some(before) = potential_of(subject, earlier, &from) else {
-        return false;
+        return Ok(Vec::new(alloc));
     };
-    let Some(after) = potential_of(subject, earlier, &to) else {
-        return false;
-    };
-    before == cost(subject, earlier, &from, column) + after
-}
-
-/// Whether the move from a kind of a stage by a column, which leads to this target, is tight at each
-/// stage from 1 on that is below another.
-pub(crate) fn is_tight_below(
-    subject: &Subject,
-    stage: u32,
-    below: u32,
-    kind: &Kind,
-    target: &Kind,
-    column: &[Sym],
-) -> bool
-    requires ready { IsReady subject.now }
-    requires stage { stage ≤ last_stage (problem_of subject.now) }
-    requires below { below ≤ stage + 1 }
-    requires ascend { (j : ℕ) → 1 ≤ j → j < below → AscendsAt subject.now j }
-    requires fits { FitsShape subject.now.shape.now stage kind.now }
-    requires place { kind.now.place ≤ last_place (problem_of subject.now) }
-    requires width { length column.now ≡ (problem_of subject.now).tiers.width }
-    requires target { TellsKind (problem_of subject.now) stage target.now
-        (moved (problem_of subject.now) stage
-        (kind_of_bits (problem_of subject.now) stage kind.now) column.now) }
-    ensures { IsTrue result
-        ↔
-        ((j : ℕ) → 1 ≤ j → j < below
-        → IsTightAt (problem_of subject.now) subject.now.answer.now.stages.items j
-        (kind_of_bits (problem_of subject.now) stage kind.now) column.now) }
-{
-    for earlier in 1..below {
-        if !is_tight_at(subject, stage, earlier, kind, target, column) {
-            return false;
-        }
+    match tight_from(alloc, subject, earlier, &from, before, pieces) {
+        Ok(tight) => Ok(tight),
+        Err(_) => Err(NoMemory),
     }
-    true
 }

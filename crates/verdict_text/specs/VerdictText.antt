@@ -49,6 +49,16 @@ fault_text widths (ArcsDiffer state column listed kept) =
     (codes "arcs" ++ spaced (state ∷ [])) ++ column_after_space column
     ++ target_after_space listed ++ target_after_space kept
 
+-- whether a fault is in a stage
+abbrev pub is_in_stage : Fault → Bool
+is_in_stage (NodeWrong stage node) = true
+is_in_stage (StartMissing stage) = true
+is_in_stage (FinalPotential stage node listed) = true
+is_in_stage (NotClosed stage node missing) = true
+is_in_stage (Potential stage node listed allowed) = true
+is_in_stage (StartPotential stage listed count) = true
+is_in_stage fault = false
+
 -- the line of a verdict
 abbrev pub verdict_text : Widths → Verdict → List ℕ
 verdict_text widths Yes = line (codes "Yes")

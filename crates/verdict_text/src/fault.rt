@@ -1,8 +1,8 @@
-ghost use Rattle.std.specs.Prelude.{[], ◌∷◌, ◌++◌, codes};
+ghost use Rattle.std.specs.Prelude.{◌≡◌, [], ◌∷◌, ◌++◌, codes, true};
 ghost use Rattle.outside.specs.Writers.{Pushes};
 ghost use Rattle.answer_text.specs.Shape.{widths_of};
 ghost use Rattle.cert_check.specs.declared.fault.Fault.TheVariants.{ArcsDiffer, ArcsTwice, NotClosed};
-ghost use Rattle.verdict_text.specs.VerdictText.{fault_text};
+ghost use Rattle.verdict_text.specs.VerdictText.{fault_text, is_in_stage};
 
 use crate::numbers::{mark_number, push_numbered, push_target};
 use crate::stretches::stretch_count;
@@ -69,27 +69,18 @@ fn push_arcs<O: Sink>(
     push_target(out, sink, kept)
 }
 
-/// Appends the line of a fault, without the `No ` at its front and the end of the line.
-pub(crate) fn push_fault<O: Sink>(
+/// Appends the line of a fault in a stage.
+fn push_stage_fault<O: Sink>(
     out: &mut OutBuffer,
     sink: &mut O,
     shape: &Shape,
     fault: &Fault,
 ) -> Result<(), WriteErr>
+    requires { is_in_stage fault.now ≡ true }
     ensures { Pushes O.Sink sink.old sink.new out.old out.new
         (fault_text (widths_of shape.now) fault.now) result }
 {
     match fault {
-        Fault::FormWrong => push_numbered(out, sink, b"form", &[]),
-        Fault::StageMissing { listed, wanted } => {
-            push_numbered(out, sink, b"stages", &[*listed, *wanted])
-        }
-        Fault::ExampleWrong => push_numbered(out, sink, b"example", &[]),
-        Fault::CountsDiffer {
-            constraint,
-            listed,
-            counted,
-        } => push_numbered(out, sink, b"counts", &[*constraint, *listed, *counted]),
         Fault::NodeWrong { stage, node } => push_numbered(out, sink, b"node", &[*stage, *node]),
         Fault::StartMissing { stage } => push_numbered(out, sink, b"start", &[*stage]),
         Fault::FinalPotential {
@@ -113,6 +104,31 @@ pub(crate) fn push_fault<O: Sink>(
             listed,
             count,
         } => push_numbered(out, sink, b"start-potential", &[*stage, *listed, *count]),
+        _ => unreachable!(),
+    }
+}
+
+/// Appends the line of a fault, without the `No ` at its front and the end of the line.
+pub(crate) fn push_fault<O: Sink>(
+    out: &mut OutBuffer,
+    sink: &mut O,
+    shape: &Shape,
+    fault: &Fault,
+) -> Result<(), WriteErr>
+    ensures { Pushes O.Sink sink.old sink.new out.old out.new
+        (fault_text (widths_of shape.now) fault.now) result }
+{
+    match fault {
+        Fault::FormWrong => push_numbered(out, sink, b"form", &[]),
+        Fault::StageMissing { listed, wanted } => {
+            push_numbered(out, sink, b"stages", &[*listed, *wanted])
+        }
+        Fault::ExampleWrong => push_numbered(out, sink, b"example", &[]),
+        Fault::CountsDiffer {
+            constraint,
+            listed,
+            counted,
+        } => push_numbered(out, sink, b"counts", &[*constraint, *listed, *counted]),
         Fault::StateMissing { state, target } => {
             push_numbered(out, sink, b"state", &[*state, *target])
         }
@@ -126,5 +142,6 @@ pub(crate) fn push_fault<O: Sink>(
             listed,
             kept,
         } => push_arcs(out, sink, shape, *state, column, *listed, *kept),
+        _ => push_stage_fault(out, sink, shape, fault),
     }
 }

@@ -1,21 +1,10 @@
-use Rattle.std.proofs.Common.{List, IsTrue, refl, sym, ◌∙◌, subst, true≢false}
+use Rattle.std.proofs.Common.{List, IsTrue, refl, sym, subst}
 use Rattle.tier_core.specs.declared.sym.Sym.{Sym}
 use Rattle.tier_core.specs.Classes.{has}
 use Rattle.violation.specs.Prefixes.{kind_of_bits}
 use Rattle.cert_check.specs.Subjects.{problem_of}
-use Rattle.cert_check.proofs.KeptSteps.{adds_no_kept, adds_kept}
+use Rattle.cert_check.proofs.KeptSteps.{adds_kept}
 use Rattle.cert_check.proofs.kept.push_kept.Goals as goal
-
-pub returns-then-not-is_tight_below : goal.returns-then-not-is_tight_below
-returns-then-not-is_tight_below c =
-    let s = c.args.subject.now in
-    let k = kind_of_bits (problem_of s) c.args.stage c.args.kind.now in
-    let held : IsTrue (has c.args.class.now c.syms-column.result.now) =
-    subst (λ (column : List Sym). IsTrue (has c.args.class.now column)) (sym c.syms-column.ensures.value)
-    (c.least_column-least.ensures.held c.requires.filled) in
-    adds_no_kept (problem_of s) s.answer.now.stages.items c.args.stage c.args.below k c.args.class.now
-    c.syms-column.result.now c.args.kept.now.items c.requires.below c.requires.alike held
-    (λ t. true≢false (sym (c.is_tight_below.ensures.1 t) ∙ c.if-not-is_tight_below.true))
 
 pub returns : goal.returns
 returns c =
@@ -24,7 +13,6 @@ returns c =
     let held : IsTrue (has c.args.class.now c.syms-column.result.now) =
     subst (λ (column : List Sym). IsTrue (has c.args.class.now column)) (sym c.syms-column.ensures.value)
     (c.least_column-least.ensures.held c.requires.filled) in
-    adds_kept (problem_of s) s.answer.now.stages.items c.args.stage c.args.below k c.args.class.now
-    c.syms-column.result.now c.args.kept.now.items c.requires.below c.requires.alike held c.push.new.self.items _
-    c.in_ok-push.ensures.items refl c.moved-target.ensures (sym c.cost-cost.ensures.cost) c.cost-cost.ensures.few
-    (c.is_tight_below.ensures.0 c.if-not-is_tight_below.false)
+    adds_kept (problem_of s) c.args.stage k c.args.class.now c.syms-column.result.now c.args.kept.now.items
+    c.push.new.self.items _ c.requires.alike held c.in_ok-push.ensures.items refl c.moved-target.ensures
+    (sym c.cost-cost.ensures.cost) c.cost-cost.ensures.few

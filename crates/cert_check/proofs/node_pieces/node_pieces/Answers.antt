@@ -6,7 +6,7 @@ use Rattle.symbol_class.specs.Held.{ArePieces}
 use Rattle.violation.specs.Prefixes.{kind_of_bits}
 use Rattle.cert_check.specs.Fitting.{ArePartedByTests}
 use Rattle.cert_check.specs.Subjects.{problem_of}
-use Rattle.cert_check.proofs.UniformSteps.{node_pieces_are}
+use Rattle.cert_check.proofs.PrunedSteps.{pruned_none}
 use Rattle.cert_check.proofs.node_pieces.node_pieces.Goals as goal
 
 pub parted_by_tests-requires-clause-pieces : goal.parted_by_tests-requires-clause-pieces
@@ -14,17 +14,17 @@ parted_by_tests-requires-clause-pieces c =
     let same : length c.as_slice.result.now ≡ (problem_of c.args.subject.now).tiers.width =
     ap (λ (ks : List TierKind). length ks) c.as_slice.ensures.value in
     subst (λ (n : ℕ). ArePieces n c.in_ok-fitting.fitting.items) (sym same)
-    (c.in_ok-fitting.ensures c.args.stage).pieces
+    (c.in_ok-fitting.ensures 0).pieces
 
 pub returns : goal.returns
-returns c =
+returns c stage below stages =
     let s = c.args.subject.now in
     let same : length c.as_slice.result.now ≡ (problem_of s).tiers.width =
     ap (λ (ks : List TierKind). length ks) c.as_slice.ensures.value in
     IfOk-weaker c.parted_by_tests.result _ _
-    (λ parts p. node_pieces_are (problem_of s) c.args.stage (kind_of_bits (problem_of s) c.args.stage c.args.kind.now)
+    (λ parts p. pruned_none (problem_of s) stages below (kind_of_bits (problem_of s) stage c.args.kind.now)
     (length c.as_slice.result.now) c.in_ok-tests.tests.items c.in_ok-fitting.fitting.items parts.items same
-    (c.in_ok-fitting.ensures c.args.stage) c.in_ok-tests.ensures
+    (c.in_ok-fitting.ensures stage) c.in_ok-tests.ensures
     (subst (λ (ts : List Class). ArePartedByTests
     (length c.as_slice.result.now) ts c.in_ok-fitting.fitting.items parts.items)
     c.deref.ensures.value p)) c.parted_by_tests.ensures

@@ -2,7 +2,7 @@ use Rattle.std.proofs.Common.{◌≡◌, ℕ, ◌<◌, arith}
 use Rattle.tier_core.specs.Scan.{opens}
 use Rattle.tier_core.specs.Timelines.{symbol}
 use Rattle.cert_check.proofs.GoAlike.{adds_no_tests, adds_weaker, open_more}
-use Rattle.cert_check.proofs.stage_tests.push_open_tests.Goals as goal
+use Rattle.cert_check.proofs.column_tests.push_open_tests.Goals as goal
 
 pub loop-tier-init : goal.loop-tier-init
 loop-tier-init c = adds_no_tests c.args.width c.args.tests.now.items

@@ -1,0 +1,189 @@
+-- Of pieces those on whose columns the moves of a kind are tight at a stage.
+use Rattle.std.proofs.Common.{◌≡◌, ℕ, ◌+◌, ◌<◌, ◌≤◌, ◌⊎◌, ◌||◌, Bool, true, false, IsTrue, List, [], ◌∷◌, ◌++◌, length, take, get_or, refl, sym, ap, ◌∙◌, subst, arith, inl, inr, ⊎_elim, All}
+use Rattle.std.specs.List.{AllByRecursion}
+use Rattle.std.proofs.lemmas.Bool.{both_ways, or_cases, or_left, or_right}
+use Rattle.std.proofs.lemmas.List.{take_all, take_more}
+use Rattle.std.proofs.lemmas.List.Elements.{All-from_recursion, All-push}
+use Rattle.std.proofs.lemmas.List.Folds.{list_any-append}
+use Rattle.tier_core.specs.declared.class.Class.{Class}
+use Rattle.tier_core.specs.declared.sym.Sym.{Sym}
+use Rattle.tier_core.specs.Classes.{sets_of, has}
+use Rattle.tier_core.specs.Kinds.{PrefixKind}
+use Rattle.tier_core.specs.Filled.{is_filled}
+use Rattle.symbol_class.specs.Held.{some_has, times_held, ArePieces}
+use Rattle.symbol_class.proofs.Times.{times-append, once_from_apart, pieces_from_once}
+use Rattle.violation.specs.Problems.{Problem}
+use Rattle.answer_text.specs.declared.stage.Stage.{Stage}
+use Rattle.answer_text.specs.Certified.{IsTightAt}
+use Rattle.cert_check.specs.Pruned.{IsAlikeTo, AddsTight, AreTightAmong}
+use Rattle.cert_check.proofs.PrunedSteps.{alike_go_on}
+use Rattle.cert_check.proofs.TightSteps.{tight_same}
+
+module _ (problem : Problem) (stages : List Stage) (stage : ℕ) (k : PrefixKind) where
+  -- ---- one class, all columns of which are alike
+
+  module _ (class : Class) (column : List Sym) (old new : List Class)
+      (below : AllByRecursion (λ t. t < problem.tiers.width) problem.tiers.free)
+      (alike : IsAlikeTo problem stage class) (held : IsTrue (has class column)) where
+    pub adds_no_tight : new ≡ old → (IsTightAt problem stages stage k column → ⊥)
+        → AddsTight problem stages stage k class old new
+    adds_no_tight e none = inl (
+      e,
+      λ other h t. none (tight_same problem stages stage stage k other column
+          (alike_go_on problem stage below other column (alike other column h held)) (omega arith) t),
+    )
+
+    pub adds_tight : new ≡ old ++ class ∷ [] → IsTightAt problem stages stage k column
+        → AddsTight problem stages stage k class old new
+    adds_tight e tight = inr (
+      e,
+      λ other h. tight_same problem stages stage stage k column other
+          (alike_go_on problem stage below column other (alike column other held h)) (omega arith) tight,
+    )
+
+  -- so far the moves are tight on these, of the first classes of a list
+  pub record TightOf (classes : List Class) (n : ℕ) (kept : List Class) : Type 0 where
+    pub one_width : All (λ class. length (sets_of class) ≡ problem.tiers.width) kept
+    pub filled : All (λ class. IsTrue (is_filled class)) kept
+    pub few : (column : List Sym) → times_held kept column ≤ times_held (take n classes) column
+    pub alike : All (IsAlikeTo problem stage) kept
+    pub into : (column : List Sym) → IsTrue (some_has kept column)
+        → IsTrue (some_has (take n classes) column) × IsTightAt problem stages stage k column
+    pub back : (column : List Sym) → IsTrue (some_has (take n classes) column)
+        → IsTightAt problem stages stage k column → IsTrue (some_has kept column)
+
+  pub tight_of_none : (classes : List Class) (kept : List Class) → kept ≡ [] → TightOf classes 0 kept
+  tight_of_none classes kept e = subst (TightOf classes 0) (sym e) (record {
+    one_width = All-from_recursion (λ class. length (sets_of class) ≡ problem.tiers.width) [] tt;
+    filled = All-from_recursion (λ class. IsTrue (is_filled class)) [] tt;
+    few = λ column. omega arith;
+    alike = All-from_recursion (IsAlikeTo problem stage) [] tt;
+    into = λ column h. absurd (both_ways false refl h);
+    back = λ column h t. absurd (both_ways false refl h);
+  })
+
+  module _ (classes : List Class) (n : ℕ) (class : Class) (inside : n < length classes)
+      (is : class ≡ get_or classes n class) (old new : List Class) (so_far : TightOf classes n old) where
+    more : take (n + 1) classes ≡ take n classes ++ class ∷ []
+    more = take_more classes n class inside ∙ ap (λ c. take n classes ++ c ∷ []) (sym is)
+
+    some_more : (column : List Sym) → some_has (take (n + 1) classes) column
+        ≡ some_has (take n classes ++ class ∷ []) column
+    some_more column = ap (λ xs. some_has xs column) more
+
+    parts_more : (column : List Sym) → IsTrue (some_has (take (n + 1) classes) column)
+        → IsTrue (some_has (take n classes) column) ⊎ IsTrue (has class column)
+    parts_more column h = ⊎_elim (λ front. inl front) (λ last. inr (last_of (has class column) last))
+        (or_cases (some_has (take n classes) column) (some_has (class ∷ []) column)
+        (sym (list_any-append (λ c. has c column) (take n classes) (class ∷ [])) ∙ sym (some_more column) ∙ h))
+      where
+        last_of : (b : Bool) → (b || false) ≡ true → b ≡ true
+        last_of true e = refl
+        last_of false e = e
+
+    front_more : (column : List Sym) → IsTrue (some_has (take n classes) column)
+        → IsTrue (some_has (take (n + 1) classes) column)
+    front_more column h = some_more column ∙ list_any-append (λ c. has c column) (take n classes) (class ∷ [])
+        ∙ or_left (some_has (take n classes) column) (some_has (class ∷ []) column) h
+
+    last_more : (column : List Sym) → IsTrue (has class column) → IsTrue (some_has (take (n + 1) classes) column)
+    last_more column h = some_more column ∙ list_any-append (λ c. has c column) (take n classes) (class ∷ [])
+        ∙ or_right (some_has (take n classes) column) (some_has (class ∷ []) column)
+        (or_left (has class column) false h)
+
+    times_more : (column : List Sym) → times_held (take (n + 1) classes) column
+        ≡ times_held (take n classes) column + times_held (class ∷ []) column
+    times_more column = ap (λ xs. times_held xs column) more ∙ times-append (take n classes) (class ∷ []) column
+
+    -- a class on which they are not tight
+    pub tight_of_same : new ≡ old
+        → ((column : List Sym) → IsTrue (has class column) → IsTightAt problem stages stage k column → ⊥)
+        → TightOf classes (n + 1) new
+    tight_of_same e none = subst (TightOf classes (n + 1)) (sym e) (record {
+      one_width = so_far.one_width;
+      filled = so_far.filled;
+      few = λ column. omega (arith, so_far.few column, times_more column);
+      alike = so_far.alike;
+      into = λ column h. let r = so_far.into column h in (front_more column r.0, r.1);
+      back = λ column h t. ⊎_elim (λ front. so_far.back column front t) (λ last. absurd (none column last t))
+          (parts_more column h);
+    })
+
+    -- a class on which they are tight
+    pub tight_of_more : length (sets_of class) ≡ problem.tiers.width → IsTrue (is_filled class)
+        → IsAlikeTo problem stage class → new ≡ old ++ class ∷ []
+        → ((column : List Sym) → IsTrue (has class column) → IsTightAt problem stages stage k column)
+        → TightOf classes (n + 1) new
+    tight_of_more wide filled alike e tight =
+        let some : (column : List Sym) → some_has new column
+        ≡ (some_has old column || some_has (class ∷ []) column) =
+        λ column. ap (λ xs. some_has xs column) e
+        ∙ list_any-append (λ c. has c column) old (class ∷ []) in
+        record {
+          one_width = subst (All (λ c. length (sets_of c) ≡ problem.tiers.width)) (sym e)
+              (All-push (λ c. length (sets_of c) ≡ problem.tiers.width) old class so_far.one_width wide);
+          filled = subst (All (λ c. IsTrue (is_filled c))) (sym e)
+              (All-push (λ c. IsTrue (is_filled c)) old class so_far.filled filled);
+          few = λ column. omega (
+            arith,
+            so_far.few column,
+            times_more column,
+            ap (λ xs. times_held xs column) e,
+            times-append old (class ∷ []) column,
+          );
+          alike = subst (All (IsAlikeTo problem stage)) (sym e)
+              (All-push (IsAlikeTo problem stage) old class so_far.alike alike);
+          into = λ column h. ⊎_elim
+              (λ front. let r = so_far.into column front in (front_more column r.0, r.1))
+              (λ last. let held : has class column ≡ true = last_of (has class column) last in
+              (last_more column held, tight column held))
+              (or_cases (some_has old column) (some_has (class ∷ []) column) (sym (some column) ∙ h));
+          back = λ column h t. some column ∙ ⊎_elim
+              (λ front. or_left (some_has old column) (some_has (class ∷ []) column)
+              (so_far.back column front t))
+              (λ last. or_right (some_has old column) (some_has (class ∷ []) column)
+              (or_left (has class column) false last))
+              (parts_more column h);
+        }
+      where
+        last_of : (b : Bool) → (b || false) ≡ true → b ≡ true
+        last_of true e = refl
+        last_of false e = e
+
+    pub tight_of_step : length (sets_of class) ≡ problem.tiers.width → IsTrue (is_filled class)
+        → IsAlikeTo problem stage class → AddsTight problem stages stage k class old new
+        → TightOf classes (n + 1) new
+    tight_of_step wide filled alike (inl none) = tight_of_same none.0 none.1
+    tight_of_step wide filled alike (inr some) = tight_of_more wide filled alike some.0 some.1
+
+  -- all classes
+  pub tight_of_all : (classes : List Class) (n : ℕ) (tight : List Class) → ArePieces problem.tiers.width classes
+      → length classes ≤ n → TightOf classes n tight → AreTightAmong problem stages stage k classes tight
+  tight_of_all classes n tight pieces l a =
+      let whole : take n classes ≡ classes = take_all n classes l in
+      record {
+        pieces = pieces_from_once problem.tiers.width tight a.one_width a.filled
+            (λ column. omega (
+              arith,
+              a.few column,
+              ap (λ xs. times_held xs column) whole,
+              once_from_apart classes pieces.apart column,
+            ));
+        columns = λ column. (
+          λ h. let r = a.into column h in (sym (ap (λ xs. some_has xs column) whole) ∙ r.0, r.1),
+          λ r. a.back column (ap (λ xs. some_has xs column) whole ∙ r.0) r.1,
+        );
+        alike = a.alike;
+      }
+
+  -- no move of a kind is tight that is not listed
+  pub tight_among_none : (classes tight : List Class) → tight ≡ []
+      → ((column : List Sym) → IsTightAt problem stages stage k column → ⊥)
+      → AreTightAmong problem stages stage k classes tight
+  tight_among_none classes tight e none = subst (AreTightAmong problem stages stage k classes) (sym e) (record {
+    pieces = pieces_from_once problem.tiers.width []
+        (All-from_recursion (λ class. length (sets_of class) ≡ problem.tiers.width) [] tt)
+        (All-from_recursion (λ class. IsTrue (is_filled class)) [] tt) (λ column. omega arith);
+    columns = λ column. (λ h. absurd (both_ways false refl h), λ r. absurd (none column r.1));
+    alike = All-from_recursion (IsAlikeTo problem stage) [] tt;
+  })

@@ -1,0 +1,16 @@
+use Rattle.std.proofs.Common.{◌≡◌, arith, subst}
+use Rattle.violation.specs.Prefixes.{kind_of_bits}
+use Rattle.cert_check.specs.Pruned.{ArePruned}
+use Rattle.cert_check.specs.Subjects.{problem_of}
+use Rattle.cert_check.proofs.pruned.pruned_pieces.Goals as goal
+
+pub loop-before-init : goal.loop-before-init
+loop-before-init c =
+    c.in_ok-pieces.ensures c.args.stage c.args.below c.args.subject.now.answer.now.stages.items
+
+pub returns : goal.returns
+returns c =
+    let s = c.args.subject.now in
+    let e : c.loop-before.before ≡ c.args.stage = omega (arith, c.loop-before-test.false) in
+    subst (λ n. ArePruned (problem_of s) s.answer.now.stages.items c.args.below n
+    (kind_of_bits (problem_of s) c.args.stage c.args.kind.now) c.loop-before.pieces.items) e c.loop-before.invariant

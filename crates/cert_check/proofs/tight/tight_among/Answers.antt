@@ -1,0 +1,31 @@
+use Rattle.std.proofs.Common.{◌≡◌, sym, subst}
+use Rattle.violation.specs.Moves.{cut}
+use Rattle.violation.specs.Prefixes.{kind_of_bits}
+use Rattle.cert_check.specs.Faults.{IsUnlisted}
+use Rattle.cert_check.specs.Subjects.{problem_of}
+use Rattle.cert_check.proofs.TightLists.{tight_among_none}
+use Rattle.cert_check.proofs.TightSteps.{cut_told_at}
+use Rattle.cert_check.proofs.tight.tight_among.Goals as goal
+
+pub returns-in_default : goal.returns-in_default
+returns-in_default c =
+    let s = c.args.subject.now in
+    let k = kind_of_bits (problem_of s) c.args.stage c.args.kind.now in
+    let from : kind_of_bits (problem_of s) c.args.earlier c.cut_to-from.result ≡ cut (problem_of s) c.args.earlier k =
+    cut_told_at s c.requires.ready c.args.stage c.args.earlier c.requires.stage c.requires.earlier c.args.kind.now
+    c.cut_to-from.result c.index.result.now c.index.ensures c.cut_to-from.ensures.opened
+    c.cut_to-from.ensures.stretches c.cut_to-from.ensures.place c.cut_to-from.ensures.phases in
+    tight_among_none (problem_of s) s.answer.now.stages.items c.args.earlier k c.args.pieces.now c.new.result.items
+    c.new.ensures.items
+    (λ column t. subst (IsUnlisted (problem_of s) s.answer.now.stages.items c.args.earlier) from c.in_default.ensures
+    t.before t.leaves)
+
+pub returns-in-Ok : goal.returns-in-Ok
+returns-in-Ok c =
+    let s = c.args.subject.now in
+    let k = kind_of_bits (problem_of s) c.args.stage c.args.kind.now in
+    let from : kind_of_bits (problem_of s) c.args.earlier c.cut_to-from.result ≡ cut (problem_of s) c.args.earlier k =
+    cut_told_at s c.requires.ready c.args.stage c.args.earlier c.requires.stage c.requires.earlier c.args.kind.now
+    c.cut_to-from.result c.index.result.now c.index.ensures c.cut_to-from.ensures.opened
+    c.cut_to-from.ensures.stretches c.cut_to-from.ensures.place c.cut_to-from.ensures.phases in
+    c.in-Ok.ensures k (sym from)

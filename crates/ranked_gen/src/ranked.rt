@@ -14,6 +14,7 @@ use crate::gen_err::GenErr;
 use crate::staged::{Left, Staged, next_stage};
 use answer_text::{Answer, Stage};
 use kind_moves::Frame;
+use prune_best::Tight;
 use std::alloc::Global;
 use tier_core::{Kind, NoMemory, Timeline};
 
@@ -27,21 +28,15 @@ pub(crate) struct Ranked {
     pub(crate) kinds: Vec<Kind>,
 }
 
-/// The stages with one more.
-fn with_next(ranked: Ranked, next: Staged) -> Result<Ranked, NoMemory>
-    ensures stages { IfOk result
-        (λ all. all.stages.items ≡ ranked.stages.items ++ next.stage ∷ []) }
-    ensures counts { IfOk result
-        (λ all. all.counts.items ≡ ranked.counts.items ++ next.count ∷ []) }
+/// Stages and counts with those of one more stage, and what this leaves.
+fn with_next(stages: Vec<Stage>, counts: Vec<u32>, next: Staged) -> Result<Ranked, NoMemory>
+    ensures stages { IfOk result (λ all. all.stages.items ≡ stages.items ++ next.stage ∷ []) }
+    ensures counts { IfOk result (λ all. all.counts.items ≡ counts.items ++ next.count ∷ []) }
     ensures left { IfOk result (λ all. all.left ≡ next.left) }
     ensures kinds { IfOk result (λ all. all.kinds ≡ next.kinds) }
 {
-    let Ranked {
-        mut stages,
-        mut counts,
-        left: _,
-        kinds: _,
-    } = ranked;
+    let mut stages = stages;
+    let mut counts = counts;
     let Staged {
         stage,
         count,
@@ -83,12 +78,19 @@ pub(crate) fn all_ranked(
 {
     let mut ranked = start;
     for number in 0..frame.grammar.constraints.len() as u32 {
-        let kept = &ranked.left.kept.table;
-        let next = match next_stage(alloc, frame, number + 1, kept, &ranked.kinds, budget) {
+        let Ranked {
+            stages,
+            counts,
+            left,
+            kinds,
+        } = ranked;
+        let Left { kept, order: _ } = left;
+        let Tight { table, states: _ } = kept;
+        let next = match next_stage(alloc, frame, number + 1, table, &kinds, budget) {
             Ok(next) => next,
             Err(cause) => return Err(cause),
         };
-        ranked = match with_next(ranked, next) {
+        ranked = match with_next(stages, counts, next) {
             Ok(more) => more,
             Err(_) => return Err(GenErr::NoMemory),
         };

@@ -162,16 +162,16 @@ pub(crate) fn next_stage(
     alloc: Global,
     frame: &Frame,
     stage: u32,
-    kept: &Table<UnitWeight>,
+    kept: Table<UnitWeight>,
     kinds: &[Kind],
     budget: u32,
 ) -> Result<Staged, GenErr>
     requires some { 1 ≤ stage }
     requires within { stage ≤ last_stage (problem_in frame.now) }
-    requires kept { IsKept (problem_in frame.now) (stage - 1) (states_of kept.now) }
-    requires accepts { (T : List (List Sym)) → Accepts (states_of kept.now) T
+    requires kept { IsKept (problem_in frame.now) (stage - 1) (states_of kept) }
+    requires accepts { (T : List (List Sym)) → Accepts (states_of kept) T
         ↔ IsOptimalFor (problem_in frame.now) (stage - 1) T }
-    requires kinds { AreKindsLeft frame.now (stage - 1) (states_of kept.now) kinds.now }
+    requires kinds { AreKindsLeft frame.now (stage - 1) (states_of kept) kinds.now }
     requires few_kinds { length kinds.now ≤ budget }
     requires some_budget { 1 ≤ budget }
     requires few { budget ≤ 65536 }
@@ -193,7 +193,7 @@ pub(crate) fn next_stage(
         };
         return pruned(alloc, frame, stage, kinds, &table).map_err(|_| GenErr::NoMemory);
     }
-    match explore(alloc, frame, stage - 1, stage, kept, budget) {
+    match explore(alloc, frame, stage - 1, stage, &kept, budget) {
         Ok(found) => {
             pruned(alloc, frame, stage, &found.kinds, &found.table).map_err(|_| GenErr::NoMemory)
         }

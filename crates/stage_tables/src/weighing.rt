@@ -134,24 +134,24 @@ fn weighed_states(
 /// Weighs what the constraints before have left, under the constraint of a stage that tells no more
 /// kinds apart than these did: `kinds` are those of the kept states, one by one. The resulting table
 /// has the same states and accepts the same timelines. Its moves are the kept ones, parted by what
-/// their columns cost under the stage's constraint, and each weighs this. Fails only if memory runs
-/// out.
+/// their columns cost under the stage's constraint, and each weighs this. The kept table is let go.
+/// Fails only if memory runs out.
 pub fn weigh(
     alloc: Global,
     frame: &Frame<'_>,
     stage: u32,
-    kept: &Table<UnitWeight>,
+    kept: Table<UnitWeight>,
     kinds: &[Kind],
 ) -> Result<Table<Count>, NoMemory>
     requires some { 1 ≤ stage }
     requires stage { stage ≤ last_stage (problem_in frame.now) }
     requires kept { AreKeptByKinds (problem_in frame.now) stage
-        (names_at frame.now stage kinds.now) (states_of kept.now) }
+        (names_at frame.now stage kinds.now) (states_of kept) }
     requires fit { All (FitsFrame frame.now stage) kinds.now }
     ensures { IfOk result
-        (λ table. IsExplored frame.now stage (states_of kept.now) kinds.now (states_of table)) }
+        (λ table. IsExplored frame.now stage (states_of kept) kinds.now (states_of table)) }
 {
-    match weighed_states(alloc, frame, stage, kept, kinds) {
+    match weighed_states(alloc, frame, stage, &kept, kinds) {
         Ok(states) => Ok(Table::of_states(states)),
         Err(_) => Err(NoMemory),
     }

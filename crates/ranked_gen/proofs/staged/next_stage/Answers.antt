@@ -10,30 +10,30 @@ use Rattle.kind_moves.specs.Frames.{problem_in}
 pub weigh-requires-clause-kept : goal.weigh-requires-clause-kept
 weigh-requires-clause-kept c =
     (left_same c.args.frame.now (c.args.stage - 1) c.args.stage (c.has_new_phase.ensures c.if-not-has_new_phase.true)
-    (states_of c.args.kept.now) c.args.kinds.now c.requires.kinds).by
+    (states_of c.args.kept) c.args.kinds.now c.requires.kinds).by
 
 pub weigh-requires-clause-fit : goal.weigh-requires-clause-fit
 weigh-requires-clause-fit c =
     (left_same c.args.frame.now (c.args.stage - 1) c.args.stage (c.has_new_phase.ensures c.if-not-has_new_phase.true)
-    (states_of c.args.kept.now) c.args.kinds.now c.requires.kinds).fit
+    (states_of c.args.kept) c.args.kinds.now c.requires.kinds).fit
 
 pub pruned-requires-clause-table : goal.pruned-requires-clause-table
 pruned-requires-clause-table c =
     stage_table c.args.frame.now c.args.stage c.requires.some c.requires.within
-    (states_of c.args.kept.now) c.requires.accepts c.args.kinds.now (states_of c.in-Ok.table) c.in-Ok.ensures
+    (states_of c.args.kept) c.requires.accepts c.args.kinds.now (states_of c.in-Ok.table) c.in-Ok.ensures
 
 pub returns-then-not-has_new_phase-clause-within : goal.returns-then-not-has_new_phase-clause-within
 returns-then-not-has_new_phase-clause-within c =
     whatever_ok _ _
     (stage_within c.args.frame.now c.args.stage c.requires.some c.requires.within
-    (states_of c.args.kept.now) c.requires.accepts c.args.kinds.now
+    (states_of c.args.kept) c.requires.accepts c.args.kinds.now
     (states_of c.in-Ok.table) c.args.budget c.in-Ok.ensures c.requires.few_kinds)
 
 pub pruned-requires-in-Ok-explore-clause-table : goal.pruned-requires-in-Ok-explore-clause-table
 pruned-requires-in-Ok-explore-clause-table c =
     rw c.deref.ensures.value
     (stage_table c.args.frame.now c.args.stage c.requires.some c.requires.within
-    (states_of c.args.kept.now) c.requires.accepts c.in-Ok-explore.found.kinds.items
+    (states_of c.args.kept) c.requires.accepts c.in-Ok-explore.found.kinds.items
     (states_of c.in-Ok-explore.found.table) c.in-Ok-explore.ensures.explored)
 
 pub pruned-requires-in-Ok-explore-clause-fit : goal.pruned-requires-in-Ok-explore-clause-fit
@@ -43,7 +43,7 @@ pub returns-in-Ok-explore-clause-within : goal.returns-in-Ok-explore-clause-with
 returns-in-Ok-explore-clause-within c =
     whatever_ok _ _
     (stage_within c.args.frame.now c.args.stage c.requires.some c.requires.within
-    (states_of c.args.kept.now) c.requires.accepts c.in-Ok-explore.found.kinds.items
+    (states_of c.args.kept) c.requires.accepts c.in-Ok-explore.found.kinds.items
     (states_of c.in-Ok-explore.found.table) c.args.budget c.in-Ok-explore.ensures.explored
     c.in-Ok-explore.ensures.few)
 
@@ -53,7 +53,7 @@ returns-in-Err-OverBudget-clause-over c = λ s e.
     let next : (c.args.stage - 1) + 1 ≡ c.args.stage = omega (arith, c.requires.some) in
     let room : (c.args.stage - 1) + 1 ≤ last_stage (problem_in c.args.frame.now) = omega
     (arith, next, c.requires.within) in
-    let kept = c.args.kept.now in (
+    let kept = c.args.kept in (
       same,
       stage_over c.args.frame.now (c.args.stage - 1) room
           (states_of kept) kept.some kept.targets kept.filled c.requires.kept c.requires.accepts c.args.budget

@@ -10,7 +10,7 @@ ghost use Rattle.violation.specs.Candidates.{IsCandidate};
 ghost use Rattle.violation.specs.Problems.{last_stage};
 
 use crate::exploring::Exploring;
-use crate::listed::{Listed, number_of};
+use crate::listed::{Listed, ROOM, number_of};
 use crate::stage_table::{ExploreErr, StageTable};
 use crate::whole::whole_table;
 use arc_table::{Table, TableState};
@@ -29,10 +29,14 @@ impl Exploring<'_> {
         ensures one { IfOk result (λ listed. length listed.kinds.items ≡ 1) }
         ensures within { IfErr result (λ e. e ≡ ExploreErr.OverBudget → ⊥) }
     {
+        let Ok(recent) = vec![in alloc; 0; ROOM] else {
+            return Err(ExploreErr::NoMemory);
+        };
         let mut listed = Listed {
             keys: IndexSet::new(alloc),
             kinds: Vec::new(alloc),
             over: Vec::new(alloc),
+            recent,
         };
         let _start = number_of(&mut listed, self.frame.start(), 0, self.budget)?;
         Ok(listed)

@@ -1,4 +1,6 @@
-ghost use Rattle.std.specs.Prelude.{◌≡◌, ◌<◌, ◌≤◌, length, IfOk, IfErr};
+ghost use Rattle.std.specs.Prelude.{◌≡◌, ◌↔◌, ◌<◌, ◌≤◌, Some, length, slice_get, IfOk, IfErr, IfSome, IsTrue};
+ghost use Rattle.tier_core.specs.declared.kind.Kind.{Kind as KindOf};
+ghost use Rattle.stage_tables.specs.KindKeys.{key_of};
 ghost use Rattle.stage_tables.specs.Listed.{AreListed, IsNumbered, IsPutLast};
 
 use crate::kind_key::KindKey;
@@ -6,13 +8,20 @@ use crate::stage_table::ExploreErr;
 use indexmap::IndexSet;
 use tier_core::Kind;
 
+/// How many numbers are kept at hand.
+pub(crate) const ROOM: usize = 4096;
+
 /// The kinds that are listed, in the order in which they are found, and for each the state of the
 /// kept table that it stands over.
+///
+/// `recent` keeps numbers at hand, so that most kinds are found without a hash: at each of its places
+/// the number that was last given to a kind of that place, or any other number.
 #[derive(Drop)]
 pub(crate) struct Listed {
     pub keys: IndexSet<KindKey>,
     pub kinds: Vec<Kind>,
     pub over: Vec<u32>,
+    pub recent: Vec<u32>,
 }
 
 /// Puts a kind last.
@@ -27,6 +36,45 @@ fn put_last(listed: &mut Listed, kind: Kind, state: u32) -> Result<(), ExploreEr
         return Err(ExploreErr::NoMemory);
     }
     Ok(())
+}
+
+/// Where the number of a kind is kept at hand.
+fn place_of(kind: &Kind) -> usize {
+    let low = (kind.place as usize & 15) << 8;
+    (low ^ kind.opened as usize ^ kind.met as usize) & (ROOM - 1)
+}
+
+/// Whether two kinds have one key.
+fn have_one_key(a: &Kind, b: &Kind) -> bool
+    ensures { IsTrue result ↔ (key_of a.now ≡ key_of b.now) }
+{
+    KindKey::of(a) == KindKey::of(b)
+}
+
+/// The number of a kind, if it is at hand.
+fn recalled(listed: &Listed, kind: &Kind) -> Option<u32>
+    ensures { IfSome result
+        (λ k. (found : KindOf) × (slice_get listed.now.kinds.items k ≡ Some found) × (key_of found ≡ key_of kind.now)) }
+{
+    let number = *listed.recent.get(place_of(kind))?;
+    let found = listed.kinds.get(number as usize)?;
+    if have_one_key(found, kind) {
+        Some(number)
+    } else {
+        None
+    }
+}
+
+/// Keeps the number of a kind at hand.
+fn keep_at_hand(listed: &mut Listed, kind: &Kind, number: u32)
+    ensures keys { listed.new.keys ≡ listed.old.keys }
+    ensures kinds { listed.new.kinds ≡ listed.old.kinds }
+    ensures over { listed.new.over ≡ listed.old.over }
+{
+    let place = place_of(kind);
+    if place < listed.recent.len() {
+        listed.recent[place] = number;
+    }
 }
 
 /// The number of a kind, which is put last over a state if it is not listed yet. Fails if there
@@ -54,11 +102,15 @@ pub(crate) fn number_of(
     ensures over { IfErr result
         (λ e. e ≡ ExploreErr.OverBudget → budget < length listed.new.kinds.items) }
 {
+    if let Some(number) = recalled(listed, &kind) {
+        return Ok(number);
+    }
     let (number, is_new) = match listed.keys.insert_full(KindKey::of(&kind)) {
         Ok(found) => found,
         Err(_) => return Err(ExploreErr::NoMemory),
     };
     if !is_new {
+        keep_at_hand(listed, &kind, number as u32);
         return Ok(number as u32);
     }
     put_last(listed, kind, state)?;

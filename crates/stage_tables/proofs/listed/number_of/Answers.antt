@@ -1,8 +1,14 @@
-use Rattle.std.proofs.Common.{◌≡◌, ◌+◌, true, false, length, ap, ◌∙◌, arith}
+use Rattle.std.proofs.Common.{◌≡◌, ◌+◌, true, false, length, refl, ap, ◌∙◌, arith, inl}
 use Rattle.std.specs.List.{list_any}
 use Rattle.std.proofs.lemmas.List.{length_push}
 use Rattle.stage_tables.proofs.Numbering.{same_by, IsKeyed, is_absent, is_present, numbered_old, numbered_new, number_is, listed_new}
 use Rattle.stage_tables.proofs.listed.number_of.Goals as goal
+
+pub returns-in-Some-clause-numbered : goal.returns-in-Some-clause-numbered
+returns-in-Some-clause-numbered c = record {
+  at = c.in-Some.ensures;
+  grows = inl (record { same = refl; over_same = refl });
+}
 
 pub returns-then-not-is_new-clause-numbered : goal.returns-then-not-is_new-clause-numbered
 returns-then-not-is_new-clause-numbered c =
@@ -12,9 +18,10 @@ returns-then-not-is_new-clause-numbered c =
     let there : list_any (same_by c.of.result) keys
     ≡ true = is_present c.in-Ok.found.1
     (list_any (same_by c.of.result) keys) c.in-Ok.ensures.added c.if-not-is_new.true in
-    numbered_old c.of.result keys c.insert_full.new.self.keys c.args.listed.now.kinds.items
+    rw (c.keep_at_hand.ensures.kinds, c.keep_at_hand.ensures.over)
+    (numbered_old c.of.result keys c.insert_full.new.self.keys c.args.listed.now.kinds.items
     c.args.listed.now.over.items c.in-Ok.found.0 c.args.kind c.args.state c.of.ensures c.requires.listed keyed
-    there
+    there)
 
 pub returns-then-number-budget-clause-over_listed : goal.returns-then-number-budget-clause-over_listed
 returns-then-number-budget-clause-over_listed c over =

@@ -1,2 +1,2 @@
-mod Numbers
+mod Budgets
 pub mod CommandLemmas

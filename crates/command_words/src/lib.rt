@@ -11,7 +11,6 @@
 
 mod budget;
 mod command;
-mod number;
 mod read;
 #[cfg(test)]
 mod tests;

@@ -1,5 +1,5 @@
 -- The bytes of an answer settle the verdict: whatever answer they are read as is seen alike.
-use Rattle.std.proofs.Common.{◌≡◌, ℕ, zero, suc, ◌+◌, ◌<◌, ◌≤◌, inl, inr, Bool, List, [], ◌∷◌, length, map, filter, take, get_or, Result, Ok, Err, refl, ap, ap₂, sym, ◌∙◌, arith}
+use Rattle.std.proofs.Common.{◌≡◌, ℕ, zero, suc, ◌+◌, ◌-◌, ◌<◌, ◌≤◌, inl, inr, Bool, List, [], ◌∷◌, length, map, filter, take, get_or, Result, Ok, Err, refl, ap, ap₂, sym, ◌∙◌, arith}
 use Rattle.std.proofs.lemmas.Bool.{cases_order}
 use Rattle.std.proofs.lemmas.List.{get_or_past, length-map}
 use Rattle.std.proofs.lemmas.List.FromFn.{get_or-map-range_with_len}
@@ -55,13 +55,15 @@ no_nodes : (stages : List Stage) (r : ℕ) → length stages ≤ r → nodes_at 
 no_nodes stages r past = get_or_past (map (λ (stage : Stage). stage.nodes.items) stages) r []
     (omega (arith, length-map stages (λ (stage : Stage). stage.nodes.items), past))
 
-value_at : (shape : Shape) (n : ℕ) (stages : List Stage) (r : ℕ)
-    → get_or (stage_values shape n stages) r [] ≡ map (node_value shape (n + r)) (nodes_at stages r)
-value_at shape n [] r =
-    get_or_past [] r [] (omega arith) ∙ ap (map (node_value shape (n + r))) (sym (no_nodes [] r (omega arith)))
-value_at shape n (stage ∷ stages) zero = ap (λ m. map (node_value shape m) stage.nodes.items) (omega arith)
-value_at shape n (stage ∷ stages) (suc r) =
-    value_at shape (n + 1) stages r ∙ ap (λ m. map (node_value shape m) (nodes_at stages r)) (omega arith)
+-- the value of stage m, which has number r among the stages from number n on
+value_at : (shape : Shape) (n : ℕ) (stages : List Stage) (r m : ℕ) → n + r ≡ m
+    → get_or (stage_values shape n stages) r [] ≡ map (node_value shape m) (nodes_at stages r)
+value_at shape n [] r m e =
+    get_or_past [] r [] (omega arith) ∙ ap (map (node_value shape m)) (sym (no_nodes [] r (omega arith)))
+value_at shape n (stage ∷ stages) zero m e =
+    let same : n ≡ m = omega (arith, e) in
+    ap (λ k. map (node_value shape k) stage.nodes.items) same
+value_at shape n (stage ∷ stages) (suc r) m e = value_at shape (n + 1) stages r m (omega (arith, e))
 
 -- ---- nodes and states by what is seen of them
 
@@ -133,8 +135,8 @@ module _ (g : Grammar) (bytes : List ℕ) (shape : Shape) (of_grammar : IsShapeO
         → map (node_seen problem r) (nodes_at answer.stages.items r)
         ≡ map (node_seen problem r) (nodes_at other.stages.items r)
     stage_seen r within =
-        let values = sym (value_at shape 0 answer.stages.items r) ∙ ap (λ vs. get_or vs r []) same_stages
-        ∙ value_at form_shape 0 other.stages.items r in
+        let values = sym (value_at shape 0 answer.stages.items r r (omega arith)) ∙ ap (λ vs. get_or vs r []) same_stages
+        ∙ value_at form_shape 0 other.stages.items r r (omega arith) in
         let free : free_count form_shape ≡ length problem.tiers.free =
         sym (ap₂ (λ (w i : ℕ). w - i) alike.width alike.inputs) ∙ free_told in
         let count : stretch_count form_shape r ≡ length (stretches problem r) =

@@ -1,5 +1,5 @@
 -- Moves that are weighed one by one.
-use Rattle.std.proofs.Common.{◌≡◌, ℕ, ◌+◌, ◌<◌, Bool, not, ◌&&◌, List, [], ◌∷◌, ◌++◌, map, take, length, get_or, refl, ap, sym, ◌∙◌, subst, arith, inl, inr, All, Contains, IsTrue}
+use Rattle.std.proofs.Common.{◌≡◌, ℕ, ◌+◌, ◌<◌, Bool, not, ◌&&◌, List, [], ◌∷◌, ◌++◌, take, length, get_or, refl, ap, sym, ◌∙◌, subst, arith, inl, inr, Contains, IsTrue}
 use Rattle.std.proofs.lemmas.Bool.{cases_lt, and_parts, not-true}
 use Rattle.std.proofs.lemmas.List.{get_or-map, length-map, length_push, take_more, append-nil, append_assoc, map-append}
 use Rattle.std.proofs.lemmas.List.Elements.{All-nil, All-append, All-push, Contains-append_left, Contains-append_right}

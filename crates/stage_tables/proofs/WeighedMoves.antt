@@ -1,5 +1,5 @@
 -- Moves that are weighed one by one.
-use Rattle.std.proofs.Common.{◌≡◌, ℕ, ◌+◌, ◌<◌, Bool, not, ◌&&◌, List, [], ◌∷◌, ◌++◌, map, take, length, get_or, refl, ap, sym, ◌∙◌, subst, arith, inl, inr, All, Contains, IsTrue}
+use Rattle.std.proofs.Common.{◌≡◌, ℕ, ◌+◌, ◌<◌, Bool, not, ◌&&◌, List, [], ◌∷◌, ◌++◌, take, length, get_or, refl, ap, sym, ◌∙◌, subst, arith, inl, inr, Contains, IsTrue}
 use Rattle.std.proofs.lemmas.Bool.{cases_lt, and_parts, not-true}
 use Rattle.std.proofs.lemmas.List.{get_or-map, length-map, length_push, take_more, append-nil, append_assoc, map-append}
 use Rattle.std.proofs.lemmas.List.Elements.{All-nil, All-append, All-push, Contains-append_left, Contains-append_right}
@@ -114,7 +114,8 @@ one_class class filled = record {
   new_is = refl;
   one_width = All-push (λ (c : Class). length (sets_of c) ≡ length (sets_of class)) [] class
       (All-nil (λ (c : Class). length (sets_of c) ≡ length (sets_of class))) refl;
-  filled = All-push (λ (c : Class). IsTrue (is_filled c)) [] class (All-nil (λ (c : Class). IsTrue (is_filled c))) filled;
+  filled = All-push (λ (c : Class). IsTrue (is_filled c)) [] class
+      (All-nil (λ (c : Class). IsTrue (is_filled c))) filled;
   held = λ column. let one = times-cons class [] column in omega (arith, one);
 }
 
@@ -134,7 +135,8 @@ pub sides_weighed : {g : Ghosts UnitWeight} {h : Ghosts Count} (arc : TableArc U
     → AddsClasses (length (sets_of arc.class)) [] outside
     (λ column. once_if (has arc.class column && not (differs test column)))
     → AddsMoves arc.target 0 outside old mid
-    → AddsClasses (length (sets_of arc.class)) [] inside (λ column. once_if (has arc.class column && differs test column))
+    → AddsClasses (length (sets_of arc.class)) [] inside
+    (λ column. once_if (has arc.class column && differs test column))
     → AddsMoves arc.target 1 inside mid new
     → AddsWeighed (λ column. once_if (differs test column)) arc (λ column. once_if (has arc.class column)) old new
 sides_weighed arc test outside inside old mid new a m b n =
@@ -228,7 +230,8 @@ module _ {g : Ghosts UnitWeight} {h : Ghosts Count} (cost : List Sym → ℕ) wh
 
 -- ---- states
 
-module _ {g : Ghosts UnitWeight} {h : Ghosts Count} (cost : ℕ → List Sym → ℕ) (kept : List (TableState UnitWeight g)) where
+module _ {g : Ghosts UnitWeight} {h : Ghosts Count} (cost : ℕ → List Sym → ℕ)
+    (kept : List (TableState UnitWeight g)) where
   pub no_states : (states : List (TableState Count h)) → states ≡ [] → AreWeighedStates cost kept states 0
   no_states states none = record {
     count = ap (λ (xs : List (TableState Count h)). length xs) none;

@@ -5,6 +5,7 @@ pub mod Parts
 pub mod Heads
 pub mod Stops
 pub mod Subjects
+pub mod Sources
 pub mod Opens
 pub mod Possible
 pub mod Searches

@@ -9,6 +9,7 @@ ghost use Rattle.violation.specs.Counts.{chosen};
 ghost use Rattle.violation.specs.Moves.{cost_of, costs, is_unmet_phase};
 ghost use Rattle.violation.specs.Prefixes.{kind_of_bits};
 ghost use Rattle.violation.specs.Problems.{last_place, last_stage};
+ghost use Rattle.cert_check.specs.Sources.{IsOpenAt};
 ghost use Rattle.cert_check.specs.Subjects.{IsReady, problem_of};
 
 use crate::open::{are_all_open, open_tiers};
@@ -62,12 +63,27 @@ fn costs(constraint: &Constraint, mask: u32, is_unmet: bool, column: &[Sym]) -> 
     }
 }
 
+/// The mask of the tiers that are open at a kind.
+pub(crate) fn open_at(subject: &Subject, kind: &Kind) -> u32
+    requires ready { IsReady subject.now }
+    requires place { kind.now.place ≤ last_place (problem_of subject.now) }
+    ensures { IsOpenAt subject.now kind.now result }
+{
+    open_tiers(
+        subject.grammar.tiers.kinds.as_slice(),
+        &subject.answer.form,
+        kind,
+    )
+}
+
 /// What a column costs from a kind of a stage under the last constraint of the stage; 0 at stage 0.
-pub(crate) fn cost(subject: &Subject, stage: u32, kind: &Kind, column: &[Sym]) -> u32
+/// The tiers of the mask are open at the kind.
+pub(crate) fn cost(subject: &Subject, stage: u32, kind: &Kind, mask: u32, column: &[Sym]) -> u32
     requires ready { IsReady subject.now }
     requires stage { stage ≤ last_stage (problem_of subject.now) }
     requires fits { FitsShape subject.now.shape.now stage kind.now }
     requires place { kind.now.place ≤ last_place (problem_of subject.now) }
+    requires opened { IsOpenAt subject.now kind.now mask }
     requires width { length column.now ≡ (problem_of subject.now).tiers.width }
     ensures cost { result
         ≡ cost_of (problem_of subject.now) stage
@@ -79,11 +95,6 @@ pub(crate) fn cost(subject: &Subject, stage: u32, kind: &Kind, column: &[Sym]) -
     }
     let number = stage as usize - 1;
     let is_unmet = has_bit(kind.unmet, subject.shape.phases[number]);
-    let mask = open_tiers(
-        subject.grammar.tiers.kinds.as_slice(),
-        &subject.answer.form,
-        kind,
-    );
     if costs(&subject.grammar.constraints[number], mask, is_unmet, column) {
         1
     } else {

@@ -8,9 +8,10 @@ ghost use Rattle.violation.specs.Problems.{last_place, last_stage};
 ghost use Rattle.cert_check.specs.Fitting.{IsGoingAlike};
 ghost use Rattle.cert_check.specs.Kept.{AddsKept, AreKept, AreKeptOf};
 ghost use Rattle.cert_check.specs.Pruned.{IsAlikeTo};
+ghost use Rattle.cert_check.specs.Sources.{IsOpenAt};
 ghost use Rattle.cert_check.specs.Subjects.{IsReady, AscendsAt, problem_of};
 
-use crate::costs::cost;
+use crate::costs::{cost, open_at};
 use crate::kept_piece::KeptPiece;
 use crate::moves::moved;
 use crate::pruned::pruned_pieces;
@@ -20,18 +21,21 @@ use symbol_class::least_column;
 use tier_core::{Class, Kind, NoMemory};
 
 /// Puts columns that go on alike at the end of a list, with the kind to which they lead and their cost.
+/// The tiers of the mask are open at the kind from which they lead.
 fn push_kept(
     alloc: Global,
     kept: &mut Vec<KeptPiece>,
     subject: &Subject,
     stage: u32,
     kind: &Kind,
+    mask: u32,
     class: &Class,
 ) -> Result<(), AllocError>
     requires ready { IsReady subject.now }
     requires stage { stage ≤ last_stage (problem_of subject.now) }
     requires fits { FitsShape subject.now.shape.now stage kind.now }
     requires place { kind.now.place ≤ last_place (problem_of subject.now) }
+    requires opened { IsOpenAt subject.now kind.now mask }
     requires width { length (sets_of class.now) ≡ (problem_of subject.now).tiers.width }
     requires filled { IsTrue (is_filled class.now) }
     requires alike { IsGoingAlike (problem_of subject.now) stage class.now }
@@ -43,7 +47,7 @@ fn push_kept(
     let least = least_column(alloc, class);
     let column = least.syms();
     let target = moved(subject, stage, kind, column);
-    let cost = cost(subject, stage, kind, column);
+    let cost = cost(subject, stage, kind, mask, column);
     kept.push(KeptPiece {
         class: *class,
         target,
@@ -73,9 +77,10 @@ fn kept_of(
         AreKeptOf (problem_of subject.now) stage
         (kind_of_bits (problem_of subject.now) stage kind.now) pieces.now kept.items) }
 {
+    let mask = open_at(subject, kind);
     let mut kept = Vec::new(alloc);
     for class in pieces {
-        push_kept(alloc, &mut kept, subject, stage, kind, class)?;
+        push_kept(alloc, &mut kept, subject, stage, kind, mask, class)?;
     }
     Ok(kept)
 }

@@ -42,6 +42,7 @@ mod overlap;
 mod parting;
 mod possible;
 mod pruned;
+mod source;
 mod stage_check;
 mod stages;
 mod start;

@@ -11,12 +11,14 @@ ghost use Rattle.answer_text.specs.declared.stage.Node.{Node};
 ghost use Rattle.answer_text.specs.Certified.{IsTightAt, Lists};
 ghost use Rattle.cert_check.specs.Faults.{IsUnlisted};
 ghost use Rattle.cert_check.specs.Pruned.{AddsTight, AreTightAmong, IsAlikeTo};
+ghost use Rattle.cert_check.specs.Sources.{IsSource};
 ghost use Rattle.cert_check.specs.Subjects.{IsReady, AscendsAt, nodes_of, problem_of};
 
-use crate::costs::cost;
+use crate::costs::{cost, open_at};
 use crate::cut::cut_to;
 use crate::find::find_kind;
 use crate::moves::moved;
+use crate::source::Source;
 use crate::subject::Subject;
 use std::alloc::{AllocError, Global};
 use symbol_class::least_column;
@@ -54,27 +56,24 @@ pub(crate) fn potential_of(subject: &Subject, stage: u32, kind: &Kind) -> Option
     }
 }
 
-/// Whether the move from a kind of a stage by a column is tight there. The kind has this potential.
-fn is_tight_at(subject: &Subject, stage: u32, kind: &Kind, before: u32, column: &[Sym]) -> bool
+/// Whether the move from a kind of a stage by a column is tight there.
+fn is_tight_at(subject: &Subject, stage: u32, source: &Source, column: &[Sym]) -> bool
     requires ready { IsReady subject.now }
     requires stage { stage ≤ last_stage (problem_of subject.now) }
     requires ascends { AscendsAt subject.now stage }
-    requires fits { FitsShape subject.now.shape.now stage kind.now }
-    requires place { kind.now.place ≤ last_place (problem_of subject.now) }
+    requires source { IsSource subject.now stage source.now }
     requires width { length column.now ≡ (problem_of subject.now).tiers.width }
-    requires leaves { Lists (problem_of subject.now) subject.now.answer.now.stages.items stage
-        (kind_of_bits (problem_of subject.now) stage kind.now) before }
     ensures { (k : PrefixKind) → cut (problem_of subject.now) stage k
-        ≡ kind_of_bits (problem_of subject.now) stage kind.now
+        ≡ kind_of_bits (problem_of subject.now) stage source.now.kind
         → IsTrue result
         ↔ IsTightAt (problem_of subject.now) subject.now.answer.now.stages.items stage k
         column.now }
 {
-    let target = moved(subject, stage, kind, column);
+    let target = moved(subject, stage, &source.kind, column);
     let Some(after) = potential_of(subject, stage, &target) else {
         return false;
     };
-    before == cost(subject, stage, kind, column) + after
+    source.potential == cost(subject, stage, &source.kind, source.mask, column) + after
 }
 
 /// Puts a piece of columns that are alike at the end of a list, if the moves on them are tight.
@@ -83,62 +82,53 @@ fn push_tight(
     tight: &mut Vec<Class>,
     subject: &Subject,
     stage: u32,
-    kind: &Kind,
-    before: u32,
+    source: &Source,
     class: &Class,
 ) -> Result<(), AllocError>
     requires ready { IsReady subject.now }
     requires stage { stage ≤ last_stage (problem_of subject.now) }
     requires ascends { AscendsAt subject.now stage }
-    requires fits { FitsShape subject.now.shape.now stage kind.now }
-    requires place { kind.now.place ≤ last_place (problem_of subject.now) }
-    requires leaves { Lists (problem_of subject.now) subject.now.answer.now.stages.items stage
-        (kind_of_bits (problem_of subject.now) stage kind.now) before }
+    requires source { IsSource subject.now stage source.now }
     requires width { length (sets_of class.now) ≡ (problem_of subject.now).tiers.width }
     requires filled { IsTrue (is_filled class.now) }
     requires alike { IsAlikeTo (problem_of subject.now) stage class.now }
     ensures { (k : PrefixKind) → cut (problem_of subject.now) stage k
-        ≡ kind_of_bits (problem_of subject.now) stage kind.now
+        ≡ kind_of_bits (problem_of subject.now) stage source.now.kind
         → OnOk result
         (AddsTight (problem_of subject.now) subject.now.answer.now.stages.items stage k
         class.now tight.old.items tight.new.items) }
 {
     let least = least_column(alloc, class);
-    if !is_tight_at(subject, stage, kind, before, least.syms()) {
+    if !is_tight_at(subject, stage, source, least.syms()) {
         return Ok(());
     }
     tight.push(*class)?;
     Ok(())
 }
 
-/// Those of pieces on whose columns the moves from a kind of a stage are tight there. The kind has
-/// this potential.
+/// Those of pieces on whose columns the moves from a kind of a stage are tight there.
 fn tight_from(
     alloc: Global,
     subject: &Subject,
     stage: u32,
-    kind: &Kind,
-    before: u32,
+    source: &Source,
     pieces: &[Class],
 ) -> Result<Vec<Class>, AllocError>
     requires ready { IsReady subject.now }
     requires stage { stage ≤ last_stage (problem_of subject.now) }
     requires ascends { AscendsAt subject.now stage }
-    requires fits { FitsShape subject.now.shape.now stage kind.now }
-    requires place { kind.now.place ≤ last_place (problem_of subject.now) }
-    requires leaves { Lists (problem_of subject.now) subject.now.answer.now.stages.items stage
-        (kind_of_bits (problem_of subject.now) stage kind.now) before }
+    requires source { IsSource subject.now stage source.now }
     requires pieces { ArePieces (problem_of subject.now).tiers.width pieces.now }
     requires alike { All (IsAlikeTo (problem_of subject.now) stage) pieces.now }
     ensures { (k : PrefixKind) → cut (problem_of subject.now) stage k
-        ≡ kind_of_bits (problem_of subject.now) stage kind.now
+        ≡ kind_of_bits (problem_of subject.now) stage source.now.kind
         → IfOk result (λ tight.
         AreTightAmong (problem_of subject.now) subject.now.answer.now.stages.items stage k
         pieces.now tight.items) }
 {
     let mut tight = Vec::new(alloc);
     for class in pieces {
-        push_tight(alloc, &mut tight, subject, stage, kind, before, class)?;
+        push_tight(alloc, &mut tight, subject, stage, source, class)?;
     }
     Ok(tight)
 }
@@ -166,10 +156,15 @@ pub(crate) fn tight_among(
         (kind_of_bits (problem_of subject.now) stage kind.now) pieces.now tight.items) }
 {
     let from = cut_to(kind, subject.shape.phases[earlier as usize]);
-    let Some(before) = potential_of(subject, earlier, &from) else {
+    let Some(potential) = potential_of(subject, earlier, &from) else {
         return Ok(Vec::new(alloc));
     };
-    match tight_from(alloc, subject, earlier, &from, before, pieces) {
+    let source = Source {
+        kind: from,
+        potential,
+        mask: open_at(subject, &from),
+    };
+    match tight_from(alloc, subject, earlier, &source, pieces) {
         Ok(tight) => Ok(tight),
         Err(_) => Err(NoMemory),
     }

@@ -11,7 +11,7 @@ pub potential_of-requires-clause-fits : goal.potential_of-requires-clause-fits
 potential_of-requires-clause-fits c =
     let s = c.args.subject.now in
     tells_fit s c.requires.ready c.args.stage c.requires.stage c.moved-target.result
-    (moved (problem_of s) c.args.stage (kind_of_bits (problem_of s) c.args.stage c.args.kind.now) c.args.column.now)
+    (moved (problem_of s) c.args.stage (kind_of_bits (problem_of s) c.args.stage c.args.source.now.kind) c.args.column.now)
     c.moved-target.ensures
 
 pub returns-in_default : goal.returns-in_default
@@ -25,9 +25,9 @@ returns-in_default c k e =
 pub returns : goal.returns
 returns c k e =
     let s = c.args.subject.now in
-    tight_by s c.args.stage c.requires.ascends k c.args.column.now c.args.before c.in-Some.after c.cost.result
-    (subst (λ l. Lists (problem_of s) s.answer.now.stages.items c.args.stage l c.args.before) (sym e)
-    c.requires.leaves)
+    tight_by s c.args.stage c.requires.ascends k c.args.column.now c.args.source.now.potential c.in-Some.after c.cost.result
+    (subst (λ l. Lists (problem_of s) s.answer.now.stages.items c.args.stage l c.args.source.now.potential) (sym e)
+    c.requires.source.listed)
     (subst (λ l. Lists (problem_of s) s.answer.now.stages.items c.args.stage l c.in-Some.after)
     (c.moved-target.ensures.tells ∙ ap (λ l. moved (problem_of s) c.args.stage l c.args.column.now) (sym e))
     c.in-Some.ensures.1)

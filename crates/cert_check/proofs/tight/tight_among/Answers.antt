@@ -1,10 +1,10 @@
-use Rattle.std.proofs.Common.{◌≡◌, sym, subst}
+use Rattle.std.proofs.Common.{◌≡◌, sym, subst, arith}
 use Rattle.violation.specs.Moves.{cut}
 use Rattle.violation.specs.Prefixes.{kind_of_bits}
 use Rattle.cert_check.specs.Faults.{IsUnlisted}
 use Rattle.cert_check.specs.Subjects.{problem_of}
 use Rattle.cert_check.proofs.TightLists.{tight_among_none}
-use Rattle.cert_check.proofs.TightSteps.{cut_told_at}
+use Rattle.cert_check.proofs.TightSteps.{cut_fits_at, cut_told_at}
 use Rattle.cert_check.proofs.tight.tight_among.Goals as goal
 
 pub returns-in_default : goal.returns-in_default
@@ -29,3 +29,15 @@ returns-in-Ok c =
     c.cut_to-from.result c.index.result.now c.index.ensures c.cut_to-from.ensures.opened
     c.cut_to-from.ensures.stretches c.cut_to-from.ensures.place c.cut_to-from.ensures.phases in
     c.in-Ok.ensures k (sym from)
+
+pub tight_from-requires-clause-source : goal.tight_from-requires-clause-source
+tight_from-requires-clause-source c =
+    let s = c.args.subject.now in
+    record {
+      fits = cut_fits_at s c.requires.ready c.args.stage c.args.earlier c.requires.stage c.requires.earlier
+          c.args.kind.now c.cut_to-from.result c.index.result.now c.index.ensures c.cut_to-from.ensures.opened
+          c.cut_to-from.ensures.stretches c.requires.fits.opened;
+      place = omega (arith, c.cut_to-from.ensures.place, c.requires.place);
+      listed = c.in-Some.ensures.1;
+      opened = c.open_at.ensures;
+    }

@@ -8,5 +8,5 @@ use Rattle.cert_check.proofs.tight.tight_from.Given as goal
 
 abbrev pub invariant-loop-class : goal.invariant-loop-class
 invariant-loop-class l = (k : PrefixKind)
-    → cut (problem_of l.subject) l.stage k ≡ kind_of_bits (problem_of l.subject) l.stage l.kind
+    → cut (problem_of l.subject) l.stage k ≡ kind_of_bits (problem_of l.subject) l.stage l.source.kind
     → TightOf (problem_of l.subject) l.subject.answer.now.stages.items l.stage k l.pieces l.class-index l.tight.items

@@ -7,3 +7,7 @@ mod Tight
 mod Longest
 mod Names
 pub mod KindsFew
+mod SameKinds
+pub mod ColumnCosts
+mod Seeking
+pub mod DirectWays

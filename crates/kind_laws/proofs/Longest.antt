@@ -1,6 +1,6 @@
 -- A list without repeats whose members are in another list is no longer than that.
-use Rattle.std.proofs.Common.{◌≡◌, ◌≢◌, ℕ, suc, ◌<◌, ◌≤◌, false, List, [], ◌∷◌, map, length, get_or, refl, sym, ap, ◌∙◌, subst, arith, ne_eqb, eqb, Contains}
-use Rattle.std.specs.List.{AllByRecursion, IsDistinct}
+use Rattle.std.proofs.Common.{◌≡◌, ◌≢◌, ℕ, zero, suc, ◌<◌, ◌≤◌, false, List, [], ◌∷◌, map, length, get_or, refl, sym, ap, ◌∙◌, subst, arith, ne_eqb, eqb, Contains}
+use Rattle.std.specs.List.{AllByRecursion, AllPairs, IsDistinct}
 use Rattle.std.specs.List.Sorted.{IsStrictlySortedBy}
 use Rattle.std.specs.Ordering.{nat_cmp, ordering_then, is_lt}
 use Rattle.std.specs.Cmp.{nat_cmp_is}
@@ -8,23 +8,38 @@ use Rattle.std.specs.Cmp.Lexicographic.{slice_cmp}
 use Rattle.std.specs.declared.cmp.Ordering.TheVariants.{Less, Equal}
 use Rattle.std.proofs.lemmas.Bool.{eqb-true, false≢true}
 use Rattle.std.proofs.lemmas.List.{get_or_default}
+use Rattle.std.proofs.lemmas.List.Elements.{All-from_recursion, recursion_from_All}
 use Rattle.std.proofs.lemmas.Map.Steps.{length-le_from_distinct_below}
 use Rattle.std.proofs.lemmas.Map.Views.{Contains-from_any}
 use Rattle.tier_core.specs.Kinds.{PrefixKind, kind_order, open_rank, phase_rank, open_order, phase_order}
 use Rattle.kind_laws.proofs.Sets.{first_in, later_in, one_of}
 
-all_in : {X : Type 0} (P : X → Type 0) (xs : List X) → ((x : X) → Contains xs x → P x) → AllByRecursion P xs
+pub all_in : {X : Type 0} (P : X → Type 0) (xs : List X) → ((x : X) → Contains xs x → P x) → AllByRecursion P xs
 all_in P [] h = tt
 all_in P (x ∷ xs) h = (h x (first_in x xs), all_in P xs (λ y m. h y (later_in x xs y m)))
 
-at_member : {X : Type 0} (P : X → Type 0) (xs : List X) (x : X) → AllByRecursion P xs → Contains xs x → P x
+pub at_member : {X : Type 0} (P : X → Type 0) (xs : List X) (x : X) → AllByRecursion P xs → Contains xs x → P x
 at_member P [] x a h = absurd (omega (arith, h.1))
 at_member P (y ∷ ys) x a h = one_of y ys x (P x) (λ e. subst P e a.0) (λ m. at_member P ys x a.1 m) h
 
 -- no member is the same as a later one
-abbrev Differ : {X : Type 0} → List X → Type 0
+abbrev pub Differ : {X : Type 0} → List X → Type 0
 Differ [] = Unit {0}
 Differ (x ∷ xs) = AllByRecursion (λ y. x ≢ y) xs × Differ xs
+
+pub differ_from_pairs : {X : Type 0} (xs : List X) → AllPairs (λ x y. x ≢ y) xs → Differ xs
+differ_from_pairs [] h = tt
+differ_from_pairs (x ∷ xs) h = (
+  recursion_from_All (λ y. x ≢ y) xs (λ k d l. h 0 (suc k) d (omega arith) (omega (arith, l))),
+  differ_from_pairs xs (λ i j d l m. h (suc i) (suc j) d (omega (arith, l)) (omega (arith, m))),
+)
+
+pub pairs_from_differ : {X : Type 0} (xs : List X) → Differ xs → AllPairs (λ x y. x ≢ y) xs
+pairs_from_differ [] d i j x l m = absurd (omega (arith, m))
+pairs_from_differ (y ∷ ys) d i zero x l m = absurd (omega (arith, l))
+pairs_from_differ (y ∷ ys) d zero (suc j) x l m = All-from_recursion (λ z. y ≢ z) ys d.0 j x (omega (arith, m))
+pairs_from_differ (y ∷ ys) d (suc i) (suc j) x l m =
+    pairs_from_differ ys d.1 i j x (omega (arith, l)) (omega (arith, m))
 
 module _ {X : Type 0} (ys : List X) where
   -- where the members of a list stand in ys
@@ -55,7 +70,7 @@ module _ {X : Type 0} (ys : List X) where
   places_differ [] h d = tt
   places_differ (x ∷ xs) h d = (places_other x h.0 xs h.1 d.0, places_differ xs h.1 d.1)
 
-  no_longer : (xs : List X) → ((x : X) → Contains xs x → Contains ys x) → Differ xs → length xs ≤ length ys
+  pub no_longer : (xs : List X) → ((x : X) → Contains xs x → Contains ys x) → Differ xs → length xs ≤ length ys
   no_longer xs inside d =
       let h : AllByRecursion (Contains ys) xs = all_in (Contains ys) xs inside in
       let few : length (places xs h) ≤ length ys =

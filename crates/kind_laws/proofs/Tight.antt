@@ -15,7 +15,7 @@ use Rattle.kind_laws.proofs.Ranks.{least_count, optimal_by_count}
 use Rattle.kind_laws.proofs.GoingOn.{optimal_exchanged, same_fewer, lower, rest, adds_rest, rest_alike, so_far_alike}
 use Rattle.violation.specs.Problems.{Problem}
 
-to_rest : (problem : Problem) (r : ℕ) (k : PrefixKind) (m : ℕ) → 1 ≤ r → IsRemaining problem r k m
+pub to_rest : (problem : Problem) (r : ℕ) (k : PrefixKind) (m : ℕ) → 1 ≤ r → IsRemaining problem r k m
     → IsLeastRest problem r k m
 to_rest problem zero k m l h = absurd (omega arith)
 to_rest problem (suc i) k m l h = h

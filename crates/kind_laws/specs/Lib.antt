@@ -1,3 +1,4 @@
 pub mod Follows
 pub mod Steps
 pub mod Types
+pub mod Ways

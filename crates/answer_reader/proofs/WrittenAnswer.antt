@@ -20,6 +20,7 @@ use Rattle.answer_text.specs.declared.automaton.ArcLine.{ArcLine}
 use Rattle.answer_text.specs.declared.automaton.StateLine.{StateLine}
 use Rattle.answer_text.specs.declared.stage.Node.{Node}
 use Rattle.answer_text.specs.declared.stage.Stage.{Stage}
+use Rattle.answer_text.specs.Orderly.{AreOrderedArcs, IsOrderly}
 use Rattle.answer_text.specs.Readable.{IsReadableArc, IsReadableState, last_nodes}
 use Rattle.answer_text.specs.Right.{nodes_at, numbers_of}
 use Rattle.answer_text.specs.Shape.{widths_of}
@@ -33,7 +34,6 @@ use Rattle.answer_reader.specs.States.{behind_states, states_from}
 use Rattle.answer_reader.specs.Steps.{and_then, line_then}
 use Rattle.answer_reader.specs.Values.{NodeValue, node_value, stage_values, answer_value}
 use Rattle.answer_reader.specs.Timelines.{timeline_said}
-use Rattle.answer_reader.specs.Written.{AreOrderedArcs, IsOrderly}
 use Rattle.answer_reader.proofs.StageValues.{length_values, last_values}
 use Rattle.answer_reader.proofs.Timelines.{timeline_for, said_of}
 use Rattle.answer_reader.proofs.WrittenFree.{node_free, stage_free, state_free, arc_free, counts_free, timeline_free, decimal_free}
@@ -230,33 +230,35 @@ module _ (shape : Shape) (answer : Answer) (is : IsOrderly shape answer) where
   node_count = length (last_nodes stages)
 
   counts : AreCounts answer.counts.items
-  counts = by_recursion (λ n. n ≤ 1000000000) answer.counts.items is.readable.counts
+  counts = by_recursion (λ n. n ≤ 1000000000) answer.counts.items is.counts
+
+  one_each : length answer.counts.items ≡ constraint_count shape
+  one_each = omega (arith, is.one_each)
 
   few_nodes : node_count ≤ 65536
-  few_nodes = let some = is.some_stage in (is.readable.stages (length stages - 1) (omega arith)).few
+  few_nodes = let some = is.some_stage in (is.nodes (length stages - 1) (omega arith)).few
 
   each_stage : AreStagesBack shape (length answer.form) 0 stages
   each_stage = stages_are shape (length answer.form) is.form.within 0 stages (λ i l.
-      let r = is.readable.stages i l in
       let o = is.nodes i l in
-      let m = is.readable.few_stages in
+      let m = is.few_stages in
       subst (λ k. IsStageBack shape (length answer.form) k (nodes_at stages i)) (let e : i ≡ 0 + i = omega arith in e)
       (record {
         there = omega arith;
-        few = r.few;
+        few = o.few;
         numbers = both_hold (λ node. node.kind.place ≤ length answer.form) (λ node. node.potential ≤ 1000000000)
             (nodes_at stages i)
             (by_recursion (λ node. node.kind.place ≤ length answer.form) (nodes_at stages i) o.places)
-            (by_recursion (λ node. node.potential ≤ 1000000000) (nodes_at stages i) r.potentials);
+            (by_recursion (λ node. node.potential ≤ 1000000000) (nodes_at stages i) o.potentials);
         ascending = o.ascending;
       }))
 
   readable_states : AllByRecursion (IsReadableState shape.width node_count) states
-  readable_states = by_recursion (IsReadableState shape.width node_count) states is.readable.states.each
+  readable_states = by_recursion (IsReadableState shape.width node_count) states is.states.each
 
   few_states : length states ≤ node_count
   few_states =
-      let below = few_below 0 node_count (numbers_of states) is.readable.states.ascending (omega arith)
+      let below = few_below 0 node_count (numbers_of states) is.states.ascending (omega arith)
       (from_zero shape.width node_count few_nodes (numbers_of states))
       (nodes_below shape.width node_count few_nodes states readable_states) in
       let n = length-map states (λ (state : StateLine). state.node) in
@@ -313,7 +315,7 @@ module _ (shape : Shape) (answer : Answer) (is : IsOrderly shape answer) where
       (λ ns. line_then (example_of shape)
       (λ example. stages_behind shape (record { form = answer.form; counts = ns; example = example }))) 3
       (counts_line answer.counts.items) ((codes "example " ++ text_of answer.example) ∷ behind_example)
-      answer.counts.items (counts_back (constraint_count shape) answer.counts.items is.one_each counts)
+      answer.counts.items (counts_back (constraint_count shape) answer.counts.items one_each counts)
       (omega arith)
       ∙ line_on (example_of shape) (λ example. stages_behind shape
       (record { form = answer.form; counts = answer.counts.items; example = example })) 4
@@ -352,5 +354,5 @@ module _ (shape : Shape) (answer : Answer) (is : IsOrderly shape answer) where
       (last_values shape 0 stages)
       ∙ ap (and_then (answer_with head_said the_stages)) (states_back shape.width node_count few_nodes states []
       (states_are shape.width node_count few_nodes states readable_states
-      (by_recursion AreOrderedArcs states is.arcs)) (states_ascend states is.readable.states.ascending)
+      (by_recursion AreOrderedArcs states is.arcs)) (states_ascend states is.states.ascending)
       (the_number + 1))

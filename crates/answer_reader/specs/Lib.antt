@@ -17,4 +17,3 @@ pub mod Within
 pub mod Timelines
 pub mod Reading
 pub mod Heads
-pub mod Written

@@ -7,8 +7,8 @@
 //! The definitions in `specs/` give the value of an answer (`Values`), the meaning of a single line
 //! (`Nodes`, `Classes`, `Timelines`, `Lines`), of the lines of stages and states in sequence
 //! (`Stages`, `States`), and of a whole text (`Reading`). Each text has exactly one of a value and a
-//! first cause, and what `put_answer` writes for an orderly answer (`Written`) is read as that
-//! answer's value: [`each_text_has_one_reading`] and [`written_is_read_again`].
+//! first cause, and what `put_answer` writes for an orderly answer is read as that answer's
+//! value: [`each_text_has_one_reading`] and [`written_is_read_again`].
 #![tactic(auto)]
 
 mod answer_err;

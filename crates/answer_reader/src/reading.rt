@@ -3,8 +3,8 @@ ghost use Rattle.tier_core.specs.declared.shape.Shape.{Shape};
 ghost use Rattle.answer_reader.specs.declared.answer_err.AnswerCause.{AnswerCause};
 ghost use Rattle.answer_reader.specs.Reading.{HasReading, IsFirstCause, IsTextOf};
 ghost use Rattle.answer_reader.specs.Values.{AnswerValue, answer_value};
-ghost use Rattle.answer_reader.specs.Written.{IsOrderly};
 ghost use Rattle.answer_text.specs.declared.answer.Answer.{Answer};
+ghost use Rattle.answer_text.specs.Orderly.{IsOrderly};
 ghost use Rattle.answer_text.specs.Shape.{widths_of};
 ghost use Rattle.answer_text.specs.Text.{answer_text};
 

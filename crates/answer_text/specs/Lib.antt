@@ -7,3 +7,4 @@ pub mod Shape
 pub mod Readable
 pub mod RightOnce
 pub mod OnceText
+pub mod Orderly

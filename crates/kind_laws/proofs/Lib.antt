@@ -4,8 +4,8 @@ mod Repeats
 mod Ranks
 mod GoingOn
 mod Tight
-mod Longest
-mod Names
+pub mod Longest
+pub mod Names
 pub mod KindsFew
 mod SameKinds
 pub mod ColumnCosts

@@ -16,6 +16,7 @@ mod OnceLemmas
 mod HearingLemmas
 mod SettledLemmas
 mod CheckLemmas
+mod GeneratedLemmas
 mod CauseLemmas
 mod DueLemmas
 mod VerdictLemmas

@@ -20,7 +20,7 @@ use Rattle.grammar_reader.specs.Grammars.{value_of}
 use Rattle.tier_core.proofs.CountLemmas.{all_weaker}
 use Rattle.grammar_reader.specs.ShapeOf.{IsShapeOf}
 use Rattle.grammar_reader.proofs.Shaping.{length-stretch_counts}
-use Rattle.violation.specs.Candidates.{vec}
+use Rattle.violation.specs.Candidates.{IsForm, vec}
 use Rattle.violation.specs.Conditions.{IsCountable, IsOverTiers}
 use Rattle.answer_text.specs.declared.answer.Answer.{Answer}
 use Rattle.answer_text.specs.Right.{IsRight}
@@ -121,17 +121,17 @@ module _ (g : Grammar) where
     }
 
     pub made_for : (budget : ℕ) (u : List (List Sym)) → IsAsked (value_of g) form (asked g.tiers g.constraints.items u)
-        → (r : Result Answer Status)
+        → IsForm (tiers_of_table g.tiers) u → length u ≤ 64 → (r : Result Answer Status)
         → IfOk r (IsRight (asked g.tiers g.constraints.items u))
         → IfOk r (λ answer. HaveJoinedArcs answer.automaton.states.items)
         → IfOk r (λ answer. AreAllWithin (asked g.tiers g.constraints.items u) budget)
         → IfOk r (IsMade g.tiers g.constraints.items (value_of g) form budget)
-    made_for budget u a r right joined within =
+    made_for budget u a f s r right joined within =
         both_ok r (λ answer. IsRight (asked g.tiers g.constraints.items u) answer
         × HaveJoinedArcs answer.automaton.states.items)
         (λ answer. AreAllWithin (asked g.tiers g.constraints.items u) budget)
         (IsMade g.tiers g.constraints.items (value_of g) form budget)
-        (λ answer p q. record { u = u; is_asked = a; right = p.0; joined = p.1; within = q })
+        (λ answer p q. record { u = u; is_asked = a; is_form = f; short = s; right = p.0; joined = p.1; within = q })
         (both_ok r (IsRight (asked g.tiers g.constraints.items u))
         (λ answer. HaveJoinedArcs answer.automaton.states.items)
         (λ answer. IsRight (asked g.tiers g.constraints.items u) answer

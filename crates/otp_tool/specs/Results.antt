@@ -1,5 +1,5 @@
 -- What the commands write for a grammar.
-use Rattle.std.specs.Prelude.{◌≡◌, ◌⊎◌, ℕ, List, map, length, filter}
+use Rattle.std.specs.Prelude.{◌≡◌, ◌≤◌, ◌⊎◌, ℕ, List, map, length, filter}
 use Rattle.tier_core.specs.declared.sym.Sym.{Sym}
 use Rattle.grammar_reader.specs.Values.{GrammarValue}
 use Rattle.grammar_reader.specs.Canonical.{canonical}
@@ -22,6 +22,7 @@ use Rattle.violation.specs.Problems.{Problem, last_stage}
 use Rattle.cert_check.specs.declared.fault.Fault.{Fault}
 use Rattle.cert_check.specs.declared.fault.Verdict.TheVariants.{Yes, No}
 use Rattle.otp_tool.specs.Answers.{IsVerdictText}
+use Rattle.otp_tool.specs.Checked.{GetsYes}
 use Rattle.otp_tool.specs.Scored.{IsScored}
 use Rattle.std.specs.Str.Lines.{lines}
 use Rattle.tableau.specs.declared.table.Tableau.{Tableau}
@@ -58,6 +59,12 @@ pub record IsOfRightAnswer (write : Problem → Answer → List ℕ) (g : Gramma
 -- the whole text of an answer
 abbrev pub whole_text : Problem → Answer → List ℕ
 whole_text problem answer = answer_text (text_widths problem) answer
+
+-- A text is what `generate` writes: that of a right answer, which gets Yes under the same grammar if it is
+-- within the limit of an answer's file.
+pub record IsGeneratedText (g : GrammarValue) (form text : List ℕ) : Type 0 where
+  pub right : IsOfRightAnswer whole_text g form text
+  pub checked : length text ≤ 268435456 → GetsYes text_widths g text
 
 -- its lines `counts` and `example`
 abbrev pub short_text : Problem → Answer → List ℕ
@@ -114,7 +121,7 @@ IsNoText g bytes text = (fault : Fault) × IsVerdictText text_widths (No fault) 
 abbrev pub IsResult : Command → GrammarValue → List ℕ → List ℕ → Type 0
 IsResult (canon name) g second text = text ≡ canonical g
 IsResult (score name word) g second text = IsScoreText g word text
-IsResult (generate name form budget) g second text = IsOfRightAnswer whole_text g form text
+IsResult (generate name form budget) g second text = IsGeneratedText g form text
 IsResult (show name form budget) g second text = IsOfRightAnswer short_text g form text
 IsResult (tableau name form rows budget) g second text = IsTableauText g form second text
 IsResult (once name form budget) g second text = IsOnceText g form text

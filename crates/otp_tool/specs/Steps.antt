@@ -9,6 +9,8 @@ use Rattle.outside.specs.Sent.{appended, HasSentPart}
 use Rattle.tier_core.specs.declared.sym.Sym.{Sym}
 use Rattle.tier_core.specs.declared.constraint.Constraint.{Constraint}
 use Rattle.tier_core.specs.declared.tier.TierTable.{TierTable}
+use Rattle.tier_core.specs.Tables.{tiers_of_table}
+use Rattle.violation.specs.Candidates.{IsForm}
 use Rattle.violation.specs.Problems.{Problem, asked, last_stage}
 use Rattle.violation.specs.Rests.{AreWholeKindsOver}
 use Rattle.comprehend.specs.Hears.{IsFirstEntryOver}
@@ -159,12 +161,14 @@ abbrev pub RefusesRows : Problem → ℕ → List ℕ → Finding → Type 0
 RefusesRows problem budget bytes x =
     RefusesFile problem bytes x ⊎ (IsRowsFile bytes problem × RefusesBudget problem budget x)
 
--- an answer is right for the form that a word is read as, its arcs are joined, and no stage has more
--- kinds than the budget
+-- an answer is right for the form that a word is read as, which has at most 64 columns; its arcs are
+-- joined, and no stage has more kinds than the budget
 pub record IsMade (table : TierTable) (constraints : List Constraint) (g : GrammarValue) (form : List ℕ) (budget : ℕ)
     (answer : Answer) : Type 0 where
   pub u : List (List Sym)
   pub is_asked : IsAsked g form (asked table constraints u)
+  pub is_form : IsForm (tiers_of_table table) u
+  pub short : length u ≤ 64
   pub right : IsRight (asked table constraints u) answer
   pub joined : HaveJoinedArcs answer.automaton.states.items
   pub within : AreAllWithin (asked table constraints u) budget

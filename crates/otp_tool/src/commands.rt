@@ -144,7 +144,8 @@ pub fn run<F: Shelf, O: Sink>(
     sink: &mut O,
 ) -> Status
     // Done: exactly the text that the command asks for was written. For `generate` it is the text of
-    // a right answer with joined arcs, for `once` that of an answer that is right once, for `tableau`
+    // a right answer with joined arcs; what `generate` writes, `check` answers with `Yes`, if it has at
+    // most 268,435,456 bytes. For `once` it is the text of an answer that is right once, for `tableau`
     // that of the tableau with the rows of the file, for `comprehend` that of the entries that are
     // heard, and for `check` the line `Yes`: no fault is in the answer, whatever answer its bytes are
     // read as, and it is sound.

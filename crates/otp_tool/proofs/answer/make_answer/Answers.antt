@@ -9,8 +9,8 @@ use Rattle.otp_tool.proofs.answer.make_answer.Goals as goal
 
 pub returns-in-Ok-clause-ok : goal.returns-in-Ok-clause-ok
 returns-in-Ok-clause-ok c =
-    made_for c.args.grammar.now c.args.word.now c.args.budget c.in-Ok.form c.in-Ok.ensures.ok c.answer_for.result
-    c.answer_for.ensures.right c.answer_for.ensures.joined c.answer_for.ensures.within
+    made_for c.args.grammar.now c.args.word.now c.args.budget c.in-Ok.form c.in-Ok.ensures.ok c.in-Ok.ensures.form
+    c.in-Ok.ensures.short c.answer_for.result c.answer_for.ensures.right c.answer_for.ensures.joined c.answer_for.ensures.within
 
 pub returns-in-Ok-clause-err : goal.returns-in-Ok-clause-err
 returns-in-Ok-clause-err c =

@@ -2,8 +2,9 @@ use Rattle.answer_text.specs.Shape.{widths_of}
 use Rattle.answer_text.specs.Text.{answer_text}
 use Rattle.grammar_reader.specs.Grammars.{value_of}
 use Rattle.otp_tool.specs.Findings.{FindsForAnswer}
-use Rattle.otp_tool.specs.Results.{IsOfRightAnswer, whole_text}
-use Rattle.otp_tool.proofs.StepLemmas.{made_ready, made_right, stages_fit, whole_written, written}
+use Rattle.otp_tool.specs.Results.{IsGeneratedText}
+use Rattle.otp_tool.proofs.GeneratedLemmas.{generated}
+use Rattle.otp_tool.proofs.StepLemmas.{made_ready, stages_fit, written}
 use Rattle.otp_tool.proofs.results.generate.Goals as goal
 
 pub put_answer-requires : goal.put_answer-requires
@@ -13,9 +14,9 @@ put_answer-requires g c = stages_fit c.args.grammar.now c.args.form.now c.args.b
 pub returns-in-Ok-shape-clause-step : goal.returns-in-Ok-shape-clause-step
 returns-in-Ok-shape-clause-step g c =
     let text = answer_text (widths_of c.in-Ok-shape.shape) c.in-Ok.answer in
-    written (IsOfRightAnswer whole_text (value_of c.args.grammar.now) c.args.form.now) text
-    (made_right c.args.grammar.now c.args.form.now c.args.budget c.in-Ok.answer c.in-Ok.ensures.ok whole_text text
-    (whole_written c.args.grammar.now c.in-Ok-shape.shape c.in-Ok-shape.ensures c.in-Ok.answer))
+    written (IsGeneratedText (value_of c.args.grammar.now) c.args.form.now) text
+    (generated c.args.grammar.now c.args.form.now c.args.budget c.requires.few c.in-Ok.answer c.in-Ok.ensures.ok
+    c.in-Ok-shape.shape c.in-Ok-shape.ensures)
     (FindsForAnswer (value_of c.args.grammar.now) c.args.form.now c.args.budget)
     (made_ready c.args.grammar.now c.args.form.now c.args.budget c.in-Ok.answer c.in-Ok.ensures.ok)
     c.put_answer.result c.put_answer.ensures c.ended.result c.ended.ensures

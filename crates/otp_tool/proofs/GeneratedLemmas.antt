@@ -1,0 +1,118 @@
+-- What `generate` writes is read again, and gets Yes.
+use Rattle.std.proofs.Common.{ℕ, ◌+◌, ◌≤◌, List, filter, take, get_or, length, ap, sym, ◌∙◌, subst, arith}
+use Rattle.std.specs.List.{AllByRecursion}
+use Rattle.std.proofs.lemmas.List.{length-map}
+use Rattle.std.proofs.lemmas.List.FromFn.{get_or-map-range_with_len}
+use Rattle.tier_core.specs.declared.sym.Sym.{Sym}
+use Rattle.tier_core.specs.declared.shape.Shape.{Shape}
+use Rattle.tier_core.specs.Sides.{is_stretch}
+use Rattle.violation.specs.Conditions.{AreSplit, IsOverTiers}
+use Rattle.violation.specs.Prefixes.{kind_of_bits}
+use Rattle.violation.specs.Problems.{Problem, asked, last_stage}
+use Rattle.violation.proofs.SplitLemmas.{tiers_split}
+use Rattle.grammar_reader.specs.declared.grammar.Grammar.{Grammar}
+use Rattle.grammar_reader.specs.Grammars.{value_of}
+use Rattle.grammar_reader.specs.ShapeOf.{IsShapeOf}
+use Rattle.grammar_reader.proofs.Shaping.{length-stretch_counts}
+use Rattle.kind_moves.proofs.GrammarTiers.{over_tiers}
+use Rattle.answer_text.specs.declared.answer.Answer.{Answer}
+use Rattle.answer_text.specs.declared.stage.Node.{Node}
+use Rattle.answer_text.specs.Certified.{AreStatesInOrder}
+use Rattle.answer_text.specs.Orderly.{IsOrderly}
+use Rattle.answer_text.specs.Right.{kinds_at, nodes_at}
+use Rattle.answer_text.specs.Shape.{widths_of}
+use Rattle.answer_text.specs.Sound.{IsSound}
+use Rattle.answer_text.specs.Text.{Widths, answer_text}
+use Rattle.answer_reader.specs.Reading.{IsTextOf}
+use Rattle.answer_reader.specs.Values.{answer_value}
+use Rattle.answer_reader.proofs.WrittenAnswer.{read_back}
+use Rattle.check_laws.proofs.RightAnswers.{sound_from_right}
+use Rattle.check_laws.proofs.RightStates.{certified_from_right}
+use Rattle.right_laws.specs.Shapes.{IsShapeOfProblem}
+use Rattle.right_laws.proofs.Orders.{orderly_from_right}
+use Rattle.cert_check.specs.FirstFaults.{IsFaultless, asked_by}
+use Rattle.cert_check.specs.declared.fault.Verdict.TheVariants.{Yes}
+use Rattle.cert_check.proofs.Faultless.{faultless_if_certified}
+use Rattle.otp_tool.specs.Checked.{GetsYes}
+use Rattle.otp_tool.specs.Results.{IsGeneratedText, text_widths, whole_text}
+use Rattle.otp_tool.specs.Steps.{IsMade}
+use Rattle.otp_tool.proofs.CheckLemmas.{is_ready, is_text}
+use Rattle.otp_tool.proofs.StepLemmas.{made_right, same_shape_widths, whole_written}
+
+module _ (g : Grammar) (form : List ℕ) (budget : ℕ) (few : budget ≤ 65536) (answer : Answer)
+    (made : IsMade g.tiers g.constraints.items (value_of g) form budget answer)
+    (shape : Shape) (of_grammar : IsShapeOf g shape) where
+  abbrev problem : Problem
+  problem = asked g.tiers g.constraints.items made.u
+
+  split : AreSplit problem.tiers
+  split = tiers_split g.tiers.kinds.items
+
+  over : AllByRecursion (IsOverTiers problem.tiers.width) problem.constraints
+  over = over_tiers g
+
+  -- ---- reading
+
+  shaped : IsShapeOfProblem problem shape
+  shaped = record {
+    width = of_grammar.width;
+    inputs = ap length of_grammar.inputs;
+    free = ap (λ (w : Widths). w.free) (same_shape_widths g shape of_grammar made.u);
+    stages = ap length of_grammar.phases ∙ length-stretch_counts g.constraints.items;
+    phases = λ r w. ap (λ (ns : List ℕ). get_or ns r 0) of_grammar.phases
+        ∙ get_or-map-range_with_len (λ i. length (filter is_stretch (take i g.constraints.items))) 0
+        (length g.constraints.items + 1) r r 0 (omega (arith, w)) (omega arith);
+  }
+
+  few_nodes : (r : ℕ) → r ≤ last_stage problem → length (nodes_at answer.stages.items r) ≤ 65536
+  few_nodes r w =
+      let nodes : List Node = nodes_at answer.stages.items r in
+      omega (
+        arith,
+        few,
+        made.within r w (kinds_at problem r (nodes_at answer.stages.items r)) (made.right.each_stage r w).kinds,
+        length-map nodes (λ (node : Node). kind_of_bits problem r node.kind),
+      )
+
+  orderly : IsOrderly shape answer
+  orderly =
+      orderly_from_right problem shape answer split over made.is_form made.short shaped few_nodes made.right
+
+  abbrev text : List ℕ
+  text = answer_text (widths_of shape) answer
+
+  read : IsTextOf shape text (answer_value shape answer)
+  read = read_back shape answer orderly
+
+  -- ---- checking
+
+  in_order : AreStatesInOrder problem.tiers.width answer.automaton.states.items
+  in_order = record {
+    ascending = made.right.automaton.ascending;
+    one_width = λ k d l. (made.right.automaton.arcs k d l).one_width;
+  }
+
+  faultless : IsFaultless problem answer
+  faultless =
+      faultless_if_certified problem answer in_order
+      (certified_from_right problem answer
+      (record { split = split; over = over; form = made.is_form; right = made.right }) made.short)
+
+  -- the problem that the form of the answer asks is this one
+  abbrev asking : List (List Sym) → Problem
+  asking u = asked g.tiers g.constraints.items u
+
+  gets_yes : length text ≤ 268435456 → GetsYes text_widths (value_of g) text
+  gets_yes within = record {
+    is_answer = is_ready g text within shape of_grammar answer read;
+    verdict = is_text g text within shape of_grammar answer read Yes
+        (subst (λ u. IsFaultless (asking u) answer) (sym made.right.form) faultless)
+        (λ yes. subst (λ u. IsSound (asking u) answer) (sym made.right.form)
+        (sound_from_right problem answer made.right));
+  }
+
+  pub generated : IsGeneratedText (value_of g) form (answer_text (widths_of shape) answer)
+  generated = record {
+    right = made_right g form budget answer made whole_text text (whole_written g shape of_grammar answer);
+    checked = gets_yes;
+  }

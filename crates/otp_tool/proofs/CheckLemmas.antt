@@ -61,13 +61,13 @@ module _ (g : Grammar) where
       pub is_readable : IsReadableFor g answer
       is_readable = record { shape = shape; of_grammar = of_grammar; readable = readable }
 
-      pub is_ready : FindsForCheck (value_of g) bytes ready
+      is_ready : FindsForCheck (value_of g) bytes ready
       is_ready = (
         answer_value shape answer,
         record { within = within; shape = shape; of_grammar = shape_for g shape of_grammar; is = read },
       )
 
-      pub is_text : (verdict : Verdict) → IsVerdict (asked_by g answer) answer verdict
+      is_text : (verdict : Verdict) → IsVerdict (asked_by g answer) answer verdict
           → (verdict ≡ Yes → IsSound (asked_by g answer) answer)
           → IsVerdictText text_widths verdict (value_of g) bytes (verdict_text (widths_of shape) verdict)
       is_text verdict v sound = record {

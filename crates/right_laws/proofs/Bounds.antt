@@ -55,7 +55,8 @@ module _ (problem : Problem) (answer : Answer) (split : AreSplit problem.tiers)
   -- the kind of a node number of the last stage
   abbrev kind_numbered : ℕ → PrefixKind
   kind_numbered n =
-      get_or (kinds_at problem (last_stage problem) (nodes (last_stage problem))) n (kind_of problem (last_stage problem) [])
+      get_or (kinds_at problem (last_stage problem) (nodes (last_stage problem))) n
+      (kind_of problem (last_stage problem) [])
 
   numbered_is : (n : ℕ) (k : PrefixKind) → IsNodeOf problem (nodes (last_stage problem)) n k → kind_numbered n ≡ k
   numbered_is n k h =

@@ -119,8 +119,7 @@ closed_alike is_left of tells (c ∷ cs) [] e phases h = cc
 closed_alike is_left of tells (c ∷ cs) (d ∷ ds) e [] h = absurd h
 closed_alike is_left of tells (c ∷ cs) (d ∷ ds) e (p ∷ ps) h =
     let head : constraint_seen c ≡ constraint_seen d = cc in
-    let tail : SeenAlike cs ds = cc in
-    (
+    let tail : SeenAlike cs ds = cc in (
       h.0 ∙ ap not (tells c ∙ ap of head ∙ sym (tells d)),
       closed_alike is_left of tells cs ds tail ps h.1,
     )

@@ -53,8 +53,10 @@ same_told s r kind =
 nodes_there : (s : Two) (r : ℕ) → map (node_seen (there s) r) (nodes_at s.a.stages.items r)
     ≡ map (node_seen (there s) r) (nodes_at s.b.stages.items r)
 nodes_there s r =
-    let seen_by : ℕ → Node → PrefixKind × ℕ = λ n node. (prefix_kind (length s.base.tiers.free) n node.kind,
-    node.potential) in
+    let seen_by : ℕ → Node → PrefixKind × ℕ = λ n node. (
+      prefix_kind (length s.base.tiers.free) n node.kind,
+      node.potential,
+    ) in
     subst (λ n. map (seen_by n) (nodes_at s.a.stages.items r) ≡ map (seen_by n) (nodes_at s.b.stages.items r))
     (same_stretch_count s.base s.cs s.ds s.asked r) (s.seen.nodes r)
 
@@ -393,8 +395,7 @@ listed_target xs ys e column None h = λ y in_ys held.
     let found = member arc_seen ys xs (sym e) y in_ys in
     h found.0 found.1.0 (holds y found.0 column found.1.1 held)
 listed_target xs ys e column (Some m) h =
-    let found = member arc_seen xs ys e h.0 h.1.0 in
-    (
+    let found = member arc_seen xs ys e h.0 h.1.0 in (
       found.0,
       (found.1.0, holds h.0 found.0 column found.1.1 h.1.1, ap (λ (v : ℕ × List ℕ). v.0) found.1.1 ∙ h.1.2),
     )
@@ -409,14 +410,13 @@ kept_at_end s k column kept =
 kept_target : (s : Two) (k : PrefixKind) (column : List Sym) (target : Option ℕ)
     → IsKeptTarget (here s) s.a k column target → IsKeptTarget (there s) s.b k column target
 kept_target s k column None h = λ kept. h (kept_at_end (turned s) k column kept)
-kept_target s k column (Some m) h =
-    (
-      kept_at_end s k column h.0,
-      subst (IsKindOfState (there s) s.b m)
-          (move s (last_stage (here s)) k column
-          ∙ ap (λ r. moved (there s) r k column) (same_stage s))
-          (node_of s m (moved (here s) (last_stage (here s)) k column) h.1),
-    )
+kept_target s k column (Some m) h = (
+  kept_at_end s k column h.0,
+  subst (IsKindOfState (there s) s.b m)
+      (move s (last_stage (here s)) k column
+      ∙ ap (λ r. moved (there s) r k column) (same_stage s))
+      (node_of s m (moved (here s) (last_stage (here s)) k column) h.1),
+)
 
 wrong_arcs : (s : Two) (state : ℕ) (column : List Sym) (listed kept : Option ℕ)
     → HasWrongArcs (here s) s.a state column listed kept → HasWrongArcs (there s) s.b state column listed kept
@@ -475,11 +475,10 @@ module _ (a b : Answer) where
 
 pub same_faults : (p q : Problem) (a b : Answer) → AreAskedAlike p q → AreSeenAlike p a b → (fault : Fault)
     (place : List ℕ) → IsFault p a fault place ↔ IsFault q b fault place
-same_faults p q a b alike seen fault place =
-    (
-      faults a b p q alike seen fault place,
-      faults b a q p (asked_back p q alike) (seen_back a b p q alike seen) fault place,
-    )
+same_faults p q a b alike seen fault place = (
+  faults a b p q alike seen fault place,
+  faults b a q p (asked_back p q alike) (seen_back a b p q alike seen) fault place,
+)
 
 pub same_first : (p q : Problem) (a b : Answer) → AreAskedAlike p q → AreSeenAlike p a b → (fault : Fault)
     → IsFirstFault p a fault → IsFirstFault q b fault
@@ -497,8 +496,7 @@ verdict_there p q a b alike seen (No fault) v = same_first p q a b alike seen fa
 
 pub same_verdict : (p q : Problem) (a b : Answer) → AreAskedAlike p q → AreSeenAlike p a b → (verdict : Verdict)
     → IsVerdict p a verdict ↔ IsVerdict q b verdict
-same_verdict p q a b alike seen verdict =
-    (
-      verdict_there p q a b alike seen verdict,
-      verdict_there q p b a (asked_back p q alike) (seen_back a b p q alike seen) verdict,
-    )
+same_verdict p q a b alike seen verdict = (
+  verdict_there p q a b alike seen verdict,
+  verdict_there q p b a (asked_back p q alike) (seen_back a b p q alike seen) verdict,
+)

@@ -1,5 +1,5 @@
 -- What `generate` writes is read again, and gets Yes.
-use Rattle.std.proofs.Common.{ℕ, ◌+◌, ◌≤◌, List, filter, take, get_or, length, ap, sym, ◌∙◌, subst, arith}
+use Rattle.std.proofs.Common.{ℕ, ◌+◌, ◌≤◌, List, filter, take, get_or, length, refl, ap, sym, ◌∙◌, arith}
 use Rattle.std.specs.List.{AllByRecursion}
 use Rattle.std.proofs.lemmas.List.{length-map}
 use Rattle.std.proofs.lemmas.List.FromFn.{get_or-map-range_with_len}
@@ -21,22 +21,21 @@ use Rattle.answer_text.specs.Certified.{AreStatesInOrder}
 use Rattle.answer_text.specs.Orderly.{IsOrderly}
 use Rattle.answer_text.specs.Right.{kinds_at, nodes_at}
 use Rattle.answer_text.specs.Shape.{widths_of}
-use Rattle.answer_text.specs.Sound.{IsSound}
 use Rattle.answer_text.specs.Text.{Widths, answer_text}
 use Rattle.answer_reader.specs.Reading.{IsTextOf}
 use Rattle.answer_reader.specs.Values.{answer_value}
 use Rattle.answer_reader.proofs.WrittenAnswer.{read_back}
-use Rattle.check_laws.proofs.RightAnswers.{sound_from_right}
 use Rattle.check_laws.proofs.RightStates.{certified_from_right}
 use Rattle.right_laws.specs.Shapes.{IsShapeOfProblem}
 use Rattle.right_laws.proofs.Orders.{orderly_from_right}
 use Rattle.cert_check.specs.FirstFaults.{IsFaultless}
 use Rattle.cert_check.specs.declared.fault.Verdict.TheVariants.{Yes}
 use Rattle.cert_check.proofs.Faultless.{faultless_if_certified}
-use Rattle.otp_tool.specs.Checked.{GetsYes}
-use Rattle.otp_tool.specs.Results.{IsGeneratedText, text_widths, whole_text}
+use Rattle.otp_tool.specs.Answers.{IsJudged}
+use Rattle.otp_tool.specs.Results.{IsGeneratedText, whole_text}
 use Rattle.otp_tool.specs.Steps.{IsMade}
-use Rattle.otp_tool.proofs.CheckLemmas.{is_ready, is_text}
+use Rattle.otp_tool.proofs.GrammarLemmas.{same_tiers}
+use Rattle.otp_tool.proofs.SettledLemmas.{shape_for}
 use Rattle.otp_tool.proofs.StepLemmas.{made_right, same_shape_widths, whole_written}
 
 module _ (g : Grammar) (form : List ℕ) (budget : ℕ) (few : budget ≤ 65536) (answer : Answer)
@@ -98,21 +97,22 @@ module _ (g : Grammar) (form : List ℕ) (budget : ℕ) (few : budget ≤ 65536)
       (certified_from_right problem answer
       (record { split = split; over = over; form = made.is_form; right = made.right }) made.short)
 
-  -- the problem that the form of the answer asks is this one
-  abbrev asking : List (List Sym) → Problem
-  asking u = asked g.tiers g.constraints.items u
-
-  gets_yes : length text ≤ 268435456 → GetsYes text_widths (value_of g) text
-  gets_yes within = record {
-    is_answer = is_ready g text within shape of_grammar answer read;
-    verdict = is_text g text within shape of_grammar answer read Yes
-        (subst (λ u. IsFaultless (asking u) answer) (sym made.right.form) faultless)
-        (λ yes. subst (λ u. IsSound (asking u) answer) (sym made.right.form)
-        (sound_from_right problem answer made.right));
+  judged : length text ≤ 268435456 → IsJudged (value_of g) text Yes
+  judged within = record {
+    within = within;
+    answer = answer;
+    problem = problem;
+    reading = record {
+      shape = shape;
+      of_grammar = shape_for g shape of_grammar;
+      read = read;
+      is_asked = record { tiers = sym (same_tiers g); constraints = refl; form = sym made.right.form };
+    };
+    is_verdict = faultless;
   }
 
   pub generated : IsGeneratedText (value_of g) form (answer_text (widths_of shape) answer)
   generated = record {
     right = made_right g form budget answer made whole_text text (whole_written g shape of_grammar answer);
-    checked = gets_yes;
+    judged = judged;
   }

@@ -106,8 +106,13 @@ module _ (g : Grammar) (bytes : List ℕ) (shape : Shape) (of_grammar : IsShapeO
   -- a stage that may be listed has as many stretch implications in the shape as in the problem
   stretch_told : (r : ℕ) → r < length answer.stages.items → stretch_count shape r ≡ length (stretches problem r)
   stretch_told r within =
-      let few : r < length g.constraints.items + 1 = omega (arith, within, readable.few_stages,
-      ap length of_grammar.phases, length-stretch_counts g.constraints.items) in
+      let few : r < length g.constraints.items + 1 = omega (
+        arith,
+        within,
+        readable.few_stages,
+        ap length of_grammar.phases,
+        length-stretch_counts g.constraints.items,
+      ) in
       ap (λ ns. get_or ns r 0) of_grammar.phases
       ∙ get_or-map-range_with_len (λ i. length (filter is_stretch (take i g.constraints.items))) 0
       (length g.constraints.items + 1) r r 0 few (omega arith)

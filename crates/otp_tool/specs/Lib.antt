@@ -8,4 +8,3 @@ pub mod Outcomes
 pub mod Steps
 pub mod Endings
 pub mod Answers
-pub mod Checked

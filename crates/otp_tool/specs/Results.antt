@@ -21,8 +21,7 @@ use Rattle.comprehend.specs.HitText.{hits_text}
 use Rattle.violation.specs.Problems.{Problem, last_stage}
 use Rattle.cert_check.specs.declared.fault.Fault.{Fault}
 use Rattle.cert_check.specs.declared.fault.Verdict.TheVariants.{Yes, No}
-use Rattle.otp_tool.specs.Answers.{IsVerdictText}
-use Rattle.otp_tool.specs.Checked.{GetsYes}
+use Rattle.otp_tool.specs.Answers.{IsJudged, IsVerdictText}
 use Rattle.otp_tool.specs.Scored.{IsScored}
 use Rattle.std.specs.Str.Lines.{lines}
 use Rattle.tableau.specs.declared.table.Tableau.{Tableau}
@@ -60,11 +59,11 @@ pub record IsOfRightAnswer (write : Problem → Answer → List ℕ) (g : Gramma
 abbrev pub whole_text : Problem → Answer → List ℕ
 whole_text problem answer = answer_text (text_widths problem) answer
 
--- A text is what `generate` writes: that of a right answer, which gets Yes under the same grammar if it is
--- within the limit of an answer's file.
+-- A text is what `generate` writes: that of a right answer. If it is within the limit of an answer's file, it is
+-- read as an answer under the same grammar, and the verdict on it is Yes.
 pub record IsGeneratedText (g : GrammarValue) (form text : List ℕ) : Type 0 where
   pub right : IsOfRightAnswer whole_text g form text
-  pub checked : length text ≤ 268435456 → GetsYes text_widths g text
+  pub judged : length text ≤ 268435456 → IsJudged g text Yes
 
 -- its lines `counts` and `example`
 abbrev pub short_text : Problem → Answer → List ℕ

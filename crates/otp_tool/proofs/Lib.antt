@@ -19,3 +19,5 @@ mod CheckLemmas
 mod CauseLemmas
 mod DueLemmas
 mod VerdictLemmas
+mod PutsLemmas
+mod SampleLemmas

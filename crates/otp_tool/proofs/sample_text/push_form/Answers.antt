@@ -1,8 +1,9 @@
+use Rattle.std.proofs.Common.{[], ◌∷◌}
 use Rattle.outside.proofs.Writing.{◌▹◌, cut, stop}
 use Rattle.otp_tool.proofs.sample_text.push_form.Goals as goal
 
 pub returns-in_err-push : goal.returns-in_err-push
-returns-in_err-push g c = stop c.from_residual.ensures.1 (cut _ (cut _ c.in_err-push.ensures))
+returns-in_err-push g c = stop c.from_residual.ensures.1 (cut (10 ∷ []) (cut c.args.word.now c.in_err-push.ensures))
 
 pub returns-in_err-push-2 : goal.returns-in_err-push-2
 returns-in_err-push-2 g c =

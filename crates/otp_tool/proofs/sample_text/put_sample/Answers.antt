@@ -11,5 +11,5 @@ returns-in_err-put_shown g c =
 
 pub returns : goal.returns
 returns g c =
-    let sizes = rw c.as_slice.ensures at c.put_sizes.ensures in
+    let sizes = rw c.as_slice.ensures.value at c.put_sizes.ensures in
     puts_then c.in_ok-put_form.ensures (puts_then c.in_ok-put_shown.ensures sizes)

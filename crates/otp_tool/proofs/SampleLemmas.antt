@@ -1,9 +1,12 @@
 -- The word of a sample, letter by letter, and the pairs of its states.
-use Rattle.std.proofs.Common.{◌≡◌, ℕ, suc, ◌+◌, ◌<◌, Bool, true, false, cond, List, [], ◌∷◌, ◌++◌, length, map, drop, get_or, refl, ap, sym, ◌∙◌, append_assoc, drop-cons, add-one}
+use Rattle.std.proofs.Common.{◌≡◌, ℕ, suc, ◌+◌, ◌<◌, Bool, true, false, cond, List, [], ◌∷◌, ◌++◌, length, map, drop, get_or, refl, ap, sym, ◌∙◌, codes, ap₂, append_assoc, drop-cons, add-one}
 use Rattle.std.proofs.lemmas.List.Concat.{flat_map-cons}
+use Rattle.std.specs.Fmt.{decimal}
+use Rattle.answer_text.specs.declared.answer.Answer.{Answer}
+use Rattle.answer_text.specs.Text.{line, shown_text}
 use Rattle.answer_text.specs.declared.automaton.ArcLine.{ArcLine}
 use Rattle.answer_text.specs.declared.automaton.StateLine.{StateLine}
-use Rattle.otp_tool.specs.Samples.{leads_to, letter_of, letters_after, next_number, pairs_of, targets_of}
+use Rattle.otp_tool.specs.Samples.{leads_to, letter_of, letters_after, next_number, pairs_of, sample_text, sample_word, targets_of, yes_or_no}
 
 -- the next letter is put at the end of a word
 pub word_next : (word new whole : List ℕ) (n m x y c : ℕ) → n ≡ suc m → y ≡ next_number x → c ≡ letter_of y
@@ -53,3 +56,17 @@ pub put_at_end : {X : Type 0} (old new added left rest whole : List X) → new �
     → old ++ left ≡ whole → new ++ rest ≡ whole
 put_at_end old new added left rest whole is cut all =
     ap (λ xs. xs ++ rest) is ∙ append_assoc old added rest ∙ ap (λ xs. old ++ xs) (sym cut) ∙ all
+
+-- ---- the text
+
+-- what is written by a word and a number of pairs
+pub text_is : (letters : ℕ) (answer : Answer) (faultless : Bool) (word : List ℕ) (pairs : ℕ) → word ≡ sample_word letters
+    → pairs ≡ length (pairs_of answer.automaton.states.items)
+    → line (codes "form " ++ word) ++ (shown_text answer
+    ++ (line (codes "states " ++ decimal (length answer.automaton.states.items))
+    ++ (line (codes "pairs " ++ decimal pairs) ++ line (codes "check " ++ yes_or_no faultless))))
+    ≡ sample_text letters answer faultless
+text_is letters answer faultless word pairs e f =
+    ap₂ (λ (w : List ℕ) (n : ℕ). line (codes "form " ++ w) ++ (shown_text answer
+    ++ (line (codes "states " ++ decimal (length answer.automaton.states.items))
+    ++ (line (codes "pairs " ++ decimal n) ++ line (codes "check " ++ yes_or_no faultless))))) e f

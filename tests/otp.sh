@@ -197,6 +197,19 @@ for form in empty "[ ]" "[ | ]" "[ ] [ ]"; do
     done
 done
 
+# samples
+try "a sample of one letter" 0 "" sample 1
+printf 'form =t\ncounts 0 0 0 0 0 0 0 0 0 0 0 1 0\nexample [-[-[ ]-]-]\nstates 5\npairs 6\ncheck Yes\n' > sample.text
+has_text out sample.text "its text"
+try "a sample of 63 letters" 0 "" sample 63
+[ "$(tail -n 1 out)" = "check Yes" ] && has_passed "it is checked" || has_failed "it is checked"
+grep '^form' out | cut -d ' ' -f 2 > sample.form
+grep -v '^form\|^states\|^pairs\|^check' out > sample.shown
+"$top/otp" show syllables.otp "$(cat sample.form)" > shown
+has_text shown sample.shown "it is what show writes"
+for number in 0 64 01 +1 x; do try "no sample of $number letters" 2 "usage" sample $number; done
+try "a sample and a word more" 2 "usage" sample 1 1
+
 # the largest grammar: 12 tiers, 24 constraints with 8 events on each side, and names of 32 bytes
 name=abcdefghijklmnopqrstuvwxyzA
 {

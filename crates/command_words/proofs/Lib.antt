@@ -1,2 +1,2 @@
-mod Budgets
+mod Numbers
 pub mod CommandLemmas

@@ -1,7 +1,7 @@
 -- A command of the code as one of the definitions: its texts are their bytes.
-use Rattle.command_words.specs.Commands.{Command as Asked, canon, score, generate, show, tableau, once, comprehend, check}
+use Rattle.command_words.specs.Commands.{Command as Asked, canon, score, generate, show, tableau, once, comprehend, check, sample}
 use Rattle.command_words.specs.declared.command.Command.{Command}
-use Rattle.command_words.specs.declared.command.Command.TheVariants.{Canon, Score, Generate, Show, Tableau, Once, Comprehend, Check}
+use Rattle.command_words.specs.declared.command.Command.TheVariants.{Canon, Score, Generate, Show, Tableau, Once, Comprehend, Check, Sample}
 
 abbrev pub command_seen : Command → Asked
 command_seen (Canon grammar) = canon grammar.now
@@ -13,3 +13,4 @@ command_seen (Once grammar form budget) = once grammar.now form.now budget
 command_seen (Comprehend grammar lexicon surface budget) =
     comprehend grammar.now lexicon.now surface.now budget
 command_seen (Check grammar answer) = check grammar.now answer.now
+command_seen (Sample letters) = sample letters

@@ -52,4 +52,8 @@ pub enum Command<'a> {
         grammar: &'a str,
         answer: &'a str,
     },
+    /// `sample N`: what is found for a form of so many letters, from 1 to 63, that the number makes.
+    Sample {
+        letters: u32,
+    },
 }

@@ -11,6 +11,7 @@
 
 mod budget;
 mod command;
+mod number;
 mod read;
 #[cfg(test)]
 mod tests;

@@ -5,6 +5,10 @@ ghost use Rattle.command_words.specs.Words.{words_of};
 
 use crate::budget::budget_of;
 use crate::command::Command;
+use crate::number::read_number;
+
+/// How many letters the form of a sample may have.
+const MOST_LETTERS: u32 = 63;
 
 /// What `canon`, the name of a grammar and further words ask for.
 fn canon_of<'a>(grammar: &'a str, further: &'a [String]) -> Option<Command<'a>>
@@ -128,6 +132,19 @@ fn check_of<'a>(grammar: &'a str, further: &'a [String]) -> Option<Command<'a>>
     }
 }
 
+/// What `sample`, the number of letters and further words ask for.
+fn sample_of<'a>(letters: &'a str, further: &'a [String]) -> Option<Command<'a>>
+    ensures { MatchOption result (IsNoCommand (codes "sample" ∷ letters.now ∷ words_of further.now))
+        (λ c. IsCommand (codes "sample" ∷ letters.now ∷ words_of further.now) (command_seen c)) }
+{
+    match further {
+        [] => Some(Command::Sample {
+            letters: read_number(letters, MOST_LETTERS)?,
+        }),
+        _ => None,
+    }
+}
+
 /// The command that these words are, or `None` if they are not those of a command.
 ///
 /// ```text
@@ -139,26 +156,29 @@ fn check_of<'a>(grammar: &'a str, further: &'a [String]) -> Option<Command<'a>>
 /// once G FORM [BUDGET]
 /// comprehend G LEXICON SURFACE [BUDGET]
 /// check G ANSWER
+/// sample N
 /// ```
 ///
 /// The first word is in lowercase, exactly as above. BUDGET is a decimal number from 1 to 65,536,
-/// with no sign and no leading zero. The other words are any texts, which may be empty.
+/// and N one from 1 to 63, with no sign and no leading zero. The other words are any texts, which may
+/// be empty.
 pub fn command_of(words: &[String]) -> Option<Command<'_>>
     ensures { MatchOption result (IsNoCommand (words_of words.entry.now))
         (λ c. IsCommand (words_of words.entry.now) (command_seen c)) }
 {
-    let [name, grammar, further @ ..] = words else {
+    let [name, first, further @ ..] = words else {
         return None;
     };
     match name.as_str() {
-        "canon" => canon_of(grammar.as_str(), further),
-        "score" => score_of(grammar.as_str(), further),
-        "generate" => generate_of(grammar.as_str(), further),
-        "show" => show_of(grammar.as_str(), further),
-        "tableau" => tableau_of(grammar.as_str(), further),
-        "once" => once_of(grammar.as_str(), further),
-        "comprehend" => comprehend_of(grammar.as_str(), further),
-        "check" => check_of(grammar.as_str(), further),
+        "canon" => canon_of(first.as_str(), further),
+        "score" => score_of(first.as_str(), further),
+        "generate" => generate_of(first.as_str(), further),
+        "show" => show_of(first.as_str(), further),
+        "tableau" => tableau_of(first.as_str(), further),
+        "once" => once_of(first.as_str(), further),
+        "comprehend" => comprehend_of(first.as_str(), further),
+        "check" => check_of(first.as_str(), further),
+        "sample" => sample_of(first.as_str(), further),
         _ => None,
     }
 }

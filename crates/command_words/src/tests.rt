@@ -70,6 +70,10 @@ fn check<'a>(grammar: &'a str, answer: &'a str) -> Option<Command<'a>> {
     Some(Command::Check { grammar, answer })
 }
 
+fn sample(letters: u32) -> Option<Command<'static>> {
+    Some(Command::Sample { letters })
+}
+
 #[test]
 fn words_of_a_command_are_read(rt: HostRuntime) -> Result<(), Fail> {
     let alloc = rt.alloc();
@@ -106,6 +110,8 @@ fn words_of_a_command_are_read(rt: HostRuntime) -> Result<(), Fail> {
         ("comprehend/g/l/s/1", comprehend("g", "l", "s", 1)),
         ("check/g/a", check("g", "a")),
         ("check/a/", check("a", "")),
+        ("sample/1", sample(1)),
+        ("sample/63", sample(63)),
     ];
     for (text, command) in cases {
         let words = words(alloc, text)?;
@@ -149,6 +155,14 @@ fn other_words_are_no_command(rt: HostRuntime) -> Result<(), Fail> {
         "generate/g/1/empty",
         "check/g",
         "check/g/a/1",
+        "sample",
+        "sample/0",
+        "sample/64",
+        "sample/01",
+        "sample/+1",
+        "sample/",
+        "sample/n",
+        "sample/1/1",
     ];
     for text in cases {
         let words = words(alloc, text)?;

@@ -11,7 +11,7 @@ use Rattle.otp_tool.proofs.Choices.{one_choice, one_of, too_long}
 use Rattle.otp_tool.proofs.ShapesAlike.{same_reading, shapes_alike}
 
 -- a file is read as one thing
-one_reading : (g : GrammarValue) (bytes : List ℕ) (r q : Result AnswerValue At) → IsAnswerFile g bytes r
+pub one_reading : (g : GrammarValue) (bytes : List ℕ) (r q : Result AnswerValue At) → IsAnswerFile g bytes r
     → IsAnswerFile g bytes q → r ≡ q
 one_reading g bytes r q a b =
     sym a.is ∙ same_reading a.shape b.shape (shapes_alike g a.shape b.shape a.of_grammar b.of_grammar) bytes ∙ b.is
@@ -20,7 +20,7 @@ abbrev cause_in : Result AnswerValue At → At → At
 cause_in (Ok value) other = other
 cause_in (Err at) other = at
 
-abbrev is_read : Result AnswerValue At → Bool
+abbrev pub is_read : Result AnswerValue At → Bool
 is_read (Ok value) = true
 is_read (Err at) = false
 

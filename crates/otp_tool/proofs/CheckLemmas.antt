@@ -13,21 +13,25 @@ use Rattle.answer_text.specs.Readable.{IsReadable}
 use Rattle.answer_text.specs.Shape.{widths_of}
 use Rattle.answer_text.specs.Sound.{IsSound}
 use Rattle.answer_text.specs.Text.{Widths}
-use Rattle.answer_reader.specs.Reading.{IsTextOf}
+use Rattle.answer_reader.specs.Reading.{IsTextOf, answer_of}
+use Rattle.answer_reader.specs.Steps.{At}
 use Rattle.answer_reader.specs.Values.{answer_value}
 use Rattle.cert_check.specs.FirstFaults.{IsReadableFor, asked_by}
 use Rattle.cert_check.specs.Verdicts.{IsVerdict}
+use Rattle.cert_check.specs.declared.fault.Fault.{Fault}
 use Rattle.cert_check.specs.declared.fault.Verdict.{Verdict}
 use Rattle.cert_check.specs.declared.fault.Verdict.TheVariants.{Yes, No as Not}
 use Rattle.verdict_text.specs.VerdictText.{verdict_text}
 use Rattle.status_lines.specs.declared.status.Status.{Status}
-use Rattle.otp_tool.specs.Answers.{IsVerdictText}
+use Rattle.otp_tool.specs.Answers.{IsJudged, IsReading, IsVerdictText}
 use Rattle.otp_tool.specs.Files.{IsHeld, answer_file}
 use Rattle.otp_tool.specs.Findings.{Finding, FindsForCheck, ready}
 use Rattle.otp_tool.specs.Results.{IsNoText, IsYesText, text_widths}
 use Rattle.otp_tool.specs.Steps.{Change, IsCheckStep, IsCheckWork, IsNoEnd, IsRefusal, IsSecondRefusal, RefusesAnswer, Taking, no_end_of, taking_of, verdict_end}
 use Rattle.otp_tool.proofs.GrammarLemmas.{same_tiers}
 use Rattle.otp_tool.proofs.RefusalLemmas.{refusal_weaker, second_refused}
+use Rattle.std.proofs.lemmas.Bool.{false≢true}
+use Rattle.otp_tool.proofs.CheckFindings.{is_read, one_reading}
 use Rattle.otp_tool.proofs.SettledLemmas.{settled_by, shape_for}
 use Rattle.otp_tool.proofs.StepLemmas.{same_shape_widths, written}
 
@@ -49,6 +53,18 @@ module _ (g : Grammar) where
       is = r.fact;
     })
 
+    -- bytes that are refused have no verdict
+    pub not_judged : (at : At) → answer_of shape bytes ≡ Err at → IsJudged (value_of g) bytes Yes → ⊥
+    not_judged at refused j =
+        false≢true (ap is_read (one_reading (value_of g) bytes (Err at) (Ok (answer_value j.reading.shape j.answer))
+        (record { within = within; shape = shape; of_grammar = shape_for g shape of_grammar; is = refused })
+        (record {
+          within = within;
+          shape = j.reading.shape;
+          of_grammar = j.reading.of_grammar;
+          is = j.reading.read;
+        })))
+
     pub no_answer_read : (t : Taking) → t.new ≡ t.old → (s : Status) → IsRefusal (RefusesAnswer shape bytes) s
         → IsCheckStep (value_of g) bytes t s
     no_answer_read t e s r = inl (inl (
@@ -60,6 +76,31 @@ module _ (g : Grammar) where
         answer) where
       pub is_readable : IsReadableFor g answer
       is_readable = record { shape = shape; of_grammar = of_grammar; readable = readable }
+
+      reading : IsReading (value_of g) bytes answer (asked_by g answer)
+      reading = record {
+        shape = shape;
+        of_grammar = shape_for g shape of_grammar;
+        read = read;
+        is_asked = record { tiers = sym (same_tiers g); constraints = refl; form = refl };
+      }
+
+      -- the verdict on what is read says whether the bytes have the verdict Yes
+      pub is_yes : IsVerdict (asked_by g answer) answer Yes → IsJudged (value_of g) bytes Yes
+      is_yes v = record {
+        within = within;
+        answer = answer;
+        problem = asked_by g answer;
+        reading = reading;
+        is_verdict = v;
+      }
+
+      pub is_not_yes : (fault : Fault) → IsVerdict (asked_by g answer) answer (Not fault)
+          → IsJudged (value_of g) bytes Yes → ⊥
+      is_not_yes fault v j =
+          let first = settled_by g bytes shape of_grammar answer read readable (Not fault) v j.answer j.problem
+          j.reading in
+          j.is_verdict fault first.place first.is
 
       pub is_ready : FindsForCheck (value_of g) bytes ready
       is_ready = (
@@ -73,12 +114,7 @@ module _ (g : Grammar) where
       is_text verdict v sound = record {
         answer = answer;
         problem = asked_by g answer;
-        reading = record {
-          shape = shape;
-          of_grammar = shape_for g shape of_grammar;
-          read = read;
-          is_asked = record { tiers = sym (same_tiers g); constraints = refl; form = refl };
-        };
+        reading = reading;
         is_verdict = v;
         settled = settled_by g bytes shape of_grammar answer read readable verdict v;
         sound = sound;

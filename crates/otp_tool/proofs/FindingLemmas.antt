@@ -3,9 +3,10 @@ use Rattle.std.proofs.Common.{◌≡◌, ◌⊎◌, inl, inr, ℕ, ◌<◌, ◌�
 use Rattle.std.proofs.lemmas.Bool.{false≢true}
 use Rattle.grammar_reader.specs.Values.{GrammarValue}
 use Rattle.grammar_reader.specs.Reading.{At, grammar_of}
-use Rattle.command_words.specs.Commands.{Command, canon, score, generate, show, tableau, once, comprehend, check}
+use Rattle.command_words.specs.Commands.{Command, canon, score, generate, show, tableau, once, comprehend, check, sample}
 use Rattle.otp_tool.specs.Grammars.{IsFileOf, OnGrammar}
 use Rattle.otp_tool.specs.Findings.{Finding, Finds, FindsIn, long_file, no_grammar, no_form, long_second, no_rows, no_lexicon, no_answer, over_budget, ready}
+use Rattle.otp_tool.specs.Samples.{sample_word}
 use Rattle.otp_tool.specs.Steps.{IsOf}
 use Rattle.otp_tool.proofs.AnswerFindings.{all_ready, for_answer, for_once, for_score}
 use Rattle.otp_tool.proofs.Choices.{one_choice, one_of, too_long}
@@ -23,6 +24,7 @@ in_grammar (tableau name form rows budget) g second x y a b = for_tableau g form
 in_grammar (once name form budget) g second x y a b = for_once g form budget x y a b
 in_grammar (comprehend name lexicon surface budget) g second x y a b = for_hearing g surface budget second x y a b
 in_grammar (check name answer) g second x y a b = for_check g second x y a b
+in_grammar (sample n) g second x y a b = for_answer g (sample_word n) 20000 x y a b
 
 -- ---- in the files
 

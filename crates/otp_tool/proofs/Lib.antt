@@ -20,3 +20,5 @@ mod GeneratedLemmas
 mod CauseLemmas
 mod DueLemmas
 mod VerdictLemmas
+mod PutsLemmas
+mod SampleLemmas

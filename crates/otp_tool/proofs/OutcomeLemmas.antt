@@ -1,16 +1,17 @@
 -- From the steps of a command to what stands behind its status.
-use Rattle.std.proofs.Common.{◌≡◌, ◌⊎◌, inl, inr, ℕ, zero, suc, ◌<◌, ◌≤◌, List, [], ◌∷◌, length, Option, Some, None, IfSome, refl, sym, subst, arith}
+use Rattle.std.proofs.Common.{◌≡◌, ◌⊎◌, inl, inr, ℕ, zero, suc, ◌<◌, ◌≤◌, List, [], ◌∷◌, length, Option, Some, None, IfSome, refl, ap, sym, subst, arith}
+use Rattle.std.specs.Option.{option_map}
 use Rattle.outside.specs.Faults.{Rose}
 use Rattle.outside.specs.Sent.{appended, HasSentPart}
 use Rattle.status_lines.specs.declared.status.Status.{Status}
 use Rattle.status_lines.specs.declared.status.Status.TheVariants.{Done, No, Usage, GrammarRefused, FormRefused, LexiconRefused, AnswerRefused, Budget, ReadFault, WriteFault, NoMemory, RowsRefused, TooLong}
 use Rattle.grammar_reader.specs.Values.{GrammarValue}
 use Rattle.command_words.specs.Commands.{Command, IsCommand, grammar_of as file_of}
-use Rattle.otp_tool.specs.Files.{IsHeld, IsSecondHeld, NamedFile, grammar_file, second_file}
+use Rattle.otp_tool.specs.Files.{IsHeld, IsSecondHeld, NamedFile, faults_of, grammar_told, second_file}
 use Rattle.otp_tool.specs.Grammars.{OnGrammar}
 use Rattle.otp_tool.specs.Findings.{Finding, FindsIn, Finds, Reaches, long_file, no_grammar, no_form, long_second, no_rows, no_lexicon, no_answer, over_budget, ready}
 use Rattle.otp_tool.specs.Results.{IsNoResult, IsResult, IsWhole}
-use Rattle.otp_tool.specs.Outcomes.{IsBehind, IsWrittenBehind, MayRead}
+use Rattle.otp_tool.specs.Outcomes.{HasReadFault, IsBehind, IsWrittenBehind, MayRead}
 use Rattle.otp_tool.specs.Steps.{Change, IsEnd, IsLoadRefusal, IsLoaded, IsNoEnd, IsNotRead, IsOutcome, IsPartTaken, IsRefusal, IsStep, IsWork, IsWorkOf}
 
 -- so many bytes
@@ -99,7 +100,7 @@ module _ (words : List (List ℕ)) (c : Change) (command : Command) (are : IsCom
   -- ---- from loading
 
   -- before a second file is loaded
-  found_first : (x : Finding) (bytes : List ℕ) → IsHeld (c.held (file_of command)) bytes
+  found_first : (x : Finding) (bytes : List ℕ) → IsHeld (grammar_told c.held (file_of command)) bytes
       → ((second : List ℕ) → Finds command bytes second x) → IsBehind words c.held x
   found_first x bytes h f =
       let s = some_second c.held (second_file command) in record {
@@ -110,9 +111,23 @@ module _ (words : List (List ℕ)) (c : Change) (command : Command) (are : IsCom
         finds = f s.0;
       }
 
+  -- the file of a grammar has a fault only if there is one
+  grammar_fault : (name : Option (List ℕ)) → file_of command ≡ name → (word : ℕ) → word ≡ 1
+      → Rose (faults_of c.faults_before name) (faults_of c.faults_after name)
+      → HasReadFault words c.held c.faults_before c.faults_after word
+  grammar_fault None e word w rose = absurd (omega (arith, rose))
+  grammar_fault (Some name) e word w rose = record {
+    command = command;
+    are = are;
+    file = record { word = 1; name = name; limit = 65536 };
+    loads = inl (ap (option_map (λ (n : List ℕ). record { word = 1; name = n; limit = 65536 })) e);
+    by_word = w;
+    rose = rose;
+  }
+
   pub by_load : c.taking.new ≡ c.taking.old → (s : Status)
-      → IsLoadRefusal (c.held (file_of command)) (c.faults_before (file_of command))
-      (c.faults_after (file_of command)) s → IsOutcome words c s
+      → IsLoadRefusal (grammar_told c.held (file_of command)) (faults_of c.faults_before (file_of command))
+      (faults_of c.faults_after (file_of command)) s → IsOutcome words c s
   by_load t Done r = absurd r
   by_load t No r = absurd r
   by_load t Usage r = absurd r
@@ -125,25 +140,15 @@ module _ (words : List (List ℕ)) (c : Change) (command : Command) (are : IsCom
   by_load t (LexiconRefused word cause) r = absurd r
   by_load t (AnswerRefused word line cause) r = absurd r
   by_load t (Budget entry stage) r = absurd r
-  by_load t (ReadFault word) r = (
-    record {
-      command = command;
-      are = are;
-      file = grammar_file command;
-      loads = inl refl;
-      by_word = r.0;
-      rose = r.1;
-    },
-    t,
-  )
+  by_load t (ReadFault word) r = (grammar_fault (file_of command) refl word r.0 r.1, t)
   by_load t WriteFault r = absurd r
   by_load t NoMemory r = ((command, are), inl t)
   by_load t (RowsRefused word row cause) r = absurd r
   by_load t (TooLong word) r =
-      let l = long_held (c.held (file_of command)) 65536 r.1 in
+      let l = long_held (grammar_told c.held (file_of command)) 65536 r.1 in
       (inl (r.0, found_first long_file l.bytes l.holds (λ second. l.long)), t)
 
-  module _ (g : GrammarValue) (l : IsLoaded (c.held (file_of command)) g) where
+  module _ (g : GrammarValue) (l : IsLoaded (grammar_told c.held (file_of command)) g) where
     on : (P : GrammarValue → Type 0) → P g → OnGrammar P l.bytes
     on P p = record { grammar = g; file = l.file; fact = p }
 

@@ -6,7 +6,7 @@ use Rattle.status_lines.specs.declared.status.Status.TheVariants.{Done, No, NoMe
 use Rattle.grammar_reader.specs.Values.{GrammarValue}
 use Rattle.cert_check.specs.declared.fault.Verdict.{Verdict}
 use Rattle.cert_check.specs.declared.fault.Verdict.TheVariants.{Yes, No as Not}
-use Rattle.command_words.specs.Commands.{Command, canon, score, generate, show, tableau, once, comprehend, check}
+use Rattle.command_words.specs.Commands.{Command, canon, score, generate, show, tableau, once, comprehend, check, sample}
 use Rattle.command_words.proofs.CommandLemmas.{one_command}
 use Rattle.answer_reader.specs.Values.{answer_value}
 use Rattle.otp_tool.specs.Answers.{IsJudged}
@@ -28,15 +28,17 @@ is_ready (show name form budget) g second verdict j = absurd j
 is_ready (tableau name form rows budget) g second verdict j = absurd j
 is_ready (once name form budget) g second verdict j = absurd j
 is_ready (comprehend name lexicon surface budget) g second verdict j = absurd j
-is_ready (check name answer) g second verdict j = (
-  answer_value j.reading.shape j.answer,
-  record {
-    within = j.within;
-    shape = j.reading.shape;
-    of_grammar = j.reading.of_grammar;
-    is = j.reading.read;
-  },
-)
+is_ready (sample n) g second verdict j = absurd j
+is_ready (check name answer) g second verdict j =
+    (
+      answer_value j.reading.shape j.answer,
+      record {
+        within = j.within;
+        shape = j.reading.shape;
+        of_grammar = j.reading.of_grammar;
+        is = j.reading.read;
+      },
+    )
 
 told_ready : (words : List (List ℕ)) (c : Change) (verdict : Verdict) → IsToldVerdict words c.held verdict
     → IsTold words c.held ready
@@ -74,6 +76,7 @@ says_done (show name form budget) g second text verdict j r = absurd j
 says_done (tableau name form rows budget) g second text verdict j r = absurd j
 says_done (once name form budget) g second text verdict j r = absurd j
 says_done (comprehend name lexicon surface budget) g second text verdict j r = absurd j
+says_done (sample n) g second text verdict j r = absurd j
 says_done (check name answer) g second text verdict j r = yes_settled g second text verdict j r
 
 says_no : (command : Command) (g : GrammarValue) (second text : List ℕ) (verdict : Verdict)
@@ -85,6 +88,7 @@ says_no (show name form budget) g second text verdict j r = absurd j
 says_no (tableau name form rows budget) g second text verdict j r = absurd j
 says_no (once name form budget) g second text verdict j r = absurd j
 says_no (comprehend name lexicon surface budget) g second text verdict j r = absurd j
+says_no (sample n) g second text verdict j r = absurd j
 says_no (check name answer) g second text verdict j r = no_settled g second text verdict j r
 
 module _ (words : List (List ℕ)) (c : Change) (verdict : Verdict) (told : IsToldVerdict words c.held verdict) where

@@ -9,7 +9,7 @@ use Rattle.grammar_reader.specs.Reading.{grammar_of}
 use Rattle.ranked_gen.specs.Budgets.{AreAllWithin, HaveFewKinds, IsFirstOver}
 use Rattle.tableau.specs.declared.rows_err.RowsCause.{RowsCause}
 use Rattle.tableau.specs.Rows.{AreRowsOf, IsRefusedAt}
-use Rattle.command_words.specs.Commands.{Command, canon, score, generate, show, tableau, once, comprehend, check}
+use Rattle.command_words.specs.Commands.{Command, canon, score, generate, show, tableau, once, comprehend, check, sample}
 use Rattle.form_reader.specs.Forms.{IsReadAs, IsRefusedFor}
 use Rattle.lexicon.specs.declared.lex_err.LexErr.{LexErr}
 use Rattle.comprehend.specs.Hears.{AreEntriesWithin, IsFirstEntryOver}
@@ -17,6 +17,7 @@ use Rattle.violation.specs.Problems.{Problem, last_stage}
 use Rattle.violation.specs.Rests.{AreWholeKindsOver, AreWholeKindsWithin}
 use Rattle.answer_reader.specs.declared.answer_err.AnswerCause.{AnswerCause}
 use Rattle.otp_tool.specs.Answers.{HasAnswer, IsNoAnswer}
+use Rattle.otp_tool.specs.Samples.{sample_word}
 use Rattle.otp_tool.specs.Scored.{IsNotScored, IsScored}
 use Rattle.otp_tool.specs.Grammars.{IsAsked, OnGrammar, OnProblem, input_count}
 use Rattle.otp_tool.specs.Lexicons.{HasSurfaceWord, IsNoLexiconFile, IsNoSurface, OnLexicon, forms_in}
@@ -160,7 +161,8 @@ FindsForCheck g bytes (no_answer line cause) = IsNoAnswer g bytes line cause
 FindsForCheck g bytes (over_budget entry stage) = ⊥
 FindsForCheck g bytes ready = HasAnswer g bytes
 
--- what a command finds in its grammar, where these are the bytes of its second file
+-- What a command finds in its grammar, where these are the bytes of its second file. `sample` finds what
+-- `generate` finds for the form that its number makes.
 abbrev pub FindsIn : Command → GrammarValue → List ℕ → Finding → Type 0
 FindsIn (canon name) g second finding = FindsForCanon finding
 FindsIn (score name word) g second finding = FindsForScore g word finding
@@ -170,6 +172,7 @@ FindsIn (tableau name form rows budget) g second finding = FindsForTableau g for
 FindsIn (once name form budget) g second finding = FindsForOnce g form budget finding
 FindsIn (comprehend name lexicon surface budget) g second finding = FindsForHearing g surface budget second finding
 FindsIn (check name answer) g second finding = FindsForCheck g second finding
+FindsIn (sample n) g second finding = FindsForAnswer g (sample_word n) 20000 finding
 
 -- what a command finds, where these are the bytes of its grammar's file and of its second file
 abbrev pub Finds : Command → List ℕ → List ℕ → Finding → Type 0
@@ -196,3 +199,4 @@ Reaches (tableau name form rows budget) g = HasForm g form
 Reaches (once name form budget) g = Unit {0}
 Reaches (comprehend name lexicon surface budget) g = HasSurfaceWord g surface
 Reaches (check name answer) g = Unit {0}
+Reaches (sample n) g = Unit {0}

@@ -1,3 +1,4 @@
+pub mod Samples
 pub mod Files
 pub mod Grammars
 pub mod Scored

@@ -4,11 +4,11 @@ use Rattle.outside.specs.Faults.{Rose}
 use Rattle.grammar_reader.specs.Values.{GrammarValue}
 use Rattle.cert_check.specs.declared.fault.Verdict.{Verdict}
 use Rattle.cert_check.specs.declared.fault.Verdict.TheVariants.{Yes, No as Not}
-use Rattle.command_words.specs.Commands.{Command, IsCommand, canon, score, generate, show, tableau, once, comprehend, check, grammar_of as file_of}
+use Rattle.command_words.specs.Commands.{Command, IsCommand, canon, score, generate, show, tableau, once, comprehend, check, sample, grammar_of as file_of}
 use Rattle.status_lines.specs.declared.status.Status.{Status}
 use Rattle.status_lines.specs.declared.status.Status.TheVariants.{Done, No, Usage, GrammarRefused, FormRefused, LexiconRefused, AnswerRefused, Budget, ReadFault, WriteFault, NoMemory, RowsRefused, TooLong}
 use Rattle.otp_tool.specs.Answers.{IsJudged}
-use Rattle.otp_tool.specs.Files.{IsHeld, IsSecondHeld, NamedFile, grammar_file, second_file}
+use Rattle.otp_tool.specs.Files.{grammar_told, IsHeld, IsSecondHeld, NamedFile, grammar_file, second_file}
 use Rattle.otp_tool.specs.Grammars.{OnGrammar}
 use Rattle.otp_tool.specs.Findings.{Finding, Finds, Reaches, long_file, no_grammar, no_form, long_second, no_rows, no_lexicon, no_answer, over_budget, ready}
 
@@ -17,7 +17,7 @@ use Rattle.otp_tool.specs.Findings.{Finding, Finds, Reaches, long_file, no_gramm
 pub record MayRead (words : List (List ℕ)) (held : List ℕ
     → Option (List ℕ)) (command : Command) (bytes second : List ℕ) : Type 0 where
   pub are : IsCommand words command
-  pub holds : IsHeld (held (file_of command)) bytes
+  pub holds : IsHeld (grammar_told held (file_of command)) bytes
   pub holds_second : IsSecondHeld held (second_file command) second
 
 -- the words are a command, which finds this in bytes that the shelf may hold
@@ -48,13 +48,13 @@ pub record IsWrittenBehind (words : List (List ℕ)) (held : List ℕ → Option
 -- a command accepts all that stands before its second file
 pub record HasReached (held : List ℕ → Option (List ℕ)) (command : Command) : Type 0 where
   pub bytes : List ℕ
-  pub holds : IsHeld (held (file_of command)) bytes
+  pub holds : IsHeld (grammar_told held (file_of command)) bytes
   pub accepts : OnGrammar (Reaches command) bytes
 
 -- the file is that of a command's grammar, or its second one, and the command comes to load it
 abbrev pub Loads : (List ℕ → Option (List ℕ)) → Command → NamedFile → Type 0
 Loads held command file =
-    (file ≡ grammar_file command) ⊎ ((second_file command ≡ Some file) × HasReached held command)
+    (grammar_file command ≡ Some file) ⊎ ((second_file command ≡ Some file) × HasReached held command)
 
 -- The words are a command, and this word of it names a file that it comes to load, and the count of
 -- faults of whose name rose.
@@ -75,7 +75,7 @@ IsTooLong words held word = ((word ≡ 1) × IsBehind words held long_file) ⊎ 
 abbrev pub IsUnnamed : List (List ℕ) → List ℕ → Type 0
 IsUnnamed words name =
     (command : Command) → IsCommand words command
-    → (¬ (file_of command ≡ name)) × ((file : NamedFile) → second_file command ≡ Some file → ¬ (file.name ≡ name))
+    → (¬ (file_of command ≡ Some name)) × ((file : NamedFile) → second_file command ≡ Some file → ¬ (file.name ≡ name))
 
 -- the status that answers a finding
 abbrev pub answer_to : Finding → Status
@@ -103,6 +103,7 @@ Judges (tableau name form rows budget) g second verdict = ⊥
 Judges (once name form budget) g second verdict = ⊥
 Judges (comprehend name lexicon surface budget) g second verdict = ⊥
 Judges (check name answer) g second verdict = IsJudged g second verdict
+Judges (sample n) g second verdict = ⊥
 
 -- the words are a command that checks an answer, and this is the verdict for any bytes that the shelf may hold
 pub record IsToldVerdict (words : List (List ℕ)) (held : List ℕ → Option (List ℕ)) (verdict : Verdict) : Type 0 where

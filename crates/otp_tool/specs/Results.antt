@@ -1,5 +1,5 @@
 -- What the commands write for a grammar.
-use Rattle.std.specs.Prelude.{◌≡◌, ◌≤◌, ◌⊎◌, ℕ, List, map, length, filter}
+use Rattle.std.specs.Prelude.{◌≡◌, ◌≤◌, ◌⊎◌, ◌↔◌, ℕ, Bool, IsTrue, List, map, length, filter}
 use Rattle.tier_core.specs.declared.sym.Sym.{Sym}
 use Rattle.grammar_reader.specs.Values.{GrammarValue}
 use Rattle.grammar_reader.specs.Canonical.{canonical}
@@ -9,7 +9,7 @@ use Rattle.answer_text.specs.declared.answer.Answer.{Answer}
 use Rattle.answer_text.specs.Right.{IsRight}
 use Rattle.answer_text.specs.Text.{Widths, answer_text, counts_text, shown_text}
 use Rattle.kind_orders.specs.JoinedArcs.{HaveJoinedArcs}
-use Rattle.command_words.specs.Commands.{Command, canon, score, generate, show, tableau, once, comprehend, check}
+use Rattle.command_words.specs.Commands.{Command, canon, score, generate, show, tableau, once, comprehend, check, sample}
 use Rattle.tier_core.specs.Sides.{is_stretch}
 use Rattle.answer_text.specs.declared.once_answer.OnceAnswer.{OnceAnswer}
 use Rattle.answer_text.specs.OnceText.{OnceWidths, once_text}
@@ -22,6 +22,7 @@ use Rattle.violation.specs.Problems.{Problem, last_stage}
 use Rattle.cert_check.specs.declared.fault.Fault.{Fault}
 use Rattle.cert_check.specs.declared.fault.Verdict.TheVariants.{Yes, No}
 use Rattle.otp_tool.specs.Answers.{IsJudged, IsVerdictText}
+use Rattle.otp_tool.specs.Samples.{sample_text, sample_word}
 use Rattle.otp_tool.specs.Scored.{IsScored}
 use Rattle.std.specs.Str.Lines.{lines}
 use Rattle.tableau.specs.declared.table.Tableau.{Tableau}
@@ -117,6 +118,18 @@ IsYesText g bytes text = IsVerdictText text_widths Yes g bytes text
 abbrev pub IsNoText : GrammarValue → List ℕ → List ℕ → Type 0
 IsNoText g bytes text = (fault : Fault) × IsVerdictText text_widths (No fault) g bytes text
 
+-- A text is the summary of a right answer to the form that a number makes. It says `check Yes` exactly if
+-- the answer's text, as a file, is one that `check` answers with Yes.
+pub record IsSampleText (n : ℕ) (g : GrammarValue) (text : List ℕ) : Type 0 where
+  pub problem : Problem
+  pub is_asked : IsAsked g (sample_word n) problem
+  pub answer : Answer
+  pub right : IsRight problem answer
+  pub joined : HaveJoinedArcs answer.automaton.states.items
+  pub faultless : Bool
+  pub checked : IsTrue faultless ↔ IsJudged g (whole_text problem answer) Yes
+  pub written : text ≡ sample_text n answer faultless
+
 -- A text is what a command writes for a grammar if it does everything that it is asked, where these are the bytes of
 -- its second file.
 abbrev pub IsResult : Command → GrammarValue → List ℕ → List ℕ → Type 0
@@ -128,6 +141,7 @@ IsResult (tableau name form rows budget) g second text = IsTableauText g form se
 IsResult (once name form budget) g second text = IsOnceText g form text
 IsResult (comprehend name lexicon surface budget) g second text = IsHeardText g surface second text
 IsResult (check name answer) g second text = IsYesText g second text
+IsResult (sample n) g second text = IsSampleText n g text
 
 -- a text is what a command writes that does everything, and says No
 abbrev pub IsNoResult : Command → GrammarValue → List ℕ → List ℕ → Type 0
@@ -139,6 +153,7 @@ IsNoResult (tableau name form rows budget) g second text = ⊥
 IsNoResult (once name form budget) g second text = ⊥
 IsNoResult (comprehend name lexicon surface budget) g second text = ⊥
 IsNoResult (check name answer) g second text = IsNoText g second text
+IsNoResult (sample n) g second text = ⊥
 
 -- one or the other
 abbrev pub IsWhole : Command → GrammarValue → List ℕ → List ℕ → Type 0

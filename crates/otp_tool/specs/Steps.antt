@@ -26,7 +26,7 @@ use Rattle.ranked_gen.specs.Budgets.{AreAllWithin, HaveFewKinds, IsFirstOver}
 use Rattle.grammar_reader.specs.declared.grammar_err.GrammarCause.{GrammarCause}
 use Rattle.grammar_reader.specs.Values.{GrammarValue}
 use Rattle.grammar_reader.specs.Reading.{grammar_of}
-use Rattle.command_words.specs.Commands.{Command, IsCommand, IsNoCommand, canon, score, generate, show, tableau, once, comprehend, check}
+use Rattle.command_words.specs.Commands.{Command, IsCommand, IsNoCommand, canon, score, generate, show, tableau, once, comprehend, check, sample}
 use Rattle.status_lines.specs.declared.status.Status.{Status}
 use Rattle.status_lines.specs.declared.status.Status.TheVariants.{Done, No, Usage, GrammarRefused, FormRefused, LexiconRefused, AnswerRefused, Budget, ReadFault, WriteFault, NoMemory, RowsRefused, TooLong}
 use Rattle.otp_tool.specs.Files.{IsHeld, IsSecondHeld, NamedFile, answer_file, lexicon_file, rows_file, second_file}
@@ -42,7 +42,7 @@ use Rattle.otp_tool.specs.Lexicons.{HasSurfaceWord, IsNoLexiconFile, IsNoSurface
 use Rattle.otp_tool.specs.Results.{IsHeardText, IsNoResult, IsNoText, IsResult, IsTableauText, IsWhole, IsYesText}
 use Rattle.otp_tool.specs.Outcomes.{IsBehind, IsTooLong, IsWrittenBehind, HasReadFault}
 
--- the budget of a command is from 1 to 65,536
+-- the budget of a command is from 1 to 65,536, and the number of a sample from 1 to 63
 abbrev pub HasFitBudget : Command → Type 0
 HasFitBudget (canon name) = Unit {0}
 HasFitBudget (score name word) = Unit {0}
@@ -52,6 +52,7 @@ HasFitBudget (tableau name form rows budget) = (1 ≤ budget) × (budget ≤ 655
 HasFitBudget (once name form budget) = (1 ≤ budget) × (budget ≤ 65536)
 HasFitBudget (comprehend name lexicon surface budget) = (1 ≤ budget) × (budget ≤ 65536)
 HasFitBudget (check name answer) = Unit {0}
+HasFitBudget (sample n) = (1 ≤ n) × (n ≤ 63)
 
 -- a grammar is that of a file that is held
 pub record IsLoaded (held : Option (List ℕ)) (g : GrammarValue) : Type 0 where

@@ -18,7 +18,7 @@ use tier_core::Shape;
 use verdict_text::put_verdict;
 
 /// How many bytes an answer's file may have.
-const ANSWER_LIMIT: u64 = 268435456;
+pub(crate) const ANSWER_LIMIT: u64 = 268435456;
 
 /// Reads the answer of the file that word 2 names.
 fn answer_of(alloc: Global, shape: &Shape, bytes: &[u8]) -> Result<Answer, Status>

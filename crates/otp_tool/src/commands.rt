@@ -1,4 +1,4 @@
-ghost use Rattle.std.specs.Prelude.{◌≡◌, ◌≢◌, ◌≤◌, ◌⊎◌, ◌↔◌, ℕ, List, Some};
+ghost use Rattle.std.specs.Prelude.{◌≡◌, ◌≢◌, ◌≤◌, ◌⊎◌, ◌↔◌, ℕ, List, None, Some, IfErr, IfOk, MatchOption};
 ghost use Rattle.outside.specs.Faults.{Rose};
 ghost use Rattle.outside.specs.Sent.{appended, HasSentPart};
 ghost use Rattle.timeline_text.specs.declared.form_err.FormErr.{FormErr};
@@ -11,8 +11,8 @@ ghost use Rattle.command_words.specs.Seen.{command_seen};
 ghost use Rattle.otp_tool.specs.Findings.{Finding, no_grammar, no_form, no_rows, no_lexicon, no_answer, over_budget, ready};
 ghost use Rattle.otp_tool.specs.Outcomes.{HasReadFault, IsBeforeWriting, IsBehind, IsTold, IsToldVerdict, IsTooLong, IsUnnamed, IsWrittenBehind, Stands, answer_to, status_of};
 ghost use Rattle.otp_tool.specs.Results.{IsNoResult, IsResult, IsWhole};
-ghost use Rattle.otp_tool.specs.Steps.{HasFitBudget, IsOutcome, IsWorkOf, change_of};
-ghost use Rattle.otp_tool.specs.Files.{NamedFile, second_file};
+ghost use Rattle.otp_tool.specs.Steps.{HasFitBudget, IsLoadRefusal, IsLoaded, IsOutcome, IsWorkOf, change_of};
+ghost use Rattle.otp_tool.specs.Files.{NamedFile, faults_of, grammar_told, second_file};
 ghost use Rattle.tableau.specs.declared.rows_err.RowsCause.{RowsCause};
 ghost use Rattle.answer_reader.specs.declared.answer_err.AnswerCause.{AnswerCause};
 ghost use Rattle.lexicon.specs.declared.lex_err.LexErr.{LexErr};
@@ -21,6 +21,8 @@ use crate::checking::check;
 use crate::grammar::load_grammar;
 use crate::hearing::listen;
 use crate::results::{canon, generate, score, show};
+use crate::sample_form::sample_grammar;
+use crate::sampling::sample;
 use crate::single_pass::once;
 use crate::tableaux::tabulate;
 use command_words::{Command, command_of};
@@ -29,19 +31,46 @@ use outside::{Shelf, Sink};
 use status_lines::Status;
 use std::alloc::Global;
 
-/// The name of the file of a command's grammar.
-fn grammar_name<'a>(command: &Command<'a>) -> &'a str
-    ensures { result.now ≡ file_of (command_seen command.now) }
+/// The name of the file of a command's grammar. `sample` names none.
+fn grammar_name<'a>(command: &Command<'a>) -> Option<&'a str>
+    ensures { MatchOption result (file_of (command_seen command.now) ≡ None)
+        (λ name. file_of (command_seen command.now) ≡ Some name.now) }
 {
     match *command {
-        Command::Canon { grammar } => grammar,
-        Command::Score { grammar, .. } => grammar,
-        Command::Generate { grammar, .. } => grammar,
-        Command::Show { grammar, .. } => grammar,
-        Command::Tableau { grammar, .. } => grammar,
-        Command::Once { grammar, .. } => grammar,
-        Command::Comprehend { grammar, .. } => grammar,
-        Command::Check { grammar, .. } => grammar,
+        Command::Canon { grammar } => Some(grammar),
+        Command::Score { grammar, .. } => Some(grammar),
+        Command::Generate { grammar, .. } => Some(grammar),
+        Command::Show { grammar, .. } => Some(grammar),
+        Command::Tableau { grammar, .. } => Some(grammar),
+        Command::Once { grammar, .. } => Some(grammar),
+        Command::Comprehend { grammar, .. } => Some(grammar),
+        Command::Check { grammar, .. } => Some(grammar),
+        Command::Sample { .. } => None,
+    }
+}
+
+/// The grammar of a command: that of the file that word 1 names, or the one of samples.
+fn grammar_of<F: Shelf>(
+    alloc: Global,
+    command: &Command<'_>,
+    shelf: &mut F,
+) -> Result<Grammar, Status>
+    ensures ok { IfOk result
+        (λ grammar.
+        IsLoaded (grammar_told (F.held shelf.old) (file_of (command_seen command.now)))
+        (value_of grammar)) }
+    ensures err { IfErr result
+        (IsLoadRefusal (grammar_told (F.held shelf.old) (file_of (command_seen command.now)))
+        (faults_of (F.faults shelf.old) (file_of (command_seen command.now)))
+        (faults_of (F.faults shelf.new) (file_of (command_seen command.now)))) }
+    ensures held { (other : List ℕ) → F.held shelf.new other ≡ F.held shelf.old other }
+    ensures never_falls { (other : List ℕ) → F.faults shelf.old other ≤ F.faults shelf.new other }
+    ensures others { (other : List ℕ) → ¬ (file_of (command_seen command.now) ≡ Some other)
+        → F.faults shelf.new other ≡ F.faults shelf.old other }
+{
+    match grammar_name(command) {
+        Some(name) => load_grammar(alloc, shelf, name),
+        None => sample_grammar(alloc),
     }
 }
 
@@ -83,6 +112,7 @@ fn perform<F: Shelf, O: Sink>(
             ..
         } => listen(alloc, grammar, lexicon, surface, budget, shelf, sink),
         Command::Check { answer, .. } => check(alloc, grammar, answer, shelf, sink),
+        Command::Sample { letters } => sample(alloc, grammar, letters, sink),
     }
 }
 
@@ -99,13 +129,13 @@ fn execute<F: Shelf, O: Sink>(
         (change_of F.Shelf O.Sink shelf.old shelf.new sink.old sink.new) result }
     ensures held { (other : List ℕ) → F.held shelf.new other ≡ F.held shelf.old other }
     ensures never_falls { (other : List ℕ) → F.faults shelf.old other ≤ F.faults shelf.new other }
-    ensures others { (other : List ℕ) → ¬ (file_of (command_seen command.now) ≡ other)
+    ensures others { (other : List ℕ) → ¬ (file_of (command_seen command.now) ≡ Some other)
         → ((file : NamedFile) → second_file (command_seen command.now) ≡ Some file
         → ¬ (file.name ≡ other))
         → F.faults shelf.new other ≡ F.faults shelf.old other }
     ensures sink_never_falls { O.faults sink.old ≤ O.faults sink.new }
 {
-    match load_grammar(alloc, shelf, grammar_name(command)) {
+    match grammar_of(alloc, command, shelf) {
         Ok(grammar) => perform(alloc, command, &grammar, shelf, sink),
         Err(status) => status,
     }
@@ -123,6 +153,7 @@ fn execute<F: Shelf, O: Sink>(
 /// | `once G FORM [BUDGET]` | the text of an answer that a single pass finds |
 /// | `comprehend G LEXFILE SURFACE [BUDGET]` | the entries of the lexicon that are heard |
 /// | `check G ANSWERFILE` | the verdict on an answer: `Yes`, or `No` with its first fault |
+/// | `sample N` | the summary of a right answer to the form that the number N makes |
 ///
 /// `G` is the name of a grammar's file, of at most 65,536 bytes. ROWSFILE and LEXFILE are the names
 /// of a rows file and a lexicon file, of at most 4,194,304 bytes. TIMELINE is a timeline over all
@@ -130,7 +161,7 @@ fn execute<F: Shelf, O: Sink>(
 /// or `=` and letters. SURFACE is a timeline over the overt tiers, of at most 64 columns. BUDGET is
 /// the number of kinds of prefix that a stage may have, and for `once` the number of kinds under all
 /// constraints: a decimal from 1 to 65,536, with no sign and no leading zero. If it is left out it
-/// is 20,000.
+/// is 20,000. N is such a decimal from 1 to 63. The grammar of `sample` is one that the program has.
 ///
 /// Each command makes its whole result before it writes. The refusals come in this order: `Usage`;
 /// `ReadFault` and `TooLong` for word 1; `GrammarRefused`; `FormRefused` for the word of the form,
@@ -147,8 +178,8 @@ pub fn run<F: Shelf, O: Sink>(
     // a right answer with joined arcs; what `generate` writes, `check` answers with `Yes`, if it has at
     // most 268,435,456 bytes. For `once` it is the text of an answer that is right once, for `tableau`
     // that of the tableau with the rows of the file, for `comprehend` that of the entries that are
-    // heard, and for `check` the line `Yes`: no fault is in the answer, whatever answer its bytes are
-    // read as, and it is sound.
+    // heard, for `check` the line `Yes`: no fault is in the answer, whatever answer its bytes are
+    // read as, and it is sound; and for `sample` the summary of a right answer.
     ensures done { result ≡ Status.Done
         → IsWrittenBehind (words_of words.now) (F.held shelf.old) IsResult
         (λ text. O.taken sink.new ≡ appended (O.taken sink.old) text) }

@@ -12,8 +12,8 @@
 //!
 //! The definitions in `specs/` are the files that commands name (`Files`), what files, timelines and
 //! surfaces are read as (`Grammars`, `Scored`, `Lexicons`), what an answer is read as and its verdict
-//! (`Answers`), what each command writes (`Results`), what
-//! it may find before it writes (`Findings`), what stands behind each status (`Outcomes`), and how a
+//! (`Answers`), what a sample is (`Samples`), what each command writes (`Results`), what it may find
+//! before it writes (`Findings`), what stands behind each status (`Outcomes`), and how a
 //! program ends (`Endings`).
 #![tactic(auto)]
 
@@ -25,6 +25,11 @@ mod grammar;
 mod hearing;
 mod in_memory;
 mod results;
+mod sample_check;
+mod sample_form;
+mod sample_pairs;
+mod sample_text;
+mod sampling;
 mod scored;
 mod second;
 mod single_pass;

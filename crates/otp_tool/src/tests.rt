@@ -106,6 +106,14 @@ const TWO_OF_ONE: &str = "hits 2\nentry one\nexample [[ +| ]]\nentry two\nexampl
 
 const HITS: &str = "hits 2\nentry one\nexample [[ ]]\nentry two\nexample [- |[ ]]\n";
 
+const SAMPLE_OF_ONE: &str = "form =t
+counts 0 0 0 0 0 0 0 0 0 0 0 1 0
+example [-[-[ ]-]-]
+states 5
+pairs 6
+check Yes
+";
+
 /// The words of a command, from one text with a slash between two words.
 fn words(alloc: Global, text: &str) -> Result<Vec<String>, AllocError> {
     let mut words = Vec::new(alloc);
@@ -156,6 +164,7 @@ fn each_command_writes_its_text(rt: HostRuntime) -> Result<(), Fail> {
         (ADDED, "comprehend/g/l/[ | ]/20", TWO_OF_ONE),
         (LEAST, "comprehend/g/l/[ ]/20", "hits 0\n"),
         (LEAST, "check/g/a", "Yes\n"),
+        (LEAST, "sample/1", SAMPLE_OF_ONE),
     ];
     for (grammar, words, text) in cases {
         let (status, written) = outcome(rt.alloc(), grammar, words)?;
@@ -214,6 +223,7 @@ fn refusals_have_an_order(rt: HostRuntime) -> Result<(), Fail> {
         ("comprehend/g/r/[ ]/1", no_toml),
         ("check/g/s", Status::ReadFault { word: 2 }),
         ("check/h/s", Status::ReadFault { word: 1 }),
+        ("sample/64", Status::Usage),
         (
             "comprehend/g/l/[ ]/5",
             Status::Budget { entry: 1, stage: 0 },
@@ -261,6 +271,7 @@ fn failing_writes_are_write_faults(rt: HostRuntime) -> Result<(), Fail> {
         ("once/g/[ ]", "once 1\nfor"),
         ("comprehend/g/l/empty", "hits 3\nent"),
         ("check/g/b", "No stages "),
+        ("sample/1", "form =t\n"),
     ] {
         let mut shelf = shelf(alloc, LEAST, Vec::new(alloc))?;
         let mut sink = MemSink::new(alloc, 5, [3].to_vec(alloc)?);
@@ -268,5 +279,14 @@ fn failing_writes_are_write_faults(rt: HostRuntime) -> Result<(), Fail> {
         assert_eq!(rt; status, Status::WriteFault, "{text}");
         assert_eq!(rt; sink.bytes(), front.as_bytes(), "{text}");
     }
+    Ok(())
+}
+
+#[test]
+fn sample_of_the_longest_form(rt: HostRuntime) -> Result<(), Fail> {
+    let (status, written) = outcome(rt.alloc(), LEAST, "sample/63")?;
+    assert_eq!(rt; status, Status::Done);
+    assert!(rt; written.as_str().starts_with("form ="));
+    assert!(rt; written.as_str().ends_with("\ncheck Yes\n"));
     Ok(())
 }

@@ -1,7 +1,7 @@
-use Rattle.std.proofs.Common.{ℕ, List, refl, subst}
+use Rattle.std.proofs.Common.{refl}
 use Rattle.command_words.specs.Seen.{command_seen}
 use Rattle.grammar_reader.specs.Grammars.{value_of}
-use Rattle.otp_tool.specs.Steps.{IsLoadRefusal, IsLoaded, change_of}
+use Rattle.otp_tool.specs.Steps.{change_of}
 use Rattle.otp_tool.proofs.OutcomeLemmas.{by_load, by_work, work_of_before}
 use Rattle.otp_tool.proofs.commands.execute.Goals as goal
 
@@ -9,23 +9,18 @@ pub returns-in-Ok-clause-outcome : goal.returns-in-Ok-clause-outcome
 returns-in-Ok-clause-outcome g c =
     let command = command_seen c.args.command.now in
     let value = value_of c.in-Ok.grammar in
-    let loaded = subst (λ (name : List ℕ). IsLoaded
-    (g.F.Shelf.held c.args.shelf.now name) value) c.grammar_name.ensures c.in-Ok.ensures.ok in
-    let change = change_of g.F.Shelf g.O.Sink c.load_grammar.new.shelf c.perform.new.shelf c.args.sink.now
+    let change = change_of g.F.Shelf g.O.Sink c.grammar_of.new.shelf c.perform.new.shelf c.args.sink.now
     c.perform.new.sink in
     let work = work_of_before (g.F.Shelf.held c.args.shelf.now)
-    (g.F.Shelf.faults c.args.shelf.now) change c.load_grammar.ensures.held c.load_grammar.ensures.never_falls
+    (g.F.Shelf.faults c.args.shelf.now) change c.grammar_of.ensures.held c.grammar_of.ensures.never_falls
     command value c.perform.result c.perform.ensures.work in
     (λ words are.
     by_work words (change_of g.F.Shelf g.O.Sink c.args.shelf.now c.perform.new.shelf c.args.sink.now c.perform.new.sink)
-    command are value loaded c.perform.result work)
+    command are value c.in-Ok.ensures.ok c.perform.result work)
 
 pub returns-in-Err-clause-outcome : goal.returns-in-Err-clause-outcome
 returns-in-Err-clause-outcome g c =
-    let refused = subst (λ (name : List ℕ). IsLoadRefusal (g.F.Shelf.held c.args.shelf.now name)
-    (g.F.Shelf.faults c.args.shelf.now name)
-    (g.F.Shelf.faults c.load_grammar.new.shelf name) c.in-Err.status) c.grammar_name.ensures c.in-Err.ensures.err in
     (λ words are.
-    by_load words (change_of g.F.Shelf g.O.Sink c.args.shelf.now c.load_grammar.new.shelf c.args.sink.now
+    by_load words (change_of g.F.Shelf g.O.Sink c.args.shelf.now c.grammar_of.new.shelf c.args.sink.now
     c.args.sink.now)
-    (command_seen c.args.command.now) are refl c.in-Err.status refused)
+    (command_seen c.args.command.now) are refl c.in-Err.status c.in-Err.ensures.err)

@@ -61,3 +61,10 @@ returns-in-Check-clause-work g c =
     subst (λ (k : Command). IsWorkOf (command_seen k) (value_of c.args.grammar.now) change c.check.result)
     (sym c.in-Check.is)
     c.check.ensures.work
+
+pub returns-in-Sample-clause-work : goal.returns-in-Sample-clause-work
+returns-in-Sample-clause-work g c =
+    let change = change_of g.F.Shelf g.O.Sink c.args.shelf.now c.args.shelf.now c.args.sink.now c.sample.new.sink in
+    subst (λ (k : Command). IsWorkOf (command_seen k) (value_of c.args.grammar.now) change c.sample.result)
+    (sym c.in-Sample.is)
+    (inl (inr (record { bytes = []; holds = tt; step = c.sample.ensures.step })))

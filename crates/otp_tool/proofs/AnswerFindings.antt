@@ -11,7 +11,7 @@ use Rattle.violation.specs.Problems.{Problem, last_stage}
 use Rattle.violation.specs.Rests.{AreWholeKindsOver, AreWholeKindsWithin}
 use Rattle.otp_tool.specs.Scored.{IsNotScored, IsScored}
 use Rattle.otp_tool.specs.Grammars.{IsAsked, OnProblem, input_count}
-use Rattle.otp_tool.specs.Findings.{Finding, FindsForAnswer, FindsForCanon, FindsForOnce, FindsForScore, IsOverBudget, IsWithinBudget, long_file, no_grammar, no_form, long_second, no_rows, no_lexicon, no_answer, over_budget, ready}
+use Rattle.otp_tool.specs.Findings.{Finding, FindsForAnswer, FindsForCanon, FindsForOnce, FindsForScore, IsOverBudget, long_file, no_grammar, no_form, long_second, no_rows, no_lexicon, no_answer, over_budget, ready}
 use Rattle.otp_tool.specs.Steps.{IsOf, RefusesForm}
 use Rattle.otp_tool.proofs.Choices.{equal_where, one_choice, one_of}
 use Rattle.cert_check.specs.Seen.{AreAskedAlike}
@@ -103,8 +103,11 @@ module _ (g : GrammarValue) (form : List ℕ) (budget : ℕ) where
   over_by stage o problem a =
       first_over_alike budget stage o.problem problem (asked_alike g form o.problem problem o.is_asked a) o.over
 
-  never_both : (stage : ℕ) → IsOverBudget g form budget stage → IsWithinBudget g form budget → ⊥
-  never_both stage o w = over_within w.problem budget stage (over_by stage o w.problem w.is_asked) w.within
+  abbrev AreWithin : Type 0
+  AreWithin = OnProblem (λ problem. AreAllWithin problem budget) g form
+
+  never_both : (stage : ℕ) → IsOverBudget g form budget stage → AreWithin → ⊥
+  never_both stage o w = over_within w.problem budget stage (over_by stage o w.problem w.is_asked) w.fact
 
   one_over : (stage other : ℕ) → IsOverBudget g form budget stage → IsOverBudget g form budget other → stage ≡ other
   one_over stage other o p = one_stage p.problem budget stage other (over_by stage o p.problem p.is_asked) p.over
@@ -115,7 +118,7 @@ module _ (g : GrammarValue) (form : List ℕ) (budget : ℕ) where
   Over = IsOf (over_budget 0) (IsOverBudget g form budget)
 
   abbrev pub Within : Finding → Type 0
-  Within x = (x ≡ ready) × IsWithinBudget g form budget
+  Within x = (x ≡ ready) × AreWithin
 
   pub one_in_budget : (x y : Finding) → Over x ⊎ Within x → Over y ⊎ Within y → x ≡ y
   one_in_budget =
@@ -134,7 +137,8 @@ module _ (g : GrammarValue) (form : List ℕ) (budget : ℕ) where
   answer_steps (no_answer line cause) a = absurd a
   answer_steps (over_budget entry stage) a =
       inr (inl (record { value = stage; is = ap (λ e. over_budget e stage) a.0; fact = a.1 }))
-  answer_steps ready a = inr (inr (refl, a))
+  answer_steps ready a =
+      inr (inr (refl, record { problem = a.problem; is_asked = a.is_asked; fact = a.within }))
 
   not_in_budget : (x y : Finding) → RefusesForm g form x → Over y ⊎ Within y → ⊥
   not_in_budget x y r (inl o) = not_refused

@@ -54,7 +54,7 @@ module _ (g : GrammarValue) (form : List ℕ) (budget : ℕ) (bytes : List ℕ) 
   }
 
   within_of : (x : Finding) → WithinRows x → Within g form budget x
-  within_of x i = (i.0, record { problem = i.1.problem; is_asked = i.1.is_asked; within = i.1.fact.1 })
+  within_of x i = (i.0, record { problem = i.1.problem; is_asked = i.1.is_asked; fact = i.1.fact.1 })
 
   in_budget : (x : Finding) → WithRows x → Over g form budget x ⊎ Within g form budget x
   in_budget x (inl o) = inl (over_of x o)

@@ -1,4 +1,4 @@
-use Rattle.std.proofs.Common.{◌≡◌, ◌&&◌, not, List, length, ◌∙◌, subst}
+use Rattle.std.proofs.Common.{◌&&◌, not, List, length, ◌∙◌, subst}
 use Rattle.tier_core.specs.declared.class.Class.{Class}
 use Rattle.tier_core.specs.Classes.{sets_of, has}
 use Rattle.symbol_class.specs.Held.{once_if, AddsClasses}

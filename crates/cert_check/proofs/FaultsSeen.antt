@@ -10,7 +10,7 @@ use Rattle.tier_core.specs.Kinds.{AreStretchesBelow, PrefixKind, prefix_kind}
 use Rattle.grammar_reader.specs.Seen.{constraint_seen}
 use Rattle.violation.specs.Candidates.{IsCandidate, count_at}
 use Rattle.violation.specs.Moves.{moved, cost_of, cut, is_final}
-use Rattle.violation.specs.Prefixes.{kind_of_bits, stretches}
+use Rattle.violation.specs.Prefixes.{kind_of_bits}
 use Rattle.violation.specs.Problems.{Problem, last_stage}
 use Rattle.answer_text.specs.declared.stage.Node.{Node}
 use Rattle.answer_text.specs.declared.automaton.ArcLine.{ArcLine}

@@ -29,16 +29,15 @@ is_ready (tableau name form rows budget) g second verdict j = absurd j
 is_ready (once name form budget) g second verdict j = absurd j
 is_ready (comprehend name lexicon surface budget) g second verdict j = absurd j
 is_ready (sample n) g second verdict j = absurd j
-is_ready (check name answer) g second verdict j =
-    (
-      answer_value j.reading.shape j.answer,
-      record {
-        within = j.within;
-        shape = j.reading.shape;
-        of_grammar = j.reading.of_grammar;
-        is = j.reading.read;
-      },
-    )
+is_ready (check name answer) g second verdict j = (
+  answer_value j.reading.shape j.answer,
+  record {
+    within = j.within;
+    shape = j.reading.shape;
+    of_grammar = j.reading.of_grammar;
+    is = j.reading.read;
+  },
+)
 
 told_ready : (words : List (List ℕ)) (c : Change) (verdict : Verdict) → IsToldVerdict words c.held verdict
     → IsTold words c.held ready

@@ -12,11 +12,7 @@ fn leads_to(target: u32, arcs: &[ArcLine]) -> bool
 }
 
 /// Appends the pairs of a state with the targets of its arcs, each once.
-fn push_pairs(
-    pairs: &mut Vec<(u32, u32)>,
-    node: u32,
-    arcs: &[ArcLine],
-) -> Result<(), AllocError>
+fn push_pairs(pairs: &mut Vec<(u32, u32)>, node: u32, arcs: &[ArcLine]) -> Result<(), AllocError>
     ensures { IfOk result (λ done. pairs.new.items
         ≡ pairs.old.items ++ map (λ target. (node, target)) (targets_of arcs.now)) }
 {

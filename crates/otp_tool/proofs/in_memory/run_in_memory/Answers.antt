@@ -1,4 +1,4 @@
-use Rattle.std.proofs.Common.{◌≡◌, inl, inr, arith}
+use Rattle.std.proofs.Common.{inl, inr, arith}
 use Rattle.outside.specs.Faults.{Rose}
 use Rattle.otp_tool.proofs.in_memory.run_in_memory.Goals as goal
 

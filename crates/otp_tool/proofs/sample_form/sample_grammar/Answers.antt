@@ -1,4 +1,4 @@
-use Rattle.std.proofs.Common.{◌≡◌, ◌≤◌, List, ℕ, length, refl, subst, sym, ◌∙◌, arith}
+use Rattle.std.proofs.Common.{arith}
 use Rattle.otp_tool.specs.Samples.{sample_grammar}
 use Rattle.otp_tool.proofs.sample_form.sample_grammar.Goals as goal
 

@@ -1,4 +1,4 @@
-use Rattle.std.proofs.Common.{List, ℕ, IsTrue, length, ap, sym, subst, arith}
+use Rattle.std.proofs.Common.{List, ℕ, IsTrue, length, ap, subst, arith}
 use Rattle.std.specs.Prelude.{◌↔◌}
 use Rattle.cert_check.specs.declared.fault.Verdict.TheVariants.{Yes}
 use Rattle.grammar_reader.specs.Grammars.{value_of}
@@ -9,8 +9,12 @@ use Rattle.otp_tool.proofs.sampling.summed_up.Goals as goal
 
 pub is_checked-requires-clause-stages : goal.is_checked-requires-clause-stages
 is_checked-requires-clause-stages c =
-    omega (arith, ap length c.in_ok-shape.ensures.phases,
-    length-stretch_counts c.args.grammar.now.constraints.items, c.requires)
+    omega (
+      arith,
+      ap length c.in_ok-shape.ensures.phases,
+      length-stretch_counts c.args.grammar.now.constraints.items,
+      c.requires,
+    )
 
 pub returns-in-Ok-clause-checked : goal.returns-in-Ok-clause-checked
 returns-in-Ok-clause-checked c = λ u.

@@ -54,6 +54,32 @@ def lint_of(data, letters=8):
     return [line for line in done.stdout.splitlines() if not line.startswith("a form of")], done.returncode
 
 
+def tool(name, *words, given=""):
+    """What a tool says on standard error of these words, and its status."""
+    done = subprocess.run([sys.executable, os.path.join("tools", name), *words], cwd=TOP, input=given,
+                          capture_output=True, text=True)
+    return done.stderr, done.returncode
+
+
+def test_wrong_words():
+    """The tools say in a line what is wrong with their words and files."""
+    ranked, syllables = "examples/ranked.otp", "examples/syllables.otp"
+    judge("no file", tool("otp_view.py", "missing"), ("otp_view: missing: No such file or directory\n", 1))
+    judge("no file", tool("otp_lint.py", "missing"), ("otp_lint: missing: No such file or directory\n", 1))
+    judge("no grammar", tool("otp_view.py", "README.md", "[["),
+          ("otp_view: README.md is not a grammar: `otp canon README.md` says where\n", 1))
+    judge("a spelled form", tool("otp_view.py", ranked, "=tat"),
+          ("otp_view: the timeline: =tat is not a column; the symbols are - + [ ] |\n", 1))
+    judge("narrow columns", tool("otp_view.py", ranked, "[ ]"), (
+        "otp_view: the timeline: column 0 is [, and there is to be a symbol for each of the tiers A a\n", 1))
+    judge("wide columns", tool("otp_view.py", ranked, "[[- ]]-"), (
+        "otp_view: the timeline: column 0 is [[-, and there is to be a symbol for each of the tiers A a\n", 1))
+    judge("another grammar", tool("otp_view.py", ranked, given=otp("show", syllables, "=t")), (
+        "otp_view: there are 13 counts, and the grammar has 3 constraints: was it made for another one?\n", 1))
+    judge("another text", tool("otp_view.py", ranked, given="Yes\n"),
+          ("otp_view: this is not what otp writes for a form or a timeline\n", 1))
+
+
 def test_answers():
     """Optima and surfaces of each example, beside the counts that the program gives to each."""
     for path in sorted(glob.glob(os.path.join(TOP, "examples", "**", "*.otp"), recursive=True)):
@@ -232,6 +258,7 @@ def main():
     """All tests."""
     test_pages()
     test_r()
+    test_wrong_words()
     test_answers()
     test_gallery()
     test_readers()

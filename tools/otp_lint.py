@@ -139,20 +139,19 @@ def size(grammar, letters):
     places = letters + 2
     kinds = places * 2 ** free * 2 ** stretches
     moves = (places - 1) * 5 ** free + places * (5 ** free - 2 ** free)
-    return ("a form of %d letters: %d moves of single columns before any constraint (fivefold for each of %d free"
+    return ("a form of %d %s: %d moves of single columns before any constraint (fivefold for each of %d free"
             " tiers), and at most %d kinds in a stage%s" % (
-                letters, moves, free, kinds,
+                letters, "letter" if letters == 1 else "letters", moves, free, kinds,
                 "" if kinds <= BUDGET else "; that is above the budget of %d, though far fewer are usual" % BUDGET))
 
 
 def main(words):
     """Reads the grammar, and says what there is to say."""
-    with open(words[0], "rb") as file:
-        data = file.read()
+    data = read.file_text(words[0])
     found = bad_bytes(data)
     notes = []
     if not found:
-        grammar = read.grammar(data.decode("utf-8", "replace"))
+        grammar = read.grammar_file(words[0])
         found = list(dead_constraints(grammar))
         notes = list(traps(grammar)) + [size(grammar, int(words[1]) if len(words) > 1 else 8)]
     for line in (found or ["nothing to mend"]) + notes:
@@ -163,4 +162,9 @@ def main(words):
 if __name__ == "__main__":
     if len(sys.argv) < 2:
         sys.exit(__doc__)
-    sys.exit(main(sys.argv[1:]))
+    try:
+        sys.exit(main(sys.argv[1:]))
+    except read.Unreadable as error:
+        sys.exit("otp_lint: %s" % error)
+    except BrokenPipeError:
+        sys.stderr.close()

@@ -22,9 +22,43 @@ Row = namedtuple("Row", "optimal timeline counts worse")
 EDGES = set("[]|")
 
 
+class Unreadable(Exception):
+    """Something that these readers do not understand, in words for whoever typed it."""
+
+
+def file_text(name):
+    """The bytes of a file."""
+    try:
+        with open(name, "rb") as file:
+            return file.read()
+    except OSError as error:
+        raise Unreadable("%s: %s" % (name, error.strerror)) from None
+
+
 def events(text):
     """The events of one side, in order."""
     return [Event(*pair) for pair in re.findall(r"([\[\]]?)\s*(\w+)", text) if pair[1] not in ("and", "or")]
+
+
+def grammar_file(name):
+    """The grammar of a file. One that the program refuses may be unreadable here too."""
+    try:
+        found = grammar(file_text(name).decode("utf-8", "replace"))
+    except (ValueError, IndexError):
+        found = None
+    if found is None or not found.tiers:
+        raise Unreadable("%s is not a grammar: `otp canon %s` says where" % (name, name))
+    return found
+
+
+def check_width(grammar_read, columns, what):
+    """Says so if columns are not over all tiers of the grammar."""
+    for place, column in enumerate(columns):
+        if not set(column) <= set("-+[]|"):
+            raise Unreadable("%s: %s is not a column; the symbols are - + [ ] |" % (what, column))
+        if len(column) != len(grammar_read.tiers):
+            raise Unreadable("%s: column %d is %s, and there is to be a symbol for each of the tiers %s" % (
+                what, place, column, " ".join(grammar_read.tiers)))
 
 
 def grammar(text):

@@ -91,10 +91,15 @@ def say_optima(grammar, found, most, listed):
 
 
 def say_tableau(grammar, text):
-    """A tableau: its text, and a picture of each row."""
-    _, names, rows = read.tableau(text)
+    """A tableau: its text, and a picture of each row, once if a row is there twice."""
+    _, _, rows = read.tableau(text)
     print(text.rstrip("\n"))
+    drawn = []
     for row in rows:
+        read.check_width(grammar, row.timeline, "a row")
+        if row.timeline in drawn:
+            continue
+        drawn.append(row.timeline)
         print("\n%s%s" % ("optimal: " if row.optimal else "loses at %s: " % row.worse, read.text_of(row.timeline)))
         print(draw(grammar.tiers, row.timeline))
 
@@ -108,14 +113,19 @@ def main(words):
         del words[place:place + 2]
     svg, brief = "svg" in words, "brief" in words
     words = [word for word in words if word not in ("svg", "brief")]
-    with open(words[0], encoding="utf-8") as file:
-        grammar = read.grammar(file.read())
+    grammar = read.grammar_file(words[0])
     text = "example " + words[1] if len(words) > 1 else sys.stdin.read()
     if not text:
         return "otp_view: nothing to show; what otp wrote to standard error says why"
     if text[:2] in ("  ", "> "):
         return say_tableau(grammar, text)
     found = read.answer(text)
+    if found.counts is None and found.example is None:
+        return "otp_view: this is not what otp writes for a form or a timeline"
+    if found.counts is not None and len(found.counts) != len(grammar.constraints):
+        return "otp_view: there are %d counts, and the grammar has %d constraints: was it made for another one?" % (
+            len(found.counts), len(grammar.constraints))
+    read.check_width(grammar, found.example or [], "the timeline" if len(words) > 1 else "the example")
     if svg:
         return print(draw_svg(grammar.tiers, found.example))
     if found.counts is not None:
@@ -131,4 +141,9 @@ def main(words):
 if __name__ == "__main__":
     if len(sys.argv) < 2:
         sys.exit(__doc__)
-    sys.exit(main(sys.argv[1:]))
+    try:
+        sys.exit(main(sys.argv[1:]))
+    except read.Unreadable as error:
+        sys.exit("otp_view: %s" % error)
+    except BrokenPipeError:
+        sys.stderr.close()

@@ -29,7 +29,7 @@ pub fn right_answers_are_faultless()
         → IsRight problem answer → IsFaultless problem answer }
 {}
 
-/// An answer in which no fault is, of the form that was asked, is certified.
+/// An answer without a fault, of the form that was asked, is certified.
 pub fn faultless_answers_are_certified()
     ensures { (problem : Problem) (answer : Answer) → answer.form ≡ problem.form
         → IsFaultless problem answer → IsCertified problem answer }

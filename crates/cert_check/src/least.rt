@@ -18,7 +18,7 @@ fn lesser(first: Column, second: Column) -> Column
     }
 }
 
-/// The lesser of a column and of another, if there is one.
+/// The smaller of a column and another, if there is one.
 fn lesser_of(best: Option<Column>, column: Column) -> Column
     ensures { MatchOption best (result ≡ column) (λ other. IsLesser other column result) }
 {

@@ -22,7 +22,7 @@ fn push_filled(classes: &mut Vec<Class>, class: Class) -> Result<(), AllocError>
     Ok(())
 }
 
-/// Puts what an arc has in common with those behind it at the end of a list.
+/// Appends to a list what an arc has in common with those after it.
 fn push_shared(shared: &mut Vec<Class>, arcs: &[ArcLine], place: usize) -> Result<(), AllocError>
     requires within { place < length arcs.now }
     requires width { (width : ℕ) × All (λ arc. length (sets_of arc.class) ≡ width) arcs.now }

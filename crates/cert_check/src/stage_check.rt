@@ -37,7 +37,8 @@ fn check_nodes(alloc: Global, subject: &Subject, stage: u32) -> Result<(), Stop>
     Ok(())
 }
 
-/// The potential that the start of a stage has: 0 at stage 0, and else the count of its constraint.
+/// The potential that the start of a stage has: 0 at stage 0, and otherwise the count of its
+/// constraint.
 fn start_count(subject: &Subject, stage: u32) -> u32
     requires ready { IsReady subject.now }
     requires stage { stage ≤ last_stage (problem_of subject.now) }

@@ -27,7 +27,7 @@ const LINES: [&[u8]; 14] = [
     b"end",
 ];
 
-// The text of the answer, with another line in the place of the one with this number.
+// The text of the answer, with another line in place of the one with this number.
 fn altered(alloc: Global, number: usize, line: &[u8]) -> Result<Vec<u8>, AllocError> {
     let mut text = Vec::new(alloc);
     for (place, each) in LINES.iter().enumerate() {

@@ -17,7 +17,7 @@ pub(crate) struct Choice {
     pub cell: u32,
 }
 
-/// The one of two choices with the lesser column.
+/// The one of two choices with the smaller column.
 fn lesser(best: Option<Choice>, choice: Choice) -> Choice
     ensures either { (result ≡ choice) ⊎ (best ≡ Some result) }
     ensures choice { is_gt (column_cmp result.column choice.column) ≡ false }

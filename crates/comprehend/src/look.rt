@@ -6,7 +6,7 @@ use std::alloc::AllocError;
 /// The number of a cell from which no way to an end is known.
 pub(crate) const FAR: u32 = 4_294_967_295;
 
-/// If there is a step from a cell of which nothing is known yet, then the cell has `n` columns left
+/// If there is a step from a cell about which nothing is known yet, then the cell has `n` columns left
 /// and is appended to `next`.
 pub(crate) fn look(
     steps: bool,

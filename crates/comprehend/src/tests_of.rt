@@ -28,7 +28,7 @@ fn still_class(kinds: &[TierKind]) -> Class
 }
 
 /// The number of a tier's set in the class of the columns that have one column, the only one in
-/// `own`, on the overt tiers. So many overt tiers come before this one.
+/// `own`, on the overt tiers, of which `before` come before this one.
 fn heard_set(kind: TierKind, own: &Class, before: u32) -> u8
     ensures value { result ≡ heard_set kind (sets_of own.now) before }
     ensures few { result < 32 }

@@ -36,7 +36,7 @@ impl Span {
         }
     }
 
-    /// The meet of what was chosen so far, which may be nothing, and an event more.
+    /// The meet of what was chosen so far, which may be nothing, and one more event.
     pub(crate) fn joined(self, chosen: Option<Span>) -> Span
         ensures { interval result ≡ meet (intervals_of chosen ++ (interval self ∷ [])) }
     {

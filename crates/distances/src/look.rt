@@ -5,7 +5,7 @@ use arc_table::TableArc;
 use std::cmp::Ordering;
 use weight_law::Weight;
 
-/// The lesser of two weights, of which either may be missing; of equal ones the first.
+/// The smaller of two weights, either of which may be missing; of equal ones the first.
 fn lesser<W: Weight>(known: Option<W>, other: Option<W>) -> Option<W>
     ensures { result ≡ lesser_of W.meaning known other }
 {

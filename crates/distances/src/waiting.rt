@@ -7,7 +7,7 @@ ghost use Rattle.distances.specs.Waiting.{waiting_cmp, waiting_total};
 use std::cmp::Ordering;
 use weight_law::Weight;
 
-/// A state that waits in a heap with a weight. The lesser weight is the greater in order, so that
+/// A state that waits in a heap with a weight. The smaller weight is the greater in order, so that
 /// it is taken first.
 #[derive(Drop)]
 pub(crate) struct Waiting<W: Weight> {

@@ -29,7 +29,7 @@ fn has_left(left: &[Option<Count>], state: u32, n: u32) -> bool
     }
 }
 
-/// The one of two choices with the lesser column: the best so far, or a move's.
+/// The one of two choices with the smaller column: the best so far, or a move's.
 fn better(alloc: Global, best: Option<Choice>, arc: &TableArc<UnitWeight>) -> Choice
     ensures of { IsOf arc.now result.column result.target ⊎ (best ≡ Some result) }
     ensures arc { is_gt (column_cmp result.column (first_column arc.now.class)) ≡ false }

@@ -35,7 +35,7 @@ fn at_the_end(alloc: Global, table: &Table<UnitWeight>) -> Result<Search, AllocE
     Ok(Search { left, level })
 }
 
-/// Of the states that the moves come from, those of which nothing is known have `n` moves left, and
+/// Of the states that the moves come from, those about which nothing is known have `n` moves left, and
 /// are listed in `next`.
 fn reach(
     moves: &[IncomingMove<UnitWeight>],
@@ -59,7 +59,8 @@ fn reach(
     Ok(())
 }
 
-/// The next level: the states with a move to one of the last, of which nothing is known.
+/// The next level: the states with a move to one of the last, about which nothing is
+/// known.
 fn next_level(
     alloc: Global,
     incoming: &Incoming<UnitWeight>,

@@ -18,7 +18,7 @@ use crate::statement::Statement;
 use indexmap::IndexSet;
 use std::alloc::Global;
 
-/// Whether a word in the place of a name is not a name.
+/// Whether a word in place of a name is not a name.
 fn has_bad_name(statement: &Statement<'_>) -> bool
     ensures { result ≡ has_bad_name (statement_seen statement.now) }
 {

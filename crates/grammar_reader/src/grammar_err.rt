@@ -16,7 +16,7 @@ pub enum GrammarCause {
     /// The tokens have none of the forms.
     #[error("the line has none of the forms")]
     BadLine,
-    /// A word in the place of a name is not a name, or a letter is not a single letter or digit.
+    /// A word in place of a name is not a name, or a letter is not a single letter or digit.
     #[error("a word is not a name")]
     BadName,
     /// The name is already defined, or a letter has a tier twice.

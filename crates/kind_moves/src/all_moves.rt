@@ -12,7 +12,7 @@ use std::alloc::Global;
 use symbol_class::{is_empty, meet, minus};
 use tier_core::{Class, Kind, NoMemory};
 
-/// Puts classes behind pieces, as pieces that lead to one kind and cost nothing.
+/// Appends classes to pieces, as pieces that lead to one kind and cost nothing.
 fn push_led(pieces: &mut Vec<Piece>, classes: &[Class], target: Kind) -> Result<(), NoMemory>
     ensures { OnOk result (pieces.new.items ≡ pieces.old.items ++ map (led_to target) classes.now) }
 {
@@ -29,7 +29,7 @@ fn push_led(pieces: &mut Vec<Piece>, classes: &[Class], target: Kind) -> Result<
     Ok(())
 }
 
-/// Puts the columns of `a` that are not in `b` behind pieces, as pieces that lead to one kind and
+/// Appends the columns of `a` that are not in `b` to pieces, as pieces that lead to one kind and
 /// cost nothing.
 fn push_rest_led(
     alloc: Global,
@@ -67,7 +67,7 @@ impl<'a> Frame<'a> {
     ghost use Rattle.kind_moves.specs.Leaving.{AddsLeaving};
     ghost use Rattle.kind_moves.specs.Pieces.{classes_of, IsPiece};
 
-    /// Puts the columns of `a` that are not in `b` behind pieces, by the free tiers that they leave
+    /// Appends the columns of `a` that are not in `b` to pieces, by the free tiers that they leave
     /// open. All lead to one place.
     fn push_leaving(
         &self,

@@ -87,7 +87,7 @@ fn next_group(before: Group, line: &ArcLine) -> Result<Group, AllocError>
     })
 }
 
-/// The group with the class of one line more.
+/// The group with the class of one more line.
 fn with_class(group: Group, line: &ArcLine) -> Result<Group, AllocError>
     ensures target { IfOk result (λ more. more.target ≡ group.target) }
     ensures classes { IfOk result
@@ -101,7 +101,7 @@ fn with_class(group: Group, line: &ArcLine) -> Result<Group, AllocError>
     Ok(Group { target, classes })
 }
 
-/// The group after one line more. If the line has the target of the group, its class joins it. If it
+/// The group after one more line. If the line has the target of the group, its class joins it. If it
 /// has another target, the group is at an end: its arcs are put at the end of a list, and the line
 /// begins the next group.
 fn group_after(

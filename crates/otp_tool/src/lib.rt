@@ -13,7 +13,7 @@
 //! The definitions in `specs/` are the files that commands name (`Files`), what files, timelines and
 //! surfaces are read as (`Grammars`, `Scored`, `Lexicons`), what an answer is read as and its verdict
 //! (`Answers`), what a sample is (`Samples`), what each command writes (`Results`), what it may find
-//! before it writes (`Findings`), what stands behind each status (`Outcomes`), and how a
+//! before it writes (`Findings`), what each status means (`Outcomes`), and how a
 //! program ends (`Endings`).
 #![tactic(auto)]
 

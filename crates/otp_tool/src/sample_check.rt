@@ -15,7 +15,7 @@ use outside::MemSink;
 use std::alloc::Global;
 use tier_core::{NoMemory, Shape};
 
-/// Whether these bytes are read as an answer in which no fault is.
+/// Whether these bytes are read as an answer without a fault.
 fn is_faultless(
     alloc: Global,
     grammar: &Grammar,

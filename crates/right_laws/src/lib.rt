@@ -3,7 +3,7 @@
 //! built.
 //!
 //! A right answer is small: its counts, its example and its potentials are bounded by how many kinds it
-//! lists. So it is orderly where its stages have at most 65,536 kinds: its text is within the limits of
+//! lists. So it is orderly if its stages have at most 65,536 kinds: its text is within the limits of
 //! what is read, and is read again. The crate builds on the definitions of `violation` and
 //! `answer_text`, and on the laws of kinds and of checked answers.
 #![tactic(auto)]

@@ -49,7 +49,7 @@ impl Exploring<'_> {
         })
     }
 
-    /// Puts the new moves for the pieces of a kept one from a kind behind others.
+    /// Appends the new moves for the pieces of a kept one from a kind to others.
     fn push_taken(
         &self,
         state: u32,
@@ -79,7 +79,7 @@ impl Exploring<'_> {
         Ok(())
     }
 
-    /// Puts the new moves for a kept one from a kind behind others.
+    /// Appends the new moves for a kept one from a kind to others.
     fn take(
         &self,
         alloc: Global,

@@ -11,7 +11,7 @@ use std::alloc::Global;
 use tier_core::{Class, Kind, NoMemory};
 
 impl Exploring<'_> {
-    /// Puts the parts of a piece behind others, all columns of each of which cost the same under a
+    /// Appends the parts of a piece to others; all columns of a part cost the same under a
     /// constraint.
     fn push_parts(
         &self,

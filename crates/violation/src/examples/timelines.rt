@@ -43,7 +43,7 @@ pub fn reduced_timelines()
     ensures projected { project (1 ∷ []) (timeline (codes "[- +[ ]|")) ≡ timeline (codes "- [ |") }
 {}
 
-/// Shorter timelines come first, and of those of one length the one with the lesser symbol at the
+/// Shorter timelines come first, and of those of one length the one with the smaller symbol at the
 /// first difference, in the order of `-`, `+`, `[`, `]` and `|`.
 pub fn ordered_timelines()
     ensures fewer { timeline_cmp (timeline (codes "|")) (timeline (codes "- -")) ≡ Less }

@@ -7,9 +7,9 @@ use Rattle.grammar_reader.specs.declared.grammar_err.GrammarCause.{GrammarCause}
 use Rattle.answer_reader.specs.declared.answer_err.AnswerCause.{AnswerCause}
 use Rattle.lexicon.specs.declared.lex_err.LexErr.{LexErr}
 use Rattle.tableau.specs.declared.rows_err.RowsCause.{RowsCause}
-use Rattle.status_lines.specs.declared.status.Status.{Status}
-use Rattle.status_lines.specs.declared.status.Status.TheVariants.{Done, No, Usage, GrammarRefused, FormRefused, LexiconRefused, AnswerRefused, Budget, ReadFault, WriteFault, NoMemory, RowsRefused, TooLong}
-use Rattle.command_words.specs.Commands.{IsNoCommand}
+use Rattle.command_line.specs.declared.status.Status.{Status}
+use Rattle.command_line.specs.declared.status.Status.TheVariants.{Done, No, Usage, GrammarRefused, FormRefused, LexiconRefused, AnswerRefused, Budget, ReadFault, WriteFault, NoMemory, RowsRefused, TooLong}
+use Rattle.command_line.specs.Commands.{IsNoCommand}
 use Rattle.otp_tool.specs.Findings.{Finding, long_file, long_second, no_grammar, no_form, no_rows, no_lexicon, no_answer, over_budget, ready}
 use Rattle.otp_tool.specs.Outcomes.{HasReadFault, IsBehind, IsTooLong, IsWrittenBehind}
 use Rattle.otp_tool.specs.Results.{IsNoResult, IsResult, IsWhole}

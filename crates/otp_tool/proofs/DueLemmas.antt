@@ -1,10 +1,10 @@
 -- Where the shelf tells, each finding has its status.
 use Rattle.std.proofs.Common.{◌≡◌, ◌⊎◌, inl, inr, ℕ, List, Option, refl, ap, sym, ◌∙◌, subst}
 use Rattle.outside.specs.Faults.{Rose}
-use Rattle.status_lines.specs.declared.status.Status.{Status}
-use Rattle.status_lines.specs.declared.status.Status.TheVariants.{Done, No, Usage, GrammarRefused, FormRefused, LexiconRefused, AnswerRefused, Budget, ReadFault, WriteFault, NoMemory, RowsRefused, TooLong}
-use Rattle.command_words.specs.Commands.{Command, IsNoCommand}
-use Rattle.command_words.proofs.CommandLemmas.{one_command}
+use Rattle.command_line.specs.declared.status.Status.{Status}
+use Rattle.command_line.specs.declared.status.Status.TheVariants.{Done, No, Usage, GrammarRefused, FormRefused, LexiconRefused, AnswerRefused, Budget, ReadFault, WriteFault, NoMemory, RowsRefused, TooLong}
+use Rattle.command_line.specs.Commands.{Command, IsNoCommand}
+use Rattle.command_line.proofs.CommandLemmas.{one_command}
 use Rattle.otp_tool.specs.Findings.{Finding, Finds, long_file, no_grammar, no_form, long_second, no_rows, no_lexicon, no_answer, over_budget, ready}
 use Rattle.otp_tool.specs.Outcomes.{HasReadFault, IsBeforeWriting, IsBehind, IsTold, IsTooLong, MayRead, Stands, answer_to}
 use Rattle.otp_tool.specs.Steps.{Change, IsOutcome}

@@ -22,7 +22,7 @@ use Rattle.lexicon.specs.Seen.{entries_seen, entry_seen}
 use Rattle.comprehend.specs.declared.hit.Hit.{Hit}
 use Rattle.comprehend.specs.Hears.{AreEntriesWithin, Hears, forms_of}
 use Rattle.comprehend.specs.HitText.{hits_text, names_of}
-use Rattle.status_lines.specs.declared.status.Status.{Status}
+use Rattle.command_line.specs.declared.status.Status.{Status}
 use Rattle.otp_tool.specs.Files.{IsHeld, lexicon_file}
 use Rattle.otp_tool.specs.Grammars.{AreAsked, overt_count}
 use Rattle.otp_tool.specs.Lexicons.{HasSurfaceWord, IsLexiconFile, IsSurfaceOf, forms_in}

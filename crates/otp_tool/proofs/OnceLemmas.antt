@@ -20,7 +20,7 @@ use Rattle.violation.specs.Rests.{AreWholeKindsWithin}
 use Rattle.answer_text.specs.declared.once_answer.OnceAnswer.{OnceAnswer}
 use Rattle.answer_text.specs.OnceText.{OnceWidths, once_text, once_widths_of}
 use Rattle.answer_text.specs.RightOnce.{IsRightOnce}
-use Rattle.status_lines.specs.declared.status.Status.{Status}
+use Rattle.command_line.specs.declared.status.Status.{Status}
 use Rattle.otp_tool.specs.Grammars.{IsAsked}
 use Rattle.otp_tool.specs.Findings.{FindsForOnce, ready}
 use Rattle.kind_orders.specs.JoinedArcs.{HaveJoinedArcs}

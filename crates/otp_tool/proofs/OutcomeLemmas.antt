@@ -3,10 +3,10 @@ use Rattle.std.proofs.Common.{◌≡◌, ◌⊎◌, inl, inr, ℕ, zero, suc, �
 use Rattle.std.specs.Option.{option_map}
 use Rattle.outside.specs.Faults.{Rose}
 use Rattle.outside.specs.Sent.{appended, HasSentPart}
-use Rattle.status_lines.specs.declared.status.Status.{Status}
-use Rattle.status_lines.specs.declared.status.Status.TheVariants.{Done, No, Usage, GrammarRefused, FormRefused, LexiconRefused, AnswerRefused, Budget, ReadFault, WriteFault, NoMemory, RowsRefused, TooLong}
+use Rattle.command_line.specs.declared.status.Status.{Status}
+use Rattle.command_line.specs.declared.status.Status.TheVariants.{Done, No, Usage, GrammarRefused, FormRefused, LexiconRefused, AnswerRefused, Budget, ReadFault, WriteFault, NoMemory, RowsRefused, TooLong}
 use Rattle.grammar_reader.specs.Values.{GrammarValue}
-use Rattle.command_words.specs.Commands.{Command, IsCommand, grammar_of as file_of}
+use Rattle.command_line.specs.Commands.{Command, IsCommand, grammar_of as file_of}
 use Rattle.otp_tool.specs.Files.{IsHeld, IsSecondHeld, NamedFile, faults_of, grammar_told, second_file}
 use Rattle.otp_tool.specs.Grammars.{OnGrammar}
 use Rattle.otp_tool.specs.Findings.{Finding, FindsIn, Finds, Reaches, long_file, no_grammar, no_form, long_second, no_rows, no_lexicon, no_answer, over_budget, ready}

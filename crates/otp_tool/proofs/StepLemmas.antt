@@ -28,7 +28,7 @@ use Rattle.kind_orders.specs.JoinedArcs.{HaveJoinedArcs}
 use Rattle.answer_text.specs.Shape.{widths_of}
 use Rattle.answer_text.specs.Text.{Widths, answer_text, counts_text}
 use Rattle.ranked_gen.specs.Budgets.{AreAllWithin, HaveFewKinds}
-use Rattle.status_lines.specs.declared.status.Status.{Status}
+use Rattle.command_line.specs.declared.status.Status.{Status}
 use Rattle.kind_moves.proofs.GrammarTiers.{over_tiers}
 use Rattle.form_reader.specs.Forms.{IsReadAs, IsRefusedFor}
 use Rattle.otp_tool.specs.Scored.{IsNotScored, IsScored}

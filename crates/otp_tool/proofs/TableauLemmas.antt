@@ -17,7 +17,7 @@ use Rattle.tableau.specs.declared.table.Tableau.{Tableau}
 use Rattle.tableau.specs.Layout.{tableau_text}
 use Rattle.tableau.specs.Rows.{AreRowsOf}
 use Rattle.tableau.specs.Tableaux.{IsTableauOf}
-use Rattle.status_lines.specs.declared.status.Status.{Status}
+use Rattle.command_line.specs.declared.status.Status.{Status}
 use Rattle.otp_tool.specs.Files.{IsHeld, rows_file}
 use Rattle.otp_tool.specs.Grammars.{IsAsked}
 use Rattle.otp_tool.specs.Findings.{FindsForTableau, HasForm, ready}

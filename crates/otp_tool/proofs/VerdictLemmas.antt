@@ -1,13 +1,13 @@
 -- Where the shelf tells, the bytes of an answer settle the status of `check`.
 use Rattle.std.proofs.Common.{◌≡◌, ◌⊎◌, inl, inr, ℕ, List, refl, sym, ◌∙◌, subst}
 use Rattle.outside.specs.Faults.{Rose}
-use Rattle.status_lines.specs.declared.status.Status.{Status}
-use Rattle.status_lines.specs.declared.status.Status.TheVariants.{Done, No, NoMemory}
+use Rattle.command_line.specs.declared.status.Status.{Status}
+use Rattle.command_line.specs.declared.status.Status.TheVariants.{Done, No, NoMemory}
 use Rattle.grammar_reader.specs.Values.{GrammarValue}
 use Rattle.cert_check.specs.declared.fault.Verdict.{Verdict}
 use Rattle.cert_check.specs.declared.fault.Verdict.TheVariants.{Yes, No as Not}
-use Rattle.command_words.specs.Commands.{Command, canon, score, generate, show, tableau, once, comprehend, check, sample}
-use Rattle.command_words.proofs.CommandLemmas.{one_command}
+use Rattle.command_line.specs.Commands.{Command, canon, score, generate, show, tableau, once, comprehend, check, sample}
+use Rattle.command_line.proofs.CommandLemmas.{one_command}
 use Rattle.answer_reader.specs.Values.{answer_value}
 use Rattle.otp_tool.specs.Answers.{IsJudged}
 use Rattle.otp_tool.specs.Grammars.{OnGrammar}

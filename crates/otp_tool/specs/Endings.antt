@@ -11,10 +11,10 @@ use Rattle.tableau.specs.declared.rows_err.RowsCause.{RowsCause}
 use Rattle.answer_reader.specs.declared.answer_err.AnswerCause.{AnswerCause}
 use Rattle.lexicon.specs.declared.lex_err.LexErr.{LexErr}
 use Rattle.cert_check.specs.declared.fault.Verdict.{Verdict}
-use Rattle.command_words.specs.Commands.{IsNoCommand}
-use Rattle.status_lines.specs.declared.status.Status.{Status}
-use Rattle.status_lines.specs.declared.status.Status.TheVariants.{Done, No, Usage, GrammarRefused, FormRefused, LexiconRefused, AnswerRefused, Budget, ReadFault, WriteFault, NoMemory, RowsRefused, TooLong}
-use Rattle.status_lines.specs.Lines.{status_number, status_text}
+use Rattle.command_line.specs.Commands.{IsNoCommand}
+use Rattle.command_line.specs.declared.status.Status.{Status}
+use Rattle.command_line.specs.declared.status.Status.TheVariants.{Done, No, Usage, GrammarRefused, FormRefused, LexiconRefused, AnswerRefused, Budget, ReadFault, WriteFault, NoMemory, RowsRefused, TooLong}
+use Rattle.command_line.specs.Lines.{status_number, status_text}
 use Rattle.otp_tool.specs.Findings.{Finding, no_grammar, no_form, no_rows, no_lexicon, no_answer, over_budget, ready}
 use Rattle.otp_tool.specs.Outcomes.{HasReadFault, IsBeforeWriting, IsBehind, IsTold, IsToldVerdict, IsTooLong, IsWrittenBehind, Stands, answer_to, status_of}
 use Rattle.otp_tool.specs.Results.{IsNoResult, IsResult, IsWhole}

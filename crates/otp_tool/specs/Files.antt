@@ -1,7 +1,7 @@
 -- The files that commands name, and what a shelf may hold under their names.
 use Rattle.std.specs.Prelude.{◌≡◌, ℕ, List, Option, Some, None, option_map}
 use Rattle.otp_tool.specs.Samples.{sample_grammar}
-use Rattle.command_words.specs.Commands.{Command, canon, score, generate, show, tableau, once, comprehend, check, sample, grammar_of}
+use Rattle.command_line.specs.Commands.{Command, canon, score, generate, show, tableau, once, comprehend, check, sample, grammar_of}
 
 pub record NamedFile : Type 0 where
   -- the number of the word that names it

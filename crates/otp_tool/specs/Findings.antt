@@ -9,7 +9,7 @@ use Rattle.grammar_reader.specs.Reading.{grammar_of}
 use Rattle.ranked_gen.specs.Budgets.{AreAllWithin, HaveFewKinds, IsFirstOver}
 use Rattle.tableau.specs.declared.rows_err.RowsCause.{RowsCause}
 use Rattle.tableau.specs.Rows.{AreRowsOf, IsRefusedAt}
-use Rattle.command_words.specs.Commands.{Command, canon, score, generate, show, tableau, once, comprehend, check, sample}
+use Rattle.command_line.specs.Commands.{Command, canon, score, generate, show, tableau, once, comprehend, check, sample}
 use Rattle.form_reader.specs.Forms.{IsReadAs, IsRefusedFor}
 use Rattle.lexicon.specs.declared.lex_err.LexErr.{LexErr}
 use Rattle.comprehend.specs.Hears.{AreEntriesWithin, IsFirstEntryOver}

@@ -26,9 +26,9 @@ use Rattle.ranked_gen.specs.Budgets.{AreAllWithin, HaveFewKinds, IsFirstOver}
 use Rattle.grammar_reader.specs.declared.grammar_err.GrammarCause.{GrammarCause}
 use Rattle.grammar_reader.specs.Values.{GrammarValue}
 use Rattle.grammar_reader.specs.Reading.{grammar_of}
-use Rattle.command_words.specs.Commands.{Command, IsCommand, IsNoCommand, canon, score, generate, show, tableau, once, comprehend, check, sample}
-use Rattle.status_lines.specs.declared.status.Status.{Status}
-use Rattle.status_lines.specs.declared.status.Status.TheVariants.{Done, No, Usage, GrammarRefused, FormRefused, LexiconRefused, AnswerRefused, Budget, ReadFault, WriteFault, NoMemory, RowsRefused, TooLong}
+use Rattle.command_line.specs.Commands.{Command, IsCommand, IsNoCommand, canon, score, generate, show, tableau, once, comprehend, check, sample}
+use Rattle.command_line.specs.declared.status.Status.{Status}
+use Rattle.command_line.specs.declared.status.Status.TheVariants.{Done, No, Usage, GrammarRefused, FormRefused, LexiconRefused, AnswerRefused, Budget, ReadFault, WriteFault, NoMemory, RowsRefused, TooLong}
 use Rattle.otp_tool.specs.Files.{IsHeld, IsSecondHeld, NamedFile, answer_file, lexicon_file, rows_file, second_file}
 use Rattle.std.specs.Str.Lines.{lines}
 use Rattle.form_reader.specs.Forms.{IsRefusedFor}

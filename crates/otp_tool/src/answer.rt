@@ -14,7 +14,7 @@ use answer_text::Answer;
 use form_reader::read_form;
 use grammar_reader::Grammar;
 use ranked_gen::{GenErr, generate};
-use status_lines::Status;
+use command_line::Status;
 use std::alloc::Global;
 use tier_core::Timeline;
 use timeline_text::FormErr;

@@ -12,7 +12,7 @@ use answer_text::Answer;
 use cert_check::Verdict;
 use grammar_reader::{Grammar, shape};
 use outside::{Shelf, Sink, WriteErr};
-use status_lines::Status;
+use command_line::Status;
 use std::alloc::Global;
 use tier_core::Shape;
 use verdict_text::put_verdict;

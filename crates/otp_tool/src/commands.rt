@@ -5,9 +5,9 @@ ghost use Rattle.timeline_text.specs.declared.form_err.FormErr.{FormErr};
 ghost use Rattle.grammar_reader.specs.declared.grammar_err.GrammarCause.{GrammarCause};
 ghost use Rattle.grammar_reader.specs.Grammars.{value_of};
 ghost use Rattle.cert_check.specs.declared.fault.Verdict.{Verdict};
-ghost use Rattle.command_words.specs.Commands.{IsCommand, IsNoCommand, grammar_of as file_of};
-ghost use Rattle.command_words.specs.Words.{words_of};
-ghost use Rattle.command_words.specs.Seen.{command_seen};
+ghost use Rattle.command_line.specs.Commands.{IsCommand, IsNoCommand, grammar_of as file_of};
+ghost use Rattle.command_line.specs.Words.{words_of};
+ghost use Rattle.command_line.specs.Seen.{command_seen};
 ghost use Rattle.otp_tool.specs.Findings.{Finding, no_grammar, no_form, no_rows, no_lexicon, no_answer, over_budget, ready};
 ghost use Rattle.otp_tool.specs.Outcomes.{HasReadFault, IsBeforeWriting, IsBehind, IsTold, IsToldVerdict, IsTooLong, IsUnnamed, IsWrittenBehind, Stands, answer_to, status_of};
 ghost use Rattle.otp_tool.specs.Results.{IsNoResult, IsResult, IsWhole};
@@ -25,10 +25,9 @@ use crate::sample_form::sample_grammar;
 use crate::sampling::sample;
 use crate::single_pass::once;
 use crate::tableaux::tabulate;
-use command_words::{Command, command_of};
+use command_line::{Command, Status, command_of};
 use grammar_reader::Grammar;
 use outside::{Shelf, Sink};
-use status_lines::Status;
 use std::alloc::Global;
 
 /// The name of the file of a command's grammar. `sample` names none.

@@ -1,12 +1,12 @@
 ghost use Rattle.std.specs.Prelude.{◌≡◌, ◌≤◌, ℕ, List};
-ghost use Rattle.command_words.specs.Words.{words_of};
+ghost use Rattle.command_line.specs.Words.{words_of};
 ghost use Rattle.otp_tool.specs.Endings.{IsEnding};
 ghost use Rattle.otp_tool.specs.Outcomes.{IsUnnamed};
 ghost use Rattle.otp_tool.specs.Steps.{change_of};
 
 use crate::commands::run;
 use outside::{Shelf, Sink};
-use status_lines::put_status;
+use command_line::put_status;
 use std::alloc::Global;
 
 /// Runs the words of a command and ends as a program does: it writes the line of the status to

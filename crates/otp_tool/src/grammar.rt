@@ -4,7 +4,7 @@ ghost use Rattle.otp_tool.specs.Steps.{IsLoadRefusal, IsLoaded};
 
 use grammar_reader::{Grammar, GrammarErr, read_grammar};
 use outside::{LoadErr, Shelf};
-use status_lines::Status;
+use command_line::Status;
 use std::alloc::Global;
 
 /// How many bytes a grammar's file may have.

@@ -15,7 +15,7 @@ use comprehend::{CompErr, Hit, comprehend, put_hits, read_surface};
 use grammar_reader::Grammar;
 use lexicon::{Entry, LexErr, read_lexicon};
 use outside::{Shelf, Sink};
-use status_lines::Status;
+use command_line::Status;
 use std::alloc::Global;
 use tier_core::Timeline;
 use timeline_text::FormErr;

@@ -1,12 +1,12 @@
 ghost use Rattle.std.specs.Prelude.{◌≡◌, ◌≢◌, ◌⊎◌, ℕ, Some};
-ghost use Rattle.command_words.specs.Words.{words_of};
+ghost use Rattle.command_line.specs.Words.{words_of};
 ghost use Rattle.outside.specs.Held.{told};
 ghost use Rattle.otp_tool.specs.Findings.{Finding, ready};
 ghost use Rattle.otp_tool.specs.Outcomes.{IsTold, answer_to};
 
 use crate::commands::run;
 use outside::{SafeShelf, SafeSink};
-use status_lines::Status;
+use command_line::Status;
 use std::alloc::Global;
 
 /// Runs the words of a command over files and a sink in memory, which never fail. So no fault of

@@ -40,4 +40,4 @@ mod tests;
 pub use commands::run;
 pub use ending::run_to_end;
 pub use in_memory::run_in_memory;
-pub use status_lines::{Status, put_status};
+pub use command_line::{Status, put_status};

@@ -10,7 +10,7 @@ use crate::scored::read_scored;
 use answer_text::{put_answer, put_counts, put_shown};
 use grammar_reader::{Grammar, put_grammar, shape};
 use outside::{Sink, WriteErr};
-use status_lines::Status;
+use command_line::Status;
 use std::alloc::Global;
 use timeline_text::FormErr;
 use violation::vector;

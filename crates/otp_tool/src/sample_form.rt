@@ -4,7 +4,7 @@ ghost use Rattle.otp_tool.specs.Samples.{letter_of, next_number, sample_grammar,
 ghost use Rattle.otp_tool.specs.Steps.{IsLoaded};
 
 use grammar_reader::{Grammar, read_grammar};
-use status_lines::Status;
+use command_line::Status;
 use std::alloc::{AllocError, Global};
 
 /// The grammar of samples: syllables over consonants and vowels.

@@ -18,7 +18,7 @@ use crate::sample_text::{Summary, put_sample};
 use answer_text::Answer;
 use grammar_reader::{Grammar, shape};
 use outside::Sink;
-use status_lines::Status;
+use command_line::Status;
 use std::alloc::Global;
 use tier_core::NoMemory;
 

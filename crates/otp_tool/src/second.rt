@@ -3,7 +3,7 @@ ghost use Rattle.otp_tool.specs.Files.{IsHeld};
 ghost use Rattle.otp_tool.specs.Steps.{IsSecondRefusal};
 
 use outside::{LoadErr, Shelf};
-use status_lines::Status;
+use command_line::Status;
 use std::alloc::Global;
 
 /// Loads the second file of a command, which the word of this number names. The file may have at most

@@ -16,7 +16,7 @@ use answer_text::{OnceAnswer, put_once};
 use grammar_reader::{Grammar, shape};
 use outside::Sink;
 use ranked_gen::{GenErr, generate_once};
-use status_lines::Status;
+use command_line::Status;
 use std::alloc::Global;
 use tier_core::Timeline;
 

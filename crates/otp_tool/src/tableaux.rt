@@ -12,7 +12,7 @@ use crate::results::ended;
 use crate::second::load_second;
 use grammar_reader::Grammar;
 use outside::{Shelf, Sink};
-use status_lines::Status;
+use command_line::Status;
 use std::alloc::Global;
 use tableau::{RowsErr, Tableau, put_tableau, read_rows, tableau};
 use tier_core::Timeline;

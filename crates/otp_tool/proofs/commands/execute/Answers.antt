@@ -1,5 +1,5 @@
 use Rattle.std.proofs.Common.{refl}
-use Rattle.command_words.specs.Seen.{command_seen}
+use Rattle.command_line.specs.Seen.{command_seen}
 use Rattle.grammar_reader.specs.Grammars.{value_of}
 use Rattle.otp_tool.specs.Steps.{change_of}
 use Rattle.otp_tool.proofs.OutcomeLemmas.{by_load, by_work, work_of_before}

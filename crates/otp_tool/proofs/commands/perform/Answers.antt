@@ -1,6 +1,6 @@
 use Rattle.std.proofs.Common.{inl, inr, [], sym, subst}
-use Rattle.command_words.specs.Seen.{command_seen}
-use Rattle.command_words.specs.declared.command.Command.{Command}
+use Rattle.command_line.specs.Seen.{command_seen}
+use Rattle.command_line.specs.declared.command.Command.{Command}
 use Rattle.grammar_reader.specs.Grammars.{value_of}
 use Rattle.otp_tool.specs.Steps.{IsWorkOf, change_of}
 use Rattle.otp_tool.proofs.commands.perform.Goals as goal

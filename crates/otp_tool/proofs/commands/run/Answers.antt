@@ -1,4 +1,4 @@
-use Rattle.command_words.specs.Words.{words_of}
+use Rattle.command_line.specs.Words.{words_of}
 use Rattle.otp_tool.specs.Steps.{change_of}
 use Rattle.otp_tool.proofs.DueLemmas.{complete, due, untouched}
 use Rattle.otp_tool.proofs.VerdictLemmas.{settled}

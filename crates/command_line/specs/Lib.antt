@@ -1,0 +1,4 @@
+pub mod Commands
+pub mod Words
+pub mod Seen
+pub mod Lines

@@ -1,6 +1,5 @@
 use crate::fault::Fault;
 use std::alloc::{AllocError, AllocFailed};
-use tier_core::NoMemory;
 
 /// Why a checker stops before the end.
 #[derive(Drop)]
@@ -9,17 +8,6 @@ pub(crate) enum Stop {
     Found(Fault),
     /// Memory ran out.
     NoMemory,
-}
-
-impl From<NoMemory> for Stop {
-    ghost use Rattle.std.specs.Prelude.{◌≡◌};
-    ghost use Rattle.cert_check.specs.declared.stop.Stop.TheVariants.{NoMemory};
-
-    ghost from_gives = { λ _ e. e ≡ NoMemory };
-
-    fn from(_e: NoMemory) -> Stop {
-        Stop::NoMemory
-    }
 }
 
 impl From<AllocError> for Stop {

@@ -98,15 +98,9 @@ fn chosen_types(alloc: Global, constraint: &Constraint) -> Result<Vec<Event>, No
         types.items ≡ chosen constraint.now.family constraint.now.left constraint.now.right) }
     ensures few { IfOk result (λ types. length types.items ≤ 16) }
 {
-    let mut types = constraint
-        .left
-        .as_slice()
-        .to_vec(alloc)
-        .map_err(|_| NoMemory)?;
+    let mut types = constraint.left.as_slice().to_vec(alloc)?;
     if constraint.family == Family::Clash {
-        types
-            .extend_from_slice(constraint.right.as_slice())
-            .map_err(|_| NoMemory)?;
+        types.extend_from_slice(constraint.right.as_slice())?;
     }
     Ok(types)
 }

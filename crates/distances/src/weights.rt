@@ -7,7 +7,7 @@ ghost use Rattle.distances.specs.Least.{AreLeast};
 use crate::rounds::{closed, initial};
 use crate::settle::settle;
 use arc_table::{Incoming, Table};
-use std::alloc::{AllocError, Global};
+use std::alloc::Global;
 use tier_core::NoMemory;
 use weight_law::Weight;
 
@@ -16,7 +16,7 @@ fn over_incoming<W: Weight>(
     alloc: Global,
     table: &Table<W>,
     incoming: &Incoming<W>,
-) -> Result<Vec<Option<W>>, AllocError>
+) -> Result<Vec<Option<W>>, NoMemory>
     requires turned { AreTurned (states_of table.now) incoming.now }
     requires sizes { SizesWithin (states_of table.now) u32.MAX }
     ensures { IfOk result (λ least. AreLeast (states_of table.now) least.items) }
@@ -34,5 +34,5 @@ pub fn to_final<W: Weight>(alloc: Global, table: &Table<W>) -> Result<Vec<Option
     ensures { IfOk result (λ least. AreLeast (states_of table.now) least.items) }
 {
     let incoming = Incoming::of_table(alloc, table)?;
-    over_incoming(alloc, table, &incoming).map_err(|_| NoMemory)
+    over_incoming(alloc, table, &incoming)
 }

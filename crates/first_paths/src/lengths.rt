@@ -5,7 +5,7 @@ ghost use Rattle.first_paths.specs.Counted.{AreLengths};
 ghost use Rattle.first_paths.specs.Search.{IsSource, IsBefore, Reaches, IsSearched};
 
 use arc_table::{Incoming, IncomingMove, Table};
-use std::alloc::{AllocError, Global};
+use std::alloc::Global;
 use tier_core::NoMemory;
 use weight_law::{Count, UnitWeight};
 
@@ -18,7 +18,7 @@ struct Search {
 }
 
 /// The accepting states, at which no move is left.
-fn at_the_end(alloc: Global, table: &Table<UnitWeight>) -> Result<Search, AllocError>
+fn at_the_end(alloc: Global, table: &Table<UnitWeight>) -> Result<Search, NoMemory>
     ensures { IfOk result
         (λ search. IsSearched (states_of table.now) search.left.items search.level.items 0) }
 {
@@ -42,7 +42,7 @@ fn reach(
     n: u32,
     left: &mut Vec<Option<Count>>,
     next: &mut Vec<u32>,
-) -> Result<(), AllocError>
+) -> Result<(), NoMemory>
     requires { All (λ move. move.source < length left.old.items) moves.now }
     ensures { IfOk result
         (λ _.
@@ -67,7 +67,7 @@ fn next_level(
     level: &[u32],
     n: u32,
     left: &mut Vec<Option<Count>>,
-) -> Result<Vec<u32>, AllocError>
+) -> Result<Vec<u32>, NoMemory>
     requires inside { All (λ state. state < states_in incoming.now) level.now }
     requires sources { (q : ℕ) → IsBefore incoming.now level.now q → q < length left.old.items }
     ensures { IfOk result
@@ -87,7 +87,7 @@ fn searched(
     alloc: Global,
     table: &Table<UnitWeight>,
     incoming: &Incoming<UnitWeight>,
-) -> Result<Vec<Option<Count>>, AllocError>
+) -> Result<Vec<Option<Count>>, NoMemory>
     requires { AreTurned (states_of table.now) incoming.now }
     ensures { IfOk result (λ left. AreLengths (states_of table.now) left.items) }
 {
@@ -110,5 +110,5 @@ pub(crate) fn lengths(
     ensures { IfOk result (λ left. AreLengths (states_of table.now) left.items) }
 {
     let incoming = Incoming::of_table(alloc, table)?;
-    searched(alloc, table, &incoming).map_err(|_| NoMemory)
+    searched(alloc, table, &incoming)
 }

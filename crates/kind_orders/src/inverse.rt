@@ -1,11 +1,11 @@
 ghost use Rattle.std.specs.Prelude.{IfOk, length};
 ghost use Rattle.kind_orders.specs.Orderings.{IsOrdering, AreRanks};
 
-use std::alloc::{AllocError, Global};
+use std::alloc::Global;
 use tier_core::NoMemory;
 
-/// The place of each number in an order.
-fn places(alloc: Global, order: &[u32]) -> Result<Vec<u32>, AllocError>
+/// The place of each number in an order of all numbers below its length, counted from 0.
+pub fn ranks(alloc: Global, order: &[u32]) -> Result<Vec<u32>, NoMemory>
     requires { IsOrdering (length order.now) order.now }
     ensures numbers { IfOk result (λ ranks. IsOrdering (length order.now) ranks.items) }
     ensures told { IfOk result (λ ranks. AreRanks order.now ranks.items) }
@@ -15,14 +15,4 @@ fn places(alloc: Global, order: &[u32]) -> Result<Vec<u32>, AllocError>
         ranks[*number as usize] = place as u32;
     }
     Ok(ranks)
-}
-
-/// The place of each number in an order of all numbers below its length, counted from 0. Fails
-/// only if memory runs out.
-pub fn ranks(alloc: Global, order: &[u32]) -> Result<Vec<u32>, NoMemory>
-    requires { IsOrdering (length order.now) order.now }
-    ensures numbers { IfOk result (λ ranks. IsOrdering (length order.now) ranks.items) }
-    ensures told { IfOk result (λ ranks. AreRanks order.now ranks.items) }
-{
-    places(alloc, order).map_err(|_| NoMemory)
 }

@@ -73,5 +73,5 @@ pub fn ordered(
     if kinds.is_empty() {
         return Ok(Vec::new(alloc));
     }
-    sorted_numbers(alloc, shape, stage, kinds).map_err(|_| NoMemory)
+    sorted_numbers(alloc, shape, stage, kinds)
 }

@@ -8,16 +8,21 @@ use crate::moves::new_state;
 use crate::names::number_of;
 use crate::tight_table::Tight;
 use arc_table::Table;
-use std::alloc::{AllocError, Global};
+use std::alloc::Global;
 use tier_core::NoMemory;
 use weight_law::Weight;
 
-/// The states that kept moves lead to from the start, in the order in which they are found.
-fn pruned<W: Weight>(
+/// The part of the table that accepts exactly its words of least weight. `least` is what
+/// `to_final` gives, with a weight at the start.
+///
+/// The new table's states are those that least moves lead to from the start, and each is on a path
+/// to an accepting state. Its moves are exactly the least moves between them. State 0 remains
+/// state 0.
+pub fn tight<W: Weight>(
     alloc: Global,
     table: &Table<W>,
     least: &[Option<W>],
-) -> Result<Tight, AllocError>
+) -> Result<Tight, NoMemory>
     requires sizes { SizesWithin (states_of table.now) u32.MAX }
     requires least { AreLeast (states_of table.now) least.now }
     requires start { IsSome (slice_index_or least.now 0 None) }
@@ -37,24 +42,4 @@ fn pruned<W: Weight>(
         table: Table::of_states(states),
         states: names,
     })
-}
-
-/// The part of the table that accepts exactly its words of least weight. `least` is what
-/// `to_final` gives, with a weight at the start.
-///
-/// The new table's states are those that least moves lead to from the start, and each is on a path
-/// to an accepting state. Its moves are exactly the least moves between them. State 0 remains
-/// state 0.
-pub fn tight<W: Weight>(
-    alloc: Global,
-    table: &Table<W>,
-    least: &[Option<W>],
-) -> Result<Tight, NoMemory>
-    requires sizes { SizesWithin (states_of table.now) u32.MAX }
-    requires least { AreLeast (states_of table.now) least.now }
-    requires start { IsSome (slice_index_or least.now 0 None) }
-    ensures { IfOk result
-        (λ tight. IsTight (states_of table.now) (states_of tight.table) tight.states.items) }
-{
-    pruned(alloc, table, least).map_err(|_| NoMemory)
 }

@@ -42,4 +42,6 @@ pub use projection::{project, squeeze};
 pub use shape::Shape;
 pub use sym::Sym;
 pub use tier::{TierKind, TierTable};
-pub use timeline::{NoMemory, Timeline};
+/// Memory ran out.
+pub use std::alloc::AllocError as NoMemory;
+pub use timeline::Timeline;

@@ -7,7 +7,8 @@ use crate::column::Column;
 use crate::form::has_edge;
 use crate::mask::has_bit;
 use crate::sym::Sym;
-use crate::timeline::{NoMemory, Timeline};
+use crate::NoMemory;
+use crate::timeline::Timeline;
 use smallvec::SmallVec;
 use std::alloc::Global;
 

@@ -5,10 +5,6 @@ use crate::column::Column;
 use std::alloc::Global;
 use std::marker::Model;
 
-/// Memory ran out.
-#[derive(Clone, Copy, Debug, PartialEq, Eq)]
-pub struct NoMemory;
-
 /// A list of columns, whose places are numbered from 0. Contracts see it as that list.
 #[derive(Drop)]
 pub struct Timeline {

@@ -1,7 +1,7 @@
 use Rattle.std.proofs.Common.{◌≡◌, ◌-◌, length}
 use Rattle.prune_best.specs.Names.{AreNumbered}
 use Rattle.prune_best.proofs.SoFar.{SoFar}
-use Rattle.prune_best.proofs.prune.pruned.Given as goal
+use Rattle.prune_best.proofs.prune.tight.Given as goal
 
 abbrev pub invariant-making : goal.invariant-making
 invariant-making g l = record {

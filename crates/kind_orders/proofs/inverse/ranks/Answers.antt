@@ -1,6 +1,6 @@
 use Rattle.std.proofs.Common.{◌≡◌, length, subst, arith}
 use Rattle.kind_orders.proofs.Places.{ArePlaced, ranks_told, ranks_numbers}
-use Rattle.kind_orders.proofs.inverse.places.Goals as goal
+use Rattle.kind_orders.proofs.inverse.ranks.Goals as goal
 
 pub returns-clause-numbers : goal.returns-clause-numbers
 returns-clause-numbers c =

@@ -3,7 +3,7 @@ use Rattle.std.proofs.lemmas.List.{length_push}
 use Rattle.prune_best.proofs.Numbering.{names_few, numbered_below, next_named}
 use Rattle.prune_best.proofs.SoFar.{so_far-push, so_far-start}
 use Rattle.prune_best.proofs.Words.{is_tight, new_targets, new_filled, new_width, new_disjoint}
-use Rattle.prune_best.proofs.prune.pruned.Goals as goal
+use Rattle.prune_best.proofs.prune.tight.Goals as goal
 
 pub making-init : goal.making-init
 making-init g c =

@@ -7,3 +7,10 @@ mod TwoKinds
 mod AlteredStates
 mod OneRemains
 mod OneDep
+mod Tests
+mod Same
+mod StageTests
+mod AutomatonTests
+mod AnswerTests
+mod OneMaxDep
+mod RightTests

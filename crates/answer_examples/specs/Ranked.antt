@@ -1,0 +1,87 @@
+-- The answer to the form `[ ]` over an input tier A and an overt tier a, where `a # a` is ranked above
+-- `A -> a`, and this above `a -> A`, whatever their names.
+use Rattle.std.specs.Prelude.{ℕ, Bool, true, false, List, [], ◌∷◌, codes, slice_set, String}
+use Rattle.std.specs.declared.alloc.Global.{Global}
+use Rattle.tier_core.specs.declared.constraint.Constraint.{Constraint}
+use Rattle.tier_core.specs.declared.constraint.Family.TheVariants.{Clash}
+use Rattle.tier_core.specs.declared.sym.Sym.{Sym}
+use Rattle.tier_core.specs.Kinds.{PrefixKind}
+use Rattle.violation.specs.Examples.{over_two, dep_a, max_a, kind_text, timeline, types}
+use Rattle.violation.specs.Problems.{Problem}
+use Rattle.answer_text.specs.declared.answer.Answer.{Answer}
+use Rattle.answer_text.specs.Certified.{IsCertified}
+use Rattle.answer_examples.specs.Seen.{StateSeen, IsSeenAs}
+use Rattle.answer_examples.specs.Worked.{arc_on, state}
+
+-- `a # a`
+abbrev pub one_a : String Global → Constraint
+one_a name = record {
+  name = name;
+  family = Clash;
+  left = types (codes "Aa") (codes "a");
+  right = types (codes "Aa") (codes "a");
+}
+
+abbrev pub under_three : String Global → String Global → String Global → Problem
+under_three one max dep = over_two (one_a one ∷ max_a max ∷ dep_a dep ∷ []) (timeline (codes "[ ]"))
+
+-- the kind of a place, by `+` or `-` for the overt tier and the phases, and its potential
+abbrev pub node_at : ℕ → List ℕ → List ℕ → ℕ → PrefixKind × ℕ
+node_at place opened phases potential = (kind_text place opened phases, potential)
+
+-- each place with the overt tier shut or open, if 1 or nothing remains while it is open
+abbrev pub six_nodes : ℕ → List (PrefixKind × ℕ)
+six_nodes remains = node_at 0 (codes "-") [] 0 ∷ node_at 0 (codes "+") [] remains
+    ∷ node_at 1 (codes "-") [] 0 ∷ node_at 1 (codes "+") [] remains
+    ∷ node_at 2 (codes "-") [] 0 ∷ node_at 2 (codes "+") [] remains ∷ []
+
+-- each place with the overt tier shut: under `A -> a`, and under `a -> A` too
+abbrev pub nodes_of_max : List (PrefixKind × ℕ)
+nodes_of_max = node_at 0 (codes "-") (codes ".") 1 ∷ node_at 1 (codes "-") (codes "u") 1
+    ∷ node_at 2 (codes "-") (codes ".") 0 ∷ []
+
+abbrev pub nodes_of_dep : List (PrefixKind × ℕ)
+nodes_of_dep = node_at 0 (codes "-") (codes "..") 0 ∷ node_at 1 (codes "-") (codes "u.") 0
+    ∷ node_at 2 (codes "-") (codes "..") 0 ∷ []
+
+abbrev pub four_stages : List (List (PrefixKind × ℕ))
+four_stages = six_nodes 0 ∷ six_nodes 1 ∷ nodes_of_max ∷ nodes_of_dep ∷ []
+
+-- the automaton of `[- ]-`
+abbrev pub three_states : List StateSeen
+three_states = state 0 false (arc_on 1 (codes "[-") ∷ []) ∷ state 1 false (arc_on 2 (codes "]-") ∷ [])
+    ∷ state 2 true [] ∷ []
+
+-- the candidate without any a
+abbrev pub bare : List (List Sym)
+bare = timeline (codes "[- ]-")
+
+abbrev pub bare_counts : List ℕ
+bare_counts = 0 ∷ 1 ∷ 0 ∷ []
+
+-- An answer that is seen so is not certified, whatever the names of the constraints.
+abbrev pub IsRefused : List ℕ → List (List Sym) → List (List (PrefixKind × ℕ)) → List StateSeen → Type 0
+IsRefused counts example stages states = (one max dep : String Global) (answer : Answer)
+    → IsSeenAs (under_three one max dep) answer counts example stages states
+    → IsCertified (under_three one max dep) answer → ⊥
+
+-- the answer with another head, with another stage in place of one of its own, or with other states
+abbrev pub IsHeadRefused : List ℕ → List (List Sym) → Type 0
+IsHeadRefused counts example = IsRefused counts example four_stages three_states
+
+abbrev pub IsStageRefused : ℕ → List (PrefixKind × ℕ) → Type 0
+IsStageRefused r nodes = IsRefused bare_counts bare (slice_set four_stages r nodes) three_states
+
+abbrev pub AreStatesRefused : List StateSeen → Type 0
+AreStatesRefused states = IsRefused bare_counts bare four_stages states
+
+-- the states from texts: the arcs of the first two, and whether each state is final
+abbrev pub states_with : Bool → List (ℕ × List ℕ) → Bool → List (ℕ × List ℕ) → Bool → List (ℕ × List ℕ)
+    → List StateSeen
+states_with a first b second c third = state 0 a first ∷ state 1 b second ∷ state 2 c third ∷ []
+
+abbrev pub first_arcs : List (ℕ × List ℕ)
+first_arcs = arc_on 1 (codes "[-") ∷ []
+
+abbrev pub second_arcs : List (ℕ × List ℕ)
+second_arcs = arc_on 2 (codes "]-") ∷ []

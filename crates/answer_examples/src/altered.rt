@@ -1,0 +1,85 @@
+//! Alterations of the answer to `[ ]` under `a # a`, `A -> a` and `a -> A` that are not certified.
+ghost use Rattle.std.specs.Prelude.{true, false, [], ◌∷◌, codes};
+ghost use Rattle.violation.specs.Examples.{timeline};
+ghost use Rattle.answer_examples.specs.Worked.{arc_on, state};
+ghost use Rattle.answer_examples.specs.Ranked.{bare, bare_counts, six_nodes, node_at, first_arcs};
+ghost use Rattle.answer_examples.specs.Ranked.{second_arcs, states_with, four_stages, three_states};
+ghost use Rattle.answer_examples.specs.Ranked.{IsRefused, IsHeadRefused, IsStageRefused};
+ghost use Rattle.answer_examples.specs.Ranked.{AreStatesRefused};
+
+/// With other counts, with an example of another form or with other counts, or without its last
+/// stage, the answer is not certified.
+pub fn altered_heads_are_refused()
+    ensures first_count { IsHeadRefused (1 ∷ 1 ∷ 0 ∷ []) bare }
+    ensures second_count { IsHeadRefused (0 ∷ 0 ∷ 0 ∷ []) bare }
+    ensures last_count { IsHeadRefused (0 ∷ 1 ∷ 1 ∷ []) bare }
+    ensures two_counts { IsHeadRefused (0 ∷ 2 ∷ 2 ∷ []) bare }
+    ensures greatest_count { IsHeadRefused (0 ∷ 1000000000 ∷ 0 ∷ []) bare }
+    ensures example_of_another_form { IsHeadRefused bare_counts [] }
+    ensures example_with_an_a { IsHeadRefused bare_counts (timeline (codes "[[ ]]")) }
+    ensures no_last_stage { IsRefused bare_counts bare (six_nodes 0 ∷ six_nodes 1
+        ∷ (node_at 0 (codes "-") (codes ".") 1 ∷ node_at 1 (codes "-") (codes "u") 1
+        ∷ node_at 2 (codes "-") (codes ".") 0 ∷ []) ∷ []) three_states }
+{}
+
+/// With a potential that is raised, or lowered at the start, with a phase that is not due, or with
+/// a node taken out, the answer is not certified.
+pub fn altered_stages_are_refused()
+    ensures potential_at_stage_zero { IsStageRefused 0 (node_at 0 (codes "-") [] 0
+        ∷ node_at 0 (codes "+") [] 1 ∷ node_at 1 (codes "-") [] 0 ∷ node_at 1 (codes "+") [] 0
+        ∷ node_at 2 (codes "-") [] 0 ∷ node_at 2 (codes "+") [] 0 ∷ []) }
+    ensures final_at_stage_zero { IsStageRefused 0 (node_at 0 (codes "-") [] 0
+        ∷ node_at 0 (codes "+") [] 0 ∷ node_at 1 (codes "-") [] 0 ∷ node_at 1 (codes "+") [] 0
+        ∷ node_at 2 (codes "-") [] 1 ∷ node_at 2 (codes "+") [] 0 ∷ []) }
+    ensures potential_raised { IsStageRefused 1 (node_at 0 (codes "-") [] 0
+        ∷ node_at 0 (codes "+") [] 2 ∷ node_at 1 (codes "-") [] 0 ∷ node_at 1 (codes "+") [] 1
+        ∷ node_at 2 (codes "-") [] 0 ∷ node_at 2 (codes "+") [] 1 ∷ []) }
+    ensures final_raised { IsStageRefused 1 (node_at 0 (codes "-") [] 0
+        ∷ node_at 0 (codes "+") [] 1 ∷ node_at 1 (codes "-") [] 0 ∷ node_at 1 (codes "+") [] 1
+        ∷ node_at 2 (codes "-") [] 1 ∷ node_at 2 (codes "+") [] 1 ∷ []) }
+    ensures start_lowered { IsStageRefused 2 (node_at 0 (codes "-") (codes ".") 0
+        ∷ node_at 1 (codes "-") (codes "u") 1 ∷ node_at 2 (codes "-") (codes ".") 0 ∷ []) }
+    ensures phase_not_due { IsStageRefused 2 (node_at 0 (codes "-") (codes ".") 1
+        ∷ node_at 1 (codes "-") (codes ".") 1 ∷ node_at 2 (codes "-") (codes ".") 0 ∷ []) }
+    ensures phase_at_a_shut_tier { IsStageRefused 2 (node_at 0 (codes "-") (codes "u") 1
+        ∷ node_at 1 (codes "-") (codes "u") 1 ∷ node_at 2 (codes "-") (codes ".") 0 ∷ []) }
+    ensures node_taken_out { IsStageRefused 0 (node_at 0 (codes "-") [] 0
+        ∷ node_at 0 (codes "+") [] 0 ∷ node_at 1 (codes "-") [] 0 ∷ node_at 1 (codes "+") [] 0
+        ∷ node_at 2 (codes "-") [] 0 ∷ []) }
+    ensures cut_taken_out { IsStageRefused 0 (node_at 0 (codes "-") [] 0
+        ∷ node_at 0 (codes "+") [] 0 ∷ node_at 1 (codes "-") [] 0
+        ∷ node_at 2 (codes "-") [] 0 ∷ node_at 2 (codes "+") [] 0 ∷ []) }
+    ensures start_taken_out { IsStageRefused 0 (node_at 0 (codes "+") [] 0
+        ∷ node_at 1 (codes "-") [] 0 ∷ node_at 1 (codes "+") [] 0
+        ∷ node_at 2 (codes "-") [] 0 ∷ node_at 2 (codes "+") [] 0 ∷ []) }
+    ensures last_kind_taken_out { IsStageRefused 3 (node_at 0 (codes "-") (codes "..") 0
+        ∷ node_at 1 (codes "-") (codes "u.") 0 ∷ []) }
+    ensures nodes_exchanged { IsStageRefused 0 (node_at 0 (codes "+") [] 0
+        ∷ node_at 0 (codes "-") [] 0 ∷ node_at 1 (codes "-") [] 0 ∷ node_at 1 (codes "+") [] 0
+        ∷ node_at 2 (codes "-") [] 0 ∷ node_at 2 (codes "+") [] 0 ∷ []) }
+{}
+
+/// With a state or a final mark taken out or added, or with an arc that is taken out, added, or has
+/// another target or further columns, the answer is not certified.
+pub fn altered_automata_are_refused()
+    ensures last_state_taken_out { AreStatesRefused (state 0 false first_arcs
+        ∷ state 1 false second_arcs ∷ []) }
+    ensures start_taken_out { AreStatesRefused (state 1 false second_arcs ∷ state 2 true [] ∷ []) }
+    ensures mark_taken_out {
+        AreStatesRefused (states_with false first_arcs false second_arcs false []) }
+    ensures mark_added {
+        AreStatesRefused (states_with false first_arcs true second_arcs true []) }
+    ensures start_marked {
+        AreStatesRefused (states_with true first_arcs false second_arcs true []) }
+    ensures column_in_two_arcs { AreStatesRefused (states_with false
+        (arc_on 1 (codes "[-") ∷ arc_on 2 (codes "[-") ∷ []) false second_arcs true []) }
+    ensures another_target { AreStatesRefused (states_with false (arc_on 2 (codes "[-") ∷ []) false
+        second_arcs true []) }
+    ensures arc_taken_out { AreStatesRefused (states_with false first_arcs false [] true []) }
+    ensures arc_added { AreStatesRefused (states_with false first_arcs false second_arcs true
+        (arc_on 2 (codes "-[") ∷ [])) }
+    ensures arc_on_all_columns { AreStatesRefused (states_with false ((1, 31 ∷ 31 ∷ []) ∷ []) false
+        second_arcs true []) }
+    ensures edge_added { AreStatesRefused (states_with false ((1, 20 ∷ 1 ∷ []) ∷ []) false
+        second_arcs true []) }
+{}

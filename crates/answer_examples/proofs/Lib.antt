@@ -13,4 +13,5 @@ mod StageTests
 mod AutomatonTests
 mod AnswerTests
 mod OneMaxDep
+mod FirstTests
 mod RightTests

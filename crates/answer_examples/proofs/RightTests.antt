@@ -1,5 +1,5 @@
 -- A certified answer is right if some candidate shows each of its kinds, and what remains from it, and
--- its automaton accepts the example alone. This is tested by what is seen of the answer.
+-- its automaton accepts nothing before the example. This is tested by what is seen of the answer.
 use Rattle.std.proofs.Common.{◌≡◌, ℕ, zero, suc, ◌+◌, ◌-◌, ◌==◌, ◌<◌, ◌≤◌, nat_le, IsTrue, Bool, true, false, not, ◌&&◌, List, [], ◌∷◌, ◌++◌, map, take, drop, length, refl, sym, ap, ◌∙◌, subst, arith, All, Contains, Decides, Less, get_or, ap₂, unwrap_or, find, is_le, append-nil, append_assoc}
 use Rattle.std.specs.List.{list_all, AllByRecursion}
 use Rattle.std.specs.List.Sorted.{IsStrictlySortedBy}
@@ -45,6 +45,7 @@ use Rattle.answer_examples.proofs.Same.{same_column, Decides-column, same_number
 use Rattle.answer_examples.proofs.StageTests.{Listing}
 use Rattle.answer_examples.proofs.Views.{listed_seen}
 use Rattle.answer_examples.proofs.AutomatonTests.{is_node, Decides-node, each_column, Decides-class}
+use Rattle.answer_examples.proofs.FirstTests.{passes_at, reads_from, first_read}
 use Rattle.answer_examples.proofs.AnswerTests.{is_candidate, Decides-candidate, listing}
 
 -- a candidate, and how many of its columns are read
@@ -101,69 +102,6 @@ like_optimal problem q T U o c e = record {
   least = λ V d. subst (λ v. IsAtMost v (take q (counts_on problem V))) (sym e) (o.least V d);
 }
 
--- the states of this number have no arcs
-abbrev pub reads_nothing : List StateSeen → ℕ → Bool
-reads_nothing states n = list_all (λ z. implied (z.node == n) (λ _. list_all (λ a. false) z.arcs)) states
-
--- they are not final, and each arc is on this column and leads to a number that passes
-abbrev pub reads_first : List StateSeen → List Sym → (ℕ → Bool) → ℕ → Bool
-reads_first states column rest n =
-    list_all (λ z. implied (z.node == n)
-    (λ _. not z.accepting && list_all (λ a. each_column a.1 (λ c. same_column c column) && rest a.0) z.arcs)) states
-
--- from the states of this number nothing is accepted but these columns
-abbrev pub reads_only : List StateSeen → List (List Sym) → ℕ → Bool
-reads_only states [] n = reads_nothing states n
-reads_only states (column ∷ T) n = reads_first states column (λ m. reads_only states T m) n
-
-passes_at : {X Y : Type 0} (f : X → Y) (test : Y → Bool) (xs : List X) → list_all test (map f xs) ≡ true
-    → (x : X) → Contains xs x → test (f x) ≡ true
-passes_at f test xs h = (each_seen f test (λ x. test (f x) ≡ true) (λ x. Decides-true (test (f x))) xs).0 h
-
-implied_at : (b : Bool) (test : Unit {0} → Bool) → implied b test ≡ true → b ≡ true → test tt ≡ true
-implied_at true test h e = h
-implied_at false test h e = absurd (false≢true e)
-
-module _ (states : List StateLine) where
-  abbrev seen : List StateSeen
-  seen = map state_seen states
-
-  -- what is tested of the states of a number holds of a state of this number
-  at_state : (test : StateSeen → Bool) (n : ℕ) → list_all (λ z. implied (z.node == n) (λ _. test z)) seen ≡ true
-      → (state : StateLine) → Contains states state → state.node ≡ n → test (state_seen state) ≡ true
-  at_state test n h state c e =
-      implied_at (state.node == n) (λ _. test (state_seen state))
-      (passes_at state_seen (λ z. implied (z.node == n) (λ _. test z)) states h state c)
-      ((Decides-eqb state.node n).1 e)
-
-  abbrev only_on : List Sym → (ℕ → Bool) → ℕ × List ℕ → Bool
-  only_on column rest a = each_column a.1 (λ c. same_column c column) && rest a.0
-
-  abbrev goes_only : List Sym → (ℕ → Bool) → StateSeen → Bool
-  goes_only column rest z = not z.accepting && list_all (only_on column rest) z.arcs
-
-  only_read : (T U : List (List Sym)) (n l : ℕ) → reads_only seen T n ≡ true → Leads states n U l
-      → IsFinalState states l → U ≡ T
-  only_read [] [] n l h leads final = refl
-  only_read [] (d ∷ U) n l h leads final =
-      let arc = leads.1.0 in
-      let none = at_state (λ z. list_all (λ a. false) z.arcs) n h arc.state arc.listed arc.from in
-      absurd (false≢true (passes_at arc_seen (λ a. false) arc.state.arcs.items none arc.arc arc.leaves))
-  only_read (column ∷ T) [] n l h leads final =
-      let here = at_state (goes_only column (λ m. reads_only seen T m)) n h final.state final.listed
-      (final.numbered ∙ sym leads) in
-      absurd (false≢true (sym (ap not final.final) ∙ (and_parts _ _ here).0))
-  only_read (column ∷ T) (d ∷ U) n l h leads final =
-      let arc = leads.1.0 in
-      let here = at_state (goes_only column (λ m. reads_only seen T m)) n h arc.state arc.listed arc.from in
-      let one = passes_at arc_seen (only_on column (λ m. reads_only seen T m)) arc.state.arcs.items
-      (and_parts _ _ here).1 arc.arc arc.leaves in
-      let same : d ≡ column = (Decides-class (sets_of arc.arc.class) (λ c. same_column c column) (λ c. c ≡ column)
-      (λ c. Decides-column c column)).0 (and_parts _ _ one).0 d arc.holds in
-      let rest : U ≡ T = only_read T U arc.arc.target l (and_parts _ _ one).1
-      (subst (λ i. Leads states i U l) (sym arc.to) leads.1.1) final in
-      ap₂ (λ c V. c ∷ V) same rest
-
 -- arcs in order, each of which holds some column
 abbrev pub arc_order : ℕ × List ℕ → ℕ × List ℕ → Ordering
 arc_order a b = ordering_then (nat_cmp a.0 b.0) (slice_cmp nat_cmp a.1 b.1)
@@ -194,8 +132,7 @@ abbrev pub is_right : Problem → List ℕ → List (List Sym) → Listing → L
 is_right problem counts example at states of_stages of_states =
     below (last_stage problem + 1) (λ r. all_shown (shows_node problem counts r) (at r) (of_stages r))
     && (all_shown (shows_state problem counts at) states of_states
-    && (reads_only states example 0
-    && (is_le (timeline_cmp example example) && list_all arcs_pass states)))
+    && (reads_from states example 0 && list_all arcs_pass states))
 
 module _ (problem : Problem) (answer : Answer) (split : AreSplit problem.tiers)
     (over : AllByRecursion (IsOverTiers problem.tiers.width) problem.constraints)
@@ -441,7 +378,6 @@ module _ (problem : Problem) (answer : Answer) (split : AreSplit problem.tiers)
       let first = and_parts _ _ h in
       let second = and_parts _ _ first.1 in
       let third = and_parts _ _ second.1 in
-      let fourth = and_parts _ _ third.1 in
       let shown_stages = (Decides-below
       (λ r. all_shown (shows_node problem counts r) (nodes_seen problem stages r) (of_stages r))
       (λ r. all_shown (shows_node problem counts r) (nodes_seen problem stages r) (of_stages r) ≡ true)
@@ -454,13 +390,11 @@ module _ (problem : Problem) (answer : Answer) (split : AreSplit problem.tiers)
           member = sound.example;
           least = λ U o.
               let accepted = (sound.accepts U).1 o in
-              let same : U ≡ answer.example = only_read states answer.example U 0 accepted.last third.0
-              accepted.leads accepted.final in
-              subst (λ V. IsTrue (is_le (timeline_cmp answer.example V))) (sym same) fourth.0;
+              first_read states answer.example U 0 accepted.last third.0 accepted.leads accepted.final;
         };
         stage_count = certified.stage_count;
         each_stage = λ r l. stage_right r l (of_stages r) (shown_stages r (omega arith));
-        automaton = automaton_right of_states second.0 fourth.1;
+        automaton = automaton_right of_states second.0 third.1;
       }
 
 -- An answer that passes by what is seen of it is right.

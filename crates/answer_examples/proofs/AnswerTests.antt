@@ -22,7 +22,7 @@ use Rattle.answer_examples.proofs.StageTests.{Listing, stage_passes, Decides-sta
 use Rattle.answer_examples.proofs.AutomatonTests.{automaton_passes, Decides-automaton, states_ascend, Decides-in_order}
 
 -- P of each element by recursion, from a test
-all_recursive : {X : Type 0} (p : X → Bool) (P : X → Type 0) → ((x : X) → Decides (p x) (P x)) → (xs : List X)
+pub all_recursive : {X : Type 0} (p : X → Bool) (P : X → Type 0) → ((x : X) → Decides (p x) (P x)) → (xs : List X)
     → Decides (list_all p xs) (AllByRecursion P xs)
 all_recursive p P each xs = Decides-by (all_decided p P each xs)
       (recursion_from_All P xs)

@@ -31,7 +31,7 @@ use Rattle.answer_text.specs.declared.stage.Node.{Node}
 use Rattle.answer_text.specs.declared.stage.Stage.{Stage}
 use Rattle.answer_text.specs.Acceptance.{HasArc, IsFinalState, Leads, Accepts}
 use Rattle.answer_text.specs.Certified.{Lists, IsCertifiedStage, IsCertified, AreStatesInOrder}
-use Rattle.answer_text.specs.Right.{IsNodeOf, IsRight, IsRightStage, IsRightAutomaton, AreRightArcs, arc_cmp, kinds_at, nodes_at, numbers_of}
+use Rattle.answer_text.specs.Right.{IsNodeOf, IsRight, IsRightStage, IsRightAutomaton, AreRightArcs, arc_cmp, nodes_at, numbers_of}
 use Rattle.answer_text.specs.Sound.{IsSound}
 use Rattle.check_laws.proofs.Leading.{leads_parts}
 use Rattle.check_laws.proofs.Listing.{kind_listed, first_numbered}
@@ -397,19 +397,10 @@ module _ (problem : Problem) (answer : Answer) (split : AreSplit problem.tiers)
         automaton = automaton_right of_states second.0 third.1;
       }
 
--- An answer that passes by what is seen of it is right.
-pub right_seen : (problem : Problem) (answer : Answer) (counts : List ℕ) (example : List (List Sym))
-    (stages : List (List (PrefixKind × ℕ))) (states : List StateSeen) → AreSplit problem.tiers
-    → AllByRecursion (IsOverTiers problem.tiers.width) problem.constraints
-    → IsSeenAs problem answer counts example stages states → IsCertified problem answer
-    → AreStatesInOrder problem.tiers.width answer.automaton.states.items
-    → (of_stages : ℕ → List Shown) (of_states : List Shown)
-    → is_right problem counts example (listing stages) states of_stages of_states ≡ true → IsRight problem answer
-right_seen problem answer counts example stages states split over s certified sorted of_stages of_states e =
-    right_from problem answer split over certified sorted of_stages of_states (told ∙ e)
-  where
-    told : is_right problem answer.counts.items answer.example (nodes_seen problem answer.stages.items)
-        (map state_seen answer.automaton.states.items) of_stages of_states
-        ≡ is_right problem counts example (listing stages) states of_stages of_states
-    told = λ i. is_right problem (s.counts_are i) (s.example_is i) (λ r. s.nodes_are r i) (s.states_are i)
-        of_stages of_states
+  -- An answer is not right if a candidate with its counts comes before its example.
+  pub not_first : (U : List (List Sym)) → IsCandidate problem U → counts_on problem U ≡ counts
+      → is_le (timeline_cmp answer.example U) ≡ false → IsRight problem answer → ⊥
+  not_first U c e before right =
+      let optimal : IsOptimal problem U = like_optimal problem last answer.example U (told last whole).shares c
+      (ap (take last) (e ∙ certified.counts)) in
+      false≢true (sym before ∙ right.example.least U optimal)

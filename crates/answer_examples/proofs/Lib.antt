@@ -10,3 +10,4 @@ mod WholeAnswers
 mod EmptyForm
 mod OneRemains
 mod OneMaxDep
+mod FaithfulAnswers

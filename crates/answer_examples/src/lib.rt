@@ -3,6 +3,7 @@
 #![tactic(auto)]
 
 mod altered;
+mod faithful;
 mod one_dep;
 mod one_max_dep;
 mod remaining;
@@ -11,6 +12,7 @@ mod unranked;
 pub use altered::{
     altered_automata_are_refused, altered_heads_are_refused, altered_stages_are_refused,
 };
+pub use faithful::{answers_under_max_and_dep, answers_under_max_dep_and_one};
 pub use one_dep::answers_under_one_dependence;
 pub use one_max_dep::answers_under_three;
 pub use remaining::one_violation_remains;

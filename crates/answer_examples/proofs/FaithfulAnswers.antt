@@ -1,0 +1,106 @@
+-- The answers to `[ ]` under `A -> a` and `a -> A`, and with `a # a` below them, are right, by computing.
+use Rattle.std.proofs.Common.{◌≡◌, ℕ, true, List, [], ◌∷◌, refl, codes, slice_index_or, String}
+use Rattle.std.specs.declared.alloc.Global.{Global}
+use Rattle.violation.specs.Candidates.{counts_on}
+use Rattle.violation.specs.Counts.{viol, so_far}
+use Rattle.violation.specs.Problems.{Problem}
+use Rattle.answer_text.specs.declared.answer.Answer.{Answer}
+use Rattle.answer_text.specs.Certified.{IsCertified}
+use Rattle.answer_text.specs.Right.{IsRight}
+use Rattle.answer_text.specs.Sound.{IsSound}
+use Rattle.answer_examples.specs.Seen.{IsSeenAs}
+use Rattle.answer_examples.specs.Faithful.{under_max_dep, under_max_dep_one, together, around, stages_of_two, stages_of_three, states_of_many, states_of_nine}
+use Rattle.answer_examples.proofs.EmptyForm.{split, show}
+use Rattle.answer_examples.proofs.AnswerTests.{is_certified, listing}
+use Rattle.answer_examples.proofs.RightTests.{Shown, is_right}
+use Rattle.answer_examples.proofs.WholeAnswers.{certified_by, sound_by, right_by, not_right_by}
+
+-- optimal candidates that show the kinds before A and inside it: no a yet, one before A, none with A,
+-- one that is over, and one that is open
+abbrev before_shown : List Shown → List Shown
+before_shown rest = show (codes "[[ ]]") 0 ∷ show (codes "-[ [+ ]+ -]") 1 ∷ rest
+
+abbrev inside_shown : List Shown → List Shown
+inside_shown rest =
+    show (codes "[- +[ ]]") 1 ∷ show (codes "[[ +] ]-") 2 ∷ show (codes "[[ ]]") 1 ∷ show (codes "[[ ]]") 2 ∷ rest
+
+abbrev open_shown : List Shown
+open_shown = show (codes "[[ ]+ -]") 2 ∷ []
+
+abbrev seven_shown : List Shown
+seven_shown = before_shown (inside_shown open_shown)
+
+-- one more candidate shows an a that starts behind A
+abbrev eight_shown : List Shown
+eight_shown = before_shown (inside_shown (show (codes "[[ ]] -[ -]") 3 ∷ open_shown))
+
+abbrev six_shown : List Shown
+six_shown = before_shown (show (codes "[- +[ ]]") 1 ∷ show (codes "[[ ]]") 1 ∷ show (codes "[[ ]]") 2 ∷ open_shown)
+
+abbrev shown_stages : List (List Shown)
+shown_stages = six_shown ∷ seven_shown ∷ eight_shown ∷ seven_shown ∷ []
+
+abbrev shown_at : ℕ → List Shown
+shown_at r = slice_index_or shown_stages r []
+
+module _ (max dep : String Global) where
+  abbrev two : Problem
+  two = under_max_dep max dep
+
+  two_passes : is_certified two (0 ∷ 0 ∷ []) together 3 (listing stages_of_two) states_of_many ≡ true
+  unfolding viol
+  two_passes = refl
+
+  two_right : is_right two (0 ∷ 0 ∷ []) together (listing stages_of_two) states_of_many shown_at seven_shown ≡ true
+  unfolding viol so_far
+  two_right = refl
+
+  module _ (answer : Answer) (s : IsSeenAs two answer (0 ∷ 0 ∷ []) together stages_of_two states_of_many) where
+    pub certified : IsCertified two answer
+    certified = certified_by s two_passes
+
+    pub sound : IsSound two answer
+    sound = sound_by s split refl refl certified
+
+    pub right : IsRight two answer
+    right = right_by s split refl refl certified shown_at seven_shown two_right
+
+module _ (max dep one : String Global) where
+  abbrev three : Problem
+  three = under_max_dep_one max dep one
+
+  passes : is_certified three (0 ∷ 0 ∷ 1 ∷ []) together 4 (listing stages_of_three) states_of_nine ≡ true
+  unfolding viol
+  passes = refl
+
+  around_passes : is_certified three (0 ∷ 0 ∷ 1 ∷ []) around 4 (listing stages_of_three) states_of_nine ≡ true
+  unfolding viol
+  around_passes = refl
+
+  right_passes : is_right three (0 ∷ 0 ∷ 1 ∷ []) together (listing stages_of_three) states_of_nine shown_at seven_shown
+      ≡ true
+  unfolding viol so_far
+  right_passes = refl
+
+  counted : counts_on three together ≡ 0 ∷ 0 ∷ 1 ∷ []
+  unfolding viol
+  counted = refl
+
+  module _ (answer : Answer)
+      (s : IsSeenAs three answer (0 ∷ 0 ∷ 1 ∷ []) together stages_of_three states_of_nine) where
+    pub certified_nine : IsCertified three answer
+    certified_nine = certified_by s passes
+
+    pub sound_nine : IsSound three answer
+    sound_nine = sound_by s split refl refl certified_nine
+
+    pub right_nine : IsRight three answer
+    right_nine = right_by s split refl refl certified_nine shown_at seven_shown right_passes
+
+  module _ (answer : Answer)
+      (s : IsSeenAs three answer (0 ∷ 0 ∷ 1 ∷ []) around stages_of_three states_of_nine) where
+    pub sound_around : IsSound three answer
+    sound_around = sound_by s split refl refl (certified_by s around_passes)
+
+    pub not_right_around : IsRight three answer → ⊥
+    not_right_around = not_right_by s split refl refl (certified_by s around_passes) together refl counted refl

@@ -1,5 +1,5 @@
 -- A test of a whole answer, by what is seen of it, decides whether the answer is certified.
-use Rattle.std.proofs.Common.{◌≡◌, ℕ, suc, ◌+◌, ◌==◌, ◌<◌, ◌≤◌, nat_le, IsTrue, Bool, true, false, ◌&&◌, List, map, length, refl, sym, ap, ◌∙◌, subst, arith, Decides, slice_index_or, []}
+use Rattle.std.proofs.Common.{◌≡◌, ℕ, ◌+◌, ◌==◌, ◌≤◌, nat_le, IsTrue, Bool, true, false, ◌&&◌, List, map, length, sym, ap, ◌∙◌, arith, Decides, slice_index_or, []}
 use Rattle.std.specs.List.{list_all, AllByRecursion}
 use Rattle.std.proofs.lemmas.Bool.{false≢true, and_parts}
 use Rattle.std.proofs.lemmas.Bool.Decides.{Decides-and, Decides-at, Decides-eqb}
@@ -25,8 +25,8 @@ use Rattle.answer_examples.proofs.AutomatonTests.{automaton_passes, Decides-auto
 pub all_recursive : {X : Type 0} (p : X → Bool) (P : X → Type 0) → ((x : X) → Decides (p x) (P x)) → (xs : List X)
     → Decides (list_all p xs) (AllByRecursion P xs)
 all_recursive p P each xs = Decides-by (all_decided p P each xs)
-      (recursion_from_All P xs)
-      (All-from_recursion P xs)
+    (recursion_from_All P xs)
+    (All-from_recursion P xs)
 
 abbrev pub is_well_formed : ℕ → List (List Sym) → Bool
 is_well_formed width T =
@@ -40,8 +40,8 @@ Decides-well_formed width T =
     (λ column. Decides-eqb (length column) width) T)
     (Decides-below (λ t. runs false (word T t)) (λ t. IsWellFormedWord (word T t))
     (λ t. (well_formed_from_runs (word T t), runs_from_well_formed (word T t))) width))
-      (λ h. record { one_width = h.0; each_tier = h.1 })
-      (λ w. (w.one_width, w.each_tier))
+    (λ h. record { one_width = h.0; each_tier = h.1 })
+    (λ w. (w.one_width, w.each_tier))
 
 pub Decides-reduced : (T : List (List Sym)) → Decides (list_all has_edge T) (IsReduced T)
 Decides-reduced T = all_recursive has_edge (λ column. IsTrue (has_edge column)) (λ column. Decides-true (has_edge column)) T
@@ -53,8 +53,8 @@ pub Decides-form : (tiers : Tiers) (u : List (List Sym)) → Decides (is_form ti
 Decides-form tiers u =
     Decides-by (Decides-and (is_well_formed (length tiers.input) u) (list_all has_edge u)
     (Decides-well_formed (length tiers.input) u) (Decides-reduced u))
-      (λ h. record { well_formed = h.0; reduced = h.1 })
-      (λ f. (f.well_formed, f.reduced))
+    (λ h. record { well_formed = h.0; reduced = h.1 })
+    (λ f. (f.well_formed, f.reduced))
 
 abbrev pub is_candidate : Problem → List (List Sym) → Bool
 is_candidate problem T =
@@ -69,8 +69,8 @@ Decides-candidate problem T =
     (Decides-well_formed problem.tiers.width T)
     (Decides-and (list_all has_edge T) (same_timeline input problem.form)
     (Decides-reduced T) (Decides-timeline input problem.form)))
-      (λ h. record { well_formed = h.0; reduced = h.1.0; input = h.1.1 })
-      (λ c. (c.well_formed, (c.reduced, c.input)))
+    (λ h. record { well_formed = h.0; reduced = h.1.0; input = h.1.1 })
+    (λ c. (c.well_formed, (c.reduced, c.input)))
 
 -- the head of an answer: its form, the number of its stages, its example and its counts
 abbrev pub head_passes : Problem → List ℕ → List (List Sym) → ℕ → Bool

@@ -1,5 +1,5 @@
 -- Tests of the automaton of an answer, by what is seen of it, and what each decides.
-use Rattle.std.proofs.Common.{◌≡◌, ◌↔◌, ℕ, zero, suc, ◌+◌, ◌==◌, ◌<◌, IsTrue, Bool, true, false, not, ◌&&◌, List, [], ◌∷◌, map, length, refl, sym, ap, ◌∙◌, subst, arith, All, AllPairs, Contains, Decides, Option, Some, None, slice_get, unwrap_or, is_some}
+use Rattle.std.proofs.Common.{◌≡◌, ◌↔◌, ℕ, zero, suc, ◌+◌, ◌==◌, ◌<◌, IsTrue, Bool, true, false, not, ◌&&◌, List, [], ◌∷◌, map, length, refl, sym, ap, ◌∙◌, subst, arith, All, AllPairs, Contains, Decides, unwrap_or, is_some}
 use Rattle.std.specs.Bool.{beq}
 use Rattle.std.specs.List.{list_all, list_any}
 use Rattle.std.specs.List.Sorted.{IsStrictlySortedBy}
@@ -84,12 +84,12 @@ module _ (problem : Problem) where
     Decides-at_node [] n = (λ e k h. absurd (false≢true (ap is_some h.numbered)), λ h. refl)
     Decides-at_node (node ∷ nodes) zero =
         Decides-by (each (see node).0)
-      (λ p k h. subst P (same_node node nodes k h) p)
-      (λ h. h (see node).0 (record { node = node; numbered = refl; tells = refl }))
+        (λ p k h. subst P (same_node node nodes k h) p)
+        (λ h. h (see node).0 (record { node = node; numbered = refl; tells = refl }))
     Decides-at_node (node ∷ nodes) (suc n) =
         Decides-by (Decides-at_node nodes n)
-      (λ h k m. h k (next_node node nodes n k m))
-      (λ h k m. h k (later_node node nodes n k m))
+        (λ h k m. h k (next_node node nodes n k m))
+        (λ h k m. h k (later_node node nodes n k m))
 
 -- a state has this number
 abbrev pub has_number : List StateSeen → ℕ → Bool
@@ -99,8 +99,8 @@ pub Decides-number : (states : List StateLine) (n : ℕ)
     → Decides (has_number (map state_seen states) n) (Contains (numbers_of states) n)
 Decides-number states n =
     Decides-by (some_seen state_seen (λ z. z.node == n) (λ s. s.node ≡ n) (λ s. Decides-eqb s.node n) states)
-      (λ w. subst (Contains (numbers_of states)) w.1.1 (contains_map (λ (s : StateLine). s.node) states w.0 w.1.0))
-      (λ c. contains_of_map (λ (s : StateLine). s.node) states n c)
+    (λ w. subst (Contains (numbers_of states)) w.1.1 (contains_map (λ (s : StateLine). s.node) states w.0 w.1.0))
+    (λ c. contains_of_map (λ (s : StateLine). s.node) states n c)
 
 -- a state has an arc to a target on a column
 abbrev pub leads_on : ℕ → List Sym → ℕ × List ℕ → Bool
@@ -118,7 +118,7 @@ Decides-arc states n m column =
     (some_seen arc_seen (leads_on m column) (λ a. (a.target ≡ m) × IsTrue (has a.class column))
     (λ a. Decides-and (a.target == m) (has a.class column) (Decides-eqb a.target m)
     (Decides-true (has a.class column))) s.arcs.items)) states)
-      (λ w. record {
+    (λ w. record {
       state = w.0;
       arc = w.1.1.1.0;
       listed = w.1.0;
@@ -127,7 +127,8 @@ Decides-arc states n m column =
       to = w.1.1.1.1.1.0;
       holds = w.1.1.1.1.1.1;
     })
-      (λ h. (h.state, (h.listed, (h.from, (h.arc, (h.leaves, (h.to, h.holds)))))))
+    (λ h. (h.state, (h.listed, (h.from, (h.arc, (h.leaves, (h.to, h.holds)))))))
+
 -- the columns of a class
 abbrev pub each_column : List ℕ → (List Sym → Bool) → Bool
 each_column sets test = every_column (length sets) (λ column. implied (sets_have sets column) (λ _. test column))
@@ -147,8 +148,8 @@ Decides-class sets test P each =
     (λ column. IsTrue (sets_have sets column) → P column)
     (λ column. Decides-implied (sets_have sets column) (λ _. test column) (Decides-true (sets_have sets column))
     (each column)))
-      (λ h column s. h column (as_long sets column s) s)
-      (λ h column l s. h column s)
+    (λ h column s. h column (as_long sets column s) s)
+    (λ h column l s. h column s)
 
 -- no column is in both
 abbrev pub are_disjoint : List ℕ → List ℕ → Bool
@@ -382,5 +383,5 @@ Decides-in_order width states =
     (λ state. All (λ arc. length (sets_of arc.class) ≡ width) state.arcs.items)
     (λ state. all_seen arc_seen (λ a. length a.1 == width) (λ arc. length (sets_of arc.class) ≡ width)
     (λ arc. Decides-eqb (length (sets_of arc.class)) width) state.arcs.items) states))
-      (λ h. record { ascending = subst (IsStrictlySortedBy nat_cmp) (sym (node_numbers states)) h.0; one_width = h.1 })
-      (λ o. (subst (IsStrictlySortedBy nat_cmp) (node_numbers states) o.ascending, o.one_width))
+    (λ h. record { ascending = subst (IsStrictlySortedBy nat_cmp) (sym (node_numbers states)) h.0; one_width = h.1 })
+    (λ o. (subst (IsStrictlySortedBy nat_cmp) (node_numbers states) o.ascending, o.one_width))

@@ -1,6 +1,6 @@
 -- A certified answer is right if some candidate shows each of its kinds, and what remains from it, and
 -- its automaton accepts nothing before the example. This is tested by what is seen of the answer.
-use Rattle.std.proofs.Common.{◌≡◌, ℕ, zero, suc, ◌+◌, ◌-◌, ◌==◌, ◌<◌, ◌≤◌, nat_le, IsTrue, Bool, true, false, not, ◌&&◌, List, [], ◌∷◌, ◌++◌, map, take, drop, length, refl, sym, ap, ◌∙◌, subst, arith, All, Contains, Decides, Less, get_or, ap₂, unwrap_or, find, is_le, append-nil, append_assoc}
+use Rattle.std.proofs.Common.{◌≡◌, ℕ, zero, suc, ◌+◌, ◌-◌, ◌==◌, ◌<◌, ◌≤◌, nat_le, IsTrue, Bool, true, false, ◌&&◌, List, [], ◌∷◌, ◌++◌, map, take, drop, length, refl, sym, ap, ◌∙◌, subst, arith, All, Contains, Less, get_or, unwrap_or, find, is_le, append-nil, append_assoc}
 use Rattle.std.specs.List.{list_all, AllByRecursion}
 use Rattle.std.specs.List.Sorted.{IsStrictlySortedBy}
 use Rattle.std.specs.Ordering.{nat_cmp, ordering_then}
@@ -14,24 +14,23 @@ use Rattle.tier_core.specs.declared.sym.Sym.{Sym}
 use Rattle.tier_core.specs.declared.sym.Sym.TheVariants.{Outside}
 use Rattle.tier_core.specs.Classes.{has, sets_of, sets_have}
 use Rattle.tier_core.specs.Kinds.{PrefixKind}
-use Rattle.tier_core.specs.Orders.{IsFirst, timeline_cmp}
+use Rattle.tier_core.specs.Orders.{timeline_cmp}
 use Rattle.tier_core.specs.Sets.{is_in}
 use Rattle.tier_core.specs.Symbols.{symbols}
 use Rattle.violation.specs.Candidates.{IsCandidate, IsOptimal, IsOptimalFor, IsAtMost, counts_on, count_at, count_so_far_at}
 use Rattle.violation.specs.Conditions.{AreSplit, IsOverTiers}
-use Rattle.violation.specs.Moves.{moved}
 use Rattle.violation.specs.Prefixes.{kind_of, kind_of_bits}
 use Rattle.violation.specs.Problems.{Problem, last_stage}
-use Rattle.violation.specs.Stages.{Passes, IsPassed, IsKindOfStage, AreKindsOfStage, IsLeastRest, IsRemaining}
+use Rattle.violation.specs.Stages.{Passes, IsPassed, IsRemaining}
 use Rattle.violation.proofs.WalkSums.{violations_on}
 use Rattle.answer_text.specs.declared.answer.Answer.{Answer}
 use Rattle.answer_text.specs.declared.automaton.ArcLine.{ArcLine}
 use Rattle.answer_text.specs.declared.automaton.StateLine.{StateLine}
 use Rattle.answer_text.specs.declared.stage.Node.{Node}
 use Rattle.answer_text.specs.declared.stage.Stage.{Stage}
-use Rattle.answer_text.specs.Acceptance.{HasArc, IsFinalState, Leads, Accepts}
-use Rattle.answer_text.specs.Certified.{Lists, IsCertifiedStage, IsCertified, AreStatesInOrder}
-use Rattle.answer_text.specs.Right.{IsNodeOf, IsRight, IsRightStage, IsRightAutomaton, AreRightArcs, arc_cmp, nodes_at, numbers_of}
+use Rattle.answer_text.specs.Acceptance.{HasArc, Leads}
+use Rattle.answer_text.specs.Certified.{Lists, IsCertified, AreStatesInOrder}
+use Rattle.answer_text.specs.Right.{IsNodeOf, IsRight, IsRightStage, IsRightAutomaton, AreRightArcs, nodes_at, numbers_of}
 use Rattle.answer_text.specs.Sound.{IsSound}
 use Rattle.check_laws.proofs.Leading.{leads_parts}
 use Rattle.check_laws.proofs.Listing.{kind_listed, first_numbered}
@@ -39,14 +38,14 @@ use Rattle.check_laws.proofs.Members.{all_from_members, contains_map, contains_o
 use Rattle.check_laws.proofs.Optima.{AreTold, all_told}
 use Rattle.check_laws.proofs.Potentials.{FallsAlong, falls_parts, stage_at, goes_to, as_longer, one_more, rest_cost, bound}
 use Rattle.check_laws.proofs.Soundness.{sound_from_certified}
-use Rattle.answer_examples.specs.Seen.{IsSeenAs, StateSeen, nodes_seen, arc_seen, state_seen}
-use Rattle.answer_examples.proofs.Tests.{implied, Decides-leb, Decides-true, each_seen, ascends, Decides-ascends, below, Decides-below}
-use Rattle.answer_examples.proofs.Same.{same_column, Decides-column, same_numbers, Decides-numbers, same_kind, Decides-kind}
+use Rattle.answer_examples.specs.Seen.{StateSeen, nodes_seen, arc_seen, state_seen}
+use Rattle.answer_examples.proofs.Tests.{Decides-leb, Decides-true, ascends, Decides-ascends, below, Decides-below}
+use Rattle.answer_examples.proofs.Same.{same_numbers, Decides-numbers, same_kind, Decides-kind}
 use Rattle.answer_examples.proofs.StageTests.{Listing}
 use Rattle.answer_examples.proofs.Views.{listed_seen}
-use Rattle.answer_examples.proofs.AutomatonTests.{is_node, Decides-node, each_column, Decides-class}
+use Rattle.answer_examples.proofs.AutomatonTests.{is_node, Decides-node}
 use Rattle.answer_examples.proofs.FirstTests.{passes_at, reads_from, first_read}
-use Rattle.answer_examples.proofs.AnswerTests.{is_candidate, Decides-candidate, listing}
+use Rattle.answer_examples.proofs.AnswerTests.{is_candidate, Decides-candidate}
 
 -- a candidate, and how many of its columns are read
 pub record Shown : Type 0 where
@@ -225,7 +224,7 @@ module _ (problem : Problem) (answer : Answer) (split : AreSplit problem.tiers)
         (
           by,
           (Decides-eqb (count_at problem (suc i) w.candidate)
-          (count_so_far_at problem (suc i) w.candidate w.columns + p)).0 e,
+              (count_so_far_at problem (suc i) w.candidate w.columns + p)).0 e,
         ),
       ),
     );

@@ -3,7 +3,6 @@ use Rattle.std.proofs.Common.{◌≡◌, ℕ, ◌==◌, Bool, true, false, ◌&&
 use Rattle.std.specs.Bool.{beq}
 use Rattle.std.specs.List.{list_any}
 use Rattle.std.specs.Cmp.Lexicographic.{pointwise, pointwise_decides}
-use Rattle.std.proofs.lemmas.Bool.{false≢true}
 use Rattle.std.proofs.lemmas.Bool.Decides.{Decides-and, Decides-eqb}
 use Rattle.tier_core.specs.declared.sym.Sym.{Sym}
 use Rattle.tier_core.specs.Symbols.{rank}
@@ -22,8 +21,8 @@ same_symbol s t = rank s == rank t
 
 pub Decides-symbol : (s t : Sym) → Decides (same_symbol s t) (s ≡ t)
 Decides-symbol s t = Decides-by (Decides-eqb (rank s) (rank t))
-      (rank_same s t)
-      (ap rank)
+    (rank_same s t)
+    (ap rank)
 
 abbrev pub same_column : List Sym → List Sym → Bool
 same_column c d = pointwise same_symbol c d
@@ -59,8 +58,8 @@ one_phase a b = phase_rank a == phase_rank b
 
 Decides-phase : (a b : Phase) → Decides (one_phase a b) (a ≡ b)
 Decides-phase a b = Decides-by (Decides-eqb (phase_rank a) (phase_rank b))
-      (same_phase a b)
-      (ap phase_rank)
+    (same_phase a b)
+    (ap phase_rank)
 
 abbrev pub same_kind : PrefixKind → PrefixKind → Bool
 same_kind k l = (k.place == l.place) && (pointwise beq k.opened l.opened && pointwise one_phase k.phases l.phases)
@@ -79,8 +78,8 @@ Decides-kind k l =
     (Decides-eqb k.place l.place)
     (Decides-and (pointwise beq k.opened l.opened) (pointwise one_phase k.phases l.phases)
     (pointwise_decides Decides-flag k.opened l.opened) (pointwise_decides Decides-phase k.phases l.phases)))
-      (parts_same k l)
-      (λ e. (
+    (parts_same k l)
+    (λ e. (
       ap (λ (m : PrefixKind). m.place) e,
       (ap (λ (m : PrefixKind). m.opened) e, ap (λ (m : PrefixKind). m.phases) e),
     ))
@@ -92,5 +91,5 @@ has_kind kinds k = list_any (λ l. same_kind l k) kinds
 pub Decides-has_kind : (kinds : List PrefixKind) (k : PrefixKind) → Decides (has_kind kinds k) (Contains kinds k)
 Decides-has_kind kinds k =
     Decides-by (some_decided (λ l. same_kind l k) (λ l. l ≡ k) (λ l. Decides-kind l k) kinds)
-      (λ w. subst (Contains kinds) w.1.1 w.1.0)
-      (λ c. (k, (c, refl)))
+    (λ w. subst (Contains kinds) w.1.1 w.1.0)
+    (λ c. (k, (c, refl)))

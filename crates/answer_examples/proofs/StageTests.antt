@@ -1,5 +1,5 @@
 -- Tests of one stage of an answer, by what is seen of its nodes, and what each decides.
-use Rattle.std.proofs.Common.{◌≡◌, ℕ, zero, suc, ◌+◌, ◌-◌, ◌==◌, ◌<◌, ◌≤◌, nat_lt, nat_le, IsTrue, Bool, true, false, not, ◌&&◌, ◌||◌, List, [], ◌∷◌, map, length, refl, sym, ap, ◌∙◌, subst, arith, All, Contains, Decides, Option, Some, None, slice_get, unwrap_or, is_some}
+use Rattle.std.proofs.Common.{◌≡◌, ℕ, zero, suc, ◌+◌, ◌-◌, ◌==◌, ◌<◌, ◌≤◌, nat_lt, nat_le, IsTrue, Bool, true, false, not, ◌&&◌, ◌||◌, List, [], ◌∷◌, map, length, refl, sym, ap, subst, arith, All, Contains, Decides, Some, slice_get, unwrap_or, is_some}
 use Rattle.std.specs.Bool.{beq}
 use Rattle.std.specs.List.{list_all, list_any}
 use Rattle.std.specs.List.Sorted.{IsStrictlySortedBy}
@@ -57,8 +57,8 @@ Decides-fits problem k column =
     (Decides-or (not (has_edge input)) (right_place && right_input) (Decides-false (has_edge input))
     (Decides-and right_place right_input (Decides-ltb k.place (last_place problem))
     (Decides-column input (column_at problem.form k.place)))))))
-      (λ h. record { width = h.0; symbols = h.1.0; edge = h.1.1.0; input = h.1.1.1 })
-      (λ f. (f.width, (f.symbols, (f.edge, f.input))))
+    (λ h. record { width = h.0; symbols = h.1.0; edge = h.1.1.0; input = h.1.1.1 })
+    (λ f. (f.width, (f.symbols, (f.edge, f.input))))
 
 -- a kind may be that of a prefix
 abbrev pub closed_or : (Constraint → Bool) → List Constraint → List Phase → Bool
@@ -88,8 +88,8 @@ Decides-possible problem r k =
     (closed_or (is_left_open problem k) (stretches problem r) k.phases)
     (Decides-leb k.place (last_place problem))
     (Decides-closed (is_left_open problem k) (stretches problem r) k.phases))
-      (λ h. record { place = h.0; phases = h.1 })
-      (λ p. (p.place, p.phases))
+    (λ h. record { place = h.0; phases = h.1 })
+    (λ p. (p.place, p.phases))
 
 -- a list begins with a kind
 abbrev pub begins_with : List PrefixKind → PrefixKind → Bool
@@ -101,8 +101,8 @@ Decides-first : (kinds : List PrefixKind) (k : PrefixKind)
 Decides-first [] k = (λ e. absurd (false≢true e), λ e. absurd (false≢true (ap is_some e)))
 Decides-first (l ∷ kinds) k =
     Decides-by (Decides-kind l k)
-      (λ e. ap (λ (m : PrefixKind). Some m) e)
-      (λ e. ap (λ o. unwrap_or o l) e)
+    (λ e. ap (λ (m : PrefixKind). Some m) e)
+    (λ e. ap (λ o. unwrap_or o l) e)
 
 -- from some k to some l that are listed, the potential falls by just the cost
 abbrev falls_from : List (PrefixKind × ℕ) → PrefixKind → ℕ → ℕ → Bool
@@ -171,8 +171,8 @@ module _ (problem : Problem) (stages : List Stage) where
         → Decides (list_all test (at r)) ((k : PrefixKind) (p : ℕ) → Lists problem stages r k p → Q k p)
     Decides-each test Q each =
         Decides-by (each_decided test (λ x. Q x.0 x.1) each (at r))
-      (λ h k p l. h (k, p) (in_list k p l))
-      (λ h x c. h x.0 x.1 (listing x x.0 c refl))
+        (λ h k p l. h (k, p) (in_list k p l))
+        (λ h x c. h x.0 x.1 (listing x x.0 c refl))
 
     Decides-goes : (l : PrefixKind) (p cost : ℕ)
         → Decides (goes_to (at r) l p cost) ((q : ℕ) × (Lists problem stages r l q × (p ≤ cost + q)))
@@ -180,8 +180,8 @@ module _ (problem : Problem) (stages : List Stage) where
         Decides-by (some_decided (λ y. same_kind y.0 l && nat_le p (cost + y.1)) (λ y. (y.0 ≡ l) × (p ≤ cost + y.1))
         (λ y. Decides-and (same_kind y.0 l) (nat_le p (cost + y.1)) (Decides-kind y.0 l)
         (Decides-leb p (cost + y.1))) (at r))
-      (λ w. (w.0.1, (listing w.0 l w.1.0 w.1.1.0, w.1.1.1)))
-      (λ v. ((l, v.0), (in_list l v.0 v.1.0, (refl, v.1.1))))
+        (λ w. (w.0.1, (listing w.0 l w.1.0 w.1.1.0, w.1.1.1)))
+        (λ v. ((l, v.0), (in_list l v.0 v.1.0, (refl, v.1.1))))
 
   module _ (r : ℕ) (k l : PrefixKind) (cost : ℕ) where
     abbrev FallsTo : ℕ → Type 0
@@ -289,8 +289,8 @@ module _ (problem : Problem) (stages : List Stage) where
         (λ _. goes_to (at r) (moved problem r x.0 column) x.1 (cost_of problem r x.0 column))
         (Decides-kept r x.0 column)
         (Decides-goes r (moved problem r x.0 column) x.1 (cost_of problem r x.0 column)))))
-      (λ h k p column l kept. h k p l column kept.fits.width kept)
-      (λ h k p l column e kept. h k p column l kept)
+        (λ h k p column l kept. h k p l column kept.fits.width kept)
+        (λ h k p l column e kept. h k p column l kept)
 
     pub Decides-start : (counts : List ℕ) → Decides (start_passes problem counts at r)
         ((p : ℕ) → Lists problem stages r (kind_of problem r []) p → p ≡ start_potential counts r)
@@ -300,8 +300,8 @@ module _ (problem : Problem) (stages : List Stage) where
         (λ k p. k ≡ kind_of problem r [] → p ≡ due)
         (λ x. Decides-implied (same_kind x.0 (kind_of problem r [])) (λ _. x.1 == due)
         (Decides-kind x.0 (kind_of problem r [])) (Decides-eqb x.1 due)))
-      (λ h p l. h (kind_of problem r []) p l refl)
-      (λ h k p l e. h p (subst (λ z. Lists problem stages r z p) e l))
+        (λ h p l. h (kind_of problem r []) p l refl)
+        (λ h k p l e. h p (subst (λ z. Lists problem stages r z p) e l))
 
     pub Decides-stage : (counts : List ℕ)
         → Decides (stage_passes problem counts at r) (IsCertifiedStage problem counts stages r)
@@ -312,7 +312,7 @@ module _ (problem : Problem) (stages : List Stage) where
         Decides-finals
         (Decides-and (moves_pass problem at r) (start_passes problem counts at r) Decides-moves
         (Decides-start counts))))
-      (λ h. record {
+        (λ h. record {
           kinds = h.0.0;
           ascending = h.0.1.0;
           cuts = h.0.1.1.0;
@@ -321,4 +321,4 @@ module _ (problem : Problem) (stages : List Stage) where
           goes_on = h.1.1.0;
           start = h.1.1.1;
         })
-      (λ s. ((s.kinds, (s.ascending, (s.cuts, s.first))), (s.final, (s.goes_on, s.start))))
+        (λ s. ((s.kinds, (s.ascending, (s.cuts, s.first))), (s.final, (s.goes_on, s.start))))

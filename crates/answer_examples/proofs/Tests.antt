@@ -1,5 +1,5 @@
 -- Tests that compute, and what each decides: on lists, on all numbers below one, and on all columns.
-use Rattle.std.proofs.Common.{◌≡◌, ℕ, zero, suc, ◌<◌, ◌≤◌, Bool, true, false, not, ◌&&◌, ◌||◌, List, [], ◌∷◌, map, length, get_or, refl, sym, ap, ◌∙◌, subst, arith, IsTrue, All, AllPairs, Contains, Decides, leb, leb-true, le-leb, Less, Equal, Greater, is_lt, is_gt}
+use Rattle.std.proofs.Common.{◌≡◌, ℕ, zero, suc, ◌<◌, ◌≤◌, Bool, true, false, not, ◌&&◌, ◌||◌, List, [], ◌∷◌, map, length, get_or, refl, sym, ap, ◌∙◌, arith, IsTrue, All, AllPairs, Contains, Decides, leb, leb-true, le-leb, Less, Equal, Greater, is_lt}
 use Rattle.std.specs.List.{list_all, list_any}
 use Rattle.std.specs.List.Sorted.{IsStrictlySortedBy}
 use Rattle.std.specs.declared.cmp.Ordering.{Ordering}
@@ -114,8 +114,8 @@ Decides-ascends cmp (x ∷ xs) =
     Decides-by (Decides-and (list_all (λ y. is_lt (cmp x y)) xs) (ascends cmp xs)
     (all_decided (λ y. is_lt (cmp x y)) (λ y. cmp x y ≡ Less) (λ y. Decides-less (cmp x y)) xs)
     (Decides-ascends cmp xs))
-      (λ h. (recursion_from_All (λ y. cmp x y ≡ Less) xs h.0, h.1))
-      (λ s. (All-from_recursion (λ y. cmp x y ≡ Less) xs s.0, s.1))
+    (λ h. (recursion_from_All (λ y. cmp x y ≡ Less) xs h.0, h.1))
+    (λ s. (All-from_recursion (λ y. cmp x y ≡ Less) xs s.0, s.1))
 
 -- each number below n
 abbrev pub below : ℕ → (ℕ → Bool) → Bool

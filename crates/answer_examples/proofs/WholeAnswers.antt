@@ -1,5 +1,5 @@
 -- What follows for an answer from tests of what is seen of it.
-use Rattle.std.proofs.Common.{◌≡◌, ℕ, ◌<◌, nat_lt, Bool, true, false, ◌&&◌, List, map, length, sym, ap, ◌∙◌, Decides, Greater, is_le}
+use Rattle.std.proofs.Common.{◌≡◌, ℕ, ◌<◌, nat_lt, Bool, true, ◌&&◌, List, map, length, sym, ap, ◌∙◌, Decides, Greater, is_le}
 use Rattle.std.specs.List.{list_all, AllByRecursion}
 use Rattle.std.proofs.lemmas.Bool.Decides.{Decides-and, Decides-ltb}
 use Rattle.tier_core.specs.declared.constraint.Constraint.{Constraint}

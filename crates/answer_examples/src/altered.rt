@@ -65,12 +65,9 @@ pub fn altered_automata_are_refused()
     ensures last_state_taken_out { AreStatesRefused (state 0 false first_arcs
         ∷ state 1 false second_arcs ∷ []) }
     ensures start_taken_out { AreStatesRefused (state 1 false second_arcs ∷ state 2 true [] ∷ []) }
-    ensures mark_taken_out {
-        AreStatesRefused (states_with false first_arcs false second_arcs false []) }
-    ensures mark_added {
-        AreStatesRefused (states_with false first_arcs true second_arcs true []) }
-    ensures start_marked {
-        AreStatesRefused (states_with true first_arcs false second_arcs true []) }
+    ensures mark_taken_out { AreStatesRefused (states_with false first_arcs false second_arcs false []) }
+    ensures mark_added { AreStatesRefused (states_with false first_arcs true second_arcs true []) }
+    ensures start_marked { AreStatesRefused (states_with true first_arcs false second_arcs true []) }
     ensures column_in_two_arcs { AreStatesRefused (states_with false
         (arc_on 1 (codes "[-") ∷ arc_on 2 (codes "[-") ∷ []) false second_arcs true []) }
     ensures another_target { AreStatesRefused (states_with false (arc_on 2 (codes "[-") ∷ []) false

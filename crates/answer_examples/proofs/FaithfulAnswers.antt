@@ -1,7 +1,9 @@
 -- The answers to `[ ]` under `A -> a` and `a -> A`, and with `a # a` below them, are right, by computing.
-use Rattle.std.proofs.Common.{◌≡◌, ℕ, true, List, [], ◌∷◌, refl, codes, slice_index_or, String}
+use Rattle.std.proofs.Common.{◌≡◌, ℕ, true, List, [], ◌∷◌, refl, sym, codes, slice_index_or, String}
 use Rattle.std.specs.declared.alloc.Global.{Global}
-use Rattle.violation.specs.Candidates.{counts_on}
+use Rattle.std.proofs.lemmas.Bool.{and_from}
+use Rattle.tier_core.specs.declared.sym.Sym.{Sym}
+use Rattle.violation.specs.Candidates.{IsCandidate, counts_on}
 use Rattle.violation.specs.Counts.{viol, so_far}
 use Rattle.violation.specs.Problems.{Problem}
 use Rattle.answer_text.specs.declared.answer.Answer.{Answer}
@@ -9,9 +11,10 @@ use Rattle.answer_text.specs.Certified.{IsCertified}
 use Rattle.answer_text.specs.Right.{IsRight}
 use Rattle.answer_text.specs.Sound.{IsSound}
 use Rattle.answer_examples.specs.Seen.{IsSeenAs}
-use Rattle.answer_examples.specs.Faithful.{under_max_dep, under_max_dep_one, together, around, stages_of_two, stages_of_three, states_of_many, states_of_nine}
+use Rattle.answer_examples.specs.Faithful.{under_max_dep, under_max_dep_one, together, around, nine_counts, stages_of_two, stages_of_three, states_of_many, states_of_nine}
 use Rattle.answer_examples.proofs.EmptyForm.{split, show}
-use Rattle.answer_examples.proofs.AnswerTests.{is_certified, listing}
+use Rattle.answer_examples.proofs.Same.{same_numbers, Decides-numbers}
+use Rattle.answer_examples.proofs.AnswerTests.{head_passes, is_candidate, Decides-candidate, is_certified, listing}
 use Rattle.answer_examples.proofs.RightTests.{Shown, is_right}
 use Rattle.answer_examples.proofs.WholeAnswers.{certified_by, sound_by, right_by, not_right_by}
 
@@ -69,38 +72,51 @@ module _ (max dep one : String Global) where
   abbrev three : Problem
   three = under_max_dep_one max dep one
 
-  passes : is_certified three (0 ∷ 0 ∷ 1 ∷ []) together 4 (listing stages_of_three) states_of_nine ≡ true
-  unfolding viol
-  passes = refl
+  -- the stages and the automaton pass whatever the example, which is a candidate with the counts
+  module _ (example : List (List Sym)) (candidate : IsCandidate three example)
+      (counted : counts_on three example ≡ nine_counts) where
+    head : head_passes three nine_counts example 4 ≡ true
+    head =
+        and_from (is_candidate three example) (same_numbers nine_counts (counts_on three example))
+        ((Decides-candidate three example).1 candidate)
+        ((Decides-numbers nine_counts (counts_on three example)).1 (sym counted))
 
-  around_passes : is_certified three (0 ∷ 0 ∷ 1 ∷ []) around 4 (listing stages_of_three) states_of_nine ≡ true
-  unfolding viol
-  around_passes = refl
+    passes : is_certified three nine_counts example 4 (listing stages_of_three) states_of_nine ≡ true
+    passes = and_from (head_passes three nine_counts example 4) true head refl
 
-  right_passes : is_right three (0 ∷ 0 ∷ 1 ∷ []) together (listing stages_of_three) states_of_nine shown_at seven_shown
+    module _ (answer : Answer) (s : IsSeenAs three answer nine_counts example stages_of_three states_of_nine) where
+      pub certified_nine : IsCertified three answer
+      certified_nine = certified_by s passes
+
+      pub sound_nine : IsSound three answer
+      sound_nine = sound_by s split refl refl certified_nine
+
+  together_counted : counts_on three together ≡ nine_counts
+  unfolding viol
+  together_counted = refl
+
+  around_counted : counts_on three around ≡ nine_counts
+  unfolding viol
+  around_counted = refl
+
+  right_passes : is_right three nine_counts together (listing stages_of_three) states_of_nine shown_at seven_shown
       ≡ true
   unfolding viol so_far
   right_passes = refl
 
-  counted : counts_on three together ≡ 0 ∷ 0 ∷ 1 ∷ []
-  unfolding viol
-  counted = refl
+  pub right_nine : (answer : Answer)
+      → IsSeenAs three answer nine_counts together stages_of_three states_of_nine → IsRight three answer
+  right_nine answer s =
+      let certified : IsCertified three answer = certified_nine together ((Decides-candidate three together).0 refl)
+      together_counted answer s in
+      right_by s split refl refl certified shown_at seven_shown right_passes
 
-  module _ (answer : Answer)
-      (s : IsSeenAs three answer (0 ∷ 0 ∷ 1 ∷ []) together stages_of_three states_of_nine) where
-    pub certified_nine : IsCertified three answer
-    certified_nine = certified_by s passes
+  module _ (answer : Answer) (s : IsSeenAs three answer nine_counts around stages_of_three states_of_nine) where
+    certified_around : IsCertified three answer
+    certified_around = certified_nine around ((Decides-candidate three around).0 refl) around_counted answer s
 
-    pub sound_nine : IsSound three answer
-    sound_nine = sound_by s split refl refl certified_nine
-
-    pub right_nine : IsRight three answer
-    right_nine = right_by s split refl refl certified_nine shown_at seven_shown right_passes
-
-  module _ (answer : Answer)
-      (s : IsSeenAs three answer (0 ∷ 0 ∷ 1 ∷ []) around stages_of_three states_of_nine) where
     pub sound_around : IsSound three answer
-    sound_around = sound_by s split refl refl (certified_by s around_passes)
+    sound_around = sound_by s split refl refl certified_around
 
     pub not_right_around : IsRight three answer → ⊥
-    not_right_around = not_right_by s split refl refl (certified_by s around_passes) together refl counted refl
+    not_right_around = not_right_by s split refl refl certified_around together refl together_counted refl

@@ -1,5 +1,5 @@
--- Answers to the form `[ ]` over an input tier A and an overt tier a, under `A -> a` and `a -> A`, and
--- under these and below them `a # a`, whatever their names.
+-- Answers to the form `[ ]` over an input tier A and an overt tier a, under `A -> a` and `a -> A`,
+-- and under these and below them `a # a`, whatever their names.
 use Rattle.std.specs.Prelude.{ℕ, true, false, List, [], ◌∷◌, codes, String}
 use Rattle.std.specs.declared.alloc.Global.{Global}
 use Rattle.tier_core.specs.declared.sym.Sym.{Sym}
@@ -46,7 +46,8 @@ stages_of_three = six_nodes 0 ∷ seven_of_max ∷ eight_of_dep ∷ seven_of_one
 
 -- an a starts before A, after it or with it
 abbrev pub three_starts : List StateSeen → List StateSeen
-three_starts rest = state 0 false (arc_on 1 (codes "-[") ∷ arc_on 2 (codes "[-") ∷ arc_on 4 (codes "[[") ∷ [])
+three_starts rest =
+    state 0 false (arc_on 1 (codes "-[") ∷ arc_on 2 (codes "[-") ∷ arc_on 4 (codes "[[") ∷ [])
     ∷ state 1 false (arc_on 4 (codes "[+") ∷ []) ∷ state 2 false (arc_on 4 (codes "+[") ∷ []) ∷ rest
 
 -- as many a's inside A as one likes
@@ -68,3 +69,6 @@ together = timeline (codes "[[ ]]")
 
 abbrev pub around : List (List Sym)
 around = timeline (codes "-[ [+ ]+ -]")
+
+abbrev pub nine_counts : List ℕ
+nine_counts = 0 ∷ 0 ∷ 1 ∷ []

@@ -1,5 +1,5 @@
--- The answer to the form `[ ]` over an input tier A and an overt tier a, where `a # a` is ranked above
--- `A -> a`, and this above `a -> A`, whatever their names.
+-- The answer to the form `[ ]` over an input tier A and an overt tier a, where `a # a` is ranked
+-- above `A -> a`, and this above `a -> A`, whatever their names.
 use Rattle.std.specs.Prelude.{ℕ, Bool, true, false, List, [], ◌∷◌, codes, slice_set, String}
 use Rattle.std.specs.declared.alloc.Global.{Global}
 use Rattle.tier_core.specs.declared.constraint.Constraint.{Constraint}
@@ -49,8 +49,8 @@ four_stages = six_nodes 0 ∷ six_nodes 1 ∷ nodes_of_max ∷ nodes_of_dep ∷ 
 
 -- the automaton of `[- ]-`
 abbrev pub three_states : List StateSeen
-three_states = state 0 false (arc_on 1 (codes "[-") ∷ []) ∷ state 1 false (arc_on 2 (codes "]-") ∷ [])
-    ∷ state 2 true [] ∷ []
+three_states = state 0 false (arc_on 1 (codes "[-") ∷ [])
+    ∷ state 1 false (arc_on 2 (codes "]-") ∷ []) ∷ state 2 true [] ∷ []
 
 -- the candidate without any a
 abbrev pub bare : List (List Sym)
@@ -60,7 +60,8 @@ abbrev pub bare_counts : List ℕ
 bare_counts = 0 ∷ 1 ∷ 0 ∷ []
 
 -- An answer that is seen so is not certified, whatever the names of the constraints.
-abbrev pub IsRefused : List ℕ → List (List Sym) → List (List (PrefixKind × ℕ)) → List StateSeen → Type 0
+abbrev pub IsRefused : List ℕ → List (List Sym) → List (List (PrefixKind × ℕ)) → List StateSeen
+    → Type 0
 IsRefused counts example stages states = (one max dep : String Global) (answer : Answer)
     → IsSeenAs (under_three one max dep) answer counts example stages states
     → IsCertified (under_three one max dep) answer → ⊥
@@ -76,8 +77,8 @@ abbrev pub AreStatesRefused : List StateSeen → Type 0
 AreStatesRefused states = IsRefused bare_counts bare four_stages states
 
 -- the states from texts: the arcs of the first two, and whether each state is final
-abbrev pub states_with : Bool → List (ℕ × List ℕ) → Bool → List (ℕ × List ℕ) → Bool → List (ℕ × List ℕ)
-    → List StateSeen
+abbrev pub states_with : Bool → List (ℕ × List ℕ) → Bool → List (ℕ × List ℕ) → Bool
+    → List (ℕ × List ℕ) → List StateSeen
 states_with a first b second c third = state 0 a first ∷ state 1 b second ∷ state 2 c third ∷ []
 
 abbrev pub first_arcs : List (ℕ × List ℕ)

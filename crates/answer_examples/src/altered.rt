@@ -2,13 +2,13 @@
 ghost use Rattle.std.specs.Prelude.{true, false, [], ◌∷◌, codes};
 ghost use Rattle.violation.specs.Examples.{timeline};
 ghost use Rattle.answer_examples.specs.Worked.{arc_on, state};
-ghost use Rattle.answer_examples.specs.Ranked.{bare, bare_counts, six_nodes, node_at, first_arcs};
-ghost use Rattle.answer_examples.specs.Ranked.{second_arcs, states_with, four_stages, three_states};
+ghost use Rattle.answer_examples.specs.Ranked.{bare, bare_counts, six_nodes, node_at, nodes_of_max};
+ghost use Rattle.answer_examples.specs.Ranked.{nodes_of_dep, first_arcs, second_arcs, states_with, three_states};
 ghost use Rattle.answer_examples.specs.Ranked.{IsRefused, IsHeadRefused, IsStageRefused};
 ghost use Rattle.answer_examples.specs.Ranked.{AreStatesRefused};
 
 /// With other counts, with an example of another form or with other counts, or without its last
-/// stage, the answer is not certified.
+/// stage or with one more, the answer is not certified.
 pub fn altered_heads_are_refused()
     ensures first_count { IsHeadRefused (1 ∷ 1 ∷ 0 ∷ []) bare }
     ensures second_count { IsHeadRefused (0 ∷ 0 ∷ 0 ∷ []) bare }
@@ -18,12 +18,13 @@ pub fn altered_heads_are_refused()
     ensures example_of_another_form { IsHeadRefused bare_counts [] }
     ensures example_with_an_a { IsHeadRefused bare_counts (timeline (codes "[[ ]]")) }
     ensures no_last_stage { IsRefused bare_counts bare (six_nodes 0 ∷ six_nodes 1
-        ∷ (node_at 0 (codes "-") (codes ".") 1 ∷ node_at 1 (codes "-") (codes "u") 1
-        ∷ node_at 2 (codes "-") (codes ".") 0 ∷ []) ∷ []) three_states }
+        ∷ nodes_of_max ∷ []) three_states }
+    ensures stage_added { IsRefused bare_counts bare (six_nodes 0 ∷ six_nodes 1 ∷ nodes_of_max
+        ∷ nodes_of_dep ∷ nodes_of_dep ∷ []) three_states }
 {}
 
 /// With a potential that is raised, or lowered at the start, with a phase that is not due, or with
-/// a node taken out, the answer is not certified.
+/// a node taken out, twice or out of order, the answer is not certified.
 pub fn altered_stages_are_refused()
     ensures potential_at_stage_zero { IsStageRefused 0 (node_at 0 (codes "-") [] 0
         ∷ node_at 0 (codes "+") [] 1 ∷ node_at 1 (codes "-") [] 0 ∷ node_at 1 (codes "+") [] 0
@@ -54,6 +55,9 @@ pub fn altered_stages_are_refused()
         ∷ node_at 2 (codes "-") [] 0 ∷ node_at 2 (codes "+") [] 0 ∷ []) }
     ensures last_kind_taken_out { IsStageRefused 3 (node_at 0 (codes "-") (codes "..") 0
         ∷ node_at 1 (codes "-") (codes "u.") 0 ∷ []) }
+    ensures node_twice { IsStageRefused 2 (node_at 0 (codes "-") (codes ".") 1
+        ∷ node_at 1 (codes "-") (codes "u") 1 ∷ node_at 1 (codes "-") (codes "u") 1
+        ∷ node_at 2 (codes "-") (codes ".") 0 ∷ []) }
     ensures nodes_exchanged { IsStageRefused 0 (node_at 0 (codes "+") [] 0
         ∷ node_at 0 (codes "-") [] 0 ∷ node_at 1 (codes "-") [] 0 ∷ node_at 1 (codes "+") [] 0
         ∷ node_at 2 (codes "-") [] 0 ∷ node_at 2 (codes "+") [] 0 ∷ []) }
@@ -64,8 +68,10 @@ pub fn altered_stages_are_refused()
 pub fn altered_automata_are_refused()
     ensures last_state_taken_out { AreStatesRefused (state 0 false first_arcs
         ∷ state 1 false second_arcs ∷ []) }
-    ensures start_taken_out { AreStatesRefused (state 1 false second_arcs ∷ state 2 true [] ∷ []) }
-    ensures mark_taken_out { AreStatesRefused (states_with false first_arcs false second_arcs false []) }
+    ensures start_taken_out { AreStatesRefused (state 1 false second_arcs
+        ∷ state 2 true [] ∷ []) }
+    ensures mark_taken_out { AreStatesRefused (states_with false first_arcs false second_arcs
+        false []) }
     ensures mark_added { AreStatesRefused (states_with false first_arcs true second_arcs true []) }
     ensures start_marked { AreStatesRefused (states_with true first_arcs false second_arcs true []) }
     ensures column_in_two_arcs { AreStatesRefused (states_with false

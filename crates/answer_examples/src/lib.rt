@@ -1,5 +1,6 @@
-//! Worked answers to small problems, beside the definitions. The functions do nothing: the contract of
-//! each says that an answer is certified and sound, or that an altered one is refused.
+//! Worked answers to small problems, beside the definitions. The functions do nothing: the contract
+//! of each says that an answer is right, certified and sound, or that an altered one is refused. What
+//! an answer says is given by plain lists (`IsSeenAs`), and whether it is certified is computed.
 #![tactic(auto)]
 
 mod altered;

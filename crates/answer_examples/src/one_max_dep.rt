@@ -7,8 +7,8 @@ ghost use Rattle.answer_text.specs.Sound.{IsSound};
 ghost use Rattle.answer_examples.specs.Seen.{IsSeenAs};
 ghost use Rattle.answer_examples.specs.Ranked.{under_three, bare, bare_counts, four_stages, three_states};
 
-/// Under `a # a`, `A -> a` and `a -> A`, ranked in this order, the form `[ ]` has an answer with four
-/// stages of six, six, three and three nodes, and an automaton of three states. Its one optimal
+/// Under `a # a`, `A -> a` and `a -> A`, ranked in this order, the form `[ ]` has an answer with
+/// four stages of six, six, three and three nodes, and an automaton of three states. Its one optimal
 /// candidate is `[- ]-`, with counts 0, 1 and 0. The answer is right, and so certified and sound.
 pub fn answers_under_three()
     ensures certified { (one max dep : String Global) (answer : Answer)

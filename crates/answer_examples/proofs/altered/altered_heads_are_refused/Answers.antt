@@ -34,3 +34,7 @@ returns-clause-example_with_an_a c one max dep answer s = refused_head s refl
 pub returns-clause-no_last_stage : goal.returns-clause-no_last_stage
 unfolding viol
 returns-clause-no_last_stage c one max dep answer s = refused_head s refl
+
+pub returns-clause-stage_added : goal.returns-clause-stage_added
+unfolding viol
+returns-clause-stage_added c one max dep answer s = refused_head s refl

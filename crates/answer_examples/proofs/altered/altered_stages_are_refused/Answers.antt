@@ -35,5 +35,8 @@ returns-clause-start_taken_out c one max dep answer s = refused_stage s 0 (omega
 pub returns-clause-last_kind_taken_out : goal.returns-clause-last_kind_taken_out
 returns-clause-last_kind_taken_out c one max dep answer s = refused_stage s 3 (omega arith) refl
 
+pub returns-clause-node_twice : goal.returns-clause-node_twice
+returns-clause-node_twice c one max dep answer s = refused_stage s 2 (omega arith) refl
+
 pub returns-clause-nodes_exchanged : goal.returns-clause-nodes_exchanged
 returns-clause-nodes_exchanged c one max dep answer s = refused_stage s 0 (omega arith) refl

@@ -44,7 +44,8 @@ Decides-well_formed width T =
     (λ w. (w.one_width, w.each_tier))
 
 pub Decides-reduced : (T : List (List Sym)) → Decides (list_all has_edge T) (IsReduced T)
-Decides-reduced T = all_recursive has_edge (λ column. IsTrue (has_edge column)) (λ column. Decides-true (has_edge column)) T
+Decides-reduced T =
+    all_recursive has_edge (λ column. IsTrue (has_edge column)) (λ column. Decides-true (has_edge column)) T
 
 abbrev pub is_form : Tiers → List (List Sym) → Bool
 is_form tiers u = is_well_formed (length tiers.input) u && list_all has_edge u
@@ -65,7 +66,8 @@ pub Decides-candidate : (problem : Problem) (T : List (List Sym))
     → Decides (is_candidate problem T) (IsCandidate problem T)
 Decides-candidate problem T =
     let input : List (List Sym) = squeeze (project problem.tiers.input T) in
-    Decides-by (Decides-and (is_well_formed problem.tiers.width T) (list_all has_edge T && same_timeline input problem.form)
+    Decides-by (Decides-and (is_well_formed problem.tiers.width T)
+    (list_all has_edge T && same_timeline input problem.form)
     (Decides-well_formed problem.tiers.width T)
     (Decides-and (list_all has_edge T) (same_timeline input problem.form)
     (Decides-reduced T) (Decides-timeline input problem.form)))

@@ -8,7 +8,7 @@ use Rattle.answer_text.specs.Certified.{IsCertified}
 use Rattle.answer_text.specs.Right.{IsRight}
 use Rattle.answer_text.specs.Sound.{IsSound}
 use Rattle.answer_examples.specs.Seen.{IsSeenAs}
-use Rattle.answer_examples.specs.Ranked.{under_three, bare, bare_counts, four_stages, three_states}
+use Rattle.answer_examples.specs.Ranked.{under_one_max_dep, bare, bare_counts, four_stages, three_states}
 use Rattle.answer_examples.proofs.EmptyForm.{split, show}
 use Rattle.answer_examples.proofs.AnswerTests.{is_certified, listing}
 use Rattle.answer_examples.proofs.RightTests.{Shown, is_right}
@@ -27,7 +27,7 @@ shown_stages = six_shown ∷ six_shown ∷ three_shown ∷ three_shown ∷ []
 
 module _ (one max dep : String Global) where
   abbrev problem : Problem
-  problem = under_three one max dep
+  problem = under_one_max_dep one max dep
 
   passes : is_certified problem bare_counts bare 4 (listing four_stages) three_states ≡ true
   unfolding viol

@@ -74,7 +74,8 @@ parts_same k l h =
 
 pub Decides-kind : (k l : PrefixKind) → Decides (same_kind k l) (k ≡ l)
 Decides-kind k l =
-    Decides-by (Decides-and (k.place == l.place) (pointwise beq k.opened l.opened && pointwise one_phase k.phases l.phases)
+    Decides-by (Decides-and (k.place == l.place)
+    (pointwise beq k.opened l.opened && pointwise one_phase k.phases l.phases)
     (Decides-eqb k.place l.place)
     (Decides-and (pointwise beq k.opened l.opened) (pointwise one_phase k.phases l.phases)
     (pointwise_decides Decides-flag k.opened l.opened) (pointwise_decides Decides-phase k.phases l.phases)))

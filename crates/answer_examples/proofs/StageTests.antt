@@ -144,7 +144,8 @@ abbrev pub kinds_pass : Problem → Listing → ℕ → Bool
 kinds_pass problem at r =
     list_all (is_possible problem r) (kinds_in at r)
     && (ascends kind_order (kinds_in at r)
-    && (implied (nat_le 1 r) (λ _. list_all (λ k. has_kind (kinds_in at (r - 1)) (cut problem (r - 1) k)) (kinds_in at r))
+    && (implied (nat_le 1 r)
+    (λ _. list_all (λ k. has_kind (kinds_in at (r - 1)) (cut problem (r - 1) k)) (kinds_in at r))
     && begins_with (kinds_in at r) (kind_of problem r [])))
 
 abbrev pub stage_passes : Problem → List ℕ → Listing → ℕ → Bool
@@ -215,7 +216,8 @@ module _ (problem : Problem) (stages : List Stage) where
   pub Decides-kept : (r : ℕ) (k : PrefixKind) (column : List Sym)
       → Decides (is_kept problem at r k column) (IsKeptBelow problem stages r k column)
   Decides-kept r k column =
-      Decides-by (Decides-both (fits_kind problem k column) (λ _. below (r - 1) (λ i. is_tight problem at (suc i) k column))
+      Decides-by (Decides-both (fits_kind problem k column)
+      (λ _. below (r - 1) (λ i. is_tight problem at (suc i) k column))
       (Decides-fits problem k column)
       (Decides-below (λ i. is_tight problem at (suc i) k column) (λ i. IsTightAt problem stages (suc i) k column)
       (λ i. Decides-tight (suc i) k column) (r - 1)))

@@ -1,6 +1,6 @@
 -- The answer to the form `[ ]` over an input tier A and an overt tier a, where `a # a` is ranked
 -- above `A -> a`, and this above `a -> A`, whatever their names.
-use Rattle.std.specs.Prelude.{ℕ, Bool, true, false, List, [], ◌∷◌, codes, slice_set, String}
+use Rattle.std.specs.Prelude.{ℕ, zero, suc, ◌+◌, Bool, true, false, List, [], ◌∷◌, ◌++◌, take, drop, codes, slice_set, String}
 use Rattle.std.specs.declared.alloc.Global.{Global}
 use Rattle.tier_core.specs.declared.constraint.Constraint.{Constraint}
 use Rattle.tier_core.specs.declared.constraint.Family.TheVariants.{Clash}
@@ -22,8 +22,9 @@ one_a name = record {
   right = types (codes "Aa") (codes "a");
 }
 
-abbrev pub under_three : String Global → String Global → String Global → Problem
-under_three one max dep = over_two (one_a one ∷ max_a max ∷ dep_a dep ∷ []) (timeline (codes "[ ]"))
+abbrev pub under_one_max_dep : String Global → String Global → String Global → Problem
+under_one_max_dep one max dep =
+    over_two (one_a one ∷ max_a max ∷ dep_a dep ∷ []) (timeline (codes "[ ]"))
 
 -- the kind of a place, by `+` or `-` for the overt tier and the phases, and its potential
 abbrev pub node_at : ℕ → List ℕ → List ℕ → ℕ → PrefixKind × ℕ
@@ -63,8 +64,8 @@ bare_counts = 0 ∷ 1 ∷ 0 ∷ []
 abbrev pub IsRefused : List ℕ → List (List Sym) → List (List (PrefixKind × ℕ)) → List StateSeen
     → Type 0
 IsRefused counts example stages states = (one max dep : String Global) (answer : Answer)
-    → IsSeenAs (under_three one max dep) answer counts example stages states
-    → IsCertified (under_three one max dep) answer → ⊥
+    → IsSeenAs (under_one_max_dep one max dep) answer counts example stages states
+    → IsCertified (under_one_max_dep one max dep) answer → ⊥
 
 -- the answer with another head, with another stage in place of one of its own, or with other states
 abbrev pub IsHeadRefused : List ℕ → List (List Sym) → Type 0
@@ -75,6 +76,20 @@ IsStageRefused r nodes = IsRefused bare_counts bare (slice_set four_stages r nod
 
 abbrev pub AreStatesRefused : List StateSeen → Type 0
 AreStatesRefused states = IsRefused bare_counts bare four_stages states
+
+-- nodes of which number i has another potential, or another kind, or is not there
+abbrev pub with_potential : List (PrefixKind × ℕ) → ℕ → ℕ → List (PrefixKind × ℕ)
+with_potential [] i potential = []
+with_potential (node ∷ nodes) zero potential = (node.0, potential) ∷ nodes
+with_potential (node ∷ nodes) (suc i) potential = node ∷ with_potential nodes i potential
+
+abbrev pub with_kind : List (PrefixKind × ℕ) → ℕ → PrefixKind → List (PrefixKind × ℕ)
+with_kind [] i kind = []
+with_kind (node ∷ nodes) zero kind = (kind, node.1) ∷ nodes
+with_kind (node ∷ nodes) (suc i) kind = node ∷ with_kind nodes i kind
+
+abbrev pub without : ℕ → List (PrefixKind × ℕ) → List (PrefixKind × ℕ)
+without i nodes = take i nodes ++ drop (i + 1) nodes
 
 -- the states from texts: the arcs of the first two, and whether each state is final
 abbrev pub states_with : Bool → List (ℕ × List ℕ) → Bool → List (ℕ × List ℕ) → Bool

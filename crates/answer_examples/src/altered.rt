@@ -1,9 +1,10 @@
 //! Alterations of the answer to `[ ]` under `a # a`, `A -> a` and `a -> A` that are not certified.
-ghost use Rattle.std.specs.Prelude.{true, false, [], ◌∷◌, codes};
-ghost use Rattle.violation.specs.Examples.{timeline};
+ghost use Rattle.std.specs.Prelude.{true, false, [], ◌∷◌, drop, codes};
+ghost use Rattle.violation.specs.Examples.{timeline, kind_text};
 ghost use Rattle.answer_examples.specs.Worked.{arc_on, state};
 ghost use Rattle.answer_examples.specs.Ranked.{bare, bare_counts, six_nodes, node_at, nodes_of_max};
-ghost use Rattle.answer_examples.specs.Ranked.{nodes_of_dep, first_arcs, second_arcs, states_with, three_states};
+ghost use Rattle.answer_examples.specs.Ranked.{nodes_of_dep, first_arcs, second_arcs, three_states};
+ghost use Rattle.answer_examples.specs.Ranked.{states_with, with_potential, with_kind, without};
 ghost use Rattle.answer_examples.specs.Ranked.{IsRefused, IsHeadRefused, IsStageRefused};
 ghost use Rattle.answer_examples.specs.Ranked.{AreStatesRefused};
 
@@ -26,41 +27,22 @@ pub fn altered_heads_are_refused()
 /// With a potential that is raised, or lowered at the start, with a phase that is not due, or with
 /// a node taken out, twice or out of order, the answer is not certified.
 pub fn altered_stages_are_refused()
-    ensures potential_at_stage_zero { IsStageRefused 0 (node_at 0 (codes "-") [] 0
-        ∷ node_at 0 (codes "+") [] 1 ∷ node_at 1 (codes "-") [] 0 ∷ node_at 1 (codes "+") [] 0
-        ∷ node_at 2 (codes "-") [] 0 ∷ node_at 2 (codes "+") [] 0 ∷ []) }
-    ensures final_at_stage_zero { IsStageRefused 0 (node_at 0 (codes "-") [] 0
-        ∷ node_at 0 (codes "+") [] 0 ∷ node_at 1 (codes "-") [] 0 ∷ node_at 1 (codes "+") [] 0
-        ∷ node_at 2 (codes "-") [] 1 ∷ node_at 2 (codes "+") [] 0 ∷ []) }
-    ensures potential_raised { IsStageRefused 1 (node_at 0 (codes "-") [] 0
-        ∷ node_at 0 (codes "+") [] 2 ∷ node_at 1 (codes "-") [] 0 ∷ node_at 1 (codes "+") [] 1
-        ∷ node_at 2 (codes "-") [] 0 ∷ node_at 2 (codes "+") [] 1 ∷ []) }
-    ensures final_raised { IsStageRefused 1 (node_at 0 (codes "-") [] 0
-        ∷ node_at 0 (codes "+") [] 1 ∷ node_at 1 (codes "-") [] 0 ∷ node_at 1 (codes "+") [] 1
-        ∷ node_at 2 (codes "-") [] 1 ∷ node_at 2 (codes "+") [] 1 ∷ []) }
-    ensures start_lowered { IsStageRefused 2 (node_at 0 (codes "-") (codes ".") 0
-        ∷ node_at 1 (codes "-") (codes "u") 1 ∷ node_at 2 (codes "-") (codes ".") 0 ∷ []) }
-    ensures phase_not_due { IsStageRefused 2 (node_at 0 (codes "-") (codes ".") 1
-        ∷ node_at 1 (codes "-") (codes ".") 1 ∷ node_at 2 (codes "-") (codes ".") 0 ∷ []) }
-    ensures phase_at_a_shut_tier { IsStageRefused 2 (node_at 0 (codes "-") (codes "u") 1
-        ∷ node_at 1 (codes "-") (codes "u") 1 ∷ node_at 2 (codes "-") (codes ".") 0 ∷ []) }
-    ensures node_taken_out { IsStageRefused 0 (node_at 0 (codes "-") [] 0
-        ∷ node_at 0 (codes "+") [] 0 ∷ node_at 1 (codes "-") [] 0 ∷ node_at 1 (codes "+") [] 0
-        ∷ node_at 2 (codes "-") [] 0 ∷ []) }
-    ensures cut_taken_out { IsStageRefused 0 (node_at 0 (codes "-") [] 0
-        ∷ node_at 0 (codes "+") [] 0 ∷ node_at 1 (codes "-") [] 0
-        ∷ node_at 2 (codes "-") [] 0 ∷ node_at 2 (codes "+") [] 0 ∷ []) }
-    ensures start_taken_out { IsStageRefused 0 (node_at 0 (codes "+") [] 0
-        ∷ node_at 1 (codes "-") [] 0 ∷ node_at 1 (codes "+") [] 0
-        ∷ node_at 2 (codes "-") [] 0 ∷ node_at 2 (codes "+") [] 0 ∷ []) }
-    ensures last_kind_taken_out { IsStageRefused 3 (node_at 0 (codes "-") (codes "..") 0
-        ∷ node_at 1 (codes "-") (codes "u.") 0 ∷ []) }
-    ensures node_twice { IsStageRefused 2 (node_at 0 (codes "-") (codes ".") 1
-        ∷ node_at 1 (codes "-") (codes "u") 1 ∷ node_at 1 (codes "-") (codes "u") 1
-        ∷ node_at 2 (codes "-") (codes ".") 0 ∷ []) }
+    ensures potential_at_stage_zero { IsStageRefused 0 (with_potential (six_nodes 0) 1 1) }
+    ensures final_at_stage_zero { IsStageRefused 0 (with_potential (six_nodes 0) 4 1) }
+    ensures potential_raised { IsStageRefused 1 (with_potential (six_nodes 1) 1 2) }
+    ensures final_raised { IsStageRefused 1 (with_potential (six_nodes 1) 4 1) }
+    ensures start_lowered { IsStageRefused 2 (with_potential nodes_of_max 0 0) }
+    ensures phase_not_due { IsStageRefused 2 (with_kind nodes_of_max 1
+        (kind_text 1 (codes "-") (codes "."))) }
+    ensures phase_at_a_shut_tier { IsStageRefused 2 (with_kind nodes_of_max 0
+        (kind_text 0 (codes "-") (codes "u"))) }
+    ensures node_taken_out { IsStageRefused 0 (without 5 (six_nodes 0)) }
+    ensures cut_taken_out { IsStageRefused 0 (without 3 (six_nodes 0)) }
+    ensures start_taken_out { IsStageRefused 0 (without 0 (six_nodes 0)) }
+    ensures last_kind_taken_out { IsStageRefused 3 (without 2 nodes_of_dep) }
+    ensures node_twice { IsStageRefused 2 (node_at 0 (codes "-") (codes ".") 1 ∷ nodes_of_max) }
     ensures nodes_exchanged { IsStageRefused 0 (node_at 0 (codes "+") [] 0
-        ∷ node_at 0 (codes "-") [] 0 ∷ node_at 1 (codes "-") [] 0 ∷ node_at 1 (codes "+") [] 0
-        ∷ node_at 2 (codes "-") [] 0 ∷ node_at 2 (codes "+") [] 0 ∷ []) }
+        ∷ node_at 0 (codes "-") [] 0 ∷ drop 2 (six_nodes 0)) }
 {}
 
 /// With a state or a final mark taken out or added, or with an arc that is taken out, added, or has
@@ -73,7 +55,8 @@ pub fn altered_automata_are_refused()
     ensures mark_taken_out { AreStatesRefused (states_with false first_arcs false second_arcs
         false []) }
     ensures mark_added { AreStatesRefused (states_with false first_arcs true second_arcs true []) }
-    ensures start_marked { AreStatesRefused (states_with true first_arcs false second_arcs true []) }
+    ensures start_marked { AreStatesRefused (states_with true first_arcs false second_arcs
+        true []) }
     ensures column_in_two_arcs { AreStatesRefused (states_with false
         (arc_on 1 (codes "[-") ∷ arc_on 2 (codes "[-") ∷ []) false second_arcs true []) }
     ensures another_target { AreStatesRefused (states_with false (arc_on 2 (codes "[-") ∷ []) false

@@ -13,8 +13,8 @@ ghost use Rattle.answer_examples.specs.Faithful.{around, nine_counts, stages_of_
 ghost use Rattle.answer_examples.specs.Faithful.{states_of_many, states_of_nine};
 
 /// Under `A -> a` and `a -> A` the form `[ ]` has an answer whose automaton leads back to where it
-/// was: as many a's may stand inside A as one likes. The first of the optimal candidates is `[[ ]]`.
-/// The answer is right, and so certified and sound.
+/// was: as many a's may stand inside A as one likes. The first optimal candidate is `[[ ]]`. The
+/// answer is right, and so certified and sound.
 pub fn answers_under_max_and_dep()
     ensures certified { (max dep : String Global) (answer : Answer)
         → IsSeenAs (under_max_dep max dep) answer (0 ∷ 0 ∷ []) together stages_of_two states_of_many

@@ -1,5 +1,5 @@
 use Rattle.answer_examples.proofs.OneMaxDep.{certified, sound, right}
-use Rattle.answer_examples.proofs.one_max_dep.answers_under_three.Goals as goal
+use Rattle.answer_examples.proofs.one_max_dep.answers_under_one_max_and_dep.Goals as goal
 
 pub returns-clause-certified : goal.returns-clause-certified
 returns-clause-certified c one max dep answer s = certified one max dep answer s

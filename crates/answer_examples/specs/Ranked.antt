@@ -22,9 +22,12 @@ one_a name = record {
   right = types (codes "Aa") (codes "a");
 }
 
+abbrev pub one_max_dep_on : List (List Sym) → String Global → String Global → String Global
+    → Problem
+one_max_dep_on form one max dep = over_two (one_a one ∷ max_a max ∷ dep_a dep ∷ []) form
+
 abbrev pub under_one_max_dep : String Global → String Global → String Global → Problem
-under_one_max_dep one max dep =
-    over_two (one_a one ∷ max_a max ∷ dep_a dep ∷ []) (timeline (codes "[ ]"))
+under_one_max_dep = one_max_dep_on (timeline (codes "[ ]"))
 
 -- the kind of a place, by `+` or `-` for the overt tier and the phases, and its potential
 abbrev pub node_at : ℕ → List ℕ → List ℕ → ℕ → PrefixKind × ℕ
@@ -48,10 +51,20 @@ nodes_of_dep = node_at 0 (codes "-") (codes "..") 0 ∷ node_at 1 (codes "-") (c
 abbrev pub four_stages : List (List (PrefixKind × ℕ))
 four_stages = six_nodes 0 ∷ six_nodes 1 ∷ nodes_of_max ∷ nodes_of_dep ∷ []
 
+-- three states: whether each is final, and its arcs
+abbrev pub states_with : Bool → List (ℕ × List ℕ) → Bool → List (ℕ × List ℕ) → Bool
+    → List (ℕ × List ℕ) → List StateSeen
+states_with a first b second c third = state 0 a first ∷ state 1 b second ∷ state 2 c third ∷ []
+
+abbrev pub first_arcs : List (ℕ × List ℕ)
+first_arcs = arc_on 1 (codes "[-") ∷ []
+
+abbrev pub second_arcs : List (ℕ × List ℕ)
+second_arcs = arc_on 2 (codes "]-") ∷ []
+
 -- the automaton of `[- ]-`
 abbrev pub three_states : List StateSeen
-three_states = state 0 false (arc_on 1 (codes "[-") ∷ [])
-    ∷ state 1 false (arc_on 2 (codes "]-") ∷ []) ∷ state 2 true [] ∷ []
+three_states = states_with false first_arcs false second_arcs true []
 
 -- the candidate without any a
 abbrev pub bare : List (List Sym)
@@ -66,6 +79,12 @@ abbrev pub IsRefused : List ℕ → List (List Sym) → List (List (PrefixKind �
 IsRefused counts example stages states = (one max dep : String Global) (answer : Answer)
     → IsSeenAs (under_one_max_dep one max dep) answer counts example stages states
     → IsCertified (under_one_max_dep one max dep) answer → ⊥
+
+-- the same answer with this form, to the same constraints on this form
+abbrev pub IsFormRefused : List (List Sym) → Type 0
+IsFormRefused form = (one max dep : String Global) (answer : Answer)
+    → IsSeenAs (one_max_dep_on form one max dep) answer bare_counts bare four_stages three_states
+    → IsCertified (one_max_dep_on form one max dep) answer → ⊥
 
 -- the answer with another head, with another stage in place of one of its own, or with other states
 abbrev pub IsHeadRefused : List ℕ → List (List Sym) → Type 0
@@ -90,14 +109,3 @@ with_kind (node ∷ nodes) (suc i) kind = node ∷ with_kind nodes i kind
 
 abbrev pub without : ℕ → List (PrefixKind × ℕ) → List (PrefixKind × ℕ)
 without i nodes = take i nodes ++ drop (i + 1) nodes
-
--- the states from texts: the arcs of the first two, and whether each state is final
-abbrev pub states_with : Bool → List (ℕ × List ℕ) → Bool → List (ℕ × List ℕ) → Bool
-    → List (ℕ × List ℕ) → List StateSeen
-states_with a first b second c third = state 0 a first ∷ state 1 b second ∷ state 2 c third ∷ []
-
-abbrev pub first_arcs : List (ℕ × List ℕ)
-first_arcs = arc_on 1 (codes "[-") ∷ []
-
-abbrev pub second_arcs : List (ℕ × List ℕ)
-second_arcs = arc_on 2 (codes "]-") ∷ []

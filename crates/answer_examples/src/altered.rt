@@ -5,12 +5,14 @@ ghost use Rattle.answer_examples.specs.Worked.{arc_on, state};
 ghost use Rattle.answer_examples.specs.Ranked.{bare, bare_counts, six_nodes, node_at, nodes_of_max};
 ghost use Rattle.answer_examples.specs.Ranked.{nodes_of_dep, first_arcs, second_arcs, three_states};
 ghost use Rattle.answer_examples.specs.Ranked.{states_with, with_potential, with_kind, without};
-ghost use Rattle.answer_examples.specs.Ranked.{IsRefused, IsHeadRefused, IsStageRefused};
-ghost use Rattle.answer_examples.specs.Ranked.{AreStatesRefused};
+ghost use Rattle.answer_examples.specs.Ranked.{IsRefused, IsFormRefused, IsHeadRefused};
+ghost use Rattle.answer_examples.specs.Ranked.{IsStageRefused, AreStatesRefused};
 
-/// With other counts, with an example of another form or with other counts, or without its last
-/// stage or with one more, the answer is not certified.
+/// With another form or what is no form, with other counts, with an example of another form or with
+/// other counts, or without its last stage or with one more, the answer is not certified.
 pub fn altered_heads_are_refused()
+    ensures another_form { IsFormRefused [] }
+    ensures no_form { IsFormRefused (timeline (codes "]")) }
     ensures first_count { IsHeadRefused (1 ∷ 1 ∷ 0 ∷ []) bare }
     ensures second_count { IsHeadRefused (0 ∷ 0 ∷ 0 ∷ []) bare }
     ensures last_count { IsHeadRefused (0 ∷ 1 ∷ 1 ∷ []) bare }

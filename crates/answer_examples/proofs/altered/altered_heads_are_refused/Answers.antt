@@ -3,6 +3,14 @@ use Rattle.violation.specs.Counts.{viol}
 use Rattle.answer_examples.proofs.AnswerTests.{refused_head}
 use Rattle.answer_examples.proofs.altered.altered_heads_are_refused.Goals as goal
 
+pub returns-clause-another_form : goal.returns-clause-another_form
+unfolding viol
+returns-clause-another_form c one max dep answer s = refused_head s refl
+
+pub returns-clause-no_form : goal.returns-clause-no_form
+unfolding viol
+returns-clause-no_form c one max dep answer s = refused_head s refl
+
 pub returns-clause-first_count : goal.returns-clause-first_count
 unfolding viol
 returns-clause-first_count c one max dep answer s = refused_head s refl

@@ -1,17 +1,17 @@
 -- The answers to `[ ]` under `A -> a` and `a -> A`, and with `a # a` below them, are right, by computing.
-use Rattle.std.proofs.Common.{◌≡◌, ℕ, true, List, [], ◌∷◌, refl, sym, codes, slice_index_or, String}
+use Rattle.std.proofs.Common.{◌≡◌, ℕ, true, List, [], ◌∷◌, Greater, refl, sym, codes, slice_index_or, String}
 use Rattle.std.specs.declared.alloc.Global.{Global}
 use Rattle.std.proofs.lemmas.Bool.{and_from}
 use Rattle.tier_core.specs.declared.sym.Sym.{Sym}
-use Rattle.violation.specs.Candidates.{IsCandidate, counts_on}
+use Rattle.tier_core.specs.Orders.{timeline_cmp}
+use Rattle.violation.specs.Candidates.{counts_on}
 use Rattle.violation.specs.Counts.{viol, so_far}
 use Rattle.violation.specs.Problems.{Problem}
 use Rattle.answer_text.specs.declared.answer.Answer.{Answer}
 use Rattle.answer_text.specs.Certified.{IsCertified}
 use Rattle.answer_text.specs.Right.{IsRight}
 use Rattle.answer_text.specs.Sound.{IsSound}
-use Rattle.answer_examples.specs.Seen.{IsSeenAs}
-use Rattle.answer_examples.specs.Faithful.{under_max_dep, under_max_dep_one, together, around, nine_counts, stages_of_two, stages_of_three, states_of_many, states_of_nine}
+use Rattle.answer_examples.specs.Faithful.{under_max_dep, under_max_dep_one, first_optimal, other_optimal, nine_counts, stages_of_two, stages_of_three, states_of_many, states_of_nine, IsAnswerOfMany, IsAnswerOfNine, IsOneOfNine}
 use Rattle.answer_examples.proofs.EmptyForm.{split, show}
 use Rattle.answer_examples.proofs.Same.{same_numbers, Decides-numbers}
 use Rattle.answer_examples.proofs.AnswerTests.{head_passes, is_candidate, Decides-candidate, is_certified, listing}
@@ -50,15 +50,15 @@ module _ (max dep : String Global) where
   abbrev two : Problem
   two = under_max_dep max dep
 
-  two_passes : is_certified two (0 ∷ 0 ∷ []) together 3 (listing stages_of_two) states_of_many ≡ true
+  two_passes : is_certified two (0 ∷ 0 ∷ []) first_optimal 3 (listing stages_of_two) states_of_many ≡ true
   unfolding viol
   two_passes = refl
 
-  two_right : is_right two (0 ∷ 0 ∷ []) together (listing stages_of_two) states_of_many shown_at seven_shown ≡ true
+  two_right : is_right two (0 ∷ 0 ∷ []) first_optimal (listing stages_of_two) states_of_many shown_at seven_shown ≡ true
   unfolding viol so_far
   two_right = refl
 
-  module _ (answer : Answer) (s : IsSeenAs two answer (0 ∷ 0 ∷ []) together stages_of_two states_of_many) where
+  module _ (answer : Answer) (s : IsAnswerOfMany max dep answer) where
     pub certified : IsCertified two answer
     certified = certified_by s two_passes
 
@@ -72,51 +72,48 @@ module _ (max dep one : String Global) where
   abbrev three : Problem
   three = under_max_dep_one max dep one
 
-  -- the stages and the automaton pass whatever the example, which is a candidate with the counts
-  module _ (example : List (List Sym)) (candidate : IsCandidate three example)
-      (counted : counts_on three example ≡ nine_counts) where
+  -- the stages and the automaton pass, whichever of the nine is the example
+  module _ (example : List (List Sym)) (nine : IsOneOfNine max dep one example) where
     head : head_passes three nine_counts example 4 ≡ true
     head =
         and_from (is_candidate three example) (same_numbers nine_counts (counts_on three example))
-        ((Decides-candidate three example).1 candidate)
-        ((Decides-numbers nine_counts (counts_on three example)).1 (sym counted))
+        ((Decides-candidate three example).1 nine.candidate)
+        ((Decides-numbers nine_counts (counts_on three example)).1 (sym nine.counted))
 
     passes : is_certified three nine_counts example 4 (listing stages_of_three) states_of_nine ≡ true
     passes = and_from (head_passes three nine_counts example 4) true head refl
 
-    module _ (answer : Answer) (s : IsSeenAs three answer nine_counts example stages_of_three states_of_nine) where
+    module _ (answer : Answer) (s : IsAnswerOfNine max dep one answer example) where
       pub certified_nine : IsCertified three answer
       certified_nine = certified_by s passes
 
       pub sound_nine : IsSound three answer
       sound_nine = sound_by s split refl refl certified_nine
 
-  together_counted : counts_on three together ≡ nine_counts
+  first_is : IsOneOfNine max dep one first_optimal
   unfolding viol
-  together_counted = refl
+  first_is = record { candidate = (Decides-candidate three first_optimal).0 refl; counted = refl }
 
-  around_counted : counts_on three around ≡ nine_counts
+  other_is : IsOneOfNine max dep one other_optimal
   unfolding viol
-  around_counted = refl
+  other_is = record { candidate = (Decides-candidate three other_optimal).0 refl; counted = refl }
 
-  right_passes : is_right three nine_counts together (listing stages_of_three) states_of_nine shown_at seven_shown
-      ≡ true
+  right_passes : is_right three nine_counts first_optimal (listing stages_of_three) states_of_nine shown_at
+      seven_shown ≡ true
   unfolding viol so_far
   right_passes = refl
 
-  pub right_nine : (answer : Answer)
-      → IsSeenAs three answer nine_counts together stages_of_three states_of_nine → IsRight three answer
+  pub right_nine : (answer : Answer) → IsAnswerOfNine max dep one answer first_optimal → IsRight three answer
   right_nine answer s =
-      let certified : IsCertified three answer = certified_nine together ((Decides-candidate three together).0 refl)
-      together_counted answer s in
-      right_by s split refl refl certified shown_at seven_shown right_passes
+      right_by s split refl refl (certified_nine first_optimal first_is answer s) shown_at seven_shown right_passes
 
-  module _ (answer : Answer) (s : IsSeenAs three answer nine_counts around stages_of_three states_of_nine) where
-    certified_around : IsCertified three answer
-    certified_around = certified_nine around ((Decides-candidate three around).0 refl) around_counted answer s
+  -- with an example that comes after the first it is not right
+  pub later_not_right : (example : List (List Sym)) → IsOneOfNine max dep one example
+      → timeline_cmp example first_optimal ≡ Greater → (answer : Answer)
+      → IsAnswerOfNine max dep one answer example → IsRight three answer → ⊥
+  later_not_right example nine after answer s =
+      not_right_by s split refl refl (certified_nine example nine answer s) first_optimal refl first_is.counted after
 
-    pub sound_around : IsSound three answer
-    sound_around = sound_by s split refl refl certified_around
-
-    pub not_right_around : IsRight three answer → ⊥
-    not_right_around = not_right_by s split refl refl certified_around together refl together_counted refl
+  pub other_not_right : (answer : Answer) → IsAnswerOfNine max dep one answer other_optimal
+      → IsRight three answer → ⊥
+  other_not_right = later_not_right other_optimal other_is refl

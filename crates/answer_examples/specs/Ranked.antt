@@ -67,34 +67,43 @@ abbrev pub three_states : List StateSeen
 three_states = states_with false first_arcs false second_arcs true []
 
 -- the candidate without any a
-abbrev pub bare : List (List Sym)
-bare = timeline (codes "[- ]-")
+abbrev pub only_optimal : List (List Sym)
+only_optimal = timeline (codes "[- ]-")
 
-abbrev pub bare_counts : List ℕ
-bare_counts = 0 ∷ 1 ∷ 0 ∷ []
+abbrev pub least_counts : List ℕ
+least_counts = 0 ∷ 1 ∷ 0 ∷ []
 
--- An answer that is seen so is not certified, whatever the names of the constraints.
+-- an answer to a form under the three, which says what the right one to `[ ]` says
+abbrev pub IsAnswerOn : List (List Sym) → String Global → String Global → String Global → Answer
+    → Type 0
+IsAnswerOn form one max dep answer =
+    IsSeenAs (one_max_dep_on form one max dep) answer least_counts only_optimal four_stages
+    three_states
+
+-- for this form it is not certified, whatever the names of the constraints
+abbrev pub IsFormRefused : List (List Sym) → Type 0
+IsFormRefused form = (one max dep : String Global) (answer : Answer)
+    → IsAnswerOn form one max dep answer → IsCertified (one_max_dep_on form one max dep) answer → ⊥
+
+-- an answer to `[ ]` that says this is not certified
 abbrev pub IsRefused : List ℕ → List (List Sym) → List (List (PrefixKind × ℕ)) → List StateSeen
     → Type 0
 IsRefused counts example stages states = (one max dep : String Global) (answer : Answer)
     → IsSeenAs (under_one_max_dep one max dep) answer counts example stages states
     → IsCertified (under_one_max_dep one max dep) answer → ⊥
 
--- the same answer with this form, to the same constraints on this form
-abbrev pub IsFormRefused : List (List Sym) → Type 0
-IsFormRefused form = (one max dep : String Global) (answer : Answer)
-    → IsSeenAs (one_max_dep_on form one max dep) answer bare_counts bare four_stages three_states
-    → IsCertified (one_max_dep_on form one max dep) answer → ⊥
-
--- the answer with another head, with another stage in place of one of its own, or with other states
+-- the right one with another head, with other stages, with one other stage, or with other states
 abbrev pub IsHeadRefused : List ℕ → List (List Sym) → Type 0
 IsHeadRefused counts example = IsRefused counts example four_stages three_states
 
+abbrev pub AreStagesRefused : List (List (PrefixKind × ℕ)) → Type 0
+AreStagesRefused stages = IsRefused least_counts only_optimal stages three_states
+
 abbrev pub IsStageRefused : ℕ → List (PrefixKind × ℕ) → Type 0
-IsStageRefused r nodes = IsRefused bare_counts bare (slice_set four_stages r nodes) three_states
+IsStageRefused r nodes = AreStagesRefused (slice_set four_stages r nodes)
 
 abbrev pub AreStatesRefused : List StateSeen → Type 0
-AreStatesRefused states = IsRefused bare_counts bare four_stages states
+AreStatesRefused states = IsRefused least_counts only_optimal four_stages states
 
 -- nodes of which number i has another potential, or another kind, or is not there
 abbrev pub with_potential : List (PrefixKind × ℕ) → ℕ → ℕ → List (PrefixKind × ℕ)

@@ -2,10 +2,10 @@
 ghost use Rattle.std.specs.Prelude.{true, false, [], ◌∷◌, drop, codes};
 ghost use Rattle.violation.specs.Examples.{timeline, kind_text};
 ghost use Rattle.answer_examples.specs.Worked.{arc_on, state};
-ghost use Rattle.answer_examples.specs.Ranked.{bare, bare_counts, six_nodes, node_at, nodes_of_max};
-ghost use Rattle.answer_examples.specs.Ranked.{nodes_of_dep, first_arcs, second_arcs, three_states};
+ghost use Rattle.answer_examples.specs.Ranked.{only_optimal, least_counts, six_nodes, node_at};
+ghost use Rattle.answer_examples.specs.Ranked.{nodes_of_max, nodes_of_dep, first_arcs, second_arcs};
 ghost use Rattle.answer_examples.specs.Ranked.{states_with, with_potential, with_kind, without};
-ghost use Rattle.answer_examples.specs.Ranked.{IsRefused, IsFormRefused, IsHeadRefused};
+ghost use Rattle.answer_examples.specs.Ranked.{IsFormRefused, IsHeadRefused, AreStagesRefused};
 ghost use Rattle.answer_examples.specs.Ranked.{IsStageRefused, AreStatesRefused};
 
 /// With another form or what is no form, with other counts, with an example of another form or with
@@ -13,17 +13,16 @@ ghost use Rattle.answer_examples.specs.Ranked.{IsStageRefused, AreStatesRefused}
 pub fn altered_heads_are_refused()
     ensures another_form { IsFormRefused [] }
     ensures no_form { IsFormRefused (timeline (codes "]")) }
-    ensures first_count { IsHeadRefused (1 ∷ 1 ∷ 0 ∷ []) bare }
-    ensures second_count { IsHeadRefused (0 ∷ 0 ∷ 0 ∷ []) bare }
-    ensures last_count { IsHeadRefused (0 ∷ 1 ∷ 1 ∷ []) bare }
-    ensures two_counts { IsHeadRefused (0 ∷ 2 ∷ 2 ∷ []) bare }
-    ensures greatest_count { IsHeadRefused (0 ∷ 1000000000 ∷ 0 ∷ []) bare }
-    ensures example_of_another_form { IsHeadRefused bare_counts [] }
-    ensures example_with_an_a { IsHeadRefused bare_counts (timeline (codes "[[ ]]")) }
-    ensures no_last_stage { IsRefused bare_counts bare (six_nodes 0 ∷ six_nodes 1
-        ∷ nodes_of_max ∷ []) three_states }
-    ensures stage_added { IsRefused bare_counts bare (six_nodes 0 ∷ six_nodes 1 ∷ nodes_of_max
-        ∷ nodes_of_dep ∷ nodes_of_dep ∷ []) three_states }
+    ensures first_count { IsHeadRefused (1 ∷ 1 ∷ 0 ∷ []) only_optimal }
+    ensures second_count { IsHeadRefused (0 ∷ 0 ∷ 0 ∷ []) only_optimal }
+    ensures last_count { IsHeadRefused (0 ∷ 1 ∷ 1 ∷ []) only_optimal }
+    ensures two_counts { IsHeadRefused (0 ∷ 2 ∷ 2 ∷ []) only_optimal }
+    ensures greatest_count { IsHeadRefused (0 ∷ 1000000000 ∷ 0 ∷ []) only_optimal }
+    ensures example_of_another_form { IsHeadRefused least_counts [] }
+    ensures example_with_an_a { IsHeadRefused least_counts (timeline (codes "[[ ]]")) }
+    ensures no_last_stage { AreStagesRefused (six_nodes 0 ∷ six_nodes 1 ∷ nodes_of_max ∷ []) }
+    ensures stage_added { AreStagesRefused (six_nodes 0 ∷ six_nodes 1 ∷ nodes_of_max
+        ∷ nodes_of_dep ∷ nodes_of_dep ∷ []) }
 {}
 
 /// With a potential that is raised, or lowered at the start, with a phase that is not due, or with

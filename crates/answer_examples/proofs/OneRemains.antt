@@ -1,10 +1,10 @@
 -- One violation of `a -> A` remains where the overt tier is open and not met, and the form is empty.
-use Rattle.std.proofs.Common.{◌≡◌, ℕ, ◌+◌, ◌≤◌, true, List, [], ◌∷◌, ◌++◌, take, drop, length, refl, sym, ap, ◌∙◌, subst, arith, codes, String, append-nil, ⊎_elim}
+use Rattle.std.proofs.Common.{◌≡◌, ℕ, ◌+◌, ◌≤◌, true, List, [], ◌∷◌, ◌++◌, take, drop, length, refl, sym, ap, ◌∙◌, subst, arith, codes, String, append-nil, ◌==◌}
 use Rattle.std.specs.declared.alloc.Global.{Global}
 use Rattle.std.proofs.lemmas.Bool.{false≢true}
+use Rattle.std.proofs.lemmas.Bool.Decides.{Decides-eqb}
 use Rattle.std.proofs.lemmas.List.{length-take-le, take-append-drop}
 use Rattle.tier_core.specs.declared.sym.Sym.{Sym}
-use Rattle.tier_core.specs.declared.tier.TierKind.TheVariants.{Input, Overt}
 use Rattle.tier_core.specs.Kinds.{PrefixKind, unmet}
 use Rattle.violation.specs.Candidates.{IsCandidate, count_at, count_so_far_at}
 use Rattle.violation.specs.Counts.{viol, so_far}
@@ -14,11 +14,12 @@ use Rattle.violation.specs.Prefixes.{kind_of}
 use Rattle.violation.specs.Problems.{Problem}
 use Rattle.violation.specs.Stages.{IsStage, Passes, IsLeastRest}
 use Rattle.violation.proofs.ExampleLemmas.{right_timeline, right_candidate}
-use Rattle.violation.proofs.SplitLemmas.{tiers_split}
 use Rattle.violation.proofs.StageLemmas.{all_optimal, over_stretches}
 use Rattle.violation.proofs.WalkLemmas.{fits_next, candidate_final}
 use Rattle.violation.proofs.WalkSums.{walk_cost, walk_step, violations_on}
-use Rattle.answer_examples.proofs.Fits.{at_start, only_ends}
+use Rattle.answer_examples.proofs.EmptyForm.{split}
+use Rattle.answer_examples.proofs.StageTests.{fits_kind, Decides-fits}
+use Rattle.answer_examples.proofs.Tests.{implied, Decides-implied, Decides-columns}
 
 abbrev later : List (List Sym)
 later = timeline (codes "-[ -]")
@@ -28,11 +29,11 @@ module _ (name : String Global) where
   one_dep = over_two (dep_a name ∷ []) []
 
   abbrev open_unmet : PrefixKind
-  open_unmet = at_start true (unmet ∷ [])
+  open_unmet = record { place = 0; opened = true ∷ []; phases = unmet ∷ [] }
 
   stage : IsStage one_dep 1
   stage = record {
-    split = tiers_split (Input ∷ Overt ∷ []);
+    split = split;
     form = record { well_formed = right_timeline 1 [] tt refl; reduced = tt };
     over = (
       record { left_below = (omega arith, tt); right_below = (omega arith, tt); some_left = omega arith },
@@ -50,8 +51,10 @@ module _ (name : String Global) where
 
   first_costs : (column : List Sym) → FitsKind one_dep open_unmet column → cost_of one_dep 1 open_unmet column ≡ 1
   first_costs column f =
-      ⊎_elim (λ e. ap (cost_of one_dep 1 open_unmet) e) (λ e. ap (cost_of one_dep 1 open_unmet) e)
-      (only_ends (dep_a name ∷ []) (unmet ∷ []) column f)
+      (Decides-columns 2 (λ c. implied (fits_kind one_dep open_unmet c) (λ _. cost_of one_dep 1 open_unmet c == 1))
+      (λ c. FitsKind one_dep open_unmet c → cost_of one_dep 1 open_unmet c ≡ 1)
+      (λ c. Decides-implied (fits_kind one_dep open_unmet c) (λ _. cost_of one_dep 1 open_unmet c == 1)
+      (Decides-fits one_dep open_unmet c) (Decides-eqb (cost_of one_dep 1 open_unmet c) 1))).0 refl column f.width f
 
   rest_costs : (p q : List (List Sym)) → IsCandidate one_dep (p ++ q) → kind_of one_dep 1 p ≡ open_unmet
       → 1 ≤ walk_cost one_dep 1 stage 0 (kind_of one_dep 1 p) q

@@ -1,2 +1,4 @@
 pub mod Seen
 pub mod Worked
+pub mod Ranked
+pub mod Faithful

@@ -10,7 +10,8 @@ ghost use Rattle.answer_examples.specs.Seen.{IsSeenAs};
 ghost use Rattle.answer_examples.specs.Worked.{unranked, node, arc_on, state, two_kinds, two_states};
 
 /// Without constraints, the empty form has an answer with two nodes and two states. It is certified
-/// and sound with any candidate as its example. With one that is not the first, it is not right.
+/// and sound with any candidate as its example. With the first, which has no columns, it is right;
+/// with one that is not the first, it is not.
 pub fn unranked_answers()
     ensures certified { (answer : Answer) (example : List (List Sym))
         → IsCandidate unranked example
@@ -18,6 +19,8 @@ pub fn unranked_answers()
     ensures sound { (answer : Answer) (example : List (List Sym))
         → IsCandidate unranked example
         → IsSeenAs unranked answer [] example two_kinds two_states → IsSound unranked answer }
+    ensures right { (answer : Answer) → IsSeenAs unranked answer [] [] two_kinds two_states
+        → IsRight unranked answer }
     ensures another_example { (answer : Answer)
         → IsSeenAs unranked answer [] (timeline (codes "-[ -]")) two_kinds two_states
         → IsSound unranked answer }

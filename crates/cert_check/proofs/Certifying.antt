@@ -37,7 +37,7 @@ use Rattle.cert_check.proofs.DecidedForms.{is_form, is_candidate}
 use Rattle.cert_check.proofs.DecidedMoves.{is_listed, is_kept}
 use Rattle.cert_check.proofs.Faultless.{contains_numbered}
 use Rattle.cert_check.proofs.Ascending.{node_at, kind_at, ascends_unless}
-use Rattle.cert_check.proofs.KindMasks.{kind_for}
+use Rattle.cert_check.proofs.KindMasks.{some_told}
 
 -- numbers that do not differ are the same
 same_unless : (m n : ℕ) → ((m ≡ n → ⊥) → ⊥) → m ≡ n
@@ -178,7 +178,7 @@ module _ (problem : Problem) (answer : Answer) (faultless : IsFaultless problem 
         next = moved problem r (told node) column
 
         missing : (kind : Kind) × TellsKind problem r kind next
-        missing = kind_for problem r next (length-map problem.tiers.free (λ t. opens (symbol column t)))
+        missing = some_told problem r next (length-map problem.tiers.free (λ t. opens (symbol column t)))
             (next_count (stretches problem r) (told node).phases column
             (length-map-range_with_len (phase_at node.kind) 0 (length (stretches problem r))))
 

@@ -27,7 +27,7 @@ use Rattle.cert_check.specs.FirstFaults.{IsFault, IsFirstFault}
 use Rattle.cert_check.proofs.Decisions.{so_unless, same_rank}
 use Rattle.cert_check.proofs.Faultless.{some_same}
 use Rattle.cert_check.proofs.Ascending.{ascends_unless}
-use Rattle.cert_check.proofs.KindMasks.{one_told}
+use Rattle.cert_check.proofs.KindMasks.{same_told}
 
 -- ---- places are in one order
 
@@ -193,7 +193,7 @@ module _ (problem : Problem) (answer : Answer) where
 
     one_missing : (kind other : Kind) → IsNotClosed problem answer stage n column kind
         → IsNotClosed problem answer stage n column other → kind ≡ other
-    one_missing kind other a b = one_told problem stage kind other (next b.node)
+    one_missing kind other a b = same_told problem stage kind other (next b.node)
         (subst (λ x. TellsKind problem stage kind (next x)) (one_node stage n a.node b.node a.is b.is) a.leads) b.leads
 
     not_both : (kind : Kind) (listed allowed : ℕ) → IsNotClosed problem answer stage n column kind

@@ -24,7 +24,7 @@ use Rattle.violation.proofs.WholeCounts.{so_far_none}
 use Rattle.kind_moves.specs.declared.frame.Frame.{Frame}
 use Rattle.kind_moves.specs.Frames.{tiers_in, constraints_in, form_in, stretches_in, kind_at_stage, IsStart}
 use Rattle.kind_moves.proofs.GrammarTiers.{over_tiers, over_stretches, form_from}
-use Rattle.kind_moves.proofs.CostSteps.{unmet_told, cost_at}
+use Rattle.violation.proofs.ConstraintCosts.{unmet_told, cost_at}
 use Rattle.violation.specs.Problems.{Problem, last_stage}
 use Rattle.kind_moves.specs.Frames.{problem_in}
 

@@ -1,12 +1,12 @@
 -- Masks that loops make tier by tier.
-use Rattle.std.proofs.Common.{subst, ◌≡◌, ◌≢◌, ℕ, zero, suc, ◌+◌, ◌-◌, ◌^◌, ◌==◌, ◌<◌, ◌≤◌, ◌||◌, Bool, true, false, cond, List, [], ◌∷◌, ◌++◌, map, max, min, length, refl, ap, sym, ◌∙◌, arith, add-one, ⊎_elim, eq-eqb, ne_eqb, bit_and, bit_or}
+use Rattle.std.proofs.Common.{subst, ◌≡◌, ◌≢◌, ℕ, zero, suc, ◌+◌, ◌-◌, ◌^◌, ◌==◌, ◌<◌, ◌≤◌, ◌||◌, not, nat_eq, Bool, true, false, cond, List, [], ◌∷◌, ◌++◌, map, max, min, length, refl, ap, sym, ◌∙◌, arith, add-one, ⊎_elim, eq-eqb, ne_eqb, bit_and, bit_or}
 use Rattle.std.specs.Int.{bit_at}
-use Rattle.std.specs.List.{AllByRecursion}
+use Rattle.std.specs.List.{AllByRecursion, list_any}
 use Rattle.std.proofs.lemmas.Bool.{cases_lt}
 use Rattle.std.proofs.lemmas.List.{append-nil, map-append, length_push, get_or_past}
 use Rattle.std.proofs.lemmas.List.FromFn.{fill_by_all, length-map-range_with_len, get_or-map-range_with_len, map-range_with_len_more}
 use Rattle.std.proofs.lemmas.Nat.{pow_below}
-use Rattle.std.proofs.lemmas.Nat.Bits.{bit_at_above, bit_at_and, bit_at_ones, bit_at_or, bit_at-lt}
+use Rattle.std.proofs.lemmas.Nat.Bits.{bit_at_and, bit_at_ones, bit_at_or, bit_at-lt}
 use Rattle.tier_core.specs.declared.sym.Sym.{Sym}
 use Rattle.tier_core.specs.declared.sym.Sym.TheVariants.{Outside}
 use Rattle.tier_core.specs.Kinds.{open_tiers}
@@ -14,11 +14,8 @@ use Rattle.tier_core.specs.Scan.{opens}
 use Rattle.tier_core.specs.Timelines.{symbol}
 use Rattle.tier_core.specs.Tiers.{has_tier, tiers_below, tiers_of}
 use Rattle.tier_core.proofs.CountLemmas.{all_append, all_weaker}
+use Rattle.tier_core.proofs.MaskBits.{none_from, no_flag}
 use Rattle.violation.specs.Moves.{flag_of}
-
--- no tier from the bound of a mask on
-pub none_from : (mask k t : ℕ) → mask < 2 ^ k → k ≤ t → has_tier mask t ≡ false
-none_from mask k t l h = ap (λ b. b == 1) (bit_at_above mask k t l h)
 
 or_value : (x y : ℕ) → x < 2 → y < 2 → (max x y == 1) ≡ ((x == 1) || (y == 1))
 or_value zero zero l h = refl
@@ -67,6 +64,14 @@ lowest_at mask count ones t is l = ap (λ n. n == 1)
 pub same_flags : (n a b : ℕ) → ((t : ℕ) → t < n → has_tier a t ≡ has_tier b t) → open_tiers n a ≡ open_tiers n b
 same_flags n a b h = fill_by_all (has_tier b) (open_tiers n a) n false (length-map-range_with_len (has_tier a) 0 n)
     (λ k l. get_or-map-range_with_len (has_tier a) 0 n k k false l (omega arith) ∙ h k l)
+
+-- the lowest bits of a mask are 0 exactly if it has none of so many flags
+pub no_lowest : (n count mask low : ℕ) → count ≡ n → low < 2 ^ count
+    → ((t : ℕ) → t < count → has_tier low t ≡ has_tier mask t)
+    → nat_eq low 0 ≡ not (list_any (λ flag. flag) (open_tiers n mask))
+no_lowest n count mask low same within bits =
+    no_flag n low (subst (λ m. low < 2 ^ m) same within)
+    ∙ ap (λ flags. not (list_any (λ flag. flag) flags)) (same_flags n low mask (λ t l. bits t (omega (arith, same))))
 
 -- ---- flags that are laid out on tiers
 

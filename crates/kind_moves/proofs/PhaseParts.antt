@@ -13,7 +13,7 @@ use Rattle.symbol_class.specs.Held.{ArePieces}
 use Rattle.symbol_class.specs.Parts.{ArePartedBy}
 use Rattle.symbol_class.proofs.PartSteps.{parted_same, parted_then}
 use Rattle.violation.specs.Moves.{next_phase, next_phases}
-use Rattle.kind_moves.proofs.PhaseMaskSteps.{next_append}
+use Rattle.violation.proofs.NextPhases.{next_append}
 
 -- the phases after a column of the stretch implications among the first n constraints
 abbrev pub phases_after : List Constraint → Kind → ℕ → ℕ → List Sym → List Phase

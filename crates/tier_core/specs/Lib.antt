@@ -15,3 +15,4 @@ pub mod Shapes
 pub mod KindShapes
 pub mod Filled
 pub mod FirstColumn
+pub mod PhaseBits

@@ -26,3 +26,6 @@ pub mod WalkSums
 pub mod CandidateLemmas
 pub mod ExampleLemmas
 pub mod RestLemmas
+pub mod KindBits
+pub mod NextPhases
+pub mod ConstraintCosts

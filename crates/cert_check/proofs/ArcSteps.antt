@@ -18,7 +18,7 @@ use Rattle.answer_text.specs.declared.stage.Node.{Node}
 use Rattle.answer_text.specs.Certified.{IsKeptBelow}
 use Rattle.answer_text.specs.Right.{nodes_at, kinds_at, IsNodeOf}
 use Rattle.check_laws.proofs.Listing.{one_number}
-use Rattle.check_laws.proofs.Members.{all_from_members, contains_map}
+use Rattle.tier_core.proofs.Members.{all_from_members, contains_map}
 use Rattle.cert_check.specs.declared.kept_piece.KeptPiece.{KeptPiece}
 use Rattle.cert_check.specs.declared.subject.Subject.{Subject}
 use Rattle.cert_check.specs.Arcs.{arc_classes}

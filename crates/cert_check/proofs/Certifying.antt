@@ -27,7 +27,7 @@ use Rattle.answer_text.specs.declared.answer.Answer.{Answer}
 use Rattle.answer_text.specs.Acceptance.{HasArc}
 use Rattle.answer_text.specs.Right.{nodes_at, kinds_at, IsNodeOf, numbers_of}
 use Rattle.answer_text.specs.Certified.{Lists, IsKeptBelow, IsPossibleKind, IsCertified, IsCertifiedStage, IsCertifiedAutomaton, start_potential}
-use Rattle.check_laws.proofs.Members.{contains_of_map, all_from_members}
+use Rattle.tier_core.proofs.Members.{contains_of_map, all_from_members}
 use Rattle.check_laws.proofs.Listing.{lists_kind, kind_numbered, one_potential}
 use Rattle.cert_check.specs.declared.fault.Fault.TheVariants.{FormWrong, StageMissing, ExampleWrong, CountsDiffer, NodeWrong, StartMissing, FinalPotential, NotClosed, Potential, StartPotential, StateMissing, FinalsDiffer, ArcsTwice, ArcsDiffer}
 use Rattle.cert_check.specs.Faults.{HasNode, HasWrongNode, IsUnlisted, HasState, TellsKind, IsListedTarget, IsKeptTarget}

@@ -10,8 +10,7 @@ use Rattle.tier_core.specs.declared.sym.Sym.{Sym}
 use Rattle.tier_core.specs.declared.sym.Sym.TheVariants.{Outside, Inside, Start, End, Both}
 use Rattle.tier_core.specs.Kinds.{PrefixKind, kind_order}
 use Rattle.tier_core.specs.Symbols.{rank}
-use Rattle.check_laws.proofs.Listing.{kinds_total}
-use Rattle.cert_check.proofs.KindTies.{same_kind}
+use Rattle.tier_core.proofs.KindTies.{same_kind, kind_order_total}
 
 abbrev pub Decided : Type 0 → Type 0
 Decided P = P ⊎ (P → ⊥)
@@ -145,7 +144,7 @@ is_kind k l = by (kind_order k l) refl
   where
     other : is_eq (kind_order k l) ≡ false → k ≡ l → ⊥
     other h e = true≢false
-        (sym (ap is_eq (tied_itself kinds_total l)) ∙ sym (ap (λ x. is_eq (kind_order x l)) e) ∙ h)
+        (sym (ap is_eq (tied_itself kind_order_total l)) ∙ sym (ap (λ x. is_eq (kind_order x l)) e) ∙ h)
 
     by : (o : Ordering) → kind_order k l ≡ o → Decided (k ≡ l)
     by Less e = inr (other (ap is_eq e))

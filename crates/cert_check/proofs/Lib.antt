@@ -5,7 +5,6 @@ pub mod Grammars
 pub mod Stops
 pub mod Opens
 pub mod Cuts
-pub mod KindTies
 pub mod Decisions
 pub mod DecidedForms
 pub mod DecidedMoves

@@ -10,7 +10,7 @@ use Rattle.violation.specs.Prefixes.{kind_of, kind_of_bits}
 use Rattle.violation.specs.Problems.{Problem, last_stage}
 use Rattle.answer_text.specs.declared.stage.Node.{Node}
 use Rattle.answer_text.specs.Certified.{IsPossibleKind}
-use Rattle.check_laws.proofs.Listing.{kinds_total}
+use Rattle.tier_core.proofs.KindTies.{kind_order_total}
 use Rattle.cert_check.specs.declared.subject.Subject.{Subject}
 use Rattle.cert_check.specs.declared.fault.Fault.TheVariants.{NodeWrong}
 use Rattle.cert_check.specs.Faults.{HasNode, IsInOrder, HasWrongNode}
@@ -53,7 +53,7 @@ module _ (s : Subject) (stage : ℕ) where
 
   -- nodes that all stand where they may ascend
   pub ascends_by : AreInOrder s stage (length (nodes_of s stage)) → AscendsAt s stage
-  ascends_by o = sorted_from_all_adjacent kinds_total (kinds_of s stage) (kind_of problem stage [])
+  ascends_by o = sorted_from_all_adjacent kind_order_total (kinds_of s stage) (kind_of problem stage [])
       (λ k l. let inside : k + 1 < length (nodes_of s stage) = omega (arith, l, kind_count) in
       subst (λ m. kind_order (node_kind s stage m) (node_kind s stage (k + 1)) ≡ Less) (omega arith)
       (after_by (k + 1) inside (o (k + 1) inside) (omega arith)))

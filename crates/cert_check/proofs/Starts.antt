@@ -15,13 +15,12 @@ use Rattle.tier_core.specs.Tiers.{has_tier}
 use Rattle.violation.specs.Conditions.{IsOverTiers}
 use Rattle.violation.specs.Prefixes.{kind_of, kind_of_bits, phase, stretches}
 use Rattle.violation.specs.Problems.{Problem, last_stage}
-use Rattle.check_laws.proofs.Listing.{kinds_total}
 use Rattle.cert_check.specs.declared.fault.Fault.TheVariants.{StartMissing}
 use Rattle.cert_check.specs.declared.subject.Subject.{Subject}
 use Rattle.cert_check.specs.Faults.{IsInOrder}
 use Rattle.cert_check.specs.Parts.{InStage, IsFirstInStage}
 use Rattle.cert_check.specs.Subjects.{IsReady, AreInOrder, problem_of, nodes_of, kinds_of}
-use Rattle.cert_check.proofs.KindTies.{same_kind}
+use Rattle.tier_core.proofs.KindTies.{same_kind, kind_order_total}
 use Rattle.cert_check.proofs.Orders.{numbered_is}
 use Rattle.cert_check.proofs.Parts.{none_before}
 use Rattle.cert_check.proofs.Subjects.{in_stages, tell_same, each_first}
@@ -70,7 +69,7 @@ equal_told Greater h = absurd (false≢true h)
 pub tie_is : (k l : PrefixKind) → IsTrue (is_eq (kind_order k l)) ↔ (k ≡ l)
 tie_is k l = (
   λ h. same_kind k l (equal_told (kind_order k l) h),
-  λ e. ap is_eq (ap (λ x. kind_order k x) (sym e) ∙ tied_itself kinds_total k),
+  λ e. ap is_eq (ap (λ x. kind_order k x) (sym e) ∙ tied_itself kind_order_total k),
 )
 
 each_left : (n : ℕ) (cs : List Constraint) → AllByRecursion (IsOverTiers n) cs

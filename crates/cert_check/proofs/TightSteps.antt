@@ -18,7 +18,7 @@ use Rattle.answer_text.specs.declared.stage.Stage.{Stage}
 use Rattle.answer_text.specs.Right.{nodes_at, kinds_at}
 use Rattle.answer_text.specs.Certified.{IsTightAt, Lists}
 use Rattle.check_laws.proofs.Listing.{one_potential}
-use Rattle.check_laws.proofs.Members.{contains_map}
+use Rattle.tier_core.proofs.Members.{contains_map}
 use Rattle.cert_check.specs.declared.subject.Subject.{Subject}
 use Rattle.cert_check.specs.Faults.{IsUnlisted, TellsKind}
 use Rattle.cert_check.specs.Fitting.{GoOnAlike}

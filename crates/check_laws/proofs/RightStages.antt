@@ -3,10 +3,8 @@ use Rattle.std.proofs.Common.{◌≡◌, ℕ, zero, suc, ◌+◌, ◌-◌, ◌<�
 use Rattle.std.proofs.lemmas.Bool.{cases_lt}
 use Rattle.std.proofs.lemmas.List.{length-append, length-map, take-append-drop}
 use Rattle.tier_core.specs.declared.sym.Sym.{Sym}
-use Rattle.tier_core.specs.declared.constraint.Constraint.{Constraint}
 use Rattle.tier_core.specs.Kinds.{PrefixKind, kind_order}
-use Rattle.tier_core.specs.Tiers.{Tiers}
-use Rattle.violation.specs.Candidates.{IsCandidate, vec, IsOptimalFor, counts_on, count_at}
+use Rattle.violation.specs.Candidates.{IsCandidate, IsOptimalFor, counts_on, count_at}
 use Rattle.violation.specs.Counts.{violations_of}
 use Rattle.violation.specs.Moves.{moved, cost_of, cut, is_final}
 use Rattle.violation.specs.Prefixes.{kind_of}
@@ -21,7 +19,7 @@ use Rattle.violation.proofs.WalkSums.{none_at, walk_cost, walk_step, violations_
 use Rattle.answer_text.specs.declared.answer.Answer.{Answer}
 use Rattle.answer_text.specs.Right.{nodes_at, kinds_at}
 use Rattle.answer_text.specs.Certified.{Lists, IsKeptBelow, IsPossibleKind, start_potential, IsCertifiedStage}
-use Rattle.check_laws.proofs.Members.{all_from_members}
+use Rattle.tier_core.proofs.Members.{all_from_members}
 use Rattle.check_laws.proofs.Potentials.{stage_at, over_at, goes_to}
 use Rattle.check_laws.proofs.Optima.{start_count, AllFall, AreTold}
 use Rattle.check_laws.proofs.Rests.{least_rest, HasRest, rest_some, rest_least}

@@ -26,9 +26,9 @@ use Rattle.kind_orders.specs.AutomatonLines.{line_of, move_classes, IsLineOf}
 use Rattle.kind_orders.specs.JoinedLines.{classes_of, AreJoinedFrom}
 use Rattle.symbol_class.specs.Held.{width_of, ArePieces}
 use Rattle.symbol_class.proofs.Pairs.{pairs_map}
-use Rattle.symbol_class.proofs.SetOrder.{both_equal, same_numbers}
+use Rattle.tier_core.proofs.KindTies.{both_equal, same_numbers}
 use Rattle.kind_orders.proofs.ArcCounts.{anywhere, apart_if_once, once_if_apart, goes_too}
-use Rattle.kind_orders.proofs.Members.{contains_map, contains_of_map}
+use Rattle.tier_core.proofs.Members.{contains_map, contains_of_map}
 use Rattle.kind_orders.proofs.Strict.{strict_from_sorted}
 
 pub arc_cmp_total : IsTotalOrder arc_cmp

@@ -14,7 +14,7 @@ use Rattle.answer_text.specs.Right.{numbers_of}
 use Rattle.kind_orders.specs.Orderings.{IsOrdering}
 use Rattle.kind_orders.specs.AutomatonLines.{nodes_of, IsLineOf, AreLinesOf, AreByNode}
 use Rattle.symbol_class.proofs.Pairs.{pairs_map, pairs_apart}
-use Rattle.kind_orders.proofs.Members.{all_from_members, contains_of_map}
+use Rattle.tier_core.proofs.Members.{all_from_members, contains_of_map}
 
 get_or-replicate_none : (n k : ℕ) → get_or (replicate n (let o : Option ℕ = None in o)) k None ≡ None
 get_or-replicate_none zero k = refl

@@ -9,7 +9,7 @@ use Rattle.answer_text.specs.declared.stage.Node.{Node}
 use Rattle.kind_orders.specs.Orderings.{IsOrdering}
 use Rattle.kind_orders.specs.KindOrders.{empty_kind, kind_numbered}
 use Rattle.kind_orders.specs.StageNodes.{node_numbered, AreNodesInOrder}
-use Rattle.kind_orders.proofs.Members.{contains_map, contains_of_map}
+use Rattle.tier_core.proofs.Members.{contains_map, contains_of_map}
 
 module _ (kinds : List Kind) (order : List ℕ) (o : IsOrdering (length kinds) order) (tell : Kind → PrefixKind) where
   abbrev taken : List PrefixKind

@@ -20,7 +20,7 @@ use Rattle.answer_text.specs.Right.{numbers_of, AreRightArcs}
 use Rattle.kind_orders.specs.AutomatonLines.{IsLineOf, AreLinesOf}
 use Rattle.kind_orders.specs.JoinedArcs.{AreJoined, HaveJoinedArcs}
 use Rattle.kind_orders.specs.Automata.{HasWidth, Reaches, IsAutomatonOf}
-use Rattle.kind_orders.proofs.Members.{contains_map, contains_of_map, all_from_members}
+use Rattle.tier_core.proofs.Members.{contains_map, contains_of_map, all_from_members}
 use Rattle.kind_orders.proofs.ArcOrder.{arcs_apart, arcs_filled, move_from, arc_from}
 
 module _ {W : Type 0} {g : Ghosts W} (kept : List (TableState W g)) where

@@ -1,7 +1,7 @@
 -- Choices of one element of each of some lists.
 use Rattle.std.proofs.Common.{List, [], ◌∷◌, map, subst, Contains}
 use Rattle.violation.specs.Counts.{choices}
-use Rattle.kind_orders.proofs.Members.{contains_map, contains_of_map}
+use Rattle.tier_core.proofs.Members.{contains_map, contains_of_map}
 use Rattle.ranked_gen.proofs.MemberLemmas.{contains_one, contains_first, contains_flat, contains_of_flat}
 
 -- one element of each list in turn

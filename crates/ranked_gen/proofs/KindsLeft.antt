@@ -24,7 +24,7 @@ use Rattle.kind_tables.specs.StageTables.{name_of, AreNamedByKinds}
 use Rattle.kind_tables.specs.FoundTables.{names_kept}
 use Rattle.stage_laws.proofs.Pruned.{kept_named}
 use Rattle.kind_orders.specs.KindOrders.{empty_kind, kind_numbered}
-use Rattle.kind_orders.proofs.Members.{contains_map, contains_of_map}
+use Rattle.tier_core.proofs.Members.{contains_map, contains_of_map}
 use Rattle.stage_tables.specs.Explored.{names_at}
 use Rattle.stage_tables.specs.Kept.{AreKeptByKinds}
 use Rattle.stage_tables.proofs.Named.{frame_stage}

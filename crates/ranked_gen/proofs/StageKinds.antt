@@ -17,7 +17,7 @@ use Rattle.violation.specs.Candidates.{IsForm, IsCandidate}
 use Rattle.violation.specs.Conditions.{AreSplit, AreDistinct}
 use Rattle.violation.specs.Stages.{IsPassed, AreKindsOfStage}
 use Rattle.violation.specs.Walks.{BeginsCandidate}
-use Rattle.kind_orders.proofs.Members.{contains_map, contains_of_map}
+use Rattle.tier_core.proofs.Members.{contains_map, contains_of_map}
 use Rattle.ranked_gen.specs.Budgets.{IsFirstOver}
 use Rattle.ranked_gen.specs.Numbers.{number_of_kind, kind_numbered}
 use Rattle.ranked_gen.specs.Listed.{kind_count}

@@ -25,7 +25,7 @@ use Rattle.kind_laws.proofs.ColumnCosts.{whole_few}
 use Rattle.kind_laws.proofs.DirectWays.{first_short, remaining_few}
 use Rattle.kind_laws.proofs.Longest.{differ_from_pairs, no_longer}
 use Rattle.kind_laws.proofs.Names.{range_in}
-use Rattle.check_laws.proofs.Members.{all_from_members, contains_map}
+use Rattle.tier_core.proofs.Members.{all_from_members, contains_map}
 use Rattle.check_laws.proofs.Starts.{possible}
 use Rattle.check_laws.proofs.Soundness.{numbers_apart}
 use Rattle.right_laws.specs.Small.{IsSmall}

@@ -20,7 +20,7 @@ use Rattle.symbol_class.specs.Held.{once_if}
 use Rattle.symbol_class.specs.Joined.{sets_beside, beside_cmp, united}
 use Rattle.tier_core.proofs.Filled.{sets_filled, sets_have-first}
 use Rattle.symbol_class.proofs.SetLists.{have_either}
-use Rattle.symbol_class.proofs.SetOrder.{same_numbers}
+use Rattle.tier_core.proofs.KindTies.{same_numbers}
 use Rattle.symbol_class.proofs.Times.{pairs_head, pairs_tail}
 
 -- how many of some lists of sets have a column

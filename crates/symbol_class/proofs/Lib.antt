@@ -1,4 +1,3 @@
-pub mod SetOrder
 pub mod SetLists
 pub mod Pairs
 pub mod Times

@@ -1,10 +1,32 @@
--- Kinds that tie in kind order are one.
-use Rattle.std.proofs.Common.{◌≡◌, ℕ, Bool, true, false, List, [], ◌∷◌, map, refl, ap, ap₂, ◌∙◌, arith}
+-- What ties in the order of numbers, of lists of numbers, and of kinds, is the same; and the order of kinds is total.
+use Rattle.std.proofs.Common.{◌≡◌, ℕ, Bool, true, false, List, [], ◌∷◌, map, refl, ap, ap₂, sym, ◌∙◌, arith, true≢false}
+use Rattle.std.specs.Cmp.{IsTotalOrder}
 use Rattle.std.specs.Cmp.Lexicographic.{slice_cmp}
-use Rattle.std.specs.Ordering.{nat_cmp, ordering_then}
-use Rattle.std.specs.declared.cmp.Ordering.TheVariants.{Equal}
-use Rattle.symbol_class.proofs.SetOrder.{both_equal, same_number, same_numbers}
+use Rattle.std.specs.Ordering.{nat_cmp, ordering_then, is_lt, is_gt}
+use Rattle.std.specs.declared.cmp.Ordering.{Ordering}
+use Rattle.std.specs.declared.cmp.Ordering.TheVariants.{Less, Equal, Greater}
+use Rattle.std.proofs.lemmas.Cmp.{ranked, nat_cmp_total, nat_list_cmp_total, on_total, then_total}
 use Rattle.tier_core.specs.Kinds.{Phase, closed, unmet, met, PrefixKind, open_rank, phase_rank, kind_order}
+
+-- ---- numbers
+
+pub both_equal : (o r : Ordering) → ordering_then o r ≡ Equal → (o ≡ Equal) × (r ≡ Equal)
+both_equal Less r e = absurd (true≢false (ap is_lt e))
+both_equal Equal r e = (refl, e)
+both_equal Greater r e = absurd (true≢false (ap is_gt e))
+
+pub same_number : (m n : ℕ) → nat_cmp m n ≡ Equal → m ≡ n
+same_number m n e = ranked m n Equal (sym e)
+
+pub same_numbers : (xs ys : List ℕ) → slice_cmp nat_cmp xs ys ≡ Equal → xs ≡ ys
+same_numbers [] [] e = refl
+same_numbers [] (y ∷ ys) e = absurd (true≢false (ap is_lt e))
+same_numbers (x ∷ xs) [] e = absurd (true≢false (ap is_gt e))
+same_numbers (x ∷ xs) (y ∷ ys) e =
+    let both = both_equal (nat_cmp x y) (slice_cmp nat_cmp xs ys) e in
+    ap₂ (λ z zs. z ∷ zs) (same_number x y both.0) (same_numbers xs ys both.1)
+
+-- ---- kinds
 
 unmapped : {X : Type 0} (f : X → ℕ) → ((x y : X) → f x ≡ f y → x ≡ y) → (xs ys : List X) → map f xs ≡ map f ys → xs ≡ ys
 unmapped f one [] [] e = refl
@@ -52,3 +74,10 @@ same_kind k l e =
     (same_numbers (map open_rank k.opened) (map open_rank l.opened) second.0))
     (unmapped phase_rank same_phase k.phases l.phases
     (same_numbers (map phase_rank k.phases) (map phase_rank l.phases) second.1))
+
+-- the order of kinds is total
+pub kind_order_total : IsTotalOrder kind_order
+kind_order_total =
+    then_total (on_total (λ (k : PrefixKind). k.place) nat_cmp_total)
+    (then_total (on_total (λ (k : PrefixKind). map open_rank k.opened) nat_list_cmp_total)
+    (on_total (λ (k : PrefixKind). map phase_rank k.phases) nat_list_cmp_total))

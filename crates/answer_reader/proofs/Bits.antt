@@ -1,15 +1,15 @@
 -- Masks of bytes, and kinds by such masks.
-use Rattle.std.proofs.Common.{◌≡◌, ◌≢◌, ℕ, zero, suc, ◌+◌, ◌*◌, ◌^◌, ◌==◌, ◌<◌, ◌≤◌, Bool, true, false, cond, List, [], ◌∷◌, map, length, get_or, drop, refl, ap, sym, ◌∙◌, arith, ⊎_elim, bit_and, ne_eqb, add-one}
+use Rattle.std.proofs.Common.{◌≡◌, ◌≢◌, ℕ, zero, suc, ◌+◌, ◌*◌, ◌^◌, ◌==◌, ◌<◌, ◌≤◌, Bool, false, cond, List, [], ◌∷◌, map, length, get_or, drop, refl, ap, sym, ◌∙◌, arith, ⊎_elim, bit_and, ne_eqb, add-one}
 use Rattle.std.specs.Int.{bit_at}
 use Rattle.std.specs.List.{range_with_len}
 use Rattle.std.proofs.lemmas.Bool.{cases_lt, eqb-true}
 use Rattle.std.proofs.lemmas.List.{get_or-map, drop_more}
 use Rattle.std.proofs.lemmas.List.FromFn.{fill_by_all}
-use Rattle.std.proofs.Math.Nat.{pow-suc, mul-add, mul_assoc}
+use Rattle.std.proofs.Math.Nat.{pow-suc}
 use Rattle.std.proofs.lemmas.Nat.Bits.{bit_at_lowest, bit_at-suc}
 use Rattle.tier_core.specs.Kinds.{phase_by_bits, open_tiers}
 use Rattle.tier_core.specs.Tiers.{has_tier}
-use Rattle.tier_core.proofs.MaskBits.{none_from, halves, lowest_flag, at_most_one, apart_by}
+use Rattle.tier_core.proofs.MaskBits.{none_from, halves, lowest_flag, at_most_one, apart_by, mask_shift}
 use Rattle.answer_reader.specs.Masks.{mask_of}
 use Rattle.answer_reader.specs.Nodes.{phase_of}
 
@@ -69,10 +69,6 @@ masks_apart m n bytes other = apart_by (mask_of m bytes) (mask_of n bytes) (λ i
 
 -- ---- the mask as it is made, from the front on
 
-pub mask_shift : (m b x : ℕ) (t : Bool) → m + b * (cond t 1 0 + 2 * x) ≡ m + cond t b 0 + b * 2 * x
-mask_shift m b x true = let p = mul-add b 1 (2 * x) in let q = mul_assoc b 2 x in omega arith
-mask_shift m b x false = let p = mul-add b 0 (2 * x) in let q = mul_assoc b 2 x in omega arith
-
 -- one byte more
 pub mask_next : (mark m b k r : ℕ) (bytes : List ℕ) (t : Bool) → k < length bytes → t ≡ (get_or bytes k 0 == mark) → r
     ≡ cond t b 0
@@ -82,10 +78,6 @@ mask_next mark m b k r bytes t l is e =
     ∙ ap (λ u. m + b * (cond u 1 0 + 2 * mask_of mark (drop (k + 1) bytes))) (sym is)
     ∙ mask_shift m b (mask_of mark (drop (k + 1) bytes)) t
     ∙ ap (λ x. m + x + b * 2 * mask_of mark (drop (k + 1) bytes)) (sym e)
-
-pub bit_below : (m b : ℕ) (t : Bool) (r : ℕ) → r ≡ cond t b 0 → m < b → m + r < b * 2
-bit_below m b true r e l = omega arith
-bit_below m b false r e l = omega arith
 
 pub bit_more : (b k : ℕ) → b ≤ 2 ^ k → b * 2 ≤ 2 ^ (k + 1)
 bit_more b k l = let p : 2 ^ (k + 1) ≡ 2 ^ k * 2 = ap (λ i. 2 ^ i) (add-one k) ∙ pow-suc 2 k in omega arith

@@ -1,8 +1,8 @@
 -- Lines of a text, cut one by one.
-use Rattle.std.proofs.Common.{◌≡◌, ℕ, ◌+◌, ◌==◌, ◌<◌, ◌≤◌, ◌&&◌, ◌||◌, Bool, true, false, List, [], ◌∷◌, ◌++◌, length, take, drop, Option, Some, None, option_map, position, refl, ap, sym, ◌∙◌, arith, nat_eq, ne_eqb, length-drop}
+use Rattle.std.proofs.Common.{◌≡◌, ℕ, ◌+◌, ◌==◌, ◌<◌, ◌≤◌, ◌&&◌, Bool, true, false, List, [], ◌∷◌, ◌++◌, length, take, drop, Option, Some, None, option_map, position, refl, ap, sym, ◌∙◌, arith, nat_eq, ne_eqb, length-drop}
 use Rattle.std.specs.List.{position_or_len, list_any, join_with_byte}
 use Rattle.std.specs.Str.{bytes_eq}
-use Rattle.std.proofs.lemmas.Bool.{false≢true}
+use Rattle.std.proofs.lemmas.Bool.{false≢true, or_parts}
 use Rattle.std.proofs.lemmas.Bool.Decides.{nat_tests}
 use Rattle.std.proofs.lemmas.List.Splits.{slice_split_none, slice_split_first, join_with_byte-slice_split, length-slice_split}
 use Rattle.std.proofs.lemmas.List.Sums.{fails_before_first}
@@ -70,20 +70,12 @@ front_at : (word line tail : List ℕ) → list_any is_newline word ≡ false �
     ≡ begins word line
 front_at [] line tail h = refl
 front_at (w ∷ word) [] tail h = ap (λ t. t && bytes_eq (take (length word) tail) word)
-    (ne_eqb 10 w (λ e. false≢true (sym (or_left (w == 10) (list_any is_newline word) h) ∙ is_ten w (sym e))))
+    (ne_eqb 10 w (λ e. false≢true (sym (or_parts (w == 10) (list_any is_newline word) h).0 ∙ is_ten w (sym e))))
   where
-    or_left : (a b : Bool) → (a || b) ≡ false → a ≡ false
-    or_left true b h = h
-    or_left false b h = refl
-
     is_ten : (n : ℕ) → n ≡ 10 → (n == 10) ≡ true
     is_ten n e = ap (λ m. m == 10) e
 front_at (w ∷ word) (b ∷ line) tail h = ap (λ t. nat_eq b w && t)
-    (front_at word line tail (or_right (w == 10) (list_any is_newline word) h))
-  where
-    or_right : (a b : Bool) → (a || b) ≡ false → b ≡ false
-    or_right true b h = absurd (false≢true (sym h))
-    or_right false b h = h
+    (front_at word line tail (or_parts (w == 10) (list_any is_newline word) h).1)
 
 pub begins_line : (word bytes line next : List ℕ) (lines : List (List ℕ)) → list_any is_newline word ≡ false
     → lines_of bytes ≡ line ∷ next ∷ lines → begins word bytes ≡ begins word line

@@ -137,7 +137,7 @@ follows_node (x ∷ y ∷ states) a b e = follows_node (y ∷ states) a b e
 less_told : (m n : ℕ) → nat_lt m n ≡ true → nat_cmp m n ≡ Less
 less_told m n h = grind (arith, nat_tests)
 
-told_less : (m n : ℕ) → nat_cmp m n ≡ Less → m < n
+pub told_less : (m n : ℕ) → nat_cmp m n ≡ Less → m < n
 told_less m n h = grind (arith, nat_tests)
 
 less_is : (m n : ℕ) → m < n → nat_cmp m n ≡ Less

@@ -18,7 +18,7 @@ use Rattle.answer_text.specs.declared.stage.Node.{Node}
 use Rattle.answer_text.specs.Certified.{IsKeptBelow}
 use Rattle.answer_text.specs.Right.{nodes_at, kinds_at, IsNodeOf}
 use Rattle.check_laws.proofs.Listing.{one_number}
-use Rattle.tier_core.proofs.Members.{all_from_members, contains_map}
+use Rattle.tier_core.proofs.Members.{All-from_members, contains_map}
 use Rattle.cert_check.specs.declared.kept_piece.KeptPiece.{KeptPiece}
 use Rattle.cert_check.specs.declared.subject.Subject.{Subject}
 use Rattle.cert_check.specs.Arcs.{arc_classes}
@@ -153,7 +153,7 @@ module _ (s : Subject) (k : PrefixKind) (pieces : List KeptPiece) (arcs : List A
 
     pub kept_arcs_are : AreKeptArcs (problem_of s) s.answer.now k arcs
     kept_arcs_are = record {
-      one_width = all_from_members (λ (arc : ArcLine). length (sets_of arc.class) ≡ (problem_of s).tiers.width) arcs
+      one_width = All-from_members (λ (arc : ArcLine). length (sets_of arc.class) ≡ (problem_of s).tiers.width) arcs
           (λ arc h. let a = arc_of arc h in
           ap (λ c. length (sets_of c)) a.same_class
           ∙ All-contains (λ c. length (sets_of c) ≡ problem.tiers.width) (classes_of pieces) a.piece.class

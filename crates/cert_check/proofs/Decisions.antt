@@ -7,10 +7,10 @@ use Rattle.std.specs.declared.cmp.Ordering.TheVariants.{Less, Equal, Greater}
 use Rattle.std.proofs.lemmas.Bool.{cases_eq, cases_lt}
 use Rattle.std.proofs.lemmas.Cmp.{tied_itself}
 use Rattle.tier_core.specs.declared.sym.Sym.{Sym}
-use Rattle.tier_core.specs.declared.sym.Sym.TheVariants.{Outside, Inside, Start, End, Both}
 use Rattle.tier_core.specs.Kinds.{PrefixKind, kind_order}
 use Rattle.tier_core.specs.Symbols.{rank}
 use Rattle.tier_core.proofs.KindTies.{same_kind, kind_order_total}
+use Rattle.tier_core.proofs.SetLemmas.{rank_same}
 
 abbrev pub Decided : Type 0 → Type 0
 Decided P = P ⊎ (P → ⊥)
@@ -81,37 +81,9 @@ for_all_below P (suc n) decide =
     more (inl h) (inr q) = inr (λ f. q (f n (omega arith)))
     more (inr q) d = inr (λ f. q (λ i l. f i (omega (arith, l))))
 
--- a symbol has a rank of its own
-pub same_rank : (s t : Sym) → rank s ≡ rank t → s ≡ t
-same_rank Outside Outside e = refl
-same_rank Inside Inside e = refl
-same_rank Start Start e = refl
-same_rank End End e = refl
-same_rank Both Both e = refl
-same_rank Outside Inside e = absurd (omega arith)
-same_rank Outside Start e = absurd (omega arith)
-same_rank Outside End e = absurd (omega arith)
-same_rank Outside Both e = absurd (omega arith)
-same_rank Inside Outside e = absurd (omega arith)
-same_rank Inside Start e = absurd (omega arith)
-same_rank Inside End e = absurd (omega arith)
-same_rank Inside Both e = absurd (omega arith)
-same_rank Start Outside e = absurd (omega arith)
-same_rank Start Inside e = absurd (omega arith)
-same_rank Start End e = absurd (omega arith)
-same_rank Start Both e = absurd (omega arith)
-same_rank End Outside e = absurd (omega arith)
-same_rank End Inside e = absurd (omega arith)
-same_rank End Start e = absurd (omega arith)
-same_rank End Both e = absurd (omega arith)
-same_rank Both Outside e = absurd (omega arith)
-same_rank Both Inside e = absurd (omega arith)
-same_rank Both Start e = absurd (omega arith)
-same_rank Both End e = absurd (omega arith)
-
 pub is_symbol : (s t : Sym) → Decided (s ≡ t)
 is_symbol s t = elim (cases_eq (rank s) (rank t)) [
-  | inl e ↦ inl (same_rank s t e)
+  | inl e ↦ inl (rank_same s t e)
   | inr n ↦ inr (λ e. n (ap rank e))
 ]
 

@@ -1,7 +1,6 @@
 pub mod Faultless
 pub mod Parts
 pub mod Heads
-pub mod Grammars
 pub mod Stops
 pub mod Opens
 pub mod Cuts

@@ -23,7 +23,7 @@ use Rattle.cert_check.specs.declared.subject.Subject.{Subject}
 use Rattle.cert_check.specs.Faults.{TellsKind}
 use Rattle.cert_check.specs.Opens.{is_open_by}
 use Rattle.cert_check.specs.Subjects.{IsReady, problem_of}
-use Rattle.cert_check.proofs.Grammars.{over_tiers}
+use Rattle.grammar_reader.proofs.OverTiers.{over_tiers}
 use Rattle.cert_check.proofs.Subjects.{each_event, mask_agrees, stretch_same, stage_in}
 
 -- bits that have the parts of the kind to which a column leads tell it

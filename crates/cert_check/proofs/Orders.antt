@@ -1,5 +1,5 @@
 -- Where the nodes of a stage stand.
-use Rattle.std.proofs.Common.{◌≡◌, ℕ, zero, suc, ◌+◌, ◌-◌, ◌<◌, ◌≤◌, List, [], ◌∷◌, length, slice_get, Some, None, Option, refl, sym, ap, ◌∙◌, subst, arith, inl, inr, Contains}
+use Rattle.std.proofs.Common.{◌≡◌, ℕ, ◌+◌, ◌-◌, ◌<◌, ◌≤◌, List, [], ◌∷◌, length, slice_get, Some, None, Option, refl, sym, ap, ◌∙◌, subst, arith, inl, inr, Contains}
 use Rattle.std.specs.declared.cmp.Ordering.TheVariants.{Less}
 use Rattle.std.proofs.lemmas.List.{length-map}
 use Rattle.std.proofs.lemmas.Map.Keys.{sorted_from_all_adjacent}
@@ -20,11 +20,7 @@ use Rattle.cert_check.specs.Subjects.{IsReady, AreInOrder, problem_of, nodes_of,
 use Rattle.cert_check.proofs.Faultless.{node_kind as kind_of_node}
 use Rattle.cert_check.proofs.Parts.{none_before}
 use Rattle.cert_check.proofs.Subjects.{in_stages}
-
-none_there : (nodes : List Node) (m : ℕ) → m < length nodes → slice_get nodes m ≡ None → ⊥
-none_there [] m h e = absurd (omega arith)
-none_there (node ∷ nodes) zero h e = cc
-none_there (node ∷ nodes) (suc m) h e = none_there nodes m (omega arith) e
+use Rattle.cert_check.proofs.Ascending.{none_there}
 
 module _ (s : Subject) (stage : ℕ) where
   abbrev problem : Problem

@@ -8,8 +8,7 @@ use Rattle.std.proofs.lemmas.Bool.{cases_lt}
 use Rattle.std.proofs.lemmas.Cmp.{tied_itself}
 use Rattle.std.proofs.lemmas.Map.Keys.{Less-from_sorted}
 use Rattle.tier_core.specs.Kinds.{PrefixKind, kind_order}
-use Rattle.check_laws.proofs.Listing.{not_before_itself}
-use Rattle.tier_core.proofs.KindTies.{kind_order_total}
+use Rattle.tier_core.proofs.KindTies.{kind_order_total, not_before_itself}
 
 module _ (kinds : List PrefixKind) (key : PrefixKind) (sorted : IsStrictlySortedBy kind_order kinds) where
   pub all_below : (m : ℕ) → m < length kinds → kind_order (get_or kinds m key) key ≡ Less → (i : ℕ) → i < m + 1

@@ -1,9 +1,8 @@
 -- Classes whose first sets have no symbol in common are disjoint.
-use Rattle.std.proofs.Common.{◌≡◌, ℕ, ◌<◌, Bool, true, false, ◌||◌, List, [], ◌∷◌, length, get_or, not, refl, sym, ap, ◌∙◌, arith}
+use Rattle.std.proofs.Common.{◌≡◌, ℕ, true, false, List, [], ◌∷◌, length, get_or, refl, sym, ◌∙◌, arith}
 use Rattle.std.specs.List.{list_any, list_all}
 use Rattle.std.proofs.lemmas.Bool.{and_parts, and_from, false≢true}
 use Rattle.tier_core.specs.declared.sym.Sym.{Sym}
-use Rattle.tier_core.specs.declared.sym.Sym.TheVariants.{Outside, Inside, Start, End, Both}
 use Rattle.tier_core.specs.Symbols.{symbols}
 use Rattle.tier_core.specs.Sets.{is_in}
 use Rattle.tier_core.specs.Classes.{sets_have}
@@ -27,7 +26,3 @@ pub filled_by_first : (xs : List ℕ) → length xs ≡ 1 → list_any (is_in (g
 filled_by_first [] l e = refl
 filled_by_first (x ∷ []) l e = and_from (list_any (is_in x) symbols) true e refl
 filled_by_first (x ∷ y ∷ xs) l e = absurd (omega (arith, l))
-
-pub not_from : (b : Bool) → not b ≡ true → b ≡ false
-not_from true e = sym e
-not_from false e = refl

@@ -11,14 +11,14 @@ use Rattle.grammar_reader.specs.Names.{is_name, is_letter_byte}
 use Rattle.grammar_reader.specs.Values.{GrammarValue, NamedTier, NamedConstraint, inputs_of, letter_name, IsMade, IsGrammar}
 use Rattle.grammar_reader.specs.Reading.{At, nothing, with_statement, after_cause, after_statement, kept, after_lexemes, after_lines, go_on, grammar_of, numbered}
 use Rattle.grammar_reader.specs.Canonical.{line_of_words, kind_text, tier_words, names_in, letter_words, event_text, joined, sign_text, constraint_words, header_words, tier_lines, letter_lines, constraint_lines, canonical}
-use Rattle.grammar_reader.proofs.Lawful.{NoCause, cause_none, not_false}
+use Rattle.grammar_reader.proofs.Lawful.{NoCause, cause_none}
 use Rattle.grammar_reader.proofs.LawfulLines.{whole_is}
 use Rattle.grammar_reader.proofs.LineLexemes.{AreRead, read_none, read_next, read_both, line_lexemes, line_first}
 use Rattle.grammar_reader.proofs.WordLexemes.{name_read, letter_read, kind_read, and_read, joint_read, sign_lexeme, sign_read, equals_read}
 use Rattle.grammar_reader.proofs.MasksBack.{some_in, mask_back}
 use Rattle.grammar_reader.proofs.Once.{at_place, once_filtered}
 use Rattle.grammar_reader.proofs.Sides.{HasName, named_event, side_lexemes, side_read, both_sides, constraint_back}
-use Rattle.std.proofs.lemmas.Bool.{or_parts}
+use Rattle.std.proofs.lemmas.Bool.{or_parts, not-false}
 use Rattle.grammar_reader.proofs.Uncaused.{with_tiers, with_letters, with_constraints, tier_uncaused, letter_uncaused, sound_at, sides_at, names_of, constraint_uncaused, numbers_back, names_are}
 
 -- after what was read before, the text is read as a grammar, whatever the number of its first line
@@ -74,7 +74,7 @@ names_read : (ws : List (List ℕ)) → list_any (λ n. not (is_name n)) ws ≡ 
 names_read [] h = read_none
 names_read (w ∷ ws) h =
     let a = or_parts (not (is_name w)) (list_any (λ n. not (is_name n)) ws) h in
-    read_next w (word w ∷ []) ws (map word ws) (name_read w (not_false (is_name w) a.0)) (names_read ws a.1)
+    read_next w (word w ∷ []) ws (map word ws) (name_read w (not-false (is_name w) a.0)) (names_read ws a.1)
 
 -- ---- the lines of tiers
 
@@ -133,7 +133,7 @@ module _ (g : GrammarValue) (m : IsMade g) where
       (line ++ (letter_lines g.tiers ls ++ rest)) g (append_assoc line (letter_lines g.tiers ls) rest)
       (reads_statement (with_letters g.tiers front) (letter (letter_name l) names) (letter_words g.tiers l)
       (word (codes "letter")) (word (letter_name l) ∷ equals ∷ map word names) (letter_lines g.tiers ls ++ rest) g
-      (letter_words_read l (not_false (is_letter_byte (letter_name l)) good.0) good.1)
+      (letter_words_read l (not-false (is_letter_byte (letter_name l)) good.0) good.1)
       (letter_back (letter_name l) names (some_in (inputs_of g.tiers) l.tiers sound.0 sound.1)) uncaused
       (reads_after (with_statement (with_letters g.tiers front) (letter (letter_name l) names))
       (with_letters g.tiers (front ++ l ∷ [])) (letter_lines g.tiers ls ++ rest) g

@@ -10,6 +10,7 @@ use Rattle.std.proofs.lemmas.List.{length-map}
 use Rattle.std.proofs.lemmas.List.Elements.{filter-append}
 use Rattle.tier_core.specs.declared.event.Event.{Event}
 use Rattle.tier_core.specs.Tiers.{is_input, is_free}
+use Rattle.tier_core.proofs.Bools.{and_false}
 use Rattle.timeline_text.specs.declared.letter.Letter.{Letter}
 use Rattle.grammar_reader.specs.Statements.{tier, letter, constraint}
 use Rattle.grammar_reader.specs.Names.{is_name, is_letter_byte, has_twice}
@@ -20,7 +21,6 @@ use Rattle.grammar_reader.proofs.Lawful.{NoCause}
 use Rattle.grammar_reader.proofs.MasksBack.{none_in, once_in}
 use Rattle.grammar_reader.proofs.Once.{none_filtered, none_fails, at_place, front_once, once_filtered, none_unknown, none_other, name_at, known_at, number_at, named_at}
 use Rattle.grammar_reader.proofs.Sides.{HasName, named_event}
-use Rattle.grammar_reader.proofs.Steps.{and_false}
 
 -- ---- grammars of which some lines are read
 

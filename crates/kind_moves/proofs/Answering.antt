@@ -6,6 +6,7 @@ use Rattle.tier_core.specs.declared.sym.Sym.{Sym}
 use Rattle.tier_core.specs.declared.event.Event.{Event}
 use Rattle.tier_core.specs.Timelines.{symbol, is_edge}
 use Rattle.tier_core.specs.Sides.{edge_among}
+use Rattle.tier_core.proofs.Bools.{not_not}
 use Rattle.violation.specs.Columns.{is_present}
 use Rattle.kind_moves.specs.declared.ask.Ask.TheVariants.{Present, Absent, NoEdge}
 use Rattle.kind_moves.specs.Asks.{answers}
@@ -17,10 +18,6 @@ none_pass p (x ∷ xs) = ap (λ b. not (p x) && b) (none_pass p xs) ∙ by (p x)
     by : (a b : Bool) → (not a && not b) ≡ not (a || b)
     by true b = refl
     by false b = refl
-
-not_not : (b : Bool) → not (not b) ≡ b
-not_not true = refl
-not_not false = refl
 
 some_edge : (types : List Event) (column : List Sym) → not (answers NoEdge types column) ≡ edge_among types column
 some_edge types column =

@@ -9,7 +9,6 @@ use Rattle.tier_core.specs.declared.kind.Kind.{Kind}
 use Rattle.tier_core.specs.declared.sym.Sym.{Sym}
 use Rattle.tier_core.specs.declared.constraint.Constraint.{Constraint}
 use Rattle.tier_core.specs.Kinds.{Phase, closed, PrefixKind, phase_by_bits, open_tiers, phases, AreStretchesBelow}
-use Rattle.tier_core.specs.declared.event.Event.{Event}
 use Rattle.tier_core.specs.Scan.{opens}
 use Rattle.tier_core.specs.Timelines.{symbol, has_edge}
 use Rattle.tier_core.specs.Tiers.{has_tier}
@@ -27,6 +26,7 @@ use Rattle.kind_moves.specs.Laws.{LeadsTo}
 use Rattle.tier_core.specs.PhaseBits.{phases_by}
 use Rattle.kind_moves.proofs.GrammarTiers.{over_stretches, form_from}
 use Rattle.violation.proofs.KindBits.{AreBitsOf, kind_for}
+use Rattle.violation.proofs.ClosedPhases.{closed_first}
 use Rattle.kind_moves.proofs.MoveSteps.{phases_next, phases_first}
 use Rattle.kind_moves.specs.Frames.{problem_in}
 
@@ -45,12 +45,8 @@ none_told j (x ∷ xs) = ap (λ p. p ∷ map (λ i. phase_by_bits (has_tier 0 i)
 all_closed : (width : ℕ) (cs : List Constraint) → AllByRecursion (IsOverTiers width) cs
     → map (λ x. closed) cs ≡ map (λ c. phase c.left c.right []) cs
 all_closed width [] o = refl
-all_closed width (c ∷ cs) o = ap (λ p. p ∷ map (λ x. closed) cs) (sym (own c.left c.right o.0.some_left))
+all_closed width (c ∷ cs) o = ap (λ p. p ∷ map (λ x. closed) cs) (sym (closed_first c.left c.right o.0.some_left))
     ∙ ap (λ ps. phase c.left c.right [] ∷ ps) (all_closed width cs o.1)
-  where
-    own : (left right : List Event) → 0 < length left → phase left right [] ≡ closed
-    own [] right l = absurd (omega arith)
-    own (e ∷ es) right l = refl
 
 same_length : (is_open : Constraint → Bool) (cs : List Constraint) (ps : List Phase) (column : List Sym)
     → AreClosedOr is_open cs ps → length (next_phases cs ps column) ≡ length cs

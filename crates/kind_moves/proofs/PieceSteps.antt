@@ -16,6 +16,7 @@ use Rattle.symbol_class.specs.Held.{ArePieces}
 use Rattle.symbol_class.specs.Parts.{ArePartedBy}
 use Rattle.symbol_class.proofs.PartSteps.{parted_same, parted_then}
 use Rattle.symbol_class.proofs.Times.{some_from_same}
+use Rattle.grammar_reader.proofs.OverTiers.{over_tiers}
 use Rattle.violation.specs.Conditions.{IsOverTiers}
 use Rattle.violation.specs.Moves.{input_of, move_costs, moved, next_phases}
 use Rattle.violation.proofs.SplitLemmas.{tiers_split}
@@ -23,7 +24,6 @@ use Rattle.kind_moves.specs.declared.frame.Frame.{Frame}
 use Rattle.kind_moves.specs.Fitting.{AreFitting, IsReadAlike}
 use Rattle.kind_moves.specs.Frames.{problem_in, tiers_in, constraints_in, stretches_in, kind_at_stage, FitsAt}
 use Rattle.kind_moves.specs.Pieces.{opened_by, cost_under}
-use Rattle.kind_moves.proofs.GrammarTiers.{over_tiers}
 use Rattle.kind_moves.proofs.PhaseAlike.{open_alike}
 
 -- pieces that fit are parted, and still fit

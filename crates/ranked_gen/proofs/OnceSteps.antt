@@ -21,9 +21,9 @@ use Rattle.violation.specs.Candidates.{IsLeastVector}
 use Rattle.violation.specs.Counts.{violations_of}
 use Rattle.violation.specs.Rests.{IsLeastRestVector, AreWholeKinds}
 use Rattle.grammar_reader.specs.ShapeOf.{IsShapeOf}
+use Rattle.grammar_reader.proofs.OverTiers.{few_constraints}
 use Rattle.kind_moves.specs.declared.frame.Frame.{Frame}
 use Rattle.kind_moves.specs.Frames.{tiers_in, constraints_in, kind_at_stage, problem_in}
-use Rattle.kind_moves.proofs.GrammarTiers.{few_constraints}
 use Rattle.answer_text.specs.declared.stage.Node.{Node}
 use Rattle.answer_text.specs.declared.once_answer.OnceNode.{OnceNode}
 use Rattle.answer_text.specs.RightOnce.{kind_told, bare_nodes, IsRightPotential}

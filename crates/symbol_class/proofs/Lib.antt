@@ -6,3 +6,4 @@ pub mod SplitSteps
 pub mod PartSteps
 pub mod JoinSteps
 pub mod JoinedClasses
+pub mod Once

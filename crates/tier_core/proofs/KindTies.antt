@@ -1,14 +1,27 @@
 -- What ties in the order of numbers, of lists of numbers, and of kinds, is the same; and the order of kinds is total.
-use Rattle.std.proofs.Common.{◌≡◌, ℕ, Bool, true, false, List, [], ◌∷◌, map, refl, ap, ap₂, sym, ◌∙◌, arith, true≢false}
-use Rattle.std.specs.Cmp.{IsTotalOrder}
+use Rattle.std.proofs.Common.{◌≡◌, ◌≢◌, ◌⊎◌, inl, inr, ℕ, Bool, true, false, List, [], ◌∷◌, map, refl, ap, ap₂, sym, ◌∙◌, arith, true≢false}
+use Rattle.std.specs.Cmp.{IsTotalOrder, nat_cmp_is}
 use Rattle.std.specs.Cmp.Lexicographic.{slice_cmp}
-use Rattle.std.specs.Ordering.{nat_cmp, ordering_then, is_lt, is_gt}
+use Rattle.std.specs.Ordering.{nat_cmp, ordering_then, ordering_reverse, is_lt, is_eq, is_gt}
 use Rattle.std.specs.declared.cmp.Ordering.{Ordering}
 use Rattle.std.specs.declared.cmp.Ordering.TheVariants.{Less, Equal, Greater}
 use Rattle.std.proofs.lemmas.Cmp.{ranked, nat_cmp_total, nat_list_cmp_total, on_total, then_total}
 use Rattle.tier_core.specs.Kinds.{Phase, closed, unmet, met, PrefixKind, open_rank, phase_rank, kind_order}
 
 -- ---- numbers
+
+pub then_equal : (o : Ordering) → ordering_then o Equal ≡ o
+then_equal Less = refl
+then_equal Equal = refl
+then_equal Greater = refl
+
+pub is_equal : (o : Ordering) → is_eq o ≡ true → o ≡ Equal
+is_equal Less e = absurd (true≢false (sym e))
+is_equal Equal e = refl
+is_equal Greater e = absurd (true≢false (sym e))
+
+pub same_cmp : (m n : ℕ) → m ≡ n → nat_cmp m n ≡ Equal
+same_cmp m n e = sym (nat_cmp_is m n Equal e)
 
 pub both_equal : (o r : Ordering) → ordering_then o r ≡ Equal → (o ≡ Equal) × (r ≡ Equal)
 both_equal Less r e = absurd (true≢false (ap is_lt e))
@@ -37,7 +50,7 @@ unmapped f one (x ∷ xs) (y ∷ ys) e =
     let tail : map f xs ≡ map f ys = cc in
     ap₂ (λ z zs. z ∷ zs) (one x y head) (unmapped f one xs ys tail)
 
-same_open : (a b : Bool) → open_rank a ≡ open_rank b → a ≡ b
+pub same_open : (a b : Bool) → open_rank a ≡ open_rank b → a ≡ b
 same_open true true e = refl
 same_open true false e = absurd (omega arith)
 same_open false true e = absurd (omega arith)
@@ -81,3 +94,22 @@ kind_order_total =
     then_total (on_total (λ (k : PrefixKind). k.place) nat_cmp_total)
     (then_total (on_total (λ (k : PrefixKind). map open_rank k.opened) nat_list_cmp_total)
     (on_total (λ (k : PrefixKind). map phase_rank k.phases) nat_list_cmp_total))
+
+turned : (o : Ordering) → o ≡ ordering_reverse o → is_lt o ≡ true → ⊥
+turned Less e h = true≢false (ap is_lt e)
+turned Equal e h = true≢false (sym h)
+turned Greater e h = true≢false (sym h)
+
+-- no kind comes before itself
+pub not_before_itself : (k : PrefixKind) → kind_order k k ≡ Less → ⊥
+not_before_itself k e = turned (kind_order k k) (kind_order_total.antisymm k k) (ap is_lt e)
+
+-- kinds are the same, or are not
+pub same_or_not : (k l : PrefixKind) → (k ≡ l) ⊎ (k ≢ l)
+same_or_not k l = by (kind_order k l) refl
+  where
+    by : (o : Ordering) → kind_order k l ≡ o → (k ≡ l) ⊎ (k ≢ l)
+    by Less e = inr (λ same. not_before_itself k (ap (kind_order k) same ∙ e))
+    by Equal e = inl (same_kind k l e)
+    by Greater e = inr (λ same. not_before_itself l
+        (ap (kind_order l) (sym same) ∙ kind_order_total.antisymm l k ∙ ap ordering_reverse e))

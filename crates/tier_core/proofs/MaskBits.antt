@@ -1,8 +1,8 @@
 -- Masks by their bits: none from the bound on, none at all, none in common, and masks of lists of flags.
-use Rattle.std.proofs.Common.{◌≡◌, ℕ, zero, suc, ◌+◌, ◌*◌, ◌/◌, ◌%◌, ◌^◌, ◌==◌, ◌<◌, ◌≤◌, ◌&&◌, ◌||◌, not, nat_eq, Bool, true, false, cond, min, List, [], ◌∷◌, map, length, get_or, refl, ap, sym, ◌∙◌, arith, ⊎_elim, bit_and, eq-eqb, ne_eqb}
+use Rattle.std.proofs.Common.{◌≡◌, ◌⊎◌, ℕ, zero, suc, ◌+◌, ◌*◌, ◌/◌, ◌%◌, ◌^◌, ◌==◌, ◌<◌, ◌≤◌, ◌&&◌, ◌||◌, not, nat_eq, Bool, true, false, cond, min, List, [], ◌∷◌, map, length, get_or, refl, ap, sym, ◌∙◌, arith, ⊎_elim, bit_and, eq-eqb, ne_eqb}
 use Rattle.std.specs.Int.{bit_at}
 use Rattle.std.specs.List.{range_with_len, list_any}
-use Rattle.std.proofs.Math.Nat.{pow-suc}
+use Rattle.std.proofs.Math.Nat.{pow-suc, mul-add, mul_assoc}
 use Rattle.std.proofs.lemmas.Bool.{false≢true, cases_lt, eqb-false}
 use Rattle.std.proofs.lemmas.List.FromFn.{fill_by_all, length-map-range_with_len, get_or-map-range_with_len}
 use Rattle.std.proofs.lemmas.List.Folds.{list_any_at}
@@ -10,6 +10,10 @@ use Rattle.std.proofs.lemmas.Nat.Bits.{bit_at_above, bit_at_lowest, bit_at-suc, 
 use Rattle.tier_core.specs.Kinds.{open_tiers}
 use Rattle.tier_core.specs.Tiers.{has_tier}
 use Rattle.tier_core.proofs.KindLemmas.{bit_value}
+
+-- no bit at all
+pub no_bit : (t : ℕ) → has_tier 0 t ≡ false
+no_bit t = ap (λ n. n == 1) (bit_at-zero t)
 
 -- no bit from the bound of a mask on
 pub none_from : (mask k t : ℕ) → mask < 2 ^ k → k ≤ t → has_tier mask t ≡ false
@@ -105,3 +109,17 @@ bits_of (b ∷ flags) = let rest : (mask : ℕ) × AreBits flags mask = bits_of 
 -- and the mask tells them
 pub open_bits : (flags : List Bool) (mask : ℕ) → AreBits flags mask → open_tiers (length flags) mask ≡ flags
 open_bits flags mask a = sym (fill_by_all (has_tier mask) flags (length flags) false refl (λ i l. sym (a.each i l)))
+
+-- ---- a mask that is made from its lowest bit on
+
+-- what is read so far, and the rest with one bit taken from it
+pub mask_shift : (m b x : ℕ) (t : Bool) → m + b * (cond t 1 0 + 2 * x) ≡ m + cond t b 0 + b * 2 * x
+mask_shift m b x true = let p = mul-add b 1 (2 * x) in let q = mul_assoc b 2 x in omega arith
+mask_shift m b x false = let p = mul-add b 0 (2 * x) in let q = mul_assoc b 2 x in omega arith
+
+pub bit_below : (m b : ℕ) (t : Bool) (r : ℕ) → r ≡ cond t b 0 → m < b → m + r < b * 2
+bit_below m b true r e l = omega arith
+bit_below m b false r e l = omega arith
+
+pub odd_or_even : (n : ℕ) → (n % 2 ≡ 1) ⊎ (n % 2 ≡ 0)
+odd_or_even n = grind arith

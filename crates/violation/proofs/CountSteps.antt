@@ -15,6 +15,7 @@ use Rattle.tier_core.specs.Sides.{has_edge_type, edge_among}
 use Rattle.tier_core.proofs.CountLemmas.{bit, all_append, all_of}
 use Rattle.tier_core.proofs.WordCounts.{runs_fits}
 use Rattle.tier_core.proofs.WordForm.{runs_from_well_formed}
+use Rattle.tier_core.proofs.Bools.{or_false}
 use Rattle.violation.specs.Columns.{edge_cost, opens_all, is_present, opens_interior}
 use Rattle.violation.specs.Conditions.{AreTiersBelow, IsCountable, AreInColumn}
 use Rattle.violation.specs.Counts.{chosen, viol, so_far, is_met}
@@ -166,10 +167,6 @@ met_step left right T k column met c l is before o =
   where
     same : get_or T k [] ≡ column
     same = column_at T k column l is
-
-    or_false : (a : Bool) → (a || false) ≡ a
-    or_false true = refl
-    or_false false = refl
 
     or_comm : (a b : Bool) → (a || b) ≡ (b || a)
     or_comm true true = refl

@@ -29,3 +29,6 @@ pub mod RestLemmas
 pub mod KindBits
 pub mod NextPhases
 pub mod ConstraintCosts
+pub mod InputParts
+pub mod FewerStages
+pub mod ClosedPhases

@@ -10,7 +10,7 @@ use Rattle.kind_moves.specs.Fitting.{AreFitting}
 use Rattle.kind_moves.specs.Frames.{tiers_in}
 use Rattle.kind_moves.specs.Leaving.{AddsLeaving}
 use Rattle.kind_moves.specs.Pieces.{classes_of, IsPiece}
-use Rattle.kind_moves.proofs.FittingSteps.{first_true, still_by, bare_by, still_fits, read_here, read_fits, are_fitting}
+use Rattle.kind_moves.proofs.FittingSteps.{still_by, bare_by, still_fits, read_here, read_fits, are_fitting}
 use Rattle.kind_moves.proofs.LeavingPieces.{classes_added, leaving_pieces}
 use Rattle.kind_moves.proofs.frame.Frame.all_moves.Goals as goal
 use Rattle.kind_moves.proofs.frame.Frame.all_moves.Goals.{In_ok-push_leaving-2}
@@ -76,7 +76,7 @@ returns-clause-each c =
       read_here frame kind class following still bare c.open_at.result (has read) c.requires.width
           c.open_at.ensures c.following-following.ensures.columns has_still has_bare
           c.reading-read.ensures.columns column ((c.reading-read.ensures.columns column).0
-          (first_true (has read column) (not (has still column)) h)).0 h,
+          ((and_parts (has read column) (not (has still column)) h).0)).0 h,
     ))
     c.in_ok-push_leaving-2.ensures
     (leaving_pieces frame kind kind.place false [] mid (λ column. has still column && not (has bare column))
@@ -87,6 +87,6 @@ returns-clause-each c =
           c.reading-read.ensures.columns 0 column h).1,
       not-true (has_edge (input_of (tiers_in frame) column)) (and_parts (has following column)
           (not (has_edge (input_of (tiers_in frame) column))) (sym (has_still column)
-          ∙ first_true (has still column) (not (has bare column)) h)).1,
+          ∙ (and_parts (has still column) (not (has bare column)) h).0)).1,
     ))
     (first c) nothing_first)

@@ -6,7 +6,8 @@ use Rattle.std.proofs.lemmas.Bool.{false≢true, or_parts}
 use Rattle.std.proofs.lemmas.Bool.Decides.{nat_tests}
 use Rattle.std.proofs.lemmas.List.Splits.{slice_split_none, slice_split_first, join_with_byte-slice_split, length-slice_split}
 use Rattle.std.proofs.lemmas.List.Sums.{fails_before_first}
-use Rattle.answer_reader.specs.Cuts.{is_newline, lines_of, parts_at, cut, begins}
+use Rattle.timeline_text.specs.Bytes.{is_newline, lines_of}
+use Rattle.answer_reader.specs.Cuts.{parts_at, cut, begins}
 
 -- there is always something left
 pub some_left : (bytes : List ℕ) → 0 < length (lines_of bytes)

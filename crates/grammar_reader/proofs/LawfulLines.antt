@@ -7,7 +7,8 @@ use Rattle.tier_core.specs.Tiers.{is_input, is_overt}
 use Rattle.tier_core.specs.declared.constraint.Family.{Family}
 use Rattle.tier_core.specs.declared.constraint.Family.TheVariants.{Implication, Clash}
 use Rattle.timeline_text.proofs.Searches.{by_test}
-use Rattle.grammar_reader.specs.Pieces.{lines_of, parts_of, Lexeme, opens, closes, equals, clash, implies, word, lexeme_of}
+use Rattle.timeline_text.specs.Bytes.{lines_of}
+use Rattle.grammar_reader.specs.Pieces.{parts_of, Lexeme, opens, closes, equals, clash, implies, word, lexeme_of}
 use Rattle.grammar_reader.specs.Statements.{Statement, tier, letter, constraint, NamedEvent, each_some, word_of, is_the_word, is_header, is_sign, event_of, events_of, joined_by, sides_of, kind_of, tier_line, letter_line, constraint_line, statement_of}
 use Rattle.grammar_reader.specs.Said.{HasParts}
 use Rattle.grammar_reader.specs.Values.{GrammarValue, IsMade, IsGrammar}

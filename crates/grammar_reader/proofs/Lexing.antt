@@ -1,6 +1,7 @@
 -- The pieces of a line as lexemes.
 use Rattle.std.proofs.Common.{◌≡◌, ℕ, ◌+◌, Bool, true, false, cond, not, List, [], ◌∷◌, ◌++◌, map, filter, length, refl, ap, sym, ◌∙◌, append_assoc, append-nil, Option, Some, None, is_some, option_map, option_and_then}
-use Rattle.grammar_reader.specs.Pieces.{lines_of, content, pieces_of, parts_of, is_spacing, Mark, placed, is_no_spacing, marks_of, marks_from, Lexeme, lexeme_of}
+use Rattle.timeline_text.specs.Bytes.{lines_of}
+use Rattle.grammar_reader.specs.Pieces.{content, pieces_of, parts_of, is_spacing, Mark, placed, is_no_spacing, marks_of, marks_from, Lexeme, lexeme_of}
 use Rattle.grammar_reader.specs.Statements.{each_some}
 use Rattle.grammar_reader.specs.Lexemes.{with_front, texts}
 

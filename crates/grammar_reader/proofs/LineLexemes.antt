@@ -7,7 +7,8 @@ use Rattle.std.proofs.lemmas.List.Elements.{filter-append}
 use Rattle.std.proofs.lemmas.List.Folds.{list_all-append}
 use Rattle.std.proofs.lemmas.List.Splits.{slice_split-cons_yes, slice_split-cons_no}
 use Rattle.tier_core.proofs.Bools.{and_false}
-use Rattle.grammar_reader.specs.Pieces.{is_newline, lines_of, is_comment, content, is_word_byte, holds_together, goes_on, onto_piece, pieces_of, is_spacing, parts_of, Lexeme, lexeme_of}
+use Rattle.timeline_text.specs.Bytes.{is_newline, lines_of}
+use Rattle.grammar_reader.specs.Pieces.{is_comment, content, is_word_byte, holds_together, goes_on, onto_piece, pieces_of, is_spacing, parts_of, Lexeme, lexeme_of}
 use Rattle.grammar_reader.specs.Statements.{each_some}
 use Rattle.grammar_reader.specs.Canonical.{line_of_words}
 use Rattle.grammar_reader.proofs.Forms.{both_some}

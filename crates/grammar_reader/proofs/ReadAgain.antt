@@ -5,7 +5,8 @@ use Rattle.tier_core.specs.declared.tier.TierKind.{TierKind}
 use Rattle.tier_core.specs.declared.tier.TierKind.TheVariants.{Input, Overt, Hidden}
 use Rattle.tier_core.specs.Tiers.{is_input}
 use Rattle.timeline_text.specs.declared.letter.Letter.{Letter}
-use Rattle.grammar_reader.specs.Pieces.{Lexeme, equals, word, lines_of}
+use Rattle.timeline_text.specs.Bytes.{lines_of}
+use Rattle.grammar_reader.specs.Pieces.{Lexeme, equals, word}
 use Rattle.grammar_reader.specs.Statements.{Statement, tier, letter, constraint, each_some, word_of, kind_of, letter_line, statement_of, joined_by}
 use Rattle.grammar_reader.specs.Names.{is_name, is_letter_byte}
 use Rattle.grammar_reader.specs.Values.{GrammarValue, NamedTier, NamedConstraint, inputs_of, letter_name, IsMade, IsGrammar}

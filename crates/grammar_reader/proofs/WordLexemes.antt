@@ -11,7 +11,8 @@ use Rattle.tier_core.specs.declared.tier.TierKind.{TierKind}
 use Rattle.tier_core.specs.declared.tier.TierKind.TheVariants.{Input, Overt, Hidden}
 use Rattle.tier_core.specs.declared.constraint.Family.{Family}
 use Rattle.tier_core.specs.declared.constraint.Family.TheVariants.{Implication, Clash}
-use Rattle.grammar_reader.specs.Pieces.{is_newline, is_comment, is_word_byte, holds_together, onto_piece, pieces_of, is_spacing, Lexeme, opens, closes, equals, clash, implies, word, lexeme_of}
+use Rattle.timeline_text.specs.Bytes.{is_newline}
+use Rattle.grammar_reader.specs.Pieces.{is_comment, is_word_byte, holds_together, onto_piece, pieces_of, is_spacing, Lexeme, opens, closes, equals, clash, implies, word, lexeme_of}
 use Rattle.grammar_reader.specs.Statements.{each_some, joined_by}
 use Rattle.grammar_reader.specs.Names.{is_name, is_letter_byte}
 use Rattle.grammar_reader.specs.Canonical.{kind_text, part_text, event_text, sign_text}

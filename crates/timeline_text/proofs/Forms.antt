@@ -9,7 +9,8 @@ use Rattle.tier_core.specs.declared.sym.Sym.{Sym}
 use Rattle.tier_core.specs.Symbols.{byte_of}
 use Rattle.tier_core.specs.Timelines.{has_edge, IsReduced}
 use Rattle.timeline_text.specs.Texts.{text_of}
-use Rattle.timeline_text.specs.Causes.{is_space, is_known, pieces_of, symbol_of_byte, columns_of}
+use Rattle.timeline_text.specs.Bytes.{is_space}
+use Rattle.timeline_text.specs.Causes.{is_known, pieces_of, symbol_of_byte, columns_of}
 use Rattle.timeline_text.proofs.Searches.{by_test}
 
 known_back : (b : ℕ) → is_space b ≡ false → not (is_known b) ≡ false → byte_of (symbol_of_byte b) ≡ b

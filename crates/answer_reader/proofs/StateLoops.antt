@@ -22,7 +22,6 @@ use Rattle.answer_reader.specs.Orders.{follows, state_less}
 use Rattle.answer_reader.specs.States.{at_end, behind_states, in_state, with_arc, next_arc, next_state, states_from}
 use Rattle.answer_reader.specs.Steps.{At, line_then, Fails}
 use Rattle.answer_reader.specs.Values.{ArcValue, StateValue, arc_value, state_value}
-use Rattle.answer_reader.specs.Within.{IsArcWithin}
 use Rattle.answer_reader.proofs.Going.{fails_from, takes_on, takes_fails}
 use Rattle.answer_reader.proofs.StateSteps.{state_next, end_next, arc_next, arcs_end}
 
@@ -49,7 +48,7 @@ module _ (width nodes : ℕ) (arcs : List ArcLine) (now : Lines) where
 
   pub arc_read : (old new : Lines) (arc : ArcLine) → AreArcs width nodes old now arcs
       → begins (codes "arc ") now.rest.now ≡ true
-      → Takes (next_arc width nodes arc_values) arc_value now new (Ok arc) → IsArcWithin width nodes arc
+      → Takes (next_arc width nodes arc_values) arc_value now new (Ok arc) → IsReadableArc width nodes arc
       → AreArcs width nodes old new (arcs ++ arc ∷ [])
   arc_read old new arc are h t within = record {
     goes_on = λ more states state. are.goes_on more states state ∙ arc_here more states state h

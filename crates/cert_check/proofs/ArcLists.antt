@@ -9,7 +9,8 @@ use Rattle.tier_core.specs.declared.class.Class.{Class}
 use Rattle.tier_core.specs.Classes.{has}
 use Rattle.symbol_class.specs.Held.{some_has}
 use Rattle.answer_text.specs.declared.automaton.ArcLine.{ArcLine}
-use Rattle.cert_check.specs.Arcs.{arc_classes, is_twice, is_led, is_unmatched, do_differ}
+use Rattle.answer_text.specs.ArcClasses.{arc_classes}
+use Rattle.cert_check.specs.Arcs.{is_twice, is_led, is_unmatched, do_differ}
 use Rattle.cert_check.specs.Faults.{IsListedTarget}
 
 both_true : (a b : Bool) → a ≡ true → b ≡ true → (a && b) ≡ true

@@ -21,7 +21,7 @@ use Rattle.check_laws.proofs.Listing.{one_number}
 use Rattle.tier_core.proofs.Members.{All-from_members, contains_map}
 use Rattle.cert_check.specs.declared.kept_piece.KeptPiece.{KeptPiece}
 use Rattle.cert_check.specs.declared.subject.Subject.{Subject}
-use Rattle.cert_check.specs.Arcs.{arc_classes}
+use Rattle.answer_text.specs.ArcClasses.{arc_classes}
 use Rattle.cert_check.specs.Faults.{IsListedTarget, IsKeptTarget}
 use Rattle.cert_check.specs.Kept.{classes_of, IsKeptPiece, AreKept}
 use Rattle.cert_check.specs.KeptArcs.{IsArcOf, AreArcsOf}

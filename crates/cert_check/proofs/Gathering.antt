@@ -13,7 +13,8 @@ use Rattle.symbol_class.specs.Held.{some_has}
 use Rattle.tier_core.proofs.Filled.{empty_holds}
 use Rattle.tier_core.proofs.Bools.{or_false}
 use Rattle.answer_text.specs.declared.automaton.ArcLine.{ArcLine}
-use Rattle.cert_check.specs.Arcs.{arc_classes, is_twice}
+use Rattle.answer_text.specs.ArcClasses.{arc_classes}
+use Rattle.cert_check.specs.Arcs.{is_twice}
 use Rattle.cert_check.specs.Gathered.{AreFilled, AddsColumns}
 
 or_assoc : (a b c : Bool) → ((a || b) || c) ≡ (a || (b || c))

@@ -29,10 +29,6 @@ use Rattle.tier_core.specs.Sides.{is_stretch}
 use Rattle.tier_core.proofs.Members.{all_first}
 use Rattle.tier_core.proofs.MaskBits.{no_bit}
 
--- bits of which none is set
-abbrev pub nothing_read : Kind
-nothing_read = record { place = 0; opened = 0; unmet = 0; met = 0; apart = refl }
-
 none_open : (ns is : List ℕ) → length ns ≡ length is → map (has_tier 0) is ≡ map (λ (t : ℕ). false) ns
 none_open [] [] e = refl
 none_open [] (i ∷ is) e = absurd (omega arith)

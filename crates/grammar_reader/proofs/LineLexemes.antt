@@ -12,7 +12,7 @@ use Rattle.grammar_reader.specs.Pieces.{is_comment, content, is_word_byte, holds
 use Rattle.grammar_reader.specs.Statements.{each_some}
 use Rattle.grammar_reader.specs.Canonical.{line_of_words}
 use Rattle.grammar_reader.proofs.Forms.{both_some}
-use Rattle.grammar_reader.proofs.Walk.{is_nil, joins, content_keeps, apart}
+use Rattle.grammar_reader.proofs.Walk.{is_nil, content_keeps, apart}
 
 -- ---- bytes that are neither a line's end nor a comment's start
 
@@ -57,7 +57,7 @@ space_after : (a : ℕ) → holds_together a 32 ≡ false
 space_after a = or_from (is_word_byte a && is_word_byte 32) ((a == 45) && (32 == 62)) (and_false (is_word_byte a))
     (and_false (a == 45))
 
-space_before : (rest : List ℕ) → joins 32 rest ≡ false
+space_before : (rest : List ℕ) → goes_on 32 rest ≡ false
 space_before [] = refl
 space_before (c ∷ rest) = refl
 

@@ -20,7 +20,8 @@ use Rattle.grammar_reader.proofs.MasksBack.{some_in, mask_back}
 use Rattle.grammar_reader.proofs.Once.{at_place, once_filtered}
 use Rattle.grammar_reader.proofs.Sides.{HasName, named_event, side_lexemes, side_read, both_sides, constraint_back}
 use Rattle.std.proofs.lemmas.Bool.{or_parts, not-false}
-use Rattle.grammar_reader.proofs.Uncaused.{with_tiers, with_letters, with_constraints, tier_uncaused, letter_uncaused, sound_at, sides_at, names_of, constraint_uncaused, numbers_back, names_are}
+use Rattle.grammar_reader.proofs.Adding.{grammar_by}
+use Rattle.grammar_reader.proofs.Uncaused.{with_tiers, with_letters, tier_uncaused, letter_uncaused, sound_at, sides_at, names_of, constraint_uncaused, numbers_back, names_are}
 
 -- after what was read before, the text is read as a grammar, whatever the number of its first line
 Reads : Option GrammarValue → List ℕ → GrammarValue → Type 0
@@ -163,10 +164,10 @@ module _ (g : GrammarValue) (m : IsMade g) where
       (sign_read c.family) (side_read joint names c.right (joint_read c.family) right))))
 
   constraints_read : (front cs : List NamedConstraint) → g.constraints ≡ front ++ cs → Reads (Some g) [] g
-      → Reads (Some (with_constraints g.tiers g.letters front)) (constraint_lines (names_of g.tiers) cs) g
-  constraints_read front [] e h = reads_after (with_constraints g.tiers g.letters front)
-      (with_constraints g.tiers g.letters g.constraints) [] g
-      (ap (with_constraints g.tiers g.letters) (sym (e ∙ append-nil front))) h
+      → Reads (Some (grammar_by g.tiers g.letters front)) (constraint_lines (names_of g.tiers) cs) g
+  constraints_read front [] e h = reads_after (grammar_by g.tiers g.letters front)
+      (grammar_by g.tiers g.letters g.constraints) [] g
+      (ap (grammar_by g.tiers g.letters) (sym (e ∙ append-nil front))) h
   constraints_read front (c ∷ cs) e h =
       let names = names_of g.tiers in
       let sides = sides_at g front c cs m e in
@@ -177,22 +178,22 @@ module _ (g : GrammarValue) (m : IsMade g) where
       let said = constraint c.name c.family (map (named_event names) c.left) (map (named_event names) c.right) in
       let ls = numbers_back g.tiers c.left m.tiers_once sides.left.within in
       let rs = numbers_back g.tiers c.right m.tiers_once sides.right.within in
-      reads_statement (with_constraints g.tiers g.letters front) said (constraint_words names c)
+      reads_statement (grammar_by g.tiers g.letters front) said (constraint_words names c)
       (word (codes "constraint")) (word c.name ∷ both_sides names c.family c.left c.right)
       (constraint_lines names cs) g
       (constraint_words_read c named left right)
       (constraint_back names c.name c.family c.left c.right sides.left.some sides.right.some left right)
       (constraint_uncaused g front c cs m e)
-      (reads_after (with_statement (with_constraints g.tiers g.letters front) said)
-      (with_constraints g.tiers g.letters (front ++ c ∷ [])) (constraint_lines names cs) g
-      (ap (λ es. with_constraints g.tiers g.letters
+      (reads_after (with_statement (grammar_by g.tiers g.letters front) said)
+      (grammar_by g.tiers g.letters (front ++ c ∷ [])) (constraint_lines names cs) g
+      (ap (λ es. grammar_by g.tiers g.letters
       (front ++ record {
         name = c.name;
         family = c.family;
         left = es;
         right = map (numbered g.tiers) (map (named_event names) c.right);
       } ∷ [])) ls
-      ∙ ap (λ es. with_constraints g.tiers g.letters
+      ∙ ap (λ es. grammar_by g.tiers g.letters
       (front ++ record { name = c.name; family = c.family; left = c.left; right = es } ∷ [])) rs)
       (constraints_read (front ++ c ∷ []) cs (e ∙ sym (append_assoc front (c ∷ []) cs)) h))
 

@@ -33,7 +33,8 @@ use Rattle.kind_tables.specs.RankedTables.{IsRankedTable}
 use Rattle.stage_laws.proofs.LeastVectors.{least_vector, least_rest_vector}
 use Rattle.stage_laws.proofs.PrunedOnce.{whole_names, once_words}
 use Rattle.stage_laws.proofs.Resting.{least_from, some_weight}
-use Rattle.kind_orders.specs.KindOrders.{empty_kind, told, IsKindOrder}
+use Rattle.tier_core.specs.EmptyKind.{empty_kind}
+use Rattle.kind_orders.specs.KindOrders.{told, IsKindOrder}
 use Rattle.kind_orders.specs.StageNodes.{node_numbered, AreNodesInOrder}
 use Rattle.kind_orders.proofs.Nodes.{are_nodes}
 use Rattle.stage_tables.specs.Explored.{names_at}

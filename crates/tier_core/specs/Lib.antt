@@ -16,3 +16,4 @@ pub mod KindShapes
 pub mod Filled
 pub mod FirstColumn
 pub mod PhaseBits
+pub mod EmptyKind

@@ -1,5 +1,5 @@
 -- Lines of a text, cut one by one.
-use Rattle.std.proofs.Common.{◌≡◌, ℕ, ◌+◌, ◌==◌, ◌<◌, ◌≤◌, ◌&&◌, Bool, true, false, List, [], ◌∷◌, ◌++◌, length, take, drop, Option, Some, None, option_map, position, refl, ap, sym, ◌∙◌, arith, nat_eq, ne_eqb, length-drop}
+use Rattle.std.proofs.Common.{◌≡◌, ℕ, ◌+◌, ◌==◌, ◌<◌, ◌≤◌, ◌&&◌, Bool, true, false, List, [], ◌∷◌, ◌++◌, length, take, drop, Option, Some, None, option_map, position, refl, ap, sym, ◌∙◌, arith, nat_eq, ne_eqb}
 use Rattle.std.specs.List.{position_or_len, list_any, join_with_byte}
 use Rattle.std.specs.Str.{bytes_eq}
 use Rattle.std.proofs.lemmas.Bool.{false≢true, or_parts}
@@ -56,14 +56,6 @@ line_cut bytes parts h =
     slice_split_first is_newline bytes 0 p.0
     ∙ ap (λ k. take k bytes ∷ lines_of (drop (k + 1) bytes)) (sym p.1)
     ∙ ap (λ x. x ∷ lines_of (drop (c.place + 1) bytes)) (sym c.before) ∙ ap (λ x. parts.0 ∷ lines_of x) (sym c.after)
-
-pub line_shorter : (bytes : List ℕ) (parts : List ℕ × List ℕ) → cut 10 bytes ≡ Some parts
-    → length parts.1 < length bytes
-line_shorter bytes parts h =
-    let c = is_cut 10 bytes parts h in
-    let p = position_some is_newline bytes c.place c.at in
-    let d = length-drop (c.place + 1) bytes in
-    let e = ap length c.after in omega arith
 
 -- ---- a front of what is left is a front of the next line
 

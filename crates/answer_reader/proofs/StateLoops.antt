@@ -22,7 +22,7 @@ use Rattle.answer_reader.specs.Orders.{follows, state_less}
 use Rattle.answer_reader.specs.States.{at_end, behind_states, in_state, with_arc, next_arc, next_state, states_from}
 use Rattle.answer_reader.specs.Steps.{At, line_then, Fails}
 use Rattle.answer_reader.specs.Values.{ArcValue, StateValue, arc_value, state_value}
-use Rattle.answer_reader.proofs.Going.{fails_from, takes_on, takes_fails}
+use Rattle.answer_reader.proofs.Going.{fails_from, takes_on}
 use Rattle.answer_reader.proofs.StateSteps.{state_next, end_next, arc_next, arcs_end}
 
 -- reading on behind these arcs of a state, whatever the state and the states before it
@@ -59,17 +59,6 @@ module _ (width nodes : ℕ) (arcs : List ArcLine) (now : Lines) where
         (record { wide = within.wide; target = within.target });
   }
 
-  pub arc_refused : (old new : Lines) (e : AnswerErr) → AreArcs width nodes old now arcs
-      → begins (codes "arc ") now.rest.now ≡ true
-      → Takes (next_arc width nodes arc_values) arc_value now new (Err e)
-      → (more : ℕ) (states : List StateValue) (state : ℕ × Bool)
-      → Fails e (states_from width nodes (in_state more states (bare_state state)) old.number (lines_left old))
-  arc_refused old new e are h t more states state =
-      fails_from e (states_from width nodes (in_state more states (bare_state state)) old.number (lines_left old))
-      (line_then (next_arc width nodes arc_values) (arc_of_state more states state) now.number (lines_left now))
-      (are.goes_on more states state ∙ arc_here more states state h)
-      (takes_fails (next_arc width nodes arc_values) arc_value (arc_of_state more states state) now new e t)
-
   pub arcs_read : (old : Lines) → AreArcs width nodes old now arcs → begins (codes "arc ") now.rest.now ≡ false
       → (more : ℕ) (states : List StateValue) (state : ℕ × Bool)
       → states_from width nodes (in_state more states (bare_state state)) old.number (lines_left old)
@@ -88,16 +77,6 @@ module _ (width nodes : ℕ) (states : List StateValue) (more : ℕ) (old mid : 
       ∙ takes_on (next_state nodes states) bare_state (λ x. states_from width nodes (in_state more states x)) old mid
       state t
 
-  pub state_refused : (e : AnswerErr) → Takes (next_state nodes states) bare_state old mid (Err e)
-      → Fails e (states_from width nodes (behind_states (suc more) states) old.number (lines_left old))
-  state_refused e t =
-      fails_from e (states_from width nodes (behind_states (suc more) states) old.number (lines_left old))
-      (line_then (next_state nodes states) (λ x. states_from width nodes (in_state more states x)) old.number
-      (lines_left old))
-      (state_next width nodes more states old.number (lines_left old))
-      (takes_fails (next_state nodes states) bare_state (λ x. states_from width nodes (in_state more states x)) old
-      mid e t)
-
 -- the end
 module _ (width nodes : ℕ) (states : List StateValue) (old mid : Lines) where
   pub end_read : (u : Unit {0}) → Takes end_of (λ (x : Unit {0}). tt) old mid (Ok u)
@@ -105,14 +84,6 @@ module _ (width nodes : ℕ) (states : List StateValue) (old mid : Lines) where
       ≡ at_end states mid.number (lines_left mid)
   end_read u t = end_next width nodes states old.number (lines_left old)
       ∙ takes_on end_of (λ (x : Unit {0}). tt) (λ done. at_end states) old mid u t
-
-  pub end_refused : (e : AnswerErr) → Takes end_of (λ (x : Unit {0}). tt) old mid (Err e)
-      → Fails e (states_from width nodes (behind_states 0 states) old.number (lines_left old))
-  end_refused e t =
-      fails_from e (states_from width nodes (behind_states 0 states) old.number (lines_left old))
-      (line_then end_of (λ done. at_end states) old.number (lines_left old))
-      (end_next width nodes states old.number (lines_left old))
-      (takes_fails end_of (λ (x : Unit {0}). tt) (λ done. at_end states) old mid e t)
 
   pub end_whole : (u : Unit {0}) (result : Result (Unit {0}) AnswerErr)
       → Takes end_of (λ (x : Unit {0}). tt) old mid (Ok u)

@@ -1,7 +1,7 @@
 -- Arcs that are made of the pieces of a kind's kept moves lead where those moves lead.
-use Rattle.std.proofs.Common.{◌≡◌, ℕ, ◌+◌, ◌<◌, ◌≤◌, IsTrue, List, [], ◌∷◌, ◌++◌, take, length, get_or, slice_get, Some, None, Option, refl, sym, ap, ◌∙◌, subst, All, Contains}
+use Rattle.std.proofs.Common.{◌≡◌, ℕ, ◌+◌, ◌<◌, IsTrue, List, [], ◌∷◌, ◌++◌, take, length, get_or, slice_get, Some, None, Option, refl, sym, ap, ◌∙◌, subst, All, Contains}
 use Rattle.std.specs.List.Sorted.{IsStrictlySortedBy}
-use Rattle.std.proofs.lemmas.List.{map-append, take_all, take_more}
+use Rattle.std.proofs.lemmas.List.{map-append, take_more}
 use Rattle.std.proofs.lemmas.List.Elements.{All-contains, All-push}
 use Rattle.std.proofs.lemmas.List.Folds.{list_any_at}
 use Rattle.std.specs.Prelude.{option_map}
@@ -53,15 +53,6 @@ module _ (s : Subject) (stage : ℕ) (pieces : List KeptPiece) (n : ℕ) (piece 
         same_class = same;
         leads = leads;
       }))
-
--- all arcs
-pub arcs_whole : (s : Subject) (stage : ℕ) (pieces : List KeptPiece) (n : ℕ) (arcs : List ArcLine)
-    → length pieces ≤ n → arc_classes arcs ≡ classes_of (take n pieces) → All (IsArcOf s stage pieces) arcs
-    → AreArcsOf s stage pieces arcs
-arcs_whole s stage pieces n arcs l classes each = record {
-  classes = classes ∙ ap classes_of (take_all n pieces l);
-  each = each;
-}
 
 -- ---- where they lead
 

@@ -10,11 +10,6 @@ use Rattle.tier_core.proofs.KnownSets.{in_edgeless}
 use Rattle.violation.proofs.CandidateLemmas.{part_from}
 use Rattle.violation.proofs.InputParts.{part_step}
 
--- nothing is asked of the tiers before the first
-pub tier_first : (first : Bool) (test : ℕ → Bool) → first ≡ true
-    → IsTrue first ↔ ((t : ℕ) → t < 0 → test t ≡ true)
-tier_first first test e = (λ h t l. absurd (omega arith), λ h. e)
-
 -- one tier more
 pub tier_more : (next rest inside : Bool) (test : ℕ → Bool) (tier : ℕ) → next ≡ (rest && inside) → inside ≡ test tier
     → (IsTrue rest ↔ ((t : ℕ) → t < tier → test t ≡ true))

@@ -45,11 +45,6 @@ module _ (problem : Problem) (answer : Answer) (stage n : ℕ) (node : Node) (is
 
   -- ---- the potential of a final node
 
-  pub right_where_none : node.potential ≡ 0 → IsRightPart problem answer stage n 0
-  right_where_none e rest w =
-      let h = w.1.0 in
-      h.differs (h.listed_is ∙ ap (λ (x : Node). x.potential) (one_node answer stage n h.node node h.is is) ∙ e)
-
   pub right_where_open : is_final problem (kind_of_bits problem stage node.kind) ≡ false
       → IsRightPart problem answer stage n 0
   right_where_open e rest w =

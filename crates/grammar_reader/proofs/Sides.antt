@@ -74,10 +74,6 @@ and_joint w h = (or_parts (bytes_eq w (codes "and")) (bytes_eq w (codes "or")) (
 or_joint : IsJoint (codes "or")
 or_joint w h = (or_parts (bytes_eq w (codes "and")) (bytes_eq w (codes "or")) (is_no_connective w h)).1
 
-pub family_joint : (family : Family) → IsJoint (joined_by family)
-family_joint Implication = or_joint
-family_joint Clash = and_joint
-
 uncut_part : (joint w : List ℕ) (part : Part) → bytes_eq w joint ≡ false
     → AllByRecursion (λ l. is_the_word joint l ≡ false) (part_lexemes part ++ word w ∷ [])
 uncut_part joint w Start h = (refl, (h, tt))

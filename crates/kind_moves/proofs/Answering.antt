@@ -37,13 +37,6 @@ pub is_left_ended : (has_left whole : Bool) (left : List Event) (column : List S
 is_left_ended has_left whole left column all a = ap not (a ∙ ap (λ x. x && answers NoEdge left column) all)
     ∙ some_edge left column
 
-pub are_present : (has_left has_both whole : Bool) (left right : List Event) (column : List Sym) → whole ≡ true
-    → has_left ≡ (whole && answers Present left column) → has_both ≡ (has_left && answers Present right column)
-    → has_both ≡ list_all (is_present column) (left ++ right)
-are_present has_left has_both whole left right column all a b =
-    b ∙ ap (λ x. x && answers Present right column) (a ∙ ap (λ x. x && answers Present left column) all)
-    ∙ sym (list_all-append (is_present column) left right)
-
 pub are_missing : (has_left has_both whole : Bool) (left right : List Event) (column : List Sym) → whole ≡ true
     → has_left ≡ (whole && answers Present left column) → has_both ≡ (has_left && answers Absent right column)
     → has_both ≡ (list_all (is_present column) left && not (list_any (is_present column) right))

@@ -206,16 +206,6 @@ pub record AreOpened (column : List Sym) (n mask : ℕ) : Type 0 where
   pub within : mask < 2 ^ n
   pub bits : (t : ℕ) → t < n → has_tier mask t ≡ opens (symbol column t)
 
-pub opened_more : (column : List Sym) (n mask more : ℕ) → AreOpened column n mask → more < 2 ^ (n + 1)
-    → has_tier more n ≡ opens (symbol column n)
-    → ((t : ℕ) → t < n → has_tier more t ≡ has_tier mask t) → AreOpened column (n + 1) more
-opened_more column n mask more a within here others = record {
-  within = within;
-  bits = λ t l. ⊎_elim (λ below. others t below ∙ a.bits t below)
-      (λ above. let at : t ≡ n = omega arith in ap (has_tier more) at ∙ here
-      ∙ ap (λ k. opens (symbol column k)) (sym at)) (cases_lt t n);
-}
-
 pub opened_all : (column : List Sym) (n mask : ℕ) → AreOpened column n mask → n ≡ length column → (t : ℕ)
     → has_tier mask t ≡ opens (symbol column t)
 opened_all column n mask a e t = ⊎_elim (λ below. a.bits t below)

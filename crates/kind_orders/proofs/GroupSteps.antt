@@ -147,21 +147,6 @@ pub record AreJoinedUpto (lines : List ArcLine) (n : ℕ) (done : List ArcLine) 
   pub rising : AllPairs NotAbove done
   pub upto : All (λ (arc : ArcLine). arc.target ≤ target) done
 
-pub none_joined : (lines : List ArcLine) → AreJoinedSoFar lines 0 [] 0 []
-none_joined lines = record {
-  held = λ to column. refl;
-  filled = All-nil (λ (arc : ArcLine). IsTrue (is_filled arc.class));
-  joined = λ i j d less inside. absurd (omega arith);
-  rising = λ i j d less inside. absurd (omega arith);
-  below = All-nil (λ (arc : ArcLine). arc.target < 0);
-  pieces = record {
-    one_width = All-nil (λ class. length (sets_of class) ≡ width_of (arc_classes lines));
-    filled = All-nil (λ class. IsTrue (is_filled class));
-    apart = λ i j d less inside. absurd (omega arith);
-  };
-  ahead = λ k d past inside. omega arith;
-}
-
 -- arcs of one target are joined if any two of their classes differ twice
 joined_to : (target : ℕ) (classes : List Class) → AllPairs DifferTwice classes → AreJoined (map (arc_to target) classes)
 joined_to target classes differ =
@@ -349,10 +334,6 @@ pieces_permuted width lines others p pieces =
     let same : IsPermutation (arc_classes lines) (arc_classes others)
     = IsPermutation-map (λ (arc : ArcLine). arc.class) lines others p in
     pieces_of_width width (arc_classes others) (sorted_pieces width (arc_classes lines) (arc_classes others) same pieces)
-
-twice_turned : (a b : ArcLine) → (a.target ≡ b.target → DifferTwice a.class b.class)
-    → b.target ≡ a.target → DifferTwice b.class a.class
-twice_turned a b differ same = turned a.class b.class (differ (sym same))
 
 -- what is joined stays so in any order of lines
 pub joined_permuted : (moves lines arcs : List ArcLine) → IsPermutation moves lines → AreJoinedFrom lines arcs

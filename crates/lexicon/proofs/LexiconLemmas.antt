@@ -1,5 +1,5 @@
 -- Bytes are a lexicon, or they have a cause, and never both.
-use Rattle.std.proofs.Common.{◌≡◌, ◌⊎◌, inl, inr, ℕ, ◌<◌, ◌≤◌, Bool, true, false, nat_lt, Option, Some, None, option_map, List, [], codes, length, map, MatchBool, refl, ap, sym, ◌∙◌, subst, arith}
+use Rattle.std.proofs.Common.{◌≡◌, ◌⊎◌, inl, inr, ℕ, ◌<◌, ◌≤◌, Bool, true, false, nat_lt, Option, Some, None, option_map, List, codes, length, map, MatchBool, refl, ap, sym, ◌∙◌, subst, arith}
 use Rattle.std.specs.Str.{is_utf8}
 use Rattle.std.proofs.lemmas.Bool.{false≢true}
 use Rattle.std.proofs.lemmas.Bool.Decides.{nat_tests}
@@ -26,10 +26,6 @@ one_table bytes s t a b = same_Some s t (sym a.told ∙ b.told)
 toml_or_none : (bytes : List ℕ) (t : Members) → IsToml bytes t → IsNoToml bytes → ⊥
 toml_or_none bytes t a (inl other) = other a.utf8
 toml_or_none bytes t a (inr none) = none_some none a.told
-
--- where the key is absent there are no elements
-pub listed_none : (table : Members) → None ≡ get_member (codes "entry") table → elements_of table ≡ Some []
-listed_none table e = ap elements_under (sym e)
 
 -- where it holds no array there is no list
 pub not_listed : (table : Members) (d : Data) → Some d ≡ get_member (codes "entry") table → None ≡ as_array d

@@ -18,7 +18,7 @@ use Rattle.violation.specs.Prefixes.{kind_of_bits, stretches}
 use Rattle.violation.specs.Problems.{Problem, last_place, last_stage}
 use Rattle.violation.proofs.ConstraintCosts.{cost_at, unmet_told}
 use Rattle.violation.proofs.CostLemmas.{costs_agree}
-use Rattle.violation.proofs.WalkLemmas.{same_kind}
+use Rattle.tier_core.proofs.KindTies.{same_parts}
 use Rattle.cert_check.specs.declared.subject.Subject.{Subject}
 use Rattle.cert_check.specs.Faults.{TellsKind}
 use Rattle.cert_check.specs.Opens.{is_open_by}
@@ -37,7 +37,7 @@ pub moved_told : (problem : Problem) (stage : ℕ) (kind result : Kind) (column 
     → AreStretchesBelow (length (filter is_stretch first)) result
     → TellsKind problem stage result (moved problem stage (kind_of_bits problem stage kind) column)
 moved_told problem stage kind result column input free first place opened ei ef ec p q o f l ph st = record {
-  tells = same_kind _ _ _ _ _ _ (p ∙ q ∙ ap (λ ts. kind.place + cond (has_edge (map (symbol column) ts)) 1 0) ei)
+  tells = same_parts _ _ _ _ _ _ (p ∙ q ∙ ap (λ ts. kind.place + cond (has_edge (map (symbol column) ts)) 1 0) ei)
       (ap (open_tiers (length problem.tiers.free)) o ∙ ap (λ (ts : List ℕ). open_tiers (length ts) opened) (sym ef) ∙ f
       ∙ ap (map (λ t. opens (symbol column t))) ef)
       (ap (λ cs. phases (length (filter is_stretch cs)) result) (sym ec) ∙ ph

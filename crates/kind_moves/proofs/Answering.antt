@@ -1,23 +1,19 @@
 -- What columns answer, in the words that tell what a constraint counts.
-use Rattle.std.proofs.Common.{◌≡◌, Bool, true, false, not, ◌&&◌, ◌||◌, List, [], ◌∷◌, ◌++◌, refl, ap, sym, ◌∙◌}
+use Rattle.std.proofs.Common.{◌≡◌, Bool, true, not, ◌&&◌, List, [], ◌∷◌, ◌++◌, refl, ap, sym, ◌∙◌}
 use Rattle.std.specs.List.{list_all, list_any}
 use Rattle.std.proofs.lemmas.List.Folds.{list_all-append}
 use Rattle.tier_core.specs.declared.sym.Sym.{Sym}
 use Rattle.tier_core.specs.declared.event.Event.{Event}
 use Rattle.tier_core.specs.Timelines.{symbol, is_edge}
 use Rattle.tier_core.specs.Sides.{edge_among}
-use Rattle.tier_core.proofs.Bools.{not_not}
+use Rattle.tier_core.proofs.Bools.{not_not, none_of}
 use Rattle.violation.specs.Columns.{is_present}
 use Rattle.kind_moves.specs.declared.ask.Ask.TheVariants.{Present, Absent, NoEdge}
 use Rattle.kind_moves.specs.Asks.{answers}
 
 pub none_pass : {X : Type 0} (p : X → Bool) (xs : List X) → list_all (λ x. not (p x)) xs ≡ not (list_any p xs)
 none_pass p [] = refl
-none_pass p (x ∷ xs) = ap (λ b. not (p x) && b) (none_pass p xs) ∙ by (p x) (list_any p xs)
-  where
-    by : (a b : Bool) → (not a && not b) ≡ not (a || b)
-    by true b = refl
-    by false b = refl
+none_pass p (x ∷ xs) = ap (λ b. not (p x) && b) (none_pass p xs) ∙ none_of (p x) (list_any p xs)
 
 some_edge : (types : List Event) (column : List Sym) → not (answers NoEdge types column) ≡ edge_among types column
 some_edge types column =

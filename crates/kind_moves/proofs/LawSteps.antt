@@ -19,7 +19,8 @@ use Rattle.violation.specs.Prefixes.{kind_of, phase}
 use Rattle.violation.specs.Walks.{HasMoves, reached, BeginsCandidate}
 use Rattle.violation.proofs.PrefixLemmas.{nothing_begun, tier_open_is}
 use Rattle.violation.proofs.SplitLemmas.{tiers_split}
-use Rattle.violation.proofs.WalkLemmas.{moves_begin, moves_end, reached_is, same_kind}
+use Rattle.tier_core.proofs.KindTies.{same_parts}
+use Rattle.violation.proofs.WalkLemmas.{moves_begin, moves_end, reached_is}
 use Rattle.kind_moves.specs.declared.frame.Frame.{Frame}
 use Rattle.kind_moves.specs.Frames.{tiers_in, form_in, stretches_in, kind_at_stage, is_left_open, AreClosedOr, FitsAt, FitsFrame, IsMove, IsStart}
 use Rattle.kind_moves.specs.Laws.{LeadsTo}
@@ -85,7 +86,7 @@ module _ (frame : Frame) (stage : ℕ) where
       → IsMove frame stage kind column next
   is_move kind next column fits column_fits place opened phase_list within below =
       let k = kind_at_stage frame stage kind in
-      let leads : kind_at_stage frame stage next ≡ moved (problem_in frame) stage k column = same_kind _ _ _ _ _ _
+      let leads : kind_at_stage frame stage next ≡ moved (problem_in frame) stage k column = same_parts _ _ _ _ _ _
       place opened phase_list in
       let room = place_next k column fits.place column_fits (has_edge (input_of (tiers_in frame) column)) refl in
       let P : PrefixKind → Type 0 = λ x. AreClosedOr (is_left_open (problem_in frame) x)
@@ -125,7 +126,7 @@ module _ (frame : Frame) (stage : ℕ) where
       → IsStart frame stage kind
   is_start kind place opened unmet met =
       let first = kind_of (problem_in frame) stage [] in
-      let same : kind_at_stage frame stage kind ≡ first = same_kind _ _ _ _ _ _ place
+      let same : kind_at_stage frame stage kind ≡ first = same_parts _ _ _ _ _ _ place
       (ap (open_tiers (length (tiers_in frame).free)) opened ∙ none_open 0 (tiers_in frame).free)
       (ap (λ n. phases_by (length (stretches_in frame stage)) n kind.met) unmet
       ∙ ap (phases_by (length (stretches_in frame stage)) 0) met

@@ -1,5 +1,5 @@
 -- Masks that loops make tier by tier.
-use Rattle.std.proofs.Common.{subst, ◌≡◌, ◌≢◌, ℕ, zero, suc, ◌+◌, ◌-◌, ◌^◌, ◌==◌, ◌<◌, ◌≤◌, ◌||◌, not, nat_eq, Bool, true, false, cond, List, [], ◌∷◌, ◌++◌, map, max, min, length, refl, ap, sym, ◌∙◌, arith, add-one, ⊎_elim, eq-eqb, ne_eqb, bit_and, bit_or}
+use Rattle.std.proofs.Common.{subst, ◌≡◌, ◌≢◌, ℕ, zero, suc, ◌+◌, ◌-◌, ◌^◌, ◌==◌, ◌<◌, ◌≤◌, ◌||◌, not, nat_eq, Bool, true, false, cond, List, [], ◌∷◌, ◌++◌, map, min, length, refl, ap, sym, ◌∙◌, arith, add-one, ⊎_elim, eq-eqb, ne_eqb, bit_and, bit_or}
 use Rattle.std.specs.Int.{bit_at}
 use Rattle.std.specs.List.{AllByRecursion, list_any}
 use Rattle.std.proofs.lemmas.Bool.{cases_lt}
@@ -14,21 +14,12 @@ use Rattle.tier_core.specs.Scan.{opens}
 use Rattle.tier_core.specs.Timelines.{symbol}
 use Rattle.tier_core.specs.Tiers.{has_tier, tiers_below, tiers_of}
 use Rattle.tier_core.proofs.CountLemmas.{all_append, all_weaker}
-use Rattle.tier_core.proofs.MaskBits.{none_from, no_flag}
+use Rattle.tier_core.proofs.MaskBits.{none_from, no_flag, most_one}
 use Rattle.violation.specs.Moves.{flag_of}
-
-or_value : (x y : ℕ) → x < 2 → y < 2 → (max x y == 1) ≡ ((x == 1) || (y == 1))
-or_value zero zero l h = refl
-or_value zero (suc zero) l h = refl
-or_value zero (suc (suc y)) l h = absurd (omega arith)
-or_value (suc zero) zero l h = refl
-or_value (suc zero) (suc zero) l h = refl
-or_value (suc zero) (suc (suc y)) l h = absurd (omega arith)
-or_value (suc (suc x)) y l h = absurd (omega arith)
 
 -- a tier of either mask is one of both
 pub or_tier : (a b t : ℕ) → has_tier (bit_or a b) t ≡ (has_tier a t || has_tier b t)
-or_tier a b t = ap (λ n. n == 1) (bit_at_or a b t) ∙ or_value (bit_at a t) (bit_at b t) (bit_at-lt a t)
+or_tier a b t = ap (λ n. n == 1) (bit_at_or a b t) ∙ most_one (bit_at a t) (bit_at b t) (bit_at-lt a t)
     (bit_at-lt b t)
 
 pub tiers_more : (tiers n : ℕ) → has_tier tiers n ≡ true → tiers_below tiers (n + 1) ≡ tiers_below tiers n ++ n ∷ []

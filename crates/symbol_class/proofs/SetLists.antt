@@ -1,5 +1,5 @@
 -- Sets of symbols that are met, united or turned around, and lists of sets in which one is replaced.
-use Rattle.std.proofs.Common.{◌≡◌, ℕ, zero, suc, ◌-◌, ◌^◌, ◌<◌, ◌==◌, min, max, Bool, true, false, not, ◌&&◌, ◌||◌, List, [], ◌∷◌, length, get_or, set, bit_and, bit_or, w8, refl, ap, sym, ◌∙◌, arith}
+use Rattle.std.proofs.Common.{◌≡◌, ℕ, zero, suc, ◌-◌, ◌^◌, ◌<◌, ◌==◌, min, Bool, true, false, not, ◌&&◌, ◌||◌, List, [], ◌∷◌, length, get_or, set, bit_and, bit_or, w8, refl, ap, sym, ◌∙◌, arith}
 use Rattle.std.specs.Int.{bit_at, bit_not}
 use Rattle.std.proofs.lemmas.List.{set-get_or, set-set}
 use Rattle.std.proofs.lemmas.Nat.Bits.{bit_at_and, bit_at_or, bit_at_not, bit_at-lt}
@@ -11,6 +11,7 @@ use Rattle.tier_core.specs.Classes.{sets_have}
 use Rattle.tier_core.specs.Timelines.{symbol}
 use Rattle.tier_core.proofs.Bools.{and_grouped}
 use Rattle.tier_core.proofs.KnownSets.{in_all}
+use Rattle.tier_core.proofs.MaskBits.{most_one}
 
 -- ---- one set
 
@@ -22,15 +23,6 @@ least_one (suc zero) zero lp lq = refl
 least_one (suc zero) (suc zero) lp lq = refl
 least_one (suc zero) (suc (suc q)) lp lq = absurd (omega arith)
 least_one (suc (suc p)) q lp lq = absurd (omega arith)
-
-most_one : (p q : ℕ) → p < 2 → q < 2 → (max p q == 1) ≡ ((p == 1) || (q == 1))
-most_one zero zero lp lq = refl
-most_one zero (suc zero) lp lq = refl
-most_one zero (suc (suc q)) lp lq = absurd (omega arith)
-most_one (suc zero) zero lp lq = refl
-most_one (suc zero) (suc zero) lp lq = refl
-most_one (suc zero) (suc (suc q)) lp lq = absurd (omega arith)
-most_one (suc (suc p)) q lp lq = absurd (omega arith)
 
 turned_one : (p : ℕ) → p < 2 → (1 - p == 1) ≡ not (p == 1)
 turned_one zero l = refl

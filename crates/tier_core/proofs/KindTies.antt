@@ -67,13 +67,14 @@ same_phase met closed e = absurd (omega arith)
 same_phase met unmet e = absurd (omega arith)
 same_phase met met e = refl
 
-abbrev kind_of_parts : ℕ → List Bool → List Phase → PrefixKind
-kind_of_parts p a s = record { place = p; opened = a; phases = s }
-
-of_parts : (p q : ℕ) (a b : List Bool) (s t : List Phase) → p ≡ q → a ≡ b → s ≡ t
-    → kind_of_parts p a s ≡ kind_of_parts q b t
-of_parts p q a b s t e f g = ap (λ n. kind_of_parts n a s) e ∙ ap (λ c. kind_of_parts q c s) f
-    ∙ ap (kind_of_parts q b) g
+-- kinds with the same parts
+pub same_parts : (m n : ℕ) (os qs : List Bool) (ps rs : List Phase) → m ≡ n → os ≡ qs → ps ≡ rs
+    → (let k : PrefixKind = record { place = m; opened = os; phases = ps } in k)
+    ≡ record { place = n; opened = qs; phases = rs }
+same_parts m n os qs ps rs a b c =
+    ap (λ (x : ℕ). let k : PrefixKind = record { place = x; opened = os; phases = ps } in k) a
+    ∙ ap (λ (x : List Bool). let k : PrefixKind = record { place = n; opened = x; phases = ps } in k) b
+    ∙ ap (λ (x : List Phase). let k : PrefixKind = record { place = n; opened = qs; phases = x } in k) c
 
 -- kinds that tie are one
 pub same_kind : (k l : PrefixKind) → kind_order k l ≡ Equal → k ≡ l
@@ -82,7 +83,7 @@ same_kind k l e =
     let phases = slice_cmp nat_cmp (map phase_rank k.phases) (map phase_rank l.phases) in
     let first = both_equal (nat_cmp k.place l.place) (ordering_then opened phases) e in
     let second = both_equal opened phases first.1 in
-    of_parts k.place l.place k.opened l.opened k.phases l.phases (same_number k.place l.place first.0)
+    same_parts k.place l.place k.opened l.opened k.phases l.phases (same_number k.place l.place first.0)
     (unmapped open_rank same_open k.opened l.opened
     (same_numbers (map open_rank k.opened) (map open_rank l.opened) second.0))
     (unmapped phase_rank same_phase k.phases l.phases

@@ -1,5 +1,5 @@
 -- Masks by their bits: none from the bound on, none at all, none in common, and masks of lists of flags.
-use Rattle.std.proofs.Common.{◌≡◌, ◌⊎◌, ℕ, zero, suc, ◌+◌, ◌*◌, ◌/◌, ◌%◌, ◌^◌, ◌==◌, ◌<◌, ◌≤◌, ◌&&◌, ◌||◌, not, nat_eq, Bool, true, false, cond, min, List, [], ◌∷◌, map, length, get_or, refl, ap, sym, ◌∙◌, arith, ⊎_elim, bit_and, eq-eqb, ne_eqb}
+use Rattle.std.proofs.Common.{◌≡◌, ◌⊎◌, ℕ, zero, suc, ◌+◌, ◌*◌, ◌/◌, ◌%◌, ◌^◌, ◌==◌, ◌<◌, ◌≤◌, ◌&&◌, ◌||◌, not, nat_eq, Bool, true, false, cond, min, max, List, [], ◌∷◌, map, length, get_or, refl, ap, sym, ◌∙◌, arith, ⊎_elim, bit_and, eq-eqb, ne_eqb}
 use Rattle.std.specs.Int.{bit_at}
 use Rattle.std.specs.List.{range_with_len, list_any}
 use Rattle.std.proofs.Math.Nat.{pow-suc, mul-add, mul_assoc}
@@ -67,6 +67,16 @@ pub same_mask : (a b n : ℕ) → a < 2 ^ n → b < 2 ^ n → ((i : ℕ) → i <
 same_mask a b n la lb h = same_from_bits_below n a b la lb (λ i l.
     bit_value (bit_at a i) (bit_at-lt a i) ∙ ap (λ c. cond c 1 0) (h i l)
     ∙ sym (bit_value (bit_at b i) (bit_at-lt b i)))
+
+-- the greater of two bits is one if either is
+pub most_one : (p q : ℕ) → p < 2 → q < 2 → (max p q == 1) ≡ ((p == 1) || (q == 1))
+most_one zero zero lp lq = refl
+most_one zero (suc zero) lp lq = refl
+most_one zero (suc (suc q)) lp lq = absurd (omega arith)
+most_one (suc zero) zero lp lq = refl
+most_one (suc zero) (suc zero) lp lq = refl
+most_one (suc zero) (suc (suc q)) lp lq = absurd (omega arith)
+most_one (suc (suc p)) q lp lq = absurd (omega arith)
 
 -- ---- masks of flags
 

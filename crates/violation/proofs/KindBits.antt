@@ -1,5 +1,5 @@
 -- Kinds by their bits: each list of phases is told by two masks, some bits tell each kind, and they are one.
-use Rattle.std.proofs.Common.{◌≡◌, ℕ, ◌^◌, ◌<◌, ◌&&◌, Bool, true, false, List, map, length, get_or, refl, ap, ap₂, sym, ◌∙◌, subst, arith, ⊎_elim, bit_and}
+use Rattle.std.proofs.Common.{◌≡◌, ℕ, ◌^◌, ◌<◌, ◌&&◌, Bool, true, false, List, map, length, get_or, refl, ap, sym, ◌∙◌, subst, arith, ⊎_elim, bit_and}
 use Rattle.std.specs.List.{range_with_len}
 use Rattle.std.proofs.Props.{props}
 use Rattle.std.proofs.lemmas.Bool.{cases_lt}
@@ -11,6 +11,7 @@ use Rattle.tier_core.specs.PhaseBits.{told_at, phases_by}
 use Rattle.tier_core.specs.Tiers.{has_tier}
 use Rattle.tier_core.proofs.KindLemmas.{not_both}
 use Rattle.tier_core.proofs.MaskBits.{AreBits, bits_of, open_bits, apart_from, none_from, same_mask}
+use Rattle.tier_core.proofs.KindTies.{same_parts}
 use Rattle.violation.specs.Moves.{is_unmet_phase, is_met_phase}
 
 -- ---- masks of phases
@@ -76,12 +77,6 @@ pub record AreBitsOf (free count : ℕ) (k : PrefixKind) (kind : Kind) : Type 0 
   pub opened : kind.opened < 2 ^ free
   pub stretches : AreStretchesBelow count kind
 
-kind_parts : (place : ℕ) (a b : List Bool) (s t : List Phase) → a ≡ b → s ≡ t
-    → (let k : PrefixKind = record { place = place; opened = a; phases = s } in k)
-    ≡ record { place = place; opened = b; phases = t }
-kind_parts place a b s t e f = ap₂ (λ (o : List Bool) (p : List Phase). let k : PrefixKind = record
-    { place = place; opened = o; phases = p } in k) e f
-
 -- some bits tell a kind that has so many flags and phases
 pub kind_for : (free count : ℕ) (k : PrefixKind) → length k.opened ≡ free → length k.phases ≡ count
     → (kind : Kind) × AreBitsOf free count k kind
@@ -94,7 +89,7 @@ kind_for free count k frees counts = (
     apart = phases_apart k.phases unmets.0 mets.0 unmets.1 mets.1;
   },
   record {
-    tells = kind_parts k.place (open_tiers free opened.0) k.opened (phases_by count unmets.0 mets.0) k.phases
+    tells = same_parts k.place k.place (open_tiers free opened.0) k.opened (phases_by count unmets.0 mets.0) k.phases refl
         (ap (λ n. open_tiers n opened.0) (sym frees) ∙ open_bits k.opened opened.0 opened.1)
         (ap (λ n. phases_by n unmets.0 mets.0) (sym counts) ∙ phases_told k.phases unmets.0 mets.0 unmets.1 mets.1);
     opened = subst (λ n. opened.0 < 2 ^ n) frees opened.1.within;

@@ -80,14 +80,16 @@ module _ (problem : Problem) (k : PrefixKind) (coming still bare : Class) (mask 
       let parts = and_parts (has coming column) (not (is_read column)) (sym (has_still column) ∙ s) in
       let w = width_of_column column parts.0 in
       let edge : has_edge column ≡ true = ⊎_elim (λ y. y)
-      (λ none. absurd (both_ways (has bare column) (not-true (has bare column) (and_parts (has still column) (not (has bare column)) h).1)
+      (λ none. absurd (both_ways (has bare column) (not-true (has bare column)
+          (and_parts (has still column) (not (has bare column)) h).1)
       ((has_bare column w).1 (λ t l. ap not (each_edgeless column none t (omega (arith, w, l)))))))
       (cases_Bool (has_edge column)) in
       fits_column column parts.0 edge (inl (not-true (is_read column) parts.1))
 
   read_here : (column : List Sym) → has coming column ≡ true → is_reading column ≡ true → is_read column ≡ true
   read_here column f h = ⊎_elim (λ y. y)
-      (λ none. absurd (both_ways (has still column) (not-true (has still column) (and_parts (reads column) (not (has still column)) h).1)
+      (λ none. absurd (both_ways (has still column) (not-true (has still column)
+          (and_parts (reads column) (not (has still column)) h).1)
       (has_still column ∙ and_from (has coming column) (not (is_read column)) f (ap not none))))
       (cases_Bool (is_read column))
 
@@ -138,7 +140,8 @@ module _ (problem : Problem) (k : PrefixKind) (coming still bare : Class) (mask 
         (sym (has_still column) ∙ (and_parts (has still column) (not (has bare column)) h).0)).1))
         (adds_constant problem.tiers.width one two is_reading is_read true
         (subst (λ n. AddsClasses n one two (λ column. once_if (is_reading column))) also second)
-        (λ column h. read_here column ((has_read column).0 (and_parts (reads column) (not (has still column)) h).0).0 h))
+        (λ column h. read_here column ((has_read column).0
+            (and_parts (reads column) (not (has still column)) h).0).0 h))
         (λ column. refl)
 
     all : AddsClasses problem.tiers.width [] two (λ column. once_if (holds column))

@@ -143,7 +143,8 @@ module _ {frame : Frame} {kind : Kind} {class following still bare : Class} {mas
         g.0,
         record {
           width = width_of_column column g.0;
-          symbols = λ t l. ap (λ b. fits b (symbol column t)) (sym (parted.opened stage t)) ∙ g.1 t (omega (arith, parted.wide));
+          symbols = λ t l. ap (λ b. fits b (symbol column t)) (sym (parted.opened stage t)) ∙ g.1 t
+              (omega (arith, parted.wide));
           edge = e;
           input = part;
         },
@@ -156,7 +157,8 @@ module _ {frame : Frame} {kind : Kind} {class following still bare : Class} {mas
       let parts = and_parts (has following column) (not (is_read column)) (sym (parted.has_still column) ∙ s) in
       let in_class = ((parted.follows column).0 parts.0).0 in
       let edge : has_edge column ≡ true = ⊎_elim (λ y. y) (λ none. absurd
-      (both_ways (has bare column) (not-true (has bare column) (and_parts (has still column) (not (has bare column)) h).1)
+      (both_ways (has bare column) (not-true (has bare column)
+          (and_parts (has still column) (not (has bare column)) h).1)
       ((parted.has_bare column).1 (
         s,
         λ t l. each_edgeless column none t
@@ -228,7 +230,8 @@ module _ {frame : Frame} {kind : Kind} {class following still bare : Class} {mas
         (adds_constant (tiers_in frame).width one two (λ column. reads column && not (has still column)) is_read true
         (subst (λ n. AddsClasses n one two (λ column. once_if (reads column && not (has still column)))) also
         second)
-        (λ column h. read_here column ((parted.has_read column).0 (and_parts (reads column) (not (has still column)) h).0).0
+        (λ column h. read_here column ((parted.has_read column).0
+            (and_parts (reads column) (not (has still column)) h).0).0
         h))
         (λ column. refl)
 

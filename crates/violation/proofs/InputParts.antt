@@ -64,7 +64,8 @@ reads_more after rest kinds column form k next set d l h within alone e so_far =
           ),
     )
 
-pub reads_same : {Whole : Type 0} (rest : Bool) (kinds : List TierKind) (column form : List Sym) (k next : ℕ) (d : TierKind)
+pub reads_same : {Whole : Type 0} (rest : Bool) (kinds : List TierKind) (column form : List Sym) (k next : ℕ)
+    (d : TierKind)
     → k < length kinds → is_input (get_or kinds k d) ≡ false
     → ReadsOn rest Whole kinds column form k next → ReadsOn rest Whole kinds column form (k + 1) next
 reads_same rest kinds column form k next d l h so_far =

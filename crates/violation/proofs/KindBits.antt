@@ -89,7 +89,8 @@ kind_for free count k frees counts = (
     apart = phases_apart k.phases unmets.0 mets.0 unmets.1 mets.1;
   },
   record {
-    tells = same_parts k.place k.place (open_tiers free opened.0) k.opened (phases_by count unmets.0 mets.0) k.phases refl
+    tells = same_parts k.place k.place (open_tiers free opened.0) k.opened
+        (phases_by count unmets.0 mets.0) k.phases refl
         (ap (λ n. open_tiers n opened.0) (sym frees) ∙ open_bits k.opened opened.0 opened.1)
         (ap (λ n. phases_by n unmets.0 mets.0) (sym counts) ∙ phases_told k.phases unmets.0 mets.0 unmets.1 mets.1);
     opened = subst (λ n. opened.0 < 2 ^ n) frees opened.1.within;

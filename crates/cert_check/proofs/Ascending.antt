@@ -16,7 +16,7 @@ use Rattle.cert_check.specs.Faults.{HasNode, HasWrongNode}
 use Rattle.cert_check.proofs.Decisions.{so_unless, is_less}
 use Rattle.cert_check.proofs.Faultless.{node_kind}
 
-none_there : (ns : List Node) (n : ℕ) → n < length ns → slice_get ns n ≡ None → ⊥
+pub none_there : (ns : List Node) (n : ℕ) → n < length ns → slice_get ns n ≡ None → ⊥
 none_there [] n l e = absurd (omega (arith, l))
 none_there (node ∷ ns) zero l e = cc
 none_there (node ∷ ns) (suc n) l e = none_there ns n (omega (arith, l)) e

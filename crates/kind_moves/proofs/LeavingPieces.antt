@@ -144,7 +144,7 @@ module _ (frame : Frame) (a b : Class) (place : ℕ) (old : List Piece) where
               wide = led.one_width k d l ∙ wide;
               filled = led.filled k d l;
               opened = λ column h. ((columns column).0 ((and_parts (has box column) (not (has b column))
-                  (held_in led.classes (λ c. has box c && not (has b c)) led.held k d l column h)).0).1
+                  (held_in led.classes (λ c. has box c && not (has b c)) led.held k d l column h)).0)).1
                   ∙ ap (open_tiers (length free)) (sym opened);
               within = omega (arith, few, opened);
               at_place = at_place;

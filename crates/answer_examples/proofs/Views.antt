@@ -7,7 +7,7 @@ use Rattle.answer_text.specs.declared.stage.Node.{Node}
 use Rattle.answer_text.specs.declared.stage.Stage.{Stage}
 use Rattle.answer_text.specs.Right.{nodes_at, kinds_at}
 use Rattle.answer_text.specs.Certified.{Lists}
-use Rattle.check_laws.proofs.Members.{contains_map, contains_of_map}
+use Rattle.tier_core.proofs.Members.{contains_map, contains_of_map}
 use Rattle.answer_examples.specs.Seen.{node_seen, nodes_seen}
 
 module _ (problem : Problem) (stages : List Stage) (r : ℕ) (seen : List (PrefixKind × ℕ))

@@ -1,28 +1,17 @@
 -- Masks of bytes, and kinds by such masks.
-use Rattle.std.proofs.Common.{◌≡◌, ◌≢◌, ℕ, zero, suc, ◌+◌, ◌*◌, ◌/◌, ◌%◌, ◌^◌, ◌==◌, ◌<◌, ◌≤◌, Bool, true, false, cond, min, List, [], ◌∷◌, map, length, get_or, drop, refl, ap, sym, ◌∙◌, arith, ⊎_elim, bit_and, ne_eqb, add-one}
+use Rattle.std.proofs.Common.{◌≡◌, ◌≢◌, ℕ, zero, suc, ◌+◌, ◌*◌, ◌^◌, ◌==◌, ◌<◌, ◌≤◌, Bool, false, cond, List, [], ◌∷◌, map, length, get_or, drop, refl, ap, sym, ◌∙◌, arith, ⊎_elim, bit_and, ne_eqb, add-one}
 use Rattle.std.specs.Int.{bit_at}
 use Rattle.std.specs.List.{range_with_len}
-use Rattle.std.proofs.lemmas.Bool.{cases_lt, eqb-true, eqb-false}
+use Rattle.std.proofs.lemmas.Bool.{cases_lt, eqb-true}
 use Rattle.std.proofs.lemmas.List.{get_or-map, drop_more}
 use Rattle.std.proofs.lemmas.List.FromFn.{fill_by_all}
-use Rattle.std.proofs.Math.Nat.{pow-suc, mul-add, mul_assoc}
-use Rattle.std.proofs.lemmas.Nat.Bits.{bit_at_lowest, bit_at-suc, bit_at_above, bit_at_and, bit_at-zero, bit_at-lt, same_from_bits}
+use Rattle.std.proofs.Math.Nat.{pow-suc}
+use Rattle.std.proofs.lemmas.Nat.Bits.{bit_at_lowest, bit_at-suc}
 use Rattle.tier_core.specs.Kinds.{phase_by_bits, open_tiers}
 use Rattle.tier_core.specs.Tiers.{has_tier}
+use Rattle.tier_core.proofs.MaskBits.{none_from, halves, lowest_flag, at_most_one, apart_by, mask_shift}
 use Rattle.answer_reader.specs.Masks.{mask_of}
 use Rattle.answer_reader.specs.Nodes.{phase_of}
-
-halves : (b : Bool) (n : ℕ) → ((cond b 1 0 + 2 * n) % 2 ≡ cond b 1 0) × ((cond b 1 0 + 2 * n) / 2 ≡ n)
-halves true n = (omega arith, omega arith)
-halves false n = (omega arith, omega arith)
-
-lowest_flag : (b : Bool) → (cond b 1 0 == 1) ≡ b
-lowest_flag true = refl
-lowest_flag false = refl
-
-at_most_one : (b : Bool) → cond b 1 0 ≤ 1
-at_most_one true = omega arith
-at_most_one false = omega arith
 
 pub mask_within : (mark : ℕ) (bytes : List ℕ) → mask_of mark bytes < 2 ^ length bytes
 mask_within mark [] = omega arith
@@ -68,32 +57,17 @@ phases_told bytes = sym (fill_by_all
 
 -- ---- masks of two marks have no bit in common
 
-none_bit : (mask i : ℕ) → has_tier mask i ≡ false → bit_at mask i ≡ 0
-none_bit mask i h = let other = eqb-false (bit_at mask i) 1 h in omega (arith, bit_at-lt mask i)
-
-apart_from : (a b : ℕ) → ((i : ℕ) → has_tier a i ≡ true → has_tier b i ≡ false) → bit_and a b ≡ 0
-apart_from a b h = same_from_bits (bit_and a b) 0
-    (λ i. bit_at_and a b i ∙ none i (has_tier a i) refl ∙ sym (bit_at-zero i))
-  where
-    none : (i : ℕ) (c : Bool) → has_tier a i ≡ c → min (bit_at a i) (bit_at b i) ≡ 0
-    none i false e = omega (arith, none_bit a i e)
-    none i true e = omega (arith, none_bit b i (h i e))
-
 pub masks_apart : (m n : ℕ) (bytes : List ℕ) → m ≢ n → bit_and (mask_of m bytes) (mask_of n bytes) ≡ 0
-masks_apart m n bytes other = apart_from (mask_of m bytes) (mask_of n bytes) (λ i e. ⊎_elim
+masks_apart m n bytes other = apart_by (mask_of m bytes) (mask_of n bytes) (λ i e. ⊎_elim
     (λ l. let is : get_or bytes i 0 ≡ m = eqb-true (get_or bytes i 0) m (sym (mask_at m bytes i l) ∙ e) in
     mask_at n bytes i l ∙ ne_eqb (get_or bytes i 0) n (λ same. other (sym is ∙ same)))
     (λ l. no_bit n i l)
     (cases_lt i (length bytes)))
   where
     no_bit : (mark i : ℕ) → length bytes ≤ i → has_tier (mask_of mark bytes) i ≡ false
-    no_bit mark i l = ap (λ b. b == 1) (bit_at_above (mask_of mark bytes) (length bytes) i (mask_within mark bytes) l)
+    no_bit mark i l = none_from (mask_of mark bytes) (length bytes) i (mask_within mark bytes) l
 
 -- ---- the mask as it is made, from the front on
-
-pub mask_shift : (m b x : ℕ) (t : Bool) → m + b * (cond t 1 0 + 2 * x) ≡ m + cond t b 0 + b * 2 * x
-mask_shift m b x true = let p = mul-add b 1 (2 * x) in let q = mul_assoc b 2 x in omega arith
-mask_shift m b x false = let p = mul-add b 0 (2 * x) in let q = mul_assoc b 2 x in omega arith
 
 -- one byte more
 pub mask_next : (mark m b k r : ℕ) (bytes : List ℕ) (t : Bool) → k < length bytes → t ≡ (get_or bytes k 0 == mark) → r
@@ -104,10 +78,6 @@ mask_next mark m b k r bytes t l is e =
     ∙ ap (λ u. m + b * (cond u 1 0 + 2 * mask_of mark (drop (k + 1) bytes))) (sym is)
     ∙ mask_shift m b (mask_of mark (drop (k + 1) bytes)) t
     ∙ ap (λ x. m + x + b * 2 * mask_of mark (drop (k + 1) bytes)) (sym e)
-
-pub bit_below : (m b : ℕ) (t : Bool) (r : ℕ) → r ≡ cond t b 0 → m < b → m + r < b * 2
-bit_below m b true r e l = omega arith
-bit_below m b false r e l = omega arith
 
 pub bit_more : (b k : ℕ) → b ≤ 2 ^ k → b * 2 ≤ 2 ^ (k + 1)
 bit_more b k l = let p : 2 ^ (k + 1) ≡ 2 ^ k * 2 = ap (λ i. 2 ^ i) (add-one k) ∙ pow-suc 2 k in omega arith

@@ -1,5 +1,5 @@
 -- A class, read tier by tier.
-use Rattle.std.proofs.Common.{◌≡◌, ℕ, zero, suc, ◌+◌, ◌-◌, ◌<◌, List, [], ◌∷◌, ◌++◌, length, take, set, Option, Some, None, option_map, option_and_then, refl, ap, sym, ◌∙◌, arith, append_assoc, append-nil}
+use Rattle.std.proofs.Common.{◌≡◌, ℕ, zero, suc, ◌+◌, ◌-◌, ◌<◌, List, [], ◌∷◌, ◌++◌, length, take, set, Option, Some, None, option_map, option_and_then, refl, ap, sym, ◌∙◌, arith, append_assoc}
 use Rattle.std.proofs.lemmas.List.{take_more_set}
 use Rattle.answer_reader.specs.Classes.{front_of, class_of}
 use Rattle.answer_reader.specs.Decoding.{decoded}
@@ -43,20 +43,6 @@ tier_missing n tier sets rest whole l d h =
     ap (λ f. behind_sets sets (option_and_then
     (λ (front : ℕ × List ℕ). option_map (λ xs. front.0 ∷ xs) (class_of (n - (tier + 1)) front.1)) f)) (sym e)
     ∙ sym (ap (λ k. behind_sets sets (class_of k rest)) more) ∙ h
-
--- behind the last tier nothing stands
-pub tiers_end : (k : ℕ) (sets rest : List ℕ) (whole : Option (List ℕ)) → k ≡ 0 → length rest ≡ 0
-    → behind_sets sets (class_of k rest) ≡ whole → Some sets ≡ whole
-tiers_end zero sets [] whole z e h = ap (λ (ys : List ℕ). let r : Option (List ℕ) = Some ys in r)
-    (sym (append-nil sets)) ∙ h
-tiers_end zero sets (b ∷ rest) whole z e h = absurd (omega arith)
-tiers_end (suc k) sets rest whole z e h = absurd (omega arith)
-
-pub bytes_behind : (k : ℕ) (sets rest : List ℕ) (whole : Option (List ℕ)) → k ≡ 0 → 0 < length rest
-    → behind_sets sets (class_of k rest) ≡ whole → None ≡ whole
-bytes_behind zero sets [] whole z e h = absurd (omega arith)
-bytes_behind zero sets (b ∷ rest) whole z e h = h
-bytes_behind (suc k) sets rest whole z e h = absurd (omega arith)
 
 length_at : (width : ℕ) (o : Option (ℕ × List ℕ)) (sets : List ℕ)
     → ((bytes xs : List ℕ) → class_of width bytes ≡ Some xs → length xs ≡ width)

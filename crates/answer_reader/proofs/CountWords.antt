@@ -24,13 +24,6 @@ passes_at test (x ∷ xs) (suc k) d h l = passes_at test xs k d (and_parts (test
 pub record AreNumbers (bound : ℕ) (words : List (List ℕ)) (k : ℕ) (numbers : List ℕ) : Type 0 where
   pub rest : behind_sets numbers (numbers_below bound (drop k words)) ≡ numbers_below bound words
 
-pub no_numbers : (bound : ℕ) (words : List (List ℕ)) → AreNumbers bound words 0 []
-no_numbers bound words = record { rest = by (numbers_below bound words) }
-  where
-    by : (o : Option (List ℕ)) → behind_sets [] o ≡ o
-    by None = refl
-    by (Some ns) = refl
-
 abbrev with_rest : ℕ → List (List ℕ) → ℕ → Option ℕ → Option (List ℕ)
 with_rest bound words k o = option_and_then
     (λ n. option_map (λ ns. n ∷ ns) (numbers_below bound (drop (suc k) words))) o

@@ -1,12 +1,13 @@
 -- Lines of a text, cut one by one.
-use Rattle.std.proofs.Common.{◌≡◌, ℕ, ◌+◌, ◌==◌, ◌<◌, ◌≤◌, ◌&&◌, ◌||◌, Bool, true, false, List, [], ◌∷◌, ◌++◌, length, take, drop, Option, Some, None, option_map, position, refl, ap, sym, ◌∙◌, arith, nat_eq, ne_eqb, length-drop}
+use Rattle.std.proofs.Common.{◌≡◌, ℕ, ◌+◌, ◌==◌, ◌<◌, ◌≤◌, ◌&&◌, Bool, true, false, List, [], ◌∷◌, ◌++◌, length, take, drop, Option, Some, None, option_map, position, refl, ap, sym, ◌∙◌, arith, nat_eq, ne_eqb}
 use Rattle.std.specs.List.{position_or_len, list_any, join_with_byte}
 use Rattle.std.specs.Str.{bytes_eq}
-use Rattle.std.proofs.lemmas.Bool.{false≢true}
+use Rattle.std.proofs.lemmas.Bool.{false≢true, or_parts}
 use Rattle.std.proofs.lemmas.Bool.Decides.{nat_tests}
 use Rattle.std.proofs.lemmas.List.Splits.{slice_split_none, slice_split_first, join_with_byte-slice_split, length-slice_split}
 use Rattle.std.proofs.lemmas.List.Sums.{fails_before_first}
-use Rattle.answer_reader.specs.Cuts.{is_newline, lines_of, parts_at, cut, begins}
+use Rattle.timeline_text.specs.Bytes.{is_newline, lines_of}
+use Rattle.answer_reader.specs.Cuts.{parts_at, cut, begins}
 
 -- there is always something left
 pub some_left : (bytes : List ℕ) → 0 < length (lines_of bytes)
@@ -56,34 +57,18 @@ line_cut bytes parts h =
     ∙ ap (λ k. take k bytes ∷ lines_of (drop (k + 1) bytes)) (sym p.1)
     ∙ ap (λ x. x ∷ lines_of (drop (c.place + 1) bytes)) (sym c.before) ∙ ap (λ x. parts.0 ∷ lines_of x) (sym c.after)
 
-pub line_shorter : (bytes : List ℕ) (parts : List ℕ × List ℕ) → cut 10 bytes ≡ Some parts
-    → length parts.1 < length bytes
-line_shorter bytes parts h =
-    let c = is_cut 10 bytes parts h in
-    let p = position_some is_newline bytes c.place c.at in
-    let d = length-drop (c.place + 1) bytes in
-    let e = ap length c.after in omega arith
-
 -- ---- a front of what is left is a front of the next line
 
 front_at : (word line tail : List ℕ) → list_any is_newline word ≡ false → begins word (line ++ 10 ∷ tail)
     ≡ begins word line
 front_at [] line tail h = refl
 front_at (w ∷ word) [] tail h = ap (λ t. t && bytes_eq (take (length word) tail) word)
-    (ne_eqb 10 w (λ e. false≢true (sym (or_left (w == 10) (list_any is_newline word) h) ∙ is_ten w (sym e))))
+    (ne_eqb 10 w (λ e. false≢true (sym (or_parts (w == 10) (list_any is_newline word) h).0 ∙ is_ten w (sym e))))
   where
-    or_left : (a b : Bool) → (a || b) ≡ false → a ≡ false
-    or_left true b h = h
-    or_left false b h = refl
-
     is_ten : (n : ℕ) → n ≡ 10 → (n == 10) ≡ true
     is_ten n e = ap (λ m. m == 10) e
 front_at (w ∷ word) (b ∷ line) tail h = ap (λ t. nat_eq b w && t)
-    (front_at word line tail (or_right (w == 10) (list_any is_newline word) h))
-  where
-    or_right : (a b : Bool) → (a || b) ≡ false → b ≡ false
-    or_right true b h = absurd (false≢true (sym h))
-    or_right false b h = h
+    (front_at word line tail (or_parts (w == 10) (list_any is_newline word) h).1)
 
 pub begins_line : (word bytes line next : List ℕ) (lines : List (List ℕ)) → list_any is_newline word ≡ false
     → lines_of bytes ≡ line ∷ next ∷ lines → begins word bytes ≡ begins word line

@@ -7,7 +7,8 @@ use Rattle.std.proofs.lemmas.Bool.Decides.{nat_tests}
 use Rattle.std.proofs.lemmas.Fmt.{decimal_by_steps}
 use Rattle.std.proofs.lemmas.List.{length_push}
 use Rattle.std.proofs.lemmas.List.Folds.{list_all-append}
-use Rattle.answer_reader.specs.Numbers.{is_digit, is_run, value_from, has_leading_zero, number_below}
+use Rattle.timeline_text.specs.Bytes.{is_digit}
+use Rattle.answer_reader.specs.Numbers.{is_run, value_from, has_leading_zero, number_below}
 
 -- digits that write a number
 record AreDigitsOf (n : ℕ) (ds : List ℕ) : Type 0 where

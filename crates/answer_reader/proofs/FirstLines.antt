@@ -2,12 +2,11 @@
 use Rattle.std.proofs.Common.{◌≡◌, ℕ, ◌+◌, ◌<◌, List, [], ◌∷◌, length, Result, Ok, Err, ap, sym, ◌∙◌, subst, arith}
 use Rattle.std.specs.Result.{MatchResult}
 use Rattle.answer_reader.specs.declared.answer_err.AnswerCause.{AnswerCause}
-use Rattle.answer_reader.specs.declared.answer_err.AnswerCause.TheVariants.{CutShort}
 use Rattle.answer_reader.specs.declared.answer_err.AnswerErr.{AnswerErr}
 use Rattle.answer_reader.specs.declared.answer_err.AnswerErr.TheVariants as code
 use Rattle.answer_reader.specs.declared.lines.Lines.{Lines}
 use Rattle.answer_reader.specs.Left.{lines_left, Takes}
-use Rattle.answer_reader.specs.Steps.{At, at, go_on, first_line, Fails}
+use Rattle.answer_reader.specs.Steps.{At, go_on, first_line}
 use Rattle.answer_reader.proofs.Cutting.{some_left}
 
 -- ---- a line that the code has read
@@ -18,15 +17,6 @@ two_lines : (lines : List (List ℕ)) (line : List ℕ) (rest : List (List ℕ))
     → first_line of n lines ≡ go_on (of line) n (λ x. let r : Result (X × List (List ℕ)) At = Ok (x, rest) in r)
 two_lines lines line [] e l of n = absurd (omega arith)
 two_lines lines line (next ∷ rest) e l of n = ap (first_line of n) e
-
-pub line_missing : {X : Type 0} (of : List ℕ → Result X AnswerCause) (n : ℕ) (lines : List (List ℕ)) (left : List ℕ)
-    → lines ≡ left ∷ [] → first_line of n lines ≡ Err (at n CutShort)
-line_missing of n lines left e = ap (first_line of n) e
-
-pub missing_fails : {X : Type 0} (of : List ℕ → Result X AnswerCause) (n : ℕ) (lines : List (List ℕ)) (left : List ℕ)
-    (e : AnswerErr) → e ≡ code.At n CutShort → lines ≡ left ∷ [] → Fails e (first_line of n lines)
-missing_fails of n lines left e is l = subst (λ x. Fails x (first_line of n lines)) (sym is)
-    (line_missing of n lines left l)
 
 -- what the code says of a line is what reading it gives
 pub takes_said : {X Y : Type 0} (of : List ℕ → Result X AnswerCause) (seen : Y → X) (old new : Lines) (line : List ℕ)

@@ -1,5 +1,5 @@
 -- The last of a list, and what comes behind it.
-use Rattle.std.proofs.Common.{◌≡◌, suc, ◌-◌, ◌<◌, ◌==◌, Bool, true, List, [], ◌∷◌, length, get_or, map, refl, ap, sym, ◌∙◌, arith}
+use Rattle.std.proofs.Common.{◌≡◌, suc, ◌-◌, ◌<◌, ◌==◌, Bool, List, [], ◌∷◌, length, get_or, map, refl, ap, sym, ◌∙◌, arith}
 use Rattle.std.specs.Ordering.{ordering_index, is_lt}
 use Rattle.std.specs.declared.cmp.Ordering.{Ordering}
 use Rattle.std.specs.declared.cmp.Ordering.TheVariants.{Less, Equal, Greater}
@@ -27,11 +27,6 @@ follows_seen seen less ys x last l e =
     follows_last less (map seen ys) x (seen last) (omega arith)
     ∙ ap (λ w. less w x) (ap (λ k. get_or (map seen ys) (k - 1) (seen last)) n
     ∙ get_or-map seen ys (length ys - 1) last (seen last) (omega arith) ∙ ap seen (sym e))
-
-pub follows_none : {X Y : Type 0} (seen : Y → X) (less : X → X → Bool) (ys : List Y) (x : X) → length ys ≡ 0
-    → follows less (map seen ys) x ≡ true
-follows_none seen less [] x e = refl
-follows_none seen less (y ∷ ys) x e = absurd (omega arith)
 
 -- as the code tells that one comes before another
 pub less_told : (o : Ordering) → (ordering_index o == 0) ≡ is_lt o

@@ -2,7 +2,7 @@
 use Rattle.std.proofs.Common.{◌≡◌, ℕ, zero, suc, ◌+◌, ◌==◌, ◌<◌, ◌≤◌, ◌&&◌, ◌||◌, not, Bool, true, false, cond, List, [], ◌∷◌, ◌++◌, length, take, drop, Option, Some, None, option_map, refl, ap, sym, ◌∙◌, subst, arith, take-append-drop, append_assoc, nat_le, nat_lt, eqb-true, leb-true, ltb-true, ⊎_elim}
 use Rattle.std.specs.List.{find, range_with_len, AllByRecursion}
 use Rattle.std.specs.Str.{bytes_eq}
-use Rattle.std.proofs.lemmas.Bool.{false≢true, cases_lt}
+use Rattle.std.proofs.lemmas.Bool.{false≢true, cases_lt, and_parts}
 use Rattle.std.proofs.lemmas.Slice.Eq.{bytes_eq-Decides}
 use Rattle.tier_core.specs.declared.sym.Sym.{Sym}
 use Rattle.tier_core.specs.declared.sym.Sym.TheVariants.{Outside, Inside, Start, End, Both}
@@ -213,18 +213,10 @@ symbols bytes =
 both : (Bool → Bool) → Bool
 both p = p true && p false
 
-and_left : (a b : Bool) → (a && b) ≡ true → a ≡ true
-and_left true b h = refl
-and_left false b h = h
-
-and_right : (a b : Bool) → (a && b) ≡ true → b ≡ true
-and_right true b h = h
-and_right false b h = absurd (false≢true h)
-
 at_both : (p : Bool → Bool) (t : Bool) → both p ≡ true → p t ≡ true
 unfolding both
-at_both p true h = and_left (p true) (p false) h
-at_both p false h = and_right (p true) (p false) h
+at_both p true h = (and_parts (p true) (p false) h).0
+at_both p false h = (and_parts (p true) (p false) h).1
 
 -- the text in braces is that of the set
 abbrev braces : Bool → Bool → Bool → Bool → Bool → Bool
@@ -256,17 +248,10 @@ record IsBraced (a b c d e : Bool) : Type 0 where
 braced_at : (n : ℕ) (t : Bool) (text braced : List ℕ) → (not t || (bytes_eq text braced && nat_le 1 n && nat_lt n 32))
     ≡ true → t ≡ true → (text ≡ braced) × ((1 ≤ n) × (n < 32))
 braced_at n true text braced h e =
-    let same = and_left (bytes_eq text braced) (nat_le 1 n && nat_lt n 32)
+    let both = and_parts (bytes_eq text braced) (nat_le 1 n && nat_lt n 32)
     (and_first (bytes_eq text braced) (nat_le 1 n) (nat_lt n 32) h) in
-    let rest = and_right (bytes_eq text braced) (nat_le 1 n && nat_lt n 32)
-    (and_first (bytes_eq text braced) (nat_le 1 n) (nat_lt n 32) h) in (
-      (bytes_eq-Decides text braced).0 same,
-      (
-        leb-true 1 n (and_left (nat_le 1 n) (nat_lt n 32) rest),
-        ltb-true n 32
-            (and_right (nat_le 1 n) (nat_lt n 32) rest),
-      ),
-    )
+    let rest = and_parts (nat_le 1 n) (nat_lt n 32) both.1 in
+    ((bytes_eq-Decides text braced).0 both.0, (leb-true 1 n rest.0, ltb-true n 32 rest.1))
   where
     and_first : (x y z : Bool) → (x && y && z) ≡ true → (x && (y && z)) ≡ true
     and_first true y z h = h
@@ -278,8 +263,8 @@ closed_at : (bytes : List ℕ) (n b : ℕ) (rest : List ℕ) (front : ℕ × Lis
     → cond t (Some (n, rest)) None ≡ Some front → IsFront (123 ∷ bytes) front
 closed_at bytes n b rest front s true e h =
     let two : has_two (number_of s.a s.b s.c s.d s.e) ≡ true = sym (ap has_two s.set)
-    ∙ and_left (has_two n) (b == 125) e in
-    let brace : b ≡ 125 = eqb-true b 125 (and_right (has_two n) (b == 125) e) in
+    ∙ (and_parts (has_two n) (b == 125) e).0 in
+    let brace : b ≡ 125 = eqb-true b 125 (and_parts (has_two n) (b == 125) e).1 in
     let f = braced_at (number_of s.a s.b s.c s.d s.e) (has_two (number_of s.a s.b s.c s.d s.e))
     (set_text (number_of s.a s.b s.c s.d s.e)) (123 ∷ (text_of s.a s.b s.c s.d s.e ++ 125 ∷ []))
     (in_braces s.a s.b s.c s.d s.e) two in

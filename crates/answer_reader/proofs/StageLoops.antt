@@ -1,6 +1,6 @@
 -- What the loops over the stages keep: reading on from so many nodes to come is reading on after the
 -- whole stage.
-use Rattle.std.proofs.Common.{◌≡◌, ℕ, suc, ◌&&◌, not, true, false, codes, ◌+◌, ◌≤◌, ◌<◌, List, [], ◌∷◌, ◌++◌, length, map, Result, Ok, Err, refl, ap, sym, ◌∙◌, arith}
+use Rattle.std.proofs.Common.{◌≡◌, ℕ, suc, ◌&&◌, not, true, false, codes, ◌+◌, ◌≤◌, ◌<◌, List, [], ◌∷◌, ◌++◌, length, map, Result, Ok, Err, ap, sym, ◌∙◌, arith}
 use Rattle.std.specs.List.{All}
 use Rattle.std.specs.Vec.{vec_len}
 use Rattle.std.proofs.lemmas.List.{length_push, map_push}
@@ -153,9 +153,6 @@ pub record AreBehind (shape : Shape) (columns : ℕ) (old now : Lines) (stages :
       ≡ stages_from shape columns (behind_stages (stage_values shape 0 stages)) now.number (lines_left now)
   pub readable : AreReadableStages shape stages
   pub few : length stages ≤ length shape.phases.items
-
-pub none_behind : (shape : Shape) (columns : ℕ) (old : Lines) → AreBehind shape columns old old []
-none_behind shape columns old = record { goes_on = refl; readable = λ r l. absurd (omega arith); few = omega arith }
 
 pub one_behind : (shape : Shape) (columns : ℕ) (old now new : Lines) (stages : List Stage) (stage : Stage)
     → AreBehind shape columns old now stages

@@ -1,18 +1,13 @@
 -- The stages of the code, and their values.
-use Rattle.std.proofs.Common.{◌≡◌, ℕ, zero, suc, ◌+◌, ◌-◌, ◌<◌, ◌≤◌, List, [], ◌∷◌, ◌++◌, length, map, refl, ap, sym, ◌∙◌, subst, arith, ⊎_elim}
+use Rattle.std.proofs.Common.{◌≡◌, ℕ, zero, suc, ◌+◌, ◌-◌, ◌<◌, List, [], ◌∷◌, ◌++◌, length, map, refl, ap, sym, ◌∙◌, subst, arith, ⊎_elim}
 use Rattle.std.proofs.lemmas.Bool.{cases_lt}
 use Rattle.std.proofs.lemmas.List.{length-map, length_push}
-use Rattle.std.proofs.lemmas.List.Elements.{All-weaker}
-use Rattle.std.specs.List.{All}
 use Rattle.tier_core.specs.declared.shape.Shape.{Shape}
-use Rattle.tier_core.specs.KindShapes.{FitsShape}
-use Rattle.answer_text.specs.declared.stage.Node.{Node}
 use Rattle.answer_text.specs.declared.stage.Stage.{Stage}
 use Rattle.answer_text.specs.Right.{nodes_at}
 use Rattle.answer_text.specs.Readable.{IsReadableStage, AreReadableStages, last_nodes}
 use Rattle.answer_reader.specs.Stages.{is_empty, last_count}
 use Rattle.answer_reader.specs.Values.{node_value, stage_values}
-use Rattle.answer_reader.specs.Within.{IsNodeWithin}
 
 pub length_values : (shape : Shape) (r : ℕ) (stages : List Stage) → length (stage_values shape r stages) ≡ length stages
 length_values shape r [] = refl
@@ -75,13 +70,3 @@ readable_push shape stages stage are is r l = ⊎_elim
     subst (λ k. IsReadableStage shape k (nodes_at (stages ++ stage ∷ []) k)) here
     (subst (IsReadableStage shape (length stages)) (sym (nodes_behind stages stage)) is))
     (cases_lt r (length stages))
-
-pub readable_nodes : (shape : Shape) (columns stage : ℕ) (nodes : List Node)
-    → All (IsNodeWithin shape columns stage) nodes → length nodes ≤ 65536 → IsReadableStage shape stage nodes
-readable_nodes shape columns stage nodes all few = record {
-  few = few;
-  fits = All-weaker (IsNodeWithin shape columns stage) (λ node. FitsShape shape stage node.kind)
-      (λ node within. within.fits) nodes all;
-  potentials = All-weaker (IsNodeWithin shape columns stage) (λ node. node.potential ≤ 1000000000)
-      (λ node within. within.potential) nodes all;
-}

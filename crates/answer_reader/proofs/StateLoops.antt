@@ -22,8 +22,7 @@ use Rattle.answer_reader.specs.Orders.{follows, state_less}
 use Rattle.answer_reader.specs.States.{at_end, behind_states, in_state, with_arc, next_arc, next_state, states_from}
 use Rattle.answer_reader.specs.Steps.{At, line_then, Fails}
 use Rattle.answer_reader.specs.Values.{ArcValue, StateValue, arc_value, state_value}
-use Rattle.answer_reader.specs.Within.{IsArcWithin}
-use Rattle.answer_reader.proofs.Going.{fails_from, takes_on, takes_fails}
+use Rattle.answer_reader.proofs.Going.{fails_from, takes_on}
 use Rattle.answer_reader.proofs.StateSteps.{state_next, end_next, arc_next, arcs_end}
 
 -- reading on behind these arcs of a state, whatever the state and the states before it
@@ -49,7 +48,7 @@ module _ (width nodes : ℕ) (arcs : List ArcLine) (now : Lines) where
 
   pub arc_read : (old new : Lines) (arc : ArcLine) → AreArcs width nodes old now arcs
       → begins (codes "arc ") now.rest.now ≡ true
-      → Takes (next_arc width nodes arc_values) arc_value now new (Ok arc) → IsArcWithin width nodes arc
+      → Takes (next_arc width nodes arc_values) arc_value now new (Ok arc) → IsReadableArc width nodes arc
       → AreArcs width nodes old new (arcs ++ arc ∷ [])
   arc_read old new arc are h t within = record {
     goes_on = λ more states state. are.goes_on more states state ∙ arc_here more states state h
@@ -59,17 +58,6 @@ module _ (width nodes : ℕ) (arcs : List ArcLine) (now : Lines) where
     readable = All-push (IsReadableArc width nodes) arcs arc are.readable
         (record { wide = within.wide; target = within.target });
   }
-
-  pub arc_refused : (old new : Lines) (e : AnswerErr) → AreArcs width nodes old now arcs
-      → begins (codes "arc ") now.rest.now ≡ true
-      → Takes (next_arc width nodes arc_values) arc_value now new (Err e)
-      → (more : ℕ) (states : List StateValue) (state : ℕ × Bool)
-      → Fails e (states_from width nodes (in_state more states (bare_state state)) old.number (lines_left old))
-  arc_refused old new e are h t more states state =
-      fails_from e (states_from width nodes (in_state more states (bare_state state)) old.number (lines_left old))
-      (line_then (next_arc width nodes arc_values) (arc_of_state more states state) now.number (lines_left now))
-      (are.goes_on more states state ∙ arc_here more states state h)
-      (takes_fails (next_arc width nodes arc_values) arc_value (arc_of_state more states state) now new e t)
 
   pub arcs_read : (old : Lines) → AreArcs width nodes old now arcs → begins (codes "arc ") now.rest.now ≡ false
       → (more : ℕ) (states : List StateValue) (state : ℕ × Bool)
@@ -89,16 +77,6 @@ module _ (width nodes : ℕ) (states : List StateValue) (more : ℕ) (old mid : 
       ∙ takes_on (next_state nodes states) bare_state (λ x. states_from width nodes (in_state more states x)) old mid
       state t
 
-  pub state_refused : (e : AnswerErr) → Takes (next_state nodes states) bare_state old mid (Err e)
-      → Fails e (states_from width nodes (behind_states (suc more) states) old.number (lines_left old))
-  state_refused e t =
-      fails_from e (states_from width nodes (behind_states (suc more) states) old.number (lines_left old))
-      (line_then (next_state nodes states) (λ x. states_from width nodes (in_state more states x)) old.number
-      (lines_left old))
-      (state_next width nodes more states old.number (lines_left old))
-      (takes_fails (next_state nodes states) bare_state (λ x. states_from width nodes (in_state more states x)) old
-      mid e t)
-
 -- the end
 module _ (width nodes : ℕ) (states : List StateValue) (old mid : Lines) where
   pub end_read : (u : Unit {0}) → Takes end_of (λ (x : Unit {0}). tt) old mid (Ok u)
@@ -106,14 +84,6 @@ module _ (width nodes : ℕ) (states : List StateValue) (old mid : Lines) where
       ≡ at_end states mid.number (lines_left mid)
   end_read u t = end_next width nodes states old.number (lines_left old)
       ∙ takes_on end_of (λ (x : Unit {0}). tt) (λ done. at_end states) old mid u t
-
-  pub end_refused : (e : AnswerErr) → Takes end_of (λ (x : Unit {0}). tt) old mid (Err e)
-      → Fails e (states_from width nodes (behind_states 0 states) old.number (lines_left old))
-  end_refused e t =
-      fails_from e (states_from width nodes (behind_states 0 states) old.number (lines_left old))
-      (line_then end_of (λ done. at_end states) old.number (lines_left old))
-      (end_next width nodes states old.number (lines_left old))
-      (takes_fails end_of (λ (x : Unit {0}). tt) (λ done. at_end states) old mid e t)
 
   pub end_whole : (u : Unit {0}) (result : Result (Unit {0}) AnswerErr)
       → Takes end_of (λ (x : Unit {0}). tt) old mid (Ok u)
@@ -137,7 +107,7 @@ follows_node (x ∷ y ∷ states) a b e = follows_node (y ∷ states) a b e
 less_told : (m n : ℕ) → nat_lt m n ≡ true → nat_cmp m n ≡ Less
 less_told m n h = grind (arith, nat_tests)
 
-told_less : (m n : ℕ) → nat_cmp m n ≡ Less → m < n
+pub told_less : (m n : ℕ) → nat_cmp m n ≡ Less → m < n
 told_less m n h = grind (arith, nat_tests)
 
 less_is : (m n : ℕ) → m < n → nat_cmp m n ≡ Less

@@ -3,7 +3,8 @@ use Rattle.std.proofs.Common.{◌≡◌, ℕ, suc, ◌+◌, ◌<◌, true, false
 use Rattle.std.specs.List.{join_with_byte}
 use Rattle.std.proofs.lemmas.List.Splits.{join_with_byte-slice_split}
 use Rattle.answer_reader.specs.declared.answer_err.AnswerCause.TheVariants.{ExtraBytes}
-use Rattle.answer_reader.specs.Cuts.{lines_of, begins}
+use Rattle.timeline_text.specs.Bytes.{lines_of}
+use Rattle.answer_reader.specs.Cuts.{begins}
 use Rattle.answer_reader.specs.Lines.{end_of}
 use Rattle.answer_reader.specs.States.{behind_states, in_state, with_arc, next_state, next_arc, at_end, state_or_end, states_from}
 use Rattle.answer_reader.specs.Steps.{At, at, go_on, line_then}

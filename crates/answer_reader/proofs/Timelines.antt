@@ -172,10 +172,6 @@ said_of word width limit line text None b r = ap (λ o. ok_or (option_and_then (
 said_of word width limit line text (Some T) b r = ap
     (λ o. ok_or (option_and_then (timeline_of width limit) o) BadLine) b ∙ ap (λ o. ok_or o BadLine) (sym r)
 
-pub said_not : (word : List ℕ) (width limit : ℕ) (line : List ℕ) → behind word line ≡ None
-    → timeline_said word width limit line ≡ Err BadLine
-said_not word width limit line b = ap (λ o. ok_or (option_and_then (timeline_of width limit) o) BadLine) b
-
 said_at : (width limit : ℕ) (o : Option (List ℕ)) (T : List (List Sym))
     → ok_or (option_and_then (timeline_of width limit) o) BadLine ≡ Ok T → IsTextOf width limit (text_of T) T
 said_at width limit None T h = absurd (let n : ⊥ = cc in n)

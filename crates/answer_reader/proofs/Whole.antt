@@ -6,7 +6,7 @@ use Rattle.answer_text.specs.declared.stage.Stage.{Stage}
 use Rattle.answer_text.specs.Readable.{last_nodes}
 use Rattle.answer_reader.specs.declared.answer_err.AnswerErr.{AnswerErr}
 use Rattle.answer_reader.specs.declared.lines.Lines.{Lines}
-use Rattle.answer_reader.specs.Cuts.{lines_of}
+use Rattle.timeline_text.specs.Bytes.{lines_of}
 use Rattle.answer_reader.specs.Left.{lines_left}
 use Rattle.answer_reader.specs.Reading.{HeadValue, answer_with, states_behind, stages_behind, answer_from, answer_of}
 use Rattle.answer_reader.specs.Stages.{behind_stages, StagesRead, stages_read, stages_from}

@@ -13,6 +13,7 @@ use Rattle.tier_core.specs.Kinds.{kind_order, phase_at}
 use Rattle.tier_core.specs.KindShapes.{free_count, stretch_count, kind_in}
 use Rattle.tier_core.specs.Shapes.{input_count}
 use Rattle.tier_core.specs.Tiers.{has_tier}
+use Rattle.tier_core.proofs.Members.{all_both}
 use Rattle.timeline_text.specs.Texts.{text_of}
 use Rattle.timeline_text.specs.Texts as timeline
 use Rattle.answer_text.specs.declared.answer.Answer.{Answer}
@@ -45,11 +46,6 @@ use Rattle.answer_reader.proofs.WrittenWords.{behind_front, AreLines, lines_back
 pub by_recursion : {X : Type 0} (P : X → Type 0) (xs : List X) → All P xs → AllByRecursion P xs
 by_recursion P [] h = tt
 by_recursion P (x ∷ xs) h = (h 0 x (omega arith), by_recursion P xs (λ k d l. h (suc k) d (omega arith)))
-
-both_hold : {X : Type 0} (P Q : X → Type 0) (xs : List X) → AllByRecursion P xs → AllByRecursion Q xs
-    → AllByRecursion (λ x. P x × Q x) xs
-both_hold P Q [] a b = tt
-both_hold P Q (x ∷ xs) a b = ((a.0, b.0), both_hold P Q xs a.1 b.1)
 
 -- ---- stages
 
@@ -246,7 +242,7 @@ module _ (shape : Shape) (answer : Answer) (is : IsOrderly shape answer) where
       (record {
         there = omega arith;
         few = o.few;
-        numbers = both_hold (λ node. node.kind.place ≤ length answer.form) (λ node. node.potential ≤ 1000000000)
+        numbers = all_both (λ node. node.kind.place ≤ length answer.form) (λ node. node.potential ≤ 1000000000)
             (nodes_at stages i)
             (by_recursion (λ node. node.kind.place ≤ length answer.form) (nodes_at stages i) o.places)
             (by_recursion (λ node. node.potential ≤ 1000000000) (nodes_at stages i) o.potentials);

@@ -10,7 +10,7 @@ use Rattle.tier_core.specs.Sets.{is_in}
 use Rattle.tier_core.specs.Symbols.{byte_of, symbols}
 use Rattle.timeline_text.specs.Texts.{text_of}
 use Rattle.answer_text.specs.Text.{after_space, spaced, set_text, class_text, open_byte, phase_byte, kind_text, final_mark, counts_line}
-use Rattle.answer_reader.specs.Cuts.{is_newline}
+use Rattle.timeline_text.specs.Bytes.{is_newline}
 use Rattle.answer_reader.proofs.Decimals.{decimal_without}
 use Rattle.answer_reader.proofs.WrittenLines.{AreCounts, large}
 

@@ -11,7 +11,8 @@ use Rattle.answer_text.specs.Text.{after_space, spaced, set_text, class_text, op
 use Rattle.answer_reader.specs.declared.answer_err.AnswerCause.{AnswerCause}
 use Rattle.answer_reader.specs.declared.answer_err.AnswerCause.TheVariants.{BadLine, BadNumber, BadClass}
 use Rattle.answer_reader.specs.Classes.{front_of, class_of}
-use Rattle.answer_reader.specs.Cuts.{is_space, parts_at, cut}
+use Rattle.timeline_text.specs.Bytes.{is_space}
+use Rattle.answer_reader.specs.Cuts.{parts_at, cut}
 use Rattle.answer_reader.specs.Lines.{counts_words, counts_said, counts_of, number_said, stage_words, stage_said, stage_of, is_number, automaton_of, final_words, state_words, state_with, state_said, state_of, arc_words, arc_with, arc_to, arc_said, arc_of}
 use Rattle.answer_reader.specs.Nodes.{is_open_byte, is_phase_byte, phase_of, are_each, NodeWords, with_potential, node_words, are_node_words, node_by, node_with, node_said, node_of}
 use Rattle.answer_reader.specs.Numbers.{is_run, number_below, numbers_below}

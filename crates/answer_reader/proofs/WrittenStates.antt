@@ -22,7 +22,7 @@ use Rattle.answer_reader.specs.States.{behind_states, in_state, next_state, next
 use Rattle.answer_reader.specs.Steps.{At, go_on}
 use Rattle.answer_reader.specs.Values.{ArcValue, StateValue, arc_value, state_value}
 use Rattle.answer_reader.proofs.Sets.{begins_front}
-use Rattle.answer_reader.proofs.StateLoops.{follows_node}
+use Rattle.answer_reader.proofs.StateLoops.{follows_node, told_less}
 use Rattle.answer_reader.proofs.StateSteps.{state_next}
 use Rattle.answer_reader.proofs.WrittenLines.{AreFull, arc_back, state_back}
 use Rattle.answer_reader.proofs.WrittenStages.{after, Ascends, ascends, in_its_place, line_on, some_behind}
@@ -187,9 +187,6 @@ states_ascend states s =
     (subst (IsStrictlySortedBy nat_cmp) (sym (map-map (λ (v : StateValue). v.node) state_value states)) s))
 
 -- ---- no more states than nodes
-
-told_less : (m n : ℕ) → nat_cmp m n ≡ Less → m < n
-told_less m n h = grind (arith, nat_tests)
 
 above : (a m : ℕ) (ns : List ℕ) → a ≤ m → AllByRecursion (λ n. nat_cmp m n ≡ Less) ns
     → AllByRecursion (λ n. suc a ≤ n) ns

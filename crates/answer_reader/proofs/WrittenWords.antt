@@ -4,7 +4,8 @@ use Rattle.std.specs.List.{list_any, slice_split, position_or_len, onto_first}
 use Rattle.std.proofs.lemmas.Bool.{or_parts}
 use Rattle.std.proofs.lemmas.Bool.Decides.{nat_tests}
 use Rattle.answer_text.specs.Text.{lines_text}
-use Rattle.answer_reader.specs.Cuts.{is_newline, lines_of, parts_at, cut, behind}
+use Rattle.timeline_text.specs.Bytes.{is_newline, lines_of}
+use Rattle.answer_reader.specs.Cuts.{parts_at, cut, behind}
 use Rattle.answer_reader.proofs.Sets.{begins_front, drop_front, take_front}
 
 -- ---- fronts

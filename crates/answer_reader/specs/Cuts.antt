@@ -4,16 +4,6 @@ use Rattle.std.specs.List.{slice_split}
 use Rattle.std.specs.Str.{bytes_eq}
 use denote.Ref.{Bor}
 
-abbrev pub is_newline : ℕ → Bool
-is_newline b = b == 10
-
--- What the line feeds separate: the lines that end, and then what is left after them.
-abbrev pub lines_of : List ℕ → List (List ℕ)
-lines_of bytes = slice_split is_newline bytes
-
-abbrev pub is_space : ℕ → Bool
-is_space b = b == 32
-
 abbrev pub parts_at : List ℕ → ℕ → List ℕ × List ℕ
 parts_at bytes k = (take k bytes, drop (k + 1) bytes)
 

@@ -3,7 +3,7 @@ use Rattle.std.specs.Prelude.{◌≡◌, ℕ, ◌+◌, List, Result, Ok, Err}
 use Rattle.answer_reader.specs.declared.answer_err.AnswerCause.{AnswerCause}
 use Rattle.answer_reader.specs.declared.answer_err.AnswerErr.{AnswerErr}
 use Rattle.answer_reader.specs.declared.lines.Lines.{Lines}
-use Rattle.answer_reader.specs.Cuts.{lines_of}
+use Rattle.timeline_text.specs.Bytes.{lines_of}
 use Rattle.answer_reader.specs.Steps.{At, first_line, Fails}
 
 abbrev pub lines_left : Lines → List (List ℕ)

@@ -6,7 +6,8 @@ use Rattle.std.specs.Str.{bytes_eq}
 use Rattle.answer_reader.specs.declared.answer_err.AnswerCause.{AnswerCause}
 use Rattle.answer_reader.specs.declared.answer_err.AnswerCause.TheVariants.{BadHeader, BadLine, BadNumber, BadClass}
 use Rattle.answer_reader.specs.Numbers.{is_run, number_below, numbers_below}
-use Rattle.answer_reader.specs.Cuts.{is_space, cut, behind}
+use Rattle.timeline_text.specs.Bytes.{is_space}
+use Rattle.answer_reader.specs.Cuts.{cut, behind}
 use Rattle.answer_reader.specs.Classes.{class_of}
 use Rattle.answer_reader.specs.Values.{ArcValue, StateValue}
 

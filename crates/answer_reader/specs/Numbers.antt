@@ -1,9 +1,7 @@
 -- Numbers in decimal digits.
 use Rattle.std.specs.Prelude.{ℕ, ◌+◌, ◌-◌, ◌*◌, ◌==◌, ◌&&◌, Bool, false, nat_le, nat_lt, if◌then◌else◌, List, [], ◌∷◌, length, Option, Some, None, option_map, option_and_then}
 use Rattle.std.specs.List.{list_all}
-
-abbrev pub is_digit : ℕ → Bool
-is_digit b = nat_le 48 b && nat_le b 57
+use Rattle.timeline_text.specs.Bytes.{is_digit}
 
 -- a run of one digit or more
 abbrev pub is_run : List ℕ → Bool

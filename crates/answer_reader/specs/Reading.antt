@@ -4,7 +4,7 @@ use Rattle.tier_core.specs.declared.sym.Sym.{Sym}
 use Rattle.tier_core.specs.declared.shape.Shape.{Shape}
 use Rattle.tier_core.specs.Shapes.{input_count}
 use Rattle.answer_reader.specs.declared.answer_err.AnswerCause.{AnswerCause}
-use Rattle.answer_reader.specs.Cuts.{lines_of}
+use Rattle.timeline_text.specs.Bytes.{lines_of}
 use Rattle.answer_reader.specs.Lines.{header_of, counts_of}
 use Rattle.answer_reader.specs.Stages.{behind_stages, last_count, StagesRead, stages_from}
 use Rattle.answer_reader.specs.States.{behind_states, states_from}

@@ -1,10 +1,9 @@
 ghost use Rattle.std.specs.Prelude.{◌≡◌, ◌<◌, ◌≤◌, ◌*◌, ◌^◌, length, option_map, IfSome};
 ghost use Rattle.tier_core.specs.Classes.{sets_of};
-ghost use Rattle.tier_core.specs.Sets.{single_set};
 ghost use Rattle.answer_reader.specs.Classes.{class_of, front_of};
 ghost use Rattle.answer_reader.specs.Decoding.{closed_by, decoded, front_seen, has_two, symbols_from, with_symbol};
 
-use tier_core::{Class, Sym};
+use tier_core::{Class, Sym, alone};
 
 /// Adds the symbol at the front to the set.
 fn with_symbol(set: u8, bytes: &[u8], bit: u8, byte: u8) -> (u8, &[u8])
@@ -46,20 +45,6 @@ fn braced(bytes: &[u8]) -> Option<(u8, &[u8])>
     match rest.split_first() {
         Some((first, behind)) if has_two(set) && *first == b'}' => Some((set, behind)),
         _ => None,
-    }
-}
-
-/// The number of the set that has one symbol alone.
-fn alone(sym: Sym) -> u8
-    ensures value { result ≡ single_set sym }
-    ensures few { result < 32 }
-{
-    match sym {
-        Sym::Outside => 1,
-        Sym::Inside => 2,
-        Sym::Start => 4,
-        Sym::End => 8,
-        Sym::Both => 16,
     }
 }
 

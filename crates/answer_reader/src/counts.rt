@@ -2,7 +2,7 @@ ghost use Rattle.std.specs.Prelude.{◌≡◌, ◌≤◌, length, [], true, Ok, 
 ghost use Rattle.std.specs.List.{list_all, slice_split};
 ghost use Rattle.answer_reader.specs.declared.answer_err.AnswerErr.TheVariants.{NoMemory};
 ghost use Rattle.answer_reader.specs.declared.answer_err.AnswerCause.TheVariants.{BadLine};
-ghost use Rattle.answer_reader.specs.Cuts.{is_space};
+ghost use Rattle.timeline_text.specs.Bytes.{is_space};
 ghost use Rattle.answer_reader.specs.Left.{Takes};
 ghost use Rattle.answer_reader.specs.Lines.{counts_of};
 ghost use Rattle.answer_reader.specs.Numbers.{is_run, numbers_below};

@@ -3,7 +3,7 @@ ghost use Rattle.answer_reader.specs.Lines.{arc_of, arc_said, arc_words, automat
 ghost use Rattle.answer_reader.specs.Cuts.{part_seen, parts_seen};
 ghost use Rattle.answer_reader.specs.LineWords.{bare_state, state_words_seen};
 ghost use Rattle.answer_reader.specs.Values.{arc_value};
-ghost use Rattle.answer_reader.specs.Within.{IsArcWithin};
+ghost use Rattle.answer_text.specs.Readable.{IsReadableArc};
 
 use crate::answer_err::AnswerCause;
 use crate::class::class_of;
@@ -140,7 +140,7 @@ pub(crate) fn arc_of(width: u32, nodes: u32, line: &[u8]) -> Result<ArcLine, Ans
     requires few { width ≤ 12 }
     ensures said { MatchResult result (λ arc. arc_of width nodes line.now ≡ Ok (arc_value arc))
         (λ cause. arc_of width nodes line.now ≡ Err cause) }
-    ensures within { IfOk result (IsArcWithin width nodes) }
+    ensures within { IfOk result (IsReadableArc width nodes) }
 {
     let Some((target, text)) = arc_words(line) else {
         return Err(AnswerCause::BadLine);

@@ -16,7 +16,8 @@ pub struct Lines<'a> {
 impl<'a> Lines<'a> {
     ghost use Rattle.answer_reader.specs.declared.answer_err.AnswerErr.TheVariants.{At};
     ghost use Rattle.answer_reader.specs.declared.answer_err.AnswerCause.TheVariants.{CutShort};
-    ghost use Rattle.answer_reader.specs.Cuts.{begins, lines_of};
+    ghost use Rattle.timeline_text.specs.Bytes.{lines_of};
+    ghost use Rattle.answer_reader.specs.Cuts.{begins};
     ghost use Rattle.answer_reader.specs.Left.{lines_left};
 
     /// The lines of a whole text.

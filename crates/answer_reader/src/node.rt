@@ -12,7 +12,7 @@ use crate::answer_err::AnswerCause;
 use crate::cut::{behind, cut};
 use crate::mask::mask_of;
 use crate::number::{is_run, number_below};
-use answer_text::Node;
+use answer_text::{Node, free_count};
 use tier_core::{Kind, Shape};
 
 /// The words of a node's line.
@@ -113,14 +113,6 @@ fn node_with(columns: u32, words: &NodeWords<'_>) -> Option<Node>
     let potential = number_below(1_000_000_001, words.potential)?;
     let kind = kind_of(place, words.opened, words.phases);
     Some(Node { kind, potential })
-}
-
-/// The number of tiers that are free.
-fn free_count(shape: &Shape) -> usize
-    ensures value { result ≡ free_count shape.now }
-    ensures few { result ≤ 12 }
-{
-    (shape.width - shape.inputs.count_ones()) as usize
 }
 
 /// The node on a line, for a stage of the shape and a form with this many columns.

@@ -1,6 +1,7 @@
 ghost use Rattle.std.specs.Prelude.{◌≡◌, ◌<◌, ◌≤◌, length, true, IfSome};
 ghost use Rattle.std.specs.List.{list_all};
-ghost use Rattle.answer_reader.specs.Numbers.{is_digit, is_run, has_leading_zero, number_below};
+ghost use Rattle.timeline_text.specs.Bytes.{is_digit};
+ghost use Rattle.answer_reader.specs.Numbers.{is_run, has_leading_zero, number_below};
 
 fn is_digit(byte: u8) -> bool
     ensures { result ≡ is_digit byte }

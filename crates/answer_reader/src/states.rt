@@ -4,7 +4,7 @@ ghost use Rattle.answer_reader.specs.LineWords.{bare_state};
 ghost use Rattle.answer_reader.specs.Orders.{follows, state_less};
 ghost use Rattle.answer_reader.specs.States.{next_arc, next_state};
 ghost use Rattle.answer_reader.specs.Values.{arc_value, state_value};
-ghost use Rattle.answer_reader.specs.Within.{IsArcWithin};
+ghost use Rattle.answer_text.specs.Readable.{IsReadableArc};
 
 use crate::answer_err::{AnswerCause, AnswerErr};
 use crate::line_forms::{arc_of, state_of};
@@ -20,7 +20,7 @@ fn next_arc(width: u32, nodes: u32, arcs: &[ArcLine], line: &[u8]) -> Result<Arc
     ensures said { MatchResult result
         (λ arc. next_arc width nodes (map arc_value arcs.now) line.now ≡ Ok (arc_value arc))
         (λ cause. next_arc width nodes (map arc_value arcs.now) line.now ≡ Err cause) }
-    ensures within { IfOk result (IsArcWithin width nodes) }
+    ensures within { IfOk result (IsReadableArc width nodes) }
 {
     let arc = arc_of(width, nodes, line)?;
     if !arc_follows(arcs, &arc) {
@@ -41,7 +41,7 @@ pub fn read_arc(
     requires few { width ≤ 12 }
     ensures takes { Takes (next_arc width nodes (map arc_value arcs.now)) arc_value lines.old
         lines.new result }
-    ensures within { IfOk result (IsArcWithin width nodes) }
+    ensures within { IfOk result (IsReadableArc width nodes) }
     ensures shorter { OnOk result (length lines.new.rest.now < length lines.old.rest.now) }
 {
     let number = lines.number;

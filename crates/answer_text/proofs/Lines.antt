@@ -21,7 +21,7 @@ lines_of_each f (x ∷ xs) = flat_map-append line (f x) (flat_map f xs)
     ∙ ap (λ t. lines_text (f x) ++ t) (lines_of_each f xs)
 
 -- four lines, the last of which ends the text
-four_lines : (a b c d : List ℕ) → a ++ b ++ c ++ d ≡ a ++ (b ++ (c ++ (d ++ [])))
+pub four_lines : (a b c d : List ℕ) → a ++ b ++ c ++ d ≡ a ++ (b ++ (c ++ (d ++ [])))
 four_lines a b c d = append_assoc (a ++ b) c d ∙ append_assoc a b (c ++ d)
     ∙ ap (λ t. a ++ (b ++ (c ++ t))) (sym (append-nil d))
 
@@ -41,7 +41,7 @@ shown_text_is answer = ap (λ t. line (counts_line answer.counts.items) ++ t)
     (sym (append-nil (line (codes "example " ++ text_of answer.example))))
 
 -- the texts of lists of lines, one after the other
-four_texts : (a b c d : List (List ℕ)) → lines_text a ++ lines_text b ++ lines_text c
+pub four_texts : (a b c d : List (List ℕ)) → lines_text a ++ lines_text b ++ lines_text c
     ++ lines_text d ≡ lines_text (a ++ b ++ c ++ d)
 four_texts a b c d =
     ap (λ t. t ++ lines_text c ++ lines_text d) (sym (flat_map-append line a b))

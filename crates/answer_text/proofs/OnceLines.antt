@@ -1,9 +1,9 @@
 -- The lines of the answer of a single pass, one after the other.
-use Rattle.std.proofs.Common.{◌≡◌, ℕ, List, [], ◌∷◌, ◌++◌, codes, take, ap, sym, ◌∙◌, append_assoc, append-nil}
-use Rattle.std.proofs.lemmas.List.Concat.{flat_map-append}
+use Rattle.std.proofs.Common.{◌≡◌, ℕ, List, [], ◌∷◌, ◌++◌, codes, take, ap, ◌∙◌}
 use Rattle.answer_text.specs.declared.once_answer.OnceAnswer.{OnceAnswer}
 use Rattle.answer_text.specs.OnceText.{OnceWidths, nodes_lines, once_head_lines, once_text}
 use Rattle.answer_text.specs.Text.{automaton_lines, counts_line, kind_text, line, lines_text, spaced}
+use Rattle.answer_text.proofs.Lines.{four_lines, four_texts}
 use Rattle.tier_core.specs.declared.kind.Kind.{Kind}
 use Rattle.tier_core.specs.Kinds.{prefix_kind}
 use Rattle.timeline_text.specs.Texts.{text_of}
@@ -19,26 +19,14 @@ pub numbers_same : {n n' : ℕ} {numbers numbers' : List ℕ} → n ≡ n' → n
 numbers_same {n} {n'} {numbers} {numbers'} a b =
     ap (λ m. spaced (take m numbers)) a ∙ ap (λ ns. spaced (take n' ns)) b
 
--- four pieces, the last of which ends the text
-four_pieces : (a b c d : List ℕ) → a ++ b ++ c ++ d ≡ a ++ (b ++ (c ++ (d ++ [])))
-four_pieces a b c d = append_assoc (a ++ b) c d ∙ append_assoc a b (c ++ d)
-    ∙ ap (λ t. a ++ (b ++ (c ++ t))) (sym (append-nil d))
-
 pub once_head : (answer : OnceAnswer) → codes "once 1\n" ++ line (codes "form " ++ text_of answer.form)
     ++ line (counts_line answer.counts.items)
     ++ line (codes "example " ++ text_of answer.example) ≡ lines_text (once_head_lines answer)
-once_head answer = four_pieces (codes "once 1\n") (line (codes "form " ++ text_of answer.form))
+once_head answer = four_lines (codes "once 1\n") (line (codes "form " ++ text_of answer.form))
     (line (counts_line answer.counts.items)) (line (codes "example " ++ text_of answer.example))
 
 pub whole_once : (widths : OnceWidths) (answer : OnceAnswer)
     → lines_text (once_head_lines answer) ++ lines_text (nodes_lines widths answer.nodes.items)
     ++ lines_text (automaton_lines answer.automaton.states.items) ++ codes "end\n" ≡ once_text widths answer
-whole_once widths answer = pieces (once_head_lines answer) (nodes_lines widths answer.nodes.items)
+whole_once widths answer = four_texts (once_head_lines answer) (nodes_lines widths answer.nodes.items)
     (automaton_lines answer.automaton.states.items) (codes "end" ∷ [])
-  where
-    pieces : (a b c d : List (List ℕ)) → lines_text a ++ lines_text b ++ lines_text c
-        ++ lines_text d ≡ lines_text (a ++ b ++ c ++ d)
-    pieces a b c d =
-        ap (λ t. t ++ lines_text c ++ lines_text d) (sym (flat_map-append line a b))
-        ∙ ap (λ t. t ++ lines_text d) (sym (flat_map-append line (a ++ b) c))
-        ∙ sym (flat_map-append line (a ++ b ++ c) d)

@@ -8,3 +8,4 @@ pub mod Readable
 pub mod RightOnce
 pub mod OnceText
 pub mod Orderly
+pub mod ArcClasses

@@ -1,5 +1,5 @@
 -- The classes of one state's moves are disjoint, so that a word is read by one run.
-use Rattle.std.proofs.Common.{◌≡◌, ℕ, suc, List, [], ◌∷◌, length, get_or, refl, sym, ap, ◌∙◌, subst, inl, inr}
+use Rattle.std.proofs.Common.{◌≡◌, suc, List, [], ◌∷◌, length, get_or, refl, sym, ap, ◌∙◌, subst, inl, inr}
 use Rattle.std.specs.Prelude.{Contains, AllPairs, IsTrue}
 use Rattle.std.proofs.lemmas.Bool.{cases_order}
 use Rattle.std.proofs.lemmas.List.{get_or_default}
@@ -7,10 +7,7 @@ use Rattle.weight_law.specs.declared.Weight.{Ghosts}
 use Rattle.tier_core.specs.declared.sym.Sym.{Sym}
 use Rattle.tier_core.specs.Classes.{has, AreDisjoint}
 use Rattle.arc_table.specs.declared.arc.TableArc.{TableArc}
-use Rattle.arc_table.specs.declared.state.TableState.{TableState}
-use Rattle.arc_table.specs.Moves.{moves_at}
-use Rattle.arc_table.specs.Conditions.{ClassesDisjoint}
-use Rattle.arc_table.specs.Runs.{IsRun, Reads}
+use Rattle.arc_table.specs.Runs.{Reads}
 
 module _ {V : Type 0} {h : Ghosts V} where
   pub length_read : (arcs : List (TableArc V h)) (word : List (List Sym)) → Reads arcs word → length word ≡ length arcs
@@ -40,20 +37,3 @@ module _ {V : Type 0} {h : Ghosts V} where
           absurd (pair column hb ha))
     ]
   ]
-
-  -- a word is read by one run from a state at most
-  pub one_run : (states : List (TableState V h)) → ClassesDisjoint states
-      → (s : ℕ) (xs ys : List (TableArc V h)) (word : List (List Sym)) → IsRun states s xs → IsRun states s ys
-      → Reads xs word → Reads ys word → xs ≡ ys
-  one_run states disjoint s [] [] [] rx ry hx hy = refl
-  one_run states disjoint s [] [] (c ∷ word) rx ry hx hy = refl
-  one_run states disjoint s [] (y ∷ ys) [] rx ry hx hy = absurd hy
-  one_run states disjoint s [] (y ∷ ys) (c ∷ word) rx ry hx hy = absurd hx
-  one_run states disjoint s (x ∷ xs) [] [] rx ry hx hy = absurd hx
-  one_run states disjoint s (x ∷ xs) [] (c ∷ word) rx ry hx hy = absurd hy
-  one_run states disjoint s (x ∷ xs) (y ∷ ys) [] rx ry hx hy = absurd hx
-  one_run states disjoint s (x ∷ xs) (y ∷ ys) (c ∷ word) rx ry hx hy =
-      let same : y ≡ x = same_move (moves_at states s) (disjoint s) y x c ry.0 rx.0 hy.0 hx.0 in
-      let P : TableArc V h → Type 0 = λ a. IsRun states a.target ys in
-      let rest : xs ≡ ys = one_run states disjoint x.target xs ys word rx.1 (subst P same ry.1) hx.1 hy.1 in
-      ap (λ z. z ∷ xs) (sym same) ∙ ap (λ zs. y ∷ zs) rest

@@ -1,9 +1,8 @@
 -- No stage has more kinds than enough.
-use Rattle.std.proofs.Common.{◌≡◌, ℕ, ◌+◌, ◌*◌, ◌^◌, ◌<◌, ◌≤◌, List, [], ◌∷◌, length, refl, arith, codes}
+use Rattle.std.proofs.Common.{◌≡◌, ℕ, ◌+◌, ◌*◌, ◌^◌, ◌≤◌, List, [], ◌∷◌, length, refl, arith, codes}
 use Rattle.std.specs.List.{AllByRecursion}
 use Rattle.std.proofs.lemmas.Nat.{mul-le}
 use Rattle.tier_core.specs.declared.sym.Sym.{Sym}
-use Rattle.tier_core.specs.declared.constraint.Constraint.{Constraint}
 use Rattle.tier_core.specs.declared.tier.TierKind.TheVariants.{Input, Overt}
 use Rattle.tier_core.specs.Tables.{tiers_of_table}
 use Rattle.violation.specs.Candidates.{IsForm}
@@ -14,7 +13,7 @@ use Rattle.violation.specs.Examples.{over_two, kind_text}
 use Rattle.violation.proofs.ExampleLemmas.{right_timeline, empty_kinds}
 use Rattle.violation.proofs.SplitLemmas.{tiers_split}
 use Rattle.grammar_reader.specs.declared.grammar.Grammar.{Grammar}
-use Rattle.kind_moves.proofs.GrammarTiers.{over_tiers}
+use Rattle.grammar_reader.proofs.OverTiers.{over_tiers}
 use Rattle.kind_laws.proofs.KindsFew.{all_few, power_more}
 use Rattle.ranked_gen.specs.Budgets.{AreAllWithin, IsFirstOver}
 use Rattle.budget_laws.specs.Enough.{enough}

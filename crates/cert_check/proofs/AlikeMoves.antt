@@ -1,19 +1,17 @@
 -- On columns that are alike, moves lead to one kind and cost the same; so what is kept on the one is kept
 -- on the other.
-use Rattle.std.proofs.Common.{◌≡◌, ℕ, zero, suc, ◌+◌, ◌-◌, ◌<◌, Bool, true, false, cond, IsTrue, List, [], ◌∷◌, map, take, drop, filter, get_or, refl, sym, ap, ap₂, ◌∙◌, subst, ◌⊎◌, inl, inr}
+use Rattle.std.proofs.Common.{◌≡◌, ℕ, zero, suc, ◌+◌, ◌-◌, Bool, true, false, cond, List, [], ◌∷◌, map, take, drop, filter, get_or, refl, ap, ap₂, ◌∙◌}
 use Rattle.std.specs.List.{AllByRecursion}
 use Rattle.tier_core.specs.declared.sym.Sym.{Sym}
 use Rattle.tier_core.specs.declared.constraint.Constraint.{Constraint}
 use Rattle.tier_core.specs.Kinds.{Phase, PrefixKind}
-use Rattle.tier_core.specs.Scan.{fits, opens}
+use Rattle.tier_core.specs.Scan.{opens}
 use Rattle.tier_core.specs.Sides.{is_stretch}
-use Rattle.tier_core.specs.Timelines.{symbol, column_at, has_edge}
-use Rattle.violation.specs.Moves.{input_of, FitsKind, is_tier_open, next_phase, next_phases, moved, costs_each, first_phase, cost_of, cut}
+use Rattle.tier_core.specs.Timelines.{symbol, has_edge}
+use Rattle.violation.specs.Moves.{input_of, is_tier_open, next_phase, next_phases, moved, costs_each, first_phase, cost_of}
 use Rattle.violation.specs.Prefixes.{stretches}
-use Rattle.violation.specs.Problems.{Problem, last_place}
+use Rattle.violation.specs.Problems.{Problem}
 use Rattle.violation.proofs.TierLemmas.{map_agree}
-use Rattle.answer_text.specs.declared.stage.Stage.{Stage}
-use Rattle.answer_text.specs.Certified.{Lists, IsTightAt, IsKeptBelow}
 use Rattle.cert_check.specs.Alike.{AreAlikeFor, AreAlike}
 
 -- ---- phases
@@ -73,42 +71,3 @@ module _ (problem : Problem) (place : ℕ) (c d : List Sym) (a : AreAlike proble
   cost_alike r k = ap (λ ns. get_or ns (r - 1) 0)
       (all_costs_alike (take r problem.constraints) (is_tier_open problem k) c d
       (first_alike (λ x. AreAlikeFor x c d) problem.constraints r a.constraints) k.phases)
-
-  -- a column fits where one fits that is alike, and its symbols may come
-  pub fits_alike : (k : PrefixKind) → k.place ≡ place → FitsKind problem k c
-      → ((t : ℕ) → t < problem.tiers.width → IsTrue (fits (is_tier_open problem k t) (symbol d t)))
-      → FitsKind problem k d
-  fits_alike k e f symbols = record {
-    width = sym a.one_width ∙ f.width;
-    symbols = symbols;
-    edge = sym a.edge ∙ f.edge;
-    input = by f.input;
-  }
-    where
-      by : (has_edge (input_of problem.tiers c) ≡ false) ⊎
-          ((k.place < last_place problem) × (input_of problem.tiers c ≡ column_at problem.form k.place))
-          → (has_edge (input_of problem.tiers d) ≡ false) ⊎
-          ((k.place < last_place problem) × (input_of problem.tiers d ≡ column_at problem.form k.place))
-      by (inl none) = inl (sym a.input_edge ∙ none)
-      by (inr part) = inr (
-        part.0,
-        a.input_part.0 (part.1 ∙ ap (column_at problem.form) e)
-            ∙ sym (ap (column_at problem.form) e),
-      )
-
-  tight_alike : (stages : List Stage) (j : ℕ) (k : PrefixKind) → IsTightAt problem stages j k c
-      → IsTightAt problem stages j k d
-  tight_alike stages j k t = record {
-    before = t.before;
-    after = t.after;
-    leaves = t.leaves;
-    arrives = subst (λ l. Lists problem stages j l t.after) (moved_alike j (cut problem j k)) t.arrives;
-    falls = t.falls ∙ ap (λ n. n + t.after) (cost_alike j (cut problem j k));
-  }
-
-  -- so a move is kept on both columns or on neither
-  pub kept_alike : (stages : List Stage) (r : ℕ) (k : PrefixKind) → k.place ≡ place
-      → ((t : ℕ) → t < problem.tiers.width → IsTrue (fits (is_tier_open problem k t) (symbol d t)))
-      → IsKeptBelow problem stages r k c → IsKeptBelow problem stages r k d
-  kept_alike stages r k e symbols h = record
-      { fits = fits_alike k e h.fits symbols; tight = λ j a l. tight_alike stages j k (h.tight j a l) }

@@ -1,7 +1,7 @@
 -- Lists of arcs: the targets that they have on a column, and the columns that are in two of them.
 use Rattle.std.proofs.Common.{◌≡◌, ℕ, zero, suc, ◌+◌, ◌<◌, ◌==◌, ◌&&◌, ◌||◌, not, Bool, true, false, IsTrue, List, [], ◌∷◌, ◌++◌, take, length, get_or, slice_get, refl, sym, ap, ap₂, ◌∙◌, subst, arith, inl, inr, Some, None, Option, Contains, true≢false, eqb-true, eq-eqb, ne_eqb}
 use Rattle.std.specs.Prelude.{unwrap_or}
-use Rattle.std.proofs.lemmas.Bool.{and_parts, or_cases}
+use Rattle.std.proofs.lemmas.Bool.{and_parts, or_cases, not-true, or_left, or_right}
 use Rattle.std.proofs.lemmas.List.Folds.{list_any_at, list_any_more, list_any-append}
 use Rattle.std.proofs.lemmas.Option.{slice_get_within}
 use Rattle.tier_core.specs.declared.sym.Sym.{Sym}
@@ -9,24 +9,13 @@ use Rattle.tier_core.specs.declared.class.Class.{Class}
 use Rattle.tier_core.specs.Classes.{has}
 use Rattle.symbol_class.specs.Held.{some_has}
 use Rattle.answer_text.specs.declared.automaton.ArcLine.{ArcLine}
-use Rattle.cert_check.specs.Arcs.{arc_classes, is_twice, is_led, is_unmatched, do_differ}
+use Rattle.answer_text.specs.ArcClasses.{arc_classes}
+use Rattle.cert_check.specs.Arcs.{is_twice, is_led, is_unmatched, do_differ}
 use Rattle.cert_check.specs.Faults.{IsListedTarget}
 
 both_true : (a b : Bool) → a ≡ true → b ≡ true → (a && b) ≡ true
 both_true true b e f = f
 both_true false b e f = absurd (true≢false (sym e))
-
-second_true : (a b : Bool) → b ≡ true → (a || b) ≡ true
-second_true true b e = refl
-second_true false b e = e
-
-first_true : (a b : Bool) → a ≡ true → (a || b) ≡ true
-first_true true b e = refl
-first_true false b e = absurd (true≢false (sym e))
-
-pub not_true : (a : Bool) → not a ≡ true → a ≡ false
-not_true true e = absurd (true≢false (sym e))
-not_true false e = refl
 
 -- ---- targets
 
@@ -84,7 +73,7 @@ unmatched_to [] others column h = absurd (true≢false (sym h))
 unmatched_to (a ∷ arcs) others column h = elim (or_cases (has a.class column && not (is_led others a.target column))
     (is_unmatched arcs others column) h) [
       | inl e ↦ let parts = and_parts (has a.class column) (not (is_led others a.target column)) e in
-          (a, ((0, omega arith, refl), (parts.0, not_true (is_led others a.target column) parts.1)))
+          (a, ((0, omega arith, refl), (parts.0, not-true (is_led others a.target column) parts.1)))
       | inr e ↦ let rest = unmatched_to arcs others column e in
           (rest.0, ((suc rest.1.0.0, omega (arith, rest.1.0.1), rest.1.0.2), rest.1.1))
     ]
@@ -160,9 +149,9 @@ module _ (arcs others : List ArcLine) (column : List Sym) (one : HasOneTarget ar
 some_arc : (arcs : List ArcLine) (column : List Sym) (i : ℕ) (arc : ArcLine) → slice_get arcs i ≡ Some arc
     → IsTrue (has arc.class column) → some_has (arc_classes arcs) column ≡ true
 some_arc [] column i arc e h = absurd (omega (arith, slice_get_within [] i arc e))
-some_arc (a ∷ arcs) column zero arc e h = first_true (has a.class column) (some_has (arc_classes arcs) column)
+some_arc (a ∷ arcs) column zero arc e h = or_left (has a.class column) (some_has (arc_classes arcs) column)
     (ap (λ o. has (unwrap_or o arc).class column) e ∙ h)
-some_arc (a ∷ arcs) column (suc i) arc e h = second_true (has a.class column) (some_has (arc_classes arcs) column)
+some_arc (a ∷ arcs) column (suc i) arc e h = or_right (has a.class column) (some_has (arc_classes arcs) column)
     (some_arc arcs column i arc e h)
 
 pub arc_there : (arcs : List ArcLine) (column : List Sym) → some_has (arc_classes arcs) column ≡ true
@@ -222,9 +211,9 @@ pub twice_from : (arcs : List ArcLine) (column : List Sym) (i j : ℕ) (a b : Ar
 twice_from [] column i j a b l e f h k = absurd (omega (arith, slice_get_within [] i a e))
 twice_from (x ∷ arcs) column i zero a b l e f h k = absurd (omega (arith, l))
 twice_from (x ∷ arcs) column zero (suc j) a b l e f h k =
-    first_true (has x.class column && some_has (arc_classes arcs) column) (is_twice arcs column)
+    or_left (has x.class column && some_has (arc_classes arcs) column) (is_twice arcs column)
     (both_true (has x.class column) (some_has (arc_classes arcs) column)
     (ap (λ o. has (unwrap_or o a).class column) e ∙ h) (some_arc arcs column j b f k))
 twice_from (x ∷ arcs) column (suc i) (suc j) a b l e f h k =
-    second_true (has x.class column && some_has (arc_classes arcs) column) (is_twice arcs column)
+    or_right (has x.class column && some_has (arc_classes arcs) column) (is_twice arcs column)
     (twice_from arcs column i j a b (omega (arith, l)) e f h k)

@@ -1,7 +1,7 @@
 -- Arcs that are made of the pieces of a kind's kept moves lead where those moves lead.
-use Rattle.std.proofs.Common.{◌≡◌, ℕ, ◌+◌, ◌<◌, ◌≤◌, IsTrue, List, [], ◌∷◌, ◌++◌, take, length, get_or, slice_get, Some, None, Option, refl, sym, ap, ◌∙◌, subst, All, Contains}
+use Rattle.std.proofs.Common.{◌≡◌, ℕ, ◌+◌, ◌<◌, IsTrue, List, [], ◌∷◌, ◌++◌, take, length, get_or, slice_get, Some, None, Option, refl, sym, ap, ◌∙◌, subst, All, Contains}
 use Rattle.std.specs.List.Sorted.{IsStrictlySortedBy}
-use Rattle.std.proofs.lemmas.List.{map-append, take_all, take_more}
+use Rattle.std.proofs.lemmas.List.{map-append, take_more}
 use Rattle.std.proofs.lemmas.List.Elements.{All-contains, All-push}
 use Rattle.std.proofs.lemmas.List.Folds.{list_any_at}
 use Rattle.std.specs.Prelude.{option_map}
@@ -18,10 +18,10 @@ use Rattle.answer_text.specs.declared.stage.Node.{Node}
 use Rattle.answer_text.specs.Certified.{IsKeptBelow}
 use Rattle.answer_text.specs.Right.{nodes_at, kinds_at, IsNodeOf}
 use Rattle.check_laws.proofs.Listing.{one_number}
-use Rattle.check_laws.proofs.Members.{all_from_members, contains_map}
+use Rattle.tier_core.proofs.Members.{All-from_members, contains_map}
 use Rattle.cert_check.specs.declared.kept_piece.KeptPiece.{KeptPiece}
 use Rattle.cert_check.specs.declared.subject.Subject.{Subject}
-use Rattle.cert_check.specs.Arcs.{arc_classes}
+use Rattle.answer_text.specs.ArcClasses.{arc_classes}
 use Rattle.cert_check.specs.Faults.{IsListedTarget, IsKeptTarget}
 use Rattle.cert_check.specs.Kept.{classes_of, IsKeptPiece, AreKept}
 use Rattle.cert_check.specs.KeptArcs.{IsArcOf, AreArcsOf}
@@ -53,15 +53,6 @@ module _ (s : Subject) (stage : ℕ) (pieces : List KeptPiece) (n : ℕ) (piece 
         same_class = same;
         leads = leads;
       }))
-
--- all arcs
-pub arcs_whole : (s : Subject) (stage : ℕ) (pieces : List KeptPiece) (n : ℕ) (arcs : List ArcLine)
-    → length pieces ≤ n → arc_classes arcs ≡ classes_of (take n pieces) → All (IsArcOf s stage pieces) arcs
-    → AreArcsOf s stage pieces arcs
-arcs_whole s stage pieces n arcs l classes each = record {
-  classes = classes ∙ ap classes_of (take_all n pieces l);
-  each = each;
-}
 
 -- ---- where they lead
 
@@ -153,7 +144,7 @@ module _ (s : Subject) (k : PrefixKind) (pieces : List KeptPiece) (arcs : List A
 
     pub kept_arcs_are : AreKeptArcs (problem_of s) s.answer.now k arcs
     kept_arcs_are = record {
-      one_width = all_from_members (λ (arc : ArcLine). length (sets_of arc.class) ≡ (problem_of s).tiers.width) arcs
+      one_width = All-from_members (λ (arc : ArcLine). length (sets_of arc.class) ≡ (problem_of s).tiers.width) arcs
           (λ arc h. let a = arc_of arc h in
           ap (λ c. length (sets_of c)) a.same_class
           ∙ All-contains (λ c. length (sets_of c) ≡ problem.tiers.width) (classes_of pieces) a.piece.class

@@ -11,12 +11,12 @@ use Rattle.violation.specs.Problems.{Problem}
 use Rattle.answer_text.specs.declared.stage.Node.{Node}
 use Rattle.answer_text.specs.declared.answer.Answer.{Answer}
 use Rattle.answer_text.specs.Right.{nodes_at, kinds_at}
-use Rattle.check_laws.proofs.Listing.{kinds_total}
+use Rattle.tier_core.proofs.KindTies.{kind_order_total}
 use Rattle.cert_check.specs.Faults.{HasNode, HasWrongNode}
 use Rattle.cert_check.proofs.Decisions.{so_unless, is_less}
 use Rattle.cert_check.proofs.Faultless.{node_kind}
 
-none_there : (ns : List Node) (n : ℕ) → n < length ns → slice_get ns n ≡ None → ⊥
+pub none_there : (ns : List Node) (n : ℕ) → n < length ns → slice_get ns n ≡ None → ⊥
 none_there [] n l e = absurd (omega (arith, l))
 none_there (node ∷ ns) zero l e = cc
 none_there (node ∷ ns) (suc n) l e = none_there ns n (omega (arith, l)) e
@@ -52,7 +52,7 @@ module _ (problem : Problem) (answer : Answer) (r : ℕ) (within : r < length an
       (λ no. right n (record { node = node; is = is; wrong = λ o. no (o.after l some e) }))
 
   pub ascends_unless : ((n : ℕ) → HasWrongNode problem answer r n → ⊥) → IsStrictlySortedBy kind_order kinds
-  ascends_unless right = sorted_from_all_adjacent kinds_total kinds (kind_of problem r []) (λ k l.
+  ascends_unless right = sorted_from_all_adjacent kind_order_total kinds (kind_of problem r []) (λ k l.
       let node = node_at (k + 1) l in
       subst (λ x. kind_order (get_or kinds k (kind_of problem r [])) x ≡ Less) (sym (kind_at (k + 1) node.0 node.1))
       (after right (k + 1) node.0 node.1 (get_or kinds k (kind_of problem r [])) (omega arith)

@@ -27,7 +27,7 @@ use Rattle.answer_text.specs.declared.answer.Answer.{Answer}
 use Rattle.answer_text.specs.Acceptance.{HasArc}
 use Rattle.answer_text.specs.Right.{nodes_at, kinds_at, IsNodeOf, numbers_of}
 use Rattle.answer_text.specs.Certified.{Lists, IsKeptBelow, IsPossibleKind, IsCertified, IsCertifiedStage, IsCertifiedAutomaton, start_potential}
-use Rattle.check_laws.proofs.Members.{contains_of_map, all_from_members}
+use Rattle.tier_core.proofs.Members.{contains_of_map, All-from_members}
 use Rattle.check_laws.proofs.Listing.{lists_kind, kind_numbered, one_potential}
 use Rattle.cert_check.specs.declared.fault.Fault.TheVariants.{FormWrong, StageMissing, ExampleWrong, CountsDiffer, NodeWrong, StartMissing, FinalPotential, NotClosed, Potential, StartPotential, StateMissing, FinalsDiffer, ArcsTwice, ArcsDiffer}
 use Rattle.cert_check.specs.Faults.{HasNode, HasWrongNode, IsUnlisted, HasState, TellsKind, IsListedTarget, IsKeptTarget}
@@ -37,7 +37,7 @@ use Rattle.cert_check.proofs.DecidedForms.{is_form, is_candidate}
 use Rattle.cert_check.proofs.DecidedMoves.{is_listed, is_kept}
 use Rattle.cert_check.proofs.Faultless.{contains_numbered}
 use Rattle.cert_check.proofs.Ascending.{node_at, kind_at, ascends_unless}
-use Rattle.cert_check.proofs.KindMasks.{kind_for}
+use Rattle.cert_check.proofs.KindMasks.{some_told}
 
 -- numbers that do not differ are the same
 same_unless : (m n : ℕ) → ((m ≡ n → ⊥) → ⊥) → m ≡ n
@@ -178,7 +178,7 @@ module _ (problem : Problem) (answer : Answer) (faultless : IsFaultless problem 
         next = moved problem r (told node) column
 
         missing : (kind : Kind) × TellsKind problem r kind next
-        missing = kind_for problem r next (length-map problem.tiers.free (λ t. opens (symbol column t)))
+        missing = some_told problem r next (length-map problem.tiers.free (λ t. opens (symbol column t)))
             (next_count (stretches problem r) (told node).phases column
             (length-map-range_with_len (phase_at node.kind) 0 (length (stretches problem r))))
 
@@ -218,7 +218,7 @@ module _ (problem : Problem) (answer : Answer) (faultless : IsFaultless problem 
 
     each_kind : (P : PrefixKind → Type 0) → ((n : ℕ) (node : Node) → HasNode answer r n node → P (told node))
         → All P kinds
-    each_kind P h = all_from_members P kinds (λ k c.
+    each_kind P h = All-from_members P kinds (λ k c.
         let m = contains_of_map told nodes k c in
         let numbered = has_number m.0 m.1.0 in
         subst P m.1.1 (h numbered.0 m.0 numbered.1))
@@ -432,12 +432,12 @@ module _ (problem : Problem) (answer : Answer) (faultless : IsFaultless problem 
   certified_automaton : IsCertifiedAutomaton problem answer.stages.items answer.automaton.states.items
   certified_automaton = record {
     start = first_state;
-    targets = all_from_members (λ (line : StateLine). All
+    targets = All-from_members (λ (line : StateLine). All
         (λ (arc : ArcLine). Contains (numbers_of states) arc.target) line.arcs.items) states
-        (λ line h. all_from_members (λ (arc : ArcLine). Contains (numbers_of states) arc.target) line.arcs.items
+        (λ line h. All-from_members (λ (arc : ArcLine). Contains (numbers_of states) arc.target) line.arcs.items
         (target_state line h));
     finals = right_mark;
-    once = all_from_members (λ (line : StateLine). AllPairs
+    once = All-from_members (λ (line : StateLine). AllPairs
         (λ (a b : ArcLine). AreDisjoint a.class b.class) line.arcs.items) states apart;
     arcs = λ n m k column s node. (
       λ a. let kept = arc_kept k column a.state a.listed

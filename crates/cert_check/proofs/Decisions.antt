@@ -7,11 +7,10 @@ use Rattle.std.specs.declared.cmp.Ordering.TheVariants.{Less, Equal, Greater}
 use Rattle.std.proofs.lemmas.Bool.{cases_eq, cases_lt}
 use Rattle.std.proofs.lemmas.Cmp.{tied_itself}
 use Rattle.tier_core.specs.declared.sym.Sym.{Sym}
-use Rattle.tier_core.specs.declared.sym.Sym.TheVariants.{Outside, Inside, Start, End, Both}
 use Rattle.tier_core.specs.Kinds.{PrefixKind, kind_order}
 use Rattle.tier_core.specs.Symbols.{rank}
-use Rattle.check_laws.proofs.Listing.{kinds_total}
-use Rattle.cert_check.proofs.KindTies.{same_kind}
+use Rattle.tier_core.proofs.KindTies.{same_kind, kind_order_total}
+use Rattle.tier_core.proofs.SetLemmas.{rank_same}
 
 abbrev pub Decided : Type 0 → Type 0
 Decided P = P ⊎ (P → ⊥)
@@ -82,37 +81,9 @@ for_all_below P (suc n) decide =
     more (inl h) (inr q) = inr (λ f. q (f n (omega arith)))
     more (inr q) d = inr (λ f. q (λ i l. f i (omega (arith, l))))
 
--- a symbol has a rank of its own
-pub same_rank : (s t : Sym) → rank s ≡ rank t → s ≡ t
-same_rank Outside Outside e = refl
-same_rank Inside Inside e = refl
-same_rank Start Start e = refl
-same_rank End End e = refl
-same_rank Both Both e = refl
-same_rank Outside Inside e = absurd (omega arith)
-same_rank Outside Start e = absurd (omega arith)
-same_rank Outside End e = absurd (omega arith)
-same_rank Outside Both e = absurd (omega arith)
-same_rank Inside Outside e = absurd (omega arith)
-same_rank Inside Start e = absurd (omega arith)
-same_rank Inside End e = absurd (omega arith)
-same_rank Inside Both e = absurd (omega arith)
-same_rank Start Outside e = absurd (omega arith)
-same_rank Start Inside e = absurd (omega arith)
-same_rank Start End e = absurd (omega arith)
-same_rank Start Both e = absurd (omega arith)
-same_rank End Outside e = absurd (omega arith)
-same_rank End Inside e = absurd (omega arith)
-same_rank End Start e = absurd (omega arith)
-same_rank End Both e = absurd (omega arith)
-same_rank Both Outside e = absurd (omega arith)
-same_rank Both Inside e = absurd (omega arith)
-same_rank Both Start e = absurd (omega arith)
-same_rank Both End e = absurd (omega arith)
-
 pub is_symbol : (s t : Sym) → Decided (s ≡ t)
 is_symbol s t = elim (cases_eq (rank s) (rank t)) [
-  | inl e ↦ inl (same_rank s t e)
+  | inl e ↦ inl (rank_same s t e)
   | inr n ↦ inr (λ e. n (ap rank e))
 ]
 
@@ -145,7 +116,7 @@ is_kind k l = by (kind_order k l) refl
   where
     other : is_eq (kind_order k l) ≡ false → k ≡ l → ⊥
     other h e = true≢false
-        (sym (ap is_eq (tied_itself kinds_total l)) ∙ sym (ap (λ x. is_eq (kind_order x l)) e) ∙ h)
+        (sym (ap is_eq (tied_itself kind_order_total l)) ∙ sym (ap (λ x. is_eq (kind_order x l)) e) ∙ h)
 
     by : (o : Ordering) → kind_order k l ≡ o → Decided (k ≡ l)
     by Less e = inr (other (ap is_eq e))

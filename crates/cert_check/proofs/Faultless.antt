@@ -21,7 +21,7 @@ use Rattle.answer_text.specs.declared.answer.Answer.{Answer}
 use Rattle.answer_text.specs.Right.{nodes_at, kinds_at, IsNodeOf}
 use Rattle.answer_text.specs.Certified.{Lists, IsKeptBelow, IsPossibleKind, IsCertified, IsCertifiedStage, IsCertifiedAutomaton, AreStatesInOrder}
 use Rattle.tier_core.specs.Classes.{has, AreDisjoint}
-use Rattle.check_laws.proofs.Members.{contains_map}
+use Rattle.tier_core.proofs.Members.{contains_map}
 use Rattle.check_laws.proofs.Listing.{one_potential, one_number}
 use Rattle.check_laws.proofs.Leading.{one_state}
 use Rattle.cert_check.specs.declared.fault.Fault.TheVariants.{FormWrong, StageMissing, ExampleWrong, CountsDiffer, NodeWrong, StartMissing, FinalPotential, NotClosed, Potential, StartPotential, StateMissing, FinalsDiffer, ArcsTwice, ArcsDiffer}

@@ -1,43 +1,25 @@
 -- The columns that fit a kind, in pieces: those without an edge on the input tiers, and those that read
 -- a column of the form.
-use Rattle.std.proofs.Common.{◌≡◌, ◌↔◌, ◌⊎◌, ℕ, zero, suc, ◌+◌, ◌<◌, Bool, true, false, not, ◌&&◌, ◌||◌, IsTrue, List, [], ◌∷◌, map, length, refl, ap, sym, ◌∙◌, subst, arith, ⊎_elim, inl, inr, All}
+use Rattle.std.proofs.Common.{◌≡◌, ◌↔◌, ◌⊎◌, ℕ, ◌+◌, ◌<◌, Bool, true, false, not, ◌&&◌, ◌||◌, IsTrue, List, [], length, refl, ap, sym, ◌∙◌, subst, arith, ⊎_elim, inl, inr, All}
 use Rattle.std.specs.List.{AllByRecursion}
-use Rattle.std.proofs.lemmas.Bool.{false≢true, both_ways, and_parts, and_from, or_cases, or_left, or_right, and_right, or_from, not-true, false_from_ne_true, cases_Bool}
-use Rattle.std.proofs.lemmas.List.Folds.{list_any_at}
+use Rattle.std.proofs.lemmas.Bool.{both_ways, and_parts, and_from, or_cases, or_left, or_right, and_right, not-true, false_from_ne_true, cases_Bool}
 use Rattle.tier_core.specs.declared.class.Class.{Class}
 use Rattle.tier_core.specs.declared.sym.Sym.{Sym}
-use Rattle.tier_core.specs.declared.sym.Sym.TheVariants.{Outside}
 use Rattle.tier_core.specs.Classes.{sets_of, has}
 use Rattle.tier_core.specs.Kinds.{PrefixKind}
 use Rattle.tier_core.specs.Scan.{fits}
 use Rattle.tier_core.specs.Timelines.{symbol, column_at, is_edge, has_edge}
 use Rattle.tier_core.specs.Tiers.{has_tier}
 use Rattle.tier_core.proofs.ClassLemmas.{same_width}
+use Rattle.tier_core.proofs.EdgeLemmas.{none_edge, each_edgeless, edge_on}
 use Rattle.symbol_class.specs.Held.{once_if, AddsClasses}
 use Rattle.symbol_class.specs.Parts.{AddsAlike}
 use Rattle.symbol_class.proofs.PartSteps.{adds_constant, alike_then}
 use Rattle.symbol_class.proofs.Times.{adds_same, pieces_added, columns_added}
+use Rattle.symbol_class.proofs.Once.{either_once}
 use Rattle.violation.specs.Moves.{FitsKind, input_of, is_tier_open}
 use Rattle.violation.specs.Problems.{Problem, last_place}
 use Rattle.cert_check.specs.Fitting.{AreFitting, IsReadAlike}
-
--- ---- edges of a column and of its input part
-
-none_edge : (xs : List Sym) → ((t : ℕ) → t < length xs → is_edge (symbol xs t) ≡ false) → has_edge xs ≡ false
-none_edge [] h = refl
-none_edge (x ∷ xs) h = or_from (is_edge x) (has_edge xs) (h zero (omega arith))
-    (none_edge xs (λ t l. h (suc t) (omega arith)))
-
-each_edgeless : (xs : List Sym) → has_edge xs ≡ false → (t : ℕ) → t < length xs → is_edge (symbol xs t) ≡ false
-each_edgeless xs none t l = false_from_ne_true (is_edge (symbol xs t))
-    (λ e. both_ways (has_edge xs) none (list_any_at is_edge xs t Outside l e))
-
-input_edge : (tiers : List ℕ) (column : List Sym) → AllByRecursion (λ t. t < length column) tiers
-    → has_edge (map (symbol column) tiers) ≡ true → has_edge column ≡ true
-input_edge [] column below e = absurd (false≢true e)
-input_edge (t ∷ ts) column below e =
-    ⊎_elim (λ here. list_any_at is_edge column t Outside below.0 here) (λ there. input_edge ts column below.1 there)
-    (or_cases (is_edge (symbol column t)) (has_edge (map (symbol column) ts)) e)
 
 -- ---- what two classes have in common
 
@@ -46,23 +28,6 @@ met_where x true b p e h = e ∙ h refl
 met_where x false b p e h = e
 
 -- ---- the two kinds of pieces
-
-either_once : (s b r : Bool)
-    → once_if (s && not b) + once_if (r && not s) ≡ once_if ((s && not b) || (r && not s))
-either_once true true true = refl
-either_once true true false = refl
-either_once true false true = refl
-either_once true false false = refl
-either_once false b true = refl
-either_once false b false = refl
-
-second_false : (a b : Bool) → (a && not b) ≡ true → b ≡ false
-second_false true true h = absurd (false≢true h)
-second_false true false h = refl
-second_false false b h = absurd (false≢true h)
-
-first_true : (a b : Bool) → (a && b) ≡ true → a ≡ true
-first_true a b h = (and_parts a b h).0
 
 module _ (problem : Problem) (k : PrefixKind) (coming still bare : Class) (mask : ℕ) (reads : List Sym → Bool)
     (inputs : AllByRecursion (λ t. t < problem.tiers.width) problem.tiers.input)
@@ -93,7 +58,7 @@ module _ (problem : Problem) (k : PrefixKind) (coming still bare : Class) (mask 
 
   input_below : (column : List Sym) → length column ≡ problem.tiers.width → is_read column ≡ true
       → has_edge column ≡ true
-  input_below column w e = input_edge problem.tiers.input column
+  input_below column w e = edge_on problem.tiers.input column
       (subst (λ n. AllByRecursion (λ t. t < n) problem.tiers.input) (sym w) inputs) e
 
   fits_column : (column : List Sym) → has coming column ≡ true → has_edge column ≡ true
@@ -111,24 +76,26 @@ module _ (problem : Problem) (k : PrefixKind) (coming still bare : Class) (mask 
 
   quiet_fits : (column : List Sym) → is_quiet column ≡ true → FitsKind problem k column
   quiet_fits column h =
-      let s = first_true (has still column) (not (has bare column)) h in
+      let s = (and_parts (has still column) (not (has bare column)) h).0 in
       let parts = and_parts (has coming column) (not (is_read column)) (sym (has_still column) ∙ s) in
       let w = width_of_column column parts.0 in
       let edge : has_edge column ≡ true = ⊎_elim (λ y. y)
-      (λ none. absurd (both_ways (has bare column) (second_false (has still column) (has bare column) h)
+      (λ none. absurd (both_ways (has bare column) (not-true (has bare column)
+          (and_parts (has still column) (not (has bare column)) h).1)
       ((has_bare column w).1 (λ t l. ap not (each_edgeless column none t (omega (arith, w, l)))))))
       (cases_Bool (has_edge column)) in
       fits_column column parts.0 edge (inl (not-true (is_read column) parts.1))
 
   read_here : (column : List Sym) → has coming column ≡ true → is_reading column ≡ true → is_read column ≡ true
   read_here column f h = ⊎_elim (λ y. y)
-      (λ none. absurd (both_ways (has still column) (second_false (reads column) (has still column) h)
+      (λ none. absurd (both_ways (has still column) (not-true (has still column)
+          (and_parts (reads column) (not (has still column)) h).1)
       (has_still column ∙ and_from (has coming column) (not (is_read column)) f (ap not none))))
       (cases_Bool (is_read column))
 
   reading_fits : (column : List Sym) → is_reading column ≡ true → FitsKind problem k column
   reading_fits column h =
-      let r = (has_read column).0 (first_true (reads column) (not (has still column)) h) in
+      let r = (has_read column).0 (and_parts (reads column) (not (has still column)) h).0 in
       fits_column column r.0 (input_below column (width_of_column column r.0) (read_here column r.0 h)) (inr r.1)
 
   bare_none : (column : List Sym) → length column ≡ problem.tiers.width → has_edge column ≡ true
@@ -170,10 +137,11 @@ module _ (problem : Problem) (k : PrefixKind) (coming still bare : Class) (mask 
         (adds_constant problem.tiers.width [] one is_quiet is_read false
         (subst (λ n. AddsClasses n [] one (λ column. once_if (is_quiet column))) same first)
         (λ column h. not-true (is_read column) (and_parts (has coming column) (not (is_read column))
-        (sym (has_still column) ∙ first_true (has still column) (not (has bare column)) h)).1))
+        (sym (has_still column) ∙ (and_parts (has still column) (not (has bare column)) h).0)).1))
         (adds_constant problem.tiers.width one two is_reading is_read true
         (subst (λ n. AddsClasses n one two (λ column. once_if (is_reading column))) also second)
-        (λ column h. read_here column ((has_read column).0 (first_true (reads column) (not (has still column)) h)).0 h))
+        (λ column h. read_here column ((has_read column).0
+            (and_parts (reads column) (not (has still column)) h).0).0 h))
         (λ column. refl)
 
     all : AddsClasses problem.tiers.width [] two (λ column. once_if (holds column))

@@ -31,9 +31,6 @@ pub record AreFlagged (f : ℕ → Bool) (kinds : List TierKind) (tier free mask
   pub within : mask < 2 ^ free
   pub told : open_tiers free mask ++ rest_from f kinds tier ≡ map f (numbers_from is_free 0 kinds)
 
-pub flagged_none : (f : ℕ → Bool) (kinds : List TierKind) → AreFlagged f kinds 0 0 0
-flagged_none f kinds = record { few = omega arith; within = omega arith; told = refl }
-
 pub flagged_more : (f : ℕ → Bool) (kinds : List TierKind) (tier free mask more : ℕ) (d : TierKind)
     → AreFlagged f kinds tier free mask → tier < length kinds → is_free (get_or kinds tier d) ≡ true
     → more < 2 ^ (free + 1) → has_tier more free ≡ f tier

@@ -4,26 +4,25 @@ use Rattle.std.specs.List.{list_any}
 use Rattle.std.proofs.lemmas.List.{drop_more, drop_all, length-drop, get_or-drop, take_all}
 use Rattle.std.proofs.lemmas.List.Elements.{All-append, All-from_recursion}
 use Rattle.std.proofs.lemmas.List.Folds.{list_any-append, list_any_more}
+use Rattle.std.proofs.lemmas.Bool.{and_right}
 use Rattle.tier_core.specs.declared.sym.Sym.{Sym}
 use Rattle.tier_core.specs.declared.class.Class.{Class}
 use Rattle.tier_core.specs.Classes.{has}
 use Rattle.tier_core.specs.Filled.{is_filled}
 use Rattle.symbol_class.specs.Held.{some_has}
 use Rattle.tier_core.proofs.Filled.{empty_holds}
+use Rattle.tier_core.proofs.Bools.{or_false}
 use Rattle.answer_text.specs.declared.automaton.ArcLine.{ArcLine}
-use Rattle.cert_check.specs.Arcs.{arc_classes, is_twice}
+use Rattle.answer_text.specs.ArcClasses.{arc_classes}
+use Rattle.cert_check.specs.Arcs.{is_twice}
 use Rattle.cert_check.specs.Gathered.{AreFilled, AddsColumns}
-
-or_false : (b : Bool) → b ≡ (b || false)
-or_false true = refl
-or_false false = refl
 
 or_assoc : (a b c : Bool) → ((a || b) || c) ≡ (a || (b || c))
 or_assoc true b c = refl
 or_assoc false b c = refl
 
 pub adds_none : (xs : List Class) → AddsColumns xs xs (λ column. false)
-adds_none xs = record { filled = λ h. h; held = λ column. or_false (some_has xs column) }
+adds_none xs = record { filled = λ h. h; held = λ column. sym (or_false (some_has xs column)) }
 
 pub adds_same : (xs ys : List Class) (s t : List Sym → Bool) → ((column : List Sym) → s column ≡ t column)
     → AddsColumns xs ys s → AddsColumns xs ys t
@@ -53,7 +52,7 @@ pub adds_one : (xs ys : List Class) (class : Class) → ys ≡ xs ++ class ∷ [
     → AddsColumns xs ys (has class)
 adds_one xs ys class e f = adds_more xs ys (class ∷ []) (has class) e
     (All-from_recursion (λ (c : Class). IsTrue (is_filled c)) (class ∷ []) (f, tt))
-    (λ column. sym (or_false (has class column)))
+    (λ column. or_false (has class column))
 
 -- what is added by an arc more
 pub arc_more : (xs ys zs : List Class) (test : ArcLine → List Sym → Bool) (arcs : List ArcLine) (n : ℕ) (arc : ArcLine)
@@ -69,10 +68,6 @@ arc_more xs ys zs test arcs n arc l e a b =
 
 -- ---- what a class has in common with arcs
 
-common_none : (b : Bool) → (b && false) ≡ false
-common_none true = refl
-common_none false = refl
-
 common_or : (a b c : Bool) → ((a && b) || (a && c)) ≡ (a && (b || c))
 common_or true b c = refl
 common_or false b c = refl
@@ -80,7 +75,7 @@ common_or false b c = refl
 pub common_held : (class : Class) (arcs : List ArcLine) (column : List Sym)
     → list_any (λ arc. has class column && has arc.class column) arcs
     ≡ (has class column && some_has (arc_classes arcs) column)
-common_held class [] column = sym (common_none (has class column))
+common_held class [] column = sym (and_right (has class column) false refl)
 common_held class (arc ∷ arcs) column =
     ap (λ b. (has class column && has arc.class column) || b) (common_held class arcs column)
     ∙ common_or (has class column) (has arc.class column) (some_has (arc_classes arcs) column)
@@ -149,7 +144,7 @@ pub twice_all : (old new : List Class) (arcs : List ArcLine) (n : ℕ) → lengt
     → AddsColumns old new (is_twice arcs)
 twice_all old new arcs n l a = record {
   filled = a.filled;
-  held = λ column. or_false (some_has new column)
+  held = λ column. sym (or_false (some_has new column))
       ∙ ap (λ xs. some_has new column || is_twice xs column) (sym (drop_all n arcs l)) ∙ a.held column;
 }
 

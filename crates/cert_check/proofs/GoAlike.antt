@@ -2,6 +2,7 @@
 -- one behind the other.
 use Rattle.std.proofs.Common.{◌≡◌, ℕ, ◌+◌, ◌-◌, ◌<◌, ◌≤◌, Bool, cond, List, [], ◌∷◌, ◌++◌, length, map, take, filter, get_or, sym, ap, ap₂, ◌∙◌, subst, append_assoc, append-nil, below_more}
 use Rattle.std.specs.List.{AllByRecursion}
+use Rattle.std.proofs.lemmas.List.{take-take}
 use Rattle.std.proofs.lemmas.List.Elements.{All-from_recursion, recursion_from_All, All-append}
 use Rattle.tier_core.specs.declared.class.Class.{Class}
 use Rattle.tier_core.specs.declared.sym.Sym.{Sym}
@@ -19,7 +20,6 @@ use Rattle.cert_check.specs.Alike.{AreAlikeFor}
 use Rattle.cert_check.specs.Fitting.{GoOnAlike, OpenAlike}
 use Rattle.cert_check.specs.Tests.{AddsTests, AgreeOn}
 use Rattle.cert_check.proofs.AlikeMoves.{IsNextAlike, stretches_alike, all_next_alike, all_costs_alike, first_alike}
-use Rattle.cert_check.proofs.CostSteps.{take_less}
 use Rattle.cert_check.proofs.TestLemmas.{adds_one}
 
 -- ---- tests one behind the other
@@ -88,7 +88,7 @@ module _ (problem : Problem) (stage : ℕ) (below : AllByRecursion (λ t. t < pr
   moves : (r : ℕ) (k : PrefixKind) → r ≤ stage → moved problem r k c ≡ moved problem r k d
   moves r k l =
       let first : AllByRecursion (IsNextAlike c d) (stretches problem r) =
-      subst (λ xs. AllByRecursion (IsNextAlike c d) (filter is_stretch xs)) (take_less problem.constraints r stage l)
+      subst (λ xs. AllByRecursion (IsNextAlike c d) (filter is_stretch xs)) (take-take r stage problem.constraints l)
       (stretches_alike (take stage problem.constraints) r c d alike) in
       let of : Bool → List Bool → List Phase
       → PrefixKind = λ e bs ps. record { place = k.place + cond e 1 0; opened = bs; phases = ps } in
@@ -102,7 +102,7 @@ module _ (problem : Problem) (stage : ℕ) (below : AllByRecursion (λ t. t < pr
   costs : (r : ℕ) (k : PrefixKind) → r ≤ stage → cost_of problem r k c ≡ cost_of problem r k d
   costs r k l =
       let first : AllByRecursion (λ x. AreAlikeFor x c d) (take r problem.constraints) =
-      subst (AllByRecursion (λ x. AreAlikeFor x c d)) (take_less problem.constraints r stage l)
+      subst (AllByRecursion (λ x. AreAlikeFor x c d)) (take-take r stage problem.constraints l)
       (first_alike (λ x. AreAlikeFor x c d) (take stage problem.constraints) r alike) in
       ap (λ ns. get_or ns (r - 1) 0)
       (all_costs_alike (take r problem.constraints) (is_tier_open problem k) c d first k.phases)

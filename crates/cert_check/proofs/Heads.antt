@@ -5,9 +5,9 @@ use Rattle.violation.specs.Candidates.{IsCandidate, counts_on}
 use Rattle.violation.specs.Problems.{Problem}
 use Rattle.answer_text.specs.declared.answer.Answer.{Answer}
 use Rattle.cert_check.specs.declared.fault.Fault.{Fault}
-use Rattle.cert_check.specs.declared.fault.Fault.TheVariants.{FormWrong, StageMissing, ExampleWrong, CountsDiffer}
-use Rattle.cert_check.specs.Places.{IsBefore, at_form, at_stages, at_example, at_count}
-use Rattle.cert_check.specs.Faults.{LacksStage, HasWrongCount}
+use Rattle.cert_check.specs.declared.fault.Fault.TheVariants.{ExampleWrong, CountsDiffer}
+use Rattle.cert_check.specs.Places.{IsBefore, at_example, at_count}
+use Rattle.cert_check.specs.Faults.{HasWrongCount}
 use Rattle.cert_check.specs.FirstFaults.{IsFirstFault}
 use Rattle.cert_check.specs.Heads.{HasRightForm, HasRightNumbers, IsFirstCountFault}
 use Rattle.cert_check.specs.Parts.{InAnswer}
@@ -56,17 +56,6 @@ module _ (problem : Problem) (answer : Answer) where
   head_parts a b c d (suc (suc zero)) l = c
   head_parts a b c d (suc (suc (suc zero))) l = d
   head_parts a b c d (suc (suc (suc (suc m)))) l = absurd (omega arith)
-
-  pub first_form : (HasRightForm problem → ⊥) → IsFirstFault problem answer FormWrong
-  first_form wrong =
-      first_fault problem answer FormWrong at_form (λ form short. wrong (record { form = form; short = short }), refl)
-      (none_before (InAnswer problem answer) 0 [] (λ m l. absurd (omega arith)) (λ rest w b. b))
-
-  pub first_numbers : HasRightForm problem → (listed wanted : ℕ) → LacksStage problem answer listed wanted
-      → IsFirstFault problem answer (StageMissing listed wanted)
-  first_numbers form listed wanted lacks =
-      first_fault problem answer (StageMissing listed wanted) at_stages (lacks, refl)
-      (none_before (InAnswer problem answer) 1 [] (below_two (form_part form)) (λ rest w b. b))
 
   pub first_example : HasRightForm problem → HasRightNumbers problem answer → (IsCandidate problem answer.example → ⊥)
       → IsFirstFault problem answer ExampleWrong

@@ -1,17 +1,18 @@
 -- The least column of some classes.
-use Rattle.std.proofs.Common.{◌≡◌, ℕ, ◌+◌, ◌<◌, ◌==◌, ◌||◌, ◌⊎◌, Bool, true, false, cond, IsTrue, List, [], ◌∷◌, take, length, get_or, refl, sym, ap, ◌∙◌, subst, arith, inl, inr, Some, None, Option, MatchOption, true≢false}
+use Rattle.std.proofs.Common.{◌≡◌, ℕ, ◌+◌, ◌<◌, ◌==◌, ◌||◌, ◌⊎◌, true, false, cond, IsTrue, List, [], ◌∷◌, take, length, get_or, refl, sym, ap, ◌∙◌, subst, arith, inl, inr, Some, None, Option, MatchOption, true≢false}
 use Rattle.std.specs.Ordering.{is_gt, nat_cmp, ordering_then, ordering_reverse}
 use Rattle.std.specs.Cmp.{IsTotalOrder}
 use Rattle.std.proofs.lemmas.Cmp.{nat_cmp_total, lists_total, on_total, tied_itself}
 use Rattle.std.specs.declared.cmp.Ordering.{Ordering}
 use Rattle.std.specs.declared.cmp.Ordering.TheVariants.{Less, Equal, Greater}
-use Rattle.std.proofs.lemmas.Bool.{cases_order, or_cases, le-ltb, eq-eqb, ne_eqb}
+use Rattle.std.proofs.lemmas.Bool.{cases_order, or_cases, le-ltb, ne_eqb, or_left, or_right}
 use Rattle.std.proofs.lemmas.List.Folds.{list_any_more}
 use Rattle.tier_core.specs.declared.sym.Sym.{Sym}
 use Rattle.tier_core.specs.declared.class.Class.{Class}
 use Rattle.tier_core.specs.Classes.{has}
 use Rattle.tier_core.specs.Orders.{column_cmp}
 use Rattle.tier_core.specs.Symbols.{rank}
+use Rattle.tier_core.proofs.KindTies.{same_cmp}
 use Rattle.symbol_class.specs.Held.{some_has}
 use Rattle.cert_check.specs.Arcs.{IsLeastColumn, IsNoColumn, IsLesser}
 use Rattle.cert_check.specs.Places.{IsBefore, column_place}
@@ -20,10 +21,6 @@ use Rattle.cert_check.proofs.ColumnPlaces.{not_after_is}
 greater : (m n : ℕ) → n < m → nat_cmp m n ≡ Greater
 greater m n l = ap (λ b. cond b Less (cond (m == n) Equal Greater)) (le-ltb m n (omega (arith, l)))
     ∙ ap (λ b. cond b Equal Greater) (ne_eqb m n (λ e. absurd (omega (arith, e, l))))
-
-equal : (m n : ℕ) → m ≡ n → nat_cmp m n ≡ Equal
-equal m n e = ap (λ b. cond b Less (cond (m == n) Equal Greater)) (le-ltb m n (omega (arith, e)))
-    ∙ ap (λ b. cond b Equal Greater) (eq-eqb m n e)
 
 -- what is before a column that does not come after another is before that one too
 earlier : (other column lesser : List Sym) → IsBefore (column_place other) (column_place lesser)
@@ -35,7 +32,7 @@ earlier (o ∷ other) column [] b h = absurd b
 earlier (o ∷ other) [] (s ∷ lesser) b h = absurd (true≢false h)
 earlier (o ∷ other) (t ∷ column) (s ∷ lesser) b h = elim (cases_order (rank s) (rank t)) [
   | inl same ↦ rest same (λ e. earlier other column lesser e
-      (sym (ap (λ x. is_gt (ordering_then x (column_cmp lesser column))) (equal (rank s) (rank t) same)) ∙ h)) b
+      (sym (ap (λ x. is_gt (ordering_then x (column_cmp lesser column))) (same_cmp (rank s) (rank t) same)) ∙ h)) b
   | inr apart ↦ elim apart [
     | inl less ↦ inl (below less b)
     | inr more ↦ absurd (true≢false (sym (ap (λ o. is_gt (ordering_then o (column_cmp lesser column)))
@@ -70,17 +67,9 @@ module _ (classes : List Class) (n : ℕ) (class : Class) (within : n < length c
   more column = list_any_more (λ x. has x column) classes n class within
       ∙ ap (λ x. some_has (take n classes) column || has x column) (sym is)
 
-  or_second : (a b : Bool) → b ≡ true → (a || b) ≡ true
-  or_second true b e = refl
-  or_second false b e = e
-
-  or_first : (a b : Bool) → a ≡ true → (a || b) ≡ true
-  or_first true b e = refl
-  or_first false b e = absurd (true≢false (sym e))
-
   least_first : IsNoColumn (some_has (take n classes)) → IsLeastColumn (some_has (take (n + 1) classes)) own
   least_first none = record {
-    is = more own ∙ or_second (some_has (take n classes) own) (has class own) held;
+    is = more own ∙ or_right (some_has (take n classes) own) (has class own) held;
     first = λ other h before. elim (or_cases (some_has (take n classes) other) (has class other) (sym (more other)
         ∙ h)) [
           | inl e ↦ true≢false (sym e ∙ none other)
@@ -101,9 +90,9 @@ module _ (classes : List Class) (n : ℕ) (class : Class) (within : n < length c
   }
     where
       held_by : (lesser ≡ column) ⊎ (lesser ≡ own) → (some_has (take n classes) lesser || has class lesser) ≡ true
-      held_by (inl e) = or_first (some_has (take n classes) lesser) (has class lesser)
+      held_by (inl e) = or_left (some_has (take n classes) lesser) (has class lesser)
           (ap (some_has (take n classes)) e ∙ so_far.is)
-      held_by (inr e) = or_second (some_has (take n classes) lesser) (has class lesser) (ap (has class) e ∙ held)
+      held_by (inr e) = or_right (some_has (take n classes) lesser) (has class lesser) (ap (has class) e ∙ held)
 
   pub least_more : (best : Option (List Sym)) (result : List Sym) → IsLeastOf (take n classes) best
       → MatchOption best (result ≡ own) (λ column. IsLesser column own result)

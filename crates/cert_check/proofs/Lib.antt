@@ -1,15 +1,12 @@
 pub mod Faultless
 pub mod Parts
 pub mod Heads
-pub mod Grammars
 pub mod Stops
 pub mod Opens
 pub mod Cuts
-pub mod KindTies
 pub mod Decisions
 pub mod DecidedForms
 pub mod DecidedMoves
-pub mod KindMasks
 pub mod Ascending
 pub mod Certifying
 pub mod OneFault
@@ -30,9 +27,7 @@ pub mod AlikeMoves
 pub mod Sets
 pub mod TestLemmas
 pub mod FitSteps
-pub mod BitSteps
-pub mod NextSteps
-pub mod CostSteps
+pub mod KindMasks
 pub mod FlagSteps
 pub mod FittingSteps
 pub mod GoAlike

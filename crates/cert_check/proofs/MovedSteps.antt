@@ -1,6 +1,6 @@
 -- The kind to which a column leads, by its bits, and what a column costs.
 use Rattle.std.proofs.Common.{◌≡◌, ℕ, ◌+◌, ◌-◌, ◌^◌, ◌<◌, ◌≤◌, Bool, cond, List, ◌++◌, filter, map, drop, take, length, get_or, sym, ap, ◌∙◌, subst, arith, length-take}
-use Rattle.std.proofs.lemmas.List.{get_or-take, get_or_default}
+use Rattle.std.proofs.lemmas.List.{get_or-take, get_or_default, take-take}
 use Rattle.std.proofs.lemmas.List.Elements.{All-from_recursion}
 use Rattle.tier_core.specs.declared.constraint.Constraint.{Constraint}
 use Rattle.tier_core.specs.declared.kind.Kind.{Kind}
@@ -16,14 +16,14 @@ use Rattle.violation.specs.Conditions.{IsOverTiers}
 use Rattle.violation.specs.Moves.{cost_of, costs, first_phase, is_tier_open, is_unmet_phase, moved, next_phases}
 use Rattle.violation.specs.Prefixes.{kind_of_bits, stretches}
 use Rattle.violation.specs.Problems.{Problem, last_place, last_stage}
+use Rattle.violation.proofs.ConstraintCosts.{cost_at, unmet_told}
 use Rattle.violation.proofs.CostLemmas.{costs_agree}
-use Rattle.violation.proofs.WalkLemmas.{same_kind}
+use Rattle.tier_core.proofs.KindTies.{same_parts}
 use Rattle.cert_check.specs.declared.subject.Subject.{Subject}
 use Rattle.cert_check.specs.Faults.{TellsKind}
 use Rattle.cert_check.specs.Opens.{is_open_by}
 use Rattle.cert_check.specs.Subjects.{IsReady, problem_of}
-use Rattle.cert_check.proofs.CostSteps.{cost_at, take_less, unmet_told}
-use Rattle.cert_check.proofs.Grammars.{over_tiers}
+use Rattle.grammar_reader.proofs.OverTiers.{over_tiers}
 use Rattle.cert_check.proofs.Subjects.{each_event, mask_agrees, stretch_same, stage_in}
 
 -- bits that have the parts of the kind to which a column leads tell it
@@ -37,7 +37,7 @@ pub moved_told : (problem : Problem) (stage : ℕ) (kind result : Kind) (column 
     → AreStretchesBelow (length (filter is_stretch first)) result
     → TellsKind problem stage result (moved problem stage (kind_of_bits problem stage kind) column)
 moved_told problem stage kind result column input free first place opened ei ef ec p q o f l ph st = record {
-  tells = same_kind _ _ _ _ _ _ (p ∙ q ∙ ap (λ ts. kind.place + cond (has_edge (map (symbol column) ts)) 1 0) ei)
+  tells = same_parts _ _ _ _ _ _ (p ∙ q ∙ ap (λ ts. kind.place + cond (has_edge (map (symbol column) ts)) 1 0) ei)
       (ap (open_tiers (length problem.tiers.free)) o ∙ ap (λ (ts : List ℕ). open_tiers (length ts) opened) (sym ef) ∙ f
       ∙ ap (map (λ t. opens (symbol column t))) ef)
       (ap (λ cs. phases (length (filter is_stretch cs)) result) (sym ec) ∙ ph
@@ -76,7 +76,7 @@ module _ (s : Subject) (ready : IsReady s) (stage : ℕ) (within : stage ≤ las
       let before : place ≡ length (filter is_stretch (take number (take stage cs))) =
       count ∙ get_or_default s.shape.now.phases.items number place 0 (stage_in s ready number (omega arith))
       ∙ stretch_same s ready number (omega arith)
-      ∙ ap (λ xs. length (filter is_stretch xs)) (sym (take_less cs number stage (omega arith))) in
+      ∙ ap (λ xs. length (filter is_stretch xs)) (sym (take-take number stage cs (omega arith))) in
       let below : kind.unmet < 2 ^ length (stretches (problem_of s) stage) =
       subst (λ n. kind.unmet < 2 ^ n) (stretch_same s ready stage within) fits.stretches.unmet in
       ap (λ x. cond x 1 0)

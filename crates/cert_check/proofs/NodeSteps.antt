@@ -1,6 +1,5 @@
 -- The faults of one node: of its potential, and of its moves.
-use Rattle.std.proofs.Common.{◌≡◌, ◌≢◌, ℕ, zero, suc, ◌+◌, ◌<◌, ◌≤◌, true, false, IsTrue, List, [], ◌∷◌, length, get_or, Some, refl, sym, ap, ◌∙◌, subst, arith, ⊎_elim, inl, inr}
-use Rattle.std.specs.Prelude.{unwrap_or}
+use Rattle.std.proofs.Common.{◌≡◌, ◌≢◌, ℕ, zero, suc, ◌+◌, ◌<◌, ◌≤◌, true, false, IsTrue, List, [], ◌∷◌, length, get_or, refl, sym, ap, ◌∙◌, subst, arith, ⊎_elim, inl, inr}
 use Rattle.std.specs.List.Sorted.{IsStrictlySortedBy}
 use Rattle.std.proofs.lemmas.Bool.{cases_lt, false≢true, both_ways, or_cases}
 use Rattle.std.proofs.lemmas.List.{get_or_default, get_or-map, length-map}
@@ -33,9 +32,7 @@ use Rattle.cert_check.specs.Parts.{InNode, IsWrongMove}
 use Rattle.cert_check.specs.Places.{IsBefore, column_place}
 use Rattle.cert_check.proofs.ColumnPlaces.{before_or, not_both_before, not_after_is}
 use Rattle.cert_check.proofs.Parts.{none_before}
-
-some_same : {X : Type 0} {x y : X} → Some x ≡ Some y → x ≡ y
-some_same {x = x} e = ap (λ o. unwrap_or o x) e
+use Rattle.cert_check.proofs.Faultless.{some_same}
 
 -- a number is that of one node
 pub one_node : (answer : Answer) (stage n : ℕ) (a b : Node) → HasNode answer stage n a → HasNode answer stage n b → a
@@ -47,11 +44,6 @@ module _ (problem : Problem) (answer : Answer) (stage n : ℕ) (node : Node) (is
   kind = kind_of_bits problem stage node.kind
 
   -- ---- the potential of a final node
-
-  pub right_where_none : node.potential ≡ 0 → IsRightPart problem answer stage n 0
-  right_where_none e rest w =
-      let h = w.1.0 in
-      h.differs (h.listed_is ∙ ap (λ (x : Node). x.potential) (one_node answer stage n h.node node h.is is) ∙ e)
 
   pub right_where_open : is_final problem (kind_of_bits problem stage node.kind) ≡ false
       → IsRightPart problem answer stage n 0

@@ -8,6 +8,7 @@ use Rattle.tier_core.specs.declared.kind.Kind.{Kind}
 use Rattle.tier_core.specs.Classes.{has}
 use Rattle.tier_core.specs.Kinds.{PrefixKind, kind_order}
 use Rattle.tier_core.specs.Symbols.{rank}
+use Rattle.tier_core.proofs.SetLemmas.{rank_same}
 use Rattle.violation.specs.Moves.{moved, cost_of}
 use Rattle.violation.specs.Prefixes.{kind_of_bits}
 use Rattle.violation.specs.Problems.{Problem, last_stage}
@@ -24,10 +25,10 @@ use Rattle.cert_check.specs.declared.fault.Fault.TheVariants.{FormWrong, StageMi
 use Rattle.cert_check.specs.Places.{IsBefore, column_place, at_node, at_move, at_twice, at_arcs}
 use Rattle.cert_check.specs.Faults.{LacksStage, HasWrongCount, HasNode, HasWrongNode, HasFinalPotential, IsNotClosed, HasHighPotential, HasWrongStart, HasState, LacksTarget, HasWrongMark, HasTwice, IsListedTarget, IsKeptTarget, HasWrongArcs, TellsKind}
 use Rattle.cert_check.specs.FirstFaults.{IsFault, IsFirstFault}
-use Rattle.cert_check.proofs.Decisions.{so_unless, same_rank}
+use Rattle.cert_check.proofs.Decisions.{so_unless}
 use Rattle.cert_check.proofs.Faultless.{some_same}
 use Rattle.cert_check.proofs.Ascending.{ascends_unless}
-use Rattle.cert_check.proofs.KindMasks.{one_told}
+use Rattle.cert_check.proofs.KindMasks.{same_told}
 
 -- ---- places are in one order
 
@@ -58,7 +59,7 @@ same_column (s ∷ c) [] e = cc
 same_column (s ∷ c) (t ∷ d) e =
     let head : rank s ≡ rank t = cc in
     let tail : column_place c ≡ column_place d = cc in
-    ap₂ (λ x xs. x ∷ xs) (same_rank s t head) (same_column c d tail)
+    ap₂ (λ x xs. x ∷ xs) (rank_same s t head) (same_column c d tail)
 
 -- ---- what is at a place
 
@@ -193,7 +194,7 @@ module _ (problem : Problem) (answer : Answer) where
 
     one_missing : (kind other : Kind) → IsNotClosed problem answer stage n column kind
         → IsNotClosed problem answer stage n column other → kind ≡ other
-    one_missing kind other a b = one_told problem stage kind other (next b.node)
+    one_missing kind other a b = same_told problem stage kind other (next b.node)
         (subst (λ x. TellsKind problem stage kind (next x)) (one_node stage n a.node b.node a.is b.is) a.leads) b.leads
 
     not_both : (kind : Kind) (listed allowed : ℕ) → IsNotClosed problem answer stage n column kind

@@ -1,5 +1,5 @@
 -- Where the nodes of a stage stand.
-use Rattle.std.proofs.Common.{◌≡◌, ℕ, zero, suc, ◌+◌, ◌-◌, ◌<◌, ◌≤◌, List, [], ◌∷◌, length, slice_get, Some, None, Option, refl, sym, ap, ◌∙◌, subst, arith, inl, inr, Contains}
+use Rattle.std.proofs.Common.{◌≡◌, ℕ, ◌+◌, ◌-◌, ◌<◌, ◌≤◌, List, [], ◌∷◌, length, slice_get, Some, None, Option, refl, sym, ap, ◌∙◌, subst, arith, inl, inr, Contains}
 use Rattle.std.specs.declared.cmp.Ordering.TheVariants.{Less}
 use Rattle.std.proofs.lemmas.List.{length-map}
 use Rattle.std.proofs.lemmas.Map.Keys.{sorted_from_all_adjacent}
@@ -10,7 +10,7 @@ use Rattle.violation.specs.Prefixes.{kind_of, kind_of_bits}
 use Rattle.violation.specs.Problems.{Problem, last_stage}
 use Rattle.answer_text.specs.declared.stage.Node.{Node}
 use Rattle.answer_text.specs.Certified.{IsPossibleKind}
-use Rattle.check_laws.proofs.Listing.{kinds_total}
+use Rattle.tier_core.proofs.KindTies.{kind_order_total}
 use Rattle.cert_check.specs.declared.subject.Subject.{Subject}
 use Rattle.cert_check.specs.declared.fault.Fault.TheVariants.{NodeWrong}
 use Rattle.cert_check.specs.Faults.{HasNode, IsInOrder, HasWrongNode}
@@ -20,11 +20,7 @@ use Rattle.cert_check.specs.Subjects.{IsReady, AreInOrder, problem_of, nodes_of,
 use Rattle.cert_check.proofs.Faultless.{node_kind as kind_of_node}
 use Rattle.cert_check.proofs.Parts.{none_before}
 use Rattle.cert_check.proofs.Subjects.{in_stages}
-
-none_there : (nodes : List Node) (m : ℕ) → m < length nodes → slice_get nodes m ≡ None → ⊥
-none_there [] m h e = absurd (omega arith)
-none_there (node ∷ nodes) zero h e = cc
-none_there (node ∷ nodes) (suc m) h e = none_there nodes m (omega arith) e
+use Rattle.cert_check.proofs.Ascending.{none_there}
 
 module _ (s : Subject) (stage : ℕ) where
   abbrev problem : Problem
@@ -53,7 +49,7 @@ module _ (s : Subject) (stage : ℕ) where
 
   -- nodes that all stand where they may ascend
   pub ascends_by : AreInOrder s stage (length (nodes_of s stage)) → AscendsAt s stage
-  ascends_by o = sorted_from_all_adjacent kinds_total (kinds_of s stage) (kind_of problem stage [])
+  ascends_by o = sorted_from_all_adjacent kind_order_total (kinds_of s stage) (kind_of problem stage [])
       (λ k l. let inside : k + 1 < length (nodes_of s stage) = omega (arith, l, kind_count) in
       subst (λ m. kind_order (node_kind s stage m) (node_kind s stage (k + 1)) ≡ Less) (omega arith)
       (after_by (k + 1) inside (o (k + 1) inside) (omega arith)))

@@ -8,13 +8,13 @@ use Rattle.std.proofs.lemmas.Bool.{cases_lt}
 use Rattle.std.proofs.lemmas.Cmp.{tied_itself}
 use Rattle.std.proofs.lemmas.Map.Keys.{Less-from_sorted}
 use Rattle.tier_core.specs.Kinds.{PrefixKind, kind_order}
-use Rattle.check_laws.proofs.Listing.{kinds_total, not_before_itself}
+use Rattle.tier_core.proofs.KindTies.{kind_order_total, not_before_itself}
 
 module _ (kinds : List PrefixKind) (key : PrefixKind) (sorted : IsStrictlySortedBy kind_order kinds) where
   pub all_below : (m : ℕ) → m < length kinds → kind_order (get_or kinds m key) key ≡ Less → (i : ℕ) → i < m + 1
       → kind_order (get_or kinds i key) key ≡ Less
   all_below m l e i h = ⊎_elim
-      (λ below. kinds_total.trans (get_or kinds i key) (get_or kinds m key) key
+      (λ below. kind_order_total.trans (get_or kinds i key) (get_or kinds m key) key
       (Less-from_sorted kind_order kinds i m key sorted below l) e)
       (λ above. let is : i ≡ m = omega arith in ap (λ n. kind_order (get_or kinds n key) key) is ∙ e)
       (cases_lt i m)
@@ -23,12 +23,12 @@ module _ (kinds : List PrefixKind) (key : PrefixKind) (sorted : IsStrictlySorted
       → i < length kinds → kind_order (get_or kinds i key) key ≡ Greater
   all_above m l e i h k = ⊎_elim
       (λ below.
-      let first : kind_order key (get_or kinds m key) ≡ Less = kinds_total.antisymm key (get_or kinds m key)
+      let first : kind_order key (get_or kinds m key) ≡ Less = kind_order_total.antisymm key (get_or kinds m key)
       ∙ ap ordering_reverse e in
       let later : kind_order key (get_or kinds i key)
-      ≡ Less = kinds_total.trans key (get_or kinds m key) (get_or kinds i key) first
+      ≡ Less = kind_order_total.trans key (get_or kinds m key) (get_or kinds i key) first
       (Less-from_sorted kind_order kinds m i key sorted below k) in
-      kinds_total.antisymm (get_or kinds i key) key ∙ ap ordering_reverse later)
+      kind_order_total.antisymm (get_or kinds i key) key ∙ ap ordering_reverse later)
       (λ above. let is : i ≡ m = omega arith in ap (λ n. kind_order (get_or kinds n key) key) is ∙ e)
       (cases_lt m i)
 
@@ -38,7 +38,7 @@ module _ (kinds : List PrefixKind) (key : PrefixKind) (sorted : IsStrictlySorted
       (λ l. not_before_itself key (ap (λ k. kind_order k key) (sym c.2) ∙ below c.0 l))
       (λ g. let greater : kind_order key key ≡ Greater = ap (λ k. kind_order k key) (sym c.2)
       ∙ above c.0 (omega (arith, w, g)) c.1 in
-      true≢false (sym (ap is_eq (tied_itself kinds_total key)) ∙ ap is_eq greater))
+      true≢false (sym (ap is_eq (tied_itself kind_order_total key)) ∙ ap is_eq greater))
       (cases_lt c.0 low)
 
 less_told : (o : Ordering) → is_lt o ≡ true → o ≡ Less

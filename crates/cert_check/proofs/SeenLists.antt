@@ -2,7 +2,7 @@
 use Rattle.std.proofs.Common.{◌≡◌, ℕ, List, map, refl, ap, sym, ◌∙◌, subst, Contains, slice_get, Some, None, Option}
 use Rattle.std.specs.Option.{option_map}
 use Rattle.std.proofs.lemmas.Option.{slice_get-map}
-use Rattle.check_laws.proofs.Members.{contains_map, contains_of_map}
+use Rattle.tier_core.proofs.Members.{contains_map, contains_of_map}
 
 some_of : {X V : Type 0} (f : X → V) (o : Option X) (v : V) → option_map f o ≡ Some v
     → (y : X) × ((o ≡ Some y) × (f y ≡ v))

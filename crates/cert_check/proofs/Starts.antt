@@ -1,52 +1,39 @@
 -- The kind of the empty prefix, by its bits, and at node 0 of a stage.
-use Rattle.std.proofs.Common.{◌≡◌, ◌↔◌, ℕ, zero, suc, ◌==◌, ◌<◌, ◌≤◌, IsTrue, Bool, true, false, List, [], ◌∷◌, map, length, slice_get, Some, refl, sym, ap, ap₂, ◌∙◌, subst, arith}
+use Rattle.std.proofs.Common.{◌≡◌, ◌↔◌, ℕ, zero, suc, ◌<◌, ◌≤◌, IsTrue, Bool, false, List, [], ◌∷◌, map, length, slice_get, Some, refl, sym, ap, ap₂, ◌∙◌, subst, arith}
 use Rattle.std.specs.List.{AllByRecursion, range_with_len}
 use Rattle.std.specs.Ordering.{is_eq}
 use Rattle.std.specs.declared.cmp.Ordering.{Ordering}
-use Rattle.std.specs.declared.cmp.Ordering.TheVariants.{Less, Equal, Greater}
-use Rattle.std.proofs.lemmas.Bool.{false≢true}
 use Rattle.std.proofs.lemmas.Cmp.{tied_itself}
-use Rattle.std.proofs.lemmas.Nat.Bits.{bit_at-zero}
 use Rattle.tier_core.specs.declared.constraint.Constraint.{Constraint}
-use Rattle.tier_core.specs.declared.event.Event.{Event}
 use Rattle.tier_core.specs.declared.kind.Kind.{Kind}
 use Rattle.tier_core.specs.Kinds.{Phase, closed, PrefixKind, open_tiers, phase_at, phases, phase_by_bits, kind_order}
 use Rattle.tier_core.specs.Tiers.{has_tier}
 use Rattle.violation.specs.Conditions.{IsOverTiers}
 use Rattle.violation.specs.Prefixes.{kind_of, kind_of_bits, phase, stretches}
 use Rattle.violation.specs.Problems.{Problem, last_stage}
-use Rattle.check_laws.proofs.Listing.{kinds_total}
+use Rattle.violation.proofs.ClosedPhases.{closed_first}
 use Rattle.cert_check.specs.declared.fault.Fault.TheVariants.{StartMissing}
 use Rattle.cert_check.specs.declared.subject.Subject.{Subject}
 use Rattle.cert_check.specs.Faults.{IsInOrder}
 use Rattle.cert_check.specs.Parts.{InStage, IsFirstInStage}
 use Rattle.cert_check.specs.Subjects.{IsReady, AreInOrder, problem_of, nodes_of, kinds_of}
-use Rattle.cert_check.proofs.KindTies.{same_kind}
+use Rattle.tier_core.proofs.KindTies.{same_kind, kind_order_total, is_equal}
 use Rattle.cert_check.proofs.Orders.{numbered_is}
 use Rattle.cert_check.proofs.Parts.{none_before}
-use Rattle.cert_check.proofs.Subjects.{in_stages, tell_same, each_first}
-use Rattle.cert_check.proofs.Grammars.{over_tiers}
+use Rattle.cert_check.proofs.Subjects.{in_stages, tell_same}
+use Rattle.grammar_reader.proofs.OverTiers.{over_tiers}
 use Rattle.std.proofs.lemmas.List.FromFn.{length-range_with_len}
 use Rattle.std.proofs.lemmas.Option.{slice_get_within}
 use Rattle.tier_core.specs.KindShapes.{kind_in}
 use Rattle.tier_core.specs.Sides.{is_stretch}
-
--- bits of which none is set
-abbrev pub nothing_read : Kind
-nothing_read = record { place = 0; opened = 0; unmet = 0; met = 0; apart = refl }
-
-no_bit : (i : ℕ) → has_tier 0 i ≡ false
-no_bit i = ap (λ n. n == 1) (bit_at-zero i)
+use Rattle.tier_core.proofs.Members.{all_first}
+use Rattle.tier_core.proofs.MaskBits.{no_bit}
 
 none_open : (ns is : List ℕ) → length ns ≡ length is → map (has_tier 0) is ≡ map (λ (t : ℕ). false) ns
 none_open [] [] e = refl
 none_open [] (i ∷ is) e = absurd (omega arith)
 none_open (n ∷ ns) [] e = absurd (omega arith)
 none_open (n ∷ ns) (i ∷ is) e = ap₂ (λ b bs. b ∷ bs) (no_bit i) (none_open ns is (omega arith))
-
-closed_first : (left right : List Event) → 0 < length left → phase left right [] ≡ closed
-closed_first [] right l = absurd (omega arith)
-closed_first (e ∷ es) right l = refl
 
 module _ (kind : Kind) (unmet : kind.unmet ≡ 0) (met : kind.met ≡ 0) where
   closed_at : (i : ℕ) → phase_at kind i ≡ closed
@@ -61,16 +48,11 @@ module _ (kind : Kind) (unmet : kind.unmet ≡ 0) (met : kind.met ≡ 0) where
   all_closed (c ∷ cs) (i ∷ is) e h = ap₂ (λ p ps. p ∷ ps) (closed_at i ∙ sym (closed_first c.left c.right h.0))
       (all_closed cs is (omega arith) h.1)
 
-equal_told : (o : Ordering) → is_eq o ≡ true → o ≡ Equal
-equal_told Less h = absurd (false≢true h)
-equal_told Equal h = refl
-equal_told Greater h = absurd (false≢true h)
-
 -- kinds tie exactly where they are one
 pub tie_is : (k l : PrefixKind) → IsTrue (is_eq (kind_order k l)) ↔ (k ≡ l)
 tie_is k l = (
-  λ h. same_kind k l (equal_told (kind_order k l) h),
-  λ e. ap is_eq (ap (λ x. kind_order k x) (sym e) ∙ tied_itself kinds_total k),
+  λ h. same_kind k l (is_equal (kind_order k l) h),
+  λ e. ap is_eq (ap (λ x. kind_order k x) (sym e) ∙ tied_itself kind_order_total k),
 )
 
 each_left : (n : ℕ) (cs : List Constraint) → AllByRecursion (IsOverTiers n) cs
@@ -84,7 +66,7 @@ module _ (s : Subject) (stage : ℕ) where
 
   lefts : AllByRecursion (λ c. 0 < length c.left) (stretches problem stage)
   lefts = each_left (length s.grammar.now.tiers.kinds.items) (stretches problem stage)
-      (each_first (IsOverTiers (length s.grammar.now.tiers.kinds.items)) is_stretch problem.constraints stage
+      (all_first (IsOverTiers (length s.grammar.now.tiers.kinds.items)) is_stretch problem.constraints stage
       (over_tiers s.grammar.now))
 
   -- bits of which none is set tell the kind of the empty prefix

@@ -42,11 +42,6 @@ module _ (problem : Problem) (answer : Answer)
   line_of state (suc (suc (suc zero))) rest w = (w.1.1.1.0.line, w.1.1.1.0.is)
   line_of state (suc (suc (suc (suc part)))) rest w = absurd w
 
-  -- the first states are right
-  abbrev AreRightTo : ℕ → Type 0
-  AreRightTo count = (n : ℕ) (line : StateLine) → n < count
-      → slice_get answer.automaton.states.items n ≡ Some line → IsRightState problem answer line.node
-
   numbered : (line : StateLine) (h : Contains states line) → slice_get states h.0 ≡ Some line
   numbered line h = slice_get-get_or states h.0 line h.1 ∙ ap (λ (x : StateLine). Some x) h.2
 

@@ -1,5 +1,5 @@
 -- What is known of an answer when its stages are looked at.
-use Rattle.std.proofs.Common.{◌≡◌, ◌↔◌, ℕ, zero, suc, ◌+◌, ◌-◌, ◌^◌, ◌<◌, ◌≤◌, ◌&&◌, not, cond, Bool, true, false, List, [], ◌∷◌, map, filter, take, length, get_or, refl, sym, ap, ap₂, ◌∙◌, subst, arith, All}
+use Rattle.std.proofs.Common.{◌≡◌, ◌↔◌, ℕ, ◌+◌, ◌-◌, ◌^◌, ◌<◌, ◌≤◌, ◌&&◌, not, Bool, List, [], ◌∷◌, map, filter, take, length, get_or, refl, sym, ap, ap₂, ◌∙◌, subst, arith, All}
 use Rattle.std.specs.List.{AllByRecursion, list_all}
 use Rattle.std.proofs.lemmas.List.{get_or-map, get_or_default, get_or-take, length-take-le}
 use Rattle.std.proofs.lemmas.List.Elements.{All-from_recursion}
@@ -15,8 +15,8 @@ use Rattle.tier_core.specs.Kinds.{AreStretchesBelow, Phase, closed, PrefixKind, 
 use Rattle.tier_core.specs.KindShapes.{free_count, stretch_count, kind_in, FitsShape}
 use Rattle.tier_core.specs.Tiers.{has_tier, is_input}
 use Rattle.tier_core.proofs.TableMasks.{free_tiers}
-use Rattle.std.proofs.lemmas.List.Filters.{length-filter_more}
-use Rattle.grammar_reader.proofs.Shaping.{length-stretch_counts}
+use Rattle.tier_core.proofs.Members.{all_first}
+use Rattle.grammar_reader.proofs.Shaping.{length-stretch_counts, count_rises}
 use Rattle.violation.specs.Conditions.{AreTiersBelow, IsOverTiers}
 use Rattle.violation.specs.Moves.{is_tier_open, cut}
 use Rattle.violation.specs.Phases.{is_left_open, AreClosedOr}
@@ -32,21 +32,8 @@ use Rattle.cert_check.specs.Opens.{is_open_by, inputs_before}
 use Rattle.cert_check.specs.Possible.{all_open_in}
 use Rattle.cert_check.specs.Searches.{told_in}
 use Rattle.cert_check.specs.Subjects.{IsReady, problem_of, nodes_of, kinds_of, node_kind}
-use Rattle.cert_check.proofs.Grammars.{over_tiers}
+use Rattle.grammar_reader.proofs.OverTiers.{over_tiers}
 use Rattle.cert_check.proofs.Opens.{open_told, length-numbers, all_inputs}
-
--- one constraint more has no fewer stretch implications
-not_below : (t : Bool) → 0 ≤ cond t 1 0
-not_below true = omega arith
-not_below false = omega arith
-
-count_rises : (xs : List Constraint) (r : ℕ) → r < length xs
-    → length (filter is_stretch (take r xs)) ≤ length (filter is_stretch (take (r + 1) xs))
-count_rises [] r k = absurd (omega arith)
-count_rises (x ∷ xs) r k =
-    let e = length-filter_more is_stretch (x ∷ xs) r x k in
-    let b = not_below (is_stretch (get_or (x ∷ xs) r x)) in
-    omega (arith, e, b)
 
 -- ---- masks that agree with the open tiers
 
@@ -66,17 +53,6 @@ closed_agree f g [] [] h a = tt
 closed_agree f g [] (p ∷ ps) h a = a
 closed_agree f g (c ∷ cs) [] h a = a
 closed_agree f g (c ∷ cs) (p ∷ ps) h a = (a.0 ∙ ap not h.0, closed_agree f g cs ps h.1 a.1)
-
-pub each_first : (P : Constraint → Type 0) (test : Constraint → Bool) (xs : List Constraint) (n : ℕ)
-    → AllByRecursion P xs → AllByRecursion P (filter test (take n xs))
-each_first P test xs zero h = tt
-each_first P test [] (suc n) h = tt
-each_first P test (x ∷ xs) (suc n) h = own (test x) (each_first P test xs n h.1)
-  where
-    own : (b : Bool) → AllByRecursion P (filter test (take n xs))
-        → AllByRecursion P (cond b (x ∷ filter test (take n xs)) (filter test (take n xs)))
-    own true r = (h.0, r)
-    own false r = r
 
 agree_each : (n : ℕ) (f g : ℕ → Bool) → ((t : ℕ) → t < n → f t ≡ g t) → (cs : List Constraint)
     → AllByRecursion (IsOverTiers n) cs
@@ -138,7 +114,7 @@ module _ (s : Subject) (ready : IsReady s) (stage : ℕ) (within : stage ≤ las
         l)
 
     over : AllByRecursion (IsOverTiers (length s.grammar.now.tiers.kinds.items)) (stretches problem stage)
-    over = each_first (IsOverTiers (length s.grammar.now.tiers.kinds.items)) is_stretch problem.constraints stage
+    over = all_first (IsOverTiers (length s.grammar.now.tiers.kinds.items)) is_stretch problem.constraints stage
         (over_tiers s.grammar.now)
 
     -- a kind is possible where its phases are closed as the mask of its open tiers tells

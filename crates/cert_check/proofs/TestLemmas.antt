@@ -14,6 +14,7 @@ use Rattle.tier_core.specs.Classes.{sets_of, has}
 use Rattle.tier_core.specs.Kinds.{Phase, closed, unmet, met}
 use Rattle.tier_core.specs.Sides.{has_edge_type, edge_among, is_stretch, is_implication}
 use Rattle.tier_core.specs.Timelines.{symbol, is_edge}
+use Rattle.tier_core.proofs.Bools.{none_of}
 use Rattle.violation.specs.Columns.{is_present, opens_interior, opens_all, edge_cost}
 use Rattle.violation.specs.Moves.{next_phase, costs, is_met_phase, is_unmet_phase}
 use Rattle.cert_check.specs.declared.boxes.Asked.{Asked}
@@ -25,10 +26,6 @@ use Rattle.cert_check.specs.Tests.{AddsTests}
 -- what is asked of a column on the tiers of some types
 abbrev pub all_so : Asked → List Event → List Sym → Bool
 all_so asked types column = list_all (λ e. is_so asked e.part (symbol column e.tier)) types
-
-none_of : (a b : Bool) → (not a && not b) ≡ not (a || b)
-none_of true b = refl
-none_of false b = refl
 
 not_same : (a b : Bool) → not a ≡ not b → a ≡ b
 not_same true true e = refl

@@ -1,5 +1,5 @@
 -- Moves that are tight at a stage, by what is listed there.
-use Rattle.std.proofs.Common.{◌≡◌, ◌↔◌, ℕ, zero, suc, ◌+◌, ◌==◌, ◌<◌, ◌≤◌, ◌^◌, Bool, true, false, cond, IsTrue, List, [], ◌∷◌, length, filter, take, get_or, slice_get, Some, refl, sym, ap, ◌∙◌, subst, arith, eq-eqb, eqb-true, Contains}
+use Rattle.std.proofs.Common.{◌≡◌, ◌↔◌, ℕ, zero, suc, ◌+◌, ◌==◌, ◌<◌, ◌≤◌, ◌^◌, Bool, true, false, cond, IsTrue, List, [], ◌∷◌, length, filter, take, get_or, slice_get, Some, refl, sym, ap, ◌∙◌, subst, arith, eq-eqb, eqb-true}
 use Rattle.std.proofs.lemmas.Bool.{false≢true}
 use Rattle.std.proofs.lemmas.List.{get_or-map, get_or_default, length-map}
 use Rattle.std.proofs.lemmas.List.Elements.{Contains-get_or}
@@ -18,7 +18,6 @@ use Rattle.answer_text.specs.declared.stage.Stage.{Stage}
 use Rattle.answer_text.specs.Right.{nodes_at, kinds_at}
 use Rattle.answer_text.specs.Certified.{IsTightAt, Lists}
 use Rattle.check_laws.proofs.Listing.{one_potential}
-use Rattle.check_laws.proofs.Members.{contains_map}
 use Rattle.cert_check.specs.declared.subject.Subject.{Subject}
 use Rattle.cert_check.specs.Faults.{IsUnlisted, TellsKind}
 use Rattle.cert_check.specs.Fitting.{GoOnAlike}
@@ -70,12 +69,6 @@ module _ (problem : Problem) (stages : List Stage) (j : ℕ) where
       ))
       by (d ∷ ns) is = lists_at k n p d e (same d)
 
-  -- a kind that no node tells is not listed
-  pub unlisted_by : (k : PrefixKind) → (Contains (kinds_at problem j (nodes_at stages j)) k → ⊥)
-      → IsUnlisted problem stages j k
-  unlisted_by k none p l = none (subst (Contains (kinds_at problem j (nodes_at stages j))) l.tells
-      (contains_map (λ (node : Node). kind_of_bits problem j node.kind) (nodes_at stages j) l.node l.listed))
-
 -- ---- tight moves
 
 module _ (s : Subject) (j : ℕ) (ascends : AscendsAt s j) (k : PrefixKind) (column : List Sym) where
@@ -101,10 +94,6 @@ module _ (s : Subject) (j : ℕ) (ascends : AscendsAt s j) (k : PrefixKind) (col
         (moved (problem_of s) j (cut (problem_of s) j k) column) after t.after arrives t.arrives in
         omega (arith, first, last, t.falls, e)),
   )
-
-  pub never_left : IsUnlisted (problem_of s) stages j (cut (problem_of s) j k)
-      → IsTrue false ↔ IsTightAt (problem_of s) stages j k column
-  never_left none = (λ h. absurd (false≢true h), λ t. absurd (none t.before t.leaves))
 
   pub never_reached : IsUnlisted (problem_of s) stages j (moved (problem_of s) j (cut (problem_of s) j k) column)
       → IsTrue false ↔ IsTightAt (problem_of s) stages j k column

@@ -1,19 +1,15 @@
 -- Lists of arcs: the columns that are in two of them, and those on which two lists lead to different
 -- targets; and the least of some columns.
-use Rattle.std.specs.Prelude.{ℕ, ◌==◌, ◌≡◌, ◌&&◌, ◌||◌, ◌⊎◌, not, Bool, false, IsTrue, List, [], ◌∷◌, map}
+use Rattle.std.specs.Prelude.{ℕ, ◌==◌, ◌≡◌, ◌&&◌, ◌||◌, ◌⊎◌, not, Bool, false, IsTrue, List, [], ◌∷◌}
 use Rattle.std.specs.List.{list_any}
 use Rattle.std.specs.Ordering.{is_gt}
 use Rattle.tier_core.specs.declared.sym.Sym.{Sym}
-use Rattle.tier_core.specs.declared.class.Class.{Class}
 use Rattle.tier_core.specs.Classes.{has}
 use Rattle.tier_core.specs.Orders.{column_cmp}
 use Rattle.symbol_class.specs.Held.{some_has}
 use Rattle.answer_text.specs.declared.automaton.ArcLine.{ArcLine}
+use Rattle.answer_text.specs.ArcClasses.{arc_classes}
 use Rattle.cert_check.specs.Places.{IsBefore, column_place}
-
--- the classes of arcs
-abbrev pub arc_classes : List ArcLine → List Class
-arc_classes arcs = map (λ arc. arc.class) arcs
 
 -- whether a column is in two arcs
 abbrev pub is_twice : List ArcLine → List Sym → Bool

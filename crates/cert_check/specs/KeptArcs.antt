@@ -5,7 +5,7 @@ use Rattle.violation.specs.Prefixes.{kind_of_bits}
 use Rattle.answer_text.specs.declared.automaton.ArcLine.{ArcLine}
 use Rattle.cert_check.specs.declared.kept_piece.KeptPiece.{KeptPiece}
 use Rattle.cert_check.specs.declared.subject.Subject.{Subject}
-use Rattle.cert_check.specs.Arcs.{arc_classes}
+use Rattle.answer_text.specs.ArcClasses.{arc_classes}
 use Rattle.cert_check.specs.Kept.{classes_of}
 use Rattle.cert_check.specs.Subjects.{problem_of, kinds_of}
 

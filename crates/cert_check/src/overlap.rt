@@ -2,7 +2,8 @@ ghost use Rattle.std.specs.Prelude.{◌≡◌, ℕ, ◌+◌, ◌<◌, ◌&&◌, 
 ghost use Rattle.tier_core.specs.Classes.{has, sets_of};
 ghost use Rattle.answer_text.specs.declared.automaton.ArcLine.{ArcLine};
 ghost use Rattle.symbol_class.specs.Held.{some_has};
-ghost use Rattle.cert_check.specs.Arcs.{IsLeastColumn, IsNoColumn, arc_classes, is_twice};
+ghost use Rattle.answer_text.specs.ArcClasses.{arc_classes};
+ghost use Rattle.cert_check.specs.Arcs.{IsLeastColumn, IsNoColumn, is_twice};
 ghost use Rattle.cert_check.specs.Gathered.{AddsColumns};
 
 use crate::least::least_of;

@@ -1,21 +1,17 @@
 -- Prefixes along which the potentials of a right answer fall go on to optimal candidates.
-use Rattle.std.proofs.Common.{◌≡◌, ℕ, zero, suc, ◌-◌, ◌<◌, ◌≤◌, List, [], ◌∷◌, ◌++◌, length, sym, ap, ◌∙◌, subst, arith, inl, inr}
+use Rattle.std.proofs.Common.{◌≡◌, ℕ, zero, suc, ◌-◌, ◌<◌, ◌≤◌, List, [], ◌∷◌, ◌++◌, sym, ap, ◌∙◌, subst, arith, inl, inr}
 use Rattle.std.specs.List.{AllByRecursion}
 use Rattle.std.proofs.lemmas.Bool.{cases_lt}
 use Rattle.std.proofs.lemmas.List.Elements.{All-contains}
 use Rattle.tier_core.specs.declared.sym.Sym.{Sym}
-use Rattle.tier_core.specs.declared.constraint.Constraint.{Constraint}
-use Rattle.tier_core.specs.Kinds.{PrefixKind, prefix_kind}
-use Rattle.tier_core.specs.Tiers.{Tiers}
-use Rattle.violation.specs.Candidates.{IsForm, IsCandidate, vec, IsOptimalFor, counts_on}
+use Rattle.tier_core.specs.Kinds.{PrefixKind}
+use Rattle.violation.specs.Candidates.{IsForm, IsCandidate, IsOptimalFor, counts_on}
 use Rattle.violation.specs.Conditions.{AreSplit, IsOverTiers}
-use Rattle.violation.specs.Moves.{cut}
-use Rattle.violation.specs.Prefixes.{kind_of, stretches, kind_of_bits}
+use Rattle.violation.specs.Prefixes.{kind_of, kind_of_bits}
 use Rattle.violation.specs.Stages.{IsKindOfStage, IsRemaining}
 use Rattle.violation.specs.Walks.{BeginsCandidate}
 use Rattle.violation.proofs.CompletionLemmas.{completed}
 use Rattle.violation.proofs.CostLemmas.{exchange}
-use Rattle.violation.proofs.CutLemmas.{cut-kind_of}
 use Rattle.violation.proofs.PrefixLemmas.{IsBegun}
 use Rattle.violation.proofs.StageLemmas.{all_optimal, over_first}
 use Rattle.violation.proofs.WalkLemmas.{begun_of, begun_next}
@@ -28,8 +24,9 @@ use Rattle.check_laws.proofs.Listing.{lists_kind, kind_listed, first_listed}
 use Rattle.check_laws.proofs.Potentials.{FallsAlong, stage_at, over_at, falls_from_tight, falls_parts, falls_joined, listed_on, rest_cost, falls_from_sum}
 use Rattle.check_laws.proofs.Joining.{falls_alike}
 use Rattle.check_laws.proofs.Optima.{AllFall, AreTold, all_told}
-use Rattle.check_laws.proofs.Rests.{least_rest, HasRest, rest_some}
+use Rattle.check_laws.proofs.Rests.{HasRest, rest_some}
 use Rattle.violation.specs.Problems.{Problem, last_stage}
+use Rattle.violation.proofs.FewerStages.{same_fewer, least_rest}
 
 -- a right answer for a grammar and its form
 pub record IsGiven (problem : Problem) (answer : Answer) : Type 0 where
@@ -37,11 +34,6 @@ pub record IsGiven (problem : Problem) (answer : Answer) : Type 0 where
   pub over : AllByRecursion (IsOverTiers problem.tiers.width) problem.constraints
   pub form : IsForm problem.tiers problem.form
   pub right : IsRight problem answer
-
--- kinds that are the same under more constraints are so under fewer
-pub same_fewer : (problem : Problem) (j s : ℕ) → j ≤ s → (v p : List (List Sym))
-    → kind_of problem s v ≡ kind_of problem s p → kind_of problem j v ≡ kind_of problem j p
-same_fewer problem j s l v p e = sym (cut-kind_of problem j s l v) ∙ ap (cut problem j) e ∙ cut-kind_of problem j s l p
 
 module _ (problem : Problem) (answer : Answer) (given : IsGiven problem answer) where
   pub counts_are : answer.counts.items ≡ counts_on problem answer.example

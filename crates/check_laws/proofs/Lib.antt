@@ -1,4 +1,3 @@
-pub mod Members
 pub mod Listing
 pub mod Potentials
 pub mod Optima

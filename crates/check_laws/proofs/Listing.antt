@@ -1,40 +1,19 @@
 -- What a stage lists: each kind once, with one potential, at one node.
-use Rattle.std.proofs.Common.{◌≡◌, ℕ, ◌<◌, true, arith, List, [], ◌∷◌, map, length, get_or, refl, ap, sym, ◌∙◌, subst, inl, inr, Contains, Some, slice_get, true≢false}
-use Rattle.std.specs.Cmp.{IsTotalOrder}
+use Rattle.std.proofs.Common.{◌≡◌, ℕ, ◌<◌, arith, List, [], ◌∷◌, map, length, get_or, refl, ap, sym, ◌∙◌, subst, inl, inr, Contains, Some, slice_get}
 use Rattle.std.specs.List.Sorted.{IsStrictlySortedBy}
-use Rattle.std.specs.Ordering.{ordering_reverse, is_lt}
-use Rattle.std.specs.declared.cmp.Ordering.{Ordering}
-use Rattle.std.specs.declared.cmp.Ordering.TheVariants.{Less, Equal, Greater}
 use Rattle.std.proofs.lemmas.Bool.{cases_order}
-use Rattle.std.proofs.lemmas.Cmp.{nat_cmp_total, nat_list_cmp_total, on_total, then_total}
 use Rattle.std.proofs.lemmas.List.{get_or-map, get_or_default, length-map}
 use Rattle.std.proofs.lemmas.Map.Keys.{Less-from_sorted}
 use Rattle.std.proofs.lemmas.Option.{slice_get_within, slice_get-get_or, get_or_from_slice_get}
-use Rattle.tier_core.specs.declared.constraint.Constraint.{Constraint}
-use Rattle.tier_core.specs.Kinds.{PrefixKind, open_rank, phase_rank, prefix_kind, kind_order}
-use Rattle.tier_core.specs.Tiers.{Tiers}
-use Rattle.violation.specs.Prefixes.{stretches, kind_of_bits}
+use Rattle.tier_core.specs.Kinds.{PrefixKind, kind_order}
+use Rattle.tier_core.proofs.KindTies.{not_before_itself}
+use Rattle.violation.specs.Prefixes.{kind_of_bits}
 use Rattle.answer_text.specs.declared.stage.Node.{Node}
 use Rattle.answer_text.specs.declared.stage.Stage.{Stage}
 use Rattle.answer_text.specs.Right.{nodes_at, kinds_at, IsNodeOf}
 use Rattle.answer_text.specs.Certified.{Lists}
-use Rattle.check_laws.proofs.Members.{contains_map, contains_of_map}
+use Rattle.tier_core.proofs.Members.{contains_map, contains_of_map}
 use Rattle.violation.specs.Problems.{Problem, last_stage}
-
-pub kinds_total : IsTotalOrder kind_order
-kinds_total =
-    then_total (on_total (λ (k : PrefixKind). k.place) nat_cmp_total)
-    (then_total (on_total (λ (k : PrefixKind). map open_rank k.opened) nat_list_cmp_total)
-    (on_total (λ (k : PrefixKind). map phase_rank k.phases) nat_list_cmp_total))
-
-turned : (o : Ordering) → o ≡ ordering_reverse o → is_lt o ≡ true → ⊥
-turned Less e h = true≢false (ap is_lt e)
-turned Equal e h = true≢false (sym h)
-turned Greater e h = true≢false (sym h)
-
--- no kind comes before itself
-pub not_before_itself : (k : PrefixKind) → kind_order k k ≡ Less → ⊥
-not_before_itself k e = turned (kind_order k k) (kinds_total.antisymm k k) (ap is_lt e)
 
 -- in a list that ascends, a kind has one place
 one_place : (ks : List PrefixKind) → IsStrictlySortedBy kind_order ks → (i j : ℕ) (d : PrefixKind) → i < length ks

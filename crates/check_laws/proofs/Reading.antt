@@ -1,11 +1,9 @@
 -- What a certified automaton reads: exactly the candidates along which the potentials of all stages fall.
-use Rattle.std.proofs.Common.{◌≡◌, ℕ, ◌+◌, ◌≤◌, true, List, [], ◌∷◌, ◌++◌, length, refl, sym, ◌∙◌, subst, arith, append-nil, append_assoc, All, Contains}
+use Rattle.std.proofs.Common.{◌≡◌, ℕ, ◌+◌, ◌≤◌, true, List, [], ◌∷◌, ◌++◌, refl, sym, ◌∙◌, subst, arith, append-nil, append_assoc, All, Contains}
 use Rattle.std.specs.List.{AllByRecursion}
 use Rattle.std.proofs.lemmas.List.Elements.{All-contains}
 use Rattle.tier_core.specs.declared.sym.Sym.{Sym}
-use Rattle.tier_core.specs.declared.constraint.Constraint.{Constraint}
 use Rattle.tier_core.specs.Kinds.{PrefixKind}
-use Rattle.tier_core.specs.Tiers.{Tiers}
 use Rattle.violation.specs.Candidates.{IsForm, IsCandidate}
 use Rattle.violation.specs.Conditions.{AreSplit, IsOverTiers}
 use Rattle.violation.specs.Moves.{moved, is_final}
@@ -21,7 +19,7 @@ use Rattle.answer_text.specs.declared.stage.Stage.{Stage}
 use Rattle.answer_text.specs.Acceptance.{HasArc, IsFinalState, Leads, Accepts}
 use Rattle.answer_text.specs.Right.{nodes_at, IsNodeOf, numbers_of}
 use Rattle.answer_text.specs.Certified.{IsKeptBelow, IsCertifiedStage, IsCertifiedAutomaton}
-use Rattle.check_laws.proofs.Members.{contains_of_map}
+use Rattle.tier_core.proofs.Members.{contains_of_map}
 use Rattle.check_laws.proofs.Listing.{lists_kind, kind_listed, kind_numbered, numbered_kind, first_numbered}
 use Rattle.check_laws.proofs.Potentials.{FallsOn, FallsAlong, over_at, goes_to, as_longer, one_more, falls_from_tight, kept_from_falls}
 use Rattle.violation.specs.Problems.{Problem, last_stage}

@@ -1,21 +1,13 @@
 -- What remains at a kind is what the least rest of a walk costs.
-use Rattle.std.proofs.Common.{◌≡◌, ℕ, zero, suc, ◌-◌, ◌≤◌, List, ◌++◌, take, drop, length, get_or, refl, sym, ap, ◌∙◌, subst, arith, take_at}
+use Rattle.std.proofs.Common.{◌≡◌, ℕ, ◌-◌, ◌≤◌, List, ◌++◌, take, drop, length, refl, sym, ap, ◌∙◌, subst, arith, take_at}
 use Rattle.std.proofs.lemmas.List.{length-append, length-take-le, take-append-drop}
 use Rattle.tier_core.specs.declared.sym.Sym.{Sym}
-use Rattle.tier_core.specs.declared.constraint.Constraint.{Constraint}
 use Rattle.tier_core.specs.Kinds.{PrefixKind}
-use Rattle.tier_core.specs.Tiers.{Tiers}
-use Rattle.violation.specs.Candidates.{vec, vec_so_far, IsOptimalFor, count_at, count_so_far_at}
+use Rattle.violation.specs.Candidates.{IsOptimalFor, count_at, count_so_far_at}
 use Rattle.violation.specs.Prefixes.{kind_of}
-use Rattle.violation.specs.Stages.{IsStage, IsLeastRest, IsRemaining}
+use Rattle.violation.specs.Stages.{IsStage, IsLeastRest}
 use Rattle.violation.proofs.WalkSums.{walk_cost, violations_on}
 use Rattle.violation.specs.Problems.{Problem}
-
--- from stage 1 on
-pub least_rest : (problem : Problem) (r : ℕ) (k : PrefixKind) (p : ℕ) → 1 ≤ r → IsRemaining problem r k p
-    → IsLeastRest problem r k p
-least_rest problem zero k p l h = absurd (omega arith)
-least_rest problem (suc i) k p l h = h
 
 module _ (problem : Problem) (r : ℕ) (stage : IsStage problem r) where
   -- an (r-1)-optimal candidate that goes on from the kind k at the cost p

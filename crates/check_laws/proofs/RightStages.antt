@@ -3,10 +3,8 @@ use Rattle.std.proofs.Common.{◌≡◌, ℕ, zero, suc, ◌+◌, ◌-◌, ◌<�
 use Rattle.std.proofs.lemmas.Bool.{cases_lt}
 use Rattle.std.proofs.lemmas.List.{length-append, length-map, take-append-drop}
 use Rattle.tier_core.specs.declared.sym.Sym.{Sym}
-use Rattle.tier_core.specs.declared.constraint.Constraint.{Constraint}
 use Rattle.tier_core.specs.Kinds.{PrefixKind, kind_order}
-use Rattle.tier_core.specs.Tiers.{Tiers}
-use Rattle.violation.specs.Candidates.{IsCandidate, vec, IsOptimalFor, counts_on, count_at}
+use Rattle.violation.specs.Candidates.{IsCandidate, IsOptimalFor, counts_on, count_at}
 use Rattle.violation.specs.Counts.{violations_of}
 use Rattle.violation.specs.Moves.{moved, cost_of, cut, is_final}
 use Rattle.violation.specs.Prefixes.{kind_of}
@@ -21,13 +19,14 @@ use Rattle.violation.proofs.WalkSums.{none_at, walk_cost, walk_step, violations_
 use Rattle.answer_text.specs.declared.answer.Answer.{Answer}
 use Rattle.answer_text.specs.Right.{nodes_at, kinds_at}
 use Rattle.answer_text.specs.Certified.{Lists, IsKeptBelow, IsPossibleKind, start_potential, IsCertifiedStage}
-use Rattle.check_laws.proofs.Members.{all_from_members}
+use Rattle.tier_core.proofs.Members.{All-from_members}
 use Rattle.check_laws.proofs.Potentials.{stage_at, over_at, goes_to}
 use Rattle.check_laws.proofs.Optima.{start_count, AllFall, AreTold}
-use Rattle.check_laws.proofs.Rests.{least_rest, HasRest, rest_some, rest_least}
-use Rattle.check_laws.proofs.Continuing.{IsGiven, same_fewer, counts_are, remains, passed_by, listed_by, told_by, falls_to, kept_longer, exchanged, swapped, goes_on}
+use Rattle.check_laws.proofs.Rests.{HasRest, rest_some, rest_least}
+use Rattle.check_laws.proofs.Continuing.{IsGiven, counts_are, remains, passed_by, listed_by, told_by, falls_to, kept_longer, exchanged, swapped, goes_on}
 use Rattle.check_laws.proofs.Starts.{first_is, none_before_start, possible}
 use Rattle.violation.specs.Problems.{Problem, last_stage}
+use Rattle.violation.proofs.FewerStages.{same_fewer, least_rest}
 
 -- at stage 0 nothing remains
 none_remains : (problem : Problem) (r : ℕ) (k : PrefixKind) (p : ℕ) → r ≤ 0 → IsRemaining problem r k p → p ≡ 0
@@ -95,7 +94,7 @@ module _ (problem : Problem) (answer : Answer) (given : IsGiven problem answer) 
     begun v q o = begun_of problem v q o.candidate
 
     kinds_possible : All (IsPossibleKind problem r) kinds
-    kinds_possible = all_from_members (IsPossibleKind problem r) kinds (λ k m.
+    kinds_possible = All-from_members (IsPossibleKind problem r) kinds (λ k m.
         let h = parted_passed (r - 1) r k (member_passed k m) in
         subst (IsPossibleKind problem r) h.1.1.1
         (possible problem given.split given.form r h.0 (begun h.0 h.1.0 h.1.1.0)
@@ -103,7 +102,7 @@ module _ (problem : Problem) (answer : Answer) (given : IsGiven problem answer) 
 
     cuts_listed : 1 ≤ r → All (λ k. Contains (kinds_at problem (r - 1) (nodes_at answer.stages.items (r - 1)))
         (cut problem (r - 1) k)) kinds
-    cuts_listed ranked = all_from_members _ kinds (λ k m.
+    cuts_listed ranked = All-from_members _ kinds (λ k m.
         let h = parted_passed (r - 1) r k (member_passed k m) in
         let fewer : IsOptimalFor problem (r - 1 - 1) (h.0 ++ h.1.0) = optimal_for_fewer problem (r - 1 - 1) (r - 1)
         (omega arith) (h.0 ++ h.1.0) h.1.1.0 in

@@ -1,16 +1,12 @@
 -- The automaton of a right answer is certified, and so is the answer.
 use Rattle.std.proofs.Common.{◌≡◌, ℕ, ◌+◌, ◌≤◌, List, [], ◌∷◌, ◌++◌, take, length, refl, sym, ap, ◌∙◌, subst, arith, append_assoc, take_at, All, AllPairs, Contains}
 use Rattle.std.specs.Cmp.{both_ways}
-use Rattle.std.specs.List.{AllByRecursion}
 use Rattle.std.proofs.lemmas.List.{length-append}
 use Rattle.std.proofs.lemmas.List.Elements.{All-contains}
 use Rattle.tier_core.specs.declared.sym.Sym.{Sym}
-use Rattle.tier_core.specs.declared.constraint.Constraint.{Constraint}
 use Rattle.tier_core.specs.Classes.{AreDisjoint}
 use Rattle.tier_core.specs.Kinds.{PrefixKind}
-use Rattle.tier_core.specs.Tiers.{Tiers}
-use Rattle.violation.specs.Candidates.{IsForm, IsCandidate, IsOptimalFor}
-use Rattle.violation.specs.Conditions.{AreSplit, IsOverTiers}
+use Rattle.violation.specs.Candidates.{IsCandidate, IsOptimalFor}
 use Rattle.violation.specs.Moves.{moved, is_final}
 use Rattle.violation.specs.Prefixes.{kind_of}
 use Rattle.violation.specs.Walks.{BeginsCandidate}
@@ -20,9 +16,9 @@ use Rattle.answer_text.specs.declared.automaton.ArcLine.{ArcLine}
 use Rattle.answer_text.specs.declared.automaton.StateLine.{StateLine}
 use Rattle.answer_text.specs.declared.stage.Node.{Node}
 use Rattle.answer_text.specs.Acceptance.{HasArc, Leads, Accepts}
-use Rattle.answer_text.specs.Right.{nodes_at, IsNodeOf, numbers_of, IsRight}
+use Rattle.answer_text.specs.Right.{nodes_at, IsNodeOf, numbers_of}
 use Rattle.answer_text.specs.Certified.{IsKeptBelow, IsCertifiedStage, IsCertifiedAutomaton, IsCertified}
-use Rattle.check_laws.proofs.Members.{contains_map}
+use Rattle.tier_core.proofs.Members.{contains_map}
 use Rattle.check_laws.proofs.Listing.{one_number, one_kind}
 use Rattle.check_laws.proofs.Potentials.{over_at, goes_to, kept_from_falls}
 use Rattle.check_laws.proofs.Optima.{AllFall, AreTold}

@@ -1,6 +1,6 @@
 -- The kind of the empty prefix comes first, and the kind of a prefix is a possible one.
-use Rattle.std.proofs.Common.{◌≡◌, ℕ, zero, suc, ◌<◌, Bool, true, false, not, cond, List, [], ◌∷◌, map, length, get_or, refl, sym, ap, ◌∙◌, arith, Contains, Some, slice_get}
-use Rattle.std.specs.List.{AllByRecursion, list_all}
+use Rattle.std.proofs.Common.{◌≡◌, ℕ, zero, suc, ◌<◌, true, false, List, [], ◌∷◌, map, length, get_or, refl, sym, ap, ◌∙◌, arith, Contains, Some, slice_get}
+use Rattle.std.specs.List.{AllByRecursion}
 use Rattle.std.specs.Cmp.Lexicographic.{slice_cmp}
 use Rattle.std.specs.List.Sorted.{IsStrictlySortedBy}
 use Rattle.std.specs.Ordering.{nat_cmp, ordering_then, is_lt}
@@ -12,20 +12,16 @@ use Rattle.std.proofs.lemmas.List.{length-take}
 use Rattle.std.proofs.lemmas.Map.Keys.{Less-from_sorted}
 use Rattle.tier_core.specs.declared.event.Event.{Event}
 use Rattle.tier_core.specs.declared.sym.Sym.{Sym}
-use Rattle.tier_core.specs.declared.constraint.Constraint.{Constraint}
-use Rattle.tier_core.specs.Kinds.{closed, unmet, met, PrefixKind, phase_rank, open_rank, kind_order, open_order, phase_order}
-use Rattle.tier_core.specs.Tiers.{Tiers}
+use Rattle.tier_core.specs.Kinds.{PrefixKind, phase_rank, open_rank, kind_order, open_order, phase_order}
 use Rattle.tier_core.specs.Timelines.{word}
 use Rattle.tier_core.proofs.CountLemmas.{all_weaker, all_of}
 use Rattle.violation.specs.Candidates.{IsForm}
 use Rattle.violation.specs.Conditions.{AreSplit, IsOverTiers}
-use Rattle.violation.specs.Moves.{is_tier_open}
-use Rattle.violation.specs.Phases.{is_closed, is_left_open, AreClosedOr}
 use Rattle.violation.specs.Prefixes.{is_open, phase, kind_of, stretches}
-use Rattle.violation.proofs.CountSteps.{all_agree}
-use Rattle.violation.proofs.PrefixLemmas.{IsBegun, input_part, tier_open_is}
+use Rattle.violation.proofs.PrefixLemmas.{IsBegun, input_part}
 use Rattle.answer_text.specs.Certified.{IsPossibleKind}
 use Rattle.violation.specs.Problems.{Problem}
+use Rattle.violation.proofs.ClosedPhases.{phases_closed}
 
 -- ---- the first of a list that ascends
 
@@ -83,32 +79,12 @@ none_before_start problem r over p e =
 
 -- ---- the kind of a prefix
 
-closed_is : (a b : Bool) → is_closed (cond a (cond b met unmet) closed) ≡ not a
-closed_is true true = refl
-closed_is true false = refl
-closed_is false b = refl
-
 module _ (problem : Problem) (split : AreSplit problem.tiers) (form : IsForm problem.tiers problem.form) (r : ℕ)
     (p : List (List Sym)) (begun : IsBegun problem p) where
-  left_open : (c : Constraint) → IsOverTiers problem.tiers.width c
-      → list_all (λ e. is_open (word p e.tier)) c.left ≡ is_left_open problem (kind_of problem r p) c
-  left_open c o =
-      sym (all_agree (λ e. is_tier_open problem (kind_of problem r p) e.tier) (λ e. is_open (word p e.tier)) c.left
-      (all_weaker (λ e. e.tier < problem.tiers.width) _ c.left
-      (λ e l. tier_open_is problem split form r p begun e.tier l) o.left_below))
-
-  phases_closed : (cs : List Constraint) → AllByRecursion (IsOverTiers problem.tiers.width) cs
-      → AreClosedOr (is_left_open problem (kind_of problem r p)) cs (map (λ c. phase c.left c.right p) cs)
-  phases_closed [] o = tt
-  phases_closed (c ∷ cs) o = (
-    closed_is (list_all (λ e. is_open (word p e.tier)) c.left) _
-        ∙ ap not (left_open c o.0),
-    phases_closed cs o.1,
-  )
 
   pub possible : AllByRecursion (IsOverTiers problem.tiers.width) (stretches problem r)
       → IsPossibleKind problem r (kind_of problem r p)
   possible over = record {
     place = omega (arith, ap length begun.place, length-take (length (input_part problem.tiers p)) problem.form);
-    phases = phases_closed (stretches problem r) over;
+    phases = phases_closed problem split form r p begun (stretches problem r) over;
   }

@@ -1,5 +1,5 @@
 -- Cells by their numbers.
-use Rattle.std.proofs.Common.{◌≡◌, ℕ, ◌+◌, ◌*◌, ◌/◌, ◌%◌, ◌<◌, ◌≤◌, refl, sym, ap, ◌∙◌, arith, ◌⊎◌, inl, inr}
+use Rattle.std.proofs.Common.{◌≡◌, ℕ, ◌+◌, ◌*◌, ◌/◌, ◌%◌, ◌<◌, ◌≤◌, ap, arith, inl, inr}
 use Rattle.std.proofs.Math.Nat.{mul-le-mul_right}
 use Rattle.std.proofs.lemmas.Bool.{cases_order}
 
@@ -11,9 +11,6 @@ cells_inside i n width l =
   where
     one_more : (i width : ℕ) → (i + 1) * width ≡ i * width + width
     one_more i width = grind arith
-
-pub cell_inside : (i p n width : ℕ) → i < n → p < width → i * width + p < n * width
-cell_inside i p n width l below = omega (arith, cells_inside i n width l)
 
 -- a number is that of one cell
 pub one_cell : (i p j q width : ℕ) → p < width → q < width → i * width + p ≡ j * width + q → (i ≡ j) × (p ≡ q)

@@ -1,18 +1,18 @@
 -- Which columns the tests of a surface hold.
-use Rattle.std.proofs.Common.{◌≡◌, ℕ, zero, suc, ◌+◌, ◌<◌, ◌≤◌, Bool, true, false, not, ◌&&◌, ◌||◌, List, [], ◌∷◌, ◌++◌, length, get_or, map, drop, cond, refl, sym, ap, ◌∙◌, subst, arith, ◌⊎◌, inl, inr, IsTrue, append_assoc, drop-cons, add-one}
-use Rattle.std.proofs.lemmas.Bool.{false≢true, and_parts, and_from, or_left, or_right, or_cases, cases_lt}
-use Rattle.std.proofs.lemmas.List.{get_or-map, get_or_past, get_or_default, length_push, get_or_push, length-map}
+use Rattle.std.proofs.Common.{◌≡◌, ℕ, zero, suc, ◌+◌, ◌<◌, ◌≤◌, Bool, true, false, not, ◌&&◌, List, [], ◌∷◌, ◌++◌, length, get_or, map, drop, cond, refl, sym, ap, ◌∙◌, arith, inl, inr, append_assoc, drop-cons, add-one}
+use Rattle.std.proofs.lemmas.Bool.{false≢true, and_parts, and_from, cases_lt, not-true, or_parts, or_from}
+use Rattle.std.proofs.lemmas.List.{get_or-map, get_or_past, length_push, length-map}
 use Rattle.tier_core.specs.declared.sym.Sym.{Sym}
-use Rattle.tier_core.specs.declared.sym.Sym.TheVariants.{Outside, Inside, Start, End, Both}
+use Rattle.tier_core.specs.declared.sym.Sym.TheVariants.{Outside}
 use Rattle.tier_core.specs.declared.tier.TierKind.{TierKind}
-use Rattle.tier_core.specs.declared.tier.TierKind.TheVariants.{Input, Overt, Hidden}
 use Rattle.tier_core.specs.Classes.{sets_have}
 use Rattle.tier_core.specs.Sets.{is_in, single_set}
 use Rattle.tier_core.specs.Tiers.{is_overt, numbers_from}
 use Rattle.tier_core.specs.Timelines.{symbol, is_edge, has_edge}
 use Rattle.tier_core.proofs.SetLemmas.{alone_in, only_in}
+use Rattle.tier_core.proofs.KnownSets.{in_all, in_none, in_edgeless}
 use Rattle.comprehend.specs.Surfaces.{heard_in}
-use Rattle.comprehend.specs.Tests.{still_set, still_sets, heard_set, heard_sets, overt_after}
+use Rattle.comprehend.specs.Tests.{still_sets, heard_sets}
 
 -- the symbols of the overt tiers, tier by tier
 abbrev pub overt_syms : List TierKind → List Sym → List Sym
@@ -51,49 +51,12 @@ pub heard_syms : (kinds : List TierKind) (column : List Sym) → length column �
     → heard_in (numbers_from is_overt 0 kinds) column ≡ overt_syms kinds column
 heard_syms kinds column e = syms_named kinds [] column e
 
--- any symbol is in the set of all, and only those without an edge in the set of the first two
-in_all : (s : Sym) → is_in 31 s ≡ true
-in_all Outside = refl
-in_all Inside = refl
-in_all Start = refl
-in_all End = refl
-in_all Both = refl
-
-in_still : (s : Sym) → is_in 3 s ≡ not (is_edge s)
-in_still Outside = refl
-in_still Inside = refl
-in_still Start = refl
-in_still End = refl
-in_still Both = refl
-
-in_none : (s : Sym) → is_in 0 s ≡ false
-in_none Outside = refl
-in_none Inside = refl
-in_none Start = refl
-in_none End = refl
-in_none Both = refl
-
-of_not : (b : Bool) → not b ≡ true → b ≡ false
-of_not true h = absurd (false≢true h)
-of_not false h = refl
-
-neither : (a b : Bool) → a ≡ false → b ≡ false → (a || b) ≡ false
-neither a b ea eb = rw (ea, eb) refl
-
-neither_left : (a b : Bool) → (a || b) ≡ false → a ≡ false
-neither_left true b e = absurd (false≢true (sym e))
-neither_left false b e = refl
-
-neither_right : (a b : Bool) → (a || b) ≡ false → b ≡ false
-neither_right true b e = absurd (false≢true (sym e))
-neither_right false b e = e
-
 -- the columns without an edge on an overt tier
 still_step : (b : Bool) (s : Sym) (syms : List Sym) (rest : Bool) → (has_edge syms ≡ false → rest ≡ true)
     → has_edge (cond b (s ∷ syms) syms) ≡ false → (is_in (cond b 3 31) s && rest) ≡ true
 still_step true s syms rest more h = and_from (is_in 3 s) rest
-    (in_still s ∙ ap not (neither_left (is_edge s) (has_edge syms) h))
-    (more (neither_right (is_edge s) (has_edge syms) h))
+    (in_edgeless s ∙ ap not (or_parts (is_edge s) (has_edge syms) h).0)
+    (more (or_parts (is_edge s) (has_edge syms) h).1)
 still_step false s syms rest more h = and_from (is_in 31 s) rest (in_all s) (more h)
 
 pub still_holds : (kinds : List TierKind) (column : List Sym) → length column ≡ length kinds
@@ -108,7 +71,7 @@ held_step : (b : Bool) (s : Sym) (syms : List Sym) (rest : Bool) → (rest ≡ t
     → (is_in (cond b 3 31) s && rest) ≡ true → has_edge (cond b (s ∷ syms) syms) ≡ false
 held_step true s syms rest more h =
     let parts : (is_in 3 s ≡ true) × (rest ≡ true) = and_parts (is_in 3 s) rest h in
-    neither (is_edge s) (has_edge syms) (of_not (is_edge s) (sym (in_still s) ∙ parts.0)) (more parts.1)
+    or_from (is_edge s) (has_edge syms) (not-true (is_edge s) (sym (in_edgeless s) ∙ parts.0)) (more parts.1)
 held_step false s syms rest more h = (let parts : (is_in 31 s ≡ true) × (rest ≡ true) = and_parts
     (is_in 31 s) rest h in more parts.1)
 

@@ -1,15 +1,8 @@
 -- Results that are no errors.
-use Rattle.std.specs.Prelude.{OnOk, IfOk, MatchOption}
-use Rattle.std.specs.Result.{is_err}
-use Rattle.std.proofs.lemmas.Bool.{false≢true}
+use Rattle.std.specs.Prelude.{IfOk, MatchOption}
 use Rattle.tier_core.specs.declared.sym.Sym.{Sym}
 use Rattle.tier_core.specs.Orders.{IsFirst}
-use Rattle.std.proofs.Common.{Option, None, Some, List, Result, Ok, Err, false, ◌≡◌, sym}
-
--- what holds of an `Ok`, where the result is no `Err`
-pub on_ok : {A E P : Type 0} (r : Result A E) → OnOk r P → is_err r ≡ false → P
-on_ok (Ok x) h e = h
-on_ok (Err x) h e = absurd (false≢true (sym e))
+use Rattle.std.proofs.Common.{Option, None, Some, List, Result, Ok, Err}
 
 -- where an `Ok` has this, it has that
 pub if_ok_then : {A E : Type 0} (P Q : A → Type 0) → ((x : A) → P x → Q x) → (r : Result A E) → IfOk r P → IfOk r Q

@@ -11,7 +11,7 @@ use Rattle.answer_text.specs.declared.automaton.StateLine.{StateLine}
 use Rattle.answer_text.specs.Right.{numbers_of}
 use Rattle.comprehend.specs.declared.entering.Entering.{Entering}
 use Rattle.comprehend.specs.Steps.{arcs_at}
-use Rattle.comprehend.specs.Entering.{entering_at, AreTurned, IsTurned, IsArcBelow, IsArcOf, AreNotEntered}
+use Rattle.comprehend.specs.Entering.{entering_at, AreTurned, IsTurned, IsArcBelow, IsArcOf}
 use Rattle.comprehend.proofs.Levels.{arcs_inside}
 use Rattle.comprehend.proofs.Numbers.{once_at}
 
@@ -31,14 +31,6 @@ turned_same P R to back numbers into are = record {
   sound = λ t entry here. (let own = are.sound t entry here in
       (own.0, (to entry.source own.0 own.1.0, own.1.1, own.1.2)));
   complete = λ s t arc r leads. are.complete s t arc (back s arc r) leads;
-}
-
-pub turned_none : (states : List StateLine) (into : List (Vec Entering)) → AreNotEntered (length states) into
-    → AreTurned (IsArcBelow states 0) (numbers_of states) into
-turned_none states into are = record {
-  each_state = are.each_state ∙ sym (length-map states (λ (x : StateLine). x.node));
-  sound = λ t entry here. absurd (omega (arith, here.1, ap length (are.none t)));
-  complete = λ s t arc below leads. absurd (omega (arith, below.0));
 }
 
 pub turned_all : (states : List StateLine) (n : ℕ) → length states ≤ n → (into : List (Vec Entering))

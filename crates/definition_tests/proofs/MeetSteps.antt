@@ -5,9 +5,6 @@ use Rattle.tier_core.specs.Events.{Interval, greatest_low, least_from, meet}
 use Rattle.definition_tests.specs.declared.span.Span.{Span}
 use Rattle.definition_tests.specs.Spans.{intervals_of}
 
-max_zero : (a : ℕ) → a ≡ max a 0
-max_zero a = omega arith
-
 max_of_three : (a b c : ℕ) → max a (max b c) ≡ max (max a (max b 0)) c
 max_of_three a b c = omega arith
 
@@ -23,18 +20,6 @@ both {a} {b} {c} {d} e f =
     let lows : ℕ → Interval = λ n. record { low = n; high = c } in
     let highs : ℕ → Interval = λ n. record { low = b; high = n } in
     ap lows e ∙ ap highs f
-
--- the meet of one interval
-pub meet_one : (x : Interval) → x ≡ meet (x ∷ [])
-meet_one x = both (max_zero x.low) refl
-
--- the meet of two
-pub meet_two : (m x : Interval) (low high : ℕ) → low ≡ max m.low x.low → high ≡ min m.high x.high
-    → let y : Interval = record { low = low; high = high } in y ≡ meet (m ∷ x ∷ [])
-meet_two m x low high e f = both (e ∙ ap (max m.low) (max_zero x.low)) (f ∙ min_other m.high x.high)
-  where
-    min_other : (a b : ℕ) → min a b ≡ min b a
-    min_other a b = omega arith
 
 least_from_min : (a h : ℕ) (xs : List Interval) → min a (least_from h xs) ≡ least_from (min a h) xs
 least_from_min a h [] = refl

@@ -1,9 +1,8 @@
 -- Classes whose first sets have no symbol in common are disjoint.
-use Rattle.std.proofs.Common.{◌≡◌, ℕ, ◌<◌, Bool, true, false, ◌||◌, List, [], ◌∷◌, length, get_or, not, refl, sym, ap, ◌∙◌, arith}
-use Rattle.std.specs.List.{list_any, list_all}
+use Rattle.std.proofs.Common.{◌≡◌, ℕ, true, false, List, [], ◌∷◌, length, get_or, sym, ◌∙◌, arith}
+use Rattle.std.specs.List.{list_any}
 use Rattle.std.proofs.lemmas.Bool.{and_parts, and_from, false≢true}
 use Rattle.tier_core.specs.declared.sym.Sym.{Sym}
-use Rattle.tier_core.specs.declared.sym.Sym.TheVariants.{Outside, Inside, Start, End, Both}
 use Rattle.tier_core.specs.Symbols.{symbols}
 use Rattle.tier_core.specs.Sets.{is_in}
 use Rattle.tier_core.specs.Classes.{sets_have}
@@ -20,14 +19,3 @@ disjoint_by_first (x ∷ xs) (y ∷ ys) (s ∷ ss) l m e h k =
     let first = and_parts (is_in x s) (sets_have xs ss) h in
     let second = and_parts (is_in y s) (sets_have ys ss) k in
     false≢true (sym e ∙ any_of (in_both x y) s (and_from (is_in x s) (is_in y s) first.0 second.0))
-
--- a class over one tier is filled where its set has a symbol
-pub filled_by_first : (xs : List ℕ) → length xs ≡ 1 → list_any (is_in (get_or xs 0 0)) symbols ≡ true
-    → list_all (λ set. list_any (is_in set) symbols) xs ≡ true
-filled_by_first [] l e = refl
-filled_by_first (x ∷ []) l e = and_from (list_any (is_in x) symbols) true e refl
-filled_by_first (x ∷ y ∷ xs) l e = absurd (omega (arith, l))
-
-pub not_from : (b : Bool) → not b ≡ true → b ≡ false
-not_from true e = sym e
-not_from false e = refl

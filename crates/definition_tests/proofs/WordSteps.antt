@@ -39,9 +39,6 @@ module _ (T : List (List Sym)) (t k : ℕ) (column : List Sym) (h : k < length T
       ∙ ap (λ n. cond (starts (symbol column t)) (pair_to k (next_end n (word (drop (k + 1) T) t))) []
       ++ constituents_from n (word (drop (k + 1) T) t)) (sym (add-one k))
 
-  pub left_without_start : starts (symbol column t) ≡ false → left_from T t k ≡ left_from T t (k + 1)
-  left_without_start e = left_step ∙ ap (λ b. cond b (pair_to k (end_from T t (k + 1))) [] ++ left_from T t (k + 1)) e
-
   pub left_without_end : starts (symbol column t) ≡ true → end_from T t (k + 1) ≡ None
       → left_from T t k ≡ left_from T t (k + 1)
   left_without_end e n =

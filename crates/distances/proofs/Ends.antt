@@ -2,7 +2,6 @@
 use Rattle.std.proofs.Common.{◌≡◌, ℕ, zero, suc, ◌+◌, ◌*◌, ◌<◌, ◌≤◌, Bool, true, false, List, [], ◌∷◌, Option, None, Some, map, length, get_or, refl, sym, ap, ◌∙◌, subst, arith, inl, inr}
 use Rattle.std.specs.Prelude.{Contains, All, MatchOption}
 use Rattle.std.proofs.lemmas.Bool.{cases_lt}
-use Rattle.std.proofs.lemmas.List.{length-map}
 use Rattle.std.proofs.lemmas.List.Elements.{Contains-get_or}
 use Rattle.std.proofs.Math.Nat.{mul-le-mul_left, mul-le-mul_right}
 use Rattle.weight_law.specs.declared.Weight.{Ghosts}
@@ -46,15 +45,6 @@ module _ {W : Type 0} {g : Ghosts W} (laws : IsLawful g.meaning) (states : List 
           let known : get_or (initial_of states) s None ≡ Some g.meaning.zero = initial_at s
           ∙ ap (nothing_yet g.meaning) a in
           ([], (a, subst P (sym known) self), cc)
-
-  pub initial-covered : IsCovered states (initial_of states) 0
-  initial-covered s [] inside run short =
-      let P : Option W → Type 0 = λ o. IsWithin g.meaning o g.meaning.zero in
-      let self : P (Some g.meaning.zero) = (laws.lawful_zero, at_most-itself laws g.meaning.zero laws.lawful_zero) in
-      let known : get_or (initial_of states) s None ≡ Some g.meaning.zero = initial_at s
-      ∙ ap (nothing_yet g.meaning) run in
-      subst P (sym known) self
-  initial-covered s (arc ∷ arcs) inside run short = absurd (omega arith)
 
   -- where no move leads to less, every run weighs at least what is known
   within_all : TargetsExist states → (least : List (Option W)) → IsCovered states least 0 → AreClosed states least
@@ -139,7 +129,3 @@ module _ {W : Type 0} {g : Ghosts W} (laws : IsLawful g.meaning) (states : List 
           → FitsBoth g.meaning arc.weight o
       go arc here None e = tt
       go arc here (Some w) e = omega (arith, fits n exist sizes least wit s arc here w e)
-
-  pub length-initial : length (initial_of states) ≡ length states
-  length-initial = length-map (map (λ state. state.accepting) states) (nothing_yet g.meaning)
-      ∙ length-map states (λ state. state.accepting)

@@ -4,6 +4,7 @@ use Rattle.std.specs.Prelude.{Contains, All, IsTrue, if◌then◌else◌}
 use Rattle.std.proofs.lemmas.Bool.{cases_eq, cases_lt}
 use Rattle.std.proofs.lemmas.List.{length-set, get_or-set_same, get_or-set_other, get_or_past}
 use Rattle.std.proofs.lemmas.List.Elements.{Contains-get_or}
+use Rattle.tier_core.proofs.Members.{contains_first}
 use Rattle.weight_law.specs.declared.Weight.{Ghosts}
 use Rattle.weight_law.specs.Meaning.{IsLawful}
 use Rattle.weight_law.proofs.Order.{at_most-added}
@@ -19,7 +20,7 @@ use Rattle.arc_table.proofs.Push.{moves_exist}
 use Rattle.distances.specs.Best.{lesser_of, added, best_of}
 use Rattle.distances.specs.Rounds.{AreWitnessed}
 use Rattle.distances.specs.Settled.{lowered, relaxed, IsKept}
-use Rattle.distances.proofs.Looks.{head_in, tail_in, head_or_tail}
+use Rattle.distances.proofs.Looks.{tail_in, head_or_tail}
 use Rattle.distances.proofs.Steps.{step-witnessed, step-covered}
 use Rattle.distances.proofs.Ends.{fits}
 
@@ -92,7 +93,7 @@ module _ {W : Type 0} {g : Ghosts W} (laws : IsLawful g.meaning) (states : List 
       → IsKept states least (relaxed g.meaning w least moves)
   relaxed-kept t w ins pw [] least wit same known has = kept_itself least same wit
   relaxed-kept t w ins pw (move ∷ moves) least wit same known has =
-      let own = has move (head_in move moves) in
+      let own = has move (contains_first move moves) in
       let arc = own.0 in
       let P : W → Type 0 = λ x. IsKept states least (lowered g.meaning least move.source (g.meaning.sum x w)) in
       let Q : W → Type 0 = λ x. get_or (lowered g.meaning least move.source (g.meaning.sum x w)) t None ≡ Some w in

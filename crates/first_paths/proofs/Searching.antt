@@ -199,16 +199,6 @@ module _ {V : Type 0} where
       (λ q from. (from.0, Contains-append_left (take i moves) (move ∷ []) from.0 from.1, from.2))
       (λ q at. (move, Contains-push (take i moves) move, at)) n old mid new before between after first second)
 
-  pub source_none : (q : ℕ) → IsSource (let none : List (IncomingMove V) = [] in none) q → ⊥
-  source_none q from = omega (arith, from.1.1)
-
-  pub source_all : (moves : List (IncomingMove V)) (i : ℕ) → length moves ≤ i
-      → (n : ℕ) (old new : List (Option Count)) (before after : List ℕ)
-      → Reaches (IsSource (take i moves)) n old new before after → Reaches (IsSource moves) n old new before after
-  source_all moves i le n old new before after r =
-      (let P : List (IncomingMove V) → Type 0 = λ xs. Reaches (IsSource xs) n old new before after in subst P
-      (take_all i moves le) r)
-
   module _ {h : Ghosts V} (incoming : Incoming V h) where
     before_cases : (level : List ℕ) (t q : ℕ) → IsBefore incoming (level ++ t ∷ []) q
         → IsBefore incoming level q ⊎ IsSource (moves_into incoming t) q
@@ -263,14 +253,6 @@ pub record AreEnds {V : Type 0} {h : Ghosts V} (states : List (TableState V h)) 
   pub level_is : (t : ℕ) → Contains level t → IsLeft left t 0
 
 module _ {V : Type 0} {h : Ghosts V} (states : List (TableState V h)) where
-  pub ends_none : AreEnds states [] []
-  ends_none = record {
-    number = refl;
-    zero = λ t c e. cc;
-    ends = λ t l accepts. absurd (omega (arith, l));
-    listed = λ t c e. cc;
-    level_is = λ t here. absurd (omega (arith, here.1));
-  }
 
   -- a state that does not accept
   pub ends_skip : (left : List (Option Count)) (level : List ℕ) (s : ℕ) → s ≡ length left

@@ -1,8 +1,7 @@
 -- The input tiers of a grammar, and the sounds of its letters.
-use Rattle.std.proofs.Common.{◌≡◌, ℕ, ◌<◌, ◌≤◌, true, nat_lt, List, [], ◌∷◌, length, map, All, string_bytes, sym, ◌∙◌, subst, arith}
+use Rattle.std.proofs.Common.{◌≡◌, ℕ, ◌≤◌, true, List, [], ◌∷◌, length, map, All, string_bytes, sym, ◌∙◌, subst, arith}
 use Rattle.std.specs.List.{AllByRecursion, list_all}
-use Rattle.std.proofs.lemmas.Bool.{and_parts}
-use Rattle.std.proofs.lemmas.Bool.Decides.{nat_tests}
+use Rattle.std.proofs.lemmas.Bool.{and_parts, ltb-true}
 use Rattle.std.proofs.lemmas.List.Elements.{All-from_recursion}
 use Rattle.std.proofs.lemmas.List.{length-map}
 use Rattle.tier_core.specs.Tiers.{is_input}
@@ -15,16 +14,13 @@ use Rattle.grammar_reader.specs.Grammars.{value_of}
 use Rattle.grammar_reader.specs.Values.{has_sound, inputs_of}
 use Rattle.grammar_reader.proofs.Shaping.{length-inputs, some_input}
 
-pub less : (a b : ℕ) → nat_lt a b ≡ true → a < b
-less a b h = grind (arith, nat_tests)
-
 letter_sounds : (n : ℕ) (letters : List Letter) → list_all (has_sound n) letters ≡ true
     → AllByRecursion (HasSound n) letters
 letter_sounds n [] h = tt
 letter_sounds n (letter ∷ letters) h =
     let parts = and_parts _ _ h in
     let sound = and_parts _ _ parts.0 in
-    (record { some = less _ _ sound.0; within = less _ _ sound.1 }, letter_sounds n letters parts.1)
+    (record { some = ltb-true _ _ sound.0; within = ltb-true _ _ sound.1 }, letter_sounds n letters parts.1)
 
 module _ (g : Grammar) where
   same_length : length (map string_bytes g.tiers.names.items) ≡ length g.tiers.kinds.items

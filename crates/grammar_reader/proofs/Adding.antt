@@ -1,23 +1,20 @@
 -- Adding what a line says.
-use Rattle.std.proofs.Common.{◌≡◌, ℕ, ◌+◌, ◌<◌, ◌≤◌, Bool, true, false, cond, ◌||◌, ◌∷◌, [], ◌++◌, List, length, map, take, drop, get_or, set, Global, refl, ap, sym, ◌∙◌, arith, Option, Some, None, is_some}
-use Rattle.std.specs.Prelude.{nat_le, nat_eq, nat_lt}
-use Rattle.std.specs.List.{list_any, list_all}
+use Rattle.std.proofs.Common.{◌≡◌, ℕ, ◌+◌, ◌<◌, false, cond, ◌∷◌, [], ◌++◌, List, length, map, take, drop, get_or, set, Global, refl, ap, sym, ◌∙◌, arith, None}
+use Rattle.std.specs.Prelude.{nat_eq}
+use Rattle.std.specs.List.{list_any}
 use Rattle.std.specs.Map.{lookup}
-use Rattle.std.specs.Str.{IsUtf8}
 use Rattle.std.specs.Cmp.Lexicographic.{pointwise}
-use Rattle.std.proofs.lemmas.Bool.{false≢true, or_parts}
-use Rattle.std.proofs.lemmas.Bool.Decides.{nat_tests}
-use Rattle.std.proofs.lemmas.List.{map-append, length-map, take_more, take_more_set, drop_more}
+use Rattle.std.proofs.lemmas.List.{map-append, take_more, take_more_set, drop_more}
 use Rattle.std.specs.String.{string_bytes}
 use Rattle.std.specs.declared.string.String.{String}
 use Rattle.tier_core.specs.declared.tier.TierKind.{TierKind}
 use Rattle.tier_core.specs.declared.event.Event.{Event}
 use Rattle.tier_core.specs.declared.constraint.Family.{Family}
 use Rattle.tier_core.specs.declared.constraint.Constraint.{Constraint}
-use Rattle.tier_core.specs.Tiers.{is_input, is_free}
+use Rattle.tier_core.specs.Tiers.{is_input}
 use Rattle.timeline_text.specs.declared.letter.Letter.{Letter}
 use Rattle.grammar_reader.specs.Canonical.{names_in}
-use Rattle.grammar_reader.specs.Values.{is_named, NamedTier, NamedConstraint, GrammarValue, inputs_of, free_of}
+use Rattle.grammar_reader.specs.Values.{is_named, NamedTier, NamedConstraint, GrammarValue, inputs_of}
 use Rattle.grammar_reader.specs.Seen.{tier_seen, tiers_seen, tiers_by, constraint_seen}
 use Rattle.grammar_reader.proofs.Known.{known_any}
 use Rattle.grammar_reader.proofs.Lexing.{none_of}
@@ -32,15 +29,6 @@ absent_by name es h = none_of (lookup (λ k. pointwise nat_eq name k.now) es) (k
 pub tier_added : (es new : List (Bor (List ℕ) × TierKind)) (name : Bor (List ℕ)) (kind : TierKind)
     → new ≡ es ++ (name, kind) ∷ [] → tiers_seen new ≡ tiers_seen es ++ record { name = name.now; kind = kind } ∷ []
 tier_added es new name kind e = ap tiers_seen e ∙ map-append tier_seen es ((name, kind) ∷ [])
-
--- where there is room for a tier
-pub room_for : (es : List (Bor (List ℕ) × TierKind)) (a b : Bool)
-    → (nat_le 12 (length (tiers_seen es)) || a || b) ≡ false → length es < 12
-room_for es a b h =
-    let n = length-map es tier_seen in
-    let x = or_parts (nat_le 12 (length (tiers_seen es)) || a) b h in
-    let y = or_parts (nat_le 12 (length (tiers_seen es))) a x.0 in
-    grind (arith, nat_tests, y.0)
 
 abbrev pub grammar_with : List Letter → List NamedConstraint → List NamedTier → GrammarValue
 grammar_with letters constraints tiers = record { tiers = tiers; letters = letters; constraints = constraints }

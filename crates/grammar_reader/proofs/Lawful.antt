@@ -1,25 +1,22 @@
 -- What the lines of a text make is within the limits, with names that are names and are there once.
-use Rattle.std.proofs.Common.{◌≡◌, ℕ, zero, suc, ◌+◌, ◌*◌, ◌^◌, ◌<◌, ◌≤◌, Bool, true, false, cond, not, ◌&&◌, ◌||◌, List, [], ◌∷◌, ◌++◌, length, map, filter, Option, Some, None, Result, Ok, Err, refl, ap, sym, ◌∙◌, subst, arith, length-append}
-use Rattle.std.specs.Prelude.{nat_le, nat_lt, IsTrue}
+use Rattle.std.proofs.Common.{◌≡◌, ℕ, suc, ◌+◌, ◌*◌, ◌^◌, ◌<◌, ◌≤◌, Bool, true, false, cond, not, ◌&&◌, ◌||◌, List, [], ◌∷◌, ◌++◌, length, map, Some, None, refl, ap, sym, ◌∙◌, subst, arith, length-append}
+use Rattle.std.specs.Prelude.{nat_le, nat_lt}
 use Rattle.std.specs.List.{list_any, list_all, find, position_or_len}
 use Rattle.std.specs.Option.{option_map_or}
 use Rattle.std.specs.Str.{bytes_eq}
-use Rattle.std.proofs.lemmas.Bool.{false≢true, and_parts, and_from, or_parts, or_from}
+use Rattle.std.proofs.lemmas.Bool.{false≢true, and_parts, and_from, or_parts, not-false}
 use Rattle.std.proofs.lemmas.Bool.Decides.{nat_tests}
 use Rattle.std.proofs.lemmas.List.{map-append, length-map}
 use Rattle.std.proofs.lemmas.List.Elements.{filter-append}
 use Rattle.std.proofs.lemmas.List.Folds.{list_all-append}
-use Rattle.std.proofs.lemmas.List.Sums.{prefix_len-le-length}
 use Rattle.tier_core.specs.declared.event.Event.{Event}
 use Rattle.tier_core.specs.declared.tier.TierKind.{TierKind}
-use Rattle.tier_core.specs.declared.tier.TierKind.TheVariants.{Input, Overt, Hidden}
 use Rattle.tier_core.specs.Tiers.{is_input, is_free}
 use Rattle.timeline_text.specs.declared.letter.Letter.{Letter}
 use Rattle.timeline_text.proofs.Searches.{by_test}
-use Rattle.grammar_reader.specs.Pieces.{lines_of}
 use Rattle.grammar_reader.specs.Statements.{Statement, tier, letter, constraint, NamedEvent}
 use Rattle.grammar_reader.specs.Names.{is_name, is_letter_byte, has_twice}
-use Rattle.grammar_reader.specs.Values.{GrammarValue, NamedTier, NamedConstraint, is_named, inputs_of, free_of, letter_name, has_sound, is_side, has_sides, IsMade, IsGrammar}
+use Rattle.grammar_reader.specs.Values.{GrammarValue, NamedTier, NamedConstraint, is_named, inputs_of, free_of, letter_name, has_sound, is_side, has_sides, IsMade}
 use Rattle.grammar_reader.specs.Reading.{nothing, has_bad_name, is_twice_named, is_unknown, has_unknown_tier, is_input_named, has_no_input, is_tier_too_many, is_constraint_too_many, has_too_many_events, first_that_comes, cause_of, number_of, numbered, mask_of, first_byte, with_statement}
 use Rattle.grammar_reader.specs.declared.grammar_err.GrammarCause.{GrammarCause}
 use Rattle.grammar_reader.specs.declared.grammar_err.GrammarCause.TheVariants.{BadName, TwiceNamed, UnknownTier, NotInput, TooManyTiers, TooManyConstraints, TooManyEvents}
@@ -27,10 +24,6 @@ use Rattle.grammar_reader.proofs.Lists.{list_any-map}
 use Rattle.grammar_reader.proofs.Twice.{once_push}
 
 -- ---- tests
-
-pub not_false : (b : Bool) → not b ≡ false → b ≡ true
-not_false true h = refl
-not_false false h = cc
 
 pub all_weaker : {X : Type 0} (p q : X → Bool) (xs : List X) → ((x : X) → p x ≡ true → q x ≡ true)
     → list_all p xs ≡ true → list_all q xs ≡ true
@@ -190,7 +183,7 @@ tier_made g name kind m n =
     let fits = kind_fits g.tiers name kind m.few_inputs m.few_free n.tiers in
     let longer : length g.tiers ≤ length (g.tiers ++ t ∷ []) = omega (arith, length-append g.tiers (t ∷ [])) in
     record {
-      tier_names = all_push (λ x. is_name x.name) g.tiers t m.tier_names (not_false (is_name name) n.names);
+      tier_names = all_push (λ x. is_name x.name) g.tiers t m.tier_names (not-false (is_name name) n.names);
       tiers_once = ap has_twice (map-append (λ x. x.name) g.tiers (t ∷ []))
           ∙ once_push (map (λ x. x.name) g.tiers) name m.tiers_once
           (list_any-map (bytes_eq name) (λ x. x.name) g.tiers ∙ n.once);
@@ -274,7 +267,7 @@ pub letter_made : (g : GrammarValue) (x name : List ℕ) (names : List (List ℕ
 letter_made g x name names m n =
     let l : Letter = record { byte = first_byte x; tiers = mask_of (inputs_of g.tiers) (name ∷ names) } in
     let a = or_parts (not (is_letter_byte x)) (list_any (λ w. not (is_name w)) (name ∷ names)) n.names in
-    let is = one_byte x (not_false (is_letter_byte x) a.0) in
+    let is = one_byte x (not-false (is_letter_byte x) a.0) in
     let b = or_parts (list_any (λ k. bytes_eq x (letter_name k)) g.letters) (has_twice (name ∷ names)) n.once in
     let c = or_parts (not (is_input_named g.tiers name))
     (list_any (λ w. not (is_input_named g.tiers w)) names) n.inputs in
@@ -285,13 +278,13 @@ letter_made g x name names m n =
       few_inputs = m.few_inputs;
       few_free = m.few_free;
       letter_names = all_push (λ k. is_letter_byte (letter_name k)) g.letters l m.letter_names
-          (ap is_letter_byte (sym is) ∙ not_false (is_letter_byte x) a.0);
+          (ap is_letter_byte (sym is) ∙ not-false (is_letter_byte x) a.0);
       letters_once = ap has_twice (map-append letter_name g.letters (l ∷ []))
           ∙ once_push (map letter_name g.letters) (letter_name l) m.letters_once
           (list_any-map (bytes_eq (letter_name l)) letter_name g.letters
           ∙ ap (λ w. list_any (λ k. bytes_eq w (letter_name k)) g.letters) (sym is) ∙ b.0);
       sounds = all_push (has_sound (length (inputs_of g.tiers))) g.letters l m.sounds
-          (sound_made g.tiers x name names (not_false (is_input_named g.tiers name) c.0));
+          (sound_made g.tiers x name names (not-false (is_input_named g.tiers name) c.0));
       constraint_names = m.constraint_names;
       constraints_once = m.constraints_once;
       few_constraints = m.few_constraints;
@@ -319,7 +312,7 @@ numbers_below : (tiers : List NamedTier) (es : List NamedEvent) → list_any (λ
 numbers_below tiers [] h = refl
 numbers_below tiers (e ∷ es) h =
     let a = or_parts (is_unknown tiers e.tier) (list_any (λ x. is_unknown tiers x.tier) es) h in
-    let l = number_below tiers e.tier (not_false (list_any (is_named e.tier) tiers) a.0) in
+    let l = number_below tiers e.tier (not-false (list_any (is_named e.tier) tiers) a.0) in
     and_from (nat_lt (number_of tiers e.tier) (length tiers))
     (list_all (λ x. nat_lt x.tier (length tiers)) (map (numbered tiers) es)) (grind (arith, nat_tests))
     (numbers_below tiers es a.1)
@@ -358,7 +351,7 @@ constraint_made g name family left right some_left some_right m n =
       letters_once = m.letters_once;
       sounds = m.sounds;
       constraint_names = all_push (λ x. is_name x.name) g.constraints c m.constraint_names
-          (not_false (is_name name) n.names);
+          (not-false (is_name name) n.names);
       constraints_once = ap has_twice (map-append (λ x. x.name) g.constraints (c ∷ []))
           ∙ once_push (map (λ x. x.name) g.constraints) name m.constraints_once
           (list_any-map (bytes_eq name) (λ x. x.name) g.constraints ∙ n.once);

@@ -1,7 +1,7 @@
 -- The pieces of a line as lexemes.
-use Rattle.std.proofs.Common.{◌≡◌, ℕ, ◌+◌, Bool, true, false, cond, not, List, [], ◌∷◌, ◌++◌, map, filter, length, refl, ap, sym, ◌∙◌, append_assoc, append-nil, Option, Some, None, is_some, option_map, option_and_then}
-use Rattle.grammar_reader.specs.Pieces.{lines_of, content, pieces_of, parts_of, is_spacing, Mark, placed, is_no_spacing, marks_of, marks_from, Lexeme, lexeme_of}
-use Rattle.grammar_reader.specs.Statements.{each_some}
+use Rattle.std.proofs.Common.{◌≡◌, ℕ, ◌+◌, true, false, cond, not, List, [], ◌∷◌, ◌++◌, filter, length, refl, ap, sym, ◌∙◌, append_assoc, append-nil, Option, Some, None, is_some, option_map}
+use Rattle.timeline_text.specs.Bytes.{lines_of}
+use Rattle.grammar_reader.specs.Pieces.{content, pieces_of, parts_of, is_spacing, placed, is_no_spacing, marks_of, marks_from}
 use Rattle.grammar_reader.specs.Lexemes.{with_front, texts}
 
 pub none_of : {X : Type 0} (o : Option X) → is_some o ≡ false → o ≡ None
@@ -12,25 +12,6 @@ pub cons_front : {X : Type 0} (xs : List X) (y : X) (o : Option (List X))
     → with_front xs (option_map (λ ys. y ∷ ys) o) ≡ with_front (xs ++ y ∷ []) o
 cons_front xs y None = refl
 cons_front xs y (Some ys) = ap Some (sym (append_assoc xs (y ∷ []) ys))
-
--- one more lexeme
-pub lex_more : (xs : List Lexeme) (marks : List Mark) (m : Mark) (ms : List Mark) (y : Lexeme) → marks ≡ m ∷ ms
-    → lexeme_of m.text ≡ Some y →
-    with_front xs (each_some lexeme_of (texts marks)) ≡ with_front (xs ++ y ∷ []) (each_some lexeme_of (texts ms))
-lex_more xs marks m ms y e h = ap (λ k. with_front xs (each_some lexeme_of (texts k))) e
-    ∙ ap (λ o. with_front xs (option_and_then (λ z. option_map (λ zs. z ∷ zs) (each_some lexeme_of (texts ms))) o)) h
-    ∙ cons_front xs y (each_some lexeme_of (texts ms))
-
--- a piece that is no lexeme
-pub lex_none : (xs : List Lexeme) (marks : List Mark) (m : Mark) (ms : List Mark) → marks ≡ m ∷ ms
-    → lexeme_of m.text ≡ None → with_front xs (each_some lexeme_of (texts marks)) ≡ None
-lex_none xs marks m ms e h = ap (λ k. with_front xs (each_some lexeme_of (texts k))) e
-    ∙ ap (λ o. with_front xs (option_and_then (λ z. option_map (λ zs. z ∷ zs) (each_some lexeme_of (texts ms))) o)) h
-
--- the end
-pub lex_end : (xs : List Lexeme) (marks : List Mark) → marks ≡ []
-    → with_front xs (each_some lexeme_of (texts marks)) ≡ Some xs
-lex_end xs marks e = ap (λ k. with_front xs (each_some lexeme_of (texts k))) e ∙ ap Some (append-nil xs)
 
 texts_placed : (n at : ℕ) (ps : List (List ℕ))
     → texts (filter is_no_spacing (placed n at ps)) ≡ filter (λ p. not (is_spacing p)) ps

@@ -30,3 +30,4 @@ pub mod Sides
 pub mod Uncaused
 pub mod ReadAgain
 pub mod TextLength
+pub mod OverTiers

@@ -1,17 +1,18 @@
 -- The lexemes of a line that is joined from words, with a space between each two.
-use Rattle.std.proofs.lemmas.Bool.{and_parts, and_from, or_from}
+use Rattle.std.proofs.lemmas.Bool.{and_parts, and_from, or_from, not-true}
 use Rattle.std.proofs.Common.{◌≡◌, ℕ, Bool, true, false, cond, not, ◌&&◌, ◌==◌, List, [], ◌∷◌, ◌++◌, filter, refl, ap, sym, ◌∙◌, append-nil, Option, Some, None, option_map, option_and_then}
 use Rattle.std.specs.List.{list_all, flat_map, join_with_byte, onto_first}
 use Rattle.std.proofs.lemmas.Grind.{flat_map-append}
 use Rattle.std.proofs.lemmas.List.Elements.{filter-append}
 use Rattle.std.proofs.lemmas.List.Folds.{list_all-append}
 use Rattle.std.proofs.lemmas.List.Splits.{slice_split-cons_yes, slice_split-cons_no}
-use Rattle.grammar_reader.specs.Pieces.{is_newline, lines_of, is_comment, content, is_word_byte, holds_together, goes_on, onto_piece, pieces_of, is_spacing, parts_of, Lexeme, lexeme_of}
+use Rattle.tier_core.proofs.Bools.{and_false}
+use Rattle.timeline_text.specs.Bytes.{is_newline, lines_of}
+use Rattle.grammar_reader.specs.Pieces.{is_comment, content, is_word_byte, holds_together, goes_on, onto_piece, pieces_of, is_spacing, parts_of, Lexeme, lexeme_of}
 use Rattle.grammar_reader.specs.Statements.{each_some}
 use Rattle.grammar_reader.specs.Canonical.{line_of_words}
 use Rattle.grammar_reader.proofs.Forms.{both_some}
-use Rattle.grammar_reader.proofs.Steps.{and_false}
-use Rattle.grammar_reader.proofs.Walk.{is_nil, joins, content_keeps, apart}
+use Rattle.grammar_reader.proofs.Walk.{is_nil, content_keeps, apart}
 
 -- ---- bytes that are neither a line's end nor a comment's start
 
@@ -24,18 +25,14 @@ record Inner (b : ℕ) : Type 0 where
   comment : is_comment b ≡ false
   return : (b == 13) ≡ false
 
-not_true : (t : Bool) → not t ≡ true → t ≡ false
-not_true true h = cc
-not_true false h = refl
-
 inner_is : (b : ℕ) → is_inner b ≡ true → Inner b
 inner_is b h =
     let x = and_parts (not (is_newline b) && not (is_comment b)) (not (b == 13)) h in
     let y = and_parts (not (is_newline b)) (not (is_comment b)) x.0 in
     record {
-      newline = not_true (is_newline b) y.0;
-      comment = not_true (is_comment b) y.1;
-      return = not_true (b == 13) x.1;
+      newline = not-true (is_newline b) y.0;
+      comment = not-true (is_comment b) y.1;
+      return = not-true (b == 13) x.1;
     }
 
 content_same : (line : List ℕ) → list_all is_inner line ≡ true → content line ≡ line
@@ -60,7 +57,7 @@ space_after : (a : ℕ) → holds_together a 32 ≡ false
 space_after a = or_from (is_word_byte a && is_word_byte 32) ((a == 45) && (32 == 62)) (and_false (is_word_byte a))
     (and_false (a == 45))
 
-space_before : (rest : List ℕ) → joins 32 rest ≡ false
+space_before : (rest : List ℕ) → goes_on 32 rest ≡ false
 space_before [] = refl
 space_before (c ∷ rest) = refl
 

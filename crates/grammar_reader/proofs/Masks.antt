@@ -1,19 +1,15 @@
 -- The mask of the input tiers that are named, tier by tier.
-use Rattle.std.proofs.Common.{◌≡◌, ℕ, suc, ◌+◌, ◌*◌, ◌^◌, ◌<◌, ◌≤◌, Bool, true, false, cond, List, [], ◌∷◌, length, get_or, drop, map, refl, ap, sym, ◌∙◌, arith}
+use Rattle.std.proofs.Common.{◌≡◌, ℕ, suc, ◌+◌, ◌*◌, ◌^◌, ◌<◌, ◌≤◌, Bool, true, false, cond, List, ◌∷◌, length, get_or, drop, ap, sym, ◌∙◌, arith}
 use Rattle.std.specs.List.{list_any}
 use Rattle.std.specs.Str.{bytes_eq}
-use Rattle.std.proofs.Math.Nat.{mul-add, mul_assoc}
 use Rattle.std.proofs.lemmas.List.{drop_more}
 use Rattle.tier_core.specs.declared.tier.TierKind.{TierKind}
 use Rattle.tier_core.specs.Tiers.{is_input}
-use Rattle.grammar_reader.specs.Values.{is_named, inputs_of}
+use Rattle.tier_core.proofs.MaskBits.{mask_shift}
+use Rattle.grammar_reader.specs.Values.{inputs_of}
 use Rattle.grammar_reader.specs.Seen.{tier_seen, tiers_seen}
 use Rattle.grammar_reader.specs.Reading.{mask_of}
 use denote.Ref.{Bor}
-
-shift : (m b x : ℕ) (t : Bool) → m + b * (cond t 1 0 + 2 * x) ≡ m + cond t b 0 + b * 2 * x
-shift m b x true = let p = mul-add b 1 (2 * x) in let q = mul_assoc b 2 x in omega arith
-shift m b x false = let p = mul-add b 0 (2 * x) in let q = mul_assoc b 2 x in omega arith
 
 module _ (es : List (Bor (List ℕ) × TierKind)) (names : List (List ℕ)) (k : ℕ) (e : Bor (List ℕ) × TierKind)
     (here : k < length es) (is : e ≡ get_or es k e) where
@@ -36,11 +32,7 @@ module _ (es : List (Bor (List ℕ) × TierKind)) (names : List (List ℕ)) (k :
       ∙ ap (λ u. m + b * mask_of (cond u (tier_seen e ∷ inputs_of (tiers_seen (drop (k + 1) es)))
       (inputs_of (tiers_seen (drop (k + 1) es)))) names) i
       ∙ ap (λ u. m + b * (cond u 1 0 + 2 * mask_of (inputs_of (tiers_seen (drop (k + 1) es))) names)) (sym n)
-      ∙ shift m b (mask_of (inputs_of (tiers_seen (drop (k + 1) es))) names) t
-
-pub chosen_below : (m b : ℕ) (t : Bool) (r : ℕ) → r ≡ cond t b 0 → m < b → m + r < b * 2
-chosen_below m b true r e l = omega arith
-chosen_below m b false r e l = omega arith
+      ∙ mask_shift m b (mask_of (inputs_of (tiers_seen (drop (k + 1) es))) names) t
 
 pub power_more : (n b k : ℕ) → n ≡ k + 1 → b ≤ 2 ^ k → b * 2 ≤ 2 ^ n
 power_more n b k e l = let p : 2 ^ (suc k)

@@ -3,6 +3,7 @@ use Rattle.std.proofs.lemmas.Bool.{or_parts, or_from}
 use Rattle.std.proofs.Common.{◌≡◌, ℕ, suc, ◌+◌, ◌*◌, ◌/◌, ◌%◌, ◌^◌, ◌<◌, ◌==◌, Bool, true, false, cond, ◌||◌, ◌⊎◌, inl, inr, List, [], ◌∷◌, ◌++◌, length, map, refl, ap, sym, ◌∙◌, arith}
 use Rattle.std.specs.List.{list_any}
 use Rattle.std.specs.Str.{bytes_eq}
+use Rattle.tier_core.proofs.MaskBits.{odd_or_even}
 use Rattle.grammar_reader.specs.Names.{has_twice}
 use Rattle.grammar_reader.specs.Values.{NamedTier, is_named}
 use Rattle.grammar_reader.specs.Canonical.{is_odd, names_in}
@@ -44,9 +45,6 @@ once_in (t ∷ ts) m h =
     (once_in ts (m / 2) a.1)
 
 -- ---- parity
-
-odd_or_even : (n : ℕ) → (n % 2 ≡ 1) ⊎ (n % 2 ≡ 0)
-odd_or_even n = grind arith
 
 halves_at : (m : ℕ) → (m % 2 ≡ 1) ⊎ (m % 2 ≡ 0) → cond (is_odd m) 1 0 + 2 * (m / 2) ≡ m
 halves_at m (inl odd) = let e = ap (λ n. cond (n == 1) 1 0 + 2 * (m / 2)) odd in let d : 1 + 2 * (m / 2)

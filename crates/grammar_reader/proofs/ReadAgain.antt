@@ -5,21 +5,23 @@ use Rattle.tier_core.specs.declared.tier.TierKind.{TierKind}
 use Rattle.tier_core.specs.declared.tier.TierKind.TheVariants.{Input, Overt, Hidden}
 use Rattle.tier_core.specs.Tiers.{is_input}
 use Rattle.timeline_text.specs.declared.letter.Letter.{Letter}
-use Rattle.grammar_reader.specs.Pieces.{Lexeme, equals, word, lines_of}
+use Rattle.timeline_text.specs.Bytes.{lines_of}
+use Rattle.grammar_reader.specs.Pieces.{Lexeme, equals, word}
 use Rattle.grammar_reader.specs.Statements.{Statement, tier, letter, constraint, each_some, word_of, kind_of, letter_line, statement_of, joined_by}
 use Rattle.grammar_reader.specs.Names.{is_name, is_letter_byte}
 use Rattle.grammar_reader.specs.Values.{GrammarValue, NamedTier, NamedConstraint, inputs_of, letter_name, IsMade, IsGrammar}
 use Rattle.grammar_reader.specs.Reading.{At, nothing, with_statement, after_cause, after_statement, kept, after_lexemes, after_lines, go_on, grammar_of, numbered}
 use Rattle.grammar_reader.specs.Canonical.{line_of_words, kind_text, tier_words, names_in, letter_words, event_text, joined, sign_text, constraint_words, header_words, tier_lines, letter_lines, constraint_lines, canonical}
-use Rattle.grammar_reader.proofs.Lawful.{NoCause, cause_none, not_false}
+use Rattle.grammar_reader.proofs.Lawful.{NoCause, cause_none}
 use Rattle.grammar_reader.proofs.LawfulLines.{whole_is}
 use Rattle.grammar_reader.proofs.LineLexemes.{AreRead, read_none, read_next, read_both, line_lexemes, line_first}
 use Rattle.grammar_reader.proofs.WordLexemes.{name_read, letter_read, kind_read, and_read, joint_read, sign_lexeme, sign_read, equals_read}
 use Rattle.grammar_reader.proofs.MasksBack.{some_in, mask_back}
 use Rattle.grammar_reader.proofs.Once.{at_place, once_filtered}
 use Rattle.grammar_reader.proofs.Sides.{HasName, named_event, side_lexemes, side_read, both_sides, constraint_back}
-use Rattle.std.proofs.lemmas.Bool.{or_parts}
-use Rattle.grammar_reader.proofs.Uncaused.{with_tiers, with_letters, with_constraints, tier_uncaused, letter_uncaused, sound_at, sides_at, names_of, constraint_uncaused, numbers_back, names_are}
+use Rattle.std.proofs.lemmas.Bool.{or_parts, not-false}
+use Rattle.grammar_reader.proofs.Adding.{grammar_by}
+use Rattle.grammar_reader.proofs.Uncaused.{with_tiers, with_letters, tier_uncaused, letter_uncaused, sound_at, sides_at, names_of, constraint_uncaused, numbers_back, names_are}
 
 -- after what was read before, the text is read as a grammar, whatever the number of its first line
 Reads : Option GrammarValue → List ℕ → GrammarValue → Type 0
@@ -74,7 +76,7 @@ names_read : (ws : List (List ℕ)) → list_any (λ n. not (is_name n)) ws ≡ 
 names_read [] h = read_none
 names_read (w ∷ ws) h =
     let a = or_parts (not (is_name w)) (list_any (λ n. not (is_name n)) ws) h in
-    read_next w (word w ∷ []) ws (map word ws) (name_read w (not_false (is_name w) a.0)) (names_read ws a.1)
+    read_next w (word w ∷ []) ws (map word ws) (name_read w (not-false (is_name w) a.0)) (names_read ws a.1)
 
 -- ---- the lines of tiers
 
@@ -133,7 +135,7 @@ module _ (g : GrammarValue) (m : IsMade g) where
       (line ++ (letter_lines g.tiers ls ++ rest)) g (append_assoc line (letter_lines g.tiers ls) rest)
       (reads_statement (with_letters g.tiers front) (letter (letter_name l) names) (letter_words g.tiers l)
       (word (codes "letter")) (word (letter_name l) ∷ equals ∷ map word names) (letter_lines g.tiers ls ++ rest) g
-      (letter_words_read l (not_false (is_letter_byte (letter_name l)) good.0) good.1)
+      (letter_words_read l (not-false (is_letter_byte (letter_name l)) good.0) good.1)
       (letter_back (letter_name l) names (some_in (inputs_of g.tiers) l.tiers sound.0 sound.1)) uncaused
       (reads_after (with_statement (with_letters g.tiers front) (letter (letter_name l) names))
       (with_letters g.tiers (front ++ l ∷ [])) (letter_lines g.tiers ls ++ rest) g
@@ -162,10 +164,10 @@ module _ (g : GrammarValue) (m : IsMade g) where
       (sign_read c.family) (side_read joint names c.right (joint_read c.family) right))))
 
   constraints_read : (front cs : List NamedConstraint) → g.constraints ≡ front ++ cs → Reads (Some g) [] g
-      → Reads (Some (with_constraints g.tiers g.letters front)) (constraint_lines (names_of g.tiers) cs) g
-  constraints_read front [] e h = reads_after (with_constraints g.tiers g.letters front)
-      (with_constraints g.tiers g.letters g.constraints) [] g
-      (ap (with_constraints g.tiers g.letters) (sym (e ∙ append-nil front))) h
+      → Reads (Some (grammar_by g.tiers g.letters front)) (constraint_lines (names_of g.tiers) cs) g
+  constraints_read front [] e h = reads_after (grammar_by g.tiers g.letters front)
+      (grammar_by g.tiers g.letters g.constraints) [] g
+      (ap (grammar_by g.tiers g.letters) (sym (e ∙ append-nil front))) h
   constraints_read front (c ∷ cs) e h =
       let names = names_of g.tiers in
       let sides = sides_at g front c cs m e in
@@ -176,22 +178,22 @@ module _ (g : GrammarValue) (m : IsMade g) where
       let said = constraint c.name c.family (map (named_event names) c.left) (map (named_event names) c.right) in
       let ls = numbers_back g.tiers c.left m.tiers_once sides.left.within in
       let rs = numbers_back g.tiers c.right m.tiers_once sides.right.within in
-      reads_statement (with_constraints g.tiers g.letters front) said (constraint_words names c)
+      reads_statement (grammar_by g.tiers g.letters front) said (constraint_words names c)
       (word (codes "constraint")) (word c.name ∷ both_sides names c.family c.left c.right)
       (constraint_lines names cs) g
       (constraint_words_read c named left right)
       (constraint_back names c.name c.family c.left c.right sides.left.some sides.right.some left right)
       (constraint_uncaused g front c cs m e)
-      (reads_after (with_statement (with_constraints g.tiers g.letters front) said)
-      (with_constraints g.tiers g.letters (front ++ c ∷ [])) (constraint_lines names cs) g
-      (ap (λ es. with_constraints g.tiers g.letters
+      (reads_after (with_statement (grammar_by g.tiers g.letters front) said)
+      (grammar_by g.tiers g.letters (front ++ c ∷ [])) (constraint_lines names cs) g
+      (ap (λ es. grammar_by g.tiers g.letters
       (front ++ record {
         name = c.name;
         family = c.family;
         left = es;
         right = map (numbered g.tiers) (map (named_event names) c.right);
       } ∷ [])) ls
-      ∙ ap (λ es. with_constraints g.tiers g.letters
+      ∙ ap (λ es. grammar_by g.tiers g.letters
       (front ++ record { name = c.name; family = c.family; left = c.left; right = es } ∷ [])) rs)
       (constraints_read (front ++ c ∷ []) cs (e ∙ sym (append_assoc front (c ∷ []) cs)) h))
 

@@ -1,6 +1,6 @@
 -- What the type of a shape keeps, of the shape of a grammar.
-use Rattle.std.proofs.Common.{◌≡◌, ℕ, zero, suc, ◌+◌, ◌<◌, ◌≤◌, Bool, true, false, cond, ◌||◌, List, [], ◌∷◌, ◌++◌, length, map, filter, take, get_or, refl, ap, sym, ◌∙◌, subst, arith, length-append}
-use Rattle.std.specs.List.{list_any, range_with_len}
+use Rattle.std.proofs.Common.{◌≡◌, ℕ, suc, ◌+◌, ◌<◌, ◌≤◌, Bool, true, false, cond, ◌||◌, List, [], ◌∷◌, length, map, filter, take, get_or, refl, ap, sym, ◌∙◌, arith}
+use Rattle.std.specs.List.{list_any}
 use Rattle.std.proofs.lemmas.Bool.{false≢true}
 use Rattle.std.proofs.lemmas.List.{length-map, length-take-le}
 use Rattle.std.proofs.lemmas.List.FromFn.{length-map-range_with_len, get_or-map-range_with_len}
@@ -56,15 +56,11 @@ filtered_at_most : (xs : List Constraint) → length (filter is_stretch xs) ≤ 
 filtered_at_most [] = omega arith
 filtered_at_most (x ∷ xs) = at_most (is_stretch x) x (filter is_stretch xs) (length xs) (filtered_at_most xs)
 
-bit : (t : Bool) → 0 ≤ cond t 1 0
-bit true = omega arith
-bit false = omega arith
-
-count_rises : (xs : List Constraint) (r : ℕ) → r < length xs
+-- one constraint more has no fewer stretch implications
+pub count_rises : (xs : List Constraint) (r : ℕ) → r < length xs
     → length (filter is_stretch (take r xs)) ≤ length (filter is_stretch (take (r + 1) xs))
 count_rises [] r k = absurd (omega arith)
-count_rises (x ∷ xs) r k = let e = length-filter_more is_stretch (x ∷ xs) r x k in let b = bit
-    (is_stretch (get_or (x ∷ xs) r x)) in omega (arith, e, b)
+count_rises (x ∷ xs) r k = let e = length-filter_more is_stretch (x ∷ xs) r x k in omega (arith, e)
 
 count_at : (cs : List Constraint) (r : ℕ) → r < length cs + 1
     → get_or (stretch_counts cs) r 0 ≡ length (filter is_stretch (take r cs))
@@ -90,7 +86,3 @@ never_falls cs l = record {
       let t = length-take-le r cs (omega arith) in
       omega (arith, a, f, t);
 }
-
-pub bit_value : (t : Bool) → cond t 1 0 ≤ 1
-bit_value true = omega arith
-bit_value false = omega arith

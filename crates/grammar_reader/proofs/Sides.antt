@@ -1,6 +1,6 @@
 -- The events of a side: the words that join them are read, and cut, as they were joined.
-use Rattle.std.proofs.lemmas.Bool.{or_parts}
-use Rattle.std.proofs.Common.{◌≡◌, ℕ, suc, ◌+◌, ◌<◌, Bool, true, false, cond, not, List, [], ◌∷◌, ◌++◌, length, map, take, drop, refl, ap, sym, ◌∙◌, codes, append-nil, arith, append_assoc, length-append, subst, take_at, drop_at, Some, None}
+use Rattle.std.proofs.lemmas.Bool.{or_parts, not-true}
+use Rattle.std.proofs.Common.{◌≡◌, ℕ, suc, ◌+◌, ◌<◌, true, false, cond, List, [], ◌∷◌, ◌++◌, length, map, take, drop, refl, ap, sym, ◌∙◌, codes, append-nil, arith, append_assoc, length-append, subst, take_at, drop_at, Some, None}
 use Rattle.std.specs.Prelude.{slice_index_or, All}
 use Rattle.std.specs.List.{slice_split, position_or_len, AllByRecursion}
 use Rattle.std.specs.Str.{bytes_eq}
@@ -65,22 +65,14 @@ side_read joint names (e ∷ es) j h = subst (λ ws. AreRead ws (side_lexemes jo
 abbrev pub IsJoint : List ℕ → Type 0
 IsJoint joint = (w : List ℕ) → is_name w ≡ true → bytes_eq w joint ≡ false
 
-no_connective : (t : Bool) → not t ≡ true → t ≡ false
-no_connective true h = cc
-no_connective false h = refl
-
 is_no_connective : (w : List ℕ) → is_name w ≡ true → is_connective w ≡ false
-is_no_connective w h = no_connective (is_connective w) (name_parts w h).other
+is_no_connective w h = not-true (is_connective w) (name_parts w h).other
 
 pub and_joint : IsJoint (codes "and")
 and_joint w h = (or_parts (bytes_eq w (codes "and")) (bytes_eq w (codes "or")) (is_no_connective w h)).0
 
 or_joint : IsJoint (codes "or")
 or_joint w h = (or_parts (bytes_eq w (codes "and")) (bytes_eq w (codes "or")) (is_no_connective w h)).1
-
-pub family_joint : (family : Family) → IsJoint (joined_by family)
-family_joint Implication = or_joint
-family_joint Clash = and_joint
 
 uncut_part : (joint w : List ℕ) (part : Part) → bytes_eq w joint ≡ false
     → AllByRecursion (λ l. is_the_word joint l ≡ false) (part_lexemes part ++ word w ∷ [])

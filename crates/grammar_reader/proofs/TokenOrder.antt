@@ -6,7 +6,8 @@ use Rattle.std.proofs.lemmas.List.Elements.{All-from_recursion}
 use Rattle.std.proofs.lemmas.List.Kept.{AllPairs-cons}
 use Rattle.std.proofs.lemmas.List.Sums.{take_while-cons}
 use Rattle.grammar_reader.specs.Ascending.{AreAscending, Precedes}
-use Rattle.grammar_reader.specs.Pieces.{content, goes_on, is_no_spacing, is_token, lines_of, Mark, marks_of, onto_piece, pieces_of, placed, tokens_of}
+use Rattle.timeline_text.specs.Bytes.{lines_of}
+use Rattle.grammar_reader.specs.Pieces.{content, goes_on, is_no_spacing, is_token, Mark, marks_of, onto_piece, pieces_of, placed, tokens_of}
 use Rattle.grammar_reader.proofs.SliceLaw.{concat_pieces, content_after}
 
 -- ---- walks ----

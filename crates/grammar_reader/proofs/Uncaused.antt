@@ -10,6 +10,7 @@ use Rattle.std.proofs.lemmas.List.{length-map}
 use Rattle.std.proofs.lemmas.List.Elements.{filter-append}
 use Rattle.tier_core.specs.declared.event.Event.{Event}
 use Rattle.tier_core.specs.Tiers.{is_input, is_free}
+use Rattle.tier_core.proofs.Bools.{and_false}
 use Rattle.timeline_text.specs.declared.letter.Letter.{Letter}
 use Rattle.grammar_reader.specs.Statements.{tier, letter, constraint}
 use Rattle.grammar_reader.specs.Names.{is_name, is_letter_byte, has_twice}
@@ -20,7 +21,7 @@ use Rattle.grammar_reader.proofs.Lawful.{NoCause}
 use Rattle.grammar_reader.proofs.MasksBack.{none_in, once_in}
 use Rattle.grammar_reader.proofs.Once.{none_filtered, none_fails, at_place, front_once, once_filtered, none_unknown, none_other, name_at, known_at, number_at, named_at}
 use Rattle.grammar_reader.proofs.Sides.{HasName, named_event}
-use Rattle.grammar_reader.proofs.Steps.{and_false}
+use Rattle.grammar_reader.proofs.Adding.{grammar_by}
 
 -- ---- grammars of which some lines are read
 
@@ -29,9 +30,6 @@ with_tiers tiers = record { tiers = tiers; letters = []; constraints = [] }
 
 abbrev pub with_letters : List NamedTier → List Letter → GrammarValue
 with_letters tiers letters = record { tiers = tiers; letters = letters; constraints = [] }
-
-abbrev pub with_constraints : List NamedTier → List Letter → List NamedConstraint → GrammarValue
-with_constraints tiers letters constraints = record { tiers = tiers; letters = letters; constraints = constraints }
 
 -- ---- tiers
 
@@ -157,7 +155,7 @@ few_named names es l = let n = length-map es (named_event names) in let k : leng
 
 pub constraint_uncaused : (g : GrammarValue) (front : List NamedConstraint) (c : NamedConstraint)
     (rest : List NamedConstraint) → IsMade g → g.constraints ≡ front ++ c ∷ rest
-    → NoCause (with_constraints g.tiers g.letters front)
+    → NoCause (grammar_by g.tiers g.letters front)
     (constraint c.name c.family (map (named_event (names_of g.tiers)) c.left)
     (map (named_event (names_of g.tiers)) c.right))
 constraint_uncaused g front c rest m e =

@@ -11,7 +11,8 @@ use Rattle.tier_core.specs.declared.tier.TierKind.{TierKind}
 use Rattle.tier_core.specs.declared.tier.TierKind.TheVariants.{Input, Overt, Hidden}
 use Rattle.tier_core.specs.declared.constraint.Family.{Family}
 use Rattle.tier_core.specs.declared.constraint.Family.TheVariants.{Implication, Clash}
-use Rattle.grammar_reader.specs.Pieces.{is_newline, is_comment, is_word_byte, holds_together, onto_piece, pieces_of, is_spacing, Lexeme, opens, closes, equals, clash, implies, word, lexeme_of}
+use Rattle.timeline_text.specs.Bytes.{is_newline}
+use Rattle.grammar_reader.specs.Pieces.{is_comment, is_word_byte, holds_together, onto_piece, pieces_of, is_spacing, Lexeme, opens, closes, equals, clash, implies, word, lexeme_of, goes_on}
 use Rattle.grammar_reader.specs.Statements.{each_some, joined_by}
 use Rattle.grammar_reader.specs.Names.{is_name, is_letter_byte}
 use Rattle.grammar_reader.specs.Canonical.{kind_text, part_text, event_text, sign_text}
@@ -19,7 +20,7 @@ use Rattle.grammar_reader.proofs.Ascii.{name_parts}
 use Rattle.grammar_reader.proofs.Lawful.{all_weaker}
 use Rattle.grammar_reader.proofs.LineLexemes.{is_inner, IsRead}
 use Rattle.grammar_reader.proofs.Steps.{is_other, plain_word}
-use Rattle.grammar_reader.proofs.Walk.{joins, apart}
+use Rattle.grammar_reader.proofs.Walk.{apart}
 
 -- ---- words of letters, digits and `_`
 
@@ -82,7 +83,7 @@ kind_read Input = record { inner = refl; lexemes = refl }
 kind_read Overt = record { inner = refl; lexemes = refl }
 kind_read Hidden = record { inner = refl; lexemes = refl }
 
--- what joins the events of the left side
+-- what goes_on the events of the left side
 pub and_read : IsRead (codes "and") (word (codes "and") ∷ [])
 and_read = record { inner = refl; lexemes = refl }
 
@@ -114,11 +115,11 @@ part_lexemes Interior = []
 abbrev pub event_lexemes : List (List ℕ) → Event → List Lexeme
 event_lexemes names e = part_lexemes e.part ++ word (slice_index_or names e.tier []) ∷ []
 
-opens_before : (w : List ℕ) → joins 91 w ≡ false
+opens_before : (w : List ℕ) → goes_on 91 w ≡ false
 opens_before [] = refl
 opens_before (c ∷ w) = refl
 
-closes_before : (w : List ℕ) → joins 93 w ≡ false
+closes_before : (w : List ℕ) → goes_on 93 w ≡ false
 closes_before [] = refl
 closes_before (c ∷ w) = refl
 

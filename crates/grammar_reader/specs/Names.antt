@@ -2,7 +2,8 @@
 use Rattle.std.specs.Prelude.{ℕ, Bool, false, not, List, [], ◌∷◌, length, nat_le, ◌&&◌, ◌||◌}
 use Rattle.std.specs.List.{list_any, list_all}
 use Rattle.std.specs.Str.{bytes_eq}
-use Rattle.grammar_reader.specs.Pieces.{is_letter, is_digit, is_word_byte}
+use Rattle.timeline_text.specs.Bytes.{is_digit}
+use Rattle.grammar_reader.specs.Pieces.{is_letter, is_word_byte}
 use Rattle.grammar_reader.specs.Statements.{is_connective}
 
 abbrev pub begins_with_letter : List ℕ → Bool

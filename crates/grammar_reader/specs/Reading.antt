@@ -5,7 +5,8 @@ use Rattle.std.specs.Option.{option_map_or}
 use Rattle.std.specs.Str.{bytes_eq}
 use Rattle.tier_core.specs.declared.event.Event.{Event}
 use Rattle.tier_core.specs.Tiers.{is_input, is_overt, is_free}
-use Rattle.grammar_reader.specs.Pieces.{lines_of, parts_of, Lexeme, lexeme_of}
+use Rattle.timeline_text.specs.Bytes.{lines_of}
+use Rattle.grammar_reader.specs.Pieces.{parts_of, Lexeme, lexeme_of}
 use Rattle.grammar_reader.specs.Statements.{Statement, tier, letter, constraint, statement_of, NamedEvent, each_some, is_header}
 use Rattle.grammar_reader.specs.Names.{is_name, is_letter_byte, has_twice}
 use Rattle.grammar_reader.specs.Values.{GrammarValue, NamedTier, is_named, inputs_of, free_of, letter_name}

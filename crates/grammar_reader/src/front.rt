@@ -1,6 +1,7 @@
 ghost use Rattle.std.specs.Prelude.{◌≡◌, ℕ, ◌≤◌, length};
 ghost use Rattle.std.specs.List.{prefix_len, position_or_len, list_all};
-ghost use Rattle.grammar_reader.specs.Pieces.{is_newline, is_letter, is_word_byte};
+ghost use Rattle.timeline_text.specs.Bytes.{is_newline};
+ghost use Rattle.grammar_reader.specs.Pieces.{is_letter, is_word_byte};
 ghost use Rattle.grammar_reader.specs.Fronts.{Says, front_of, ends_line, begins_with, is_sign};
 
 /// What a source begins with.

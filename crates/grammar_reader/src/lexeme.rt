@@ -1,5 +1,6 @@
 ghost use Rattle.std.specs.Prelude.{◌≡◌, ◌+◌, ◌<◌, ◌^◌, ◌∷◌, [], length, option_map, MatchResult, map, Some};
-ghost use Rattle.grammar_reader.specs.Pieces.{lexeme_of, lines_of};
+ghost use Rattle.timeline_text.specs.Bytes.{lines_of};
+ghost use Rattle.grammar_reader.specs.Pieces.{lexeme_of};
 ghost use Rattle.grammar_reader.specs.Lexemes.{seen, lexemes_of, FailsLine};
 
 use crate::front::is_word;

@@ -2,7 +2,7 @@ ghost use Rattle.std.specs.Prelude.{◌≡◌, ◌+◌, ◌<◌, ◌≤◌, ◌^
 ghost use Rattle.std.specs.List.{list_any, list_all};
 ghost use Rattle.std.specs.String.{string_bytes};
 ghost use Rattle.tier_core.specs.Tiers.{is_input, is_overt};
-ghost use Rattle.grammar_reader.specs.Pieces.{lines_of};
+ghost use Rattle.timeline_text.specs.Bytes.{lines_of};
 ghost use Rattle.grammar_reader.specs.Names.{is_name};
 ghost use Rattle.grammar_reader.specs.Values.{IsGrammar};
 ghost use Rattle.grammar_reader.specs.Reading.{after_statement, after_line, whole, grammar_of};

@@ -11,6 +11,8 @@ use Rattle.std.proofs.lemmas.List.{length-append, length-take-le, take-append-dr
 use Rattle.tier_core.specs.declared.sym.Sym.{Sym}
 use Rattle.tier_core.specs.Kinds.{PrefixKind}
 use Rattle.tier_core.specs.Orders.{IsFirst, column_cmp, timeline_cmp}
+use Rattle.tier_core.proofs.Differing.{Differ, no_longer}
+use Rattle.tier_core.proofs.Members.{all_at_member}
 use Rattle.violation.specs.Candidates.{IsCandidate, IsOptimalFor}
 use Rattle.violation.specs.Moves.{moved}
 use Rattle.violation.specs.Prefixes.{kind_of}
@@ -18,11 +20,10 @@ use Rattle.violation.specs.Problems.{Problem}
 use Rattle.violation.specs.Stages.{IsStage, IsPassed, IsLeastRest, IsRemaining, AreKindsOfStage, Passes}
 use Rattle.violation.proofs.StageLemmas.{over_stretches}
 use Rattle.violation.proofs.WalkLemmas.{begun_of, candidate_walk, moved_is, walk_on}
+use Rattle.violation.proofs.FewerStages.{same_fewer, least_rest}
 use Rattle.kind_laws.specs.Ways.{kinds_passed, HasEachPassed}
 use Rattle.kind_laws.proofs.ColumnCosts.{stage_few}
-use Rattle.kind_laws.proofs.GoingOn.{lower, optimal_exchanged, same_fewer}
-use Rattle.kind_laws.proofs.Longest.{Differ, at_member, no_longer}
-use Rattle.kind_laws.proofs.Tight.{to_rest}
+use Rattle.kind_laws.proofs.GoingOn.{lower, optimal_exchanged}
 use Rattle.kind_laws.proofs.Seeking.{ComesTo, seek}
 
 passed_count : (problem : Problem) (s : ℕ) (way : List (List Sym)) (k : PrefixKind)
@@ -69,7 +70,7 @@ module _ (problem : Problem) (r s : ℕ) (stage : IsStage problem s) where
   way_short p way o once ks has =
       let few : length (kinds_passed problem s (kind_of problem s p) way) ≤ length ks =
       no_longer ks (kinds_passed problem s (kind_of problem s p) way)
-      (λ k c. has k (at_member (IsPassed problem r s) (kinds_passed problem s (kind_of problem s p) way) k
+      (λ k c. has k (all_at_member (IsPassed problem r s) (kinds_passed problem s (kind_of problem s p) way) k
       (each_passed way p o) c)) once in
       omega (arith, few, passed_count problem s way (kind_of problem s p))
 
@@ -185,5 +186,5 @@ pub remaining_few : (problem : Problem) (r : ℕ) → IsStage problem r → (ks 
 remaining_few problem zero stage ks are k c m h = omega (arith, c.1, h)
 remaining_few problem (suc i) stage ks are k c m h =
     let ranked : 1 ≤ suc i = omega arith in
-    remaining_short problem (suc i) stage ranked k m (to_rest problem (suc i) k m ranked h) ks
+    remaining_short problem (suc i) stage ranked k m (least_rest problem (suc i) k m ranked h) ks
     (λ l passed. (are.members l).1 passed)

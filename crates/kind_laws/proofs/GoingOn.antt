@@ -2,21 +2,15 @@
 use Rattle.std.proofs.Common.{◌≡◌, ℕ, zero, suc, ◌-◌, ◌≤◌, List, ◌++◌, length, sym, ap, ◌∙◌, subst, arith}
 use Rattle.tier_core.specs.declared.sym.Sym.{Sym}
 use Rattle.violation.specs.Candidates.{IsCandidate, IsOptimalFor, count_at, count_so_far_at}
-use Rattle.violation.specs.Moves.{cut}
 use Rattle.violation.specs.Prefixes.{kind_of}
 use Rattle.violation.specs.Stages.{IsStage}
 use Rattle.violation.proofs.CostLemmas.{exchange}
-use Rattle.violation.proofs.CutLemmas.{cut-kind_of}
 use Rattle.violation.proofs.StageLemmas.{all_optimal, optimal_for_fewer, over_first}
 use Rattle.violation.proofs.WalkSums.{walk_cost, violations_on, so_far_walk}
 use Rattle.kind_laws.specs.Follows.{Adds}
 use Rattle.kind_laws.proofs.Ranks.{least_count, optimal_by_count}
 use Rattle.violation.specs.Problems.{Problem}
-
--- kinds that are the same under more constraints are so under fewer
-pub same_fewer : (problem : Problem) (j s : ℕ) → j ≤ s → (v p : List (List Sym))
-    → kind_of problem s v ≡ kind_of problem s p → kind_of problem j v ≡ kind_of problem j p
-same_fewer problem j s l v p e = sym (cut-kind_of problem j s l v) ∙ ap (cut problem j) e ∙ cut-kind_of problem j s l p
+use Rattle.violation.proofs.FewerStages.{same_fewer}
 
 -- the same as a stage, for fewer constraints
 pub lower : (problem : Problem) (i r : ℕ) → i ≤ r → IsStage problem r → IsStage problem i

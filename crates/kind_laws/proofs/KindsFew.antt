@@ -1,54 +1,32 @@
 -- The kinds of a stage are among the names.
-use Rattle.std.proofs.Common.{◌≡◌, ℕ, zero, suc, ◌+◌, ◌*◌, ◌^◌, ◌<◌, ◌≤◌, Bool, true, false, not, cond, List, [], ◌∷◌, ◌++◌, map, filter, take, drop, length, refl, sym, ap, ◌∙◌, subst, arith, Contains}
-use Rattle.std.specs.List.{AllByRecursion, list_all}
+use Rattle.std.proofs.Common.{ℕ, zero, suc, ◌+◌, ◌*◌, ◌^◌, ◌≤◌, Bool, true, false, cond, List, [], ◌∷◌, ◌++◌, map, filter, take, drop, length, sym, ap, subst, arith, Contains}
 use Rattle.std.proofs.lemmas.List.{length-take, take-append-drop}
 use Rattle.std.proofs.lemmas.Nat.{mul-le}
 use Rattle.tier_core.specs.declared.sym.Sym.{Sym}
-use Rattle.tier_core.specs.declared.constraint.Constraint.{Constraint}
-use Rattle.tier_core.specs.Kinds.{closed, unmet, met, PrefixKind}
+use Rattle.tier_core.specs.Kinds.{PrefixKind}
 use Rattle.tier_core.specs.Sides.{is_stretch}
 use Rattle.tier_core.specs.Timelines.{word}
-use Rattle.tier_core.proofs.CountLemmas.{all_weaker}
 use Rattle.violation.specs.Candidates.{IsCandidate}
-use Rattle.violation.specs.Conditions.{IsOverTiers}
-use Rattle.violation.specs.Moves.{is_tier_open}
-use Rattle.violation.specs.Phases.{is_closed, is_left_open, AreClosedOr}
 use Rattle.violation.specs.Prefixes.{is_open, phase, kind_of, stretches}
 use Rattle.violation.specs.Stages.{IsStage, IsKindOfStage, AreKindsOfStage}
-use Rattle.violation.proofs.CountSteps.{all_agree}
-use Rattle.violation.proofs.PrefixLemmas.{IsBegun, input_part, tier_open_is}
+use Rattle.violation.proofs.PrefixLemmas.{IsBegun, input_part}
 use Rattle.violation.proofs.StageLemmas.{over_stretches}
 use Rattle.violation.proofs.WalkLemmas.{begun_of}
 use Rattle.violation.specs.Problems.{Problem, last_stage, last_place}
-use Rattle.kind_laws.proofs.Longest.{ascending_few}
+use Rattle.violation.proofs.ClosedPhases.{phases_closed}
+use Rattle.kind_laws.proofs.Ascending.{ascending_few}
 use Rattle.kind_laws.proofs.Names.{names, name_count, name_in}
-
-closed_is : (a b : Bool) → is_closed (cond a (cond b met unmet) closed) ≡ not a
-closed_is true true = refl
-closed_is true false = refl
-closed_is false b = refl
 
 module _ (problem : Problem) (r : ℕ) (stage : IsStage problem r) where
   module _ (p : List (List Sym)) (begun : IsBegun problem p) where
-    left_open : (c : Constraint) → IsOverTiers problem.tiers.width c
-        → list_all (λ e. is_open (word p e.tier)) c.left ≡ is_left_open problem (kind_of problem r p) c
-    left_open c o =
-        sym (all_agree (λ e. is_tier_open problem (kind_of problem r p) e.tier) (λ e. is_open (word p e.tier)) c.left
-        (all_weaker (λ e. e.tier < problem.tiers.width) _ c.left
-        (λ e l. tier_open_is problem stage.split stage.form r p begun e.tier l) o.left_below))
-
-    phases_closed : (cs : List Constraint) → AllByRecursion (IsOverTiers problem.tiers.width) cs
-        → AreClosedOr (is_left_open problem (kind_of problem r p)) cs (map (λ c. phase c.left c.right p) cs)
-    phases_closed [] o = tt
-    phases_closed (c ∷ cs) o =
-        (closed_is (list_all (λ e. is_open (word p e.tier)) c.left) _ ∙ ap not (left_open c o.0), phases_closed cs o.1)
 
     prefix_named : Contains (names problem r) (kind_of problem r p)
     prefix_named =
         name_in problem r (length (input_part problem.tiers p)) (λ t. is_open (word p t))
         (map (λ c. phase c.left c.right p) (stretches problem r))
         (omega (arith, ap length begun.place, length-take (length (input_part problem.tiers p)) problem.form))
-        (phases_closed (stretches problem r) (over_stretches problem r stage))
+        (phases_closed problem stage.split stage.form r p begun (stretches problem r)
+        (over_stretches problem r stage))
 
   kind_named : (k : PrefixKind) → IsKindOfStage problem r k → Contains (names problem r) k
   kind_named k h =

@@ -4,10 +4,9 @@ mod Repeats
 mod Ranks
 mod GoingOn
 mod Tight
-pub mod Longest
+pub mod Ascending
 pub mod Names
 pub mod KindsFew
-mod SameKinds
 pub mod ColumnCosts
 mod Seeking
 pub mod DirectWays

@@ -7,11 +7,11 @@ use Rattle.std.proofs.lemmas.List.Elements.{Contains-append_left, Contains-appen
 use Rattle.std.proofs.lemmas.List.FromFn.{length-range_with_len, get_or-range_with_len}
 use Rattle.tier_core.specs.declared.constraint.Constraint.{Constraint}
 use Rattle.tier_core.specs.Kinds.{Phase, closed, unmet, met, PrefixKind}
+use Rattle.tier_core.proofs.Members.{contains_first, contains_map, contains_flat}
 use Rattle.violation.specs.Moves.{is_met_phase}
 use Rattle.violation.specs.Phases.{is_closed, is_left_open, AreClosedOr}
 use Rattle.violation.specs.Prefixes.{stretches}
 use Rattle.violation.specs.Problems.{Problem, last_place}
-use Rattle.kind_laws.proofs.Sets.{first_in, later_in, one_of}
 
 -- every list of so many flags
 abbrev pub flags : ℕ → List (List Bool)
@@ -29,15 +29,8 @@ flag_count (suc n) =
       flag_count n,
     )
 
-pub mapped_in : {X Y : Type 0} (f : X → Y) (xs : List X) (x : X) → Contains xs x → Contains (map f xs) (f x)
-mapped_in f [] x c = absurd (omega (arith, c.1))
-mapped_in f (y ∷ xs) x c =
-    one_of y xs x (Contains (f y ∷ map f xs) (f x))
-    (λ e. subst (λ z. Contains (f y ∷ map f xs) (f z)) e (first_in (f y) (map f xs)))
-    (λ r. later_in (f y) (map f xs) (f x) (mapped_in f xs x r)) c
-
 pub flags_in : {X : Type 0} (g : X → Bool) (xs : List X) → Contains (flags (length xs)) (map g xs)
-flags_in g [] = first_in [] []
+flags_in g [] = contains_first [] []
 flags_in g (x ∷ xs) = step (g x) (flags_in g xs)
   where
     step : (b : Bool) → Contains (flags (length xs)) (map g xs)
@@ -45,10 +38,10 @@ flags_in g (x ∷ xs) = step (g x) (flags_in g xs)
         (b ∷ map g xs)
     step true h =
         Contains-append_left (map (λ fs. true ∷ fs) (flags (length xs))) (map (λ fs. false ∷ fs) (flags (length xs)))
-        (true ∷ map g xs) (mapped_in (λ (fs : List Bool). true ∷ fs) (flags (length xs)) (map g xs) h)
+        (true ∷ map g xs) (contains_map (λ (fs : List Bool). true ∷ fs) (flags (length xs)) (map g xs) h)
     step false h =
         Contains-append_right (map (λ fs. true ∷ fs) (flags (length xs))) (map (λ fs. false ∷ fs) (flags (length xs)))
-        (false ∷ map g xs) (mapped_in (λ (fs : List Bool). false ∷ fs) (flags (length xs)) (map g xs) h)
+        (false ∷ map g xs) (contains_map (λ (fs : List Bool). false ∷ fs) (flags (length xs)) (map g xs) h)
 
 times_more : (l n : ℕ) → suc l * n ≡ n + l * n
 times_more l n = omega arith
@@ -64,14 +57,6 @@ flat_count f n each (x ∷ xs) =
     let more : length (flat_map f xs) ≡ length xs * n = flat_count f n each xs in
     length-append (f x) (flat_map f xs) ∙ ap (λ m. m + length (flat_map f xs)) one ∙ ap (λ m. n + m) more
     ∙ sym (times_more (length xs) n)
-
-pub flat_in : {X Y : Type 0} (f : X → List Y) (xs : List X) (x : X) (y : Y) → Contains xs x → Contains (f x) y
-    → Contains (flat_map f xs) y
-flat_in f [] x y h m = absurd (omega (arith, h.1))
-flat_in f (z ∷ zs) x y h m =
-    one_of z zs x (Contains (f z ++ flat_map f zs) y)
-    (λ e. Contains-append_left (f z) (flat_map f zs) y (subst (λ w. Contains (f w) y) (sym e) m))
-    (λ r. Contains-append_right (f z) (flat_map f zs) y (flat_in f zs x y r m)) h
 
 pub range_in : (n i : ℕ) → i < n → Contains (range_with_len 0 n) i
 range_in n i l =
@@ -157,16 +142,16 @@ name_in problem r place is_open ps l h =
     let opened : List Bool = map is_open problem.tiers.free in
     let cs : List Constraint = stretches problem r in
     let here : Contains (bases problem) (base place opened) =
-    flat_in (λ place. map (base place) (flags (length problem.tiers.free)))
+    contains_flat (λ place. map (base place) (flags (length problem.tiers.free)))
     (range_with_len 0 (last_place problem + 1)) place (base place opened)
     (range_in (last_place problem + 1) place (omega arith))
-    (mapped_in (base place) (flags (length problem.tiers.free)) opened (flags_in is_open problem.tiers.free)) in
+    (contains_map (base place) (flags (length problem.tiers.free)) opened (flags_in is_open problem.tiers.free)) in
     let met_flags : Contains (flags (length cs)) (map is_met_phase ps) =
     subst (λ n. Contains (flags n) (map is_met_phase ps)) (as_many (is_left_open problem (base place opened)) cs ps h)
     (flags_in is_met_phase ps) in
     let name : Contains (names problem r) (named problem r (base place opened) (map is_met_phase ps)) =
-    flat_in (λ k. map (named problem r k) (flags (length cs))) (bases problem) (base place opened)
+    contains_flat (λ k. map (named problem r k) (flags (length cs))) (bases problem) (base place opened)
     (named problem r (base place opened) (map is_met_phase ps)) here
-    (mapped_in (named problem r (base place opened)) (flags (length cs)) (map is_met_phase ps) met_flags) in
+    (contains_map (named problem r (base place opened)) (flags (length cs)) (map is_met_phase ps) met_flags) in
     subst (λ qs. Contains (names problem r) (record { place = place; opened = opened; phases = qs }))
     (sym (phases_told (is_left_open problem (base place opened)) cs ps h)) name

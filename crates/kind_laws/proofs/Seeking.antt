@@ -3,12 +3,12 @@ use Rattle.std.proofs.Common.{◌≡◌, ◌≢◌, ◌⊎◌, inl, inr, ℕ, Li
 use Rattle.std.specs.List.{AllByRecursion}
 use Rattle.tier_core.specs.declared.sym.Sym.{Sym}
 use Rattle.tier_core.specs.Kinds.{PrefixKind}
+use Rattle.tier_core.proofs.KindTies.{same_or_not}
+use Rattle.tier_core.proofs.Differing.{Differ}
 use Rattle.violation.specs.Moves.{moved}
 use Rattle.violation.specs.Problems.{Problem}
 use Rattle.violation.specs.Walks.{reached}
 use Rattle.kind_laws.specs.Ways.{kinds_passed}
-use Rattle.kind_laws.proofs.Longest.{Differ}
-use Rattle.kind_laws.proofs.SameKinds.{same_or_not}
 
 -- a way comes to a kind behind its front, and its back passes no kind twice
 pub record ComesTo (problem : Problem) (s : ℕ) (k target : PrefixKind) (way : List (List Sym)) : Type 0 where

@@ -2,15 +2,10 @@
 use Rattle.std.proofs.Common.{◌≡◌, ◌↔◌, ℕ, zero, suc, ◌<◌, Bool, true, false, not, ◌&&◌, ◌||◌, List, [], ◌∷◌, length, get_or, Contains, refl, sym, ap, ◌∙◌, arith}
 use Rattle.std.specs.List.{list_all, list_any}
 use Rattle.std.proofs.lemmas.Bool.{and_parts, and_from}
+use Rattle.tier_core.proofs.Members.{contains_first, contains_later}
 
 abbrev pub HasSame : {X : Type 0} → List X → List X → Type 0
 HasSame {X} xs ys = (x : X) → Contains xs x ↔ Contains ys x
-
-pub first_in : {X : Type 0} (x : X) (xs : List X) → Contains (x ∷ xs) x
-first_in x xs = (0, omega arith, refl)
-
-pub later_in : {X : Type 0} (y : X) (xs : List X) (x : X) → Contains xs x → Contains (y ∷ xs) x
-later_in y xs x c = (suc c.0, omega (arith, c.1), c.2)
 
 pub one_of : {X : Type 0} (y : X) (xs : List X) (x : X) (P : Type 0) → (y ≡ x → P) → (Contains xs x → P)
     → Contains (y ∷ xs) x → P
@@ -30,7 +25,7 @@ all_from : {X : Type 0} (f : X → Bool) (xs : List X) → ((x : X) → Contains
     → list_all f xs ≡ true
 all_from f [] h = refl
 all_from f (y ∷ xs) h =
-    and_from (f y) (list_all f xs) (h y (first_in y xs)) (all_from f xs (λ x c. h x (later_in y xs x c)))
+    and_from (f y) (list_all f xs) (h y (contains_first y xs)) (all_from f xs (λ x c. h x (contains_later y xs x c)))
 
 both_ways : (a b : Bool) → (a ≡ true → b ≡ true) → (b ≡ true → a ≡ true) → a ≡ b
 both_ways true true h k = refl

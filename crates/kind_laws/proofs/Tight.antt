@@ -12,13 +12,9 @@ use Rattle.violation.proofs.WalkLemmas.{moved_is}
 use Rattle.violation.proofs.WalkSums.{none_at, walk_cost, walk_step, violations_walk}
 use Rattle.kind_laws.specs.Steps.{IsTightStep, HasTightSteps}
 use Rattle.kind_laws.proofs.Ranks.{least_count, optimal_by_count}
-use Rattle.kind_laws.proofs.GoingOn.{optimal_exchanged, same_fewer, lower, rest, adds_rest, rest_alike, so_far_alike}
+use Rattle.kind_laws.proofs.GoingOn.{optimal_exchanged, lower, rest, adds_rest, rest_alike, so_far_alike}
 use Rattle.violation.specs.Problems.{Problem}
-
-pub to_rest : (problem : Problem) (r : ℕ) (k : PrefixKind) (m : ℕ) → 1 ≤ r → IsRemaining problem r k m
-    → IsLeastRest problem r k m
-to_rest problem zero k m l h = absurd (omega arith)
-to_rest problem (suc i) k m l h = h
+use Rattle.violation.proofs.FewerStages.{same_fewer, least_rest}
 
 from_rest : (problem : Problem) (r : ℕ) (k : PrefixKind) (m : ℕ) → 1 ≤ r → IsLeastRest problem r k m
     → IsRemaining problem r k m
@@ -127,8 +123,8 @@ module _ (problem : Problem) (r : ℕ) (stage : IsStage problem r) (ranked : 1 �
       let here = t p column q refl in
       let same : here.before ≤ m =
       least_once problem r (kind_of problem r p) here.before m
-      (to_rest problem r (kind_of problem r p) here.before ranked here.leaves)
-      (to_rest problem r (kind_of problem r p) m ranked h) in
+      (least_rest problem r (kind_of problem r p) here.before ranked here.leaves)
+      (least_rest problem r (kind_of problem r p) m ranked h) in
       let later : rest problem r stage ranked (p ++ column ∷ []) q ≤ here.after =
       sum_of_steps q (p ++ column ∷ []) here.after (as_longer p column q (IsCandidate problem) c)
       (as_longer p column q (HasTightSteps problem r) t) here.arrives in
@@ -138,7 +134,7 @@ module _ (problem : Problem) (r : ℕ) (stage : IsStage problem r) (ranked : 1 �
   start_least : (m : ℕ) → IsRemaining problem r (kind_of problem r []) m → (U : List (List Sym))
       → IsOptimalFor problem (r - 1) U → m ≤ count_at problem r U
   start_least m h U o =
-      let low = (to_rest problem r (kind_of problem r []) m ranked h).least U 0
+      let low = (least_rest problem r (kind_of problem r []) m ranked h).least U 0
       (record { optimal = o; within = omega arith; of_kind = refl }) in
       omega (arith, low)
 

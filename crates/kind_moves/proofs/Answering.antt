@@ -1,26 +1,19 @@
 -- What columns answer, in the words that tell what a constraint counts.
-use Rattle.std.proofs.Common.{◌≡◌, Bool, true, false, not, ◌&&◌, ◌||◌, List, [], ◌∷◌, ◌++◌, refl, ap, sym, ◌∙◌}
+use Rattle.std.proofs.Common.{◌≡◌, Bool, true, not, ◌&&◌, List, [], ◌∷◌, ◌++◌, refl, ap, sym, ◌∙◌}
 use Rattle.std.specs.List.{list_all, list_any}
 use Rattle.std.proofs.lemmas.List.Folds.{list_all-append}
 use Rattle.tier_core.specs.declared.sym.Sym.{Sym}
 use Rattle.tier_core.specs.declared.event.Event.{Event}
 use Rattle.tier_core.specs.Timelines.{symbol, is_edge}
 use Rattle.tier_core.specs.Sides.{edge_among}
+use Rattle.tier_core.proofs.Bools.{not_not, none_of}
 use Rattle.violation.specs.Columns.{is_present}
 use Rattle.kind_moves.specs.declared.ask.Ask.TheVariants.{Present, Absent, NoEdge}
 use Rattle.kind_moves.specs.Asks.{answers}
 
 pub none_pass : {X : Type 0} (p : X → Bool) (xs : List X) → list_all (λ x. not (p x)) xs ≡ not (list_any p xs)
 none_pass p [] = refl
-none_pass p (x ∷ xs) = ap (λ b. not (p x) && b) (none_pass p xs) ∙ by (p x) (list_any p xs)
-  where
-    by : (a b : Bool) → (not a && not b) ≡ not (a || b)
-    by true b = refl
-    by false b = refl
-
-not_not : (b : Bool) → not (not b) ≡ b
-not_not true = refl
-not_not false = refl
+none_pass p (x ∷ xs) = ap (λ b. not (p x) && b) (none_pass p xs) ∙ none_of (p x) (list_any p xs)
 
 some_edge : (types : List Event) (column : List Sym) → not (answers NoEdge types column) ≡ edge_among types column
 some_edge types column =
@@ -39,13 +32,6 @@ pub is_left_ended : (has_left whole : Bool) (left : List Event) (column : List S
     → has_left ≡ (whole && answers NoEdge left column) → not has_left ≡ edge_among left column
 is_left_ended has_left whole left column all a = ap not (a ∙ ap (λ x. x && answers NoEdge left column) all)
     ∙ some_edge left column
-
-pub are_present : (has_left has_both whole : Bool) (left right : List Event) (column : List Sym) → whole ≡ true
-    → has_left ≡ (whole && answers Present left column) → has_both ≡ (has_left && answers Present right column)
-    → has_both ≡ list_all (is_present column) (left ++ right)
-are_present has_left has_both whole left right column all a b =
-    b ∙ ap (λ x. x && answers Present right column) (a ∙ ap (λ x. x && answers Present left column) all)
-    ∙ sym (list_all-append (is_present column) left right)
 
 pub are_missing : (has_left has_both whole : Bool) (left right : List Event) (column : List Sym) → whole ≡ true
     → has_left ≡ (whole && answers Present left column) → has_both ≡ (has_left && answers Absent right column)

@@ -3,36 +3,22 @@ use Rattle.std.proofs.Common.{◌≡◌, ℕ, ◌<◌, ◌≤◌, ◌==◌, ◌&
 use Rattle.std.proofs.lemmas.Bool.{agree_below_at, eqb-true}
 use Rattle.std.proofs.lemmas.List.{length-take-le, get_or-take}
 use Rattle.tier_core.specs.declared.sym.Sym.{Sym}
-use Rattle.tier_core.specs.declared.sym.Sym.TheVariants.{Outside, Inside, Start, End, Both}
 use Rattle.tier_core.specs.Classes.{sets_have}
 use Rattle.tier_core.specs.Sets.{is_in}
 use Rattle.tier_core.specs.Timelines.{symbol}
 use Rattle.tier_core.proofs.ClassLemmas.{have_each}
-
-every_symbol : (s : Sym) → is_in 31 s ≡ true
-every_symbol Outside = refl
-every_symbol Inside = refl
-every_symbol Start = refl
-every_symbol End = refl
-every_symbol Both = refl
-
-no_symbol : (s : Sym) → is_in 0 s ≡ false
-no_symbol Outside = refl
-no_symbol Inside = refl
-no_symbol Start = refl
-no_symbol End = refl
-no_symbol Both = refl
+use Rattle.tier_core.proofs.KnownSets.{in_all, in_none}
 
 pub full_have : (sets : List ℕ) (column : List Sym) → length column ≡ length sets
     → ((t : ℕ) → t < length sets → get_or sets t 0 ≡ 31) → sets_have sets column ≡ true
 full_have sets column wide full =
     have_each sets column wide (λ t inside. ap (λ x. is_in x (symbol column t)) (full t inside)
-    ∙ every_symbol (symbol column t))
+    ∙ in_all (symbol column t))
 
 pub empty_have : (sets : List ℕ) (column : List Sym) → 0 < length sets → sets_have (set sets 0 0) column ≡ false
 empty_have [] column some = absurd (omega arith)
 empty_have (x ∷ xs) [] some = refl
-empty_have (x ∷ xs) (s ∷ column) some = ap (λ b. b && sets_have xs column) (no_symbol s)
+empty_have (x ∷ xs) (s ∷ column) some = ap (λ b. b && sets_have xs column) (in_none s)
 
 -- the numbers of twelve full sets
 abbrev pub twelve_full : List ℕ

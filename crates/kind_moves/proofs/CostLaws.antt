@@ -10,6 +10,7 @@ use Rattle.tier_core.specs.Kinds.{Phase}
 use Rattle.tier_core.specs.Tiers.{has_tier}
 use Rattle.tier_core.specs.Sides.{is_stretch}
 use Rattle.tier_core.proofs.CountLemmas.{all_of}
+use Rattle.grammar_reader.proofs.OverTiers.{over_tiers}
 use Rattle.violation.specs.Candidates.{IsForm, IsCandidate, counts_on}
 use Rattle.violation.specs.Conditions.{AreSplit, IsOverTiers}
 use Rattle.violation.specs.Counts.{violations_so_far}
@@ -23,8 +24,8 @@ use Rattle.violation.proofs.WalkLemmas.{moved_is}
 use Rattle.violation.proofs.WholeCounts.{so_far_none}
 use Rattle.kind_moves.specs.declared.frame.Frame.{Frame}
 use Rattle.kind_moves.specs.Frames.{tiers_in, constraints_in, form_in, stretches_in, kind_at_stage, IsStart}
-use Rattle.kind_moves.proofs.GrammarTiers.{over_tiers, over_stretches, form_from}
-use Rattle.kind_moves.proofs.CostSteps.{unmet_told, cost_at}
+use Rattle.kind_moves.proofs.GrammarTiers.{over_stretches, form_from}
+use Rattle.violation.proofs.ConstraintCosts.{unmet_told, cost_at}
 use Rattle.violation.specs.Problems.{Problem, last_stage}
 use Rattle.kind_moves.specs.Frames.{problem_in}
 

@@ -1,13 +1,11 @@
 -- The pieces of a class that fit a kind.
-use Rattle.std.proofs.Common.{◌≡◌, ◌↔◌, ◌⊎◌, ℕ, zero, suc, ◌+◌, ◌<◌, Bool, true, false, not, ◌&&◌, ◌||◌, IsTrue, List, [], ◌∷◌, ◌++◌, map, length, refl, ap, sym, ◌∙◌, subst, arith, ⊎_elim, inl, inr, All}
+use Rattle.std.proofs.Common.{◌≡◌, ◌↔◌, ◌⊎◌, ℕ, ◌+◌, ◌<◌, Bool, true, false, not, ◌&&◌, ◌||◌, IsTrue, List, [], ◌∷◌, ◌++◌, map, length, refl, ap, sym, ◌∙◌, subst, arith, ⊎_elim, inl, inr, All}
 use Rattle.std.specs.List.{AllByRecursion}
-use Rattle.std.proofs.lemmas.Bool.{false≢true, both_ways, and_parts, and_from, or_cases, or_left, or_right, and_right, or_from, not-true, false_from_ne_true, cases_Bool}
+use Rattle.std.proofs.lemmas.Bool.{false≢true, both_ways, and_parts, and_from, or_cases, or_left, or_right, and_right, not-true, false_from_ne_true, cases_Bool}
 use Rattle.std.proofs.lemmas.List.Elements.{All-from_recursion}
-use Rattle.std.proofs.lemmas.List.Folds.{list_any_at}
 use Rattle.tier_core.specs.declared.class.Class.{Class}
 use Rattle.tier_core.specs.declared.kind.Kind.{Kind}
 use Rattle.tier_core.specs.declared.sym.Sym.{Sym}
-use Rattle.tier_core.specs.declared.sym.Sym.TheVariants.{Outside}
 use Rattle.tier_core.specs.Classes.{sets_of, has}
 use Rattle.tier_core.specs.Scan.{fits}
 use Rattle.tier_core.specs.Timelines.{symbol, column_at, is_edge, has_edge}
@@ -17,32 +15,16 @@ use Rattle.tier_core.proofs.ClassLemmas.{same_width}
 use Rattle.tier_core.specs.Filled.{is_filled}
 use Rattle.symbol_class.specs.Held.{once_if, times_held, AddsClasses}
 use Rattle.tier_core.proofs.Filled.{empty_holds}
+use Rattle.tier_core.proofs.EdgeLemmas.{none_edge, each_edgeless, edge_on}
 use Rattle.symbol_class.specs.Parts.{AddsAlike}
 use Rattle.symbol_class.proofs.PartSteps.{adds_constant, alike_then}
 use Rattle.symbol_class.proofs.Times.{adds_none, adds_same, times-cons, pieces_added, columns_added}
+use Rattle.symbol_class.proofs.Once.{either_once}
 use Rattle.violation.specs.Moves.{input_of, is_tier_open}
 use Rattle.violation.proofs.SplitLemmas.{tiers_split}
 use Rattle.kind_moves.specs.declared.frame.Frame.{Frame}
 use Rattle.kind_moves.specs.Fitting.{AreFitting, IsReadAlike}
 use Rattle.kind_moves.specs.Frames.{problem_in, tiers_in, form_in, kind_at_stage, FitsAt}
-
--- ---- edges of a column and of its input part
-
-none_edge : (xs : List Sym) → ((t : ℕ) → t < length xs → is_edge (symbol xs t) ≡ false) → has_edge xs ≡ false
-none_edge [] h = refl
-none_edge (x ∷ xs) h = or_from (is_edge x) (has_edge xs) (h zero (omega arith))
-    (none_edge xs (λ t l. h (suc t) (omega arith)))
-
-each_edgeless : (xs : List Sym) → has_edge xs ≡ false → (t : ℕ) → t < length xs → is_edge (symbol xs t) ≡ false
-each_edgeless xs none t l = false_from_ne_true (is_edge (symbol xs t))
-    (λ e. both_ways (has_edge xs) none (list_any_at is_edge xs t Outside l e))
-
-input_edge : (tiers : List ℕ) (column : List Sym) → AllByRecursion (λ t. t < length column) tiers
-    → has_edge (map (symbol column) tiers) ≡ true → has_edge column ≡ true
-input_edge [] column below e = absurd (false≢true e)
-input_edge (t ∷ ts) column below e =
-    ⊎_elim (λ here. list_any_at is_edge column t Outside below.0 here) (λ there. input_edge ts column below.1 there)
-    (or_cases (is_edge (symbol column t)) (has_edge (map (symbol column) ts)) e)
 
 -- ---- one class without another
 
@@ -117,37 +99,27 @@ none_by frame place following e column = (λ h. absurd (false≢true h), λ r. a
 
 -- ---- the two kinds of pieces
 
-either_once : (s b r : Bool) → once_if (s && not b) + once_if (r && not s) ≡ once_if ((s && not b) || (r && not s))
-either_once true true true = refl
-either_once true true false = refl
-either_once true false true = refl
-either_once true false false = refl
-either_once false b true = refl
-either_once false b false = refl
+-- A class is parted by what is read: of the columns that follow, those without an edge on the input tiers,
+-- those of these that have no edge at all, and those that read the column of the form at the place.
+pub record IsParted (frame : Frame) (kind : Kind) (class following still bare : Class) (mask : ℕ)
+    (reads : List Sym → Bool) : Type 0 where
+  pub wide : length (sets_of class) ≡ (tiers_in frame).width
+  pub opened : (stage t : ℕ) → has_tier mask t ≡ is_tier_open (problem_in frame) (kind_at_stage frame stage kind) t
+  pub follows : (column : List Sym) → IsTrue (has following column)
+      ↔ (IsTrue (has class column) × ((t : ℕ) → t < length (sets_of class)
+      → fits (has_tier mask t) (symbol column t) ≡ true))
+  pub has_still : (column : List Sym)
+      → has still column ≡ (has following column && not (has_edge (input_of (tiers_in frame) column)))
+  pub has_bare : (column : List Sym) → IsTrue (has bare column)
+      ↔ (IsTrue (has still column) × ((t : ℕ) → t < length (sets_of class) → is_edge (symbol column t) ≡ false))
+  pub has_read : (column : List Sym) → IsTrue (reads column) ↔ (IsTrue (has following column)
+      × ((kind.place < length (form_in frame)) × (input_of (tiers_in frame) column
+      ≡ column_at (form_in frame) kind.place)))
 
-second_false : (a b : Bool) → (a && not b) ≡ true → b ≡ false
-second_false true true h = absurd (false≢true h)
-second_false true false h = refl
-second_false false b h = absurd (false≢true h)
-
-pub first_true : (a b : Bool) → (a && b) ≡ true → a ≡ true
-first_true a b h = (and_parts a b h).0
-
-module _ (frame : Frame) (kind : Kind) (class following still bare : Class) (mask : ℕ) (reads : List Sym → Bool)
-    (wide : length (sets_of class) ≡ (tiers_in frame).width)
-    (opened : (stage t : ℕ) → has_tier mask t ≡ is_tier_open (problem_in frame) (kind_at_stage frame stage kind) t)
-    (follows : (column : List Sym) → IsTrue (has following column)
-    ↔ (IsTrue (has class column) × ((t : ℕ) → t < length (sets_of class)
-    → fits (has_tier mask t) (symbol column t) ≡ true)))
-    (has_still : (column : List Sym) → has still column ≡ (has following column
-    && not (has_edge (input_of (tiers_in frame) column))))
-    (has_bare : (column : List Sym) → IsTrue (has bare column)
-    ↔ (IsTrue (has still column) × ((t : ℕ) → t < length (sets_of class) → is_edge (symbol column t) ≡ false)))
-    (has_read : (column : List Sym) → IsTrue (reads column) ↔ (IsTrue (has following column)
-    × ((kind.place < length (form_in frame)) × (input_of (tiers_in frame) column
-    ≡ column_at (form_in frame) kind.place)))) where
+module _ {frame : Frame} {kind : Kind} {class following still bare : Class} {mask : ℕ} {reads : List Sym → Bool}
+    (parted : IsParted frame kind class following still bare mask reads) where
   width_of_column : (column : List Sym) → has class column ≡ true → length column ≡ (tiers_in frame).width
-  width_of_column column h = same_width (sets_of class) column h ∙ wide
+  width_of_column column h = same_width (sets_of class) column h ∙ parted.wide
 
   abbrev is_read : List Sym → Bool
   is_read column = has_edge (input_of (tiers_in frame) column)
@@ -155,7 +127,7 @@ module _ (frame : Frame) (kind : Kind) (class following still bare : Class) (mas
   input_below : (column : List Sym) → length column ≡ (tiers_in frame).width → is_read column ≡ true
       → has_edge column ≡ true
   input_below column w e =
-      input_edge (tiers_in frame).input column
+      edge_on (tiers_in frame).input column
       (subst (λ n. AllByRecursion (λ t. t < n) (tiers_in frame).input) (sym w)
       (tiers_split frame.grammar.now.tiers.kinds.items).inputs_below) e
 
@@ -167,11 +139,12 @@ module _ (frame : Frame) (kind : Kind) (class following still bare : Class) (mas
       × (input_of (tiers_in frame) column ≡ column_at (form_in frame) kind.place)))
       → IsTrue (has class column) × FitsAt frame stage kind column
   fits_column stage column f e part =
-      let g = (follows column).0 f in (
+      let g = (parted.follows column).0 f in (
         g.0,
         record {
           width = width_of_column column g.0;
-          symbols = λ t l. ap (λ b. fits b (symbol column t)) (sym (opened stage t)) ∙ g.1 t (omega (arith, wide));
+          symbols = λ t l. ap (λ b. fits b (symbol column t)) (sym (parted.opened stage t)) ∙ g.1 t
+              (omega (arith, parted.wide));
           edge = e;
           input = part;
         },
@@ -180,36 +153,37 @@ module _ (frame : Frame) (kind : Kind) (class following still bare : Class) (mas
   pub still_fits : (stage : ℕ) (column : List Sym) → (has still column && not (has bare column)) ≡ true
       → IsTrue (has class column) × FitsAt frame stage kind column
   still_fits stage column h =
-      let s = first_true (has still column) (not (has bare column)) h in
-      let parts = and_parts (has following column) (not (is_read column)) (sym (has_still column) ∙ s) in
-      let in_class = ((follows column).0 parts.0).0 in
+      let s = (and_parts (has still column) (not (has bare column)) h).0 in
+      let parts = and_parts (has following column) (not (is_read column)) (sym (parted.has_still column) ∙ s) in
+      let in_class = ((parted.follows column).0 parts.0).0 in
       let edge : has_edge column ≡ true = ⊎_elim (λ y. y) (λ none. absurd
-      (both_ways (has bare column) (second_false (has still column) (has bare column) h)
-      ((has_bare column).1 (
+      (both_ways (has bare column) (not-true (has bare column)
+          (and_parts (has still column) (not (has bare column)) h).1)
+      ((parted.has_bare column).1 (
         s,
         λ t l. each_edgeless column none t
-            (omega (arith, wide, width_of_column column in_class)),
+            (omega (arith, parted.wide, width_of_column column in_class)),
       )))) (cases_Bool (has_edge column)) in
       fits_column stage column parts.0 edge (inl (not-true (is_read column) parts.1))
 
   pub read_here : (column : List Sym) → has following column ≡ true → (reads column && not (has still column)) ≡ true
       → is_read column ≡ true
   read_here column f h = ⊎_elim (λ y. y) (λ none. absurd (both_ways (has still column)
-      (second_false (reads column) (has still column) h)
-      (has_still column ∙ and_from (has following column) (not (is_read column)) f (ap not none))))
+      (not-true (has still column) (and_parts (reads column) (not (has still column)) h).1)
+      (parted.has_still column ∙ and_from (has following column) (not (is_read column)) f (ap not none))))
       (cases_Bool (is_read column))
 
   pub read_fits : (stage : ℕ) (column : List Sym) → (reads column && not (has still column)) ≡ true
       → IsTrue (has class column) × FitsAt frame stage kind column
   read_fits stage column h =
-      let r = (has_read column).0 (first_true (reads column) (not (has still column)) h) in
-      fits_column stage column r.0 (input_below column (width_of_column column ((follows column).0 r.0).0)
+      let r = (parted.has_read column).0 (and_parts (reads column) (not (has still column)) h).0 in
+      fits_column stage column r.0 (input_below column (width_of_column column ((parted.follows column).0 r.0).0)
       (read_here column r.0 h)) (inr r.1)
 
   bare_none : (column : List Sym) → has class column ≡ true → has_edge column ≡ true → has bare column ≡ false
   bare_none column c e = false_from_ne_true (has bare column)
-      (λ b. both_ways (has_edge column) (none_edge column (λ t l. ((has_bare column).0 b).1 t
-      (omega (arith, wide, width_of_column column c)))) e)
+      (λ b. both_ways (has_edge column) (none_edge column (λ t l. ((parted.has_bare column).0 b).1 t
+      (omega (arith, parted.wide, width_of_column column c)))) e)
 
   fits_held : (stage : ℕ) (column : List Sym) → IsTrue (has class column) → FitsAt frame stage kind column
       → holds column ≡ true
@@ -217,24 +191,24 @@ module _ (frame : Frame) (kind : Kind) (class following still bare : Class) (mas
       ⊎_elim
       (λ read. or_right (has still column && not (has bare column)) (reads column && not (has still column))
       (and_from (reads column) (not (has still column))
-      ((has_read column).1 (
+      ((parted.has_read column).1 (
         after,
         ⊎_elim (λ none. absurd (both_ways (is_read column) none read))
             (λ here. here) f.input,
       ))
-      (ap not (has_still column ∙ ap (λ b. has following column && not b) read
+      (ap not (parted.has_still column ∙ ap (λ b. has following column && not b) read
       ∙ and_right (has following column) false refl))))
       (λ none. or_left (has still column && not (has bare column)) (reads column && not (has still column))
       (and_from (has still column) (not (has bare column))
-      (has_still column ∙ and_from (has following column) (not (is_read column)) after (ap not none))
+      (parted.has_still column ∙ and_from (has following column) (not (is_read column)) after (ap not none))
       (ap not (bare_none column c f.edge))))
       (cases_Bool (is_read column))
     where
       after : has following column ≡ true
-      after = (follows column).1 (
+      after = (parted.follows column).1 (
         c,
-        λ t l. ap (λ b. fits b (symbol column t)) (opened stage t)
-            ∙ f.symbols t (omega (arith, wide)),
+        λ t l. ap (λ b. fits b (symbol column t)) (parted.opened stage t)
+            ∙ f.symbols t (omega (arith, parted.wide)),
       )
 
   module _ (w : ℕ) (one two : List Class) (same : w ≡ (tiers_in frame).width) (u : ℕ)
@@ -252,11 +226,12 @@ module _ (frame : Frame) (kind : Kind) (class following still bare : Class) (mas
         && not (has bare column)) is_read false (subst (λ n. AddsClasses n [] one
         (λ column. once_if (has still column && not (has bare column)))) same first)
         (λ column h. not-true (is_read column) (and_parts (has following column) (not (is_read column))
-        (sym (has_still column) ∙ first_true (has still column) (not (has bare column)) h)).1))
+        (sym (parted.has_still column) ∙ (and_parts (has still column) (not (has bare column)) h).0)).1))
         (adds_constant (tiers_in frame).width one two (λ column. reads column && not (has still column)) is_read true
         (subst (λ n. AddsClasses n one two (λ column. once_if (reads column && not (has still column)))) also
         second)
-        (λ column h. read_here column ((has_read column).0 (first_true (reads column) (not (has still column)) h)).0
+        (λ column h. read_here column ((parted.has_read column).0
+            (and_parts (reads column) (not (has still column)) h).0).0
         h))
         (λ column. refl)
 

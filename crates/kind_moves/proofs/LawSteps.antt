@@ -9,24 +9,25 @@ use Rattle.tier_core.specs.declared.kind.Kind.{Kind}
 use Rattle.tier_core.specs.declared.sym.Sym.{Sym}
 use Rattle.tier_core.specs.declared.constraint.Constraint.{Constraint}
 use Rattle.tier_core.specs.Kinds.{Phase, closed, PrefixKind, phase_by_bits, open_tiers, phases, AreStretchesBelow}
-use Rattle.tier_core.specs.declared.event.Event.{Event}
 use Rattle.tier_core.specs.Scan.{opens}
 use Rattle.tier_core.specs.Timelines.{symbol, has_edge}
 use Rattle.tier_core.specs.Tiers.{has_tier}
 use Rattle.violation.specs.Candidates.{IsForm, IsCandidate}
 use Rattle.violation.specs.Conditions.{AreSplit, IsOverTiers}
-use Rattle.violation.specs.Moves.{FitsKind, input_of, is_final, is_unmet_phase, is_met_phase, moved, next_phases}
+use Rattle.violation.specs.Moves.{FitsKind, input_of, is_final, moved, next_phases}
 use Rattle.violation.specs.Prefixes.{kind_of, phase}
 use Rattle.violation.specs.Walks.{HasMoves, reached, BeginsCandidate}
 use Rattle.violation.proofs.PrefixLemmas.{nothing_begun, tier_open_is}
 use Rattle.violation.proofs.SplitLemmas.{tiers_split}
-use Rattle.violation.proofs.WalkLemmas.{moves_begin, moves_end, reached_is, same_kind}
+use Rattle.tier_core.proofs.KindTies.{same_parts}
+use Rattle.violation.proofs.WalkLemmas.{moves_begin, moves_end, reached_is}
 use Rattle.kind_moves.specs.declared.frame.Frame.{Frame}
 use Rattle.kind_moves.specs.Frames.{tiers_in, form_in, stretches_in, kind_at_stage, is_left_open, AreClosedOr, FitsAt, FitsFrame, IsMove, IsStart}
 use Rattle.kind_moves.specs.Laws.{LeadsTo}
-use Rattle.kind_moves.specs.Phases.{phases_by}
+use Rattle.tier_core.specs.PhaseBits.{phases_by}
 use Rattle.kind_moves.proofs.GrammarTiers.{over_stretches, form_from}
-use Rattle.kind_moves.proofs.KindBits.{AreBits, bits_of, open_bits, phases_told, phases_apart}
+use Rattle.violation.proofs.KindBits.{AreBitsOf, kind_for}
+use Rattle.violation.proofs.ClosedPhases.{closed_first}
 use Rattle.kind_moves.proofs.MoveSteps.{phases_next, phases_first}
 use Rattle.kind_moves.specs.Frames.{problem_in}
 
@@ -45,12 +46,8 @@ none_told j (x ∷ xs) = ap (λ p. p ∷ map (λ i. phase_by_bits (has_tier 0 i)
 all_closed : (width : ℕ) (cs : List Constraint) → AllByRecursion (IsOverTiers width) cs
     → map (λ x. closed) cs ≡ map (λ c. phase c.left c.right []) cs
 all_closed width [] o = refl
-all_closed width (c ∷ cs) o = ap (λ p. p ∷ map (λ x. closed) cs) (sym (own c.left c.right o.0.some_left))
+all_closed width (c ∷ cs) o = ap (λ p. p ∷ map (λ x. closed) cs) (sym (closed_first c.left c.right o.0.some_left))
     ∙ ap (λ ps. phase c.left c.right [] ∷ ps) (all_closed width cs o.1)
-  where
-    own : (left right : List Event) → 0 < length left → phase left right [] ≡ closed
-    own [] right l = absurd (omega arith)
-    own (e ∷ es) right l = refl
 
 same_length : (is_open : Constraint → Bool) (cs : List Constraint) (ps : List Phase) (column : List Sym)
     → AreClosedOr is_open cs ps → length (next_phases cs ps column) ≡ length cs
@@ -89,7 +86,7 @@ module _ (frame : Frame) (stage : ℕ) where
       → IsMove frame stage kind column next
   is_move kind next column fits column_fits place opened phase_list within below =
       let k = kind_at_stage frame stage kind in
-      let leads : kind_at_stage frame stage next ≡ moved (problem_in frame) stage k column = same_kind _ _ _ _ _ _
+      let leads : kind_at_stage frame stage next ≡ moved (problem_in frame) stage k column = same_parts _ _ _ _ _ _
       place opened phase_list in
       let room = place_next k column fits.place column_fits (has_edge (input_of (tiers_in frame) column)) refl in
       let P : PrefixKind → Type 0 = λ x. AreClosedOr (is_left_open (problem_in frame) x)
@@ -113,30 +110,14 @@ module _ (frame : Frame) (stage : ℕ) where
   some_move kind column fits column_fits =
       let k = kind_at_stage frame stage kind in
       let m = moved (problem_in frame) stage k column in
-      let opened : (mask : ℕ) × AreBits m.opened mask = bits_of m.opened in
-      let unmets : (mask : ℕ) × AreBits (map is_unmet_phase m.phases) mask = bits_of (map is_unmet_phase m.phases) in
-      let mets : (mask : ℕ) × AreBits (map is_met_phase m.phases) mask = bits_of (map is_met_phase m.phases) in
-      let next : Kind = record {
-        place = m.place;
-        opened = opened.0;
-        unmet = unmets.0;
-        met = mets.0;
-        apart = phases_apart m.phases unmets.0 mets.0 unmets.1 mets.1;
-      } in
-      let free : length m.opened ≡ length (tiers_in frame).free = length-map (tiers_in frame).free
-      (λ t. opens (symbol column t)) in
-      let count : length m.phases ≡ length (stretches_in frame stage) = same_length
-      (is_left_open (problem_in frame) k) (stretches_in frame stage) k.phases column fits.phases in
-      let Below : ℕ → ℕ → Type 0 = λ mask n. mask < 2 ^ n in (
-        next,
-        is_move kind next column fits column_fits refl
-            (ap (λ n. open_tiers n opened.0) (sym free) ∙ open_bits m.opened opened.0 opened.1)
-            (ap (λ n. phases_by n unmets.0 mets.0) (sym count) ∙ phases_told m.phases unmets.0 mets.0 unmets.1 mets.1)
-            (subst (Below opened.0) free opened.1.within)
-            (record {
-              unmet = subst (Below unmets.0) (length-map m.phases is_unmet_phase ∙ count) unmets.1.within;
-              met = subst (Below mets.0) (length-map m.phases is_met_phase ∙ count) mets.1.within;
-            }),
+      let next : (kind : Kind) × AreBitsOf (length (tiers_in frame).free) (length (stretches_in frame stage)) m kind =
+      kind_for (length (tiers_in frame).free) (length (stretches_in frame stage)) m
+      (length-map (tiers_in frame).free (λ t. opens (symbol column t)))
+      (same_length (is_left_open (problem_in frame) k) (stretches_in frame stage) k.phases column fits.phases) in (
+        next.0,
+        is_move kind next.0 column fits column_fits
+            (ap (λ (x : PrefixKind). x.place) next.1.tells) (ap (λ (x : PrefixKind). x.opened) next.1.tells)
+            (ap (λ (x : PrefixKind). x.phases) next.1.tells) next.1.opened next.1.stretches,
       )
 
   -- ---- the start
@@ -145,7 +126,7 @@ module _ (frame : Frame) (stage : ℕ) where
       → IsStart frame stage kind
   is_start kind place opened unmet met =
       let first = kind_of (problem_in frame) stage [] in
-      let same : kind_at_stage frame stage kind ≡ first = same_kind _ _ _ _ _ _ place
+      let same : kind_at_stage frame stage kind ≡ first = same_parts _ _ _ _ _ _ place
       (ap (open_tiers (length (tiers_in frame).free)) opened ∙ none_open 0 (tiers_in frame).free)
       (ap (λ n. phases_by (length (stretches_in frame stage)) n kind.met) unmet
       ∙ ap (phases_by (length (stretches_in frame stage)) 0) met

@@ -1,6 +1,6 @@
 -- Pieces by the free tiers that their columns leave open.
 use Rattle.std.proofs.Common.{◌≡◌, ◌↔◌, ℕ, ◌+◌, ◌^◌, ◌<◌, ◌≤◌, nat_lt, Bool, true, false, not, ◌&&◌, cond, IsTrue, List, [], ◌∷◌, ◌++◌, map, length, get_or, refl, ap, ap₂, sym, ◌∙◌, subst, arith, ⊎_elim, append_assoc, All}
-use Rattle.std.proofs.lemmas.Bool.{false≢true, cases_lt, lt-ltb, le-ltb}
+use Rattle.std.proofs.lemmas.Bool.{false≢true, and_parts, cases_lt, lt-ltb, le-ltb}
 use Rattle.std.proofs.lemmas.List.{append-nil, map-append, length-map, get_or-map}
 use Rattle.std.proofs.lemmas.List.Elements.{All-nil, All-append, All-map}
 use Rattle.std.proofs.lemmas.List.Folds.{list_any_at}
@@ -20,7 +20,6 @@ use Rattle.kind_moves.specs.declared.piece.Piece.{Piece}
 use Rattle.kind_moves.specs.Frames.{tiers_in, FitsAt, FitsFrame}
 use Rattle.kind_moves.specs.Leaving.{opened_among, led_to, AddsLed, LeavesOpen, AddsLeaving}
 use Rattle.kind_moves.specs.Pieces.{classes_of, IsPiece}
-use Rattle.kind_moves.proofs.FittingSteps.{first_true}
 use Rattle.kind_moves.proofs.LawSteps.{is_move}
 use Rattle.kind_moves.proofs.LeavingSteps.{left_number, number_below, flags_by_number}
 use Rattle.kind_moves.proofs.PieceSteps.{free_cost}
@@ -144,8 +143,8 @@ module _ (frame : Frame) (a b : Class) (place : ℕ) (old : List Piece) where
             (All-map (LeavesOpen frame place) (led_to target) led.classes (λ k d l. record {
               wide = led.one_width k d l ∙ wide;
               filled = led.filled k d l;
-              opened = λ column h. ((columns column).0 (first_true (has box column) (not (has b column))
-                  (held_in led.classes (λ c. has box c && not (has b c)) led.held k d l column h))).1
+              opened = λ column h. ((columns column).0 ((and_parts (has box column) (not (has b column))
+                  (held_in led.classes (λ c. has box c && not (has b c)) led.held k d l column h)).0)).1
                   ∙ ap (open_tiers (length free)) (sym opened);
               within = omega (arith, few, opened);
               at_place = at_place;

@@ -12,9 +12,9 @@ use Rattle.tier_core.specs.Scan.{opens}
 use Rattle.tier_core.specs.Sets.{is_in}
 use Rattle.tier_core.specs.Tiers.{has_tier, tiers_below, tiers_of}
 use Rattle.tier_core.specs.Timelines.{symbol}
+use Rattle.tier_core.proofs.MaskBits.{AreBits, bits_of, open_bits, same_mask}
+use Rattle.violation.proofs.KindBits.{told_same}
 use Rattle.kind_moves.specs.Leaving.{opened_among}
-use Rattle.kind_moves.proofs.KindBits.{AreBits, bits_of, open_bits}
-use Rattle.kind_moves.proofs.KindEquality.{same_mask, told_same}
 use Rattle.kind_moves.proofs.MaskSteps.{tiers_more, tiers_same}
 
 -- ---- the tiers of a mask

@@ -2,10 +2,7 @@ pub mod MaskSteps
 pub mod OpenPlaces
 pub mod GrammarTiers
 pub mod MoveSteps
-pub mod KindBits
-pub mod PhaseMaskSteps
 pub mod LawSteps
-pub mod CostSteps
 pub mod CostLaws
 pub mod KindEquality
 pub mod BoxSets

@@ -1,12 +1,12 @@
 -- Masks that loops make tier by tier.
-use Rattle.std.proofs.Common.{subst, ◌≡◌, ◌≢◌, ℕ, zero, suc, ◌+◌, ◌-◌, ◌^◌, ◌==◌, ◌<◌, ◌≤◌, ◌||◌, Bool, true, false, cond, List, [], ◌∷◌, ◌++◌, map, max, min, length, refl, ap, sym, ◌∙◌, arith, add-one, ⊎_elim, eq-eqb, ne_eqb, bit_and, bit_or}
+use Rattle.std.proofs.Common.{subst, ◌≡◌, ◌≢◌, ℕ, zero, suc, ◌+◌, ◌-◌, ◌^◌, ◌==◌, ◌<◌, ◌≤◌, ◌||◌, not, nat_eq, Bool, true, false, cond, List, [], ◌∷◌, ◌++◌, map, min, length, refl, ap, sym, ◌∙◌, arith, add-one, ⊎_elim, eq-eqb, ne_eqb, bit_and, bit_or}
 use Rattle.std.specs.Int.{bit_at}
-use Rattle.std.specs.List.{AllByRecursion}
+use Rattle.std.specs.List.{AllByRecursion, list_any}
 use Rattle.std.proofs.lemmas.Bool.{cases_lt}
 use Rattle.std.proofs.lemmas.List.{append-nil, map-append, length_push, get_or_past}
 use Rattle.std.proofs.lemmas.List.FromFn.{fill_by_all, length-map-range_with_len, get_or-map-range_with_len, map-range_with_len_more}
 use Rattle.std.proofs.lemmas.Nat.{pow_below}
-use Rattle.std.proofs.lemmas.Nat.Bits.{bit_at_above, bit_at_and, bit_at_ones, bit_at_or, bit_at-lt}
+use Rattle.std.proofs.lemmas.Nat.Bits.{bit_at_and, bit_at_ones, bit_at_or, bit_at-lt}
 use Rattle.tier_core.specs.declared.sym.Sym.{Sym}
 use Rattle.tier_core.specs.declared.sym.Sym.TheVariants.{Outside}
 use Rattle.tier_core.specs.Kinds.{open_tiers}
@@ -14,24 +14,12 @@ use Rattle.tier_core.specs.Scan.{opens}
 use Rattle.tier_core.specs.Timelines.{symbol}
 use Rattle.tier_core.specs.Tiers.{has_tier, tiers_below, tiers_of}
 use Rattle.tier_core.proofs.CountLemmas.{all_append, all_weaker}
+use Rattle.tier_core.proofs.MaskBits.{none_from, no_flag, most_one}
 use Rattle.violation.specs.Moves.{flag_of}
-
--- no tier from the bound of a mask on
-pub none_from : (mask k t : ℕ) → mask < 2 ^ k → k ≤ t → has_tier mask t ≡ false
-none_from mask k t l h = ap (λ b. b == 1) (bit_at_above mask k t l h)
-
-or_value : (x y : ℕ) → x < 2 → y < 2 → (max x y == 1) ≡ ((x == 1) || (y == 1))
-or_value zero zero l h = refl
-or_value zero (suc zero) l h = refl
-or_value zero (suc (suc y)) l h = absurd (omega arith)
-or_value (suc zero) zero l h = refl
-or_value (suc zero) (suc zero) l h = refl
-or_value (suc zero) (suc (suc y)) l h = absurd (omega arith)
-or_value (suc (suc x)) y l h = absurd (omega arith)
 
 -- a tier of either mask is one of both
 pub or_tier : (a b t : ℕ) → has_tier (bit_or a b) t ≡ (has_tier a t || has_tier b t)
-or_tier a b t = ap (λ n. n == 1) (bit_at_or a b t) ∙ or_value (bit_at a t) (bit_at b t) (bit_at-lt a t)
+or_tier a b t = ap (λ n. n == 1) (bit_at_or a b t) ∙ most_one (bit_at a t) (bit_at b t) (bit_at-lt a t)
     (bit_at-lt b t)
 
 pub tiers_more : (tiers n : ℕ) → has_tier tiers n ≡ true → tiers_below tiers (n + 1) ≡ tiers_below tiers n ++ n ∷ []
@@ -67,6 +55,14 @@ lowest_at mask count ones t is l = ap (λ n. n == 1)
 pub same_flags : (n a b : ℕ) → ((t : ℕ) → t < n → has_tier a t ≡ has_tier b t) → open_tiers n a ≡ open_tiers n b
 same_flags n a b h = fill_by_all (has_tier b) (open_tiers n a) n false (length-map-range_with_len (has_tier a) 0 n)
     (λ k l. get_or-map-range_with_len (has_tier a) 0 n k k false l (omega arith) ∙ h k l)
+
+-- the lowest bits of a mask are 0 exactly if it has none of so many flags
+pub no_lowest : (n count mask low : ℕ) → count ≡ n → low < 2 ^ count
+    → ((t : ℕ) → t < count → has_tier low t ≡ has_tier mask t)
+    → nat_eq low 0 ≡ not (list_any (λ flag. flag) (open_tiers n mask))
+no_lowest n count mask low same within bits =
+    no_flag n low (subst (λ m. low < 2 ^ m) same within)
+    ∙ ap (λ flags. not (list_any (λ flag. flag) flags)) (same_flags n low mask (λ t l. bits t (omega (arith, same))))
 
 -- ---- flags that are laid out on tiers
 
@@ -200,16 +196,6 @@ taken_within tiers mask n next flags a e =
 pub record AreOpened (column : List Sym) (n mask : ℕ) : Type 0 where
   pub within : mask < 2 ^ n
   pub bits : (t : ℕ) → t < n → has_tier mask t ≡ opens (symbol column t)
-
-pub opened_more : (column : List Sym) (n mask more : ℕ) → AreOpened column n mask → more < 2 ^ (n + 1)
-    → has_tier more n ≡ opens (symbol column n)
-    → ((t : ℕ) → t < n → has_tier more t ≡ has_tier mask t) → AreOpened column (n + 1) more
-opened_more column n mask more a within here others = record {
-  within = within;
-  bits = λ t l. ⊎_elim (λ below. others t below ∙ a.bits t below)
-      (λ above. let at : t ≡ n = omega arith in ap (has_tier more) at ∙ here
-      ∙ ap (λ k. opens (symbol column k)) (sym at)) (cases_lt t n);
-}
 
 pub opened_all : (column : List Sym) (n mask : ℕ) → AreOpened column n mask → n ≡ length column → (t : ℕ)
     → has_tier mask t ≡ opens (symbol column t)

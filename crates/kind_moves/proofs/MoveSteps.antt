@@ -1,6 +1,6 @@
 -- Which tiers are open after a move, and which phases are closed.
 use Rattle.std.proofs.Common.{◌≡◌, ℕ, zero, suc, ◌+◌, ◌<◌, ◌||◌, ◌&&◌, not, Bool, true, false, cond, List, [], ◌∷◌, map, take, length, get_or, refl, ap, sym, ◌∙◌, arith, ⊎_elim, Contains}
-use Rattle.std.specs.List.{AllByRecursion, list_all, list_any}
+use Rattle.std.specs.List.{AllByRecursion, list_all}
 use Rattle.std.proofs.lemmas.Bool.{false≢true}
 use Rattle.std.proofs.lemmas.List.{length-map, get_or-map}
 use Rattle.std.proofs.lemmas.List.FromFn.{fill_by_all, get_or-map-range_with_len}
@@ -13,6 +13,8 @@ use Rattle.tier_core.specs.Kinds.{Phase, closed, unmet, met, PrefixKind}
 use Rattle.tier_core.specs.Scan.{fits, opens}
 use Rattle.tier_core.specs.Timelines.{word, symbol, is_edge, has_edge}
 use Rattle.tier_core.proofs.CountLemmas.{all_weaker}
+use Rattle.tier_core.proofs.Bools.{or_false}
+use Rattle.tier_core.proofs.EdgeLemmas.{each_edgeless}
 use Rattle.violation.specs.Candidates.{IsForm}
 use Rattle.violation.specs.Columns.{opens_all}
 use Rattle.violation.specs.Conditions.{AreSplit, AreTiersBelow, IsOverTiers}
@@ -36,24 +38,6 @@ stays false Inside f e = absurd (false≢true f)
 stays false Start f e = absurd (false≢true (sym e))
 stays false End f e = absurd (false≢true f)
 stays false Both f e = absurd (false≢true f)
-
-no_edge : (xs : List Sym) (j : ℕ) → list_any is_edge xs ≡ false → j < length xs
-    → is_edge (get_or xs j Outside) ≡ false
-no_edge [] j h l = absurd (omega arith)
-no_edge (x ∷ xs) zero h l = first (is_edge x) (list_any is_edge xs) h
-  where
-    first : (a b : Bool) → (a || b) ≡ false → a ≡ false
-    first true b e = e
-    first false b e = refl
-no_edge (x ∷ xs) (suc j) h l = no_edge xs j (rest (is_edge x) (list_any is_edge xs) h) (omega arith)
-  where
-    rest : (a b : Bool) → (a || b) ≡ false → b ≡ false
-    rest true b e = absurd (false≢true (sym e))
-    rest false b e = e
-
-or_none : (b : Bool) → (b || false) ≡ b
-or_none true = refl
-or_none false = refl
 
 module _ (problem : Problem) (split : AreSplit problem.tiers) (form : IsForm problem.tiers problem.form)
     (k : PrefixKind) (column : List Sym) (f : FitsKind problem k column) where
@@ -80,7 +64,7 @@ module _ (problem : Problem) (split : AreSplit problem.tiers) (form : IsForm pro
       let tier : is_tier_open problem k t ≡ is_open (word (take k.place problem.form) j) =
       ap (λ b. flag_of problem.tiers.input (form_opened problem.tiers problem.form k.place) t || b)
       (flag_out problem.tiers.free k.opened t (λ d. split.apart t listed d))
-      ∙ or_none (flag_of problem.tiers.input (form_opened problem.tiers problem.form k.place) t)
+      ∙ or_false (flag_of problem.tiers.input (form_opened problem.tiers problem.form k.place) t)
       ∙ flag_at problem.tiers.input (form_opened problem.tiers problem.form k.place) j split.distinct l
       ∙ get_or-map-range_with_len (λ j. is_open (word (take k.place problem.form) j)) 0
       (length problem.tiers.input) j j false l (omega arith) in
@@ -89,7 +73,7 @@ module _ (problem : Problem) (split : AreSplit problem.tiers) (form : IsForm pro
       ap (λ n. is_open (word (take n problem.form) j)) here ∙ sym tier
       ∙ stays (is_tier_open problem k t) (symbol column t) (f.symbols t below)
       (ap is_edge (sym (get_or-map (symbol column) problem.tiers.input j 0 Outside l))
-      ∙ no_edge (input_of problem.tiers column) j e (omega arith))
+      ∙ each_edgeless (input_of problem.tiers column) e j (omega arith))
     where
       get_or-same : (xs : List ℕ) (i d e : ℕ) → i < length xs → get_or xs i e ≡ get_or xs i d
       get_or-same [] i d e l = absurd (omega arith)
@@ -115,7 +99,7 @@ module _ (problem : Problem) (split : AreSplit problem.tiers) (form : IsForm pro
         flag_out problem.tiers.free
             (map (λ t. opens (symbol column t)) problem.tiers.free) t (λ d. split.apart t c d),
       )
-      (or_none (opens (symbol column t))))
+      (or_false (opens (symbol column t))))
       (λ d. rw (
         flag_in (λ t. opens (symbol column t)) problem.tiers.free t d,
         flag_out problem.tiers.input

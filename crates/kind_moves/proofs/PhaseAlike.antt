@@ -13,6 +13,7 @@ use Rattle.tier_core.specs.Kinds.{Phase, closed, unmet, met}
 use Rattle.tier_core.specs.Scan.{opens}
 use Rattle.tier_core.specs.Sides.{edge_among, is_edge_part}
 use Rattle.tier_core.specs.Timelines.{symbol, is_edge}
+use Rattle.tier_core.proofs.Bools.{not_not}
 use Rattle.violation.specs.Columns.{part_present, is_present, opens_interior, opens_all}
 use Rattle.violation.specs.Conditions.{AreTiersBelow}
 use Rattle.violation.specs.Moves.{is_met_phase, next_phase}
@@ -79,10 +80,6 @@ test_is left right was_met column =
     (none_pass (λ e. is_edge (symbol column e.tier)) left))
     (ap (λ b. was_met || b) (ap not (none_pass (edge_present column) right)
     ∙ not_not (list_any (edge_present column) right)))
-  where
-    not_not : (b : Bool) → not (not b) ≡ b
-    not_not true = refl
-    not_not false = refl
 
 -- the phase by that test
 by_test : (all some edge was_met present edges : Bool) → (some ≡ false → present ≡ edges)

@@ -1,6 +1,6 @@
 -- Pieces that are parted by the phases of the first stretch implications.
 use Rattle.std.proofs.Common.{◌≡◌, ℕ, ◌+◌, ◌<◌, ◌≤◌, true, false, cond, List, [], ◌∷◌, ◌++◌, take, filter, length, get_or, refl, ap, sym, ◌∙◌, subst, arith}
-use Rattle.std.proofs.lemmas.List.{length_push, append-nil, take_all}
+use Rattle.std.proofs.lemmas.List.{length_push, append-nil}
 use Rattle.std.proofs.lemmas.List.Elements.{filter_more}
 use Rattle.std.proofs.lemmas.List.FromFn.{length-map-range_with_len, map-range_with_len_more}
 use Rattle.tier_core.specs.declared.class.Class.{Class}
@@ -13,7 +13,7 @@ use Rattle.symbol_class.specs.Held.{ArePieces}
 use Rattle.symbol_class.specs.Parts.{ArePartedBy}
 use Rattle.symbol_class.proofs.PartSteps.{parted_same, parted_then}
 use Rattle.violation.specs.Moves.{next_phase, next_phases}
-use Rattle.kind_moves.proofs.PhaseMaskSteps.{next_append}
+use Rattle.violation.proofs.NextPhases.{next_append}
 
 -- the phases after a column of the stretch implications among the first n constraints
 abbrev pub phases_after : List Constraint → Kind → ℕ → ℕ → List Sym → List Phase
@@ -77,14 +77,3 @@ phased_same width cs kind n next wholes parts c a l is h =
       parted = subst (λ xs. ArePartedBy width (λ column. next_phases xs (phases next kind) column) wholes parts)
           (sym same) a.parted;
     }
-
-pub phased_all : (width : ℕ) (cs : List Constraint) (kind : Kind) (n next : ℕ) (wholes parts : List Class)
-    → ArePhasedBelow width cs kind n next wholes parts → length cs ≤ n
-    → ArePartedBy width (next_phases (filter is_stretch cs) (phases (length (filter is_stretch cs)) kind)) wholes
-    parts
-phased_all width cs kind n next wholes parts a l =
-    let whole : take n cs ≡ cs = take_all n cs l in
-    let count : next ≡ length (filter is_stretch cs) = a.count ∙ ap (λ x. length (filter is_stretch x)) whole in
-    subst (λ k. ArePartedBy width (next_phases (filter is_stretch cs) (phases k kind)) wholes parts) count
-    (subst (λ xs. ArePartedBy width (next_phases (filter is_stretch xs) (phases next kind)) wholes parts) whole
-    a.parted)

@@ -1,14 +1,12 @@
 -- Pieces all columns of which go on alike.
-use Rattle.std.proofs.Common.{◌≡◌, ℕ, ◌+◌, ◌-◌, ◌<◌, Bool, cond, IsTrue, List, [], ◌∷◌, map, take, length, get_or, refl, ap, sym, ◌∙◌, subst, All}
+use Rattle.std.proofs.Common.{◌≡◌, ℕ, ◌+◌, ◌-◌, ◌<◌, Bool, cond, List, [], ◌∷◌, map, take, length, get_or, refl, ap, sym, ◌∙◌, subst, All}
 use Rattle.std.specs.List.{AllByRecursion}
 use Rattle.std.proofs.lemmas.Bool.{eq-eqb, ne_eqb}
-use Rattle.std.proofs.lemmas.List.Folds.{list_any_at}
 use Rattle.std.proofs.lemmas.List.Elements.{All-take, All-from_recursion}
 use Rattle.tier_core.specs.declared.class.Class.{Class}
 use Rattle.tier_core.specs.declared.constraint.Constraint.{Constraint}
 use Rattle.tier_core.specs.declared.kind.Kind.{Kind}
 use Rattle.tier_core.specs.declared.sym.Sym.{Sym}
-use Rattle.tier_core.specs.Classes.{has}
 use Rattle.tier_core.specs.Kinds.{PrefixKind, Phase, phases}
 use Rattle.tier_core.specs.Scan.{opens}
 use Rattle.tier_core.specs.Timelines.{symbol, has_edge}
@@ -16,14 +14,14 @@ use Rattle.symbol_class.specs.Held.{ArePieces}
 use Rattle.symbol_class.specs.Parts.{ArePartedBy}
 use Rattle.symbol_class.proofs.PartSteps.{parted_same, parted_then}
 use Rattle.symbol_class.proofs.Times.{some_from_same}
+use Rattle.grammar_reader.proofs.OverTiers.{over_tiers}
 use Rattle.violation.specs.Conditions.{IsOverTiers}
 use Rattle.violation.specs.Moves.{input_of, move_costs, moved, next_phases}
 use Rattle.violation.proofs.SplitLemmas.{tiers_split}
 use Rattle.kind_moves.specs.declared.frame.Frame.{Frame}
 use Rattle.kind_moves.specs.Fitting.{AreFitting, IsReadAlike}
-use Rattle.kind_moves.specs.Frames.{problem_in, tiers_in, constraints_in, stretches_in, kind_at_stage, FitsAt}
+use Rattle.kind_moves.specs.Frames.{problem_in, tiers_in, constraints_in, stretches_in, kind_at_stage}
 use Rattle.kind_moves.specs.Pieces.{opened_by, cost_under}
-use Rattle.kind_moves.proofs.GrammarTiers.{over_tiers}
 use Rattle.kind_moves.proofs.PhaseAlike.{open_alike}
 
 -- pieces that fit are parted, and still fit
@@ -118,9 +116,3 @@ pub same_cost : (frame : Frame) (stage constraint : ℕ) (kind : Kind) (c d : Li
 same_cost frame stage constraint kind c d a b ec ed same = ec ∙ ap (λ x. cond x 1 0) same ∙ sym ed
 
 -- ---- pieces that fit
-
-pub piece_fits : (frame : Frame) (stage : ℕ) (kind : Kind) (class : Class) (parts : List Class)
-    → AreFitting frame stage kind class parts
-    → All (λ part. (column : List Sym) → IsTrue (has part column) → FitsAt frame stage kind column) parts
-piece_fits frame stage kind class parts f k d inside column h = ((f.columns column).0
-    (list_any_at (λ part. has part column) parts k d inside h)).1

@@ -1,8 +1,5 @@
--- Phases of stretch implications, as masks encode them.
-use Rattle.std.specs.Prelude.{ℕ, List, map}
-use Rattle.std.specs.List.{range_with_len}
-use Rattle.tier_core.specs.Kinds.{Phase, closed, unmet, met, phase_by_bits}
-use Rattle.tier_core.specs.Tiers.{has_tier}
+-- Phases of stretch implications, as the code has them.
+use Rattle.tier_core.specs.Kinds.{Phase, closed, unmet, met}
 use Rattle.kind_moves.specs.declared.phase.Phase as code
 use Rattle.kind_moves.specs.declared.phase.Phase.TheVariants.{Closed, Unmet, Met}
 
@@ -11,11 +8,3 @@ abbrev pub phase_of : code.Phase → Phase
 phase_of Closed = closed
 phase_of Unmet = unmet
 phase_of Met = met
-
--- the phase of stretch implication i, given the masks of those that are unmet and of those that are met
-abbrev pub told_at : ℕ → ℕ → ℕ → Phase
-told_at unmets mets i = phase_by_bits (has_tier unmets i) (has_tier mets i)
-
--- the phases of the first n stretch implications
-abbrev pub phases_by : ℕ → ℕ → ℕ → List Phase
-phases_by n unmets mets = map (told_at unmets mets) (range_with_len 0 n)

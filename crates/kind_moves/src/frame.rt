@@ -45,7 +45,7 @@ impl<'a> Frame<'a> {
     ghost use Rattle.tier_core.specs.Kinds.{open_tiers};
     ghost use Rattle.violation.specs.Moves.{input_of, is_final, is_tier_open, move_costs, next_phases};
     ghost use Rattle.violation.specs.Problems.{last_stage};
-    ghost use Rattle.kind_moves.specs.Phases.{phases_by};
+    ghost use Rattle.tier_core.specs.PhaseBits.{phases_by};
     ghost use Rattle.kind_moves.specs.Frames.{problem_in, tiers_in, constraints_in, form_in, stretches_in, kind_at_stage, FitsAt, FitsFrame, IsMove, IsStart};
 
     /// The frame of a grammar and a form over its input tiers, of at most 64 columns. It fails only

@@ -7,7 +7,8 @@ ghost use Rattle.tier_core.specs.Sides.{edge_among, is_stretch};
 ghost use Rattle.violation.specs.Columns.{is_present, opens_interior};
 ghost use Rattle.violation.specs.Conditions.{AreInColumn, IsOverTiers};
 ghost use Rattle.violation.specs.Moves.{is_unmet_phase, is_met_phase, next_phase, next_phases};
-ghost use Rattle.kind_moves.specs.Phases.{phase_of, phases_by};
+ghost use Rattle.tier_core.specs.PhaseBits.{phases_by};
+ghost use Rattle.kind_moves.specs.Phases.{phase_of};
 
 use crate::phase_masks::PhaseMasks;
 use tier_core::{Constraint, Event, Kind, Sym, has_bit, with_bit};

@@ -11,7 +11,8 @@ use Rattle.symbol_class.specs.Held.{times_held, once_if}
 use Rattle.symbol_class.proofs.Pairs.{pairs_unmap}
 use Rattle.symbol_class.proofs.Times.{times-cons, once_from_apart, apart_from_once}
 use Rattle.answer_text.specs.declared.automaton.ArcLine.{ArcLine}
-use Rattle.kind_orders.specs.JoinedLines.{arc_to, classes_of, times_to}
+use Rattle.answer_text.specs.ArcClasses.{arc_classes}
+use Rattle.kind_orders.specs.JoinedLines.{arc_to, times_to}
 
 -- ---- an element that is counted
 
@@ -81,12 +82,12 @@ abbrev pub anywhere : ℕ → Bool
 anywhere target = true
 
 pub times-all : (arcs : List ArcLine) (column : List Sym)
-    → times_to anywhere arcs column ≡ times_held (classes_of arcs) column
+    → times_to anywhere arcs column ≡ times_held (arc_classes arcs) column
 times-all [] column = refl
 times-all (arc ∷ arcs) column = omega (
   arith,
   times-arc anywhere column arc arcs,
-  times-cons arc.class (classes_of arcs) column,
+  times-cons arc.class (arc_classes arcs) column,
   times-all arcs column,
 )
 
@@ -94,11 +95,11 @@ times-all (arc ∷ arcs) column = omega (
 pub apart_if_once : (arcs : List ArcLine) → ((column : List Sym) → times_to anywhere arcs column ≤ 1)
     → AllPairs (λ (a b : ArcLine). AreDisjoint a.class b.class) arcs
 apart_if_once arcs once = pairs_unmap AreDisjoint (λ (arc : ArcLine). arc.class) arcs
-    (apart_from_once (classes_of arcs) (λ column. omega (arith, once column, times-all arcs column)))
+    (apart_from_once (arc_classes arcs) (λ column. omega (arith, once column, times-all arcs column)))
 
-pub once_if_apart : (arcs : List ArcLine) → AllPairs AreDisjoint (classes_of arcs) → (column : List Sym)
+pub once_if_apart : (arcs : List ArcLine) → AllPairs AreDisjoint (arc_classes arcs) → (column : List Sym)
     → times_to anywhere arcs column ≤ 1
-once_if_apart arcs apart column = omega (arith, times-all arcs column, once_from_apart (classes_of arcs) apart column)
+once_if_apart arcs apart column = omega (arith, times-all arcs column, once_from_apart (arc_classes arcs) apart column)
 
 -- ---- arcs that have each column as often as others, to each target
 

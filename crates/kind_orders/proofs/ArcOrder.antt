@@ -23,12 +23,13 @@ use Rattle.answer_text.specs.declared.automaton.ArcLine.{ArcLine}
 use Rattle.answer_text.specs.declared.automaton.StateLine.{StateLine}
 use Rattle.answer_text.specs.Right.{arc_cmp}
 use Rattle.kind_orders.specs.AutomatonLines.{line_of, move_classes, IsLineOf}
-use Rattle.kind_orders.specs.JoinedLines.{classes_of, AreJoinedFrom}
+use Rattle.answer_text.specs.ArcClasses.{arc_classes}
+use Rattle.kind_orders.specs.JoinedLines.{AreJoinedFrom}
 use Rattle.symbol_class.specs.Held.{width_of, ArePieces}
 use Rattle.symbol_class.proofs.Pairs.{pairs_map}
-use Rattle.symbol_class.proofs.SetOrder.{both_equal, same_numbers}
+use Rattle.tier_core.proofs.KindTies.{both_equal, same_numbers}
 use Rattle.kind_orders.proofs.ArcCounts.{anywhere, apart_if_once, once_if_apart, goes_too}
-use Rattle.kind_orders.proofs.Members.{contains_map, contains_of_map}
+use Rattle.tier_core.proofs.Members.{contains_map, contains_of_map}
 use Rattle.kind_orders.proofs.Strict.{strict_from_sorted}
 
 pub arc_cmp_total : IsTotalOrder arc_cmp
@@ -52,7 +53,7 @@ strict_arcs (x ∷ xs) sorted differ = subst (IsStrictlySortedBy arc_cmp) (map-i
 module _ {W : Type 0} {g : Ghosts W} (nodes : List ℕ) (moves : List (TableArc W g)) (arcs : List ArcLine)
     (are : AreJoinedFrom (map (line_of nodes) moves) arcs) where
   lines_apart : AllPairs (λ a b. AreDisjoint a.class b.class) moves
-      → AllPairs AreDisjoint (classes_of (map (line_of nodes) moves))
+      → AllPairs AreDisjoint (arc_classes (map (line_of nodes) moves))
   lines_apart disjoint = pairs_map AreDisjoint (λ (arc : ArcLine). arc.class) (map (line_of nodes) moves)
       (pairs_map (λ (a b : ArcLine). AreDisjoint a.class b.class) (line_of nodes) moves disjoint)
 
@@ -102,12 +103,12 @@ module _ {W : Type 0} {g : Ghosts W} (nodes : List ℕ) (moves : List (TableArc 
 
 -- the classes of the lines of moves are those of the moves
 same_classes : {W : Type 0} {g : Ghosts W} (nodes : List ℕ) (moves : List (TableArc W g))
-    → classes_of (map (line_of nodes) moves) ≡ move_classes moves
+    → arc_classes (map (line_of nodes) moves) ≡ move_classes moves
 same_classes nodes [] = refl
 same_classes nodes (move ∷ moves) = ap (λ cs. move.class ∷ cs) (same_classes nodes moves)
 
 pub lines_are_pieces : {W : Type 0} {g : Ghosts W} (nodes : List ℕ) (moves : List (TableArc W g)) (width : ℕ)
-    → ArePieces width (move_classes moves) → ArePieces width (classes_of (map (line_of nodes) moves))
+    → ArePieces width (move_classes moves) → ArePieces width (arc_classes (map (line_of nodes) moves))
 lines_are_pieces nodes moves width pieces = subst (ArePieces width) (sym (same_classes nodes moves)) pieces
 
 -- moves of which any two have one width have that of the first

@@ -14,12 +14,12 @@ use Rattle.answer_text.specs.Right.{numbers_of}
 use Rattle.kind_orders.specs.Orderings.{IsOrdering}
 use Rattle.kind_orders.specs.AutomatonLines.{nodes_of, IsLineOf, AreLinesOf, AreByNode}
 use Rattle.symbol_class.proofs.Pairs.{pairs_map, pairs_apart}
-use Rattle.kind_orders.proofs.Members.{all_from_members, contains_of_map}
+use Rattle.tier_core.proofs.Members.{All-from_members, contains_of_map}
 
-get_or-replicate_none : (n k : ℕ) → get_or (replicate n (let o : Option ℕ = None in o)) k None ≡ None
-get_or-replicate_none zero k = refl
+get_or-replicate_none : (n s : ℕ) → get_or (replicate n (let o : Option ℕ = None in o)) s None ≡ None
+get_or-replicate_none zero s = refl
 get_or-replicate_none (suc n) zero = refl
-get_or-replicate_none (suc n) (suc k) = get_or-replicate_none n k
+get_or-replicate_none (suc n) (suc s) = get_or-replicate_none n s
 
 -- ---- the state of each node number
 
@@ -110,7 +110,7 @@ module _ {W : Type 0} {g : Ghosts W} (kept : List (TableState W g)) (nodes : Lis
 
   numbers_below : (n : ℕ) (lines : List StateLine) (line : StateLine) → AreLinesBelow kept nodes n lines
       → line.node ≡ n → All (λ x. x < line.node) (numbers_of lines)
-  numbers_below n lines line a e = all_from_members (λ x. x < line.node) (numbers_of lines) (λ x c.
+  numbers_below n lines line a e = All-from_members (λ x. x < line.node) (numbers_of lines) (λ x c.
       let r = contains_of_map (λ (s : StateLine). s.node) lines x c in
       let h = a.each r.0 r.1.0 in
       omega (arith, r.1.1, h.2, h.3.node, e))

@@ -24,7 +24,8 @@ use Rattle.symbol_class.proofs.JoinedClasses.{pieces_of_width, apart_permuted}
 use Rattle.answer_text.specs.declared.automaton.ArcLine.{ArcLine}
 use Rattle.answer_text.specs.Right.{arc_cmp}
 use Rattle.kind_orders.specs.JoinedArcs.{AreJoined}
-use Rattle.kind_orders.specs.JoinedLines.{arc_to, classes_of, times_to, AreJoinedFrom, AddsJoined}
+use Rattle.answer_text.specs.ArcClasses.{arc_classes}
+use Rattle.kind_orders.specs.JoinedLines.{arc_to, times_to, AreJoinedFrom, AddsJoined}
 use Rattle.kind_orders.proofs.ArcCounts.{adds, times-arc, times-both, times-take, times-permuted, times-target, times-same, anywhere, once_if_apart}
 
 -- pairs of two lists
@@ -135,7 +136,7 @@ pub record AreJoinedSoFar (lines : List ArcLine) (n : ℕ) (done : List ArcLine)
   pub joined : AreJoined done
   pub rising : AllPairs NotAbove done
   pub below : All (λ (arc : ArcLine). arc.target < target) done
-  pub pieces : ArePieces (width_of (classes_of lines)) classes
+  pub pieces : ArePieces (width_of (arc_classes lines)) classes
   pub ahead : (k : ℕ) (d : ArcLine) → n ≤ k → k < length lines → target ≤ (get_or lines k d).target
 
 -- The first n lines are joined, and none has a greater target.
@@ -145,21 +146,6 @@ pub record AreJoinedUpto (lines : List ArcLine) (n : ℕ) (done : List ArcLine) 
   pub joined : AreJoined done
   pub rising : AllPairs NotAbove done
   pub upto : All (λ (arc : ArcLine). arc.target ≤ target) done
-
-pub none_joined : (lines : List ArcLine) → AreJoinedSoFar lines 0 [] 0 []
-none_joined lines = record {
-  held = λ to column. refl;
-  filled = All-nil (λ (arc : ArcLine). IsTrue (is_filled arc.class));
-  joined = λ i j d less inside. absurd (omega arith);
-  rising = λ i j d less inside. absurd (omega arith);
-  below = All-nil (λ (arc : ArcLine). arc.target < 0);
-  pieces = record {
-    one_width = All-nil (λ class. length (sets_of class) ≡ width_of (classes_of lines));
-    filled = All-nil (λ class. IsTrue (is_filled class));
-    apart = λ i j d less inside. absurd (omega arith);
-  };
-  ahead = λ k d past inside. omega arith;
-}
 
 -- arcs of one target are joined if any two of their classes differ twice
 joined_to : (target : ℕ) (classes : List Class) → AllPairs DifferTwice classes → AreJoined (map (arc_to target) classes)
@@ -196,11 +182,11 @@ group_joined lines n done new target classes a adds = subst (λ arcs. AreJoinedU
           (All-map (λ (arc : ArcLine). arc.target ≤ target) (arc_to target) adds.added (λ k d inside. omega arith));
     })
 
-module _ (lines : List ArcLine) (pieces : ArePieces (width_of (classes_of lines)) (classes_of lines))
+module _ (lines : List ArcLine) (pieces : ArePieces (width_of (arc_classes lines)) (arc_classes lines))
     (sorted : AllPairs (λ (a b : ArcLine). a.target ≤ b.target) lines) (n : ℕ) (line : ArcLine)
     (inside : n < length lines) (is : line ≡ get_or lines n line) where
   abbrev width : ℕ
-  width = width_of (classes_of lines)
+  width = width_of (arc_classes lines)
 
   listed : Contains lines line
   listed = (n, inside, sym is)
@@ -343,15 +329,11 @@ targets_rise lines sorted = λ i j d less inside.
 
 -- the classes of lines are pieces in any order
 pub pieces_permuted : (width : ℕ) (lines others : List ArcLine) → IsPermutation lines others
-    → ArePieces width (classes_of lines) → ArePieces (width_of (classes_of others)) (classes_of others)
+    → ArePieces width (arc_classes lines) → ArePieces (width_of (arc_classes others)) (arc_classes others)
 pieces_permuted width lines others p pieces =
-    let same : IsPermutation (classes_of lines) (classes_of others)
+    let same : IsPermutation (arc_classes lines) (arc_classes others)
     = IsPermutation-map (λ (arc : ArcLine). arc.class) lines others p in
-    pieces_of_width width (classes_of others) (sorted_pieces width (classes_of lines) (classes_of others) same pieces)
-
-twice_turned : (a b : ArcLine) → (a.target ≡ b.target → DifferTwice a.class b.class)
-    → b.target ≡ a.target → DifferTwice b.class a.class
-twice_turned a b differ same = turned a.class b.class (differ (sym same))
+    pieces_of_width width (arc_classes others) (sorted_pieces width (arc_classes lines) (arc_classes others) same pieces)
 
 -- what is joined stays so in any order of lines
 pub joined_permuted : (moves lines arcs : List ArcLine) → IsPermutation moves lines → AreJoinedFrom lines arcs

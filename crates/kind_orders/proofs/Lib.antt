@@ -1,4 +1,3 @@
-pub mod Members
 pub mod Strict
 pub mod Orders
 pub mod Places

@@ -7,9 +7,10 @@ use Rattle.tier_core.specs.declared.kind.Kind.{Kind}
 use Rattle.tier_core.specs.Kinds.{PrefixKind}
 use Rattle.answer_text.specs.declared.stage.Node.{Node}
 use Rattle.kind_orders.specs.Orderings.{IsOrdering}
-use Rattle.kind_orders.specs.KindOrders.{empty_kind, kind_numbered}
+use Rattle.tier_core.specs.EmptyKind.{empty_kind}
+use Rattle.kind_orders.specs.KindOrders.{kind_numbered}
 use Rattle.kind_orders.specs.StageNodes.{node_numbered, AreNodesInOrder}
-use Rattle.kind_orders.proofs.Members.{contains_map, contains_of_map}
+use Rattle.tier_core.proofs.Members.{contains_map, contains_of_map}
 
 module _ (kinds : List Kind) (order : List ℕ) (o : IsOrdering (length kinds) order) (tell : Kind → PrefixKind) where
   abbrev taken : List PrefixKind

@@ -12,9 +12,11 @@ use Rattle.tier_core.specs.declared.shape.Shape.{Shape}
 use Rattle.tier_core.specs.Kinds.{kind_order}
 use Rattle.tier_core.specs.KindShapes.{FitsShape, free_count, stretch_count, kind_in}
 use Rattle.kind_orders.specs.Orderings.{IsOrdering}
-use Rattle.kind_orders.specs.KindOrders.{empty_kind, kind_numbered, AreFound, told, IsKindOrder}
+use Rattle.tier_core.specs.EmptyKind.{empty_kind}
+use Rattle.kind_orders.specs.KindOrders.{kind_numbered, AreFound, told, IsKindOrder}
 use Rattle.symbol_class.proofs.Pairs.{pairs_apart, pairs_permuted}
-use Rattle.kind_orders.proofs.Strict.{strict_from_sorted, same_kind, kind_order_total}
+use Rattle.tier_core.proofs.KindTies.{same_kind, kind_order_total}
+use Rattle.kind_orders.proofs.Strict.{strict_from_sorted}
 
 -- the numbers below n, rearranged
 pub ordering_from : (n : ℕ) (order : List ℕ) → IsPermutation (range_with_len 0 n) order → IsOrdering n order

@@ -20,7 +20,7 @@ use Rattle.answer_text.specs.Right.{numbers_of, AreRightArcs}
 use Rattle.kind_orders.specs.AutomatonLines.{IsLineOf, AreLinesOf}
 use Rattle.kind_orders.specs.JoinedArcs.{AreJoined, HaveJoinedArcs}
 use Rattle.kind_orders.specs.Automata.{HasWidth, Reaches, IsAutomatonOf}
-use Rattle.kind_orders.proofs.Members.{contains_map, contains_of_map, all_from_members}
+use Rattle.tier_core.proofs.Members.{contains_map, contains_of_map, All-from_members}
 use Rattle.kind_orders.proofs.ArcOrder.{arcs_apart, arcs_filled, move_from, arc_from}
 
 module _ {W : Type 0} {g : Ghosts W} (kept : List (TableState W g)) where
@@ -174,7 +174,7 @@ module _ {W : Type 0} {g : Ghosts W} (kept : List (TableState W g)) (exist : Tar
 
   pub right_arcs : ClassesDisjoint kept → (width : ℕ) → HasWidth width kept
       → All (λ (state : StateLine). AreRightArcs width (numbers_of lines) state.arcs.items) lines
-  right_arcs disjoint width wide = all_from_members
+  right_arcs disjoint width wide = All-from_members
       (λ (state : StateLine). AreRightArcs width (numbers_of lines) state.arcs.items) lines (λ line c.
       let h = are.each line c in
       let moves = moves_at kept h.0 in
@@ -182,9 +182,9 @@ module _ {W : Type 0} {g : Ghosts W} (kept : List (TableState W g)) (exist : Tar
       record {
         apart = arcs_apart nodes moves arcs h.2.arcs (disjoint h.0);
         filled = arcs_filled nodes moves arcs h.2.arcs;
-        one_width = all_from_members (λ (arc : ArcLine). length (sets_of arc.class) ≡ width) arcs
+        one_width = All-from_members (λ (arc : ArcLine). length (sets_of arc.class) ≡ width) arcs
             (λ arc m. let a = arc_move h.0 line h.2 arc m in sym a.1.1.1 ∙ wide h.0 a.0 a.1.0);
-        targets = all_from_members (λ (arc : ArcLine). Contains (numbers_of lines) arc.target) arcs
+        targets = All-from_members (λ (arc : ArcLine). Contains (numbers_of lines) arc.target) arcs
             (λ arc m. let a = arc_move h.0 line h.2 arc m in subst (Contains (numbers_of lines)) a.1.1.0
             (number_has a.0.target (exist h.0 a.0 a.1.0)));
         in_order = h.2.in_order;
@@ -192,7 +192,7 @@ module _ {W : Type 0} {g : Ghosts W} (kept : List (TableState W g)) (exist : Tar
 
   -- and they are joined
   pub joined_arcs : HaveJoinedArcs lines
-  joined_arcs = all_from_members (λ (state : StateLine). AreJoined state.arcs.items) lines
+  joined_arcs = All-from_members (λ (state : StateLine). AreJoined state.arcs.items) lines
       (λ line c. (are.each line c).2.arcs.joined)
 
   pub automaton_is : 0 < length kept → ClassesDisjoint kept → IsAutomatonOf kept nodes lines

@@ -1,16 +1,12 @@
--- Sorted lists in which no two elements tie, and the order of kinds.
-use Rattle.std.proofs.Common.{◌≡◌, ◌≢◌, ℕ, ◌+◌, ◌<◌, Bool, true, false, List, [], ◌∷◌, map, length, get_or, refl, ap, ap₂, ◌∙◌, arith, AllPairs, true≢false}
+-- Sorted lists in which no two elements tie.
+use Rattle.std.proofs.Common.{◌≡◌, ◌≢◌, ◌+◌, ◌<◌, true, false, List, map, length, get_or, refl, ap, ap₂, ◌∙◌, arith, AllPairs, true≢false}
 use Rattle.std.specs.Cmp.{IsTotalOrder}
-use Rattle.std.specs.Cmp.Lexicographic.{slice_cmp}
 use Rattle.std.specs.List.Sorted.{IsSortedByKey, IsStrictlySortedBy}
-use Rattle.std.specs.Ordering.{nat_cmp, ordering_then, ordering_reverse, is_lt}
+use Rattle.std.specs.Ordering.{ordering_reverse, is_lt}
 use Rattle.std.specs.declared.cmp.Ordering.{Ordering}
 use Rattle.std.specs.declared.cmp.Ordering.TheVariants.{Less, Equal, Greater}
-use Rattle.std.proofs.lemmas.Cmp.{nat_cmp_total, nat_list_cmp_total, on_total, then_total}
 use Rattle.std.proofs.lemmas.List.{get_or-map, length-map}
 use Rattle.std.proofs.lemmas.Map.Keys.{sorted_from_all_adjacent}
-use Rattle.symbol_class.proofs.SetOrder.{both_equal, same_number, same_numbers}
-use Rattle.tier_core.specs.Kinds.{Phase, closed, unmet, met, PrefixKind, open_rank, phase_rank, kind_order}
 
 module _ {X K : Type 0} {R : K → K → Ordering} (o : IsTotalOrder R) (key : X → K) where
   less_from : (x y : K) → is_lt (R y x) ≡ false → R x y ≢ Equal → R x y ≡ Less
@@ -28,58 +24,3 @@ module _ {X K : Type 0} {R : K → K → Ordering} (o : IsTotalOrder R) (key : X
       ap₂ R (get_or-map key xs k d (key d) (omega arith)) (get_or-map key xs (k + 1) d (key d) inside)
       ∙ less_from (key (get_or xs k d)) (key (get_or xs (k + 1) d)) (sorted k d (omega arith) inside)
       (differ k (k + 1) d (omega arith) inside))
-
--- ---- what ties is the same
-
-unmapped : {X : Type 0} (f : X → ℕ) → ((x y : X) → f x ≡ f y → x ≡ y) → (xs ys : List X) → map f xs ≡ map f ys → xs ≡ ys
-unmapped f one [] [] e = refl
-unmapped f one [] (y ∷ ys) e = cc
-unmapped f one (x ∷ xs) [] e = cc
-unmapped f one (x ∷ xs) (y ∷ ys) e =
-    let head : f x ≡ f y = cc in
-    let tail : map f xs ≡ map f ys = cc in
-    ap₂ (λ z zs. z ∷ zs) (one x y head) (unmapped f one xs ys tail)
-
-same_open : (a b : Bool) → open_rank a ≡ open_rank b → a ≡ b
-same_open true true e = refl
-same_open true false e = absurd (omega arith)
-same_open false true e = absurd (omega arith)
-same_open false false e = refl
-
-same_phase : (a b : Phase) → phase_rank a ≡ phase_rank b → a ≡ b
-same_phase closed closed e = refl
-same_phase closed unmet e = absurd (omega arith)
-same_phase closed met e = absurd (omega arith)
-same_phase unmet closed e = absurd (omega arith)
-same_phase unmet unmet e = refl
-same_phase unmet met e = absurd (omega arith)
-same_phase met closed e = absurd (omega arith)
-same_phase met unmet e = absurd (omega arith)
-same_phase met met e = refl
-
-abbrev kind_of_parts : ℕ → List Bool → List Phase → PrefixKind
-kind_of_parts p a s = record { place = p; opened = a; phases = s }
-
-of_parts : (p q : ℕ) (a b : List Bool) (s t : List Phase) → p ≡ q → a ≡ b → s ≡ t
-    → kind_of_parts p a s ≡ kind_of_parts q b t
-of_parts p q a b s t e f g = ap (λ n. kind_of_parts n a s) e ∙ ap (λ c. kind_of_parts q c s) f
-    ∙ ap (kind_of_parts q b) g
-
--- kinds that tie are one
-pub same_kind : (k l : PrefixKind) → kind_order k l ≡ Equal → k ≡ l
-same_kind k l e =
-    let opened = slice_cmp nat_cmp (map open_rank k.opened) (map open_rank l.opened) in
-    let phases = slice_cmp nat_cmp (map phase_rank k.phases) (map phase_rank l.phases) in
-    let first = both_equal (nat_cmp k.place l.place) (ordering_then opened phases) e in
-    let second = both_equal opened phases first.1 in
-    of_parts k.place l.place k.opened l.opened k.phases l.phases (same_number k.place l.place first.0)
-    (unmapped open_rank same_open k.opened l.opened
-    (same_numbers (map open_rank k.opened) (map open_rank l.opened) second.0))
-    (unmapped phase_rank same_phase k.phases l.phases
-    (same_numbers (map phase_rank k.phases) (map phase_rank l.phases) second.1))
-
-pub kind_order_total : IsTotalOrder kind_order
-kind_order_total =
-    then_total (on_total (λ (k : PrefixKind). k.place) nat_cmp_total)
-    (then_total (on_total (λ (k : PrefixKind). map open_rank k.opened) nat_list_cmp_total)
-    (on_total (λ (k : PrefixKind). map phase_rank k.phases) nat_list_cmp_total))

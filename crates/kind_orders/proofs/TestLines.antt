@@ -7,19 +7,20 @@ use Rattle.symbol_class.specs.Held.{width_of, ArePieces}
 use Rattle.symbol_class.proofs.Pairs.{pairs_map}
 use Rattle.symbol_class.proofs.JoinedClasses.{pieces_of_width}
 use Rattle.answer_text.specs.declared.automaton.ArcLine.{ArcLine}
-use Rattle.kind_orders.specs.JoinedLines.{arc_to, classes_of}
+use Rattle.answer_text.specs.ArcClasses.{arc_classes}
+use Rattle.kind_orders.specs.JoinedLines.{arc_to}
 use Rattle.kind_orders.proofs.GroupSteps.{pairs-append}
 
-classes_back : (target : ℕ) (classes : List Class) → classes_of (map (arc_to target) classes) ≡ classes
+classes_back : (target : ℕ) (classes : List Class) → arc_classes (map (arc_to target) classes) ≡ classes
 classes_back target [] = refl
 classes_back target (c ∷ cs) = ap (λ xs. c ∷ xs) (classes_back target cs)
 
 module _ (some others : List Class) (lines : List ArcLine)
     (are : lines ≡ map (arc_to 3) some ++ map (arc_to 5) others) where
-  pub lines_are_pieces : ArePieces 2 (some ++ others) → ArePieces (width_of (classes_of lines)) (classes_of lines)
+  pub lines_are_pieces : ArePieces 2 (some ++ others) → ArePieces (width_of (arc_classes lines)) (arc_classes lines)
   lines_are_pieces pieces =
-      let same : classes_of lines ≡ some ++ others =
-      ap classes_of are
+      let same : arc_classes lines ≡ some ++ others =
+      ap arc_classes are
       ∙ map-append (λ (arc : ArcLine). arc.class) (map (arc_to 3) some) (map (arc_to 5) others)
       ∙ ap₂ (λ xs ys. xs ++ ys) (classes_back 3 some) (classes_back 5 others) in
       subst (λ (cs : List Class). ArePieces (width_of cs) cs) (sym same) (pieces_of_width 2 (some ++ others) pieces)

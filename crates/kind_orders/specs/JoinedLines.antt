@@ -15,10 +15,6 @@ use Rattle.kind_orders.specs.JoinedArcs.{AreJoined}
 abbrev pub arc_to : ℕ → Class → ArcLine
 arc_to target class = record { target = target; class = class }
 
--- the classes of arcs
-abbrev pub classes_of : List ArcLine → List Class
-classes_of arcs = map (λ arc. arc.class) arcs
-
 -- how many arcs to such targets have a column
 abbrev pub times_to : (ℕ → Bool) → List ArcLine → List Sym → ℕ
 times_to to arcs column = count_by (λ arc. to arc.target && has arc.class column) arcs

@@ -1,15 +1,12 @@
 -- Kinds that are found, and their order.
-use Rattle.std.specs.Prelude.{ℕ, ◌≢◌, List, map, length, slice_index_or, All, AllPairs, refl}
+use Rattle.std.specs.Prelude.{ℕ, ◌≢◌, List, map, length, slice_index_or, All, AllPairs}
 use Rattle.std.specs.List.Sorted.{IsStrictlySortedBy}
 use Rattle.tier_core.specs.declared.kind.Kind.{Kind}
 use Rattle.tier_core.specs.declared.shape.Shape.{Shape}
 use Rattle.tier_core.specs.Kinds.{PrefixKind, kind_order}
 use Rattle.tier_core.specs.KindShapes.{FitsShape, kind_in}
+use Rattle.tier_core.specs.EmptyKind.{empty_kind}
 use Rattle.kind_orders.specs.Orderings.{IsOrdering}
-
--- the kind of the empty prefix
-abbrev pub empty_kind : Kind
-empty_kind = record { place = 0; opened = 0; unmet = 0; met = 0; apart = refl }
 
 -- the kind of a number, or that of the empty prefix if there is no such number
 abbrev pub kind_numbered : List Kind → ℕ → Kind

@@ -4,7 +4,8 @@ ghost use Rattle.symbol_class.specs.ClassOrder.{class_cmp};
 ghost use Rattle.symbol_class.specs.Held.{some_has, width_of, ArePieces};
 ghost use Rattle.symbol_class.specs.Joined.{DifferTwice};
 ghost use Rattle.answer_text.specs.Right.{arc_cmp};
-ghost use Rattle.kind_orders.specs.JoinedLines.{arc_to, classes_of, AddsJoined, AreJoinedFrom};
+ghost use Rattle.answer_text.specs.ArcClasses.{arc_classes};
+ghost use Rattle.kind_orders.specs.JoinedLines.{arc_to, AddsJoined, AreJoinedFrom};
 
 use answer_text::ArcLine;
 use std::alloc::{AllocError, Global};
@@ -130,7 +131,7 @@ fn group_after(
 /// The arcs of lines that are sorted by target, where the classes of the lines to one target are
 /// joined. They are sorted by target and then by class.
 pub(crate) fn joined_lines(alloc: Global, lines: &[ArcLine]) -> Result<Vec<ArcLine>, AllocError>
-    requires pieces { ArePieces (width_of (classes_of lines.now)) (classes_of lines.now) }
+    requires pieces { ArePieces (width_of (arc_classes lines.now)) (arc_classes lines.now) }
     requires sorted { AllPairs (λ a b. a.target ≤ b.target) lines.now }
     ensures joined { IfOk result (λ arcs. AreJoinedFrom lines.now arcs.items) }
     ensures sorted { IfOk result (λ arcs. IsSorted arc_cmp arcs.items) }

@@ -1,5 +1,5 @@
 -- The weights of the table of a single pass are vectors of violations.
-use Rattle.std.proofs.Common.{zero, suc, arith, ◌≡◌, ℕ, ◌*◌, ◌+◌, ◌≤◌, Bool, true, false, cond, List, [], ◌∷◌, ◌++◌, map, drop, take, length, Contains, refl, sym, ap, ◌∙◌}
+use Rattle.std.proofs.Common.{zero, arith, ◌≡◌, ℕ, ◌+◌, ◌≤◌, Bool, cond, List, [], ◌∷◌, ◌++◌, map, drop, take, length, Contains, refl, sym, ap, ◌∙◌}
 use Rattle.std.proofs.lemmas.List.{length-map}
 use Rattle.weight_law.specs.Ranked.{greatest_part, sum_of_parts, padded, ranked_meaning}
 use Rattle.weight_law.specs.declared.Weight.{Ghosts}
@@ -11,6 +11,7 @@ use Rattle.tier_core.specs.Kinds.{Phase, PrefixKind}
 use Rattle.tier_core.specs.Sides.{is_stretch}
 use Rattle.tier_core.specs.FirstColumn.{first_column}
 use Rattle.tier_core.proofs.Filled.{has-first_column}
+use Rattle.tier_core.proofs.MaskBits.{at_most_one}
 use Rattle.arc_table.specs.declared.arc.TableArc.{TableArc}
 use Rattle.arc_table.specs.declared.state.TableState.{TableState}
 use Rattle.arc_table.specs.Moves.{moves_at}
@@ -25,6 +26,7 @@ use Rattle.violation.proofs.RestLemmas.{whole_walk, rest_walk, length_whole_walk
 use Rattle.kind_tables.specs.StageTables.{IsStage, name_of, GoesAsKinds, AreNamedByKinds}
 use Rattle.kind_tables.specs.RankedTables.{AreWeighedByAll, IsRankedTable}
 use Rattle.kind_tables.proofs.Paths.{run_path}
+use Rattle.kind_tables.proofs.Weighing.{times_one}
 use Rattle.violation.specs.Problems.{Problem, last_stage}
 
 -- sums place by place
@@ -101,23 +103,14 @@ module _ (problem : Problem) (stage : IsStage problem (last_stage problem)) (few
       ∙ ap (λ k. padded (walk k T)) table.named.start
       ∙ ap padded (sym (whole_walk problem stage T ((table.accepts T).0 (arcs, accepting))))
 
-bit_most : (b : Bool) → cond b 1 0 ≤ 1
-bit_most true = omega arith
-bit_most false = omega arith
-
 -- a column costs 1 at most under each constraint
 costs_most : (cs : List Constraint) (o : ℕ → Bool) (phases : List Phase) (column : List Sym)
     → greatest_part (costs_each cs o phases column) ≤ 1
 costs_most [] o phases column = omega arith
 costs_most (c ∷ cs) o phases column =
-    let first = bit_most (costs c.family c.left c.right o (first_phase phases) column) in
+    let first = at_most_one (costs c.family c.left c.right o (first_phase phases) column) in
     let rest = costs_most cs o (cond (is_stretch c) (drop 1 phases) phases) column in
     omega (arith, first, rest)
-
-times_one : (n x : ℕ) → x ≤ 1 → n * x ≤ n
-times_one n zero l = omega arith
-times_one n (suc zero) l = omega arith
-times_one n (suc (suc x)) l = absurd (omega arith)
 
 -- so the weights of runs without repeats fit where the number of states does
 module _ (problem : Problem) {g : Ghosts Ranked} (meaning : g.meaning ≡ ranked_meaning) (names : List PrefixKind)

@@ -1,5 +1,5 @@
 -- The weights of a stage's table are violations of its constraint.
-use Rattle.std.proofs.Common.{zero, suc, arith, ◌*◌, Bool, true, false, cond, drop, length, Contains, ◌≡◌, ℕ, ◌+◌, ◌-◌, ◌≤◌, List, [], ◌∷◌, ◌++◌, take, length, get_or, sym, ap, ◌∙◌}
+use Rattle.std.proofs.Common.{zero, suc, arith, ◌*◌, Bool, cond, drop, length, Contains, ◌≡◌, ℕ, ◌+◌, ◌-◌, ◌≤◌, List, [], ◌∷◌, ◌++◌, take, length, get_or, sym, ap, ◌∙◌}
 use Rattle.weight_law.specs.Count.{count_meaning}
 use Rattle.weight_law.specs.declared.Weight.{Ghosts}
 use Rattle.weight_law.specs.declared.count.Count.{Count}
@@ -14,6 +14,7 @@ use Rattle.tier_core.specs.Kinds.{Phase}
 use Rattle.tier_core.specs.Sides.{is_stretch}
 use Rattle.tier_core.specs.FirstColumn.{first_column}
 use Rattle.tier_core.proofs.Filled.{has-first_column}
+use Rattle.tier_core.proofs.MaskBits.{at_most_one}
 use Rattle.arc_table.specs.Moves.{moves_at}
 use Rattle.violation.specs.Moves.{move_costs, costs, costs_each, first_phase, is_tier_open}
 use Rattle.violation.specs.Prefixes.{kind_of}
@@ -81,14 +82,10 @@ module _ (problem : Problem) (r : ℕ) (stage : IsStage problem r) {g : Ghosts C
 cost_least : (cs : List Constraint) (o : ℕ → Bool) (phases : List Phase) (column : List Sym) (i : ℕ)
     → get_or (costs_each cs o phases column) i 0 ≤ 1
 cost_least [] o phases column i = omega arith
-cost_least (c ∷ cs) o phases column zero = go (costs c.family c.left c.right o (first_phase phases) column)
-  where
-    go : (b : Bool) → cond b 1 0 ≤ 1
-    go true = omega arith
-    go false = omega arith
+cost_least (c ∷ cs) o phases column zero = at_most_one (costs c.family c.left c.right o (first_phase phases) column)
 cost_least (c ∷ cs) o phases column (suc i) = cost_least cs o (cond (is_stretch c) (drop 1 phases) phases) column i
 
-times_one : (n x : ℕ) → x ≤ 1 → n * x ≤ n
+pub times_one : (n x : ℕ) → x ≤ 1 → n * x ≤ n
 times_one n zero l = omega arith
 times_one n (suc zero) l = omega arith
 times_one n (suc (suc x)) l = absurd (omega arith)

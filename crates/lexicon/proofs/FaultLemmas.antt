@@ -1,7 +1,6 @@
 -- Elements are entries, or one of them is the first that is none, and never both.
-use Rattle.std.proofs.Common.{◌≡◌, ◌⊎◌, inl, inr, ℕ, Bool, true, false, Option, Some, None, List, [], ◌∷◌, ◌++◌, length, append-nil, append_assoc, refl, ap, sym, ◌∙◌, subst}
+use Rattle.std.proofs.Common.{◌≡◌, ◌⊎◌, inl, inr, ℕ, true, false, Option, Some, List, [], ◌∷◌, ◌++◌, length, append-nil, append_assoc, refl, ap, sym, ◌∙◌, subst}
 use Rattle.std.specs.List.{AllZip}
-use Rattle.std.specs.Str.{bytes_eq}
 use Rattle.std.proofs.lemmas.Bool.{false≢true}
 use Rattle.std.proofs.lemmas.List.{map-append}
 use Rattle.std.proofs.lemmas.Option.{same_Some}
@@ -9,7 +8,7 @@ use Rattle.toml.specs.Data.{Data}
 use Rattle.tier_core.specs.declared.sym.Sym.{Sym}
 use Rattle.timeline_text.specs.declared.form_err.FormErr.{FormErr}
 use Rattle.timeline_text.specs.declared.letter.Letter.{Letter}
-use Rattle.timeline_text.proofs.Searches.{by_test, by_option}
+use Rattle.timeline_text.proofs.Searches.{by_test, by_option, none_some}
 use Rattle.grammar_reader.specs.Names.{has_twice}
 use Rattle.grammar_reader.proofs.Twice.{twice_after}
 use Rattle.form_reader.specs.Forms.{HasForm, IsReadAs, IsRefusedFor}
@@ -19,9 +18,6 @@ use Rattle.lexicon.specs.declared.lex_err.LexErr.TheVariants.{NotToml, TooMany, 
 use Rattle.lexicon.specs.Elements.{written}
 use Rattle.lexicon.specs.Entries.{LexicalEntry, AreEntries, HasBadForm, IsEntry, IsFault, IsFirstFault, IsTwiceNamed, is_among, names_of}
 use Rattle.lexicon.proofs.EntryLemmas.{no_entries, one_more}
-
-pub none_some : {X : Type 0} {o : Option X} {x : X} → o ≡ None → o ≡ Some x → ⊥
-none_some e f = cc
 
 same_names : {o : Option (List ℕ × List ℕ)} (m n v w : List ℕ) → o ≡ Some (m, v) → o ≡ Some (n, w) → m ≡ n
 same_names m n v w e f = ap (λ p. p.0) (same_Some (m, v) (n, w) (sym e ∙ f))

@@ -1,6 +1,6 @@
 -- Bytes are a lexicon, or they have a cause, and never both.
-use Rattle.std.proofs.Common.{◌≡◌, ◌⊎◌, inl, inr, ℕ, ◌<◌, ◌≤◌, Bool, true, false, nat_lt, Option, Some, None, option_map, List, [], codes, length, map, MatchBool, refl, ap, sym, ◌∙◌, subst, arith}
-use Rattle.std.specs.Str.{IsUtf8, is_utf8}
+use Rattle.std.proofs.Common.{◌≡◌, ◌⊎◌, inl, inr, ℕ, ◌<◌, ◌≤◌, Bool, true, false, nat_lt, Option, Some, None, option_map, List, codes, length, map, MatchBool, refl, ap, sym, ◌∙◌, subst, arith}
+use Rattle.std.specs.Str.{is_utf8}
 use Rattle.std.proofs.lemmas.Bool.{false≢true}
 use Rattle.std.proofs.lemmas.Bool.Decides.{nat_tests}
 use Rattle.std.proofs.lemmas.Option.{same_Some}
@@ -10,15 +10,15 @@ use Rattle.toml.specs.Parse.{parse_document}
 use Rattle.toml.specs.View.{view, items_view}
 use Rattle.toml.specs.declared.value.Value.{Value}
 use Rattle.timeline_text.specs.declared.letter.Letter.{Letter}
-use Rattle.timeline_text.proofs.Searches.{by_test, by_option}
+use Rattle.timeline_text.proofs.Searches.{by_test, by_option, none_some}
 use Rattle.form_reader.proofs.ReadingLemmas.{by_choices, when_true, when_false}
 use Rattle.lexicon.specs.declared.lex_err.LexErr.{LexErr}
 use Rattle.lexicon.specs.declared.lex_err.LexErr.TheVariants.{NotToml, TooMany, BadEntry}
 use Rattle.lexicon.specs.Elements.{elements_of, elements_under, list_of}
 use Rattle.lexicon.specs.Entries.{LexicalEntry, AreEntries, IsFirstFault}
-use Rattle.lexicon.specs.Lexicons.{HasLexicon, IsBadTable, IsLexicon, IsLexiconCause, IsNoToml, IsTableCause, IsToml}
-use Rattle.lexicon.proofs.EntryLemmas.{list_of-items_view, no_entries}
-use Rattle.lexicon.proofs.FaultLemmas.{entries_or_fault, no_first_fault, none_some, one_first_fault, one_list}
+use Rattle.lexicon.specs.Lexicons.{HasLexicon, IsLexicon, IsLexiconCause, IsNoToml, IsTableCause, IsToml}
+use Rattle.lexicon.proofs.EntryLemmas.{list_of-items_view}
+use Rattle.lexicon.proofs.FaultLemmas.{entries_or_fault, no_first_fault, one_first_fault, one_list}
 
 one_table : (bytes : List ℕ) (s t : Members) → IsToml bytes s → IsToml bytes t → s ≡ t
 one_table bytes s t a b = same_Some s t (sym a.told ∙ b.told)
@@ -26,10 +26,6 @@ one_table bytes s t a b = same_Some s t (sym a.told ∙ b.told)
 toml_or_none : (bytes : List ℕ) (t : Members) → IsToml bytes t → IsNoToml bytes → ⊥
 toml_or_none bytes t a (inl other) = other a.utf8
 toml_or_none bytes t a (inr none) = none_some none a.told
-
--- where the key is absent there are no elements
-pub listed_none : (table : Members) → None ≡ get_member (codes "entry") table → elements_of table ≡ Some []
-listed_none table e = ap elements_under (sym e)
 
 -- where it holds no array there is no list
 pub not_listed : (table : Members) (d : Data) → Some d ≡ get_member (codes "entry") table → None ≡ as_array d

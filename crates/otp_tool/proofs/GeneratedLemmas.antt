@@ -13,7 +13,7 @@ use Rattle.grammar_reader.specs.declared.grammar.Grammar.{Grammar}
 use Rattle.grammar_reader.specs.Grammars.{value_of}
 use Rattle.grammar_reader.specs.ShapeOf.{IsShapeOf}
 use Rattle.grammar_reader.proofs.Shaping.{length-stretch_counts}
-use Rattle.kind_moves.proofs.GrammarTiers.{over_tiers}
+use Rattle.grammar_reader.proofs.OverTiers.{over_tiers}
 use Rattle.answer_text.specs.declared.answer.Answer.{Answer}
 use Rattle.answer_text.specs.declared.stage.Node.{Node}
 use Rattle.answer_text.specs.Certified.{AreStatesInOrder}

@@ -14,7 +14,7 @@ use Rattle.grammar_reader.specs.Values.{GrammarValue, NamedConstraint}
 use Rattle.grammar_reader.specs.ShapeOf.{stretch_counts}
 use Rattle.answer_reader.specs.declared.answer_err.AnswerCause.{AnswerCause}
 use Rattle.answer_reader.specs.Reading.{answer_of, answer_with, behind_form, HeadValue, constraint_count, form_of, example_of, stages_behind, states_behind}
-use Rattle.answer_reader.specs.Cuts.{lines_of}
+use Rattle.timeline_text.specs.Bytes.{lines_of}
 use Rattle.answer_reader.specs.Lines.{automaton_of, counts_of, header_of, stage_of}
 use Rattle.answer_reader.specs.Nodes.{node_of}
 use Rattle.answer_reader.specs.Orders.{in_order, node_less}

@@ -20,6 +20,7 @@ use Rattle.grammar_reader.specs.Grammars.{value_of}
 use Rattle.tier_core.proofs.CountLemmas.{all_weaker}
 use Rattle.grammar_reader.specs.ShapeOf.{IsShapeOf}
 use Rattle.grammar_reader.proofs.Shaping.{length-stretch_counts}
+use Rattle.grammar_reader.proofs.OverTiers.{over_tiers}
 use Rattle.violation.specs.Candidates.{IsForm, vec}
 use Rattle.violation.specs.Conditions.{IsCountable, IsOverTiers}
 use Rattle.answer_text.specs.declared.answer.Answer.{Answer}
@@ -29,7 +30,6 @@ use Rattle.answer_text.specs.Shape.{widths_of}
 use Rattle.answer_text.specs.Text.{Widths, answer_text, counts_text}
 use Rattle.ranked_gen.specs.Budgets.{AreAllWithin, HaveFewKinds}
 use Rattle.command_line.specs.declared.status.Status.{Status}
-use Rattle.kind_moves.proofs.GrammarTiers.{over_tiers}
 use Rattle.form_reader.specs.Forms.{IsReadAs, IsRefusedFor}
 use Rattle.otp_tool.specs.Scored.{IsNotScored, IsScored}
 use Rattle.otp_tool.specs.Findings.{Finding, FindsForAnswer, FindsForScore, no_form, ready}

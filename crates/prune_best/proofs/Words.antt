@@ -23,7 +23,7 @@ use Rattle.distances.proofs.Shortest.{least_at, lawful_least, least_same, weighe
 use Rattle.prune_best.specs.Names.{IsNamed, AreNumbered}
 use Rattle.prune_best.specs.Kept.{IsKept, Matches}
 use Rattle.prune_best.specs.Tight.{IsTight, IsLeastMove}
-use Rattle.prune_best.proofs.Numbering.{names_apart, numbered_below, names_few}
+use Rattle.prune_best.proofs.Numbering.{names_apart, numbered_below}
 use Rattle.arc_table.proofs.Push.{moves_exist}
 use Rattle.prune_best.proofs.SoFar.{SoFar}
 
@@ -231,7 +231,3 @@ module _ {W V : Type 0} {g : Ghosts W} {h : Ghosts V} (laws : IsLawful g.meaning
       let n = name_of k l in
       let start = some_of (get_or least (get_or names k 0) None) (f.weighed k (get_or names k 0) n) in
       ((f.states k (get_or names k 0) l n).kept start.0 start.1).apart (apart (get_or names k 0)) i j d less inside
-
-  pub new_few : (numbers : List (Option ℕ)) → AreNumbered names numbers → length numbers < 4294967296
-      → length new < 4294967296
-  new_few numbers numbered few = omega (arith, names_few names numbers numbered, few, all)

@@ -10,8 +10,7 @@ use Rattle.std.specs.declared.cmp.Ordering.{Ordering}
 use Rattle.std.specs.declared.cmp.Ordering.TheVariants.{Less, Equal, Greater}
 use Rattle.std.proofs.lemmas.List.FromFn.{length-range_with_len, get_or-range_with_len}
 use Rattle.std.proofs.lemmas.List.Elements.{Contains-append_cases}
-use Rattle.kind_orders.proofs.Members.{contains_of_map}
-use Rattle.ranked_gen.proofs.MemberLemmas.{all_from_members, all_at_member, contains_of_flat, contains_of_kept, contains_first, contains_later}
+use Rattle.tier_core.proofs.Members.{contains_of_map, all_from_members, all_at_member, contains_of_flat, contains_of_kept, contains_first, contains_later}
 
 -- each element is below all that follow it
 abbrev pub Ascends : {X : Type 0} → (X → X → Ordering) → List X → Type 0

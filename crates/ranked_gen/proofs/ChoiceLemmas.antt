@@ -1,8 +1,7 @@
 -- Choices of one element of each of some lists.
 use Rattle.std.proofs.Common.{List, [], ◌∷◌, map, subst, Contains}
 use Rattle.violation.specs.Counts.{choices}
-use Rattle.kind_orders.proofs.Members.{contains_map, contains_of_map}
-use Rattle.ranked_gen.proofs.MemberLemmas.{contains_one, contains_first, contains_flat, contains_of_flat}
+use Rattle.tier_core.proofs.Members.{contains_map, contains_of_map, contains_one, contains_first, contains_flat, contains_of_flat}
 
 -- one element of each list in turn
 abbrev pub IsChoice : {X : Type 0} → List (List X) → List X → Type 0

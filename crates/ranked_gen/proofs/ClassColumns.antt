@@ -8,7 +8,7 @@ use Rattle.tier_core.specs.Classes.{sets_of, sets_have, has}
 use Rattle.tier_core.specs.Sets.{is_in}
 use Rattle.violation.specs.Counts.{choices}
 use Rattle.ranked_gen.proofs.ChoiceLemmas.{IsChoice, choices_have, choice_in}
-use Rattle.ranked_gen.proofs.MemberLemmas.{contains_first, contains_later, contains_kept, contains_of_kept}
+use Rattle.tier_core.proofs.Members.{contains_first, contains_later, contains_kept, contains_of_kept}
 
 abbrev every : List Sym
 every = Outside ∷ Inside ∷ Start ∷ End ∷ Both ∷ []

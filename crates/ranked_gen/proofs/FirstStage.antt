@@ -22,7 +22,8 @@ use Rattle.stage_tables.proofs.Named.{frame_stage}
 use Rattle.ranked_gen.specs.Budgets.{IsOver, IsWithin}
 use Rattle.ranked_gen.specs.Listed.{kind_count}
 use Rattle.ranked_gen.specs.Numbers.{kind_numbered}
-use Rattle.ranked_gen.proofs.FewKinds.{no_longer, stage_few}
+use Rattle.tier_core.proofs.Differing.{no_longer}
+use Rattle.ranked_gen.proofs.FewKinds.{stage_few}
 use Rattle.ranked_gen.proofs.NextStage.{pairs_differ}
 use Rattle.ranked_gen.proofs.NumberedKinds.{free_distinct}
 use Rattle.ranked_gen.proofs.StageKinds.{numbered_kinds}

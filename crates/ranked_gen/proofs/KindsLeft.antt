@@ -23,14 +23,14 @@ use Rattle.kind_moves.specs.Frames.{problem_in, tiers_in, constraints_in, stretc
 use Rattle.kind_tables.specs.StageTables.{name_of, AreNamedByKinds}
 use Rattle.kind_tables.specs.FoundTables.{names_kept}
 use Rattle.stage_laws.proofs.Pruned.{kept_named}
-use Rattle.kind_orders.specs.KindOrders.{empty_kind, kind_numbered}
-use Rattle.kind_orders.proofs.Members.{contains_map, contains_of_map}
+use Rattle.tier_core.specs.EmptyKind.{empty_kind}
+use Rattle.kind_orders.specs.KindOrders.{kind_numbered}
+use Rattle.tier_core.proofs.Members.{contains_map, contains_of_map, all_from_members}
 use Rattle.stage_tables.specs.Explored.{names_at}
 use Rattle.stage_tables.specs.Kept.{AreKeptByKinds}
 use Rattle.stage_tables.proofs.Named.{frame_stage}
 use Rattle.ranked_gen.specs.KindsLeft.{AreKindsLeft}
-use Rattle.ranked_gen.proofs.FewKinds.{no_longer}
-use Rattle.ranked_gen.proofs.MemberLemmas.{all_from_members}
+use Rattle.tier_core.proofs.Differing.{no_longer}
 use Rattle.ranked_gen.proofs.NextStage.{pairs_differ}
 use Rattle.ranked_gen.proofs.OrderedNames.{count_kinds, name_is}
 

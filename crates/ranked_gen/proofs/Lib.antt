@@ -1,5 +1,4 @@
 pub mod NumberLemmas
-pub mod MemberLemmas
 pub mod Ascending
 pub mod ChoiceLemmas
 pub mod NumberedKinds

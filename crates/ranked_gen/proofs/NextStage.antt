@@ -19,8 +19,9 @@ use Rattle.kind_tables.proofs.Naming.{names_law}
 use Rattle.stage_tables.specs.Kept.{IsKept}
 use Rattle.stage_tables.specs.Explored.{names_at, IsExplored, IsMet, IsOverBudget}
 use Rattle.ranked_gen.specs.Budgets.{IsOver, IsWithin}
-use Rattle.ranked_gen.proofs.MemberLemmas.{all_from_members}
-use Rattle.ranked_gen.proofs.FewKinds.{Differ, stage_few}
+use Rattle.tier_core.proofs.Members.{all_from_members}
+use Rattle.tier_core.proofs.Differing.{Differ}
+use Rattle.ranked_gen.proofs.FewKinds.{stage_few}
 use Rattle.ranked_gen.proofs.OverBudget.{over_budget}
 use Rattle.stage_tables.proofs.Named.{frame_stage}
 use Rattle.violation.specs.Problems.{last_stage}

@@ -19,8 +19,9 @@ use Rattle.kind_moves.specs.Frames.{problem_in}
 use Rattle.stage_tables.specs.Explored.{IsOverBudget}
 use Rattle.ranked_gen.specs.Budgets.{IsOver}
 use Rattle.ranked_gen.proofs.Ascending.{ascends_from}
-use Rattle.ranked_gen.proofs.FewKinds.{Differ, ascending_differ, no_longer}
-use Rattle.ranked_gen.proofs.MemberLemmas.{all_from_members}
+use Rattle.tier_core.proofs.Differing.{Differ, no_longer}
+use Rattle.ranked_gen.proofs.FewKinds.{ascending_differ}
+use Rattle.tier_core.proofs.Members.{all_from_members}
 use Rattle.ranked_gen.proofs.NextStage.{pairs_differ}
 use Rattle.violation.specs.Problems.{Problem, last_stage}
 

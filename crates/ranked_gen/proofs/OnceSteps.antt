@@ -21,9 +21,9 @@ use Rattle.violation.specs.Candidates.{IsLeastVector}
 use Rattle.violation.specs.Counts.{violations_of}
 use Rattle.violation.specs.Rests.{IsLeastRestVector, AreWholeKinds}
 use Rattle.grammar_reader.specs.ShapeOf.{IsShapeOf}
+use Rattle.grammar_reader.proofs.OverTiers.{few_constraints}
 use Rattle.kind_moves.specs.declared.frame.Frame.{Frame}
 use Rattle.kind_moves.specs.Frames.{tiers_in, constraints_in, kind_at_stage, problem_in}
-use Rattle.kind_moves.proofs.GrammarTiers.{few_constraints}
 use Rattle.answer_text.specs.declared.stage.Node.{Node}
 use Rattle.answer_text.specs.declared.once_answer.OnceNode.{OnceNode}
 use Rattle.answer_text.specs.RightOnce.{kind_told, bare_nodes, IsRightPotential}
@@ -33,7 +33,8 @@ use Rattle.kind_tables.specs.RankedTables.{IsRankedTable}
 use Rattle.stage_laws.proofs.LeastVectors.{least_vector, least_rest_vector}
 use Rattle.stage_laws.proofs.PrunedOnce.{whole_names, once_words}
 use Rattle.stage_laws.proofs.Resting.{least_from, some_weight}
-use Rattle.kind_orders.specs.KindOrders.{empty_kind, told, IsKindOrder}
+use Rattle.tier_core.specs.EmptyKind.{empty_kind}
+use Rattle.kind_orders.specs.KindOrders.{told, IsKindOrder}
 use Rattle.kind_orders.specs.StageNodes.{node_numbered, AreNodesInOrder}
 use Rattle.kind_orders.proofs.Nodes.{are_nodes}
 use Rattle.stage_tables.specs.Explored.{names_at}

@@ -28,7 +28,8 @@ use Rattle.kind_tables.specs.FoundTables.{names_kept}
 use Rattle.kind_tables.proofs.Naming.{path_kind}
 use Rattle.stage_laws.proofs.Pruned.{kept_named}
 use Rattle.kind_orders.specs.Orderings.{IsOrdering}
-use Rattle.kind_orders.specs.KindOrders.{empty_kind, kind_numbered, told, IsKindOrder}
+use Rattle.tier_core.specs.EmptyKind.{empty_kind}
+use Rattle.kind_orders.specs.KindOrders.{kind_numbered, told, IsKindOrder}
 use Rattle.kind_orders.specs.Automata.{Reaches}
 use Rattle.stage_tables.specs.Explored.{names_at}
 use Rattle.stage_tables.proofs.Named.{frame_stage}

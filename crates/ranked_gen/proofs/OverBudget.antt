@@ -30,12 +30,11 @@ use Rattle.kind_tables.proofs.Naming.{path_kind}
 use Rattle.violation.proofs.StageLemmas.{over_stretches}
 use Rattle.kind_tables.proofs.Paths.{IsParted, parted, joined_run, joined_reads, path_push}
 use Rattle.stage_tables.specs.Kept.{AreKeptByKinds}
-use Rattle.kind_orders.proofs.Members.{contains_map, contains_of_map}
+use Rattle.tier_core.proofs.Members.{contains_map, contains_of_map, contains_first, contains_later, contains_flat, contains_of_flat}
 use Rattle.ranked_gen.specs.Budgets.{IsOver}
-use Rattle.ranked_gen.proofs.MemberLemmas.{contains_first, contains_later, contains_flat, contains_of_flat}
 use Rattle.ranked_gen.proofs.ClassColumns.{columns_in, in_columns, of_columns}
 use Rattle.ranked_gen.proofs.Ascending.{sorted_from, range_has}
-use Rattle.ranked_gen.proofs.FewKinds.{Differ, no_longer}
+use Rattle.tier_core.proofs.Differing.{Differ, no_longer}
 use Rattle.ranked_gen.proofs.SortedKinds.{one_or_other, sorted_kinds}
 use Rattle.ranked_gen.proofs.Closures.{IsClosed, closure}
 use Rattle.violation.specs.Problems.{last_stage, Problem}

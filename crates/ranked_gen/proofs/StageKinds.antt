@@ -17,12 +17,11 @@ use Rattle.violation.specs.Candidates.{IsForm, IsCandidate}
 use Rattle.violation.specs.Conditions.{AreSplit, AreDistinct}
 use Rattle.violation.specs.Stages.{IsPassed, AreKindsOfStage}
 use Rattle.violation.specs.Walks.{BeginsCandidate}
-use Rattle.kind_orders.proofs.Members.{contains_map, contains_of_map}
+use Rattle.tier_core.proofs.Members.{contains_map, contains_of_map, contains_first, contains_later, all_from_members, all_at_member}
 use Rattle.ranked_gen.specs.Budgets.{IsFirstOver}
 use Rattle.ranked_gen.specs.Numbers.{number_of_kind, kind_numbered}
 use Rattle.ranked_gen.specs.Listed.{kind_count}
 use Rattle.ranked_gen.proofs.NumberLemmas.{kind_numbered-number, kinds_less}
-use Rattle.ranked_gen.proofs.MemberLemmas.{contains_first, contains_later, all_from_members, all_at_member}
 use Rattle.ranked_gen.proofs.Ascending.{Ascends, sorted_from, ascends_from, ascends_map, ascends_range, in_range, range_has, nat_less, slice_same}
 use Rattle.ranked_gen.proofs.KindsWithin.{IsWithin, number_within, numbered_within, kind_within}
 use Rattle.ranked_gen.proofs.AllPassed.{all_passed}

@@ -14,7 +14,6 @@ ghost use Rattle.ranked_gen.specs.Once.{weight_found, once_node, IsOncePart};
 use crate::ending::{Ending, ending_of};
 use crate::gen_err::GenErr;
 use crate::generator::count_kinds;
-use crate::ranked::copied;
 use crate::staged::Left;
 use answer_text::{OnceAnswer, OnceNode};
 use distances::to_final;
@@ -107,7 +106,7 @@ fn once_answered(alloc: Global, frame: &Frame, found: &StageTable) -> Result<Onc
     ensures right { IfOk result (λ answer. IsRightOnce (problem_in frame.now) answer) }
     ensures joined { IfOk result (λ answer. HaveJoinedArcs answer.automaton.states.items) }
 {
-    let form = copied(alloc, frame.form)?;
+    let form = frame.form.copied(alloc)?;
     let Once {
         nodes,
         counts,

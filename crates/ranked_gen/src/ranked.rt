@@ -16,7 +16,7 @@ use answer_text::{Answer, Stage};
 use kind_moves::Frame;
 use prune_best::Tight;
 use std::alloc::Global;
-use tier_core::{Kind, NoMemory, Timeline};
+use tier_core::{Kind, NoMemory};
 
 /// Stages one after another, the counts of their constraints, what the last of them leaves, and the
 /// kinds that the states of this stand for.
@@ -98,19 +98,6 @@ pub(crate) fn all_ranked(
     Ok(ranked)
 }
 
-/// A copy of the timeline. Fails only if memory runs out.
-pub(crate) fn copied(alloc: Global, timeline: &Timeline) -> Result<Timeline, NoMemory>
-    ensures { IfOk result (λ t. t ≡ timeline.now) }
-{
-    let mut copy = Timeline::new(alloc);
-    for column in timeline.columns() {
-        if copy.push(column.copied(alloc)).is_err() {
-            return Err(NoMemory);
-        }
-    }
-    Ok(copy)
-}
-
 /// The answer of all stages of a frame. Fails only if memory runs out.
 pub(crate) fn answered(alloc: Global, frame: &Frame, ranked: Ranked) -> Result<Answer, NoMemory>
     requires ranked { (budget : ℕ)
@@ -120,7 +107,7 @@ pub(crate) fn answered(alloc: Global, frame: &Frame, ranked: Ranked) -> Result<A
     ensures right { IfOk result (λ answer. IsRight (problem_in frame.now) answer) }
     ensures joined { IfOk result (λ answer. HaveJoinedArcs answer.automaton.states.items) }
 {
-    let own = copied(alloc, frame.form)?;
+    let own = frame.form.copied(alloc)?;
     let Ranked {
         stages,
         counts,

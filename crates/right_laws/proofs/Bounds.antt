@@ -23,9 +23,9 @@ use Rattle.answer_text.specs.Right.{IsNodeOf, IsRight, kinds_at, nodes_at, numbe
 use Rattle.kind_laws.specs.Ways.{HasEachPassed}
 use Rattle.kind_laws.proofs.ColumnCosts.{whole_few}
 use Rattle.kind_laws.proofs.DirectWays.{first_short, remaining_few}
-use Rattle.kind_laws.proofs.Longest.{differ_from_pairs, no_longer}
 use Rattle.kind_laws.proofs.Names.{range_in}
-use Rattle.check_laws.proofs.Members.{all_from_members, contains_map}
+use Rattle.tier_core.proofs.Members.{All-from_members, contains_map}
+use Rattle.tier_core.proofs.Differing.{differ_from_pairs, no_longer}
 use Rattle.check_laws.proofs.Starts.{possible}
 use Rattle.check_laws.proofs.Soundness.{numbers_apart}
 use Rattle.right_laws.specs.Small.{IsSmall}
@@ -121,12 +121,12 @@ module _ (problem : Problem) (answer : Answer) (split : AreSplit problem.tiers)
     told node = kind_of_bits problem r node.kind
 
     places_within : All (λ node. node.kind.place ≤ last_place problem) (nodes r)
-    places_within = all_from_members (λ node. node.kind.place ≤ last_place problem) (nodes r) (λ node c.
+    places_within = All-from_members (λ node. node.kind.place ≤ last_place problem) (nodes r) (λ node c.
         place_within r within (told node)
         (((right.each_stage r within).kinds.members (told node)).0 (contains_map told (nodes r) node c)))
 
     few_potentials : All (λ node. node.potential < length (nodes r)) (nodes r)
-    few_potentials = all_from_members (λ node. node.potential < length (nodes r)) (nodes r) (λ node c.
+    few_potentials = All-from_members (λ node. node.potential < length (nodes r)) (nodes r) (λ node c.
         omega (
           arith,
           remaining_few problem r (stage_at r within) (kinds_at problem r (nodes r)) (right.each_stage r within).kinds

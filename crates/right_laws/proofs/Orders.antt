@@ -29,7 +29,7 @@ use Rattle.answer_text.specs.declared.stage.Node.{Node}
 use Rattle.answer_text.specs.Orderly.{AreOrderedArcs, AreOrderedNodes, IsOrderly}
 use Rattle.answer_text.specs.Readable.{AreReadableStates, IsReadableState, last_nodes}
 use Rattle.answer_text.specs.Right.{AreRightArcs, IsRight, nodes_at, numbers_of}
-use Rattle.check_laws.proofs.Members.{contains_map}
+use Rattle.tier_core.proofs.Members.{contains_map}
 use Rattle.right_laws.specs.Shapes.{IsShapeOfProblem}
 use Rattle.right_laws.specs.Small.{IsSmall}
 use Rattle.right_laws.proofs.Bounds.{number_below, small_from_right}

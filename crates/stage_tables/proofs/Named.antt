@@ -14,6 +14,7 @@ use Rattle.tier_core.specs.Kinds.{PrefixKind}
 use Rattle.tier_core.specs.Classes.{has, AreDisjoint}
 use Rattle.symbol_class.specs.Held.{some_has, times_held}
 use Rattle.symbol_class.proofs.Times.{none_held, once_from_apart, apart_from_once, some_from_same}
+use Rattle.grammar_reader.proofs.OverTiers.{over_tiers}
 use Rattle.arc_table.specs.declared.arc.TableArc.{TableArc}
 use Rattle.arc_table.specs.declared.state.TableState.{TableState}
 use Rattle.arc_table.specs.Conditions.{TargetsExist, ClassesDisjoint, ClassesFilled, OneWidth}
@@ -25,7 +26,7 @@ use Rattle.violation.specs.Problems.{last_stage}
 use Rattle.violation.proofs.SplitLemmas.{tiers_split}
 use Rattle.kind_moves.specs.declared.frame.Frame.{Frame}
 use Rattle.kind_moves.specs.Frames.{problem_in, kind_at_stage, FitsFrame}
-use Rattle.kind_moves.proofs.GrammarTiers.{over_tiers, form_from}
+use Rattle.kind_moves.proofs.GrammarTiers.{form_from}
 use Rattle.kind_moves.proofs.LawSteps.{kinds_law}
 use Rattle.kind_tables.specs.StageTables.{IsStage, name_of, cost_of, AreNamedByKinds, AreWeighed}
 use Rattle.kind_tables.specs.FoundTables.{HasMoveOn, AreReached, base_of}

@@ -5,7 +5,7 @@ use Rattle.std.specs.List.{list_all, list_any}
 use Rattle.std.specs.Ordering.{nat_cmp, is_lt, is_eq, is_gt}
 use Rattle.std.specs.declared.cmp.Ordering.{Ordering}
 use Rattle.std.specs.declared.cmp.Ordering.TheVariants.{Less, Equal, Greater}
-use Rattle.std.proofs.lemmas.Bool.{false≢true, cond_both, cond-true, cond-false}
+use Rattle.std.proofs.lemmas.Bool.{cond_both, cond-true, cond-false}
 use Rattle.std.proofs.lemmas.Cmp.{nat_list_cmp_total, tied_itself, alike_right}
 use Rattle.std.proofs.lemmas.List.{length-set, set-set}
 use Rattle.std.proofs.lemmas.List.Elements.{All-nil, All-cons, All-head, All-tail, All-weaker}
@@ -20,7 +20,7 @@ use Rattle.symbol_class.specs.Held.{once_if}
 use Rattle.symbol_class.specs.Joined.{sets_beside, beside_cmp, united}
 use Rattle.tier_core.proofs.Filled.{sets_filled, sets_have-first}
 use Rattle.symbol_class.proofs.SetLists.{have_either}
-use Rattle.symbol_class.proofs.SetOrder.{same_numbers}
+use Rattle.tier_core.proofs.KindTies.{same_numbers, is_equal}
 use Rattle.symbol_class.proofs.Times.{pairs_head, pairs_tail}
 
 -- how many of some lists of sets have a column
@@ -50,11 +50,6 @@ pub joined_other : (t : ℕ) (current next : List ℕ) (rest : List (List ℕ)) 
     → joined_from t current (next ∷ rest) ≡ current ∷ joined_from t next rest
 joined_other t current next rest e = cond-false (is_eq (beside_cmp t current next))
     (joined_from t (united t current next) rest) (current ∷ joined_from t next rest) e
-
-is_equal : (o : Ordering) → is_eq o ≡ true → o ≡ Equal
-is_equal Less e = absurd (false≢true e)
-is_equal Equal e = refl
-is_equal Greater e = absurd (false≢true e)
 
 -- sets that tie agree beside the tier
 pub agree : (t : ℕ) (a b : List ℕ) → is_eq (beside_cmp t a b) ≡ true → sets_beside t a ≡ sets_beside t b

@@ -333,14 +333,3 @@ pieces_of_width width [] pieces = record {
 }
 pieces_of_width width (class ∷ classes) pieces = subst (λ w. ArePieces w (class ∷ classes))
     (sym (All-head (λ c. length (sets_of c) ≡ width) class classes pieces.one_width)) pieces
-
--- what was joined has the width that the classes had
-pub joined_of_width : (width : ℕ) (classes joined : List Class) → ArePieces width classes
-    → length joined ≤ length classes → ArePieces (width_of classes) joined → ArePieces width joined
-joined_of_width width [] joined pieces fewer made = record {
-  one_width = λ k d inside. absurd (omega arith);
-  filled = made.filled;
-  apart = made.apart;
-}
-joined_of_width width (class ∷ classes) joined pieces fewer made = subst (λ w. ArePieces w joined)
-    (All-head (λ c. length (sets_of c) ≡ width) class classes pieces.one_width) made

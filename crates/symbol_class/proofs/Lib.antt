@@ -1,4 +1,3 @@
-pub mod SetOrder
 pub mod SetLists
 pub mod Pairs
 pub mod Times
@@ -7,3 +6,4 @@ pub mod SplitSteps
 pub mod PartSteps
 pub mod JoinSteps
 pub mod JoinedClasses
+pub mod Once

@@ -28,12 +28,6 @@ within_none true true o e h = absurd (false≢true (sym h))
 within_none true false o e h = refl
 within_none false w o e h = absurd (false≢true e)
 
-without_all : (p w o : Bool) → p ≡ true → (p && w) ≡ ((p && w) && o) → (w && not o) ≡ false
-without_all true true true e h = refl
-without_all true true false e h = absurd (false≢true (sym h))
-without_all true false o e h = refl
-without_all false w o e h = absurd (false≢true e)
-
 within_all : (p w o : Bool) → p ≡ true → (p && w) ≡ p → ((p && w) && o) ≡ false → (w && not o) ≡ true
 within_all true true true e h k = absurd (false≢true (sym k))
 within_all true true false e h k = refl
@@ -53,12 +47,6 @@ module _ (class : Class) (test : Difference) (inside both : Class)
   in_both : (column : List Sym) → has both column
       ≡ ((has class column && has test.within column) && has test.without column)
   in_both column = has_both column ∙ ap (λ b. b && has test.without column) (has_inside column)
-
-  pub shares_without : inside.word ≡ both.word → (column : List Sym) → has class column ≡ true
-      → differs test column ≡ false
-  shares_without same column held =
-      without_all (has class column) (has test.within column) (has test.without column) held
-      (sym (has_inside column) ∙ ap (λ sets. sets_have sets column) (same_sets inside both same) ∙ in_both column)
 
   pub shares_all : inside.word ≡ class.word → is_filled both ≡ false → (column : List Sym) → has class column ≡ true
       → differs test column ≡ true

@@ -1,5 +1,5 @@
 -- Sets of symbols that are met, united or turned around, and lists of sets in which one is replaced.
-use Rattle.std.proofs.Common.{◌≡◌, ℕ, zero, suc, ◌-◌, ◌^◌, ◌<◌, ◌==◌, min, max, Bool, true, false, not, ◌&&◌, ◌||◌, List, [], ◌∷◌, length, get_or, set, bit_and, bit_or, w8, refl, ap, sym, ◌∙◌, arith}
+use Rattle.std.proofs.Common.{◌≡◌, ℕ, zero, suc, ◌-◌, ◌^◌, ◌<◌, ◌==◌, min, Bool, true, false, not, ◌&&◌, ◌||◌, List, [], ◌∷◌, length, get_or, set, bit_and, bit_or, w8, refl, ap, sym, ◌∙◌, arith}
 use Rattle.std.specs.Int.{bit_at, bit_not}
 use Rattle.std.proofs.lemmas.List.{set-get_or, set-set}
 use Rattle.std.proofs.lemmas.Nat.Bits.{bit_at_and, bit_at_or, bit_at_not, bit_at-lt}
@@ -9,6 +9,9 @@ use Rattle.tier_core.specs.Symbols.{rank}
 use Rattle.tier_core.specs.Sets.{is_in}
 use Rattle.tier_core.specs.Classes.{sets_have}
 use Rattle.tier_core.specs.Timelines.{symbol}
+use Rattle.tier_core.proofs.Bools.{and_grouped}
+use Rattle.tier_core.proofs.KnownSets.{in_all}
+use Rattle.tier_core.proofs.MaskBits.{most_one}
 
 -- ---- one set
 
@@ -20,15 +23,6 @@ least_one (suc zero) zero lp lq = refl
 least_one (suc zero) (suc zero) lp lq = refl
 least_one (suc zero) (suc (suc q)) lp lq = absurd (omega arith)
 least_one (suc (suc p)) q lp lq = absurd (omega arith)
-
-most_one : (p q : ℕ) → p < 2 → q < 2 → (max p q == 1) ≡ ((p == 1) || (q == 1))
-most_one zero zero lp lq = refl
-most_one zero (suc zero) lp lq = refl
-most_one zero (suc (suc q)) lp lq = absurd (omega arith)
-most_one (suc zero) zero lp lq = refl
-most_one (suc zero) (suc zero) lp lq = refl
-most_one (suc zero) (suc (suc q)) lp lq = absurd (omega arith)
-most_one (suc (suc p)) q lp lq = absurd (omega arith)
 
 turned_one : (p : ℕ) → p < 2 → (1 - p == 1) ≡ not (p == 1)
 turned_one zero l = refl
@@ -62,22 +56,11 @@ is_in-not x s l =
 
 -- ---- lists of sets
 
-in_all : (s : Sym) → is_in 31 s ≡ true
-in_all Outside = refl
-in_all Inside = refl
-in_all Start = refl
-in_all End = refl
-in_all Both = refl
-
 and_turned : (a b : Bool) → (a && b) ≡ (b && a)
 and_turned true true = refl
 and_turned true false = refl
 and_turned false true = refl
 and_turned false false = refl
-
-and_regrouped : (a b c : Bool) → (a && (b && c)) ≡ ((a && b) && c)
-and_regrouped true b c = refl
-and_regrouped false b c = refl
 
 -- sets, where one tier has all symbols
 abbrev pub opened_at : ℕ → List ℕ → List ℕ
@@ -93,7 +76,7 @@ have-set (y ∷ sets) (s ∷ column) zero x l =
     ∙ ap (λ b. (b && sets_have sets column) && is_in x s) (sym (in_all s))
 have-set (y ∷ sets) (s ∷ column) (suc t) x l =
     ap (λ b. is_in y s && b) (have-set sets column t x (omega arith))
-    ∙ and_regrouped (is_in y s) (sets_have (opened_at t sets) column) (is_in x (symbol column t))
+    ∙ and_grouped (is_in y s) (sets_have (opened_at t sets) column) (is_in x (symbol column t))
 
 -- sets have a column where they do beside a tier, and the tier's set has its symbol
 pub have_at : (sets : List ℕ) (column : List Sym) (t : ℕ) → t < length sets
@@ -108,7 +91,7 @@ pub have-narrowed : (sets : List ℕ) (column : List Sym) (t x : ℕ) → t < le
 have-narrowed sets column t x l =
     have-set sets column t (bit_and (get_or sets t 0) x) l
     ∙ ap (λ b. sets_have (opened_at t sets) column && b) (is_in-and (get_or sets t 0) x (symbol column t))
-    ∙ and_regrouped (sets_have (opened_at t sets) column) (is_in (get_or sets t 0) (symbol column t))
+    ∙ and_grouped (sets_have (opened_at t sets) column) (is_in (get_or sets t 0) (symbol column t))
     (is_in x (symbol column t))
     ∙ ap (λ b. b && is_in x (symbol column t)) (sym (have_at sets column t l))
 

@@ -1,7 +1,6 @@
 pub mod LineCuts
 pub mod RowLemmas
 pub mod Readings
-pub mod Countable
 pub mod Comparing
 pub mod LengthLemmas
 pub mod Turns

@@ -5,7 +5,8 @@ use Rattle.std.specs.List.{list_all}
 use Rattle.tier_core.specs.declared.sym.Sym.{Sym}
 use Rattle.tier_core.specs.Tiers.{Tiers}
 use Rattle.timeline_text.specs.Texts.{text_of, IsTextOf}
-use Rattle.timeline_text.specs.Causes.{is_space, IsCause}
+use Rattle.timeline_text.specs.Bytes.{is_space}
+use Rattle.timeline_text.specs.Causes.{IsCause}
 use Rattle.violation.specs.Candidates.{IsCandidate}
 use Rattle.tableau.specs.declared.rows_err.RowsCause.{RowsCause}
 use Rattle.tableau.specs.declared.rows_err.RowsCause.TheVariants.{Form, NotCandidate, TooMany}

@@ -2,7 +2,6 @@ ghost use Rattle.std.specs.Prelude.{◌≡◌, ◌≤◌, length, All, IfOk, Mat
 ghost use Rattle.violation.specs.Conditions.{IsCountable};
 ghost use Rattle.tableau.specs.Compared.{IsCompared, IsFirstOther};
 
-use crate::copies::copied;
 use crate::table::TableauRow;
 use std::alloc::Global;
 use tier_core::{Constraint, NoMemory, Timeline};
@@ -38,7 +37,7 @@ pub(crate) fn compared(
 {
     let counts = vector(alloc, constraints, timeline)?;
     let worse = first_other(least, &counts);
-    let own = copied(alloc, timeline)?;
+    let own = timeline.copied(alloc)?;
     Ok(TableauRow {
         timeline: own,
         counts,

@@ -2,20 +2,7 @@ ghost use Rattle.std.specs.Prelude.{◌≡◌, map, IfOk};
 ghost use Rattle.std.specs.String.{string_bytes};
 
 use std::alloc::Global;
-use tier_core::{Constraint, NoMemory, Timeline};
-
-/// A copy of a timeline. It fails only if memory runs out.
-pub(crate) fn copied(alloc: Global, timeline: &Timeline) -> Result<Timeline, NoMemory>
-    ensures { IfOk result (λ t. t ≡ timeline.now) }
-{
-    let mut copy = Timeline::new(alloc);
-    for column in timeline.columns() {
-        if copy.push(column.copied(alloc)).is_err() {
-            return Err(NoMemory);
-        }
-    }
-    Ok(copy)
-}
+use tier_core::{Constraint, NoMemory};
 
 /// A copy of numbers. It fails only if memory runs out.
 pub(crate) fn copied_counts(alloc: Global, counts: &[u32]) -> Result<Vec<u32>, NoMemory>

@@ -6,7 +6,7 @@ ghost use Rattle.tableau.specs.Tableaux.{IsTableauOf, IsTableauRow};
 ghost use Rattle.violation.specs.Problems.{asked};
 
 use crate::compare::compared;
-use crate::copies::{copied, copied_counts, names_of};
+use crate::copies::{copied_counts, names_of};
 use crate::table::{Tableau, TableauRow};
 use answer_text::Answer;
 use grammar_reader::Grammar;
@@ -19,7 +19,7 @@ fn example_row(alloc: Global, answer: &Answer) -> Result<TableauRow, NoMemory>
     ensures counts { IfOk result (λ row. row.counts.items ≡ answer.now.counts.items) }
     ensures worse { IfOk result (λ row. row.worse ≡ None) }
 {
-    let timeline = copied(alloc, &answer.example)?;
+    let timeline = answer.example.copied(alloc)?;
     let counts = copied_counts(alloc, &answer.counts)?;
     Ok(TableauRow {
         timeline,
@@ -81,7 +81,7 @@ pub fn tableau(
         (IsTableauOf
         (asked grammar.now.tiers grammar.now.constraints.items answer.now.form) rows.now) }
 {
-    let form = copied(alloc, &answer.form)?;
+    let form = answer.form.copied(alloc)?;
     let names = names_of(alloc, &grammar.constraints)?;
     let rows = rows_of(alloc, grammar, answer, rows)?;
     Ok(Tableau { form, names, rows })

@@ -1,22 +1,10 @@
 -- Which columns a class holds.
-use Rattle.std.proofs.Common.{◌≡◌, ◌↔◌, IsTrue, ℕ, zero, suc, ◌<◌, true, List, [], ◌∷◌, length, get_or, refl, ap, sym, ◌∙◌, arith}
+use Rattle.std.proofs.Common.{◌≡◌, ℕ, zero, suc, ◌<◌, true, List, [], ◌∷◌, length, get_or, refl, ap, arith}
 use Rattle.std.proofs.lemmas.Bool.{false≢true, and_parts, and_from}
 use Rattle.tier_core.specs.declared.sym.Sym.{Sym}
-use Rattle.tier_core.specs.declared.class.Class.{Class}
 use Rattle.tier_core.specs.Sets.{is_in}
-use Rattle.tier_core.specs.Classes.{sets_have, has, AreDisjoint}
+use Rattle.tier_core.specs.Classes.{sets_have}
 use Rattle.tier_core.specs.Timelines.{symbol}
-
--- the class of one column holds that column
-pub holds_own : (c : Class) (column : List Sym) → ((other : List Sym) → IsTrue (has c other) ↔ (other ≡ column))
-    → IsTrue (has c column)
-holds_own c column alone = (alone column).1 refl
-
--- the classes of two columns hold none in common
-pub apart_alone : (c d : Class) (a b : List Sym) → ((other : List Sym) → IsTrue (has c other) ↔ (other ≡ a))
-    → ((other : List Sym) → IsTrue (has d other) ↔ (other ≡ b)) → (a ≡ b → ⊥) → AreDisjoint c d
-apart_alone c d a b alone_c alone_d other column in_c in_d = other
-    (sym ((alone_c column).0 in_c) ∙ (alone_d column).0 in_d)
 
 -- a column that sets have has as many symbols
 pub same_width : (sets : List ℕ) (column : List Sym) → sets_have sets column ≡ true → length column ≡ length sets

@@ -14,13 +14,9 @@ use Rattle.std.proofs.lemmas.List.FromFn.{map-range_with_len_more}
 use Rattle.std.proofs.lemmas.Nat.{shr-shr, field_of}
 use Rattle.tier_core.specs.ClassWords.{width_in, set_in, sets_in, below_in}
 use Rattle.tier_core.proofs.ClassWordLemmas.{length_in, get_in, sets_from}
+use Rattle.tier_core.proofs.KindTies.{then_equal}
 
 -- ---- numbers by their parts
-
-then_equal : (o : Ordering) → ordering_then o Equal ≡ o
-then_equal Less = refl
-then_equal Equal = refl
-then_equal Greater = refl
 
 then_then : (o p r : Ordering) → ordering_then (ordering_then o p) r ≡ ordering_then o (ordering_then p r)
 then_then Less p r = refl

@@ -1,8 +1,8 @@
 -- Reading all tiers of a timeline at once.
-use Rattle.std.proofs.Common.{◌≡◌, ℕ, ◌+◌, ◌<◌, ◌≤◌, Bool, true, false, not, ◌&&◌, List, ◌∷◌, length, get_or, take, drop, refl, sym, ap, ◌∙◌, subst, zero, suc, [], map, ⊎_elim}
+use Rattle.std.proofs.Common.{◌≡◌, ℕ, ◌+◌, ◌<◌, ◌≤◌, Bool, true, false, not, ◌&&◌, List, ◌∷◌, length, get_or, take, drop, sym, ap, ◌∙◌, subst, zero, suc, [], map, ⊎_elim}
 use Rattle.std.specs.List.{AllByRecursion, list_any}
 use Rattle.std.proofs.lemmas.List.{drop_more, drop_all, take_all}
-use Rattle.std.proofs.lemmas.Bool.{and_parts, false≢true, or_left, or_right, or_cases}
+use Rattle.std.proofs.lemmas.Bool.{and_parts, false≢true, or_left, or_right, or_cases, not-true}
 use Rattle.tier_core.specs.declared.sym.Sym.{Sym}
 use Rattle.tier_core.specs.declared.sym.Sym.TheVariants.{Outside}
 use Rattle.tier_core.specs.Timelines.{word, symbol, IsWellFormed, is_edge, has_edge}
@@ -41,11 +41,7 @@ pub closed_at_end : (width k t : ℕ) (T : List (List Sym)) (held : List Bool) �
 closed_at_end width k t T held l g rest wf =
     let end : runs (get_or held t false) (word (drop k T) t)
     ≡ not (get_or held t false) = ap (λ U. runs (get_or held t false) (word U t)) (drop_all k T l) in
-    of_not (get_or held t false) (sym (rest ∙ end) ∙ runs_from_well_formed (word T t) (wf.each_tier t g))
-  where
-    of_not : (b : Bool) → not b ≡ true → b ≡ false
-    of_not true e = absurd (false≢true e)
-    of_not false e = refl
+    not-true (get_or held t false) (sym (rest ∙ end) ∙ runs_from_well_formed (word T t) (wf.each_tier t g))
 
 -- a column has an edge where one of its symbols is one
 -- an edge anywhere is an edge of the column

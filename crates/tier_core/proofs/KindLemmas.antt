@@ -14,6 +14,7 @@ use Rattle.tier_core.specs.declared.kind.Kind.{Kind}
 use Rattle.tier_core.specs.Tiers.{has_tier}
 use Rattle.tier_core.specs.Kinds.{AreStretchesBelow, open_order, phase_order, phase_rank, open_rank, open_tiers, phases, phase_at, phase_by_bits}
 use Rattle.tier_core.proofs.MaskLemmas.{tier_within}
+use Rattle.tier_core.proofs.KindTies.{same_cmp, same_open}
 
 -- ---- lists that are made place by place
 
@@ -21,9 +22,6 @@ then_first : (o rest : Ordering) → (o ≡ Equal → ⊥) → ordering_then o r
 then_first Less rest h = refl
 then_first Equal rest h = absurd (h refl)
 then_first Greater rest h = refl
-
-same_cmp : (m n : ℕ) → m ≡ n → nat_cmp m n ≡ Equal
-same_cmp m n e = sym (nat_cmp_is m n Equal e)
 
 other_cmp : (m n : ℕ) → (m ≡ n → ⊥) → nat_cmp m n ≡ Equal → ⊥
 other_cmp m n h e = ⊎_elim (λ l. let less : Less ≡ nat_cmp m n = nat_cmp_is m n Less l in cc)
@@ -136,19 +134,13 @@ opened_first a b free some few la lb =
     let other : has_tier a d ≡ has_tier b d → ⊥ = other_bit a b d low.1 in
     by (has_tier a d) (has_tier b d) other
     ∙ sym (cmp_at open_rank (has_tier a) (has_tier b) free d (apart_within a b free d la lb other)
-    (λ i l. same_bit a b i (low.2 i l)) (λ e. other (by_rank (has_tier a d) (has_tier b d) e)))
+    (λ i l. same_bit a b i (low.2 i l)) (λ e. other (same_open (has_tier a d) (has_tier b d) e)))
   where
     by : (x y : Bool) → (x ≡ y → ⊥) → cond x Greater Less ≡ nat_cmp (open_rank x) (open_rank y)
     by true true h = absurd (h refl)
     by true false h = refl
     by false true h = refl
     by false false h = absurd (h refl)
-
-    by_rank : (x y : Bool) → open_rank x ≡ open_rank y → x ≡ y
-    by_rank true true e = refl
-    by_rank true false e = absurd (omega arith)
-    by_rank false true e = absurd (omega arith)
-    by_rank false false e = refl
 
 -- ---- phases
 

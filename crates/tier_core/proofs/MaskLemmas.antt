@@ -1,8 +1,6 @@
 -- The tiers of a mask.
-use Rattle.std.proofs.Common.{◌≡◌, ◌↔◌, IsTrue, subst, sym, ℕ, zero, suc, ◌≤◌, length, ◌+◌, ◌*◌, ◌%◌, ◌==◌, bit_or, w16, ◌^◌, ◌<◌, true, false, cond, List, [], ◌∷◌, ◌++◌, map, ap, ◌∙◌, ⊎_elim, arith, add-one, w32}
+use Rattle.std.proofs.Common.{◌≡◌, ◌↔◌, IsTrue, sym, ℕ, zero, suc, ◌≤◌, length, ◌+◌, ◌*◌, ◌%◌, ◌==◌, bit_or, w16, ◌^◌, ◌<◌, true, false, cond, List, [], ◌∷◌, ◌++◌, map, ap, ◌∙◌, ⊎_elim, arith, add-one, w32}
 use Rattle.std.specs.Int.{bit_at, trailing_zeros}
-use Rattle.std.specs.List.{AllByRecursion}
-use Rattle.tier_core.proofs.CountLemmas.{all_weaker}
 use Rattle.std.proofs.lemmas.Bool.{false≢true, cases_lt, eqb-true}
 use Rattle.std.proofs.lemmas.List.{map-append, append-nil, length-append}
 use Rattle.std.proofs.Math.Nat.{pow-le-pow_right}
@@ -128,9 +126,3 @@ pub not_zero : (mask : ℕ) → 1 ≤ length (tiers_of mask) → 0 < mask
 unfolding tiers_of
 not_zero zero h = absurd (omega arith)
 not_zero (suc m) h = omega arith
-
--- a mask that is within a width is within each column of a timeline of that width
-pub within_each : (width keep : ℕ) (T : List (List Sym)) → AllByRecursion (λ column. length column ≡ width) T
-    → keep < 2 ^ width → AllByRecursion (λ column. keep < 2 ^ length column) T
-within_each width keep T one l = all_weaker (λ column. length column ≡ width) (λ column. keep < 2 ^ length column) T
-    (λ column e. subst (λ n. keep < 2 ^ n) (sym e) l) one

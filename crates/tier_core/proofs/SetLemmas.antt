@@ -10,6 +10,7 @@ use Rattle.tier_core.specs.declared.sym.Sym.TheVariants.{Outside, Inside, Start,
 use Rattle.tier_core.specs.Symbols.{rank, symbols}
 use Rattle.tier_core.specs.Sets.{is_in, single_set}
 use Rattle.tier_core.specs.Classes.{sets_have}
+use Rattle.tier_core.proofs.Bools.{and_false}
 
 -- a symbol is the one of its number
 pub of_rank : (s : Sym) → get_or symbols (rank s) Outside ≡ s
@@ -64,10 +65,6 @@ other_width [] (s ∷ column) h = refl
 other_width (set ∷ sets) [] h = refl
 other_width (set ∷ sets) (s ∷ column) h =
     ap (λ b. is_in set s && b) (other_width sets column (λ e. h (ap suc e))) ∙ and_false (is_in set s)
-  where
-    and_false : (b : Bool) → (b && false) ≡ false
-    and_false true = refl
-    and_false false = refl
 
 -- a set has a symbol unless its number is 0
 pub some_symbol : (x : ℕ) → x < 32 → list_any (is_in x) symbols ≡ not (x == 0)

@@ -1,6 +1,6 @@
 -- The tiers of a mask are those of a table that pass a test, where the bits say so.
 use Rattle.std.proofs.Common.{◌≡◌, ◌↔◌, IsTrue, ℕ, zero, suc, ◌+◌, ◌-◌, ◌≤◌, ◌<◌, ◌^◌, ◌==◌, ◌||◌, Bool, true, false, not, cond, List, [], ◌∷◌, ◌++◌, length, count_by, filter, take, refl, ap, sym, ◌∙◌, arith, add-one, ◌&&◌}
-use Rattle.std.specs.List.{list_any, AllByRecursion}
+use Rattle.std.specs.List.{list_any}
 use Rattle.std.proofs.lemmas.Bool.{false≢true, eqb-true, eqb-false}
 use Rattle.std.proofs.lemmas.List.{take_more, take_all, append-nil, append_assoc, length-take, length-append}
 use Rattle.std.proofs.lemmas.List.Sums.{length-filter}
@@ -9,7 +9,7 @@ use Rattle.tier_core.specs.declared.tier.TierKind.{TierKind}
 use Rattle.tier_core.specs.declared.tier.TierKind.TheVariants.{Input, Overt, Hidden}
 use Rattle.tier_core.specs.Tiers.{is_input, is_overt, is_free, numbers_from, tiers_by_kinds, kind_at, has_tier, tiers_below, tiers_of}
 use Rattle.tier_core.specs.Shapes.{input_count}
-use Rattle.tier_core.proofs.CountLemmas.{all_append, all_weaker, count_cons}
+use Rattle.tier_core.proofs.CountLemmas.{count_cons}
 
 -- the bits of a mask are those of the tiers that pass
 pub record IsMaskOf (test : TierKind → Bool) (kinds : List TierKind) (mask : ℕ) : Type 0 where
@@ -99,13 +99,6 @@ pub input_tiers : (kinds : List TierKind) (mask : ℕ) → length kinds ≤ 12 �
 input_tiers kinds mask few within bits = tiers_of_mask is_input kinds mask
     (mask_of_kind is_input kinds Input mask input_alone few within bits)
 
--- the mask of the overt tiers
-pub overt_tiers : (kinds : List TierKind) (mask : ℕ) → length kinds ≤ 12 → mask < 2 ^ length kinds
-    → ((t : ℕ) → t < length kinds → IsTrue (has_tier mask t) ↔ (kind_at kinds t ≡ Overt))
-    → tiers_of mask ≡ (tiers_by_kinds kinds).overt
-overt_tiers kinds mask few within bits = tiers_of_mask is_overt kinds mask
-    (mask_of_kind is_overt kinds Overt mask overt_alone few within bits)
-
 -- ---- which tiers are listed
 
 same_number : (a b : ℕ) → a ≡ b → (a == b) ≡ true
@@ -166,29 +159,6 @@ listed test n (suc t) (k ∷ kinds) l =
     none_first : (b c : Bool) → ((b && false) || c) ≡ c
     none_first true c = refl
     none_first false c = refl
-
--- each tier is listed among the input tiers or among the free ones, and not among both
-pub input_or_free : (kinds : List TierKind) (t : ℕ) → t < length kinds
-    → list_any (λ u. u == t) (tiers_by_kinds kinds).free ≡ not (list_any (λ u. u == t) (tiers_by_kinds kinds).input)
-input_or_free kinds t l =
-    let same : 0 + t ≡ t = omega arith in
-    ap (λ m. list_any (λ u. u == m) (numbers_from is_free 0 kinds)) (sym same) ∙ listed is_free 0 t kinds l
-    ∙ ap not (sym (ap (λ m. list_any (λ u. u == m) (numbers_from is_input 0 kinds)) (sym same)
-    ∙ listed is_input 0 t kinds l))
-
--- what is listed is below the number of kinds
-pub listed_within : (test : TierKind → Bool) (n : ℕ) (kinds : List TierKind)
-    → AllByRecursion (λ t. t < n + length kinds) (numbers_from test n kinds)
-listed_within test n [] = tt
-listed_within test n (k ∷ kinds) =
-    all_append (λ t. t < n + length (k ∷ kinds)) (cond (test k) (n ∷ []) []) (numbers_from test (suc n) kinds)
-    (own (test k))
-    (all_weaker (λ t. t < suc n + length kinds) (λ t. t < n + length (k ∷ kinds)) (numbers_from test (suc n) kinds)
-    (λ t h. omega arith) (listed_within test (suc n) kinds))
-  where
-    own : (b : Bool) → AllByRecursion (λ t. t < n + length (k ∷ kinds)) (cond b (n ∷ []) [])
-    own true = (omega arith, tt)
-    own false = tt
 
 -- as many tiers are numbered as pass
 pub numbers_count : {X : Type 0} (test : X → Bool) (n : ℕ) (xs : List X)

@@ -15,3 +15,5 @@ pub mod Shapes
 pub mod KindShapes
 pub mod Filled
 pub mod FirstColumn
+pub mod PhaseBits
+pub mod EmptyKind

@@ -1,4 +1,4 @@
-ghost use Rattle.std.specs.Prelude.{◌≡◌, ◌<◌, [], ◌∷◌, ◌++◌, ◌↔◌, length, IsTrue, OnOk, OnErr, IfErr};
+ghost use Rattle.std.specs.Prelude.{◌≡◌, ◌<◌, [], ◌∷◌, ◌++◌, ◌↔◌, length, IsTrue, OnOk, OnErr, IfOk, IfErr};
 ghost use Rattle.tier_core.specs.Timelines.{column_at};
 
 use crate::column::Column;
@@ -70,5 +70,18 @@ impl Timeline {
         ensures { result.now ≡ self.now }
     {
         self.columns.as_slice()
+    }
+
+    /// A copy of the timeline. It fails only if memory runs out.
+    pub fn copied(&self, alloc: Global) -> Result<Timeline, NoMemory>
+        ensures { IfOk result (λ copy. copy ≡ self.now) }
+    {
+        let mut copy = Timeline::new(alloc);
+        for column in self.columns() {
+            if copy.push(column.copied(alloc)).is_err() {
+                return Err(NoMemory);
+            }
+        }
+        Ok(copy)
     }
 }

@@ -7,7 +7,8 @@ use Rattle.tier_core.specs.Symbols.{byte_of}
 use Rattle.tier_core.specs.declared.sym.Sym.{Sym}
 use Rattle.tier_core.specs.declared.sym.Sym.TheVariants.{Outside, Inside, Start, End, Both}
 use Rattle.timeline_text.specs.Texts.{text_of}
-use Rattle.timeline_text.specs.Causes.{is_space, pieces_of, symbol_of_byte, columns_of}
+use Rattle.timeline_text.specs.Bytes.{is_space}
+use Rattle.timeline_text.specs.Causes.{pieces_of, symbol_of_byte, columns_of}
 
 no_space : (s : Sym) → is_space (byte_of s) ≡ false
 no_space Outside = refl

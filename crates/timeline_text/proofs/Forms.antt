@@ -1,15 +1,16 @@
 -- A text without a cause is the text of its columns.
-use Rattle.std.proofs.Common.{◌≡◌, ℕ, ◌<◌, ◌==◌, Bool, true, false, not, ◌||◌, List, [], ◌∷◌, map, length, refl, ap, sym, ◌∙◌, arith}
+use Rattle.std.proofs.Common.{◌≡◌, ℕ, ◌<◌, ◌==◌, Bool, true, false, not, List, [], ◌∷◌, map, length, refl, ap, sym, ◌∙◌, arith}
 use Rattle.std.specs.List.{onto_first, join_with_byte, list_any, AllByRecursion}
 use Rattle.std.proofs.lemmas.Bool.Decides.{nat_tests}
 use Rattle.std.proofs.lemmas.List.{length-map}
 use Rattle.std.proofs.lemmas.List.Splits.{slice_split-cons_yes, slice_split-cons_no, length-slice_split, join_with_byte-slice_split}
-use Rattle.std.proofs.lemmas.Bool.{or_parts, or_from}
+use Rattle.std.proofs.lemmas.Bool.{or_parts, or_from, not-false}
 use Rattle.tier_core.specs.declared.sym.Sym.{Sym}
 use Rattle.tier_core.specs.Symbols.{byte_of}
 use Rattle.tier_core.specs.Timelines.{has_edge, IsReduced}
 use Rattle.timeline_text.specs.Texts.{text_of}
-use Rattle.timeline_text.specs.Causes.{is_space, is_known, pieces_of, symbol_of_byte, columns_of}
+use Rattle.timeline_text.specs.Bytes.{is_space}
+use Rattle.timeline_text.specs.Causes.{is_known, pieces_of, symbol_of_byte, columns_of}
 use Rattle.timeline_text.proofs.Searches.{by_test}
 
 known_back : (b : ℕ) → is_space b ≡ false → not (is_known b) ≡ false → byte_of (symbol_of_byte b) ≡ b
@@ -65,17 +66,13 @@ widths_from width (p ∷ ps) h =
     let each = or_parts (not (length p == width)) (list_any (λ q. not (length q == width)) ps) h in
     (length-map p symbol_of_byte ∙ same_from (length p) width each.0, widths_from width ps each.1)
 
-true_from : (b : Bool) → not b ≡ false → b ≡ true
-true_from true h = refl
-true_from false h = cc
-
 false_from : (b : Bool) → b ≡ true → not b ≡ false
 false_from true h = refl
 false_from false h = cc
 
 pub reduced_from : (T : List (List Sym)) → list_any (λ column. not (has_edge column)) T ≡ false → IsReduced T
 reduced_from [] h = tt
-reduced_from (column ∷ T) h = let each = or_parts _ _ h in (true_from _ each.0, reduced_from T each.1)
+reduced_from (column ∷ T) h = let each = or_parts _ _ h in (not-false _ each.0, reduced_from T each.1)
 
 pub reduced_any : (T : List (List Sym)) → IsReduced T → list_any (λ column. not (has_edge column)) T ≡ false
 reduced_any [] h = refl

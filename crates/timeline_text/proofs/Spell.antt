@@ -2,7 +2,7 @@
 use Rattle.std.proofs.Common.{◌≡◌, ℕ, zero, suc, ◌+◌, ◌/◌, ◌%◌, ◌^◌, ◌<◌, ◌≤◌, ◌==◌, Bool, true, false, cond, List, [], ◌∷◌, ◌++◌, length, map, drop, Some, ◌⊎◌, inl, inr, Option, None, not, is_some, unwrap_or, option_map, Result, Ok, Err, refl, ap, sym, ◌∙◌, subst, arith}
 use Rattle.std.specs.Prelude.{MatchResult, IfOk, All}
 use Rattle.std.specs.List.{list_any, AllByRecursion}
-use Rattle.std.proofs.lemmas.Nat.Bits.{bit_at-zero, bit_at_lowest, bit_at-suc}
+use Rattle.std.proofs.lemmas.Nat.Bits.{bit_at_lowest, bit_at-suc}
 use Rattle.std.proofs.lemmas.List.Elements.{recursion_from_All}
 use Rattle.std.proofs.lemmas.List.Folds.{list_any_at}
 use Rattle.std.proofs.lemmas.List.FromFn.{length-map-range_with_len, get_or-map-range_with_len}
@@ -13,10 +13,11 @@ use Rattle.tier_core.specs.Words.{next_end, pair_to, constituents, constituents_
 use Rattle.tier_core.specs.Timelines.{word, symbol, is_edge, has_edge, IsReduced, IsWellFormed}
 use Rattle.tier_core.proofs.WordLemmas.{runs}
 use Rattle.tier_core.proofs.WordForm.{well_formed_from_runs}
+use Rattle.tier_core.proofs.MaskBits.{no_bit, odd_or_even}
 use Rattle.timeline_text.specs.declared.letter.Letter.{Letter}
 use Rattle.timeline_text.specs.Spelling.{spelled_on, columns_for, HasSound, letter_of, unknown_letter, sound_of, sounds_of, IsSpelledBy}
 use Rattle.std.proofs.lemmas.List.{length-map}
-use Rattle.std.proofs.lemmas.Bool.{or_parts}
+use Rattle.std.proofs.lemmas.Bool.{or_parts, not-false}
 use Rattle.timeline_text.proofs.Searches.{none_any}
 use Rattle.timeline_text.specs.Between.{between, column_between, columns_after}
 
@@ -71,14 +72,11 @@ symbol_between : (inputs before after t : ℕ) → t < inputs
 symbol_between inputs before after t l = get_or-map-range_with_len
     (λ tier. between (has_tier before tier) (has_tier after tier)) 0 inputs t t Outside l (omega arith)
 
-no_tier : (t : ℕ) → has_tier 0 t ≡ false
-no_tier t = ap (λ n. n == 1) (bit_at-zero t)
-
 word_after : (inputs before t : ℕ) (sounds : List ℕ) → t < inputs
     → word (columns_after inputs before sounds) t
     ≡ tier_after (has_tier before t) (map (λ sound. has_tier sound t) sounds)
 word_after inputs before t [] l = ap (λ s. s ∷ [])
-    (symbol_between inputs before 0 t l ∙ ap (between (has_tier before t)) (no_tier t))
+    (symbol_between inputs before 0 t l ∙ ap (between (has_tier before t)) (no_bit t))
 word_after inputs before t (sound ∷ sounds) l =
     ap (λ s. s ∷ word (columns_after inputs sound sounds) t) (symbol_between inputs before sound t l)
     ∙ ap (λ w. between (has_tier before t) (has_tier sound t) ∷ w) (word_after inputs sound t sounds l)
@@ -101,7 +99,7 @@ spelled_form inputs sounds = record {
   one_width = width_after inputs 0 sounds;
   each_tier = λ t l. well_formed_from_runs _
       (ap (runs false) (word_after inputs 0 t sounds l
-      ∙ ap (λ b. tier_after b (map (λ sound. has_tier sound t) sounds)) (no_tier t))
+      ∙ ap (λ b. tier_after b (map (λ sound. has_tier sound t) sounds)) (no_bit t))
       ∙ runs_after false (map (λ sound. has_tier sound t) sounds));
 }
 
@@ -121,9 +119,6 @@ record Tier (inputs mask : ℕ) : Type 0 where
   at : ℕ
   there : at < inputs
   has : has_tier mask at ≡ true
-
-odd_or_even : (n : ℕ) → (n % 2 ≡ 1) ⊎ (n % 2 ≡ 0)
-odd_or_even n = grind arith
 
 by_parity : (inputs mask : ℕ) → (mask % 2 ≡ 1) ⊎ (mask % 2 ≡ 0) → (mask % 2 ≡ 0 → Tier inputs (mask / 2))
     → Tier (suc inputs) mask
@@ -203,10 +198,6 @@ letter_sound inputs [] b h e = cc
 letter_sound inputs (letter ∷ letters) b h e = sound_at inputs (letter.byte == b) letter (letter_of letters b) h.0
     (letter_sound inputs letters b h.1) e
 
-some_from : (b : Bool) → not b ≡ false → b ≡ true
-some_from true h = refl
-some_from false h = cc
-
 sounds_by : (inputs : ℕ) (letters : List Letter) (word : List ℕ) → AllByRecursion (HasSound inputs) letters
     → list_any (λ b. not (is_some (letter_of letters b))) word ≡ false
     → AllByRecursion (IsSound inputs) (map (sound_of letters) word)
@@ -214,7 +205,7 @@ sounds_by inputs letters [] h e = tt
 sounds_by inputs letters (b ∷ word) h e =
     let each = or_parts (not (is_some (letter_of letters b)))
     (list_any (λ x. not (is_some (letter_of letters x))) word) e in
-    (letter_sound inputs letters b h (some_from _ each.0), sounds_by inputs letters word h each.1)
+    (letter_sound inputs letters b h (not-false _ each.0), sounds_by inputs letters word h each.1)
 
 -- each letter of a word has a sound
 pub sounds_are : (inputs : ℕ) (letters : List Letter) (word : List ℕ) → All (HasSound inputs) letters

@@ -8,9 +8,7 @@ use Rattle.tier_core.specs.Words.{IsWellFormedWord}
 use Rattle.tier_core.specs.Timelines.{word, has_edge}
 use Rattle.timeline_text.specs.declared.form_err.FormErr.{FormErr}
 use Rattle.timeline_text.specs.declared.form_err.FormErr.TheVariants.{BadSymbol, WrongWidth, TooLong, NotWellFormed, NotReduced, UnknownLetter, NoMemory}
-
-abbrev pub is_space : ℕ → Bool
-is_space b = b == 32
+use Rattle.timeline_text.specs.Bytes.{is_space}
 
 -- whether a byte is a symbol or a space
 abbrev pub is_known : ℕ → Bool

@@ -4,3 +4,4 @@ pub mod Readings
 pub mod Spelling
 pub mod Between
 pub mod Tails
+pub mod Bytes

@@ -24,7 +24,7 @@ mod tiers;
 
 pub use form_err::FormErr;
 pub use letter::Letter;
-pub use put::{push_timeline, put_timeline};
+pub use put::{push_column, push_timeline, put_timeline};
 pub use read::read_timeline;
 pub use reading::{each_text_has_one_reading, each_word_has_one_spelling, written_is_read_again};
 pub use spelled::read_spelled;

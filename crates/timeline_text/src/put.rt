@@ -18,7 +18,12 @@ fn column_bytes(column: &Column) -> [u8; 12]
     bytes
 }
 
-fn push_column<O: Sink>(out: &mut OutBuffer, sink: &mut O, column: &Column) -> Result<(), WriteErr>
+/// Appends the bytes of a column, as part of a longer text.
+pub fn push_column<O: Sink>(
+    out: &mut OutBuffer,
+    sink: &mut O,
+    column: &Column,
+) -> Result<(), WriteErr>
     ensures { Pushes O.Sink sink.old sink.new out.old out.new (map byte_of column.now) result }
 {
     let bytes = column_bytes(column);

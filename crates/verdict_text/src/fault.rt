@@ -6,7 +6,7 @@ ghost use Rattle.verdict_text.specs.VerdictText.{fault_text, is_in_stage};
 
 use crate::numbers::{mark_number, push_numbered, push_target};
 use crate::stretches::stretch_count;
-use crate::symbols::push_column;
+use crate::symbols::push_column_after_space;
 use answer_text::{free_count, push_kind};
 use cert_check::Fault;
 use outside::{OutBuffer, Sink, WriteErr};
@@ -47,7 +47,7 @@ fn push_twice<O: Sink>(
         (fault_text (widths_of shape.now) (ArcsTwice state column.now)) result }
 {
     push_numbered(out, sink, b"twice", &[state])?;
-    push_column(out, sink, column)
+    push_column_after_space(out, sink, column)
 }
 
 /// Appends the line of a column on which the targets differ.
@@ -64,7 +64,7 @@ fn push_arcs<O: Sink>(
         (fault_text (widths_of shape.now) (ArcsDiffer state column.now listed kept)) result }
 {
     push_numbered(out, sink, b"arcs", &[state])?;
-    push_column(out, sink, column)?;
+    push_column_after_space(out, sink, column)?;
     push_target(out, sink, listed)?;
     push_target(out, sink, kept)
 }

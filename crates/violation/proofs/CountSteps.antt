@@ -2,7 +2,6 @@
 use Rattle.std.proofs.Common.{◌≡◌, ℕ, zero, suc, ◌+◌, ◌<◌, ◌≤◌, Bool, true, false, not, ◌&&◌, ◌||◌, List, [], ◌∷◌, ◌++◌, length, get_or, refl, sym, ap, ◌∙◌, subst, arith, add-one}
 use Rattle.std.specs.List.{AllByRecursion, list_all, list_any}
 use Rattle.std.proofs.lemmas.List.{get_or_default}
-use Rattle.std.proofs.lemmas.List.Elements.{All-from_recursion}
 use Rattle.std.proofs.lemmas.Bool.{false≢true, and_parts, and_from, or_parts}
 use Rattle.tier_core.specs.declared.sym.Sym.{Sym}
 use Rattle.tier_core.specs.declared.sym.Sym.TheVariants.{Outside, Inside, Start, End, Both}
@@ -15,8 +14,9 @@ use Rattle.tier_core.specs.Sides.{has_edge_type, edge_among}
 use Rattle.tier_core.proofs.CountLemmas.{bit, all_append, all_of}
 use Rattle.tier_core.proofs.WordCounts.{runs_fits}
 use Rattle.tier_core.proofs.WordForm.{runs_from_well_formed}
+use Rattle.tier_core.proofs.Bools.{or_false}
 use Rattle.violation.specs.Columns.{edge_cost, opens_all, is_present, opens_interior}
-use Rattle.violation.specs.Conditions.{AreTiersBelow, IsCountable, AreInColumn}
+use Rattle.violation.specs.Conditions.{AreTiersBelow, IsCountable}
 use Rattle.violation.specs.Counts.{chosen, viol, so_far, is_met}
 use Rattle.violation.proofs.EdgeSteps.{edge_at, step_count}
 use Rattle.violation.proofs.InteriorSteps.{open_before}
@@ -47,15 +47,6 @@ chosen_below Implication width left right a b = a
 pub column_at : (T : List (List Sym)) (k : ℕ) (column : List Sym) → k < length T → column ≡ get_or T k column
     → get_or T k [] ≡ column
 column_at T k column l e = get_or_default T k [] column l ∙ sym e
-
-pub in_column : (types : List Event) (width : ℕ) (T : List (List Sym)) (k : ℕ) (column : List Sym)
-    → IsWellFormed width T → AreTiersBelow width types
-    → k < length T → column ≡ get_or T k column → AreInColumn types column
-in_column types width T k column wf below l e i d g =
-    let tier : (get_or types i d).tier < width = All-from_recursion (λ e. e.tier < width) types below i d g in
-    let wide : length (get_or T k column)
-    ≡ width = All-from_recursion (λ c. length c ≡ width) T wf.one_width k column l in
-    omega (arith, tier, wide, ap length e)
 
 pub edge_step : (family : Family) (left right : List Event) (T : List (List Sym)) (k : ℕ) (column : List Sym)
     → IsCountable left right T
@@ -166,10 +157,6 @@ met_step left right T k column met c l is before o =
   where
     same : get_or T k [] ≡ column
     same = column_at T k column l is
-
-    or_false : (a : Bool) → (a || false) ≡ a
-    or_false true = refl
-    or_false false = refl
 
     or_comm : (a b : Bool) → (a || b) ≡ (b || a)
     or_comm true true = refl

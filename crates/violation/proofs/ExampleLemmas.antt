@@ -1,7 +1,7 @@
 -- What the examples are proved by: tests that compute.
 use Rattle.std.proofs.Common.{◌≡◌, ℕ, zero, suc, ◌+◌, ◌<◌, ◌≤◌, Bool, true, false, List, [], ◌∷◌, ◌++◌, map, take, drop, length, get_or, refl, sym, ap, ◌∙◌, arith, count_by, ◌&&◌, codes, String, Contains, subst, Less, Greater, is_gt, is_le, Equal, cond, ltb, eqb, lt-ltb, le-ltb, ne_eqb, take-append-drop, length-append}
-use Rattle.std.specs.List.{AllByRecursion, list_all, list_any, range_with_len}
-use Rattle.std.proofs.lemmas.Bool.{false≢true, and_parts, or_parts, true_from_ne_false}
+use Rattle.std.specs.List.{AllByRecursion, list_all, range_with_len}
+use Rattle.std.proofs.lemmas.Bool.{false≢true, and_parts, true_from_ne_false}
 use Rattle.std.proofs.lemmas.List.Folds.{list_all_at}
 use Rattle.std.proofs.lemmas.List.FromFn.{length-range_with_len, get_or-range_with_len}
 use Rattle.tier_core.specs.declared.sym.Sym.{Sym}
@@ -32,13 +32,6 @@ pub right_words : (ws : List (List Sym)) → list_all (runs false) ws ≡ true �
 right_words [] h = tt
 right_words (w ∷ ws) h = let parts : (runs false w ≡ true) × (list_all (runs false) ws ≡ true) = and_parts _ _ h in
     (well_formed_from_runs w parts.0, right_words ws parts.1)
-
-pub wrong_words : (ws : List (List Sym)) → list_any (runs false) ws ≡ false
-    → AllByRecursion (λ w. IsWellFormedWord w → ⊥) ws
-wrong_words [] h = tt
-wrong_words (w ∷ ws) h =
-    let parts : (runs false w ≡ false) × (list_any (runs false) ws ≡ false) = or_parts _ _ h in
-    (λ f. false≢true (sym parts.0 ∙ runs_from_well_formed w f), wrong_words ws parts.1)
 
 all_below : (p : ℕ → Bool) (n : ℕ) → list_all p (range_with_len 0 n) ≡ true → (t : ℕ) → t < n → p t ≡ true
 all_below p n h t l =

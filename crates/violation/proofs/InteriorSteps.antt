@@ -15,10 +15,11 @@ use Rattle.tier_core.specs.Sides.{is_edge_part, has_edge_type}
 use Rattle.tier_core.proofs.CountLemmas.{bit, count_split, all_weaker, all_of}
 use Rattle.tier_core.proofs.WordForm.{runs_from_well_formed}
 use Rattle.tier_core.proofs.WordLemmas.{open_at, constituents_late}
+use Rattle.tier_core.proofs.Members.{all_both}
 use Rattle.violation.specs.Columns.{is_present}
 use Rattle.violation.specs.Conditions.{AreTiersBelow}
 use Rattle.violation.specs.Counts.{choices}
-use Rattle.violation.proofs.ChoiceLemmas.{all_flat, all_map, all_both, count_choices}
+use Rattle.violation.proofs.ChoiceLemmas.{all_flat, all_map, count_choices}
 use Rattle.violation.proofs.EdgeSteps.{is_at, IsFilled, all_present}
 use Rattle.violation.proofs.EventCounts.{interior_before}
 use Rattle.violation.proofs.MeetLemmas.{contains, meet_contains}

@@ -74,10 +74,6 @@ open_interior : (a n i j : ℕ) → n ≤ j → leb (max a (max (2 * i + 1) 0)) 
     ≡ leb (max a (max (2 * i + 1) 0)) (min (2 * j - 1) (2 * n - 1))
 open_interior a n i j l = grind (arith, nat_tests)
 
-or_false : (b : Bool) → b ≡ (b || false)
-or_false true = refl
-or_false false = refl
-
 -- an event in the prefix meets them exactly where the whole one does
 cut_meets : (part : Part) (a n i j : ℕ) → i < j → 1 ≤ a
     → list_any (meets a n) (event_begun n part (i, cut n (Some j))) ≡ (meets a n (event part (i, j)) || false)

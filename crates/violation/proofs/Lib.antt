@@ -26,3 +26,9 @@ pub mod WalkSums
 pub mod CandidateLemmas
 pub mod ExampleLemmas
 pub mod RestLemmas
+pub mod KindBits
+pub mod NextPhases
+pub mod ConstraintCosts
+pub mod InputParts
+pub mod FewerStages
+pub mod ClosedPhases

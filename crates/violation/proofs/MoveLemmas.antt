@@ -11,6 +11,7 @@ use Rattle.tier_core.specs.Kinds.{closed, unmet, met}
 use Rattle.tier_core.specs.Timelines.{word}
 use Rattle.tier_core.specs.Sides.{has_edge_type, edge_among}
 use Rattle.tier_core.proofs.CountLemmas.{bit, all_weaker}
+use Rattle.tier_core.proofs.Bools.{and_false}
 use Rattle.violation.specs.Columns.{opens_all, is_present, opens_interior}
 use Rattle.violation.specs.Conditions.{AreTiersBelow, IsCountable}
 use Rattle.violation.specs.Counts.{chosen, so_far, is_met}
@@ -43,11 +44,7 @@ swap_last true true c = and_true c
     and_true : (x : Bool) → x ≡ (x && true)
     and_true true = refl
     and_true false = refl
-swap_last true false c = and_false c
-  where
-    and_false : (x : Bool) → false ≡ (x && false)
-    and_false true = refl
-    and_false false = refl
+swap_last true false c = sym (and_false c)
 swap_last false b c = refl
 
 -- A column costs what it adds to the count so far, by what the kind of the prefix before it tells.

@@ -9,6 +9,7 @@ use Rattle.tier_core.specs.Scan.{fits, opens}
 use Rattle.tier_core.specs.Timelines.{word, symbol}
 use Rattle.tier_core.specs.Words.{ends}
 use Rattle.tier_core.proofs.WordLemmas.{runs, open_at}
+use Rattle.tier_core.proofs.Bools.{and_grouped}
 use Rattle.violation.specs.Prefixes.{is_open}
 
 -- the symbols fit, and the tier may be open at the end
@@ -51,19 +52,15 @@ prefix_open w n r l = open_read false (take n w) (reads_take false w n r) ∙ op
 pub take_word : (T : List (List Sym)) (n t : ℕ) → word (take n T) t ≡ take n (word T t)
 take_word T n t = sym (take-map (λ column. symbol column t) n T)
 
-and_assoc : (a b c : Bool) → (a && (b && c)) ≡ ((a && b) && c)
-and_assoc true b c = refl
-and_assoc false b c = refl
-
 pub runs_append : (b : Bool) (p q : List Sym) → runs b (p ++ q) ≡ (reads b p && runs (open_at b p (length p)) q)
 runs_append b [] q = refl
 runs_append b (s ∷ p) q = ap (λ r. fits b s && r) (runs_append (opens s) p q)
-    ∙ and_assoc (fits b s) (reads (opens s) p) (runs (open_at (opens s) p (length p)) q)
+    ∙ and_grouped (fits b s) (reads (opens s) p) (runs (open_at (opens s) p (length p)) q)
 
 pub reads_append : (b : Bool) (p q : List Sym) → reads b (p ++ q) ≡ (reads b p && reads (open_at b p (length p)) q)
 reads_append b [] q = refl
 reads_append b (s ∷ p) q = ap (λ r. fits b s && r) (reads_append (opens s) p q)
-    ∙ and_assoc (fits b s) (reads (opens s) p) (reads (open_at (opens s) p (length p)) q)
+    ∙ and_grouped (fits b s) (reads (opens s) p) (reads (open_at (opens s) p (length p)) q)
 
 -- after one more symbol
 pub open_more : (b : Bool) (w : List Sym) (s : Sym) → open_at b (w ++ s ∷ []) (length (w ++ s ∷ [])) ≡ opens s

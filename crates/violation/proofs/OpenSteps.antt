@@ -18,11 +18,12 @@ use Rattle.tier_core.specs.Sides.{is_edge_part, has_edge_type, edge_among}
 use Rattle.tier_core.proofs.CountLemmas.{bit, count_agree, all_weaker}
 use Rattle.tier_core.proofs.WordCounts.{runs_fits}
 use Rattle.tier_core.proofs.WordForm.{runs_from_well_formed}
+use Rattle.tier_core.proofs.Members.{all_both}
 use Rattle.violation.specs.Columns.{is_present, part_present}
 use Rattle.violation.specs.Conditions.{AreTiersBelow}
 use Rattle.violation.specs.Counts.{choices, counts, is_met, so_far}
 use Rattle.violation.specs.Prefixes.{last_where}
-use Rattle.violation.proofs.ChoiceLemmas.{all_both, count_where}
+use Rattle.violation.proofs.ChoiceLemmas.{count_where}
 use Rattle.violation.proofs.EdgeSteps.{is_at, IsFilled, step_count}
 use Rattle.violation.proofs.InteriorSteps.{open_before, IsOdd, odds, filled, interiors_each, ends_before}
 use Rattle.violation.proofs.MeetLemmas.{contains, meet_contains}

@@ -18,10 +18,11 @@ use Rattle.tier_core.proofs.CountLemmas.{bit, count_cons, all_weaker, all_of}
 use Rattle.tier_core.proofs.WordCounts.{start_at, inside_at}
 use Rattle.tier_core.proofs.WordForm.{runs_from_well_formed}
 use Rattle.tier_core.proofs.WordLemmas.{runs, constituents_late}
+use Rattle.tier_core.proofs.Members.{all_both}
 use Rattle.violation.specs.Conditions.{AreTiersBelow}
 use Rattle.violation.specs.Counts.{choices}
 use Rattle.violation.specs.Prefixes.{last_where}
-use Rattle.violation.proofs.ChoiceLemmas.{all_flat, all_map, all_both}
+use Rattle.violation.proofs.ChoiceLemmas.{all_flat, all_map}
 use Rattle.violation.proofs.EdgeSteps.{is_at, IsFilled}
 use Rattle.violation.proofs.EventCounts.{between_point}
 use Rattle.violation.proofs.MeetLemmas.{contains}

@@ -5,6 +5,7 @@ use Rattle.std.specs.declared.cmp.Ordering.TheVariants.{Less, Equal, Greater}
 use Rattle.std.specs.Ordering.{nat_cmp, is_le, ordering_then, ordering_reverse, MatchOrdering}
 use Rattle.std.proofs.lemmas.Bool.{false≢true}
 use Rattle.std.proofs.lemmas.Cmp.{ranked, nat_list_cmp_total}
+use Rattle.tier_core.proofs.KindTies.{then_equal}
 use Rattle.violation.specs.Candidates.{vec_cmp, IsAtMost}
 
 -- an order that is decided by one, and then by another
@@ -25,11 +26,6 @@ then_assoc : (o p q : Ordering) → ordering_then o (ordering_then p q) ≡ orde
 then_assoc Less p q = refl
 then_assoc Equal p q = refl
 then_assoc Greater p q = refl
-
-then_equal : (o : Ordering) → ordering_then o Equal ≡ o
-then_equal Less = refl
-then_equal Equal = refl
-then_equal Greater = refl
 
 -- numbers
 pub le_from_cmp : (x y : ℕ) → is_le (nat_cmp x y) ≡ true → x ≤ y

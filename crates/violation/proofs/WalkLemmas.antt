@@ -5,13 +5,12 @@ use Rattle.std.proofs.lemmas.List.{map-append, length-append, length_push, get_o
 use Rattle.std.proofs.lemmas.Bool.{and_parts, and_from, not-true, not_from_false}
 use Rattle.tier_core.specs.declared.sym.Sym.{Sym}
 use Rattle.tier_core.specs.declared.constraint.Constraint.{Constraint}
-use Rattle.tier_core.specs.Kinds.{Phase, PrefixKind}
 use Rattle.tier_core.specs.Scan.{fits, opens}
-use Rattle.tier_core.specs.Tiers.{Tiers}
 use Rattle.tier_core.specs.Timelines.{word, symbol, column_at, has_edge}
 use Rattle.tier_core.proofs.CountLemmas.{bit, all_weaker, any_none}
 use Rattle.tier_core.proofs.WordLemmas.{runs}
 use Rattle.tier_core.proofs.WordForm.{runs_from_well_formed}
+use Rattle.tier_core.proofs.KindTies.{same_parts}
 use Rattle.violation.specs.Candidates.{IsForm, IsCandidate}
 use Rattle.violation.specs.Conditions.{AreSplit, IsOverTiers, IsCountable}
 use Rattle.violation.specs.Moves.{FitsKind, input_of, moved, next_phases, next_phase, is_final}
@@ -30,15 +29,6 @@ pub all_split : {X : Type 0} (P : X → Type 0) (xs ys : List X) → AllByRecurs
 all_split P [] ys h = (tt, h)
 all_split P (x ∷ xs) ys h = let rest : AllByRecursion P xs × AllByRecursion P ys = all_split P xs ys h.1 in
     ((h.0, rest.0), rest.1)
-
--- kinds with the same parts
-pub same_kind : (m n : ℕ) (os qs : List Bool) (ps rs : List Phase) → m ≡ n → os ≡ qs → ps ≡ rs
-    → (let k : PrefixKind = record { place = m; opened = os; phases = ps } in k)
-    ≡ record { place = n; opened = qs; phases = rs }
-same_kind m n os qs ps rs a b c =
-    ap (λ (x : ℕ). let k : PrefixKind = record { place = x; opened = os; phases = ps } in k) a
-    ∙ ap (λ (x : List Bool). let k : PrefixKind = record { place = n; opened = x; phases = ps } in k) b
-    ∙ ap (λ (x : List Phase). let k : PrefixKind = record { place = n; opened = qs; phases = x } in k) c
 
 -- what begins a candidate reads well so far
 pub begun_of : (problem : Problem) (p q : List (List Sym)) → IsCandidate problem (p ++ q) → IsBegun problem p
@@ -138,7 +128,7 @@ module _ (problem : Problem) (r : ℕ) (split : AreSplit problem.tiers) (form : 
       → moved problem r (kind_of problem r p) column ≡ kind_of problem r (p ++ column ∷ [])
   moved_is p column b =
       let more : IsBegun problem (p ++ column ∷ []) = begun_of problem (p ++ column ∷ []) b.0 b.1 in
-      same_kind _ _ _ _ _ _
+      same_parts _ _ _ _ _ _
       (place_more (has_edge (input_of problem.tiers column)) refl)
       (map_agree (λ t. opens (symbol column t)) (λ t. is_open (word (p ++ column ∷ []) t)) problem.tiers.free
       (all_weaker (λ t. t < problem.tiers.width) _ problem.tiers.free

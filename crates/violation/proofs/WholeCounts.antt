@@ -14,8 +14,9 @@ use Rattle.tier_core.specs.Words.{constituents}
 use Rattle.tier_core.proofs.CountLemmas.{count_agree, count_none, all_weaker, all_of}
 use Rattle.tier_core.proofs.WordCounts.{constituents_within}
 use Rattle.tier_core.proofs.WordLemmas.{constituents_late}
+use Rattle.tier_core.proofs.Members.{all_both}
 use Rattle.violation.specs.Counts.{choices, chosen, counts, viol, so_far}
-use Rattle.violation.proofs.ChoiceLemmas.{all_flat, all_map, all_both}
+use Rattle.violation.proofs.ChoiceLemmas.{all_flat, all_map}
 use Rattle.violation.proofs.MeetLemmas.{least_from_le}
 
 pub so_far_none : (family : Family) (left right : List Event) (T : List (List Sym)) → so_far family left right T 0 ≡ 0

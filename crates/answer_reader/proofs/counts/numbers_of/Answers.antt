@@ -3,7 +3,7 @@ use Rattle.std.specs.List.{All, slice_split}
 use Rattle.std.proofs.lemmas.List.{length-map, length_push}
 use Rattle.std.proofs.lemmas.List.Elements.{All-push}
 use Rattle.timeline_text.proofs.Splits.{split_turn, split_end}
-use Rattle.answer_reader.specs.Cuts.{is_space}
+use Rattle.timeline_text.specs.Bytes.{is_space}
 use Rattle.answer_reader.specs.Numbers.{is_run}
 use Rattle.answer_reader.proofs.CountWords.{AreNumbers, passes_at, number_read, number_missing, numbers_read}
 use Rattle.answer_reader.proofs.counts.numbers_of.Goals as goal

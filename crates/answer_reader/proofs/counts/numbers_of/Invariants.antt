@@ -1,6 +1,6 @@
 use Rattle.std.proofs.Common.{◌≤◌, length}
 use Rattle.std.specs.List.{All, slice_split}
-use Rattle.answer_reader.specs.Cuts.{is_space}
+use Rattle.timeline_text.specs.Bytes.{is_space}
 use Rattle.answer_reader.proofs.CountWords.{AreNumbers}
 use Rattle.answer_reader.proofs.counts.numbers_of.Given as goal
 

@@ -1,5 +1,6 @@
 use Rattle.std.proofs.Common.{refl, sym, ◌∙◌, arith, pow_mono}
-use Rattle.answer_reader.proofs.Bits.{mask_next, bit_below, bit_more}
+use Rattle.tier_core.proofs.MaskBits.{bit_below}
+use Rattle.answer_reader.proofs.Bits.{mask_next, bit_more}
 use Rattle.answer_reader.proofs.mask.mask_of.Goals as goal
 
 pub overflow_mul-bit : goal.overflow_mul-bit

@@ -1,9 +1,9 @@
 use Rattle.std.proofs.Common.{◌&&◌, not, length, sym, ap, ◌∙◌, eq-eqb}
 use Rattle.std.specs.List.{list_any}
 use Rattle.tier_core.specs.Kinds.{open_tiers}
+use Rattle.tier_core.proofs.MaskBits.{no_flag}
 use Rattle.violation.specs.Problems.{last_place}
 use Rattle.cert_check.specs.Subjects.{problem_of}
-use Rattle.cert_check.proofs.BitSteps.{no_flag}
 use Rattle.cert_check.proofs.final_kind.is_final.Goals as goal
 
 pub returns-then-kind-len : goal.returns-then-kind-len

@@ -6,7 +6,7 @@ use Rattle.tier_core.specs.Kinds.{PrefixKind, kind_order}
 use Rattle.tier_core.specs.KindShapes.{kind_in}
 use Rattle.answer_text.specs.declared.stage.Node.{Node}
 use Rattle.cert_check.specs.Searches.{told_in}
-use Rattle.cert_check.proofs.KindTies.{same_kind}
+use Rattle.tier_core.proofs.KindTies.{same_kind}
 use Rattle.cert_check.proofs.Searches.{all_below, all_above, not_there}
 use Rattle.cert_check.proofs.find.find.Goals as goal
 

@@ -1,8 +1,9 @@
 use Rattle.std.proofs.Common.{◌≡◌, ◌≤◌, List, length}
 use Rattle.tier_core.specs.declared.sym.Sym.{Sym}
 use Rattle.tier_core.specs.Classes.{sets_of, has}
+use Rattle.violation.proofs.CandidateLemmas.{part_from}
+use Rattle.violation.proofs.InputParts.{ReadsOn}
 use Rattle.cert_check.specs.Opens.{inputs_before}
-use Rattle.cert_check.proofs.FitSteps.{ReadsOn}
 use Rattle.cert_check.proofs.fit_boxes.reading_box.Given as goal
 
 abbrev pub invariant-loop-tier : goal.invariant-loop-tier
@@ -11,5 +12,6 @@ invariant-loop-tier l = record {
   count : l.next ≡ inputs_before l.kinds l.tier;
   few : l.next ≤ l.tier;
   columns : (column : List Sym) → length column ≡ length l.kinds
-      → ReadsOn (has l.class column) l.kinds column l.form l.tier l.next;
+      → ReadsOn (has l.class column) (part_from l.kinds column 0 ≡ l.form) l.kinds column l.form l.tier
+      l.next;
 }

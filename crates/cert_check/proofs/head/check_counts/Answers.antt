@@ -7,7 +7,7 @@ use Rattle.cert_check.specs.Stops.{StopsBy}
 use Rattle.violation.specs.Candidates.{vec, counts_on}
 use Rattle.cert_check.proofs.Heads.{first_counts}
 use Rattle.cert_check.proofs.Stops.{stops_say}
-use Rattle.cert_check.proofs.Grammars.{all_countable}
+use Rattle.grammar_reader.proofs.OverTiers.{all_countable}
 use Rattle.cert_check.proofs.head.check_counts.Goals as goal
 
 pub vector-requires-clause-countable : goal.vector-requires-clause-countable

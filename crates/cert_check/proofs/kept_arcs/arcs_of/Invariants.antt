@@ -1,5 +1,5 @@
 use Rattle.std.proofs.Common.{◌≡◌, All, take}
-use Rattle.cert_check.specs.Arcs.{arc_classes}
+use Rattle.answer_text.specs.ArcClasses.{arc_classes}
 use Rattle.cert_check.specs.Kept.{classes_of}
 use Rattle.cert_check.specs.KeptArcs.{IsArcOf}
 use Rattle.cert_check.proofs.kept_arcs.arcs_of.Given as goal

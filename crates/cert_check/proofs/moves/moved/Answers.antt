@@ -5,7 +5,7 @@ use Rattle.tier_core.specs.declared.constraint.Constraint.{Constraint}
 use Rattle.tier_core.specs.Tiers.{is_free, is_input, numbers_from}
 use Rattle.violation.specs.Conditions.{IsOverTiers}
 use Rattle.cert_check.specs.Subjects.{problem_of}
-use Rattle.cert_check.proofs.Grammars.{over_tiers}
+use Rattle.grammar_reader.proofs.OverTiers.{over_tiers}
 use Rattle.cert_check.proofs.MovedSteps.{moved_told}
 use Rattle.cert_check.proofs.moves.moved.Goals as goal
 

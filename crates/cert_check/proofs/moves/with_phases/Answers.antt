@@ -1,7 +1,8 @@
 use Rattle.std.proofs.Common.{refl, sym, ◌∙◌}
 use Rattle.tier_core.specs.Kinds.{phase_at}
 use Rattle.violation.specs.Moves.{next_phase}
-use Rattle.cert_check.proofs.NextSteps.{met_told, next_more, next_same, next_all}
+use Rattle.violation.proofs.KindBits.{met_at}
+use Rattle.violation.proofs.NextPhases.{next_more, next_same, next_all}
 use Rattle.cert_check.proofs.moves.with_phases.Goals as goal
 use Rattle.cert_check.proofs.moves.with_phases.Goals.{then-is_stretch, else-is_stretch}
 
@@ -13,7 +14,7 @@ loop-constraint-preserved c =
     let phase = next_phase item.left item.right (phase_at kind next) c.args.column.now in
     elim c.if-is_stretch.branch [
       | then-is_stretch w ↦
-          let was = w.has_bit-was_met.ensures ∙ met_told kind next in
+          let was = w.has_bit-was_met.ensures ∙ met_at kind next in
           rw (w.unmet-is, w.met-is, w.next-is) (next_more c.args.constraints.now kind c.args.column.now
           c.loop-constraint.constraint-index next c.loop-constraint.unmet c.loop-constraint.met
           w.with_bit-unmet.result w.with_bit-met.result item phase c.loop-constraint.invariant

@@ -1,4 +1,4 @@
-use Rattle.cert_check.proofs.NextSteps.{AreNext}
+use Rattle.violation.proofs.NextPhases.{AreNext}
 use Rattle.cert_check.proofs.moves.with_phases.Given as goal
 
 abbrev pub invariant-loop-constraint : goal.invariant-loop-constraint

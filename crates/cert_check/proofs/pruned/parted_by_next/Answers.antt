@@ -8,7 +8,7 @@ use Rattle.symbol_class.specs.Held.{ArePieces}
 use Rattle.violation.specs.Conditions.{IsOverTiers}
 use Rattle.cert_check.specs.Fitting.{ArePartedByTests}
 use Rattle.cert_check.specs.Subjects.{problem_of}
-use Rattle.cert_check.proofs.Grammars.{over_tiers}
+use Rattle.grammar_reader.proofs.OverTiers.{over_tiers}
 use Rattle.cert_check.proofs.PrunedSteps.{parted_next}
 use Rattle.cert_check.proofs.pruned.parted_by_next.Goals as goal
 

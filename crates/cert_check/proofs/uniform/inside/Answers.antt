@@ -1,18 +1,10 @@
 use Rattle.std.proofs.Common.{◌≡◌, not, ◌&&◌, true, false, Bool, refl, ap, ◌∙◌, arith}
-use Rattle.tier_core.specs.declared.sym.Sym.{Sym}
-use Rattle.tier_core.specs.declared.sym.Sym.TheVariants.{Outside, Inside, Start, End, Both}
 use Rattle.tier_core.specs.Classes.{has}
 use Rattle.tier_core.specs.Sets.{is_in}
 use Rattle.tier_core.specs.Timelines.{symbol}
 use Rattle.tier_core.proofs.ClassSets.{width_is}
+use Rattle.tier_core.proofs.KnownSets.{in_none}
 use Rattle.cert_check.proofs.uniform.inside.Goals as goal
-
-in_none : (s : Sym) → is_in 0 s ≡ false
-in_none Outside = refl
-in_none Inside = refl
-in_none Start = refl
-in_none End = refl
-in_none Both = refl
 
 but_none : (a b i : Bool) → b ≡ (a && i) → i ≡ false → (a && not b) ≡ a
 but_none true b i e f = ap not (e ∙ f)

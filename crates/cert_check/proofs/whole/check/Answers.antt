@@ -6,7 +6,7 @@ use Rattle.cert_check.specs.FirstFaults.{IsFirstFault, asked_by}
 use Rattle.cert_check.proofs.Certifying.{certified_if_faultless}
 use Rattle.cert_check.proofs.CheckSteps.{states_in_order}
 use Rattle.cert_check.proofs.Faultless.{faultless_if_certified}
-use Rattle.cert_check.proofs.Grammars.{over_tiers}
+use Rattle.grammar_reader.proofs.OverTiers.{over_tiers}
 use Rattle.cert_check.proofs.Stops.{stop_said}
 use Rattle.cert_check.proofs.whole.check.Goals as goal
 

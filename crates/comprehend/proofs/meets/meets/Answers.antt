@@ -1,13 +1,7 @@
-use Rattle.std.proofs.Common.{◌≡◌, true, false, Bool, not, List, refl, sym, ◌∙◌, IsTrue}
-use Rattle.std.proofs.lemmas.Bool.{false≢true}
-use Rattle.tier_core.specs.declared.sym.Sym.{Sym}
-use Rattle.tier_core.specs.Classes.{has}
+use Rattle.std.proofs.Common.{◌≡◌, true, false, Bool, not, refl}
+use Rattle.std.proofs.lemmas.Bool.{not-true}
 use Rattle.comprehend.proofs.Shared.{shared, none_shared}
 use Rattle.comprehend.proofs.meets.meets.Goals as goal
-
-of_not : (b : Bool) → not b ≡ true → b ≡ false
-of_not true h = absurd (false≢true h)
-of_not false h = refl
 
 not_of : (b : Bool) → (b ≡ true → ⊥) → not b ≡ true
 not_of true h = absurd (h refl)
@@ -19,7 +13,7 @@ returns c =
     let b = c.args.b.now in
     let both = c.meet.result in
     let empty = c.is_empty.result in (
-      λ h. shared a b both c.meet.ensures.columns empty c.is_empty.ensures.sets (of_not empty h),
+      λ h. shared a b both c.meet.ensures.columns empty c.is_empty.ensures.sets (not-true empty h),
       λ some. not_of empty (λ e. none_shared a b both c.meet.ensures.columns
           (c.is_empty.ensures.columns.0 e) some.0 some.1.0 some.1.1),
     )

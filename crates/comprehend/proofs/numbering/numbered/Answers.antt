@@ -1,12 +1,10 @@
-use Rattle.std.proofs.Common.{◌≡◌, ℕ, List, ◌∷◌, ◌++◌, [], false, map, length, get_or, take, refl, sym, ap, ◌∙◌, eqb, cond, arith}
+use Rattle.std.proofs.Common.{◌≡◌, false, get_or, sym, ap, ◌∙◌, arith}
 use Rattle.std.specs.Result.{is_err}
-use Rattle.std.specs.Prelude.{OnOk}
-use Rattle.std.specs.List.{list_any}
-use Rattle.std.proofs.lemmas.List.{take_more, get_or-map, length-map}
+use Rattle.std.proofs.lemmas.List.{get_or-map, length-map}
+use Rattle.first_paths.proofs.Results.{on_ok}
 use Rattle.answer_text.specs.declared.automaton.StateLine.{StateLine}
 use Rattle.answer_text.specs.Right.{numbers_of}
 use Rattle.comprehend.proofs.Numbers.{numbered_more}
-use Rattle.comprehend.proofs.Results.{on_ok}
 use Rattle.comprehend.proofs.numbering.numbered.Goals as goal
 
 pub loop-state-preserved : goal.loop-state-preserved

@@ -1,14 +1,15 @@
 use Rattle.std.proofs.Common.{◌≡◌, false, get_or, sym, ap, ◌∙◌}
 use Rattle.std.specs.List.{list_any}
+use Rattle.std.proofs.lemmas.Bool.{not-true}
 use Rattle.tier_core.specs.Symbols.{symbols}
 use Rattle.tier_core.specs.Classes.{sets_of}
 use Rattle.definition_tests.specs.Fit.{in_both}
-use Rattle.definition_tests.proofs.Sets.{disjoint_by_first, not_from}
+use Rattle.definition_tests.proofs.Sets.{disjoint_by_first}
 use Rattle.definition_tests.proofs.fit.are_apart.Goals as goal
 
 pub returns : goal.returns
 returns c free column h k =
-    let none : c.meet.result ≡ false = not_from c.meet.result free in
+    let none : c.meet.result ≡ false = not-true c.meet.result free in
     disjoint_by_first (sets_of c.args.a.now) (sets_of c.args.b.now) column
     (sym c.width.ensures.value ∙ c.if-width-ne1.false)
     (sym c.width-else-width-ne1.ensures.value ∙ c.if-width-ne1-2.false)

@@ -1,7 +1,5 @@
-use Rattle.std.specs.Prelude.{OnOk}
 use Rattle.std.specs.Result.{is_err}
-use Rattle.std.proofs.lemmas.Bool.{false≢true}
-use Rattle.std.proofs.Common.{Result, Ok, Err, false, ◌≡◌, ℕ, ◌+◌, ◌-◌, ◌++◌, List, [], ◌∷◌, Option, length, sym, ap, subst, ◌∙◌, append_assoc, arith}
+use Rattle.std.proofs.Common.{false, ◌≡◌, ℕ, ◌+◌, ◌-◌, ◌++◌, List, [], ◌∷◌, Option, length, sym, ap, subst, ◌∙◌, append_assoc, arith}
 use Rattle.std.proofs.lemmas.List.{append-nil}
 use Rattle.weight_law.specs.declared.count.Count.{Count}
 use Rattle.tier_core.specs.declared.sym.Sym.{Sym}
@@ -11,11 +9,7 @@ use Rattle.first_paths.proofs.FirstFrom.{IsFirstFrom, is_first}
 use Rattle.first_paths.specs.Counted.{IsLeft, IsLeastChoice}
 use Rattle.first_paths.proofs.Choosing.{first_empty, choice_exists, first_step}
 use Rattle.first_paths.proofs.follow.first.Goals as goal
-
--- what holds of an `Ok`, where the result is no `Err`
-on_ok : {A E P : Type 0} (r : Result A E) → OnOk r P → is_err r ≡ false → P
-on_ok (Ok x) h e = h
-on_ok (Err x) h e = absurd (false≢true (sym e))
+use Rattle.first_paths.proofs.Results.{on_ok}
 
 pub choose-choice-requires-clause-targets : goal.choose-choice-requires-clause-targets
 choose-choice-requires-clause-targets c =

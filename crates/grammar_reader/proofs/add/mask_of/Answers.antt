@@ -1,11 +1,12 @@
-use Rattle.std.proofs.Common.{◌≡◌, ◌+◌, ◌*◌, ◌^◌, ◌<◌, ◌≤◌, ◌∷◌, [], ◌++◌, length, drop, map, get_or, ap, sym, ◌∙◌, arith, true, false}
+use Rattle.std.proofs.Common.{◌+◌, ◌*◌, length, drop, map, ap, sym, ◌∙◌, arith, true, false}
 use Rattle.std.proofs.Math.Pow.{pow_mono}
 use Rattle.std.proofs.lemmas.List.{length_push}
 use Rattle.std.proofs.lemmas.Iterator.Consumers.{YieldsList-turn, YieldsList-from_rest}
+use Rattle.tier_core.proofs.MaskBits.{bit_below}
 use Rattle.grammar_reader.specs.Values.{inputs_of}
 use Rattle.grammar_reader.specs.Seen.{tiers_seen}
 use Rattle.grammar_reader.specs.Reading.{mask_of}
-use Rattle.grammar_reader.proofs.Masks.{mask_skip, mask_next, chosen_below, power_more, power_later}
+use Rattle.grammar_reader.proofs.Masks.{mask_skip, mask_next, power_more, power_later}
 use Rattle.grammar_reader.proofs.add.mask_of.Goals as goal
 
 pub overflow_mul-bit : goal.overflow_mul-bit
@@ -23,7 +24,7 @@ loop-name-preserved c =
     let names = map (λ n. n.now) c.args.names.now in
     record {
       small = power_more _ c.loop-name.bit (length c.loop-name.yielded) n c.loop-name.invariant.small;
-      below = chosen_below c.loop-name.mask c.loop-name.bit c.is_among.result c.chosen-mask.result
+      below = bit_below c.loop-name.mask c.loop-name.bit c.is_among.result c.chosen-mask.result
           c.chosen-mask.ensures c.loop-name.invariant.below;
       rest = ap (λ k. c.loop-name.mask + c.chosen-mask.result + c.loop-name.bit * 2 * mask_of
           (inputs_of (tiers_seen (drop k c.args.tiers.now.entries))) names) n

@@ -1,7 +1,7 @@
 use Rattle.std.proofs.Common.{rules, tests, ◌≡◌, ◌+◌, ◌<◌, ◌∷◌, [], ◌++◌, List, ℕ, length, drop, subst, sym, ap, ◌∙◌, arith, get_or, ◌≤◌, Err}
 use Rattle.std.proofs.lemmas.List.{length_push, at_drop_all, length-map}
 use Rattle.timeline_text.proofs.Splits.{split_turn, split_end}
-use Rattle.grammar_reader.specs.Pieces.{is_newline, lines_of}
+use Rattle.timeline_text.specs.Bytes.{is_newline, lines_of}
 use Rattle.grammar_reader.specs.Reading.{after_lines, grammar_of, whole}
 use Rattle.grammar_reader.specs.Made.{so_far}
 use Rattle.grammar_reader.proofs.Splits.{fits_at, all_fit}

@@ -1,5 +1,5 @@
 use Rattle.std.proofs.Common.{◌≡◌, ◌+◌, length, drop}
-use Rattle.grammar_reader.specs.Pieces.{lines_of}
+use Rattle.timeline_text.specs.Bytes.{lines_of}
 use Rattle.grammar_reader.specs.Reading.{after_lines, grammar_of}
 use Rattle.grammar_reader.specs.Made.{so_far}
 use Rattle.grammar_reader.proofs.read.read_lines.Given as goal

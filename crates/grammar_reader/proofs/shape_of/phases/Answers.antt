@@ -1,11 +1,9 @@
-use Rattle.std.proofs.Common.{◌≡◌, ◌+◌, ◌≤◌, ◌∷◌, [], ◌++◌, length, filter, take, map, ap, sym, ◌∙◌, arith, cond}
+use Rattle.std.proofs.Common.{◌≡◌, ◌+◌, ◌∷◌, [], ◌++◌, length, filter, take, map, ap, sym, ◌∙◌, arith, cond}
 use Rattle.std.specs.List.{range_with_len}
-use Rattle.std.proofs.lemmas.Bool.Decides.{nat_tests}
-use Rattle.std.proofs.lemmas.Grind.{common_steps}
 use Rattle.std.proofs.lemmas.List.FromFn.{map-range_with_len_more}
 use Rattle.std.proofs.lemmas.List.Filters.{length-filter_more}
 use Rattle.tier_core.specs.Sides.{is_stretch}
-use Rattle.grammar_reader.proofs.Shaping.{bit_value}
+use Rattle.tier_core.proofs.MaskBits.{at_most_one}
 use Rattle.grammar_reader.proofs.shape_of.phases.Goals as goal
 
 pub loop-constraint-preserved : goal.loop-constraint-preserved
@@ -21,7 +19,7 @@ loop-constraint-preserved c =
     (one ∙ ap (λ x. cond (is_stretch x) 1 0) c.constraint-item.is) ∙ sym step in
     record {
       count = count;
-      few = let b = bit_value (is_stretch c.constraint-item.result) in omega
+      few = let b = at_most_one (is_stretch c.constraint-item.result) in omega
           (arith, one, b, c.loop-constraint.invariant.few);
       phases = c.in-Ok.ensures.items ∙ ap
           (λ xs. xs ++ (c.loop-constraint.count + c.one_where-count.result) ∷ []) c.loop-constraint.invariant.phases

@@ -1,4 +1,5 @@
-use Rattle.kind_laws.proofs.GoingOn.{candidate_exchanged, optimal_exchanged, same_fewer, lower, rest, adds_rest, adds_alike}
+use Rattle.violation.proofs.FewerStages.{same_fewer}
+use Rattle.kind_laws.proofs.GoingOn.{candidate_exchanged, optimal_exchanged, lower, rest, adds_rest, adds_alike}
 use Rattle.kind_laws.proofs.exchange.prefixes_of_one_kind_go_on_alike.Goals as goal
 
 pub returns-clause-candidate : goal.returns-clause-candidate

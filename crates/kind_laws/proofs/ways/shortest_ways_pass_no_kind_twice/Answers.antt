@@ -1,5 +1,5 @@
+use Rattle.tier_core.proofs.Differing.{differ_from_pairs, pairs_from_differ}
 use Rattle.kind_laws.proofs.DirectWays.{find, way_short}
-use Rattle.kind_laws.proofs.Longest.{differ_from_pairs, pairs_from_differ}
 use Rattle.kind_laws.proofs.ways.shortest_ways_pass_no_kind_twice.Goals as goal
 
 pub returns-clause-direct : goal.returns-clause-direct

@@ -1,6 +1,6 @@
 use Rattle.std.proofs.Common.{sym, ◌∙◌, arith}
 use Rattle.tier_core.specs.Classes.{has}
-use Rattle.kind_moves.proofs.FitBoxSteps.{reads_more, reads_same, reads_none}
+use Rattle.violation.proofs.InputParts.{reads_more, reads_same, reads_none}
 use Rattle.kind_moves.proofs.fit_boxes.with_input.Goals as goal
 use Rattle.kind_moves.proofs.fit_boxes.with_input.Goals.{then-is_input+else-next-form, else-is_input}
 
@@ -14,8 +14,8 @@ loop-tier-preserved c =
       | then-is_input+else-next-form w ↦ rw (w.rest-is, w.next-is) (record {
         width = w.narrowed-rest.ensures.width ∙ c.loop-tier.invariant.width;
         within = omega (arith, c.loop-tier.invariant.within, w.if-next-form.false);
-        columns = λ column. reads_more (has w.narrowed-rest.result column) (has c.loop-tier.rest column)
-            (has c.args.class.now column) kinds column form tier next w.alone.result _ c.loop-tier-test.true
+        columns = λ column. reads_more (has w.narrowed-rest.result column)
+            (has c.loop-tier.rest column) kinds column form tier next w.alone.result _ c.loop-tier-test.true
             (sym c.is_input.ensures ∙ w.if-is_input.true)
             (omega (arith, c.loop-tier.invariant.within, w.if-next-form.false)) w.alone.ensures.value
             (w.narrowed-rest.ensures.columns column) (c.loop-tier.invariant.columns column);
@@ -23,8 +23,8 @@ loop-tier-preserved c =
       | else-is_input w ↦ rw (w.rest-is, w.next-is) (record {
         width = c.loop-tier.invariant.width;
         within = c.loop-tier.invariant.within;
-        columns = λ column. reads_same (has c.loop-tier.rest column)
-            (has c.args.class.now column) kinds column form tier next _ c.loop-tier-test.true (sym c.is_input.ensures
+        columns = λ column. reads_same
+            (has c.loop-tier.rest column) kinds column form tier next _ c.loop-tier-test.true (sym c.is_input.ensures
             ∙ w.if-is_input.false)
             (c.loop-tier.invariant.columns column);
       })
@@ -32,7 +32,7 @@ loop-tier-preserved c =
 
 pub returns-then-next-form-2-clause-columns : goal.returns-then-next-form-2-clause-columns
 returns-then-next-form-2-clause-columns c column =
-    reads_none (has c.nothing-then-next-form-2.result column) (has c.loop-tier.rest column)
-    (has c.args.class.now column) c.args.kinds.now column c.args.form.now c.loop-tier.tier c.loop-tier.next
+    reads_none (has c.nothing-then-next-form-2.result column)
+        (has c.loop-tier.rest column) c.args.kinds.now column c.args.form.now c.loop-tier.tier c.loop-tier.next
     c.loop-tier-test.false c.if-next-form-2.true (c.nothing-then-next-form-2.ensures.columns column)
     (c.loop-tier.invariant.columns column)

@@ -1,6 +1,6 @@
 use Rattle.std.proofs.Common.{sym, ◌∙◌}
 use Rattle.tier_core.specs.Kinds.{phase_at}
-use Rattle.kind_moves.proofs.PhaseMaskSteps.{met_told}
+use Rattle.violation.proofs.KindBits.{met_at}
 use Rattle.kind_moves.proofs.PhaseParts.{phased_none, phased_more, phased_same}
 use Rattle.kind_moves.proofs.parting.parts_by_phases.Goals as goal
 use Rattle.kind_moves.proofs.parting.parts_by_phases.Goals.{then-is_stretch+in_ok-parts, else-is_stretch}
@@ -20,7 +20,7 @@ loop-constraint-preserved c =
           c.args.classes.items c.loop-constraint.parts.items w.in_ok-parts.parts.items
           item c.loop-constraint.invariant c.loop-constraint-test.true c.constraint-item.is (sym c.is_stretch.ensures
           ∙ w.if-is_stretch.true)
-          (w.in_ok-parts.ensures (phase_at kind next) (w.has_bit-was_met.ensures ∙ met_told kind next)))
+          (w.in_ok-parts.ensures (phase_at kind next) (w.has_bit-was_met.ensures ∙ met_at kind next)))
       | else-is_stretch w ↦ rw (w.parts-is, w.next-is) (phased_same c.args.width c.args.constraints.now kind
           c.loop-constraint.constraint-index next c.args.classes.items c.loop-constraint.parts.items
           item c.loop-constraint.invariant c.loop-constraint-test.true c.constraint-item.is (sym c.is_stretch.ensures

@@ -1,7 +1,8 @@
 use Rattle.std.proofs.Common.{sym, ◌∙◌}
 use Rattle.tier_core.specs.Kinds.{phase_at}
+use Rattle.violation.proofs.KindBits.{met_at}
+use Rattle.violation.proofs.NextPhases.{next_more, next_same, next_all}
 use Rattle.kind_moves.specs.Phases.{phase_of}
-use Rattle.kind_moves.proofs.PhaseMaskSteps.{met_told, next_more, next_same, next_all}
 use Rattle.kind_moves.proofs.phase.next_phases.Goals as goal
 use Rattle.kind_moves.proofs.phase.next_phases.Goals.{then-is_stretch, else-is_stretch}
 
@@ -29,7 +30,7 @@ loop-constraint-preserved c =
                 ∙ w.is_met.ensures;
             others = w.with_bit-met.ensures.others;
           })
-          (w.phase_after-phase.ensures (phase_at kind next) (w.has_bit.ensures ∙ met_told kind next)))
+          (w.phase_after-phase.ensures (phase_at kind next) (w.has_bit.ensures ∙ met_at kind next)))
       | else-is_stretch w ↦ rw (w.unmet-is, w.met-is, w.next-is)
           (next_same c.args.constraints.now kind c.args.column.now c.loop-constraint.constraint-index next
           c.loop-constraint.unmet c.loop-constraint.met

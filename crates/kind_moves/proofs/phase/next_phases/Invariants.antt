@@ -1,4 +1,4 @@
-use Rattle.kind_moves.proofs.PhaseMaskSteps.{AreNext}
+use Rattle.violation.proofs.NextPhases.{AreNext}
 use Rattle.kind_moves.proofs.phase.next_phases.Given as goal
 
 abbrev pub invariant-loop-constraint : goal.invariant-loop-constraint

@@ -3,7 +3,8 @@ use Rattle.answer_text.specs.declared.automaton.ArcLine.{ArcLine}
 use Rattle.answer_text.specs.Right.{arc_cmp}
 use Rattle.symbol_class.specs.Held.{width_of, ArePieces}
 use Rattle.kind_orders.specs.AutomatonLines.{line_of, move_classes}
-use Rattle.kind_orders.specs.JoinedLines.{classes_of, AreJoinedFrom}
+use Rattle.answer_text.specs.ArcClasses.{arc_classes}
+use Rattle.kind_orders.specs.JoinedLines.{AreJoinedFrom}
 use Rattle.kind_orders.proofs.ArcOrder.{lines_are_pieces}
 use Rattle.kind_orders.proofs.GroupSteps.{pieces_permuted, joined_permuted}
 use Rattle.kind_orders.proofs.arcs.arc_lines.Goals as goal
@@ -12,7 +13,7 @@ pub joined_lines-requires-clause-pieces : goal.joined_lines-requires-clause-piec
 joined_lines-requires-clause-pieces c =
     let moves = c.args.moves.now in
     let lines = map (line_of c.args.nodes.now) moves in
-    subst (λ (ls : List ArcLine). ArePieces (width_of (classes_of ls)) (classes_of ls)) (sym c.deref.ensures.value)
+    subst (λ (ls : List ArcLine). ArePieces (width_of (arc_classes ls)) (arc_classes ls)) (sym c.deref.ensures.value)
     (pieces_permuted (width_of (move_classes moves)) lines c.in_ok-lines.lines.items c.in_ok-lines.ensures.same
     (lines_are_pieces c.args.nodes.now moves (width_of (move_classes moves)) c.requires.pieces))
 

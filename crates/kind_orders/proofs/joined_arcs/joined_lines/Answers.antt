@@ -3,12 +3,13 @@ use Rattle.std.proofs.lemmas.Bool.{cases_eq}
 use Rattle.tier_core.specs.declared.class.Class.{Class}
 use Rattle.symbol_class.specs.Held.{width_of, ArePieces}
 use Rattle.symbol_class.proofs.JoinedClasses.{pieces_of_width}
-use Rattle.kind_orders.specs.JoinedLines.{classes_of, AddsJoined}
+use Rattle.answer_text.specs.ArcClasses.{arc_classes}
+use Rattle.kind_orders.specs.JoinedLines.{AddsJoined}
 use Rattle.kind_orders.proofs.GroupSteps.{AreJoinedSoFar, same_group, other_group, lines_joined, arcs_rise}
 use Rattle.kind_orders.proofs.joined_arcs.joined_lines.Goals as goal
 
 pub group_after-requires : goal.group_after-requires
-group_after-requires c = pieces_of_width (width_of (classes_of c.args.lines.now)) c.loop-line.group.classes.items
+group_after-requires c = pieces_of_width (width_of (arc_classes c.args.lines.now)) c.loop-line.group.classes.items
     c.loop-line.invariant.pieces
 
 pub loop-line-preserved : goal.loop-line-preserved
@@ -33,7 +34,7 @@ loop-line-preserved c =
 
 pub push_joined-requires : goal.push_joined-requires
 push_joined-requires c = subst (λ (cs : List Class). ArePieces (width_of cs) cs) (sym c.deref.ensures.value)
-    (pieces_of_width (width_of (classes_of c.args.lines.now)) c.loop-line.group.classes.items
+    (pieces_of_width (width_of (arc_classes c.args.lines.now)) c.loop-line.group.classes.items
     c.loop-line.invariant.pieces)
 
 pub returns-clause-joined : goal.returns-clause-joined

@@ -1,6 +1,6 @@
 use Rattle.std.proofs.Common.{◌≡◌, ◌<◌, length, arith}
 use Rattle.std.proofs.lemmas.Bool.Decides.{nat_tests}
-use Rattle.kind_orders.specs.KindOrders.{empty_kind}
+use Rattle.tier_core.specs.EmptyKind.{empty_kind}
 use Rattle.kind_orders.proofs.Orders.{no_kinds}
 use Rattle.kind_orders.proofs.order.ordered.Goals as goal
 

@@ -4,7 +4,7 @@ use Rattle.tier_core.specs.Kinds.{kind_order}
 use Rattle.kind_orders.specs.KindOrders.{told}
 use Rattle.symbol_class.proofs.Pairs.{sorted_by_closure}
 use Rattle.kind_orders.proofs.Orders.{is_kind_order}
-use Rattle.kind_orders.proofs.Strict.{kind_order_total}
+use Rattle.tier_core.proofs.KindTies.{kind_order_total}
 use Rattle.kind_orders.proofs.order.sorted_numbers.Goals as goal
 
 pub returns : goal.returns

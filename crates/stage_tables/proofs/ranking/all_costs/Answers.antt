@@ -1,6 +1,6 @@
 use Rattle.std.proofs.Common.{◌≡◌, ℕ, ◌+◌, ◌-◌, List, length, get_or, ap, ◌∙◌, arith}
+use Rattle.grammar_reader.proofs.OverTiers.{few_constraints}
 use Rattle.kind_moves.specs.Frames.{kind_at_stage, problem_in}
-use Rattle.kind_moves.proofs.GrammarTiers.{few_constraints}
 use Rattle.violation.specs.Moves.{move_costs}
 use Rattle.stage_tables.specs.Ranking.{costs_at}
 use Rattle.stage_tables.proofs.FirstParts.{none_first, next_first, all_first, costs_long}

@@ -2,14 +2,13 @@ use Rattle.std.proofs.Common.{◌≡◌, ◌∷◌, [], ◌++◌, ℕ, List, map
 use Rattle.std.proofs.lemmas.List.{map_push, take_more}
 use Rattle.std.proofs.lemmas.List.Elements.{All-push}
 use Rattle.tier_core.specs.declared.constraint.Constraint.{Constraint}
-use Rattle.tier_core.specs.Tables.{tiers_of_table}
 use Rattle.violation.specs.Candidates.{IsCandidate}
 use Rattle.violation.specs.Conditions.{IsCountable}
 use Rattle.tableau.specs.declared.table.TableauRow.{TableauRow}
 use Rattle.tableau.specs.Compared.{IsCompared}
 use Rattle.tableau.specs.Tableaux.{IsTableauRow}
 use Rattle.tableau.proofs.Comparing.{compared_row}
-use Rattle.tableau.proofs.Countable.{all_countable}
+use Rattle.grammar_reader.proofs.OverTiers.{all_countable}
 use Rattle.tableau.proofs.make.rows_of.Goals as goal
 use Rattle.violation.specs.Problems.{asked}
 

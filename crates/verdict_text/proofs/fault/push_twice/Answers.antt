@@ -5,4 +5,4 @@ pub returns-in_err-push_numbered : goal.returns-in_err-push_numbered
 returns-in_err-push_numbered g c = stop c.from_residual.ensures.1 (cut _ c.in_err-push_numbered.ensures)
 
 pub returns : goal.returns
-returns g c = c.in_ok-push_numbered.ensures ▹ c.push_column.ensures
+returns g c = c.in_ok-push_numbered.ensures ▹ c.push_column_after_space.ensures

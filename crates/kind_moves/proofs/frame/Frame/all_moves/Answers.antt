@@ -10,7 +10,7 @@ use Rattle.kind_moves.specs.Fitting.{AreFitting}
 use Rattle.kind_moves.specs.Frames.{tiers_in}
 use Rattle.kind_moves.specs.Leaving.{AddsLeaving}
 use Rattle.kind_moves.specs.Pieces.{classes_of, IsPiece}
-use Rattle.kind_moves.proofs.FittingSteps.{first_true, still_by, bare_by, still_fits, read_here, read_fits, are_fitting}
+use Rattle.kind_moves.proofs.FittingSteps.{IsParted, still_by, bare_by, still_fits, read_here, read_fits, are_fitting}
 use Rattle.kind_moves.proofs.LeavingPieces.{classes_added, leaving_pieces}
 use Rattle.kind_moves.proofs.frame.Frame.all_moves.Goals as goal
 use Rattle.kind_moves.proofs.frame.Frame.all_moves.Goals.{In_ok-push_leaving-2}
@@ -22,24 +22,35 @@ first c = subst (λ (ps : List Piece). AddsLeaving c.args.self.now c.args.kind.n
     c.push_leaving.new.pieces.items (λ column. once_if (has c.without_input-still.result column
     && not (has c.edgeless.result column)))) c.new-pieces.ensures.items c.in_ok-push_leaving.ensures
 
+parted : (c : In_ok-push_leaving-2) → IsParted c.args.self.now c.args.kind.now c.args.class.now
+    c.following-following.result c.without_input-still.result c.edgeless.result c.open_at.result
+    (has c.reading-read.result)
+parted c =
+    let frame = c.args.self.now in
+    let class = c.args.class.now in
+    let still = c.without_input-still.result in
+    let wide = c.without_input-still.ensures.width ∙ c.following-following.ensures.width in
+    record {
+      wide = c.requires.width;
+      opened = c.open_at.ensures;
+      follows = c.following-following.ensures.columns;
+      has_still = still_by frame c.following-following.result still _ c.as_slice.ensures.value
+          c.without_input-still.ensures.columns;
+      has_bare = bare_by class still c.edgeless.result wide c.edgeless.ensures.columns;
+      has_read = c.reading-read.ensures.columns;
+    }
+
 fitting : (c : In_ok-push_leaving-2) → AreFitting c.args.self.now 0 c.args.kind.now c.args.class.now
     (classes_of c.push_leaving-2.new.pieces.items)
 fitting c =
     let frame = c.args.self.now in
     let kind = c.args.kind.now in
-    let class = c.args.class.now in
-    let following = c.following-following.result in
     let still = c.without_input-still.result in
     let bare = c.edgeless.result in
     let read = c.reading-read.result in
     let mid = c.push_leaving.new.pieces.items in
     let new = c.push_leaving-2.new.pieces.items in
-    let wide = c.without_input-still.ensures.width ∙ c.following-following.ensures.width in
-    are_fitting frame kind class following still bare c.open_at.result (has read) c.requires.width c.open_at.ensures
-    c.following-following.ensures.columns
-    (still_by frame following still _ c.as_slice.ensures.value c.without_input-still.ensures.columns)
-    (bare_by class still bare wide c.edgeless.ensures.columns) c.reading-read.ensures.columns
-    (tiers_in frame).width (classes_of mid) (classes_of new) refl (tiers_in frame).width refl
+    are_fitting (parted c) (tiers_in frame).width (classes_of mid) (classes_of new) refl (tiers_in frame).width refl
     (classes_added frame kind.place [] mid (λ column. once_if (has still column && not (has bare column))) (first c))
     (classes_added frame (kind.place + 1) mid new (λ column. once_if (has read column && not (has still column)))
     c.in_ok-push_leaving-2.ensures)
@@ -55,38 +66,27 @@ pub returns-clause-each : goal.returns-clause-each
 returns-clause-each c =
     let frame = c.args.self.now in
     let kind = c.args.kind.now in
-    let class = c.args.class.now in
     let following = c.following-following.result in
     let still = c.without_input-still.result in
     let bare = c.edgeless.result in
     let read = c.reading-read.result in
     let mid = c.push_leaving.new.pieces.items in
     let new = c.push_leaving-2.new.pieces.items in
-    let wide = c.without_input-still.ensures.width ∙ c.following-following.ensures.width in
-    let has_still = still_by frame following still _ c.as_slice.ensures.value
-    c.without_input-still.ensures.columns in
-    let has_bare = bare_by class still bare wide c.edgeless.ensures.columns in
     let nothing_first : All (IsPiece frame 0 0 kind) [] = All-nil (IsPiece frame 0 0 kind) in
     leaving_pieces frame kind (kind.place + 1) true mid new (λ column. has read column && not (has still column))
     c.requires.fits refl
     (λ column h. (
-      (read_fits frame kind class following still bare c.open_at.result (has read) c.requires.width
-          c.open_at.ensures c.following-following.ensures.columns has_still has_bare
-          c.reading-read.ensures.columns 0 column h).1,
-      read_here frame kind class following still bare c.open_at.result (has read) c.requires.width
-          c.open_at.ensures c.following-following.ensures.columns has_still has_bare
-          c.reading-read.ensures.columns column ((c.reading-read.ensures.columns column).0
-          (first_true (has read column) (not (has still column)) h)).0 h,
+      (read_fits (parted c) 0 column h).1,
+      read_here (parted c) column ((c.reading-read.ensures.columns column).0
+          (and_parts (has read column) (not (has still column)) h).0).0 h,
     ))
     c.in_ok-push_leaving-2.ensures
     (leaving_pieces frame kind kind.place false [] mid (λ column. has still column && not (has bare column))
     c.requires.fits (omega arith)
     (λ column h. (
-      (still_fits frame kind class following still bare c.open_at.result (has read) c.requires.width
-          c.open_at.ensures c.following-following.ensures.columns has_still has_bare
-          c.reading-read.ensures.columns 0 column h).1,
+      (still_fits (parted c) 0 column h).1,
       not-true (has_edge (input_of (tiers_in frame) column)) (and_parts (has following column)
-          (not (has_edge (input_of (tiers_in frame) column))) (sym (has_still column)
-          ∙ first_true (has still column) (not (has bare column)) h)).1,
+          (not (has_edge (input_of (tiers_in frame) column))) (sym ((parted c).has_still column)
+          ∙ (and_parts (has still column) (not (has bare column)) h).0)).1,
     ))
     (first c) nothing_first)

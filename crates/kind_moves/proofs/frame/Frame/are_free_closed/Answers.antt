@@ -1,4 +1,4 @@
-use Rattle.kind_moves.proofs.KindBits.{no_lowest}
+use Rattle.kind_moves.proofs.MaskSteps.{no_lowest}
 use Rattle.kind_moves.proofs.frame.Frame.are_free_closed.Goals as goal
 
 pub returns : goal.returns

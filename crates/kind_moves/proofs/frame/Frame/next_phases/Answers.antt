@@ -2,8 +2,8 @@ use Rattle.std.proofs.Common.{◌≡◌, ℕ, ◌<◌, take, length, length-take
 use Rattle.std.proofs.lemmas.List.{get_or-take}
 use Rattle.std.proofs.lemmas.List.Elements.{All-from_recursion}
 use Rattle.tier_core.specs.declared.constraint.Constraint.{Constraint}
+use Rattle.grammar_reader.proofs.OverTiers.{over_tiers}
 use Rattle.violation.specs.Conditions.{IsOverTiers}
-use Rattle.kind_moves.proofs.GrammarTiers.{over_tiers}
 use Rattle.kind_moves.proofs.frame.Frame.next_phases.Goals as goal
 
 pub next_phases-requires-clause-over : goal.next_phases-requires-clause-over

@@ -1,6 +1,5 @@
 -- Masks of phases that a loop makes constraint by constraint.
-use Rattle.std.proofs.Common.{◌≡◌, ℕ, ◌+◌, ◌^◌, ◌<◌, ◌≤◌, ◌&&◌, Bool, true, false, cond, List, [], ◌∷◌, ◌++◌, map, filter, take, length, get_or, refl, ap, sym, ◌∙◌, subst, arith, ⊎_elim, bit_and}
-use Rattle.std.specs.List.{range_with_len}
+use Rattle.std.proofs.Common.{◌≡◌, ℕ, ◌+◌, ◌^◌, ◌<◌, ◌≤◌, ◌&&◌, Bool, true, false, cond, List, [], ◌∷◌, ◌++◌, filter, take, length, get_or, refl, ap, sym, ◌∙◌, subst, arith, ⊎_elim, bit_and}
 use Rattle.std.proofs.lemmas.Bool.{cases_lt}
 use Rattle.std.proofs.lemmas.List.{length_push, append-nil, take_all}
 use Rattle.std.proofs.lemmas.List.Elements.{filter_more}
@@ -11,17 +10,11 @@ use Rattle.tier_core.specs.declared.constraint.Constraint.{Constraint}
 use Rattle.tier_core.specs.Kinds.{Phase, closed, phase_by_bits, phase_at, phases}
 use Rattle.tier_core.specs.Tiers.{has_tier}
 use Rattle.tier_core.specs.Sides.{is_stretch}
+use Rattle.tier_core.specs.PhaseBits.{phases_by, told_at}
 use Rattle.tier_core.proofs.KindLemmas.{not_both}
+use Rattle.tier_core.proofs.MaskBits.{apart_from, none_from}
 use Rattle.violation.specs.Moves.{is_unmet_phase, is_met_phase, next_phase, next_phases}
-use Rattle.cert_check.proofs.BitSteps.{apart_from, phase_told, one_of, none_from}
-
--- the phase of a stretch implication, by the masks of those that are unmet and met
-abbrev told_at : ℕ → ℕ → ℕ → Phase
-told_at unmets mets i = phase_by_bits (has_tier unmets i) (has_tier mets i)
-
--- the phases of the first n stretch implications
-abbrev pub phases_by : ℕ → ℕ → ℕ → List Phase
-phases_by n unmets mets = map (told_at unmets mets) (range_with_len 0 n)
+use Rattle.violation.proofs.KindBits.{phase_told, one_of}
 
 -- ---- one bit more
 
@@ -54,20 +47,10 @@ module _ (u m n u' m' : ℕ) (phase : Phase) (hu : HasMore u n (is_unmet_phase p
   told_here = ap (λ b. phase_by_bits b (has_tier m' n)) hu.here ∙ ap (phase_by_bits (is_unmet_phase phase)) hm.here
       ∙ phase_told phase
 
--- whether the bit of `met` is set tells whether the phase is met, where no bit of `unmet` stands beside it
-pub met_told : (kind : Kind) (i : ℕ) → has_tier kind.met i ≡ is_met_phase (phase_at kind i)
-met_told kind i = by (has_tier kind.unmet i) (has_tier kind.met i)
-  where
-    by : (a b : Bool) → b ≡ is_met_phase (phase_by_bits a b)
-    by true true = refl
-    by true false = refl
-    by false true = refl
-    by false false = refl
-
-next_append : (cs : List Constraint) (ps : List Phase) (c : Constraint) (p : Phase) (column : List Sym) → length ps
-    ≡ length cs
-    → next_phases (cs ++ c ∷ []) (ps ++ p ∷ []) column
-    ≡ next_phases cs ps column ++ next_phase c.left c.right p column ∷ []
+pub next_append : (cs : List Constraint) (ps : List Phase) (c : Constraint) (p : Phase) (column : List Sym)
+    → length ps ≡ length cs
+    → next_phases (cs ++ c ∷ []) (ps ++ p ∷ []) column ≡ next_phases cs ps column ++ next_phase c.left c.right p
+    column ∷ []
 next_append [] [] c p column e = refl
 next_append [] (q ∷ ps) c p column e = absurd (omega arith)
 next_append (d ∷ cs) [] c p column e = absurd (omega arith)
@@ -85,8 +68,8 @@ pub record AreNext (cs : List Constraint) (kind : Kind) (column : List Sym) (n n
 
 pub next_more : (cs : List Constraint) (kind : Kind) (column : List Sym) (n next u m u' m' : ℕ) (c : Constraint)
     (phase : Phase) → AreNext cs kind column n next u m → n < length cs → c ≡ get_or cs n c → is_stretch c ≡ true
-    → HasMore u next (is_unmet_phase phase) u' → HasMore m next (is_met_phase phase) m' → phase
-    ≡ next_phase c.left c.right (phase_at kind next) column
+    → HasMore u next (is_unmet_phase phase) u' → HasMore m next (is_met_phase phase) m'
+    → phase ≡ next_phase c.left c.right (phase_at kind next) column
     → AreNext cs kind column (n + 1) (next + 1) u' m'
 next_more cs kind column n next u m u' m' c phase a l is h hu hm here =
     let fs = filter is_stretch (take n cs) in
@@ -106,8 +89,7 @@ next_more cs kind column n next u m u' m' c phase a l is h hu hm here =
       met_within = hm.within;
       told = map-range_with_len_more (told_at u' m') 0 next next (omega arith)
           ∙ ap (λ ps. ps ++ told_at u' m' next ∷ []) (sym same ∙ a.told)
-          ∙ ap (λ p. next_phases fs (phases next kind) column ++ p ∷ [])
-          (told_here u m next u' m' phase hu hm ∙ here)
+          ∙ ap (λ p. next_phases fs (phases next kind) column ++ p ∷ []) (told_here u m next u' m' phase hu hm ∙ here)
           ∙ sym (ap (λ x. next_phases x (phases (next + 1) kind) column) more
           ∙ ap (λ ps. next_phases (fs ++ c ∷ []) ps column)
           (map-range_with_len_more (phase_at kind) 0 next next (omega arith))
@@ -133,8 +115,8 @@ next_same cs kind column n next u m c a l is h =
 
 -- the masks tell the next phases of all
 pub record AreAllNext (cs : List Constraint) (kind : Kind) (column : List Sym) (u m : ℕ) : Type 0 where
-  pub told : phases_by (length (filter is_stretch cs)) u m
-      ≡ next_phases (filter is_stretch cs) (phases (length (filter is_stretch cs)) kind) column
+  pub told : phases_by (length (filter is_stretch cs)) u m ≡ next_phases (filter is_stretch cs)
+      (phases (length (filter is_stretch cs)) kind) column
   pub unmet_within : u < 2 ^ length (filter is_stretch cs)
   pub met_within : m < 2 ^ length (filter is_stretch cs)
 

@@ -1,17 +1,17 @@
 -- What a move costs under one of its constraints.
-use Rattle.std.proofs.Common.{◌≡◌, ℕ, zero, suc, ◌^◌, ◌<◌, ◌&&◌, Bool, true, false, cond, List, [], ◌∷◌, filter, take, drop, length, get_or, refl, ap, sym, ◌∙◌, subst, arith, ⊎_elim}
+use Rattle.std.proofs.Common.{◌≡◌, ℕ, zero, suc, ◌^◌, ◌<◌, Bool, true, false, cond, List, [], ◌∷◌, filter, take, drop, length, get_or, refl, ap, sym, ◌∙◌, subst, arith, ⊎_elim}
 use Rattle.std.proofs.lemmas.Bool.{cases_lt}
 use Rattle.std.proofs.lemmas.List.{get_or_past}
 use Rattle.std.proofs.lemmas.List.FromFn.{length-map-range_with_len, get_or-map-range_with_len}
 use Rattle.tier_core.specs.declared.kind.Kind.{Kind}
 use Rattle.tier_core.specs.declared.sym.Sym.{Sym}
 use Rattle.tier_core.specs.declared.constraint.Constraint.{Constraint}
-use Rattle.tier_core.specs.Kinds.{Phase, closed, phase_by_bits, phase_at, phases}
+use Rattle.tier_core.specs.Kinds.{Phase, closed, phase_at, phases}
 use Rattle.tier_core.specs.Tiers.{has_tier}
 use Rattle.tier_core.specs.Sides.{is_stretch}
-use Rattle.tier_core.proofs.KindLemmas.{not_both}
+use Rattle.tier_core.proofs.MaskBits.{none_from}
 use Rattle.violation.specs.Moves.{costs, costs_each, first_phase, is_unmet_phase}
-use Rattle.kind_moves.proofs.MaskSteps.{none_from}
+use Rattle.violation.proofs.KindBits.{unmet_at}
 
 drop_none : (n : ℕ) → drop n (let ps : List Phase = [] in ps) ≡ []
 drop_none zero = refl
@@ -53,17 +53,7 @@ cost_from (c ∷ cs) o ps column (suc i) d l = by (is_stretch c) (λ qs. cost_fr
     by true h = subst (Rest (drop 1 ps)) (drop_one (length fs) ps) (h (drop 1 ps))
     by false h = h ps
 
--- the bit of `unmet` tells whether the phase is unmet
-pub unmet_at : (kind : Kind) (i : ℕ) → has_tier kind.unmet i ≡ is_unmet_phase (phase_at kind i)
-unmet_at kind i = by (has_tier kind.unmet i) (has_tier kind.met i) (not_both kind.unmet kind.met i kind.apart)
-  where
-    by : (a b : Bool) → (a && b) ≡ false → a ≡ is_unmet_phase (phase_by_bits a b)
-    by true true e = e
-    by true false e = refl
-    by false true e = refl
-    by false false e = refl
-
--- also past the last
+-- the bit of `unmet` tells whether the phase is unmet, also past the last
 pub unmet_told : (kind : Kind) (m n : ℕ) → kind.unmet < 2 ^ m
     → has_tier kind.unmet n ≡ is_unmet_phase (first_phase (drop n (phases m kind)))
 unmet_told kind m n few =

@@ -1,26 +1,12 @@
 -- A list without repeats whose members are in another list is no longer than that.
-use Rattle.std.proofs.Common.{◌≡◌, ◌≢◌, ℕ, zero, suc, ◌<◌, ◌≤◌, false, List, [], ◌∷◌, map, length, get_or, refl, sym, ap, ◌∙◌, subst, arith, ne_eqb, eqb, Contains}
+use Rattle.std.proofs.Common.{◌≡◌, ◌≢◌, ℕ, zero, suc, ◌<◌, ◌≤◌, false, List, [], ◌∷◌, length, get_or, refl, sym, ap, ◌∙◌, arith, ne_eqb, eqb, Contains}
 use Rattle.std.specs.List.{AllByRecursion, AllPairs, IsDistinct}
-use Rattle.std.specs.List.Sorted.{IsStrictlySortedBy}
-use Rattle.std.specs.Ordering.{nat_cmp, ordering_then, is_lt}
-use Rattle.std.specs.Cmp.{nat_cmp_is}
-use Rattle.std.specs.Cmp.Lexicographic.{slice_cmp}
-use Rattle.std.specs.declared.cmp.Ordering.TheVariants.{Less, Equal}
-use Rattle.std.proofs.lemmas.Bool.{eqb-true, false≢true}
+use Rattle.std.proofs.lemmas.Bool.{eqb-true}
 use Rattle.std.proofs.lemmas.List.{get_or_default}
 use Rattle.std.proofs.lemmas.List.Elements.{All-from_recursion, recursion_from_All}
 use Rattle.std.proofs.lemmas.Map.Steps.{length-le_from_distinct_below}
 use Rattle.std.proofs.lemmas.Map.Views.{Contains-from_any}
-use Rattle.tier_core.specs.Kinds.{PrefixKind, kind_order, open_rank, phase_rank, open_order, phase_order}
-use Rattle.kind_laws.proofs.Sets.{first_in, later_in, one_of}
-
-pub all_in : {X : Type 0} (P : X → Type 0) (xs : List X) → ((x : X) → Contains xs x → P x) → AllByRecursion P xs
-all_in P [] h = tt
-all_in P (x ∷ xs) h = (h x (first_in x xs), all_in P xs (λ y m. h y (later_in x xs y m)))
-
-pub at_member : {X : Type 0} (P : X → Type 0) (xs : List X) (x : X) → AllByRecursion P xs → Contains xs x → P x
-at_member P [] x a h = absurd (omega (arith, h.1))
-at_member P (y ∷ ys) x a h = one_of y ys x (P x) (λ e. subst P e a.0) (λ m. at_member P ys x a.1 m) h
+use Rattle.tier_core.proofs.Members.{all_from_members, all_at_member}
 
 -- no member is the same as a later one
 abbrev pub Differ : {X : Type 0} → List X → Type 0
@@ -72,38 +58,9 @@ module _ {X : Type 0} (ys : List X) where
 
   pub no_longer : (xs : List X) → ((x : X) → Contains xs x → Contains ys x) → Differ xs → length xs ≤ length ys
   no_longer xs inside d =
-      let h : AllByRecursion (Contains ys) xs = all_in (Contains ys) xs inside in
+      let h : AllByRecursion (Contains ys) xs = all_from_members (Contains ys) xs inside in
       let few : length (places xs h) ≤ length ys =
       length-le_from_distinct_below (places xs h) (length ys) (places_differ xs h d)
-      (λ q e. at_member (λ n. n < length ys) (places xs h) q (places_below xs h)
+      (λ q e. all_at_member (λ n. n < length ys) (places xs h) q (places_below xs h)
       (Contains-from_any (λ x y h. eqb-true x y h) q (places xs h) e)) in
       omega (arith, few, place_count xs h)
-
-same_list : (ns : List ℕ) → slice_cmp nat_cmp ns ns ≡ Equal
-same_list [] = refl
-same_list (n ∷ ns) =
-    ap (λ o. ordering_then o (slice_cmp nat_cmp ns ns)) (sym (nat_cmp_is n n Equal refl)) ∙ same_list ns
-
--- no kind comes before itself
-not_below : (k : PrefixKind) → kind_order k k ≡ Less → ⊥
-not_below k l =
-    let same : kind_order k k ≡ Equal =
-    ap (λ o. ordering_then o (ordering_then (open_order k.opened k.opened) (phase_order k.phases k.phases)))
-    (sym (nat_cmp_is k.place k.place Equal refl))
-    ∙ ap (λ o. ordering_then o (phase_order k.phases k.phases)) (same_list (map open_rank k.opened))
-    ∙ same_list (map phase_rank k.phases) in
-    false≢true (sym (ap is_lt same) ∙ ap is_lt l)
-
-ascending_differ : (ks : List PrefixKind) → IsStrictlySortedBy kind_order ks → Differ ks
-unfolding IsStrictlySortedBy
-ascending_differ [] a = tt
-ascending_differ (k ∷ ks) a = (
-  all_in (λ l. k ≢ l) ks
-      (λ l m e. not_below k (ap (kind_order k) e ∙ at_member (λ l. kind_order k l ≡ Less) ks l a.0 m)),
-  ascending_differ ks a.1,
-)
-
--- kinds that ascend are no more than the names among which they are
-pub ascending_few : (ks names : List PrefixKind) → IsStrictlySortedBy kind_order ks
-    → ((k : PrefixKind) → Contains ks k → Contains names k) → length ks ≤ length names
-ascending_few ks names a inside = no_longer names ks inside (ascending_differ ks a)

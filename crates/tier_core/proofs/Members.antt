@@ -1,9 +1,10 @@
--- Members of lists that are made of lists.
-use Rattle.std.proofs.Common.{◌≡◌, ◌⊎◌, Bool, true, false, cond, List, [], ◌∷◌, filter, refl, ap, sym, ◌∙◌, subst, arith, ⊎_elim, Contains}
+-- Members of lists and of lists that are made of lists, and what holds of each.
+use Rattle.std.proofs.Common.{◌≡◌, ◌⊎◌, ℕ, zero, suc, ◌<◌, Bool, true, false, cond, List, [], ◌∷◌, map, filter, take, length, get_or, refl, ap, sym, ◌∙◌, subst, arith, ⊎_elim, All, Contains}
 use Rattle.std.proofs.Math.Logic.{⊎_map}
 use Rattle.std.specs.List.{flat_map, AllByRecursion}
 use Rattle.std.proofs.lemmas.Bool.{false≢true}
-use Rattle.std.proofs.lemmas.List.Elements.{Contains-append_left, Contains-append_right, Contains-append_cases, Contains-push_cases}
+use Rattle.std.proofs.lemmas.List.{get_or-map, length-map}
+use Rattle.std.proofs.lemmas.List.Elements.{Contains-get_or, Contains-append_left, Contains-append_right, Contains-append_cases, Contains-push_cases}
 
 pub contains_none : {X : Type 0} (x : X) → Contains [] x → ⊥
 contains_none x h = absurd (omega (arith, h.1))
@@ -57,6 +58,18 @@ contains_of_kept p (y ∷ ys) x h = go (contains_of_kept p ys x) (p y) refl h
         (λ n. let r = more n in (contains_later y ys x r.0, r.1)) (contains_cases y (filter p ys) x m)
     go more false e m = let r = more m in (contains_later y ys x r.0, r.1)
 
+pub contains_map : {X Y : Type 0} (f : X → Y) (xs : List X) (x : X) → Contains xs x → Contains (map f xs) (f x)
+contains_map f xs x h = (h.0, omega (arith, length-map xs f, h.1), get_or-map f xs h.0 x (f x) h.1 ∙ ap f h.2)
+
+pub contains_of_map : {X Y : Type 0} (f : X → Y) (xs : List X) (y : Y) → Contains (map f xs) y
+    → (x : X) × (Contains xs x × (f x ≡ y))
+contains_of_map f [] y h = absurd (omega (arith, h.1))
+contains_of_map f (x ∷ xs) y h =
+    let inside : h.0 < length (x ∷ xs) = omega (arith, length-map (x ∷ xs) f, h.1) in
+    (get_or (x ∷ xs) h.0 x, (Contains-get_or (x ∷ xs) h.0 x inside, sym (get_or-map f (x ∷ xs) h.0 x y inside) ∙ h.2))
+
+-- ---- what holds of each
+
 -- what holds of each member
 pub all_from_members : {X : Type 0} (P : X → Type 0) (xs : List X) → ((x : X) → Contains xs x → P x)
     → AllByRecursion P xs
@@ -69,3 +82,23 @@ all_from_members P (x ∷ xs) h = (
 pub all_at_member : {X : Type 0} (P : X → Type 0) (xs : List X) (x : X) → AllByRecursion P xs → Contains xs x → P x
 all_at_member P [] x a h = absurd (contains_none x h)
 all_at_member P (y ∷ ys) x a h = ⊎_elim (λ e. subst P e a.0) (λ m. all_at_member P ys x a.1 m) (contains_cases y ys x h)
+
+pub All-from_members : {X : Type 0} (P : X → Type 0) (xs : List X) → ((x : X) → Contains xs x → P x) → All P xs
+All-from_members P xs h = λ k d l. h (get_or xs k d) (Contains-get_or xs k d l)
+
+pub all_both : {X : Type 0} (P Q : X → Type 0) (xs : List X) → AllByRecursion P xs → AllByRecursion Q xs
+    → AllByRecursion (λ x. P x × Q x) xs
+all_both P Q [] a b = tt
+all_both P Q (x ∷ xs) a b = ((a.0, b.0), all_both P Q xs a.1 b.1)
+
+-- what holds of each holds of the first that pass a test
+pub all_first : {X : Type 0} (P : X → Type 0) (test : X → Bool) (xs : List X) (n : ℕ) → AllByRecursion P xs
+    → AllByRecursion P (filter test (take n xs))
+all_first P test xs zero h = tt
+all_first P test [] (suc n) h = tt
+all_first P test (x ∷ xs) (suc n) h = own (test x) (all_first P test xs n h.1)
+  where
+    own : (b : Bool) → AllByRecursion P (filter test (take n xs))
+        → AllByRecursion P (cond b (x ∷ filter test (take n xs)) (filter test (take n xs)))
+    own true r = (h.0, r)
+    own false r = r

@@ -1,6 +1,7 @@
 ghost use Rattle.std.specs.Prelude.{◌≡◌, ◌<◌, [], ◌∷◌, ◌++◌, ◌↔◌, length, IsTrue, OnOk, OnErr, IfOk, IfErr};
 ghost use Rattle.tier_core.specs.Timelines.{column_at};
 
+use crate::NoMemory;
 use crate::column::Column;
 use std::alloc::Global;
 use std::marker::Model;

@@ -1,8 +1,7 @@
 -- Kinds that fit a frame are told apart by what their bits tell.
-use Rattle.std.proofs.Common.{◌≡◌, ℕ, ◌^◌, ◌<◌, false, cond, map, length, get_or, ap, sym, ◌∙◌, subst, arith, ⊎_elim, bit_and}
+use Rattle.std.proofs.Common.{◌≡◌, ℕ, ◌^◌, ◌<◌, false, cond, map, length, get_or, ap, sym, ◌∙◌, arith, ⊎_elim}
 use Rattle.std.specs.Int.{bit_at}
 use Rattle.std.specs.List.{range_with_len}
-use Rattle.std.proofs.Props.{props}
 use Rattle.std.proofs.lemmas.Bool.{cases_lt}
 use Rattle.std.proofs.lemmas.List.FromFn.{get_or-map-range_with_len}
 use Rattle.std.proofs.lemmas.Nat.Bits.{bit_at-lt, same_from_bits}
@@ -10,6 +9,7 @@ use Rattle.tier_core.specs.declared.kind.Kind.{Kind}
 use Rattle.tier_core.specs.Kinds.{closed, PrefixKind, phase_at, phases}
 use Rattle.tier_core.specs.Tiers.{has_tier}
 use Rattle.tier_core.proofs.KindLemmas.{bit_value}
+use Rattle.tier_core.proofs.SameKinds.{same_fields}
 use Rattle.violation.specs.Moves.{is_unmet_phase, is_met_phase}
 use Rattle.kind_moves.specs.declared.frame.Frame.{Frame}
 use Rattle.kind_moves.specs.Frames.{tiers_in, stretches_in, kind_at_stage, FitsFrame}
@@ -23,38 +23,6 @@ same_mask a b n la lb h = same_from_bits a b (λ i.
     let same : has_tier a i ≡ has_tier b i = ⊎_elim (λ l. h i l) (λ g. none_from a n i la g
     ∙ sym (none_from b n i lb g)) (cases_lt i n) in
     bit_value (bit_at a i) (bit_at-lt a i) ∙ ap (λ c. cond c 1 0) same ∙ sym (bit_value (bit_at b i) (bit_at-lt b i)))
-
--- kinds with the same fields
-same_fields : (k l : Kind) → k.place ≡ l.place → k.opened ≡ l.opened → k.unmet ≡ l.unmet → k.met ≡ l.met → k ≡ l
-same_fields k l place opened unmet met =
-    let Unmet : ℕ → Type 0 = λ u. (a : bit_and u k.met ≡ 0) → k
-    ≡ record { place = k.place; opened = k.opened; unmet = u; met = k.met; apart = a } in
-    let own : Unmet k.unmet = λ a. let one : IsProp (bit_and k.unmet k.met ≡ 0) = hlevel props in
-    ap (λ (x : bit_and k.unmet k.met ≡ 0). let r : Kind = record {
-      place = k.place;
-      opened = k.opened;
-      unmet = k.unmet;
-      met = k.met;
-      apart = x;
-    } in r) (one k.apart a) in
-    let Met : ℕ → Type 0 = λ m. (a : bit_and l.unmet m ≡ 0) → k
-    ≡ record { place = k.place; opened = k.opened; unmet = l.unmet; met = m; apart = a } in
-    let masks : Met l.met = subst Met met (subst Unmet unmet own) in
-    masks l.apart
-    ∙ ap (λ (x : ℕ). let r : Kind = record {
-      place = x;
-      opened = k.opened;
-      unmet = l.unmet;
-      met = l.met;
-      apart = l.apart;
-    } in r) place
-    ∙ ap (λ (x : ℕ). let r : Kind = record {
-      place = l.place;
-      opened = x;
-      unmet = l.unmet;
-      met = l.met;
-      apart = l.apart;
-    } in r) opened
 
 -- what is told place by place
 pub told_same : {X : Type 0} (f g : ℕ → X) (n i : ℕ) (d : X) → map f (range_with_len 0 n) ≡ map g (range_with_len 0 n)

@@ -18,7 +18,7 @@ use crate::ranked::copied;
 use crate::staged::Left;
 use answer_text::{OnceAnswer, OnceNode};
 use distances::to_final;
-use grammar_reader::{Grammar, shape};
+use grammar_reader::Grammar;
 use kind_moves::Frame;
 use kind_orders::ordered;
 use prune_best::tight;
@@ -84,9 +84,8 @@ fn single_pass(alloc: Global, frame: &Frame, found: &StageTable) -> Result<Once,
 {
     let table = ranked_table(alloc, frame, found)?;
     let least = to_final(alloc, &table)?;
-    let shape = shape(alloc, frame.grammar)?;
     let number = frame.grammar.constraints.len();
-    let order = ordered(alloc, &shape, number as u32, &found.kinds)?;
+    let order = ordered(alloc, &frame.shape, number as u32, &found.kinds)?;
     let Ok(nodes) = once_nodes(alloc, &found.kinds, &least, &order) else {
         return Err(NoMemory);
     };

@@ -9,6 +9,7 @@ ghost use Rattle.answer_text.specs.RightOnce.{IsRightOnce};
 ghost use Rattle.kind_moves.specs.Frames.{problem_in};
 ghost use Rattle.kind_orders.specs.JoinedArcs.{HaveJoinedArcs};
 ghost use Rattle.stage_tables.specs.Ranking.{IsWholeTable};
+ghost use Rattle.ranked_gen.specs.FittingKinds.{HaveFittingKindsOnce};
 ghost use Rattle.ranked_gen.specs.Once.{weight_found, once_node, IsOncePart};
 
 use crate::ending::{Ending, ending_of};
@@ -104,6 +105,7 @@ fn single_pass(alloc: Global, frame: &Frame, found: &StageTable) -> Result<Once,
 fn once_answered(alloc: Global, frame: &Frame, found: &StageTable) -> Result<OnceAnswer, NoMemory>
     requires { IsWholeTable frame.now found.now.kinds.items (states_of found.now.table) }
     ensures right { IfOk result (λ answer. IsRightOnce (problem_in frame.now) answer) }
+    ensures fitting { IfOk result (λ answer. HaveFittingKindsOnce (problem_in frame.now) answer) }
     ensures joined { IfOk result (λ answer. HaveJoinedArcs answer.automaton.states.items) }
 {
     let form = copied(alloc, frame.form)?;
@@ -127,6 +129,7 @@ fn once_in(alloc: Global, frame: &Frame, budget: u32) -> Result<OnceAnswer, GenE
     requires some { 1 ≤ budget }
     requires few_kinds { budget ≤ 65536 }
     ensures right { IfOk result (λ answer. IsRightOnce (problem_in frame.now) answer) }
+    ensures fitting { IfOk result (λ answer. HaveFittingKindsOnce (problem_in frame.now) answer) }
     ensures joined { IfOk result (λ answer. HaveJoinedArcs answer.automaton.states.items) }
     ensures within { IfOk result (λ answer. AreWholeKindsWithin (problem_in frame.now) budget) }
     ensures over { (stage : ℕ) → result ≡ Err (GenErr.Budget stage)
@@ -161,6 +164,10 @@ pub fn generate_once(
     ensures right { IfOk result
         (λ answer.
         IsRightOnce (asked grammar.now.tiers grammar.now.constraints.items form.now) answer) }
+    ensures fitting { IfOk result
+        (λ answer.
+        HaveFittingKindsOnce
+        (asked grammar.now.tiers grammar.now.constraints.items form.now) answer) }
     ensures joined { IfOk result (λ answer. HaveJoinedArcs answer.automaton.states.items) }
     ensures within { IfOk result
         (λ answer.

@@ -86,4 +86,4 @@ returns c =
     (states_of table) c.in_ok-table.ensures least c.in_ok-least.ensures shape frame.shape_of order sorted
     nodes listed
     (states_of kept.table) kept.states.items c.in_ok-kept.ensures kept.table.some kept.table.targets kept.table.filled
-    counts is
+    counts is c.requires.fit

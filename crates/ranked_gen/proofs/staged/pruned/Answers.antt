@@ -62,7 +62,8 @@ returns-clause-staged c =
     subst (λ n. IsStaged (problem_in frame) c.args.stage nodes n (states_of kept.table) kept.states.items order) first
     (staged frame c.args.stage c.requires.within kinds refl states c.requires.table least c.in_ok-least.ensures shape
     frame.shape_of order c.in_ok-order.ensures nodes listed
-    (states_of kept.table) kept.states.items c.in_ok-kept.ensures kept.table.some kept.table.targets kept.table.filled)
+    (states_of kept.table) kept.states.items c.in_ok-kept.ensures kept.table.some kept.table.targets kept.table.filled
+    c.requires.fit)
 
 pub returns-clause-kinds : goal.returns-clause-kinds
 returns-clause-kinds c =

@@ -2,7 +2,6 @@
 use Rattle.std.proofs.Common.{◌≡◌, ℕ, zero, suc, ◌+◌, ◌*◌, ◌/◌, ◌%◌, ◌^◌, ◌==◌, ◌<◌, ◌≤◌, ◌&&◌, Bool, true, false, cond, List, [], ◌∷◌, map, length, get_or, refl, ap, ap₂, sym, ◌∙◌, subst, arith, ⊎_elim, bit_and}
 use Rattle.std.specs.Int.{bit_at}
 use Rattle.std.specs.List.{range_with_len}
-use Rattle.std.proofs.Props.{props}
 use Rattle.std.proofs.Math.Nat.{pow-suc}
 use Rattle.std.proofs.lemmas.Bool.{cases_lt}
 use Rattle.std.proofs.lemmas.List.{length-map, get_or-map}
@@ -12,6 +11,7 @@ use Rattle.tier_core.specs.declared.kind.Kind.{Kind}
 use Rattle.tier_core.specs.Kinds.{Phase, closed, PrefixKind, phase_by_bits, phase_at, phases, open_tiers}
 use Rattle.tier_core.specs.Tiers.{has_tier}
 use Rattle.tier_core.proofs.KindLemmas.{bit_value, not_both}
+use Rattle.tier_core.proofs.SameKinds.{same_fields}
 use Rattle.violation.specs.Moves.{is_unmet_phase, is_met_phase}
 use Rattle.violation.specs.Prefixes.{stretches, kind_of_bits}
 use Rattle.violation.specs.Problems.{Problem}
@@ -148,23 +148,6 @@ same_mask : (a b n : ℕ) → a < 2 ^ n → b < 2 ^ n → ((i : ℕ) → i < n �
 same_mask a b n la lb h = same_from_bits_below n a b la lb (λ i l.
     bit_value (bit_at a i) (bit_at-lt a i) ∙ ap (λ c. cond c 1 0) (h i l) ∙ sym (bit_value (bit_at b i)
     (bit_at-lt b i)))
-
--- kinds with the same fields
-same_fields : (k l : Kind) → k.place ≡ l.place → k.opened ≡ l.opened → k.unmet ≡ l.unmet → k.met ≡ l.met → k ≡ l
-same_fields k l place opened unmets mets =
-    let Unmet : ℕ → Type 0 = λ u. (a : bit_and u k.met ≡ 0) → k ≡ record
-    { place = k.place; opened = k.opened; unmet = u; met = k.met; apart = a } in
-    let own : Unmet k.unmet = λ a. let one : IsProp (bit_and k.unmet k.met ≡ 0) = hlevel props in
-    ap (λ (x : bit_and k.unmet k.met ≡ 0). let r : Kind = record
-    { place = k.place; opened = k.opened; unmet = k.unmet; met = k.met; apart = x } in r) (one k.apart a) in
-    let Met : ℕ → Type 0 = λ m. (a : bit_and l.unmet m ≡ 0) → k ≡ record
-    { place = k.place; opened = k.opened; unmet = l.unmet; met = m; apart = a } in
-    let masks : Met l.met = subst Met mets (subst Unmet unmets own) in
-    masks l.apart
-    ∙ ap (λ (x : ℕ). let r : Kind = record
-    { place = x; opened = k.opened; unmet = l.unmet; met = l.met; apart = l.apart } in r) place
-    ∙ ap (λ (x : ℕ). let r : Kind = record
-    { place = l.place; opened = x; unmet = l.unmet; met = l.met; apart = l.apart } in r) opened
 
 told_same : {X : Type 0} (f g : ℕ → X) (n i : ℕ) (d : X) → map f (range_with_len 0 n) ≡ map g (range_with_len 0 n)
     → i < n → f i ≡ g i

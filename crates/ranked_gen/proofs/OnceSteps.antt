@@ -23,7 +23,7 @@ use Rattle.violation.specs.Rests.{IsLeastRestVector, AreWholeKinds}
 use Rattle.grammar_reader.specs.ShapeOf.{IsShapeOf}
 use Rattle.grammar_reader.proofs.OverTiers.{few_constraints}
 use Rattle.kind_moves.specs.declared.frame.Frame.{Frame}
-use Rattle.kind_moves.specs.Frames.{tiers_in, constraints_in, kind_at_stage, problem_in}
+use Rattle.kind_moves.specs.Frames.{tiers_in, constraints_in, kind_at_stage, problem_in, FitsFrame}
 use Rattle.answer_text.specs.declared.stage.Node.{Node}
 use Rattle.answer_text.specs.declared.once_answer.OnceNode.{OnceNode}
 use Rattle.answer_text.specs.RightOnce.{kind_told, bare_nodes, IsRightPotential}
@@ -39,10 +39,11 @@ use Rattle.kind_orders.specs.StageNodes.{node_numbered, AreNodesInOrder}
 use Rattle.kind_orders.proofs.Nodes.{are_nodes}
 use Rattle.stage_tables.specs.Explored.{names_at}
 use Rattle.stage_tables.proofs.Named.{frame_stage}
+use Rattle.ranked_gen.specs.FittingKinds.{FitsStage}
 use Rattle.ranked_gen.specs.OptimalParts.{IsOptimalPart}
 use Rattle.ranked_gen.specs.Once.{weight_found, once_node, IsOncePart}
 use Rattle.ranked_gen.proofs.OrderedNames.{count_kinds, name_is, first_number, kept_by_names, ordered, tells}
-use Rattle.ranked_gen.proofs.StageShapes.{free_same, stretch_same}
+use Rattle.ranked_gen.proofs.StageShapes.{free_same, stretch_same, nodes_fit}
 use Rattle.violation.specs.Problems.{last_stage}
 
 module _ (frame : Frame) (kinds : List Kind) {g : Ghosts Ranked} (meaning : g.meaning ≡ ranked_meaning)
@@ -168,10 +169,15 @@ module _ (frame : Frame) (kinds : List Kind) {g : Ghosts Ranked} (meaning : g.me
 
       pub once_part : (counts : List ℕ) → counts
           ≡ take (last_stage (problem_in frame)) (weight_found (get_or least 0 None)).parts
+          → All (FitsFrame frame (last_stage (problem_in frame))) kinds
           → IsOncePart frame nodes counts pruned old order
-      once_part counts is = record {
+      once_part counts is fit = record {
         kinds = whole_kinds;
         potentials = potentials;
+        fit = subst (All (λ (node : OnceNode).
+            FitsStage (problem_in frame) (last_stage (problem_in frame)) node.kind)) (sym listed)
+            (nodes_fit (λ (node : OnceNode). node.kind) frame (last_stage (problem_in frame)) kinds fit
+            (once_node kinds least) (λ number. refl) order sorted.numbers.below);
         least = first_vector counts is;
         part = part;
       }

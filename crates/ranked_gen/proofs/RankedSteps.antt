@@ -39,7 +39,7 @@ pub ranked_first : (problem : Problem) (budget : ℕ) (stage : Stage) {g : Ghost
     → IsLeft problem 0 stage.nodes.items kept states order → IsWithin problem budget 0
     → IsRanked problem budget 0 (stage ∷ []) [] kept states order
 ranked_first problem budget stage kept states order left within = record
-    { so_far = first_stages problem budget stage left.right within; left = left }
+    { so_far = first_stages problem budget stage left.right left.fit within; left = left }
 
 -- and one more
 pub ranked_next : (problem : Problem) (budget r : ℕ) (stages : List Stage) (counts : List ℕ)
@@ -50,7 +50,7 @@ pub ranked_next : (problem : Problem) (budget r : ℕ) (stages : List Stage) (co
     → IsRanked problem budget next (stages ++ stage ∷ []) (counts ++ count ∷ []) kept states order
 ranked_next problem budget r stages counts so_far stage count next is inside kept states order staged within = record {
   so_far = next_stages problem budget r stages counts so_far stage count next is inside staged.left.right
-      (λ T o. staged.counted T o (omega (arith, is))) within;
+      staged.left.fit (λ T o. staged.counted T o (omega (arith, is))) within;
   left = subst (λ ns. IsLeft problem next ns kept states order)
       (sym (nodes_last stages stage next (omega (arith, is, so_far.stage_count)))) staged.left;
 }

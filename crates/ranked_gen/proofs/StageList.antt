@@ -1,5 +1,5 @@
 -- The stages one after another, and the answer at their end.
-use Rattle.std.proofs.Common.{◌≡◌, ℕ, ◌+◌, ◌-◌, ◌<◌, ◌≤◌, List, [], ◌∷◌, ◌++◌, map, take, length, get_or, refl, sym, ap, ap₂, ◌∙◌, subst, arith, ⊎_elim}
+use Rattle.std.proofs.Common.{◌≡◌, ℕ, ◌+◌, ◌-◌, ◌<◌, ◌≤◌, List, [], ◌∷◌, ◌++◌, map, take, length, get_or, refl, sym, ap, ap₂, ◌∙◌, subst, arith, ⊎_elim, All}
 use Rattle.std.proofs.lemmas.Bool.{cases_lt}
 use Rattle.std.proofs.lemmas.List.{length-map, length-append, map-append, take_more, get_or_append_left}
 use Rattle.std.proofs.Math.Seq.{get_or-append_seam, take-length}
@@ -7,11 +7,13 @@ use Rattle.tier_core.specs.declared.sym.Sym.{Sym}
 use Rattle.tier_core.specs.Orders.{IsFirst}
 use Rattle.violation.specs.Candidates.{IsOptimal, IsOptimalFor, counts_on, count_at}
 use Rattle.violation.specs.Counts.{violations_of}
+use Rattle.answer_text.specs.declared.stage.Node.{Node}
 use Rattle.answer_text.specs.declared.stage.Stage.{Stage}
 use Rattle.answer_text.specs.declared.answer.Answer.{Answer}
 use Rattle.answer_text.specs.Right.{IsRightStage, IsRightAutomaton, IsRight, kinds_at, nodes_at}
 use Rattle.violation.proofs.StageLemmas.{optimal_for_fewer}
 use Rattle.ranked_gen.specs.Budgets.{IsWithin, IsOver, IsFirstOver, HasFewKinds, AreAllWithin}
+use Rattle.ranked_gen.specs.FittingKinds.{FitsStage}
 use Rattle.ranked_gen.specs.Left.{AreStages}
 use Rattle.violation.specs.Problems.{last_stage, Problem}
 
@@ -31,12 +33,15 @@ nodes_last stages stage s e =
     ∙ get_or-append_seam (map (λ (stage : Stage). stage.nodes.items) stages) stage.nodes.items [] []
 
 module _ (problem : Problem) (budget : ℕ) where
-  pub first_stages : (stage : Stage) → IsRightStage problem 0 stage.nodes.items → IsWithin problem budget 0
+  pub first_stages : (stage : Stage) → IsRightStage problem 0 stage.nodes.items
+      → All (λ node. FitsStage problem 0 node.kind) stage.nodes.items → IsWithin problem budget 0
       → AreStages problem budget 0 (stage ∷ []) []
-  first_stages stage right within = record {
+  first_stages stage right fit within = record {
     stage_count = refl;
     each_stage = λ s l. let first : 0 ≡ s = omega arith in subst
         (λ i. IsRightStage problem i (nodes_at (stage ∷ []) i)) first right;
+    fit = λ s l. let first : 0 ≡ s = omega arith in subst
+        (λ i. All (λ node. FitsStage problem i node.kind) (nodes_at (stage ∷ []) i)) first fit;
     numbers = λ T o. refl;
     within = λ s l. let first : 0 ≡ s = omega arith in subst (IsWithin problem budget) first within;
   }
@@ -44,10 +49,11 @@ module _ (problem : Problem) (budget : ℕ) where
   module _ (r : ℕ) (stages : List Stage) (counts : List ℕ) (so_far : AreStages problem budget r stages counts) where
     pub next_stages : (stage : Stage) (count next : ℕ) → next ≡ r + 1 → r < last_stage problem
         → IsRightStage problem next stage.nodes.items
+        → All (λ node. FitsStage problem next node.kind) stage.nodes.items
         → ((T : List (List Sym)) → IsOptimalFor problem next T → count_at problem next T ≡ count)
         → IsWithin problem budget next
         → AreStages problem budget next (stages ++ stage ∷ []) (counts ++ count ∷ [])
-    next_stages stage count next is inside right counted within = record {
+    next_stages stage count next is inside right fit counted within = record {
       stage_count = omega (arith, length-append stages (stage ∷ []), so_far.stage_count);
       each_stage = λ s l. ⊎_elim
           (λ less. subst (IsRightStage problem s)
@@ -57,6 +63,15 @@ module _ (problem : Problem) (budget : ℕ) where
           subst (λ i. IsRightStage problem i (nodes_at (stages ++ stage ∷ []) i)) same
           (subst (IsRightStage problem next)
           (sym (nodes_last stages stage next (omega (arith, so_far.stage_count)))) right))
+          (cases_lt s (r + 1));
+      fit = λ s l. ⊎_elim
+          (λ less. subst (All (λ (node : Node). FitsStage problem s node.kind))
+          (sym (nodes_kept stages stage s (omega (arith, less, so_far.stage_count))))
+          (so_far.fit s (omega (arith, less))))
+          (λ last. let same : next ≡ s = omega (arith, last) in
+          subst (λ i. All (λ (node : Node). FitsStage problem i node.kind) (nodes_at (stages ++ stage ∷ []) i)) same
+          (subst (All (λ (node : Node). FitsStage problem next node.kind))
+          (sym (nodes_last stages stage next (omega (arith, so_far.stage_count)))) fit))
           (cases_lt s (r + 1));
       numbers = λ T o.
           let fewer = optimal_for_fewer problem r next (omega arith) T o in

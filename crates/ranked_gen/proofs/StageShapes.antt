@@ -14,9 +14,24 @@ use Rattle.grammar_reader.proofs.Shaping.{length-stretch_counts}
 use Rattle.violation.specs.Prefixes.{stretches}
 use Rattle.kind_moves.specs.declared.frame.Frame.{Frame}
 use Rattle.kind_moves.specs.Frames.{tiers_in, constraints_in, kind_at_stage, FitsFrame}
-use Rattle.kind_orders.specs.KindOrders.{AreFound}
+use Rattle.kind_orders.specs.KindOrders.{AreFound, empty_kind, kind_numbered}
+use Rattle.ranked_gen.specs.FittingKinds.{FitsStage}
 use Rattle.violation.specs.Problems.{last_stage}
 use Rattle.kind_moves.specs.Frames.{problem_in}
+
+-- kinds that fit the frame fit the stage, whatever nodes they stand in
+pub nodes_fit : {N : Type 0} (kind_in_node : N → Kind) (frame : Frame) (stage : ℕ) (kinds : List Kind)
+    → All (FitsFrame frame stage) kinds → (node : ℕ → N)
+    → ((number : ℕ) → kind_in_node (node number) ≡ kind_numbered kinds number) → (order : List ℕ)
+    → All (λ number. number < length kinds) order
+    → All (λ n. FitsStage (problem_in frame) stage (kind_in_node n)) (map node order)
+nodes_fit kind_in_node frame stage kinds fit node is order inside k d l =
+    let here : k < length order = omega (arith, l, length-map order node) in
+    let number = get_or order k 0 in
+    let f = fit number empty_kind (inside k 0 here) in
+    subst (λ n. FitsStage (problem_in frame) stage (kind_in_node n)) (sym (get_or-map node order k 0 d here))
+    (subst (FitsStage (problem_in frame) stage) (sym (is number))
+    (record { opened = f.opened; stretches = f.stretches }))
 
 module _ (frame : Frame) (shape : Shape) (of : IsShapeOf frame.grammar.now shape) (stage : ℕ)
     (within : stage ≤ last_stage (problem_in frame)) where

@@ -22,7 +22,7 @@ use Rattle.violation.specs.Candidates.{IsOptimalFor, count_at}
 use Rattle.violation.specs.Stages.{IsRemaining}
 use Rattle.grammar_reader.specs.ShapeOf.{IsShapeOf}
 use Rattle.kind_moves.specs.declared.frame.Frame.{Frame}
-use Rattle.kind_moves.specs.Frames.{tiers_in, kind_at_stage}
+use Rattle.kind_moves.specs.Frames.{tiers_in, kind_at_stage, FitsFrame}
 use Rattle.answer_text.specs.declared.stage.Node.{Node}
 use Rattle.answer_text.specs.Right.{kinds_at, IsRightStage}
 use Rattle.kind_tables.specs.StageTables.{IsStage, IsStageTable}
@@ -36,9 +36,10 @@ use Rattle.kind_orders.specs.StageNodes.{node_numbered, AreNodesInOrder}
 use Rattle.stage_tables.specs.Kept.{IsKept}
 use Rattle.stage_tables.specs.Explored.{names_at}
 use Rattle.stage_tables.proofs.Named.{frame_stage}
+use Rattle.ranked_gen.specs.FittingKinds.{FitsStage}
 use Rattle.ranked_gen.specs.Left.{weight_number, IsStaged}
 use Rattle.ranked_gen.proofs.OrderedNames.{count_kinds, name_is, first_number, kept_by_names, ordered, tells}
-use Rattle.ranked_gen.proofs.StageShapes.{free_same, stretch_same}
+use Rattle.ranked_gen.proofs.StageShapes.{free_same, stretch_same, nodes_fit}
 use Rattle.violation.specs.Problems.{last_stage}
 use Rattle.kind_moves.specs.Frames.{problem_in}
 
@@ -131,10 +132,14 @@ module _ (frame : Frame) (stage : ℕ) (within : stage ≤ last_stage (problem_i
           let law = all_words_law meaning (names_at frame stage kinds) states (problem_in frame) stage here table T in
           (λ a. law.0 ((tight.accepts T).0 a), λ o. (tight.accepts T).1 (law.1 o))
 
-      pub staged : IsStaged (problem_in frame) stage nodes (get_or (map weight_number least) 0 0) pruned old order
-      staged = record {
+      pub staged : All (FitsFrame frame stage) kinds
+          → IsStaged (problem_in frame) stage nodes (get_or (map weight_number least) 0 0) pruned old order
+      staged fit = record {
         left = record {
           right = right_stage;
+          fit = subst (All (λ (node : Node). FitsStage (problem_in frame) stage node.kind)) (sym listed.each)
+              (nodes_fit (λ (node : Node). node.kind) frame stage kinds fit
+              (node_numbered kinds (map weight_number least)) (λ number. refl) order sorted.numbers.below);
           kept_by = kept_by;
           accepts = accepts;
           ordered = ordered frame stage within kinds states table.named shape of order sorted pruned old tight some

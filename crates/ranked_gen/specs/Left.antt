@@ -17,6 +17,7 @@ use Rattle.kind_orders.specs.Orderings.{IsOrdering}
 use Rattle.kind_orders.specs.Automata.{Reaches}
 use Rattle.stage_tables.specs.Kept.{IsKept}
 use Rattle.ranked_gen.specs.Budgets.{IsWithin}
+use Rattle.ranked_gen.specs.FittingKinds.{FitsStage}
 use Rattle.violation.specs.Problems.{Problem}
 
 -- the number of a weight that is found, or 0 if there is none
@@ -37,12 +38,13 @@ pub record AreOrdered (order states : List ℕ) (count : ℕ) : Type 0 where
   pub inside : All (λ number. number < length order) states
   pub once : AllPairs (λ a b. a ≢ b) states
 
--- What stage r leaves: its nodes are right, and the kept table accepts exactly the r-optimal
+-- What stage r leaves: its nodes are right, with kinds that fit, and the kept table accepts exactly the r-optimal
 -- candidates. Its states have numbers of an order, of which the start's is the first, and the node
 -- at the place of a state's number encodes the kind of each prefix that leads to the state.
 pub record IsLeft {g : Ghosts UnitWeight} (problem : Problem) (r : ℕ) (nodes : List Node)
     (kept : List (TableState UnitWeight g)) (states order : List ℕ) : Type 0 where
   pub right : IsRightStage problem r nodes
+  pub fit : All (λ node. FitsStage problem r node.kind) nodes
   pub kept_by : IsKept problem r kept
   pub accepts : (T : List (List Sym)) → Accepts kept T ↔ IsOptimalFor problem r T
   pub ordered : AreOrdered order states (length kept)
@@ -58,11 +60,12 @@ pub record IsStaged {g : Ghosts UnitWeight} (problem : Problem) (r : ℕ) (nodes
   pub left : IsLeft problem r nodes kept states order
   pub counted : (T : List (List Sym)) → IsOptimalFor problem r T → 1 ≤ r → count_at problem r T ≡ count
 
--- The stages up to r are right and within the budget, and the counts are the first r numbers of
+-- The stages up to r are right and within the budget, their kinds fit them, and the counts are the first r numbers of
 -- each r-optimal candidate.
 pub record AreStages (problem : Problem) (budget r : ℕ) (stages : List Stage) (counts : List ℕ) : Type 0 where
   pub stage_count : length stages ≡ r + 1
   pub each_stage : (s : ℕ) → s ≤ r → IsRightStage problem s (nodes_at stages s)
+  pub fit : (s : ℕ) → s ≤ r → All (λ node. FitsStage problem s node.kind) (nodes_at stages s)
   pub numbers : (T : List (List Sym)) → IsOptimalFor problem r T → take r (counts_on problem T) ≡ counts
   pub within : (s : ℕ) → s ≤ r → IsWithin problem budget s
 

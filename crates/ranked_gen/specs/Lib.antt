@@ -6,3 +6,4 @@ pub mod Left
 pub mod OptimalParts
 pub mod Once
 pub mod KindsLeft
+pub mod FittingKinds

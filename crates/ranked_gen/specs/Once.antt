@@ -13,6 +13,7 @@ use Rattle.kind_moves.specs.Frames.{problem_in}
 use Rattle.answer_text.specs.declared.once_answer.OnceNode.{OnceNode}
 use Rattle.answer_text.specs.RightOnce.{kind_told, bare_nodes, IsRightPotential}
 use Rattle.kind_orders.specs.KindOrders.{kind_numbered}
+use Rattle.ranked_gen.specs.FittingKinds.{FitsStage}
 use Rattle.ranked_gen.specs.OptimalParts.{IsOptimalPart}
 use Rattle.violation.specs.Problems.{last_stage}
 
@@ -29,11 +30,12 @@ once_node kinds least number = record {
 }
 
 -- The nodes are the kinds under all constraints of prefixes of candidates, in kind order, with the least
--- vectors that remain from them. The counts are the least vector, and the kept table accepts exactly the
--- optimal candidates, each state by the number of its node.
+-- vectors that remain from them, and their bits fit the last stage. The counts are the least vector, and the
+-- kept table accepts exactly the optimal candidates, each state by the number of its node.
 pub record IsOncePart {g : Ghosts UnitWeight} (frame : Frame) (nodes : List OnceNode) (counts : List ℕ)
     (kept : List (TableState UnitWeight g)) (states order : List ℕ) : Type 0 where
   pub kinds : AreWholeKinds (problem_in frame) (map (kind_told (problem_in frame)) nodes)
   pub potentials : All (IsRightPotential (problem_in frame)) nodes
+  pub fit : All (λ node. FitsStage (problem_in frame) (last_stage (problem_in frame)) node.kind) nodes
   pub least : IsLeastVector (problem_in frame) counts
   pub part : IsOptimalPart (problem_in frame) (last_stage (problem_in frame)) (bare_nodes nodes) kept states order

@@ -7,6 +7,7 @@ ghost use Rattle.answer_text.specs.Right.{IsRight};
 ghost use Rattle.kind_moves.specs.Frames.{problem_in};
 ghost use Rattle.kind_orders.specs.JoinedArcs.{HaveJoinedArcs};
 ghost use Rattle.ranked_gen.specs.Budgets.{AreAllWithin, HaveFewKinds, IsFirstOver};
+ghost use Rattle.ranked_gen.specs.FittingKinds.{HaveFittingKinds};
 ghost use Rattle.ranked_gen.specs.Left.{IsRanked};
 
 use crate::gen_err::GenErr;
@@ -87,6 +88,7 @@ fn answer_in(alloc: Global, frame: &Frame, budget: u32) -> Result<Answer, GenErr
     requires some { 1 ≤ budget }
     requires few_kinds { budget ≤ 65536 }
     ensures right { IfOk result (λ answer. IsRight (problem_in frame.now) answer) }
+    ensures fitting { IfOk result (λ answer. HaveFittingKinds (problem_in frame.now) answer) }
     ensures joined { IfOk result (λ answer. HaveJoinedArcs answer.automaton.states.items) }
     ensures within { IfOk result (λ answer. AreAllWithin (problem_in frame.now) budget) }
     ensures listed { IfOk result (λ answer. HaveFewKinds (problem_in frame.now) budget) }
@@ -102,7 +104,8 @@ fn answer_in(alloc: Global, frame: &Frame, budget: u32) -> Result<Answer, GenErr
 /// The right answer for a grammar and a form, in which no stage has more kinds of prefix than the
 /// budget; `Budget` exactly when a stage has more, with the first such stage. The arcs of its
 /// automaton are joined: any two from one state to one target differ in the sets of at least two
-/// tiers.
+/// tiers. The kinds that it lists have bits only for the free tiers and for the stretch
+/// implications of their stages.
 ///
 /// The form is well formed and reduced over the input tiers, and has at most 64 columns. The budget
 /// is from 1 to 65,536. `NoMemory` occurs only if memory runs out.
@@ -119,6 +122,9 @@ pub fn generate(
     ensures right { IfOk result
         (λ answer.
         IsRight (asked grammar.now.tiers grammar.now.constraints.items form.now) answer) }
+    ensures fitting { IfOk result
+        (λ answer.
+        HaveFittingKinds (asked grammar.now.tiers grammar.now.constraints.items form.now) answer) }
     ensures joined { IfOk result (λ answer. HaveJoinedArcs answer.automaton.states.items) }
     ensures within { IfOk result
         (λ answer.

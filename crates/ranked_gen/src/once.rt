@@ -9,6 +9,7 @@ ghost use Rattle.answer_text.specs.RightOnce.{IsRightOnce};
 ghost use Rattle.kind_moves.specs.Frames.{problem_in};
 ghost use Rattle.kind_orders.specs.JoinedArcs.{HaveJoinedArcs};
 ghost use Rattle.stage_tables.specs.Ranking.{IsWholeTable};
+ghost use Rattle.ranked_gen.specs.FittingKinds.{HaveFittingKindsOnce};
 ghost use Rattle.ranked_gen.specs.Once.{weight_found, once_node, IsOncePart};
 
 use crate::ending::{Ending, ending_of};
@@ -17,7 +18,7 @@ use crate::generator::count_kinds;
 use crate::staged::Left;
 use answer_text::{OnceAnswer, OnceNode};
 use distances::to_final;
-use grammar_reader::{Grammar, shape};
+use grammar_reader::Grammar;
 use kind_moves::Frame;
 use kind_orders::ordered;
 use prune_best::tight;
@@ -83,9 +84,8 @@ fn single_pass(alloc: Global, frame: &Frame, found: &StageTable) -> Result<Once,
 {
     let table = ranked_table(alloc, frame, found)?;
     let least = to_final(alloc, &table)?;
-    let shape = shape(alloc, frame.grammar)?;
     let number = frame.grammar.constraints.len();
-    let order = ordered(alloc, &shape, number as u32, &found.kinds)?;
+    let order = ordered(alloc, &frame.shape, number as u32, &found.kinds)?;
     let Ok(nodes) = once_nodes(alloc, &found.kinds, &least, &order) else {
         return Err(NoMemory);
     };
@@ -104,6 +104,7 @@ fn single_pass(alloc: Global, frame: &Frame, found: &StageTable) -> Result<Once,
 fn once_answered(alloc: Global, frame: &Frame, found: &StageTable) -> Result<OnceAnswer, NoMemory>
     requires { IsWholeTable frame.now found.now.kinds.items (states_of found.now.table) }
     ensures right { IfOk result (λ answer. IsRightOnce (problem_in frame.now) answer) }
+    ensures fitting { IfOk result (λ answer. HaveFittingKindsOnce (problem_in frame.now) answer) }
     ensures joined { IfOk result (λ answer. HaveJoinedArcs answer.automaton.states.items) }
 {
     let form = frame.form.copied(alloc)?;
@@ -127,6 +128,7 @@ fn once_in(alloc: Global, frame: &Frame, budget: u32) -> Result<OnceAnswer, GenE
     requires some { 1 ≤ budget }
     requires few_kinds { budget ≤ 65536 }
     ensures right { IfOk result (λ answer. IsRightOnce (problem_in frame.now) answer) }
+    ensures fitting { IfOk result (λ answer. HaveFittingKindsOnce (problem_in frame.now) answer) }
     ensures joined { IfOk result (λ answer. HaveJoinedArcs answer.automaton.states.items) }
     ensures within { IfOk result (λ answer. AreWholeKindsWithin (problem_in frame.now) budget) }
     ensures over { (stage : ℕ) → result ≡ Err (GenErr.Budget stage)
@@ -161,6 +163,10 @@ pub fn generate_once(
     ensures right { IfOk result
         (λ answer.
         IsRightOnce (asked grammar.now.tiers grammar.now.constraints.items form.now) answer) }
+    ensures fitting { IfOk result
+        (λ answer.
+        HaveFittingKindsOnce
+        (asked grammar.now.tiers grammar.now.constraints.items form.now) answer) }
     ensures joined { IfOk result (λ answer. HaveJoinedArcs answer.automaton.states.items) }
     ensures within { IfOk result
         (λ answer.

@@ -4,6 +4,7 @@ ghost use Rattle.answer_text.specs.Right.{IsRight};
 ghost use Rattle.kind_moves.specs.Frames.{tiers_in, constraints_in, form_in};
 ghost use Rattle.kind_orders.specs.JoinedArcs.{HaveJoinedArcs};
 ghost use Rattle.ranked_gen.specs.Budgets.{IsFirstOver};
+ghost use Rattle.ranked_gen.specs.FittingKinds.{HaveFittingKinds};
 ghost use Rattle.ranked_gen.specs.KindsLeft.{AreKindsLeft};
 ghost use Rattle.ranked_gen.specs.Left.{IsRanked};
 ghost use Rattle.violation.specs.Problems.{last_stage};
@@ -105,6 +106,7 @@ pub(crate) fn answered(alloc: Global, frame: &Frame, ranked: Ranked) -> Result<A
         (last_stage (problem_in frame.now)) ranked.stages.items ranked.counts.items
         (states_of ranked.left.kept.table) ranked.left.kept.states.items ranked.left.order.items }
     ensures right { IfOk result (λ answer. IsRight (problem_in frame.now) answer) }
+    ensures fitting { IfOk result (λ answer. HaveFittingKinds (problem_in frame.now) answer) }
     ensures joined { IfOk result (λ answer. HaveJoinedArcs answer.automaton.states.items) }
 {
     let own = frame.form.copied(alloc)?;

@@ -18,7 +18,6 @@ use crate::gen_err::GenErr;
 use answer_text::Stage;
 use arc_table::Table;
 use distances::to_final;
-use grammar_reader::shape;
 use kind_moves::Frame;
 use kind_orders::{ordered, stage_of};
 use prune_best::{Tight, tight};
@@ -106,8 +105,7 @@ fn pruned(
     let Ok(potentials) = potentials_of(alloc, &least) else {
         return Err(NoMemory);
     };
-    let shape = shape(alloc, frame.grammar)?;
-    let order = ordered(alloc, &shape, stage, kinds)?;
+    let order = ordered(alloc, &frame.shape, stage, kinds)?;
     let nodes = stage_of(alloc, kinds, &potentials, &order)?;
     let kept = tight(alloc, table, &least)?;
     let left = kinds_of(alloc, kinds, &kept.states)?;

@@ -1,5 +1,6 @@
 -- A kept table whose states are named by kinds is explored.
 use Rattle.std.proofs.Common.{◌≡◌, ℕ, ◌<◌, ◌≤◌, List, [], ◌∷◌, ◌++◌, length, ap, sym, ◌∙◌, arith}
+use Rattle.std.specs.Map.{keys_of, values_of}
 use Rattle.weight_law.specs.declared.Weight.{Ghosts}
 use Rattle.weight_law.specs.declared.count.Count.{Count}
 use Rattle.weight_law.specs.declared.unit_weight.UnitWeight.{UnitWeight}
@@ -25,7 +26,6 @@ use Rattle.kind_tables.specs.FoundTables.{base_of, AreFoundFrom}
 use Rattle.kind_tables.proofs.Exploring.{fits_from_cut, found_on_runs, same_words}
 use Rattle.kind_tables.proofs.Naming.{path_kind, same_state}
 use Rattle.kind_tables.proofs.Paths.{run_path, path_word, joined_run, joined_reads}
-use Rattle.stage_tables.specs.declared.kind_key.KindKey.{KindKey}
 use Rattle.stage_tables.specs.Kept.{AreKeptByKinds}
 use Rattle.stage_tables.specs.Explored.{names_at, IsExplored}
 use Rattle.stage_tables.specs.Listed.{IsReached, IsOverOne, IsOfWidth, AreFound, AreTaken}
@@ -81,56 +81,59 @@ module _ {g : Ghosts UnitWeight} (frame : Frame) (before stage : ℕ) (further :
         ),
       )
 
-  module _ {h : Ghosts Count} (first : ℕ) (keys : List KindKey) (kinds : List Kind) (over : List ℕ)
-      (found : AreFound frame stage kept keys kinds over) (states : List (TableState Count h))
-      (taken : AreTaken frame first stage kept kinds over states) (all : length states ≡ length kinds) where
+  module _ {h : Ghosts Count} (first : ℕ) (entries : List (Kind × ℕ))
+      (found : AreFound frame stage kept entries) (states : List (TableState Count h))
+      (taken : AreTaken frame first stage kept entries states) (all : length states ≡ length entries) where
     cuts_at : (k : ℕ) → k < length states
-        → cut (problem_in frame) before (name_of (names_at frame stage kinds) k) ≡ name_of names (base_of over k)
+        → cut (problem_in frame) before (name_of (names_at frame stage (keys_of entries)) k)
+        ≡ name_of names (base_of (values_of entries) k)
     cuts_at k l =
-        let a = kind_of_state frame first stage kept keys kinds over found states taken all k l in
-        ap (cut (problem_in frame) before) (name_is frame first stage kept keys kinds over found states taken all
+        let a = kind_of_state frame first stage kept entries found states taken all k l in
+        ap (cut (problem_in frame) before) (name_is frame first stage kept entries found states taken all
         k a.0 a.1 a.2)
         ∙ cut_named a.0 a.1 (found.reached k a.0 a.1 a.2)
-        ∙ ap (name_of names) (sym (base_is frame first stage kept keys kinds over found states taken all k a.0 a.1 a.2))
+        ∙ ap (name_of names) (sym (base_is frame first stage kept entries found states taken all k a.0 a.1 a.2))
 
-    from_kept : AreFoundFrom (problem_in frame) before stage names kept over (names_at frame stage kinds) states
+    from_kept : AreFoundFrom (problem_in frame) before stage names kept (values_of entries)
+        (names_at frame stage (keys_of entries)) states
     from_kept = record {
-      each_named = each_named frame first stage kept keys kinds over found states taken all;
-      distinct = names_apart frame first stage kept keys kinds over found;
-      some = some_state frame first stage kept keys kinds over found states taken all;
-      start = start_named frame first stage kept keys kinds over found states taken all;
+      each_named = each_named frame first stage kept entries found states taken all;
+      distinct = names_apart frame first stage kept entries found;
+      some = some_state frame first stage kept entries found states taken all;
+      start = start_named frame first stage kept entries found states taken all;
       based = λ k l.
-          (let a = kind_of_state frame first stage kept keys kinds over found states taken all k l in
-          let base = base_is frame first stage kept keys kinds over found states taken all k a.0 a.1 a.2 in
+          (let a = kind_of_state frame first stage kept entries found states taken all k l in
+          let base = base_is frame first stage kept entries found states taken all k a.0 a.1 a.2 in
           omega (arith, base, (found.stands k a.0 a.1 a.2).within));
       cuts = cuts_at;
       ends = λ k l.
-          (let a = kind_of_state frame first stage kept keys kinds over found states taken all k l in
-          let base = base_is frame first stage kept keys kinds over found states taken all k a.0 a.1 a.2 in
+          (let a = kind_of_state frame first stage kept entries found states taken all k l in
+          let base = base_is frame first stage kept entries found states taken all k a.0 a.1 a.2 in
           let inside = (found.stands k a.0 a.1 a.2).within in
-          ends_at frame first stage kept keys kinds over found states taken all k l
+          ends_at frame first stage kept entries found states taken all k l
           ∙ ap (is_final (problem_in frame)) (cuts_at k l)
-          ∙ sym (by.named.ends (base_of over k) (omega (arith, base, inside))));
+          ∙ sym (by.named.ends (base_of (values_of entries) k) (omega (arith, base, inside))));
       columns = λ k column l. (
-        columns_old frame first stage kept keys kinds over found states taken all k column,
-        λ move. columns_new frame first stage kept keys kinds over found states taken all k column l move
+        columns_old frame first stage kept entries found states taken all k column,
+        λ move. columns_new frame first stage kept entries found states taken all k column l move
             (fits_from_cut (problem_in frame) before stage further names kept by.named
-            (name_of (names_at frame stage kinds) k) (base_of over k) move.0 column (cuts_at k l) move.1 move.2),
+            (name_of (names_at frame stage (keys_of entries)) k)
+            (base_of (values_of entries) k) move.0 column (cuts_at k l) move.1 move.2),
       );
-      leads = leads frame first stage kept keys kinds over found states taken all;
-      targets = new_targets frame first stage kept keys kinds over found states taken all;
-      filled = new_filled frame first stage kept keys kinds over found states taken all;
-      reached = new_reached frame first stage kept keys kinds over found states taken all;
+      leads = leads frame first stage kept entries found states taken all;
+      targets = new_targets frame first stage kept entries found states taken all;
+      filled = new_filled frame first stage kept entries found states taken all;
+      reached = new_reached frame first stage kept entries found states taken all;
     }
 
     -- all kinds that are found make the table of the stage
-    pub is_explored : IsExplored frame stage kept kinds states
+    pub is_explored : IsExplored frame stage kept (keys_of entries) states
     is_explored = record {
-      named = is_named frame first stage kept keys kinds over found states taken all;
-      weighed = weighs frame first stage kept keys kinds over found states taken all;
-      fit = all_fit frame first stage kept keys kinds over found states taken all;
-      accepts = λ T. same_words (problem_in frame) before stage further names kept by.named earlier over
-          (names_at frame stage kinds) states from_kept T;
-      on_runs = λ s l. found_on_runs (problem_in frame) before stage further names kept by.named earlier over
-          (names_at frame stage kinds) states from_kept by.on_runs s l;
+      named = is_named frame first stage kept entries found states taken all;
+      weighed = weighs frame first stage kept entries found states taken all;
+      fit = all_fit frame first stage kept entries found states taken all;
+      accepts = λ T. same_words (problem_in frame) before stage further names kept by.named earlier
+          (values_of entries) (names_at frame stage (keys_of entries)) states from_kept T;
+      on_runs = λ s l. found_on_runs (problem_in frame) before stage further names kept by.named earlier
+          (values_of entries) (names_at frame stage (keys_of entries)) states from_kept by.on_runs s l;
     }

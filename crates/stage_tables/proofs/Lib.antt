@@ -1,4 +1,3 @@
-mod Keys
 mod Zips
 mod Listing
 mod Finding

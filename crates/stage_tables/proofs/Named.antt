@@ -1,10 +1,11 @@
 -- The table of all kinds that are found is named and weighed by them.
 use Rattle.std.proofs.Common.{◌≡◌, ◌≢◌, ℕ, ◌<◌, ◌≤◌, Bool, true, false, List, [], ◌++◌, map, length, get_or, refl, ap, sym, ◌∙◌, subst, arith, inl, inr}
 use Rattle.std.specs.Prelude.{All, Contains, AllPairs, IsTrue}
+use Rattle.std.specs.Map.{keys_of, values_of}
 use Rattle.std.proofs.lemmas.Bool.{cases_lt}
 use Rattle.std.proofs.lemmas.List.{length-map, get_or_past}
 use Rattle.std.proofs.lemmas.List.Elements.{All-contains}
-use Rattle.std.proofs.lemmas.Option.{slice_get_within, get_or_from_slice_get}
+use Rattle.std.proofs.lemmas.Option.{slice_get_within}
 use Rattle.weight_law.specs.declared.Weight.{Ghosts}
 use Rattle.weight_law.specs.declared.count.Count.{Count}
 use Rattle.weight_law.specs.declared.unit_weight.UnitWeight.{UnitWeight}
@@ -27,15 +28,14 @@ use Rattle.violation.proofs.SplitLemmas.{tiers_split}
 use Rattle.kind_moves.specs.declared.frame.Frame.{Frame}
 use Rattle.kind_moves.specs.Frames.{problem_in, kind_at_stage, FitsFrame}
 use Rattle.kind_moves.proofs.GrammarTiers.{form_from}
+use Rattle.kind_moves.proofs.KindEquality.{same_told}
 use Rattle.kind_moves.proofs.LawSteps.{kinds_law}
 use Rattle.kind_tables.specs.StageTables.{IsStage, name_of, cost_of, AreNamedByKinds, AreWeighed}
 use Rattle.kind_tables.specs.FoundTables.{HasMoveOn, AreReached, base_of}
-use Rattle.stage_tables.specs.declared.kind_key.KindKey.{KindKey}
 use Rattle.stage_tables.specs.Explored.{names_at, IsMet, IsOverBudget}
 use Rattle.stage_tables.specs.Listed.{IsAt, IsReached, AreFound, IsTaken, IsTakenFrom, AreTaken, classes_of}
-use Rattle.stage_tables.proofs.Keys.{same_key}
 use Rattle.stage_tables.proofs.HeldMoves.{move_on, held_on, classes_apart, moves_apart}
-use Rattle.stage_tables.proofs.Listing.{at_number, get_or_map, one_number}
+use Rattle.stage_tables.proofs.Listing.{at_number, get_map, get_or_map}
 
 -- what every stage of a frame meets
 pub frame_stage : (frame : Frame) (r : ℕ) → r ≤ last_stage (problem_in frame) → IsStage (problem_in frame) r
@@ -47,40 +47,45 @@ frame_stage frame r l = record {
 }
 
 module _ {g : Ghosts UnitWeight} (frame : Frame) (first stage : ℕ) (kept : List (TableState UnitWeight g))
-    (keys : List KindKey) (kinds : List Kind) (over : List ℕ) (found : AreFound frame stage kept keys kinds over) where
+    (entries : List (Kind × ℕ)) (found : AreFound frame stage kept entries) where
   -- the name of a kind
-  named_at : (k : ℕ) (kind : Kind) (s : ℕ) → IsAt kinds over k kind s → (d : PrefixKind)
-      → get_or (names_at frame stage kinds) k d ≡ kind_at_stage frame stage kind
-  named_at k kind s at d = get_or_map (kind_at_stage frame stage) kinds k kind d at.0
+  named_at : (k : ℕ) (kind : Kind) (s : ℕ) → IsAt entries k kind s → (d : PrefixKind)
+      → get_or (names_at frame stage (keys_of entries)) k d ≡ kind_at_stage frame stage kind
+  named_at k kind s at d = get_or_map (kind_at_stage frame stage) (keys_of entries) k kind d
+      (get_map (λ e. e.0) entries k (kind, s) at)
+
+  names_count : length (names_at frame stage (keys_of entries)) ≡ length entries
+  names_count = length-map (keys_of entries) (kind_at_stage frame stage) ∙ length-map entries (λ e. e.0)
 
   -- names are distinct
-  pub names_apart : AllPairs (λ k l. k ≢ l) (names_at frame stage kinds)
+  pub names_apart : AllPairs (λ k l. k ≢ l) (names_at frame stage (keys_of entries))
   names_apart i j d less inside same =
-      let few : length (names_at frame stage kinds) ≡ length kinds = length-map kinds (kind_at_stage frame stage) in
-      let a = at_number kinds over found.listed.each i (omega (arith, few)) in
-      let b = at_number kinds over found.listed.each j (omega (arith, few)) in
+      let long : j < length entries = omega (arith, names_count) in
+      let a = at_number entries i (omega (arith, less, long)) in
+      let b = at_number entries j long in
       let told : kind_at_stage frame stage a.0 ≡ kind_at_stage frame stage b.0 = sym (named_at i a.0 a.1 a.2 d) ∙ same
       ∙ named_at j b.0 b.1 b.2 d in
-      let key = same_key frame stage a.0 b.0 (found.stands i a.0 a.1 a.2).fits (found.stands j b.0 b.1 b.2).fits told in
-      let one : i ≡ j = one_number kinds found.listed.distinct i j a.0 b.0 a.2.0 b.2.0 key in
-      omega arith
+      let one : a.0 ≡ b.0 = same_told frame stage a.0 b.0 (found.stands i a.0 a.1 a.2).fits
+      (found.stands j b.0 b.1 b.2).fits told in
+      found.apart i j a.0 less (omega (arith, long, length-map entries (λ e. e.0)))
+      (get_or_map (λ e. e.0) entries i (a.0, a.1) a.0 a.2 ∙ one
+      ∙ sym (get_or_map (λ e. e.0) entries j (b.0, b.1) a.0 b.2))
 
   -- where each kind that is reached is that of a prefix of some timelines, too many kinds are over a budget
   pub over_budget : (timelines : List (List Sym) → Type 0)
       → ((kind : Kind) (s : ℕ) → s < length kept → (r : IsReached frame stage kept kind s)
       → (rest : List (List Sym)) × timelines (r.prefix ++ rest))
-      → (budget : ℕ) → budget < length kinds → IsOverBudget frame stage timelines budget
+      → (budget : ℕ) → budget < length entries → IsOverBudget frame stage timelines budget
   over_budget timelines goes_on budget more = record {
-    kinds = names_at frame stage kinds;
+    kinds = names_at frame stage (keys_of entries);
     distinct = names_apart;
     met = λ k d l.
-        (let a = at_number kinds over found.listed.each k
-        (omega (arith, length-map kinds (kind_at_stage frame stage))) in
+        (let a = at_number entries k (omega (arith, names_count)) in
         subst (λ (x : PrefixKind). IsMet frame stage timelines x) (sym (named_at k a.0 a.1 a.2 d)) (met k a.0 a.1 a.2));
-    more = omega (arith, length-map kinds (kind_at_stage frame stage));
+    more = omega (arith, names_count);
   }
     where
-      met : (k : ℕ) (kind : Kind) (s : ℕ) → IsAt kinds over k kind s
+      met : (k : ℕ) (kind : Kind) (s : ℕ) → IsAt entries k kind s
           → IsMet frame stage timelines (kind_at_stage frame stage kind)
       met k kind s at =
           let r = found.reached k kind s at in
@@ -93,41 +98,42 @@ module _ {g : Ghosts UnitWeight} (frame : Frame) (first stage : ℕ) (kept : Lis
           }
 
   module _ {h : Ghosts Count} (states : List (TableState Count h))
-      (taken : AreTaken frame first stage kept kinds over states) (all : length states ≡ length kinds) where
-    pub name_is : (k : ℕ) (kind : Kind) (s : ℕ) → IsAt kinds over k kind s
-        → name_of (names_at frame stage kinds) k ≡ kind_at_stage frame stage kind
+      (taken : AreTaken frame first stage kept entries states) (all : length states ≡ length entries) where
+    pub name_is : (k : ℕ) (kind : Kind) (s : ℕ) → IsAt entries k kind s
+        → name_of (names_at frame stage (keys_of entries)) k ≡ kind_at_stage frame stage kind
     name_is k kind s at = named_at k kind s at (record { place = 0; opened = []; phases = [] })
 
     -- the kind of a state
-    pub kind_of_state : (k : ℕ) → k < length states → (kind : Kind) × (s : ℕ) × IsAt kinds over k kind s
-    kind_of_state k l = at_number kinds over found.listed.each k (omega (arith, all))
+    pub kind_of_state : (k : ℕ) → k < length states → (kind : Kind) × (s : ℕ) × IsAt entries k kind s
+    kind_of_state k l = at_number entries k (omega (arith, all))
 
-    pub base_is : (k : ℕ) (kind : Kind) (s : ℕ) → IsAt kinds over k kind s → base_of over k ≡ s
-    base_is k kind s at = get_or_from_slice_get over k s 0 at.1
+    pub base_is : (k : ℕ) (kind : Kind) (s : ℕ) → IsAt entries k kind s → base_of (values_of entries) k ≡ s
+    base_is k kind s at = get_or_map (λ e. e.1) entries k (kind, s) 0 at
 
     -- the kept move of a new one
     pub old_move : (k : ℕ) (b : TableArc Count h) → Contains (moves_at states k) b
-        → (kind : Kind) × (s : ℕ) × IsAt kinds over k kind s ×
-        ((a : TableArc UnitWeight g) × Contains (moves_at kept s) a × IsTaken frame first stage kinds over kind a b)
+        → (kind : Kind) × (s : ℕ) × IsAt entries k kind s ×
+        ((a : TableArc UnitWeight g) × Contains (moves_at kept s) a × IsTaken frame first stage entries kind a b)
     old_move k b here =
         let l = moves_exist states k b here in
         let a = kind_of_state k l in
         let state = taken.each k a.0 a.1 l a.2 in
-        let from = All-contains (IsTakenFrom frame first stage kinds over a.0 (moves_at kept a.1)) (moves_at states k) b
+        let from = All-contains (IsTakenFrom frame first stage entries a.0 (moves_at kept a.1)) (moves_at states k) b
         state.taken.each here in
         (a.0, a.1, a.2, (from.arc, from.listed, from.taken))
 
     -- a column of a new move fits the name of its state
     pub fits_name : (k : ℕ) (b : TableArc Count h) (column : List Sym) → Contains (moves_at states k) b
-        → IsTrue (has b.class column) → FitsKind (problem_in frame) (name_of (names_at frame stage kinds) k) column
+        → IsTrue (has b.class column)
+        → FitsKind (problem_in frame) (name_of (names_at frame stage (keys_of entries)) k) column
     fits_name k b column here p =
         let m = old_move k b here in
         subst (λ (x : PrefixKind). FitsKind (problem_in frame) x column) (sym (name_is k m.0 m.1 m.2))
         (m.3.2.moves column p).column_fits
 
     pub leads : (k : ℕ) (b : TableArc Count h) (column : List Sym) → Contains (moves_at states k) b
-        → IsTrue (has b.class column) → name_of (names_at frame stage kinds) b.target
-        ≡ moved (problem_in frame) stage (name_of (names_at frame stage kinds) k) column
+        → IsTrue (has b.class column) → name_of (names_at frame stage (keys_of entries)) b.target
+        ≡ moved (problem_in frame) stage (name_of (names_at frame stage (keys_of entries)) k) column
     leads k b column here p =
         let m = old_move k b here in
         let t = m.3.2 in
@@ -135,15 +141,17 @@ module _ {g : Ghosts UnitWeight} (frame : Frame) (first stage : ℕ) (kept : Lis
         ∙ (t.moves column p).leads
         ∙ ap (λ x. moved (problem_in frame) stage x column) (sym (name_is k m.0 m.1 m.2))
 
-    pub weighs : AreWeighed (problem_in frame) stage (names_at frame stage kinds) states
+    pub weighs : AreWeighed (problem_in frame) stage (names_at frame stage (keys_of entries)) states
     weighs k b column here p =
         let m = old_move k b here in
         m.3.2.weighs column p
         ∙ ap (λ x. cost_of (problem_in frame) stage x column) (sym (name_is k m.0 m.1 m.2))
 
     -- there is a new move on each column of a kept one that fits
-    pub columns_new : (k : ℕ) (column : List Sym) → k < length states → HasMoveOn kept (base_of over k) column
-        → FitsKind (problem_in frame) (name_of (names_at frame stage kinds) k) column → HasMoveOn states k column
+    pub columns_new : (k : ℕ) (column : List Sym) → k < length states
+        → HasMoveOn kept (base_of (values_of entries) k) column
+        → FitsKind (problem_in frame) (name_of (names_at frame stage (keys_of entries)) k) column
+        → HasMoveOn states k column
     columns_new k column l move fits =
         let a = kind_of_state k l in
         let state = taken.each k a.0 a.1 l a.2 in
@@ -156,7 +164,8 @@ module _ {g : Ghosts UnitWeight} (frame : Frame) (first stage : ℕ) (kept : Lis
         ∙ held_on (moves_at kept a.1) move.0 column here move.2 in
         move_on (moves_at states k) column some
 
-    pub columns_old : (k : ℕ) (column : List Sym) → HasMoveOn states k column → HasMoveOn kept (base_of over k) column
+    pub columns_old : (k : ℕ) (column : List Sym) → HasMoveOn states k column
+        → HasMoveOn kept (base_of (values_of entries) k) column
     columns_old k column move =
         let m = old_move k move.0 move.1 in (
           m.3.0,
@@ -166,7 +175,7 @@ module _ {g : Ghosts UnitWeight} (frame : Frame) (first stage : ℕ) (kept : Lis
 
     pub new_targets : TargetsExist states
     new_targets k b here = (let m = old_move k b here in omega
-        (arith, slice_get_within kinds b.target m.3.2.next m.3.2.at.0, all))
+        (arith, slice_get_within entries b.target (m.3.2.next, m.3.0.target) m.3.2.at, all))
 
     pub new_filled : ClassesFilled states
     new_filled k b here = (old_move k b here).3.2.filled
@@ -205,23 +214,23 @@ module _ {g : Ghosts UnitWeight} (frame : Frame) (first stage : ℕ) (kept : Lis
     pub new_reached : AreReached states
     new_reached k low high = taken.reached k low (omega (arith, all))
 
-    pub each_named : length (names_at frame stage kinds) ≡ length states
-    each_named = length-map kinds (kind_at_stage frame stage) ∙ sym all
+    pub each_named : length (names_at frame stage (keys_of entries)) ≡ length states
+    each_named = names_count ∙ sym all
 
     pub some_state : 0 < length states
-    some_state = let l = slice_get_within kinds 0 found.start.0 found.start.1.0 in omega (arith, all)
+    some_state = let l = slice_get_within entries 0 (found.start.0, 0) found.start.1 in omega (arith, all)
 
     pub ends_at : (k : ℕ) → k < length states
-        → accepting_at states k ≡ is_final (problem_in frame) (name_of (names_at frame stage kinds) k)
+        → accepting_at states k ≡ is_final (problem_in frame) (name_of (names_at frame stage (keys_of entries)) k)
     ends_at k l =
         let a = kind_of_state k l in
         (taken.each k a.0 a.1 l a.2).accepts ∙ ap (is_final (problem_in frame)) (sym (name_is k a.0 a.1 a.2))
 
-    pub start_named : name_of (names_at frame stage kinds) 0 ≡ kind_of (problem_in frame) stage []
+    pub start_named : name_of (names_at frame stage (keys_of entries)) 0 ≡ kind_of (problem_in frame) stage []
     start_named = name_is 0 found.start.0 0 found.start.1 ∙ found.start.2.is
 
     -- the kinds name the states
-    pub is_named : AreNamedByKinds (problem_in frame) stage (names_at frame stage kinds) states
+    pub is_named : AreNamedByKinds (problem_in frame) stage (names_at frame stage (keys_of entries)) states
     is_named = record {
       each_named = each_named;
       distinct = names_apart;
@@ -233,8 +242,8 @@ module _ {g : Ghosts UnitWeight} (frame : Frame) (first stage : ℕ) (kept : Lis
       filled = new_filled;
     }
 
-    pub all_fit : All (FitsFrame frame stage) kinds
+    pub all_fit : All (FitsFrame frame stage) (keys_of entries)
     all_fit k d l =
-        let a = at_number kinds over found.listed.each k l in
-        subst (λ (x : Kind). FitsFrame frame stage x) (sym (get_or_from_slice_get kinds k a.0 d a.2.0))
+        let a = at_number entries k (omega (arith, l, length-map entries (λ e. e.0))) in
+        subst (λ (x : Kind). FitsFrame frame stage x) (sym (get_or_map (λ e. e.0) entries k (a.0, a.1) d a.2))
         (found.stands k a.0 a.1 a.2).fits

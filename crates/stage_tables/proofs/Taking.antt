@@ -119,9 +119,9 @@ pub record PushedSoFar {g : Ghosts UnitWeight} {h : Ghosts Count} (exploring : E
   pub stays : StaysListed first now
   pub added : List (TableArc Count h)
   pub new_is : new ≡ old ++ added
-  pub targets : AreTargets first.kinds.items now.kinds.items added
+  pub targets : AreTargets first.kinds.entries now.kinds.entries added
   pub classes : classes_of added ≡ piece_classes (take n pieces)
-  pub each : All (IsTaken exploring.frame.now exploring.first exploring.stage now.kinds.items now.over.items kind arc)
+  pub each : All (IsTaken exploring.frame.now exploring.first exploring.stage now.kinds.entries kind arc)
       added
 
 pub none_pushed : {g : Ghosts UnitWeight} {h : Ghosts Count} (exploring : Exploring) (first : Listed) (kind : Kind)
@@ -134,12 +134,12 @@ none_pushed exploring first kind arc pieces old found = record {
   new_is = sym (append-nil old);
   targets = λ k low high. absurd (omega (arith, low, high));
   classes = refl;
-  each = All-nil (IsTaken exploring.frame.now exploring.first exploring.stage first.kinds.items first.over.items kind
+  each = All-nil (IsTaken exploring.frame.now exploring.first exploring.stage first.kinds.entries kind
       arc);
 }
 
 -- targets of two lists of moves, one after the other
-targets_then : {h : Ghosts Count} (first now next : List Kind) (xs ys : List (TableArc Count h))
+targets_then : {h : Ghosts Count} (first now next : List (Kind × ℕ)) (xs ys : List (TableArc Count h))
     → AreTargets first now xs → AreTargets now next ys → AreTargets first next (xs ++ ys)
 targets_then first now next xs ys a b k low high = elim (cases_lt k (length now)) [
   | inl lower ↦ (let was = a k low lower in (was.0, Contains-append_left xs ys was.0 was.1, was.2))
@@ -151,8 +151,8 @@ pub one_pushed : {g : Ghosts UnitWeight} {h : Ghosts Count} (exploring : Explori
     (piece : Piece) (made : TableArc Count h)
     → PushedSoFar exploring first now kind arc pieces old new n → n < length pieces → piece ≡ get_or pieces n piece
     → IsFoundWithin exploring next → StaysListed now next
-    → AreTargets now.kinds.items next.kinds.items (made ∷ []) → made.class ≡ piece.class
-    → IsTaken exploring.frame.now exploring.first exploring.stage next.kinds.items next.over.items kind arc made
+    → AreTargets now.kinds.entries next.kinds.entries (made ∷ []) → made.class ≡ piece.class
+    → IsTaken exploring.frame.now exploring.first exploring.stage next.kinds.entries kind arc made
     → PushedSoFar exploring first next kind arc pieces old (new ++ made ∷ []) (n + 1)
 one_pushed exploring first now next kind arc pieces old new n piece made so_far inside is found stays targets class
     taken = record {
@@ -160,7 +160,7 @@ one_pushed exploring first now next kind arc pieces old new n piece made so_far 
       stays = λ k other s at. stays k other s (so_far.stays k other s at);
       added = so_far.added ++ made ∷ [];
       new_is = ap (λ xs. xs ++ made ∷ []) so_far.new_is ∙ append_assoc old so_far.added (made ∷ []);
-      targets = targets_then first.kinds.items now.kinds.items next.kinds.items so_far.added (made ∷ [])
+      targets = targets_then first.kinds.entries now.kinds.entries next.kinds.entries so_far.added (made ∷ [])
           so_far.targets targets;
       classes =
           map-append (λ arc. arc.class) so_far.added (made ∷ [])
@@ -168,10 +168,10 @@ one_pushed exploring first now next kind arc pieces old new n piece made so_far 
           ∙ ap (λ c. piece_classes (take n pieces) ++ c ∷ []) (class ∙ ap (λ (p : Piece). p.class) is)
           ∙ sym (map-append (λ (p : Piece). p.class) (take n pieces) (get_or pieces n piece ∷ []))
           ∙ ap piece_classes (sym (take_more pieces n piece inside));
-      each = All-push (IsTaken exploring.frame.now exploring.first exploring.stage next.kinds.items next.over.items
+      each = All-push (IsTaken exploring.frame.now exploring.first exploring.stage next.kinds.entries
           kind arc) so_far.added made
-          (λ k d l. taken_stays exploring.frame.now exploring.first exploring.stage now.kinds.items next.kinds.items
-          now.over.items next.over.items stays kind arc (get_or so_far.added k d) (so_far.each k d l)) taken;
+          (λ k d l. taken_stays exploring.frame.now exploring.first exploring.stage now.kinds.entries
+          next.kinds.entries stays kind arc (get_or so_far.added k d) (so_far.each k d l)) taken;
     }
 
 pub all_pushed : {g : Ghosts UnitWeight} {h : Ghosts Count} (exploring : Exploring) (first now : Listed) (kind : Kind)
@@ -194,12 +194,12 @@ all_pushed exploring first now kind arc pieces old new n so_far last are = recor
 -- ---- all kept moves from a state
 
 -- moves of two lists of kept ones
-taken_then : {g : Ghosts UnitWeight} {h : Ghosts Count} (frame : Frame) (first stage : ℕ) (kinds : List Kind)
-    (over : List ℕ) (kind : Kind) (ks ls : List (TableArc UnitWeight g)) (xs ys : List (TableArc Count h))
-    → AreTakenMoves frame first stage kinds over kind ks xs → AreTakenMoves frame first stage kinds over kind ls ys
-    → AreTakenMoves frame first stage kinds over kind (ks ++ ls) (xs ++ ys)
-taken_then {g} {h} frame first stage kinds over kind ks ls xs ys a b = record {
-  each = All-append (IsTakenFrom frame first stage kinds over kind (ks ++ ls)) xs ys
+taken_then : {g : Ghosts UnitWeight} {h : Ghosts Count} (frame : Frame) (first stage : ℕ)
+    (entries : List (Kind × ℕ)) (kind : Kind) (ks ls : List (TableArc UnitWeight g)) (xs ys : List (TableArc Count h))
+    → AreTakenMoves frame first stage entries kind ks xs → AreTakenMoves frame first stage entries kind ls ys
+    → AreTakenMoves frame first stage entries kind (ks ++ ls) (xs ++ ys)
+taken_then {g} {h} frame first stage entries kind ks ls xs ys a b = record {
+  each = All-append (IsTakenFrom frame first stage entries kind (ks ++ ls)) xs ys
       (λ k d l. (let from = a.each k d l in record {
         arc = from.arc;
         listed = Contains-append_left ks ls from.arc from.listed;
@@ -229,8 +229,8 @@ pub record TakenSoFar {g : Ghosts UnitWeight} {h : Ghosts Count} (exploring : Ex
     (kind : Kind) (arcs : List (TableArc UnitWeight g)) (moves : List (TableArc Count h)) (n : ℕ) : Type 0 where
   pub found : IsFoundWithin exploring now
   pub stays : StaysListed first now
-  pub targets : AreTargets first.kinds.items now.kinds.items moves
-  pub taken : AreTakenMoves exploring.frame.now exploring.first exploring.stage now.kinds.items now.over.items kind
+  pub targets : AreTargets first.kinds.entries now.kinds.entries moves
+  pub taken : AreTakenMoves exploring.frame.now exploring.first exploring.stage now.kinds.entries kind
       (take n arcs) moves
 
 pub none_taken : {g : Ghosts UnitWeight} {h : Ghosts Count} (exploring : Exploring) (first : Listed) (kind : Kind)
@@ -242,8 +242,7 @@ none_taken {g} {h} exploring first kind arcs moves none found =
       stays = λ k other s at. at;
       targets = λ k low high. absurd (omega (arith, low, high));
       taken = record {
-        each = All-nil (IsTakenFrom exploring.frame.now exploring.first exploring.stage first.kinds.items
-            first.over.items kind []);
+        each = All-nil (IsTakenFrom exploring.frame.now exploring.first exploring.stage first.kinds.entries kind []);
         held = λ column fits. refl;
       };
     })
@@ -259,24 +258,24 @@ one_taken {g} {h} exploring first now next kind arcs moves more n arc so_far ins
     (record {
       found = found;
       stays = λ k other s at. stays k other s (so_far.stays k other s at);
-      targets = targets_then first.kinds.items now.kinds.items next.kinds.items moves adds.added so_far.targets
+      targets = targets_then first.kinds.entries now.kinds.entries next.kinds.entries moves adds.added so_far.targets
           adds.targets;
       taken =
-          (let before = moves_taken_stay exploring.frame.now exploring.first exploring.stage now.kinds.items
-          next.kinds.items now.over.items next.over.items stays kind (take n arcs) moves so_far.taken in
+          (let before = moves_taken_stay exploring.frame.now exploring.first exploring.stage now.kinds.entries
+          next.kinds.entries stays kind (take n arcs) moves so_far.taken in
           let is_more : take (n + 1) arcs ≡ take n arcs ++ arc ∷ [] = take_more arcs n arc inside
           ∙ ap (λ x. take n arcs ++ x ∷ []) (sym is) in
           subst (λ (xs : List (TableArc UnitWeight g)). AreTakenMoves exploring.frame.now exploring.first
-          exploring.stage next.kinds.items next.over.items kind xs (moves ++ adds.added)) (sym is_more)
-          (taken_then exploring.frame.now exploring.first exploring.stage next.kinds.items next.over.items kind
+          exploring.stage next.kinds.entries kind xs (moves ++ adds.added)) (sym is_more)
+          (taken_then exploring.frame.now exploring.first exploring.stage next.kinds.entries kind
           (take n arcs) (arc ∷ []) moves adds.added before adds.taken));
     })
 
 pub all_taken : {g : Ghosts UnitWeight} {h : Ghosts Count} (exploring : Exploring) (first now : Listed) (kind : Kind)
     (arcs all : List (TableArc UnitWeight g)) (moves : List (TableArc Count h)) (n : ℕ)
     → TakenSoFar exploring first now kind arcs moves n → n ≡ length arcs → arcs ≡ all
-    → AreTakenMoves exploring.frame.now exploring.first exploring.stage now.kinds.items now.over.items kind all moves
+    → AreTakenMoves exploring.frame.now exploring.first exploring.stage now.kinds.entries kind all moves
 all_taken {g} {h} exploring first now kind arcs all moves n so_far last is =
     let whole : take n arcs ≡ all = ap (λ k. take k arcs) last ∙ take-length arcs ∙ is in
     subst (λ (xs : List (TableArc UnitWeight g)). AreTakenMoves exploring.frame.now exploring.first exploring.stage
-    now.kinds.items now.over.items kind xs moves) whole so_far.taken
+    now.kinds.entries kind xs moves) whole so_far.taken

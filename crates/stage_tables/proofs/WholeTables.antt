@@ -5,6 +5,7 @@ use Rattle.std.proofs.lemmas.List.{length-take-le, length-replicate}
 use Rattle.std.proofs.lemmas.List.Elements.{Contains-push_cases}
 use Rattle.tier_core.specs.declared.sym.Sym.TheVariants.{Outside}
 use Rattle.tier_core.proofs.Filled.{filled_from}
+use Rattle.std.specs.Map.{keys_of, values_of}
 use Rattle.weight_law.specs.declared.Weight.{Ghosts}
 use Rattle.weight_law.specs.declared.count.Count.{Count}
 use Rattle.weight_law.specs.declared.unit_weight.UnitWeight.{UnitWeight}
@@ -27,7 +28,6 @@ use Rattle.kind_moves.proofs.LawSteps.{prefixes_law}
 use Rattle.kind_tables.specs.StageTables.{name_of}
 use Rattle.kind_tables.specs.FoundTables.{base_of, HaveAllMoves}
 use Rattle.kind_tables.proofs.Complete.{complete_words, complete_on_runs}
-use Rattle.stage_tables.specs.declared.kind_key.KindKey.{KindKey}
 use Rattle.stage_tables.specs.Explored.{names_at, IsComplete}
 use Rattle.stage_tables.specs.Whole.{IsWhole, IsWholeMove}
 use Rattle.stage_tables.specs.Listed.{IsReached, IsOverOne, IsOfWidth, AreFound, AreTaken}
@@ -128,42 +128,42 @@ module _ {g : Ghosts UnitWeight} (frame : Frame) (stage : ℕ) (within : stage �
       → (rest : List (List Sym)) × IsCandidate (problem_in frame) (r.prefix ++ rest)
   whole_goes_on kind s l r = (prefixes_law frame stage r.first r.starts r.prefix).0 (kind, r.leads)
 
-  module _ {h : Ghosts Count} (first : ℕ) (keys : List KindKey) (kinds : List Kind) (over : List ℕ)
-      (found : AreFound frame stage kept keys kinds over) (states : List (TableState Count h))
-      (taken : AreTaken frame first stage kept kinds over states) (all : length states ≡ length kinds) where
-    all_moves : HaveAllMoves (problem_in frame) (names_at frame stage kinds) states
+  module _ {h : Ghosts Count} (first : ℕ) (entries : List (Kind × ℕ))
+      (found : AreFound frame stage kept entries) (states : List (TableState Count h))
+      (taken : AreTaken frame first stage kept entries states) (all : length states ≡ length entries) where
+    all_moves : HaveAllMoves (problem_in frame) (names_at frame stage (keys_of entries)) states
     all_moves k column l fits =
-        let a = kind_of_state frame first stage kept keys kinds over found states taken all k l in
-        let is = base_is frame first stage kept keys kinds over found states taken all k a.0 a.1 a.2 in
-        let base : 0 ≡ base_of over k = omega (arith, is, (found.stands k a.0 a.1 a.2).within, whole.one) in
+        let a = kind_of_state frame first stage kept entries found states taken all k l in
+        let is = base_is frame first stage kept entries found states taken all k a.0 a.1 a.2 in
+        let base : 0 ≡ base_of (values_of entries) k = omega (arith, is, (found.stands k a.0 a.1 a.2).within, whole.one) in
         let some = whole.some in
-        let here : Contains (moves_at kept (base_of over k)) some.0 = subst
+        let here : Contains (moves_at kept (base_of (values_of entries) k)) some.0 = subst
         (λ s. Contains (moves_at kept s) some.0) base some.1 in
-        columns_new frame first stage kept keys kinds over found states taken all k column l
+        columns_new frame first stage kept entries found states taken all k column l
         (some.0, here, (whole.each 0 some.0 some.1).every column fits.width) fits
 
     -- the columns of each move cost the same under each constraint
     costs_alike : (one : first ≤ 1) (s : ℕ) (arc : TableArc Count h) → Contains (moves_at states s) arc
-        → IsAlike (move_costs (problem_in frame) stage (name_of (names_at frame stage kinds) s)) arc.class
+        → IsAlike (move_costs (problem_in frame) stage (name_of (names_at frame stage (keys_of entries)) s)) arc.class
     costs_alike one s arc here c d has_c has_d =
-        let m = old_move frame first stage kept keys kinds over found states taken all s arc here in
-        let is = name_is frame first stage kept keys kinds over found states taken all s m.0 m.1 m.2 in
+        let m = old_move frame first stage kept entries found states taken all s arc here in
+        let is = name_is frame first stage kept entries found states taken all s m.0 m.1 m.2 in
         subst (λ (k : PrefixKind). move_costs (problem_in frame) stage k c ≡ move_costs (problem_in frame) stage k d)
         (sym is)
         (same_costs frame stage within m.0 c d (λ r low high. m.3.2.alike r (omega (arith, one, low)) high c d has_c has_d))
 
     -- all kinds that are found make the table of all candidates
-    pub is_complete : first ≤ 1 → IsComplete frame stage kinds states
+    pub is_complete : first ≤ 1 → IsComplete frame stage (keys_of entries) states
     is_complete one =
         let here = frame_stage frame stage within in
-        let names = names_at frame stage kinds in
-        let named = is_named frame first stage kept keys kinds over found states taken all in
+        let names = names_at frame stage (keys_of entries) in
+        let named = is_named frame first stage kept entries found states taken all in
         record {
           named = named;
-          weighed = weighs frame first stage kept keys kinds over found states taken all;
-          fit = all_fit frame first stage kept keys kinds over found states taken all;
+          weighed = weighs frame first stage kept entries found states taken all;
+          fit = all_fit frame first stage kept entries found states taken all;
           accepts = λ T. complete_words (problem_in frame) stage here names states named all_moves T;
           on_runs = λ s l. complete_on_runs (problem_in frame) stage here names states named all_moves
-              (new_reached frame first stage kept keys kinds over found states taken all) s l;
+              (new_reached frame first stage kept entries found states taken all) s l;
           alike = costs_alike one;
         }

@@ -1,5 +1,6 @@
 -- What is found while a kept table is explored.
 use Rattle.std.specs.Prelude.{◌≡◌, ℕ, ◌<◌, ◌≤◌, ◌↔◌, List, [], ◌∷◌, ◌++◌, length, All, IsTrue}
+use Rattle.std.specs.Map.{keys_of}
 use Rattle.weight_law.specs.declared.Weight.{Ghosts}
 use Rattle.weight_law.specs.declared.count.Count.{Count}
 use Rattle.weight_law.specs.declared.unit_weight.UnitWeight.{UnitWeight}
@@ -14,39 +15,34 @@ use Rattle.arc_table.specs.declared.arc.TableArc.{TableArc}
 use Rattle.arc_table.specs.declared.state.TableState.{TableState}
 use Rattle.arc_table.specs.States.{states_of}
 use Rattle.stage_tables.specs.declared.exploring.Exploring.{Exploring}
-use Rattle.stage_tables.specs.declared.kind_key.KindKey.{KindKey}
 use Rattle.stage_tables.specs.declared.listed.Listed.{Listed}
 use Rattle.kind_moves.specs.declared.piece.Piece.{Piece}
 use Rattle.kind_moves.specs.Frames.{tiers_in, FitsAt}
 use Rattle.kind_moves.specs.Pieces.{cost_under, classes_of, IsPiece}
-use Rattle.stage_tables.specs.Listed.{AreListed, AreFound, AreTaken, AreTakenMoves, AreTargets, IsAt, Stays}
-
--- what is listed is listed well
-abbrev pub IsListing : Listed → Type 0
-IsListing listed = AreListed listed.keys.keys listed.kinds.items listed.over.items
+use Rattle.stage_tables.specs.Listed.{AreFound, AreTaken, AreTakenMoves, AreTargets, IsAt, Stays}
 
 -- what is listed is found by exploring
 abbrev pub IsFoundBy : Exploring → Listed → Type 0
 IsFoundBy exploring listed = AreFound exploring.frame.now exploring.stage
-    (states_of exploring.kept.now) listed.keys.keys listed.kinds.items listed.over.items
+    (states_of exploring.kept.now) listed.kinds.entries
 
 -- and there are no more kinds than the budget
 pub record IsFoundWithin (exploring : Exploring) (listed : Listed) : Type 0 where
   pub found : IsFoundBy exploring listed
-  pub few : length listed.kinds.items ≤ exploring.budget
+  pub few : length listed.kinds.entries ≤ exploring.budget
 
 -- or there are more
 pub record IsFoundBeyond (exploring : Exploring) (listed : Listed) : Type 0 where
   pub found : IsFoundBy exploring listed
-  pub more : exploring.budget < length listed.kinds.items
+  pub more : exploring.budget < length listed.kinds.entries
 
 -- a kind is listed over a state
 abbrev pub IsListedOver : Listed → Kind → ℕ → Type 0
-IsListedOver listed kind s = (k : ℕ) × IsAt listed.kinds.items listed.over.items k kind s
+IsListedOver listed kind s = (k : ℕ) × IsAt listed.kinds.entries k kind s
 
 -- what is listed keeps its number
 abbrev pub StaysListed : Listed → Listed → Type 0
-StaysListed old new = Stays old.kinds.items new.kinds.items old.over.items new.over.items
+StaysListed old new = Stays old.kinds.entries new.kinds.entries
 
 -- Pieces of a class that go on from a kind: they hold exactly its columns that fit the kind, no column
 -- is in two, and under each constraint from the first on the columns of each cost the same.
@@ -72,19 +68,19 @@ pub record AddsTaken {g : Ghosts UnitWeight} {h : Ghosts Count} (exploring : Exp
     (kind : Kind) (arc : TableArc UnitWeight g) (old new : List (TableArc Count h)) : Type 0 where
   pub added : List (TableArc Count h)
   pub new_is : new ≡ old ++ added
-  pub targets : AreTargets first.kinds.items now.kinds.items added
-  pub taken : AreTakenMoves exploring.frame.now exploring.first exploring.stage now.kinds.items now.over.items kind
+  pub targets : AreTargets first.kinds.entries now.kinds.entries added
+  pub taken : AreTakenMoves exploring.frame.now exploring.first exploring.stage now.kinds.entries kind
       (arc ∷ []) added
 
 -- The kinds are all that are found, and the states are theirs, which are made of the kept ones.
 pub record IsStageFound {h : Ghosts Count} (exploring : Exploring) (kinds : List Kind)
     (states : List (TableState Count h)) : Type 0 where
-  pub keys : List KindKey
-  pub over : List ℕ
-  pub found : AreFound exploring.frame.now exploring.stage (states_of exploring.kept.now) keys kinds over
+  pub entries : List (Kind × ℕ)
+  pub named : kinds ≡ keys_of entries
+  pub found : AreFound exploring.frame.now exploring.stage (states_of exploring.kept.now) entries
   pub taken : AreTaken exploring.frame.now exploring.first exploring.stage
-      (states_of exploring.kept.now) kinds over states
-  pub all : length states ≡ length kinds
+      (states_of exploring.kept.now) entries states
+  pub all : length states ≡ length entries
 
 -- more kinds than the budget are found
 abbrev pub IsTooMuchFound : Exploring → Type 0

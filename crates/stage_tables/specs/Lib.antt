@@ -1,4 +1,3 @@
-pub mod KindKeys
 pub mod Kept
 pub mod Explored
 pub mod Listed

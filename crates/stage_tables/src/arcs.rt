@@ -33,11 +33,12 @@ impl Exploring<'_> {
         ensures found { IfOk result (λ _. IsFoundWithin self.now listed.new) }
         ensures stays { IfOk result (λ _. StaysListed listed.old listed.new) }
         ensures targets { IfOk result
-            (λ made. AreTargets listed.old.kinds.items listed.new.kinds.items (made ∷ [])) }
+            (λ made. AreTargets listed.old.kinds.entries listed.new.kinds.entries (made ∷ [])) }
         ensures class { IfOk result (λ made. made.class ≡ piece.now.class) }
         ensures taken { IfOk result
             (λ made.
-            IsTaken self.now.frame.now self.now.first self.now.stage listed.new.kinds.items listed.new.over.items kind.now arc.now made) }
+            IsTaken self.now.frame.now self.now.first self.now.stage listed.new.kinds.entries
+            kind.now arc.now made) }
         ensures beyond { IfErr result
             (λ e. e ≡ ExploreErr.OverBudget → IsFoundBeyond self.now listed.new) }
     {
@@ -66,7 +67,8 @@ impl Exploring<'_> {
         ensures found { IfOk result (λ _. IsFoundWithin self.now listed.new) }
         ensures stays { IfOk result (λ _. StaysListed listed.old listed.new) }
         ensures adds { IfOk result
-            (λ _. AddsTaken self.now listed.old listed.new kind.now arc.now moves.old.items moves.new.items) }
+            (λ _. AddsTaken self.now listed.old listed.new kind.now arc.now moves.old.items
+            moves.new.items) }
         ensures beyond { IfErr result
             (λ e. e ≡ ExploreErr.OverBudget → IsFoundBeyond self.now listed.new) }
     {
@@ -95,7 +97,8 @@ impl Exploring<'_> {
         ensures found { IfOk result (λ _. IsFoundWithin self.now listed.new) }
         ensures stays { IfOk result (λ _. StaysListed listed.old listed.new) }
         ensures adds { IfOk result
-            (λ _. AddsTaken self.now listed.old listed.new kind.now arc.now moves.old.items moves.new.items) }
+            (λ _. AddsTaken self.now listed.old listed.new kind.now arc.now moves.old.items
+            moves.new.items) }
         ensures beyond { IfErr result
             (λ e. e ≡ ExploreErr.OverBudget → IsFoundBeyond self.now listed.new) }
     {
@@ -119,10 +122,11 @@ impl Exploring<'_> {
         ensures found { IfOk result (λ _. IsFoundWithin self.now listed.new) }
         ensures stays { IfOk result (λ _. StaysListed listed.old listed.new) }
         ensures targets { IfOk result
-            (λ made. AreTargets listed.old.kinds.items listed.new.kinds.items made.items) }
+            (λ made. AreTargets listed.old.kinds.entries listed.new.kinds.entries made.items) }
         ensures taken { IfOk result
             (λ made.
-            AreTakenMoves self.now.frame.now self.now.first self.now.stage listed.new.kinds.items listed.new.over.items kind.now (moves_at (states_of self.now.kept.now) state) made.items) }
+            AreTakenMoves self.now.frame.now self.now.first self.now.stage listed.new.kinds.entries
+            kind.now (moves_at (states_of self.now.kept.now) state) made.items) }
         ensures beyond { IfErr result
             (λ e. e ≡ ExploreErr.OverBudget → IsFoundBeyond self.now listed.new) }
     {

@@ -10,11 +10,11 @@ ghost use Rattle.violation.specs.Candidates.{IsCandidate};
 ghost use Rattle.violation.specs.Problems.{last_stage};
 
 use crate::exploring::Exploring;
-use crate::listed::{Listed, ROOM, number_of};
+use crate::listed::{Listed, ROOM, entry_at, number_of};
 use crate::stage_table::{ExploreErr, StageTable};
 use crate::whole::whole_table;
 use arc_table::{Table, TableState};
-use indexmap::IndexSet;
+use indexmap::IndexMap;
 use kind_moves::Frame;
 use std::alloc::Global;
 use weight_law::{Count, UnitWeight};
@@ -26,16 +26,14 @@ impl Exploring<'_> {
     fn start(&self, alloc: Global) -> Result<Listed, ExploreErr>
         requires budget { 1 ≤ self.now.budget }
         ensures found { IfOk result (IsFoundWithin self.now) }
-        ensures one { IfOk result (λ listed. length listed.kinds.items ≡ 1) }
+        ensures one { IfOk result (λ listed. length listed.kinds.entries ≡ 1) }
         ensures within { IfErr result (λ e. e ≡ ExploreErr.OverBudget → ⊥) }
     {
         let Ok(recent) = vec![in alloc; 0; ROOM] else {
             return Err(ExploreErr::NoMemory);
         };
         let mut listed = Listed {
-            keys: IndexSet::new(alloc),
-            kinds: Vec::new(alloc),
-            over: Vec::new(alloc),
+            kinds: IndexMap::new(alloc),
             recent,
         };
         let _start = number_of(&mut listed, self.frame.start(), 0, self.budget)?;
@@ -49,20 +47,19 @@ impl Exploring<'_> {
         listed: &mut Listed,
     ) -> Result<Vec<TableState<Count>>, ExploreErr>
         requires found { IsFoundWithin self.now listed.old }
-        requires one { length listed.old.kinds.items ≡ 1 }
+        requires one { length listed.old.kinds.entries ≡ 1 }
         ensures found { IfOk result (λ _. IsFoundWithin self.now listed.new) }
         ensures taken { IfOk result
             (λ states.
             AreTaken self.now.frame.now self.now.first self.now.stage
-            (states_of self.now.kept.now) listed.new.kinds.items listed.new.over.items states.items) }
-        ensures each { IfOk result (λ states. length states.items ≡ length listed.new.kinds.items) }
+            (states_of self.now.kept.now) listed.new.kinds.entries states.items) }
+        ensures each { IfOk result
+            (λ states. length states.items ≡ length listed.new.kinds.entries) }
         ensures beyond { IfErr result
             (λ e. e ≡ ExploreErr.OverBudget → IsFoundBeyond self.now listed.new) }
     {
         let mut states = Vec::new(alloc);
-        'making: while states.len() < listed.kinds.len() {
-            let kind = listed.kinds[states.len()];
-            let state = listed.over[states.len()];
+        'making: while let Some((kind, state)) = entry_at(listed, states.len()) {
             let arcs = self.taken_arcs(alloc, state, &kind, listed)?;
             let made = TableState {
                 accepting: self.frame.at_end(&kind),
@@ -79,14 +76,18 @@ impl Exploring<'_> {
     fn explored(&self, alloc: Global) -> Result<StageTable, ExploreErr>
         requires some { 1 ≤ self.now.budget }
         requires few { self.now.budget ≤ 65536 }
-        ensures found { IfOk result (λ found. IsStageFound self.now found.kinds.items (states_of found.table)) }
+        ensures found { IfOk result
+            (λ found. IsStageFound self.now found.kinds.items (states_of found.table)) }
         ensures few { IfOk result (λ found. length found.kinds.items ≤ self.now.budget) }
         ensures over { IfErr result (λ e. e ≡ ExploreErr.OverBudget → IsTooMuchFound self.now) }
     {
         let mut listed = self.start(alloc)?;
         let states = self.states(alloc, &mut listed)?;
+        let Ok(kinds) = Vec::from_slice(alloc, listed.kinds.keys().as_slice()) else {
+            return Err(ExploreErr::NoMemory);
+        };
         Ok(StageTable {
-            kinds: listed.kinds,
+            kinds,
             table: Table::of_states(states),
         })
     }

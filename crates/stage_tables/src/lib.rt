@@ -16,7 +16,6 @@
 mod arcs;
 mod exploration;
 mod exploring;
-mod kind_key;
 mod listed;
 mod pieces;
 mod ranking;

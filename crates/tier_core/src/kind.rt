@@ -7,7 +7,7 @@ ghost use Rattle.std.specs.Prelude.{◌≡◌, bit_and};
 /// `unmet` and `met` have one bit for each stretch implication, counted from 0 in ranked order: a
 /// bit of `unmet` is set if the phase is unmet, one of `met` if it is met, and neither if it is
 /// closed.
-#[derive(Clone, Copy, Debug, PartialEq, Eq)]
+#[derive(Clone, Copy, Debug, PartialEq, Eq, Hash)]
 pub struct Kind {
     pub place: u32,
     pub opened: u16,

@@ -12,6 +12,7 @@ use Rattle.tier_core.specs.Tiers.{has_tier}
 use Rattle.tier_core.proofs.KindLemmas.{not_both}
 use Rattle.tier_core.proofs.MaskBits.{AreBits, bits_of, open_bits, apart_from, none_from, same_mask}
 use Rattle.tier_core.proofs.KindTies.{same_parts}
+use Rattle.tier_core.proofs.SameKinds.{same_fields}
 use Rattle.violation.specs.Moves.{is_unmet_phase, is_met_phase}
 
 -- ---- masks of phases
@@ -111,21 +112,6 @@ kind_for free count k frees counts = (
     mets = bits_of (map is_met_phase k.phases)
 
 -- kinds with the same fields
-same_fields : (k l : Kind) → k.place ≡ l.place → k.opened ≡ l.opened → k.unmet ≡ l.unmet → k.met ≡ l.met → k ≡ l
-same_fields k l place opened unmets mets =
-    let Unmet : ℕ → Type 0 = λ u. (a : bit_and u k.met ≡ 0) → k ≡ record
-    { place = k.place; opened = k.opened; unmet = u; met = k.met; apart = a } in
-    let own : Unmet k.unmet = λ a. let one : IsProp (bit_and k.unmet k.met ≡ 0) = hlevel props in
-    ap (λ (x : bit_and k.unmet k.met ≡ 0). let r : Kind = record
-    { place = k.place; opened = k.opened; unmet = k.unmet; met = k.met; apart = x } in r) (one k.apart a) in
-    let Met : ℕ → Type 0 = λ m. (a : bit_and l.unmet m ≡ 0) → k ≡ record
-    { place = k.place; opened = k.opened; unmet = l.unmet; met = m; apart = a } in
-    let masks : Met l.met = subst Met mets (subst Unmet unmets own) in
-    masks l.apart
-    ∙ ap (λ (x : ℕ). let r : Kind = record
-    { place = x; opened = k.opened; unmet = l.unmet; met = l.met; apart = l.apart } in r) place
-    ∙ ap (λ (x : ℕ). let r : Kind = record
-    { place = l.place; opened = x; unmet = l.unmet; met = l.met; apart = l.apart } in r) opened
 
 -- what is told place by place
 pub told_same : {X : Type 0} (f g : ℕ → X) (n i : ℕ) (d : X) → map f (range_with_len 0 n) ≡ map g (range_with_len 0 n)

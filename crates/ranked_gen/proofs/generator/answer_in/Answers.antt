@@ -4,6 +4,7 @@ use Rattle.answer_text.specs.declared.answer.Answer.{Answer}
 use Rattle.kind_orders.specs.JoinedArcs.{HaveJoinedArcs}
 use Rattle.kind_moves.specs.Frames.{problem_in}
 use Rattle.violation.specs.Problems.{last_stage}
+use Rattle.ranked_gen.specs.FittingKinds.{HaveFittingKinds}
 use Rattle.ranked_gen.proofs.StageKinds.{whatever_ok}
 use Rattle.ranked_gen.proofs.StageList.{has_few}
 use Rattle.ranked_gen.proofs.MappedErrors.{kept_by_map_err}
@@ -25,3 +26,8 @@ returns-in-Ok-clause-listed c =
     let problem = problem_in c.args.frame.now in
     whatever_ok _ _ (has_few problem c.args.budget (last_stage problem) c.in-Ok.ranked.stages.items
     c.in-Ok.ranked.counts.items c.in-Ok.ensures.ranked.so_far)
+
+pub returns-in-Ok-clause-fitting : goal.returns-in-Ok-clause-fitting
+returns-in-Ok-clause-fitting c =
+    kept_by_map_err c.answered.result c.map_err.result (HaveFittingKinds (problem_in c.args.frame.now)) _
+    c.map_err.ensures.cases c.map_err.ensures.variant c.answered.ensures.fitting

@@ -1,6 +1,7 @@
 use Rattle.std.proofs.Common.{◌≡◌, length, IfOk, subst, arith}
 use Rattle.violation.proofs.SplitLemmas.{tiers_split}
 use Rattle.ranked_gen.specs.Budgets.{AreAllWithin, HaveFewKinds, IsFirstOver}
+use Rattle.ranked_gen.specs.FittingKinds.{HaveFittingKinds}
 use Rattle.ranked_gen.specs.Listed.{kind_count}
 use Rattle.ranked_gen.proofs.NumberedKinds.{free_distinct}
 use Rattle.ranked_gen.proofs.StageKinds.{counted_kinds, first_over}
@@ -50,3 +51,11 @@ returns-in-Ok-clause-over c = λ stage e.
     (subst (λ g. IsFirstOver
     (asked g.tiers g.constraints.items c.in-Ok.frame.form.now) c.args.budget stage) made.grammar
     (c.answer_in.ensures.over stage e))
+
+pub returns-in-Ok-clause-fitting : goal.returns-in-Ok-clause-fitting
+returns-in-Ok-clause-fitting c =
+    let made = c.in-Ok.ensures in
+    let g = c.args.grammar.now in
+    subst (λ u. IfOk c.answer_in.result (HaveFittingKinds (asked g.tiers g.constraints.items u))) made.form
+    (subst (λ g. IfOk c.answer_in.result (HaveFittingKinds
+    (asked g.tiers g.constraints.items c.in-Ok.frame.form.now))) made.grammar c.answer_in.ensures.fitting)

@@ -2,6 +2,7 @@ use Rattle.std.proofs.Common.{◌≡◌, length, IfOk, subst, sym, ◌∙◌, ar
 use Rattle.violation.specs.Problems.{asked}
 use Rattle.violation.specs.Rests.{AreWholeKindsWithin}
 use Rattle.violation.proofs.SplitLemmas.{tiers_split}
+use Rattle.ranked_gen.specs.FittingKinds.{HaveFittingKindsOnce}
 use Rattle.ranked_gen.specs.Listed.{kind_count}
 use Rattle.ranked_gen.proofs.NumberedKinds.{free_distinct}
 use Rattle.ranked_gen.proofs.OnceBudgets.{first_over_whole}
@@ -32,3 +33,11 @@ returns-in-Ok-clause-within c =
     (subst (λ g. IfOk c.once_in.result (λ answer. AreWholeKindsWithin
     (asked g.tiers g.constraints.items c.in-Ok.frame.form.now) c.args.budget)) made.grammar
     c.once_in.ensures.within)
+
+pub returns-in-Ok-clause-fitting : goal.returns-in-Ok-clause-fitting
+returns-in-Ok-clause-fitting c =
+    let made = c.in-Ok.ensures in
+    let g = c.args.grammar.now in
+    subst (λ u. IfOk c.once_in.result (HaveFittingKindsOnce (asked g.tiers g.constraints.items u))) made.form
+    (subst (λ g. IfOk c.once_in.result (HaveFittingKindsOnce
+    (asked g.tiers g.constraints.items c.in-Ok.frame.form.now))) made.grammar c.once_in.ensures.fitting)

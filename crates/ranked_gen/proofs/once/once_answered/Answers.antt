@@ -15,3 +15,6 @@ returns-clause-right c =
       potentials = once.potentials;
       automaton = c.in_ok-example.ensures.automaton (bare_nodes c.in_ok-nodes.field-0.nodes.items) once.part;
     }
+
+pub returns-clause-fitting : goal.returns-clause-fitting
+returns-clause-fitting c = c.in_ok-nodes.ensures.fit

@@ -2,6 +2,7 @@ use Rattle.std.proofs.Common.{◌≡◌, sym, ◌∙◌, arith}
 use Rattle.arc_table.specs.States.{states_of}
 use Rattle.violation.specs.Problems.{last_stage}
 use Rattle.kind_moves.specs.Frames.{problem_in}
+use Rattle.ranked_gen.specs.FittingKinds.{HaveFittingKindsOnce}
 use Rattle.ranked_gen.proofs.StageKinds.{whatever_ok}
 use Rattle.ranked_gen.proofs.OnceTables.{whole_table, whole_within, whole_over}
 use Rattle.answer_text.specs.declared.once_answer.OnceAnswer.{OnceAnswer}
@@ -45,3 +46,8 @@ returns-in-Ok-clause-joined c =
     kept_by_map_err c.once_answered.result c.map_err.result
     (λ (answer : OnceAnswer). HaveJoinedArcs answer.automaton.states.items) _ c.map_err.ensures.cases
     c.map_err.ensures.variant c.once_answered.ensures.joined
+
+pub returns-in-Ok-clause-fitting : goal.returns-in-Ok-clause-fitting
+returns-in-Ok-clause-fitting c =
+    kept_by_map_err c.once_answered.result c.map_err.result (HaveFittingKindsOnce (problem_in c.args.frame.now)) _
+    c.map_err.ensures.cases c.map_err.ensures.variant c.once_answered.ensures.fitting

@@ -26,13 +26,13 @@ pub ordered-requires-clause-found : goal.ordered-requires-clause-found
 ordered-requires-clause-found c =
     let frame = c.args.frame.now in
     let kinds = c.args.found.now.kinds.items in
-    let shape = c.in_ok-shape.shape in
+    let shape = frame.shape in
     let number : c.len-number.result ≡ last_stage (problem_in frame) = omega
     (arith, c.len-number.ensures, frame.grammar.now.constraints.ok) in
     let all : last_stage (problem_in frame) ≤ last_stage (problem_in frame) = omega arith in
     subst (λ (ks : List Kind). AreFound shape c.len-number.result ks) (sym c.deref.ensures.value)
     (subst (λ n. AreFound shape n kinds) (sym number)
-    (kinds_found frame shape c.in_ok-shape.ensures
+    (kinds_found frame shape frame.shape_of
     (last_stage (problem_in frame)) all kinds c.requires.fit c.requires.named.distinct))
 
 pub tight-requires-clause-sizes : goal.tight-requires-clause-sizes
@@ -56,7 +56,7 @@ returns c =
     let kinds = c.args.found.now.kinds.items in
     let table = c.in_ok-table.table in
     let least = c.in_ok-least.least.items in
-    let shape = c.in_ok-shape.shape in
+    let shape = frame.shape in
     let order = c.in_ok-order.order.items in
     let nodes = c.in-Ok.nodes.items in
     let counts = c.in-Ok-first_parts.counts.items in
@@ -83,7 +83,7 @@ returns c =
     ∙ ap (λ n. take n c.weight_found.result.parts) number
     ∙ ap (λ (w : Ranked). take (last_stage (problem_in frame)) w.parts) found in
     once_part frame kinds refl
-    (states_of table) c.in_ok-table.ensures least c.in_ok-least.ensures shape c.in_ok-shape.ensures order sorted
+    (states_of table) c.in_ok-table.ensures least c.in_ok-least.ensures shape frame.shape_of order sorted
     nodes listed
     (states_of kept.table) kept.states.items c.in_ok-kept.ensures kept.table.some kept.table.targets kept.table.filled
-    counts is
+    counts is c.requires.fit

@@ -33,3 +33,6 @@ returns-clause-right c =
     (last_stage problem) ranked.stages.items ranked.counts.items c.requires.ranked.1.so_far refl _
     c.in_ok-own.ensures refl c.in_ok-example.ensures.example refl
     (c.in_ok-example.ensures.automaton nodes part)
+
+pub returns-clause-fitting : goal.returns-clause-fitting
+returns-clause-fitting c = c.requires.ranked.1.so_far.fit

@@ -19,8 +19,9 @@ to_final-requires c =
 
 pub ordered-requires-clause-found : goal.ordered-requires-clause-found
 ordered-requires-clause-found c =
-    kinds_found c.args.frame.now c.in_ok-shape.shape c.in_ok-shape.ensures c.args.stage c.requires.within
-    c.args.kinds.now c.requires.fit c.requires.table.named.distinct
+    let frame = c.args.frame.now in
+    kinds_found frame frame.shape frame.shape_of c.args.stage c.requires.within c.args.kinds.now c.requires.fit
+    c.requires.table.named.distinct
 
 pub tight-requires-clause-sizes : goal.tight-requires-clause-sizes
 tight-requires-clause-sizes c =
@@ -41,7 +42,7 @@ returns-clause-staged c =
     let kinds = c.args.kinds.now in
     let states = states_of c.args.table.now in
     let least = c.in_ok-least.least.items in
-    let shape = c.in_ok-shape.shape in
+    let shape = frame.shape in
     let order = c.in_ok-order.order.items in
     let nodes = c.in_ok-nodes.nodes.nodes.items in
     let kept = c.in_ok-kept.kept in
@@ -60,8 +61,9 @@ returns-clause-staged c =
     ≡ c.index.result.now = sym (value ∙ ap (λ ns. get_or ns 0 0) numbers) in
     subst (λ n. IsStaged (problem_in frame) c.args.stage nodes n (states_of kept.table) kept.states.items order) first
     (staged frame c.args.stage c.requires.within kinds refl states c.requires.table least c.in_ok-least.ensures shape
-    c.in_ok-shape.ensures order c.in_ok-order.ensures nodes listed
-    (states_of kept.table) kept.states.items c.in_ok-kept.ensures kept.table.some kept.table.targets kept.table.filled)
+    frame.shape_of order c.in_ok-order.ensures nodes listed
+    (states_of kept.table) kept.states.items c.in_ok-kept.ensures kept.table.some kept.table.targets kept.table.filled
+    c.requires.fit)
 
 pub returns-clause-kinds : goal.returns-clause-kinds
 returns-clause-kinds c =

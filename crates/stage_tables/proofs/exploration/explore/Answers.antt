@@ -1,5 +1,6 @@
-use Rattle.std.proofs.Common.{◌≡◌}
+use Rattle.std.proofs.Common.{◌≡◌, List, sym, subst}
 use Rattle.std.proofs.lemmas.Result.{IfOk-weaker, IfErr-weaker}
+use Rattle.tier_core.specs.declared.kind.Kind.{Kind}
 use Rattle.arc_table.specs.States.{states_of}
 use Rattle.arc_table.specs.Runs.{Accepts}
 use Rattle.stage_tables.specs.declared.stage_table.ExploreErr.TheVariants.{OverBudget}
@@ -24,8 +25,10 @@ returns-clause-explored c =
     let kept = states_of c.args.kept.now in
     IfOk-weaker c.explored.result _
     (λ found. IsExplored frame c.args.stage kept found.kinds.items (states_of found.table))
-    (λ found is. is_explored frame c.args.before c.args.stage c.requires.further c.requires.stage kept c.requires.kept.0
-    c.requires.kept.1 c.args.stage is.keys found.kinds.items is.over is.found (states_of found.table) is.taken is.all)
+    (λ found is. subst (λ (kinds : List Kind). IsExplored frame c.args.stage kept kinds (states_of found.table))
+    (sym is.named)
+    (is_explored frame c.args.before c.args.stage c.requires.further c.requires.stage kept c.requires.kept.0
+    c.requires.kept.1 c.args.stage is.entries is.found (states_of found.table) is.taken is.all))
     c.explored.ensures.found
 
 pub returns-clause-over : goal.returns-clause-over
@@ -35,7 +38,7 @@ returns-clause-over c =
     IfErr-weaker c.explored.result _
     (λ e. e ≡ OverBudget → IsOverBudget frame c.args.stage (Accepts kept) c.args.budget)
     (λ e told over. let listed = (told over).0 in let beyond = (told over).1 in
-    over_budget frame c.args.stage c.args.stage kept listed.keys.keys listed.kinds.items listed.over.items beyond.found
+    over_budget frame c.args.stage c.args.stage kept listed.kinds.entries beyond.found
     (Accepts kept) (kept_goes_on frame c.args.before c.args.stage c.requires.further c.requires.stage kept
     c.requires.kept.0 c.requires.kept.1) c.args.budget beyond.more)
     c.explored.ensures.over

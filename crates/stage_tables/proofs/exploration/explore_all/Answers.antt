@@ -1,5 +1,6 @@
-use Rattle.std.proofs.Common.{◌≡◌, arith}
+use Rattle.std.proofs.Common.{◌≡◌, List, sym, subst, arith}
 use Rattle.std.proofs.lemmas.Result.{IfOk-weaker, IfErr-weaker}
+use Rattle.tier_core.specs.declared.kind.Kind.{Kind}
 use Rattle.arc_table.specs.States.{states_of}
 use Rattle.violation.specs.Candidates.{IsCandidate}
 use Rattle.kind_moves.specs.Frames.{problem_in}
@@ -23,8 +24,10 @@ returns-clause-complete c =
     let kept = states_of c.in-Ok.whole in
     IfOk-weaker c.explored.result _
     (λ found. IsComplete frame c.args.stage found.kinds.items (states_of found.table))
-    (λ found is. is_complete frame c.args.stage c.requires.stage kept c.in-Ok.ensures 1 is.keys found.kinds.items is.over
-    is.found (states_of found.table) is.taken is.all (omega arith))
+    (λ found is. subst (λ (kinds : List Kind). IsComplete frame c.args.stage kinds (states_of found.table))
+    (sym is.named)
+    (is_complete frame c.args.stage c.requires.stage kept c.in-Ok.ensures 1 is.entries is.found
+    (states_of found.table) is.taken is.all (omega arith)))
     c.explored.ensures.found
 
 pub returns-clause-over : goal.returns-clause-over
@@ -34,7 +37,7 @@ returns-clause-over c =
     IfErr-weaker c.explored.result _
     (λ e. e ≡ OverBudget → IsOverBudget frame c.args.stage (IsCandidate (problem_in frame)) c.args.budget)
     (λ e told over. let listed = (told over).0 in let beyond = (told over).1 in
-    over_budget frame 1 c.args.stage kept listed.keys.keys listed.kinds.items listed.over.items beyond.found
+    over_budget frame 1 c.args.stage kept listed.kinds.entries beyond.found
     (IsCandidate (problem_in frame)) (whole_goes_on frame c.args.stage c.requires.stage kept c.in-Ok.ensures)
     c.args.budget beyond.more)
     c.explored.ensures.over

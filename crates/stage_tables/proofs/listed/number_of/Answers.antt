@@ -1,79 +1,46 @@
-use Rattle.std.proofs.Common.{◌≡◌, ◌+◌, true, false, length, refl, ap, ◌∙◌, arith, inl}
-use Rattle.std.specs.List.{list_any}
-use Rattle.std.proofs.lemmas.List.{length_push}
-use Rattle.stage_tables.proofs.Numbering.{same_by, IsKeyed, is_absent, is_present, numbered_old, numbered_new, number_is, listed_new}
+use Rattle.std.proofs.Common.{ℕ, Some, refl, ap, ◌∙◌, inl}
+use Rattle.std.proofs.lemmas.Map.Made.{AllPairs-from_IsDistinct}
+use Rattle.std.specs.Map.{keys_of}
+use Rattle.tier_core.proofs.SameKinds.{kind_eq-Decides}
+use Rattle.stage_tables.specs.Listed.{AreApart, IsNumbered}
+use Rattle.stage_tables.proofs.Numbering.{numbered, numbered_as, few_numbered, put_beyond}
 use Rattle.stage_tables.proofs.listed.number_of.Goals as goal
+use Rattle.stage_tables.proofs.listed.number_of.Goals.{In-Ok}
+
+-- no two kinds are the same after one is inserted
+inserted_apart : (c : In-Ok) → AreApart c.insert_full.new.self.entries
+inserted_apart c = AllPairs-from_IsDistinct kind_eq-Decides (keys_of c.insert_full.new.self.entries) c.in-Ok.ensures.unique
+
+-- and the one that is inserted is numbered
+inserted : (c : In-Ok) → IsNumbered c.args.listed.now.kinds.entries c.insert_full.new.self.entries c.in-Ok.found.0
+    c.args.kind c.args.state
+inserted c = numbered_as c.args.kind c.args.state c.args.listed.now.kinds.entries _ _ _ _ c.in-Ok.ensures.entries
+    c.in-Ok.ensures.index (numbered c.args.kind c.args.state c.args.listed.now.kinds.entries c.requires.over_one)
 
 pub returns-in-Some-clause-numbered : goal.returns-in-Some-clause-numbered
-returns-in-Some-clause-numbered c = record {
-  at = c.in-Some.ensures;
-  grows = inl (record { same = refl; over_same = refl });
-}
+returns-in-Some-clause-numbered c =
+    let here = c.in-Some.ensures in
+    record {
+      at = here.1 ∙ ap (λ (x : ℕ). Some (c.args.kind, x)) (c.requires.over_one c.in-Some.number here.0 here.1);
+      grows = inl refl;
+    }
 
-pub returns-then-not-is_new-clause-numbered : goal.returns-then-not-is_new-clause-numbered
-returns-then-not-is_new-clause-numbered c =
-    let keys = c.args.listed.now.keys.keys in
-    let keyed : IsKeyed c.of.result keys c.insert_full.new.self.keys c.in-Ok.found.0 = record
-    { next = c.in-Ok.ensures.keys; stored = c.in-Ok.ensures.stored } in
-    let there : list_any (same_by c.of.result) keys
-    ≡ true = is_present c.in-Ok.found.1
-    (list_any (same_by c.of.result) keys) c.in-Ok.ensures.added c.if-not-is_new.true in
-    rw (c.keep_at_hand.ensures.kinds, c.keep_at_hand.ensures.over)
-    (numbered_old c.of.result keys c.insert_full.new.self.keys c.args.listed.now.kinds.items
-    c.args.listed.now.over.items c.in-Ok.found.0 c.args.kind c.args.state c.of.ensures c.requires.listed keyed
-    there)
+pub returns-then-number-budget-clause-over_apart : goal.returns-then-number-budget-clause-over_apart
+returns-then-number-budget-clause-over_apart c over = inserted_apart (goal.at.returns-then-number-budget-clause-over_apart c).In-Ok
 
-pub returns-then-number-budget-clause-over_listed : goal.returns-then-number-budget-clause-over_listed
-returns-then-number-budget-clause-over_listed c over =
-    let keys = c.args.listed.now.keys.keys in
-    let keyed : IsKeyed c.of.result keys c.insert_full.new.self.keys c.in-Ok.found.0 = record
-    { next = c.in-Ok.ensures.keys; stored = c.in-Ok.ensures.stored } in
-    let none : list_any (same_by c.of.result) keys
-    ≡ false = is_absent c.in-Ok.found.1
-    (list_any (same_by c.of.result) keys) c.in-Ok.ensures.added c.if-not-is_new.false in
-    rw c.in_ok-put_last.ensures.keys
-    (listed_new c.of.result keys c.insert_full.new.self.keys c.args.listed.now.kinds.items
-    c.args.listed.now.over.items c.in-Ok.found.0 c.args.kind c.args.state c.of.ensures c.requires.listed keyed
-    c.put_last.new.listed.kinds.items c.put_last.new.listed.over.items c.in_ok-put_last.ensures.put none)
+pub returns-then-number-budget-clause-over_put : goal.returns-then-number-budget-clause-over_put
+returns-then-number-budget-clause-over_put c over =
+    put_beyond c.args.listed.now.kinds.entries c.insert_full.new.self.entries c.in-Ok.found.0 c.args.kind c.args.state
+    c.args.budget (inserted (goal.at.returns-then-number-budget-clause-over_put c).In-Ok) c.requires.few c.if-number-budget.true
 
-pub returns-clause-listed : goal.returns-clause-listed
-returns-clause-listed c =
-    let keys = c.args.listed.now.keys.keys in
-    let keyed : IsKeyed c.of.result keys c.insert_full.new.self.keys c.in-Ok.found.0 = record
-    { next = c.in-Ok.ensures.keys; stored = c.in-Ok.ensures.stored } in
-    let none : list_any (same_by c.of.result) keys
-    ≡ false = is_absent c.in-Ok.found.1
-    (list_any (same_by c.of.result) keys) c.in-Ok.ensures.added c.if-not-is_new.false in
-    rw c.in_ok-put_last.ensures.keys
-    (listed_new c.of.result keys c.insert_full.new.self.keys c.args.listed.now.kinds.items
-    c.args.listed.now.over.items c.in-Ok.found.0 c.args.kind c.args.state c.of.ensures c.requires.listed keyed
-    c.put_last.new.listed.kinds.items c.put_last.new.listed.over.items c.in_ok-put_last.ensures.put none)
+pub returns-clause-apart : goal.returns-clause-apart
+returns-clause-apart c = rw c.keep_at_hand.ensures (inserted_apart (goal.at.returns-clause-apart c).In-Ok)
 
 pub returns-clause-numbered : goal.returns-clause-numbered
-returns-clause-numbered c =
-    let keys = c.args.listed.now.keys.keys in
-    let keyed : IsKeyed c.of.result keys c.insert_full.new.self.keys c.in-Ok.found.0 = record
-    { next = c.in-Ok.ensures.keys; stored = c.in-Ok.ensures.stored } in
-    let none : list_any (same_by c.of.result) keys
-    ≡ false = is_absent c.in-Ok.found.1
-    (list_any (same_by c.of.result) keys) c.in-Ok.ensures.added c.if-not-is_new.false in
-    numbered_new c.of.result keys c.insert_full.new.self.keys c.args.listed.now.kinds.items
-    c.args.listed.now.over.items c.in-Ok.found.0 c.args.kind c.args.state c.of.ensures c.requires.listed keyed
-    c.put_last.new.listed.kinds.items c.put_last.new.listed.over.items c.in_ok-put_last.ensures.put none
+returns-clause-numbered c = rw c.keep_at_hand.ensures (inserted (goal.at.returns-clause-numbered c).In-Ok)
 
 pub returns-clause-few : goal.returns-clause-few
 returns-clause-few c =
-    let keys = c.args.listed.now.keys.keys in
-    let kinds = c.args.listed.now.kinds.items in
-    let keyed : IsKeyed c.of.result keys c.insert_full.new.self.keys c.in-Ok.found.0 = record
-    { next = c.in-Ok.ensures.keys; stored = c.in-Ok.ensures.stored } in
-    let none : list_any (same_by c.of.result) keys
-    ≡ false = is_absent c.in-Ok.found.1
-    (list_any (same_by c.of.result) keys) c.in-Ok.ensures.added c.if-not-is_new.false in
-    let at : c.in-Ok.found.0
-    ≡ length kinds = number_is c.of.result keys c.insert_full.new.self.keys kinds c.args.listed.now.over.items
-    c.in-Ok.found.0 c.args.kind c.args.state c.of.ensures c.requires.listed keyed
-    c.put_last.new.listed.kinds.items c.put_last.new.listed.over.items c.in_ok-put_last.ensures.put none in
-    let more : length c.put_last.new.listed.kinds.items
-    ≡ length kinds + 1 = ap (λ xs. length xs) c.in_ok-put_last.ensures.put.put ∙ length_push kinds c.args.kind in
-    omega (arith, more, at, c.if-number-budget.false)
+    rw c.keep_at_hand.ensures
+    (few_numbered c.args.listed.now.kinds.entries c.insert_full.new.self.entries c.in-Ok.found.0 c.args.kind c.args.state
+    c.args.budget (inserted (goal.at.returns-clause-few c).In-Ok) c.requires.few c.if-number-budget.false)

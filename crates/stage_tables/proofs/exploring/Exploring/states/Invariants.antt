@@ -6,7 +6,7 @@ use Rattle.stage_tables.proofs.exploring.Exploring.states.Given as goal
 abbrev pub invariant-making : goal.invariant-making
 invariant-making l = record {
   found : IsFoundWithin l.self l.listed;
-  taken : AreTaken l.self.frame.now l.self.first l.self.stage l.self.kept.now.states.items l.listed.kinds.items l.listed.over.items
+  taken : AreTaken l.self.frame.now l.self.first l.self.stage l.self.kept.now.states.items l.listed.kinds.entries
       l.states.items;
 }
 

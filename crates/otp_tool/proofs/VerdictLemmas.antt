@@ -1,5 +1,5 @@
 -- Where the shelf tells, the bytes of an answer settle the status of `check`.
-use Rattle.std.proofs.Common.{◌≡◌, ◌⊎◌, inl, inr, ℕ, List, refl, sym, ◌∙◌, subst}
+use Rattle.std.proofs.Common.{◌≡◌, ◌⊎◌, inl, inr, ℕ, List, Option, refl, ◌∙◌, subst}
 use Rattle.outside.specs.Faults.{Rose}
 use Rattle.status_lines.specs.declared.status.Status.{Status}
 use Rattle.status_lines.specs.declared.status.Status.TheVariants.{Done, No, NoMemory}
@@ -17,8 +17,7 @@ use Rattle.otp_tool.specs.Outcomes.{Checks, HasReadFault, IsToldVerdict, IsWritt
 use Rattle.otp_tool.specs.Results.{IsNoResult, IsResult, text_widths}
 use Rattle.otp_tool.specs.Steps.{Change, IsOutcome}
 use Rattle.otp_tool.proofs.DueLemmas.{complete}
-use Rattle.otp_tool.proofs.FindingLemmas.{same_grammar}
-use Rattle.otp_tool.proofs.ToldLemmas.{told_by_finding}
+use Rattle.otp_tool.proofs.FindingLemmas.{one_finding, same_grammar}
 
 -- ---- what is written
 
@@ -61,16 +60,16 @@ says_no (sample n) g second text c r = absurd c
 says_no (check name answer) g second text c r = (r.0, has_verdict (Not r.0) g second text r.1)
 
 module _ (words : List (List ℕ)) (c : Change) (verdict : Verdict) (told : IsToldVerdict words c.held verdict) where
-  abbrev command : Command
-  command = told.accepts.command
+  abbrev checking : Command
+  checking = told.accepts.command
 
   -- what is written is for bytes that the shelf may hold
   of_written : (writes : Command → GrammarValue → List ℕ → List ℕ → Type 0) (taken : List ℕ → Type 0) (status : Status)
       → ((g : GrammarValue) (bytes second text : List ℕ) → IsFileOf bytes g
-      → MayRead words c.held command bytes second → writes command g second text → status ≡ status_of verdict)
+      → MayRead words c.held checking bytes second → writes checking g second text → status ≡ status_of verdict)
       → IsWrittenBehind words c.held writes taken → status ≡ status_of verdict
   of_written writes taken status says w =
-      let same : w.command ≡ command = one_command words w.command command w.reads.are told.accepts.are in
+      let same : w.command ≡ checking = one_command words w.command checking w.reads.are told.accepts.are in
       let reads = subst (λ (k : Command). MayRead words c.held k w.bytes w.second) same w.reads in
       let result = subst (λ (k : Command). OnGrammar (λ g. writes k g w.second w.text) w.bytes) same w.result in
       says result.grammar w.bytes w.second w.text result.file reads result.fact
@@ -78,13 +77,13 @@ module _ (words : List (List ℕ)) (c : Change) (verdict : Verdict) (told : IsTo
   of_done : (s : Status) → s ≡ Done → IsOutcome words c s → Done ≡ status_of verdict
   of_done s e o = of_written IsResult _ Done
       (λ g bytes second text file reads r. told.only bytes second reads Yes
-      (record { grammar = g; file = file; fact = says_done command g second text told.checks r }))
+      (record { grammar = g; file = file; fact = says_done checking g second text told.checks r }))
       (subst (IsOutcome words c) e o).1
 
   of_no : (s : Status) → s ≡ No → IsOutcome words c s → No ≡ status_of verdict
   of_no s e o = of_written IsNoResult _ No
       (λ g bytes second text file reads r.
-      let v = says_no command g second text told.checks r in
+      let v = says_no checking g second text told.checks r in
       told.only bytes second reads (Not v.0) (record { grammar = g; file = file; fact = v.1 }))
       (subst (IsOutcome words c) e o).1
 
@@ -140,12 +139,17 @@ pub told_by_verdict : (words : List (List ℕ)) (held : List ℕ → Option (Lis
     → ((bytes second : List ℕ) → MayRead words held command bytes second
     → OnGrammar (λ g. IsJudged g second verdict) bytes) → IsToldVerdict words held verdict
 told_by_verdict words held command verdict are checks judges = record {
-  accepts = told_by_finding words held command ready are (λ bytes second reads.
-      let j = judges bytes second reads in record {
-        grammar = j.grammar;
-        file = j.file;
-        fact = is_ready command j.grammar second verdict checks j.fact;
-      });
+  accepts = record {
+    command = command;
+    are = are;
+    only = λ bytes second reads other found.
+        let j = judges bytes second reads in
+        one_finding command bytes second other ready found (record {
+          grammar = j.grammar;
+          file = j.file;
+          fact = is_ready command j.grammar second verdict checks j.fact;
+        });
+  };
   checks = checks;
   only = λ bytes second reads other h.
       let j = judges bytes second reads in

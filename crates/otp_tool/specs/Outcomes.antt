@@ -91,7 +91,7 @@ answer_to (no_answer line cause) = AnswerRefused 2 line cause
 answer_to (over_budget entry stage) = Budget entry stage
 answer_to ready = Done
 
--- The status is this one. Want of memory may come instead, and so may a fault of reading.
+-- The status is this one, or memory ran out, or reading failed.
 abbrev pub Stands : Status → Status → Type 0
 Stands due status = (status ≡ due) ⊎ ((status ≡ NoMemory) ⊎ ((word : ℕ) × (status ≡ ReadFault word)))
 

@@ -1,4 +1,4 @@
--- Constraints that are seen alike, by their families and sides, count, phase and move alike.
+-- Constraints that require the same, by their families and sides, count, phase and move alike.
 use Rattle.std.proofs.Common.{◌≡◌, ℕ, ◌&&◌, not, Bool, true, false, cond, List, [], ◌∷◌, length, map, take, filter, drop, refl, ap, ap₂, sym, ◌∙◌, subst}
 use Rattle.std.specs.Prelude.{if◌then◌else◌, slice_index_or, ◌-◌}
 use Rattle.std.specs.List.{list_all}
@@ -10,8 +10,7 @@ use Rattle.tier_core.specs.Tiers.{Tiers}
 use Rattle.tier_core.specs.Timelines.{project, squeeze, word, symbol}
 use Rattle.tier_core.specs.Scan.{opens}
 use Rattle.tier_core.specs.Sides.{has_edge_type, is_implication, is_stretch}
-use Rattle.grammar_reader.specs.Seen.{constraint_seen}
-use Rattle.grammar_reader.specs.Values.{NamedConstraint}
+use Rattle.grammar_reader.specs.Requirements.{Requirement, requirement_seen, requirements_seen}
 use Rattle.violation.specs.Candidates.{vec}
 use Rattle.violation.specs.Counts.{viol}
 use Rattle.violation.specs.Moves.{costs, costs_each, cost_of, cut, first_phase, is_tier_open, moved, next_phase, next_phases}
@@ -24,9 +23,9 @@ use Rattle.cert_check.specs.Seen.{AreAskedAlike}
 abbrev pub with_constraints : Problem → List Constraint → Problem
 with_constraints problem cs = record { tiers = problem.tiers; constraints = cs; form = problem.form }
 
--- what relates two problems that differ in constraints alone, which are seen alike, relates any that are asked alike
+-- what relates two problems that differ in constraints alone, which require the same, relates any that are asked alike
 pub by_alike : (R : Problem → Problem → Type 0)
-    → ((problem : Problem) (cs ds : List Constraint) → map constraint_seen cs ≡ map constraint_seen ds
+    → ((problem : Problem) (cs ds : List Constraint) → requirements_seen cs ≡ requirements_seen ds
     → R (with_constraints problem cs) (with_constraints problem ds))
     → (p q : Problem) → AreAskedAlike p q → R p q
 by_alike R step p q alike =
@@ -37,7 +36,7 @@ by_alike R step p q alike =
 
 -- and what holds of one holds of the other
 pub by_constraints : (P : Problem → Type 0)
-    → ((problem : Problem) (cs ds : List Constraint) → map constraint_seen cs ≡ map constraint_seen ds
+    → ((problem : Problem) (cs ds : List Constraint) → requirements_seen cs ≡ requirements_seen ds
     → P (with_constraints problem cs) → P (with_constraints problem ds))
     → (p q : Problem) → AreAskedAlike p q → P p → P q
 by_constraints P step = by_alike (λ p q. P p → P q) step
@@ -45,28 +44,28 @@ by_constraints P step = by_alike (λ p q. P p → P q) step
 -- ---- lists of constraints
 
 abbrev SeenAlike : List Constraint → List Constraint → Type 0
-SeenAlike cs ds = map constraint_seen cs ≡ map constraint_seen ds
+SeenAlike cs ds = requirements_seen cs ≡ requirements_seen ds
 
-abbrev pub is_seen_stretch : NamedConstraint → Bool
+abbrev pub is_seen_stretch : Requirement → Bool
 is_seen_stretch n = is_implication n.family && not (has_edge_type n.left)
 
 pub seen_filter : (cs : List Constraint)
-    → map constraint_seen (filter is_stretch cs) ≡ filter is_seen_stretch (map constraint_seen cs)
+    → requirements_seen (filter is_stretch cs) ≡ filter is_seen_stretch (requirements_seen cs)
 seen_filter [] = refl
 seen_filter (c ∷ cs) = go (is_stretch c) (seen_filter cs)
   where
-    go : (b : Bool) → map constraint_seen (filter is_stretch cs) ≡ filter is_seen_stretch (map constraint_seen cs)
-        → map constraint_seen (cond b (c ∷ filter is_stretch cs) (filter is_stretch cs))
-        ≡ cond b (constraint_seen c ∷ filter is_seen_stretch (map constraint_seen cs))
-        (filter is_seen_stretch (map constraint_seen cs))
-    go true e = ap (λ ns. constraint_seen c ∷ ns) e
+    go : (b : Bool) → requirements_seen (filter is_stretch cs) ≡ filter is_seen_stretch (requirements_seen cs)
+        → requirements_seen (cond b (c ∷ filter is_stretch cs) (filter is_stretch cs))
+        ≡ cond b (requirement_seen c ∷ filter is_seen_stretch (requirements_seen cs))
+        (filter is_seen_stretch (requirements_seen cs))
+    go true e = ap (λ ns. requirement_seen c ∷ ns) e
     go false e = e
 
 pub same_count : (cs ds : List Constraint) → SeenAlike cs ds → length cs ≡ length ds
-same_count cs ds e = sym (length-map cs constraint_seen) ∙ ap length e ∙ length-map ds constraint_seen
+same_count cs ds e = sym (length-map cs requirement_seen) ∙ ap length e ∙ length-map ds requirement_seen
 
 first_ones : (r : ℕ) (cs ds : List Constraint) → SeenAlike cs ds → SeenAlike (take r cs) (take r ds)
-first_ones r cs ds e = sym (take-map constraint_seen r cs) ∙ ap (take r) e ∙ take-map constraint_seen r ds
+first_ones r cs ds e = sym (take-map requirement_seen r cs) ∙ ap (take r) e ∙ take-map requirement_seen r ds
 
 stretches_seen : (r : ℕ) (cs ds : List Constraint) → SeenAlike cs ds
     → SeenAlike (filter is_stretch (take r cs)) (filter is_stretch (take r ds))
@@ -74,12 +73,12 @@ stretches_seen r cs ds e =
     seen_filter (take r cs) ∙ ap (filter is_seen_stretch) (first_ones r cs ds e) ∙ sym (seen_filter (take r ds))
 
 pub seen_vec : (T : List (List Sym)) (cs : List Constraint)
-    → vec cs T ≡ map (λ n. viol n.family n.left n.right T) (map constraint_seen cs)
+    → vec cs T ≡ map (λ n. viol n.family n.left n.right T) (requirements_seen cs)
 seen_vec T [] = refl
 seen_vec T (c ∷ cs) = ap (λ ns. viol c.family c.left c.right T ∷ ns) (seen_vec T cs)
 
 seen_phases : (p : List (List Sym)) (cs : List Constraint)
-    → map (λ c. phase c.left c.right p) cs ≡ map (λ n. phase n.left n.right p) (map constraint_seen cs)
+    → map (λ c. phase c.left c.right p) cs ≡ map (λ n. phase n.left n.right p) (requirements_seen cs)
 seen_phases p [] = refl
 seen_phases p (c ∷ cs) = ap (λ ps. phase c.left c.right p ∷ ps) (seen_phases p cs)
 
@@ -92,9 +91,9 @@ next_alike column [] (d ∷ ds) e phases = cc
 next_alike column (c ∷ cs) [] e phases = cc
 next_alike column (c ∷ cs) (d ∷ ds) e [] = refl
 next_alike column (c ∷ cs) (d ∷ ds) e (p ∷ ps) =
-    let head : constraint_seen c ≡ constraint_seen d = cc in
+    let head : requirement_seen c ≡ requirement_seen d = cc in
     let tail : SeenAlike cs ds = cc in
-    ap₂ (λ (n : NamedConstraint) qs. next_phase n.left n.right p column ∷ qs) head (next_alike column cs ds tail ps)
+    ap₂ (λ (n : Requirement) qs. next_phase n.left n.right p column ∷ qs) head (next_alike column cs ds tail ps)
 
 costs_alike : (column : List Sym) (opened : ℕ → Bool) (cs ds : List Constraint) → SeenAlike cs ds
     → (phases : List Phase) → costs_each cs opened phases column ≡ costs_each ds opened phases column
@@ -102,23 +101,23 @@ costs_alike column opened [] [] e phases = refl
 costs_alike column opened [] (d ∷ ds) e phases = cc
 costs_alike column opened (c ∷ cs) [] e phases = cc
 costs_alike column opened (c ∷ cs) (d ∷ ds) e phases =
-    let head : constraint_seen c ≡ constraint_seen d = cc in
+    let head : requirement_seen c ≡ requirement_seen d = cc in
     let tail : SeenAlike cs ds = cc in
     let left : Bool → List Phase = λ stretch. if stretch then drop 1 phases else phases in
-    ap₂ (λ (n : NamedConstraint) (ns : List ℕ).
+    ap₂ (λ (n : Requirement) (ns : List ℕ).
     (if costs n.family n.left n.right opened (first_phase phases) column then 1 else 0) ∷ ns) head
     (costs_alike column opened cs ds tail (left (is_stretch c))
-    ∙ ap (λ (n : NamedConstraint). costs_each ds opened (left (is_seen_stretch n)) column) head)
+    ∙ ap (λ (n : Requirement). costs_each ds opened (left (is_seen_stretch n)) column) head)
 
-closed_alike : (is_left : Constraint → Bool) (of : NamedConstraint → Bool)
-    → ((c : Constraint) → is_left c ≡ of (constraint_seen c)) → (cs ds : List Constraint) → SeenAlike cs ds
+closed_alike : (is_left : Constraint → Bool) (of : Requirement → Bool)
+    → ((c : Constraint) → is_left c ≡ of (requirement_seen c)) → (cs ds : List Constraint) → SeenAlike cs ds
     → (phases : List Phase) → AreClosedOr is_left cs phases → AreClosedOr is_left ds phases
 closed_alike is_left of tells [] [] e phases h = h
 closed_alike is_left of tells [] (d ∷ ds) e phases h = cc
 closed_alike is_left of tells (c ∷ cs) [] e phases h = cc
 closed_alike is_left of tells (c ∷ cs) (d ∷ ds) e [] h = absurd h
 closed_alike is_left of tells (c ∷ cs) (d ∷ ds) e (p ∷ ps) h =
-    let head : constraint_seen c ≡ constraint_seen d = cc in
+    let head : requirement_seen c ≡ requirement_seen d = cc in
     let tail : SeenAlike cs ds = cc in (
       h.0 ∙ ap not (tells c ∙ ap of head ∙ sym (tells d)),
       closed_alike is_left of tells cs ds tail ps h.1,
@@ -126,7 +125,7 @@ closed_alike is_left of tells (c ∷ cs) (d ∷ ds) e (p ∷ ps) h =
 
 -- ---- problems
 
-module _ (problem : Problem) (cs ds : List Constraint) (alike : map constraint_seen cs ≡ map constraint_seen ds) where
+module _ (problem : Problem) (cs ds : List Constraint) (alike : requirements_seen cs ≡ requirements_seen ds) where
   abbrev here : Problem
   here = with_constraints problem cs
 

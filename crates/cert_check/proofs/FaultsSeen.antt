@@ -7,7 +7,7 @@ use Rattle.tier_core.specs.declared.kind.Kind.{Kind}
 use Rattle.tier_core.specs.declared.constraint.Constraint.{Constraint}
 use Rattle.tier_core.specs.Classes.{has, sets_have}
 use Rattle.tier_core.specs.Kinds.{AreStretchesBelow, PrefixKind, prefix_kind}
-use Rattle.grammar_reader.specs.Seen.{constraint_seen}
+use Rattle.grammar_reader.specs.Requirements.{requirements_seen}
 use Rattle.violation.specs.Candidates.{IsCandidate, count_at}
 use Rattle.violation.specs.Moves.{moved, cost_of, cut, is_final}
 use Rattle.violation.specs.Prefixes.{kind_of_bits}
@@ -29,12 +29,12 @@ use Rattle.cert_check.specs.Seen.{AreAskedAlike, AreSeenAlike, arc_seen, node_se
 use Rattle.cert_check.proofs.AskedAlike.{by_alike, same_closed, same_cost, same_count, same_cut, same_kind, same_move, same_stretch_count, same_vec, with_constraints}
 use Rattle.cert_check.proofs.SeenLists.{at_number, member}
 
--- Two answers that are seen alike, each for its own constraints, which are seen alike.
+-- Two answers that are seen alike, each for its own constraints, which require the same.
 record Two : Type 0 where
   base : Problem
   cs : List Constraint
   ds : List Constraint
-  asked : map constraint_seen cs ≡ map constraint_seen ds
+  asked : requirements_seen cs ≡ requirements_seen ds
   a : Answer
   b : Answer
   seen : AreSeenAlike (with_constraints base cs) a b
@@ -453,7 +453,7 @@ fault_there s (ArcsDiffer state column listed kept) place f = (wrong_arcs s stat
 
 -- ---- any two problems that are asked alike
 
-abbrev two : (base : Problem) (cs ds : List Constraint) → map constraint_seen cs ≡ map constraint_seen ds
+abbrev two : (base : Problem) (cs ds : List Constraint) → requirements_seen cs ≡ requirements_seen ds
     → (a b : Answer) → AreSeenAlike (with_constraints base cs) a b → Two
 two base cs ds asked a b seen = record { base = base; cs = cs; ds = ds; asked = asked; a = a; b = b; seen = seen }
 

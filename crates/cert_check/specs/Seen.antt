@@ -3,7 +3,7 @@
 use Rattle.std.specs.Prelude.{ℕ, ◌≡◌, Bool, List, length, map}
 use Rattle.tier_core.specs.Classes.{sets_of}
 use Rattle.tier_core.specs.Kinds.{PrefixKind}
-use Rattle.grammar_reader.specs.Seen.{constraint_seen}
+use Rattle.grammar_reader.specs.Requirements.{requirements_seen}
 use Rattle.violation.specs.Prefixes.{kind_of_bits}
 use Rattle.violation.specs.Problems.{Problem}
 use Rattle.answer_text.specs.declared.stage.Node.{Node}
@@ -35,9 +35,9 @@ pub record AreSeenAlike (problem : Problem) (answer other : Answer) : Type 0 whe
       ≡ map (node_seen problem r) (nodes_at other.stages.items r)
   pub states : map state_seen answer.automaton.states.items ≡ map state_seen other.automaton.states.items
 
--- Two problems are asked alike: they have the same tiers and the same form, and constraints that are seen
--- as the same, by their names, families and sides.
+-- Two problems are asked alike: they have the same tiers and the same form, and constraints with the same
+-- families and sides, in the same order. Names have no part in it.
 pub record AreAskedAlike (problem other : Problem) : Type 0 where
   pub tiers : problem.tiers ≡ other.tiers
-  pub constraints : map constraint_seen problem.constraints ≡ map constraint_seen other.constraints
+  pub constraints : requirements_seen problem.constraints ≡ requirements_seen other.constraints
   pub form : problem.form ≡ other.form

@@ -10,6 +10,7 @@ pub mod Names
 pub mod Values
 pub mod Reading
 pub mod Seen
+pub mod Requirements
 pub mod Said
 pub mod Made
 pub mod Grammars

@@ -151,6 +151,16 @@ module _ (g : GrammarValue) (form : List ℕ) (budget : ℕ) where
       one_choice (RefusesForm g form) (λ z. Over z ⊎ Within z) (one_refused_form g form) not_in_budget one_in_budget
       x y (answer_steps x a) (answer_steps y b)
 
+  -- a problem that is within the budget leaves nothing but that all is ready
+  pub only_within : AreWithin → (x : Finding) → FindsForAnswer g form budget x → x ≡ ready
+  only_within w x a =
+      one_choice (RefusesForm g form) (λ z. Over z ⊎ Within z) (one_refused_form g form) not_in_budget one_in_budget
+      x ready (answer_steps x a) (inr (inr (refl, w)))
+
+  pub only_over : (stage : ℕ) → IsOverBudget g form budget stage → (x : Finding) → FindsForAnswer g form budget x
+      → x ≡ over_budget 0 stage
+  only_over stage o x a = for_answer x (over_budget 0 stage) a (refl, o)
+
   -- ---- in `once`
 
   abbrev IsOnceOver : ℕ → Type 0

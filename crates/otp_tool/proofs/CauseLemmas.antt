@@ -25,6 +25,10 @@ module _ (words : List (List ℕ)) (c : Change) (s : Status) (o : IsOutcome word
   pub no : s ≡ No → IsWrittenBehind words c.held IsNoResult (λ text. c.taking.new ≡ appended c.taking.old text)
   no e = (at No e).1
 
+  pub nothing_refused : (s ≡ Done) ⊎ (s ≡ No) → IsBehind words c.held ready
+  nothing_refused (inl e) = (at Done e).0
+  nothing_refused (inr e) = (at No e).0
+
   pub by_reading : (word : ℕ) → s ≡ ReadFault word → HasReadFault words c.held c.faults_before c.faults_after word
   by_reading word e = (at (ReadFault word) e).0
 

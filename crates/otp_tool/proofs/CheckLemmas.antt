@@ -28,7 +28,7 @@ use Rattle.otp_tool.specs.Files.{IsHeld, answer_file}
 use Rattle.otp_tool.specs.Findings.{Finding, FindsForCheck, ready}
 use Rattle.otp_tool.specs.Results.{IsNoText, IsYesText, text_widths}
 use Rattle.otp_tool.specs.Steps.{Change, IsCheckStep, IsCheckWork, IsNoEnd, IsRefusal, IsSecondRefusal, RefusesAnswer, Taking, no_end_of, taking_of, verdict_end}
-use Rattle.otp_tool.proofs.GrammarLemmas.{same_tiers}
+use Rattle.otp_tool.proofs.GrammarLemmas.{same_requirements, same_tiers}
 use Rattle.otp_tool.proofs.RefusalLemmas.{refusal_weaker, second_refused}
 use Rattle.std.proofs.lemmas.Bool.{false≢true}
 use Rattle.otp_tool.proofs.CheckFindings.{is_read, one_reading}
@@ -82,7 +82,7 @@ module _ (g : Grammar) where
         shape = shape;
         of_grammar = shape_for g shape of_grammar;
         read = read;
-        is_asked = record { tiers = sym (same_tiers g); constraints = refl; form = refl };
+        is_asked = record { tiers = sym (same_tiers g); constraints = sym (same_requirements g); form = refl };
       }
 
       -- the verdict on what is read says whether the bytes have the verdict Yes
@@ -112,6 +112,7 @@ module _ (g : Grammar) where
           → (verdict ≡ Yes → IsSound (asked_by g answer) answer)
           → IsVerdictText text_widths verdict (value_of g) bytes (verdict_text (widths_of shape) verdict)
       is_text verdict v sound = record {
+        within = within;
         answer = answer;
         problem = asked_by g answer;
         reading = reading;

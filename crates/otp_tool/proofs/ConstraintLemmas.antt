@@ -1,10 +1,10 @@
--- Constraints that are seen alike, by their families and sides, have the same stages.
-use Rattle.std.proofs.Common.{◌≡◌, ℕ, ◌-◌, ◌≤◌, List, length, map, take, sym, ◌∙◌, subst, arith}
+-- Constraints that require the same, by their families and sides, have the same stages.
+use Rattle.std.proofs.Common.{◌≡◌, ℕ, ◌-◌, ◌≤◌, List, length, take, sym, ◌∙◌, subst, arith}
 use Rattle.std.proofs.lemmas.List.Elements.{All-weaker}
 use Rattle.tier_core.specs.declared.sym.Sym.{Sym}
 use Rattle.tier_core.specs.declared.constraint.Constraint.{Constraint}
 use Rattle.tier_core.specs.Kinds.{PrefixKind}
-use Rattle.grammar_reader.specs.Seen.{constraint_seen}
+use Rattle.grammar_reader.specs.Requirements.{requirements_seen}
 use Rattle.violation.specs.Candidates.{IsAtMost, IsCandidate, IsOptimalFor, vec}
 use Rattle.violation.specs.Problems.{Problem, last_stage}
 use Rattle.violation.specs.Rests.{AreWholeKindsOver, AreWholeKindsWithin, IsWholeKind}
@@ -13,7 +13,7 @@ use Rattle.cert_check.specs.Seen.{AreAskedAlike}
 use Rattle.cert_check.proofs.AskedAlike.{by_constraints, same_count, same_kind, same_vec, with_constraints}
 use Rattle.ranked_gen.specs.Budgets.{AreAllWithin, HasFewKinds, IsFirstOver, IsOver, IsWithin}
 
-module _ (problem : Problem) (cs ds : List Constraint) (alike : map constraint_seen cs ≡ map constraint_seen ds) where
+module _ (problem : Problem) (cs ds : List Constraint) (alike : requirements_seen cs ≡ requirements_seen ds) where
   optimal_alike : (r : ℕ) (T : List (List Sym)) → IsOptimalFor (with_constraints problem cs) r T
       → IsOptimalFor (with_constraints problem ds) r T
   optimal_alike r T o = record {
@@ -43,8 +43,8 @@ module _ (problem : Problem) (cs ds : List Constraint) (alike : map constraint_s
     };
   }
 
-module _ (problem : Problem) (budget : ℕ) (cs ds : List Constraint) (alike : map constraint_seen cs
-    ≡ map constraint_seen ds) where
+module _ (problem : Problem) (budget : ℕ) (cs ds : List Constraint)
+    (alike : requirements_seen cs ≡ requirements_seen ds) where
   kinds_alike : (r : ℕ) (ks : List PrefixKind) → AreKindsOfStage (with_constraints problem cs) r ks
       → AreKindsOfStage (with_constraints problem ds) r ks
   kinds_alike r ks a = record {
@@ -59,7 +59,7 @@ module _ (problem : Problem) (budget : ℕ) (cs ds : List Constraint) (alike : m
   over_alike r o = record { kinds = o.kinds; are = kinds_alike r o.kinds o.are; more = o.more }
 
 few_alike : (problem : Problem) (budget : ℕ) (cs ds : List Constraint)
-    → map constraint_seen cs ≡ map constraint_seen ds → (r : ℕ)
+    → requirements_seen cs ≡ requirements_seen ds → (r : ℕ)
     → HasFewKinds (with_constraints problem cs) budget r → HasFewKinds (with_constraints problem ds) budget r
 few_alike problem budget cs ds alike r h = record {
   kinds = h.kinds;
@@ -68,7 +68,7 @@ few_alike problem budget cs ds alike r h = record {
 }
 
 within_alike : (problem : Problem) (budget : ℕ) (cs ds : List Constraint)
-    → map constraint_seen cs ≡ map constraint_seen ds → (r : ℕ)
+    → requirements_seen cs ≡ requirements_seen ds → (r : ℕ)
     → IsWithin (with_constraints problem cs) budget r → IsWithin (with_constraints problem ds) budget r
 within_alike problem budget cs ds alike r w = λ ks a. w ks (kinds_alike problem budget ds cs (sym alike) r ks a)
 

@@ -8,7 +8,6 @@ use Rattle.command_line.proofs.CommandLemmas.{one_command}
 use Rattle.otp_tool.specs.Findings.{Finding, Finds, long_file, no_grammar, no_form, long_second, no_rows, no_lexicon, no_answer, over_budget, ready}
 use Rattle.otp_tool.specs.Outcomes.{HasReadFault, IsBeforeWriting, IsBehind, IsTold, IsTooLong, MayRead, Stands, answer_to}
 use Rattle.otp_tool.specs.Steps.{Change, IsOutcome}
-use Rattle.otp_tool.proofs.FindingLemmas.{one_finding}
 
 -- what is found is what is told
 same : (words : List (List ℕ)) (held : List ℕ → Option (List ℕ)) (x y : Finding) → IsTold words held x
@@ -16,9 +15,7 @@ same : (words : List (List ℕ)) (held : List ℕ → Option (List ℕ)) (x y : 
 same words held x y t b =
     let command : b.command ≡ t.command = one_command words b.command t.command b.reads.are t.are in
     let reads = subst (λ (k : Command). MayRead words held k b.bytes b.second) command b.reads in
-    one_finding t.command b.bytes b.second y x
-    (subst (λ (k : Command). Finds k b.bytes b.second y) command b.finds)
-    (t.finds b.bytes b.second reads)
+    t.only b.bytes b.second reads y (subst (λ (k : Command). Finds k b.bytes b.second y) command b.finds)
 
 -- whether a finding is that nothing is refused
 abbrev IsReady : Finding → Type 0

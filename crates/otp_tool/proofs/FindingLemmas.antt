@@ -92,3 +92,15 @@ module _ (command : Command) (bytes second : List ℕ) where
       one_choice LongFile NotLongFile (λ v w l m. l.0
       ∙ sym m.0) long_in (one_choice NoGrammar InGrammar one_refused refused_in both_in)
       x y (steps x a) (steps y b)
+
+  -- of bytes that are a grammar's file, it finds only what it finds in the grammar
+  pub only_in : (g : GrammarValue) → IsFileOf bytes g → (y : Finding)
+      → ((x : Finding) → FindsIn command g second x → x ≡ y) → (x : Finding) → Finds command bytes second x → x ≡ y
+  only_in g file y only x f = by_step (steps x f)
+    where
+      by_step : LongFile x ⊎ NotLongFile x → x ≡ y
+      by_step (inl l) = absurd (too_long 65536 (length bytes) l.1 file.within)
+      by_step (inr (inl n)) = absurd (false≢true (ap is_ok (sym n.fact.1 ∙ file.tells)))
+      by_step (inr (inr i)) =
+          let same = same_grammar bytes i.grammar g i.file file in
+          only x (subst (λ g. FindsIn command g second x) same i.fact)

@@ -1,5 +1,5 @@
 -- What `generate` writes is read again, and gets Yes.
-use Rattle.std.proofs.Common.{ℕ, ◌+◌, ◌≤◌, List, filter, take, get_or, length, refl, ap, sym, ◌∙◌, arith}
+use Rattle.std.proofs.Common.{ℕ, ◌+◌, ◌≤◌, List, filter, take, get_or, length, ap, sym, ◌∙◌, arith}
 use Rattle.std.specs.List.{AllByRecursion}
 use Rattle.std.proofs.lemmas.List.{length-map}
 use Rattle.std.proofs.lemmas.List.FromFn.{get_or-map-range_with_len}
@@ -33,7 +33,7 @@ use Rattle.cert_check.proofs.Faultless.{faultless_if_certified}
 use Rattle.otp_tool.specs.Answers.{IsJudged}
 use Rattle.otp_tool.specs.Results.{IsGeneratedText, whole_text}
 use Rattle.otp_tool.specs.Steps.{IsMade}
-use Rattle.otp_tool.proofs.GrammarLemmas.{same_tiers}
+use Rattle.otp_tool.proofs.GrammarLemmas.{same_requirements, same_tiers}
 use Rattle.otp_tool.proofs.SettledLemmas.{shape_for}
 use Rattle.otp_tool.proofs.StepLemmas.{made_right, same_shape_widths, whole_written}
 
@@ -105,7 +105,11 @@ module _ (g : Grammar) (form : List ℕ) (budget : ℕ) (few : budget ≤ 65536)
       shape = shape;
       of_grammar = shape_for g shape of_grammar;
       read = read;
-      is_asked = record { tiers = sym (same_tiers g); constraints = refl; form = sym made.right.form };
+      is_asked = record {
+        tiers = sym (same_tiers g);
+        constraints = sym (same_requirements g);
+        form = sym made.right.form;
+      };
     };
     is_verdict = faultless;
   }

@@ -1,12 +1,21 @@
 -- Grammars as values and in the code.
-use Rattle.std.proofs.Common.{◌≡◌, map, string_bytes, ap, ◌∙◌}
+use Rattle.std.proofs.Common.{◌≡◌, List, map, string_bytes, ap, ◌∙◌}
 use Rattle.std.proofs.lemmas.List.{length-map}
+use Rattle.std.proofs.lemmas.Simd.{map-map}
+use Rattle.tier_core.specs.declared.sym.Sym.{Sym}
 use Rattle.tier_core.specs.Tiers.{tiers_by_kinds}
 use Rattle.tier_core.specs.Tables.{tiers_of_table}
 use Rattle.grammar_reader.specs.declared.grammar.Grammar.{Grammar}
 use Rattle.grammar_reader.specs.Grammars.{value_of}
+use Rattle.grammar_reader.specs.Requirements.{requirement_of, requirements_of, requirements_seen}
+use Rattle.grammar_reader.specs.Seen.{constraint_seen}
+use Rattle.grammar_reader.specs.Values.{NamedConstraint}
 use Rattle.grammar_reader.proofs.Shaping.{kinds_back}
-use Rattle.otp_tool.specs.Grammars.{kinds_of, tiers_of}
+use Rattle.tableau.specs.Tableaux.{names_seen}
+use Rattle.violation.specs.Candidates.{vec}
+use Rattle.violation.specs.Counts.{viol}
+use Rattle.otp_tool.specs.Grammars.{constraint_names, kinds_of, tiers_of}
+use Rattle.otp_tool.specs.Results.{vector_of}
 
 pub same_kinds : (g : Grammar) → kinds_of (value_of g) ≡ g.tiers.kinds.items
 same_kinds g = kinds_back (map string_bytes g.tiers.names.items) g.tiers.kinds.items
@@ -14,3 +23,12 @@ same_kinds g = kinds_back (map string_bytes g.tiers.names.items) g.tiers.kinds.i
 
 pub same_tiers : (g : Grammar) → tiers_of (value_of g) ≡ tiers_of_table g.tiers
 same_tiers g = ap tiers_by_kinds (same_kinds g)
+
+pub same_requirements : (g : Grammar) → requirements_of (value_of g) ≡ requirements_seen g.constraints.items
+same_requirements g = map-map requirement_of constraint_seen g.constraints.items
+
+pub same_names : (g : Grammar) → constraint_names (value_of g) ≡ names_seen g.constraints.items
+same_names g = map-map (λ (n : NamedConstraint). n.name) constraint_seen g.constraints.items
+
+pub same_vector : (g : Grammar) (T : List (List Sym)) → vector_of (value_of g) T ≡ vec g.constraints.items T
+same_vector g T = map-map (λ (n : NamedConstraint). viol n.family n.left n.right T) constraint_seen g.constraints.items

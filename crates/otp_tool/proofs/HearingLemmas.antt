@@ -29,7 +29,7 @@ use Rattle.otp_tool.specs.Lexicons.{HasSurfaceWord, IsLexiconFile, IsSurfaceOf, 
 use Rattle.otp_tool.specs.Findings.{FindsForHearing, no_form, no_lexicon, ready}
 use Rattle.otp_tool.specs.Results.{IsHeardText}
 use Rattle.otp_tool.specs.Steps.{Change, IsHearingWork, IsRefusal, IsSecondRefusal, RefusesEntry, RefusesLexicon, RefusesSurface, change_of, end_of}
-use Rattle.otp_tool.proofs.GrammarLemmas.{same_tiers}
+use Rattle.otp_tool.proofs.GrammarLemmas.{same_requirements, same_tiers}
 use Rattle.otp_tool.proofs.RefusalLemmas.{entry_for_hearing, lexicon_for_hearing, refusal_weaker, refused_before, second_refused, surface_for_hearing}
 use Rattle.otp_tool.proofs.StepLemmas.{written}
 
@@ -37,7 +37,11 @@ use Rattle.otp_tool.proofs.StepLemmas.{written}
 
 module _ (g : Grammar) where
   asks_all : AreAsked (value_of g) (asked g.tiers g.constraints.items)
-  asks_all = record { tiers = λ u. sym (same_tiers g); constraints = λ u. refl; form = λ u. refl }
+  asks_all = record {
+    tiers = λ u. sym (same_tiers g);
+    constraints = λ u. sym (same_requirements g);
+    form = λ u. refl;
+  }
 
   same_overt : overt_count (value_of g) ≡ length (tiers_of_table g.tiers).overt
   same_overt = ap (λ (tiers : Tiers). length tiers.overt) (same_tiers g)

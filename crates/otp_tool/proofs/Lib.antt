@@ -8,6 +8,7 @@ mod ShapesAlike
 mod CheckFindings
 mod HearingFindings
 mod FindingLemmas
+mod ToldLemmas
 mod StepLemmas
 mod OutcomeLemmas
 mod RefusalLemmas

@@ -31,14 +31,14 @@ use Rattle.cert_check.specs.Verdicts.{IsVerdict}
 use Rattle.cert_check.specs.declared.fault.Verdict.{Verdict}
 use Rattle.cert_check.proofs.FaultsSeen.{same_verdict}
 use Rattle.otp_tool.specs.Answers.{IsAskedBy, IsSettled, IsShapeFor}
-use Rattle.otp_tool.proofs.GrammarLemmas.{same_tiers}
+use Rattle.otp_tool.proofs.GrammarLemmas.{same_requirements, same_tiers}
 use Rattle.otp_tool.proofs.ShapesAlike.{AreAlike, map_alike, same_reading, shapes_alike}
 use Rattle.otp_tool.proofs.StepLemmas.{same_shape_widths, same_width}
 
 pub shape_for : (g : Grammar) (shape : Shape) → IsShapeOf g shape → IsShapeFor (value_of g) shape
 shape_for g shape s = record {
   constraints = g.constraints.items;
-  seen = refl;
+  seen = sym (same_requirements g);
   width = s.width ∙ sym (same_width g);
   inputs = s.inputs ∙ ap (λ (tiers : Tiers). tiers.input) (sym (same_tiers g));
   phases = s.phases;
@@ -182,7 +182,7 @@ module _ (g : Grammar) (bytes : List ℕ) (shape : Shape) (of_grammar : IsShapeO
     asked_alike : (asks : Problem) → IsAskedBy (value_of g) other asks → AreAskedAlike problem asks
     asked_alike asks is = record {
       tiers = sym (same_tiers g) ∙ sym is.tiers;
-      constraints = sym is.constraints;
+      constraints = sym (same_requirements g) ∙ sym is.constraints;
       form = seen_alike.form ∙ sym is.form;
     }
 

@@ -9,8 +9,8 @@ use Rattle.tier_core.specs.declared.shape.Shape.{Shape}
 use Rattle.tier_core.specs.Shapes.{input_count}
 use Rattle.tier_core.specs.KindShapes.{free_count}
 use Rattle.tier_core.specs.Sides.{is_stretch}
-use Rattle.grammar_reader.specs.Seen.{constraint_seen}
-use Rattle.grammar_reader.specs.Values.{GrammarValue, NamedConstraint}
+use Rattle.grammar_reader.specs.Requirements.{Requirement, requirement_seen, requirements_seen}
+use Rattle.grammar_reader.specs.Values.{GrammarValue}
 use Rattle.grammar_reader.specs.ShapeOf.{stretch_counts}
 use Rattle.answer_reader.specs.declared.answer_err.AnswerCause.{AnswerCause}
 use Rattle.answer_reader.specs.Reading.{answer_of, answer_with, behind_form, HeadValue, constraint_count, form_of, example_of, stages_behind, states_behind}
@@ -128,26 +128,26 @@ module _ (s t : Shape) (alike : AreAlike s t) where
 -- ---- shapes of one grammar
 
 seen_stretches : (r : ℕ) (cs : List Constraint)
-    → length (filter is_stretch (take r cs)) ≡ length (filter is_seen_stretch (take r (map constraint_seen cs)))
+    → length (filter is_stretch (take r cs)) ≡ length (filter is_seen_stretch (take r (requirements_seen cs)))
 seen_stretches r cs =
-    sym (length-map (filter is_stretch (take r cs)) constraint_seen)
-    ∙ ap length (seen_filter (take r cs) ∙ ap (filter is_seen_stretch) (sym (take-map constraint_seen r cs)))
+    sym (length-map (filter is_stretch (take r cs)) requirement_seen)
+    ∙ ap length (seen_filter (take r cs) ∙ ap (filter is_seen_stretch) (sym (take-map requirement_seen r cs)))
 
 -- the counts by what is seen
-abbrev seen_counts : List NamedConstraint → List ℕ
+abbrev seen_counts : List Requirement → List ℕ
 seen_counts ns = map (λ r. length (filter is_seen_stretch (take r ns))) (range_with_len 0 (length ns + 1))
 
 pub map_alike : {X Y : Type 0} (f h : X → Y) (xs : List X) → ((x : X) → f x ≡ h x) → map f xs ≡ map h xs
 map_alike f h [] e = refl
 map_alike f h (x ∷ xs) e = ap (λ y. y ∷ map f xs) (e x) ∙ ap (λ ys. h x ∷ ys) (map_alike f h xs e)
 
-counted_as_seen : (cs : List Constraint) → stretch_counts cs ≡ seen_counts (map constraint_seen cs)
+counted_as_seen : (cs : List Constraint) → stretch_counts cs ≡ seen_counts (requirements_seen cs)
 counted_as_seen cs =
     map_alike (λ r. length (filter is_stretch (take r cs)))
-    (λ r. length (filter is_seen_stretch (take r (map constraint_seen cs)))) (range_with_len 0 (length cs + 1))
+    (λ r. length (filter is_seen_stretch (take r (requirements_seen cs)))) (range_with_len 0 (length cs + 1))
     (λ r. seen_stretches r cs)
-    ∙ ap (λ n. map (λ r. length (filter is_seen_stretch (take r (map constraint_seen cs)))) (range_with_len 0 (n + 1)))
-    (sym (length-map cs constraint_seen))
+    ∙ ap (λ n. map (λ r. length (filter is_seen_stretch (take r (requirements_seen cs)))) (range_with_len 0 (n + 1)))
+    (sym (length-map cs requirement_seen))
 
 pub shapes_alike : (g : GrammarValue) (s t : Shape) → IsShapeFor g s → IsShapeFor g t → AreAlike s t
 shapes_alike g s t a b = record {

@@ -35,8 +35,7 @@ use Rattle.otp_tool.specs.Scored.{IsNotScored, IsScored}
 use Rattle.otp_tool.specs.Findings.{Finding, FindsForAnswer, FindsForScore, no_form, ready}
 use Rattle.otp_tool.specs.Results.{IsOfRightAnswer, IsScoreText, text_widths, whole_text}
 use Rattle.otp_tool.specs.Steps.{IsEnd, IsMade, IsStep, RefusesForm, end_of, taking_of}
-use Rattle.otp_tool.proofs.GrammarLemmas.{same_kinds, same_tiers}
-use Rattle.cert_check.proofs.AskedAlike.{seen_vec}
+use Rattle.otp_tool.proofs.GrammarLemmas.{same_kinds, same_requirements, same_tiers, same_vector}
 use Rattle.violation.specs.Problems.{Problem, asked}
 use Rattle.otp_tool.specs.Grammars.{IsAsked}
 
@@ -95,7 +94,7 @@ module _ (g : Grammar) where
   scored word T counts s e = record {
     timeline = T;
     read = subst (λ w. IsScored w word T) (sym same_width) s;
-    written = ap counts_text (e ∙ seen_vec T g.constraints.items);
+    written = ap counts_text (e ∙ sym (same_vector g T));
   }
 
   -- ---- answers
@@ -116,7 +115,7 @@ module _ (g : Grammar) where
         → IsAsked (value_of g) form (asked g.tiers g.constraints.items u)
     asks u r = record {
       tiers = sym (same_tiers g);
-      constraints = refl;
+      constraints = sym (same_requirements g);
       form = subst (λ (tiers : Tiers). IsReadAs (length tiers.input) g.letters.items form u) (sym (same_tiers g)) r;
     }
 

@@ -16,13 +16,14 @@ use Rattle.answer_text.specs.Right.{IsRight}
 use Rattle.tableau.specs.declared.table.Tableau.{Tableau}
 use Rattle.tableau.specs.Layout.{tableau_text}
 use Rattle.tableau.specs.Rows.{AreRowsOf}
-use Rattle.tableau.specs.Tableaux.{IsTableauOf}
+use Rattle.tableau.specs.Tableaux.{IsTableauOf, names_seen}
 use Rattle.command_line.specs.declared.status.Status.{Status}
 use Rattle.otp_tool.specs.Files.{IsHeld, rows_file}
 use Rattle.otp_tool.specs.Grammars.{IsAsked}
 use Rattle.otp_tool.specs.Findings.{FindsForTableau, HasForm, ready}
 use Rattle.otp_tool.specs.Results.{IsTableauText}
 use Rattle.otp_tool.specs.Steps.{Change, IsMadeTableau, IsRefusal, IsSecondRefusal, IsTableauWork, RefusesBudget, RefusesFile, RefusesForm, RefusesRows, change_of, end_of}
+use Rattle.otp_tool.proofs.GrammarLemmas.{same_names}
 use Rattle.otp_tool.proofs.RefusalLemmas.{form_for_tableau, refusal_weaker, refused_before, rows_for_tableau, second_refused}
 use Rattle.otp_tool.proofs.StepLemmas.{written}
 
@@ -31,6 +32,9 @@ use Rattle.otp_tool.proofs.StepLemmas.{written}
 module _ (g : Grammar) (u : List (List Sym)) where
   abbrev problem : Problem
   problem = asked g.tiers g.constraints.items u
+
+  abbrev called : List (List ℕ)
+  called = names_seen g.constraints.items
 
   module _ (answer : Answer) (right : IsRight problem answer) where
     -- what is asked by the form of the answer is the same
@@ -44,9 +48,10 @@ module _ (g : Grammar) (u : List (List Sym)) where
         → All (IsCandidate answered) rows
     candidates_for rows a = subst (λ v. All (IsCandidate (asked g.tiers g.constraints.items v)) rows) (sym right.form) a
 
-    pub tableau_for : (rows : List (List (List Sym))) (made : Tableau) → IsTableauOf answered rows made
-        → IsTableauOf problem rows made
-    tableau_for rows made t = subst (λ v. IsTableauOf (asked g.tiers g.constraints.items v) rows made) right.form t
+    pub tableau_for : (rows : List (List (List Sym))) (made : Tableau) → IsTableauOf called answered rows made
+        → IsTableauOf called problem rows made
+    tableau_for rows made t =
+        subst (λ v. IsTableauOf called (asked g.tiers g.constraints.items v) rows made) right.form t
 
   module _ (budget : ℕ) (bytes : List ℕ) where
     pub no_rows_made : (s : Status) → IsRefusal (RefusesFile problem bytes) s
@@ -100,7 +105,7 @@ module _ (g : Grammar) (form rows : List ℕ) (budget : ℕ) where
         );
       })
 
-      module _ (made : Tableau) (m : IsMadeTableau (problem g u) budget bytes made) where
+      module _ (made : Tableau) (m : IsMadeTableau (called g u) (problem g u) budget bytes made) where
         is_ready : FindsForTableau (value_of g) form budget bytes ready
         is_ready = record {
           problem = problem g u;
@@ -115,7 +120,7 @@ module _ (g : Grammar) (form rows : List ℕ) (budget : ℕ) where
           rows = m.rows;
           read = m.read;
           tableau = made;
-          is_tableau = m.is_tableau;
+          is_tableau = subst (λ names. IsTableauOf names (problem g u) m.rows made) (sym (same_names g)) m.is_tableau;
           written = refl;
         }
 

@@ -1,10 +1,10 @@
 -- What the bytes of an answer's file are read as for a grammar, and the verdict on it.
-use Rattle.std.specs.Prelude.{◌≡◌, ℕ, ◌≤◌, List, length, map, Result, Ok, Err}
+use Rattle.std.specs.Prelude.{◌≡◌, ℕ, ◌≤◌, List, length, Result, Ok, Err}
 use Rattle.tier_core.specs.declared.constraint.Constraint.{Constraint}
 use Rattle.tier_core.specs.declared.shape.Shape.{Shape}
 use Rattle.tier_core.specs.Tiers.{tiers_of as tiers_in}
 use Rattle.grammar_reader.specs.Values.{GrammarValue}
-use Rattle.grammar_reader.specs.Seen.{constraint_seen}
+use Rattle.grammar_reader.specs.Requirements.{requirements_of, requirements_seen}
 use Rattle.grammar_reader.specs.ShapeOf.{stretch_counts}
 use Rattle.violation.specs.Problems.{Problem}
 use Rattle.answer_text.specs.declared.answer.Answer.{Answer}
@@ -23,7 +23,7 @@ use Rattle.otp_tool.specs.Grammars.{tiers_of}
 -- a shape is that of a grammar: its width, its input tiers, and its stretch implications
 pub record IsShapeFor (g : GrammarValue) (shape : Shape) : Type 0 where
   pub constraints : List Constraint
-  pub seen : map constraint_seen constraints ≡ g.constraints
+  pub seen : requirements_seen constraints ≡ requirements_of g
   pub width : shape.width ≡ length g.tiers
   pub inputs : tiers_in shape.inputs ≡ (tiers_of g).input
   pub phases : shape.phases.items ≡ stretch_counts constraints
@@ -45,10 +45,10 @@ abbrev pub IsNoAnswer : GrammarValue → List ℕ → ℕ → AnswerCause → Ty
 IsNoAnswer g bytes line cause = IsAnswerFile g bytes (Err (at line cause))
 
 -- A problem is what a grammar is asked by the form of an answer: it has the grammar's tiers, constraints
--- that are seen as the grammar's, in ranked order, and that form.
+-- that require what the grammar's do, in ranked order, and that form.
 pub record IsAskedBy (g : GrammarValue) (answer : Answer) (problem : Problem) : Type 0 where
   pub tiers : problem.tiers ≡ tiers_of g
-  pub constraints : map constraint_seen problem.constraints ≡ g.constraints
+  pub constraints : requirements_seen problem.constraints ≡ requirements_of g
   pub form : problem.form ≡ answer.form
 
 -- The bytes are read as this answer, and this problem is what the grammar is asked by it.
@@ -71,10 +71,16 @@ pub record IsJudged (g : GrammarValue) (bytes : List ℕ) (verdict : Verdict) : 
   pub reading : IsReading g bytes answer problem
   pub is_verdict : IsVerdict problem answer verdict
 
+-- The bytes have this verdict: it is the one on an answer that they are read as, and they settle it.
+pub record HasVerdict (g : GrammarValue) (bytes : List ℕ) (verdict : Verdict) : Type 0 where
+  pub judged : IsJudged g bytes verdict
+  pub settled : IsSettled g bytes verdict
+
 -- A text is the line of a verdict on the answer that bytes are read as: Yes where no fault is in it, and No
 -- with the fault that comes first. The bytes settle it, and an answer that gets Yes is sound.
 pub record IsVerdictText (widths : Problem → Widths) (verdict : Verdict) (g : GrammarValue) (bytes text : List ℕ)
     : Type 0 where
+  pub within : length bytes ≤ 268435456
   pub answer : Answer
   pub problem : Problem
   pub reading : IsReading g bytes answer problem

@@ -26,6 +26,7 @@ pub record IsStatusOf (words : List (List ℕ)) (c : Change) (status : Status) :
       → IsWrittenBehind words c.held IsResult (λ text. c.taking.new ≡ appended c.taking.old text)
   pub no : status ≡ No
       → IsWrittenBehind words c.held IsNoResult (λ text. c.taking.new ≡ appended c.taking.old text)
+  pub nothing_refused : (status ≡ Done) ⊎ (status ≡ No) → IsBehind words c.held ready
   pub complete : IsTold words c.held ready
       → ((word : ℕ) → ¬ HasReadFault words c.held c.faults_before c.faults_after word)
       → ¬ Rose c.taking.before c.taking.after → (status ≡ Done) ⊎ ((status ≡ No) ⊎ (status ≡ NoMemory))

@@ -5,7 +5,7 @@ use Rattle.tier_core.specs.Tiers.{Tiers, tiers_by_kinds}
 use Rattle.tier_core.specs.declared.sym.Sym.{Sym}
 use Rattle.grammar_reader.specs.Values.{GrammarValue}
 use Rattle.grammar_reader.specs.Reading.{grammar_of}
-use Rattle.grammar_reader.specs.Seen.{constraint_seen}
+use Rattle.grammar_reader.specs.Requirements.{requirements_of, requirements_seen}
 use Rattle.violation.specs.Problems.{Problem}
 use Rattle.form_reader.specs.Forms.{IsReadAs}
 
@@ -34,11 +34,16 @@ input_count g = length (tiers_of g).input
 abbrev pub overt_count : GrammarValue → ℕ
 overt_count g = length (tiers_of g).overt
 
+-- the names of its constraints, in ranked order
+abbrev pub constraint_names : GrammarValue → List (List ℕ)
+constraint_names g = map (λ c. c.name) g.constraints
+
 -- A problem is asked by a grammar and the word of a form: it has the grammar's tiers, constraints that
--- are seen as the grammar's, in ranked order, and the form that the word is read as.
+-- require what the grammar's do, in ranked order, and the form that the word is read as. The names of
+-- the constraints have no part in it.
 pub record IsAsked (g : GrammarValue) (word : List ℕ) (problem : Problem) : Type 0 where
   pub tiers : problem.tiers ≡ tiers_of g
-  pub constraints : map constraint_seen problem.constraints ≡ g.constraints
+  pub constraints : requirements_seen problem.constraints ≡ requirements_of g
   pub form : IsReadAs (input_count g) g.letters word problem.form
 
 -- the word is a form, and something holds of the problem that is asked
@@ -48,8 +53,8 @@ pub record OnProblem (P : Problem → Type 0) (g : GrammarValue) (word : List �
   pub fact : P problem
 
 -- Problems are asked by a grammar, one with each form: each has the grammar's tiers, and constraints
--- that are seen as the grammar's, in ranked order.
+-- that require what the grammar's do, in ranked order.
 pub record AreAsked (g : GrammarValue) (ask : List (List Sym) → Problem) : Type 0 where
   pub tiers : (u : List (List Sym)) → (ask u).tiers ≡ tiers_of g
-  pub constraints : (u : List (List Sym)) → map constraint_seen (ask u).constraints ≡ g.constraints
+  pub constraints : (u : List (List Sym)) → requirements_seen (ask u).constraints ≡ requirements_of g
   pub form : (u : List (List Sym)) → (ask u).form ≡ u

@@ -9,3 +9,4 @@ pub mod Outcomes
 pub mod Steps
 pub mod Endings
 pub mod Answers
+pub mod Asked

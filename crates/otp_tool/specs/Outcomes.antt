@@ -7,7 +7,7 @@ use Rattle.cert_check.specs.declared.fault.Verdict.TheVariants.{Yes, No as Not}
 use Rattle.command_line.specs.Commands.{Command, IsCommand, canon, score, generate, show, tableau, once, comprehend, check, sample, grammar_of as file_of}
 use Rattle.command_line.specs.declared.status.Status.{Status}
 use Rattle.command_line.specs.declared.status.Status.TheVariants.{Done, No, Usage, GrammarRefused, FormRefused, LexiconRefused, AnswerRefused, Budget, ReadFault, WriteFault, NoMemory, RowsRefused, TooLong}
-use Rattle.otp_tool.specs.Answers.{IsJudged}
+use Rattle.otp_tool.specs.Answers.{HasVerdict}
 use Rattle.otp_tool.specs.Files.{grammar_told, IsHeld, IsSecondHeld, NamedFile, grammar_file, second_file}
 use Rattle.otp_tool.specs.Grammars.{OnGrammar}
 use Rattle.otp_tool.specs.Findings.{Finding, Finds, Reaches, long_file, no_grammar, no_form, long_second, no_rows, no_lexicon, no_answer, over_budget, ready}
@@ -28,11 +28,13 @@ pub record IsBehind (words : List (List ℕ)) (held : List ℕ → Option (List 
   pub reads : MayRead words held command bytes second
   pub finds : Finds command bytes second finding
 
--- the words are a command, which finds this in any bytes that the shelf may hold
+-- The words are a command, which finds nothing but this in any bytes that the shelf may hold. Since it finds
+-- one thing in its files, it is enough that it finds this.
 pub record IsTold (words : List (List ℕ)) (held : List ℕ → Option (List ℕ)) (finding : Finding) : Type 0 where
   pub command : Command
   pub are : IsCommand words command
-  pub finds : (bytes second : List ℕ) → MayRead words held command bytes second → Finds command bytes second finding
+  pub only : (bytes second : List ℕ) → MayRead words held command bytes second → (other : Finding)
+      → Finds command bytes second other → other ≡ finding
 
 -- the words are a command, and something holds of a text of this kind that it writes for bytes that the shelf may hold
 pub record IsWrittenBehind (words : List (List ℕ)) (held : List ℕ → Option (List ℕ))
@@ -89,33 +91,34 @@ answer_to (no_answer line cause) = AnswerRefused 2 line cause
 answer_to (over_budget entry stage) = Budget entry stage
 answer_to ready = Done
 
--- The status is this one. Want of memory may come instead, and so may a fault of reading.
+-- The status is this one, or memory ran out, or reading failed.
 abbrev pub Stands : Status → Status → Type 0
 Stands due status = (status ≡ due) ⊎ ((status ≡ NoMemory) ⊎ ((word : ℕ) × (status ≡ ReadFault word)))
 
--- a command checks the answer of its second file, and this is the verdict on it
-abbrev pub Judges : Command → GrammarValue → List ℕ → Verdict → Type 0
-Judges (canon name) g second verdict = ⊥
-Judges (score name word) g second verdict = ⊥
-Judges (generate name form budget) g second verdict = ⊥
-Judges (show name form budget) g second verdict = ⊥
-Judges (tableau name form rows budget) g second verdict = ⊥
-Judges (once name form budget) g second verdict = ⊥
-Judges (comprehend name lexicon surface budget) g second verdict = ⊥
-Judges (check name answer) g second verdict = IsJudged g second verdict
-Judges (sample n) g second verdict = ⊥
-
--- the words are a command that checks an answer, and this is the verdict for any bytes that the shelf may hold
-pub record IsToldVerdict (words : List (List ℕ)) (held : List ℕ → Option (List ℕ)) (verdict : Verdict) : Type 0 where
-  pub command : Command
-  pub are : IsCommand words command
-  pub judges : (bytes second : List ℕ) → MayRead words held command bytes second
-      → OnGrammar (λ g. Judges command g second verdict) bytes
+-- a command checks the answer of its second file
+abbrev pub Checks : Command → Type 0
+Checks (canon name) = ⊥
+Checks (score name word) = ⊥
+Checks (generate name form budget) = ⊥
+Checks (show name form budget) = ⊥
+Checks (tableau name form rows budget) = ⊥
+Checks (once name form budget) = ⊥
+Checks (comprehend name lexicon surface budget) = ⊥
+Checks (check name answer) = Unit {0}
+Checks (sample n) = ⊥
 
 -- the status of a verdict
 abbrev pub status_of : Verdict → Status
 status_of Yes = Done
 status_of (Not fault) = No
+
+-- The words are a command that checks an answer. It refuses nothing in any bytes that the shelf may hold, and
+-- these have no verdict but those with the status of this one.
+pub record IsToldVerdict (words : List (List ℕ)) (held : List ℕ → Option (List ℕ)) (verdict : Verdict) : Type 0 where
+  pub accepts : IsTold words held ready
+  pub checks : Checks accepts.command
+  pub only : (bytes second : List ℕ) → MayRead words held accepts.command bytes second → (other : Verdict)
+      → OnGrammar (λ g. HasVerdict g second other) bytes → status_of other ≡ status_of verdict
 
 -- a status that comes before anything is written
 abbrev pub IsBeforeWriting : Status → Type 0

@@ -29,7 +29,7 @@ use Rattle.tableau.specs.declared.table.Tableau.{Tableau}
 use Rattle.tableau.specs.Layout.{tableau_text}
 use Rattle.tableau.specs.Rows.{AreRowsOf}
 use Rattle.tableau.specs.Tableaux.{IsTableauOf}
-use Rattle.otp_tool.specs.Grammars.{IsAsked}
+use Rattle.otp_tool.specs.Grammars.{IsAsked, constraint_names}
 use Rattle.otp_tool.specs.Lexicons.{OnLexicon, forms_in}
 
 -- the violation vector of a timeline: its violations of each constraint of the grammar, in ranked order
@@ -70,15 +70,15 @@ pub record IsGeneratedText (g : GrammarValue) (form text : List ℕ) : Type 0 wh
 abbrev pub short_text : Problem → Answer → List ℕ
 short_text problem answer = shown_text answer
 
--- A text is that of the tableau of the problem that is asked, with the rows of a rows file: the first
--- optimal candidate, and then each of the rows.
+-- A text is that of the tableau of the problem that is asked, under the names of the grammar's constraints,
+-- with the rows of a rows file: the first optimal candidate, and then each of the rows.
 pub record IsTableauText (g : GrammarValue) (form bytes text : List ℕ) : Type 0 where
   pub problem : Problem
   pub is_asked : IsAsked g form problem
   pub rows : List (List (List Sym))
   pub read : AreRowsOf problem (lines bytes) rows
   pub tableau : Tableau
-  pub is_tableau : IsTableauOf problem rows tableau
+  pub is_tableau : IsTableauOf (constraint_names g) problem rows tableau
   pub written : text ≡ tableau_text tableau
 
 -- under all constraints, kinds are written over all stretch implications, and potentials have a number for each

@@ -175,11 +175,13 @@ pub record IsMade (table : TierTable) (constraints : List Constraint) (g : Gramm
   pub within : AreAllWithin (asked table constraints u) budget
   pub listed : HaveFewKinds (asked table constraints u) budget
 
--- a tableau is that of a problem with the rows of a rows file, and no stage has more kinds than the budget
-pub record IsMadeTableau (problem : Problem) (budget : ℕ) (bytes : List ℕ) (made : Tableau) : Type 0 where
+-- a tableau is that of a problem under constraints that are called so, with the rows of a rows file, and no
+-- stage has more kinds than the budget
+pub record IsMadeTableau (called : List (List ℕ)) (problem : Problem) (budget : ℕ) (bytes : List ℕ)
+    (made : Tableau) : Type 0 where
   pub rows : List (List (List Sym))
   pub read : AreRowsOf problem (lines bytes) rows
-  pub is_tableau : IsTableauOf problem rows made
+  pub is_tableau : IsTableauOf called problem rows made
   pub within : AreAllWithin problem budget
 
 -- what a sink has taken, and its faults, before and after

@@ -187,13 +187,17 @@ pub fn run<F: Shelf, O: Sink>(
     ensures no { result ≡ Status.No
         → IsWrittenBehind (words_of words.now) (F.held shelf.old) IsNoResult
         (λ text. O.taken sink.new ≡ appended (O.taken sink.old) text) }
+    // Either way nothing was refused.
+    ensures nothing_refused { (result ≡ Status.Done) ⊎ (result ≡ Status.No)
+        → IsBehind (words_of words.now) (F.held shelf.old) ready }
+    // If nothing is refused in any bytes that the shelf may hold, it is the one or the other.
     ensures complete { IsTold (words_of words.now) (F.held shelf.old) ready
         → ((word : ℕ) → ¬ HasReadFault (words_of words.now) (F.held shelf.old)
         (F.faults shelf.old) (F.faults shelf.new) word)
         → ¬ Rose (O.faults sink.old) (O.faults sink.new)
         → (result ≡ Status.Done) ⊎ ((result ≡ Status.No) ⊎ (result ≡ Status.NoMemory)) }
-    // The bytes of the grammar and of an answer settle the verdict: if it is this one on an answer that
-    // they are read as, the status is that of this verdict.
+    // The bytes of the grammar and of an answer settle the verdict: if they have none but those with
+    // the status of this one, that is the status.
     ensures settled { (verdict : Verdict)
         → IsToldVerdict (words_of words.now) (F.held shelf.old) verdict
         → ((word : ℕ) → ¬ HasReadFault (words_of words.now) (F.held shelf.old)
@@ -228,7 +232,7 @@ pub fn run<F: Shelf, O: Sink>(
         → IsBehind (words_of words.now) (F.held shelf.old) ready
         × Rose (O.faults sink.old) (O.faults sink.new) }
 
-    // If the shelf tells enough of its files, each cause has its refusal.
+    // If nothing but one refusal is found in any bytes that the shelf may hold, it is the status.
     ensures due { (finding : Finding) → finding ≢ ready
         → IsTold (words_of words.now) (F.held shelf.old) finding
         → Stands (answer_to finding) result }

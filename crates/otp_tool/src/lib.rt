@@ -14,7 +14,9 @@
 //! surfaces are read as (`Grammars`, `Scored`, `Lexicons`), what an answer is read as and its verdict
 //! (`Answers`), what a sample is (`Samples`), what each command writes (`Results`), what it may find
 //! before it writes (`Findings`), what each status means (`Outcomes`), and how a
-//! program ends (`Endings`).
+//! program ends (`Endings`). The laws [`problems_are_made_of_values`], [`one_thing_is_found`],
+//! [`one_status_is_settled`] and [`budgets_are_told`] say how those who have only bytes come to what
+//! the contract of [`run`] asks for (`Asked`).
 #![tactic(auto)]
 
 mod answer;
@@ -24,6 +26,7 @@ mod ending;
 mod grammar;
 mod hearing;
 mod in_memory;
+mod laws;
 mod results;
 mod sample_check;
 mod sample_form;
@@ -37,7 +40,10 @@ mod tableaux;
 #[cfg(test)]
 mod tests;
 
+pub use command_line::{Status, put_status};
 pub use commands::run;
 pub use ending::run_to_end;
 pub use in_memory::run_in_memory;
-pub use command_line::{Status, put_status};
+pub use laws::{
+    budgets_are_told, one_status_is_settled, one_thing_is_found, problems_are_made_of_values,
+};

@@ -4,6 +4,7 @@ ghost use Rattle.tier_core.specs.Tables.{tiers_of_table};
 ghost use Rattle.violation.specs.Candidates.{IsForm};
 ghost use Rattle.violation.specs.Problems.{asked};
 ghost use Rattle.tableau.specs.Rows.{AreRowsOf};
+ghost use Rattle.tableau.specs.Tableaux.{names_seen};
 ghost use Rattle.grammar_reader.specs.Grammars.{value_of};
 ghost use Rattle.otp_tool.specs.Steps.{IsMadeTableau, IsRefusal, IsTableauWork, RefusesFile, RefusesRows, change_of};
 
@@ -58,7 +59,7 @@ fn make_tableau(
     requires some { 1 ≤ budget }
     requires few { budget ≤ 65536 }
     requires within { length bytes.now ≤ 4194304 }
-    ensures ok { IfOk result (IsMadeTableau
+    ensures ok { IfOk result (IsMadeTableau (names_seen grammar.now.constraints.items)
         (asked grammar.now.tiers grammar.now.constraints.items form.now) budget bytes.now) }
     ensures err { IfErr result (IsRefusal (RefusesRows
         (asked grammar.now.tiers grammar.now.constraints.items form.now) budget bytes.now)) }

@@ -14,7 +14,8 @@ use Rattle.grammar_reader.proofs.Shaping.{length-stretch_counts}
 use Rattle.violation.specs.Prefixes.{stretches}
 use Rattle.kind_moves.specs.declared.frame.Frame.{Frame}
 use Rattle.kind_moves.specs.Frames.{tiers_in, constraints_in, kind_at_stage, FitsFrame}
-use Rattle.kind_orders.specs.KindOrders.{AreFound, empty_kind, kind_numbered}
+use Rattle.tier_core.specs.EmptyKind.{empty_kind}
+use Rattle.kind_orders.specs.KindOrders.{AreFound, kind_numbered}
 use Rattle.ranked_gen.specs.FittingKinds.{FitsStage}
 use Rattle.violation.specs.Problems.{last_stage}
 use Rattle.kind_moves.specs.Frames.{problem_in}

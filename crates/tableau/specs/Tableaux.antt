@@ -25,11 +25,16 @@ pub record IsTableauRow (problem : Problem) (least : List ℕ) (row : TableauRow
   pub optimal : IsNone row.worse ↔ IsOptimal problem row.timeline
   pub worse : IfSome row.worse (IsFirstWorse least row.counts.items)
 
--- The tableau of the form u and these timelines: the names of the constraints in ranked order, and a
--- row for the first optimal candidate and then for each of the timelines.
-pub record IsTableauOf (problem : Problem) (timelines : List (List (List Sym))) (tableau : Tableau) : Type 0 where
+-- the names of constraints
+abbrev pub names_seen : List Constraint → List (List ℕ)
+names_seen constraints = map (λ c. string_bytes c.name) constraints
+
+-- The tableau of a problem under constraints that are called so, in ranked order, and of these timelines:
+-- the names, and a row for the first optimal candidate and then for each of the timelines.
+pub record IsTableauOf (called : List (List ℕ)) (problem : Problem) (timelines : List (List (List Sym)))
+    (tableau : Tableau) : Type 0 where
   pub form : tableau.form ≡ problem.form
-  pub names : map string_bytes tableau.names.items ≡ map (λ c. string_bytes c.name) problem.constraints
+  pub names : map string_bytes tableau.names.items ≡ called
   pub example : List (List Sym)
   pub is_first : IsFirst (IsOptimal problem) example
   pub rows : map (λ row. row.timeline) tableau.rows.items ≡ example ∷ timelines

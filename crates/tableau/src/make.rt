@@ -2,7 +2,7 @@ ghost use Rattle.std.specs.Prelude.{◌≡◌, ◌≤◌, ◌∷◌, length, map
 ghost use Rattle.tier_core.specs.Tables.{tiers_of_table};
 ghost use Rattle.violation.specs.Candidates.{IsCandidate};
 ghost use Rattle.answer_text.specs.Right.{IsRight};
-ghost use Rattle.tableau.specs.Tableaux.{IsTableauOf, IsTableauRow};
+ghost use Rattle.tableau.specs.Tableaux.{IsTableauOf, IsTableauRow, names_seen};
 ghost use Rattle.violation.specs.Problems.{asked};
 
 use crate::compare::compared;
@@ -78,7 +78,7 @@ pub fn tableau(
         (asked grammar.now.tiers grammar.now.constraints.items answer.now.form)) rows.now }
     requires few_columns { All (λ T. length T ≤ 65536) rows.now }
     ensures { IfOk result
-        (IsTableauOf
+        (IsTableauOf (names_seen grammar.now.constraints.items)
         (asked grammar.now.tiers grammar.now.constraints.items answer.now.form) rows.now) }
 {
     let form = answer.form.copied(alloc)?;

@@ -111,8 +111,6 @@ kind_for free count k frees counts = (
     mets : (mask : ℕ) × AreBits (map is_met_phase k.phases) mask
     mets = bits_of (map is_met_phase k.phases)
 
--- kinds with the same fields
-
 -- what is told place by place
 pub told_same : {X : Type 0} (f g : ℕ → X) (n i : ℕ) (d : X) → map f (range_with_len 0 n) ≡ map g (range_with_len 0 n)
     → i < n → f i ≡ g i

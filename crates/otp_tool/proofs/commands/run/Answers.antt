@@ -2,7 +2,7 @@ use Rattle.command_line.specs.Words.{words_of}
 use Rattle.otp_tool.specs.Steps.{change_of}
 use Rattle.otp_tool.proofs.DueLemmas.{complete, due, untouched}
 use Rattle.otp_tool.proofs.VerdictLemmas.{settled}
-use Rattle.otp_tool.proofs.CauseLemmas.{begun, by_answer, by_budget, by_form, by_grammar, by_length, by_lexicon, by_memory, by_reading, by_rows, by_usage, by_writing, done, no}
+use Rattle.otp_tool.proofs.CauseLemmas.{begun, by_answer, by_budget, by_form, by_grammar, by_length, by_lexicon, by_memory, by_reading, by_rows, by_usage, by_writing, done, no, nothing_refused}
 use Rattle.otp_tool.proofs.commands.run.Goals as goal
 
 pub returns-in-Some-clause-done : goal.returns-in-Some-clause-done
@@ -14,6 +14,12 @@ returns-in-Some-clause-done g c =
 pub returns-in-Some-clause-no : goal.returns-in-Some-clause-no
 returns-in-Some-clause-no g c =
     no (words_of c.args.words.now)
+    (change_of g.F.Shelf g.O.Sink c.args.shelf.now c.execute.new.shelf c.args.sink.now c.execute.new.sink)
+    c.execute.result (c.execute.ensures.outcome (words_of c.args.words.now) c.in-Some.ensures)
+
+pub returns-in-Some-clause-nothing_refused : goal.returns-in-Some-clause-nothing_refused
+returns-in-Some-clause-nothing_refused g c =
+    nothing_refused (words_of c.args.words.now)
     (change_of g.F.Shelf g.O.Sink c.args.shelf.now c.execute.new.shelf c.args.sink.now c.execute.new.sink)
     c.execute.result (c.execute.ensures.outcome (words_of c.args.words.now) c.in-Some.ensures)
 

@@ -6,6 +6,7 @@ returns-clause-ending g c = record {
   is_status = record {
     done = c.run-status.ensures.done;
     no = c.run-status.ensures.no;
+    nothing_refused = c.run-status.ensures.nothing_refused;
     complete = c.run-status.ensures.complete;
     settled = c.run-status.ensures.settled;
     usage = c.run-status.ensures.usage;

@@ -1,11 +1,17 @@
--- What is kept while the least weight that waits is taken first.
-use Rattle.std.specs.Prelude.{◌≡◌, ℕ, List, [], ◌∷◌, Option, None, Some, length, slice_index_or, slice_set}
+-- What waits at first, and what is kept while the least weight that waits is taken first.
+use Rattle.std.specs.Prelude.{◌≡◌, ℕ, zero, suc, List, [], ◌∷◌, ◌++◌, Option, None, Some, length, slice_index_or, slice_set, if◌then◌else◌}
 use Rattle.weight_law.specs.declared.Weight.{Ghosts}
 use Rattle.weight_law.specs.Meaning.{Meaning}
 use Rattle.arc_table.specs.declared.state.TableState.{TableState}
 use Rattle.arc_table.specs.declared.incoming_move.IncomingMove.{IncomingMove}
+use Rattle.arc_table.specs.Moves.{accepting_at}
 use Rattle.distances.specs.Best.{lesser_of}
 use Rattle.distances.specs.Rounds.{AreWitnessed, IsCovered}
+
+-- the accepting states below n
+abbrev pub ends_below : {W : Type 0} {g : Ghosts W} → List (TableState W g) → ℕ → List ℕ
+ends_below states zero = []
+ends_below states (suc n) = ends_below states n ++ (if accepting_at states n then n ∷ [] else [])
 
 -- the weight c at state s, if it is less than what is known there
 abbrev pub lowered : {W : Type 0} → Meaning W → List (Option W) → ℕ → W → List (Option W)

@@ -1,4 +1,4 @@
-ghost use Rattle.std.specs.Prelude.{◌≡◌, ◌<◌, ◌≤◌, ◌+◌, ℕ, IfOk, length, false};
+ghost use Rattle.std.specs.Prelude.{◌≡◌, ◌↔◌, ◌<◌, ◌≤◌, ◌+◌, ℕ, IfOk, length, false};
 ghost use Rattle.arc_table.specs.Runs.{SizesWithin};
 ghost use Rattle.arc_table.specs.States.{states_of};
 ghost use Rattle.distances.specs.Best.{initial_of};
@@ -32,7 +32,7 @@ pub(crate) fn initial<W: Weight>(
 
 /// Whether two weights differ, of which either may be missing.
 pub(crate) fn differ<W: Weight>(a: Option<W>, b: Option<W>) -> bool
-    ensures { result ≡ false → a ≡ b }
+    ensures { (result ≡ false) ↔ (a ≡ b) }
 {
     match (a, b) {
         (None, None) => false,

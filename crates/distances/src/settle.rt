@@ -1,10 +1,11 @@
-ghost use Rattle.std.specs.Prelude.{◌≡◌, ◌<◌, ◌≤◌, ◌+◌, All, IfOk, IsTrue, None, length, slice_index_or, true};
+ghost use Rattle.std.specs.Prelude.{◌≡◌, ◌<◌, ◌≤◌, ◌+◌, All, IfOk, IsPermutation, IsTrue, None, length, map, slice_index_or, true};
+ghost use Rattle.std.specs.BinaryHeap.{heap_items};
 ghost use Rattle.arc_table.specs.Incoming.{AreTurned};
 ghost use Rattle.arc_table.specs.Runs.{SizesWithin};
 ghost use Rattle.arc_table.specs.States.{states_of};
 ghost use Rattle.distances.specs.Best.{is_lower};
 ghost use Rattle.distances.specs.Rounds.{AreWitnessed};
-ghost use Rattle.distances.specs.Settled.{relaxed, IsKept};
+ghost use Rattle.distances.specs.Settled.{ends_below, relaxed, IsKept};
 
 use crate::rounds::differ;
 use crate::waiting::Waiting;
@@ -15,7 +16,13 @@ use std::collections::BinaryHeap;
 use weight_law::Weight;
 
 /// The accepting states, which wait with zero.
-fn ends<W: Weight>(alloc: Global, table: &Table<W>) -> Result<BinaryHeap<Waiting<W>>, AllocError> {
+fn ends<W: Weight>(alloc: Global, table: &Table<W>) -> Result<BinaryHeap<Waiting<W>>, AllocError>
+    ensures each { IfOk result
+        (λ heap. IsPermutation (ends_below (states_of table.now) (length (states_of table.now)))
+        (map (λ waiting. waiting.state) (heap_items heap))) }
+    ensures zero { IfOk result
+        (λ heap. All (λ waiting. waiting.weight ≡ W.meaning.zero) (heap_items heap)) }
+{
     let mut heap = BinaryHeap::new(alloc);
     for state in 0..table.len() {
         if !table.accepting(state) {

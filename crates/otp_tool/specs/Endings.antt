@@ -1,6 +1,8 @@
--- How a program ends: with the number of a status, whose line a second sink is given.
-use Rattle.std.specs.Prelude.{◌≡◌, ◌≢◌, ℕ, ◌⊎◌, ◌↔◌, List, Result}
+-- What is promised of a status, and how a program ends: with the number of a status, whose line a second sink
+-- is given.
+use Rattle.std.specs.Prelude.{◌≡◌, ◌≢◌, ℕ, ◌⊎◌, ◌↔◌, List, Option, Some, Result}
 use Rattle.outside.specs.Faults.{Rose}
+use Rattle.outside.specs.Held.{told}
 use Rattle.outside.specs.Sent.{appended, HasSentPart}
 use Rattle.outside.specs.Writers.{Puts}
 use Rattle.outside.specs.declared.sink.Sink.{Ghosts as SinkGhosts}
@@ -55,6 +57,15 @@ pub record IsStatusOf (words : List (List ℕ)) (c : Change) (status : Status) :
       → IsWrittenBehind words c.held IsWhole (λ text. HasSentPart c.taking.old text c.taking.new)
   pub no_memory : status ≡ NoMemory → (c.taking.new ≡ c.taking.old)
       ⊎ IsWrittenBehind words c.held IsWhole (λ text. HasSentPart c.taking.old text c.taking.new)
+
+-- what a call over files and a sink in memory has before and after: no fault is ever counted
+abbrev pub change_in_memory : List (List ℕ × List ℕ) → List ℕ → List ℕ → Change
+change_in_memory files old new = record {
+  held = told files;
+  faults_before = λ name. 0;
+  faults_after = λ name. 0;
+  taking = record { old = Some old; new = Some new; before = 0; after = 0 };
+}
 
 -- the number is that of a status of these words, and a second sink was given the line of that status
 pub record IsEnding {E : Type 0} (words : List (List ℕ)) (c : Change) (errors : SinkGhosts E) (old new : E)

@@ -147,8 +147,8 @@ pub(crate) fn first_stage(alloc: Global, frame: &Frame, budget: u32) -> Result<S
 fn has_new_phase(frame: &Frame, stage: u32) -> bool
     requires some { 1 ≤ stage }
     requires within { stage ≤ last_stage (problem_in frame.now) }
-    ensures { result ≡ false
-        → stretches_in frame.now stage ≡ stretches_in frame.now (stage - 1) }
+    ensures { (result ≡ false)
+        ↔ (stretches_in frame.now stage ≡ stretches_in frame.now (stage - 1)) }
 {
     frame.stretch_count(stage) != frame.stretch_count(stage - 1)
 }

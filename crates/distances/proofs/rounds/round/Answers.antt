@@ -52,7 +52,7 @@ loop-done-preserved g c =
           (λ arc h. h) exist k inside (inv.covered k cov) (subst P before (inv.more k cov))));
       closed = λ h.
           (let parts = or_parts c.loop-done.changed c.differ-changed.result h in
-          let same = sym known-is ∙ (c.differ-changed.ensures parts.1 ∙ found-is) in
+          let same = sym known-is ∙ (c.differ-changed.ensures.0 parts.1 ∙ found-is) in
           let P : List (Option g.row.W.Denot) → Type 0 = λ l. AreClosedFrom states l s in
           let Q : ℕ → Type 0 = λ n. AreClosedFrom states least n in
           rw (sym after, found-is) (subst P (sym (step-same laws states least wit s within own (λ arc h. h) same))

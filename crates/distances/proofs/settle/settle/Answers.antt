@@ -9,7 +9,7 @@ relax-requires-clause-inside g c =
     let top = c.in-Some.top in
     let known : get_or least top.state None
     ≡ Some top.weight = sym (c.known_at.ensures ∙ ap (λ l. get_or l top.state None) c.deref.ensures.value)
-    ∙ c.differ.ensures c.if-differ.false in
+    ∙ c.differ.ensures.0 c.if-differ.false in
     let same = c.loop-turn.invariant.each_state in
     let ins : top.state < length table.states.items = omega
     (arith, known_inside least top.state top.weight known, same) in
@@ -24,7 +24,7 @@ relax-requires-clause-weights g c =
     let top = c.in-Some.top in
     let known : get_or least top.state None
     ≡ Some top.weight = sym (c.known_at.ensures ∙ ap (λ l. get_or l top.state None) c.deref.ensures.value)
-    ∙ c.differ.ensures c.if-differ.false in
+    ∙ c.differ.ensures.0 c.if-differ.false in
     let ins : top.state < length table.states.items = omega
     (arith, known_inside least top.state top.weight known, c.loop-turn.invariant.each_state) in
     rw c.moves_to.ensures
@@ -38,7 +38,7 @@ relax-requires-clause-sizes g c =
     let top = c.in-Some.top in
     let known : get_or least top.state None
     ≡ Some top.weight = sym (c.known_at.ensures ∙ ap (λ l. get_or l top.state None) c.deref.ensures.value)
-    ∙ c.differ.ensures c.if-differ.false in
+    ∙ c.differ.ensures.0 c.if-differ.false in
     let ins : top.state < length table.states.items = omega
     (arith, known_inside least top.state top.weight known, c.loop-turn.invariant.each_state) in
     rw c.moves_to.ensures
@@ -54,7 +54,7 @@ loop-turn-preserved g c =
     let inv = c.loop-turn.invariant in
     let known : get_or least top.state None
     ≡ Some top.weight = sym (c.known_at.ensures ∙ ap (λ l. get_or l top.state None) c.deref.ensures.value)
-    ∙ c.differ.ensures c.if-differ.false in
+    ∙ c.differ.ensures.0 c.if-differ.false in
     let ins : top.state < length table.states.items = omega
     (arith, known_inside least top.state top.weight known, inv.each_state) in
     rw (c.in_ok-relax.ensures, c.moves_to.ensures)

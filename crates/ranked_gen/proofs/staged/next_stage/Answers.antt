@@ -9,12 +9,12 @@ use Rattle.kind_moves.specs.Frames.{problem_in}
 
 pub weigh-requires-clause-kept : goal.weigh-requires-clause-kept
 weigh-requires-clause-kept c =
-    (left_same c.args.frame.now (c.args.stage - 1) c.args.stage (c.has_new_phase.ensures c.if-not-has_new_phase.true)
+    (left_same c.args.frame.now (c.args.stage - 1) c.args.stage (c.has_new_phase.ensures.0 c.if-not-has_new_phase.true)
     (states_of c.args.kept) c.args.kinds.now c.requires.kinds).by
 
 pub weigh-requires-clause-fit : goal.weigh-requires-clause-fit
 weigh-requires-clause-fit c =
-    (left_same c.args.frame.now (c.args.stage - 1) c.args.stage (c.has_new_phase.ensures c.if-not-has_new_phase.true)
+    (left_same c.args.frame.now (c.args.stage - 1) c.args.stage (c.has_new_phase.ensures.0 c.if-not-has_new_phase.true)
     (states_of c.args.kept) c.args.kinds.now c.requires.kinds).fit
 
 pub pruned-requires-clause-table : goal.pruned-requires-clause-table

@@ -8,6 +8,7 @@ use answer_text::{Answer, OnceAnswer};
 use grammar_reader::{Grammar, read_grammar};
 use std::alloc::Global;
 use std::cmp::Ordering;
+use std::process::Abort;
 use std::test::Fail;
 use tier_core::{Timeline, reduced, timeline_cmp, well_formed};
 use timeline_text::read_timeline;
@@ -83,31 +84,35 @@ fn shown(
     }
 }
 
-// A grammar, a form, a budget and an example, and how many nodes there are, or the error.
-#[test]
-fn budgets_and_examples(rt: HostRuntime) -> Result<(), Fail> {
-    let over = Err(GenErr::Budget { stage: 0 });
-    let cases: [(&[u8], &[u8], u32, &[u8], Result<usize, GenErr>); 10] = [
-        (BASE, b"empty", 1, b"empty", over),
-        (BASE, b"empty", 2, b"empty", Ok(2)),
-        (BASE, b"[ ]", 5, b"[- ]-", over),
-        (BASE, b"[ ]", 6, b"[- ]-", Ok(6)),
-        (BASE, b"[ | ]", 8, b"[- |- ]-", Ok(8)),
-        (BASE, b"[ ]", 65536, b"[- ]-", Ok(6)),
-        (HIDDEN, b"[ ]", 11, b"[-- ]--", over),
-        (HIDDEN, b"[ ]", 12, b"[-- ]--", Ok(12)),
-        (MIXED, b"[- ][ -]", 15, b"-[-- -]-[ ---]", over),
-        (MIXED, b"[- ][ -]", 16, b"-[-- -]-[ ---]", Ok(16)),
-    ];
-    for (text, form, budget, example, nodes) in cases {
-        let found = shown(rt.alloc(), text, form, budget, example);
-        let wanted = match nodes {
-            Ok(count) => Some(Ok((count, true))),
-            Err(e) => Some(Err(e)),
-        };
-        assert_eq!(rt; found, wanted, "at a budget of {budget}");
+/// Tries rows of a form, a budget, an example, and how many nodes there are with this example, or the
+/// error, with a semicolon between any two.
+fn try_budgets(rt: &impl Abort, alloc: Global, grammar: &[u8], rows: &str) -> Result<(), Fail> {
+    for row in rows.split('\n') {
+        let mut cells = row.split(';');
+        let form = cells.next().ok_or("no form")?.as_bytes();
+        let budget = cells.next().ok_or("no budget")?.parse::<u32>()?;
+        let example = cells.next().ok_or("no example")?.as_bytes();
+        let found = shown(alloc, grammar, form, budget, example).ok_or("not asked")?;
+        let told = format!(in alloc; "{found:?}")?;
+        assert_eq!(rt; told.as_str(), cells.next().ok_or("no answer")?, "{row}");
     }
     Ok(())
+}
+
+#[test]
+fn budgets_and_examples(rt: HostRuntime) -> Result<(), Fail> {
+    let base = "empty;1;empty;Err(Budget { stage: 0 })
+empty;2;empty;Ok((2, true))
+[ ];5;[- ]-;Err(Budget { stage: 0 })
+[ ];6;[- ]-;Ok((6, true))
+[ | ];8;[- |- ]-;Ok((8, true))
+[ ];65536;[- ]-;Ok((6, true))";
+    try_budgets(&rt, rt.alloc(), BASE, base)?;
+    let hidden = "[ ];11;[-- ]--;Err(Budget { stage: 0 })\n[ ];12;[-- ]--;Ok((12, true))";
+    try_budgets(&rt, rt.alloc(), HIDDEN, hidden)?;
+    let mixed = "[- ][ -];15;-[-- -]-[ ---];Err(Budget { stage: 0 })
+[- ][ -];16;-[-- -]-[ ---];Ok((16, true))";
+    try_budgets(&rt, rt.alloc(), MIXED, mixed)
 }
 
 /// What a single pass gives, if all that is asked for holds.
@@ -148,25 +153,28 @@ fn compared(
     }
 }
 
-// A grammar, a form, a budget of the stages and one of the single pass, and how many nodes the single
-// pass has, or the error.
-#[test]
-fn a_single_pass_gives_what_the_stages_give(rt: HostRuntime) -> Result<(), Fail> {
-    let cases: [(&[u8], &[u8], u32, u32, Result<usize, GenErr>); 6] = [
-        (RANKED, b"[ ]", 6, 8, Ok(8)),
-        (RANKED, b"[ ]", 6, 7, Err(GenErr::Budget { stage: 3 })),
-        (RANKED, b"[ ]", 6, 5, Err(GenErr::Budget { stage: 3 })),
-        (BASE, b"[ | ]", 8, 8, Ok(8)),
-        (BASE, b"[ | ]", 8, 7, Err(GenErr::Budget { stage: 0 })),
-        (MIXED, b"[- ][ -]", 16, 16, Ok(16)),
-    ];
-    for (text, form, stages_budget, budget, nodes) in cases {
-        let found = compared(rt.alloc(), text, form, stages_budget, budget);
-        let wanted = match nodes {
-            Ok(count) => Some(Ok((count, true))),
-            Err(e) => Some(Err(e)),
-        };
-        assert_eq!(rt; found, wanted, "at a budget of {budget}");
+/// Tries rows of a form, a budget of the stages and one of the single pass, and how many nodes the
+/// single pass has, or the error.
+fn try_passes(rt: &impl Abort, alloc: Global, grammar: &[u8], rows: &str) -> Result<(), Fail> {
+    for row in rows.split('\n') {
+        let mut cells = row.split(';');
+        let form = cells.next().ok_or("no form")?.as_bytes();
+        let stages = cells.next().ok_or("no budget")?.parse::<u32>()?;
+        let budget = cells.next().ok_or("no budget")?.parse::<u32>()?;
+        let found = compared(alloc, grammar, form, stages, budget).ok_or("not asked")?;
+        let told = format!(in alloc; "{found:?}")?;
+        assert_eq!(rt; told.as_str(), cells.next().ok_or("no answer")?, "{row}");
     }
     Ok(())
+}
+
+#[test]
+fn a_single_pass_gives_what_the_stages_give(rt: HostRuntime) -> Result<(), Fail> {
+    let ranked = "[ ];6;8;Ok((8, true))
+[ ];6;7;Err(Budget { stage: 3 })
+[ ];6;5;Err(Budget { stage: 3 })";
+    try_passes(&rt, rt.alloc(), RANKED, ranked)?;
+    let base = "[ | ];8;8;Ok((8, true))\n[ | ];8;7;Err(Budget { stage: 0 })";
+    try_passes(&rt, rt.alloc(), BASE, base)?;
+    try_passes(&rt, rt.alloc(), MIXED, "[- ][ -];16;16;Ok((16, true))")
 }

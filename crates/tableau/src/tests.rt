@@ -7,9 +7,10 @@ use super::*;
 use grammar_reader::{Grammar, read_grammar};
 use outside::{MemSink, SafeSink, WriteErr};
 use std::alloc::{AllocError, Global};
+use std::process::Abort;
 use std::test::Fail;
 use tier_core::Timeline;
-use timeline_text::{FormErr, read_timeline};
+use timeline_text::read_timeline;
 
 // The lines of texts, and those that are not passed over, which are proved.
 fn lines_of_texts()
@@ -55,61 +56,59 @@ fn grammar(alloc: Global) -> Result<Grammar, Fail> {
     }
 }
 
-/// How many rows a text gives for the form `[ ]`, or its refusal.
-fn rows(alloc: Global, text: &[u8]) -> Result<Result<usize, RowsErr>, Fail> {
+/// How many rows a text gives for the form `[ ]`, as in `Ok(2)`, or its refusal.
+fn rows(alloc: Global, text: &[u8]) -> Result<String, Fail> {
     let grammar = grammar(alloc)?;
     let form = read_timeline(alloc, 1, 64, b"[ ]")?;
     if text.len() > 4_194_304 {
         return Err(Fail::new("the rows are too long"));
     }
-    Ok(read_rows(alloc, &grammar, &form, text).map(|rows| rows.len()))
+    let found = read_rows(alloc, &grammar, &form, text).map(|rows| rows.len());
+    Ok(format!(in alloc; "{found:?}")?)
 }
 
-fn at(row: u32, cause: RowsCause) -> Result<usize, RowsErr> {
-    Err(RowsErr::At { row, cause })
-}
-
-// Texts of rows files, and how many rows they give or their first cause.
-#[test]
-fn rows_and_first_causes(rt: HostRuntime) -> Result<(), Fail> {
-    let no_column = RowsCause::Form(FormErr::WrongWidth { column: 0 });
-    let cases: [(&[u8], Result<usize, RowsErr>); 16] = [
-        (b"", Ok(0)),
-        (b"[- ]-\n-[ [| ]]\n", Ok(2)),
-        (b"[- ]-\n-[ [| ]]", Ok(2)),
-        // Lines that are passed over, and are counted.
-        (b"\n  \n[- ]-\n\n", Ok(1)),
-        (b"\n  \n[- ]\n", at(3, no_column_at(1))),
-        // A carriage return before a line feed is dropped, and no other.
-        (b"[- ]-\r\n\r\n[[ ]]\r\n", Ok(2)),
-        (b"[- ]-\r", at(1, bad_symbol(5))),
-        (b"[- ]-\r\r\n", at(1, bad_symbol(5))),
-        (b"\r", at(1, bad_symbol(0))),
-        // A line is read as it stands.
-        (b" [- ]-\n", at(1, no_column)),
-        (b"[- ]-\t\n", at(1, bad_symbol(5))),
-        // The first line with a cause gives it.
-        (b"[- +[ ]]\n-[ -]\n", at(2, RowsCause::NotCandidate)),
-        (b"-[ -]\n[- +[ ]]\n", at(1, RowsCause::NotCandidate)),
-        (b"[- ]-\nx\n-[ -]\n", at(2, bad_symbol(0))),
-        (b"empty\n", at(1, RowsCause::NotCandidate)),
-        (
-            b"[- +- ]-\n",
-            at(1, RowsCause::Form(FormErr::NotReduced { column: 1 })),
-        ),
-    ];
-    for (text, answer) in cases {
-        assert_eq!(rt; rows(rt.alloc(), text)?, answer, "{text:?}");
+/// Adds a cell of a table, in which a dollar stands for a line feed.
+fn push_cell(text: &mut Vec<u8>, cell: &[u8]) -> Result<(), AllocError> {
+    for byte in cell {
+        text.push(if *byte == b'$' { b'\n' } else { *byte })?;
     }
     Ok(())
 }
 
-fn bad_symbol(at: usize) -> RowsCause {
-    RowsCause::Form(FormErr::BadSymbol { at })
+/// How many rows, or the first cause, and texts of rows files that give it, with a tilde between any
+/// two. Lines that are passed over are counted. A carriage return before a line feed is dropped, and
+/// no other; otherwise a line is read as it stands.
+const FILES: &[u8] = b"Ok(0)~
+Ok(2)~[- ]-$-[ [| ]]$~[- ]-$-[ [| ]]~[- ]-\r$\r$[[ ]]\r$
+Ok(1)~$  $[- ]-$$
+Err(At { row: 3, cause: Form(WrongWidth { column: 1 }) })~$  $[- ]$
+Err(At { row: 1, cause: Form(BadSymbol { at: 5 }) })~[- ]-\r~[- ]-\r\r$~[- ]-\t$
+Err(At { row: 1, cause: Form(BadSymbol { at: 0 }) })~\r
+Err(At { row: 1, cause: Form(WrongWidth { column: 0 }) })~ [- ]-$
+Err(At { row: 2, cause: NotCandidate })~[- +[ ]]$-[ -]$
+Err(At { row: 1, cause: NotCandidate })~-[ -]$[- +[ ]]$~empty$
+Err(At { row: 2, cause: Form(BadSymbol { at: 0 }) })~[- ]-$x$-[ -]$
+Err(At { row: 1, cause: Form(NotReduced { column: 1 }) })~[- +- ]-$";
+
+/// Tries the texts of one row.
+fn try_files(rt: &impl Abort, alloc: Global, row: &[u8]) -> Result<(), Fail> {
+    let mut cells = row.split(|b| *b == b'~');
+    let due = cells.next().ok_or("no cell")?;
+    for cell in cells {
+        let mut text = Vec::new(alloc);
+        push_cell(&mut text, cell)?;
+        let found = rows(alloc, &text)?;
+        assert_eq!(rt; found.as_bytes(), due, "{cell:?}");
+    }
+    Ok(())
 }
 
-fn no_column_at(column: usize) -> RowsCause {
-    RowsCause::Form(FormErr::WrongWidth { column })
+#[test]
+fn rows_and_first_causes(rt: HostRuntime) -> Result<(), Fail> {
+    for row in FILES.split(|b| *b == b'\n') {
+        try_files(&rt, rt.alloc(), row)?;
+    }
+    Ok(())
 }
 
 // The 33rd row is one too many, whatever it says; lines that are passed over are not rows.
@@ -119,9 +118,10 @@ fn thirty_two_rows(rt: HostRuntime) -> Result<(), Fail> {
     for _ in 0..32 {
         text.extend_from_slice(b"[- ]-\n\n")?;
     }
-    assert_eq!(rt; rows(rt.alloc(), &text)?, Ok(32));
+    assert_eq!(rt; rows(rt.alloc(), &text)?.as_str(), "Ok(32)");
     text.extend_from_slice(b"  \nx\n")?;
-    assert_eq!(rt; rows(rt.alloc(), &text)?, at(66, RowsCause::TooMany));
+    let too_many = "Err(At { row: 66, cause: TooMany })";
+    assert_eq!(rt; rows(rt.alloc(), &text)?.as_str(), too_many);
     Ok(())
 }
 
@@ -133,11 +133,11 @@ fn four_thousand_and_ninety_six_columns(rt: HostRuntime) -> Result<(), Fail> {
     for _ in 0..2047 {
         text.extend_from_slice(b" -[ -]")?;
     }
-    assert_eq!(rt; rows(rt.alloc(), &text)?, Ok(1));
+    assert_eq!(rt; rows(rt.alloc(), &text)?.as_str(), "Ok(1)");
     text.truncate(4095 * 3 - 1);
     text.extend_from_slice(b" -| -]")?;
-    let too_long = RowsCause::Form(FormErr::TooLong);
-    assert_eq!(rt; rows(rt.alloc(), &text)?, at(1, too_long));
+    let too_long = "Err(At { row: 1, cause: Form(TooLong) })";
+    assert_eq!(rt; rows(rt.alloc(), &text)?.as_str(), too_long);
     Ok(())
 }
 
@@ -191,41 +191,48 @@ fn three_rows_are_laid_out(rt: HostRuntime) -> Result<(), Fail> {
     Ok(())
 }
 
+/// Whether a tableau is laid out as this text.
+fn has_text(alloc: Global, tableau: &Tableau, text: &str) -> Result<bool, Fail> {
+    let mut sink = SafeSink::new(alloc);
+    put_tableau(&mut sink, tableau)?;
+    Ok(sink.bytes() == text.as_bytes())
+}
+
 // Fields are as wide as the widest text, be it the form, a name or a count with its mark.
 #[test]
-fn fields_are_as_wide_as_their_widest_text(rt: HostRuntime) -> Result<(), Fail> {
+fn fields_are_as_wide_as_a_count_with_its_mark(rt: HostRuntime) -> Result<(), Fail> {
     let alloc = rt.alloc();
-    let cases: [(Tableau, &[u8]); 3] = [
-        (
-            Tableau {
-                form: read_timeline(alloc, 1, 64, b"[ | ]")?,
-                names: names(alloc, &["A", "B"])?,
-                rows: vec![in alloc; row(alloc, b"empty", &[12, 4_294_967_295], Some(1))?]?,
-            },
-            b"  [ | ]  A           B\n  empty 12 4294967295!\n",
-        ),
-        (
-            Tableau {
-                form: Timeline::new(alloc),
-                names: Vec::new(alloc),
-                rows: vec![in alloc; row(alloc, b"-[ -| -]", &[], None)?]?,
-            },
-            b"  empty   \n> -[ -| -]\n",
-        ),
-        (
-            Tableau {
-                form: Timeline::new(alloc),
-                names: names(alloc, &["Name"])?,
-                rows: Vec::new(alloc),
-            },
-            b"  empty Name\n",
-        ),
-    ];
-    for (tableau, text) in cases {
-        let mut sink = SafeSink::new(alloc);
-        put_tableau(&mut sink, &tableau)?;
-        assert_eq!(rt; sink.bytes(), text);
-    }
+    let tableau = Tableau {
+        form: read_timeline(alloc, 1, 64, b"[ | ]")?,
+        names: names(alloc, &["A", "B"])?,
+        rows: vec![in alloc; row(alloc, b"empty", &[12, 4_294_967_295], Some(1))?]?,
+    };
+    let text = "  [ | ]  A           B\n  empty 12 4294967295!\n";
+    assert!(rt; has_text(alloc, &tableau, text)?);
+    Ok(())
+}
+
+#[test]
+fn fields_are_as_wide_as_a_form(rt: HostRuntime) -> Result<(), Fail> {
+    let alloc = rt.alloc();
+    let tableau = Tableau {
+        form: Timeline::new(alloc),
+        names: Vec::new(alloc),
+        rows: vec![in alloc; row(alloc, b"-[ -| -]", &[], None)?]?,
+    };
+    assert!(rt; has_text(alloc, &tableau, "  empty   \n> -[ -| -]\n")?);
+    Ok(())
+}
+
+#[test]
+fn fields_are_as_wide_as_a_name(rt: HostRuntime) -> Result<(), Fail> {
+    let alloc = rt.alloc();
+    let tableau = Tableau {
+        form: Timeline::new(alloc),
+        names: names(alloc, &["Name"])?,
+        rows: Vec::new(alloc),
+    };
+    assert!(rt; has_text(alloc, &tableau, "  empty Name\n")?);
     Ok(())
 }
 

@@ -262,6 +262,33 @@ fn failing_loads_are_read_faults(rt: HostRuntime) -> Result<(), Fail> {
     Ok(())
 }
 
+// The grammar's file is loaded once: the second load of the shelf, which fails, is that of the next run.
+#[test]
+fn a_grammar_is_loaded_once(rt: HostRuntime) -> Result<(), Fail> {
+    let alloc = rt.alloc();
+    for text in ["canon/g", "generate/g/[ ]"] {
+        let mut shelf = shelf(alloc, LEAST, [2].to_vec(alloc)?)?;
+        let words = words(alloc, text)?;
+        let mut sink = SafeSink::new(alloc);
+        let fault = Status::ReadFault { word: 1 };
+        assert_eq!(rt; run(alloc, &words, &mut shelf, &mut sink), Status::Done, "{text}");
+        assert_eq!(rt; run(alloc, &words, &mut shelf, &mut sink), fault, "{text}");
+    }
+    Ok(())
+}
+
+// A sink that takes 16 bytes a write, of which the third fails, has taken the first 32.
+#[test]
+fn a_third_write_that_fails_leaves_two(rt: HostRuntime) -> Result<(), Fail> {
+    let alloc = rt.alloc();
+    let mut shelf = shelf(alloc, LEAST, Vec::new(alloc))?;
+    let mut sink = MemSink::new(alloc, 16, [3].to_vec(alloc)?);
+    let status = run(alloc, &words(alloc, "generate/g/[ ]")?, &mut shelf, &mut sink);
+    assert_eq!(rt; status, Status::WriteFault);
+    assert_eq!(rt; sink.bytes(), b"answer 1\nform [ ]\ncounts 0 1 0\ne".as_slice());
+    Ok(())
+}
+
 // A sink that takes 5 bytes a write, of which the third fails, has taken the first 10.
 #[test]
 fn failing_writes_are_write_faults(rt: HostRuntime) -> Result<(), Fail> {

@@ -1,5 +1,6 @@
 -- A test of a whole answer, by what is seen of it, decides whether the answer is certified.
-use Rattle.std.proofs.Common.{◌≡◌, ℕ, ◌+◌, ◌==◌, ◌≤◌, nat_le, IsTrue, Bool, true, false, ◌&&◌, List, map, length, sym, ap, ◌∙◌, arith, Decides, slice_index_or, []}
+use Rattle.std.proofs.Common.{◌≡◌, ℕ, ◌+◌, ◌==◌, ◌≤◌, nat_le, IsTrue, Bool, true, false, ◌&&◌, List, map, length, sym}
+use Rattle.std.proofs.Common.{ap, ◌∙◌, arith, Decides, slice_index_or, []}
 use Rattle.std.specs.List.{list_all, AllByRecursion}
 use Rattle.std.proofs.lemmas.Bool.{false≢true, and_parts}
 use Rattle.std.proofs.lemmas.Bool.Decides.{Decides-and, Decides-at, Decides-eqb}
@@ -7,7 +8,7 @@ use Rattle.std.proofs.lemmas.List.Elements.{All-from_recursion, recursion_from_A
 use Rattle.tier_core.specs.declared.sym.Sym.{Sym}
 use Rattle.tier_core.specs.Kinds.{PrefixKind}
 use Rattle.tier_core.specs.Tiers.{Tiers}
-use Rattle.tier_core.specs.Timelines.{IsWellFormed, IsReduced, has_edge, project, squeeze, word}
+use Rattle.tier_core.specs.Timelines.{IsWellFormed, IsReduced, has_edge, project, squeeze, tier_word}
 use Rattle.tier_core.specs.Words.{IsWellFormedWord}
 use Rattle.tier_core.proofs.WordLemmas.{runs}
 use Rattle.tier_core.proofs.WordForm.{well_formed_from_runs, runs_from_well_formed}
@@ -30,16 +31,17 @@ all_recursive p P each xs = Decides-by (all_decided p P each xs)
 
 abbrev pub is_well_formed : ℕ → List (List Sym) → Bool
 is_well_formed width T =
-    list_all (λ column. length column == width) T && below width (λ t. runs false (word T t))
+    list_all (λ column. length column == width) T && below width (λ t. runs false (tier_word T t))
 
 pub Decides-well_formed : (width : ℕ) (T : List (List Sym))
     → Decides (is_well_formed width T) (IsWellFormed width T)
 Decides-well_formed width T =
-    Decides-by (Decides-and (list_all (λ column. length column == width) T) (below width (λ t. runs false (word T t)))
+    Decides-by (Decides-and (list_all (λ column. length column == width) T)
+    (below width (λ t. runs false (tier_word T t)))
     (all_recursive (λ column. length column == width) (λ column. length column ≡ width)
     (λ column. Decides-eqb (length column) width) T)
-    (Decides-below (λ t. runs false (word T t)) (λ t. IsWellFormedWord (word T t))
-    (λ t. (well_formed_from_runs (word T t), runs_from_well_formed (word T t))) width))
+    (Decides-below (λ t. runs false (tier_word T t)) (λ t. IsWellFormedWord (tier_word T t))
+    (λ t. (well_formed_from_runs (tier_word T t), runs_from_well_formed (tier_word T t))) width))
     (λ h. record { one_width = h.0; each_tier = h.1 })
     (λ w. (w.one_width, w.each_tier))
 

@@ -1,5 +1,7 @@
 -- Tests of the automaton of an answer, by what is seen of it, and what each decides.
-use Rattle.std.proofs.Common.{◌≡◌, ◌↔◌, ℕ, zero, suc, ◌+◌, ◌==◌, ◌<◌, IsTrue, Bool, true, false, not, ◌&&◌, List, [], ◌∷◌, map, length, refl, sym, ap, ◌∙◌, subst, arith, All, AllPairs, Contains, Decides, unwrap_or, is_some}
+use Rattle.std.proofs.Common.{◌≡◌, ◌↔◌, ℕ, zero, suc, ◌+◌, ◌==◌, ◌<◌, IsTrue, Bool, true, false, not, ◌&&◌, List, []}
+use Rattle.std.proofs.Common.{◌∷◌, map, length, refl, sym, ap, ◌∙◌, subst, arith, All, AllPairs, Contains, Decides}
+use Rattle.std.proofs.Common.{unwrap_or, is_some}
 use Rattle.std.specs.Bool.{beq}
 use Rattle.std.specs.List.{list_all, list_any}
 use Rattle.std.specs.List.Sorted.{IsStrictlySortedBy}
@@ -10,7 +12,7 @@ use Rattle.tier_core.specs.declared.sym.Sym.{Sym}
 use Rattle.tier_core.specs.Classes.{has, sets_of, sets_have, AreDisjoint}
 use Rattle.tier_core.specs.Kinds.{PrefixKind}
 use Rattle.tier_core.specs.Sets.{is_in}
-use Rattle.violation.specs.Moves.{moved, is_final}
+use Rattle.violation.specs.Moves.{next_kind, is_final}
 use Rattle.violation.specs.Problems.{Problem, last_stage}
 use Rattle.answer_text.specs.declared.automaton.ArcLine.{ArcLine}
 use Rattle.answer_text.specs.declared.automaton.StateLine.{StateLine}
@@ -21,7 +23,9 @@ use Rattle.answer_text.specs.Right.{nodes_at, numbers_of, IsNodeOf}
 use Rattle.answer_text.specs.Certified.{IsKeptBelow, IsCertifiedAutomaton, AreStatesInOrder}
 use Rattle.check_laws.proofs.Members.{contains_map, contains_of_map}
 use Rattle.answer_examples.specs.Seen.{StateSeen, node_seen, nodes_seen, arc_seen, state_seen}
-use Rattle.answer_examples.proofs.Tests.{Decides-by, both, implied, Decides-both, Decides-implied, Decides-true, all_seen, each_seen, some_seen, pairs_pass, pairs_seen, ascends, Decides-ascends, below, Decides-below, every_column, Decides-columns}
+use Rattle.answer_examples.proofs.Tests.{Decides-by, both, implied, Decides-both, Decides-implied, Decides-true}
+use Rattle.answer_examples.proofs.Tests.{all_seen, each_seen, some_seen, pairs_pass, pairs_seen, ascends}
+use Rattle.answer_examples.proofs.Tests.{Decides-ascends, below, Decides-below, every_column, Decides-columns}
 use Rattle.answer_examples.proofs.Same.{Decides-flag, same_kind, Decides-kind}
 use Rattle.answer_examples.proofs.StageTests.{Listing, is_kept, Decides-kept}
 
@@ -177,7 +181,7 @@ arcs_differ states = list_all (λ z. pairs_pass (λ a b. are_disjoint a.1 b.1) z
 abbrev pub is_arc_kept : Problem → Listing → PrefixKind → ℕ × List ℕ → Bool
 is_arc_kept problem at k a =
     each_column a.1 (λ column. both (is_kept problem at (last_stage problem + 1) k column)
-    (λ _. is_node (at (last_stage problem)) a.0 (moved problem (last_stage problem) k column)))
+    (λ _. is_node (at (last_stage problem)) a.0 (next_kind problem (last_stage problem) k column)))
 
 abbrev pub arcs_kept : Problem → Listing → List StateSeen → Bool
 arcs_kept problem at states =
@@ -187,7 +191,7 @@ arcs_kept problem at states =
 -- and each such move has an arc
 abbrev pub arc_to : Problem → Listing → List StateSeen → ℕ → PrefixKind → List Sym → ℕ → Bool
 arc_to problem at states n k column m =
-    implied (is_node (at (last_stage problem)) m (moved problem (last_stage problem) k column))
+    implied (is_node (at (last_stage problem)) m (next_kind problem (last_stage problem) k column))
     (λ _. has_arc states n m column)
 
 abbrev pub has_move : Problem → Listing → List StateSeen → ℕ → PrefixKind → List Sym → Bool
@@ -256,7 +260,7 @@ module _ (problem : Problem) (stages : List Stage) (states : List StateLine) whe
   IsKept k column = IsKeptBelow problem stages (end + 1) k column
 
   abbrev Reaches : ℕ → PrefixKind → List Sym → Type 0
-  Reaches m k column = IsNodeOf problem nodes m (moved problem end k column)
+  Reaches m k column = IsNodeOf problem nodes m (next_kind problem end k column)
 
   abbrev AreKept : Type 0
   AreKept = (state : StateLine) → Contains states state → (k : PrefixKind) → IsNodeOf problem nodes state.node k
@@ -280,12 +284,12 @@ module _ (problem : Problem) (stages : List Stage) (states : List StateLine) whe
       one_arc k a =
           Decides-class (sets_of a.class)
           (λ column. both (is_kept problem at (end + 1) k column)
-          (λ _. is_node (at end) a.target (moved problem end k column)))
+          (λ _. is_node (at end) a.target (next_kind problem end k column)))
           (λ column. IsKept k column × Reaches a.target k column)
           (λ column. Decides-both (is_kept problem at (end + 1) k column)
-          (λ _. is_node (at end) a.target (moved problem end k column))
+          (λ _. is_node (at end) a.target (next_kind problem end k column))
           (Decides-kept problem stages (end + 1) k column)
-          (Decides-node problem nodes a.target (moved problem end k column)))
+          (Decides-node problem nodes a.target (next_kind problem end k column)))
 
   abbrev HasMove : ℕ → PrefixKind → List Sym → Type 0
   HasMove n k column = IsKept k column → (m : ℕ) → m < length (at end) → Reaches m k column
@@ -298,8 +302,8 @@ module _ (problem : Problem) (stages : List Stage) (states : List StateLine) whe
       (λ _. below (length (at end)) (arc_to problem at seen n k column))
       (Decides-kept problem stages (end + 1) k column)
       (Decides-below (arc_to problem at seen n k column) (λ m. Reaches m k column → HasArc states n m column)
-      (λ m. Decides-implied (is_node (at end) m (moved problem end k column)) (λ _. has_arc seen n m column)
-      (Decides-node problem nodes m (moved problem end k column)) (Decides-arc states n m column))
+      (λ m. Decides-implied (is_node (at end) m (next_kind problem end k column)) (λ _. has_arc seen n m column)
+      (Decides-node problem nodes m (next_kind problem end k column)) (Decides-arc states n m column))
       (length (at end)))
 
   abbrev HaveArcs : Type 0
@@ -337,7 +341,7 @@ module _ (problem : Problem) (stages : List Stage) (states : List StateLine) whe
         subst (λ i. IsNodeOf problem nodes i k) (sym z.1.1) node in
         subst (λ i. HasArc states i m column) z.1.1
         (h.1 z.0 z.1.0 k from column move.0.fits.width move.0 m
-        (node_within problem nodes m (moved problem end k column) move.1) move.1),
+        (node_within problem nodes m (next_kind problem end k column) move.1) move.1),
   )
 
   from_moves : AreMoves → AreKept × HaveArcs

@@ -14,7 +14,7 @@ use Rattle.answer_text.specs.Certified.{IsCertified}
 use Rattle.answer_text.specs.Right.{IsRight}
 use Rattle.answer_text.specs.Sound.{IsSound}
 use Rattle.answer_examples.specs.Seen.{IsSeenAs}
-use Rattle.answer_examples.specs.Worked.{unranked, two_kinds, two_states, state, under_dep, dep_kinds}
+use Rattle.answer_examples.specs.Worked.{unranked_problem, two_kinds, two_states, state, under_dep, dep_kinds}
 use Rattle.answer_examples.proofs.AnswerTests.{head_passes, is_candidate, Decides-candidate, is_certified, listing}
 use Rattle.answer_examples.proofs.RightTests.{Shown, is_right}
 use Rattle.answer_examples.proofs.WholeAnswers.{certified_by, sound_by, right_by, not_right_by}
@@ -34,30 +34,32 @@ nothing = record { candidate = []; columns = 0 }
 abbrev both_shown : List Shown
 both_shown = nothing ∷ show (codes "-[ -]") 1 ∷ []
 
-module _ (answer : Answer) (example : List (List Sym)) (candidate : IsCandidate unranked example)
-    (s : IsSeenAs unranked answer [] example two_kinds two_states) where
-  head : head_passes unranked [] example 1 ≡ true
-  head = and_from (is_candidate unranked example) true ((Decides-candidate unranked example).1 candidate) refl
+module _ (answer : Answer) (example : List (List Sym)) (candidate : IsCandidate unranked_problem example)
+    (s : IsSeenAs unranked_problem answer [] example two_kinds two_states) where
+  head : head_passes unranked_problem [] example 1 ≡ true
+  head = and_from (is_candidate unranked_problem example) true
+      ((Decides-candidate unranked_problem example).1 candidate) refl
 
-  pub certified : IsCertified unranked answer
-  certified = certified_by s (and_from (head_passes unranked [] example 1) true head refl)
+  pub certified : IsCertified unranked_problem answer
+  certified = certified_by s (and_from (head_passes unranked_problem [] example 1) true head refl)
 
-  pub sound : IsSound unranked answer
+  pub sound : IsSound unranked_problem answer
   sound = sound_by s split refl refl certified
 
 -- with the first candidate as its example it is right
-pub right : (answer : Answer) → IsSeenAs unranked answer [] [] two_kinds two_states → IsRight unranked answer
+pub right : (answer : Answer) → IsSeenAs unranked_problem answer [] [] two_kinds two_states
+    → IsRight unranked_problem answer
 right answer s = right_by s split refl refl (certified_by s refl) (λ r. both_shown) both_shown refl
 
 -- a candidate that is not the first
 abbrev pub later : List (List Sym)
 later = timeline (codes "-[ -]")
 
-pub later_candidate : IsCandidate unranked later
-later_candidate = (Decides-candidate unranked later).0 refl
+pub later_candidate : IsCandidate unranked_problem later
+later_candidate = (Decides-candidate unranked_problem later).0 refl
 
-pub later_not_right : (answer : Answer) → IsSeenAs unranked answer [] later two_kinds two_states
-    → IsRight unranked answer → ⊥
+pub later_not_right : (answer : Answer) → IsSeenAs unranked_problem answer [] later two_kinds two_states
+    → IsRight unranked_problem answer → ⊥
 later_not_right answer s = not_right_by s split refl refl (certified_by s refl) [] refl refl refl
 
 -- under `a -> A`

@@ -11,7 +11,9 @@ use Rattle.answer_text.specs.declared.answer.Answer.{Answer}
 use Rattle.answer_text.specs.Certified.{IsCertified}
 use Rattle.answer_text.specs.Right.{IsRight}
 use Rattle.answer_text.specs.Sound.{IsSound}
-use Rattle.answer_examples.specs.Faithful.{under_max_dep, under_max_dep_one, first_optimal, other_optimal, nine_counts, stages_of_two, stages_of_three, states_of_many, states_of_nine, IsAnswerOfMany, IsAnswerOfNine, IsOneOfNine}
+use Rattle.answer_examples.specs.Faithful.{under_max_dep, under_max_dep_one, first_optimal, other_optimal, nine_counts}
+use Rattle.answer_examples.specs.Faithful.{stages_of_two, stages_of_three, states_of_many, states_of_nine}
+use Rattle.answer_examples.specs.Faithful.{IsAnswerOfMany, IsAnswerOfNine, IsOneOfNine}
 use Rattle.answer_examples.proofs.EmptyForm.{split, show}
 use Rattle.answer_examples.proofs.Same.{same_numbers, Decides-numbers}
 use Rattle.answer_examples.proofs.AnswerTests.{head_passes, is_candidate, Decides-candidate, is_certified, listing}

@@ -1,5 +1,7 @@
 -- A test that nothing which an automaton accepts comes before a timeline.
-use Rattle.std.proofs.Common.{◌≡◌, ℕ, zero, suc, ◌==◌, ◌≤◌, IsTrue, Bool, true, false, cond, eqb, not, ◌&&◌, List, [], ◌∷◌, map, length, refl, sym, ap, ◌∙◌, subst, arith, Contains, Less, Equal, Greater, is_le, lt-ltb, le-ltb, eq-eqb, ne_eqb, inl, inr}
+use Rattle.std.proofs.Common.{◌≡◌, ℕ, zero, suc, ◌==◌, ◌≤◌, IsTrue, Bool, true, false, cond, eqb, not, ◌&&◌, List, []}
+use Rattle.std.proofs.Common.{◌∷◌, map, length, refl, sym, ap, ◌∙◌, subst, arith, Contains, Less, Equal, Greater, is_le}
+use Rattle.std.proofs.Common.{lt-ltb, le-ltb, eq-eqb, ne_eqb, inl, inr}
 use Rattle.std.specs.List.{list_all}
 use Rattle.std.specs.Ordering.{nat_cmp, ordering_then}
 use Rattle.std.specs.Cmp.Lexicographic.{slice_cmp}

@@ -8,7 +8,8 @@ use Rattle.answer_text.specs.declared.answer.Answer.{Answer}
 use Rattle.answer_text.specs.Certified.{IsCertified}
 use Rattle.answer_text.specs.Right.{IsRight}
 use Rattle.answer_text.specs.Sound.{IsSound}
-use Rattle.answer_examples.specs.Ranked.{IsAnswerOn, under_one_max_dep, only_optimal, least_counts, four_stages, three_states}
+use Rattle.answer_examples.specs.Ranked.{IsAnswerOn, under_one_max_dep, only_optimal, least_counts, four_stages}
+use Rattle.answer_examples.specs.Ranked.{three_states}
 use Rattle.answer_examples.proofs.EmptyForm.{split, show}
 use Rattle.answer_examples.proofs.AnswerTests.{is_certified, listing}
 use Rattle.answer_examples.proofs.RightTests.{Shown, is_right}

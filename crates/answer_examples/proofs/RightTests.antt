@@ -1,6 +1,8 @@
 -- A certified answer is right if some candidate shows each of its kinds, and what remains from it, and
 -- its automaton accepts nothing before the example. This is tested by what is seen of the answer.
-use Rattle.std.proofs.Common.{◌≡◌, ℕ, zero, suc, ◌+◌, ◌-◌, ◌==◌, ◌<◌, ◌≤◌, nat_le, IsTrue, Bool, true, false, ◌&&◌, List, [], ◌∷◌, ◌++◌, map, take, drop, length, refl, sym, ap, ◌∙◌, subst, arith, All, Contains, Less, get_or, unwrap_or, find, is_le, append-nil, append_assoc}
+use Rattle.std.proofs.Common.{◌≡◌, ℕ, zero, suc, ◌+◌, ◌-◌, ◌==◌, ◌<◌, ◌≤◌, nat_le, IsTrue, Bool, true, false, ◌&&◌}
+use Rattle.std.proofs.Common.{List, [], ◌∷◌, ◌++◌, map, take, drop, length, refl, sym, ap, ◌∙◌, subst, arith, All}
+use Rattle.std.proofs.Common.{Contains, Less, get_or, unwrap_or, find, is_le, append-nil, append_assoc}
 use Rattle.std.specs.List.{list_all, AllByRecursion}
 use Rattle.std.specs.List.Sorted.{IsStrictlySortedBy}
 use Rattle.std.specs.Ordering.{nat_cmp, ordering_then}
@@ -17,7 +19,8 @@ use Rattle.tier_core.specs.Kinds.{PrefixKind}
 use Rattle.tier_core.specs.Orders.{timeline_cmp}
 use Rattle.tier_core.specs.Sets.{is_in}
 use Rattle.tier_core.specs.Symbols.{symbols}
-use Rattle.violation.specs.Candidates.{IsCandidate, IsOptimal, IsOptimalFor, IsAtMost, counts_on, count_at, count_so_far_at}
+use Rattle.violation.specs.Candidates.{IsCandidate, IsOptimal, IsOptimalFor, IsAtMost, counts_on, count_at}
+use Rattle.violation.specs.Candidates.{count_so_far_at}
 use Rattle.violation.specs.Conditions.{AreSplit, IsOverTiers}
 use Rattle.violation.specs.Prefixes.{kind_of, kind_of_bits}
 use Rattle.violation.specs.Problems.{Problem, last_stage}
@@ -30,13 +33,15 @@ use Rattle.answer_text.specs.declared.stage.Node.{Node}
 use Rattle.answer_text.specs.declared.stage.Stage.{Stage}
 use Rattle.answer_text.specs.Acceptance.{HasArc, Leads}
 use Rattle.answer_text.specs.Certified.{Lists, IsCertified, AreStatesInOrder}
-use Rattle.answer_text.specs.Right.{IsNodeOf, IsRight, IsRightStage, IsRightAutomaton, AreRightArcs, nodes_at, numbers_of}
+use Rattle.answer_text.specs.Right.{IsNodeOf, IsRight, IsRightStage, IsRightAutomaton, AreRightArcs, nodes_at}
+use Rattle.answer_text.specs.Right.{numbers_of}
 use Rattle.answer_text.specs.Sound.{IsSound}
 use Rattle.check_laws.proofs.Leading.{leads_parts}
 use Rattle.check_laws.proofs.Listing.{kind_listed, first_numbered}
 use Rattle.check_laws.proofs.Members.{all_from_members, contains_map, contains_of_map}
 use Rattle.check_laws.proofs.Optima.{AreTold, all_told}
-use Rattle.check_laws.proofs.Potentials.{FallsAlong, falls_parts, stage_at, goes_to, as_longer, one_more, rest_cost, bound}
+use Rattle.check_laws.proofs.Potentials.{FallsAlong, falls_parts, stage_at, goes_to, as_longer, one_more, rest_cost}
+use Rattle.check_laws.proofs.Potentials.{bound}
 use Rattle.check_laws.proofs.Soundness.{sound_from_certified}
 use Rattle.answer_examples.specs.Seen.{StateSeen, nodes_seen, arc_seen, state_seen}
 use Rattle.answer_examples.proofs.Tests.{Decides-leb, Decides-true, ascends, Decides-ascends, below, Decides-below}

@@ -1,5 +1,7 @@
 -- Tests of one stage of an answer, by what is seen of its nodes, and what each decides.
-use Rattle.std.proofs.Common.{◌≡◌, ℕ, zero, suc, ◌+◌, ◌-◌, ◌==◌, ◌<◌, ◌≤◌, nat_lt, nat_le, IsTrue, Bool, true, false, not, ◌&&◌, ◌||◌, List, [], ◌∷◌, map, length, refl, sym, ap, subst, arith, All, Contains, Decides, Some, slice_get, unwrap_or, is_some}
+use Rattle.std.proofs.Common.{◌≡◌, ℕ, zero, suc, ◌+◌, ◌-◌, ◌==◌, ◌<◌, ◌≤◌, nat_lt, nat_le, IsTrue, Bool, true, false}
+use Rattle.std.proofs.Common.{not, ◌&&◌, ◌||◌, List, [], ◌∷◌, map, length, refl, sym, ap, subst, arith, All, Contains}
+use Rattle.std.proofs.Common.{Decides, Some, slice_get, unwrap_or, is_some}
 use Rattle.std.specs.Bool.{beq}
 use Rattle.std.specs.List.{list_all, list_any}
 use Rattle.std.specs.List.Sorted.{IsStrictlySortedBy}
@@ -10,16 +12,20 @@ use Rattle.tier_core.specs.declared.constraint.Constraint.{Constraint}
 use Rattle.tier_core.specs.Kinds.{Phase, PrefixKind, kind_order}
 use Rattle.tier_core.specs.Scan.{fits}
 use Rattle.tier_core.specs.Timelines.{symbol, column_at, has_edge}
-use Rattle.violation.specs.Moves.{FitsKind, input_of, is_tier_open, moved, cost_of, cut, is_final}
+use Rattle.violation.specs.Moves.{FitsKind, input_of, is_tier_open, next_kind, cost_of, cut_kind, is_final}
 use Rattle.violation.specs.Phases.{is_closed, is_left_open, AreClosedOr}
 use Rattle.violation.specs.Prefixes.{kind_of, stretches}
 use Rattle.violation.specs.Problems.{Problem, last_place}
 use Rattle.answer_text.specs.declared.stage.Stage.{Stage}
 use Rattle.answer_text.specs.Right.{nodes_at, kinds_at}
-use Rattle.answer_text.specs.Certified.{Lists, IsTightAt, IsKeptBelow, IsPossibleKind, IsCertifiedStage, start_potential}
+use Rattle.answer_text.specs.Certified.{Lists, IsTightAt, IsKeptBelow, IsPossibleKind, IsCertifiedStage}
+use Rattle.answer_text.specs.Certified.{start_potential}
 use Rattle.answer_examples.specs.Seen.{nodes_seen}
-use Rattle.answer_examples.proofs.Tests.{Decides-by, both, implied, Decides-both, Decides-implied, Decides-leb, Decides-true, Decides-false, all_decided, each_decided, some_decided, ascends, Decides-ascends, below, Decides-below, every_column, Decides-columns}
-use Rattle.answer_examples.proofs.Same.{Decides-flag, same_column, Decides-column, same_kind, Decides-kind, has_kind, Decides-has_kind}
+use Rattle.answer_examples.proofs.Tests.{Decides-by, both, implied, Decides-both, Decides-implied, Decides-leb}
+use Rattle.answer_examples.proofs.Tests.{Decides-true, Decides-false, all_decided, each_decided, some_decided, ascends}
+use Rattle.answer_examples.proofs.Tests.{Decides-ascends, below, Decides-below, every_column, Decides-columns}
+use Rattle.answer_examples.proofs.Same.{Decides-flag, same_column, Decides-column, same_kind, Decides-kind, has_kind}
+use Rattle.answer_examples.proofs.Same.{Decides-has_kind}
 use Rattle.answer_examples.proofs.Views.{listed_seen, seen_listed, kinds_seen}
 
 -- the kinds that each stage lists, with their potentials
@@ -117,8 +123,8 @@ goes_to seen l p cost = list_any (λ y. same_kind y.0 l && nat_le p (cost + y.1)
 
 abbrev pub is_tight : Problem → Listing → ℕ → PrefixKind → List Sym → Bool
 is_tight problem at j k column =
-    falls_by (at j) (cut problem j k) (moved problem j (cut problem j k) column)
-    (cost_of problem j (cut problem j k) column)
+    falls_by (at j) (cut_kind problem j k) (next_kind problem j (cut_kind problem j k) column)
+    (cost_of problem j (cut_kind problem j k) column)
 
 abbrev pub is_kept : Problem → Listing → ℕ → PrefixKind → List Sym → Bool
 is_kept problem at r k column =
@@ -131,7 +137,7 @@ finals_pass problem at r = list_all (λ x. implied (is_final problem x.0) (λ _.
 abbrev pub goes_on : Problem → Listing → ℕ → PrefixKind × ℕ → List Sym → Bool
 goes_on problem at r x column =
     implied (is_kept problem at r x.0 column)
-    (λ _. goes_to (at r) (moved problem r x.0 column) x.1 (cost_of problem r x.0 column))
+    (λ _. goes_to (at r) (next_kind problem r x.0 column) x.1 (cost_of problem r x.0 column))
 
 abbrev pub moves_pass : Problem → Listing → ℕ → Bool
 moves_pass problem at r = list_all (λ x. every_column problem.tiers.width (goes_on problem at r x)) (at r)
@@ -145,7 +151,7 @@ kinds_pass problem at r =
     list_all (is_possible problem r) (kinds_in at r)
     && (ascends kind_order (kinds_in at r)
     && (implied (nat_le 1 r)
-    (λ _. list_all (λ k. has_kind (kinds_in at (r - 1)) (cut problem (r - 1) k)) (kinds_in at r))
+    (λ _. list_all (λ k. has_kind (kinds_in at (r - 1)) (cut_kind problem (r - 1) k)) (kinds_in at r))
     && begins_with (kinds_in at r) (kind_of problem r [])))
 
 abbrev pub stage_passes : Problem → List ℕ → Listing → ℕ → Bool
@@ -208,8 +214,8 @@ module _ (problem : Problem) (stages : List Stage) where
   Decides-tight : (j : ℕ) (k : PrefixKind) (column : List Sym)
       → Decides (is_tight problem at j k column) (IsTightAt problem stages j k column)
   Decides-tight j k column =
-      Decides-by (Decides-falls j (cut problem j k) (moved problem j (cut problem j k) column)
-      (cost_of problem j (cut problem j k) column))
+      Decides-by (Decides-falls j (cut_kind problem j k) (next_kind problem j (cut_kind problem j k) column)
+      (cost_of problem j (cut_kind problem j k) column))
       (λ w. record { before = w.0; after = w.1.1.0; leaves = w.1.0; arrives = w.1.1.1.0; falls = w.1.1.1.1 })
       (λ t. (t.before, (t.leaves, (t.after, (t.arrives, t.falls)))))
 
@@ -243,14 +249,14 @@ module _ (problem : Problem) (stages : List Stage) where
     abbrev AreRightKinds : List PrefixKind → List PrefixKind → Type 0
     AreRightKinds before ks =
         All (IsPossibleKind problem r) ks × (IsStrictlySortedBy kind_order ks
-        × ((1 ≤ r → All (λ k. Contains before (cut problem (r - 1) k)) ks)
+        × ((1 ≤ r → All (λ k. Contains before (cut_kind problem (r - 1) k)) ks)
         × (slice_get ks 0 ≡ Some (kind_of problem r []))))
 
     pub Decides-kinds : Decides (kinds_pass problem at r)
         (AreRightKinds (kinds_at problem (r - 1) (nodes_at stages (r - 1))) (kinds_at problem r (nodes_at stages r)))
     Decides-kinds =
         let before : List PrefixKind = kinds_in at (r - 1) in
-        let cuts : Bool = list_all (λ k. has_kind before (cut problem (r - 1) k)) kinds in
+        let cuts : Bool = list_all (λ k. has_kind before (cut_kind problem (r - 1) k)) kinds in
         let first : Bool = begins_with kinds (kind_of problem r []) in
         subst (λ ks. Decides (kinds_pass problem at r)
         (AreRightKinds ks (kinds_at problem r (nodes_at stages r)))) (sym before_are)
@@ -262,8 +268,9 @@ module _ (problem : Problem) (stages : List Stage) where
         (Decides-ascends kind_order kinds)
         (Decides-and (implied (nat_le 1 r) (λ _. cuts)) first
         (Decides-implied (nat_le 1 r) (λ _. cuts) (Decides-leb 1 r)
-        (all_decided (λ k. has_kind before (cut problem (r - 1) k)) (λ k. Contains before (cut problem (r - 1) k))
-        (λ k. Decides-has_kind before (cut problem (r - 1) k)) kinds))
+        (all_decided (λ k. has_kind before (cut_kind problem (r - 1) k))
+        (λ k. Contains before (cut_kind problem (r - 1) k))
+        (λ k. Decides-has_kind before (cut_kind problem (r - 1) k)) kinds))
         (Decides-first kinds (kind_of problem r []))))))
 
     pub Decides-finals : Decides (finals_pass problem at r)
@@ -276,7 +283,7 @@ module _ (problem : Problem) (stages : List Stage) where
 
     abbrev GoesOn : PrefixKind → ℕ → List Sym → Type 0
     GoesOn k p column =
-        (q : ℕ) × (Lists problem stages r (moved problem r k column) q × (p ≤ cost_of problem r k column + q))
+        (q : ℕ) × (Lists problem stages r (next_kind problem r k column) q × (p ≤ cost_of problem r k column + q))
 
     pub Decides-moves : Decides (moves_pass problem at r)
         ((k : PrefixKind) (p : ℕ) (column : List Sym) → Lists problem stages r k p
@@ -288,9 +295,9 @@ module _ (problem : Problem) (stages : List Stage) where
         (λ x. Decides-columns problem.tiers.width (goes_on problem at r x)
         (λ column. IsKeptBelow problem stages r x.0 column → GoesOn x.0 x.1 column)
         (λ column. Decides-implied (is_kept problem at r x.0 column)
-        (λ _. goes_to (at r) (moved problem r x.0 column) x.1 (cost_of problem r x.0 column))
+        (λ _. goes_to (at r) (next_kind problem r x.0 column) x.1 (cost_of problem r x.0 column))
         (Decides-kept r x.0 column)
-        (Decides-goes r (moved problem r x.0 column) x.1 (cost_of problem r x.0 column)))))
+        (Decides-goes r (next_kind problem r x.0 column) x.1 (cost_of problem r x.0 column)))))
         (λ h k p column l kept. h k p l column kept.fits.width kept)
         (λ h k p l column e kept. h k p column l kept)
 

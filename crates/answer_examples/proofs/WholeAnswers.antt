@@ -1,5 +1,6 @@
 -- What follows for an answer from tests of what is seen of it.
-use Rattle.std.proofs.Common.{◌≡◌, ℕ, ◌<◌, nat_lt, Bool, true, ◌&&◌, List, map, length, sym, ap, ◌∙◌, Decides, Greater, is_le}
+use Rattle.std.proofs.Common.{◌≡◌, ℕ, ◌<◌, nat_lt, Bool, true, ◌&&◌, List, map, length, sym, ap, ◌∙◌, Decides, Greater}
+use Rattle.std.proofs.Common.{is_le}
 use Rattle.std.specs.List.{list_all, AllByRecursion}
 use Rattle.std.proofs.lemmas.Bool.Decides.{Decides-and, Decides-ltb}
 use Rattle.tier_core.specs.declared.constraint.Constraint.{Constraint}
@@ -18,7 +19,8 @@ use Rattle.check_laws.proofs.Soundness.{sound_from_certified}
 use Rattle.answer_examples.specs.Seen.{IsSeenAs, StateSeen, nodes_seen, state_seen}
 use Rattle.answer_examples.proofs.Tests.{Decides-by}
 use Rattle.answer_examples.proofs.AutomatonTests.{states_ascend}
-use Rattle.answer_examples.proofs.AnswerTests.{all_recursive, is_candidate, Decides-candidate, is_certified, listing, certified_seen, in_order}
+use Rattle.answer_examples.proofs.AnswerTests.{all_recursive, is_candidate, Decides-candidate, is_certified, listing}
+use Rattle.answer_examples.proofs.AnswerTests.{certified_seen, in_order}
 use Rattle.answer_examples.proofs.RightTests.{Shown, is_right, right_from, not_first}
 
 -- constraints are over so many tiers

@@ -6,7 +6,7 @@ use Rattle.tier_core.specs.declared.constraint.Constraint.{Constraint}
 use Rattle.tier_core.specs.declared.constraint.Family.TheVariants.{Clash}
 use Rattle.tier_core.specs.declared.sym.Sym.{Sym}
 use Rattle.tier_core.specs.Kinds.{PrefixKind}
-use Rattle.violation.specs.Examples.{over_two, dep_a, max_a, kind_text, timeline, types}
+use Rattle.violation.specs.Examples.{over_two, dep_a, max_a, read_kind, timeline, types}
 use Rattle.violation.specs.Problems.{Problem}
 use Rattle.answer_text.specs.declared.answer.Answer.{Answer}
 use Rattle.answer_text.specs.Certified.{IsCertified}
@@ -31,7 +31,7 @@ under_one_max_dep = one_max_dep_on (timeline (codes "[ ]"))
 
 -- the kind of a place, by `+` or `-` for the overt tier and the phases, and its potential
 abbrev pub node_at : ℕ → List ℕ → List ℕ → ℕ → PrefixKind × ℕ
-node_at place opened phases potential = (kind_text place opened phases, potential)
+node_at place opened phases potential = (read_kind place opened phases, potential)
 
 -- each place with the overt tier shut or open, if 1 or nothing remains while it is open
 abbrev pub six_nodes : ℕ → List (PrefixKind × ℕ)

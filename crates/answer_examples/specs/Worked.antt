@@ -4,17 +4,17 @@ use Rattle.std.specs.Prelude.{ℕ, Bool, true, false, List, [], ◌∷◌, map, 
 use Rattle.std.specs.declared.alloc.Global.{Global}
 use Rattle.tier_core.specs.Kinds.{PrefixKind}
 use Rattle.tier_core.specs.Sets.{single_set}
-use Rattle.violation.specs.Examples.{over_two, dep_a, kind_text, read_syms}
+use Rattle.violation.specs.Examples.{over_two, dep_a, read_kind, read_syms}
 use Rattle.violation.specs.Problems.{Problem}
 use Rattle.answer_examples.specs.Seen.{StateSeen}
 
 -- there are no constraints, and the form is empty
-abbrev pub unranked : Problem
-unranked = over_two [] []
+abbrev pub unranked_problem : Problem
+unranked_problem = over_two [] []
 
 -- a node of place 0, by `+` or `-` for the overt tier, the phases, and its potential
 abbrev pub node : List ℕ → List ℕ → ℕ → PrefixKind × ℕ
-node opened phases potential = (kind_text 0 opened phases, potential)
+node opened phases potential = (read_kind 0 opened phases, potential)
 
 -- an arc on one column
 abbrev pub arc_on : ℕ → List ℕ → ℕ × List ℕ

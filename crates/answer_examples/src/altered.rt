@@ -1,6 +1,6 @@
 //! Alterations of the answer to `[ ]` under `a # a`, `A -> a` and `a -> A` that are not certified.
 ghost use Rattle.std.specs.Prelude.{true, false, [], ◌∷◌, drop, codes};
-ghost use Rattle.violation.specs.Examples.{timeline, kind_text};
+ghost use Rattle.violation.specs.Examples.{timeline, read_kind};
 ghost use Rattle.answer_examples.specs.Worked.{arc_on, state};
 ghost use Rattle.answer_examples.specs.Ranked.{only_optimal, least_counts, six_nodes, node_at};
 ghost use Rattle.answer_examples.specs.Ranked.{nodes_of_max, nodes_of_dep, first_arcs, second_arcs};
@@ -34,9 +34,9 @@ pub fn altered_stages_are_refused()
     ensures final_raised { IsStageRefused 1 (with_potential (six_nodes 1) 4 1) }
     ensures start_lowered { IsStageRefused 2 (with_potential nodes_of_max 0 0) }
     ensures phase_not_due { IsStageRefused 2 (with_kind nodes_of_max 1
-        (kind_text 1 (codes "-") (codes "."))) }
+        (read_kind 1 (codes "-") (codes "."))) }
     ensures phase_at_a_shut_tier { IsStageRefused 2 (with_kind nodes_of_max 0
-        (kind_text 0 (codes "-") (codes "u"))) }
+        (read_kind 0 (codes "-") (codes "u"))) }
     ensures node_taken_out { IsStageRefused 0 (without 5 (six_nodes 0)) }
     ensures cut_taken_out { IsStageRefused 0 (without 3 (six_nodes 0)) }
     ensures start_taken_out { IsStageRefused 0 (without 0 (six_nodes 0)) }

@@ -1,8 +1,9 @@
 -- A class, read tier by tier.
-use Rattle.std.proofs.Common.{◌≡◌, ℕ, zero, suc, ◌+◌, ◌-◌, ◌<◌, List, [], ◌∷◌, ◌++◌, length, take, set, Option, Some, None, option_map, option_and_then, refl, ap, sym, ◌∙◌, arith, append_assoc}
+use Rattle.std.proofs.Common.{◌≡◌, ℕ, zero, suc, ◌+◌, ◌-◌, ◌<◌, List, [], ◌∷◌, ◌++◌, length, take, set, Option, Some}
+use Rattle.std.proofs.Common.{None, option_map, option_and_then, refl, ap, sym, ◌∙◌, arith, append_assoc}
 use Rattle.std.proofs.lemmas.List.{take_more_set}
-use Rattle.answer_reader.specs.Classes.{front_of, class_of}
-use Rattle.answer_reader.specs.Decoding.{decoded}
+use Rattle.answer_reader.specs.Classes.{set_and_rest, class_of}
+use Rattle.answer_reader.specs.Decoding.{decode_set}
 use Rattle.answer_reader.proofs.Sets.{decoded_is_front}
 
 -- sets that were read, and those that are read behind them
@@ -15,17 +16,17 @@ set_more sets x None = refl
 set_more sets x (Some xs) = ap (λ (ys : List ℕ). let r : Option (List ℕ) = Some ys in r)
     (sym (append_assoc sets (x ∷ []) xs))
 
-with_tier : (sets rest behind : List ℕ) (m x : ℕ) (whole : Option (List ℕ)) → decoded rest ≡ Some (x, behind)
+with_tier : (sets rest behind : List ℕ) (m x : ℕ) (whole : Option (List ℕ)) → decode_set rest ≡ Some (x, behind)
     → behind_sets sets (class_of (suc m) rest) ≡ whole → behind_sets (sets ++ x ∷ []) (class_of m behind) ≡ whole
 with_tier sets rest behind m x whole d h =
-    let e : front_of rest ≡ Some (x, behind) = sym (decoded_is_front rest) ∙ d in
+    let e : set_and_rest rest ≡ Some (x, behind) = sym (decoded_is_front rest) ∙ d in
     sym (set_more sets x (class_of m behind))
     ∙ ap (λ f. behind_sets sets (option_and_then
     (λ (front : ℕ × List ℕ). option_map (λ xs. front.0 ∷ xs) (class_of m front.1)) f)) (sym e) ∙ h
 
 -- a tier's set stands at the front
 pub tier_read : (n tier : ℕ) (sets rest behind : List ℕ) (x : ℕ) (whole : Option (List ℕ)) → tier < n
-    → tier < length sets → decoded rest ≡ Some (x, behind)
+    → tier < length sets → decode_set rest ≡ Some (x, behind)
     → behind_sets (take tier sets) (class_of (n - tier) rest) ≡ whole
     → behind_sets (take (tier + 1) (set sets tier x)) (class_of (n - (tier + 1)) behind) ≡ whole
 tier_read n tier sets rest behind x whole l within d h =
@@ -35,11 +36,11 @@ tier_read n tier sets rest behind x whole l within d h =
     (sym (ap (λ k. behind_sets (take tier sets) (class_of k rest)) more) ∙ h)
 
 -- or none does
-pub tier_missing : (n tier : ℕ) (sets rest : List ℕ) (whole : Option (List ℕ)) → tier < n → decoded rest ≡ None
+pub tier_missing : (n tier : ℕ) (sets rest : List ℕ) (whole : Option (List ℕ)) → tier < n → decode_set rest ≡ None
     → behind_sets sets (class_of (n - tier) rest) ≡ whole → None ≡ whole
 tier_missing n tier sets rest whole l d h =
     let more : n - tier ≡ suc (n - (tier + 1)) = omega arith in
-    let e : front_of rest ≡ None = sym (decoded_is_front rest) ∙ d in
+    let e : set_and_rest rest ≡ None = sym (decoded_is_front rest) ∙ d in
     ap (λ f. behind_sets sets (option_and_then
     (λ (front : ℕ × List ℕ). option_map (λ xs. front.0 ∷ xs) (class_of (n - (tier + 1)) front.1)) f)) (sym e)
     ∙ sym (ap (λ k. behind_sets sets (class_of k rest)) more) ∙ h
@@ -60,4 +61,4 @@ length_at width (Some front) sets h e = by (class_of width front.1) refl e
 pub class_width : (width : ℕ) (bytes sets : List ℕ) → class_of width bytes ≡ Some sets → length sets ≡ width
 class_width zero [] sets e = let same : [] ≡ sets = cc in sym (ap length same)
 class_width zero (b ∷ bytes) sets e = absurd (let n : ⊥ = cc in n)
-class_width (suc width) bytes sets e = length_at width (front_of bytes) sets (class_width width) e
+class_width (suc width) bytes sets e = length_at width (set_and_rest bytes) sets (class_width width) e

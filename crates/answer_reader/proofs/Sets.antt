@@ -1,5 +1,8 @@
 -- A set at the front of a text: what is decoded is the set whose text stands there.
-use Rattle.std.proofs.Common.{◌≡◌, ℕ, zero, suc, ◌+◌, ◌==◌, ◌<◌, ◌≤◌, ◌&&◌, ◌||◌, not, Bool, true, false, cond, List, [], ◌∷◌, ◌++◌, length, take, drop, Option, Some, None, option_map, refl, ap, sym, ◌∙◌, subst, arith, take-append-drop, append_assoc, nat_le, nat_lt, eqb-true, leb-true, ltb-true, ⊎_elim}
+use Rattle.std.proofs.Common.{◌≡◌, ℕ, zero, suc, ◌+◌, ◌==◌, ◌<◌, ◌≤◌, ◌&&◌, ◌||◌, not, Bool, true, false, cond, List}
+use Rattle.std.proofs.Common.{[], ◌∷◌, ◌++◌, length, take, drop, Option, Some, None, option_map, refl, ap, sym, ◌∙◌}
+use Rattle.std.proofs.Common.{subst, arith, take-append-drop, append_assoc, nat_le, nat_lt, eqb-true, leb-true}
+use Rattle.std.proofs.Common.{ltb-true, ⊎_elim}
 use Rattle.std.specs.List.{find, range_with_len, AllByRecursion}
 use Rattle.std.specs.Str.{bytes_eq}
 use Rattle.std.proofs.lemmas.Bool.{false≢true, cases_lt, and_parts}
@@ -10,8 +13,8 @@ use Rattle.tier_core.specs.Sets.{single_set}
 use Rattle.tier_core.specs.Symbols.{byte_of, sym_of, symbols as all_symbols}
 use Rattle.answer_text.specs.Text.{set_text}
 use Rattle.answer_reader.specs.Cuts.{begins}
-use Rattle.answer_reader.specs.Classes.{front_set, behind_set, front_of}
-use Rattle.answer_reader.specs.Decoding.{with_symbol, symbols_from, has_two, closed_by, alone, decoded}
+use Rattle.answer_reader.specs.Classes.{front_set, behind_set, set_and_rest}
+use Rattle.answer_reader.specs.Decoding.{with_symbol, symbols_from, has_two, closed_by, single_and_rest, decode_set}
 
 -- ---- a front
 
@@ -33,7 +36,7 @@ begins_front front rest = (bytes_eq-Decides (take (length front) (front ++ rest)
 -- ---- each text of a set is decoded as that set
 
 abbrev pub IsDecoded : ℕ → Type 0
-IsDecoded set = (rest : List ℕ) → decoded (set_text set ++ rest) ≡ Some (set, rest)
+IsDecoded set = (rest : List ℕ) → decode_set (set_text set ++ rest) ≡ Some (set, rest)
 
 pub each_decoded : AllByRecursion IsDecoded (range_with_len 1 31)
 each_decoded = (
@@ -301,7 +304,7 @@ sym_at b [] s h = absurd (let n : ⊥ = cc in n)
 sym_at b (x ∷ xs) s h = sym_here b x xs s (byte_of x == b) refl (sym_at b xs s) h
 
 alone_front : (b : ℕ) (bytes : List ℕ) (o : Option Sym) (front : ℕ × List ℕ) → sym_of b ≡ o
-    → option_map (alone bytes) o ≡ Some front → IsFront (b ∷ bytes) front
+    → option_map (single_and_rest bytes) o ≡ Some front → IsFront (b ∷ bytes) front
 alone_front b bytes None front e h = absurd (let n : ⊥ = cc in n)
 alone_front b bytes (Some s) front e h =
     let is : (single_set s, bytes) ≡ front = cc in
@@ -315,31 +318,31 @@ alone_front b bytes (Some s) front e h =
     })
 
 decoded_at : (b : ℕ) (bytes : List ℕ) (front : ℕ × List ℕ) (t : Bool) → (b == 123) ≡ t
-    → cond t (closed_by (symbols_from bytes)) (option_map (alone bytes) (sym_of b)) ≡ Some front
+    → cond t (closed_by (symbols_from bytes)) (option_map (single_and_rest bytes) (sym_of b)) ≡ Some front
     → IsFront (b ∷ bytes) front
 decoded_at b bytes front true e h = subst (λ x. IsFront (x ∷ bytes) front) (sym (eqb-true b 123 e))
     (closed bytes (symbols_from bytes) front (symbols bytes) h)
 decoded_at b bytes front false e h = alone_front b bytes (sym_of b) front refl h
 
-stands : (bytes : List ℕ) (front : ℕ × List ℕ) → decoded bytes ≡ Some front → IsFront bytes front
+stands : (bytes : List ℕ) (front : ℕ × List ℕ) → decode_set bytes ≡ Some front → IsFront bytes front
 stands [] front h = absurd (let n : ⊥ = cc in n)
 stands (b ∷ bytes) front h = decoded_at b bytes front (b == 123) refl h
 
 -- ---- so both find the same
 
-none_decoded : (bytes : List ℕ) (o : Option (ℕ × List ℕ)) → decoded bytes ≡ o → front_set bytes ≡ None → o ≡ None
+none_decoded : (bytes : List ℕ) (o : Option (ℕ × List ℕ)) → decode_set bytes ≡ o → front_set bytes ≡ None → o ≡ None
 none_decoded bytes None e h = refl
 none_decoded bytes (Some front) e h =
     let f = stands bytes front e in
     let no = none_passes (λ set. begins (set_text set) bytes) 1 31 front.0 h f.least (omega (arith, f.most)) in
     absurd (false≢true (sym no ∙ ap (begins (set_text front.0)) f.text ∙ begins_front (set_text front.0) front.1))
 
-by_set : (bytes : List ℕ) (o : Option ℕ) → front_set bytes ≡ o → decoded bytes ≡ option_map (behind_set bytes) o
-by_set bytes None e = none_decoded bytes (decoded bytes) refl e
+by_set : (bytes : List ℕ) (o : Option ℕ) → front_set bytes ≡ o → decode_set bytes ≡ option_map (behind_set bytes) o
+by_set bytes None e = none_decoded bytes (decode_set bytes) refl e
 by_set bytes (Some set) e =
     let f = found IsDecoded (λ s. begins (set_text s) bytes) (range_with_len 1 31) set each_decoded e in
-    ap decoded (begins_split (set_text set) bytes f.0) ∙ f.1 (drop (length (set_text set)) bytes)
+    ap decode_set (begins_split (set_text set) bytes f.0) ∙ f.1 (drop (length (set_text set)) bytes)
 
-pub decoded_is_front : (bytes : List ℕ) → decoded bytes ≡ front_of bytes
-unfolding front_of
+pub decoded_is_front : (bytes : List ℕ) → decode_set bytes ≡ set_and_rest bytes
+unfolding set_and_rest
 decoded_is_front bytes = by_set bytes (front_set bytes) refl

@@ -1,6 +1,7 @@
 -- What the loops over the stages keep: reading on from so many nodes to come is reading on after the
 -- whole stage.
-use Rattle.std.proofs.Common.{◌≡◌, ℕ, suc, ◌&&◌, not, true, false, codes, ◌+◌, ◌≤◌, ◌<◌, List, [], ◌∷◌, ◌++◌, length, map, Result, Ok, Err, ap, sym, ◌∙◌, arith}
+use Rattle.std.proofs.Common.{◌≡◌, ℕ, suc, ◌&&◌, not, true, false, codes, ◌+◌, ◌≤◌, ◌<◌, List, [], ◌∷◌, ◌++◌, length}
+use Rattle.std.proofs.Common.{map, Result, Ok, Err, ap, sym, ◌∙◌, arith}
 use Rattle.std.specs.List.{All}
 use Rattle.std.specs.Vec.{vec_len}
 use Rattle.std.proofs.lemmas.List.{length_push, map_push}
@@ -14,7 +15,8 @@ use Rattle.answer_reader.specs.declared.lines.Lines.{Lines}
 use Rattle.answer_reader.specs.Cuts.{begins}
 use Rattle.answer_reader.specs.Left.{lines_left, Takes, Continues}
 use Rattle.answer_reader.specs.Lines.{stage_of, automaton_of}
-use Rattle.answer_reader.specs.Stages.{behind_stages, with_nodes, next_node, is_empty, StagesRead, stages_read, stages_from}
+use Rattle.answer_reader.specs.Stages.{behind_stages, with_nodes, next_node, is_empty, StagesRead, stages_read}
+use Rattle.answer_reader.specs.Stages.{stages_from}
 use Rattle.answer_reader.specs.Steps.{At, line_then, Fails}
 use Rattle.answer_reader.specs.Values.{NodeValue, node_value, stage_values}
 use Rattle.answer_reader.specs.Within.{IsNodeWithin}

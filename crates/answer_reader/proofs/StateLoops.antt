@@ -1,5 +1,6 @@
 -- What the loops over states and arcs keep.
-use Rattle.std.proofs.Common.{◌≡◌, ℕ, suc, ◌<◌, Bool, true, false, nat_lt, codes, List, [], ◌∷◌, ◌++◌, map, Result, Ok, Err, refl, ap, sym, ◌∙◌, subst, arith}
+use Rattle.std.proofs.Common.{◌≡◌, ℕ, suc, ◌<◌, Bool, true, false, nat_lt, codes, List, [], ◌∷◌, ◌++◌, map, Result, Ok}
+use Rattle.std.proofs.Common.{Err, refl, ap, sym, ◌∙◌, subst, arith}
 use Rattle.std.specs.List.{All, AllByRecursion}
 use Rattle.std.specs.List.Sorted.{IsStrictlySortedBy}
 use Rattle.std.specs.Ordering.{nat_cmp}
@@ -17,7 +18,7 @@ use Rattle.answer_reader.specs.declared.lines.Lines.{Lines}
 use Rattle.answer_reader.specs.Cuts.{begins}
 use Rattle.answer_reader.specs.Left.{lines_left, Takes, Continues}
 use Rattle.answer_reader.specs.LineWords.{bare_state, with_arcs}
-use Rattle.answer_reader.specs.Lines.{end_of}
+use Rattle.answer_reader.specs.Lines.{end_line}
 use Rattle.answer_reader.specs.Orders.{follows, state_less}
 use Rattle.answer_reader.specs.States.{at_end, behind_states, in_state, with_arc, next_arc, next_state, states_from}
 use Rattle.answer_reader.specs.Steps.{At, line_then, Fails}
@@ -79,14 +80,14 @@ module _ (width nodes : ℕ) (states : List StateValue) (more : ℕ) (old mid : 
 
 -- the end
 module _ (width nodes : ℕ) (states : List StateValue) (old mid : Lines) where
-  pub end_read : (u : Unit {0}) → Takes end_of (λ (x : Unit {0}). tt) old mid (Ok u)
+  pub end_read : (u : Unit {0}) → Takes end_line (λ (x : Unit {0}). tt) old mid (Ok u)
       → states_from width nodes (behind_states 0 states) old.number (lines_left old)
       ≡ at_end states mid.number (lines_left mid)
   end_read u t = end_next width nodes states old.number (lines_left old)
-      ∙ takes_on end_of (λ (x : Unit {0}). tt) (λ done. at_end states) old mid u t
+      ∙ takes_on end_line (λ (x : Unit {0}). tt) (λ done. at_end states) old mid u t
 
   pub end_whole : (u : Unit {0}) (result : Result (Unit {0}) AnswerErr)
-      → Takes end_of (λ (x : Unit {0}). tt) old mid (Ok u)
+      → Takes end_line (λ (x : Unit {0}). tt) old mid (Ok u)
       → MatchResult result (λ done. lines_left mid ≡ [] ∷ [])
       (λ e. (states : List StateValue) → Fails e (at_end states mid.number (lines_left mid)))
       → Continues (states_from width nodes (behind_states 0 states)) (λ done n left. Ok states) old mid result

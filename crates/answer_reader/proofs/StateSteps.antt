@@ -1,12 +1,14 @@
 -- The lines of the states and their arcs, one by one.
-use Rattle.std.proofs.Common.{◌≡◌, ℕ, suc, ◌+◌, ◌<◌, true, false, cond, List, [], ◌∷◌, ◌++◌, length, codes, Result, Err, refl, ap, sym, ◌∙◌, arith}
+use Rattle.std.proofs.Common.{◌≡◌, ℕ, suc, ◌+◌, ◌<◌, true, false, cond, List, [], ◌∷◌, ◌++◌, length, codes, Result, Err}
+use Rattle.std.proofs.Common.{refl, ap, sym, ◌∙◌, arith}
 use Rattle.std.specs.List.{join_with_byte}
 use Rattle.std.proofs.lemmas.List.Splits.{join_with_byte-slice_split}
 use Rattle.answer_reader.specs.declared.answer_err.AnswerCause.TheVariants.{ExtraBytes}
 use Rattle.timeline_text.specs.Bytes.{lines_of}
 use Rattle.answer_reader.specs.Cuts.{begins}
-use Rattle.answer_reader.specs.Lines.{end_of}
-use Rattle.answer_reader.specs.States.{behind_states, in_state, with_arc, next_state, next_arc, at_end, state_or_end, states_from}
+use Rattle.answer_reader.specs.Lines.{end_line}
+use Rattle.answer_reader.specs.States.{behind_states, in_state, with_arc, next_state, next_arc, at_end, state_or_end}
+use Rattle.answer_reader.specs.States.{states_from}
 use Rattle.answer_reader.specs.Steps.{At, at, go_on, line_then}
 use Rattle.answer_reader.specs.Values.{StateValue}
 use Rattle.answer_reader.proofs.Cutting.{begins_line}
@@ -24,10 +26,10 @@ state_next width nodes more states n (line ∷ next ∷ lines) =
 
 -- the end behind the last state
 pub end_next : (width nodes : ℕ) (states : List StateValue) (n : ℕ) (lines : List (List ℕ))
-    → states_from width nodes (behind_states 0 states) n lines ≡ line_then end_of (λ done. at_end states) n lines
+    → states_from width nodes (behind_states 0 states) n lines ≡ line_then end_line (λ done. at_end states) n lines
 end_next width nodes states n [] = refl
 end_next width nodes states n (left ∷ []) = refl
-end_next width nodes states n (line ∷ next ∷ lines) = go_on_then (end_of line) n (next ∷ lines)
+end_next width nodes states n (line ∷ next ∷ lines) = go_on_then (end_line line) n (next ∷ lines)
     (λ done ls. at_end states (n + 1) ls)
 
 -- bytes behind the end

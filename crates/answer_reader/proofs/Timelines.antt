@@ -1,5 +1,7 @@
 -- The timeline of a text, found by tests, is the one whose text it is.
-use Rattle.std.proofs.Common.{◌≡◌, ◌≢◌, ℕ, zero, suc, ◌<◌, ◌≤◌, ◌&&◌, Bool, true, false, cond, nat_lt, List, [], ◌∷◌, length, codes, Option, Some, None, option_and_then, Result, Ok, Err, refl, ap, sym, ◌∙◌, subst, arith, ⊎_elim}
+use Rattle.std.proofs.Common.{◌≡◌, ◌≢◌, ℕ, zero, suc, ◌<◌, ◌≤◌, ◌&&◌, Bool, true, false, cond, nat_lt, List, [], ◌∷◌}
+use Rattle.std.proofs.Common.{length, codes, Option, Some, None, option_and_then, Result, Ok, Err, refl, ap, sym, ◌∙◌}
+use Rattle.std.proofs.Common.{subst, arith, ⊎_elim}
 use Rattle.std.specs.Option.{ok_or, MatchOption}
 use Rattle.std.specs.Result.{MatchResult, IfOk}
 use Rattle.std.specs.Str.{bytes_eq}
@@ -8,16 +10,17 @@ use Rattle.std.proofs.lemmas.Bool.Decides.{nat_tests}
 use Rattle.std.proofs.lemmas.Slice.Eq.{bytes_eq-Decides}
 use Rattle.tier_core.specs.declared.sym.Sym.{Sym}
 use Rattle.tier_core.specs.Scan.{fits, opens}
-use Rattle.tier_core.specs.Timelines.{word}
+use Rattle.tier_core.specs.Timelines.{tier_word}
 use Rattle.tier_core.specs.Words.{IsWellFormedWord}
 use Rattle.tier_core.proofs.WordLemmas.{runs}
 use Rattle.tier_core.proofs.WordForm.{runs_from_well_formed, well_formed_from_runs}
 use Rattle.timeline_text.specs.declared.form_err.FormErr.{FormErr}
 use Rattle.timeline_text.specs.declared.form_err.FormErr.TheVariants.{NoMemory}
-use Rattle.timeline_text.specs.Causes.{bad_symbol, wrong_width, no_edge, pieces_of, columns_of, IsCause}
+use Rattle.timeline_text.specs.Causes.{bad_symbol, wrong_width, no_edge, spaced_pieces, columns_of, IsCause}
 use Rattle.timeline_text.specs.Texts.{text_of, IsTextOf}
 use Rattle.timeline_text.proofs.Cuts.{columns_back, no_word}
-use Rattle.timeline_text.proofs.Deciding.{not_the_word, the_word, bad_symbol_is, wrong_width_is, too_long_is, not_reduced_is, no_cause, empty_text, not_both}
+use Rattle.timeline_text.proofs.Deciding.{not_the_word, the_word, bad_symbol_is, wrong_width_is, too_long_is}
+use Rattle.timeline_text.proofs.Deciding.{not_reduced_is, no_cause, empty_text, not_both}
 use Rattle.timeline_text.proofs.Searches.{by_test, by_option}
 use Rattle.answer_reader.specs.declared.answer_err.AnswerCause.{AnswerCause}
 use Rattle.answer_reader.specs.declared.answer_err.AnswerCause.TheVariants.{BadLine}
@@ -29,21 +32,23 @@ drawn_runs : (b : Bool) (w : List Sym) → is_drawn b w ≡ runs b w
 drawn_runs b [] = refl
 drawn_runs b (s ∷ w) = ap (λ t. fits b s && t) (drawn_runs (opens s) w)
 
-well_formed_below : (n : ℕ) (T : List (List Sym)) → are_drawn n T ≡ true → (t : ℕ) → t < n → IsWellFormedWord (word T t)
+well_formed_below : (n : ℕ) (T : List (List Sym)) → are_drawn n T ≡ true → (t : ℕ) → t < n
+    → IsWellFormedWord (tier_word T t)
 well_formed_below zero T h t l = absurd (omega arith)
 well_formed_below (suc n) T h t l =
-    let p = and_parts (is_drawn false (word T n)) (are_drawn n T) h in
+    let p = and_parts (is_drawn false (tier_word T n)) (are_drawn n T) h in
     ⊎_elim
     (λ before. well_formed_below n T p.1 t before)
-    (λ here. subst (λ (k : ℕ). IsWellFormedWord (word T k)) (let same : n ≡ t = omega arith in same)
-    (well_formed_from_runs (word T n) (sym (drawn_runs false (word T n)) ∙ p.0)))
+    (λ here. subst (λ (k : ℕ). IsWellFormedWord (tier_word T k)) (let same : n ≡ t = omega arith in same)
+    (well_formed_from_runs (tier_word T n) (sym (drawn_runs false (tier_word T n)) ∙ p.0)))
     (cases_lt t n)
 
-drawn_below : (n : ℕ) (T : List (List Sym)) → ((t : ℕ) → t < n → IsWellFormedWord (word T t)) → are_drawn n T ≡ true
+drawn_below : (n : ℕ) (T : List (List Sym)) → ((t : ℕ) → t < n → IsWellFormedWord (tier_word T t)) → are_drawn n T
+    ≡ true
 drawn_below zero T h = refl
 drawn_below (suc n) T h =
-    and_from (is_drawn false (word T n)) (are_drawn n T)
-    (drawn_runs false (word T n) ∙ runs_from_well_formed (word T n) (h n (omega arith)))
+    and_from (is_drawn false (tier_word T n)) (are_drawn n T)
+    (drawn_runs false (tier_word T n) ∙ runs_from_well_formed (tier_word T n) (h n (omega arith)))
     (drawn_below n T (λ t l. h t (omega arith)))
 
 unless_some : {X : Type 0} (o : Option ℕ) (r : Option X) (x : X) → unless o r ≡ Some x → (o ≡ None) × (r ≡ Some x)
@@ -69,7 +74,7 @@ module _ (width limit : ℕ) (bytes : List ℕ) where
   well_formed = cond (are_drawn width columns) with_edges None
 
   abbrev within : Option (List (List Sym))
-  within = cond (nat_lt limit (length (pieces_of bytes))) None well_formed
+  within = cond (nat_lt limit (length (spaced_pieces bytes))) None well_formed
 
   abbrev wide : Option (List (List Sym))
   wide = unless (wrong_width width bytes) within
@@ -82,11 +87,11 @@ module _ (width limit : ℕ) (bytes : List ℕ) where
   found_is T h =
       let a = unless_some (bad_symbol bytes) wide T h in
       let b = unless_some (wrong_width width bytes) within T a.1 in
-      let c = if_not (nat_lt limit (length (pieces_of bytes))) well_formed T b.1 in
+      let c = if_not (nat_lt limit (length (spaced_pieces bytes))) well_formed T b.1 in
       let d = if_so (are_drawn width columns) with_edges T c.1 in
       let e = unless_some (no_edge columns) (Some columns) T d.1 in
       let same : columns_of bytes ≡ T = cc in
-      let few : length (pieces_of bytes) ≤ limit = grind (arith, nat_tests) in
+      let few : length (spaced_pieces bytes) ≤ limit = grind (arith, nat_tests) in
       subst (IsTextOf width limit bytes) same
       (no_cause width limit bytes a.0 b.0 few (well_formed_below width (columns_of bytes) d.0) e.0)
 
@@ -110,14 +115,15 @@ module _ (width limit : ℕ) (bytes : List ℕ) where
       ≡ None = by_option (wrong_width width bytes)
       (λ k h. absurd (not_both width limit bytes (column ∷ T) _ t (wrong_width_is width limit bytes other k a h)))
       (λ e. e) in
-      let c : nat_lt limit (length (pieces_of bytes)) ≡ false = by_test (nat_lt limit (length (pieces_of bytes)))
+      let c : nat_lt limit (length (spaced_pieces bytes))
+      ≡ false = by_test (nat_lt limit (length (spaced_pieces bytes)))
       (λ h. absurd (not_both width limit bytes (column ∷ T) _ t
       (too_long_is width limit bytes other a b (grind (arith, nat_tests))))) (λ e. e) in
-      let few : length (pieces_of bytes) ≤ limit = grind (arith, nat_tests) in
+      let few : length (spaced_pieces bytes) ≤ limit = grind (arith, nat_tests) in
       let same : columns_of bytes ≡ column ∷ T = ap columns_of t.text ∙ columns_back column T in
       let words : (k : ℕ) → k < width
-      → IsWellFormedWord (word (columns_of bytes) k) = λ k l. subst
-      (λ (U : List (List Sym)). IsWellFormedWord (word U k)) (sym same) (t.form.each_tier k l) in
+      → IsWellFormedWord (tier_word (columns_of bytes) k) = λ k l. subst
+      (λ (U : List (List Sym)). IsWellFormedWord (tier_word U k)) (sym same) (t.form.each_tier k l) in
       let e : no_edge (columns_of bytes)
       ≡ None = by_option (no_edge (columns_of bytes))
       (λ k h. absurd (not_both width limit bytes (column ∷ T) _ t

@@ -1,5 +1,6 @@
 -- No line that is written has an end of a line in it.
-use Rattle.std.proofs.Common.{◌≡◌, ℕ, ◌^◌, ◌<◌, ◌==◌, ◌||◌, Bool, true, false, cond, List, [], ◌∷◌, ◌++◌, length, map, filter, codes, refl, ap, ◌∙◌}
+use Rattle.std.proofs.Common.{◌≡◌, ℕ, ◌^◌, ◌<◌, ◌==◌, ◌||◌, Bool, true, false, cond, List, [], ◌∷◌, ◌++◌, length, map}
+use Rattle.std.proofs.Common.{filter, codes, refl, ap, ◌∙◌}
 use Rattle.std.specs.Fmt.{decimal}
 use Rattle.std.specs.List.{list_any}
 use Rattle.std.proofs.lemmas.List.Folds.{list_any-append}
@@ -9,7 +10,8 @@ use Rattle.tier_core.specs.Kinds.{Phase, closed, unmet, met, PrefixKind}
 use Rattle.tier_core.specs.Sets.{is_in}
 use Rattle.tier_core.specs.Symbols.{byte_of, symbols}
 use Rattle.timeline_text.specs.Texts.{text_of}
-use Rattle.answer_text.specs.Text.{after_space, spaced, set_text, class_text, open_byte, phase_byte, kind_text, final_mark, counts_line}
+use Rattle.answer_text.specs.Text.{after_space, spaced_numbers, set_text, class_text, open_byte, phase_byte, kind_text}
+use Rattle.answer_text.specs.Text.{final_mark, counts_line}
 use Rattle.timeline_text.specs.Bytes.{is_newline}
 use Rattle.answer_reader.proofs.Decimals.{decimal_without}
 use Rattle.answer_reader.proofs.WrittenLines.{AreCounts, large}
@@ -38,9 +40,10 @@ timeline_free (column ∷ []) = column_free column
 timeline_free (column ∷ next ∷ T) = both_free (map byte_of column) (32 ∷ text_of (next ∷ T)) (column_free column)
     (timeline_free (next ∷ T))
 
-spaced_free : (ns : List ℕ) → AreCounts ns → IsFree (spaced ns)
+spaced_free : (ns : List ℕ) → AreCounts ns → IsFree (spaced_numbers ns)
 spaced_free [] are = refl
-spaced_free (n ∷ ns) are = both_free (decimal n) (spaced ns) (decimal_free n (large n are.0)) (spaced_free ns are.1)
+spaced_free (n ∷ ns) are = both_free (decimal n) (spaced_numbers ns) (decimal_free n (large n are.0))
+    (spaced_free ns are.1)
 
 pub counts_free : (ns : List ℕ) → AreCounts ns → IsFree (counts_line ns)
 counts_free ns are = spaced_free ns are

@@ -1,5 +1,7 @@
 -- Each line that is written says what was written.
-use Rattle.std.proofs.Common.{◌≡◌, ℕ, zero, suc, ◌+◌, ◌^◌, ◌<◌, ◌≤◌, ◌==◌, ◌&&◌, Bool, true, false, cond, nat_lt, List, [], ◌∷◌, ◌++◌, length, map, codes, Option, Some, None, option_map, option_and_then, Result, Ok, Err, refl, ap, sym, ◌∙◌, subst, arith, append_assoc, append-nil, ⊎_elim}
+use Rattle.std.proofs.Common.{◌≡◌, ℕ, zero, suc, ◌+◌, ◌^◌, ◌<◌, ◌≤◌, ◌==◌, ◌&&◌, Bool, true, false, cond, nat_lt, List}
+use Rattle.std.proofs.Common.{[], ◌∷◌, ◌++◌, length, map, codes, Option, Some, None, option_map, option_and_then}
+use Rattle.std.proofs.Common.{Result, Ok, Err, refl, ap, sym, ◌∙◌, subst, arith, append_assoc, append-nil, ⊎_elim}
 use Rattle.std.specs.Fmt.{decimal}
 use Rattle.std.specs.List.{list_all, list_any, slice_split, range_with_len, AllByRecursion, onto_first, position_or_len}
 use Rattle.std.specs.Option.{ok_or}
@@ -7,14 +9,18 @@ use Rattle.std.proofs.lemmas.Bool.{and_from, or_parts, cases_lt}
 use Rattle.std.proofs.lemmas.Bool.Decides.{nat_tests}
 use Rattle.std.proofs.lemmas.List.{length-map}
 use Rattle.tier_core.specs.Kinds.{Phase, closed, unmet, met, PrefixKind}
-use Rattle.answer_text.specs.Text.{after_space, spaced, set_text, class_text, open_byte, phase_byte, kind_text, final_mark, counts_line}
+use Rattle.answer_text.specs.Text.{after_space, spaced_numbers, set_text, class_text, open_byte, phase_byte, kind_text}
+use Rattle.answer_text.specs.Text.{final_mark, counts_line}
 use Rattle.answer_reader.specs.declared.answer_err.AnswerCause.{AnswerCause}
 use Rattle.answer_reader.specs.declared.answer_err.AnswerCause.TheVariants.{BadLine, BadNumber, BadClass}
-use Rattle.answer_reader.specs.Classes.{front_of, class_of}
+use Rattle.answer_reader.specs.Classes.{set_and_rest, class_of}
 use Rattle.timeline_text.specs.Bytes.{is_space}
 use Rattle.answer_reader.specs.Cuts.{parts_at, cut}
-use Rattle.answer_reader.specs.Lines.{counts_words, counts_said, counts_of, number_said, stage_words, stage_said, stage_of, is_number, automaton_of, final_words, state_words, state_with, state_said, state_of, arc_words, arc_with, arc_to, arc_said, arc_of}
-use Rattle.answer_reader.specs.Nodes.{is_open_byte, is_phase_byte, phase_of, are_each, NodeWords, with_potential, node_words, are_node_words, node_by, node_with, node_said, node_of}
+use Rattle.answer_reader.specs.Lines.{counts_words, counts_said, counts_of, number_said, stage_words, stage_said}
+use Rattle.answer_reader.specs.Lines.{stage_of, is_number, automaton_of, final_words, state_words, state_with}
+use Rattle.answer_reader.specs.Lines.{state_said, state_of, arc_words, arc_with, arc_if_target, arc_said, arc_of}
+use Rattle.answer_reader.specs.Nodes.{is_open_byte, is_phase_byte, phase_of_byte, are_each, NodeWords, with_potential}
+use Rattle.answer_reader.specs.Nodes.{node_words, are_node_words, node_by, node_with, node_said, node_of}
 use Rattle.answer_reader.specs.Numbers.{is_run, number_below, numbers_below}
 use Rattle.answer_reader.specs.Values.{NodeValue, ArcValue}
 use Rattle.answer_reader.proofs.Decimals.{run_decimal, number_decimal, decimal_without}
@@ -38,7 +44,7 @@ opens_without [] = refl
 opens_without (true ∷ opened) = opens_without opened
 opens_without (false ∷ opened) = opens_without opened
 
-phases_told : (phases : List Phase) → map phase_of (map phase_byte phases) ≡ phases
+phases_told : (phases : List Phase) → map phase_of_byte (map phase_byte phases) ≡ phases
 phases_told [] = refl
 phases_told (closed ∷ phases) = ap (λ xs. closed ∷ xs) (phases_told phases)
 phases_told (unmet ∷ phases) = ap (λ xs. unmet ∷ xs) (phases_told phases)
@@ -115,7 +121,7 @@ module _ (k : PrefixKind) (potential : ℕ) (small : k.place < 2 ^ 64) (less : p
   node_is : node_by words k.place potential ≡ record { kind = k; potential = potential }
   node_is =
       ap (λ xs. let r : NodeValue = record {
-        kind = record { place = k.place; opened = xs; phases = map phase_of (map phase_byte k.phases) };
+        kind = record { place = k.place; opened = xs; phases = map phase_of_byte (map phase_byte k.phases) };
         potential = potential;
       } in r) (opens_told k.opened)
       ∙ ap (λ xs. let r : NodeValue = record
@@ -149,7 +155,7 @@ in_range P a (suc n) all s l u = ⊎_elim
     (λ here. subst P (let same : a ≡ s = omega arith in same) all.0)
     (cases_lt a s)
 
-front_back : (set : ℕ) (rest : List ℕ) → 1 ≤ set → set < 32 → front_of (set_text set ++ rest) ≡ Some (set, rest)
+front_back : (set : ℕ) (rest : List ℕ) → 1 ≤ set → set < 32 → set_and_rest (set_text set ++ rest) ≡ Some (set, rest)
 front_back set rest l u = sym (decoded_is_front (set_text set ++ rest))
     ∙ in_range IsDecoded 1 31 each_decoded set l (omega arith) rest
 
@@ -180,9 +186,9 @@ module _ (target nodes : ℕ) (sets : List ℕ) (there : target < nodes) (small 
         ≡ Ok (record { target = target; sets = sets })
     arc_back width w =
         ap (arc_said width nodes) arc_words_back
-        ∙ ap (λ t. cond t (arc_to width (number_below nodes (decimal target)) (class_text sets)) (Err BadLine))
+        ∙ ap (λ t. cond t (arc_if_target width (number_below nodes (decimal target)) (class_text sets)) (Err BadLine))
         (run_decimal target small)
-        ∙ ap (λ o. arc_to width o (class_text sets)) (number_decimal nodes target there small)
+        ∙ ap (λ o. arc_if_target width o (class_text sets)) (number_decimal nodes target there small)
         ∙ ap (λ k. arc_with k target (class_text sets)) (sym w)
         ∙ ap (λ o. ok_or (option_map (λ xs. let r : ArcValue = record { target = target; sets = xs } in r) o) BadClass)
         (class_back sets full)
@@ -277,12 +283,12 @@ AreCounts ns = AllByRecursion (λ n. n ≤ 1000000000) ns
 pub large : (n : ℕ) → n ≤ 1000000000 → n < 2 ^ 64
 large n l = omega arith
 
-words_of : (n : ℕ) (ns : List ℕ) → n ≤ 1000000000 → AreCounts ns → slice_split is_space (decimal n ++ spaced ns)
+words_of : (n : ℕ) (ns : List ℕ) → n ≤ 1000000000 → AreCounts ns → slice_split is_space (decimal n ++ spaced_numbers ns)
     ≡ decimal n ∷ map decimal ns
 words_of n [] l are = ap (slice_split is_space) (append-nil (decimal n))
     ∙ whole_word is_space (decimal n) (decimal_without 32 n refl (large n l))
 words_of n (m ∷ ns) l are =
-    split_word is_space (decimal n) 32 (decimal m ++ spaced ns) refl (decimal_without 32 n refl (large n l))
+    split_word is_space (decimal n) 32 (decimal m ++ spaced_numbers ns) refl (decimal_without 32 n refl (large n l))
     ∙ ap (λ ws. decimal n ∷ ws) (words_of m ns are.0 are.1)
 
 all_runs : (ns : List ℕ) → AreCounts ns → list_all is_run (map decimal ns) ≡ true
@@ -300,7 +306,7 @@ all_numbers (n ∷ ns) are =
 counts_words_back : (ns : List ℕ) → AreCounts ns → counts_words (counts_line ns) ≡ Some (map decimal ns)
 counts_words_back [] are = refl
 counts_words_back (n ∷ ns) are = ap (option_map (slice_split is_space))
-    (behind_front (codes "counts ") (decimal n ++ spaced ns))
+    (behind_front (codes "counts ") (decimal n ++ spaced_numbers ns))
     ∙ ap (λ (ws : List (List ℕ)). let r : Option (List (List ℕ)) = Some ws in r) (words_of n ns are.0 are.1)
 
 -- the line of the counts

@@ -12,12 +12,12 @@ abbrev pub behind_set : List ℕ → ℕ → ℕ × List ℕ
 behind_set bytes set = (set, drop (length (set_text set)) bytes)
 
 -- that set, and what follows it
-unfoldable pub front_of : List ℕ → Option (ℕ × List ℕ)
-front_of bytes = option_map (behind_set bytes) (front_set bytes)
+unfoldable pub set_and_rest : List ℕ → Option (ℕ × List ℕ)
+set_and_rest bytes = option_map (behind_set bytes) (front_set bytes)
 
 -- one set for each tier, and nothing after them
 abbrev pub class_of : ℕ → List ℕ → Option (List ℕ)
 class_of zero [] = Some []
 class_of zero (b ∷ bytes) = None
 class_of (suc width) bytes = option_and_then (λ front. option_map (λ sets. front.0 ∷ sets) (class_of width front.1))
-    (front_of bytes)
+    (set_and_rest bytes)

@@ -27,9 +27,10 @@ abbrev pub closed_by : ℕ × List ℕ → Option (ℕ × List ℕ)
 closed_by (set, []) = None
 closed_by (set, b ∷ bytes) = if has_two set && (b == 125) then Some (set, bytes) else None
 
-abbrev pub alone : List ℕ → Sym → ℕ × List ℕ
-alone bytes s = (single_set s, bytes)
+abbrev pub single_and_rest : List ℕ → Sym → ℕ × List ℕ
+single_and_rest bytes s = (single_set s, bytes)
 
-abbrev pub decoded : List ℕ → Option (ℕ × List ℕ)
-decoded [] = None
-decoded (b ∷ bytes) = if b == 123 then closed_by (symbols_from bytes) else option_map (alone bytes) (sym_of b)
+abbrev pub decode_set : List ℕ → Option (ℕ × List ℕ)
+decode_set [] = None
+decode_set (b ∷ bytes) = if b == 123 then closed_by (symbols_from bytes) else option_map (single_and_rest bytes)
+    (sym_of b)

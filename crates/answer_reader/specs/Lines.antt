@@ -91,18 +91,18 @@ abbrev pub arc_with : ℕ → ℕ → List ℕ → Result ArcValue AnswerCause
 arc_with width target text = ok_or
     (option_map (λ sets. record { target = target; sets = sets }) (class_of width text)) BadClass
 
-abbrev pub arc_to : ℕ → Option ℕ → List ℕ → Result ArcValue AnswerCause
-arc_to width None text = Err BadNumber
-arc_to width (Some target) text = arc_with width target text
+abbrev pub arc_if_target : ℕ → Option ℕ → List ℕ → Result ArcValue AnswerCause
+arc_if_target width None text = Err BadNumber
+arc_if_target width (Some target) text = arc_with width target text
 
 abbrev pub arc_said : ℕ → ℕ → Option (List ℕ × List ℕ) → Result ArcValue AnswerCause
 arc_said width nodes None = Err BadLine
-arc_said width nodes (Some w) = if is_run w.0 then arc_to width (number_below nodes w.0) w.1 else Err BadLine
+arc_said width nodes (Some w) = if is_run w.0 then arc_if_target width (number_below nodes w.0) w.1 else Err BadLine
 
 -- to a node of the last stage, with a class of the grammar's width
 abbrev pub arc_of : ℕ → ℕ → List ℕ → Result ArcValue AnswerCause
 arc_of width nodes line = arc_said width nodes (arc_words line)
 
 -- `end`
-abbrev pub end_of : List ℕ → Result (Unit {0}) AnswerCause
-end_of line = if bytes_eq line (codes "end") then Ok tt else Err BadLine
+abbrev pub end_line : List ℕ → Result (Unit {0}) AnswerCause
+end_line line = if bytes_eq line (codes "end") then Ok tt else Err BadLine

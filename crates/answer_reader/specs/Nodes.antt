@@ -18,8 +18,8 @@ abbrev pub is_phase_byte : ℕ → Bool
 is_phase_byte b = (b == 46) || (b == 117) || (b == 109)
 
 -- `u` for unmet, `m` for met, `.` for closed
-abbrev pub phase_of : ℕ → Phase
-phase_of b = if b == 109 then met else if b == 117 then unmet else closed
+abbrev pub phase_of_byte : ℕ → Phase
+phase_of_byte b = if b == 109 then met else if b == 117 then unmet else closed
 
 -- this many bytes, each of which passes
 abbrev pub are_each : (ℕ → Bool) → ℕ → List ℕ → Bool
@@ -48,7 +48,7 @@ are_node_words free stretches w = is_run w.place && are_each is_open_byte free w
 
 abbrev pub node_by : NodeWords → ℕ → ℕ → NodeValue
 node_by w place potential = record {
-  kind = record { place = place; opened = map (λ b. b == 43) w.opened; phases = map phase_of w.phases };
+  kind = record { place = place; opened = map (λ b. b == 43) w.opened; phases = map phase_of_byte w.phases };
   potential = potential;
 }
 

@@ -2,7 +2,7 @@
 use Rattle.std.specs.Prelude.{◌≡◌, ◌⊎◌, ℕ, ◌-◌, List, [], length, codes, Result, Ok, Err}
 use Rattle.tier_core.specs.declared.sym.Sym.{Sym}
 use Rattle.tier_core.specs.declared.shape.Shape.{Shape}
-use Rattle.tier_core.specs.Shapes.{input_count}
+use Rattle.tier_core.specs.Shapes.{masked_count}
 use Rattle.answer_reader.specs.declared.answer_err.AnswerCause.{AnswerCause}
 use Rattle.timeline_text.specs.Bytes.{lines_of}
 use Rattle.answer_reader.specs.Lines.{header_of, counts_of}
@@ -14,7 +14,7 @@ use Rattle.answer_reader.specs.Values.{AnswerValue, StateValue}
 
 -- the form, over the input tiers and with at most 64 columns
 abbrev pub form_of : Shape → List ℕ → Result (List (List Sym)) AnswerCause
-form_of shape line = timeline_said (codes "form ") (input_count shape.inputs) 64 line
+form_of shape line = timeline_said (codes "form ") (masked_count shape.inputs) 64 line
 
 -- the example, over all tiers and with at most 65,536 columns
 abbrev pub example_of : Shape → List ℕ → Result (List (List Sym)) AnswerCause

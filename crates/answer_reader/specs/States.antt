@@ -3,7 +3,7 @@ use Rattle.std.specs.Prelude.{ℕ, zero, suc, ◌+◌, if◌then◌else◌, List
 use Rattle.answer_reader.specs.declared.answer_err.AnswerCause.{AnswerCause}
 use Rattle.answer_reader.specs.declared.answer_err.AnswerCause.TheVariants.{CutShort, ExtraBytes}
 use Rattle.answer_reader.specs.Cuts.{begins}
-use Rattle.answer_reader.specs.Lines.{state_of, arc_of, end_of}
+use Rattle.answer_reader.specs.Lines.{state_of, arc_of, end_line}
 use Rattle.answer_reader.specs.Orders.{in_order, state_less, arc_less}
 use Rattle.answer_reader.specs.Steps.{At, at, go_on}
 use Rattle.answer_reader.specs.Values.{ArcValue, StateValue}
@@ -31,7 +31,7 @@ at_end states n _ = Err (at n ExtraBytes)
 -- after the arcs of a state comes the next state, or the end after the last
 abbrev pub state_or_end : ℕ → ℕ → List StateValue → ℕ → List ℕ → List (List ℕ)
     → (StatePlace → Result (List StateValue) At) → Result (List StateValue) At
-state_or_end nodes zero states n line lines go = go_on (end_of line) n (λ done. at_end states (n + 1) lines)
+state_or_end nodes zero states n line lines go = go_on (end_line line) n (λ done. at_end states (n + 1) lines)
 state_or_end nodes (suc more) states n line lines go = go_on (next_state nodes states line) n
     (λ state. go (in_state more states state))
 

@@ -4,10 +4,10 @@ use Rattle.std.specs.Option.{ok_or}
 use Rattle.std.specs.Str.{bytes_eq}
 use Rattle.tier_core.specs.declared.sym.Sym.{Sym}
 use Rattle.tier_core.specs.Scan.{fits, opens}
-use Rattle.tier_core.specs.Timelines.{word}
+use Rattle.tier_core.specs.Timelines.{tier_word}
 use Rattle.timeline_text.specs.declared.form_err.FormErr.{FormErr}
 use Rattle.timeline_text.specs.declared.form_err.FormErr.TheVariants.{BadSymbol, WrongWidth, TooLong, NotWellFormed, NotReduced, UnknownLetter, NoMemory}
-use Rattle.timeline_text.specs.Causes.{bad_symbol, wrong_width, no_edge, pieces_of, columns_of}
+use Rattle.timeline_text.specs.Causes.{bad_symbol, wrong_width, no_edge, spaced_pieces, columns_of}
 use Rattle.answer_reader.specs.declared.answer_err.AnswerCause.{AnswerCause}
 use Rattle.answer_reader.specs.declared.answer_err.AnswerCause.TheVariants.{BadLine}
 use Rattle.answer_reader.specs.Cuts.{behind}
@@ -20,7 +20,7 @@ is_drawn is_open (s ∷ w) = fits is_open s && is_drawn (opens s) w
 -- each tier below this number is well formed
 abbrev pub are_drawn : ℕ → List (List Sym) → Bool
 are_drawn zero T = true
-are_drawn (suc tier) T = is_drawn false (word T tier) && are_drawn tier T
+are_drawn (suc tier) T = is_drawn false (tier_word T tier) && are_drawn tier T
 
 -- nothing of the kind that was looked for was found
 abbrev pub unless : {X : Type 0} → Option ℕ → Option X → Option X
@@ -31,7 +31,7 @@ unless (Some place) read = None
 abbrev pub timeline_of : ℕ → ℕ → List ℕ → Option (List (List Sym))
 timeline_of width limit bytes = if bytes_eq bytes (codes "empty") then Some [] else
     unless (bad_symbol bytes) (unless (wrong_width width bytes)
-    (if nat_lt limit (length (pieces_of bytes)) then None else
+    (if nat_lt limit (length (spaced_pieces bytes)) then None else
     if are_drawn width (columns_of bytes) then unless (no_edge (columns_of bytes)) (Some (columns_of bytes)) else None))
 
 -- whether memory ran out

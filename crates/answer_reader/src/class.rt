@@ -1,9 +1,9 @@
 ghost use Rattle.std.specs.Prelude.{◌≡◌, ◌<◌, ◌≤◌, ◌*◌, ◌^◌, length, option_map, IfSome};
 ghost use Rattle.tier_core.specs.Classes.{sets_of};
-ghost use Rattle.answer_reader.specs.Classes.{class_of, front_of};
-ghost use Rattle.answer_reader.specs.Decoding.{closed_by, decoded, front_seen, has_two, symbols_from, with_symbol};
+ghost use Rattle.answer_reader.specs.Classes.{class_of, set_and_rest};
+ghost use Rattle.answer_reader.specs.Decoding.{closed_by, decode_set, front_seen, has_two, symbols_from, with_symbol};
 
-use tier_core::{Class, Sym, alone};
+use tier_core::{Class, Sym, single_set};
 
 /// Adds the symbol at the front to the set.
 fn with_symbol(set: u8, bytes: &[u8], bit: u8, byte: u8) -> (u8, &[u8])
@@ -37,7 +37,7 @@ fn has_two(set: u8) -> bool
 }
 
 /// A set in braces, after the opening one.
-fn braced(bytes: &[u8]) -> Option<(u8, &[u8])>
+fn set_in_braces(bytes: &[u8]) -> Option<(u8, &[u8])>
     ensures front { option_map front_seen result ≡ closed_by (symbols_from bytes.entry.now) }
     ensures set { IfSome result (λ front. front.0 < 32) }
 {
@@ -49,16 +49,16 @@ fn braced(bytes: &[u8]) -> Option<(u8, &[u8])>
 }
 
 /// The set at the front of the bytes, and what follows it.
-fn front_of(bytes: &[u8]) -> Option<(u8, &[u8])>
-    ensures front { option_map front_seen result ≡ decoded bytes.entry.now }
+fn set_and_rest(bytes: &[u8]) -> Option<(u8, &[u8])>
+    ensures front { option_map front_seen result ≡ decode_set bytes.entry.now }
     ensures set { IfSome result (λ front. front.0 < 32) }
 {
     let (first, rest) = bytes.split_first()?;
     if *first == b'{' {
-        return braced(rest);
+        return set_in_braces(rest);
     }
     let sym = Sym::of_byte(*first)?;
-    Some((alone(sym), rest))
+    Some((single_set(sym), rest))
 }
 
 /// The class of a text with one set for each of `width` tiers, and nothing after them. None if the
@@ -72,7 +72,7 @@ pub fn class_of(width: u32, text: &[u8]) -> Option<Class>
     let mut sets = [0; 12];
     let mut rest = text;
     for tier in 0..width as usize {
-        let Some((set, behind)) = front_of(rest) else {
+        let Some((set, behind)) = set_and_rest(rest) else {
             return None;
         };
         sets[tier] = set;

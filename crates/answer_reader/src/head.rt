@@ -1,5 +1,5 @@
 ghost use Rattle.std.specs.Prelude.{◌≡◌, ◌≤◌, Ok, Err, MatchResult, IfOk};
-ghost use Rattle.tier_core.specs.Shapes.{input_count};
+ghost use Rattle.tier_core.specs.Shapes.{masked_count};
 ghost use Rattle.answer_reader.specs.Heads.{head_seen, IsHeadWithin};
 ghost use Rattle.answer_reader.specs.Left.{Continues, Takes};
 ghost use Rattle.answer_reader.specs.Lines.{header_of};
@@ -43,7 +43,7 @@ pub(crate) struct Head {
 
 /// The number of input tiers.
 fn input_count(shape: &Shape) -> u32
-    ensures { result ≡ input_count shape.now.inputs }
+    ensures { result ≡ masked_count shape.now.inputs }
 {
     shape.inputs.count_ones()
 }

@@ -1,5 +1,5 @@
 ghost use Rattle.std.specs.Prelude.{◌≡◌, ◌<◌, ◌≤◌, ◌^◌, length, if◌then◌else◌};
-ghost use Rattle.answer_reader.specs.Masks.{mask_of};
+ghost use Rattle.answer_reader.specs.Masks.{mark_mask};
 
 fn bit_of(is_set: bool, bit: u32) -> u32
     ensures { result ≡ (if is_set then bit else 0) }
@@ -11,7 +11,7 @@ fn bit_of(is_set: bool, bit: u32) -> u32
 /// lowest bit.
 pub fn mask_of(mark: u8, bytes: &[u8]) -> u32
     requires { length bytes.now ≤ 24 }
-    ensures mask { result ≡ mask_of mark bytes.now }
+    ensures mask { result ≡ mark_mask mark bytes.now }
     ensures within { result < 2 ^ length bytes.now }
 {
     let mut mask: u32 = 0;

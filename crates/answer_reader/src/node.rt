@@ -2,7 +2,7 @@ ghost use Rattle.std.specs.Prelude.{◌≡◌, ◌==◌, ◌<◌, ◌≤◌, ◌
 ghost use Rattle.std.specs.List.{list_all};
 ghost use Rattle.tier_core.specs.Kinds.{AreStretchesBelow, open_tiers, phases};
 ghost use Rattle.tier_core.specs.KindShapes.{free_count, stretch_count};
-ghost use Rattle.answer_reader.specs.Nodes.{are_each, are_node_words, is_open_byte, is_phase_byte, node_of, node_with, node_words, phase_of};
+ghost use Rattle.answer_reader.specs.Nodes.{are_each, are_node_words, is_open_byte, is_phase_byte, node_of, node_with, node_words, phase_of_byte};
 ghost use Rattle.answer_reader.specs.Numbers.{is_run};
 ghost use Rattle.answer_reader.specs.Seen.{node_seen, words_seen};
 ghost use Rattle.answer_reader.specs.Values.{node_value};
@@ -82,7 +82,7 @@ fn kind_of(place: u32, open_text: &[u8], phase_text: &[u8]) -> Kind
     ensures place { result.place ≡ place }
     ensures opened { open_tiers (length open_text.now) result.opened
         ≡ map (λ b. b == 43) open_text.now }
-    ensures phases { phases (length phase_text.now) result ≡ map phase_of phase_text.now }
+    ensures phases { phases (length phase_text.now) result ≡ map phase_of_byte phase_text.now }
     ensures free { result.opened < 2 ^ length open_text.now }
     ensures stretches { AreStretchesBelow (length phase_text.now) result }
 {

@@ -1,7 +1,7 @@
 ghost use Rattle.std.specs.Prelude.{◌≡◌, ◌≤◌, ◌<◌, ◌++◌, ◌∷◌, [], ℕ, Bool, List, true, Ok, Err, MatchResult, suc, length, map, IfOk, OnOk, All};
 ghost use Rattle.answer_text.specs.Readable.{AreReadableStates, IsReadableArc, IsReadableState};
 ghost use Rattle.answer_reader.specs.Left.{Continues, Takes, lines_left};
-ghost use Rattle.answer_reader.specs.Lines.{end_of};
+ghost use Rattle.answer_reader.specs.Lines.{end_line};
 ghost use Rattle.answer_reader.specs.Orders.{follows, state_less};
 ghost use Rattle.answer_reader.specs.Steps.{Fails};
 ghost use Rattle.answer_reader.specs.LineWords.{bare_state, with_arcs};
@@ -68,8 +68,8 @@ fn read_state(
 }
 
 fn end_of(line: &[u8]) -> Result<(), AnswerCause>
-    ensures { MatchResult result (λ _. end_of line.now ≡ Ok tt)
-        (λ cause. end_of line.now ≡ Err cause) }
+    ensures { MatchResult result (λ _. end_line line.now ≡ Ok tt)
+        (λ cause. end_line line.now ≡ Err cause) }
 {
     if line == b"end".as_slice() {
         Ok(())
@@ -80,7 +80,7 @@ fn end_of(line: &[u8]) -> Result<(), AnswerCause>
 
 /// Reads the line `end`.
 fn read_end_line(lines: &mut Lines<'_>) -> Result<(), AnswerErr>
-    ensures { Takes end_of (λ _. tt) lines.old lines.new result }
+    ensures { Takes end_line (λ _. tt) lines.old lines.new result }
 {
     let number = lines.number;
     let line = lines.next_line()?;

@@ -1,11 +1,12 @@
 -- How many tiers a mask has, by its bits.
-use Rattle.std.proofs.Common.{◌≡◌, ℕ, zero, suc, ◌+◌, ◌*◌, ◌/◌, ◌%◌, ◌^◌, ◌<◌, ◌≤◌, ◌==◌, cond, [], ◌∷◌, ◌++◌, length, refl, ap, sym, ◌∙◌, subst, arith, length-append}
+use Rattle.std.proofs.Common.{◌≡◌, ℕ, zero, suc, ◌+◌, ◌*◌, ◌/◌, ◌%◌, ◌^◌, ◌<◌, ◌≤◌, ◌==◌, cond, [], ◌∷◌, ◌++◌, length}
+use Rattle.std.proofs.Common.{refl, ap, sym, ◌∙◌, subst, arith, length-append}
 use Rattle.std.specs.Int.RustNames.{count_ones}
 use Rattle.std.specs.Int.{bit_at}
 use Rattle.std.proofs.lemmas.Nat.{pow_pos}
 use Rattle.std.proofs.lemmas.Nat.Bits.{bit_at_cat_low}
 use Rattle.tier_core.specs.Tiers.{has_tier, tiers_below, tiers_of}
-use Rattle.tier_core.specs.Shapes.{input_count}
+use Rattle.tier_core.specs.Shapes.{masked_count}
 use lib.Count.{ones_cat, ones-le}
 use lib.Pow.{pow_mono, shr_lt}
 
@@ -55,7 +56,7 @@ ones_below (suc n) mask h =
     )
 
 -- the bits of the mask of a width are as many as its tiers, and no more than the width
-pub ones_of : (width mask : ℕ) → width ≤ 12 → mask < 2 ^ width → count_ones mask ≡ input_count mask
+pub ones_of : (width mask : ℕ) → width ≤ 12 → mask < 2 ^ width → count_ones mask ≡ masked_count mask
 unfolding tiers_of
 ones_of width mask few within = ones_below 12 mask (below_power width 12 mask few within)
 

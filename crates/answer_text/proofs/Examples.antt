@@ -1,5 +1,6 @@
 -- Lines, shapes, and what an automaton of two states accepts, as tests say them.
-use Rattle.std.proofs.Common.{◌⊎◌, inl, inr, ⊎_elim, zero, suc, ◌≡◌, ℕ, ◌+◌, ◌<◌, ◌≤◌, true, false, List, [], ◌∷◌, get_or, refl, ap, sym, ◌∙◌, subst, arith}
+use Rattle.std.proofs.Common.{◌⊎◌, inl, inr, ⊎_elim, zero, suc, ◌≡◌, ℕ, ◌+◌, ◌<◌, ◌≤◌, true, false, List, [], ◌∷◌}
+use Rattle.std.proofs.Common.{get_or, refl, ap, sym, ◌∙◌, subst, arith}
 use Rattle.std.specs.List.{Contains}
 use Rattle.std.proofs.lemmas.Bool.{false≢true}
 use Rattle.tier_core.specs.declared.sym.Sym.{Sym}

@@ -2,7 +2,7 @@
 use Rattle.std.proofs.Common.{◌≡◌, ℕ, List, [], ◌∷◌, ◌++◌, codes, take, ap, ◌∙◌}
 use Rattle.answer_text.specs.declared.once_answer.OnceAnswer.{OnceAnswer}
 use Rattle.answer_text.specs.OnceText.{OnceWidths, nodes_lines, once_head_lines, once_text}
-use Rattle.answer_text.specs.Text.{automaton_lines, counts_line, kind_text, line, lines_text, spaced}
+use Rattle.answer_text.specs.Text.{automaton_lines, counts_line, kind_text, line, lines_text, spaced_numbers}
 use Rattle.answer_text.proofs.Lines.{four_lines, four_texts}
 use Rattle.tier_core.specs.declared.kind.Kind.{Kind}
 use Rattle.tier_core.specs.Kinds.{prefix_kind}
@@ -15,9 +15,9 @@ kind_same kind {free} {free'} {stretches} {stretches'} a b =
     ap (λ n. kind_text (prefix_kind n stretches kind)) a ∙ ap (λ n. kind_text (prefix_kind free' n kind)) b
 
 pub numbers_same : {n n' : ℕ} {numbers numbers' : List ℕ} → n ≡ n' → numbers ≡ numbers'
-    → spaced (take n numbers) ≡ spaced (take n' numbers')
+    → spaced_numbers (take n numbers) ≡ spaced_numbers (take n' numbers')
 numbers_same {n} {n'} {numbers} {numbers'} a b =
-    ap (λ m. spaced (take m numbers)) a ∙ ap (λ ns. spaced (take n' ns)) b
+    ap (λ m. spaced_numbers (take m numbers)) a ∙ ap (λ ns. spaced_numbers (take n' ns)) b
 
 pub once_head : (answer : OnceAnswer) → codes "once 1\n" ++ line (codes "form " ++ text_of answer.form)
     ++ line (counts_line answer.counts.items)

@@ -10,7 +10,7 @@ use Rattle.tier_core.specs.Classes.{sets_of, AreDisjoint}
 use Rattle.tier_core.specs.Tiers.{Tiers}
 use Rattle.tier_core.specs.Kinds.{PrefixKind, prefix_kind, kind_order}
 use Rattle.violation.specs.Candidates.{vec, IsForm, IsCandidate, counts_on}
-use Rattle.violation.specs.Moves.{FitsKind, moved, cost_of, cut, is_final}
+use Rattle.violation.specs.Moves.{FitsKind, next_kind, cost_of, cut_kind, is_final}
 use Rattle.violation.specs.Phases.{is_left_open, AreClosedOr}
 use Rattle.violation.specs.Prefixes.{kind_of, stretches, kind_of_bits}
 use Rattle.answer_text.specs.declared.stage.Node.{Node}
@@ -34,9 +34,9 @@ pub record IsTightAt (problem : Problem) (stages : List Stage) (j : ℕ) (k : Pr
     (column : List Sym) : Type 0 where
   pub before : ℕ
   pub after : ℕ
-  pub leaves : Lists problem stages j (cut problem j k) before
-  pub arrives : Lists problem stages j (moved problem j (cut problem j k) column) after
-  pub falls : before ≡ cost_of problem j (cut problem j k) column + after
+  pub leaves : Lists problem stages j (cut_kind problem j k) before
+  pub arrives : Lists problem stages j (next_kind problem j (cut_kind problem j k) column) after
+  pub falls : before ≡ cost_of problem j (cut_kind problem j k) column + after
 
 -- There is a move from k on the column, and it is tight at each stage from 1 to r - 1. Such a move is
 -- kept at stage r, and at the end if r is one more than the number of constraints.
@@ -63,13 +63,14 @@ start_potential counts (suc i) = slice_index_or counts i 0
 pub record IsCertifiedStage (problem : Problem) (counts : List ℕ) (stages : List Stage) (r : ℕ) : Type 0 where
   pub kinds : All (IsPossibleKind problem r) (kinds_at problem r (nodes_at stages r))
   pub ascending : IsStrictlySortedBy kind_order (kinds_at problem r (nodes_at stages r))
-  pub cuts : 1 ≤ r → All (λ k. Contains (kinds_at problem (r - 1) (nodes_at stages (r - 1))) (cut problem (r - 1) k))
+  pub cuts : 1 ≤ r → All (λ k. Contains (kinds_at problem (r - 1) (nodes_at stages (r - 1)))
+      (cut_kind problem (r - 1) k))
       (kinds_at problem r (nodes_at stages r))
   pub first : slice_get (kinds_at problem r (nodes_at stages r)) 0 ≡ Some (kind_of problem r [])
   pub final : (k : PrefixKind) (p : ℕ) → Lists problem stages r k p → IsTrue (is_final problem k) → p ≡ 0
   pub goes_on : (k : PrefixKind) (p : ℕ) (column : List Sym) → Lists problem stages r k p
       → IsKeptBelow problem stages r k column
-      → (q : ℕ) × (Lists problem stages r (moved problem r k column) q × (p ≤ cost_of problem r k column + q))
+      → (q : ℕ) × (Lists problem stages r (next_kind problem r k column) q × (p ≤ cost_of problem r k column + q))
   pub start : (p : ℕ) → Lists problem stages r (kind_of problem r []) p → p ≡ start_potential counts r
 
 -- The automaton has exactly the moves that are kept at the end: node 0 is a state, each arc leads to
@@ -84,7 +85,7 @@ pub record IsCertifiedAutomaton (problem : Problem) (stages : List Stage) (state
   pub arcs : (n m : ℕ) (k : PrefixKind) (column : List Sym) → Contains (numbers_of states) n
       → IsNodeOf problem (nodes_at stages (last_stage problem)) n k
       → HasArc states n m column ↔ (IsKeptBelow problem stages (last_stage problem + 1) k column
-      × IsNodeOf problem (nodes_at stages (last_stage problem)) m (moved problem (last_stage problem) k column))
+      × IsNodeOf problem (nodes_at stages (last_stage problem)) m (next_kind problem (last_stage problem) k column))
 
 -- An answer is certified for a problem: it is of the problem's form, which has at most 64 columns;
 -- there is one stage more than there are constraints; the example is a candidate that has the

@@ -7,7 +7,7 @@ use Rattle.tier_core.specs.KindShapes.{free_count, stretch_count}
 use Rattle.timeline_text.specs.Texts.{text_of}
 use Rattle.answer_text.specs.declared.once_answer.OnceNode.{OnceNode}
 use Rattle.answer_text.specs.declared.once_answer.OnceAnswer.{OnceAnswer}
-use Rattle.answer_text.specs.Text.{automaton_lines, counts_line, kind_text, lines_text, spaced}
+use Rattle.answer_text.specs.Text.{automaton_lines, counts_line, kind_text, lines_text, spaced_numbers}
 
 -- what the lines take from a grammar: how many free tiers, stretch implications and constraints it has
 pub record OnceWidths : Type 0 where
@@ -26,7 +26,7 @@ once_widths_of shape = record {
 -- a node says its kind, and the least count that remains of each constraint
 abbrev pub once_node_line : OnceWidths → OnceNode → List ℕ
 once_node_line widths node = codes "node " ++ kind_text (prefix_kind widths.free widths.stretches node.kind)
-    ++ spaced (take widths.constraints node.potential.parts)
+    ++ spaced_numbers (take widths.constraints node.potential.parts)
 
 -- how many nodes there are, and then the nodes
 abbrev pub nodes_lines : OnceWidths → List OnceNode → List (List ℕ)

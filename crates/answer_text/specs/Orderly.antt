@@ -6,7 +6,7 @@ use Rattle.tier_core.specs.declared.shape.Shape.{Shape}
 use Rattle.tier_core.specs.Classes.{sets_of}
 use Rattle.tier_core.specs.Kinds.{kind_order}
 use Rattle.tier_core.specs.KindShapes.{kind_in}
-use Rattle.tier_core.specs.Shapes.{input_count}
+use Rattle.tier_core.specs.Shapes.{masked_count}
 use Rattle.timeline_text.specs.Texts.{IsTextOf, text_of}
 use Rattle.answer_text.specs.declared.stage.Node.{Node}
 use Rattle.answer_text.specs.declared.automaton.StateLine.{StateLine}
@@ -31,7 +31,7 @@ pub record AreOrderedArcs (state : StateLine) : Type 0 where
 -- of at most 1,000,000,000 for each constraint, and some stages, but no more than the shape; its nodes
 -- and arcs ascend; and its states are readable. No more is asked of the bits of a kind than its text shows.
 pub record IsOrderly (shape : Shape) (answer : Answer) : Type 0 where
-  pub form : IsTextOf (input_count shape.inputs) 64 (text_of answer.form) answer.form
+  pub form : IsTextOf (masked_count shape.inputs) 64 (text_of answer.form) answer.form
   pub example : IsTextOf shape.width 65536 (text_of answer.example) answer.example
   pub one_each : length answer.counts.items + 1 ≡ length shape.phases.items
   pub counts : All (λ n. n ≤ 1000000000) answer.counts.items

@@ -6,7 +6,7 @@ use Rattle.std.specs.Ordering.{nat_cmp}
 use Rattle.tier_core.specs.declared.shape.Shape.{Shape}
 use Rattle.tier_core.specs.Classes.{sets_of}
 use Rattle.tier_core.specs.KindShapes.{FitsShape}
-use Rattle.tier_core.specs.Shapes.{input_count}
+use Rattle.tier_core.specs.Shapes.{masked_count}
 use Rattle.answer_text.specs.declared.stage.Node.{Node}
 use Rattle.answer_text.specs.declared.stage.Stage.{Stage}
 use Rattle.answer_text.specs.declared.automaton.ArcLine.{ArcLine}
@@ -49,7 +49,7 @@ pub record AreReadableStates (width nodes : ℕ) (states : List StateLine) : Typ
 -- columns of its example are within their limits; its states ascend strictly; and each state and each
 -- target is a node of the last stage. So an answer without stages has no states.
 pub record IsReadable (shape : Shape) (answer : Answer) : Type 0 where
-  pub form_width : AllByRecursion (λ column. length column ≡ input_count shape.inputs) answer.form
+  pub form_width : AllByRecursion (λ column. length column ≡ masked_count shape.inputs) answer.form
   pub example_width : AllByRecursion (λ column. length column ≡ shape.width) answer.example
   pub example_size : length answer.example ≤ 65536
   pub few_counts : length answer.counts.items ≤ 24

@@ -18,16 +18,16 @@ abbrev pub after_space : ℕ → List ℕ
 after_space n = codes " " ++ decimal n
 
 -- numbers, each after a space
-abbrev pub spaced : List ℕ → List ℕ
-spaced numbers = flat_map after_space numbers
+abbrev pub spaced_numbers : List ℕ → List ℕ
+spaced_numbers numbers = flat_map after_space numbers
 
 -- a set of one symbol is the symbol, a set of more stands in braces
-abbrev pub braced : List ℕ → List ℕ
-braced bytes = if length bytes == 1 then bytes else codes "{" ++ bytes ++ codes "}"
+abbrev pub with_braces : List ℕ → List ℕ
+with_braces bytes = if length bytes == 1 then bytes else codes "{" ++ bytes ++ codes "}"
 
 -- the symbols of the set with this number, in their order
 abbrev pub set_text : ℕ → List ℕ
-set_text set = braced (map byte_of (filter (is_in set) symbols))
+set_text set = with_braces (map byte_of (filter (is_in set) symbols))
 
 -- the sets of a class in tier order
 abbrev pub class_text : List ℕ → List ℕ
@@ -85,7 +85,7 @@ abbrev pub automaton_lines : List StateLine → List (List ℕ)
 automaton_lines states = (codes "automaton " ++ decimal (length states)) ∷ flat_map state_lines states
 
 abbrev pub counts_line : List ℕ → List ℕ
-counts_line counts = codes "counts" ++ spaced counts
+counts_line counts = codes "counts" ++ spaced_numbers counts
 
 -- the lines before the stages
 abbrev pub head_lines : Answer → List (List ℕ)

@@ -1,5 +1,5 @@
 ghost use Rattle.outside.specs.Writers.{Pushes};
-ghost use Rattle.answer_text.specs.Text.{spaced};
+ghost use Rattle.answer_text.specs.Text.{spaced_numbers};
 
 use outside::{OutBuffer, Sink, WriteErr, push_number};
 
@@ -10,7 +10,7 @@ pub fn push_numbers<O: Sink>(
     sink: &mut O,
     numbers: &[u32],
 ) -> Result<(), WriteErr>
-    ensures { Pushes O.Sink sink.old sink.new out.old out.new (spaced numbers.now) result }
+    ensures { Pushes O.Sink sink.old sink.new out.old out.new (spaced_numbers numbers.now) result }
 {
     for number in numbers {
         push_number(out, sink, b" ", *number as usize)?;

@@ -309,7 +309,7 @@ fn counts_are_written_alone(rt: HostRuntime) -> Result<(), Fail> {
 }
 
 // An answer of which only the counts and the example are written.
-fn counted(alloc: Global, counts: Vec<u32>, form: Timeline, example: Timeline) -> Answer {
+fn counts_only(alloc: Global, counts: Vec<u32>, form: Timeline, example: Timeline) -> Answer {
     Answer {
         form,
         counts,
@@ -324,19 +324,19 @@ fn counted(alloc: Global, counts: Vec<u32>, form: Timeline, example: Timeline) -
 #[test]
 fn counts_and_example_are_written(rt: HostRuntime) -> Result<(), Fail> {
     let alloc = rt.alloc();
-    let none = counted(
+    let none = counts_only(
         alloc,
         Vec::new(alloc),
         Timeline::new(alloc),
         Timeline::new(alloc),
     );
-    let open = counted(
+    let open = counts_only(
         alloc,
         vec![in alloc; 7]?,
         Timeline::new(alloc),
         two_columns(alloc, &[Sym::Start], &[Sym::End]),
     );
-    let one = counted(
+    let one = counts_only(
         alloc,
         vec![in alloc; 0, 1, 0]?,
         two_columns(alloc, &[Sym::Start], &[Sym::End]),

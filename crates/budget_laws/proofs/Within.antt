@@ -8,8 +8,8 @@ use Rattle.tier_core.specs.Tables.{tiers_of_table}
 use Rattle.violation.specs.Candidates.{IsForm}
 use Rattle.violation.specs.Conditions.{AreSplit, IsOverTiers}
 use Rattle.violation.specs.Prefixes.{stretches}
-use Rattle.violation.specs.Problems.{Problem, asked, last_stage, last_place}
-use Rattle.violation.specs.Examples.{over_two, kind_text}
+use Rattle.violation.specs.Problems.{Problem, problem_from, last_stage, last_place}
+use Rattle.violation.specs.Examples.{over_two, read_kind}
 use Rattle.violation.proofs.ExampleLemmas.{right_timeline, empty_kinds}
 use Rattle.violation.proofs.SplitLemmas.{tiers_split}
 use Rattle.grammar_reader.specs.declared.grammar.Grammar.{Grammar}
@@ -47,10 +47,11 @@ module _ (problem : Problem) (split : AreSplit problem.tiers) (form : IsForm pro
 -- the conditions hold of what a grammar asks
 pub grammar_within : (grammar : Grammar) (form : List (List Sym)) (budget : ℕ)
     → IsForm (tiers_of_table grammar.tiers) form
-    → enough (asked grammar.tiers grammar.constraints.items form) ≤ budget
-    → AreAllWithin (asked grammar.tiers grammar.constraints.items form) budget
+    → enough (problem_from grammar.tiers grammar.constraints.items form) ≤ budget
+    → AreAllWithin (problem_from grammar.tiers grammar.constraints.items form) budget
 grammar_within grammar form budget is_form least =
-    all_within (asked grammar.tiers grammar.constraints.items form) (tiers_split grammar.tiers.kinds.items) is_form
+    all_within (problem_from grammar.tiers grammar.constraints.items form)
+    (tiers_split grammar.tiers.kinds.items) is_form
     (over_tiers grammar) budget least
 
 -- the smallest problem
@@ -58,7 +59,7 @@ pub first_is_over : IsFirstOver (over_two [] []) 1 0
 first_is_over = record {
   stage = omega arith;
   over = record {
-    kinds = kind_text 0 (codes "-") [] ∷ kind_text 0 (codes "+") [] ∷ [];
+    kinds = read_kind 0 (codes "-") [] ∷ read_kind 0 (codes "+") [] ∷ [];
     are = empty_kinds;
     more = omega arith;
   };

@@ -8,7 +8,7 @@ ghost use Rattle.violation.specs.Candidates.{IsForm};
 ghost use Rattle.violation.specs.Conditions.{AreSplit, IsOverTiers};
 ghost use Rattle.violation.specs.Examples.{over_two};
 ghost use Rattle.violation.specs.Prefixes.{stretches};
-ghost use Rattle.violation.specs.Problems.{Problem, asked, last_stage, last_place};
+ghost use Rattle.violation.specs.Problems.{Problem, problem_from, last_stage, last_place};
 ghost use Rattle.ranked_gen.specs.Budgets.{AreAllWithin, IsFirstOver};
 ghost use Rattle.budget_laws.specs.Enough.{enough};
 
@@ -33,8 +33,8 @@ pub fn stages_are_within_enough()
         → AreAllWithin problem 16640 }
     ensures of_grammars { (grammar : Grammar) (form : List (List Sym)) (budget : ℕ)
         → IsForm (tiers_of_table grammar.tiers) form
-        → enough (asked grammar.tiers grammar.constraints.items form) ≤ budget
-        → AreAllWithin (asked grammar.tiers grammar.constraints.items form) budget }
+        → enough (problem_from grammar.tiers grammar.constraints.items form) ≤ budget
+        → AreAllWithin (problem_from grammar.tiers grammar.constraints.items form) budget }
 {}
 
 /// Without constraints, stage 0 of the empty form, over an input tier and an overt tier, is the

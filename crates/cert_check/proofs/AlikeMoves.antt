@@ -1,6 +1,7 @@
 -- On columns that are alike, moves lead to one kind and cost the same; so what is kept on the one is kept
 -- on the other.
-use Rattle.std.proofs.Common.{◌≡◌, ℕ, zero, suc, ◌+◌, ◌-◌, Bool, true, false, cond, List, [], ◌∷◌, map, take, drop, filter, get_or, refl, ap, ap₂, ◌∙◌}
+use Rattle.std.proofs.Common.{◌≡◌, ℕ, zero, suc, ◌+◌, ◌-◌, Bool, true, false, cond, List, [], ◌∷◌, map, take, drop}
+use Rattle.std.proofs.Common.{filter, get_or, refl, ap, ap₂, ◌∙◌}
 use Rattle.std.specs.List.{AllByRecursion}
 use Rattle.tier_core.specs.declared.sym.Sym.{Sym}
 use Rattle.tier_core.specs.declared.constraint.Constraint.{Constraint}
@@ -8,7 +9,8 @@ use Rattle.tier_core.specs.Kinds.{Phase, PrefixKind}
 use Rattle.tier_core.specs.Scan.{opens}
 use Rattle.tier_core.specs.Sides.{is_stretch}
 use Rattle.tier_core.specs.Timelines.{symbol, has_edge}
-use Rattle.violation.specs.Moves.{input_of, is_tier_open, next_phase, next_phases, moved, costs_each, first_phase, cost_of}
+use Rattle.violation.specs.Moves.{input_of, is_tier_open, next_phase, next_phases, next_kind, costs_each, first_phase}
+use Rattle.violation.specs.Moves.{cost_of}
 use Rattle.violation.specs.Prefixes.{stretches}
 use Rattle.violation.specs.Problems.{Problem}
 use Rattle.violation.proofs.TierLemmas.{map_agree}
@@ -55,7 +57,7 @@ first_alike P [] (suc n) h = tt
 first_alike P (x ∷ xs) (suc n) h = (h.0, first_alike P xs n h.1)
 
 module _ (problem : Problem) (place : ℕ) (c d : List Sym) (a : AreAlike problem place c d) where
-  pub moved_alike : (r : ℕ) (k : PrefixKind) → moved problem r k c ≡ moved problem r k d
+  pub moved_alike : (r : ℕ) (k : PrefixKind) → next_kind problem r k c ≡ next_kind problem r k d
   moved_alike r k =
       let first : AllByRecursion (IsNextAlike c d)
       (stretches problem r) = stretches_alike problem.constraints r c d a.constraints in

@@ -1,5 +1,6 @@
 -- Arcs that are made of the pieces of a kind's kept moves lead where those moves lead.
-use Rattle.std.proofs.Common.{◌≡◌, ℕ, ◌+◌, ◌<◌, IsTrue, List, [], ◌∷◌, ◌++◌, take, length, get_or, slice_get, Some, None, Option, refl, sym, ap, ◌∙◌, subst, All, Contains}
+use Rattle.std.proofs.Common.{◌≡◌, ℕ, ◌+◌, ◌<◌, IsTrue, List, [], ◌∷◌, ◌++◌, take, length, get_or, slice_get, Some}
+use Rattle.std.proofs.Common.{None, Option, refl, sym, ap, ◌∙◌, subst, All, Contains}
 use Rattle.std.specs.List.Sorted.{IsStrictlySortedBy}
 use Rattle.std.proofs.lemmas.List.{map-append, take_more}
 use Rattle.std.proofs.lemmas.List.Elements.{All-contains, All-push}
@@ -10,7 +11,7 @@ use Rattle.tier_core.specs.declared.sym.Sym.{Sym}
 use Rattle.tier_core.specs.Classes.{has, sets_of}
 use Rattle.tier_core.specs.Kinds.{PrefixKind, kind_order}
 use Rattle.symbol_class.specs.Held.{some_has}
-use Rattle.violation.specs.Moves.{moved}
+use Rattle.violation.specs.Moves.{next_kind}
 use Rattle.violation.specs.Prefixes.{kind_of_bits}
 use Rattle.violation.specs.Problems.{Problem, last_stage}
 use Rattle.answer_text.specs.declared.automaton.ArcLine.{ArcLine}
@@ -23,10 +24,10 @@ use Rattle.cert_check.specs.declared.kept_piece.KeptPiece.{KeptPiece}
 use Rattle.cert_check.specs.declared.subject.Subject.{Subject}
 use Rattle.answer_text.specs.ArcClasses.{arc_classes}
 use Rattle.cert_check.specs.Faults.{IsListedTarget, IsKeptTarget}
-use Rattle.cert_check.specs.Kept.{classes_of, IsKeptPiece, AreKept}
-use Rattle.cert_check.specs.KeptArcs.{IsArcOf, AreArcsOf}
+use Rattle.cert_check.specs.Kept.{kept_classes, IsKeptPiece, AreKeptPieces}
+use Rattle.cert_check.specs.KeptArcs.{IsPieceArc, AreArcsOf}
 use Rattle.cert_check.specs.States.{AreKeptArcs}
-use Rattle.cert_check.specs.Subjects.{problem_of, kinds_of}
+use Rattle.cert_check.specs.Subjects.{problem_of, stage_kinds}
 use Rattle.cert_check.proofs.ArcLists.{HasOneTarget, arc_there}
 use Rattle.cert_check.proofs.Faultless.{some_same}
 
@@ -35,19 +36,19 @@ use Rattle.cert_check.proofs.Faultless.{some_same}
 module _ (s : Subject) (stage : ℕ) (pieces : List KeptPiece) (n : ℕ) (piece : KeptPiece) (inside : n < length pieces)
     (is : piece ≡ get_or pieces n piece) (old new : List ArcLine) (arc : ArcLine) (e : new ≡ old ++ arc ∷ [])
     (same : arc.class ≡ piece.class) where
-  pub classes_more : arc_classes old ≡ classes_of (take n pieces)
-      → arc_classes new ≡ classes_of (take (n + 1) pieces)
+  pub classes_more : arc_classes old ≡ kept_classes (take n pieces)
+      → arc_classes new ≡ kept_classes (take (n + 1) pieces)
   classes_more before =
       ap arc_classes e ∙ map-append (λ (x : ArcLine). x.class) old (arc ∷ [])
       ∙ ap (λ cs. cs ++ arc.class ∷ []) before
-      ∙ ap (λ c. classes_of (take n pieces) ++ c ∷ []) (same ∙ ap (λ (p : KeptPiece). p.class) is)
+      ∙ ap (λ c. kept_classes (take n pieces) ++ c ∷ []) (same ∙ ap (λ (p : KeptPiece). p.class) is)
       ∙ sym (map-append (λ (p : KeptPiece). p.class) (take n pieces) (get_or pieces n piece ∷ []))
-      ∙ ap classes_of (sym (take_more pieces n piece inside))
+      ∙ ap kept_classes (sym (take_more pieces n piece inside))
 
-  pub each_more : slice_get (kinds_of s stage) arc.target ≡ Some (kind_of_bits (problem_of s) stage piece.target)
-      → All (IsArcOf s stage pieces) old → All (IsArcOf s stage pieces) new
-  each_more leads before = subst (All (IsArcOf s stage pieces)) (sym e)
-      (All-push (IsArcOf s stage pieces) old arc before (record {
+  pub each_more : slice_get (stage_kinds s stage) arc.target ≡ Some (kind_of_bits (problem_of s) stage piece.target)
+      → All (IsPieceArc s stage pieces) old → All (IsPieceArc s stage pieces) new
+  each_more leads before = subst (All (IsPieceArc s stage pieces)) (sym e)
+      (All-push (IsPieceArc s stage pieces) old arc before (record {
         piece = piece;
         of = (n, inside, sym is);
         same_class = same;
@@ -72,7 +73,7 @@ node_of_number problem nodes n k e = own (slice_get nodes n) refl
     own (Some node) f = record { node = node; numbered = f; tells = some_same (told (Some node) f) }
 
 module _ (s : Subject) (k : PrefixKind) (pieces : List KeptPiece) (arcs : List ArcLine)
-    (kept : AreKept (problem_of s) s.answer.now.stages.items (last_stage (problem_of s))
+    (kept : AreKeptPieces (problem_of s) s.answer.now.stages.items (last_stage (problem_of s))
     (last_stage (problem_of s) + 1) k pieces)
     (are : AreArcsOf s (last_stage (problem_of s)) pieces arcs) where
   abbrev problem : Problem
@@ -87,8 +88,8 @@ module _ (s : Subject) (k : PrefixKind) (pieces : List KeptPiece) (arcs : List A
   abbrev Kept : List Sym → Type 0
   Kept column = IsKeptBelow (problem_of s) s.answer.now.stages.items (last_stage (problem_of s) + 1) k column
 
-  arc_of : (arc : ArcLine) → Contains arcs arc → IsArcOf s (last_stage (problem_of s)) pieces arc
-  arc_of arc h = All-contains (IsArcOf s last pieces) arcs arc are.each h
+  arc_of : (arc : ArcLine) → Contains arcs arc → IsPieceArc s (last_stage (problem_of s)) pieces arc
+  arc_of arc h = All-contains (IsPieceArc s last pieces) arcs arc are.each h
 
   arc_to : (column : List Sym) (arc : ArcLine) → Contains arcs arc → IsTrue (has arc.class column)
       → IsKeptTarget (problem_of s) s.answer.now k column (Some arc.target)
@@ -98,15 +99,15 @@ module _ (s : Subject) (k : PrefixKind) (pieces : List KeptPiece) (arcs : List A
       let m = contains_map (λ (p : KeptPiece). p.class) pieces a.piece a.of in
       let own : IsKeptPiece problem last k a.piece = All-contains
       (IsKeptPiece problem last k) pieces a.piece kept.each a.of in (
-        (kept.columns column).0 (list_any_at (λ c. has c column) (classes_of pieces) m.0 a.piece.class m.1
+        (kept.columns column).0 (list_any_at (λ c. has c column) (kept_classes pieces) m.0 a.piece.class m.1
             (ap (λ c. has c column) m.2 ∙ held)),
-        node_of_number problem nodes arc.target (moved problem last k column)
+        node_of_number problem nodes arc.target (next_kind problem last k column)
             (a.leads ∙ ap (λ (x : PrefixKind). Some x) (own.leads column held).tells),
       )
 
   kept_to : (column : List Sym) → Kept column → (m : ℕ) × IsListedTarget arcs column (Some m)
   kept_to column h =
-      let some : some_has (arc_classes arcs) column ≡ some_has (classes_of pieces) column =
+      let some : some_has (arc_classes arcs) column ≡ some_has (kept_classes pieces) column =
       ap (λ cs. some_has cs column) are.classes in
       let there = arc_there arcs column (some ∙ (kept.columns column).1 h) in
       let arc : ArcLine = there.1.0 in (
@@ -125,7 +126,7 @@ module _ (s : Subject) (k : PrefixKind) (pieces : List KeptPiece) (arcs : List A
         ),
       )
 
-  module _ (ascending : IsStrictlySortedBy kind_order (kinds_of s (last_stage (problem_of s)))) where
+  module _ (ascending : IsStrictlySortedBy kind_order (stage_kinds s (last_stage (problem_of s)))) where
     listed_to : (column : List Sym) (target : Option ℕ) → IsListedTarget arcs column target
         → IsKeptTarget (problem_of s) s.answer.now k column target
     listed_to column (Some m) h = subst (λ n. IsKeptTarget (problem_of s) s.answer.now k column (Some n)) h.1.2
@@ -138,7 +139,7 @@ module _ (s : Subject) (k : PrefixKind) (pieces : List KeptPiece) (arcs : List A
         let to = kept_to column h.0 in
         let there = arc_to column to.1.0 to.1.1.0 to.1.1.1 in
         let same : to.0 ≡ m = sym to.1.1.2
-        ∙ one_number problem nodes ascending (moved problem last k column) to.1.0.target m there.1 h.1 in
+        ∙ one_number problem nodes ascending (next_kind problem last k column) to.1.0.target m there.1 h.1 in
         subst (λ n. IsListedTarget arcs column (Some n)) same to.1
     listed_from column None none = λ arc h holds. none (arc_to column arc h holds).0
 
@@ -147,7 +148,7 @@ module _ (s : Subject) (k : PrefixKind) (pieces : List KeptPiece) (arcs : List A
       one_width = All-from_members (λ (arc : ArcLine). length (sets_of arc.class) ≡ (problem_of s).tiers.width) arcs
           (λ arc h. let a = arc_of arc h in
           ap (λ c. length (sets_of c)) a.same_class
-          ∙ All-contains (λ c. length (sets_of c) ≡ problem.tiers.width) (classes_of pieces) a.piece.class
+          ∙ All-contains (λ c. length (sets_of c) ≡ problem.tiers.width) (kept_classes pieces) a.piece.class
           kept.pieces.one_width (contains_map (λ (p : KeptPiece). p.class) pieces a.piece a.of));
       targets = λ column target. (listed_to column target, listed_from column target);
     }
@@ -155,10 +156,10 @@ module _ (s : Subject) (k : PrefixKind) (pieces : List KeptPiece) (arcs : List A
 -- on each column they have one target
 pub one_kept_target : (s : Subject) (k : PrefixKind) (kept : List ArcLine)
     → AreKeptArcs (problem_of s) s.answer.now k kept
-    → IsStrictlySortedBy kind_order (kinds_of s (last_stage (problem_of s)))
+    → IsStrictlySortedBy kind_order (stage_kinds s (last_stage (problem_of s)))
     → (column : List Sym) → HasOneTarget kept column
 one_kept_target s k kept are ascending column m n a b =
     let last = last_stage (problem_of s) in
     one_number (problem_of s) (nodes_at s.answer.now.stages.items last) ascending
-    (moved (problem_of s) last k column) m n
+    (next_kind (problem_of s) last k column) m n
     ((are.targets column (Some m)).0 a).1 ((are.targets column (Some n)).0 b).1

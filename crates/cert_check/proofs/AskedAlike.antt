@@ -1,5 +1,6 @@
 -- Constraints that require the same, by their families and sides, count, phase and move alike.
-use Rattle.std.proofs.Common.{◌≡◌, ℕ, ◌&&◌, not, Bool, true, false, cond, List, [], ◌∷◌, length, map, take, filter, drop, refl, ap, ap₂, sym, ◌∙◌, subst}
+use Rattle.std.proofs.Common.{◌≡◌, ℕ, ◌&&◌, not, Bool, true, false, cond, List, [], ◌∷◌, length, map, take, filter}
+use Rattle.std.proofs.Common.{drop, refl, ap, ap₂, sym, ◌∙◌, subst}
 use Rattle.std.specs.Prelude.{if◌then◌else◌, slice_index_or, ◌-◌}
 use Rattle.std.specs.List.{list_all}
 use Rattle.std.proofs.lemmas.List.{length-map, take-map}
@@ -7,13 +8,14 @@ use Rattle.tier_core.specs.declared.sym.Sym.{Sym}
 use Rattle.tier_core.specs.declared.constraint.Constraint.{Constraint}
 use Rattle.tier_core.specs.Kinds.{Phase, PrefixKind}
 use Rattle.tier_core.specs.Tiers.{Tiers}
-use Rattle.tier_core.specs.Timelines.{project, squeeze, word, symbol}
+use Rattle.tier_core.specs.Timelines.{project, squeeze, tier_word, symbol}
 use Rattle.tier_core.specs.Scan.{opens}
 use Rattle.tier_core.specs.Sides.{has_edge_type, is_implication, is_stretch}
 use Rattle.grammar_reader.specs.Requirements.{Requirement, requirement_seen, requirements_seen}
 use Rattle.violation.specs.Candidates.{vec}
 use Rattle.violation.specs.Counts.{viol}
-use Rattle.violation.specs.Moves.{costs, costs_each, cost_of, cut, first_phase, is_tier_open, moved, next_phase, next_phases}
+use Rattle.violation.specs.Moves.{costs, costs_each, cost_of, cut_kind, first_phase, is_tier_open, next_kind}
+use Rattle.violation.specs.Moves.{next_phase, next_phases}
 use Rattle.violation.specs.Phases.{AreClosedOr, is_left_open}
 use Rattle.violation.specs.Prefixes.{is_open, kind_of, phase, stretches}
 use Rattle.violation.specs.Problems.{Problem}
@@ -142,22 +144,22 @@ module _ (problem : Problem) (cs ds : List Constraint) (alike : requirements_see
   same_kind r p =
       let kind : List Phase → PrefixKind = λ ps. record {
         place = length (squeeze (project problem.tiers.input p));
-        opened = map (λ t. is_open (word p t)) problem.tiers.free;
+        opened = map (λ t. is_open (tier_word p t)) problem.tiers.free;
         phases = ps;
       } in
       ap kind (seen_phases p (stretches here r)
       ∙ ap (map (λ n. phase n.left n.right p)) (stretches_seen r cs ds alike)
       ∙ sym (seen_phases p (stretches there r)))
 
-  pub same_cut : (r : ℕ) (k : PrefixKind) → cut here r k ≡ cut there r k
+  pub same_cut : (r : ℕ) (k : PrefixKind) → cut_kind here r k ≡ cut_kind there r k
   same_cut r k =
       let kind : List Phase → PrefixKind = λ ps. record { place = k.place; opened = k.opened; phases = ps } in
       ap (λ n. kind (take n k.phases)) (same_stretch_count r)
 
-  pub same_move : (r : ℕ) (k : PrefixKind) (column : List Sym) → moved here r k column ≡ moved there r k column
+  pub same_move : (r : ℕ) (k : PrefixKind) (column : List Sym) → next_kind here r k column ≡ next_kind there r k column
   same_move r k column =
       let kind : List Phase → PrefixKind = λ ps. record {
-        place = (moved here r k column).place;
+        place = (next_kind here r k column).place;
         opened = map (λ t. opens (symbol column t)) problem.tiers.free;
         phases = ps;
       } in

@@ -1,5 +1,7 @@
 -- An answer in which no fault is is certified.
-use Rattle.std.proofs.Common.{◌≡◌, ℕ, zero, suc, ◌+◌, ◌-◌, ◌<◌, ◌≤◌, ◌⊎◌, Bool, true, IsTrue, List, [], ◌∷◌, length, not, get_or, slice_get, Some, None, Option, refl, sym, ap, ◌∙◌, subst, arith, inl, inr, Contains, All, AllPairs}
+use Rattle.std.proofs.Common.{◌≡◌, ℕ, zero, suc, ◌+◌, ◌-◌, ◌<◌, ◌≤◌, ◌⊎◌, Bool, true, IsTrue, List, [], ◌∷◌, length}
+use Rattle.std.proofs.Common.{not, get_or, slice_get, Some, None, Option, refl, sym, ap, ◌∙◌, subst, arith, inl, inr}
+use Rattle.std.proofs.Common.{Contains, All, AllPairs}
 use Rattle.std.specs.List.Sorted.{IsStrictlySortedBy}
 use Rattle.std.specs.Prelude.{unwrap_or}
 use Rattle.std.proofs.lemmas.Bool.{cases_eq, cases_lt}
@@ -16,7 +18,7 @@ use Rattle.tier_core.specs.Scan.{opens}
 use Rattle.tier_core.specs.Timelines.{symbol}
 use Rattle.violation.specs.Candidates.{IsForm, IsCandidate, counts_on}
 use Rattle.violation.specs.Counts.{violations_of}
-use Rattle.violation.specs.Moves.{moved, cost_of, cut, is_final, next_phases}
+use Rattle.violation.specs.Moves.{next_kind, cost_of, cut_kind, is_final, next_phases}
 use Rattle.violation.specs.Phases.{is_closed, is_left_open, AreClosedOr}
 use Rattle.violation.specs.Prefixes.{kind_of, kind_of_bits, stretches}
 use Rattle.violation.specs.Problems.{Problem, last_stage, last_place}
@@ -26,11 +28,16 @@ use Rattle.answer_text.specs.declared.automaton.StateLine.{StateLine}
 use Rattle.answer_text.specs.declared.answer.Answer.{Answer}
 use Rattle.answer_text.specs.Acceptance.{HasArc}
 use Rattle.answer_text.specs.Right.{nodes_at, kinds_at, IsNodeOf, numbers_of}
-use Rattle.answer_text.specs.Certified.{Lists, IsKeptBelow, IsPossibleKind, IsCertified, IsCertifiedStage, IsCertifiedAutomaton, start_potential}
+use Rattle.answer_text.specs.Certified.{Lists, IsKeptBelow, IsPossibleKind, IsCertified, IsCertifiedStage}
+use Rattle.answer_text.specs.Certified.{IsCertifiedAutomaton, start_potential}
 use Rattle.tier_core.proofs.Members.{contains_of_map, All-from_members}
 use Rattle.check_laws.proofs.Listing.{lists_kind, kind_numbered, one_potential}
-use Rattle.cert_check.specs.declared.fault.Fault.TheVariants.{FormWrong, StageMissing, ExampleWrong, CountsDiffer, NodeWrong, StartMissing, FinalPotential, NotClosed, Potential, StartPotential, StateMissing, FinalsDiffer, ArcsTwice, ArcsDiffer}
-use Rattle.cert_check.specs.Faults.{HasNode, HasWrongNode, IsUnlisted, HasState, TellsKind, IsListedTarget, IsKeptTarget}
+use Rattle.cert_check.specs.declared.fault.Fault.TheVariants.{FormWrong, StageMissing, ExampleWrong, CountsDiffer}
+use Rattle.cert_check.specs.declared.fault.Fault.TheVariants.{NodeWrong, StartMissing, FinalPotential, NotClosed}
+use Rattle.cert_check.specs.declared.fault.Fault.TheVariants.{Potential, StartPotential, StateMissing, FinalsDiffer}
+use Rattle.cert_check.specs.declared.fault.Fault.TheVariants.{ArcsTwice, ArcsDiffer}
+use Rattle.cert_check.specs.Faults.{HasNode, HasWrongNode, IsUnlisted, HasState, TellsKind, IsListedTarget}
+use Rattle.cert_check.specs.Faults.{IsKeptTarget}
 use Rattle.cert_check.specs.FirstFaults.{IsFaultless}
 use Rattle.cert_check.proofs.Decisions.{Decided, from_both, so_unless, at_most, is_bool, is_member, is_kind, is_option}
 use Rattle.cert_check.proofs.DecidedForms.{is_form, is_candidate}
@@ -161,10 +168,10 @@ module _ (problem : Problem) (answer : Answer) (faultless : IsFaultless problem 
           told_possible (inr none) d = inr (λ h. none h.place)
 
       cut_before : 1 ≤ r → Contains (kinds_at problem (r - 1) (nodes_at answer.stages.items (r - 1)))
-          (cut problem (r - 1) (told node))
+          (cut_kind problem (r - 1) (told node))
       cut_before some = so_unless
           (is_member is_kind (kinds_at problem (r - 1) (nodes_at answer.stages.items (r - 1)))
-          (cut problem (r - 1) (told node)))
+          (cut_kind problem (r - 1) (told node)))
           (λ no. faultless (NodeWrong r n) _
           (record { node = node; is = is; wrong = λ o. no (o.cut_before some) }, refl))
 
@@ -175,7 +182,7 @@ module _ (problem : Problem) (answer : Answer) (faultless : IsFaultless problem 
       -- each kept move leads to a kind that is listed, with a potential that is high enough
       module _ (column : List Sym) (kept : IsKeptBelow problem answer.stages.items r (told node) column) where
         abbrev next : PrefixKind
-        next = moved problem r (told node) column
+        next = next_kind problem r (told node) column
 
         missing : (kind : Kind) × TellsKind problem r kind next
         missing = some_told problem r next (length-map problem.tiers.free (λ t. opens (symbol column t)))
@@ -263,7 +270,7 @@ module _ (problem : Problem) (answer : Answer) (faultless : IsFaultless problem 
       kinds = each_kind (IsPossibleKind problem r) possible;
       ascending = ascending;
       cuts = λ some. each_kind
-          (λ k. Contains (kinds_at problem (r - 1) (nodes_at answer.stages.items (r - 1))) (cut problem (r - 1) k))
+          (λ k. Contains (kinds_at problem (r - 1) (nodes_at answer.stages.items (r - 1))) (cut_kind problem (r - 1) k))
           (λ n node is. cut_before n node is some);
       first = first;
       final = λ k p lists h. let numbered = has_number lists.node lists.listed in
@@ -273,7 +280,7 @@ module _ (problem : Problem) (answer : Answer) (faultless : IsFaultless problem 
           let stays : IsKeptBelow problem answer.stages.items r (told lists.node) column = subst
           (λ x. IsKeptBelow problem answer.stages.items r x column) (sym lists.tells) kept in
           let next = listed numbered.0 lists.node numbered.1 column stays in
-          subst (λ x. (q : ℕ) × (Lists problem answer.stages.items r (moved problem r x column) q
+          subst (λ x. (q : ℕ) × (Lists problem answer.stages.items r (next_kind problem r x column) q
           × (p ≤ cost_of problem r x column + q))) lists.tells (
             next.0,
             (
@@ -359,7 +366,7 @@ module _ (problem : Problem) (answer : Answer) (faultless : IsFaultless problem 
     Kept = IsKeptBelow problem answer.stages.items (last_stage problem + 1) k column
 
     abbrev goal_kind : PrefixKind
-    goal_kind = moved problem (last_stage problem) k column
+    goal_kind = next_kind problem (last_stage problem) k column
 
     kept_or_not : Decided Kept
     kept_or_not = is_kept problem answer.stages.items (last + 1) (λ j l. ascending j (omega (arith, l))) k column
@@ -442,7 +449,7 @@ module _ (problem : Problem) (answer : Answer) (faultless : IsFaultless problem 
     arcs = λ n m k column s node. (
       λ a. let kept = arc_kept k column a.state a.listed
           (subst (λ i. IsNodeOf problem last_nodes i k) (sym a.from) node) a.arc a.leaves a.holds in
-          (kept.0, subst (λ i. IsNodeOf problem last_nodes i (moved problem last k column)) a.to kept.1),
+          (kept.0, subst (λ i. IsNodeOf problem last_nodes i (next_kind problem last k column)) a.to kept.1),
       λ kept. let line = contains_of_map (λ (state : StateLine). state.node) states n s in
           subst (λ i. HasArc states i m column) line.1.1
           (kept_arc k column line.0 line.1.0 (subst (λ i. IsNodeOf problem last_nodes i k) (sym line.1.1) node)

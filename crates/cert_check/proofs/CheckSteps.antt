@@ -1,12 +1,13 @@
 -- The whole check: what is known after the stages, and when nothing is wrong.
-use Rattle.std.proofs.Common.{◌≡◌, ℕ, zero, suc, ◌+◌, ◌-◌, ◌<◌, ◌≤◌, ◌^◌, List, length, get_or, sym, ap, ap₂, ◌∙◌, subst, arith, ⊎_elim, inl, inr}
+use Rattle.std.proofs.Common.{◌≡◌, ℕ, zero, suc, ◌+◌, ◌-◌, ◌<◌, ◌≤◌, ◌^◌, List, length, get_or, sym, ap, ap₂, ◌∙◌}
+use Rattle.std.proofs.Common.{subst, arith, ⊎_elim, inl, inr}
 use Rattle.std.specs.List.{AllByRecursion}
 use Rattle.std.proofs.lemmas.Bool.{cases_lt}
 use Rattle.tier_core.specs.declared.shape.Shape.{Shape}
 use Rattle.tier_core.specs.declared.sym.Sym.{Sym}
 use Rattle.tier_core.specs.Kinds.{AreStretchesBelow}
 use Rattle.tier_core.specs.KindShapes.{FitsShape}
-use Rattle.tier_core.specs.Shapes.{input_count}
+use Rattle.tier_core.specs.Shapes.{masked_count}
 use Rattle.violation.specs.Problems.{Problem, last_stage}
 use Rattle.grammar_reader.specs.declared.grammar.Grammar.{Grammar}
 use Rattle.grammar_reader.specs.ShapeOf.{IsShapeOf}
@@ -16,7 +17,7 @@ use Rattle.answer_text.specs.Readable.{AreReadableStates, IsReadable, IsReadable
 use Rattle.answer_text.specs.Certified.{AreStatesInOrder}
 use Rattle.answer_text.specs.Right.{nodes_at}
 use Rattle.cert_check.specs.FirstFaults.{IsFaultless, IsReadableFor}
-use Rattle.cert_check.specs.Nodes.{IsRightStage}
+use Rattle.cert_check.specs.Nodes.{IsFaultlessStage}
 use Rattle.cert_check.specs.Parts.{InAnswer, InNode, InStage, IsWrongMove}
 use Rattle.cert_check.specs.declared.subject.Subject.{Subject}
 use Rattle.cert_check.specs.Parts.{HasRightHead}
@@ -33,7 +34,7 @@ module _ (grammar : Grammar) (one two : Shape) (a : IsShapeOf grammar one) (b : 
   same_width : one.width ≡ two.width
   same_width = a.width ∙ sym b.width
 
-  same_inputs : input_count one.inputs ≡ input_count two.inputs
+  same_inputs : masked_count one.inputs ≡ masked_count two.inputs
   same_inputs = ap (λ (ts : List ℕ). length ts) (a.inputs ∙ sym b.inputs)
 
   same_phases : one.phases.items ≡ two.phases.items
@@ -97,7 +98,7 @@ module _ (problem : Problem) (answer : Answer) where
 
   -- no stage is wrong
   pub stages_part : length answer.stages.items ≡ last_stage problem + 1
-      → ((r : ℕ) → r ≤ last_stage problem → IsRightStage problem answer r)
+      → ((r : ℕ) → r ≤ last_stage problem → IsFaultlessStage problem answer r)
       → (rest : List ℕ) → InAnswer problem answer 4 rest → ⊥
   stages_part size right rest w =
       let inside = in_stage_within w.0 w.1.0 w.1.1.0 w.1.1.1.0 in
@@ -126,7 +127,7 @@ ready_by s readable is head = record {
 
 -- nothing is wrong before the automaton where the head and the stages are right
 pub right_before : (problem : Problem) (answer : Answer) → HasRightHead problem answer
-    → ((r : ℕ) → r ≤ last_stage problem → IsRightStage problem answer r)
+    → ((r : ℕ) → r ≤ last_stage problem → IsFaultlessStage problem answer r)
     → (part : ℕ) → part < 5 → (rest : List ℕ) → InAnswer problem answer part rest → ⊥
 right_before problem answer head stages part l = ⊎_elim
     (λ below. head_parts problem answer (form_part problem answer (record { form = head.form; short = head.short }))

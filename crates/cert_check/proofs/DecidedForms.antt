@@ -3,7 +3,7 @@ use Rattle.std.proofs.Common.{◌≡◌, ℕ, ◌<◌, true, false, IsTrue, List
 use Rattle.std.specs.List.{AllByRecursion}
 use Rattle.std.proofs.lemmas.Bool.{cases_eq}
 use Rattle.tier_core.specs.declared.sym.Sym.{Sym}
-use Rattle.tier_core.specs.Timelines.{IsWellFormed, IsReduced, word, has_edge, project, squeeze}
+use Rattle.tier_core.specs.Timelines.{IsWellFormed, IsReduced, tier_word, has_edge, project, squeeze}
 use Rattle.tier_core.specs.Tiers.{Tiers}
 use Rattle.tier_core.specs.Words.{IsWellFormedWord}
 use Rattle.tier_core.proofs.WordForm.{well_formed_from_runs, runs_from_well_formed}
@@ -26,10 +26,10 @@ is_word w = told (is_true (runs false w))
 is_well_formed : (width : ℕ) (T : List (List Sym)) → Decided (IsWellFormed width T)
 is_well_formed width T =
     told (for_each (λ column. length column ≡ width) (λ column. cases_eq (length column) width) T)
-    (for_all_below (λ t. IsWellFormedWord (word T t)) width (λ t l. is_word (word T t)))
+    (for_all_below (λ t. IsWellFormedWord (tier_word T t)) width (λ t l. is_word (tier_word T t)))
   where
     told : Decided (AllByRecursion (λ column. length column ≡ width) T)
-        → Decided ((t : ℕ) → t < width → IsWellFormedWord (word T t)) → Decided (IsWellFormed width T)
+        → Decided ((t : ℕ) → t < width → IsWellFormedWord (tier_word T t)) → Decided (IsWellFormed width T)
     told (inl w) (inl h) = inl (record { one_width = w; each_tier = h })
     told (inl w) (inr n) = inr (λ h. n h.each_tier)
     told (inr n) d = inr (λ h. n h.one_width)

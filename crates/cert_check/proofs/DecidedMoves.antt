@@ -6,14 +6,15 @@ use Rattle.tier_core.specs.declared.sym.Sym.{Sym}
 use Rattle.tier_core.specs.Kinds.{PrefixKind, kind_order}
 use Rattle.tier_core.specs.Scan.{fits}
 use Rattle.tier_core.specs.Timelines.{symbol, column_at, has_edge}
-use Rattle.violation.specs.Moves.{FitsKind, moved, cost_of, cut, is_tier_open, input_of}
+use Rattle.violation.specs.Moves.{FitsKind, next_kind, cost_of, cut_kind, is_tier_open, input_of}
 use Rattle.violation.specs.Problems.{Problem, last_place}
 use Rattle.answer_text.specs.declared.stage.Stage.{Stage}
 use Rattle.answer_text.specs.Right.{nodes_at, kinds_at}
 use Rattle.answer_text.specs.Certified.{Lists, IsTightAt, IsKeptBelow}
 use Rattle.check_laws.proofs.Listing.{lists_kind, kind_listed, one_potential}
 use Rattle.cert_check.specs.Faults.{IsUnlisted}
-use Rattle.cert_check.proofs.Decisions.{Decided, from_both, from_either, is_below, is_true, is_false, for_all_below, is_symbol, is_list, is_member, is_kind}
+use Rattle.cert_check.proofs.Decisions.{Decided, from_both, from_either, is_below, is_true, is_false, for_all_below}
+use Rattle.cert_check.proofs.Decisions.{is_symbol, is_list, is_member, is_kind}
 
 module _ (problem : Problem) where
   -- what is asked of a column's symbols, and of its input part
@@ -57,25 +58,27 @@ module _ (problem : Problem) where
     -- a column is tight at a stage whose kinds ascend, or not
     pub is_tight : (j : ℕ) → IsStrictlySortedBy kind_order (kinds_at problem j (nodes_at stages j))
         → (k : PrefixKind) (column : List Sym) → Decided (IsTightAt problem stages j k column)
-    is_tight j ascending k column = own (is_listed j (cut problem j k)) (is_listed j (moved problem j
-        (cut problem j k) column))
+    is_tight j ascending k column = own (is_listed j (cut_kind problem j k)) (is_listed j (next_kind problem j
+        (cut_kind problem j k) column))
       where
-        falls : (p q : ℕ) → Lists problem stages j (cut problem j k) p
-            → Lists problem stages j (moved problem j (cut problem j k) column) q
-            → Decided (p ≡ cost_of problem j (cut problem j k) column + q)
+        falls : (p q : ℕ) → Lists problem stages j (cut_kind problem j k) p
+            → Lists problem stages j (next_kind problem j (cut_kind problem j k) column) q
+            → Decided (p ≡ cost_of problem j (cut_kind problem j k) column + q)
             → Decided (IsTightAt problem stages j k column)
         falls p q a b (inl e) = inl (record { before = p; after = q; leaves = a; arrives = b; falls = e })
         falls p q a b (inr n) = inr (λ t. n
-            (one_potential problem j stages ascending (cut problem j k) p t.before a t.leaves ∙ t.falls
-            ∙ ap (λ x. cost_of problem j (cut problem j k) column + x)
-            (one_potential problem j stages ascending (moved problem j
-            (cut problem j k) column) t.after q t.arrives b)))
+            (one_potential problem j stages ascending (cut_kind problem j k) p t.before a t.leaves ∙ t.falls
+            ∙ ap (λ x. cost_of problem j (cut_kind problem j k) column + x)
+            (one_potential problem j stages ascending (next_kind problem j
+            (cut_kind problem j k) column) t.after q t.arrives b)))
 
-        own : ((p : ℕ) × Lists problem stages j (cut problem j k) p) ⊎ IsUnlisted problem stages j (cut problem j k)
-            → ((p : ℕ) × Lists problem stages j (moved problem j (cut problem j k) column) p)
-            ⊎ IsUnlisted problem stages j (moved problem j (cut problem j k) column)
+        own : ((p : ℕ) × Lists problem stages j (cut_kind problem j k) p)
+            ⊎ IsUnlisted problem stages j (cut_kind problem j k)
+            → ((p : ℕ) × Lists problem stages j (next_kind problem j (cut_kind problem j k) column) p)
+            ⊎ IsUnlisted problem stages j (next_kind problem j (cut_kind problem j k) column)
             → Decided (IsTightAt problem stages j k column)
-        own (inl a) (inl b) = falls a.0 b.0 a.1 b.1 (cases_eq a.0 (cost_of problem j (cut problem j k) column + b.0))
+        own (inl a) (inl b) = falls a.0 b.0 a.1 b.1
+            (cases_eq a.0 (cost_of problem j (cut_kind problem j k) column + b.0))
         own (inl a) (inr n) = inr (λ t. n t.after t.arrives)
         own (inr n) b = inr (λ t. n t.before t.leaves)
 

@@ -1,5 +1,6 @@
 -- In a certified answer no fault is.
-use Rattle.std.proofs.Common.{◌≡◌, ℕ, ◌+◌, ◌-◌, ◌<◌, Bool, IsTrue, List, [], length, get_or, slice_get, Some, None, Option, refl, sym, ap, ◌∙◌, subst, arith, inl, inr, Contains, All, AllPairs}
+use Rattle.std.proofs.Common.{◌≡◌, ℕ, ◌+◌, ◌-◌, ◌<◌, Bool, IsTrue, List, [], length, get_or, slice_get, Some, None}
+use Rattle.std.proofs.Common.{Option, refl, sym, ap, ◌∙◌, subst, arith, inl, inr, Contains, All, AllPairs}
 use Rattle.std.specs.Prelude.{option_map, unwrap_or}
 use Rattle.std.specs.List.Sorted.{IsStrictlySortedBy}
 use Rattle.std.specs.declared.cmp.Ordering.TheVariants.{Less}
@@ -11,7 +12,7 @@ use Rattle.tier_core.specs.declared.sym.Sym.{Sym}
 use Rattle.tier_core.specs.declared.kind.Kind.{Kind}
 use Rattle.tier_core.specs.Kinds.{PrefixKind, kind_order}
 use Rattle.violation.specs.Counts.{violations_of}
-use Rattle.violation.specs.Moves.{moved, cut}
+use Rattle.violation.specs.Moves.{next_kind, cut_kind}
 use Rattle.violation.specs.Prefixes.{kind_of, kind_of_bits}
 use Rattle.violation.specs.Problems.{Problem, last_stage}
 use Rattle.answer_text.specs.declared.stage.Node.{Node}
@@ -19,13 +20,19 @@ use Rattle.answer_text.specs.declared.automaton.ArcLine.{ArcLine}
 use Rattle.answer_text.specs.declared.automaton.StateLine.{StateLine}
 use Rattle.answer_text.specs.declared.answer.Answer.{Answer}
 use Rattle.answer_text.specs.Right.{nodes_at, kinds_at, IsNodeOf}
-use Rattle.answer_text.specs.Certified.{Lists, IsKeptBelow, IsPossibleKind, IsCertified, IsCertifiedStage, IsCertifiedAutomaton, AreStatesInOrder}
+use Rattle.answer_text.specs.Certified.{Lists, IsKeptBelow, IsPossibleKind, IsCertified, IsCertifiedStage}
+use Rattle.answer_text.specs.Certified.{IsCertifiedAutomaton, AreStatesInOrder}
 use Rattle.tier_core.specs.Classes.{has, AreDisjoint}
 use Rattle.tier_core.proofs.Members.{contains_map}
 use Rattle.check_laws.proofs.Listing.{one_potential, one_number}
 use Rattle.check_laws.proofs.Leading.{one_state}
-use Rattle.cert_check.specs.declared.fault.Fault.TheVariants.{FormWrong, StageMissing, ExampleWrong, CountsDiffer, NodeWrong, StartMissing, FinalPotential, NotClosed, Potential, StartPotential, StateMissing, FinalsDiffer, ArcsTwice, ArcsDiffer}
-use Rattle.cert_check.specs.Faults.{LacksStage, HasWrongCount, HasNode, IsInOrder, HasWrongNode, LacksStart, HasFinalPotential, IsNotClosed, HasHighPotential, HasWrongStart, IsState, HasState, LacksTarget, HasWrongMark, HasTwice, IsListedTarget, IsKeptTarget, HasWrongArcs}
+use Rattle.cert_check.specs.declared.fault.Fault.TheVariants.{FormWrong, StageMissing, ExampleWrong, CountsDiffer}
+use Rattle.cert_check.specs.declared.fault.Fault.TheVariants.{NodeWrong, StartMissing, FinalPotential, NotClosed}
+use Rattle.cert_check.specs.declared.fault.Fault.TheVariants.{Potential, StartPotential, StateMissing, FinalsDiffer}
+use Rattle.cert_check.specs.declared.fault.Fault.TheVariants.{ArcsTwice, ArcsDiffer}
+use Rattle.cert_check.specs.Faults.{LacksStage, HasWrongCount, HasNode, IsInOrder, HasWrongNode, LacksStart}
+use Rattle.cert_check.specs.Faults.{HasFinalPotential, IsNotClosed, HasHighPotential, HasWrongStart, IsState, HasState}
+use Rattle.cert_check.specs.Faults.{LacksTarget, HasWrongMark, HasTwice, IsListedTarget, IsKeptTarget, HasWrongArcs}
 use Rattle.cert_check.specs.FirstFaults.{LacksState, IsFaultless}
 
 pub some_same : {X : Type 0} {x y : X} → Some x ≡ Some y → x ≡ y
@@ -72,7 +79,7 @@ module _ (problem : Problem) (answer : Answer) where
               (slice_get_within kinds n k here)));
           cut_before = λ some. All-contains
               (λ x. Contains (kinds_at problem (r - 1) (nodes_at answer.stages.items (r - 1)))
-              (cut problem (r - 1) x)) kinds k (certified.cuts some) member;
+              (cut_kind problem (r - 1) x)) kinds k (certified.cuts some) member;
         }
 
     no_wrong_node : (n : ℕ) → HasWrongNode problem answer r n → ⊥
@@ -98,7 +105,7 @@ module _ (problem : Problem) (answer : Answer) where
         let next = certified.goes_on (kind_of_bits problem r h.node.kind) h.node.potential column
         (node_lists r n h.node h.is) h.kept in
         let same : next.0 ≡ h.next = one_potential problem r answer.stages.items certified.ascending
-        (moved problem r (kind_of_bits problem r h.node.kind) column) next.0 h.next next.1.0 h.leads in
+        (next_kind problem r (kind_of_bits problem r h.node.kind) column) next.0 h.next next.1.0 h.leads in
         omega (arith, next.1.1, same, h.listed_is, h.allowed_is, h.above)
 
     no_wrong_start : (listed count : ℕ) → HasWrongStart answer r listed count → ⊥
@@ -154,7 +161,7 @@ module _ (problem : Problem) (answer : Answer) where
         (of_kind : IsNodeOf problem (nodes_at answer.stages.items last) state kind) where
       kept_by_arc : (arc : ArcLine) → Contains line.arcs.items arc → IsTrue (has arc.class column)
           → IsKeptBelow problem answer.stages.items (last + 1) kind column × IsNodeOf problem
-          (nodes_at answer.stages.items last) arc.target (moved problem last kind column)
+          (nodes_at answer.stages.items last) arc.target (next_kind problem last kind column)
       kept_by_arc arc leaves holds =
           (certified.arcs state arc.target kind column (state_number state line is) of_kind).0
           (record {
@@ -181,7 +188,7 @@ module _ (problem : Problem) (answer : Answer) where
           let by = kept_by_arc h.0 h.1.0 h.1.1 in
           ap (λ (n : ℕ). Some n) (sym h.1.2
           ∙ one_number problem (nodes_at answer.stages.items last) ascending
-          (moved problem last kind column) h.0.target l by.1 k.1)
+          (next_kind problem last kind column) h.0.target l by.1 k.1)
 
     no_wrong_arcs : (state : ℕ) (column : List Sym) (listed kept : Option ℕ)
         → HasWrongArcs problem answer state column listed kept → ⊥

@@ -1,5 +1,6 @@
 -- Two answers that are seen alike have the same faults.
-use Rattle.std.proofs.Common.{◌≡◌, ℕ, ◌+◌, ◌-◌, ◌<◌, ◌≤◌, ◌⊎◌, Bool, IsTrue, List, [], length, map, slice_get, Some, None, Option, sym, ap, ◌∙◌, subst, inl, inr, Contains}
+use Rattle.std.proofs.Common.{◌≡◌, ℕ, ◌+◌, ◌-◌, ◌<◌, ◌≤◌, ◌⊎◌, Bool, IsTrue, List, [], length, map, slice_get, Some}
+use Rattle.std.proofs.Common.{None, Option, sym, ap, ◌∙◌, subst, inl, inr, Contains}
 use Rattle.std.specs.Prelude.{◌↔◌, slice_index_or}
 use Rattle.std.proofs.lemmas.Simd.{map-map}
 use Rattle.tier_core.specs.declared.sym.Sym.{Sym}
@@ -9,7 +10,7 @@ use Rattle.tier_core.specs.Classes.{has, sets_have}
 use Rattle.tier_core.specs.Kinds.{AreStretchesBelow, PrefixKind, prefix_kind}
 use Rattle.grammar_reader.specs.Requirements.{requirements_seen}
 use Rattle.violation.specs.Candidates.{IsCandidate, count_at}
-use Rattle.violation.specs.Moves.{moved, cost_of, cut, is_final}
+use Rattle.violation.specs.Moves.{next_kind, cost_of, cut_kind, is_final}
 use Rattle.violation.specs.Prefixes.{kind_of_bits}
 use Rattle.violation.specs.Problems.{Problem, last_stage}
 use Rattle.answer_text.specs.declared.stage.Node.{Node}
@@ -21,12 +22,19 @@ use Rattle.answer_text.specs.Certified.{Lists, IsKeptBelow, IsTightAt, start_pot
 use Rattle.cert_check.specs.declared.fault.Fault.{Fault}
 use Rattle.cert_check.specs.declared.fault.Verdict.{Verdict}
 use Rattle.cert_check.specs.declared.fault.Verdict.TheVariants.{Yes, No}
-use Rattle.cert_check.specs.declared.fault.Fault.TheVariants.{FormWrong, StageMissing, ExampleWrong, CountsDiffer, NodeWrong, StartMissing, FinalPotential, NotClosed, Potential, StartPotential, StateMissing, FinalsDiffer, ArcsTwice, ArcsDiffer}
-use Rattle.cert_check.specs.Faults.{LacksStage, HasWrongCount, HasNode, IsInOrder, HasWrongNode, LacksStart, HasFinalPotential, TellsKind, IsNotClosed, HasHighPotential, HasWrongStart, HasState, IsKindOfState, LacksTarget, HasWrongMark, HasTwice, IsListedTarget, IsKeptTarget, HasWrongArcs}
+use Rattle.cert_check.specs.declared.fault.Fault.TheVariants.{FormWrong, StageMissing, ExampleWrong, CountsDiffer}
+use Rattle.cert_check.specs.declared.fault.Fault.TheVariants.{NodeWrong, StartMissing, FinalPotential, NotClosed}
+use Rattle.cert_check.specs.declared.fault.Fault.TheVariants.{Potential, StartPotential, StateMissing, FinalsDiffer}
+use Rattle.cert_check.specs.declared.fault.Fault.TheVariants.{ArcsTwice, ArcsDiffer}
+use Rattle.cert_check.specs.Faults.{LacksStage, HasWrongCount, HasNode, IsInOrder, HasWrongNode, LacksStart}
+use Rattle.cert_check.specs.Faults.{HasFinalPotential, TellsKind, IsNotClosed, HasHighPotential, HasWrongStart}
+use Rattle.cert_check.specs.Faults.{HasState, IsKindOfState, LacksTarget, HasWrongMark, HasTwice, IsListedTarget}
+use Rattle.cert_check.specs.Faults.{IsKeptTarget, HasWrongArcs}
 use Rattle.cert_check.specs.FirstFaults.{IsFault, IsFirstFault, LacksState}
 use Rattle.cert_check.specs.Verdicts.{IsVerdict}
 use Rattle.cert_check.specs.Seen.{AreAskedAlike, AreSeenAlike, arc_seen, node_seen, state_seen}
-use Rattle.cert_check.proofs.AskedAlike.{by_alike, same_closed, same_cost, same_count, same_cut, same_kind, same_move, same_stretch_count, same_vec, with_constraints}
+use Rattle.cert_check.proofs.AskedAlike.{by_alike, same_closed, same_cost, same_count, same_cut, same_kind, same_move}
+use Rattle.cert_check.proofs.AskedAlike.{same_stretch_count, same_vec, with_constraints}
 use Rattle.cert_check.proofs.SeenLists.{at_number, member}
 
 -- Two answers that are seen alike, each for its own constraints, which require the same.
@@ -124,7 +132,7 @@ lists s r k p l =
 -- ---- kept moves
 
 move : (s : Two) (r : ℕ) (k : PrefixKind) (column : List Sym)
-    → moved (here s) r k column ≡ moved (there s) r k column
+    → next_kind (here s) r k column ≡ next_kind (there s) r k column
 move s r k column = same_move s.base s.cs s.ds s.asked r k column
 
 cost : (s : Two) (r : ℕ) (k : PrefixKind) (column : List Sym)
@@ -137,13 +145,14 @@ is_tight s j k column t =
     let cuts = same_cut s.base s.cs s.ds s.asked j k in record {
       before = t.before;
       after = t.after;
-      leaves = lists s j (cut (there s) j k) t.before
+      leaves = lists s j (cut_kind (there s) j k) t.before
           (subst (λ l. Lists (here s) s.a.stages.items j l t.before) cuts t.leaves);
-      arrives = lists s j (moved (there s) j (cut (there s) j k) column) t.after
+      arrives = lists s j (next_kind (there s) j (cut_kind (there s) j k) column) t.after
           (subst (λ l. Lists (here s) s.a.stages.items j l t.after)
-          (ap (λ l. moved (here s) j l column) cuts ∙ move s j (cut (there s) j k) column) t.arrives);
+          (ap (λ l. next_kind (here s) j l column) cuts ∙ move s j (cut_kind (there s) j k) column) t.arrives);
       falls = t.falls
-          ∙ ap (λ n. n + t.after) (ap (λ l. cost_of (here s) j l column) cuts ∙ cost s j (cut (there s) j k) column);
+          ∙ ap (λ n. n + t.after) (ap (λ l. cost_of (here s) j l column) cuts
+          ∙ cost s j (cut_kind (there s) j k) column);
     }
 
 is_kept : (s : Two) (r : ℕ) (k : PrefixKind) (column : List Sym) → IsKeptBelow (here s) s.a.stages.items r k column
@@ -200,7 +209,7 @@ in_order s stage n k h = record {
   cut_before = λ some.
       subst (Contains (kinds_at (there s) (stage - 1) (nodes_at s.b.stages.items (stage - 1))))
       (same_cut s.base s.cs s.ds s.asked (stage - 1) k)
-      (subst (λ ks. Contains ks (cut (here s) (stage - 1) k)) (same_kinds s (stage - 1)) (h.cut_before some));
+      (subst (λ ks. Contains ks (cut_kind (here s) (stage - 1) k)) (same_kinds s (stage - 1)) (h.cut_before some));
 }
 
 wrong_node : (s : Two) (stage n : ℕ) → HasWrongNode (here s) s.a stage n → HasWrongNode (there s) s.b stage n
@@ -242,10 +251,10 @@ kept_there s stage n node m column kept =
     (is_kept s stage (kind_at (here s) stage node) column kept)
 
 target_there : (s : Two) (stage n : ℕ) (node : Node) (m : Matches s stage n node) (column : List Sym)
-    → moved (here s) stage (kind_at (here s) stage node) column
-    ≡ moved (there s) stage (kind_at (there s) stage m.other) column
+    → next_kind (here s) stage (kind_at (here s) stage node) column
+    ≡ next_kind (there s) stage (kind_at (there s) stage m.other) column
 target_there s stage n node m column =
-    move s stage (kind_at (here s) stage node) column ∙ ap (λ k. moved (there s) stage k column) m.told
+    move s stage (kind_at (here s) stage node) column ∙ ap (λ k. next_kind (there s) stage k column) m.told
 
 tells : (s : Two) (stage : ℕ) (kind : Kind) (k l : PrefixKind) → k ≡ l → TellsKind (here s) stage kind k
     → TellsKind (there s) stage kind l
@@ -265,7 +274,7 @@ not_closed s stage n column missing h =
       kept = kept_there s stage n h.node m column h.kept;
       leads = tells s stage missing _ _ target h.leads;
       unlisted = λ p l. h.unlisted p (subst (λ k. Lists (here s) s.a.stages.items stage k p) (sym target)
-          (lists (turned s) stage (moved (there s) stage (kind_at (there s) stage m.other) column) p l));
+          (lists (turned s) stage (next_kind (there s) stage (kind_at (there s) stage m.other) column) p l));
     }
 
 high_potential : (s : Two) (stage n : ℕ) (column : List Sym) (listed allowed : ℕ)
@@ -278,7 +287,7 @@ high_potential s stage n column listed allowed h =
       kept = kept_there s stage n h.node m column h.kept;
       next = h.next;
       leads = subst (λ k. Lists (there s) s.b.stages.items stage k h.next) (target_there s stage n h.node m column)
-          (lists s stage (moved (here s) stage (kind_at (here s) stage h.node) column) h.next h.leads);
+          (lists s stage (next_kind (here s) stage (kind_at (here s) stage h.node) column) h.next h.leads);
       listed_is = h.listed_is ∙ m.potential;
       allowed_is = h.allowed_is ∙ ap (λ c. c + h.next) (cost s stage (kind_at (here s) stage h.node) column
           ∙ ap (λ k. cost_of (there s) stage k column) m.told);
@@ -414,8 +423,8 @@ kept_target s k column (Some m) h = (
   kept_at_end s k column h.0,
   subst (IsKindOfState (there s) s.b m)
       (move s (last_stage (here s)) k column
-      ∙ ap (λ r. moved (there s) r k column) (same_stage s))
-      (node_of s m (moved (here s) (last_stage (here s)) k column) h.1),
+      ∙ ap (λ r. next_kind (there s) r k column) (same_stage s))
+      (node_of s m (next_kind (here s) (last_stage (here s)) k column) h.1),
 )
 
 wrong_arcs : (s : Two) (state : ℕ) (column : List Sym) (listed kept : Option ℕ)

@@ -1,5 +1,6 @@
 -- Classes that are narrowed to the columns that fit a kind, tier by tier.
-use Rattle.std.proofs.Common.{◌≡◌, ℕ, ◌+◌, ◌<◌, ◌↔◌, Bool, true, false, not, ◌&&◌, ◌||◌, IsTrue, List, length, get_or, refl, ap, sym, ◌∙◌, arith, below_more}
+use Rattle.std.proofs.Common.{◌≡◌, ℕ, ◌+◌, ◌<◌, ◌↔◌, Bool, true, false, not, ◌&&◌, ◌||◌, IsTrue, List, length, get_or}
+use Rattle.std.proofs.Common.{refl, ap, sym, ◌∙◌, arith, below_more}
 use Rattle.std.proofs.lemmas.Bool.{and_parts, and_from}
 use Rattle.tier_core.specs.declared.sym.Sym.{Sym}
 use Rattle.tier_core.specs.declared.tier.TierKind.{TierKind}

@@ -1,8 +1,10 @@
 -- The columns that fit a kind, in pieces: those without an edge on the input tiers, and those that read
 -- a column of the form.
-use Rattle.std.proofs.Common.{◌≡◌, ◌↔◌, ◌⊎◌, ℕ, ◌+◌, ◌<◌, Bool, true, false, not, ◌&&◌, ◌||◌, IsTrue, List, [], length, refl, ap, sym, ◌∙◌, subst, arith, ⊎_elim, inl, inr, All}
+use Rattle.std.proofs.Common.{◌≡◌, ◌↔◌, ◌⊎◌, ℕ, ◌+◌, ◌<◌, Bool, true, false, not, ◌&&◌, ◌||◌, IsTrue, List, [], length}
+use Rattle.std.proofs.Common.{refl, ap, sym, ◌∙◌, subst, arith, ⊎_elim, inl, inr, All}
 use Rattle.std.specs.List.{AllByRecursion}
-use Rattle.std.proofs.lemmas.Bool.{both_ways, and_parts, and_from, or_cases, or_left, or_right, and_right, not-true, false_from_ne_true, cases_Bool}
+use Rattle.std.proofs.lemmas.Bool.{both_ways, and_parts, and_from, or_cases, or_left, or_right, and_right, not-true}
+use Rattle.std.proofs.lemmas.Bool.{false_from_ne_true, cases_Bool}
 use Rattle.tier_core.specs.declared.class.Class.{Class}
 use Rattle.tier_core.specs.declared.sym.Sym.{Sym}
 use Rattle.tier_core.specs.Classes.{sets_of, has}
@@ -81,7 +83,7 @@ module _ (problem : Problem) (k : PrefixKind) (coming still bare : Class) (mask 
       let w = width_of_column column parts.0 in
       let edge : has_edge column ≡ true = ⊎_elim (λ y. y)
       (λ none. absurd (both_ways (has bare column) (not-true (has bare column)
-          (and_parts (has still column) (not (has bare column)) h).1)
+      (and_parts (has still column) (not (has bare column)) h).1)
       ((has_bare column w).1 (λ t l. ap not (each_edgeless column none t (omega (arith, w, l)))))))
       (cases_Bool (has_edge column)) in
       fits_column column parts.0 edge (inl (not-true (is_read column) parts.1))
@@ -89,7 +91,7 @@ module _ (problem : Problem) (k : PrefixKind) (coming still bare : Class) (mask 
   read_here : (column : List Sym) → has coming column ≡ true → is_reading column ≡ true → is_read column ≡ true
   read_here column f h = ⊎_elim (λ y. y)
       (λ none. absurd (both_ways (has still column) (not-true (has still column)
-          (and_parts (reads column) (not (has still column)) h).1)
+      (and_parts (reads column) (not (has still column)) h).1)
       (has_still column ∙ and_from (has coming column) (not (is_read column)) f (ap not none))))
       (cases_Bool (is_read column))
 
@@ -141,7 +143,7 @@ module _ (problem : Problem) (k : PrefixKind) (coming still bare : Class) (mask 
         (adds_constant problem.tiers.width one two is_reading is_read true
         (subst (λ n. AddsClasses n one two (λ column. once_if (is_reading column))) also second)
         (λ column h. read_here column ((has_read column).0
-            (and_parts (reads column) (not (has still column)) h).0).0 h))
+        (and_parts (reads column) (not (has still column)) h).0).0 h))
         (λ column. refl)
 
     all : AddsClasses problem.tiers.width [] two (λ column. once_if (holds column))

@@ -1,6 +1,7 @@
 -- Columns that no constraint of a stage tells apart go on alike up to this stage; and tests that are put
 -- one behind the other.
-use Rattle.std.proofs.Common.{◌≡◌, ℕ, ◌+◌, ◌-◌, ◌<◌, ◌≤◌, Bool, cond, List, [], ◌∷◌, ◌++◌, length, map, take, filter, get_or, sym, ap, ap₂, ◌∙◌, subst, append_assoc, append-nil, below_more}
+use Rattle.std.proofs.Common.{◌≡◌, ℕ, ◌+◌, ◌-◌, ◌<◌, ◌≤◌, Bool, cond, List, [], ◌∷◌, ◌++◌, length, map, take, filter}
+use Rattle.std.proofs.Common.{get_or, sym, ap, ap₂, ◌∙◌, subst, append_assoc, append-nil, below_more}
 use Rattle.std.specs.List.{AllByRecursion}
 use Rattle.std.proofs.lemmas.List.{take-take}
 use Rattle.std.proofs.lemmas.List.Elements.{All-from_recursion, recursion_from_All, All-append}
@@ -11,7 +12,7 @@ use Rattle.tier_core.specs.Kinds.{Phase, PrefixKind}
 use Rattle.tier_core.specs.Scan.{opens}
 use Rattle.tier_core.specs.Sides.{is_stretch}
 use Rattle.tier_core.specs.Timelines.{symbol, has_edge}
-use Rattle.violation.specs.Moves.{input_of, is_tier_open, next_phases, moved, cost_of}
+use Rattle.violation.specs.Moves.{input_of, is_tier_open, next_phases, next_kind, cost_of}
 use Rattle.violation.specs.Prefixes.{stretches}
 use Rattle.violation.specs.Problems.{Problem}
 use Rattle.violation.proofs.TierLemmas.{map_agree}
@@ -85,7 +86,7 @@ module _ (problem : Problem) (stage : ℕ) (below : AllByRecursion (λ t. t < pr
     (c d : List Sym) (edge : has_edge (input_of problem.tiers c) ≡ has_edge (input_of problem.tiers d))
     (opened : OpenAlike problem.tiers.width c d)
     (alike : AllByRecursion (λ x. AreAlikeFor x c d) (take stage problem.constraints)) where
-  moves : (r : ℕ) (k : PrefixKind) → r ≤ stage → moved problem r k c ≡ moved problem r k d
+  moves : (r : ℕ) (k : PrefixKind) → r ≤ stage → next_kind problem r k c ≡ next_kind problem r k d
   moves r k l =
       let first : AllByRecursion (IsNextAlike c d) (stretches problem r) =
       subst (λ xs. AllByRecursion (IsNextAlike c d) (filter is_stretch xs)) (take-take r stage problem.constraints l)

@@ -1,5 +1,6 @@
 -- The pieces of a kind's kept moves: what is left of its columns, with the kind to which each leads.
-use Rattle.std.proofs.Common.{◌≡◌, ℕ, ◌+◌, ◌<◌, ◌≤◌, IsTrue, List, [], ◌∷◌, ◌++◌, length, take, get_or, refl, sym, ap, ap₂, ◌∙◌, subst, arith, All}
+use Rattle.std.proofs.Common.{◌≡◌, ℕ, ◌+◌, ◌<◌, ◌≤◌, IsTrue, List, [], ◌∷◌, ◌++◌, length, take, get_or, refl, sym, ap}
+use Rattle.std.proofs.Common.{ap₂, ◌∙◌, subst, arith, All}
 use Rattle.std.proofs.lemmas.List.{map-append, take_all, take_more}
 use Rattle.std.proofs.lemmas.List.Elements.{All-from_recursion, All-push}
 use Rattle.tier_core.specs.declared.class.Class.{Class}
@@ -7,19 +8,19 @@ use Rattle.tier_core.specs.declared.sym.Sym.{Sym}
 use Rattle.tier_core.specs.Classes.{has}
 use Rattle.tier_core.specs.Kinds.{PrefixKind}
 use Rattle.symbol_class.specs.Held.{some_has, ArePieces}
-use Rattle.violation.specs.Moves.{moved, cost_of}
+use Rattle.violation.specs.Moves.{next_kind, cost_of}
 use Rattle.violation.specs.Problems.{Problem}
 use Rattle.answer_text.specs.declared.stage.Stage.{Stage}
 use Rattle.cert_check.specs.declared.kept_piece.KeptPiece.{KeptPiece}
 use Rattle.cert_check.specs.Faults.{TellsKind}
 use Rattle.cert_check.specs.Fitting.{IsGoingAlike}
-use Rattle.cert_check.specs.Kept.{classes_of, IsKeptPiece, AddsKept, AreKept, AreKeptOf}
+use Rattle.cert_check.specs.Kept.{kept_classes, IsKeptPiece, AddsKept, AreKeptPieces, AreKeptOf}
 use Rattle.cert_check.specs.Pruned.{ArePruned}
 
 module _ (problem : Problem) (stage : ℕ) (k : PrefixKind) where
   pub adds_kept : (class : Class) (column : List Sym) (old new : List KeptPiece) (piece : KeptPiece)
       → IsGoingAlike problem stage class → IsTrue (has class column) → new ≡ old ++ piece ∷ [] → piece.class ≡ class
-      → TellsKind problem stage piece.target (moved problem stage k column)
+      → TellsKind problem stage piece.target (next_kind problem stage k column)
       → cost_of problem stage k column ≡ piece.cost → piece.cost ≤ 1 → AddsKept problem stage k class old new
   adds_kept class column old new piece alike held e same tells costs few = record {
     piece = piece;
@@ -40,11 +41,12 @@ module _ (problem : Problem) (stage : ℕ) (k : PrefixKind) where
   kept_of_none kept e = subst (AreKeptOf problem stage k []) (sym e)
       (record { same_classes = refl; each = All-from_recursion (IsKeptPiece problem stage k) [] tt })
 
-  pub kept_of_more : (classes : List Class) (n : ℕ) (class : Class) → n < length classes → class ≡ get_or classes n class
+  pub kept_of_more : (classes : List Class) (n : ℕ) (class : Class) → n < length classes
+      → class ≡ get_or classes n class
       → (old new : List KeptPiece) → AreKeptOf problem stage k (take n classes) old
       → AddsKept problem stage k class old new → AreKeptOf problem stage k (take (n + 1) classes) new
   kept_of_more classes n class inside is old new so_far a = record {
-    same_classes = ap classes_of a.new_is ∙ map-append (λ (p : KeptPiece). p.class) old (a.piece ∷ [])
+    same_classes = ap kept_classes a.new_is ∙ map-append (λ (p : KeptPiece). p.class) old (a.piece ∷ [])
         ∙ ap₂ (λ (front : List Class) (last : Class). front ++ last ∷ []) so_far.same_classes (a.same_class ∙ is)
         ∙ sym (take_more classes n class inside);
     each = subst (All (IsKeptPiece problem stage k)) (sym a.new_is)
@@ -58,7 +60,7 @@ module _ (problem : Problem) (stage : ℕ) (k : PrefixKind) where
   -- what is left of a kind's columns, in pieces, is what is kept
   pub kept_from_pruned : (stages : List Stage) (below : ℕ) (classes : List Class) (kept : List KeptPiece)
       → below ≤ stage + 1 → ArePruned problem stages below stage k classes → AreKeptOf problem stage k classes kept
-      → AreKept problem stages stage below k kept
+      → AreKeptPieces problem stages stage below k kept
   kept_from_pruned stages below classes kept l a o = record {
     pieces = subst (ArePieces problem.tiers.width) (sym o.same_classes) a.pieces;
     columns = λ column. (

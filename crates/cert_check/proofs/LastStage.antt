@@ -1,6 +1,7 @@
 -- What is known of the last stage when a state is looked at: its kinds ascend, the place of the state's node
 -- is in the form, and each kept move of the node leads to a kind that is listed.
-use Rattle.std.proofs.Common.{◌≡◌, ℕ, ◌+◌, ◌^◌, ◌<◌, ◌≤◌, ◌⊎◌, List, [], ◌∷◌, get_or, refl, sym, subst, arith, inl, inr, All, Contains}
+use Rattle.std.proofs.Common.{◌≡◌, ℕ, ◌+◌, ◌^◌, ◌<◌, ◌≤◌, ◌⊎◌, List, [], ◌∷◌, get_or, refl, sym, subst, arith, inl, inr}
+use Rattle.std.proofs.Common.{All, Contains}
 use Rattle.std.proofs.lemmas.List.{get_or_default}
 use Rattle.tier_core.specs.declared.kind.Kind.{Kind}
 use Rattle.tier_core.specs.declared.sym.Sym.{Sym}
@@ -8,7 +9,7 @@ use Rattle.tier_core.specs.KindShapes.{free_count, stretch_count}
 use Rattle.tier_core.specs.Kinds.{AreStretchesBelow}
 use Rattle.tier_core.specs.FirstColumn.{first_column}
 use Rattle.tier_core.proofs.Filled.{has-first_column}
-use Rattle.violation.specs.Moves.{moved}
+use Rattle.violation.specs.Moves.{next_kind}
 use Rattle.violation.specs.Prefixes.{kind_of_bits}
 use Rattle.violation.specs.Problems.{Problem, last_place, last_stage}
 use Rattle.answer_text.specs.declared.automaton.StateLine.{StateLine}
@@ -18,11 +19,11 @@ use Rattle.check_laws.proofs.Listing.{lists_kind}
 use Rattle.cert_check.specs.declared.kept_piece.KeptPiece.{KeptPiece}
 use Rattle.cert_check.specs.declared.subject.Subject.{Subject}
 use Rattle.cert_check.specs.Faults.{TellsKind, IsUnlisted}
-use Rattle.cert_check.specs.Kept.{AreKept}
+use Rattle.cert_check.specs.Kept.{AreKeptPieces}
 use Rattle.cert_check.specs.KeptArcs.{IsTargetListed}
 use Rattle.cert_check.specs.Places.{column_place}
-use Rattle.cert_check.specs.States.{IsStaged, IsStateAt, last_kind}
-use Rattle.cert_check.specs.Subjects.{AscendsAt, problem_of, kinds_of}
+use Rattle.cert_check.specs.States.{IsRightBeforeStates, IsStateAt, last_kind}
+use Rattle.cert_check.specs.Subjects.{AscendsAt, problem_of, stage_kinds}
 use Rattle.cert_check.proofs.Ascending.{ascends_unless}
 use Rattle.cert_check.proofs.Decisions.{so_unless, at_most}
 use Rattle.cert_check.proofs.DecidedMoves.{is_listed}
@@ -30,7 +31,7 @@ use Rattle.cert_check.proofs.NodeSteps.{piece_filled, piece_kept, piece_told}
 use Rattle.cert_check.proofs.StateSubjects.{node_fits}
 use Rattle.cert_check.proofs.Subjects.{in_stages, free_same, stretch_same}
 
-module _ (s : Subject) (staged : IsStaged s) where
+module _ (s : Subject) (staged : IsRightBeforeStates s) where
   abbrev problem : Problem
   problem = problem_of s
 
@@ -75,18 +76,18 @@ module _ (s : Subject) (staged : IsStaged s) where
         (kept : IsKeptBelow (problem_of s) s.answer.now.stages.items (last_stage (problem_of s) + 1) (last_kind s node)
         column)
         (tells : TellsKind (problem_of s) (last_stage (problem_of s)) target
-        (moved (problem_of s) (last_stage (problem_of s)) (last_kind s node) column)) where
-      listed_told : Contains (kinds_of s (last_stage (problem_of s)))
-          (moved (problem_of s) (last_stage (problem_of s)) (last_kind s node) column)
+        (next_kind (problem_of s) (last_stage (problem_of s)) (last_kind s node) column)) where
+      listed_told : Contains (stage_kinds s (last_stage (problem_of s)))
+          (next_kind (problem_of s) (last_stage (problem_of s)) (last_kind s node) column)
       listed_told = own (is_listed problem s.answer.now.stages.items last
-          (moved problem last (last_kind s node) column))
+          (next_kind problem last (last_kind s node) column))
         where
           own : ((p : ℕ) × Lists problem s.answer.now.stages.items last
-              (moved problem last (last_kind s node) column) p)
-              ⊎ IsUnlisted problem s.answer.now.stages.items last (moved problem last (last_kind s node) column)
-              → Contains (kinds_of s last) (moved problem last (last_kind s node) column)
+              (next_kind problem last (last_kind s node) column) p)
+              ⊎ IsUnlisted problem s.answer.now.stages.items last (next_kind problem last (last_kind s node) column)
+              → Contains (stage_kinds s last) (next_kind problem last (last_kind s node) column)
           own (inl h) = lists_kind problem last s.answer.now.stages.items
-              (moved problem last (last_kind s node) column) h.0 h.1
+              (next_kind problem last (last_kind s node) column) h.0 h.1
           own (inr none) = absurd (staged.right 4 (omega arith) (last ∷ 2 ∷ state.node ∷ 1 ∷ column_place column) (
             last,
             (
@@ -143,13 +144,14 @@ module _ (s : Subject) (staged : IsStaged s) where
               (subst (λ n. AreStretchesBelow n target) (sym (stretch_same s staged.ready last (omega arith)))
               tells.stretches);
         };
-        listed = subst (λ (k : Kind). Contains (kinds_of s last) (kind_of_bits problem last k)) (sym is)
-            (subst (Contains (kinds_of s last)) (sym tells.tells) listed_told);
+        listed = subst (λ (k : Kind). Contains (stage_kinds s last) (kind_of_bits problem last k)) (sym is)
+            (subst (Contains (stage_kinds s last)) (sym tells.tells) listed_told);
       }
 
     -- so do the pieces of its kept moves
     pub targets_listed : (pieces : List KeptPiece)
-        → AreKept (problem_of s) s.answer.now.stages.items (last_stage (problem_of s)) (last_stage (problem_of s) + 1)
+        → AreKeptPieces (problem_of s) s.answer.now.stages.items (last_stage (problem_of s))
+        (last_stage (problem_of s) + 1)
         (last_kind s node) pieces → All (IsTargetListed s (last_stage (problem_of s))) pieces
     targets_listed pieces kept i d l =
         let stages = s.answer.now.stages.items in

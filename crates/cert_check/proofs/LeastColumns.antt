@@ -1,5 +1,7 @@
 -- The least column of some classes.
-use Rattle.std.proofs.Common.{◌≡◌, ℕ, ◌+◌, ◌<◌, ◌==◌, ◌||◌, ◌⊎◌, true, false, cond, IsTrue, List, [], ◌∷◌, take, length, get_or, refl, sym, ap, ◌∙◌, subst, arith, inl, inr, Some, None, Option, MatchOption, true≢false}
+use Rattle.std.proofs.Common.{◌≡◌, ℕ, ◌+◌, ◌<◌, ◌==◌, ◌||◌, ◌⊎◌, true, false, cond, IsTrue, List, [], ◌∷◌, take, length}
+use Rattle.std.proofs.Common.{get_or, refl, sym, ap, ◌∙◌, subst, arith, inl, inr, Some, None, Option, MatchOption}
+use Rattle.std.proofs.Common.{true≢false}
 use Rattle.std.specs.Ordering.{is_gt, nat_cmp, ordering_then, ordering_reverse}
 use Rattle.std.specs.Cmp.{IsTotalOrder}
 use Rattle.std.proofs.lemmas.Cmp.{nat_cmp_total, lists_total, on_total, tied_itself}

@@ -1,5 +1,6 @@
 -- The kind to which a column leads, by its bits, and what a column costs.
-use Rattle.std.proofs.Common.{◌≡◌, ℕ, ◌+◌, ◌-◌, ◌^◌, ◌<◌, ◌≤◌, Bool, cond, List, ◌++◌, filter, map, drop, take, length, get_or, sym, ap, ◌∙◌, subst, arith, length-take}
+use Rattle.std.proofs.Common.{◌≡◌, ℕ, ◌+◌, ◌-◌, ◌^◌, ◌<◌, ◌≤◌, Bool, cond, List, ◌++◌, filter, map, drop, take, length}
+use Rattle.std.proofs.Common.{get_or, sym, ap, ◌∙◌, subst, arith, length-take}
 use Rattle.std.proofs.lemmas.List.{get_or-take, get_or_default, take-take}
 use Rattle.std.proofs.lemmas.List.Elements.{All-from_recursion}
 use Rattle.tier_core.specs.declared.constraint.Constraint.{Constraint}
@@ -13,7 +14,7 @@ use Rattle.tier_core.specs.Tiers.{has_tier}
 use Rattle.tier_core.specs.Timelines.{symbol, has_edge}
 use Rattle.tier_core.proofs.CountLemmas.{all_append}
 use Rattle.violation.specs.Conditions.{IsOverTiers}
-use Rattle.violation.specs.Moves.{cost_of, costs, first_phase, is_tier_open, is_unmet_phase, moved, next_phases}
+use Rattle.violation.specs.Moves.{cost_of, costs, first_phase, is_tier_open, is_unmet_phase, next_kind, next_phases}
 use Rattle.violation.specs.Prefixes.{kind_of_bits, stretches}
 use Rattle.violation.specs.Problems.{Problem, last_place, last_stage}
 use Rattle.violation.proofs.ConstraintCosts.{cost_at, unmet_told}
@@ -35,7 +36,7 @@ pub moved_told : (problem : Problem) (stage : ℕ) (kind result : Kind) (column 
     → phases (length (filter is_stretch first)) result
     ≡ next_phases (filter is_stretch first) (phases (length (filter is_stretch first)) kind) column
     → AreStretchesBelow (length (filter is_stretch first)) result
-    → TellsKind problem stage result (moved problem stage (kind_of_bits problem stage kind) column)
+    → TellsKind problem stage result (next_kind problem stage (kind_of_bits problem stage kind) column)
 moved_told problem stage kind result column input free first place opened ei ef ec p q o f l ph st = record {
   tells = same_parts _ _ _ _ _ _ (p ∙ q ∙ ap (λ ts. kind.place + cond (has_edge (map (symbol column) ts)) 1 0) ei)
       (ap (open_tiers (length problem.tiers.free)) o ∙ ap (λ (ts : List ℕ). open_tiers (length ts) opened) (sym ef) ∙ f

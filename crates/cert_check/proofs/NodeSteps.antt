@@ -1,5 +1,6 @@
 -- The faults of one node: of its potential, and of its moves.
-use Rattle.std.proofs.Common.{◌≡◌, ◌≢◌, ℕ, zero, suc, ◌+◌, ◌<◌, ◌≤◌, true, false, IsTrue, List, [], ◌∷◌, length, get_or, refl, sym, ap, ◌∙◌, subst, arith, ⊎_elim, inl, inr}
+use Rattle.std.proofs.Common.{◌≡◌, ◌≢◌, ℕ, zero, suc, ◌+◌, ◌<◌, ◌≤◌, true, false, IsTrue, List, [], ◌∷◌, length, get_or}
+use Rattle.std.proofs.Common.{refl, sym, ap, ◌∙◌, subst, arith, ⊎_elim, inl, inr}
 use Rattle.std.specs.List.Sorted.{IsStrictlySortedBy}
 use Rattle.std.proofs.lemmas.Bool.{cases_lt, false≢true, both_ways, or_cases}
 use Rattle.std.proofs.lemmas.List.{get_or_default, get_or-map, length-map}
@@ -13,7 +14,7 @@ use Rattle.tier_core.specs.Filled.{is_filled}
 use Rattle.tier_core.specs.FirstColumn.{first_column}
 use Rattle.symbol_class.specs.Held.{some_has}
 use Rattle.tier_core.proofs.Filled.{has-first_column, first_column_least}
-use Rattle.violation.specs.Moves.{moved, cost_of, is_final}
+use Rattle.violation.specs.Moves.{next_kind, cost_of, is_final}
 use Rattle.violation.specs.Prefixes.{kind_of_bits}
 use Rattle.violation.specs.Problems.{Problem}
 use Rattle.answer_text.specs.declared.answer.Answer.{Answer}
@@ -26,8 +27,9 @@ use Rattle.cert_check.specs.declared.fault.Fault.{Fault}
 use Rattle.cert_check.specs.declared.fault.Fault.TheVariants.{FinalPotential, NotClosed, Potential}
 use Rattle.cert_check.specs.Faults.{HasNode, IsNotClosed, HasHighPotential, IsUnlisted, TellsKind}
 use Rattle.cert_check.specs.declared.kept_piece.KeptPiece.{KeptPiece}
-use Rattle.cert_check.specs.Kept.{AreKept, IsKeptPiece, classes_of}
-use Rattle.cert_check.specs.Nodes.{IsRightNode, IsRightPart, IsFirstInNode, IsMoveFault, AreWrongOn, AreRightOn, IsNotAfter, IsLeastWrong}
+use Rattle.cert_check.specs.Kept.{AreKeptPieces, IsKeptPiece, kept_classes}
+use Rattle.cert_check.specs.Nodes.{IsRightNode, IsRightPart, IsFirstInNode, IsMoveFault, AreWrongOn, AreRightOn}
+use Rattle.cert_check.specs.Nodes.{IsNotAfter, IsLeastWrong}
 use Rattle.cert_check.specs.Parts.{InNode, IsWrongMove}
 use Rattle.cert_check.specs.Places.{IsBefore, column_place}
 use Rattle.cert_check.proofs.ColumnPlaces.{before_or, not_both_before, not_after_is}
@@ -67,7 +69,7 @@ module _ (problem : Problem) (answer : Answer) (stage n : ℕ) (node : Node) (is
       (kept : (column : List Sym) → IsTrue (has class column)
       → IsKeptBelow problem answer.stages.items stage (kind_of_bits problem stage node.kind) column)
       (leads : (column : List Sym) → IsTrue (has class column)
-      → TellsKind problem stage target (moved problem stage (kind_of_bits problem stage node.kind) column))
+      → TellsKind problem stage target (next_kind problem stage (kind_of_bits problem stage node.kind) column))
       (costs : (column : List Sym) → IsTrue (has class column)
       → cost_of problem stage (kind_of_bits problem stage node.kind) column ≡ cost) where
     pub not_closed : IsUnlisted problem answer.stages.items stage (kind_of_bits problem stage target)
@@ -85,7 +87,7 @@ module _ (problem : Problem) (answer : Answer) (stage n : ℕ) (node : Node) (is
     module _ (next : ℕ) (lists : Lists problem answer.stages.items stage (kind_of_bits problem stage target) next) where
       listed_at : (column : List Sym) → IsTrue (has class column)
           → Lists problem answer.stages.items stage
-          (moved problem stage (kind_of_bits problem stage node.kind) column) next
+          (next_kind problem stage (kind_of_bits problem stage node.kind) column) next
       listed_at column h = subst (λ k. Lists problem answer.stages.items stage k next) (leads column h).tells lists
 
       pub too_high : cost + next < node.potential
@@ -108,17 +110,17 @@ module _ (problem : Problem) (answer : Answer) (stage n : ℕ) (node : Node) (is
       none_wrong ascends low column h (inl w) =
           let f = w.1 in
           f.unlisted next (subst (λ (x : Node). Lists problem answer.stages.items stage
-          (moved problem stage (kind_of_bits problem stage x.kind) column) next)
+          (next_kind problem stage (kind_of_bits problem stage x.kind) column) next)
           (one_node answer stage n node f.node is f.is) (listed_at column h))
       none_wrong ascends low column h (inr w) =
           let f = w.1.1 in
           let same : f.node ≡ node = one_node answer stage n f.node node f.is is in
           let to : Lists problem answer.stages.items stage
-          (moved problem stage (kind_of_bits problem stage node.kind) column) f.next =
+          (next_kind problem stage (kind_of_bits problem stage node.kind) column) f.next =
           subst (λ (x : Node). Lists problem answer.stages.items stage
-          (moved problem stage (kind_of_bits problem stage x.kind) column) f.next) same f.leads in
+          (next_kind problem stage (kind_of_bits problem stage x.kind) column) f.next) same f.leads in
           let one : f.next ≡ next = one_potential problem stage answer.stages.items ascends
-          (moved problem stage (kind_of_bits problem stage node.kind) column) f.next next to (listed_at column h) in
+          (next_kind problem stage (kind_of_bits problem stage node.kind) column) f.next next to (listed_at column h) in
           let here : cost_of problem stage (kind_of_bits problem stage f.node.kind) column ≡ cost =
           ap (λ (x : Node). cost_of problem stage (kind_of_bits problem stage x.kind) column) same ∙ costs column h in
           let potential : f.node.potential ≡ node.potential = ap (λ (x : Node). x.potential) same in
@@ -309,12 +311,12 @@ never_none problem answer stage n classes best count least class some e filled r
 -- ---- the pieces that are kept
 
 module _ (problem : Problem) (stages : List Stage) (stage below : ℕ) (k : PrefixKind) (pieces : List KeptPiece)
-    (kept : AreKept problem stages stage below k pieces) (n : ℕ) (piece : KeptPiece) (inside : n < length pieces)
+    (kept : AreKeptPieces problem stages stage below k pieces) (n : ℕ) (piece : KeptPiece) (inside : n < length pieces)
     (is : piece ≡ get_or pieces n piece) where
-  pub piece_within : n < length (classes_of pieces)
+  pub piece_within : n < length (kept_classes pieces)
   piece_within = omega (arith, inside, length-map pieces (λ (p : KeptPiece). p.class))
 
-  pub piece_class : piece.class ≡ get_or (classes_of pieces) n piece.class
+  pub piece_class : piece.class ≡ get_or (kept_classes pieces) n piece.class
   piece_class = ap (λ (p : KeptPiece). p.class) is
       ∙ sym (get_or-map (λ (p : KeptPiece). p.class) pieces n piece piece.class inside)
 
@@ -324,7 +326,7 @@ module _ (problem : Problem) (stages : List Stage) (stage below : ℕ) (k : Pref
 
   pub piece_kept : (column : List Sym) → IsTrue (has piece.class column) → IsKeptBelow problem stages below k column
   piece_kept column h = (kept.columns column).0
-      (list_any_at (λ class. has class column) (classes_of pieces) n piece.class piece_within
+      (list_any_at (λ class. has class column) (kept_classes pieces) n piece.class piece_within
       (ap (λ class. has class column) (sym piece_class) ∙ h))
 
   pub piece_told : IsKeptPiece problem stage k piece

@@ -1,5 +1,6 @@
 -- Two faults that come first are one.
-use Rattle.std.proofs.Common.{◌≡◌, ℕ, zero, suc, ◌+◌, ◌<◌, ◌⊎◌, Bool, IsTrue, List, [], ◌∷◌, length, get_or, slice_get, Some, None, Option, refl, sym, ap, ap₂, ◌∙◌, subst, arith, inl, inr, Contains}
+use Rattle.std.proofs.Common.{◌≡◌, ℕ, zero, suc, ◌+◌, ◌<◌, ◌⊎◌, Bool, IsTrue, List, [], ◌∷◌, length, get_or, slice_get}
+use Rattle.std.proofs.Common.{Some, None, Option, refl, sym, ap, ap₂, ◌∙◌, subst, arith, inl, inr, Contains}
 use Rattle.std.specs.List.Sorted.{IsStrictlySortedBy}
 use Rattle.std.proofs.lemmas.Bool.{cases_eq, cases_order}
 use Rattle.std.proofs.lemmas.Option.{slice_get-get_or}
@@ -9,7 +10,7 @@ use Rattle.tier_core.specs.Classes.{has}
 use Rattle.tier_core.specs.Kinds.{PrefixKind, kind_order}
 use Rattle.tier_core.specs.Symbols.{rank}
 use Rattle.tier_core.proofs.SetLemmas.{rank_same}
-use Rattle.violation.specs.Moves.{moved, cost_of}
+use Rattle.violation.specs.Moves.{next_kind, cost_of}
 use Rattle.violation.specs.Prefixes.{kind_of_bits}
 use Rattle.violation.specs.Problems.{Problem, last_stage}
 use Rattle.answer_text.specs.declared.stage.Node.{Node}
@@ -21,9 +22,14 @@ use Rattle.answer_text.specs.Certified.{Lists, AreStatesInOrder}
 use Rattle.check_laws.proofs.Leading.{one_state}
 use Rattle.check_laws.proofs.Listing.{one_potential, one_number, one_kind}
 use Rattle.cert_check.specs.declared.fault.Fault.{Fault}
-use Rattle.cert_check.specs.declared.fault.Fault.TheVariants.{FormWrong, StageMissing, ExampleWrong, CountsDiffer, NodeWrong, StartMissing, FinalPotential, NotClosed, Potential, StartPotential, StateMissing, FinalsDiffer, ArcsTwice, ArcsDiffer}
+use Rattle.cert_check.specs.declared.fault.Fault.TheVariants.{FormWrong, StageMissing, ExampleWrong, CountsDiffer}
+use Rattle.cert_check.specs.declared.fault.Fault.TheVariants.{NodeWrong, StartMissing, FinalPotential, NotClosed}
+use Rattle.cert_check.specs.declared.fault.Fault.TheVariants.{Potential, StartPotential, StateMissing, FinalsDiffer}
+use Rattle.cert_check.specs.declared.fault.Fault.TheVariants.{ArcsTwice, ArcsDiffer}
 use Rattle.cert_check.specs.Places.{IsBefore, column_place, at_node, at_move, at_twice, at_arcs}
-use Rattle.cert_check.specs.Faults.{LacksStage, HasWrongCount, HasNode, HasWrongNode, HasFinalPotential, IsNotClosed, HasHighPotential, HasWrongStart, HasState, LacksTarget, HasWrongMark, HasTwice, IsListedTarget, IsKeptTarget, HasWrongArcs, TellsKind}
+use Rattle.cert_check.specs.Faults.{LacksStage, HasWrongCount, HasNode, HasWrongNode, HasFinalPotential, IsNotClosed}
+use Rattle.cert_check.specs.Faults.{HasHighPotential, HasWrongStart, HasState, LacksTarget, HasWrongMark, HasTwice}
+use Rattle.cert_check.specs.Faults.{IsListedTarget, IsKeptTarget, HasWrongArcs, TellsKind}
 use Rattle.cert_check.specs.FirstFaults.{IsFault, IsFirstFault}
 use Rattle.cert_check.proofs.Decisions.{so_unless}
 use Rattle.cert_check.proofs.Faultless.{some_same}
@@ -190,7 +196,7 @@ module _ (problem : Problem) (answer : Answer) where
   -- of a node's moves on a column
   module _ (stage n : ℕ) (column : List Sym) where
     abbrev next : Node → PrefixKind
-    next node = moved problem stage (kind_of_bits problem stage node.kind) column
+    next node = next_kind problem stage (kind_of_bits problem stage node.kind) column
 
     one_missing : (kind other : Kind) → IsNotClosed problem answer stage n column kind
         → IsNotClosed problem answer stage n column other → kind ≡ other
@@ -318,7 +324,7 @@ module _ (problem : Problem) (answer : Answer) where
     one_kept ascending k column (Some m) None a b = absurd (b a.0)
     one_kept ascending k column (Some m) (Some n) a b = ap (λ (x : ℕ). Some x)
         (one_number problem (nodes_at answer.stages.items (last_stage problem)) ascending
-        (moved problem (last_stage problem) k column) m n a.1 b.1)
+        (next_kind problem (last_stage problem) k column) m n a.1 b.1)
 
     one_arcs : IsStrictlySortedBy kind_order
         (kinds_at problem (last_stage problem) (nodes_at answer.stages.items (last_stage problem)))

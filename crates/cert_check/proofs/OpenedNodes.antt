@@ -6,15 +6,15 @@ use Rattle.violation.specs.Problems.{last_stage}
 use Rattle.answer_text.specs.declared.stage.Node.{Node}
 use Rattle.cert_check.specs.declared.subject.Subject.{Subject}
 use Rattle.cert_check.specs.Faults.{HasNode}
-use Rattle.cert_check.specs.Subjects.{IsReady, problem_of, nodes_of}
+use Rattle.cert_check.specs.Subjects.{IsReady, problem_of, stage_nodes}
 use Rattle.cert_check.proofs.Subjects.{fits_at, free_same}
 
 -- no bit is set from the number of free tiers on
 pub node_opened : (s : Subject) (stage : ℕ) → IsReady s → stage ≤ last_stage (problem_of s) → (n : ℕ) (node : Node)
     → HasNode s.answer.now stage n node → node.kind.opened < 2 ^ length (problem_of s).tiers.free
 node_opened s stage ready within n node h =
-    let fits = fits_at s ready stage within n node (slice_get_within (nodes_of s stage) n node h.numbered) in
-    let here : get_or (nodes_of s stage) n node ≡ node = get_or_from_slice_get
-    (nodes_of s stage) n node node h.numbered in
+    let fits = fits_at s ready stage within n node (slice_get_within (stage_nodes s stage) n node h.numbered) in
+    let here : get_or (stage_nodes s stage) n node ≡ node = get_or_from_slice_get
+    (stage_nodes s stage) n node node h.numbered in
     subst (λ m. node.kind.opened < 2 ^ m) (free_same s ready stage within)
     (subst (λ (x : Node). x.kind.opened < 2 ^ free_count s.shape.now) here fits.opened)

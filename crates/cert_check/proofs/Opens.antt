@@ -1,5 +1,6 @@
 -- Which tiers are open at a kind: by the flags of the input tiers and of the free tiers.
-use Rattle.std.proofs.Common.{◌≡◌, ℕ, zero, suc, ◌+◌, ◌-◌, ◌==◌, ◌<◌, ◌≤◌, ◌||◌, not, Bool, true, false, cond, List, [], ◌∷◌, ◌++◌, take, filter, length, get_or, refl, ap, ◌∙◌, arith, eq-eqb, ne_eqb}
+use Rattle.std.proofs.Common.{◌≡◌, ℕ, zero, suc, ◌+◌, ◌-◌, ◌==◌, ◌<◌, ◌≤◌, ◌||◌, not, Bool, true, false, cond, List, []}
+use Rattle.std.proofs.Common.{◌∷◌, ◌++◌, take, filter, length, get_or, refl, ap, ◌∙◌, arith, eq-eqb, ne_eqb}
 use Rattle.std.proofs.lemmas.List.{length-map, get_or-map, take_all}
 use Rattle.std.proofs.lemmas.List.Filters.{length-filter_more}
 use Rattle.std.proofs.lemmas.List.FromFn.{get_or-map-range_with_len}
@@ -10,7 +11,7 @@ use Rattle.tier_core.specs.Tiers.{is_input, is_free, kind_at, has_tier, numbers_
 use Rattle.tier_core.specs.Kinds.{open_tiers}
 use Rattle.tier_core.specs.Scan.{opens}
 use Rattle.tier_core.specs.Tables.{tiers_of_table}
-use Rattle.tier_core.specs.Timelines.{word, symbol, IsWellFormed}
+use Rattle.tier_core.specs.Timelines.{tier_word, symbol, IsWellFormed}
 use Rattle.tier_core.specs.declared.sym.Sym.TheVariants.{Outside}
 use Rattle.tier_core.specs.declared.kind.Kind.{Kind}
 use Rattle.tier_core.specs.declared.constraint.Constraint.{Constraint}
@@ -20,7 +21,7 @@ use Rattle.tier_core.proofs.WordForm.{runs_from_well_formed}
 use Rattle.violation.specs.Candidates.{IsForm}
 use Rattle.violation.specs.Moves.{flag_of, form_opened, is_tier_open}
 use Rattle.violation.specs.Prefixes.{is_open, kind_of_bits}
-use Rattle.violation.specs.Problems.{asked}
+use Rattle.violation.specs.Problems.{problem_from}
 use Rattle.violation.proofs.OpenLemmas.{prefix_open, take_word}
 use Rattle.cert_check.specs.Opens.{is_open_before, inputs_before, is_open_by}
 
@@ -139,13 +140,13 @@ flag_cases false x false = refl
 
 -- an input tier is open after the columns of a form where its symbol in the last of these opens it
 form_open : (width : ℕ) (u : List (List Sym)) (place j : ℕ) → IsWellFormed width u → j < width → place ≤ length u
-    → is_open (word (take place u) j) ≡ is_open_before u place j
+    → is_open (tier_word (take place u) j) ≡ is_open_before u place j
 form_open width u zero j form h l = refl
 form_open width u (suc p) j form h l =
-    let well = runs_from_well_formed (word u j) (form.each_tier j h) in
-    let size : length (word u j) ≡ length u = length-map u (λ (column : List Sym). symbol column j) in
-    ap is_open (take_word u (suc p) j) ∙ prefix_open (word u j) (suc p) well (omega (arith, size, l))
-    ∙ open_suc false (word u j) p (omega (arith, size, l))
+    let well = runs_from_well_formed (tier_word u j) (form.each_tier j h) in
+    let size : length (tier_word u j) ≡ length u = length-map u (λ (column : List Sym). symbol column j) in
+    ap is_open (take_word u (suc p) j) ∙ prefix_open (tier_word u j) (suc p) well (omega (arith, size, l))
+    ∙ open_suc false (tier_word u j) p (omega (arith, size, l))
     ∙ ap opens (get_or-map (λ column. symbol column j) u p [] Outside (omega (arith, l)))
 
 cond_where : (b x y : Bool) → (b ≡ true → x ≡ y) → cond b x false ≡ cond b y false
@@ -198,7 +199,7 @@ module _ (table : TierTable) (constraints : List Constraint) (u : List (List Sym
         ∙ cond_where (is_input (kind_at kinds t)) (get_or inputs (inputs_before kinds t) false) first (λ h.
         let below : inputs_before kinds t < length (numbers_from is_input 0 kinds) = omega
         (arith, inputs_in kinds t l h, length-numbers is_input 0 kinds) in
-        get_or-map-range_with_len (λ j. is_open (word (take kind.place u) j)) 0
+        get_or-map-range_with_len (λ j. is_open (tier_word (take kind.place u) j)) 0
         (length (numbers_from is_input 0 kinds)) (inputs_before kinds t) (inputs_before kinds t) false below
         (omega arith)
         ∙ form_open (length (numbers_from is_input 0 kinds)) u kind.place
@@ -217,7 +218,8 @@ module _ (table : TierTable) (constraints : List Constraint) (u : List (List Sym
         (t - inputs_before kinds t) (t - inputs_before kinds t) false below (omega arith))
 
     -- a tier is open at a kind as it is told tier by tier
-    pub open_told : is_tier_open (asked table constraints u) (kind_of_bits (asked table constraints u) stage kind) t
+    pub open_told : is_tier_open (problem_from table constraints u)
+        (kind_of_bits (problem_from table constraints u) stage kind) t
         ≡ is_open_by table.kinds.items u kind.place kind.opened t
     open_told =
         ap (λ b. b || flag_of (numbers_from is_free 0 kinds) frees t) input

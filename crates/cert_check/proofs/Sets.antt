@@ -1,5 +1,6 @@
 -- The set of all symbols.
-use Rattle.std.proofs.Common.{◌≡◌, ℕ, zero, suc, ◌≤◌, ◌&&◌, true, List, [], ◌∷◌, take, replicate, length, refl, ap₂, arith}
+use Rattle.std.proofs.Common.{◌≡◌, ℕ, zero, suc, ◌≤◌, ◌&&◌, true, List, [], ◌∷◌, take, replicate, length, refl, ap₂}
+use Rattle.std.proofs.Common.{arith}
 use Rattle.tier_core.specs.declared.sym.Sym.{Sym}
 use Rattle.tier_core.specs.Classes.{sets_have}
 use Rattle.tier_core.proofs.KnownSets.{in_all}

@@ -1,5 +1,6 @@
 -- The faults of a stage, node by node, and at last the potential of its start.
-use Rattle.std.proofs.Common.{◌≡◌, ◌≢◌, ℕ, zero, suc, ◌<◌, ◌≤◌, List, [], ◌∷◌, length, get_or, slice_get, Some, refl, sym, ap, ◌∙◌, subst, arith, inl, inr}
+use Rattle.std.proofs.Common.{◌≡◌, ◌≢◌, ℕ, zero, suc, ◌<◌, ◌≤◌, List, [], ◌∷◌, length, get_or, slice_get, Some, refl}
+use Rattle.std.proofs.Common.{sym, ap, ◌∙◌, subst, arith, inl, inr}
 use Rattle.std.proofs.lemmas.Option.{slice_get_within, slice_get-get_or, get_or_from_slice_get}
 use Rattle.std.proofs.lemmas.List.{length-map}
 use Rattle.tier_core.specs.declared.sym.Sym.{Sym}
@@ -12,11 +13,11 @@ use Rattle.cert_check.specs.declared.fault.Fault.{Fault}
 use Rattle.cert_check.specs.declared.fault.Fault.TheVariants.{StartPotential}
 use Rattle.cert_check.specs.declared.subject.Subject.{Subject}
 use Rattle.cert_check.specs.Faults.{HasNode}
-use Rattle.cert_check.specs.Nodes.{IsRightNode, IsRightStage, IsFirstInNode}
+use Rattle.cert_check.specs.Nodes.{IsRightNode, IsFaultlessStage, IsFirstInNode}
 use Rattle.cert_check.specs.FirstFaults.{IsFirstFault}
 use Rattle.cert_check.specs.Parts.{HasRightHead, InAnswer, InNode, InStage, IsFirstInStage, IsWrongMove}
 use Rattle.cert_check.specs.Places.{IsBefore}
-use Rattle.cert_check.specs.Subjects.{IsReady, AreInOrder, problem_of, nodes_of, kinds_of}
+use Rattle.cert_check.specs.Subjects.{IsReady, AreFirstNodesInOrder, problem_of, stage_nodes, stage_kinds}
 use Rattle.cert_check.proofs.Orders.{numbered_is}
 use Rattle.cert_check.proofs.Heads.{form_part, numbers_part, example_part, counts_part, head_parts}
 use Rattle.cert_check.proofs.Parts.{none_before, first_by_stage}
@@ -31,23 +32,23 @@ module _ (s : Subject) (stage : ℕ) (ready : IsReady s) (within : stage ≤ las
   answer = s.answer.now
 
   -- a node by its number
-  pub node_here : (ns : List Node) (n : ℕ) (node : Node) → ns ≡ nodes_of s stage → n < length ns
+  pub node_here : (ns : List Node) (n : ℕ) (node : Node) → ns ≡ stage_nodes s stage → n < length ns
       → node ≡ get_or ns n node → HasNode s.answer.now stage n node
   node_here ns n node e l f = record {
     within = in_stages s ready stage within;
-    numbered = slice_get-get_or (nodes_of s stage) n node (omega (arith, l, ap (λ (xs : List Node). length xs) e))
+    numbered = slice_get-get_or (stage_nodes s stage) n node (omega (arith, l, ap (λ (xs : List Node). length xs) e))
         ∙ ap (λ (x : Node). Some x) (sym (f ∙ ap (λ (xs : List Node). get_or xs n node) e));
   }
 
   -- a node that stands where it may has its place in the form
-  pub place_in : AreInOrder s stage (length (nodes_of s stage)) → (n : ℕ) (node : Node)
+  pub place_in : AreFirstNodesInOrder s stage (length (stage_nodes s stage)) → (n : ℕ) (node : Node)
       → HasNode s.answer.now stage n node → node.kind.place ≤ last_place (problem_of s)
   place_in order n node h =
-      let o = order n (slice_get_within (nodes_of s stage) n node h.numbered) in
+      let o = order n (slice_get_within (stage_nodes s stage) n node h.numbered) in
       subst (λ k. k.place ≤ last_place (problem_of s)) (sym (numbered_is s stage n node h)) o.possible.place
 
-  module _ (order : AreInOrder s stage (length (nodes_of s stage)))
-      (start : slice_get (kinds_of s stage) 0 ≡ Some (kind_of (problem_of s) stage [])) where
+  module _ (order : AreFirstNodesInOrder s stage (length (stage_nodes s stage)))
+      (start : slice_get (stage_kinds s stage) 0 ≡ Some (kind_of (problem_of s) stage [])) where
     -- nothing is wrong before the nodes
     below_nodes : (m : ℕ) → m < 2 → (rest : List ℕ) → InStage problem answer stage m rest → ⊥
     below_nodes zero l = order_part s stage ready within order
@@ -75,67 +76,72 @@ module _ (s : Subject) (stage : ℕ) (ready : IsReady s) (within : stage ≤ las
 
     -- ---- the potential of the start
 
-    module _ (nodes : (n : ℕ) → n < length (nodes_of s stage) → IsRightNode (problem_of s) s.answer.now stage n) where
-      of_node : (n part : ℕ) (rest : List ℕ) → InNode problem answer stage n part rest → n < length (nodes_of s stage)
-      of_node n zero rest w = slice_get_within (nodes_of s stage) n w.1.0.node w.1.0.is.numbered
-      of_node n (suc zero) rest w = by w.0 w.1.0
-        where
-          by : (column : List Sym) → IsWrongMove problem answer stage n column → n < length (nodes_of s stage)
-          by column (inl v) = slice_get_within (nodes_of s stage) n v.1.node v.1.is.numbered
-          by column (inr v) = slice_get_within (nodes_of s stage) n v.1.1.node v.1.1.is.numbered
-      of_node n (suc (suc part)) rest w = absurd w
+    module _ (nodes : (n : ℕ) → n < length (stage_nodes s stage) → IsRightNode (problem_of s) s.answer.now stage n)
+      where
+        of_node : (n part : ℕ) (rest : List ℕ) → InNode problem answer stage n part rest
+            → n < length (stage_nodes s stage)
+        of_node n zero rest w = slice_get_within (stage_nodes s stage) n w.1.0.node w.1.0.is.numbered
+        of_node n (suc zero) rest w = by w.0 w.1.0
+          where
+            by : (column : List Sym) → IsWrongMove problem answer stage n column → n < length (stage_nodes s stage)
+            by column (inl v) = slice_get_within (stage_nodes s stage) n v.1.node v.1.is.numbered
+            by column (inr v) = slice_get_within (stage_nodes s stage) n v.1.1.node v.1.1.is.numbered
+        of_node n (suc (suc part)) rest w = absurd w
 
-      below_start : (m : ℕ) → m < 3 → (rest : List ℕ) → InStage problem answer stage m rest → ⊥
-      below_start zero l = below_nodes 0 (omega arith)
-      below_start (suc zero) l = below_nodes 1 (omega arith)
-      below_start (suc (suc zero)) l = λ rest w. nodes w.0 (of_node w.0 w.1.0 w.1.1.0 w.1.1.1.0) w.1.0 w.1.1.0 w.1.1.1.0
-      below_start (suc (suc (suc m))) l = absurd (omega arith)
+        below_start : (m : ℕ) → m < 3 → (rest : List ℕ) → InStage problem answer stage m rest → ⊥
+        below_start zero l = below_nodes 0 (omega arith)
+        below_start (suc zero) l = below_nodes 1 (omega arith)
+        below_start (suc (suc zero)) l = λ rest w. nodes w.0
+            (of_node w.0 w.1.0 w.1.1.0 w.1.1.1.0) w.1.0 w.1.1.0 w.1.1.1.0
+        below_start (suc (suc (suc m))) l = absurd (omega arith)
 
-      some_nodes : 0 < length (nodes_of s stage)
-      some_nodes = omega (
-        arith,
-        slice_get_within (kinds_of s stage) 0 (kind_of (problem_of s) stage []) start,
-        length-map (nodes_of s stage) (λ (node : Node). kind_of_bits (problem_of s) stage node.kind),
-      )
+        some_nodes : 0 < length (stage_nodes s stage)
+        some_nodes = omega (
+          arith,
+          slice_get_within (stage_kinds s stage) 0 (kind_of (problem_of s) stage []) start,
+          length-map (stage_nodes s stage) (λ (node : Node). kind_of_bits (problem_of s) stage node.kind),
+        )
 
-      pub right_stage : (listed : ℕ) → ((node : Node) → listed ≡ (get_or (nodes_of s stage) 0 node).potential)
-          → listed ≡ start_potential s.answer.now.counts.items stage → IsRightStage (problem_of s) s.answer.now stage
-      right_stage listed is same zero rest w = below_start 0 (omega arith) rest w
-      right_stage listed is same (suc zero) rest w = below_start 1 (omega arith) rest w
-      right_stage listed is same (suc (suc zero)) rest w = below_start 2 (omega arith) rest w
-      right_stage listed is same (suc (suc (suc zero))) rest w =
-          let h = w.1.1.0 in
-          let here : get_or (nodes_of s stage) 0 h.node ≡ h.node =
-          get_or_from_slice_get (nodes_of s stage) 0 h.node h.node h.is.numbered in
-          h.differs (h.listed_is ∙ ap (λ (x : Node). x.potential) (sym here) ∙ sym (is h.node) ∙ same ∙ sym h.count_is)
-      right_stage listed is same (suc (suc (suc (suc m)))) rest w = absurd w
+        pub right_stage : (listed : ℕ) → ((node : Node) → listed ≡ (get_or (stage_nodes s stage) 0 node).potential)
+            → listed ≡ start_potential s.answer.now.counts.items stage
+            → IsFaultlessStage (problem_of s) s.answer.now stage
+        right_stage listed is same zero rest w = below_start 0 (omega arith) rest w
+        right_stage listed is same (suc zero) rest w = below_start 1 (omega arith) rest w
+        right_stage listed is same (suc (suc zero)) rest w = below_start 2 (omega arith) rest w
+        right_stage listed is same (suc (suc (suc zero))) rest w =
+            let h = w.1.1.0 in
+            let here : get_or (stage_nodes s stage) 0 h.node ≡ h.node =
+            get_or_from_slice_get (stage_nodes s stage) 0 h.node h.node h.is.numbered in
+            h.differs (h.listed_is ∙ ap (λ (x : Node). x.potential) (sym here) ∙ sym (is h.node) ∙ same
+                ∙ sym h.count_is)
+        right_stage listed is same (suc (suc (suc (suc m)))) rest w = absurd w
 
-      pub first_start : (listed count : ℕ)
-          → ((node : Node) → listed ≡ (get_or (nodes_of s stage) 0 node).potential)
-          → count ≡ start_potential s.answer.now.counts.items stage → listed ≢ count
-          → IsFirstInStage (problem_of s) s.answer.now stage (StartPotential stage listed count)
-      first_start listed count is same differs = by (nodes_of s stage) refl
-        where
-          by : (ns : List Node) → nodes_of s stage ≡ ns
-              → IsFirstInStage (problem_of s) s.answer.now stage (StartPotential stage listed count)
-          by [] e = absurd (omega (arith, some_nodes, ap (λ (xs : List Node). length xs) e))
-          by (node ∷ ns) e = record {
-            place = 3 ∷ [];
-            is = (
-              record {
-                node = get_or (nodes_of s stage) 0 node;
-                is = record {
-                  within = in_stages s ready stage within;
-                  numbered = slice_get-get_or (nodes_of s stage) 0 node some_nodes;
-                };
-                listed_is = is node;
-                count_is = same;
-                differs = differs;
-              },
-              refl,
-            );
-            first = none_before (InStage problem answer stage) 3 [] below_start (λ rest w b. b);
-          }
+        pub first_start : (listed count : ℕ)
+            → ((node : Node) → listed ≡ (get_or (stage_nodes s stage) 0 node).potential)
+            → count ≡ start_potential s.answer.now.counts.items stage → listed ≢ count
+            → IsFirstInStage (problem_of s) s.answer.now stage (StartPotential stage listed count)
+        first_start listed count is same differs = by (stage_nodes s stage) refl
+          where
+            by : (ns : List Node) → stage_nodes s stage ≡ ns
+                → IsFirstInStage (problem_of s) s.answer.now stage (StartPotential stage listed count)
+            by [] e = absurd (omega (arith, some_nodes, ap (λ (xs : List Node). length xs) e))
+            by (node ∷ ns) e = record {
+              place = 3 ∷ [];
+              is = (
+                record {
+                  node = get_or (stage_nodes s stage) 0 node;
+                  is = record {
+                    within = in_stages s ready stage within;
+                    numbered = slice_get-get_or (stage_nodes s stage) 0 node some_nodes;
+                  };
+                  listed_is = is node;
+                  count_is = same;
+                  differs = differs;
+                },
+                refl,
+              );
+              first = none_before (InStage problem answer stage) 3 [] below_start (λ rest w b. b);
+            }
 
 -- ---- all stages
 
@@ -149,6 +155,6 @@ module _ (s : Subject) (ready : IsReady s) (head : HasRightHead (problem_of s) s
       (counts_part (problem_of s) s.answer.now head.counts)
 
   pub first_stage : (stage : ℕ) (fault : Fault)
-      → ((r : ℕ) → r < stage → IsRightStage (problem_of s) s.answer.now r)
+      → ((r : ℕ) → r < stage → IsFaultlessStage (problem_of s) s.answer.now r)
       → IsFirstInStage (problem_of s) s.answer.now stage fault → IsFirstFault (problem_of s) s.answer.now fault
   first_stage stage fault before f = first_by_stage (problem_of s) s.answer.now stage fault before_stages before f

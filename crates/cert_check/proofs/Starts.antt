@@ -1,5 +1,6 @@
 -- The kind of the empty prefix, by its bits, and at node 0 of a stage.
-use Rattle.std.proofs.Common.{◌≡◌, ◌↔◌, ℕ, zero, suc, ◌<◌, ◌≤◌, IsTrue, Bool, false, List, [], ◌∷◌, map, length, slice_get, Some, refl, sym, ap, ap₂, ◌∙◌, subst, arith}
+use Rattle.std.proofs.Common.{◌≡◌, ◌↔◌, ℕ, zero, suc, ◌<◌, ◌≤◌, IsTrue, Bool, false, List, [], ◌∷◌, map, length}
+use Rattle.std.proofs.Common.{slice_get, Some, refl, sym, ap, ap₂, ◌∙◌, subst, arith}
 use Rattle.std.specs.List.{AllByRecursion, range_with_len}
 use Rattle.std.specs.Ordering.{is_eq}
 use Rattle.std.specs.declared.cmp.Ordering.{Ordering}
@@ -16,7 +17,7 @@ use Rattle.cert_check.specs.declared.fault.Fault.TheVariants.{StartMissing}
 use Rattle.cert_check.specs.declared.subject.Subject.{Subject}
 use Rattle.cert_check.specs.Faults.{IsInOrder}
 use Rattle.cert_check.specs.Parts.{InStage, IsFirstInStage}
-use Rattle.cert_check.specs.Subjects.{IsReady, AreInOrder, problem_of, nodes_of, kinds_of}
+use Rattle.cert_check.specs.Subjects.{IsReady, AreFirstNodesInOrder, problem_of, stage_nodes, stage_kinds}
 use Rattle.tier_core.proofs.KindTies.{same_kind, kind_order_total, is_equal}
 use Rattle.cert_check.proofs.Orders.{numbered_is}
 use Rattle.cert_check.proofs.Parts.{none_before}
@@ -102,21 +103,21 @@ module _ (s : Subject) (stage : ℕ) where
         (λ h. t.0 (sym (ap is_eq same) ∙ h), λ h. ap is_eq same ∙ t.1 h)
 
     -- nodes that stand where they may leave no fault of theirs
-    pub order_part : AreInOrder s stage (length (nodes_of s stage)) → (rest : List ℕ)
+    pub order_part : AreFirstNodesInOrder s stage (length (stage_nodes s stage)) → (rest : List ℕ)
         → InStage problem s.answer.now stage 0 rest → ⊥
     order_part order rest w =
         let h = w.1.0 in
         h.wrong (subst (IsInOrder problem s.answer.now.stages.items stage w.0)
         (sym (numbered_is s stage w.0 h.node h.is))
-        (order w.0 (slice_get_within (nodes_of s stage) w.0 h.node h.is.numbered)))
+        (order w.0 (slice_get_within (stage_nodes s stage) w.0 h.node h.is.numbered)))
 
-    below_one : AreInOrder s stage (length (nodes_of s stage)) → (m : ℕ) → m < 1 → (rest : List ℕ)
+    below_one : AreFirstNodesInOrder s stage (length (stage_nodes s stage)) → (m : ℕ) → m < 1 → (rest : List ℕ)
         → InStage problem s.answer.now stage m rest → ⊥
     below_one order zero l = order_part order
     below_one order (suc m) l = absurd (omega arith)
 
-    pub first_missing : AreInOrder s stage (length (nodes_of s stage))
-        → (slice_get (kinds_of s stage) 0 ≡ Some (kind_of problem stage []) → ⊥)
+    pub first_missing : AreFirstNodesInOrder s stage (length (stage_nodes s stage))
+        → (slice_get (stage_kinds s stage) 0 ≡ Some (kind_of problem stage []) → ⊥)
         → IsFirstInStage problem s.answer.now stage (StartMissing stage)
     first_missing order lacks = record {
       place = 1 ∷ [];

@@ -1,5 +1,6 @@
 -- The first fault of a state.
-use Rattle.std.proofs.Common.{◌≡◌, ℕ, zero, suc, ◌<◌, Bool, true, false, IsTrue, List, [], ◌∷◌, slice_get, Some, Option, refl, sym, ap, ◌∙◌, subst, arith, inl, inr, Contains, true≢false}
+use Rattle.std.proofs.Common.{◌≡◌, ℕ, zero, suc, ◌<◌, Bool, true, false, IsTrue, List, [], ◌∷◌, slice_get, Some, Option}
+use Rattle.std.proofs.Common.{refl, sym, ap, ◌∙◌, subst, arith, inl, inr, Contains, true≢false}
 use Rattle.std.specs.List.Sorted.{IsStrictlySortedBy}
 use Rattle.std.specs.Ordering.{nat_cmp}
 use Rattle.std.proofs.lemmas.Bool.{cases_order}
@@ -17,7 +18,8 @@ use Rattle.check_laws.proofs.Leading.{one_state}
 use Rattle.check_laws.proofs.Listing.{one_kind}
 use Rattle.cert_check.specs.declared.fault.Fault.TheVariants.{StateMissing, FinalsDiffer, ArcsTwice, ArcsDiffer}
 use Rattle.cert_check.specs.Arcs.{is_twice, do_differ, IsLeastColumn, IsNoColumn}
-use Rattle.cert_check.specs.Faults.{IsState, HasState, LacksTarget, HasTwice, HasWrongArcs, IsKindOfState, IsListedTarget, IsKeptTarget}
+use Rattle.cert_check.specs.Faults.{IsState, HasState, LacksTarget, HasTwice, HasWrongArcs, IsKindOfState}
+use Rattle.cert_check.specs.Faults.{IsListedTarget, IsKeptTarget}
 use Rattle.cert_check.specs.Parts.{InState, IsFirstInState}
 use Rattle.cert_check.specs.Places.{IsBefore, column_place}
 use Rattle.cert_check.specs.States.{IsRightPartOf, IsRightState, AreKeptArcs}

@@ -1,5 +1,6 @@
 -- The faults of the states, one after the other.
-use Rattle.std.proofs.Common.{◌≡◌, ℕ, zero, suc, ◌+◌, ◌-◌, ◌<◌, List, [], ◌∷◌, length, get_or, slice_get, Some, refl, sym, ap, ◌∙◌, subst, arith, inl, inr, ⊎_elim, Contains}
+use Rattle.std.proofs.Common.{◌≡◌, ℕ, zero, suc, ◌+◌, ◌-◌, ◌<◌, List, [], ◌∷◌, length, get_or, slice_get, Some, refl}
+use Rattle.std.proofs.Common.{sym, ap, ◌∙◌, subst, arith, inl, inr, ⊎_elim, Contains}
 use Rattle.std.specs.List.Sorted.{IsStrictlySortedBy}
 use Rattle.std.specs.Ordering.{nat_cmp}
 use Rattle.std.proofs.lemmas.Bool.{cases_lt}
@@ -21,8 +22,8 @@ use Rattle.cert_check.specs.Faults.{IsState, HasState}
 use Rattle.cert_check.specs.FirstFaults.{IsFirstFault}
 use Rattle.cert_check.specs.Parts.{InState, InAnswer, IsFirstInState}
 use Rattle.cert_check.specs.Places.{IsBefore, in_state}
-use Rattle.cert_check.specs.States.{AreRightBefore, IsRightFrom, IsRightState, IsStaged, IsStateAt}
-use Rattle.cert_check.specs.Subjects.{problem_of, nodes_of}
+use Rattle.cert_check.specs.States.{AreRightBefore, IsRightFrom, IsRightState, IsRightBeforeStates, IsStateAt}
+use Rattle.cert_check.specs.Subjects.{problem_of, stage_nodes}
 use Rattle.cert_check.proofs.Faultless.{some_same}
 use Rattle.cert_check.proofs.Parts.{none_before, none_first, first_fault}
 use Rattle.cert_check.proofs.Subjects.{in_stages, nodes_read}
@@ -151,9 +152,9 @@ module _ (problem : Problem) (answer : Answer)
   states_right start all (suc (suc (suc (suc (suc (suc (suc n))))))) l rest w = w
 
 -- the node of a state is one of the last stage
-pub state_node_within : (s : Subject) → IsStaged s → (line : StateLine)
+pub state_node_within : (s : Subject) → IsRightBeforeStates s → (line : StateLine)
     → Contains s.answer.now.automaton.states.items line
-    → line.node < length (nodes_of s (last_stage (problem_of s)))
+    → line.node < length (stage_nodes s (last_stage (problem_of s)))
 state_node_within s staged line h =
     let size : length s.answer.now.stages.items - 1
     ≡ last_stage (problem_of s) = omega (arith, staged.ready.numbers.stages) in
@@ -163,7 +164,7 @@ state_node_within s staged line h =
     staged.ready.readable.states.each h).node
 
 -- the state that code reads, and the node that it reads for it
-module _ (states : List StateLine) (s : Subject) (staged : IsStaged s)
+module _ (states : List StateLine) (s : Subject) (staged : IsRightBeforeStates s)
     (is : states ≡ s.answer.now.automaton.states.items) (i : ℕ) (line : StateLine) (within : i < length states)
     (item : line ≡ get_or states i line) where
   pub state_read : slice_get s.answer.now.automaton.states.items i ≡ Some line
@@ -180,7 +181,7 @@ module _ (states : List StateLine) (s : Subject) (staged : IsStaged s)
         slice_get_within lines i line state_read,
         get_or_from_slice_get lines i line line state_read,
       ) in
-      let own : nodes ≡ nodes_of s (last_stage (problem_of s)) =
+      let own : nodes ≡ stage_nodes s (last_stage (problem_of s)) =
       nodes_read s staged.ready (last_stage (problem_of s)) (omega arith) nodes stage here
       (subst (λ n. stage ≡ get_or s.answer.now.stages.items n stage) counted e) in
       let inside : line.node < length nodes = subst (λ (xs : List Node). line.node < length xs) (sym own)

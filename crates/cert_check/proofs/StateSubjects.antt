@@ -13,11 +13,11 @@ use Rattle.answer_text.specs.declared.stage.Node.{Node}
 use Rattle.answer_text.specs.Readable.{IsReadableState, last_nodes}
 use Rattle.answer_text.specs.Right.{numbers_of, IsNodeOf}
 use Rattle.cert_check.specs.declared.subject.Subject.{Subject}
-use Rattle.cert_check.specs.States.{IsStaged, IsStateAt, last_kind}
-use Rattle.cert_check.specs.Subjects.{problem_of, nodes_of}
+use Rattle.cert_check.specs.States.{IsRightBeforeStates, IsStateAt, last_kind}
+use Rattle.cert_check.specs.Subjects.{problem_of, stage_nodes}
 use Rattle.cert_check.proofs.Subjects.{free_same, fits_at}
 
-module _ (s : Subject) (staged : IsStaged s) where
+module _ (s : Subject) (staged : IsRightBeforeStates s) where
   -- the states ascend
   pub states_ascend : IsStrictlySortedBy nat_cmp (numbers_of s.answer.now.automaton.states.items)
   states_ascend = staged.ready.readable.states.ascending
@@ -32,12 +32,12 @@ module _ (s : Subject) (staged : IsStaged s) where
         (each.arcs k d l).wide ∙ staged.ready.of_grammar.width
 
     -- it has the kind of its node
-    pub of_kind : IsNodeOf (problem_of s) (nodes_of s (last_stage (problem_of s))) state.node (last_kind s node)
+    pub of_kind : IsNodeOf (problem_of s) (stage_nodes s (last_stage (problem_of s))) state.node (last_kind s node)
     of_kind = record { node = node; numbered = at.is.numbered; tells = refl }
 
     pub node_fits : FitsShape s.shape.now (last_stage (problem_of s)) node.kind
     node_fits =
-        let nodes : List Node = nodes_of s (last_stage (problem_of s)) in
+        let nodes : List Node = stage_nodes s (last_stage (problem_of s)) in
         subst (λ (x : Node). FitsShape s.shape.now (last_stage (problem_of s)) x.kind)
         (get_or_from_slice_get nodes state.node node node at.is.numbered)
         (fits_at s staged.ready (last_stage (problem_of s)) (omega arith) state.node node

@@ -1,5 +1,6 @@
 -- What is known of an answer when its stages are looked at.
-use Rattle.std.proofs.Common.{◌≡◌, ◌↔◌, ℕ, ◌+◌, ◌-◌, ◌^◌, ◌<◌, ◌≤◌, ◌&&◌, not, Bool, List, [], ◌∷◌, map, filter, take, length, get_or, refl, sym, ap, ap₂, ◌∙◌, subst, arith, All}
+use Rattle.std.proofs.Common.{◌≡◌, ◌↔◌, ℕ, ◌+◌, ◌-◌, ◌^◌, ◌<◌, ◌≤◌, ◌&&◌, not, Bool, List, [], ◌∷◌, map, filter, take}
+use Rattle.std.proofs.Common.{length, get_or, refl, sym, ap, ap₂, ◌∙◌, subst, arith, All}
 use Rattle.std.specs.List.{AllByRecursion, list_all}
 use Rattle.std.proofs.lemmas.List.{get_or-map, get_or_default, get_or-take, length-take-le}
 use Rattle.std.proofs.lemmas.List.Elements.{All-from_recursion}
@@ -9,16 +10,17 @@ use Rattle.tier_core.specs.declared.sym.Sym.{Sym}
 use Rattle.tier_core.specs.declared.event.Event.{Event}
 use Rattle.tier_core.specs.declared.constraint.Constraint.{Constraint}
 use Rattle.tier_core.specs.declared.shape.Shape.{Shape}
-use Rattle.tier_core.specs.Shapes.{input_count}
+use Rattle.tier_core.specs.Shapes.{masked_count}
 use Rattle.tier_core.specs.Sides.{is_stretch}
-use Rattle.tier_core.specs.Kinds.{AreStretchesBelow, Phase, closed, PrefixKind, prefix_kind, open_tiers, phase_at, phases}
+use Rattle.tier_core.specs.Kinds.{AreStretchesBelow, Phase, closed, PrefixKind, prefix_kind, open_tiers, phase_at}
+use Rattle.tier_core.specs.Kinds.{phases}
 use Rattle.tier_core.specs.KindShapes.{free_count, stretch_count, kind_in, FitsShape}
 use Rattle.tier_core.specs.Tiers.{has_tier, is_input}
 use Rattle.tier_core.proofs.TableMasks.{free_tiers}
 use Rattle.tier_core.proofs.Members.{all_first}
 use Rattle.grammar_reader.proofs.Shaping.{length-stretch_counts, count_rises}
 use Rattle.violation.specs.Conditions.{AreTiersBelow, IsOverTiers}
-use Rattle.violation.specs.Moves.{is_tier_open, cut}
+use Rattle.violation.specs.Moves.{is_tier_open, cut_kind}
 use Rattle.violation.specs.Phases.{is_left_open, AreClosedOr}
 use Rattle.violation.specs.Prefixes.{kind_of, stretches, kind_of_bits}
 use Rattle.violation.specs.Problems.{Problem, last_stage, last_place}
@@ -31,7 +33,7 @@ use Rattle.cert_check.specs.declared.subject.Subject.{Subject}
 use Rattle.cert_check.specs.Opens.{is_open_by, inputs_before}
 use Rattle.cert_check.specs.Possible.{all_open_in}
 use Rattle.cert_check.specs.Searches.{told_in}
-use Rattle.cert_check.specs.Subjects.{IsReady, problem_of, nodes_of, kinds_of, node_kind}
+use Rattle.cert_check.specs.Subjects.{IsReady, problem_of, stage_nodes, stage_kinds, node_kind}
 use Rattle.grammar_reader.proofs.OverTiers.{over_tiers}
 use Rattle.cert_check.proofs.Opens.{open_told, length-numbers, all_inputs}
 
@@ -71,7 +73,7 @@ module _ (s : Subject) (ready : IsReady s) (stage : ℕ) (within : stage ≤ las
   problem = problem_of s
 
   pub free_same : free_count shape ≡ length problem.tiers.free
-  free_same = ap (λ n. n - input_count shape.inputs) ready.of_grammar.width
+  free_same = ap (λ n. n - masked_count shape.inputs) ready.of_grammar.width
       ∙ free_tiers s.grammar.now.tiers.kinds.items shape.inputs ready.of_grammar.inputs
 
   pub stage_in : stage < length shape.phases.items
@@ -92,7 +94,7 @@ module _ (s : Subject) (ready : IsReady s) (stage : ℕ) (within : stage ≤ las
   pub in_stages : stage < length s.answer.now.stages.items
   in_stages = omega (arith, ready.numbers.stages, within)
 
-  pub readable_stage : IsReadableStage shape stage (nodes_of s stage)
+  pub readable_stage : IsReadableStage shape stage (stage_nodes s stage)
   readable_stage = ready.readable.stages stage in_stages
 
   -- a column of the form has a symbol for each input tier
@@ -137,9 +139,9 @@ module _ (s : Subject) (ready : IsReady s) (stage : ℕ) (within : stage ≤ las
     )
 
   -- the kind of a node by its number
-  pub kind_numbered : (n : ℕ) (d : Node) → n < length (nodes_of s stage)
-      → node_kind s stage n ≡ kind_of_bits problem stage (get_or (nodes_of s stage) n d).kind
-  kind_numbered n d l = get_or-map (λ (node : Node). kind_of_bits problem stage node.kind) (nodes_of s stage) n d
+  pub kind_numbered : (n : ℕ) (d : Node) → n < length (stage_nodes s stage)
+      → node_kind s stage n ≡ kind_of_bits problem stage (get_or (stage_nodes s stage) n d).kind
+  kind_numbered n d l = get_or-map (λ (node : Node). kind_of_bits problem stage node.kind) (stage_nodes s stage) n d
       (kind_of problem stage []) l
 
 -- ---- kinds that are cut
@@ -167,7 +169,7 @@ kind_parts place opened ps qs e = ap (λ (x : List Phase). let k : PrefixKind = 
 pub cut_told : (problem : Problem) (k l : Kind) (r s : ℕ)
     → length (stretches problem r) ≤ length (stretches problem s) → k.place ≡ l.place → k.opened ≡ l.opened
     → ((i : ℕ) → i < length (stretches problem r) → phase_at k i ≡ phase_at l i)
-    → kind_of_bits problem r k ≡ cut problem r (kind_of_bits problem s l)
+    → kind_of_bits problem r k ≡ cut_kind problem r (kind_of_bits problem s l)
 cut_told problem k l r s w p o h =
     ap₂ (λ m n. let x : PrefixKind = record {
       place = m;
@@ -186,16 +188,16 @@ nodes_at_is stages r d l = sym (get_or-map (λ (stage : Stage). stage.nodes.item
 module _ (s : Subject) (ready : IsReady s) (stage : ℕ) (within : stage ≤ last_stage (problem_of s)) where
   -- the nodes that code reads of a stage, and the kinds that they tell
   pub nodes_read : (ns : List Node) (st : Stage) → ns ≡ st.nodes.items
-      → st ≡ get_or s.answer.now.stages.items stage st → ns ≡ nodes_of s stage
+      → st ≡ get_or s.answer.now.stages.items stage st → ns ≡ stage_nodes s stage
   nodes_read ns st e f = e ∙ ap (λ (x : Stage). x.nodes.items) f
       ∙ nodes_at_is s.answer.now.stages.items stage st (in_stages s ready stage within)
 
   pub told_read : (ns : List Node) (st : Stage) → ns ≡ st.nodes.items → st ≡ get_or s.answer.now.stages.items stage st
-      → told_in s.shape.now stage ns ≡ kinds_of s stage
+      → told_in s.shape.now stage ns ≡ stage_kinds s stage
   told_read ns st e f = told_same s ready stage within ns ∙ ap (kinds_at (problem_of s) stage) (nodes_read ns st e f)
 
-  pub fits_at : (n : ℕ) (d : Node) → n < length (nodes_of s stage)
-      → FitsShape s.shape.now stage (get_or (nodes_of s stage) n d).kind
+  pub fits_at : (n : ℕ) (d : Node) → n < length (stage_nodes s stage)
+      → FitsShape s.shape.now stage (get_or (stage_nodes s stage) n d).kind
   fits_at n d l = (readable_stage s ready stage within).fits n d l
 
   -- a cut fits the stage before, and tells the cut of a kind
@@ -215,7 +217,7 @@ module _ (s : Subject) (ready : IsReady s) (stage : ℕ) (within : stage ≤ las
       → result.opened ≡ kind.opened
       → ((i : ℕ) → i < count → phase_at result i ≡ phase_at kind i)
       → kind_of_bits (problem_of s) (stage - 1) result
-      ≡ cut (problem_of s) (stage - 1) (kind_of_bits (problem_of s) stage kind)
+      ≡ cut_kind (problem_of s) (stage - 1) (kind_of_bits (problem_of s) stage kind)
   cut_before_told kind result count some is place opened same =
       let before : stage - 1 ≤ last_stage (problem_of s) = omega (arith, within) in
       let counted : count ≡ length (stretches (problem_of s) (stage - 1)) =
@@ -229,18 +231,18 @@ module _ (s : Subject) (ready : IsReady s) (stage : ℕ) (within : stage ≤ las
       (λ i l. same i (omega (arith, l, counted)))
 
   -- the kind of a node that code reads
-  pub number_read : (ns : List Node) (n : ℕ) (d : Node) → ns ≡ nodes_of s stage → n < length ns
+  pub number_read : (ns : List Node) (n : ℕ) (d : Node) → ns ≡ stage_nodes s stage → n < length ns
       → kind_in s.shape.now stage (get_or ns n d).kind ≡ node_kind s stage n
   number_read ns n d e l =
       ap (λ (xs : List Node). kind_in s.shape.now stage (get_or xs n d).kind) e
-      ∙ tell_same s ready stage within (get_or (nodes_of s stage) n d).kind
+      ∙ tell_same s ready stage within (get_or (stage_nodes s stage) n d).kind
       ∙ sym (kind_numbered s ready stage within n d (omega (arith, l, ap length e)))
 
-  pub number_bits : (ns : List Node) (n : ℕ) (d : Node) → ns ≡ nodes_of s stage → n < length ns
+  pub number_bits : (ns : List Node) (n : ℕ) (d : Node) → ns ≡ stage_nodes s stage → n < length ns
       → kind_of_bits (problem_of s) stage (get_or ns n d).kind ≡ node_kind s stage n
   number_bits ns n d e l = sym (tell_same s ready stage within (get_or ns n d).kind) ∙ number_read ns n d e l
 
-  pub number_fits : (ns : List Node) (n : ℕ) (d : Node) → ns ≡ nodes_of s stage → n < length ns
+  pub number_fits : (ns : List Node) (n : ℕ) (d : Node) → ns ≡ stage_nodes s stage → n < length ns
       → FitsShape s.shape.now stage (get_or ns n d).kind
   number_fits ns n d e l = subst (λ (xs : List Node). FitsShape s.shape.now stage (get_or xs n d).kind) (sym e)
       (fits_at n d (omega (arith, l, ap length e)))

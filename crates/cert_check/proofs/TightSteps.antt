@@ -1,5 +1,7 @@
 -- Moves that are tight at a stage, by what is listed there.
-use Rattle.std.proofs.Common.{◌≡◌, ◌↔◌, ℕ, zero, suc, ◌+◌, ◌==◌, ◌<◌, ◌≤◌, ◌^◌, Bool, true, false, cond, IsTrue, List, [], ◌∷◌, length, filter, take, get_or, slice_get, Some, refl, sym, ap, ◌∙◌, subst, arith, eq-eqb, eqb-true}
+use Rattle.std.proofs.Common.{◌≡◌, ◌↔◌, ℕ, zero, suc, ◌+◌, ◌==◌, ◌<◌, ◌≤◌, ◌^◌, Bool, true, false, cond, IsTrue, List}
+use Rattle.std.proofs.Common.{[], ◌∷◌, length, filter, take, get_or, slice_get, Some, refl, sym, ap, ◌∙◌, subst, arith}
+use Rattle.std.proofs.Common.{eq-eqb, eqb-true}
 use Rattle.std.proofs.lemmas.Bool.{false≢true}
 use Rattle.std.proofs.lemmas.List.{get_or-map, get_or_default, length-map}
 use Rattle.std.proofs.lemmas.List.Elements.{Contains-get_or}
@@ -10,7 +12,7 @@ use Rattle.tier_core.specs.declared.sym.Sym.{Sym}
 use Rattle.tier_core.specs.Kinds.{AreStretchesBelow, PrefixKind, phase_at}
 use Rattle.tier_core.specs.KindShapes.{FitsShape, free_count}
 use Rattle.tier_core.specs.Sides.{is_stretch}
-use Rattle.violation.specs.Moves.{moved, cost_of, cut}
+use Rattle.violation.specs.Moves.{next_kind, cost_of, cut_kind}
 use Rattle.violation.specs.Prefixes.{kind_of_bits, stretches}
 use Rattle.violation.specs.Problems.{Problem, last_stage}
 use Rattle.answer_text.specs.declared.stage.Node.{Node}
@@ -32,8 +34,8 @@ tight_same problem stages stage j k c d a l t = record {
   before = t.before;
   after = t.after;
   leaves = t.leaves;
-  arrives = subst (λ x. Lists problem stages j x t.after) (a.moves j (cut problem j k) l) t.arrives;
-  falls = t.falls ∙ ap (λ n. n + t.after) (a.costs j (cut problem j k) l);
+  arrives = subst (λ x. Lists problem stages j x t.after) (a.moves j (cut_kind problem j k) l) t.arrives;
+  falls = t.falls ∙ ap (λ n. n + t.after) (a.costs j (cut_kind problem j k) l);
 }
 
 -- ---- what is listed
@@ -75,9 +77,9 @@ module _ (s : Subject) (j : ℕ) (ascends : AscendsAt s j) (k : PrefixKind) (col
   abbrev stages : List Stage
   stages = s.answer.now.stages.items
 
-  pub tight_by : (before after cost : ℕ) → Lists (problem_of s) stages j (cut (problem_of s) j k) before
-      → Lists (problem_of s) stages j (moved (problem_of s) j (cut (problem_of s) j k) column) after
-      → cost ≡ cost_of (problem_of s) j (cut (problem_of s) j k) column
+  pub tight_by : (before after cost : ℕ) → Lists (problem_of s) stages j (cut_kind (problem_of s) j k) before
+      → Lists (problem_of s) stages j (next_kind (problem_of s) j (cut_kind (problem_of s) j k) column) after
+      → cost ≡ cost_of (problem_of s) j (cut_kind (problem_of s) j k) column
       → IsTrue (before == (cost + after)) ↔ IsTightAt (problem_of s) stages j k column
   tight_by before after cost leaves arrives e = (
     λ h. record {
@@ -88,14 +90,15 @@ module _ (s : Subject) (j : ℕ) (ascends : AscendsAt s j) (k : PrefixKind) (col
       falls = eqb-true before (cost + after) h ∙ ap (λ n. n + after) e;
     },
     λ t. eq-eqb before (cost + after)
-        (let first = one_potential (problem_of s) j stages ascends (cut (problem_of s) j k) before t.before leaves
+        (let first = one_potential (problem_of s) j stages ascends (cut_kind (problem_of s) j k) before t.before leaves
         t.leaves in
         let last = one_potential (problem_of s) j stages ascends
-        (moved (problem_of s) j (cut (problem_of s) j k) column) after t.after arrives t.arrives in
+        (next_kind (problem_of s) j (cut_kind (problem_of s) j k) column) after t.after arrives t.arrives in
         omega (arith, first, last, t.falls, e)),
   )
 
-  pub never_reached : IsUnlisted (problem_of s) stages j (moved (problem_of s) j (cut (problem_of s) j k) column)
+  pub never_reached : IsUnlisted (problem_of s) stages j
+      (next_kind (problem_of s) j (cut_kind (problem_of s) j k) column)
       → IsTrue false ↔ IsTightAt (problem_of s) stages j k column
   never_reached none = (λ h. absurd (false≢true h), λ t. absurd (none t.after t.arrives))
 
@@ -130,7 +133,7 @@ module _ (s : Subject) (ready : IsReady s) (stage j : ℕ) (within : stage ≤ l
   }
 
   pub cut_told_at : result.place ≡ kind.place → ((i : ℕ) → i < count → phase_at result i ≡ phase_at kind i)
-      → kind_of_bits (problem_of s) j result ≡ cut (problem_of s) j (kind_of_bits (problem_of s) stage kind)
+      → kind_of_bits (problem_of s) j result ≡ cut_kind (problem_of s) j (kind_of_bits (problem_of s) stage kind)
   cut_told_at place same =
       let number : count ≡ length (stretches (problem_of s) j) =
       is ∙ get_or_default s.shape.now.phases.items j count 0 (stage_in s ready j last) ∙ stretch_same s ready j last in

@@ -8,7 +8,7 @@ use Rattle.tier_core.specs.declared.kind.Kind.{Kind}
 use Rattle.tier_core.specs.Classes.{has}
 use Rattle.tier_core.specs.Kinds.{PrefixKind, AreStretchesBelow, kind_order}
 use Rattle.violation.specs.Candidates.{IsForm, IsCandidate, count_at}
-use Rattle.violation.specs.Moves.{moved, cost_of, cut, is_final}
+use Rattle.violation.specs.Moves.{next_kind, cost_of, cut_kind, is_final}
 use Rattle.violation.specs.Prefixes.{kind_of, kind_of_bits, stretches}
 use Rattle.violation.specs.Problems.{Problem, last_stage, last_place}
 use Rattle.answer_text.specs.declared.stage.Node.{Node}
@@ -56,7 +56,7 @@ pub record IsInOrder (problem : Problem) (stages : List Stage) (stage n : ℕ) (
   pub after : (l : PrefixKind) → 1 ≤ n → slice_get (kinds_at problem stage (nodes_at stages stage)) (n - 1) ≡ Some l
       → kind_order l k ≡ Less
   pub cut_before : 1 ≤ stage → Contains (kinds_at problem (stage - 1) (nodes_at stages (stage - 1)))
-      (cut problem (stage - 1) k)
+      (cut_kind problem (stage - 1) k)
 
 -- A node is not in order.
 pub record HasWrongNode (problem : Problem) (answer : Answer) (stage n : ℕ) : Type 0 where
@@ -94,9 +94,9 @@ pub record IsNotClosed (problem : Problem) (answer : Answer) (stage n : ℕ) (co
   pub node : Node
   pub is : HasNode answer stage n node
   pub kept : IsKeptBelow problem answer.stages.items stage (kind_of_bits problem stage node.kind) column
-  pub leads : TellsKind problem stage missing (moved problem stage (kind_of_bits problem stage node.kind) column)
+  pub leads : TellsKind problem stage missing (next_kind problem stage (kind_of_bits problem stage node.kind) column)
   pub unlisted : IsUnlisted problem answer.stages.items stage
-      (moved problem stage (kind_of_bits problem stage node.kind) column)
+      (next_kind problem stage (kind_of_bits problem stage node.kind) column)
 
 -- On a column, a move of a node is kept, and the node's potential is above what the move costs and the
 -- potential to which it leads.
@@ -107,7 +107,7 @@ pub record HasHighPotential (problem : Problem) (answer : Answer) (stage n : ℕ
   pub kept : IsKeptBelow problem answer.stages.items stage (kind_of_bits problem stage node.kind) column
   pub next : ℕ
   pub leads : Lists problem answer.stages.items stage
-      (moved problem stage (kind_of_bits problem stage node.kind) column) next
+      (next_kind problem stage (kind_of_bits problem stage node.kind) column) next
   pub listed_is : listed ≡ node.potential
   pub allowed_is : allowed ≡ cost_of problem stage (kind_of_bits problem stage node.kind) column + next
   pub above : allowed < listed
@@ -175,7 +175,7 @@ IsListedTarget arcs column None = (arc : ArcLine) → Contains arcs arc → IsTr
 abbrev pub IsKeptTarget : Problem → Answer → PrefixKind → List Sym → Option ℕ → Type 0
 IsKeptTarget problem answer k column (Some m) =
     IsKeptBelow problem answer.stages.items (last_stage problem + 1) k column × IsKindOfState problem answer m
-    (moved problem (last_stage problem) k column)
+    (next_kind problem (last_stage problem) k column)
 IsKeptTarget problem answer k column None = IsKeptBelow problem answer.stages.items (last_stage problem + 1) k column
     → ⊥
 

@@ -1,7 +1,7 @@
 -- Faults by their place, and the fault that comes first.
 use Rattle.std.specs.Prelude.{ℕ, ◌≡◌, ◌⊎◌, List}
 use Rattle.tier_core.specs.declared.sym.Sym.{Sym}
-use Rattle.violation.specs.Problems.{Problem, asked}
+use Rattle.violation.specs.Problems.{Problem, problem_from}
 use Rattle.grammar_reader.specs.declared.grammar.Grammar.{Grammar}
 use Rattle.grammar_reader.specs.ShapeOf.{IsShapeOf}
 use Rattle.tier_core.specs.declared.shape.Shape.{Shape}
@@ -58,7 +58,7 @@ IsFaultless problem answer = (fault : Fault) (place : List ℕ) → IsFault prob
 
 -- what a grammar is asked by the form of an answer
 abbrev pub asked_by : Grammar → Answer → Problem
-asked_by grammar answer = asked grammar.tiers grammar.constraints.items answer.form
+asked_by grammar answer = problem_from grammar.tiers grammar.constraints.items answer.form
 
 -- An answer is within the limits of what is read for a grammar.
 pub record IsReadableFor (grammar : Grammar) (answer : Answer) : Type 0 where

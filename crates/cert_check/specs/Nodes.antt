@@ -57,5 +57,5 @@ pub record IsLeastWrong (problem : Problem) (answer : Answer) (stage node : ℕ)
       ⊎ ((best < length classes) × IsNotAfter (slice_index_or classes best class) (slice_index_or classes n class))
 
 -- nothing is wrong in a stage
-abbrev pub IsRightStage : Problem → Answer → ℕ → Type 0
-IsRightStage problem answer stage = (part : ℕ) (rest : List ℕ) → InStage problem answer stage part rest → ⊥
+abbrev pub IsFaultlessStage : Problem → Answer → ℕ → Type 0
+IsFaultlessStage problem answer stage = (part : ℕ) (rest : List ℕ) → InStage problem answer stage part rest → ⊥

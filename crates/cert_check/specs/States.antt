@@ -23,7 +23,7 @@ abbrev pub IsRightFrom : Problem → Answer → Type 0
 IsRightFrom problem answer = (part : ℕ) → 5 ≤ part → (rest : List ℕ) → InAnswer problem answer part rest → ⊥
 
 -- The numbers of an answer fit, and nothing is wrong before its automaton.
-pub record IsStaged (s : Subject) : Type 0 where
+pub record IsRightBeforeStates (s : Subject) : Type 0 where
   pub ready : IsReady s
   pub right : AreRightBefore (problem_of s) s.answer.now
 

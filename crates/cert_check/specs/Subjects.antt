@@ -18,11 +18,11 @@ abbrev pub problem_of : Subject → Problem
 problem_of s = asked_by s.grammar.now s.answer.now
 
 -- the nodes of a stage, and the kinds that they tell
-abbrev pub nodes_of : Subject → ℕ → List Node
-nodes_of s stage = nodes_at s.answer.now.stages.items stage
+abbrev pub stage_nodes : Subject → ℕ → List Node
+stage_nodes s stage = nodes_at s.answer.now.stages.items stage
 
-abbrev pub kinds_of : Subject → ℕ → List PrefixKind
-kinds_of s stage = kinds_at (problem_of s) stage (nodes_of s stage)
+abbrev pub stage_kinds : Subject → ℕ → List PrefixKind
+stage_kinds s stage = kinds_at (problem_of s) stage (stage_nodes s stage)
 
 -- The shape is that of the grammar, the answer is readable, and its form and its numbers of stages and
 -- counts are right.
@@ -34,13 +34,13 @@ pub record IsReady (s : Subject) : Type 0 where
 
 -- the kinds of a stage ascend
 abbrev pub AscendsAt : Subject → ℕ → Type 0
-AscendsAt s stage = IsStrictlySortedBy kind_order (kinds_of s stage)
+AscendsAt s stage = IsStrictlySortedBy kind_order (stage_kinds s stage)
 
 -- the kind that a node of a stage tells, by its number
 abbrev pub node_kind : Subject → ℕ → ℕ → PrefixKind
-node_kind s stage n = slice_index_or (kinds_of s stage) n (kind_of (problem_of s) stage [])
+node_kind s stage n = slice_index_or (stage_kinds s stage) n (kind_of (problem_of s) stage [])
 
 -- the first nodes of a stage are in order
-abbrev pub AreInOrder : Subject → ℕ → ℕ → Type 0
-AreInOrder s stage count = (n : ℕ) → n < count
+abbrev pub AreFirstNodesInOrder : Subject → ℕ → ℕ → Type 0
+AreFirstNodesInOrder s stage count = (n : ℕ) → n < count
     → IsInOrder (problem_of s) s.answer.now.stages.items stage n (node_kind s stage n)

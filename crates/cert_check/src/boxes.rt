@@ -6,7 +6,7 @@ ghost use Rattle.tier_core.specs.Sets.{is_in};
 ghost use Rattle.tier_core.specs.Timelines.{symbol};
 ghost use Rattle.cert_check.specs.Boxes.{is_so};
 
-use symbol_class::narrowed;
+use symbol_class::restrict;
 use tier_core::{Class, Event, Part};
 
 /// What is asked of the symbol that a column has on the tier of a type of events.
@@ -98,7 +98,7 @@ pub(crate) fn box_of(width: u32, types: &[Event], asked: Asked) -> Class
 {
     let mut class = all_columns(width);
     for event in types {
-        class = narrowed(&class, event.tier, set_for(asked, event.part));
+        class = restrict(&class, event.tier, set_for(asked, event.part));
     }
     class
 }

@@ -11,7 +11,7 @@ ghost use Rattle.cert_check.specs.Tests.{AddsTests};
 use crate::boxes::all_columns;
 use crate::parting::push_tests;
 use std::alloc::{AllocError, Global};
-use symbol_class::narrowed;
+use symbol_class::restrict;
 use tier_core::{Class, Constraint, NoMemory};
 
 /// The class of the columns after which a tier is open.
@@ -22,7 +22,7 @@ fn open_after(width: u32, tier: u32) -> Class
     ensures columns { (column : List Sym) → length column ≡ width
         → has result column ≡ opens (symbol column tier) }
 {
-    narrowed(&all_columns(width), tier, 22)
+    restrict(&all_columns(width), tier, 22)
 }
 
 /// Puts tests of the open tiers at the end of a list.

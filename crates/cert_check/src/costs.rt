@@ -5,7 +5,7 @@ ghost use Rattle.tier_core.specs.KindShapes.{FitsShape};
 ghost use Rattle.tier_core.specs.Tiers.{has_tier};
 ghost use Rattle.tier_core.specs.Sides.{has_edge_type, edge_among};
 ghost use Rattle.violation.specs.Conditions.{AreInColumn, IsOverTiers};
-ghost use Rattle.violation.specs.Counts.{chosen};
+ghost use Rattle.violation.specs.Counts.{choice_types};
 ghost use Rattle.violation.specs.Moves.{cost_of, costs, is_unmet_phase};
 ghost use Rattle.violation.specs.Prefixes.{kind_of_bits};
 ghost use Rattle.violation.specs.Problems.{last_place, last_stage};
@@ -20,7 +20,7 @@ use violation::{has_edge_among, is_counted_at};
 /// Whether a type of which an event is chosen is an edge: a clash chooses on both sides, an
 /// implication on the left.
 fn is_edge_chosen(family: Family, left: &[Event], right: &[Event]) -> bool
-    ensures { result ≡ has_edge_type (chosen family left.now right.now) }
+    ensures { result ≡ has_edge_type (choice_types family left.now right.now) }
 {
     match family {
         Family::Clash => has_edge_type(left) || has_edge_type(right),

@@ -5,7 +5,7 @@ ghost use Rattle.tier_core.specs.KindShapes.{FitsShape, kind_in};
 ghost use Rattle.violation.specs.Prefixes.{kind_of_bits};
 ghost use Rattle.violation.specs.Problems.{last_stage};
 ghost use Rattle.cert_check.specs.Searches.{told_in};
-ghost use Rattle.cert_check.specs.Subjects.{IsReady, AscendsAt, problem_of, kinds_of};
+ghost use Rattle.cert_check.specs.Subjects.{IsReady, AscendsAt, problem_of, stage_kinds};
 
 use crate::subject::Subject;
 use answer_text::Node;
@@ -44,10 +44,10 @@ pub(crate) fn find_kind(subject: &Subject, stage: u32, kind: &Kind) -> Option<us
     requires ascends { AscendsAt subject.now stage }
     requires fits { FitsShape subject.now.shape.now stage kind.now }
     ensures { MatchOption result
-        (Contains (kinds_of subject.now stage)
+        (Contains (stage_kinds subject.now stage)
         (kind_of_bits (problem_of subject.now) stage kind.now) → ⊥)
         (λ n.
-        slice_get (kinds_of subject.now stage) n
+        slice_get (stage_kinds subject.now stage) n
         ≡ Some (kind_of_bits (problem_of subject.now) stage kind.now)) }
 {
     let nodes = subject.answer.stages[stage as usize].nodes.as_slice();
@@ -61,7 +61,7 @@ pub(crate) fn has_kind(subject: &Subject, stage: u32, kind: &Kind) -> bool
     requires ascends { AscendsAt subject.now stage }
     requires fits { FitsShape subject.now.shape.now stage kind.now }
     ensures { IsTrue result
-        ↔ Contains (kinds_of subject.now stage)
+        ↔ Contains (stage_kinds subject.now stage)
         (kind_of_bits (problem_of subject.now) stage kind.now) }
 {
     match find_kind(subject, stage, kind) {

@@ -8,11 +8,11 @@ ghost use Rattle.tier_core.specs.Timelines.{symbol, is_edge, has_edge};
 ghost use Rattle.cert_check.specs.Opens.{inputs_before};
 
 use crate::boxes::all_columns;
-use symbol_class::narrowed;
-use tier_core::{Class, Sym, TierKind, alone, has_bit};
+use symbol_class::restrict;
+use tier_core::{Class, Sym, TierKind, has_bit, single_set};
 
 /// The number of the set of the symbols that may come next on a tier that is open, or is not.
-fn coming(is_open: bool) -> u8
+fn next_set(is_open: bool) -> u8
     ensures symbols { (s : Sym) → is_in result s ≡ fits is_open s }
     ensures few { result < 32 }
 {
@@ -30,7 +30,7 @@ pub(crate) fn coming_box(width: u32, mask: u32) -> Class
 {
     let mut class = all_columns(width);
     for tier in 0..width {
-        class = narrowed(&class, tier, coming(has_bit(mask, tier)));
+        class = restrict(&class, tier, next_set(has_bit(mask, tier)));
     }
     class
 }
@@ -46,7 +46,7 @@ pub(crate) fn edgeless_box(width: u32) -> Class
 {
     let mut class = all_columns(width);
     for tier in 0..width {
-        class = narrowed(&class, tier, 3);
+        class = restrict(&class, tier, 3);
     }
     class
 }
@@ -63,7 +63,7 @@ pub(crate) fn still_box(kinds: &[TierKind]) -> Class
     let mut class = all_columns(kinds.len() as u32);
     for (tier, kind) in kinds.iter().enumerate() {
         if kind.is_input() {
-            class = narrowed(&class, tier as u32, 3);
+            class = restrict(&class, tier as u32, 3);
         }
     }
     class
@@ -83,7 +83,7 @@ pub(crate) fn reading_box(kinds: &[TierKind], form: &[Sym]) -> Class
     let mut next = 0;
     for (tier, kind) in kinds.iter().enumerate() {
         if kind.is_input() {
-            class = narrowed(&class, tier as u32, alone(form[next]));
+            class = restrict(&class, tier as u32, single_set(form[next]));
             next += 1;
         }
     }

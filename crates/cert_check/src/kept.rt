@@ -6,14 +6,14 @@ ghost use Rattle.tier_core.specs.Filled.{is_filled};
 ghost use Rattle.violation.specs.Prefixes.{kind_of_bits};
 ghost use Rattle.violation.specs.Problems.{last_place, last_stage};
 ghost use Rattle.cert_check.specs.Fitting.{IsGoingAlike};
-ghost use Rattle.cert_check.specs.Kept.{AddsKept, AreKept, AreKeptOf};
+ghost use Rattle.cert_check.specs.Kept.{AddsKept, AreKeptPieces, AreKeptOf};
 ghost use Rattle.cert_check.specs.Pruned.{IsAlikeTo};
 ghost use Rattle.cert_check.specs.Sources.{IsOpenAt};
 ghost use Rattle.cert_check.specs.Subjects.{IsReady, AscendsAt, problem_of};
 
 use crate::costs::{cost, open_at};
 use crate::kept_piece::KeptPiece;
-use crate::moves::moved;
+use crate::moves::next_kind;
 use crate::pruned::pruned_pieces;
 use crate::subject::Subject;
 use std::alloc::{AllocError, Global};
@@ -46,7 +46,7 @@ fn push_kept(
 {
     let least = least_column(alloc, class);
     let column = least.syms();
-    let target = moved(subject, stage, kind, column);
+    let target = next_kind(subject, stage, kind, column);
     let cost = cost(subject, stage, kind, mask, column);
     kept.push(KeptPiece {
         class: *class,
@@ -102,7 +102,7 @@ pub(crate) fn kept_pieces(
     requires place { kind.now.place ≤ last_place (problem_of subject.now) }
     ensures { IfOk result
         (λ pieces.
-        AreKept (problem_of subject.now) subject.now.answer.now.stages.items stage below
+        AreKeptPieces (problem_of subject.now) subject.now.answer.now.stages.items stage below
         (kind_of_bits (problem_of subject.now) stage kind.now) pieces.items) }
 {
     let pieces = pruned_pieces(alloc, subject, stage, below, kind)?;

@@ -3,8 +3,8 @@ ghost use Rattle.tier_core.specs.KindShapes.{FitsShape};
 ghost use Rattle.violation.specs.Prefixes.{kind_of_bits};
 ghost use Rattle.violation.specs.Problems.{last_stage};
 ghost use Rattle.cert_check.specs.KeptArcs.{AreArcsOf, IsTargetListed};
-ghost use Rattle.cert_check.specs.States.{AreKeptArcs, IsStaged, IsStateAt, last_kind};
-ghost use Rattle.cert_check.specs.Subjects.{IsReady, AscendsAt, problem_of, kinds_of};
+ghost use Rattle.cert_check.specs.States.{AreKeptArcs, IsRightBeforeStates, IsStateAt, last_kind};
+ghost use Rattle.cert_check.specs.Subjects.{IsReady, AscendsAt, problem_of, stage_kinds};
 
 use crate::find::find_kind;
 use crate::kept::kept_pieces;
@@ -20,9 +20,9 @@ fn node_number(subject: &Subject, stage: u32, kind: &Kind) -> u32
     requires stage { stage ≤ last_stage (problem_of subject.now) }
     requires ascends { AscendsAt subject.now stage }
     requires fits { FitsShape subject.now.shape.now stage kind.now }
-    requires listed { Contains (kinds_of subject.now stage)
+    requires listed { Contains (stage_kinds subject.now stage)
         (kind_of_bits (problem_of subject.now) stage kind.now) }
-    ensures { slice_get (kinds_of subject.now stage) result
+    ensures { slice_get (stage_kinds subject.now stage) result
         ≡ Some (kind_of_bits (problem_of subject.now) stage kind.now) }
 {
     match find_kind(subject, stage, kind) {
@@ -61,7 +61,7 @@ pub(crate) fn kept_arcs(
     state: &StateLine,
     node: &Node,
 ) -> Result<Vec<ArcLine>, NoMemory>
-    requires staged { IsStaged subject.now }
+    requires staged { IsRightBeforeStates subject.now }
     requires at { IsStateAt subject.now state.now node.now }
     ensures { IfOk result
         (λ arcs.

@@ -8,7 +8,7 @@ use symbol_class::least_column;
 use tier_core::{Class, Column, column_cmp};
 
 /// The one of two columns that comes first.
-fn lesser(first: Column, second: Column) -> Column
+fn lesser_column(first: Column, second: Column) -> Column
     ensures { IsLesser first second result }
 {
     if column_cmp(&first, &second).is_gt() {
@@ -24,7 +24,7 @@ fn lesser_of(best: Option<Column>, column: Column) -> Column
 {
     match best {
         None => column,
-        Some(other) => lesser(other, column),
+        Some(other) => lesser_column(other, column),
     }
 }
 

@@ -8,7 +8,7 @@ ghost use Rattle.tier_core.specs.Tiers.{is_free, is_input, numbers_from};
 ghost use Rattle.tier_core.specs.Timelines.{symbol, has_edge};
 ghost use Rattle.violation.specs.Columns.{is_present, opens_interior};
 ghost use Rattle.violation.specs.Conditions.{AreInColumn, IsOverTiers};
-ghost use Rattle.violation.specs.Moves.{is_unmet_phase, is_met_phase, moved, next_phase, next_phases};
+ghost use Rattle.violation.specs.Moves.{is_unmet_phase, is_met_phase, next_kind, next_phase, next_phases};
 ghost use Rattle.violation.specs.Prefixes.{kind_of_bits};
 ghost use Rattle.violation.specs.Problems.{last_place, last_stage};
 ghost use Rattle.cert_check.specs.Faults.{TellsKind};
@@ -132,13 +132,13 @@ fn place_after(kinds: &[TierKind], place: u32, column: &[Sym]) -> u32
 }
 
 /// The kind to which a column leads from a kind of a stage, if it fits.
-pub(crate) fn moved(subject: &Subject, stage: u32, kind: &Kind, column: &[Sym]) -> Kind
+pub(crate) fn next_kind(subject: &Subject, stage: u32, kind: &Kind, column: &[Sym]) -> Kind
     requires ready { IsReady subject.now }
     requires stage { stage ≤ last_stage (problem_of subject.now) }
     requires place { kind.now.place ≤ last_place (problem_of subject.now) }
     requires width { length column.now ≡ (problem_of subject.now).tiers.width }
     ensures { TellsKind (problem_of subject.now) stage result
-        (moved (problem_of subject.now) stage
+        (next_kind (problem_of subject.now) stage
         (kind_of_bits (problem_of subject.now) stage kind.now) column.now) }
 {
     let kinds = subject.grammar.tiers.kinds.as_slice();

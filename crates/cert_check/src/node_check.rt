@@ -9,7 +9,7 @@ ghost use Rattle.violation.specs.Prefixes.{kind_of_bits};
 ghost use Rattle.violation.specs.Problems.{last_place, last_stage};
 ghost use Rattle.answer_text.specs.Certified.{IsKeptBelow};
 ghost use Rattle.cert_check.specs.Faults.{HasNode};
-ghost use Rattle.cert_check.specs.Kept.{AreKept, IsKeptPiece, classes_of};
+ghost use Rattle.cert_check.specs.Kept.{AreKeptPieces, IsKeptPiece, kept_classes};
 ghost use Rattle.cert_check.specs.Nodes.{IsMoveFault, IsFirstInNode, IsLeastWrong, IsNotAfter, IsRightNode, IsRightPart, AreRightOn, AreWrongOn};
 ghost use Rattle.cert_check.specs.Stops.{StopsBy};
 ghost use Rattle.cert_check.specs.Subjects.{IsReady, AscendsAt, problem_of};
@@ -113,13 +113,14 @@ fn next_best(
     requires stage { stage ≤ last_stage (problem_of subject.now) }
     requires ascends { AscendsAt subject.now stage }
     requires is { HasNode subject.now.answer.now stage number node.now }
-    requires kept { AreKept (problem_of subject.now) subject.now.answer.now.stages.items stage stage
+    requires kept { AreKeptPieces (problem_of subject.now) subject.now.answer.now.stages.items stage
+        stage
         (kind_of_bits (problem_of subject.now) stage node.now.kind) pieces.now }
     requires within { next < length pieces.now }
     requires so_far { IsLeastWrong (problem_of subject.now) subject.now.answer.now stage number
-        (classes_of pieces.now) next best }
+        (kept_classes pieces.now) next best }
     ensures { IsLeastWrong (problem_of subject.now) subject.now.answer.now stage number
-        (classes_of pieces.now) (next + 1) result }
+        (kept_classes pieces.now) (next + 1) result }
 {
     match move_fault(subject, stage, number, node, &pieces[next]) {
         None => best,
@@ -150,7 +151,8 @@ fn check_pieces(
     requires ascends { AscendsAt subject.now stage }
     requires is { HasNode subject.now.answer.now stage number node.now }
     requires potential { IsRightPart (problem_of subject.now) subject.now.answer.now stage number 0 }
-    requires kept { AreKept (problem_of subject.now) subject.now.answer.now.stages.items stage stage
+    requires kept { AreKeptPieces (problem_of subject.now) subject.now.answer.now.stages.items stage
+        stage
         (kind_of_bits (problem_of subject.now) stage node.now.kind) pieces.now }
     ensures ok { OnOk result
         (IsRightPart (problem_of subject.now) subject.now.answer.now stage number 1) }

@@ -3,14 +3,14 @@ ghost use Rattle.std.specs.List.Sorted.{IsStrictlySortedBy};
 ghost use Rattle.std.specs.declared.cmp.Ordering.TheVariants.{Less};
 ghost use Rattle.tier_core.specs.KindShapes.{FitsShape};
 ghost use Rattle.tier_core.specs.Kinds.{kind_order};
-ghost use Rattle.violation.specs.Moves.{cut};
+ghost use Rattle.violation.specs.Moves.{cut_kind};
 ghost use Rattle.violation.specs.Prefixes.{kind_of_bits};
 ghost use Rattle.violation.specs.Problems.{last_stage};
 ghost use Rattle.answer_text.specs.Certified.{IsPossibleKind};
 ghost use Rattle.cert_check.specs.Faults.{IsInOrder};
 ghost use Rattle.cert_check.specs.Parts.{IsFirstInStage};
 ghost use Rattle.cert_check.specs.Stops.{StopsBy};
-ghost use Rattle.cert_check.specs.Subjects.{IsReady, AscendsAt, AreInOrder, node_kind, problem_of, nodes_of, kinds_of};
+ghost use Rattle.cert_check.specs.Subjects.{IsReady, AscendsAt, AreFirstNodesInOrder, node_kind, problem_of, stage_nodes, stage_kinds};
 
 use crate::cut::cut_to;
 use crate::fault::Fault;
@@ -44,7 +44,7 @@ fn is_possible(subject: &Subject, stage: u32, kind: &Kind) -> bool
 fn comes_after(subject: &Subject, stage: u32, nodes: &[Node], number: usize) -> bool
     requires ready { IsReady subject.now }
     requires stage { stage ≤ last_stage (problem_of subject.now) }
-    requires nodes { nodes.now ≡ nodes_of subject.now stage }
+    requires nodes { nodes.now ≡ stage_nodes subject.now stage }
     requires within { number < length nodes.now }
     ensures { IsTrue result
         ↔
@@ -68,8 +68,8 @@ fn has_cut_before(subject: &Subject, stage: u32, kind: &Kind) -> bool
     ensures { IsTrue result
         ↔
         (1 ≤ stage
-        → Contains (kinds_of subject.now (stage - 1))
-        (cut (problem_of subject.now) (stage - 1)
+        → Contains (stage_kinds subject.now (stage - 1))
+        (cut_kind (problem_of subject.now) (stage - 1)
         (kind_of_bits (problem_of subject.now) stage kind.now))) }
 {
     if stage == 0 {
@@ -84,7 +84,7 @@ fn has_cut_before(subject: &Subject, stage: u32, kind: &Kind) -> bool
 fn is_in_order(subject: &Subject, stage: u32, nodes: &[Node], number: usize) -> bool
     requires ready { IsReady subject.now }
     requires stage { stage ≤ last_stage (problem_of subject.now) }
-    requires nodes { nodes.now ≡ nodes_of subject.now stage }
+    requires nodes { nodes.now ≡ stage_nodes subject.now stage }
     requires within { number < length nodes.now }
     requires before { 1 ≤ stage → AscendsAt subject.now (stage - 1) }
     ensures { IsTrue result
@@ -106,7 +106,8 @@ pub(crate) fn check_order(subject: &Subject, stage: u32) -> Result<(), Stop>
     requires ready { IsReady subject.now }
     requires stage { stage ≤ last_stage (problem_of subject.now) }
     requires before { 1 ≤ stage → AscendsAt subject.now (stage - 1) }
-    ensures ok { OnOk result (AreInOrder subject.now stage (length (nodes_of subject.now stage))) }
+    ensures ok { OnOk result (AreFirstNodesInOrder subject.now stage
+        (length (stage_nodes subject.now stage))) }
     ensures err { IfErr result
         (StopsBy (IsFirstInStage (problem_of subject.now) subject.now.answer.now stage)) }
 {

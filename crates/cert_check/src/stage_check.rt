@@ -2,10 +2,10 @@ ghost use Rattle.std.specs.Prelude.{◌≡◌, ℕ, ◌<◌, ◌≤◌, [], IfEr
 ghost use Rattle.violation.specs.Prefixes.{kind_of};
 ghost use Rattle.violation.specs.Problems.{last_stage};
 ghost use Rattle.answer_text.specs.Certified.{start_potential};
-ghost use Rattle.cert_check.specs.Nodes.{IsRightNode, IsRightStage};
+ghost use Rattle.cert_check.specs.Nodes.{IsRightNode, IsFaultlessStage};
 ghost use Rattle.cert_check.specs.Parts.{IsFirstInStage};
 ghost use Rattle.cert_check.specs.Stops.{StopsBy};
-ghost use Rattle.cert_check.specs.Subjects.{IsReady, AreInOrder, AscendsAt, kinds_of, nodes_of, problem_of};
+ghost use Rattle.cert_check.specs.Subjects.{IsReady, AreFirstNodesInOrder, AscendsAt, stage_kinds, stage_nodes, problem_of};
 
 use crate::fault::Fault;
 use crate::node_check::check_node;
@@ -21,11 +21,12 @@ fn check_nodes(alloc: Global, subject: &Subject, stage: u32) -> Result<(), Stop>
     requires ready { IsReady subject.now }
     requires stage { stage ≤ last_stage (problem_of subject.now) }
     requires ascend { (j : ℕ) → j ≤ stage → AscendsAt subject.now j }
-    requires order { AreInOrder subject.now stage (length (nodes_of subject.now stage)) }
-    requires start { slice_get (kinds_of subject.now stage) 0
+    requires order { AreFirstNodesInOrder subject.now stage
+        (length (stage_nodes subject.now stage)) }
+    requires start { slice_get (stage_kinds subject.now stage) 0
         ≡ Some (kind_of (problem_of subject.now) stage []) }
     ensures ok { OnOk result
-        ((n : ℕ) → n < length (nodes_of subject.now stage)
+        ((n : ℕ) → n < length (stage_nodes subject.now stage)
         → IsRightNode (problem_of subject.now) subject.now.answer.now stage n) }
     ensures err { IfErr result
         (StopsBy (IsFirstInStage (problem_of subject.now) subject.now.answer.now stage)) }
@@ -54,13 +55,14 @@ fn start_count(subject: &Subject, stage: u32) -> u32
 fn check_start_potential(subject: &Subject, stage: u32) -> Result<(), Stop>
     requires ready { IsReady subject.now }
     requires stage { stage ≤ last_stage (problem_of subject.now) }
-    requires order { AreInOrder subject.now stage (length (nodes_of subject.now stage)) }
-    requires start { slice_get (kinds_of subject.now stage) 0
+    requires order { AreFirstNodesInOrder subject.now stage
+        (length (stage_nodes subject.now stage)) }
+    requires start { slice_get (stage_kinds subject.now stage) 0
         ≡ Some (kind_of (problem_of subject.now) stage []) }
-    requires nodes { (n : ℕ) → n < length (nodes_of subject.now stage)
+    requires nodes { (n : ℕ) → n < length (stage_nodes subject.now stage)
         → IsRightNode (problem_of subject.now) subject.now.answer.now stage n }
     ensures ok { OnOk result
-        (IsRightStage (problem_of subject.now) subject.now.answer.now stage) }
+        (IsFaultlessStage (problem_of subject.now) subject.now.answer.now stage) }
     ensures err { IfErr result
         (StopsBy (IsFirstInStage (problem_of subject.now) subject.now.answer.now stage)) }
 {
@@ -82,8 +84,9 @@ pub(crate) fn check_stage(alloc: Global, subject: &Subject, stage: u32) -> Resul
     requires stage { stage ≤ last_stage (problem_of subject.now) }
     requires before { (j : ℕ) → j < stage → AscendsAt subject.now j }
     ensures right { OnOk result
-        (IsRightStage (problem_of subject.now) subject.now.answer.now stage) }
-    ensures order { OnOk result (AreInOrder subject.now stage (length (nodes_of subject.now stage))) }
+        (IsFaultlessStage (problem_of subject.now) subject.now.answer.now stage) }
+    ensures order { OnOk result (AreFirstNodesInOrder subject.now stage
+        (length (stage_nodes subject.now stage))) }
     ensures ascends { OnOk result (AscendsAt subject.now stage) }
     ensures err { IfErr result
         (StopsBy (IsFirstInStage (problem_of subject.now) subject.now.answer.now stage)) }

@@ -1,7 +1,7 @@
 ghost use Rattle.std.specs.Prelude.{ℕ, ◌≤◌, IfErr, OnOk, length};
 ghost use Rattle.violation.specs.Problems.{last_stage};
 ghost use Rattle.cert_check.specs.FirstFaults.{IsFirstFault};
-ghost use Rattle.cert_check.specs.Nodes.{IsRightStage};
+ghost use Rattle.cert_check.specs.Nodes.{IsFaultlessStage};
 ghost use Rattle.cert_check.specs.Parts.{HasRightHead};
 ghost use Rattle.cert_check.specs.Stops.{StopsBy};
 ghost use Rattle.cert_check.specs.Subjects.{IsReady, problem_of};
@@ -17,7 +17,7 @@ pub(crate) fn check_stages(alloc: Global, subject: &Subject) -> Result<(), Stop>
     requires head { HasRightHead (problem_of subject.now) subject.now.answer.now }
     ensures ok { OnOk result
         ((r : ℕ) → r ≤ last_stage (problem_of subject.now)
-        → IsRightStage (problem_of subject.now) subject.now.answer.now r) }
+        → IsFaultlessStage (problem_of subject.now) subject.now.answer.now r) }
     ensures err { IfErr result
         (StopsBy (IsFirstFault (problem_of subject.now) subject.now.answer.now)) }
 {

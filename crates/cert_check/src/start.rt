@@ -4,7 +4,7 @@ ghost use Rattle.violation.specs.Prefixes.{kind_of, kind_of_bits};
 ghost use Rattle.violation.specs.Problems.{last_stage};
 ghost use Rattle.cert_check.specs.Parts.{IsFirstInStage};
 ghost use Rattle.cert_check.specs.Stops.{StopsBy};
-ghost use Rattle.cert_check.specs.Subjects.{IsReady, AreInOrder, problem_of, nodes_of, kinds_of};
+ghost use Rattle.cert_check.specs.Subjects.{IsReady, AreFirstNodesInOrder, problem_of, stage_nodes, stage_kinds};
 
 use crate::fault::Fault;
 use crate::stop::Stop;
@@ -34,9 +34,10 @@ fn is_start(subject: &Subject, stage: u32, kind: &Kind) -> bool
 pub(crate) fn check_start(subject: &Subject, stage: u32) -> Result<(), Stop>
     requires ready { IsReady subject.now }
     requires stage { stage ≤ last_stage (problem_of subject.now) }
-    requires order { AreInOrder subject.now stage (length (nodes_of subject.now stage)) }
+    requires order { AreFirstNodesInOrder subject.now stage
+        (length (stage_nodes subject.now stage)) }
     ensures ok { OnOk result
-        (slice_get (kinds_of subject.now stage) 0
+        (slice_get (stage_kinds subject.now stage) 0
         ≡ Some (kind_of (problem_of subject.now) stage [])) }
     ensures err { IfErr result
         (StopsBy (IsFirstInStage (problem_of subject.now) subject.now.answer.now stage)) }

@@ -1,7 +1,7 @@
 ghost use Rattle.std.specs.Prelude.{◌≡◌, ◌↔◌, IfErr, IsTrue, OnOk};
 ghost use Rattle.violation.specs.Problems.{last_stage};
 ghost use Rattle.cert_check.specs.Parts.{IsFirstInState};
-ghost use Rattle.cert_check.specs.States.{IsRightPartOf, IsRightState, IsStaged, IsStateAt};
+ghost use Rattle.cert_check.specs.States.{IsRightPartOf, IsRightState, IsRightBeforeStates, IsStateAt};
 ghost use Rattle.cert_check.specs.Stops.{StopsBy};
 ghost use Rattle.cert_check.specs.Subjects.{problem_of};
 
@@ -19,7 +19,7 @@ use std::alloc::Global;
 
 /// Looks at the targets of a state's arcs. Each is a state.
 fn check_targets(subject: &Subject, state: &StateLine, node: &Node) -> Result<(), Stop>
-    requires staged { IsStaged subject.now }
+    requires staged { IsRightBeforeStates subject.now }
     requires at { IsStateAt subject.now state.now node.now }
     ensures ok { OnOk result
         (IsRightPartOf (problem_of subject.now) subject.now.answer.now state.now.node 0) }
@@ -47,7 +47,7 @@ fn is_same(a: bool, b: bool) -> bool
 
 /// Looks at the mark of a state, after the targets of its arcs.
 fn check_mark(subject: &Subject, state: &StateLine, node: &Node) -> Result<(), Stop>
-    requires staged { IsStaged subject.now }
+    requires staged { IsRightBeforeStates subject.now }
     requires at { IsStateAt subject.now state.now node.now }
     requires targets { IsRightPartOf (problem_of subject.now) subject.now.answer.now
         state.now.node 0 }
@@ -68,7 +68,7 @@ fn check_mark(subject: &Subject, state: &StateLine, node: &Node) -> Result<(), S
 
 /// Looks for columns that are in two arcs of a state, after its mark.
 fn check_once(alloc: Global, subject: &Subject, state: &StateLine, node: &Node) -> Result<(), Stop>
-    requires staged { IsStaged subject.now }
+    requires staged { IsRightBeforeStates subject.now }
     requires at { IsStateAt subject.now state.now node.now }
     requires targets { IsRightPartOf (problem_of subject.now) subject.now.answer.now
         state.now.node 0 }
@@ -92,7 +92,7 @@ fn check_once(alloc: Global, subject: &Subject, state: &StateLine, node: &Node) 
 /// Compares the arcs of a state, no two of which share a column, with the moves that are kept at the
 /// end.
 fn check_arcs(alloc: Global, subject: &Subject, state: &StateLine, node: &Node) -> Result<(), Stop>
-    requires staged { IsStaged subject.now }
+    requires staged { IsRightBeforeStates subject.now }
     requires at { IsStateAt subject.now state.now node.now }
     requires targets { IsRightPartOf (problem_of subject.now) subject.now.answer.now
         state.now.node 0 }
@@ -128,7 +128,7 @@ pub(crate) fn check_state(
     state: &StateLine,
     node: &Node,
 ) -> Result<(), Stop>
-    requires staged { IsStaged subject.now }
+    requires staged { IsRightBeforeStates subject.now }
     requires at { IsStateAt subject.now state.now node.now }
     ensures ok { OnOk result
         (IsRightState (problem_of subject.now) subject.now.answer.now state.now.node) }

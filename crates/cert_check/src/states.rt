@@ -1,6 +1,6 @@
 ghost use Rattle.std.specs.Prelude.{IfErr, OnOk};
 ghost use Rattle.cert_check.specs.FirstFaults.{IsFirstFault};
-ghost use Rattle.cert_check.specs.States.{IsRightFrom, IsStaged};
+ghost use Rattle.cert_check.specs.States.{IsRightFrom, IsRightBeforeStates};
 ghost use Rattle.cert_check.specs.Stops.{StopsBy};
 ghost use Rattle.cert_check.specs.Subjects.{problem_of};
 
@@ -13,7 +13,7 @@ use std::alloc::Global;
 
 /// Looks at the states of the automaton, after all stages. It stops at the first fault.
 pub(crate) fn check_states(alloc: Global, subject: &Subject) -> Result<(), Stop>
-    requires { IsStaged subject.now }
+    requires { IsRightBeforeStates subject.now }
     ensures ok { OnOk result (IsRightFrom (problem_of subject.now) subject.now.answer.now) }
     ensures err { IfErr result
         (StopsBy (IsFirstFault (problem_of subject.now) subject.now.answer.now)) }

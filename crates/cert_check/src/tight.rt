@@ -4,7 +4,7 @@ ghost use Rattle.tier_core.specs.Filled.{is_filled};
 ghost use Rattle.tier_core.specs.Kinds.{PrefixKind};
 ghost use Rattle.tier_core.specs.KindShapes.{FitsShape};
 ghost use Rattle.symbol_class.specs.Held.{ArePieces};
-ghost use Rattle.violation.specs.Moves.{cut};
+ghost use Rattle.violation.specs.Moves.{cut_kind};
 ghost use Rattle.violation.specs.Prefixes.{kind_of_bits};
 ghost use Rattle.violation.specs.Problems.{last_place, last_stage};
 ghost use Rattle.answer_text.specs.declared.stage.Node.{Node};
@@ -12,12 +12,12 @@ ghost use Rattle.answer_text.specs.Certified.{IsTightAt, Lists};
 ghost use Rattle.cert_check.specs.Faults.{IsUnlisted};
 ghost use Rattle.cert_check.specs.Pruned.{AddsTight, AreTightAmong, IsAlikeTo};
 ghost use Rattle.cert_check.specs.Sources.{IsSource};
-ghost use Rattle.cert_check.specs.Subjects.{IsReady, AscendsAt, nodes_of, problem_of};
+ghost use Rattle.cert_check.specs.Subjects.{IsReady, AscendsAt, stage_nodes, problem_of};
 
 use crate::costs::{cost, open_at};
 use crate::cut::cut_to;
 use crate::find::find_kind;
-use crate::moves::moved;
+use crate::moves::next_kind;
 use crate::source::Source;
 use crate::subject::Subject;
 use std::alloc::{AllocError, Global};
@@ -28,9 +28,9 @@ use tier_core::{Class, Kind, NoMemory, Sym};
 pub(crate) fn potential_at(subject: &Subject, stage: u32, number: usize) -> u32
     requires ready { IsReady subject.now }
     requires stage { stage ≤ last_stage (problem_of subject.now) }
-    requires within { number < length (nodes_of subject.now stage) }
+    requires within { number < length (stage_nodes subject.now stage) }
     ensures value { (node : Node)
-        → result ≡ (slice_index_or (nodes_of subject.now stage) number node).potential }
+        → result ≡ (slice_index_or (stage_nodes subject.now stage) number node).potential }
     ensures few { result ≤ 1000000000 }
 {
     let nodes = subject.answer.stages[stage as usize].nodes.as_slice();
@@ -63,13 +63,13 @@ fn is_tight_at(subject: &Subject, stage: u32, source: &Source, column: &[Sym]) -
     requires ascends { AscendsAt subject.now stage }
     requires source { IsSource subject.now stage source.now }
     requires width { length column.now ≡ (problem_of subject.now).tiers.width }
-    ensures { (k : PrefixKind) → cut (problem_of subject.now) stage k
+    ensures { (k : PrefixKind) → cut_kind (problem_of subject.now) stage k
         ≡ kind_of_bits (problem_of subject.now) stage source.now.kind
         → IsTrue result
         ↔ IsTightAt (problem_of subject.now) subject.now.answer.now.stages.items stage k
         column.now }
 {
-    let target = moved(subject, stage, &source.kind, column);
+    let target = next_kind(subject, stage, &source.kind, column);
     let Some(after) = potential_of(subject, stage, &target) else {
         return false;
     };
@@ -92,7 +92,7 @@ fn push_tight(
     requires width { length (sets_of class.now) ≡ (problem_of subject.now).tiers.width }
     requires filled { IsTrue (is_filled class.now) }
     requires alike { IsAlikeTo (problem_of subject.now) stage class.now }
-    ensures { (k : PrefixKind) → cut (problem_of subject.now) stage k
+    ensures { (k : PrefixKind) → cut_kind (problem_of subject.now) stage k
         ≡ kind_of_bits (problem_of subject.now) stage source.now.kind
         → OnOk result
         (AddsTight (problem_of subject.now) subject.now.answer.now.stages.items stage k
@@ -120,7 +120,7 @@ fn tight_from(
     requires source { IsSource subject.now stage source.now }
     requires pieces { ArePieces (problem_of subject.now).tiers.width pieces.now }
     requires alike { All (IsAlikeTo (problem_of subject.now) stage) pieces.now }
-    ensures { (k : PrefixKind) → cut (problem_of subject.now) stage k
+    ensures { (k : PrefixKind) → cut_kind (problem_of subject.now) stage k
         ≡ kind_of_bits (problem_of subject.now) stage source.now.kind
         → IfOk result (λ tight.
         AreTightAmong (problem_of subject.now) subject.now.answer.now.stages.items stage k

@@ -6,7 +6,7 @@ ghost use Rattle.symbol_class.specs.Parts.{differs};
 ghost use Rattle.cert_check.specs.Fitting.{ArePartedByTests};
 
 use std::alloc::Global;
-use symbol_class::{Difference, narrowed, part};
+use symbol_class::{Difference, part, restrict};
 use tier_core::{Class, NoMemory};
 
 /// The test whether a column is in a class.
@@ -16,7 +16,7 @@ fn inside(class: &Class) -> Difference
 {
     Difference {
         within: *class,
-        without: narrowed(class, 0, 0),
+        without: restrict(class, 0, 0),
     }
 }
 

@@ -1,5 +1,6 @@
 -- Prefixes along which the potentials of a right answer fall go on to optimal candidates.
-use Rattle.std.proofs.Common.{◌≡◌, ℕ, zero, suc, ◌-◌, ◌<◌, ◌≤◌, List, [], ◌∷◌, ◌++◌, sym, ap, ◌∙◌, subst, arith, inl, inr}
+use Rattle.std.proofs.Common.{◌≡◌, ℕ, zero, suc, ◌-◌, ◌<◌, ◌≤◌, List, [], ◌∷◌, ◌++◌, sym, ap, ◌∙◌, subst, arith, inl}
+use Rattle.std.proofs.Common.{inr}
 use Rattle.std.specs.List.{AllByRecursion}
 use Rattle.std.proofs.lemmas.Bool.{cases_lt}
 use Rattle.std.proofs.lemmas.List.Elements.{All-contains}
@@ -21,7 +22,8 @@ use Rattle.answer_text.specs.declared.stage.Node.{Node}
 use Rattle.answer_text.specs.Right.{nodes_at, IsRight}
 use Rattle.answer_text.specs.Certified.{Lists, IsKeptBelow, IsCertifiedStage}
 use Rattle.check_laws.proofs.Listing.{lists_kind, kind_listed, first_listed}
-use Rattle.check_laws.proofs.Potentials.{FallsAlong, stage_at, over_at, falls_from_tight, falls_parts, falls_joined, listed_on, rest_cost, falls_from_sum}
+use Rattle.check_laws.proofs.Potentials.{FallsAlong, stage_at, over_at, falls_from_tight, falls_parts, falls_joined}
+use Rattle.check_laws.proofs.Potentials.{listed_on, rest_cost, falls_from_sum}
 use Rattle.check_laws.proofs.Joining.{falls_alike}
 use Rattle.check_laws.proofs.Optima.{AllFall, AreTold, all_told}
 use Rattle.check_laws.proofs.Rests.{HasRest, rest_some}

@@ -6,7 +6,7 @@ use Rattle.tier_core.specs.declared.constraint.Constraint.{Constraint}
 use Rattle.tier_core.specs.Tiers.{Tiers}
 use Rattle.violation.specs.Candidates.{IsForm, IsCandidate}
 use Rattle.violation.specs.Conditions.{AreSplit, IsOverTiers}
-use Rattle.violation.specs.Moves.{moved, cost_of}
+use Rattle.violation.specs.Moves.{next_kind, cost_of}
 use Rattle.violation.specs.Prefixes.{kind_of}
 use Rattle.answer_text.specs.declared.stage.Stage.{Stage}
 use Rattle.answer_text.specs.Certified.{Lists}
@@ -23,7 +23,7 @@ module _ (problem : Problem) (stages : List Stage) (split : AreSplit problem.tie
       → kind_of problem j (v ++ column ∷ []) ≡ kind_of problem j (p ++ column ∷ [])
   same_next j w v p column q c d same =
       sym (goes_to problem stages split form over j w v column (one_more problem stages split form over v column q c))
-      ∙ ap (λ k. moved problem j k column) same
+      ∙ ap (λ k. next_kind problem j k column) same
       ∙ goes_to problem stages split form over j w p column (one_more problem stages split form over p column q d)
 
   pub falls_alike : (j : ℕ) → j ≤ last_stage problem → (q v p : List (List Sym)) → IsCandidate problem (v ++ q)

@@ -1,16 +1,17 @@
 -- Potentials bound from below what the rest of a candidate violates.
-use Rattle.std.proofs.Common.{◌≡◌, ℕ, ◌+◌, ◌-◌, ◌<◌, ◌≤◌, List, [], ◌∷◌, ◌++◌, take, length, sym, ap, ◌∙◌, subst, arith, append-nil, append_assoc}
+use Rattle.std.proofs.Common.{◌≡◌, ℕ, ◌+◌, ◌-◌, ◌<◌, ◌≤◌, List, [], ◌∷◌, ◌++◌, take, length, sym, ap, ◌∙◌, subst, arith}
+use Rattle.std.proofs.Common.{append-nil, append_assoc}
 use Rattle.std.specs.List.{AllByRecursion}
 use Rattle.tier_core.specs.declared.sym.Sym.{Sym}
 use Rattle.tier_core.specs.declared.constraint.Constraint.{Constraint}
 use Rattle.tier_core.specs.Tiers.{Tiers}
 use Rattle.violation.specs.Candidates.{IsForm, IsCandidate}
 use Rattle.violation.specs.Conditions.{AreSplit, IsOverTiers}
-use Rattle.violation.specs.Moves.{moved, cost_of, cut}
+use Rattle.violation.specs.Moves.{next_kind, cost_of, cut_kind}
 use Rattle.violation.specs.Prefixes.{kind_of, stretches}
 use Rattle.violation.specs.Stages.{IsStage}
 use Rattle.violation.specs.Walks.{BeginsCandidate}
-use Rattle.violation.proofs.CutLemmas.{cut-kind_of}
+use Rattle.violation.proofs.CutLemmas.{cut_kind-kind_of}
 use Rattle.violation.proofs.StageLemmas.{over_stretches}
 use Rattle.violation.proofs.WalkLemmas.{fits_next, moved_is, candidate_final}
 use Rattle.violation.proofs.WalkSums.{none_at, walk_cost, walk_step}
@@ -65,7 +66,7 @@ module _ (problem : Problem) (stages : List Stage) (split : AreSplit problem.tie
   -- the kind to which a column leads is that of the longer prefix
   pub goes_to : (r : ℕ) → r ≤ last_stage problem → (p : List (List Sym)) (column : List Sym)
       → BeginsCandidate problem (p ++ column ∷ [])
-      → moved problem r (kind_of problem r p) column ≡ kind_of problem r (p ++ column ∷ [])
+      → next_kind problem r (kind_of problem r p) column ≡ kind_of problem r (p ++ column ∷ [])
   goes_to r w p column b = moved_is problem r split form (over_at r w) p column b
 
   -- a candidate by way of a longer prefix
@@ -79,29 +80,30 @@ module _ (problem : Problem) (stages : List Stage) (split : AreSplit problem.tie
 
   module _ (j s : ℕ) (fewer : j ≤ s) (within : s ≤ last_stage problem) (p : List (List Sym)) (column : List Sym)
       (begins : BeginsCandidate problem (p ++ column ∷ [])) where
-    cut_kind : cut problem j (kind_of problem s p) ≡ kind_of problem j p
-    cut_kind = cut-kind_of problem j s fewer p
+    cut_is : cut_kind problem j (kind_of problem s p) ≡ kind_of problem j p
+    cut_is = cut_kind-kind_of problem j s fewer p
 
-    next_kind : moved problem j (cut problem j (kind_of problem s p)) column ≡ kind_of problem j (p ++ column ∷ [])
-    next_kind = ap (λ k. moved problem j k column) cut_kind ∙ goes_to j (omega arith) p column begins
+    next_is : next_kind problem j (cut_kind problem j (kind_of problem s p)) column
+        ≡ kind_of problem j (p ++ column ∷ [])
+    next_is = ap (λ k. next_kind problem j k column) cut_is ∙ goes_to j (omega arith) p column begins
 
     -- tight at a stage, by prefixes
     pub falls_from_tight : IsTightAt problem stages j (kind_of problem s p) column → FallsOn problem stages j p column
     falls_from_tight t = record {
       before = t.before;
       after = t.after;
-      leaves = subst (λ k. Lists problem stages j k t.before) cut_kind t.leaves;
-      arrives = subst (λ k. Lists problem stages j k t.after) next_kind t.arrives;
-      falls = t.falls ∙ ap (λ k. cost_of problem j k column + t.after) cut_kind;
+      leaves = subst (λ k. Lists problem stages j k t.before) cut_is t.leaves;
+      arrives = subst (λ k. Lists problem stages j k t.after) next_is t.arrives;
+      falls = t.falls ∙ ap (λ k. cost_of problem j k column + t.after) cut_is;
     }
 
     pub tight_from_falls : FallsOn problem stages j p column → IsTightAt problem stages j (kind_of problem s p) column
     tight_from_falls f = record {
       before = f.before;
       after = f.after;
-      leaves = subst (λ k. Lists problem stages j k f.before) (sym cut_kind) f.leaves;
-      arrives = subst (λ k. Lists problem stages j k f.after) (sym next_kind) f.arrives;
-      falls = f.falls ∙ ap (λ k. cost_of problem j k column + f.after) (sym cut_kind);
+      leaves = subst (λ k. Lists problem stages j k f.before) (sym cut_is) f.leaves;
+      arrives = subst (λ k. Lists problem stages j k f.after) (sym next_is) f.arrives;
+      falls = f.falls ∙ ap (λ k. cost_of problem j k column + f.after) (sym cut_is);
     }
 
   -- a move of a candidate is kept where the potentials fall so

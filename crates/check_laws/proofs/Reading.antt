@@ -1,12 +1,13 @@
 -- What a certified automaton reads: exactly the candidates along which the potentials of all stages fall.
-use Rattle.std.proofs.Common.{◌≡◌, ℕ, ◌+◌, ◌≤◌, true, List, [], ◌∷◌, ◌++◌, refl, sym, ◌∙◌, subst, arith, append-nil, append_assoc, All, Contains}
+use Rattle.std.proofs.Common.{◌≡◌, ℕ, ◌+◌, ◌≤◌, true, List, [], ◌∷◌, ◌++◌, refl, sym, ◌∙◌, subst, arith, append-nil}
+use Rattle.std.proofs.Common.{append_assoc, All, Contains}
 use Rattle.std.specs.List.{AllByRecursion}
 use Rattle.std.proofs.lemmas.List.Elements.{All-contains}
 use Rattle.tier_core.specs.declared.sym.Sym.{Sym}
 use Rattle.tier_core.specs.Kinds.{PrefixKind}
 use Rattle.violation.specs.Candidates.{IsForm, IsCandidate}
 use Rattle.violation.specs.Conditions.{AreSplit, IsOverTiers}
-use Rattle.violation.specs.Moves.{moved, is_final}
+use Rattle.violation.specs.Moves.{next_kind, is_final}
 use Rattle.violation.specs.Prefixes.{kind_of}
 use Rattle.violation.specs.Walks.{BeginsCandidate}
 use Rattle.violation.proofs.CompletionLemmas.{completed}
@@ -21,7 +22,8 @@ use Rattle.answer_text.specs.Right.{nodes_at, IsNodeOf, numbers_of}
 use Rattle.answer_text.specs.Certified.{IsKeptBelow, IsCertifiedStage, IsCertifiedAutomaton}
 use Rattle.tier_core.proofs.Members.{contains_of_map}
 use Rattle.check_laws.proofs.Listing.{lists_kind, kind_listed, kind_numbered, numbered_kind, first_numbered}
-use Rattle.check_laws.proofs.Potentials.{FallsOn, FallsAlong, over_at, goes_to, as_longer, one_more, falls_from_tight, kept_from_falls}
+use Rattle.check_laws.proofs.Potentials.{FallsOn, FallsAlong, over_at, goes_to, as_longer, one_more, falls_from_tight}
+use Rattle.check_laws.proofs.Potentials.{kept_from_falls}
 use Rattle.violation.specs.Problems.{Problem, last_stage}
 
 -- n is the number of a state, whose node tells the kind of the prefix p
@@ -132,8 +134,8 @@ module _ (problem : Problem) (stages : List Stage) (split : AreSplit problem.tie
       (λ j a l. (f j a (omega arith)).0) in
       let here = kind_listed problem last stages k (numbered_kind problem nodes n k at.tells) in
       let next = certified.goes_on k here.0 column here.1 kept in
-      let node = kind_numbered problem nodes (moved problem last k column)
-      (lists_kind problem last stages (moved problem last k column) next.0 next.1.0) in
+      let node = kind_numbered problem nodes (next_kind problem last k column)
+      (lists_kind problem last stages (next_kind problem last k column) next.0 next.1.0) in
       let arc : HasArc states n node.0 column = (automaton.arcs n node.0 k column at.state at.tells).1
       (kept_last, node.1) in
       let more : BeginsCandidate problem (p ++ column ∷ []) = one_more problem stages split form over p column q c in

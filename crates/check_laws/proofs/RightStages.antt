@@ -1,16 +1,18 @@
 -- The stages of a right answer are certified.
-use Rattle.std.proofs.Common.{◌≡◌, ℕ, zero, suc, ◌+◌, ◌-◌, ◌<◌, ◌≤◌, IsTrue, List, [], ◌∷◌, ◌++◌, take, drop, length, get_or, refl, sym, ap, ◌∙◌, subst, arith, inl, inr, append-nil, append_assoc, take_at, All, Contains, Some, slice_get}
+use Rattle.std.proofs.Common.{◌≡◌, ℕ, zero, suc, ◌+◌, ◌-◌, ◌<◌, ◌≤◌, IsTrue, List, [], ◌∷◌, ◌++◌, take, drop, length}
+use Rattle.std.proofs.Common.{get_or, refl, sym, ap, ◌∙◌, subst, arith, inl, inr, append-nil, append_assoc, take_at}
+use Rattle.std.proofs.Common.{All, Contains, Some, slice_get}
 use Rattle.std.proofs.lemmas.Bool.{cases_lt}
 use Rattle.std.proofs.lemmas.List.{length-append, length-map, take-append-drop}
 use Rattle.tier_core.specs.declared.sym.Sym.{Sym}
 use Rattle.tier_core.specs.Kinds.{PrefixKind, kind_order}
 use Rattle.violation.specs.Candidates.{IsCandidate, IsOptimalFor, counts_on, count_at}
 use Rattle.violation.specs.Counts.{violations_of}
-use Rattle.violation.specs.Moves.{moved, cost_of, cut, is_final}
+use Rattle.violation.specs.Moves.{next_kind, cost_of, cut_kind, is_final}
 use Rattle.violation.specs.Prefixes.{kind_of}
 use Rattle.violation.specs.Stages.{IsStage, IsPassed, IsKindOfStage, IsLeastRest, IsRemaining}
 use Rattle.violation.specs.Walks.{BeginsCandidate}
-use Rattle.violation.proofs.CutLemmas.{cut-kind_of}
+use Rattle.violation.proofs.CutLemmas.{cut_kind-kind_of}
 use Rattle.violation.proofs.PrefixLemmas.{IsBegun}
 use Rattle.violation.proofs.StageLemmas.{optimal_for_fewer}
 use Rattle.violation.proofs.VectorLemmas.{both_equal, at_most_last}
@@ -23,7 +25,8 @@ use Rattle.tier_core.proofs.Members.{All-from_members}
 use Rattle.check_laws.proofs.Potentials.{stage_at, over_at, goes_to}
 use Rattle.check_laws.proofs.Optima.{start_count, AllFall, AreTold}
 use Rattle.check_laws.proofs.Rests.{HasRest, rest_some, rest_least}
-use Rattle.check_laws.proofs.Continuing.{IsGiven, counts_are, remains, passed_by, listed_by, told_by, falls_to, kept_longer, exchanged, swapped, goes_on}
+use Rattle.check_laws.proofs.Continuing.{IsGiven, counts_are, remains, passed_by, listed_by, told_by, falls_to}
+use Rattle.check_laws.proofs.Continuing.{kept_longer, exchanged, swapped, goes_on}
 use Rattle.check_laws.proofs.Starts.{first_is, none_before_start, possible}
 use Rattle.violation.specs.Problems.{Problem, last_stage}
 use Rattle.violation.proofs.FewerStages.{same_fewer, least_rest}
@@ -101,13 +104,13 @@ module _ (problem : Problem) (answer : Answer) (given : IsGiven problem answer) 
         (over_at problem answer.stages.items given.split given.form given.over r within)))
 
     cuts_listed : 1 ≤ r → All (λ k. Contains (kinds_at problem (r - 1) (nodes_at answer.stages.items (r - 1)))
-        (cut problem (r - 1) k)) kinds
+        (cut_kind problem (r - 1) k)) kinds
     cuts_listed ranked = All-from_members _ kinds (λ k m.
         let h = parted_passed (r - 1) r k (member_passed k m) in
         let fewer : IsOptimalFor problem (r - 1 - 1) (h.0 ++ h.1.0) = optimal_for_fewer problem (r - 1 - 1) (r - 1)
         (omega arith) (h.0 ++ h.1.0) h.1.1.0 in
         subst (Contains (kinds_at problem (r - 1) (nodes_at answer.stages.items (r - 1))))
-        (sym (cut-kind_of problem (r - 1) r (omega arith) h.0) ∙ ap (cut problem (r - 1)) h.1.1.1)
+        (sym (cut_kind-kind_of problem (r - 1) r (omega arith) h.0) ∙ ap (cut_kind problem (r - 1)) h.1.1.1)
         (((given.right.each_stage (r - 1) (omega arith)).kinds.members (kind_of problem (r - 1) h.0)).1
         (passed_parts (r - 1 - 1) (r - 1) h.0 h.1.0 fewer)))
 
@@ -158,8 +161,8 @@ module _ (problem : Problem) (answer : Answer) (given : IsGiven problem answer) 
       fall : AllFall problem answer.stages.items (r - 1) (v ++ column ∷ [])
       fall = longer.1
 
-      next_kind : moved problem r (kind_of problem r v) column ≡ kind_of problem r (v ++ column ∷ [])
-      next_kind = goes_to problem answer.stages.items given.split given.form given.over r within v column more
+      next_is : next_kind problem r (kind_of problem r v) column ≡ kind_of problem r (v ++ column ∷ [])
+      next_is = goes_to problem answer.stages.items given.split given.form given.over r within v column more
 
       -- some optimal candidate goes on from the longer prefix
       next_listed : (n : ℕ) × Lists problem answer.stages.items r (kind_of problem r (v ++ column ∷ [])) n
@@ -200,7 +203,7 @@ module _ (problem : Problem) (answer : Answer) (given : IsGiven problem answer) 
         costs_there =
             walk_step problem r stage (r - 1) (kind_of problem r v) column rest.rest
             ∙ ap (λ k. cost_of problem r (kind_of problem r v) column + walk_cost problem r stage (r - 1) k rest.rest)
-            (next_kind ∙ sym rest.of_kind)
+            (next_is ∙ sym rest.of_kind)
             ∙ ap (λ n. cost_of problem r (kind_of problem r v) column + n) rest.costs
 
         no_more_ranked : p ≤ cost_of problem r (kind_of problem r v) column + next_listed.0
@@ -213,20 +216,21 @@ module _ (problem : Problem) (answer : Answer) (given : IsGiven problem answer) 
         | inl ranked ↦ no_more_ranked ranked
       ]
 
-      step_listed : (n : ℕ) × (Lists problem answer.stages.items r (moved problem r (kind_of problem r v) column) n ×
+      step_listed : (n : ℕ) × (Lists problem answer.stages.items r (next_kind problem r (kind_of problem r v) column) n
+          ×
           (p ≤ cost_of problem r (kind_of problem r v) column + n))
       step_listed = (
         next_listed.0,
         (
           subst (λ k. Lists problem answer.stages.items r k next_listed.0)
-              (sym next_kind) next_listed.1,
+              (sym next_is) next_listed.1,
           no_more,
         ),
       )
 
     closed_on : (k : PrefixKind) (p : ℕ) (column : List Sym) → Lists problem answer.stages.items r k p
         → IsKeptBelow problem answer.stages.items r k column
-        → (n : ℕ) × (Lists problem answer.stages.items r (moved problem r k column) n ×
+        → (n : ℕ) × (Lists problem answer.stages.items r (next_kind problem r k column) n ×
         (p ≤ cost_of problem r k column + n))
     closed_on k p column l kept =
         let h = parted_passed (r - 1) r k (listed_passed k p l) in
@@ -236,7 +240,7 @@ module _ (problem : Problem) (answer : Answer) (given : IsGiven problem answer) 
         (subst (λ x. IsKeptBelow problem answer.stages.items r x column) (sym same) kept) in (
           next.0,
           (
-            subst (λ x. Lists problem answer.stages.items r (moved problem r x column) next.0) same next.1.0,
+            subst (λ x. Lists problem answer.stages.items r (next_kind problem r x column) next.0) same next.1.0,
             subst (λ x. p ≤ cost_of problem r x column + next.0) same next.1.1,
           ),
         )

@@ -1,5 +1,6 @@
 -- The automaton of a right answer is certified, and so is the answer.
-use Rattle.std.proofs.Common.{◌≡◌, ℕ, ◌+◌, ◌≤◌, List, [], ◌∷◌, ◌++◌, take, length, refl, sym, ap, ◌∙◌, subst, arith, append_assoc, take_at, All, AllPairs, Contains}
+use Rattle.std.proofs.Common.{◌≡◌, ℕ, ◌+◌, ◌≤◌, List, [], ◌∷◌, ◌++◌, take, length, refl, sym, ap, ◌∙◌, subst, arith}
+use Rattle.std.proofs.Common.{append_assoc, take_at, All, AllPairs, Contains}
 use Rattle.std.specs.Cmp.{both_ways}
 use Rattle.std.proofs.lemmas.List.{length-append}
 use Rattle.std.proofs.lemmas.List.Elements.{All-contains}
@@ -7,7 +8,7 @@ use Rattle.tier_core.specs.declared.sym.Sym.{Sym}
 use Rattle.tier_core.specs.Classes.{AreDisjoint}
 use Rattle.tier_core.specs.Kinds.{PrefixKind}
 use Rattle.violation.specs.Candidates.{IsCandidate, IsOptimalFor}
-use Rattle.violation.specs.Moves.{moved, is_final}
+use Rattle.violation.specs.Moves.{next_kind, is_final}
 use Rattle.violation.specs.Prefixes.{kind_of}
 use Rattle.violation.specs.Walks.{BeginsCandidate}
 use Rattle.violation.proofs.WalkLemmas.{begun_of, candidate_final, final_candidate}
@@ -165,12 +166,12 @@ module _ (problem : Problem) (answer : Answer) (given : IsGiven problem answer) 
       unfolding longer
       through = subst (IsOptimalFor problem last) (append_assoc here.before (column ∷ []) there.1.rest) whole
 
-      target_kind : kind_of problem last longer ≡ moved problem last k column
+      target_kind : kind_of problem last longer ≡ next_kind problem last k column
       unfolding longer
       target_kind =
           sym (goes_to problem answer.stages.items given.split given.form given.over last
           (omega arith) here.before column (there.1.rest, whole.candidate))
-          ∙ ap (λ x. moved problem last x column) here.of_kind
+          ∙ ap (λ x. next_kind problem last x column) here.of_kind
 
       target_node : IsNodeOf problem nodes m (kind_of problem last longer)
       target_node =
@@ -179,7 +180,7 @@ module _ (problem : Problem) (answer : Answer) (given : IsGiven problem answer) 
           (one_end longer read.0 m read.1.0 step) read.1.1
 
       arc_kept : IsKeptBelow problem answer.stages.items (last + 1) k column × IsNodeOf problem nodes m
-          (moved problem last k column)
+          (next_kind problem last k column)
       arc_kept = (
         subst (λ x. IsKeptBelow problem answer.stages.items (last + 1) x column) here.of_kind
             (kept_from_falls problem answer.stages.items given.split given.form given.over (last + 1) last
@@ -191,7 +192,7 @@ module _ (problem : Problem) (answer : Answer) (given : IsGiven problem answer) 
 
     -- A kept move goes on from that prefix to an optimal candidate, which is read by an arc on the column.
     module _ (kept : IsKeptBelow problem answer.stages.items (last + 1) k column)
-        (node_there : IsNodeOf problem nodes m (moved problem last k column)) where
+        (node_there : IsNodeOf problem nodes m (next_kind problem last k column)) where
       more : BeginsCandidate problem (here.before ++ column ∷ []) × AllFall problem answer.stages.items last
           (here.before ++ column ∷ [])
       more =
@@ -202,9 +203,9 @@ module _ (problem : Problem) (answer : Answer) (given : IsGiven problem answer) 
       far : (q : List (List Sym)) × IsOptimalFor problem last ((here.before ++ column ∷ []) ++ q)
       far = goes_on problem answer given last (omega arith) all_certified (here.before ++ column ∷ []) more.0 more.1
 
-      kind_there : moved problem last k column ≡ kind_of problem last (here.before ++ column ∷ [])
+      kind_there : next_kind problem last k column ≡ kind_of problem last (here.before ++ column ∷ [])
       kind_there =
-          ap (λ x. moved problem last x column) (sym here.of_kind)
+          ap (λ x. next_kind problem last x column) (sym here.of_kind)
           ∙ goes_to problem answer.stages.items given.split given.form given.over last
           (omega arith) here.before column more.0
 

@@ -1,5 +1,6 @@
 -- The kind of the empty prefix comes first, and the kind of a prefix is a possible one.
-use Rattle.std.proofs.Common.{◌≡◌, ℕ, zero, suc, ◌<◌, true, false, List, [], ◌∷◌, map, length, get_or, refl, sym, ap, ◌∙◌, arith, Contains, Some, slice_get}
+use Rattle.std.proofs.Common.{◌≡◌, ℕ, zero, suc, ◌<◌, true, false, List, [], ◌∷◌, map, length, get_or, refl, sym, ap}
+use Rattle.std.proofs.Common.{◌∙◌, arith, Contains, Some, slice_get}
 use Rattle.std.specs.List.{AllByRecursion}
 use Rattle.std.specs.Cmp.Lexicographic.{slice_cmp}
 use Rattle.std.specs.List.Sorted.{IsStrictlySortedBy}
@@ -13,7 +14,7 @@ use Rattle.std.proofs.lemmas.Map.Keys.{Less-from_sorted}
 use Rattle.tier_core.specs.declared.event.Event.{Event}
 use Rattle.tier_core.specs.declared.sym.Sym.{Sym}
 use Rattle.tier_core.specs.Kinds.{PrefixKind, phase_rank, open_rank, kind_order, open_order, phase_order}
-use Rattle.tier_core.specs.Timelines.{word}
+use Rattle.tier_core.specs.Timelines.{tier_word}
 use Rattle.tier_core.proofs.CountLemmas.{all_weaker, all_of}
 use Rattle.violation.specs.Candidates.{IsForm}
 use Rattle.violation.specs.Conditions.{AreSplit, IsOverTiers}
@@ -69,8 +70,8 @@ none_before_start problem r over p e =
     (ordering_then (open_order k.opened start.opened) (phase_order k.phases start.phases))
     (not_below_zero k.place 0 refl)
     (not_less (open_order k.opened start.opened) (phase_order k.phases start.phases)
-    (not_below_zeros open_rank (λ t. is_open (word p t))
-    (λ t. is_open (word (let none : List (List Sym) = [] in none) t)) problem.tiers.free
+    (not_below_zeros open_rank (λ t. is_open (tier_word p t))
+    (λ t. is_open (tier_word (let none : List (List Sym) = [] in none) t)) problem.tiers.free
     (all_of _ problem.tiers.free (λ t. refl)))
     (not_below_zeros phase_rank (λ c. phase c.left c.right p) (λ c. phase c.left c.right []) (stretches problem r)
     (all_weaker (IsOverTiers problem.tiers.width) _ (stretches problem r)
@@ -81,7 +82,6 @@ none_before_start problem r over p e =
 
 module _ (problem : Problem) (split : AreSplit problem.tiers) (form : IsForm problem.tiers problem.form) (r : ℕ)
     (p : List (List Sym)) (begun : IsBegun problem p) where
-
   pub possible : AllByRecursion (IsOverTiers problem.tiers.width) (stretches problem r)
       → IsPossibleKind problem r (kind_of problem r p)
   possible over = record {

@@ -106,7 +106,7 @@ fn second_column(alloc: Global, form: &Timeline) -> Result<Timeline, Fail>
     ensures { IfOk result (λ second. second ≡ column_at form.now 1 ∷ []) }
 {
     let mut second = Timeline::new(alloc);
-    match second.push(form.column(1).copied(alloc)) {
+    match second.push(form.column(1).copy(alloc)) {
         Ok(()) => Ok(second),
         Err(_) => Err(Fail::new("no memory")),
     }

@@ -30,7 +30,7 @@ pub record HasBudget (words front : List (List ℕ)) (budget : ℕ) : Type 0 whe
   pub budgeted : IsBudget rest budget
 
 -- the words are the name of a command and a number
-pub record IsNumbered (words : List (List ℕ)) (name : List ℕ) (most number : ℕ) : Type 0 where
+pub record IsNameAndNumber (words : List (List ℕ)) (name : List ℕ) (most number : ℕ) : Type 0 where
   pub word : List ℕ
   pub are : words ≡ name ∷ word ∷ []
   pub is_number : IsNumber most word number
@@ -45,20 +45,20 @@ IsCommand words (tableau g f r b) = HasBudget words (codes "tableau" ∷ g ∷ f
 IsCommand words (once g f b) = HasBudget words (codes "once" ∷ g ∷ f ∷ []) b
 IsCommand words (comprehend g l s b) = HasBudget words (codes "comprehend" ∷ g ∷ l ∷ s ∷ []) b
 IsCommand words (check g a) = words ≡ codes "check" ∷ g ∷ a ∷ []
-IsCommand words (sample n) = IsNumbered words (codes "sample") 63 n
+IsCommand words (sample n) = IsNameAndNumber words (codes "sample") 63 n
 
 -- the words are those of no command
 abbrev pub IsNoCommand : List (List ℕ) → Type 0
 IsNoCommand words = (command : Command) → ¬ IsCommand words command
 
 -- the name of the grammar's file; `sample` names none, and has a grammar of its own
-abbrev pub grammar_of : Command → Option (List ℕ)
-grammar_of (canon g) = Some g
-grammar_of (score g t) = Some g
-grammar_of (generate g f b) = Some g
-grammar_of (show g f b) = Some g
-grammar_of (tableau g f r b) = Some g
-grammar_of (once g f b) = Some g
-grammar_of (comprehend g l s b) = Some g
-grammar_of (check g a) = Some g
-grammar_of (sample n) = None
+abbrev pub grammar_file_name : Command → Option (List ℕ)
+grammar_file_name (canon g) = Some g
+grammar_file_name (score g t) = Some g
+grammar_file_name (generate g f b) = Some g
+grammar_file_name (show g f b) = Some g
+grammar_file_name (tableau g f r b) = Some g
+grammar_file_name (once g f b) = Some g
+grammar_file_name (comprehend g l s b) = Some g
+grammar_file_name (check g a) = Some g
+grammar_file_name (sample n) = None

@@ -4,8 +4,8 @@ ghost use Rattle.command_line.specs.Lines.{status_text};
 use crate::cause::{
     push_answer_cause, push_form_cause, push_grammar_cause, push_lexicon_cause, push_rows_cause,
 };
-use crate::worded::push_worded;
 use crate::status::Status;
+use crate::worded::push_worded;
 use answer_reader::AnswerCause;
 use grammar_reader::GrammarCause;
 use lexicon::LexErr;

@@ -1,5 +1,6 @@
 -- What the looks along the arcs give to a choice.
-use Rattle.std.proofs.Common.{◌≡◌, ◌↔◌, ℕ, ◌+◌, ◌*◌, ◌<◌, ◌≤◌, List, [], ◌∷◌, ◌++◌, Option, None, Some, length, get_or, take, refl, sym, ap, ◌∙◌, subst, arith, ◌⊎◌, inl, inr, IsTrue}
+use Rattle.std.proofs.Common.{◌≡◌, ◌↔◌, ℕ, ◌+◌, ◌*◌, ◌<◌, ◌≤◌, List, [], ◌∷◌, ◌++◌, Option, None, Some, length, get_or}
+use Rattle.std.proofs.Common.{take, refl, sym, ap, ◌∙◌, subst, arith, ◌⊎◌, inl, inr, IsTrue}
 use Rattle.std.specs.Prelude.{Contains, slice_get}
 use Rattle.std.proofs.lemmas.List.{take_more}
 use Rattle.std.proofs.lemmas.List.Elements.{Contains-append_left, Contains-push, Contains-push_cases}
@@ -10,14 +11,14 @@ use Rattle.answer_text.specs.declared.automaton.ArcLine.{ArcLine}
 use Rattle.comprehend.specs.declared.choice.Choice.{Choice}
 use Rattle.comprehend.specs.Searches.{IsLeft}
 use Rattle.comprehend.specs.Steps.{test_has, Turns}
-use Rattle.comprehend.specs.Choices.{IsBetter, LeadsTo, LeadsAlong, LeadsByOne}
+use Rattle.comprehend.specs.Choices.{IsBetter, LeadsToCell, LeadsAlong, LeadsByOne}
 use Rattle.comprehend.proofs.Looks.{test_at}
 use Rattle.comprehend.proofs.Bettering.{better_same, better_both}
 
 module _ (tests : List Class) (place : ℕ) (left : List ℕ) (n : ℕ) (class : Class) (target : ℕ)
     (inside : place < length tests) (test : Class) (is : test ≡ get_or tests 0 test) (stay : ℕ)
     (stay_is : stay ≡ target * length tests + place) where
-  stays_along : (column : List Sym) (w : ℕ) → LeadsTo class test stay left n column w
+  stays_along : (column : List Sym) (w : ℕ) → LeadsToCell class test stay left n column w
       → LeadsAlong tests place left n class target column w
   stays_along column w l = record {
     next = place;
@@ -29,7 +30,7 @@ module _ (tests : List Class) (place : ℕ) (left : List ℕ) (n : ℕ) (class :
   }
 
   along_stays : (column : List Sym) (w : ℕ) (l : LeadsAlong tests place left n class target column w) → l.next ≡ place
-      → IsTrue (test_has tests 0 column) → LeadsTo class test stay left n column w
+      → IsTrue (test_has tests 0 column) → LeadsToCell class test stay left n column w
   along_stays column w l same held = record {
     first = l.holds;
     second = sym (test_at tests 0 test (omega arith) is column) ∙ held;
@@ -39,9 +40,9 @@ module _ (tests : List Class) (place : ℕ) (left : List ℕ) (n : ℕ) (class :
 
   -- at the last place only staying leads on
   pub last_place : place + 1 ≡ length tests → (best after : Option Choice)
-      → IsBetter (LeadsTo class test stay left n) best after
+      → IsBetter (LeadsToCell class test stay left n) best after
       → IsBetter (LeadsAlong tests place left n class target) best after
-  last_place last best after b = better_same (LeadsTo class test stay left n)
+  last_place last best after b = better_same (LeadsToCell class test stay left n)
       (LeadsAlong tests place left n class target) stays_along
       (λ column w l. elim l.turns [
         | inl stays ↦ along_stays column w l stays.0 stays.1
@@ -52,7 +53,7 @@ module _ (tests : List Class) (place : ℕ) (left : List ℕ) (n : ℕ) (class :
 
   module _ (next_inside : place + 1 < length tests) (next : Class)
       (next_is : next ≡ get_or tests (place + 1) next) where
-    goes_along : (column : List Sym) (w : ℕ) → LeadsTo class next (stay + 1) left n column w
+    goes_along : (column : List Sym) (w : ℕ) → LeadsToCell class next (stay + 1) left n column w
         → LeadsAlong tests place left n class target column w
     goes_along column w l = record {
       next = place + 1;
@@ -64,7 +65,7 @@ module _ (tests : List Class) (place : ℕ) (left : List ℕ) (n : ℕ) (class :
     }
 
     along_goes : (column : List Sym) (w : ℕ) (l : LeadsAlong tests place left n class target column w)
-        → l.next ≡ place + 1 → IsTrue (test_has tests l.next column) → LeadsTo class next (stay + 1) left n column w
+        → l.next ≡ place + 1 → IsTrue (test_has tests l.next column) → LeadsToCell class next (stay + 1) left n column w
     along_goes column w l on held =
         let P : ℕ → Type 0 = λ k. IsTrue (test_has tests k column) in
         record {
@@ -74,10 +75,10 @@ module _ (tests : List Class) (place : ℕ) (left : List ℕ) (n : ℕ) (class :
           left_at = l.left_at;
         }
 
-    pub any_place : (best between after : Option Choice) → IsBetter (LeadsTo class test stay left n) best between
-        → IsBetter (LeadsTo class next (stay + 1) left n) between after
+    pub any_place : (best between after : Option Choice) → IsBetter (LeadsToCell class test stay left n) best between
+        → IsBetter (LeadsToCell class next (stay + 1) left n) between after
         → IsBetter (LeadsAlong tests place left n class target) best after
-    any_place = better_both (LeadsTo class test stay left n) (LeadsTo class next (stay + 1) left n)
+    any_place = better_both (LeadsToCell class test stay left n) (LeadsToCell class next (stay + 1) left n)
         (LeadsAlong tests place left n class target)
         (λ column w l. elim l.turns [
           | inl stays ↦ inl (along_stays column w l stays.0 stays.1)

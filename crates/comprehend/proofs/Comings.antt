@@ -1,5 +1,6 @@
 -- The cells from which entering arcs lead are those with a step.
-use Rattle.std.proofs.Common.{◌≡◌, ℕ, ◌+◌, ◌*◌, ◌<◌, ◌≤◌, List, length, refl, sym, ap, ◌∙◌, subst, arith, ◌⊎◌, inl, inr, IsTrue}
+use Rattle.std.proofs.Common.{◌≡◌, ℕ, ◌+◌, ◌*◌, ◌<◌, ◌≤◌, List, length, refl, sym, ap, ◌∙◌, subst, arith, ◌⊎◌, inl, inr}
+use Rattle.std.proofs.Common.{IsTrue}
 use Rattle.std.specs.Prelude.{Contains, Some, slice_get}
 use Rattle.std.specs.Global.{Vec}
 use Rattle.tier_core.specs.declared.sym.Sym.{Sym}
@@ -10,11 +11,11 @@ use Rattle.answer_text.specs.declared.automaton.StateLine.{StateLine}
 use Rattle.answer_text.specs.Right.{numbers_of}
 use Rattle.comprehend.specs.declared.entering.Entering.{Entering}
 use Rattle.comprehend.specs.Steps.{Goes, Turns, test_has}
-use Rattle.comprehend.specs.Entering.{entering_at, AreTurned, IsArcOf, ComesByOne, ComesBy, MeetsTest}
+use Rattle.comprehend.specs.Entering.{entering_at, AreReverseArcs, IsArcOf, ComesByOne, ComesBy, MeetsTest}
 use Rattle.comprehend.proofs.Cells.{one_cell}
 
 module _ (states : List StateLine) (tests : List Class) (into : List (Vec Entering))
-    (turned : AreTurned (IsArcOf states) (numbers_of states) into) (w t q : ℕ) (cell : w ≡ t * length tests + q)
+    (turned : AreReverseArcs (IsArcOf states) (numbers_of states) into) (w t q : ℕ) (cell : w ≡ t * length tests + q)
     (inside : q < length tests) where
   pub comes_goes : (v : ℕ) → ComesByOne tests (entering_at into t) q v
       → (column : List Sym) × Goes states tests v column w

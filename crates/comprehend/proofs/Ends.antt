@@ -1,16 +1,17 @@
 -- The cells at which the search begins.
-use Rattle.std.proofs.Common.{◌≡◌, ℕ, ◌+◌, ◌*◌, ◌<◌, ◌≤◌, Bool, true, false, List, length, get_or, refl, sym, ap, ◌∙◌, subst, arith, ◌⊎◌, inl, inr, IsTrue, map}
+use Rattle.std.proofs.Common.{◌≡◌, ℕ, ◌+◌, ◌*◌, ◌<◌, ◌≤◌, Bool, true, false, List, length, get_or, refl, sym, ap, ◌∙◌}
+use Rattle.std.proofs.Common.{subst, arith, ◌⊎◌, inl, inr, IsTrue, map}
 use Rattle.std.proofs.lemmas.Bool.{false≢true, cases_lt, cases_eq}
 use Rattle.std.proofs.lemmas.List.{get_or-map, get_or_past, length-map}
 use Rattle.tier_core.specs.declared.class.Class.{Class}
 use Rattle.answer_text.specs.declared.automaton.StateLine.{StateLine}
 use Rattle.comprehend.specs.Searches.{Reaches}
-use Rattle.comprehend.specs.Steps.{final_at, IsEnd}
+use Rattle.comprehend.specs.Steps.{final_at, IsEndCell}
 use Rattle.comprehend.proofs.Reaching.{reaches_same, reaches_both}
 
 -- the end of one of the first n states
 pub record IsEndBelow (states : List StateLine) (tests : List Class) (n v : ℕ) : Type 0 where
-  pub end : IsEnd states tests v
+  pub end : IsEndCell states tests v
   pub below : end.state < n
 
 module _ (states : List StateLine) (tests : List Class) where
@@ -63,6 +64,6 @@ module _ (states : List StateLine) (tests : List Class) where
 
   pub all_ends : (n : ℕ) → length states ≤ n → (left new before after : List ℕ)
       → Reaches (IsEndBelow states tests n) 0 left new before after
-      → Reaches (IsEnd states tests) 0 left new before after
-  all_ends n all = reaches_same (IsEndBelow states tests n) (IsEnd states tests) (λ v e. e.end)
+      → Reaches (IsEndCell states tests) 0 left new before after
+  all_ends n all = reaches_same (IsEndBelow states tests n) (IsEndCell states tests) (λ v e. e.end)
       (λ v e. record { end = e; below = omega (arith, final_inside e.state e.final, all) }) 0

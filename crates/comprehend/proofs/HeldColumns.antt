@@ -1,5 +1,7 @@
 -- Which columns the tests of a surface hold.
-use Rattle.std.proofs.Common.{◌≡◌, ℕ, zero, suc, ◌+◌, ◌<◌, ◌≤◌, Bool, true, false, not, ◌&&◌, List, [], ◌∷◌, ◌++◌, length, get_or, map, drop, cond, refl, sym, ap, ◌∙◌, arith, inl, inr, append_assoc, drop-cons, add-one}
+use Rattle.std.proofs.Common.{◌≡◌, ℕ, zero, suc, ◌+◌, ◌<◌, ◌≤◌, Bool, true, false, not, ◌&&◌, List, [], ◌∷◌, ◌++◌}
+use Rattle.std.proofs.Common.{length, get_or, map, drop, cond, refl, sym, ap, ◌∙◌, arith, inl, inr, append_assoc}
+use Rattle.std.proofs.Common.{drop-cons, add-one}
 use Rattle.std.proofs.lemmas.Bool.{false≢true, and_parts, and_from, cases_lt, not-true, or_parts, or_from}
 use Rattle.std.proofs.lemmas.List.{get_or-map, get_or_past, length_push, length-map}
 use Rattle.tier_core.specs.declared.sym.Sym.{Sym}

@@ -1,5 +1,6 @@
 -- One cell of a level more.
-use Rattle.std.proofs.Common.{◌≡◌, ℕ, ◌+◌, ◌*◌, ◌<◌, ◌≤◌, List, [], ◌∷◌, ◌++◌, length, get_or, map, take, refl, sym, ap, ◌∙◌, subst, arith, ◌⊎◌, inl, inr}
+use Rattle.std.proofs.Common.{◌≡◌, ℕ, ◌+◌, ◌*◌, ◌<◌, ◌≤◌, List, [], ◌∷◌, ◌++◌, length, get_or, map, take, refl, sym, ap}
+use Rattle.std.proofs.Common.{◌∙◌, subst, arith, ◌⊎◌, inl, inr}
 use Rattle.std.specs.Prelude.{All, Contains}
 use Rattle.std.specs.Global.{Vec}
 use Rattle.std.proofs.lemmas.Bool.{cases_lt}
@@ -12,9 +13,9 @@ use Rattle.answer_text.specs.declared.automaton.ArcLine.{ArcLine}
 use Rattle.answer_text.specs.declared.automaton.StateLine.{StateLine}
 use Rattle.answer_text.specs.Right.{numbers_of}
 use Rattle.comprehend.specs.declared.entering.Entering.{Entering}
-use Rattle.comprehend.specs.Searches.{IsBefore, Reaches}
+use Rattle.comprehend.specs.Searches.{IsPredecessor, Reaches}
 use Rattle.comprehend.specs.Steps.{arcs_at, Goes, AreSearchable}
-use Rattle.comprehend.specs.Entering.{entering_at, AreTurned, IsArcOf, ComesByOne}
+use Rattle.comprehend.specs.Entering.{entering_at, AreReverseArcs, IsArcOf, ComesByOne}
 use Rattle.comprehend.proofs.Reaching.{reaches_both}
 use Rattle.comprehend.proofs.Cells.{cells_inside}
 use Rattle.comprehend.proofs.Comings.{comes_goes, goes_comes}
@@ -51,7 +52,7 @@ entering_are into t arcs inside is = get_or-map (λ (x : Vec Entering). x.items)
     ∙ ap (λ (x : Vec Entering). x.items) (sym is)
 
 module _ (states : List StateLine) (tests : List Class) (into : List (Vec Entering))
-    (turned : AreTurned (IsArcOf states) (numbers_of states) into) where
+    (turned : AreReverseArcs (IsArcOf states) (numbers_of states) into) where
   pub entry_widths : (width : ℕ) → AreSearchable width states tests → (t : ℕ)
       → All (λ entry. All (λ test. length (sets_of test) ≡ length (sets_of entry.class)) tests) (entering_at into t)
   entry_widths width search t k d l j e m =
@@ -70,16 +71,16 @@ module _ (states : List StateLine) (tests : List Class) (into : List (Vec Enteri
   pub level_more : (n : ℕ) (level : List ℕ) (i to t q : ℕ) → i < length level → to ≡ get_or level i 0
       → to ≡ t * length tests + q → q < length tests
       → (old mid new before between after : List ℕ)
-      → Reaches (IsBefore (Goes states tests) (take i level)) n old mid before between
+      → Reaches (IsPredecessor (Goes states tests) (take i level)) n old mid before between
       → Reaches (ComesByOne tests (entering_at into t) q) n mid new between after
-      → Reaches (IsBefore (Goes states tests) (take (i + 1) level)) n old new before after
+      → Reaches (IsPredecessor (Goes states tests) (take (i + 1) level)) n old new before after
   level_more n level i to t q inside is cell below old mid new before between after first second =
       let last : take (i + 1) level ≡ take i level ++ to ∷ [] = take_more level i 0 inside
       ∙ ap (λ x. take i level ++ x ∷ []) (sym is) in
-      let P : List ℕ → Type 0 = λ xs. Reaches (IsBefore (Goes states tests) xs) n old new before after in
+      let P : List ℕ → Type 0 = λ xs. Reaches (IsPredecessor (Goes states tests) xs) n old new before after in
       subst P (sym last)
-      (reaches_both (IsBefore (Goes states tests) (take i level)) (ComesByOne tests (entering_at into t) q)
-      (IsBefore (Goes states tests) (take i level ++ to ∷ []))
+      (reaches_both (IsPredecessor (Goes states tests) (take i level)) (ComesByOne tests (entering_at into t) q)
+      (IsPredecessor (Goes states tests) (take i level ++ to ∷ []))
       (λ v h. elim (Contains-push_cases (take i level) to h.0 h.1.0) [
         | inl earlier ↦ inl (h.0, (earlier, h.1.1, h.1.2))
         | inr now ↦ inr (goes_comes states tests into turned h.0 t q (sym now ∙ cell) below v h.1.1 h.1.2)

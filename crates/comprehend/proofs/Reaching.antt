@@ -1,31 +1,33 @@
 -- What one vertex, and several one after another, give to a search backward.
-use Rattle.std.proofs.Common.{◌≡◌, ℕ, zero, suc, ◌+◌, ◌<◌, ◌≤◌, true, false, Bool, List, [], ◌∷◌, ◌++◌, set, length, get_or, refl, sym, ap, ◌∙◌, subst, arith, ◌⊎◌, inl, inr, replicate}
+use Rattle.std.proofs.Common.{◌≡◌, ℕ, zero, suc, ◌+◌, ◌<◌, ◌≤◌, true, false, Bool, List, [], ◌∷◌, ◌++◌, set, length}
+use Rattle.std.proofs.Common.{get_or, refl, sym, ap, ◌∙◌, subst, arith, ◌⊎◌, inl, inr, replicate}
 use Rattle.std.specs.Prelude.{Contains}
 use Rattle.std.proofs.lemmas.Bool.{cases_lt, cases_eq}
 use Rattle.std.proofs.lemmas.Bool.Decides.{nat_tests}
 use Rattle.std.proofs.lemmas.List.{length-set, get_or-set_same, get_or-set_other, get_or_past, length_push}
 use Rattle.std.proofs.lemmas.List.Elements.{Contains-append_left, Contains-push, Contains-push_cases}
-use Rattle.comprehend.specs.Searches.{far, IsLeft, unknown_at, unknown, Reaches}
+use Rattle.comprehend.specs.Searches.{no_distance, IsLeft, unknown_at, unknown_count, Reaches}
 
 -- what a number adds to those of which nothing is known
-adds-far : (m : ℕ) → far ≤ m → unknown_at m ≡ 1
+adds-far : (m : ℕ) → no_distance ≤ m → unknown_at m ≡ 1
 adds-far m l = grind (arith, nat_tests)
 
-adds-near : (m : ℕ) → m < far → unknown_at m ≡ 0
+adds-near : (m : ℕ) → m < no_distance → unknown_at m ≡ 0
 adds-near m l = grind (arith, nat_tests)
 
-unknown-set : (left : List ℕ) (s n : ℕ) → far ≤ get_or left s far → n < far → s < length left
-    → unknown (set left s n) + 1 ≡ unknown left
-unknown-set [] s n none l in_list = absurd (omega (arith, in_list))
-unknown-set (m ∷ left) zero n none l in_list = omega (arith, adds-far m none, adds-near n l)
-unknown-set (m ∷ left) (suc s) n none l in_list =
-    (let rest = unknown-set left s n none l (omega arith) in omega (arith, rest))
+unknown_count-set : (left : List ℕ) (s n : ℕ) → no_distance ≤ get_or left s no_distance → n < no_distance
+    → s < length left
+    → unknown_count (set left s n) + 1 ≡ unknown_count left
+unknown_count-set [] s n none l in_list = absurd (omega (arith, in_list))
+unknown_count-set (m ∷ left) zero n none l in_list = omega (arith, adds-far m none, adds-near n l)
+unknown_count-set (m ∷ left) (suc s) n none l in_list =
+    (let rest = unknown_count-set left s n none l (omega arith) in omega (arith, rest))
 
 -- only vertices have a number
 pub known_inside : (left : List ℕ) (s n : ℕ) → IsLeft left s n → s < length left
 known_inside left s n at = elim (cases_lt s (length left)) [
   | inl l ↦ l
-  | inr l ↦ absurd (omega (arith, get_or_past left s far l, at.number, at.near))
+  | inr l ↦ absurd (omega (arith, get_or_past left s no_distance l, at.number, at.near))
 ]
 
 -- one vertex of which something is known
@@ -41,7 +43,8 @@ one_known n left next s m at = record {
 }
 
 -- one vertex of which nothing was known
-pub one_unknown : (n : ℕ) (left next : List ℕ) (s : ℕ) → n < far → far ≤ get_or left s far → s < length left
+pub one_unknown : (n : ℕ) (left next : List ℕ) (s : ℕ) → n < no_distance → no_distance ≤ get_or left s no_distance
+    → s < length left
     → Reaches (λ v. v ≡ s) n left (set left s n) next (next ++ s ∷ [])
 one_unknown n left next s near none inside = record {
   same = length-set left s n;
@@ -55,15 +58,15 @@ one_unknown n left next s near none inside = record {
   where
     there : (v : ℕ) → v ≡ s → IsLeft (set left s n) v n
     there v at = record {
-      number = ap (λ x. get_or (set left s n) x far) at
-          ∙ get_or-set_same left s n far inside;
+      number = ap (λ x. get_or (set left s n) x no_distance) at
+          ∙ get_or-set_same left s n no_distance inside;
       near = near;
     }
 
     kept : (v d : ℕ) → IsLeft left v d → IsLeft (set left s n) v d
     kept v d known = elim (cases_eq v s) [
-      | inl same ↦ absurd (omega (arith, ap (λ x. get_or left x far) same, known.number, known.near, none))
-      | inr ne ↦ record { number = get_or-set_other left s v n far ne ∙ known.number; near = known.near }
+      | inl same ↦ absurd (omega (arith, ap (λ x. get_or left x no_distance) same, known.number, known.near, none))
+      | inr ne ↦ record { number = get_or-set_other left s v n no_distance ne ∙ known.number; near = known.near }
     ]
 
     found : (v d : ℕ) → IsLeft (set left s n) v d → IsLeft left v d ⊎ ((d ≡ n) × (v ≡ s) × Contains (next ++ s ∷ []) v)
@@ -71,7 +74,11 @@ one_unknown n left next s near none inside = record {
       | inl same ↦
           (let P : ℕ → Type 0 = λ x. Contains (next ++ s ∷ []) x in
           inr (sym known.number ∙ (there v same).number, same, subst P (sym same) (Contains-push next s)))
-      | inr ne ↦ inl (record { number = sym (get_or-set_other left s v n far ne) ∙ known.number; near = known.near })
+      | inr ne ↦ inl (record {
+        number = sym (get_or-set_other left s v n no_distance ne)
+            ∙ known.number;
+        near = known.near;
+      })
     ]
 
     reached : (v : ℕ) → v ≡ s → (m : ℕ) × IsLeft (set left s n) v m
@@ -83,8 +90,8 @@ one_unknown n left next s near none inside = record {
       | inr at ↦ inr (there v (sym at))
     ]
 
-    number : unknown (set left s n) + length (next ++ s ∷ []) ≡ unknown left + length next
-    number = omega (arith, unknown-set left s n none near inside, length_push next s)
+    number : unknown_count (set left s n) + length (next ++ s ∷ []) ≡ unknown_count left + length next
+    number = omega (arith, unknown_count-set left s n none near inside, length_push next s)
 
 -- where no vertex is to be reached
 pub reaches_none : (P : ℕ → Type 0) → ((v : ℕ) → P v → ⊥) → (n : ℕ) (left next : List ℕ)
@@ -155,11 +162,12 @@ reaches_both P Q R split left right n old mid new before between after first sec
     ]
 
 -- numbers that are all far
-pub unknown-far : (total : ℕ) → unknown (replicate total far) ≡ total
-unknown-far zero = refl
-unknown-far (suc total) = (let rest = unknown-far total in omega (arith, adds-far far (omega arith), rest))
+pub unknown_count-no_distance : (total : ℕ) → unknown_count (replicate total no_distance) ≡ total
+unknown_count-no_distance zero = refl
+unknown_count-no_distance (suc total) = (let rest = unknown_count-no_distance total in omega
+    (arith, adds-far no_distance (omega arith), rest))
 
-pub none_left : (total v n : ℕ) → IsLeft (replicate total far) v n → ⊥
+pub none_left : (total v n : ℕ) → IsLeft (replicate total no_distance) v n → ⊥
 none_left zero v n at = omega (arith, at.number, at.near)
 none_left (suc total) zero n at = omega (arith, at.number, at.near)
 none_left (suc total) (suc v) n at = none_left total v n (record { number = at.number; near = at.near })

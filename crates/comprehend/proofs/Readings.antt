@@ -1,5 +1,7 @@
 -- The timelines along the tests of a surface are the accepted ones that have it.
-use Rattle.std.proofs.Common.{◌≡◌, ◌≢◌, ℕ, zero, suc, ◌+◌, ◌*◌, ◌<◌, ◌≤◌, Bool, true, false, List, [], ◌∷◌, length, get_or, map, drop, cond, refl, sym, ap, ◌∙◌, subst, arith, ◌⊎◌, inl, inr, IsTrue, Some, drop-cons, add-one}
+use Rattle.std.proofs.Common.{◌≡◌, ◌≢◌, ℕ, zero, suc, ◌+◌, ◌*◌, ◌<◌, ◌≤◌, Bool, true, false, List, [], ◌∷◌, length}
+use Rattle.std.proofs.Common.{get_or, map, drop, cond, refl, sym, ap, ◌∙◌, subst, arith, ◌⊎◌, inl, inr, IsTrue, Some}
+use Rattle.std.proofs.Common.{drop-cons, add-one}
 use Rattle.std.specs.Prelude.{All, AllPairs, Contains, slice_get, filter}
 use Rattle.std.proofs.lemmas.Bool.{false≢true, cases_lt, cond-true, cond-false}
 use Rattle.std.proofs.lemmas.Option.{slice_get_cases, slice_get_within, slice_get-get_or, get_or_from_slice_get}
@@ -16,7 +18,7 @@ use Rattle.answer_text.specs.Acceptance.{HasArc, IsFinalState, Leads, Accepts}
 use Rattle.answer_text.specs.Right.{numbers_of}
 use Rattle.comprehend.specs.Surfaces.{heard_in, surface_of, AcceptsHeard}
 use Rattle.comprehend.specs.Searches.{ReadsFrom}
-use Rattle.comprehend.specs.Steps.{arcs_at, final_at, test_has, Goes, Turns, IsEnd, ReadsAlong}
+use Rattle.comprehend.specs.Steps.{arcs_at, final_at, test_has, Goes, Turns, IsEndCell, ReadsAlong}
 use Rattle.comprehend.proofs.Cells.{one_cell}
 use Rattle.comprehend.proofs.Ends.{final_inside, final_is}
 use Rattle.comprehend.proofs.Levels.{arcs_read}
@@ -109,7 +111,7 @@ module _ (width : ℕ) (overt : List ℕ) (surface : List (List Sym)) (tests : L
       ∙ sym (drop-cons surface p [] low)
 
   steps_to : (T : List (List Sym)) (s node p v : ℕ) → slice_get (numbers_of states) s ≡ Some node → p ≤ length surface
-      → v ≡ s * length tests + p → ReadsFrom (Goes states tests) (IsEnd states tests) v T
+      → v ≡ s * length tests + p → ReadsFrom (Goes states tests) (IsEndCell states tests) v T
       → (last : ℕ) × (Leads states node T last × IsFinalState states last × (surface_of overt T ≡ drop p surface))
   steps_to [] s node p v at low cell end =
       let same = one_cell end.state (length surface) s p (length tests) (omega (arith, are.count))
@@ -158,9 +160,9 @@ module _ (width : ℕ) (overt : List ℕ) (surface : List (List Sym)) (tests : L
       → slice_get (numbers_of states) s ≡ Some node → p ≤ length surface → HasArc states node next column
       → ((t q : ℕ) → slice_get (numbers_of states) t ≡ Some next → q ≤ length surface
       → surface_of overt T ≡ drop q surface
-      → ReadsFrom (Goes states tests) (IsEnd states tests) (t * length tests + q) T)
+      → ReadsFrom (Goes states tests) (IsEndCell states tests) (t * length tests + q) T)
       → surface_of overt (column ∷ T) ≡ drop p surface
-      → ReadsFrom (Goes states tests) (IsEnd states tests) (s * length tests + p) (column ∷ T)
+      → ReadsFrom (Goes states tests) (IsEndCell states tests) (s * length tests + p) (column ∷ T)
   step_from column T s node p next at low has_arc rest e = go (has_edge (heard_in overt column)) refl
     where
       arc : ArcLine
@@ -201,14 +203,14 @@ module _ (width : ℕ) (overt : List ℕ) (surface : List (List Sym)) (tests : L
       }
 
       later : (q : ℕ) → q ≤ length surface → Turns tests p column q → surface_of overt T ≡ drop q surface
-          → ReadsFrom (Goes states tests) (IsEnd states tests) (s * length tests + p) (column ∷ T)
+          → ReadsFrom (Goes states tests) (IsEndCell states tests) (s * length tests + p) (column ∷ T)
       later q low_q turns same = (
         target.0 * length tests + q,
         (step q low_q turns, rest target.0 q (leads ∙ ap (λ x. Some x) has_arc.to) low_q same),
       )
 
       go : (b : Bool) → b ≡ has_edge (heard_in overt column)
-          → ReadsFrom (Goes states tests) (IsEnd states tests) (s * length tests + p) (column ∷ T)
+          → ReadsFrom (Goes states tests) (IsEndCell states tests) (s * length tests + p) (column ∷ T)
       go false edge = later p low (inl (refl, are.still_holds column wide (sym edge)))
           (sym (cond-false (has_edge (heard_in overt column)) (heard_in overt column ∷ surface_of overt T)
           (surface_of overt T) (sym edge)) ∙ e)
@@ -231,7 +233,7 @@ module _ (width : ℕ) (overt : List ℕ) (surface : List (List Sym)) (tests : L
 
   steps_from : (T : List (List Sym)) (s node p last : ℕ) → slice_get (numbers_of states) s ≡ Some node
       → p ≤ length surface → Leads states node T last → IsFinalState states last → surface_of overt T ≡ drop p surface
-      → ReadsFrom (Goes states tests) (IsEnd states tests) (s * length tests + p) T
+      → ReadsFrom (Goes states tests) (IsEndCell states tests) (s * length tests + p) T
   steps_from [] s node p last at low leads final e =
       let placed = state_placed final.state s node final.listed (final.numbered ∙ sym leads) at in
       let end : p ≡ length surface = something_left surface p low (sym e) in
@@ -271,7 +273,7 @@ module _ (width : ℕ) (overt : List ℕ) (surface : List (List Sym)) (tests : L
   pub heard_along : (T : List (List Sym)) → AcceptsHeard states overt surface T → ReadsAlong states tests T
   heard_along T h =
       let start = start_of T h.accepted.last h.accepted.leads h.accepted.final in
-      let P : ℕ → Type 0 = λ v. ReadsFrom (Goes states tests) (IsEnd states tests) v T in
+      let P : ℕ → Type 0 = λ v. ReadsFrom (Goes states tests) (IsEndCell states tests) v T in
       let none : start.0 * length tests + 0 ≡ start.0 * length tests = omega arith in
       record {
         start = start.0;

@@ -3,10 +3,10 @@ use Rattle.std.proofs.Common.{◌≡◌, ℕ, ◌+◌, ◌<◌, ◌≤◌, List,
 use Rattle.std.specs.Prelude.{Contains}
 use Rattle.std.proofs.lemmas.Bool.{cases_lt}
 use Rattle.tier_core.specs.declared.sym.Sym.{Sym}
-use Rattle.comprehend.specs.Searches.{IsLeft, unknown, ReadsFrom, AreLengths, IsBefore, Reaches, IsSearched}
+use Rattle.comprehend.specs.Searches.{IsLeft, unknown_count, ReadsFrom, AreLengths, IsPredecessor, Reaches, IsSearched}
 
 module _ (step : ℕ → List Sym → ℕ → Type 0) (ends : ℕ → Type 0) (total : ℕ) where
-  pub search_start : (start left level : List ℕ) → length start ≡ total → unknown start ≡ total
+  pub search_start : (start left level : List ℕ) → length start ≡ total → unknown_count start ≡ total
       → ((v n : ℕ) → IsLeft start v n → ⊥) → Reaches ends 0 start left [] level
       → IsSearched step ends total left level 0
   search_start start left level size all none reach = record {
@@ -49,7 +49,7 @@ module _ (step : ℕ → List Sym → ℕ → Type 0) (ends : ℕ → Type 0) (t
           (own.0, (own.1.0, omega (arith, own.1.1, rest.1.1)))
 
   pub search_next : (left new level next : List ℕ) (k : ℕ) → IsSearched step ends total left level k
-      → 0 < length level → Reaches (IsBefore step level) (k + 1) left new [] next
+      → 0 < length level → Reaches (IsPredecessor step level) (k + 1) left new [] next
       → IsSearched step ends total new next (k + 1)
   search_next left new level next k are some_level reach = record {
     each = reach.same ∙ are.each;

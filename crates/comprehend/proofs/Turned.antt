@@ -1,17 +1,19 @@
 -- Arcs turned round, one after another.
-use Rattle.std.proofs.Common.{◌≡◌, ◌≢◌, ℕ, ◌+◌, ◌<◌, ◌≤◌, List, [], ◌∷◌, ◌++◌, length, get_or, map, set, take, refl, sym, ap, ◌∙◌, subst, arith, ◌⊎◌, inl, inr, Some}
+use Rattle.std.proofs.Common.{◌≡◌, ◌≢◌, ℕ, ◌+◌, ◌<◌, ◌≤◌, List, [], ◌∷◌, ◌++◌, length, get_or, map, set, take, refl}
+use Rattle.std.proofs.Common.{sym, ap, ◌∙◌, subst, arith, ◌⊎◌, inl, inr, Some}
 use Rattle.std.specs.Prelude.{AllPairs, Contains, slice_get}
 use Rattle.std.specs.Global.{Vec}
 use Rattle.std.proofs.lemmas.Bool.{cases_lt, cases_eq}
 use Rattle.std.proofs.lemmas.Option.{slice_get_within}
-use Rattle.std.proofs.lemmas.List.{get_or-set_same, get_or-set_other, length-map, length-set, map-set, take_more, take_all}
+use Rattle.std.proofs.lemmas.List.{get_or-set_same, get_or-set_other, length-map, length-set, map-set, take_more}
+use Rattle.std.proofs.lemmas.List.{take_all}
 use Rattle.std.proofs.lemmas.List.Elements.{Contains-append_left, Contains-push, Contains-push_cases}
 use Rattle.answer_text.specs.declared.automaton.ArcLine.{ArcLine}
 use Rattle.answer_text.specs.declared.automaton.StateLine.{StateLine}
 use Rattle.answer_text.specs.Right.{numbers_of}
 use Rattle.comprehend.specs.declared.entering.Entering.{Entering}
 use Rattle.comprehend.specs.Steps.{arcs_at}
-use Rattle.comprehend.specs.Entering.{entering_at, AreTurned, IsTurned, IsArcBelow, IsArcOf}
+use Rattle.comprehend.specs.Entering.{entering_at, AreReverseArcs, IsReverseArc, IsArcBelow, IsArcOf}
 use Rattle.comprehend.proofs.Levels.{arcs_inside}
 use Rattle.comprehend.proofs.Numbers.{once_at}
 
@@ -25,7 +27,7 @@ items_of v = v.items
 -- the same arcs, said otherwise
 pub turned_same : (P R : ℕ → ArcLine → Type 0) → ((s : ℕ) (arc : ArcLine) → P s arc → R s arc)
     → ((s : ℕ) (arc : ArcLine) → R s arc → P s arc) → (numbers : List ℕ) (into : List (Vec Entering))
-    → AreTurned P numbers into → AreTurned R numbers into
+    → AreReverseArcs P numbers into → AreReverseArcs R numbers into
 turned_same P R to back numbers into are = record {
   each_state = are.each_state;
   sound = λ t entry here. (let own = are.sound t entry here in
@@ -34,17 +36,19 @@ turned_same P R to back numbers into are = record {
 }
 
 pub turned_all : (states : List StateLine) (n : ℕ) → length states ≤ n → (into : List (Vec Entering))
-    → AreTurned (IsArcBelow states n) (numbers_of states) into → AreTurned (IsArcOf states) (numbers_of states) into
+    → AreReverseArcs (IsArcBelow states n) (numbers_of states) into
+    → AreReverseArcs (IsArcOf states) (numbers_of states) into
 turned_all states n all = turned_same (IsArcBelow states n) (IsArcOf states) (λ s arc below. below.1)
     (λ s arc here. (omega (arith, arcs_inside states s arc here, all), here)) (numbers_of states)
 
 module _ (states : List StateLine) (n : ℕ) (numbers : List ℕ) (into : List (Vec Entering)) where
-  pub so_far_none : AreTurned (IsArcBelow states n) numbers into → AreTurned (IsArcSoFar states n 0) numbers into
+  pub so_far_none : AreReverseArcs (IsArcBelow states n) numbers into
+      → AreReverseArcs (IsArcSoFar states n 0) numbers into
   so_far_none = turned_same (IsArcBelow states n) (IsArcSoFar states n 0) (λ s arc below. inl below)
       (λ s arc h. elim h [ inl below ↦ below | inr own ↦ absurd (omega (arith, own.1.1)) ]) numbers into
 
-  pub so_far_all : (k : ℕ) → length (arcs_at states n) ≤ k → AreTurned (IsArcSoFar states n k) numbers into
-      → AreTurned (IsArcBelow states (n + 1)) numbers into
+  pub so_far_all : (k : ℕ) → length (arcs_at states n) ≤ k → AreReverseArcs (IsArcSoFar states n k) numbers into
+      → AreReverseArcs (IsArcBelow states (n + 1)) numbers into
   so_far_all k all = turned_same (IsArcSoFar states n k) (IsArcBelow states (n + 1))
       (λ s arc h. elim h [
         | inl below ↦ (omega (arith, below.0), below.1)
@@ -88,10 +92,11 @@ module _ (states : List StateLine) (n k : ℕ) (arc : ArcLine) (inside : k < len
   own_too = (let Q : List ArcLine → Type 0 = λ xs. Contains xs arc in inr
       (refl, subst Q (sym last) (Contains-push (take k (arcs_at states n)) arc)))
 
-  module _ (numbers : List ℕ) (into : List (Vec Entering)) (are : AreTurned (IsArcSoFar states n k) numbers into) where
+  module _ (numbers : List ℕ) (into : List (Vec Entering))
+      (are : AreReverseArcs (IsArcSoFar states n k) numbers into) where
     -- an arc that leads to no state
     pub turned_skip : ((t : ℕ) → slice_get numbers t ≡ Some arc.target → ⊥)
-        → AreTurned (IsArcSoFar states n (k + 1)) numbers into
+        → AreReverseArcs (IsArcSoFar states n (k + 1)) numbers into
     turned_skip none = record {
       each_state = are.each_state;
       sound = λ t entry here. (let own = are.sound t entry here in
@@ -118,27 +123,27 @@ module _ (states : List StateLine) (n k : ℕ) (arc : ArcLine) (inside : k < len
       other_is j ne = ap (λ xs. get_or xs j []) (map-set items_of into t arcs)
           ∙ get_or-set_other (map items_of into) t j arcs.items [] ne
 
-      own_turned : IsTurned (IsArcSoFar states n (k + 1)) numbers t entry
+      own_turned : IsReverseArc (IsArcSoFar states n (k + 1)) numbers t entry
       own_turned = (let P : ℕ → Type 0 = λ s. IsArcSoFar states n (k + 1) s arc in
           (arc, (subst P (sym source_is) own_too, sym class_is, leads_t)))
 
       old_turned : (j : ℕ) (e : Entering) → Contains (entering_at into j) e
-          → IsTurned (IsArcSoFar states n (k + 1)) numbers j e
+          → IsReverseArc (IsArcSoFar states n (k + 1)) numbers j e
       old_turned j e here = (let own = are.sound j e here in
           (own.0, (earlier_too e.source own.0 own.1.0, own.1.1, own.1.2)))
 
       sound : (j : ℕ) (e : Entering) → Contains (entering_at (set into t arcs) j) e
-          → IsTurned (IsArcSoFar states n (k + 1)) numbers j e
+          → IsReverseArc (IsArcSoFar states n (k + 1)) numbers j e
       sound j e here = elim (cases_eq j t) [
         | inl same ↦
             (let P : ℕ → Type 0 = λ x. Contains (entering_at (set into t arcs) x) e in
             let Q : List Entering → Type 0 = λ xs. Contains xs e in
-            let R : ℕ → Type 0 = λ x. IsTurned (IsArcSoFar states n (k + 1)) numbers x e in
+            let R : ℕ → Type 0 = λ x. IsReverseArc (IsArcSoFar states n (k + 1)) numbers x e in
             subst R (sym same) (elim (Contains-push_cases (entering_at into t) entry e
             (subst Q here_is (subst P same here))) [
               | inl earlier ↦ old_turned t e earlier
               | inr now ↦ (let S : Entering
-                  → Type 0 = λ x. IsTurned (IsArcSoFar states n (k + 1)) numbers t x in subst S now own_turned)
+                  → Type 0 = λ x. IsReverseArc (IsArcSoFar states n (k + 1)) numbers t x in subst S now own_turned)
             ]))
         | inr ne ↦ (let Q : List Entering
             → Type 0 = λ xs. Contains xs e in old_turned j e (subst Q (other_is j ne) here))
@@ -174,5 +179,5 @@ module _ (states : List StateLine) (n k : ℕ) (arc : ArcLine) (inside : k < len
             ))
       ]
 
-      pub turned_push : AreTurned (IsArcSoFar states n (k + 1)) numbers (set into t arcs)
+      pub turned_push : AreReverseArcs (IsArcSoFar states n (k + 1)) numbers (set into t arcs)
       turned_push = record { each_state = length-set into t arcs ∙ are.each_state; sound = sound; complete = complete }

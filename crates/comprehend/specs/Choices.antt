@@ -19,7 +19,7 @@ pub record IsBetter (steps : List Sym → ℕ → Type 0) (best after : Option C
       → (d : Choice) × ((after ≡ Some d) × (is_gt (column_cmp d.column b.column) ≡ false))
 
 -- a column of both classes leads to this cell, and n columns are left there
-pub record LeadsTo (a b : Class) (cell : ℕ) (left : List ℕ) (n : ℕ) (column : List Sym) (w : ℕ) : Type 0 where
+pub record LeadsToCell (a b : Class) (cell : ℕ) (left : List ℕ) (n : ℕ) (column : List Sym) (w : ℕ) : Type 0 where
   pub first : IsTrue (has a column)
   pub second : IsTrue (has b column)
   pub at : w ≡ cell

@@ -15,14 +15,14 @@ abbrev pub entering_at : List (Vec Entering) → ℕ → List Entering
 entering_at into t = slice_index_or (map (λ arcs. arcs.items) into) t []
 
 -- each is an arc to state t, of those that pass, reversed
-abbrev pub IsTurned : (ℕ → ArcLine → Type 0) → List ℕ → ℕ → Entering → Type 0
-IsTurned passes numbers t entry =
+abbrev pub IsReverseArc : (ℕ → ArcLine → Type 0) → List ℕ → ℕ → Entering → Type 0
+IsReverseArc passes numbers t entry =
     (arc : ArcLine) × (passes entry.source arc × (arc.class ≡ entry.class) × (slice_get numbers t ≡ Some arc.target))
 
 -- the arcs that pass, from the state at a position in the list, are reversed
-pub record AreTurned (passes : ℕ → ArcLine → Type 0) (numbers : List ℕ) (into : List (Vec Entering)) : Type 0 where
+pub record AreReverseArcs (passes : ℕ → ArcLine → Type 0) (numbers : List ℕ) (into : List (Vec Entering)) : Type 0 where
   pub each_state : length into ≡ length numbers
-  pub sound : (t : ℕ) (entry : Entering) → Contains (entering_at into t) entry → IsTurned passes numbers t entry
+  pub sound : (t : ℕ) (entry : Entering) → Contains (entering_at into t) entry → IsReverseArc passes numbers t entry
   pub complete : (s t : ℕ) (arc : ArcLine) → passes s arc → slice_get numbers t ≡ Some arc.target
       → (entry : Entering) × (Contains (entering_at into t) entry × (entry.source ≡ s) × (entry.class ≡ arc.class))
 

@@ -5,22 +5,22 @@ use Rattle.tier_core.specs.declared.sym.Sym.{Sym}
 use Rattle.tier_core.specs.Orders.{column_cmp}
 
 -- the number of a vertex from which no way to an end is known
-abbrev pub far : ℕ
-far = 4294967295
+abbrev pub no_distance : ℕ
+no_distance = 4294967295
 
 -- n columns are left at a vertex
 pub record IsLeft (left : List ℕ) (v n : ℕ) : Type 0 where
-  pub number : slice_index_or left v far ≡ n
-  pub near : n < far
+  pub number : slice_index_or left v no_distance ≡ n
+  pub near : n < no_distance
 
 -- 1 for a vertex of which nothing is known, and otherwise 0
 abbrev pub unknown_at : ℕ → ℕ
-unknown_at n = if nat_lt n far then 0 else 1
+unknown_at n = if nat_lt n no_distance then 0 else 1
 
 -- of how many vertices nothing is known
-abbrev pub unknown : List ℕ → ℕ
-unknown [] = 0
-unknown (n ∷ left) = unknown_at n + unknown left
+abbrev pub unknown_count : List ℕ → ℕ
+unknown_count [] = 0
+unknown_count (n ∷ left) = unknown_at n + unknown_count left
 
 -- columns are read on the way from a vertex to an end
 abbrev pub ReadsFrom : (ℕ → List Sym → ℕ → Type 0) → (ℕ → Type 0) → ℕ → List (List Sym) → Type 0
@@ -34,8 +34,8 @@ pub record AreLengths (step : ℕ → List Sym → ℕ → Type 0) (ends : ℕ �
       → (n : ℕ) × (IsLeft left v n × (n ≤ length word))
 
 -- a step leads from v to one of the vertices of a level
-abbrev pub IsBefore : (ℕ → List Sym → ℕ → Type 0) → List ℕ → ℕ → Type 0
-IsBefore step level v = (w : ℕ) × (Contains level w × (column : List Sym) × step v column w)
+abbrev pub IsPredecessor : (ℕ → List Sym → ℕ → Type 0) → List ℕ → ℕ → Type 0
+IsPredecessor step level v = (w : ℕ) × (Contains level w × (column : List Sym) × step v column w)
 
 -- the chosen vertices of which nothing was known now have n columns left and are listed, and all else
 -- stays the same
@@ -46,13 +46,13 @@ pub record Reaches (chosen : ℕ → Type 0) (n : ℕ) (old new before after : L
   pub reached : (v : ℕ) → chosen v → (m : ℕ) × IsLeft new v m
   pub stays : (v : ℕ) → Contains before v → Contains after v
   pub listed : (v : ℕ) → Contains after v → Contains before v ⊎ IsLeft new v n
-  pub number : unknown new + length after ≡ unknown old + length before
+  pub number : unknown_count new + length after ≡ unknown_count old + length before
 
 -- the search has found the vertices with at most k columns left, and `level` has those with k
 pub record IsSearched (step : ℕ → List Sym → ℕ → Type 0) (ends : ℕ → Type 0) (total : ℕ) (left level : List ℕ)
     (k : ℕ) : Type 0 where
   pub each : length left ≡ total
-  pub few : k + unknown left + length level ≤ total
+  pub few : k + unknown_count left + length level ≤ total
   pub at_most : (v n : ℕ) → IsLeft left v n → n ≤ k
   pub some : (v n : ℕ) → IsLeft left v n → (word : List (List Sym)) × (ReadsFrom step ends v word × (length word ≡ n))
   pub ended : (v : ℕ) → ends v → IsLeft left v 0

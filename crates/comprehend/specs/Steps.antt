@@ -7,7 +7,7 @@ use Rattle.tier_core.specs.Classes.{has, sets_of, AreDisjoint}
 use Rattle.answer_text.specs.declared.automaton.ArcLine.{ArcLine}
 use Rattle.answer_text.specs.declared.automaton.StateLine.{StateLine}
 use Rattle.answer_text.specs.Right.{numbers_of}
-use Rattle.comprehend.specs.Searches.{far, ReadsFrom}
+use Rattle.comprehend.specs.Searches.{no_distance, ReadsFrom}
 
 -- the arcs of the state at this position in the list
 abbrev pub arcs_at : List StateLine → ℕ → List ArcLine
@@ -46,7 +46,7 @@ pub record Goes (states : List StateLine) (tests : List Class) (v : ℕ) (column
   pub turns : Turns tests place column next
 
 -- a cell of a final state and the last place
-pub record IsEnd (states : List StateLine) (tests : List Class) (v : ℕ) : Type 0 where
+pub record IsEndCell (states : List StateLine) (tests : List Class) (v : ℕ) : Type 0 where
   pub state : ℕ
   pub final : IsTrue (final_at states state)
   pub cell : v + 1 ≡ state * length tests + length tests
@@ -58,7 +58,7 @@ pub record AreSearchable (width : ℕ) (states : List StateLine) (tests : List C
   pub some_test : 0 < length tests
   pub few_states : length states < 2 ^ 32
   pub few_tests : length tests < 2 ^ 32
-  pub few : length states * length tests < far
+  pub few : length states * length tests < no_distance
 
 -- no column is in two arcs of a state
 abbrev pub AreApart : List StateLine → Type 0
@@ -73,4 +73,4 @@ AreTestsApart tests = (k : ℕ) (column : List Sym) → IsTrue (test_has tests 0
 pub record ReadsAlong (states : List StateLine) (tests : List Class) (T : List (List Sym)) : Type 0 where
   pub start : ℕ
   pub numbered : slice_get (numbers_of states) start ≡ Some 0
-  pub reads : ReadsFrom (Goes states tests) (IsEnd states tests) (start * length tests) T
+  pub reads : ReadsFrom (Goes states tests) (IsEndCell states tests) (start * length tests) T

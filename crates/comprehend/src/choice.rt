@@ -2,8 +2,8 @@ ghost use Rattle.std.specs.Prelude.{◌≡◌, ◌<◌, ◌⊎◌, MatchOption, 
 ghost use Rattle.std.specs.Ordering.{is_gt};
 ghost use Rattle.tier_core.specs.Orders.{column_cmp};
 ghost use Rattle.tier_core.specs.Classes.{sets_of};
-ghost use Rattle.comprehend.specs.Choices.{IsBetter, LeadsTo};
-ghost use Rattle.comprehend.specs.Searches.{far};
+ghost use Rattle.comprehend.specs.Choices.{IsBetter, LeadsToCell};
+ghost use Rattle.comprehend.specs.Searches.{no_distance};
 
 use std::alloc::Global;
 use std::cmp::Ordering;
@@ -18,7 +18,7 @@ pub(crate) struct Choice {
 }
 
 /// The one of two choices with the smaller column.
-fn lesser(best: Option<Choice>, choice: Choice) -> Choice
+fn lesser_choice(best: Option<Choice>, choice: Choice) -> Choice
     ensures either { (result ≡ choice) ⊎ (best ≡ Some result) }
     ensures choice { is_gt (column_cmp result.column choice.column) ≡ false }
     ensures best { MatchOption best ⊤
@@ -35,7 +35,7 @@ fn lesser(best: Option<Choice>, choice: Choice) -> Choice
 
 /// The better of the best choice so far and the least column of both classes, if that leads to a
 /// cell with `n` columns left.
-pub(crate) fn better(
+pub(crate) fn better_choice(
     alloc: Global,
     best: Option<Choice>,
     a: &Class,
@@ -46,8 +46,8 @@ pub(crate) fn better(
 ) -> Option<Choice>
     requires widths { length (sets_of a.now) ≡ length (sets_of b.now) }
     requires cell { cell < length left.now }
-    requires near { n < far }
-    ensures { IsBetter (LeadsTo a.now b.now cell left.now n) best result }
+    requires near { n < no_distance }
+    ensures { IsBetter (LeadsToCell a.now b.now cell left.now n) best result }
 {
     if left[cell as usize] != n {
         return best;
@@ -60,5 +60,5 @@ pub(crate) fn better(
         column: least_column(alloc, &both),
         cell,
     };
-    Some(lesser(best, choice))
+    Some(lesser_choice(best, choice))
 }

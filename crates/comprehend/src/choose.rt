@@ -2,11 +2,11 @@ ghost use Rattle.std.specs.Prelude.{◌≡◌, ◌≢◌, ◌+◌, ◌*◌, ◌<
 ghost use Rattle.tier_core.specs.Classes.{sets_of};
 ghost use Rattle.answer_text.specs.Right.{numbers_of};
 ghost use Rattle.comprehend.specs.Choices.{IsBetter, LeadsAlong, LeadsByOne};
-ghost use Rattle.comprehend.specs.Searches.{far, HasStep, IsLeastStep};
+ghost use Rattle.comprehend.specs.Searches.{no_distance, HasStep, IsLeastStep};
 ghost use Rattle.comprehend.specs.Steps.{Goes, AreSearchable};
 
 use crate::cell::cell;
-use crate::choice::{Choice, better};
+use crate::choice::{Choice, better_choice};
 use crate::numbering::place_of;
 use answer_text::{ArcLine, StateLine};
 use indexmap::IndexSet;
@@ -28,18 +28,18 @@ fn along(
     requires widths { All (λ test. length (sets_of class.now) ≡ length (sets_of test)) tests.now }
     requires place { place < length tests.now }
     requires cells { target * length tests.now + length tests.now ≤ length left.now }
-    requires few { length left.now < far }
-    requires near { n < far }
+    requires few { length left.now < no_distance }
+    requires near { n < no_distance }
     ensures { IsBetter (LeadsAlong tests.now place left.now n class.now target) best result }
 {
     let places = tests.len() as u32;
     let stay = cell(target, place, places);
-    let stayed = better(alloc, best, class, &tests[0], stay, left, n);
+    let stayed = better_choice(alloc, best, class, &tests[0], stay, left, n);
     if place + 1 == places {
         return stayed;
     }
     let test = &tests[place as usize + 1];
-    better(alloc, stayed, class, test, stay + 1, left, n)
+    better_choice(alloc, stayed, class, test, stay + 1, left, n)
 }
 
 /// The best choice of the arcs, if one of them leads to a cell with `n` columns left.
@@ -59,8 +59,8 @@ fn best_of(
         All (λ test. length (sets_of arc.class) ≡ length (sets_of test)) tests.now) arcs.now }
     requires place { place < length tests.now }
     requires cells { length numbers.now.keys * length tests.now ≡ length left.now }
-    requires few { length left.now < far }
-    requires near { n < far }
+    requires few { length left.now < no_distance }
+    requires near { n < no_distance }
     ensures { IsBetter
         (LeadsByOne numbers.now.keys tests.now place left.now n arcs.now) None result }
 {
@@ -89,7 +89,7 @@ pub(crate) fn choose(
     requires once { AllPairs (λ m n. m ≢ n) (numbers_of states.now) }
     requires each { length left.now ≡ length states.now * length tests.now }
     requires from { from < length left.now }
-    requires near { n < far }
+    requires near { n < no_distance }
     requires some { HasStep (Goes states.now tests.now) left.now from n }
     ensures { IsLeastStep (Goes states.now tests.now) left.now from n result.column result.cell }
 {

@@ -2,13 +2,13 @@ ghost use Rattle.std.specs.Prelude.{◌≡◌, ◌≢◌, ◌*◌, ◌<◌, ℕ,
 ghost use Rattle.tier_core.specs.declared.sym.Sym.{Sym};
 ghost use Rattle.tier_core.specs.Orders.{IsFirst};
 ghost use Rattle.answer_text.specs.Right.{numbers_of};
-ghost use Rattle.comprehend.specs.Searches.{far, AreLengths, IsLeft, ReadsFrom};
-ghost use Rattle.comprehend.specs.Steps.{Goes, IsEnd, AreSearchable, AreApart, AreTestsApart, ReadsAlong};
+ghost use Rattle.comprehend.specs.Searches.{no_distance, AreLengths, IsLeft, ReadsFrom};
+ghost use Rattle.comprehend.specs.Steps.{Goes, IsEndCell, AreSearchable, AreApart, AreTestsApart, ReadsAlong};
 
 use crate::cell::cell;
 use crate::choose::choose;
 use crate::look::FAR;
-use crate::numbering::{numbered, place_of};
+use crate::numbering::{node_numbers, place_of};
 use crate::search::lengths;
 use answer_text::StateLine;
 use indexmap::IndexSet;
@@ -32,12 +32,12 @@ fn follow(
     requires tests_apart { AreTestsApart tests.now }
     requires each { length left.now ≡ length states.now * length tests.now }
     requires lengths { AreLengths (Goes states.now tests.now)
-        (IsEnd states.now tests.now) left.now }
+        (IsEndCell states.now tests.now) left.now }
     requires start { IsLeft left.now start most }
     ensures { IfOk result
         (λ first.
         IsFirst
-        (ReadsFrom (Goes states.now tests.now) (IsEnd states.now tests.now) start) first) }
+        (ReadsFrom (Goes states.now tests.now) (IsEndCell states.now tests.now) start) first) }
 {
     let mut timeline = Timeline::new(alloc);
     let mut from = start;
@@ -66,7 +66,7 @@ pub(crate) fn first_along(
         MatchOption first ((T : List (List Sym)) → ReadsAlong states.now tests.now T → ⊥)
         (IsFirst (ReadsAlong states.now tests.now))) }
 {
-    let Ok(numbers) = numbered(alloc, states) else {
+    let Ok(numbers) = node_numbers(alloc, states) else {
         return Err(NoMemory);
     };
     let Some(state) = place_of(&numbers, 0) else {

@@ -3,7 +3,7 @@ ghost use Rattle.tier_core.specs.declared.sym.Sym.{Sym};
 ghost use Rattle.tier_core.specs.Orders.{IsFirst};
 ghost use Rattle.tier_core.specs.Tables.{tiers_of_table};
 ghost use Rattle.violation.specs.Candidates.{IsForm};
-ghost use Rattle.violation.specs.Problems.{asked};
+ghost use Rattle.violation.specs.Problems.{problem_from};
 ghost use Rattle.ranked_gen.specs.Budgets.{AreAllWithin, IsFirstOver};
 ghost use Rattle.comprehend.specs.Surfaces.{IsSurface, HasSurface};
 ghost use Rattle.comprehend.specs.Hears.{forms_of, Hears, AreEntriesWithin, IsFirstEntryOver, IsPushed};
@@ -36,18 +36,19 @@ fn hear(
     ensures first { IfOk result (λ first.
         MatchOption first
         ((T : List (List Sym))
-        → HasSurface (asked grammar.now.tiers grammar.now.constraints.items form.now)
+        → HasSurface (problem_from grammar.now.tiers grammar.now.constraints.items form.now)
         surface.now T → ⊥)
         (IsFirst
-        (HasSurface (asked grammar.now.tiers grammar.now.constraints.items form.now)
+        (HasSurface (problem_from grammar.now.tiers grammar.now.constraints.items form.now)
         surface.now))) }
     ensures within { IfOk result
         (λ first.
-        AreAllWithin (asked grammar.now.tiers grammar.now.constraints.items form.now) budget) }
+        AreAllWithin (problem_from grammar.now.tiers grammar.now.constraints.items form.now)
+        budget) }
     ensures entry { (i stage : ℕ) → result ≡ Err (CompErr.Budget i stage) → i ≡ index }
     ensures over { (i stage : ℕ) → result ≡ Err (CompErr.Budget i stage)
         → IsFirstOver
-        (asked grammar.now.tiers grammar.now.constraints.items form.now) budget stage }
+        (problem_from grammar.now.tiers grammar.now.constraints.items form.now) budget stage }
 {
     match generate(alloc, grammar, form, budget) {
         Ok(answer) => match has_surface(alloc, grammar, &answer, surface) {
@@ -100,16 +101,16 @@ pub fn comprehend(
     requires few { budget ≤ 65536 }
     ensures hears { IfOk result
         (λ hits.
-        Hears (asked grammar.now.tiers grammar.now.constraints.items)
+        Hears (problem_from grammar.now.tiers grammar.now.constraints.items)
         (forms_of lexicon.now) surface.now hits.items) }
     ensures entries { IfOk result
         (λ hits. All (λ hit. hit.index < length lexicon.now) hits.items) }
     ensures within { IfOk result
         (λ hits.
-        AreEntriesWithin (asked grammar.now.tiers grammar.now.constraints.items)
+        AreEntriesWithin (problem_from grammar.now.tiers grammar.now.constraints.items)
         (forms_of lexicon.now) budget) }
     ensures over { (index stage : ℕ) → result ≡ Err (CompErr.Budget index stage)
-        → IsFirstEntryOver (asked grammar.now.tiers grammar.now.constraints.items)
+        → IsFirstEntryOver (problem_from grammar.now.tiers grammar.now.constraints.items)
         (forms_of lexicon.now) budget index stage }
 {
     let mut hits = Vec::new(alloc);

@@ -1,9 +1,9 @@
 ghost use Rattle.std.specs.Prelude.{◌≡◌, ◌+◌, ◌*◌, ◌<◌, ◌≤◌, ℕ, [], All, IfOk, length};
 ghost use Rattle.tier_core.specs.Classes.{sets_of};
 ghost use Rattle.answer_text.specs.Right.{numbers_of};
-ghost use Rattle.comprehend.specs.Searches.{far, IsBefore, Reaches};
+ghost use Rattle.comprehend.specs.Searches.{no_distance, IsPredecessor, Reaches};
 ghost use Rattle.comprehend.specs.Steps.{Goes, AreSearchable};
-ghost use Rattle.comprehend.specs.Entering.{AreTurned, IsArcOf, ComesBy, ComesByOne};
+ghost use Rattle.comprehend.specs.Entering.{AreReverseArcs, IsArcOf, ComesBy, ComesByOne};
 
 use crate::cell::cell;
 use crate::entering::Entering;
@@ -27,8 +27,8 @@ fn reach_by(
     requires place { place < length tests.now }
     requires cells { entry.now.source * length tests.now + length tests.now
         ≤ length left.old.items }
-    requires few { length left.old.items < far }
-    requires near { n < far }
+    requires few { length left.old.items < no_distance }
+    requires near { n < no_distance }
     ensures { IfOk result
         (λ _.
         Reaches
@@ -69,8 +69,8 @@ fn reach(
         (λ entry.
         entry.source * length tests.now + length tests.now
         ≤ length left.old.items) entries.now }
-    requires few { length left.old.items < far }
-    requires near { n < far }
+    requires few { length left.old.items < no_distance }
+    requires near { n < no_distance }
     ensures { IfOk result
         (λ _.
         Reaches
@@ -93,14 +93,14 @@ pub(crate) fn next_level(
     left: &mut Vec<u32>,
 ) -> Result<Vec<u32>, AllocError>
     requires searchable { (width : ℕ) × AreSearchable width states.now tests.now }
-    requires turned { AreTurned (IsArcOf states.now) (numbers_of states.now) into.now }
+    requires turned { AreReverseArcs (IsArcOf states.now) (numbers_of states.now) into.now }
     requires each { length left.old.items ≡ length states.now * length tests.now }
     requires inside { All (λ v. v < length left.old.items) level.now }
-    requires near { n < far }
+    requires near { n < no_distance }
     ensures { IfOk result
         (λ next.
         Reaches
-        (IsBefore
+        (IsPredecessor
         (Goes states.now tests.now) level.now) n left.old.items left.new.items [] next.items) }
 {
     let places = tests.len() as u32;

@@ -1,5 +1,5 @@
 ghost use Rattle.std.specs.Prelude.{◌≡◌, ◌<◌, ℕ, IfOk, IsTrue, length};
-ghost use Rattle.comprehend.specs.Searches.{far, Reaches};
+ghost use Rattle.comprehend.specs.Searches.{no_distance, Reaches};
 
 use std::alloc::AllocError;
 
@@ -16,7 +16,7 @@ pub(crate) fn look(
     next: &mut Vec<u32>,
 ) -> Result<(), AllocError>
     requires cell { IsTrue steps → cell < length left.old.items }
-    requires near { n < far }
+    requires near { n < no_distance }
     ensures { IfOk result
         (λ _.
         Reaches

@@ -6,7 +6,7 @@ use indexmap::IndexSet;
 use std::alloc::{AllocError, Global};
 
 /// The node numbers of the states, in the order of the states.
-pub(crate) fn numbered(alloc: Global, states: &[StateLine]) -> Result<IndexSet<u32>, AllocError>
+pub(crate) fn node_numbers(alloc: Global, states: &[StateLine]) -> Result<IndexSet<u32>, AllocError>
     requires { AllPairs (λ m n. m ≢ n) (numbers_of states.now) }
     ensures { IfOk result (λ numbers. numbers.keys ≡ numbers_of states.now) }
 {

@@ -1,14 +1,14 @@
 ghost use Rattle.std.specs.Prelude.{◌≡◌, ◌≢◌, ◌*◌, ◌<◌, ◌^◌, ℕ, AllPairs, IfOk, length};
 ghost use Rattle.answer_text.specs.Right.{numbers_of};
 ghost use Rattle.comprehend.specs.Searches.{AreLengths, IsSearched};
-ghost use Rattle.comprehend.specs.Steps.{Goes, IsEnd, AreSearchable};
-ghost use Rattle.comprehend.specs.Entering.{AreTurned, IsArcOf};
+ghost use Rattle.comprehend.specs.Steps.{Goes, IsEndCell, AreSearchable};
+ghost use Rattle.comprehend.specs.Entering.{AreReverseArcs, IsArcOf};
 
 use crate::cell::cell;
 use crate::entering::Entering;
 use crate::level::next_level;
 use crate::look::{FAR, look};
-use crate::turning::turned;
+use crate::turning::reverse_arcs;
 use answer_text::StateLine;
 use indexmap::IndexSet;
 use std::alloc::{AllocError, Global};
@@ -27,7 +27,7 @@ fn at_the_ends(alloc: Global, states: &[StateLine], tests: &[Class]) -> Result<S
     requires searchable { (width : ℕ) × AreSearchable width states.now tests.now }
     ensures { IfOk result
         (λ search.
-        IsSearched (Goes states.now tests.now) (IsEnd states.now tests.now)
+        IsSearched (Goes states.now tests.now) (IsEndCell states.now tests.now)
         (length states.now * length tests.now) search.left.items search.level.items 0) }
 {
     let places = tests.len() as u32;
@@ -41,18 +41,18 @@ fn at_the_ends(alloc: Global, states: &[StateLine], tests: &[Class]) -> Result<S
 }
 
 /// For each cell the least number of columns to an end, by a backward breadth-first search.
-fn searched(
+fn backward_search(
     alloc: Global,
     states: &[StateLine],
     tests: &[Class],
     into: &[Vec<Entering>],
 ) -> Result<Vec<u32>, AllocError>
     requires searchable { (width : ℕ) × AreSearchable width states.now tests.now }
-    requires turned { AreTurned (IsArcOf states.now) (numbers_of states.now) into.now }
+    requires turned { AreReverseArcs (IsArcOf states.now) (numbers_of states.now) into.now }
     ensures each { IfOk result (λ left. length left.items ≡ length states.now * length tests.now) }
     ensures lengths { IfOk result
         (λ left.
-        AreLengths (Goes states.now tests.now) (IsEnd states.now tests.now) left.items) }
+        AreLengths (Goes states.now tests.now) (IsEndCell states.now tests.now) left.items) }
 {
     let search = at_the_ends(alloc, states, tests)?;
     let mut left = search.left;
@@ -79,8 +79,8 @@ pub(crate) fn lengths(
     ensures each { IfOk result (λ left. length left.items ≡ length states.now * length tests.now) }
     ensures lengths { IfOk result
         (λ left.
-        AreLengths (Goes states.now tests.now) (IsEnd states.now tests.now) left.items) }
+        AreLengths (Goes states.now tests.now) (IsEndCell states.now tests.now) left.items) }
 {
-    let into = turned(alloc, numbers, states)?;
-    searched(alloc, states, tests, &into)
+    let into = reverse_arcs(alloc, numbers, states)?;
+    backward_search(alloc, states, tests, &into)
 }

@@ -3,7 +3,7 @@ ghost use Rattle.tier_core.specs.declared.sym.Sym.{Sym};
 ghost use Rattle.tier_core.specs.Orders.{IsFirst};
 ghost use Rattle.tier_core.specs.Tables.{tiers_of_table};
 ghost use Rattle.answer_text.specs.Sound.{IsSound};
-ghost use Rattle.violation.specs.Problems.{asked};
+ghost use Rattle.violation.specs.Problems.{problem_from};
 ghost use Rattle.comprehend.specs.Surfaces.{surface_of, AcceptsHeard, AreReadable, IsSurface, HasSurface};
 
 use crate::follow::first_along;
@@ -49,17 +49,17 @@ pub fn has_surface(
     surface: &Timeline,
 ) -> Result<Option<Timeline>, NoMemory>
     requires sound { IsSound
-        (asked grammar.now.tiers grammar.now.constraints.items answer.now.form) answer.now }
+        (problem_from grammar.now.tiers grammar.now.constraints.items answer.now.form) answer.now }
     requires few { length answer.now.automaton.states.items ≤ 65536 }
     requires surface { IsSurface (tiers_of_table grammar.now.tiers) surface.now }
     requires short { length surface.now ≤ 64 }
     ensures { IfOk result (λ first.
         MatchOption first
         ((T : List (List Sym))
-        → HasSurface (asked grammar.now.tiers grammar.now.constraints.items answer.now.form)
+        → HasSurface (problem_from grammar.now.tiers grammar.now.constraints.items answer.now.form)
         surface.now T → ⊥)
         (IsFirst
-        (HasSurface (asked grammar.now.tiers grammar.now.constraints.items answer.now.form)
+        (HasSurface (problem_from grammar.now.tiers grammar.now.constraints.items answer.now.form)
         surface.now))) }
 {
     first_heard(alloc, &grammar.tiers, &answer.automaton.states, surface)

@@ -1,6 +1,6 @@
 ghost use Rattle.std.specs.Prelude.{◌≡◌, ◌≢◌, ◌+◌, ◌<◌, ◌≤◌, ◌^◌, IfOk, AllPairs, All, Contains, length};
 ghost use Rattle.answer_text.specs.Right.{numbers_of};
-ghost use Rattle.comprehend.specs.Entering.{AreTurned, IsArcBelow, IsArcOf, AreNotEntered};
+ghost use Rattle.comprehend.specs.Entering.{AreReverseArcs, IsArcBelow, IsArcOf, AreNotEntered};
 
 use crate::entering::Entering;
 use crate::numbering::place_of;
@@ -30,11 +30,12 @@ fn turn_arcs(
     requires numbers { numbers.now.keys ≡ numbers_of states.now }
     requires few { length states.now < 2 ^ 32 }
     requires once { AllPairs (λ m n. m ≢ n) (numbers_of states.now) }
-    requires turned { AreTurned (IsArcBelow states.now source)
+    requires turned { AreReverseArcs (IsArcBelow states.now source)
         (numbers_of states.now) into.old.items }
     ensures { IfOk result
         (λ _.
-        AreTurned (IsArcBelow states.now (source + 1)) (numbers_of states.now) into.new.items) }
+        AreReverseArcs (IsArcBelow states.now (source + 1))
+        (numbers_of states.now) into.new.items) }
 {
     for arc in &states[source as usize].arcs {
         let Some(target) = place_of(numbers, arc.target) else {
@@ -49,7 +50,7 @@ fn turn_arcs(
 }
 
 /// For each state the arcs that enter it.
-pub(crate) fn turned(
+pub(crate) fn reverse_arcs(
     alloc: Global,
     numbers: &IndexSet<u32>,
     states: &[StateLine],
@@ -58,7 +59,7 @@ pub(crate) fn turned(
     requires few { length states.now < 2 ^ 32 }
     requires once { AllPairs (λ m n. m ≢ n) (numbers_of states.now) }
     ensures { IfOk result
-        (λ into. AreTurned (IsArcOf states.now) (numbers_of states.now) into.items) }
+        (λ into. AreReverseArcs (IsArcOf states.now) (numbers_of states.now) into.items) }
 {
     let mut into = not_entered(alloc, states.len())?;
     for source in 0..states.len() as u32 {

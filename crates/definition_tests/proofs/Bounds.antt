@@ -1,5 +1,6 @@
 -- A timeline of at most 8 columns has at most 8 events of a type, and 8 ^ n choices of n types.
-use Rattle.std.proofs.Common.{◌≡◌, ℕ, ◌+◌, ◌*◌, ◌^◌, ◌≤◌, Bool, true, false, cond, Option, Some, None, List, [], ◌∷◌, length, map, refl, arith, length-append, suc}
+use Rattle.std.proofs.Common.{◌≡◌, ℕ, ◌+◌, ◌*◌, ◌^◌, ◌≤◌, Bool, true, false, cond, Option, Some, None, List, [], ◌∷◌}
+use Rattle.std.proofs.Common.{length, map, refl, arith, length-append, suc}
 use Rattle.std.specs.List.{flat_map}
 use Rattle.std.proofs.lemmas.List.{length-map}
 use Rattle.std.proofs.lemmas.Nat.{mul-le}
@@ -7,7 +8,7 @@ use Rattle.std.proofs.Math.Nat.{pow-succ', pow-le-pow_right}
 use Rattle.tier_core.specs.declared.sym.Sym.{Sym}
 use Rattle.tier_core.specs.declared.event.Event.{Event}
 use Rattle.tier_core.specs.Events.{event, events}
-use Rattle.tier_core.specs.Timelines.{symbol, word}
+use Rattle.tier_core.specs.Timelines.{symbol, tier_word}
 use Rattle.tier_core.specs.Words.{starts, next_end, pair_to, constituents, constituents_from}
 use Rattle.violation.specs.Counts.{choices}
 
@@ -30,9 +31,9 @@ pub events_few : (T : List (List Sym)) (e : Event) → length (events T e) ≤ l
 events_few T e =
     omega (
       arith,
-      length-map (constituents (word T e.tier)) (event e.part),
+      length-map (constituents (tier_word T e.tier)) (event e.part),
       length-map T (λ column. symbol column e.tier),
-      constituents_few 0 (word T e.tier),
+      constituents_few 0 (tier_word T e.tier),
     )
 
 length_flat : {X : Type 0} (xs : List X) (rest : List (List X))

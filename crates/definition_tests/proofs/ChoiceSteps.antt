@@ -1,5 +1,6 @@
 -- Counting the choices that go on from what was chosen so far, event by event.
-use Rattle.std.proofs.Common.{◌≡◌, ℕ, ◌+◌, ◌<◌, ◌≤◌, Bool, Option, Some, List, [], ◌∷◌, ◌++◌, length, get_or, drop, map, refl, ap, sym, ◌∙◌, drop-cons, add-one, All, arith, subst, suc}
+use Rattle.std.proofs.Common.{◌≡◌, ℕ, ◌+◌, ◌<◌, ◌≤◌, Bool, Option, Some, List, [], ◌∷◌, ◌++◌, length, get_or, drop, map}
+use Rattle.std.proofs.Common.{refl, ap, sym, ◌∙◌, drop-cons, add-one, All, arith, subst, suc}
 use Rattle.std.specs.Prelude.{count_by}
 use Rattle.std.specs.List.{flat_map}
 use Rattle.tier_core.specs.declared.sym.Sym.{Sym}
@@ -10,7 +11,7 @@ use Rattle.tier_core.specs.Events.{Interval, events, meet}
 use Rattle.tier_core.proofs.CountLemmas.{count_append, count_map, count_agree, all_of}
 use Rattle.std.proofs.lemmas.List.Sums.{count_by-le-length}
 use Rattle.definition_tests.proofs.Bounds.{choices_fit}
-use Rattle.violation.specs.Counts.{choices, chosen, counts, viol}
+use Rattle.violation.specs.Counts.{choices, choice_types, counts, viol}
 use Rattle.definition_tests.specs.declared.span.Span.{Span}
 use Rattle.definition_tests.specs.Spans.{interval, intervals_of}
 use Rattle.definition_tests.specs.Counting.{counts_meet, counted_after}
@@ -43,12 +44,12 @@ counts_by_meet Implication right T choice = refl
 
 -- from nothing on, what is counted are the violations
 pub counted_from_nothing : (family : Family) (left right : List Event) (T : List (List Sym))
-    → counted_after family right T [] (chosen family left right) ≡ viol family left right T
+    → counted_after family right T [] (choice_types family left right) ≡ viol family left right T
 unfolding viol
 counted_from_nothing family left right T =
     sym (count_agree (counts family right T) (λ choice. counts_meet family right T (meet choice))
-    (choices (map (events T) (chosen family left right)))
-    (all_of _ (choices (map (events T) (chosen family left right))) (counts_by_meet family right T)))
+    (choices (map (events T) (choice_types family left right)))
+    (all_of _ (choices (map (events T) (choice_types family left right))) (counts_by_meet family right T)))
 
 -- what holds of each of some types holds of the first and of the others
 pub first_of : {X : Type 0} (P : X → Type 0) {xs : List X} (x : X) (others : List X) → xs ≡ x ∷ others → All P xs → P x

@@ -1,5 +1,6 @@
 -- The meet of what was chosen so far, and then of the rest of a choice.
-use Rattle.std.proofs.Common.{◌≡◌, ℕ, min, max, Option, Some, None, List, [], ◌∷◌, ◌++◌, map, refl, ap, ◌∙◌, arith, Bool}
+use Rattle.std.proofs.Common.{◌≡◌, ℕ, min, max, Option, Some, None, List, [], ◌∷◌, ◌++◌, map, refl, ap, ◌∙◌, arith}
+use Rattle.std.proofs.Common.{Bool}
 use Rattle.std.specs.List.{list_any}
 use Rattle.tier_core.specs.Events.{Interval, greatest_low, least_from, meet}
 use Rattle.definition_tests.specs.declared.span.Span.{Span}

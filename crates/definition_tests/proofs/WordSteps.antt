@@ -1,21 +1,22 @@
 -- What is left of a tier at a place: the next end, and the constituents that start from there on.
-use Rattle.std.proofs.Common.{◌≡◌, ℕ, ◌+◌, ◌<◌, ◌≤◌, true, false, cond, Option, Some, None, List, [], ◌∷◌, ◌++◌, length, get_or, drop, map, ap, sym, ◌∙◌, drop-cons, add-one, append_assoc, suc}
+use Rattle.std.proofs.Common.{◌≡◌, ℕ, ◌+◌, ◌<◌, ◌≤◌, true, false, cond, Option, Some, None, List, [], ◌∷◌, ◌++◌, length}
+use Rattle.std.proofs.Common.{get_or, drop, map, ap, sym, ◌∙◌, drop-cons, add-one, append_assoc, suc}
 use Rattle.std.proofs.lemmas.List.{drop_all, map-append}
 use Rattle.tier_core.specs.declared.sym.Sym.{Sym}
 use Rattle.tier_core.specs.declared.event.Part.{Part}
 use Rattle.tier_core.specs.Events.{event}
-use Rattle.tier_core.specs.Timelines.{symbol, word}
+use Rattle.tier_core.specs.Timelines.{symbol, tier_word}
 use Rattle.tier_core.specs.Words.{starts, ends, next_end, pair_to, constituents_from}
 use Rattle.definition_tests.specs.declared.span.Span.{Span}
 use Rattle.definition_tests.specs.Spans.{interval}
 
 -- the constituents of a tier that start at place k or later
 abbrev pub left_from : List (List Sym) → ℕ → ℕ → List (ℕ × ℕ)
-left_from T t k = constituents_from k (word (drop k T) t)
+left_from T t k = constituents_from k (tier_word (drop k T) t)
 
 -- the first place from k on at which a constituent of a tier ends
 abbrev pub end_from : List (List Sym) → ℕ → ℕ → Option ℕ
-end_from T t k = next_end k (word (drop k T) t)
+end_from T t k = next_end k (tier_word (drop k T) t)
 
 module _ (T : List (List Sym)) (t k : ℕ) (column : List Sym) (h : k < length T) (is : column ≡ get_or T k column) where
   next : drop k T ≡ column ∷ drop (k + 1) T
@@ -23,8 +24,8 @@ module _ (T : List (List Sym)) (t k : ℕ) (column : List Sym) (h : k < length T
 
   end_step : end_from T t k ≡ cond (ends (symbol column t)) (Some k) (end_from T t (k + 1))
   end_step =
-      ap (λ rest. next_end k (word rest t)) next
-      ∙ ap (λ n. cond (ends (symbol column t)) (Some k) (next_end n (word (drop (k + 1) T) t))) (sym (add-one k))
+      ap (λ rest. next_end k (tier_word rest t)) next
+      ∙ ap (λ n. cond (ends (symbol column t)) (Some k) (next_end n (tier_word (drop (k + 1) T) t))) (sym (add-one k))
 
   pub end_here : ends (symbol column t) ≡ true → end_from T t k ≡ Some k
   end_here e = end_step ∙ ap (λ b. cond b (Some k) (end_from T t (k + 1))) e
@@ -35,9 +36,9 @@ module _ (T : List (List Sym)) (t k : ℕ) (column : List Sym) (h : k < length T
   left_step : left_from T t k ≡ cond (starts (symbol column t)) (pair_to k (end_from T t (k + 1))) []
       ++ left_from T t (k + 1)
   left_step =
-      ap (λ rest. constituents_from k (word rest t)) next
-      ∙ ap (λ n. cond (starts (symbol column t)) (pair_to k (next_end n (word (drop (k + 1) T) t))) []
-      ++ constituents_from n (word (drop (k + 1) T) t)) (sym (add-one k))
+      ap (λ rest. constituents_from k (tier_word rest t)) next
+      ∙ ap (λ n. cond (starts (symbol column t)) (pair_to k (next_end n (tier_word (drop (k + 1) T) t))) []
+      ++ constituents_from n (tier_word (drop (k + 1) T) t)) (sym (add-one k))
 
   pub left_without_end : starts (symbol column t) ≡ true → end_from T t (k + 1) ≡ None
       → left_from T t k ≡ left_from T t (k + 1)
@@ -52,10 +53,10 @@ module _ (T : List (List Sym)) (t k : ℕ) (column : List Sym) (h : k < length T
       ∙ ap (λ o. pair_to k o ++ left_from T t (k + 1)) n
 
 pub end_none : (T : List (List Sym)) (t k : ℕ) → length T ≤ k → end_from T t k ≡ None
-end_none T t k h = ap (λ rest. next_end k (word rest t)) (drop_all k T h)
+end_none T t k h = ap (λ rest. next_end k (tier_word rest t)) (drop_all k T h)
 
 pub left_none : (T : List (List Sym)) (t k : ℕ) → length T ≤ k → left_from T t k ≡ []
-left_none T t k h = ap (λ rest. constituents_from k (word rest t)) (drop_all k T h)
+left_none T t k h = ap (λ rest. constituents_from k (tier_word rest t)) (drop_all k T h)
 
 -- a span more, which is the event of the next constituent
 pub one_more : (part : Part) (spans : List Span) (span : Span) (c : ℕ × ℕ) (rest : List (ℕ × ℕ))

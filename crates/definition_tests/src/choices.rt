@@ -2,7 +2,7 @@ ghost use Rattle.std.specs.Prelude.{◌≡◌, ◌<◌, ◌≤◌, ◌∷◌, []
 ghost use Rattle.std.specs.List.{list_any};
 ghost use Rattle.tier_core.specs.Events.{events, is_there, meet};
 ghost use Rattle.violation.specs.Conditions.{IsCountable};
-ghost use Rattle.violation.specs.Counts.{chosen, is_met, violations_of};
+ghost use Rattle.violation.specs.Counts.{choice_types, is_met, violations_of};
 ghost use Rattle.definition_tests.specs.Counting.{HasTier, HasTiersOf, counted_after, counts_meet};
 ghost use Rattle.definition_tests.specs.Spans.{interval, intervals_of};
 
@@ -95,7 +95,7 @@ fn counted_from(
 fn chosen_types(alloc: Global, constraint: &Constraint) -> Result<Vec<Event>, NoMemory>
     ensures types { IfOk result
         (λ types.
-        types.items ≡ chosen constraint.now.family constraint.now.left constraint.now.right) }
+        types.items ≡ choice_types constraint.now.family constraint.now.left constraint.now.right) }
     ensures few { IfOk result (λ types. length types.items ≤ 16) }
 {
     let mut types = constraint.left.as_slice().to_vec(alloc)?;

@@ -1,6 +1,6 @@
 ghost use Rattle.std.specs.Prelude.{◌≡◌, ◌+◌, ◌<◌, ◌≤◌, ◌++◌, ◌∷◌, [], IfOk, OnOk, IfSome, length, map, drop};
 ghost use Rattle.tier_core.specs.Events.{events};
-ghost use Rattle.tier_core.specs.Timelines.{word};
+ghost use Rattle.tier_core.specs.Timelines.{tier_word};
 ghost use Rattle.tier_core.specs.Words.{ends, next_end, starts};
 ghost use Rattle.definition_tests.specs.Counting.{HasTier};
 ghost use Rattle.definition_tests.specs.Spans.{interval};
@@ -25,7 +25,7 @@ fn ends(sym: Sym) -> bool
 fn next_end(columns: &[Column], tier: u32, from: usize) -> Option<usize>
     requires tier { HasTier columns.now tier }
     requires from { from ≤ length columns.now }
-    ensures value { result ≡ next_end from (word (drop from columns.now) tier) }
+    ensures value { result ≡ next_end from (tier_word (drop from columns.now) tier) }
     ensures late { IfSome result (λ place. from ≤ place) }
     ensures within { IfSome result (λ place. place < length columns.now) }
 {

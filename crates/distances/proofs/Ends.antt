@@ -1,5 +1,6 @@
 -- The first weights, the last ones, and sizes.
-use Rattle.std.proofs.Common.{◌≡◌, ℕ, zero, suc, ◌+◌, ◌*◌, ◌<◌, ◌≤◌, Bool, true, false, List, [], ◌∷◌, Option, None, Some, map, length, get_or, refl, sym, ap, ◌∙◌, subst, arith, inl, inr}
+use Rattle.std.proofs.Common.{◌≡◌, ℕ, zero, suc, ◌+◌, ◌*◌, ◌<◌, ◌≤◌, Bool, true, false, List, [], ◌∷◌, Option, None}
+use Rattle.std.proofs.Common.{Some, map, length, get_or, refl, sym, ap, ◌∙◌, subst, arith, inl, inr}
 use Rattle.std.specs.Prelude.{Contains, All, MatchOption}
 use Rattle.std.proofs.lemmas.Bool.{cases_lt}
 use Rattle.std.proofs.lemmas.List.Elements.{Contains-get_or}
@@ -14,8 +15,8 @@ use Rattle.arc_table.specs.Conditions.{TargetsExist}
 use Rattle.arc_table.specs.Runs.{IsRun, weight_of, SizesWithin, HasNoRun, IsLeastFrom}
 use Rattle.distances.specs.Best.{nothing_yet, initial_of, FitsBoth}
 use Rattle.distances.specs.Least.{AreLeast}
-use Rattle.distances.specs.Rounds.{IsWithin, IsWitness, AreWitnessed, IsCovered, AreClosed}
-use Rattle.distances.proofs.Witness.{lawful-weight_of, IsWithin-more, run_of, short}
+use Rattle.distances.specs.Rounds.{IsKnownWithin, IsWitness, AreWitnessed, IsCovered, AreClosed}
+use Rattle.distances.proofs.Witness.{lawful-weight_of, IsKnownWithin-more, run_of, short}
 
 get_or-map : {X Y : Type 0} (f : X → Y) (xs : List X) (i : ℕ) (d : X) → get_or (map f xs) i (f d) ≡ f (get_or xs i d)
 get_or-map f [] i d = refl
@@ -39,7 +40,7 @@ module _ {W : Type 0} {g : Ghosts W} (laws : IsLawful g.meaning) (states : List 
           → (arcs : List (TableArc W g)) × IsWitness states (initial_of states) s arcs × (weight_of arcs ≡ w)
       go false a f = cc
       go true a f =
-          let P : Option W → Type 0 = λ o. IsWithin g.meaning o g.meaning.zero in
+          let P : Option W → Type 0 = λ o. IsKnownWithin g.meaning o g.meaning.zero in
           let self : P (Some g.meaning.zero) =
           (laws.lawful_zero, at_most-itself laws g.meaning.zero laws.lawful_zero) in
           let known : get_or (initial_of states) s None ≡ Some g.meaning.zero = initial_at s
@@ -49,17 +50,17 @@ module _ {W : Type 0} {g : Ghosts W} (laws : IsLawful g.meaning) (states : List 
   -- where no move leads to less, every run weighs at least what is known
   within_all : TargetsExist states → (least : List (Option W)) → IsCovered states least 0 → AreClosed states least
       → (s : ℕ) (arcs : List (TableArc W g)) → s < length states → IsRun states s arcs
-      → IsWithin g.meaning (get_or least s None) (weight_of arcs)
+      → IsKnownWithin g.meaning (get_or least s None) (weight_of arcs)
   within_all exist least cov closed s [] inside run = cov s [] inside run (omega arith)
   within_all exist least cov closed s (arc ∷ arcs) inside run =
       go (get_or least arc.target None) refl
       (within_all exist least cov closed arc.target arcs (exist s arc run.0) run.1)
     where
-      go : (o : Option W) → get_or least arc.target None ≡ o → IsWithin g.meaning o (weight_of arcs)
-          → IsWithin g.meaning (get_or least s None) (weight_of (arc ∷ arcs))
+      go : (o : Option W) → get_or least arc.target None ≡ o → IsKnownWithin g.meaning o (weight_of arcs)
+          → IsKnownWithin g.meaning (get_or least s None) (weight_of (arc ∷ arcs))
       go None e h = absurd h
       go (Some u) e h =
-          IsWithin-more laws (get_or least s None) (g.meaning.sum arc.weight u) (weight_of (arc ∷ arcs))
+          IsKnownWithin-more laws (get_or least s None) (g.meaning.sum arc.weight u) (weight_of (arc ∷ arcs))
           (laws.lawful_sum arc.weight u arc.lawful h.0) (lawful-weight_of laws (arc ∷ arcs))
           (closed s arc u inside run.0 e)
           (at_most-sum_left laws u (weight_of arcs) arc.weight h.0 (lawful-weight_of laws arcs) arc.lawful h.1)
@@ -73,12 +74,12 @@ module _ {W : Type 0} {g : Ghosts W} (laws : IsLawful g.meaning) (states : List 
         where
           go : (o : Option W) → get_or least s None ≡ o → MatchOption o (HasNoRun states s) (IsLeastFrom states s)
           go None e = λ arcs run. (let P : Option W
-              → Type 0 = λ o. IsWithin g.meaning o (weight_of arcs) in subst P e
+              → Type 0 = λ o. IsKnownWithin g.meaning o (weight_of arcs) in subst P e
               (within_all exist least cov closed s arcs inside run))
           go (Some w) e = record {
             some = (let found = wit s w e in (found.0, run_of laws states least s found.0 found.1, found.2));
             least = λ arcs run. (let P : Option W
-                → Type 0 = λ o. IsWithin g.meaning o (weight_of arcs) in let h : P (Some w) = subst P e
+                → Type 0 = λ o. IsKnownWithin g.meaning o (weight_of arcs) in let h : P (Some w) = subst P e
                 (within_all exist least cov closed s arcs inside run) in h.1);
           }
 
@@ -91,7 +92,7 @@ module _ {W : Type 0} {g : Ghosts W} (laws : IsLawful g.meaning) (states : List 
       let run : IsRun states s (arc ∷ rest) = (here, run_of laws states least arc.target rest old.1) in
       let few : length rest + 1 ≤ length states = short laws states least exist arc.target rest
       (exist s arc here) old.1 in
-      let P : W → Type 0 = λ x. IsWithin g.meaning (get_or least s None) (g.meaning.sum arc.weight x) in
+      let P : W → Type 0 = λ x. IsKnownWithin g.meaning (get_or least s None) (g.meaning.sum arc.weight x) in
       subst P old.2 (cov s (arc ∷ rest) inside run (omega arith))
 
   -- the size of a run

@@ -1,5 +1,6 @@
 -- What follows from the least weights of a table, however they were found.
-use Rattle.std.proofs.Common.{◌≡◌, ℕ, ◌<◌, Bool, true, false, eqb, List, [], ◌∷◌, Option, None, Some, length, get_or, refl, sym, ap, ◌∙◌, subst, arith, inl, inr}
+use Rattle.std.proofs.Common.{◌≡◌, ℕ, ◌<◌, Bool, true, false, eqb, List, [], ◌∷◌, Option, None, Some, length, get_or}
+use Rattle.std.proofs.Common.{refl, sym, ap, ◌∙◌, subst, arith, inl, inr}
 use Rattle.std.specs.Prelude.{Contains, MatchOption}
 use Rattle.std.specs.List.{list_any}
 use Rattle.std.proofs.lemmas.Bool.{false≢true, cases_lt, eqb-true, or_cases}
@@ -13,7 +14,7 @@ use Rattle.arc_table.specs.Moves.{moves_at}
 use Rattle.arc_table.specs.Conditions.{TargetsExist}
 use Rattle.arc_table.specs.Runs.{IsRun, weight_of, HasNoRun, IsLeastFrom}
 use Rattle.distances.specs.Least.{AreLeast}
-use Rattle.distances.specs.Rounds.{IsWithin, places, IsWitness, AreWitnessed}
+use Rattle.distances.specs.Rounds.{IsKnownWithin, places, IsWitness, AreWitnessed}
 use Rattle.distances.proofs.Witness.{lawful-weight_of, run_of, at_most-weight_of}
 
 module _ {W : Type 0} {g : Ghosts W} (laws : IsLawful g.meaning) (states : List (TableState W g))
@@ -61,10 +62,10 @@ module _ {W : Type 0} {g : Ghosts W} (laws : IsLawful g.meaning) (states : List 
       go (Some w) e = (w, refl)
 
   pub within_run : (s : ℕ) (arcs : List (TableArc W g)) → s < length states → IsRun states s arcs
-      → IsWithin g.meaning (get_or least s None) (weight_of arcs)
+      → IsKnownWithin g.meaning (get_or least s None) (weight_of arcs)
   within_run s arcs inside run =
       let found = weighed s arcs inside run in
-      let P : Option W → Type 0 = λ o. IsWithin g.meaning o (weight_of arcs) in
+      let P : Option W → Type 0 = λ o. IsKnownWithin g.meaning o (weight_of arcs) in
       let h : P (Some found.0) = (lawful_least s found.0 found.1, (least_at s found.0 found.1).least arcs run) in
       subst P (sym found.1) h
 

@@ -1,5 +1,6 @@
 -- What is kept where the best of one state is written.
-use Rattle.std.proofs.Common.{◌≡◌, ℕ, ◌+◌, ◌<◌, ◌≤◌, Bool, true, false, eqb, List, [], ◌∷◌, Option, None, Some, length, get_or, set, refl, sym, ap, ◌∙◌, subst, arith, inl, inr}
+use Rattle.std.proofs.Common.{◌≡◌, ℕ, ◌+◌, ◌<◌, ◌≤◌, Bool, true, false, eqb, List, [], ◌∷◌, Option, None, Some, length}
+use Rattle.std.proofs.Common.{get_or, set, refl, sym, ap, ◌∙◌, subst, arith, inl, inr}
 use Rattle.std.specs.Prelude.{Contains}
 use Rattle.std.specs.List.{list_any}
 use Rattle.std.proofs.lemmas.Bool.{false≢true, cases_eq}
@@ -13,8 +14,9 @@ use Rattle.arc_table.specs.Moves.{moves_at}
 use Rattle.arc_table.specs.Conditions.{TargetsExist}
 use Rattle.arc_table.specs.Runs.{IsRun, weight_of}
 use Rattle.distances.specs.Best.{best_of}
-use Rattle.distances.specs.Rounds.{IsWithin, places, IsWitness, AreWitnessed, IsCoveredFrom, IsCovered, AreClosedFrom}
-use Rattle.distances.proofs.Witness.{lawful-weight_of, IsWithin-more, passes, at_most-weight_of}
+use Rattle.distances.specs.Rounds.{IsKnownWithin, places, IsWitness, AreWitnessed, IsCoveredFrom, IsCovered}
+use Rattle.distances.specs.Rounds.{AreClosedFrom}
+use Rattle.distances.proofs.Witness.{lawful-weight_of, IsKnownWithin-more, passes, at_most-weight_of}
 use Rattle.distances.proofs.Looks.{IsLawfulIfSome, Improves, Gains, best-known, best-move, best-cases}
 
 module _ {W : Type 0} {g : Ghosts W} (laws : IsLawful g.meaning) (states : List (TableState W g)) where
@@ -32,8 +34,8 @@ module _ {W : Type 0} {g : Ghosts W} (laws : IsLawful g.meaning) (states : List 
 
   -- what is known only falls
   abbrev pub Falls : List (Option W) → List (Option W) → Type 0
-  Falls least next = (q : ℕ) (w : W) → g.meaning.lawful w ≡ true → IsWithin g.meaning (get_or least q None) w
-      → IsWithin g.meaning (get_or next q None) w
+  Falls least next = (q : ℕ) (w : W) → g.meaning.lawful w ≡ true → IsKnownWithin g.meaning (get_or least q None) w
+      → IsKnownWithin g.meaning (get_or next q None) w
 
   pub witness-falls : (least next : List (Option W)) → Falls least next → (s : ℕ) (arcs : List (TableArc W g))
       → IsWitness states least s arcs → IsWitness states next s arcs
@@ -45,7 +47,8 @@ module _ {W : Type 0} {g : Ghosts W} (laws : IsLawful g.meaning) (states : List 
     witness-falls least next falls arc.target arcs h.3,
   )
 
-  not_both : (o : Option W) (a c : W) → g.meaning.lawful a ≡ true → g.meaning.lawful c ≡ true → IsWithin g.meaning o a
+  not_both : (o : Option W) (a c : W) → g.meaning.lawful a ≡ true → g.meaning.lawful c ≡ true
+      → IsKnownWithin g.meaning o a
       → AtMost g.meaning a c → Improves g.meaning c o → ⊥
   not_both None a c pa pc h ac better = h
   not_both (Some u) a c pa pc h ac better = false≢true (sym (at_most-trans laws u a c h.0 pa pc h.1 ac) ∙ better)
@@ -67,14 +70,14 @@ module _ {W : Type 0} {g : Ghosts W} (laws : IsLawful g.meaning) (states : List 
     pub step-falls : Falls least next_of
     step-falls q w pw h = elim (cases_eq q s) [
       | inl same ↦
-          (let P : Option W → Type 0 = λ o. IsWithin g.meaning o w in
-          let Q : ℕ → Type 0 = λ x. IsWithin g.meaning (get_or least x None) w
-          → IsWithin g.meaning (get_or next_of x None) w in
+          (let P : Option W → Type 0 = λ o. IsKnownWithin g.meaning o w in
+          let Q : ℕ → Type 0 = λ x. IsKnownWithin g.meaning (get_or least x None) w
+          → IsKnownWithin g.meaning (get_or next_of x None) w in
           let here : Q s = λ k. subst P (sym at_s)
           (best-known laws least (lawful_known least wit) (get_or least s None) moves
           (lawful_known least wit s) w pw k) in
           subst Q (sym same) here h)
-      | inr ne ↦ (let P : Option W → Type 0 = λ o. IsWithin g.meaning o w in subst P
+      | inr ne ↦ (let P : Option W → Type 0 = λ o. IsKnownWithin g.meaning o w in subst P
           (sym (get_or-set_other least s q found_at None ne)) h)
     ]
 
@@ -98,7 +101,7 @@ module _ {W : Type 0} {g : Ghosts W} (laws : IsLawful g.meaning) (states : List 
               (at_most-weight_of laws arc rest) better)
           | false ↦ λ t. t
         ] in
-        let Q : Option W → Type 0 = λ o. IsWithin g.meaning o (weight_of (arc ∷ rest)) in
+        let Q : Option W → Type 0 = λ o. IsKnownWithin g.meaning o (weight_of (arc ∷ rest)) in
         let known : get_or next_of s None ≡ Some (weight_of (arc ∷ rest)) = at_s ∙ found.4
         ∙ ap (λ x. Some x) (sym same) in
         let self : Q (Some (weight_of (arc ∷ rest))) = (pt, at_most-itself laws (weight_of (arc ∷ rest)) pt) in
@@ -136,18 +139,18 @@ module _ {W : Type 0} {g : Ghosts W} (laws : IsLawful g.meaning) (states : List 
     -- a run from s of one move more
     covered_at : ((arc : TableArc W g) → Contains (moves_at states s) arc → Contains moves arc) → TargetsExist states
         → (k : ℕ) → IsCovered states least k → s < length states → (arcs : List (TableArc W g)) → IsRun states s arcs
-        → length arcs ≤ k + 1 → IsWithin g.meaning found_at (weight_of arcs)
+        → length arcs ≤ k + 1 → IsKnownWithin g.meaning found_at (weight_of arcs)
     covered_at all exist k cov ins [] run short =
         best-known laws least (lawful_known least wit) (get_or least s None) moves
         (lawful_known least wit s) g.meaning.zero laws.lawful_zero (cov s [] ins run (omega arith))
     covered_at all exist k cov ins (arc ∷ rest) run short = go (get_or least arc.target None) refl
         (cov arc.target rest (exist s arc run.0) run.1 (omega arith))
       where
-        go : (o : Option W) → get_or least arc.target None ≡ o → IsWithin g.meaning o (weight_of rest)
-            → IsWithin g.meaning found_at (weight_of (arc ∷ rest))
+        go : (o : Option W) → get_or least arc.target None ≡ o → IsKnownWithin g.meaning o (weight_of rest)
+            → IsKnownWithin g.meaning found_at (weight_of (arc ∷ rest))
         go None e h = absurd h
         go (Some u) e h =
-            IsWithin-more laws found_at (g.meaning.sum arc.weight u) (weight_of (arc ∷ rest))
+            IsKnownWithin-more laws found_at (g.meaning.sum arc.weight u) (weight_of (arc ∷ rest))
             (laws.lawful_sum arc.weight u arc.lawful h.0) (lawful-weight_of laws (arc ∷ rest))
             (best-move laws least (lawful_known least wit) (get_or least s None) moves (lawful_known least wit s) arc
             (all arc run.0) u e)
@@ -162,8 +165,9 @@ module _ {W : Type 0} {g : Ghosts W} (laws : IsLawful g.meaning) (states : List 
         → IsCoveredFrom states least (s + 1) (k + 1) → IsCoveredFrom states next_of s (k + 1)
     step-covered_more all exist k ins cov more q arcs low inn run short = elim (cases_eq q s) [
       | inl same ↦
-          (let P : Option W → Type 0 = λ o. IsWithin g.meaning o (weight_of arcs) in
-          let Q : ℕ → Type 0 = λ x. IsRun states x arcs → IsWithin g.meaning (get_or next_of x None) (weight_of arcs) in
+          (let P : Option W → Type 0 = λ o. IsKnownWithin g.meaning o (weight_of arcs) in
+          let Q : ℕ → Type 0 = λ x. IsRun states x arcs
+          → IsKnownWithin g.meaning (get_or next_of x None) (weight_of arcs) in
           let here : Q s = λ r. subst P (sym at_s) (covered_at all exist k cov ins arcs r short) in
           subst Q (sym same) here run)
       | inr ne ↦ (let higher : s + 1 ≤ q = omega arith in step-falls q (weight_of arcs) (lawful-weight_of laws arcs)
@@ -178,9 +182,9 @@ module _ {W : Type 0} {g : Ghosts W} (laws : IsLawful g.meaning) (states : List 
         → get_or least s None ≡ found_at → AreClosedFrom states least (s + 1) → AreClosedFrom states least s
     step-closed all e closed q arc w low inn inside known = elim (cases_eq q s) [
       | inl same ↦
-          (let P : Option W → Type 0 = λ o. IsWithin g.meaning o (g.meaning.sum arc.weight w) in
+          (let P : Option W → Type 0 = λ o. IsKnownWithin g.meaning o (g.meaning.sum arc.weight w) in
           let Q : ℕ → Type 0 = λ x. Contains (moves_at states x) arc
-          → IsWithin g.meaning (get_or least x None) (g.meaning.sum arc.weight w) in
+          → IsKnownWithin g.meaning (get_or least x None) (g.meaning.sum arc.weight w) in
           let here : Q s = λ c. subst P (sym e)
           (best-move laws least (lawful_known least wit) (get_or least s None) moves
           (lawful_known least wit s) arc (all arc c) w known) in

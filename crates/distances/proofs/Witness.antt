@@ -1,5 +1,6 @@
 -- Runs that come to no state twice, and what they weigh.
-use Rattle.std.proofs.Common.{◌≡◌, ℕ, ◌+◌, ◌<◌, ◌≤◌, Bool, true, false, eqb, List, [], ◌∷◌, Option, None, Some, length, get_or, sym, subst, arith, inl, inr}
+use Rattle.std.proofs.Common.{◌≡◌, ℕ, ◌+◌, ◌<◌, ◌≤◌, Bool, true, false, eqb, List, [], ◌∷◌, Option, None, Some, length}
+use Rattle.std.proofs.Common.{get_or, sym, subst, arith, inl, inr}
 use Rattle.std.specs.List.{list_any, IsDistinct, AllByRecursion}
 use Rattle.std.proofs.lemmas.Bool.{false≢true, eqb-true, or_cases, or_parts}
 use Rattle.std.proofs.lemmas.Map.Keys.{IsDistinct-cons}
@@ -11,7 +12,7 @@ use Rattle.arc_table.specs.declared.arc.TableArc.{TableArc}
 use Rattle.arc_table.specs.declared.state.TableState.{TableState}
 use Rattle.arc_table.specs.Conditions.{TargetsExist}
 use Rattle.arc_table.specs.Runs.{IsRun, weight_of}
-use Rattle.distances.specs.Rounds.{IsWithin, places, IsWitness}
+use Rattle.distances.specs.Rounds.{IsKnownWithin, places, IsWitness}
 
 -- a test that no element passes fails at each
 AllByRecursion-from_list_any : {X : Type 0} (p : X → Bool) (xs : List X) → list_any p xs ≡ false
@@ -31,10 +32,10 @@ module _ {W : Type 0} {g : Ghosts W} (laws : IsLawful g.meaning) where
   lawful-weight_of [] = laws.lawful_zero
   lawful-weight_of (arc ∷ arcs) = laws.lawful_sum arc.weight (weight_of arcs) arc.lawful (lawful-weight_of arcs)
 
-  pub IsWithin-more : (o : Option W) (a b : W) → g.meaning.lawful a ≡ true → g.meaning.lawful b ≡ true
-      → IsWithin g.meaning o a → AtMost g.meaning a b → IsWithin g.meaning o b
-  IsWithin-more None a b pa pb h ab = h
-  IsWithin-more (Some u) a b pa pb h ab = (h.0, at_most-trans laws u a b h.0 pa pb h.1 ab)
+  pub IsKnownWithin-more : (o : Option W) (a b : W) → g.meaning.lawful a ≡ true → g.meaning.lawful b ≡ true
+      → IsKnownWithin g.meaning o a → AtMost g.meaning a b → IsKnownWithin g.meaning o b
+  IsKnownWithin-more None a b pa pb h ab = h
+  IsKnownWithin-more (Some u) a b pa pb h ab = (h.0, at_most-trans laws u a b h.0 pa pb h.1 ab)
 
   pub at_most-weight_of : (arc : TableArc W g) (arcs : List (TableArc W g))
       → AtMost g.meaning (weight_of arcs) (weight_of (arc ∷ arcs))
@@ -43,16 +44,16 @@ module _ {W : Type 0} {g : Ghosts W} (laws : IsLawful g.meaning) where
   -- what is known of a state that a witness comes to is at most its weight
   pub passes : (states : List (TableState W g)) (least : List (Option W)) (s : ℕ) (arcs : List (TableArc W g))
       → IsWitness states least s arcs → (q : ℕ) → list_any (eqb q) (places s arcs) ≡ true
-      → IsWithin g.meaning (get_or least q None) (weight_of arcs)
+      → IsKnownWithin g.meaning (get_or least q None) (weight_of arcs)
   passes states least s [] h q e =
       let same : q ≡ s = elim (or_cases (eqb q s) false e) [ inl a ↦ eqb-true q s a | inr b ↦ absurd (false≢true b) ] in
-      let P : ℕ → Type 0 = λ x. IsWithin g.meaning (get_or least x None) g.meaning.zero in
+      let P : ℕ → Type 0 = λ x. IsKnownWithin g.meaning (get_or least x None) g.meaning.zero in
       subst P (sym same) h.1
   passes states least s (arc ∷ arcs) h q e =
-      let P : ℕ → Type 0 = λ x. IsWithin g.meaning (get_or least x None) (weight_of (arc ∷ arcs)) in
+      let P : ℕ → Type 0 = λ x. IsKnownWithin g.meaning (get_or least x None) (weight_of (arc ∷ arcs)) in
       elim (or_cases (eqb q s) (list_any (eqb q) (places arc.target arcs)) e) [
         | inl a ↦ subst P (sym (eqb-true q s a)) h.1
-        | inr b ↦ IsWithin-more (get_or least q None) (weight_of arcs) (weight_of (arc ∷ arcs))
+        | inr b ↦ IsKnownWithin-more (get_or least q None) (weight_of arcs) (weight_of (arc ∷ arcs))
             (lawful-weight_of arcs) (lawful-weight_of (arc ∷ arcs)) (passes states least arc.target arcs h.3 q b)
             (at_most-weight_of arc arcs)
       ]

@@ -10,9 +10,9 @@ use Rattle.arc_table.specs.Moves.{moves_at, accepting_at}
 use Rattle.arc_table.specs.Runs.{IsRun, weight_of}
 
 -- something is known, and it is at most w
-abbrev pub IsWithin : {W : Type 0} → Meaning W → Option W → W → Type 0
-IsWithin m None w = ⊥
-IsWithin m (Some u) w = (m.lawful u ≡ true) × AtMost m u w
+abbrev pub IsKnownWithin : {W : Type 0} → Meaning W → Option W → W → Type 0
+IsKnownWithin m None w = ⊥
+IsKnownWithin m (Some u) w = (m.lawful u ≡ true) × AtMost m u w
 
 -- the states of a run, in turn
 abbrev pub places : {W : Type 0} {g : Ghosts W} → ℕ → List (TableArc W g) → List ℕ
@@ -24,10 +24,10 @@ places s (arc ∷ arcs) = s ∷ places arc.target arcs
 abbrev pub IsWitness : {W : Type 0} {g : Ghosts W} → List (TableState W g) → List (Option W) → ℕ → List (TableArc W g)
     → Type 0
 IsWitness {W} {g} states least s [] =
-    IsTrue (accepting_at states s) × IsWithin g.meaning (slice_index_or least s None) g.meaning.zero
+    IsTrue (accepting_at states s) × IsKnownWithin g.meaning (slice_index_or least s None) g.meaning.zero
 IsWitness {W} {g} states least s (arc ∷ arcs) =
     Contains (moves_at states s) arc
-    × IsWithin g.meaning (slice_index_or least s None) (weight_of (arc ∷ arcs))
+    × IsKnownWithin g.meaning (slice_index_or least s None) (weight_of (arc ∷ arcs))
     × (list_any (eqb s) (places arc.target arcs) ≡ false)
     × IsWitness states least arc.target arcs
 
@@ -41,24 +41,24 @@ AreWitnessed {W} {g} states least =
 abbrev pub IsCoveredFrom : {W : Type 0} {g : Ghosts W} → List (TableState W g) → List (Option W) → ℕ → ℕ → Type 0
 IsCoveredFrom {W} {g} states least n k =
     (s : ℕ) (arcs : List (TableArc W g)) → n ≤ s → s < length states → IsRun states s arcs → length arcs ≤ k →
-    IsWithin g.meaning (slice_index_or least s None) (weight_of arcs)
+    IsKnownWithin g.meaning (slice_index_or least s None) (weight_of arcs)
 
 -- the same for every state
 abbrev pub IsCovered : {W : Type 0} {g : Ghosts W} → List (TableState W g) → List (Option W) → ℕ → Type 0
 IsCovered {W} {g} states least k =
     (s : ℕ) (arcs : List (TableArc W g)) → s < length states → IsRun states s arcs → length arcs ≤ k →
-    IsWithin g.meaning (slice_index_or least s None) (weight_of arcs)
+    IsKnownWithin g.meaning (slice_index_or least s None) (weight_of arcs)
 
 -- no move of a state from n on leads to less than what is known
 abbrev pub AreClosedFrom : {W : Type 0} {g : Ghosts W} → List (TableState W g) → List (Option W) → ℕ → Type 0
 AreClosedFrom {W} {g} states least n =
     (s : ℕ) (arc : TableArc W g) (w : W) → n ≤ s → s < length states → Contains (moves_at states s) arc →
     slice_index_or least arc.target None ≡ Some w →
-    IsWithin g.meaning (slice_index_or least s None) (g.meaning.sum arc.weight w)
+    IsKnownWithin g.meaning (slice_index_or least s None) (g.meaning.sum arc.weight w)
 
 -- no move leads to less than what is known
 abbrev pub AreClosed : {W : Type 0} {g : Ghosts W} → List (TableState W g) → List (Option W) → Type 0
 AreClosed {W} {g} states least =
     (s : ℕ) (arc : TableArc W g) (w : W) → s < length states → Contains (moves_at states s) arc →
     slice_index_or least arc.target None ≡ Some w →
-    IsWithin g.meaning (slice_index_or least s None) (g.meaning.sum arc.weight w)
+    IsKnownWithin g.meaning (slice_index_or least s None) (g.meaning.sum arc.weight w)

@@ -14,16 +14,16 @@ ends_below states zero = []
 ends_below states (suc n) = ends_below states n ++ (if accepting_at states n then n ∷ [] else [])
 
 -- the weight c at state s, if it is less than what is known there
-abbrev pub lowered : {W : Type 0} → Meaning W → List (Option W) → ℕ → W → List (Option W)
-lowered m least s c = slice_set least s (lesser_of m (slice_index_or least s None) (Some c))
+abbrev pub lower_at : {W : Type 0} → Meaning W → List (Option W) → ℕ → W → List (Option W)
+lower_at m least s c = slice_set least s (lesser_of m (slice_index_or least s None) (Some c))
 
 -- what is known after a look at moves to a state with weight w, one by one
-abbrev pub relaxed : {W : Type 0} → Meaning W → W → List (Option W) → List (IncomingMove W) → List (Option W)
-relaxed m w least [] = least
-relaxed m w least (move ∷ moves) = relaxed m w (lowered m least move.source (m.sum move.weight w)) moves
+abbrev pub relax_all : {W : Type 0} → Meaning W → W → List (Option W) → List (IncomingMove W) → List (Option W)
+relax_all m w least [] = least
+relax_all m w least (move ∷ moves) = relax_all m w (lower_at m least move.source (m.sum move.weight w)) moves
 
 -- known weights are still those of runs, and none has risen
-pub record IsKept {W : Type 0} {g : Ghosts W} (states : List (TableState W g))
+pub record KeepsWitnesses {W : Type 0} {g : Ghosts W} (states : List (TableState W g))
     (old new : List (Option W)) : Type 0 where
   pub each_state : length new ≡ length states
   pub witnessed : AreWitnessed states new

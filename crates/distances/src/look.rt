@@ -6,7 +6,7 @@ use std::cmp::Ordering;
 use weight_law::Weight;
 
 /// The smaller of two weights, either of which may be missing; of equal ones the first.
-fn lesser<W: Weight>(known: Option<W>, other: Option<W>) -> Option<W>
+fn lesser_weight<W: Weight>(known: Option<W>, other: Option<W>) -> Option<W>
     ensures { result ≡ lesser_of W.meaning known other }
 {
     match other {
@@ -37,7 +37,7 @@ pub(crate) fn best<W: Weight>(
     for arc in arcs {
         if let Some(rest) = least[arc.target as usize] {
             let sum = arc.weight.plus(&rest);
-            best = lesser(best, Some(sum));
+            best = lesser_weight(best, Some(sum));
         }
     }
     best

@@ -12,7 +12,7 @@ use std::cmp::Ordering;
 use weight_law::Weight;
 
 /// What is known with no move: zero at accepting states.
-pub(crate) fn initial<W: Weight>(
+pub(crate) fn initial_weights<W: Weight>(
     alloc: Global,
     table: &Table<W>,
 ) -> Result<Vec<Option<W>>, AllocError>
@@ -70,7 +70,7 @@ fn round<W: Weight>(table: &Table<W>, least: &mut [Option<W>]) -> bool
 
 /// The least weights, by rounds until nothing changes. If the weights are already least, the first
 /// round shows it.
-pub(crate) fn closed<W: Weight>(table: &Table<W>, mut least: Vec<Option<W>>) -> Vec<Option<W>>
+pub(crate) fn fixed_point<W: Weight>(table: &Table<W>, mut least: Vec<Option<W>>) -> Vec<Option<W>>
     requires each_state { length least.items ≡ length (states_of table.now) }
     requires sizes { SizesWithin (states_of table.now) u32.MAX }
     requires witnessed { AreWitnessed (states_of table.now) least.items }

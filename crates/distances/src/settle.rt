@@ -1,11 +1,11 @@
 ghost use Rattle.std.specs.Prelude.{◌≡◌, ◌<◌, ◌≤◌, ◌+◌, All, IfOk, IsPermutation, IsTrue, None, length, map, slice_index_or, true};
 ghost use Rattle.std.specs.BinaryHeap.{heap_items};
-ghost use Rattle.arc_table.specs.Incoming.{AreTurned};
+ghost use Rattle.arc_table.specs.Incoming.{AreReverseMoves};
 ghost use Rattle.arc_table.specs.Runs.{SizesWithin};
 ghost use Rattle.arc_table.specs.States.{states_of};
 ghost use Rattle.distances.specs.Best.{is_lower};
 ghost use Rattle.distances.specs.Rounds.{AreWitnessed};
-ghost use Rattle.distances.specs.Settled.{ends_below, relaxed, IsKept};
+ghost use Rattle.distances.specs.Settled.{ends_below, relax_all, KeepsWitnesses};
 
 use crate::rounds::differ;
 use crate::waiting::Waiting;
@@ -73,7 +73,7 @@ fn relax<W: Weight>(
     requires sizes { All
         (λ move. W.meaning.size move.weight + W.meaning.size rest ≤ u32.MAX) moves.now }
     ensures { IfOk result
-        (λ _. least.new.items ≡ relaxed W.meaning rest least.old.items moves.now) }
+        (λ _. least.new.items ≡ relax_all W.meaning rest least.old.items moves.now) }
 {
     for incoming in moves {
         let state = incoming.source;
@@ -96,11 +96,12 @@ pub(crate) fn settle<W: Weight>(
     incoming: &Incoming<W>,
     least: &mut Vec<Option<W>>,
 ) -> Result<(), AllocError>
-    requires turned { AreTurned (states_of table.now) incoming.now }
+    requires turned { AreReverseMoves (states_of table.now) incoming.now }
     requires each_state { length least.old.items ≡ length (states_of table.now) }
     requires sizes { SizesWithin (states_of table.now) u32.MAX }
     requires witnessed { AreWitnessed (states_of table.now) least.old.items }
-    ensures { IfOk result (λ _. IsKept (states_of table.now) least.old.items least.new.items) }
+    ensures { IfOk result (λ _. KeepsWitnesses
+        (states_of table.now) least.old.items least.new.items) }
 {
     let mut heap = ends(alloc, table)?;
     for _turn in 0..u64::MAX {

@@ -1,10 +1,10 @@
 ghost use Rattle.std.specs.Prelude.{IfOk};
-ghost use Rattle.arc_table.specs.Incoming.{AreTurned};
+ghost use Rattle.arc_table.specs.Incoming.{AreReverseMoves};
 ghost use Rattle.arc_table.specs.Runs.{SizesWithin};
 ghost use Rattle.arc_table.specs.States.{states_of};
 ghost use Rattle.distances.specs.Least.{AreLeast};
 
-use crate::rounds::{closed, initial};
+use crate::rounds::{fixed_point, initial_weights};
 use crate::settle::settle;
 use arc_table::{Incoming, Table};
 use std::alloc::Global;
@@ -17,13 +17,13 @@ fn over_incoming<W: Weight>(
     table: &Table<W>,
     incoming: &Incoming<W>,
 ) -> Result<Vec<Option<W>>, NoMemory>
-    requires turned { AreTurned (states_of table.now) incoming.now }
+    requires turned { AreReverseMoves (states_of table.now) incoming.now }
     requires sizes { SizesWithin (states_of table.now) u32.MAX }
     ensures { IfOk result (λ least. AreLeast (states_of table.now) least.items) }
 {
-    let mut least = initial(alloc, table)?;
+    let mut least = initial_weights(alloc, table)?;
     settle(alloc, table, incoming, &mut least)?;
-    Ok(closed(table, least))
+    Ok(fixed_point(table, least))
 }
 
 /// For each state the least weight of a path from it to an accepting state, and `None` exactly if

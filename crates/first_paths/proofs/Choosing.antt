@@ -1,5 +1,6 @@
 -- One column more at the front of a first word.
-use Rattle.std.proofs.Common.{◌≡◌, ℕ, ◌+◌, ◌<◌, ◌≤◌, false, List, [], ◌∷◌, Option, None, Some, length, get_or, refl, sym, ap, ◌∙◌, subst, arith, ◌⊎◌, inl, inr}
+use Rattle.std.proofs.Common.{◌≡◌, ℕ, ◌+◌, ◌<◌, ◌≤◌, false, List, [], ◌∷◌, Option, None, Some, length, get_or, refl}
+use Rattle.std.proofs.Common.{sym, ap, ◌∙◌, subst, arith, ◌⊎◌, inl, inr}
 use Rattle.std.specs.Prelude.{Contains, IsTrue, MatchOption, ⊤}
 use Rattle.std.specs.declared.cmp.Ordering.{Ordering}
 use Rattle.std.specs.declared.cmp.Ordering.TheVariants.{Less, Equal, Greater}
@@ -20,7 +21,7 @@ use Rattle.arc_table.specs.Moves.{moves_at}
 use Rattle.arc_table.specs.Conditions.{TargetsExist, ClassesDisjoint, ClassesFilled}
 use Rattle.arc_table.specs.Runs.{IsRun, Reads}
 use Rattle.first_paths.specs.declared.choice.Choice.{Choice}
-use Rattle.first_paths.specs.Counted.{AreLengths, IsLeft, HasLeft, IsOf, IsLeastBelow, IsLeastChoice}
+use Rattle.first_paths.specs.Counted.{AreLengths, IsLeft, HasLeft, IsChoiceOf, IsLeastBelow, IsLeastChoice}
 use Rattle.first_paths.proofs.FirstFrom.{word_cmp, IsFirstOf, ReadsFrom, IsFirstFrom}
 use Rattle.first_paths.proofs.Order.{equal_columns, column_upto}
 
@@ -60,7 +61,7 @@ module _ {V : Type 0} {h : Ghosts V} where
 
   pub best-take : (left : List (Option Count)) (n : ℕ) (arcs : List (TableArc V h)) (i : ℕ) (arc : TableArc V h)
       → i < length arcs → arc ≡ get_or arcs i arc → HasLeft left n arc → (best : Option Choice) (choice : Choice)
-      → IsBestBelow left n arcs i best → IsOf arc choice.column choice.target ⊎ (best ≡ Some choice)
+      → IsBestBelow left n arcs i best → IsChoiceOf arc choice.column choice.target ⊎ (best ≡ Some choice)
       → is_gt (column_cmp choice.column (first_column arc.class)) ≡ false
       → MatchOption best ⊤ (λ other. is_gt (column_cmp choice.column other.column) ≡ false)
       → IsLeastBelow left n arcs (i + 1) choice.column choice.target
@@ -91,7 +92,7 @@ module _ {V : Type 0} {h : Ghosts V} where
           (cases_lt j i) [ inl lower ↦ below best old least j d lower left_j | inr upper ↦ here j d upper l ]
 
       go : (best : Option Choice) → IsBestBelow left n arcs i best
-          → IsOf arc choice.column choice.target ⊎ (best ≡ Some choice)
+          → IsChoiceOf arc choice.column choice.target ⊎ (best ≡ Some choice)
           → MatchOption best ⊤ (λ other. is_gt (column_cmp choice.column other.column) ≡ false)
           → IsLeastBelow left n arcs (i + 1) choice.column choice.target
       go best old (inl mine) least = (arc, (i, inside, sym read), has, mine, each best old least)

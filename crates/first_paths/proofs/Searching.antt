@@ -1,8 +1,10 @@
 -- The search backward: what one move, one level and the last level give.
-use Rattle.std.proofs.Common.{◌≡◌, ℕ, zero, suc, ◌+◌, ◌<◌, ◌≤◌, true, false, List, [], ◌∷◌, ◌++◌, Option, None, Some, take, set, length, get_or, refl, sym, ap, ◌∙◌, subst, arith, ◌⊎◌, inl, inr}
+use Rattle.std.proofs.Common.{◌≡◌, ℕ, zero, suc, ◌+◌, ◌<◌, ◌≤◌, true, false, List, [], ◌∷◌, ◌++◌, Option, None, Some}
+use Rattle.std.proofs.Common.{take, set, length, get_or, refl, sym, ap, ◌∙◌, subst, arith, ◌⊎◌, inl, inr}
 use Rattle.std.specs.Prelude.{Contains, All, IsTrue, is_some}
 use Rattle.std.proofs.lemmas.Bool.{false≢true, cases_lt, cases_eq}
-use Rattle.std.proofs.lemmas.List.{length-set, get_or-set_same, get_or-set_other, get_or_past, get_or_push, get_or_append_left, length_push, take_more, take_all}
+use Rattle.std.proofs.lemmas.List.{length-set, get_or-set_same, get_or-set_other, get_or_past, get_or_push}
+use Rattle.std.proofs.lemmas.List.{get_or_append_left, length_push, take_more, take_all}
 use Rattle.std.proofs.lemmas.List.Elements.{Contains-get_or, Contains-append_left, Contains-push, Contains-push_cases}
 use Rattle.weight_law.specs.declared.Weight.{Ghosts}
 use Rattle.weight_law.specs.declared.count.Count.{Count}
@@ -13,24 +15,25 @@ use Rattle.arc_table.specs.declared.incoming.Incoming.{Incoming}
 use Rattle.arc_table.specs.Moves.{moves_at, accepting_at}
 use Rattle.arc_table.specs.Conditions.{TargetsExist}
 use Rattle.arc_table.specs.Runs.{IsRun}
-use Rattle.arc_table.specs.Incoming.{moves_into, AreTurned}
+use Rattle.arc_table.specs.Incoming.{moves_into, AreReverseMoves}
 use Rattle.arc_table.proofs.Push.{moves_exist}
 use Rattle.first_paths.specs.Counted.{AreLengths, IsLeft}
-use Rattle.first_paths.specs.Search.{unknown, IsSource, IsBefore, Reaches, IsSearched}
+use Rattle.first_paths.specs.Search.{unknown_count, IsSource, IsPredecessor, Reaches, IsSearched}
 
-unknown-set : (left : List (Option Count)) (s : ℕ) (c : Count) → get_or left s None ≡ None → s < length left
-    → unknown (set left s (Some c)) + 1 ≡ unknown left
-unknown-set [] s c none l = absurd (omega (arith, l))
-unknown-set (None ∷ left) zero c none l = omega arith
-unknown-set (Some d ∷ left) zero c none l = cc
-unknown-set (None ∷ left) (suc s) c none l = (let rest = unknown-set left s c none (omega arith) in omega (arith, rest))
-unknown-set (Some d ∷ left) (suc s) c none l = unknown-set left s c none (omega arith)
+unknown_count-set : (left : List (Option Count)) (s : ℕ) (c : Count) → get_or left s None ≡ None → s < length left
+    → unknown_count (set left s (Some c)) + 1 ≡ unknown_count left
+unknown_count-set [] s c none l = absurd (omega (arith, l))
+unknown_count-set (None ∷ left) zero c none l = omega arith
+unknown_count-set (Some d ∷ left) zero c none l = cc
+unknown_count-set (None ∷ left) (suc s) c none
+    l = (let rest = unknown_count-set left s c none (omega arith) in omega (arith, rest))
+unknown_count-set (Some d ∷ left) (suc s) c none l = unknown_count-set left s c none (omega arith)
 
-unknown-push : (left : List (Option Count)) (o : Option Count)
-    → unknown (left ++ o ∷ []) ≡ unknown left + unknown (o ∷ [])
-unknown-push [] o = omega arith
-unknown-push (None ∷ left) o = (let rest = unknown-push left o in omega (arith, rest))
-unknown-push (Some d ∷ left) o = unknown-push left o
+unknown_count-push : (left : List (Option Count)) (o : Option Count)
+    → unknown_count (left ++ o ∷ []) ≡ unknown_count left + unknown_count (o ∷ [])
+unknown_count-push [] o = omega arith
+unknown_count-push (None ∷ left) o = (let rest = unknown_count-push left o in omega (arith, rest))
+unknown_count-push (Some d ∷ left) o = unknown_count-push left o
 
 -- only states have a number
 known_inside : (left : List (Option Count)) (s : ℕ) (c : Count) → get_or left s None ≡ Some c → s < length left
@@ -121,8 +124,8 @@ one_unknown n left next s c is none inside = record {
       | inr at ↦ inr (c, there q at, is)
     ]
 
-    number : unknown (set left s (Some c)) + length (next ++ s ∷ []) ≡ unknown left + length next
-    number = omega (arith, unknown-set left s c none inside, length_push next s)
+    number : unknown_count (set left s (Some c)) + length (next ++ s ∷ []) ≡ unknown_count left + length next
+    number = omega (arith, unknown_count-set left s c none inside, length_push next s)
 
 -- where no state is to be reached
 pub reaches_none : (P : ℕ → Type 0) → ((q : ℕ) → P q → ⊥) → (n : ℕ) (left : List (Option Count)) (next : List ℕ)
@@ -200,8 +203,8 @@ module _ {V : Type 0} where
       (λ q at. (move, Contains-push (take i moves) move, at)) n old mid new before between after first second)
 
   module _ {h : Ghosts V} (incoming : Incoming V h) where
-    before_cases : (level : List ℕ) (t q : ℕ) → IsBefore incoming (level ++ t ∷ []) q
-        → IsBefore incoming level q ⊎ IsSource (moves_into incoming t) q
+    before_cases : (level : List ℕ) (t q : ℕ) → IsPredecessor incoming (level ++ t ∷ []) q
+        → IsPredecessor incoming level q ⊎ IsSource (moves_into incoming t) q
     before_cases level t q from = elim (Contains-push_cases level t from.0 from.1) [
       | inl earlier ↦ inl (from.0, earlier, from.2)
       | inr last ↦ (let P : ℕ → Type 0 = λ x. IsSource (moves_into incoming x) q in inr (subst P (sym last) from.2))
@@ -210,33 +213,33 @@ module _ {V : Type 0} where
     -- the next state of the level
     pub level_more : (level : List ℕ) (i t : ℕ) → i < length level → t ≡ get_or level i 0
         → (n : ℕ) (old mid new : List (Option Count)) (before between after : List ℕ)
-        → Reaches (IsBefore incoming (take i level)) n old mid before between
+        → Reaches (IsPredecessor incoming (take i level)) n old mid before between
         → Reaches (IsSource (moves_into incoming t)) n mid new between after
-        → Reaches (IsBefore incoming (take (i + 1) level)) n old new before after
+        → Reaches (IsPredecessor incoming (take (i + 1) level)) n old new before after
     level_more level i t inside read n old mid new before between after first second =
         let last : take (i + 1) level ≡ take i level ++ t ∷ [] = take_more level i 0 inside
         ∙ ap (λ x. take i level ++ x ∷ []) (sym read) in
-        let P : List ℕ → Type 0 = λ xs. Reaches (IsBefore incoming xs) n old new before after in
+        let P : List ℕ → Type 0 = λ xs. Reaches (IsPredecessor incoming xs) n old new before after in
         subst P (sym last)
-        (reaches_both (IsBefore incoming (take i level)) (IsSource (moves_into incoming t))
-        (IsBefore incoming (take i level ++ t ∷ [])) (before_cases (take i level) t)
+        (reaches_both (IsPredecessor incoming (take i level)) (IsSource (moves_into incoming t))
+        (IsPredecessor incoming (take i level ++ t ∷ [])) (before_cases (take i level) t)
         (λ q from. (from.0, Contains-append_left (take i level) (t ∷ []) from.0 from.1, from.2))
         (λ q from. (t, Contains-push (take i level) t, from)) n old mid new before between after first second)
 
-    pub level_none : (q : ℕ) → IsBefore incoming [] q → ⊥
+    pub level_none : (q : ℕ) → IsPredecessor incoming [] q → ⊥
     level_none q from = omega (arith, from.1.1)
 
     pub level_all : (level : List ℕ) (i : ℕ) → length level ≤ i
         → (n : ℕ) (old new : List (Option Count)) (before after : List ℕ)
-        → Reaches (IsBefore incoming (take i level)) n old new before after
-        → Reaches (IsBefore incoming level) n old new before after
+        → Reaches (IsPredecessor incoming (take i level)) n old new before after
+        → Reaches (IsPredecessor incoming level) n old new before after
     level_all level i le n old new before after r =
-        (let P : List ℕ → Type 0 = λ xs. Reaches (IsBefore incoming xs) n old new before after in subst P
+        (let P : List ℕ → Type 0 = λ xs. Reaches (IsPredecessor incoming xs) n old new before after in subst P
         (take_all i level le) r)
 
     -- the sources of the moves to a state of the level
     pub sources_inside : (level : List ℕ) (i t m : ℕ) → i < length level → t ≡ get_or level i 0
-        → ((q : ℕ) → IsBefore incoming level q → q < m) → All (λ move. move.source < m) (moves_into incoming t)
+        → ((q : ℕ) → IsPredecessor incoming level q → q < m) → All (λ move. move.source < m) (moves_into incoming t)
     sources_inside level i t m inside read all k d l =
         let P : ℕ → Type 0 = λ x. Contains level x in
         let here : P t = subst P (sym read) (Contains-get_or level i 0 inside) in
@@ -246,19 +249,18 @@ module _ {V : Type 0} where
 -- the first states, of which those that accept have no move left
 pub record AreEnds {V : Type 0} {h : Ghosts V} (states : List (TableState V h)) (left : List (Option Count))
     (level : List ℕ) : Type 0 where
-  pub number : unknown left + length level ≡ length left
+  pub number : unknown_count left + length level ≡ length left
   pub zero : (t : ℕ) (c : Count) → get_or left t None ≡ Some c → IsTrue (accepting_at states t) × (c.0 ≡ 0)
   pub ends : (t : ℕ) → t < length left → IsTrue (accepting_at states t) → IsLeft left t 0
   pub listed : (t : ℕ) (c : Count) → get_or left t None ≡ Some c → Contains level t
   pub level_is : (t : ℕ) → Contains level t → IsLeft left t 0
 
 module _ {V : Type 0} {h : Ghosts V} (states : List (TableState V h)) where
-
   -- a state that does not accept
   pub ends_skip : (left : List (Option Count)) (level : List ℕ) (s : ℕ) → s ≡ length left
       → accepting_at states s ≡ false → AreEnds states left level → AreEnds states (left ++ None ∷ []) level
   ends_skip left level s at not are = record {
-    number = omega (arith, unknown-push left None, length_push left None, are.number);
+    number = omega (arith, unknown_count-push left None, length_push left None, are.number);
     zero = λ t c e. are.zero t c (old t c e);
     ends = λ t l accepts. elim (cases_eq t s) [
       | inl same ↦ (let fails : accepting_at states t ≡ false = ap (λ x. accepting_at states x) same
@@ -278,7 +280,8 @@ module _ {V : Type 0} {h : Ghosts V} (states : List (TableState V h)) where
       → accepting_at states s ≡ true → AreEnds states left level
       → AreEnds states (left ++ Some z ∷ []) (level ++ s ∷ [])
   ends_take left level s z at none accepts are = record {
-    number = omega (arith, unknown-push left (Some z), length_push left (Some z), length_push level s, are.number);
+    number =
+        omega (arith, unknown_count-push left (Some z), length_push left (Some z), length_push level s, are.number);
     zero = λ t c e. elim (known_push left (Some z) t c e) [
       | inl known ↦ are.zero t c known
       | inr now ↦
@@ -342,9 +345,10 @@ module _ {V : Type 0} {h : Ghosts V} (states : List (TableState V h)) where
             let own = are.closed s arc rest.0 run.0 rest.1 less in
             (own.0, own.1, omega (arith, own.2, rest.2))
 
-    module _ (incoming : Incoming V h) (turned : AreTurned states incoming) where
+    module _ (incoming : Incoming V h) (turned : AreReverseMoves states incoming) where
       -- only states come before those of a level
-      pub before_inside : (level : List ℕ) → All (λ t. t < length states) level → (q : ℕ) → IsBefore incoming level q
+      pub before_inside : (level : List ℕ) → All (λ t. t < length states) level → (q : ℕ)
+          → IsPredecessor incoming level q
           → q < length states
       before_inside level inside q from =
           let at = from.1 in
@@ -362,7 +366,7 @@ module _ {V : Type 0} {h : Ghosts V} (states : List (TableState V h)) where
 
       pub search_next : (left new : List (Option Count)) (level next : List ℕ) (k : ℕ)
           → IsSearched states left level k → 0 < length level
-          → Reaches (IsBefore incoming level) (k + 1) left new [] next → IsSearched states new next (k + 1)
+          → Reaches (IsPredecessor incoming level) (k + 1) left new [] next → IsSearched states new next (k + 1)
       search_next left new level next k are some_level reach = record {
         each_state = reach.same ∙ are.each_state;
         few = omega (arith, are.few, reach.number, some_level);
@@ -381,7 +385,7 @@ module _ {V : Type 0} {h : Ghosts V} (states : List (TableState V h)) where
           ]
 
           -- a state before the level has a run of one move more
-          longer : (s : ℕ) → IsBefore incoming level s
+          longer : (s : ℕ) → IsPredecessor incoming level s
               → (arcs : List (TableArc V h)) × IsRun states s arcs × (length arcs ≡ k + 1)
           longer s from =
               let t = from.0 in

@@ -28,15 +28,15 @@ abbrev pub HasLeft : {V : Type 0} {h : Ghosts V} → List (Option Count) → ℕ
 HasLeft left n arc = IsLeft left arc.target n
 
 -- the column and the target are those of the move
-abbrev pub IsOf : {V : Type 0} {h : Ghosts V} → TableArc V h → List Sym → ℕ → Type 0
-IsOf arc column target = (column ≡ first_column arc.class) × (target ≡ arc.target)
+abbrev pub IsChoiceOf : {V : Type 0} {h : Ghosts V} → TableArc V h → List Sym → ℕ → Type 0
+IsChoiceOf arc column target = (column ≡ first_column arc.class) × (target ≡ arc.target)
 
 -- of the first `upto` moves with n left, the column and the target are those of one with the least
 -- column
 abbrev pub IsLeastBelow : {V : Type 0} {h : Ghosts V} → List (Option Count) → ℕ → List (TableArc V h) → ℕ → List Sym
     → ℕ → Type 0
 IsLeastBelow {V} {h} left n arcs upto column target =
-    (arc : TableArc V h) × Contains arcs arc × HasLeft left n arc × IsOf arc column target
+    (arc : TableArc V h) × Contains arcs arc × HasLeft left n arc × IsChoiceOf arc column target
     × ((j : ℕ) (d : TableArc V h) → j < upto → HasLeft left n (slice_index_or arcs j d)
     → is_gt (column_cmp column (first_column (slice_index_or arcs j d).class)) ≡ false)
 

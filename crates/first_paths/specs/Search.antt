@@ -12,18 +12,18 @@ use Rattle.arc_table.specs.Incoming.{moves_into}
 use Rattle.first_paths.specs.Counted.{IsLeft}
 
 -- for how many states nothing is known
-abbrev pub unknown : List (Option Count) → ℕ
-unknown [] = 0
-unknown (None ∷ left) = 1 + unknown left
-unknown (Some n ∷ left) = unknown left
+abbrev pub unknown_count : List (Option Count) → ℕ
+unknown_count [] = 0
+unknown_count (None ∷ left) = 1 + unknown_count left
+unknown_count (Some n ∷ left) = unknown_count left
 
 -- one of the moves comes from state q
 abbrev pub IsSource : {V : Type 0} → List (IncomingMove V) → ℕ → Type 0
 IsSource {V} moves q = (move : IncomingMove V) × Contains moves move × (move.source ≡ q)
 
 -- one of the moves to one of the states comes from state q
-abbrev pub IsBefore : {V : Type 0} {h : Ghosts V} → Incoming V h → List ℕ → ℕ → Type 0
-IsBefore incoming level q = (t : ℕ) × Contains level t × IsSource (moves_into incoming t) q
+abbrev pub IsPredecessor : {V : Type 0} {h : Ghosts V} → Incoming V h → List ℕ → ℕ → Type 0
+IsPredecessor incoming level q = (t : ℕ) × Contains level t × IsSource (moves_into incoming t) q
 
 -- the states with P of which nothing was known now have n moves left and are listed, and all else
 -- stays
@@ -35,13 +35,13 @@ pub record Reaches (P : ℕ → Type 0) (n : ℕ) (old new : List (Option Count)
   pub reached : (q : ℕ) → P q → (c : Count) × (slice_index_or new q None ≡ Some c)
   pub stays : (q : ℕ) → Contains before q → Contains after q
   pub listed : (q : ℕ) → Contains after q → Contains before q ⊎ IsLeft new q n
-  pub number : unknown new + length after ≡ unknown old + length before
+  pub number : unknown_count new + length after ≡ unknown_count old + length before
 
 -- the search has come to the states with at most k moves left, and `level` has those with k
 pub record IsSearched {V : Type 0} {h : Ghosts V} (states : List (TableState V h)) (left : List (Option Count))
     (level : List ℕ) (k : ℕ) : Type 0 where
   pub each_state : length left ≡ length states
-  pub few : k + unknown left + length level ≤ length states
+  pub few : k + unknown_count left + length level ≤ length states
   pub at_most : (s : ℕ) (n : Count) → slice_index_or left s None ≡ Some n → n.0 ≤ k
   pub some : (s : ℕ) (n : Count) → slice_index_or left s None ≡ Some n
       → (arcs : List (TableArc V h)) × IsRun states s arcs × (length arcs ≡ n.0)

@@ -2,7 +2,7 @@ ghost use Rattle.std.specs.Prelude.{◌≡◌, ◌<◌, All, IsTrue, MatchOption
 ghost use Rattle.std.specs.Ordering.{is_gt};
 ghost use Rattle.tier_core.specs.Orders.{column_cmp};
 ghost use Rattle.tier_core.specs.FirstColumn.{first_column};
-ghost use Rattle.first_paths.specs.Counted.{IsLeft, IsOf, HasChoice, IsLeastChoice};
+ghost use Rattle.first_paths.specs.Counted.{IsLeft, IsChoiceOf, HasChoice, IsLeastChoice};
 
 use arc_table::TableArc;
 use std::alloc::Global;
@@ -30,8 +30,8 @@ fn has_left(left: &[Option<Count>], state: u32, n: u32) -> bool
 }
 
 /// The one of two choices with the smaller column: the best so far, or a move's.
-fn better(alloc: Global, best: Option<Choice>, arc: &TableArc<UnitWeight>) -> Choice
-    ensures of { IsOf arc.now result.column result.target ⊎ (best ≡ Some result) }
+fn better_choice(alloc: Global, best: Option<Choice>, arc: &TableArc<UnitWeight>) -> Choice
+    ensures of { IsChoiceOf arc.now result.column result.target ⊎ (best ≡ Some result) }
     ensures arc { is_gt (column_cmp result.column (first_column arc.now.class)) ≡ false }
     ensures best { MatchOption best ⊤
         (λ other. is_gt (column_cmp result.column other.column) ≡ false) }
@@ -68,7 +68,7 @@ pub(crate) fn choose(
         if !has_left(left, arc.target, n) {
             continue;
         }
-        best = Some(better(alloc, best, arc));
+        best = Some(better_choice(alloc, best, arc));
     }
     match best {
         Some(choice) => choice,

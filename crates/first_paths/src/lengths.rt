@@ -1,8 +1,8 @@
 ghost use Rattle.std.specs.Prelude.{◌<◌, ℕ, [], All, IfOk, length};
-ghost use Rattle.arc_table.specs.Incoming.{states_in, AreTurned};
+ghost use Rattle.arc_table.specs.Incoming.{states_in, AreReverseMoves};
 ghost use Rattle.arc_table.specs.States.{states_of};
 ghost use Rattle.first_paths.specs.Counted.{AreLengths};
-ghost use Rattle.first_paths.specs.Search.{IsSource, IsBefore, Reaches, IsSearched};
+ghost use Rattle.first_paths.specs.Search.{IsSource, IsPredecessor, Reaches, IsSearched};
 
 use arc_table::{Incoming, IncomingMove, Table};
 use std::alloc::Global;
@@ -69,11 +69,12 @@ fn next_level(
     left: &mut Vec<Option<Count>>,
 ) -> Result<Vec<u32>, NoMemory>
     requires inside { All (λ state. state < states_in incoming.now) level.now }
-    requires sources { (q : ℕ) → IsBefore incoming.now level.now q → q < length left.old.items }
+    requires sources { (q : ℕ) → IsPredecessor incoming.now level.now q
+        → q < length left.old.items }
     ensures { IfOk result
         (λ next.
         Reaches
-        (IsBefore incoming.now level.now) n left.old.items left.new.items [] next.items) }
+        (IsPredecessor incoming.now level.now) n left.old.items left.new.items [] next.items) }
 {
     let mut next = Vec::new(alloc);
     for state in level {
@@ -83,12 +84,12 @@ fn next_level(
 }
 
 /// For each state how few moves lead to an accepting one, by a backward breadth-first search.
-fn searched(
+fn backward_search(
     alloc: Global,
     table: &Table<UnitWeight>,
     incoming: &Incoming<UnitWeight>,
 ) -> Result<Vec<Option<Count>>, NoMemory>
-    requires { AreTurned (states_of table.now) incoming.now }
+    requires { AreReverseMoves (states_of table.now) incoming.now }
     ensures { IfOk result (λ left. AreLengths (states_of table.now) left.items) }
 {
     let search = at_the_end(alloc, table)?;
@@ -110,5 +111,5 @@ pub(crate) fn lengths(
     ensures { IfOk result (λ left. AreLengths (states_of table.now) left.items) }
 {
     let incoming = Incoming::of_table(alloc, table)?;
-    searched(alloc, table, &incoming)
+    backward_search(alloc, table, &incoming)
 }

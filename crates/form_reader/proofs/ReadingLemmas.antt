@@ -10,7 +10,7 @@ use Rattle.timeline_text.specs.Readings.{HasReading, HasSpelling}
 use Rattle.timeline_text.proofs.Searches.{by_test}
 use Rattle.timeline_text.proofs.Deciding.{has_reading, not_both, one_value}
 use Rattle.timeline_text.proofs.Spellings.{has_spelling, never_both, one_form}
-use Rattle.form_reader.specs.Forms.{HasForm, IsReadAs, IsRefusedFor, is_spelled}
+use Rattle.form_reader.specs.Forms.{HasFormOrCause, IsReadAs, IsRefusedFor, is_spelled}
 
 pub when_true : (b : Bool) (A B : Type 0) → b ≡ true → A → MatchBool b A B
 when_true b A B h a = subst (λ (t : Bool). MatchBool t A B) (sym h) a
@@ -54,15 +54,15 @@ module _ (inputs : ℕ) (letters : List Letter) (word : List ℕ) where
       (λ s k. one_spelling_cause letters word cause other s k)
       (λ t k. one_cause inputs 64 word cause other t k)
 
-  pub has_form : HasForm inputs letters word
+  pub has_form : HasFormOrCause inputs letters word
   has_form = by_test (is_spelled word)
       (λ h. from_spelling h (has_spelling letters inputs word))
       (λ h. from_text h (has_reading inputs 64 word))
     where
-      from_spelling : is_spelled word ≡ true → HasSpelling letters inputs word → HasForm inputs letters word
+      from_spelling : is_spelled word ≡ true → HasSpelling letters inputs word → HasFormOrCause inputs letters word
       from_spelling h (inl (u, s)) = inl (u, when_true (is_spelled word) _ _ h s)
       from_spelling h (inr (cause, k)) = inr (cause, when_true (is_spelled word) _ _ h k)
 
-      from_text : is_spelled word ≡ false → HasReading inputs 64 word → HasForm inputs letters word
+      from_text : is_spelled word ≡ false → HasReading inputs 64 word → HasFormOrCause inputs letters word
       from_text h (inl (u, t)) = inl (u, when_false (is_spelled word) _ _ h t)
       from_text h (inr (cause, k)) = inr (cause, when_false (is_spelled word) _ _ h k)

@@ -23,6 +23,6 @@ IsRefusedFor inputs letters word cause = MatchBool (is_spelled word) (IsSpelling
     (IsCause inputs 64 word cause)
 
 -- a word is read as a form, or it has a cause
-abbrev pub HasForm : ℕ → List Letter → List ℕ → Type 0
-HasForm inputs letters word = ((u : List (List Sym)) × IsReadAs inputs letters word u) ⊎
+abbrev pub HasFormOrCause : ℕ → List Letter → List ℕ → Type 0
+HasFormOrCause inputs letters word = ((u : List (List Sym)) × IsReadAs inputs letters word u) ⊎
     ((cause : FormErr) × IsRefusedFor inputs letters word cause)

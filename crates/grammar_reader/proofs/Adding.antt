@@ -1,5 +1,6 @@
 -- Adding what a line says.
-use Rattle.std.proofs.Common.{◌≡◌, ℕ, ◌+◌, ◌<◌, false, cond, ◌∷◌, [], ◌++◌, List, length, map, take, drop, get_or, set, Global, refl, ap, sym, ◌∙◌, arith, None}
+use Rattle.std.proofs.Common.{◌≡◌, ℕ, ◌+◌, ◌<◌, false, cond, ◌∷◌, [], ◌++◌, List, length, map, take, drop, get_or, set}
+use Rattle.std.proofs.Common.{Global, refl, ap, sym, ◌∙◌, arith, None}
 use Rattle.std.specs.Prelude.{nat_eq}
 use Rattle.std.specs.List.{list_any}
 use Rattle.std.specs.Map.{lookup}

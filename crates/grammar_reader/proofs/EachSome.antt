@@ -1,5 +1,6 @@
 -- Reading the pieces of a list one by one.
-use Rattle.std.proofs.Common.{◌≡◌, Bool, true, false, cond, List, [], ◌∷◌, ◌++◌, map, refl, ap, sym, ◌∙◌, append-nil, Option, Some, None, option_map, option_and_then}
+use Rattle.std.proofs.Common.{◌≡◌, Bool, true, false, cond, List, [], ◌∷◌, ◌++◌, map, refl, ap, sym, ◌∙◌, append-nil}
+use Rattle.std.proofs.Common.{Option, Some, None, option_map, option_and_then}
 use Rattle.std.specs.List.{slice_split, onto_first}
 use Rattle.grammar_reader.specs.Statements.{each_some}
 use Rattle.grammar_reader.specs.Lexemes.{with_front}

@@ -1,5 +1,6 @@
 -- Look-ups in the map of tiers.
-use Rattle.std.proofs.Common.{◌≡◌, ℕ, Bool, true, false, cond, ◌||◌, List, [], ◌∷◌, refl, ap, sym, ◌∙◌, Option, Some, None, is_some, is_none, map, position, unwrap_or}
+use Rattle.std.proofs.Common.{◌≡◌, ℕ, Bool, true, false, cond, ◌||◌, List, [], ◌∷◌, refl, ap, sym, ◌∙◌, Option, Some}
+use Rattle.std.proofs.Common.{None, is_some, is_none, map, position, unwrap_or}
 use Rattle.std.specs.List.{list_any, find, position_or_len}
 use Rattle.std.specs.Map.{lookup, keys_of}
 use Rattle.std.specs.Option.{option_map_or}

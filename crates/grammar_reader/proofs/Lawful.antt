@@ -1,5 +1,6 @@
 -- What the lines of a text make is within the limits, with names that are names and are there once.
-use Rattle.std.proofs.Common.{◌≡◌, ℕ, suc, ◌+◌, ◌*◌, ◌^◌, ◌<◌, ◌≤◌, Bool, true, false, cond, not, ◌&&◌, ◌||◌, List, [], ◌∷◌, ◌++◌, length, map, Some, None, refl, ap, sym, ◌∙◌, subst, arith, length-append}
+use Rattle.std.proofs.Common.{◌≡◌, ℕ, suc, ◌+◌, ◌*◌, ◌^◌, ◌<◌, ◌≤◌, Bool, true, false, cond, not, ◌&&◌, ◌||◌, List, []}
+use Rattle.std.proofs.Common.{◌∷◌, ◌++◌, length, map, Some, None, refl, ap, sym, ◌∙◌, subst, arith, length-append}
 use Rattle.std.specs.Prelude.{nat_le, nat_lt}
 use Rattle.std.specs.List.{list_any, list_all, find, position_or_len}
 use Rattle.std.specs.Option.{option_map_or}
@@ -16,10 +17,16 @@ use Rattle.timeline_text.specs.declared.letter.Letter.{Letter}
 use Rattle.timeline_text.proofs.Searches.{by_test}
 use Rattle.grammar_reader.specs.Statements.{Statement, tier, letter, constraint, NamedEvent}
 use Rattle.grammar_reader.specs.Names.{is_name, is_letter_byte, has_twice}
-use Rattle.grammar_reader.specs.Values.{GrammarValue, NamedTier, NamedConstraint, is_named, inputs_of, free_of, letter_name, has_sound, is_side, has_sides, IsMade}
-use Rattle.grammar_reader.specs.Reading.{nothing, has_bad_name, is_twice_named, is_unknown, has_unknown_tier, is_input_named, has_no_input, is_tier_too_many, is_constraint_too_many, has_too_many_events, first_that_comes, cause_of, number_of, numbered, mask_of, first_byte, with_statement}
+use Rattle.grammar_reader.specs.Values.{GrammarValue, NamedTier, NamedConstraint, is_named, inputs_of, free_of}
+use Rattle.grammar_reader.specs.Values.{letter_name, has_sound, is_side, has_sides, IsProperGrammar}
+use Rattle.grammar_reader.specs.Reading.{nothing, has_bad_name, is_twice_named, is_unknown, has_unknown_tier}
+use Rattle.grammar_reader.specs.Reading.{is_input_named, has_no_input, is_tier_too_many, is_constraint_too_many}
+use Rattle.grammar_reader.specs.Reading.{has_too_many_events, first_that_comes, cause_of, tier_index, indexed_event}
+use Rattle.grammar_reader.specs.Reading.{named_mask, first_byte, with_statement}
 use Rattle.grammar_reader.specs.declared.grammar_err.GrammarCause.{GrammarCause}
-use Rattle.grammar_reader.specs.declared.grammar_err.GrammarCause.TheVariants.{BadName, TwiceNamed, UnknownTier, NotInput, TooManyTiers, TooManyConstraints, TooManyEvents}
+use Rattle.grammar_reader.specs.declared.grammar_err.GrammarCause.TheVariants.{BadName, TwiceNamed, UnknownTier}
+use Rattle.grammar_reader.specs.declared.grammar_err.GrammarCause.TheVariants.{NotInput, TooManyTiers}
+use Rattle.grammar_reader.specs.declared.grammar_err.GrammarCause.TheVariants.{TooManyConstraints, TooManyEvents}
 use Rattle.grammar_reader.proofs.Lists.{list_any-map}
 use Rattle.grammar_reader.proofs.Twice.{once_push}
 
@@ -176,8 +183,8 @@ kind_fits tiers name kind i f h =
         }
 
 -- a tier without a cause
-pub tier_made : (g : GrammarValue) (name : List ℕ) (kind : TierKind) → IsMade g → NoCause g (tier name kind)
-    → IsMade (with_statement g (tier name kind))
+pub tier_made : (g : GrammarValue) (name : List ℕ) (kind : TierKind) → IsProperGrammar g → NoCause g (tier name kind)
+    → IsProperGrammar (with_statement g (tier name kind))
 tier_made g name kind m n =
     let t : NamedTier = record { name = name; kind = kind } in
     let fits = kind_fits g.tiers name kind m.few_inputs m.few_free n.tiers in
@@ -210,9 +217,9 @@ bit_below : (t : Bool) (k m : ℕ) → m < 2 ^ k → cond t 1 0 + 2 * m < 2 ^ (s
 bit_below true k m h = omega arith
 bit_below false k m h = omega arith
 
-mask_below : (ts : List NamedTier) (names : List (List ℕ)) → mask_of ts names < 2 ^ length ts
+mask_below : (ts : List NamedTier) (names : List (List ℕ)) → named_mask ts names < 2 ^ length ts
 mask_below [] names = omega arith
-mask_below (t ∷ ts) names = bit_below (list_any (λ n. is_named n t) names) (length ts) (mask_of ts names)
+mask_below (t ∷ ts) names = bit_below (list_any (λ n. is_named n t) names) (length ts) (named_mask ts names)
     (mask_below ts names)
 
 bit_some : (t : Bool) (m : ℕ) → (t ≡ false → 0 < m) → 0 < cond t 1 0 + 2 * m
@@ -239,10 +246,10 @@ input_found (t ∷ tiers) name h = by_test (is_named name t)
     (λ k. ap (λ b. list_any (is_named name) (cond b (t ∷ inputs_of tiers) (inputs_of tiers))) k ∙ rest))
 
 mask_some : (ts : List NamedTier) (name : List ℕ) (names : List (List ℕ)) → list_any (is_named name) ts ≡ true
-    → 0 < mask_of ts (name ∷ names)
+    → 0 < named_mask ts (name ∷ names)
 mask_some [] name names h = absurd (false≢true h)
 mask_some (t ∷ ts) name names h = bit_some (is_named name t || list_any (λ n. is_named n t) names)
-    (mask_of ts (name ∷ names))
+    (named_mask ts (name ∷ names))
     (λ e. mask_some ts name names (let a = or_parts (is_named name t) (list_any (λ n. is_named n t) names) e in sym
     (ap (λ b. b || list_any (is_named name) ts) a.0) ∙ h))
 
@@ -253,19 +260,19 @@ one_byte (b ∷ c ∷ x) h = absurd (false≢true h)
 
 sound_made : (tiers : List NamedTier) (x : List ℕ) (name : List ℕ) (names : List (List ℕ))
     → is_input_named tiers name ≡ true → has_sound (length (inputs_of tiers))
-    (record { byte = first_byte x; tiers = mask_of (inputs_of tiers) (name ∷ names) }) ≡ true
+    (record { byte = first_byte x; tiers = named_mask (inputs_of tiers) (name ∷ names) }) ≡ true
 sound_made tiers x name names h =
     let some = mask_some (inputs_of tiers) name names (input_found tiers name h) in
     let below = mask_below (inputs_of tiers) (name ∷ names) in
-    and_from (nat_lt 0 (mask_of (inputs_of tiers) (name ∷ names)))
-    (nat_lt (mask_of (inputs_of tiers) (name ∷ names)) (2 ^ length (inputs_of tiers))) (grind (arith, nat_tests))
+    and_from (nat_lt 0 (named_mask (inputs_of tiers) (name ∷ names)))
+    (nat_lt (named_mask (inputs_of tiers) (name ∷ names)) (2 ^ length (inputs_of tiers))) (grind (arith, nat_tests))
     (grind (arith, nat_tests))
 
 -- a letter without a cause
-pub letter_made : (g : GrammarValue) (x name : List ℕ) (names : List (List ℕ)) → IsMade g
-    → NoCause g (letter x (name ∷ names)) → IsMade (with_statement g (letter x (name ∷ names)))
+pub letter_made : (g : GrammarValue) (x name : List ℕ) (names : List (List ℕ)) → IsProperGrammar g
+    → NoCause g (letter x (name ∷ names)) → IsProperGrammar (with_statement g (letter x (name ∷ names)))
 letter_made g x name names m n =
-    let l : Letter = record { byte = first_byte x; tiers = mask_of (inputs_of g.tiers) (name ∷ names) } in
+    let l : Letter = record { byte = first_byte x; tiers = named_mask (inputs_of g.tiers) (name ∷ names) } in
     let a = or_parts (not (is_letter_byte x)) (list_any (λ w. not (is_name w)) (name ∷ names)) n.names in
     let is = one_byte x (not-false (is_letter_byte x) a.0) in
     let b = or_parts (list_any (λ k. bytes_eq x (letter_name k)) g.letters) (has_twice (name ∷ names)) n.once in
@@ -304,39 +311,39 @@ place_below (t ∷ tiers) name h = found_below (is_named name t) (position_or_le
     (list_any (is_named name) tiers) h (place_below tiers name)
 
 pub number_below : (tiers : List NamedTier) (name : List ℕ) → list_any (is_named name) tiers ≡ true
-    → number_of tiers name < length tiers
+    → tier_index tiers name < length tiers
 number_below tiers name h = let l = place_below tiers name h in grind (arith, nat_tests)
 
 numbers_below : (tiers : List NamedTier) (es : List NamedEvent) → list_any (λ e. is_unknown tiers e.tier) es ≡ false
-    → list_all (λ e. nat_lt e.tier (length tiers)) (map (numbered tiers) es) ≡ true
+    → list_all (λ e. nat_lt e.tier (length tiers)) (map (indexed_event tiers) es) ≡ true
 numbers_below tiers [] h = refl
 numbers_below tiers (e ∷ es) h =
     let a = or_parts (is_unknown tiers e.tier) (list_any (λ x. is_unknown tiers x.tier) es) h in
     let l = number_below tiers e.tier (not-false (list_any (is_named e.tier) tiers) a.0) in
-    and_from (nat_lt (number_of tiers e.tier) (length tiers))
-    (list_all (λ x. nat_lt x.tier (length tiers)) (map (numbered tiers) es)) (grind (arith, nat_tests))
+    and_from (nat_lt (tier_index tiers e.tier) (length tiers))
+    (list_all (λ x. nat_lt x.tier (length tiers)) (map (indexed_event tiers) es)) (grind (arith, nat_tests))
     (numbers_below tiers es a.1)
 
 side_made : (tiers : List NamedTier) (es : List NamedEvent) → 0 < length es → nat_lt 8 (length es) ≡ false
-    → list_any (λ e. is_unknown tiers e.tier) es ≡ false → is_side (length tiers) (map (numbered tiers) es) ≡ true
+    → list_any (λ e. is_unknown tiers e.tier) es ≡ false → is_side (length tiers) (map (indexed_event tiers) es) ≡ true
 side_made tiers es some few known =
-    let n = length-map es (numbered tiers) in
-    and_from (nat_le 1 (length (map (numbered tiers) es)) && nat_le (length (map (numbered tiers) es)) 8)
-    (list_all (λ e. nat_lt e.tier (length tiers)) (map (numbered tiers) es))
-    (and_from (nat_le 1 (length (map (numbered tiers) es))) (nat_le (length (map (numbered tiers) es)) 8)
+    let n = length-map es (indexed_event tiers) in
+    and_from (nat_le 1 (length (map (indexed_event tiers) es)) && nat_le (length (map (indexed_event tiers) es)) 8)
+    (list_all (λ e. nat_lt e.tier (length tiers)) (map (indexed_event tiers) es))
+    (and_from (nat_le 1 (length (map (indexed_event tiers) es))) (nat_le (length (map (indexed_event tiers) es)) 8)
     (grind (arith, nat_tests)) (grind (arith, nat_tests)))
     (numbers_below tiers es known)
 
 -- a constraint without a cause
 pub constraint_made : (g : GrammarValue) (name : List ℕ) (family : _) (left right : List NamedEvent) → 0 < length left
-    → 0 < length right → IsMade g → NoCause g (constraint name family left right)
-    → IsMade (with_statement g (constraint name family left right))
+    → 0 < length right → IsProperGrammar g → NoCause g (constraint name family left right)
+    → IsProperGrammar (with_statement g (constraint name family left right))
 constraint_made g name family left right some_left some_right m n =
     let c : NamedConstraint = record {
       name = name;
       family = family;
-      left = map (numbered g.tiers) left;
-      right = map (numbered g.tiers) right;
+      left = map (indexed_event g.tiers) left;
+      right = map (indexed_event g.tiers) right;
     } in
     let k = or_parts (list_any (λ e. is_unknown g.tiers e.tier) left)
     (list_any (λ e. is_unknown g.tiers e.tier) right) n.known in
@@ -362,7 +369,7 @@ constraint_made g name family left right some_left some_right m n =
           (side_made g.tiers left some_left e.0 k.0) (side_made g.tiers right some_right e.1 k.1));
     }
 
-pub nothing_made : IsMade nothing
+pub nothing_made : IsProperGrammar nothing
 nothing_made = record {
   tier_names = refl;
   tiers_once = refl;

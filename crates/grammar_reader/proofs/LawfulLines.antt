@@ -1,5 +1,7 @@
 -- Each grammar that is read is within the limits, with names that are names and are there once.
-use Rattle.std.proofs.Common.{◌≡◌, ℕ, ◌+◌, ◌<◌, Bool, true, false, cond, not, List, [], ◌∷◌, length, take, drop, Option, Some, None, option_map, option_and_then, Result, Ok, Err, codes, refl, ap, sym, ◌∙◌, subst, arith}
+use Rattle.std.proofs.Common.{◌≡◌, ℕ, ◌+◌, ◌<◌, Bool, true, false, cond, not, List, [], ◌∷◌, length, take, drop, Option}
+use Rattle.std.proofs.Common.{Some, None, option_map, option_and_then, Result, Ok, Err, codes, refl, ap, sym, ◌∙◌}
+use Rattle.std.proofs.Common.{subst, arith}
 use Rattle.std.specs.List.{list_any, slice_split, position_or_len}
 use Rattle.std.specs.Str.{bytes_eq}
 use Rattle.std.proofs.lemmas.List.Splits.{length-slice_split}
@@ -9,10 +11,13 @@ use Rattle.tier_core.specs.declared.constraint.Family.TheVariants.{Implication, 
 use Rattle.timeline_text.proofs.Searches.{by_test}
 use Rattle.timeline_text.specs.Bytes.{lines_of}
 use Rattle.grammar_reader.specs.Pieces.{parts_of, Lexeme, opens, closes, equals, clash, implies, word, lexeme_of}
-use Rattle.grammar_reader.specs.Statements.{Statement, tier, letter, constraint, NamedEvent, each_some, word_of, is_the_word, is_header, is_sign, event_of, events_of, joined_by, sides_of, kind_of, tier_line, letter_line, constraint_line, statement_of}
+use Rattle.grammar_reader.specs.Statements.{Statement, tier, letter, constraint, NamedEvent, each_some, word_of}
+use Rattle.grammar_reader.specs.Statements.{is_the_word, is_header, is_sign, event_of, events_of, joined_by, sides_of}
+use Rattle.grammar_reader.specs.Statements.{tier_kind_of, tier_line, letter_line, constraint_line, statement_of}
 use Rattle.grammar_reader.specs.Said.{HasParts}
-use Rattle.grammar_reader.specs.Values.{GrammarValue, IsMade, IsGrammar}
-use Rattle.grammar_reader.specs.Reading.{nothing, cause_of, with_statement, after_cause, after_statement, kept, after_lexemes, after_line, whole, go_on, after_lines, grammar_of}
+use Rattle.grammar_reader.specs.Values.{GrammarValue, IsProperGrammar, IsGrammar}
+use Rattle.grammar_reader.specs.Reading.{nothing, cause_of, with_statement, after_cause, after_statement, some_grammar}
+use Rattle.grammar_reader.specs.Reading.{after_lexemes, after_line, finish, go_on, after_lines, grammar_of}
 use Rattle.grammar_reader.specs.Reading.{At}
 use Rattle.grammar_reader.specs.declared.grammar_err.GrammarCause.{GrammarCause}
 use Rattle.grammar_reader.specs.declared.grammar_err.GrammarCause.TheVariants.{NoInput, NoOvert}
@@ -45,7 +50,7 @@ parts_tier (word name ∷ closes ∷ ls) = tt
 parts_tier (word name ∷ equals ∷ ls) = tt
 parts_tier (word name ∷ clash ∷ ls) = tt
 parts_tier (word name ∷ implies ∷ ls) = tt
-parts_tier (word name ∷ word kind ∷ []) = parts_kind name (kind_of kind)
+parts_tier (word name ∷ word kind ∷ []) = parts_kind name (tier_kind_of kind)
 parts_tier (word name ∷ word kind ∷ l ∷ ls) = tt
 
 parts_names : (x : List ℕ) (o : Option (List ℕ)) (r : Option (List (List ℕ)))
@@ -135,8 +140,8 @@ has_parts ls s e = subst PartsOf e (parts_statement ls)
 
 -- ---- a statement without a cause
 
-pub statement_made : (g : GrammarValue) (s : Statement) → HasParts s → IsMade g → cause_of g s ≡ None
-    → IsMade (with_statement g s)
+pub statement_made : (g : GrammarValue) (s : Statement) → HasParts s → IsProperGrammar g → cause_of g s ≡ None
+    → IsProperGrammar (with_statement g s)
 statement_made g (tier name kind) h m n = tier_made g name kind m (no_cause g (tier name kind) n)
 statement_made g (letter x []) h m n = absurd (omega arith)
 statement_made g (letter x (name ∷ names)) h m n = letter_made g x name names m (no_cause g (letter x (name ∷ names)) n)
@@ -147,21 +152,21 @@ statement_made g (constraint name family left right) h m n = constraint_made g n
 
 abbrev SoFar : Option GrammarValue → Type 0
 SoFar None = Unit {0}
-SoFar (Some g) = IsMade g
+SoFar (Some g) = IsProperGrammar g
 
 abbrev made : GrammarValue → Result (Option GrammarValue) GrammarCause
 made g = Ok (Some g)
 
-ok_some : (g : GrammarValue) (after : Option GrammarValue) → IsMade g → made g ≡ Ok after → SoFar after
+ok_some : (g : GrammarValue) (after : Option GrammarValue) → IsProperGrammar g → made g ≡ Ok after → SoFar after
 ok_some g after m e = subst SoFar (let same : Some g ≡ after = cc in same) m
 
 by_cause : (g : GrammarValue) (s : Statement) (c : Option GrammarCause) (after : Option GrammarValue) → HasParts s
-    → IsMade g → cause_of g s ≡ c → kept (after_cause g s c) ≡ Ok after → SoFar after
+    → IsProperGrammar g → cause_of g s ≡ c → some_grammar (after_cause g s c) ≡ Ok after → SoFar after
 by_cause g s None after h m e k = ok_some (with_statement g s) after (statement_made g s h m e) k
 by_cause g s (Some c) after h m e k = cc
 
-by_statement : (g : GrammarValue) (o : Option Statement) (after : Option GrammarValue) → PartsOf o → IsMade g
-    → kept (after_statement g o) ≡ Ok after → SoFar after
+by_statement : (g : GrammarValue) (o : Option Statement) (after : Option GrammarValue) → PartsOf o → IsProperGrammar g
+    → some_grammar (after_statement g o) ≡ Ok after → SoFar after
 by_statement g None after h m k = cc
 by_statement g (Some s) after h m k = by_cause g s (cause_of g s) after h m refl k
 
@@ -178,7 +183,7 @@ by_lexemes None (Some (l ∷ ls)) after h k = by_header (is_header (l ∷ ls)) a
 by_lexemes (Some g) (Some (l ∷ ls)) after h k = by_statement g (statement_of (l ∷ ls)) after
     (parts_statement (l ∷ ls)) h k
 
-at_end : (before : Option GrammarValue) (g : GrammarValue) → SoFar before → whole before ≡ Ok g → IsGrammar g
+at_end : (before : Option GrammarValue) (g : GrammarValue) → SoFar before → finish before ≡ Ok g → IsGrammar g
 at_end None g h k = cc
 at_end (Some before) g h k = by_test (list_any (λ t. is_input t.kind) before.tiers)
     (λ i. by_test (list_any (λ t. is_overt t.kind) before.tiers)
@@ -190,7 +195,7 @@ at_end (Some before) g h k = by_test (list_any (λ t. is_input t.kind) before.ti
   where
     tests : (a b : Bool) → list_any (λ t. is_input t.kind) before.tiers ≡ a
         → list_any (λ t. is_overt t.kind) before.tiers ≡ b
-        → whole (Some before) ≡ cond (not a) (Err (record { line = 0; cause = NoInput }))
+        → finish (Some before) ≡ cond (not a) (Err (record { line = 0; cause = NoInput }))
         (cond (not b) (Err (record { line = 0; cause = NoOvert })) (Ok before))
     tests a b x y = ap (λ u. cond (not u) (Err (record { line = 0; cause = NoInput }))
         (cond (not (list_any (λ t. is_overt t.kind) before.tiers)) (Err (record { line = 0; cause = NoOvert }))
@@ -198,7 +203,7 @@ at_end (Some before) g h k = by_test (list_any (λ t. is_input t.kind) before.ti
         (cond (not u) (Err (record { line = 0; cause = NoOvert })) (Ok before))) y
 
     first_test : list_any (λ t. is_input t.kind) before.tiers ≡ false
-        → whole (Some before) ≡ Err (record { line = 0; cause = NoInput })
+        → finish (Some before) ≡ Err (record { line = 0; cause = NoInput })
     first_test x = ap (λ u. cond (not u) (Err (record { line = 0; cause = NoInput }))
         (cond (not (list_any (λ t. is_overt t.kind) before.tiers)) (Err (record { line = 0; cause = NoOvert }))
         (Ok before))) x
@@ -223,7 +228,7 @@ read_is_lawful bytes g e = by_lines None 1 (lines_of bytes) g tt e
 
 -- a grammar with an input tier and an overt tier is whole
 pub whole_is : (g : GrammarValue) → list_any (λ t. is_input t.kind) g.tiers ≡ true
-    → list_any (λ t. is_overt t.kind) g.tiers ≡ true → whole (Some g) ≡ Ok g
+    → list_any (λ t. is_overt t.kind) g.tiers ≡ true → finish (Some g) ≡ Ok g
 whole_is g i o =
     ap (λ u. cond (not u) (Err (record { line = 0; cause = NoInput }))
     (cond (not (list_any (λ t. is_overt t.kind) g.tiers)) (Err (record { line = 0; cause = NoOvert })) (Ok g))) i

@@ -1,6 +1,7 @@
 -- The lexemes of a line that is joined from words, with a space between each two.
 use Rattle.std.proofs.lemmas.Bool.{and_parts, and_from, or_from, not-true}
-use Rattle.std.proofs.Common.{◌≡◌, ℕ, Bool, true, false, cond, not, ◌&&◌, ◌==◌, List, [], ◌∷◌, ◌++◌, filter, refl, ap, sym, ◌∙◌, append-nil, Option, Some, None, option_map, option_and_then}
+use Rattle.std.proofs.Common.{◌≡◌, ℕ, Bool, true, false, cond, not, ◌&&◌, ◌==◌, List, [], ◌∷◌, ◌++◌, filter, refl, ap}
+use Rattle.std.proofs.Common.{sym, ◌∙◌, append-nil, Option, Some, None, option_map, option_and_then}
 use Rattle.std.specs.List.{list_all, flat_map, join_with_byte, onto_first}
 use Rattle.std.proofs.lemmas.Grind.{flat_map-append}
 use Rattle.std.proofs.lemmas.List.Elements.{filter-append}
@@ -8,7 +9,8 @@ use Rattle.std.proofs.lemmas.List.Folds.{list_all-append}
 use Rattle.std.proofs.lemmas.List.Splits.{slice_split-cons_yes, slice_split-cons_no}
 use Rattle.tier_core.proofs.Bools.{and_false}
 use Rattle.timeline_text.specs.Bytes.{is_newline, lines_of}
-use Rattle.grammar_reader.specs.Pieces.{is_comment, content, is_word_byte, holds_together, goes_on, onto_piece, pieces_of, is_spacing, parts_of, Lexeme, lexeme_of}
+use Rattle.grammar_reader.specs.Pieces.{is_comment, content, is_word_byte, holds_together, goes_on, onto_piece}
+use Rattle.grammar_reader.specs.Pieces.{token_pieces, is_spacing, parts_of, Lexeme, lexeme_of}
 use Rattle.grammar_reader.specs.Statements.{each_some}
 use Rattle.grammar_reader.specs.Canonical.{line_of_words}
 use Rattle.grammar_reader.proofs.Forms.{both_some}
@@ -68,17 +70,17 @@ onto_space a (p ∷ ps) qs = elim (goes_on a p) as
     ≡ cond t ((a ∷ p) ∷ ps) ((a ∷ []) ∷ p ∷ ps) ++ (32 ∷ []) ∷ qs)
     [ true ↦ refl | false ↦ refl ]
 
-pieces_space : (w rest : List ℕ) → pieces_of (w ++ 32 ∷ rest) ≡ pieces_of w ++ (32 ∷ []) ∷ pieces_of rest
+pieces_space : (w rest : List ℕ) → token_pieces (w ++ 32 ∷ rest) ≡ token_pieces w ++ (32 ∷ []) ∷ token_pieces rest
 pieces_space [] rest = apart 32 rest (space_before rest)
-pieces_space (a ∷ w) rest = ap (onto_piece a) (pieces_space w rest) ∙ onto_space a (pieces_of w) (pieces_of rest)
+pieces_space (a ∷ w) rest = ap (onto_piece a) (pieces_space w rest) ∙ onto_space a (token_pieces w) (token_pieces rest)
 
 -- the pieces of a text that are no spacing
 abbrev pub tokens_in : List ℕ → List (List ℕ)
-tokens_in text = filter (λ piece. not (is_spacing piece)) (pieces_of text)
+tokens_in text = filter (λ piece. not (is_spacing piece)) (token_pieces text)
 
 tokens_space : (w rest : List ℕ) → tokens_in (w ++ 32 ∷ rest) ≡ tokens_in w ++ tokens_in rest
 tokens_space w rest = ap (filter (λ piece. not (is_spacing piece))) (pieces_space w rest)
-    ∙ filter-append (λ piece. not (is_spacing piece)) (pieces_of w) ((32 ∷ []) ∷ pieces_of rest)
+    ∙ filter-append (λ piece. not (is_spacing piece)) (token_pieces w) ((32 ∷ []) ∷ token_pieces rest)
 
 tokens_joined : (ws : List (List ℕ)) → tokens_in (join_with_byte 32 ws) ≡ flat_map tokens_in ws
 tokens_joined [] = refl

@@ -1,5 +1,6 @@
 -- The mask of the input tiers that are named, tier by tier.
-use Rattle.std.proofs.Common.{◌≡◌, ℕ, suc, ◌+◌, ◌*◌, ◌^◌, ◌<◌, ◌≤◌, Bool, true, false, cond, List, ◌∷◌, length, get_or, drop, ap, sym, ◌∙◌, arith}
+use Rattle.std.proofs.Common.{◌≡◌, ℕ, suc, ◌+◌, ◌*◌, ◌^◌, ◌<◌, ◌≤◌, Bool, true, false, cond, List, ◌∷◌, length, get_or}
+use Rattle.std.proofs.Common.{drop, ap, sym, ◌∙◌, arith}
 use Rattle.std.specs.List.{list_any}
 use Rattle.std.specs.Str.{bytes_eq}
 use Rattle.std.proofs.lemmas.List.{drop_more}
@@ -8,7 +9,7 @@ use Rattle.tier_core.specs.Tiers.{is_input}
 use Rattle.tier_core.proofs.MaskBits.{mask_shift}
 use Rattle.grammar_reader.specs.Values.{inputs_of}
 use Rattle.grammar_reader.specs.Seen.{tier_seen, tiers_seen}
-use Rattle.grammar_reader.specs.Reading.{mask_of}
+use Rattle.grammar_reader.specs.Reading.{named_mask}
 use denote.Ref.{Bor}
 
 module _ (es : List (Bor (List ℕ) × TierKind)) (names : List (List ℕ)) (k : ℕ) (e : Bor (List ℕ) × TierKind)
@@ -18,21 +19,21 @@ module _ (es : List (Bor (List ℕ) × TierKind)) (names : List (List ℕ)) (k :
 
   -- a tier that is no input tier
   pub mask_skip : (m b : ℕ) → is_input e.1 ≡ false
-      → m + b * mask_of (inputs_of (tiers_seen (drop k es))) names
-      ≡ m + b * mask_of (inputs_of (tiers_seen (drop (k + 1) es))) names
-  mask_skip m b i = ap (λ xs. m + b * mask_of (inputs_of (tiers_seen xs)) names) next
-      ∙ ap (λ t. m + b * mask_of (cond t (tier_seen e ∷ inputs_of (tiers_seen (drop (k + 1) es)))
+      → m + b * named_mask (inputs_of (tiers_seen (drop k es))) names
+      ≡ m + b * named_mask (inputs_of (tiers_seen (drop (k + 1) es))) names
+  mask_skip m b i = ap (λ xs. m + b * named_mask (inputs_of (tiers_seen xs)) names) next
+      ∙ ap (λ t. m + b * named_mask (cond t (tier_seen e ∷ inputs_of (tiers_seen (drop (k + 1) es)))
       (inputs_of (tiers_seen (drop (k + 1) es)))) names) i
 
   -- an input tier, which is named or not
   pub mask_next : (m b : ℕ) (t : Bool) → is_input e.1 ≡ true → t ≡ list_any (λ n. bytes_eq n e.0.now) names
-      → m + b * mask_of (inputs_of (tiers_seen (drop k es))) names
-      ≡ m + cond t b 0 + b * 2 * mask_of (inputs_of (tiers_seen (drop (k + 1) es))) names
-  mask_next m b t i n = ap (λ xs. m + b * mask_of (inputs_of (tiers_seen xs)) names) next
-      ∙ ap (λ u. m + b * mask_of (cond u (tier_seen e ∷ inputs_of (tiers_seen (drop (k + 1) es)))
+      → m + b * named_mask (inputs_of (tiers_seen (drop k es))) names
+      ≡ m + cond t b 0 + b * 2 * named_mask (inputs_of (tiers_seen (drop (k + 1) es))) names
+  mask_next m b t i n = ap (λ xs. m + b * named_mask (inputs_of (tiers_seen xs)) names) next
+      ∙ ap (λ u. m + b * named_mask (cond u (tier_seen e ∷ inputs_of (tiers_seen (drop (k + 1) es)))
       (inputs_of (tiers_seen (drop (k + 1) es)))) names) i
-      ∙ ap (λ u. m + b * (cond u 1 0 + 2 * mask_of (inputs_of (tiers_seen (drop (k + 1) es))) names)) (sym n)
-      ∙ mask_shift m b (mask_of (inputs_of (tiers_seen (drop (k + 1) es))) names) t
+      ∙ ap (λ u. m + b * (cond u 1 0 + 2 * named_mask (inputs_of (tiers_seen (drop (k + 1) es))) names)) (sym n)
+      ∙ mask_shift m b (named_mask (inputs_of (tiers_seen (drop (k + 1) es))) names) t
 
 pub power_more : (n b k : ℕ) → n ≡ k + 1 → b ≤ 2 ^ k → b * 2 ≤ 2 ^ n
 power_more n b k e l = let p : 2 ^ (suc k)

@@ -1,13 +1,14 @@
 -- The tiers of a letter, named in tier order, have the letter's mask.
 use Rattle.std.proofs.lemmas.Bool.{or_parts, or_from}
-use Rattle.std.proofs.Common.{◌≡◌, ℕ, suc, ◌+◌, ◌*◌, ◌/◌, ◌%◌, ◌^◌, ◌<◌, ◌==◌, Bool, true, false, cond, ◌||◌, ◌⊎◌, inl, inr, List, [], ◌∷◌, ◌++◌, length, map, refl, ap, sym, ◌∙◌, arith}
+use Rattle.std.proofs.Common.{◌≡◌, ℕ, suc, ◌+◌, ◌*◌, ◌/◌, ◌%◌, ◌^◌, ◌<◌, ◌==◌, Bool, true, false, cond, ◌||◌, ◌⊎◌, inl}
+use Rattle.std.proofs.Common.{inr, List, [], ◌∷◌, ◌++◌, length, map, refl, ap, sym, ◌∙◌, arith}
 use Rattle.std.specs.List.{list_any}
 use Rattle.std.specs.Str.{bytes_eq}
 use Rattle.tier_core.proofs.MaskBits.{odd_or_even}
 use Rattle.grammar_reader.specs.Names.{has_twice}
 use Rattle.grammar_reader.specs.Values.{NamedTier, is_named}
 use Rattle.grammar_reader.specs.Canonical.{is_odd, names_in}
-use Rattle.grammar_reader.specs.Reading.{mask_of}
+use Rattle.grammar_reader.specs.Reading.{named_mask}
 use Rattle.grammar_reader.proofs.Lists.{list_any-map}
 use Rattle.grammar_reader.proofs.Once.{same_name}
 use Rattle.grammar_reader.proofs.Twice.{other_bytes}
@@ -76,15 +77,15 @@ some_in (t ∷ ts) m l h = some_front (is_odd m) t.name (names_in ts (m / 2))
 
 -- a name that no tier has gives no bit
 mask_without : (ts : List NamedTier) (w : List ℕ) (ws : List (List ℕ)) → list_any (λ t. bytes_eq w t.name) ts ≡ false
-    → mask_of ts (w ∷ ws) ≡ mask_of ts ws
+    → named_mask ts (w ∷ ws) ≡ named_mask ts ws
 mask_without [] w ws h = refl
 mask_without (t ∷ ts) w ws h =
     let a = or_parts (bytes_eq w t.name) (list_any (λ u. bytes_eq w u.name) ts) h in
-    ap (λ b. cond (b || list_any (λ n. is_named n t) ws) 1 0 + 2 * mask_of ts (w ∷ ws)) a.0
+    ap (λ b. cond (b || list_any (λ n. is_named n t) ws) 1 0 + 2 * named_mask ts (w ∷ ws)) a.0
     ∙ ap (λ n. cond (list_any (λ v. is_named v t) ws) 1 0 + 2 * n) (mask_without ts w ws a.1)
 
 without_front : (ts : List NamedTier) (b : Bool) (w : List ℕ) (ws : List (List ℕ))
-    → list_any (λ t. bytes_eq w t.name) ts ≡ false → mask_of ts (cond b (w ∷ []) [] ++ ws) ≡ mask_of ts ws
+    → list_any (λ t. bytes_eq w t.name) ts ≡ false → named_mask ts (cond b (w ∷ []) [] ++ ws) ≡ named_mask ts ws
 without_front ts true w ws h = mask_without ts w ws h
 without_front ts false w ws h = refl
 
@@ -103,7 +104,7 @@ others_apart t (u ∷ ts) h =
     (others_apart t ts a.1)
 
 pub mask_back : (ts : List NamedTier) (m : ℕ) → m < 2 ^ length ts → has_twice (map (λ t. t.name) ts) ≡ false
-    → mask_of ts (names_in ts m) ≡ m
+    → named_mask ts (names_in ts m) ≡ m
 mask_back [] m l h = omega arith
 mask_back (t ∷ ts) m l h =
     let a = or_parts (list_any (bytes_eq t.name) (map (λ u. u.name) ts)) (has_twice (map (λ u. u.name) ts)) h in
@@ -112,7 +113,7 @@ mask_back (t ∷ ts) m l h =
     let here : list_any (λ n. is_named n t) (names_in (t ∷ ts) m)
     ≡ is_odd m = named_front t (is_odd m) rest
     (none_in (λ n. is_named n t) ts (m / 2) (others_apart t ts other)) in
-    let there : mask_of ts (names_in (t ∷ ts) m) ≡ m / 2 = without_front ts (is_odd m) t.name rest other
+    let there : named_mask ts (names_in (t ∷ ts) m) ≡ m / 2 = without_front ts (is_odd m) t.name rest other
     ∙ mask_back ts (m / 2) (half_below m (length ts) l) a.1 in
-    ap (λ b. cond b 1 0 + 2 * mask_of ts (names_in (t ∷ ts) m)) here ∙ ap (λ n. cond (is_odd m) 1 0 + 2 * n) there
+    ap (λ b. cond b 1 0 + 2 * named_mask ts (names_in (t ∷ ts) m)) here ∙ ap (λ n. cond (is_odd m) 1 0 + 2 * n) there
     ∙ halves m

@@ -1,5 +1,6 @@
 -- Names that stand once: what stands at a place, and what is found by its name.
-use Rattle.std.proofs.Common.{◌≡◌, ℕ, zero, suc, ◌+◌, ◌<◌, Bool, true, false, cond, not, ◌||◌, List, [], ◌∷◌, ◌++◌, length, map, filter, get_or, unwrap_or, Some, None, refl, ap, sym, ◌∙◌, arith}
+use Rattle.std.proofs.Common.{◌≡◌, ℕ, zero, suc, ◌+◌, ◌<◌, Bool, true, false, cond, not, ◌||◌, List, [], ◌∷◌, ◌++◌}
+use Rattle.std.proofs.Common.{length, map, filter, get_or, unwrap_or, Some, None, refl, ap, sym, ◌∙◌, arith}
 use Rattle.std.specs.Prelude.{nat_lt}
 use Rattle.std.specs.List.{list_any, list_all, find, position_or_len}
 use Rattle.std.specs.Option.{option_map_or}
@@ -11,7 +12,7 @@ use Rattle.std.proofs.lemmas.Slice.Eq.{bytes_eq-Decides}
 use Rattle.tier_core.specs.Tiers.{is_input}
 use Rattle.grammar_reader.specs.Names.{has_twice}
 use Rattle.grammar_reader.specs.Values.{NamedTier, is_named, inputs_of}
-use Rattle.grammar_reader.specs.Reading.{is_unknown, is_input_named, number_of}
+use Rattle.grammar_reader.specs.Reading.{is_unknown, is_input_named, tier_index}
 use Rattle.grammar_reader.proofs.Lists.{list_any-map}
 use Rattle.timeline_text.proofs.Searches.{by_test}
 use Rattle.grammar_reader.proofs.Twice.{other_bytes, twice_after}
@@ -156,7 +157,7 @@ place_of (t ∷ ts) (suc k) l h =
     (other_bytes t.name (name_at ts k) (none_at t.name ts k m a.0)) ∙ ap (λ n. 1 + n) i ∙ s
 
 pub number_at : (ts : List NamedTier) (k : ℕ) → k < length ts → has_twice (map (λ t. t.name) ts) ≡ false
-    → number_of ts (name_at ts k) ≡ k
+    → tier_index ts (name_at ts k) ≡ k
 number_at ts k l h =
     let t : nat_lt k (length ts) ≡ true = grind (arith, nat_tests) in
     ap (λ n. unwrap_or (cond (nat_lt n (length ts)) (Some n) None) 0) (place_of ts k l h)

@@ -1,5 +1,6 @@
 -- What the type of a grammar tells of its constraints.
-use Rattle.std.proofs.Common.{◌≡◌, ℕ, ◌≤◌, ◌&&◌, true, nat_lt, nat_le, List, [], ◌∷◌, map, length, refl, ap, sym, ◌∙◌, arith, suc, All}
+use Rattle.std.proofs.Common.{◌≡◌, ℕ, ◌≤◌, ◌&&◌, true, nat_lt, nat_le, List, [], ◌∷◌, map, length, refl, ap, sym, ◌∙◌}
+use Rattle.std.proofs.Common.{arith, suc, All}
 use Rattle.std.specs.List.{AllByRecursion, list_all}
 use Rattle.std.specs.String.{string_bytes}
 use Rattle.std.proofs.lemmas.Bool.{and_parts, ltb-true, leb-true}

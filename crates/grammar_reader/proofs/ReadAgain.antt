@@ -1,5 +1,6 @@
 -- The canonical text of a grammar is read as that grammar, line by line.
-use Rattle.std.proofs.Common.{◌≡◌, ℕ, ◌+◌, ◌<◌, true, false, not, List, [], ◌∷◌, ◌++◌, length, map, refl, ap, sym, ◌∙◌, subst, codes, append_assoc, append-nil, arith, Option, Some, None, option_map, Result, Ok}
+use Rattle.std.proofs.Common.{◌≡◌, ℕ, ◌+◌, ◌<◌, true, false, not, List, [], ◌∷◌, ◌++◌, length, map, refl, ap, sym, ◌∙◌}
+use Rattle.std.proofs.Common.{subst, codes, append_assoc, append-nil, arith, Option, Some, None, option_map, Result, Ok}
 use Rattle.std.specs.List.{list_any, list_all, AllByRecursion}
 use Rattle.tier_core.specs.declared.tier.TierKind.{TierKind}
 use Rattle.tier_core.specs.declared.tier.TierKind.TheVariants.{Input, Overt, Hidden}
@@ -7,21 +8,28 @@ use Rattle.tier_core.specs.Tiers.{is_input}
 use Rattle.timeline_text.specs.declared.letter.Letter.{Letter}
 use Rattle.timeline_text.specs.Bytes.{lines_of}
 use Rattle.grammar_reader.specs.Pieces.{Lexeme, equals, word}
-use Rattle.grammar_reader.specs.Statements.{Statement, tier, letter, constraint, each_some, word_of, kind_of, letter_line, statement_of, joined_by}
+use Rattle.grammar_reader.specs.Statements.{Statement, tier, letter, constraint, each_some, word_of, tier_kind_of}
+use Rattle.grammar_reader.specs.Statements.{letter_line, statement_of, joined_by}
 use Rattle.grammar_reader.specs.Names.{is_name, is_letter_byte}
-use Rattle.grammar_reader.specs.Values.{GrammarValue, NamedTier, NamedConstraint, inputs_of, letter_name, IsMade, IsGrammar}
-use Rattle.grammar_reader.specs.Reading.{At, nothing, with_statement, after_cause, after_statement, kept, after_lexemes, after_lines, go_on, grammar_of, numbered}
-use Rattle.grammar_reader.specs.Canonical.{line_of_words, kind_text, tier_words, names_in, letter_words, event_text, joined, sign_text, constraint_words, header_words, tier_lines, letter_lines, constraint_lines, canonical}
+use Rattle.grammar_reader.specs.Values.{GrammarValue, NamedTier, NamedConstraint, inputs_of, letter_name}
+use Rattle.grammar_reader.specs.Values.{IsProperGrammar, IsGrammar}
+use Rattle.grammar_reader.specs.Reading.{At, nothing, with_statement, after_cause, after_statement, some_grammar}
+use Rattle.grammar_reader.specs.Reading.{after_lexemes, after_lines, go_on, grammar_of, indexed_event}
+use Rattle.grammar_reader.specs.Canonical.{line_of_words, tier_kind_text, tier_words, names_in, letter_words}
+use Rattle.grammar_reader.specs.Canonical.{event_text, intersperse, sign_text, constraint_words, header_words}
+use Rattle.grammar_reader.specs.Canonical.{tier_lines, letter_lines, constraint_lines, canonical}
 use Rattle.grammar_reader.proofs.Lawful.{NoCause, cause_none}
 use Rattle.grammar_reader.proofs.LawfulLines.{whole_is}
 use Rattle.grammar_reader.proofs.LineLexemes.{AreRead, read_none, read_next, read_both, line_lexemes, line_first}
-use Rattle.grammar_reader.proofs.WordLexemes.{name_read, letter_read, kind_read, and_read, joint_read, sign_lexeme, sign_read, equals_read}
+use Rattle.grammar_reader.proofs.WordLexemes.{name_read, letter_read, kind_read, and_read, joint_read, sign_lexeme}
+use Rattle.grammar_reader.proofs.WordLexemes.{sign_read, equals_read}
 use Rattle.grammar_reader.proofs.MasksBack.{some_in, mask_back}
 use Rattle.grammar_reader.proofs.Once.{at_place, once_filtered}
 use Rattle.grammar_reader.proofs.Sides.{HasName, named_event, side_lexemes, side_read, both_sides, constraint_back}
 use Rattle.std.proofs.lemmas.Bool.{or_parts, not-false}
 use Rattle.grammar_reader.proofs.Adding.{grammar_by}
-use Rattle.grammar_reader.proofs.Uncaused.{with_tiers, with_letters, tier_uncaused, letter_uncaused, sound_at, sides_at, names_of, constraint_uncaused, numbers_back, names_are}
+use Rattle.grammar_reader.proofs.Uncaused.{with_tiers, with_letters, tier_uncaused, letter_uncaused, sound_at, sides_at}
+use Rattle.grammar_reader.proofs.Uncaused.{names_of, constraint_uncaused, numbers_back, names_are}
 
 -- after what was read before, the text is read as a grammar, whatever the number of its first line
 Reads : Option GrammarValue → List ℕ → GrammarValue → Type 0
@@ -46,7 +54,8 @@ reads_statement : (before : GrammarValue) (s : Statement) (ws : List (List ℕ))
     → Reads (Some (with_statement before s)) rest g → Reads (Some before) (line_of_words ws ++ rest) g
 reads_statement before s ws l ls rest g r e n h = reads_line (Some before) (Some (with_statement before s)) ws
     (l ∷ ls) rest g r
-    (ap (λ o. kept (after_statement before o)) e ∙ ap (λ c. kept (after_cause before s c)) (cause_none before s n)) h
+    (ap (λ o. some_grammar (after_statement before o)) e
+    ∙ ap (λ c. some_grammar (after_cause before s c)) (cause_none before s n)) h
 
 reads_as : (before : Option GrammarValue) (text same : List ℕ) (g : GrammarValue) → text ≡ same → Reads before same g
     → Reads before text g
@@ -58,7 +67,7 @@ reads_after before same text g e h = subst (λ b. Reads (Some b) text g) (sym e)
 
 -- ---- what the lexemes of a line say
 
-kind_back : (kind : TierKind) → kind_of (kind_text kind) ≡ Some kind
+kind_back : (kind : TierKind) → tier_kind_of (tier_kind_text kind) ≡ Some kind
 kind_back Input = refl
 kind_back Overt = refl
 kind_back Hidden = refl
@@ -80,13 +89,14 @@ names_read (w ∷ ws) h =
 
 -- ---- the lines of tiers
 
-module _ (g : GrammarValue) (m : IsMade g) where
+module _ (g : GrammarValue) (m : IsProperGrammar g) where
   tier_read : (t : NamedTier) → is_name t.name ≡ true
-      → AreRead (tier_words t) (word (codes "tier") ∷ word t.name ∷ word (kind_text t.kind) ∷ [])
-  tier_read t h = read_next (codes "tier") (word (codes "tier") ∷ []) (t.name ∷ kind_text t.kind ∷ [])
-      (word t.name ∷ word (kind_text t.kind) ∷ []) (record { inner = refl; lexemes = refl })
-      (read_next t.name (word t.name ∷ []) (kind_text t.kind ∷ []) (word (kind_text t.kind) ∷ []) (name_read t.name h)
-      (read_next (kind_text t.kind) (word (kind_text t.kind) ∷ []) [] [] (kind_read t.kind) read_none))
+      → AreRead (tier_words t) (word (codes "tier") ∷ word t.name ∷ word (tier_kind_text t.kind) ∷ [])
+  tier_read t h = read_next (codes "tier") (word (codes "tier") ∷ []) (t.name ∷ tier_kind_text t.kind ∷ [])
+      (word t.name ∷ word (tier_kind_text t.kind) ∷ []) (record { inner = refl; lexemes = refl })
+      (read_next t.name (word t.name ∷ []) (tier_kind_text t.kind ∷ []) (word (tier_kind_text t.kind) ∷ [])
+      (name_read t.name h)
+      (read_next (tier_kind_text t.kind) (word (tier_kind_text t.kind) ∷ []) [] [] (kind_read t.kind) read_none))
 
   tiers_read : (front ts : List NamedTier) (rest : List ℕ) → g.tiers ≡ front ++ ts
       → Reads (Some (with_tiers g.tiers)) rest g → Reads (Some (with_tiers front)) (tier_lines ts ++ rest) g
@@ -99,7 +109,7 @@ module _ (g : GrammarValue) (m : IsMade g) where
       reads_as (Some (with_tiers front)) ((line ++ tier_lines ts) ++ rest) (line ++ (tier_lines ts ++ rest)) g
       (append_assoc line (tier_lines ts) rest)
       (reads_statement (with_tiers front) (tier t.name t.kind) (tier_words t) (word (codes "tier"))
-      (word t.name ∷ word (kind_text t.kind) ∷ []) (tier_lines ts ++ rest) g (tier_read t named)
+      (word t.name ∷ word (tier_kind_text t.kind) ∷ []) (tier_lines ts ++ rest) g (tier_read t named)
       (ap (option_map (tier t.name)) (kind_back t.kind)) (tier_uncaused g front t ts m e)
       (tiers_read (front ++ t ∷ []) ts rest (e ∙ sym (append_assoc front (t ∷ []) ts)) h))
 
@@ -151,8 +161,8 @@ module _ (g : GrammarValue) (m : IsMade g) where
   constraint_words_read c h left right =
       let names = names_of g.tiers in
       let joint = joined_by c.family in
-      let left_words = joined (codes "and") (map (event_text names) c.left) in
-      let right_words = joined joint (map (event_text names) c.right) in
+      let left_words = intersperse (codes "and") (map (event_text names) c.left) in
+      let right_words = intersperse joint (map (event_text names) c.right) in
       let sides = left_words ++ sign_text c.family ∷ right_words in
       read_next (codes "constraint") (word (codes "constraint") ∷ []) (c.name ∷ sides)
       (word c.name ∷ both_sides names c.family c.left c.right) (record { inner = refl; lexemes = refl })
@@ -191,7 +201,7 @@ module _ (g : GrammarValue) (m : IsMade g) where
         name = c.name;
         family = c.family;
         left = es;
-        right = map (numbered g.tiers) (map (named_event names) c.right);
+        right = map (indexed_event g.tiers) (map (named_event names) c.right);
       } ∷ [])) ls
       ∙ ap (λ es. grammar_by g.tiers g.letters
       (front ++ record { name = c.name; family = c.family; left = c.left; right = es } ∷ [])) rs)

@@ -1,6 +1,8 @@
 -- The events of a side: the words that join them are read, and cut, as they were joined.
 use Rattle.std.proofs.lemmas.Bool.{or_parts, not-true}
-use Rattle.std.proofs.Common.{◌≡◌, ℕ, suc, ◌+◌, ◌<◌, true, false, cond, List, [], ◌∷◌, ◌++◌, length, map, take, drop, refl, ap, sym, ◌∙◌, codes, append-nil, arith, append_assoc, length-append, subst, take_at, drop_at, Some, None}
+use Rattle.std.proofs.Common.{◌≡◌, ℕ, suc, ◌+◌, ◌<◌, true, false, cond, List, [], ◌∷◌, ◌++◌, length, map, take, drop}
+use Rattle.std.proofs.Common.{refl, ap, sym, ◌∙◌, codes, append-nil, arith, append_assoc, length-append, subst, take_at}
+use Rattle.std.proofs.Common.{drop_at, Some, None}
 use Rattle.std.specs.Prelude.{slice_index_or, All}
 use Rattle.std.specs.List.{slice_split, position_or_len, AllByRecursion}
 use Rattle.std.specs.Str.{bytes_eq}
@@ -12,12 +14,13 @@ use Rattle.tier_core.specs.declared.event.Part.TheVariants.{Start, End, Interior
 use Rattle.tier_core.specs.declared.constraint.Family.{Family}
 use Rattle.tier_core.specs.declared.constraint.Family.TheVariants.{Implication, Clash}
 use Rattle.grammar_reader.specs.Pieces.{Lexeme, word}
-use Rattle.grammar_reader.specs.Statements.{NamedEvent, constraint, each_some, is_the_word, is_connective, event_of, events_of, joined_by, is_sign, sides_of, constraint_line}
+use Rattle.grammar_reader.specs.Statements.{NamedEvent, constraint, each_some, is_the_word, is_connective, event_of}
+use Rattle.grammar_reader.specs.Statements.{events_of, joined_by, is_sign, sides_of, constraint_line}
 use Rattle.grammar_reader.specs.Names.{is_name}
-use Rattle.grammar_reader.specs.Canonical.{event_text, joined}
+use Rattle.grammar_reader.specs.Canonical.{event_text, intersperse}
 use Rattle.grammar_reader.proofs.Ascii.{name_parts}
 use Rattle.grammar_reader.proofs.Forms.{both_some}
-use Rattle.grammar_reader.proofs.Joined.{joined_rest, joined-cons}
+use Rattle.grammar_reader.proofs.Joined.{joined_rest, intersperse-cons}
 use Rattle.grammar_reader.proofs.LineLexemes.{IsRead, AreRead, read_none, read_next}
 use Rattle.grammar_reader.proofs.WordLexemes.{part_lexemes, event_lexemes, event_read, sign_lexeme}
 
@@ -51,11 +54,11 @@ rest_read joint names (e ∷ es) j h = read_next joint (word joint ∷ [])
     (rest_lexemes joint names es) (event_read names e h.0) (rest_read joint names es j h.1))
 
 pub side_read : (joint : List ℕ) (names : List (List ℕ)) (es : List Event) → IsRead joint (word joint ∷ [])
-    → AllByRecursion (HasName names) es → AreRead (joined joint (map (event_text names) es))
+    → AllByRecursion (HasName names) es → AreRead (intersperse joint (map (event_text names) es))
     (side_lexemes joint names es)
 side_read joint names [] j h = read_none
 side_read joint names (e ∷ es) j h = subst (λ ws. AreRead ws (side_lexemes joint names (e ∷ es)))
-    (sym (joined-cons joint (event_text names e) (map (event_text names) es)))
+    (sym (intersperse-cons joint (event_text names e) (map (event_text names) es)))
     (read_next (event_text names e) (event_lexemes names e) (joined_rest joint (map (event_text names) es))
     (rest_lexemes joint names es) (event_read names e h.0) (rest_read joint names es j h.1))
 

@@ -1,6 +1,8 @@
 -- The canonical text of a grammar is short enough to be read.
 use Rattle.timeline_text.proofs.Searches.{by_test}
-use Rattle.std.proofs.Common.{◌≡◌, ℕ, zero, suc, ◌+◌, ◌*◌, ◌<◌, ◌≤◌, Bool, true, false, cond, ◌&&◌, ◌||◌, eqb, eqb-true, List, [], ◌∷◌, ◌++◌, length, map, filter, ◌/◌, get_or, refl, ap, sym, ◌∙◌, codes, arith, length-append}
+use Rattle.std.proofs.Common.{◌≡◌, ℕ, zero, suc, ◌+◌, ◌*◌, ◌<◌, ◌≤◌, Bool, true, false, cond, ◌&&◌, ◌||◌, eqb, eqb-true}
+use Rattle.std.proofs.Common.{List, [], ◌∷◌, ◌++◌, length, map, filter, ◌/◌, get_or, refl, ap, sym, ◌∙◌, codes, arith}
+use Rattle.std.proofs.Common.{length-append}
 use Rattle.std.specs.Prelude.{nat_le, nat_lt}
 use Rattle.std.specs.List.{list_any, list_all, flat_map, join_with_byte, AllByRecursion, IsDistinct}
 use Rattle.std.specs.Str.{bytes_eq}
@@ -20,10 +22,13 @@ use Rattle.tier_core.specs.declared.constraint.Family.TheVariants.{Implication, 
 use Rattle.timeline_text.specs.declared.letter.Letter.{Letter}
 use Rattle.grammar_reader.specs.Statements.{joined_by}
 use Rattle.grammar_reader.specs.Names.{is_name, is_letter_byte, has_twice}
-use Rattle.grammar_reader.specs.Values.{GrammarValue, NamedTier, NamedConstraint, inputs_of, letter_name, is_side, has_sides, IsMade}
-use Rattle.grammar_reader.specs.Canonical.{line_of_words, kind_text, tier_words, is_odd, names_in, letter_words, part_text, event_text, joined, sign_text, constraint_words, header_words, tier_lines, letter_lines, constraint_lines, canonical}
+use Rattle.grammar_reader.specs.Values.{GrammarValue, NamedTier, NamedConstraint, inputs_of, letter_name, is_side}
+use Rattle.grammar_reader.specs.Values.{has_sides, IsProperGrammar}
+use Rattle.grammar_reader.specs.Canonical.{line_of_words, tier_kind_text, tier_words, is_odd, names_in, letter_words}
+use Rattle.grammar_reader.specs.Canonical.{part_text, event_text, intersperse, sign_text, constraint_words}
+use Rattle.grammar_reader.specs.Canonical.{header_words, tier_lines, letter_lines, constraint_lines, canonical}
 use Rattle.grammar_reader.proofs.Ascii.{name_parts}
-use Rattle.grammar_reader.proofs.Joined.{joined_rest, joined-cons}
+use Rattle.grammar_reader.proofs.Joined.{joined_rest, intersperse-cons}
 use Rattle.grammar_reader.proofs.Lawful.{all_weaker}
 use Rattle.grammar_reader.proofs.Walk.{and_true}
 
@@ -75,7 +80,7 @@ short_at [] k h = omega arith
 short_at (n ∷ names) zero h = short_by n (and_parts (is_short n) (list_all is_short names) h).0
 short_at (n ∷ names) (suc k) h = short_at names k (and_parts (is_short n) (list_all is_short names) h).1
 
-kind_length : (kind : TierKind) → length (kind_text kind) ≤ 6
+kind_length : (kind : TierKind) → length (tier_kind_text kind) ≤ 6
 kind_length Input = omega arith
 kind_length Overt = omega arith
 kind_length Hidden = omega arith
@@ -166,12 +171,12 @@ rest_cost joint names (e ∷ es) j h =
     omega (arith, p, r, j)
 
 side_cost : (joint : List ℕ) (names : List (List ℕ)) (es : List Event) → length joint ≤ 3
-    → list_all is_short names ≡ true → cost (joined joint (map (event_text names) es)) ≤ 38 * length es
+    → list_all is_short names ≡ true → cost (intersperse joint (map (event_text names) es)) ≤ 38 * length es
 side_cost joint names [] j h = omega arith
 side_cost joint names (e ∷ es) j h =
     let p = part_length e.part (get_or names e.tier []) (short_at names e.tier h) in
     let r = rest_cost joint names es j h in
-    let c = ap cost (joined-cons joint (event_text names e) (map (event_text names) es)) in
+    let c = ap cost (intersperse-cons joint (event_text names e) (map (event_text names) es)) in
     omega (arith, p, r, c)
 
 joint_length : (family : Family) → length (joined_by family) ≤ 3
@@ -193,8 +198,8 @@ constraint_length : (names : List (List ℕ)) (n : ℕ) (c : NamedConstraint) �
 constraint_length names n c h k =
     let a = and_parts (is_name c.name) (has_sides n c) k in
     let s = and_parts (is_side n c.left) (is_side n c.right) a.1 in
-    let left = joined (codes "and") (map (event_text names) c.left) in
-    let right = sign_text c.family ∷ joined (joined_by c.family) (map (event_text names) c.right) in
+    let left = intersperse (codes "and") (map (event_text names) c.left) in
+    let right = sign_text c.family ∷ intersperse (joined_by c.family) (map (event_text names) c.right) in
     let w = line_length (constraint_words names c) in
     let m = short_by c.name (short_name c.name a.0) in
     let b = cost-append left right in
@@ -215,7 +220,7 @@ both_all p q (x ∷ xs) h k =
 
 -- ---- the whole text
 
-pub canonical_length : (g : GrammarValue) → IsMade g → length (canonical g) ≤ 65536
+pub canonical_length : (g : GrammarValue) → IsProperGrammar g → length (canonical g) ≤ 65536
 canonical_length g m =
     let names = map (λ t. t.name) g.tiers in
     let short = list_all-map is_short (λ t. t.name) g.tiers

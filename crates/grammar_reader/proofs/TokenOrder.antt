@@ -1,5 +1,6 @@
 -- Tokens come in the order of their source.
-use Rattle.std.proofs.Common.{◌≡◌, ℕ, ◌+◌, ◌<◌, ◌≤◌, Bool, true, false, cond, List, [], ◌∷◌, ◌++◌, length, filter, subst, ap, sym, ◌∙◌, arith, length-append}
+use Rattle.std.proofs.Common.{◌≡◌, ℕ, ◌+◌, ◌<◌, ◌≤◌, Bool, true, false, cond, List, [], ◌∷◌, ◌++◌, length, filter}
+use Rattle.std.proofs.Common.{subst, ap, sym, ◌∙◌, arith, length-append}
 use Rattle.std.specs.Prelude.{take_while}
 use Rattle.std.specs.List.{AllByRecursion, AllPairs, concat}
 use Rattle.std.proofs.lemmas.List.Elements.{All-from_recursion}
@@ -7,7 +8,8 @@ use Rattle.std.proofs.lemmas.List.Kept.{AllPairs-cons}
 use Rattle.std.proofs.lemmas.List.Sums.{take_while-cons}
 use Rattle.grammar_reader.specs.Ascending.{AreAscending, Precedes}
 use Rattle.timeline_text.specs.Bytes.{lines_of}
-use Rattle.grammar_reader.specs.Pieces.{content, goes_on, is_no_spacing, is_token, Mark, marks_of, onto_piece, pieces_of, placed, tokens_of}
+use Rattle.grammar_reader.specs.Pieces.{content, goes_on, is_no_spacing, is_token, Mark, marks_of, onto_piece}
+use Rattle.grammar_reader.specs.Pieces.{token_pieces, marks_along, tokens_of}
 use Rattle.grammar_reader.proofs.SliceLaw.{concat_pieces, content_after}
 
 -- ---- walks ----
@@ -43,7 +45,8 @@ filtered line at (m ∷ ms) last end w =
     elim (is_no_spacing m) as
     (λ t. Walk line at (cond t (m ∷ filter is_no_spacing ms) (filter is_no_spacing ms)) last end) [
       | true ↦ (w.0, w.1, w.2, rest)
-      | false ↦ sooner m.line (m.at + length m.text) line at (filter is_no_spacing ms) last end w.0 (omega (arith, w.1)) rest
+      | false ↦ sooner m.line (m.at + length m.text) line at (filter is_no_spacing ms) last end w.0
+          (omega (arith, w.1)) rest
     ]
 
 -- ---- over the pieces of a line ----
@@ -56,12 +59,12 @@ bytes_onto a (p ∷ ps) h = elim (goes_on a p) as
     (λ t. AllByRecursion HasBytes (cond t ((a ∷ p) ∷ ps) ((a ∷ []) ∷ p ∷ ps)))
     [ true ↦ (omega arith, h.1) | false ↦ (omega arith, h) ]
 
-pieces_have_bytes : (q : List ℕ) → AllByRecursion HasBytes (pieces_of q)
+pieces_have_bytes : (q : List ℕ) → AllByRecursion HasBytes (token_pieces q)
 pieces_have_bytes [] = tt
-pieces_have_bytes (a ∷ q) = bytes_onto a (pieces_of q) (pieces_have_bytes q)
+pieces_have_bytes (a ∷ q) = bytes_onto a (token_pieces q) (pieces_have_bytes q)
 
 over_pieces : (line at : ℕ) (ps : List (List ℕ)) → AllByRecursion HasBytes ps
-    → Walk line at (placed line at ps) line (at + length (concat ps))
+    → Walk line at (marks_along line at ps) line (at + length (concat ps))
 over_pieces line at [] h = (omega arith, omega arith)
 over_pieces line at (p ∷ ps) h =
     let joined : length (concat (p ∷ ps)) ≡ length p + length (concat ps) = length-append p (concat ps) in
@@ -69,7 +72,7 @@ over_pieces line at (p ∷ ps) h =
       omega arith,
       omega arith,
       h.0,
-      subst (λ end. Walk line (at + length p) (placed line (at + length p) ps) line end) end
+      subst (λ end. Walk line (at + length p) (marks_along line (at + length p) ps) line end) end
           (over_pieces line (at + length p) ps h.1),
     )
 
@@ -77,16 +80,18 @@ over_pieces line at (p ∷ ps) h =
 content_within : (text : List ℕ) → length (content text) ≤ length text
 content_within text =
     let a = content_after text in
-    let e : length text ≡ length (content text) + length a.tail = ap length a.is ∙ length-append (content text) a.tail in
+    let e : length text ≡ length (content text) + length a.tail = ap length a.is
+    ∙ length-append (content text) a.tail in
     omega (arith, e)
 
 over_line : (line at : ℕ) (text : List ℕ)
-    → Walk line at (filter is_no_spacing (placed line at (pieces_of (content text)))) (line + 1) (at + length text + 1)
+    → Walk line at (filter is_no_spacing (marks_along line at (token_pieces (content text)))) (line + 1)
+    (at + length text + 1)
 over_line line at text =
-    let ps = pieces_of (content text) in
+    let ps = token_pieces (content text) in
     let e : length (concat ps) ≡ length (content text) = ap length (concat_pieces (content text)) in
-    filtered line at (placed line at ps) (line + 1) (at + length text + 1)
-    (later line at (placed line at ps) line (at + length (concat ps)) (line + 1) (at + length text + 1)
+    filtered line at (marks_along line at ps) (line + 1) (at + length text + 1)
+    (later line at (marks_along line at ps) line (at + length (concat ps)) (line + 1) (at + length text + 1)
     (omega arith) (omega (arith, e, content_within text)) (over_pieces line at ps (pieces_have_bytes (content text))))
 
 -- ---- over a source ----
@@ -101,7 +106,7 @@ over_lines line at (text ∷ texts) =
     let rest = over_lines (line + 1) (at + length text + 1) texts in record {
       last = rest.last;
       end = rest.end;
-      walk = both line at (filter is_no_spacing (placed line at (pieces_of (content text)))) (line + 1)
+      walk = both line at (filter is_no_spacing (marks_along line at (token_pieces (content text)))) (line + 1)
           (at + length text + 1) (marks_of (line + 1) (at + length text + 1) texts) rest.last rest.end
           (over_line line at text) rest.walk;
     }

@@ -1,7 +1,8 @@
 -- No line of a canonical text has a cause, given the lines before it.
 use Rattle.timeline_text.proofs.Searches.{by_test}
 use Rattle.std.proofs.lemmas.Bool.{and_parts, or_from}
-use Rattle.std.proofs.Common.{◌≡◌, ℕ, ◌^◌, ◌<◌, ◌≤◌, Bool, true, false, cond, not, ◌&&◌, ◌||◌, List, [], ◌∷◌, ◌++◌, length, map, filter, refl, ap, sym, ◌∙◌, subst, arith, length-append}
+use Rattle.std.proofs.Common.{◌≡◌, ℕ, ◌^◌, ◌<◌, ◌≤◌, Bool, true, false, cond, not, ◌&&◌, ◌||◌, List, [], ◌∷◌, ◌++◌}
+use Rattle.std.proofs.Common.{length, map, filter, refl, ap, sym, ◌∙◌, subst, arith, length-append}
 use Rattle.std.specs.Prelude.{nat_lt, nat_le}
 use Rattle.std.specs.List.{list_any, list_all, AllByRecursion}
 use Rattle.std.specs.Str.{bytes_eq}
@@ -14,12 +15,14 @@ use Rattle.tier_core.proofs.Bools.{and_false}
 use Rattle.timeline_text.specs.declared.letter.Letter.{Letter}
 use Rattle.grammar_reader.specs.Statements.{tier, letter, constraint}
 use Rattle.grammar_reader.specs.Names.{is_name, is_letter_byte, has_twice}
-use Rattle.grammar_reader.specs.Values.{GrammarValue, NamedTier, NamedConstraint, inputs_of, free_of, letter_name, has_sound, is_side, has_sides, IsMade}
+use Rattle.grammar_reader.specs.Values.{GrammarValue, NamedTier, NamedConstraint, inputs_of, free_of, letter_name}
+use Rattle.grammar_reader.specs.Values.{has_sound, is_side, has_sides, IsProperGrammar}
 use Rattle.grammar_reader.specs.Canonical.{names_in}
-use Rattle.grammar_reader.specs.Reading.{is_unknown, is_input_named, numbered}
+use Rattle.grammar_reader.specs.Reading.{is_unknown, is_input_named, indexed_event}
 use Rattle.grammar_reader.proofs.Lawful.{NoCause}
 use Rattle.grammar_reader.proofs.MasksBack.{none_in, once_in}
-use Rattle.grammar_reader.proofs.Once.{none_filtered, none_fails, at_place, front_once, once_filtered, none_unknown, none_other, name_at, known_at, number_at, named_at}
+use Rattle.grammar_reader.proofs.Once.{none_filtered, none_fails, at_place, front_once, once_filtered, none_unknown}
+use Rattle.grammar_reader.proofs.Once.{none_other, name_at, known_at, number_at, named_at}
 use Rattle.grammar_reader.proofs.Sides.{HasName, named_event}
 use Rattle.grammar_reader.proofs.Adding.{grammar_by}
 
@@ -53,7 +56,8 @@ few_before p front x rest n l = by_test (p x)
     ap (λ b. p x && b) t ∙ and_false (p x))
     (λ e. ap (λ b. b && nat_le n (length (filter p front))) e)
 
-pub tier_uncaused : (g : GrammarValue) (front : List NamedTier) (t : NamedTier) (rest : List NamedTier) → IsMade g
+pub tier_uncaused : (g : GrammarValue) (front : List NamedTier) (t : NamedTier) (rest : List NamedTier)
+    → IsProperGrammar g
     → g.tiers ≡ front ++ t ∷ rest → NoCause (with_tiers front) (tier t.name t.kind)
 tier_uncaused g front t rest m e = record {
   names = ap not (at_place (λ x. is_name x.name) front t rest
@@ -75,7 +79,7 @@ tier_uncaused g front t rest m e = record {
 
 -- ---- letters
 
-pub letter_uncaused : (g : GrammarValue) (front : List Letter) (l : Letter) (rest : List Letter) → IsMade g
+pub letter_uncaused : (g : GrammarValue) (front : List Letter) (l : Letter) (rest : List Letter) → IsProperGrammar g
     → g.letters ≡ front ++ l ∷ rest → NoCause (with_letters g.tiers front)
     (letter (letter_name l) (names_in (inputs_of g.tiers) l.tiers))
 letter_uncaused g front l rest m e = record {
@@ -97,7 +101,7 @@ letter_uncaused g front l rest m e = record {
   events = refl;
 }
 
-pub sound_at : (g : GrammarValue) (front : List Letter) (l : Letter) (rest : List Letter) → IsMade g
+pub sound_at : (g : GrammarValue) (front : List Letter) (l : Letter) (rest : List Letter) → IsProperGrammar g
     → g.letters ≡ front ++ l ∷ rest → (0 < l.tiers) × (l.tiers < 2 ^ length (inputs_of g.tiers))
 sound_at g front l rest m e =
     let h = at_place (has_sound (length (inputs_of g.tiers))) front l rest
@@ -125,7 +129,7 @@ pub record Sides (tiers : ℕ) (c : NamedConstraint) : Type 0 where
   pub right : Side tiers c.right
 
 pub sides_at : (g : GrammarValue) (front : List NamedConstraint) (c : NamedConstraint) (rest : List NamedConstraint)
-    → IsMade g → g.constraints ≡ front ++ c ∷ rest → Sides (length g.tiers) c
+    → IsProperGrammar g → g.constraints ≡ front ++ c ∷ rest → Sides (length g.tiers) c
 sides_at g front c rest m e =
     let h = at_place (has_sides (length g.tiers)) front c rest
     (sym (ap (list_all (has_sides (length g.tiers))) e) ∙ m.sides) in
@@ -154,7 +158,7 @@ few_named names es l = let n = length-map es (named_event names) in let k : leng
     (map (named_event names) es) ≤ 8 = omega arith in grind (arith, nat_tests)
 
 pub constraint_uncaused : (g : GrammarValue) (front : List NamedConstraint) (c : NamedConstraint)
-    (rest : List NamedConstraint) → IsMade g → g.constraints ≡ front ++ c ∷ rest
+    (rest : List NamedConstraint) → IsProperGrammar g → g.constraints ≡ front ++ c ∷ rest
     → NoCause (grammar_by g.tiers g.letters front)
     (constraint c.name c.family (map (named_event (names_of g.tiers)) c.left)
     (map (named_event (names_of g.tiers)) c.right))
@@ -185,12 +189,12 @@ numbered_as e k = record { tier = k; part = e.part }
 -- the events of a side, numbered again
 pub numbers_back : (tiers : List NamedTier) (es : List Event) → has_twice (names_of tiers) ≡ false
     → list_all (λ e. nat_lt e.tier (length tiers)) es ≡ true
-    → map (numbered tiers) (map (named_event (names_of tiers)) es) ≡ es
+    → map (indexed_event tiers) (map (named_event (names_of tiers)) es) ≡ es
 numbers_back tiers [] once h = refl
 numbers_back tiers (e ∷ es) once h =
     let a = and_parts (nat_lt e.tier (length tiers)) (list_all (λ x. nat_lt x.tier (length tiers)) es) h in
     let n = number_at tiers e.tier (below_at (length tiers) e.tier a.0) once in
-    ap (λ k. numbered_as e k ∷ map (numbered tiers) (map (named_event (names_of tiers)) es)) n
+    ap (λ k. numbered_as e k ∷ map (indexed_event tiers) (map (named_event (names_of tiers)) es)) n
     ∙ ap (λ xs. e ∷ xs) (numbers_back tiers es once a.1)
 
 -- and their names

@@ -1,6 +1,7 @@
 -- What each word of a canonical line is read as.
 use Rattle.std.proofs.lemmas.Bool.{and_parts, and_from}
-use Rattle.std.proofs.Common.{◌≡◌, ℕ, Bool, true, false, cond, not, ◌&&◌, ◌||◌, ◌==◌, List, [], ◌∷◌, ◌++◌, filter, refl, ap, ◌∙◌, codes, Option, Some, None, option_map, option_and_then}
+use Rattle.std.proofs.Common.{◌≡◌, ℕ, Bool, true, false, cond, not, ◌&&◌, ◌||◌, ◌==◌, List, [], ◌∷◌, ◌++◌, filter, refl}
+use Rattle.std.proofs.Common.{ap, ◌∙◌, codes, Option, Some, None, option_map, option_and_then}
 use Rattle.std.specs.Prelude.{slice_index_or}
 use Rattle.std.specs.List.{list_all}
 use Rattle.std.specs.Str.{bytes_eq}
@@ -12,10 +13,11 @@ use Rattle.tier_core.specs.declared.tier.TierKind.TheVariants.{Input, Overt, Hid
 use Rattle.tier_core.specs.declared.constraint.Family.{Family}
 use Rattle.tier_core.specs.declared.constraint.Family.TheVariants.{Implication, Clash}
 use Rattle.timeline_text.specs.Bytes.{is_newline}
-use Rattle.grammar_reader.specs.Pieces.{is_comment, is_word_byte, holds_together, onto_piece, pieces_of, is_spacing, Lexeme, opens, closes, equals, clash, implies, word, lexeme_of, goes_on}
+use Rattle.grammar_reader.specs.Pieces.{is_comment, is_word_byte, holds_together, onto_piece, token_pieces, is_spacing}
+use Rattle.grammar_reader.specs.Pieces.{Lexeme, opens, closes, equals, clash, implies, word, lexeme_of, goes_on}
 use Rattle.grammar_reader.specs.Statements.{each_some, joined_by}
 use Rattle.grammar_reader.specs.Names.{is_name, is_letter_byte}
-use Rattle.grammar_reader.specs.Canonical.{kind_text, part_text, event_text, sign_text}
+use Rattle.grammar_reader.specs.Canonical.{tier_kind_text, part_text, event_text, sign_text}
 use Rattle.grammar_reader.proofs.Ascii.{name_parts}
 use Rattle.grammar_reader.proofs.Lawful.{all_weaker}
 use Rattle.grammar_reader.proofs.LineLexemes.{is_inner, IsRead}
@@ -30,7 +32,7 @@ inner_byte b h =
     and_from (not (is_newline b) && not (is_comment b)) (not (b == 13))
     (and_from (not (is_newline b)) (not (is_comment b)) (ap not p.newline) (ap not p.comment)) (ap not p.return)
 
-one_piece : (b : ℕ) (bs : List ℕ) → list_all is_word_byte (b ∷ bs) ≡ true → pieces_of (b ∷ bs) ≡ (b ∷ bs) ∷ []
+one_piece : (b : ℕ) (bs : List ℕ) → list_all is_word_byte (b ∷ bs) ≡ true → token_pieces (b ∷ bs) ≡ (b ∷ bs) ∷ []
 one_piece b [] h = refl
 one_piece b (c ∷ bs) h =
     let x = and_parts (is_word_byte b) (list_all is_word_byte (c ∷ bs)) h in
@@ -78,7 +80,7 @@ name_read (b ∷ bs) h = word_read b bs (name_parts (b ∷ bs) h).bytes
 pub letter_read : (b : ℕ) → is_letter_byte (b ∷ []) ≡ true → IsRead (b ∷ []) (word (b ∷ []) ∷ [])
 letter_read b h = word_read b [] (ap (λ t. (t || (b == 95)) && true) h)
 
-pub kind_read : (kind : TierKind) → IsRead (kind_text kind) (word (kind_text kind) ∷ [])
+pub kind_read : (kind : TierKind) → IsRead (tier_kind_text kind) (word (tier_kind_text kind) ∷ [])
 kind_read Input = record { inner = refl; lexemes = refl }
 kind_read Overt = record { inner = refl; lexemes = refl }
 kind_read Hidden = record { inner = refl; lexemes = refl }

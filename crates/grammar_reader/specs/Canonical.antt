@@ -16,13 +16,13 @@ use Rattle.grammar_reader.specs.Values.{GrammarValue, NamedTier, NamedConstraint
 abbrev pub line_of_words : List (List ℕ) → List ℕ
 line_of_words words = join_with_byte 32 words ++ 10 ∷ []
 
-abbrev pub kind_text : TierKind → List ℕ
-kind_text Input = codes "input"
-kind_text Overt = codes "overt"
-kind_text Hidden = codes "hidden"
+abbrev pub tier_kind_text : TierKind → List ℕ
+tier_kind_text Input = codes "input"
+tier_kind_text Overt = codes "overt"
+tier_kind_text Hidden = codes "hidden"
 
 abbrev pub tier_words : NamedTier → List (List ℕ)
-tier_words t = codes "tier" ∷ t.name ∷ kind_text t.kind ∷ []
+tier_words t = codes "tier" ∷ t.name ∷ tier_kind_text t.kind ∷ []
 
 abbrev pub is_odd : ℕ → Bool
 is_odd n = n % 2 == 1
@@ -45,18 +45,18 @@ abbrev pub event_text : List (List ℕ) → Event → List ℕ
 event_text names e = part_text e.part ++ slice_index_or names e.tier []
 
 -- with a word between any two neighbours
-abbrev pub joined : List ℕ → List (List ℕ) → List (List ℕ)
-joined word [] = []
-joined word (e ∷ []) = e ∷ []
-joined word (e ∷ f ∷ es) = e ∷ word ∷ joined word (f ∷ es)
+abbrev pub intersperse : List ℕ → List (List ℕ) → List (List ℕ)
+intersperse word [] = []
+intersperse word (e ∷ []) = e ∷ []
+intersperse word (e ∷ f ∷ es) = e ∷ word ∷ intersperse word (f ∷ es)
 
 abbrev pub sign_text : Family → List ℕ
 sign_text Implication = codes "->"
 sign_text Clash = codes "#"
 
 abbrev pub constraint_words : List (List ℕ) → NamedConstraint → List (List ℕ)
-constraint_words names c = codes "constraint" ∷ c.name ∷ (joined (codes "and") (map (event_text names) c.left)
-    ++ (sign_text c.family ∷ joined (joined_by c.family) (map (event_text names) c.right)))
+constraint_words names c = codes "constraint" ∷ c.name ∷ (intersperse (codes "and") (map (event_text names) c.left)
+    ++ (sign_text c.family ∷ intersperse (joined_by c.family) (map (event_text names) c.right)))
 
 abbrev pub header_words : List (List ℕ)
 header_words = codes "otp" ∷ codes "1" ∷ []

@@ -10,13 +10,13 @@ use Rattle.grammar_reader.specs.declared.lexeme.LineErr.TheVariants.{Cause, NoMe
 use Rattle.grammar_reader.specs.declared.grammar_err.GrammarCause.{GrammarCause}
 use Rattle.grammar_reader.specs.declared.grammar_err.GrammarCause.TheVariants.{BadByte}
 
-abbrev pub seen : code.Lexeme → pieces.Lexeme
-seen Opens = pieces.opens
-seen Closes = pieces.closes
-seen Equals = pieces.equals
-seen Clash = pieces.clash
-seen Implies = pieces.implies
-seen (Word w) = pieces.word w.now
+abbrev pub lexeme_seen : code.Lexeme → pieces.Lexeme
+lexeme_seen Opens = pieces.opens
+lexeme_seen Closes = pieces.closes
+lexeme_seen Equals = pieces.equals
+lexeme_seen Clash = pieces.clash
+lexeme_seen Implies = pieces.implies
+lexeme_seen (Word w) = pieces.word w.now
 
 -- the lexemes of a line, or None if a byte is bad
 abbrev pub lexemes_of : List ℕ → Option (List pieces.Lexeme)

@@ -19,9 +19,9 @@ made_value made = record {
 }
 
 -- None: no header has come yet
-abbrev pub so_far : Option Made → Option GrammarValue
-so_far None = None
-so_far (Some made) = Some (made_value made)
+abbrev pub value_so_far : Option Made → Option GrammarValue
+value_so_far None = None
+value_so_far (Some made) = Some (made_value made)
 
 -- the first cause, unless memory ran out
 abbrev pub FailsCause : LineErr → Option GrammarCause → Type 0

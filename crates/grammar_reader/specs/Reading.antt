@@ -80,16 +80,16 @@ cause_of g s = first_that_comes
     ∷ [])
 
 -- the number of a tier
-abbrev pub number_of : List NamedTier → List ℕ → ℕ
-number_of tiers name = unwrap_or (position (is_named name) tiers) 0
+abbrev pub tier_index : List NamedTier → List ℕ → ℕ
+tier_index tiers name = unwrap_or (position (is_named name) tiers) 0
 
-abbrev pub numbered : List NamedTier → NamedEvent → Event
-numbered tiers e = record { tier = number_of tiers e.tier; part = e.part }
+abbrev pub indexed_event : List NamedTier → NamedEvent → Event
+indexed_event tiers e = record { tier = tier_index tiers e.tier; part = e.part }
 
 -- a bit for each input tier, set if the tier is named
-abbrev pub mask_of : List NamedTier → List (List ℕ) → ℕ
-mask_of [] names = 0
-mask_of (t ∷ ts) names = (if list_any (λ n. is_named n t) names then 1 else 0) + 2 * mask_of ts names
+abbrev pub named_mask : List NamedTier → List (List ℕ) → ℕ
+named_mask [] names = 0
+named_mask (t ∷ ts) names = (if list_any (λ n. is_named n t) names then 1 else 0) + 2 * named_mask ts names
 
 abbrev pub first_byte : List ℕ → ℕ
 first_byte [] = 0
@@ -98,14 +98,14 @@ first_byte (b ∷ bs) = b
 abbrev pub with_statement : GrammarValue → Statement → GrammarValue
 with_statement g (tier name kind) = record g { tiers = g.tiers ++ record { name = name; kind = kind } ∷ [] }
 with_statement g (letter x names) = record g
-    { letters = g.letters ++ record { byte = first_byte x; tiers = mask_of (inputs_of g.tiers) names } ∷ [] }
+    { letters = g.letters ++ record { byte = first_byte x; tiers = named_mask (inputs_of g.tiers) names } ∷ [] }
 with_statement g (constraint name family left right) = record g {
   constraints = g.constraints ++
       record {
         name = name;
         family = family;
-        left = map (numbered g.tiers) left;
-        right = map (numbered g.tiers) right;
+        left = map (indexed_event g.tiers) left;
+        right = map (indexed_event g.tiers) right;
       } ∷ [];
 }
 
@@ -117,16 +117,16 @@ abbrev pub after_statement : GrammarValue → Option Statement → Result Gramma
 after_statement g None = Err BadLine
 after_statement g (Some s) = after_cause g s (cause_of g s)
 
-abbrev pub kept : Result GrammarValue GrammarCause → Result (Option GrammarValue) GrammarCause
-kept (Ok g) = Ok (Some g)
-kept (Err cause) = Err cause
+abbrev pub some_grammar : Result GrammarValue GrammarCause → Result (Option GrammarValue) GrammarCause
+some_grammar (Ok g) = Ok (Some g)
+some_grammar (Err cause) = Err cause
 
 -- None: no header has come yet
 abbrev pub after_lexemes : Option GrammarValue → Option (List Lexeme) → Result (Option GrammarValue) GrammarCause
 after_lexemes before None = Err BadByte
 after_lexemes before (Some []) = Ok before
 after_lexemes None (Some (l ∷ ls)) = if is_header (l ∷ ls) then Ok (Some nothing) else Err BadHeader
-after_lexemes (Some g) (Some (l ∷ ls)) = kept (after_statement g (statement_of (l ∷ ls)))
+after_lexemes (Some g) (Some (l ∷ ls)) = some_grammar (after_statement g (statement_of (l ∷ ls)))
 
 abbrev pub after_line : Option GrammarValue → List ℕ → Result (Option GrammarValue) GrammarCause
 after_line before line = after_lexemes before (each_some lexeme_of (parts_of line))
@@ -137,9 +137,9 @@ pub record At : Type 0 where
   pub cause : GrammarCause
 
 -- after the last line
-abbrev pub whole : Option GrammarValue → Result GrammarValue At
-whole None = Err (record { line = 1; cause = BadHeader })
-whole (Some g) =
+abbrev pub finish : Option GrammarValue → Result GrammarValue At
+finish None = Err (record { line = 1; cause = BadHeader })
+finish (Some g) =
     if not (list_any (λ t. is_input t.kind) g.tiers) then Err (record { line = 0; cause = NoInput }) else
     if not (list_any (λ t. is_overt t.kind) g.tiers) then Err (record { line = 0; cause = NoOvert }) else Ok g
 
@@ -151,7 +151,7 @@ go_on (Err cause) n rest = Err (record { line = n; cause = cause })
 
 -- the lines from number n on
 abbrev pub after_lines : Option GrammarValue → ℕ → List (List ℕ) → Result GrammarValue At
-after_lines before n [] = whole before
+after_lines before n [] = finish before
 after_lines before n (line ∷ lines) = go_on (after_line before line) n (λ after. after_lines after (n + 1) lines)
 
 abbrev pub grammar_of : List ℕ → Result GrammarValue At

@@ -48,14 +48,14 @@ is_clash _ = false
 abbrev pub is_connective : List ℕ → Bool
 is_connective w = bytes_eq w (codes "and") || bytes_eq w (codes "or")
 
-abbrev pub event : Part → List ℕ → Option NamedEvent
-event part w = if is_connective w then None else Some (record { part = part; tier = w })
+abbrev pub event_on : Part → List ℕ → Option NamedEvent
+event_on part w = if is_connective w then None else Some (record { part = part; tier = w })
 
 -- `[NAME`, `]NAME` or `NAME`
 abbrev pub event_of : List Lexeme → Option NamedEvent
-event_of (opens ∷ word w ∷ []) = event Start w
-event_of (closes ∷ word w ∷ []) = event End w
-event_of (word w ∷ []) = event Interior w
+event_of (opens ∷ word w ∷ []) = event_on Start w
+event_of (closes ∷ word w ∷ []) = event_on End w
+event_of (word w ∷ []) = event_on Interior w
 event_of _ = None
 
 -- one or more events, with this connective between any two neighbours
@@ -83,14 +83,14 @@ sides_of name left (implies ∷ right) = sides name Implication left right
 sides_of name left (clash ∷ right) = sides name Clash left right
 sides_of name left _ = None
 
-abbrev pub kind_of : List ℕ → Option TierKind
-kind_of w =
+abbrev pub tier_kind_of : List ℕ → Option TierKind
+tier_kind_of w =
     if bytes_eq w (codes "input") then Some Input else
     if bytes_eq w (codes "overt") then Some Overt else
     if bytes_eq w (codes "hidden") then Some Hidden else None
 
 abbrev pub tier_line : List Lexeme → Option Statement
-tier_line (word name ∷ word kind ∷ []) = option_map (tier name) (kind_of kind)
+tier_line (word name ∷ word kind ∷ []) = option_map (tier name) (tier_kind_of kind)
 tier_line _ = None
 
 abbrev pub letter_line : List Lexeme → Option Statement

@@ -50,7 +50,7 @@ abbrev pub has_sides : ℕ → NamedConstraint → Bool
 has_sides tiers c = is_side tiers c.left && is_side tiers c.right
 
 -- names are proper names and unique, and the tiers of the grammar are within the limits
-pub record IsMade (g : GrammarValue) : Type 0 where
+pub record IsProperGrammar (g : GrammarValue) : Type 0 where
   pub tier_names : IsTrue (list_all (λ t. is_name t.name) g.tiers)
   pub tiers_once : has_twice (map (λ t. t.name) g.tiers) ≡ false
   pub few_tiers : length g.tiers ≤ 12
@@ -66,6 +66,6 @@ pub record IsMade (g : GrammarValue) : Type 0 where
 
 -- moreover some tier is an input tier, and some tier is overt
 pub record IsGrammar (g : GrammarValue) : Type 0 where
-  pub made : IsMade g
+  pub made : IsProperGrammar g
   pub input : IsTrue (list_any (λ t. is_input t.kind) g.tiers)
   pub overt : IsTrue (list_any (λ t. is_overt t.kind) g.tiers)

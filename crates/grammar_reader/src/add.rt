@@ -4,7 +4,7 @@ ghost use Rattle.std.specs.Str.{bytes_eq};
 ghost use Rattle.grammar_reader.specs.Names.{is_name};
 ghost use Rattle.grammar_reader.specs.Statements.{tier, letter, constraint};
 ghost use Rattle.grammar_reader.specs.Values.{inputs_of, is_named};
-ghost use Rattle.grammar_reader.specs.Reading.{number_of, numbered, mask_of, first_byte, cause_of, with_statement};
+ghost use Rattle.grammar_reader.specs.Reading.{tier_index, indexed_event, named_mask, first_byte, cause_of, with_statement};
 ghost use Rattle.grammar_reader.specs.Events.{seen_event};
 ghost use Rattle.grammar_reader.specs.Seen.{tiers_seen};
 ghost use Rattle.grammar_reader.specs.Said.{statement_seen, HasParts};
@@ -19,9 +19,9 @@ use tier_core::{Constraint, Event, EventList, Family, TierKind};
 use timeline_text::Letter;
 
 /// The number of a tier.
-fn number_of(tiers: &Tiers<'_>, name: &[u8]) -> u32
+fn tier_index(tiers: &Tiers<'_>, name: &[u8]) -> u32
     requires { length tiers.now.entries ≤ 12 }
-    ensures number { result ≡ number_of (tiers_seen tiers.now.entries) name.now }
+    ensures number { result ≡ tier_index (tiers_seen tiers.now.entries) name.now }
     ensures few { result < 12 }
 {
     match tiers.get_index_of(name) {
@@ -30,13 +30,13 @@ fn number_of(tiers: &Tiers<'_>, name: &[u8]) -> u32
     }
 }
 
-fn numbered(tiers: &Tiers<'_>, event: &NamedEvent<'_>) -> Event
+fn indexed_event(tiers: &Tiers<'_>, event: &NamedEvent<'_>) -> Event
     requires { length tiers.now.entries ≤ 12 }
-    ensures event { result ≡ numbered (tiers_seen tiers.now.entries) (seen_event event.now) }
+    ensures event { result ≡ indexed_event (tiers_seen tiers.now.entries) (seen_event event.now) }
     ensures few { result.tier < 12 }
 {
     Event {
-        tier: number_of(tiers, event.tier),
+        tier: tier_index(tiers, event.tier),
         part: event.part,
     }
 }
@@ -46,11 +46,12 @@ fn side(alloc: Global, tiers: &Tiers<'_>, events: &[NamedEvent<'_>]) -> EventLis
     requires tiers { length tiers.now.entries ≤ 12 }
     requires some { 0 < length events.now }
     requires few { length events.now ≤ 8 }
-    ensures { result ≡ map (numbered (tiers_seen tiers.now.entries)) (map seen_event events.now) }
+    ensures { result ≡ map (indexed_event (tiers_seen tiers.now.entries))
+        (map seen_event events.now) }
 {
     let mut found = [Event::default(); 8];
     for (place, event) in events.iter().enumerate() {
-        found[place] = numbered(tiers, event);
+        found[place] = indexed_event(tiers, event);
     }
     EventList::from_events(alloc, &found[..events.len()])
 }
@@ -62,17 +63,17 @@ fn is_among(name: &[u8], names: &[&[u8]]) -> bool
 }
 
 /// The bit of a tier, set if the tier is named.
-fn chosen(is_named: bool, bit: u16) -> u16
+fn bit_if_named(is_named: bool, bit: u16) -> u16
     ensures { result ≡ (if is_named then bit else 0) }
 {
     if is_named { bit } else { 0 }
 }
 
 /// The mask of the input tiers that are named.
-fn mask_of(tiers: &Tiers<'_>, names: &[&[u8]]) -> u16
+fn named_mask(tiers: &Tiers<'_>, names: &[&[u8]]) -> u16
     requires { length tiers.now.entries ≤ 12 }
     ensures { result
-        ≡ mask_of (inputs_of (tiers_seen tiers.now.entries)) (map (λ n. n.now) names.now) }
+        ≡ named_mask (inputs_of (tiers_seen tiers.now.entries)) (map (λ n. n.now) names.now) }
 {
     let mut mask = 0;
     let mut bit = 1;
@@ -80,7 +81,7 @@ fn mask_of(tiers: &Tiers<'_>, names: &[&[u8]]) -> u16
         if !kind.is_input() {
             continue;
         }
-        mask += chosen(is_among(name, names), bit);
+        mask += bit_if_named(is_among(name, names), bit);
         bit *= 2;
     }
     mask
@@ -115,7 +116,7 @@ fn add_letter(made: &mut Made<'_>, byte: &[u8], names: &[&[u8]]) -> Result<(), L
 {
     let letter = Letter {
         byte: first_byte(byte),
-        tiers: mask_of(&made.tiers, names),
+        tiers: named_mask(&made.tiers, names),
     };
     made.letters.push(letter)?;
     Ok(())

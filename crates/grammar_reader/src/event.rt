@@ -1,6 +1,6 @@
 ghost use Rattle.std.specs.Prelude.{◌≡◌, option_map, map, MatchResult, Some};
-ghost use Rattle.grammar_reader.specs.Statements.{event, event_of, events_of, is_the_word};
-ghost use Rattle.grammar_reader.specs.Lexemes.{seen};
+ghost use Rattle.grammar_reader.specs.Statements.{event_on, event_of, events_of, is_the_word};
+ghost use Rattle.grammar_reader.specs.Lexemes.{lexeme_seen};
 ghost use Rattle.grammar_reader.specs.Events.{seen_event, FailsForm};
 
 use crate::grammar_err::GrammarCause;
@@ -17,7 +17,7 @@ pub(crate) struct NamedEvent<'a> {
 }
 
 fn event_on(part: Part, word: &[u8]) -> Option<NamedEvent<'_>>
-    ensures { option_map seen_event result ≡ event part word.entry.now }
+    ensures { option_map seen_event result ≡ event_on part word.entry.now }
 {
     if is_connective(word) {
         None
@@ -28,7 +28,7 @@ fn event_on(part: Part, word: &[u8]) -> Option<NamedEvent<'_>>
 
 /// The event at the front of lexemes: `[NAME`, `]NAME` or `NAME`.
 fn event_of<'a>(piece: &[Lexeme<'a>]) -> Option<NamedEvent<'a>>
-    ensures { option_map seen_event result ≡ event_of (map seen piece.entry.now) }
+    ensures { option_map seen_event result ≡ event_of (map lexeme_seen piece.entry.now) }
 {
     match piece {
         [Lexeme::Opens, Lexeme::Word(word)] => event_on(Part::Start, word),
@@ -39,7 +39,7 @@ fn event_of<'a>(piece: &[Lexeme<'a>]) -> Option<NamedEvent<'a>>
 }
 
 fn is_the_word(lexeme: &Lexeme<'_>, text: &[u8]) -> bool
-    ensures { result ≡ is_the_word text.now (seen lexeme.now) }
+    ensures { result ≡ is_the_word text.now (lexeme_seen lexeme.now) }
 {
     match lexeme {
         Lexeme::Word(word) => *word == text,
@@ -54,8 +54,9 @@ pub(crate) fn events<'a>(
     lexemes: &[Lexeme<'a>],
 ) -> Result<Vec<NamedEvent<'a>>, LineErr>
     ensures { MatchResult result
-        (λ v. events_of connective.now (map seen lexemes.entry.now) ≡ Some (map seen_event v.items))
-        (λ e. FailsForm e (events_of connective.now (map seen lexemes.entry.now))) }
+        (λ v. events_of connective.now (map lexeme_seen lexemes.entry.now)
+        ≡ Some (map seen_event v.items))
+        (λ e. FailsForm e (events_of connective.now (map lexeme_seen lexemes.entry.now))) }
 {
     let mut found = Vec::new(alloc);
     for piece in lexemes.split(|l| is_the_word(l, connective)) {

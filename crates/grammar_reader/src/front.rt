@@ -2,7 +2,7 @@ ghost use Rattle.std.specs.Prelude.{◌≡◌, ℕ, ◌≤◌, length};
 ghost use Rattle.std.specs.List.{prefix_len, position_or_len, list_all};
 ghost use Rattle.timeline_text.specs.Bytes.{is_newline};
 ghost use Rattle.grammar_reader.specs.Pieces.{is_letter, is_word_byte};
-ghost use Rattle.grammar_reader.specs.Fronts.{Says, front_of, ends_line, begins_with, is_sign};
+ghost use Rattle.grammar_reader.specs.Fronts.{Says, front_of, ends_line, begins_with, is_sign_byte};
 
 /// What a source begins with.
 #[derive(Clone, Copy)]
@@ -35,8 +35,8 @@ pub(crate) fn is_word(text: &[u8]) -> bool
     text.iter().all(|b| is_word_byte(*b))
 }
 
-fn is_sign(b: u8) -> bool
-    ensures { result ≡ is_sign b }
+fn is_sign_byte(b: u8) -> bool
+    ensures { result ≡ is_sign_byte b }
 {
     b == b'[' || b == b']' || b == b'=' || b == b'#'
 }
@@ -96,7 +96,7 @@ fn look_at(bytes: &[u8]) -> Front
         Front::Skip(1)
     } else if first == b';' {
         Front::Skip(1 + line_len(others))
-    } else if is_sign(first) {
+    } else if is_sign_byte(first) {
         Front::Token(1)
     } else if first == b'-' && begins_with(b'>', others) {
         Front::Token(2)

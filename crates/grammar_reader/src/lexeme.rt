@@ -1,7 +1,7 @@
 ghost use Rattle.std.specs.Prelude.{◌≡◌, ◌+◌, ◌<◌, ◌^◌, ◌∷◌, [], length, option_map, MatchResult, map, Some};
 ghost use Rattle.timeline_text.specs.Bytes.{lines_of};
 ghost use Rattle.grammar_reader.specs.Pieces.{lexeme_of};
-ghost use Rattle.grammar_reader.specs.Lexemes.{seen, lexemes_of, FailsLine};
+ghost use Rattle.grammar_reader.specs.Lexemes.{lexeme_seen, lexemes_of, FailsLine};
 
 use crate::front::is_word;
 use crate::grammar_err::GrammarCause;
@@ -48,7 +48,7 @@ impl<T: Drop> From<AllocFailed<T>> for LineErr {
 
 /// What the text of a token is, and None if the text is not a token.
 fn kind_of_token(text: &[u8]) -> Option<Lexeme<'_>>
-    ensures { option_map seen result ≡ lexeme_of text.entry.now }
+    ensures { option_map lexeme_seen result ≡ lexeme_of text.entry.now }
 {
     if text == b"[".as_slice() {
         Some(Lexeme::Opens)
@@ -71,7 +71,7 @@ fn kind_of_token(text: &[u8]) -> Option<Lexeme<'_>>
 pub(crate) fn lexemes(alloc: Global, line: &[u8], number: u32) -> Result<Vec<Lexeme<'_>>, LineErr>
     requires whole { lines_of line.now ≡ line.now ∷ [] }
     requires number { number + length line.now < 2 ^ 32 }
-    ensures { MatchResult result (λ v. lexemes_of line.entry.now ≡ Some (map seen v.items))
+    ensures { MatchResult result (λ v. lexemes_of line.entry.now ≡ Some (map lexeme_seen v.items))
         (FailsLine line.entry.now) }
 {
     let mut found = Vec::new(alloc);

@@ -1,6 +1,6 @@
 ghost use Rattle.std.specs.Prelude.{◌≡◌, ◌+◌, ◌<◌, ◌≤◌, ◌∷◌, [], ◌++◌, length, map, if◌then◌else◌};
 ghost use Rattle.std.specs.String.{string_bytes};
-ghost use Rattle.grammar_reader.specs.Canonical.{is_odd, kind_text, part_text, sign_text, event_text, joined, tier_words, letter_words, constraint_words, header_words};
+ghost use Rattle.grammar_reader.specs.Canonical.{is_odd, tier_kind_text, part_text, sign_text, event_text, intersperse, tier_words, letter_words, constraint_words, header_words};
 ghost use Rattle.grammar_reader.specs.Statements.{joined_by};
 ghost use Rattle.grammar_reader.specs.Words.{texts_of};
 ghost use Rattle.grammar_reader.specs.NamedTiers.{named_tiers};
@@ -21,8 +21,8 @@ pub(crate) fn header_words() -> Words<'static>
     words
 }
 
-fn kind_text(kind: TierKind) -> &'static [u8]
-    ensures { result.now ≡ kind_text kind }
+fn tier_kind_text(kind: TierKind) -> &'static [u8]
+    ensures { result.now ≡ tier_kind_text kind }
 {
     match kind {
         TierKind::Input => b"input",
@@ -37,7 +37,7 @@ pub(crate) fn tier_words(name: &[u8], kind: TierKind) -> Words<'_>
 {
     let mut words = Words::begin(b"tier");
     words.push(name);
-    words.push(kind_text(kind));
+    words.push(tier_kind_text(kind));
     words
 }
 
@@ -109,7 +109,7 @@ fn push_side<'a>(words: &mut Words<'a>, names: &'a [String], joint: &'a [u8], ev
     requires few { length events.now ≤ 8 }
     requires room { words.old.len ≤ 24 }
     ensures words { texts_of words.new
-        ≡ texts_of words.old ++ joined joint.entry.now
+        ≡ texts_of words.old ++ intersperse joint.entry.now
         (map (event_text (map string_bytes names.entry.now)) events.now) }
     ensures room { words.new.len ≤ words.old.len + 15 }
 {

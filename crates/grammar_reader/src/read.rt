@@ -5,11 +5,11 @@ ghost use Rattle.tier_core.specs.Tiers.{is_input, is_overt};
 ghost use Rattle.timeline_text.specs.Bytes.{lines_of};
 ghost use Rattle.grammar_reader.specs.Names.{is_name};
 ghost use Rattle.grammar_reader.specs.Values.{IsGrammar};
-ghost use Rattle.grammar_reader.specs.Reading.{after_statement, after_line, whole, grammar_of};
+ghost use Rattle.grammar_reader.specs.Reading.{after_statement, after_line, finish, grammar_of};
 ghost use Rattle.grammar_reader.specs.Statements.{statement_of};
-ghost use Rattle.grammar_reader.specs.Lexemes.{seen};
+ghost use Rattle.grammar_reader.specs.Lexemes.{lexeme_seen};
 ghost use Rattle.grammar_reader.specs.Seen.{tiers_seen};
-ghost use Rattle.grammar_reader.specs.Made.{made_value, so_far, FailsAt, FailsText};
+ghost use Rattle.grammar_reader.specs.Made.{made_value, value_so_far, FailsAt, FailsText};
 ghost use Rattle.grammar_reader.specs.Grammars.{value_of};
 
 use crate::add::add;
@@ -29,8 +29,10 @@ fn read_statement<'a>(
     lexemes: &[Lexeme<'a>],
 ) -> Result<(), LineErr>
     ensures { MatchResult result
-        (λ _. after_statement (made_value made.old) (statement_of (map seen lexemes.entry.now)) ≡ Ok (made_value made.new))
-        (λ e. FailsAt e (after_statement (made_value made.old) (statement_of (map seen lexemes.entry.now)))) }
+        (λ _. after_statement (made_value made.old)
+        (statement_of (map lexeme_seen lexemes.entry.now)) ≡ Ok (made_value made.new))
+        (λ e. FailsAt e (after_statement (made_value made.old)
+        (statement_of (map lexeme_seen lexemes.entry.now)))) }
 {
     let statement = statement_of(alloc, lexemes)?;
     check(alloc, made, &statement)?;
@@ -47,8 +49,8 @@ fn read_line<'a>(
     requires whole { lines_of line.now ≡ line.now ∷ [] }
     requires number { number + length line.now < 2 ^ 32 }
     ensures { MatchResult result
-        (λ _. after_line (so_far state.old) line.entry.now ≡ Ok (so_far state.new))
-        (λ e. FailsAt e (after_line (so_far state.old) line.entry.now)) }
+        (λ _. after_line (value_so_far state.old) line.entry.now ≡ Ok (value_so_far state.new))
+        (λ e. FailsAt e (after_line (value_so_far state.old) line.entry.now)) }
 {
     let found = lexemes(alloc, line, number)?;
     if found.is_empty() {
@@ -70,7 +72,7 @@ fn read_line<'a>(
 fn read_lines(alloc: Global, bytes: &[u8]) -> Result<Option<Made<'_>>, GrammarErr>
     requires { length bytes.now ≤ 65536 }
     ensures { MatchResult result
-        (λ state. grammar_of bytes.entry.now ≡ whole (so_far state))
+        (λ state. grammar_of bytes.entry.now ≡ finish (value_so_far state))
         (λ e. FailsText e (grammar_of bytes.entry.now)) }
 {
     let mut state = None;

@@ -1,7 +1,7 @@
 ghost use Rattle.std.specs.Prelude.{◌≡◌, ◌≤◌, length, map, option_map, MatchResult, Some};
 ghost use Rattle.std.specs.List.{position_or_len};
-ghost use Rattle.grammar_reader.specs.Statements.{each_some, word_of, kind_of, is_header, is_sign, joined_by, sides, sides_of, tier_line, letter_line, constraint_line, statement_of};
-ghost use Rattle.grammar_reader.specs.Lexemes.{seen};
+ghost use Rattle.grammar_reader.specs.Statements.{each_some, word_of, tier_kind_of, is_header, is_sign, joined_by, sides, sides_of, tier_line, letter_line, constraint_line, statement_of};
+ghost use Rattle.grammar_reader.specs.Lexemes.{lexeme_seen};
 ghost use Rattle.grammar_reader.specs.Events.{FailsForm};
 ghost use Rattle.grammar_reader.specs.Said.{SaysLine};
 
@@ -24,7 +24,7 @@ pub(crate) enum Statement<'a> {
 
 /// Whether these are `otp 1`.
 pub(crate) fn is_header(lexemes: &[Lexeme<'_>]) -> bool
-    ensures { result ≡ is_header (map seen lexemes.now) }
+    ensures { result ≡ is_header (map lexeme_seen lexemes.now) }
 {
     match lexemes {
         [Lexeme::Word(a), Lexeme::Word(b)] => *a == b"otp".as_slice() && *b == b"1".as_slice(),
@@ -32,8 +32,8 @@ pub(crate) fn is_header(lexemes: &[Lexeme<'_>]) -> bool
     }
 }
 
-fn kind_of(word: &[u8]) -> Option<TierKind>
-    ensures { result ≡ kind_of word.now }
+fn tier_kind_of(word: &[u8]) -> Option<TierKind>
+    ensures { result ≡ tier_kind_of word.now }
 {
     if word == b"input".as_slice() {
         Some(TierKind::Input)
@@ -47,10 +47,10 @@ fn kind_of(word: &[u8]) -> Option<TierKind>
 }
 
 fn tier_line<'a>(lexemes: &[Lexeme<'a>]) -> Result<Statement<'a>, LineErr>
-    ensures { SaysLine result (tier_line (map seen lexemes.entry.now)) }
+    ensures { SaysLine result (tier_line (map lexeme_seen lexemes.entry.now)) }
 {
     match lexemes {
-        [Lexeme::Word(name), Lexeme::Word(kind)] => match kind_of(kind) {
+        [Lexeme::Word(name), Lexeme::Word(kind)] => match tier_kind_of(kind) {
             Some(kind) => Ok(Statement::Tier(name, kind)),
             None => Err(LineErr::Cause(GrammarCause::BadLine)),
         },
@@ -59,7 +59,7 @@ fn tier_line<'a>(lexemes: &[Lexeme<'a>]) -> Result<Statement<'a>, LineErr>
 }
 
 fn word_of(lexeme: Lexeme<'_>) -> Option<&[u8]>
-    ensures { option_map (λ w. w.now) result ≡ word_of (seen lexeme.entry) }
+    ensures { option_map (λ w. w.now) result ≡ word_of (lexeme_seen lexeme.entry) }
 {
     match lexeme {
         Lexeme::Word(word) => Some(word),
@@ -70,8 +70,9 @@ fn word_of(lexeme: Lexeme<'_>) -> Option<&[u8]>
 /// The words of lexemes, if all of them are words.
 fn words<'a>(alloc: Global, lexemes: &[Lexeme<'a>]) -> Result<Vec<&'a [u8]>, LineErr>
     ensures { MatchResult result
-        (λ v. each_some word_of (map seen lexemes.entry.now) ≡ Some (map (λ w. w.now) v.items))
-        (λ e. FailsForm e (each_some word_of (map seen lexemes.entry.now))) }
+        (λ v. each_some word_of (map lexeme_seen lexemes.entry.now)
+        ≡ Some (map (λ w. w.now) v.items))
+        (λ e. FailsForm e (each_some word_of (map lexeme_seen lexemes.entry.now))) }
 {
     let mut found = Vec::new(alloc);
     for lexeme in lexemes {
@@ -84,7 +85,7 @@ fn words<'a>(alloc: Global, lexemes: &[Lexeme<'a>]) -> Result<Vec<&'a [u8]>, Lin
 }
 
 fn letter_line<'a>(alloc: Global, lexemes: &[Lexeme<'a>]) -> Result<Statement<'a>, LineErr>
-    ensures { SaysLine result (letter_line (map seen lexemes.entry.now)) }
+    ensures { SaysLine result (letter_line (map lexeme_seen lexemes.entry.now)) }
 {
     match lexemes {
         [Lexeme::Word(byte), Lexeme::Equals, _, ..] => {
@@ -97,7 +98,7 @@ fn letter_line<'a>(alloc: Global, lexemes: &[Lexeme<'a>]) -> Result<Statement<'a
 
 /// The number of lexemes before the first `->` or `#`.
 fn before_sign(lexemes: &[Lexeme<'_>]) -> usize
-    ensures place { result ≡ position_or_len is_sign (map seen lexemes.now) }
+    ensures place { result ≡ position_or_len is_sign (map lexeme_seen lexemes.now) }
     ensures within { result ≤ length lexemes.now }
 {
     lexemes
@@ -124,7 +125,8 @@ fn sides<'a>(
     right: &[Lexeme<'a>],
 ) -> Result<Statement<'a>, LineErr>
     ensures { SaysLine result
-        (sides name.entry.now family (map seen left.entry.now) (map seen right.entry.now)) }
+        (sides name.entry.now family (map lexeme_seen left.entry.now)
+        (map lexeme_seen right.entry.now)) }
 {
     let left = events(alloc, b"and", left)?;
     let right = events(alloc, joined_by(family), right)?;
@@ -139,7 +141,8 @@ fn sides_of<'a>(
     rest: &[Lexeme<'a>],
 ) -> Result<Statement<'a>, LineErr>
     ensures { SaysLine result
-        (sides_of name.entry.now (map seen left.entry.now) (map seen rest.entry.now)) }
+        (sides_of name.entry.now (map lexeme_seen left.entry.now)
+        (map lexeme_seen rest.entry.now)) }
 {
     match rest.split_first() {
         Some((Lexeme::Implies, right)) => sides(alloc, name, Family::Implication, left, right),
@@ -149,7 +152,7 @@ fn sides_of<'a>(
 }
 
 fn constraint_line<'a>(alloc: Global, lexemes: &[Lexeme<'a>]) -> Result<Statement<'a>, LineErr>
-    ensures { SaysLine result (constraint_line (map seen lexemes.entry.now)) }
+    ensures { SaysLine result (constraint_line (map lexeme_seen lexemes.entry.now)) }
 {
     match lexemes.split_first() {
         Some((Lexeme::Word(name), rest)) => {
@@ -165,7 +168,7 @@ pub(crate) fn statement_of<'a>(
     alloc: Global,
     lexemes: &[Lexeme<'a>],
 ) -> Result<Statement<'a>, LineErr>
-    ensures { SaysLine result (statement_of (map seen lexemes.entry.now)) }
+    ensures { SaysLine result (statement_of (map lexeme_seen lexemes.entry.now)) }
 {
     match lexemes.split_first() {
         Some((Lexeme::Word(key), rest)) => {

@@ -1,5 +1,6 @@
 -- What a constraint counts hangs on the sets of its types.
-use Rattle.std.proofs.Common.{◌≡◌, ℕ, zero, suc, ◌+◌, ◌*◌, ◌-◌, ◌≤◌, Bool, not, ◌&&◌, cond, List, [], ◌∷◌, ◌++◌, take, length, get_or, refl, sym, ap, ◌∙◌, arith}
+use Rattle.std.proofs.Common.{◌≡◌, ℕ, zero, suc, ◌+◌, ◌*◌, ◌-◌, ◌≤◌, Bool, not, ◌&&◌, cond, List, [], ◌∷◌, ◌++◌, take}
+use Rattle.std.proofs.Common.{length, get_or, refl, sym, ap, ◌∙◌, arith}
 use Rattle.std.specs.List.{list_all, list_any}
 use Rattle.tier_core.specs.declared.sym.Sym.{Sym}
 use Rattle.tier_core.specs.declared.event.Event.{Event}
@@ -8,7 +9,7 @@ use Rattle.tier_core.specs.declared.constraint.Family.TheVariants.{Implication, 
 use Rattle.tier_core.specs.Events.{Interval, meet, is_there}
 use Rattle.tier_core.specs.Kinds.{Phase, closed, unmet, met}
 use Rattle.tier_core.specs.Sides.{has_edge_type, edge_among, is_edge_part}
-use Rattle.tier_core.specs.Timelines.{word, column_at, symbol, is_edge}
+use Rattle.tier_core.specs.Timelines.{tier_word, column_at, symbol, is_edge}
 use Rattle.tier_core.proofs.CountLemmas.{bit}
 use Rattle.violation.specs.Columns.{is_present, edge_cost}
 use Rattle.violation.specs.Conditions.{IsCountable}
@@ -39,10 +40,10 @@ module _ (left right others more : List Event) (same_left : HasSame left others)
       let at : s ≡ t = last_same (edge_among left) (edge_among others)
       (λ column. same_any (λ e. is_edge (symbol column e.tier)) left others same_left) p (length p) in
       ap (λ b. cond b (cond (is_met_in p right (record { low = 2 * s + 1; high = 2 * length p - 1 })) met unmet) closed)
-      (same_all (λ e. is_open (word p e.tier)) left others same_left)
-      ∙ ap (λ (n : ℕ). cond (list_all (λ e. is_open (word p e.tier)) others)
+      (same_all (λ e. is_open (tier_word p e.tier)) left others same_left)
+      ∙ ap (λ (n : ℕ). cond (list_all (λ e. is_open (tier_word p e.tier)) others)
       (cond (is_met_in p right (record { low = 2 * n + 1; high = 2 * length p - 1 })) met unmet) closed) at
-      ∙ ap (λ b. cond (list_all (λ e. is_open (word p e.tier)) others) (cond b met unmet) closed)
+      ∙ ap (λ b. cond (list_all (λ e. is_open (tier_word p e.tier)) others) (cond b met unmet) closed)
       (same_any (meets_in p (record { low = 2 * t + 1; high = 2 * length p - 1 })) right more same_right)
 
   implication_same : (o : ℕ → Bool) (p : List (List Sym)) (column : List Sym)

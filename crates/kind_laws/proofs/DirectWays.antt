@@ -1,5 +1,6 @@
 -- Shortest ways pass no kind twice, and so they have fewer columns than there are kinds.
-use Rattle.std.proofs.Common.{◌≡◌, ◌≢◌, ⊎_elim, ℕ, zero, suc, ◌+◌, ◌-◌, ◌<◌, ◌≤◌, List, [], ◌∷◌, ◌++◌, take, drop, length, refl, sym, ap, ◌∙◌, subst, arith, append_assoc, take_at, Contains}
+use Rattle.std.proofs.Common.{◌≡◌, ◌≢◌, ⊎_elim, ℕ, zero, suc, ◌+◌, ◌-◌, ◌<◌, ◌≤◌, List, [], ◌∷◌, ◌++◌, take, drop}
+use Rattle.std.proofs.Common.{length, refl, sym, ap, ◌∙◌, subst, arith, append_assoc, take_at, Contains}
 use Rattle.std.specs.List.{AllByRecursion}
 use Rattle.std.specs.Prelude.{IsTrue}
 use Rattle.std.specs.Ordering.{ordering_then, is_le}
@@ -14,7 +15,7 @@ use Rattle.tier_core.specs.Orders.{IsFirst, column_cmp, timeline_cmp}
 use Rattle.tier_core.proofs.Differing.{Differ, no_longer}
 use Rattle.tier_core.proofs.Members.{all_at_member}
 use Rattle.violation.specs.Candidates.{IsCandidate, IsOptimalFor}
-use Rattle.violation.specs.Moves.{moved}
+use Rattle.violation.specs.Moves.{next_kind}
 use Rattle.violation.specs.Prefixes.{kind_of}
 use Rattle.violation.specs.Problems.{Problem}
 use Rattle.violation.specs.Stages.{IsStage, IsPassed, IsLeastRest, IsRemaining, AreKindsOfStage, Passes}
@@ -29,13 +30,13 @@ use Rattle.kind_laws.proofs.Seeking.{ComesTo, seek}
 passed_count : (problem : Problem) (s : ℕ) (way : List (List Sym)) (k : PrefixKind)
     → length (kinds_passed problem s k way) ≡ suc (length way)
 passed_count problem s [] k = refl
-passed_count problem s (column ∷ way) k = ap suc (passed_count problem s way (moved problem s k column))
+passed_count problem s (column ∷ way) k = ap suc (passed_count problem s way (next_kind problem s k column))
 
 module _ (problem : Problem) (r s : ℕ) (stage : IsStage problem s) where
   -- the move by the next column leads to the kind of the longer prefix
   leads : (p : List (List Sym)) (column : List Sym) (way : List (List Sym))
       → IsCandidate problem ((p ++ column ∷ []) ++ way)
-      → moved problem s (kind_of problem s p) column ≡ kind_of problem s (p ++ column ∷ [])
+      → next_kind problem s (kind_of problem s p) column ≡ kind_of problem s (p ++ column ∷ [])
   leads p column way c =
       moved_is problem s stage.split stage.form (over_stretches problem s stage) p column (way, c)
 

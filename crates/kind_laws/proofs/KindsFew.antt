@@ -1,11 +1,12 @@
 -- The kinds of a stage are among the names.
-use Rattle.std.proofs.Common.{ℕ, zero, suc, ◌+◌, ◌*◌, ◌^◌, ◌≤◌, Bool, true, false, cond, List, [], ◌∷◌, ◌++◌, map, filter, take, drop, length, sym, ap, subst, arith, Contains}
+use Rattle.std.proofs.Common.{ℕ, zero, suc, ◌+◌, ◌*◌, ◌^◌, ◌≤◌, Bool, true, false, cond, List, [], ◌∷◌, ◌++◌, map}
+use Rattle.std.proofs.Common.{filter, take, drop, length, sym, ap, subst, arith, Contains}
 use Rattle.std.proofs.lemmas.List.{length-take, take-append-drop}
 use Rattle.std.proofs.lemmas.Nat.{mul-le}
 use Rattle.tier_core.specs.declared.sym.Sym.{Sym}
 use Rattle.tier_core.specs.Kinds.{PrefixKind}
 use Rattle.tier_core.specs.Sides.{is_stretch}
-use Rattle.tier_core.specs.Timelines.{word}
+use Rattle.tier_core.specs.Timelines.{tier_word}
 use Rattle.violation.specs.Candidates.{IsCandidate}
 use Rattle.violation.specs.Prefixes.{is_open, phase, kind_of, stretches}
 use Rattle.violation.specs.Stages.{IsStage, IsKindOfStage, AreKindsOfStage}
@@ -19,10 +20,9 @@ use Rattle.kind_laws.proofs.Names.{names, name_count, name_in}
 
 module _ (problem : Problem) (r : ℕ) (stage : IsStage problem r) where
   module _ (p : List (List Sym)) (begun : IsBegun problem p) where
-
     prefix_named : Contains (names problem r) (kind_of problem r p)
     prefix_named =
-        name_in problem r (length (input_part problem.tiers p)) (λ t. is_open (word p t))
+        name_in problem r (length (input_part problem.tiers p)) (λ t. is_open (tier_word p t))
         (map (λ c. phase c.left c.right p) (stretches problem r))
         (omega (arith, ap length begun.place, length-take (length (input_part problem.tiers p)) problem.form))
         (phases_closed problem stage.split stage.form r p begun (stretches problem r)

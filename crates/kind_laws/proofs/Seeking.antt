@@ -5,9 +5,9 @@ use Rattle.tier_core.specs.declared.sym.Sym.{Sym}
 use Rattle.tier_core.specs.Kinds.{PrefixKind}
 use Rattle.tier_core.proofs.KindTies.{same_or_not}
 use Rattle.tier_core.proofs.Differing.{Differ}
-use Rattle.violation.specs.Moves.{moved}
+use Rattle.violation.specs.Moves.{next_kind}
 use Rattle.violation.specs.Problems.{Problem}
-use Rattle.violation.specs.Walks.{reached}
+use Rattle.violation.specs.Walks.{walk_end}
 use Rattle.kind_laws.specs.Ways.{kinds_passed}
 
 -- a way comes to a kind behind its front, and its back passes no kind twice
@@ -15,7 +15,7 @@ pub record ComesTo (problem : Problem) (s : ℕ) (k target : PrefixKind) (way : 
   pub front : List (List Sym)
   pub back : List (List Sym)
   pub is : way ≡ front ++ back
-  pub at : reached problem s k front ≡ target
+  pub at : walk_end problem s k front ≡ target
   pub once : Differ (kinds_passed problem s target back)
 
 module _ (problem : Problem) (s : ℕ) (target : PrefixKind) where
@@ -33,7 +33,7 @@ module _ (problem : Problem) (s : ℕ) (target : PrefixKind) where
   }
 
   later : (k : PrefixKind) (column : List Sym) (way : List (List Sym)) → k ≢ target
-      → ComesTo problem s (moved problem s k column) target way ⊎ PassesBy (moved problem s k column) way
+      → ComesTo problem s (next_kind problem s k column) target way ⊎ PassesBy (next_kind problem s k column) way
       → ComesTo problem s k target (column ∷ way) ⊎ PassesBy k (column ∷ way)
   later k column way n (inl c) = inl (record {
     front = column ∷ c.front;
@@ -51,10 +51,10 @@ module _ (problem : Problem) (s : ℕ) (target : PrefixKind) where
       step : (k ≡ target) ⊎ (k ≢ target) → ComesTo problem s k target [] ⊎ PassesBy k []
       step (inl e) = inl (here k [] e d)
       step (inr n) = inr ((λ e. n (sym e)), tt)
-  seek (column ∷ way) k d = step (same_or_not k target) (seek way (moved problem s k column) d.1)
+  seek (column ∷ way) k d = step (same_or_not k target) (seek way (next_kind problem s k column) d.1)
     where
       step : (k ≡ target) ⊎ (k ≢ target)
-          → ComesTo problem s (moved problem s k column) target way ⊎ PassesBy (moved problem s k column) way
+          → ComesTo problem s (next_kind problem s k column) target way ⊎ PassesBy (next_kind problem s k column) way
           → ComesTo problem s k target (column ∷ way) ⊎ PassesBy k (column ∷ way)
       step (inl e) rest = inl (here k (column ∷ way) e d)
       step (inr n) rest = later k column way n rest

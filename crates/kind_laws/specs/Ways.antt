@@ -3,7 +3,7 @@ use Rattle.std.specs.Prelude.{◌≢◌, ℕ, List, [], ◌∷◌, ◌++◌, Con
 use Rattle.tier_core.specs.declared.sym.Sym.{Sym}
 use Rattle.tier_core.specs.Kinds.{PrefixKind}
 use Rattle.violation.specs.Candidates.{IsOptimalFor}
-use Rattle.violation.specs.Moves.{moved}
+use Rattle.violation.specs.Moves.{next_kind}
 use Rattle.violation.specs.Prefixes.{kind_of}
 use Rattle.violation.specs.Problems.{Problem}
 use Rattle.violation.specs.Stages.{IsPassed}
@@ -11,7 +11,7 @@ use Rattle.violation.specs.Stages.{IsPassed}
 -- the kinds that the columns pass from a kind under the first s constraints, which is the first of them
 abbrev pub kinds_passed : Problem → ℕ → PrefixKind → List (List Sym) → List PrefixKind
 kinds_passed problem s k [] = k ∷ []
-kinds_passed problem s k (column ∷ columns) = k ∷ kinds_passed problem s (moved problem s k column) columns
+kinds_passed problem s k (column ∷ columns) = k ∷ kinds_passed problem s (next_kind problem s k column) columns
 
 -- The columns go on from the prefix p to an r-optimal candidate, and pass no kind twice under the first
 -- s constraints.

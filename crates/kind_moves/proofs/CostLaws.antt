@@ -1,5 +1,7 @@
 -- What the moves of a frame cost in all.
-use Rattle.std.proofs.Common.{◌≡◌, ◌++◌, ◌+◌, ◌<◌, ◌≤◌, ◌^◌, ℕ, zero, suc, Bool, cond, List, [], ◌∷◌, map, filter, take, drop, length, get_or, refl, sym, ap, ◌∙◌, subst, arith, append-nil, append_assoc, length-take}
+use Rattle.std.proofs.Common.{◌≡◌, ◌++◌, ◌+◌, ◌<◌, ◌≤◌, ◌^◌, ℕ, zero, suc, Bool, cond, List, [], ◌∷◌, map, filter, take}
+use Rattle.std.proofs.Common.{drop, length, get_or, refl, sym, ap, ◌∙◌, subst, arith, append-nil, append_assoc}
+use Rattle.std.proofs.Common.{length-take}
 use Rattle.std.specs.List.{AllByRecursion}
 use Rattle.std.proofs.lemmas.List.{length_push, get_or-take}
 use Rattle.std.proofs.lemmas.List.Elements.{All-from_recursion}
@@ -14,7 +16,7 @@ use Rattle.grammar_reader.proofs.OverTiers.{over_tiers}
 use Rattle.violation.specs.Candidates.{IsForm, IsCandidate, counts_on}
 use Rattle.violation.specs.Conditions.{AreSplit, IsOverTiers}
 use Rattle.violation.specs.Counts.{violations_so_far}
-use Rattle.violation.specs.Moves.{costs, first_phase, is_tier_open, is_unmet_phase, move_costs, moved}
+use Rattle.violation.specs.Moves.{costs, first_phase, is_tier_open, is_unmet_phase, move_costs, next_kind}
 use Rattle.violation.specs.Prefixes.{kind_of, stretches}
 use Rattle.violation.specs.Walks.{walk_costs, add_each}
 use Rattle.violation.proofs.CostLemmas.{costs_agree, add_assoc_each, length_walk, move_adds, costs_sum, add_none}
@@ -95,7 +97,7 @@ module _ (problem : Problem) (r : ℕ) (split : AreSplit problem.tiers) (form : 
       ∙ add_nothing (λ c. violations_so_far c T (length p)) (take r problem.constraints)
   costs_so_far (column ∷ q) p w T e c =
       let on : T ≡ (p ++ column ∷ []) ++ (q ++ w) = e ∙ sym (append_assoc p (column ∷ []) (q ++ w)) in
-      let next : moved problem r (kind_of problem r p) column ≡ kind_of problem r (p ++ column ∷ []) =
+      let next : next_kind problem r (kind_of problem r p) column ≡ kind_of problem r (p ++ column ∷ []) =
       moved_is problem r split form stretches_over p column (q ++ w, subst (IsCandidate problem) on c) in
       let size : length (p ++ column ∷ []) ≡ suc (length p) = omega (arith, length_push p column) in
       ap (λ (x : List (List Sym)). map (λ c. violations_so_far c T (length x)) (take r problem.constraints))

@@ -1,7 +1,9 @@
 -- The pieces of a class that fit a kind.
-use Rattle.std.proofs.Common.{◌≡◌, ◌↔◌, ◌⊎◌, ℕ, ◌+◌, ◌<◌, Bool, true, false, not, ◌&&◌, ◌||◌, IsTrue, List, [], ◌∷◌, ◌++◌, map, length, refl, ap, sym, ◌∙◌, subst, arith, ⊎_elim, inl, inr, All}
+use Rattle.std.proofs.Common.{◌≡◌, ◌↔◌, ◌⊎◌, ℕ, ◌+◌, ◌<◌, Bool, true, false, not, ◌&&◌, ◌||◌, IsTrue, List, [], ◌∷◌}
+use Rattle.std.proofs.Common.{◌++◌, map, length, refl, ap, sym, ◌∙◌, subst, arith, ⊎_elim, inl, inr, All}
 use Rattle.std.specs.List.{AllByRecursion}
-use Rattle.std.proofs.lemmas.Bool.{false≢true, both_ways, and_parts, and_from, or_cases, or_left, or_right, and_right, not-true, false_from_ne_true, cases_Bool}
+use Rattle.std.proofs.lemmas.Bool.{false≢true, both_ways, and_parts, and_from, or_cases, or_left, or_right, and_right}
+use Rattle.std.proofs.lemmas.Bool.{not-true, false_from_ne_true, cases_Bool}
 use Rattle.std.proofs.lemmas.List.Elements.{All-from_recursion}
 use Rattle.tier_core.specs.declared.class.Class.{Class}
 use Rattle.tier_core.specs.declared.kind.Kind.{Kind}
@@ -158,7 +160,7 @@ module _ {frame : Frame} {kind : Kind} {class following still bare : Class} {mas
       let in_class = ((parted.follows column).0 parts.0).0 in
       let edge : has_edge column ≡ true = ⊎_elim (λ y. y) (λ none. absurd
       (both_ways (has bare column) (not-true (has bare column)
-          (and_parts (has still column) (not (has bare column)) h).1)
+      (and_parts (has still column) (not (has bare column)) h).1)
       ((parted.has_bare column).1 (
         s,
         λ t l. each_edgeless column none t
@@ -231,7 +233,7 @@ module _ {frame : Frame} {kind : Kind} {class following still bare : Class} {mas
         (subst (λ n. AddsClasses n one two (λ column. once_if (reads column && not (has still column)))) also
         second)
         (λ column h. read_here column ((parted.has_read column).0
-            (and_parts (reads column) (not (has still column)) h).0).0
+        (and_parts (reads column) (not (has still column)) h).0).0
         h))
         (λ column. refl)
 

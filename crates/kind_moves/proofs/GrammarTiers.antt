@@ -4,7 +4,7 @@ use Rattle.std.proofs.Math.Logic.{∥∥₁_elim}
 use Rattle.std.specs.List.{AllByRecursion}
 use Rattle.std.proofs.lemmas.List.Elements.{All-from_recursion, recursion_from_All}
 use Rattle.std.proofs.Props.{props}
-use Rattle.tier_core.specs.Timelines.{word, has_edge}
+use Rattle.tier_core.specs.Timelines.{tier_word, has_edge}
 use Rattle.tier_core.specs.Sides.{is_stretch}
 use Rattle.tier_core.proofs.WordLemmas.{runs}
 use Rattle.tier_core.proofs.WordForm.{runs_from_well_formed, well_formed_from_runs}
@@ -28,9 +28,9 @@ form_from problem h = record {
         (λ k d l. let one : IsProp (length (get_or problem.form k d) ≡ length problem.tiers.input) = hlevel props in
         ∥∥₁_elim h one (λ f. All-from_recursion (λ column. length column
         ≡ length problem.tiers.input) problem.form f.well_formed.one_width k d l));
-    each_tier = λ t l. let one : IsProp (runs false (word problem.form t) ≡ true) = hlevel props in
-        well_formed_from_runs (word problem.form t) (∥∥₁_elim h one
-        (λ f. runs_from_well_formed (word problem.form t) (f.well_formed.each_tier t l)));
+    each_tier = λ t l. let one : IsProp (runs false (tier_word problem.form t) ≡ true) = hlevel props in
+        well_formed_from_runs (tier_word problem.form t) (∥∥₁_elim h one
+        (λ f. runs_from_well_formed (tier_word problem.form t) (f.well_formed.each_tier t l)));
   };
   reduced = recursion_from_All (λ column. IsTrue (has_edge column)) problem.form
       (λ k d l. let one : IsProp (has_edge (get_or problem.form k d) ≡ true) = hlevel props in

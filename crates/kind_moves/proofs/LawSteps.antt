@@ -1,5 +1,6 @@
 -- Moves of a frame are those of candidates.
-use Rattle.std.proofs.Common.{◌≡◌, ◌↔◌, ℕ, ◌+◌, ◌^◌, ◌<◌, ◌≤◌, ◌==◌, suc, Bool, true, false, cond, IsTrue, List, [], ◌∷◌, map, length, refl, ap, sym, ◌∙◌, subst, arith, ⊎_elim}
+use Rattle.std.proofs.Common.{◌≡◌, ◌↔◌, ℕ, ◌+◌, ◌^◌, ◌<◌, ◌≤◌, ◌==◌, suc, Bool, true, false, cond, IsTrue, List, []}
+use Rattle.std.proofs.Common.{◌∷◌, map, length, refl, ap, sym, ◌∙◌, subst, arith, ⊎_elim}
 use Rattle.std.specs.List.{range_with_len, AllByRecursion}
 use Rattle.std.proofs.lemmas.Bool.{false≢true}
 use Rattle.std.proofs.lemmas.List.{length-map}
@@ -14,15 +15,16 @@ use Rattle.tier_core.specs.Timelines.{symbol, has_edge}
 use Rattle.tier_core.specs.Tiers.{has_tier}
 use Rattle.violation.specs.Candidates.{IsForm, IsCandidate}
 use Rattle.violation.specs.Conditions.{AreSplit, IsOverTiers}
-use Rattle.violation.specs.Moves.{FitsKind, input_of, is_final, moved, next_phases}
+use Rattle.violation.specs.Moves.{FitsKind, input_of, is_final, next_kind, next_phases}
 use Rattle.violation.specs.Prefixes.{kind_of, phase}
-use Rattle.violation.specs.Walks.{HasMoves, reached, BeginsCandidate}
+use Rattle.violation.specs.Walks.{HasMoves, walk_end, BeginsCandidate}
 use Rattle.violation.proofs.PrefixLemmas.{nothing_begun, tier_open_is}
 use Rattle.violation.proofs.SplitLemmas.{tiers_split}
 use Rattle.tier_core.proofs.KindTies.{same_parts}
 use Rattle.violation.proofs.WalkLemmas.{moves_begin, moves_end, reached_is}
 use Rattle.kind_moves.specs.declared.frame.Frame.{Frame}
-use Rattle.kind_moves.specs.Frames.{tiers_in, form_in, stretches_in, kind_at_stage, is_left_open, AreClosedOr, FitsAt, FitsFrame, IsMove, IsStart}
+use Rattle.kind_moves.specs.Frames.{tiers_in, form_in, stretches_in, kind_at_stage, is_left_open, AreClosedOr, FitsAt}
+use Rattle.kind_moves.specs.Frames.{FitsFrame, IsMove, IsStart}
 use Rattle.kind_moves.specs.Laws.{LeadsTo}
 use Rattle.tier_core.specs.PhaseBits.{phases_by}
 use Rattle.kind_moves.proofs.GrammarTiers.{over_stretches, form_from}
@@ -79,14 +81,14 @@ module _ (frame : Frame) (stage : ℕ) where
   pub is_move : (kind next : Kind) (column : List Sym) → FitsFrame frame stage kind → FitsAt frame stage kind column
       → next.place ≡ kind.place + cond (has_edge (input_of (tiers_in frame) column)) 1 0
       → open_tiers (length (tiers_in frame).free) next.opened
-      ≡ (moved (problem_in frame) stage (kind_at_stage frame stage kind) column).opened
+      ≡ (next_kind (problem_in frame) stage (kind_at_stage frame stage kind) column).opened
       → phases (length (stretches_in frame stage)) next ≡ next_phases (stretches_in frame stage)
       (kind_at_stage frame stage kind).phases column
       → next.opened < 2 ^ length (tiers_in frame).free → AreStretchesBelow (length (stretches_in frame stage)) next
       → IsMove frame stage kind column next
   is_move kind next column fits column_fits place opened phase_list within below =
       let k = kind_at_stage frame stage kind in
-      let leads : kind_at_stage frame stage next ≡ moved (problem_in frame) stage k column = same_parts _ _ _ _ _ _
+      let leads : kind_at_stage frame stage next ≡ next_kind (problem_in frame) stage k column = same_parts _ _ _ _ _ _
       place opened phase_list in
       let room = place_next k column fits.place column_fits (has_edge (input_of (tiers_in frame) column)) refl in
       let P : PrefixKind → Type 0 = λ x. AreClosedOr (is_left_open (problem_in frame) x)
@@ -109,7 +111,7 @@ module _ (frame : Frame) (stage : ℕ) where
       → (next : Kind) × IsMove frame stage kind column next
   some_move kind column fits column_fits =
       let k = kind_at_stage frame stage kind in
-      let m = moved (problem_in frame) stage k column in
+      let m = next_kind (problem_in frame) stage k column in
       let next : (kind : Kind) × AreBitsOf (length (tiers_in frame).free) (length (stretches_in frame stage)) m kind =
       kind_for (length (tiers_in frame).free) (length (stretches_in frame stage)) m
       (length-map (tiers_in frame).free (λ t. opens (symbol column t)))
@@ -155,14 +157,14 @@ module _ (frame : Frame) (stage : ℕ) where
   -- moves by columns are moves of kinds of prefixes
   walk_of : (p : List (List Sym)) (kind last : Kind) → LeadsTo frame stage kind p last
       → HasMoves (problem_in frame) stage (kind_at_stage frame stage kind) p
-      × (reached (problem_in frame) stage (kind_at_stage frame stage kind) p ≡ kind_at_stage frame stage last)
+      × (walk_end (problem_in frame) stage (kind_at_stage frame stage kind) p ≡ kind_at_stage frame stage last)
   walk_of [] kind last e = (tt, ap (kind_at_stage frame stage) e)
   walk_of (column ∷ p) kind last h =
       let next : Kind = h.0 in
       let move : IsMove frame stage kind column next = h.1.0 in
       let rest = walk_of p next last h.1.1 in (
         (move.column_fits, subst (λ k. HasMoves (problem_in frame) stage k p) move.leads rest.0),
-        ap (λ k. reached (problem_in frame) stage k p) (sym move.leads) ∙ rest.1,
+        ap (λ k. walk_end (problem_in frame) stage k p) (sym move.leads) ∙ rest.1,
       )
 
   -- and these are told by bits
@@ -181,11 +183,11 @@ module _ (frame : Frame) (stage : ℕ) where
     -- from the start
     first_walk : (p : List (List Sym)) (last : Kind) → LeadsTo frame stage start p last
         → HasMoves (problem_in frame) stage (kind_of (problem_in frame) stage []) p
-        × (reached (problem_in frame) stage (kind_of (problem_in frame) stage []) p ≡ kind_at_stage frame stage last)
+        × (walk_end (problem_in frame) stage (kind_of (problem_in frame) stage []) p ≡ kind_at_stage frame stage last)
     first_walk p last h =
         let w = walk_of p start last h in (
           subst (λ k. HasMoves (problem_in frame) stage k p) is_first.is w.0,
-          ap (λ k. reached (problem_in frame) stage k p) (sym is_first.is) ∙ w.1,
+          ap (λ k. walk_end (problem_in frame) stage k p) (sym is_first.is) ∙ w.1,
         )
 
     first_by_bits : (p : List (List Sym)) → HasMoves (problem_in frame) stage (kind_of (problem_in frame) stage []) p

@@ -1,5 +1,7 @@
 -- Pieces by the free tiers that their columns leave open.
-use Rattle.std.proofs.Common.{◌≡◌, ◌↔◌, ℕ, ◌+◌, ◌^◌, ◌<◌, ◌≤◌, nat_lt, Bool, true, false, not, ◌&&◌, cond, IsTrue, List, [], ◌∷◌, ◌++◌, map, length, get_or, refl, ap, ap₂, sym, ◌∙◌, subst, arith, ⊎_elim, append_assoc, All}
+use Rattle.std.proofs.Common.{◌≡◌, ◌↔◌, ℕ, ◌+◌, ◌^◌, ◌<◌, ◌≤◌, nat_lt, Bool, true, false, not, ◌&&◌, cond, IsTrue, List}
+use Rattle.std.proofs.Common.{[], ◌∷◌, ◌++◌, map, length, get_or, refl, ap, ap₂, sym, ◌∙◌, subst, arith, ⊎_elim}
+use Rattle.std.proofs.Common.{append_assoc, All}
 use Rattle.std.proofs.lemmas.Bool.{false≢true, and_parts, cases_lt, lt-ltb, le-ltb}
 use Rattle.std.proofs.lemmas.List.{append-nil, map-append, length-map, get_or-map}
 use Rattle.std.proofs.lemmas.List.Elements.{All-nil, All-append, All-map}
@@ -19,14 +21,14 @@ use Rattle.kind_moves.specs.declared.frame.Frame.{Frame}
 use Rattle.kind_moves.specs.declared.piece.Piece.{Piece}
 use Rattle.kind_moves.specs.Frames.{tiers_in, FitsAt, FitsFrame}
 use Rattle.kind_moves.specs.Leaving.{opened_among, led_to, AddsLed, LeavesOpen, AddsLeaving}
-use Rattle.kind_moves.specs.Pieces.{classes_of, IsPiece}
+use Rattle.kind_moves.specs.Pieces.{piece_classes, IsPiece}
 use Rattle.kind_moves.proofs.LawSteps.{is_move}
 use Rattle.kind_moves.proofs.LeavingSteps.{left_number, number_below, flags_by_number}
 use Rattle.kind_moves.proofs.PieceSteps.{free_cost}
 
 -- ---- pieces that lead to one kind
 
-pub classes_led : (target : Kind) (classes : List Class) → classes_of (map (led_to target) classes) ≡ classes
+pub classes_led : (target : Kind) (classes : List Class) → piece_classes (map (led_to target) classes) ≡ classes
 classes_led target [] = refl
 classes_led target (class ∷ classes) = ap (λ cs. class ∷ cs) (classes_led target classes)
 
@@ -154,8 +156,8 @@ module _ (frame : Frame) (a b : Class) (place : ℕ) (old : List Piece) where
             }));
         held = λ column. ap (λ cs. times_held cs column)
             (map-append (λ (p : Piece). p.class) so_far.added (map (led_to target) led.classes)
-            ∙ ap (λ cs. classes_of so_far.added ++ cs) (classes_led target led.classes))
-            ∙ times-append (classes_of so_far.added) led.classes column
+            ∙ ap (λ cs. piece_classes so_far.added ++ cs) (classes_led target led.classes))
+            ∙ times-append (piece_classes so_far.added) led.classes column
             ∙ ap₂ (λ x y. x + y) (so_far.held column) (led.held column)
             ∙ one_number (has a column) (has b column) (has box column) (left_number free column) n (
               λ h. let p = (columns column).0 h in (p.0, (flags_by_number free column n few).0 p.1),
@@ -179,10 +181,10 @@ module _ (frame : Frame) (a b : Class) (place : ℕ) (old : List Piece) where
 
 pub classes_added : (frame : Frame) (place : ℕ) (old new : List Piece) (times : List Sym → ℕ)
     → AddsLeaving frame place old new times
-    → AddsClasses (tiers_in frame).width (classes_of old) (classes_of new) times
+    → AddsClasses (tiers_in frame).width (piece_classes old) (piece_classes new) times
 classes_added frame place old new times adds = record {
-  added = classes_of adds.added;
-  new_is = ap classes_of adds.new_is ∙ map-append (λ (p : Piece). p.class) old adds.added;
+  added = piece_classes adds.added;
+  new_is = ap piece_classes adds.new_is ∙ map-append (λ (p : Piece). p.class) old adds.added;
   one_width = All-map (λ c. length (sets_of c) ≡ (tiers_in frame).width) (λ (p : Piece). p.class) adds.added
       (λ k d l. (adds.each k d l).wide);
   filled = All-map (λ c. IsTrue (is_filled c)) (λ (p : Piece). p.class) adds.added
@@ -219,6 +221,6 @@ leaving_pieces frame kind place read old new holds fits next goes adds so_far =
   where
     in_added : (k : ℕ) (d : Piece) → k < length adds.added → (column : List Sym)
         → has (get_or adds.added k d).class column ≡ true → holds column ≡ true
-    in_added k d l column h = held_in (classes_of adds.added) holds adds.held k d.class
+    in_added k d l column h = held_in (piece_classes adds.added) holds adds.held k d.class
         (omega (arith, l, length-map adds.added (λ (p : Piece). p.class))) column
         (ap (λ c. has c column) (get_or-map (λ (p : Piece). p.class) adds.added k d d.class l) ∙ h)

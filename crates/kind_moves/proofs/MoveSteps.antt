@@ -1,5 +1,6 @@
 -- Which tiers are open after a move, and which phases are closed.
-use Rattle.std.proofs.Common.{◌≡◌, ℕ, zero, suc, ◌+◌, ◌<◌, ◌||◌, ◌&&◌, not, Bool, true, false, cond, List, [], ◌∷◌, map, take, length, get_or, refl, ap, sym, ◌∙◌, arith, ⊎_elim, Contains}
+use Rattle.std.proofs.Common.{◌≡◌, ℕ, zero, suc, ◌+◌, ◌<◌, ◌||◌, ◌&&◌, not, Bool, true, false, cond, List, [], ◌∷◌, map}
+use Rattle.std.proofs.Common.{take, length, get_or, refl, ap, sym, ◌∙◌, arith, ⊎_elim, Contains}
 use Rattle.std.specs.List.{AllByRecursion, list_all}
 use Rattle.std.proofs.lemmas.Bool.{false≢true}
 use Rattle.std.proofs.lemmas.List.{length-map, get_or-map}
@@ -11,14 +12,15 @@ use Rattle.tier_core.specs.declared.event.Event.{Event}
 use Rattle.tier_core.specs.declared.constraint.Constraint.{Constraint}
 use Rattle.tier_core.specs.Kinds.{Phase, closed, unmet, met, PrefixKind}
 use Rattle.tier_core.specs.Scan.{fits, opens}
-use Rattle.tier_core.specs.Timelines.{word, symbol, is_edge, has_edge}
+use Rattle.tier_core.specs.Timelines.{tier_word, symbol, is_edge, has_edge}
 use Rattle.tier_core.proofs.CountLemmas.{all_weaker}
 use Rattle.tier_core.proofs.Bools.{or_false}
 use Rattle.tier_core.proofs.EdgeLemmas.{each_edgeless}
 use Rattle.violation.specs.Candidates.{IsForm}
 use Rattle.violation.specs.Columns.{opens_all}
 use Rattle.violation.specs.Conditions.{AreSplit, AreTiersBelow, IsOverTiers}
-use Rattle.violation.specs.Moves.{FitsKind, flag_of, form_opened, is_tier_open, input_of, moved, next_phase, next_phases}
+use Rattle.violation.specs.Moves.{FitsKind, flag_of, form_opened, is_tier_open, input_of, next_kind, next_phase}
+use Rattle.violation.specs.Moves.{next_phases}
 use Rattle.violation.specs.Prefixes.{is_open, phase}
 use Rattle.violation.proofs.CountSteps.{all_agree}
 use Rattle.violation.proofs.TierLemmas.{flag_in, flag_out, flag_at}
@@ -44,13 +46,14 @@ module _ (problem : Problem) (split : AreSplit problem.tiers) (form : IsForm pro
   -- the input tiers that are open at the next place
   input_open_next : (e : Bool) → has_edge (input_of problem.tiers column) ≡ e → (j : ℕ)
       → j < length problem.tiers.input
-      → is_open (word (take (k.place + cond e 1 0) problem.form) j)
+      → is_open (tier_word (take (k.place + cond e 1 0) problem.form) j)
       ≡ opens (symbol column (get_or problem.tiers.input j 0))
   input_open_next true e j l = ⊎_elim
       (λ none. absurd (false≢true (sym none ∙ e)))
       (λ some.
       let next : k.place + 1 ≡ suc k.place = omega arith in
-      ap (λ n. is_open (word (take n problem.form) j)) next ∙ form_open_after problem.tiers problem.form form k.place
+      ap (λ n. is_open (tier_word (take n problem.form) j)) next
+      ∙ form_open_after problem.tiers problem.form form k.place
       j some.0 l
       ∙ ap (λ (c : List Sym). opens (symbol c j)) (sym some.1)
       ∙ ap opens (get_or-map (symbol column) problem.tiers.input j 0 Outside l))
@@ -61,16 +64,16 @@ module _ (problem : Problem) (split : AreSplit problem.tiers) (form : IsForm pro
       let listed : Contains problem.tiers.input t = (j, l, get_or-same problem.tiers.input j 0 t l) in
       let below : t < problem.tiers.width = All-from_recursion
       (λ t. t < problem.tiers.width) problem.tiers.input split.inputs_below j 0 l in
-      let tier : is_tier_open problem k t ≡ is_open (word (take k.place problem.form) j) =
+      let tier : is_tier_open problem k t ≡ is_open (tier_word (take k.place problem.form) j) =
       ap (λ b. flag_of problem.tiers.input (form_opened problem.tiers problem.form k.place) t || b)
       (flag_out problem.tiers.free k.opened t (λ d. split.apart t listed d))
       ∙ or_false (flag_of problem.tiers.input (form_opened problem.tiers problem.form k.place) t)
       ∙ flag_at problem.tiers.input (form_opened problem.tiers problem.form k.place) j split.distinct l
-      ∙ get_or-map-range_with_len (λ j. is_open (word (take k.place problem.form) j)) 0
+      ∙ get_or-map-range_with_len (λ j. is_open (tier_word (take k.place problem.form) j)) 0
       (length problem.tiers.input) j j false l (omega arith) in
       let size : length (input_of problem.tiers column) ≡ length problem.tiers.input = length-map problem.tiers.input
       (symbol column) in
-      ap (λ n. is_open (word (take n problem.form) j)) here ∙ sym tier
+      ap (λ n. is_open (tier_word (take n problem.form) j)) here ∙ sym tier
       ∙ stays (is_tier_open problem k t) (symbol column t) (f.symbols t below)
       (ap is_edge (sym (get_or-map (symbol column) problem.tiers.input j 0 Outside l))
       ∙ each_edgeless (input_of problem.tiers column) e j (omega arith))
@@ -81,12 +84,12 @@ module _ (problem : Problem) (split : AreSplit problem.tiers) (form : IsForm pro
       get_or-same (x ∷ xs) (suc i) d e l = get_or-same xs i d e (omega arith)
 
   -- after a move a tier is open where its symbol opens it
-  pub open_next : (r t : ℕ) → t < problem.tiers.width → is_tier_open problem (moved problem r k column) t
+  pub open_next : (r t : ℕ) → t < problem.tiers.width → is_tier_open problem (next_kind problem r k column) t
       ≡ opens (symbol column t)
   open_next r t l =
-      let inputs : form_opened problem.tiers problem.form (moved problem r k column).place
+      let inputs : form_opened problem.tiers problem.form (next_kind problem r k column).place
       ≡ map (λ t. opens (symbol column t)) problem.tiers.input =
-      sym (fill_by_all (λ j. is_open (word (take (moved problem r k column).place problem.form) j))
+      sym (fill_by_all (λ j. is_open (tier_word (take (next_kind problem r k column).place problem.form) j))
       (map (λ t. opens (symbol column t)) problem.tiers.input) (length problem.tiers.input) false
       (length-map problem.tiers.input (λ t. opens (symbol column t)))
       (λ j h. get_or-map (λ t. opens (symbol column t)) problem.tiers.input j 0 false h
@@ -108,8 +111,8 @@ module _ (problem : Problem) (split : AreSplit problem.tiers) (form : IsForm pro
       (split.each t l)
 
   left_next : (r : ℕ) (c : Constraint) → IsOverTiers problem.tiers.width c
-      → is_left_open problem (moved problem r k column) c ≡ opens_all c.left column
-  left_next r c o = all_agree (λ e. is_tier_open problem (moved problem r k column) e.tier)
+      → is_left_open problem (next_kind problem r k column) c ≡ opens_all c.left column
+  left_next r c o = all_agree (λ e. is_tier_open problem (next_kind problem r k column) e.tier)
       (λ e. opens (symbol column e.tier)) c.left
       (all_weaker (λ e. e.tier < problem.tiers.width) _ c.left (λ e l. open_next r e.tier l) o.left_below)
 
@@ -125,7 +128,7 @@ module _ (problem : Problem) (split : AreSplit problem.tiers) (form : IsForm pro
   -- after a move a phase is closed where a left tier is
   pub phases_next : (r : ℕ) (cs : List Constraint) (is_before : Constraint → Bool) (phases : List Phase)
       → AllByRecursion (IsOverTiers problem.tiers.width) cs → AreClosedOr is_before cs phases
-      → AreClosedOr (is_left_open problem (moved problem r k column)) cs (next_phases cs phases column)
+      → AreClosedOr (is_left_open problem (next_kind problem r k column)) cs (next_phases cs phases column)
   phases_next r [] is_before [] o h = tt
   phases_next r [] is_before (p ∷ ps) o h = absurd h
   phases_next r (c ∷ cs) is_before [] o h = absurd h

@@ -1,5 +1,6 @@
 -- The masks of the tiers of a table, and which input tiers are open at the places of a form.
-use Rattle.std.proofs.Common.{◌≡◌, ◌↔◌, ℕ, suc, ◌^◌, ◌==◌, ◌<◌, ◌≤◌, ◌||◌, Bool, true, false, cond, IsTrue, List, [], ◌∷◌, map, take, length, get_or, refl, ap, sym, ◌∙◌, arith, bit_or}
+use Rattle.std.proofs.Common.{◌≡◌, ◌↔◌, ℕ, suc, ◌^◌, ◌==◌, ◌<◌, ◌≤◌, ◌||◌, Bool, true, false, cond, IsTrue, List, []}
+use Rattle.std.proofs.Common.{◌∷◌, map, take, length, get_or, refl, ap, sym, ◌∙◌, arith, bit_or}
 use Rattle.std.specs.List.{range_with_len}
 use Rattle.std.proofs.lemmas.Bool.{false≢true}
 use Rattle.std.proofs.lemmas.List.{length-map, get_or-map}
@@ -12,7 +13,7 @@ use Rattle.tier_core.specs.declared.tier.TierKind.{TierKind}
 use Rattle.tier_core.specs.declared.tier.TierKind.TheVariants.{Input, Overt, Hidden}
 use Rattle.tier_core.specs.Kinds.{open_tiers}
 use Rattle.tier_core.specs.Scan.{opens}
-use Rattle.tier_core.specs.Timelines.{word, symbol, column_at}
+use Rattle.tier_core.specs.Timelines.{tier_word, symbol, column_at}
 use Rattle.tier_core.specs.Tiers.{Tiers, is_free, is_overt, kind_at, has_tier, tiers_of, numbers_from}
 use Rattle.tier_core.proofs.TableMasks.{IsMaskOf, tiers_of_mask, mask_of_kind, overt_alone}
 use Rattle.tier_core.proofs.WordLemmas.{open_suc}
@@ -79,12 +80,12 @@ open_first tiers u t = ap (λ b. b == 1) (bit_at-zero t) ∙ sym (flag_false tie
 -- an input tier is open after the columns of a form where its symbol in the last of these opens it
 pub form_open_after : (tiers : Tiers) (u : List (List Sym)) → IsForm tiers u → (p j : ℕ) → p < length u
     → j < length tiers.input
-    → is_open (word (take (suc p) u) j) ≡ opens (symbol (column_at u p) j)
+    → is_open (tier_word (take (suc p) u) j) ≡ opens (symbol (column_at u p) j)
 form_open_after tiers u form p j l h =
-    let well = runs_from_well_formed (word u j) (form.well_formed.each_tier j h) in
-    let size : length (word u j) ≡ length u = length-map u (λ (column : List Sym). symbol column j) in
-    ap is_open (take_word u (suc p) j) ∙ prefix_open (word u j) (suc p) well (omega arith)
-    ∙ open_suc false (word u j) p (omega arith)
+    let well = runs_from_well_formed (tier_word u j) (form.well_formed.each_tier j h) in
+    let size : length (tier_word u j) ≡ length u = length-map u (λ (column : List Sym). symbol column j) in
+    ap is_open (take_word u (suc p) j) ∙ prefix_open (tier_word u j) (suc p) well (omega arith)
+    ∙ open_suc false (tier_word u j) p (omega arith)
     ∙ ap opens (get_or-map (λ column. symbol column j) u p [] Outside l)
 
 -- the flags of a mask that has the tiers which a column opens, laid out on the input tiers
@@ -96,8 +97,8 @@ pub open_later : (tiers : Tiers) (u : List (List Sym)) → IsForm tiers u → (p
 open_later tiers u form p inputs opened mask l e bits laid t =
     let flags : form_opened tiers u (suc p) ≡ open_tiers (length tiers.input) opened =
     fill_by_all (has_tier opened) (form_opened tiers u (suc p)) (length tiers.input) false
-    (length-map-range_with_len (λ j. is_open (word (take (suc p) u) j)) 0 (length tiers.input))
-    (λ j h. get_or-map-range_with_len (λ j. is_open (word (take (suc p) u) j)) 0 (length tiers.input) j j false h
+    (length-map-range_with_len (λ j. is_open (tier_word (take (suc p) u) j)) 0 (length tiers.input))
+    (λ j h. get_or-map-range_with_len (λ j. is_open (tier_word (take (suc p) u) j)) 0 (length tiers.input) j j false h
     (omega arith) ∙ form_open_after tiers u form p j l h ∙ sym (bits j)) in
     laid t ∙ ap (λ ts. flag_of ts (open_tiers (length ts) opened) t) e
     ∙ ap (λ fs. flag_of tiers.input fs t) (sym flags)

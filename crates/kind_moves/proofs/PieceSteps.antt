@@ -1,5 +1,6 @@
 -- Pieces all columns of which go on alike.
-use Rattle.std.proofs.Common.{◌≡◌, ℕ, ◌+◌, ◌-◌, ◌<◌, Bool, cond, List, [], ◌∷◌, map, take, length, get_or, refl, ap, sym, ◌∙◌, subst, All}
+use Rattle.std.proofs.Common.{◌≡◌, ℕ, ◌+◌, ◌-◌, ◌<◌, Bool, cond, List, [], ◌∷◌, map, take, length, get_or, refl, ap}
+use Rattle.std.proofs.Common.{sym, ◌∙◌, subst, All}
 use Rattle.std.specs.List.{AllByRecursion}
 use Rattle.std.proofs.lemmas.Bool.{eq-eqb, ne_eqb}
 use Rattle.std.proofs.lemmas.List.Elements.{All-take, All-from_recursion}
@@ -16,7 +17,7 @@ use Rattle.symbol_class.proofs.PartSteps.{parted_same, parted_then}
 use Rattle.symbol_class.proofs.Times.{some_from_same}
 use Rattle.grammar_reader.proofs.OverTiers.{over_tiers}
 use Rattle.violation.specs.Conditions.{IsOverTiers}
-use Rattle.violation.specs.Moves.{input_of, move_costs, moved, next_phases}
+use Rattle.violation.specs.Moves.{input_of, move_costs, next_kind, next_phases}
 use Rattle.violation.proofs.SplitLemmas.{tiers_split}
 use Rattle.kind_moves.specs.declared.frame.Frame.{Frame}
 use Rattle.kind_moves.specs.Fitting.{AreFitting, IsReadAlike}
@@ -58,8 +59,8 @@ module _ (frame : Frame) (stage : ℕ) (kind : Kind) where
 
   same_moved : (c d : List Sym) → is_read c ≡ is_read d → opened_by (tiers_in frame).width c
       ≡ opened_by (tiers_in frame).width d → phases_then c ≡ phases_then d
-      → moved (problem_in frame) stage (kind_at_stage frame stage kind) c
-      ≡ moved (problem_in frame) stage (kind_at_stage frame stage kind) d
+      → next_kind (problem_in frame) stage (kind_at_stage frame stage kind) c
+      ≡ next_kind (problem_in frame) stage (kind_at_stage frame stage kind) d
   same_moved c d read opened phased =
       ap (λ b. kind_of_parts (kind.place + cond b 1 0) (map (λ t. opens (symbol c t)) (tiers_in frame).free)
       (phases_then c)) read
@@ -72,11 +73,11 @@ module _ (frame : Frame) (stage : ℕ) (kind : Kind) where
   pub parted_moves : (xs ys zs : List Class) → ArePieces (tiers_in frame).width xs → All (IsReadAlike frame) xs
       → ArePartedBy (tiers_in frame).width (opened_by (tiers_in frame).width) xs ys
       → ArePartedBy (tiers_in frame).width phases_then ys zs
-      → ArePartedBy (tiers_in frame).width (moved (problem_in frame) stage (kind_at_stage frame stage kind)) xs zs
+      → ArePartedBy (tiers_in frame).width (next_kind (problem_in frame) stage (kind_at_stage frame stage kind)) xs zs
   parted_moves xs ys zs pieces read opened phased =
       parted_then {X = Bool × List Bool} (tiers_in frame).width
       (λ column. (is_read column, opened_by (tiers_in frame).width column)) phases_then
-      (moved (problem_in frame) stage (kind_at_stage frame stage kind)) xs ys zs
+      (next_kind (problem_in frame) stage (kind_at_stage frame stage kind)) xs ys zs
       (λ c d _ _ both p. same_moved c d (ap (λ (x : Bool × List Bool). x.0) both)
       (ap (λ (x : Bool × List Bool). x.1) both) p)
       (parted_then {Z = Bool × List Bool} (tiers_in frame).width is_read (opened_by (tiers_in frame).width)

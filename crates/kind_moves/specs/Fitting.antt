@@ -7,7 +7,7 @@ use Rattle.tier_core.specs.Classes.{sets_of, has}
 use Rattle.tier_core.specs.Timelines.{has_edge}
 use Rattle.symbol_class.specs.Held.{some_has, ArePieces}
 use Rattle.symbol_class.specs.Parts.{IsAlike}
-use Rattle.violation.specs.Moves.{input_of, moved}
+use Rattle.violation.specs.Moves.{input_of, next_kind}
 use Rattle.kind_moves.specs.declared.frame.Frame.{Frame}
 use Rattle.kind_moves.specs.Frames.{problem_in, tiers_in, kind_at_stage, FitsAt}
 
@@ -27,4 +27,5 @@ IsReadAlike frame class = IsAlike (λ column. has_edge (input_of (tiers_in frame
 
 -- all columns of a class lead from a kind to the same kind
 abbrev pub IsMovedAlike : Frame → ℕ → Kind → Class → Type 0
-IsMovedAlike frame stage kind class = IsAlike (moved (problem_in frame) stage (kind_at_stage frame stage kind)) class
+IsMovedAlike frame stage kind class = IsAlike
+    (next_kind (problem_in frame) stage (kind_at_stage frame stage kind)) class

@@ -6,8 +6,8 @@ use Rattle.tier_core.specs.declared.constraint.Constraint.{Constraint}
 use Rattle.tier_core.specs.Kinds.{PrefixKind, AreStretchesBelow, prefix_kind}
 use Rattle.tier_core.specs.Tables.{tiers_of_table}
 use Rattle.tier_core.specs.Tiers.{Tiers}
-use Rattle.violation.specs.Moves.{FitsKind, moved}
-use Rattle.violation.specs.Problems.{Problem, asked}
+use Rattle.violation.specs.Moves.{FitsKind, next_kind}
+use Rattle.violation.specs.Problems.{Problem, problem_from}
 use Rattle.violation.specs.Prefixes.{kind_of, stretches}
 pub use Rattle.violation.specs.Phases.{is_closed, is_left_open, AreClosedOr}
 use Rattle.kind_moves.specs.declared.frame.Frame.{Frame}
@@ -24,7 +24,7 @@ form_in frame = frame.form.now
 
 -- the problem that a frame's grammar and its form pose
 abbrev pub problem_in : Frame → Problem
-problem_in frame = asked frame.grammar.now.tiers frame.grammar.now.constraints.items frame.form.now
+problem_in frame = problem_from frame.grammar.now.tiers frame.grammar.now.constraints.items frame.form.now
 
 -- the stretch implications among the first constraints of a frame
 abbrev pub stretches_in : Frame → ℕ → List Constraint
@@ -52,7 +52,8 @@ FitsAt frame stage kind column = FitsKind (problem_in frame) (kind_at_stage fram
 -- one that it leads to and fits the frame.
 pub record IsMove (frame : Frame) (stage : ℕ) (kind : Kind) (column : List Sym) (next : Kind) : Type 0 where
   pub column_fits : FitsAt frame stage kind column
-  pub leads : kind_at_stage frame stage next ≡ moved (problem_in frame) stage (kind_at_stage frame stage kind) column
+  pub leads : kind_at_stage frame stage next
+      ≡ next_kind (problem_in frame) stage (kind_at_stage frame stage kind) column
   pub next_fits : FitsFrame frame stage next
 
 -- the kind of the empty prefix

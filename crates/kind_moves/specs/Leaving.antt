@@ -12,7 +12,7 @@ use Rattle.symbol_class.specs.Held.{times_held}
 use Rattle.kind_moves.specs.declared.frame.Frame.{Frame}
 use Rattle.kind_moves.specs.declared.piece.Piece.{Piece}
 use Rattle.kind_moves.specs.Frames.{tiers_in}
-use Rattle.kind_moves.specs.Pieces.{classes_of}
+use Rattle.kind_moves.specs.Pieces.{piece_classes}
 
 -- which of some tiers are open after a column
 abbrev pub opened_among : List ℕ → List Sym → List Bool
@@ -50,4 +50,4 @@ pub record AddsLeaving (frame : Frame) (place : ℕ) (old new : List Piece) (tim
   pub added : List Piece
   pub new_is : new ≡ old ++ added
   pub each : All (LeavesOpen frame place) added
-  pub held : (column : List Sym) → times_held (classes_of added) column ≡ times column
+  pub held : (column : List Sym) → times_held (piece_classes added) column ≡ times column

@@ -30,5 +30,5 @@ pub record IsPiece (frame : Frame) (stage constraint : ℕ) (kind : Kind) (piece
       → piece.cost ≡ cost_under frame stage constraint kind column
 
 -- the classes of pieces
-abbrev pub classes_of : List Piece → List Class
-classes_of pieces = map (λ piece. piece.class) pieces
+abbrev pub piece_classes : List Piece → List Class
+piece_classes pieces = map (λ piece. piece.class) pieces

@@ -6,7 +6,7 @@ ghost use Rattle.kind_moves.specs.Leaving.{led_to, AddsLed};
 
 use crate::fit_boxes::{edgeless, following, without_input};
 use crate::frame::Frame;
-use crate::leaving::leaving;
+use crate::leaving::columns_opening;
 use crate::piece::Piece;
 use std::alloc::Global;
 use symbol_class::{is_empty, meet, minus};
@@ -65,7 +65,7 @@ impl<'a> Frame<'a> {
     ghost use Rattle.symbol_class.specs.Held.{some_has, ArePieces};
     ghost use Rattle.kind_moves.specs.Frames.{tiers_in, FitsAt, FitsFrame};
     ghost use Rattle.kind_moves.specs.Leaving.{AddsLeaving};
-    ghost use Rattle.kind_moves.specs.Pieces.{classes_of, IsPiece};
+    ghost use Rattle.kind_moves.specs.Pieces.{piece_classes, IsPiece};
 
     /// Appends the columns of `a` that are not in `b` to pieces, by the free tiers that they leave
     /// open. All lead to one place.
@@ -89,7 +89,13 @@ impl<'a> Frame<'a> {
                 unmet: 0,
                 met: 0,
             };
-            push_rest_led(alloc, pieces, &leaving(a, self.free, opened), b, target)?;
+            push_rest_led(
+                alloc,
+                pieces,
+                &columns_opening(a, self.free, opened),
+                b,
+                target,
+            )?;
         }
         Ok(())
     }
@@ -108,9 +114,9 @@ impl<'a> Frame<'a> {
         requires fits { FitsFrame self.now 0 kind.now }
         requires width { length (sets_of class.now) ≡ (tiers_in self.now).width }
         ensures pieces { IfOk result (λ pieces. ArePieces (tiers_in self.now).width
-            (classes_of pieces.items)) }
+            (piece_classes pieces.items)) }
         ensures columns { IfOk result (λ pieces. (column : List Sym)
-            → IsTrue (some_has (classes_of pieces.items) column)
+            → IsTrue (some_has (piece_classes pieces.items) column)
             ↔ (IsTrue (has class.now column) × FitsAt self.now 0 kind.now column)) }
         ensures each { IfOk result (λ pieces. All (IsPiece self.now 0 0 kind.now) pieces.items) }
     {

@@ -5,7 +5,7 @@ ghost use Rattle.tier_core.specs.Sets.{is_in};
 ghost use Rattle.kind_moves.specs.Asks.{has_asked, set_asked, answers};
 
 use crate::ask::Ask;
-use symbol_class::narrowed;
+use symbol_class::restrict;
 use tier_core::{Class, Event, Part};
 
 /// The set of the symbols that meet a condition for a part.
@@ -45,7 +45,7 @@ pub(crate) fn narrowed_by(class: &Class, ask: Ask, types: &[Event]) -> Class
 {
     let mut rest = *class;
     for event in types {
-        rest = narrowed(&rest, event.tier, set_asked(ask, event.part));
+        rest = restrict(&rest, event.tier, set_asked(ask, event.part));
     }
     rest
 }

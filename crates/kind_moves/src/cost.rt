@@ -4,7 +4,7 @@ ghost use Rattle.tier_core.specs.Kinds as told;
 ghost use Rattle.tier_core.specs.Tiers.{has_tier};
 ghost use Rattle.tier_core.specs.Sides.{has_edge_type, edge_among};
 ghost use Rattle.violation.specs.Conditions.{AreInColumn, IsOverTiers};
-ghost use Rattle.violation.specs.Counts.{chosen};
+ghost use Rattle.violation.specs.Counts.{choice_types};
 ghost use Rattle.violation.specs.Moves.{costs, is_unmet_phase};
 
 use tier_core::{Constraint, Event, Family, Sym, has_bit, has_edge_type};
@@ -21,7 +21,7 @@ pub(crate) fn are_all_in(mask: u16, types: &[Event]) -> bool
 /// Whether an event that a constraint chooses can be an edge: a clash chooses events on both sides,
 /// an implication on the left.
 pub(crate) fn is_edge_chosen(family: Family, left: &[Event], right: &[Event]) -> bool
-    ensures { result ≡ has_edge_type (chosen family left.now right.now) }
+    ensures { result ≡ has_edge_type (choice_types family left.now right.now) }
 {
     match family {
         Family::Clash => has_edge_type(left) || has_edge_type(right),

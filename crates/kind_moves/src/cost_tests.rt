@@ -74,7 +74,7 @@ fn stretch_ends(width: u32, is_unmet: bool, left: &[Event]) -> Difference
 
 /// The test whether a column costs 1 under a constraint, if the tiers in a mask are open before it.
 /// `is_unmet` says whether the constraint is a stretch implication that is unmet before it.
-pub(crate) fn costing(
+pub(crate) fn cost_test(
     width: u32,
     constraint: &Constraint,
     opened: u16,

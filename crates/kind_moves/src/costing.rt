@@ -1,4 +1,4 @@
-use crate::cost_tests::costing;
+use crate::cost_tests::cost_test;
 use crate::frame::Frame;
 use symbol_class::Difference;
 use tier_core::{Kind, has_bit};
@@ -14,7 +14,7 @@ impl<'a> Frame<'a> {
 
     /// The test whether a column costs 1 from a kind under one of the first `stage` constraints,
     /// which is counted from 1 in ranked order. A column that does not pass it costs nothing.
-    pub fn costing(&self, stage: u32, constraint: u32, kind: &Kind) -> Difference
+    pub fn cost_test(&self, stage: u32, constraint: u32, kind: &Kind) -> Difference
         requires stage { stage ≤ length (constraints_in self.now) }
         requires some { 1 ≤ constraint }
         requires within { constraint ≤ stage }
@@ -29,6 +29,6 @@ impl<'a> Frame<'a> {
         let constraints = self.grammar.constraints.as_slice();
         let is_unmet = has_bit(kind.unmet, self.stretch_count(constraint - 1));
         let opened = self.open_at(kind);
-        costing(width, &constraints[number], opened, is_unmet)
+        cost_test(width, &constraints[number], opened, is_unmet)
     }
 }

@@ -7,8 +7,8 @@ ghost use Rattle.tier_core.specs.Tiers.{has_tier, is_input, numbers_from};
 ghost use Rattle.tier_core.specs.Timelines.{symbol, is_edge, has_edge};
 
 use crate::boxes::nothing;
-use symbol_class::narrowed;
-use tier_core::{Class, Sym, TierKind, alone, has_bit};
+use symbol_class::restrict;
+use tier_core::{Class, Sym, TierKind, has_bit, single_set};
 
 /// The set of the symbols that may come next on a tier that is open, or on one that is not.
 fn fitting_set(is_open: bool) -> u8
@@ -28,7 +28,7 @@ pub(crate) fn following(class: &Class, opened: u16) -> Class
 {
     let mut rest = *class;
     for tier in 0..class.width() {
-        rest = narrowed(&rest, tier, fitting_set(has_bit(opened as u32, tier)));
+        rest = restrict(&rest, tier, fitting_set(has_bit(opened as u32, tier)));
     }
     rest
 }
@@ -42,7 +42,7 @@ pub(crate) fn edgeless(class: &Class) -> Class
 {
     let mut rest = *class;
     for tier in 0..class.width() {
-        rest = narrowed(&rest, tier, 3);
+        rest = restrict(&rest, tier, 3);
     }
     rest
 }
@@ -59,7 +59,7 @@ pub(crate) fn without_input(class: &Class, kinds: &[TierKind]) -> Class
     let mut rest = *class;
     for (tier, kind) in kinds.iter().enumerate() {
         if kind.is_input() {
-            rest = narrowed(&rest, tier as u32, 3);
+            rest = restrict(&rest, tier as u32, 3);
         }
     }
     rest
@@ -81,7 +81,7 @@ pub(crate) fn with_input(class: &Class, kinds: &[TierKind], form: &[Sym]) -> Cla
             if next == form.len() {
                 return nothing(class);
             }
-            rest = narrowed(&rest, tier as u32, alone(form[next]));
+            rest = restrict(&rest, tier as u32, single_set(form[next]));
             next += 1;
         }
     }

@@ -7,7 +7,7 @@ ghost use Rattle.tier_core.specs.Sets.{is_in};
 ghost use Rattle.tier_core.specs.Tiers.{tiers_of};
 ghost use Rattle.kind_moves.specs.Leaving.{opened_among};
 
-use symbol_class::narrowed;
+use symbol_class::restrict;
 use tier_core::{Class, has_bit};
 
 /// The set of the symbols after which a tier is open, or of those after which it is not.
@@ -20,7 +20,7 @@ fn leaving_set(is_open: bool) -> u8
 
 /// The columns of a class after which exactly these of the tiers in a mask are open: the first of
 /// them if the lowest bit of `opened` is set, and so on.
-pub(crate) fn leaving(class: &Class, tiers: u16, opened: u16) -> Class
+pub(crate) fn columns_opening(class: &Class, tiers: u16, opened: u16) -> Class
     requires { All (λ t. t < length (sets_of class.now)) (tiers_of tiers) }
     ensures width { length (sets_of result) ≡ length (sets_of class.now) }
     ensures columns { (column : List Sym) → IsTrue (has result column)
@@ -31,7 +31,7 @@ pub(crate) fn leaving(class: &Class, tiers: u16, opened: u16) -> Class
     let mut next = 0;
     for tier in 0..12 {
         if has_bit(tiers as u32, tier) {
-            rest = narrowed(&rest, tier, leaving_set(has_bit(opened as u32, next)));
+            rest = restrict(&rest, tier, leaving_set(has_bit(opened as u32, next)));
             next += 1;
         }
     }

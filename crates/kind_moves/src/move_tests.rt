@@ -16,7 +16,7 @@ use crate::ask::Ask;
 use crate::asked::narrowed_by;
 use crate::boxes::{inside, never, outside, whole};
 use crate::cost::{are_all_in, is_edge_chosen};
-use symbol_class::{Difference, narrowed};
+use symbol_class::{Difference, restrict};
 use tier_core::{Class, Constraint, Event, Family};
 
 /// The test whether a tier is open after a column, given the class of all columns.
@@ -27,7 +27,7 @@ pub(crate) fn opens_at(all: &Class, tier: u32) -> Difference
     ensures columns { (column : List Sym) → length column ≡ length (sets_of all.now)
         → differs result column ≡ opens (symbol column tier) }
 {
-    inside(&narrowed(all, tier, 22))
+    inside(&restrict(all, tier, 22))
 }
 
 /// The test whether a column makes a stretch implication met although it opens no interior on the

@@ -14,7 +14,7 @@ impl<'a> Frame<'a> {
     ghost use Rattle.symbol_class.specs.Parts.{IsAlike, ArePartedBy};
     ghost use Rattle.kind_moves.specs.Frames.{tiers_in, constraints_in, FitsAt, FitsFrame};
     ghost use Rattle.kind_moves.specs.Fitting.{AreFitting, IsMovedAlike};
-    ghost use Rattle.kind_moves.specs.Pieces.{cost_under, classes_of, IsPiece};
+    ghost use Rattle.kind_moves.specs.Pieces.{cost_under, piece_classes, IsPiece};
 
     /// The columns of a class that fit a kind, in pieces: in each piece all columns lead to the same
     /// kind.
@@ -60,7 +60,7 @@ impl<'a> Frame<'a> {
         if constraint == 0 {
             return Ok(classes);
         }
-        let test = self.costing(stage, constraint, kind);
+        let test = self.cost_test(stage, constraint, kind);
         let pieces = part(alloc, classes, &test)?;
         Ok(pieces)
     }
@@ -124,7 +124,7 @@ impl<'a> Frame<'a> {
         requires moved { All (IsMovedAlike self.now stage kind.now) classes.now }
         requires costed { All (IsAlike (cost_under self.now stage constraint kind.now))
             classes.now }
-        ensures classes { IfOk result (λ pieces. classes_of pieces.items ≡ classes.now) }
+        ensures classes { IfOk result (λ pieces. piece_classes pieces.items ≡ classes.now) }
         ensures each { IfOk result (λ pieces. All (IsPiece self.now stage constraint kind.now)
             pieces.items) }
     {
@@ -154,9 +154,9 @@ impl<'a> Frame<'a> {
         requires fits { FitsFrame self.now stage kind.now }
         requires width { length (sets_of class.now) ≡ (tiers_in self.now).width }
         ensures pieces { IfOk result (λ pieces. ArePieces (tiers_in self.now).width
-            (classes_of pieces.items)) }
+            (piece_classes pieces.items)) }
         ensures columns { IfOk result (λ pieces. (column : List Sym)
-            → IsTrue (some_has (classes_of pieces.items) column)
+            → IsTrue (some_has (piece_classes pieces.items) column)
             ↔ (IsTrue (has class.now column) × FitsAt self.now stage kind.now column)) }
         ensures each { IfOk result (λ pieces. All (IsPiece self.now stage constraint kind.now)
             pieces.items) }

@@ -93,7 +93,7 @@ fn agrees(
         let column = column_of(alloc, kinds.len(), rest % per);
         rest /= per;
         let before = seen.len();
-        if seen.push(column.copied(alloc)).is_err() {
+        if seen.push(column.copy(alloc)).is_err() {
             return Err(Fail::new("no memory"));
         }
         let (front, _) = seen.columns().split_at(before);

@@ -1,18 +1,21 @@
 -- States and lines by their node numbers, one by one.
-use Rattle.std.proofs.Common.{◌≡◌, ◌≢◌, ℕ, zero, suc, ◌+◌, ◌<◌, List, [], ◌∷◌, ◌++◌, Option, None, Some, length, get_or, set, replicate, refl, ap, sym, ◌∙◌, subst, arith, ⊎_elim, All, AllPairs, Contains, below_more, length-set, get_or-set_same, get_or-set_other}
+use Rattle.std.proofs.Common.{◌≡◌, ◌≢◌, ℕ, zero, suc, ◌+◌, ◌<◌, List, [], ◌∷◌, ◌++◌, Option, None, Some, length, get_or}
+use Rattle.std.proofs.Common.{set, replicate, refl, ap, sym, ◌∙◌, subst, arith, ⊎_elim, All, AllPairs, Contains}
+use Rattle.std.proofs.Common.{below_more, length-set, get_or-set_same, get_or-set_other}
 use Rattle.std.specs.Cmp.{nat_cmp_is}
 use Rattle.std.specs.List.Sorted.{IsStrictlySortedBy}
 use Rattle.std.specs.Ordering.{nat_cmp}
 use Rattle.std.specs.declared.cmp.Ordering.TheVariants.{Less}
 use Rattle.std.proofs.lemmas.Bool.{cases_eq, cases_lt}
 use Rattle.std.proofs.lemmas.List.{map-append}
-use Rattle.std.proofs.lemmas.List.Elements.{Contains-append_left, Contains-append_right, Contains-push_cases, All-map, All-push, All-from_recursion, recursion_from_All}
+use Rattle.std.proofs.lemmas.List.Elements.{Contains-append_left, Contains-append_right, Contains-push_cases, All-map}
+use Rattle.std.proofs.lemmas.List.Elements.{All-push, All-from_recursion, recursion_from_All}
 use Rattle.weight_law.specs.declared.Weight.{Ghosts}
 use Rattle.arc_table.specs.declared.state.TableState.{TableState}
 use Rattle.answer_text.specs.declared.automaton.StateLine.{StateLine}
 use Rattle.answer_text.specs.Right.{numbers_of}
 use Rattle.kind_orders.specs.Orderings.{IsOrdering}
-use Rattle.kind_orders.specs.AutomatonLines.{nodes_of, IsLineOf, AreLinesOf, AreByNode}
+use Rattle.kind_orders.specs.AutomatonLines.{state_nodes, IsLineOf, AreLinesOf, AreByNode}
 use Rattle.symbol_class.proofs.Pairs.{pairs_map, pairs_apart}
 use Rattle.tier_core.proofs.Members.{All-from_members, contains_of_map}
 
@@ -149,11 +152,11 @@ module _ {W : Type 0} {g : Ghosts W} (kept : List (TableState W g)) (nodes : Lis
 
 module _ (ranks states : List ℕ) (o : IsOrdering (length ranks) ranks)
     (kinds : All (λ kind. kind < length ranks) states) where
-  pub nodes_below : All (λ node. node < length ranks) (nodes_of ranks states)
+  pub nodes_below : All (λ node. node < length ranks) (state_nodes ranks states)
   nodes_below = All-map (λ node. node < length ranks) (λ kind. get_or ranks kind 0) states
       (λ k d l. o.below (get_or states k d) 0 (kinds k d l))
 
-  pub nodes_once : AllPairs (λ a b. a ≢ b) states → AllPairs (λ a b. a ≢ b) (nodes_of ranks states)
+  pub nodes_once : AllPairs (λ a b. a ≢ b) states → AllPairs (λ a b. a ≢ b) (state_nodes ranks states)
   nodes_once once = pairs_map (λ a b. a ≢ b) (λ kind. get_or ranks kind 0) states (λ i j d less inside.
       pairs_apart (λ a b. a ≢ b) (λ a b other e. other (sym e)) ranks o.once (get_or states i d) (get_or states j d) 0
       (once i j d less inside) (kinds i d (omega arith)) (kinds j d inside))

@@ -1,5 +1,7 @@
 -- Lines that are sorted by target are joined group by group.
-use Rattle.std.proofs.Common.{◌≡◌, ◌≢◌, ℕ, suc, ◌+◌, ◌<◌, ◌≤◌, Bool, true, false, List, [], ◌∷◌, ◌++◌, map, take, length, get_or, refl, ap, sym, ◌∙◌, subst, arith, IsTrue, All, AllPairs, Contains, IsPermutation, ⊎_elim, true≢false}
+use Rattle.std.proofs.Common.{◌≡◌, ◌≢◌, ℕ, suc, ◌+◌, ◌<◌, ◌≤◌, Bool, true, false, List, [], ◌∷◌, ◌++◌, map, take}
+use Rattle.std.proofs.Common.{length, get_or, refl, ap, sym, ◌∙◌, subst, arith, IsTrue, All, AllPairs, Contains}
+use Rattle.std.proofs.Common.{IsPermutation, ⊎_elim, true≢false}
 use Rattle.std.specs.Ordering.{is_lt, nat_cmp, ordering_then}
 use Rattle.std.specs.Cmp.Lexicographic.{slice_cmp}
 use Rattle.std.specs.Cmp.{nat_cmp_is}
@@ -19,14 +21,16 @@ use Rattle.symbol_class.specs.ClassOrder.{class_cmp}
 use Rattle.symbol_class.specs.Held.{times_held, some_has, width_of, ArePieces}
 use Rattle.symbol_class.specs.Joined.{DifferTwice}
 use Rattle.symbol_class.proofs.Pairs.{pairs_map, pairs_permuted}
-use Rattle.symbol_class.proofs.Times.{pairs_head, pairs_tail, none_held, some_held, some_from_same, times_permuted, once_from_apart, pieces_from_once}
+use Rattle.symbol_class.proofs.Times.{pairs_head, pairs_tail, none_held, some_held, some_from_same, times_permuted}
+use Rattle.symbol_class.proofs.Times.{once_from_apart, pieces_from_once}
 use Rattle.symbol_class.proofs.JoinedClasses.{pieces_of_width, apart_permuted}
 use Rattle.answer_text.specs.declared.automaton.ArcLine.{ArcLine}
 use Rattle.answer_text.specs.Right.{arc_cmp}
 use Rattle.kind_orders.specs.JoinedArcs.{AreJoined}
 use Rattle.answer_text.specs.ArcClasses.{arc_classes}
 use Rattle.kind_orders.specs.JoinedLines.{arc_to, times_to, AreJoinedFrom, AddsJoined}
-use Rattle.kind_orders.proofs.ArcCounts.{adds, times-arc, times-both, times-take, times-permuted, times-target, times-same, anywhere, once_if_apart}
+use Rattle.kind_orders.proofs.ArcCounts.{adds, times-arc, times-both, times-take, times-permuted, times-target}
+use Rattle.kind_orders.proofs.ArcCounts.{times-same, anywhere, once_if_apart}
 
 -- pairs of two lists
 pub pairs-append : {X : Type 0} (R : X → X → Type 0) (xs ys : List X) → AllPairs R xs → AllPairs R ys
@@ -333,7 +337,8 @@ pub pieces_permuted : (width : ℕ) (lines others : List ArcLine) → IsPermutat
 pieces_permuted width lines others p pieces =
     let same : IsPermutation (arc_classes lines) (arc_classes others)
     = IsPermutation-map (λ (arc : ArcLine). arc.class) lines others p in
-    pieces_of_width width (arc_classes others) (sorted_pieces width (arc_classes lines) (arc_classes others) same pieces)
+    pieces_of_width width (arc_classes others)
+    (sorted_pieces width (arc_classes lines) (arc_classes others) same pieces)
 
 -- what is joined stays so in any order of lines
 pub joined_permuted : (moves lines arcs : List ArcLine) → IsPermutation moves lines → AreJoinedFrom lines arcs

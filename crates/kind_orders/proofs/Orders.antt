@@ -1,5 +1,6 @@
 -- Numbers that are sorted by what they stand for are an order.
-use Rattle.std.proofs.Common.{◌≡◌, ◌≢◌, ℕ, ◌+◌, ◌<◌, List, [], length, get_or, sym, ◌∙◌, subst, arith, ⊎_elim, All, IsPermutation}
+use Rattle.std.proofs.Common.{◌≡◌, ◌≢◌, ℕ, ◌+◌, ◌<◌, List, [], length, get_or, sym, ◌∙◌, subst, arith, ⊎_elim, All}
+use Rattle.std.proofs.Common.{IsPermutation}
 use Rattle.std.specs.List.{range_with_len}
 use Rattle.std.specs.List.Sorted.{IsSortedByKey, IsStrictlySortedBy}
 use Rattle.std.proofs.lemmas.Bool.{cases_lt}
@@ -13,7 +14,7 @@ use Rattle.tier_core.specs.Kinds.{kind_order}
 use Rattle.tier_core.specs.KindShapes.{FitsShape, free_count, stretch_count, kind_in}
 use Rattle.kind_orders.specs.Orderings.{IsOrdering}
 use Rattle.tier_core.specs.EmptyKind.{empty_kind}
-use Rattle.kind_orders.specs.KindOrders.{kind_numbered, AreFound, told, IsKindOrder}
+use Rattle.kind_orders.specs.KindOrders.{kind_numbered, AreDistinctKinds, prefix_kind_at, IsKindOrder}
 use Rattle.symbol_class.proofs.Pairs.{pairs_apart, pairs_permuted}
 use Rattle.tier_core.proofs.KindTies.{same_kind, kind_order_total}
 use Rattle.kind_orders.proofs.Strict.{strict_from_sorted}
@@ -51,24 +52,25 @@ fits_numbered shape stage kinds l fit number =
     (λ past. subst (FitsShape shape stage) (sym (get_or_past kinds number empty_kind past)) (fits_empty shape stage l))
     (cases_lt number (length kinds))
 
-module _ (shape : Shape) (stage : ℕ) (kinds : List Kind) (found : AreFound shape stage kinds) where
+module _ (shape : Shape) (stage : ℕ) (kinds : List Kind) (found : AreDistinctKinds shape stage kinds) where
   -- numbers that differ tell kinds that differ
   told_apart : (a b : ℕ) → a ≢ b → a < length kinds → b < length kinds
-      → told shape stage kinds a ≢ told shape stage kinds b
+      → prefix_kind_at shape stage kinds a ≢ prefix_kind_at shape stage kinds b
   told_apart a b other la lb = pairs_apart (λ k l. kind_in shape stage k ≢ kind_in shape stage l)
       (λ k l h e. h (sym e)) kinds found.differ a b empty_kind other la lb
 
   pub is_kind_order : (order : List ℕ) → IsPermutation (range_with_len 0 (length kinds)) order
-      → IsSortedByKey (told shape stage kinds) kind_order order → IsKindOrder shape stage kinds order
+      → IsSortedByKey (prefix_kind_at shape stage kinds) kind_order order → IsKindOrder shape stage kinds order
   is_kind_order order p sorted =
       let numbers = ordering_from (length kinds) order p in
       record {
         numbers = numbers;
-        ascending = strict_from_sorted kind_order_total (told shape stage kinds) 0 order sorted
+        ascending = strict_from_sorted kind_order_total (prefix_kind_at shape stage kinds) 0 order sorted
             (λ i j d less inside e.
             told_apart (get_or order i d) (get_or order j d) (numbers.once i j d less inside)
             (numbers.below i d (omega arith)) (numbers.below j d inside)
-            (same_kind (told shape stage kinds (get_or order i d)) (told shape stage kinds (get_or order j d)) e));
+            (same_kind (prefix_kind_at shape stage kinds (get_or order i d))
+            (prefix_kind_at shape stage kinds (get_or order j d)) e));
       }
 
 -- no kinds are in order

@@ -1,5 +1,6 @@
 -- The lines of a table read what the table reads.
-use Rattle.std.proofs.Common.{◌≡◌, ◌≢◌, ℕ, ◌<◌, true, false, List, [], ◌∷◌, map, length, get_or, refl, ap, sym, ◌∙◌, subst, arith, ⊎_elim, inl, inr, All, AllPairs, Contains, IsTrue}
+use Rattle.std.proofs.Common.{◌≡◌, ◌≢◌, ℕ, ◌<◌, true, false, List, [], ◌∷◌, map, length, get_or, refl, ap, sym, ◌∙◌}
+use Rattle.std.proofs.Common.{subst, arith, ⊎_elim, inl, inr, All, AllPairs, Contains, IsTrue}
 use Rattle.std.proofs.lemmas.Bool.{false≢true, cases_lt, cases_order}
 use Rattle.std.proofs.lemmas.List.{get_or_default, get_or_past, length-map}
 use Rattle.std.proofs.lemmas.List.Elements.{All-contains, Contains-get_or}
@@ -19,7 +20,7 @@ use Rattle.answer_text.specs.Acceptance.{IsFinalState, Leads, Accepts}
 use Rattle.answer_text.specs.Right.{numbers_of, AreRightArcs}
 use Rattle.kind_orders.specs.AutomatonLines.{IsLineOf, AreLinesOf}
 use Rattle.kind_orders.specs.JoinedArcs.{AreJoined, HaveJoinedArcs}
-use Rattle.kind_orders.specs.Automata.{HasWidth, Reaches, IsAutomatonOf}
+use Rattle.kind_orders.specs.Automata.{HasWidth, ReadsTo, IsAutomatonOf}
 use Rattle.tier_core.proofs.Members.{contains_map, contains_of_map, All-from_members}
 use Rattle.kind_orders.proofs.ArcOrder.{arcs_apart, arcs_filled, move_from, arc_from}
 
@@ -113,11 +114,11 @@ module _ {W : Type 0} {g : Ghosts W} (kept : List (TableState W g)) (exist : Tar
   -- ---- where the start has node number 0
 
   module _ (zeroth : node 0 ≡ 0) (some : 0 < length kept) where
-    pub table_leads : (T : List (List Sym)) (s : ℕ) → Reaches kept T s → Leads lines 0 T (node s)
+    pub table_leads : (T : List (List Sym)) (s : ℕ) → ReadsTo kept T s → Leads lines 0 T (node s)
     table_leads T s r = subst (λ n. Leads lines n T (node s)) zeroth (path_leads 0 s T r.0 r.1 r.2)
 
     pub lines_reach : (T : List (List Sym)) (m : ℕ) → Leads lines 0 T m
-        → (s : ℕ) × (s < length kept) × (node s ≡ m) × Reaches kept T s
+        → (s : ℕ) × (s < length kept) × (node s ≡ m) × ReadsTo kept T s
     lines_reach T m leads =
         let h = leads_path 0 m T some (subst (λ n. Leads lines n T m) (sym zeroth) leads) in
         (h.0, h.1.0, h.1.1.0, (h.1.1.1.0, h.1.1.1.1.0, h.1.1.1.1.1))

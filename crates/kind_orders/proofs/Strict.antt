@@ -1,5 +1,6 @@
 -- Sorted lists in which no two elements tie.
-use Rattle.std.proofs.Common.{◌≡◌, ◌≢◌, ◌+◌, ◌<◌, true, false, List, map, length, get_or, refl, ap, ap₂, ◌∙◌, arith, AllPairs, true≢false}
+use Rattle.std.proofs.Common.{◌≡◌, ◌≢◌, ◌+◌, ◌<◌, true, false, List, map, length, get_or, refl, ap, ap₂, ◌∙◌, arith}
+use Rattle.std.proofs.Common.{AllPairs, true≢false}
 use Rattle.std.specs.Cmp.{IsTotalOrder}
 use Rattle.std.specs.List.Sorted.{IsSortedByKey, IsStrictlySortedBy}
 use Rattle.std.specs.Ordering.{ordering_reverse, is_lt}

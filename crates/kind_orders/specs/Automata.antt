@@ -18,8 +18,8 @@ HasWidth {W} {g} width kept = (s : ℕ) (arc : TableArc W g) → Contains (moves
     → length (sets_of arc.class) ≡ width
 
 -- reading the columns leads from the start of the table to the state
-abbrev pub Reaches : {W : Type 0} {g : Ghosts W} → List (TableState W g) → List (List Sym) → ℕ → Type 0
-Reaches {W} {g} kept T s = (arcs : List (TableArc W g)) × IsPath kept 0 arcs s × Reads arcs T
+abbrev pub ReadsTo : {W : Type 0} {g : Ghosts W} → List (TableState W g) → List (List Sym) → ℕ → Type 0
+ReadsTo {W} {g} kept T s = (arcs : List (TableArc W g)) × IsPath kept 0 arcs s × Reads arcs T
 
 -- The automaton of a table whose states have these node numbers: its states ascend by their
 -- numbers, which are those of the table's states, and its arcs are right. If the start has number
@@ -30,9 +30,9 @@ pub record IsAutomatonOf {W : Type 0} {g : Ghosts W} (kept : List (TableState W 
   pub lines : AreLinesOf kept nodes states
   pub numbers : (n : ℕ) → Contains (numbers_of states) n ↔ Contains nodes n
   pub accepts : slice_index nodes 0 ≡ 0 → (T : List (List Sym)) → Accepts states T ↔ IsAccepted kept T
-  pub leads : slice_index nodes 0 ≡ 0 → (T : List (List Sym)) (s : ℕ) → Reaches kept T s
+  pub leads : slice_index nodes 0 ≡ 0 → (T : List (List Sym)) (s : ℕ) → ReadsTo kept T s
       → Leads states 0 T (slice_index nodes s)
   pub reached : slice_index nodes 0 ≡ 0 → (T : List (List Sym)) (m : ℕ) → Leads states 0 T m
-      → (s : ℕ) × (s < length kept) × (slice_index nodes s ≡ m) × Reaches kept T s
+      → (s : ℕ) × (s < length kept) × (slice_index nodes s ≡ m) × ReadsTo kept T s
   pub arcs : (width : ℕ) → HasWidth width kept
       → All (λ state. AreRightArcs width (numbers_of states) state.arcs.items) states

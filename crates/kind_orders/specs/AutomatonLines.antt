@@ -14,8 +14,8 @@ use Rattle.kind_orders.specs.JoinedLines.{AreJoinedFrom}
 
 -- the node number of each state, given the kind that each state stands for and the rank of each
 -- kind
-abbrev pub nodes_of : List ℕ → List ℕ → List ℕ
-nodes_of ranks states = map (slice_index ranks) states
+abbrev pub state_nodes : List ℕ → List ℕ → List ℕ
+state_nodes ranks states = map (slice_index ranks) states
 
 -- the line of a move: it leads to the node of the move's target, on the columns of the move
 abbrev pub line_of : {W : Type 0} {g : Ghosts W} → List ℕ → TableArc W g → ArcLine

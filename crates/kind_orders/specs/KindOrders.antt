@@ -13,15 +13,15 @@ abbrev pub kind_numbered : List Kind → ℕ → Kind
 kind_numbered kinds number = slice_index_or kinds number empty_kind
 
 -- Kinds that are found for a stage: their bits fit the shape there, and no two mean the same.
-pub record AreFound (shape : Shape) (stage : ℕ) (kinds : List Kind) : Type 0 where
+pub record AreDistinctKinds (shape : Shape) (stage : ℕ) (kinds : List Kind) : Type 0 where
   pub fit : All (FitsShape shape stage) kinds
   pub differ : AllPairs (λ a b. kind_in shape stage a ≢ kind_in shape stage b) kinds
 
 -- what a kind means, by its number
-abbrev pub told : Shape → ℕ → List Kind → ℕ → PrefixKind
-told shape stage kinds number = kind_in shape stage (kind_numbered kinds number)
+abbrev pub prefix_kind_at : Shape → ℕ → List Kind → ℕ → PrefixKind
+prefix_kind_at shape stage kinds number = kind_in shape stage (kind_numbered kinds number)
 
 -- the numbers of all kinds, so that the kinds ascend strictly when they are taken in this order
 pub record IsKindOrder (shape : Shape) (stage : ℕ) (kinds : List Kind) (order : List ℕ) : Type 0 where
   pub numbers : IsOrdering (length kinds) order
-  pub ascending : IsStrictlySortedBy kind_order (map (told shape stage kinds) order)
+  pub ascending : IsStrictlySortedBy kind_order (map (prefix_kind_at shape stage kinds) order)

@@ -1,6 +1,6 @@
 ghost use Rattle.std.specs.Prelude.{◌≡◌, ◌≢◌, ◌<◌, All, AllPairs, IfOk, length, map, slice_index};
 ghost use Rattle.arc_table.specs.States.{states_of};
-ghost use Rattle.kind_orders.specs.AutomatonLines.{AreLinesOf, nodes_of};
+ghost use Rattle.kind_orders.specs.AutomatonLines.{AreLinesOf, state_nodes};
 ghost use Rattle.kind_orders.specs.Automata.{IsAutomatonOf};
 ghost use Rattle.kind_orders.specs.JoinedArcs.{HaveJoinedArcs};
 ghost use Rattle.kind_orders.specs.Orderings.{IsOrdering};
@@ -15,7 +15,7 @@ use weight_law::UnitWeight;
 /// The node number of each state.
 fn node_numbers(alloc: Global, states: &[u32], ranks: &[u32]) -> Result<Vec<u32>, AllocError>
     requires { All (λ kind. kind < length ranks.now) states.now }
-    ensures { IfOk result (λ nodes. nodes.items ≡ nodes_of ranks.now states.now) }
+    ensures { IfOk result (λ nodes. nodes.items ≡ state_nodes ranks.now states.now) }
 {
     let mut nodes = Vec::new(alloc);
     for kind in states {
@@ -36,7 +36,7 @@ fn lines_by_node(
     requires once { AllPairs (λ a b. a ≢ b) states.now }
     requires ranks { IsOrdering (length ranks.now) ranks.now }
     ensures { IfOk result
-        (λ lines. AreLinesOf (states_of kept.now) (nodes_of ranks.now states.now) lines.items) }
+        (λ lines. AreLinesOf (states_of kept.now) (state_nodes ranks.now states.now) lines.items) }
 {
     let nodes = node_numbers(alloc, states, ranks)?;
     let by_node = states_by_node(alloc, &nodes, ranks.len())?;
@@ -60,7 +60,7 @@ pub fn automaton_of(
     ensures automaton { IfOk result
         (λ automaton.
         IsAutomatonOf (states_of kept.now)
-        (nodes_of ranks.now states.now) automaton.states.items) }
+        (state_nodes ranks.now states.now) automaton.states.items) }
     ensures joined { IfOk result (λ automaton. HaveJoinedArcs automaton.states.items) }
 {
     match lines_by_node(alloc, kept, states, ranks) {

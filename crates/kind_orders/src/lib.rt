@@ -1,8 +1,9 @@
 //! From what a staged generator finds to the order in which an answer is written.
 //!
 //! A generator numbers kinds in the order in which it finds them, and an answer lists them in kind
-//! order. `ordered` sorts the numbers, `ranks` inverts the order, `stage_of` makes the nodes of a
-//! stage, and `automaton_of` the lines of an automaton from the table that is left after pruning.
+//! order. `order_of_kinds` sorts the numbers, `ranks` inverts the order, `stage_of` makes the nodes
+//! of a stage, and `automaton_of` the lines of an automaton from the table that is left after
+//! pruning.
 //!
 //! The arcs of an automaton are joined: any two from one state to one target differ in the sets of
 //! at least two tiers, so that no two of them could be written as one. Moves are sorted by target,
@@ -22,5 +23,5 @@ mod tests;
 
 pub use automaton::automaton_of;
 pub use inverse::ranks;
-pub use order::{numbers_below, ordered};
+pub use order::{numbers_below, order_of_kinds};
 pub use stage::stage_of;

@@ -2,7 +2,7 @@ ghost use Rattle.std.specs.Prelude.{◌≡◌, ◌<◌, ◌^◌, All, IfOk, leng
 ghost use Rattle.std.specs.List.{range_with_len};
 ghost use Rattle.tier_core.specs.Kinds.{kind_order};
 ghost use Rattle.tier_core.specs.KindShapes.{FitsShape};
-ghost use Rattle.kind_orders.specs.KindOrders.{AreFound, IsKindOrder, kind_numbered, told};
+ghost use Rattle.kind_orders.specs.KindOrders.{AreDistinctKinds, IsKindOrder, kind_numbered, prefix_kind_at};
 
 use std::alloc::{AllocError, Global};
 use std::cmp::Ordering;
@@ -28,7 +28,8 @@ fn cmp_numbers(kinds: &[Kind], shape: &Shape, stage: u32, a: u32, b: u32) -> Ord
     requires stage { stage < length shape.now.phases.items }
     requires fit { All (FitsShape shape.now stage) kinds.now }
     ensures { result
-        ≡ kind_order (told shape.now stage kinds.now a) (told shape.now stage kinds.now b) }
+        ≡ kind_order (prefix_kind_at shape.now stage kinds.now a)
+        (prefix_kind_at shape.now stage kinds.now b) }
 {
     kind_cmp(&kind_of(kinds, a), &kind_of(kinds, b), shape, stage)
 }
@@ -48,7 +49,7 @@ fn sorted_numbers(
     kinds: &[Kind],
 ) -> Result<Vec<u32>, AllocError>
     requires stage { stage < length shape.now.phases.items }
-    requires found { AreFound shape.now stage kinds.now }
+    requires found { AreDistinctKinds shape.now stage kinds.now }
     requires few { length kinds.now < 2 ^ 32 }
     ensures { IfOk result (λ order. IsKindOrder shape.now stage kinds.now order.items) }
 {
@@ -60,13 +61,13 @@ fn sorted_numbers(
 /// The numbers of kinds in kind order. The kinds are those that are found for a stage of the shape:
 /// no two of them mean the same, and their bits fit the shape at that stage. Fails only if memory
 /// runs out.
-pub fn ordered(
+pub fn order_of_kinds(
     alloc: Global,
     shape: &Shape,
     stage: u32,
     kinds: &[Kind],
 ) -> Result<Vec<u32>, NoMemory>
-    requires found { AreFound shape.now stage kinds.now }
+    requires found { AreDistinctKinds shape.now stage kinds.now }
     requires few { length kinds.now < 2 ^ 32 }
     ensures { IfOk result (λ order. IsKindOrder shape.now stage kinds.now order.items) }
 {

@@ -84,7 +84,7 @@ fn made_of(
     requires places { (a.place ≢ b.place) × (a.place ≢ c.place) × (b.place ≢ c.place) }
 {
     let kinds = [a, b, c];
-    let order = ordered(alloc, shape, 0, &kinds)?;
+    let order = order_of_kinds(alloc, shape, 0, &kinds)?;
     let ranks = ranks(alloc, &order)?;
     let stage = stage_of(alloc, &kinds, &[4, 5, 6], &order)?;
     let automaton = automaton_of(alloc, kept, &[1], &ranks)?;

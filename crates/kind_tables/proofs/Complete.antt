@@ -1,5 +1,6 @@
 -- A table of kinds with all their moves accepts exactly the candidates.
-use Rattle.std.proofs.Common.{◌≡◌, ◌↔◌, ℕ, suc, ◌<◌, IsTrue, List, [], ◌∷◌, ◌++◌, length, sym, ap, ◌∙◌, subst, arith, append-nil}
+use Rattle.std.proofs.Common.{◌≡◌, ◌↔◌, ℕ, suc, ◌<◌, IsTrue, List, [], ◌∷◌, ◌++◌, length, sym, ap, ◌∙◌, subst, arith}
+use Rattle.std.proofs.Common.{append-nil}
 use Rattle.weight_law.specs.declared.Weight.{Ghosts}
 use Rattle.tier_core.specs.declared.sym.Sym.{Sym}
 use Rattle.tier_core.specs.Kinds.{PrefixKind}
@@ -9,8 +10,9 @@ use Rattle.arc_table.specs.Runs.{IsRun, IsPath, Reads, Accepts, IsOnRun}
 use Rattle.violation.specs.Candidates.{IsCandidate}
 use Rattle.violation.specs.Moves.{is_final}
 use Rattle.violation.specs.Prefixes.{kind_of}
-use Rattle.violation.specs.Walks.{HasMoves, reached, BeginsCandidate}
-use Rattle.violation.proofs.WalkLemmas.{begun_of, walk_on, candidate_walk, candidate_final, moves_begin, moves_end, reached_is}
+use Rattle.violation.specs.Walks.{HasMoves, walk_end, BeginsCandidate}
+use Rattle.violation.proofs.WalkLemmas.{begun_of, walk_on, candidate_walk, candidate_final, moves_begin, moves_end}
+use Rattle.violation.proofs.WalkLemmas.{reached_is}
 use Rattle.kind_tables.specs.StageTables.{IsStage, name_of, GoesAsKinds, AreNamedByKinds}
 use Rattle.kind_tables.specs.FoundTables.{HasMoveOn, AreReached, HaveAllMoves}
 use Rattle.kind_tables.proofs.Naming.{path_moves}
@@ -23,7 +25,7 @@ module _ (problem : Problem) (r : ℕ) (stage : IsStage problem r) {W : Type 0} 
     (all : HaveAllMoves problem names states) where
   -- moves of kinds from the name of a state to a final kind are a run from it
   walk_run : (p : List (List Sym)) (s : ℕ) → s < length states → HasMoves problem r (name_of names s) p
-      → IsTrue (is_final problem (reached problem r (name_of names s) p))
+      → IsTrue (is_final problem (walk_end problem r (name_of names s) p))
       → (arcs : List (TableArc W g)) × IsRun states s arcs × Reads arcs p
   walk_run [] s inside moves final = ([], named.ends s inside ∙ final, tt)
   walk_run (column ∷ p) s inside moves final =
@@ -32,23 +34,23 @@ module _ (problem : Problem) (r : ℕ) (stage : IsStage problem r) {W : Type 0} 
       let goes : GoesAsKinds problem r names s arc column = named.moves s arc column move.1 move.2 in
       let rest = walk_run p arc.target (named.targets s arc move.1)
       (subst (λ k. HasMoves problem r k p) (sym goes.leads) moves.1)
-      (ap (λ k. is_final problem (reached problem r k p)) goes.leads ∙ final) in
+      (ap (λ k. is_final problem (walk_end problem r k p)) goes.leads ∙ final) in
       (arc ∷ rest.0, (move.1, rest.1), (move.2, rest.2))
 
   -- a path from the start reads moves from the kind of the empty prefix
   start_moves : (arcs : List (TableArc W g)) (s : ℕ) (p : List (List Sym)) → IsPath states 0 arcs s → Reads arcs p
-      → HasMoves problem r (kind_of problem r []) p × (reached problem r (kind_of problem r []) p ≡ name_of names s)
+      → HasMoves problem r (kind_of problem r []) p × (walk_end problem r (kind_of problem r []) p ≡ name_of names s)
   start_moves arcs s p path reads =
       let walk = path_moves problem r stage names states named arcs p 0 s path reads in (
         subst (λ k. HasMoves problem r k p) named.start walk.0,
-        ap (λ k. reached problem r k p) (sym named.start)
+        ap (λ k. walk_end problem r k p) (sym named.start)
             ∙ walk.1,
       )
 
   -- what follows a prefix of a candidate goes by moves to a final kind
   rest_moves : (p q : List (List Sym)) → IsCandidate problem (p ++ q)
       → HasMoves problem r (kind_of problem r p) q × IsTrue
-      (is_final problem (reached problem r (kind_of problem r p) q))
+      (is_final problem (walk_end problem r (kind_of problem r p) q))
   rest_moves p q c =
       let over = over_stretches problem r stage in
       let moves : HasMoves problem r (kind_of problem r p) q =
@@ -62,7 +64,7 @@ module _ (problem : Problem) (r : ℕ) (stage : IsStage problem r) {W : Type 0} 
   rest_run s inside p name begins =
       let rest = rest_moves p begins.0 begins.1 in
       let run = walk_run begins.0 s inside (subst (λ k. HasMoves problem r k begins.0) name rest.0)
-      (subst (λ k. IsTrue (is_final problem (reached problem r k begins.0))) name rest.1) in
+      (subst (λ k. IsTrue (is_final problem (walk_end problem r k begins.0))) name rest.1) in
       (run.0, run.1)
 
   -- its words are exactly the candidates
@@ -76,7 +78,7 @@ module _ (problem : Problem) (r : ℕ) (stage : IsStage problem r) {W : Type 0} 
     λ c.
         let walk = (moves_end problem r stage.split stage.form (over_stretches problem r stage) T).1 c in
         let run = walk_run T 0 named.some (subst (λ k. HasMoves problem r k T) (sym named.start) walk.0)
-        (ap (λ k. is_final problem (reached problem r k T)) named.start ∙ walk.1) in
+        (ap (λ k. is_final problem (walk_end problem r k T)) named.start ∙ walk.1) in
         (run.0, record { run = run.1; reads = run.2 }),
   )
 

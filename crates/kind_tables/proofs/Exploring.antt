@@ -12,10 +12,10 @@ use Rattle.arc_table.specs.Moves.{moves_at}
 use Rattle.arc_table.specs.Runs.{IsRun, Reads, Accepts, IsOnRun}
 use Rattle.arc_table.proofs.Push.{moves_exist}
 use Rattle.arc_table.proofs.SomeWord.{some_word}
-use Rattle.violation.specs.Moves.{FitsKind, moved, is_final, cut}
+use Rattle.violation.specs.Moves.{FitsKind, next_kind, is_final, cut_kind}
 use Rattle.kind_tables.specs.StageTables.{IsStage, name_of, GoesAsKinds, AreNamedByKinds}
 use Rattle.kind_tables.specs.FoundTables.{HasMoveOn, base_of, AreFoundFrom}
-use Rattle.violation.proofs.CutLemmas.{cut-moved, cut-kind_of, fits-cut}
+use Rattle.violation.proofs.CutLemmas.{cut_kind-next_kind, cut_kind-kind_of, fits-cut}
 use Rattle.kind_tables.proofs.Naming.{same_state}
 use Rattle.kind_tables.proofs.Paths.{reached_path}
 use Rattle.violation.specs.Problems.{Problem}
@@ -24,17 +24,17 @@ module _ (problem : Problem) (r n : ℕ) (further : r ≤ n) {V : Type 0} {h : G
     (pruned : List (TableState V h)) (before : AreNamedByKinds problem r pruned_names pruned) where
   -- a move of the pruned table, at a kind that is cut to the name of its state
   pub fits_from_cut : (k : PrefixKind) (b : ℕ) (a : TableArc V h) (column : List Sym)
-      → cut problem r k ≡ name_of pruned_names b → Contains (moves_at pruned b) a → IsTrue (has a.class column)
+      → cut_kind problem r k ≡ name_of pruned_names b → Contains (moves_at pruned b) a → IsTrue (has a.class column)
       → FitsKind problem k column
   fits_from_cut k b a column name here reads =
       (fits-cut problem r k column).0 (subst (λ n. FitsKind problem n column) (sym name)
       (before.moves b a column here reads).fits)
 
   pub cut_leads : (k : PrefixKind) (b : ℕ) (a : TableArc V h) (column : List Sym)
-      → cut problem r k ≡ name_of pruned_names b → Contains (moves_at pruned b) a → IsTrue (has a.class column)
-      → cut problem r (moved problem n k column) ≡ name_of pruned_names a.target
+      → cut_kind problem r k ≡ name_of pruned_names b → Contains (moves_at pruned b) a → IsTrue (has a.class column)
+      → cut_kind problem r (next_kind problem n k column) ≡ name_of pruned_names a.target
   cut_leads k b a column name here reads =
-      cut-moved problem r n further k column ∙ ap (λ n. moved problem r n column) name
+      cut_kind-next_kind problem r n further k column ∙ ap (λ n. next_kind problem r n column) name
       ∙ sym (before.moves b a column here reads).leads
 
   module _ (stage : IsStage problem r) {g : Ghosts Count} (bases : List ℕ) (names : List PrefixKind)
@@ -49,7 +49,7 @@ module _ (problem : Problem) (r n : ℕ) (further : r ≤ n) {V : Type 0} {h : G
         let inside : s < length states = moves_exist states s arc here in
         let target : arc.target < length states = found.targets s arc here in
         let name : name_of pruned_names (base_of bases arc.target) ≡ name_of pruned_names a.target =
-        sym (found.cuts arc.target target) ∙ ap (cut problem r) (found.leads s arc column here reads)
+        sym (found.cuts arc.target target) ∙ ap (cut_kind problem r) (found.leads s arc column here reads)
         ∙ cut_leads (name_of names s) (base_of bases s) a column (found.cuts s inside) there holds in
         same_state problem r stage pruned_names pruned before (base_of bases arc.target) a.target
         (found.based arc.target target) (before.targets (base_of bases s) a there) name
@@ -57,7 +57,7 @@ module _ (problem : Problem) (r n : ℕ) (further : r ≤ n) {V : Type 0} {h : G
     start_base : base_of bases 0 ≡ 0
     start_base =
         same_state problem r stage pruned_names pruned before (base_of bases 0) 0 (found.based 0 found.some) before.some
-        (sym (found.cuts 0 found.some) ∙ ap (cut problem r) found.start ∙ cut-kind_of problem r n further []
+        (sym (found.cuts 0 found.some) ∙ ap (cut_kind problem r) found.start ∙ cut_kind-kind_of problem r n further []
         ∙ sym before.start)
 
     run_back : (arcs : List (TableArc Count g)) (p : List (List Sym)) (s : ℕ) → s < length states

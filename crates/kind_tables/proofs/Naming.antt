@@ -1,5 +1,6 @@
 -- The names of a table of kinds are the kinds that its words pass.
-use Rattle.std.proofs.Common.{◌≤◌, ◌≡◌, ◌↔◌, ℕ, ◌<◌, List, [], ◌∷◌, ◌++◌, length, take, drop, refl, sym, ap, ◌∙◌, subst, arith, inl, inr, take_at}
+use Rattle.std.proofs.Common.{◌≤◌, ◌≡◌, ◌↔◌, ℕ, ◌<◌, List, [], ◌∷◌, ◌++◌, length, take, drop, refl, sym, ap, ◌∙◌, subst}
+use Rattle.std.proofs.Common.{arith, inl, inr, take_at}
 use Rattle.std.specs.Prelude.{Contains}
 use Rattle.std.proofs.lemmas.Bool.{cases_order}
 use Rattle.std.proofs.lemmas.List.{get_or_default, length-append, take-append-drop}
@@ -13,7 +14,7 @@ use Rattle.arc_table.proofs.SomeWord.{some_word}
 use Rattle.violation.specs.Candidates.{IsOptimalFor}
 use Rattle.violation.specs.Prefixes.{kind_of}
 use Rattle.violation.specs.Stages.{Passes, IsPassed}
-use Rattle.violation.specs.Walks.{HasMoves, reached}
+use Rattle.violation.specs.Walks.{HasMoves, walk_end}
 use Rattle.violation.proofs.StageLemmas.{over_stretches}
 use Rattle.violation.proofs.WalkLemmas.{reached_is}
 use Rattle.kind_tables.specs.StageTables.{IsStage, name_of, GoesAsKinds, AreNamedByKinds}
@@ -26,17 +27,17 @@ module _ (problem : Problem) (r : ℕ) (stage : IsStage problem r) where
       -- a path reads moves of kinds, from the name of its first state to that of its last
       pub path_moves : (arcs : List (TableArc W g)) (p : List (List Sym)) (s t : ℕ) → IsPath states s arcs t
           → Reads arcs p
-          → HasMoves problem r (name_of names s) p × (reached problem r (name_of names s) p ≡ name_of names t)
+          → HasMoves problem r (name_of names s) p × (walk_end problem r (name_of names s) p ≡ name_of names t)
       path_moves [] [] s t path reads = (tt, ap (name_of names) path)
       path_moves [] (column ∷ p) s t path reads = absurd reads
       path_moves (arc ∷ arcs) [] s t path reads = absurd reads
       path_moves (arc ∷ arcs) (column ∷ p) s t path reads =
           let move : GoesAsKinds problem r names s arc column = named.moves s arc column path.0 reads.0 in
           let rest : HasMoves problem r (name_of names arc.target) p ×
-          (reached problem r (name_of names arc.target) p ≡ name_of names t) =
+          (walk_end problem r (name_of names arc.target) p ≡ name_of names t) =
           path_moves arcs p arc.target t path.1 reads.1 in (
             (move.fits, subst (λ k. HasMoves problem r k p) move.leads rest.0),
-            ap (λ k. reached problem r k p) (sym move.leads) ∙ rest.1,
+            ap (λ k. walk_end problem r k p) (sym move.leads) ∙ rest.1,
           )
 
       -- a path from the start ends at the kind of what it reads
@@ -46,7 +47,7 @@ module _ (problem : Problem) (r : ℕ) (stage : IsStage problem r) where
           let walk = path_moves arcs p 0 s path reads in
           let moves : HasMoves problem r (kind_of problem r []) p = subst
           (λ k. HasMoves problem r k p) named.start walk.0 in
-          sym walk.1 ∙ ap (λ k. reached problem r k p) named.start
+          sym walk.1 ∙ ap (λ k. walk_end problem r k p) named.start
           ∙ reached_is problem r stage.split stage.form (over_stretches problem r stage) p moves
 
       -- a state has a name of its own

@@ -1,5 +1,6 @@
 -- Paths and runs of a table: their parts, and what they read.
-use Rattle.std.proofs.Common.{zero, suc, IsTrue, Contains, ℕ, ◌<◌, false, List, [], ◌∷◌, ◌++◌, map, length, refl, sym, ◌∙◌, subst, arith, inl, inr}
+use Rattle.std.proofs.Common.{zero, suc, IsTrue, Contains, ℕ, ◌<◌, false, List, [], ◌∷◌, ◌++◌, map, length, refl, sym}
+use Rattle.std.proofs.Common.{◌∙◌, subst, arith, inl, inr}
 use Rattle.std.proofs.lemmas.Bool.{cases_lt, false≢true}
 use Rattle.std.proofs.lemmas.List.{get_or_past, length-map}
 use Rattle.weight_law.specs.declared.Weight.{Ghosts}

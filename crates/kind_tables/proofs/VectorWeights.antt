@@ -1,7 +1,8 @@
 -- The weights of the table of a single pass are vectors of violations.
-use Rattle.std.proofs.Common.{zero, arith, ◌≡◌, ℕ, ◌+◌, ◌≤◌, Bool, cond, List, [], ◌∷◌, ◌++◌, map, drop, take, length, Contains, refl, sym, ap, ◌∙◌}
+use Rattle.std.proofs.Common.{zero, arith, ◌≡◌, ℕ, ◌+◌, ◌≤◌, Bool, cond, List, [], ◌∷◌, ◌++◌, map, drop, take, length}
+use Rattle.std.proofs.Common.{Contains, refl, sym, ap, ◌∙◌}
 use Rattle.std.proofs.lemmas.List.{length-map}
-use Rattle.weight_law.specs.Ranked.{greatest_part, sum_of_parts, padded, ranked_meaning}
+use Rattle.weight_law.specs.Ranked.{greatest_part, sum_of_parts, parts_of_vector, ranked_meaning}
 use Rattle.weight_law.specs.declared.Weight.{Ghosts}
 use Rattle.weight_law.specs.declared.ranked.Ranked.{Ranked}
 use Rattle.weight_law.proofs.Padded.{sum-padded, padded_zero, greatest-padded}
@@ -17,7 +18,7 @@ use Rattle.arc_table.specs.declared.state.TableState.{TableState}
 use Rattle.arc_table.specs.Moves.{moves_at}
 use Rattle.arc_table.specs.Runs.{IsRun, IsPath, Reads, weight_of, AcceptingRun, SizesWithin}
 use Rattle.violation.specs.Candidates.{IsCandidate, counts_on}
-use Rattle.violation.specs.Moves.{costs, costs_each, first_phase, is_tier_open, moved, move_costs}
+use Rattle.violation.specs.Moves.{costs, costs_each, first_phase, is_tier_open, next_kind, move_costs}
 use Rattle.violation.specs.Prefixes.{kind_of}
 use Rattle.violation.specs.Rests.{counts_rest}
 use Rattle.violation.specs.Walks.{add_each, walk_costs}
@@ -47,7 +48,7 @@ module _ (problem : Problem) (stage : IsStage problem (last_stage problem)) (few
       ∙ length_whole_walk problem stage [] (record { place = 0; opened = []; phases = [] })
 
   weight_nil : (weight_of (let none : List (TableArc Ranked g) = [] in none)).parts
-      ≡ padded (map (λ c. 0) (take (last_stage problem) problem.constraints))
+      ≡ parts_of_vector (map (λ c. 0) (take (last_stage problem) problem.constraints))
   weight_nil = ap (λ m. m.zero.parts) meaning
       ∙ sym (padded_zero (take (last_stage problem) problem.constraints) (omega (arith, firsts, few)))
 
@@ -64,7 +65,7 @@ module _ (problem : Problem) (stage : IsStage problem (last_stage problem)) (few
       (weighed : AreWeighedByAll problem names states) where
     -- a path weighs what its walk costs
     pub path_vector : (arcs : List (TableArc Ranked g)) (p : List (List Sym)) (s t : ℕ) → IsPath states s arcs t
-        → Reads arcs p → (weight_of arcs).parts ≡ padded (walk (name_of names s) p)
+        → Reads arcs p → (weight_of arcs).parts ≡ parts_of_vector (walk (name_of names s) p)
     path_vector [] [] s t path reads = weight_nil
     path_vector [] (column ∷ p) s t path reads = absurd reads
     path_vector (arc ∷ arcs) [] s t path reads = absurd reads
@@ -72,36 +73,36 @@ module _ (problem : Problem) (stage : IsStage problem (last_stage problem)) (few
         let move : GoesAsKinds problem
         (last_stage problem) names s arc column = named.moves s arc column path.0 reads.0 in
         let here : List ℕ = move_costs problem (last_stage problem) (name_of names s) column in
-        let rest : List ℕ = walk (moved problem (last_stage problem) (name_of names s) column) p in
+        let rest : List ℕ = walk (next_kind problem (last_stage problem) (name_of names s) column) p in
         let even : length here ≡ length rest = length_move (name_of names s) column
-        ∙ sym (length_whole_walk problem stage p (moved problem (last_stage problem) (name_of names s) column)) in
+        ∙ sym (length_whole_walk problem stage p (next_kind problem (last_stage problem) (name_of names s) column)) in
         weight_cons arc arcs
         ∙ ap (λ ns. sum_of_parts ns (weight_of arcs).parts) (weighed s arc column path.0 reads.0)
-        ∙ ap (λ ns. sum_of_parts (padded here) ns)
-        (path_vector arcs p arc.target t path.1 reads.1 ∙ ap (λ k. padded (walk k p)) move.leads)
+        ∙ ap (λ ns. sum_of_parts (parts_of_vector here) ns)
+        (path_vector arcs p arc.target t path.1 reads.1 ∙ ap (λ k. parts_of_vector (walk k p)) move.leads)
         ∙ sum-padded here rest even
-        ∙ ap padded (sum_each here rest)
+        ∙ ap parts_of_vector (sum_each here rest)
 
     pub run_vector : (arcs : List (TableArc Ranked g)) (p : List (List Sym)) (s : ℕ) → IsRun states s arcs
-        → Reads arcs p → (weight_of arcs).parts ≡ padded (walk (name_of names s) p)
+        → Reads arcs p → (weight_of arcs).parts ≡ parts_of_vector (walk (name_of names s) p)
     run_vector arcs p s run reads = let path = run_path states s arcs run in path_vector arcs p s path.0 path.1 reads
 
     -- a run from the kind of a prefix weighs the rest
     pub rest_vector : (arcs : List (TableArc Ranked g)) (s : ℕ) (p q : List (List Sym))
         → name_of names s ≡ kind_of problem (last_stage problem) p → IsRun states s arcs → Reads arcs q
         → IsCandidate problem (p ++ q)
-        → (weight_of arcs).parts ≡ padded (counts_rest problem (p ++ q) (length p))
+        → (weight_of arcs).parts ≡ parts_of_vector (counts_rest problem (p ++ q) (length p))
     rest_vector arcs s p q name run reads c =
-        run_vector arcs q s run reads ∙ ap (λ k. padded (walk k q)) name
-        ∙ ap padded (sym (rest_walk problem stage p q c))
+        run_vector arcs q s run reads ∙ ap (λ k. parts_of_vector (walk k q)) name
+        ∙ ap parts_of_vector (sym (rest_walk problem stage p q c))
 
   -- an accepting run weighs the vector of what it reads
   pub run_vector_law : IsRankedTable problem names states → (arcs : List (TableArc Ranked g)) (T : List (List Sym))
-      → AcceptingRun states T arcs → (weight_of arcs).parts ≡ padded (counts_on problem T)
+      → AcceptingRun states T arcs → (weight_of arcs).parts ≡ parts_of_vector (counts_on problem T)
   run_vector_law table arcs T accepting =
       run_vector table.named table.weighed arcs T 0 accepting.run accepting.reads
-      ∙ ap (λ k. padded (walk k T)) table.named.start
-      ∙ ap padded (sym (whole_walk problem stage T ((table.accepts T).0 (arcs, accepting))))
+      ∙ ap (λ k. parts_of_vector (walk k T)) table.named.start
+      ∙ ap parts_of_vector (sym (whole_walk problem stage T ((table.accepts T).0 (arcs, accepting))))
 
 -- a column costs 1 at most under each constraint
 costs_most : (cs : List Constraint) (o : ℕ → Bool) (phases : List Phase) (column : List Sym)
@@ -121,7 +122,7 @@ module _ (problem : Problem) {g : Ghosts Ranked} (meaning : g.meaning ≡ ranked
       let column : List Sym = first_column arc.class in
       let k : PrefixKind = name_of names s in
       let costs : List ℕ = move_costs problem (last_stage problem) k column in
-      let is : arc.weight.parts ≡ padded costs = table.weighed s arc column here
+      let is : arc.weight.parts ≡ parts_of_vector costs = table.weighed s arc column here
       (has-first_column arc.class (table.named.filled s arc here)) in
       let size : greatest_part arc.weight.parts ≡ greatest_part costs = ap greatest_part is ∙ greatest-padded costs in
       let most : greatest_part costs ≤ 1 = costs_most (take (last_stage problem) problem.constraints)

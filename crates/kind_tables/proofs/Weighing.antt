@@ -1,5 +1,6 @@
 -- The weights of a stage's table are violations of its constraint.
-use Rattle.std.proofs.Common.{zero, suc, arith, ◌*◌, Bool, cond, drop, length, Contains, ◌≡◌, ℕ, ◌+◌, ◌-◌, ◌≤◌, List, [], ◌∷◌, ◌++◌, take, length, get_or, sym, ap, ◌∙◌}
+use Rattle.std.proofs.Common.{zero, suc, arith, ◌*◌, Bool, cond, drop, length, Contains, ◌≡◌, ℕ, ◌+◌, ◌-◌, ◌≤◌, List}
+use Rattle.std.proofs.Common.{[], ◌∷◌, ◌++◌, take, length, get_or, sym, ap, ◌∙◌}
 use Rattle.weight_law.specs.Count.{count_meaning}
 use Rattle.weight_law.specs.declared.Weight.{Ghosts}
 use Rattle.weight_law.specs.declared.count.Count.{Count}

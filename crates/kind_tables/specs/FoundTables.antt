@@ -11,7 +11,7 @@ use Rattle.arc_table.specs.declared.arc.TableArc.{TableArc}
 use Rattle.arc_table.specs.declared.state.TableState.{TableState}
 use Rattle.arc_table.specs.Conditions.{TargetsExist, ClassesFilled}
 use Rattle.arc_table.specs.Moves.{moves_at, accepting_at}
-use Rattle.violation.specs.Moves.{FitsKind, moved, cut}
+use Rattle.violation.specs.Moves.{FitsKind, next_kind, cut_kind}
 use Rattle.violation.specs.Prefixes.{kind_of}
 use Rattle.kind_tables.specs.StageTables.{name_of}
 use Rattle.violation.specs.Problems.{Problem}
@@ -52,12 +52,12 @@ pub record AreFoundFrom {V : Type 0} {h : Ghosts V} {g : Ghosts Count} (problem 
   pub some : 0 < length found
   pub start : name_of names 0 ≡ kind_of problem n []
   pub based : (s : ℕ) → s < length found → base_of bases s < length pruned
-  pub cuts : (s : ℕ) → s < length found → cut problem r (name_of names s) ≡ name_of pruned_names (base_of bases s)
+  pub cuts : (s : ℕ) → s < length found → cut_kind problem r (name_of names s) ≡ name_of pruned_names (base_of bases s)
   pub ends : (s : ℕ) → s < length found → accepting_at found s ≡ accepting_at pruned (base_of bases s)
   pub columns : (s : ℕ) (column : List Sym) → s < length found
       → HasMoveOn found s column ↔ HasMoveOn pruned (base_of bases s) column
   pub leads : (s : ℕ) (arc : TableArc Count g) (column : List Sym) → Contains (moves_at found s) arc
-      → IsTrue (has arc.class column) → name_of names arc.target ≡ moved problem n (name_of names s) column
+      → IsTrue (has arc.class column) → name_of names arc.target ≡ next_kind problem n (name_of names s) column
   pub targets : TargetsExist found
   pub filled : ClassesFilled found
   pub reached : AreReached found

@@ -20,7 +20,7 @@ use Rattle.arc_table.specs.Conditions.{TargetsExist, ClassesFilled}
 use Rattle.arc_table.specs.Moves.{moves_at, accepting_at}
 use Rattle.arc_table.specs.Runs.{Accepts, IsOnRun}
 use Rattle.violation.specs.Candidates.{IsOptimalFor}
-use Rattle.violation.specs.Moves.{FitsKind, moved, is_final}
+use Rattle.violation.specs.Moves.{FitsKind, next_kind, is_final}
 use Rattle.violation.specs.Prefixes.{kind_of}
 pub use Rattle.violation.specs.Moves.{cost_of}
 pub use Rattle.violation.specs.Stages.{IsStage}
@@ -35,7 +35,7 @@ name_of names s = slice_index_or names s (record { place = 0; opened = []; phase
 pub record GoesAsKinds {W : Type 0} {g : Ghosts W} (problem : Problem) (r : ℕ) (names : List PrefixKind) (s : ℕ)
     (arc : TableArc W g) (column : List Sym) : Type 0 where
   pub fits : FitsKind problem (name_of names s) column
-  pub leads : name_of names arc.target ≡ moved problem r (name_of names s) column
+  pub leads : name_of names arc.target ≡ next_kind problem r (name_of names s) column
 
 -- The states of a table are named by kinds under the first r constraints: each by one of its own,
 -- the start by that of the empty prefix. A state accepts if its name is final, and each move goes

@@ -8,7 +8,7 @@ ghost use Rattle.arc_table.specs.declared.arc.TableArc.{TableArc};
 ghost use Rattle.arc_table.specs.declared.state.TableState.{TableState};
 ghost use Rattle.arc_table.specs.Moves.{moves_at};
 ghost use Rattle.arc_table.specs.Runs.{Accepts, IsOnRun};
-ghost use Rattle.violation.specs.Moves.{FitsKind, moved, cut};
+ghost use Rattle.violation.specs.Moves.{FitsKind, next_kind, cut_kind};
 ghost use Rattle.violation.specs.Problems.{Problem};
 ghost use Rattle.kind_tables.specs.StageTables.{IsStage, name_of, AreNamedByKinds};
 ghost use Rattle.kind_tables.specs.FoundTables.{AreFoundFrom};
@@ -22,16 +22,16 @@ pub fn cut_kinds_go_by_pruned_moves()
         (pruned : List (TableState UnitWeight ⟦<UnitWeight as Weight>⟧))
         → AreNamedByKinds problem r names pruned
         → (k : PrefixKind) (base : ℕ) (arc : TableArc UnitWeight ⟦<UnitWeight as Weight>⟧)
-        (column : List Sym) → cut problem r k ≡ name_of names base
+        (column : List Sym) → cut_kind problem r k ≡ name_of names base
         → Contains (moves_at pruned base) arc → IsTrue (has arc.class column)
         → FitsKind problem k column }
     ensures leads { (problem : Problem) (r n : ℕ) (names : List PrefixKind)
         (pruned : List (TableState UnitWeight ⟦<UnitWeight as Weight>⟧)) → r ≤ n
         → AreNamedByKinds problem r names pruned
         → (k : PrefixKind) (base : ℕ) (arc : TableArc UnitWeight ⟦<UnitWeight as Weight>⟧)
-        (column : List Sym) → cut problem r k ≡ name_of names base
+        (column : List Sym) → cut_kind problem r k ≡ name_of names base
         → Contains (moves_at pruned base) arc → IsTrue (has arc.class column)
-        → cut problem r (moved problem n k column) ≡ name_of names arc.target }
+        → cut_kind problem r (next_kind problem n k column) ≡ name_of names arc.target }
 {}
 
 /// A table that is found from another one, by going on by kinds under more constraints, is named by

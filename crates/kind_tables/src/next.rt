@@ -7,7 +7,7 @@ ghost use Rattle.tier_core.specs.Kinds.{PrefixKind};
 ghost use Rattle.arc_table.specs.declared.state.TableState.{TableState};
 ghost use Rattle.arc_table.specs.Runs.{Accepts, IsOnRun};
 ghost use Rattle.violation.specs.Candidates.{IsCandidate, IsOptimalFor};
-ghost use Rattle.violation.specs.Moves.{FitsKind, moved, is_final, cut};
+ghost use Rattle.violation.specs.Moves.{FitsKind, next_kind, is_final, cut_kind};
 ghost use Rattle.violation.specs.Prefixes.{kind_of};
 ghost use Rattle.kind_tables.specs.StageTables.{AreNamedByKinds, AreWeighed, IsStageTable};
 ghost use Rattle.violation.specs.Problems.{Problem};
@@ -37,11 +37,12 @@ pub fn named_tables_are_stage_tables()
 /// its kind.
 pub fn cut_kinds_go_alike()
     ensures moves { (problem : Problem) (r s : ℕ) (k : PrefixKind) (column : List Sym) → r ≤ s
-        → cut problem r (moved problem s k column) ≡ moved problem r (cut problem r k) column }
+        → cut_kind problem r (next_kind problem s k column)
+        ≡ next_kind problem r (cut_kind problem r k) column }
     ensures fits { (problem : Problem) (r : ℕ) (k : PrefixKind) (column : List Sym)
-        → FitsKind problem (cut problem r k) column ↔ FitsKind problem k column }
+        → FitsKind problem (cut_kind problem r k) column ↔ FitsKind problem k column }
     ensures ends { (problem : Problem) (r : ℕ) (k : PrefixKind)
-        → is_final problem (cut problem r k) ≡ is_final problem k }
+        → is_final problem (cut_kind problem r k) ≡ is_final problem k }
     ensures prefixes { (problem : Problem) (r s : ℕ) (p : List (List Sym)) → r ≤ s
-        → cut problem r (kind_of problem s p) ≡ kind_of problem r p }
+        → cut_kind problem r (kind_of problem s p) ≡ kind_of problem r p }
 {}

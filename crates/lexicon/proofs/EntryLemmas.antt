@@ -1,8 +1,10 @@
 -- Elements that are entries, gone through one by one.
-use Rattle.std.proofs.Common.{◌≡◌, ℕ, ◌+◌, ◌<◌, ◌≤◌, Bool, true, false, cond, Some, None, List, [], ◌∷◌, ◌++◌, length, get_or, take, drop, map, string_bytes, refl, ap, sym, ◌∙◌, subst, arith}
+use Rattle.std.proofs.Common.{◌≡◌, ℕ, ◌+◌, ◌<◌, ◌≤◌, Bool, true, false, cond, Some, None, List, [], ◌∷◌, ◌++◌, length}
+use Rattle.std.proofs.Common.{get_or, take, drop, map, string_bytes, refl, ap, sym, ◌∙◌, subst, arith}
 use Rattle.std.specs.List.{AllZip, list_any}
 use Rattle.std.specs.Str.{bytes_eq}
-use Rattle.std.proofs.lemmas.List.{length-map, length-take-le, map-append, map_push, take-append-drop, drop_more, take_more}
+use Rattle.std.proofs.lemmas.List.{length-map, length-take-le, map-append, map_push, take-append-drop, drop_more}
+use Rattle.std.proofs.lemmas.List.{take_more}
 use Rattle.toml.specs.Data.{Data}
 use Rattle.toml.specs.View.{view, items_view}
 use Rattle.toml.specs.declared.value.Value.{Value}
@@ -16,8 +18,9 @@ use Rattle.form_reader.specs.Forms.{IsReadAs, IsRefusedFor}
 use Rattle.lexicon.specs.declared.entry.Entry.{Entry}
 use Rattle.lexicon.specs.declared.lex_err.LexErr.{LexErr}
 use Rattle.lexicon.specs.declared.lex_err.LexErr.TheVariants.{BadEntry, TwiceNamed, BadForm}
-use Rattle.lexicon.specs.Elements.{list_of, written}
-use Rattle.lexicon.specs.Entries.{LexicalEntry, AreEntries, IsEntry, IsFault, IsFirstFault, is_among, names_of}
+use Rattle.lexicon.specs.Elements.{list_of, entry_words}
+use Rattle.lexicon.specs.Entries.{LexicalEntry, AreEntries, IsEntry, IsEntryFault, IsFirstEntryFault, is_among}
+use Rattle.lexicon.specs.Entries.{names_of}
 use Rattle.lexicon.specs.Seen.{entries_seen, entry_seen}
 use denote.Ref.{Bor}
 
@@ -117,8 +120,8 @@ module _ (inputs : ℕ) (letters : List Letter) where
         (one_more (map view (take place values)) entries (view value) entry are is new)
 
     -- or it is none, for this cause
-    first_fault : (cause : LexErr) → IsFault inputs letters (names_of entries) (view value) cause
-        → IsFirstFault inputs letters (map view values) cause
+    first_fault : (cause : LexErr) → IsEntryFault inputs letters (names_of entries) (view value) cause
+        → IsFirstEntryFault inputs letters (map view values) cause
     first_fault cause is = record {
       front = map view (take place values);
       element = view value;
@@ -129,26 +132,27 @@ module _ (inputs : ℕ) (letters : List Letter) where
       fault = is;
     }
 
-    pub bad_entry : written (view value) ≡ None → IsFirstFault inputs letters (map view values) (BadEntry place)
+    pub bad_entry : entry_words (view value) ≡ None
+        → IsFirstEntryFault inputs letters (map view values) (BadEntry place)
     bad_entry none = first_fault (BadEntry place) (index_of, none)
 
-    pub twice_named : (name word : List ℕ) → written (view value) ≡ Some (name, word)
+    pub twice_named : (name word : List ℕ) → entry_words (view value) ≡ Some (name, word)
         → is_among name (names_of entries) ≡ true
-        → IsFirstFault inputs letters (map view values) (TwiceNamed place)
+        → IsFirstEntryFault inputs letters (map view values) (TwiceNamed place)
     twice_named name word writes taken = first_fault (TwiceNamed place)
         (index_of, record { name = name; word = word; writes = writes; taken = taken })
 
-    pub bad_form : (name word : List ℕ) (cause : FormErr) → written (view value) ≡ Some (name, word)
+    pub bad_form : (name word : List ℕ) (cause : FormErr) → entry_words (view value) ≡ Some (name, word)
         → is_among name (names_of entries) ≡ false → IsRefusedFor inputs letters word cause
-        → IsFirstFault inputs letters (map view values) (BadForm place cause)
+        → IsFirstEntryFault inputs letters (map view values) (BadForm place cause)
     bad_form name word cause writes new refused = first_fault (BadForm place cause)
         (index_of, record { name = name; word = word; writes = writes; new = new; refused = refused })
 
     -- the same, where the refusal says its cause
-    pub refused_word : (name word : List ℕ) (e : LexErr) → written (view value) ≡ Some (name, word)
+    pub refused_word : (name word : List ℕ) (e : LexErr) → entry_words (view value) ≡ Some (name, word)
         → is_among name (names_of entries) ≡ false
         → (cause : FormErr) × (e ≡ BadForm place cause) × IsRefusedFor inputs letters word cause
-        → IsFirstFault inputs letters (map view values) e
+        → IsFirstEntryFault inputs letters (map view values) e
     refused_word name word e writes new (cause, is, refused) =
-        subst (λ (x : LexErr). IsFirstFault inputs letters (map view values) x) (sym is)
+        subst (λ (x : LexErr). IsFirstEntryFault inputs letters (map view values) x) (sym is)
         (bad_form name word cause writes new refused)

@@ -1,5 +1,6 @@
 -- Elements are entries, or one of them is the first that is none, and never both.
-use Rattle.std.proofs.Common.{◌≡◌, ◌⊎◌, inl, inr, ℕ, true, false, Option, Some, List, [], ◌∷◌, ◌++◌, length, append-nil, append_assoc, refl, ap, sym, ◌∙◌, subst}
+use Rattle.std.proofs.Common.{◌≡◌, ◌⊎◌, inl, inr, ℕ, true, false, Option, Some, List, [], ◌∷◌, ◌++◌, length, append-nil}
+use Rattle.std.proofs.Common.{append_assoc, refl, ap, sym, ◌∙◌, subst}
 use Rattle.std.specs.List.{AllZip}
 use Rattle.std.proofs.lemmas.Bool.{false≢true}
 use Rattle.std.proofs.lemmas.List.{map-append}
@@ -11,12 +12,13 @@ use Rattle.timeline_text.specs.declared.letter.Letter.{Letter}
 use Rattle.timeline_text.proofs.Searches.{by_test, by_option, none_some}
 use Rattle.grammar_reader.specs.Names.{has_twice}
 use Rattle.grammar_reader.proofs.Twice.{twice_after}
-use Rattle.form_reader.specs.Forms.{HasForm, IsReadAs, IsRefusedFor}
+use Rattle.form_reader.specs.Forms.{HasFormOrCause, IsReadAs, IsRefusedFor}
 use Rattle.form_reader.proofs.ReadingLemmas.{has_form, not_refused, one_reading, one_refusal}
 use Rattle.lexicon.specs.declared.lex_err.LexErr.{LexErr}
 use Rattle.lexicon.specs.declared.lex_err.LexErr.TheVariants.{NotToml, TooMany, BadEntry, TwiceNamed, BadForm, NoMemory}
-use Rattle.lexicon.specs.Elements.{written}
-use Rattle.lexicon.specs.Entries.{LexicalEntry, AreEntries, HasBadForm, IsEntry, IsFault, IsFirstFault, IsTwiceNamed, is_among, names_of}
+use Rattle.lexicon.specs.Elements.{entry_words}
+use Rattle.lexicon.specs.Entries.{LexicalEntry, AreEntries, HasBadForm, IsEntry, IsEntryFault, IsFirstEntryFault}
+use Rattle.lexicon.specs.Entries.{IsTwiceNamed, is_among, names_of}
 use Rattle.lexicon.proofs.EntryLemmas.{no_entries, one_more}
 
 same_names : {o : Option (List ℕ × List ℕ)} (m n v w : List ℕ) → o ≡ Some (m, v) → o ≡ Some (n, w) → m ≡ n
@@ -69,7 +71,7 @@ record Among (inputs : ℕ) (letters : List Letter) (xs : List Data) (d : Data) 
 data Outcome (inputs : ℕ) (letters : List Letter) (names : List (List ℕ)) (d : Data) : Type 0 where
   fits : (e : LexicalEntry) → IsEntry inputs letters d e → is_among e.name names ≡ false
       → Outcome inputs letters names d
-  fails : (cause : LexErr) → IsFault inputs letters names d cause → Outcome inputs letters names d
+  fails : (cause : LexErr) → IsEntryFault inputs letters names d cause → Outcome inputs letters names d
 
 module _ (inputs : ℕ) (letters : List Letter) where
   -- an element is one entry at most
@@ -116,7 +118,7 @@ module _ (inputs : ℕ) (letters : List Letter) where
 
   -- an element that is an entry with a name of its own has no cause
   entry_or_fault : (names : List (List ℕ)) (d : Data) (e : LexicalEntry) (cause : LexErr) → IsEntry inputs letters d e
-      → is_among e.name names ≡ false → IsFault inputs letters names d cause → ⊥
+      → is_among e.name names ≡ false → IsEntryFault inputs letters names d cause → ⊥
   entry_or_fault names d e NotToml is new f = f
   entry_or_fault names d e TooMany is new f = f
   entry_or_fault names d e (BadEntry index) is new f = none_some f.1 is.writes
@@ -142,8 +144,8 @@ module _ (inputs : ℕ) (letters : List Letter) where
       (same_words a.name b.name a.word b.word a.writes b.writes) a.refused) b.refused
 
   -- an element has one cause at most
-  one_fault : (names : List (List ℕ)) (d : Data) (cause other : LexErr) → IsFault inputs letters names d cause
-      → IsFault inputs letters names d other → cause ≡ other
+  one_fault : (names : List (List ℕ)) (d : Data) (cause other : LexErr) → IsEntryFault inputs letters names d cause
+      → IsEntryFault inputs letters names d other → cause ≡ other
   one_fault names d NotToml other f g = absurd f
   one_fault names d TooMany other f g = absurd f
   one_fault names d NoMemory other f g = absurd f
@@ -170,24 +172,24 @@ module _ (inputs : ℕ) (letters : List Letter) where
   -- an element among entries has no cause
   no_fault_among : (xs : List Data) (d : Data) (zs : List Data) (all front : List LexicalEntry) (cause : LexErr)
       → AreEntries inputs letters (xs ++ d ∷ zs) all → AreEntries inputs letters xs front
-      → IsFault inputs letters (names_of front) d cause → ⊥
+      → IsEntryFault inputs letters (names_of front) d cause → ⊥
   no_fault_among xs d zs all front cause a b f =
       let m = entry_among xs d zs all a.each in
       let same : front ≡ m.front = one_list xs front m.front b.each m.each in
       let new = new_name m.front m.entry m.rest (ap (λ es. has_twice (names_of es)) (sym m.split) ∙ a.once) in
       entry_or_fault (names_of m.front) d m.entry cause m.is new
-      (subst (λ (es : List LexicalEntry). IsFault inputs letters (names_of es) d cause) same f)
+      (subst (λ (es : List LexicalEntry). IsEntryFault inputs letters (names_of es) d cause) same f)
 
   -- elements that are entries have no cause
   pub no_first_fault : (ds : List Data) (es : List LexicalEntry) (cause : LexErr) → AreEntries inputs letters ds es
-      → IsFirstFault inputs letters ds cause → ⊥
+      → IsFirstEntryFault inputs letters ds cause → ⊥
   no_first_fault ds es cause a f =
       no_fault_among f.front f.element f.rest es f.entries cause
       (subst (λ (xs : List Data). AreEntries inputs letters xs es) f.split a) f.are f.fault
 
   -- elements have one cause at most
-  pub one_first_fault : (ds : List Data) (cause other : LexErr) → IsFirstFault inputs letters ds cause
-      → IsFirstFault inputs letters ds other → cause ≡ other
+  pub one_first_fault : (ds : List Data) (cause other : LexErr) → IsFirstEntryFault inputs letters ds cause
+      → IsFirstEntryFault inputs letters ds other → cause ≡ other
   one_first_fault ds cause other f g = from
       (two_places f.front g.front f.element g.element f.rest g.rest (sym f.split ∙ g.split))
     where
@@ -196,10 +198,11 @@ module _ (inputs : ℕ) (letters : List Letter) where
           let c : AllZip (IsEntry inputs letters) g.front f.entries = subst
           (λ (xs : List Data). AllZip (IsEntry inputs letters) xs f.entries) a f.are.each in
           let same : f.entries ≡ g.entries = one_list g.front f.entries g.entries c g.are.each in
-          let here : IsFault inputs letters (names_of f.entries) g.element cause = subst
-          (λ (d : Data). IsFault inputs letters (names_of f.entries) d cause) b f.fault in
+          let here : IsEntryFault inputs letters (names_of f.entries) g.element cause = subst
+          (λ (d : Data). IsEntryFault inputs letters (names_of f.entries) d cause) b f.fault in
           one_fault (names_of g.entries) g.element cause other
-          (subst (λ (es : List LexicalEntry). IsFault inputs letters (names_of es) g.element cause) same here) g.fault
+          (subst (λ (es : List LexicalEntry). IsEntryFault inputs letters (names_of es) g.element cause) same here)
+          g.fault
 
       from : Places f.front g.front f.element g.element → cause ≡ other
       from (together a b) = at_one a b
@@ -209,16 +212,16 @@ module _ (inputs : ℕ) (letters : List Letter) where
           (subst (λ (xs : List Data). AreEntries inputs letters xs f.entries) a f.are) g.are g.fault)
 
   outcome_of : (names : List (List ℕ)) (d : Data) → Outcome inputs letters names d
-  outcome_of names d = by_option (written d) writes (λ none. fails (BadEntry (length names)) (refl, none))
+  outcome_of names d = by_option (entry_words d) writes (λ none. fails (BadEntry (length names)) (refl, none))
     where
-      read : (name word : List ℕ) → written d ≡ Some (name, word) → is_among name names ≡ false
-          → HasForm inputs letters word → Outcome inputs letters names d
+      read : (name word : List ℕ) → entry_words d ≡ Some (name, word) → is_among name names ≡ false
+          → HasFormOrCause inputs letters word → Outcome inputs letters names d
       read name word h new (inl (u, r)) = fits (record { name = name; form = u })
           (record { word = word; writes = h; read = r }) new
       read name word h new (inr (cause, r)) = fails (BadForm (length names) cause)
           (refl, record { name = name; word = word; writes = h; new = new; refused = r })
 
-      writes : (p : List ℕ × List ℕ) → written d ≡ Some p → Outcome inputs letters names d
+      writes : (p : List ℕ × List ℕ) → entry_words d ≡ Some p → Outcome inputs letters names d
       writes (name, word) h = by_test (is_among name names)
           (λ taken. fails (TwiceNamed (length names))
           (refl, record { name = name; word = word; writes = h; taken = taken }))
@@ -226,7 +229,7 @@ module _ (inputs : ℕ) (letters : List Letter) where
 
   abbrev Goes : List Data → Type 0
   Goes ds = ((es : List LexicalEntry) × AreEntries inputs letters ds es) ⊎
-      ((cause : LexErr) × IsFirstFault inputs letters ds cause)
+      ((cause : LexErr) × IsFirstEntryFault inputs letters ds cause)
 
   goes_on : (front : List Data) (es : List LexicalEntry) (d : Data) (rest : List Data)
       → AreEntries inputs letters front es → Outcome inputs letters (names_of es) d
@@ -246,5 +249,5 @@ module _ (inputs : ℕ) (letters : List Letter) where
   -- elements are entries, or one of them is the first that is none
   pub entries_or_fault : (ds : List Data)
       → ((es : List LexicalEntry) × AreEntries inputs letters ds es) ⊎
-      ((cause : LexErr) × IsFirstFault inputs letters ds cause)
+      ((cause : LexErr) × IsFirstEntryFault inputs letters ds cause)
   entries_or_fault ds = goes ds [] [] (no_entries inputs letters)

@@ -1,5 +1,6 @@
 -- Bytes are a lexicon, or they have a cause, and never both.
-use Rattle.std.proofs.Common.{◌≡◌, ◌⊎◌, inl, inr, ℕ, ◌<◌, ◌≤◌, Bool, true, false, nat_lt, Option, Some, None, option_map, List, codes, length, map, MatchBool, refl, ap, sym, ◌∙◌, subst, arith}
+use Rattle.std.proofs.Common.{◌≡◌, ◌⊎◌, inl, inr, ℕ, ◌<◌, ◌≤◌, Bool, true, false, nat_lt, Option, Some, None}
+use Rattle.std.proofs.Common.{option_map, List, codes, length, map, MatchBool, refl, ap, sym, ◌∙◌, subst, arith}
 use Rattle.std.specs.Str.{is_utf8}
 use Rattle.std.proofs.lemmas.Bool.{false≢true}
 use Rattle.std.proofs.lemmas.Bool.Decides.{nat_tests}
@@ -15,7 +16,7 @@ use Rattle.form_reader.proofs.ReadingLemmas.{by_choices, when_true, when_false}
 use Rattle.lexicon.specs.declared.lex_err.LexErr.{LexErr}
 use Rattle.lexicon.specs.declared.lex_err.LexErr.TheVariants.{NotToml, TooMany, BadEntry}
 use Rattle.lexicon.specs.Elements.{elements_of, elements_under, list_of}
-use Rattle.lexicon.specs.Entries.{LexicalEntry, AreEntries, IsFirstFault}
+use Rattle.lexicon.specs.Entries.{LexicalEntry, AreEntries, IsFirstEntryFault}
 use Rattle.lexicon.specs.Lexicons.{HasLexicon, IsLexicon, IsLexiconCause, IsNoToml, IsTableCause, IsToml}
 use Rattle.lexicon.proofs.EntryLemmas.{list_of-items_view}
 use Rattle.lexicon.proofs.FaultLemmas.{entries_or_fault, no_first_fault, one_first_fault, one_list}
@@ -44,14 +45,15 @@ module _ (inputs : ℕ) (letters : List Letter) where
   few_or_many ds es cause few are refused = by_test (nat_lt 1000 (length ds))
       (λ many. let l : 1000 < length ds = grind (arith, nat_tests) in omega arith)
       (λ h. no_first_fault inputs letters ds es cause are
-      (subst (λ (t : Bool). MatchBool t (cause ≡ TooMany) (IsFirstFault inputs letters ds cause)) h refused))
+      (subst (λ (t : Bool). MatchBool t (cause ≡ TooMany) (IsFirstEntryFault inputs letters ds cause)) h refused))
 
   one_table_cause : (o : Option (List Data)) (cause other : LexErr) → IsTableCause inputs letters o cause
       → IsTableCause inputs letters o other → cause ≡ other
   one_table_cause None cause other a b = a ∙ sym b
   one_table_cause (Some ds) cause other a b =
-      by_choices (nat_lt 1000 (length ds)) (cause ≡ TooMany) (IsFirstFault inputs letters ds cause) (other ≡ TooMany)
-      (IsFirstFault inputs letters ds other) (cause ≡ other) a b
+      by_choices (nat_lt 1000 (length ds)) (cause ≡ TooMany) (IsFirstEntryFault inputs letters ds cause)
+      (other ≡ TooMany)
+      (IsFirstEntryFault inputs letters ds other) (cause ≡ other) a b
       (λ e f. e ∙ sym f)
       (λ f g. one_first_fault inputs letters ds cause other f g)
 
@@ -104,7 +106,7 @@ module _ (inputs : ℕ) (letters : List Letter) where
         (let h : nat_lt 1000 (length ds) ≡ true = grind (arith, nat_tests) in h) refl)
 
     pub bad_element : (table : Members) (ds : List Data) (cause : LexErr) → IsToml bytes table
-        → elements_of table ≡ Some ds → length ds ≤ 1000 → IsFirstFault inputs letters ds cause
+        → elements_of table ≡ Some ds → length ds ≤ 1000 → IsFirstEntryFault inputs letters ds cause
         → IsLexiconCause inputs letters bytes cause
     bad_element table ds cause toml e few fault =
         bad_table table (Some ds) cause toml e
@@ -127,7 +129,7 @@ module _ (inputs : ℕ) (letters : List Letter) where
         from_elements : (table : Members) (ds : List Data) → IsToml bytes table → elements_of table ≡ Some ds
             → length ds ≤ 1000
             → ((es : List LexicalEntry) × AreEntries inputs letters ds es) ⊎
-            ((cause : LexErr) × IsFirstFault inputs letters ds cause) → HasLexicon inputs letters bytes
+            ((cause : LexErr) × IsFirstEntryFault inputs letters ds cause) → HasLexicon inputs letters bytes
         from_elements table ds toml e few (inl (es, are)) = inl (es, is_lexicon table ds es toml e few are)
         from_elements table ds toml e few (inr (cause, fault)) = inr
             (cause, bad_element table ds cause toml e few fault)

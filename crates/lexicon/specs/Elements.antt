@@ -31,10 +31,10 @@ abbrev pub text_under : List ℕ → Data → Option (List ℕ)
 text_under key element = option_and_then as_str (get key element)
 
 -- a name and a word, if the name is within its limit
-abbrev pub named : List ℕ → List ℕ → Option (List ℕ × List ℕ)
-named name word = if is_entry_name name then Some (name, word) else None
+abbrev pub named_word : List ℕ → List ℕ → Option (List ℕ × List ℕ)
+named_word name word = if is_entry_name name then Some (name, word) else None
 
 -- what an element writes: the name of an entry, and the word of its form
-abbrev pub written : Data → Option (List ℕ × List ℕ)
-written element = option_and_then (λ name. option_and_then (named name) (text_under (codes "form") element))
+abbrev pub entry_words : Data → Option (List ℕ × List ℕ)
+entry_words element = option_and_then (λ name. option_and_then (named_word name) (text_under (codes "form") element))
     (text_under (codes "name") element)

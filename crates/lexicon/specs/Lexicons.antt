@@ -6,7 +6,7 @@ use Rattle.timeline_text.specs.declared.letter.Letter.{Letter}
 use Rattle.lexicon.specs.declared.lex_err.LexErr.{LexErr}
 use Rattle.lexicon.specs.declared.lex_err.LexErr.TheVariants.{NotToml, TooMany, BadEntry}
 use Rattle.lexicon.specs.Elements.{elements_of}
-use Rattle.lexicon.specs.Entries.{LexicalEntry, AreEntries, IsFirstFault}
+use Rattle.lexicon.specs.Entries.{LexicalEntry, AreEntries, IsFirstEntryFault}
 
 -- bytes are UTF-8, and denote a table by the grammar of TOML
 pub record IsToml (bytes : List ℕ) (table : Members) : Type 0 where
@@ -30,7 +30,7 @@ pub record IsLexicon (inputs : ℕ) (letters : List Letter) (bytes : List ℕ) (
 abbrev pub IsTableCause : ℕ → List Letter → Option (List Data) → LexErr → Type 0
 IsTableCause inputs letters None cause = cause ≡ BadEntry 0
 IsTableCause inputs letters (Some elements) cause = MatchBool (nat_lt 1000 (length elements)) (cause ≡ TooMany)
-    (IsFirstFault inputs letters elements cause)
+    (IsFirstEntryFault inputs letters elements cause)
 
 -- bytes denote a table that is not a lexicon
 pub record IsBadTable (inputs : ℕ) (letters : List Letter) (bytes : List ℕ) (cause : LexErr) : Type 0 where

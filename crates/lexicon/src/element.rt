@@ -1,7 +1,7 @@
 ghost use Rattle.std.specs.Prelude.{◌≡◌, ◌&&◌, nat_le, option_map};
 ghost use Rattle.std.specs.List.{list_all};
 ghost use Rattle.toml.specs.View.{view};
-ghost use Rattle.lexicon.specs.Elements.{is_name_byte, is_entry_name, text_under, written};
+ghost use Rattle.lexicon.specs.Elements.{is_name_byte, is_entry_name, text_under, entry_words};
 
 use toml::Value;
 
@@ -47,9 +47,9 @@ fn text_under<'a>(element: &'a Value, key: &str) -> Option<&'a str>
 }
 
 /// What an element writes: the name of an entry, and the word of its form.
-pub(crate) fn written(element: &Value) -> Option<(&str, &str)>
+pub(crate) fn entry_words(element: &Value) -> Option<(&str, &str)>
     ensures { option_map (λ pair. (pair.0.now, pair.1.now)) result
-        ≡ written (view element.entry.now) }
+        ≡ entry_words (view element.entry.now) }
 {
     let name = text_under(element, "name")?;
     let word = text_under(element, "form")?;

@@ -5,11 +5,11 @@ ghost use Rattle.toml.specs.View.{view, table_view};
 ghost use Rattle.grammar_reader.specs.Names.{has_twice};
 ghost use Rattle.violation.specs.Candidates.{IsForm};
 ghost use Rattle.form_reader.specs.Forms.{IsReadAs, IsRefusedFor};
-ghost use Rattle.lexicon.specs.Entries.{AreEntries, IsFirstFault, names_of};
+ghost use Rattle.lexicon.specs.Entries.{AreEntries, IsFirstEntryFault, names_of};
 ghost use Rattle.lexicon.specs.Seen.{entries_seen};
 ghost use Rattle.lexicon.specs.Lexicons.{IsLexicon, IsLexiconCause, IsNoToml, IsToml};
 
-use crate::element::written;
+use crate::element::entry_words;
 use crate::entry::Entry;
 use crate::lex_err::LexErr;
 use form_reader::read_form;
@@ -81,7 +81,7 @@ fn read_elements(alloc: Global, grammar: &Grammar, elements: &[Value]) -> Result
     ensures short { IfOk result (λ entries. All (λ entry. length entry.form ≤ 64) entries.items) }
     ensures err { IfErr result
         (λ e. e ≢ LexErr.NoMemory
-        → IsFirstFault
+        → IsFirstEntryFault
         (length (tiers_of_table grammar.now.tiers).input) grammar.now.letters.items
         (map view elements.now) e) }
 {
@@ -89,7 +89,7 @@ fn read_elements(alloc: Global, grammar: &Grammar, elements: &[Value]) -> Result
     let mut entries = Vec::new(alloc);
     for (place, element) in elements.iter().enumerate() {
         let index = place as u32;
-        let Some((name, word)) = written(element) else {
+        let Some((name, word)) = entry_words(element) else {
             return Err(LexErr::BadEntry { index });
         };
         if names.contains(name.as_bytes()) {

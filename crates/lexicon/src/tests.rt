@@ -139,7 +139,7 @@ fn names_of_sixty_four_bytes(rt: HostRuntime) -> Result<(), Fail> {
 }
 
 /// A lexicon of so many entries without columns.
-fn numbered(alloc: Global, count: u32) -> Result<String, AllocError> {
+fn many_entries(alloc: Global, count: u32) -> Result<String, AllocError> {
     let mut text = String::new(alloc);
     for number in 0..count {
         let entry = format!(in alloc; "[[entry]]\nname = \"{number}\"\nform = \"empty\"\n")?;
@@ -152,7 +152,7 @@ fn numbered(alloc: Global, count: u32) -> Result<String, AllocError> {
 #[test]
 fn a_thousand_entries(rt: HostRuntime) -> Result<(), Fail> {
     let grammar = grammar(rt.alloc())?;
-    let file = numbered(rt.alloc(), 1000)?;
+    let file = many_entries(rt.alloc(), 1000)?;
     let entries = read_lexicon(rt.alloc(), &grammar, file.as_bytes())?;
     assert_eq!(rt; entries.len(), 1000);
     let mut more = String::from_str(rt.alloc(), "[[entry]]\n")?;

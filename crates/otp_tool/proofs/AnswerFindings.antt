@@ -2,7 +2,7 @@
 use Rattle.std.proofs.Common.{◌≡◌, ◌⊎◌, inl, inr, ℕ, List, length, refl, ap, sym, ◌∙◌, arith}
 use Rattle.tier_core.specs.declared.sym.Sym.{Sym}
 use Rattle.grammar_reader.specs.Values.{GrammarValue}
-use Rattle.ranked_gen.specs.Budgets.{AreAllWithin, IsFirstOver, IsOver, IsWithin}
+use Rattle.ranked_gen.specs.Budgets.{AreAllWithin, IsFirstOver, IsOver, IsStageWithin}
 use Rattle.timeline_text.proofs.Deciding.{not_both}
 use Rattle.timeline_text.specs.declared.form_err.FormErr.{FormErr}
 use Rattle.form_reader.specs.Forms.{IsRefusedFor}
@@ -10,9 +10,11 @@ use Rattle.form_reader.proofs.ReadingLemmas.{not_refused, one_cause, one_reading
 use Rattle.violation.specs.Problems.{Problem, last_stage}
 use Rattle.violation.specs.Rests.{AreWholeKindsOver, AreWholeKindsWithin}
 use Rattle.otp_tool.specs.Scored.{IsNotScored, IsScored}
-use Rattle.otp_tool.specs.Grammars.{IsAsked, OnProblem, input_count}
-use Rattle.otp_tool.specs.Findings.{Finding, FindsForAnswer, FindsForCanon, FindsForOnce, FindsForScore, IsOverBudget, long_file, no_grammar, no_form, long_second, no_rows, no_lexicon, no_answer, over_budget, ready}
-use Rattle.otp_tool.specs.Steps.{IsOf, RefusesForm}
+use Rattle.otp_tool.specs.Grammars.{IsAsked, OnProblem, grammar_inputs}
+use Rattle.otp_tool.specs.Findings.{Finding, FindsForAnswer, FindsForCanon, FindsForOnce, FindsForScore, IsOverBudget}
+use Rattle.otp_tool.specs.Findings.{long_file, no_grammar, no_form, long_second, no_rows, no_lexicon, no_answer}
+use Rattle.otp_tool.specs.Findings.{over_budget, ready}
+use Rattle.otp_tool.specs.Steps.{IsFindingOf, RefusesForm}
 use Rattle.otp_tool.proofs.Choices.{equal_where, one_choice, one_of}
 use Rattle.cert_check.specs.Seen.{AreAskedAlike}
 use Rattle.otp_tool.proofs.ConstraintLemmas.{first_over_alike, same_stages, whole_over_within}
@@ -34,7 +36,7 @@ all_ready ready a = refl
 
 module _ (g : GrammarValue) (word : List ℕ) where
   abbrev NotScored : Finding → Type 0
-  NotScored = IsOf (no_form 2) (IsNotScored (length g.tiers) word)
+  NotScored = IsFindingOf (no_form 2) (IsNotScored (length g.tiers) word)
 
   abbrev Scored : Finding → Type 0
   Scored x = (x ≡ ready) × ((T : List (List Sym)) × IsScored (length g.tiers) word T)
@@ -63,7 +65,7 @@ module _ (g : GrammarValue) (word : List ℕ) where
 -- ---- the budget
 
 module _ (problem : Problem) (budget : ℕ) where
-  more : (r : ℕ) → IsOver problem budget r → IsWithin problem budget r → ⊥
+  more : (r : ℕ) → IsOver problem budget r → IsStageWithin problem budget r → ⊥
   more r o w = omega (arith, o.more, w o.kinds o.are)
 
   pub over_within : (r : ℕ) → IsFirstOver problem budget r → AreAllWithin problem budget → ⊥
@@ -74,7 +76,7 @@ module _ (problem : Problem) (budget : ℕ) where
 
 module _ (g : GrammarValue) (form : List ℕ) where
   pub one_form : (p q : Problem) → IsAsked g form p → IsAsked g form q → p.form ≡ q.form
-  one_form p q a b = one_reading (input_count g) g.letters form p.form q.form a.form b.form
+  one_form p q a b = one_reading (grammar_inputs g) g.letters form p.form q.form a.form b.form
 
   pub asked_alike : (p q : Problem) → IsAsked g form p → IsAsked g form q → AreAskedAlike p q
   asked_alike p q a b = record {
@@ -84,17 +86,17 @@ module _ (g : GrammarValue) (form : List ℕ) where
   }
 
   pub form_refused : (word : ℕ) (cause : FormErr)
-      → (word ≡ 2) × IsRefusedFor (input_count g) g.letters form cause → RefusesForm g form (no_form word cause)
+      → (word ≡ 2) × IsRefusedFor (grammar_inputs g) g.letters form cause → RefusesForm g form (no_form word cause)
   form_refused word cause a = record { value = cause; is = ap (λ w. no_form w cause) a.0; fact = a.1 }
 
   -- a form that is refused is not read
   pub refused_form : (x : Finding) (P : Problem → Type 0) → RefusesForm g form x → OnProblem P g form → ⊥
-  refused_form x P r o = not_refused (input_count g) g.letters form o.problem.form r.value o.is_asked.form r.fact
+  refused_form x P r o = not_refused (grammar_inputs g) g.letters form o.problem.form r.value o.is_asked.form r.fact
 
   pub one_refused_form : (x y : Finding) → RefusesForm g form x → RefusesForm g form y → x ≡ y
   one_refused_form =
-      one_of (no_form 2) (IsRefusedFor (input_count g) g.letters form)
-      (λ e f c d. ap (no_form 2) (one_refusal (input_count g) g.letters form e f c d))
+      one_of (no_form 2) (IsRefusedFor (grammar_inputs g) g.letters form)
+      (λ e f c d. ap (no_form 2) (one_refusal (grammar_inputs g) g.letters form e f c d))
 
 module _ (g : GrammarValue) (form : List ℕ) (budget : ℕ) where
   -- over the budget by another reading of the grammar and the word
@@ -115,7 +117,7 @@ module _ (g : GrammarValue) (form : List ℕ) (budget : ℕ) where
   -- ---- in `generate` and `show`
 
   abbrev pub Over : Finding → Type 0
-  Over = IsOf (over_budget 0) (IsOverBudget g form budget)
+  Over = IsFindingOf (over_budget 0) (IsOverBudget g form budget)
 
   abbrev pub Within : Finding → Type 0
   Within x = (x ≡ ready) × AreWithin
@@ -142,9 +144,9 @@ module _ (g : GrammarValue) (form : List ℕ) (budget : ℕ) where
 
   not_in_budget : (x y : Finding) → RefusesForm g form x → Over y ⊎ Within y → ⊥
   not_in_budget x y r (inl o) = not_refused
-      (input_count g) g.letters form o.fact.problem.form r.value o.fact.is_asked.form r.fact
+      (grammar_inputs g) g.letters form o.fact.problem.form r.value o.fact.is_asked.form r.fact
   not_in_budget x y r (inr i) = not_refused
-      (input_count g) g.letters form i.1.problem.form r.value i.1.is_asked.form r.fact
+      (grammar_inputs g) g.letters form i.1.problem.form r.value i.1.is_asked.form r.fact
 
   pub for_answer : (x y : Finding) → FindsForAnswer g form budget x → FindsForAnswer g form budget y → x ≡ y
   for_answer x y a b =
@@ -167,7 +169,7 @@ module _ (g : GrammarValue) (form : List ℕ) (budget : ℕ) where
   IsOnceOver stage = OnProblem (λ problem. (stage ≡ last_stage problem) × AreWholeKindsOver problem budget) g form
 
   abbrev OnceOver : Finding → Type 0
-  OnceOver = IsOf (over_budget 0) IsOnceOver
+  OnceOver = IsFindingOf (over_budget 0) IsOnceOver
 
   abbrev OnceWithin : Finding → Type 0
   OnceWithin x = (x ≡ ready) × OnProblem (λ problem. AreWholeKindsWithin problem budget) g form

@@ -1,28 +1,31 @@
 -- Each status has its cause: what stands behind it is read off its outcome.
 use Rattle.std.proofs.Common.{◌≡◌, ◌⊎◌, inl, inr, ◌↔◌, ℕ, List, refl, subst}
 use Rattle.outside.specs.Faults.{Rose}
-use Rattle.outside.specs.Sent.{appended, HasSentPart}
+use Rattle.outside.specs.Sent.{append_if_seen, HasSentPart}
 use Rattle.timeline_text.specs.declared.form_err.FormErr.{FormErr}
 use Rattle.grammar_reader.specs.declared.grammar_err.GrammarCause.{GrammarCause}
 use Rattle.answer_reader.specs.declared.answer_err.AnswerCause.{AnswerCause}
 use Rattle.lexicon.specs.declared.lex_err.LexErr.{LexErr}
 use Rattle.tableau.specs.declared.rows_err.RowsCause.{RowsCause}
 use Rattle.command_line.specs.declared.status.Status.{Status}
-use Rattle.command_line.specs.declared.status.Status.TheVariants.{Done, No, Usage, GrammarRefused, FormRefused, LexiconRefused, AnswerRefused, Budget, ReadFault, WriteFault, NoMemory, RowsRefused, TooLong}
+use Rattle.command_line.specs.declared.status.Status.TheVariants.{Done, No, Usage, GrammarRefused, FormRefused}
+use Rattle.command_line.specs.declared.status.Status.TheVariants.{LexiconRefused, AnswerRefused, Budget, ReadFault}
+use Rattle.command_line.specs.declared.status.Status.TheVariants.{WriteFault, NoMemory, RowsRefused, TooLong}
 use Rattle.command_line.specs.Commands.{IsNoCommand}
-use Rattle.otp_tool.specs.Findings.{Finding, long_file, long_second, no_grammar, no_form, no_rows, no_lexicon, no_answer, over_budget, ready}
+use Rattle.otp_tool.specs.Findings.{Finding, long_file, long_second, no_grammar, no_form, no_rows, no_lexicon}
+use Rattle.otp_tool.specs.Findings.{no_answer, over_budget, ready}
 use Rattle.otp_tool.specs.Outcomes.{HasReadFault, IsBehind, IsTooLong, IsWrittenBehind}
-use Rattle.otp_tool.specs.Results.{IsNoResult, IsResult, IsWhole}
+use Rattle.otp_tool.specs.Results.{IsNoResult, IsResult, IsAnyResult}
 use Rattle.otp_tool.specs.Steps.{Change, IsOutcome}
 
 module _ (words : List (List ℕ)) (c : Change) (s : Status) (o : IsOutcome words c s) where
   at : (t : Status) → s ≡ t → IsOutcome words c t
   at t e = subst (IsOutcome words c) e o
 
-  pub done : s ≡ Done → IsWrittenBehind words c.held IsResult (λ text. c.taking.new ≡ appended c.taking.old text)
+  pub done : s ≡ Done → IsWrittenBehind words c.held IsResult (λ text. c.taking.new ≡ append_if_seen c.taking.old text)
   done e = (at Done e).1
 
-  pub no : s ≡ No → IsWrittenBehind words c.held IsNoResult (λ text. c.taking.new ≡ appended c.taking.old text)
+  pub no : s ≡ No → IsWrittenBehind words c.held IsNoResult (λ text. c.taking.new ≡ append_if_seen c.taking.old text)
   no e = (at No e).1
 
   pub nothing_refused : (s ≡ Done) ⊎ (s ≡ No) → IsBehind words c.held ready
@@ -60,12 +63,13 @@ module _ (words : List (List ℕ)) (c : Change) (s : Status) (o : IsOutcome word
   pub by_writing : s ≡ WriteFault → IsBehind words c.held ready × Rose c.taking.before c.taking.after
   by_writing e = let p = at WriteFault e in (p.0, p.2)
 
-  pub begun : s ≡ WriteFault → IsWrittenBehind words c.held IsWhole (λ text. HasSentPart c.taking.old text c.taking.new)
+  pub begun : s ≡ WriteFault → IsWrittenBehind words c.held IsAnyResult
+      (λ text. HasSentPart c.taking.old text c.taking.new)
   begun e = (at WriteFault e).1
 
   pub by_memory : s ≡ NoMemory
       → (c.taking.new ≡ c.taking.old)
-      ⊎ IsWrittenBehind words c.held IsWhole (λ text. HasSentPart c.taking.old text c.taking.new)
+      ⊎ IsWrittenBehind words c.held IsAnyResult (λ text. HasSentPart c.taking.old text c.taking.new)
   by_memory e = (at NoMemory e).1
 
 module _ (words : List (List ℕ)) (c : Change) where

@@ -1,12 +1,14 @@
 -- `check` finds one thing in its grammar and the file of an answer.
-use Rattle.std.proofs.Common.{◌≡◌, ◌⊎◌, inl, inr, ℕ, ◌<◌, Bool, true, false, List, length, Result, Ok, Err, refl, ap, sym, ◌∙◌}
+use Rattle.std.proofs.Common.{◌≡◌, ◌⊎◌, inl, inr, ℕ, ◌<◌, Bool, true, false, List, length, Result, Ok, Err, refl, ap}
+use Rattle.std.proofs.Common.{sym, ◌∙◌}
 use Rattle.std.proofs.lemmas.Bool.{false≢true}
 use Rattle.grammar_reader.specs.Values.{GrammarValue}
 use Rattle.answer_reader.specs.Steps.{At}
 use Rattle.answer_reader.specs.Values.{AnswerValue}
 use Rattle.otp_tool.specs.Answers.{HasAnswer, IsAnswerFile}
-use Rattle.otp_tool.specs.Findings.{Finding, FindsForCheck, long_file, no_grammar, no_form, long_second, no_rows, no_lexicon, no_answer, over_budget, ready}
-use Rattle.otp_tool.specs.Steps.{IsOf}
+use Rattle.otp_tool.specs.Findings.{Finding, FindsForCheck, long_file, no_grammar, no_form, long_second, no_rows}
+use Rattle.otp_tool.specs.Findings.{no_lexicon, no_answer, over_budget, ready}
+use Rattle.otp_tool.specs.Steps.{IsFindingOf}
 use Rattle.otp_tool.proofs.Choices.{one_choice, one_of, too_long}
 use Rattle.otp_tool.proofs.ShapesAlike.{same_reading, shapes_alike}
 
@@ -29,7 +31,7 @@ module _ (g : GrammarValue) (bytes : List ℕ) where
   Long x = (x ≡ long_second 2) × (268435456 < length bytes)
 
   abbrev NoAnswer : Finding → Type 0
-  NoAnswer = IsOf (λ (at : At). no_answer at.line at.cause) (λ at. IsAnswerFile g bytes (Err at))
+  NoAnswer = IsFindingOf (λ (at : At). no_answer at.line at.cause) (λ at. IsAnswerFile g bytes (Err at))
 
   abbrev Read : Finding → Type 0
   Read x = (x ≡ ready) × HasAnswer g bytes

@@ -27,7 +27,8 @@ use Rattle.otp_tool.specs.Answers.{IsJudged, IsReading, IsVerdictText}
 use Rattle.otp_tool.specs.Files.{IsHeld, answer_file}
 use Rattle.otp_tool.specs.Findings.{Finding, FindsForCheck, ready}
 use Rattle.otp_tool.specs.Results.{IsNoText, IsYesText, text_widths}
-use Rattle.otp_tool.specs.Steps.{Change, IsCheckStep, IsCheckWork, IsNoEnd, IsRefusal, IsSecondRefusal, RefusesAnswer, Taking, no_end_of, taking_of, verdict_end}
+use Rattle.otp_tool.specs.Steps.{Change, IsCheckStep, IsCheckWork, IsNoEnd, IsRefusal, IsSecondRefusal, RefusesAnswer}
+use Rattle.otp_tool.specs.Steps.{SinkChange, no_end_of, taking_of, verdict_end}
 use Rattle.otp_tool.proofs.GrammarLemmas.{same_requirements, same_tiers}
 use Rattle.otp_tool.proofs.RefusalLemmas.{refusal_weaker, second_refused}
 use Rattle.std.proofs.lemmas.Bool.{false≢true}
@@ -65,7 +66,7 @@ module _ (g : Grammar) where
           is = j.reading.read;
         })))
 
-    pub no_answer_read : (t : Taking) → t.new ≡ t.old → (s : Status) → IsRefusal (RefusesAnswer shape bytes) s
+    pub no_answer_read : (t : SinkChange) → t.new ≡ t.old → (s : Status) → IsRefusal (RefusesAnswer shape bytes) s
         → IsCheckStep (value_of g) bytes t s
     no_answer_read t e s r = inl (inl (
       refusal_weaker (RefusesAnswer shape bytes) (FindsForCheck (value_of g) bytes) refused_for_check s r,

@@ -1,7 +1,7 @@
 -- A step refuses for one thing, or goes on to one thing.
 use Rattle.std.proofs.Common.{◌≡◌, ◌⊎◌, inl, inr, ℕ, zero, suc, ◌<◌, ◌≤◌, refl, ap, sym, ◌∙◌, arith}
 use Rattle.otp_tool.specs.Findings.{Finding}
-use Rattle.otp_tool.specs.Steps.{IsOf}
+use Rattle.otp_tool.specs.Steps.{IsFindingOf}
 
 pub one_choice : (P Q : Finding → Type 0) → ((x y : Finding) → P x → P y → x ≡ y) → ((x y : Finding) → P x → Q y → ⊥)
     → ((x y : Finding) → Q x → Q y → x ≡ y) → (x y : Finding) → P x ⊎ Q x → P y ⊎ Q y → x ≡ y
@@ -11,7 +11,7 @@ one_choice P Q ps apart qs x y (inr a) (inl b) = absurd (apart y x b a)
 one_choice P Q ps apart qs x y (inr a) (inr b) = qs x y a b
 
 pub one_of : {A : Type 0} (f : A → Finding) (P : A → Type 0) → ((a b : A) → P a → P b → f a ≡ f b) → (x y : Finding)
-    → IsOf f P x → IsOf f P y → x ≡ y
+    → IsFindingOf f P x → IsFindingOf f P y → x ≡ y
 one_of f P same x y a b = a.is ∙ same a.value b.value a.fact b.fact ∙ sym b.is
 
 pub equal_where : (a b : ℕ) → (a < b → ⊥) → (b < a → ⊥) → a ≡ b

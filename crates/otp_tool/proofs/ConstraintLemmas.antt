@@ -11,7 +11,7 @@ use Rattle.violation.specs.Rests.{AreWholeKindsOver, AreWholeKindsWithin, IsWhol
 use Rattle.violation.specs.Stages.{AreKindsOfStage, IsPassed}
 use Rattle.cert_check.specs.Seen.{AreAskedAlike}
 use Rattle.cert_check.proofs.AskedAlike.{by_constraints, same_count, same_kind, same_vec, with_constraints}
-use Rattle.ranked_gen.specs.Budgets.{AreAllWithin, HasFewKinds, IsFirstOver, IsOver, IsWithin}
+use Rattle.ranked_gen.specs.Budgets.{AreAllWithin, HasFewKinds, IsFirstOver, IsOver, IsStageWithin}
 
 module _ (problem : Problem) (cs ds : List Constraint) (alike : requirements_seen cs ≡ requirements_seen ds) where
   optimal_alike : (r : ℕ) (T : List (List Sym)) → IsOptimalFor (with_constraints problem cs) r T
@@ -69,7 +69,7 @@ few_alike problem budget cs ds alike r h = record {
 
 within_alike : (problem : Problem) (budget : ℕ) (cs ds : List Constraint)
     → requirements_seen cs ≡ requirements_seen ds → (r : ℕ)
-    → IsWithin (with_constraints problem cs) budget r → IsWithin (with_constraints problem ds) budget r
+    → IsStageWithin (with_constraints problem cs) budget r → IsStageWithin (with_constraints problem ds) budget r
 within_alike problem budget cs ds alike r w = λ ks a. w ks (kinds_alike problem budget ds cs (sym alike) r ks a)
 
 -- ---- problems that are asked alike

@@ -1,13 +1,15 @@
 -- A command finds one thing in its files.
-use Rattle.std.proofs.Common.{◌≡◌, ◌⊎◌, inl, inr, ℕ, ◌<◌, ◌≤◌, Bool, true, false, List, length, Ok, Err, Result, refl, ap, sym, ◌∙◌, subst}
+use Rattle.std.proofs.Common.{◌≡◌, ◌⊎◌, inl, inr, ℕ, ◌<◌, ◌≤◌, Bool, true, false, List, length, Ok, Err, Result, refl}
+use Rattle.std.proofs.Common.{ap, sym, ◌∙◌, subst}
 use Rattle.std.proofs.lemmas.Bool.{false≢true}
 use Rattle.grammar_reader.specs.Values.{GrammarValue}
 use Rattle.grammar_reader.specs.Reading.{At, grammar_of}
 use Rattle.command_line.specs.Commands.{Command, canon, score, generate, show, tableau, once, comprehend, check, sample}
 use Rattle.otp_tool.specs.Grammars.{IsFileOf, OnGrammar}
-use Rattle.otp_tool.specs.Findings.{Finding, Finds, FindsIn, long_file, no_grammar, no_form, long_second, no_rows, no_lexicon, no_answer, over_budget, ready}
+use Rattle.otp_tool.specs.Findings.{Finding, Finds, FindsIn, long_file, no_grammar, no_form, long_second, no_rows}
+use Rattle.otp_tool.specs.Findings.{no_lexicon, no_answer, over_budget, ready}
 use Rattle.otp_tool.specs.Samples.{sample_word}
-use Rattle.otp_tool.specs.Steps.{IsOf}
+use Rattle.otp_tool.specs.Steps.{IsFindingOf}
 use Rattle.otp_tool.proofs.AnswerFindings.{all_ready, for_answer, for_once, for_score}
 use Rattle.otp_tool.proofs.Choices.{one_choice, one_of, too_long}
 use Rattle.otp_tool.proofs.CheckFindings.{for_check}
@@ -49,7 +51,7 @@ module _ (command : Command) (bytes second : List ℕ) where
   LongFile x = (x ≡ long_file) × (65536 < length bytes)
 
   abbrev NoGrammar : Finding → Type 0
-  NoGrammar = IsOf (λ (at : At). no_grammar at.line at.cause) (λ at. (length bytes ≤ 65536)
+  NoGrammar = IsFindingOf (λ (at : At). no_grammar at.line at.cause) (λ at. (length bytes ≤ 65536)
       × (grammar_of bytes ≡ Err at))
 
   abbrev InGrammar : Finding → Type 0

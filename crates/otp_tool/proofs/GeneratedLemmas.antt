@@ -7,7 +7,7 @@ use Rattle.tier_core.specs.declared.shape.Shape.{Shape}
 use Rattle.tier_core.specs.Sides.{is_stretch}
 use Rattle.violation.specs.Conditions.{AreSplit, IsOverTiers}
 use Rattle.violation.specs.Prefixes.{kind_of_bits}
-use Rattle.violation.specs.Problems.{Problem, asked, last_stage}
+use Rattle.violation.specs.Problems.{Problem, problem_from, last_stage}
 use Rattle.violation.proofs.SplitLemmas.{tiers_split}
 use Rattle.grammar_reader.specs.declared.grammar.Grammar.{Grammar}
 use Rattle.grammar_reader.specs.Grammars.{value_of}
@@ -32,16 +32,16 @@ use Rattle.cert_check.specs.declared.fault.Verdict.TheVariants.{Yes}
 use Rattle.cert_check.proofs.Faultless.{faultless_if_certified}
 use Rattle.otp_tool.specs.Answers.{IsJudged}
 use Rattle.otp_tool.specs.Results.{IsGeneratedText, whole_text}
-use Rattle.otp_tool.specs.Steps.{IsMade}
+use Rattle.otp_tool.specs.Steps.{IsAnswerFor}
 use Rattle.otp_tool.proofs.GrammarLemmas.{same_requirements, same_tiers}
 use Rattle.otp_tool.proofs.SettledLemmas.{shape_for}
 use Rattle.otp_tool.proofs.StepLemmas.{made_right, same_shape_widths, whole_written}
 
 module _ (g : Grammar) (form : List ℕ) (budget : ℕ) (few : budget ≤ 65536) (answer : Answer)
-    (made : IsMade g.tiers g.constraints.items (value_of g) form budget answer)
+    (made : IsAnswerFor g.tiers g.constraints.items (value_of g) form budget answer)
     (shape : Shape) (of_grammar : IsShapeOf g shape) where
   abbrev problem : Problem
-  problem = asked g.tiers g.constraints.items made.u
+  problem = problem_from g.tiers g.constraints.items made.u
 
   split : AreSplit problem.tiers
   split = tiers_split g.tiers.kinds.items

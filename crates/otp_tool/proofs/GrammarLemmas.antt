@@ -14,14 +14,14 @@ use Rattle.grammar_reader.proofs.Shaping.{kinds_back}
 use Rattle.tableau.specs.Tableaux.{names_seen}
 use Rattle.violation.specs.Candidates.{vec}
 use Rattle.violation.specs.Counts.{viol}
-use Rattle.otp_tool.specs.Grammars.{constraint_names, kinds_of, tiers_of}
+use Rattle.otp_tool.specs.Grammars.{constraint_names, tier_kinds, grammar_tiers}
 use Rattle.otp_tool.specs.Results.{vector_of}
 
-pub same_kinds : (g : Grammar) → kinds_of (value_of g) ≡ g.tiers.kinds.items
+pub same_kinds : (g : Grammar) → tier_kinds (value_of g) ≡ g.tiers.kinds.items
 same_kinds g = kinds_back (map string_bytes g.tiers.names.items) g.tiers.kinds.items
     (length-map g.tiers.names.items string_bytes ∙ g.tiers.one_length)
 
-pub same_tiers : (g : Grammar) → tiers_of (value_of g) ≡ tiers_of_table g.tiers
+pub same_tiers : (g : Grammar) → grammar_tiers (value_of g) ≡ tiers_of_table g.tiers
 same_tiers g = ap tiers_by_kinds (same_kinds g)
 
 pub same_requirements : (g : Grammar) → requirements_of (value_of g) ≡ requirements_seen g.constraints.items

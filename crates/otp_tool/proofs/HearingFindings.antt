@@ -11,10 +11,11 @@ use Rattle.lexicon.proofs.LexiconLemmas.{not_both as lexicon_and_refused, one_ca
 use Rattle.ranked_gen.specs.Budgets.{IsFirstOver}
 use Rattle.comprehend.specs.Hears.{AreEntriesWithin, IsFirstEntryOver}
 use Rattle.violation.specs.Problems.{Problem}
-use Rattle.otp_tool.specs.Grammars.{AreAsked, input_count, overt_count}
+use Rattle.otp_tool.specs.Grammars.{AreAsked, grammar_inputs, overt_count}
 use Rattle.otp_tool.specs.Lexicons.{HasSurfaceWord, IsLexiconFile, IsNoLexiconFile, IsNoSurface, OnLexicon, forms_in}
-use Rattle.otp_tool.specs.Findings.{Finding, FindsForHearing, long_file, no_grammar, no_form, long_second, no_rows, no_lexicon, no_answer, over_budget, ready}
-use Rattle.otp_tool.specs.Steps.{IsOf, RefusesSurface}
+use Rattle.otp_tool.specs.Findings.{Finding, FindsForHearing, long_file, no_grammar, no_form, long_second, no_rows}
+use Rattle.otp_tool.specs.Findings.{no_lexicon, no_answer, over_budget, ready}
+use Rattle.otp_tool.specs.Steps.{IsFindingOf, RefusesSurface}
 use Rattle.otp_tool.proofs.AnswerFindings.{one_stage, over_within}
 use Rattle.otp_tool.proofs.Choices.{equal_where, one_choice, one_of, too_long}
 use Rattle.cert_check.specs.Seen.{AreAskedAlike}
@@ -79,13 +80,13 @@ module _ (g : GrammarValue) (word : List ℕ) (budget : ℕ) (bytes : List ℕ) 
   IsRefusedLexicon cause = HasSurfaceWord g word × IsNoLexiconFile g bytes cause
 
   abbrev NoLexicon : Finding → Type 0
-  NoLexicon = IsOf no_lexicon IsRefusedLexicon
+  NoLexicon = IsFindingOf no_lexicon IsRefusedLexicon
 
   abbrev IsEntryOver : ℕ × ℕ → Type 0
   IsEntryOver at = OnLexicon (λ ask entries s. OverAt (forms_in entries) budget ask at) g word bytes
 
   abbrev Over : Finding → Type 0
-  Over = IsOf (λ (at : ℕ × ℕ). over_budget at.0 at.1) IsEntryOver
+  Over = IsFindingOf (λ (at : ℕ × ℕ). over_budget at.0 at.1) IsEntryOver
 
   abbrev AreWithin : Type 0
   AreWithin = OnLexicon (λ ask entries s. AreEntriesWithin ask (forms_in entries) budget) g word bytes
@@ -138,19 +139,19 @@ module _ (g : GrammarValue) (word : List ℕ) (budget : ℕ) (bytes : List ℕ) 
   no_lexicon_apart : (x y : Finding) → NoLexicon x → WithLexicon y → ⊥
   no_lexicon_apart x y n w =
       let e = has_entries y w in
-      lexicon_and_refused (input_count g) g.letters bytes e.0 n.value e.1.are n.fact.1.refused
+      lexicon_and_refused (grammar_inputs g) g.letters bytes e.0 n.value e.1.are n.fact.1.refused
 
   one_no_lexicon : (x y : Finding) → NoLexicon x → NoLexicon y → x ≡ y
   one_no_lexicon =
       one_of no_lexicon IsRefusedLexicon
-      (λ e f c d. ap no_lexicon (one_lexicon_cause (input_count g) g.letters bytes e f c.1.refused d.1.refused))
+      (λ e f c d. ap no_lexicon (one_lexicon_cause (grammar_inputs g) g.letters bytes e f c.1.refused d.1.refused))
 
   -- an entry that is over the budget by another reading of the grammar and the file
   over_in : (at : ℕ × ℕ) (o : IsEntryOver at) (entries : List LexicalEntry) (ask : List (List Sym) → Problem)
       → IsLexiconFile g bytes entries → AreAsked g ask → OverAt (forms_in entries) budget ask at
   over_in at o entries ask file a =
       let same : o.entries ≡ entries =
-      one_lexicon (input_count g) g.letters bytes o.entries entries o.file.are file.are in
+      one_lexicon (grammar_inputs g) g.letters bytes o.entries entries o.file.are file.are in
       subst (λ (es : List LexicalEntry). OverAt (forms_in es) budget ask at) same
       (over_by_another g (forms_in o.entries) budget o.ask ask o.are_asked a at o.fact)
 

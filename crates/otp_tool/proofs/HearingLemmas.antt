@@ -13,7 +13,7 @@ use Rattle.timeline_text.specs.Texts.{IsTextOf}
 use Rattle.timeline_text.specs.Causes.{IsCause}
 use Rattle.grammar_reader.specs.declared.grammar.Grammar.{Grammar}
 use Rattle.grammar_reader.specs.Grammars.{value_of}
-use Rattle.violation.specs.Problems.{Problem, asked}
+use Rattle.violation.specs.Problems.{Problem, problem_from}
 use Rattle.lexicon.specs.declared.entry.Entry.{Entry}
 use Rattle.lexicon.specs.declared.lex_err.LexErr.{LexErr}
 use Rattle.lexicon.specs.Entries.{LexicalEntry, names_of as names_in}
@@ -28,15 +28,17 @@ use Rattle.otp_tool.specs.Grammars.{AreAsked, overt_count}
 use Rattle.otp_tool.specs.Lexicons.{HasSurfaceWord, IsLexiconFile, IsSurfaceOf, forms_in}
 use Rattle.otp_tool.specs.Findings.{FindsForHearing, no_form, no_lexicon, ready}
 use Rattle.otp_tool.specs.Results.{IsHeardText}
-use Rattle.otp_tool.specs.Steps.{Change, IsHearingWork, IsRefusal, IsSecondRefusal, RefusesEntry, RefusesLexicon, RefusesSurface, change_of, end_of}
+use Rattle.otp_tool.specs.Steps.{Change, IsHearingWork, IsRefusal, IsSecondRefusal, RefusesEntry, RefusesLexicon}
+use Rattle.otp_tool.specs.Steps.{RefusesSurface, change_of, write_status}
 use Rattle.otp_tool.proofs.GrammarLemmas.{same_requirements, same_tiers}
-use Rattle.otp_tool.proofs.RefusalLemmas.{entry_for_hearing, lexicon_for_hearing, refusal_weaker, refused_before, second_refused, surface_for_hearing}
+use Rattle.otp_tool.proofs.RefusalLemmas.{entry_for_hearing, lexicon_for_hearing, refusal_weaker, refused_before}
+use Rattle.otp_tool.proofs.RefusalLemmas.{second_refused, surface_for_hearing}
 use Rattle.otp_tool.proofs.StepLemmas.{written}
 
 -- ---- reading
 
 module _ (g : Grammar) where
-  asks_all : AreAsked (value_of g) (asked g.tiers g.constraints.items)
+  asks_all : AreAsked (value_of g) (problem_from g.tiers g.constraints.items)
   asks_all = record {
     tiers = λ u. sym (same_tiers g);
     constraints = λ u. sym (same_requirements g);
@@ -128,7 +130,7 @@ module _ (g : Grammar) (surface lexicon : List ℕ) (budget : ℕ) where
 
       module _ (entries : List Entry) (file : IsLexiconFile (value_of g) bytes (entries_seen entries)) where
         abbrev ask : List (List Sym) → Problem
-        ask = asked g.tiers g.constraints.items
+        ask = problem_from g.tiers g.constraints.items
 
         pub no_entry : (c : Change) → IsHeld (c.held lexicon) bytes → c.taking.new ≡ c.taking.old → (s : Status)
             → IsRefusal (RefusesEntry ask (forms_of entries) budget) s → Work c s
@@ -176,7 +178,7 @@ module _ (g : Grammar) (surface lexicon : List ℕ) (budget : ℕ) where
           pub hits_written : {F O A : Type 0} (shelf : ShelfGhosts F) (sink : SinkGhosts O) (from to : F) (old new : O)
               → IsHeld (shelf.held from lexicon) bytes
               → (r : Result A WriteErr) → Puts sink old new (hits_text (names_of entries) hits) r
-              → (s : Status) → s ≡ end_of r → Work (change_of shelf sink from to old new) s
+              → (s : Status) → s ≡ write_status r → Work (change_of shelf sink from to old new) s
           hits_written shelf sink from to old new h r p s e = inr (record {
             bytes = bytes;
             holds = h;

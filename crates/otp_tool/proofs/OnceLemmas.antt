@@ -8,14 +8,14 @@ use Rattle.outside.specs.declared.sink.WriteErr.{WriteErr}
 use Rattle.tier_core.specs.declared.sym.Sym.{Sym}
 use Rattle.tier_core.specs.declared.constraint.Constraint.{Constraint}
 use Rattle.tier_core.specs.declared.shape.Shape.{Shape}
-use Rattle.tier_core.specs.Shapes.{input_count as masked_count}
+use Rattle.tier_core.specs.Shapes.{masked_count}
 use Rattle.tier_core.specs.Sides.{is_stretch}
 use Rattle.tier_core.proofs.TableMasks.{free_tiers}
 use Rattle.grammar_reader.specs.declared.grammar.Grammar.{Grammar}
 use Rattle.grammar_reader.specs.Grammars.{value_of}
 use Rattle.grammar_reader.specs.ShapeOf.{IsShapeOf, stretch_counts}
 use Rattle.grammar_reader.proofs.Shaping.{length-stretch_counts}
-use Rattle.violation.specs.Problems.{Problem, asked}
+use Rattle.violation.specs.Problems.{Problem, problem_from}
 use Rattle.violation.specs.Rests.{AreWholeKindsWithin}
 use Rattle.answer_text.specs.declared.once_answer.OnceAnswer.{OnceAnswer}
 use Rattle.answer_text.specs.OnceText.{OnceWidths, once_text, once_widths_of}
@@ -25,7 +25,7 @@ use Rattle.otp_tool.specs.Grammars.{IsAsked}
 use Rattle.otp_tool.specs.Findings.{FindsForOnce, ready}
 use Rattle.kind_orders.specs.JoinedArcs.{HaveJoinedArcs}
 use Rattle.otp_tool.specs.Results.{IsOnceText, once_widths}
-use Rattle.otp_tool.specs.Steps.{IsRefusal, IsStep, RefusesForm, RefusesOnce, end_of, taking_of}
+use Rattle.otp_tool.specs.Steps.{IsRefusal, IsStep, RefusesForm, RefusesOnce, write_status, taking_of}
 use Rattle.otp_tool.proofs.RefusalLemmas.{budget_for_once, form_for_once, refusal_weaker}
 use Rattle.otp_tool.proofs.StepLemmas.{written}
 
@@ -50,11 +50,11 @@ same_once_widths a b e f h =
 
 module _ (g : Grammar) where
   widths_are : (shape : Shape) → IsShapeOf g shape → (u : List (List Sym))
-      → once_widths_of shape ≡ once_widths (asked g.tiers g.constraints.items u)
+      → once_widths_of shape ≡ once_widths (problem_from g.tiers g.constraints.items u)
   widths_are shape s u =
       let long = length-stretch_counts g.constraints.items in
       let last : length (stretch_counts g.constraints.items) - 1 ≡ length g.constraints.items = omega (arith, long) in
-      same_once_widths (once_widths_of shape) (once_widths (asked g.tiers g.constraints.items u))
+      same_once_widths (once_widths_of shape) (once_widths (problem_from g.tiers g.constraints.items u))
       (ap (λ n. n - masked_count shape.inputs) s.width ∙ free_tiers g.tiers.kinds.items shape.inputs s.inputs)
       (ap (λ (ps : List ℕ). get_or ps (length ps - 1) 0) s.phases ∙ last_stretches g.constraints.items)
       (ap (λ (ps : List ℕ). length ps - 1) s.phases ∙ last)
@@ -67,9 +67,9 @@ module _ (g : Grammar) where
     no_form_once = refusal_weaker (RefusesForm (value_of g) form) (FindsForOnce (value_of g) form budget)
         (form_for_once (value_of g) form budget)
 
-    module _ (u : List (List Sym)) (a : IsAsked (value_of g) form (asked g.tiers g.constraints.items u)) where
+    module _ (u : List (List Sym)) (a : IsAsked (value_of g) form (problem_from g.tiers g.constraints.items u)) where
       abbrev problem : Problem
-      problem = asked g.tiers g.constraints.items u
+      problem = problem_from g.tiers g.constraints.items u
 
       pub no_pass : (s : Status) → IsRefusal (RefusesOnce problem budget) s
           → IsRefusal (FindsForOnce (value_of g) form budget) s
@@ -94,7 +94,7 @@ module _ (g : Grammar) where
 
         pub pass_written : {O A : Type 0} {sink : Ghosts O} {old new : O} (shape : Shape) → IsShapeOf g shape
             → (r : Result A WriteErr) → Puts sink old new (once_text (once_widths_of shape) answer) r
-            → (s : Status) → s ≡ end_of r
+            → (s : Status) → s ≡ write_status r
             → IsStep (FindsForOnce (value_of g) form budget) (IsOnceText (value_of g) form) (taking_of sink old new) s
         pass_written shape s r p status e =
             written (IsOnceText (value_of g) form) (once_text (once_widths_of shape) answer) (is_text shape s)

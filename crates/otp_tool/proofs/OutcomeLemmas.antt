@@ -1,18 +1,23 @@
 -- From the steps of a command to what stands behind its status.
-use Rattle.std.proofs.Common.{◌≡◌, ◌⊎◌, inl, inr, ℕ, zero, suc, ◌<◌, ◌≤◌, List, [], ◌∷◌, length, Option, Some, None, IfSome, refl, ap, sym, subst, arith}
+use Rattle.std.proofs.Common.{◌≡◌, ◌⊎◌, inl, inr, ℕ, zero, suc, ◌<◌, ◌≤◌, List, [], ◌∷◌, length, Option, Some, None}
+use Rattle.std.proofs.Common.{IfSome, refl, ap, sym, subst, arith}
 use Rattle.std.specs.Option.{option_map}
 use Rattle.outside.specs.Faults.{Rose}
-use Rattle.outside.specs.Sent.{appended, HasSentPart}
+use Rattle.outside.specs.Sent.{append_if_seen, HasSentPart}
 use Rattle.command_line.specs.declared.status.Status.{Status}
-use Rattle.command_line.specs.declared.status.Status.TheVariants.{Done, No, Usage, GrammarRefused, FormRefused, LexiconRefused, AnswerRefused, Budget, ReadFault, WriteFault, NoMemory, RowsRefused, TooLong}
+use Rattle.command_line.specs.declared.status.Status.TheVariants.{Done, No, Usage, GrammarRefused, FormRefused}
+use Rattle.command_line.specs.declared.status.Status.TheVariants.{LexiconRefused, AnswerRefused, Budget, ReadFault}
+use Rattle.command_line.specs.declared.status.Status.TheVariants.{WriteFault, NoMemory, RowsRefused, TooLong}
 use Rattle.grammar_reader.specs.Values.{GrammarValue}
-use Rattle.command_line.specs.Commands.{Command, IsCommand, grammar_of as file_of}
+use Rattle.command_line.specs.Commands.{Command, IsCommand, grammar_file_name as file_of}
 use Rattle.otp_tool.specs.Files.{IsHeld, IsSecondHeld, NamedFile, faults_of, grammar_told, second_file}
 use Rattle.otp_tool.specs.Grammars.{OnGrammar}
-use Rattle.otp_tool.specs.Findings.{Finding, FindsIn, Finds, Reaches, long_file, no_grammar, no_form, long_second, no_rows, no_lexicon, no_answer, over_budget, ready}
-use Rattle.otp_tool.specs.Results.{IsNoResult, IsResult, IsWhole}
+use Rattle.otp_tool.specs.Findings.{Finding, FindsIn, Finds, ReachesSecondFile, long_file, no_grammar, no_form}
+use Rattle.otp_tool.specs.Findings.{long_second, no_rows, no_lexicon, no_answer, over_budget, ready}
+use Rattle.otp_tool.specs.Results.{IsNoResult, IsResult, IsAnyResult}
 use Rattle.otp_tool.specs.Outcomes.{HasReadFault, IsBehind, IsWrittenBehind, MayRead}
-use Rattle.otp_tool.specs.Steps.{Change, IsEnd, IsLoadRefusal, IsLoaded, IsNoEnd, IsNotRead, IsOutcome, IsPartTaken, IsRefusal, IsStep, IsWork, IsWorkOf}
+use Rattle.otp_tool.specs.Steps.{Change, IsWriteStatus, IsLoadRefusal, IsLoaded, IsNoEnd, IsNotRead, IsOutcome}
+use Rattle.otp_tool.specs.Steps.{IsPartTaken, IsRefusal, IsStep, IsWork, IsWorkOf}
 
 -- so many bytes
 abbrev zeros : ℕ → List ℕ
@@ -88,7 +93,7 @@ module _ (held : List ℕ → Option (List ℕ)) (before : List ℕ → ℕ) (c 
   pub work_of_before : (command : Command) (g : GrammarValue) (s : Status) → IsWorkOf command g c s
       → IsWorkOf command g earlier s
   work_of_before command g s (inl w) =
-      inl (work_before (second_file command) (Reaches command g) (FindsIn command g) (IsResult command g) s w)
+      inl (work_before (second_file command) (ReachesSecondFile command g) (FindsIn command g) (IsResult command g) s w)
   work_of_before command g s (inr n) = inr (record {
     bytes = n.bytes;
     holds = second_before c.held held same (second_file command) n.bytes n.holds;
@@ -200,30 +205,31 @@ module _ (words : List (List ℕ)) (c : Change) (command : Command) (are : IsCom
         fact = p;
       }
 
-      part : IsPartTaken (IsWhole command g second) c.taking
-          → IsWrittenBehind words c.held IsWhole (λ text. HasSentPart c.taking.old text c.taking.new)
-      part p = written IsWhole (λ text. HasSentPart c.taking.old text c.taking.new) p.text p.is p.part
+      part : IsPartTaken (IsAnyResult command g second) c.taking
+          → IsWrittenBehind words c.held IsAnyResult (λ text. HasSentPart c.taking.old text c.taking.new)
+      part p = written IsAnyResult (λ text. HasSentPart c.taking.old text c.taking.new) p.text p.is p.part
 
       -- a front of a text of one kind is one of either
-      plain_part : IsPartTaken (IsResult command g second) c.taking → IsPartTaken (IsWhole command g second) c.taking
+      plain_part : IsPartTaken (IsResult command g second) c.taking
+          → IsPartTaken (IsAnyResult command g second) c.taking
       plain_part p = record { text = p.text; is = inl p.is; part = p.part }
 
-      no_part : IsPartTaken (IsNoResult command g second) c.taking → IsPartTaken (IsWhole command g second) c.taking
+      no_part : IsPartTaken (IsNoResult command g second) c.taking → IsPartTaken (IsAnyResult command g second) c.taking
       no_part p = record { text = p.text; is = inr p.is; part = p.part }
 
-      memory : (writes : List ℕ → Type 0) → (IsPartTaken writes c.taking → IsPartTaken (IsWhole command g second)
+      memory : (writes : List ℕ → Type 0) → (IsPartTaken writes c.taking → IsPartTaken (IsAnyResult command g second)
           c.taking)
           → (c.taking.new ≡ c.taking.old) ⊎ IsPartTaken writes c.taking
           → (c.taking.new ≡ c.taking.old)
-          ⊎ IsWrittenBehind words c.held IsWhole (λ text. HasSentPart c.taking.old text c.taking.new)
+          ⊎ IsWrittenBehind words c.held IsAnyResult (λ text. HasSentPart c.taking.old text c.taking.new)
       memory writes turn (inl e) = inl e
       memory writes turn (inr p) = inr (part (turn p))
 
-      by_end : FindsIn command g second ready → (s : Status) → IsEnd (IsResult command g second) c.taking s
+      by_end : FindsIn command g second ready → (s : Status) → IsWriteStatus (IsResult command g second) c.taking s
           → IsOutcome words c s
       by_end f Done e = (
         is_ready f,
-        written IsResult (λ text. c.taking.new ≡ appended c.taking.old text) e.text e.is e.taken,
+        written IsResult (λ text. c.taking.new ≡ append_if_seen c.taking.old text) e.text e.is e.taken,
       )
       by_end f No e = absurd e
       by_end f Usage e = absurd e
@@ -243,7 +249,7 @@ module _ (words : List (List ℕ)) (c : Change) (command : Command) (are : IsCom
       by_no_end f Done e = absurd e
       by_no_end f No e = (
         is_ready f,
-        written IsNoResult (λ text. c.taking.new ≡ appended c.taking.old text) e.text e.is e.taken,
+        written IsNoResult (λ text. c.taking.new ≡ append_if_seen c.taking.old text) e.text e.is e.taken,
       )
       by_no_end f Usage e = absurd e
       by_no_end f (GrammarRefused word line cause) e = absurd e
@@ -264,7 +270,7 @@ module _ (words : List (List ℕ)) (c : Change) (command : Command) (are : IsCom
 
     -- ---- from a second file
 
-    unread : (s : Status) → IsNotRead (second_file command) (Reaches command g) c s → IsOutcome words c s
+    unread : (s : Status) → IsNotRead (second_file command) (ReachesSecondFile command g) c s → IsOutcome words c s
     unread s n =
         subst (IsOutcome words c) (sym n.answer) (
           record {
@@ -274,7 +280,7 @@ module _ (words : List (List ℕ)) (c : Change) (command : Command) (are : IsCom
             loads = inr (
               n.is_second,
               record
-                  { bytes = l.bytes; holds = l.holds; accepts = on (Reaches command) n.reached },
+                  { bytes = l.bytes; holds = l.holds; accepts = on (ReachesSecondFile command) n.reached },
             );
             by_word = refl;
             rose = n.rose;

@@ -1,7 +1,9 @@
 -- Refusals of one step as those of a whole command.
 use Rattle.std.proofs.Common.{◌≡◌, inl, inr, ℕ, ◌<◌, List, length, Option, Some, refl, ap, sym, subst}
 use Rattle.command_line.specs.declared.status.Status.{Status}
-use Rattle.command_line.specs.declared.status.Status.TheVariants.{Done, No, Usage, GrammarRefused, FormRefused, LexiconRefused, AnswerRefused, Budget, ReadFault, WriteFault, NoMemory, RowsRefused, TooLong}
+use Rattle.command_line.specs.declared.status.Status.TheVariants.{Done, No, Usage, GrammarRefused, FormRefused}
+use Rattle.command_line.specs.declared.status.Status.TheVariants.{LexiconRefused, AnswerRefused, Budget, ReadFault}
+use Rattle.command_line.specs.declared.status.Status.TheVariants.{WriteFault, NoMemory, RowsRefused, TooLong}
 use Rattle.grammar_reader.specs.Values.{GrammarValue}
 use Rattle.violation.specs.Problems.{Problem}
 use Rattle.otp_tool.specs.Files.{NamedFile}
@@ -9,8 +11,10 @@ use Rattle.tier_core.specs.declared.sym.Sym.{Sym}
 use Rattle.lexicon.specs.Entries.{LexicalEntry}
 use Rattle.otp_tool.specs.Grammars.{AreAsked, IsAsked}
 use Rattle.otp_tool.specs.Lexicons.{IsLexiconFile, IsSurfaceOf, forms_in}
-use Rattle.otp_tool.specs.Findings.{Finding, FindsForAnswer, FindsForHearing, FindsForOnce, FindsForTableau, long_second, no_form, no_rows, no_lexicon, no_answer, over_budget}
-use Rattle.otp_tool.specs.Steps.{Change, IsRefusal, IsSecondRefusal, IsWork, RefusesBudget, RefusesEntry, RefusesForm, RefusesLexicon, RefusesOnce, RefusesRows, RefusesSurface}
+use Rattle.otp_tool.specs.Findings.{Finding, FindsForAnswer, FindsForHearing, FindsForOnce, FindsForTableau}
+use Rattle.otp_tool.specs.Findings.{long_second, no_form, no_rows, no_lexicon, no_answer, over_budget}
+use Rattle.otp_tool.specs.Steps.{Change, IsRefusal, IsSecondRefusal, IsWork, RefusesBudget, RefusesEntry, RefusesForm}
+use Rattle.otp_tool.specs.Steps.{RefusesLexicon, RefusesOnce, RefusesRows, RefusesSurface}
 use Rattle.otp_tool.proofs.OutcomeLemmas.{long_held, some_held, some_second}
 
 module _ (P Q : Finding → Type 0) (weaker : (x : Finding) → P x → Q x) where

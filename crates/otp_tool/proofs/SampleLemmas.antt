@@ -1,21 +1,23 @@
 -- The word of a sample, letter by letter, and the pairs of its states.
-use Rattle.std.proofs.Common.{◌≡◌, ℕ, suc, ◌+◌, ◌<◌, Bool, true, false, cond, List, [], ◌∷◌, ◌++◌, length, map, drop, get_or, ap, sym, ◌∙◌, codes, ap₂, append_assoc, drop-cons, add-one}
+use Rattle.std.proofs.Common.{◌≡◌, ℕ, suc, ◌+◌, ◌<◌, Bool, true, false, cond, List, [], ◌∷◌, ◌++◌, length, map, drop}
+use Rattle.std.proofs.Common.{get_or, ap, sym, ◌∙◌, codes, ap₂, append_assoc, drop-cons, add-one}
 use Rattle.std.proofs.lemmas.List.Concat.{flat_map-cons}
 use Rattle.std.specs.Fmt.{decimal}
 use Rattle.answer_text.specs.declared.answer.Answer.{Answer}
 use Rattle.answer_text.specs.Text.{line, shown_text}
 use Rattle.answer_text.specs.declared.automaton.ArcLine.{ArcLine}
 use Rattle.answer_text.specs.declared.automaton.StateLine.{StateLine}
-use Rattle.otp_tool.specs.Samples.{leads_to, letter_of, letters_after, next_number, pairs_of, sample_text, sample_word, targets_of, yes_or_no}
+use Rattle.otp_tool.specs.Samples.{leads_to, sample_letter, letters_after, next_number, pairs_of, sample_text}
+use Rattle.otp_tool.specs.Samples.{sample_word, targets_of, yes_or_no}
 
 -- the next letter is put at the end of a word
-pub word_next : (word new whole : List ℕ) (n m x y c : ℕ) → n ≡ suc m → y ≡ next_number x → c ≡ letter_of y
+pub word_next : (word new whole : List ℕ) (n m x y c : ℕ) → n ≡ suc m → y ≡ next_number x → c ≡ sample_letter y
     → new ≡ word ++ c ∷ [] → word ++ letters_after n x ≡ whole → new ++ letters_after m y ≡ whole
 word_next word new whole n m x y c more next letter is all =
     ap (λ w. w ++ letters_after m y) is
     ∙ append_assoc word (c ∷ []) (letters_after m y)
     ∙ ap (λ b. word ++ b ∷ letters_after m y) letter
-    ∙ ap (λ z. word ++ letter_of z ∷ letters_after m z) next
+    ∙ ap (λ z. word ++ sample_letter z ∷ letters_after m z) next
     ∙ ap (λ k. word ++ letters_after k x) (sym more)
     ∙ all
 
@@ -44,7 +46,8 @@ abbrev pub pairs_at : StateLine → List (ℕ × ℕ)
 pairs_at state = map (λ target. (state.node, target)) (targets_of state.arcs.items)
 
 -- the pairs of the states that are left, of which this is the first
-pub pairs_next : (states : List StateLine) (i : ℕ) (state : StateLine) → i < length states → state ≡ get_or states i state
+pub pairs_next : (states : List StateLine) (i : ℕ) (state : StateLine) → i < length states
+    → state ≡ get_or states i state
     → pairs_of (drop i states) ≡ pairs_at state ++ pairs_of (drop (i + 1) states)
 pairs_next states i state within is =
     ap pairs_of (drop-cons states i state within ∙ ap (λ n. get_or states i state ∷ drop n states) (sym (add-one i))
@@ -60,7 +63,8 @@ put_at_end old new added left rest whole is cut all =
 -- ---- the text
 
 -- what is written by a word and a number of pairs
-pub text_is : (letters : ℕ) (answer : Answer) (faultless : Bool) (word : List ℕ) (pairs : ℕ) → word ≡ sample_word letters
+pub text_is : (letters : ℕ) (answer : Answer) (faultless : Bool) (word : List ℕ) (pairs : ℕ)
+    → word ≡ sample_word letters
     → pairs ≡ length (pairs_of answer.automaton.states.items)
     → line (codes "form " ++ word) ++ (shown_text answer
     ++ (line (codes "states " ++ decimal (length answer.automaton.states.items))

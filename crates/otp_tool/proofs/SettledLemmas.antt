@@ -1,5 +1,6 @@
 -- The bytes of an answer settle the verdict: whatever answer they are read as is seen alike.
-use Rattle.std.proofs.Common.{◌≡◌, ℕ, zero, suc, ◌+◌, ◌-◌, ◌<◌, ◌≤◌, inl, inr, Bool, List, [], ◌∷◌, length, map, filter, take, get_or, Result, Ok, Err, refl, ap, ap₂, sym, ◌∙◌, arith}
+use Rattle.std.proofs.Common.{◌≡◌, ℕ, zero, suc, ◌+◌, ◌-◌, ◌<◌, ◌≤◌, inl, inr, Bool, List, [], ◌∷◌, length, map, filter}
+use Rattle.std.proofs.Common.{take, get_or, Result, Ok, Err, refl, ap, ap₂, sym, ◌∙◌, arith}
 use Rattle.std.proofs.lemmas.Bool.{cases_order}
 use Rattle.std.proofs.lemmas.List.{get_or_past, length-map}
 use Rattle.std.proofs.lemmas.List.FromFn.{get_or-map-range_with_len}
@@ -24,7 +25,8 @@ use Rattle.answer_text.specs.Right.{nodes_at}
 use Rattle.answer_text.specs.Text.{Widths}
 use Rattle.answer_reader.specs.Reading.{IsTextOf}
 use Rattle.answer_reader.specs.Steps.{At}
-use Rattle.answer_reader.specs.Values.{AnswerValue, ArcValue, NodeValue, StateValue, answer_value, arc_value, node_value, stage_values, state_value}
+use Rattle.answer_reader.specs.Values.{AnswerValue, ArcValue, NodeValue, StateValue, answer_value, arc_value}
+use Rattle.answer_reader.specs.Values.{node_value, stage_values, state_value}
 use Rattle.cert_check.specs.FirstFaults.{asked_by}
 use Rattle.cert_check.specs.Seen.{AreAskedAlike, AreSeenAlike, node_seen, state_seen}
 use Rattle.cert_check.specs.Verdicts.{IsVerdict}
@@ -140,7 +142,8 @@ module _ (g : Grammar) (bytes : List ℕ) (shape : Shape) (of_grammar : IsShapeO
         → map (node_seen problem r) (nodes_at answer.stages.items r)
         ≡ map (node_seen problem r) (nodes_at other.stages.items r)
     stage_seen r within =
-        let values = sym (value_at shape 0 answer.stages.items r r (omega arith)) ∙ ap (λ vs. get_or vs r []) same_stages
+        let values = sym (value_at shape 0 answer.stages.items r r (omega arith))
+        ∙ ap (λ vs. get_or vs r []) same_stages
         ∙ value_at form_shape 0 other.stages.items r r (omega arith) in
         let free : free_count form_shape ≡ length problem.tiers.free =
         sym (ap₂ (λ (w i : ℕ). w - i) alike.width alike.inputs) ∙ free_told in

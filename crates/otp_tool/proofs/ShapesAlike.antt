@@ -1,24 +1,27 @@
 -- Shapes of one grammar have the same readings of a text.
-use Rattle.std.proofs.Common.{◌≡◌, ℕ, ◌+◌, ◌-◌, Bool, true, false, List, [], ◌∷◌, ◌++◌, length, map, filter, take, Result, Ok, Err, codes, refl, ap, sym, ◌∙◌}
+use Rattle.std.proofs.Common.{◌≡◌, ℕ, ◌+◌, ◌-◌, Bool, true, false, List, [], ◌∷◌, ◌++◌, length, map, filter, take}
+use Rattle.std.proofs.Common.{Result, Ok, Err, codes, refl, ap, sym, ◌∙◌}
 use Rattle.std.specs.Prelude.{if◌then◌else◌, slice_index_or}
 use Rattle.std.specs.List.{range_with_len}
 use Rattle.std.proofs.lemmas.List.{length-map, take-map}
 use Rattle.tier_core.specs.declared.sym.Sym.{Sym}
 use Rattle.tier_core.specs.declared.constraint.Constraint.{Constraint}
 use Rattle.tier_core.specs.declared.shape.Shape.{Shape}
-use Rattle.tier_core.specs.Shapes.{input_count}
+use Rattle.tier_core.specs.Shapes.{masked_count}
 use Rattle.tier_core.specs.KindShapes.{free_count}
 use Rattle.tier_core.specs.Sides.{is_stretch}
 use Rattle.grammar_reader.specs.Requirements.{Requirement, requirement_seen, requirements_seen}
 use Rattle.grammar_reader.specs.Values.{GrammarValue}
 use Rattle.grammar_reader.specs.ShapeOf.{stretch_counts}
 use Rattle.answer_reader.specs.declared.answer_err.AnswerCause.{AnswerCause}
-use Rattle.answer_reader.specs.Reading.{answer_of, answer_with, behind_form, HeadValue, constraint_count, form_of, example_of, stages_behind, states_behind}
+use Rattle.answer_reader.specs.Reading.{answer_of, answer_with, behind_form, HeadValue, constraint_count, form_of}
+use Rattle.answer_reader.specs.Reading.{example_of, stages_behind, states_behind}
 use Rattle.timeline_text.specs.Bytes.{lines_of}
 use Rattle.answer_reader.specs.Lines.{automaton_of, counts_of, header_of, stage_of}
 use Rattle.answer_reader.specs.Nodes.{node_of}
 use Rattle.answer_reader.specs.Orders.{in_order, node_less}
-use Rattle.answer_reader.specs.Stages.{StagePlace, StagesRead, behind_stages, in_stage, is_automaton, last_count, stages_from, stages_read, next_node, with_nodes}
+use Rattle.answer_reader.specs.Stages.{StagePlace, StagesRead, behind_stages, in_stage, is_automaton, last_count}
+use Rattle.answer_reader.specs.Stages.{stages_from, stages_read, next_node, with_nodes}
 use Rattle.answer_reader.specs.States.{behind_states, states_from}
 use Rattle.answer_reader.specs.Steps.{At, and_then, first_line, go_on, line_then}
 use Rattle.answer_reader.specs.Timelines.{timeline_said}
@@ -54,12 +57,12 @@ choose false p q r e = e
 
 pub record AreAlike (s t : Shape) : Type 0 where
   pub width : s.width ≡ t.width
-  pub inputs : input_count s.inputs ≡ input_count t.inputs
+  pub inputs : masked_count s.inputs ≡ masked_count t.inputs
   pub phases : s.phases.items ≡ t.phases.items
 
 module _ (s t : Shape) (alike : AreAlike s t) where
   same_free : free_count s ≡ free_count t
-  same_free = ap (λ w. w - input_count s.inputs) alike.width ∙ ap (λ i. t.width - i) alike.inputs
+  same_free = ap (λ w. w - masked_count s.inputs) alike.width ∙ ap (λ i. t.width - i) alike.inputs
 
   same_node : (columns stage : ℕ) (nodes : List NodeValue) (line : List ℕ)
       → next_node s columns stage nodes line ≡ next_node t columns stage nodes line

@@ -1,5 +1,6 @@
 -- What the commands do with a grammar.
-use Rattle.std.proofs.Common.{◌≡◌, inr, ℕ, ◌+◌, ◌-◌, ◌≤◌, List, length, Result, Ok, Err, All, refl, ap, sym, ◌∙◌, subst, arith}
+use Rattle.std.proofs.Common.{◌≡◌, inr, ℕ, ◌+◌, ◌-◌, ◌≤◌, List, length, Result, Ok, Err, All, refl, ap, sym, ◌∙◌, subst}
+use Rattle.std.proofs.Common.{arith}
 use Rattle.std.specs.Prelude.{IfOk}
 use Rattle.std.proofs.lemmas.List.{length-map}
 use Rattle.std.proofs.lemmas.List.Elements.{All-from_recursion}
@@ -9,7 +10,7 @@ use Rattle.outside.specs.declared.sink.WriteErr.{WriteErr}
 use Rattle.outside.specs.declared.sink.WriteErr.TheVariants.{Failed, NoMemory as NoRoom}
 use Rattle.tier_core.specs.declared.sym.Sym.{Sym}
 use Rattle.tier_core.specs.declared.shape.Shape.{Shape}
-use Rattle.tier_core.specs.Shapes.{input_count as masked_count}
+use Rattle.tier_core.specs.Shapes.{masked_count}
 use Rattle.tier_core.specs.Tables.{tiers_of_table}
 use Rattle.tier_core.specs.Tiers.{Tiers}
 use Rattle.tier_core.specs.Timelines.{IsWellFormed}
@@ -34,25 +35,26 @@ use Rattle.form_reader.specs.Forms.{IsReadAs, IsRefusedFor}
 use Rattle.otp_tool.specs.Scored.{IsNotScored, IsScored}
 use Rattle.otp_tool.specs.Findings.{Finding, FindsForAnswer, FindsForScore, no_form, ready}
 use Rattle.otp_tool.specs.Results.{IsOfRightAnswer, IsScoreText, text_widths, whole_text}
-use Rattle.otp_tool.specs.Steps.{IsEnd, IsMade, IsStep, RefusesForm, end_of, taking_of}
+use Rattle.otp_tool.specs.Steps.{IsWriteStatus, IsAnswerFor, IsStep, RefusesForm, write_status, taking_of}
 use Rattle.otp_tool.proofs.GrammarLemmas.{same_kinds, same_requirements, same_tiers, same_vector}
-use Rattle.violation.specs.Problems.{Problem, asked}
+use Rattle.violation.specs.Problems.{Problem, problem_from}
 use Rattle.otp_tool.specs.Grammars.{IsAsked}
 
 -- ---- writing
 
 module _ {O A : Type 0} {sink : Ghosts O} {old new : O} (writes : List ℕ
     → Type 0) (text : List ℕ) (w : writes text) where
-  ends : (r : Result A WriteErr) → Puts sink old new text r → IsEnd writes (taking_of sink old new) (end_of r)
+  ends : (r : Result A WriteErr) → Puts sink old new text r
+      → IsWriteStatus writes (taking_of sink old new) (write_status r)
   ends (Ok done) p = record { text = text; is = w; taken = p.ok }
   ends (Err Failed) p = (record { text = text; is = w; part = p.part }, p.failed refl)
   ends (Err NoRoom) p = inr (record { text = text; is = w; part = p.part })
 
   -- a command is ready, and writes a text
   pub written : (finds : Finding → Type 0) → finds ready → (r : Result A WriteErr) → Puts sink old new text r
-      → (status : Status) → status ≡ end_of r
+      → (status : Status) → status ≡ write_status r
       → IsStep finds writes (taking_of sink old new) status
-  written finds f r p status s = inr (f, subst (IsEnd writes (taking_of sink old new)) (sym s) (ends r p))
+  written finds f r p status s = inr (f, subst (IsWriteStatus writes (taking_of sink old new)) (sym s) (ends r p))
 
 both_ok : {X E : Type 0} (r : Result X E) (P Q R : X → Type 0) → ((x : X) → P x → Q x → R x) → IfOk r P → IfOk r Q
     → IfOk r R
@@ -112,25 +114,26 @@ module _ (g : Grammar) where
 
     -- the grammar asks what is read of its word
     pub asks : (u : List (List Sym)) → IsReadAs (length (tiers_of_table g.tiers).input) g.letters.items form u
-        → IsAsked (value_of g) form (asked g.tiers g.constraints.items u)
+        → IsAsked (value_of g) form (problem_from g.tiers g.constraints.items u)
     asks u r = record {
       tiers = sym (same_tiers g);
       constraints = sym (same_requirements g);
       form = subst (λ (tiers : Tiers). IsReadAs (length tiers.input) g.letters.items form u) (sym (same_tiers g)) r;
     }
 
-    pub made_for : (budget : ℕ) (u : List (List Sym)) → IsAsked (value_of g) form (asked g.tiers g.constraints.items u)
+    pub made_for : (budget : ℕ) (u : List (List Sym))
+        → IsAsked (value_of g) form (problem_from g.tiers g.constraints.items u)
         → IsForm (tiers_of_table g.tiers) u → length u ≤ 64 → (r : Result Answer Status)
-        → IfOk r (IsRight (asked g.tiers g.constraints.items u))
+        → IfOk r (IsRight (problem_from g.tiers g.constraints.items u))
         → IfOk r (λ answer. HaveJoinedArcs answer.automaton.states.items)
-        → IfOk r (λ answer. AreAllWithin (asked g.tiers g.constraints.items u) budget)
-        → IfOk r (λ answer. HaveFewKinds (asked g.tiers g.constraints.items u) budget)
-        → IfOk r (IsMade g.tiers g.constraints.items (value_of g) form budget)
+        → IfOk r (λ answer. AreAllWithin (problem_from g.tiers g.constraints.items u) budget)
+        → IfOk r (λ answer. HaveFewKinds (problem_from g.tiers g.constraints.items u) budget)
+        → IfOk r (IsAnswerFor g.tiers g.constraints.items (value_of g) form budget)
     made_for budget u a f s r right joined within listed =
-        let problem = asked g.tiers g.constraints.items u in
+        let problem = problem_from g.tiers g.constraints.items u in
         let Is : Answer → Type 0 = λ answer. IsRight problem answer × HaveJoinedArcs answer.automaton.states.items in
         let Few : Answer → Type 0 = λ answer. AreAllWithin problem budget × HaveFewKinds problem budget in
-        both_ok r Is Few (IsMade g.tiers g.constraints.items (value_of g) form budget)
+        both_ok r Is Few (IsAnswerFor g.tiers g.constraints.items (value_of g) form budget)
         (λ answer p q. record {
           u = u;
           is_asked = a;
@@ -147,20 +150,20 @@ module _ (g : Grammar) where
         (λ answer p q. (p, q)) within listed)
 
     module _ (budget : ℕ) (answer : Answer)
-        (made : IsMade g.tiers g.constraints.items (value_of g) form budget answer) where
+        (made : IsAnswerFor g.tiers g.constraints.items (value_of g) form budget answer) where
       pub made_ready : FindsForAnswer (value_of g) form budget ready
       made_ready = record {
-        problem = asked g.tiers g.constraints.items made.u;
+        problem = problem_from g.tiers g.constraints.items made.u;
         is_asked = made.is_asked;
         within = made.within;
         listed = made.listed;
       }
 
       pub made_right : (write : Problem → Answer → List ℕ) (text : List ℕ)
-          → ((u : List (List Sym)) → text ≡ write (asked g.tiers g.constraints.items u) answer)
+          → ((u : List (List Sym)) → text ≡ write (problem_from g.tiers g.constraints.items u) answer)
           → IsOfRightAnswer write (value_of g) form text
       made_right write text e = record {
-        problem = asked g.tiers g.constraints.items made.u;
+        problem = problem_from g.tiers g.constraints.items made.u;
         is_asked = made.is_asked;
         answer = answer;
         right = made.right;
@@ -184,13 +187,13 @@ module _ (g : Grammar) where
 
   -- the widths that the shape of a grammar gives are those of each problem that is asked
   pub same_shape_widths : (shape : Shape) → IsShapeOf g shape → (u : List (List Sym))
-      → widths_of shape ≡ text_widths (asked g.tiers g.constraints.items u)
+      → widths_of shape ≡ text_widths (problem_from g.tiers g.constraints.items u)
   same_shape_widths shape s u =
-      same_widths (widths_of shape) (text_widths (asked g.tiers g.constraints.items u))
+      same_widths (widths_of shape) (text_widths (problem_from g.tiers g.constraints.items u))
       (ap (λ n. n - masked_count shape.inputs) s.width ∙ free_tiers g.tiers.kinds.items shape.inputs s.inputs)
       s.phases
 
   pub whole_written : (shape : Shape) → IsShapeOf g shape → (answer : Answer) (u : List (List Sym))
-      → answer_text (widths_of shape) answer ≡ whole_text (asked g.tiers g.constraints.items u) answer
+      → answer_text (widths_of shape) answer ≡ whole_text (problem_from g.tiers g.constraints.items u) answer
   whole_written shape s answer u =
       ap (λ (w : Widths). answer_text w answer) (same_shape_widths shape s u)

@@ -7,11 +7,13 @@ use Rattle.form_reader.proofs.ReadingLemmas.{not_refused, one_cause}
 use Rattle.tableau.specs.declared.rows_err.RowsCause.{RowsCause}
 use Rattle.tableau.proofs.Readings.{never_both as rows_and_refused, one_refusal as one_row}
 use Rattle.violation.specs.Problems.{Problem}
-use Rattle.otp_tool.specs.Grammars.{IsAsked, OnProblem, input_count}
-use Rattle.otp_tool.specs.Findings.{Finding, FindsForTableau, HasForm, IsNoRowsFile, IsRowsFile, long_file, no_grammar, no_form, long_second, no_rows, no_lexicon, no_answer, over_budget, ready}
-use Rattle.otp_tool.specs.Steps.{IsOf, RefusesForm}
+use Rattle.otp_tool.specs.Grammars.{IsAsked, OnProblem, grammar_inputs}
+use Rattle.otp_tool.specs.Findings.{Finding, FindsForTableau, HasForm, IsNoRowsFile, IsRowsFile, long_file, no_grammar}
+use Rattle.otp_tool.specs.Findings.{no_form, long_second, no_rows, no_lexicon, no_answer, over_budget, ready}
+use Rattle.otp_tool.specs.Steps.{IsFindingOf, RefusesForm}
 use Rattle.otp_tool.proofs.Choices.{one_choice, one_of, too_long}
-use Rattle.otp_tool.proofs.AnswerFindings.{Over, Within, form_refused, one_form, one_in_budget, one_refused_form, refused_form}
+use Rattle.otp_tool.proofs.AnswerFindings.{Over, Within, form_refused, one_form, one_in_budget, one_refused_form}
+use Rattle.otp_tool.proofs.AnswerFindings.{refused_form}
 use Rattle.otp_tool.proofs.RowsAlike.{refused_alike}
 
 module _ (g : GrammarValue) (form : List ℕ) (budget : ℕ) (bytes : List ℕ) where
@@ -19,10 +21,11 @@ module _ (g : GrammarValue) (form : List ℕ) (budget : ℕ) (bytes : List ℕ) 
   Long x = (x ≡ long_second 3) × (HasForm g form × (4194304 < length bytes))
 
   abbrev NoRows : Finding → Type 0
-  NoRows = IsOf (λ (at : ℕ × RowsCause). no_rows at.0 at.1) (λ at. OnProblem (IsNoRowsFile bytes at.0 at.1) g form)
+  NoRows = IsFindingOf (λ (at : ℕ × RowsCause). no_rows at.0 at.1)
+      (λ at. OnProblem (IsNoRowsFile bytes at.0 at.1) g form)
 
   abbrev OverRows : Finding → Type 0
-  OverRows = IsOf (over_budget 0)
+  OverRows = IsFindingOf (over_budget 0)
       (λ stage. OnProblem (λ problem. IsRowsFile bytes problem × IsFirstOver problem budget stage) g form)
 
   abbrev WithinRows : Finding → Type 0
@@ -98,7 +101,7 @@ module _ (g : GrammarValue) (form : List ℕ) (budget : ℕ) (bytes : List ℕ) 
   long_apart x y l (inr w) = too_long 4194304 (length bytes) l.1.1 (has_rows y w).fact.within
 
   form_apart : (x y : Finding) → RefusesForm g form x → Long y ⊎ NotLong y → ⊥
-  form_apart x y r (inl l) = not_refused (input_count g) g.letters form l.1.0.0 r.value l.1.0.1 r.fact
+  form_apart x y r (inl l) = not_refused (grammar_inputs g) g.letters form l.1.0.0 r.value l.1.0.1 r.fact
   form_apart x y r (inr (inl n)) = refused_form g form x (IsNoRowsFile bytes n.value.0 n.value.1) r n.fact
   form_apart x y r (inr (inr w)) = refused_form g form x (IsRowsFile bytes) r (has_rows y w)
 

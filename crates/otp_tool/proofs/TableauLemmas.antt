@@ -10,7 +10,7 @@ use Rattle.tier_core.specs.declared.sym.Sym.{Sym}
 use Rattle.grammar_reader.specs.declared.grammar.Grammar.{Grammar}
 use Rattle.grammar_reader.specs.Grammars.{value_of}
 use Rattle.violation.specs.Candidates.{IsCandidate}
-use Rattle.violation.specs.Problems.{Problem, asked}
+use Rattle.violation.specs.Problems.{Problem, problem_from}
 use Rattle.answer_text.specs.declared.answer.Answer.{Answer}
 use Rattle.answer_text.specs.Right.{IsRight}
 use Rattle.tableau.specs.declared.table.Tableau.{Tableau}
@@ -22,16 +22,18 @@ use Rattle.otp_tool.specs.Files.{IsHeld, rows_file}
 use Rattle.otp_tool.specs.Grammars.{IsAsked}
 use Rattle.otp_tool.specs.Findings.{FindsForTableau, HasForm, ready}
 use Rattle.otp_tool.specs.Results.{IsTableauText}
-use Rattle.otp_tool.specs.Steps.{Change, IsMadeTableau, IsRefusal, IsSecondRefusal, IsTableauWork, RefusesBudget, RefusesFile, RefusesForm, RefusesRows, change_of, end_of}
+use Rattle.otp_tool.specs.Steps.{Change, IsMadeTableau, IsRefusal, IsSecondRefusal, IsTableauWork, RefusesBudget}
+use Rattle.otp_tool.specs.Steps.{RefusesFile, RefusesForm, RefusesRows, change_of, write_status}
 use Rattle.otp_tool.proofs.GrammarLemmas.{same_names}
-use Rattle.otp_tool.proofs.RefusalLemmas.{form_for_tableau, refusal_weaker, refused_before, rows_for_tableau, second_refused}
+use Rattle.otp_tool.proofs.RefusalLemmas.{form_for_tableau, refusal_weaker, refused_before, rows_for_tableau}
+use Rattle.otp_tool.proofs.RefusalLemmas.{second_refused}
 use Rattle.otp_tool.proofs.StepLemmas.{written}
 
 -- ---- making a tableau
 
 module _ (g : Grammar) (u : List (List Sym)) where
   abbrev problem : Problem
-  problem = asked g.tiers g.constraints.items u
+  problem = problem_from g.tiers g.constraints.items u
 
   abbrev called : List (List ℕ)
   called = names_seen g.constraints.items
@@ -39,19 +41,20 @@ module _ (g : Grammar) (u : List (List Sym)) where
   module _ (answer : Answer) (right : IsRight problem answer) where
     -- what is asked by the form of the answer is the same
     abbrev answered : Problem
-    answered = asked g.tiers g.constraints.items answer.form
+    answered = problem_from g.tiers g.constraints.items answer.form
 
     pub right_for : IsRight answered answer
-    right_for = subst (λ v. IsRight (asked g.tiers g.constraints.items v) answer) (sym right.form) right
+    right_for = subst (λ v. IsRight (problem_from g.tiers g.constraints.items v) answer) (sym right.form) right
 
     pub candidates_for : (rows : List (List (List Sym))) → All (IsCandidate problem) rows
         → All (IsCandidate answered) rows
-    candidates_for rows a = subst (λ v. All (IsCandidate (asked g.tiers g.constraints.items v)) rows) (sym right.form) a
+    candidates_for rows a = subst (λ v. All (IsCandidate (problem_from g.tiers g.constraints.items v)) rows)
+        (sym right.form) a
 
     pub tableau_for : (rows : List (List (List Sym))) (made : Tableau) → IsTableauOf called answered rows made
         → IsTableauOf called problem rows made
     tableau_for rows made t =
-        subst (λ v. IsTableauOf called (asked g.tiers g.constraints.items v) rows made) right.form t
+        subst (λ v. IsTableauOf called (problem_from g.tiers g.constraints.items v) rows made) right.form t
 
   module _ (budget : ℕ) (bytes : List ℕ) where
     pub no_rows_made : (s : Status) → IsRefusal (RefusesFile problem bytes) s
@@ -126,7 +129,7 @@ module _ (g : Grammar) (form rows : List ℕ) (budget : ℕ) where
 
         pub tableau_written : {F O A : Type 0} (shelf : ShelfGhosts F) (sink : SinkGhosts O) (from to : F) (old new : O)
             → IsHeld (shelf.held from rows) bytes
-            → (r : Result A WriteErr) → Puts sink old new (tableau_text made) r → (s : Status) → s ≡ end_of r
+            → (r : Result A WriteErr) → Puts sink old new (tableau_text made) r → (s : Status) → s ≡ write_status r
             → Work (change_of shelf sink from to old new) s
         tableau_written shelf sink from to old new h r p s e = inr (record {
           bytes = bytes;

@@ -10,12 +10,13 @@ use Rattle.violation.specs.Problems.{Problem}
 use Rattle.cert_check.specs.Seen.{AreAskedAlike}
 use Rattle.ranked_gen.specs.Budgets.{AreAllWithin, IsFirstOver}
 use Rattle.form_reader.specs.Forms.{IsReadAs}
-use Rattle.command_line.specs.Commands.{Command, IsCommand, canon, score, generate, show, tableau, once, comprehend, check, sample, grammar_of as file_of}
+use Rattle.command_line.specs.Commands.{Command, IsCommand, canon, score, generate, show, tableau, once, comprehend}
+use Rattle.command_line.specs.Commands.{check, sample, grammar_file_name as file_of}
 use Rattle.command_line.specs.Words.{words_of}
 use Rattle.otp_tool.specs.Asked.{TellsProblem, constraint_of, problem_of}
 use Rattle.otp_tool.specs.Files.{IsHeld, grammar_told}
 use Rattle.otp_tool.specs.Findings.{Finding, Finds, FindsForAnswer, FindsIn, over_budget, ready}
-use Rattle.otp_tool.specs.Grammars.{AreAsked, IsAsked, IsFileOf, input_count}
+use Rattle.otp_tool.specs.Grammars.{AreAsked, IsAsked, IsFileOf, grammar_inputs}
 use Rattle.otp_tool.specs.Outcomes.{IsTold, MayRead}
 use Rattle.otp_tool.proofs.AnswerFindings.{only_over, only_within}
 use Rattle.otp_tool.proofs.FindingLemmas.{one_finding, only_in}
@@ -26,7 +27,7 @@ module _ (name : String Global) (g : GrammarValue) where
   required : (u : List (List Sym)) → requirements_seen (problem_of name g u).constraints ≡ requirements_of g
   required u = map-map requirement_seen (constraint_of name) g.constraints
 
-  pub is_asked : (word : List ℕ) (u : List (List Sym)) → IsReadAs (input_count g) g.letters word u
+  pub is_asked : (word : List ℕ) (u : List (List Sym)) → IsReadAs (grammar_inputs g) g.letters word u
       → IsAsked g word (problem_of name g u)
   is_asked word u r = record { tiers = refl; constraints = required u; form = r }
 

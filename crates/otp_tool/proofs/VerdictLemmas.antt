@@ -7,7 +7,8 @@ use Rattle.grammar_reader.specs.Values.{GrammarValue}
 use Rattle.cert_check.specs.declared.fault.Fault.{Fault}
 use Rattle.cert_check.specs.declared.fault.Verdict.{Verdict}
 use Rattle.cert_check.specs.declared.fault.Verdict.TheVariants.{Yes, No as Not}
-use Rattle.command_line.specs.Commands.{Command, IsCommand, canon, score, generate, show, tableau, once, comprehend, check, sample}
+use Rattle.command_line.specs.Commands.{Command, IsCommand, canon, score, generate, show, tableau, once, comprehend}
+use Rattle.command_line.specs.Commands.{check, sample}
 use Rattle.command_line.proofs.CommandLemmas.{one_command}
 use Rattle.answer_reader.specs.Values.{answer_value}
 use Rattle.otp_tool.specs.Answers.{HasVerdict, IsJudged, IsVerdictText}

@@ -18,14 +18,14 @@ use Rattle.cert_check.specs.declared.fault.Verdict.{Verdict}
 use Rattle.cert_check.specs.declared.fault.Verdict.TheVariants.{Yes}
 use Rattle.cert_check.specs.Verdicts.{IsVerdict}
 use Rattle.verdict_text.specs.VerdictText.{verdict_text}
-use Rattle.otp_tool.specs.Grammars.{tiers_of}
+use Rattle.otp_tool.specs.Grammars.{grammar_tiers}
 
 -- a shape is that of a grammar: its width, its input tiers, and its stretch implications
 pub record IsShapeFor (g : GrammarValue) (shape : Shape) : Type 0 where
   pub constraints : List Constraint
   pub seen : requirements_seen constraints ≡ requirements_of g
   pub width : shape.width ≡ length g.tiers
-  pub inputs : tiers_in shape.inputs ≡ (tiers_of g).input
+  pub inputs : tiers_in shape.inputs ≡ (grammar_tiers g).input
   pub phases : shape.phases.items ≡ stretch_counts constraints
 
 -- the bytes are within the limit of an answer's file, and this is what they are read as: the value of an
@@ -47,7 +47,7 @@ IsNoAnswer g bytes line cause = IsAnswerFile g bytes (Err (at line cause))
 -- A problem is what a grammar is asked by the form of an answer: it has the grammar's tiers, constraints
 -- that require what the grammar's do, in ranked order, and that form.
 pub record IsAskedBy (g : GrammarValue) (answer : Answer) (problem : Problem) : Type 0 where
-  pub tiers : problem.tiers ≡ tiers_of g
+  pub tiers : problem.tiers ≡ grammar_tiers g
   pub constraints : requirements_seen problem.constraints ≡ requirements_of g
   pub form : problem.form ≡ answer.form
 

@@ -2,8 +2,8 @@
 -- is given.
 use Rattle.std.specs.Prelude.{◌≡◌, ◌≢◌, ℕ, ◌⊎◌, ◌↔◌, List, Option, Some, Result}
 use Rattle.outside.specs.Faults.{Rose}
-use Rattle.outside.specs.Held.{told}
-use Rattle.outside.specs.Sent.{appended, HasSentPart}
+use Rattle.outside.specs.Held.{visible_text}
+use Rattle.outside.specs.Sent.{append_if_seen, HasSentPart}
 use Rattle.outside.specs.Writers.{Puts}
 use Rattle.outside.specs.declared.sink.Sink.{Ghosts as SinkGhosts}
 use Rattle.outside.specs.declared.sink.WriteErr.{WriteErr}
@@ -19,15 +19,15 @@ use Rattle.command_line.specs.declared.status.Status.TheVariants.{Done, No, Usag
 use Rattle.command_line.specs.Lines.{status_number, status_text}
 use Rattle.otp_tool.specs.Findings.{Finding, no_grammar, no_form, no_rows, no_lexicon, no_answer, over_budget, ready}
 use Rattle.otp_tool.specs.Outcomes.{HasReadFault, IsBeforeWriting, IsBehind, IsTold, IsToldVerdict, IsTooLong, IsWrittenBehind, Stands, answer_to, status_of}
-use Rattle.otp_tool.specs.Results.{IsNoResult, IsResult, IsWhole}
+use Rattle.otp_tool.specs.Results.{IsNoResult, IsResult, IsAnyResult}
 use Rattle.otp_tool.specs.Steps.{Change}
 
 -- all that `run` promises of a status
 pub record IsStatusOf (words : List (List ℕ)) (c : Change) (status : Status) : Type 0 where
   pub done : status ≡ Done
-      → IsWrittenBehind words c.held IsResult (λ text. c.taking.new ≡ appended c.taking.old text)
+      → IsWrittenBehind words c.held IsResult (λ text. c.taking.new ≡ append_if_seen c.taking.old text)
   pub no : status ≡ No
-      → IsWrittenBehind words c.held IsNoResult (λ text. c.taking.new ≡ appended c.taking.old text)
+      → IsWrittenBehind words c.held IsNoResult (λ text. c.taking.new ≡ append_if_seen c.taking.old text)
   pub nothing_refused : (status ≡ Done) ⊎ (status ≡ No) → IsBehind words c.held ready
   pub complete : IsTold words c.held ready
       → ((word : ℕ) → ¬ HasReadFault words c.held c.faults_before c.faults_after word)
@@ -54,14 +54,14 @@ pub record IsStatusOf (words : List (List ℕ)) (c : Change) (status : Status) :
   pub due : (finding : Finding) → finding ≢ ready → IsTold words c.held finding → Stands (answer_to finding) status
   pub untouched : IsBeforeWriting status → c.taking.new ≡ c.taking.old
   pub begun : status ≡ WriteFault
-      → IsWrittenBehind words c.held IsWhole (λ text. HasSentPart c.taking.old text c.taking.new)
+      → IsWrittenBehind words c.held IsAnyResult (λ text. HasSentPart c.taking.old text c.taking.new)
   pub no_memory : status ≡ NoMemory → (c.taking.new ≡ c.taking.old)
-      ⊎ IsWrittenBehind words c.held IsWhole (λ text. HasSentPart c.taking.old text c.taking.new)
+      ⊎ IsWrittenBehind words c.held IsAnyResult (λ text. HasSentPart c.taking.old text c.taking.new)
 
 -- what a call over files and a sink in memory has before and after: no fault is ever counted
 abbrev pub change_in_memory : List (List ℕ × List ℕ) → List ℕ → List ℕ → Change
 change_in_memory files old new = record {
-  held = told files;
+  held = visible_text files;
   faults_before = λ name. 0;
   faults_after = λ name. 0;
   taking = record { old = Some old; new = Some new; before = 0; after = 0 };

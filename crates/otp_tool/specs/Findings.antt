@@ -19,7 +19,7 @@ use Rattle.answer_reader.specs.declared.answer_err.AnswerCause.{AnswerCause}
 use Rattle.otp_tool.specs.Answers.{HasAnswer, IsNoAnswer}
 use Rattle.otp_tool.specs.Samples.{sample_word}
 use Rattle.otp_tool.specs.Scored.{IsNotScored, IsScored}
-use Rattle.otp_tool.specs.Grammars.{IsAsked, OnGrammar, OnProblem, input_count}
+use Rattle.otp_tool.specs.Grammars.{IsAsked, OnGrammar, OnProblem, grammar_inputs}
 use Rattle.otp_tool.specs.Lexicons.{HasSurfaceWord, IsNoLexiconFile, IsNoSurface, OnLexicon, forms_in}
 
 pub data Finding : Type 0 where
@@ -57,7 +57,7 @@ pub record IsWithinBudget (g : GrammarValue) (form : List ℕ) (budget : ℕ) : 
 
 -- the word is read as a form
 abbrev pub HasForm : GrammarValue → List ℕ → Type 0
-HasForm g word = (u : List (List Sym)) × IsReadAs (input_count g) g.letters word u
+HasForm g word = (u : List (List Sym)) × IsReadAs (grammar_inputs g) g.letters word u
 
 -- bytes are those of a rows file for a problem
 pub record IsRowsFile (bytes : List ℕ) (problem : Problem) : Type 0 where
@@ -98,7 +98,7 @@ FindsForScore g word ready = (T : List (List Sym)) × IsScored (length g.tiers) 
 abbrev pub FindsForAnswer : GrammarValue → List ℕ → ℕ → Finding → Type 0
 FindsForAnswer g form budget long_file = ⊥
 FindsForAnswer g form budget (no_grammar line cause) = ⊥
-FindsForAnswer g form budget (no_form word cause) = (word ≡ 2) × IsRefusedFor (input_count g) g.letters form cause
+FindsForAnswer g form budget (no_form word cause) = (word ≡ 2) × IsRefusedFor (grammar_inputs g) g.letters form cause
 FindsForAnswer g form budget (long_second word) = ⊥
 FindsForAnswer g form budget (no_rows row cause) = ⊥
 FindsForAnswer g form budget (no_lexicon cause) = ⊥
@@ -111,7 +111,7 @@ abbrev pub FindsForTableau : GrammarValue → List ℕ → ℕ → List ℕ → 
 FindsForTableau g form budget bytes long_file = ⊥
 FindsForTableau g form budget bytes (no_grammar line cause) = ⊥
 FindsForTableau g form budget bytes (no_form word cause) =
-    (word ≡ 2) × IsRefusedFor (input_count g) g.letters form cause
+    (word ≡ 2) × IsRefusedFor (grammar_inputs g) g.letters form cause
 FindsForTableau g form budget bytes (long_second word) = (word ≡ 3) × (HasForm g form × (4194304 < length bytes))
 FindsForTableau g form budget bytes (no_rows row cause) = OnProblem (IsNoRowsFile bytes row cause) g form
 FindsForTableau g form budget bytes (no_lexicon cause) = ⊥
@@ -125,7 +125,7 @@ FindsForTableau g form budget bytes ready =
 abbrev pub FindsForOnce : GrammarValue → List ℕ → ℕ → Finding → Type 0
 FindsForOnce g form budget long_file = ⊥
 FindsForOnce g form budget (no_grammar line cause) = ⊥
-FindsForOnce g form budget (no_form word cause) = (word ≡ 2) × IsRefusedFor (input_count g) g.letters form cause
+FindsForOnce g form budget (no_form word cause) = (word ≡ 2) × IsRefusedFor (grammar_inputs g) g.letters form cause
 FindsForOnce g form budget (long_second word) = ⊥
 FindsForOnce g form budget (no_rows row cause) = ⊥
 FindsForOnce g form budget (no_lexicon cause) = ⊥
@@ -190,13 +190,13 @@ Finds command bytes second (over_budget entry stage) =
 Finds command bytes second ready = OnGrammar (λ g. FindsIn command g second ready) bytes
 
 -- a command accepts in its grammar what stands before its second file, so that this file is loaded
-abbrev pub Reaches : Command → GrammarValue → Type 0
-Reaches (canon name) g = Unit {0}
-Reaches (score name word) g = Unit {0}
-Reaches (generate name form budget) g = Unit {0}
-Reaches (show name form budget) g = Unit {0}
-Reaches (tableau name form rows budget) g = HasForm g form
-Reaches (once name form budget) g = Unit {0}
-Reaches (comprehend name lexicon surface budget) g = HasSurfaceWord g surface
-Reaches (check name answer) g = Unit {0}
-Reaches (sample n) g = Unit {0}
+abbrev pub ReachesSecondFile : Command → GrammarValue → Type 0
+ReachesSecondFile (canon name) g = Unit {0}
+ReachesSecondFile (score name word) g = Unit {0}
+ReachesSecondFile (generate name form budget) g = Unit {0}
+ReachesSecondFile (show name form budget) g = Unit {0}
+ReachesSecondFile (tableau name form rows budget) g = HasForm g form
+ReachesSecondFile (once name form budget) g = Unit {0}
+ReachesSecondFile (comprehend name lexicon surface budget) g = HasSurfaceWord g surface
+ReachesSecondFile (check name answer) g = Unit {0}
+ReachesSecondFile (sample n) g = Unit {0}

@@ -20,19 +20,19 @@ pub record OnGrammar (P : GrammarValue → Type 0) (bytes : List ℕ) : Type 0 w
   pub file : IsFileOf bytes grammar
   pub fact : P grammar
 
-abbrev pub kinds_of : GrammarValue → List TierKind
-kinds_of g = map (λ t. t.kind) g.tiers
+abbrev pub tier_kinds : GrammarValue → List TierKind
+tier_kinds g = map (λ t. t.kind) g.tiers
 
-abbrev pub tiers_of : GrammarValue → Tiers
-tiers_of g = tiers_by_kinds (kinds_of g)
+abbrev pub grammar_tiers : GrammarValue → Tiers
+grammar_tiers g = tiers_by_kinds (tier_kinds g)
 
 -- how many input tiers there are
-abbrev pub input_count : GrammarValue → ℕ
-input_count g = length (tiers_of g).input
+abbrev pub grammar_inputs : GrammarValue → ℕ
+grammar_inputs g = length (grammar_tiers g).input
 
 -- how many overt tiers there are
 abbrev pub overt_count : GrammarValue → ℕ
-overt_count g = length (tiers_of g).overt
+overt_count g = length (grammar_tiers g).overt
 
 -- the names of its constraints, in ranked order
 abbrev pub constraint_names : GrammarValue → List (List ℕ)
@@ -42,9 +42,9 @@ constraint_names g = map (λ c. c.name) g.constraints
 -- require what the grammar's do, in ranked order, and the form that the word is read as. The names of
 -- the constraints have no part in it.
 pub record IsAsked (g : GrammarValue) (word : List ℕ) (problem : Problem) : Type 0 where
-  pub tiers : problem.tiers ≡ tiers_of g
+  pub tiers : problem.tiers ≡ grammar_tiers g
   pub constraints : requirements_seen problem.constraints ≡ requirements_of g
-  pub form : IsReadAs (input_count g) g.letters word problem.form
+  pub form : IsReadAs (grammar_inputs g) g.letters word problem.form
 
 -- the word is a form, and something holds of the problem that is asked
 pub record OnProblem (P : Problem → Type 0) (g : GrammarValue) (word : List ℕ) : Type 0 where
@@ -55,6 +55,6 @@ pub record OnProblem (P : Problem → Type 0) (g : GrammarValue) (word : List �
 -- Problems are asked by a grammar, one with each form: each has the grammar's tiers, and constraints
 -- that require what the grammar's do, in ranked order.
 pub record AreAsked (g : GrammarValue) (ask : List (List Sym) → Problem) : Type 0 where
-  pub tiers : (u : List (List Sym)) → (ask u).tiers ≡ tiers_of g
+  pub tiers : (u : List (List Sym)) → (ask u).tiers ≡ grammar_tiers g
   pub constraints : (u : List (List Sym)) → requirements_seen (ask u).constraints ≡ requirements_of g
   pub form : (u : List (List Sym)) → (ask u).form ≡ u

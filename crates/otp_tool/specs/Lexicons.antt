@@ -9,7 +9,7 @@ use Rattle.lexicon.specs.declared.lex_err.LexErr.{LexErr}
 use Rattle.lexicon.specs.Entries.{LexicalEntry}
 use Rattle.lexicon.specs.Lexicons.{IsLexicon, IsLexiconCause}
 use Rattle.violation.specs.Problems.{Problem}
-use Rattle.otp_tool.specs.Grammars.{AreAsked, input_count, overt_count}
+use Rattle.otp_tool.specs.Grammars.{AreAsked, grammar_inputs, overt_count}
 
 -- the timeline over the overt tiers, of at most 64 columns, that a word is read as
 abbrev pub IsSurfaceOf : GrammarValue → List ℕ → List (List Sym) → Type 0
@@ -26,12 +26,12 @@ HasSurfaceWord g word = (surface : List (List Sym)) × IsSurfaceOf g word surfac
 -- bytes are those of a lexicon file, which has these entries
 pub record IsLexiconFile (g : GrammarValue) (bytes : List ℕ) (entries : List LexicalEntry) : Type 0 where
   pub within : length bytes ≤ 4194304
-  pub are : IsLexicon (input_count g) g.letters bytes entries
+  pub are : IsLexicon (grammar_inputs g) g.letters bytes entries
 
 -- they are not, for this cause
 pub record IsNoLexiconFile (g : GrammarValue) (bytes : List ℕ) (cause : LexErr) : Type 0 where
   pub within : length bytes ≤ 4194304
-  pub refused : IsLexiconCause (input_count g) g.letters bytes cause
+  pub refused : IsLexiconCause (grammar_inputs g) g.letters bytes cause
 
 abbrev pub forms_in : List LexicalEntry → List (List (List Sym))
 forms_in entries = map (λ entry. entry.form) entries

@@ -4,13 +4,13 @@ use Rattle.outside.specs.Faults.{Rose}
 use Rattle.grammar_reader.specs.Values.{GrammarValue}
 use Rattle.cert_check.specs.declared.fault.Verdict.{Verdict}
 use Rattle.cert_check.specs.declared.fault.Verdict.TheVariants.{Yes, No as Not}
-use Rattle.command_line.specs.Commands.{Command, IsCommand, canon, score, generate, show, tableau, once, comprehend, check, sample, grammar_of as file_of}
+use Rattle.command_line.specs.Commands.{Command, IsCommand, canon, score, generate, show, tableau, once, comprehend, check, sample, grammar_file_name as file_of}
 use Rattle.command_line.specs.declared.status.Status.{Status}
 use Rattle.command_line.specs.declared.status.Status.TheVariants.{Done, No, Usage, GrammarRefused, FormRefused, LexiconRefused, AnswerRefused, Budget, ReadFault, WriteFault, NoMemory, RowsRefused, TooLong}
 use Rattle.otp_tool.specs.Answers.{HasVerdict}
 use Rattle.otp_tool.specs.Files.{grammar_told, IsHeld, IsSecondHeld, NamedFile, grammar_file, second_file}
 use Rattle.otp_tool.specs.Grammars.{OnGrammar}
-use Rattle.otp_tool.specs.Findings.{Finding, Finds, Reaches, long_file, no_grammar, no_form, long_second, no_rows, no_lexicon, no_answer, over_budget, ready}
+use Rattle.otp_tool.specs.Findings.{Finding, Finds, ReachesSecondFile, long_file, no_grammar, no_form, long_second, no_rows, no_lexicon, no_answer, over_budget, ready}
 
 -- The words are a command, and these are bytes that the shelf may hold under the names of its grammar
 -- and of its second file: those that it tells, and any where it does not tell.
@@ -51,7 +51,7 @@ pub record IsWrittenBehind (words : List (List ℕ)) (held : List ℕ → Option
 pub record HasReached (held : List ℕ → Option (List ℕ)) (command : Command) : Type 0 where
   pub bytes : List ℕ
   pub holds : IsHeld (grammar_told held (file_of command)) bytes
-  pub accepts : OnGrammar (Reaches command) bytes
+  pub accepts : OnGrammar (ReachesSecondFile command) bytes
 
 -- the file is that of a command's grammar, or its second one, and the command comes to load it
 abbrev pub Loads : (List ℕ → Option (List ℕ)) → Command → NamedFile → Type 0

@@ -156,5 +156,5 @@ IsNoResult (check name answer) g second text = IsNoText g second text
 IsNoResult (sample n) g second text = ⊥
 
 -- one or the other
-abbrev pub IsWhole : Command → GrammarValue → List ℕ → List ℕ → Type 0
-IsWhole command g second text = IsResult command g second text ⊎ IsNoResult command g second text
+abbrev pub IsAnyResult : Command → GrammarValue → List ℕ → List ℕ → Type 0
+IsAnyResult command g second text = IsResult command g second text ⊎ IsNoResult command g second text

@@ -31,13 +31,13 @@ abbrev pub next_number : ℕ → ℕ
 next_number x = (1103515245 * x + 12345) % 2147483648
 
 -- the letter of a number: `t` if the whole part of a 65,536th of it is even, and `a` otherwise
-abbrev pub letter_of : ℕ → ℕ
-letter_of x = if (x / 65536) % 2 == 0 then 116 else 97
+abbrev pub sample_letter : ℕ → ℕ
+sample_letter x = if (x / 65536) % 2 == 0 then 116 else 97
 
 -- the letters of the next numbers
 abbrev pub letters_after : ℕ → ℕ → List ℕ
 letters_after zero x = []
-letters_after (suc n) x = letter_of (next_number x) ∷ letters_after n (next_number x)
+letters_after (suc n) x = sample_letter (next_number x) ∷ letters_after n (next_number x)
 
 -- the word of the form that a number makes: so many letters after it
 abbrev pub sample_word : ℕ → List ℕ

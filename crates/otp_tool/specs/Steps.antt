@@ -5,13 +5,13 @@ use Rattle.outside.specs.declared.shelf.Shelf.{Ghosts as ShelfGhosts}
 use Rattle.outside.specs.declared.sink.Sink.{Ghosts as SinkGhosts}
 use Rattle.outside.specs.declared.sink.WriteErr.{WriteErr}
 use Rattle.outside.specs.declared.sink.WriteErr.TheVariants.{Failed, NoMemory as NoRoom}
-use Rattle.outside.specs.Sent.{appended, HasSentPart}
+use Rattle.outside.specs.Sent.{append_if_seen, HasSentPart}
 use Rattle.tier_core.specs.declared.sym.Sym.{Sym}
 use Rattle.tier_core.specs.declared.constraint.Constraint.{Constraint}
 use Rattle.tier_core.specs.declared.tier.TierTable.{TierTable}
 use Rattle.tier_core.specs.Tables.{tiers_of_table}
 use Rattle.violation.specs.Candidates.{IsForm}
-use Rattle.violation.specs.Problems.{Problem, asked, last_stage}
+use Rattle.violation.specs.Problems.{Problem, problem_from, last_stage}
 use Rattle.violation.specs.Rests.{AreWholeKindsOver}
 use Rattle.comprehend.specs.Hears.{IsFirstEntryOver}
 use Rattle.answer_text.specs.declared.answer.Answer.{Answer}
@@ -36,10 +36,10 @@ use Rattle.tableau.specs.declared.rows_err.RowsCause.{RowsCause}
 use Rattle.tableau.specs.declared.table.Tableau.{Tableau}
 use Rattle.tableau.specs.Rows.{AreRowsOf}
 use Rattle.tableau.specs.Tableaux.{IsTableauOf}
-use Rattle.otp_tool.specs.Grammars.{IsFileOf, IsAsked, input_count}
-use Rattle.otp_tool.specs.Findings.{Finding, FindsIn, FindsForCheck, FindsForHearing, FindsForTableau, HasForm, IsNoRowsFile, IsRowsFile, Reaches, no_grammar, no_form, long_second, no_rows, no_lexicon, no_answer, over_budget, ready}
+use Rattle.otp_tool.specs.Grammars.{IsFileOf, IsAsked, grammar_inputs}
+use Rattle.otp_tool.specs.Findings.{Finding, FindsIn, FindsForCheck, FindsForHearing, FindsForTableau, HasForm, IsNoRowsFile, IsRowsFile, ReachesSecondFile, no_grammar, no_form, long_second, no_rows, no_lexicon, no_answer, over_budget, ready}
 use Rattle.otp_tool.specs.Lexicons.{HasSurfaceWord, IsNoLexiconFile, IsNoSurface}
-use Rattle.otp_tool.specs.Results.{IsHeardText, IsNoResult, IsNoText, IsResult, IsTableauText, IsWhole, IsYesText}
+use Rattle.otp_tool.specs.Results.{IsHeardText, IsNoResult, IsNoText, IsResult, IsTableauText, IsAnyResult, IsYesText}
 use Rattle.otp_tool.specs.Outcomes.{IsBehind, IsTooLong, IsWrittenBehind, HasReadFault}
 
 -- the budget of a command is from 1 to 65,536, and the number of a sample from 1 to 63
@@ -116,46 +116,46 @@ IsRefusal finds (RowsRefused word row cause) = (word ≡ 3) × finds (no_rows ro
 IsRefusal finds (TooLong word) = finds (long_second word)
 
 -- a finding is this one, of something for which a relation holds
-pub record IsOf {A : Type 0} (finding : A → Finding) (P : A → Type 0) (x : Finding) : Type 0 where
+pub record IsFindingOf {A : Type 0} (finding : A → Finding) (P : A → Type 0) (x : Finding) : Type 0 where
   pub value : A
   pub is : x ≡ finding value
   pub fact : P value
 
 -- the word of a form is refused
 abbrev pub RefusesForm : GrammarValue → List ℕ → Finding → Type 0
-RefusesForm g word = IsOf (no_form 2) (IsRefusedFor (input_count g) g.letters word)
+RefusesForm g word = IsFindingOf (no_form 2) (IsRefusedFor (grammar_inputs g) g.letters word)
 
 -- a stage has more kinds than the budget
 abbrev pub RefusesBudget : Problem → ℕ → Finding → Type 0
-RefusesBudget problem budget = IsOf (over_budget 0) (IsFirstOver problem budget)
+RefusesBudget problem budget = IsFindingOf (over_budget 0) (IsFirstOver problem budget)
 
 -- there are more kinds under all constraints than the budget, which are those of the last stage
 abbrev pub RefusesOnce : Problem → ℕ → Finding → Type 0
 RefusesOnce problem budget =
-    IsOf (over_budget 0) (λ stage. (stage ≡ last_stage problem) × AreWholeKindsOver problem budget)
+    IsFindingOf (over_budget 0) (λ stage. (stage ≡ last_stage problem) × AreWholeKindsOver problem budget)
 
 -- the word of a surface is refused
 abbrev pub RefusesSurface : GrammarValue → List ℕ → Finding → Type 0
-RefusesSurface g word = IsOf (no_form 3) (IsNoSurface g word)
+RefusesSurface g word = IsFindingOf (no_form 3) (IsNoSurface g word)
 
 -- a file is not a lexicon file
 abbrev pub RefusesLexicon : GrammarValue → List ℕ → Finding → Type 0
-RefusesLexicon g bytes = IsOf no_lexicon (IsNoLexiconFile g bytes)
+RefusesLexicon g bytes = IsFindingOf no_lexicon (IsNoLexiconFile g bytes)
 
 -- an entry has a stage with more kinds than the budget
 abbrev pub RefusesEntry : (List (List Sym) → Problem) → List (List (List Sym)) → ℕ → Finding → Type 0
 RefusesEntry ask forms budget =
-    IsOf (λ (at : ℕ × ℕ). over_budget at.0 at.1) (λ at. IsFirstEntryOver ask forms budget at.0 at.1)
+    IsFindingOf (λ (at : ℕ × ℕ). over_budget at.0 at.1) (λ at. IsFirstEntryOver ask forms budget at.0 at.1)
 
 -- bytes are those of no answer, for a shape
 abbrev pub RefusesAnswer : Shape → List ℕ → Finding → Type 0
 RefusesAnswer shape bytes =
-    IsOf (λ (at : At). no_answer at.line at.cause) (λ at. answer_of shape bytes ≡ Err at)
+    IsFindingOf (λ (at : At). no_answer at.line at.cause) (λ at. answer_of shape bytes ≡ Err at)
 
 -- a file is not a rows file for a problem
 abbrev pub RefusesFile : Problem → List ℕ → Finding → Type 0
 RefusesFile problem bytes =
-    IsOf (λ (at : ℕ × RowsCause). no_rows at.0 at.1) (λ at. IsNoRowsFile bytes at.0 at.1 problem)
+    IsFindingOf (λ (at : ℕ × RowsCause). no_rows at.0 at.1) (λ at. IsNoRowsFile bytes at.0 at.1 problem)
 
 -- a tableau of a problem is refused for a rows file, or for the budget
 abbrev pub RefusesRows : Problem → ℕ → List ℕ → Finding → Type 0
@@ -164,16 +164,17 @@ RefusesRows problem budget bytes x =
 
 -- an answer is right for the form that a word is read as, which has at most 64 columns; its arcs are
 -- joined, and no stage has more kinds than the budget: each has its list of kinds
-pub record IsMade (table : TierTable) (constraints : List Constraint) (g : GrammarValue) (form : List ℕ) (budget : ℕ)
+pub record IsAnswerFor (table : TierTable) (constraints : List Constraint) (g : GrammarValue) (form : List ℕ)
+    (budget : ℕ)
     (answer : Answer) : Type 0 where
   pub u : List (List Sym)
-  pub is_asked : IsAsked g form (asked table constraints u)
+  pub is_asked : IsAsked g form (problem_from table constraints u)
   pub is_form : IsForm (tiers_of_table table) u
   pub short : length u ≤ 64
-  pub right : IsRight (asked table constraints u) answer
+  pub right : IsRight (problem_from table constraints u) answer
   pub joined : HaveJoinedArcs answer.automaton.states.items
-  pub within : AreAllWithin (asked table constraints u) budget
-  pub listed : HaveFewKinds (asked table constraints u) budget
+  pub within : AreAllWithin (problem_from table constraints u) budget
+  pub listed : HaveFewKinds (problem_from table constraints u) budget
 
 -- a tableau is that of a problem under constraints that are called so, with the rows of a rows file, and no
 -- stage has more kinds than the budget
@@ -185,48 +186,48 @@ pub record IsMadeTableau (called : List (List ℕ)) (problem : Problem) (budget 
   pub within : AreAllWithin problem budget
 
 -- what a sink has taken, and its faults, before and after
-pub record Taking : Type 0 where
+pub record SinkChange : Type 0 where
   pub old : Option (List ℕ)
   pub new : Option (List ℕ)
   pub before : ℕ
   pub after : ℕ
 
-abbrev pub taking_of : {O : Type 0} → SinkGhosts O → O → O → Taking
+abbrev pub taking_of : {O : Type 0} → SinkGhosts O → O → O → SinkChange
 taking_of sink old new =
     record { old = sink.taken old; new = sink.taken new; before = sink.faults old; after = sink.faults new }
 
 -- a text of this kind was written as a whole, or a front of it
-pub record IsAllTaken (writes : List ℕ → Type 0) (t : Taking) : Type 0 where
+pub record IsAllTaken (writes : List ℕ → Type 0) (t : SinkChange) : Type 0 where
   pub text : List ℕ
   pub is : writes text
-  pub taken : t.new ≡ appended t.old text
+  pub taken : t.new ≡ append_if_seen t.old text
 
-pub record IsPartTaken (writes : List ℕ → Type 0) (t : Taking) : Type 0 where
+pub record IsPartTaken (writes : List ℕ → Type 0) (t : SinkChange) : Type 0 where
   pub text : List ℕ
   pub is : writes text
   pub part : HasSentPart t.old text t.new
 
 -- the status that the writing of a text ends with
-abbrev pub end_of : {A : Type 0} → Result A WriteErr → Status
-end_of (Ok done) = Done
-end_of (Err Failed) = WriteFault
-end_of (Err NoRoom) = NoMemory
+abbrev pub write_status : {A : Type 0} → Result A WriteErr → Status
+write_status (Ok done) = Done
+write_status (Err Failed) = WriteFault
+write_status (Err NoRoom) = NoMemory
 
 -- how the writing of a text ends
-abbrev pub IsEnd : (List ℕ → Type 0) → Taking → Status → Type 0
-IsEnd writes t Done = IsAllTaken writes t
-IsEnd writes t No = ⊥
-IsEnd writes t Usage = ⊥
-IsEnd writes t (GrammarRefused word line cause) = ⊥
-IsEnd writes t (FormRefused word cause) = ⊥
-IsEnd writes t (LexiconRefused word cause) = ⊥
-IsEnd writes t (AnswerRefused word line cause) = ⊥
-IsEnd writes t (Budget entry stage) = ⊥
-IsEnd writes t (ReadFault word) = ⊥
-IsEnd writes t WriteFault = IsPartTaken writes t × Rose t.before t.after
-IsEnd writes t NoMemory = (t.new ≡ t.old) ⊎ IsPartTaken writes t
-IsEnd writes t (RowsRefused word row cause) = ⊥
-IsEnd writes t (TooLong word) = ⊥
+abbrev pub IsWriteStatus : (List ℕ → Type 0) → SinkChange → Status → Type 0
+IsWriteStatus writes t Done = IsAllTaken writes t
+IsWriteStatus writes t No = ⊥
+IsWriteStatus writes t Usage = ⊥
+IsWriteStatus writes t (GrammarRefused word line cause) = ⊥
+IsWriteStatus writes t (FormRefused word cause) = ⊥
+IsWriteStatus writes t (LexiconRefused word cause) = ⊥
+IsWriteStatus writes t (AnswerRefused word line cause) = ⊥
+IsWriteStatus writes t (Budget entry stage) = ⊥
+IsWriteStatus writes t (ReadFault word) = ⊥
+IsWriteStatus writes t WriteFault = IsPartTaken writes t × Rose t.before t.after
+IsWriteStatus writes t NoMemory = (t.new ≡ t.old) ⊎ IsPartTaken writes t
+IsWriteStatus writes t (RowsRefused word row cause) = ⊥
+IsWriteStatus writes t (TooLong word) = ⊥
 
 -- how the writing of a text ends that says No
 abbrev pub no_end_of : {A : Type 0} → Result A WriteErr → Status
@@ -236,10 +237,10 @@ no_end_of (Err NoRoom) = NoMemory
 
 -- the status that the writing of a verdict ends with
 abbrev pub verdict_end : {A : Type 0} → Verdict → Result A WriteErr → Status
-verdict_end Yes written = end_of written
+verdict_end Yes written = write_status written
 verdict_end (Not fault) written = no_end_of written
 
-abbrev pub IsNoEnd : (List ℕ → Type 0) → Taking → Status → Type 0
+abbrev pub IsNoEnd : (List ℕ → Type 0) → SinkChange → Status → Type 0
 IsNoEnd writes t Done = ⊥
 IsNoEnd writes t No = IsAllTaken writes t
 IsNoEnd writes t Usage = ⊥
@@ -255,15 +256,16 @@ IsNoEnd writes t (RowsRefused word row cause) = ⊥
 IsNoEnd writes t (TooLong word) = ⊥
 
 -- what a command does with a grammar: it refuses and writes nothing, or it is ready and writes
-abbrev pub IsStep : (Finding → Type 0) → (List ℕ → Type 0) → Taking → Status → Type 0
-IsStep finds writes t status = (IsRefusal finds status × (t.new ≡ t.old)) ⊎ (finds ready × IsEnd writes t status)
+abbrev pub IsStep : (Finding → Type 0) → (List ℕ → Type 0) → SinkChange → Status → Type 0
+IsStep finds writes t status = (IsRefusal finds status × (t.new ≡ t.old))
+    ⊎ (finds ready × IsWriteStatus writes t status)
 
 -- what a shelf holds, and its faults and what a sink has taken, before and after
 pub record Change : Type 0 where
   pub held : List ℕ → Option (List ℕ)
   pub faults_before : List ℕ → ℕ
   pub faults_after : List ℕ → ℕ
-  pub taking : Taking
+  pub taking : SinkChange
 
 abbrev pub change_of : {F O : Type 0} → ShelfGhosts F → SinkGhosts O → F → F → O → O → Change
 change_of shelf sink from to old new = record {
@@ -307,11 +309,11 @@ pub record IsNoWork (second : Option NamedFile) (finds : List ℕ → Finding �
 
 abbrev pub IsWorkOf : Command → GrammarValue → Change → Status → Type 0
 IsWorkOf command g c status =
-    IsWork (second_file command) (Reaches command g) (FindsIn command g) (IsResult command g) c status
+    IsWork (second_file command) (ReachesSecondFile command g) (FindsIn command g) (IsResult command g) c status
     ⊎ IsNoWork (second_file command) (FindsIn command g) (IsNoResult command g) c status
 
 -- what `check` does with a grammar and the bytes of an answer's file
-abbrev pub IsCheckStep : GrammarValue → List ℕ → Taking → Status → Type 0
+abbrev pub IsCheckStep : GrammarValue → List ℕ → SinkChange → Status → Type 0
 IsCheckStep g bytes t status =
     IsStep (FindsForCheck g bytes) (IsYesText g bytes) t status
     ⊎ (FindsForCheck g bytes ready × IsNoEnd (IsNoText g bytes) t status)
@@ -334,10 +336,10 @@ IsHearingWork g lexicon surface budget c status =
 abbrev pub IsOutcome : List (List ℕ) → Change → Status → Type 0
 IsOutcome words c Done =
     IsBehind words c.held ready
-    × IsWrittenBehind words c.held IsResult (λ text. c.taking.new ≡ appended c.taking.old text)
+    × IsWrittenBehind words c.held IsResult (λ text. c.taking.new ≡ append_if_seen c.taking.old text)
 IsOutcome words c No =
     IsBehind words c.held ready
-    × IsWrittenBehind words c.held IsNoResult (λ text. c.taking.new ≡ appended c.taking.old text)
+    × IsWrittenBehind words c.held IsNoResult (λ text. c.taking.new ≡ append_if_seen c.taking.old text)
 IsOutcome words c Usage = IsNoCommand words × (c.taking.new ≡ c.taking.old)
 IsOutcome words c (GrammarRefused word line cause) =
     (word ≡ 1) × IsBehind words c.held (no_grammar line cause) × (c.taking.new ≡ c.taking.old)
@@ -353,12 +355,12 @@ IsOutcome words c (ReadFault word) =
     HasReadFault words c.held c.faults_before c.faults_after word × (c.taking.new ≡ c.taking.old)
 IsOutcome words c WriteFault =
     IsBehind words c.held ready
-    × IsWrittenBehind words c.held IsWhole (λ text. HasSentPart c.taking.old text c.taking.new)
+    × IsWrittenBehind words c.held IsAnyResult (λ text. HasSentPart c.taking.old text c.taking.new)
     × Rose c.taking.before c.taking.after
 IsOutcome words c NoMemory =
     ((command : Command) × IsCommand words command)
     × ((c.taking.new ≡ c.taking.old)
-    ⊎ IsWrittenBehind words c.held IsWhole (λ text. HasSentPart c.taking.old text c.taking.new))
+    ⊎ IsWrittenBehind words c.held IsAnyResult (λ text. HasSentPart c.taking.old text c.taking.new))
 IsOutcome words c (RowsRefused word row cause) =
     (word ≡ 3) × IsBehind words c.held (no_rows row cause) × (c.taking.new ≡ c.taking.old)
 IsOutcome words c (TooLong word) = IsTooLong words c.held word × (c.taking.new ≡ c.taking.old)

@@ -1,20 +1,20 @@
 ghost use Rattle.std.specs.Prelude.{◌≡◌, ◌≤◌, length, IfOk, IfErr};
 ghost use Rattle.tier_core.specs.Tables.{tiers_of_table};
 ghost use Rattle.violation.specs.Candidates.{IsForm};
-ghost use Rattle.violation.specs.Problems.{asked};
+ghost use Rattle.violation.specs.Problems.{problem_from};
 ghost use Rattle.answer_text.specs.Right.{IsRight};
 ghost use Rattle.kind_orders.specs.JoinedArcs.{HaveJoinedArcs};
 ghost use Rattle.ranked_gen.specs.Budgets.{AreAllWithin, HaveFewKinds};
 ghost use Rattle.grammar_reader.specs.Grammars.{value_of};
 ghost use Rattle.otp_tool.specs.Grammars.{IsAsked};
 ghost use Rattle.otp_tool.specs.Findings.{FindsForAnswer};
-ghost use Rattle.otp_tool.specs.Steps.{IsMade, IsRefusal, RefusesBudget, RefusesForm};
+ghost use Rattle.otp_tool.specs.Steps.{IsAnswerFor, IsRefusal, RefusesBudget, RefusesForm};
 
 use answer_text::Answer;
+use command_line::Status;
 use form_reader::read_form;
 use grammar_reader::Grammar;
 use ranked_gen::{GenErr, generate};
-use command_line::Status;
 use std::alloc::Global;
 use tier_core::Timeline;
 use timeline_text::FormErr;
@@ -22,7 +22,7 @@ use timeline_text::FormErr;
 /// Reads the form that word 2 is.
 pub(crate) fn form_of(alloc: Global, grammar: &Grammar, word: &str) -> Result<Timeline, Status>
     ensures ok { IfOk result (λ form. IsAsked (value_of grammar.now) word.now
-        (asked grammar.now.tiers grammar.now.constraints.items form)) }
+        (problem_from grammar.now.tiers grammar.now.constraints.items form)) }
     ensures form { IfOk result (IsForm (tiers_of_table grammar.now.tiers)) }
     ensures short { IfOk result (λ form. length form ≤ 64) }
     ensures err { IfErr result (IsRefusal (RefusesForm (value_of grammar.now) word.now)) }
@@ -46,14 +46,14 @@ pub(crate) fn answer_for(
     requires some { 1 ≤ budget }
     requires few { budget ≤ 65536 }
     ensures right { IfOk result (IsRight
-        (asked grammar.now.tiers grammar.now.constraints.items form.now)) }
+        (problem_from grammar.now.tiers grammar.now.constraints.items form.now)) }
     ensures joined { IfOk result (λ answer. HaveJoinedArcs answer.automaton.states.items) }
     ensures within { IfOk result (λ answer. AreAllWithin
-        (asked grammar.now.tiers grammar.now.constraints.items form.now) budget) }
+        (problem_from grammar.now.tiers grammar.now.constraints.items form.now) budget) }
     ensures listed { IfOk result (λ answer. HaveFewKinds
-        (asked grammar.now.tiers grammar.now.constraints.items form.now) budget) }
+        (problem_from grammar.now.tiers grammar.now.constraints.items form.now) budget) }
     ensures err { IfErr result (IsRefusal (RefusesBudget
-        (asked grammar.now.tiers grammar.now.constraints.items form.now) budget)) }
+        (problem_from grammar.now.tiers grammar.now.constraints.items form.now) budget)) }
 {
     match generate(alloc, grammar, form, budget) {
         Ok(answer) => Ok(answer),
@@ -71,7 +71,7 @@ pub(crate) fn make_answer(
 ) -> Result<Answer, Status>
     requires some { 1 ≤ budget }
     requires few { budget ≤ 65536 }
-    ensures ok { IfOk result (IsMade grammar.now.tiers grammar.now.constraints.items
+    ensures ok { IfOk result (IsAnswerFor grammar.now.tiers grammar.now.constraints.items
         (value_of grammar.now) word.now budget) }
     ensures err { IfErr result (IsRefusal
         (FindsForAnswer (value_of grammar.now) word.now budget)) }

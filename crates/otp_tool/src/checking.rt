@@ -5,14 +5,14 @@ ghost use Rattle.answer_reader.specs.Values.{answer_value};
 ghost use Rattle.grammar_reader.specs.Grammars.{value_of};
 ghost use Rattle.otp_tool.specs.Steps.{IsCheckStep, IsCheckWork, IsRefusal, RefusesAnswer, change_of, no_end_of, taking_of, verdict_end};
 
-use crate::results::ended;
+use crate::results::write_status;
 use crate::second::load_second;
 use answer_reader::{AnswerErr, read_answer};
 use answer_text::Answer;
 use cert_check::Verdict;
+use command_line::Status;
 use grammar_reader::{Grammar, shape};
 use outside::{Shelf, Sink, WriteErr};
-use command_line::Status;
 use std::alloc::Global;
 use tier_core::Shape;
 use verdict_text::put_verdict;
@@ -40,7 +40,7 @@ fn answer_of(alloc: Global, shape: &Shape, bytes: &[u8]) -> Result<Answer, Statu
 }
 
 /// The status with which writing the verdict No ends.
-fn refuted(written: Result<(), WriteErr>) -> Status
+fn no_status(written: Result<(), WriteErr>) -> Status
     ensures { result ≡ no_end_of written }
 {
     match written {
@@ -51,12 +51,12 @@ fn refuted(written: Result<(), WriteErr>) -> Status
 }
 
 /// The status with which writing a verdict ends.
-fn told(verdict: &Verdict, written: Result<(), WriteErr>) -> Status
+fn verdict_status(verdict: &Verdict, written: Result<(), WriteErr>) -> Status
     ensures { result ≡ verdict_end verdict.now written }
 {
     match verdict {
-        Verdict::Yes => ended(written),
-        Verdict::No(_) => refuted(written),
+        Verdict::Yes => write_status(written),
+        Verdict::No(_) => no_status(written),
     }
 }
 
@@ -76,7 +76,7 @@ fn judge<O: Sink>(alloc: Global, grammar: &Grammar, bytes: &[u8], sink: &mut O) 
         Err(status) => return status,
     };
     match cert_check::check(alloc, grammar, &answer) {
-        Ok(verdict) => told(&verdict, put_verdict(sink, &shape, &verdict)),
+        Ok(verdict) => verdict_status(&verdict, put_verdict(sink, &shape, &verdict)),
         Err(_) => Status::NoMemory,
     }
 }

@@ -1,16 +1,16 @@
 ghost use Rattle.std.specs.Prelude.{◌≡◌, ◌≢◌, ◌≤◌, ◌⊎◌, ◌↔◌, ℕ, List, None, Some, IfErr, IfOk, MatchOption};
 ghost use Rattle.outside.specs.Faults.{Rose};
-ghost use Rattle.outside.specs.Sent.{appended, HasSentPart};
+ghost use Rattle.outside.specs.Sent.{append_if_seen, HasSentPart};
 ghost use Rattle.timeline_text.specs.declared.form_err.FormErr.{FormErr};
 ghost use Rattle.grammar_reader.specs.declared.grammar_err.GrammarCause.{GrammarCause};
 ghost use Rattle.grammar_reader.specs.Grammars.{value_of};
 ghost use Rattle.cert_check.specs.declared.fault.Verdict.{Verdict};
-ghost use Rattle.command_line.specs.Commands.{IsCommand, IsNoCommand, grammar_of as file_of};
+ghost use Rattle.command_line.specs.Commands.{IsCommand, IsNoCommand, grammar_file_name as file_of};
 ghost use Rattle.command_line.specs.Words.{words_of};
 ghost use Rattle.command_line.specs.Seen.{command_seen};
 ghost use Rattle.otp_tool.specs.Findings.{Finding, no_grammar, no_form, no_rows, no_lexicon, no_answer, over_budget, ready};
 ghost use Rattle.otp_tool.specs.Outcomes.{HasReadFault, IsBeforeWriting, IsBehind, IsTold, IsToldVerdict, IsTooLong, IsUnnamed, IsWrittenBehind, Stands, answer_to, status_of};
-ghost use Rattle.otp_tool.specs.Results.{IsNoResult, IsResult, IsWhole};
+ghost use Rattle.otp_tool.specs.Results.{IsNoResult, IsResult, IsAnyResult};
 ghost use Rattle.otp_tool.specs.Steps.{HasFitBudget, IsLoadRefusal, IsLoaded, IsOutcome, IsWorkOf, change_of};
 ghost use Rattle.otp_tool.specs.Files.{NamedFile, faults_of, grammar_told, second_file};
 ghost use Rattle.tableau.specs.declared.rows_err.RowsCause.{RowsCause};
@@ -181,12 +181,12 @@ pub fn run<F: Shelf, O: Sink>(
     // read as, and it is sound; and for `sample` the summary of a right answer.
     ensures done { result ≡ Status.Done
         → IsWrittenBehind (words_of words.now) (F.held shelf.old) IsResult
-        (λ text. O.taken sink.new ≡ appended (O.taken sink.old) text) }
+        (λ text. O.taken sink.new ≡ append_if_seen (O.taken sink.old) text) }
     // No: exactly the line of the fault that comes first in the answer was written, whatever answer
     // its bytes are read as.
     ensures no { result ≡ Status.No
         → IsWrittenBehind (words_of words.now) (F.held shelf.old) IsNoResult
-        (λ text. O.taken sink.new ≡ appended (O.taken sink.old) text) }
+        (λ text. O.taken sink.new ≡ append_if_seen (O.taken sink.old) text) }
     // Either way nothing was refused.
     ensures nothing_refused { (result ≡ Status.Done) ⊎ (result ≡ Status.No)
         → IsBehind (words_of words.now) (F.held shelf.old) ready }
@@ -240,11 +240,11 @@ pub fn run<F: Shelf, O: Sink>(
     // What was written if not everything was done.
     ensures untouched { IsBeforeWriting result → O.taken sink.new ≡ O.taken sink.old }
     ensures begun { result ≡ Status.WriteFault
-        → IsWrittenBehind (words_of words.now) (F.held shelf.old) IsWhole
+        → IsWrittenBehind (words_of words.now) (F.held shelf.old) IsAnyResult
         (λ text. HasSentPart (O.taken sink.old) text (O.taken sink.new)) }
     ensures no_memory { result ≡ Status.NoMemory
         → (O.taken sink.new ≡ O.taken sink.old)
-        ⊎ IsWrittenBehind (words_of words.now) (F.held shelf.old) IsWhole
+        ⊎ IsWrittenBehind (words_of words.now) (F.held shelf.old) IsAnyResult
         (λ text. HasSentPart (O.taken sink.old) text (O.taken sink.new)) }
 
     // What the shelf holds stays. No count of faults falls, and only those of files that the command

@@ -5,8 +5,8 @@ ghost use Rattle.otp_tool.specs.Outcomes.{IsUnnamed};
 ghost use Rattle.otp_tool.specs.Steps.{change_of};
 
 use crate::commands::run;
-use outside::{Shelf, Sink};
 use command_line::put_status;
+use outside::{Shelf, Sink};
 use std::alloc::Global;
 
 /// Runs the words of a command and ends as a program does: it writes the line of the status to

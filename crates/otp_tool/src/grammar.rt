@@ -2,9 +2,9 @@ ghost use Rattle.std.specs.Prelude.{◌≡◌, ◌≢◌, ◌≤◌, ℕ, List, 
 ghost use Rattle.grammar_reader.specs.Grammars.{value_of};
 ghost use Rattle.otp_tool.specs.Steps.{IsLoadRefusal, IsLoaded};
 
+use command_line::Status;
 use grammar_reader::{Grammar, GrammarErr, read_grammar};
 use outside::{LoadErr, Shelf};
-use command_line::Status;
 use std::alloc::Global;
 
 /// How many bytes a grammar's file may have.

@@ -1,7 +1,7 @@
 ghost use Rattle.std.specs.Prelude.{◌≡◌, ◌≢◌, ◌<◌, ◌≤◌, ℕ, All, List, length, IfOk, IfErr};
 ghost use Rattle.tier_core.specs.Tables.{tiers_of_table};
 ghost use Rattle.violation.specs.Candidates.{IsForm};
-ghost use Rattle.violation.specs.Problems.{asked};
+ghost use Rattle.violation.specs.Problems.{problem_from};
 ghost use Rattle.lexicon.specs.Seen.{entries_seen};
 ghost use Rattle.comprehend.specs.Hears.{AreEntriesWithin, Hears, forms_of};
 ghost use Rattle.comprehend.specs.Surfaces.{IsSurface};
@@ -9,13 +9,13 @@ ghost use Rattle.grammar_reader.specs.Grammars.{value_of};
 ghost use Rattle.otp_tool.specs.Lexicons.{IsLexiconFile, IsSurfaceOf};
 ghost use Rattle.otp_tool.specs.Steps.{IsHearingWork, IsRefusal, RefusesEntry, RefusesLexicon, RefusesSurface, change_of};
 
-use crate::results::ended;
+use crate::results::write_status;
 use crate::second::load_second;
+use command_line::Status;
 use comprehend::{CompErr, Hit, comprehend, put_hits, read_surface};
 use grammar_reader::Grammar;
 use lexicon::{Entry, LexErr, read_lexicon};
 use outside::{Shelf, Sink};
-use command_line::Status;
 use std::alloc::Global;
 use tier_core::Timeline;
 use timeline_text::FormErr;
@@ -73,15 +73,15 @@ fn heard(
     requires some { 1 ≤ budget }
     requires few { budget ≤ 65536 }
     ensures hears { IfOk result (λ hits. Hears
-        (asked grammar.now.tiers grammar.now.constraints.items)
+        (problem_from grammar.now.tiers grammar.now.constraints.items)
         (forms_of entries.now) surface.now hits.items) }
     ensures within { IfOk result (λ hits. AreEntriesWithin
-        (asked grammar.now.tiers grammar.now.constraints.items)
+        (problem_from grammar.now.tiers grammar.now.constraints.items)
         (forms_of entries.now) budget) }
     ensures entries { IfOk result
         (λ hits. All (λ hit. hit.index < length entries.now) hits.items) }
     ensures err { IfErr result (IsRefusal (RefusesEntry
-        (asked grammar.now.tiers grammar.now.constraints.items)
+        (problem_from grammar.now.tiers grammar.now.constraints.items)
         (forms_of entries.now) budget)) }
 {
     match comprehend(alloc, grammar, entries, surface, budget) {
@@ -127,7 +127,7 @@ pub(crate) fn listen<F: Shelf, O: Sink>(
         Err(status) => return status,
     };
     match heard(alloc, grammar, &entries, &surface, budget) {
-        Ok(hits) => ended(put_hits(sink, &entries, &hits)),
+        Ok(hits) => write_status(put_hits(sink, &entries, &hits)),
         Err(status) => status,
     }
 }

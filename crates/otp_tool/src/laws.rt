@@ -12,7 +12,7 @@ ghost use Rattle.form_reader.specs.Forms.{IsReadAs};
 ghost use Rattle.otp_tool.specs.Answers.{IsJudged};
 ghost use Rattle.otp_tool.specs.Asked.{TellsProblem, problem_of};
 ghost use Rattle.otp_tool.specs.Findings.{Finding, Finds, over_budget, ready};
-ghost use Rattle.otp_tool.specs.Grammars.{AreAsked, IsAsked, OnGrammar, input_count};
+ghost use Rattle.otp_tool.specs.Grammars.{AreAsked, IsAsked, OnGrammar, grammar_inputs};
 ghost use Rattle.otp_tool.specs.Outcomes.{Checks, IsTold, IsToldVerdict, MayRead};
 
 /// What a grammar asks is told by its value and a form alone: the problem that is made of them is
@@ -20,7 +20,7 @@ ghost use Rattle.otp_tool.specs.Outcomes.{Checks, IsTold, IsToldVerdict, MayRead
 /// of a command give some name.
 pub fn problems_are_made_of_values()
     ensures asked { (name : String Global) (g : GrammarValue) (word : List ℕ) (u : List (List Sym))
-        → IsReadAs (input_count g) g.letters word u → IsAsked g word (problem_of name g u) }
+        → IsReadAs (grammar_inputs g) g.letters word u → IsAsked g word (problem_of name g u) }
     ensures with_each_form { (name : String Global) (g : GrammarValue)
         → AreAsked g (problem_of name g) }
     ensures alike { (name : String Global) (g : GrammarValue) (word : List ℕ) (problem : Problem)

@@ -3,21 +3,21 @@ ghost use Rattle.grammar_reader.specs.Canonical.{canonical};
 ghost use Rattle.grammar_reader.specs.Grammars.{value_of};
 ghost use Rattle.otp_tool.specs.Findings.{FindsForAnswer, FindsForCanon, FindsForScore};
 ghost use Rattle.otp_tool.specs.Results.{IsGeneratedText, IsOfRightAnswer, IsScoreText, short_text};
-ghost use Rattle.otp_tool.specs.Steps.{IsStep, end_of, taking_of};
+ghost use Rattle.otp_tool.specs.Steps.{IsStep, write_status, taking_of};
 
 use crate::answer::make_answer;
 use crate::scored::read_scored;
 use answer_text::{put_answer, put_counts, put_shown};
+use command_line::Status;
 use grammar_reader::{Grammar, put_grammar, shape};
 use outside::{Sink, WriteErr};
-use command_line::Status;
 use std::alloc::Global;
 use timeline_text::FormErr;
 use violation::vector;
 
 /// The status with which writing a text ends.
-pub(crate) fn ended(written: Result<(), WriteErr>) -> Status
-    ensures { result ≡ end_of written }
+pub(crate) fn write_status(written: Result<(), WriteErr>) -> Status
+    ensures { result ≡ write_status written }
 {
     match written {
         Ok(()) => Status::Done,
@@ -32,7 +32,7 @@ pub(crate) fn canon<O: Sink>(grammar: &Grammar, sink: &mut O) -> Status
         (taking_of O.Sink sink.old sink.new) result }
     ensures never_falls { O.faults sink.old ≤ O.faults sink.new }
 {
-    ended(put_grammar(sink, grammar))
+    write_status(put_grammar(sink, grammar))
 }
 
 /// Counts the violations of the timeline that a word is read as, and writes the line of the counts.
@@ -48,7 +48,7 @@ pub(crate) fn score<O: Sink>(alloc: Global, grammar: &Grammar, word: &str, sink:
         Err(cause) => return Status::FormRefused { word: 2, cause },
     };
     match vector(alloc, &grammar.constraints, &timeline) {
-        Ok(counts) => ended(put_counts(sink, &counts)),
+        Ok(counts) => write_status(put_counts(sink, &counts)),
         Err(_) => Status::NoMemory,
     }
 }
@@ -73,7 +73,7 @@ pub(crate) fn generate<O: Sink>(
         Err(status) => return status,
     };
     match shape(alloc, grammar) {
-        Ok(shape) => ended(put_answer(sink, &shape, &answer)),
+        Ok(shape) => write_status(put_answer(sink, &shape, &answer)),
         Err(_) => Status::NoMemory,
     }
 }
@@ -94,7 +94,7 @@ pub(crate) fn show<O: Sink>(
     ensures never_falls { O.faults sink.old ≤ O.faults sink.new }
 {
     match make_answer(alloc, grammar, form, budget) {
-        Ok(answer) => ended(put_shown(sink, &answer)),
+        Ok(answer) => write_status(put_shown(sink, &answer)),
         Err(status) => status,
     }
 }

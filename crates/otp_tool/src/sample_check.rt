@@ -38,7 +38,7 @@ fn is_faultless(
 }
 
 /// The text of an answer, in a sink in memory, which fails only if memory runs out.
-fn written(alloc: Global, shape: &Shape, answer: &Answer) -> Result<MemSink, NoMemory>
+fn answer_in_memory(alloc: Global, shape: &Shape, answer: &Answer) -> Result<MemSink, NoMemory>
     requires { length answer.now.stages.items ≤ length shape.now.phases.items }
     ensures { IfOk result (λ sink. sink.bytes ≡ answer_text (widths_of shape.now) answer.now) }
 {
@@ -61,7 +61,7 @@ pub(crate) fn is_checked(
     ensures { IfOk result (λ faultless. IsTrue faultless
         ↔ IsJudged (value_of grammar.now) (answer_text (widths_of shape.now) answer.now) Yes) }
 {
-    let sink = written(alloc, shape, answer)?;
+    let sink = answer_in_memory(alloc, shape, answer)?;
     let bytes = sink.bytes();
     if bytes.len() as u64 > ANSWER_LIMIT {
         return Ok(false);

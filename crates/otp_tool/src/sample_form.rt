@@ -1,10 +1,10 @@
 ghost use Rattle.std.specs.Prelude.{◌≡◌, ◌<◌, Some, IfErr, IfOk, string_bytes};
 ghost use Rattle.grammar_reader.specs.Grammars.{value_of};
-ghost use Rattle.otp_tool.specs.Samples.{letter_of, next_number, sample_grammar, sample_word};
+ghost use Rattle.otp_tool.specs.Samples.{sample_letter, next_number, sample_grammar, sample_word};
 ghost use Rattle.otp_tool.specs.Steps.{IsLoaded};
 
-use grammar_reader::{Grammar, read_grammar};
 use command_line::Status;
+use grammar_reader::{Grammar, read_grammar};
 use std::alloc::{AllocError, Global};
 
 /// The grammar of samples: syllables over consonants and vowels.
@@ -52,8 +52,8 @@ fn next_number(number: u64) -> u64
 }
 
 /// The letter of a number.
-fn letter_of(number: u64) -> char
-    ensures value { result ≡ letter_of number }
+fn sample_letter(number: u64) -> char
+    ensures value { result ≡ sample_letter number }
     ensures ascii { result < 128 }
 {
     if number / 65_536 % 2 == 0 { 't' } else { 'a' }
@@ -67,7 +67,7 @@ pub(crate) fn sample_word(alloc: Global, letters: u32) -> Result<String, AllocEr
     let mut number = u64::from(letters);
     for _ in 0..letters {
         number = next_number(number);
-        word.push(letter_of(number))?;
+        word.push(sample_letter(number))?;
     }
     Ok(word)
 }

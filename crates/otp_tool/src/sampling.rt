@@ -1,6 +1,6 @@
 ghost use Rattle.std.specs.Prelude.{◌≡◌, ◌+◌, ◌≤◌, ◌↔◌, ℕ, IsTrue, List, IfOk, length};
 ghost use Rattle.tier_core.specs.declared.sym.Sym.{Sym};
-ghost use Rattle.violation.specs.Problems.{asked};
+ghost use Rattle.violation.specs.Problems.{problem_from};
 ghost use Rattle.cert_check.specs.declared.fault.Verdict.TheVariants.{Yes};
 ghost use Rattle.grammar_reader.specs.Grammars.{value_of};
 ghost use Rattle.otp_tool.specs.Answers.{IsJudged};
@@ -10,15 +10,15 @@ ghost use Rattle.otp_tool.specs.Samples.{pairs_of, sample_word};
 ghost use Rattle.otp_tool.specs.Steps.{IsStep, taking_of};
 
 use crate::answer::make_answer;
-use crate::results::ended;
+use crate::results::write_status;
 use crate::sample_check::is_checked;
 use crate::sample_form::sample_word;
 use crate::sample_pairs::pairs_of;
 use crate::sample_text::{Summary, put_sample};
 use answer_text::Answer;
+use command_line::Status;
 use grammar_reader::{Grammar, shape};
 use outside::Sink;
-use command_line::Status;
 use std::alloc::Global;
 use tier_core::NoMemory;
 
@@ -32,7 +32,8 @@ fn summed_up(alloc: Global, grammar: &Grammar, answer: &Answer) -> Result<Summar
         ≡ length (pairs_of answer.now.automaton.states.items)) }
     ensures checked { IfOk result (λ summary. (u : List (List Sym)) → IsTrue summary.faultless
         ↔ IsJudged (value_of grammar.now)
-        (whole_text (asked grammar.now.tiers grammar.now.constraints.items u) answer.now) Yes) }
+        (whole_text (problem_from grammar.now.tiers grammar.now.constraints.items u) answer.now)
+        Yes) }
 {
     let shape = shape(alloc, grammar)?;
     let faultless = is_checked(alloc, grammar, &shape, answer)?;
@@ -65,7 +66,7 @@ pub(crate) fn sample<O: Sink>(
         Err(status) => return status,
     };
     match summed_up(alloc, grammar, &answer) {
-        Ok(summary) => ended(put_sample(sink, word.as_bytes(), &answer, summary)),
+        Ok(summary) => write_status(put_sample(sink, word.as_bytes(), &answer, summary)),
         Err(_) => Status::NoMemory,
     }
 }

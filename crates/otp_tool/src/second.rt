@@ -2,8 +2,8 @@ ghost use Rattle.std.specs.Prelude.{◌≡◌, ◌≢◌, ◌≤◌, ℕ, List, 
 ghost use Rattle.otp_tool.specs.Files.{IsHeld};
 ghost use Rattle.otp_tool.specs.Steps.{IsSecondRefusal};
 
-use outside::{LoadErr, Shelf};
 use command_line::Status;
+use outside::{LoadErr, Shelf};
 use std::alloc::Global;
 
 /// Loads the second file of a command, which the word of this number names. The file may have at most

@@ -1,7 +1,7 @@
 ghost use Rattle.std.specs.Prelude.{◌≡◌, ◌≤◌, length, IfOk, IfErr};
 ghost use Rattle.tier_core.specs.Tables.{tiers_of_table};
 ghost use Rattle.violation.specs.Candidates.{IsForm};
-ghost use Rattle.violation.specs.Problems.{asked};
+ghost use Rattle.violation.specs.Problems.{problem_from};
 ghost use Rattle.violation.specs.Rests.{AreWholeKindsWithin};
 ghost use Rattle.answer_text.specs.RightOnce.{IsRightOnce};
 ghost use Rattle.grammar_reader.specs.Grammars.{value_of};
@@ -11,12 +11,12 @@ ghost use Rattle.otp_tool.specs.Results.{IsOnceText};
 ghost use Rattle.otp_tool.specs.Steps.{IsRefusal, IsStep, RefusesOnce, taking_of};
 
 use crate::answer::form_of;
-use crate::results::ended;
+use crate::results::write_status;
 use answer_text::{OnceAnswer, put_once};
+use command_line::Status;
 use grammar_reader::{Grammar, shape};
 use outside::Sink;
 use ranked_gen::{GenErr, generate_once};
-use command_line::Status;
 use std::alloc::Global;
 use tier_core::Timeline;
 
@@ -32,12 +32,12 @@ fn once_for(
     requires some { 1 ≤ budget }
     requires few { budget ≤ 65536 }
     ensures right { IfOk result (IsRightOnce
-        (asked grammar.now.tiers grammar.now.constraints.items form.now)) }
+        (problem_from grammar.now.tiers grammar.now.constraints.items form.now)) }
     ensures joined { IfOk result (λ answer. HaveJoinedArcs answer.automaton.states.items) }
     ensures within { IfOk result (λ answer. AreWholeKindsWithin
-        (asked grammar.now.tiers grammar.now.constraints.items form.now) budget) }
+        (problem_from grammar.now.tiers grammar.now.constraints.items form.now) budget) }
     ensures err { IfErr result (IsRefusal (RefusesOnce
-        (asked grammar.now.tiers grammar.now.constraints.items form.now) budget)) }
+        (problem_from grammar.now.tiers grammar.now.constraints.items form.now) budget)) }
 {
     match generate_once(alloc, grammar, form, budget) {
         Ok(answer) => Ok(answer),
@@ -70,7 +70,7 @@ pub(crate) fn once<O: Sink>(
         Err(status) => return status,
     };
     match shape(alloc, grammar) {
-        Ok(shape) => ended(put_once(sink, &shape, &answer)),
+        Ok(shape) => write_status(put_once(sink, &shape, &answer)),
         Err(_) => Status::NoMemory,
     }
 }

@@ -2,18 +2,18 @@ ghost use Rattle.std.specs.Prelude.{◌≡◌, ◌≢◌, ◌≤◌, ℕ, List, 
 ghost use Rattle.std.specs.Str.Lines.{lines};
 ghost use Rattle.tier_core.specs.Tables.{tiers_of_table};
 ghost use Rattle.violation.specs.Candidates.{IsForm};
-ghost use Rattle.violation.specs.Problems.{asked};
+ghost use Rattle.violation.specs.Problems.{problem_from};
 ghost use Rattle.tableau.specs.Rows.{AreRowsOf};
 ghost use Rattle.tableau.specs.Tableaux.{names_seen};
 ghost use Rattle.grammar_reader.specs.Grammars.{value_of};
 ghost use Rattle.otp_tool.specs.Steps.{IsMadeTableau, IsRefusal, IsTableauWork, RefusesFile, RefusesRows, change_of};
 
 use crate::answer::{answer_for, form_of};
-use crate::results::ended;
+use crate::results::write_status;
 use crate::second::load_second;
+use command_line::Status;
 use grammar_reader::Grammar;
 use outside::{Shelf, Sink};
-use command_line::Status;
 use std::alloc::Global;
 use tableau::{RowsErr, Tableau, put_tableau, read_rows, tableau};
 use tier_core::Timeline;
@@ -30,10 +30,10 @@ fn rows_of(
 ) -> Result<Vec<Timeline>, Status>
     requires { length bytes.now ≤ 4194304 }
     ensures ok { IfOk result (λ rows. AreRowsOf
-        (asked grammar.now.tiers grammar.now.constraints.items form.now)
+        (problem_from grammar.now.tiers grammar.now.constraints.items form.now)
         (lines bytes.now) rows.items) }
     ensures err { IfErr result (IsRefusal (RefusesFile
-        (asked grammar.now.tiers grammar.now.constraints.items form.now) bytes.now)) }
+        (problem_from grammar.now.tiers grammar.now.constraints.items form.now) bytes.now)) }
 {
     match read_rows(alloc, grammar, form, bytes) {
         Ok(rows) => Ok(rows),
@@ -60,9 +60,9 @@ fn make_tableau(
     requires few { budget ≤ 65536 }
     requires within { length bytes.now ≤ 4194304 }
     ensures ok { IfOk result (IsMadeTableau (names_seen grammar.now.constraints.items)
-        (asked grammar.now.tiers grammar.now.constraints.items form.now) budget bytes.now) }
+        (problem_from grammar.now.tiers grammar.now.constraints.items form.now) budget bytes.now) }
     ensures err { IfErr result (IsRefusal (RefusesRows
-        (asked grammar.now.tiers grammar.now.constraints.items form.now) budget bytes.now)) }
+        (problem_from grammar.now.tiers grammar.now.constraints.items form.now) budget bytes.now)) }
 {
     let rows = match rows_of(alloc, grammar, form, bytes) {
         Ok(rows) => rows,
@@ -107,7 +107,7 @@ pub(crate) fn tabulate<F: Shelf, O: Sink>(
         Err(status) => return status,
     };
     match make_tableau(alloc, grammar, &form, &bytes, budget) {
-        Ok(made) => ended(put_tableau(sink, &made)),
+        Ok(made) => write_status(put_tableau(sink, &made)),
         Err(status) => status,
     }
 }

@@ -271,7 +271,11 @@ fn a_grammar_is_loaded_once(rt: HostRuntime) -> Result<(), Fail> {
         let words = words(alloc, text)?;
         let mut sink = SafeSink::new(alloc);
         let fault = Status::ReadFault { word: 1 };
-        assert_eq!(rt; run(alloc, &words, &mut shelf, &mut sink), Status::Done, "{text}");
+        assert_eq!(rt;
+            run(alloc, &words, &mut shelf, &mut sink),
+            Status::Done,
+            "{text}"
+        );
         assert_eq!(rt; run(alloc, &words, &mut shelf, &mut sink), fault, "{text}");
     }
     Ok(())
@@ -283,9 +287,17 @@ fn a_third_write_that_fails_leaves_two(rt: HostRuntime) -> Result<(), Fail> {
     let alloc = rt.alloc();
     let mut shelf = shelf(alloc, LEAST, Vec::new(alloc))?;
     let mut sink = MemSink::new(alloc, 16, [3].to_vec(alloc)?);
-    let status = run(alloc, &words(alloc, "generate/g/[ ]")?, &mut shelf, &mut sink);
+    let status = run(
+        alloc,
+        &words(alloc, "generate/g/[ ]")?,
+        &mut shelf,
+        &mut sink,
+    );
     assert_eq!(rt; status, Status::WriteFault);
-    assert_eq!(rt; sink.bytes(), b"answer 1\nform [ ]\ncounts 0 1 0\ne".as_slice());
+    assert_eq!(rt;
+        sink.bytes(),
+        b"answer 1\nform [ ]\ncounts 0 1 0\ne".as_slice()
+    );
     Ok(())
 }
 

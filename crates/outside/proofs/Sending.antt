@@ -1,36 +1,37 @@
 -- What a sink has taken of a text: a text in two parts, and a part that is all that was taken.
-use Rattle.std.proofs.Common.{◌≡◌, ℕ, Option, None, Some, List, [], ◌++◌, length, take, drop, ◌-◌, refl, subst, arith, ap, sym, ◌∙◌, append_assoc, append-nil}
+use Rattle.std.proofs.Common.{◌≡◌, ℕ, Option, None, Some, List, [], ◌++◌, length, take, drop, ◌-◌, refl, subst, arith}
+use Rattle.std.proofs.Common.{ap, sym, ◌∙◌, append_assoc, append-nil}
 use Rattle.std.proofs.lemmas.Grind.{common_steps}
 use Rattle.std.proofs.lemmas.List.{take-append-drop}
-use Rattle.outside.specs.Sent.{appended, HasSentPart, Sends}
+use Rattle.outside.specs.Sent.{append_if_seen, HasSentPart, Sends}
 
-appended-nil : (old : Option (List ℕ)) → appended old [] ≡ old
-appended-nil None = refl
-appended-nil (Some bytes) = ap Some (append-nil bytes)
+append_if_seen-nil : (old : Option (List ℕ)) → append_if_seen old [] ≡ old
+append_if_seen-nil None = refl
+append_if_seen-nil (Some bytes) = ap Some (append-nil bytes)
 
-appended-appended : (old : Option (List ℕ)) (a b : List ℕ)
-    → appended (appended old a) b ≡ appended old (a ++ b)
-appended-appended None a b = refl
-appended-appended (Some bytes) a b = ap Some (append_assoc bytes a b)
+append_if_seen-twice : (old : Option (List ℕ)) (a b : List ℕ)
+    → append_if_seen (append_if_seen old a) b ≡ append_if_seen old (a ++ b)
+append_if_seen-twice None a b = refl
+append_if_seen-twice (Some bytes) a b = ap Some (append_assoc bytes a b)
 
 -- nothing yet
 pub sends_none : (old : Option (List ℕ)) (text : List ℕ) → Sends old text old text
-sends_none old text = record { sent = []; taken = sym (appended-nil old); whole = refl }
+sends_none old text = record { sent = []; taken = sym (append_if_seen-nil old); whole = refl }
 
 -- the whole of a text
-pub sends_whole : {old new : Option (List ℕ)} (text : List ℕ) → new ≡ appended old text → Sends old text new []
+pub sends_whole : {old new : Option (List ℕ)} (text : List ℕ) → new ≡ append_if_seen old text → Sends old text new []
 sends_whole text e = record { sent = text; taken = e; whole = sym (append-nil text) }
 
 -- all of it
-pub sends_all : {old new : Option (List ℕ)} {text : List ℕ} → Sends old text new [] → new ≡ appended old text
-sends_all {old = old} s = s.taken ∙ ap (appended old) (sym (append-nil s.sent) ∙ sym s.whole)
+pub sends_all : {old new : Option (List ℕ)} {text : List ℕ} → Sends old text new [] → new ≡ append_if_seen old text
+sends_all {old = old} s = s.taken ∙ ap (append_if_seen old) (sym (append-nil s.sent) ∙ sym s.whole)
 
 -- a text, and then what is left of it
 pub sends_after : {old mid new : Option (List ℕ)} {text more left : List ℕ}
     → Sends old text mid more → Sends mid more new left → Sends old text new left
 sends_after {old = old} {left = left} s p = record {
   sent = s.sent ++ p.sent;
-  taken = p.taken ∙ ap (λ t. appended t p.sent) s.taken ∙ appended-appended old s.sent p.sent;
+  taken = p.taken ∙ ap (λ t. append_if_seen t p.sent) s.taken ∙ append_if_seen-twice old s.sent p.sent;
   whole = s.whole ∙ ap (λ xs. s.sent ++ xs) p.whole ∙ sym (append_assoc s.sent p.sent left);
 }
 
@@ -49,7 +50,7 @@ cut_at n xs = grind (arith, common_steps, take-append-drop)
 
 -- the first n bytes of what is left
 pub sends_first : {old mid : Option (List ℕ)} {text : List ℕ} (n : ℕ) (rest : List ℕ) {new : Option (List ℕ)}
-    → Sends old text mid rest → new ≡ appended mid (take n rest)
+    → Sends old text mid rest → new ≡ append_if_seen mid (take n rest)
     → Sends old text new (take (length rest - n) (drop n rest))
 sends_first {old} {mid} {text} n rest s e =
     let taken = sends_front (take (length rest - n) (drop n rest)) (sends_whole (take n rest) e) in

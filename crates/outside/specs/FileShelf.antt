@@ -11,8 +11,8 @@ HasRead (Err Failed) = ⊥
 HasRead (Err NoMemory) = ⊥
 
 -- a load gave all bytes of a file, if they are known, or there are more of them than the limit
-abbrev pub IsWhole : {Z : Type 0} → Option (List ℕ) → ℕ → Result (Vec ℕ Z) LoadErr → Type 0
-IsWhole text limit (Ok bytes) = IfSome text (λ text. bytes.items ≡ text)
-IsWhole text limit (Err TooLong) = IfSome text (λ text. limit < length text)
-IsWhole text limit (Err Failed) = ⊤
-IsWhole text limit (Err NoMemory) = ⊤
+abbrev pub IsWholeLoad : {Z : Type 0} → Option (List ℕ) → ℕ → Result (Vec ℕ Z) LoadErr → Type 0
+IsWholeLoad text limit (Ok bytes) = IfSome text (λ text. bytes.items ≡ text)
+IsWholeLoad text limit (Err TooLong) = IfSome text (λ text. limit < length text)
+IsWholeLoad text limit (Err Failed) = ⊤
+IsWholeLoad text limit (Err NoMemory) = ⊤

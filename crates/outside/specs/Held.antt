@@ -4,12 +4,12 @@ use Rattle.std.specs.Map.{lookup}
 use Rattle.std.specs.Str.{bytes_eq}
 
 -- the bytes of the file with this name, if it is held; if two share the name, those of the first
-abbrev pub text_of : List (List ℕ × List ℕ) → List ℕ → Option (List ℕ)
-text_of files name = lookup (λ known. bytes_eq known name) files
+abbrev pub file_text : List (List ℕ × List ℕ) → List ℕ → Option (List ℕ)
+file_text files name = lookup (λ known. bytes_eq known name) files
 
 -- what contracts see of a name: one that is not held is an empty file
-abbrev pub told : List (List ℕ × List ℕ) → List ℕ → Option (List ℕ)
-told files name = Some (unwrap_or (text_of files name) [])
+abbrev pub visible_text : List (List ℕ × List ℕ) → List ℕ → Option (List ℕ)
+visible_text files name = Some (unwrap_or (file_text files name) [])
 
 -- the files that a list of names and bytes holds
 abbrev pub files_of : {Y Z : Type 0} → List (String Y × Vec ℕ Z) → List (List ℕ × List ℕ)

@@ -1,6 +1,6 @@
 -- A sink in memory: what it has taken, and which of its writes fail.
 use Rattle.std.specs.Prelude.{ℕ, List, Result, Ok, Err}
-use Rattle.outside.specs.Faults.{counted}
+use Rattle.outside.specs.Faults.{next_fault_count}
 use Rattle.outside.specs.declared.sink.WriteErr.{WriteErr}
 use Rattle.outside.specs.declared.sink.WriteErr.TheVariants.{Failed, NoMemory}
 
@@ -18,6 +18,6 @@ pub record Taking : Type 0 where
 
 -- the count of faults after a write with this answer
 abbrev pub faults_after : Result ℕ WriteErr → ℕ → ℕ
-faults_after (Err Failed) n = counted n
+faults_after (Err Failed) n = next_fault_count n
 faults_after (Err NoMemory) n = n
 faults_after (Ok taken) n = n

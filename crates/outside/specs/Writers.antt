@@ -1,7 +1,7 @@
 -- What a writer of a text promises.
 use Rattle.std.specs.Prelude.{◌≡◌, ℕ, ◌≤◌, List, [], ◌++◌, Result, Err, OnErr, OnOk}
 use Rattle.outside.specs.Faults.{Rose}
-use Rattle.outside.specs.Sent.{appended, HasSentPart, Sends}
+use Rattle.outside.specs.Sent.{append_if_seen, HasSentPart, Sends}
 use Rattle.outside.specs.declared.sink.Sink.{Ghosts}
 use Rattle.outside.specs.declared.sink.WriteErr.{WriteErr}
 use Rattle.outside.specs.declared.sink.WriteErr.TheVariants.{Failed}
@@ -10,7 +10,7 @@ use Rattle.outside.specs.declared.sink.WriteErr.TheVariants.{Failed}
 pub record Puts {O A : Type 0} (sink : Ghosts O) (old new : O) (text : List ℕ)
     (result : Result A WriteErr) : Type 0 where
   -- if `result` is Ok, exactly this text has been taken
-  pub ok : OnOk result (sink.taken new ≡ appended (sink.taken old) text)
+  pub ok : OnOk result (sink.taken new ≡ append_if_seen (sink.taken old) text)
   -- in any case some prefix of it has been taken
   pub part : HasSentPart (sink.taken old) text (sink.taken new)
   -- the count of faults never falls, and Failed comes only if it has risen

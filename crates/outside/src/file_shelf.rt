@@ -1,8 +1,8 @@
 ghost use Rattle.std.specs.Prelude.{◌≡◌, ◌≢◌, ◌≤◌, List, ℕ, length, Err, IfOk, OnErr};
 ghost use Rattle.std.specs.Io.{ReadsAtMost};
 ghost use Rattle.std.specs.Io.KnownBytes.{ReadConsumes};
-ghost use Rattle.outside.specs.Counts.{count_of};
-ghost use Rattle.outside.specs.FileShelf.{HasRead, IsWhole};
+ghost use Rattle.outside.specs.Counts.{fault_count};
+ghost use Rattle.outside.specs.FileShelf.{HasRead, IsWholeLoad};
 ghost use Rattle.outside.specs.MemShelf.{faults_after};
 
 use crate::counts::{self, Counts};
@@ -40,7 +40,7 @@ impl<R: Files> Shelf for FileShelf<'_, R> {
 
     ghost held = { λ _ _. None };
 
-    ghost faults = { λ s name. count_of s.faults name };
+    ghost faults = { λ s name. fault_count s.faults name };
 
     /// Opens the file and reads it to its end, or up to the first byte past the limit. A load
     /// allocates the count of its name before it opens the file, so that it can count a fault.
@@ -49,33 +49,33 @@ impl<R: Files> Shelf for FileShelf<'_, R> {
         // What was loaded is all that remained in some file of the runtime, as far as that file
         // shows it. No contract of the system says which file a name opens.
         ensures whole { HasRead result
-            → (file : R.File) × IsWhole (R.File.remaining file) limit result }
+            → (file : R.File) × IsWholeLoad (R.File.remaining file) limit result }
 
         // Exactly the failed loads are counted.
-        ensures faults { count_of self.new.faults name.now
-            ≡ faults_after result (count_of self.old.faults name.now) }
+        ensures faults { fault_count self.new.faults name.now
+            ≡ faults_after result (fault_count self.old.faults name.now) }
         ensures never_falls { (other : List ℕ)
-            → count_of self.old.faults other ≤ count_of self.new.faults other }
+            → fault_count self.old.faults other ≤ fault_count self.new.faults other }
         ensures others { (other : List ℕ) → other ≢ name.now
-            → count_of self.new.faults other ≡ count_of self.old.faults other }
+            → fault_count self.new.faults other ≡ fault_count self.old.faults other }
     {
         if counts::prepare(&mut self.faults, alloc, name).is_err() {
             return Err(LoadErr::NoMemory);
         }
-        let answer = loaded(alloc, fs::open(self.runtime, name), limit);
+        let answer = read_opened(alloc, fs::open(self.runtime, name), limit);
         counts::count_fault(&mut self.faults, name, &answer);
         answer
     }
 }
 
 // Reads a file, if it could be opened.
-fn loaded<F: Read + Drop>(
+fn read_opened<F: Read + Drop>(
     alloc: Global,
     opened: io::Result<F>,
     limit: u64,
 ) -> Result<Vec<u8>, LoadErr>
     ensures within_limit { IfOk result (λ bytes. length bytes.items ≤ limit) }
-    ensures whole { IfOk opened (λ file. IsWhole (F.remaining file) limit result) }
+    ensures whole { IfOk opened (λ file. IsWholeLoad (F.remaining file) limit result) }
     ensures unopened { OnErr opened (result ≡ Err LoadErr.Failed) }
 {
     match opened {
@@ -87,7 +87,7 @@ fn loaded<F: Read + Drop>(
 // Reads a file to its end, or up to the first byte past the limit.
 fn read_whole<F: Read>(alloc: Global, file: &mut F, limit: u64) -> Result<Vec<u8>, LoadErr>
     ensures within_limit { IfOk result (λ bytes. length bytes.items ≤ limit) }
-    ensures whole { IsWhole (F.remaining file.old) limit result }
+    ensures whole { IsWholeLoad (F.remaining file.old) limit result }
 {
     let mut bytes = Vec::new(alloc);
     let mut turn = [0; TURN];

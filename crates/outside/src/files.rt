@@ -1,13 +1,13 @@
 ghost use Rattle.std.specs.Prelude.{◌≡◌, ◌<◌, ◌≤◌, IfOk, length, Err, Ok};
 ghost use Rattle.std.specs.Option.{option_copied};
-ghost use Rattle.outside.specs.Held.{files_of, text_of};
+ghost use Rattle.outside.specs.Held.{files_of, file_text};
 
 use crate::shelf::LoadErr;
 use std::alloc::Global;
 
 // The bytes of the first file with this name.
 pub(crate) fn find<'a>(files: &'a [(String, Vec<u8>)], name: &str) -> Option<&'a [u8]>
-    ensures { option_copied result ≡ text_of (files_of files.now) name.now }
+    ensures { option_copied result ≡ file_text (files_of files.now) name.now }
 {
     for (known, bytes) in files {
         if known.as_str() == name {

@@ -1,6 +1,6 @@
 ghost use Rattle.std.specs.Prelude.{◌≡◌, ◌≢◌, ◌<◌, ◌≤◌, ◌↔◌, false, IsTrue, List, Option, ℕ, length, Err, IfOk, IfSome};
-ghost use Rattle.outside.specs.Faults.{Rose, counted};
-ghost use Rattle.outside.specs.Held.{files_of, text_of, told};
+ghost use Rattle.outside.specs.Faults.{Rose, next_fault_count};
+ghost use Rattle.outside.specs.Held.{files_of, file_text, visible_text};
 ghost use Rattle.outside.specs.MemShelf.{failing_of, fails, faults_after, faults_of, files_in, has_count, loads_of};
 
 use crate::counts::{self, Counts};
@@ -41,9 +41,9 @@ impl MemShelf {
         ensures ok { IfOk result
             (λ bytes.
             (length bytes.items ≤ limit)
-            × IfSome (told (files_in self.now) name.now) (λ text. bytes.items ≡ text)) }
+            × IfSome (visible_text (files_in self.now) name.now) (λ text. bytes.items ≡ text)) }
         ensures too_long { result ≡ Err LoadErr.TooLong
-            → IfSome (told (files_in self.now) name.now) (λ text. limit < length text) }
+            → IfSome (visible_text (files_in self.now) name.now) (λ text. limit < length text) }
         ensures failed { (result ≡ Err LoadErr.Failed) ↔ IsTrue (fails self.now name.now) }
     {
         if self.failing.contains(&self.loads) {
@@ -57,7 +57,7 @@ impl MemShelf {
 }
 
 impl Shelf for MemShelf {
-    ghost held = { λ s name. told (files_in s) name };
+    ghost held = { λ s name. visible_text (files_in s) name };
 
     ghost faults = { faults_of };
 
@@ -65,9 +65,10 @@ impl Shelf for MemShelf {
     fn load(&mut self, alloc: Global, name: &str, limit: u64) -> Result<Vec<u8>, LoadErr>
         ensures within_limit { IfOk result (λ bytes. length bytes.items ≤ limit) }
         ensures ok { IfOk result
-            (λ bytes. IfSome (told (files_in self.old) name.now) (λ text. bytes.items ≡ text)) }
+            (λ bytes. IfSome (visible_text (files_in self.old) name.now)
+            (λ text. bytes.items ≡ text)) }
         ensures too_long { result ≡ Err LoadErr.TooLong
-            → IfSome (told (files_in self.old) name.now) (λ text. limit < length text) }
+            → IfSome (visible_text (files_in self.old) name.now) (λ text. limit < length text) }
         ensures failed { result ≢ Err LoadErr.NoMemory → (result ≡ Err LoadErr.Failed)
             ↔ IsTrue (fails self.new name.now) }
 
@@ -80,7 +81,7 @@ impl Shelf for MemShelf {
             → faults_of self.old other ≤ faults_of self.new other }
         ensures others { (other : List ℕ) → other ≢ name.now
             → faults_of self.new other ≡ faults_of self.old other }
-        ensures loads { loads_of self.new ≡ counted (loads_of self.old) }
+        ensures loads { loads_of self.new ≡ next_fault_count (loads_of self.old) }
         ensures settings { (files_in self.new ≡ files_in self.old)
             × (failing_of self.new ≡ failing_of self.old) }
     {

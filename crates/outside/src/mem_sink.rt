@@ -1,7 +1,7 @@
 ghost use Rattle.std.specs.Prelude.{◌≡◌, ◌+◌, ◌<◌, ◌≤◌, ◌↔◌, [], ◌++◌, List, Option, ℕ, length, take, min, Contains, Err, IfOk, OnErr, OnOk};
-ghost use Rattle.outside.specs.Faults.{Rose, counted};
+ghost use Rattle.outside.specs.Faults.{Rose, next_fault_count};
 ghost use Rattle.outside.specs.MemSink.{faults_after};
-ghost use Rattle.outside.specs.Sent.{appended};
+ghost use Rattle.outside.specs.Sent.{append_if_seen};
 
 use crate::sink::{Sink, WriteErr};
 use std::alloc::Global;
@@ -72,7 +72,7 @@ impl Sink for MemSink {
             ↔ Contains self.old.failing self.new.writes }
         ensures faults { self.new.faults ≡ faults_after result self.old.faults }
         ensures never_falls { self.old.faults ≤ self.new.faults }
-        ensures writes { self.new.writes ≡ counted self.old.writes }
+        ensures writes { self.new.writes ≡ next_fault_count self.old.writes }
         ensures settings { (self.new.most ≡ self.old.most) × (self.new.failing ≡ self.old.failing) }
     {
         self.writes = self.writes.saturating_add(1);

@@ -1,5 +1,5 @@
 ghost use Rattle.std.specs.Prelude.{◌≡◌, ◌≢◌, ◌<◌, ◌≤◌, length, Err, IfOk, IfSome};
-ghost use Rattle.outside.specs.Held.{files_of, told};
+ghost use Rattle.outside.specs.Held.{files_of, visible_text};
 
 use crate::files;
 use crate::shelf::{LoadErr, Shelf};
@@ -32,7 +32,7 @@ impl SafeShelf {
 }
 
 impl Shelf for SafeShelf {
-    ghost held = { told };
+    ghost held = { visible_text };
 
     ghost faults = { λ _ _. 0 };
 
@@ -40,9 +40,9 @@ impl Shelf for SafeShelf {
     fn load(&mut self, alloc: Global, name: &str, limit: u64) -> Result<Vec<u8>, LoadErr>
         ensures within_limit { IfOk result (λ bytes. length bytes.items ≤ limit) }
         ensures ok { IfOk result
-            (λ bytes. IfSome (told self.old name.now) (λ text. bytes.items ≡ text)) }
+            (λ bytes. IfSome (visible_text self.old name.now) (λ text. bytes.items ≡ text)) }
         ensures too_long { result ≡ Err LoadErr.TooLong
-            → IfSome (told self.old name.now) (λ text. limit < length text) }
+            → IfSome (visible_text self.old name.now) (λ text. limit < length text) }
         ensures no_fault { result ≢ Err LoadErr.Failed }
         ensures same { self.new ≡ self.old }
     {

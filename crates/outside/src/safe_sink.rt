@@ -1,6 +1,6 @@
 ghost use Rattle.std.specs.Prelude.{◌≡◌, ◌<◌, ◌≤◌, [], List, Option, ℕ, ◌++◌, length, take, Err, IfOk, OnErr};
 ghost use Rattle.outside.specs.Faults.{Rose};
-ghost use Rattle.outside.specs.Sent.{appended};
+ghost use Rattle.outside.specs.Sent.{append_if_seen};
 
 use crate::sink::{Sink, WriteErr};
 use std::alloc::Global;

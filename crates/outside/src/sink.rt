@@ -1,6 +1,6 @@
 ghost use Rattle.std.specs.Prelude.{◌≡◌, ◌<◌, ◌≤◌, List, Option, ℕ, length, take, Err, IfOk, OnErr};
 ghost use Rattle.outside.specs.Faults.{Rose};
-ghost use Rattle.outside.specs.Sent.{appended};
+ghost use Rattle.outside.specs.Sent.{append_if_seen};
 
 use thiserror::Error;
 
@@ -28,7 +28,7 @@ pub trait Sink {
     fn write(&mut self, piece: &[u8]) -> Result<usize, WriteErr>
         ensures count { IfOk result (λ n. (n ≤ length piece.now) × (0 < length piece.now → 0 < n)) }
         ensures ok { IfOk result
-            (λ n. taken self.new ≡ appended (taken self.old) (take n piece.now)) }
+            (λ n. taken self.new ≡ append_if_seen (taken self.old) (take n piece.now)) }
         ensures err { OnErr result (taken self.new ≡ taken self.old) }
         ensures never_falls { faults self.old ≤ faults self.new }
         ensures failed { result ≡ Err WriteErr.Failed → Rose (faults self.old) (faults self.new) };

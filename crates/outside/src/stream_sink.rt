@@ -1,6 +1,6 @@
 ghost use Rattle.std.specs.Prelude.{◌≡◌, ◌<◌, ◌≤◌, length, Err, IfOk, OnErr};
 ghost use Rattle.std.specs.Io.KnownBytes.{WriteAppends};
-ghost use Rattle.outside.specs.Faults.{counted};
+ghost use Rattle.outside.specs.Faults.{next_fault_count};
 ghost use Rattle.outside.specs.MemSink.{faults_after};
 
 use crate::sink::{Sink, WriteErr};
@@ -34,7 +34,7 @@ impl<W: Write + Drop> StreamSink<W> {
 
     fn fault(&mut self) -> WriteErr
         ensures answer { result ≡ WriteErr.Failed }
-        ensures counted { self.new ≡ record self.old { faults = counted self.old.faults } }
+        ensures counted { self.new ≡ record self.old { faults = next_fault_count self.old.faults } }
         ensures never_falls { self.old.faults ≤ self.new.faults }
     {
         self.faults = self.faults.saturating_add(1);

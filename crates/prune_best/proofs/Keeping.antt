@@ -1,5 +1,6 @@
 -- One more old move, kept or not.
-use Rattle.std.proofs.Common.{◌≡◌, ℕ, ◌+◌, ◌<◌, List, [], ◌∷◌, ◌++◌, Option, None, Some, length, get_or, refl, sym, ap, ◌∙◌, subst, arith, inl, inr}
+use Rattle.std.proofs.Common.{◌≡◌, ℕ, ◌+◌, ◌<◌, List, [], ◌∷◌, ◌++◌, Option, None, Some, length, get_or, refl, sym, ap}
+use Rattle.std.proofs.Common.{◌∙◌, subst, arith, inl, inr}
 use Rattle.std.specs.Prelude.{Contains, AllPairs, IsSome}
 use Rattle.std.proofs.lemmas.Bool.{cases_lt}
 use Rattle.std.proofs.lemmas.List.{get_or_read}
@@ -10,19 +11,19 @@ use Rattle.weight_law.specs.Meaning.{Meaning}
 use Rattle.tier_core.specs.declared.class.Class.{Class}
 use Rattle.tier_core.specs.Classes.{AreDisjoint}
 use Rattle.arc_table.specs.declared.arc.TableArc.{TableArc}
-use Rattle.distances.specs.Best.{added}
+use Rattle.distances.specs.Best.{weight_through}
 use Rattle.prune_best.specs.Names.{IsNamed, Grows}
-use Rattle.prune_best.specs.Kept.{IsKept, Matches, AreKept, NamesTargets}
+use Rattle.prune_best.specs.Kept.{IsTightArc, Matches, AreTightMoves, NamesTargets}
 
-pub some_added : {W : Type 0} (m : Meaning W) (a w : W) (o : Option W) → added m a o ≡ Some w → IsSome o
+pub some_added : {W : Type 0} (m : Meaning W) (a w : W) (o : Option W) → weight_through m a o ≡ Some w → IsSome o
 some_added m a w None e = cc
 some_added m a w (Some b) e = refl
 
 module _ {W V : Type 0} {g : Ghosts W} {h : Ghosts V} (least : List (Option W)) (w : W)
     (arcs : List (TableArc W g)) where
   pub skip : (names : List ℕ) (moves : List (TableArc V h)) (n : ℕ) (arc : TableArc W g) → n < length arcs
-      → arc ≡ get_or arcs n arc → (IsKept least w arc → ⊥) → AreKept least names w arcs moves n
-      → AreKept least names w arcs moves (n + 1)
+      → arc ≡ get_or arcs n arc → (IsTightArc least w arc → ⊥) → AreTightMoves least names w arcs moves n
+      → AreTightMoves least names w arcs moves (n + 1)
   skip names moves n arc inside read not old = record {
     from = λ b c. (let f = old.from b c in (f.0, omega (arith, f.1), f.2));
     to = λ j d l kept. elim (cases_lt j n) [
@@ -31,7 +32,7 @@ module _ {W V : Type 0} {g : Ghosts W} {h : Ghosts V} (least : List (Option W)) 
           (let at : j ≡ n = omega arith in
           let same : get_or arcs j d ≡ arc = ap (λ k. get_or arcs k d) at
           ∙ sym (get_or_read arcs n arc inside read d) in
-          let P : TableArc W g → Type 0 = IsKept least w in
+          let P : TableArc W g → Type 0 = IsTightArc least w in
           absurd (not (subst P same kept)))
     ];
     apart = old.apart;
@@ -39,19 +40,19 @@ module _ {W V : Type 0} {g : Ghosts W} {h : Ghosts V} (least : List (Option W)) 
 
   pub keep : (names next : List ℕ) (moves : List (TableArc V h)) (n : ℕ) (arc : TableArc W g) (b : TableArc V h)
       → n < length arcs → arc ≡ get_or arcs n arc → ((j t : ℕ) → IsNamed names j t → IsNamed next j t)
-      → IsKept least w arc → Matches next arc b → AreKept least names w arcs moves n
-      → AreKept least next w arcs (moves ++ b ∷ []) (n + 1)
+      → IsTightArc least w arc → Matches next arc b → AreTightMoves least names w arcs moves n
+      → AreTightMoves least next w arcs (moves ++ b ∷ []) (n + 1)
   keep names next moves n arc b inside read stays kept match old = record { from = from; to = to; apart = apart }
     where
       at_n : (d : TableArc W g) → arc ≡ get_or arcs n d
       at_n d = get_or_read arcs n arc inside read d
 
       Good : TableArc V h → TableArc W g → Type 0
-      Good c a = IsKept least w a × Matches next a c
+      Good c a = IsTightArc least w a × Matches next a c
 
       from : (c : TableArc V h) → Contains (moves ++ b ∷ []) c
           → (j : ℕ) × (j < n + 1) × ((d : TableArc W g)
-          → IsKept least w (get_or arcs j d) × Matches next (get_or arcs j d) c)
+          → IsTightArc least w (get_or arcs j d) × Matches next (get_or arcs j d) c)
       from c here = elim (Contains-push_cases moves b c here) [
         | inl there ↦ (let f = old.from c there in (
           f.0,
@@ -63,14 +64,14 @@ module _ {W V : Type 0} {g : Ghosts W} {h : Ghosts V} (least : List (Option W)) 
           n,
           omega arith,
           λ d.
-              (let P : TableArc V h → Type 0 = λ x. IsKept least w (get_or arcs n d) × Matches next
+              (let P : TableArc V h → Type 0 = λ x. IsTightArc least w (get_or arcs n d) × Matches next
               (get_or arcs n d) x in
-              let Q : TableArc W g → Type 0 = λ x. IsKept least w x × Matches next x b in
+              let Q : TableArc W g → Type 0 = λ x. IsTightArc least w x × Matches next x b in
               subst P same (subst Q (at_n d) (kept, match))),
         )
       ]
 
-      to : (j : ℕ) (d : TableArc W g) → j < n + 1 → IsKept least w (get_or arcs j d)
+      to : (j : ℕ) (d : TableArc W g) → j < n + 1 → IsTightArc least w (get_or arcs j d)
           → (c : TableArc V h) × Contains (moves ++ b ∷ []) c × Matches next (get_or arcs j d) c
       to j d l k = elim (cases_lt j n) [
         | inl lower ↦ (let f = old.to j d lower k in (

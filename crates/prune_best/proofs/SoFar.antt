@@ -1,5 +1,6 @@
 -- The new states that are made so far.
-use Rattle.std.proofs.Common.{◌≡◌, ℕ, ◌<◌, ◌≤◌, Bool, List, [], ◌∷◌, ◌++◌, Option, None, length, get_or, refl, sym, ap, ◌∙◌, subst, arith, inl, inr}
+use Rattle.std.proofs.Common.{◌≡◌, ℕ, ◌<◌, ◌≤◌, Bool, List, [], ◌∷◌, ◌++◌, Option, None, length, get_or, refl, sym, ap}
+use Rattle.std.proofs.Common.{◌∙◌, subst, arith, inl, inr}
 use Rattle.std.specs.Prelude.{Contains, IsSome}
 use Rattle.std.proofs.lemmas.Bool.{cases_lt}
 use Rattle.std.proofs.lemmas.List.{length_push}
@@ -10,7 +11,7 @@ use Rattle.arc_table.specs.Moves.{moves_at, accepting_at}
 use Rattle.arc_table.specs.Runs.{IsPath}
 use Rattle.arc_table.proofs.Push.{moves_exist, accepting_old, accepting_new, moves_old, moves_new}
 use Rattle.prune_best.specs.Names.{IsNamed, Grows}
-use Rattle.prune_best.specs.Kept.{AreKept, NamesTargets, IsNewState}
+use Rattle.prune_best.specs.Kept.{AreTightMoves, NamesTargets, IsNewState}
 
 -- what is known while new states are made
 pub record SoFar {W V : Type 0} {g : Ghosts W} {h : Ghosts V} (old : List (TableState W g)) (least : List (Option W))
@@ -44,7 +45,7 @@ module _ {W V : Type 0} {g : Ghosts W} {h : Ghosts V} (old : List (TableState W 
     (names next : List ℕ) where
   kept-grows : ((j t : ℕ) → IsNamed names j t → IsNamed next j t)
       → (w : W) (arcs : List (TableArc W g)) (moves : List (TableArc V h)) (n : ℕ)
-      → AreKept least names w arcs moves n → AreKept least next w arcs moves n
+      → AreTightMoves least names w arcs moves n → AreTightMoves least next w arcs moves n
   kept-grows stays w arcs moves n k = record {
     from = λ b here. (let f = k.from b here in
         (f.0, f.1, λ d. (let e = f.2 d in (e.0, (e.1.0, stays b.target (get_or arcs f.0 d).target e.1.1)))));

@@ -1,5 +1,6 @@
 -- The new states accept the words of least weight.
-use Rattle.std.proofs.Common.{◌≡◌, ℕ, zero, suc, ◌<◌, List, [], ◌∷◌, Option, None, Some, length, get_or, refl, sym, ap, ◌∙◌, subst, arith}
+use Rattle.std.proofs.Common.{◌≡◌, ℕ, zero, suc, ◌<◌, List, [], ◌∷◌, Option, None, Some, length, get_or, refl, sym, ap}
+use Rattle.std.proofs.Common.{◌∙◌, subst, arith}
 use Rattle.std.specs.Prelude.{Contains, IsSome, IsTrue}
 use Rattle.std.proofs.lemmas.List.Elements.{Contains-get_or}
 use Rattle.weight_law.specs.declared.Weight.{Ghosts}
@@ -15,13 +16,13 @@ use Rattle.arc_table.specs.Conditions.{TargetsExist, ClassesDisjoint, ClassesFil
 use Rattle.tier_core.specs.Filled.{is_filled}
 use Rattle.arc_table.specs.Runs.{IsRun, weight_of, Reads, Accepts, IsLeastWord, IsOnRun}
 use Rattle.arc_table.proofs.SomeWord.{some_word}
-use Rattle.distances.specs.Best.{added}
+use Rattle.distances.specs.Best.{weight_through}
 use Rattle.distances.specs.Least.{AreLeast}
 use Rattle.distances.proofs.Witness.{lawful-weight_of}
-use Rattle.distances.proofs.Looks.{added-some}
+use Rattle.distances.proofs.Looks.{weight_through-some}
 use Rattle.distances.proofs.Shortest.{least_at, lawful_least, least_same, weighed, tight_step}
 use Rattle.prune_best.specs.Names.{IsNamed, AreNumbered}
-use Rattle.prune_best.specs.Kept.{IsKept, Matches}
+use Rattle.prune_best.specs.Kept.{IsTightArc, Matches}
 use Rattle.prune_best.specs.Tight.{IsTight, IsLeastMove}
 use Rattle.prune_best.proofs.Numbering.{names_apart, numbered_below}
 use Rattle.arc_table.proofs.Push.{moves_exist}
@@ -88,9 +89,9 @@ module _ {W V : Type 0} {g : Ghosts W} {h : Ghosts V} (laws : IsLawful g.meaning
       let place = at_place (moves_at old s) from.0 from.1 in
       let arc = place.0 in
       let both = from.2 arc in
-      let P : TableArc W g → Type 0 = λ x. IsKept least w x × Matches names x b in
+      let P : TableArc W g → Type 0 = λ x. IsTightArc least w x × Matches names x b in
       let good : P arc = subst P place.1 both in
-      let rest = added-some laws arc.weight (get_or least arc.target None) w good.0 in
+      let rest = weight_through-some laws arc.weight (get_or least arc.target None) w good.0 in
       let later = to_old moves b.target arc.target good.1.1 run.1 rest.0 rest.1 in (
         arc ∷ later.0,
         ((from.0, from.1, place.1), later.1),
@@ -107,9 +108,9 @@ module _ {W V : Type 0} {g : Ghosts W} {h : Ghosts V} (laws : IsLawful g.meaning
   to_new (arc ∷ arcs) k s n run w e same =
       let state = f.states k s (omega (arith, all)) n in
       let step = tight_step laws old exist least are s w arc arcs e run same in
-      let O : Option W → Type 0 = λ o. added g.meaning arc.weight o ≡ Some w in
-      let kept : IsKept least w arc = subst O (sym step.1) (ap (λ x. Some x) step.3) in
-      let P : TableArc W g → Type 0 = IsKept least w in
+      let O : Option W → Type 0 = λ o. weight_through g.meaning arc.weight o ≡ Some w in
+      let kept : IsTightArc least w arc = subst O (sym step.1) (ap (λ x. Some x) step.3) in
+      let P : TableArc W g → Type 0 = IsTightArc least w in
       let found = (state.kept w e).to run.0.0 arc run.0.1 (subst P (sym run.0.2) kept) in
       let Q : TableArc W g → Type 0 = λ x. Matches names x found.0 in
       let match : Q arc = subst Q run.0.2 found.2 in
@@ -163,9 +164,9 @@ module _ {W V : Type 0} {g : Ghosts W} {h : Ghosts V} (laws : IsLawful g.meaning
       let from = (state.kept start.0 start.1).from b here in
       let place = at_place (moves_at old (get_or names k 0)) from.0 from.1 in
       let both = from.2 place.0 in
-      let P : TableArc W g → Type 0 = λ x. IsKept least start.0 x × Matches names x b in
+      let P : TableArc W g → Type 0 = λ x. IsTightArc least start.0 x × Matches names x b in
       let good : P place.0 = subst P place.1 both in
-      let rest = added-some laws place.0.weight (get_or least place.0.target None) start.0 good.0 in
+      let rest = weight_through-some laws place.0.weight (get_or least place.0.target None) start.0 good.0 in
       let least_move : IsLeastMove old (get_or names k 0) place.0 = (
         start.0,
         rest.0,
@@ -187,10 +188,10 @@ module _ {W V : Type 0} {g : Ghosts W} {h : Ghosts V} (laws : IsLawful g.meaning
       let rest = weighed laws old exist least are a.target m.3.some.0 (exist s a here) m.3.some.1 in
       let first : m.0 ≡ w = least_same laws old exist least are s m.0 w m.2 start.1 in
       let second : m.1 ≡ rest.0 = least_same laws old exist least are a.target m.1 rest.0 m.3 rest.1 in
-      let O : Option W → Type 0 = λ o. added g.meaning a.weight o ≡ Some w in
+      let O : Option W → Type 0 = λ o. weight_through g.meaning a.weight o ≡ Some w in
       let total : g.meaning.sum a.weight rest.0 ≡ w = ap (λ x. g.meaning.sum a.weight x) (sym second) ∙ (m.4 ∙ first) in
-      let kept : IsKept least w a = subst O (sym rest.1) (ap (λ x. Some x) total) in
-      let P : TableArc W g → Type 0 = IsKept least w in
+      let kept : IsTightArc least w a = subst O (sym rest.1) (ap (λ x. Some x) total) in
+      let P : TableArc W g → Type 0 = IsTightArc least w in
       let found = (state.kept w start.1).to here.0 a here.1 (subst P (sym here.2) kept) in
       let Q : TableArc W g → Type 0 = λ x. Matches names x found.0 in
       (found.0, found.1, subst Q here.2 found.2)

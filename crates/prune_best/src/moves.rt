@@ -4,20 +4,20 @@ ghost use Rattle.arc_table.specs.States.{states_of};
 ghost use Rattle.distances.specs.Best.{FitsBoth};
 ghost use Rattle.distances.specs.Least.{AreLeast};
 ghost use Rattle.prune_best.specs.Names.{AreNumbered};
-ghost use Rattle.prune_best.specs.Kept.{IsKept, AreKept, NamesTargets, IsNewState};
+ghost use Rattle.prune_best.specs.Kept.{IsTightArc, AreTightMoves, NamesTargets, IsNewState};
 
-use crate::names::number_of;
+use crate::names::number_state;
 use arc_table::{Table, TableArc, TableState};
 use std::alloc::{AllocError, Global};
 use std::cmp::Ordering;
 use weight_law::{UnitWeight, Weight};
 
 /// Whether the weight of a move and the least weight from its target add up to `here`.
-fn is_kept<W: Weight>(arc: &TableArc<W>, here: W, least: &[Option<W>]) -> bool
+fn is_tight_arc<W: Weight>(arc: &TableArc<W>, here: W, least: &[Option<W>]) -> bool
     requires target { arc.now.target < length least.now }
     requires sizes { FitsBoth W.meaning arc.now.weight
         (slice_index_or least.now arc.now.target None) }
-    ensures { IsTrue result ↔ IsKept least.now here arc.now }
+    ensures { IsTrue result ↔ IsTightArc least.now here arc.now }
 {
     match least[arc.target as usize] {
         None => false,
@@ -29,7 +29,7 @@ fn is_kept<W: Weight>(arc: &TableArc<W>, here: W, least: &[Option<W>]) -> bool
 }
 
 /// The moves that are kept, from the weight `here` on, between new numbers.
-fn kept_moves<W: Weight>(
+fn tight_moves<W: Weight>(
     alloc: Global,
     arcs: &[TableArc<W>],
     here: W,
@@ -48,16 +48,16 @@ fn kept_moves<W: Weight>(
     ensures numbered { IfOk result (λ _. AreNumbered names.new.items numbers.new.items) }
     ensures moves { IfOk result
         (λ moves.
-        AreKept least.now names.new.items here arcs.now moves.items (length arcs.now)) }
+        AreTightMoves least.now names.new.items here arcs.now moves.items (length arcs.now)) }
     ensures names { IfOk result
         (λ moves. NamesTargets least.now names.old.items names.new.items moves.items) }
 {
     let mut moves = Vec::new(alloc);
     for arc in arcs {
-        if !is_kept(arc, here, least) {
+        if !is_tight_arc(arc, here, least) {
             continue;
         }
-        let target = number_of(names, numbers, arc.target)?;
+        let target = number_state(names, numbers, arc.target)?;
         moves.push(TableArc {
             class: arc.class,
             target,
@@ -90,7 +90,7 @@ pub(crate) fn new_state<W: Weight>(
         (λ made. NamesTargets least.now names.old.items names.new.items made.arcs.items) }
 {
     let here = least[state as usize].unwrap();
-    let arcs = kept_moves(alloc, table.arcs(state), here, least, names, numbers)?;
+    let arcs = tight_moves(alloc, table.arcs(state), here, least, names, numbers)?;
     Ok(TableState {
         accepting: table.accepting(state),
         arcs,

@@ -5,7 +5,7 @@ use std::alloc::AllocError;
 
 /// The new number of an old state, which gets the next one if it has none. `names` has the old
 /// state of each number, and `numbers` the number of each old state.
-pub(crate) fn number_of(
+pub(crate) fn number_state(
     names: &mut Vec<u32>,
     numbers: &mut Vec<Option<u32>>,
     state: u32,

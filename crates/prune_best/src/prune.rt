@@ -5,7 +5,7 @@ ghost use Rattle.distances.specs.Least.{AreLeast};
 ghost use Rattle.prune_best.specs.Tight.{IsTight};
 
 use crate::moves::new_state;
-use crate::names::number_of;
+use crate::names::number_state;
 use crate::tight_table::Tight;
 use arc_table::Table;
 use std::alloc::Global;
@@ -31,7 +31,7 @@ pub fn tight<W: Weight>(
 {
     let mut numbers = vec![in alloc; None; table.len() as usize]?;
     let mut names = Vec::new(alloc);
-    let _start = number_of(&mut names, &mut numbers, 0)?;
+    let _start = number_state(&mut names, &mut numbers, 0)?;
     let mut states = Vec::new(alloc);
     'making: while states.len() < names.len() {
         let old = names[states.len()];

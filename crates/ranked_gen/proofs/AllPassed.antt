@@ -1,14 +1,17 @@
 -- With no constraint, each pair of a place in the form and a set of open free tiers is the kind of a prefix.
-use Rattle.std.proofs.Common.{◌≡◌, ℕ, zero, suc, ◌+◌, ◌<◌, ◌≤◌, ◌≢◌, ◌==◌, ◌⊎◌, Bool, true, false, List, [], ◌∷◌, ◌++◌, map, length, take, Contains, refl, sym, ap, ap₂, ◌∙◌, inl, inr, ⊎_elim, append-nil, arith, cond, ne_eqb, eq-eqb}
+use Rattle.std.proofs.Common.{◌≡◌, ℕ, zero, suc, ◌+◌, ◌<◌, ◌≤◌, ◌≢◌, ◌==◌, ◌⊎◌, Bool, true, false, List, [], ◌∷◌, ◌++◌}
+use Rattle.std.proofs.Common.{map, length, take, Contains, refl, sym, ap, ap₂, ◌∙◌, inl, inr, ⊎_elim, append-nil, arith}
+use Rattle.std.proofs.Common.{cond, ne_eqb, eq-eqb}
 use Rattle.std.specs.List.{AllByRecursion, list_any}
 use Rattle.std.proofs.lemmas.Bool.{false≢true, cases_lt, cond-true, cond-false, eq-eqb, ne_eqb, and_parts, and_from}
 use Rattle.std.proofs.lemmas.List.{length-map, length-append, length-take-le, map-append, take-map, take-append-le}
-use Rattle.std.proofs.lemmas.List.Elements.{All-from_recursion, recursion_from_All, All-take, All-contains_itself, filter-append}
+use Rattle.std.proofs.lemmas.List.Elements.{All-from_recursion, recursion_from_All, All-take, All-contains_itself}
+use Rattle.std.proofs.lemmas.List.Elements.{filter-append}
 use Rattle.tier_core.specs.declared.sym.Sym.{Sym}
 use Rattle.tier_core.specs.declared.sym.Sym.TheVariants.{Outside, Inside, Start, End}
 use Rattle.tier_core.specs.Words.{ends}
 use Rattle.tier_core.specs.Scan.{fits, opens}
-use Rattle.tier_core.specs.Timelines.{symbol, word, is_edge, has_edge, project, squeeze, IsWellFormed, IsReduced}
+use Rattle.tier_core.specs.Timelines.{symbol, tier_word, is_edge, has_edge, project, squeeze, IsWellFormed, IsReduced}
 use Rattle.tier_core.specs.Kinds.{PrefixKind}
 use Rattle.tier_core.proofs.CountLemmas.{all_append}
 use Rattle.tier_core.proofs.WordLemmas.{runs}
@@ -20,8 +23,10 @@ use Rattle.violation.specs.Moves.{flag_of}
 use Rattle.violation.specs.Prefixes.{is_open, kind_of}
 use Rattle.violation.specs.Stages.{IsPassed}
 use Rattle.violation.proofs.TierLemmas.{map_agree}
-use Rattle.ranked_gen.specs.WideColumns.{widened}
-use Rattle.ranked_gen.proofs.WidenedColumns.{over, all_mapped, on_nothing, not_listed, length_over, symbol_over, word_flagged, word_outside, part_bare, over_runs, over_reduced, squeeze_over}
+use Rattle.ranked_gen.specs.WideColumns.{wide_column}
+use Rattle.ranked_gen.proofs.WidenedColumns.{over, all_mapped, on_nothing, not_listed, length_over, symbol_over}
+use Rattle.ranked_gen.proofs.WidenedColumns.{word_flagged, word_outside, part_bare, over_runs, over_reduced}
+use Rattle.ranked_gen.proofs.WidenedColumns.{squeeze_over}
 use Rattle.violation.proofs.StageLemmas.{all_optimal}
 use Rattle.ranked_gen.proofs.BareForm.{bare_form, bare_candidate}
 use Rattle.tier_core.proofs.CountLemmas.{all_weaker}
@@ -98,20 +103,20 @@ module _ (problem : Problem) (split : AreSplit problem.tiers) (flag : ℕ → Bo
       ∙ on_nothing problem.tiers.input t
 
   marked_word : (t : ℕ)
-      → word (marked problem flag) t ≡ symbol (over problem.tiers flag Start []) t ∷
-      (word (map (over problem.tiers flag Inside) problem.form) t
+      → tier_word (marked problem flag) t ≡ symbol (over problem.tiers flag Start []) t ∷
+      (tier_word (map (over problem.tiers flag Inside) problem.form) t
       ++ symbol (over problem.tiers flag End []) t ∷ [])
   marked_word t = ap (λ w. symbol (over problem.tiers flag Start []) t ∷ w)
       (map-append (λ column. symbol column t) (map (over problem.tiers flag Inside) problem.form)
       (over problem.tiers flag End [] ∷ []))
 
   marked_runs : (t : ℕ) → IsWellFormed (length problem.tiers.input) problem.form → t < problem.tiers.width
-      → runs false (word (marked problem flag) t) ≡ true
+      → runs false (tier_word (marked problem flag) t) ≡ true
   marked_runs t wf l = ap (runs false) (marked_word t) ∙ by_test (flag t) refl
     where
       by_test : (b : Bool) → flag t ≡ b
           → runs false (symbol (over problem.tiers flag Start []) t ∷
-          (word (map (over problem.tiers flag Inside) problem.form) t
+          (tier_word (map (over problem.tiers flag Inside) problem.form) t
           ++ symbol (over problem.tiers flag End []) t ∷ [])) ≡ true
       by_test true h = rw (
         first_symbol Start t l h,
@@ -119,7 +124,7 @@ module _ (problem : Problem) (split : AreSplit problem.tiers) (flag : ℕ → Bo
         word_flagged problem.tiers flag Inside problem.form t l h,
       ) (runs_inside problem.form)
       by_test false h = rw (other_symbol Start t l h, other_symbol End t l h)
-          (runs_closed false (word (map (over problem.tiers flag Inside) problem.form) t)
+          (runs_closed false (tier_word (map (over problem.tiers flag Inside) problem.form) t)
           (over_runs problem.tiers flag Inside split off problem.form t wf l h))
 
   marked_input : AllByRecursion (λ column. length column ≡ length problem.tiers.input) problem.form
@@ -148,7 +153,7 @@ module _ (problem : Problem) (split : AreSplit problem.tiers) (flag : ℕ → Bo
             (all_mapped _ (over problem.tiers flag Inside) problem.form (length_over problem.tiers flag Inside))
             (length_over problem.tiers flag End [], tt),
       );
-      each_tier = λ x g. well_formed_from_runs (word (marked problem flag) x) (marked_runs x wf g);
+      each_tier = λ x g. well_formed_from_runs (tier_word (marked problem flag) x) (marked_runs x wf g);
     };
     reduced = (
       edge_at (over problem.tiers flag Start []) t (ap is_edge (first_symbol Start t l h)),
@@ -161,11 +166,11 @@ module _ (problem : Problem) (split : AreSplit problem.tiers) (flag : ℕ → Bo
 
   -- the free tiers that are open after the first columns of the marked form are those of the flags
   marked_open : (v : List (List Sym)) (t : ℕ) → Contains problem.tiers.free t → t < problem.tiers.width
-      → is_open (word (over problem.tiers flag Start [] ∷ map (over problem.tiers flag Inside) v) t) ≡ flag t
+      → is_open (tier_word (over problem.tiers flag Start [] ∷ map (over problem.tiers flag Inside) v) t) ≡ flag t
   marked_open v t f l = by_test (flag t) refl
     where
       by_test : (b : Bool) → flag t ≡ b → is_open
-          (word (over problem.tiers flag Start [] ∷ map (over problem.tiers flag Inside) v) t) ≡ flag t
+          (tier_word (over problem.tiers flag Start [] ∷ map (over problem.tiers flag Inside) v) t) ≡ flag t
       by_test true h = rw (first_symbol Start t l h, word_flagged problem.tiers flag Inside v t l h, no_end v) (sym h)
       by_test false h = rw (
         other_symbol Start t l h,
@@ -173,7 +178,7 @@ module _ (problem : Problem) (split : AreSplit problem.tiers) (flag : ℕ → Bo
       ) (closed_outside v ∙ sym h)
 
   bare_open : (v : List (List Sym)) (t : ℕ) → Contains problem.tiers.free t → t < problem.tiers.width → flag t ≡ false
-      → is_open (word (bare_form problem.tiers v) t) ≡ flag t
+      → is_open (tier_word (bare_form problem.tiers v) t) ≡ flag t
   bare_open v t f l h = ap is_open (word_outside problem.tiers (λ t. false) Outside v t l refl
       (λ i. split.apart t i f)) ∙ closed_outside v ∙ sym h
 
@@ -199,11 +204,11 @@ module _ (problem : Problem) (split : AreSplit problem.tiers) (once : AreDistinc
 
   fits_kind : (p : List (List Sym)) → length (squeeze (project problem.tiers.input p)) ≡ place
       → ((t : ℕ) → Contains problem.tiers.free t → t < problem.tiers.width
-      → is_open (word p t) ≡ flag_of problem.tiers.free opened t)
+      → is_open (tier_word p t) ≡ flag_of problem.tiers.free opened t)
       → kind_of problem 0 p ≡ record { place = place; opened = opened; phases = [] }
   fits_kind p a b =
-      let same : map (λ t. is_open (word p t)) problem.tiers.free
-      ≡ opened = at_free problem split (flag_of problem.tiers.free opened) off (λ t. is_open (word p t)) b
+      let same : map (λ t. is_open (tier_word p t)) problem.tiers.free
+      ≡ opened = at_free problem split (flag_of problem.tiers.free opened) off (λ t. is_open (tier_word p t)) b
       ∙ flags_on problem.tiers.free opened once flags in
       let kind : ℕ → List Bool → PrefixKind = λ n bs. record { place = n; opened = bs; phases = [] } in
       ap₂ kind a same
@@ -253,7 +258,7 @@ module _ (problem : Problem) (split : AreSplit problem.tiers) (once : AreDistinc
       → IsPassed problem 0 0 (record { place = place; opened = opened; phases = [] })
   with_none h =
       let long : length (bare_form problem.tiers problem.form)
-      ≡ last_place problem = length-map problem.form (widened problem.tiers) in
+      ≡ last_place problem = length-map problem.form (wide_column problem.tiers) in
       record {
         candidate = bare_form problem.tiers problem.form;
         columns = place;
@@ -261,7 +266,7 @@ module _ (problem : Problem) (split : AreSplit problem.tiers) (once : AreDistinc
           optimal = all_optimal problem (bare_form problem.tiers problem.form)
               (bare_candidate problem split wf reduced);
           within = omega arith;
-          of_kind = ap (kind_of problem 0) (take-map (widened problem.tiers) place problem.form)
+          of_kind = ap (kind_of problem 0) (take-map (wide_column problem.tiers) place problem.form)
               ∙ fits_kind (bare_form problem.tiers (take place problem.form))
               (ap length (squeeze_over problem.tiers (λ t. false) Outside split (λ t c. refl)
               (take place problem.form) wide edged) ∙ taken)

@@ -1,5 +1,6 @@
 -- Lists that ascend strictly.
-use Rattle.std.proofs.Common.{◌≡◌, ℕ, zero, suc, ◌+◌, ◌-◌, ◌<◌, ◌≤◌, Bool, true, false, cond, List, [], ◌∷◌, ◌++◌, map, filter, refl, ap, sym, ◌∙◌, arith, ⊎_elim, Contains}
+use Rattle.std.proofs.Common.{◌≡◌, ℕ, zero, suc, ◌+◌, ◌-◌, ◌<◌, ◌≤◌, Bool, true, false, cond, List, [], ◌∷◌, ◌++◌, map}
+use Rattle.std.proofs.Common.{filter, refl, ap, sym, ◌∙◌, arith, ⊎_elim, Contains}
 use Rattle.std.specs.List.{flat_map, AllByRecursion, range_with_len}
 use Rattle.std.specs.List.Sorted.{IsStrictlySortedBy}
 use Rattle.std.specs.Ordering.{nat_cmp, ordering_then, is_lt}
@@ -10,7 +11,8 @@ use Rattle.std.specs.declared.cmp.Ordering.{Ordering}
 use Rattle.std.specs.declared.cmp.Ordering.TheVariants.{Less, Equal, Greater}
 use Rattle.std.proofs.lemmas.List.FromFn.{length-range_with_len, get_or-range_with_len}
 use Rattle.std.proofs.lemmas.List.Elements.{Contains-append_cases}
-use Rattle.tier_core.proofs.Members.{contains_of_map, all_from_members, all_at_member, contains_of_flat, contains_of_kept, contains_first, contains_later}
+use Rattle.tier_core.proofs.Members.{contains_of_map, all_from_members, all_at_member, contains_of_flat}
+use Rattle.tier_core.proofs.Members.{contains_of_kept, contains_first, contains_later}
 
 -- each element is below all that follow it
 abbrev pub Ascends : {X : Type 0} → (X → X → Ordering) → List X → Type 0

@@ -2,18 +2,18 @@
 use Rattle.std.proofs.Common.{false, List, map, length, refl}
 use Rattle.tier_core.specs.declared.sym.Sym.{Sym}
 use Rattle.tier_core.specs.declared.sym.Sym.TheVariants.{Outside}
-use Rattle.tier_core.specs.Timelines.{word, IsWellFormed, IsReduced}
+use Rattle.tier_core.specs.Timelines.{tier_word, IsWellFormed, IsReduced}
 use Rattle.tier_core.specs.Tiers.{Tiers}
 use Rattle.tier_core.proofs.WordForm.{well_formed_from_runs}
 use Rattle.violation.specs.Candidates.{IsCandidate}
 use Rattle.violation.specs.Conditions.{AreSplit}
-use Rattle.ranked_gen.specs.WideColumns.{widened}
+use Rattle.ranked_gen.specs.WideColumns.{wide_column}
 use Rattle.ranked_gen.proofs.WidenedColumns.{all_mapped, length_over, over_runs, over_reduced, squeeze_over}
 use Rattle.violation.specs.Problems.{Problem}
 
 -- the form with no constituent on the free tiers
 abbrev pub bare_form : Tiers → List (List Sym) → List (List Sym)
-bare_form tiers u = map (widened tiers) u
+bare_form tiers u = map (wide_column tiers) u
 
 -- The bare form is a candidate.
 pub bare_candidate : (problem : Problem) → AreSplit problem.tiers
@@ -21,8 +21,8 @@ pub bare_candidate : (problem : Problem) → AreSplit problem.tiers
     → IsCandidate problem (bare_form problem.tiers problem.form)
 bare_candidate problem split wf reduced = record {
   well_formed = record {
-    one_width = all_mapped _ (widened problem.tiers) problem.form (length_over problem.tiers (λ t. false) Outside);
-    each_tier = λ t l. well_formed_from_runs (word (bare_form problem.tiers problem.form) t)
+    one_width = all_mapped _ (wide_column problem.tiers) problem.form (length_over problem.tiers (λ t. false) Outside);
+    each_tier = λ t l. well_formed_from_runs (tier_word (bare_form problem.tiers problem.form) t)
         (over_runs problem.tiers (λ t. false) Outside split (λ t c. refl) problem.form t wf l refl);
   };
   reduced = over_reduced problem.tiers (λ t. false) Outside split (λ t c. refl) problem.form wf.one_width reduced;

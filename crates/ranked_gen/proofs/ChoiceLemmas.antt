@@ -1,7 +1,8 @@
 -- Choices of one element of each of some lists.
 use Rattle.std.proofs.Common.{List, [], ◌∷◌, map, subst, Contains}
 use Rattle.violation.specs.Counts.{choices}
-use Rattle.tier_core.proofs.Members.{contains_map, contains_of_map, contains_one, contains_first, contains_flat, contains_of_flat}
+use Rattle.tier_core.proofs.Members.{contains_map, contains_of_map, contains_one, contains_first, contains_flat}
+use Rattle.tier_core.proofs.Members.{contains_of_flat}
 
 -- one element of each list in turn
 abbrev pub IsChoice : {X : Type 0} → List (List X) → List X → Type 0

@@ -1,5 +1,6 @@
 -- The automaton of what the last stage leaves is right.
-use Rattle.std.proofs.Common.{◌≡◌, ℕ, ◌<◌, List, ◌++◌, length, take, drop, get_or, refl, sym, ap, ◌∙◌, subst, arith, take_at, Contains}
+use Rattle.std.proofs.Common.{◌≡◌, ℕ, ◌<◌, List, ◌++◌, length, take, drop, get_or, refl, sym, ap, ◌∙◌, subst, arith}
+use Rattle.std.proofs.Common.{take_at, Contains}
 use Rattle.std.proofs.lemmas.List.{get_or_default, get_or-map, length-map, length-append, take-append-drop}
 use Rattle.std.proofs.lemmas.List.Elements.{Contains-get_or}
 use Rattle.weight_law.specs.declared.Weight.{Ghosts}
@@ -21,14 +22,14 @@ use Rattle.answer_text.specs.declared.automaton.StateLine.{StateLine}
 use Rattle.answer_text.specs.Right.{IsNodeOf, IsRightAutomaton}
 use Rattle.kind_tables.proofs.Paths.{IsParted, run_exists, parted, joined_run, joined_reads, path_word}
 use Rattle.kind_orders.specs.Orderings.{IsOrdering, AreRanks}
-use Rattle.kind_orders.specs.AutomatonLines.{nodes_of}
-use Rattle.kind_orders.specs.Automata.{HasWidth, Reaches, IsAutomatonOf}
-use Rattle.ranked_gen.specs.Left.{TellsKind}
+use Rattle.kind_orders.specs.AutomatonLines.{state_nodes}
+use Rattle.kind_orders.specs.Automata.{HasWidth, ReadsTo, IsAutomatonOf}
+use Rattle.ranked_gen.specs.Left.{IsNodeOfKind}
 use Rattle.ranked_gen.specs.OptimalParts.{IsOptimalPart}
 use Rattle.violation.specs.Problems.{last_stage, Problem}
 
 node_of : (problem : Problem) (nodes : List Node) (n : ℕ) (k : PrefixKind)
-    → TellsKind problem (last_stage problem) nodes n k → IsNodeOf problem nodes n k
+    → IsNodeOfKind problem (last_stage problem) nodes n k → IsNodeOf problem nodes n k
 node_of problem nodes n k t = record { node = t.node; numbered = t.numbered; tells = t.tells }
 
 module _ {g : Ghosts UnitWeight} (problem : Problem) (nodes : List Node) (kept : List (TableState UnitWeight g))
@@ -38,7 +39,7 @@ module _ {g : Ghosts UnitWeight} (problem : Problem) (nodes : List Node) (kept :
   abbrev rank_of : ℕ → ℕ
   rank_of s = get_or ranks (get_or states s 0) 0
 
-  has_rank : (s : ℕ) → s < length kept → get_or (nodes_of ranks states) s 0 ≡ rank_of s
+  has_rank : (s : ℕ) → s < length kept → get_or (state_nodes ranks states) s 0 ≡ rank_of s
   has_rank s l = get_or-map (λ i. get_or ranks i 0) states s 0 0 (omega (arith, left.ordered.each_state))
 
   number_inside : (s : ℕ) → s < length kept → get_or states s 0 < length order
@@ -50,20 +51,20 @@ module _ {g : Ghosts UnitWeight} (problem : Problem) (nodes : List Node) (kept :
   at_rank : (s : ℕ) → s < length kept → get_or order (rank_of s) 0 ≡ get_or states s 0
   at_rank s l = told.back (get_or states s 0) (omega (arith, number_inside s l, numbers.count))
 
-  start : get_or (nodes_of ranks states) 0 0 ≡ 0
+  start : get_or (state_nodes ranks states) 0 0 ≡ 0
   start = let one : 0 < length order = omega (arith, number_inside 0 some) in has_rank 0 some
       ∙ ap (λ i. get_or ranks i 0) (sym left.start) ∙ told.forth 0 one
 
-  state_node : (s : ℕ) (p : List (List Sym)) → s < length kept → Reaches kept p s
-      → IsNodeOf problem nodes (get_or (nodes_of ranks states) s 0) (kind_of problem (last_stage problem) p)
-  state_node s p l r = node_of problem nodes (get_or (nodes_of ranks states) s 0)
+  state_node : (s : ℕ) (p : List (List Sym)) → s < length kept → ReadsTo kept p s
+      → IsNodeOf problem nodes (get_or (state_nodes ranks states) s 0) (kind_of problem (last_stage problem) p)
+  state_node s p l r = node_of problem nodes (get_or (state_nodes ranks states) s 0)
       (kind_of problem (last_stage problem) p)
-      (subst (λ n. TellsKind problem (last_stage problem) nodes n (kind_of problem (last_stage problem) p))
+      (subst (λ n. IsNodeOfKind problem (last_stage problem) nodes n (kind_of problem (last_stage problem) p))
       (sym (has_rank s l))
       (left.tells p s (rank_of s) l r (rank_inside s l) (at_rank s l)))
 
   node_passed : (s : ℕ) → s < length kept
-      → (k : PrefixKind) × (IsNodeOf problem nodes (get_or (nodes_of ranks states) s 0) k × IsPassed problem
+      → (k : PrefixKind) × (IsNodeOf problem nodes (get_or (state_nodes ranks states) s 0) k × IsPassed problem
       (last_stage problem) (last_stage problem) k)
   node_passed s l =
       let on = left.on_runs s l in
@@ -97,15 +98,15 @@ module _ {g : Ghosts UnitWeight} (problem : Problem) (nodes : List Node) (kept :
       let fit = (left.named.moves s arc (first_column arc.class) c have).fits in
       sym (same_width (sets_of arc.class) (first_column arc.class) have) ∙ fit.width
 
-  pub right_automaton : (lines : List StateLine) → IsAutomatonOf kept (nodes_of ranks states) lines
+  pub right_automaton : (lines : List StateLine) → IsAutomatonOf kept (state_nodes ranks states) lines
       → IsRightAutomaton problem nodes lines
   right_automaton lines a = record {
     ascending = a.lines.ascending;
     passed = λ n c.
-        let m : Contains (nodes_of ranks states) n = (a.numbers n).0 c in
+        let m : Contains (state_nodes ranks states) n = (a.numbers n).0 c in
         let l : m.0 < length kept = omega
         (arith, m.1, length-map states (λ i. get_or ranks i 0), left.ordered.each_state) in
-        let here : get_or (nodes_of ranks states) m.0 0 ≡ n = get_or_default (nodes_of ranks states) m.0 0 n m.1
+        let here : get_or (state_nodes ranks states) m.0 0 ≡ n = get_or_default (state_nodes ranks states) m.0 0 n m.1
         ∙ m.2 in
         let r = node_passed m.0 l in
         (r.0, (subst (λ i. IsNodeOf problem nodes i r.0) here r.1.0, r.1.1));
@@ -117,12 +118,12 @@ module _ {g : Ghosts UnitWeight} (problem : Problem) (nodes : List Node) (kept :
         parted kept (take n T) (drop n T) 0 h.0 h.1.run (subst (Reads h.0) (sym (take-append-drop n T)) h.1.reads) in
         let s = parts.middle in
         let inside = run_exists kept s parts.after parts.run in
-        let reach : Reaches kept (take n T) s = (parts.before, parts.path, parts.reads_before) in (
-          get_or (nodes_of ranks states) s 0,
+        let reach : ReadsTo kept (take n T) s = (parts.before, parts.path, parts.reads_before) in (
+          get_or (state_nodes ranks states) s 0,
           (
             a.leads start (take n T) s reach,
-            (a.numbers (get_or (nodes_of ranks states) s 0)).1
-                (Contains-get_or (nodes_of ranks states) s 0
+            (a.numbers (get_or (state_nodes ranks states) s 0)).1
+                (Contains-get_or (state_nodes ranks states) s 0
                 (omega (arith, inside, length-map states (λ i. get_or ranks i 0), left.ordered.each_state))),
             state_node s (take n T) inside reach,
           ),

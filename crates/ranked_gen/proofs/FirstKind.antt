@@ -9,7 +9,7 @@ use Rattle.std.proofs.lemmas.Bool.{false≢true}
 use Rattle.std.proofs.lemmas.List.{length-map}
 use Rattle.tier_core.specs.declared.event.Event.{Event}
 use Rattle.tier_core.specs.declared.constraint.Constraint.{Constraint}
-use Rattle.tier_core.specs.Timelines.{word}
+use Rattle.tier_core.specs.Timelines.{tier_word}
 use Rattle.tier_core.specs.Kinds.{closed, PrefixKind, open_rank, phase_rank, kind_order}
 use Rattle.ranked_gen.proofs.Ascending.{nat_less}
 use Rattle.violation.specs.Conditions.{IsOverTiers}
@@ -41,7 +41,7 @@ below_zeros (x ∷ xs) [] l z e = absurd (omega arith)
 below_zeros (x ∷ xs) (y ∷ ys) l z e = two_less (nat_cmp x y) (slice_cmp nat_cmp xs ys)
     (λ a. let below = nat_less x y a in omega (arith, below, z.0)) (below_zeros xs ys (omega arith) z.1) e
 
-none_open : (ts : List ℕ) → AllByRecursion (λ y. y ≡ 0) (map open_rank (map (λ t. is_open (word [] t)) ts))
+none_open : (ts : List ℕ) → AllByRecursion (λ y. y ≡ 0) (map open_rank (map (λ t. is_open (tier_word [] t)) ts))
 none_open [] = tt
 none_open (t ∷ ts) = (refl, none_open ts)
 
@@ -66,7 +66,7 @@ none_before problem r k over flags phases e =
     let first = kind_of problem r [] in
     let a = length-map k.opened open_rank in
     let b = length-map first.opened open_rank in
-    let c = length-map problem.tiers.free (λ t. is_open (word [] t)) in
+    let c = length-map problem.tiers.free (λ t. is_open (tier_word [] t)) in
     let d = length-map k.phases phase_rank in
     let f = length-map first.phases phase_rank in
     let g = length-map (stretches problem r) (λ c. phase c.left c.right []) in

@@ -17,11 +17,11 @@ use Rattle.kind_moves.specs.Frames.{problem_in, kind_at_stage}
 use Rattle.kind_tables.specs.StageTables.{IsStageTable}
 use Rattle.kind_tables.proofs.Following.{first_table}
 use Rattle.kind_tables.proofs.Naming.{names_law}
-use Rattle.stage_tables.specs.Explored.{names_at, IsComplete, IsMet, IsOverBudget}
+use Rattle.stage_tables.specs.Explored.{names_at, IsComplete, IsMet, HasMoreKinds}
 use Rattle.stage_tables.proofs.Named.{frame_stage}
-use Rattle.ranked_gen.specs.Budgets.{IsOver, IsWithin}
+use Rattle.ranked_gen.specs.Budgets.{IsOver, IsStageWithin}
 use Rattle.ranked_gen.specs.Listed.{kind_count}
-use Rattle.ranked_gen.specs.Numbers.{kind_numbered}
+use Rattle.ranked_gen.specs.Numbers.{kind_of_number}
 use Rattle.tier_core.proofs.Differing.{no_longer}
 use Rattle.ranked_gen.proofs.FewKinds.{stage_few}
 use Rattle.ranked_gen.proofs.NextStage.{pairs_differ}
@@ -38,7 +38,7 @@ module _ (frame : Frame) where
 
   -- with no more kinds than the budget it is within the budget
   pub zero_within : {g : Ghosts Count} (kinds : List Kind) (states : List (TableState Count g)) (budget : ℕ)
-      → IsComplete frame 0 kinds states → length kinds ≤ budget → IsWithin (problem_in frame) budget 0
+      → IsComplete frame 0 kinds states → length kinds ≤ budget → IsStageWithin (problem_in frame) budget 0
   zero_within kinds states budget complete few ks are =
       let table = zero_table kinds states complete in
       let law = names_law (problem_in frame) 0 (frame_stage frame 0 (omega arith))
@@ -47,12 +47,12 @@ module _ (frame : Frame) where
       omega (arith, most, few, length-map kinds (kind_at_stage frame 0))
 
   -- and it is over the budget where more kinds are met
-  pub zero_over : (budget : ℕ) → IsOverBudget frame 0 (IsCandidate (problem_in frame)) budget
+  pub zero_over : (budget : ℕ) → HasMoreKinds frame 0 (IsCandidate (problem_in frame)) budget
       → IsOver (problem_in frame) budget 0
   zero_over budget over =
       let problem = problem_in frame in
       let stage = frame_stage frame 0 (omega arith) in
-      let all = map (kind_numbered (length problem.tiers.free)) (range_with_len 0 (kind_count problem)) in
+      let all = map (kind_of_number (length problem.tiers.free)) (range_with_len 0 (kind_count problem)) in
       let are = numbered_kinds problem stage.split (free_distinct frame.grammar.now.tiers.kinds.items) stage.form in
       let most : length over.kinds ≤ length all = no_longer all over.kinds
       (λ k c. (are.members k).1 (passed k (All-contains (IsMet frame 0 (IsCandidate problem)) over.kinds k over.met c)))

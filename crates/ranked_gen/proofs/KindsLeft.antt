@@ -1,5 +1,6 @@
 -- The kinds of the states that a stage leaves, and what they are at a stage that adds no phase.
-use Rattle.std.proofs.Common.{◌≡◌, ℕ, zero, suc, ◌+◌, ◌-◌, ◌<◌, ◌≤◌, Bool, true, false, cond, List, [], ◌∷◌, filter, map, take, length, get_or, refl, sym, ap, ◌∙◌, subst, arith, All, Contains}
+use Rattle.std.proofs.Common.{◌≡◌, ℕ, zero, suc, ◌+◌, ◌-◌, ◌<◌, ◌≤◌, Bool, true, false, cond, List, [], ◌∷◌, filter}
+use Rattle.std.proofs.Common.{map, take, length, get_or, refl, sym, ap, ◌∙◌, subst, arith, All, Contains}
 use Rattle.std.specs.List.{AllByRecursion}
 use Rattle.std.proofs.lemmas.List.{get_or_default, get_or-map, length-map}
 use Rattle.std.proofs.lemmas.List.Elements.{All-contains, Contains-get_or}
@@ -9,7 +10,7 @@ use Rattle.tier_core.specs.declared.sym.Sym.{Sym}
 use Rattle.tier_core.specs.Kinds.{PrefixKind, AreStretchesBelow, prefix_kind}
 use Rattle.tier_core.specs.Scan.{opens}
 use Rattle.tier_core.specs.Sides.{is_stretch}
-use Rattle.tier_core.specs.Timelines.{symbol, has_edge, project, squeeze, word}
+use Rattle.tier_core.specs.Timelines.{symbol, has_edge, project, squeeze, tier_word}
 use Rattle.weight_law.specs.declared.Weight.{Ghosts}
 use Rattle.weight_law.specs.declared.unit_weight.UnitWeight.{UnitWeight}
 use Rattle.arc_table.specs.declared.state.TableState.{TableState}
@@ -19,7 +20,8 @@ use Rattle.violation.specs.Moves.{input_of, next_phases}
 use Rattle.violation.specs.Prefixes.{is_open, phase}
 use Rattle.violation.specs.Problems.{last_stage}
 use Rattle.kind_moves.specs.declared.frame.Frame.{Frame}
-use Rattle.kind_moves.specs.Frames.{problem_in, tiers_in, constraints_in, stretches_in, kind_at_stage, FitsFrame, AreClosedOr, is_left_open}
+use Rattle.kind_moves.specs.Frames.{problem_in, tiers_in, constraints_in, stretches_in, kind_at_stage, FitsFrame}
+use Rattle.kind_moves.specs.Frames.{AreClosedOr, is_left_open}
 use Rattle.kind_tables.specs.StageTables.{name_of, AreNamedByKinds}
 use Rattle.kind_tables.specs.FoundTables.{names_kept}
 use Rattle.stage_laws.proofs.Pruned.{kept_named}
@@ -149,7 +151,7 @@ module _ (frame : Frame) (before stage : ℕ) (same : stretches_in frame stage �
   abbrev kind_by : List Constraint → List (List Sym) → PrefixKind
   kind_by cs p = record {
     place = length (squeeze (project (problem_in frame).tiers.input p));
-    opened = map (λ t. is_open (word p t)) (problem_in frame).tiers.free;
+    opened = map (λ t. is_open (tier_word p t)) (problem_in frame).tiers.free;
     phases = map (λ c. phase c.left c.right p) cs;
   }
 

@@ -1,5 +1,6 @@
 -- Kinds that have a number when no constraint is ranked.
-use Rattle.std.proofs.Common.{◌≡◌, ℕ, ◌+◌, ◌*◌, ◌/◌, ◌^◌, ◌<◌, ◌≤◌, ◌⊎◌, inl, inr, Bool, true, false, cond, List, [], ◌∷◌, length, refl, ap, sym, ◌∙◌, subst, arith}
+use Rattle.std.proofs.Common.{◌≡◌, ℕ, ◌+◌, ◌*◌, ◌/◌, ◌^◌, ◌<◌, ◌≤◌, ◌⊎◌, inl, inr, Bool, true, false, cond, List, []}
+use Rattle.std.proofs.Common.{◌∷◌, length, refl, ap, sym, ◌∙◌, subst, arith}
 use Rattle.std.proofs.lemmas.Bool.{false≢true}
 use Rattle.std.proofs.lemmas.Nat.{div_below, pow_pos}
 use Rattle.std.proofs.Math.Nat.{mul-le-mul_right}
@@ -7,14 +8,14 @@ use Rattle.std.proofs.lemmas.List.{length-map}
 use Rattle.tier_core.specs.declared.sym.Sym.{Sym}
 use Rattle.tier_core.specs.Kinds.{PrefixKind}
 use Rattle.tier_core.specs.Scan.{opens}
-use Rattle.tier_core.specs.Timelines.{has_edge, symbol, word, column_at}
+use Rattle.tier_core.specs.Timelines.{has_edge, symbol, tier_word, column_at}
 use Rattle.violation.specs.Candidates.{IsForm}
 use Rattle.violation.specs.Conditions.{AreSplit}
 use Rattle.violation.specs.Prefixes.{is_open, kind_of}
-use Rattle.violation.specs.Moves.{FitsKind, moved, input_of}
-use Rattle.violation.specs.Walks.{HasMoves, reached, BeginsCandidate}
+use Rattle.violation.specs.Moves.{FitsKind, next_kind, input_of}
+use Rattle.violation.specs.Walks.{HasMoves, walk_end, BeginsCandidate}
 use Rattle.violation.proofs.WalkLemmas.{moves_begin, reached_is}
-use Rattle.ranked_gen.specs.Numbers.{number_of_flags, number_of_kind, kind_numbered}
+use Rattle.ranked_gen.specs.Numbers.{number_of_flags, number_of_kind, kind_of_number}
 use Rattle.ranked_gen.specs.Listed.{kind_count}
 use Rattle.ranked_gen.proofs.NumberLemmas.{length-flags_of, number-lt}
 use Rattle.violation.specs.Problems.{last_place, Problem}
@@ -34,7 +35,7 @@ number_within problem k w =
     omega (arith, below, places)
 
 pub numbered_within : (problem : Problem) (i : ℕ) → i < kind_count problem
-    → IsWithin problem (kind_numbered (length problem.tiers.free) i)
+    → IsWithin problem (kind_of_number (length problem.tiers.free) i)
 numbered_within problem i l = record {
   place = let below : i / 2 ^ length problem.tiers.free < last_place problem + 1 = div_below i
       (2 ^ length problem.tiers.free) (last_place problem + 1) (pow_pos (length problem.tiers.free)) l in omega arith;
@@ -45,7 +46,7 @@ numbered_within problem i l = record {
 module _ (problem : Problem) (split : AreSplit problem.tiers) where
   -- a move stays within
   pub moved_within : (k : PrefixKind) (column : List Sym) → FitsKind problem k column → k.place ≤ last_place problem
-      → IsWithin problem (moved problem 0 k column)
+      → IsWithin problem (next_kind problem 0 k column)
   moved_within k column fit l = record {
     place = go (has_edge (input_of problem.tiers column)) refl fit.input;
     flags = length-map problem.tiers.free (λ t. opens (symbol column t));
@@ -64,14 +65,14 @@ module _ (problem : Problem) (split : AreSplit problem.tiers) where
   pub start_within : IsWithin problem (kind_of problem 0 [])
   start_within = record {
     place = omega arith;
-    flags = length-map problem.tiers.free (λ t. is_open (word [] t));
+    flags = length-map problem.tiers.free (λ t. is_open (tier_word [] t));
     phases = refl;
   }
 
   pub reached_within : (k : PrefixKind) (T : List (List Sym)) → IsWithin problem k → HasMoves problem 0 k T
-      → IsWithin problem (reached problem 0 k T)
+      → IsWithin problem (walk_end problem 0 k T)
   reached_within k [] w h = w
-  reached_within k (column ∷ T) w h = reached_within (moved problem 0 k column) T
+  reached_within k (column ∷ T) w h = reached_within (next_kind problem 0 k column) T
       (moved_within k column h.0 w.place) h.1
 
   -- the kind of a prefix of a candidate is within

@@ -1,5 +1,6 @@
 -- The next stage of a frame, from a kept table that is explored.
-use Rattle.std.proofs.Common.{◌≡◌, ◌≢◌, ℕ, suc, ◌+◌, ◌-◌, ◌<◌, ◌≤◌, List, [], ◌∷◌, length, sym, ◌∙◌, subst, arith, AllPairs}
+use Rattle.std.proofs.Common.{◌≡◌, ◌≢◌, ℕ, suc, ◌+◌, ◌-◌, ◌<◌, ◌≤◌, List, [], ◌∷◌, length, sym, ◌∙◌, subst, arith}
+use Rattle.std.proofs.Common.{AllPairs}
 use Rattle.std.specs.Prelude.{◌↔◌}
 use Rattle.std.proofs.lemmas.List.{length-map}
 use Rattle.std.proofs.lemmas.List.Elements.{All-contains}
@@ -16,9 +17,9 @@ use Rattle.kind_moves.specs.declared.frame.Frame.{Frame}
 use Rattle.kind_moves.specs.Frames.{kind_at_stage}
 use Rattle.kind_tables.specs.StageTables.{IsStageTable}
 use Rattle.kind_tables.proofs.Naming.{names_law}
-use Rattle.stage_tables.specs.Kept.{IsKept}
-use Rattle.stage_tables.specs.Explored.{names_at, IsExplored, IsMet, IsOverBudget}
-use Rattle.ranked_gen.specs.Budgets.{IsOver, IsWithin}
+use Rattle.stage_tables.specs.Kept.{IsKeptTable}
+use Rattle.stage_tables.specs.Explored.{names_at, IsExplored, IsMet, HasMoreKinds}
+use Rattle.ranked_gen.specs.Budgets.{IsOver, IsStageWithin}
 use Rattle.tier_core.proofs.Members.{all_from_members}
 use Rattle.tier_core.proofs.Differing.{Differ}
 use Rattle.ranked_gen.proofs.FewKinds.{stage_few}
@@ -50,7 +51,7 @@ module _ (frame : Frame) (stage : ℕ) (ranked : 1 ≤ stage) (within : stage �
 
   -- with no more kinds than the budget it is within the budget
   pub stage_within : {g : Ghosts Count} (kinds : List Kind) (states : List (TableState Count g)) (budget : ℕ)
-      → IsExplored frame stage kept kinds states → length kinds ≤ budget → IsWithin (problem_in frame) budget stage
+      → IsExplored frame stage kept kinds states → length kinds ≤ budget → IsStageWithin (problem_in frame) budget stage
   stage_within kinds states budget explored few ks are =
       let table = stage_table kinds states explored in
       let law = names_law (problem_in frame) stage (frame_stage frame stage within)
@@ -62,9 +63,9 @@ module _ (frame : Frame) (stage : ℕ) (ranked : 1 ≤ stage) (within : stage �
 module _ (frame : Frame) (r : ℕ) (within : r + 1 ≤ last_stage (problem_in frame)) {h : Ghosts UnitWeight}
     (kept : List (TableState UnitWeight h)) (some : 0 < length kept) (targets : TargetsExist kept)
     (filled : ClassesFilled kept)
-    (by : IsKept (problem_in frame) r kept)
+    (by : IsKeptTable (problem_in frame) r kept)
     (accepts : (T : List (List Sym)) → Accepts kept T ↔ IsOptimalFor (problem_in frame) r T) (budget : ℕ) where
-  next_over : IsOverBudget frame (r + 1) (Accepts kept) budget → IsOver (problem_in frame) budget (r + 1)
+  next_over : HasMoreKinds frame (r + 1) (Accepts kept) budget → IsOver (problem_in frame) budget (r + 1)
   next_over over =
       over_budget (problem_in frame) r (frame_stage frame r (omega arith))
       (frame_stage frame (r + 1) within) by.0 kept some targets filled by.1 accepts budget over.kinds
@@ -73,6 +74,7 @@ module _ (frame : Frame) (r : ℕ) (within : r + 1 ≤ last_stage (problem_in fr
       (m.prefix, (m.rest, (m.accepted, m.of_kind))))
       over.more
 
-  pub stage_over : (stage : ℕ) → r + 1 ≡ stage → IsOverBudget frame stage (Accepts kept) budget
+  pub stage_over : (stage : ℕ) → r + 1 ≡ stage → HasMoreKinds frame stage (Accepts kept) budget
       → IsOver (problem_in frame) budget stage
-  stage_over stage e = subst (λ n. IsOverBudget frame n (Accepts kept) budget → IsOver (problem_in frame) budget n) e next_over
+  stage_over stage e = subst (λ n. HasMoreKinds frame n (Accepts kept) budget → IsOver (problem_in frame) budget n) e
+      next_over

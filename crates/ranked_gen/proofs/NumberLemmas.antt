@@ -1,5 +1,6 @@
 -- Numbers of kinds.
-use Rattle.std.proofs.Common.{◌≡◌, ℕ, zero, suc, ◌+◌, ◌-◌, ◌*◌, ◌/◌, ◌%◌, ◌^◌, ◌==◌, ◌<◌, ◌≤◌, Bool, true, false, cond, List, [], ◌∷◌, map, length, refl, ap, sym, ◌∙◌, arith, ⊎_elim}
+use Rattle.std.proofs.Common.{◌≡◌, ℕ, zero, suc, ◌+◌, ◌-◌, ◌*◌, ◌/◌, ◌%◌, ◌^◌, ◌==◌, ◌<◌, ◌≤◌, Bool, true, false, cond}
+use Rattle.std.proofs.Common.{List, [], ◌∷◌, map, length, refl, ap, sym, ◌∙◌, arith, ⊎_elim}
 use Rattle.std.specs.Int.{bit_at}
 use Rattle.std.proofs.lemmas.Nat.{mod-pow-add, pow_pos, div-mul-add, div-add-mod', le-div}
 use Rattle.std.specs.Cmp.{nat_cmp_is}
@@ -11,7 +12,7 @@ use Rattle.std.specs.declared.cmp.Ordering.{Ordering}
 use Rattle.std.specs.declared.cmp.Ordering.TheVariants.{Less, Equal}
 use Rattle.tier_core.specs.Tiers.{has_tier}
 use Rattle.tier_core.specs.Kinds.{Phase, PrefixKind, open_rank, kind_order}
-use Rattle.ranked_gen.specs.Numbers.{number_of_flags, flags_of, number_of_kind, kind_numbered}
+use Rattle.ranked_gen.specs.Numbers.{number_of_flags, flags_of, number_of_kind, kind_of_number}
 
 -- one more bit
 abbrev pub bit_of : Bool → ℕ
@@ -94,7 +95,7 @@ flags_of-number flags a = flags_of-low (length flags) (length flags) a (number_o
         cc (head, tail)
 
 -- the kind of a number has that number
-pub number-kind_numbered : (f n : ℕ) → number_of_kind f (kind_numbered f n) ≡ n
+pub number-kind_numbered : (f n : ℕ) → number_of_kind f (kind_of_number f n) ≡ n
 number-kind_numbered f n = omega (arith, number-flags_of f n, pow_pos f)
 
 abbrev pub kind_from : ℕ → List Bool → List Phase → PrefixKind
@@ -106,9 +107,9 @@ same_kind {p} {q} {a} {b} {x} {y} e f g = ap (λ n. kind_from n a x) e ∙ ap (�
     ∙ ap (kind_from q b) g
 
 -- the number of a kind tells the kind
-pub kind_numbered-number : (f : ℕ) (k : PrefixKind) → length k.opened ≡ f → k.phases ≡ []
-    → kind_numbered f (number_of_kind f k) ≡ k
-kind_numbered-number f k e none =
+pub kind_of_number-number : (f : ℕ) (k : PrefixKind) → length k.opened ≡ f → k.phases ≡ []
+    → kind_of_number f (number_of_kind f k) ≡ k
+kind_of_number-number f k e none =
     let flags : flags_of f (k.place * 2 ^ f + number_of_flags k.opened)
     ≡ k.opened = ap (λ m. flags_of m (k.place * 2 ^ m + number_of_flags k.opened)) (sym e)
     ∙ flags_of-number k.opened k.place in
@@ -134,7 +135,7 @@ flags_less (suc f) m n l = go (has_tier m f) (has_tier n f) (mod_step m f) (mod_
     go true false em en more = let small : n % 2 ^ f < 2 ^ f = omega (arith, pow_pos f) in absurd (omega (arith, l))
 
 -- kinds are ordered as their numbers
-pub kinds_less : (f i j : ℕ) → i < j → kind_order (kind_numbered f i) (kind_numbered f j) ≡ Less
+pub kinds_less : (f i j : ℕ) → i < j → kind_order (kind_of_number f i) (kind_of_number f j) ≡ Less
 kinds_less f i j l = let rest : Ordering = ordering_then
     (slice_cmp nat_cmp (map open_rank (flags_of f i)) (map open_rank (flags_of f j))) Equal in ⊎_elim
     (λ before. ap (λ o. ordering_then o rest) (sym (nat_cmp_is (i / 2 ^ f) (j / 2 ^ f) Less before)))

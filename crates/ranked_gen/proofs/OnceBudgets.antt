@@ -1,5 +1,6 @@
 -- Kinds under all constraints, and a budget.
-use Rattle.std.proofs.Common.{◌≡◌, ◌≢◌, ℕ, ◌≤◌, List, [], ◌∷◌, ◌++◌, map, take, length, refl, sym, ap, ◌∙◌, subst, arith, take_at, AllPairs, Contains}
+use Rattle.std.proofs.Common.{◌≡◌, ◌≢◌, ℕ, ◌≤◌, List, [], ◌∷◌, ◌++◌, map, take, length, refl, sym, ap, ◌∙◌, subst}
+use Rattle.std.proofs.Common.{arith, take_at, AllPairs, Contains}
 use Rattle.std.proofs.lemmas.List.{get_or-map, length-map, length-append}
 use Rattle.std.specs.List.{AllByRecursion}
 use Rattle.std.proofs.lemmas.List.Elements.{All-contains, All-from_recursion}
@@ -8,15 +9,15 @@ use Rattle.std.specs.Prelude.{◌↔◌}
 use Rattle.tier_core.specs.declared.sym.Sym.{Sym}
 use Rattle.tier_core.specs.Kinds.{PrefixKind, kind_order}
 use Rattle.violation.specs.Candidates.{IsCandidate}
-use Rattle.violation.specs.Moves.{cut}
+use Rattle.violation.specs.Moves.{cut_kind}
 use Rattle.violation.specs.Prefixes.{kind_of}
 use Rattle.violation.specs.Rests.{IsWholeKind, AreWholeKindsOver, AreWholeKindsWithin}
 use Rattle.violation.specs.Stages.{IsPassed}
 use Rattle.violation.proofs.StageLemmas.{all_optimal}
-use Rattle.violation.proofs.CutLemmas.{cut-kind_of}
+use Rattle.violation.proofs.CutLemmas.{cut_kind-kind_of}
 use Rattle.kind_moves.specs.declared.frame.Frame.{Frame}
 use Rattle.kind_moves.specs.Frames.{problem_in}
-use Rattle.stage_tables.specs.Explored.{IsOverBudget}
+use Rattle.stage_tables.specs.Explored.{HasMoreKinds}
 use Rattle.ranked_gen.specs.Budgets.{IsOver}
 use Rattle.ranked_gen.proofs.Ascending.{ascends_from}
 use Rattle.tier_core.proofs.Differing.{Differ, no_longer}
@@ -40,21 +41,22 @@ differ_pairs (k ∷ ks) h = AllPairs-cons (λ a b. a ≢ b) k ks (All-from_recur
 module _ (problem : Problem) where
   -- kinds where no constraint counts are cut from as many kinds under all constraints
   whole_of : (ks : List PrefixKind) → AllByRecursion (IsPassed problem 0 0) ks
-      → (ls : List PrefixKind) × (map (cut problem 0) ls ≡ ks) × AllByRecursion (IsWholeKind problem) ls
+      → (ls : List PrefixKind) × (map (cut_kind problem 0) ls ≡ ks) × AllByRecursion (IsWholeKind problem) ls
   whole_of [] h = ([], refl, tt)
   whole_of (k ∷ ks) h =
       let passed : IsPassed problem 0 0 k = h.0 in
       let p : List (List Sym) = take passed.columns passed.candidate in
       let whole : PrefixKind = kind_of problem (last_stage problem) p in
       let few : 0 ≤ last_stage problem = omega arith in
-      let same : cut problem 0 whole ≡ k = cut-kind_of problem 0 (last_stage problem) few p ∙ passed.passes.of_kind in
+      let same : cut_kind problem 0 whole ≡ k = cut_kind-kind_of problem 0 (last_stage problem) few p
+      ∙ passed.passes.of_kind in
       let is : IsWholeKind problem whole = record {
         candidate = passed.candidate;
         columns = passed.columns;
         passes = record { optimal = passed.passes.optimal; within = passed.passes.within; of_kind = refl };
       } in
       let rest = whole_of ks h.1 in
-      (whole ∷ rest.0, ap (λ x. x ∷ map (cut problem 0) rest.0) same ∙ ap (λ xs. k ∷ xs) rest.1, (is, rest.2))
+      (whole ∷ rest.0, ap (λ x. x ∷ map (cut_kind problem 0) rest.0) same ∙ ap (λ xs. k ∷ xs) rest.1, (is, rest.2))
 
   -- where there are more kinds than the budget before any constraint counts, there are under all
   pub first_over_whole : (budget : ℕ) → IsOver problem budget 0 → AreWholeKindsOver problem budget
@@ -62,13 +64,13 @@ module _ (problem : Problem) where
       let whole = whole_of over.kinds (all_from_members (IsPassed problem 0 0) over.kinds
       (λ k c. (over.are.members k).0 c)) in
       let ascending = ascends_from kind_order over.kinds over.are.ascending in
-      let differ : AllPairs (λ k l. k ≢ l) (map (cut problem 0) whole.0) =
+      let differ : AllPairs (λ k l. k ≢ l) (map (cut_kind problem 0) whole.0) =
       subst (AllPairs (λ k l. k ≢ l)) (sym whole.1) (differ_pairs over.kinds (ascending_differ over.kinds ascending)) in
-      let size : length whole.0 ≡ length over.kinds = sym (length-map whole.0 (cut problem 0))
+      let size : length whole.0 ≡ length over.kinds = sym (length-map whole.0 (cut_kind problem 0))
       ∙ ap (λ (ks : List PrefixKind). length ks) whole.1 in
       record {
         kinds = whole.0;
-        distinct = uncut_differ (cut problem 0) whole.0 differ;
+        distinct = uncut_differ (cut_kind problem 0) whole.0 differ;
         each = All-from_recursion (IsWholeKind problem) whole.0 whole.2;
         more = omega (arith, size, over.more);
       }
@@ -84,7 +86,7 @@ module _ (problem : Problem) where
 
 -- more kinds than the budget are met while all candidates are explored
 pub met_over_whole : (frame : Frame) (budget : ℕ)
-    → IsOverBudget frame (last_stage (problem_in frame)) (IsCandidate (problem_in frame)) budget
+    → HasMoreKinds frame (last_stage (problem_in frame)) (IsCandidate (problem_in frame)) budget
     → AreWholeKindsOver (problem_in frame) budget
 met_over_whole frame budget over = record {
   kinds = over.kinds;

@@ -1,5 +1,6 @@
 -- What a single pass finds, from its table that is ordered, weighed and pruned.
-use Rattle.std.proofs.Common.{◌≡◌, ℕ, ◌<◌, ◌≤◌, List, [], Option, None, Some, map, take, length, get_or, refl, sym, ap, ◌∙◌, subst, arith, All, Contains}
+use Rattle.std.proofs.Common.{◌≡◌, ℕ, ◌<◌, ◌≤◌, List, [], Option, None, Some, map, take, length, get_or, refl, sym, ap}
+use Rattle.std.proofs.Common.{◌∙◌, subst, arith, All, Contains}
 use Rattle.std.specs.List.Sorted.{IsStrictlySortedBy}
 use Rattle.std.proofs.lemmas.List.{get_or-map, length-map}
 use Rattle.std.proofs.lemmas.Simd.{map-map}
@@ -11,7 +12,7 @@ use Rattle.tier_core.specs.KindShapes.{stretch_count, kind_in}
 use Rattle.weight_law.specs.declared.Weight.{Ghosts}
 use Rattle.weight_law.specs.declared.ranked.Ranked.{Ranked}
 use Rattle.weight_law.specs.declared.unit_weight.UnitWeight.{UnitWeight}
-use Rattle.weight_law.specs.Ranked.{padded, ranked_meaning}
+use Rattle.weight_law.specs.Ranked.{parts_of_vector, ranked_meaning}
 use Rattle.arc_table.specs.declared.state.TableState.{TableState}
 use Rattle.arc_table.specs.Conditions.{TargetsExist, ClassesFilled}
 use Rattle.distances.specs.Least.{AreLeast}
@@ -34,7 +35,7 @@ use Rattle.stage_laws.proofs.LeastVectors.{least_vector, least_rest_vector}
 use Rattle.stage_laws.proofs.PrunedOnce.{whole_names, once_words}
 use Rattle.stage_laws.proofs.Resting.{least_from, some_weight}
 use Rattle.tier_core.specs.EmptyKind.{empty_kind}
-use Rattle.kind_orders.specs.KindOrders.{told, IsKindOrder}
+use Rattle.kind_orders.specs.KindOrders.{prefix_kind_at, IsKindOrder}
 use Rattle.kind_orders.specs.StageNodes.{node_numbered, AreNodesInOrder}
 use Rattle.kind_orders.proofs.Nodes.{are_nodes}
 use Rattle.stage_tables.specs.Explored.{names_at}
@@ -94,10 +95,10 @@ module _ (frame : Frame) (kinds : List Kind) {g : Ghosts Ranked} (meaning : g.me
       let best = law.1.1.some in
       let long : length v ≡ last_stage (problem_in frame) = ap (λ (ns : List ℕ). length ns) (sym best.1.1)
       ∙ length-map (constraints_in frame) (λ c. violations_of c best.0) in
-      let parts : (weight_found (get_or least 0 None)).parts ≡ padded v = ap (λ o. (weight_found o).parts) w.1
+      let parts : (weight_found (get_or least 0 None)).parts ≡ parts_of_vector v = ap (λ o. (weight_found o).parts) w.1
       ∙ law.1.0 in
       let same : counts ≡ v = is ∙ ap (take (last_stage (problem_in frame))) parts
-      ∙ ap (λ n. take n (padded v)) (sym long) ∙ take-append_seam v _ in
+      ∙ ap (λ n. take n (parts_of_vector v)) (sym long) ∙ take-append_seam v _ in
       subst (IsLeastVector (problem_in frame)) (sym same) law.1.1
 
   module _ (shape : Shape) (of : IsShapeOf frame.grammar.now shape) (order : List ℕ)
@@ -115,7 +116,8 @@ module _ (frame : Frame) (kinds : List Kind) {g : Ghosts Ranked} (meaning : g.me
     kinds_bare = sym (map-map (λ (node : Node). kind_at_stage frame (last_stage (problem_in frame)) node.kind)
         (λ (node : OnceNode). record { kind = node.kind; potential = 0 }) nodes)
 
-    kinds_seen : map (kind_told (problem_in frame)) nodes ≡ map (told shape (last_stage (problem_in frame)) kinds) order
+    kinds_seen : map (kind_told (problem_in frame)) nodes
+        ≡ map (prefix_kind_at shape (last_stage (problem_in frame)) kinds) order
     kinds_seen =
         kinds_bare
         ∙ sym (ap (λ n. map (λ (node : Node). prefix_kind n

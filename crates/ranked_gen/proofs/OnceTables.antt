@@ -14,7 +14,7 @@ use Rattle.violation.proofs.StageLemmas.{all_optimal}
 use Rattle.kind_moves.specs.declared.frame.Frame.{Frame}
 use Rattle.kind_moves.specs.Frames.{problem_in, kind_at_stage}
 use Rattle.kind_tables.proofs.Naming.{names_law}
-use Rattle.stage_tables.specs.Explored.{names_at, IsComplete, IsOverBudget}
+use Rattle.stage_tables.specs.Explored.{names_at, IsComplete, HasMoreKinds}
 use Rattle.stage_tables.specs.Ranking.{IsWholeTable}
 use Rattle.stage_tables.proofs.Named.{frame_stage}
 use Rattle.ranked_gen.proofs.OnceBudgets.{names_within, met_over_whole}
@@ -54,7 +54,7 @@ module _ (frame : Frame) where
       (omega (arith, few, length-map kinds (kind_at_stage frame (last_stage problem))))
 
   pub whole_over : (stage : ℕ) → stage ≡ last_stage (problem_in frame) → (budget : ℕ)
-      → IsOverBudget frame stage (IsCandidate (problem_in frame)) budget
+      → HasMoreKinds frame stage (IsCandidate (problem_in frame)) budget
       → AreWholeKindsOver (problem_in frame) budget
   whole_over stage is budget over = met_over_whole frame budget
-      (subst (λ n. IsOverBudget frame n (IsCandidate (problem_in frame)) budget) is over)
+      (subst (λ n. HasMoreKinds frame n (IsCandidate (problem_in frame)) budget) is over)

@@ -1,5 +1,6 @@
 -- The kinds that name the states of a table, in kind order, and the states of what is pruned from it.
-use Rattle.std.proofs.Common.{◌≡◌, ℕ, zero, suc, ◌<◌, ◌≤◌, List, [], ◌∷◌, Some, map, length, get_or, slice_get, sym, ap, ◌∙◌, subst, arith, ⊎_elim}
+use Rattle.std.proofs.Common.{◌≡◌, ℕ, zero, suc, ◌<◌, ◌≤◌, List, [], ◌∷◌, Some, map, length, get_or, slice_get, sym, ap}
+use Rattle.std.proofs.Common.{◌∙◌, subst, arith, ⊎_elim}
 use Rattle.std.specs.List.{AllByRecursion}
 use Rattle.std.specs.declared.cmp.Ordering.{Ordering}
 use Rattle.std.specs.declared.cmp.Ordering.TheVariants.{Less}
@@ -29,11 +30,11 @@ use Rattle.kind_tables.proofs.Naming.{path_kind}
 use Rattle.stage_laws.proofs.Pruned.{kept_named}
 use Rattle.kind_orders.specs.Orderings.{IsOrdering}
 use Rattle.tier_core.specs.EmptyKind.{empty_kind}
-use Rattle.kind_orders.specs.KindOrders.{kind_numbered, told, IsKindOrder}
-use Rattle.kind_orders.specs.Automata.{Reaches}
+use Rattle.kind_orders.specs.KindOrders.{kind_numbered, prefix_kind_at, IsKindOrder}
+use Rattle.kind_orders.specs.Automata.{ReadsTo}
 use Rattle.stage_tables.specs.Explored.{names_at}
 use Rattle.stage_tables.proofs.Named.{frame_stage}
-use Rattle.ranked_gen.specs.Left.{TellsKind, AreOrdered}
+use Rattle.ranked_gen.specs.Left.{IsNodeOfKind, AreOrdered}
 use Rattle.ranked_gen.proofs.Ascending.{Ascends, ascends_from}
 use Rattle.ranked_gen.proofs.FirstKind.{none_before}
 use Rattle.ranked_gen.proofs.StageShapes.{tell_same, free_same, stretch_same}
@@ -82,7 +83,7 @@ module _ (frame : Frame) (stage : ℕ) (within : stage ≤ last_stage (problem_i
       where
         not_later : (place : ℕ) → 0 < place → place < length order → get_or order place 0 ≡ 0 → ⊥
         not_later place some l there =
-            let tell = told shape stage kinds in
+            let tell = prefix_kind_at shape stage kinds in
             let d = tell 0 in
             let less = first_less kind_order (map tell order) d place
             (ascends_from kind_order (map tell order) sorted.ascending) some
@@ -121,9 +122,9 @@ module _ (frame : Frame) (stage : ℕ) (within : stage ≤ last_stage (problem_i
       -- nodes in this order tell the kinds of the prefixes that lead to the states
       pub tells : (nodes : List Node) (node : ℕ → Node) → nodes ≡ map node order
           → ((number : ℕ) → (node number).kind ≡ kind_numbered kinds number)
-          → (p : List (List Sym)) (s place : ℕ) → s < length pruned → Reaches pruned p s → place < length order
+          → (p : List (List Sym)) (s place : ℕ) → s < length pruned → ReadsTo pruned p s → place < length order
           → get_or order place 0 ≡ get_or old s 0
-          → TellsKind (problem_in frame) stage nodes place (kind_of (problem_in frame) stage p)
+          → IsNodeOfKind (problem_in frame) stage nodes place (kind_of (problem_in frame) stage p)
       tells nodes node listed kind p s place l reach inside same =
           let number = get_or order place 0 in
           let below : number < length kinds = sorted.numbers.below place 0 inside in

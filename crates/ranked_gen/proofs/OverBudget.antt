@@ -1,6 +1,8 @@
 -- The kinds of a stage can be listed, whatever table the stage before has left. So a stage of which
 -- more kinds than a budget are found is over it.
-use Rattle.std.proofs.Common.{filter, ◌≡◌, ◌≢◌, ℕ, zero, suc, ◌+◌, ◌-◌, ◌<◌, ◌≤◌, ◌⊎◌, inl, inr, Bool, true, false, cond, List, [], ◌∷◌, ◌++◌, map, take, drop, length, get_or, refl, sym, ap, ap₂, ◌∙◌, subst, arith, ⊎_elim, take_at, Contains}
+use Rattle.std.proofs.Common.{filter, ◌≡◌, ◌≢◌, ℕ, zero, suc, ◌+◌, ◌-◌, ◌<◌, ◌≤◌, ◌⊎◌, inl, inr, Bool, true, false}
+use Rattle.std.proofs.Common.{cond, List, [], ◌∷◌, ◌++◌, map, take, drop, length, get_or, refl, sym, ap, ap₂, ◌∙◌}
+use Rattle.std.proofs.Common.{subst, arith, ⊎_elim, take_at, Contains}
 use Rattle.std.specs.Prelude.{◌↔◌}
 use Rattle.std.specs.List.{range_with_len, flat_map}
 use Rattle.std.proofs.lemmas.Bool.{cases_order}
@@ -19,18 +21,19 @@ use Rattle.arc_table.specs.Moves.{moves_at}
 use Rattle.arc_table.specs.Runs.{Accepts, IsPath, Reads}
 use Rattle.arc_table.proofs.SomeWord.{some_word}
 use Rattle.violation.specs.Candidates.{IsCandidate, IsOptimalFor}
-use Rattle.violation.specs.Moves.{moved, cut}
+use Rattle.violation.specs.Moves.{next_kind, cut_kind}
 use Rattle.violation.specs.Prefixes.{kind_of, phase, stretches}
 use Rattle.violation.specs.Stages.{IsPassed, AreKindsOfStage}
-use Rattle.violation.specs.Walks.{reached}
+use Rattle.violation.specs.Walks.{walk_end}
 use Rattle.violation.proofs.WalkLemmas.{moves_begin, reached_is}
 use Rattle.kind_tables.specs.StageTables.{IsStage, name_of, AreNamedByKinds}
-use Rattle.violation.proofs.CutLemmas.{cut-kind_of}
+use Rattle.violation.proofs.CutLemmas.{cut_kind-kind_of}
 use Rattle.kind_tables.proofs.Naming.{path_kind}
 use Rattle.violation.proofs.StageLemmas.{over_stretches}
 use Rattle.kind_tables.proofs.Paths.{IsParted, parted, joined_run, joined_reads, path_push}
 use Rattle.stage_tables.specs.Kept.{AreKeptByKinds}
-use Rattle.tier_core.proofs.Members.{contains_map, contains_of_map, contains_first, contains_later, contains_flat, contains_of_flat}
+use Rattle.tier_core.proofs.Members.{contains_map, contains_of_map, contains_first, contains_later, contains_flat}
+use Rattle.tier_core.proofs.Members.{contains_of_flat}
 use Rattle.ranked_gen.specs.Budgets.{IsOver}
 use Rattle.ranked_gen.proofs.ClassColumns.{columns_in, in_columns, of_columns}
 use Rattle.ranked_gen.proofs.Ascending.{sorted_from, range_has}
@@ -88,9 +91,9 @@ take_longer (suc n) (p ∷ ps) l = ⊎_elim (λ e. inl (ap (λ qs. p ∷ qs) e))
     (λ more. inr (more.0, ap (λ qs. p ∷ qs) more.1)) (take_longer n ps (omega arith))
 
 reached_push : (problem : Problem) (r : ℕ) (k : PrefixKind) (p : List (List Sym)) (column : List Sym)
-    → reached problem r k (p ++ column ∷ []) ≡ moved problem r (reached problem r k p) column
+    → walk_end problem r k (p ++ column ∷ []) ≡ next_kind problem r (walk_end problem r k p) column
 reached_push problem r k [] column = refl
-reached_push problem r k (c ∷ p) column = reached_push problem r (moved problem r k c) p column
+reached_push problem r k (c ∷ p) column = reached_push problem r (next_kind problem r k c) p column
 
 reads_push : {g : Ghosts UnitWeight} (arcs : List (TableArc UnitWeight g)) (arc : TableArc UnitWeight g)
     (p : List (List Sym)) (column : List Sym) → Reads arcs p → Reads (arc ∷ []) (column ∷ [])
@@ -119,7 +122,7 @@ module _ (problem : Problem) (r : ℕ) (stage : IsStage problem r) (next : IsSta
 
   -- where a place goes on to
   abbrev step : PrefixKind → TableArc UnitWeight g → List Sym → Place
-  step k arc column = (arc.target, moved problem (r + 1) k column)
+  step k arc column = (arc.target, next_kind problem (r + 1) k column)
 
   abbrev steps : PrefixKind → TableArc UnitWeight g → List Place
   steps k arc = map (step k arc) (columns_in arc.class)
@@ -134,7 +137,7 @@ module _ (problem : Problem) (r : ℕ) (stage : IsStage problem r) (next : IsSta
     pub arcs : List (TableArc UnitWeight g)
     pub path : IsPath kept 0 arcs x.0
     pub reads : Reads arcs columns
-    pub tells : reached problem (r + 1) (kind_of problem (r + 1) []) columns ≡ x.1
+    pub tells : walk_end problem (r + 1) (kind_of problem (r + 1) []) columns ≡ x.1
 
   goes_on : (x y : Place) → IsGone x → Contains (onward x) y → IsGone y
   goes_on (s, k) y gone c =
@@ -149,7 +152,7 @@ module _ (problem : Problem) (r : ℕ) (stage : IsStage problem r) (next : IsSta
         path = path_push kept gone.arcs 0 s arc gone.path a.1.0;
         reads = reads_push gone.arcs arc gone.columns column gone.reads (of_columns arc.class column b.1.0, tt);
         tells = reached_push problem (r + 1) (kind_of problem (r + 1) []) gone.columns column
-            ∙ ap (λ q. moved problem (r + 1) q column) gone.tells;
+            ∙ ap (λ q. next_kind problem (r + 1) q column) gone.tells;
       } in
       subst IsGone b.1.1 there
 
@@ -169,7 +172,7 @@ module _ (problem : Problem) (r : ℕ) (stage : IsStage problem r) (next : IsSta
       )
 
   of_kind : (p q : List (List Sym)) → IsCandidate problem (p ++ q)
-      → reached problem (r + 1) (kind_of problem (r + 1) []) p ≡ kind_of problem (r + 1) p
+      → walk_end problem (r + 1) (kind_of problem (r + 1) []) p ≡ kind_of problem (r + 1) p
   of_kind p q c =
       let over = over_stretches problem (r + 1) next in
       reached_is problem (r + 1) stage.split stage.form over p
@@ -197,13 +200,13 @@ module _ (problem : Problem) (r : ℕ) (stage : IsStage problem r) (next : IsSta
   abbrev bound : List Place
   bound = flat_map (λ s. map (λ k. (s, k)) (longer (name_of names s))) (range_with_len 0 (length kept))
 
-  is_longer : (n k : PrefixKind) → cut problem r k ≡ n → length k.phases ≤ length (stretches problem r) + 1
+  is_longer : (n k : PrefixKind) → cut_kind problem r k ≡ n → length k.phases ≤ length (stretches problem r) + 1
       → Contains (longer n) k
   is_longer n k e l = ⊎_elim
-      (λ same. let one : k ≡ cut problem r k = ap (kind_by k.place k.opened) same in
+      (λ same. let one : k ≡ cut_kind problem r k = ap (kind_by k.place k.opened) same in
       subst (Contains (longer n)) (sym (one ∙ e))
       (contains_first n (with_phase n closed ∷ with_phase n unmet ∷ with_phase n met ∷ [])))
-      (λ more. let one : k ≡ with_phase (cut problem r k) more.0 = ap (kind_by k.place k.opened) more.1 in
+      (λ more. let one : k ≡ with_phase (cut_kind problem r k) more.0 = ap (kind_by k.place k.opened) more.1 in
       subst (Contains (longer n)) (sym (one ∙ ap (λ q. with_phase q more.0) e)) (any_phase n more.0))
       (take_longer (length (stretches problem r)) k.phases l)
 
@@ -213,8 +216,8 @@ module _ (problem : Problem) (r : ℕ) (stage : IsStage problem r) (next : IsSta
       let p = gone.columns in
       let whole = kind_gone x gone in
       let less : r ≤ r + 1 = omega arith in
-      let cuts : cut problem r k ≡ name_of names s =
-      ap (cut problem r) whole ∙ cut-kind_of problem r (r + 1) less p
+      let cuts : cut_kind problem r k ≡ name_of names s =
+      ap (cut_kind problem r) whole ∙ cut_kind-kind_of problem r (r + 1) less p
       ∙ sym (path_kind problem r stage names kept named gone.arcs s p gone.path gone.reads) in
       let room : r < last_stage problem = omega (arith, next.within) in
       let phases : length k.phases ≡ length (stretches problem (r + 1)) = ap
@@ -233,7 +236,7 @@ module _ (problem : Problem) (r : ℕ) (stage : IsStage problem r) (next : IsSta
       (0, kind_of problem (r + 1) []) all) where
     -- paths stay in what is closed
     stays : (arcs : List (TableArc UnitWeight g)) (p : List (List Sym)) (s t : ℕ) (k : PrefixKind)
-        → IsPath kept s arcs t → Reads arcs p → Contains all (s, k) → Contains all (t, reached problem (r + 1) k p)
+        → IsPath kept s arcs t → Reads arcs p → Contains all (s, k) → Contains all (t, walk_end problem (r + 1) k p)
     stays [] [] s t k path reads c = subst (λ n. Contains all (n, k)) path c
     stays [] (column ∷ p) s t k path reads c = absurd reads
     stays (arc ∷ arcs) [] s t k path reads c = absurd reads
@@ -241,7 +244,7 @@ module _ (problem : Problem) (r : ℕ) (stage : IsStage problem r) (next : IsSta
         let here : Contains all (step k arc column) = is.onward (s, k) (step k arc column) c
         (contains_flat (steps k) (moves_at kept s) arc (step k arc column) path.0
         (contains_map (step k arc) (columns_in arc.class) column (in_columns arc.class column reads.0))) in
-        stays arcs p arc.target t (moved problem (r + 1) k column) path.1 reads.1 here
+        stays arcs p arc.target t (next_kind problem (r + 1) k column) path.1 reads.1 here
 
     kinds_all : (k : PrefixKind) → Contains (map (λ (x : Place). x.1) all) k ↔ IsPassed problem r (r + 1) k
     kinds_all k = (
@@ -257,11 +260,11 @@ module _ (problem : Problem) (r : ℕ) (stage : IsStage problem r) (next : IsSta
           (kind_of problem (r + 1) []) parts.path parts.reads_before is.first in
           let whole : IsCandidate problem (take n T ++ drop n T) = subst (IsCandidate problem)
           (sym (take-append-drop n T)) passed.passes.optimal.candidate in
-          let same : reached problem (r + 1) (kind_of problem (r + 1) []) (take n T)
+          let same : walk_end problem (r + 1) (kind_of problem (r + 1) []) (take n T)
           ≡ k = of_kind (take n T) (drop n T) whole ∙ passed.passes.of_kind in
           subst (Contains (map (λ (x : Place). x.1) all)) same
           (contains_map (λ (x : Place). x.1) all
-          (parts.middle, reached problem (r + 1) (kind_of problem (r + 1) []) (take n T)) there),
+          (parts.middle, walk_end problem (r + 1) (kind_of problem (r + 1) []) (take n T)) there),
     )
 
   -- the kinds of the next stage, in kind order

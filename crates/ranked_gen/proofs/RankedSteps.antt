@@ -1,6 +1,7 @@
 -- The stages one after another, with what the last of them leaves, and the answer of all.
 use Rattle.std.specs.Prelude.{MatchOption, IsSome}
-use Rattle.std.proofs.Common.{◌≡◌, ℕ, ◌+◌, ◌<◌, List, [], ◌∷◌, ◌++◌, Option, None, Some, length, refl, sym, subst, arith}
+use Rattle.std.proofs.Common.{◌≡◌, ℕ, ◌+◌, ◌<◌, List, [], ◌∷◌, ◌++◌, Option, None, Some, length, refl, sym, subst}
+use Rattle.std.proofs.Common.{arith}
 use Rattle.weight_law.specs.declared.Weight.{Ghosts}
 use Rattle.weight_law.specs.declared.unit_weight.UnitWeight.{UnitWeight}
 use Rattle.tier_core.specs.declared.sym.Sym.{Sym}
@@ -13,8 +14,8 @@ use Rattle.arc_table.proofs.SomeWord.{some_word}
 use Rattle.violation.specs.Candidates.{IsOptimal}
 use Rattle.answer_text.specs.declared.stage.Node.{Node}
 use Rattle.answer_text.specs.declared.stage.Stage.{Stage}
-use Rattle.ranked_gen.specs.Budgets.{IsWithin}
-use Rattle.ranked_gen.specs.Left.{IsLeft, IsStaged, AreStages, IsRanked}
+use Rattle.ranked_gen.specs.Budgets.{IsStageWithin}
+use Rattle.ranked_gen.specs.Left.{IsStageOutcome, IsCountedOutcome, AreStages, IsRanked}
 use Rattle.ranked_gen.specs.OptimalParts.{IsOptimalPart}
 use Rattle.ranked_gen.proofs.StageList.{nodes_last, first_stages, next_stages}
 use Rattle.violation.specs.Problems.{last_stage, Problem}
@@ -22,7 +23,7 @@ use Rattle.violation.specs.Problems.{last_stage, Problem}
 -- what a stage leaves, whatever its nodes' potentials are
 pub part_of : (problem : Problem) (r : ℕ) (nodes : List Node) {g : Ghosts UnitWeight}
     (kept : List (TableState UnitWeight g)) (states order : List ℕ)
-    → IsLeft problem r nodes kept states order → IsOptimalPart problem r nodes kept states order
+    → IsStageOutcome problem r nodes kept states order → IsOptimalPart problem r nodes kept states order
 part_of problem r nodes kept states order left = record {
   names = left.kept_by.0;
   named = left.kept_by.1.named;
@@ -36,7 +37,7 @@ part_of problem r nodes kept states order left = record {
 -- stage 0 alone
 pub ranked_first : (problem : Problem) (budget : ℕ) (stage : Stage) {g : Ghosts UnitWeight}
     (kept : List (TableState UnitWeight g)) (states order : List ℕ)
-    → IsLeft problem 0 stage.nodes.items kept states order → IsWithin problem budget 0
+    → IsStageOutcome problem 0 stage.nodes.items kept states order → IsStageWithin problem budget 0
     → IsRanked problem budget 0 (stage ∷ []) [] kept states order
 ranked_first problem budget stage kept states order left within = record
     { so_far = first_stages problem budget stage left.right left.fit within; left = left }
@@ -46,12 +47,12 @@ pub ranked_next : (problem : Problem) (budget r : ℕ) (stages : List Stage) (co
     → AreStages problem budget r stages counts
     → (stage : Stage) (count next : ℕ) → next ≡ r + 1 → r < last_stage problem
     → {g : Ghosts UnitWeight} (kept : List (TableState UnitWeight g)) (states order : List ℕ)
-    → IsStaged problem next stage.nodes.items count kept states order → IsWithin problem budget next
+    → IsCountedOutcome problem next stage.nodes.items count kept states order → IsStageWithin problem budget next
     → IsRanked problem budget next (stages ++ stage ∷ []) (counts ++ count ∷ []) kept states order
 ranked_next problem budget r stages counts so_far stage count next is inside kept states order staged within = record {
   so_far = next_stages problem budget r stages counts so_far stage count next is inside staged.left.right
       staged.left.fit (λ T o. staged.counted T o (omega (arith, is))) within;
-  left = subst (λ ns. IsLeft problem next ns kept states order)
+  left = subst (λ ns. IsStageOutcome problem next ns kept states order)
       (sym (nodes_last stages stage next (omega (arith, is, so_far.stage_count)))) staged.left;
 }
 

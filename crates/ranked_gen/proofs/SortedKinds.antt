@@ -6,7 +6,8 @@ use Rattle.std.specs.declared.cmp.Ordering.{Ordering}
 use Rattle.std.specs.declared.cmp.Ordering.TheVariants.{Less, Equal, Greater}
 use Rattle.tier_core.specs.Kinds.{PrefixKind, kind_order}
 use Rattle.tier_core.proofs.KindTies.{same_kind, kind_order_total}
-use Rattle.tier_core.proofs.Members.{contains_none, contains_first, contains_later, contains_cases, all_from_members, all_at_member}
+use Rattle.tier_core.proofs.Members.{contains_none, contains_first, contains_later, contains_cases, all_from_members}
+use Rattle.tier_core.proofs.Members.{all_at_member}
 use Rattle.ranked_gen.proofs.Ascending.{Ascends}
 use Rattle.ranked_gen.proofs.StageKinds.{kind_not_below}
 

@@ -1,5 +1,6 @@
 -- The kinds of stage 0, and how many there are.
-use Rattle.std.proofs.Common.{◌≡◌, ◌≢◌, ℕ, ◌+◌, ◌*◌, ◌^◌, ◌<◌, ◌≤◌, false, List, [], ◌∷◌, Result, Ok, Err, IfOk, map, take, drop, length, refl, ap, sym, ◌∙◌, subst, arith, ne_eqb, eqb, Contains}
+use Rattle.std.proofs.Common.{◌≡◌, ◌≢◌, ℕ, ◌+◌, ◌*◌, ◌^◌, ◌<◌, ◌≤◌, false, List, [], ◌∷◌, Result, Ok, Err, IfOk, map}
+use Rattle.std.proofs.Common.{take, drop, length, refl, ap, sym, ◌∙◌, subst, arith, ne_eqb, eqb, Contains}
 use Rattle.std.specs.List.{range_with_len, IsDistinct}
 use Rattle.std.specs.Ordering.{nat_cmp, ordering_then, is_lt}
 use Rattle.std.specs.Cmp.{nat_cmp_is}
@@ -17,12 +18,14 @@ use Rattle.violation.specs.Candidates.{IsForm, IsCandidate}
 use Rattle.violation.specs.Conditions.{AreSplit, AreDistinct}
 use Rattle.violation.specs.Stages.{IsPassed, AreKindsOfStage}
 use Rattle.violation.specs.Walks.{BeginsCandidate}
-use Rattle.tier_core.proofs.Members.{contains_map, contains_of_map, contains_first, contains_later, all_from_members, all_at_member}
+use Rattle.tier_core.proofs.Members.{contains_map, contains_of_map, contains_first, contains_later, all_from_members}
+use Rattle.tier_core.proofs.Members.{all_at_member}
 use Rattle.ranked_gen.specs.Budgets.{IsFirstOver}
-use Rattle.ranked_gen.specs.Numbers.{number_of_kind, kind_numbered}
+use Rattle.ranked_gen.specs.Numbers.{number_of_kind, kind_of_number}
 use Rattle.ranked_gen.specs.Listed.{kind_count}
-use Rattle.ranked_gen.proofs.NumberLemmas.{kind_numbered-number, kinds_less}
-use Rattle.ranked_gen.proofs.Ascending.{Ascends, sorted_from, ascends_from, ascends_map, ascends_range, in_range, range_has, nat_less, slice_same}
+use Rattle.ranked_gen.proofs.NumberLemmas.{kind_of_number-number, kinds_less}
+use Rattle.ranked_gen.proofs.Ascending.{Ascends, sorted_from, ascends_from, ascends_map, ascends_range, in_range}
+use Rattle.ranked_gen.proofs.Ascending.{range_has, nat_less, slice_same}
 use Rattle.ranked_gen.proofs.KindsWithin.{IsWithin, number_within, numbered_within, kind_within}
 use Rattle.ranked_gen.proofs.AllPassed.{all_passed}
 use Rattle.violation.specs.Problems.{Problem}
@@ -54,7 +57,7 @@ kind_not_below k l =
 
 -- kinds that ascend, of which each is told by its number, have numbers that differ
 numbers_differ : (f : ℕ) (ks : List PrefixKind) → Ascends kind_order ks
-    → ((k : PrefixKind) → Contains ks k → kind_numbered f (number_of_kind f k) ≡ k)
+    → ((k : PrefixKind) → Contains ks k → kind_of_number f (number_of_kind f k) ≡ k)
     → IsDistinct eqb (map (number_of_kind f) ks)
 unfolding IsDistinct
 numbers_differ f [] a h = tt
@@ -62,7 +65,7 @@ numbers_differ f (k ∷ ks) a h = (
   all_from_members (λ n. eqb (number_of_kind f k) n ≡ false) (map (number_of_kind f) ks) (λ n m.
       let r = contains_of_map (number_of_kind f) ks n m in
       let other : number_of_kind f k ≢ n = λ e.
-      let same : k ≡ r.0 = sym (h k (contains_first k ks)) ∙ ap (kind_numbered f) (e ∙ sym r.1.1)
+      let same : k ≡ r.0 = sym (h k (contains_first k ks)) ∙ ap (kind_of_number f) (e ∙ sym r.1.1)
       ∙ h r.0 (contains_later k ks r.0 r.1.0) in
       kind_not_below k (ap (kind_order k) same ∙ all_at_member (λ l. kind_order k l ≡ Less) ks r.0 a.0 r.1.0) in
       ne_eqb (number_of_kind f k) n other),
@@ -73,11 +76,11 @@ module _ (problem : Problem) (split : AreSplit problem.tiers) (distinct : AreDis
     (form : IsForm problem.tiers problem.form) where
   -- each number is that of a kind that is passed
   pub passed_number : (i : ℕ) → i < kind_count problem
-      → IsPassed problem 0 0 (kind_numbered (length problem.tiers.free) i)
+      → IsPassed problem 0 0 (kind_of_number (length problem.tiers.free) i)
   passed_number i l = let w = numbered_within problem i l in
       all_passed problem split distinct form.well_formed form.reduced
-      (kind_numbered (length problem.tiers.free) i).place
-      (kind_numbered (length problem.tiers.free) i).opened w.place w.flags
+      (kind_of_number (length problem.tiers.free) i).place
+      (kind_of_number (length problem.tiers.free) i).opened w.place w.flags
 
   passes_within : (k : PrefixKind) → IsPassed problem 0 0 k → IsWithin problem k
   passes_within k p = subst (IsWithin problem) p.passes.of_kind
@@ -86,23 +89,23 @@ module _ (problem : Problem) (split : AreSplit problem.tiers) (distinct : AreDis
 
   -- the kinds of all numbers are those of stage 0
   pub numbered_kinds : AreKindsOfStage problem 0
-      (map (kind_numbered (length problem.tiers.free)) (range_with_len 0 (kind_count problem)))
+      (map (kind_of_number (length problem.tiers.free)) (range_with_len 0 (kind_count problem)))
   numbered_kinds = record {
     ascending = sorted_from kind_order _
-        (ascends_map kind_order nat_cmp (kind_numbered (length problem.tiers.free))
+        (ascends_map kind_order nat_cmp (kind_of_number (length problem.tiers.free))
         (range_with_len 0 (kind_count problem)) (λ i j l. kinds_less (length problem.tiers.free) i j (nat_less i j l))
         (ascends_range 0 (kind_count problem)));
     members = λ k. (
-      λ c. let r = contains_of_map (kind_numbered (length problem.tiers.free))
+      λ c. let r = contains_of_map (kind_of_number (length problem.tiers.free))
           (range_with_len 0 (kind_count problem)) k c in
           let b = in_range 0 (kind_count problem) r.0 r.1.0 in
           subst (IsPassed problem 0 0) r.1.1 (passed_number r.0 (omega (arith, b.1))),
       λ p. let w = passes_within k p in
           let n = number_of_kind (length problem.tiers.free) k in
-          subst (λ q. Contains (map (kind_numbered (length problem.tiers.free))
+          subst (λ q. Contains (map (kind_of_number (length problem.tiers.free))
           (range_with_len 0 (kind_count problem))) q)
-          (kind_numbered-number (length problem.tiers.free) k w.flags w.phases)
-          (contains_map (kind_numbered (length problem.tiers.free)) (range_with_len 0 (kind_count problem)) n
+          (kind_of_number-number (length problem.tiers.free) k w.flags w.phases)
+          (contains_map (kind_of_number (length problem.tiers.free)) (range_with_len 0 (kind_count problem)) n
           (range_has 0 (kind_count problem) n (omega arith) (omega (arith, number_within problem k w)))),
     );
   }
@@ -114,7 +117,7 @@ module _ (problem : Problem) (split : AreSplit problem.tiers) (distinct : AreDis
       let within : (k : PrefixKind) → Contains ks k → IsWithin problem k = λ k c. passes_within k ((a.members k).0 c) in
       let differ : IsDistinct eqb (map (number_of_kind f) ks) = numbers_differ f ks
       (ascends_from kind_order ks a.ascending)
-      (λ k c. kind_numbered-number f k (within k c).flags (within k c).phases) in
+      (λ k c. kind_of_number-number f k (within k c).flags (within k c).phases) in
       let few : length (map (number_of_kind f) ks) ≤ kind_count problem = length-le_from_distinct_below
       (map (number_of_kind f) ks) (kind_count problem) differ
       (λ q e. let r = contains_of_map (number_of_kind f) ks q
@@ -129,11 +132,11 @@ module _ (problem : Problem) (split : AreSplit problem.tiers) (distinct : AreDis
       record {
         stage = omega arith;
         over = record {
-          kinds = map (kind_numbered f) (range_with_len 0 (kind_count problem));
+          kinds = map (kind_of_number f) (range_with_len 0 (kind_count problem));
           are = numbered_kinds;
           more = omega (
             arith,
-            length-map (range_with_len 0 (kind_count problem)) (kind_numbered f),
+            length-map (range_with_len 0 (kind_count problem)) (kind_of_number f),
             length-range_with_len 0 (kind_count problem),
           );
         };

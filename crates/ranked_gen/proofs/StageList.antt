@@ -1,5 +1,6 @@
 -- The stages one after another, and the answer at their end.
-use Rattle.std.proofs.Common.{◌≡◌, ℕ, ◌+◌, ◌-◌, ◌<◌, ◌≤◌, List, [], ◌∷◌, ◌++◌, map, take, length, get_or, refl, sym, ap, ap₂, ◌∙◌, subst, arith, ⊎_elim, All}
+use Rattle.std.proofs.Common.{◌≡◌, ℕ, ◌+◌, ◌-◌, ◌<◌, ◌≤◌, List, [], ◌∷◌, ◌++◌, map, take, length, get_or, refl, sym, ap}
+use Rattle.std.proofs.Common.{ap₂, ◌∙◌, subst, arith, ⊎_elim, All}
 use Rattle.std.proofs.lemmas.Bool.{cases_lt}
 use Rattle.std.proofs.lemmas.List.{length-map, length-append, map-append, take_more, get_or_append_left}
 use Rattle.std.proofs.Math.Seq.{get_or-append_seam, take-length}
@@ -12,7 +13,7 @@ use Rattle.answer_text.specs.declared.stage.Stage.{Stage}
 use Rattle.answer_text.specs.declared.answer.Answer.{Answer}
 use Rattle.answer_text.specs.Right.{IsRightStage, IsRightAutomaton, IsRight, kinds_at, nodes_at}
 use Rattle.violation.proofs.StageLemmas.{optimal_for_fewer}
-use Rattle.ranked_gen.specs.Budgets.{IsWithin, IsOver, IsFirstOver, HasFewKinds, AreAllWithin}
+use Rattle.ranked_gen.specs.Budgets.{IsStageWithin, IsOver, IsFirstOver, HasFewKinds, AreAllWithin}
 use Rattle.ranked_gen.specs.FittingKinds.{FitsStage}
 use Rattle.ranked_gen.specs.Left.{AreStages}
 use Rattle.violation.specs.Problems.{last_stage, Problem}
@@ -34,7 +35,7 @@ nodes_last stages stage s e =
 
 module _ (problem : Problem) (budget : ℕ) where
   pub first_stages : (stage : Stage) → IsRightStage problem 0 stage.nodes.items
-      → All (λ node. FitsStage problem 0 node.kind) stage.nodes.items → IsWithin problem budget 0
+      → All (λ node. FitsStage problem 0 node.kind) stage.nodes.items → IsStageWithin problem budget 0
       → AreStages problem budget 0 (stage ∷ []) []
   first_stages stage right fit within = record {
     stage_count = refl;
@@ -43,7 +44,7 @@ module _ (problem : Problem) (budget : ℕ) where
     fit = λ s l. let first : 0 ≡ s = omega arith in subst
         (λ i. All (λ node. FitsStage problem i node.kind) (nodes_at (stage ∷ []) i)) first fit;
     numbers = λ T o. refl;
-    within = λ s l. let first : 0 ≡ s = omega arith in subst (IsWithin problem budget) first within;
+    within = λ s l. let first : 0 ≡ s = omega arith in subst (IsStageWithin problem budget) first within;
   }
 
   module _ (r : ℕ) (stages : List Stage) (counts : List ℕ) (so_far : AreStages problem budget r stages counts) where
@@ -51,7 +52,7 @@ module _ (problem : Problem) (budget : ℕ) where
         → IsRightStage problem next stage.nodes.items
         → All (λ node. FitsStage problem next node.kind) stage.nodes.items
         → ((T : List (List Sym)) → IsOptimalFor problem next T → count_at problem next T ≡ count)
-        → IsWithin problem budget next
+        → IsStageWithin problem budget next
         → AreStages problem budget next (stages ++ stage ∷ []) (counts ++ count ∷ [])
     next_stages stage count next is inside right fit counted within = record {
       stage_count = omega (arith, length-append stages (stage ∷ []), so_far.stage_count);
@@ -84,7 +85,7 @@ module _ (problem : Problem) (budget : ℕ) where
           (ap (λ i. get_or (counts_on problem T) i 0) (sym place) ∙ counted T o);
       within = λ s l. ⊎_elim
           (λ less. so_far.within s (omega (arith, less)))
-          (λ last. let same : next ≡ s = omega (arith, last) in subst (IsWithin problem budget) same within)
+          (λ last. let same : next ≡ s = omega (arith, last) in subst (IsStageWithin problem budget) same within)
           (cases_lt s (r + 1));
     }
 

@@ -1,10 +1,11 @@
 -- What the shape of a frame's grammar tells of kinds is what the frame tells.
-use Rattle.std.proofs.Common.{◌≡◌, ◌≢◌, ℕ, ◌+◌, ◌-◌, ◌<◌, ◌≤◌, ◌^◌, List, map, filter, take, length, get_or, sym, ap, ◌∙◌, subst, arith, All, AllPairs}
+use Rattle.std.proofs.Common.{◌≡◌, ◌≢◌, ℕ, ◌+◌, ◌-◌, ◌<◌, ◌≤◌, ◌^◌, List, map, filter, take, length, get_or, sym, ap}
+use Rattle.std.proofs.Common.{◌∙◌, subst, arith, All, AllPairs}
 use Rattle.std.proofs.lemmas.List.{length-map, get_or-map}
 use Rattle.std.proofs.lemmas.List.FromFn.{get_or-map-range_with_len}
 use Rattle.tier_core.specs.declared.kind.Kind.{Kind}
 use Rattle.tier_core.specs.declared.shape.Shape.{Shape}
-use Rattle.tier_core.specs.Shapes.{input_count}
+use Rattle.tier_core.specs.Shapes.{masked_count}
 use Rattle.tier_core.specs.Sides.{is_stretch}
 use Rattle.tier_core.specs.Kinds.{AreStretchesBelow, prefix_kind}
 use Rattle.tier_core.specs.KindShapes.{free_count, stretch_count, kind_in}
@@ -15,7 +16,7 @@ use Rattle.violation.specs.Prefixes.{stretches}
 use Rattle.kind_moves.specs.declared.frame.Frame.{Frame}
 use Rattle.kind_moves.specs.Frames.{tiers_in, constraints_in, kind_at_stage, FitsFrame}
 use Rattle.tier_core.specs.EmptyKind.{empty_kind}
-use Rattle.kind_orders.specs.KindOrders.{AreFound, kind_numbered}
+use Rattle.kind_orders.specs.KindOrders.{AreDistinctKinds, kind_numbered}
 use Rattle.ranked_gen.specs.FittingKinds.{FitsStage}
 use Rattle.violation.specs.Problems.{last_stage}
 use Rattle.kind_moves.specs.Frames.{problem_in}
@@ -37,7 +38,7 @@ nodes_fit kind_in_node frame stage kinds fit node is order inside k d l =
 module _ (frame : Frame) (shape : Shape) (of : IsShapeOf frame.grammar.now shape) (stage : ℕ)
     (within : stage ≤ last_stage (problem_in frame)) where
   pub free_same : free_count shape ≡ length (tiers_in frame).free
-  free_same = ap (λ n. n - input_count shape.inputs) of.width
+  free_same = ap (λ n. n - masked_count shape.inputs) of.width
       ∙ free_tiers frame.grammar.now.tiers.kinds.items shape.inputs of.inputs
 
   pub stage_in : stage < length shape.phases.items
@@ -55,7 +56,7 @@ module _ (frame : Frame) (shape : Shape) (of : IsShapeOf frame.grammar.now shape
 
   -- kinds that differ and fit the frame are found
   pub kinds_found : (kinds : List Kind) → All (FitsFrame frame stage) kinds
-      → AllPairs (λ a b. a ≢ b) (map (kind_at_stage frame stage) kinds) → AreFound shape stage kinds
+      → AllPairs (λ a b. a ≢ b) (map (kind_at_stage frame stage) kinds) → AreDistinctKinds shape stage kinds
   kinds_found kinds fit differ = record {
     fit = λ i d l. let f = fit i d l in record {
       within = stage_in;

@@ -1,5 +1,6 @@
 -- A stage whose table is ordered, weighed and pruned is staged.
-use Rattle.std.proofs.Common.{◌≡◌, ℕ, ◌-◌, ◌<◌, ◌≤◌, List, Option, None, Some, map, length, get_or, refl, sym, ap, ◌∙◌, subst, arith, All}
+use Rattle.std.proofs.Common.{◌≡◌, ℕ, ◌-◌, ◌<◌, ◌≤◌, List, Option, None, Some, map, length, get_or, refl, sym, ap, ◌∙◌}
+use Rattle.std.proofs.Common.{subst, arith, All}
 use Rattle.std.specs.Prelude.{◌↔◌}
 use Rattle.std.specs.List.Sorted.{IsStrictlySortedBy}
 use Rattle.std.proofs.lemmas.List.{get_or-map, length-map}
@@ -31,13 +32,13 @@ use Rattle.kind_tables.proofs.Naming.{names_law}
 use Rattle.stage_laws.proofs.Resting.{remaining_law, least_from, some_weight}
 use Rattle.stage_laws.proofs.Optimal.{all_words_law, number_law}
 use Rattle.tier_core.specs.EmptyKind.{empty_kind}
-use Rattle.kind_orders.specs.KindOrders.{kind_numbered, told, IsKindOrder}
+use Rattle.kind_orders.specs.KindOrders.{kind_numbered, prefix_kind_at, IsKindOrder}
 use Rattle.kind_orders.specs.StageNodes.{node_numbered, AreNodesInOrder}
-use Rattle.stage_tables.specs.Kept.{IsKept}
+use Rattle.stage_tables.specs.Kept.{IsKeptTable}
 use Rattle.stage_tables.specs.Explored.{names_at}
 use Rattle.stage_tables.proofs.Named.{frame_stage}
 use Rattle.ranked_gen.specs.FittingKinds.{FitsStage}
-use Rattle.ranked_gen.specs.Left.{weight_number, IsStaged}
+use Rattle.ranked_gen.specs.Left.{weight_number, IsCountedOutcome}
 use Rattle.ranked_gen.proofs.OrderedNames.{count_kinds, name_is, first_number, kept_by_names, ordered, tells}
 use Rattle.ranked_gen.proofs.StageShapes.{free_same, stretch_same, nodes_fit}
 use Rattle.violation.specs.Problems.{last_stage}
@@ -84,7 +85,7 @@ module _ (frame : Frame) (stage : ℕ) (within : stage ≤ last_stage (problem_i
   module _ (shape : Shape) (of : IsShapeOf frame.grammar.now shape) (order : List ℕ)
       (sorted : IsKindOrder shape stage kinds order)
       (nodes : List Node) (listed : AreNodesInOrder kinds (map weight_number least) order nodes) where
-    kinds_seen : kinds_at (problem_in frame) stage nodes ≡ map (told shape stage kinds) order
+    kinds_seen : kinds_at (problem_in frame) stage nodes ≡ map (prefix_kind_at shape stage kinds) order
     kinds_seen =
         sym (ap (λ n. map (λ (node : Node). prefix_kind n (stretch_count shape stage) node.kind) nodes)
         (free_same frame shape of stage within)
@@ -117,7 +118,7 @@ module _ (frame : Frame) (stage : ℕ) (within : stage ≤ last_stage (problem_i
     module _ {h : Ghosts UnitWeight} (pruned : List (TableState UnitWeight h)) (old : List ℕ)
         (tight : IsTight states pruned old) (some : 0 < length pruned) (targets : TargetsExist pruned)
         (filled : ClassesFilled pruned) where
-      kept_by : IsKept (problem_in frame) stage pruned
+      kept_by : IsKeptTable (problem_in frame) stage pruned
       kept_by = (
         names_kept (names_at frame stage kinds) old,
         record {
@@ -133,7 +134,7 @@ module _ (frame : Frame) (stage : ℕ) (within : stage ≤ last_stage (problem_i
           (λ a. law.0 ((tight.accepts T).0 a), λ o. (tight.accepts T).1 (law.1 o))
 
       pub staged : All (FitsFrame frame stage) kinds
-          → IsStaged (problem_in frame) stage nodes (get_or (map weight_number least) 0 0) pruned old order
+          → IsCountedOutcome (problem_in frame) stage nodes (get_or (map weight_number least) 0 0) pruned old order
       staged fit = record {
         left = record {
           right = right_stage;

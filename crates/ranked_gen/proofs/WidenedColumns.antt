@@ -1,5 +1,6 @@
 -- Columns of a form widened to all tiers, with one symbol on the tiers of some flags.
-use Rattle.std.proofs.Common.{◌≡◌, ℕ, zero, suc, ◌<◌, ◌≢◌, ◌==◌, Bool, true, false, cond, List, [], ◌∷◌, map, length, get_or, filter, Contains, IsTrue, refl, sym, ap, ◌∙◌, ⊎_elim, ext_get_or, arith}
+use Rattle.std.proofs.Common.{◌≡◌, ℕ, zero, suc, ◌<◌, ◌≢◌, ◌==◌, Bool, true, false, cond, List, [], ◌∷◌, map, length}
+use Rattle.std.proofs.Common.{get_or, filter, Contains, IsTrue, refl, sym, ap, ◌∙◌, ⊎_elim, ext_get_or, arith}
 use Rattle.std.specs.List.{AllByRecursion, range_with_len}
 use Rattle.std.proofs.lemmas.Bool.{eq-eqb, ne_eqb, cond-true, cond-false}
 use Rattle.std.proofs.lemmas.List.{get_or_default, get_or-map, length-map}
@@ -8,7 +9,7 @@ use Rattle.std.proofs.lemmas.List.FromFn.{length-map-range_with_len, get_or-map-
 use Rattle.std.proofs.lemmas.List.Folds.{list_any_none}
 use Rattle.tier_core.specs.declared.sym.Sym.{Sym}
 use Rattle.tier_core.specs.declared.sym.Sym.TheVariants.{Outside}
-use Rattle.tier_core.specs.Timelines.{symbol, word, is_edge, has_edge, project, squeeze, IsWellFormed, IsReduced}
+use Rattle.tier_core.specs.Timelines.{symbol, tier_word, is_edge, has_edge, project, squeeze, IsWellFormed, IsReduced}
 use Rattle.tier_core.proofs.WordLemmas.{runs}
 use Rattle.tier_core.proofs.WordForm.{runs_from_well_formed}
 use Rattle.tier_core.specs.Tiers.{Tiers}
@@ -75,7 +76,7 @@ module _ (tiers : Tiers) (flag : ℕ → Bool) (s : Sym) where
 
   -- a tier of a flag has the one symbol at each column
   pub word_flagged : (u : List (List Sym)) (t : ℕ) → t < tiers.width → flag t ≡ true
-      → word (map (over tiers flag s) u) t ≡ map (λ c. s) u
+      → tier_word (map (over tiers flag s) u) t ≡ map (λ c. s) u
   word_flagged [] t l h = refl
   word_flagged (c ∷ u) t l h =
       let first : symbol (over tiers flag s c) t ≡ s = symbol_over c t l
@@ -85,7 +86,7 @@ module _ (tiers : Tiers) (flag : ℕ → Bool) (s : Sym) where
 
   -- a tier that is neither flagged nor an input tier has nothing
   pub word_outside : (u : List (List Sym)) (t : ℕ) → t < tiers.width → flag t ≡ false → (Contains tiers.input t → ⊥)
-      → word (map (over tiers flag s) u) t ≡ map (λ c. Outside) u
+      → tier_word (map (over tiers flag s) u) t ≡ map (λ c. Outside) u
   word_outside [] t l h o = refl
   word_outside (c ∷ u) t l h o =
       let first : symbol (over tiers flag s c) t ≡ Outside = symbol_over c t l
@@ -106,7 +107,7 @@ module _ (tiers : Tiers) (flag : ℕ → Bool) (s : Sym) where
 
     -- an input tier reads as the form's tier
     pub word_input : (u : List (List Sym)) (j : ℕ) → j < length tiers.input
-        → word (map (over tiers flag s) u) (get_or tiers.input j 0) ≡ word u j
+        → tier_word (map (over tiers flag s) u) (get_or tiers.input j 0) ≡ tier_word u j
     word_input [] j l = refl
     word_input (c ∷ u) j l =
         let first = symbol_over_input c j l in
@@ -140,12 +141,12 @@ module _ (tiers : Tiers) (flag : ℕ → Bool) (s : Sym) where
 
     -- an input tier reads as the form's tier, and a free one that is not flagged is empty
     pub over_runs : (u : List (List Sym)) (t : ℕ) → IsWellFormed (length tiers.input) u → t < tiers.width
-        → flag t ≡ false → runs false (word (map (over tiers flag s) u) t) ≡ true
+        → flag t ≡ false → runs false (tier_word (map (over tiers flag s) u) t) ≡ true
     over_runs u t wf l h = ⊎_elim
         (λ i.
         let at : get_or tiers.input i.0 0 ≡ t = get_or_default tiers.input i.0 0 t i.1 ∙ i.2 in
-        ap (λ (x : ℕ). runs false (word (map (over tiers flag s) u) x)) (sym at)
-        ∙ ap (runs false) (word_input u i.0 i.1) ∙ runs_from_well_formed (word u i.0) (wf.each_tier i.0 i.1))
+        ap (λ (x : ℕ). runs false (tier_word (map (over tiers flag s) u) x)) (sym at)
+        ∙ ap (runs false) (word_input u i.0 i.1) ∙ runs_from_well_formed (tier_word u i.0) (wf.each_tier i.0 i.1))
         (λ f. ap (runs false) (word_outside u t l h (λ i. split.apart t i f)) ∙ runs_outside u)
         (split.each t l)
 

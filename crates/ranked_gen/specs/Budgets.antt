@@ -11,8 +11,8 @@ pub record IsOver (problem : Problem) (budget r : ℕ) : Type 0 where
   pub more : budget < length kinds
 
 -- stage r has no more kinds than the budget
-abbrev pub IsWithin : Problem → ℕ → ℕ → Type 0
-IsWithin problem budget r = (kinds : List PrefixKind) → AreKindsOfStage problem r kinds → length kinds ≤ budget
+abbrev pub IsStageWithin : Problem → ℕ → ℕ → Type 0
+IsStageWithin problem budget r = (kinds : List PrefixKind) → AreKindsOfStage problem r kinds → length kinds ≤ budget
 
 -- stage r has its list of kinds, and that is no longer than the budget
 pub record HasFewKinds (problem : Problem) (budget r : ℕ) : Type 0 where
@@ -26,11 +26,11 @@ HaveFewKinds problem budget = (r : ℕ) → r ≤ last_stage problem → HasFewK
 
 -- no stage has more kinds than the budget
 abbrev pub AreAllWithin : Problem → ℕ → Type 0
-AreAllWithin problem budget = (r : ℕ) → r ≤ last_stage problem → IsWithin problem budget r
+AreAllWithin problem budget = (r : ℕ) → r ≤ last_stage problem → IsStageWithin problem budget r
 
 -- stage r is the first that has more kinds than the budget; those before have their lists
 pub record IsFirstOver (problem : Problem) (budget r : ℕ) : Type 0 where
   pub stage : r ≤ last_stage problem
   pub over : IsOver problem budget r
-  pub before : (s : ℕ) → s < r → IsWithin problem budget s
+  pub before : (s : ℕ) → s < r → IsStageWithin problem budget s
   pub listed : (s : ℕ) → s < r → HasFewKinds problem budget s

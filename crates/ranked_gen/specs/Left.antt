@@ -14,9 +14,9 @@ use Rattle.answer_text.specs.declared.stage.Node.{Node}
 use Rattle.answer_text.specs.declared.stage.Stage.{Stage}
 use Rattle.answer_text.specs.Right.{IsRightStage, nodes_at}
 use Rattle.kind_orders.specs.Orderings.{IsOrdering}
-use Rattle.kind_orders.specs.Automata.{Reaches}
-use Rattle.stage_tables.specs.Kept.{IsKept}
-use Rattle.ranked_gen.specs.Budgets.{IsWithin}
+use Rattle.kind_orders.specs.Automata.{ReadsTo}
+use Rattle.stage_tables.specs.Kept.{IsKeptTable}
+use Rattle.ranked_gen.specs.Budgets.{IsStageWithin}
 use Rattle.ranked_gen.specs.FittingKinds.{FitsStage}
 use Rattle.violation.specs.Problems.{Problem}
 
@@ -26,7 +26,7 @@ weight_number None = 0
 weight_number (Some w) = w.0
 
 -- node number n encodes this kind, under the first r constraints
-pub record TellsKind (problem : Problem) (r : ℕ) (nodes : List Node) (n : ℕ) (k : PrefixKind) : Type 0 where
+pub record IsNodeOfKind (problem : Problem) (r : ℕ) (nodes : List Node) (n : ℕ) (k : PrefixKind) : Type 0 where
   pub node : Node
   pub numbered : slice_get nodes n ≡ Some node
   pub tells : kind_of_bits problem r node.kind ≡ k
@@ -41,23 +41,23 @@ pub record AreOrdered (order states : List ℕ) (count : ℕ) : Type 0 where
 -- What stage r leaves: its nodes are right, with kinds that fit, and the kept table accepts exactly the r-optimal
 -- candidates. Its states have numbers of an order, of which the start's is the first, and the node
 -- at the place of a state's number encodes the kind of each prefix that leads to the state.
-pub record IsLeft {g : Ghosts UnitWeight} (problem : Problem) (r : ℕ) (nodes : List Node)
+pub record IsStageOutcome {g : Ghosts UnitWeight} (problem : Problem) (r : ℕ) (nodes : List Node)
     (kept : List (TableState UnitWeight g)) (states order : List ℕ) : Type 0 where
   pub right : IsRightStage problem r nodes
   pub fit : All (λ node. FitsStage problem r node.kind) nodes
-  pub kept_by : IsKept problem r kept
+  pub kept_by : IsKeptTable problem r kept
   pub accepts : (T : List (List Sym)) → Accepts kept T ↔ IsOptimalFor problem r T
   pub ordered : AreOrdered order states (length kept)
   pub start : slice_index order 0 ≡ slice_index states 0
-  pub tells : (p : List (List Sym)) (s place : ℕ) → s < length kept → Reaches kept p s → place < length order
+  pub tells : (p : List (List Sym)) (s place : ℕ) → s < length kept → ReadsTo kept p s → place < length order
       → slice_index order place ≡ slice_index states s
-      → TellsKind problem r nodes place (kind_of problem r p)
+      → IsNodeOfKind problem r nodes place (kind_of problem r p)
 
 -- and the count is the number of constraint r, counted from 1, of each r-optimal candidate, where r is
 -- not 0
-pub record IsStaged {g : Ghosts UnitWeight} (problem : Problem) (r : ℕ) (nodes : List Node) (count : ℕ)
+pub record IsCountedOutcome {g : Ghosts UnitWeight} (problem : Problem) (r : ℕ) (nodes : List Node) (count : ℕ)
     (kept : List (TableState UnitWeight g)) (states order : List ℕ) : Type 0 where
-  pub left : IsLeft problem r nodes kept states order
+  pub left : IsStageOutcome problem r nodes kept states order
   pub counted : (T : List (List Sym)) → IsOptimalFor problem r T → 1 ≤ r → count_at problem r T ≡ count
 
 -- The stages up to r are right and within the budget, their kinds fit them, and the counts are the first r numbers of
@@ -67,10 +67,10 @@ pub record AreStages (problem : Problem) (budget r : ℕ) (stages : List Stage) 
   pub each_stage : (s : ℕ) → s ≤ r → IsRightStage problem s (nodes_at stages s)
   pub fit : (s : ℕ) → s ≤ r → All (λ node. FitsStage problem s node.kind) (nodes_at stages s)
   pub numbers : (T : List (List Sym)) → IsOptimalFor problem r T → take r (counts_on problem T) ≡ counts
-  pub within : (s : ℕ) → s ≤ r → IsWithin problem budget s
+  pub within : (s : ℕ) → s ≤ r → IsStageWithin problem budget s
 
 -- These are the stages up to r, the counts of their constraints, and what the last of them leaves.
 pub record IsRanked {g : Ghosts UnitWeight} (problem : Problem) (budget r : ℕ) (stages : List Stage) (counts : List ℕ)
     (kept : List (TableState UnitWeight g)) (states order : List ℕ) : Type 0 where
   pub so_far : AreStages problem budget r stages counts
-  pub left : IsLeft problem r (nodes_at stages r) kept states order
+  pub left : IsStageOutcome problem r (nodes_at stages r) kept states order

@@ -19,5 +19,5 @@ abbrev pub number_of_kind : ℕ → PrefixKind → ℕ
 number_of_kind f k = k.place * 2 ^ f + number_of_flags k.opened
 
 -- the kind of a number
-abbrev pub kind_numbered : ℕ → ℕ → PrefixKind
-kind_numbered f n = record { place = n / 2 ^ f; opened = flags_of f n; phases = [] }
+abbrev pub kind_of_number : ℕ → ℕ → PrefixKind
+kind_of_number f n = record { place = n / 2 ^ f; opened = flags_of f n; phases = [] }

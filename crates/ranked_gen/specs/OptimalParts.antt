@@ -9,9 +9,9 @@ use Rattle.arc_table.specs.Runs.{Accepts, IsOnRun}
 use Rattle.violation.specs.Candidates.{IsOptimalFor}
 use Rattle.violation.specs.Prefixes.{kind_of}
 use Rattle.answer_text.specs.declared.stage.Node.{Node}
-use Rattle.kind_orders.specs.Automata.{Reaches}
+use Rattle.kind_orders.specs.Automata.{ReadsTo}
 use Rattle.kind_tables.specs.StageTables.{AreNamedByKinds}
-use Rattle.ranked_gen.specs.Left.{TellsKind, AreOrdered}
+use Rattle.ranked_gen.specs.Left.{IsNodeOfKind, AreOrdered}
 use Rattle.violation.specs.Problems.{Problem}
 
 -- The kept table accepts exactly the r-optimal candidates. Its states are named by kinds and are on
@@ -25,6 +25,6 @@ pub record IsOptimalPart {g : Ghosts UnitWeight} (problem : Problem) (r : ℕ) (
   pub accepts : (T : List (List Sym)) → Accepts kept T ↔ IsOptimalFor problem r T
   pub ordered : AreOrdered order states (length kept)
   pub start : slice_index order 0 ≡ slice_index states 0
-  pub tells : (p : List (List Sym)) (s place : ℕ) → s < length kept → Reaches kept p s → place < length order
+  pub tells : (p : List (List Sym)) (s place : ℕ) → s < length kept → ReadsTo kept p s → place < length order
       → slice_index order place ≡ slice_index states s
-      → TellsKind problem r nodes place (kind_of problem r p)
+      → IsNodeOfKind problem r nodes place (kind_of problem r p)

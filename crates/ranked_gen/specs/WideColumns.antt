@@ -13,5 +13,5 @@ symbol_on (x ∷ xs) [] t = Outside
 symbol_on (x ∷ xs) (s ∷ ss) t = if x == t then s else symbol_on xs ss t
 
 -- a column of a form, widened to all tiers
-abbrev pub widened : Tiers → List Sym → List Sym
-widened tiers column = map (symbol_on tiers.input column) (range_with_len 0 tiers.width)
+abbrev pub wide_column : Tiers → List Sym → List Sym
+wide_column tiers column = map (symbol_on tiers.input column) (range_with_len 0 tiers.width)

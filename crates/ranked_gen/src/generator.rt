@@ -2,7 +2,7 @@ ghost use Rattle.std.specs.Prelude.{◌≡◌, ◌≤◌, ◌*◌, ◌^◌, ℕ,
 ghost use Rattle.arc_table.specs.States.{states_of};
 ghost use Rattle.tier_core.specs.Tables.{tiers_of_table};
 ghost use Rattle.violation.specs.Candidates.{IsForm};
-ghost use Rattle.violation.specs.Problems.{asked, last_stage};
+ghost use Rattle.violation.specs.Problems.{problem_from, last_stage};
 ghost use Rattle.answer_text.specs.Right.{IsRight};
 ghost use Rattle.kind_moves.specs.Frames.{problem_in};
 ghost use Rattle.kind_orders.specs.JoinedArcs.{HaveJoinedArcs};
@@ -11,7 +11,7 @@ ghost use Rattle.ranked_gen.specs.FittingKinds.{HaveFittingKinds};
 ghost use Rattle.ranked_gen.specs.Left.{IsRanked};
 
 use crate::gen_err::GenErr;
-use crate::ranked::{Ranked, all_ranked, answered};
+use crate::ranked::{Ranked, all_ranked, whole_answer};
 use crate::staged::{Staged, first_stage};
 use answer_text::{Answer, Stage};
 use grammar_reader::Grammar;
@@ -40,7 +40,7 @@ fn one_stage(alloc: Global, stage: Stage) -> Result<Vec<Stage>, NoMemory>
 }
 
 /// Stage 0 alone, which counts nothing, with what it leaves. It fails only if memory runs out.
-fn started(alloc: Global, first: Staged) -> Result<Ranked, NoMemory>
+fn stage_zero(alloc: Global, first: Staged) -> Result<Ranked, NoMemory>
     ensures stages { IfOk result (λ all. all.stages.items ≡ first.stage ∷ []) }
     ensures counts { IfOk result (λ all. all.counts.items ≡ []) }
     ensures left { IfOk result (λ all. all.left ≡ first.left) }
@@ -77,7 +77,7 @@ fn stages_in(alloc: Global, frame: &Frame, budget: u32) -> Result<Ranked, GenErr
         Ok(first) => first,
         Err(cause) => return Err(cause),
     };
-    match started(alloc, first) {
+    match stage_zero(alloc, first) {
         Ok(start) => all_ranked(alloc, frame, start, budget),
         Err(_) => Err(GenErr::NoMemory),
     }
@@ -96,7 +96,7 @@ fn answer_in(alloc: Global, frame: &Frame, budget: u32) -> Result<Answer, GenErr
         → IsFirstOver (problem_in frame.now) budget stage }
 {
     match stages_in(alloc, frame, budget) {
-        Ok(ranked) => answered(alloc, frame, ranked).map_err(|_| GenErr::NoMemory),
+        Ok(ranked) => whole_answer(alloc, frame, ranked).map_err(|_| GenErr::NoMemory),
         Err(cause) => Err(cause),
     }
 }
@@ -121,20 +121,23 @@ pub fn generate(
     requires few { budget ≤ 65536 }
     ensures right { IfOk result
         (λ answer.
-        IsRight (asked grammar.now.tiers grammar.now.constraints.items form.now) answer) }
+        IsRight (problem_from grammar.now.tiers grammar.now.constraints.items form.now) answer) }
     ensures fitting { IfOk result
         (λ answer.
-        HaveFittingKinds (asked grammar.now.tiers grammar.now.constraints.items form.now) answer) }
+        HaveFittingKinds (problem_from grammar.now.tiers grammar.now.constraints.items form.now)
+        answer) }
     ensures joined { IfOk result (λ answer. HaveJoinedArcs answer.automaton.states.items) }
     ensures within { IfOk result
         (λ answer.
-        AreAllWithin (asked grammar.now.tiers grammar.now.constraints.items form.now) budget) }
+        AreAllWithin (problem_from grammar.now.tiers grammar.now.constraints.items form.now)
+        budget) }
     ensures listed { IfOk result
         (λ answer.
-        HaveFewKinds (asked grammar.now.tiers grammar.now.constraints.items form.now) budget) }
+        HaveFewKinds (problem_from grammar.now.tiers grammar.now.constraints.items form.now)
+        budget) }
     ensures over { (stage : ℕ) → result ≡ Err (GenErr.Budget stage)
         → IsFirstOver
-        (asked grammar.now.tiers grammar.now.constraints.items form.now) budget stage }
+        (problem_from grammar.now.tiers grammar.now.constraints.items form.now) budget stage }
 {
     let free = grammar.tiers.free_count() as u32;
     let kinds = count_kinds(form.len() as u32 + 1, free);

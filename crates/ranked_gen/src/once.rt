@@ -3,7 +3,7 @@ ghost use Rattle.arc_table.specs.Runs.{Accepts};
 ghost use Rattle.arc_table.specs.States.{states_of};
 ghost use Rattle.tier_core.specs.Tables.{tiers_of_table};
 ghost use Rattle.violation.specs.Candidates.{IsForm};
-ghost use Rattle.violation.specs.Problems.{asked, last_stage};
+ghost use Rattle.violation.specs.Problems.{problem_from, last_stage};
 ghost use Rattle.violation.specs.Rests.{AreWholeKindsOver, AreWholeKindsWithin};
 ghost use Rattle.answer_text.specs.RightOnce.{IsRightOnce};
 ghost use Rattle.kind_moves.specs.Frames.{problem_in};
@@ -20,7 +20,7 @@ use answer_text::{OnceAnswer, OnceNode};
 use distances::to_final;
 use grammar_reader::Grammar;
 use kind_moves::Frame;
-use kind_orders::ordered;
+use kind_orders::order_of_kinds;
 use prune_best::tight;
 use stage_tables::{ExploreErr, StageTable, explore_all, ranked_table};
 use std::alloc::{AllocError, Global};
@@ -85,7 +85,7 @@ fn single_pass(alloc: Global, frame: &Frame, found: &StageTable) -> Result<Once,
     let table = ranked_table(alloc, frame, found)?;
     let least = to_final(alloc, &table)?;
     let number = frame.grammar.constraints.len();
-    let order = ordered(alloc, &frame.shape, number as u32, &found.kinds)?;
+    let order = order_of_kinds(alloc, &frame.shape, number as u32, &found.kinds)?;
     let Ok(nodes) = once_nodes(alloc, &found.kinds, &least, &order) else {
         return Err(NoMemory);
     };
@@ -101,13 +101,13 @@ fn single_pass(alloc: Global, frame: &Frame, found: &StageTable) -> Result<Once,
 }
 
 /// The answer of a single pass. Fails only if memory runs out.
-fn once_answered(alloc: Global, frame: &Frame, found: &StageTable) -> Result<OnceAnswer, NoMemory>
+fn once_answer(alloc: Global, frame: &Frame, found: &StageTable) -> Result<OnceAnswer, NoMemory>
     requires { IsWholeTable frame.now found.now.kinds.items (states_of found.now.table) }
     ensures right { IfOk result (λ answer. IsRightOnce (problem_in frame.now) answer) }
     ensures fitting { IfOk result (λ answer. HaveFittingKindsOnce (problem_in frame.now) answer) }
     ensures joined { IfOk result (λ answer. HaveJoinedArcs answer.automaton.states.items) }
 {
-    let form = frame.form.copied(alloc)?;
+    let form = frame.form.copy(alloc)?;
     let Once {
         nodes,
         counts,
@@ -137,7 +137,7 @@ fn once_in(alloc: Global, frame: &Frame, budget: u32) -> Result<OnceAnswer, GenE
 {
     let stage = frame.grammar.constraints.len() as u32;
     match explore_all(alloc, frame, stage, budget) {
-        Ok(found) => once_answered(alloc, frame, &found).map_err(|_| GenErr::NoMemory),
+        Ok(found) => once_answer(alloc, frame, &found).map_err(|_| GenErr::NoMemory),
         Err(ExploreErr::OverBudget) => Err(GenErr::Budget { stage }),
         Err(ExploreErr::NoMemory) => Err(GenErr::NoMemory),
     }
@@ -162,20 +162,21 @@ pub fn generate_once(
     requires few { budget ≤ 65536 }
     ensures right { IfOk result
         (λ answer.
-        IsRightOnce (asked grammar.now.tiers grammar.now.constraints.items form.now) answer) }
+        IsRightOnce (problem_from grammar.now.tiers grammar.now.constraints.items form.now)
+        answer) }
     ensures fitting { IfOk result
         (λ answer.
         HaveFittingKindsOnce
-        (asked grammar.now.tiers grammar.now.constraints.items form.now) answer) }
+        (problem_from grammar.now.tiers grammar.now.constraints.items form.now) answer) }
     ensures joined { IfOk result (λ answer. HaveJoinedArcs answer.automaton.states.items) }
     ensures within { IfOk result
         (λ answer.
         AreWholeKindsWithin
-        (asked grammar.now.tiers grammar.now.constraints.items form.now) budget) }
+        (problem_from grammar.now.tiers grammar.now.constraints.items form.now) budget) }
     ensures over { (stage : ℕ) → result ≡ Err (GenErr.Budget stage)
         → (stage ≡ length grammar.now.constraints.items)
         × AreWholeKindsOver
-        (asked grammar.now.tiers grammar.now.constraints.items form.now) budget }
+        (problem_from grammar.now.tiers grammar.now.constraints.items form.now) budget }
 {
     let free = grammar.tiers.free_count() as u32;
     let kinds = count_kinds(form.len() as u32 + 1, free);

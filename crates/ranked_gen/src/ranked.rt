@@ -100,7 +100,7 @@ pub(crate) fn all_ranked(
 }
 
 /// The answer of all stages of a frame. Fails only if memory runs out.
-pub(crate) fn answered(alloc: Global, frame: &Frame, ranked: Ranked) -> Result<Answer, NoMemory>
+pub(crate) fn whole_answer(alloc: Global, frame: &Frame, ranked: Ranked) -> Result<Answer, NoMemory>
     requires ranked { (budget : ℕ)
         × IsRanked (problem_in frame.now) budget
         (last_stage (problem_in frame.now)) ranked.stages.items ranked.counts.items
@@ -109,7 +109,7 @@ pub(crate) fn answered(alloc: Global, frame: &Frame, ranked: Ranked) -> Result<A
     ensures fitting { IfOk result (λ answer. HaveFittingKinds (problem_in frame.now) answer) }
     ensures joined { IfOk result (λ answer. HaveJoinedArcs answer.automaton.states.items) }
 {
-    let own = frame.form.copied(alloc)?;
+    let own = frame.form.copy(alloc)?;
     let Ranked {
         stages,
         counts,

@@ -6,11 +6,11 @@ ghost use Rattle.violation.specs.Candidates.{IsOptimalFor};
 ghost use Rattle.kind_moves.specs.Frames.{stretches_in, FitsFrame};
 ghost use Rattle.kind_orders.specs.KindOrders.{kind_numbered};
 ghost use Rattle.kind_tables.specs.StageTables.{IsStageTable};
-ghost use Rattle.stage_tables.specs.Kept.{IsKept};
+ghost use Rattle.stage_tables.specs.Kept.{IsKeptTable};
 ghost use Rattle.stage_tables.specs.Explored.{names_at};
-ghost use Rattle.ranked_gen.specs.Budgets.{IsOver, IsWithin};
+ghost use Rattle.ranked_gen.specs.Budgets.{IsOver, IsStageWithin};
 ghost use Rattle.ranked_gen.specs.KindsLeft.{AreKindsLeft};
-ghost use Rattle.ranked_gen.specs.Left.{IsStaged, weight_number};
+ghost use Rattle.ranked_gen.specs.Left.{IsCountedOutcome, weight_number};
 ghost use Rattle.violation.specs.Problems.{last_stage};
 ghost use Rattle.kind_moves.specs.Frames.{problem_in};
 
@@ -19,7 +19,7 @@ use answer_text::Stage;
 use arc_table::Table;
 use distances::to_final;
 use kind_moves::Frame;
-use kind_orders::{ordered, stage_of};
+use kind_orders::{order_of_kinds, stage_of};
 use prune_best::{Tight, tight};
 use stage_tables::{ExploreErr, explore, explore_all, weigh};
 use std::alloc::{AllocError, Global};
@@ -81,7 +81,7 @@ fn kinds_of(alloc: Global, kinds: &[Kind], numbers: &[u32]) -> Result<Vec<Kind>,
 
 /// The nodes of a table whose states stand for kinds, one by one, and what its constraint leaves.
 /// Fails only if memory runs out.
-fn pruned(
+fn prune(
     alloc: Global,
     frame: &Frame,
     stage: u32,
@@ -94,7 +94,7 @@ fn pruned(
     requires fit { All (FitsFrame frame.now stage) kinds.now }
     ensures staged { IfOk result
         (λ staged.
-        IsStaged (problem_in frame.now) stage staged.stage.nodes.items staged.count
+        IsCountedOutcome (problem_in frame.now) stage staged.stage.nodes.items staged.count
         (states_of staged.left.kept.table) staged.left.kept.states.items staged.left.order.items) }
     ensures kinds { IfOk result
         (λ staged.
@@ -105,7 +105,7 @@ fn pruned(
     let Ok(potentials) = potentials_of(alloc, &least) else {
         return Err(NoMemory);
     };
-    let order = ordered(alloc, &frame.shape, stage, kinds)?;
+    let order = order_of_kinds(alloc, &frame.shape, stage, kinds)?;
     let nodes = stage_of(alloc, kinds, &potentials, &order)?;
     let kept = tight(alloc, table, &least)?;
     let left = kinds_of(alloc, kinds, &kept.states)?;
@@ -124,19 +124,19 @@ pub(crate) fn first_stage(alloc: Global, frame: &Frame, budget: u32) -> Result<S
     requires few { budget ≤ 65536 }
     ensures staged { IfOk result
         (λ staged.
-        IsStaged (problem_in frame.now) 0 staged.stage.nodes.items staged.count
+        IsCountedOutcome (problem_in frame.now) 0 staged.stage.nodes.items staged.count
         (states_of staged.left.kept.table) staged.left.kept.states.items staged.left.order.items) }
     ensures kinds { IfOk result
         (λ staged.
         AreKindsLeft frame.now 0 (states_of staged.left.kept.table) staged.kinds.items) }
     ensures few { IfOk result (λ staged. length staged.kinds.items ≤ budget) }
-    ensures within { IfOk result (λ staged. IsWithin (problem_in frame.now) budget 0) }
+    ensures within { IfOk result (λ staged. IsStageWithin (problem_in frame.now) budget 0) }
     ensures over { (s : ℕ) → result ≡ Err (GenErr.Budget s)
         → (s ≡ 0) × IsOver (problem_in frame.now) budget 0 }
 {
     match explore_all(alloc, frame, 0, budget) {
         Ok(found) => {
-            pruned(alloc, frame, 0, &found.kinds, &found.table).map_err(|_| GenErr::NoMemory)
+            prune(alloc, frame, 0, &found.kinds, &found.table).map_err(|_| GenErr::NoMemory)
         }
         Err(ExploreErr::OverBudget) => Err(GenErr::Budget { stage: 0 }),
         Err(ExploreErr::NoMemory) => Err(GenErr::NoMemory),
@@ -166,7 +166,7 @@ pub(crate) fn next_stage(
 ) -> Result<Staged, GenErr>
     requires some { 1 ≤ stage }
     requires within { stage ≤ last_stage (problem_in frame.now) }
-    requires kept { IsKept (problem_in frame.now) (stage - 1) (states_of kept) }
+    requires kept { IsKeptTable (problem_in frame.now) (stage - 1) (states_of kept) }
     requires accepts { (T : List (List Sym)) → Accepts (states_of kept) T
         ↔ IsOptimalFor (problem_in frame.now) (stage - 1) T }
     requires kinds { AreKindsLeft frame.now (stage - 1) (states_of kept) kinds.now }
@@ -175,13 +175,13 @@ pub(crate) fn next_stage(
     requires few { budget ≤ 65536 }
     ensures staged { IfOk result
         (λ staged.
-        IsStaged (problem_in frame.now) stage staged.stage.nodes.items staged.count
+        IsCountedOutcome (problem_in frame.now) stage staged.stage.nodes.items staged.count
         (states_of staged.left.kept.table) staged.left.kept.states.items staged.left.order.items) }
     ensures kinds { IfOk result
         (λ staged.
         AreKindsLeft frame.now stage (states_of staged.left.kept.table) staged.kinds.items) }
     ensures few { IfOk result (λ staged. length staged.kinds.items ≤ budget) }
-    ensures within { IfOk result (λ staged. IsWithin (problem_in frame.now) budget stage) }
+    ensures within { IfOk result (λ staged. IsStageWithin (problem_in frame.now) budget stage) }
     ensures over { (s : ℕ) → result ≡ Err (GenErr.Budget s)
         → (s ≡ stage) × IsOver (problem_in frame.now) budget stage }
 {
@@ -189,11 +189,11 @@ pub(crate) fn next_stage(
         let Ok(table) = weigh(alloc, frame, stage, kept, kinds) else {
             return Err(GenErr::NoMemory);
         };
-        return pruned(alloc, frame, stage, kinds, &table).map_err(|_| GenErr::NoMemory);
+        return prune(alloc, frame, stage, kinds, &table).map_err(|_| GenErr::NoMemory);
     }
     match explore(alloc, frame, stage - 1, stage, &kept, budget) {
         Ok(found) => {
-            pruned(alloc, frame, stage, &found.kinds, &found.table).map_err(|_| GenErr::NoMemory)
+            prune(alloc, frame, stage, &found.kinds, &found.table).map_err(|_| GenErr::NoMemory)
         }
         Err(ExploreErr::OverBudget) => Err(GenErr::Budget { stage }),
         Err(ExploreErr::NoMemory) => Err(GenErr::NoMemory),

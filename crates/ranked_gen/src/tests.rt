@@ -1,7 +1,7 @@
 ghost use Rattle.std.specs.Prelude.{IsTrue};
 ghost use Rattle.tier_core.specs.Tables.{tiers_of_table};
 ghost use Rattle.violation.specs.Candidates.{IsForm};
-ghost use Rattle.violation.specs.Problems.{asked};
+ghost use Rattle.violation.specs.Problems.{problem_from};
 
 use crate::{GenErr, generate, generate_once};
 use answer_text::{Answer, OnceAnswer};
@@ -133,7 +133,7 @@ fn passed(
 
 /// The number of nodes of a single pass, and whether its counts and example are those that the stages
 /// give with this budget; or its error.
-fn compared(
+fn agreement(
     alloc: Global,
     text: &[u8],
     form: &[u8],
@@ -161,7 +161,7 @@ fn try_passes(rt: &impl Abort, alloc: Global, grammar: &[u8], rows: &str) -> Res
         let form = cells.next().ok_or("no form")?.as_bytes();
         let stages = cells.next().ok_or("no budget")?.parse::<u32>()?;
         let budget = cells.next().ok_or("no budget")?.parse::<u32>()?;
-        let found = compared(alloc, grammar, form, stages, budget).ok_or("not asked")?;
+        let found = agreement(alloc, grammar, form, stages, budget).ok_or("not asked")?;
         let told = format!(in alloc; "{found:?}")?;
         assert_eq!(rt; told.as_str(), cells.next().ok_or("no answer")?, "{row}");
     }

@@ -1,5 +1,6 @@
 -- Right answers are orderly.
-use Rattle.std.proofs.Common.{◌≡◌, ℕ, zero, suc, ◌+◌, ◌<◌, ◌≤◌, true, List, [], ◌∷◌, map, length, get_or, refl, ap, sym, ◌∙◌, subst, arith, All, Contains}
+use Rattle.std.proofs.Common.{◌≡◌, ℕ, zero, suc, ◌+◌, ◌<◌, ◌≤◌, true, List, [], ◌∷◌, map, length, get_or, refl, ap, sym}
+use Rattle.std.proofs.Common.{◌∙◌, subst, arith, All, Contains}
 use Rattle.std.specs.List.{AllByRecursion, list_all, list_any}
 use Rattle.std.specs.List.Sorted.{IsStrictlySortedBy}
 use Rattle.std.proofs.lemmas.Bool.{and_parts, false≢true}
@@ -12,7 +13,7 @@ use Rattle.tier_core.specs.Classes.{has, sets_of}
 use Rattle.tier_core.specs.Kinds.{kind_order, prefix_kind}
 use Rattle.tier_core.specs.KindShapes.{free_count}
 use Rattle.tier_core.specs.Sets.{is_in}
-use Rattle.tier_core.specs.Shapes.{input_count}
+use Rattle.tier_core.specs.Shapes.{masked_count}
 use Rattle.tier_core.specs.Symbols.{symbols}
 use Rattle.tier_core.specs.Timelines.{IsWellFormed}
 use Rattle.tier_core.proofs.ClassSets.{sets_few}
@@ -71,9 +72,9 @@ module _ (problem : Problem) (shape : Shape) (answer : Answer) (split : AreSplit
 
   -- ---- the lines before the stages
 
-  form_text : IsTextOf (input_count shape.inputs) 64 (text_of answer.form) answer.form
+  form_text : IsTextOf (masked_count shape.inputs) 64 (text_of answer.form) answer.form
   form_text =
-      subst (λ (u : List (List Sym)). IsTextOf (input_count shape.inputs) 64 (text_of u) u) (sym right.form) (record {
+      subst (λ (u : List (List Sym)). IsTextOf (masked_count shape.inputs) 64 (text_of u) u) (sym right.form) (record {
         text = refl;
         form = subst (λ n. IsWellFormed n problem.form) (sym shaped.inputs) form.well_formed;
         reduced = form.reduced;

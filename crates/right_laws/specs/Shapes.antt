@@ -2,7 +2,7 @@
 use Rattle.std.specs.Prelude.{◌≡◌, ℕ, ◌+◌, ◌≤◌, length}
 use Rattle.tier_core.specs.declared.shape.Shape.{Shape}
 use Rattle.tier_core.specs.KindShapes.{free_count, stretch_count}
-use Rattle.tier_core.specs.Shapes.{input_count}
+use Rattle.tier_core.specs.Shapes.{masked_count}
 use Rattle.violation.specs.Prefixes.{stretches}
 use Rattle.violation.specs.Problems.{Problem, last_stage}
 
@@ -10,7 +10,7 @@ use Rattle.violation.specs.Problems.{Problem, last_stage}
 -- each stage as many stretch implications.
 pub record IsShapeOfProblem (problem : Problem) (shape : Shape) : Type 0 where
   pub width : shape.width ≡ problem.tiers.width
-  pub inputs : input_count shape.inputs ≡ length problem.tiers.input
+  pub inputs : masked_count shape.inputs ≡ length problem.tiers.input
   pub free : free_count shape ≡ length problem.tiers.free
   pub stages : length shape.phases.items ≡ last_stage problem + 1
   pub phases : (r : ℕ) → r ≤ last_stage problem → stretch_count shape r ≡ length (stretches problem r)

@@ -1,9 +1,10 @@
 -- The words of least weight of the table of a single pass are the optimal candidates, and its least
 -- weights are the least vectors that remain.
-use Rattle.std.proofs.Common.{◌≡◌, ◌↔◌, ℕ, ◌≤◌, ◌<◌, List, ◌++◌, take, drop, length, ◌-◌, refl, sym, ap, ◌∙◌, subst, arith, take_all}
+use Rattle.std.proofs.Common.{◌≡◌, ◌↔◌, ℕ, ◌≤◌, ◌<◌, List, ◌++◌, take, drop, length, ◌-◌, refl, sym, ap, ◌∙◌, subst}
+use Rattle.std.proofs.Common.{arith, take_all}
 use Rattle.std.proofs.lemmas.List.{length-map, take-append-drop, length-take-le}
 use Rattle.weight_law.specs.Meaning.{AtMost}
-use Rattle.weight_law.specs.Ranked.{padded, ranked_meaning}
+use Rattle.weight_law.specs.Ranked.{parts_of_vector, ranked_meaning}
 use Rattle.weight_law.specs.declared.Weight.{Ghosts}
 use Rattle.weight_law.specs.declared.ranked.Ranked.{Ranked}
 use Rattle.weight_law.proofs.Padded.{at_most_vector, vector_at_most}
@@ -30,11 +31,13 @@ module _ (problem : Problem) (stage : IsStage problem (last_stage problem)) (few
     {g : Ghosts Ranked} (meaning : g.meaning ≡ ranked_meaning) (names : List PrefixKind)
     (states : List (TableState Ranked g)) (table : IsRankedTable problem names states) where
   -- weights that are vectors are compared as these
-  at_most : (a b : Ranked) (v w : List ℕ) → a.parts ≡ padded v → b.parts ≡ padded w → length w ≡ length v
+  at_most : (a b : Ranked) (v w : List ℕ) → a.parts ≡ parts_of_vector v → b.parts ≡ parts_of_vector w → length w
+      ≡ length v
       → AtMost g.meaning a b → IsAtMost v w
   at_most a b v w x y e h = at_most_vector a b v w x y e (subst (λ m. AtMost m a b) meaning h)
 
-  no_more : (a b : Ranked) (v w : List ℕ) → a.parts ≡ padded v → b.parts ≡ padded w → length w ≡ length v
+  no_more : (a b : Ranked) (v w : List ℕ) → a.parts ≡ parts_of_vector v → b.parts ≡ parts_of_vector w → length w
+      ≡ length v
       → IsAtMost v w → AtMost g.meaning a b
   no_more a b v w x y e h = subst (λ m. AtMost m a b) (sym meaning) (vector_at_most a b v w x y e h)
 
@@ -48,7 +51,7 @@ module _ (problem : Problem) (stage : IsStage problem (last_stage problem)) (few
   even_vec T U = length_vec U ∙ sym (length_vec T)
 
   weight_vec : (T : List (List Sym)) (arcs : List (TableArc Ranked g)) → AcceptingRun states T arcs
-      → (weight_of arcs).parts ≡ padded (counts_on problem T)
+      → (weight_of arcs).parts ≡ parts_of_vector (counts_on problem T)
   weight_vec T arcs run = run_vector_law problem stage few meaning names states table arcs T run
 
   least_optimal : (T : List (List Sym)) → IsLeastWord states T → IsOptimal problem T
@@ -87,7 +90,7 @@ module _ (problem : Problem) (stage : IsStage problem (last_stage problem)) (few
 
   -- the least weight from the start is the least vector
   pub least_vector : (w : Ranked) → IsLeastFrom states 0 w
-      → (v : List ℕ) × ((w.parts ≡ padded v) × IsLeastVector problem v)
+      → (v : List ℕ) × ((w.parts ≡ parts_of_vector v) × IsLeastVector problem v)
   least_vector w from =
       let found = from.some in
       let q = some_word states table.named.filled 0 found.0 found.1 in
@@ -114,7 +117,7 @@ module _ (problem : Problem) (stage : IsStage problem (last_stage problem)) (few
   length_rest T n = length-map problem.constraints (λ c. violations_of c T - violations_so_far c T n)
 
   -- a candidate with a prefix of the kind that names s leaves at least the least weight from s
-  least_of_all : (s : ℕ) (w : Ranked) (v : List ℕ) → length v ≡ last_stage problem → w.parts ≡ padded v
+  least_of_all : (s : ℕ) (w : Ranked) (v : List ℕ) → length v ≡ last_stage problem → w.parts ≡ parts_of_vector v
       → s < length states → IsLeastFrom states s w
       → (T : List (List Sym)) (n : ℕ) → PassesWhole problem (name_of names s) T n → IsAtMost v (counts_rest problem T n)
   least_of_all s w v size is here from T n passes =
@@ -129,18 +132,18 @@ module _ (problem : Problem) (stage : IsStage problem (last_stage problem)) (few
       let candidate : IsCandidate problem (take n T ++ drop n T) = subst (IsCandidate problem)
       (sym whole) passes.optimal.candidate in
       let rest : (weight_of parts.after).parts
-      ≡ padded (counts_rest problem (take n T ++ drop n T) (length (take n T))) =
+      ≡ parts_of_vector (counts_rest problem (take n T ++ drop n T) (length (take n T))) =
       rest_vector problem stage few meaning names states table.named table.weighed parts.after s (take n T) (drop n T)
       (sym passes.of_kind) run parts.reads_after candidate in
       let total : counts_rest problem (take n T ++ drop n T) (length (take n T)) ≡ counts_rest problem T n =
       ap (λ (x : List (List Sym)). counts_rest problem x (length (take n T))) whole
       ∙ ap (λ (m : ℕ). counts_rest problem T m) (length-take-le n T passes.within) in
-      at_most w (weight_of parts.after) v (counts_rest problem T n) is (rest ∙ ap padded total)
+      at_most w (weight_of parts.after) v (counts_rest problem T n) is (rest ∙ ap parts_of_vector total)
       (length_rest T n ∙ sym size) (from.least parts.after run)
 
   -- the least weight from a state is the least vector that remains from its name
   pub least_rest_vector : (s : ℕ) (w : Ranked) → IsLeastFrom states s w
-      → (v : List ℕ) × ((w.parts ≡ padded v) × IsLeastRestVector problem (name_of names s) v)
+      → (v : List ℕ) × ((w.parts ≡ parts_of_vector v) × IsLeastRestVector problem (name_of names s) v)
   least_rest_vector s w from =
       let found = from.some in
       let here : s < length states = run_exists states s found.0 found.1 in
@@ -154,7 +157,7 @@ module _ (problem : Problem) (stage : IsStage problem (last_stage problem)) (few
       let name : name_of names s ≡ kind_of problem (last_stage problem) p.0 = path_kind problem
       (last_stage problem) stage names states table.named on.0 s p.0 on.1 p.1 in
       let v : List ℕ = counts_rest problem (p.0 ++ q.0) (length p.0) in
-      let is : w.parts ≡ padded v = ap (λ (x : Ranked). x.parts) (sym found.2)
+      let is : w.parts ≡ parts_of_vector v = ap (λ (x : Ranked). x.parts) (sym found.2)
       ∙ rest_vector problem stage few meaning names states table.named table.weighed found.0 s p.0 q.0 name
       found.1 q.1 passes.optimal.candidate in (
         v,

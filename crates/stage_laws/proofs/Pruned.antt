@@ -13,7 +13,7 @@ use Rattle.arc_table.specs.Conditions.{TargetsExist, ClassesFilled}
 use Rattle.arc_table.specs.Moves.{moves_at}
 use Rattle.arc_table.proofs.Push.{moves_exist}
 use Rattle.prune_best.specs.Tight.{IsTight}
-use Rattle.violation.specs.Moves.{FitsKind, moved, is_final}
+use Rattle.violation.specs.Moves.{FitsKind, next_kind, is_final}
 use Rattle.kind_tables.specs.StageTables.{IsStage, name_of, GoesAsKinds, AreNamedByKinds}
 use Rattle.kind_tables.specs.FoundTables.{names_kept}
 use Rattle.kind_tables.proofs.Naming.{same_state}
@@ -48,7 +48,7 @@ module _ (problem : Problem) (r : ℕ) (stage : IsStage problem r) {W V : Type 0
       record {
         fits = subst (λ n. FitsKind problem n column) (sym name) goes.fits;
         leads = get_or-map (name_of names) old b.target 0 _ match.1.0 ∙ ap (name_of names) match.1.1 ∙ goes.leads
-            ∙ ap (λ n. moved problem r n column) (sym name);
+            ∙ ap (λ n. next_kind problem r n column) (sym name);
       }
 
   pub kept_named : 0 < length pruned → TargetsExist pruned → ClassesFilled pruned

@@ -1,5 +1,6 @@
 -- The least weights of a stage's table are what remains to be counted.
-use Rattle.std.proofs.Common.{◌≡◌, ℕ, zero, suc, ◌+◌, ◌-◌, ◌<◌, ◌≤◌, false, List, ◌++◌, take, drop, length, get_or, Option, None, Some, refl, sym, ap, ◌∙◌, subst, arith, inl, inr}
+use Rattle.std.proofs.Common.{◌≡◌, ℕ, zero, suc, ◌+◌, ◌-◌, ◌<◌, ◌≤◌, false, List, ◌++◌, take, drop, length, get_or}
+use Rattle.std.proofs.Common.{Option, None, Some, refl, sym, ap, ◌∙◌, subst, arith, inl, inr}
 use Rattle.std.specs.Prelude.{nat_lt, MatchOption, IsSome}
 use Rattle.std.proofs.lemmas.Bool.{cases_lt}
 use Rattle.std.proofs.lemmas.Bool.Decides.{nat_tests}
@@ -63,7 +64,8 @@ module _ (problem : Problem) (r : ℕ) (stage : IsStage problem r) {g : Ghosts C
     (meaning : g.meaning ≡ count_meaning) (names : List PrefixKind) (states : List (TableState Count g))
     (table : IsStageTable problem r names states) where
   module _ (ranked : 1 ≤ r) where
-    -- what an (r-1)-optimal candidate violates after a prefix of the kind that names s is at least the least weight from s
+    -- what an (r-1)-optimal candidate violates after a prefix of the kind that names s is at least
+    -- the least weight from s
     least_of_all : (s : ℕ) (w : Count) → s < length states → IsLeastFrom states s w → (T : List (List Sym)) (n : ℕ)
         → Passes problem (r - 1) r (name_of names s) T n
         → count_so_far_at problem r T n + w.0 ≤ count_at problem r T

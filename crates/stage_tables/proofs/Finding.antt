@@ -1,5 +1,6 @@
 -- One kind more is found, or one that is listed already.
-use Rattle.std.proofs.Common.{◌≡◌, ℕ, ◌+◌, ◌<◌, Bool, List, [], ◌∷◌, ◌++◌, length, get_or, refl, ap, sym, ◌∙◌, subst, arith, ◌⊎◌, inl, inr}
+use Rattle.std.proofs.Common.{◌≡◌, ℕ, ◌+◌, ◌<◌, Bool, List, [], ◌∷◌, ◌++◌, length, get_or, refl, ap, sym, ◌∙◌, subst}
+use Rattle.std.proofs.Common.{arith, ◌⊎◌, inl, inr}
 use Rattle.std.specs.Prelude.{Contains, IsTrue, slice_get}
 use Rattle.std.proofs.lemmas.Bool.{cases_lt}
 use Rattle.std.proofs.lemmas.List.{length_push}
@@ -19,7 +20,8 @@ use Rattle.arc_table.proofs.Push.{moves_exist, accepting_old, accepting_new, mov
 use Rattle.kind_moves.specs.declared.frame.Frame.{Frame}
 use Rattle.kind_moves.specs.Frames.{IsMove}
 use Rattle.kind_moves.specs.Laws.{LeadsTo}
-use Rattle.stage_tables.specs.Listed.{IsAt, AreApart, IsPutLast, IsNumbered, Stays, StandsOver, IsReached, AreFound, IsTaken, AreTakenMoves, IsTakenState, AreTargets, AreTaken}
+use Rattle.stage_tables.specs.Listed.{IsAt, AreApart, IsPutLast, IsNumbered, Stays, StandsOver, IsReached, AreFound}
+use Rattle.stage_tables.specs.Listed.{IsTaken, AreTakenMoves, IsTakenState, AreTargets, AreTaken}
 use Rattle.stage_tables.proofs.Listing.{get_left, at_number, at_cases, same_at}
 
 -- one move more

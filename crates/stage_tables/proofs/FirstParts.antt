@@ -1,8 +1,10 @@
 -- The parts of a weight, one constraint after another.
-use Rattle.std.proofs.Common.{◌≡◌, ◌≢◌, ℕ, ◌+◌, ◌-◌, ◌<◌, ◌≤◌, List, replicate, length, take, get_or, set, refl, sym, ap, ◌∙◌, arith, inl, inr, get_or-set_same, get_or-set_other, take_all}
+use Rattle.std.proofs.Common.{◌≡◌, ◌≢◌, ℕ, ◌+◌, ◌-◌, ◌<◌, ◌≤◌, List, replicate, length, take, get_or, set, refl, sym}
+use Rattle.std.proofs.Common.{ap, ◌∙◌, arith, inl, inr, get_or-set_same, get_or-set_other, take_all}
 use Rattle.std.proofs.lemmas.Bool.{cases_lt}
-use Rattle.std.proofs.lemmas.List.{length-set, length-append, length-replicate, ext_get_or, get_or_past, get_or_append_left, get_or-append_right, get_or-replicate}
-use Rattle.weight_law.specs.Ranked.{padded}
+use Rattle.std.proofs.lemmas.List.{length-set, length-append, length-replicate, ext_get_or, get_or_past}
+use Rattle.std.proofs.lemmas.List.{get_or_append_left, get_or-append_right, get_or-replicate}
+use Rattle.weight_law.specs.Ranked.{parts_of_vector}
 use Rattle.tier_core.specs.declared.kind.Kind.{Kind}
 use Rattle.tier_core.specs.declared.sym.Sym.{Sym}
 use Rattle.violation.specs.Moves.{is_tier_open}
@@ -30,7 +32,7 @@ zero_at n k = elim (cases_lt k n) [
   | inr l ↦ get_or_past (zeros n) k 0 (omega (arith, l, length-zeros n))
 ]
 
-padded_at : (v : List ℕ) (k : ℕ) → get_or (padded v) k 0 ≡ get_or v k 0
+padded_at : (v : List ℕ) (k : ℕ) → get_or (parts_of_vector v) k 0 ≡ get_or v k 0
 padded_at v k = elim (cases_lt k (length v)) [
   | inl l ↦ get_or_append_left v (replicate (24 - length v) 0) 0 k l
   | inr l ↦
@@ -61,13 +63,13 @@ next_first v parts n x first inside is = record {
 }
 
 -- with all numbers they are the vector's
-pub all_first : (v parts : List ℕ) (n : ℕ) → AreFirst v parts n → n ≡ length v → n ≤ 24 → parts ≡ padded v
+pub all_first : (v parts : List ℕ) (n : ℕ) → AreFirst v parts n → n ≡ length v → n ≤ 24 → parts ≡ parts_of_vector v
 all_first v parts n first all few =
-    let size : length (padded v) ≡ 24 = omega
+    let size : length (parts_of_vector v) ≡ 24 = omega
     (arith, length-append v (zeros (24 - length v)), length-zeros (24 - length v), all, few) in
-    ext_get_or 0 parts (padded v) (first.long ∙ sym size) at
+    ext_get_or 0 parts (parts_of_vector v) (first.long ∙ sym size) at
   where
-    at : (k : ℕ) → k < length parts → get_or parts k 0 ≡ get_or (padded v) k 0
+    at : (k : ℕ) → k < length parts → get_or parts k 0 ≡ get_or (parts_of_vector v) k 0
     at k l = elim (cases_lt k n) [
       | inl less ↦ first.done k less ∙ sym (padded_at v k)
       | inr more ↦ first.rest k more ∙ sym (padded_at v k ∙ get_or_past v k 0 (omega (arith, more, all)))

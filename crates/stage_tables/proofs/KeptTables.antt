@@ -15,9 +15,9 @@ use Rattle.arc_table.specs.declared.arc.TableArc.{TableArc}
 use Rattle.arc_table.specs.declared.state.TableState.{TableState}
 use Rattle.arc_table.specs.Conditions.{TargetsExist}
 use Rattle.arc_table.specs.Runs.{IsPath, Accepts}
-use Rattle.violation.specs.Moves.{is_final, cut}
+use Rattle.violation.specs.Moves.{is_final, cut_kind}
 use Rattle.violation.specs.Problems.{last_stage}
-use Rattle.violation.proofs.CutLemmas.{cut-kind_of}
+use Rattle.violation.proofs.CutLemmas.{cut_kind-kind_of}
 use Rattle.kind_moves.specs.declared.frame.Frame.{Frame}
 use Rattle.kind_moves.specs.Frames.{problem_in, kind_at_stage}
 use Rattle.kind_moves.proofs.LawSteps.{kinds_law}
@@ -29,13 +29,16 @@ use Rattle.kind_tables.proofs.Paths.{run_path, path_word, joined_run, joined_rea
 use Rattle.stage_tables.specs.Kept.{AreKeptByKinds}
 use Rattle.stage_tables.specs.Explored.{names_at, IsExplored}
 use Rattle.stage_tables.specs.Listed.{IsReached, IsOverOne, IsOfWidth, AreFound, AreTaken}
-use Rattle.stage_tables.proofs.Named.{frame_stage, names_apart, name_is, kind_of_state, base_is, leads, weighs, columns_new, columns_old, new_targets, new_filled, new_reached, each_named, some_state, ends_at, start_named, is_named, all_fit}
+use Rattle.stage_tables.proofs.Named.{frame_stage, names_apart, name_is, kind_of_state, base_is, leads, weighs}
+use Rattle.stage_tables.proofs.Named.{columns_new, columns_old, new_targets, new_filled, new_reached, each_named}
+use Rattle.stage_tables.proofs.Named.{some_state, ends_at, start_named, is_named, all_fit}
 
 -- a path from a state ends at one
 pub path_within : {W : Type 0} {g : Ghosts W} (states : List (TableState W g)) → TargetsExist states
     → (arcs : List (TableArc W g)) (s t : ℕ) → s < length states → IsPath states s arcs t → t < length states
 path_within states exist [] s t l path = omega (arith, l, path)
-path_within states exist (arc ∷ arcs) s t l path = path_within states exist arcs arc.target t (exist s arc path.0) path.1
+path_within states exist (arc ∷ arcs) s t l path = path_within states exist arcs arc.target t
+    (exist s arc path.0) path.1
 
 module _ {g : Ghosts UnitWeight} (frame : Frame) (before stage : ℕ) (further : before ≤ stage)
     (within : stage ≤ last_stage (problem_in frame)) (kept : List (TableState UnitWeight g))
@@ -45,10 +48,10 @@ module _ {g : Ghosts UnitWeight} (frame : Frame) (before stage : ℕ) (further :
 
   -- the kind of what leads to a state, cut, is the state's name
   cut_named : (kind : Kind) (s : ℕ) → IsReached frame stage kept kind s
-      → cut (problem_in frame) before (kind_at_stage frame stage kind) ≡ name_of names s
+      → cut_kind (problem_in frame) before (kind_at_stage frame stage kind) ≡ name_of names s
   cut_named kind s r =
-      ap (cut (problem_in frame) before) (kinds_law frame stage r.first r.starts r.prefix kind r.leads)
-      ∙ cut-kind_of (problem_in frame) before stage further r.prefix
+      ap (cut_kind (problem_in frame) before) (kinds_law frame stage r.first r.starts r.prefix kind r.leads)
+      ∙ cut_kind-kind_of (problem_in frame) before stage further r.prefix
       ∙ sym (path_kind (problem_in frame) before earlier names kept by.named r.arcs s r.prefix r.path r.reads)
 
   pub kept_over_one : IsOverOne frame stage kept
@@ -56,7 +59,7 @@ module _ {g : Ghosts UnitWeight} (frame : Frame) (before stage : ℕ) (further :
       same_state (problem_in frame) before earlier names kept by.named s t
       (path_within kept by.named.targets ra.arcs 0 s by.named.some ra.path)
       (path_within kept by.named.targets rb.arcs 0 t by.named.some rb.path)
-      (sym (cut_named a s ra) ∙ ap (cut (problem_in frame) before) same ∙ cut_named b t rb)
+      (sym (cut_named a s ra) ∙ ap (cut_kind (problem_in frame) before) same ∙ cut_named b t rb)
 
   pub kept_wide : IsOfWidth frame kept
   kept_wide s arc here =
@@ -85,11 +88,11 @@ module _ {g : Ghosts UnitWeight} (frame : Frame) (before stage : ℕ) (further :
       (found : AreFound frame stage kept entries) (states : List (TableState Count h))
       (taken : AreTaken frame first stage kept entries states) (all : length states ≡ length entries) where
     cuts_at : (k : ℕ) → k < length states
-        → cut (problem_in frame) before (name_of (names_at frame stage (keys_of entries)) k)
+        → cut_kind (problem_in frame) before (name_of (names_at frame stage (keys_of entries)) k)
         ≡ name_of names (base_of (values_of entries) k)
     cuts_at k l =
         let a = kind_of_state frame first stage kept entries found states taken all k l in
-        ap (cut (problem_in frame) before) (name_is frame first stage kept entries found states taken all
+        ap (cut_kind (problem_in frame) before) (name_is frame first stage kept entries found states taken all
         k a.0 a.1 a.2)
         ∙ cut_named a.0 a.1 (found.reached k a.0 a.1 a.2)
         ∙ ap (name_of names) (sym (base_is frame first stage kept entries found states taken all k a.0 a.1 a.2))

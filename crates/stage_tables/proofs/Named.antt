@@ -1,5 +1,6 @@
 -- The table of all kinds that are found is named and weighed by them.
-use Rattle.std.proofs.Common.{◌≡◌, ◌≢◌, ℕ, ◌<◌, ◌≤◌, Bool, true, false, List, [], ◌++◌, map, length, get_or, refl, ap, sym, ◌∙◌, subst, arith, inl, inr}
+use Rattle.std.proofs.Common.{◌≡◌, ◌≢◌, ℕ, ◌<◌, ◌≤◌, Bool, true, false, List, [], ◌++◌, map, length, get_or, refl, ap}
+use Rattle.std.proofs.Common.{sym, ◌∙◌, subst, arith, inl, inr}
 use Rattle.std.specs.Prelude.{All, Contains, AllPairs, IsTrue}
 use Rattle.std.specs.Map.{keys_of, values_of}
 use Rattle.std.proofs.lemmas.Bool.{cases_lt}
@@ -21,7 +22,7 @@ use Rattle.arc_table.specs.declared.state.TableState.{TableState}
 use Rattle.arc_table.specs.Conditions.{TargetsExist, ClassesDisjoint, ClassesFilled, OneWidth}
 use Rattle.arc_table.specs.Moves.{moves_at, accepting_at}
 use Rattle.arc_table.proofs.Push.{moves_exist}
-use Rattle.violation.specs.Moves.{FitsKind, moved, is_final}
+use Rattle.violation.specs.Moves.{FitsKind, next_kind, is_final}
 use Rattle.violation.specs.Prefixes.{kind_of}
 use Rattle.violation.specs.Problems.{last_stage}
 use Rattle.violation.proofs.SplitLemmas.{tiers_split}
@@ -32,8 +33,8 @@ use Rattle.kind_moves.proofs.KindEquality.{same_told}
 use Rattle.kind_moves.proofs.LawSteps.{kinds_law}
 use Rattle.kind_tables.specs.StageTables.{IsStage, name_of, cost_of, AreNamedByKinds, AreWeighed}
 use Rattle.kind_tables.specs.FoundTables.{HasMoveOn, AreReached, base_of}
-use Rattle.stage_tables.specs.Explored.{names_at, IsMet, IsOverBudget}
-use Rattle.stage_tables.specs.Listed.{IsAt, IsReached, AreFound, IsTaken, IsTakenFrom, AreTaken, classes_of}
+use Rattle.stage_tables.specs.Explored.{names_at, IsMet, HasMoreKinds}
+use Rattle.stage_tables.specs.Listed.{IsAt, IsReached, AreFound, IsTaken, IsTakenFrom, AreTaken, move_classes}
 use Rattle.stage_tables.proofs.HeldMoves.{move_on, held_on, classes_apart, moves_apart}
 use Rattle.stage_tables.proofs.Listing.{at_number, get_map, get_or_map}
 
@@ -75,7 +76,7 @@ module _ {g : Ghosts UnitWeight} (frame : Frame) (first stage : ℕ) (kept : Lis
   pub over_budget : (timelines : List (List Sym) → Type 0)
       → ((kind : Kind) (s : ℕ) → s < length kept → (r : IsReached frame stage kept kind s)
       → (rest : List (List Sym)) × timelines (r.prefix ++ rest))
-      → (budget : ℕ) → budget < length entries → IsOverBudget frame stage timelines budget
+      → (budget : ℕ) → budget < length entries → HasMoreKinds frame stage timelines budget
   over_budget timelines goes_on budget more = record {
     kinds = names_at frame stage (keys_of entries);
     distinct = names_apart;
@@ -133,13 +134,13 @@ module _ {g : Ghosts UnitWeight} (frame : Frame) (first stage : ℕ) (kept : Lis
 
     pub leads : (k : ℕ) (b : TableArc Count h) (column : List Sym) → Contains (moves_at states k) b
         → IsTrue (has b.class column) → name_of (names_at frame stage (keys_of entries)) b.target
-        ≡ moved (problem_in frame) stage (name_of (names_at frame stage (keys_of entries)) k) column
+        ≡ next_kind (problem_in frame) stage (name_of (names_at frame stage (keys_of entries)) k) column
     leads k b column here p =
         let m = old_move k b here in
         let t = m.3.2 in
         name_is b.target t.next m.3.0.target t.at
         ∙ (t.moves column p).leads
-        ∙ ap (λ x. moved (problem_in frame) stage x column) (sym (name_is k m.0 m.1 m.2))
+        ∙ ap (λ x. next_kind (problem_in frame) stage x column) (sym (name_is k m.0 m.1 m.2))
 
     pub weighs : AreWeighed (problem_in frame) stage (names_at frame stage (keys_of entries)) states
     weighs k b column here p =
@@ -158,8 +159,8 @@ module _ {g : Ghosts UnitWeight} (frame : Frame) (first stage : ℕ) (kept : Lis
         let here : Contains (moves_at kept a.1) move.0 = subst (λ (x : ℕ). Contains (moves_at kept x) move.0)
         (base_is k a.0 a.1 a.2) move.1 in
         let at = subst (λ (x : PrefixKind). FitsKind (problem_in frame) x column) (name_is k a.0 a.1 a.2) fits in
-        let some : some_has (classes_of (moves_at states k)) column ≡ true =
-        some_from_same (classes_of (moves_at states k)) (classes_of (moves_at kept a.1)) column
+        let some : some_has (move_classes (moves_at states k)) column ≡ true =
+        some_from_same (move_classes (moves_at states k)) (move_classes (moves_at kept a.1)) column
         (state.taken.held column at)
         ∙ held_on (moves_at kept a.1) move.0 column here move.2 in
         move_on (moves_at states k) column some
@@ -185,12 +186,12 @@ module _ {g : Ghosts UnitWeight} (frame : Frame) (first stage : ℕ) (kept : Lis
 
     -- no two new moves of a state hold a column
     once : ClassesDisjoint kept → (k : ℕ) → k < length states → (column : List Sym)
-        → times_held (classes_of (moves_at states k)) column ≤ 1
-    once apart k l column = go (some_has (classes_of (moves_at states k)) column) refl
+        → times_held (move_classes (moves_at states k)) column ≤ 1
+    once apart k l column = go (some_has (move_classes (moves_at states k)) column) refl
       where
-        go : (b : Bool) → some_has (classes_of (moves_at states k)) column ≡ b
-            → times_held (classes_of (moves_at states k)) column ≤ 1
-        go false none = omega (arith, none_held (classes_of (moves_at states k)) column none)
+        go : (b : Bool) → some_has (move_classes (moves_at states k)) column ≡ b
+            → times_held (move_classes (moves_at states k)) column ≤ 1
+        go false none = omega (arith, none_held (move_classes (moves_at states k)) column none)
         go true some =
             let move = move_on (moves_at states k) column some in
             let m = old_move k move.0 move.1 in
@@ -198,12 +199,12 @@ module _ {g : Ghosts UnitWeight} (frame : Frame) (first stage : ℕ) (kept : Lis
             omega (
               arith,
               state.taken.held column (m.3.2.moves column move.2).column_fits,
-              once_from_apart (classes_of (moves_at kept m.1)) (classes_apart (moves_at kept m.1) (apart m.1)) column,
+              once_from_apart (move_classes (moves_at kept m.1)) (classes_apart (moves_at kept m.1) (apart m.1)) column,
             )
 
     pub new_disjoint : ClassesDisjoint kept → ClassesDisjoint states
     new_disjoint apart k = elim (cases_lt k (length states)) [
-      | inl l ↦ moves_apart (moves_at states k) (apart_from_once (classes_of (moves_at states k)) (once apart k l))
+      | inl l ↦ moves_apart (moves_at states k) (apart_from_once (move_classes (moves_at states k)) (once apart k l))
       | inr l ↦
           (let gone : moves_at states k ≡ [] = get_or_past (map (λ s. s.arcs.items) states) k []
           (omega (arith, length-map states (λ s. s.arcs.items))) in

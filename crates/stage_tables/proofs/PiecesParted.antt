@@ -1,8 +1,10 @@
 -- Pieces that are parted by one constraint after another.
-use Rattle.std.proofs.Common.{◌≡◌, ◌↔◌, ℕ, ◌+◌, ◌<◌, ◌≤◌, Bool, true, false, List, [], ◌∷◌, ◌++◌, take, length, get_or, refl, ap, sym, ◌∙◌, subst, arith, inl, inr, All, IsTrue}
+use Rattle.std.proofs.Common.{◌≡◌, ◌↔◌, ℕ, ◌+◌, ◌<◌, ◌≤◌, Bool, true, false, List, [], ◌∷◌, ◌++◌, take, length, get_or}
+use Rattle.std.proofs.Common.{refl, ap, sym, ◌∙◌, subst, arith, inl, inr, All, IsTrue}
 use Rattle.std.proofs.lemmas.Bool.{false≢true, cases_lt, false_from_ne_true}
 use Rattle.std.proofs.lemmas.List.{append-nil, append_assoc, map-append, take_more, get_or-map, length-map}
-use Rattle.std.proofs.lemmas.List.Elements.{All-nil, All-append, All-push, Contains-append_left, Contains-push, All-contains, All-map}
+use Rattle.std.proofs.lemmas.List.Elements.{All-nil, All-append, All-push, Contains-append_left, Contains-push}
+use Rattle.std.proofs.lemmas.List.Elements.{All-contains, All-map}
 use Rattle.std.proofs.lemmas.List.Folds.{list_any_at}
 use Rattle.std.proofs.Math.Seq.{take-length}
 use Rattle.tier_core.specs.declared.class.Class.{Class}
@@ -17,7 +19,7 @@ use Rattle.kind_moves.proofs.LeavingPieces.{held_once}
 use Rattle.kind_moves.specs.declared.frame.Frame.{Frame}
 use Rattle.kind_moves.specs.declared.piece.Piece.{Piece}
 use Rattle.kind_moves.specs.Frames.{tiers_in, FitsAt, IsMove}
-use Rattle.kind_moves.specs.Pieces.{cost_under, classes_of, IsPiece}
+use Rattle.kind_moves.specs.Pieces.{cost_under, piece_classes, IsPiece}
 use Rattle.stage_tables.specs.declared.exploring.Exploring.{Exploring}
 use Rattle.stage_tables.specs.Exploring.{ArePiecesFrom}
 use Rattle.stage_tables.specs.PartedPieces.{IsPartOfPiece, AddsParts, IsPartOfSome, ArePartedPieces, ArePiecesBefore}
@@ -30,8 +32,8 @@ piece_alike frame stage constraint kind piece is c d has_c has_d = sym (is.costs
 -- pieces of a piece that cost the same under a constraint
 pub record AreFiner (exploring : Exploring) (constraint : ℕ) (kind : Kind) (piece : Piece)
     (finer : List Piece) : Type 0 where
-  pub apart : ArePieces (tiers_in exploring.frame.now).width (classes_of finer)
-  pub columns : (column : List Sym) → IsTrue (some_has (classes_of finer) column)
+  pub apart : ArePieces (tiers_in exploring.frame.now).width (piece_classes finer)
+  pub columns : (column : List Sym) → IsTrue (some_has (piece_classes finer) column)
       ↔ (IsTrue (has piece.class column) × FitsAt exploring.frame.now exploring.stage kind column)
   pub each : All (IsPiece exploring.frame.now exploring.stage constraint kind) finer
 
@@ -42,7 +44,7 @@ module _ (exploring : Exploring) (constraint : ℕ) (kind : Kind) where
   pub record PushedParts (piece : Piece) (finer old new : List Piece) (n : ℕ) : Type 0 where
     pub added : List Piece
     pub new_is : new ≡ old ++ added
-    pub classes : classes_of added ≡ classes_of (take n finer)
+    pub classes : piece_classes added ≡ piece_classes (take n finer)
     pub good : All (IsPartOfPiece exploring constraint kind piece) added
 
   pub no_parts : (piece : Piece) (finer old : List Piece) → PushedParts piece finer old old 0
@@ -76,17 +78,18 @@ module _ (exploring : Exploring) (constraint : ℕ) (kind : Kind) where
         IsMoveTo : List Sym → Kind → Type 0
         IsMoveTo column next = IsMove exploring.frame.now exploring.stage kind column next
 
-        long : n < length (classes_of finer)
+        long : n < length (piece_classes finer)
         long = omega (arith, inside, length-map finer (λ (p : Piece). p.class))
 
         same : made.class ≡ (get_or finer n part).class
         same = class ∙ ap (λ (p : Piece). p.class) at
 
-        listed : get_or (classes_of finer) n part.class ≡ (get_or finer n part).class
+        listed : get_or (piece_classes finer) n part.class ≡ (get_or finer n part).class
         listed = get_or-map (λ (p : Piece). p.class) finer n part part.class inside
 
         within : (column : List Sym) → IsTrue (has made.class column) → IsTrue (has piece.class column)
-        within column h = ((are.columns column).0 (list_any_at (λ c. has c column) (classes_of finer) n part.class long
+        within column h = ((are.columns column).0
+            (list_any_at (λ c. has c column) (piece_classes finer) n part.class long
             (ap (λ c. has c column) (listed ∙ sym same) ∙ h))).0
 
     pub next_part : (old new : List Piece) (n : ℕ) (part made : Piece) → PushedParts piece finer old new n
@@ -99,17 +102,17 @@ module _ (exploring : Exploring) (constraint : ℕ) (kind : Kind) where
       classes =
           map-append (λ (p : Piece). p.class) so_far.added (made ∷ [])
           ∙ ap (λ cs. cs ++ made.class ∷ []) so_far.classes
-          ∙ ap (λ c. classes_of (take n finer) ++ c ∷ []) (class ∙ ap (λ (p : Piece). p.class) at)
+          ∙ ap (λ c. piece_classes (take n finer) ++ c ∷ []) (class ∙ ap (λ (p : Piece). p.class) at)
           ∙ sym (map-append (λ (p : Piece). p.class) (take n finer) (get_or finer n part ∷ []))
-          ∙ ap classes_of (sym (take_more finer n part inside));
+          ∙ ap piece_classes (sym (take_more finer n part inside));
       good = All-push (IsPartOfPiece exploring constraint kind piece) so_far.added made so_far.good
           (part_of n part made inside at class target cost);
     }
 
     same_held : (column : List Sym) (b : Bool) → has piece.class column ≡ b
-        → some_has (classes_of finer) column ≡ has piece.class column
+        → some_has (piece_classes finer) column ≡ has piece.class column
     same_held column true h = (are.columns column).1 (h, (is.moves column h).column_fits) ∙ sym h
-    same_held column false h = false_from_ne_true (some_has (classes_of finer) column)
+    same_held column false h = false_from_ne_true (some_has (piece_classes finer) column)
         (λ some. false≢true (sym h ∙ ((are.columns column).0 some).0)) ∙ sym h
 
     pub all_parts : (old new : List Piece) (n : ℕ) → PushedParts piece finer old new n → n ≡ length finer
@@ -118,10 +121,11 @@ module _ (exploring : Exploring) (constraint : ℕ) (kind : Kind) where
       added = so_far.added;
       new_is = so_far.new_is;
       held = λ column.
-          ap (λ cs. times_held cs column) (so_far.classes ∙ ap (λ k. classes_of (take k finer)) last
-          ∙ ap classes_of (take-length finer))
-          ∙ held_once (classes_of finer) column (has piece.class column)
-          (once_from_apart (classes_of finer) are.apart.apart column) (same_held column (has piece.class column) refl);
+          ap (λ cs. times_held cs column) (so_far.classes ∙ ap (λ k. piece_classes (take k finer)) last
+          ∙ ap piece_classes (take-length finer))
+          ∙ held_once (piece_classes finer) column (has piece.class column)
+          (once_from_apart (piece_classes finer) are.apart.apart column)
+          (same_held column (has piece.class column) refl);
       good = so_far.good;
     }
 
@@ -134,10 +138,10 @@ module _ (exploring : Exploring) (constraint : ℕ) (kind : Kind) where
     good = All-nil (IsPartOfSome exploring constraint kind []);
   })
 
-  split_times : (xs ys : List Piece) (column : List Sym) → times_held (classes_of (xs ++ ys)) column
-      ≡ times_held (classes_of xs) column + times_held (classes_of ys) column
+  split_times : (xs ys : List Piece) (column : List Sym) → times_held (piece_classes (xs ++ ys)) column
+      ≡ times_held (piece_classes xs) column + times_held (piece_classes ys) column
   split_times xs ys column = ap (λ cs. times_held cs column) (map-append (λ (p : Piece). p.class) xs ys)
-      ∙ times-append (classes_of xs) (classes_of ys) column
+      ∙ times-append (piece_classes xs) (piece_classes ys) column
 
   pub next_piece_parted : (pieces old new : List Piece) (n : ℕ) (piece : Piece)
       → ArePartedPieces exploring constraint kind (take n pieces) old → n < length pieces
@@ -179,8 +183,8 @@ module _ (exploring : Exploring) (constraint : ℕ) (kind : Kind) where
 -- ---- one constraint after another
 
 module _ (exploring : Exploring) (kind : Kind) (class : Class) where
-  pub first_pieces : (pieces : List Piece) → ArePieces (tiers_in exploring.frame.now).width (classes_of pieces)
-      → ((column : List Sym) → IsTrue (some_has (classes_of pieces) column)
+  pub first_pieces : (pieces : List Piece) → ArePieces (tiers_in exploring.frame.now).width (piece_classes pieces)
+      → ((column : List Sym) → IsTrue (some_has (piece_classes pieces) column)
       ↔ (IsTrue (has class column) × FitsAt exploring.frame.now exploring.stage kind column))
       → All (IsPiece exploring.frame.now exploring.stage exploring.stage kind) pieces
       → ArePiecesBefore exploring kind class pieces exploring.first
@@ -198,19 +202,19 @@ module _ (exploring : Exploring) (kind : Kind) (class : Class) where
       (are.apart.one_width k d.class (omega (arith, l, length-map pieces (λ (p : Piece). p.class))))
 
   classes_good : (P : Class → Type 0) (parts : List Piece) → All (λ (p : Piece). P p.class) parts
-      → All P (classes_of parts)
+      → All P (piece_classes parts)
   classes_good P parts good = All-map P (λ (p : Piece). p.class) parts good
 
   pub next_constraint : (pieces parts : List Piece) (n : ℕ) → ArePiecesBefore exploring kind class pieces n
       → ArePartedPieces exploring n kind pieces parts → ArePiecesBefore exploring kind class parts (n + 1)
   next_constraint pieces parts n are by = record {
-    apart = pieces_from_once (tiers_in exploring.frame.now).width (classes_of parts)
+    apart = pieces_from_once (tiers_in exploring.frame.now).width (piece_classes parts)
         (classes_good (λ c. length (sets_of c) ≡ (tiers_in exploring.frame.now).width) parts
         (λ k d l. (by.good k d l).is.wide))
         (classes_good (λ c. IsTrue (is_filled c)) parts (λ k d l. (by.good k d l).is.filled))
-        (λ column. omega (arith, by.held column, once_from_apart (classes_of pieces) are.apart.apart column));
+        (λ column. omega (arith, by.held column, once_from_apart (piece_classes pieces) are.apart.apart column));
     columns = λ column.
-        (let same = some_from_same (classes_of parts) (classes_of pieces) column (by.held column) in
+        (let same = some_from_same (piece_classes parts) (piece_classes pieces) column (by.held column) in
         (λ h. (are.columns column).0 (sym same ∙ h), λ h. same ∙ (are.columns column).1 h));
     each = λ k d l. (by.good k d l).is.is;
     alike = λ r low high k d l. elim (cases_lt r n) [
@@ -245,14 +249,14 @@ module _ (exploring : Exploring) (kind : Kind) (class : Class) where
 -- ---- under no constraint
 
 pub moves_unranked : (exploring : Exploring) (kind : Kind) (class : Class) (pieces : List Piece) → exploring.stage ≡ 0
-    → ArePieces (tiers_in exploring.frame.now).width (classes_of pieces)
-    → ((column : List Sym) → IsTrue (some_has (classes_of pieces) column)
+    → ArePieces (tiers_in exploring.frame.now).width (piece_classes pieces)
+    → ((column : List Sym) → IsTrue (some_has (piece_classes pieces) column)
     ↔ (IsTrue (has class column) × FitsAt exploring.frame.now 0 kind column))
     → All (IsPiece exploring.frame.now 0 0 kind) pieces → ArePiecesFrom exploring kind class pieces
 moves_unranked exploring kind class pieces none apart columns each =
     all_constraints exploring kind class pieces exploring.first
     (first_pieces exploring kind class pieces apart
-    (subst (λ stage. (column : List Sym) → IsTrue (some_has (classes_of pieces) column)
+    (subst (λ stage. (column : List Sym) → IsTrue (some_has (piece_classes pieces) column)
     ↔ (IsTrue (has class column) × FitsAt exploring.frame.now stage kind column)) (sym none) columns)
     (subst (λ stage. All (IsPiece exploring.frame.now stage stage kind) pieces) (sym none) each))
     (omega (arith, none))

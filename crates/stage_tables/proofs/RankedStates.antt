@@ -1,5 +1,6 @@
 -- The states of the table of a single pass, one after another.
-use Rattle.std.proofs.Common.{◌≡◌, ℕ, ◌+◌, ◌<◌, ◌≤◌, List, [], ◌∷◌, ◌++◌, take, length, get_or, sym, ap, ◌∙◌, subst, arith, inl, inr, take_all}
+use Rattle.std.proofs.Common.{◌≡◌, ℕ, ◌+◌, ◌<◌, ◌≤◌, List, [], ◌∷◌, ◌++◌, take, length, get_or, sym, ap, ◌∙◌, subst}
+use Rattle.std.proofs.Common.{arith, inl, inr, take_all}
 use Rattle.std.specs.Prelude.{All, IsTrue}
 use Rattle.std.specs.List.{AllZip}
 use Rattle.std.proofs.lemmas.Bool.{cases_lt}
@@ -8,7 +9,7 @@ use Rattle.std.proofs.lemmas.List.Elements.{Contains-get_or}
 use Rattle.weight_law.specs.declared.Weight.{Ghosts}
 use Rattle.weight_law.specs.declared.count.Count.{Count}
 use Rattle.weight_law.specs.declared.ranked.Ranked.{Ranked}
-use Rattle.weight_law.specs.Ranked.{padded}
+use Rattle.weight_law.specs.Ranked.{parts_of_vector}
 use Rattle.tier_core.specs.declared.class.Class.{Class}
 use Rattle.tier_core.specs.declared.kind.Kind.{Kind}
 use Rattle.tier_core.specs.Classes.{has}
@@ -127,7 +128,8 @@ module _ {g : Ghosts Count} (frame : Frame) (kinds : List Kind) (old : List (Tab
         let a = zip_from (IsRankedMove frame (kind_numbered kinds s)) (moves_at old s) (moves_at new s)
         (made.moves s l) here.0 b here.1 here.2 in
         a.2.weighs column (subst (λ (c : Class). IsTrue (has c column)) a.2.same_class reads)
-        ∙ ap (λ k. padded (move_costs (problem_in frame) (last_stage (problem_in frame)) k column)) (sym (name_is s l))
+        ∙ ap (λ k. parts_of_vector (move_costs (problem_in frame) (last_stage (problem_in frame)) k column))
+        (sym (name_is s l))
 
     -- the table of a single pass
     pub is_ranked : IsRankedTable (problem_in frame) (names_at frame (last_stage (problem_in frame)) kinds) new

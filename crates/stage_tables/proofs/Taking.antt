@@ -1,5 +1,7 @@
 -- Moves that are taken one by one.
-use Rattle.std.proofs.Common.{◌≡◌, ℕ, zero, suc, ◌+◌, ◌-◌, ◌==◌, cond, ne_eqb, ◌<◌, Bool, true, false, List, [], ◌∷◌, ◌++◌, take, length, get_or, refl, ap, sym, ◌∙◌, subst, arith, inl, inr, All, Contains, IsTrue}
+use Rattle.std.proofs.Common.{◌≡◌, ℕ, zero, suc, ◌+◌, ◌-◌, ◌==◌, cond, ne_eqb, ◌<◌, Bool, true, false, List, [], ◌∷◌}
+use Rattle.std.proofs.Common.{◌++◌, take, length, get_or, refl, ap, sym, ◌∙◌, subst, arith, inl, inr, All, Contains}
+use Rattle.std.proofs.Common.{IsTrue}
 use Rattle.std.proofs.lemmas.Bool.{false≢true, cases_lt, false_from_ne_true}
 use Rattle.std.proofs.lemmas.List.Folds.{list_any_at}
 use Rattle.std.proofs.lemmas.List.{get_or-map, length-map, take_more, append-nil, append_assoc, map-append}
@@ -28,10 +30,11 @@ use Rattle.kind_moves.proofs.LeavingPieces.{held_once}
 use Rattle.kind_moves.specs.declared.frame.Frame.{Frame}
 use Rattle.kind_moves.specs.declared.piece.Piece.{Piece}
 use Rattle.kind_moves.specs.Frames.{problem_in, tiers_in, kind_at_stage, FitsAt}
-use Rattle.kind_moves.specs.Pieces.{classes_of as piece_classes}
+use Rattle.kind_moves.specs.Pieces.{piece_classes}
 use Rattle.stage_tables.specs.declared.exploring.Exploring.{Exploring}
 use Rattle.stage_tables.specs.declared.listed.Listed.{Listed}
-use Rattle.stage_tables.specs.Listed.{StandsOver, IsReached, AreTargets, IsTaken, IsTakenFrom, AreTakenMoves, classes_of}
+use Rattle.stage_tables.specs.Listed.{StandsOver, IsReached, AreTargets, IsTaken, IsTakenFrom, AreTakenMoves}
+use Rattle.stage_tables.specs.Listed.{move_classes}
 use Rattle.stage_tables.specs.Exploring.{IsFoundWithin, StaysListed, ArePiecesFrom, IsPieceFrom, AddsTaken}
 use Rattle.stage_tables.proofs.Finding.{next_stands, next_reached, taken_stays, moves_taken_stay}
 
@@ -63,7 +66,8 @@ pub last_cost : (problem : Problem) (stage : ℕ) (k : PrefixKind) (column : Lis
     → cond (stage == 0) 0 (get_or (move_costs problem stage k column) (stage - 1) 0) ≡ cost_of problem stage k column
 last_cost problem zero k column = refl
 last_cost problem (suc n) k column =
-    ap (λ b. cond b 0 (get_or (move_costs problem (suc n) k column) (suc n - 1) 0)) (ne_eqb (suc n) 0 (λ e. omega (arith, e)))
+    ap (λ b. cond b 0 (get_or (move_costs problem (suc n) k column) (suc n - 1) 0))
+    (ne_eqb (suc n) 0 (λ e. omega (arith, e)))
 
 pub piece_weighs : (exploring : Exploring) (kind : Kind) {class : Class} (piece : Piece)
     → IsPieceFrom exploring kind class piece → (column : List Sym) → IsTrue (has piece.class column)
@@ -120,7 +124,7 @@ pub record PushedSoFar {g : Ghosts UnitWeight} {h : Ghosts Count} (exploring : E
   pub added : List (TableArc Count h)
   pub new_is : new ≡ old ++ added
   pub targets : AreTargets first.kinds.entries now.kinds.entries added
-  pub classes : classes_of added ≡ piece_classes (take n pieces)
+  pub classes : move_classes added ≡ piece_classes (take n pieces)
   pub each : All (IsTaken exploring.frame.now exploring.first exploring.stage now.kinds.entries kind arc)
       added
 
@@ -214,15 +218,15 @@ taken_then {g} {h} frame first stage entries kind ks ls xs ys a b = record {
       omega (arith, split xs ys column, a.held column fits, b.held column fits, parts column);
 }
   where
-    split : (xs ys : List (TableArc Count h)) (column : List Sym) → times_held (classes_of (xs ++ ys)) column
-        ≡ times_held (classes_of xs) column + times_held (classes_of ys) column
+    split : (xs ys : List (TableArc Count h)) (column : List Sym) → times_held (move_classes (xs ++ ys)) column
+        ≡ times_held (move_classes xs) column + times_held (move_classes ys) column
     split xs ys column = ap (λ cs. times_held cs column) (map-append (λ arc. arc.class) xs ys)
-        ∙ times-append (classes_of xs) (classes_of ys) column
+        ∙ times-append (move_classes xs) (move_classes ys) column
 
-    parts : (column : List Sym) → times_held (classes_of (ks ++ ls)) column
-        ≡ times_held (classes_of ks) column + times_held (classes_of ls) column
+    parts : (column : List Sym) → times_held (move_classes (ks ++ ls)) column
+        ≡ times_held (move_classes ks) column + times_held (move_classes ls) column
     parts column = ap (λ cs. times_held cs column) (map-append (λ arc. arc.class) ks ls)
-        ∙ times-append (classes_of ks) (classes_of ls) column
+        ∙ times-append (move_classes ks) (move_classes ls) column
 
 -- the first n kept moves are taken
 pub record TakenSoFar {g : Ghosts UnitWeight} {h : Ghosts Count} (exploring : Exploring) (first now : Listed)

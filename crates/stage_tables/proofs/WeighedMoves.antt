@@ -1,5 +1,6 @@
 -- Moves that are weighed one by one.
-use Rattle.std.proofs.Common.{◌≡◌, ℕ, ◌+◌, ◌<◌, Bool, not, ◌&&◌, List, [], ◌∷◌, ◌++◌, take, length, get_or, refl, ap, sym, ◌∙◌, subst, arith, inl, inr, Contains, IsTrue}
+use Rattle.std.proofs.Common.{◌≡◌, ℕ, ◌+◌, ◌<◌, Bool, not, ◌&&◌, List, [], ◌∷◌, ◌++◌, take, length, get_or, refl, ap}
+use Rattle.std.proofs.Common.{sym, ◌∙◌, subst, arith, inl, inr, Contains, IsTrue}
 use Rattle.std.proofs.lemmas.Bool.{cases_lt, and_parts, not-true}
 use Rattle.std.proofs.lemmas.List.{get_or-map, length-map, length_push, take_more, append-nil, append_assoc, map-append}
 use Rattle.std.proofs.lemmas.List.Elements.{All-nil, All-append, All-push, Contains-append_left, Contains-append_right}
@@ -21,15 +22,16 @@ use Rattle.arc_table.specs.declared.arc.TableArc.{TableArc}
 use Rattle.arc_table.specs.declared.state.TableState.{TableState}
 use Rattle.arc_table.specs.Moves.{moves_at, accepting_at}
 use Rattle.arc_table.proofs.Push.{accepting_old, accepting_new, moves_old, moves_new}
-use Rattle.stage_tables.specs.Listed.{classes_of}
-use Rattle.stage_tables.specs.Weighing.{AddsMoves, IsWeighedPart, IsWeighedFrom, AddsWeighed, AreWeighedMoves, AreWeighedStates}
+use Rattle.stage_tables.specs.Listed.{move_classes}
+use Rattle.stage_tables.specs.Weighing.{AddsMoves, IsWeighedPart, IsWeighedFrom, AddsWeighed, AreWeighedMoves}
+use Rattle.stage_tables.specs.Weighing.{AreWeighedStates}
 
 -- how often the moves of two lists hold a column
 held_append : {W : Type 0} {g : Ghosts W} (xs ys : List (TableArc W g)) (column : List Sym)
-    → times_held (classes_of (xs ++ ys)) column
-    ≡ times_held (classes_of xs) column + times_held (classes_of ys) column
+    → times_held (move_classes (xs ++ ys)) column
+    ≡ times_held (move_classes xs) column + times_held (move_classes ys) column
 held_append xs ys column = ap (λ cs. times_held cs column) (map-append (λ arc. arc.class) xs ys)
-    ∙ times-append (classes_of xs) (classes_of ys) column
+    ∙ times-append (move_classes xs) (move_classes ys) column
 
 -- ---- moves on classes
 

@@ -29,7 +29,7 @@ use Rattle.kind_moves.specs.Pieces.{cost_under}
 use Rattle.kind_tables.specs.StageTables.{name_of, cost_of}
 use Rattle.stage_tables.specs.Explored.{names_at, IsExplored}
 use Rattle.stage_tables.specs.Kept.{AreKeptByKinds}
-use Rattle.stage_tables.specs.Listed.{classes_of}
+use Rattle.stage_tables.specs.Listed.{move_classes}
 use Rattle.stage_tables.specs.Weighing.{cost_from, IsWeighedFrom, AreWeighedStates}
 use Rattle.stage_tables.proofs.HeldMoves.{move_on, held_on, classes_apart, moves_apart}
 use Rattle.stage_tables.proofs.SameWords.{GoesWith, words_with, on_runs_with}
@@ -84,7 +84,7 @@ module _ {g : Ghosts UnitWeight} {h : Ghosts Count} (cost : ℕ → List Sym →
       → (b : TableArc Count h) × Contains (moves_at states s) b × IsTrue (has b.class column) × (b.target ≡ a.target)
   new_move s a column here held =
       let l = moves_exist kept s a here in
-      let some = some_from_same (classes_of (moves_at states s)) (classes_of (moves_at kept s)) column
+      let some = some_from_same (move_classes (moves_at states s)) (move_classes (moves_at kept s)) column
       ((are.moves s l).held column)
       ∙ held_on (moves_at kept s) a column here held in
       let b = move_on (moves_at states s) column some in
@@ -129,11 +129,11 @@ module _ {g : Ghosts UnitWeight} {h : Ghosts Count} (cost : ℕ → List Sym →
 
   pub weighed_disjoint : ClassesDisjoint states
   weighed_disjoint s = elim (cases_lt s (length kept)) [
-    | inl l ↦ moves_apart (moves_at states s) (apart_from_once (classes_of (moves_at states s)) (λ column.
+    | inl l ↦ moves_apart (moves_at states s) (apart_from_once (move_classes (moves_at states s)) (λ column.
         omega (
           arith,
           (are.moves s l).held column,
-          once_from_apart (classes_of (moves_at kept s)) (classes_apart (moves_at kept s) (apart s)) column,
+          once_from_apart (move_classes (moves_at kept s)) (classes_apart (moves_at kept s) (apart s)) column,
         )))
     | inr l ↦
         (let gone : moves_at states s ≡ [] = get_or_past (map (λ x. x.arcs.items) states) s []

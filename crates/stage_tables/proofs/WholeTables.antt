@@ -1,5 +1,6 @@
 -- All candidates are explored from the table of one state that accepts every timeline.
-use Rattle.std.proofs.Common.{◌≡◌, ℕ, ◌<◌, ◌≤◌, false, cond, ◌+◌, ◌-◌, ◌==◌, ne_eqb, List, [], ◌∷◌, ◌++◌, take, length, get_or, refl, ap, sym, ◌∙◌, subst, arith, Contains, zero, suc, replicate, inl, inr}
+use Rattle.std.proofs.Common.{◌≡◌, ℕ, ◌<◌, ◌≤◌, false, cond, ◌+◌, ◌-◌, ◌==◌, ne_eqb, List, [], ◌∷◌, ◌++◌, take, length}
+use Rattle.std.proofs.Common.{get_or, refl, ap, sym, ◌∙◌, subst, arith, Contains, zero, suc, replicate, inl, inr}
 use Rattle.std.proofs.lemmas.Grind.{same_number_lists}
 use Rattle.std.proofs.lemmas.List.{length-take-le, length-replicate}
 use Rattle.std.proofs.lemmas.List.Elements.{Contains-push_cases}
@@ -29,9 +30,10 @@ use Rattle.kind_tables.specs.StageTables.{name_of}
 use Rattle.kind_tables.specs.FoundTables.{base_of, HaveAllMoves}
 use Rattle.kind_tables.proofs.Complete.{complete_words, complete_on_runs}
 use Rattle.stage_tables.specs.Explored.{names_at, IsComplete}
-use Rattle.stage_tables.specs.Whole.{IsWhole, IsWholeMove}
+use Rattle.stage_tables.specs.Whole.{IsWholeState, IsWholeMove}
 use Rattle.stage_tables.specs.Listed.{IsReached, IsOverOne, IsOfWidth, AreFound, AreTaken}
-use Rattle.stage_tables.proofs.Named.{frame_stage, kind_of_state, name_is, old_move, base_is, weighs, columns_new, new_reached, is_named, all_fit}
+use Rattle.stage_tables.proofs.Named.{frame_stage, kind_of_state, name_is, old_move, base_is, weighs, columns_new}
+use Rattle.stage_tables.proofs.Named.{new_reached, is_named, all_fit}
 use Rattle.stage_tables.proofs.KeptTables.{path_within}
 
 -- ---- the table
@@ -49,9 +51,9 @@ put_first {X} old new x none put = put ∙ ap (λ (xs : List X). xs ++ x ∷ [])
 -- one state with one move
 pub whole_states : {g : Ghosts UnitWeight} (frame : Frame) (old states : List (TableState UnitWeight g))
     (state : TableState UnitWeight g) (arc : TableArc UnitWeight g) → old ≡ [] → states ≡ old ++ state ∷ []
-    → state.arcs.items ≡ arc ∷ [] → IsWholeMove frame arc → IsWhole frame states
+    → state.arcs.items ≡ arc ∷ [] → IsWholeMove frame arc → IsWholeState frame states
 whole_states {g} frame old states state arc none put moves is =
-    subst (λ (xs : List (TableState UnitWeight g)). IsWhole frame xs)
+    subst (λ (xs : List (TableState UnitWeight g)). IsWholeState frame xs)
     (sym (put ∙ ap (λ (xs : List (TableState UnitWeight g)). xs ++ state ∷ []) none)) (record {
       one = refl;
       some = (arc, subst (λ (xs : List (TableArc UnitWeight g)). Contains xs arc) (sym moves) (0, omega arith, refl));
@@ -67,7 +69,7 @@ whole_states {g} frame old states state arc none put moves is =
 
 -- its move is on some column
 pub whole_filled : {g : Ghosts UnitWeight} (frame : Frame) (states : List (TableState UnitWeight g))
-    → IsWhole frame states → ClassesFilled states
+    → IsWholeState frame states → ClassesFilled states
 whole_filled frame states whole s arc here =
     filled_from arc.class (replicate (tiers_in frame).width Outside)
     ((whole.each s arc here).every (replicate (tiers_in frame).width Outside)
@@ -106,7 +108,7 @@ same_costs frame stage within kind c d each =
         ∙ ap (λ i. get_or (costs d) i 0) back
 
 module _ {g : Ghosts UnitWeight} (frame : Frame) (stage : ℕ) (within : stage ≤ last_stage (problem_in frame))
-    (kept : List (TableState UnitWeight g)) (whole : IsWhole frame kept) where
+    (kept : List (TableState UnitWeight g)) (whole : IsWholeState frame kept) where
   whole_targets : TargetsExist kept
   whole_targets s arc here = omega (arith, (whole.each s arc here).target, whole.one)
 
@@ -135,7 +137,8 @@ module _ {g : Ghosts UnitWeight} (frame : Frame) (stage : ℕ) (within : stage �
     all_moves k column l fits =
         let a = kind_of_state frame first stage kept entries found states taken all k l in
         let is = base_is frame first stage kept entries found states taken all k a.0 a.1 a.2 in
-        let base : 0 ≡ base_of (values_of entries) k = omega (arith, is, (found.stands k a.0 a.1 a.2).within, whole.one) in
+        let base : 0
+        ≡ base_of (values_of entries) k = omega (arith, is, (found.stands k a.0 a.1 a.2).within, whole.one) in
         let some = whole.some in
         let here : Contains (moves_at kept (base_of (values_of entries) k)) some.0 = subst
         (λ s. Contains (moves_at kept s) some.0) base some.1 in
@@ -150,7 +153,8 @@ module _ {g : Ghosts UnitWeight} (frame : Frame) (stage : ℕ) (within : stage �
         let is = name_is frame first stage kept entries found states taken all s m.0 m.1 m.2 in
         subst (λ (k : PrefixKind). move_costs (problem_in frame) stage k c ≡ move_costs (problem_in frame) stage k d)
         (sym is)
-        (same_costs frame stage within m.0 c d (λ r low high. m.3.2.alike r (omega (arith, one, low)) high c d has_c has_d))
+        (same_costs frame stage within m.0 c d
+        (λ r low high. m.3.2.alike r (omega (arith, one, low)) high c d has_c has_d))
 
     -- all kinds that are found make the table of all candidates
     pub is_complete : first ≤ 1 → IsComplete frame stage (keys_of entries) states

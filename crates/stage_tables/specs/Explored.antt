@@ -56,7 +56,7 @@ pub record IsMet (frame : Frame) (stage : ℕ) (timelines : List (List Sym) → 
   pub of_kind : kind_of (problem_in frame) stage prefix ≡ kind
 
 -- more kinds than the budget are those of prefixes of some timelines
-pub record IsOverBudget (frame : Frame) (stage : ℕ) (timelines : List (List Sym) → Type 0)
+pub record HasMoreKinds (frame : Frame) (stage : ℕ) (timelines : List (List Sym) → Type 0)
     (budget : ℕ) : Type 0 where
   pub kinds : List PrefixKind
   pub distinct : AllPairs (λ k l. k ≢ l) kinds

@@ -18,7 +18,7 @@ use Rattle.stage_tables.specs.declared.exploring.Exploring.{Exploring}
 use Rattle.stage_tables.specs.declared.listed.Listed.{Listed}
 use Rattle.kind_moves.specs.declared.piece.Piece.{Piece}
 use Rattle.kind_moves.specs.Frames.{tiers_in, FitsAt}
-use Rattle.kind_moves.specs.Pieces.{cost_under, classes_of, IsPiece}
+use Rattle.kind_moves.specs.Pieces.{cost_under, piece_classes, IsPiece}
 use Rattle.stage_tables.specs.Listed.{AreFound, AreTaken, AreTakenMoves, AreTargets, IsAt, Stays}
 
 -- what is listed is found by exploring
@@ -47,8 +47,8 @@ StaysListed old new = Stays old.kinds.entries new.kinds.entries
 -- Pieces of a class that go on from a kind: they hold exactly its columns that fit the kind, no column
 -- is in two, and under each constraint from the first on the columns of each cost the same.
 pub record ArePiecesFrom (exploring : Exploring) (kind : Kind) (class : Class) (pieces : List Piece) : Type 0 where
-  pub apart : ArePieces (tiers_in exploring.frame.now).width (classes_of pieces)
-  pub columns : (column : List Sym) → IsTrue (some_has (classes_of pieces) column)
+  pub apart : ArePieces (tiers_in exploring.frame.now).width (piece_classes pieces)
+  pub columns : (column : List Sym) → IsTrue (some_has (piece_classes pieces) column)
       ↔ (IsTrue (has class column) × FitsAt exploring.frame.now exploring.stage kind column)
   pub each : All (IsPiece exploring.frame.now exploring.stage exploring.stage kind) pieces
   pub alike : (r : ℕ) → exploring.first ≤ r → r ≤ exploring.stage

@@ -16,5 +16,5 @@ pub record AreKeptByKinds {g : Ghosts UnitWeight} (problem : Problem) (r : ℕ) 
   pub on_runs : (s : ℕ) → s < length states → IsOnRun states s
 
 -- the states of a kept table can be named by kinds in this way
-abbrev pub IsKept : {g : Ghosts UnitWeight} → Problem → ℕ → List (TableState UnitWeight g) → Type 0
-IsKept problem r states = (names : List PrefixKind) × AreKeptByKinds problem r names states
+abbrev pub IsKeptTable : {g : Ghosts UnitWeight} → Problem → ℕ → List (TableState UnitWeight g) → Type 0
+IsKeptTable problem r states = (names : List PrefixKind) × AreKeptByKinds problem r names states

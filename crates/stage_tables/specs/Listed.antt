@@ -108,8 +108,8 @@ pub record IsTakenFrom {g : Ghosts UnitWeight} {h : Ghosts Count} (frame : Frame
   pub taken : IsTaken frame first stage entries kind arc b
 
 -- the classes of moves
-abbrev pub classes_of : {W : Type 0} {g : Ghosts W} → List (TableArc W g) → List Class
-classes_of moves = map (λ arc. arc.class) moves
+abbrev pub move_classes : {W : Type 0} {g : Ghosts W} → List (TableArc W g) → List Class
+move_classes moves = map (λ arc. arc.class) moves
 
 -- New moves from a kind are the kept ones: each is a part of one of these, and they hold each column
 -- that fits the kind as often as these do.
@@ -118,7 +118,7 @@ pub record AreTakenMoves {g : Ghosts UnitWeight} {h : Ghosts Count} (frame : Fra
     (moves : List (TableArc Count h)) : Type 0 where
   pub each : All (IsTakenFrom frame first stage entries kind arcs) moves
   pub held : (column : List Sym) → FitsAt frame stage kind column
-      → times_held (classes_of moves) column ≡ times_held (classes_of arcs) column
+      → times_held (move_classes moves) column ≡ times_held (move_classes arcs) column
 
 -- a new state is a kept one: it accepts if its kind is final, and its moves are those of the kept one
 pub record IsTakenState {g : Ghosts UnitWeight} {h : Ghosts Count} (frame : Frame) (first stage : ℕ)

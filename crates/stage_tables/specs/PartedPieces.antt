@@ -9,7 +9,7 @@ use Rattle.symbol_class.specs.Held.{some_has, times_held, once_if, ArePieces}
 use Rattle.symbol_class.specs.Parts.{IsAlike}
 use Rattle.kind_moves.specs.declared.piece.Piece.{Piece}
 use Rattle.kind_moves.specs.Frames.{tiers_in, FitsAt}
-use Rattle.kind_moves.specs.Pieces.{cost_under, classes_of, IsPiece}
+use Rattle.kind_moves.specs.Pieces.{cost_under, piece_classes, IsPiece}
 use Rattle.stage_tables.specs.declared.exploring.Exploring.{Exploring}
 
 -- A part of a piece that goes on from a kind: it is not empty, its columns are among those of the
@@ -26,7 +26,7 @@ pub record AddsParts (exploring : Exploring) (constraint : ℕ) (kind : Kind) (p
     (old new : List Piece) : Type 0 where
   pub added : List Piece
   pub new_is : new ≡ old ++ added
-  pub held : (column : List Sym) → times_held (classes_of added) column ≡ once_if (has piece.class column)
+  pub held : (column : List Sym) → times_held (piece_classes added) column ≡ once_if (has piece.class column)
   pub good : All (IsPartOfPiece exploring constraint kind piece) added
 
 -- a part of one of some pieces
@@ -39,14 +39,14 @@ pub record IsPartOfSome (exploring : Exploring) (constraint : ℕ) (kind : Kind)
 -- parts hold each column as often as the pieces, and each is a part of one of these
 pub record ArePartedPieces (exploring : Exploring) (constraint : ℕ) (kind : Kind)
     (pieces parts : List Piece) : Type 0 where
-  pub held : (column : List Sym) → times_held (classes_of parts) column ≡ times_held (classes_of pieces) column
+  pub held : (column : List Sym) → times_held (piece_classes parts) column ≡ times_held (piece_classes pieces) column
   pub good : All (IsPartOfSome exploring constraint kind pieces) parts
 
 -- Pieces of a class that go on from a kind, as far as constraints before number n are looked at.
 pub record ArePiecesBefore (exploring : Exploring) (kind : Kind) (class : Class) (pieces : List Piece)
     (n : ℕ) : Type 0 where
-  pub apart : ArePieces (tiers_in exploring.frame.now).width (classes_of pieces)
-  pub columns : (column : List Sym) → IsTrue (some_has (classes_of pieces) column)
+  pub apart : ArePieces (tiers_in exploring.frame.now).width (piece_classes pieces)
+  pub columns : (column : List Sym) → IsTrue (some_has (piece_classes pieces) column)
       ↔ (IsTrue (has class column) × FitsAt exploring.frame.now exploring.stage kind column)
   pub each : All (IsPiece exploring.frame.now exploring.stage exploring.stage kind) pieces
   pub alike : (r : ℕ) → exploring.first ≤ r → r < n

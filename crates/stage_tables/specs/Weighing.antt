@@ -16,7 +16,7 @@ use Rattle.kind_moves.specs.declared.frame.Frame.{Frame}
 use Rattle.kind_moves.specs.Frames.{problem_in}
 use Rattle.kind_tables.specs.StageTables.{name_of, cost_of}
 use Rattle.stage_tables.specs.Explored.{names_at}
-use Rattle.stage_tables.specs.Listed.{classes_of}
+use Rattle.stage_tables.specs.Listed.{move_classes}
 
 -- what a column costs under the constraint of a stage from the kind that names a state
 abbrev pub cost_from : Frame → ℕ → List Kind → ℕ → List Sym → ℕ
@@ -45,13 +45,13 @@ pub record AddsWeighed {g : Ghosts UnitWeight} {h : Ghosts Count} (cost : List S
   pub added : List (TableArc Count h)
   pub new_is : new ≡ old ++ added
   pub each : All (IsWeighedPart cost arc) added
-  pub held : (column : List Sym) → times_held (classes_of added) column ≡ times column
+  pub held : (column : List Sym) → times_held (move_classes added) column ≡ times column
 
 -- The new moves are the kept ones in parts, and hold each column as often as these do.
 pub record AreWeighedMoves {g : Ghosts UnitWeight} {h : Ghosts Count} (cost : List Sym → ℕ)
     (arcs : List (TableArc UnitWeight g)) (moves : List (TableArc Count h)) : Type 0 where
   pub each : All (IsWeighedFrom cost arcs) moves
-  pub held : (column : List Sym) → times_held (classes_of moves) column ≡ times_held (classes_of arcs) column
+  pub held : (column : List Sym) → times_held (move_classes moves) column ≡ times_held (move_classes arcs) column
 
 -- The new states are the kept ones, so many of the first ones: each accepts where the kept one does, and
 -- its moves are those of the kept one in parts.
@@ -66,6 +66,6 @@ pub record AddsMoves {h : Ghosts Count} (target weight : ℕ) (classes : List Cl
     (old new : List (TableArc Count h)) : Type 0 where
   pub added : List (TableArc Count h)
   pub new_is : new ≡ old ++ added
-  pub classes_are : classes_of added ≡ classes
+  pub classes_are : move_classes added ≡ classes
   pub targets : All (λ arc. arc.target ≡ target) added
   pub weights : All (λ arc. arc.weight.0 ≡ weight) added

@@ -17,7 +17,7 @@ pub record IsWholeMove {g : Ghosts UnitWeight} (frame : Frame) (arc : TableArc U
   pub every : (column : List Sym) → length column ≡ (tiers_in frame).width → has arc.class column ≡ true
 
 -- there is one state, from which there is a move, and each move is on every column
-pub record IsWhole {g : Ghosts UnitWeight} (frame : Frame) (states : List (TableState UnitWeight g)) : Type 0 where
+pub record IsWholeState {g : Ghosts UnitWeight} (frame : Frame) (states : List (TableState UnitWeight g)) : Type 0 where
   pub one : length states ≡ 1
   pub some : (arc : TableArc UnitWeight g) × Contains (moves_at states 0) arc
   pub each : (s : ℕ) (arc : TableArc UnitWeight g) → Contains (moves_at states s) arc → IsWholeMove frame arc

@@ -18,7 +18,7 @@ use weight_law::{Count, UnitWeight};
 impl Exploring<'_> {
     /// The new move for a piece of a kept one from a kind; its target is listed if it is not listed
     /// yet.
-    fn taken(
+    fn new_move(
         &self,
         state: u32,
         kind: &Kind,
@@ -73,7 +73,7 @@ impl Exploring<'_> {
             (λ e. e ≡ ExploreErr.OverBudget → IsFoundBeyond self.now listed.new) }
     {
         for piece in pieces {
-            let made = self.taken(state, kind, arc, piece, listed)?;
+            let made = self.new_move(state, kind, arc, piece, listed)?;
             if moves.push(made).is_err() {
                 return Err(ExploreErr::NoMemory);
             }
@@ -109,7 +109,7 @@ impl Exploring<'_> {
     }
 
     /// The new moves for the kept ones from a kind.
-    pub fn taken_arcs(
+    pub fn new_moves(
         &self,
         alloc: Global,
         state: u32,

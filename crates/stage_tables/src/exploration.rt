@@ -2,8 +2,8 @@ ghost use Rattle.std.specs.Prelude.{◌≡◌, ◌≤◌, length, IfOk, IfErr};
 ghost use Rattle.arc_table.specs.States.{states_of};
 ghost use Rattle.arc_table.specs.Runs.{Accepts};
 ghost use Rattle.kind_moves.specs.Frames.{problem_in};
-ghost use Rattle.stage_tables.specs.Kept.{IsKept};
-ghost use Rattle.stage_tables.specs.Explored.{IsExplored, IsComplete, IsOverBudget};
+ghost use Rattle.stage_tables.specs.Kept.{IsKeptTable};
+ghost use Rattle.stage_tables.specs.Explored.{IsExplored, IsComplete, HasMoreKinds};
 ghost use Rattle.stage_tables.specs.Listed.{AreTaken};
 ghost use Rattle.stage_tables.specs.Exploring.{IsFoundWithin, IsFoundBeyond, IsStageFound, IsTooMuchFound};
 ghost use Rattle.violation.specs.Candidates.{IsCandidate};
@@ -60,7 +60,7 @@ impl Exploring<'_> {
     {
         let mut states = Vec::new(alloc);
         'making: while let Some((kind, state)) = entry_at(listed, states.len()) {
-            let arcs = self.taken_arcs(alloc, state, &kind, listed)?;
+            let arcs = self.new_moves(alloc, state, &kind, listed)?;
             let made = TableState {
                 accepting: self.frame.at_end(&kind),
                 arcs,
@@ -73,7 +73,7 @@ impl Exploring<'_> {
     }
 
     /// All kinds, and the table of their states.
-    fn explored(&self, alloc: Global) -> Result<StageTable, ExploreErr>
+    fn all_states(&self, alloc: Global) -> Result<StageTable, ExploreErr>
         requires some { 1 ≤ self.now.budget }
         requires few { self.now.budget ≤ 65536 }
         ensures found { IfOk result
@@ -110,7 +110,7 @@ pub fn explore(
 ) -> Result<StageTable, ExploreErr>
     requires further { before ≤ stage }
     requires stage { stage ≤ last_stage (problem_in frame.now) }
-    requires kept { IsKept (problem_in frame.now) before (states_of kept.now) }
+    requires kept { IsKeptTable (problem_in frame.now) before (states_of kept.now) }
     requires some_budget { 1 ≤ budget }
     requires budget { budget ≤ 65536 }
     ensures explored { IfOk result
@@ -120,7 +120,7 @@ pub fn explore(
     ensures few { IfOk result (λ found. length found.kinds.items ≤ budget) }
     ensures over { IfErr result
         (λ e. e ≡ ExploreErr.OverBudget
-        → IsOverBudget frame.now stage (Accepts (states_of kept.now)) budget) }
+        → HasMoreKinds frame.now stage (Accepts (states_of kept.now)) budget) }
 {
     let exploring = Exploring {
         frame,
@@ -129,7 +129,7 @@ pub fn explore(
         kept,
         budget,
     };
-    exploring.explored(alloc)
+    exploring.all_states(alloc)
 }
 
 /// Explores all candidates under the first `stage` constraints. The resulting table accepts exactly
@@ -153,7 +153,7 @@ pub fn explore_all(
     ensures few { IfOk result (λ found. length found.kinds.items ≤ budget) }
     ensures over { IfErr result
         (λ e. e ≡ ExploreErr.OverBudget
-        → IsOverBudget frame.now stage (IsCandidate (problem_in frame.now)) budget) }
+        → HasMoreKinds frame.now stage (IsCandidate (problem_in frame.now)) budget) }
 {
     let Ok(whole) = whole_table(alloc, frame) else {
         return Err(ExploreErr::NoMemory);
@@ -165,5 +165,5 @@ pub fn explore_all(
         kept: &whole,
         budget,
     };
-    exploring.explored(alloc)
+    exploring.all_states(alloc)
 }

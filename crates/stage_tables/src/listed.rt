@@ -36,7 +36,7 @@ fn place_of(kind: &Kind) -> usize {
 }
 
 /// The number of a kind, if it is at hand.
-fn recalled(listed: &Listed, kind: &Kind) -> Option<u32>
+fn number_at_hand(listed: &Listed, kind: &Kind) -> Option<u32>
     ensures { IfSome result (λ k. (s : ℕ) × IsAt listed.now.kinds.entries k kind.now s) }
 {
     let number = *listed.recent.get(place_of(kind))?;
@@ -77,7 +77,7 @@ pub(crate) fn number_of(
     ensures over { IfErr result
         (λ e. e ≡ ExploreErr.OverBudget → budget < length listed.new.kinds.entries) }
 {
-    if let Some(number) = recalled(listed, &kind) {
+    if let Some(number) = number_at_hand(listed, &kind) {
         return Ok(number);
     }
     let (number, _) = match listed.kinds.insert_full(kind, state) {

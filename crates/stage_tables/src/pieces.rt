@@ -45,7 +45,7 @@ impl Exploring<'_> {
     }
 
     /// Parts pieces by what their columns cost under a constraint.
-    fn parted(
+    fn parts_by_cost(
         &self,
         alloc: Global,
         constraint: u32,
@@ -80,7 +80,7 @@ impl Exploring<'_> {
             .frame
             .pieces(alloc, self.stage, self.stage, kind, class)?;
         for constraint in self.first..self.stage {
-            pieces = self.parted(alloc, constraint, kind, &pieces)?;
+            pieces = self.parts_by_cost(alloc, constraint, kind, &pieces)?;
         }
         Ok(pieces)
     }

@@ -14,7 +14,7 @@ ghost use Rattle.stage_tables.specs.Weighing.{cost_from, AddsMoves, AddsWeighed,
 use arc_table::{Table, TableArc, TableState};
 use kind_moves::Frame;
 use std::alloc::{AllocError, Global};
-use symbol_class::{Difference, Shares, push_inside, push_outside, shared};
+use symbol_class::{Difference, Shares, push_inside, push_outside, share_of};
 use tier_core::{Class, Kind, NoMemory};
 use weight_law::{Count, UnitWeight};
 
@@ -74,7 +74,7 @@ fn push_weighed(
         (AddsWeighed (λ column. once_if (differs test.now column)) arc.now
         (λ column. once_if (has arc.now.class column)) moves.old.items moves.new.items) }
 {
-    match shared(&arc.class, test) {
+    match share_of(&arc.class, test) {
         Shares::Nothing => push_moves(moves, arc.target, 0, &[arc.class]),
         Shares::Everything => push_moves(moves, arc.target, 1, &[arc.class]),
         Shares::Part => push_sides(alloc, arc, test, moves),
@@ -121,7 +121,7 @@ fn weighed_states(
 {
     let mut states = Vec::with_capacity(alloc, kept.len() as usize)?;
     for state in 0..kept.len() {
-        let test = frame.costing(stage, stage, &kinds[state as usize]);
+        let test = frame.cost_test(stage, stage, &kinds[state as usize]);
         let arcs = weighed_moves(alloc, kept.arcs(state), &test)?;
         states.push(TableState {
             accepting: kept.accepting(state),

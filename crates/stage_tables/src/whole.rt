@@ -4,7 +4,7 @@ ghost use Rattle.tier_core.specs.Classes.{sets_of, has};
 ghost use Rattle.arc_table.specs.declared.arc.TableArc.{TableArc as ArcOf};
 ghost use Rattle.arc_table.specs.States.{states_of};
 ghost use Rattle.kind_moves.specs.Frames.{tiers_in};
-ghost use Rattle.stage_tables.specs.Whole.{IsWhole, IsWholeMove};
+ghost use Rattle.stage_tables.specs.Whole.{IsWholeState, IsWholeMove};
 
 use arc_table::{Table, TableArc, TableState};
 use kind_moves::Frame;
@@ -37,7 +37,7 @@ fn every_move(alloc: Global, frame: &Frame<'_>) -> Result<Vec<TableArc<UnitWeigh
 
 /// The table of one state that accepts all timelines of the width of a frame.
 pub(crate) fn whole_table(alloc: Global, frame: &Frame<'_>) -> Result<Table<UnitWeight>, AllocError>
-    ensures { IfOk result (λ table. IsWhole frame.now (states_of table)) }
+    ensures { IfOk result (λ table. IsWholeState frame.now (states_of table)) }
 {
     let mut states = Vec::new(alloc);
     states.push(TableState {

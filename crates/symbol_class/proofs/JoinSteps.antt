@@ -1,5 +1,7 @@
 -- Classes that are joined along a tier, as lists of sets.
-use Rattle.std.proofs.Common.{◌≡◌, ◌≢◌, ℕ, suc, ◌+◌, ◌<◌, ◌≤◌, Bool, true, false, cond, ◌||◌, List, [], ◌∷◌, map, length, get_or, bit_or, refl, ap, sym, ◌∙◌, subst, arith, All, AllPairs, count_by, true≢false}
+use Rattle.std.proofs.Common.{◌≡◌, ◌≢◌, ℕ, suc, ◌+◌, ◌<◌, ◌≤◌, Bool, true, false, cond, ◌||◌, List, [], ◌∷◌, map}
+use Rattle.std.proofs.Common.{length, get_or, bit_or, refl, ap, sym, ◌∙◌, subst, arith, All, AllPairs, count_by}
+use Rattle.std.proofs.Common.{true≢false}
 use Rattle.std.specs.Cmp.Lexicographic.{slice_cmp}
 use Rattle.std.specs.List.{list_all, list_any}
 use Rattle.std.specs.Ordering.{nat_cmp, is_lt, is_eq, is_gt}
@@ -17,7 +19,7 @@ use Rattle.tier_core.specs.Sets.{is_in}
 use Rattle.tier_core.specs.Classes.{sets_have}
 use Rattle.tier_core.specs.FirstColumn.{first_sym}
 use Rattle.symbol_class.specs.Held.{once_if}
-use Rattle.symbol_class.specs.Joined.{sets_beside, beside_cmp, united}
+use Rattle.symbol_class.specs.Joined.{sets_beside, beside_cmp, union_on}
 use Rattle.tier_core.proofs.Filled.{sets_filled, sets_have-first}
 use Rattle.symbol_class.proofs.SetLists.{have_either}
 use Rattle.tier_core.proofs.KindTies.{same_numbers, is_equal}
@@ -39,27 +41,27 @@ had-cons sets boxes column = sum_by-cons (λ xs. once_if (sets_have xs column)) 
 abbrev pub joined_from : ℕ → List ℕ → List (List ℕ) → List (List ℕ)
 joined_from t current [] = current ∷ []
 joined_from t current (next ∷ rest) = cond (is_eq (beside_cmp t current next))
-    (joined_from t (united t current next) rest) (current ∷ joined_from t next rest)
+    (joined_from t (union_on t current next) rest) (current ∷ joined_from t next rest)
 
 pub joined_alike : (t : ℕ) (current next : List ℕ) (rest : List (List ℕ)) → is_eq (beside_cmp t current next) ≡ true
-    → joined_from t current (next ∷ rest) ≡ joined_from t (united t current next) rest
+    → joined_from t current (next ∷ rest) ≡ joined_from t (union_on t current next) rest
 joined_alike t current next rest e = cond-true (is_eq (beside_cmp t current next))
-    (joined_from t (united t current next) rest) (current ∷ joined_from t next rest) e
+    (joined_from t (union_on t current next) rest) (current ∷ joined_from t next rest) e
 
 pub joined_other : (t : ℕ) (current next : List ℕ) (rest : List (List ℕ)) → is_eq (beside_cmp t current next) ≡ false
     → joined_from t current (next ∷ rest) ≡ current ∷ joined_from t next rest
 joined_other t current next rest e = cond-false (is_eq (beside_cmp t current next))
-    (joined_from t (united t current next) rest) (current ∷ joined_from t next rest) e
+    (joined_from t (union_on t current next) rest) (current ∷ joined_from t next rest) e
 
 -- sets that tie agree beside the tier
 pub agree : (t : ℕ) (a b : List ℕ) → is_eq (beside_cmp t a b) ≡ true → sets_beside t a ≡ sets_beside t b
 agree t a b e = same_numbers (sets_beside t a) (sets_beside t b) (is_equal (beside_cmp t a b) e)
 
 -- what is united agrees with the first beside the tier
-beside-united : (t : ℕ) (a b : List ℕ) → sets_beside t (united t a b) ≡ sets_beside t a
+beside-united : (t : ℕ) (a b : List ℕ) → sets_beside t (union_on t a b) ≡ sets_beside t a
 beside-united t a b = set-set a t (bit_or (get_or a t 0) (get_or b t 0)) 0
 
-pub length-united : (t : ℕ) (a b : List ℕ) → length (united t a b) ≡ length a
+pub length-united : (t : ℕ) (a b : List ℕ) → length (union_on t a b) ≡ length a
 length-united t a b = length-set a t (bit_or (get_or a t 0) (get_or b t 0))
 
 -- ---- how many there are
@@ -68,9 +70,9 @@ pub joined_fewer : (t : ℕ) (current : List ℕ) (rest : List (List ℕ))
     → length (joined_from t current rest) ≤ suc (length rest)
 joined_fewer t current [] = omega arith
 joined_fewer t current (next ∷ rest) =
-    cond_both (is_eq (beside_cmp t current next)) (joined_from t (united t current next) rest)
+    cond_both (is_eq (beside_cmp t current next)) (joined_from t (union_on t current next) rest)
     (current ∷ joined_from t next rest) (λ boxes. length boxes ≤ suc (suc (length rest)))
-    (λ e. let h = joined_fewer t (united t current next) rest in omega (arith, h))
+    (λ e. let h = joined_fewer t (union_on t current next) rest in omega (arith, h))
     (λ e. let h = joined_fewer t next rest in omega (arith, h))
 
 -- where there are as many as before, none was united
@@ -78,10 +80,10 @@ pub joined_kept : (t : ℕ) (current : List ℕ) (rest : List (List ℕ))
     → length (joined_from t current rest) ≡ suc (length rest) → joined_from t current rest ≡ current ∷ rest
 joined_kept t current [] = λ e. refl
 joined_kept t current (next ∷ rest) =
-    cond_both (is_eq (beside_cmp t current next)) (joined_from t (united t current next) rest)
+    cond_both (is_eq (beside_cmp t current next)) (joined_from t (union_on t current next) rest)
     (current ∷ joined_from t next rest)
     (λ boxes. length boxes ≡ suc (suc (length rest)) → boxes ≡ current ∷ next ∷ rest)
-    (λ e many. let h = joined_fewer t (united t current next) rest in absurd (omega (arith, h, many)))
+    (λ e many. let h = joined_fewer t (union_on t current next) rest in absurd (omega (arith, h, many)))
     (λ e many. ap (λ boxes. current ∷ boxes) (joined_kept t next rest (omega (arith, many))))
 
 -- ---- what holds of each
@@ -93,22 +95,22 @@ joined_wide t width current [] wide all = All-cons (λ sets. length sets ≡ wid
 joined_wide t width current (next ∷ rest) wide all =
     let here = All-head (λ sets. length sets ≡ width) next rest all in
     let later = All-tail (λ sets. length sets ≡ width) next rest all in
-    cond_both (is_eq (beside_cmp t current next)) (joined_from t (united t current next) rest)
+    cond_both (is_eq (beside_cmp t current next)) (joined_from t (union_on t current next) rest)
     (current ∷ joined_from t next rest) (All (λ sets. length sets ≡ width))
-    (λ e. joined_wide t width (united t current next) rest (length-united t current next ∙ wide) later)
+    (λ e. joined_wide t width (union_on t current next) rest (length-united t current next ∙ wide) later)
     (λ e. All-cons (λ sets. length sets ≡ width) current (joined_from t next rest) wide
     (joined_wide t width next rest here later))
 
 -- sets that are united have the columns of both
 have_united : (t : ℕ) (a b : List ℕ) (column : List Sym) → t < length a → t < length b
-    → is_eq (beside_cmp t a b) ≡ true → sets_have (united t a b) column ≡ (sets_have a column || sets_have b column)
+    → is_eq (beside_cmp t a b) ≡ true → sets_have (union_on t a b) column ≡ (sets_have a column || sets_have b column)
 have_united t a b column la lb e = have_either a b column t la lb (agree t a b e)
 
 filled-united : (t : ℕ) (a b : List ℕ) → t < length a → t < length b → is_eq (beside_cmp t a b) ≡ true
-    → are_filled a ≡ true → are_filled (united t a b) ≡ true
+    → are_filled a ≡ true → are_filled (union_on t a b) ≡ true
 filled-united t a b la lb e filled =
     let column = map first_sym a in
-    sets_filled (united t a b) column (have_united t a b column la lb e
+    sets_filled (union_on t a b) column (have_united t a b column la lb e
     ∙ ap (λ x. x || sets_have b column) (sets_have-first a filled))
 
 pub joined_filled : (t : ℕ) (current : List ℕ) (rest : List (List ℕ)) → t < length current
@@ -121,9 +123,9 @@ joined_filled t current (next ∷ rest) inside all_inside filled all =
     let ls = All-tail (λ sets. t < length sets) next rest all_inside in
     let here = All-head (λ sets. are_filled sets ≡ true) next rest all in
     let later = All-tail (λ sets. are_filled sets ≡ true) next rest all in
-    cond_both (is_eq (beside_cmp t current next)) (joined_from t (united t current next) rest)
+    cond_both (is_eq (beside_cmp t current next)) (joined_from t (union_on t current next) rest)
     (current ∷ joined_from t next rest) (All (λ sets. are_filled sets ≡ true))
-    (λ e. joined_filled t (united t current next) rest (omega (arith, length-united t current next, inside)) ls
+    (λ e. joined_filled t (union_on t current next) rest (omega (arith, length-united t current next, inside)) ls
     (filled-united t current next inside l e filled) later)
     (λ e. All-cons (λ sets. are_filled sets ≡ true) current (joined_from t next rest) filled
     (joined_filled t next rest l ls here later))
@@ -146,15 +148,15 @@ joined_had t current (next ∷ rest) inside all_inside column once =
     let l = All-head (λ sets. t < length sets) next rest all_inside in
     let ls = All-tail (λ sets. t < length sets) next rest all_inside in
     let all = had-cons next rest column in
-    cond_both (is_eq (beside_cmp t current next)) (joined_from t (united t current next) rest)
+    cond_both (is_eq (beside_cmp t current next)) (joined_from t (union_on t current next) rest)
     (current ∷ joined_from t next rest)
     (λ boxes. times_had boxes column ≡ once_if (sets_have current column) + times_had (next ∷ rest) column)
     (λ e.
-    let either : once_if (sets_have (united t current next) column)
+    let either : once_if (sets_have (union_on t current next) column)
     ≡ once_if (sets_have current column) + once_if (sets_have next column) =
     ap once_if (have_united t current next column inside l e)
     ∙ once_either (sets_have current column) (sets_have next column) (omega (arith, once, all)) in
-    let h = joined_had t (united t current next) rest (omega (arith, length-united t current next, inside)) ls column
+    let h = joined_had t (union_on t current next) rest (omega (arith, length-united t current next, inside)) ls column
     (omega (arith, either, once, all)) in
     omega (arith, h, either, all))
     (λ e.
@@ -202,18 +204,18 @@ joined_strict t current (next ∷ rest) after sorted =
     let later = All-tail (Upto t current) next rest after in
     let after_next = pairs_head (Upto t) next rest sorted in
     let sorted_rest = pairs_tail (Upto t) next rest sorted in
-    cond_both (is_eq (beside_cmp t current next)) (joined_from t (united t current next) rest)
+    cond_both (is_eq (beside_cmp t current next)) (joined_from t (union_on t current next) rest)
     (current ∷ joined_from t next rest)
     (λ boxes. AllPairs (Below t) boxes × All (Upto t current) boxes)
     (λ e.
     let same = beside-united t current next in
-    let h = joined_strict t (united t current next) rest
-    (All-weaker (Upto t current) (Upto t (united t current next))
-    (λ x u. upto_alike t (united t current next) current x same u) rest later) sorted_rest in (
+    let h = joined_strict t (union_on t current next) rest
+    (All-weaker (Upto t current) (Upto t (union_on t current next))
+    (λ x u. upto_alike t (union_on t current next) current x same u) rest later) sorted_rest in (
       h.0,
-      All-weaker (Upto t (united t current next)) (Upto t current)
-          (λ x u. upto_alike t current (united t current next) x (sym same) u)
-          (joined_from t (united t current next) rest) h.1,
+      All-weaker (Upto t (union_on t current next)) (Upto t current)
+          (λ x u. upto_alike t current (union_on t current next) x (sym same) u)
+          (joined_from t (union_on t current next) rest) h.1,
     ))
     (λ e.
     let less = less_from (beside_cmp t current next) here e in

@@ -1,5 +1,6 @@
 -- Pairs of a list that is rearranged or mapped, and what a sort leaves.
-use Rattle.std.proofs.Common.{◌≡◌, ◌≢◌, ℕ, Bool, ◌<◌, List, [], ◌∷◌, map, swap, length, get_or, if◌then◌else◌, ◌==◌, refl, ap, sym, ◌∙◌, subst, arith, inl, inr, AllPairs, IsPermutation}
+use Rattle.std.proofs.Common.{◌≡◌, ◌≢◌, ℕ, Bool, ◌<◌, List, [], ◌∷◌, map, swap, length, get_or, if◌then◌else◌, ◌==◌}
+use Rattle.std.proofs.Common.{refl, ap, sym, ◌∙◌, subst, arith, inl, inr, AllPairs, IsPermutation}
 use Rattle.std.proofs.lemmas.Bool.{cases_order, cases_eq}
 use Rattle.std.proofs.lemmas.Bool.Decides.{nat_tests}
 use Rattle.std.proofs.lemmas.List.{get_or-map, length-map}

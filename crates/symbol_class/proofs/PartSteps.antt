@@ -1,5 +1,6 @@
 -- Classes in their parts, by a difference of two classes.
-use Rattle.std.proofs.Common.{◌≡◌, ℕ, ◌+◌, ◌<◌, ◌≤◌, Bool, true, false, not, ◌&&◌, List, [], length, get_or, take, refl, ap, sym, ◌∙◌, subst, arith, IsTrue, All}
+use Rattle.std.proofs.Common.{◌≡◌, ℕ, ◌+◌, ◌<◌, ◌≤◌, Bool, true, false, not, ◌&&◌, List, [], length, get_or, take, refl}
+use Rattle.std.proofs.Common.{ap, sym, ◌∙◌, subst, arith, IsTrue, All}
 use Rattle.std.specs.List.{Contains}
 use Rattle.std.proofs.lemmas.Bool.{false≢true, and_parts, not-true}
 use Rattle.std.proofs.lemmas.List.{take_all}
@@ -15,7 +16,8 @@ use Rattle.tier_core.specs.Filled.{is_filled}
 use Rattle.symbol_class.specs.Held.{times_held, once_if, ArePieces, AddsClasses}
 use Rattle.symbol_class.specs.Parts.{differs, IsAlike, IsPartOf, AddsAlike, ArePartedBy}
 use Rattle.tier_core.proofs.Filled.{empty_holds}
-use Rattle.symbol_class.proofs.Times.{held_by, adds_same, adds_then, adds_none, pieces_from_once, once_from_apart, added_times}
+use Rattle.symbol_class.proofs.Times.{held_by, adds_same, adds_then, adds_none, pieces_from_once, once_from_apart}
+use Rattle.symbol_class.proofs.Times.{added_times}
 
 -- ---- classes that need not be parted
 
@@ -239,7 +241,8 @@ parted_same width test wholes pieces alike = record {
 
 -- ---- parts of parts
 
-alike_at : {X : Type 0} (f : List Sym → X) (xs : List Class) (x : Class) → All (IsAlike f) xs → Contains xs x → IsAlike f x
+alike_at : {X : Type 0} (f : List Sym → X) (xs : List Class) (x : Class) → All (IsAlike f) xs → Contains xs x
+    → IsAlike f x
 alike_at f xs x all c = subst (IsAlike f) c.2 (all c.0 x c.1)
 
 pub part_of_part : (xs ys : List Class) (z : Class) → All (IsPartOf xs) ys → IsPartOf ys z → IsPartOf xs z
@@ -248,13 +251,15 @@ part_of_part xs ys z all p =
     record { whole = q.whole; listed = q.listed; within = λ column h. q.within column (p.within column h) }
 
 -- what is alike in some pieces is alike in their parts
-pub alike_parts : {X : Type 0} (f : List Sym → X) (xs ys : List Class) → All (IsAlike f) xs → All (IsPartOf xs) ys → All (IsAlike f) ys
+pub alike_parts : {X : Type 0} (f : List Sym → X) (xs ys : List Class) → All (IsAlike f) xs → All (IsPartOf xs) ys
+    → All (IsAlike f) ys
 alike_parts f xs ys alike within k d inside x y in_x in_y =
     let p = within k d inside in
     alike_at f xs p.whole alike p.listed x y (p.within x in_x) (p.within y in_y)
 
 -- parts are parted again, and what hangs on both tests alone is alike in the last parts
-pub parted_then : {X Y Z : Type 0} (width : ℕ) (f : List Sym → X) (g : List Sym → Y) (h : List Sym → Z) (xs ys zs : List Class)
+pub parted_then : {X Y Z : Type 0} (width : ℕ) (f : List Sym → X) (g : List Sym → Y) (h : List Sym
+    → Z) (xs ys zs : List Class)
     → ((c d : List Sym) → length c ≡ width → length d ≡ width → f c ≡ f d → g c ≡ g d → h c ≡ h d)
     → ArePartedBy width f xs ys → ArePartedBy width g ys zs → ArePartedBy width h xs zs
 parted_then width f g h xs ys zs hangs p q = record {
@@ -263,17 +268,20 @@ parted_then width f g h xs ys zs hangs p q = record {
   within = λ k d inside. part_of_part xs ys (get_or zs k d) p.within (q.within k d inside);
   alike = λ k d inside x y in_x in_y.
       let wide = q.pieces.one_width k d inside in
-      hangs x y (same_width (sets_of (get_or zs k d)) x in_x ∙ wide) (same_width (sets_of (get_or zs k d)) y in_y ∙ wide)
+      hangs x y (same_width (sets_of (get_or zs k d)) x in_x ∙ wide) (same_width (sets_of (get_or zs k d)) y in_y
+      ∙ wide)
       (alike_parts f ys zs p.alike q.within k d inside x y in_x in_y) (q.alike k d inside x y in_x in_y);
 }
 
 pub parted_weaker : {X Z : Type 0} (width : ℕ) (f : List Sym → X) (h : List Sym → Z) (xs ys : List Class)
-    → ((c d : List Sym) → length c ≡ width → length d ≡ width → f c ≡ f d → h c ≡ h d) → ArePartedBy width f xs ys → ArePartedBy width h xs ys
+    → ((c d : List Sym) → length c ≡ width → length d ≡ width → f c ≡ f d → h c ≡ h d) → ArePartedBy width f xs ys
+    → ArePartedBy width h xs ys
 parted_weaker width f h xs ys hangs p = record {
   pieces = p.pieces;
   held = p.held;
   within = p.within;
   alike = λ k d inside x y in_x in_y.
       let wide = p.pieces.one_width k d inside in
-      hangs x y (same_width (sets_of (get_or ys k d)) x in_x ∙ wide) (same_width (sets_of (get_or ys k d)) y in_y ∙ wide) (p.alike k d inside x y in_x in_y);
+      hangs x y (same_width (sets_of (get_or ys k d)) x in_x ∙ wide) (same_width (sets_of (get_or ys k d)) y in_y
+      ∙ wide) (p.alike k d inside x y in_x in_y);
 }

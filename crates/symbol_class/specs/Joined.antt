@@ -26,8 +26,8 @@ abbrev pub beside_cmp : ℕ → List ℕ → List ℕ → Ordering
 beside_cmp tier a b = slice_cmp nat_cmp (sets_beside tier a) (sets_beside tier b)
 
 -- the first sets, but this tier has the symbols that it has in either
-abbrev pub united : ℕ → List ℕ → List ℕ → List ℕ
-united tier a b = slice_set a tier (bit_or (slice_index_or a tier 0) (slice_index_or b tier 0))
+abbrev pub union_on : ℕ → List ℕ → List ℕ → List ℕ
+union_on tier a b = slice_set a tier (bit_or (slice_index_or a tier 0) (slice_index_or b tier 0))
 
 -- no two classes agree on all tiers but this one
 abbrev pub DifferBeside : ℕ → List Class → Type 0

@@ -5,7 +5,7 @@ ghost use Rattle.tier_core.specs.declared.sym.Sym.{Sym};
 ghost use Rattle.tier_core.specs.Classes.{sets_of, AreDisjoint};
 ghost use Rattle.tier_core.specs.Filled.{is_filled};
 ghost use Rattle.symbol_class.specs.Held.{some_has, times_held, width_of, ArePieces};
-ghost use Rattle.symbol_class.specs.Joined.{DifferTwice, beside_cmp, united, JoinsAlong, JoinsBelow};
+ghost use Rattle.symbol_class.specs.Joined.{DifferTwice, beside_cmp, union_on, JoinsAlong, JoinsBelow};
 
 use crate::order::class_cmp;
 use std::alloc::{AllocError, Global};
@@ -20,10 +20,10 @@ fn beside_cmp(tier: u32, a: &Class, b: &Class) -> Ordering
 }
 
 /// The class that has the symbols of both on this tier, and the sets of the first on all others.
-fn united(tier: u32, a: &Class, b: &Class) -> Class
+fn union_on(tier: u32, a: &Class, b: &Class) -> Class
     requires first { tier < length (sets_of a.now) }
     requires second { tier < length (sets_of b.now) }
-    ensures { sets_of result ≡ united tier (sets_of a.now) (sets_of b.now) }
+    ensures { sets_of result ≡ union_on tier (sets_of a.now) (sets_of b.now) }
 {
     a.with_set(tier, a.bits(tier) | b.bits(tier))
 }
@@ -41,13 +41,13 @@ fn joined_next(
     ensures alike { is_eq (beside_cmp tier (sets_of current.now) (sets_of next.now)) ≡ true
         → IfOk result
         (λ class. (done.new.items ≡ done.old.items)
-        × (sets_of class ≡ united tier (sets_of current.now) (sets_of next.now))) }
+        × (sets_of class ≡ union_on tier (sets_of current.now) (sets_of next.now))) }
     ensures other { is_eq (beside_cmp tier (sets_of current.now) (sets_of next.now)) ≡ false
         → IfOk result
         (λ class. (done.new.items ≡ done.old.items ++ current.now ∷ []) × (class ≡ next.now)) }
 {
     if beside_cmp(tier, current, next) == Ordering::Equal {
-        return Ok(united(tier, current, next));
+        return Ok(union_on(tier, current, next));
     }
     done.push(*current)?;
     Ok(*next)

@@ -11,7 +11,7 @@ use tier_core::{Class, Column, Sym};
 
 /// The least symbol of the set with this number, and Both if the set has none.
 #[tactic(auto, unfolding(tier_core::specs::FirstColumn::first_sym))]
-fn lowest(set: u8) -> Sym
+fn least_sym(set: u8) -> Sym
     ensures { result ≡ first_sym set }
 {
     if set % 2 == 1 {
@@ -38,7 +38,7 @@ pub fn least_column(alloc: Global, class: &Class) -> Column
     let width = class.width();
     let mut syms = [Sym::Outside; 12];
     for tier in 0..width {
-        syms[tier as usize] = lowest(class.bits(tier));
+        syms[tier as usize] = least_sym(class.bits(tier));
     }
     Column::from_syms(alloc, &syms[..width as usize])
 }

@@ -30,6 +30,6 @@ pub use order::class_cmp;
 pub use parting::split;
 pub use parts::part;
 pub use remainder::{minus, push_minus};
-pub use sets::narrowed;
-pub use sharing::{Shares, push_inside, push_outside, shared};
+pub use sets::restrict;
+pub use sharing::{Shares, push_inside, push_outside, share_of};
 pub use sides::Split;

@@ -11,7 +11,7 @@ use tier_core::{Class, NoMemory};
 
 /// Divides classes by a test: appends what they have in common with it to a list, and gives the
 /// rest.
-fn parted(
+fn divide(
     alloc: Global,
     classes: &[Class],
     test: &Class,
@@ -51,7 +51,7 @@ fn parted_by_all(alloc: Global, class: &Class, tests: &[Class]) -> Result<Split,
     let mut outside = Vec::new(alloc);
     push_filled(&mut outside, *class)?;
     for test in tests {
-        outside = parted(alloc, &outside, test, &mut inside)?;
+        outside = divide(alloc, &outside, test, &mut inside)?;
     }
     Ok(Split { inside, outside })
 }

@@ -5,7 +5,7 @@ ghost use Rattle.symbol_class.specs.Parts.{differs, IsAlike, AddsAlike, AreParte
 
 use crate::difference::Difference;
 use crate::remainder::push_filled;
-use crate::sharing::{Shares, push_inside, push_outside, shared};
+use crate::sharing::{Shares, push_inside, push_outside, share_of};
 use std::alloc::{AllocError, Global};
 use tier_core::{Class, NoMemory};
 
@@ -14,7 +14,7 @@ fn is_parted(class: &Class, test: &Difference) -> bool
     requires { length (sets_of class.now) ≡ length (sets_of test.now.within) }
     ensures { result ≡ false → IsAlike (differs test.now) class.now }
 {
-    match shared(class, test) {
+    match share_of(class, test) {
         Shares::Nothing => false,
         Shares::Everything => false,
         Shares::Part => true,

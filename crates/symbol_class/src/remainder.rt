@@ -4,7 +4,7 @@ ghost use Rattle.tier_core.specs.Classes.{sets_of, has};
 ghost use Rattle.symbol_class.specs.Held.{some_has, once_if, ArePieces, AddsClasses};
 
 use crate::emptiness::is_empty;
-use crate::sets::narrowed;
+use crate::sets::restrict;
 use std::alloc::{AllocError, Global};
 use tier_core::{Class, NoMemory};
 
@@ -35,8 +35,8 @@ pub fn push_minus(pieces: &mut Vec<Class>, a: &Class, b: &Class) -> Result<(), A
     let mut rest = *a;
     for tier in 0..a.width() {
         let set = b.bits(tier);
-        push_filled(pieces, narrowed(&rest, tier, !set))?;
-        rest = narrowed(&rest, tier, set);
+        push_filled(pieces, restrict(&rest, tier, !set))?;
+        rest = restrict(&rest, tier, set);
     }
     Ok(())
 }

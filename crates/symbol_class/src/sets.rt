@@ -7,7 +7,7 @@ ghost use Rattle.tier_core.specs.Timelines.{symbol};
 use tier_core::Class;
 
 /// The columns of a class whose symbol on a tier is in a set.
-pub fn narrowed(class: &Class, tier: u32, set: u8) -> Class
+pub fn restrict(class: &Class, tier: u32, set: u8) -> Class
     requires { tier < length (sets_of class.now) }
     ensures width { length (sets_of result) ≡ length (sets_of class.now) }
     ensures columns { (column : List Sym)

@@ -23,7 +23,7 @@ pub enum Shares {
 }
 
 /// What a class shares with a difference of its width. Allocates no memory.
-pub fn shared(class: &Class, test: &Difference) -> Shares
+pub fn share_of(class: &Class, test: &Difference) -> Shares
     requires { length (sets_of class.now) ≡ length (sets_of test.now.within) }
     ensures nothing { result ≡ Shares.Nothing → (column : List Sym)
         → IsTrue (has class.now column) → differs test.now column ≡ false }

@@ -120,7 +120,7 @@ fn a_class_has_two_sides(rt: HostRuntime) -> Result<(), Fail> {
                 (false, true) => Shares::Everything,
                 (false, false) => Shares::Part,
             };
-            assert_eq!(rt; shared(&class, &test), expected);
+            assert_eq!(rt; share_of(&class, &test), expected);
             for code in 0..COLUMNS {
                 let column = column_of(rt.alloc(), code);
                 let tested = test.within.has(&column) && !test.without.has(&column);

@@ -1,5 +1,6 @@
 -- Counts beside the least counts of a form.
-use Rattle.std.proofs.Common.{◌≡◌, ◌≢◌, ℕ, zero, suc, ◌<◌, ◌↔◌, true, List, [], ◌∷◌, length, take, get_or, Option, Some, None, MatchOption, IfSome, is_some, refl, ap, sym, ◌∙◌, subst, arith}
+use Rattle.std.proofs.Common.{◌≡◌, ◌≢◌, ℕ, zero, suc, ◌<◌, ◌↔◌, true, List, [], ◌∷◌, length, take, get_or, Option, Some}
+use Rattle.std.proofs.Common.{None, MatchOption, IfSome, is_some, refl, ap, sym, ◌∙◌, subst, arith}
 use Rattle.std.specs.Prelude.{IsNone}
 use Rattle.std.specs.Ordering.{nat_cmp, is_le, ordering_then}
 use Rattle.std.specs.Cmp.{nat_cmp_is}

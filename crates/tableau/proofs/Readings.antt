@@ -1,5 +1,6 @@
 -- Lines have rows, or one of them is the first with a cause, and never both.
-use Rattle.std.proofs.Common.{◌≡◌, ◌⊎◌, inl, inr, ⊎_elim, ℕ, ◌+◌, ◌<◌, ◌≤◌, false, List, [], ◌∷◌, ◌++◌, length, map, nat_lt, All, refl, ap, sym, ◌∙◌, subst, arith, append_assoc, append-nil}
+use Rattle.std.proofs.Common.{◌≡◌, ◌⊎◌, inl, inr, ⊎_elim, ℕ, ◌+◌, ◌<◌, ◌≤◌, false, List, [], ◌∷◌, ◌++◌, length, map}
+use Rattle.std.proofs.Common.{nat_lt, All, refl, ap, sym, ◌∙◌, subst, arith, append_assoc, append-nil}
 use Rattle.std.specs.Str.{bytes_eq}
 use Rattle.std.proofs.lemmas.Bool.{false≢true}
 use Rattle.std.proofs.lemmas.Bool.Decides.{nat_tests}
@@ -18,7 +19,7 @@ use Rattle.timeline_text.proofs.Deciding.{has_reading, not_both, not_the_word, o
 use Rattle.violation.specs.Candidates.{IsCandidate}
 use Rattle.tableau.specs.declared.rows_err.RowsCause.{RowsCause}
 use Rattle.tableau.specs.declared.rows_err.RowsCause.TheVariants.{Form, NotCandidate, TooMany}
-use Rattle.tableau.specs.Rows.{AreRowsOf, HasRows, IsLineCause, IsRefusedAt, IsRowOf, filled, is_blank}
+use Rattle.tableau.specs.Rows.{AreRowsOf, HasRows, IsLineCause, IsRefusedAt, IsRowOf, filled_lines, is_blank}
 use Rattle.tableau.proofs.RowLemmas.{blank_line, filled_more, no_rows, row_line}
 use Rattle.violation.specs.Problems.{Problem}
 
@@ -82,8 +83,8 @@ found_line : (problem : Problem) (front : List (List ℕ)) (line : List ℕ) (be
     → IsFoundRow problem (length rows) more line
 found_line problem front line behind rows more h a b =
     subst (λ n. IsFoundRow problem n more line) (length-map rows text_of)
-    (found problem (map text_of rows) line (filled behind) more
-    (ap (λ ts. ts ++ line ∷ filled behind) (sym a.texts) ∙ sym (filled_more front line behind h)
+    (found problem (map text_of rows) line (filled_lines behind) more
+    (ap (λ ts. ts ++ line ∷ filled_lines behind) (sym a.texts) ∙ sym (filled_more front line behind h)
     ∙ b.texts) b.candidates b.within)
 
 text_is : (problem : Problem) (before : ℕ) (rows : List (List (List Sym))) (line : List ℕ)

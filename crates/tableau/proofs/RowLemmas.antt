@@ -1,5 +1,6 @@
 -- Rows of lines, line by line.
-use Rattle.std.proofs.Common.{◌≡◌, ℕ, ◌+◌, ◌<◌, ◌≤◌, true, false, not, cond, List, [], ◌∷◌, ◌++◌, length, map, refl, ap, sym, ◌∙◌, subst, arith, append_assoc, append-nil}
+use Rattle.std.proofs.Common.{◌≡◌, ℕ, ◌+◌, ◌<◌, ◌≤◌, true, false, not, cond, List, [], ◌∷◌, ◌++◌, length, map, refl, ap}
+use Rattle.std.proofs.Common.{sym, ◌∙◌, subst, arith, append_assoc, append-nil}
 use Rattle.std.specs.Str.Lines.{lines}
 use Rattle.std.proofs.lemmas.List.{length_push, map_push}
 use Rattle.std.proofs.lemmas.List.Elements.{All-nil, All-push, filter-append}
@@ -9,23 +10,23 @@ use Rattle.timeline_text.specs.Texts.{text_of}
 use Rattle.violation.specs.Candidates.{IsCandidate}
 use Rattle.tableau.specs.declared.rows_err.RowsErr.{RowsErr}
 use Rattle.tableau.specs.declared.rows_err.RowsErr.TheVariants.{At, NoMemory}
-use Rattle.tableau.specs.Rows.{AreRowsOf, IsLineCause, IsLineRefusal, IsRowOf, IsTextRefusal, filled, is_blank}
+use Rattle.tableau.specs.Rows.{AreRowsOf, IsLineCause, IsLineRefusal, IsRowOf, IsTextRefusal, filled_lines, is_blank}
 use Rattle.tableau.proofs.LineCuts.{nothing_behind}
 use Rattle.violation.specs.Problems.{Problem}
 
 -- the lines so far and one more, which is passed over
 pub filled_blank : (front : List (List ℕ)) (line : List ℕ) → is_blank line ≡ true
-    → filled (front ++ line ∷ []) ≡ filled front
+    → filled_lines (front ++ line ∷ []) ≡ filled_lines front
 filled_blank front line h =
     filter-append (λ l. not (is_blank l)) front (line ∷ [])
-    ∙ ap (λ b. filled front ++ cond (not b) (line ∷ []) []) h ∙ append-nil (filled front)
+    ∙ ap (λ b. filled_lines front ++ cond (not b) (line ∷ []) []) h ∙ append-nil (filled_lines front)
 
 -- or is not
 pub filled_more : (front : List (List ℕ)) (line : List ℕ) (behind : List (List ℕ)) → is_blank line ≡ false
-    → filled (front ++ line ∷ behind) ≡ filled front ++ line ∷ filled behind
+    → filled_lines (front ++ line ∷ behind) ≡ filled_lines front ++ line ∷ filled_lines behind
 filled_more front line behind h =
     filter-append (λ l. not (is_blank l)) front (line ∷ behind)
-    ∙ ap (λ b. filled front ++ cond (not b) (line ∷ filled behind) (filled behind)) h
+    ∙ ap (λ b. filled_lines front ++ cond (not b) (line ∷ filled_lines behind) (filled_lines behind)) h
 
 -- no line has no rows
 pub no_rows : (problem : Problem) → AreRowsOf problem [] []

@@ -14,8 +14,8 @@ pub record Line : Type 0 where
   pub texts : List (List ℕ)
 
 -- `> ` before an optimal row
-abbrev pub mark_of : Option ℕ → List ℕ
-mark_of worse = if is_some worse then codes "  " else codes "> "
+abbrev pub row_mark : Option ℕ → List ℕ
+row_mark worse = if is_some worse then codes "  " else codes "> "
 
 -- whether a column is that of the first worse constraint
 abbrev pub is_at : Option ℕ → ℕ → Bool
@@ -41,7 +41,7 @@ head_line tableau = record {
 
 abbrev pub row_line : TableauRow → Line
 row_line row = record {
-  mark = mark_of row.worse;
+  mark = row_mark row.worse;
   first = text_of row.timeline;
   texts = count_texts row.worse 0 row.counts.items;
 }

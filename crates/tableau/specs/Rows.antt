@@ -19,13 +19,13 @@ abbrev pub is_blank : List ℕ → Bool
 is_blank line = list_all is_space line
 
 -- the lines that are not ignored
-abbrev pub filled : List (List ℕ) → List (List ℕ)
-filled lines = filter (λ line. not (is_blank line)) lines
+abbrev pub filled_lines : List (List ℕ) → List (List ℕ)
+filled_lines lines = filter (λ line. not (is_blank line)) lines
 
 -- The rows of lines: the lines that are not ignored are their texts, one after another, and
 -- each row is a candidate of the form u with at most 4,096 columns. There are at most 32.
 pub record AreRowsOf (problem : Problem) (lines : List (List ℕ)) (rows : List (List (List Sym))) : Type 0 where
-  pub texts : filled lines ≡ map text_of rows
+  pub texts : filled_lines lines ≡ map text_of rows
   pub candidates : All (IsCandidate problem) rows
   pub within : All (λ T. length T ≤ 4096) rows
   pub few : length rows ≤ 32

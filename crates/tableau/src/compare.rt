@@ -23,7 +23,7 @@ fn first_other(least: &[u32], counts: &[u32]) -> Option<u32>
 
 /// A timeline as a row, compared with the least counts of its form. It fails only if memory runs
 /// out.
-pub(crate) fn compared(
+pub(crate) fn compared_row(
     alloc: Global,
     constraints: &[Constraint],
     least: &[u32],
@@ -37,7 +37,7 @@ pub(crate) fn compared(
 {
     let counts = vector(alloc, constraints, timeline)?;
     let worse = first_other(least, &counts);
-    let own = timeline.copied(alloc)?;
+    let own = timeline.copy(alloc)?;
     Ok(TableauRow {
         timeline: own,
         counts,

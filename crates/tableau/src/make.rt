@@ -3,9 +3,9 @@ ghost use Rattle.tier_core.specs.Tables.{tiers_of_table};
 ghost use Rattle.violation.specs.Candidates.{IsCandidate};
 ghost use Rattle.answer_text.specs.Right.{IsRight};
 ghost use Rattle.tableau.specs.Tableaux.{IsTableauOf, IsTableauRow, names_seen};
-ghost use Rattle.violation.specs.Problems.{asked};
+ghost use Rattle.violation.specs.Problems.{problem_from};
 
-use crate::compare::compared;
+use crate::compare::compared_row;
 use crate::copies::{copied_counts, names_of};
 use crate::table::{Tableau, TableauRow};
 use answer_text::Answer;
@@ -19,7 +19,7 @@ fn example_row(alloc: Global, answer: &Answer) -> Result<TableauRow, NoMemory>
     ensures counts { IfOk result (λ row. row.counts.items ≡ answer.now.counts.items) }
     ensures worse { IfOk result (λ row. row.worse ≡ None) }
 {
-    let timeline = answer.example.copied(alloc)?;
+    let timeline = answer.example.copy(alloc)?;
     let counts = copied_counts(alloc, &answer.counts)?;
     Ok(TableauRow {
         timeline,
@@ -36,10 +36,11 @@ fn rows_of(
     timelines: &[Timeline],
 ) -> Result<Vec<TableauRow>, NoMemory>
     requires right { IsRight
-        (asked grammar.now.tiers grammar.now.constraints.items answer.now.form) answer.now }
+        (problem_from grammar.now.tiers grammar.now.constraints.items answer.now.form) answer.now }
     requires candidates { All
         (IsCandidate
-        (asked grammar.now.tiers grammar.now.constraints.items answer.now.form)) timelines.now }
+        (problem_from grammar.now.tiers grammar.now.constraints.items answer.now.form))
+        timelines.now }
     requires few_columns { All (λ T. length T ≤ 65536) timelines.now }
     ensures timelines { IfOk result
         (λ rows. map (λ row. row.timeline) rows.items ≡ answer.now.example ∷ timelines.now) }
@@ -47,14 +48,15 @@ fn rows_of(
         (λ rows.
         All
         (IsTableauRow
-        (asked grammar.now.tiers grammar.now.constraints.items answer.now.form) answer.now.counts.items) rows.items) }
+        (problem_from grammar.now.tiers grammar.now.constraints.items answer.now.form)
+        answer.now.counts.items) rows.items) }
 {
     let mut rows = Vec::new(alloc);
     if rows.push(example_row(alloc, answer)?).is_err() {
         return Err(NoMemory);
     }
     for timeline in timelines {
-        let row = compared(alloc, &grammar.constraints, &answer.counts, timeline)?;
+        let row = compared_row(alloc, &grammar.constraints, &answer.counts, timeline)?;
         if rows.push(row).is_err() {
             return Err(NoMemory);
         }
@@ -72,16 +74,16 @@ pub fn tableau(
     rows: &[Timeline],
 ) -> Result<Tableau, NoMemory>
     requires right { IsRight
-        (asked grammar.now.tiers grammar.now.constraints.items answer.now.form) answer.now }
+        (problem_from grammar.now.tiers grammar.now.constraints.items answer.now.form) answer.now }
     requires candidates { All
         (IsCandidate
-        (asked grammar.now.tiers grammar.now.constraints.items answer.now.form)) rows.now }
+        (problem_from grammar.now.tiers grammar.now.constraints.items answer.now.form)) rows.now }
     requires few_columns { All (λ T. length T ≤ 65536) rows.now }
     ensures { IfOk result
         (IsTableauOf (names_seen grammar.now.constraints.items)
-        (asked grammar.now.tiers grammar.now.constraints.items answer.now.form) rows.now) }
+        (problem_from grammar.now.tiers grammar.now.constraints.items answer.now.form) rows.now) }
 {
-    let form = answer.form.copied(alloc)?;
+    let form = answer.form.copy(alloc)?;
     let names = names_of(alloc, &grammar.constraints)?;
     let rows = rows_of(alloc, grammar, answer, rows)?;
     Ok(Tableau { form, names, rows })

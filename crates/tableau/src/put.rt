@@ -2,7 +2,7 @@ ghost use Rattle.std.specs.Prelude.{◌≡◌, map};
 ghost use Rattle.std.specs.List.{flat_map};
 ghost use Rattle.std.specs.String.{string_bytes};
 ghost use Rattle.outside.specs.Writers.{Puts, Pushes};
-ghost use Rattle.tableau.specs.Layout.{count_texts, fields, firsts, head_line, line_text, mark_of, row_line, tableau_lines, tableau_text, widest};
+ghost use Rattle.tableau.specs.Layout.{count_texts, fields, firsts, head_line, line_text, row_mark, row_line, tableau_lines, tableau_text, widest};
 
 use crate::fields::{push_count, push_first, push_name};
 use crate::table::{Tableau, TableauRow};
@@ -10,8 +10,8 @@ use crate::widths::{column_width, first_width};
 use outside::{OutBuffer, Sink, WriteErr};
 
 /// What comes before a row.
-fn mark_of(worse: Option<u32>) -> &'static [u8]
-    ensures { result.now ≡ mark_of worse }
+fn row_mark(worse: Option<u32>) -> &'static [u8]
+    ensures { result.now ≡ row_mark worse }
 {
     if worse.is_some() { b"  " } else { b"> " }
 }
@@ -79,7 +79,7 @@ fn push_row<O: Sink>(
     ensures { Pushes O.Sink sink.old sink.new out.old out.new
         (line_text (tableau_lines tableau.now) (row_line row.now)) result }
 {
-    push_first(out, sink, mark_of(row.worse), width, &row.timeline)?;
+    push_first(out, sink, row_mark(row.worse), width, &row.timeline)?;
     push_counts(out, sink, tableau, row.worse, &row.counts)?;
     out.push(sink, b"\n")
 }

@@ -1,7 +1,7 @@
 ghost use Rattle.std.specs.Prelude.{◌≡◌, ◌+◌, ◌<◌, ◌≤◌, ◌∷◌, [], ◌++◌, List, ℕ, length, ◌↔◌, IsTrue, IfOk, IfErr, OnOk};
 ghost use Rattle.tableau.specs.Rows.{AreRowsOf, IsLineRefusal, IsRowOf, IsTextRefusal};
 ghost use Rattle.violation.specs.Candidates.{IsCandidate};
-ghost use Rattle.violation.specs.Problems.{asked};
+ghost use Rattle.violation.specs.Problems.{problem_from};
 
 use crate::line::is_blank;
 use crate::rows_err::{RowsCause, RowsErr};
@@ -21,7 +21,7 @@ const MOST_COLUMNS: usize = 4096;
 fn is_row(grammar: &Grammar, form: &Timeline, timeline: &Timeline) -> bool
     ensures { IsTrue result
         ↔ IsCandidate
-        (asked grammar.now.tiers grammar.now.constraints.items form.now) timeline.now }
+        (problem_from grammar.now.tiers grammar.now.constraints.items form.now) timeline.now }
 {
     is_candidate(&grammar.tiers, form, timeline)
 }
@@ -36,11 +36,12 @@ fn read_row(
     line: &[u8],
 ) -> Result<Timeline, RowsErr>
     ensures ok { IfOk result
-        (IsRowOf (asked grammar.now.tiers grammar.now.constraints.items form.now) line.now) }
+        (IsRowOf (problem_from grammar.now.tiers grammar.now.constraints.items form.now) line.now) }
     ensures few { OnOk result (before < 32) }
     ensures err { IfErr result
         (IsLineRefusal
-        (asked grammar.now.tiers grammar.now.constraints.items form.now) number before line.now) }
+        (problem_from grammar.now.tiers grammar.now.constraints.items form.now) number before
+        line.now) }
 {
     if before >= MOST_ROWS {
         return Err(RowsErr::At {
@@ -80,14 +81,14 @@ pub(crate) fn read_line(
     ensures ok { OnOk result
         ((front : List (List ℕ))
         → AreRowsOf
-        (asked grammar.now.tiers grammar.now.constraints.items form.now) front rows.old.items
-        → AreRowsOf (asked grammar.now.tiers grammar.now.constraints.items form.now)
+        (problem_from grammar.now.tiers grammar.now.constraints.items form.now) front rows.old.items
+        → AreRowsOf (problem_from grammar.now.tiers grammar.now.constraints.items form.now)
         (front ++ line.now ∷ []) rows.new.items) }
     ensures err { IfErr result
         (λ e. (front behind : List (List ℕ)) → length front + 1 ≡ number
         → AreRowsOf
-        (asked grammar.now.tiers grammar.now.constraints.items form.now) front rows.old.items
-        → IsTextRefusal (asked grammar.now.tiers grammar.now.constraints.items form.now)
+        (problem_from grammar.now.tiers grammar.now.constraints.items form.now) front rows.old.items
+        → IsTextRefusal (problem_from grammar.now.tiers grammar.now.constraints.items form.now)
         (front ++ line.now ∷ behind) e) }
 {
     if is_blank(line) {

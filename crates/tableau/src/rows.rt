@@ -2,7 +2,7 @@ ghost use Rattle.std.specs.Prelude.{◌≤◌, length, IfOk, IfErr};
 ghost use Rattle.std.specs.Str.Lines.{lines};
 ghost use Rattle.tier_core.specs.Tables.{tiers_of_table};
 ghost use Rattle.tableau.specs.Rows.{AreRowsOf, IsTextRefusal};
-ghost use Rattle.violation.specs.Problems.{asked};
+ghost use Rattle.violation.specs.Problems.{problem_from};
 
 use crate::line::cut_line;
 use crate::row::read_line;
@@ -33,10 +33,10 @@ pub fn read_rows(
     requires { length bytes.now ≤ 4194304 }
     ensures ok { IfOk result
         (λ rows.
-        AreRowsOf (asked grammar.now.tiers grammar.now.constraints.items form.now)
+        AreRowsOf (problem_from grammar.now.tiers grammar.now.constraints.items form.now)
         (lines bytes.now) rows.items) }
     ensures err { IfErr result
-        (IsTextRefusal (asked grammar.now.tiers grammar.now.constraints.items form.now)
+        (IsTextRefusal (problem_from grammar.now.tiers grammar.now.constraints.items form.now)
         (lines bytes.now)) }
 {
     let mut rows = Vec::new(alloc);

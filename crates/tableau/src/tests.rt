@@ -1,7 +1,7 @@
 ghost use Rattle.std.specs.Prelude.{◌≡◌, [], ◌∷◌, None, Some, codes};
 ghost use Rattle.std.specs.Str.Lines.{lines};
-ghost use Rattle.tableau.specs.Layout.{count_texts, laid_out, mark_of};
-ghost use Rattle.tableau.specs.Rows.{filled};
+ghost use Rattle.tableau.specs.Layout.{count_texts, laid_out, row_mark};
+ghost use Rattle.tableau.specs.Rows.{filled_lines};
 
 use super::*;
 use grammar_reader::{Grammar, read_grammar};
@@ -17,16 +17,32 @@ fn lines_of_texts()
     ensures returns { lines (codes "[- ]-\r\n\r\n-[ -]\r")
         ≡ codes "[- ]-" ∷ [] ∷ codes "-[ -]\r" ∷ [] }
     ensures last { lines (codes "[- ]-\n") ≡ codes "[- ]-" ∷ [] }
-    ensures filled { filled (lines (codes "\n  \n[- ]-\n x\n")) ≡ codes "[- ]-" ∷ codes " x" ∷ [] }
+    ensures filled { filled_lines (lines (codes "\n  \n[- ]-\n x\n"))
+        ≡ codes "[- ]-" ∷ codes " x" ∷ [] }
 {}
 
 // The text of a form and three rows, which is proved.
 fn three_rows_laid_out()
     ensures { laid_out (
         record { mark = codes "  "; first = codes "[ ]"; texts = codes "Max" ∷ codes "Dep" ∷ codes "One" ∷ [] }
-        ∷ record { mark = mark_of None; first = codes "[[ ]]"; texts = count_texts None 0 (0 ∷ 0 ∷ 1 ∷ []) }
-        ∷ record { mark = mark_of (Some 0); first = codes "[- ]-"; texts = count_texts (Some 0) 0 (1 ∷ 0 ∷ 0 ∷ []) }
-        ∷ record { mark = mark_of (Some 1); first = codes "-[ [| ]]"; texts = count_texts (Some 1) 0 (0 ∷ 1 ∷ 2 ∷ []) } ∷ [])
+        ∷ record {
+          mark = row_mark None;
+          first = codes "[[ ]]";
+          texts = count_texts None 0
+              (0 ∷ 0 ∷ 1 ∷ []);
+        }
+        ∷ record {
+          mark = row_mark (Some 0);
+          first = codes "[- ]-";
+          texts = count_texts (Some 0) 0
+              (1 ∷ 0 ∷ 0 ∷ []);
+        }
+        ∷ record {
+          mark = row_mark (Some 1);
+          first = codes "-[ [| ]]";
+          texts = count_texts
+              (Some 1) 0 (0 ∷ 1 ∷ 2 ∷ []);
+        } ∷ [])
         ≡ codes "  [ ]      Max Dep One\n> [[ ]]      0   0   1\n  [- ]-     1!   0   0\n  -[ [| ]]   0  1!   2\n" }
 {}
 

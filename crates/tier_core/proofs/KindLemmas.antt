@@ -1,5 +1,6 @@
 -- Kinds are compared by the lowest bit in which their masks differ.
-use Rattle.std.proofs.Common.{◌≡◌, ℕ, zero, suc, ◌+◌, ◌<◌, ◌^◌, ◌==◌, ◌&&◌, Bool, true, false, cond, map, min, bit_and, bit_or, bit_xor, w32, refl, ap, sym, ◌∙◌, subst, ⊎_elim, ◌⊎◌, inl, inr, arith}
+use Rattle.std.proofs.Common.{◌≡◌, ℕ, zero, suc, ◌+◌, ◌<◌, ◌^◌, ◌==◌, ◌&&◌, Bool, true, false, cond, map, min, bit_and}
+use Rattle.std.proofs.Common.{bit_or, bit_xor, w32, refl, ap, sym, ◌∙◌, subst, ⊎_elim, ◌⊎◌, inl, inr, arith}
 use Rattle.std.specs.List.{range_with_len}
 use Rattle.std.specs.Int.{bit_at, trailing_zeros}
 use Rattle.std.specs.Ordering.{nat_cmp, ordering_then}
@@ -12,7 +13,8 @@ use Rattle.std.proofs.lemmas.Nat.{or_lt, xor_lt}
 use Rattle.std.proofs.lemmas.Nat.Bits.{bit_at_xor, bit_at_or, bit_at_and, bit_at-lt, bit_at-zero, bit_at-trailing_zeros}
 use Rattle.tier_core.specs.declared.kind.Kind.{Kind}
 use Rattle.tier_core.specs.Tiers.{has_tier}
-use Rattle.tier_core.specs.Kinds.{AreStretchesBelow, open_order, phase_order, phase_rank, open_rank, open_tiers, phases, phase_at, phase_by_bits}
+use Rattle.tier_core.specs.Kinds.{AreStretchesBelow, open_order, phase_order, phase_rank, open_rank, open_tiers, phases}
+use Rattle.tier_core.specs.Kinds.{phase_at, phase_by_bits}
 use Rattle.tier_core.proofs.MaskLemmas.{tier_within}
 use Rattle.tier_core.proofs.KindTies.{same_cmp, same_open}
 

@@ -1,12 +1,15 @@
 -- Masks by their bits: none from the bound on, none at all, none in common, and masks of lists of flags.
-use Rattle.std.proofs.Common.{◌≡◌, ◌⊎◌, ℕ, zero, suc, ◌+◌, ◌*◌, ◌/◌, ◌%◌, ◌^◌, ◌==◌, ◌<◌, ◌≤◌, ◌&&◌, ◌||◌, not, nat_eq, Bool, true, false, cond, min, max, List, [], ◌∷◌, map, length, get_or, refl, ap, sym, ◌∙◌, arith, ⊎_elim, bit_and, eq-eqb, ne_eqb}
+use Rattle.std.proofs.Common.{◌≡◌, ◌⊎◌, ℕ, zero, suc, ◌+◌, ◌*◌, ◌/◌, ◌%◌, ◌^◌, ◌==◌, ◌<◌, ◌≤◌, ◌&&◌, ◌||◌, not, nat_eq}
+use Rattle.std.proofs.Common.{Bool, true, false, cond, min, max, List, [], ◌∷◌, map, length, get_or, refl, ap, sym, ◌∙◌}
+use Rattle.std.proofs.Common.{arith, ⊎_elim, bit_and, eq-eqb, ne_eqb}
 use Rattle.std.specs.Int.{bit_at}
 use Rattle.std.specs.List.{range_with_len, list_any}
 use Rattle.std.proofs.Math.Nat.{pow-suc, mul-add, mul_assoc}
 use Rattle.std.proofs.lemmas.Bool.{false≢true, cases_lt, eqb-false}
 use Rattle.std.proofs.lemmas.List.FromFn.{fill_by_all, length-map-range_with_len, get_or-map-range_with_len}
 use Rattle.std.proofs.lemmas.List.Folds.{list_any_at}
-use Rattle.std.proofs.lemmas.Nat.Bits.{bit_at_above, bit_at_lowest, bit_at-suc, bit_at_and, bit_at-zero, bit_at-lt, same_from_bits, same_from_bits_below}
+use Rattle.std.proofs.lemmas.Nat.Bits.{bit_at_above, bit_at_lowest, bit_at-suc, bit_at_and, bit_at-zero, bit_at-lt}
+use Rattle.std.proofs.lemmas.Nat.Bits.{same_from_bits, same_from_bits_below}
 use Rattle.tier_core.specs.Kinds.{open_tiers}
 use Rattle.tier_core.specs.Tiers.{has_tier}
 use Rattle.tier_core.proofs.KindLemmas.{bit_value}
@@ -48,7 +51,6 @@ no_flag n mask l = by (list_any (λ flag. flag) (open_tiers n mask)) refl
     by false e = eq-eqb mask 0 (none e) ∙ sym (ap not e)
     by true e = ne_eqb mask 0 (λ z. false≢true (sym (none_any (range_with_len 0 n))
         ∙ ap (λ m. list_any (λ flag. flag) (open_tiers n m)) (sym z) ∙ e)) ∙ sym (ap not e)
-
 
 -- masks that have no bit in common
 pub apart_by : (a b : ℕ) → ((i : ℕ) → has_tier a i ≡ true → has_tier b i ≡ false) → bit_and a b ≡ 0

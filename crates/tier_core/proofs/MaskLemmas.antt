@@ -1,5 +1,6 @@
 -- The tiers of a mask.
-use Rattle.std.proofs.Common.{◌≡◌, ◌↔◌, IsTrue, sym, ℕ, zero, suc, ◌≤◌, length, ◌+◌, ◌*◌, ◌%◌, ◌==◌, bit_or, w16, ◌^◌, ◌<◌, true, false, cond, List, [], ◌∷◌, ◌++◌, map, ap, ◌∙◌, ⊎_elim, arith, add-one, w32}
+use Rattle.std.proofs.Common.{◌≡◌, ◌↔◌, IsTrue, sym, ℕ, zero, suc, ◌≤◌, length, ◌+◌, ◌*◌, ◌%◌, ◌==◌, bit_or, w16, ◌^◌}
+use Rattle.std.proofs.Common.{◌<◌, true, false, cond, List, [], ◌∷◌, ◌++◌, map, ap, ◌∙◌, ⊎_elim, arith, add-one, w32}
 use Rattle.std.specs.Int.{bit_at, trailing_zeros}
 use Rattle.std.proofs.lemmas.Bool.{false≢true, cases_lt, eqb-true}
 use Rattle.std.proofs.lemmas.List.{map-append, append-nil, length-append}

@@ -1,5 +1,7 @@
 -- The tiers of a mask are those of a table that pass a test, where the bits say so.
-use Rattle.std.proofs.Common.{◌≡◌, ◌↔◌, IsTrue, ℕ, zero, suc, ◌+◌, ◌-◌, ◌≤◌, ◌<◌, ◌^◌, ◌==◌, ◌||◌, Bool, true, false, not, cond, List, [], ◌∷◌, ◌++◌, length, count_by, filter, take, refl, ap, sym, ◌∙◌, arith, add-one, ◌&&◌}
+use Rattle.std.proofs.Common.{◌≡◌, ◌↔◌, IsTrue, ℕ, zero, suc, ◌+◌, ◌-◌, ◌≤◌, ◌<◌, ◌^◌, ◌==◌, ◌||◌, Bool, true, false}
+use Rattle.std.proofs.Common.{not, cond, List, [], ◌∷◌, ◌++◌, length, count_by, filter, take, refl, ap, sym, ◌∙◌, arith}
+use Rattle.std.proofs.Common.{add-one, ◌&&◌}
 use Rattle.std.specs.List.{list_any}
 use Rattle.std.proofs.lemmas.Bool.{false≢true, eqb-true, eqb-false}
 use Rattle.std.proofs.lemmas.List.{take_more, take_all, append-nil, append_assoc, length-take, length-append}
@@ -7,8 +9,9 @@ use Rattle.std.proofs.lemmas.List.Sums.{length-filter}
 use Rattle.std.proofs.lemmas.Nat.Bits.{bit_at_above}
 use Rattle.tier_core.specs.declared.tier.TierKind.{TierKind}
 use Rattle.tier_core.specs.declared.tier.TierKind.TheVariants.{Input, Overt, Hidden}
-use Rattle.tier_core.specs.Tiers.{is_input, is_overt, is_free, numbers_from, tiers_by_kinds, kind_at, has_tier, tiers_below, tiers_of}
-use Rattle.tier_core.specs.Shapes.{input_count}
+use Rattle.tier_core.specs.Tiers.{is_input, is_overt, is_free, numbers_from, tiers_by_kinds, kind_at, has_tier}
+use Rattle.tier_core.specs.Tiers.{tiers_below, tiers_of}
+use Rattle.tier_core.specs.Shapes.{masked_count}
 use Rattle.tier_core.proofs.CountLemmas.{count_cons}
 
 -- the bits of a mask are those of the tiers that pass
@@ -194,9 +197,9 @@ input_and_free n (k ∷ kinds) =
 
 -- the tiers that are no input tiers are as many as the free ones
 pub free_tiers : (kinds : List TierKind) (inputs : ℕ) → tiers_of inputs ≡ (tiers_by_kinds kinds).input
-    → length kinds - input_count inputs ≡ length (tiers_by_kinds kinds).free
+    → length kinds - masked_count inputs ≡ length (tiers_by_kinds kinds).free
 free_tiers kinds inputs e =
     let all : length (numbers_from is_input 0 kinds) + length (numbers_from is_free 0 kinds)
     ≡ length kinds = input_and_free 0 kinds in
-    let some : input_count inputs ≡ length (numbers_from is_input 0 kinds) = ap length e in
+    let some : masked_count inputs ≡ length (numbers_from is_input 0 kinds) = ap length e in
     omega arith

@@ -1,11 +1,14 @@
 -- A word is well formed exactly where it reads well from left to right.
-use Rattle.std.proofs.Common.{◌≡◌, ℕ, suc, ◌+◌, ◌<◌, ◌≤◌, Bool, true, false, ◌&&◌, ltb, eqb, List, [], ◌∷◌, ◌++◌, length, get_or, Option, Some, None, refl, sym, ap, ◌∙◌, subst, arith}
+use Rattle.std.proofs.Common.{◌≡◌, ℕ, suc, ◌+◌, ◌<◌, ◌≤◌, Bool, true, false, ◌&&◌, ltb, eqb, List, [], ◌∷◌, ◌++◌}
+use Rattle.std.proofs.Common.{length, get_or, Option, Some, None, refl, sym, ap, ◌∙◌, subst, arith}
 use Rattle.std.specs.Prelude.{is_some}
 use Rattle.std.specs.List.{AllByRecursion}
 use Rattle.std.proofs.lemmas.Bool.{false≢true, lt-ltb, le-ltb, eq-eqb, ne_eqb, and_left, and_right}
 use Rattle.tier_core.specs.declared.sym.Sym.{Sym}
 use Rattle.tier_core.specs.declared.sym.Sym.TheVariants.{Outside, Inside, Start, End, Both}
-use Rattle.tier_core.specs.Words.{is_inside_sym, starts, ends, next_end, pair_to, constituents_from, constituents, starts_at, ends_at, is_inside, symbol_of, drawn, NextFrom, AreDisjoint, IsWellFormedWord}
+use Rattle.tier_core.specs.Words.{is_inside_sym, starts, ends, next_end, pair_to, constituents_from, constituents}
+use Rattle.tier_core.specs.Words.{starts_at, ends_at, is_inside, symbol_of, drawn_symbol, NextFrom, AreDisjoint}
+use Rattle.tier_core.specs.Words.{IsWellFormedWord}
 use Rattle.tier_core.proofs.CountLemmas.{any_none, any_from_count, all_weaker}
 use Rattle.tier_core.proofs.WordLemmas.{runs, pending, ended, ended_late, constituents_late, next_end_late, ended_are}
 use Rattle.tier_core.proofs.WordCounts.{start_at, end_at, inside_at}
@@ -75,11 +78,12 @@ module _ (m : ℕ) (w : List Sym) where
   far_inside = any_none _ _ (all_weaker _ _ _ (λ c a. and_left (ltb c.0 m) (ltb m c.1) (le-ltb c.0 m (omega arith)))
       (constituents_late (suc m) w))
 
-  far : drawn (constituents_from (suc m) w) m ≡ Outside
+  far : drawn_symbol (constituents_from (suc m) w) m ≡ Outside
   far = rw (far_start, far_end, far_inside) refl
 
   -- what stands at m, where a pair may start there
-  start_here : (o : Option ℕ) (s : Sym) → s ≡ drawn (pair_to m o ++ constituents_from (suc m) w) m → starts s ≡ true
+  start_here : (o : Option ℕ) (s : Sym) → s ≡ drawn_symbol (pair_to m o ++ constituents_from (suc m) w) m → starts s
+      ≡ true
       → is_some o ≡ true
   start_here None s e h =
       let none : starts s ≡ false = ap starts (e ∙ far) in
@@ -87,26 +91,26 @@ module _ (m : ℕ) (w : List Sym) where
   start_here (Some j) s e h = refl
 
   not_both : (o : Option ℕ) → AllByRecursion (λ c. (c.0 ≡ m) × (suc m ≤ c.1)) (pair_to m o)
-      → Both ≡ drawn (pair_to m o ++ constituents_from (suc m) w) m → ⊥
+      → Both ≡ drawn_symbol (pair_to m o ++ constituents_from (suc m) w) m → ⊥
   not_both None a e = let x : Both ≡ Outside = e ∙ far in cc
   not_both (Some j) a e =
       let here : eqb m m ≡ true = eq-eqb m m refl in
       let there : eqb j m ≡ false = ne_eqb j m (λ x. omega arith) in
-      let x : drawn ((m, j) ∷ constituents_from (suc m) w) m ≡ Start = rw (here, there, far_end) refl in
+      let x : drawn_symbol ((m, j) ∷ constituents_from (suc m) w) m ≡ Start = rw (here, there, far_end) refl in
       let y : Both ≡ Start = e ∙ x in
       cc
 
   -- where a pair is open, the place is not outside
   not_outside : (i : ℕ) (o : Option ℕ) → i < m → is_some o ≡ true
       → AllByRecursion (λ c. (c.0 ≡ i) × (suc m ≤ c.1)) (pair_to i o)
-      → Outside ≡ drawn (pair_to i o ++ constituents_from (suc m) w) m → ⊥
+      → Outside ≡ drawn_symbol (pair_to i o ++ constituents_from (suc m) w) m → ⊥
   not_outside i None l h a e = false≢true h
   not_outside i (Some j) l h a e =
       let here : eqb i m ≡ false = ne_eqb i m (λ x. omega arith) in
       let there : eqb j m ≡ false = ne_eqb j m (λ x. omega arith) in
       let low : ltb i m ≡ true = lt-ltb i m l in
       let high : ltb m j ≡ true = lt-ltb m j (omega arith) in
-      let x : drawn ((i, j) ∷ constituents_from (suc m) w) m
+      let x : drawn_symbol ((i, j) ∷ constituents_from (suc m) w) m
       ≡ Inside = rw (here, there, low, high, far_start, far_end) refl in
       let y : Outside ≡ Inside = e ∙ x in
       cc
@@ -119,7 +123,7 @@ module _ (m : ℕ) (w : List Sym) where
   not_started i (Some j) cs h a b e = omega arith
 
 -- a pair that has ended draws nothing later
-past : (i m p : ℕ) (cs : List (ℕ × ℕ)) → i < m → m < p → drawn ((i, m) ∷ cs) p ≡ drawn cs p
+past : (i m p : ℕ) (cs : List (ℕ × ℕ)) → i < m → m < p → drawn_symbol ((i, m) ∷ cs) p ≡ drawn_symbol cs p
 past i m p cs l g =
     let start : eqb i p ≡ false = ne_eqb i p (λ x. omega arith) in
     let end : eqb m p ≡ false = ne_eqb m p (λ x. omega arith) in
@@ -128,18 +132,18 @@ past i m p cs l g =
 
 -- a pair that ends at m does not start there
 past_start : (i m : ℕ) (o : Option ℕ) (w : List Sym) → i < m
-    → Both ≡ drawn ((i, m) ∷ (pair_to m o ++ constituents_from (suc m) w)) m → is_some o ≡ true
+    → Both ≡ drawn_symbol ((i, m) ∷ (pair_to m o ++ constituents_from (suc m) w)) m → is_some o ≡ true
 past_start i m None w l e =
     let start : eqb i m ≡ false = ne_eqb i m (λ x. omega arith) in
     let end : eqb m m ≡ true = eq-eqb m m refl in
-    let x : drawn ((i, m) ∷ constituents_from (suc m) w) m ≡ End = rw (start, end, far_start m w) refl in
+    let x : drawn_symbol ((i, m) ∷ constituents_from (suc m) w) m ≡ End = rw (start, end, far_start m w) refl in
     let y : Both ≡ End = e ∙ x in
     cc
 past_start i m (Some j) w l e = refl
 
 runs_from : (b : Bool) (i m : ℕ) (w : List Sym) → (b ≡ true → i < m) → (b ≡ true → is_some (next_end m w) ≡ true)
     → AreDisjoint (pending b i m w) → ((k p : ℕ) → k < length w → p ≡ m + k
-    → get_or w k Outside ≡ drawn (pending b i m w) p)
+    → get_or w k Outside ≡ drawn_symbol (pending b i m w) p)
     → runs b w ≡ true
 runs_from true i m [] l h a d = h refl
 runs_from false i m [] l h a d = refl
@@ -179,4 +183,4 @@ pub runs_from_well_formed : (w : List Sym) → IsWellFormedWord w → runs false
 runs_from_well_formed w h =
     runs_from false 0 0 w (λ x. absurd (false≢true x)) (λ x. absurd (false≢true x)) h.apart
     (λ k p l e. let same : k ≡ p = omega arith in subst
-    (λ (q : ℕ). get_or w k Outside ≡ drawn (constituents w) q) same (h.symbols k l))
+    (λ (q : ℕ). get_or w k Outside ≡ drawn_symbol (constituents w) q) same (h.symbols k l))

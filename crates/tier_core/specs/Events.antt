@@ -5,7 +5,7 @@ use Rattle.tier_core.specs.declared.event.Event.{Event}
 use Rattle.tier_core.specs.declared.event.Part.{Part}
 use Rattle.tier_core.specs.declared.event.Part.TheVariants.{Start as StartOf, End as EndOf, Interior}
 use Rattle.tier_core.specs.Words.{constituents}
-use Rattle.tier_core.specs.Timelines.{word}
+use Rattle.tier_core.specs.Timelines.{tier_word}
 
 pub record Interval : Type 0 where
   pub low : ℕ
@@ -19,7 +19,7 @@ event Interior c = record { low = 2 * c.0 + 1; high = 2 * c.1 - 1 }
 
 -- the events of a type
 abbrev pub events : List (List Sym) → Event → List Interval
-events T e = map (event e.part) (constituents (word T e.tier))
+events T e = map (event e.part) (constituents (tier_word T e.tier))
 
 abbrev pub greatest_low : List Interval → ℕ
 greatest_low [] = 0

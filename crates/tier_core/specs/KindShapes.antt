@@ -2,12 +2,12 @@
 use Rattle.std.specs.Prelude.{ℕ, ◌-◌, ◌^◌, ◌<◌, length, slice_index_or}
 use Rattle.tier_core.specs.declared.kind.Kind.{Kind}
 use Rattle.tier_core.specs.declared.shape.Shape.{Shape}
-use Rattle.tier_core.specs.Shapes.{input_count}
+use Rattle.tier_core.specs.Shapes.{masked_count}
 use Rattle.tier_core.specs.Kinds.{AreStretchesBelow, PrefixKind, prefix_kind}
 
 -- how many tiers are free
 abbrev pub free_count : Shape → ℕ
-free_count shape = shape.width - input_count shape.inputs
+free_count shape = shape.width - masked_count shape.inputs
 
 -- how many stretch implications a stage has
 abbrev pub stretch_count : Shape → ℕ → ℕ

@@ -3,8 +3,8 @@ use Rattle.std.specs.Prelude.{◌≡◌, ℕ, ◌+◌, ◌<◌, ◌≤◌, List,
 use Rattle.tier_core.specs.Tiers.{tiers_of}
 
 -- how many tiers a mask has
-abbrev pub input_count : ℕ → ℕ
-input_count mask = length (tiers_of mask)
+abbrev pub masked_count : ℕ → ℕ
+masked_count mask = length (tiers_of mask)
 
 -- the numbers begin with 0, never fall, and are at most 24
 pub record NeverFalls (phases : List ℕ) : Type 0 where

@@ -14,12 +14,12 @@ abbrev pub column_at : List (List Sym) → ℕ → List Sym
 column_at T k = slice_index_or T k []
 
 -- what a tier has, place by place
-abbrev pub word : List (List Sym) → ℕ → List Sym
-word T t = map (λ column. symbol column t) T
+abbrev pub tier_word : List (List Sym) → ℕ → List Sym
+tier_word T t = map (λ column. symbol column t) T
 
 pub record IsWellFormed (width : ℕ) (T : List (List Sym)) : Type 0 where
   pub one_width : AllByRecursion (λ column. length column ≡ width) T
-  pub each_tier : (t : ℕ) → t < width → IsWellFormedWord (word T t)
+  pub each_tier : (t : ℕ) → t < width → IsWellFormedWord (tier_word T t)
 
 abbrev pub is_edge : Sym → Bool
 is_edge s = starts s || ends s

@@ -64,8 +64,8 @@ symbol_of false false true = Inside
 symbol_of false false false = Outside
 
 -- the symbol that the pairs draw at a place
-abbrev pub drawn : List (ℕ × ℕ) → ℕ → Sym
-drawn cs k = symbol_of (starts_at cs k) (ends_at cs k) (is_inside cs k)
+abbrev pub drawn_symbol : List (ℕ × ℕ) → ℕ → Sym
+drawn_symbol cs k = symbol_of (starts_at cs k) (ends_at cs k) (is_inside cs k)
 
 -- the first of the pairs, if there is one, starts at the place or later
 abbrev pub NextFrom : ℕ → List (ℕ × ℕ) → Type 0
@@ -81,4 +81,4 @@ pub record IsWellFormedWord (w : List Sym) : Type 0 where
   pub begun : (i : ℕ) → i < length w → IsTrue (starts (slice_index_or w i Outside))
       → IsTrue (starts_at (constituents w) i)
   pub apart : AreDisjoint (constituents w)
-  pub symbols : (k : ℕ) → k < length w → slice_index_or w k Outside ≡ drawn (constituents w) k
+  pub symbols : (k : ℕ) → k < length w → slice_index_or w k Outside ≡ drawn_symbol (constituents w) k

@@ -24,7 +24,7 @@ pub struct Class {
 }
 
 /// The number of the set that has a symbol alone.
-pub fn alone(sym: Sym) -> u8
+pub fn single_set(sym: Sym) -> u8
     ensures value { result ≡ single_set sym }
     ensures few { result < 32 }
 {
@@ -61,7 +61,7 @@ impl Class {
     {
         let mut word = u64::from(column.width());
         for (tier, sym) in column.syms().iter().enumerate() {
-            word = with_set_in(word, tier as u32, alone(*sym));
+            word = with_set_in(word, tier as u32, single_set(*sym));
         }
         Class { word }
     }

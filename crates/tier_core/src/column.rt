@@ -67,7 +67,7 @@ impl Column {
     }
 
     /// A copy of the column. Allocates no memory.
-    pub fn copied(&self, alloc: Global) -> Column
+    pub fn copy(&self, alloc: Global) -> Column
         ensures { result ≡ self.now }
     {
         match SmallVec::from_slice(alloc, self.symbols.as_slice()) {

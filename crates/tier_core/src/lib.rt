@@ -29,7 +29,7 @@ mod tests;
 mod tier;
 mod timeline;
 
-pub use class::{Class, alone};
+pub use class::{Class, single_set};
 pub use column::Column;
 pub use constraint::{Constraint, Family};
 pub use event::{Event, EventList, Part, has_edge_type};

@@ -3,11 +3,11 @@ ghost use Rattle.std.specs.List.{AllByRecursion};
 ghost use Rattle.tier_core.specs.Tiers.{tiers_of};
 ghost use Rattle.tier_core.specs.Timelines.{symbol, squeeze, project};
 
+use crate::NoMemory;
 use crate::column::Column;
 use crate::form::has_edge;
 use crate::mask::has_bit;
 use crate::sym::Sym;
-use crate::NoMemory;
 use crate::timeline::Timeline;
 use smallvec::SmallVec;
 use std::alloc::Global;
@@ -63,7 +63,7 @@ pub fn squeeze(alloc: Global, timeline: &Timeline) -> Result<Timeline, NoMemory>
     let mut kept = Timeline::new(alloc);
     for column in timeline.columns() {
         if has_edge(column) {
-            let copy = column.copied(alloc);
+            let copy = column.copy(alloc);
             if kept.push(copy).is_err() {
                 return Err(NoMemory);
             }

@@ -1,5 +1,5 @@
 ghost use Rattle.std.specs.Prelude.{◌≡◌, ◌<◌, ◌≤◌, ◌^◌, length};
-ghost use Rattle.tier_core.specs.Shapes.{input_count, NeverFalls};
+ghost use Rattle.tier_core.specs.Shapes.{masked_count, NeverFalls};
 
 /// What the text of an answer takes from its grammar.
 ///
@@ -12,8 +12,8 @@ pub struct Shape {
     pub phases: Vec<u32>,
     pub ghost some: { 1 ≤ width },
     pub ghost few: { width ≤ 12 },
-    pub ghost some_input: { 1 ≤ input_count inputs },
-    pub ghost few_inputs: { input_count inputs ≤ 6 },
+    pub ghost some_input: { 1 ≤ masked_count inputs },
+    pub ghost few_inputs: { masked_count inputs ≤ 6 },
     pub ghost within: { inputs < 2 ^ width },
     pub ghost some_stage: { 1 ≤ length phases.items },
     pub ghost few_stages: { length phases.items ≤ 25 },

@@ -1,3 +1,4 @@
+use crate::NoMemory;
 use crate::class::Class;
 use crate::column::Column;
 use crate::event::{Event, EventList, Part};
@@ -9,7 +10,6 @@ use crate::projection::{project, squeeze};
 use crate::shape::Shape;
 use crate::sym::Sym;
 use crate::tier::{TierKind, TierTable};
-use crate::NoMemory;
 use crate::timeline::Timeline;
 use std::alloc::Global;
 use std::cmp::Ordering;

@@ -74,12 +74,12 @@ impl Timeline {
     }
 
     /// A copy of the timeline. It fails only if memory runs out.
-    pub fn copied(&self, alloc: Global) -> Result<Timeline, NoMemory>
+    pub fn copy(&self, alloc: Global) -> Result<Timeline, NoMemory>
         ensures { IfOk result (λ copy. copy ≡ self.now) }
     {
         let mut copy = Timeline::new(alloc);
         for column in self.columns() {
-            if copy.push(column.copied(alloc)).is_err() {
+            if copy.push(column.copy(alloc)).is_err() {
                 return Err(NoMemory);
             }
         }

@@ -8,7 +8,7 @@ use Rattle.tier_core.specs.declared.sym.Sym.{Sym}
 use Rattle.tier_core.specs.declared.sym.Sym.TheVariants.{Outside, Inside, Start, End, Both}
 use Rattle.timeline_text.specs.Texts.{text_of}
 use Rattle.timeline_text.specs.Bytes.{is_space}
-use Rattle.timeline_text.specs.Causes.{pieces_of, symbol_of_byte, columns_of}
+use Rattle.timeline_text.specs.Causes.{spaced_pieces, symbol_of_byte, columns_of}
 
 no_space : (s : Sym) → is_space (byte_of s) ≡ false
 no_space Outside = refl
@@ -31,19 +31,19 @@ column_back (s ∷ column) = ap (λ x. x ∷ map symbol_of_byte (map byte_of col
 
 -- a column, then a space
 cut_space : (column : List Sym) (rest : List ℕ)
-    → pieces_of (map byte_of column ++ (32 ∷ rest)) ≡ map byte_of column ∷ pieces_of rest
+    → spaced_pieces (map byte_of column ++ (32 ∷ rest)) ≡ map byte_of column ∷ spaced_pieces rest
 cut_space [] rest = slice_split-cons_yes is_space 32 rest refl
 cut_space (s ∷ column) rest = slice_split-cons_no is_space (byte_of s) (map byte_of column ++ (32 ∷ rest))
     (no_space s) ∙ ap (onto_first (byte_of s)) (cut_space column rest)
 
-cut_last : (column : List Sym) → pieces_of (map byte_of column) ≡ map byte_of column ∷ []
+cut_last : (column : List Sym) → spaced_pieces (map byte_of column) ≡ map byte_of column ∷ []
 cut_last [] = refl
 cut_last (s ∷ column) = slice_split-cons_no is_space (byte_of s) (map byte_of column) (no_space s)
     ∙ ap (onto_first (byte_of s)) (cut_last column)
 
 -- the pieces of the text of a timeline are the texts of its columns
 pub cut_back : (column : List Sym) (columns : List (List Sym))
-    → pieces_of (text_of (column ∷ columns)) ≡ map (map byte_of) (column ∷ columns)
+    → spaced_pieces (text_of (column ∷ columns)) ≡ map (map byte_of) (column ∷ columns)
 cut_back column [] = cut_last column
 cut_back column (next ∷ columns) = cut_space column (join_with_byte 32 (map (map byte_of) (next ∷ columns)))
     ∙ ap (λ ps. map byte_of column ∷ ps) (cut_back next columns)

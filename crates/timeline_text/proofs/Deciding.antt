@@ -1,5 +1,6 @@
 -- A text is a timeline's, or it has a cause, and never both.
-use Rattle.std.proofs.Common.{◌≡◌, ◌≢◌, ◌⊎◌, inl, inr, ℕ, zero, suc, ◌<◌, ◌≤◌, true, false, List, [], ◌∷◌, length, map, Option, Some, None, not, ◌==◌, codes, refl, ap, sym, ◌∙◌, subst, arith, nat_lt}
+use Rattle.std.proofs.Common.{◌≡◌, ◌≢◌, ◌⊎◌, inl, inr, ℕ, zero, suc, ◌<◌, ◌≤◌, true, false, List, [], ◌∷◌, length, map}
+use Rattle.std.proofs.Common.{Option, Some, None, not, ◌==◌, codes, refl, ap, sym, ◌∙◌, subst, arith, nat_lt}
 use Rattle.std.specs.List.{list_any}
 use Rattle.std.specs.Str.{bytes_eq}
 use Rattle.std.proofs.lemmas.Bool.{false≢true}
@@ -9,13 +10,15 @@ use Rattle.std.proofs.lemmas.Slice.Eq.{bytes_eq-Decides}
 use Rattle.tier_core.specs.declared.sym.Sym.{Sym}
 use Rattle.tier_core.specs.Symbols.{byte_of}
 use Rattle.tier_core.specs.Words.{IsWellFormedWord}
-use Rattle.tier_core.specs.Timelines.{word, has_edge, IsReduced, IsWellFormed}
+use Rattle.tier_core.specs.Timelines.{tier_word, has_edge, IsReduced, IsWellFormed}
 use Rattle.tier_core.proofs.WordLemmas.{runs}
 use Rattle.tier_core.proofs.WordForm.{runs_from_well_formed, well_formed_from_runs}
 use Rattle.timeline_text.specs.declared.form_err.FormErr.{FormErr}
-use Rattle.timeline_text.specs.declared.form_err.FormErr.TheVariants.{BadSymbol, WrongWidth, TooLong, NotWellFormed, NotReduced, UnknownLetter, NoMemory}
+use Rattle.timeline_text.specs.declared.form_err.FormErr.TheVariants.{BadSymbol, WrongWidth, TooLong, NotWellFormed}
+use Rattle.timeline_text.specs.declared.form_err.FormErr.TheVariants.{NotReduced, UnknownLetter, NoMemory}
 use Rattle.timeline_text.specs.Texts.{text_of, IsTextOf}
-use Rattle.timeline_text.specs.Causes.{is_known, pieces_of, columns_of, bad_symbol, wrong_width, no_edge, IsFirstIllFormed, Comes, order, IsCause}
+use Rattle.timeline_text.specs.Causes.{is_known, spaced_pieces, columns_of, bad_symbol, wrong_width, no_edge}
+use Rattle.timeline_text.specs.Causes.{IsFirstIllFormed, Comes, order, IsCause}
 use Rattle.timeline_text.specs.Readings.{HasReading}
 use Rattle.timeline_text.proofs.Searches.{by_test, by_option, none_any, any_none, none_some}
 use Rattle.timeline_text.proofs.Cuts.{cut_back, columns_back, no_word}
@@ -30,8 +33,8 @@ the_word bytes h = (bytes_eq-Decides bytes (codes "empty")).0 h
 
 -- causes that are tried before the n-th do not come
 earlier : (width limit : ℕ) (bytes : List ℕ) (n : ℕ) → (0 < n → bad_symbol bytes ≡ None)
-    → (1 < n → wrong_width width bytes ≡ None) → (2 < n → length (pieces_of bytes) ≤ limit)
-    → (3 < n → (t : ℕ) → t < width → IsWellFormedWord (word (columns_of bytes) t)) → n ≤ 4
+    → (1 < n → wrong_width width bytes ≡ None) → (2 < n → length (spaced_pieces bytes) ≤ limit)
+    → (3 < n → (t : ℕ) → t < width → IsWellFormedWord (tier_word (columns_of bytes) t)) → n ≤ 4
     → (other : FormErr) → order other < n → Comes width limit bytes other → ⊥
 earlier width limit bytes n a b c d l (BadSymbol at) o h = none_some (a o) h
 earlier width limit bytes n a b c d l (WrongWidth column) o h = none_some (b o) h
@@ -59,7 +62,7 @@ module _ (width limit : ℕ) (bytes : List ℕ) (word_is_other : bytes ≢ codes
         (λ l. absurd (omega arith)) (omega arith);
   }
 
-  pub too_long_is : bad_symbol bytes ≡ None → wrong_width width bytes ≡ None → limit < length (pieces_of bytes)
+  pub too_long_is : bad_symbol bytes ≡ None → wrong_width width bytes ≡ None → limit < length (spaced_pieces bytes)
       → IsCause width limit bytes TooLong
   too_long_is a b h = record {
     other_word = word_is_other;
@@ -69,7 +72,7 @@ module _ (width limit : ℕ) (bytes : List ℕ) (word_is_other : bytes ≢ codes
   }
 
   pub not_well_formed_is : (tier : ℕ) → bad_symbol bytes ≡ None → wrong_width width bytes ≡ None
-      → length (pieces_of bytes) ≤ limit
+      → length (spaced_pieces bytes) ≤ limit
       → IsFirstIllFormed width (columns_of bytes) tier → IsCause width limit bytes (NotWellFormed tier)
   not_well_formed_is tier a b c h = record {
     other_word = word_is_other;
@@ -78,8 +81,8 @@ module _ (width limit : ℕ) (bytes : List ℕ) (word_is_other : bytes ≢ codes
   }
 
   pub not_reduced_is : (column : ℕ) → bad_symbol bytes ≡ None → wrong_width width bytes ≡ None
-      → length (pieces_of bytes) ≤ limit
-      → ((t : ℕ) → t < width → IsWellFormedWord (word (columns_of bytes) t))
+      → length (spaced_pieces bytes) ≤ limit
+      → ((t : ℕ) → t < width → IsWellFormedWord (tier_word (columns_of bytes) t))
       → no_edge (columns_of bytes) ≡ Some column → IsCause width limit bytes (NotReduced column)
   not_reduced_is column a b c d h = record {
     other_word = word_is_other;
@@ -89,12 +92,17 @@ module _ (width limit : ℕ) (bytes : List ℕ) (word_is_other : bytes ≢ codes
 
 -- a text in which no cause comes is the text of its columns
 pub no_cause : (width limit : ℕ) (bytes : List ℕ) → bad_symbol bytes ≡ None → wrong_width width bytes ≡ None
-    → length (pieces_of bytes) ≤ limit
-    → ((t : ℕ) → t < width → IsWellFormedWord (word (columns_of bytes) t)) → no_edge (columns_of bytes) ≡ None
+    → length (spaced_pieces bytes) ≤ limit
+    → ((t : ℕ) → t < width → IsWellFormedWord (tier_word (columns_of bytes) t)) → no_edge (columns_of bytes) ≡ None
     → IsTextOf width limit bytes (columns_of bytes)
 no_cause width limit bytes a b c d e = record {
   text = text_back bytes (none_any _ bytes a);
-  form = record { one_width = widths_from width (pieces_of bytes) (none_any _ (pieces_of bytes) b); each_tier = d };
+  form =
+      record {
+        one_width = widths_from width (spaced_pieces bytes)
+            (none_any _ (spaced_pieces bytes) b);
+        each_tier = d;
+      };
   reduced = reduced_from (columns_of bytes) (none_any _ (columns_of bytes) e);
   within = let n = length_columns bytes in omega arith;
 }
@@ -109,29 +117,30 @@ empty_text width limit bytes e = record {
 
 -- the tiers below n are well formed, or one is the first that is not
 tiers_below : (T : List (List Sym)) (n : ℕ)
-    → ((t : ℕ) → t < n → IsWellFormedWord (word T t)) ⊎ ((t : ℕ) × IsFirstIllFormed n T t)
+    → ((t : ℕ) → t < n → IsWellFormedWord (tier_word T t)) ⊎ ((t : ℕ) × IsFirstIllFormed n T t)
 tiers_below T zero = inl (λ t l. absurd (omega arith))
 tiers_below T (suc n) = more (tiers_below T n)
   where
     later : (t : ℕ) → IsFirstIllFormed n T t → IsFirstIllFormed (suc n) T t
     later t f = record { there = let l = f.there in omega arith; broken = f.broken; before = f.before }
 
-    up_to : ((t : ℕ) → t < n → IsWellFormedWord (word T t)) → IsWellFormedWord (word T n) → (t : ℕ) → t < suc n
-        → IsWellFormedWord (word T t)
+    up_to : ((t : ℕ) → t < n → IsWellFormedWord (tier_word T t)) → IsWellFormedWord (tier_word T n) → (t : ℕ)
+        → t < suc n
+        → IsWellFormedWord (tier_word T t)
     up_to all here t l = by_test (nat_lt t n) (λ e. all t (grind (arith, nat_tests)))
-        (λ e. subst (λ (k : ℕ). IsWellFormedWord (word T k))
+        (λ e. subst (λ (k : ℕ). IsWellFormedWord (tier_word T k))
         (let same : n ≡ t = grind (arith, nat_tests) in same) here)
 
-    more : ((t : ℕ) → t < n → IsWellFormedWord (word T t)) ⊎ ((t : ℕ) × IsFirstIllFormed n T t)
-        → ((t : ℕ) → t < suc n → IsWellFormedWord (word T t)) ⊎ ((t : ℕ) × IsFirstIllFormed (suc n) T t)
+    more : ((t : ℕ) → t < n → IsWellFormedWord (tier_word T t)) ⊎ ((t : ℕ) × IsFirstIllFormed n T t)
+        → ((t : ℕ) → t < suc n → IsWellFormedWord (tier_word T t)) ⊎ ((t : ℕ) × IsFirstIllFormed (suc n) T t)
     more (inr (t, f)) = inr (t, later t f)
-    more (inl all) = by_test (runs false (word T n))
-        (λ e. inl (up_to all (well_formed_from_runs (word T n) e)))
+    more (inl all) = by_test (runs false (tier_word T n))
+        (λ e. inl (up_to all (well_formed_from_runs (tier_word T n) e)))
         (λ e. inr (
           n,
           record {
             there = omega arith;
-            broken = λ wf. false≢true (sym e ∙ runs_from_well_formed (word T n) wf);
+            broken = λ wf. false≢true (sym e ∙ runs_from_well_formed (tier_word T n) wf);
             before = all;
           },
         ))
@@ -141,8 +150,8 @@ has_reading width limit bytes = by_test (bytes_eq bytes (codes "empty"))
     (λ h. inl ([], empty_text width limit bytes (the_word bytes h))) (λ h. other (not_the_word bytes h))
   where
     tiers : bytes ≢ codes "empty" → bad_symbol bytes ≡ None → wrong_width width bytes ≡ None
-        → length (pieces_of bytes) ≤ limit
-        → ((t : ℕ) → t < width → IsWellFormedWord (word (columns_of bytes) t)) ⊎
+        → length (spaced_pieces bytes) ≤ limit
+        → ((t : ℕ) → t < width → IsWellFormedWord (tier_word (columns_of bytes) t)) ⊎
         ((t : ℕ) × IsFirstIllFormed width (columns_of bytes) t) → HasReading width limit bytes
     tiers o a b c (inr (tier, f)) = inr (NotWellFormed tier, not_well_formed_is width limit bytes o tier a b c f)
     tiers o a b c (inl d) = by_option (no_edge (columns_of bytes))
@@ -153,9 +162,9 @@ has_reading width limit bytes = by_test (bytes_eq bytes (codes "empty"))
     other o = by_option (bad_symbol bytes) (λ at h. inr (BadSymbol at, bad_symbol_is width limit bytes o at h))
         (λ a. by_option (wrong_width width bytes)
         (λ column h. inr (WrongWidth column, wrong_width_is width limit bytes o column a h))
-        (λ b. by_test (nat_lt limit (length (pieces_of bytes)))
+        (λ b. by_test (nat_lt limit (length (spaced_pieces bytes)))
         (λ h. inr (TooLong, too_long_is width limit bytes o a b (grind (arith, nat_tests))))
-        (λ h. let c : length (pieces_of bytes) ≤ limit = grind (arith, nat_tests) in tiers o a b c
+        (λ h. let c : length (spaced_pieces bytes) ≤ limit = grind (arith, nat_tests) in tiers o a b c
         (tiers_below (columns_of bytes) width))))
 
 same_text : (T U : List (List Sym)) → text_of T ≡ text_of U → T ≡ U
@@ -175,14 +184,14 @@ none_comes : (width limit : ℕ) (column : List Sym) (T : List (List Sym)) → I
 none_comes width limit column T form reduced within (BadSymbol at) h = none_some
     (any_none (λ b. not (is_known b)) (text_of (column ∷ T)) (text_known column T)) h
 none_comes width limit column T form reduced within (WrongWidth k) h =
-    none_some (any_none (λ piece. not (length piece == width)) (pieces_of (text_of (column ∷ T)))
+    none_some (any_none (λ piece. not (length piece == width)) (spaced_pieces (text_of (column ∷ T)))
     (ap (list_any (λ piece. not (length piece == width))) (cut_back column T)
     ∙ widths_any width (column ∷ T) form.one_width)) h
 none_comes width limit column T form reduced within TooLong h =
-    let n : length (pieces_of (text_of (column ∷ T))) ≡ length (column ∷ T) = ap length (cut_back column T)
+    let n : length (spaced_pieces (text_of (column ∷ T))) ≡ length (column ∷ T) = ap length (cut_back column T)
     ∙ length-map (column ∷ T) (map byte_of) in omega arith
 none_comes width limit column T form reduced within (NotWellFormed tier) h =
-    h.broken (subst (λ (U : List (List Sym)). IsWellFormedWord (word U tier)) (sym (columns_back column T))
+    h.broken (subst (λ (U : List (List Sym)). IsWellFormedWord (tier_word U tier)) (sym (columns_back column T))
     (form.each_tier tier h.there))
 none_comes width limit column T form reduced within (NotReduced k) h =
     none_some (any_none (λ c. not (has_edge c)) (columns_of (text_of (column ∷ T)))

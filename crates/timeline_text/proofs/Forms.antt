@@ -1,16 +1,18 @@
 -- A text without a cause is the text of its columns.
-use Rattle.std.proofs.Common.{◌≡◌, ℕ, ◌<◌, ◌==◌, Bool, true, false, not, List, [], ◌∷◌, map, length, refl, ap, sym, ◌∙◌, arith}
+use Rattle.std.proofs.Common.{◌≡◌, ℕ, ◌<◌, ◌==◌, Bool, true, false, not, List, [], ◌∷◌, map, length, refl, ap, sym, ◌∙◌}
+use Rattle.std.proofs.Common.{arith}
 use Rattle.std.specs.List.{onto_first, join_with_byte, list_any, AllByRecursion}
 use Rattle.std.proofs.lemmas.Bool.Decides.{nat_tests}
 use Rattle.std.proofs.lemmas.List.{length-map}
-use Rattle.std.proofs.lemmas.List.Splits.{slice_split-cons_yes, slice_split-cons_no, length-slice_split, join_with_byte-slice_split}
+use Rattle.std.proofs.lemmas.List.Splits.{slice_split-cons_yes, slice_split-cons_no, length-slice_split}
+use Rattle.std.proofs.lemmas.List.Splits.{join_with_byte-slice_split}
 use Rattle.std.proofs.lemmas.Bool.{or_parts, or_from, not-false}
 use Rattle.tier_core.specs.declared.sym.Sym.{Sym}
 use Rattle.tier_core.specs.Symbols.{byte_of}
 use Rattle.tier_core.specs.Timelines.{has_edge, IsReduced}
 use Rattle.timeline_text.specs.Texts.{text_of}
 use Rattle.timeline_text.specs.Bytes.{is_space}
-use Rattle.timeline_text.specs.Causes.{is_known, pieces_of, symbol_of_byte, columns_of}
+use Rattle.timeline_text.specs.Causes.{is_known, spaced_pieces, symbol_of_byte, columns_of}
 use Rattle.timeline_text.proofs.Searches.{by_test}
 
 known_back : (b : ℕ) → is_space b ≡ false → not (is_known b) ≡ false → byte_of (symbol_of_byte b) ≡ b
@@ -23,7 +25,7 @@ onto_map b (p ∷ ps) = refl
 
 -- the texts of the columns are the pieces
 pub pieces_back : (bytes : List ℕ) → list_any (λ b. not (is_known b)) bytes ≡ false
-    → map (map byte_of) (columns_of bytes) ≡ pieces_of bytes
+    → map (map byte_of) (columns_of bytes) ≡ spaced_pieces bytes
 pieces_back [] h = refl
 pieces_back (b ∷ bytes) h =
     let each = or_parts _ _ h in
@@ -34,7 +36,7 @@ pieces_back (b ∷ bytes) h =
     ap (λ ps. map (map byte_of) (map (map symbol_of_byte) ps)) s ∙ ap (λ ps. [] ∷ ps) rest ∙ sym s)
     (λ e.
     let s = slice_split-cons_no is_space b bytes e in
-    ap (λ ps. map (map byte_of) (map (map symbol_of_byte) ps)) s ∙ onto_map b (pieces_of bytes)
+    ap (λ ps. map (map byte_of) (map (map symbol_of_byte) ps)) s ∙ onto_map b (spaced_pieces bytes)
     ∙ ap (λ x. onto_first x (map (map byte_of) (columns_of bytes))) (known_back b e each.0) ∙ ap (onto_first b) rest
     ∙ sym s)
 
@@ -42,8 +44,8 @@ text_of_some : (T : List (List Sym)) → 0 < length T → text_of T ≡ join_wit
 text_of_some [] h = absurd (omega arith)
 text_of_some (column ∷ T) h = refl
 
-pub length_columns : (bytes : List ℕ) → length (columns_of bytes) ≡ length (pieces_of bytes)
-length_columns bytes = length-map (pieces_of bytes) (map symbol_of_byte)
+pub length_columns : (bytes : List ℕ) → length (columns_of bytes) ≡ length (spaced_pieces bytes)
+length_columns bytes = length-map (spaced_pieces bytes) (map symbol_of_byte)
 
 -- a text of known bytes is the text of its columns
 pub text_back : (bytes : List ℕ) → list_any (λ b. not (is_known b)) bytes ≡ false → bytes ≡ text_of (columns_of bytes)

@@ -1,5 +1,7 @@
 -- The columns that are made of letters have exactly the constituents of the letters.
-use Rattle.std.proofs.Common.{◌≡◌, ℕ, zero, suc, ◌+◌, ◌/◌, ◌%◌, ◌^◌, ◌<◌, ◌≤◌, ◌==◌, Bool, true, false, cond, List, [], ◌∷◌, ◌++◌, length, map, drop, Some, ◌⊎◌, inl, inr, Option, None, not, is_some, unwrap_or, option_map, Result, Ok, Err, refl, ap, sym, ◌∙◌, subst, arith}
+use Rattle.std.proofs.Common.{◌≡◌, ℕ, zero, suc, ◌+◌, ◌/◌, ◌%◌, ◌^◌, ◌<◌, ◌≤◌, ◌==◌, Bool, true, false, cond, List, []}
+use Rattle.std.proofs.Common.{◌∷◌, ◌++◌, length, map, drop, Some, ◌⊎◌, inl, inr, Option, None, not, is_some, unwrap_or}
+use Rattle.std.proofs.Common.{option_map, Result, Ok, Err, refl, ap, sym, ◌∙◌, subst, arith}
 use Rattle.std.specs.Prelude.{MatchResult, IfOk, All}
 use Rattle.std.specs.List.{list_any, AllByRecursion}
 use Rattle.std.proofs.lemmas.Nat.Bits.{bit_at_lowest, bit_at-suc}
@@ -10,21 +12,22 @@ use Rattle.tier_core.specs.declared.sym.Sym.{Sym}
 use Rattle.tier_core.specs.declared.sym.Sym.TheVariants.{Outside}
 use Rattle.tier_core.specs.Tiers.{has_tier, numbers_from}
 use Rattle.tier_core.specs.Words.{next_end, pair_to, constituents, constituents_from}
-use Rattle.tier_core.specs.Timelines.{word, symbol, is_edge, has_edge, IsReduced, IsWellFormed}
+use Rattle.tier_core.specs.Timelines.{tier_word, symbol, is_edge, has_edge, IsReduced, IsWellFormed}
 use Rattle.tier_core.proofs.WordLemmas.{runs}
 use Rattle.tier_core.proofs.WordForm.{well_formed_from_runs}
 use Rattle.tier_core.proofs.MaskBits.{no_bit, odd_or_even}
 use Rattle.timeline_text.specs.declared.letter.Letter.{Letter}
-use Rattle.timeline_text.specs.Spelling.{spelled_on, columns_for, HasSound, letter_of, unknown_letter, sound_of, sounds_of, IsSpelledBy}
+use Rattle.timeline_text.specs.Spelling.{spelled_on, columns_for, HasSound, letter_of, unknown_letter, sound_of}
+use Rattle.timeline_text.specs.Spelling.{sounds_of, IsSpelledBy}
 use Rattle.std.proofs.lemmas.List.{length-map}
 use Rattle.std.proofs.lemmas.Bool.{or_parts, not-false}
 use Rattle.timeline_text.proofs.Searches.{none_any}
-use Rattle.timeline_text.specs.Between.{between, column_between, columns_after}
+use Rattle.timeline_text.specs.Between.{boundary_symbol, column_between, columns_after}
 
 -- one tier, by which letters have it
 abbrev tier_after : Bool → List Bool → List Sym
-tier_after before [] = between before false ∷ []
-tier_after before (has ∷ hs) = between before has ∷ tier_after has hs
+tier_after before [] = boundary_symbol before false ∷ []
+tier_after before (has ∷ hs) = boundary_symbol before has ∷ tier_after has hs
 
 abbrev pairs_from : ℕ → List Bool → List (ℕ × ℕ)
 pairs_from i [] = []
@@ -68,28 +71,28 @@ pairs_of_numbers t i (sound ∷ sounds) = pair_here i (has_tier sound t)
     (pairs_of_numbers t (suc i) sounds)
 
 symbol_between : (inputs before after t : ℕ) → t < inputs
-    → symbol (column_between inputs before after) t ≡ between (has_tier before t) (has_tier after t)
+    → symbol (column_between inputs before after) t ≡ boundary_symbol (has_tier before t) (has_tier after t)
 symbol_between inputs before after t l = get_or-map-range_with_len
-    (λ tier. between (has_tier before tier) (has_tier after tier)) 0 inputs t t Outside l (omega arith)
+    (λ tier. boundary_symbol (has_tier before tier) (has_tier after tier)) 0 inputs t t Outside l (omega arith)
 
 word_after : (inputs before t : ℕ) (sounds : List ℕ) → t < inputs
-    → word (columns_after inputs before sounds) t
+    → tier_word (columns_after inputs before sounds) t
     ≡ tier_after (has_tier before t) (map (λ sound. has_tier sound t) sounds)
 word_after inputs before t [] l = ap (λ s. s ∷ [])
-    (symbol_between inputs before 0 t l ∙ ap (between (has_tier before t)) (no_bit t))
+    (symbol_between inputs before 0 t l ∙ ap (boundary_symbol (has_tier before t)) (no_bit t))
 word_after inputs before t (sound ∷ sounds) l =
-    ap (λ s. s ∷ word (columns_after inputs sound sounds) t) (symbol_between inputs before sound t l)
-    ∙ ap (λ w. between (has_tier before t) (has_tier sound t) ∷ w) (word_after inputs sound t sounds l)
+    ap (λ s. s ∷ tier_word (columns_after inputs sound sounds) t) (symbol_between inputs before sound t l)
+    ∙ ap (λ w. boundary_symbol (has_tier before t) (has_tier sound t) ∷ w) (word_after inputs sound t sounds l)
 
 width_after : (inputs before : ℕ) (sounds : List ℕ)
     → AllByRecursion (λ column. length column ≡ inputs) (columns_after inputs before sounds)
 width_after inputs before [] = (
   length-map-range_with_len
-      (λ tier. between (has_tier before tier) (has_tier 0 tier)) 0 inputs,
+      (λ tier. boundary_symbol (has_tier before tier) (has_tier 0 tier)) 0 inputs,
   tt,
 )
 width_after inputs before (sound ∷ sounds) = (
-  length-map-range_with_len (λ tier. between (has_tier before tier) (has_tier sound tier)) 0 inputs,
+  length-map-range_with_len (λ tier. boundary_symbol (has_tier before tier) (has_tier sound tier)) 0 inputs,
   width_after inputs sound sounds,
 )
 
@@ -105,7 +108,7 @@ spelled_form inputs sounds = record {
 
 -- and has the constituents of the letters
 pub spelled_drawn : (inputs t : ℕ) (sounds : List ℕ) → t < inputs
-    → constituents (word (columns_after inputs 0 sounds) t) ≡ spelled_on t sounds
+    → constituents (tier_word (columns_after inputs 0 sounds) t) ≡ spelled_on t sounds
 spelled_drawn inputs t sounds l = ap (constituents_from 0) (word_after inputs 0 t sounds l)
     ∙ constituents_after (has_tier 0 t) 0 (map (λ sound. has_tier sound t) sounds) ∙ sym (pairs_of_numbers t 0 sounds)
 
@@ -138,20 +141,21 @@ a_tier zero mask h l = absurd (omega arith)
 a_tier (suc inputs) mask h l = by_parity inputs mask (odd_or_even mask)
     (λ even. a_tier inputs (mask / 2) (omega arith) (omega arith))
 
-edge_before : (a b : Bool) → a ≡ true → is_edge (between a b) ≡ true
+edge_before : (a b : Bool) → a ≡ true → is_edge (boundary_symbol a b) ≡ true
 edge_before true true h = refl
 edge_before true false h = refl
 edge_before false b h = cc
 
-edge_after : (a b : Bool) → b ≡ true → is_edge (between a b) ≡ true
+edge_after : (a b : Bool) → b ≡ true → is_edge (boundary_symbol a b) ≡ true
 edge_after true true h = refl
 edge_after false true h = refl
 edge_after a false h = cc
 
-edge_at : (inputs before after t : ℕ) → t < inputs → is_edge (between (has_tier before t) (has_tier after t)) ≡ true
+edge_at : (inputs before after t : ℕ) → t < inputs → is_edge (boundary_symbol (has_tier before t) (has_tier after t))
+    ≡ true
     → has_edge (column_between inputs before after) ≡ true
 edge_at inputs before after t l h =
-    let n = length-map-range_with_len (λ tier. between (has_tier before tier) (has_tier after tier)) 0 inputs in
+    let n = length-map-range_with_len (λ tier. boundary_symbol (has_tier before tier) (has_tier after tier)) 0 inputs in
     list_any_at is_edge (column_between inputs before after) t Outside (omega arith)
     (ap is_edge (symbol_between inputs before after t l) ∙ h)
 

@@ -1,15 +1,17 @@
 -- A word of letters spells one form, or it has one cause, and never both.
-use Rattle.std.proofs.Common.{◌≡◌, inl, inr, ℕ, suc, ◌+◌, ◌<◌, ◌≤◌, List, [], ◌∷◌, length, drop, get_or, Option, Some, None, option_map, refl, ap, sym, ◌∙◌, arith, nat_lt}
+use Rattle.std.proofs.Common.{◌≡◌, inl, inr, ℕ, suc, ◌+◌, ◌<◌, ◌≤◌, List, [], ◌∷◌, length, drop, get_or, Option, Some}
+use Rattle.std.proofs.Common.{None, option_map, refl, ap, sym, ◌∙◌, arith, nat_lt}
 use Rattle.std.specs.List.{AllByRecursion}
 use Rattle.std.proofs.lemmas.Bool.Decides.{nat_tests}
 use Rattle.std.proofs.lemmas.List.{ext_get_or, length-map}
 use Rattle.tier_core.specs.declared.sym.Sym.{Sym}
 use Rattle.tier_core.specs.declared.sym.Sym.TheVariants.{Outside}
-use Rattle.tier_core.specs.Words.{drawn}
-use Rattle.tier_core.specs.Timelines.{word}
+use Rattle.tier_core.specs.Words.{drawn_symbol}
+use Rattle.tier_core.specs.Timelines.{tier_word}
 use Rattle.timeline_text.specs.declared.letter.Letter.{Letter}
 use Rattle.timeline_text.specs.declared.form_err.FormErr.{FormErr}
-use Rattle.timeline_text.specs.declared.form_err.FormErr.TheVariants.{BadSymbol, WrongWidth, TooLong, NotWellFormed, NotReduced, UnknownLetter, NoMemory}
+use Rattle.timeline_text.specs.declared.form_err.FormErr.TheVariants.{BadSymbol, WrongWidth, TooLong, NotWellFormed}
+use Rattle.timeline_text.specs.declared.form_err.FormErr.TheVariants.{NotReduced, UnknownLetter, NoMemory}
 use Rattle.timeline_text.specs.Spelling.{unknown_letter, sound_of, sounds_of, IsSpelledBy, IsSpellingCause}
 use Rattle.timeline_text.specs.Readings.{HasSpelling}
 use Rattle.timeline_text.specs.Between.{columns_after}
@@ -35,7 +37,8 @@ has_spelling letters inputs bytes = by_option (unknown_letter letters (drop 1 by
 -- timelines of one width that have the same symbols
 same_columns : (inputs : ℕ) (T U : List (List Sym)) → length T ≡ length U
     → AllByRecursion (λ column. length column ≡ inputs) T → AllByRecursion (λ column. length column ≡ inputs) U
-    → ((t k : ℕ) → t < inputs → k < length T → get_or (word T t) k Outside ≡ get_or (word U t) k Outside) → T ≡ U
+    → ((t k : ℕ) → t < inputs → k < length T → get_or (tier_word T t) k Outside ≡ get_or (tier_word U t) k Outside) → T
+    ≡ U
 same_columns inputs [] [] n a b h = refl
 same_columns inputs [] (d ∷ U) n a b h = absurd (omega arith)
 same_columns inputs (c ∷ T) [] n a b h = absurd (omega arith)
@@ -53,7 +56,7 @@ one_form letters inputs bytes T U t u = same_columns inputs T U n t.form.one_wid
     let q = length-map U (λ column. get_or column i Outside) in
     let e = t.form.each_tier i l in
     let f = u.form.each_tier i l in
-    e.symbols k (omega arith) ∙ ap (λ cs. drawn cs k) (t.drawn i l ∙ sym (u.drawn i l))
+    e.symbols k (omega arith) ∙ ap (λ cs. drawn_symbol cs k) (t.drawn i l ∙ sym (u.drawn i l))
     ∙ sym (f.symbols k (omega arith)))
   where
     n : length T ≡ length U

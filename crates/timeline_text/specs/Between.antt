@@ -6,15 +6,15 @@ use Rattle.tier_core.specs.declared.sym.Sym.TheVariants.{Outside, Start, End, Bo
 use Rattle.tier_core.specs.Tiers.{has_tier}
 
 -- a constituent ends if the letter before has the tier, and one starts if the letter after has it
-abbrev pub between : Bool → Bool → Sym
-between true true = Both
-between true false = End
-between false true = Start
-between false false = Outside
+abbrev pub boundary_symbol : Bool → Bool → Sym
+boundary_symbol true true = Both
+boundary_symbol true false = End
+boundary_symbol false true = Start
+boundary_symbol false false = Outside
 
 -- the column between two sounds
 abbrev pub column_between : ℕ → ℕ → ℕ → List Sym
-column_between inputs before after = map (λ tier. between (has_tier before tier) (has_tier after tier))
+column_between inputs before after = map (λ tier. boundary_symbol (has_tier before tier) (has_tier after tier))
     (range_with_len 0 inputs)
 
 -- the columns after a sound

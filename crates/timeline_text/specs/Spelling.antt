@@ -3,7 +3,7 @@ use Rattle.std.specs.Prelude.{◌≡◌, ℕ, ◌+◌, ◌^◌, ◌<◌, ◌≤�
 use Rattle.tier_core.specs.declared.sym.Sym.{Sym}
 use Rattle.tier_core.specs.Tiers.{has_tier, numbers_from}
 use Rattle.tier_core.specs.Words.{constituents}
-use Rattle.tier_core.specs.Timelines.{word, IsWellFormed}
+use Rattle.tier_core.specs.Timelines.{tier_word, IsWellFormed}
 use Rattle.timeline_text.specs.declared.letter.Letter.{Letter}
 use Rattle.timeline_text.specs.declared.form_err.FormErr.{FormErr}
 use Rattle.timeline_text.specs.declared.form_err.FormErr.TheVariants.{BadSymbol, WrongWidth, TooLong, NotWellFormed, NotReduced, UnknownLetter, NoMemory}
@@ -44,7 +44,7 @@ pub record IsSpelledBy (letters : List Letter) (inputs : ℕ) (bytes : List ℕ)
   pub few : length (sounds_of letters bytes) ≤ 63
   pub size : length T ≡ columns_for (sounds_of letters bytes)
   pub form : IsWellFormed inputs T
-  pub drawn : (t : ℕ) → t < inputs → constituents (word T t) ≡ spelled_on t (sounds_of letters bytes)
+  pub drawn : (t : ℕ) → t < inputs → constituents (tier_word T t) ≡ spelled_on t (sounds_of letters bytes)
 
 -- why a word does not spell a form
 abbrev pub IsSpellingCause : List Letter → List ℕ → FormErr → Type 0

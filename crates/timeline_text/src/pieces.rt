@@ -1,5 +1,5 @@
 ghost use Rattle.std.specs.Prelude.{◌≡◌, length};
-ghost use Rattle.timeline_text.specs.Causes.{bad_symbol, wrong_width, pieces_of, no_edge};
+ghost use Rattle.timeline_text.specs.Causes.{bad_symbol, wrong_width, spaced_pieces, no_edge};
 
 use tier_core::{Sym, Timeline, has_edge};
 
@@ -23,7 +23,7 @@ pub(crate) fn wrong_width(width: u32, bytes: &[u8]) -> Option<usize>
 
 /// How many pieces there are.
 pub(crate) fn count(bytes: &[u8]) -> usize
-    ensures { result ≡ length (pieces_of bytes.now) }
+    ensures { result ≡ length (spaced_pieces bytes.now) }
 {
     bytes.split(|b| *b == b' ').count()
 }

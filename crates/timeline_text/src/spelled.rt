@@ -2,7 +2,7 @@ ghost use Rattle.std.specs.Prelude.{◌≡◌, ◌≢◌, ◌≤◌, ◌<◌, �
 ghost use Rattle.tier_core.specs.Timelines.{IsReduced};
 ghost use Rattle.tier_core.specs.Tiers.{has_tier};
 ghost use Rattle.timeline_text.specs.Spelling.{HasSound, IsSpelledBy, IsSpellingCause, letter_of, unknown_letter, sound_of};
-ghost use Rattle.timeline_text.specs.Between.{between, column_between, columns_after};
+ghost use Rattle.timeline_text.specs.Between.{boundary_symbol, column_between, columns_after};
 
 use crate::form_err::FormErr;
 use crate::letter::Letter;
@@ -34,8 +34,8 @@ fn sound_of(letters: &[Letter], byte: u8) -> u16
     }
 }
 
-fn between(before: bool, after: bool) -> Sym
-    ensures { result ≡ between before after }
+fn boundary_symbol(before: bool, after: bool) -> Sym
+    ensures { result ≡ boundary_symbol before after }
 {
     match (before, after) {
         (true, true) => Sym::Both,
@@ -53,7 +53,10 @@ fn column_between(alloc: Global, inputs: u32, before: u16, after: u16) -> Column
 {
     let mut syms = [Sym::Outside; 6];
     for tier in 0..inputs {
-        syms[tier as usize] = between(has_bit(before as u32, tier), has_bit(after as u32, tier));
+        syms[tier as usize] = boundary_symbol(
+            has_bit(before as u32, tier),
+            has_bit(after as u32, tier),
+        );
     }
     Column::from_syms(alloc, &syms[..inputs as usize])
 }

@@ -1,7 +1,7 @@
 ghost use Rattle.std.specs.Prelude.{◌≡◌, ℕ, ◌<◌, ◌↔◌, IsTrue, length, MatchOption};
 ghost use Rattle.std.specs.List.{AllByRecursion};
 ghost use Rattle.tier_core.specs.Words.{IsWellFormedWord};
-ghost use Rattle.tier_core.specs.Timelines.{word};
+ghost use Rattle.tier_core.specs.Timelines.{tier_word};
 ghost use Rattle.timeline_text.specs.Causes.{IsFirstIllFormed};
 
 use tier_core::Timeline;
@@ -10,7 +10,7 @@ use tier_core::Timeline;
 fn is_well_formed_on(timeline: &Timeline, width: u32, tier: u32) -> bool
     requires one_width { AllByRecursion (λ column. length column ≡ width) timeline.now }
     requires there { tier < width }
-    ensures { IsTrue result ↔ IsWellFormedWord (word timeline.now tier) }
+    ensures { IsTrue result ↔ IsWellFormedWord (tier_word timeline.now tier) }
 {
     let mut is_open = false;
     for column in timeline.columns() {
@@ -26,7 +26,7 @@ fn is_well_formed_on(timeline: &Timeline, width: u32, tier: u32) -> bool
 /// The first tier that is not well formed.
 pub(crate) fn ill_formed(timeline: &Timeline, width: u32) -> Option<u32>
     requires { AllByRecursion (λ column. length column ≡ width) timeline.now }
-    ensures { MatchOption result ((t : ℕ) → t < width → IsWellFormedWord (word timeline.now t))
+    ensures { MatchOption result ((t : ℕ) → t < width → IsWellFormedWord (tier_word timeline.now t))
         (IsFirstIllFormed width timeline.now) }
 {
     for tier in 0..width {

@@ -3,7 +3,7 @@ use Rattle.std.specs.Prelude.{ℕ, Bool, true, false, Option, Some, None, List, 
 use Rattle.tier_core.specs.declared.sym.Sym.{Sym}
 use Rattle.tier_core.specs.Kinds.{prefix_kind}
 use Rattle.tier_core.specs.Symbols.{byte_of}
-use Rattle.answer_text.specs.Text.{Widths, after_space, kind_text, line, spaced}
+use Rattle.answer_text.specs.Text.{Widths, after_space, kind_text, line, spaced_numbers}
 use Rattle.cert_check.specs.declared.fault.Fault.{Fault}
 use Rattle.cert_check.specs.declared.fault.Fault.TheVariants.{FormWrong, StageMissing, ExampleWrong, CountsDiffer, NodeWrong, StartMissing, FinalPotential, NotClosed, Potential, StartPotential, StateMissing, FinalsDiffer, ArcsTwice, ArcsDiffer}
 use Rattle.cert_check.specs.declared.fault.Verdict.{Verdict}
@@ -26,27 +26,27 @@ target_after_space (Some target) = after_space target
 -- The line of a fault, without the `No ` at its front. Its kind is written over the free tiers and the
 -- stretch implications of its stage.
 abbrev pub fault_text : Widths → Fault → List ℕ
-fault_text widths FormWrong = codes "form" ++ spaced []
-fault_text widths (StageMissing listed wanted) = codes "stages" ++ spaced (listed ∷ wanted ∷ [])
-fault_text widths ExampleWrong = codes "example" ++ spaced []
+fault_text widths FormWrong = codes "form" ++ spaced_numbers []
+fault_text widths (StageMissing listed wanted) = codes "stages" ++ spaced_numbers (listed ∷ wanted ∷ [])
+fault_text widths ExampleWrong = codes "example" ++ spaced_numbers []
 fault_text widths (CountsDiffer constraint listed counted) =
-    codes "counts" ++ spaced (constraint ∷ listed ∷ counted ∷ [])
-fault_text widths (NodeWrong stage node) = codes "node" ++ spaced (stage ∷ node ∷ [])
-fault_text widths (StartMissing stage) = codes "start" ++ spaced (stage ∷ [])
+    codes "counts" ++ spaced_numbers (constraint ∷ listed ∷ counted ∷ [])
+fault_text widths (NodeWrong stage node) = codes "node" ++ spaced_numbers (stage ∷ node ∷ [])
+fault_text widths (StartMissing stage) = codes "start" ++ spaced_numbers (stage ∷ [])
 fault_text widths (FinalPotential stage node listed) =
-    codes "final-potential" ++ spaced (stage ∷ node ∷ listed ∷ [])
+    codes "final-potential" ++ spaced_numbers (stage ∷ node ∷ listed ∷ [])
 fault_text widths (NotClosed stage node missing) =
-    (codes "closed" ++ spaced (stage ∷ node ∷ [])) ++ codes " "
+    (codes "closed" ++ spaced_numbers (stage ∷ node ∷ [])) ++ codes " "
     ++ kind_text (prefix_kind widths.free (slice_index_or widths.stretches stage 0) missing)
 fault_text widths (Potential stage node listed allowed) =
-    codes "potential" ++ spaced (stage ∷ node ∷ listed ∷ allowed ∷ [])
+    codes "potential" ++ spaced_numbers (stage ∷ node ∷ listed ∷ allowed ∷ [])
 fault_text widths (StartPotential stage listed count) =
-    codes "start-potential" ++ spaced (stage ∷ listed ∷ count ∷ [])
-fault_text widths (StateMissing state target) = codes "state" ++ spaced (state ∷ target ∷ [])
-fault_text widths (FinalsDiffer state listed) = codes "final" ++ spaced (state ∷ mark_number listed ∷ [])
-fault_text widths (ArcsTwice state column) = (codes "twice" ++ spaced (state ∷ [])) ++ column_after_space column
+    codes "start-potential" ++ spaced_numbers (stage ∷ listed ∷ count ∷ [])
+fault_text widths (StateMissing state target) = codes "state" ++ spaced_numbers (state ∷ target ∷ [])
+fault_text widths (FinalsDiffer state listed) = codes "final" ++ spaced_numbers (state ∷ mark_number listed ∷ [])
+fault_text widths (ArcsTwice state column) = (codes "twice" ++ spaced_numbers (state ∷ [])) ++ column_after_space column
 fault_text widths (ArcsDiffer state column listed kept) =
-    (codes "arcs" ++ spaced (state ∷ [])) ++ column_after_space column
+    (codes "arcs" ++ spaced_numbers (state ∷ [])) ++ column_after_space column
     ++ target_after_space listed ++ target_after_space kept
 
 -- whether a fault is in a stage

@@ -1,6 +1,6 @@
 ghost use Rattle.std.specs.Prelude.{◌≡◌, ◌++◌};
 ghost use Rattle.outside.specs.Writers.{Pushes};
-ghost use Rattle.answer_text.specs.Text.{spaced};
+ghost use Rattle.answer_text.specs.Text.{spaced_numbers};
 ghost use Rattle.verdict_text.specs.VerdictText.{mark_number, target_after_space};
 
 use answer_text::push_numbers;
@@ -14,7 +14,7 @@ pub(crate) fn push_numbered<O: Sink>(
     numbers: &[u32],
 ) -> Result<(), WriteErr>
     ensures { Pushes O.Sink sink.old sink.new out.old out.new
-        (word.now ++ spaced numbers.now) result }
+        (word.now ++ spaced_numbers numbers.now) result }
 {
     out.push(sink, word)?;
     push_numbers(out, sink, numbers)

@@ -1,11 +1,12 @@
 -- The phases of a prefix are closed exactly where a left tier is.
-use Rattle.std.proofs.Common.{◌≡◌, ℕ, ◌<◌, Bool, true, false, not, cond, List, [], ◌∷◌, map, length, refl, ap, sym, ◌∙◌, arith}
+use Rattle.std.proofs.Common.{◌≡◌, ℕ, ◌<◌, Bool, true, false, not, cond, List, [], ◌∷◌, map, length, refl, ap, sym, ◌∙◌}
+use Rattle.std.proofs.Common.{arith}
 use Rattle.std.specs.List.{AllByRecursion, list_all}
 use Rattle.tier_core.specs.declared.constraint.Constraint.{Constraint}
 use Rattle.tier_core.specs.declared.event.Event.{Event}
 use Rattle.tier_core.specs.declared.sym.Sym.{Sym}
 use Rattle.tier_core.specs.Kinds.{closed, unmet, met}
-use Rattle.tier_core.specs.Timelines.{word}
+use Rattle.tier_core.specs.Timelines.{tier_word}
 use Rattle.tier_core.proofs.CountLemmas.{all_weaker}
 use Rattle.violation.specs.Candidates.{IsForm}
 use Rattle.violation.specs.Conditions.{AreSplit, IsOverTiers}
@@ -29,9 +30,9 @@ closed_is false b = refl
 module _ (problem : Problem) (split : AreSplit problem.tiers) (form : IsForm problem.tiers problem.form) (r : ℕ)
     (p : List (List Sym)) (begun : IsBegun problem p) where
   left_open : (c : Constraint) → IsOverTiers problem.tiers.width c
-      → list_all (λ e. is_open (word p e.tier)) c.left ≡ is_left_open problem (kind_of problem r p) c
+      → list_all (λ e. is_open (tier_word p e.tier)) c.left ≡ is_left_open problem (kind_of problem r p) c
   left_open c o =
-      sym (all_agree (λ e. is_tier_open problem (kind_of problem r p) e.tier) (λ e. is_open (word p e.tier)) c.left
+      sym (all_agree (λ e. is_tier_open problem (kind_of problem r p) e.tier) (λ e. is_open (tier_word p e.tier)) c.left
       (all_weaker (λ e. e.tier < problem.tiers.width) _ c.left
       (λ e l. tier_open_is problem split form r p begun e.tier l) o.left_below))
 
@@ -39,7 +40,7 @@ module _ (problem : Problem) (split : AreSplit problem.tiers) (form : IsForm pro
       → AreClosedOr (is_left_open problem (kind_of problem r p)) cs (map (λ c. phase c.left c.right p) cs)
   phases_closed [] o = tt
   phases_closed (c ∷ cs) o = (
-    closed_is (list_all (λ e. is_open (word p e.tier)) c.left) _
+    closed_is (list_all (λ e. is_open (tier_word p e.tier)) c.left) _
         ∙ ap not (left_open c o.0),
     phases_closed cs o.1,
   )

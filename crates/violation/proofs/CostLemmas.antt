@@ -1,5 +1,7 @@
 -- What the moves of a candidate cost is what it violates.
-use Rattle.std.proofs.Common.{◌≡◌, ℕ, suc, ◌+◌, ◌<◌, Bool, true, false, not, ◌&&◌, cond, List, [], ◌∷◌, ◌++◌, map, take, drop, length, get_or, filter, refl, sym, ap, ◌∙◌, subst, arith, append-nil, append_assoc, take_at}
+use Rattle.std.proofs.Common.{◌≡◌, ℕ, suc, ◌+◌, ◌<◌, Bool, true, false, not, ◌&&◌, cond, List, [], ◌∷◌, ◌++◌, map, take}
+use Rattle.std.proofs.Common.{drop, length, get_or, filter, refl, sym, ap, ◌∙◌, subst, arith, append-nil, append_assoc}
+use Rattle.std.proofs.Common.{take_at}
 use Rattle.std.specs.List.{AllByRecursion}
 use Rattle.std.proofs.lemmas.List.{length-append, length_push, length-map, get_or_at, take-map}
 use Rattle.std.proofs.lemmas.Bool.{not-false}
@@ -10,15 +12,15 @@ use Rattle.tier_core.specs.declared.constraint.Family.{Family}
 use Rattle.tier_core.specs.declared.constraint.Family.TheVariants.{Implication, Clash}
 use Rattle.tier_core.specs.Kinds.{Phase, PrefixKind}
 use Rattle.tier_core.specs.Tiers.{Tiers}
-use Rattle.tier_core.specs.Timelines.{word}
+use Rattle.tier_core.specs.Timelines.{tier_word}
 use Rattle.tier_core.specs.Sides.{is_implication, has_edge_type, is_stretch, edge_among}
 use Rattle.tier_core.proofs.CountLemmas.{bit, all_weaker, all_append}
 use Rattle.violation.specs.Candidates.{IsForm, IsCandidate, vec, counts_on}
 use Rattle.violation.specs.Conditions.{AreSplit, IsOverTiers, IsCountable}
 use Rattle.violation.specs.Counts.{violations_of, violations_so_far, so_far, viol}
-use Rattle.violation.specs.Moves.{costs, costs_each, first_phase, is_tier_open, move_costs, moved, is_final}
+use Rattle.violation.specs.Moves.{costs, costs_each, first_phase, is_tier_open, move_costs, next_kind, is_final}
 use Rattle.violation.specs.Prefixes.{is_open, phase, stretches, kind_of}
-use Rattle.violation.specs.Walks.{HasMoves, reached, add_each, walk_costs}
+use Rattle.violation.specs.Walks.{HasMoves, walk_end, add_each, walk_costs}
 use Rattle.violation.proofs.CountSteps.{whole, all_agree}
 use Rattle.violation.proofs.MoveLemmas.{opened_after, column_costs}
 use Rattle.violation.proofs.PrefixLemmas.{IsBegun, tier_open_is}
@@ -133,8 +135,8 @@ module _ (problem : Problem) (r : ℕ) (split : AreSplit problem.tiers) (form : 
       let size : length (move_costs problem r k column)
       ≡ length (take r problem.constraints) = length_costs (take r problem.constraints)
       (is_tier_open problem k) k.phases column in
-      length_add (move_costs problem r k column) (walk_costs problem r (moved problem r k column) q)
-      (size ∙ sym (length_walk q (moved problem r k column)))
+      length_add (move_costs problem r k column) (walk_costs problem r (next_kind problem r k column) q)
+      (size ∙ sym (length_walk q (next_kind problem r k column)))
       ∙ size
 
   -- a move costs what its column adds to the violations so far
@@ -179,7 +181,7 @@ module _ (problem : Problem) (r : ℕ) (split : AreSplit problem.tiers) (form : 
           let agree : AgreeOn (x.left ++ x.right) (opened_after T (length p))
           (is_tier_open problem (kind_of problem r p)) =
           all_weaker (λ e. e.tier < problem.tiers.width) _ (x.left ++ x.right)
-          (λ e b. ap (λ (v : List (List Sym)). is_open (word v e.tier)) before
+          (λ e b. ap (λ (v : List (List Sym)). is_open (tier_word v e.tier)) before
           ∙ sym (tier_open_is problem split form r p begun e.tier b))
           (all_append _ x.left x.right o.left_below o.right_below) in
           column_costs x.family x.left x.right T (length p) countable within
@@ -216,7 +218,7 @@ module _ (problem : Problem) (r : ℕ) (split : AreSplit problem.tiers) (form : 
       over)
   costs_on (column ∷ q) p T e c =
       let on : T ≡ (p ++ column ∷ []) ++ q = e ∙ sym (append_assoc p (column ∷ []) q) in
-      let next : moved problem r (kind_of problem r p) column ≡ kind_of problem r (p ++ column ∷ []) =
+      let next : next_kind problem r (kind_of problem r p) column ≡ kind_of problem r (p ++ column ∷ []) =
       moved_is problem r split form stretches_over p column (q, subst (IsCandidate problem) on c) in
       let size : length (p ++ column ∷ []) ≡ suc (length p) = omega (arith, length_push p column) in
       costs_on q (p ++ column ∷ []) T on c
@@ -250,11 +252,11 @@ module _ (problem : Problem) (r : ℕ) (split : AreSplit problem.tiers) (form : 
       let moves : HasMoves problem r (kind_of problem r v) w =
       candidate_walk problem r split form stretches_over w v []
       (subst (λ z. IsCandidate problem (v ++ z)) (sym (append-nil w)) d) in
-      let on : IsBegun problem (p ++ w) × (reached problem r (kind_of problem r p) w ≡ kind_of problem r (p ++ w)) =
+      let on : IsBegun problem (p ++ w) × (walk_end problem r (kind_of problem r p) w ≡ kind_of problem r (p ++ w)) =
       walk_on problem r split form stretches_over w p (begun_of problem p q c)
       (subst (λ k. HasMoves problem r k w) (sym e) moves) in
-      let other : IsBegun problem (v ++ w) × (reached problem r (kind_of problem r v) w ≡ kind_of problem r (v ++ w)) =
+      let other : IsBegun problem (v ++ w) × (walk_end problem r (kind_of problem r v) w ≡ kind_of problem r (v ++ w)) =
       walk_on problem r split form stretches_over w v (begun_of problem v w d) moves in
       final_candidate problem r split form stretches_over (p ++ w) on.0
-      (ap (is_final problem) (sym on.1 ∙ ap (λ k. reached problem r k w) e ∙ other.1)
+      (ap (is_final problem) (sym on.1 ∙ ap (λ k. walk_end problem r k w) e ∙ other.1)
       ∙ candidate_final problem r split form stretches_over (v ++ w) d)

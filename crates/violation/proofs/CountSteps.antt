@@ -1,5 +1,6 @@
 -- The steps of counting, as the loops take them.
-use Rattle.std.proofs.Common.{◌≡◌, ℕ, zero, suc, ◌+◌, ◌<◌, ◌≤◌, Bool, true, false, not, ◌&&◌, ◌||◌, List, [], ◌∷◌, ◌++◌, length, get_or, refl, sym, ap, ◌∙◌, subst, arith, add-one}
+use Rattle.std.proofs.Common.{◌≡◌, ℕ, zero, suc, ◌+◌, ◌<◌, ◌≤◌, Bool, true, false, not, ◌&&◌, ◌||◌, List, [], ◌∷◌, ◌++◌}
+use Rattle.std.proofs.Common.{length, get_or, refl, sym, ap, ◌∙◌, subst, arith, add-one}
 use Rattle.std.specs.List.{AllByRecursion, list_all, list_any}
 use Rattle.std.proofs.lemmas.List.{get_or_default}
 use Rattle.std.proofs.lemmas.Bool.{false≢true, and_parts, and_from, or_parts}
@@ -9,7 +10,7 @@ use Rattle.tier_core.specs.declared.event.Event.{Event}
 use Rattle.tier_core.specs.declared.constraint.Family.{Family}
 use Rattle.tier_core.specs.declared.constraint.Family.TheVariants.{Implication, Clash}
 use Rattle.tier_core.specs.Scan.{fits, opens}
-use Rattle.tier_core.specs.Timelines.{symbol, is_edge, word, IsWellFormed}
+use Rattle.tier_core.specs.Timelines.{symbol, is_edge, tier_word, IsWellFormed}
 use Rattle.tier_core.specs.Sides.{has_edge_type, edge_among}
 use Rattle.tier_core.proofs.CountLemmas.{bit, all_append, all_of}
 use Rattle.tier_core.proofs.WordCounts.{runs_fits}
@@ -17,7 +18,7 @@ use Rattle.tier_core.proofs.WordForm.{runs_from_well_formed}
 use Rattle.tier_core.proofs.Bools.{or_false}
 use Rattle.violation.specs.Columns.{edge_cost, opens_all, is_present, opens_interior}
 use Rattle.violation.specs.Conditions.{AreTiersBelow, IsCountable}
-use Rattle.violation.specs.Counts.{chosen, viol, so_far, is_met}
+use Rattle.violation.specs.Counts.{choice_types, viol, so_far, is_met}
 use Rattle.violation.proofs.EdgeSteps.{edge_at, step_count}
 use Rattle.violation.proofs.InteriorSteps.{open_before}
 use Rattle.violation.proofs.OpenSteps.{stretch, clash_ends, implication_ends}
@@ -34,12 +35,13 @@ some_append : (es fs : List Event) → AreSome es → AreSome (es ++ fs)
 some_append [] fs h = absurd h
 some_append (e ∷ es) fs h = tt
 
-pub some_chosen : (family : Family) (left right : List Event) → 0 < length left → AreSome (chosen family left right)
+pub some_chosen : (family : Family) (left right : List Event) → 0 < length left
+    → AreSome (choice_types family left right)
 some_chosen Clash left right h = some_append left right (some_from_length left h)
 some_chosen Implication left right h = some_from_length left h
 
 pub chosen_below : (family : Family) (width : ℕ) (left right : List Event) → AreTiersBelow width left
-    → AreTiersBelow width right → AreTiersBelow width (chosen family left right)
+    → AreTiersBelow width right → AreTiersBelow width (choice_types family left right)
 chosen_below Clash width left right a b = all_append _ left right a b
 chosen_below Implication width left right a b = a
 
@@ -50,7 +52,7 @@ column_at T k column l e = get_or_default T k [] column l ∙ sym e
 
 pub edge_step : (family : Family) (left right : List Event) (T : List (List Sym)) (k : ℕ) (column : List Sym)
     → IsCountable left right T
-    → has_edge_type (chosen family left right) ≡ true → k < length T → column ≡ get_or T k column
+    → has_edge_type (choice_types family left right) ≡ true → k < length T → column ≡ get_or T k column
     → so_far family left right T (k + 1) ≡ so_far family left right T k + bit (edge_cost family left right column)
 edge_step family left right T k column c e l is =
     ap (so_far family left right T) (add-one k) ∙ step_count family left right T k
@@ -131,11 +133,11 @@ were_open width T k wf l (x ∷ xs) t o e =
     (opens_all xs (get_or T k []) ≡ true) = and_parts _ _ o in
     let edge_parts : (is_edge (symbol (get_or T k []) x.tier) ≡ false) ×
     (edge_among xs (get_or T k []) ≡ false) = or_parts _ _ e in
-    let at : get_or (word T x.tier) k Outside
+    let at : get_or (tier_word T x.tier) k Outside
     ≡ symbol (get_or T k []) x.tier = get_or-map (λ column. symbol column x.tier) T k [] Outside l in
     let fit : fits (open_before T k x) (symbol (get_or T k []) x.tier) ≡ true =
     subst (λ s. fits (open_before T k x) s ≡ true) at
-    (runs_fits false (word T x.tier) k (runs_from_well_formed (word T x.tier) (wf.each_tier x.tier t.0))) in
+    (runs_fits false (tier_word T x.tier) k (runs_from_well_formed (tier_word T x.tier) (wf.each_tier x.tier t.0))) in
     and_from _ _ (was_open (open_before T k x) (symbol (get_or T k []) x.tier) fit open_parts.0 edge_parts.0)
     (were_open width T k wf l xs t.1 open_parts.1 edge_parts.1)
 

@@ -1,12 +1,13 @@
 -- Kinds that are cut to fewer constraints go as the whole ones do.
-use Rattle.std.proofs.Common.{◌≡◌, ◌↔◌, ℕ, zero, suc, ◌≤◌, Bool, true, false, cond, List, [], ◌∷◌, map, take, length, filter, refl, ap, ◌∙◌, arith}
+use Rattle.std.proofs.Common.{◌≡◌, ◌↔◌, ℕ, zero, suc, ◌≤◌, Bool, true, false, cond, List, [], ◌∷◌, map, take, length}
+use Rattle.std.proofs.Common.{filter, refl, ap, ◌∙◌, arith}
 use Rattle.std.proofs.lemmas.List.{take-map}
 use Rattle.tier_core.specs.declared.sym.Sym.{Sym}
 use Rattle.tier_core.specs.declared.constraint.Constraint.{Constraint}
 use Rattle.tier_core.specs.Kinds.{Phase, PrefixKind}
 use Rattle.tier_core.specs.Tiers.{Tiers}
 use Rattle.tier_core.specs.Sides.{is_stretch}
-use Rattle.violation.specs.Moves.{FitsKind, next_phase, next_phases, moved, cut}
+use Rattle.violation.specs.Moves.{FitsKind, next_phase, next_phases, next_kind, cut_kind}
 use Rattle.violation.specs.Prefixes.{kind_of, stretches, phase}
 use Rattle.violation.specs.Problems.{Problem}
 
@@ -43,17 +44,17 @@ take_next (suc n) (c ∷ cs) (phase ∷ phases) column = ap (λ ps. next_phase c
     (take_next n cs phases column)
 
 module _ (problem : Problem) (r s : ℕ) (fewer : r ≤ s) where
-  pub cut-moved : (k : PrefixKind) (column : List Sym)
-      → cut problem r (moved problem s k column) ≡ moved problem r (cut problem r k) column
-  cut-moved k column =
+  pub cut_kind-next_kind : (k : PrefixKind) (column : List Sym)
+      → cut_kind problem r (next_kind problem s k column) ≡ next_kind problem r (cut_kind problem r k) column
+  cut_kind-next_kind k column =
       let n : ℕ = length (stretches problem r) in
-      with_phases (moved problem r k column) (take n (next_phases (stretches problem s) k.phases column))
+      with_phases (next_kind problem r k column) (take n (next_phases (stretches problem s) k.phases column))
       (next_phases (stretches problem r) (take n k.phases) column)
       (take_next n (stretches problem s) k.phases column
       ∙ ap (λ cs. next_phases cs (take n k.phases) column) (take_stretches r s problem.constraints fewer))
 
-  pub cut-kind_of : (p : List (List Sym)) → cut problem r (kind_of problem s p) ≡ kind_of problem r p
-  cut-kind_of p =
+  pub cut_kind-kind_of : (p : List (List Sym)) → cut_kind problem r (kind_of problem s p) ≡ kind_of problem r p
+  cut_kind-kind_of p =
       let n : ℕ = length (stretches problem r) in
       with_phases (kind_of problem r p) (take n (map (λ c. phase c.left c.right p) (stretches problem s)))
       (map (λ c. phase c.left c.right p) (stretches problem r))
@@ -62,7 +63,7 @@ module _ (problem : Problem) (r s : ℕ) (fewer : r ≤ s) where
 
 -- a column fits a kind where it fits the cut one
 pub fits-cut : (problem : Problem) (r : ℕ) (k : PrefixKind) (column : List Sym)
-    → FitsKind problem (cut problem r k) column ↔ FitsKind problem k column
+    → FitsKind problem (cut_kind problem r k) column ↔ FitsKind problem k column
 fits-cut problem r k column = (
   λ f. record { width = f.width; symbols = f.symbols; edge = f.edge; input = f.input },
   λ f. record { width = f.width; symbols = f.symbols; edge = f.edge; input = f.input },

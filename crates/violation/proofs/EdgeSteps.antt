@@ -1,5 +1,6 @@
 -- Choices that have an edge among them are decided by one column.
-use Rattle.std.proofs.Common.{◌≡◌, ℕ, suc, ◌+◌, ◌*◌, ◌-◌, ◌<◌, ◌≤◌, min, max, Bool, true, not, ◌&&◌, ◌||◌, leb, ltb, List, [], ◌∷◌, ◌++◌, map, length, get_or, refl, sym, ap, ◌∙◌, arith}
+use Rattle.std.proofs.Common.{◌≡◌, ℕ, suc, ◌+◌, ◌*◌, ◌-◌, ◌<◌, ◌≤◌, min, max, Bool, true, not, ◌&&◌, ◌||◌, leb, ltb}
+use Rattle.std.proofs.Common.{List, [], ◌∷◌, ◌++◌, map, length, get_or, refl, sym, ap, ◌∙◌, arith}
 use Rattle.std.specs.Prelude.{count_by}
 use Rattle.std.specs.List.{AllByRecursion, list_all, list_any}
 use Rattle.std.proofs.lemmas.Bool.{false≢true}
@@ -11,13 +12,13 @@ use Rattle.tier_core.specs.declared.event.Part.TheVariants.{Start as StartOf, En
 use Rattle.tier_core.specs.declared.constraint.Family.{Family}
 use Rattle.tier_core.specs.declared.constraint.Family.TheVariants.{Implication, Clash}
 use Rattle.tier_core.specs.Events.{Interval, event, events, greatest_low, least_high, meet, is_there}
-use Rattle.tier_core.specs.Timelines.{word, IsWellFormed}
+use Rattle.tier_core.specs.Timelines.{tier_word, IsWellFormed}
 use Rattle.tier_core.specs.Words.{constituents}
 use Rattle.tier_core.specs.Sides.{is_edge_part, has_edge_type}
 use Rattle.tier_core.proofs.CountLemmas.{bit, count_agree, count_split, all_weaker, all_of}
 use Rattle.violation.specs.Columns.{is_present, edge_cost}
 use Rattle.violation.specs.Conditions.{AreTiersBelow}
-use Rattle.violation.specs.Counts.{choices, chosen, counts, is_met, so_far}
+use Rattle.violation.specs.Counts.{choices, choice_types, counts, is_met, so_far}
 use Rattle.violation.proofs.ChoiceLemmas.{all_flat, all_map, count_choices, count_where}
 use Rattle.violation.proofs.EventCounts.{event_at, any_event_at}
 use Rattle.violation.proofs.MeetLemmas.{contains, meet_contains, least_from_le, least_from_le_other}
@@ -53,12 +54,12 @@ points T (e ∷ es) h = all_flat HasPoint (events T e) (choices (map (events T) 
     by_part : (part : Part) → (is_edge_part part || has_edge_type es) ≡ true
         → (has_edge_type es ≡ true → AllByRecursion HasPoint (choices (map (events T) es)))
         → AllByRecursion (λ x. AllByRecursion (λ choice. HasPoint (x ∷ choice)) (choices (map (events T) es)))
-        (map (event part) (constituents (word T e.tier)))
-    by_part StartOf g rest = all_map _ (event StartOf) (constituents (word T e.tier))
+        (map (event part) (constituents (tier_word T e.tier)))
+    by_part StartOf g rest = all_map _ (event StartOf) (constituents (tier_word T e.tier))
         (all_of _ _ (λ c. all_of _ _ (λ choice. point_first c.0 choice)))
-    by_part EndOf g rest = all_map _ (event EndOf) (constituents (word T e.tier))
+    by_part EndOf g rest = all_map _ (event EndOf) (constituents (tier_word T e.tier))
         (all_of _ _ (λ c. all_of _ _ (λ choice. point_first c.1 choice)))
-    by_part Interior g rest = all_map _ (event Interior) (constituents (word T e.tier))
+    by_part Interior g rest = all_map _ (event Interior) (constituents (tier_word T e.tier))
         (all_of _ _ (λ c. all_weaker HasPoint _ _ (λ choice p. point_rest (event Interior c) choice p) (rest g)))
 
 -- whether the meet's high end is at column k: at its point, or just before it
@@ -128,10 +129,10 @@ module _ (width : ℕ) (T : List (List Sym)) (wf : IsWellFormed width T) (k : �
       pair e f = cc
 
   pub edge_at : (family : Family) (left right : List Event) → AreTiersBelow width left → AreTiersBelow width right
-      → AreTiersBelow width (chosen family left right)
-      → has_edge_type (chosen family left right) ≡ true
+      → AreTiersBelow width (choice_types family left right)
+      → has_edge_type (choice_types family left right) ≡ true
       → count_by (λ choice. counts family right T choice && is_at k (meet choice).high)
-      (choices (map (events T) (chosen family left right)))
+      (choices (map (events T) (choice_types family left right)))
       ≡ bit (edge_cost family left right (get_or T k []))
   edge_at Clash left right a b t e =
       count_agree _ (list_all (contains (2 * k))) _
@@ -148,8 +149,8 @@ module _ (width : ℕ) (T : List (List Sym)) (wf : IsWellFormed width T) (k : �
 pub step_count : (family : Family) (left right : List Event) (T : List (List Sym)) (k : ℕ)
     → so_far family left right T (suc k) ≡ so_far family left right T k
     + count_by (λ choice. counts family right T choice && is_at k (meet choice).high)
-    (choices (map (events T) (chosen family left right)))
+    (choices (map (events T) (choice_types family left right)))
 unfolding so_far
 step_count family left right T k =
-    count_split _ _ _ (choices (map (events T) (chosen family left right)))
+    count_split _ _ _ (choices (map (events T) (choice_types family left right)))
     (all_of _ _ (λ choice. so_far_split (counts family right T choice) k (meet choice).high))

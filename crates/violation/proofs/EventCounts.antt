@@ -1,5 +1,6 @@
 -- How many events of a type contain a point of doubled time.
-use Rattle.std.proofs.Common.{◌≡◌, ℕ, ◌+◌, ◌*◌, ◌-◌, ◌<◌, true, false, ◌&&◌, leb, ltb, eqb, List, [], map, length, get_or, ap, ◌∙◌, arith}
+use Rattle.std.proofs.Common.{◌≡◌, ℕ, ◌+◌, ◌*◌, ◌-◌, ◌<◌, true, false, ◌&&◌, leb, ltb, eqb, List, [], map, length}
+use Rattle.std.proofs.Common.{get_or, ap, ◌∙◌, arith}
 use Rattle.std.specs.Prelude.{count_by}
 use Rattle.std.specs.List.{list_any}
 use Rattle.std.proofs.lemmas.List.{get_or-map}
@@ -10,7 +11,7 @@ use Rattle.tier_core.specs.declared.event.Event.{Event}
 use Rattle.tier_core.specs.declared.event.Part.{Part}
 use Rattle.tier_core.specs.declared.event.Part.TheVariants.{Start as StartOf, End as EndOf, Interior}
 use Rattle.tier_core.specs.Events.{event, events}
-use Rattle.tier_core.specs.Timelines.{word, symbol, IsWellFormed}
+use Rattle.tier_core.specs.Timelines.{tier_word, symbol, IsWellFormed}
 use Rattle.tier_core.specs.Words.{constituents}
 use Rattle.tier_core.proofs.CountLemmas.{bit, count_map, count_agree, all_weaker, all_of, any_from_count}
 use Rattle.tier_core.proofs.WordCounts.{covers, start_at, end_at, inside_at, open_after}
@@ -59,7 +60,7 @@ module _ (width : ℕ) (T : List (List Sym)) (wf : IsWellFormed width T) (k : �
   pub event_at : (e : Event) → e.tier < width
       → count_by (contains (2 * k)) (events T e) ≡ bit (is_present (get_or T k []) e)
   event_at e t =
-      part_at (word T e.tier) (runs_from_well_formed (word T e.tier) (wf.each_tier e.tier t)) k e.part
+      part_at (tier_word T e.tier) (runs_from_well_formed (tier_word T e.tier) (wf.each_tier e.tier t)) k e.part
       ∙ ap (λ s. bit (part_present e.part s)) (get_or-map (λ column. symbol column e.tier) T k [] Outside l)
 
   pub any_event_at : (e : Event) → e.tier < width

@@ -1,12 +1,15 @@
 -- What the examples are proved by: tests that compute.
-use Rattle.std.proofs.Common.{◌≡◌, ℕ, zero, suc, ◌+◌, ◌<◌, ◌≤◌, Bool, true, false, List, [], ◌∷◌, ◌++◌, map, take, drop, length, get_or, refl, sym, ap, ◌∙◌, arith, count_by, ◌&&◌, codes, String, Contains, subst, Less, Greater, is_gt, is_le, Equal, cond, ltb, eqb, lt-ltb, le-ltb, ne_eqb, take-append-drop, length-append}
+use Rattle.std.proofs.Common.{◌≡◌, ℕ, zero, suc, ◌+◌, ◌<◌, ◌≤◌, Bool, true, false, List, [], ◌∷◌, ◌++◌, map, take, drop}
+use Rattle.std.proofs.Common.{length, get_or, refl, sym, ap, ◌∙◌, arith, count_by, ◌&&◌, codes, String, Contains, subst}
+use Rattle.std.proofs.Common.{Less, Greater, is_gt, is_le, Equal, cond, ltb, eqb, lt-ltb, le-ltb, ne_eqb}
+use Rattle.std.proofs.Common.{take-append-drop, length-append}
 use Rattle.std.specs.List.{AllByRecursion, list_all, range_with_len}
 use Rattle.std.proofs.lemmas.Bool.{false≢true, and_parts, true_from_ne_false}
 use Rattle.std.proofs.lemmas.List.Folds.{list_all_at}
 use Rattle.std.proofs.lemmas.List.FromFn.{length-range_with_len, get_or-range_with_len}
 use Rattle.tier_core.specs.declared.sym.Sym.{Sym}
 use Rattle.tier_core.specs.Words.{IsWellFormedWord}
-use Rattle.tier_core.specs.Timelines.{word, IsWellFormed, IsReduced, project, squeeze}
+use Rattle.tier_core.specs.Timelines.{tier_word, IsWellFormed, IsReduced, project, squeeze}
 use Rattle.tier_core.proofs.CountLemmas.{bit, count_cons}
 use Rattle.tier_core.proofs.WordLemmas.{runs}
 use Rattle.tier_core.proofs.WordForm.{well_formed_from_runs, runs_from_well_formed}
@@ -20,10 +23,10 @@ use Rattle.tier_core.specs.declared.event.Event.{Event}
 use Rattle.tier_core.specs.declared.constraint.Family.{Family}
 use Rattle.tier_core.specs.declared.constraint.Family.TheVariants.{Implication}
 use Rattle.violation.specs.Candidates.{IsCandidate, IsAtMost, vec, IsOptimalFor, IsLeastVector}
-use Rattle.violation.specs.Counts.{viol, so_far, choices, chosen, violations_of}
+use Rattle.violation.specs.Counts.{viol, so_far, choices, choice_types, violations_of}
 use Rattle.violation.specs.Prefixes.{is_open}
 use Rattle.violation.specs.Stages.{Passes, IsKindOfStage, AreKindsOfStage, IsRemaining}
-use Rattle.violation.specs.Examples.{two_tiers, timeline, types, max_a, kind_text}
+use Rattle.violation.specs.Examples.{two_tiers, timeline, types, max_a, read_kind}
 use Rattle.violation.proofs.PrefixLemmas.{input_part, input_append}
 use Rattle.violation.proofs.WholeCounts.{so_far_none}
 use Rattle.violation.specs.Examples.{over_two}
@@ -40,19 +43,19 @@ all_below p n h t l =
     (ap p (get_or-range_with_len 0 n t 0 l ∙ omega arith) ∙ f)) ∙ h))
 
 pub right_timeline : (width : ℕ) (T : List (List Sym)) → AllByRecursion (λ column. length column ≡ width) T
-    → list_all (λ t. runs false (word T t)) (range_with_len 0 width) ≡ true → IsWellFormed width T
+    → list_all (λ t. runs false (tier_word T t)) (range_with_len 0 width) ≡ true → IsWellFormed width T
 right_timeline width T w h = record {
   one_width = w;
-  each_tier = λ t l. well_formed_from_runs (word T t) (all_below (λ t. runs false (word T t)) width h t l);
+  each_tier = λ t l. well_formed_from_runs (tier_word T t) (all_below (λ t. runs false (tier_word T t)) width h t l);
 }
 
-pub wrong_tier : (width : ℕ) (T : List (List Sym)) (t : ℕ) → t < width → runs false (word T t) ≡ false
+pub wrong_tier : (width : ℕ) (T : List (List Sym)) (t : ℕ) → t < width → runs false (tier_word T t) ≡ false
     → IsWellFormed width T → ⊥
-wrong_tier width T t l h f = false≢true (sym h ∙ runs_from_well_formed (word T t) (f.each_tier t l))
+wrong_tier width T t l h f = false≢true (sym h ∙ runs_from_well_formed (tier_word T t) (f.each_tier t l))
 
 pub right_candidate : (constraints : List Constraint) (u T : List (List Sym))
     → AllByRecursion (λ column. length column ≡ 2) T
-    → list_all (λ t. runs false (word T t)) (range_with_len 0 2) ≡ true → IsReduced T
+    → list_all (λ t. runs false (tier_word T t)) (range_with_len 0 2) ≡ true → IsReduced T
     → squeeze (project (0 ∷ []) T) ≡ u → IsCandidate (over_two constraints u) T
 right_candidate constraints u T w h r i = record { well_formed = right_timeline 2 T w h; reduced = r; input = i }
 
@@ -136,10 +139,10 @@ count_fewer p q (x ∷ xs) =
 pub so_far_within : (family : Family) (left right : List Event) (T : List (List Sym)) (n : ℕ)
     → so_far family left right T n ≤ viol family left right T
 unfolding so_far viol
-so_far_within family left right T n = count_fewer _ _ (choices (map (events T) (chosen family left right)))
+so_far_within family left right T n = count_fewer _ _ (choices (map (events T) (choice_types family left right)))
 
 abbrev start : PrefixKind
-start = kind_text 0 (codes "-") (codes ".")
+start = read_kind 0 (codes "-") (codes ".")
 
 whole_passes : (name : String Global) → Passes (over_two (max_a name ∷ []) one) 0 1 start whole 0
 whole_passes name = record {
@@ -234,12 +237,13 @@ kind_is k p =
     let T = p.candidate in
     let n = p.columns in
     let none : length (squeeze (project (0 ∷ []) (take n T))) ≡ 0 = place_none T n p.passes.optimal.candidate.input in (
-      is_open (word (take n T) 1),
+      is_open (tier_word (take n T) 1),
       ap (λ (m : ℕ). let k : PrefixKind = record
-          { place = m; opened = is_open (word (take n T) 1) ∷ []; phases = [] } in k) (sym none) ∙ p.passes.of_kind,
+          { place = m; opened = is_open (tier_word (take n T) 1) ∷ []; phases = [] } in k) (sym none)
+          ∙ p.passes.of_kind,
     )
 
-pub not_place_one : IsKindOfStage (over_two [] []) 0 (kind_text 1 (codes "-") []) → ⊥
+pub not_place_one : IsKindOfStage (over_two [] []) 0 (read_kind 1 (codes "-") []) → ⊥
 not_place_one p = let e : 0 ≡ 1 = ap (λ (k : PrefixKind). k.place) (kind_is _ p).1 in omega (arith, e)
 
 pub empty_kinds : AreKindsOfStage (over_two [] []) 0 (flagged false ∷ flagged true ∷ [])

@@ -2,16 +2,17 @@
 use Rattle.std.proofs.Common.{◌≡◌, ℕ, zero, suc, ◌≤◌, List, ap, sym, ◌∙◌, arith}
 use Rattle.tier_core.specs.declared.sym.Sym.{Sym}
 use Rattle.tier_core.specs.Kinds.{PrefixKind}
-use Rattle.violation.specs.Moves.{cut}
+use Rattle.violation.specs.Moves.{cut_kind}
 use Rattle.violation.specs.Prefixes.{kind_of}
 use Rattle.violation.specs.Problems.{Problem}
-use Rattle.violation.proofs.CutLemmas.{cut-kind_of}
+use Rattle.violation.proofs.CutLemmas.{cut_kind-kind_of}
 use Rattle.violation.specs.Stages.{IsLeastRest, IsRemaining}
 
 -- kinds that are the same under more constraints are so under fewer
 pub same_fewer : (problem : Problem) (j s : ℕ) → j ≤ s → (v p : List (List Sym))
     → kind_of problem s v ≡ kind_of problem s p → kind_of problem j v ≡ kind_of problem j p
-same_fewer problem j s l v p e = sym (cut-kind_of problem j s l v) ∙ ap (cut problem j) e ∙ cut-kind_of problem j s l p
+same_fewer problem j s l v p e = sym (cut_kind-kind_of problem j s l v) ∙ ap (cut_kind problem j) e
+    ∙ cut_kind-kind_of problem j s l p
 
 -- from stage 1 on what remains is a least rest
 pub least_rest : (problem : Problem) (r : ℕ) (k : PrefixKind) (p : ℕ) → 1 ≤ r → IsRemaining problem r k p

@@ -1,5 +1,6 @@
 -- Choices of interiors alone.
-use Rattle.std.proofs.Common.{◌≡◌, ℕ, ◌+◌, ◌*◌, ◌-◌, ◌<◌, min, max, Bool, true, false, ◌&&◌, ◌||◌, leb, List, [], ◌∷◌, map, length, get_or, refl, sym, ap, ◌∙◌, arith}
+use Rattle.std.proofs.Common.{◌≡◌, ℕ, ◌+◌, ◌*◌, ◌-◌, ◌<◌, min, max, Bool, true, false, ◌&&◌, ◌||◌, leb, List, [], ◌∷◌}
+use Rattle.std.proofs.Common.{map, length, get_or, refl, sym, ap, ◌∙◌, arith}
 use Rattle.std.specs.Prelude.{count_by}
 use Rattle.std.specs.List.{AllByRecursion, list_all}
 use Rattle.std.proofs.lemmas.Bool.{false≢true}
@@ -9,7 +10,7 @@ use Rattle.tier_core.specs.declared.event.Event.{Event}
 use Rattle.tier_core.specs.declared.event.Part.{Part}
 use Rattle.tier_core.specs.declared.event.Part.TheVariants.{Start as StartOf, End as EndOf, Interior}
 use Rattle.tier_core.specs.Events.{Interval, event, events, greatest_low, least_from, least_high, meet, is_there}
-use Rattle.tier_core.specs.Timelines.{word, IsWellFormed}
+use Rattle.tier_core.specs.Timelines.{tier_word, IsWellFormed}
 use Rattle.tier_core.specs.Words.{constituents}
 use Rattle.tier_core.specs.Sides.{is_edge_part, has_edge_type}
 use Rattle.tier_core.proofs.CountLemmas.{bit, count_split, all_weaker, all_of}
@@ -57,12 +58,12 @@ odds T (e ∷ es) h = all_flat IsOdd (events T e) (choices (map (events T) es)) 
     by_part : (part : Part) → (is_edge_part part || has_edge_type es) ≡ false
         → (has_edge_type es ≡ false → AllByRecursion IsOdd (choices (map (events T) es)))
         → AllByRecursion (λ x. AllByRecursion (λ choice. OddMeet (x ∷ choice)) (choices (map (events T) es)))
-        (map (event part) (constituents (word T e.tier)))
+        (map (event part) (constituents (tier_word T e.tier)))
     by_part StartOf g rest = absurd (false≢true (sym g))
     by_part EndOf g rest = absurd (false≢true (sym g))
-    by_part Interior g rest = all_map _ (event Interior) (constituents (word T e.tier))
+    by_part Interior g rest = all_map _ (event Interior) (constituents (tier_word T e.tier))
         (all_weaker _ _ _ (λ c a. all_weaker IsOdd _ _ (λ choice p. odd_more c.0 c.1 a.1 choice p) (rest g))
-        (constituents_late 0 (word T e.tier)))
+        (constituents_late 0 (tier_word T e.tier)))
 
 pub filled : (T : List (List Sym)) (es : List Event) → AreSome es
     → AllByRecursion IsFilled (choices (map (events T) es))
@@ -76,7 +77,7 @@ odd_test l h p q k a b = grind (arith, nat_tests)
 
 -- whether a type's tier is open after n columns
 abbrev pub open_before : List (List Sym) → ℕ → Event → Bool
-open_before T n e = open_at false (word T e.tier) n
+open_before T n e = open_at false (tier_word T e.tier) n
 
 pub open_event : (width : ℕ) (T : List (List Sym)) → IsWellFormed width T → (k : ℕ) (e : Event) → e.tier < width
     → is_edge_part e.part ≡ false
@@ -84,12 +85,12 @@ pub open_event : (width : ℕ) (T : List (List Sym)) → IsWellFormed width T �
 open_event width T wf k e t i = by_part e.part i
   where
     by_part : (part : Part) → is_edge_part part ≡ false
-        → count_by (contains (2 * k - 1)) (map (event part) (constituents (word T e.tier)))
-        ≡ bit (open_at false (word T e.tier) k)
+        → count_by (contains (2 * k - 1)) (map (event part) (constituents (tier_word T e.tier)))
+        ≡ bit (open_at false (tier_word T e.tier) k)
     by_part StartOf g = absurd (false≢true (sym g))
     by_part EndOf g = absurd (false≢true (sym g))
-    by_part Interior g = interior_before (word T e.tier)
-        (runs_from_well_formed (word T e.tier) (wf.each_tier e.tier t)) k
+    by_part Interior g = interior_before (tier_word T e.tier)
+        (runs_from_well_formed (tier_word T e.tier) (wf.each_tier e.tier t)) k
 
 pub interiors_each : (es : List Event) → has_edge_type es ≡ false → AllByRecursion (λ e. is_edge_part e.part ≡ false) es
 interiors_each [] h = tt

@@ -1,5 +1,7 @@
 -- The kind of a prefix, read from the whole timeline.
-use Rattle.std.proofs.Common.{◌≡◌, ℕ, zero, suc, ◌+◌, ◌*◌, ◌-◌, ◌<◌, ◌≤◌, min, max, Bool, true, false, ◌||◌, cond, leb, ltb, List, [], ◌∷◌, ◌++◌, map, take, length, get_or, Option, Some, None, refl, sym, ap, ◌∙◌, ⊎_elim, arith}
+use Rattle.std.proofs.Common.{◌≡◌, ℕ, zero, suc, ◌+◌, ◌*◌, ◌-◌, ◌<◌, ◌≤◌, min, max, Bool, true, false, ◌||◌, cond, leb}
+use Rattle.std.proofs.Common.{ltb, List, [], ◌∷◌, ◌++◌, map, take, length, get_or, Option, Some, None, refl, sym, ap}
+use Rattle.std.proofs.Common.{◌∙◌, ⊎_elim, arith}
 use Rattle.std.specs.Prelude.{is_some}
 use Rattle.std.specs.List.{AllByRecursion, list_all, list_any, flat_map}
 use Rattle.std.proofs.lemmas.List.{get_or-take, length-take-le, length-map}
@@ -14,7 +16,7 @@ use Rattle.tier_core.specs.declared.event.Part.TheVariants.{Start as StartOf, En
 use Rattle.tier_core.specs.Events.{Interval, event, meet, is_there}
 use Rattle.tier_core.specs.Kinds.{closed, unmet, met}
 use Rattle.tier_core.specs.Scan.{fits, opens}
-use Rattle.tier_core.specs.Timelines.{word, symbol, IsWellFormed}
+use Rattle.tier_core.specs.Timelines.{tier_word, symbol, IsWellFormed}
 use Rattle.tier_core.specs.Words.{constituents_from, starts, next_end, pair_to}
 use Rattle.tier_core.specs.Sides.{edge_among}
 use Rattle.tier_core.proofs.CountLemmas.{all_weaker, any_none}
@@ -149,12 +151,13 @@ last_take test T m (suc n) l =
     rw (at, last_take test T m n (omega arith)) refl
 
 module _ (width : ℕ) (T : List (List Sym)) (wf : IsWellFormed width T) (n : ℕ) (l : n ≤ length T) where
-  length_word : (t : ℕ) → length (word T t) ≡ length T
+  length_word : (t : ℕ) → length (tier_word T t) ≡ length T
   length_word t = length-map T (λ column. symbol column t)
 
-  pub open_in_prefix : (t : ℕ) → t < width → is_open (word (take n T) t) ≡ open_at false (word T t) n
+  pub open_in_prefix : (t : ℕ) → t < width → is_open (tier_word (take n T) t) ≡ open_at false (tier_word T t) n
   open_in_prefix t g =
-      ap is_open (take_word T n t) ∙ prefix_open (word T t) n (runs_from_well_formed (word T t) (wf.each_tier t g))
+      ap is_open (take_word T n t) ∙ prefix_open (tier_word T t) n
+      (runs_from_well_formed (tier_word T t) (wf.each_tier t g))
       (omega (arith, length_word t))
 
   -- the prefix alone tells whether a span that ends with it is met
@@ -164,11 +167,11 @@ module _ (width : ℕ) (T : List (List Sym)) (wf : IsWellFormed width T) (n : �
       any_agree _ _ right
       (all_weaker (λ e. e.tier < width) _ right
       (λ e b.
-      ap (λ m. list_any (meets a n) (flat_map (event_begun m e.part) (begun_from 0 (word (take n T) e.tier))))
+      ap (λ m. list_any (meets a n) (flat_map (event_begun m e.part) (begun_from 0 (tier_word (take n T) e.tier))))
       (length-take-le n T l)
       ∙ ap (λ w. list_any (meets a n) (flat_map (event_begun n e.part) (begun_from 0 w))) (take_word T n e.tier)
-      ∙ prefix_meets e.part a n g false 0 n (word T e.tier) (omega arith)
-      (runs_from_well_formed (word T e.tier) (wf.each_tier e.tier b)))
+      ∙ prefix_meets e.part a n g false 0 n (tier_word T e.tier) (omega arith)
+      (runs_from_well_formed (tier_word T e.tier) (wf.each_tier e.tier b)))
       t)
 
   -- the phase of a prefix, read from the whole timeline
@@ -179,7 +182,7 @@ module _ (width : ℕ) (T : List (List Sym)) (wf : IsWellFormed width T) (n : �
       let size : length (take n T) ≡ n = length-take-le n T l in
       let last : last_where (edge_among left) (take n T) (length (take n T)) ≡ last_where (edge_among left) T n =
       ap (last_where (edge_among left) (take n T)) size ∙ last_take (edge_among left) T n n (omega arith) in
-      let open_all : list_all (λ e. is_open (word (take n T) e.tier)) left ≡ list_all (open_before T n) left =
+      let open_all : list_all (λ e. is_open (tier_word (take n T) e.tier)) left ≡ list_all (open_before T n) left =
       all_agree _ _ left (all_weaker (λ e. e.tier < width) _ left (λ e h. open_in_prefix e.tier h) a) in
       let met_so : is_met_in (take n T) right
       (span (2 * last_where (edge_among left) (take n T) (length (take n T)) + 1) (length (take n T)))

@@ -1,5 +1,6 @@
 -- Moves of kinds count what the timeline counts.
-use Rattle.std.proofs.Common.{◌≡◌, ℕ, zero, suc, ◌+◌, ◌<◌, ◌≤◌, Bool, true, false, not, ◌&&◌, ◌||◌, cond, List, [], ◌++◌, take, length, get_or, refl, sym, ap, ◌∙◌, arith, add-one}
+use Rattle.std.proofs.Common.{◌≡◌, ℕ, zero, suc, ◌+◌, ◌<◌, ◌≤◌, Bool, true, false, not, ◌&&◌, ◌||◌, cond, List, []}
+use Rattle.std.proofs.Common.{◌++◌, take, length, get_or, refl, sym, ap, ◌∙◌, arith, add-one}
 use Rattle.std.specs.List.{list_all, list_any}
 use Rattle.std.proofs.lemmas.List.{get_or-take, get_or_default}
 use Rattle.std.proofs.lemmas.Bool.{false≢true}
@@ -8,13 +9,13 @@ use Rattle.tier_core.specs.declared.event.Event.{Event}
 use Rattle.tier_core.specs.declared.constraint.Family.{Family}
 use Rattle.tier_core.specs.declared.constraint.Family.TheVariants.{Implication, Clash}
 use Rattle.tier_core.specs.Kinds.{closed, unmet, met}
-use Rattle.tier_core.specs.Timelines.{word}
+use Rattle.tier_core.specs.Timelines.{tier_word}
 use Rattle.tier_core.specs.Sides.{has_edge_type, edge_among}
 use Rattle.tier_core.proofs.CountLemmas.{bit, all_weaker}
 use Rattle.tier_core.proofs.Bools.{and_false}
 use Rattle.violation.specs.Columns.{opens_all, is_present, opens_interior}
 use Rattle.violation.specs.Conditions.{AreTiersBelow, IsCountable}
-use Rattle.violation.specs.Counts.{chosen, so_far, is_met}
+use Rattle.violation.specs.Counts.{choice_types, so_far, is_met}
 use Rattle.violation.specs.Moves.{is_met_phase, is_unmet_phase, next_phase, costs}
 use Rattle.violation.specs.Prefixes.{is_open, phase}
 use Rattle.violation.proofs.CountSteps.{some_chosen, chosen_below, met_step, open_step, all_agree}
@@ -26,7 +27,7 @@ use Rattle.violation.proofs.WholeCounts.{so_far_none}
 
 -- which tiers are open after n columns
 abbrev pub opened_after : List (List Sym) → ℕ → ℕ → Bool
-opened_after T n t = is_open (word (take n T) t)
+opened_after T n t = is_open (tier_word (take n T) t)
 
 unmet_is : (a m : Bool) → is_unmet_phase (cond a (cond m met unmet) closed) ≡ (a && not m)
 unmet_is true true = refl
@@ -53,7 +54,7 @@ pub column_costs : (family : Family) (left right : List Event) (T : List (List S
     → so_far family left right T (suc k)
     ≡ so_far family left right T k + bit
     (costs family left right (opened_after T k) (phase left right (take k T)) (get_or T k []))
-column_costs family left right T k c l = by_edge (has_edge_type (chosen family left right)) refl
+column_costs family left right T k c l = by_edge (has_edge_type (choice_types family left right)) refl
   where
     width : ℕ
     width = c.width
@@ -64,7 +65,7 @@ column_costs family left right T k c l = by_edge (has_edge_type (chosen family l
         (all_weaker (λ e. e.tier < c.width) _ es
         (λ e b. open_in_prefix c.width T c.well_formed k (omega arith) e.tier b) t))
 
-    interior : (f : Family) → has_edge_type (chosen f left right) ≡ false
+    interior : (f : Family) → has_edge_type (choice_types f left right) ≡ false
         → so_far f left right T (suc k) ≡ so_far f left right T k + bit
         (costs f left right (opened_after T k) (phase left right (take k T)) (get_or T k []))
     interior Clash e =
@@ -85,7 +86,7 @@ column_costs family left right T k c l = by_edge (has_edge_type (chosen family l
         ∙ unmet_is (list_all (open_before T k) left) (is_met T right (stretch T left k))))
         ∙ rw e refl
 
-    by_edge : (b : Bool) → has_edge_type (chosen family left right) ≡ b
+    by_edge : (b : Bool) → has_edge_type (choice_types family left right) ≡ b
         → so_far family left right T (suc k)
         ≡ so_far family left right T k + bit
         (costs family left right (opened_after T k) (phase left right (take k T)) (get_or T k []))
@@ -159,7 +160,7 @@ so_far_of_prefix family left right T U (suc k) a b l m same =
     ∙ ap (λ n. n + bit (costs family left right (opened_after T k) (phase left right (take k T)) (get_or T k [])))
     (so_far_of_prefix family left right T U k a b (omega arith) (omega arith) (λ i h. same i (omega arith)))
     ∙ ap (λ (p : List (List Sym)). so_far family left right U k + bit
-    (costs family left right (λ t. is_open (word p t)) (phase left right p) (get_or T k [])))
+    (costs family left right (λ t. is_open (tier_word p t)) (phase left right p) (get_or T k [])))
     (same k (omega arith))
     ∙ ap (λ (d : List Sym). so_far family left right U k + bit
     (costs family left right (opened_after U k) (phase left right (take k U)) d)) column

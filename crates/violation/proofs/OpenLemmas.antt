@@ -1,12 +1,13 @@
 -- Which tiers are open after the first columns.
-use Rattle.std.proofs.Common.{◌≡◌, ℕ, zero, suc, ◌≤◌, Bool, true, false, not, ◌&&◌, ◌||◌, List, [], ◌∷◌, ◌++◌, take, length, refl, sym, ap, ◌∙◌, arith}
+use Rattle.std.proofs.Common.{◌≡◌, ℕ, zero, suc, ◌≤◌, Bool, true, false, not, ◌&&◌, ◌||◌, List, [], ◌∷◌, ◌++◌, take}
+use Rattle.std.proofs.Common.{length, refl, sym, ap, ◌∙◌, arith}
 use Rattle.std.specs.List.{list_any}
 use Rattle.std.proofs.lemmas.List.{take-map}
 use Rattle.std.proofs.lemmas.Bool.{false≢true, and_parts, and_from, not-true, not_from_false}
 use Rattle.tier_core.specs.declared.sym.Sym.{Sym}
 use Rattle.tier_core.specs.declared.sym.Sym.TheVariants.{Outside, Inside, Start, End, Both}
 use Rattle.tier_core.specs.Scan.{fits, opens}
-use Rattle.tier_core.specs.Timelines.{word, symbol}
+use Rattle.tier_core.specs.Timelines.{tier_word, symbol}
 use Rattle.tier_core.specs.Words.{ends}
 use Rattle.tier_core.proofs.WordLemmas.{runs, open_at}
 use Rattle.tier_core.proofs.Bools.{and_grouped}
@@ -49,7 +50,7 @@ open_at_take b (s ∷ w) (suc n) l = open_at_take (opens s) w n (omega arith)
 pub prefix_open : (w : List Sym) (n : ℕ) → runs false w ≡ true → n ≤ length w → is_open (take n w) ≡ open_at false w n
 prefix_open w n r l = open_read false (take n w) (reads_take false w n r) ∙ open_at_take false w n l
 
-pub take_word : (T : List (List Sym)) (n t : ℕ) → word (take n T) t ≡ take n (word T t)
+pub take_word : (T : List (List Sym)) (n t : ℕ) → tier_word (take n T) t ≡ take n (tier_word T t)
 take_word T n t = sym (take-map (λ column. symbol column t) n T)
 
 pub runs_append : (b : Bool) (p q : List Sym) → runs b (p ++ q) ≡ (reads b p && runs (open_at b p (length p)) q)

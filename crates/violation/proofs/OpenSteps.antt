@@ -1,5 +1,6 @@
 -- What is counted at a column by constraints whose choices are of interiors alone.
-use Rattle.std.proofs.Common.{◌≡◌, ℕ, suc, ◌+◌, ◌*◌, ◌-◌, ◌<◌, Bool, true, false, not, ◌&&◌, ◌||◌, List, [], ◌∷◌, ◌++◌, map, length, get_or, refl, sym, ap, ◌∙◌, subst, arith}
+use Rattle.std.proofs.Common.{◌≡◌, ℕ, suc, ◌+◌, ◌*◌, ◌-◌, ◌<◌, Bool, true, false, not, ◌&&◌, ◌||◌, List, [], ◌∷◌, ◌++◌}
+use Rattle.std.proofs.Common.{map, length, get_or, refl, sym, ap, ◌∙◌, subst, arith}
 use Rattle.std.specs.Prelude.{count_by}
 use Rattle.std.specs.List.{AllByRecursion, list_all, list_any}
 use Rattle.std.proofs.lemmas.List.{get_or-map}
@@ -12,7 +13,7 @@ use Rattle.tier_core.specs.declared.event.Part.TheVariants.{Start as StartOf, En
 use Rattle.tier_core.specs.declared.constraint.Family.TheVariants.{Implication, Clash}
 use Rattle.tier_core.specs.Events.{Interval, events, greatest_low, least_high, meet, is_there}
 use Rattle.tier_core.specs.Scan.{fits}
-use Rattle.tier_core.specs.Timelines.{word, symbol, is_edge, IsWellFormed}
+use Rattle.tier_core.specs.Timelines.{tier_word, symbol, is_edge, IsWellFormed}
 use Rattle.tier_core.specs.Words.{is_inside_sym}
 use Rattle.tier_core.specs.Sides.{is_edge_part, has_edge_type, edge_among}
 use Rattle.tier_core.proofs.CountLemmas.{bit, count_agree, all_weaker}
@@ -77,11 +78,11 @@ module _ (width : ℕ) (T : List (List Sym)) (wf : IsWellFormed width T) (k : �
       → (open_before T k e ≡ true → is_present (get_or T k []) e ≡ not (is_edge (symbol (get_or T k []) e.tier))) ×
       (open_before T k e ≡ false → is_present (get_or T k []) e ≡ false)
   told_at e t i =
-      let at : get_or (word T e.tier) k Outside
+      let at : get_or (tier_word T e.tier) k Outside
       ≡ symbol (get_or T k []) e.tier = get_or-map (λ column. symbol column e.tier) T k [] Outside l in
       let fit : fits (open_before T k e) (symbol (get_or T k []) e.tier) ≡ true =
       subst (λ s. fits (open_before T k e) s ≡ true) at
-      (runs_fits false (word T e.tier) k (runs_from_well_formed (word T e.tier) (wf.each_tier e.tier t))) in
+      (runs_fits false (tier_word T e.tier) k (runs_from_well_formed (tier_word T e.tier) (wf.each_tier e.tier t))) in
       by_part e.part i (symbol (get_or T k []) e.tier) (open_before T k e)
       (inside_told (open_before T k e) (symbol (get_or T k []) e.tier) fit)
     where

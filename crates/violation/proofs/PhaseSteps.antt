@@ -1,5 +1,6 @@
 -- Whether a stretch is met, from one column to the next.
-use Rattle.std.proofs.Common.{◌≡◌, ℕ, zero, suc, ◌+◌, ◌*◌, ◌-◌, ◌<◌, ◌≤◌, min, max, Bool, true, false, not, ◌&&◌, ◌||◌, leb, List, [], ◌∷◌, map, length, get_or, refl, sym, ap, ◌∙◌, arith}
+use Rattle.std.proofs.Common.{◌≡◌, ℕ, zero, suc, ◌+◌, ◌*◌, ◌-◌, ◌<◌, ◌≤◌, min, max, Bool, true, false, not, ◌&&◌, ◌||◌}
+use Rattle.std.proofs.Common.{leb, List, [], ◌∷◌, map, length, get_or, refl, sym, ap, ◌∙◌, arith}
 use Rattle.std.specs.List.{AllByRecursion, list_any}
 use Rattle.std.proofs.lemmas.List.{get_or-map}
 use Rattle.std.proofs.lemmas.Bool.Decides.{nat_tests}
@@ -10,7 +11,7 @@ use Rattle.tier_core.specs.declared.event.Part.{Part}
 use Rattle.tier_core.specs.declared.event.Part.TheVariants.{Start as StartOf, End as EndOf, Interior}
 use Rattle.tier_core.specs.Events.{event, events, meet, is_there}
 use Rattle.tier_core.specs.Scan.{opens}
-use Rattle.tier_core.specs.Timelines.{word, symbol, IsWellFormed}
+use Rattle.tier_core.specs.Timelines.{tier_word, symbol, IsWellFormed}
 use Rattle.tier_core.specs.Words.{constituents}
 use Rattle.tier_core.specs.Sides.{is_edge_part, edge_among}
 use Rattle.tier_core.proofs.CountLemmas.{bit, all_weaker, all_of, any_from_count, any_none}
@@ -35,8 +36,8 @@ event_ordered Interior i j l = omega arith
 
 events_ordered : (T : List (List Sym)) (e : Event) → AllByRecursion (λ x. x.low ≤ x.high) (events T e)
 events_ordered T e =
-    all_map (λ x. x.low ≤ x.high) (event e.part) (constituents (word T e.tier))
-    (all_weaker _ _ _ (λ c a. event_ordered e.part c.0 c.1 a.1) (constituents_late 0 (word T e.tier)))
+    all_map (λ x. x.low ≤ x.high) (event e.part) (constituents (tier_word T e.tier))
+    (all_weaker _ _ _ (λ c a. event_ordered e.part c.0 c.1 a.1) (constituents_late 0 (tier_word T e.tier)))
 
 meets_next : (a b lo hi : ℕ) → lo ≤ hi → a ≤ suc b
     → leb (max a (max lo 0)) (min hi (suc b))
@@ -78,21 +79,23 @@ edge_between i k = grind (arith, nat_tests)
 
 module _ (width : ℕ) (T : List (List Sym)) (wf : IsWellFormed width T) (k : ℕ) (l : k < length T) where
   pub open_after_column : (e : Event) → open_before T (suc k) e ≡ opens (symbol (get_or T k []) e.tier)
-  open_after_column e = open_next false (word T e.tier) k
+  open_after_column e = open_next false (tier_word T e.tier) k
       ∙ ap opens (get_or-map (λ column. symbol column e.tier) T k [] Outside l)
 
   any_between : (e : Event) → e.tier < width
       → list_any (contains (2 * suc k - 1)) (events T e) ≡ opens_interior (get_or T k []) e
   any_between e t = by_part e.part
     where
-      by_part : (part : Part) → list_any (contains (2 * suc k - 1)) (map (event part) (constituents (word T e.tier)))
+      by_part : (part : Part) → list_any (contains (2 * suc k - 1))
+          (map (event part) (constituents (tier_word T e.tier)))
           ≡ (not (is_edge_part part) && opens (symbol (get_or T k []) e.tier))
       by_part StartOf = any_none _ _ (all_map (λ x. contains (2 * suc k - 1) x ≡ false) (event StartOf)
-          (constituents (word T e.tier)) (all_of _ _ (λ c. edge_between c.0 k)))
+          (constituents (tier_word T e.tier)) (all_of _ _ (λ c. edge_between c.0 k)))
       by_part EndOf = any_none _ _ (all_map (λ x. contains (2 * suc k - 1) x ≡ false) (event EndOf)
-          (constituents (word T e.tier)) (all_of _ _ (λ c. edge_between c.1 k)))
+          (constituents (tier_word T e.tier)) (all_of _ _ (λ c. edge_between c.1 k)))
       by_part Interior = any_from_count (contains (2 * suc k - 1)) _ (opens (symbol (get_or T k []) e.tier))
-          (interior_before (word T e.tier) (runs_from_well_formed (word T e.tier) (wf.each_tier e.tier t)) (suc k)
+          (interior_before (tier_word T e.tier) (runs_from_well_formed (tier_word T e.tier) (wf.each_tier e.tier t))
+          (suc k)
           ∙ ap bit (open_after_column e))
 
   met_between : (right : List Event) → AreTiersBelow width right

@@ -1,5 +1,6 @@
 -- Prefixes of candidates, one column at a time.
-use Rattle.std.proofs.Common.{◌≡◌, ℕ, ◌+◌, ◌<◌, Bool, true, false, ◌||◌, cond, ◌⊎◌, inl, inr, IsTrue, List, [], ◌∷◌, ◌++◌, map, take, length, get_or, refl, sym, ap, ◌∙◌, ⊎_elim}
+use Rattle.std.proofs.Common.{◌≡◌, ℕ, ◌+◌, ◌<◌, Bool, true, false, ◌||◌, cond, ◌⊎◌, inl, inr, IsTrue, List, [], ◌∷◌}
+use Rattle.std.proofs.Common.{◌++◌, map, take, length, get_or, refl, sym, ap, ◌∙◌, ⊎_elim}
 use Rattle.std.specs.List.{AllByRecursion}
 use Rattle.std.proofs.lemmas.List.{map-append, length-map, append-nil, take_more, length_push, get_or-map}
 use Rattle.std.proofs.lemmas.List.FromFn.{fill_by_all}
@@ -9,7 +10,7 @@ use Rattle.tier_core.specs.declared.sym.Sym.{Sym}
 use Rattle.tier_core.specs.declared.constraint.Constraint.{Constraint}
 use Rattle.tier_core.specs.Scan.{fits}
 use Rattle.tier_core.specs.Tiers.{Tiers}
-use Rattle.tier_core.specs.Timelines.{word, symbol, column_at, has_edge, project, squeeze, IsReduced}
+use Rattle.tier_core.specs.Timelines.{tier_word, symbol, column_at, has_edge, project, squeeze, IsReduced}
 use Rattle.tier_core.proofs.CountLemmas.{all_append}
 use Rattle.tier_core.proofs.WordLemmas.{open_at}
 use Rattle.tier_core.proofs.WordForm.{runs_from_well_formed}
@@ -35,7 +36,7 @@ input_append tiers T U =
 -- p reads well so far over the tiers, and its squeezed input part begins u
 pub record IsBegun (problem : Problem) (p : List (List Sym)) : Type 0 where
   pub one_width : AllByRecursion (λ column. length column ≡ problem.tiers.width) p
-  pub read : (t : ℕ) → t < problem.tiers.width → reads false (word p t) ≡ true
+  pub read : (t : ℕ) → t < problem.tiers.width → reads false (tier_word p t) ≡ true
   pub reduced : IsReduced p
   pub place : input_part problem.tiers p ≡ take (length (input_part problem.tiers p)) problem.form
 
@@ -53,47 +54,48 @@ module _ (problem : Problem) (split : AreSplit problem.tiers) (form : IsForm pro
 
   -- which tiers are open after the first columns of the form
   pub form_is : (p : List (List Sym)) → IsBegun problem p → (j : ℕ) → j < length problem.tiers.input
-      → is_open (word (take (length (input_part problem.tiers p)) problem.form) j)
-      ≡ is_open (word p (get_or problem.tiers.input j 0))
+      → is_open (tier_word (take (length (input_part problem.tiers p)) problem.form) j)
+      ≡ is_open (tier_word p (get_or problem.tiers.input j 0))
   form_is p b j l =
       let t = get_or problem.tiers.input j 0 in
       let place = length (input_part problem.tiers p) in
-      let part : reads false (word (take place problem.form) j) ≡ true =
+      let part : reads false (tier_word (take place problem.form) j) ≡ true =
       ap (reads false) (take_word problem.form place j)
-      ∙ reads_take false (word problem.form j) place
-      (runs_from_well_formed (word problem.form j) (form.well_formed.each_tier j l)) in
-      ap (λ q. is_open (word q j)) (sym b.place)
-      ∙ open_read false (word (input_part problem.tiers p) j) (ap (λ q. reads false (word q j)) b.place ∙ part)
-      ∙ ap (open_at false (word (input_part problem.tiers p) j))
+      ∙ reads_take false (tier_word problem.form j) place
+      (runs_from_well_formed (tier_word problem.form j) (form.well_formed.each_tier j l)) in
+      ap (λ q. is_open (tier_word q j)) (sym b.place)
+      ∙ open_read false (tier_word (input_part problem.tiers p) j)
+      (ap (λ q. reads false (tier_word q j)) b.place ∙ part)
+      ∙ ap (open_at false (tier_word (input_part problem.tiers p) j))
       (length-map (input_part problem.tiers p) (λ column. symbol column j))
       ∙ input_open problem.tiers.input j l false p (b.read t (input_below j l))
-      ∙ sym (ap (open_at false (word p t)) (length-map p (λ column. symbol column t)))
-      ∙ sym (open_read false (word p t) (b.read t (input_below j l)))
+      ∙ sym (ap (open_at false (tier_word p t)) (length-map p (λ column. symbol column t)))
+      ∙ sym (open_read false (tier_word p t) (b.read t (input_below j l)))
 
   form_opened_is : (p : List (List Sym)) → IsBegun problem p
       → form_opened problem.tiers problem.form (length (input_part problem.tiers p))
-      ≡ map (λ t. is_open (word p t)) problem.tiers.input
+      ≡ map (λ t. is_open (tier_word p t)) problem.tiers.input
   form_opened_is p b =
-      sym (fill_by_all (λ j. is_open (word (take (length (input_part problem.tiers p)) problem.form) j))
-      (map (λ t. is_open (word p t)) problem.tiers.input) (length problem.tiers.input) false
-      (length-map problem.tiers.input (λ t. is_open (word p t)))
-      (λ j l. get_or-map (λ t. is_open (word p t)) problem.tiers.input j 0 false l ∙ sym (form_is p b j l)))
+      sym (fill_by_all (λ j. is_open (tier_word (take (length (input_part problem.tiers p)) problem.form) j))
+      (map (λ t. is_open (tier_word p t)) problem.tiers.input) (length problem.tiers.input) false
+      (length-map problem.tiers.input (λ t. is_open (tier_word p t)))
+      (λ j l. get_or-map (λ t. is_open (tier_word p t)) problem.tiers.input j 0 false l ∙ sym (form_is p b j l)))
 
   -- the kind of a prefix tells which tiers are open
   pub tier_open_is : (r : ℕ) (p : List (List Sym)) → IsBegun problem p → (t : ℕ) → t < problem.tiers.width
-      → is_tier_open problem (kind_of problem r p) t ≡ is_open (word p t)
+      → is_tier_open problem (kind_of problem r p) t ≡ is_open (tier_word p t)
   tier_open_is r p b t l =
       ap (λ flags. flag_of problem.tiers.input flags t || flag_of problem.tiers.free
-      (map (λ t. is_open (word p t)) problem.tiers.free) t) (form_opened_is p b)
+      (map (λ t. is_open (tier_word p t)) problem.tiers.free) t) (form_opened_is p b)
       ∙ ⊎_elim
       (λ c. rw (
-        flag_in (λ t. is_open (word p t)) problem.tiers.input t c,
-        flag_out problem.tiers.free (map (λ t. is_open (word p t)) problem.tiers.free) t (λ d. split.apart t c d),
+        flag_in (λ t. is_open (tier_word p t)) problem.tiers.input t c,
+        flag_out problem.tiers.free (map (λ t. is_open (tier_word p t)) problem.tiers.free) t (λ d. split.apart t c d),
       )
-      (or_none (is_open (word p t))))
+      (or_none (is_open (tier_word p t))))
       (λ d. rw (
-        flag_in (λ t. is_open (word p t)) problem.tiers.free t d,
-        flag_out problem.tiers.input (map (λ t. is_open (word p t)) problem.tiers.input) t
+        flag_in (λ t. is_open (tier_word p t)) problem.tiers.free t d,
+        flag_out problem.tiers.input (map (λ t. is_open (tier_word p t)) problem.tiers.input) t
             (λ c. split.apart t c d),
       ) refl)
       (split.each t l)
@@ -105,7 +107,7 @@ module _ (problem : Problem) (split : AreSplit problem.tiers) (form : IsForm pro
   -- one column more, where its symbols fit
   pub begun_more : (p : List (List Sym)) (column : List Sym) → IsBegun problem p
       → length column ≡ problem.tiers.width
-      → ((t : ℕ) → t < problem.tiers.width → fits (is_open (word p t)) (symbol column t) ≡ true)
+      → ((t : ℕ) → t < problem.tiers.width → fits (is_open (tier_word p t)) (symbol column t) ≡ true)
       → IsTrue (has_edge column)
       → (has_edge (input_of problem.tiers column) ≡ false) ⊎
       ((length (input_part problem.tiers p) < last_place problem) ×
@@ -115,9 +117,9 @@ module _ (problem : Problem) (split : AreSplit problem.tiers) (form : IsForm pro
     one_width = all_append _ p (column ∷ []) b.one_width (width, tt);
     read = λ t l.
         ap (reads false) (map-append (λ column. symbol column t) p (column ∷ []))
-        ∙ reads_append false (word p t) (symbol column t ∷ [])
+        ∙ reads_append false (tier_word p t) (symbol column t ∷ [])
         ∙ and_from _ _ (b.read t l) (and_from _ _
-        (ap (λ o. fits o (symbol column t)) (sym (open_read false (word p t) (b.read t l))) ∙ symbols t l) refl);
+        (ap (λ o. fits o (symbol column t)) (sym (open_read false (tier_word p t) (b.read t l))) ∙ symbols t l) refl);
     reduced = all_append _ p (column ∷ []) b.reduced (edge, tt);
     place = by_edge (has_edge (input_of problem.tiers column)) refl input;
   }

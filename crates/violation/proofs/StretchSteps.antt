@@ -1,9 +1,11 @@
 -- A stretch: where the meet of interiors begins and ends.
-use Rattle.std.proofs.Common.{◌≡◌, ℕ, zero, suc, ◌+◌, ◌*◌, ◌-◌, ◌<◌, ◌≤◌, max, Bool, true, false, ◌&&◌, cond, leb, ltb, eqb, List, [], ◌∷◌, map, length, get_or, refl, sym, ap, ◌∙◌, ⊎_elim, arith}
+use Rattle.std.proofs.Common.{◌≡◌, ℕ, zero, suc, ◌+◌, ◌*◌, ◌-◌, ◌<◌, ◌≤◌, max, Bool, true, false, ◌&&◌, cond, leb, ltb}
+use Rattle.std.proofs.Common.{eqb, List, [], ◌∷◌, map, length, get_or, refl, sym, ap, ◌∙◌, ⊎_elim, arith}
 use Rattle.std.specs.Prelude.{count_by}
 use Rattle.std.specs.List.{AllByRecursion, list_all}
 use Rattle.std.proofs.lemmas.List.{get_or-map}
-use Rattle.std.proofs.lemmas.Bool.{cases_lt, false≢true, eq-eqb, lt-ltb, ltb-true, leb-true, and_parts, and_from, or_left, or_right, or_cases}
+use Rattle.std.proofs.lemmas.Bool.{cases_lt, false≢true, eq-eqb, lt-ltb, ltb-true, leb-true, and_parts, and_from}
+use Rattle.std.proofs.lemmas.Bool.{or_left, or_right, or_cases}
 use Rattle.std.proofs.lemmas.Bool.Decides.{nat_tests}
 use Rattle.tier_core.specs.declared.sym.Sym.{Sym}
 use Rattle.tier_core.specs.declared.sym.Sym.TheVariants.{Outside, Inside, Start, End, Both}
@@ -11,7 +13,7 @@ use Rattle.tier_core.specs.declared.event.Event.{Event}
 use Rattle.tier_core.specs.declared.event.Part.{Part}
 use Rattle.tier_core.specs.declared.event.Part.TheVariants.{Start as StartOf, End as EndOf, Interior}
 use Rattle.tier_core.specs.Events.{Interval, event, events, greatest_low}
-use Rattle.tier_core.specs.Timelines.{word, symbol, is_edge, IsWellFormed}
+use Rattle.tier_core.specs.Timelines.{tier_word, symbol, is_edge, IsWellFormed}
 use Rattle.tier_core.specs.Words.{constituents, starts, ends, is_inside_sym}
 use Rattle.tier_core.specs.Sides.{is_edge_part, edge_among}
 use Rattle.tier_core.proofs.CountLemmas.{bit, count_cons, all_weaker, all_of}
@@ -131,14 +133,14 @@ module _ (width : ℕ) (T : List (List Sym)) (wf : IsWellFormed width T) (k : �
 
   pair_starts : (e : Event) (i j : ℕ) → ((column : List Sym) → is_edge (symbol column e.tier) ≡ true
       → edge_among left column ≡ true)
-      → IsDrawnIn (word T e.tier) (i, j) → (contains (2 * k - 1) (event Interior (i, j))) ≡ true
+      → IsDrawnIn (tier_word T e.tier) (i, j) → (contains (2 * k - 1) (event Interior (i, j))) ≡ true
       → StartsStretch e (event Interior (i, j))
   pair_starts e i j among d h =
       let covered : (ltb i k && leb k j) ≡ true = sym (between_point i j k d.ordered) ∙ h in
       let parts : (ltb i k ≡ true) × (leb k j ≡ true) = and_parts (ltb i k) (leb k j) covered in
       let before : i < k = ltb-true i k parts.0 in
       let after : k ≤ j = leb-true k j parts.1 in
-      let at : (n : ℕ) → n < length T → get_or (word T e.tier) n Outside ≡ symbol (get_or T n []) e.tier =
+      let at : (n : ℕ) → n < length T → get_or (tier_word T e.tier) n Outside ≡ symbol (get_or T n []) e.tier =
       λ n g. get_or-map (λ column. symbol column e.tier) T n [] Outside g in
       let starts_here : starts (symbol (get_or T i []) e.tier) ≡ true = ap starts (sym (at i (omega arith)))
       ∙ d.start in
@@ -167,12 +169,12 @@ module _ (width : ℕ) (T : List (List Sym)) (wf : IsWellFormed width T) (k : �
     where
       by_part : (part : Part) → is_edge_part part ≡ false
           → AllByRecursion (λ x. contains (2 * k - 1) x ≡ true → StartsStretch e x)
-          (map (event part) (constituents (word T e.tier)))
+          (map (event part) (constituents (tier_word T e.tier)))
       by_part StartOf g = absurd (false≢true (sym g))
       by_part EndOf g = absurd (false≢true (sym g))
-      by_part Interior g = all_map _ (event Interior) (constituents (word T e.tier))
-          (all_weaker (IsDrawnIn (word T e.tier)) _ _ (λ c d. pair_starts e c.0 c.1 among d)
-          (drawn_in (word T e.tier) (runs_from_well_formed (word T e.tier) (wf.each_tier e.tier t))))
+      by_part Interior g = all_map _ (event Interior) (constituents (tier_word T e.tier))
+          (all_weaker (IsDrawnIn (tier_word T e.tier)) _ _ (λ c d. pair_starts e c.0 c.1 among d)
+          (drawn_in (tier_word T e.tier) (runs_from_well_formed (tier_word T e.tier) (wf.each_tier e.tier t))))
 
   -- where the meet of a choice begins
   pub record MeetStarts (es : List Event) (choice : List Interval) : Type 0 where

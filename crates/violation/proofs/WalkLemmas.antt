@@ -1,21 +1,23 @@
 -- The moves of kinds are those of candidates: what stands on the statements of `Walks`.
-use Rattle.std.proofs.Common.{◌≡◌, ◌↔◌, ℕ, suc, ◌+◌, ◌<◌, ◌==◌, Bool, true, false, not, cond, ◌⊎◌, inl, inr, IsTrue, List, [], ◌∷◌, ◌++◌, map, take, length, get_or, refl, sym, ap, ◌∙◌, subst, arith, eq-eqb, eqb-true, append-nil, append_assoc, take_at}
+use Rattle.std.proofs.Common.{◌≡◌, ◌↔◌, ℕ, suc, ◌+◌, ◌<◌, ◌==◌, Bool, true, false, not, cond, ◌⊎◌, inl, inr, IsTrue}
+use Rattle.std.proofs.Common.{List, [], ◌∷◌, ◌++◌, map, take, length, get_or, refl, sym, ap, ◌∙◌, subst, arith, eq-eqb}
+use Rattle.std.proofs.Common.{eqb-true, append-nil, append_assoc, take_at}
 use Rattle.std.specs.List.{AllByRecursion, list_any}
 use Rattle.std.proofs.lemmas.List.{map-append, length-append, length_push, get_or_at}
 use Rattle.std.proofs.lemmas.Bool.{and_parts, and_from, not-true, not_from_false}
 use Rattle.tier_core.specs.declared.sym.Sym.{Sym}
 use Rattle.tier_core.specs.declared.constraint.Constraint.{Constraint}
 use Rattle.tier_core.specs.Scan.{fits, opens}
-use Rattle.tier_core.specs.Timelines.{word, symbol, column_at, has_edge}
+use Rattle.tier_core.specs.Timelines.{tier_word, symbol, column_at, has_edge}
 use Rattle.tier_core.proofs.CountLemmas.{bit, all_weaker, any_none}
 use Rattle.tier_core.proofs.WordLemmas.{runs}
 use Rattle.tier_core.proofs.WordForm.{runs_from_well_formed}
 use Rattle.tier_core.proofs.KindTies.{same_parts}
 use Rattle.violation.specs.Candidates.{IsForm, IsCandidate}
 use Rattle.violation.specs.Conditions.{AreSplit, IsOverTiers, IsCountable}
-use Rattle.violation.specs.Moves.{FitsKind, input_of, moved, next_phases, next_phase, is_final}
+use Rattle.violation.specs.Moves.{FitsKind, input_of, next_kind, next_phases, next_phase, is_final}
 use Rattle.violation.specs.Prefixes.{is_open, kind_of, phase, stretches}
-use Rattle.violation.specs.Walks.{HasMoves, reached, BeginsCandidate}
+use Rattle.violation.specs.Walks.{HasMoves, walk_end, BeginsCandidate}
 use Rattle.violation.proofs.ChoiceLemmas.{all_map}
 use Rattle.violation.proofs.MoveLemmas.{next_phase_is}
 use Rattle.violation.proofs.OpenLemmas.{open_read, runs_reads, runs_closed, runs_append}
@@ -35,9 +37,9 @@ pub begun_of : (problem : Problem) (p q : List (List Sym)) → IsCandidate probl
 begun_of problem p q c = record {
   one_width = (all_split _ p q c.well_formed.one_width).0;
   read = λ t l.
-      (and_parts _ _ (sym (runs_append false (word p t) (word q t))
+      (and_parts _ _ (sym (runs_append false (tier_word p t) (tier_word q t))
       ∙ ap (runs false) (sym (map-append (λ column. symbol column t) p q))
-      ∙ runs_from_well_formed (word (p ++ q) t) (c.well_formed.each_tier t l))).0;
+      ∙ runs_from_well_formed (tier_word (p ++ q) t) (c.well_formed.each_tier t l))).0;
   reduced = (all_split _ p q c.reduced).0;
   place = sym (ap (take (length (input_part problem.tiers p))) (sym c.input ∙ input_append problem.tiers p q)
       ∙ take_at (input_part problem.tiers p) (input_part problem.tiers q) (length (input_part problem.tiers p)) refl);
@@ -52,11 +54,11 @@ module _ (problem : Problem) (r : ℕ) (split : AreSplit problem.tiers) (form : 
     width = (all_split _ p (column ∷ q) c.well_formed.one_width).1.0;
     symbols = λ t l.
         ap (λ o. fits o (symbol column t))
-        (tier_open_is problem split form r p begun t l ∙ open_read false (word p t) (begun.read t l))
+        (tier_open_is problem split form r p begun t l ∙ open_read false (tier_word p t) (begun.read t l))
         ∙ (and_parts _ _
-        (and_parts _ _ (sym (runs_append false (word p t) (word (column ∷ q) t))
+        (and_parts _ _ (sym (runs_append false (tier_word p t) (tier_word (column ∷ q) t))
         ∙ ap (runs false) (sym (map-append (λ column. symbol column t) p (column ∷ q)))
-        ∙ runs_from_well_formed (word (p ++ column ∷ q) t) (c.well_formed.each_tier t l))).1).0;
+        ∙ runs_from_well_formed (tier_word (p ++ column ∷ q) t) (c.well_formed.each_tier t l))).1).0;
     edge = (all_split _ p (column ∷ q) c.reduced).1.0;
     input = by_edge (has_edge (input_of problem.tiers column)) refl;
   }
@@ -125,12 +127,12 @@ module _ (problem : Problem) (r : ℕ) (split : AreSplit problem.tiers) (form : 
 
   -- the move leads to the kind of the longer prefix
   pub moved_is : (p : List (List Sym)) (column : List Sym) → BeginsCandidate problem (p ++ column ∷ [])
-      → moved problem r (kind_of problem r p) column ≡ kind_of problem r (p ++ column ∷ [])
+      → next_kind problem r (kind_of problem r p) column ≡ kind_of problem r (p ++ column ∷ [])
   moved_is p column b =
       let more : IsBegun problem (p ++ column ∷ []) = begun_of problem (p ++ column ∷ []) b.0 b.1 in
       same_parts _ _ _ _ _ _
       (place_more (has_edge (input_of problem.tiers column)) refl)
-      (map_agree (λ t. opens (symbol column t)) (λ t. is_open (word (p ++ column ∷ []) t)) problem.tiers.free
+      (map_agree (λ t. opens (symbol column t)) (λ t. is_open (tier_word (p ++ column ∷ []) t)) problem.tiers.free
       (all_weaker (λ t. t < problem.tiers.width) _ problem.tiers.free
       (λ t l. sym (open_after_more problem p column more t l)) split.free_below))
       (phases_next p column b.0 (subst (IsCandidate problem) (append_assoc p (column ∷ []) b.0) b.1)
@@ -159,17 +161,17 @@ module _ (problem : Problem) (r : ℕ) (split : AreSplit problem.tiers) (form : 
 
   -- moves from the kind of a prefix go on well, and lead to the kind of the longer prefix
   pub walk_on : (q p : List (List Sym)) → IsBegun problem p → HasMoves problem r (kind_of problem r p) q
-      → IsBegun problem (p ++ q) × (reached problem r (kind_of problem r p) q ≡ kind_of problem r (p ++ q))
+      → IsBegun problem (p ++ q) × (walk_end problem r (kind_of problem r p) q ≡ kind_of problem r (p ++ q))
   walk_on [] p b h = (subst (IsBegun problem) (sym (append-nil p)) b, ap (kind_of problem r) (sym (append-nil p)))
   walk_on (column ∷ q) p b h =
       let more : IsBegun problem (p ++ column ∷ []) = begun_next p column b h.0 in
-      let same : moved problem r (kind_of problem r p) column ≡ kind_of problem r (p ++ column ∷ []) =
+      let same : next_kind problem r (kind_of problem r p) column ≡ kind_of problem r (p ++ column ∷ []) =
       moved_is p column (completed problem split form (p ++ column ∷ []) more) in
       let rest : IsBegun problem ((p ++ column ∷ []) ++ q) ×
-      (reached problem r (kind_of problem r (p ++ column ∷ [])) q ≡ kind_of problem r ((p ++ column ∷ []) ++ q)) =
+      (walk_end problem r (kind_of problem r (p ++ column ∷ [])) q ≡ kind_of problem r ((p ++ column ∷ []) ++ q)) =
       walk_on q (p ++ column ∷ []) more (subst (λ k. HasMoves problem r k q) same h.1) in (
         subst (IsBegun problem) (append_assoc p (column ∷ []) q) rest.0,
-        ap (λ k. reached problem r k q) same ∙ rest.1 ∙ ap (kind_of problem r) (append_assoc p (column ∷ []) q),
+        ap (λ k. walk_end problem r k q) same ∙ rest.1 ∙ ap (kind_of problem r) (append_assoc p (column ∷ []) q),
       )
 
   -- a candidate goes by moves
@@ -187,23 +189,24 @@ module _ (problem : Problem) (r : ℕ) (split : AreSplit problem.tiers) (form : 
   pub candidate_final : (T : List (List Sym)) → IsCandidate problem T → IsTrue (is_final problem (kind_of problem r T))
   candidate_final T c =
       and_from _ _ (eq-eqb (length (input_part problem.tiers T)) (last_place problem) (ap length c.input))
-      (not_from_false _ (any_none (λ flag. flag) (map (λ t. is_open (word T t)) problem.tiers.free)
-      (all_map (λ flag. flag ≡ false) (λ t. is_open (word T t)) problem.tiers.free
+      (not_from_false _ (any_none (λ flag. flag) (map (λ t. is_open (tier_word T t)) problem.tiers.free)
+      (all_map (λ flag. flag ≡ false) (λ t. is_open (tier_word T t)) problem.tiers.free
       (all_weaker (λ t. t < problem.tiers.width) _ problem.tiers.free
       (λ t l.
-      let w : runs false (word T t) ≡ true = runs_from_well_formed (word T t) (c.well_formed.each_tier t l) in
-      open_read false (word T t) (runs_reads false (word T t) w) ∙ runs_closed false (word T t) w)
+      let w : runs false (tier_word T t) ≡ true = runs_from_well_formed (tier_word T t) (c.well_formed.each_tier t l) in
+      open_read false (tier_word T t) (runs_reads false (tier_word T t) w) ∙ runs_closed false (tier_word T t) w)
       split.free_below))))
 
   pub final_candidate : (T : List (List Sym)) → IsBegun problem T → IsTrue (is_final problem (kind_of problem r T))
       → IsCandidate problem T
   final_candidate T b f =
       let parts : ((length (input_part problem.tiers T) == last_place problem) ≡ true) ×
-      (not (list_any (λ flag. flag) (map (λ t. is_open (word T t)) problem.tiers.free))
+      (not (list_any (λ flag. flag) (map (λ t. is_open (tier_word T t)) problem.tiers.free))
       ≡ true) = and_parts _ _ f in
       ended_candidate problem split form T b (eqb-true _ _ parts.0) (not-true _ parts.1)
 
-  -- From the kind of the empty prefix there is a move at each column exactly where the columns are a prefix of a candidate.
+  -- From the kind of the empty prefix there is a move at each column exactly where the columns are
+  -- a prefix of a candidate.
   pub moves_begin : (p : List (List Sym)) → HasMoves problem r (kind_of problem r []) p ↔ BeginsCandidate problem p
   moves_begin p = (
     λ h. completed problem split form p (walk_on p [] (nothing_begun problem) h).0,
@@ -212,16 +215,16 @@ module _ (problem : Problem) (r : ℕ) (split : AreSplit problem.tiers) (form : 
 
   -- The kind that they lead to is the kind of the prefix.
   pub reached_is : (p : List (List Sym)) → HasMoves problem r (kind_of problem r []) p
-      → reached problem r (kind_of problem r []) p ≡ kind_of problem r p
+      → walk_end problem r (kind_of problem r []) p ≡ kind_of problem r p
   reached_is p h = (walk_on p [] (nothing_begun problem) h).1
 
   -- They end at a final kind exactly where the columns are a candidate.
   pub moves_end : (T : List (List Sym)) →
       (HasMoves problem r (kind_of problem r []) T × IsTrue
-      (is_final problem (reached problem r (kind_of problem r []) T))) ↔ IsCandidate problem T
+      (is_final problem (walk_end problem r (kind_of problem r []) T))) ↔ IsCandidate problem T
   moves_end T = (
     λ h.
-        let on : IsBegun problem T × (reached problem r (kind_of problem r []) T ≡ kind_of problem r T) = walk_on T []
+        let on : IsBegun problem T × (walk_end problem r (kind_of problem r []) T ≡ kind_of problem r T) = walk_on T []
         (nothing_begun problem) h.0 in
         final_candidate T on.0 (ap (is_final problem) (sym on.1) ∙ h.1),
     λ c.

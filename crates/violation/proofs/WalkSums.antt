@@ -1,16 +1,18 @@
 -- What walks cost under one constraint, and what candidates violate of it.
-use Rattle.std.proofs.Common.{◌≡◌, ℕ, zero, suc, ◌+◌, ◌-◌, ◌<◌, ◌≤◌, Bool, cond, List, [], ◌∷◌, ◌++◌, map, take, drop, length, get_or, refl, sym, ap, ◌∙◌, arith}
+use Rattle.std.proofs.Common.{◌≡◌, ℕ, zero, suc, ◌+◌, ◌-◌, ◌<◌, ◌≤◌, Bool, cond, List, [], ◌∷◌, ◌++◌, map, take, drop}
+use Rattle.std.proofs.Common.{length, get_or, refl, sym, ap, ◌∙◌, arith}
 use Rattle.std.proofs.lemmas.List.{get_or-take, take-map, length-map}
 use Rattle.tier_core.specs.declared.sym.Sym.{Sym}
 use Rattle.tier_core.specs.declared.constraint.Constraint.{Constraint}
 use Rattle.tier_core.specs.Tiers.{Tiers}
 use Rattle.tier_core.specs.Kinds.{Phase, PrefixKind}
 use Rattle.tier_core.specs.Sides.{is_stretch}
-use Rattle.violation.specs.Candidates.{IsCandidate, vec, vec_so_far, counts_on, counts_so_far, count_at, count_so_far_at}
+use Rattle.violation.specs.Candidates.{IsCandidate, vec, vec_so_far, counts_on, counts_so_far, count_at}
+use Rattle.violation.specs.Candidates.{count_so_far_at}
 use Rattle.violation.specs.Counts.{violations_of, violations_so_far}
-use Rattle.violation.specs.Moves.{costs_each, is_tier_open, moved, move_costs}
+use Rattle.violation.specs.Moves.{costs_each, is_tier_open, next_kind, move_costs}
 use Rattle.violation.specs.Prefixes.{kind_of}
-use Rattle.violation.specs.Walks.{HasMoves, reached, add_each, walk_costs}
+use Rattle.violation.specs.Walks.{HasMoves, walk_end, add_each, walk_costs}
 use Rattle.violation.proofs.CostLemmas.{length_walk, costs_on, costs_sum, length_costs}
 use Rattle.violation.proofs.WalkLemmas.{candidate_walk, reached_is}
 use Rattle.violation.specs.Stages.{IsStage}
@@ -37,17 +39,24 @@ module _ (problem : Problem) (r : ℕ) (stage : IsStage problem r) where
 
   pub walk_step : (i : ℕ) (k : PrefixKind) (column : List Sym) (p : List (List Sym))
       → walk_cost i k (column ∷ p) ≡ get_or (move_costs problem r k column) i 0 + walk_cost i
-      (moved problem r k column) p
+      (next_kind problem r k column) p
   walk_step i k column p =
-      add_at (move_costs problem r k column) (walk_costs problem r (moved problem r k column) p) i
+      add_at (move_costs problem r k column) (walk_costs problem r (next_kind problem r k column) p) i
       (length_costs (take r problem.constraints) (is_tier_open problem k) k.phases column
-      ∙ sym (length_walk problem r stage.split stage.form (over_first problem r stage) p (moved problem r k column)))
+      ∙ sym (length_walk problem r stage.split stage.form (over_first problem r stage) p
+      (next_kind problem r k column)))
 
   pub walk_append : (i : ℕ) (p q : List (List Sym)) (k : PrefixKind)
-      → walk_cost i k (p ++ q) ≡ walk_cost i k p + walk_cost i (reached problem r k p) q
+      → walk_cost i k (p ++ q) ≡ walk_cost i k p + walk_cost i (walk_end problem r k p) q
   walk_append i [] q k = omega (arith, none_at (take r problem.constraints) i)
   walk_append i (column ∷ p) q k =
-      omega (arith, walk_step i k column (p ++ q), walk_step i k column p, walk_append i p q (moved problem r k column))
+      omega (
+        arith,
+        walk_step i k column (p ++ q),
+        walk_step i k column p,
+        walk_append i p q
+            (next_kind problem r k column),
+      )
 
   module _ (ranked : 1 ≤ r) where
     last : r - 1 < r

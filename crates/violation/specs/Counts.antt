@@ -21,9 +21,9 @@ is_met T types m = list_any (λ e. list_any (λ x. is_there (meet (m ∷ x ∷ [
 
 -- the types of which one event each is chosen: a clash chooses on both sides, an implication on
 -- the left
-abbrev pub chosen : Family → List Event → List Event → List Event
-chosen Clash left right = left ++ right
-chosen Implication left right = left
+abbrev pub choice_types : Family → List Event → List Event → List Event
+choice_types Clash left right = left ++ right
+choice_types Implication left right = left
 
 -- Whether a choice is counted. A clash counts each choice that has a meet. An implication counts
 -- each that has a meet that no event of a right type meets.
@@ -34,14 +34,14 @@ counts Implication right T choice = is_there (meet choice) && not (is_met T righ
 -- the violations of a constraint of this family with these sides: how many choices it counts
 unfoldable pub viol : Family → List Event → List Event → List (List Sym) → ℕ
 viol family left right T =
-    count_by (counts family right T) (choices (map (events T) (chosen family left right)))
+    count_by (counts family right T) (choices (map (events T) (choice_types family left right)))
 
 -- The violations so far, after n columns: how many of the choices that are counted have a meet
 -- whose high end is below 2n - 1 (this project).
 unfoldable pub so_far : Family → List Event → List Event → List (List Sym) → ℕ → ℕ
 so_far family left right T n =
     count_by (λ choice. counts family right T choice && nat_lt (meet choice).high (2 * n - 1))
-    (choices (map (events T) (chosen family left right)))
+    (choices (map (events T) (choice_types family left right)))
 
 -- the violations of a constraint
 abbrev pub violations_of : Constraint → List (List Sym) → ℕ

@@ -14,8 +14,8 @@ use Rattle.tier_core.specs.Kinds.{closed, unmet, met, PrefixKind, Phase}
 use Rattle.violation.specs.Counts.{viol}
 use Rattle.violation.specs.Candidates.{IsCandidate}
 use Rattle.violation.specs.Prefixes.{phase, kind_of}
-use Rattle.violation.specs.Moves.{moved, move_costs}
-use Rattle.violation.specs.Problems.{Problem, asked}
+use Rattle.violation.specs.Moves.{next_kind, move_costs}
+use Rattle.violation.specs.Problems.{Problem, problem_from}
 
 -- a text cut at its spaces
 abbrev pub pieces : List ℕ → List (List ℕ)
@@ -36,9 +36,9 @@ abbrev pub timeline : List ℕ → List (List Sym)
 timeline text = map read_syms (pieces text)
 
 -- the type of events of a text such as `[a`, `]a` or `a`, where each tier has a name of one byte
-abbrev pub event_of : List ℕ → List ℕ → Event
-event_of names [] = record { tier = 0; part = Interior }
-event_of names (b ∷ text) = if b == 91 then record { tier = tier_of text; part = StartOf } else
+abbrev pub read_event : List ℕ → List ℕ → Event
+read_event names [] = record { tier = 0; part = Interior }
+read_event names (b ∷ text) = if b == 91 then record { tier = tier_of text; part = StartOf } else
     (if b == 93 then record { tier = tier_of text; part = EndOf } else record
     { tier = tier_of (b ∷ text); part = Interior })
   where
@@ -48,15 +48,15 @@ event_of names (b ∷ text) = if b == 91 then record { tier = tier_of text; part
 
 -- the types of events of a text such as `]a [a`
 abbrev pub types : List ℕ → List ℕ → List Event
-types names text = map (event_of names) (pieces text)
+types names text = map (read_event names) (pieces text)
 
 -- the violations of the implication, or the clash, of two sides on a timeline, all given by their
 -- texts
-abbrev pub implied : List ℕ → List ℕ → List ℕ → List ℕ → ℕ
-implied names left right text = viol Implication (types names left) (types names right) (timeline text)
+abbrev pub misses : List ℕ → List ℕ → List ℕ → List ℕ → ℕ
+misses names left right text = viol Implication (types names left) (types names right) (timeline text)
 
-abbrev pub clashing : List ℕ → List ℕ → List ℕ → List ℕ → ℕ
-clashing names left right text = viol Clash (types names left) (types names right) (timeline text)
+abbrev pub clashes : List ℕ → List ℕ → List ℕ → List ℕ → ℕ
+clashes names left right text = viol Clash (types names left) (types names right) (timeline text)
 
 -- an input tier A and an overt tier a
 abbrev pub two_tiers : Tiers
@@ -84,8 +84,8 @@ dep_a = implication (codes "a") (codes "A")
 
 -- a kind from its place, `+` for each open tier and `-` for each other, and `u` for unmet, `m` for
 -- met and `.` for closed
-abbrev pub kind_text : ℕ → List ℕ → List ℕ → PrefixKind
-kind_text place opened phases = record {
+abbrev pub read_kind : ℕ → List ℕ → List ℕ → PrefixKind
+read_kind place opened phases = record {
   place = place;
   opened = map (λ b. b == 43) opened;
   phases = map (λ b. if b == 117 then unmet else (if b == 109 then met else closed)) phases;
@@ -102,7 +102,7 @@ costs_by max dep k column = move_costs (over_two (max_a max ∷ dep_a dep ∷ []
 
 -- the kind that it leads to
 abbrev pub moved_by : String Global → String Global → PrefixKind → List ℕ → PrefixKind
-moved_by max dep k column = moved (over_two (max_a max ∷ dep_a dep ∷ []) []) 2 k (read_syms column)
+moved_by max dep k column = next_kind (over_two (max_a max ∷ dep_a dep ∷ []) []) 2 k (read_syms column)
 
 -- the phase of the implication of two sides, with the tiers A and a, after a prefix
 abbrev pub phase_after : List ℕ → List ℕ → List ℕ → Phase

@@ -9,11 +9,11 @@ use Rattle.tier_core.specs.declared.constraint.Constraint.{Constraint}
 use Rattle.tier_core.specs.declared.constraint.Family.{Family}
 use Rattle.tier_core.specs.declared.constraint.Family.TheVariants.{Implication, Clash}
 use Rattle.tier_core.specs.Scan.{fits, opens}
-use Rattle.tier_core.specs.Timelines.{symbol, word, column_at, has_edge}
+use Rattle.tier_core.specs.Timelines.{symbol, tier_word, column_at, has_edge}
 use Rattle.tier_core.specs.Tiers.{Tiers}
 use Rattle.tier_core.specs.Kinds.{Phase, closed, unmet, met, PrefixKind}
 use Rattle.tier_core.specs.Sides.{has_edge_type, edge_among, is_stretch}
-use Rattle.violation.specs.Counts.{chosen}
+use Rattle.violation.specs.Counts.{choice_types}
 use Rattle.violation.specs.Columns.{is_present, opens_interior, opens_all, edge_cost}
 use Rattle.violation.specs.Prefixes.{is_open, stretches}
 use Rattle.violation.specs.Problems.{Problem, last_place}
@@ -30,7 +30,7 @@ flag_of (x ∷ xs) (flag ∷ flags) t = if x == t then flag else flag_of xs flag
 
 -- whether each input tier is open after the first columns of the form u
 abbrev pub form_opened : Tiers → List (List Sym) → ℕ → List Bool
-form_opened tiers u place = map (λ j. is_open (word (take place u) j)) (range_with_len 0 (length tiers.input))
+form_opened tiers u place = map (λ j. is_open (tier_word (take place u) j)) (range_with_len 0 (length tiers.input))
 
 -- whether a tier is open at a kind: an input tier if it is open after the first PLACE columns of
 -- the form, a free tier if the kind says so
@@ -76,8 +76,8 @@ next_phases (c ∷ cs) (phase ∷ phases) column = next_phase c.left c.right pha
 
 -- The kind that a column leads to, if it fits, under the first r constraints: PLACE grows by one
 -- if the input part has an edge, and a free tier is open if its symbol is `+`, `[` or `|`.
-abbrev pub moved : Problem → ℕ → PrefixKind → List Sym → PrefixKind
-moved problem r k column = record {
+abbrev pub next_kind : Problem → ℕ → PrefixKind → List Sym → PrefixKind
+next_kind problem r k column = record {
   place = k.place + (if has_edge (input_of problem.tiers column) then 1 else 0);
   opened = map (λ t. opens (symbol column t)) problem.tiers.free;
   phases = next_phases (stretches problem r) k.phases column;
@@ -89,7 +89,7 @@ moved problem r k column = record {
 -- unmet and a left tier has an edge.
 abbrev pub costs : Family → List Event → List Event → (ℕ → Bool) → Phase → List Sym → Bool
 costs family left right opened phase column =
-    if has_edge_type (chosen family left right) then edge_cost family left right column else interior_costs family
+    if has_edge_type (choice_types family left right) then edge_cost family left right column else interior_costs family
   where
     interior_costs : Family → Bool
     interior_costs Clash = list_all (λ e. opened e.tier) (left ++ right) && edge_among (left ++ right) column
@@ -118,8 +118,8 @@ abbrev pub cost_of : Problem → ℕ → PrefixKind → List Sym → ℕ
 cost_of problem r k column = slice_index_or (move_costs problem r k column) (r - 1) 0
 
 -- a kind cut to the first r constraints
-abbrev pub cut : Problem → ℕ → PrefixKind → PrefixKind
-cut problem r k = record {
+abbrev pub cut_kind : Problem → ℕ → PrefixKind → PrefixKind
+cut_kind problem r k = record {
   place = k.place;
   opened = k.opened;
   phases = take (length (stretches problem r)) k.phases;

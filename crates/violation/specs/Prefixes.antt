@@ -9,7 +9,7 @@ use Rattle.tier_core.specs.declared.event.Part.{Part}
 use Rattle.tier_core.specs.declared.event.Part.TheVariants.{Start as StartOf, End as EndOf, Interior}
 use Rattle.tier_core.specs.declared.constraint.Constraint.{Constraint}
 use Rattle.tier_core.specs.Words.{starts, ends, next_end}
-use Rattle.tier_core.specs.Timelines.{word, column_at, project, squeeze}
+use Rattle.tier_core.specs.Timelines.{tier_word, column_at, project, squeeze}
 use Rattle.tier_core.specs.Events.{Interval, meet, is_there}
 use Rattle.tier_core.specs.Tiers.{Tiers}
 use Rattle.tier_core.specs.declared.kind.Kind.{Kind}
@@ -36,7 +36,7 @@ event_begun n Interior c = record { low = 2 * c.0 + 1; high = 2 * unwrap_or c.1 
 
 -- the events of a type in a prefix
 abbrev pub events_begun : List (List Sym) → Event → List Interval
-events_begun p e = flat_map (event_begun (length p) e.part) (begun_from 0 (word p e.tier))
+events_begun p e = flat_map (event_begun (length p) e.part) (begun_from 0 (tier_word p e.tier))
 
 -- whether an event of one of the types in a prefix has a meet with m
 abbrev pub is_met_in : List (List Sym) → List Event → Interval → Bool
@@ -53,7 +53,7 @@ last_where test p (suc n) = if test (column_at p n) then n else last_where test 
 abbrev pub phase : List Event → List Event → List (List Sym) → Phase
 phase left right p =
     let s = last_where (edge_among left) p (length p) in
-    if list_all (λ e. is_open (word p e.tier)) left
+    if list_all (λ e. is_open (tier_word p e.tier)) left
     then (if is_met_in p right (record { low = 2 * s + 1; high = 2 * length p - 1 }) then met else unmet)
     else closed
 
@@ -66,7 +66,7 @@ stretches problem r = filter is_stretch (take r problem.constraints)
 abbrev pub kind_of : Problem → ℕ → List (List Sym) → PrefixKind
 kind_of problem r p = record {
   place = length (squeeze (project problem.tiers.input p));
-  opened = map (λ t. is_open (word p t)) problem.tiers.free;
+  opened = map (λ t. is_open (tier_word p t)) problem.tiers.free;
   phases = map (λ c. phase c.left c.right p) (stretches problem r);
 }
 

@@ -14,8 +14,8 @@ pub record Problem : Type 0 where
   pub form : List (List Sym)
 
 -- the problem that the tiers and the constraints of a grammar pose with a form
-abbrev pub asked : TierTable → List Constraint → List (List Sym) → Problem
-asked table constraints form = record { tiers = tiers_of_table table; constraints = constraints; form = form }
+abbrev pub problem_from : TierTable → List Constraint → List (List Sym) → Problem
+problem_from table constraints form = record { tiers = tiers_of_table table; constraints = constraints; form = form }
 
 -- The number of the last stage. Stage 0 looks at no constraint, and each later one at one more.
 abbrev pub last_stage : Problem → ℕ

@@ -4,7 +4,7 @@ ghost use Rattle.tier_core.specs.Tables.{tiers_of_table};
 ghost use Rattle.tier_core.specs.Tiers.{is_input, numbers_from};
 ghost use Rattle.tier_core.specs.Timelines.{symbol, has_edge, squeeze, project};
 ghost use Rattle.violation.specs.Candidates.{IsCandidate};
-ghost use Rattle.violation.specs.Problems.{asked};
+ghost use Rattle.violation.specs.Problems.{problem_from};
 
 use tier_core::{Column, Sym, TierKind, TierTable, Timeline, reduced, well_formed};
 
@@ -67,7 +67,7 @@ fn spells_form(kinds: &[TierKind], columns: &[Column], form: &[Column]) -> bool
 /// its projection to the input tiers, squeezed, is the form.
 pub fn is_candidate(tiers: &TierTable, form: &Timeline, timeline: &Timeline) -> bool
     ensures { (constraints : List Constraint) → IsTrue result
-        ↔ IsCandidate (asked tiers.now constraints form.now) timeline.now }
+        ↔ IsCandidate (problem_from tiers.now constraints form.now) timeline.now }
 {
     well_formed(timeline, tiers.kinds.len() as u32)
         && reduced(timeline)

@@ -4,7 +4,7 @@ ghost use Rattle.tier_core.specs.Sides.{has_edge_type, edge_among};
 ghost use Rattle.tier_core.specs.declared.constraint.Family.TheVariants.{Implication, Clash};
 ghost use Rattle.violation.specs.Columns.{edge_cost, opens_all, opens_interior, is_present};
 ghost use Rattle.violation.specs.Conditions.{AreInColumn, IsCountable};
-ghost use Rattle.violation.specs.Counts.{viol, chosen};
+ghost use Rattle.violation.specs.Counts.{viol, choice_types};
 
 use crate::column::{all_present, any_present, has_edge_among, opens_each, opens_some};
 use tier_core::{Column, Constraint, Event, Family, Sym, Timeline, has_edge_type};
@@ -25,7 +25,7 @@ pub fn is_counted_at(family: Family, left: &[Event], right: &[Event], column: &[
 fn count_edges(family: Family, left: &[Event], right: &[Event], columns: &[Column]) -> u32
     requires countable { IsCountable left.now right.now columns.now }
     requires few { length columns.now ≤ 65536 }
-    requires edge { has_edge_type (chosen family left.now right.now) ≡ true }
+    requires edge { has_edge_type (choice_types family left.now right.now) ≡ true }
     ensures { result ≡ viol family left.now right.now columns.now }
 {
     let mut count = 0;

@@ -53,7 +53,7 @@ fn implication(alloc: Global, left: u32, right: u32) -> Constraint
 }
 
 /// The violations of a constraint, and the vector of it alone.
-fn counted(
+fn count_and_vector(
     alloc: Global,
     constraint: Constraint,
     timeline: &Timeline,
@@ -77,10 +77,10 @@ fn counts_the_rows_of_a_tableau(rt: HostRuntime) -> Result<(), Fail> {
     let nothing = read(alloc, &[*b"[-", *b"]-"])?;
     let two = read(alloc, &[*b"-[", *b"[|", *b"]]"])?;
     for (timeline, max, dep) in [(&whole, 0, 0), (&nothing, 1, 0), (&two, 0, 1)] {
-        let (count, counts) = counted(alloc, implication(alloc, 0, 1), timeline)?;
+        let (count, counts) = count_and_vector(alloc, implication(alloc, 0, 1), timeline)?;
         assert_eq!(rt; count, max);
         assert_eq!(rt; counts.as_slice(), [max].as_slice());
-        let (count, counts) = counted(alloc, implication(alloc, 1, 0), timeline)?;
+        let (count, counts) = count_and_vector(alloc, implication(alloc, 1, 0), timeline)?;
         assert_eq!(rt; count, dep);
         assert_eq!(rt; counts.as_slice(), [dep].as_slice());
     }

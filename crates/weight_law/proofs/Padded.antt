@@ -1,5 +1,6 @@
 -- Vectors as the parts of ranked weights: their sums, their order and their greatest part.
-use Rattle.std.proofs.Common.{◌≡◌, ℕ, zero, suc, ◌+◌, ◌-◌, ◌≤◌, Bool, true, false, max, List, [], ◌∷◌, ◌++◌, map, replicate, length, refl, sym, ap, ◌∙◌, subst, arith}
+use Rattle.std.proofs.Common.{◌≡◌, ℕ, zero, suc, ◌+◌, ◌-◌, ◌≤◌, Bool, true, false, max, List, [], ◌∷◌, ◌++◌, map}
+use Rattle.std.proofs.Common.{replicate, length, refl, sym, ap, ◌∙◌, subst, arith}
 use Rattle.std.specs.declared.cmp.Ordering.{Ordering}
 use Rattle.std.specs.declared.cmp.Ordering.TheVariants.{Less, Equal, Greater}
 use Rattle.std.specs.Ordering.{nat_cmp, is_lt, is_le, ordering_then, ordering_reverse}
@@ -7,7 +8,7 @@ use Rattle.std.proofs.lemmas.Bool.{false≢true}
 use Rattle.std.proofs.lemmas.List.{length-map}
 use Rattle.std.proofs.lemmas.Cmp.{tied_itself, nat_list_cmp_total}
 use Rattle.weight_law.specs.Meaning.{Meaning, AtMost}
-use Rattle.weight_law.specs.Ranked.{greatest_part, sum_of_parts, padded, ranked_meaning}
+use Rattle.weight_law.specs.Ranked.{greatest_part, sum_of_parts, parts_of_vector, ranked_meaning}
 use Rattle.weight_law.specs.RankedLaws.{parts_cmp, length-sum}
 use Rattle.weight_law.specs.declared.ranked.Ranked.{Ranked}
 
@@ -23,9 +24,10 @@ sum-zeros zero = refl
 sum-zeros (suc n) = ap (λ ns. 0 ∷ ns) (sum-zeros n)
 
 -- the sum of two vectors of one length
-pub sum-padded : (a b : List ℕ) → length a ≡ length b → sum_of_parts (padded a) (padded b) ≡ padded (sum_of_parts a b)
+pub sum-padded : (a b : List ℕ) → length a ≡ length b → sum_of_parts (parts_of_vector a) (parts_of_vector b)
+    ≡ parts_of_vector (sum_of_parts a b)
 sum-padded a b e =
-    ap (λ (n : ℕ). sum_of_parts (padded a) (b ++ replicate (24 - n) 0)) (sym e)
+    ap (λ (n : ℕ). sum_of_parts (parts_of_vector a) (b ++ replicate (24 - n) 0)) (sym e)
     ∙ sum-append a b (replicate (24 - length a) 0) (replicate (24 - length a) 0) e
     ∙ ap (λ ns. sum_of_parts a b ++ ns) (sum-zeros (24 - length a))
     ∙ ap (λ (n : ℕ). sum_of_parts a b ++ replicate (24 - n) 0) (sym (length-sum a b e))
@@ -43,7 +45,7 @@ zeros-append (x ∷ xs) (suc n) l =
     rw less (ap (λ (ns : List ℕ). 0 ∷ ns) (zeros-append xs n (omega arith)))
 
 -- a vector of zeros
-pub padded_zero : {X : Type 0} (xs : List X) → length xs ≤ 24 → padded (map (λ x. 0) xs) ≡ replicate 24 0
+pub padded_zero : {X : Type 0} (xs : List X) → length xs ≤ 24 → parts_of_vector (map (λ x. 0) xs) ≡ replicate 24 0
 padded_zero xs l = ap (λ (n : ℕ). zeros_of xs ++ replicate (24 - n) 0) (length-map xs (λ x. 0)) ∙ zeros-append xs 24 l
 
 cmp-append : (a b xs : List ℕ) → length a ≡ length b → parts_cmp (a ++ xs) (b ++ xs) ≡ parts_cmp a b
@@ -52,9 +54,9 @@ cmp-append [] (y ∷ b) xs e = absurd (omega (arith, e))
 cmp-append (x ∷ a) [] xs e = absurd (omega (arith, e))
 cmp-append (x ∷ a) (y ∷ b) xs e = ap (ordering_then (nat_cmp x y)) (cmp-append a b xs (omega arith))
 
-cmp-padded : (a b : List ℕ) → length a ≡ length b → parts_cmp (padded a) (padded b) ≡ parts_cmp a b
+cmp-padded : (a b : List ℕ) → length a ≡ length b → parts_cmp (parts_of_vector a) (parts_of_vector b) ≡ parts_cmp a b
 cmp-padded a b e =
-    ap (λ (n : ℕ). parts_cmp (padded a) (b ++ replicate (24 - n) 0)) (sym e)
+    ap (λ (n : ℕ). parts_cmp (parts_of_vector a) (b ++ replicate (24 - n) 0)) (sym e)
     ∙ cmp-append a b (replicate (24 - length a) 0) e
 
 not_below : (r s : Ordering) → r ≡ ordering_reverse s → is_lt r ≡ false → is_le s ≡ true
@@ -68,12 +70,12 @@ below_not r Equal e h = ap is_lt e
 below_not r Greater e h = absurd (false≢true h)
 
 -- weights of vectors of one length are compared as these
-module _ (a b : Ranked) (v w : List ℕ) (is_v : a.parts ≡ padded v) (is_w : b.parts ≡ padded w)
+module _ (a b : Ranked) (v w : List ℕ) (is_v : a.parts ≡ parts_of_vector v) (is_w : b.parts ≡ parts_of_vector w)
     (even : length w ≡ length v) where
   turned : parts_cmp b.parts a.parts ≡ ordering_reverse (parts_cmp v w)
   turned =
       ap (parts_cmp b.parts) is_v
-      ∙ ap (λ xs. parts_cmp xs (padded v)) is_w
+      ∙ ap (λ xs. parts_cmp xs (parts_of_vector v)) is_w
       ∙ cmp-padded w v even
       ∙ nat_list_cmp_total.antisymm w v
 
@@ -91,5 +93,5 @@ greatest-zeros : (n : ℕ) → greatest_part (replicate n 0) ≡ 0
 greatest-zeros zero = refl
 greatest-zeros (suc n) = omega (arith, greatest-zeros n)
 
-pub greatest-padded : (v : List ℕ) → greatest_part (padded v) ≡ greatest_part v
+pub greatest-padded : (v : List ℕ) → greatest_part (parts_of_vector v) ≡ greatest_part v
 greatest-padded v = omega (arith, greatest-append v (replicate (24 - length v) 0), greatest-zeros (24 - length v))

@@ -17,15 +17,15 @@ sum_of_parts (x ∷ xs) [] = []
 sum_of_parts (x ∷ xs) (y ∷ ys) = (x + y) ∷ sum_of_parts xs ys
 
 -- a vector of at most 24 numbers as parts, with zeros after it
-abbrev pub padded : List ℕ → List ℕ
-padded v = v ++ replicate (24 - length v) 0
+abbrev pub parts_of_vector : List ℕ → List ℕ
+parts_of_vector v = v ++ replicate (24 - length v) 0
 
 abbrev pub ranked_of : List ℕ → Ranked
 ranked_of xs = record { parts = xs }
 
 -- a weight is that of a vector
 abbrev pub IsOfVector : Ranked → List ℕ → Type 0
-IsOfVector w v = w.parts ≡ padded v
+IsOfVector w v = w.parts ≡ parts_of_vector v
 
 abbrev pub ranked_meaning : Meaning Ranked
 ranked_meaning = record {

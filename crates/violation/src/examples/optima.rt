@@ -5,7 +5,7 @@ ghost use Rattle.std.specs.declared.alloc.Global.{Global};
 ghost use Rattle.tier_core.specs.Orders.{IsFirst};
 ghost use Rattle.violation.specs.Candidates.{IsCandidate, IsAtMost, IsOptimalFor, IsOptimal, IsLeastVector};
 ghost use Rattle.violation.specs.Stages.{IsKindOfStage, AreKindsOfStage, IsRemaining};
-ghost use Rattle.violation.specs.Examples.{timeline, two_tiers, max_a, kind_text};
+ghost use Rattle.violation.specs.Examples.{timeline, two_tiers, max_a, read_kind};
 ghost use Rattle.violation.specs.Examples.{over_two};
 
 /// Vectors are compared from the highest constraint on.
@@ -45,24 +45,24 @@ pub fn least_vectors()
 /// At stage 0 nothing remains. At stage 1 nothing remains of `A -> a` from the kind of the empty
 /// prefix of `[ ]`.
 pub fn remaining_violations()
-    ensures stage_zero { IsRemaining (over_two [] []) 0 (kind_text 0 (codes "-") []) 0 }
-    ensures not_one { IsRemaining (over_two [] []) 0 (kind_text 0 (codes "-") []) 1 → ⊥ }
+    ensures stage_zero { IsRemaining (over_two [] []) 0 (read_kind 0 (codes "-") []) 0 }
+    ensures not_one { IsRemaining (over_two [] []) 0 (read_kind 0 (codes "-") []) 1 → ⊥ }
     ensures stage_one { (max : String Global)
         → IsRemaining (over_two (max_a max ∷ []) (timeline (codes "[ ]"))) 1
-        (kind_text 0 (codes "-") (codes ".")) 0 }
+        (read_kind 0 (codes "-") (codes ".")) 0 }
     ensures not_more { (max : String Global)
         → IsRemaining (over_two (max_a max ∷ []) (timeline (codes "[ ]"))) 1
-        (kind_text 0 (codes "-") (codes ".")) 1 → ⊥ }
+        (read_kind 0 (codes "-") (codes ".")) 1 → ⊥ }
 {}
 
 /// The empty form has two kinds at stage 0: the overt tier is open or not. They are in kind order.
 pub fn kinds_of_the_empty_form()
     ensures both { AreKindsOfStage (over_two [] []) 0
-        (kind_text 0 (codes "-") [] ∷ kind_text 0 (codes "+") [] ∷ []) }
-    ensures one_missing { AreKindsOfStage (over_two [] []) 0 (kind_text 0 (codes "-") [] ∷ []) → ⊥ }
+        (read_kind 0 (codes "-") [] ∷ read_kind 0 (codes "+") [] ∷ []) }
+    ensures one_missing { AreKindsOfStage (over_two [] []) 0 (read_kind 0 (codes "-") [] ∷ []) → ⊥ }
     ensures not_in_order { AreKindsOfStage (over_two [] []) 0
-        (kind_text 0 (codes "+") [] ∷ kind_text 0 (codes "-") [] ∷ []) → ⊥ }
-    ensures no_such_place { IsKindOfStage (over_two [] []) 0 (kind_text 1 (codes "-") []) → ⊥ }
+        (read_kind 0 (codes "+") [] ∷ read_kind 0 (codes "-") [] ∷ []) → ⊥ }
+    ensures no_such_place { IsKindOfStage (over_two [] []) 0 (read_kind 1 (codes "-") []) → ⊥ }
 {}
 
 /// The first candidate of the empty form has no columns.

@@ -2,7 +2,7 @@ use Rattle.std.proofs.Common.{◌≡◌, List, Some, Contains, MatchOption, slic
 use Rattle.std.specs.List.Sorted.{IsStrictlySortedBy}
 use Rattle.tier_core.specs.Kinds.{PrefixKind, kind_order}
 use Rattle.tier_core.specs.KindShapes.{kind_in}
-use Rattle.cert_check.specs.Subjects.{kinds_of}
+use Rattle.cert_check.specs.Subjects.{stage_kinds}
 use Rattle.cert_check.proofs.Subjects.{tell_same, told_read}
 use Rattle.cert_check.proofs.find.find_kind.Goals as goal
 
@@ -17,7 +17,8 @@ returns c =
     let s = c.args.subject.now in
     let Found : List PrefixKind → PrefixKind
     → Type 0 = λ kinds k. MatchOption c.find.result (Contains kinds k → ⊥) (λ n. slice_get kinds n ≡ Some k) in
-    subst (Found (kinds_of s c.args.stage)) (tell_same s c.requires.ready c.args.stage c.requires.stage c.args.kind.now)
+    subst (Found (stage_kinds s c.args.stage))
+    (tell_same s c.requires.ready c.args.stage c.requires.stage c.args.kind.now)
     (subst (λ kinds. Found kinds (kind_in s.shape.now c.args.stage c.args.kind.now))
     (told_read s c.requires.ready c.args.stage c.requires.stage c.as_slice-nodes.result.now c.index.result.now
     c.as_slice-nodes.ensures.value c.index.ensures) c.find.ensures)

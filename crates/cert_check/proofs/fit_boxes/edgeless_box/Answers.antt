@@ -10,9 +10,9 @@ pub loop-tier-preserved : goal.loop-tier-preserved
 loop-tier-preserved c =
     let tier = c.loop-tier.tier in
     record {
-      width = c.narrowed-class.ensures.width ∙ c.loop-tier.invariant.width;
-      columns = λ column l. tier_more (has c.narrowed-class.result column) (has c.loop-tier.class column)
+      width = c.restrict-class.ensures.width ∙ c.loop-tier.invariant.width;
+      columns = λ column l. tier_more (has c.restrict-class.result column) (has c.loop-tier.class column)
           (is_in 3 (symbol column tier)) (λ t. not (is_edge (symbol column t))) tier
-          (c.narrowed-class.ensures.columns column) (in_edgeless (symbol column tier))
+          (c.restrict-class.ensures.columns column) (in_edgeless (symbol column tier))
           (c.loop-tier.invariant.columns column l);
     }

@@ -36,11 +36,11 @@ loop-tier-preserved c =
       | then-is_input w ↦
           let is : is_input (kind_at kinds tier) ≡ true = sym c.is_input.ensures ∙ w.if-is_input.true in
           rw (w.class-is, w.next-is) (record {
-            width = w.narrowed-class.ensures.width ∙ c.loop-tier.invariant.width;
+            width = w.restrict-class.ensures.width ∙ c.loop-tier.invariant.width;
             count = omega (arith, c.loop-tier.invariant.count, step, ap {B = ℕ} (λ b. cond b 1 0) is);
             few = omega (arith, c.loop-tier.invariant.few);
-            columns = λ column l. reads_more (has w.narrowed-class.result column) (has c.loop-tier.class column) kinds
-                column form tier next w.alone.result Input c.loop-tier-test.true is
+            columns = λ column l. reads_more (has w.restrict-class.result column) (has c.loop-tier.class column) kinds
+                column form tier next w.single_set.result Input c.loop-tier-test.true is
                 (omega (
                   arith,
                   c.loop-tier.invariant.count,
@@ -48,7 +48,7 @@ loop-tier-preserved c =
                   all_inputs kinds,
                   c.requires.form,
                 ))
-                w.alone.ensures.value (w.narrowed-class.ensures.columns column)
+                w.single_set.ensures.value (w.restrict-class.ensures.columns column)
                 (c.loop-tier.invariant.columns column l);
           })
       | else-is_input w ↦

@@ -11,10 +11,10 @@ loop-tier-preserved c =
     let tier = c.loop-tier.tier in
     elim c.if-is_input.branch [
       | then-is_input w ↦ rw (w.class-is) (record {
-        width = w.narrowed-class.ensures.width ∙ c.loop-tier.invariant.width;
-        columns = λ column l. still_more (has w.narrowed-class.result column) (has c.loop-tier.class column) kinds
+        width = w.restrict-class.ensures.width ∙ c.loop-tier.invariant.width;
+        columns = λ column l. still_more (has w.restrict-class.result column) (has c.loop-tier.class column) kinds
             column tier Input _ c.loop-tier-test.true (sym c.is_input.ensures ∙ w.if-is_input.true)
-            (w.narrowed-class.ensures.columns column) (c.loop-tier.invariant.columns column l);
+            (w.restrict-class.ensures.columns column) (c.loop-tier.invariant.columns column l);
       })
       | else-is_input w ↦ rw (w.class-is) (record {
         width = c.loop-tier.invariant.width;

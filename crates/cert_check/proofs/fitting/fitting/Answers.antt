@@ -1,4 +1,5 @@
-use Rattle.std.proofs.Common.{◌≡◌, ◌↔◌, ℕ, ◌<◌, true, false, not, ◌&&◌, IsTrue, List, [], map, length, refl, ap, sym, ◌∙◌, subst, arith, All}
+use Rattle.std.proofs.Common.{◌≡◌, ◌↔◌, ℕ, ◌<◌, true, false, not, ◌&&◌, IsTrue, List, [], map, length, refl, ap, sym}
+use Rattle.std.proofs.Common.{◌∙◌, subst, arith, All}
 use Rattle.std.proofs.lemmas.Bool.{false≢true, and_parts, and_from}
 use Rattle.tier_core.specs.declared.class.Class.{Class}
 use Rattle.tier_core.specs.declared.sym.Sym.{Sym}

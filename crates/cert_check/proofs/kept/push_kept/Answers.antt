@@ -14,5 +14,5 @@ returns c =
     subst (λ (column : List Sym). IsTrue (has c.args.class.now column)) (sym c.syms-column.ensures.value)
     (c.least_column-least.ensures.held c.requires.filled) in
     adds_kept (problem_of s) c.args.stage k c.args.class.now c.syms-column.result.now c.args.kept.now.items
-    c.push.new.self.items _ c.requires.alike held c.in_ok-push.ensures.items refl c.moved-target.ensures
+    c.push.new.self.items _ c.requires.alike held c.in_ok-push.ensures.items refl c.next_kind-target.ensures
     (sym c.cost-cost.ensures.cost) c.cost-cost.ensures.few

@@ -3,7 +3,7 @@ use Rattle.tier_core.specs.KindShapes.{FitsShape}
 use Rattle.violation.specs.Prefixes.{kind_of_bits}
 use Rattle.violation.specs.Problems.{last_stage}
 use Rattle.cert_check.specs.declared.kept_piece.KeptPiece.{KeptPiece}
-use Rattle.cert_check.specs.Kept.{AreKept}
+use Rattle.cert_check.specs.Kept.{AreKeptPieces}
 use Rattle.cert_check.specs.KeptArcs.{AreArcsOf, IsTargetListed}
 use Rattle.cert_check.specs.States.{last_kind}
 use Rattle.cert_check.specs.Subjects.{AscendsAt, problem_of}
@@ -41,7 +41,7 @@ arcs_of-requires-clause-listed c =
     subst (λ (xs : List KeptPiece). All (IsTargetListed s c.len-last.result) xs) (sym c.deref.ensures.value)
     (subst (λ n. All (IsTargetListed s n) pieces) (sym is)
     (targets_listed s c.requires.staged c.args.state.now c.args.node.now c.requires.at pieces
-    (subst (λ n. AreKept (problem_of s) s.answer.now.stages.items n (n + 1)
+    (subst (λ n. AreKeptPieces (problem_of s) s.answer.now.stages.items n (n + 1)
     (kind_of_bits (problem_of s) n c.args.node.now.kind) pieces) is c.in_ok-pieces.ensures)))
 
 pub returns-in-Ok : goal.returns-in-Ok
@@ -50,7 +50,7 @@ returns-in-Ok c =
     let is : c.len-last.result ≡ last_stage (problem_of s) = omega (arith, c.len-last.ensures) in
     let pieces : List KeptPiece = c.in_ok-pieces.pieces.items in
     kept_arcs_are s (last_kind s c.args.node.now) pieces c.in-Ok.arcs.items
-    (subst (λ n. AreKept (problem_of s) s.answer.now.stages.items n (n + 1)
+    (subst (λ n. AreKeptPieces (problem_of s) s.answer.now.stages.items n (n + 1)
     (kind_of_bits (problem_of s) n c.args.node.now.kind) pieces) is c.in_ok-pieces.ensures)
     (subst (λ n. AreArcsOf s n pieces c.in-Ok.arcs.items) is
     (subst (λ (xs : List KeptPiece). AreArcsOf s c.len-last.result xs c.in-Ok.arcs.items) c.deref.ensures.value

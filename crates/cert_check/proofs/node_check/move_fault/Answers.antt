@@ -1,6 +1,6 @@
 use Rattle.tier_core.specs.FirstColumn.{first_column}
 use Rattle.tier_core.proofs.Filled.{has-first_column}
-use Rattle.violation.specs.Moves.{moved}
+use Rattle.violation.specs.Moves.{next_kind}
 use Rattle.violation.specs.Prefixes.{kind_of_bits}
 use Rattle.cert_check.specs.Subjects.{problem_of}
 use Rattle.cert_check.proofs.NodeSteps.{not_closed, too_high, none_wrong}
@@ -13,7 +13,7 @@ potential_of-requires-clause-fits c =
     let class = c.args.piece.now.class in
     let first = first_column class in
     tells_fit s c.requires.ready c.args.stage c.requires.stage c.args.piece.now.target
-    (moved (problem_of s) c.args.stage (kind_of_bits (problem_of s) c.args.stage c.args.node.now.kind) first)
+    (next_kind (problem_of s) c.args.stage (kind_of_bits (problem_of s) c.args.stage c.args.node.now.kind) first)
     (c.requires.piece.leads first (has-first_column class c.requires.filled))
 
 pub returns-in_default : goal.returns-in_default

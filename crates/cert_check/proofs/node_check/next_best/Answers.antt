@@ -4,12 +4,13 @@ use Rattle.tier_core.specs.Orders.{column_cmp}
 use Rattle.tier_core.specs.FirstColumn.{first_column}
 use Rattle.violation.specs.Prefixes.{kind_of_bits}
 use Rattle.cert_check.specs.declared.kept_piece.KeptPiece.{KeptPiece}
-use Rattle.cert_check.specs.Kept.{classes_of}
+use Rattle.cert_check.specs.Kept.{kept_classes}
 use Rattle.cert_check.specs.Subjects.{problem_of}
 use Rattle.std.specs.Ordering.{is_gt}
 use Rattle.std.proofs.Common.{true, false}
 use Rattle.cert_check.proofs.ColumnPlaces.{after_is, not_after_is}
-use Rattle.cert_check.proofs.NodeSteps.{piece_within, piece_class, piece_filled, piece_kept, least_same, least_first, least_next, least_later}
+use Rattle.cert_check.proofs.NodeSteps.{piece_within, piece_class, piece_filled, piece_kept, least_same, least_first}
+use Rattle.cert_check.proofs.NodeSteps.{least_next, least_later}
 use Rattle.cert_check.proofs.node_check.next_best.Goals as goal
 
 pub move_fault-requires-clause-filled : goal.move_fault-requires-clause-filled
@@ -34,7 +35,7 @@ returns-in-None c =
     c.requires.kept c.args.next c.index-pieces-next.result c.requires.within c.index-pieces-next.is in
     let class = piece_class (problem_of s) s.answer.now.stages.items c.args.stage c.args.stage k c.args.pieces.now
     c.requires.kept c.args.next c.index-pieces-next.result c.requires.within c.index-pieces-next.is in
-    least_same (problem_of s) s.answer.now c.args.stage c.args.number (classes_of c.args.pieces.now) c.args.best
+    least_same (problem_of s) s.answer.now c.args.stage c.args.number (kept_classes c.args.pieces.now) c.args.best
     c.args.next c.requires.so_far inside c.index-pieces-next.result.class class c.in-None.ensures
 
 pub returns-then-best-pieces : goal.returns-then-best-pieces
@@ -45,7 +46,7 @@ returns-then-best-pieces c =
     c.requires.kept c.args.next c.index-pieces-next.result c.requires.within c.index-pieces-next.is in
     let class = piece_class (problem_of s) s.answer.now.stages.items c.args.stage c.args.stage k c.args.pieces.now
     c.requires.kept c.args.next c.index-pieces-next.result c.requires.within c.index-pieces-next.is in
-    least_first (problem_of s) s.answer.now c.args.stage c.args.number (classes_of c.args.pieces.now) c.args.best
+    least_first (problem_of s) s.answer.now c.args.stage c.args.number (kept_classes c.args.pieces.now) c.args.best
     c.args.next c.requires.so_far inside c.index-pieces-next.result.class class
     (λ column h. (c.in-Some.ensures column h).0)
     (c.if-best-pieces.true ∙ sym (length-map c.args.pieces.now (λ (p : KeptPiece). p.class)))
@@ -69,7 +70,7 @@ returns-then-is_later c =
     c.index-pieces-best.is (c.index-pieces-next.is ∙ get_or_default c.args.pieces.now c.args.next
     c.index-pieces-next.result c.index-pieces-next-in-Some.result c.requires.within)
     ∙ sym c.is_later.ensures ∙ c.if-is_later.true in
-    least_next (problem_of s) s.answer.now c.args.stage c.args.number (classes_of c.args.pieces.now) c.args.best
+    least_next (problem_of s) s.answer.now c.args.stage c.args.number (kept_classes c.args.pieces.now) c.args.best
     c.args.next c.requires.so_far inside c.index-pieces-next.result.class c.index-pieces-best.result.class class first
     (omega (arith, below, size)) (λ column h. (c.in-Some.ensures column h).0)
     (after_is (first_column c.index-pieces-best.result.class) (first_column c.index-pieces-next.result.class) compared)
@@ -93,7 +94,7 @@ returns c =
     c.index-pieces-best.is (c.index-pieces-next.is ∙ get_or_default c.args.pieces.now c.args.next
     c.index-pieces-next.result c.index-pieces-next-in-Some.result c.requires.within)
     ∙ sym c.is_later.ensures ∙ c.if-is_later.false in
-    least_later (problem_of s) s.answer.now c.args.stage c.args.number (classes_of c.args.pieces.now) c.args.best
+    least_later (problem_of s) s.answer.now c.args.stage c.args.number (kept_classes c.args.pieces.now) c.args.best
     c.args.next c.requires.so_far inside c.index-pieces-next.result.class c.index-pieces-best.result.class class first
     (omega (arith, below, size))
     (not_after_is (first_column c.index-pieces-best.result.class)

@@ -2,7 +2,7 @@ use Rattle.std.proofs.Common.{◌≡◌, List, length, arith, sym, ap, ◌∙◌
 use Rattle.std.proofs.lemmas.Bool.{cases_lt}
 use Rattle.answer_text.specs.declared.stage.Node.{Node}
 use Rattle.cert_check.specs.Faults.{IsInOrder}
-use Rattle.cert_check.specs.Subjects.{problem_of, nodes_of, node_kind}
+use Rattle.cert_check.specs.Subjects.{problem_of, stage_nodes, node_kind}
 use Rattle.cert_check.proofs.Orders.{first_wrong}
 use Rattle.cert_check.proofs.Subjects.{nodes_read}
 use Rattle.cert_check.proofs.order.check_order.Goals as goal
@@ -10,7 +10,7 @@ use Rattle.cert_check.proofs.order.check_order.Goals as goal
 pub returns-then-not-is_in_order-clause-err : goal.returns-then-not-is_in_order-clause-err
 returns-then-not-is_in_order-clause-err c =
     let s = c.args.subject.now in
-    let read : c.as_slice-nodes.result.now ≡ nodes_of s c.args.stage =
+    let read : c.as_slice-nodes.result.now ≡ stage_nodes s c.args.stage =
     nodes_read s c.requires.ready c.args.stage c.requires.stage c.as_slice-nodes.result.now c.index.result.now
     c.as_slice-nodes.ensures.value c.index.ensures in
     first_wrong s c.args.stage c.requires.ready c.requires.stage c.loop-number.number
@@ -29,7 +29,7 @@ loop-number-preserved c n l = ⊎_elim
 pub returns-clause-ok : goal.returns-clause-ok
 returns-clause-ok c n l =
     let s = c.args.subject.now in
-    let read : c.as_slice-nodes.result.now ≡ nodes_of s c.args.stage =
+    let read : c.as_slice-nodes.result.now ≡ stage_nodes s c.args.stage =
     nodes_read s c.requires.ready c.args.stage c.requires.stage c.as_slice-nodes.result.now c.index.result.now
     c.as_slice-nodes.ensures.value c.index.ensures in
     c.loop-number.invariant n (omega (arith, l, c.loop-number-test.false, ap (λ (xs : List Node). length xs) read))

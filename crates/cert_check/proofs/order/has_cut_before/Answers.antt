@@ -1,5 +1,5 @@
 use Rattle.std.proofs.Common.{◌-◌, ◌≤◌, arith, sym, subst, Contains}
-use Rattle.cert_check.specs.Subjects.{kinds_of}
+use Rattle.cert_check.specs.Subjects.{stage_kinds}
 use Rattle.cert_check.proofs.Subjects.{cut_fits, cut_before_told}
 use Rattle.cert_check.proofs.order.has_cut_before.Goals as goal
 
@@ -16,6 +16,6 @@ returns c =
     let same = cut_before_told s c.requires.ready c.args.stage c.requires.stage c.args.kind.now c.cut_to-cut.result
     c.index.result.now some c.index.ensures
     c.cut_to-cut.ensures.place c.cut_to-cut.ensures.opened c.cut_to-cut.ensures.phases in (
-      λ h one. subst (Contains (kinds_of s (c.args.stage - 1))) same (c.has_kind.ensures.0 h),
-      λ h. c.has_kind.ensures.1 (subst (Contains (kinds_of s (c.args.stage - 1))) (sym same) (h some)),
+      λ h one. subst (Contains (stage_kinds s (c.args.stage - 1))) same (c.has_kind.ensures.0 h),
+      λ h. c.has_kind.ensures.1 (subst (Contains (stage_kinds s (c.args.stage - 1))) (sym same) (h some)),
     )

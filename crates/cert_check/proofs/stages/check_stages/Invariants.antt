@@ -1,10 +1,10 @@
 use Rattle.std.proofs.Common.{ℕ, ◌<◌}
-use Rattle.cert_check.specs.Nodes.{IsRightStage}
+use Rattle.cert_check.specs.Nodes.{IsFaultlessStage}
 use Rattle.cert_check.specs.Subjects.{AscendsAt, problem_of}
 use Rattle.cert_check.proofs.stages.check_stages.Given as goal
 
 abbrev pub invariant-loop-stage : goal.invariant-loop-stage
 invariant-loop-stage l = record {
-  right : (r : ℕ) → r < l.stage → IsRightStage (problem_of l.subject) l.subject.answer.now r;
+  right : (r : ℕ) → r < l.stage → IsFaultlessStage (problem_of l.subject) l.subject.answer.now r;
   ascend : (r : ℕ) → r < l.stage → AscendsAt l.subject r;
 }

@@ -1,4 +1,5 @@
-use Rattle.std.proofs.Common.{◌≡◌, ℕ, ◌<◌, List, length, get_or, Some, Contains, slice_get, sym, ap, ◌∙◌, arith, subst, ⊎_elim, true≢false}
+use Rattle.std.proofs.Common.{◌≡◌, ℕ, ◌<◌, List, length, get_or, Some, Contains, slice_get, sym, ap, ◌∙◌, arith, subst}
+use Rattle.std.proofs.Common.{⊎_elim, true≢false}
 use Rattle.std.proofs.lemmas.Bool.{cases_lt}
 use Rattle.std.proofs.lemmas.Option.{slice_get-get_or, slice_get_within}
 use Rattle.answer_text.specs.declared.automaton.ArcLine.{ArcLine}

@@ -1,5 +1,5 @@
 use Rattle.std.proofs.Common.{◌≡◌, sym, subst, arith}
-use Rattle.violation.specs.Moves.{cut}
+use Rattle.violation.specs.Moves.{cut_kind}
 use Rattle.violation.specs.Prefixes.{kind_of_bits}
 use Rattle.cert_check.specs.Faults.{IsUnlisted}
 use Rattle.cert_check.specs.Subjects.{problem_of}
@@ -11,7 +11,8 @@ pub returns-in_default : goal.returns-in_default
 returns-in_default c =
     let s = c.args.subject.now in
     let k = kind_of_bits (problem_of s) c.args.stage c.args.kind.now in
-    let from : kind_of_bits (problem_of s) c.args.earlier c.cut_to-from.result ≡ cut (problem_of s) c.args.earlier k =
+    let from : kind_of_bits (problem_of s) c.args.earlier c.cut_to-from.result
+    ≡ cut_kind (problem_of s) c.args.earlier k =
     cut_told_at s c.requires.ready c.args.stage c.args.earlier c.requires.stage c.requires.earlier c.args.kind.now
     c.cut_to-from.result c.index.result.now c.index.ensures c.cut_to-from.ensures.opened
     c.cut_to-from.ensures.stretches c.cut_to-from.ensures.place c.cut_to-from.ensures.phases in
@@ -24,7 +25,8 @@ pub returns-in-Ok : goal.returns-in-Ok
 returns-in-Ok c =
     let s = c.args.subject.now in
     let k = kind_of_bits (problem_of s) c.args.stage c.args.kind.now in
-    let from : kind_of_bits (problem_of s) c.args.earlier c.cut_to-from.result ≡ cut (problem_of s) c.args.earlier k =
+    let from : kind_of_bits (problem_of s) c.args.earlier c.cut_to-from.result
+    ≡ cut_kind (problem_of s) c.args.earlier k =
     cut_told_at s c.requires.ready c.args.stage c.args.earlier c.requires.stage c.requires.earlier c.args.kind.now
     c.cut_to-from.result c.index.result.now c.index.ensures c.cut_to-from.ensures.opened
     c.cut_to-from.ensures.stretches c.cut_to-from.ensures.place c.cut_to-from.ensures.phases in

@@ -10,9 +10,9 @@ but_none : (a b i : Bool) → b ≡ (a && i) → i ≡ false → (a && not b) �
 but_none true b i e f = ap not (e ∙ f)
 but_none false b i e f = refl
 
-pub narrowed-requires : goal.narrowed-requires
-narrowed-requires c = let class = c.args.class.now in omega (arith, width_is class, class.some)
+pub restrict-requires : goal.restrict-requires
+restrict-requires c = let class = c.args.class.now in omega (arith, width_is class, class.some)
 
 pub returns-clause-columns : goal.returns-clause-columns
-returns-clause-columns c column = but_none (has c.args.class.now column) (has c.narrowed.result column)
-    (is_in 0 (symbol column 0)) (c.narrowed.ensures.columns column) (in_none (symbol column 0))
+returns-clause-columns c column = but_none (has c.args.class.now column) (has c.restrict.result column)
+    (is_in 0 (symbol column 0)) (c.restrict.ensures.columns column) (in_none (symbol column 0))

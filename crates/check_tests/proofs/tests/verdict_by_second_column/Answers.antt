@@ -1,7 +1,7 @@
 use Rattle.std.proofs.Common.{◌≡◌, ℕ, zero, suc, ◌<◌, List, [], ◌∷◌, length, get_or, sym, ◌∙◌, subst, arith}
 use Rattle.std.specs.List.{AllByRecursion}
 use Rattle.tier_core.specs.declared.sym.Sym.{Sym}
-use Rattle.tier_core.specs.Shapes.{input_count}
+use Rattle.tier_core.specs.Shapes.{masked_count}
 use Rattle.check_tests.proofs.tests.verdict_by_second_column.Goals as goal
 
 all_at : {X : Type 0} (P : X → Type 0) (xs : List X) (i : ℕ) (d : X) → i < length xs → AllByRecursion P xs
@@ -14,7 +14,7 @@ pub check-requires : goal.check-requires
 check-requires c =
     let readable = c.requires.readable in
     let other = c.with_form-other.ensures in
-    let wide : List Sym → Type 0 = λ column. length column ≡ input_count c.args.shape.now.inputs in
+    let wide : List Sym → Type 0 = λ column. length column ≡ masked_count c.args.shape.now.inputs in
     let long : 1 < length c.args.answer.form = omega (arith, c.len.ensures, c.if-len-lt2.false) in
     record {
       shape = c.args.shape.now;

@@ -6,8 +6,8 @@ use Rattle.tier_core.specs.declared.sym.Sym.{Sym}
 use Rattle.tier_core.specs.Orders.{IsFirst}
 use Rattle.answer_text.specs.declared.automaton.StateLine.{StateLine}
 use Rattle.answer_text.specs.Right.{numbers_of}
-use Rattle.comprehend.specs.Searches.{far, IsLeft, ReadsFrom}
-use Rattle.comprehend.specs.Steps.{Goes, IsEnd, AreSearchable, ReadsAlong}
+use Rattle.comprehend.specs.Searches.{no_distance, IsLeft, ReadsFrom}
+use Rattle.comprehend.specs.Steps.{Goes, IsEndCell, AreSearchable, ReadsAlong}
 use Rattle.tier_core.specs.declared.class.Class.{Class}
 use Rattle.comprehend.proofs.Cells.{cells_inside}
 use Rattle.comprehend.proofs.Numbers.{once_at}
@@ -70,7 +70,7 @@ follow-requires-clause-start c =
       c.in-Ok-lengths.ensures.each,
     ) in
     rw c.deref.ensures.value (record {
-      number = get_or_default left start far c.index-most.result.now inside
+      number = get_or_default left start no_distance c.index-most.result.now inside
           ∙ sym c.index-most.ensures;
       near = c.if-most-ge-FAR.false;
     })
@@ -83,9 +83,9 @@ returns-in-Ok-follow c =
     let at : slice_get (numbers_of states) state ≡ Some 0 = ap (λ ns. slice_get ns state) (sym c.in-Ok.ensures)
     ∙ (c.place_of.ensures state).0 c.in-Some.is in
     let first : IsFirst (ReadsFrom (Goes states tests)
-    (IsEnd states tests) c.cell-start.result) c.in-Ok-follow.first = c.in-Ok-follow.ensures in
+    (IsEndCell states tests) c.cell-start.result) c.in-Ok-follow.first = c.in-Ok-follow.ensures in
     let start : c.cell-start.result ≡ state * length tests = omega (arith, c.cell-start.ensures) in
-    let P : List (List Sym) → ℕ → Type 0 = λ T v. ReadsFrom (Goes states tests) (IsEnd states tests) v T in
+    let P : List (List Sym) → ℕ → Type 0 = λ T v. ReadsFrom (Goes states tests) (IsEndCell states tests) v T in
     record {
       member = record { start = state; numbered = at; reads = subst (P c.in-Ok-follow.first) start first.member };
       least = λ U along.

@@ -3,7 +3,7 @@ use Rattle.std.proofs.lemmas.List.{append-nil}
 use Rattle.tier_core.specs.declared.sym.Sym.{Sym}
 use Rattle.first_paths.proofs.Results.{on_ok}
 use Rattle.comprehend.specs.Searches.{IsLeft}
-use Rattle.comprehend.specs.Steps.{Goes, IsEnd}
+use Rattle.comprehend.specs.Steps.{Goes, IsEndCell}
 use Rattle.comprehend.proofs.Reaching.{known_inside}
 use Rattle.comprehend.proofs.OneStep.{one_step}
 use Rattle.comprehend.proofs.FirstStep.{IsFirstFrom, is_first, first_empty, first_step, step_exists}
@@ -23,7 +23,7 @@ choose-choice-requires-clause-some c =
     let n = c.args.most - 1 - c.loop-done.done in
     let P : ℕ → Type 0 = λ k. IsLeft c.args.left.now c.loop-done.from k in
     let more : c.args.most - c.loop-done.done ≡ n + 1 = omega (arith, c.loop-done-test.true) in
-    step_exists (Goes states tests) (IsEnd states tests) c.args.left.now c.requires.lengths c.loop-done.from n
+    step_exists (Goes states tests) (IsEndCell states tests) c.args.left.now c.requires.lengths c.loop-done.from n
     (subst P more c.loop-done.invariant.left_is)
 
 pub loop-done-preserved : goal.loop-done-preserved
@@ -46,11 +46,11 @@ loop-done-preserved c =
     record {
       left_is = subst Q same least.nearer;
       first = λ word first.
-          (let F : List (List Sym) → Type 0 = IsFirstFrom (Goes states tests) (IsEnd states tests) c.args.start in
+          (let F : List (List Sym) → Type 0 = IsFirstFrom (Goes states tests) (IsEndCell states tests) c.args.start in
           let one = one_step states tests c.requires.once c.requires.apart c.requires.tests_apart in
           let whole = inv.first (choice.column ∷ word)
           (first_step (Goes states tests)
-          (IsEnd states tests) left c.requires.lengths one v n here choice.column choice.cell least word first) in
+          (IsEndCell states tests) left c.requires.lengths one v n here choice.column choice.cell least word first) in
           subst F (sym (ap (λ xs. xs ++ word) longer
           ∙ append_assoc c.loop-done.timeline (choice.column ∷ []) word)) whole);
     }
@@ -60,10 +60,10 @@ returns c =
     let states = c.args.states.now in
     let tests = c.args.tests.now in
     let columns = c.loop-done.timeline in
-    let F : List (List Sym) → Type 0 = IsFirstFrom (Goes states tests) (IsEnd states tests) c.args.start in
+    let F : List (List Sym) → Type 0 = IsFirstFrom (Goes states tests) (IsEndCell states tests) c.args.start in
     let P : ℕ → Type 0 = λ k. IsLeft c.args.left.now c.loop-done.from k in
     let none : c.args.most - c.loop-done.done ≡ 0 = omega (arith, c.loop-done-test.false) in
-    is_first (Goes states tests) (IsEnd states tests) c.args.start columns
+    is_first (Goes states tests) (IsEndCell states tests) c.args.start columns
     (subst F (append-nil columns) (c.loop-done.invariant.first []
-    (first_empty (Goes states tests) (IsEnd states tests) c.args.left.now c.requires.lengths c.loop-done.from
+    (first_empty (Goes states tests) (IsEndCell states tests) c.args.left.now c.requires.lengths c.loop-done.from
     (subst P none c.loop-done.invariant.left_is))))

@@ -2,7 +2,7 @@ use Rattle.std.proofs.Common.{◌≡◌, ◌<◌, ◌≤◌, ℕ, List, length, 
 use Rattle.std.proofs.lemmas.List.{length-map, take_all}
 use Rattle.std.proofs.lemmas.Result.{err_from_is_err_and}
 use Rattle.tier_core.specs.declared.sym.Sym.{Sym}
-use Rattle.violation.specs.Problems.{Problem, asked}
+use Rattle.violation.specs.Problems.{Problem, problem_from}
 use Rattle.lexicon.specs.declared.entry.Entry.{Entry}
 use Rattle.comprehend.specs.declared.comp_err.CompErr.TheVariants.{Budget}
 use Rattle.comprehend.specs.Hears.{forms_of, Hears, AreEntriesWithin, IsFirstEntryOver}
@@ -12,7 +12,7 @@ use Rattle.comprehend.proofs.hearing.comprehend.Goals as goal
 pub loop-index-init : goal.loop-index-init
 loop-index-init c = record {
   hears = rw c.new-hits.ensures.items (hears_nothing
-      (asked c.args.grammar.now.tiers c.args.grammar.now.constraints.items)
+      (problem_from c.args.grammar.now.tiers c.args.grammar.now.constraints.items)
       (forms_of c.args.lexicon.now) c.args.surface.now);
   within = λ k form e. absurd (let f : ⊥ = cc in f);
 }
@@ -22,7 +22,7 @@ returns-in_err-heard-clause-over c = λ index stage e.
     (let p = err_from_is_err_and c.from_residual.result c.from_residual.ensures.1 in
     let same : p.0 ≡ c.in_err-heard.field-0.0 = p.2 in
     let is : c.in_err-heard.field-0.0 ≡ Budget index stage = cc p.1 in
-    let ask : List (List Sym) → Problem = asked c.args.grammar.now.tiers c.args.grammar.now.constraints.items in
+    let ask : List (List Sym) → Problem = problem_from c.args.grammar.now.tiers c.args.grammar.now.constraints.items in
     let forms = forms_of c.args.lexicon.now in
     let i = c.loop-index.index in
     let entry = c.index-lexicon-index.result in
@@ -34,7 +34,7 @@ returns-in_err-heard-clause-over c = λ index stage e.
 
 pub loop-index-preserved : goal.loop-index-preserved
 loop-index-preserved c =
-    let ask : List (List Sym) → Problem = asked c.args.grammar.now.tiers c.args.grammar.now.constraints.items in
+    let ask : List (List Sym) → Problem = problem_from c.args.grammar.now.tiers c.args.grammar.now.constraints.items in
     let forms = forms_of c.args.lexicon.now in
     let i = c.loop-index.index in
     let entry = c.index-lexicon-index.result in
@@ -49,7 +49,7 @@ loop-index-preserved c =
 
 pub returns-clause-within : goal.returns-clause-within
 returns-clause-within c =
-    let ask : List (List Sym) → Problem = asked c.args.grammar.now.tiers c.args.grammar.now.constraints.items in
+    let ask : List (List Sym) → Problem = problem_from c.args.grammar.now.tiers c.args.grammar.now.constraints.items in
     let forms = forms_of c.args.lexicon.now in
     let P : List (List (List Sym)) → Type 0 = λ xs. AreEntriesWithin ask xs c.args.budget in
     subst P (take_all c.loop-index.index forms
@@ -61,7 +61,7 @@ returns-clause-within c =
 
 pub returns-clause-entries : goal.returns-clause-entries
 returns-clause-entries c =
-    let ask : List (List Sym) → Problem = asked c.args.grammar.now.tiers c.args.grammar.now.constraints.items in
+    let ask : List (List Sym) → Problem = problem_from c.args.grammar.now.tiers c.args.grammar.now.constraints.items in
     let forms = forms_of c.args.lexicon.now in
     let hits = c.loop-index.hits.items in
     let P : List (List (List Sym)) → Type 0 = λ xs. Hears ask xs c.args.surface.now hits in

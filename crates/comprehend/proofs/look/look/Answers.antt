@@ -1,6 +1,6 @@
 use Rattle.std.proofs.Common.{◌≡◌, arith}
 use Rattle.std.proofs.lemmas.List.{get_or_read}
-use Rattle.comprehend.specs.Searches.{far}
+use Rattle.comprehend.specs.Searches.{no_distance}
 use Rattle.comprehend.proofs.Reaching.{one_unknown, reaches_same}
 use Rattle.comprehend.proofs.look.look.Goals as goal
 
@@ -12,5 +12,5 @@ returns c =
     let inside = c.requires.cell c.if-not-steps.false in
     rw c.in_ok-push.ensures.items (reaches_same (λ v. v ≡ cell) _ (λ v at. (c.if-not-steps.false, at))
     (λ v at. at.1) n left _ _ _ (one_unknown n left c.args.next.now.items cell c.requires.near
-    (let read = get_or_read left cell c.index.result.now inside c.index.ensures far in omega
+    (let read = get_or_read left cell c.index.result.now inside c.index.ensures no_distance in omega
     (arith, read, c.if-index-lt-FAR.false)) inside))

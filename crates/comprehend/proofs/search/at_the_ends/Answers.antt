@@ -1,9 +1,10 @@
-use Rattle.std.proofs.Common.{◌≡◌, ◌<◌, ◌+◌, ◌*◌, ℕ, [], List, length, replicate, get_or, sym, ap, ◌∙◌, subst, arith, IsTrue}
+use Rattle.std.proofs.Common.{◌≡◌, ◌<◌, ◌+◌, ◌*◌, ℕ, [], List, length, replicate, get_or, sym, ap, ◌∙◌, subst, arith}
+use Rattle.std.proofs.Common.{IsTrue}
 use Rattle.std.proofs.lemmas.List.{length-replicate}
-use Rattle.comprehend.specs.Searches.{far, Reaches}
-use Rattle.comprehend.specs.Steps.{Goes, IsEnd}
+use Rattle.comprehend.specs.Searches.{no_distance, Reaches}
+use Rattle.comprehend.specs.Steps.{Goes, IsEndCell}
 use Rattle.comprehend.proofs.Cells.{cells_inside}
-use Rattle.comprehend.proofs.Reaching.{reaches_none, unknown-far, none_left}
+use Rattle.comprehend.proofs.Reaching.{reaches_none, unknown_count-no_distance, none_left}
 use Rattle.comprehend.proofs.Searching.{search_start}
 use Rattle.comprehend.proofs.Ends.{IsEndBelow, no_end_below, end_more, all_ends}
 use Rattle.comprehend.proofs.search.at_the_ends.Goals as goal
@@ -13,7 +14,7 @@ loop-number-init c =
     let size = length c.args.states.now * length c.args.tests.now in
     rw (c.in_ok-left.ensures.items_if_clones_equal (λ y same. same), c.new-level.ensures.items)
     (reaches_none (IsEndBelow c.args.states.now c.args.tests.now 0)
-    (no_end_below c.args.states.now c.args.tests.now) 0 (replicate size far) [])
+    (no_end_below c.args.states.now c.args.tests.now) 0 (replicate size no_distance) [])
 
 pub look-requires-clause-cell : goal.look-requires-clause-cell
 look-requires-clause-cell c =
@@ -23,7 +24,7 @@ look-requires-clause-cell c =
       c.cell-end.ensures,
       c.requires.searchable.1.some_test,
       c.loop-number.invariant.same,
-      length-replicate size far,
+      length-replicate size no_distance,
       cells_inside c.loop-number.number (length c.args.states.now)
           (length c.args.tests.now) c.loop-number-test.true,
     )
@@ -41,8 +42,8 @@ returns c =
     let states = c.args.states.now in
     let tests = c.args.tests.now in
     let size = length states * length tests in
-    search_start (Goes states tests) (IsEnd states tests) size
-    (replicate size far) c.loop-number.left.items c.loop-number.level.items (length-replicate size far)
-    (unknown-far size) (none_left size)
+    search_start (Goes states tests) (IsEndCell states tests) size
+    (replicate size no_distance) c.loop-number.left.items c.loop-number.level.items (length-replicate size no_distance)
+    (unknown_count-no_distance size) (none_left size)
     (all_ends states tests c.loop-number.number c.loop-number-test.false _ c.loop-number.left.items _
     c.loop-number.level.items c.loop-number.invariant)

@@ -15,13 +15,14 @@ loop-arc-preserved-then-not-has_left c = record {
 
 pub loop-arc-preserved : goal.loop-arc-preserved
 loop-arc-preserved c =
-    let made = c.better.ensures in
+    let made = c.better_choice.ensures in
     let has : HasLeft c.args.left.now c.args.n c.arc-item.result =
     (let yes = c.if-not-has_left.false in c.has_left.ensures.0 (cc)) in
     record {
       inside = omega (arith, c.loop-arc-test.true);
       best = best-take c.args.left.now c.args.n c.args.arcs.now c.loop-arc.arc-index c.arc-item.result
-          c.loop-arc-test.true c.arc-item.is has c.loop-arc.best c.better.result c.loop-arc.invariant.best made.of
+          c.loop-arc-test.true c.arc-item.is has c.loop-arc.best c.better_choice.result c.loop-arc.invariant.best
+          made.of
           made.arc made.best;
     }
 

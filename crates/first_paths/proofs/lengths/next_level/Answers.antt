@@ -1,14 +1,14 @@
 use Rattle.std.proofs.Common.{[], List, length, get_or, refl, subst, arith}
 use Rattle.weight_law.specs.declared.unit_weight.UnitWeight.{UnitWeight}
 use Rattle.arc_table.specs.declared.incoming_move.IncomingMove.{IncomingMove}
-use Rattle.first_paths.specs.Search.{IsSource, IsBefore, Reaches}
+use Rattle.first_paths.specs.Search.{IsSource, IsPredecessor, Reaches}
 use Rattle.first_paths.proofs.Searching.{sources_inside, level_none, reaches_none, level_more, level_all}
 use Rattle.first_paths.proofs.lengths.next_level.Goals as goal
 
 pub loop-state-init : goal.loop-state-init
 loop-state-init c = record {
   inside = omega arith;
-  reached = rw c.new-next.ensures.items (reaches_none (IsBefore c.args.incoming.now [])
+  reached = rw c.new-next.ensures.items (reaches_none (IsPredecessor c.args.incoming.now [])
       (level_none c.args.incoming.now) c.args.n c.args.left.now.items []);
 }
 

@@ -4,7 +4,7 @@ use Rattle.std.proofs.lemmas.List.Elements.{All-take, All-set}
 use Rattle.std.proofs.lemmas.Simd.{map-map}
 use Rattle.grammar_reader.specs.Events.{seen_event}
 use Rattle.grammar_reader.specs.Seen.{tiers_seen}
-use Rattle.grammar_reader.specs.Reading.{numbered}
+use Rattle.grammar_reader.specs.Reading.{indexed_event}
 use Rattle.grammar_reader.proofs.Adding.{event_more}
 use Rattle.grammar_reader.proofs.add.side.Goals as goal
 
@@ -16,19 +16,20 @@ pub loop-place-preserved : goal.loop-place-preserved
 loop-place-preserved c =
     let l : c.loop-place.place < length c.loop-place.found = omega arith in
     record {
-      size = omega (arith, length-set c.loop-place.found c.loop-place.place c.numbered.result);
+      size = omega (arith, length-set c.loop-place.found c.loop-place.place c.indexed_event.result);
       small = All-set
-          (λ event. event.tier < 12) c.loop-place.found c.loop-place.place c.numbered.result c.numbered.ensures.few
+          (λ event. event.tier < 12) c.loop-place.found c.loop-place.place c.indexed_event.result
+          c.indexed_event.ensures.few
           c.loop-place.invariant.small;
-      front = event_more (λ e. numbered (tiers_seen c.args.tiers.now.entries)
-          (seen_event e)) c.args.events.now c.loop-place.found c.loop-place.place _ c.numbered.result
-          c.loop-place-test.true l c.loop-place.invariant.front c.numbered.ensures.event;
+      front = event_more (λ e. indexed_event (tiers_seen c.args.tiers.now.entries)
+          (seen_event e)) c.args.events.now c.loop-place.found c.loop-place.place _ c.indexed_event.result
+          c.loop-place-test.true l c.loop-place.invariant.front c.indexed_event.ensures.event;
     }
 
 pub returns : goal.returns
 returns c =
     let n : length c.args.events.now ≡ c.loop-place.place = omega arith in
     c.from_events.ensures ∙ ap (λ k. take k c.loop-place.found) n ∙ c.loop-place.invariant.front
-    ∙ ap (map (λ e. numbered (tiers_seen c.args.tiers.now.entries) (seen_event e)))
+    ∙ ap (map (λ e. indexed_event (tiers_seen c.args.tiers.now.entries) (seen_event e)))
     (take_all c.loop-place.place c.args.events.now c.loop-place-test.false)
-    ∙ sym (map-map (numbered (tiers_seen c.args.tiers.now.entries)) seen_event c.args.events.now)
+    ∙ sym (map-map (indexed_event (tiers_seen c.args.tiers.now.entries)) seen_event c.args.events.now)

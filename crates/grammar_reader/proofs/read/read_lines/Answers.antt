@@ -1,9 +1,10 @@
-use Rattle.std.proofs.Common.{rules, tests, ◌≡◌, ◌+◌, ◌<◌, ◌∷◌, [], ◌++◌, List, ℕ, length, drop, subst, sym, ap, ◌∙◌, arith, get_or, ◌≤◌, Err}
+use Rattle.std.proofs.Common.{rules, tests, ◌≡◌, ◌+◌, ◌<◌, ◌∷◌, [], ◌++◌, List, ℕ, length, drop, subst, sym, ap, ◌∙◌}
+use Rattle.std.proofs.Common.{arith, get_or, ◌≤◌, Err}
 use Rattle.std.proofs.lemmas.List.{length_push, at_drop_all, length-map}
 use Rattle.timeline_text.proofs.Splits.{split_turn, split_end}
 use Rattle.timeline_text.specs.Bytes.{is_newline, lines_of}
-use Rattle.grammar_reader.specs.Reading.{after_lines, grammar_of, whole}
-use Rattle.grammar_reader.specs.Made.{so_far}
+use Rattle.grammar_reader.specs.Reading.{after_lines, grammar_of, finish}
+use Rattle.grammar_reader.specs.Made.{value_so_far}
 use Rattle.grammar_reader.proofs.Splits.{fits_at, all_fit}
 use Rattle.grammar_reader.proofs.Loop.{line_passed, line_refused}
 use Rattle.grammar_reader.proofs.read.read_lines.Goals as goal
@@ -23,9 +24,10 @@ loop-line-preserved c =
     let n = length_push c.loop-line.yielded c.in-Some.line in
     record {
       counted = omega (arith, n, c.loop-line.invariant.counted);
-      rest = ap (λ m. after_lines (so_far c.read_line.new.state) (c.loop-line.number + 1 + 1)
+      rest = ap (λ m. after_lines (value_so_far c.read_line.new.state) (c.loop-line.number + 1 + 1)
           (drop m (lines_of c.args.bytes.now))) n
-          ∙ sym (line_passed (so_far c.loop-line.state) (so_far c.read_line.new.state) (c.loop-line.number + 1)
+          ∙ sym (line_passed (value_so_far c.loop-line.state) (value_so_far c.read_line.new.state)
+          (c.loop-line.number + 1)
           (length c.loop-line.yielded) (lines_of c.args.bytes.now) c.in-Some.line.now t.0 t.1 c.in-Ok.ensures)
           ∙ c.loop-line.invariant.rest;
     }
@@ -37,7 +39,7 @@ returns-in-Err-Cause c =
     let r = rw c.in-Err-Cause.field-0-is at c.in-Err-Cause.ensures in
     let e : grammar_of c.args.bytes.now ≡ Err
     (record { line = c.loop-line.number + 1; cause = c.in-Err-Cause.cause }) = sym c.loop-line.invariant.rest
-    ∙ line_refused (so_far c.loop-line.state) (c.loop-line.number + 1) (length c.loop-line.yielded)
+    ∙ line_refused (value_so_far c.loop-line.state) (c.loop-line.number + 1) (length c.loop-line.yielded)
     (lines_of c.args.bytes.now) c.in-Some.line.now c.in-Err-Cause.cause t.0 t.1 r in
     rw c.in-Err-Cause.field-0-is e
 
@@ -47,5 +49,5 @@ returns c =
     c.next.ensures.steps (cc) (cc) (cc) (λ x b q k. search (rules, tests)) in
     let le : length (lines_of c.args.bytes.now) ≤ length c.loop-line.yielded = omega
     (arith, length-map c.loop-line.yielded (λ x. x.now), ap length e) in
-    sym c.loop-line.invariant.rest ∙ at_drop_all (after_lines (so_far c.loop-line.state) (c.loop-line.number + 1))
+    sym c.loop-line.invariant.rest ∙ at_drop_all (after_lines (value_so_far c.loop-line.state) (c.loop-line.number + 1))
     (lines_of c.args.bytes.now) (length c.loop-line.yielded) le

@@ -1,7 +1,7 @@
 use Rattle.std.proofs.Common.{◌≡◌, ℕ, ◌≤◌, ◌<◌, ◌^◌, length, map, filter, ap, sym, ◌∙◌, subst, arith}
 use Rattle.std.specs.String.{string_bytes}
 use Rattle.std.proofs.lemmas.List.{length-map}
-use Rattle.tier_core.specs.Shapes.{input_count, NeverFalls}
+use Rattle.tier_core.specs.Shapes.{masked_count, NeverFalls}
 use Rattle.tier_core.specs.Tiers.{is_input}
 use Rattle.tier_core.proofs.TableMasks.{input_tiers, length-numbers_from}
 use Rattle.grammar_reader.specs.ShapeOf.{stretch_counts}
@@ -15,7 +15,7 @@ invariant_of-result c =
     let same = length-map t.names.items string_bytes ∙ t.one_length in
     let lawful = c.args.grammar.now.lawful in
     let mask = input_tiers t.kinds.items c.mask.result t.few c.mask.ensures.within c.mask.ensures.bits in
-    let n : input_count c.mask.result ≡ length (filter is_input t.kinds.items) = ap length mask
+    let n : masked_count c.mask.result ≡ length (filter is_input t.kinds.items) = ap length mask
     ∙ length-numbers_from is_input 0 t.kinds.items in
     let inputs = length-inputs (map string_bytes t.names.items) t.kinds.items same in
     let few = lawful.made.few_inputs in

@@ -12,13 +12,13 @@ loop-tier-preserved c =
     let next = c.loop-tier.next in
     elim c.if-is_input.branch [
       | then-is_input+else-next-form w ↦ rw (w.rest-is, w.next-is) (record {
-        width = w.narrowed-rest.ensures.width ∙ c.loop-tier.invariant.width;
+        width = w.restrict-rest.ensures.width ∙ c.loop-tier.invariant.width;
         within = omega (arith, c.loop-tier.invariant.within, w.if-next-form.false);
-        columns = λ column. reads_more (has w.narrowed-rest.result column)
-            (has c.loop-tier.rest column) kinds column form tier next w.alone.result _ c.loop-tier-test.true
+        columns = λ column. reads_more (has w.restrict-rest.result column)
+            (has c.loop-tier.rest column) kinds column form tier next w.single_set.result _ c.loop-tier-test.true
             (sym c.is_input.ensures ∙ w.if-is_input.true)
-            (omega (arith, c.loop-tier.invariant.within, w.if-next-form.false)) w.alone.ensures.value
-            (w.narrowed-rest.ensures.columns column) (c.loop-tier.invariant.columns column);
+            (omega (arith, c.loop-tier.invariant.within, w.if-next-form.false)) w.single_set.ensures.value
+            (w.restrict-rest.ensures.columns column) (c.loop-tier.invariant.columns column);
       })
       | else-is_input w ↦ rw (w.rest-is, w.next-is) (record {
         width = c.loop-tier.invariant.width;
@@ -33,6 +33,6 @@ loop-tier-preserved c =
 pub returns-then-next-form-2-clause-columns : goal.returns-then-next-form-2-clause-columns
 returns-then-next-form-2-clause-columns c column =
     reads_none (has c.nothing-then-next-form-2.result column)
-        (has c.loop-tier.rest column) c.args.kinds.now column c.args.form.now c.loop-tier.tier c.loop-tier.next
+    (has c.loop-tier.rest column) c.args.kinds.now column c.args.form.now c.loop-tier.tier c.loop-tier.next
     c.loop-tier-test.false c.if-next-form-2.true (c.nothing-then-next-form-2.ensures.columns column)
     (c.loop-tier.invariant.columns column)

@@ -1,7 +1,7 @@
 use Rattle.std.proofs.Common.{subst, rules, IsPermutation}
 use Rattle.std.proofs.lemmas.List.Sorted.{ranks_by}
 use Rattle.tier_core.specs.Kinds.{kind_order}
-use Rattle.kind_orders.specs.KindOrders.{told}
+use Rattle.kind_orders.specs.KindOrders.{prefix_kind_at}
 use Rattle.symbol_class.proofs.Pairs.{sorted_by_closure}
 use Rattle.kind_orders.proofs.Orders.{is_kind_order}
 use Rattle.tier_core.proofs.KindTies.{kind_order_total}
@@ -14,6 +14,7 @@ returns c =
     let sorted = c.sort_unstable_by.new.self.items in
     is_kind_order shape c.args.stage kinds c.requires.found sorted
     (subst (λ xs. IsPermutation xs sorted) c.in_ok-order.ensures c.sort_unstable_by.ensures.permutation)
-    (sorted_by_closure (λ a b. kind_order (told shape c.args.stage kinds a) (told shape c.args.stage kinds b)) sorted
-    (ranks_by kind_order_total (told shape c.args.stage kinds)) c.sort_unstable_by.ensures.sorted
+    (sorted_by_closure (λ a b. kind_order (prefix_kind_at shape c.args.stage kinds a)
+    (prefix_kind_at shape c.args.stage kinds b)) sorted
+    (ranks_by kind_order_total (prefix_kind_at shape c.args.stage kinds)) c.sort_unstable_by.ensures.sorted
     (λ a r f k. search rules))

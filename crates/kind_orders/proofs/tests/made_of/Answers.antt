@@ -6,7 +6,7 @@ use Rattle.tier_core.specs.declared.kind.Kind.{Kind}
 use Rattle.tier_core.specs.declared.shape.Shape.{Shape}
 use Rattle.tier_core.specs.Kinds.{PrefixKind}
 use Rattle.tier_core.specs.KindShapes.{FitsShape, free_count, stretch_count, kind_in}
-use Rattle.kind_orders.specs.KindOrders.{AreFound}
+use Rattle.kind_orders.specs.KindOrders.{AreDistinctKinds}
 use Rattle.kind_orders.specs.Orderings.{IsOrdering}
 use Rattle.kind_orders.proofs.AnswerParts.{ordering_of_own}
 use Rattle.kind_orders.proofs.tests.made_of.Goals as goal
@@ -26,7 +26,7 @@ other_place : (shape : Shape) (a b : Kind) → a.place ≢ b.place → kind_in s
 other_place shape a b other e = other (ap (λ (k : PrefixKind). k.place) e)
 
 three : (shape : Shape) (a b c : Kind) → FitsShape shape 0 a → FitsShape shape 0 b → FitsShape shape 0 c
-    → a.place ≢ b.place → a.place ≢ c.place → b.place ≢ c.place → AreFound shape 0 (a ∷ b ∷ c ∷ [])
+    → a.place ≢ b.place → a.place ≢ c.place → b.place ≢ c.place → AreDistinctKinds shape 0 (a ∷ b ∷ c ∷ [])
 three shape a b c fa fb fc ab ac bc =
     record {
       fit = All-cons (FitsShape shape 0) a (b ∷ c ∷ []) fa
@@ -64,8 +64,8 @@ automaton_of-requires-clause-kinds c =
     (omega (arith, few, long, ap length c.deref.ensures.value, ap length c.deref-3.ensures.value))
     (All-nil (λ kind. kind < length c.deref-3.result.now))
 
-pub ordered-requires-clause-found : goal.ordered-requires-clause-found
-ordered-requires-clause-found c =
+pub order_of_kinds-requires-clause-found : goal.order_of_kinds-requires-clause-found
+order_of_kinds-requires-clause-found c =
     let s = c.args.shape.now in
     let r = c.requires in
     three s c.args.a c.args.b c.args.c (small s c.args.a r.free r.stages r.opened.0 r.unmet.0 r.met.0)

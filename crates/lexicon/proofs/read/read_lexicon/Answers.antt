@@ -6,7 +6,7 @@ use Rattle.toml.specs.Data.{Data}
 use Rattle.toml.specs.View.{table_view, view}
 use Rattle.lexicon.specs.declared.lex_err.LexErr.TheVariants.{NoMemory}
 use Rattle.lexicon.specs.Elements.{elements_of}
-use Rattle.lexicon.specs.Entries.{AreEntries, IsFirstFault}
+use Rattle.lexicon.specs.Entries.{AreEntries, IsFirstEntryFault}
 use Rattle.lexicon.specs.Lexicons.{IsLexicon, IsLexiconCause}
 use Rattle.lexicon.specs.Seen.{entries_seen, entry_seen}
 use Rattle.lexicon.proofs.EntryLemmas.{zip_length}
@@ -65,7 +65,7 @@ returns-clause-err c =
     (view c.in-Some.value.now) c.in-Some-as_array.elements.now.items c.in-Some.ensures c.in-Some-as_array.ensures
     ∙ ap (λ vs. Some (map view vs)) (sym c.deref.ensures.value) in
     let few : length ds ≤ 1000 = omega (arith, length-map c.deref.result.now view) in
-    IfErr-weaker c.read_elements.result (λ e. e ≢ NoMemory → IsFirstFault inputs letters ds e)
+    IfErr-weaker c.read_elements.result (λ e. e ≢ NoMemory → IsFirstEntryFault inputs letters ds e)
     (λ e. e ≢ NoMemory → IsLexiconCause inputs letters c.args.bytes.now e)
     (λ e h n. bad_element inputs letters c.args.bytes.now
     (table_view c.in_ok-table.table) ds e c.in_ok-table.ensures.ok listed few (h n))

@@ -1,6 +1,6 @@
 use Rattle.std.proofs.lemmas.Result.{IfErr-weaker}
 use Rattle.grammar_reader.specs.Grammars.{value_of}
-use Rattle.violation.specs.Problems.{asked}
+use Rattle.violation.specs.Problems.{problem_from}
 use Rattle.otp_tool.specs.Findings.{FindsForAnswer}
 use Rattle.otp_tool.specs.Steps.{IsRefusal, RefusesBudget, RefusesForm}
 use Rattle.otp_tool.proofs.RefusalLemmas.{budget_for_answer, form_for_answer, refusal_weaker}
@@ -16,7 +16,7 @@ returns-in-Ok-clause-ok c =
 pub returns-in-Ok-clause-err : goal.returns-in-Ok-clause-err
 returns-in-Ok-clause-err c =
     let g = value_of c.args.grammar.now in
-    let problem = asked c.args.grammar.now.tiers c.args.grammar.now.constraints.items c.in-Ok.form in
+    let problem = problem_from c.args.grammar.now.tiers c.args.grammar.now.constraints.items c.in-Ok.form in
     let word = c.args.word.now in
     IfErr-weaker c.answer_for.result (IsRefusal (RefusesBudget problem c.args.budget))
     (IsRefusal (FindsForAnswer g word c.args.budget))

@@ -22,4 +22,4 @@ returns-in-Ok-check-clause-step g c =
     verdict_written c.args.grammar.now c.args.bytes.now c.requires c.in-Ok.shape c.in-Ok.ensures
     c.in-Ok-answer_of.answer c.in-Ok-answer_of.ensures.ok c.in-Ok-answer_of.ensures.readable
     c.in-Ok-check.verdict c.in-Ok-check.ensures.verdict c.in-Ok-check.ensures.sound
-    c.put_verdict.result c.put_verdict.ensures c.told.result c.told.ensures
+    c.put_verdict.result c.put_verdict.ensures c.verdict_status.result c.verdict_status.ensures

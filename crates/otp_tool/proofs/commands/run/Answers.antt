@@ -2,7 +2,8 @@ use Rattle.command_line.specs.Words.{words_of}
 use Rattle.otp_tool.specs.Steps.{change_of}
 use Rattle.otp_tool.proofs.DueLemmas.{complete, due, untouched}
 use Rattle.otp_tool.proofs.VerdictLemmas.{settled}
-use Rattle.otp_tool.proofs.CauseLemmas.{begun, by_answer, by_budget, by_form, by_grammar, by_length, by_lexicon, by_memory, by_reading, by_rows, by_usage, by_writing, done, no, nothing_refused}
+use Rattle.otp_tool.proofs.CauseLemmas.{begun, by_answer, by_budget, by_form, by_grammar, by_length, by_lexicon}
+use Rattle.otp_tool.proofs.CauseLemmas.{by_memory, by_reading, by_rows, by_usage, by_writing, done, no, nothing_refused}
 use Rattle.otp_tool.proofs.commands.run.Goals as goal
 
 pub returns-in-Some-clause-done : goal.returns-in-Some-clause-done

@@ -1,6 +1,6 @@
 use Rattle.std.proofs.Common.{◌≡◌, List, refl, sym, subst}
 use Rattle.outside.specs.Writers.{Puts}
-use Rattle.violation.specs.Problems.{asked}
+use Rattle.violation.specs.Problems.{problem_from}
 use Rattle.lexicon.specs.declared.entry.Entry.{Entry}
 use Rattle.comprehend.specs.declared.hit.Hit.{Hit}
 use Rattle.comprehend.specs.Hears.{AreEntriesWithin, Hears, forms_of}
@@ -35,7 +35,7 @@ returns-in-Err-lexicon_of-clause-work g c =
 pub returns-clause-work : goal.returns-clause-work
 returns-clause-work g c =
     let same : c.deref.result.now ≡ c.in-Ok-load_second.bytes.items = c.deref.ensures.value in
-    let ask = asked c.args.grammar.now.tiers c.args.grammar.now.constraints.items in
+    let ask = problem_from c.args.grammar.now.tiers c.args.grammar.now.constraints.items in
     no_entry c.args.grammar.now c.args.surface.now c.args.lexicon.now c.args.budget c.in-Ok.surface
     c.in-Ok.ensures.ok c.deref.result.now c.in-Ok-lexicon_of.entries.items c.in-Ok-lexicon_of.ensures.ok
     (change_of g.F.Shelf g.O.Sink c.args.shelf.now c.load_second.new.shelf c.args.sink.now c.args.sink.now)
@@ -47,7 +47,7 @@ returns-clause-work g c =
 pub returns-in-Ok-heard-clause-work : goal.returns-in-Ok-heard-clause-work
 returns-in-Ok-heard-clause-work g c =
     let same : c.deref.result.now ≡ c.in-Ok-load_second.bytes.items = c.deref.ensures.value in
-    let ask = asked c.args.grammar.now.tiers c.args.grammar.now.constraints.items in
+    let ask = problem_from c.args.grammar.now.tiers c.args.grammar.now.constraints.items in
     let entries = c.in-Ok-lexicon_of.entries.items in
     hits_written c.args.grammar.now c.args.surface.now c.args.lexicon.now c.args.budget c.in-Ok.surface
     c.in-Ok.ensures.ok c.deref.result.now c.in-Ok-lexicon_of.entries.items c.in-Ok-lexicon_of.ensures.ok
@@ -64,4 +64,4 @@ returns-in-Ok-heard-clause-work g c =
     (subst (λ (es : List Entry). Puts g.O.Sink c.args.sink.now c.put_hits.new.sink
     (hits_text (names_of es) c.deref-in-Ok-heard-2.result.now) c.put_hits.result)
     c.deref-in-Ok-heard.ensures.value c.put_hits.ensures))
-    c.ended.result c.ended.ensures
+    c.write_status.result c.write_status.ensures

@@ -19,4 +19,4 @@ returns-in-Ok-shape-clause-step g c =
     c.in-Ok-shape.shape c.in-Ok-shape.ensures)
     (FindsForAnswer (value_of c.args.grammar.now) c.args.form.now c.args.budget)
     (made_ready c.args.grammar.now c.args.form.now c.args.budget c.in-Ok.answer c.in-Ok.ensures.ok)
-    c.put_answer.result c.put_answer.ensures c.ended.result c.ended.ensures
+    c.put_answer.result c.put_answer.ensures c.write_status.result c.write_status.ensures

@@ -39,4 +39,4 @@ returns-in-Ok-vector-clause-step g c =
     (c.deref-in-Ok-vector.ensures.value ∙ counts))
     (FindsForScore (value_of c.args.grammar.now) c.args.word.now)
     (is_scored c.args.grammar.now c.args.word.now c.in-Ok.timeline read)
-    c.put_counts.result c.put_counts.ensures c.ended.result c.ended.ensures
+    c.put_counts.result c.put_counts.ensures c.write_status.result c.write_status.ensures

@@ -14,4 +14,4 @@ returns-in-Ok-clause-step g c =
     (λ u. refl))
     (FindsForAnswer (value_of c.args.grammar.now) c.args.form.now c.args.budget)
     (made_ready c.args.grammar.now c.args.form.now c.args.budget c.in-Ok.answer c.in-Ok.ensures.ok)
-    c.put_shown.result c.put_shown.ensures c.ended.result c.ended.ensures
+    c.put_shown.result c.put_shown.ensures c.write_status.result c.write_status.ensures

@@ -7,10 +7,10 @@ use Rattle.otp_tool.proofs.sample_form.sample_word.Goals as goal
 pub loop-preserved : goal.loop-preserved
 loop-preserved c =
     let is = c.in_ok-push.ensures.bytes
-    ∙ ap (λ xs. string_bytes c.loop.word ++ xs) (c.in_ok-push.ensures.ascii c.letter_of.ensures.ascii) in record {
+    ∙ ap (λ xs. string_bytes c.loop.word ++ xs) (c.in_ok-push.ensures.ascii c.sample_letter.ensures.ascii) in record {
       word = word_next (string_bytes c.loop.word) (string_bytes c.push.new.self) (sample_word c.args.letters)
           (c.args.letters - c.loop.counter) (c.args.letters - (c.loop.counter + 1)) c.loop.number
-          c.next_number-number.result c.letter_of.result (omega (arith, c.loop-test.true))
-          c.next_number-number.ensures.value c.letter_of.ensures.value is c.loop.invariant.word;
+          c.next_number-number.result c.sample_letter.result (omega (arith, c.loop-test.true))
+          c.next_number-number.ensures.value c.sample_letter.ensures.value is c.loop.invariant.word;
       small = c.next_number-number.ensures.small;
     }

@@ -1,11 +1,11 @@
 use Rattle.std.proofs.Common.{List, ℕ, refl, ◌∙◌, subst}
 use Rattle.outside.specs.Writers.{Puts}
 use Rattle.grammar_reader.specs.Grammars.{value_of}
-use Rattle.violation.specs.Problems.{asked}
+use Rattle.violation.specs.Problems.{problem_from}
 use Rattle.otp_tool.specs.Findings.{FindsForAnswer}
 use Rattle.otp_tool.specs.Results.{IsSampleText}
 use Rattle.otp_tool.specs.Samples.{sample_text, sample_word}
-use Rattle.otp_tool.specs.Steps.{IsMade}
+use Rattle.otp_tool.specs.Steps.{IsAnswerFor}
 use Rattle.otp_tool.proofs.SampleLemmas.{text_is}
 use Rattle.otp_tool.proofs.StepLemmas.{made_ready, written}
 use Rattle.otp_tool.proofs.sampling.sample.Goals as goal
@@ -16,14 +16,15 @@ returns-in-Ok-summed_up-clause-step g c =
     let letters = c.args.letters in
     let answer = c.in-Ok-make_answer.answer in
     let summary = c.in-Ok-summed_up.summary in
-    let made = subst (λ (word : List ℕ). IsMade grammar.tiers grammar.constraints.items (value_of grammar) word 20000
+    let made = subst (λ (word : List ℕ). IsAnswerFor grammar.tiers grammar.constraints.items
+    (value_of grammar) word 20000
     answer) (c.as_str.ensures.value ∙ c.in-Ok.ensures) c.in-Ok-make_answer.ensures.ok in
     let puts = subst (λ (text : List ℕ). Puts g.O.Sink c.args.sink.now c.put_sample.new.sink text c.put_sample.result)
     (text_is letters answer summary.faultless c.as_bytes.result.now summary.pairs
     (c.as_bytes.ensures.value ∙ c.in-Ok.ensures) c.in-Ok-summed_up.ensures.pairs) c.put_sample.ensures in
     written (IsSampleText letters (value_of grammar)) (sample_text letters answer summary.faultless)
     (record {
-      problem = asked grammar.tiers grammar.constraints.items made.u;
+      problem = problem_from grammar.tiers grammar.constraints.items made.u;
       is_asked = made.is_asked;
       answer = answer;
       right = made.right;
@@ -34,4 +35,4 @@ returns-in-Ok-summed_up-clause-step g c =
     })
     (FindsForAnswer (value_of grammar) (sample_word letters) 20000)
     (made_ready grammar (sample_word letters) 20000 answer made)
-    c.put_sample.result puts c.ended.result c.ended.ensures
+    c.put_sample.result puts c.write_status.result c.write_status.ensures

@@ -19,4 +19,5 @@ returns-in-Ok-shape-clause-step g c =
     pass_written c.args.grammar.now c.args.form.now c.args.budget c.in-Ok.form c.in-Ok.ensures.ok
     c.in-Ok-once_for.answer c.in-Ok-once_for.ensures.right c.in-Ok-once_for.ensures.joined
     c.in-Ok-once_for.ensures.within
-    c.in-Ok-shape.shape c.in-Ok-shape.ensures c.put_once.result c.put_once.ensures c.ended.result c.ended.ensures
+    c.in-Ok-shape.shape c.in-Ok-shape.ensures c.put_once.result c.put_once.ensures c.write_status.result
+    c.write_status.ensures

@@ -1,7 +1,7 @@
 use Rattle.std.proofs.Common.{◌≤◌, List, length, All, sym, subst}
 use Rattle.tier_core.specs.declared.sym.Sym.{Sym}
 use Rattle.violation.specs.Candidates.{IsCandidate}
-use Rattle.violation.specs.Problems.{asked}
+use Rattle.violation.specs.Problems.{problem_from}
 use Rattle.tableau.specs.Tableaux.{IsTableauOf, names_seen}
 use Rattle.otp_tool.proofs.TableauLemmas.{candidates_for, few_columns, no_rows_made, not_within, right_for, tableau_for}
 use Rattle.otp_tool.proofs.tableaux.make_tableau.Goals as goal
@@ -23,7 +23,7 @@ tableau-requires-clause-right c = right_for c.args.grammar.now c.args.form.now c
 pub tableau-requires-clause-candidates : goal.tableau-requires-clause-candidates
 tableau-requires-clause-candidates c =
     subst (λ (rows : List (List (List Sym))). All
-    (IsCandidate (asked c.args.grammar.now.tiers c.args.grammar.now.constraints.items
+    (IsCandidate (problem_from c.args.grammar.now.tiers c.args.grammar.now.constraints.items
     c.in-Ok-answer_for.answer.form)) rows)
     (sym c.deref.ensures.value)
     (candidates_for c.args.grammar.now c.args.form.now c.in-Ok-answer_for.answer c.in-Ok-answer_for.ensures.right
@@ -41,7 +41,7 @@ returns-in-Ok-tableau-clause-ok c = record {
   is_tableau = tableau_for c.args.grammar.now c.args.form.now c.in-Ok-answer_for.answer c.in-Ok-answer_for.ensures.right
       c.in-Ok.rows.items c.in-Ok-tableau.made
       (subst (λ (rows : List (List (List Sym))). IsTableauOf (names_seen c.args.grammar.now.constraints.items)
-      (asked c.args.grammar.now.tiers c.args.grammar.now.constraints.items c.in-Ok-answer_for.answer.form) rows
+      (problem_from c.args.grammar.now.tiers c.args.grammar.now.constraints.items c.in-Ok-answer_for.answer.form) rows
       c.in-Ok-tableau.made)
       c.deref.ensures.value c.in-Ok-tableau.ensures);
   within = c.in-Ok-answer_for.ensures.within;

@@ -35,4 +35,4 @@ returns-in-Ok-make_tableau-clause-work g c =
     c.in-Ok-make_tableau.made c.in-Ok-make_tableau.ensures.ok
     g.F.Shelf g.O.Sink c.args.shelf.now c.load_second.new.shelf c.args.sink.now c.put_tableau.new.sink
     (subst (IsHeld (g.F.Shelf.held c.args.shelf.now c.args.rows.now)) (sym same) c.in-Ok-load_second.ensures.ok)
-    c.put_tableau.result c.put_tableau.ensures c.ended.result c.ended.ensures
+    c.put_tableau.result c.put_tableau.ensures c.write_status.result c.write_status.ensures

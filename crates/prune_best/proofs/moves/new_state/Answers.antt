@@ -4,13 +4,13 @@ use Rattle.distances.proofs.Ends.{fits_each}
 use Rattle.distances.proofs.Shortest.{witnessed_from_least}
 use Rattle.prune_best.proofs.moves.new_state.Goals as goal
 
-pub kept_moves-requires-clause-targets : goal.kept_moves-requires-clause-targets
-kept_moves-requires-clause-targets g c =
+pub tight_moves-requires-clause-targets : goal.tight_moves-requires-clause-targets
+tight_moves-requires-clause-targets g c =
     rw c.arcs.ensures (targets_each c.args.table.now.states.items c.args.table.now.targets
     (length c.args.least.now) c.requires.least.each_state c.args.state)
 
-pub kept_moves-requires-clause-sizes : goal.kept_moves-requires-clause-sizes
-kept_moves-requires-clause-sizes g c =
+pub tight_moves-requires-clause-sizes : goal.tight_moves-requires-clause-sizes
+tight_moves-requires-clause-sizes g c =
     let laws = g.met.W.Weight.laws in
     let states = c.args.table.now.states.items in
     let exist = c.args.table.now.targets in

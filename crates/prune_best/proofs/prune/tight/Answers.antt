@@ -14,7 +14,7 @@ making-init g c =
     record {
       same = made.same ∙ full;
       numbered = made.numbered;
-      so_far = so_far-start c.args.table.now.states.items c.args.least.now c.number_of.new.names.items
+      so_far = so_far-start c.args.table.now.states.items c.args.least.now c.number_state.new.names.items
           c.in_ok-_start._start c.new-states.result.items c.new-states.ensures.items
           (rw c.new-names.ensures.items at made.grows) c.requires.start;
     }

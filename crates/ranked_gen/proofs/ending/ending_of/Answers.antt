@@ -2,7 +2,7 @@ use Rattle.std.proofs.Common.{ℕ, List, length, subst}
 use Rattle.arc_table.specs.States.{states_of}
 use Rattle.kind_moves.specs.Frames.{problem_in}
 use Rattle.kind_orders.specs.Orderings.{IsOrdering, AreRanks}
-use Rattle.kind_orders.specs.AutomatonLines.{nodes_of}
+use Rattle.kind_orders.specs.AutomatonLines.{state_nodes}
 use Rattle.kind_orders.specs.Automata.{IsAutomatonOf}
 use Rattle.ranked_gen.proofs.EndStage.{right_automaton}
 use Rattle.ranked_gen.proofs.RankedSteps.{some_left, first_optimal}
@@ -36,9 +36,9 @@ returns-clause-automaton c = λ nodes part.
     (λ (ns : List ℕ). IsOrdering (length ns) places) c.deref.ensures.value c.in_ok-places.ensures.numbers in
     let told : AreRanks order places = subst
     (λ ns. AreRanks ns places) c.deref.ensures.value c.in_ok-places.ensures.told in
-    let automaton : IsAutomatonOf (states_of table) (nodes_of places states) lines =
-    subst (λ ns. IsAutomatonOf (states_of table) (nodes_of ns states) lines) c.deref-3.ensures.value
+    let automaton : IsAutomatonOf (states_of table) (state_nodes places states) lines =
+    subst (λ ns. IsAutomatonOf (states_of table) (state_nodes ns states) lines) c.deref-3.ensures.value
     (subst (λ ns. IsAutomatonOf (states_of table)
-    (nodes_of c.deref-3.result.now ns) lines) c.deref-2.ensures.value c.in_ok-automaton.ensures.automaton) in
+    (state_nodes c.deref-3.result.now ns) lines) c.deref-2.ensures.value c.in_ok-automaton.ensures.automaton) in
     right_automaton (problem_in c.args.frame.now) nodes
     (states_of table) table.filled table.some states order places part numbers told lines automaton

@@ -17,9 +17,9 @@ returns-in-Err-clause-over c = λ stage e.
 
 pub returns-in-Ok-clause-joined : goal.returns-in-Ok-clause-joined
 returns-in-Ok-clause-joined c =
-    kept_by_map_err c.answered.result c.map_err.result
+    kept_by_map_err c.whole_answer.result c.map_err.result
     (λ (answer : Answer). HaveJoinedArcs answer.automaton.states.items) _ c.map_err.ensures.cases
-    c.map_err.ensures.variant c.answered.ensures.joined
+    c.map_err.ensures.variant c.whole_answer.ensures.joined
 
 pub returns-in-Ok-clause-listed : goal.returns-in-Ok-clause-listed
 returns-in-Ok-clause-listed c =
@@ -29,5 +29,5 @@ returns-in-Ok-clause-listed c =
 
 pub returns-in-Ok-clause-fitting : goal.returns-in-Ok-clause-fitting
 returns-in-Ok-clause-fitting c =
-    kept_by_map_err c.answered.result c.map_err.result (HaveFittingKinds (problem_in c.args.frame.now)) _
-    c.map_err.ensures.cases c.map_err.ensures.variant c.answered.ensures.fitting
+    kept_by_map_err c.whole_answer.result c.map_err.result (HaveFittingKinds (problem_in c.args.frame.now)) _
+    c.map_err.ensures.cases c.map_err.ensures.variant c.whole_answer.ensures.fitting

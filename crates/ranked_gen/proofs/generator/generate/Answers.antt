@@ -6,12 +6,12 @@ use Rattle.ranked_gen.specs.Listed.{kind_count}
 use Rattle.ranked_gen.proofs.NumberedKinds.{free_distinct}
 use Rattle.ranked_gen.proofs.StageKinds.{counted_kinds, first_over}
 use Rattle.ranked_gen.proofs.generator.generate.Goals as goal
-use Rattle.violation.specs.Problems.{asked}
+use Rattle.violation.specs.Problems.{problem_from}
 
 pub returns-then-kinds-budget-clause-over : goal.returns-then-kinds-budget-clause-over
 returns-then-kinds-budget-clause-over c = λ stage e.
     let g = c.args.grammar.now in
-    let problem = asked g.tiers g.constraints.items c.args.form.now in
+    let problem = problem_from g.tiers g.constraints.items c.args.form.now in
     let first : 0 ≡ stage = cc in
     let counted : c.count_kinds-kinds.result ≡ kind_count problem =
     counted_kinds _ _ _ (length problem.form) (length problem.tiers.free) c.count_kinds-kinds.ensures (omega arith)
@@ -26,10 +26,10 @@ returns-in-Ok-clause-within c =
     let made = c.in-Ok.ensures in
     let g = c.args.grammar.now in
     subst (λ u. IfOk c.answer_in.result (λ answer. AreAllWithin
-    (asked g.tiers g.constraints.items u) c.args.budget)) made.form
+    (problem_from g.tiers g.constraints.items u) c.args.budget)) made.form
     (subst (λ g. IfOk c.answer_in.result
     (λ answer. AreAllWithin
-    (asked g.tiers g.constraints.items c.in-Ok.frame.form.now) c.args.budget)) made.grammar
+    (problem_from g.tiers g.constraints.items c.in-Ok.frame.form.now) c.args.budget)) made.grammar
     c.answer_in.ensures.within)
 
 pub returns-in-Ok-clause-listed : goal.returns-in-Ok-clause-listed
@@ -37,25 +37,25 @@ returns-in-Ok-clause-listed c =
     let made = c.in-Ok.ensures in
     let g = c.args.grammar.now in
     subst (λ u. IfOk c.answer_in.result (λ answer. HaveFewKinds
-    (asked g.tiers g.constraints.items u) c.args.budget)) made.form
+    (problem_from g.tiers g.constraints.items u) c.args.budget)) made.form
     (subst (λ g. IfOk c.answer_in.result
     (λ answer. HaveFewKinds
-    (asked g.tiers g.constraints.items c.in-Ok.frame.form.now) c.args.budget)) made.grammar
+    (problem_from g.tiers g.constraints.items c.in-Ok.frame.form.now) c.args.budget)) made.grammar
     c.answer_in.ensures.listed)
 
 pub returns-in-Ok-clause-over : goal.returns-in-Ok-clause-over
 returns-in-Ok-clause-over c = λ stage e.
     let made = c.in-Ok.ensures in
     let g = c.args.grammar.now in
-    subst (λ u. IsFirstOver (asked g.tiers g.constraints.items u) c.args.budget stage) made.form
+    subst (λ u. IsFirstOver (problem_from g.tiers g.constraints.items u) c.args.budget stage) made.form
     (subst (λ g. IsFirstOver
-    (asked g.tiers g.constraints.items c.in-Ok.frame.form.now) c.args.budget stage) made.grammar
+    (problem_from g.tiers g.constraints.items c.in-Ok.frame.form.now) c.args.budget stage) made.grammar
     (c.answer_in.ensures.over stage e))
 
 pub returns-in-Ok-clause-fitting : goal.returns-in-Ok-clause-fitting
 returns-in-Ok-clause-fitting c =
     let made = c.in-Ok.ensures in
     let g = c.args.grammar.now in
-    subst (λ u. IfOk c.answer_in.result (HaveFittingKinds (asked g.tiers g.constraints.items u))) made.form
+    subst (λ u. IfOk c.answer_in.result (HaveFittingKinds (problem_from g.tiers g.constraints.items u))) made.form
     (subst (λ g. IfOk c.answer_in.result (HaveFittingKinds
-    (asked g.tiers g.constraints.items c.in-Ok.frame.form.now))) made.grammar c.answer_in.ensures.fitting)
+    (problem_from g.tiers g.constraints.items c.in-Ok.frame.form.now))) made.grammar c.answer_in.ensures.fitting)

@@ -1,5 +1,5 @@
 use Rattle.std.proofs.Common.{◌≡◌, length, IfOk, subst, sym, ◌∙◌, arith}
-use Rattle.violation.specs.Problems.{asked}
+use Rattle.violation.specs.Problems.{problem_from}
 use Rattle.violation.specs.Rests.{AreWholeKindsWithin}
 use Rattle.violation.proofs.SplitLemmas.{tiers_split}
 use Rattle.ranked_gen.specs.FittingKinds.{HaveFittingKindsOnce}
@@ -12,7 +12,7 @@ use Rattle.ranked_gen.proofs.once.generate_once.Goals as goal
 pub returns-then-kinds-budget-clause-over : goal.returns-then-kinds-budget-clause-over
 returns-then-kinds-budget-clause-over c = λ stage e.
     let g = c.args.grammar.now in
-    let problem = asked g.tiers g.constraints.items c.args.form.now in
+    let problem = problem_from g.tiers g.constraints.items c.args.form.now in
     let same : c.len-stage.result ≡ stage = cc in
     let number : c.len-stage.result ≡ length g.constraints.items = omega
     (arith, c.len-stage.ensures, g.constraints.ok) in
@@ -29,15 +29,15 @@ returns-in-Ok-clause-within c =
     let made = c.in-Ok.ensures in
     let g = c.args.grammar.now in
     subst (λ u. IfOk c.once_in.result (λ answer. AreWholeKindsWithin
-    (asked g.tiers g.constraints.items u) c.args.budget)) made.form
+    (problem_from g.tiers g.constraints.items u) c.args.budget)) made.form
     (subst (λ g. IfOk c.once_in.result (λ answer. AreWholeKindsWithin
-    (asked g.tiers g.constraints.items c.in-Ok.frame.form.now) c.args.budget)) made.grammar
+    (problem_from g.tiers g.constraints.items c.in-Ok.frame.form.now) c.args.budget)) made.grammar
     c.once_in.ensures.within)
 
 pub returns-in-Ok-clause-fitting : goal.returns-in-Ok-clause-fitting
 returns-in-Ok-clause-fitting c =
     let made = c.in-Ok.ensures in
     let g = c.args.grammar.now in
-    subst (λ u. IfOk c.once_in.result (HaveFittingKindsOnce (asked g.tiers g.constraints.items u))) made.form
+    subst (λ u. IfOk c.once_in.result (HaveFittingKindsOnce (problem_from g.tiers g.constraints.items u))) made.form
     (subst (λ g. IfOk c.once_in.result (HaveFittingKindsOnce
-    (asked g.tiers g.constraints.items c.in-Ok.frame.form.now))) made.grammar c.once_in.ensures.fitting)
+    (problem_from g.tiers g.constraints.items c.in-Ok.frame.form.now))) made.grammar c.once_in.ensures.fitting)

@@ -10,8 +10,8 @@ use Rattle.kind_orders.specs.JoinedArcs.{HaveJoinedArcs}
 use Rattle.ranked_gen.proofs.MappedErrors.{kept_by_map_err}
 use Rattle.ranked_gen.proofs.once.once_in.Goals as goal
 
-pub once_answered-requires : goal.once_answered-requires
-once_answered-requires c =
+pub once_answer-requires : goal.once_answer-requires
+once_answer-requires c =
     let frame = c.args.frame.now in
     let found = c.in-Ok.found in
     let number : c.len-stage.result ≡ last_stage (problem_in frame) = omega
@@ -43,11 +43,11 @@ returns-in-Err-OverBudget-clause-over c = λ stage e.
 
 pub returns-in-Ok-clause-joined : goal.returns-in-Ok-clause-joined
 returns-in-Ok-clause-joined c =
-    kept_by_map_err c.once_answered.result c.map_err.result
+    kept_by_map_err c.once_answer.result c.map_err.result
     (λ (answer : OnceAnswer). HaveJoinedArcs answer.automaton.states.items) _ c.map_err.ensures.cases
-    c.map_err.ensures.variant c.once_answered.ensures.joined
+    c.map_err.ensures.variant c.once_answer.ensures.joined
 
 pub returns-in-Ok-clause-fitting : goal.returns-in-Ok-clause-fitting
 returns-in-Ok-clause-fitting c =
-    kept_by_map_err c.once_answered.result c.map_err.result (HaveFittingKindsOnce (problem_in c.args.frame.now)) _
-    c.map_err.ensures.cases c.map_err.ensures.variant c.once_answered.ensures.fitting
+    kept_by_map_err c.once_answer.result c.map_err.result (HaveFittingKindsOnce (problem_in c.args.frame.now)) _
+    c.map_err.ensures.cases c.map_err.ensures.variant c.once_answer.ensures.fitting

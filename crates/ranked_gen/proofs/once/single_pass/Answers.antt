@@ -1,4 +1,5 @@
-use Rattle.std.proofs.Common.{◌≡◌, ◌<◌, ◌≤◌, List, Option, None, map, take, length, get_or, refl, ap, sym, ◌∙◌, subst, arith}
+use Rattle.std.proofs.Common.{◌≡◌, ◌<◌, ◌≤◌, List, Option, None, map, take, length, get_or, refl, ap, sym, ◌∙◌, subst}
+use Rattle.std.proofs.Common.{arith}
 use Rattle.std.specs.Prelude.{IsSome}
 use Rattle.std.proofs.lemmas.List.{get_or_default}
 use Rattle.arc_table.specs.States.{states_of}
@@ -9,7 +10,7 @@ use Rattle.kind_moves.specs.Frames.{problem_in}
 use Rattle.kind_tables.proofs.VectorWeights.{vectors_fit}
 use Rattle.stage_laws.proofs.Resting.{some_weight}
 use Rattle.stage_tables.specs.Explored.{names_at}
-use Rattle.kind_orders.specs.KindOrders.{AreFound, IsKindOrder}
+use Rattle.kind_orders.specs.KindOrders.{AreDistinctKinds, IsKindOrder}
 use Rattle.ranked_gen.specs.Once.{weight_found, once_node}
 use Rattle.ranked_gen.proofs.StageShapes.{kinds_found}
 use Rattle.ranked_gen.proofs.OnceSteps.{once_part}
@@ -22,16 +23,16 @@ to_final-requires c =
     vectors_fit problem refl (names_at c.args.frame.now (last_stage problem) c.args.found.now.kinds.items)
     (states_of table) c.in_ok-table.ensures 4294967295 (omega (arith, table.few))
 
-pub ordered-requires-clause-found : goal.ordered-requires-clause-found
-ordered-requires-clause-found c =
+pub order_of_kinds-requires-clause-found : goal.order_of_kinds-requires-clause-found
+order_of_kinds-requires-clause-found c =
     let frame = c.args.frame.now in
     let kinds = c.args.found.now.kinds.items in
     let shape = frame.shape in
     let number : c.len-number.result ≡ last_stage (problem_in frame) = omega
     (arith, c.len-number.ensures, frame.grammar.now.constraints.ok) in
     let all : last_stage (problem_in frame) ≤ last_stage (problem_in frame) = omega arith in
-    subst (λ (ks : List Kind). AreFound shape c.len-number.result ks) (sym c.deref.ensures.value)
-    (subst (λ n. AreFound shape n kinds) (sym number)
+    subst (λ (ks : List Kind). AreDistinctKinds shape c.len-number.result ks) (sym c.deref.ensures.value)
+    (subst (λ n. AreDistinctKinds shape n kinds) (sym number)
     (kinds_found frame shape frame.shape_of
     (last_stage (problem_in frame)) all kinds c.requires.fit c.requires.named.distinct))
 

@@ -4,13 +4,13 @@ use Rattle.ranked_gen.proofs.FirstStage.{zero_table, zero_within, zero_over}
 use Rattle.ranked_gen.proofs.StageKinds.{whatever_ok}
 use Rattle.ranked_gen.proofs.staged.first_stage.Goals as goal
 
-pub pruned-requires-clause-table : goal.pruned-requires-clause-table
-pruned-requires-clause-table c =
+pub prune-requires-clause-table : goal.prune-requires-clause-table
+prune-requires-clause-table c =
     rw c.deref.ensures.value
     (zero_table c.args.frame.now c.in-Ok.found.kinds.items (states_of c.in-Ok.found.table) c.in-Ok.ensures.complete)
 
-pub pruned-requires-clause-fit : goal.pruned-requires-clause-fit
-pruned-requires-clause-fit c = rw c.deref.ensures.value c.in-Ok.ensures.complete.fit
+pub prune-requires-clause-fit : goal.prune-requires-clause-fit
+prune-requires-clause-fit c = rw c.deref.ensures.value c.in-Ok.ensures.complete.fit
 
 pub returns-in-Ok-clause-within : goal.returns-in-Ok-clause-within
 returns-in-Ok-clause-within c =

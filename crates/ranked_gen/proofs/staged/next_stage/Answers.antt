@@ -17,8 +17,8 @@ weigh-requires-clause-fit c =
     (left_same c.args.frame.now (c.args.stage - 1) c.args.stage (c.has_new_phase.ensures.0 c.if-not-has_new_phase.true)
     (states_of c.args.kept) c.args.kinds.now c.requires.kinds).fit
 
-pub pruned-requires-clause-table : goal.pruned-requires-clause-table
-pruned-requires-clause-table c =
+pub prune-requires-clause-table : goal.prune-requires-clause-table
+prune-requires-clause-table c =
     stage_table c.args.frame.now c.args.stage c.requires.some c.requires.within
     (states_of c.args.kept) c.requires.accepts c.args.kinds.now (states_of c.in-Ok.table) c.in-Ok.ensures
 
@@ -29,15 +29,15 @@ returns-then-not-has_new_phase-clause-within c =
     (states_of c.args.kept) c.requires.accepts c.args.kinds.now
     (states_of c.in-Ok.table) c.args.budget c.in-Ok.ensures c.requires.few_kinds)
 
-pub pruned-requires-in-Ok-explore-clause-table : goal.pruned-requires-in-Ok-explore-clause-table
-pruned-requires-in-Ok-explore-clause-table c =
+pub prune-requires-in-Ok-explore-clause-table : goal.prune-requires-in-Ok-explore-clause-table
+prune-requires-in-Ok-explore-clause-table c =
     rw c.deref.ensures.value
     (stage_table c.args.frame.now c.args.stage c.requires.some c.requires.within
     (states_of c.args.kept) c.requires.accepts c.in-Ok-explore.found.kinds.items
     (states_of c.in-Ok-explore.found.table) c.in-Ok-explore.ensures.explored)
 
-pub pruned-requires-in-Ok-explore-clause-fit : goal.pruned-requires-in-Ok-explore-clause-fit
-pruned-requires-in-Ok-explore-clause-fit c = rw c.deref.ensures.value c.in-Ok-explore.ensures.explored.fit
+pub prune-requires-in-Ok-explore-clause-fit : goal.prune-requires-in-Ok-explore-clause-fit
+prune-requires-in-Ok-explore-clause-fit c = rw c.deref.ensures.value c.in-Ok-explore.ensures.explored.fit
 
 pub returns-in-Ok-explore-clause-within : goal.returns-in-Ok-explore-clause-within
 returns-in-Ok-explore-clause-within c =

@@ -9,7 +9,8 @@ use Rattle.stage_tables.proofs.listed.number_of.Goals.{In-Ok}
 
 -- no two kinds are the same after one is inserted
 inserted_apart : (c : In-Ok) → AreApart c.insert_full.new.self.entries
-inserted_apart c = AllPairs-from_IsDistinct kind_eq-Decides (keys_of c.insert_full.new.self.entries) c.in-Ok.ensures.unique
+inserted_apart c = AllPairs-from_IsDistinct kind_eq-Decides
+    (keys_of c.insert_full.new.self.entries) c.in-Ok.ensures.unique
 
 -- and the one that is inserted is numbered
 inserted : (c : In-Ok) → IsNumbered c.args.listed.now.kinds.entries c.insert_full.new.self.entries c.in-Ok.found.0
@@ -26,12 +27,14 @@ returns-in-Some-clause-numbered c =
     }
 
 pub returns-then-number-budget-clause-over_apart : goal.returns-then-number-budget-clause-over_apart
-returns-then-number-budget-clause-over_apart c over = inserted_apart (goal.at.returns-then-number-budget-clause-over_apart c).In-Ok
+returns-then-number-budget-clause-over_apart c over = inserted_apart
+    (goal.at.returns-then-number-budget-clause-over_apart c).In-Ok
 
 pub returns-then-number-budget-clause-over_put : goal.returns-then-number-budget-clause-over_put
 returns-then-number-budget-clause-over_put c over =
     put_beyond c.args.listed.now.kinds.entries c.insert_full.new.self.entries c.in-Ok.found.0 c.args.kind c.args.state
-    c.args.budget (inserted (goal.at.returns-then-number-budget-clause-over_put c).In-Ok) c.requires.few c.if-number-budget.true
+    c.args.budget
+    (inserted (goal.at.returns-then-number-budget-clause-over_put c).In-Ok) c.requires.few c.if-number-budget.true
 
 pub returns-clause-apart : goal.returns-clause-apart
 returns-clause-apart c = rw c.keep_at_hand.ensures (inserted_apart (goal.at.returns-clause-apart c).In-Ok)
@@ -42,5 +45,6 @@ returns-clause-numbered c = rw c.keep_at_hand.ensures (inserted (goal.at.returns
 pub returns-clause-few : goal.returns-clause-few
 returns-clause-few c =
     rw c.keep_at_hand.ensures
-    (few_numbered c.args.listed.now.kinds.entries c.insert_full.new.self.entries c.in-Ok.found.0 c.args.kind c.args.state
+    (few_numbered c.args.listed.now.kinds.entries c.insert_full.new.self.entries c.in-Ok.found.0 c.args.kind
+    c.args.state
     c.args.budget (inserted (goal.at.returns-clause-few c).In-Ok) c.requires.few c.if-number-budget.false)

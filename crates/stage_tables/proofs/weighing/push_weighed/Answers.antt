@@ -10,7 +10,7 @@ returns-in-Nothing c =
     on_ok_weaker c.push_moves.result
     (whole_weighed (λ column. once_if (differs c.args.test.now column)) c.args.arc.now 0 c.args.moves.now.items
     c.push_moves.new.moves.items c.requires.filled
-    (λ column held. sym (ap once_if (c.shared.ensures.nothing c.in-Nothing.is column held))))
+    (λ column held. sym (ap once_if (c.share_of.ensures.nothing c.in-Nothing.is column held))))
     c.push_moves.ensures
 
 pub returns-in-Everything : goal.returns-in-Everything
@@ -18,5 +18,5 @@ returns-in-Everything c =
     on_ok_weaker c.push_moves-in-Everything.result
     (whole_weighed (λ column. once_if (differs c.args.test.now column)) c.args.arc.now 1 c.args.moves.now.items
     c.push_moves-in-Everything.new.moves.items c.requires.filled
-    (λ column held. sym (ap once_if (c.shared.ensures.everything c.in-Everything.is column held))))
+    (λ column held. sym (ap once_if (c.share_of.ensures.everything c.in-Everything.is column held))))
     c.push_moves-in-Everything.ensures

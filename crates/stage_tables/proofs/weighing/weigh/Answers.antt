@@ -1,6 +1,7 @@
 use Rattle.arc_table.specs.States.{states_of}
 use Rattle.stage_tables.specs.Weighing.{cost_from}
-use Rattle.stage_tables.proofs.WeighedTables.{weighed_targets, weighed_filled, weighed_width, weighed_disjoint, is_explored}
+use Rattle.stage_tables.proofs.WeighedTables.{weighed_targets, weighed_filled, weighed_width, weighed_disjoint}
+use Rattle.stage_tables.proofs.WeighedTables.{is_explored}
 use Rattle.stage_tables.proofs.weighing.weigh.Goals as goal
 
 pub of_states-requires-clause-targets : goal.of_states-requires-clause-targets

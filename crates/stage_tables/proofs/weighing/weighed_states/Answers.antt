@@ -10,8 +10,8 @@ use Rattle.stage_tables.proofs.WeighedMoves.{same_weighed, no_states, next_state
 use Rattle.stage_tables.proofs.WeighedTables.{kind_count, arc_wide, test_costs}
 use Rattle.stage_tables.proofs.weighing.weighed_states.Goals as goal
 
-pub costing-test-requires-clause-fits : goal.costing-test-requires-clause-fits
-costing-test-requires-clause-fits c =
+pub cost_test-test-requires-clause-fits : goal.cost_test-test-requires-clause-fits
+cost_test-test-requires-clause-fits c =
     let count = kind_count c.args.frame.now c.args.stage (states_of c.args.kept.now) c.args.kinds.now c.requires.kept in
     let kind = c.index-kinds-state.result in
     subst (FitsFrame c.args.frame.now c.args.stage) (sym c.index-kinds-state.is)
@@ -24,7 +24,7 @@ weighed_moves-requires-clause-width c =
     rw c.arcs.ensures (λ k d l.
     arc_wide c.args.frame.now c.args.stage kept c.args.kinds.now c.requires.kept c.loop-state.state
     (get_or (moves_at kept c.loop-state.state) k d) (Contains-get_or (moves_at kept c.loop-state.state) k d l)
-    ∙ sym c.costing-test.ensures.width)
+    ∙ sym c.cost_test-test.ensures.width)
 
 pub weighed_moves-requires-clause-filled : goal.weighed_moves-requires-clause-filled
 weighed_moves-requires-clause-filled c =
@@ -46,7 +46,7 @@ loop-state-preserved c =
     let kept = states_of c.args.kept.now in
     let kinds = c.args.kinds.now in
     let n = c.loop-state.state in
-    let test = c.costing-test.result in
+    let test = c.cost_test-test.result in
     let arcs = c.in_ok-arcs.arcs.items in
     let l : n < length kept = omega (arith, c.loop-state-test.true, c.len-state-end.ensures) in
     let made : AreWeighedMoves (λ column. once_if (differs test column)) (moves_at kept n) arcs = subst
@@ -54,7 +54,7 @@ loop-state-preserved c =
     let moves = same_weighed (λ column. once_if (differs test column)) (cost_from frame stage kinds n)
     (moves_at kept n) arcs
     (test_costs frame stage kept kinds c.requires.kept n c.index-kinds-state.result test l c.index-kinds-state.is
-    c.costing-test.ensures.columns) made in
+    c.cost_test-test.ensures.columns) made in
     record {
       made = rw c.in_ok-push.ensures.items
           (next_state (cost_from frame stage kinds) kept c.loop-state.states.items n _ c.loop-state.invariant.made

@@ -15,11 +15,11 @@ loop-test-preserved c =
     record {
       within = omega (arith, c.loop-test-test.true);
       so_far = split_more width class c.args.tests.now c.loop-test.test-index c.loop-test.inside.items
-          c.loop-test.outside.items test c.parted.new.inside.items c.in_ok-outside.outside.items
+          c.loop-test.outside.items test c.divide.new.inside.items c.in_ok-outside.outside.items
           c.loop-test.invariant.so_far c.loop-test-test.true c.test-item.is
-          (subst (λ (xs : List Class). AddsClasses width c.loop-test.inside.items c.parted.new.inside.items
+          (subst (λ (xs : List Class). AddsClasses width c.loop-test.inside.items c.divide.new.inside.items
           (times_in test xs)) c.deref.ensures.value
-          (subst (λ (n : ℕ). AddsClasses n c.loop-test.inside.items c.parted.new.inside.items
+          (subst (λ (n : ℕ). AddsClasses n c.loop-test.inside.items c.divide.new.inside.items
           (times_in test c.deref.result.now)) wide c.in_ok-outside.ensures.inside))
           (subst (λ (xs : List Class). AddsClasses width [] c.in_ok-outside.outside.items
           (times_out test xs)) c.deref.ensures.value

@@ -10,12 +10,12 @@ use Rattle.tableau.specs.Tableaux.{IsTableauRow}
 use Rattle.tableau.proofs.Comparing.{compared_row}
 use Rattle.grammar_reader.proofs.OverTiers.{all_countable}
 use Rattle.tableau.proofs.make.rows_of.Goals as goal
-use Rattle.violation.specs.Problems.{asked}
+use Rattle.violation.specs.Problems.{problem_from}
 
-pub compared-requires-clause-countable : goal.compared-requires-clause-countable
-compared-requires-clause-countable c =
+pub compared_row-requires-clause-countable : goal.compared_row-requires-clause-countable
+compared_row-requires-clause-countable c =
     let candidate = subst
-    (IsCandidate (asked c.args.grammar.now.tiers c.args.grammar.now.constraints.items c.args.answer.now.form))
+    (IsCandidate (problem_from c.args.grammar.now.tiers c.args.grammar.now.constraints.items c.args.answer.now.form))
     (sym c.timeline-item.is)
     (c.requires.candidates c.loop-timeline.timeline-index c.timeline-item.result c.loop-timeline-test.true) in
     subst (λ (cs : List Constraint). All (λ k. IsCountable k.left k.right c.timeline-item.result) cs)
@@ -25,7 +25,7 @@ compared-requires-clause-countable c =
 pub loop-timeline-preserved : goal.loop-timeline-preserved
 loop-timeline-preserved c =
     let candidate = subst
-    (IsCandidate (asked c.args.grammar.now.tiers c.args.grammar.now.constraints.items c.args.answer.now.form))
+    (IsCandidate (problem_from c.args.grammar.now.tiers c.args.grammar.now.constraints.items c.args.answer.now.form))
     (sym c.timeline-item.is)
     (c.requires.candidates c.loop-timeline.timeline-index c.timeline-item.result c.loop-timeline-test.true) in
     let pushed : c.push-in-loop-timeline.new.self.items ≡ c.loop-timeline.rows.items
@@ -37,7 +37,7 @@ loop-timeline-preserved c =
     (least : List ℕ). IsCompared c.deref.result.now least c.timeline-item.result c.in_ok-row.row)
     c.deref-in-loop-timeline.ensures.value c.in_ok-row.ensures) in
     let row = compared_row
-    (asked c.args.grammar.now.tiers c.args.grammar.now.constraints.items c.args.answer.now.form)
+    (problem_from c.args.grammar.now.tiers c.args.grammar.now.constraints.items c.args.answer.now.form)
     c.args.answer.now.counts.items c.requires.right.counts c.timeline-item.result c.in_ok-row.row candidate
     compared in
     record {
@@ -51,11 +51,11 @@ loop-timeline-preserved c =
           c.loop-timeline-test.true));
       each = subst (λ (rs : List TableauRow). All
           (IsTableauRow
-          (asked c.args.grammar.now.tiers c.args.grammar.now.constraints.items c.args.answer.now.form)
+          (problem_from c.args.grammar.now.tiers c.args.grammar.now.constraints.items c.args.answer.now.form)
           c.args.answer.now.counts.items) rs) (sym pushed)
           (All-push
           (IsTableauRow
-          (asked c.args.grammar.now.tiers c.args.grammar.now.constraints.items c.args.answer.now.form)
+          (problem_from c.args.grammar.now.tiers c.args.grammar.now.constraints.items c.args.answer.now.form)
           c.args.answer.now.counts.items) c.loop-timeline.rows.items c.in_ok-row.row
           c.loop-timeline.invariant.each row);
     }

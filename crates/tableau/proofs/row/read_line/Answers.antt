@@ -5,7 +5,7 @@ use Rattle.tier_core.specs.declared.sym.Sym.{Sym}
 use Rattle.tableau.specs.Rows.{AreRowsOf}
 use Rattle.tableau.proofs.RowLemmas.{refused_line, row_line}
 use Rattle.tableau.proofs.row.read_line.Goals as goal
-use Rattle.violation.specs.Problems.{asked}
+use Rattle.violation.specs.Problems.{problem_from}
 
 pub returns-in_err-row-clause-err : goal.returns-in_err-row-clause-err
 returns-in_err-row-clause-err c =
@@ -13,7 +13,7 @@ returns-in_err-row-clause-err c =
     let before : c.len.result ≡ length c.args.rows.now.items = search rules in
     rw (p.1, p.2) (λ front behind counted a.
     refused_line
-    (asked c.args.grammar.now.tiers c.args.grammar.now.constraints.items c.args.form.now) front c.args.line.now
+    (problem_from c.args.grammar.now.tiers c.args.grammar.now.constraints.items c.args.form.now) front c.args.line.now
     behind c.args.rows.now.items c.args.number c.len.result c.in_err-row.field-0.0
     (sym c.is_blank.ensures ∙ c.if-is_blank.false) counted before a c.in_err-row.ensures.err)
 
@@ -24,9 +24,9 @@ returns-clause-ok c =
     let pushed : c.push.new.self.items ≡ c.args.rows.now.items ++ c.in_ok-row.row ∷ [] = search rules in
     λ front a.
     subst (λ (rows : List (List (List Sym))). AreRowsOf
-    (asked c.args.grammar.now.tiers c.args.grammar.now.constraints.items c.args.form.now)
+    (problem_from c.args.grammar.now.tiers c.args.grammar.now.constraints.items c.args.form.now)
     (front ++ c.args.line.now ∷ []) rows) (sym pushed)
     (row_line
-    (asked c.args.grammar.now.tiers c.args.grammar.now.constraints.items c.args.form.now) front c.args.line.now
+    (problem_from c.args.grammar.now.tiers c.args.grammar.now.constraints.items c.args.form.now) front c.args.line.now
     c.args.rows.now.items c.in_ok-row.row
     (sym c.is_blank.ensures ∙ c.if-is_blank.false) few c.in_ok-row.ensures.ok a)

@@ -2,9 +2,9 @@ use Rattle.std.proofs.Common.{◌≡◌, ℕ, ◌<◌, List, length, None, subst
 use Rattle.std.specs.List.{AllByRecursion}
 use Rattle.tier_core.specs.declared.sym.Sym.{Sym}
 use Rattle.tier_core.specs.Words.{IsWellFormedWord}
-use Rattle.tier_core.specs.Timelines.{word}
+use Rattle.tier_core.specs.Timelines.{tier_word}
 use Rattle.timeline_text.specs.Texts.{IsTextOf}
-use Rattle.timeline_text.specs.Causes.{pieces_of, columns_of, no_edge, wrong_width}
+use Rattle.timeline_text.specs.Causes.{spaced_pieces, columns_of, no_edge, wrong_width}
 use Rattle.timeline_text.proofs.Searches.{none_any}
 use Rattle.timeline_text.proofs.Forms.{widths_from}
 use Rattle.timeline_text.proofs.Deciding.{no_cause}
@@ -14,13 +14,13 @@ pub ill_formed-requires : goal.ill_formed-requires
 ill_formed-requires c =
     let w : wrong_width c.args.width c.args.bytes.now ≡ None = cc in
     subst (AllByRecursion (λ (column : List Sym). length column ≡ c.args.width)) (sym c.in_ok-timeline.ensures)
-    (widths_from c.args.width (pieces_of c.args.bytes.now) (none_any _ (pieces_of c.args.bytes.now) w))
+    (widths_from c.args.width (spaced_pieces c.args.bytes.now) (none_any _ (spaced_pieces c.args.bytes.now) w))
 
 pub returns-clause-ok : goal.returns-clause-ok
 returns-clause-ok c =
     let e : no_edge (columns_of c.args.bytes.now) ≡ None = sym (ap no_edge c.in_ok-timeline.ensures)
     ∙ sym c.no_edge.ensures ∙ c.in_default-no_edge.is in
     let tiers = subst (λ (T : List (List Sym)). (t : ℕ) → t < c.args.width
-    → IsWellFormedWord (word T t)) c.in_ok-timeline.ensures c.in_default-ill_formed.ensures in
+    → IsWellFormedWord (tier_word T t)) c.in_ok-timeline.ensures c.in_default-ill_formed.ensures in
     subst (IsTextOf c.args.width c.args.limit c.args.bytes.now) (sym c.in_ok-timeline.ensures)
     (no_cause c.args.width c.args.limit c.args.bytes.now (cc) (cc) (omega arith) tiers e)

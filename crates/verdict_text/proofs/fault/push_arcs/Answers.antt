@@ -13,7 +13,7 @@ returns-in_err-push_column_after_space g c =
 pub returns-in_err-push_target : goal.returns-in_err-push_target
 returns-in_err-push_target g c =
     let pushed = c.in_ok-push_numbered.ensures ▹ c.in_ok-push_column_after_space.ensures
-        ▹ c.in_err-push_target.ensures in
+    ▹ c.in_err-push_target.ensures in
     stop c.from_residual-in_err-push_target.ensures.1 (cut _ pushed)
 
 pub returns : goal.returns

@@ -9,7 +9,7 @@ use Rattle.kind_moves.specs.declared.piece.Piece.{Piece}
 use Rattle.kind_moves.specs.Fitting.{AreFitting}
 use Rattle.kind_moves.specs.Frames.{tiers_in}
 use Rattle.kind_moves.specs.Leaving.{AddsLeaving}
-use Rattle.kind_moves.specs.Pieces.{classes_of, IsPiece}
+use Rattle.kind_moves.specs.Pieces.{piece_classes, IsPiece}
 use Rattle.kind_moves.proofs.FittingSteps.{IsParted, still_by, bare_by, still_fits, read_here, read_fits, are_fitting}
 use Rattle.kind_moves.proofs.LeavingPieces.{classes_added, leaving_pieces}
 use Rattle.kind_moves.proofs.frame.Frame.all_moves.Goals as goal
@@ -41,7 +41,7 @@ parted c =
     }
 
 fitting : (c : In_ok-push_leaving-2) → AreFitting c.args.self.now 0 c.args.kind.now c.args.class.now
-    (classes_of c.push_leaving-2.new.pieces.items)
+    (piece_classes c.push_leaving-2.new.pieces.items)
 fitting c =
     let frame = c.args.self.now in
     let kind = c.args.kind.now in
@@ -50,7 +50,8 @@ fitting c =
     let read = c.reading-read.result in
     let mid = c.push_leaving.new.pieces.items in
     let new = c.push_leaving-2.new.pieces.items in
-    are_fitting (parted c) (tiers_in frame).width (classes_of mid) (classes_of new) refl (tiers_in frame).width refl
+    are_fitting (parted c) (tiers_in frame).width (piece_classes mid) (piece_classes new) refl
+    (tiers_in frame).width refl
     (classes_added frame kind.place [] mid (λ column. once_if (has still column && not (has bare column))) (first c))
     (classes_added frame (kind.place + 1) mid new (λ column. once_if (has read column && not (has still column)))
     c.in_ok-push_leaving-2.ensures)

@@ -18,11 +18,11 @@ pub returns : goal.returns
 returns c =
     let frame = c.args.self.now in
     let kind = c.args.kind.now in
-    let test = c.costing-test.result in
-    let cost = c.costing-test.ensures.columns in
+    let test = c.cost_test-test.result in
+    let cost = c.cost_test-test.ensures.columns in
     parted_weaker (tiers_in frame).width (differs test) (cost_under frame c.args.stage c.args.constraint kind)
     c.args.classes.items c.in_ok-pieces.pieces.items
     (λ x y wide_x wide_y told. same_cost frame c.args.stage c.args.constraint kind x y (differs test x)
     (differs test y) (cost x wide_x) (cost y wide_y) told)
     (subst (λ n. ArePartedBy n (differs test) c.args.classes.items c.in_ok-pieces.pieces.items)
-    c.costing-test.ensures.width c.in_ok-pieces.ensures)
+    c.cost_test-test.ensures.width c.in_ok-pieces.ensures)

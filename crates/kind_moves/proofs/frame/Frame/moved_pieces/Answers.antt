@@ -4,7 +4,7 @@ use Rattle.tier_core.specs.Kinds.{phases}
 use Rattle.tier_core.specs.Sides.{is_stretch}
 use Rattle.symbol_class.specs.Held.{ArePieces}
 use Rattle.symbol_class.specs.Parts.{ArePartedBy}
-use Rattle.violation.specs.Moves.{next_phases, moved}
+use Rattle.violation.specs.Moves.{next_phases, next_kind}
 use Rattle.kind_moves.specs.Frames.{problem_in, tiers_in, kind_at_stage}
 use Rattle.kind_moves.specs.Pieces.{opened_by}
 use Rattle.kind_moves.proofs.PieceSteps.{fitting_parts, parted_moves, first_over}
@@ -22,7 +22,7 @@ parts_by_phases-requires-clause-over c =
     (c.width-width.ensures.value ∙ c.requires.width)
 
 parted : (c : In_ok-pieces) → ArePartedBy (tiers_in c.args.self.now).width
-    (moved (problem_in c.args.self.now) c.args.stage (kind_at_stage c.args.self.now c.args.stage c.args.kind.now))
+    (next_kind (problem_in c.args.self.now) c.args.stage (kind_at_stage c.args.self.now c.args.stage c.args.kind.now))
     c.in_ok-fitting.fitting.items c.in_ok-pieces.pieces.items
 parted c =
     let frame = c.args.self.now in
@@ -44,7 +44,7 @@ parted c =
 pub returns-clause-fitting : goal.returns-clause-fitting
 returns-clause-fitting c =
     fitting_parts c.args.self.now c.args.stage c.args.kind.now c.args.class.now
-    (moved (problem_in c.args.self.now) c.args.stage (kind_at_stage c.args.self.now c.args.stage c.args.kind.now))
+    (next_kind (problem_in c.args.self.now) c.args.stage (kind_at_stage c.args.self.now c.args.stage c.args.kind.now))
     c.in_ok-fitting.fitting.items c.in_ok-pieces.pieces.items
     (c.in_ok-fitting.ensures.fitting c.args.stage) (parted c)
 

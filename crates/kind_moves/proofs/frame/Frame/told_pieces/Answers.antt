@@ -2,7 +2,7 @@ use Rattle.std.proofs.Common.{[], ◌∷◌, ◌++◌, All, ap, ap₂, sym, ◌�
 use Rattle.std.proofs.lemmas.List.{map-append, take_more}
 use Rattle.std.proofs.lemmas.List.Elements.{All-push}
 use Rattle.kind_moves.specs.declared.piece.Piece.{Piece}
-use Rattle.kind_moves.specs.Pieces.{classes_of, IsPiece}
+use Rattle.kind_moves.specs.Pieces.{piece_classes, IsPiece}
 use Rattle.kind_moves.proofs.frame.Frame.told_pieces.Goals as goal
 
 pub loop-class-preserved : goal.loop-class-preserved
@@ -11,7 +11,7 @@ loop-class-preserved c =
     let piece = c.piece-piece.result in
     let i = c.loop-class.class-index in
     record {
-      classes = ap classes_of c.in_ok-push.ensures.items ∙ map-append (λ (p : Piece). p.class) before (piece ∷ [])
+      classes = ap piece_classes c.in_ok-push.ensures.items ∙ map-append (λ (p : Piece). p.class) before (piece ∷ [])
           ∙ ap₂ (λ xs x. xs ++ x ∷ []) c.loop-class.invariant.classes (c.piece-piece.ensures.class ∙ c.class-item.is)
           ∙ sym (take_more c.args.classes.now i c.class-item.result c.loop-class-test.true);
       each = subst (All (IsPiece c.args.self.now c.args.stage c.args.constraint c.args.kind.now))

@@ -2,7 +2,8 @@ use Rattle.std.proofs.Common.{◌≡◌, List, subst, arith}
 use Rattle.kind_moves.specs.declared.piece.Piece.{Piece}
 use Rattle.kind_moves.specs.Frames.{FitsFrame}
 use Rattle.stage_tables.specs.PartedPieces.{ArePartedPieces}
-use Rattle.stage_tables.proofs.PiecesParted.{first_pieces, pieces_wide, next_constraint, all_constraints, moves_unranked}
+use Rattle.stage_tables.proofs.PiecesParted.{first_pieces, pieces_wide, next_constraint, all_constraints}
+use Rattle.stage_tables.proofs.PiecesParted.{moves_unranked}
 use Rattle.stage_tables.proofs.exploring.Exploring.pieces.Goals as goal
 
 pub all_moves-requires-clause-fits : goal.all_moves-requires-clause-fits
@@ -27,8 +28,8 @@ returns c =
     all_constraints c.args.self.now c.args.kind.now c.args.class.now c.loop-constraint.pieces.items
     c.loop-constraint.constraint c.loop-constraint.invariant (omega (arith, c.loop-constraint-test.false))
 
-pub parted-requires-clause-wide : goal.parted-requires-clause-wide
-parted-requires-clause-wide c =
+pub parts_by_cost-requires-clause-wide : goal.parts_by_cost-requires-clause-wide
+parts_by_cost-requires-clause-wide c =
     rw c.deref.ensures.value
     (pieces_wide c.args.self.now c.args.kind.now c.args.class.now c.loop-constraint.pieces.items
     c.loop-constraint.constraint c.loop-constraint.invariant)

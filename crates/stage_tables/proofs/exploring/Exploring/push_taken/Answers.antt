@@ -9,17 +9,17 @@ loop-piece-init c = record {
       c.args.moves.now.items c.requires.found;
 }
 
-pub taken-requires-clause-found : goal.taken-requires-clause-found
-taken-requires-clause-found c = c.loop-piece.invariant.so_far.found
+pub new_move-requires-clause-found : goal.new_move-requires-clause-found
+new_move-requires-clause-found c = c.loop-piece.invariant.so_far.found
 
-pub taken-requires-clause-over : goal.taken-requires-clause-over
-taken-requires-clause-over c = (
+pub new_move-requires-clause-over : goal.new_move-requires-clause-over
+new_move-requires-clause-over c = (
   c.requires.over.0,
   c.loop-piece.invariant.so_far.stays c.requires.over.0 c.args.kind.now c.args.state c.requires.over.1,
 )
 
-pub taken-requires-clause-piece : goal.taken-requires-clause-piece
-taken-requires-clause-piece c =
+pub new_move-requires-clause-piece : goal.new_move-requires-clause-piece
+new_move-requires-clause-piece c =
     piece_from c.args.self.now c.args.kind.now c.args.arc.now.class c.args.pieces.now c.requires.pieces
     c.loop-piece.piece-index c.piece-item.result c.loop-piece-test.true c.piece-item.is
 
@@ -30,7 +30,7 @@ loop-piece-preserved c =
     record {
       inside = omega (arith, c.loop-piece-test.true);
       so_far = rw (c.push.ensures.items, c.is_err.ensures.negation ∙ ap not c.if-is_err.false)
-          (one_pushed c.args.self.now c.args.listed.now c.loop-piece.listed c.taken.new.listed c.args.kind.now
+          (one_pushed c.args.self.now c.args.listed.now c.loop-piece.listed c.new_move.new.listed c.args.kind.now
           c.args.arc.now c.args.pieces.now c.args.moves.now.items c.loop-piece.moves.items c.loop-piece.piece-index
           c.piece-item.result c.in_ok-made.made inv.so_far c.loop-piece-test.true c.piece-item.is done.found done.stays
           done.targets done.class done.taken);
@@ -45,6 +45,7 @@ returns-clause-stays c = c.loop-piece.invariant.so_far.stays
 pub returns-clause-adds : goal.returns-clause-adds
 returns-clause-adds c =
     let inv = c.loop-piece.invariant in
-    let last : c.loop-piece.piece-index ≡ length c.args.pieces.now = omega (arith, inv.inside, c.loop-piece-test.false) in
+    let last : c.loop-piece.piece-index
+    ≡ length c.args.pieces.now = omega (arith, inv.inside, c.loop-piece-test.false) in
     all_pushed c.args.self.now c.args.listed.now c.loop-piece.listed c.args.kind.now c.args.arc.now c.args.pieces.now
     c.args.moves.now.items c.loop-piece.moves.items c.loop-piece.piece-index inv.so_far last c.requires.pieces

@@ -10,20 +10,21 @@ pub making-init : goal.making-init
 making-init c = record {
   found = c.requires.found;
   taken = none_made c.args.self.now.frame.now c.args.self.now.first c.args.self.now.stage
-      c.args.self.now.kept.now.states.items c.args.listed.now.kinds.entries c.new-states.result.items c.requires.one c.new-states.ensures.items;
+      c.args.self.now.kept.now.states.items c.args.listed.now.kinds.entries c.new-states.result.items c.requires.one
+      c.new-states.ensures.items;
 }
 
-pub taken_arcs-requires-clause-found : goal.taken_arcs-requires-clause-found
-taken_arcs-requires-clause-found c = c.making.invariant.found
+pub new_moves-requires-clause-found : goal.new_moves-requires-clause-found
+new_moves-requires-clause-found c = c.making.invariant.found
 
-pub taken_arcs-requires-clause-over : goal.taken_arcs-requires-clause-over
-taken_arcs-requires-clause-over c = (
+pub new_moves-requires-clause-over : goal.new_moves-requires-clause-over
+new_moves-requires-clause-over c = (
   c.len.result,
   sym c.entry_at.ensures ∙ c.in-Some.is,
 )
 
-pub taken_arcs-requires-clause-state : goal.taken_arcs-requires-clause-state
-taken_arcs-requires-clause-state c =
+pub new_moves-requires-clause-state : goal.new_moves-requires-clause-state
+new_moves-requires-clause-state c =
     (c.making.invariant.found.found.stands c.len.result c.in-Some.kind c.in-Some.state
     (sym c.entry_at.ensures ∙ c.in-Some.is)).within
 
@@ -51,7 +52,7 @@ making-smaller c =
 pub making-preserved : goal.making-preserved
 making-preserved c =
     let entries = c.making.listed.kinds.entries in
-    let next = c.taken_arcs.new.listed in
+    let next = c.new_moves.new.listed in
     let done = c.in_ok-arcs.ensures in
     let n = length c.making.states.items in
     let same : c.len.result ≡ n = omega (arith, c.len.ensures, c.making.states.ok) in
@@ -61,7 +62,8 @@ making-preserved c =
       found = done.found;
       taken = rw (c.push.ensures.items, c.is_err.ensures.negation ∙ ap not c.if-is_err.false)
           (taken_push c.args.self.now.frame.now c.args.self.now.first c.args.self.now.stage
-          c.args.self.now.kept.now.states.items entries next.kinds.entries done.stays c.making.states.items _ c.in-Some.kind c.in-Some.state
+          c.args.self.now.kept.now.states.items entries next.kinds.entries done.stays c.making.states.items _
+          c.in-Some.kind c.in-Some.state
           c.making.invariant.taken at
           (record { accepts = c.at_end.ensures c.args.self.now.stage; taken = done.taken }) done.targets);
     }

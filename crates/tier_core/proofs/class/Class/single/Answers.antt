@@ -24,9 +24,9 @@ loop-tier-preserved c =
     (arith, ap length c.syms-sym-items.ensures.value, c.loop-tier-test.true) in
     record {
       done =
-          single_next c.loop-tier.word c.with_set_in-word.result c.loop-tier.tier c.alone.result column inside
+          single_next c.loop-tier.word c.with_set_in-word.result c.loop-tier.tier c.single_set.result column inside
           (omega arith)
-          (c.alone.ensures.value ∙ ap (λ col. single_set
+          (c.single_set.ensures.value ∙ ap (λ col. single_set
           (symbol col c.loop-tier.tier)) c.syms-sym-items.ensures.value) c.with_set_in-word.ensures.here
           c.with_set_in-word.ensures.others c.loop-tier.invariant.done;
       rest = c.with_set_in-word.ensures.below (length column) inside (omega arith) ∙ c.loop-tier.invariant.rest;

@@ -1,5 +1,0 @@
-use Rattle.kind_moves.proofs.LeavingSteps.{AreLeft}
-use Rattle.kind_moves.proofs.leaving.leaving.Given as goal
-
-abbrev pub invariant-loop-tier : goal.invariant-loop-tier
-invariant-loop-tier l = AreLeft l.class l.rest l.tiers l.opened l.tier l.next

@@ -113,7 +113,7 @@ module _ (s : Subject) (stage : ℕ) (ready : IsReady s) (within : stage ≤ las
             let here : get_or (stage_nodes s stage) 0 h.node ≡ h.node =
             get_or_from_slice_get (stage_nodes s stage) 0 h.node h.node h.is.numbered in
             h.differs (h.listed_is ∙ ap (λ (x : Node). x.potential) (sym here) ∙ sym (is h.node) ∙ same
-                ∙ sym h.count_is)
+            ∙ sym h.count_is)
         right_stage listed is same (suc (suc (suc (suc m)))) rest w = absurd w
 
         pub first_start : (listed count : ℕ)

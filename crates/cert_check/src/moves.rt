@@ -122,7 +122,8 @@ fn place_after(kinds: &[TierKind], place: u32, column: &[Sym]) -> u32
     requires place { place ≤ 64 }
     ensures { result
         ≡ place
-        + (if has_edge (map (symbol column.now) (numbers_from is_input 0 kinds.now)) then 1 else 0) }
+        + (if has_edge (map (symbol column.now) (numbers_from is_input 0 kinds.now))
+        then 1 else 0) }
 {
     if has_input_edge(kinds, column) {
         place + 1

@@ -150,7 +150,8 @@ fn check_pieces(
     requires stage { stage ≤ last_stage (problem_of subject.now) }
     requires ascends { AscendsAt subject.now stage }
     requires is { HasNode subject.now.answer.now stage number node.now }
-    requires potential { IsRightPart (problem_of subject.now) subject.now.answer.now stage number 0 }
+    requires potential { IsRightPart (problem_of subject.now) subject.now.answer.now
+        stage number 0 }
     requires kept { AreKeptPieces (problem_of subject.now) subject.now.answer.now.stages.items stage
         stage
         (kind_of_bits (problem_of subject.now) stage node.now.kind) pieces.now }

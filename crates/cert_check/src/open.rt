@@ -25,7 +25,8 @@ fn is_open(tier: u32, tier_kind: TierKind, inputs: u32, form: &Timeline, kind: &
     requires wide { is_input tier_kind ≡ true → All (λ column. inputs < length column) form.now }
     ensures { result
         ≡
-        (if is_input tier_kind then is_open_before form.now kind.now.place inputs else has_tier kind.now.opened (tier - inputs)) }
+        (if is_input tier_kind then is_open_before form.now kind.now.place inputs
+        else has_tier kind.now.opened (tier - inputs)) }
 {
     if tier_kind.is_input() {
         return is_open_before(form, kind.place, inputs);

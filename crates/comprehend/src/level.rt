@@ -74,7 +74,8 @@ fn reach(
     ensures { IfOk result
         (λ _.
         Reaches
-        (ComesByOne tests.now entries.now place) n left.old.items left.new.items next.old.items next.new.items) }
+        (ComesByOne tests.now entries.now place)
+        n left.old.items left.new.items next.old.items next.new.items) }
 {
     for entry in entries {
         reach_by(tests, entry, place, n, left, next)?;

@@ -14,7 +14,8 @@ use weight_law::UnitWeight;
 /// The first of the timelines that the table accepts, and `None` exactly if it accepts none.
 pub fn first(alloc: Global, table: &Table<UnitWeight>) -> Result<Option<Timeline>, NoMemory>
     ensures { IfOk result (λ first.
-        MatchOption first (AcceptsNone (states_of table.now)) (IsFirst (Accepts (states_of table.now)))) }
+        MatchOption first (AcceptsNone (states_of table.now))
+        (IsFirst (Accepts (states_of table.now)))) }
 {
     let left = lengths(alloc, table)?;
     let most = match left[0] {

@@ -14,5 +14,6 @@ pub struct Grammar {
     pub tiers: TierTable,
     pub letters: Vec<Letter>,
     pub constraints: Vec<Constraint>,
-    pub ghost lawful: { IsGrammar (value_by tiers.names.items tiers.kinds.items letters.items constraints.items) },
+    pub ghost lawful: { IsGrammar (value_by tiers.names.items tiers.kinds.items
+        letters.items constraints.items) },
 }

@@ -103,7 +103,9 @@ impl<'a> Frame<'a> {
 
     /// Whether no free tier is open at a kind.
     fn are_free_closed(&self, kind: &Kind) -> bool
-        ensures { result ≡ not (list_any (λ flag. flag) (open_tiers (length (tiers_in self.now).free) kind.now.opened)) }
+        ensures { result
+            ≡ not (list_any (λ flag. flag)
+            (open_tiers (length (tiers_in self.now).free) kind.now.opened)) }
     {
         lowest_bits(kind.opened, self.free_count()) == 0
     }

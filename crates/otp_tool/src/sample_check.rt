@@ -24,7 +24,8 @@ fn is_faultless(
 ) -> Result<bool, NoMemory>
     requires within { length bytes.now ≤ 268435456 }
     requires shape { IsShapeOf grammar.now shape.now }
-    ensures { IfOk result (λ faultless. IsTrue faultless ↔ IsJudged (value_of grammar.now) bytes.now Yes) }
+    ensures { IfOk result
+        (λ faultless. IsTrue faultless ↔ IsJudged (value_of grammar.now) bytes.now Yes) }
 {
     let answer = match read_answer(alloc, shape, bytes) {
         Ok(answer) => answer,

@@ -85,7 +85,8 @@ pub(crate) fn new_state<W: Weight>(
     ensures same { length numbers.new.items ≡ length numbers.old.items }
     ensures numbered { IfOk result (λ _. AreNumbered names.new.items numbers.new.items) }
     ensures made { IfOk result (λ made.
-        IsNewState least.now names.new.items (states_of table.now) state made.accepting made.arcs.items) }
+        IsNewState least.now names.new.items (states_of table.now) state
+        made.accepting made.arcs.items) }
     ensures names { IfOk result
         (λ made. NamesTargets least.now names.old.items names.new.items made.arcs.items) }
 {

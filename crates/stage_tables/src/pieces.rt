@@ -24,7 +24,8 @@ impl Exploring<'_> {
         requires constraint { constraint ≤ self.now.stage }
         requires fits { FitsFrame self.now.frame.now self.now.stage kind.now }
         requires width { length (sets_of piece.now.class) ≡ (tiers_in self.now.frame.now).width }
-        requires piece { IsPiece self.now.frame.now self.now.stage self.now.stage kind.now piece.now }
+        requires piece { IsPiece self.now.frame.now self.now.stage self.now.stage
+            kind.now piece.now }
         ensures { OnOk result
             (AddsParts self.now constraint kind.now piece.now parts.old.items parts.new.items) }
     {
@@ -54,9 +55,13 @@ impl Exploring<'_> {
     ) -> Result<Vec<Piece>, NoMemory>
         requires constraint { constraint ≤ self.now.stage }
         requires fits { FitsFrame self.now.frame.now self.now.stage kind.now }
-        requires wide { All (λ piece. length (sets_of piece.class) ≡ (tiers_in self.now.frame.now).width) pieces.now }
-        requires pieces { All (IsPiece self.now.frame.now self.now.stage self.now.stage kind.now) pieces.now }
-        ensures { IfOk result (λ parts. ArePartedPieces self.now constraint kind.now pieces.now parts.items) }
+        requires wide { All
+            (λ piece. length (sets_of piece.class) ≡ (tiers_in self.now.frame.now).width)
+            pieces.now }
+        requires pieces { All
+            (IsPiece self.now.frame.now self.now.stage self.now.stage kind.now) pieces.now }
+        ensures { IfOk result
+            (λ parts. ArePartedPieces self.now constraint kind.now pieces.now parts.items) }
     {
         let mut parts = Vec::new(alloc);
         for piece in pieces {

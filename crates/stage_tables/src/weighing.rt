@@ -91,7 +91,8 @@ fn weighed_moves(
         (λ arc. length (sets_of arc.class) ≡ length (sets_of test.now.within)) arcs.now }
     requires filled { All (λ arc. IsTrue (is_filled arc.class)) arcs.now }
     ensures { IfOk result
-        (λ moves. AreWeighedMoves (λ column. once_if (differs test.now column)) arcs.now moves.items) }
+        (λ moves. AreWeighedMoves (λ column. once_if (differs test.now column))
+        arcs.now moves.items) }
 {
     let mut moves = Vec::with_capacity(alloc, arcs.len())?;
     for arc in arcs {

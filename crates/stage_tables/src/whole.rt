@@ -15,7 +15,8 @@ use weight_law::{UnitWeight, Weight};
 /// The class of all columns of a frame.
 fn every_column(frame: &Frame<'_>) -> Class
     ensures width { length (sets_of result) ≡ (tiers_in frame.now).width }
-    ensures columns { (column : List Sym) → length column ≡ (tiers_in frame.now).width → has result column ≡ true }
+    ensures columns { (column : List Sym) → length column ≡ (tiers_in frame.now).width
+        → has result column ≡ true }
 {
     let width = frame.grammar.tiers.kinds.len();
     Class::of_bits(&[31; 12][..width])
@@ -24,7 +25,8 @@ fn every_column(frame: &Frame<'_>) -> Class
 /// The one move of a table that reads every column, and stays at its state.
 fn every_move(alloc: Global, frame: &Frame<'_>) -> Result<Vec<TableArc<UnitWeight>>, AllocError>
     ensures { IfOk result
-        (λ moves. (arc : ArcOf UnitWeight ⟦<UnitWeight as Weight>⟧) × (moves.items ≡ arc ∷ []) × IsWholeMove frame.now arc) }
+        (λ moves. (arc : ArcOf UnitWeight ⟦<UnitWeight as Weight>⟧) × (moves.items ≡ arc ∷ [])
+        × IsWholeMove frame.now arc) }
 {
     let mut moves = Vec::new(alloc);
     moves.push(TableArc {

@@ -21,7 +21,7 @@ use Rattle.answer_text.specs.declared.stage.Stage.{Stage}
 use Rattle.answer_text.specs.Acceptance.{HasArc}
 use Rattle.answer_text.specs.Right.{nodes_at, numbers_of, IsNodeOf}
 use Rattle.answer_text.specs.Certified.{IsKeptBelow, IsCertifiedAutomaton, AreStatesInOrder}
-use Rattle.check_laws.proofs.Members.{contains_map, contains_of_map}
+use Rattle.tier_core.proofs.Members.{contains_map, contains_of_map}
 use Rattle.answer_examples.specs.Seen.{StateSeen, node_seen, nodes_seen, arc_seen, state_seen}
 use Rattle.answer_examples.proofs.Tests.{Decides-by, both, implied, Decides-both, Decides-implied, Decides-true}
 use Rattle.answer_examples.proofs.Tests.{all_seen, each_seen, some_seen, pairs_pass, pairs_seen, ascends}

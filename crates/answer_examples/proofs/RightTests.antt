@@ -38,7 +38,7 @@ use Rattle.answer_text.specs.Right.{numbers_of}
 use Rattle.answer_text.specs.Sound.{IsSound}
 use Rattle.check_laws.proofs.Leading.{leads_parts}
 use Rattle.check_laws.proofs.Listing.{kind_listed, first_numbered}
-use Rattle.check_laws.proofs.Members.{all_from_members, contains_map, contains_of_map}
+use Rattle.tier_core.proofs.Members.{all_from_members, contains_map, contains_of_map}
 use Rattle.check_laws.proofs.Optima.{AreTold, all_told}
 use Rattle.check_laws.proofs.Potentials.{FallsAlong, falls_parts, stage_at, goes_to, as_longer, one_more, rest_cost}
 use Rattle.check_laws.proofs.Potentials.{bound}

@@ -38,7 +38,7 @@ use Rattle.answer_text.specs.Right.{numbers_of}
 use Rattle.answer_text.specs.Sound.{IsSound}
 use Rattle.check_laws.proofs.Leading.{leads_parts}
 use Rattle.check_laws.proofs.Listing.{kind_listed, first_numbered}
-use Rattle.tier_core.proofs.Members.{all_from_members, contains_map, contains_of_map}
+use Rattle.tier_core.proofs.Members.{All-from_members, contains_map, contains_of_map}
 use Rattle.check_laws.proofs.Optima.{AreTold, all_told}
 use Rattle.check_laws.proofs.Potentials.{FallsAlong, falls_parts, stage_at, goes_to, as_longer, one_more, rest_cost}
 use Rattle.check_laws.proofs.Potentials.{bound}
@@ -279,7 +279,7 @@ module _ (problem : Problem) (answer : Answer) (split : AreSplit problem.tiers)
           λ passed. sound.each_kind r l k passed,
         );
       };
-      potentials = all_from_members
+      potentials = All-from_members
           (λ node. IsRemaining problem r (kind_of_bits problem r node.kind) node.potential) (nodes_at stages r)
           (λ node c. remaining (kind_of_bits problem r node.kind) node.potential
           (record { node = node; listed = c; tells = refl; potential = refl }));
@@ -357,7 +357,7 @@ module _ (problem : Problem) (answer : Answer) (split : AreSplit problem.tiers)
         let tests = and_parts _ _ (passes_at state_seen arcs_pass states arcs z (Contains-get_or states i d l)) in
         record {
           apart = certified.automaton.once i d l;
-          filled = all_from_members (λ arc. (column : List Sym) × IsTrue (has arc.class column)) z.arcs.items
+          filled = All-from_members (λ arc. (column : List Sym) × IsTrue (has arc.class column)) z.arcs.items
               (λ arc c. (first_column (sets_of arc.class), passes_at arc_seen is_filled z.arcs.items tests.1 arc c));
           one_width = sorted.one_width i d l;
           targets = certified.automaton.targets i d l;

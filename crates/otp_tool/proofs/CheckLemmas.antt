@@ -28,7 +28,7 @@ use Rattle.otp_tool.specs.Files.{IsHeld, answer_file}
 use Rattle.otp_tool.specs.Findings.{Finding, FindsForCheck, ready}
 use Rattle.otp_tool.specs.Results.{IsNoText, IsYesText, text_widths}
 use Rattle.otp_tool.specs.Steps.{Change, IsCheckStep, IsCheckWork, IsNoEnd, IsRefusal, IsSecondRefusal, RefusesAnswer}
-use Rattle.otp_tool.specs.Steps.{SinkChange, no_end_of, taking_of, verdict_end}
+use Rattle.otp_tool.specs.Steps.{IsUntouched, SinkChange, no_end_of, taking_of, verdict_end}
 use Rattle.otp_tool.proofs.GrammarLemmas.{same_requirements, same_tiers}
 use Rattle.otp_tool.proofs.RefusalLemmas.{refusal_weaker, second_refused}
 use Rattle.std.proofs.lemmas.Bool.{false≢true}
@@ -66,7 +66,7 @@ module _ (g : Grammar) where
           is = j.reading.read;
         })))
 
-    pub no_answer_read : (t : SinkChange) → t.new ≡ t.old → (s : Status) → IsRefusal (RefusesAnswer shape bytes) s
+    pub no_answer_read : (t : SinkChange) → IsUntouched t → (s : Status) → IsRefusal (RefusesAnswer shape bytes) s
         → IsCheckStep (value_of g) bytes t s
     no_answer_read t e s r = inl (inl (
       refusal_weaker (RefusesAnswer shape bytes) (FindsForCheck (value_of g) bytes) refused_for_check s r,
@@ -141,7 +141,7 @@ module _ (g : Grammar) where
   -- ---- the command
 
   module _ (answer : List ℕ) (c : Change) where
-    pub no_file_loaded : c.taking.new ≡ c.taking.old → (s : Status)
+    pub no_file_loaded : IsUntouched c.taking → (s : Status)
         → IsSecondRefusal (answer_file answer) (c.held answer) (c.faults_before answer) (c.faults_after answer) s
         → IsCheckWork (value_of g) answer c s
     no_file_loaded t s r =

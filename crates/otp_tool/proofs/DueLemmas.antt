@@ -11,7 +11,8 @@ use Rattle.otp_tool.specs.Findings.{Finding, Finds, long_file, no_grammar, no_fo
 use Rattle.otp_tool.specs.Findings.{no_answer, over_budget, ready}
 use Rattle.otp_tool.specs.Outcomes.{HasReadFault, IsBeforeWriting, IsBehind, IsTold, IsTooLong, MayRead, Stands}
 use Rattle.otp_tool.specs.Outcomes.{answer_to}
-use Rattle.otp_tool.specs.Steps.{Change, IsOutcome}
+use Rattle.otp_tool.specs.Steps.{Change, IsOutcome, IsUntouched}
+use Rattle.otp_tool.proofs.OutcomeLemmas.{nothing_taken}
 
 -- what is found is what is told
 same : (words : List (List ℕ)) (held : List ℕ → Option (List ℕ)) (x y : Finding) → IsTold words held x
@@ -88,17 +89,23 @@ module _ (words : List (List ℕ)) (c : Change) where
   complete (RowsRefused word row cause) o t r w = absurd (not_ready (no_rows row cause) t o.1)
   complete (TooLong word) o t r w = absurd (not_long word t o.0)
 
+  stays : (s : Status) → IsOutcome words c s → IsBeforeWriting s → IsUntouched c.taking
+  stays Done o b = absurd b
+  stays No o b = absurd b
+  stays Usage o b = o.1
+  stays (GrammarRefused word line cause) o b = o.2
+  stays (FormRefused word cause) o b = o.1
+  stays (LexiconRefused word cause) o b = o.2
+  stays (AnswerRefused word line cause) o b = o.2
+  stays (Budget entry stage) o b = o.1
+  stays (ReadFault word) o b = o.1
+  stays WriteFault o b = absurd b
+  stays NoMemory o b = absurd b
+  stays (RowsRefused word row cause) o b = o.2
+  stays (TooLong word) o b = o.1
+
   pub untouched : (s : Status) → IsOutcome words c s → IsBeforeWriting s → c.taking.new ≡ c.taking.old
-  untouched Done o b = absurd b
-  untouched No o b = absurd b
-  untouched Usage o b = o.1
-  untouched (GrammarRefused word line cause) o b = o.2
-  untouched (FormRefused word cause) o b = o.1
-  untouched (LexiconRefused word cause) o b = o.2
-  untouched (AnswerRefused word line cause) o b = o.2
-  untouched (Budget entry stage) o b = o.1
-  untouched (ReadFault word) o b = o.1
-  untouched WriteFault o b = absurd b
-  untouched NoMemory o b = absurd b
-  untouched (RowsRefused word row cause) o b = o.2
-  untouched (TooLong word) o b = o.1
+  untouched s o b = nothing_taken c.taking (stays s o b)
+
+  pub no_fault_counted : (s : Status) → IsOutcome words c s → IsBeforeWriting s → c.taking.after ≡ c.taking.before
+  no_fault_counted s o b = ap (λ (now : Option (List ℕ) × ℕ). now.1) (stays s o b)

@@ -29,7 +29,7 @@ use Rattle.otp_tool.specs.Lexicons.{HasSurfaceWord, IsLexiconFile, IsSurfaceOf, 
 use Rattle.otp_tool.specs.Findings.{FindsForHearing, no_form, no_lexicon, ready}
 use Rattle.otp_tool.specs.Results.{IsHeardText}
 use Rattle.otp_tool.specs.Steps.{Change, IsHearingWork, IsRefusal, IsSecondRefusal, RefusesEntry, RefusesLexicon}
-use Rattle.otp_tool.specs.Steps.{RefusesSurface, change_of, write_status}
+use Rattle.otp_tool.specs.Steps.{IsUntouched, RefusesSurface, change_of, write_status}
 use Rattle.otp_tool.proofs.GrammarLemmas.{same_requirements, same_tiers}
 use Rattle.otp_tool.proofs.RefusalLemmas.{entry_for_hearing, lexicon_for_hearing, refusal_weaker, refused_before}
 use Rattle.otp_tool.proofs.RefusalLemmas.{second_refused, surface_for_hearing}
@@ -98,7 +98,7 @@ module _ (g : Grammar) (surface lexicon : List ℕ) (budget : ℕ) where
   abbrev Work : Change → Status → Type 0
   Work c s = IsHearingWork (value_of g) lexicon surface budget c s
 
-  pub no_surface : (c : Change) → c.taking.new ≡ c.taking.old → (s : Status)
+  pub no_surface : (c : Change) → IsUntouched c.taking → (s : Status)
       → IsRefusal (RefusesSurface (value_of g) surface) s → Work c s
   no_surface c t s r =
       refused_before (HasSurfaceWord (value_of g) surface) (FindsForHearing (value_of g) surface budget)
@@ -107,7 +107,7 @@ module _ (g : Grammar) (surface lexicon : List ℕ) (budget : ℕ) where
       (surface_for_hearing (value_of g) surface budget) s r
 
   module _ (heard : List (List Sym)) (read : IsSurfaceOf (value_of g) surface heard) where
-    pub no_lexicon_loaded : (c : Change) → c.taking.new ≡ c.taking.old → (s : Status)
+    pub no_lexicon_loaded : (c : Change) → IsUntouched c.taking → (s : Status)
         → IsSecondRefusal (lexicon_file lexicon) (c.held lexicon) (c.faults_before lexicon) (c.faults_after lexicon) s
         → Work c s
     no_lexicon_loaded c t s r =
@@ -116,7 +116,7 @@ module _ (g : Grammar) (surface lexicon : List ℕ) (budget : ℕ) where
         (lexicon_file lexicon) (heard, read) (λ bytes l. (refl, ((heard, read), l))) s r
 
     module _ (bytes : List ℕ) where
-      pub no_lexicon_read : (c : Change) → IsHeld (c.held lexicon) bytes → c.taking.new ≡ c.taking.old → (s : Status)
+      pub no_lexicon_read : (c : Change) → IsHeld (c.held lexicon) bytes → IsUntouched c.taking → (s : Status)
           → IsRefusal (RefusesLexicon (value_of g) bytes) s → Work c s
       no_lexicon_read c h t s r = inr (record {
         bytes = bytes;
@@ -132,7 +132,7 @@ module _ (g : Grammar) (surface lexicon : List ℕ) (budget : ℕ) where
         abbrev ask : List (List Sym) → Problem
         ask = problem_from g.tiers g.constraints.items
 
-        pub no_entry : (c : Change) → IsHeld (c.held lexicon) bytes → c.taking.new ≡ c.taking.old → (s : Status)
+        pub no_entry : (c : Change) → IsHeld (c.held lexicon) bytes → IsUntouched c.taking → (s : Status)
             → IsRefusal (RefusesEntry ask (forms_of entries) budget) s → Work c s
         no_entry c h t s r = inr (record {
           bytes = bytes;

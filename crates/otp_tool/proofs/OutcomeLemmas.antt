@@ -17,7 +17,7 @@ use Rattle.otp_tool.specs.Findings.{long_second, no_rows, no_lexicon, no_answer,
 use Rattle.otp_tool.specs.Results.{IsNoResult, IsResult, IsAnyResult}
 use Rattle.otp_tool.specs.Outcomes.{HasReadFault, IsBehind, IsWrittenBehind, MayRead}
 use Rattle.otp_tool.specs.Steps.{Change, IsWriteStatus, IsLoadRefusal, IsLoaded, IsNoEnd, IsNotRead, IsOutcome}
-use Rattle.otp_tool.specs.Steps.{IsPartTaken, IsRefusal, IsStep, IsWork, IsWorkOf}
+use Rattle.otp_tool.specs.Steps.{IsPartTaken, IsRefusal, IsStep, IsUntouched, IsWork, IsWorkOf, SinkChange}
 
 -- so many bytes
 abbrev zeros : ℕ → List ℕ
@@ -51,6 +51,9 @@ pub some_second : (held : List ℕ → Option (List ℕ)) (second : Option Named
     → (bytes : List ℕ) × IsSecondHeld held second bytes
 some_second held None = ([], tt)
 some_second held (Some file) = some_held (held file.name)
+
+pub nothing_taken : (t : SinkChange) → IsUntouched t → t.new ≡ t.old
+nothing_taken t e = ap (λ (now : Option (List ℕ) × ℕ). now.0) e
 
 -- ---- a shelf that has loaded one file before
 
@@ -130,7 +133,7 @@ module _ (words : List (List ℕ)) (c : Change) (command : Command) (are : IsCom
     rose = rose;
   }
 
-  pub by_load : c.taking.new ≡ c.taking.old → (s : Status)
+  pub by_load : IsUntouched c.taking → (s : Status)
       → IsLoadRefusal (grammar_told c.held (file_of command)) (faults_of c.faults_before (file_of command))
       (faults_of c.faults_after (file_of command)) s → IsOutcome words c s
   by_load t Done r = absurd r
@@ -147,7 +150,7 @@ module _ (words : List (List ℕ)) (c : Change) (command : Command) (are : IsCom
   by_load t (Budget entry stage) r = absurd r
   by_load t (ReadFault word) r = (grammar_fault (file_of command) refl word r.0 r.1, t)
   by_load t WriteFault r = absurd r
-  by_load t NoMemory r = ((command, are), inl t)
+  by_load t NoMemory r = ((command, are), inl (nothing_taken c.taking t))
   by_load t (RowsRefused word row cause) r = absurd r
   by_load t (TooLong word) r =
       let l = long_held (grammar_told c.held (file_of command)) 65536 r.1 in
@@ -169,7 +172,7 @@ module _ (words : List (List ℕ)) (c : Change) (command : Command) (are : IsCom
 
       -- ---- from a refusal
 
-      by_refusal : c.taking.new ≡ c.taking.old → (s : Status) → IsRefusal (FindsIn command g second) s
+      by_refusal : IsUntouched c.taking → (s : Status) → IsRefusal (FindsIn command g second) s
           → IsOutcome words c s
       by_refusal t Done r = absurd r
       by_refusal t No r = absurd r
@@ -185,7 +188,7 @@ module _ (words : List (List ℕ)) (c : Change) (command : Command) (are : IsCom
           (behind (over_budget entry stage) (on (λ h. FindsIn command h second (over_budget entry stage)) r), t)
       by_refusal t (ReadFault word) r = absurd r
       by_refusal t WriteFault r = absurd r
-      by_refusal t NoMemory r = ((command, are), inl t)
+      by_refusal t NoMemory r = ((command, are), inl (nothing_taken c.taking t))
       by_refusal t (RowsRefused word row cause) r =
           (r.0, behind (no_rows row cause) (on (λ h. FindsIn command h second (no_rows row cause)) r.1), t)
       by_refusal t (TooLong word) r =

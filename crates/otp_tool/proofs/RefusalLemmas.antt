@@ -14,7 +14,7 @@ use Rattle.otp_tool.specs.Lexicons.{IsLexiconFile, IsSurfaceOf, forms_in}
 use Rattle.otp_tool.specs.Findings.{Finding, FindsForAnswer, FindsForHearing, FindsForOnce, FindsForTableau}
 use Rattle.otp_tool.specs.Findings.{long_second, no_form, no_rows, no_lexicon, no_answer, over_budget}
 use Rattle.otp_tool.specs.Steps.{Change, IsRefusal, IsSecondRefusal, IsWork, RefusesBudget, RefusesEntry, RefusesForm}
-use Rattle.otp_tool.specs.Steps.{RefusesLexicon, RefusesOnce, RefusesRows, RefusesSurface}
+use Rattle.otp_tool.specs.Steps.{IsUntouched, RefusesLexicon, RefusesOnce, RefusesRows, RefusesSurface}
 use Rattle.otp_tool.proofs.OutcomeLemmas.{long_held, some_held, some_second}
 
 module _ (P Q : Finding → Type 0) (weaker : (x : Finding) → P x → Q x) where
@@ -93,7 +93,7 @@ module _ (g : GrammarValue) (word : List ℕ) (budget : ℕ) (bytes : List ℕ) 
 -- ---- second files
 
 module _ (reaches : Type 0) (finds : List ℕ → Finding → Type 0) (writes : List ℕ → List ℕ
-    → Type 0) (c : Change) (untouched : c.taking.new ≡ c.taking.old) where
+    → Type 0) (c : Change) (untouched : IsUntouched c.taking) where
   -- a refusal before the second file is loaded
   pub refused_before : (second : Option NamedFile) (P : Finding → Type 0)
       → ((bytes : List ℕ) (x : Finding) → P x → finds bytes x) → (s : Status) → IsRefusal P s

@@ -23,7 +23,7 @@ use Rattle.otp_tool.specs.Grammars.{IsAsked}
 use Rattle.otp_tool.specs.Findings.{FindsForTableau, HasForm, ready}
 use Rattle.otp_tool.specs.Results.{IsTableauText}
 use Rattle.otp_tool.specs.Steps.{Change, IsMadeTableau, IsRefusal, IsSecondRefusal, IsTableauWork, RefusesBudget}
-use Rattle.otp_tool.specs.Steps.{RefusesFile, RefusesForm, RefusesRows, change_of, write_status}
+use Rattle.otp_tool.specs.Steps.{IsUntouched, RefusesFile, RefusesForm, RefusesRows, change_of, write_status}
 use Rattle.otp_tool.proofs.GrammarLemmas.{same_names}
 use Rattle.otp_tool.proofs.RefusalLemmas.{form_for_tableau, refusal_weaker, refused_before, rows_for_tableau}
 use Rattle.otp_tool.proofs.RefusalLemmas.{second_refused}
@@ -77,7 +77,7 @@ module _ (g : Grammar) (form rows : List ℕ) (budget : ℕ) where
   abbrev Work : Change → Status → Type 0
   Work c s = IsTableauWork (value_of g) form rows budget c s
 
-  pub no_form_read : (c : Change) → c.taking.new ≡ c.taking.old → (s : Status)
+  pub no_form_read : (c : Change) → IsUntouched c.taking → (s : Status)
       → IsRefusal (RefusesForm (value_of g) form) s → Work c s
   no_form_read c t s r =
       refused_before (HasForm (value_of g) form) (FindsForTableau (value_of g) form budget)
@@ -88,7 +88,7 @@ module _ (g : Grammar) (form rows : List ℕ) (budget : ℕ) where
     has_form : HasForm (value_of g) form
     has_form = (u, a.form)
 
-    pub no_file_loaded : (c : Change) → c.taking.new ≡ c.taking.old → (s : Status)
+    pub no_file_loaded : (c : Change) → IsUntouched c.taking → (s : Status)
         → IsSecondRefusal (rows_file rows) (c.held rows) (c.faults_before rows) (c.faults_after rows) s → Work c s
     no_file_loaded c t s r =
         second_refused (HasForm (value_of g) form) (FindsForTableau (value_of g) form budget)
@@ -96,7 +96,7 @@ module _ (g : Grammar) (form rows : List ℕ) (budget : ℕ) where
         (rows_file rows) has_form (λ bytes l. (refl, (has_form, l))) s r
 
     module _ (bytes : List ℕ) (within : length bytes ≤ 4194304) where
-      pub no_tableau : (c : Change) → IsHeld (c.held rows) bytes → c.taking.new ≡ c.taking.old → (s : Status)
+      pub no_tableau : (c : Change) → IsHeld (c.held rows) bytes → IsUntouched c.taking → (s : Status)
           → IsRefusal (RefusesRows (problem g u) budget bytes) s → Work c s
       no_tableau c h t s r = inr (record {
         bytes = bytes;

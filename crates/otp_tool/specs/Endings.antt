@@ -53,6 +53,7 @@ pub record IsStatusOf (words : List (List ℕ)) (c : Change) (status : Status) :
   pub write_fault : status ≡ WriteFault → IsBehind words c.held ready × Rose c.taking.before c.taking.after
   pub due : (finding : Finding) → finding ≢ ready → IsTold words c.held finding → Stands (answer_to finding) status
   pub untouched : IsBeforeWriting status → c.taking.new ≡ c.taking.old
+  pub no_fault_counted : IsBeforeWriting status → c.taking.after ≡ c.taking.before
   pub begun : status ≡ WriteFault
       → IsWrittenBehind words c.held IsAnyResult (λ text. HasSentPart c.taking.old text c.taking.new)
   pub no_memory : status ≡ NoMemory → (c.taking.new ≡ c.taking.old)

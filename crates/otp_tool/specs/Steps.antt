@@ -196,6 +196,10 @@ abbrev pub taking_of : {O : Type 0} → SinkGhosts O → O → O → SinkChange
 taking_of sink old new =
     record { old = sink.taken old; new = sink.taken new; before = sink.faults old; after = sink.faults new }
 
+-- nothing was handed to the sink: it has taken what it had, and has the faults that it had
+abbrev pub IsUntouched : SinkChange → Type 0
+IsUntouched t = ◌≡◌ {A = Option (List ℕ) × ℕ} (t.new, t.after) (t.old, t.before)
+
 -- a text of this kind was written as a whole, or a front of it
 pub record IsAllTaken (writes : List ℕ → Type 0) (t : SinkChange) : Type 0 where
   pub text : List ℕ
@@ -257,7 +261,7 @@ IsNoEnd writes t (TooLong word) = ⊥
 
 -- what a command does with a grammar: it refuses and writes nothing, or it is ready and writes
 abbrev pub IsStep : (Finding → Type 0) → (List ℕ → Type 0) → SinkChange → Status → Type 0
-IsStep finds writes t status = (IsRefusal finds status × (t.new ≡ t.old))
+IsStep finds writes t status = (IsRefusal finds status × IsUntouched t)
     ⊎ (finds ready × IsWriteStatus writes t status)
 
 -- what a shelf holds, and its faults and what a sink has taken, before and after
@@ -282,7 +286,7 @@ pub record IsNotRead (second : Option NamedFile) (reaches : Type 0) (c : Change)
   pub reached : reaches
   pub rose : Rose (c.faults_before file.name) (c.faults_after file.name)
   pub answer : status ≡ ReadFault file.word
-  pub untouched : c.taking.new ≡ c.taking.old
+  pub untouched : IsUntouched c.taking
 
 -- a step that looks at bytes of a second file, which may be held
 pub record IsStepWith (second : Option NamedFile) (finds : List ℕ → Finding → Type 0) (writes : List ℕ → List ℕ
@@ -340,19 +344,19 @@ IsOutcome words c Done =
 IsOutcome words c No =
     IsBehind words c.held ready
     × IsWrittenBehind words c.held IsNoResult (λ text. c.taking.new ≡ append_if_seen c.taking.old text)
-IsOutcome words c Usage = IsNoCommand words × (c.taking.new ≡ c.taking.old)
+IsOutcome words c Usage = IsNoCommand words × IsUntouched c.taking
 IsOutcome words c (GrammarRefused word line cause) =
-    (word ≡ 1) × IsBehind words c.held (no_grammar line cause) × (c.taking.new ≡ c.taking.old)
+    (word ≡ 1) × IsBehind words c.held (no_grammar line cause) × IsUntouched c.taking
 IsOutcome words c (FormRefused word cause) =
-    IsBehind words c.held (no_form word cause) × (c.taking.new ≡ c.taking.old)
+    IsBehind words c.held (no_form word cause) × IsUntouched c.taking
 IsOutcome words c (LexiconRefused word cause) =
-    (word ≡ 2) × IsBehind words c.held (no_lexicon cause) × (c.taking.new ≡ c.taking.old)
+    (word ≡ 2) × IsBehind words c.held (no_lexicon cause) × IsUntouched c.taking
 IsOutcome words c (AnswerRefused word line cause) =
-    (word ≡ 2) × IsBehind words c.held (no_answer line cause) × (c.taking.new ≡ c.taking.old)
+    (word ≡ 2) × IsBehind words c.held (no_answer line cause) × IsUntouched c.taking
 IsOutcome words c (Budget entry stage) =
-    IsBehind words c.held (over_budget entry stage) × (c.taking.new ≡ c.taking.old)
+    IsBehind words c.held (over_budget entry stage) × IsUntouched c.taking
 IsOutcome words c (ReadFault word) =
-    HasReadFault words c.held c.faults_before c.faults_after word × (c.taking.new ≡ c.taking.old)
+    HasReadFault words c.held c.faults_before c.faults_after word × IsUntouched c.taking
 IsOutcome words c WriteFault =
     IsBehind words c.held ready
     × IsWrittenBehind words c.held IsAnyResult (λ text. HasSentPart c.taking.old text c.taking.new)
@@ -362,5 +366,5 @@ IsOutcome words c NoMemory =
     × ((c.taking.new ≡ c.taking.old)
     ⊎ IsWrittenBehind words c.held IsAnyResult (λ text. HasSentPart c.taking.old text c.taking.new))
 IsOutcome words c (RowsRefused word row cause) =
-    (word ≡ 3) × IsBehind words c.held (no_rows row cause) × (c.taking.new ≡ c.taking.old)
-IsOutcome words c (TooLong word) = IsTooLong words c.held word × (c.taking.new ≡ c.taking.old)
+    (word ≡ 3) × IsBehind words c.held (no_rows row cause) × IsUntouched c.taking
+IsOutcome words c (TooLong word) = IsTooLong words c.held word × IsUntouched c.taking

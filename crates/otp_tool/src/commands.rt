@@ -239,6 +239,7 @@ pub fn run<F: Shelf, O: Sink>(
 
     // What was written if not everything was done.
     ensures untouched { IsBeforeWriting result → O.taken sink.new ≡ O.taken sink.old }
+    ensures no_fault_counted { IsBeforeWriting result → O.faults sink.new ≡ O.faults sink.old }
     ensures begun { result ≡ Status.WriteFault
         → IsWrittenBehind (words_of words.now) (F.held shelf.old) IsAnyResult
         (λ text. HasSentPart (O.taken sink.old) text (O.taken sink.new)) }

@@ -1,6 +1,6 @@
 use Rattle.command_line.specs.Words.{words_of}
 use Rattle.otp_tool.specs.Steps.{change_of}
-use Rattle.otp_tool.proofs.DueLemmas.{complete, due, untouched}
+use Rattle.otp_tool.proofs.DueLemmas.{complete, due, no_fault_counted, untouched}
 use Rattle.otp_tool.proofs.VerdictLemmas.{settled}
 use Rattle.otp_tool.proofs.CauseLemmas.{begun, by_answer, by_budget, by_form, by_grammar, by_length, by_lexicon}
 use Rattle.otp_tool.proofs.CauseLemmas.{by_memory, by_reading, by_rows, by_usage, by_writing, done, no, nothing_refused}
@@ -105,6 +105,12 @@ returns-in-Some-clause-due g c =
 pub returns-in-Some-clause-untouched : goal.returns-in-Some-clause-untouched
 returns-in-Some-clause-untouched g c =
     untouched (words_of c.args.words.now)
+    (change_of g.F.Shelf g.O.Sink c.args.shelf.now c.execute.new.shelf c.args.sink.now c.execute.new.sink)
+    c.execute.result (c.execute.ensures.outcome (words_of c.args.words.now) c.in-Some.ensures)
+
+pub returns-in-Some-clause-no_fault_counted : goal.returns-in-Some-clause-no_fault_counted
+returns-in-Some-clause-no_fault_counted g c =
+    no_fault_counted (words_of c.args.words.now)
     (change_of g.F.Shelf g.O.Sink c.args.shelf.now c.execute.new.shelf c.args.sink.now c.execute.new.sink)
     c.execute.result (c.execute.ensures.outcome (words_of c.args.words.now) c.in-Some.ensures)
 

@@ -21,6 +21,7 @@ returns-clause-ending g c = record {
     write_fault = c.run-status.ensures.write_fault;
     due = c.run-status.ensures.due;
     untouched = c.run-status.ensures.untouched;
+    no_fault_counted = c.run-status.ensures.no_fault_counted;
     begun = c.run-status.ensures.begun;
     no_memory = c.run-status.ensures.no_memory;
   };

@@ -24,6 +24,7 @@ returns-clause-status c = record {
   write_fault = c.run.ensures.write_fault;
   due = c.run.ensures.due;
   untouched = c.run.ensures.untouched;
+  no_fault_counted = c.run.ensures.no_fault_counted;
   begun = c.run.ensures.begun;
   no_memory = c.run.ensures.no_memory;
 }

@@ -22,6 +22,7 @@ use Rattle.answer_text.specs.Acceptance.{HasArc}
 use Rattle.answer_text.specs.Right.{nodes_at, numbers_of, IsNodeOf}
 use Rattle.answer_text.specs.Certified.{IsKeptBelow, IsCertifiedAutomaton, AreStatesInOrder}
 use Rattle.tier_core.proofs.Members.{contains_map, contains_of_map}
+use Rattle.tier_core.proofs.ClassLemmas.{same_width}
 use Rattle.answer_examples.specs.Seen.{StateSeen, node_seen, nodes_seen, arc_seen, state_seen}
 use Rattle.answer_examples.proofs.Tests.{Decides-by, both, implied, Decides-both, Decides-implied, Decides-true}
 use Rattle.answer_examples.proofs.Tests.{all_seen, each_seen, some_seen, pairs_pass, pairs_seen, ascends}
@@ -137,13 +138,6 @@ Decides-arc states n m column =
 abbrev pub each_column : List ℕ → (List Sym → Bool) → Bool
 each_column sets test = every_column (length sets) (λ column. implied (sets_have sets column) (λ _. test column))
 
-as_long : (sets : List ℕ) (column : List Sym) → sets_have sets column ≡ true → length column ≡ length sets
-as_long [] [] h = refl
-as_long [] (s ∷ column) h = absurd (false≢true h)
-as_long (set ∷ sets) [] h = absurd (false≢true h)
-as_long (set ∷ sets) (s ∷ column) h =
-    omega (arith, as_long sets column (and_parts (is_in set s) (sets_have sets column) h).1)
-
 pub Decides-class : (sets : List ℕ) (test : List Sym → Bool) (P : List Sym → Type 0)
     → ((column : List Sym) → Decides (test column) (P column))
     → Decides (each_column sets test) ((column : List Sym) → IsTrue (sets_have sets column) → P column)
@@ -152,7 +146,7 @@ Decides-class sets test P each =
     (λ column. IsTrue (sets_have sets column) → P column)
     (λ column. Decides-implied (sets_have sets column) (λ _. test column) (Decides-true (sets_have sets column))
     (each column)))
-    (λ h column s. h column (as_long sets column s) s)
+    (λ h column s. h column (same_width sets column s) s)
     (λ h column l s. h column s)
 
 -- no column is in both

@@ -35,39 +35,6 @@ pub record AreArcs (width nodes : ℕ) (old now : Lines) (arcs : List ArcLine) :
   pub readable : All (IsReadableArc width nodes) arcs
 
 module _ (width nodes : ℕ) (arcs : List ArcLine) (now : Lines) where
-  abbrev arc_values : List ArcValue
-  arc_values = map arc_value arcs
-
-  abbrev arc_of_state : ℕ → List StateValue → ℕ × Bool → ArcValue → ℕ → List (List ℕ) → Result (List StateValue) At
-  arc_of_state more states state arc = states_from width nodes
-      (in_state more states (with_arc (with_arcs state arc_values) arc))
-
-  arc_here : (more : ℕ) (states : List StateValue) (state : ℕ × Bool) → begins (codes "arc ") now.rest.now ≡ true
-      → states_from width nodes (in_state more states (with_arcs state arc_values)) now.number (lines_left now)
-      ≡ line_then (next_arc width nodes arc_values) (arc_of_state more states state) now.number (lines_left now)
-  arc_here more states state h = arc_next width nodes more states (with_arcs state arc_values) now.number now.rest.now h
-
-  pub arc_read : (old new : Lines) (arc : ArcLine) → AreArcs width nodes old now arcs
-      → begins (codes "arc ") now.rest.now ≡ true
-      → Takes (next_arc width nodes arc_values) arc_value now new (Ok arc) → IsReadableArc width nodes arc
-      → AreArcs width nodes old new (arcs ++ arc ∷ [])
-  arc_read old new arc are h t within = record {
-    goes_on = λ more states state. are.goes_on more states state ∙ arc_here more states state h
-        ∙ takes_on (next_arc width nodes arc_values) arc_value (arc_of_state more states state) now new arc t
-        ∙ ap (λ xs. states_from width nodes (in_state more states (with_arcs state xs)) new.number (lines_left new))
-        (sym (map_push arc_value arcs arc));
-    readable = All-push (IsReadableArc width nodes) arcs arc are.readable
-        (record { wide = within.wide; target = within.target });
-  }
-
-  pub arcs_read : (old : Lines) → AreArcs width nodes old now arcs → begins (codes "arc ") now.rest.now ≡ false
-      → (more : ℕ) (states : List StateValue) (state : ℕ × Bool)
-      → states_from width nodes (in_state more states (bare_state state)) old.number (lines_left old)
-      ≡ states_from width nodes (behind_states more (states ++ with_arcs state arc_values ∷ [])) now.number
-      (lines_left now)
-  arcs_read old are h more states state = are.goes_on more states state
-      ∙ arcs_end width nodes more states (with_arcs state arc_values) now.number now.rest.now h
-
 -- a state and its arcs
 module _ (width nodes : ℕ) (states : List StateValue) (more : ℕ) (old mid : Lines) where
   pub state_read : (state : ℕ × Bool) → Takes (next_state nodes states) bare_state old mid (Ok state)

@@ -36,10 +36,6 @@ module _ (problem : Problem) (answer : Answer) where
       let w = h.1.1.1.0 in
       w.differs (w.listed_is ∙ ap (λ (v : List ℕ). get_or v (h.0 - 1) 0) counts ∙ sym w.counted_is)
 
-  below_two : IsRightPart 0 → (m : ℕ) → m < 1 → IsRightPart m
-  below_two a zero l = a
-  below_two a (suc m) l = absurd (omega arith)
-
   below_three : IsRightPart 0 → IsRightPart 1 → (m : ℕ) → m < 2 → IsRightPart m
   below_three a b zero l = a
   below_three a b (suc zero) l = b

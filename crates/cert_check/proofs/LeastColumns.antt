@@ -57,9 +57,6 @@ earlier (o ∷ other) (t ∷ column) (s ∷ lesser) b h = elim (cases_order (ran
 abbrev pub IsLeastOf : List Class → Option (List Sym) → Type 0
 IsLeastOf classes least = MatchOption least (IsNoColumn (some_has classes)) (IsLeastColumn (some_has classes))
 
-pub least_none : IsLeastOf [] None
-least_none = λ column. refl
-
 -- with one more class, of which the least column is at hand
 module _ (classes : List Class) (n : ℕ) (class : Class) (within : n < length classes)
     (is : class ≡ get_or classes n class) (own : List Sym) (held : IsTrue (has class own))

@@ -137,13 +137,6 @@ some_index (class ∷ classes) column d h = ⊎_elim
     (or_cases (has class column) (some_has classes column) h)
 
 module _ (problem : Problem) (answer : Answer) (stage n : ℕ) (classes : List Class) where
-  pub least_none : (best : ℕ) → best ≡ length classes → IsLeastWrong problem answer stage n classes 0 best
-  least_none best e = record {
-    within = omega (arith, e);
-    wrong = λ class l. absurd (omega (arith, e, l));
-    others = λ m class l. absurd (omega arith);
-  }
-
   module _ (best next : ℕ) (so_far : IsLeastWrong problem answer stage n classes next best)
       (inside : next < length classes) where
     at_next : (P : Class → Type 0) (class d : Class) → class ≡ get_or classes next class → P class

@@ -30,9 +30,6 @@ use Rattle.cert_check.proofs.Parts.{none_before}
 module _ (problem : Problem) (answer : Answer)
     (ascending : IsStrictlySortedBy nat_cmp (numbers_of answer.automaton.states.items)) (line : StateLine)
     (listed : Contains answer.automaton.states.items line) where
-  abbrev state : ℕ
-  state = line.node
-
   abbrev arcs : List ArcLine
   arcs = line.arcs.items
 

@@ -12,8 +12,8 @@ use Rattle.violation.specs.Candidates.{IsForm, IsCandidate, vec, vec_cmp, IsOpti
 use Rattle.violation.specs.Conditions.{AreSplit, IsOverTiers}
 use Rattle.violation.specs.Counts.{violations_of}
 use Rattle.violation.specs.Prefixes.{kind_of}
-use Rattle.violation.proofs.StageLemmas.{all_optimal, optimal_for_fewer}
-use Rattle.violation.proofs.VectorLemmas.{both_equal, equal_at_most, at_most_last, at_most_by_last}
+use Rattle.violation.proofs.StageLemmas.{alike_optimal, all_optimal, optimal_for_fewer}
+use Rattle.violation.proofs.VectorLemmas.{both_equal, at_most_last, at_most_by_last}
 use Rattle.violation.proofs.WalkSums.{violations_walk}
 use Rattle.answer_text.specs.declared.stage.Stage.{Stage}
 use Rattle.answer_text.specs.Certified.{Lists, start_potential, IsCertifiedStage}
@@ -84,11 +84,7 @@ module _ (problem : Problem) (stages : List Stage) (split : AreSplit problem.tie
             → vec_cmp (take (r - 1) (counts_on problem T)) (take (r - 1) (counts_on problem U)) ≡ Equal
             → count T ≤ count U
         no_less U c same =
-            let other : IsOptimalFor problem (r - 1) U = record {
-              candidate = c;
-              least = λ V d. equal_at_most (take (r - 1) (counts_on problem T)) (take (r - 1) (counts_on problem U))
-                  (take (r - 1) (counts_on problem V)) same (o.least V d);
-            } in
+            let other : IsOptimalFor problem (r - 1) U = alike_optimal problem (r - 1) T U o c same in
             omega (arith, e, at_least U other)
 
     has_count : (T : List (List Sym)) → IsOptimalFor problem r T → count T ≡ count example

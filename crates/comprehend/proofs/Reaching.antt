@@ -30,18 +30,6 @@ known_inside left s n at = elim (cases_lt s (length left)) [
   | inr l ↦ absurd (omega (arith, get_or_past left s no_distance l, at.number, at.near))
 ]
 
--- one vertex of which something is known
-pub one_known : (n : ℕ) (left next : List ℕ) (s m : ℕ) → IsLeft left s m → Reaches (λ v. v ≡ s) n left left next next
-one_known n left next s m at = record {
-  same = refl;
-  kept = λ v d known. known;
-  found = λ v d known. inl known;
-  reached = λ v same. (m, (let P : ℕ → Type 0 = λ x. IsLeft left x m in subst P (sym same) at));
-  stays = λ v here. here;
-  listed = λ v here. inl here;
-  number = refl;
-}
-
 -- one vertex of which nothing was known
 pub one_unknown : (n : ℕ) (left next : List ℕ) (s : ℕ) → n < no_distance → no_distance ≤ get_or left s no_distance
     → s < length left

@@ -55,9 +55,6 @@ module _ (T : List (List Sym)) (t k : ℕ) (column : List Sym) (h : k < length T
 pub end_none : (T : List (List Sym)) (t k : ℕ) → length T ≤ k → end_from T t k ≡ None
 end_none T t k h = ap (λ rest. next_end k (tier_word rest t)) (drop_all k T h)
 
-pub left_none : (T : List (List Sym)) (t k : ℕ) → length T ≤ k → left_from T t k ≡ []
-left_none T t k h = ap (λ rest. constituents_from k (tier_word rest t)) (drop_all k T h)
-
 -- a span more, which is the event of the next constituent
 pub one_more : (part : Part) (spans : List Span) (span : Span) (c : ℕ × ℕ) (rest : List (ℕ × ℕ))
     → interval span ≡ event part c

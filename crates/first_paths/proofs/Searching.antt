@@ -312,19 +312,6 @@ module _ {V : Type 0} {h : Ghosts V} (states : List (TableState V h)) where
         none,
       )
 
-  pub search_start : (left : List (Option Count)) (level : List ℕ) → length left ≡ length states
-      → AreEnds states left level → IsSearched states left level 0
-  search_start left level same are = record {
-    each_state = same;
-    few = omega (arith, are.number, same);
-    at_most = λ s n e. omega (arith, (are.zero s n e).1);
-    some = λ s n e. ([], (are.zero s n e).0, sym (are.zero s n e).1);
-    ends = λ s inside accepts. are.ends s (omega (arith, same)) accepts;
-    closed = λ s arc n here e less. absurd (omega (arith, less));
-    last = λ s at. are.listed s at.0 at.1;
-    level_is = are.level_is;
-  }
-
   module _ (exist : TargetsExist states) where
     -- once a level is empty, each run has been counted
     pub search_end : (left : List (Option Count)) (level : List ℕ) (k : ℕ) → IsSearched states left level k

@@ -27,6 +27,7 @@ use Rattle.violation.proofs.TierLemmas.{flag_in, flag_out, flag_at}
 use Rattle.kind_moves.specs.Frames.{is_closed, is_left_open, AreClosedOr}
 use Rattle.kind_moves.proofs.OpenPlaces.{form_open_after}
 use Rattle.violation.specs.Problems.{Problem}
+use Rattle.violation.proofs.ClosedPhases.{closed_is}
 
 -- a symbol without an edge leaves its tier as it is
 stays : (b : Bool) (s : Sym) → fits b s ≡ true → is_edge s ≡ false → b ≡ opens s
@@ -118,12 +119,7 @@ module _ (problem : Problem) (split : AreSplit problem.tiers) (form : IsForm pro
 
   closed_next : (left right : List Event) (phase : Phase) → is_closed (next_phase left right phase column)
       ≡ not (opens_all left column)
-  closed_next left right phase = by (opens_all left column) _
-    where
-      by : (a b : Bool) → is_closed (cond a (cond b met unmet) closed) ≡ not a
-      by true true = refl
-      by true false = refl
-      by false b = refl
+  closed_next left right phase = closed_is (opens_all left column) _
 
   -- after a move a phase is closed where a left tier is
   pub phases_next : (r : ℕ) (cs : List Constraint) (is_before : Constraint → Bool) (phases : List Phase)

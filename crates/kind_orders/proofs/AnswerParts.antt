@@ -18,16 +18,3 @@ ordering_of_own n order o = subst (λ m. IsOrdering m order) (sym o.count) o
 
 module _ (kinds : List Kind) (potentials order : List ℕ) (nodes : List Node)
     (are : AreNodesInOrder kinds potentials order nodes) where
-  -- the nodes tell kinds that ascend
-  pub nodes_ascend : (shape : Shape) (stage : ℕ) → IsKindOrder shape stage kinds order
-      → IsStrictlySortedBy kind_order (map (λ (node : Node). kind_in shape stage node.kind) nodes)
-  nodes_ascend shape stage o = subst (IsStrictlySortedBy kind_order)
-      (sym (are.in_order (kind_in shape stage))) o.ascending
-
-  node_at : (place : ℕ) → place < length order
-      → slice_get nodes place ≡ Some (node_numbered kinds potentials (get_or order place 0))
-  node_at place l =
-      let f = node_numbered kinds potentials in
-      let inside : place < length (map f order) = omega (arith, length-map order f) in
-      ap (λ ns. slice_get ns place) are.each ∙ slice_get-get_or (map f order) place (f 0) inside
-      ∙ ap Some (get_or-map f order place 0 (f 0) l)

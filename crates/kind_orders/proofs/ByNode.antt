@@ -31,12 +31,6 @@ pub record AreStatesSoFar (nodes : List ℕ) (count n : ℕ) (states : List (Opt
   pub total : length states ≡ count
   pub by_node : AreByNode nodes n states
 
-pub no_states : (nodes : List ℕ) (n : ℕ) → AreByNode nodes 0 (replicate n None)
-no_states nodes n = record {
-  forth = λ state l. absurd (omega arith);
-  back = λ node state e. let none = get_or-replicate_none n node in cc;
-}
-
 pub one_state_more : (nodes : List ℕ) (count n : ℕ) (states : List (Option ℕ)) → AllPairs (λ a b. a ≢ b) nodes
     → All (λ node. node < count) nodes → n < length nodes
     → AreStatesSoFar nodes count n states → AreStatesSoFar nodes count (n + 1) (set states (get_or nodes n 0) (Some n))

@@ -192,9 +192,6 @@ module _ (lines : List ArcLine) (pieces : ArePieces (width_of (arc_classes lines
   abbrev width : ℕ
   width = width_of (arc_classes lines)
 
-  listed : Contains lines line
-  listed = (n, inside, sym is)
-
   wide : length (sets_of line.class) ≡ width
   wide = subst (λ (arc : ArcLine). length (sets_of arc.class) ≡ width) (sym is)
       (subst (λ class. length (sets_of class) ≡ width)

@@ -10,31 +10,7 @@ pub record ArePlaced (order : List ℕ) (n : ℕ) (ranks : List ℕ) : Type 0 wh
   pub count : length ranks ≡ length order
   pub placed : (place : ℕ) → place < n → get_or ranks (get_or order place 0) 0 ≡ place
 
--- numbers of 32 bits of which each below a length is there are not more than they can be
-pub few_numbers : (order : List ℕ) → IsOrdering (length order) order
-    → ((k : ℕ) → k < length order → get_or order k 0 < 2 ^ 32) → length order ≤ 2 ^ 32
-few_numbers order o small =
-    ⊎_elim (λ more. absurd
-    (let h = o.every (2 ^ 32) more in
-    let bound = small h.0 h.1 in
-    let same = get_or_default order h.0 (2 ^ 32) 0 h.1 in
-    omega (arith, bound, same, h.2)))
-    (λ few. few) (cases_lt (2 ^ 32) (length order))
-
 module _ (order : List ℕ) (o : IsOrdering (length order) order) where
-  pub placed_more : (n : ℕ) (ranks : List ℕ) → n < length order → ArePlaced order n ranks
-      → ArePlaced order (n + 1) (set ranks (get_or order n 0) n)
-  placed_more n ranks l p =
-      let number = get_or order n 0 in
-      let inside : number < length ranks = omega (arith, o.below n 0 l, p.count) in
-      record {
-        count = length-set ranks number n ∙ p.count;
-        placed = below_more (λ place. get_or (set ranks number n) (get_or order place 0) 0 ≡ place) n
-            (λ place less. get_or-set_other ranks number (get_or order place 0) n 0 (o.once place n 0 less l)
-            ∙ p.placed place less)
-            (get_or-set_same ranks number n 0 inside);
-      }
-
   module _ (ranks : List ℕ) (p : ArePlaced order (length order) ranks) where
     -- where a number stands
     place_of : (number : ℕ) → number < length order

@@ -28,11 +28,6 @@ toml_or_none : (bytes : List ℕ) (t : Members) → IsToml bytes t → IsNoToml 
 toml_or_none bytes t a (inl other) = other a.utf8
 toml_or_none bytes t a (inr none) = none_some none a.told
 
--- where it holds no array there is no list
-pub not_listed : (table : Members) (d : Data) → Some d ≡ get_member (codes "entry") table → None ≡ as_array d
-    → elements_of table ≡ None
-not_listed table d e f = ap elements_under (sym e) ∙ ap (option_map list_of) (sym f)
-
 -- and where it holds an array, these are its elements
 pub listed_are : (table : Members) (d : Data) (values : List Value) → Some d ≡ get_member (codes "entry") table
     → Some (items_view values) ≡ as_array d → elements_of table ≡ Some (map view values)

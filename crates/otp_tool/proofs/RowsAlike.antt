@@ -65,13 +65,6 @@ abbrev ask : Problem → Tiers → List (List Sym) → Problem
 ask p tiers u = record { tiers = tiers; constraints = p.constraints; form = u }
 
 module _ (p q : Problem) (tiers : p.tiers ≡ q.tiers) (form : p.form ≡ q.form) where
-  pub rows_alike : (lines : List (List ℕ)) (rows : List (List (List Sym))) → AreRowsOf p lines rows
-      → AreRowsOf q lines rows
-  rows_alike lines rows a =
-      rows_of_constraints q p.constraints q.constraints lines rows
-      (subst (λ u. AreRowsOf (ask p q.tiers u) lines rows) form
-      (subst (λ ts. AreRowsOf (ask p ts p.form) lines rows) tiers a))
-
   pub refused_alike : (lines : List (List ℕ)) (row : ℕ) (cause : RowsCause) → IsRefusedAt p lines row cause
       → IsRefusedAt q lines row cause
   refused_alike lines row cause r =

@@ -28,18 +28,6 @@ module _ (arcs : List ArcLine) (i : ℕ) (arc : ArcLine) (within : i < length ar
   rest = drop-cons arcs i arc within ∙ ap (λ n. get_or arcs i arc ∷ drop n arcs) (sym (add-one i))
       ∙ ap (λ x. x ∷ drop (i + 1) arcs) (sym is)
 
-  -- a target to which a later arc leads
-  pub target_later : leads_to arc.target (drop (i + 1) arcs) ≡ true
-      → targets_of (drop i arcs) ≡ targets_of (drop (i + 1) arcs)
-  target_later e = ap targets_of rest
-      ∙ ap (λ b. cond b (targets_of (drop (i + 1) arcs)) (arc.target ∷ targets_of (drop (i + 1) arcs))) e
-
-  -- and one to which none leads
-  pub target_last : leads_to arc.target (drop (i + 1) arcs) ≡ false
-      → targets_of (drop i arcs) ≡ arc.target ∷ targets_of (drop (i + 1) arcs)
-  target_last e = ap targets_of rest
-      ∙ ap (λ b. cond b (targets_of (drop (i + 1) arcs)) (arc.target ∷ targets_of (drop (i + 1) arcs))) e
-
 -- ---- states
 
 abbrev pub pairs_at : StateLine → List (ℕ × ℕ)

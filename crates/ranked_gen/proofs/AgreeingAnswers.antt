@@ -11,6 +11,7 @@ use Rattle.tier_core.specs.Orders.{column_cmp, timeline_cmp, IsFirst}
 use Rattle.first_paths.proofs.Order.{column_total, equal_columns}
 use Rattle.violation.specs.Problems.{Problem}
 use Rattle.violation.specs.Candidates.{IsOptimal}
+use Rattle.violation.proofs.VectorLemmas.{equal_from_both}
 use Rattle.answer_text.specs.declared.answer.Answer.{Answer}
 use Rattle.answer_text.specs.declared.once_answer.OnceAnswer.{OnceAnswer}
 use Rattle.answer_text.specs.Acceptance.{Accepts}
@@ -22,11 +23,6 @@ reverse_then : (o p : Ordering) → ordering_then (ordering_reverse o) (ordering
 reverse_then Less p = refl
 reverse_then Equal p = refl
 reverse_then Greater p = refl
-
-both_equal : (o p : Ordering) → o ≡ ordering_reverse p → is_le o ≡ true → is_le p ≡ true → o ≡ Equal
-both_equal o Equal e h k = e
-both_equal o Less e h k = absurd (false≢true (sym (ap is_le e) ∙ h))
-both_equal o Greater e h k = absurd (false≢true k)
 
 then_parts : (o p : Ordering) → ordering_then o p ≡ Equal → p ≡ Equal
 then_parts Less p e = absurd (false≢true (ap is_eq e))
@@ -57,7 +53,7 @@ pub one_first : (S : List (List Sym) → Type 0) (T U : List (List Sym)) → IsF
 one_first S T U first other =
     same_columns T U
     (then_parts (nat_cmp (length T) (length U)) (slice_cmp column_cmp T U)
-    (both_equal (timeline_cmp T U) (timeline_cmp U T) (turned T U) (first.least U other.member)
+    (equal_from_both (timeline_cmp T U) (timeline_cmp U T) (turned T U) (first.least U other.member)
     (other.least T first.member)))
 
 module _ (problem : Problem) (answer : Answer) (once : OnceAnswer) (right : IsRight problem answer)

@@ -20,20 +20,12 @@ use Rattle.kind_tables.proofs.Naming.{names_law}
 use Rattle.stage_tables.specs.Kept.{IsKeptTable}
 use Rattle.stage_tables.specs.Explored.{names_at, IsExplored, IsMet, HasMoreKinds}
 use Rattle.ranked_gen.specs.Budgets.{IsOver, IsStageWithin}
-use Rattle.tier_core.proofs.Members.{all_from_members}
-use Rattle.tier_core.proofs.Differing.{Differ}
+use Rattle.tier_core.proofs.Differing.{differ_from_pairs}
 use Rattle.ranked_gen.proofs.FewKinds.{stage_few}
 use Rattle.ranked_gen.proofs.OverBudget.{over_budget}
 use Rattle.stage_tables.proofs.Named.{frame_stage}
 use Rattle.violation.specs.Problems.{last_stage}
 use Rattle.kind_moves.specs.Frames.{problem_in}
-
-pub pairs_differ : {X : Type 0} (xs : List X) → AllPairs (λ x y. x ≢ y) xs → Differ xs
-pairs_differ [] h = tt
-pairs_differ (x ∷ xs) h = (
-  all_from_members (λ y. x ≢ y) xs (λ y c e. h 0 (suc c.0) y (omega arith) (omega (arith, c.1)) (e ∙ sym c.2)),
-  pairs_differ xs (λ i j d less l. h (suc i) (suc j) d (omega arith) (omega arith)),
-)
 
 module _ (frame : Frame) (stage : ℕ) (ranked : 1 ≤ stage) (within : stage ≤ last_stage (problem_in frame))
     {h : Ghosts UnitWeight} (kept : List (TableState UnitWeight h))
@@ -69,7 +61,7 @@ module _ (frame : Frame) (r : ℕ) (within : r + 1 ≤ last_stage (problem_in fr
   next_over over =
       over_budget (problem_in frame) r (frame_stage frame r (omega arith))
       (frame_stage frame (r + 1) within) by.0 kept some targets filled by.1 accepts budget over.kinds
-      (pairs_differ over.kinds over.distinct)
+      (differ_from_pairs over.kinds over.distinct)
       (λ k c. let m = All-contains (IsMet frame (r + 1) (Accepts kept)) over.kinds k over.met c in
       (m.prefix, (m.rest, (m.accepted, m.of_kind))))
       over.more

@@ -94,10 +94,6 @@ flags_of-number flags a = flags_of-low (length flags) (length flags) a (number_o
         ∙ same flags in
         cc (head, tail)
 
--- the kind of a number has that number
-pub number-kind_numbered : (f n : ℕ) → number_of_kind f (kind_of_number f n) ≡ n
-number-kind_numbered f n = omega (arith, number-flags_of f n, pow_pos f)
-
 abbrev pub kind_from : ℕ → List Bool → List Phase → PrefixKind
 kind_from place opened phases = record { place = place; opened = opened; phases = phases }
 

@@ -45,16 +45,6 @@ number_at test n (suc k) (x ∷ xs) l h = by_test (test x) (number_at test (suc 
     by_test true a = (omega arith, omega arith)
     by_test false a = (a.0, omega arith)
 
--- an element that is numbered passes
-pub passes : (kinds : List TierKind) (test : TierKind → Bool) (t : ℕ) → Contains (numbers_from test 0 kinds) t
-    → test (kind_at kinds t) ≡ true
-passes kinds test t c =
-    All-contains (λ t. test (kind_at kinds t) ≡ true) _ t
-    (All-from_recursion (λ t. test (kind_at kinds t) ≡ true) _
-    (all_weaker _ _ _ (λ t a. a.2) (numbers_pass test (λ t. test (kind_at kinds t)) 0 kinds
-    (λ k l. let same : 0 + k ≡ k = omega arith in ap (λ (m : ℕ). test (kind_at kinds m)) same))))
-    c
-
 -- no free tier of a table comes twice
 pub free_distinct : (kinds : List TierKind) → AreDistinct (tiers_by_kinds kinds).free
 free_distinct kinds = numbers_distinct is_free 0 kinds

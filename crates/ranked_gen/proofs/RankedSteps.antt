@@ -34,14 +34,6 @@ part_of problem r nodes kept states order left = record {
   tells = left.tells;
 }
 
--- stage 0 alone
-pub ranked_first : (problem : Problem) (budget : ℕ) (stage : Stage) {g : Ghosts UnitWeight}
-    (kept : List (TableState UnitWeight g)) (states order : List ℕ)
-    → IsStageOutcome problem 0 stage.nodes.items kept states order → IsStageWithin problem budget 0
-    → IsRanked problem budget 0 (stage ∷ []) [] kept states order
-ranked_first problem budget stage kept states order left within = record
-    { so_far = first_stages problem budget stage left.right left.fit within; left = left }
-
 -- and one more
 pub ranked_next : (problem : Problem) (budget r : ℕ) (stages : List Stage) (counts : List ℕ)
     → AreStages problem budget r stages counts

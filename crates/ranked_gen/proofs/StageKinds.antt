@@ -110,21 +110,6 @@ module _ (problem : Problem) (split : AreSplit problem.tiers) (distinct : AreDis
     );
   }
 
-  -- a list of the kinds of stage 0 has no more
-  pub kinds_few : (ks : List PrefixKind) → AreKindsOfStage problem 0 ks → length ks ≤ kind_count problem
-  kinds_few ks a =
-      let f = length problem.tiers.free in
-      let within : (k : PrefixKind) → Contains ks k → IsWithin problem k = λ k c. passes_within k ((a.members k).0 c) in
-      let differ : IsDistinct eqb (map (number_of_kind f) ks) = numbers_differ f ks
-      (ascends_from kind_order ks a.ascending)
-      (λ k c. kind_of_number-number f k (within k c).flags (within k c).phases) in
-      let few : length (map (number_of_kind f) ks) ≤ kind_count problem = length-le_from_distinct_below
-      (map (number_of_kind f) ks) (kind_count problem) differ
-      (λ q e. let r = contains_of_map (number_of_kind f) ks q
-      (Contains-from_any (λ x y h. eqb-true x y h) q (map (number_of_kind f) ks) e) in
-      subst (λ n. n < kind_count problem) r.1.1 (number_within problem r.0 (within r.0 r.1.0))) in
-      omega (arith, few, length-map ks (number_of_kind f))
-
   -- stage 0 is the first that is over a budget of fewer kinds
   pub first_over : (budget : ℕ) → budget < kind_count problem → IsFirstOver problem budget 0
   first_over budget l =

@@ -110,9 +110,6 @@ module _ (problem : Problem) (budget : ℕ) where
     }
 
     module _ (all : r ≡ last_stage problem) where
-      pub all_within : AreAllWithin problem budget
-      all_within s l = so_far.within s (omega arith)
-
       whole : (T : List (List Sym)) → IsOptimal problem T → counts_on problem T ≡ counts
       whole T o =
           let long : r ≡ length (counts_on problem T) = all

@@ -18,7 +18,7 @@ use Rattle.violation.specs.Candidates.{IsCandidate, counts_on, IsAtMost, IsOptim
 use Rattle.violation.specs.Counts.{violations_of, violations_so_far}
 use Rattle.violation.specs.Prefixes.{kind_of}
 use Rattle.violation.specs.Rests.{counts_rest, PassesWhole, IsLeastRestVector}
-use Rattle.violation.proofs.LeastVector.{one_vector}
+use Rattle.violation.proofs.LeastVector.{one_vector, whole}
 use Rattle.violation.proofs.StageLemmas.{all_optimal}
 use Rattle.kind_tables.specs.StageTables.{IsStage, name_of}
 use Rattle.kind_tables.specs.RankedTables.{IsRankedTable}
@@ -44,9 +44,6 @@ module _ (problem : Problem) (stage : IsStage problem (last_stage problem)) (few
   length_vec : (T : List (List Sym)) → length (counts_on problem T) ≡ last_stage problem
   length_vec T = length-map problem.constraints (λ c. violations_of c T)
 
-  all_of : (T : List (List Sym)) → take (last_stage problem) (counts_on problem T) ≡ counts_on problem T
-  all_of T = take_all (last_stage problem) (counts_on problem T) (omega (arith, length_vec T))
-
   even_vec : (T U : List (List Sym)) → length (counts_on problem U) ≡ length (counts_on problem T)
   even_vec T U = length_vec U ∙ sym (length_vec T)
 
@@ -65,8 +62,8 @@ module _ (problem : Problem) (stage : IsStage problem (last_stage problem)) (few
           at_most (weight_of word.0) (weight_of accepted.0) (counts_on problem T) (counts_on problem U)
           (weight_vec T word.0 word.1) (weight_vec U accepted.0 accepted.1) (even_vec T U)
           (word.2 U accepted.0 accepted.1) in
-          subst (λ v. IsAtMost v (take (last_stage problem) (counts_on problem U))) (sym (all_of T))
-          (subst (IsAtMost (counts_on problem T)) (sym (all_of U)) bound)
+          subst (λ v. IsAtMost v (take (last_stage problem) (counts_on problem U))) (sym (whole problem T))
+          (subst (IsAtMost (counts_on problem T)) (sym (whole problem U)) bound)
 
   optimal_least : (T : List (List Sym)) → IsOptimal problem T → IsLeastWord states T
   optimal_least T opt = (accepted.0, accepted.1, least)
@@ -78,8 +75,8 @@ module _ (problem : Problem) (stage : IsStage problem (last_stage problem)) (few
           → AtMost g.meaning (weight_of accepted.0) (weight_of others)
       least U others run =
           let bound : IsAtMost (counts_on problem T) (counts_on problem U) =
-          subst (λ v. IsAtMost v (counts_on problem U)) (all_of T)
-          (subst (IsAtMost (take (last_stage problem) (counts_on problem T))) (all_of U)
+          subst (λ v. IsAtMost v (counts_on problem U)) (whole problem T)
+          (subst (IsAtMost (take (last_stage problem) (counts_on problem T))) (whole problem U)
           (opt.least U ((table.accepts U).0 (others, run)))) in
           no_more (weight_of accepted.0) (weight_of others) (counts_on problem T) (counts_on problem U)
           (weight_vec T accepted.0 accepted.1) (weight_vec U others run) (even_vec T U) bound

@@ -14,10 +14,10 @@ use Rattle.arc_table.specs.Runs.{weight_of, AcceptingRun, Accepts, IsLeastWord, 
 use Rattle.arc_table.proofs.SomeWord.{some_word}
 use Rattle.violation.specs.Candidates.{IsCandidate, vec_cmp, IsAtMost, IsOptimalFor, IsLeastVector, counts_on, count_at}
 use Rattle.violation.specs.Counts.{violations_of}
-use Rattle.violation.proofs.StageLemmas.{optimal_for_fewer}
+use Rattle.violation.proofs.StageLemmas.{alike_optimal, optimal_for_fewer}
 use Rattle.kind_tables.specs.StageTables.{IsStage, IsStageTable}
 use Rattle.stage_laws.proofs.Resting.{at_most_le, le_at_most, first_weight}
-use Rattle.violation.proofs.VectorLemmas.{both_equal, equal_at_most, at_most_last, at_most_by_last}
+use Rattle.violation.proofs.VectorLemmas.{both_equal, at_most_last, at_most_by_last}
 use Rattle.kind_tables.proofs.Weighing.{run_weight_law}
 use Rattle.violation.specs.Problems.{Problem, last_stage}
 
@@ -46,11 +46,7 @@ module _ (problem : Problem) (r : ℕ) (stage : IsStage problem r) {g : Ghosts C
           → vec_cmp (take (r - 1) (counts_on problem T)) (take (r - 1) (counts_on problem U)) ≡ Equal
           → count T ≤ count U
       no_less U c e =
-          let other : IsOptimalFor problem (r - 1) U = record {
-            candidate = c;
-            least = λ V d. equal_at_most (take (r - 1) (counts_on problem T)) (take (r - 1) (counts_on problem U))
-                (take (r - 1) (counts_on problem V)) e (before.least V d);
-          } in
+          let other : IsOptimalFor problem (r - 1) U = alike_optimal problem (r - 1) T U before c e in
           let accepted : Accepts states U = (table.accepts U).1 other in
           omega (
             arith,

@@ -77,7 +77,3 @@ none_made {g} {h} frame first stage kept entries states one none =
 pub one_more : {X : Type 0} (budget : ℕ) (xs : List X) (x : X) → length xs < budget
     → budget - length (xs ++ x ∷ []) < budget - length xs
 one_more budget xs x l = omega (arith, length_push xs x)
-
-pub empty_is : {X : Type 0} (xs : List X) → length xs ≡ 0 → xs ≡ []
-empty_is [] e = refl
-empty_is (x ∷ xs) e = absurd (omega arith)

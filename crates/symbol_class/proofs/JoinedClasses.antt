@@ -56,16 +56,6 @@ ascending t classes sorted = λ i j d less inside.
     (ranks_by nat_list_cmp_total (λ class. sets_beside t (sets_of class))) classes sorted i j d
     (omega arith) inside)
 
-pub joins_none : (t : ℕ) → JoinsAlong t [] []
-joins_none t = record {
-  held = λ column. refl;
-  one_width = λ width all. all;
-  filled = All-nil (λ class. IsTrue (is_filled class));
-  fewer = omega arith;
-  kept = λ e. IsPermutation-refl [];
-  differ = λ i j d less inside. absurd (omega arith);
-}
-
 pub joins_sorted : (t : ℕ) (first : Class) (rest joined : List Class)
     → map sets_of joined ≡ joined_from t (sets_of first) (map sets_of rest)
     → All (λ class. t < length (sets_of class)) (first ∷ rest)

@@ -15,6 +15,7 @@ use Rattle.tier_core.specs.declared.constraint.Constraint.{Constraint}
 use Rattle.tier_core.specs.Tiers.{Tiers}
 use Rattle.violation.specs.Counts.{violations_of}
 use Rattle.violation.specs.Candidates.{vec, IsAtMost, IsCandidate, IsLeastVector, IsOptimal, counts_on}
+use Rattle.violation.proofs.LeastVector.{whole}
 use Rattle.tableau.specs.declared.table.TableauRow.{TableauRow}
 use Rattle.tableau.specs.Compared.{IsCompared, IsFirstOther}
 use Rattle.tableau.specs.Tableaux.{IsFirstWorse, IsTableauRow}
@@ -39,16 +40,12 @@ greater (m ∷ least) (n ∷ counts) (suc w) a l b o =
     (nat_cmp_is m n Equal same) ∙ a) (omega arith) rest o
 
 module _ (problem : Problem) (least : List ℕ) (is_least : IsLeastVector problem least) where
-  whole : (T : List (List Sym)) → take (last_stage problem) (counts_on problem T) ≡ counts_on problem T
-  whole T = let n = length-map problem.constraints (λ c. violations_of c T) in take_all (last_stage problem)
-      (counts_on problem T) (omega arith)
-
   -- the least is at most the vector of each candidate
   at_most : (T : List (List Sym)) → IsCandidate problem T → IsAtMost least (counts_on problem T)
   at_most T c =
       let best = is_least.some.0 in
-      subst (λ (v : List ℕ). IsAtMost v (counts_on problem T)) (whole best ∙ is_least.some.1.1)
-      (subst (λ (v : List ℕ). IsAtMost (take (last_stage problem) (counts_on problem best)) v) (whole T)
+      subst (λ (v : List ℕ). IsAtMost v (counts_on problem T)) (whole problem best ∙ is_least.some.1.1)
+      (subst (λ (v : List ℕ). IsAtMost (take (last_stage problem) (counts_on problem best)) v) (whole problem T)
       (is_least.some.1.0.least T c))
 
   -- a candidate with the least vector is optimal
@@ -58,10 +55,6 @@ module _ (problem : Problem) (least : List ℕ) (is_least : IsLeastVector proble
     least = λ U d. subst (λ (v : List ℕ). IsAtMost (take (last_stage problem) v)
         (take (last_stage problem) (counts_on problem U))) (is_least.some.1.1 ∙ sym e) (is_least.some.1.0.least U d);
   }
-
-  pub length-least : length least ≡ last_stage problem
-  length-least = ap length (sym is_least.some.1.1)
-      ∙ length-map problem.constraints (λ c. violations_of c is_least.some.0)
 
   -- what a comparison with the least says of a candidate
   judged : (T : List (List Sym)) → IsCandidate problem T → (counts : List ℕ) → counts ≡ counts_on problem T
@@ -90,15 +83,4 @@ module _ (problem : Problem) (least : List ℕ) (is_least : IsLeastVector proble
         counts = r.counts ∙ ap (counts_on problem) (sym r.timeline);
         optimal = subst (λ (U : List (List Sym)). IsNone row.worse ↔ IsOptimal problem U) (sym r.timeline) judge.0;
         worse = judge.1;
-      }
-
-  -- an optimal candidate with the least counts
-  pub optimal_row : (T : List (List Sym)) (row : TableauRow) → IsOptimal problem T → row.timeline ≡ T
-      → row.counts.items ≡ least → row.worse ≡ None → IsTableauRow problem least row
-  optimal_row T row best t e w =
-      let of_row : IsOptimal problem row.timeline = subst (IsOptimal problem) (sym t) best in
-      record {
-        counts = e ∙ sym (is_least.shared row.timeline of_row);
-        optimal = (λ _. of_row, λ _. ap is_some w);
-        worse = subst (λ (o : Option ℕ). IfSome o (IsFirstWorse least row.counts.items)) (sym w) tt;
       }

@@ -25,18 +25,9 @@ length_joined column (next ∷ columns) =
       length_joined next columns,
     )
 
--- the text of a timeline has a byte fewer than its columns take, and `empty` has five
-pub length_empty : (T : List (List Sym)) → bytes_of T ≡ 0 → length (text_of T) ≡ 5
-length_empty [] h = refl
-length_empty (column ∷ columns) h = absurd (omega arith)
-
 pub length_text : (T : List (List Sym)) → 0 < bytes_of T → length (text_of T) ≡ bytes_of T - 1
 length_text [] h = absurd (omega arith)
 length_text (column ∷ columns) h = omega (arith, length_joined column columns)
-
-pub bytes_next : (T : List (List Sym)) (i : ℕ) (column : List Sym) → i < length T → column ≡ get_or T i column
-    → bytes_of (drop i T) ≡ length column + 1 + bytes_of (drop (i + 1) T)
-bytes_next T i column h is = at_drop_more bytes_of T i column h ∙ ap (λ c. bytes_of (c ∷ drop (i + 1) T)) (sym is)
 
 pub bytes_all : (T : List (List Sym)) (i : ℕ) → length T ≤ i → bytes_of (drop i T) ≡ 0
 bytes_all T i h = at_drop_all bytes_of T i h

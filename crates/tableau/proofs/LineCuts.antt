@@ -36,9 +36,6 @@ cut_at bytes front behind line end h f d e =
     ∙ ap (λ x. strip_carriage_return front ∷ lines x) tail
     ∙ ap (λ x. x ∷ lines behind) (sym e)
 
-pub place_within : (bytes : List ℕ) (end : ℕ) → position (λ b. b == 10) bytes ≡ Some end → end < length bytes
-place_within bytes end h = (within bytes end h).1
-
 last_line : (bytes : List ℕ) → 0 < length bytes → lines_of_parts (bytes ∷ []) ≡ bytes ∷ []
 last_line bytes h = let some : (length bytes == 0)
     ≡ false = grind (arith, nat_tests) in ap (λ b. cond b [] (bytes ∷ [])) some

@@ -82,36 +82,7 @@ pub record IsReadTo (problem : Problem) (bytes rest : List ℕ) (number : ℕ)
   pub counted : length front ≡ number
   pub left : number + length rest ≤ length bytes
 
-pub read_none : (problem : Problem) (bytes : List ℕ) (rows : List (List (List Sym))) → rows ≡ []
-    → IsReadTo problem bytes bytes 0 rows
-read_none problem bytes rows e = record {
-  front = [];
-  whole = refl;
-  read = subst (AreRowsOf problem []) (sym e) (no_rows problem);
-  counted = refl;
-  left = omega arith;
-}
-
 -- the lines of the text, with the first line of the rest on its own
 pub next_line : (bytes rest behind line : List ℕ) (front : List (List ℕ)) → lines bytes ≡ front ++ lines rest
     → lines rest ≡ line ∷ lines behind → lines bytes ≡ front ++ line ∷ lines behind
 next_line bytes rest behind line front w e = w ∙ ap (λ ls. front ++ ls) e
-
-pub read_more : {problem : Problem} {bytes rest : List ℕ} {number : ℕ} {rows : List (List (List Sym))}
-    (behind line : List ℕ) (more : List (List (List Sym))) → lines rest ≡ line ∷ lines behind
-    → length behind < length rest
-    → (r : IsReadTo problem bytes rest number rows) → AreRowsOf problem (r.front ++ line ∷ []) more
-    → IsReadTo problem bytes behind (number + 1) more
-read_more {bytes = bytes} {rest = rest} behind line more e l r a = record {
-  front = r.front ++ line ∷ [];
-  whole = next_line bytes rest behind line r.front r.whole e ∙ sym (append_assoc r.front (line ∷ []) (lines behind));
-  read = a;
-  counted = length_push r.front line ∙ ap (λ n. n + 1) r.counted;
-  left = let k = r.left in omega arith;
-}
-
--- all lines are read
-pub read_all : {problem : Problem} {bytes rest : List ℕ} {number : ℕ} {rows : List (List (List Sym))} → length rest ≡ 0
-    → IsReadTo problem bytes rest number rows → AreRowsOf problem (lines bytes) rows
-read_all {problem} {bytes} {rest} {number} {rows} h r = subst (λ ls. AreRowsOf problem ls rows)
-    (sym (r.whole ∙ ap (λ ls. r.front ++ ls) (nothing_behind rest h) ∙ append-nil r.front)) r.read

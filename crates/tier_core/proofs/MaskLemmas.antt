@@ -121,9 +121,3 @@ some_tier mask width some few within =
     let set : has_tier mask (trailing_zeros w16 mask) ≡ true = ap (λ b. b == 1) lowest.1 in
     listed_below mask (trailing_zeros w16 mask) 12 set
     (tier_within mask 12 (trailing_zeros w16 mask) (omega (arith, twelve)) set)
-
--- a mask that names a tier is not 0
-pub not_zero : (mask : ℕ) → 1 ≤ length (tiers_of mask) → 0 < mask
-unfolding tiers_of
-not_zero zero h = absurd (omega arith)
-not_zero (suc m) h = omega arith

@@ -22,7 +22,7 @@ pub closed_first : (left right : List Event) → 0 < length left → phase left 
 closed_first [] right l = absurd (omega arith)
 closed_first (e ∷ es) right l = refl
 
-closed_is : (a b : Bool) → is_closed (cond a (cond b met unmet) closed) ≡ not a
+pub closed_is : (a b : Bool) → is_closed (cond a (cond b met unmet) closed) ≡ not a
 closed_is true true = refl
 closed_is true false = refl
 closed_is false b = refl

@@ -28,6 +28,7 @@ use Rattle.violation.specs.Columns.{edge_cost}
 use Rattle.violation.proofs.TierLemmas.{map_agree}
 use Rattle.violation.proofs.WalkLemmas.{begun_of, moved_is, walk_on, candidate_walk, candidate_final, final_candidate}
 use Rattle.violation.proofs.WholeCounts.{so_far_none}
+use Rattle.violation.proofs.StageLemmas.{over_from_first}
 use Rattle.violation.specs.Problems.{Problem}
 
 -- two states agree on the tiers of some types
@@ -115,18 +116,7 @@ length_costs (c ∷ cs) o phases column = ap suc (length_costs cs o (cond (is_st
 module _ (problem : Problem) (r : ℕ) (split : AreSplit problem.tiers) (form : IsForm problem.tiers problem.form)
     (over : AllByRecursion (IsOverTiers problem.tiers.width) (take r problem.constraints)) where
   stretches_over : AllByRecursion (IsOverTiers problem.tiers.width) (stretches problem r)
-  stretches_over = kept (take r problem.constraints) over
-    where
-      kept : (cs : List Constraint) → AllByRecursion (IsOverTiers problem.tiers.width) cs
-          → AllByRecursion (IsOverTiers problem.tiers.width) (filter is_stretch cs)
-      kept [] h = tt
-      kept (c ∷ cs) h = step (is_stretch c) (kept cs h.1)
-        where
-          step : (b : Bool) → AllByRecursion (IsOverTiers problem.tiers.width) (filter is_stretch cs)
-              → AllByRecursion (IsOverTiers problem.tiers.width)
-              (cond b (c ∷ filter is_stretch cs) (filter is_stretch cs))
-          step true rest = (h.0, rest)
-          step false rest = rest
+  stretches_over = over_from_first problem r over
 
   pub length_walk : (q : List (List Sym)) (k : PrefixKind)
       → length (walk_costs problem r k q) ≡ length (take r problem.constraints)

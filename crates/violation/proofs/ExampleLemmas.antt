@@ -49,10 +49,6 @@ right_timeline width T w h = record {
   each_tier = λ t l. well_formed_from_runs (tier_word T t) (all_below (λ t. runs false (tier_word T t)) width h t l);
 }
 
-pub wrong_tier : (width : ℕ) (T : List (List Sym)) (t : ℕ) → t < width → runs false (tier_word T t) ≡ false
-    → IsWellFormed width T → ⊥
-wrong_tier width T t l h f = false≢true (sym h ∙ runs_from_well_formed (tier_word T t) (f.each_tier t l))
-
 pub right_candidate : (constraints : List Constraint) (u T : List (List Sym))
     → AllByRecursion (λ column. length column ≡ 2) T
     → list_all (λ t. runs false (tier_word T t)) (range_with_len 0 2) ≡ true → IsReduced T

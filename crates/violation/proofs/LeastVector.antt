@@ -29,7 +29,8 @@ same_vector (x ∷ a) (y ∷ b) e = go (nat_cmp x y) (ranked x y (nat_cmp x y) r
     go Equal m rest e = ap (λ n. n ∷ a) m ∙ ap (λ ns. y ∷ ns) (rest e)
 
 module _ (problem : Problem) where
-  whole : (T : List (List Sym)) → take (last_stage problem) (counts_on problem T) ≡ counts_on problem T
+  -- the counts of all stages are all counts
+  pub whole : (T : List (List Sym)) → take (last_stage problem) (counts_on problem T) ≡ counts_on problem T
   whole T = take_all (last_stage problem) (counts_on problem T)
       (omega (arith, length-map problem.constraints (λ c. violations_of c T)))
 

@@ -1,16 +1,17 @@
 -- What the stages of a grammar and a form share.
-use Rattle.std.proofs.Common.{ℕ, ◌≤◌, List, take, refl}
+use Rattle.std.proofs.Common.{ℕ, ◌≡◌, ◌≤◌, List, take, refl}
+use Rattle.std.specs.declared.cmp.Ordering.TheVariants.{Equal}
 use Rattle.std.specs.List.{AllByRecursion}
 use Rattle.std.proofs.lemmas.List.Elements.{All-from_recursion, recursion_from_All, All-take, All-filter}
 use Rattle.tier_core.specs.declared.sym.Sym.{Sym}
 use Rattle.tier_core.specs.declared.constraint.Constraint.{Constraint}
 use Rattle.tier_core.specs.Tiers.{Tiers}
-use Rattle.violation.specs.Candidates.{vec, IsCandidate, IsOptimalFor, counts_on}
+use Rattle.violation.specs.Candidates.{IsCandidate, IsOptimalFor, counts_on, vec_cmp}
 use Rattle.violation.specs.Conditions.{IsOverTiers}
 use Rattle.violation.specs.Prefixes.{stretches}
 use Rattle.tier_core.specs.Sides.{is_stretch}
 use Rattle.violation.specs.Stages.{IsStage}
-use Rattle.violation.proofs.VectorLemmas.{at_most_fewer}
+use Rattle.violation.proofs.VectorLemmas.{at_most_fewer, equal_at_most}
 use Rattle.violation.specs.Problems.{Problem}
 
 -- each candidate is 0-optimal
@@ -25,6 +26,24 @@ optimal_for_fewer problem n m l T opt = record {
   least = λ U c. at_most_fewer n m (counts_on problem T) (counts_on problem U) l (opt.least U c);
 }
 
+-- a candidate that the first n constraints do not tell from an optimal one is optimal for them
+pub alike_optimal : (problem : Problem) (n : ℕ) (T U : List (List Sym)) → IsOptimalFor problem n T
+    → IsCandidate problem U → vec_cmp (take n (counts_on problem T)) (take n (counts_on problem U)) ≡ Equal
+    → IsOptimalFor problem n U
+alike_optimal problem n T U opt c same = record {
+  candidate = c;
+  least = λ V d. equal_at_most (take n (counts_on problem T)) (take n (counts_on problem U))
+      (take n (counts_on problem V)) same (opt.least V d);
+}
+
+-- the stretches of constraints over tiers are over these
+pub over_from_first : (problem : Problem) (r : ℕ)
+    → AllByRecursion (IsOverTiers problem.tiers.width) (take r problem.constraints)
+    → AllByRecursion (IsOverTiers problem.tiers.width) (stretches problem r)
+over_from_first problem r over = recursion_from_All (IsOverTiers problem.tiers.width) (stretches problem r)
+    (All-filter is_stretch (IsOverTiers problem.tiers.width) (take r problem.constraints)
+    (All-from_recursion (IsOverTiers problem.tiers.width) (take r problem.constraints) over))
+
 module _ (problem : Problem) (r : ℕ) (stage : IsStage problem r) where
   pub over_first : AllByRecursion (IsOverTiers problem.tiers.width) (take r problem.constraints)
   over_first = recursion_from_All (IsOverTiers problem.tiers.width) (take r problem.constraints)
@@ -32,8 +51,4 @@ module _ (problem : Problem) (r : ℕ) (stage : IsStage problem r) where
       (All-from_recursion (IsOverTiers problem.tiers.width) problem.constraints stage.over))
 
   pub over_stretches : AllByRecursion (IsOverTiers problem.tiers.width) (stretches problem r)
-  over_stretches =
-      recursion_from_All (IsOverTiers problem.tiers.width) (stretches problem r)
-      (All-filter is_stretch (IsOverTiers problem.tiers.width) (take r problem.constraints)
-      (All-take (IsOverTiers problem.tiers.width) r problem.constraints
-      (All-from_recursion (IsOverTiers problem.tiers.width) problem.constraints stage.over)))
+  over_stretches = over_from_first problem r over_first

@@ -68,13 +68,14 @@ at_most_fewer (suc n) (suc m) (x ∷ a) (y ∷ b) l h =
     (λ e. at_most_fewer n m a b (omega arith) (then_second (nat_cmp x y) (vec_cmp (take m a) (take m b)) h e))
 
 -- vectors that are at most each other compare as equal
+-- what is at most the other, both ways, is the same
+pub equal_from_both : (o p : Ordering) → o ≡ ordering_reverse p → is_le o ≡ true → is_le p ≡ true → o ≡ Equal
+equal_from_both o Equal e h k = e
+equal_from_both o Less e h k = absurd (false≢true (sym (ap is_le e) ∙ h))
+equal_from_both o Greater e h k = absurd (false≢true k)
+
 pub both_equal : (a b : List ℕ) → IsAtMost a b → IsAtMost b a → vec_cmp a b ≡ Equal
-both_equal a b h k = go (vec_cmp a b) (vec_cmp b a) (nat_list_cmp_total.antisymm a b) h k
-  where
-    go : (o p : Ordering) → o ≡ ordering_reverse p → is_le o ≡ true → is_le p ≡ true → o ≡ Equal
-    go o Equal e h k = e
-    go o Less e h k = absurd (false≢true (sym (ap is_le e) ∙ h))
-    go o Greater e h k = absurd (false≢true k)
+both_equal a b h k = equal_from_both (vec_cmp a b) (vec_cmp b a) (nat_list_cmp_total.antisymm a b) h k
 
 -- what compares as equal is at most the same vectors
 pub equal_at_most : (a b c : List ℕ) → vec_cmp a b ≡ Equal → IsAtMost a c → IsAtMost b c

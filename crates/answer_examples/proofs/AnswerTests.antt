@@ -16,7 +16,9 @@ use Rattle.violation.specs.Candidates.{IsForm, IsCandidate, counts_on}
 use Rattle.violation.specs.Problems.{Problem, last_stage, last_place}
 use Rattle.answer_text.specs.declared.answer.Answer.{Answer}
 use Rattle.answer_text.specs.Certified.{IsCertifiedStage, IsCertified, AreStatesInOrder}
-use Rattle.answer_examples.specs.Seen.{IsSeenAs, StateSeen, nodes_seen, state_seen}
+use Rattle.answer_text.specs.Seen.{nodes_seen}
+use Rattle.answer_text.specs.Values.{NodeValue, StateValue, state_value}
+use Rattle.answer_examples.specs.Seen.{IsSeenAs}
 use Rattle.answer_examples.proofs.Tests.{Decides-by, Decides-leb, Decides-true, all_decided, below, Decides-below}
 use Rattle.answer_examples.proofs.Same.{same_timeline, Decides-timeline, same_numbers, Decides-numbers}
 use Rattle.answer_examples.proofs.StageTests.{Listing, stage_passes, Decides-stage}
@@ -82,7 +84,7 @@ head_passes problem counts example stages =
     is_form problem.tiers problem.form && (nat_le (last_place problem) 64 && ((stages == (last_stage problem + 1))
     && (is_candidate problem example && same_numbers counts (counts_on problem example))))
 
-abbrev pub is_certified : Problem → List ℕ → List (List Sym) → ℕ → Listing → List StateSeen → Bool
+abbrev pub is_certified : Problem → List ℕ → List (List Sym) → ℕ → Listing → List StateValue → Bool
 is_certified problem counts example stages at states =
     head_passes problem counts example stages
     && (below (last_stage problem + 1) (stage_passes problem counts at) && automaton_passes problem at states)
@@ -97,8 +99,8 @@ module _ (problem : Problem) (answer : Answer) (form : answer.form ≡ problem.f
   abbrev at : Listing
   at = nodes_seen problem answer.stages.items
 
-  abbrev states : List StateSeen
-  states = map state_seen answer.automaton.states.items
+  abbrev states : List StateValue
+  states = map state_value answer.automaton.states.items
 
   abbrev IsRightHead : Type 0
   IsRightHead = IsForm problem.tiers problem.form × ((last_place problem ≤ 64) × ((size ≡ last_stage problem + 1)
@@ -149,16 +151,16 @@ module _ (problem : Problem) (answer : Answer) (form : answer.form ≡ problem.f
       ))
 
 -- the nodes of an answer, stage by stage
-abbrev pub listing : List (List (PrefixKind × ℕ)) → Listing
+abbrev pub listing : List (List NodeValue) → Listing
 listing stages r = slice_index_or stages r []
 
 module _ (problem : Problem) (answer : Answer) (counts : List ℕ) (example : List (List Sym))
-    (stages : List (List (PrefixKind × ℕ))) (states : List StateSeen)
+    (stages : List (List NodeValue)) (states : List StateValue)
     (s : IsSeenAs problem answer counts example stages states) where
   -- the tests by what is written are those by what is seen
   told : is_certified problem counts example (length stages) (listing stages) states
       ≡ is_certified problem answer.counts.items answer.example (length answer.stages.items)
-      (nodes_seen problem answer.stages.items) (map state_seen answer.automaton.states.items)
+      (nodes_seen problem answer.stages.items) (map state_value answer.automaton.states.items)
   told = sym (λ i. is_certified problem (s.counts_are i) (s.example_is i) (s.stage_count i)
       (λ r. s.nodes_are r i) (s.states_are i))
 
@@ -167,7 +169,7 @@ module _ (problem : Problem) (answer : Answer) (counts : List ℕ) (example : Li
   certified_seen =
       Decides-at (is_certified problem counts example (length stages) (listing stages) states)
       (is_certified problem answer.counts.items answer.example (length answer.stages.items)
-      (nodes_seen problem answer.stages.items) (map state_seen answer.automaton.states.items)) told
+      (nodes_seen problem answer.stages.items) (map state_value answer.automaton.states.items)) told
       (Decides-certified problem answer s.form_is)
 
   pub in_order : (width : ℕ) → states_ascend width states ≡ true
@@ -177,7 +179,7 @@ module _ (problem : Problem) (answer : Answer) (counts : List ℕ) (example : Li
 
 -- An answer is not certified if a test of its head, of a stage or of its automaton fails.
 module _ {problem : Problem} {answer : Answer} {counts : List ℕ} {example : List (List Sym)}
-    {stages : List (List (PrefixKind × ℕ))} {states : List StateSeen}
+    {stages : List (List NodeValue)} {states : List StateValue}
     (s : IsSeenAs problem answer counts example stages states) where
   abbrev staged : Bool
   staged = below (last_stage problem + 1) (stage_passes problem counts (listing stages))

@@ -13,7 +13,7 @@ use Rattle.tier_core.specs.Classes.{sets_of}
 use Rattle.tier_core.specs.Orders.{column_cmp, timeline_cmp}
 use Rattle.answer_text.specs.declared.automaton.StateLine.{StateLine}
 use Rattle.answer_text.specs.Acceptance.{HasArc, IsFinalState, Leads}
-use Rattle.answer_examples.specs.Seen.{StateSeen, arc_seen, state_seen}
+use Rattle.answer_text.specs.Values.{ArcValue, StateValue, arc_value, state_value}
 use Rattle.answer_examples.proofs.Tests.{implied, Decides-true, each_seen}
 use Rattle.answer_examples.proofs.AutomatonTests.{each_column, Decides-class}
 
@@ -24,22 +24,22 @@ by_order Equal less equal greater = equal tt
 by_order Greater less equal greater = greater tt
 
 -- the states of this number are not final, and each of their arcs passes
-abbrev pub goes_by : List StateSeen → ℕ → (ℕ × List ℕ → Bool) → Bool
+abbrev pub goes_by : List StateValue → ℕ → (ArcValue → Bool) → Bool
 goes_by states n test =
     list_all (λ z. implied (z.node == n) (λ _. not z.accepting && list_all test z.arcs)) states
 
 -- from the states of this number nothing is accepted that has less than so many columns
-abbrev pub reads_long : List StateSeen → ℕ → ℕ → Bool
+abbrev pub reads_long : List StateValue → ℕ → ℕ → Bool
 reads_long states zero n = true
-reads_long states (suc size) n = goes_by states n (λ a. reads_long states size a.0)
+reads_long states (suc size) n = goes_by states n (λ a. reads_long states size a.target)
 
 -- nothing is accepted from them that comes before a timeline
-abbrev pub reads_from : List StateSeen → List (List Sym) → ℕ → Bool
+abbrev pub reads_from : List StateValue → List (List Sym) → ℕ → Bool
 reads_from states [] n = true
 reads_from states (column ∷ T) n =
-    goes_by states n (λ a. each_column a.1 (λ d. by_order (column_cmp column d)
-    (λ _. reads_long states (length T) a.0) (λ _. reads_from states T a.0)
-    (λ _. reads_long states (suc (length T)) a.0)))
+    goes_by states n (λ a. each_column a.sets (λ d. by_order (column_cmp column d)
+    (λ _. reads_long states (length T) a.target) (λ _. reads_from states T a.target)
+    (λ _. reads_long states (suc (length T)) a.target)))
 
 pub passes_at : {X Y : Type 0} (f : X → Y) (test : Y → Bool) (xs : List X) → list_all test (map f xs) ≡ true
     → (x : X) → Contains xs x → test (f x) ≡ true
@@ -79,30 +79,30 @@ module _ (a b : ℕ) (o : Ordering) where
   ]
 
 module _ (states : List StateLine) where
-  abbrev seen : List StateSeen
-  seen = map state_seen states
+  abbrev seen : List StateValue
+  seen = map state_value states
 
-  module _ (test : ℕ × List ℕ → Bool) (n : ℕ) (h : goes_by seen n test ≡ true) where
-    abbrev goes : StateSeen → Bool
+  module _ (test : ArcValue → Bool) (n : ℕ) (h : goes_by seen n test ≡ true) where
+    abbrev goes : StateValue → Bool
     goes z = not z.accepting && list_all test z.arcs
 
-    at_state : (state : StateLine) → Contains states state → state.node ≡ n → goes (state_seen state) ≡ true
+    at_state : (state : StateLine) → Contains states state → state.node ≡ n → goes (state_value state) ≡ true
     at_state state c e =
-        implied_at (state.node == n) (λ _. goes (state_seen state))
-        (passes_at state_seen (λ z. implied (z.node == n) (λ _. goes z)) states h state c)
+        implied_at (state.node == n) (λ _. goes (state_value state))
+        (passes_at state_value (λ z. implied (z.node == n) (λ _. goes z)) states h state c)
         ((Decides-eqb state.node n).1 e)
 
     not_final : {A : Type 0} → IsFinalState states n → A
     not_final final =
-        let here = and_parts (not final.state.accepting) (list_all test (map arc_seen final.state.arcs.items))
+        let here = and_parts (not final.state.accepting) (list_all test (map arc_value final.state.arcs.items))
         (at_state final.state final.listed final.numbered) in
         absurd (false≢true (sym (ap not final.final) ∙ here.0))
 
-    arc_passes : (m : ℕ) (column : List Sym) (arc : HasArc states n m column) → test (arc_seen arc.arc) ≡ true
+    arc_passes : (m : ℕ) (column : List Sym) (arc : HasArc states n m column) → test (arc_value arc.arc) ≡ true
     arc_passes m column arc =
-        let here = and_parts (not arc.state.accepting) (list_all test (map arc_seen arc.state.arcs.items))
+        let here = and_parts (not arc.state.accepting) (list_all test (map arc_value arc.state.arcs.items))
         (at_state arc.state arc.listed arc.from) in
-        passes_at arc_seen test arc.state.arcs.items here.1 arc.arc arc.leaves
+        passes_at arc_value test arc.state.arcs.items here.1 arc.arc arc.leaves
 
   at_end : (n l : ℕ) → n ≡ l → IsFinalState states l → IsFinalState states n
   at_end n l e final = subst (IsFinalState states) (sym e) final
@@ -111,10 +111,10 @@ module _ (states : List StateLine) where
       → IsFinalState states l → size ≤ length U
   long_read zero U n l h leads final = omega arith
   long_read (suc size) [] n l h leads final =
-      not_final (λ a. reads_long seen size a.0) n h (at_end n l leads final)
+      not_final (λ a. reads_long seen size a.target) n h (at_end n l leads final)
   long_read (suc size) (d ∷ U) n l h leads final =
       let next : ℕ = leads.0 in
-      let passes = arc_passes (λ a. reads_long seen size a.0) n h next d leads.1.0 in
+      let passes = arc_passes (λ a. reads_long seen size a.target) n h next d leads.1.0 in
       let rest : size ≤ length U = long_read size U next l
       (subst (λ i. reads_long seen size i ≡ true) leads.1.0.to passes) leads.1.1 final in
       omega (arith, rest)
@@ -148,13 +148,13 @@ module _ (states : List StateLine) where
   first_read [] [] n l h leads final = refl
   first_read [] (d ∷ U) n l h leads final = le_from 0 (suc (length U)) Less (omega arith) (λ e. refl)
   first_read (column ∷ T) [] n l h leads final =
-      not_final (λ a. each_column a.1 (λ d. by_order (column_cmp column d) (λ _. reads_long seen (length T) a.0)
-      (λ _. reads_from seen T a.0) (λ _. reads_long seen (suc (length T)) a.0))) n h (at_end n l leads final)
+      not_final (λ a. each_column a.sets (λ d. by_order (column_cmp column d) (λ _. reads_long seen (length T) a.target)
+      (λ _. reads_from seen T a.target) (λ _. reads_long seen (suc (length T)) a.target))) n h (at_end n l leads final)
   first_read (column ∷ T) (d ∷ U) n l h leads final =
       let arc = leads.1.0 in
-      let passes = arc_passes (λ a. each_column a.1 (λ d. by_order (column_cmp column d)
-      (λ _. reads_long seen (length T) a.0) (λ _. reads_from seen T a.0)
-      (λ _. reads_long seen (suc (length T)) a.0))) n h leads.0 d arc in
+      let passes = arc_passes (λ a. each_column a.sets (λ d. by_order (column_cmp column d)
+      (λ _. reads_long seen (length T) a.target) (λ _. reads_from seen T a.target)
+      (λ _. reads_long seen (suc (length T)) a.target))) n h leads.0 d arc in
       let here = (Decides-class (sets_of arc.arc.class) (λ d. by_order (column_cmp column d)
       (λ _. reads_long seen (length T) arc.arc.target) (λ _. reads_from seen T arc.arc.target)
       (λ _. reads_long seen (suc (length T)) arc.arc.target)) _ (λ c. Decides-true _)).0 passes d arc.holds in

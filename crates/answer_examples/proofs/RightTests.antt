@@ -43,7 +43,9 @@ use Rattle.check_laws.proofs.Optima.{AreTold, all_told}
 use Rattle.check_laws.proofs.Potentials.{FallsAlong, falls_parts, stage_at, goes_to, as_longer, one_more, rest_cost}
 use Rattle.check_laws.proofs.Potentials.{bound}
 use Rattle.check_laws.proofs.Soundness.{sound_from_certified}
-use Rattle.answer_examples.specs.Seen.{StateSeen, nodes_seen, arc_seen, state_seen}
+use Rattle.answer_text.specs.Seen.{nodes_seen}
+use Rattle.answer_text.specs.Values.{ArcValue, NodeValue, StateValue, arc_value, state_value}
+use Rattle.answer_examples.specs.Seen.{node_of}
 use Rattle.answer_examples.proofs.Tests.{Decides-leb, Decides-true, ascends, Decides-ascends, below, Decides-below}
 use Rattle.answer_examples.proofs.Same.{same_numbers, Decides-numbers, same_kind, Decides-kind}
 use Rattle.answer_examples.proofs.StageTests.{Listing}
@@ -70,13 +72,13 @@ remains_by problem (suc i) p w =
     count_at problem (suc i) w.candidate == (count_so_far_at problem (suc i) w.candidate w.columns + p)
 
 -- it shows a node of stage r
-abbrev pub shows_node : Problem → List ℕ → ℕ → PrefixKind × ℕ → Shown → Bool
+abbrev pub shows_node : Problem → List ℕ → ℕ → NodeValue → Shown → Bool
 shows_node problem counts r x w =
     is_optimal_for problem counts (r - 1) w
-    && (same_kind (kind_of problem r (take w.columns w.candidate)) x.0 && remains_by problem r x.1 w)
+    && (same_kind (kind_of problem r (take w.columns w.candidate)) x.kind && remains_by problem r x.potential w)
 
 -- it shows a state
-abbrev pub shows_state : Problem → List ℕ → Listing → StateSeen → Shown → Bool
+abbrev pub shows_state : Problem → List ℕ → Listing → StateValue → Shown → Bool
 shows_state problem counts at z w =
     is_optimal_for problem counts (last_stage problem) w
     && is_node (at (last_stage problem)) z.node (kind_of problem (last_stage problem) (take w.columns w.candidate))
@@ -107,16 +109,16 @@ like_optimal problem q T U o c e = record {
 }
 
 -- arcs in order, each of which holds some column
-abbrev pub arc_order : ℕ × List ℕ → ℕ × List ℕ → Ordering
-arc_order a b = ordering_then (nat_cmp a.0 b.0) (slice_cmp nat_cmp a.1 b.1)
+abbrev pub arc_order : ArcValue → ArcValue → Ordering
+arc_order a b = ordering_then (nat_cmp a.target b.target) (slice_cmp nat_cmp a.sets b.sets)
 
 abbrev pub first_column : List ℕ → List Sym
 first_column sets = map (λ set. unwrap_or (find (is_in set) symbols) Outside) sets
 
-abbrev pub is_filled : ℕ × List ℕ → Bool
-is_filled a = sets_have a.1 (first_column a.1)
+abbrev pub is_filled : ArcValue → Bool
+is_filled a = sets_have a.sets (first_column a.sets)
 
-abbrev pub arcs_pass : StateSeen → Bool
+abbrev pub arcs_pass : StateValue → Bool
 arcs_pass z = ascends arc_order z.arcs && list_all is_filled z.arcs
 
 module _ {X Y : Type 0} (f : X → Y) (cmp : Y → Y → Ordering) where
@@ -131,7 +133,7 @@ module _ {X Y : Type 0} (f : X → Y) (cmp : Y → Y → Ordering) where
   sorted_seen (x ∷ xs) h = (less_seen x xs h.0, sorted_seen xs h.1)
 
 -- what is tested of a certified answer, besides
-abbrev pub is_right : Problem → List ℕ → List (List Sym) → Listing → List StateSeen → (ℕ → List Shown) → List Shown
+abbrev pub is_right : Problem → List ℕ → List (List Sym) → Listing → List StateValue → (ℕ → List Shown) → List Shown
     → Bool
 is_right problem counts example at states of_stages of_states =
     below (last_stage problem + 1) (λ r. all_shown (shows_node problem counts r) (at r) (of_stages r))
@@ -239,8 +241,8 @@ module _ (problem : Problem) (answer : Answer) (split : AreSplit problem.tiers)
   module _ (r : ℕ) (l : r ≤ last_stage problem) (ws : List Shown)
       (h : all_shown (shows_node problem counts r) (nodes_seen problem stages r) ws ≡ true) where
     module _ (k : PrefixKind) (p : ℕ) (lists : Lists problem stages r k p) where
-      shown : (w : Shown) × (shows_node problem counts r (k, p) w ≡ true)
-      shown = shown_at (shows_node problem counts r) (nodes_seen problem stages r) ws h (k, p)
+      shown : (w : Shown) × (shows_node problem counts r (node_of k p) w ≡ true)
+      shown = shown_at (shows_node problem counts r) (nodes_seen problem stages r) ws h (node_of k p)
           (listed_seen problem stages r (nodes_seen problem stages r) refl k p lists)
 
       abbrev w : Shown
@@ -313,14 +315,14 @@ module _ (problem : Problem) (answer : Answer) (split : AreSplit problem.tiers)
       (rest.0, subst (λ v. IsNodeOf problem nodes m (kind_of problem last v)) (append_assoc p (column ∷ []) s) rest.1)
 
   module _ (vs : List Shown)
-      (h : all_shown (shows_state problem counts (nodes_seen problem stages)) (map state_seen states) vs ≡ true)
-      (arcs : list_all arcs_pass (map state_seen states) ≡ true) where
+      (h : all_shown (shows_state problem counts (nodes_seen problem stages)) (map state_value states) vs ≡ true)
+      (arcs : list_all arcs_pass (map state_value states) ≡ true) where
     passed_state : (n : ℕ) → Contains (numbers_of states) n
         → (k : PrefixKind) × (IsNodeOf problem nodes n k × IsPassed problem last last k)
     passed_state n c =
         let z = contains_of_map (λ (s : StateLine). s.node) states n c in
-        let w = shown_at (shows_state problem counts (nodes_seen problem stages)) (map state_seen states) vs h
-        (state_seen z.0) (contains_map state_seen states z.0 z.1.0) in
+        let w = shown_at (shows_state problem counts (nodes_seen problem stages)) (map state_value states) vs h
+        (state_value z.0) (contains_map state_value states z.0 z.1.0) in
         let tests = and_parts _ _ w.1 in
         let k : PrefixKind = kind_of problem last (take w.0.columns w.0.candidate) in (
           k,
@@ -354,15 +356,15 @@ module _ (problem : Problem) (answer : Answer) (split : AreSplit problem.tiers)
     right_arcs : All (λ state. AreRightArcs problem.tiers.width (numbers_of states) state.arcs.items) states
     right_arcs i d l =
         let z : StateLine = get_or states i d in
-        let tests = and_parts _ _ (passes_at state_seen arcs_pass states arcs z (Contains-get_or states i d l)) in
+        let tests = and_parts _ _ (passes_at state_value arcs_pass states arcs z (Contains-get_or states i d l)) in
         record {
           apart = certified.automaton.once i d l;
           filled = All-from_members (λ arc. (column : List Sym) × IsTrue (has arc.class column)) z.arcs.items
-              (λ arc c. (first_column (sets_of arc.class), passes_at arc_seen is_filled z.arcs.items tests.1 arc c));
+              (λ arc c. (first_column (sets_of arc.class), passes_at arc_value is_filled z.arcs.items tests.1 arc c));
           one_width = sorted.one_width i d l;
           targets = certified.automaton.targets i d l;
-          in_order = sorted_seen arc_seen arc_order z.arcs.items
-              ((Decides-ascends arc_order (map arc_seen z.arcs.items)).0 tests.0);
+          in_order = sorted_seen arc_value arc_order z.arcs.items
+              ((Decides-ascends arc_order (map arc_value z.arcs.items)).0 tests.0);
         }
 
     automaton_right : IsRightAutomaton problem nodes states
@@ -375,7 +377,7 @@ module _ (problem : Problem) (answer : Answer) (split : AreSplit problem.tiers)
     }
 
   pub right_from : (of_stages : ℕ → List Shown) (of_states : List Shown)
-      → is_right problem counts answer.example (nodes_seen problem stages) (map state_seen states) of_stages of_states
+      → is_right problem counts answer.example (nodes_seen problem stages) (map state_value states) of_stages of_states
       ≡ true
       → IsRight problem answer
   right_from of_stages of_states h =

@@ -20,7 +20,9 @@ use Rattle.answer_text.specs.declared.stage.Stage.{Stage}
 use Rattle.answer_text.specs.Right.{nodes_at, kinds_at}
 use Rattle.answer_text.specs.Certified.{Lists, IsTightAt, IsKeptBelow, IsPossibleKind, IsCertifiedStage}
 use Rattle.answer_text.specs.Certified.{start_potential}
-use Rattle.answer_examples.specs.Seen.{nodes_seen}
+use Rattle.answer_text.specs.Seen.{nodes_seen}
+use Rattle.answer_text.specs.Values.{NodeValue}
+use Rattle.answer_examples.specs.Seen.{node_of}
 use Rattle.answer_examples.proofs.Tests.{Decides-by, both, implied, Decides-both, Decides-implied, Decides-leb}
 use Rattle.answer_examples.proofs.Tests.{Decides-true, Decides-false, all_decided, each_decided, some_decided, ascends}
 use Rattle.answer_examples.proofs.Tests.{Decides-ascends, below, Decides-below, every_column, Decides-columns}
@@ -30,10 +32,10 @@ use Rattle.answer_examples.proofs.Views.{listed_seen, seen_listed, kinds_seen}
 
 -- the kinds that each stage lists, with their potentials
 abbrev pub Listing : Type 0
-Listing = ℕ → List (PrefixKind × ℕ)
+Listing = ℕ → List NodeValue
 
 abbrev pub kinds_in : Listing → ℕ → List PrefixKind
-kinds_in at r = map (λ x. x.0) (at r)
+kinds_in at r = map (λ x. x.kind) (at r)
 
 -- a column fits a kind
 abbrev pub fits_kind : Problem → PrefixKind → List Sym → Bool
@@ -111,15 +113,15 @@ Decides-first (l ∷ kinds) k =
     (λ e. ap (λ o. unwrap_or o l) e)
 
 -- from some k to some l that are listed, the potential falls by just the cost
-abbrev falls_from : List (PrefixKind × ℕ) → PrefixKind → ℕ → ℕ → Bool
-falls_from seen l cost p = list_any (λ y. same_kind y.0 l && (p == (cost + y.1))) seen
+abbrev falls_from : List NodeValue → PrefixKind → ℕ → ℕ → Bool
+falls_from seen l cost p = list_any (λ y. same_kind y.kind l && (p == (cost + y.potential))) seen
 
-abbrev pub falls_by : List (PrefixKind × ℕ) → PrefixKind → PrefixKind → ℕ → Bool
-falls_by seen k l cost = list_any (λ x. both (same_kind x.0 k) (λ _. falls_from seen l cost x.1)) seen
+abbrev pub falls_by : List NodeValue → PrefixKind → PrefixKind → ℕ → Bool
+falls_by seen k l cost = list_any (λ x. both (same_kind x.kind k) (λ _. falls_from seen l cost x.potential)) seen
 
 -- some l that is listed has a potential that is less than p by at most the cost
-abbrev pub goes_to : List (PrefixKind × ℕ) → PrefixKind → ℕ → ℕ → Bool
-goes_to seen l p cost = list_any (λ y. same_kind y.0 l && nat_le p (cost + y.1)) seen
+abbrev pub goes_to : List NodeValue → PrefixKind → ℕ → ℕ → Bool
+goes_to seen l p cost = list_any (λ y. same_kind y.kind l && nat_le p (cost + y.potential)) seen
 
 abbrev pub is_tight : Problem → Listing → ℕ → PrefixKind → List Sym → Bool
 is_tight problem at j k column =
@@ -132,19 +134,19 @@ is_kept problem at r k column =
 
 -- what is asked of each stage
 abbrev pub finals_pass : Problem → Listing → ℕ → Bool
-finals_pass problem at r = list_all (λ x. implied (is_final problem x.0) (λ _. x.1 == 0)) (at r)
+finals_pass problem at r = list_all (λ x. implied (is_final problem x.kind) (λ _. x.potential == 0)) (at r)
 
-abbrev pub goes_on : Problem → Listing → ℕ → PrefixKind × ℕ → List Sym → Bool
+abbrev pub goes_on : Problem → Listing → ℕ → NodeValue → List Sym → Bool
 goes_on problem at r x column =
-    implied (is_kept problem at r x.0 column)
-    (λ _. goes_to (at r) (next_kind problem r x.0 column) x.1 (cost_of problem r x.0 column))
+    implied (is_kept problem at r x.kind column)
+    (λ _. goes_to (at r) (next_kind problem r x.kind column) x.potential (cost_of problem r x.kind column))
 
 abbrev pub moves_pass : Problem → Listing → ℕ → Bool
 moves_pass problem at r = list_all (λ x. every_column problem.tiers.width (goes_on problem at r x)) (at r)
 
 abbrev pub start_passes : Problem → List ℕ → Listing → ℕ → Bool
 start_passes problem counts at r =
-    list_all (λ x. implied (same_kind x.0 (kind_of problem r [])) (λ _. x.1 == start_potential counts r)) (at r)
+    list_all (λ x. implied (same_kind x.kind (kind_of problem r [])) (λ _. x.potential == start_potential counts r)) (at r)
 
 abbrev pub kinds_pass : Problem → Listing → ℕ → Bool
 kinds_pass problem at r =
@@ -164,31 +166,31 @@ module _ (problem : Problem) (stages : List Stage) where
   at = nodes_seen problem stages
 
   module _ (r : ℕ) where
-    in_list : (k : PrefixKind) (p : ℕ) → Lists problem stages r k p → Contains (at r) (k, p)
+    in_list : (k : PrefixKind) (p : ℕ) → Lists problem stages r k p → Contains (at r) (node_of k p)
     in_list k p l = listed_seen problem stages r (at r) refl k p l
 
     -- an element of the list, by its kind
-    listing : (x : PrefixKind × ℕ) (k : PrefixKind) → Contains (at r) x → x.0 ≡ k → Lists problem stages r k x.1
-    listing x k c e = seen_listed problem stages r (at r) refl k x.1
-        (subst (λ (l : PrefixKind). Contains (at r) (l, x.1)) e c)
+    listing : (x : NodeValue) (k : PrefixKind) → Contains (at r) x → x.kind ≡ k → Lists problem stages r k x.potential
+    listing x k c e = seen_listed problem stages r (at r) refl k x.potential
+        (subst (λ (l : PrefixKind). Contains (at r) (node_of l x.potential)) e c)
 
     -- a test of each node
-    pub Decides-each : (test : PrefixKind × ℕ → Bool) (Q : PrefixKind → ℕ → Type 0)
-        → ((x : PrefixKind × ℕ) → Decides (test x) (Q x.0 x.1))
+    pub Decides-each : (test : NodeValue → Bool) (Q : PrefixKind → ℕ → Type 0)
+        → ((x : NodeValue) → Decides (test x) (Q x.kind x.potential))
         → Decides (list_all test (at r)) ((k : PrefixKind) (p : ℕ) → Lists problem stages r k p → Q k p)
     Decides-each test Q each =
-        Decides-by (each_decided test (λ x. Q x.0 x.1) each (at r))
-        (λ h k p l. h (k, p) (in_list k p l))
-        (λ h x c. h x.0 x.1 (listing x x.0 c refl))
+        Decides-by (each_decided test (λ x. Q x.kind x.potential) each (at r))
+        (λ h k p l. h (node_of k p) (in_list k p l))
+        (λ h x c. h x.kind x.potential (listing x x.kind c refl))
 
     Decides-goes : (l : PrefixKind) (p cost : ℕ)
         → Decides (goes_to (at r) l p cost) ((q : ℕ) × (Lists problem stages r l q × (p ≤ cost + q)))
     Decides-goes l p cost =
-        Decides-by (some_decided (λ y. same_kind y.0 l && nat_le p (cost + y.1)) (λ y. (y.0 ≡ l) × (p ≤ cost + y.1))
-        (λ y. Decides-and (same_kind y.0 l) (nat_le p (cost + y.1)) (Decides-kind y.0 l)
-        (Decides-leb p (cost + y.1))) (at r))
+        Decides-by (some_decided (λ y. same_kind y.kind l && nat_le p (cost + y.potential)) (λ y. (y.kind ≡ l) × (p ≤ cost + y.potential))
+        (λ y. Decides-and (same_kind y.kind l) (nat_le p (cost + y.potential)) (Decides-kind y.kind l)
+        (Decides-leb p (cost + y.potential))) (at r))
         (λ w. (w.0.1, (listing w.0 l w.1.0 w.1.1.0, w.1.1.1)))
-        (λ v. ((l, v.0), (in_list l v.0 v.1.0, (refl, v.1.1))))
+        (λ v. (node_of l v.0, (in_list l v.0 v.1.0, (refl, v.1.1))))
 
   module _ (r : ℕ) (k l : PrefixKind) (cost : ℕ) where
     abbrev FallsTo : ℕ → Type 0
@@ -196,18 +198,18 @@ module _ (problem : Problem) (stages : List Stage) where
 
     Decides-fall : (p : ℕ) → Decides (falls_from (at r) l cost p) (FallsTo p)
     Decides-fall p =
-        Decides-by (some_decided (λ y. same_kind y.0 l && (p == (cost + y.1))) (λ y. (y.0 ≡ l) × (p ≡ cost + y.1))
-        (λ y. Decides-and (same_kind y.0 l) (p == (cost + y.1)) (Decides-kind y.0 l) (Decides-eqb p (cost + y.1)))
+        Decides-by (some_decided (λ y. same_kind y.kind l && (p == (cost + y.potential))) (λ y. (y.kind ≡ l) × (p ≡ cost + y.potential))
+        (λ y. Decides-and (same_kind y.kind l) (p == (cost + y.potential)) (Decides-kind y.kind l) (Decides-eqb p (cost + y.potential)))
         (at r))
         (λ w. (w.0.1, (listing r w.0 l w.1.0 w.1.1.0, w.1.1.1)))
-        (λ v. ((l, v.0), (in_list r l v.0 v.1.0, (refl, v.1.1))))
+        (λ v. (node_of l v.0, (in_list r l v.0 v.1.0, (refl, v.1.1))))
 
     Decides-falls : Decides (falls_by (at r) k l cost) ((p : ℕ) × (Lists problem stages r k p × FallsTo p))
     Decides-falls =
-        Decides-by (some_decided (λ x. both (same_kind x.0 k) (λ _. falls_from (at r) l cost x.1))
-        (λ x. (x.0 ≡ k) × FallsTo x.1)
-        (λ x. Decides-both (same_kind x.0 k) (λ _. falls_from (at r) l cost x.1) (Decides-kind x.0 k)
-        (Decides-fall x.1)) (at r))
+        Decides-by (some_decided (λ x. both (same_kind x.kind k) (λ _. falls_from (at r) l cost x.potential))
+        (λ x. (x.kind ≡ k) × FallsTo x.potential)
+        (λ x. Decides-both (same_kind x.kind k) (λ _. falls_from (at r) l cost x.potential) (Decides-kind x.kind k)
+        (Decides-fall x.potential)) (at r))
         (λ w. (w.0.1, (listing r w.0 k w.1.0 w.1.1.0, w.1.1.1)))
         (λ v. ((k, v.0), (in_list r k v.0 v.1.0, (refl, v.1.1))))
 
@@ -276,10 +278,10 @@ module _ (problem : Problem) (stages : List Stage) where
     pub Decides-finals : Decides (finals_pass problem at r)
         ((k : PrefixKind) (p : ℕ) → Lists problem stages r k p → IsTrue (is_final problem k) → p ≡ 0)
     Decides-finals =
-        Decides-each r (λ x. implied (is_final problem x.0) (λ _. x.1 == 0))
+        Decides-each r (λ x. implied (is_final problem x.kind) (λ _. x.potential == 0))
         (λ k p. IsTrue (is_final problem k) → p ≡ 0)
-        (λ x. Decides-implied (is_final problem x.0) (λ _. x.1 == 0) (Decides-true (is_final problem x.0))
-        (Decides-eqb x.1 0))
+        (λ x. Decides-implied (is_final problem x.kind) (λ _. x.potential == 0) (Decides-true (is_final problem x.kind))
+        (Decides-eqb x.potential 0))
 
     abbrev GoesOn : PrefixKind → ℕ → List Sym → Type 0
     GoesOn k p column =
@@ -293,11 +295,11 @@ module _ (problem : Problem) (stages : List Stage) where
         (λ k p. (column : List Sym) → length column ≡ problem.tiers.width
         → IsKeptBelow problem stages r k column → GoesOn k p column)
         (λ x. Decides-columns problem.tiers.width (goes_on problem at r x)
-        (λ column. IsKeptBelow problem stages r x.0 column → GoesOn x.0 x.1 column)
-        (λ column. Decides-implied (is_kept problem at r x.0 column)
-        (λ _. goes_to (at r) (next_kind problem r x.0 column) x.1 (cost_of problem r x.0 column))
-        (Decides-kept r x.0 column)
-        (Decides-goes r (next_kind problem r x.0 column) x.1 (cost_of problem r x.0 column)))))
+        (λ column. IsKeptBelow problem stages r x.kind column → GoesOn x.kind x.potential column)
+        (λ column. Decides-implied (is_kept problem at r x.kind column)
+        (λ _. goes_to (at r) (next_kind problem r x.kind column) x.potential (cost_of problem r x.kind column))
+        (Decides-kept r x.kind column)
+        (Decides-goes r (next_kind problem r x.kind column) x.potential (cost_of problem r x.kind column)))))
         (λ h k p column l kept. h k p l column kept.fits.width kept)
         (λ h k p l column e kept. h k p column l kept)
 
@@ -305,10 +307,10 @@ module _ (problem : Problem) (stages : List Stage) where
         ((p : ℕ) → Lists problem stages r (kind_of problem r []) p → p ≡ start_potential counts r)
     Decides-start counts =
         let due : ℕ = start_potential counts r in
-        Decides-by (Decides-each r (λ x. implied (same_kind x.0 (kind_of problem r [])) (λ _. x.1 == due))
+        Decides-by (Decides-each r (λ x. implied (same_kind x.kind (kind_of problem r [])) (λ _. x.potential == due))
         (λ k p. k ≡ kind_of problem r [] → p ≡ due)
-        (λ x. Decides-implied (same_kind x.0 (kind_of problem r [])) (λ _. x.1 == due)
-        (Decides-kind x.0 (kind_of problem r [])) (Decides-eqb x.1 due)))
+        (λ x. Decides-implied (same_kind x.kind (kind_of problem r [])) (λ _. x.potential == due)
+        (Decides-kind x.kind (kind_of problem r [])) (Decides-eqb x.potential due)))
         (λ h p l. h (kind_of problem r []) p l refl)
         (λ h k p l e. h p (subst (λ z. Lists problem stages r z p) e l))
 

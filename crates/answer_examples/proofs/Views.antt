@@ -8,32 +8,34 @@ use Rattle.answer_text.specs.declared.stage.Stage.{Stage}
 use Rattle.answer_text.specs.Right.{nodes_at, kinds_at}
 use Rattle.answer_text.specs.Certified.{Lists}
 use Rattle.tier_core.proofs.Members.{contains_map, contains_of_map}
-use Rattle.answer_examples.specs.Seen.{node_seen, nodes_seen}
+use Rattle.answer_text.specs.Seen.{node_seen, nodes_seen}
+use Rattle.answer_text.specs.Values.{NodeValue}
+use Rattle.answer_examples.specs.Seen.{node_of}
 
-module _ (problem : Problem) (stages : List Stage) (r : ℕ) (seen : List (PrefixKind × ℕ))
+module _ (problem : Problem) (stages : List Stage) (r : ℕ) (seen : List NodeValue)
     (are : nodes_seen problem stages r ≡ seen) where
   -- what a stage lists is seen, and what is seen is listed
-  pub listed_seen : (k : PrefixKind) (p : ℕ) → Lists problem stages r k p → Contains seen (k, p)
+  pub listed_seen : (k : PrefixKind) (p : ℕ) → Lists problem stages r k p → Contains seen (node_of k p)
   listed_seen k p l =
-      subst (λ xs. Contains xs (k, p)) are
+      subst (λ xs. Contains xs (node_of k p)) are
       (subst (Contains (nodes_seen problem stages r))
-      (ap (λ x. (x, l.node.potential)) l.tells ∙ ap (λ n. (k, n)) l.potential)
+      (ap (λ x. node_of x l.node.potential) l.tells ∙ ap (λ n. node_of k n) l.potential)
       (contains_map (node_seen problem r) (nodes_at stages r) l.node l.listed))
 
-  pub seen_listed : (k : PrefixKind) (p : ℕ) → Contains seen (k, p) → Lists problem stages r k p
+  pub seen_listed : (k : PrefixKind) (p : ℕ) → Contains seen (node_of k p) → Lists problem stages r k p
   seen_listed k p c =
-      let found = contains_of_map (node_seen problem r) (nodes_at stages r) (k, p)
-      (subst (λ xs. Contains xs (k, p)) (sym are) c) in
+      let found = contains_of_map (node_seen problem r) (nodes_at stages r) (node_of k p)
+      (subst (λ xs. Contains xs (node_of k p)) (sym are) c) in
       record {
         node = found.0;
         listed = found.1.0;
-        tells = ap (λ x. x.0) found.1.1;
-        potential = ap (λ x. x.1) found.1.1;
+        tells = ap (λ (x : NodeValue). x.kind) found.1.1;
+        potential = ap (λ (x : NodeValue). x.potential) found.1.1;
       }
 
-  pub kinds_seen : kinds_at problem r (nodes_at stages r) ≡ map (λ x. x.0) seen
-  kinds_seen = by_map (nodes_at stages r) ∙ ap (map (λ x. x.0)) are
+  pub kinds_seen : kinds_at problem r (nodes_at stages r) ≡ map (λ (x : NodeValue). x.kind) seen
+  kinds_seen = by_map (nodes_at stages r) ∙ ap (map (λ (x : NodeValue). x.kind)) are
     where
-      by_map : (nodes : List Node) → kinds_at problem r nodes ≡ map (λ x. x.0) (map (node_seen problem r) nodes)
+      by_map : (nodes : List Node) → kinds_at problem r nodes ≡ map (λ (x : NodeValue). x.kind) (map (node_seen problem r) nodes)
       by_map [] = refl
       by_map (node ∷ nodes) = ap (λ ks. kind_of_bits problem r node.kind ∷ ks) (by_map nodes)

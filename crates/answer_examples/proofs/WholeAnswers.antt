@@ -16,7 +16,9 @@ use Rattle.answer_text.specs.Certified.{IsCertified, AreStatesInOrder}
 use Rattle.answer_text.specs.Right.{IsRight}
 use Rattle.answer_text.specs.Sound.{IsSound}
 use Rattle.check_laws.proofs.Soundness.{sound_from_certified}
-use Rattle.answer_examples.specs.Seen.{IsSeenAs, StateSeen, nodes_seen, state_seen}
+use Rattle.answer_text.specs.Seen.{nodes_seen}
+use Rattle.answer_text.specs.Values.{NodeValue, StateValue, state_value}
+use Rattle.answer_examples.specs.Seen.{IsSeenAs}
 use Rattle.answer_examples.proofs.Tests.{Decides-by}
 use Rattle.answer_examples.proofs.AutomatonTests.{states_ascend}
 use Rattle.answer_examples.proofs.AnswerTests.{all_recursive, is_candidate, Decides-candidate, is_certified, listing}
@@ -48,7 +50,7 @@ Decides-over width cs = all_recursive (is_over width) (IsOverTiers width) each c
         (λ o. (o.left_below, (o.right_below, o.some_left)))
 
 module _ {problem : Problem} {answer : Answer} {counts : List ℕ} {example : List (List Sym)}
-    {stages : List (List (PrefixKind × ℕ))} {states : List StateSeen}
+    {stages : List (List NodeValue)} {states : List StateValue}
     (s : IsSeenAs problem answer counts example stages states) where
   pub certified_by : is_certified problem counts example (length stages) (listing stages) states ≡ true
       → IsCertified problem answer
@@ -72,7 +74,7 @@ module _ {problem : Problem} {answer : Answer} {counts : List ℕ} {example : Li
         right_from problem answer split are_over certified are_sorted of_stages of_states (told ∙ e)
       where
         told : is_right problem answer.counts.items answer.example (nodes_seen problem answer.stages.items)
-            (map state_seen answer.automaton.states.items) of_stages of_states
+            (map state_value answer.automaton.states.items) of_stages of_states
             ≡ is_right problem counts example (listing stages) states of_stages of_states
         told = λ i. is_right problem (s.counts_are i) (s.example_is i) (λ r. s.nodes_are r i) (s.states_are i)
             of_stages of_states

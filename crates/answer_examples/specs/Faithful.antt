@@ -8,7 +8,8 @@ use Rattle.violation.specs.Candidates.{IsCandidate, counts_on}
 use Rattle.violation.specs.Examples.{over_two, dep_a, max_a, timeline}
 use Rattle.violation.specs.Problems.{Problem}
 use Rattle.answer_text.specs.declared.answer.Answer.{Answer}
-use Rattle.answer_examples.specs.Seen.{StateSeen, IsSeenAs}
+use Rattle.answer_text.specs.Values.{NodeValue, StateValue}
+use Rattle.answer_examples.specs.Seen.{IsSeenAs}
 use Rattle.answer_examples.specs.Worked.{arc_on, state}
 use Rattle.answer_examples.specs.Ranked.{one_a, node_at, six_nodes, least_counts, only_optimal, four_stages, three_states}
 
@@ -20,47 +21,47 @@ under_max_dep_one max dep one =
     over_two (max_a max ∷ dep_a dep ∷ one_a one ∷ []) (timeline (codes "[ ]"))
 
 -- under `A -> a`, nothing remains from any kind
-abbrev pub seven_of_max : List (PrefixKind × ℕ)
+abbrev pub seven_of_max : List NodeValue
 seven_of_max = node_at 0 (codes "-") (codes ".") 0 ∷ node_at 0 (codes "+") (codes ".") 0
     ∷ node_at 1 (codes "-") (codes "u") 0 ∷ node_at 1 (codes "-") (codes "m") 0
     ∷ node_at 1 (codes "+") (codes "m") 0 ∷ node_at 2 (codes "-") (codes ".") 0
     ∷ node_at 2 (codes "+") (codes ".") 0 ∷ []
 
 -- under `a -> A`, 1 remains if an a is open that no A will meet any more
-abbrev pub eight_of_dep : List (PrefixKind × ℕ)
+abbrev pub eight_of_dep : List NodeValue
 eight_of_dep = node_at 0 (codes "-") (codes "..") 0 ∷ node_at 0 (codes "+") (codes ".u") 0
     ∷ node_at 1 (codes "-") (codes "u.") 0 ∷ node_at 1 (codes "-") (codes "m.") 0
     ∷ node_at 1 (codes "+") (codes "mm") 0 ∷ node_at 2 (codes "-") (codes "..") 0
     ∷ node_at 2 (codes "+") (codes ".u") 1 ∷ node_at 2 (codes "+") (codes ".m") 0 ∷ []
 
 -- under `a # a`, 1 remains until an a ends
-abbrev pub seven_of_one : List (PrefixKind × ℕ)
+abbrev pub seven_of_one : List NodeValue
 seven_of_one = node_at 0 (codes "-") (codes "..") 1 ∷ node_at 0 (codes "+") (codes ".u") 1
     ∷ node_at 1 (codes "-") (codes "u.") 1 ∷ node_at 1 (codes "-") (codes "m.") 0
     ∷ node_at 1 (codes "+") (codes "mm") 1 ∷ node_at 2 (codes "-") (codes "..") 0
     ∷ node_at 2 (codes "+") (codes ".m") 1 ∷ []
 
-abbrev pub stages_of_two : List (List (PrefixKind × ℕ))
+abbrev pub stages_of_two : List (List NodeValue)
 stages_of_two = six_nodes 0 ∷ seven_of_max ∷ eight_of_dep ∷ []
 
-abbrev pub stages_of_three : List (List (PrefixKind × ℕ))
+abbrev pub stages_of_three : List (List NodeValue)
 stages_of_three = six_nodes 0 ∷ seven_of_max ∷ eight_of_dep ∷ seven_of_one ∷ []
 
 -- an a starts before A, after it or with it
-abbrev pub three_starts : List StateSeen → List StateSeen
+abbrev pub three_starts : List StateValue → List StateValue
 three_starts rest =
     state 0 false (arc_on 1 (codes "-[") ∷ arc_on 2 (codes "[-") ∷ arc_on 4 (codes "[[") ∷ [])
     ∷ state 1 false (arc_on 4 (codes "[+") ∷ []) ∷ state 2 false (arc_on 4 (codes "+[") ∷ []) ∷ rest
 
 -- as many a's inside A as one likes
-abbrev pub states_of_many : List StateSeen
+abbrev pub states_of_many : List StateValue
 states_of_many = three_starts (state 3 false (arc_on 4 (codes "+[") ∷ arc_on 5 (codes "]-") ∷ [])
     ∷ state 4 false (arc_on 3 (codes "+]") ∷ arc_on 4 (codes "+|") ∷ arc_on 5 (codes "]]")
     ∷ arc_on 7 (codes "]+") ∷ [])
     ∷ state 5 true [] ∷ state 7 false (arc_on 5 (codes "-]") ∷ []) ∷ [])
 
 -- one a, which overlaps A
-abbrev pub states_of_nine : List StateSeen
+abbrev pub states_of_nine : List StateValue
 states_of_nine = three_starts (state 3 false (arc_on 5 (codes "]-") ∷ [])
     ∷ state 4 false (arc_on 3 (codes "+]") ∷ arc_on 5 (codes "]]") ∷ arc_on 6 (codes "]+") ∷ [])
     ∷ state 5 true [] ∷ state 6 false (arc_on 5 (codes "-]") ∷ []) ∷ [])

@@ -10,7 +10,8 @@ use Rattle.violation.specs.Examples.{over_two, dep_a, max_a, read_kind, timeline
 use Rattle.violation.specs.Problems.{Problem}
 use Rattle.answer_text.specs.declared.answer.Answer.{Answer}
 use Rattle.answer_text.specs.Certified.{IsCertified}
-use Rattle.answer_examples.specs.Seen.{StateSeen, IsSeenAs}
+use Rattle.answer_text.specs.Values.{ArcValue, NodeValue, StateValue}
+use Rattle.answer_examples.specs.Seen.{IsSeenAs, node_of}
 use Rattle.answer_examples.specs.Worked.{arc_on, state}
 
 -- `a # a`
@@ -30,40 +31,40 @@ abbrev pub under_one_max_dep : String Global → String Global → String Global
 under_one_max_dep = one_max_dep_on (timeline (codes "[ ]"))
 
 -- the kind of a place, by `+` or `-` for the overt tier and the phases, and its potential
-abbrev pub node_at : ℕ → List ℕ → List ℕ → ℕ → PrefixKind × ℕ
-node_at place opened phases potential = (read_kind place opened phases, potential)
+abbrev pub node_at : ℕ → List ℕ → List ℕ → ℕ → NodeValue
+node_at place opened phases potential = node_of (read_kind place opened phases) potential
 
 -- each place with the overt tier shut or open, if 1 or nothing remains while it is open
-abbrev pub six_nodes : ℕ → List (PrefixKind × ℕ)
+abbrev pub six_nodes : ℕ → List NodeValue
 six_nodes remains = node_at 0 (codes "-") [] 0 ∷ node_at 0 (codes "+") [] remains
     ∷ node_at 1 (codes "-") [] 0 ∷ node_at 1 (codes "+") [] remains
     ∷ node_at 2 (codes "-") [] 0 ∷ node_at 2 (codes "+") [] remains ∷ []
 
 -- each place with the overt tier shut: under `A -> a`, and under `a -> A` too
-abbrev pub nodes_of_max : List (PrefixKind × ℕ)
+abbrev pub nodes_of_max : List NodeValue
 nodes_of_max = node_at 0 (codes "-") (codes ".") 1 ∷ node_at 1 (codes "-") (codes "u") 1
     ∷ node_at 2 (codes "-") (codes ".") 0 ∷ []
 
-abbrev pub nodes_of_dep : List (PrefixKind × ℕ)
+abbrev pub nodes_of_dep : List NodeValue
 nodes_of_dep = node_at 0 (codes "-") (codes "..") 0 ∷ node_at 1 (codes "-") (codes "u.") 0
     ∷ node_at 2 (codes "-") (codes "..") 0 ∷ []
 
-abbrev pub four_stages : List (List (PrefixKind × ℕ))
+abbrev pub four_stages : List (List NodeValue)
 four_stages = six_nodes 0 ∷ six_nodes 1 ∷ nodes_of_max ∷ nodes_of_dep ∷ []
 
 -- three states: whether each is final, and its arcs
-abbrev pub states_with : Bool → List (ℕ × List ℕ) → Bool → List (ℕ × List ℕ) → Bool
-    → List (ℕ × List ℕ) → List StateSeen
+abbrev pub states_with : Bool → List ArcValue → Bool → List ArcValue → Bool
+    → List ArcValue → List StateValue
 states_with a first b second c third = state 0 a first ∷ state 1 b second ∷ state 2 c third ∷ []
 
-abbrev pub first_arcs : List (ℕ × List ℕ)
+abbrev pub first_arcs : List ArcValue
 first_arcs = arc_on 1 (codes "[-") ∷ []
 
-abbrev pub second_arcs : List (ℕ × List ℕ)
+abbrev pub second_arcs : List ArcValue
 second_arcs = arc_on 2 (codes "]-") ∷ []
 
 -- the automaton of `[- ]-`
-abbrev pub three_states : List StateSeen
+abbrev pub three_states : List StateValue
 three_states = states_with false first_arcs false second_arcs true []
 
 -- the candidate without any a
@@ -86,7 +87,7 @@ IsFormRefused form = (one max dep : String Global) (answer : Answer)
     → IsAnswerOn form one max dep answer → IsCertified (one_max_dep_on form one max dep) answer → ⊥
 
 -- an answer to `[ ]` that says this is not certified
-abbrev pub IsRefused : List ℕ → List (List Sym) → List (List (PrefixKind × ℕ)) → List StateSeen
+abbrev pub IsRefused : List ℕ → List (List Sym) → List (List NodeValue) → List StateValue
     → Type 0
 IsRefused counts example stages states = (one max dep : String Global) (answer : Answer)
     → IsSeenAs (under_one_max_dep one max dep) answer counts example stages states
@@ -96,25 +97,25 @@ IsRefused counts example stages states = (one max dep : String Global) (answer :
 abbrev pub IsHeadRefused : List ℕ → List (List Sym) → Type 0
 IsHeadRefused counts example = IsRefused counts example four_stages three_states
 
-abbrev pub AreStagesRefused : List (List (PrefixKind × ℕ)) → Type 0
+abbrev pub AreStagesRefused : List (List NodeValue) → Type 0
 AreStagesRefused stages = IsRefused least_counts only_optimal stages three_states
 
-abbrev pub IsStageRefused : ℕ → List (PrefixKind × ℕ) → Type 0
+abbrev pub IsStageRefused : ℕ → List NodeValue → Type 0
 IsStageRefused r nodes = AreStagesRefused (slice_set four_stages r nodes)
 
-abbrev pub AreStatesRefused : List StateSeen → Type 0
+abbrev pub AreStatesRefused : List StateValue → Type 0
 AreStatesRefused states = IsRefused least_counts only_optimal four_stages states
 
 -- nodes of which number i has another potential, or another kind, or is not there
-abbrev pub with_potential : List (PrefixKind × ℕ) → ℕ → ℕ → List (PrefixKind × ℕ)
+abbrev pub with_potential : List NodeValue → ℕ → ℕ → List NodeValue
 with_potential [] i potential = []
-with_potential (node ∷ nodes) zero potential = (node.0, potential) ∷ nodes
+with_potential (node ∷ nodes) zero potential = node_of node.kind potential ∷ nodes
 with_potential (node ∷ nodes) (suc i) potential = node ∷ with_potential nodes i potential
 
-abbrev pub with_kind : List (PrefixKind × ℕ) → ℕ → PrefixKind → List (PrefixKind × ℕ)
+abbrev pub with_kind : List NodeValue → ℕ → PrefixKind → List NodeValue
 with_kind [] i kind = []
-with_kind (node ∷ nodes) zero kind = (kind, node.1) ∷ nodes
+with_kind (node ∷ nodes) zero kind = node_of kind node.potential ∷ nodes
 with_kind (node ∷ nodes) (suc i) kind = node ∷ with_kind nodes i kind
 
-abbrev pub without : ℕ → List (PrefixKind × ℕ) → List (PrefixKind × ℕ)
+abbrev pub without : ℕ → List NodeValue → List NodeValue
 without i nodes = take i nodes ++ drop (i + 1) nodes

@@ -8,7 +8,7 @@ use Rattle.answer_reader.specs.Left.{lines_left, Takes}
 use Rattle.answer_reader.specs.Lines.{header_of, counts_of}
 use Rattle.answer_reader.specs.Reading.{form_of, example_of, constraint_count, stages_behind, behind_form, answer_from}
 use Rattle.answer_reader.specs.Steps.{At, line_then, Fails}
-use Rattle.answer_reader.specs.Values.{AnswerValue}
+use Rattle.answer_text.specs.Values.{AnswerValue}
 use Rattle.answer_reader.proofs.Going.{fails_from, takes_on, takes_fails}
 
 module _ (shape : Shape) (old l m n : Lines) (u : Unit {0}) (form : List (List Sym)) (counts : List ℕ)

@@ -4,7 +4,7 @@ use Rattle.tier_core.specs.declared.shape.Shape.{Shape}
 use Rattle.answer_reader.specs.declared.answer_err.AnswerCause.{AnswerCause}
 use Rattle.answer_reader.specs.Reading.{answer_of, IsTextOf, IsFirstCause, HasReading}
 use Rattle.answer_reader.specs.Steps.{At, at}
-use Rattle.answer_reader.specs.Values.{AnswerValue}
+use Rattle.answer_text.specs.Values.{AnswerValue}
 
 pub has_reading : (shape : Shape) (bytes : List ℕ) → HasReading shape bytes
 has_reading shape bytes = by (answer_of shape bytes) refl

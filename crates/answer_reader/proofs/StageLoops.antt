@@ -18,7 +18,7 @@ use Rattle.answer_reader.specs.Lines.{stage_of, automaton_of}
 use Rattle.answer_reader.specs.Stages.{behind_stages, with_nodes, next_node, is_empty, StagesRead, stages_read}
 use Rattle.answer_reader.specs.Stages.{stages_from}
 use Rattle.answer_reader.specs.Steps.{At, line_then, Fails}
-use Rattle.answer_reader.specs.Values.{NodeValue, node_value, stage_values}
+use Rattle.answer_text.specs.Values.{NodeValue, node_value, stage_values}
 use Rattle.answer_reader.specs.Within.{IsNodeWithin}
 use Rattle.answer_reader.proofs.Going.{fails_from, takes_on, takes_fails}
 use Rattle.answer_reader.proofs.StageSteps.{node_next, stage_next, automaton_next}

@@ -8,7 +8,7 @@ use Rattle.answer_reader.specs.Lines.{stage_of, automaton_of}
 use Rattle.answer_reader.specs.Stages.{behind_stages, in_stage, with_nodes, last_count, is_empty, is_automaton}
 use Rattle.answer_reader.specs.Stages.{next_node, stages_read, stages_from}
 use Rattle.answer_reader.specs.Steps.{go_on, line_then}
-use Rattle.answer_reader.specs.Values.{NodeValue}
+use Rattle.answer_text.specs.Values.{NodeValue}
 use Rattle.answer_reader.proofs.Cutting.{begins_line}
 use Rattle.answer_reader.proofs.Going.{go_on_then}
 

@@ -8,7 +8,7 @@ use Rattle.answer_text.specs.declared.stage.Stage.{Stage}
 use Rattle.answer_text.specs.Right.{nodes_at}
 use Rattle.answer_text.specs.Readable.{IsReadableStage, AreReadableStages, last_nodes}
 use Rattle.answer_reader.specs.Stages.{is_empty, last_count}
-use Rattle.answer_reader.specs.Values.{node_value, stage_values}
+use Rattle.answer_text.specs.Values.{node_value, stage_values}
 
 pub length_values : (shape : Shape) (r : ℕ) (stages : List Stage) → length (stage_values shape r stages) ≡ length stages
 length_values shape r [] = refl

@@ -22,7 +22,7 @@ use Rattle.answer_reader.specs.Lines.{end_line}
 use Rattle.answer_reader.specs.Orders.{follows, state_less}
 use Rattle.answer_reader.specs.States.{at_end, behind_states, in_state, with_arc, next_arc, next_state, states_from}
 use Rattle.answer_reader.specs.Steps.{At, line_then, Fails}
-use Rattle.answer_reader.specs.Values.{ArcValue, StateValue, arc_value, state_value}
+use Rattle.answer_text.specs.Values.{ArcValue, StateValue, arc_value, state_value}
 use Rattle.answer_reader.proofs.Going.{fails_from, takes_on}
 use Rattle.answer_reader.proofs.StateSteps.{state_next, end_next, arc_next, arcs_end}
 

@@ -10,7 +10,7 @@ use Rattle.answer_reader.specs.Lines.{end_line}
 use Rattle.answer_reader.specs.States.{behind_states, in_state, with_arc, next_state, next_arc, at_end, state_or_end}
 use Rattle.answer_reader.specs.States.{states_from}
 use Rattle.answer_reader.specs.Steps.{At, at, go_on, line_then}
-use Rattle.answer_reader.specs.Values.{StateValue}
+use Rattle.answer_text.specs.Values.{StateValue}
 use Rattle.answer_reader.proofs.Cutting.{begins_line}
 use Rattle.answer_reader.proofs.Going.{go_on_then}
 

@@ -12,7 +12,7 @@ use Rattle.answer_reader.specs.Reading.{HeadValue, answer_with, states_behind, s
 use Rattle.answer_reader.specs.Stages.{behind_stages, StagesRead, stages_read, stages_from}
 use Rattle.answer_reader.specs.States.{behind_states, states_from}
 use Rattle.answer_reader.specs.Steps.{At, and_then, Fails}
-use Rattle.answer_reader.specs.Values.{StateValue, stage_values, state_value}
+use Rattle.answer_text.specs.Values.{StateValue, stage_values, state_value}
 use Rattle.answer_reader.proofs.Going.{fails_from, fails_then}
 use Rattle.answer_reader.proofs.StageValues.{last_values}
 

@@ -36,7 +36,7 @@ use Rattle.answer_reader.specs.Reading.{stages_behind, behind_form, answer_from,
 use Rattle.answer_reader.specs.Stages.{behind_stages, StagesRead, stages_from}
 use Rattle.answer_reader.specs.States.{behind_states, states_from}
 use Rattle.answer_reader.specs.Steps.{and_then, line_then}
-use Rattle.answer_reader.specs.Values.{NodeValue, node_value, stage_values, answer_value}
+use Rattle.answer_text.specs.Values.{NodeValue, node_value, stage_values, answer_value}
 use Rattle.answer_reader.specs.Timelines.{timeline_said}
 use Rattle.answer_reader.proofs.StageValues.{length_values, last_values}
 use Rattle.answer_reader.proofs.Timelines.{timeline_for, said_of}

@@ -22,7 +22,7 @@ use Rattle.answer_reader.specs.Lines.{state_said, state_of, arc_words, arc_with,
 use Rattle.answer_reader.specs.Nodes.{is_open_byte, is_phase_byte, phase_of_byte, are_each, NodeWords, with_potential}
 use Rattle.answer_reader.specs.Nodes.{node_words, are_node_words, node_by, node_with, node_said, node_of}
 use Rattle.answer_reader.specs.Numbers.{is_run, number_below, numbers_below}
-use Rattle.answer_reader.specs.Values.{NodeValue, ArcValue}
+use Rattle.answer_text.specs.Values.{NodeValue, ArcValue}
 use Rattle.answer_reader.proofs.Decimals.{run_decimal, number_decimal, decimal_without}
 use Rattle.answer_reader.proofs.Sets.{IsDecoded, each_decoded, decoded_is_front}
 use Rattle.answer_reader.proofs.WrittenWords.{behind_front, one_further, cut_word, split_word}

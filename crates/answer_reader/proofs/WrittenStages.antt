@@ -14,7 +14,7 @@ use Rattle.answer_reader.specs.Orders.{follows, in_order, node_less}
 use Rattle.answer_reader.specs.Stages.{behind_stages, with_nodes, last_count, is_automaton, next_node, stages_read}
 use Rattle.answer_reader.specs.Stages.{stages_from}
 use Rattle.answer_reader.specs.Steps.{At, go_on, and_then, line_then}
-use Rattle.answer_reader.specs.Values.{NodeValue}
+use Rattle.answer_text.specs.Values.{NodeValue}
 use Rattle.answer_reader.proofs.Sets.{begins_front}
 use Rattle.answer_reader.proofs.StageSteps.{node_next}
 

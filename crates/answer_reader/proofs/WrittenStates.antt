@@ -21,7 +21,7 @@ use Rattle.answer_reader.specs.Lines.{state_of, arc_of}
 use Rattle.answer_reader.specs.Orders.{follows, arc_less, state_less}
 use Rattle.answer_reader.specs.States.{behind_states, in_state, next_state, next_arc, state_or_end, states_from}
 use Rattle.answer_reader.specs.Steps.{At, go_on}
-use Rattle.answer_reader.specs.Values.{ArcValue, StateValue, arc_value, state_value}
+use Rattle.answer_text.specs.Values.{ArcValue, StateValue, arc_value, state_value}
 use Rattle.answer_reader.proofs.Sets.{begins_front}
 use Rattle.answer_reader.proofs.StateLoops.{follows_node, told_less}
 use Rattle.answer_reader.proofs.StateSteps.{state_next}

@@ -1,7 +1,6 @@
 pub mod Numbers
 pub mod Cuts
 pub mod Masks
-pub mod Values
 pub mod Nodes
 pub mod Seen
 pub mod Classes

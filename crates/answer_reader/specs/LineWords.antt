@@ -1,7 +1,7 @@
 -- The words of a state's line, as the code has them.
 use Rattle.std.specs.Prelude.{ℕ, Bool, List, []}
 use Rattle.answer_reader.specs.Lines as said
-use Rattle.answer_reader.specs.Values.{ArcValue, StateValue}
+use Rattle.answer_text.specs.Values.{ArcValue, StateValue}
 use Rattle.answer_reader.specs.declared.line_forms.StateWords as code
 
 abbrev pub state_words_seen : code.StateWords → said.StateWords

@@ -9,7 +9,7 @@ use Rattle.answer_reader.specs.Numbers.{is_run, number_below, numbers_below}
 use Rattle.timeline_text.specs.Bytes.{is_space}
 use Rattle.answer_reader.specs.Cuts.{cut, behind}
 use Rattle.answer_reader.specs.Classes.{class_of}
-use Rattle.answer_reader.specs.Values.{ArcValue, StateValue}
+use Rattle.answer_text.specs.Values.{ArcValue, StateValue}
 
 -- `answer 1`
 abbrev pub header_of : List ℕ → Result (Unit {0}) AnswerCause

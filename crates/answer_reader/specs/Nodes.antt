@@ -7,7 +7,7 @@ use Rattle.answer_reader.specs.declared.answer_err.AnswerCause.{AnswerCause}
 use Rattle.answer_reader.specs.declared.answer_err.AnswerCause.TheVariants.{BadLine, BadNumber}
 use Rattle.answer_reader.specs.Numbers.{is_run, number_below}
 use Rattle.answer_reader.specs.Cuts.{cut, behind}
-use Rattle.answer_reader.specs.Values.{NodeValue}
+use Rattle.answer_text.specs.Values.{NodeValue}
 
 -- `+` or `-`
 abbrev pub is_open_byte : ℕ → Bool

@@ -5,7 +5,7 @@ use Rattle.std.specs.Cmp.Lexicographic.{slice_cmp}
 use Rattle.tier_core.specs.Kinds.{kind_order}
 use Rattle.answer_reader.specs.declared.answer_err.AnswerCause.{AnswerCause}
 use Rattle.answer_reader.specs.declared.answer_err.AnswerCause.TheVariants.{BadOrder}
-use Rattle.answer_reader.specs.Values.{NodeValue, ArcValue, StateValue}
+use Rattle.answer_text.specs.Values.{NodeValue, ArcValue, StateValue}
 
 -- strictly after the last of those before it, if there is one
 abbrev pub follows : {X : Type 0} → (X → X → Bool) → List X → X → Bool

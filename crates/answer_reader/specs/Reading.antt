@@ -10,7 +10,7 @@ use Rattle.answer_reader.specs.Stages.{behind_stages, last_count, StagesRead, st
 use Rattle.answer_reader.specs.States.{behind_states, states_from}
 use Rattle.answer_reader.specs.Steps.{At, at, and_then, line_then}
 use Rattle.answer_reader.specs.Timelines.{timeline_said}
-use Rattle.answer_reader.specs.Values.{AnswerValue, StateValue}
+use Rattle.answer_text.specs.Values.{AnswerValue, StateValue}
 
 -- the form, over the input tiers and with at most 64 columns
 abbrev pub form_of : Shape → List ℕ → Result (List (List Sym)) AnswerCause

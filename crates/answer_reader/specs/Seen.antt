@@ -5,7 +5,7 @@ use Rattle.std.specs.declared.vec.Vec.{Vec}
 use Rattle.tier_core.specs.Kinds.{prefix_kind}
 use Rattle.answer_text.specs.declared.stage.Node.{Node}
 use Rattle.answer_reader.specs.Nodes as said
-use Rattle.answer_reader.specs.Values.{NodeValue}
+use Rattle.answer_text.specs.Values.{NodeValue}
 use Rattle.answer_reader.specs.declared.node.NodeWords as code
 
 abbrev pub words_seen : code.NodeWords → said.NodeWords

@@ -9,7 +9,7 @@ use Rattle.answer_reader.specs.Lines.{stage_of, automaton_of}
 use Rattle.answer_reader.specs.Nodes.{node_of}
 use Rattle.answer_reader.specs.Orders.{in_order, node_less}
 use Rattle.answer_reader.specs.Steps.{At, at, go_on}
-use Rattle.answer_reader.specs.Values.{NodeValue}
+use Rattle.answer_text.specs.Values.{NodeValue}
 
 pub data StagePlace : Type 0 where
   -- after these stages

@@ -6,7 +6,7 @@ use Rattle.answer_reader.specs.Cuts.{begins}
 use Rattle.answer_reader.specs.Lines.{state_of, arc_of, end_line}
 use Rattle.answer_reader.specs.Orders.{in_order, state_less, arc_less}
 use Rattle.answer_reader.specs.Steps.{At, at, go_on}
-use Rattle.answer_reader.specs.Values.{ArcValue, StateValue}
+use Rattle.answer_text.specs.Values.{ArcValue, StateValue}
 
 pub data StatePlace : Type 0 where
   -- this many states follow these

@@ -2,7 +2,7 @@ ghost use Rattle.std.specs.Prelude.{◌≡◌, ◌+◌, ◌<◌, ◌≤◌, [], 
 ghost use Rattle.answer_reader.specs.Lines.{arc_of, arc_said, arc_words, automaton_of, is_number, number_said, stage_of, stage_said, stage_words, state_of, state_said, state_words};
 ghost use Rattle.answer_reader.specs.Cuts.{part_seen, parts_seen};
 ghost use Rattle.answer_reader.specs.LineWords.{bare_state, state_words_seen};
-ghost use Rattle.answer_reader.specs.Values.{arc_value};
+ghost use Rattle.answer_text.specs.Values.{arc_value};
 ghost use Rattle.answer_text.specs.Readable.{IsReadableArc};
 
 use crate::answer_err::AnswerCause;

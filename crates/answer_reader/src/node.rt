@@ -5,7 +5,7 @@ ghost use Rattle.tier_core.specs.KindShapes.{free_count, stretch_count};
 ghost use Rattle.answer_reader.specs.Nodes.{are_each, are_node_words, is_open_byte, is_phase_byte, node_of, node_with, node_words, phase_of_byte};
 ghost use Rattle.answer_reader.specs.Numbers.{is_run};
 ghost use Rattle.answer_reader.specs.Seen.{node_seen, words_seen};
-ghost use Rattle.answer_reader.specs.Values.{node_value};
+ghost use Rattle.answer_text.specs.Values.{node_value};
 ghost use Rattle.answer_reader.specs.Within.{IsNodeWithin};
 
 use crate::answer_err::AnswerCause;

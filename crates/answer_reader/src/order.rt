@@ -2,7 +2,7 @@ ghost use Rattle.std.specs.Prelude.{◌≡◌, map, All};
 ghost use Rattle.answer_text.specs.Right.{arc_cmp};
 ghost use Rattle.answer_reader.specs.LineWords.{bare_state};
 ghost use Rattle.answer_reader.specs.Orders.{arc_less, follows, node_less, state_less};
-ghost use Rattle.answer_reader.specs.Values.{arc_value, node_value, state_value};
+ghost use Rattle.answer_text.specs.Values.{arc_value, node_value, state_value};
 ghost use Rattle.answer_reader.specs.Within.{IsNodeWithin};
 
 use answer_text::{ArcLine, Node, StateLine};

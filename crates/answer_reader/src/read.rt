@@ -2,7 +2,7 @@ ghost use Rattle.std.specs.Prelude.{◌≡◌, ◌≤◌, length, Err, IfOk, IfE
 ghost use Rattle.answer_text.specs.Readable.{IsReadable};
 ghost use Rattle.answer_reader.specs.Reading.{answer_of, IsTextOf};
 ghost use Rattle.answer_reader.specs.Steps.{Fails};
-ghost use Rattle.answer_reader.specs.Values.{answer_value};
+ghost use Rattle.answer_text.specs.Values.{answer_value};
 
 use crate::answer_err::AnswerErr;
 use crate::head::read_head;

@@ -2,7 +2,7 @@ ghost use Rattle.std.specs.Prelude.{◌≡◌, ℕ, List};
 ghost use Rattle.tier_core.specs.declared.shape.Shape.{Shape};
 ghost use Rattle.answer_reader.specs.declared.answer_err.AnswerCause.{AnswerCause};
 ghost use Rattle.answer_reader.specs.Reading.{HasReading, IsFirstCause, IsTextOf};
-ghost use Rattle.answer_reader.specs.Values.{AnswerValue, answer_value};
+ghost use Rattle.answer_text.specs.Values.{AnswerValue, answer_value};
 ghost use Rattle.answer_text.specs.declared.answer.Answer.{Answer};
 ghost use Rattle.answer_text.specs.Orderly.{IsOrderly};
 ghost use Rattle.answer_text.specs.Shape.{widths_of};

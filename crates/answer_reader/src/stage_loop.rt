@@ -3,7 +3,7 @@ ghost use Rattle.answer_text.specs.Readable.{AreReadableStages, IsReadableStage,
 ghost use Rattle.answer_reader.specs.Cuts.{begins};
 ghost use Rattle.answer_reader.specs.Left.{Continues};
 ghost use Rattle.answer_reader.specs.Stages.{behind_stages, is_empty, last_count, stages_from, stages_read, with_nodes};
-ghost use Rattle.answer_reader.specs.Values.{node_value, stage_values};
+ghost use Rattle.answer_text.specs.Values.{node_value, stage_values};
 ghost use Rattle.answer_reader.specs.Within.{IsNodeWithin};
 
 use crate::answer_err::AnswerErr;

@@ -2,7 +2,7 @@ ghost use Rattle.std.specs.Prelude.{◌≡◌, ◌<◌, ◌≤◌, ℕ, length, 
 ghost use Rattle.answer_reader.specs.Left.{Takes};
 ghost use Rattle.answer_reader.specs.Lines.{automaton_of, stage_of};
 ghost use Rattle.answer_reader.specs.Stages.{next_node};
-ghost use Rattle.answer_reader.specs.Values.{node_value};
+ghost use Rattle.answer_text.specs.Values.{node_value};
 ghost use Rattle.answer_reader.specs.Within.{IsNodeWithin};
 
 use crate::answer_err::{AnswerCause, AnswerErr};

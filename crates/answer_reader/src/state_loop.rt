@@ -6,7 +6,7 @@ ghost use Rattle.answer_reader.specs.Orders.{follows, state_less};
 ghost use Rattle.answer_reader.specs.Steps.{Fails};
 ghost use Rattle.answer_reader.specs.LineWords.{bare_state, with_arcs};
 ghost use Rattle.answer_reader.specs.States.{at_end, behind_states, in_state, states_from};
-ghost use Rattle.answer_reader.specs.Values.{StateValue, arc_value, state_value};
+ghost use Rattle.answer_text.specs.Values.{StateValue, arc_value, state_value};
 
 use crate::answer_err::{AnswerCause, AnswerErr};
 use crate::lines::Lines;

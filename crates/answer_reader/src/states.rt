@@ -3,7 +3,7 @@ ghost use Rattle.answer_reader.specs.Left.{Takes};
 ghost use Rattle.answer_reader.specs.LineWords.{bare_state};
 ghost use Rattle.answer_reader.specs.Orders.{follows, state_less};
 ghost use Rattle.answer_reader.specs.States.{next_arc, next_state};
-ghost use Rattle.answer_reader.specs.Values.{arc_value, state_value};
+ghost use Rattle.answer_text.specs.Values.{arc_value, state_value};
 ghost use Rattle.answer_text.specs.Readable.{IsReadableArc};
 
 use crate::answer_err::{AnswerCause, AnswerErr};

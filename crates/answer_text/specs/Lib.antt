@@ -1,5 +1,7 @@
 pub mod Acceptance
 pub mod Right
+pub mod Values
+pub mod Seen
 pub mod Certified
 pub mod Sound
 pub mod Text

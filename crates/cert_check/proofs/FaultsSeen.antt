@@ -18,6 +18,8 @@ use Rattle.answer_text.specs.declared.automaton.ArcLine.{ArcLine}
 use Rattle.answer_text.specs.declared.automaton.StateLine.{StateLine}
 use Rattle.answer_text.specs.declared.answer.Answer.{Answer}
 use Rattle.answer_text.specs.Right.{nodes_at, kinds_at, numbers_of}
+use Rattle.answer_text.specs.Seen.{node_seen}
+use Rattle.answer_text.specs.Values.{ArcValue, NodeValue, StateValue, arc_value, state_value}
 use Rattle.answer_text.specs.Certified.{Lists, IsKeptBelow, IsTightAt, start_potential}
 use Rattle.cert_check.specs.declared.fault.Fault.{Fault}
 use Rattle.cert_check.specs.declared.fault.Verdict.{Verdict}
@@ -32,7 +34,7 @@ use Rattle.cert_check.specs.Faults.{HasState, IsKindOfState, LacksTarget, HasWro
 use Rattle.cert_check.specs.Faults.{IsKeptTarget, HasWrongArcs}
 use Rattle.cert_check.specs.FirstFaults.{IsFault, IsFirstFault, LacksState}
 use Rattle.cert_check.specs.Verdicts.{IsVerdict}
-use Rattle.cert_check.specs.Seen.{AreAskedAlike, AreSeenAlike, arc_seen, node_seen, state_seen}
+use Rattle.cert_check.specs.Seen.{AreAskedAlike, AreSeenAlike}
 use Rattle.cert_check.proofs.AskedAlike.{by_alike, same_closed, same_cost, same_count, same_cut, same_kind, same_move}
 use Rattle.cert_check.proofs.AskedAlike.{same_stretch_count, same_vec, with_constraints}
 use Rattle.cert_check.proofs.SeenLists.{at_number, member}
@@ -61,10 +63,10 @@ same_told s r kind =
 nodes_there : (s : Two) (r : ℕ) → map (node_seen (there s) r) (nodes_at s.a.stages.items r)
     ≡ map (node_seen (there s) r) (nodes_at s.b.stages.items r)
 nodes_there s r =
-    let seen_by : ℕ → Node → PrefixKind × ℕ = λ n node. (
-      prefix_kind (length s.base.tiers.free) n node.kind,
-      node.potential,
-    ) in
+    let seen_by : ℕ → Node → NodeValue = λ n node. record {
+      kind = prefix_kind (length s.base.tiers.free) n node.kind;
+      potential = node.potential;
+    } in
     subst (λ n. map (seen_by n) (nodes_at s.a.stages.items r) ≡ map (seen_by n) (nodes_at s.b.stages.items r))
     (same_stretch_count s.base s.cs s.ds s.asked r) (s.seen.nodes r)
 
@@ -94,10 +96,10 @@ same_stage s = same_count s.cs s.ds s.asked
 same_kinds : (s : Two) (r : ℕ)
     → kinds_at (here s) r (nodes_at s.a.stages.items r) ≡ kinds_at (there s) r (nodes_at s.b.stages.items r)
 same_kinds s r =
-    let by : List (PrefixKind × ℕ) → List PrefixKind = map (λ (v : PrefixKind × ℕ). v.0) in
-    sym (map-map (λ (v : PrefixKind × ℕ). v.0) (node_seen (here s) r) (nodes_at s.a.stages.items r))
+    let by : List NodeValue → List PrefixKind = map (λ (v : NodeValue). v.kind) in
+    sym (map-map (λ (v : NodeValue). v.kind) (node_seen (here s) r) (nodes_at s.a.stages.items r))
     ∙ ap by (s.seen.nodes r)
-    ∙ map-map (λ (v : PrefixKind × ℕ). v.0) (node_seen (here s) r) (nodes_at s.b.stages.items r)
+    ∙ map-map (λ (v : NodeValue). v.kind) (node_seen (here s) r) (nodes_at s.b.stages.items r)
     ∙ ap (λ n. map (λ (node : Node). prefix_kind (length s.base.tiers.free) n node.kind) (nodes_at s.b.stages.items r))
     (same_stretch_count s.base s.cs s.ds s.asked r)
 
@@ -114,8 +116,8 @@ matching s stage n node h =
     (s.seen.nodes stage) n node h.numbered in record {
       other = found.0;
       is = record { within = subst (λ l. stage < l) s.seen.stages h.within; numbered = found.1.0 };
-      told = sym (ap (λ (v : PrefixKind × ℕ). v.0) found.1.1) ∙ same_told s stage found.0.kind;
-      potential = sym (ap (λ (v : PrefixKind × ℕ). v.1) found.1.1);
+      told = sym (ap (λ (v : NodeValue). v.kind) found.1.1) ∙ same_told s stage found.0.kind;
+      potential = sym (ap (λ (v : NodeValue). v.potential) found.1.1);
     }
 
 lists : (s : Two) (r : ℕ) (k : PrefixKind) (p : ℕ) → Lists (here s) s.a.stages.items r k p
@@ -125,8 +127,8 @@ lists s r k p l =
     (s.seen.nodes r) l.node l.listed in record {
       node = found.0;
       listed = found.1.0;
-      tells = sym (same_told s r found.0.kind) ∙ ap (λ (v : PrefixKind × ℕ). v.0) found.1.1 ∙ l.tells;
-      potential = ap (λ (v : PrefixKind × ℕ). v.1) found.1.1 ∙ l.potential;
+      tells = sym (same_told s r found.0.kind) ∙ ap (λ (v : NodeValue). v.kind) found.1.1 ∙ l.tells;
+      potential = ap (λ (v : NodeValue). v.potential) found.1.1 ∙ l.potential;
     }
 
 -- ---- kept moves
@@ -307,45 +309,42 @@ wrong_start s stage listed count h =
 
 -- ---- the automaton
 
-abbrev StateSeen : Type 0
-StateSeen = ℕ × Bool × List (ℕ × List ℕ)
-
 same_numbers : (s : Two) → numbers_of s.a.automaton.states.items ≡ numbers_of s.b.automaton.states.items
 same_numbers s =
-    sym (map-map (λ (v : StateSeen). v.0) state_seen s.a.automaton.states.items)
-    ∙ ap (map (λ (v : StateSeen). v.0)) s.seen.states
-    ∙ map-map (λ (v : StateSeen). v.0) state_seen s.b.automaton.states.items
+    sym (map-map (λ (v : StateValue). v.node) state_value s.a.automaton.states.items)
+    ∙ ap (map (λ (v : StateValue). v.node)) s.seen.states
+    ∙ map-map (λ (v : StateValue). v.node) state_value s.b.automaton.states.items
 
 -- a state of the other answer that is seen as the same
 record Pairs (s : Two) (state : ℕ) (line : StateLine) : Type 0 where
   other : StateLine
   is : HasState s.b state other
   mark : line.accepting ≡ other.accepting
-  arcs : map arc_seen line.arcs.items ≡ map arc_seen other.arcs.items
+  arcs : map arc_value line.arcs.items ≡ map arc_value other.arcs.items
 
 pairing : (s : Two) (state : ℕ) (line : StateLine) → HasState s.a state line → Pairs s state line
 pairing s state line h =
-    let found = member state_seen s.a.automaton.states.items s.b.automaton.states.items s.seen.states line h.listed
+    let found = member state_value s.a.automaton.states.items s.b.automaton.states.items s.seen.states line h.listed
     in record {
       other = found.0;
-      is = record { listed = found.1.0; numbered = ap (λ (v : StateSeen). v.0) found.1.1 ∙ h.numbered };
-      mark = sym (ap (λ (v : StateSeen). v.1) found.1.1);
-      arcs = sym (ap (λ (v : StateSeen). v.2) found.1.1);
+      is = record { listed = found.1.0; numbered = ap (λ (v : StateValue). v.node) found.1.1 ∙ h.numbered };
+      mark = sym (ap (λ (v : StateValue). v.accepting) found.1.1);
+      arcs = sym (ap (λ (v : StateValue). v.arcs) found.1.1);
     }
 
-holds : (x y : ArcLine) (column : List Sym) → arc_seen y ≡ arc_seen x → IsTrue (has x.class column)
+holds : (x y : ArcLine) (column : List Sym) → arc_value y ≡ arc_value x → IsTrue (has x.class column)
     → IsTrue (has y.class column)
-holds x y column e h = subst (λ sets. IsTrue (sets_have sets column)) (sym (ap (λ (v : ℕ × List ℕ). v.1) e)) h
+holds x y column e h = subst (λ sets. IsTrue (sets_have sets column)) (sym (ap (λ (v : ArcValue). v.sets) e)) h
 
 lacks_target : (s : Two) (state arc target : ℕ) → LacksTarget s.a state arc target → LacksTarget s.b state arc target
 lacks_target s state arc target h =
     let m = pairing s state h.line h.is in
-    let found = at_number arc_seen h.line.arcs.items m.other.arcs.items m.arcs arc h.arc_line h.numbered in record {
+    let found = at_number arc_value h.line.arcs.items m.other.arcs.items m.arcs arc h.arc_line h.numbered in record {
       line = m.other;
       is = m.is;
       arc_line = found.0;
       numbered = found.1.0;
-      target_is = h.target_is ∙ sym (ap (λ (v : ℕ × List ℕ). v.0) found.1.1);
+      target_is = h.target_is ∙ sym (ap (λ (v : ArcValue). v.target) found.1.1);
       lacks = λ i. h.lacks (subst (λ ns. Contains ns target) (sym (same_numbers s)) i);
     }
 
@@ -361,7 +360,7 @@ node_of s n k h =
     let found = at_number (node_seen (here s) last) (nodes_at s.a.stages.items last) (nodes_at s.b.stages.items last)
     (s.seen.nodes last) n h.node h.numbered in
     let told : kind_of_bits (there s) last found.0.kind ≡ k = sym (same_told s last found.0.kind)
-    ∙ ap (λ (v : PrefixKind × ℕ). v.0) found.1.1 ∙ h.tells in record {
+    ∙ ap (λ (v : NodeValue). v.kind) found.1.1 ∙ h.tells in record {
       node = found.0;
       numbered = subst (λ r. slice_get (nodes_at s.b.stages.items r) n ≡ Some found.0) (same_stage s) found.1.0;
       tells = subst (λ r. kind_of_bits (there s) r found.0.kind ≡ k) (same_stage s) told;
@@ -382,8 +381,8 @@ wrong_mark s state listed h =
 twice : (s : Two) (state : ℕ) (column : List Sym) → HasTwice s.a state column → HasTwice s.b state column
 twice s state column h =
     let m = pairing s state h.line h.is in
-    let first = at_number arc_seen h.line.arcs.items m.other.arcs.items m.arcs h.first h.first_arc h.first_is in
-    let second = at_number arc_seen h.line.arcs.items m.other.arcs.items m.arcs h.second h.second_arc h.second_is
+    let first = at_number arc_value h.line.arcs.items m.other.arcs.items m.arcs h.first h.first_arc h.first_is in
+    let second = at_number arc_value h.line.arcs.items m.other.arcs.items m.arcs h.second h.second_arc h.second_is
     in record {
       line = m.other;
       is = m.is;
@@ -398,15 +397,15 @@ twice s state column h =
       in_second = holds h.second_arc second.0 column second.1.1 h.in_second;
     }
 
-listed_target : (xs ys : List ArcLine) → map arc_seen xs ≡ map arc_seen ys → (column : List Sym) (target : Option ℕ)
+listed_target : (xs ys : List ArcLine) → map arc_value xs ≡ map arc_value ys → (column : List Sym) (target : Option ℕ)
     → IsListedTarget xs column target → IsListedTarget ys column target
 listed_target xs ys e column None h = λ y in_ys held.
-    let found = member arc_seen ys xs (sym e) y in_ys in
+    let found = member arc_value ys xs (sym e) y in_ys in
     h found.0 found.1.0 (holds y found.0 column found.1.1 held)
 listed_target xs ys e column (Some m) h =
-    let found = member arc_seen xs ys e h.0 h.1.0 in (
+    let found = member arc_value xs ys e h.0 h.1.0 in (
       found.0,
-      (found.1.0, holds h.0 found.0 column found.1.1 h.1.1, ap (λ (v : ℕ × List ℕ). v.0) found.1.1 ∙ h.1.2),
+      (found.1.0, holds h.0 found.0 column found.1.1 h.1.1, ap (λ (v : ArcValue). v.target) found.1.1 ∙ h.1.2),
     )
 
 kept_at_end : (s : Two) (k : PrefixKind) (column : List Sym)

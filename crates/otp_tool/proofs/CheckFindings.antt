@@ -4,7 +4,7 @@ use Rattle.std.proofs.Common.{sym, ◌∙◌}
 use Rattle.std.proofs.lemmas.Bool.{false≢true}
 use Rattle.grammar_reader.specs.Values.{GrammarValue}
 use Rattle.answer_reader.specs.Steps.{At}
-use Rattle.answer_reader.specs.Values.{AnswerValue}
+use Rattle.answer_text.specs.Values.{AnswerValue}
 use Rattle.otp_tool.specs.Answers.{HasAnswer, IsAnswerFile}
 use Rattle.otp_tool.specs.Findings.{Finding, FindsForCheck, long_file, no_grammar, no_form, long_second, no_rows}
 use Rattle.otp_tool.specs.Findings.{no_lexicon, no_answer, over_budget, ready}

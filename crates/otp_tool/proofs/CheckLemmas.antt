@@ -15,7 +15,7 @@ use Rattle.answer_text.specs.Sound.{IsSound}
 use Rattle.answer_text.specs.Text.{Widths}
 use Rattle.answer_reader.specs.Reading.{IsTextOf, answer_of}
 use Rattle.answer_reader.specs.Steps.{At}
-use Rattle.answer_reader.specs.Values.{answer_value}
+use Rattle.answer_text.specs.Values.{answer_value}
 use Rattle.cert_check.specs.FirstFaults.{IsReadableFor, asked_by}
 use Rattle.cert_check.specs.Verdicts.{IsVerdict}
 use Rattle.cert_check.specs.declared.fault.Fault.{Fault}

@@ -22,7 +22,7 @@ use Rattle.answer_text.specs.Right.{kinds_at, nodes_at}
 use Rattle.answer_text.specs.Shape.{widths_of}
 use Rattle.answer_text.specs.Text.{Widths, answer_text}
 use Rattle.answer_reader.specs.Reading.{IsTextOf}
-use Rattle.answer_reader.specs.Values.{answer_value}
+use Rattle.answer_text.specs.Values.{answer_value}
 use Rattle.answer_reader.proofs.WrittenAnswer.{read_back}
 use Rattle.check_laws.proofs.RightStates.{certified_from_right}
 use Rattle.right_laws.specs.Shapes.{IsShapeOfProblem}

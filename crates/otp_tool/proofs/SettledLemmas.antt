@@ -4,9 +4,8 @@ use Rattle.std.proofs.Common.{take, get_or, Result, Ok, Err, refl, ap, ap₂, sy
 use Rattle.std.proofs.lemmas.Bool.{cases_order}
 use Rattle.std.proofs.lemmas.List.{get_or_past, length-map}
 use Rattle.std.proofs.lemmas.List.FromFn.{get_or-map-range_with_len}
-use Rattle.std.proofs.lemmas.Simd.{map-map}
 use Rattle.tier_core.specs.declared.shape.Shape.{Shape}
-use Rattle.tier_core.specs.Kinds.{PrefixKind, prefix_kind}
+use Rattle.tier_core.specs.Kinds.{prefix_kind}
 use Rattle.tier_core.specs.KindShapes.{free_count, stretch_count}
 use Rattle.tier_core.specs.Sides.{is_stretch}
 use Rattle.tier_core.specs.Tiers.{Tiers}
@@ -18,23 +17,22 @@ use Rattle.violation.specs.Prefixes.{stretches}
 use Rattle.violation.specs.Problems.{Problem}
 use Rattle.answer_text.specs.declared.stage.Node.{Node}
 use Rattle.answer_text.specs.declared.stage.Stage.{Stage}
-use Rattle.answer_text.specs.declared.automaton.StateLine.{StateLine}
 use Rattle.answer_text.specs.declared.answer.Answer.{Answer}
 use Rattle.answer_text.specs.Readable.{IsReadable}
 use Rattle.answer_text.specs.Right.{nodes_at}
 use Rattle.answer_text.specs.Text.{Widths}
 use Rattle.answer_reader.specs.Reading.{IsTextOf}
 use Rattle.answer_reader.specs.Steps.{At}
-use Rattle.answer_reader.specs.Values.{AnswerValue, ArcValue, NodeValue, StateValue, answer_value, arc_value}
-use Rattle.answer_reader.specs.Values.{node_value, stage_values, state_value}
+use Rattle.answer_text.specs.Seen.{node_seen}
+use Rattle.answer_text.specs.Values.{AnswerValue, NodeValue, answer_value, node_value, stage_values}
 use Rattle.cert_check.specs.FirstFaults.{asked_by}
-use Rattle.cert_check.specs.Seen.{AreAskedAlike, AreSeenAlike, node_seen, state_seen}
+use Rattle.cert_check.specs.Seen.{AreAskedAlike, AreSeenAlike}
 use Rattle.cert_check.specs.Verdicts.{IsVerdict}
 use Rattle.cert_check.specs.declared.fault.Verdict.{Verdict}
 use Rattle.cert_check.proofs.FaultsSeen.{same_verdict}
 use Rattle.otp_tool.specs.Answers.{IsAskedBy, IsSettled, IsShapeFor}
 use Rattle.otp_tool.proofs.GrammarLemmas.{same_requirements, same_tiers}
-use Rattle.otp_tool.proofs.ShapesAlike.{AreAlike, map_alike, same_reading, shapes_alike}
+use Rattle.otp_tool.proofs.ShapesAlike.{AreAlike, same_reading, shapes_alike}
 use Rattle.otp_tool.proofs.StepLemmas.{same_shape_widths, same_width}
 
 pub shape_for : (g : Grammar) (shape : Shape) → IsShapeOf g shape → IsShapeFor (value_of g) shape
@@ -69,30 +67,8 @@ value_at shape n (stage ∷ stages) (suc r) m e = value_at shape (n + 1) stages 
 
 -- ---- nodes and states by what is seen of them
 
-abbrev by_numbers : ℕ → ℕ → Node → PrefixKind × ℕ
-by_numbers free stretches node = (prefix_kind free stretches node.kind, node.potential)
-
-abbrev pair_of : NodeValue → PrefixKind × ℕ
-pair_of v = (v.kind, v.potential)
-
--- the nodes of a stage, from their values
-nodes_by : (shape : Shape) (r : ℕ) (nodes : List Node)
-    → map pair_of (map (node_value shape r) nodes) ≡ map (by_numbers (free_count shape) (stretch_count shape r)) nodes
-nodes_by shape r nodes = map-map pair_of (node_value shape r) nodes
-
-abbrev arc_of : ArcValue → ℕ × List ℕ
-arc_of v = (v.target, v.sets)
-
-abbrev StateSeen : Type 0
-StateSeen = ℕ × Bool × List (ℕ × List ℕ)
-
-abbrev state_of : StateValue → StateSeen
-state_of v = (v.node, v.accepting, map arc_of v.arcs)
-
-states_by : (states : List StateLine) → map state_of (map state_value states) ≡ map state_seen states
-states_by states = map-map state_of state_value states
-    ∙ map_alike (λ state. state_of (state_value state)) state_seen states (λ state.
-    ap (λ (arcs : List (ℕ × List ℕ)). (state.node, state.accepting, arcs)) (map-map arc_of arc_value state.arcs.items))
+abbrev by_numbers : ℕ → ℕ → Node → NodeValue
+by_numbers free stretches node = record { kind = prefix_kind free stretches node.kind; potential = node.potential }
 
 -- ---- two readings
 
@@ -150,9 +126,7 @@ module _ (g : Grammar) (bytes : List ℕ) (shape : Shape) (of_grammar : IsShapeO
         let count : stretch_count form_shape r ≡ length (stretches problem r) =
         sym (ap (λ ns. get_or ns r 0) alike.phases) ∙ stretch_told r within in
         ap₂ (λ m n. map (by_numbers m n) (nodes_at answer.stages.items r)) (sym free_told) (sym (stretch_told r within))
-        ∙ sym (nodes_by shape r (nodes_at answer.stages.items r))
-        ∙ ap (map pair_of) values
-        ∙ nodes_by form_shape r (nodes_at other.stages.items r)
+        ∙ values
         ∙ ap₂ (λ m n. map (by_numbers m n) (nodes_at other.stages.items r)) free count
 
     nodes_seen : (r : ℕ) → map (node_seen problem r) (nodes_at answer.stages.items r)
@@ -177,9 +151,7 @@ module _ (g : Grammar) (bytes : List ℕ) (shape : Shape) (of_grammar : IsShapeO
       example = ap (λ (v : AnswerValue). v.example) same_value;
       stages = stages_long;
       nodes = nodes_seen;
-      states = sym (states_by answer.automaton.states.items)
-          ∙ ap (λ (v : AnswerValue). map state_of v.states) same_value
-          ∙ states_by other.automaton.states.items;
+      states = ap (λ (v : AnswerValue). v.states) same_value;
     }
 
     asked_alike : (asks : Problem) → IsAskedBy (value_of g) other asks → AreAskedAlike problem asks

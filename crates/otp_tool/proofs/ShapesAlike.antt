@@ -25,7 +25,7 @@ use Rattle.answer_reader.specs.Stages.{stages_from, stages_read, next_node, with
 use Rattle.answer_reader.specs.States.{behind_states, states_from}
 use Rattle.answer_reader.specs.Steps.{At, and_then, first_line, go_on, line_then}
 use Rattle.answer_reader.specs.Timelines.{timeline_said}
-use Rattle.answer_reader.specs.Values.{NodeValue}
+use Rattle.answer_text.specs.Values.{NodeValue}
 use Rattle.otp_tool.specs.Answers.{IsShapeFor}
 use Rattle.cert_check.proofs.AskedAlike.{is_seen_stretch, seen_filter}
 

@@ -10,7 +10,7 @@ use Rattle.cert_check.specs.declared.fault.Verdict.TheVariants.{Yes, No as Not}
 use Rattle.command_line.specs.Commands.{Command, IsCommand, canon, score, generate, show, tableau, once, comprehend}
 use Rattle.command_line.specs.Commands.{check, sample}
 use Rattle.command_line.proofs.CommandLemmas.{one_command}
-use Rattle.answer_reader.specs.Values.{answer_value}
+use Rattle.answer_text.specs.Values.{answer_value}
 use Rattle.otp_tool.specs.Answers.{HasVerdict, IsJudged, IsVerdictText}
 use Rattle.otp_tool.specs.Grammars.{IsFileOf, OnGrammar}
 use Rattle.otp_tool.specs.Findings.{FindsIn, ready}

@@ -13,7 +13,7 @@ use Rattle.answer_text.specs.Text.{Widths}
 use Rattle.answer_reader.specs.declared.answer_err.AnswerCause.{AnswerCause}
 use Rattle.answer_reader.specs.Reading.{IsTextOf, answer_of}
 use Rattle.answer_reader.specs.Steps.{At, at}
-use Rattle.answer_reader.specs.Values.{AnswerValue, answer_value}
+use Rattle.answer_text.specs.Values.{AnswerValue, answer_value}
 use Rattle.cert_check.specs.declared.fault.Verdict.{Verdict}
 use Rattle.cert_check.specs.declared.fault.Verdict.TheVariants.{Yes}
 use Rattle.cert_check.specs.Verdicts.{IsVerdict}

@@ -1,7 +1,7 @@
 ghost use Rattle.std.specs.Prelude.{◌≡◌, ◌≢◌, ◌≤◌, ℕ, List, length, IfOk, IfErr};
 ghost use Rattle.answer_text.specs.Readable.{IsReadable};
 ghost use Rattle.answer_reader.specs.Reading.{IsTextOf};
-ghost use Rattle.answer_reader.specs.Values.{answer_value};
+ghost use Rattle.answer_text.specs.Values.{answer_value};
 ghost use Rattle.grammar_reader.specs.Grammars.{value_of};
 ghost use Rattle.otp_tool.specs.Steps.{IsCheckStep, IsCheckWork, IsRefusal, RefusesAnswer, change_of, no_end_of, taking_of, verdict_end};
 

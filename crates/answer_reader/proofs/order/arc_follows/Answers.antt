@@ -1,7 +1,7 @@
 use Rattle.std.proofs.Common.{sym, ◌∙◌, ap}
 use Rattle.std.specs.Ordering.{is_lt}
 use Rattle.answer_reader.specs.Orders.{arc_less}
-use Rattle.answer_reader.specs.Values.{arc_value}
+use Rattle.answer_text.specs.Values.{arc_value}
 use Rattle.answer_reader.proofs.Follows.{follows_seen, less_told}
 use Rattle.answer_reader.proofs.order.arc_follows.Goals as goal
 

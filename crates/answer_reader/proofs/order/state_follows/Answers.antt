@@ -1,6 +1,6 @@
 use Rattle.std.proofs.Common.{sym}
 use Rattle.answer_reader.specs.Orders.{state_less}
-use Rattle.answer_reader.specs.Values.{state_value}
+use Rattle.answer_text.specs.Values.{state_value}
 use Rattle.answer_reader.proofs.Follows.{follows_seen}
 use Rattle.answer_reader.proofs.order.state_follows.Goals as goal
 

@@ -1,6 +1,6 @@
 use Rattle.std.proofs.Common.{map}
 use Rattle.answer_reader.specs.Stages.{next_node}
-use Rattle.answer_reader.specs.Values.{node_value}
+use Rattle.answer_text.specs.Values.{node_value}
 use Rattle.answer_reader.proofs.FirstLines.{takes_said}
 use Rattle.answer_reader.proofs.stages.read_node.Goals as goal
 

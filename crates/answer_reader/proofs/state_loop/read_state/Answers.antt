@@ -3,7 +3,7 @@ use Rattle.std.proofs.lemmas.Result.{err_from_is_err_and}
 use Rattle.answer_reader.specs.Left.{lines_left}
 use Rattle.answer_reader.specs.LineWords.{bare_state}
 use Rattle.answer_reader.specs.States.{behind_states, states_from}
-use Rattle.answer_reader.specs.Values.{state_value}
+use Rattle.answer_text.specs.Values.{state_value}
 use Rattle.answer_reader.proofs.Going.{fails_from}
 use Rattle.answer_reader.proofs.StateLoops.{follows_node, state_read}
 use Rattle.answer_reader.proofs.state_loop.read_state.Goals as goal

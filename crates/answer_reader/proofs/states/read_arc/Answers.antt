@@ -1,6 +1,6 @@
 use Rattle.std.proofs.Common.{map}
 use Rattle.answer_reader.specs.States.{next_arc}
-use Rattle.answer_reader.specs.Values.{arc_value}
+use Rattle.answer_text.specs.Values.{arc_value}
 use Rattle.answer_reader.proofs.FirstLines.{takes_said}
 use Rattle.answer_reader.proofs.states.read_arc.Goals as goal
 

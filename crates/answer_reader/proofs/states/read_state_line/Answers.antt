@@ -1,7 +1,7 @@
 use Rattle.std.proofs.Common.{map}
 use Rattle.answer_reader.specs.LineWords.{bare_state}
 use Rattle.answer_reader.specs.States.{next_state}
-use Rattle.answer_reader.specs.Values.{state_value}
+use Rattle.answer_text.specs.Values.{state_value}
 use Rattle.answer_reader.proofs.FirstLines.{takes_said}
 use Rattle.answer_reader.proofs.states.read_state_line.Goals as goal
 

@@ -146,7 +146,8 @@ moves_pass problem at r = list_all (λ x. every_column problem.tiers.width (goes
 
 abbrev pub start_passes : Problem → List ℕ → Listing → ℕ → Bool
 start_passes problem counts at r =
-    list_all (λ x. implied (same_kind x.kind (kind_of problem r [])) (λ _. x.potential == start_potential counts r)) (at r)
+    list_all (λ x. implied (same_kind x.kind (kind_of problem r []))
+        (λ _. x.potential == start_potential counts r)) (at r)
 
 abbrev pub kinds_pass : Problem → Listing → ℕ → Bool
 kinds_pass problem at r =
@@ -186,10 +187,11 @@ module _ (problem : Problem) (stages : List Stage) where
     Decides-goes : (l : PrefixKind) (p cost : ℕ)
         → Decides (goes_to (at r) l p cost) ((q : ℕ) × (Lists problem stages r l q × (p ≤ cost + q)))
     Decides-goes l p cost =
-        Decides-by (some_decided (λ y. same_kind y.kind l && nat_le p (cost + y.potential)) (λ y. (y.kind ≡ l) × (p ≤ cost + y.potential))
+        Decides-by (some_decided (λ y. same_kind y.kind l && nat_le p (cost + y.potential))
+        (λ y. (y.kind ≡ l) × (p ≤ cost + y.potential))
         (λ y. Decides-and (same_kind y.kind l) (nat_le p (cost + y.potential)) (Decides-kind y.kind l)
         (Decides-leb p (cost + y.potential))) (at r))
-        (λ w. (w.0.1, (listing w.0 l w.1.0 w.1.1.0, w.1.1.1)))
+        (λ w. (w.0.potential, (listing w.0 l w.1.0 w.1.1.0, w.1.1.1)))
         (λ v. (node_of l v.0, (in_list l v.0 v.1.0, (refl, v.1.1))))
 
   module _ (r : ℕ) (k l : PrefixKind) (cost : ℕ) where
@@ -198,10 +200,12 @@ module _ (problem : Problem) (stages : List Stage) where
 
     Decides-fall : (p : ℕ) → Decides (falls_from (at r) l cost p) (FallsTo p)
     Decides-fall p =
-        Decides-by (some_decided (λ y. same_kind y.kind l && (p == (cost + y.potential))) (λ y. (y.kind ≡ l) × (p ≡ cost + y.potential))
-        (λ y. Decides-and (same_kind y.kind l) (p == (cost + y.potential)) (Decides-kind y.kind l) (Decides-eqb p (cost + y.potential)))
+        Decides-by (some_decided (λ y. same_kind y.kind l && (p == (cost + y.potential)))
+        (λ y. (y.kind ≡ l) × (p ≡ cost + y.potential))
+        (λ y. Decides-and (same_kind y.kind l) (p == (cost + y.potential)) (Decides-kind y.kind l)
+        (Decides-eqb p (cost + y.potential)))
         (at r))
-        (λ w. (w.0.1, (listing r w.0 l w.1.0 w.1.1.0, w.1.1.1)))
+        (λ w. (w.0.potential, (listing r w.0 l w.1.0 w.1.1.0, w.1.1.1)))
         (λ v. (node_of l v.0, (in_list r l v.0 v.1.0, (refl, v.1.1))))
 
     Decides-falls : Decides (falls_by (at r) k l cost) ((p : ℕ) × (Lists problem stages r k p × FallsTo p))
@@ -210,7 +214,7 @@ module _ (problem : Problem) (stages : List Stage) where
         (λ x. (x.kind ≡ k) × FallsTo x.potential)
         (λ x. Decides-both (same_kind x.kind k) (λ _. falls_from (at r) l cost x.potential) (Decides-kind x.kind k)
         (Decides-fall x.potential)) (at r))
-        (λ w. (w.0.1, (listing r w.0 k w.1.0 w.1.1.0, w.1.1.1)))
+        (λ w. (w.0.potential, (listing r w.0 k w.1.0 w.1.1.0, w.1.1.1)))
         (λ v. ((k, v.0), (in_list r k v.0 v.1.0, (refl, v.1.1))))
 
   Decides-tight : (j : ℕ) (k : PrefixKind) (column : List Sym)

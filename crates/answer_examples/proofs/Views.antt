@@ -36,6 +36,7 @@ module _ (problem : Problem) (stages : List Stage) (r : ℕ) (seen : List NodeVa
   pub kinds_seen : kinds_at problem r (nodes_at stages r) ≡ map (λ (x : NodeValue). x.kind) seen
   kinds_seen = by_map (nodes_at stages r) ∙ ap (map (λ (x : NodeValue). x.kind)) are
     where
-      by_map : (nodes : List Node) → kinds_at problem r nodes ≡ map (λ (x : NodeValue). x.kind) (map (node_seen problem r) nodes)
+      by_map : (nodes : List Node)
+          → kinds_at problem r nodes ≡ map (λ (x : NodeValue). x.kind) (map (node_seen problem r) nodes)
       by_map [] = refl
       by_map (node ∷ nodes) = ap (λ ks. kind_of_bits problem r node.kind ∷ ks) (by_map nodes)

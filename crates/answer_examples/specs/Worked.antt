@@ -17,9 +17,12 @@ unranked_problem = over_two [] []
 abbrev pub node : List ℕ → List ℕ → ℕ → NodeValue
 node opened phases potential = node_of (read_kind 0 opened phases) potential
 
--- an arc on one column
+-- an arc on the columns of sets, and on one column
+abbrev pub arc_by : ℕ → List ℕ → ArcValue
+arc_by target sets = record { target = target; sets = sets }
+
 abbrev pub arc_on : ℕ → List ℕ → ArcValue
-arc_on target column = record { target = target; sets = map single_set (read_syms column) }
+arc_on target column = arc_by target (map single_set (read_syms column))
 
 abbrev pub state : ℕ → Bool → List ArcValue → StateValue
 state node accepting arcs = record { node = node; accepting = accepting; arcs = arcs }

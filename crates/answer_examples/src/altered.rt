@@ -1,7 +1,7 @@
 //! Alterations of the answer to `[ ]` under `a # a`, `A -> a` and `a -> A` that are not certified.
 ghost use Rattle.std.specs.Prelude.{true, false, [], ◌∷◌, drop, codes};
 ghost use Rattle.violation.specs.Examples.{timeline, read_kind};
-ghost use Rattle.answer_examples.specs.Worked.{arc_on, state};
+ghost use Rattle.answer_examples.specs.Worked.{arc_by, arc_on, state};
 ghost use Rattle.answer_examples.specs.Ranked.{only_optimal, least_counts, six_nodes, node_at};
 ghost use Rattle.answer_examples.specs.Ranked.{nodes_of_max, nodes_of_dep, first_arcs, second_arcs};
 ghost use Rattle.answer_examples.specs.Ranked.{states_with, with_potential, with_kind, without};
@@ -65,8 +65,8 @@ pub fn altered_automata_are_refused()
     ensures arc_taken_out { AreStatesRefused (states_with false first_arcs false [] true []) }
     ensures arc_added { AreStatesRefused (states_with false first_arcs false second_arcs true
         (arc_on 2 (codes "-[") ∷ [])) }
-    ensures arc_on_all_columns { AreStatesRefused (states_with false ((1, 31 ∷ 31 ∷ []) ∷ []) false
+    ensures arc_on_all_columns { AreStatesRefused (states_with false (arc_by 1 (31 ∷ 31 ∷ []) ∷ []) false
         second_arcs true []) }
-    ensures edge_added { AreStatesRefused (states_with false ((1, 20 ∷ 1 ∷ []) ∷ []) false
+    ensures edge_added { AreStatesRefused (states_with false (arc_by 1 (20 ∷ 1 ∷ []) ∷ []) false
         second_arcs true []) }
 {}

@@ -34,7 +34,6 @@ pub record AreArcs (width nodes : ℕ) (old now : Lines) (arcs : List ArcLine) :
       (lines_left now)
   pub readable : All (IsReadableArc width nodes) arcs
 
-module _ (width nodes : ℕ) (arcs : List ArcLine) (now : Lines) where
 -- a state and its arcs
 module _ (width nodes : ℕ) (states : List StateValue) (more : ℕ) (old mid : Lines) where
   pub state_read : (state : ℕ × Bool) → Takes (next_state nodes states) bare_state old mid (Ok state)

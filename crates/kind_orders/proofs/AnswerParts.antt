@@ -15,6 +15,3 @@ use Rattle.kind_orders.specs.StageNodes.{node_numbered, AreNodesInOrder}
 -- an order is one of as many numbers as it has
 pub ordering_of_own : (n : ℕ) (order : List ℕ) → IsOrdering n order → IsOrdering (length order) order
 ordering_of_own n order o = subst (λ m. IsOrdering m order) (sym o.count) o
-
-module _ (kinds : List Kind) (potentials order : List ℕ) (nodes : List Node)
-    (are : AreNodesInOrder kinds potentials order nodes) where

@@ -215,7 +215,7 @@ module _ (problem : Problem) (stages : List Stage) where
         (λ x. Decides-both (same_kind x.kind k) (λ _. falls_from (at r) l cost x.potential) (Decides-kind x.kind k)
         (Decides-fall x.potential)) (at r))
         (λ w. (w.0.potential, (listing r w.0 k w.1.0 w.1.1.0, w.1.1.1)))
-        (λ v. ((k, v.0), (in_list r k v.0 v.1.0, (refl, v.1.1))))
+        (λ v. (node_of k v.0, (in_list r k v.0 v.1.0, (refl, v.1.1))))
 
   Decides-tight : (j : ℕ) (k : PrefixKind) (column : List Sym)
       → Decides (is_tight problem at j k column) (IsTightAt problem stages j k column)

@@ -22,9 +22,8 @@ use Rattle.stage_tables.proofs.Named.{frame_stage}
 use Rattle.ranked_gen.specs.Budgets.{IsOver, IsStageWithin}
 use Rattle.ranked_gen.specs.Listed.{kind_count}
 use Rattle.ranked_gen.specs.Numbers.{kind_of_number}
-use Rattle.tier_core.proofs.Differing.{no_longer}
+use Rattle.tier_core.proofs.Differing.{differ_from_pairs, no_longer}
 use Rattle.ranked_gen.proofs.FewKinds.{stage_few}
-use Rattle.ranked_gen.proofs.NextStage.{pairs_differ}
 use Rattle.ranked_gen.proofs.NumberedKinds.{free_distinct}
 use Rattle.ranked_gen.proofs.StageKinds.{numbered_kinds}
 
@@ -56,7 +55,7 @@ module _ (frame : Frame) where
       let are = numbered_kinds problem stage.split (free_distinct frame.grammar.now.tiers.kinds.items) stage.form in
       let most : length over.kinds ≤ length all = no_longer all over.kinds
       (λ k c. (are.members k).1 (passed k (All-contains (IsMet frame 0 (IsCandidate problem)) over.kinds k over.met c)))
-      (pairs_differ over.kinds over.distinct) in
+      (differ_from_pairs over.kinds over.distinct) in
       record { kinds = all; are = are; more = omega (arith, most, over.more) }
     where
       passed : (k : PrefixKind) → IsMet frame 0 (IsCandidate (problem_in frame)) k → IsPassed (problem_in frame) 0 0 k

@@ -32,8 +32,7 @@ use Rattle.stage_tables.specs.Explored.{names_at}
 use Rattle.stage_tables.specs.Kept.{AreKeptByKinds}
 use Rattle.stage_tables.proofs.Named.{frame_stage}
 use Rattle.ranked_gen.specs.KindsLeft.{AreKindsLeft}
-use Rattle.tier_core.proofs.Differing.{no_longer}
-use Rattle.ranked_gen.proofs.NextStage.{pairs_differ}
+use Rattle.tier_core.proofs.Differing.{differ_from_pairs, no_longer}
 use Rattle.ranked_gen.proofs.OrderedNames.{count_kinds, name_is}
 
 -- ---- of the states that are pruned
@@ -95,7 +94,7 @@ module _ (frame : Frame) (stage : ℕ) (within : stage ≤ last_stage (problem_i
     left_few left is =
         let names = names_at frame stage (map (kind_numbered kinds) old) in
         let few : length names ≤ length (names_at frame stage kinds) = no_longer (names_at frame stage kinds) names
-        was_there (pairs_differ names kept_by.named.distinct) in
+        was_there (differ_from_pairs names kept_by.named.distinct) in
         omega (
           arith,
           few,

@@ -20,10 +20,9 @@ use Rattle.kind_moves.specs.Frames.{problem_in}
 use Rattle.stage_tables.specs.Explored.{HasMoreKinds}
 use Rattle.ranked_gen.specs.Budgets.{IsOver}
 use Rattle.ranked_gen.proofs.Ascending.{ascends_from}
-use Rattle.tier_core.proofs.Differing.{Differ, no_longer}
+use Rattle.tier_core.proofs.Differing.{Differ, differ_from_pairs, no_longer}
 use Rattle.ranked_gen.proofs.FewKinds.{ascending_differ}
 use Rattle.tier_core.proofs.Members.{all_from_members}
-use Rattle.ranked_gen.proofs.NextStage.{pairs_differ}
 use Rattle.violation.specs.Problems.{Problem, last_stage}
 
 -- what differs after a cut differs
@@ -81,7 +80,7 @@ module _ (problem : Problem) where
       → AreWholeKindsWithin problem budget
   names_within budget names law few kinds distinct each =
       let most = no_longer names kinds (λ k c. (law k).1 (All-contains (IsWholeKind problem) kinds k each c))
-      (pairs_differ kinds distinct) in
+      (differ_from_pairs kinds distinct) in
       omega (arith, most, few)
 
 -- more kinds than the budget are met while all candidates are explored

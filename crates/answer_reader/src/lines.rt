@@ -1,4 +1,4 @@
-ghost use Rattle.std.specs.Prelude.{◌≡◌, ◌+◌, ◌∷◌, [], ◌<◌, ◌≤◌, ◌^◌, length, IfOk, OnOk, IfErr};
+ghost use Rattle.std.specs.Prelude.{◌≡◌, ◌+◌, ◌∷◌, [], ◌<◌, ◌≤◌, ◌^◌, length, IfOk, OnOk, IfErr, OnErr};
 
 use crate::answer_err::{AnswerCause, AnswerErr};
 use crate::cut::{begins, cut};
@@ -32,13 +32,15 @@ impl<'a> Lines<'a> {
         }
     }
 
-    /// The next line, without its line feed. `CutShort` if the bytes end before the line does.
+    /// The next line, without its line feed. `CutShort` if the bytes end before the line does; then
+    /// the remaining lines are as before.
     pub fn next_line(&mut self) -> Result<&'a [u8], AnswerErr>
         ensures line { IfOk result (λ line. lines_left self.old ≡ line.now ∷ lines_left self.new) }
         ensures number { OnOk result (self.new.number ≡ self.old.number + 1) }
         ensures shorter { OnOk result (length self.new.rest.now < length self.old.rest.now) }
         ensures err { IfErr result (λ e. e ≡ At self.old.number CutShort) }
         ensures missing { IfErr result (λ _. lines_left self.old ≡ self.old.rest.now ∷ []) }
+        ensures same { OnErr result (self.new ≡ self.old) }
     {
         let Some((line, rest)) = cut(b'\n', self.rest) else {
             return Err(AnswerErr::At {

@@ -1,4 +1,5 @@
 pub mod Moves
+pub mod MoveClasses
 pub mod Runs
 pub mod Conditions
 pub mod States

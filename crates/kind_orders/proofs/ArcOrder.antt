@@ -23,7 +23,8 @@ use Rattle.tier_core.proofs.Filled.{has-first_column}
 use Rattle.answer_text.specs.declared.automaton.ArcLine.{ArcLine}
 use Rattle.answer_text.specs.declared.automaton.StateLine.{StateLine}
 use Rattle.answer_text.specs.Right.{arc_cmp}
-use Rattle.kind_orders.specs.AutomatonLines.{line_of, move_classes, IsLineOf}
+use Rattle.arc_table.specs.MoveClasses.{move_classes}
+use Rattle.kind_orders.specs.AutomatonLines.{line_of, IsLineOf}
 use Rattle.answer_text.specs.ArcClasses.{arc_classes}
 use Rattle.kind_orders.specs.JoinedLines.{AreJoinedFrom}
 use Rattle.symbol_class.specs.Held.{width_of, ArePieces}

@@ -21,10 +21,6 @@ state_nodes ranks states = map (slice_index ranks) states
 abbrev pub line_of : {W : Type 0} {g : Ghosts W} → List ℕ → TableArc W g → ArcLine
 line_of nodes arc = record { target = slice_index nodes arc.target; class = arc.class }
 
--- the classes of moves
-abbrev pub move_classes : {W : Type 0} {g : Ghosts W} → List (TableArc W g) → List Class
-move_classes moves = map (λ move. move.class) moves
-
 -- The line of a state: it has the state's node number, is final if the state accepts, and has the
 -- arcs that are joined from the lines of the state's moves, in order.
 pub record IsLineOf {W : Type 0} {g : Ghosts W} (kept : List (TableState W g)) (nodes : List ℕ) (state : ℕ)

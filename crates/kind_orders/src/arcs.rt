@@ -1,7 +1,8 @@
 ghost use Rattle.std.specs.Prelude.{◌≡◌, ◌<◌, ◌≤◌, All, AllPairs, IfOk, IsPermutation, IsSorted, length, map};
 ghost use Rattle.answer_text.specs.Right.{arc_cmp};
 ghost use Rattle.symbol_class.specs.Held.{width_of, ArePieces};
-ghost use Rattle.kind_orders.specs.AutomatonLines.{line_of, move_classes};
+ghost use Rattle.arc_table.specs.MoveClasses.{move_classes};
+ghost use Rattle.kind_orders.specs.AutomatonLines.{line_of};
 ghost use Rattle.kind_orders.specs.JoinedLines.{AreJoinedFrom};
 
 use crate::joined_arcs::joined_lines;

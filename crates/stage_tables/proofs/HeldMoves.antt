@@ -10,7 +10,7 @@ use Rattle.tier_core.specs.declared.sym.Sym.{Sym}
 use Rattle.tier_core.specs.Classes.{has, AreDisjoint}
 use Rattle.symbol_class.specs.Held.{some_has}
 use Rattle.arc_table.specs.declared.arc.TableArc.{TableArc}
-use Rattle.stage_tables.specs.Listed.{move_classes}
+use Rattle.arc_table.specs.MoveClasses.{move_classes}
 
 module _ {W : Type 0} {g : Ghosts W} where
   -- where some class holds a column, there is a move on it

@@ -34,7 +34,8 @@ use Rattle.kind_moves.proofs.LawSteps.{kinds_law}
 use Rattle.kind_tables.specs.StageTables.{IsStage, name_of, cost_of, AreNamedByKinds, AreWeighed}
 use Rattle.kind_tables.specs.FoundTables.{HasMoveOn, AreReached, base_of}
 use Rattle.stage_tables.specs.Explored.{names_at, IsMet, HasMoreKinds}
-use Rattle.stage_tables.specs.Listed.{IsAt, IsReached, AreFound, IsTaken, IsTakenFrom, AreTaken, move_classes}
+use Rattle.arc_table.specs.MoveClasses.{move_classes}
+use Rattle.stage_tables.specs.Listed.{IsAt, IsReached, AreFound, IsTaken, IsTakenFrom, AreTaken}
 use Rattle.stage_tables.proofs.HeldMoves.{move_on, held_on, classes_apart, moves_apart}
 use Rattle.stage_tables.proofs.Listing.{at_number, get_map, get_or_map}
 

@@ -34,7 +34,7 @@ use Rattle.kind_moves.specs.Pieces.{piece_classes}
 use Rattle.stage_tables.specs.declared.exploring.Exploring.{Exploring}
 use Rattle.stage_tables.specs.declared.listed.Listed.{Listed}
 use Rattle.stage_tables.specs.Listed.{StandsOver, IsReached, AreTargets, IsTaken, IsTakenFrom, AreTakenMoves}
-use Rattle.stage_tables.specs.Listed.{move_classes}
+use Rattle.arc_table.specs.MoveClasses.{move_classes}
 use Rattle.stage_tables.specs.Exploring.{IsFoundWithin, StaysListed, ArePiecesFrom, IsPieceFrom, AddsTaken}
 use Rattle.stage_tables.proofs.Finding.{next_stands, next_reached, taken_stays, moves_taken_stay}
 

@@ -22,7 +22,7 @@ use Rattle.arc_table.specs.declared.arc.TableArc.{TableArc}
 use Rattle.arc_table.specs.declared.state.TableState.{TableState}
 use Rattle.arc_table.specs.Moves.{moves_at, accepting_at}
 use Rattle.arc_table.proofs.Push.{accepting_old, accepting_new, moves_old, moves_new}
-use Rattle.stage_tables.specs.Listed.{move_classes}
+use Rattle.arc_table.specs.MoveClasses.{move_classes}
 use Rattle.stage_tables.specs.Weighing.{AddsMoves, IsWeighedPart, IsWeighedFrom, AddsWeighed, AreWeighedMoves}
 use Rattle.stage_tables.specs.Weighing.{AreWeighedStates}
 

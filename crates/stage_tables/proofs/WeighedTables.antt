@@ -29,7 +29,7 @@ use Rattle.kind_moves.specs.Pieces.{cost_under}
 use Rattle.kind_tables.specs.StageTables.{name_of, cost_of}
 use Rattle.stage_tables.specs.Explored.{names_at, IsExplored}
 use Rattle.stage_tables.specs.Kept.{AreKeptByKinds}
-use Rattle.stage_tables.specs.Listed.{move_classes}
+use Rattle.arc_table.specs.MoveClasses.{move_classes}
 use Rattle.stage_tables.specs.Weighing.{cost_from, IsWeighedFrom, AreWeighedStates}
 use Rattle.stage_tables.proofs.HeldMoves.{move_on, held_on, classes_apart, moves_apart}
 use Rattle.stage_tables.proofs.SameWords.{GoesWith, words_with, on_runs_with}

@@ -13,6 +13,7 @@ use Rattle.symbol_class.specs.Held.{times_held}
 use Rattle.symbol_class.specs.Parts.{IsAlike}
 use Rattle.arc_table.specs.declared.arc.TableArc.{TableArc}
 use Rattle.arc_table.specs.declared.state.TableState.{TableState}
+use Rattle.arc_table.specs.MoveClasses.{move_classes}
 use Rattle.arc_table.specs.Moves.{moves_at, accepting_at}
 use Rattle.arc_table.specs.Runs.{IsPath, Reads}
 use Rattle.violation.specs.Moves.{is_final}
@@ -106,10 +107,6 @@ pub record IsTakenFrom {g : Ghosts UnitWeight} {h : Ghosts Count} (frame : Frame
   pub arc : TableArc UnitWeight g
   pub listed : Contains arcs arc
   pub taken : IsTaken frame first stage entries kind arc b
-
--- the classes of moves
-abbrev pub move_classes : {W : Type 0} {g : Ghosts W} → List (TableArc W g) → List Class
-move_classes moves = map (λ arc. arc.class) moves
 
 -- New moves from a kind are the kept ones: each is a part of one of these, and they hold each column
 -- that fits the kind as often as these do.

@@ -16,7 +16,7 @@ use Rattle.kind_moves.specs.declared.frame.Frame.{Frame}
 use Rattle.kind_moves.specs.Frames.{problem_in}
 use Rattle.kind_tables.specs.StageTables.{name_of, cost_of}
 use Rattle.stage_tables.specs.Explored.{names_at}
-use Rattle.stage_tables.specs.Listed.{move_classes}
+use Rattle.arc_table.specs.MoveClasses.{move_classes}
 
 -- what a column costs under the constraint of a stage from the kind that names a state
 abbrev pub cost_from : Frame → ℕ → List Kind → ℕ → List Sym → ℕ

@@ -2,7 +2,8 @@ use Rattle.std.proofs.Common.{◌≤◌, AllPairs, IsSorted, List, map, sym, sub
 use Rattle.answer_text.specs.declared.automaton.ArcLine.{ArcLine}
 use Rattle.answer_text.specs.Right.{arc_cmp}
 use Rattle.symbol_class.specs.Held.{width_of, ArePieces}
-use Rattle.kind_orders.specs.AutomatonLines.{line_of, move_classes}
+use Rattle.arc_table.specs.MoveClasses.{move_classes}
+use Rattle.kind_orders.specs.AutomatonLines.{line_of}
 use Rattle.answer_text.specs.ArcClasses.{arc_classes}
 use Rattle.kind_orders.specs.JoinedLines.{AreJoinedFrom}
 use Rattle.kind_orders.proofs.ArcOrder.{lines_are_pieces}

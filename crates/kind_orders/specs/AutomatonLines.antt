@@ -3,7 +3,6 @@ use Rattle.std.specs.Prelude.{ℕ, ◌≡◌, ◌<◌, List, Option, None, Some,
 use Rattle.std.specs.List.Sorted.{IsStrictlySortedBy}
 use Rattle.std.specs.Ordering.{nat_cmp}
 use Rattle.weight_law.specs.declared.Weight.{Ghosts}
-use Rattle.tier_core.specs.declared.class.Class.{Class}
 use Rattle.arc_table.specs.declared.arc.TableArc.{TableArc}
 use Rattle.arc_table.specs.declared.state.TableState.{TableState}
 use Rattle.arc_table.specs.Moves.{moves_at, accepting_at}

@@ -6,12 +6,11 @@ use Rattle.std.specs.Bool.{beq}
 use Rattle.std.specs.List.{list_all, list_any}
 use Rattle.std.specs.List.Sorted.{IsStrictlySortedBy}
 use Rattle.std.specs.Ordering.{nat_cmp}
-use Rattle.std.proofs.lemmas.Bool.{false≢true, and_parts}
+use Rattle.std.proofs.lemmas.Bool.{false≢true}
 use Rattle.std.proofs.lemmas.Bool.Decides.{Decides-and, Decides-not, Decides-eqb}
 use Rattle.tier_core.specs.declared.sym.Sym.{Sym}
 use Rattle.tier_core.specs.Classes.{has, sets_of, sets_have, AreDisjoint}
 use Rattle.tier_core.specs.Kinds.{PrefixKind}
-use Rattle.tier_core.specs.Sets.{is_in}
 use Rattle.violation.specs.Moves.{next_kind, is_final}
 use Rattle.violation.specs.Problems.{Problem, last_stage}
 use Rattle.answer_text.specs.declared.automaton.ArcLine.{ArcLine}

@@ -6,7 +6,6 @@ use Rattle.std.proofs.lemmas.Bool.Decides.{Decides-and, Decides-ltb}
 use Rattle.tier_core.specs.declared.constraint.Constraint.{Constraint}
 use Rattle.tier_core.specs.declared.event.Event.{Event}
 use Rattle.tier_core.specs.declared.sym.Sym.{Sym}
-use Rattle.tier_core.specs.Kinds.{PrefixKind}
 use Rattle.tier_core.specs.Orders.{timeline_cmp}
 use Rattle.violation.specs.Candidates.{counts_on}
 use Rattle.violation.specs.Conditions.{AreSplit, IsOverTiers, AreTiersBelow}

@@ -1,5 +1,5 @@
 -- What the loops over states and arcs keep.
-use Rattle.std.proofs.Common.{◌≡◌, ℕ, suc, ◌<◌, Bool, true, false, nat_lt, codes, List, [], ◌∷◌, ◌++◌, map, Result, Ok}
+use Rattle.std.proofs.Common.{◌≡◌, ℕ, suc, ◌<◌, Bool, true, nat_lt, List, [], ◌∷◌, ◌++◌, map, Result, Ok}
 use Rattle.std.proofs.Common.{Err, refl, ap, sym, ◌∙◌, subst, arith}
 use Rattle.std.specs.List.{All, AllByRecursion}
 use Rattle.std.specs.List.Sorted.{IsStrictlySortedBy}
@@ -15,16 +15,15 @@ use Rattle.answer_text.specs.Readable.{AreReadableStates, IsReadableArc, IsReada
 use Rattle.answer_text.specs.Right.{numbers_of}
 use Rattle.answer_reader.specs.declared.answer_err.AnswerErr.{AnswerErr}
 use Rattle.answer_reader.specs.declared.lines.Lines.{Lines}
-use Rattle.answer_reader.specs.Cuts.{begins}
 use Rattle.answer_reader.specs.Left.{lines_left, Takes, Continues}
 use Rattle.answer_reader.specs.LineWords.{bare_state, with_arcs}
 use Rattle.answer_reader.specs.Lines.{end_line}
 use Rattle.answer_reader.specs.Orders.{follows, state_less}
-use Rattle.answer_reader.specs.States.{at_end, behind_states, in_state, with_arc, next_arc, next_state, states_from}
-use Rattle.answer_reader.specs.Steps.{At, line_then, Fails}
-use Rattle.answer_text.specs.Values.{ArcValue, StateValue, arc_value, state_value}
+use Rattle.answer_reader.specs.States.{at_end, behind_states, in_state, with_arc, next_state, states_from}
+use Rattle.answer_reader.specs.Steps.{Fails}
+use Rattle.answer_text.specs.Values.{StateValue, arc_value, state_value}
 use Rattle.answer_reader.proofs.Going.{fails_from, takes_on}
-use Rattle.answer_reader.proofs.StateSteps.{state_next, end_next, arc_next, arcs_end}
+use Rattle.answer_reader.proofs.StateSteps.{state_next, end_next}
 
 -- reading on behind these arcs of a state, whatever the state and the states before it
 pub record AreArcs (width nodes : ℕ) (old now : Lines) (arcs : List ArcLine) : Type 0 where

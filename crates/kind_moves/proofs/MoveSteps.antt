@@ -10,7 +10,7 @@ use Rattle.tier_core.specs.declared.sym.Sym.{Sym}
 use Rattle.tier_core.specs.declared.sym.Sym.TheVariants.{Outside, Inside, Start, End, Both}
 use Rattle.tier_core.specs.declared.event.Event.{Event}
 use Rattle.tier_core.specs.declared.constraint.Constraint.{Constraint}
-use Rattle.tier_core.specs.Kinds.{Phase, closed, unmet, met, PrefixKind}
+use Rattle.tier_core.specs.Kinds.{Phase, closed, PrefixKind}
 use Rattle.tier_core.specs.Scan.{fits, opens}
 use Rattle.tier_core.specs.Timelines.{tier_word, symbol, is_edge, has_edge}
 use Rattle.tier_core.proofs.CountLemmas.{all_weaker}

@@ -1,5 +1,5 @@
 -- The word of a sample, letter by letter, and the pairs of its states.
-use Rattle.std.proofs.Common.{◌≡◌, ℕ, suc, ◌+◌, ◌<◌, Bool, true, false, cond, List, [], ◌∷◌, ◌++◌, length, map, drop}
+use Rattle.std.proofs.Common.{◌≡◌, ℕ, suc, ◌+◌, ◌<◌, Bool, List, [], ◌∷◌, ◌++◌, length, map, drop}
 use Rattle.std.proofs.Common.{get_or, ap, sym, ◌∙◌, codes, ap₂, append_assoc, drop-cons, add-one}
 use Rattle.std.proofs.lemmas.List.Concat.{flat_map-cons}
 use Rattle.std.specs.Fmt.{decimal}
@@ -7,7 +7,7 @@ use Rattle.answer_text.specs.declared.answer.Answer.{Answer}
 use Rattle.answer_text.specs.Text.{line, shown_text}
 use Rattle.answer_text.specs.declared.automaton.ArcLine.{ArcLine}
 use Rattle.answer_text.specs.declared.automaton.StateLine.{StateLine}
-use Rattle.otp_tool.specs.Samples.{leads_to, sample_letter, letters_after, next_number, pairs_of, sample_text}
+use Rattle.otp_tool.specs.Samples.{sample_letter, letters_after, next_number, pairs_of, sample_text}
 use Rattle.otp_tool.specs.Samples.{sample_word, targets_of, yes_or_no}
 
 -- the next letter is put at the end of a word

@@ -17,7 +17,7 @@ use Rattle.answer_text.specs.declared.stage.Stage.{Stage}
 use Rattle.ranked_gen.specs.Budgets.{IsStageWithin}
 use Rattle.ranked_gen.specs.Left.{IsStageOutcome, IsCountedOutcome, AreStages, IsRanked}
 use Rattle.ranked_gen.specs.OptimalParts.{IsOptimalPart}
-use Rattle.ranked_gen.proofs.StageList.{nodes_last, first_stages, next_stages}
+use Rattle.ranked_gen.proofs.StageList.{nodes_last, next_stages}
 use Rattle.violation.specs.Problems.{last_stage, Problem}
 
 -- what a stage leaves, whatever its nodes' potentials are

@@ -13,7 +13,7 @@ use Rattle.answer_text.specs.declared.stage.Stage.{Stage}
 use Rattle.answer_text.specs.declared.answer.Answer.{Answer}
 use Rattle.answer_text.specs.Right.{IsRightStage, IsRightAutomaton, IsRight, kinds_at, nodes_at}
 use Rattle.violation.proofs.StageLemmas.{optimal_for_fewer}
-use Rattle.ranked_gen.specs.Budgets.{IsStageWithin, IsOver, IsFirstOver, HasFewKinds, AreAllWithin}
+use Rattle.ranked_gen.specs.Budgets.{IsStageWithin, IsOver, IsFirstOver, HasFewKinds}
 use Rattle.ranked_gen.specs.FittingKinds.{FitsStage}
 use Rattle.ranked_gen.specs.Left.{AreStages}
 use Rattle.violation.specs.Problems.{last_stage, Problem}

@@ -1,7 +1,6 @@
 -- The words of least weight of the table of a single pass are the optimal candidates, and its least
 -- weights are the least vectors that remain.
 use Rattle.std.proofs.Common.{◌≡◌, ◌↔◌, ℕ, ◌≤◌, ◌<◌, List, ◌++◌, take, drop, length, ◌-◌, refl, sym, ap, ◌∙◌, subst}
-use Rattle.std.proofs.Common.{arith, take_all}
 use Rattle.std.proofs.lemmas.List.{length-map, take-append-drop, length-take-le}
 use Rattle.weight_law.specs.Meaning.{AtMost}
 use Rattle.weight_law.specs.Ranked.{parts_of_vector, ranked_meaning}

@@ -1,6 +1,6 @@
 -- Counts beside the least counts of a form.
 use Rattle.std.proofs.Common.{◌≡◌, ◌≢◌, ℕ, zero, suc, ◌<◌, ◌↔◌, true, List, [], ◌∷◌, length, take, get_or, Option, Some}
-use Rattle.std.proofs.Common.{None, MatchOption, IfSome, is_some, refl, ap, sym, ◌∙◌, subst, arith}
+use Rattle.std.proofs.Common.{None, MatchOption, IfSome, refl, ap, sym, ◌∙◌, subst, arith}
 use Rattle.std.specs.Prelude.{IsNone}
 use Rattle.std.specs.Ordering.{nat_cmp, is_le, ordering_then}
 use Rattle.std.specs.Cmp.{nat_cmp_is}
@@ -9,12 +9,8 @@ use Rattle.std.specs.declared.cmp.Ordering.TheVariants.{Less, Equal, Greater}
 use Rattle.std.specs.Cmp.Lexicographic.{slice_cmp}
 use Rattle.std.proofs.lemmas.Bool.{false≢true}
 use Rattle.std.proofs.lemmas.Cmp.{ranked}
-use Rattle.std.proofs.lemmas.List.{length-map, take_all}
 use Rattle.tier_core.specs.declared.sym.Sym.{Sym}
-use Rattle.tier_core.specs.declared.constraint.Constraint.{Constraint}
-use Rattle.tier_core.specs.Tiers.{Tiers}
-use Rattle.violation.specs.Counts.{violations_of}
-use Rattle.violation.specs.Candidates.{vec, IsAtMost, IsCandidate, IsLeastVector, IsOptimal, counts_on}
+use Rattle.violation.specs.Candidates.{IsAtMost, IsCandidate, IsLeastVector, IsOptimal, counts_on}
 use Rattle.violation.proofs.LeastVector.{whole}
 use Rattle.tableau.specs.declared.table.TableauRow.{TableauRow}
 use Rattle.tableau.specs.Compared.{IsCompared, IsFirstOther}

@@ -1,17 +1,15 @@
 -- Rows of lines, line by line.
 use Rattle.std.proofs.Common.{◌≡◌, ℕ, ◌+◌, ◌<◌, ◌≤◌, true, false, not, cond, List, [], ◌∷◌, ◌++◌, length, map, refl, ap}
-use Rattle.std.proofs.Common.{sym, ◌∙◌, subst, arith, append_assoc, append-nil}
+use Rattle.std.proofs.Common.{sym, ◌∙◌, subst, arith, append-nil}
 use Rattle.std.specs.Str.Lines.{lines}
 use Rattle.std.proofs.lemmas.List.{length_push, map_push}
 use Rattle.std.proofs.lemmas.List.Elements.{All-nil, All-push, filter-append}
 use Rattle.tier_core.specs.declared.sym.Sym.{Sym}
-use Rattle.tier_core.specs.Tiers.{Tiers}
 use Rattle.timeline_text.specs.Texts.{text_of}
 use Rattle.violation.specs.Candidates.{IsCandidate}
 use Rattle.tableau.specs.declared.rows_err.RowsErr.{RowsErr}
 use Rattle.tableau.specs.declared.rows_err.RowsErr.TheVariants.{At, NoMemory}
 use Rattle.tableau.specs.Rows.{AreRowsOf, IsLineCause, IsLineRefusal, IsRowOf, IsTextRefusal, filled_lines, is_blank}
-use Rattle.tableau.proofs.LineCuts.{nothing_behind}
 use Rattle.violation.specs.Problems.{Problem}
 
 -- the lines so far and one more, which is passed over

@@ -12,7 +12,7 @@ use Rattle.tier_core.specs.Words.{IsWellFormedWord}
 use Rattle.tier_core.specs.Timelines.{tier_word, IsWellFormed, IsReduced, project, squeeze}
 use Rattle.tier_core.proofs.CountLemmas.{bit, count_cons}
 use Rattle.tier_core.proofs.WordLemmas.{runs}
-use Rattle.tier_core.proofs.WordForm.{well_formed_from_runs, runs_from_well_formed}
+use Rattle.tier_core.proofs.WordForm.{well_formed_from_runs}
 use Rattle.std.specs.declared.alloc.Global.{Global}
 use Rattle.std.specs.Ordering.{ordering_then}
 use Rattle.std.specs.List.Sorted.{IsStrictlySortedBy}

@@ -65,8 +65,8 @@ pub fn altered_automata_are_refused()
     ensures arc_taken_out { AreStatesRefused (states_with false first_arcs false [] true []) }
     ensures arc_added { AreStatesRefused (states_with false first_arcs false second_arcs true
         (arc_on 2 (codes "-[") ∷ [])) }
-    ensures arc_on_all_columns { AreStatesRefused (states_with false (arc_by 1 (31 ∷ 31 ∷ []) ∷ []) false
-        second_arcs true []) }
-    ensures edge_added { AreStatesRefused (states_with false (arc_by 1 (20 ∷ 1 ∷ []) ∷ []) false
-        second_arcs true []) }
+    ensures arc_on_all_columns { AreStatesRefused (states_with false
+        (arc_by 1 (31 ∷ 31 ∷ []) ∷ []) false second_arcs true []) }
+    ensures edge_added { AreStatesRefused (states_with false
+        (arc_by 1 (20 ∷ 1 ∷ []) ∷ []) false second_arcs true []) }
 {}

@@ -6,9 +6,9 @@
 //!
 //! The definitions in `specs/` give the meaning of a single line (`Nodes`, `Classes`, `Timelines`,
 //! `Lines`), of the lines of stages and states in sequence (`Stages`, `States`), and of a whole text
-//! (`Reading`), as the value of an answer, which stands in `answer_text` (`Values`). Each text has exactly one of a value and a
-//! first cause, and what `put_answer` writes for an orderly answer is read as that answer's
-//! value: [`each_text_has_one_reading`] and [`written_is_read_again`].
+//! (`Reading`), as the value of an answer, which stands in `answer_text` (`Values`). Each text has
+//! exactly one of a value and a first cause, and what `put_answer` writes for an orderly answer is
+//! read as that answer's value: [`each_text_has_one_reading`] and [`written_is_read_again`].
 #![tactic(auto)]
 
 mod answer_err;

@@ -1,4 +1,10 @@
 -- A right answer is sound.
+use Rattle.std.proofs.Common.{List, sym, subst}
+use Rattle.tier_core.specs.declared.sym.Sym.{Sym}
+use Rattle.tier_core.specs.declared.constraint.Constraint.{Constraint}
+use Rattle.tier_core.specs.Tiers.{Tiers}
+use Rattle.violation.specs.Candidates.{IsOptimal, IsLeastVector}
+use Rattle.violation.specs.Stages.{IsKindOfStage}
 use Rattle.answer_text.specs.declared.answer.Answer.{Answer}
 use Rattle.answer_text.specs.Right.{numbers_of, IsRight}
 use Rattle.answer_text.specs.Sound.{IsSound}

@@ -7,6 +7,7 @@ use Rattle.std.specs.Ordering.{nat_cmp}
 use Rattle.std.proofs.lemmas.List.{length-map, take-append-drop}
 use Rattle.std.proofs.lemmas.Map.Keys.{below_from_sorted}
 use Rattle.tier_core.specs.declared.sym.Sym.{Sym}
+use Rattle.tier_core.specs.declared.constraint.Constraint.{Constraint}
 use Rattle.tier_core.specs.Kinds.{PrefixKind}
 use Rattle.tier_core.specs.Tiers.{Tiers}
 use Rattle.violation.specs.Candidates.{IsCandidate, IsOptimal, IsLeastVector}

@@ -2,10 +2,10 @@
 use Rattle.std.proofs.Common.{◌≡◌, ◌≢◌, ℕ, zero, suc, ◌+◌, ◌*◌, ◌<◌, ◌≤◌, Bool, true, false, List, [], ◌∷◌, length}
 use Rattle.std.proofs.Common.{get_or, map, drop, cond, refl, sym, ap, ◌∙◌, subst, arith, ◌⊎◌, inl, inr, IsTrue, Some}
 use Rattle.std.proofs.Common.{drop-cons, add-one}
-use Rattle.std.specs.Prelude.{All, AllPairs, Contains, slice_get}
+use Rattle.std.specs.Prelude.{All, AllPairs, Contains, slice_get, filter}
 use Rattle.std.proofs.lemmas.Bool.{false≢true, cases_lt, cond-true, cond-false}
 use Rattle.std.proofs.lemmas.Option.{slice_get_cases, slice_get_within, slice_get-get_or, get_or_from_slice_get}
-use Rattle.std.proofs.lemmas.List.{get_or-map, length-map}
+use Rattle.std.proofs.lemmas.List.{get_or-map, get_or_default, length-map}
 use Rattle.std.proofs.lemmas.List.Elements.{Contains-get_or}
 use Rattle.tier_core.specs.declared.sym.Sym.{Sym}
 use Rattle.tier_core.specs.declared.class.Class.{Class}
@@ -20,7 +20,7 @@ use Rattle.comprehend.specs.Surfaces.{heard_in, surface_of, AcceptsHeard}
 use Rattle.comprehend.specs.Searches.{ReadsFrom}
 use Rattle.comprehend.specs.Steps.{arcs_at, final_at, test_has, Goes, Turns, IsEndCell, ReadsAlong}
 use Rattle.comprehend.proofs.Cells.{one_cell}
-use Rattle.comprehend.proofs.Ends.{final_is}
+use Rattle.comprehend.proofs.Ends.{final_inside, final_is}
 use Rattle.comprehend.proofs.Levels.{arcs_read}
 use Rattle.comprehend.proofs.Numbers.{once_at}
 

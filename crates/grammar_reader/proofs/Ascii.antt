@@ -1,9 +1,9 @@
 -- Names are ASCII.
-use Rattle.std.proofs.Common.{◌≡◌, ℕ, zero, suc, ◌+◌, ◌<◌, true, ◌&&◌, List, [], ◌∷◌, length, get_or, map}
-use Rattle.std.proofs.Common.{refl, ap, ◌∙◌, arith}
+use Rattle.std.proofs.Common.{◌≡◌, ℕ, zero, suc, ◌+◌, ◌<◌, Bool, true, false, ◌&&◌, List, [], ◌∷◌, length, get_or, map}
+use Rattle.std.proofs.Common.{refl, ap, sym, ◌∙◌, arith, subst}
 use Rattle.std.specs.Prelude.{not, nat_le}
 use Rattle.std.specs.List.{list_all}
-use Rattle.std.specs.Str.{IsUtf8}
+use Rattle.std.specs.Str.{IsUtf8, IsAscii}
 use Rattle.std.proofs.lemmas.Bool.Decides.{nat_tests}
 use Rattle.std.proofs.lemmas.Str.{IsUtf8-from_ascii}
 use Rattle.std.specs.Map.{keys_of}
@@ -12,7 +12,7 @@ use Rattle.tier_core.specs.declared.tier.TierKind.{TierKind}
 use Rattle.grammar_reader.specs.Pieces.{is_word_byte}
 use Rattle.grammar_reader.specs.Statements.{is_connective}
 use Rattle.grammar_reader.specs.Names.{is_name, begins_with_letter}
-use Rattle.grammar_reader.specs.Seen.{tiers_seen, tiers_by}
+use Rattle.grammar_reader.specs.Seen.{tier_seen, tiers_seen, tiers_by}
 use Rattle.grammar_reader.specs.Values.{NamedTier}
 use denote.Ref.{Bor}
 

@@ -1,11 +1,12 @@
 -- Look-ups in the map of tiers.
 use Rattle.std.proofs.Common.{◌≡◌, ℕ, Bool, true, false, cond, ◌||◌, List, [], ◌∷◌, refl, ap, sym, ◌∙◌, Option, Some}
-use Rattle.std.proofs.Common.{is_some, map, position}
-use Rattle.std.specs.List.{list_any, find}
+use Rattle.std.proofs.Common.{None, is_some, is_none, map, position, unwrap_or}
+use Rattle.std.specs.List.{list_any, find, position_or_len}
 use Rattle.std.specs.Map.{lookup, keys_of}
 use Rattle.std.specs.Option.{option_map_or}
 use Rattle.std.specs.Cmp.Lexicographic.{pointwise}
 use Rattle.std.specs.Prelude.{nat_eq}
+use Rattle.std.proofs.lemmas.List.{length-map}
 use Rattle.tier_core.specs.Tiers.{is_input}
 use Rattle.tier_core.specs.declared.tier.TierKind.{TierKind}
 use Rattle.grammar_reader.specs.Values.{is_named, NamedTier}

@@ -1,5 +1,5 @@
 -- What reading a statement gives.
-use Rattle.std.proofs.Common.{◌≡◌, List, ap, sym, ◌∙◌, Some, None, Result, Ok, Err}
+use Rattle.std.proofs.Common.{◌≡◌, List, ap, sym, ◌∙◌, Option, Some, None, Result, Ok, Err}
 use Rattle.std.specs.Prelude.{MatchResult, OnOk, IfErr}
 use Rattle.grammar_reader.specs.Pieces.{Lexeme}
 use Rattle.grammar_reader.specs.Statements.{Statement, statement_of}

@@ -1,6 +1,6 @@
 -- A text is a timeline's, or it has a cause, and never both.
 use Rattle.std.proofs.Common.{◌≡◌, ◌≢◌, ◌⊎◌, inl, inr, ℕ, zero, suc, ◌<◌, ◌≤◌, true, false, List, [], ◌∷◌, length, map}
-use Rattle.std.proofs.Common.{Some, None, not, ◌==◌, codes, refl, ap, sym, ◌∙◌, subst, arith, nat_lt}
+use Rattle.std.proofs.Common.{Option, Some, None, not, ◌==◌, codes, refl, ap, sym, ◌∙◌, subst, arith, nat_lt}
 use Rattle.std.specs.List.{list_any}
 use Rattle.std.specs.Str.{bytes_eq}
 use Rattle.std.proofs.lemmas.Bool.{false≢true}

@@ -3,13 +3,15 @@ use Rattle.std.proofs.Common.{◌≡◌, ℕ, zero, suc, ◌+◌, ◌<◌, ◌�
 use Rattle.std.proofs.Common.{◌∷◌, ◌++◌, map, take, length, get_or, Contains, refl, sym, ap, ◌∙◌, subst, ⊎_elim, arith}
 use Rattle.std.proofs.Common.{append-nil, append_assoc, take_all, length-take, ◌-◌}
 use Rattle.std.specs.List.{AllByRecursion, list_any, range_with_len}
-use Rattle.std.proofs.lemmas.List.{map-append, length-map, get_or-map, get_or_default, length_push}
+use Rattle.std.proofs.lemmas.List.{map-append, length-map, get_or-map, get_or_default, get_or_past, length_push}
 use Rattle.std.proofs.lemmas.List.FromFn.{length-map-range_with_len, get_or-map-range_with_len}
 use Rattle.std.proofs.lemmas.List.Elements.{All-from_recursion, recursion_from_All, All-from_get_or}
-use Rattle.std.proofs.lemmas.Bool.{false≢true, cases_Bool, or_cases}
+use Rattle.std.proofs.lemmas.List.Folds.{list_any_at}
+use Rattle.std.proofs.lemmas.Bool.{false≢true, cases_Bool, cases_lt, or_cases}
 use Rattle.tier_core.specs.declared.sym.Sym.{Sym}
 use Rattle.tier_core.specs.declared.sym.Sym.TheVariants.{Outside, Inside, End}
 use Rattle.tier_core.specs.Scan.{fits, opens}
+use Rattle.tier_core.specs.Tiers.{Tiers}
 use Rattle.tier_core.specs.Timelines.{tier_word, symbol, column_at, is_edge, has_edge}
 use Rattle.tier_core.proofs.CountLemmas.{all_weaker, any_none}
 use Rattle.tier_core.proofs.WordLemmas.{runs, open_at}

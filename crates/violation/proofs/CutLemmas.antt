@@ -5,6 +5,7 @@ use Rattle.std.proofs.lemmas.List.{take-map}
 use Rattle.tier_core.specs.declared.sym.Sym.{Sym}
 use Rattle.tier_core.specs.declared.constraint.Constraint.{Constraint}
 use Rattle.tier_core.specs.Kinds.{Phase, PrefixKind}
+use Rattle.tier_core.specs.Tiers.{Tiers}
 use Rattle.tier_core.specs.Sides.{is_stretch}
 use Rattle.violation.specs.Moves.{FitsKind, next_phase, next_phases, next_kind, cut_kind}
 use Rattle.violation.specs.Prefixes.{kind_of, stretches, phase}

@@ -1,10 +1,11 @@
 -- What remains of all constraints is what the moves behind a prefix cost, and what all moves cost is
 -- the vector.
-use Rattle.std.proofs.Common.{◌≡◌, ℕ, ◌+◌, ◌-◌, ◌≤◌, List, [], ◌∷◌, ◌++◌, map, take, length, refl, sym, ap, ◌∙◌}
+use Rattle.std.proofs.Common.{◌≡◌, ℕ, suc, ◌+◌, ◌-◌, ◌≤◌, List, [], ◌∷◌, ◌++◌, map, take, length, refl, sym, ap, ◌∙◌}
 use Rattle.std.proofs.Common.{arith, take_all}
 use Rattle.std.proofs.lemmas.List.{length-map}
 use Rattle.tier_core.specs.declared.sym.Sym.{Sym}
 use Rattle.tier_core.specs.declared.constraint.Constraint.{Constraint}
+use Rattle.tier_core.specs.Tiers.{Tiers}
 use Rattle.tier_core.specs.Kinds.{PrefixKind}
 use Rattle.violation.specs.Candidates.{IsCandidate, counts_on}
 use Rattle.violation.specs.Counts.{violations_of, violations_so_far}

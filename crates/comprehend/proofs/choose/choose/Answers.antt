@@ -1,8 +1,10 @@
-use Rattle.std.proofs.Common.{◌≡◌, ◌<◌, ◌*◌, ℕ, List, None, [], length, get_or, ◌/◌, ◌%◌, sym, ◌∙◌, subst, arith}
+use Rattle.std.proofs.Common.{◌≡◌, ◌<◌, ◌*◌, ℕ, List, None, [], length, get_or, ◌/◌, ◌%◌, sym, ap, ◌∙◌, subst, arith}
 use Rattle.std.specs.Prelude.{All}
 use Rattle.std.proofs.lemmas.List.Elements.{Contains-get_or}
 use Rattle.tier_core.specs.Classes.{sets_of}
 use Rattle.answer_text.specs.declared.automaton.ArcLine.{ArcLine}
+use Rattle.answer_text.specs.declared.automaton.StateLine.{StateLine}
+use Rattle.answer_text.specs.Right.{numbers_of}
 use Rattle.comprehend.specs.Choices.{IsBetter, LeadsByOne}
 use Rattle.comprehend.specs.Steps.{arcs_at}
 use Rattle.comprehend.proofs.Cells.{cell_of, place_below, state_of}

@@ -6,8 +6,8 @@ use Rattle.tier_core.specs.declared.sym.Sym.{Sym}
 use Rattle.tier_core.specs.Orders.{IsFirst}
 use Rattle.answer_text.specs.declared.automaton.StateLine.{StateLine}
 use Rattle.answer_text.specs.Right.{numbers_of}
-use Rattle.comprehend.specs.Searches.{no_distance, ReadsFrom}
-use Rattle.comprehend.specs.Steps.{Goes, IsEndCell, AreSearchable}
+use Rattle.comprehend.specs.Searches.{no_distance, IsLeft, ReadsFrom}
+use Rattle.comprehend.specs.Steps.{Goes, IsEndCell, AreSearchable, ReadsAlong}
 use Rattle.tier_core.specs.declared.class.Class.{Class}
 use Rattle.comprehend.proofs.Cells.{cells_inside}
 use Rattle.comprehend.proofs.Numbers.{once_at}

@@ -5,7 +5,7 @@ use Rattle.tier_core.specs.Classes.{sets_of}
 use Rattle.answer_text.specs.declared.automaton.StateLine.{StateLine}
 use Rattle.comprehend.specs.declared.entering.Entering.{Entering}
 use Rattle.comprehend.specs.Searches.{Reaches}
-use Rattle.comprehend.specs.Entering.{ComesByOne}
+use Rattle.comprehend.specs.Entering.{entering_at, ComesByOne}
 use Rattle.comprehend.proofs.Cells.{cell_of, place_below, state_of}
 use Rattle.comprehend.proofs.Levels.{entering_are, entry_widths, entry_cells, level_more}
 use Rattle.comprehend.proofs.level.next_level.Goals as goal

@@ -1,4 +1,4 @@
-use Rattle.std.proofs.Common.{◌≡◌, ℕ, ◌≤◌, List, All, sym, ◌∙◌, subst}
+use Rattle.std.proofs.Common.{◌≡◌, ℕ, ◌≤◌, length, List, All, ap, sym, ◌∙◌, subst}
 use Rattle.timeline_text.specs.declared.letter.Letter.{Letter}
 use Rattle.timeline_text.specs.Spelling.{HasSound}
 use Rattle.form_reader.proofs.InputTiers.{few_inputs, some_inputs, sounds}

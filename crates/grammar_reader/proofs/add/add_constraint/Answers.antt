@@ -1,4 +1,4 @@
-use Rattle.std.proofs.Common.{refl}
+use Rattle.std.proofs.Common.{map, refl}
 use Rattle.tier_core.specs.declared.constraint.Constraint.{Constraint}
 use Rattle.grammar_reader.specs.Seen.{tiers_seen}
 use Rattle.grammar_reader.proofs.Ascii.{name_utf8}

@@ -1,5 +1,5 @@
-use Rattle.std.proofs.Common.{◌≡◌, ◌+◌, ◌<◌, ◌∷◌, [], ◌++◌, length, take, map, ap, sym, ◌∙◌, arith, length-set}
-use Rattle.std.proofs.lemmas.List.{take_all}
+use Rattle.std.proofs.Common.{◌≡◌, ◌+◌, ◌<◌, ◌∷◌, [], ◌++◌, length, take, get_or, map, ap, sym, ◌∙◌, arith, length-set}
+use Rattle.std.proofs.lemmas.List.{take_more_set, take_more, map-append, take_all}
 use Rattle.std.proofs.lemmas.List.Elements.{All-take, All-set}
 use Rattle.std.proofs.lemmas.Simd.{map-map}
 use Rattle.grammar_reader.specs.Events.{seen_event}

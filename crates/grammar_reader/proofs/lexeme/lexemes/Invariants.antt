@@ -1,5 +1,5 @@
 use Rattle.std.proofs.Common.{◌≡◌, length, map}
-use Rattle.grammar_reader.specs.Pieces.{lexeme_of}
+use Rattle.grammar_reader.specs.Pieces.{lexeme_of, marks_from}
 use Rattle.grammar_reader.specs.Statements.{each_some}
 use Rattle.grammar_reader.specs.Lexemes.{with_front, texts, lexeme_seen, lexemes_of}
 use Rattle.grammar_reader.specs.Tokens.{marks_left}

@@ -1,4 +1,4 @@
-use Rattle.std.proofs.Common.{◌≡◌, ◌+◌, ◌≤◌, ◌++◌, map, drop}
+use Rattle.std.proofs.Common.{◌≡◌, ◌+◌, ◌≤◌, ◌++◌, length, map, drop}
 use Rattle.std.specs.String.{string_bytes}
 use Rattle.grammar_reader.specs.Values.{inputs_of}
 use Rattle.grammar_reader.specs.Canonical.{names_in, letter_words}

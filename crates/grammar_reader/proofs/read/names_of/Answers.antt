@@ -1,4 +1,4 @@
-use Rattle.std.proofs.Common.{◌≡◌, ◌∷◌, [], ◌++◌, length, true, ap, sym, ◌∙◌, map}
+use Rattle.std.proofs.Common.{◌≡◌, ◌∷◌, [], ◌++◌, length, true, ap, sym, ◌∙◌, map, subst}
 use Rattle.std.specs.String.{string_bytes}
 use Rattle.std.specs.Map.{keys_of}
 use Rattle.std.proofs.lemmas.Simd.{map-map}

@@ -1,4 +1,4 @@
-use Rattle.std.proofs.Common.{◌≡◌, ap, sym, ◌∙◌}
+use Rattle.std.proofs.Common.{◌≡◌, Ok, ap, sym, ◌∙◌}
 use Rattle.grammar_reader.specs.Reading.{finish}
 use Rattle.grammar_reader.specs.Made.{made_value, value_so_far}
 use Rattle.grammar_reader.proofs.LawfulLines.{read_is_lawful, whole_is}

@@ -1,5 +1,6 @@
 use Rattle.std.proofs.Common.{◌≡◌, ◌<◌, ◌∷◌, [], ◌++◌, List, length, sym, ◌∙◌, subst, arith, rules}
 use Rattle.std.proofs.lemmas.Result.{err_from_is_err_and}
+use Rattle.tier_core.specs.Tables.{tiers_of_table}
 use Rattle.tier_core.specs.declared.sym.Sym.{Sym}
 use Rattle.tableau.specs.Rows.{AreRowsOf}
 use Rattle.tableau.proofs.RowLemmas.{refused_line, row_line}

@@ -1,4 +1,5 @@
 use Rattle.std.proofs.Common.{length}
+use Rattle.tier_core.specs.Tables.{tiers_of_table}
 use Rattle.tableau.proofs.RowLemmas.{IsReadTo}
 use Rattle.tableau.proofs.rows.read_rows.Given as goal
 use Rattle.violation.specs.Problems.{problem_from}

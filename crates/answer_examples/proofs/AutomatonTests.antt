@@ -307,7 +307,7 @@ module _ (problem : Problem) (stages : List Stage) (states : List StateLine) whe
   Decides-have_arcs : Decides (moves_have_arcs problem at seen) HaveArcs
   Decides-have_arcs =
       each_seen state_value
-          (λ z. node_passes (λ k. every_column problem.tiers.width (has_move problem at seen z.node k))
+      (λ z. node_passes (λ k. every_column problem.tiers.width (has_move problem at seen z.node k))
       (at end) z.node)
       (λ state. (k : PrefixKind) → IsNodeOf problem nodes state.node k
       → (column : List Sym) → length column ≡ problem.tiers.width → HasMove state.node k column)

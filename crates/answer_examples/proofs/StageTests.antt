@@ -147,7 +147,7 @@ moves_pass problem at r = list_all (λ x. every_column problem.tiers.width (goes
 abbrev pub start_passes : Problem → List ℕ → Listing → ℕ → Bool
 start_passes problem counts at r =
     list_all (λ x. implied (same_kind x.kind (kind_of problem r []))
-        (λ _. x.potential == start_potential counts r)) (at r)
+    (λ _. x.potential == start_potential counts r)) (at r)
 
 abbrev pub kinds_pass : Problem → Listing → ℕ → Bool
 kinds_pass problem at r =

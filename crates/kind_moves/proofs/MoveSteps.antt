@@ -3,7 +3,7 @@ use Rattle.std.proofs.Common.{◌≡◌, ℕ, zero, suc, ◌+◌, ◌<◌, ◌||
 use Rattle.std.proofs.Common.{take, length, get_or, refl, ap, sym, ◌∙◌, arith, ⊎_elim, Contains}
 use Rattle.std.specs.List.{AllByRecursion, list_all}
 use Rattle.std.proofs.lemmas.Bool.{false≢true}
-use Rattle.std.proofs.lemmas.List.{length-map, get_or-map}
+use Rattle.std.proofs.lemmas.List.{length-map, get_or-map, get_or_default}
 use Rattle.std.proofs.lemmas.List.FromFn.{fill_by_all, get_or-map-range_with_len}
 use Rattle.std.proofs.lemmas.List.Elements.{All-from_recursion}
 use Rattle.tier_core.specs.declared.sym.Sym.{Sym}
@@ -27,20 +27,8 @@ use Rattle.violation.proofs.TierLemmas.{flag_in, flag_out, flag_at}
 use Rattle.kind_moves.specs.Frames.{is_closed, is_left_open, AreClosedOr}
 use Rattle.kind_moves.proofs.OpenPlaces.{form_open_after}
 use Rattle.violation.specs.Problems.{Problem}
-use Rattle.violation.proofs.ClosedPhases.{closed_is}
-
--- a symbol without an edge leaves its tier as it is
-stays : (b : Bool) (s : Sym) → fits b s ≡ true → is_edge s ≡ false → b ≡ opens s
-stays true Outside f e = absurd (false≢true f)
-stays true Inside f e = refl
-stays true Start f e = absurd (false≢true f)
-stays true End f e = absurd (false≢true (sym e))
-stays true Both f e = absurd (false≢true (sym e))
-stays false Outside f e = refl
-stays false Inside f e = absurd (false≢true f)
-stays false Start f e = absurd (false≢true (sym e))
-stays false End f e = absurd (false≢true f)
-stays false Both f e = absurd (false≢true f)
+use Rattle.violation.proofs.ClosedPhases.{closed_unless_open}
+use Rattle.violation.proofs.PlaceLemmas.{stays_open}
 
 module _ (problem : Problem) (split : AreSplit problem.tiers) (form : IsForm problem.tiers problem.form)
     (k : PrefixKind) (column : List Sym) (f : FitsKind problem k column) where
@@ -62,7 +50,7 @@ module _ (problem : Problem) (split : AreSplit problem.tiers) (form : IsForm pro
   input_open_next false e j l =
       let t = get_or problem.tiers.input j 0 in
       let here : k.place + 0 ≡ k.place = omega arith in
-      let listed : Contains problem.tiers.input t = (j, l, get_or-same problem.tiers.input j 0 t l) in
+      let listed : Contains problem.tiers.input t = (j, l, get_or_default problem.tiers.input j t 0 l) in
       let below : t < problem.tiers.width = All-from_recursion
       (λ t. t < problem.tiers.width) problem.tiers.input split.inputs_below j 0 l in
       let tier : is_tier_open problem k t ≡ is_open (tier_word (take k.place problem.form) j) =
@@ -75,14 +63,9 @@ module _ (problem : Problem) (split : AreSplit problem.tiers) (form : IsForm pro
       let size : length (input_of problem.tiers column) ≡ length problem.tiers.input = length-map problem.tiers.input
       (symbol column) in
       ap (λ n. is_open (tier_word (take n problem.form) j)) here ∙ sym tier
-      ∙ stays (is_tier_open problem k t) (symbol column t) (f.symbols t below)
+      ∙ sym (stays_open (is_tier_open problem k t) (symbol column t) (f.symbols t below)
       (ap is_edge (sym (get_or-map (symbol column) problem.tiers.input j 0 Outside l))
-      ∙ each_edgeless (input_of problem.tiers column) e j (omega arith))
-    where
-      get_or-same : (xs : List ℕ) (i d e : ℕ) → i < length xs → get_or xs i e ≡ get_or xs i d
-      get_or-same [] i d e l = absurd (omega arith)
-      get_or-same (x ∷ xs) zero d e l = refl
-      get_or-same (x ∷ xs) (suc i) d e l = get_or-same xs i d e (omega arith)
+      ∙ each_edgeless (input_of problem.tiers column) e j (omega arith)))
 
   -- after a move a tier is open where its symbol opens it
   pub open_next : (r t : ℕ) → t < problem.tiers.width → is_tier_open problem (next_kind problem r k column) t
@@ -119,7 +102,7 @@ module _ (problem : Problem) (split : AreSplit problem.tiers) (form : IsForm pro
 
   closed_next : (left right : List Event) (phase : Phase) → is_closed (next_phase left right phase column)
       ≡ not (opens_all left column)
-  closed_next left right phase = closed_is (opens_all left column) _
+  closed_next left right phase = closed_unless_open (opens_all left column) _
 
   -- after a move a phase is closed where a left tier is
   pub phases_next : (r : ℕ) (cs : List Constraint) (is_before : Constraint → Bool) (phases : List Phase)

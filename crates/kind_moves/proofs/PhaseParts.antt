@@ -2,7 +2,6 @@
 use Rattle.std.proofs.Common.{◌≡◌, ℕ, ◌+◌, ◌<◌, ◌≤◌, true, false, cond, List, [], ◌∷◌, ◌++◌, take, filter, length}
 use Rattle.std.proofs.Common.{get_or, refl, ap, sym, ◌∙◌, subst, arith}
 use Rattle.std.proofs.lemmas.List.{length_push, append-nil}
-use Rattle.std.proofs.lemmas.List.Elements.{filter_more}
 use Rattle.std.proofs.lemmas.List.FromFn.{length-map-range_with_len, map-range_with_len_more}
 use Rattle.tier_core.specs.declared.class.Class.{Class}
 use Rattle.tier_core.specs.declared.kind.Kind.{Kind}
@@ -14,7 +13,7 @@ use Rattle.symbol_class.specs.Held.{ArePieces}
 use Rattle.symbol_class.specs.Parts.{ArePartedBy}
 use Rattle.symbol_class.proofs.PartSteps.{parted_same, parted_then}
 use Rattle.violation.specs.Moves.{next_phase, next_phases}
-use Rattle.violation.proofs.NextPhases.{next_append}
+use Rattle.violation.proofs.NextPhases.{stretches_more, next_append}
 
 -- the phases after a column of the stretch implications among the first n constraints
 abbrev pub phases_after : List Constraint → Kind → ℕ → ℕ → List Sym → List Phase
@@ -42,9 +41,7 @@ pub phased_more : (width : ℕ) (cs : List Constraint) (kind : Kind) (n next : �
     → ArePhasedBelow width cs kind (n + 1) (next + 1) wholes more
 phased_more width cs kind n next wholes parts more c a l is h p =
     let fs = filter is_stretch (take n cs) in
-    let longer : filter is_stretch (take (n + 1) cs) ≡ fs ++ c ∷ [] =
-    filter_more is_stretch cs n c l ∙ ap (λ x. fs ++ cond (is_stretch x) (x ∷ []) []) (sym is)
-    ∙ ap (λ b. fs ++ cond b (c ∷ []) []) h in
+    let longer : filter is_stretch (take (n + 1) cs) ≡ fs ++ c ∷ [] = stretches_more cs n c true l is h in
     let size : length (phases next kind) ≡ length fs = length-map-range_with_len (phase_at kind) 0 next ∙ a.count in
     let step : (column : List Sym) → phases_after cs kind (n + 1) (next + 1) column
     ≡ phases_after cs kind n next column ++ next_phase c.left c.right (phase_at kind next) column ∷ [] =
@@ -69,9 +66,7 @@ pub phased_same : (width : ℕ) (cs : List Constraint) (kind : Kind) (n next : �
     → ArePhasedBelow width cs kind (n + 1) next wholes parts
 phased_same width cs kind n next wholes parts c a l is h =
     let fs = filter is_stretch (take n cs) in
-    let same : filter is_stretch (take (n + 1) cs) ≡ fs =
-    filter_more is_stretch cs n c l ∙ ap (λ x. fs ++ cond (is_stretch x) (x ∷ []) []) (sym is)
-    ∙ ap (λ b. fs ++ cond b (c ∷ []) []) h ∙ append-nil fs in
+    let same : filter is_stretch (take (n + 1) cs) ≡ fs = stretches_more cs n c false l is h ∙ append-nil fs in
     record {
       count = a.count ∙ sym (ap length same);
       few = omega (arith, a.few);

@@ -8,7 +8,7 @@ use Rattle.tier_core.specs.Kinds.{PrefixKind}
 use Rattle.answer_text.specs.declared.stage.Node.{Node}
 use Rattle.kind_orders.specs.Orderings.{IsOrdering}
 use Rattle.tier_core.specs.EmptyKind.{empty_kind}
-use Rattle.kind_orders.specs.KindOrders.{kind_numbered}
+use Rattle.tier_core.specs.KindNumbers.{kind_numbered}
 use Rattle.kind_orders.specs.StageNodes.{node_numbered, AreNodesInOrder}
 use Rattle.tier_core.proofs.Members.{contains_map, contains_of_map}
 

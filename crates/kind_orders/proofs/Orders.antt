@@ -14,7 +14,8 @@ use Rattle.tier_core.specs.Kinds.{kind_order}
 use Rattle.tier_core.specs.KindShapes.{FitsShape, free_count, stretch_count, kind_in}
 use Rattle.kind_orders.specs.Orderings.{IsOrdering}
 use Rattle.tier_core.specs.EmptyKind.{empty_kind}
-use Rattle.kind_orders.specs.KindOrders.{kind_numbered, AreDistinctKinds, prefix_kind_at, IsKindOrder}
+use Rattle.tier_core.specs.KindNumbers.{kind_numbered}
+use Rattle.kind_orders.specs.KindOrders.{AreDistinctKinds, prefix_kind_at, IsKindOrder}
 use Rattle.symbol_class.proofs.Pairs.{pairs_apart, pairs_permuted}
 use Rattle.tier_core.proofs.KindTies.{same_kind, kind_order_total}
 use Rattle.kind_orders.proofs.Strict.{strict_from_sorted}

@@ -1,16 +1,12 @@
 -- Kinds that are found, and their order.
-use Rattle.std.specs.Prelude.{ℕ, ◌≢◌, List, map, length, slice_index_or, All, AllPairs}
+use Rattle.std.specs.Prelude.{ℕ, ◌≢◌, List, map, length, All, AllPairs}
 use Rattle.std.specs.List.Sorted.{IsStrictlySortedBy}
 use Rattle.tier_core.specs.declared.kind.Kind.{Kind}
 use Rattle.tier_core.specs.declared.shape.Shape.{Shape}
 use Rattle.tier_core.specs.Kinds.{PrefixKind, kind_order}
 use Rattle.tier_core.specs.KindShapes.{FitsShape, kind_in}
-use Rattle.tier_core.specs.EmptyKind.{empty_kind}
+use Rattle.tier_core.specs.KindNumbers.{kind_numbered}
 use Rattle.kind_orders.specs.Orderings.{IsOrdering}
-
--- the kind of a number, or that of the empty prefix if there is no such number
-abbrev pub kind_numbered : List Kind → ℕ → Kind
-kind_numbered kinds number = slice_index_or kinds number empty_kind
 
 -- Kinds that are found for a stage: their bits fit the shape there, and no two mean the same.
 pub record AreDistinctKinds (shape : Shape) (stage : ℕ) (kinds : List Kind) : Type 0 where

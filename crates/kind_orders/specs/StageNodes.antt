@@ -3,7 +3,7 @@ use Rattle.std.specs.Prelude.{ℕ, ◌≡◌, ◌↔◌, List, map, slice_index,
 use Rattle.tier_core.specs.declared.kind.Kind.{Kind}
 use Rattle.tier_core.specs.Kinds.{PrefixKind}
 use Rattle.answer_text.specs.declared.stage.Node.{Node}
-use Rattle.kind_orders.specs.KindOrders.{kind_numbered}
+use Rattle.tier_core.specs.KindNumbers.{kind_numbered}
 
 -- the node of a number: its kind and its potential
 abbrev pub node_numbered : List Kind → List ℕ → ℕ → Node

@@ -2,7 +2,8 @@ ghost use Rattle.std.specs.Prelude.{◌≡◌, ◌<◌, ◌^◌, All, IfOk, leng
 ghost use Rattle.std.specs.List.{range_with_len};
 ghost use Rattle.tier_core.specs.Kinds.{kind_order};
 ghost use Rattle.tier_core.specs.KindShapes.{FitsShape};
-ghost use Rattle.kind_orders.specs.KindOrders.{AreDistinctKinds, IsKindOrder, kind_numbered, prefix_kind_at};
+ghost use Rattle.kind_orders.specs.KindOrders.{AreDistinctKinds, IsKindOrder, prefix_kind_at};
+ghost use Rattle.tier_core.specs.KindNumbers.{kind_numbered};
 
 use std::alloc::{AllocError, Global};
 use std::cmp::Ordering;

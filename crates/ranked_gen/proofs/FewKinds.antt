@@ -3,17 +3,17 @@ use Rattle.std.proofs.Common.{◌≡◌, ◌≢◌, ℕ, ◌≤◌, List, [], �
 use Rattle.std.specs.declared.cmp.Ordering.TheVariants.{Less}
 use Rattle.tier_core.specs.Kinds.{PrefixKind, kind_order}
 use Rattle.violation.specs.Stages.{IsKindOfStage, AreKindsOfStage}
+use Rattle.tier_core.proofs.KindTies.{not_before_itself}
 use Rattle.tier_core.proofs.Members.{all_from_members, all_at_member}
 use Rattle.tier_core.proofs.Differing.{Differ, no_longer}
 use Rattle.ranked_gen.proofs.Ascending.{Ascends, ascends_from}
-use Rattle.ranked_gen.proofs.StageKinds.{kind_not_below}
 use Rattle.violation.specs.Problems.{Problem}
 
 -- kinds that ascend differ
 pub ascending_differ : (ks : List PrefixKind) → Ascends kind_order ks → Differ ks
 ascending_differ [] a = tt
 ascending_differ (k ∷ ks) a = (
-  all_from_members (λ l. k ≢ l) ks (λ l m e. kind_not_below k
+  all_from_members (λ l. k ≢ l) ks (λ l m e. not_before_itself k
       (ap (kind_order k) e ∙ all_at_member (λ l. kind_order k l ≡ Less) ks l a.0 m)),
   ascending_differ ks a.1,
 )

@@ -26,7 +26,7 @@ use Rattle.kind_tables.specs.StageTables.{name_of, AreNamedByKinds}
 use Rattle.kind_tables.specs.FoundTables.{names_kept}
 use Rattle.stage_laws.proofs.Pruned.{kept_named}
 use Rattle.tier_core.specs.EmptyKind.{empty_kind}
-use Rattle.kind_orders.specs.KindOrders.{kind_numbered}
+use Rattle.tier_core.specs.KindNumbers.{kind_numbered}
 use Rattle.tier_core.proofs.Members.{contains_map, contains_of_map, all_from_members}
 use Rattle.stage_tables.specs.Explored.{names_at}
 use Rattle.stage_tables.specs.Kept.{AreKeptByKinds}

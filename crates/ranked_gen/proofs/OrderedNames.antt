@@ -30,7 +30,8 @@ use Rattle.kind_tables.proofs.Naming.{path_kind}
 use Rattle.stage_laws.proofs.Pruned.{kept_named}
 use Rattle.kind_orders.specs.Orderings.{IsOrdering}
 use Rattle.tier_core.specs.EmptyKind.{empty_kind}
-use Rattle.kind_orders.specs.KindOrders.{kind_numbered, prefix_kind_at, IsKindOrder}
+use Rattle.tier_core.specs.KindNumbers.{kind_numbered}
+use Rattle.kind_orders.specs.KindOrders.{prefix_kind_at, IsKindOrder}
 use Rattle.kind_orders.specs.Automata.{ReadsTo}
 use Rattle.stage_tables.specs.Explored.{names_at}
 use Rattle.stage_tables.proofs.Named.{frame_stage}

@@ -32,13 +32,14 @@ use Rattle.kind_tables.proofs.Naming.{path_kind}
 use Rattle.violation.proofs.StageLemmas.{over_stretches}
 use Rattle.kind_tables.proofs.Paths.{IsParted, parted, joined_run, joined_reads, path_push}
 use Rattle.stage_tables.specs.Kept.{AreKeptByKinds}
+use Rattle.tier_core.proofs.KindTies.{same_or_not}
 use Rattle.tier_core.proofs.Members.{contains_map, contains_of_map, contains_first, contains_later, contains_flat}
 use Rattle.tier_core.proofs.Members.{contains_of_flat}
 use Rattle.ranked_gen.specs.Budgets.{IsOver}
 use Rattle.ranked_gen.proofs.ClassColumns.{columns_in, in_columns, of_columns}
 use Rattle.ranked_gen.proofs.Ascending.{sorted_from, range_has}
 use Rattle.tier_core.proofs.Differing.{Differ, no_longer}
-use Rattle.ranked_gen.proofs.SortedKinds.{one_or_other, sorted_kinds}
+use Rattle.ranked_gen.proofs.SortedKinds.{sorted_kinds}
 use Rattle.ranked_gen.proofs.Closures.{IsClosed, closure}
 use Rattle.violation.specs.Problems.{last_stage, Problem}
 
@@ -49,7 +50,7 @@ Place = ℕ × PrefixKind
 same_place : (x y : Place) → (x ≡ y) ⊎ (x ≢ y)
 same_place (s, k) (t, l) = ⊎_elim
     (λ es. ⊎_elim (λ ek. inl (ap₂ (λ n (q : PrefixKind). (n, q)) es ek))
-    (λ other. inr (λ e. other (ap (λ (p : Place). p.1) e))) (one_or_other k l))
+    (λ other. inr (λ e. other (ap (λ (p : Place). p.1) e))) (same_or_not k l))
     (λ other. inr (λ e. ⊎_elim (λ less. omega (arith, less, ap (λ (p : Place). p.0) e))
     (λ more. omega (arith, more, ap (λ (p : Place). p.0) e)) other))
     (cases_order s t)

@@ -1,5 +1,5 @@
 -- Kinds in kind order: each list of kinds has the same kinds as an ascending one.
-use Rattle.std.proofs.Common.{◌≡◌, ◌≢◌, ◌⊎◌, inl, inr, List, [], ◌∷◌, refl, sym, ap, ◌∙◌, subst, ⊎_elim, Contains}
+use Rattle.std.proofs.Common.{◌≡◌, ◌⊎◌, inl, inr, List, [], ◌∷◌, refl, sym, ap, ◌∙◌, subst, ⊎_elim, Contains}
 use Rattle.std.specs.Prelude.{◌↔◌}
 use Rattle.std.specs.Ordering.{ordering_reverse}
 use Rattle.std.specs.declared.cmp.Ordering.{Ordering}
@@ -9,17 +9,6 @@ use Rattle.tier_core.proofs.KindTies.{same_kind, kind_order_total}
 use Rattle.tier_core.proofs.Members.{contains_none, contains_first, contains_later, contains_cases, all_from_members}
 use Rattle.tier_core.proofs.Members.{all_at_member}
 use Rattle.ranked_gen.proofs.Ascending.{Ascends}
-use Rattle.ranked_gen.proofs.StageKinds.{kind_not_below}
-
--- kinds are the same, or are not
-pub one_or_other : (k l : PrefixKind) → (k ≡ l) ⊎ (k ≢ l)
-one_or_other k l = go (kind_order k l) refl
-  where
-    go : (o : Ordering) → kind_order k l ≡ o → (k ≡ l) ⊎ (k ≢ l)
-    go Less e = inr (λ same. kind_not_below k (ap (kind_order k) same ∙ e))
-    go Equal e = inl (same_kind k l e)
-    go Greater e = inr (λ same. kind_not_below l
-        (ap (kind_order l) (sym same) ∙ kind_order_total.antisymm l k ∙ ap ordering_reverse e))
 
 -- An ascending list with one kind more.
 pub record IsPut (k : PrefixKind) (ks more : List PrefixKind) : Type 0 where

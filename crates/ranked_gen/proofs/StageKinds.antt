@@ -2,20 +2,18 @@
 use Rattle.std.proofs.Common.{◌≡◌, ◌≢◌, ℕ, ◌+◌, ◌*◌, ◌^◌, ◌<◌, ◌≤◌, false, List, [], ◌∷◌, Result, Ok, Err, IfOk, map}
 use Rattle.std.proofs.Common.{take, drop, length, refl, ap, sym, ◌∙◌, subst, arith, ne_eqb, eqb, Contains}
 use Rattle.std.specs.List.{range_with_len, IsDistinct}
-use Rattle.std.specs.Ordering.{nat_cmp, ordering_then, is_lt}
-use Rattle.std.specs.Cmp.{nat_cmp_is}
-use Rattle.std.specs.Cmp.Lexicographic.{slice_cmp}
-use Rattle.std.specs.declared.cmp.Ordering.TheVariants.{Less, Equal}
-use Rattle.std.proofs.lemmas.Bool.{false≢true}
+use Rattle.std.specs.Ordering.{nat_cmp}
+use Rattle.std.specs.declared.cmp.Ordering.TheVariants.{Less}
 use Rattle.std.proofs.lemmas.List.{length-map, take-append-drop}
 use Rattle.std.proofs.lemmas.List.FromFn.{length-range_with_len}
 use Rattle.std.proofs.Math.Nat.{mul-le-mul, pow-le-pow_right}
 use Rattle.tier_core.specs.declared.sym.Sym.{Sym}
-use Rattle.tier_core.specs.Kinds.{PrefixKind, open_rank, phase_rank, kind_order}
+use Rattle.tier_core.specs.Kinds.{PrefixKind, kind_order}
 use Rattle.violation.specs.Candidates.{IsForm, IsCandidate}
 use Rattle.violation.specs.Conditions.{AreSplit, AreDistinct}
 use Rattle.violation.specs.Stages.{IsPassed, AreKindsOfStage}
 use Rattle.violation.specs.Walks.{BeginsCandidate}
+use Rattle.tier_core.proofs.KindTies.{not_before_itself}
 use Rattle.tier_core.proofs.Members.{contains_map, contains_of_map, contains_first, contains_later, all_from_members}
 use Rattle.tier_core.proofs.Members.{all_at_member}
 use Rattle.ranked_gen.specs.Budgets.{IsFirstOver}
@@ -23,7 +21,7 @@ use Rattle.ranked_gen.specs.Numbers.{number_of_kind, kind_of_number}
 use Rattle.ranked_gen.specs.Listed.{kind_count}
 use Rattle.ranked_gen.proofs.NumberLemmas.{kind_of_number-number, kinds_less}
 use Rattle.ranked_gen.proofs.Ascending.{Ascends, sorted_from, ascends_map, ascends_range, in_range}
-use Rattle.ranked_gen.proofs.Ascending.{range_has, nat_less, slice_same}
+use Rattle.ranked_gen.proofs.Ascending.{range_has, nat_less}
 use Rattle.ranked_gen.proofs.KindsWithin.{IsWithin, number_within, numbered_within, kind_within}
 use Rattle.ranked_gen.proofs.AllPassed.{all_passed}
 use Rattle.violation.specs.Problems.{Problem}
@@ -41,18 +39,6 @@ pub begins : (problem : Problem) (T : List (List Sym)) (n : ℕ) → IsCandidate
     → BeginsCandidate problem (take n T)
 begins problem T n c = (drop n T, subst (IsCandidate problem) (sym (take-append-drop n T)) c)
 
--- no kind comes before itself
-pub kind_not_below : (k : PrefixKind) → kind_order k k ≡ Less → ⊥
-kind_not_below k l =
-    let place : nat_cmp k.place k.place ≡ Equal = sym (nat_cmp_is k.place k.place Equal refl) in
-    let same : kind_order k k ≡ Equal =
-    ap (λ o. ordering_then o (ordering_then (slice_cmp nat_cmp (map open_rank k.opened) (map open_rank k.opened))
-    (slice_cmp nat_cmp (map phase_rank k.phases) (map phase_rank k.phases)))) place
-    ∙ ap (λ o. ordering_then o (slice_cmp nat_cmp (map phase_rank k.phases) (map phase_rank k.phases)))
-    (slice_same (map open_rank k.opened))
-    ∙ slice_same (map phase_rank k.phases) in
-    false≢true (sym (ap is_lt same) ∙ ap is_lt l)
-
 -- kinds that ascend, of which each is told by its number, have numbers that differ
 numbers_differ : (f : ℕ) (ks : List PrefixKind) → Ascends kind_order ks
     → ((k : PrefixKind) → Contains ks k → kind_of_number f (number_of_kind f k) ≡ k)
@@ -65,7 +51,7 @@ numbers_differ f (k ∷ ks) a h = (
       let other : number_of_kind f k ≢ n = λ e.
       let same : k ≡ r.0 = sym (h k (contains_first k ks)) ∙ ap (kind_of_number f) (e ∙ sym r.1.1)
       ∙ h r.0 (contains_later k ks r.0 r.1.0) in
-      kind_not_below k (ap (kind_order k) same ∙ all_at_member (λ l. kind_order k l ≡ Less) ks r.0 a.0 r.1.0) in
+      not_before_itself k (ap (kind_order k) same ∙ all_at_member (λ l. kind_order k l ≡ Less) ks r.0 a.0 r.1.0) in
       ne_eqb (number_of_kind f k) n other),
   numbers_differ f ks a.1 (λ l m. h l (contains_later k ks l m)),
 )

@@ -16,7 +16,8 @@ use Rattle.violation.specs.Prefixes.{stretches}
 use Rattle.kind_moves.specs.declared.frame.Frame.{Frame}
 use Rattle.kind_moves.specs.Frames.{tiers_in, constraints_in, kind_at_stage, FitsFrame}
 use Rattle.tier_core.specs.EmptyKind.{empty_kind}
-use Rattle.kind_orders.specs.KindOrders.{AreDistinctKinds, kind_numbered}
+use Rattle.tier_core.specs.KindNumbers.{kind_numbered}
+use Rattle.kind_orders.specs.KindOrders.{AreDistinctKinds}
 use Rattle.ranked_gen.specs.FittingKinds.{FitsStage}
 use Rattle.violation.specs.Problems.{last_stage}
 use Rattle.kind_moves.specs.Frames.{problem_in}

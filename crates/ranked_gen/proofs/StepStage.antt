@@ -32,7 +32,8 @@ use Rattle.kind_tables.proofs.Naming.{names_law}
 use Rattle.stage_laws.proofs.Resting.{remaining_law, least_from, some_weight}
 use Rattle.stage_laws.proofs.Optimal.{all_words_law, number_law}
 use Rattle.tier_core.specs.EmptyKind.{empty_kind}
-use Rattle.kind_orders.specs.KindOrders.{kind_numbered, prefix_kind_at, IsKindOrder}
+use Rattle.tier_core.specs.KindNumbers.{kind_numbered}
+use Rattle.kind_orders.specs.KindOrders.{prefix_kind_at, IsKindOrder}
 use Rattle.kind_orders.specs.StageNodes.{node_numbered, AreNodesInOrder}
 use Rattle.stage_tables.specs.Kept.{IsKeptTable}
 use Rattle.stage_tables.specs.Explored.{names_at}

@@ -12,7 +12,7 @@ use Rattle.kind_moves.specs.declared.frame.Frame.{Frame}
 use Rattle.kind_moves.specs.Frames.{problem_in}
 use Rattle.answer_text.specs.declared.once_answer.OnceNode.{OnceNode}
 use Rattle.answer_text.specs.RightOnce.{kind_told, bare_nodes, IsRightPotential}
-use Rattle.kind_orders.specs.KindOrders.{kind_numbered}
+use Rattle.tier_core.specs.KindNumbers.{kind_numbered}
 use Rattle.ranked_gen.specs.FittingKinds.{FitsStage}
 use Rattle.ranked_gen.specs.OptimalParts.{IsOptimalPart}
 use Rattle.violation.specs.Problems.{last_stage}

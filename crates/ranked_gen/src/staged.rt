@@ -4,7 +4,7 @@ ghost use Rattle.arc_table.specs.States.{states_of};
 ghost use Rattle.tier_core.specs.declared.sym.Sym.{Sym};
 ghost use Rattle.violation.specs.Candidates.{IsOptimalFor};
 ghost use Rattle.kind_moves.specs.Frames.{stretches_in, FitsFrame};
-ghost use Rattle.kind_orders.specs.KindOrders.{kind_numbered};
+ghost use Rattle.tier_core.specs.KindNumbers.{kind_numbered};
 ghost use Rattle.kind_tables.specs.StageTables.{IsStageTable};
 ghost use Rattle.stage_tables.specs.Kept.{IsKeptTable};
 ghost use Rattle.stage_tables.specs.Explored.{names_at};

@@ -17,7 +17,7 @@ use Rattle.violation.specs.Candidates.{IsCandidate, counts_on, IsAtMost, IsOptim
 use Rattle.violation.specs.Counts.{violations_of, violations_so_far}
 use Rattle.violation.specs.Prefixes.{kind_of}
 use Rattle.violation.specs.Rests.{counts_rest, PassesWhole, IsLeastRestVector}
-use Rattle.violation.proofs.LeastVector.{one_vector, whole}
+use Rattle.violation.proofs.LeastVector.{one_vector, all_counts_taken}
 use Rattle.violation.proofs.StageLemmas.{all_optimal}
 use Rattle.kind_tables.specs.StageTables.{IsStage, name_of}
 use Rattle.kind_tables.specs.RankedTables.{IsRankedTable}
@@ -61,8 +61,8 @@ module _ (problem : Problem) (stage : IsStage problem (last_stage problem)) (few
           at_most (weight_of word.0) (weight_of accepted.0) (counts_on problem T) (counts_on problem U)
           (weight_vec T word.0 word.1) (weight_vec U accepted.0 accepted.1) (even_vec T U)
           (word.2 U accepted.0 accepted.1) in
-          subst (λ v. IsAtMost v (take (last_stage problem) (counts_on problem U))) (sym (whole problem T))
-          (subst (IsAtMost (counts_on problem T)) (sym (whole problem U)) bound)
+          subst (λ v. IsAtMost v (take (last_stage problem) (counts_on problem U))) (sym (all_counts_taken problem T))
+          (subst (IsAtMost (counts_on problem T)) (sym (all_counts_taken problem U)) bound)
 
   optimal_least : (T : List (List Sym)) → IsOptimal problem T → IsLeastWord states T
   optimal_least T opt = (accepted.0, accepted.1, least)
@@ -74,8 +74,8 @@ module _ (problem : Problem) (stage : IsStage problem (last_stage problem)) (few
           → AtMost g.meaning (weight_of accepted.0) (weight_of others)
       least U others run =
           let bound : IsAtMost (counts_on problem T) (counts_on problem U) =
-          subst (λ v. IsAtMost v (counts_on problem U)) (whole problem T)
-          (subst (IsAtMost (take (last_stage problem) (counts_on problem T))) (whole problem U)
+          subst (λ v. IsAtMost v (counts_on problem U)) (all_counts_taken problem T)
+          (subst (IsAtMost (take (last_stage problem) (counts_on problem T))) (all_counts_taken problem U)
           (opt.least U ((table.accepts U).0 (others, run)))) in
           no_more (weight_of accepted.0) (weight_of others) (counts_on problem T) (counts_on problem U)
           (weight_vec T accepted.0 accepted.1) (weight_vec U others run) (even_vec T U) bound

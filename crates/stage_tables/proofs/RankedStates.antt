@@ -24,7 +24,8 @@ use Rattle.kind_moves.specs.Frames.{kind_at_stage, FitsFrame, problem_in}
 use Rattle.kind_tables.specs.StageTables.{name_of}
 use Rattle.kind_tables.specs.RankedTables.{AreWeighedByAll, IsRankedTable}
 use Rattle.stage_tables.specs.Explored.{names_at}
-use Rattle.stage_tables.specs.Ranking.{kind_numbered, AreColumnsOf, IsRankedMove, AreRankedStates, IsWholeTable}
+use Rattle.tier_core.specs.KindNumbers.{kind_numbered}
+use Rattle.stage_tables.specs.Ranking.{AreColumnsOf, IsRankedMove, AreRankedStates, IsWholeTable}
 use Rattle.stage_tables.proofs.Alike.{IsAlike, AreAlike, alike_on_runs, alike_named, alike_words}
 use Rattle.stage_tables.proofs.Zips.{zip_push, zip_from, zip_weaken}
 use Rattle.violation.specs.Problems.{last_stage}

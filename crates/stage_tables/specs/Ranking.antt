@@ -1,5 +1,5 @@
 -- The table of a single pass: one that is explored, with weights that are vectors.
-use Rattle.std.specs.Prelude.{◌≡◌, ℕ, ◌<◌, ◌↔◌, List, length, slice_index_or, All, Contains, IsTrue, refl}
+use Rattle.std.specs.Prelude.{◌≡◌, ℕ, ◌<◌, ◌↔◌, List, length, All, Contains, IsTrue}
 use Rattle.std.specs.List.{AllZip}
 use Rattle.weight_law.specs.declared.Weight.{Ghosts}
 use Rattle.weight_law.specs.declared.count.Count.{Count}
@@ -10,6 +10,7 @@ use Rattle.tier_core.specs.declared.kind.Kind.{Kind}
 use Rattle.tier_core.specs.declared.sym.Sym.{Sym}
 use Rattle.tier_core.specs.Classes.{has}
 use Rattle.tier_core.specs.Filled.{is_filled}
+use Rattle.tier_core.specs.KindNumbers.{kind_numbered}
 use Rattle.symbol_class.specs.Parts.{IsAlike}
 use Rattle.arc_table.specs.declared.arc.TableArc.{TableArc}
 use Rattle.arc_table.specs.declared.state.TableState.{TableState}
@@ -42,11 +43,6 @@ pub record IsRankedMove {g : Ghosts Count} {h : Ghosts Ranked} (frame : Frame) (
   pub same_class : b.class ≡ a.class
   pub same_target : b.target ≡ a.target
   pub weighs : (column : List Sym) → IsTrue (has a.class column) → IsOfVector b.weight (costs_at frame kind column)
-
--- the kind of a number, and that of the empty prefix if there is no such number
-abbrev pub kind_numbered : List Kind → ℕ → Kind
-kind_numbered kinds number = slice_index_or kinds number
-    (record { place = 0; opened = 0; unmet = 0; met = 0; apart = refl })
 
 -- the new states are the old ones, so many of the first ones: each accepts where the old one does, and
 -- its moves are those of the old one, one by one

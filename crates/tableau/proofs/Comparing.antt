@@ -11,7 +11,7 @@ use Rattle.std.proofs.lemmas.Bool.{false≢true}
 use Rattle.std.proofs.lemmas.Cmp.{ranked}
 use Rattle.tier_core.specs.declared.sym.Sym.{Sym}
 use Rattle.violation.specs.Candidates.{IsAtMost, IsCandidate, IsLeastVector, IsOptimal, counts_on}
-use Rattle.violation.proofs.LeastVector.{whole}
+use Rattle.violation.proofs.LeastVector.{all_counts_taken}
 use Rattle.tableau.specs.declared.table.TableauRow.{TableauRow}
 use Rattle.tableau.specs.Compared.{IsCompared, IsFirstOther}
 use Rattle.tableau.specs.Tableaux.{IsFirstWorse, IsTableauRow}
@@ -40,8 +40,8 @@ module _ (problem : Problem) (least : List ℕ) (is_least : IsLeastVector proble
   at_most : (T : List (List Sym)) → IsCandidate problem T → IsAtMost least (counts_on problem T)
   at_most T c =
       let best = is_least.some.0 in
-      subst (λ (v : List ℕ). IsAtMost v (counts_on problem T)) (whole problem best ∙ is_least.some.1.1)
-      (subst (λ (v : List ℕ). IsAtMost (take (last_stage problem) (counts_on problem best)) v) (whole problem T)
+      subst (λ (v : List ℕ). IsAtMost v (counts_on problem T)) (all_counts_taken problem best ∙ is_least.some.1.1)
+      (subst (λ (v : List ℕ). IsAtMost (take (last_stage problem) (counts_on problem best)) v) (all_counts_taken problem T)
       (is_least.some.1.0.least T c))
 
   -- a candidate with the least vector is optimal

@@ -1,7 +1,8 @@
 -- The tiers of a mask.
 use Rattle.std.proofs.Common.{◌≡◌, ◌↔◌, IsTrue, sym, ℕ, zero, suc, ◌≤◌, length, ◌+◌, ◌*◌, ◌%◌, ◌==◌, bit_or, w16, ◌^◌}
-use Rattle.std.proofs.Common.{◌<◌, true, false, cond, List, [], ◌∷◌, ◌++◌, map, ap, ◌∙◌, ⊎_elim, arith, add-one, w32}
-use Rattle.std.specs.Int.{bit_at, trailing_zeros}
+use Rattle.std.proofs.Common.{◌<◌, true, false, cond, List, [], ◌∷◌, ◌++◌, map, ap, ◌∙◌, ⊎_elim, arith, add-one}
+use mir.Val.{bits}
+use Rattle.std.specs.Int.{Width, bit_at, trailing_zeros}
 use Rattle.std.proofs.lemmas.Bool.{false≢true, cases_lt, eqb-true}
 use Rattle.std.proofs.lemmas.List.{map-append, append-nil, length-append}
 use Rattle.std.proofs.Math.Nat.{pow-le-pow_right}
@@ -38,28 +39,18 @@ unfolding tiers_of
 tiers_at_end keep n e = ap (tiers_below keep) e
 
 -- a tier is put into a mask of the tiers before it
-pub with_tier_few : (mask k : ℕ) → k < 16 → mask < 2 ^ k → bit_or mask (1 * 2 ^ k % 2 ^ 16) < 2 ^ (k + 1)
-with_tier_few mask k h l =
+pub set_few : (w : Width) (mask k : ℕ) → k < bits w → mask < 2 ^ k
+    → bit_or mask (1 * 2 ^ k % 2 ^ bits w) < 2 ^ (k + 1)
+set_few w mask k h l =
     let next : 2 ^ k < 2 ^ (k + 1) = pow_below k (k + 1) (omega arith) in
-    or_lt (k + 1) mask (1 * 2 ^ k % 2 ^ 16) (omega arith) (omega (arith, one_shl k 16 h))
+    or_lt (k + 1) mask (1 * 2 ^ k % 2 ^ bits w) (omega arith) (omega (arith, one_shl k (bits w) h))
 
-pub with_tier_same : (mask k : ℕ) → k < 16 → has_tier (bit_or mask (1 * 2 ^ k % 2 ^ 16)) k ≡ true
-with_tier_same mask k h = ap (λ b. b == 1) (bit_at_set_same w16 mask k h)
+pub set_same : (w : Width) (mask k : ℕ) → k < bits w → has_tier (bit_or mask (1 * 2 ^ k % 2 ^ bits w)) k ≡ true
+set_same w mask k h = ap (λ b. b == 1) (bit_at_set_same w mask k h)
 
-pub with_tier_other : (mask k t : ℕ) → k < 16 → t < k → has_tier (bit_or mask (1 * 2 ^ k % 2 ^ 16)) t ≡ has_tier mask t
-with_tier_other mask k t h l = ap (λ b. b == 1) (bit_at_set_other w16 mask k h t (λ e. absurd (omega arith)))
-
--- the same of a mask of 32 bits
-pub set_few : (mask k : ℕ) → k < 32 → mask < 2 ^ k → bit_or mask (1 * 2 ^ k % 2 ^ 32) < 2 ^ (k + 1)
-set_few mask k h l =
-    let next : 2 ^ k < 2 ^ (k + 1) = pow_below k (k + 1) (omega arith) in
-    or_lt (k + 1) mask (1 * 2 ^ k % 2 ^ 32) (omega arith) (omega (arith, one_shl k 32 h))
-
-pub set_same : (mask k : ℕ) → k < 32 → has_tier (bit_or mask (1 * 2 ^ k % 2 ^ 32)) k ≡ true
-set_same mask k h = ap (λ b. b == 1) (bit_at_set_same w32 mask k h)
-
-pub set_other : (mask k t : ℕ) → k < 32 → t < k → has_tier (bit_or mask (1 * 2 ^ k % 2 ^ 32)) t ≡ has_tier mask t
-set_other mask k t h l = ap (λ b. b == 1) (bit_at_set_other w32 mask k h t (λ e. absurd (omega arith)))
+pub set_other : (w : Width) (mask k t : ℕ) → k < bits w → t < k
+    → has_tier (bit_or mask (1 * 2 ^ k % 2 ^ bits w)) t ≡ has_tier mask t
+set_other w mask k t h l = ap (λ b. b == 1) (bit_at_set_other w mask k h t (λ e. absurd (omega arith)))
 
 -- a mask has no tier from its bound on
 pub no_tier_above : (mask k : ℕ) → mask < 2 ^ k → has_tier mask k ≡ false
@@ -74,14 +65,14 @@ pub record IsMaskBelow (kinds : List TierKind) (kind : TierKind) (mask n : ℕ) 
 pub mask_with : (kinds : List TierKind) (kind : TierKind) (mask n : ℕ) → n < 16 → kind_at kinds n ≡ kind
     → IsMaskBelow kinds kind mask n → IsMaskBelow kinds kind (bit_or mask (1 * 2 ^ n % 2 ^ 16)) (n + 1)
 mask_with kinds kind mask n h e m = record {
-  within = with_tier_few mask n h m.within;
+  within = set_few w16 mask n h m.within;
   bits = λ t l. ⊎_elim
-      (λ below. let same = with_tier_other mask n t h below in
+      (λ below. let same = set_other w16 mask n t h below in
       (λ x. (m.bits t below).0 (sym same ∙ x), λ y. same ∙ (m.bits t below).1 y))
       (λ above. let here : t ≡ n = omega arith in (
         λ x. ap (kind_at kinds) here ∙ e,
         λ y. ap (has_tier (bit_or mask (1 * 2 ^ n % 2 ^ 16))) here
-            ∙ with_tier_same mask n h,
+            ∙ set_same w16 mask n h,
       ))
       (cases_lt t n);
 }

@@ -17,3 +17,4 @@ pub mod Filled
 pub mod FirstColumn
 pub mod PhaseBits
 pub mod EmptyKind
+pub mod KindNumbers

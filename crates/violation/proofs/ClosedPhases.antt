@@ -22,10 +22,11 @@ pub closed_first : (left right : List Event) → 0 < length left → phase left 
 closed_first [] right l = absurd (omega arith)
 closed_first (e ∷ es) right l = refl
 
-pub closed_is : (a b : Bool) → is_closed (cond a (cond b met unmet) closed) ≡ not a
-closed_is true true = refl
-closed_is true false = refl
-closed_is false b = refl
+-- a phase is closed exactly where its left side is not open
+pub closed_unless_open : (a b : Bool) → is_closed (cond a (cond b met unmet) closed) ≡ not a
+closed_unless_open true true = refl
+closed_unless_open true false = refl
+closed_unless_open false b = refl
 
 module _ (problem : Problem) (split : AreSplit problem.tiers) (form : IsForm problem.tiers problem.form) (r : ℕ)
     (p : List (List Sym)) (begun : IsBegun problem p) where
@@ -40,7 +41,7 @@ module _ (problem : Problem) (split : AreSplit problem.tiers) (form : IsForm pro
       → AreClosedOr (is_left_open problem (kind_of problem r p)) cs (map (λ c. phase c.left c.right p) cs)
   phases_closed [] o = tt
   phases_closed (c ∷ cs) o = (
-    closed_is (list_all (λ e. is_open (tier_word p e.tier)) c.left) _
+    closed_unless_open (list_all (λ e. is_open (tier_word p e.tier)) c.left) _
         ∙ ap not (left_open c o.0),
     phases_closed cs o.1,
   )

@@ -28,7 +28,7 @@ use Rattle.violation.specs.Columns.{edge_cost}
 use Rattle.violation.proofs.TierLemmas.{map_agree}
 use Rattle.violation.proofs.WalkLemmas.{begun_of, moved_is, walk_on, candidate_walk, candidate_final, final_candidate}
 use Rattle.violation.proofs.WholeCounts.{so_far_none}
-use Rattle.violation.proofs.StageLemmas.{over_from_first}
+use Rattle.violation.proofs.StageLemmas.{stretches_over_tiers}
 use Rattle.violation.specs.Problems.{Problem}
 
 -- two states agree on the tiers of some types
@@ -116,7 +116,7 @@ length_costs (c ∷ cs) o phases column = ap suc (length_costs cs o (cond (is_st
 module _ (problem : Problem) (r : ℕ) (split : AreSplit problem.tiers) (form : IsForm problem.tiers problem.form)
     (over : AllByRecursion (IsOverTiers problem.tiers.width) (take r problem.constraints)) where
   stretches_over : AllByRecursion (IsOverTiers problem.tiers.width) (stretches problem r)
-  stretches_over = over_from_first problem r over
+  stretches_over = stretches_over_tiers problem r over
 
   pub length_walk : (q : List (List Sym)) (k : PrefixKind)
       → length (walk_costs problem r k q) ≡ length (take r problem.constraints)

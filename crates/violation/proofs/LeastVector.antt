@@ -27,9 +27,10 @@ same_vector (x ∷ a) (y ∷ b) e = go (nat_cmp x y) (ranked x y (nat_cmp x y) r
     go Equal m rest e = ap (λ n. n ∷ a) m ∙ ap (λ ns. y ∷ ns) (rest e)
 
 module _ (problem : Problem) where
-  -- the counts of all stages are all counts
-  pub whole : (T : List (List Sym)) → take (last_stage problem) (counts_on problem T) ≡ counts_on problem T
-  whole T = take_all (last_stage problem) (counts_on problem T)
+  -- as many counts as there are stages are all counts
+  pub all_counts_taken : (T : List (List Sym))
+      → take (last_stage problem) (counts_on problem T) ≡ counts_on problem T
+  all_counts_taken T = take_all (last_stage problem) (counts_on problem T)
       (omega (arith, length-map problem.constraints (λ c. violations_of c T)))
 
   -- the optimal candidates share their vector
@@ -37,9 +38,9 @@ module _ (problem : Problem) where
       → counts_on problem T ≡ counts_on problem U
   one_vector T U t v =
       let n : ℕ = last_stage problem in
-      sym (whole T) ∙ same_vector (take n (counts_on problem T)) (take n (counts_on problem U))
+      sym (all_counts_taken T) ∙ same_vector (take n (counts_on problem T)) (take n (counts_on problem U))
       (both_equal (take n (counts_on problem T)) (take n (counts_on problem U)) (t.least U v.candidate)
-      (v.least T t.candidate)) ∙ whole U
+      (v.least T t.candidate)) ∙ all_counts_taken U
 
   pub vector_of_numbers : (T : List (List Sym)) (v : List ℕ) → IsOptimal problem T → length v ≡ last_stage problem
       → ((r : ℕ) → 1 ≤ r → r ≤ last_stage problem → count_at problem r T ≡ get_or v (r - 1) 0) → IsLeastVector problem v

@@ -49,6 +49,14 @@ module _ (u m n u' m' : ℕ) (phase : Phase) (hu : HasMore u n (is_unmet_phase p
   told_here = ap (λ b. phase_by_bits b (has_tier m' n)) hu.here ∙ ap (phase_by_bits (is_unmet_phase phase)) hm.here
       ∙ phase_told phase
 
+-- one constraint more is one stretch implication more, or none
+pub stretches_more : (cs : List Constraint) (n : ℕ) (c : Constraint) (b : Bool) → n < length cs → c ≡ get_or cs n c
+    → is_stretch c ≡ b → filter is_stretch (take (n + 1) cs) ≡ filter is_stretch (take n cs) ++ cond b (c ∷ []) []
+stretches_more cs n c b l is h =
+    filter_more is_stretch cs n c l
+    ∙ ap (λ x. filter is_stretch (take n cs) ++ cond (is_stretch x) (x ∷ []) []) (sym is)
+    ∙ ap (λ b. filter is_stretch (take n cs) ++ cond b (c ∷ []) []) h
+
 pub next_append : (cs : List Constraint) (ps : List Phase) (c : Constraint) (p : Phase) (column : List Sym)
     → length ps ≡ length cs
     → next_phases (cs ++ c ∷ []) (ps ++ p ∷ []) column ≡ next_phases cs ps column ++ next_phase c.left c.right p
@@ -75,9 +83,7 @@ pub next_more : (cs : List Constraint) (kind : Kind) (column : List Sym) (n next
     → AreNext cs kind column (n + 1) (next + 1) u' m'
 next_more cs kind column n next u m u' m' c phase a l is h hu hm here =
     let fs = filter is_stretch (take n cs) in
-    let more : filter is_stretch (take (n + 1) cs) ≡ fs ++ c ∷ [] =
-    filter_more is_stretch cs n c l ∙ ap (λ x. fs ++ cond (is_stretch x) (x ∷ []) []) (sym is)
-    ∙ ap (λ b. fs ++ cond b (c ∷ []) []) h in
+    let more : filter is_stretch (take (n + 1) cs) ≡ fs ++ c ∷ [] = stretches_more cs n c true l is h in
     let same : phases_by next u m ≡ phases_by next u' m' = fill_by_all (told_at u' m')
     (phases_by next u m) next closed (length-map-range_with_len (told_at u m) 0 next)
     (λ i b. get_or-map-range_with_len (told_at u m) 0 next i i closed b (omega arith)
@@ -103,9 +109,7 @@ pub next_same : (cs : List Constraint) (kind : Kind) (column : List Sym) (n next
     → AreNext cs kind column (n + 1) next u m
 next_same cs kind column n next u m c a l is h =
     let fs = filter is_stretch (take n cs) in
-    let same : filter is_stretch (take (n + 1) cs) ≡ fs =
-    filter_more is_stretch cs n c l ∙ ap (λ x. fs ++ cond (is_stretch x) (x ∷ []) []) (sym is)
-    ∙ ap (λ b. fs ++ cond b (c ∷ []) []) h ∙ append-nil fs in
+    let same : filter is_stretch (take (n + 1) cs) ≡ fs = stretches_more cs n c false l is h ∙ append-nil fs in
     record {
       count = a.count ∙ sym (ap length same);
       few = omega (arith, a.few);

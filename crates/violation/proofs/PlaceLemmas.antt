@@ -11,7 +11,8 @@ use Rattle.tier_core.specs.Timelines.{tier_word, symbol, is_edge, has_edge, proj
 use Rattle.tier_core.proofs.WordLemmas.{open_at}
 use Rattle.violation.proofs.OpenLemmas.{reads}
 
-stays_open : (b : Bool) (s : Sym) → fits b s ≡ true → is_edge s ≡ false → opens s ≡ b
+-- a symbol without an edge leaves its tier as it is
+pub stays_open : (b : Bool) (s : Sym) → fits b s ≡ true → is_edge s ≡ false → opens s ≡ b
 stays_open true Outside f e = absurd (false≢true f)
 stays_open true Inside f e = refl
 stays_open true Start f e = absurd (false≢true f)

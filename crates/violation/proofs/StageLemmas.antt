@@ -36,10 +36,10 @@ alike_optimal problem n T U opt c same = record {
 }
 
 -- the stretches of constraints over tiers are over these
-pub over_from_first : (problem : Problem) (r : ℕ)
+pub stretches_over_tiers : (problem : Problem) (r : ℕ)
     → AllByRecursion (IsOverTiers problem.tiers.width) (take r problem.constraints)
     → AllByRecursion (IsOverTiers problem.tiers.width) (stretches problem r)
-over_from_first problem r over = recursion_from_All (IsOverTiers problem.tiers.width) (stretches problem r)
+stretches_over_tiers problem r over = recursion_from_All (IsOverTiers problem.tiers.width) (stretches problem r)
     (All-filter is_stretch (IsOverTiers problem.tiers.width) (take r problem.constraints)
     (All-from_recursion (IsOverTiers problem.tiers.width) (take r problem.constraints) over))
 
@@ -50,4 +50,4 @@ module _ (problem : Problem) (r : ℕ) (stage : IsStage problem r) where
       (All-from_recursion (IsOverTiers problem.tiers.width) problem.constraints stage.over))
 
   pub over_stretches : AllByRecursion (IsOverTiers problem.tiers.width) (stretches problem r)
-  over_stretches = over_from_first problem r over_first
+  over_stretches = stretches_over_tiers problem r over_first

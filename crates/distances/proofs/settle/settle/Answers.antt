@@ -2,48 +2,28 @@ use Rattle.std.proofs.Common.{◌≡◌, ◌<◌, None, Some, length, get_or, sy
 use Rattle.distances.proofs.Settling.{known_inside, kept_both, sources_each, lawful_each, sizes_each, incoming-kept}
 use Rattle.distances.proofs.settle.settle.Goals as goal
 
-pub relax-requires-clause-inside : goal.relax-requires-clause-inside
-relax-requires-clause-inside g c =
+pub relax-requires : goal.relax-requires
+relax-requires g c =
+    let laws = g.met.W.Weight.laws in
     let table = c.args.table.now in
+    let incoming = c.args.incoming.now in
     let least = c.loop-turn.least.items in
     let top = c.in-Some.top in
+    let same = c.loop-turn.invariant.each_state in
     let known : get_or least top.state None
     ≡ Some top.weight = sym (c.known_at.ensures ∙ ap (λ l. get_or l top.state None) c.deref.ensures.value)
     ∙ c.differ.ensures.0 c.if-differ.false in
-    let same = c.loop-turn.invariant.each_state in
     let ins : top.state < length table.states.items = omega
     (arith, known_inside least top.state top.weight known, same) in
     rw c.moves_to.ensures
-    (sources_each g.met.W.Weight.laws table.states.items table.targets c.args.incoming.now c.requires.turned
-    top.state ins (length least) same)
-
-pub relax-requires-clause-weights : goal.relax-requires-clause-weights
-relax-requires-clause-weights g c =
-    let table = c.args.table.now in
-    let least = c.loop-turn.least.items in
-    let top = c.in-Some.top in
-    let known : get_or least top.state None
-    ≡ Some top.weight = sym (c.known_at.ensures ∙ ap (λ l. get_or l top.state None) c.deref.ensures.value)
-    ∙ c.differ.ensures.0 c.if-differ.false in
-    let ins : top.state < length table.states.items = omega
-    (arith, known_inside least top.state top.weight known, c.loop-turn.invariant.each_state) in
-    rw c.moves_to.ensures
-    (lawful_each g.met.W.Weight.laws table.states.items table.targets c.args.incoming.now c.requires.turned
-    top.state ins)
-
-pub relax-requires-clause-sizes : goal.relax-requires-clause-sizes
-relax-requires-clause-sizes g c =
-    let table = c.args.table.now in
-    let least = c.loop-turn.least.items in
-    let top = c.in-Some.top in
-    let known : get_or least top.state None
-    ≡ Some top.weight = sym (c.known_at.ensures ∙ ap (λ l. get_or l top.state None) c.deref.ensures.value)
-    ∙ c.differ.ensures.0 c.if-differ.false in
-    let ins : top.state < length table.states.items = omega
-    (arith, known_inside least top.state top.weight known, c.loop-turn.invariant.each_state) in
-    rw c.moves_to.ensures
-    (sizes_each g.met.W.Weight.laws table.states.items table.targets c.args.incoming.now c.requires.turned
-    top.state ins c.requires.sizes least c.loop-turn.invariant.witnessed top.weight known)
+    (record {
+      inside = sources_each laws table.states.items table.targets incoming c.requires.turned top.state ins
+          (length least) same;
+      lawful = top.lawful;
+      weights = lawful_each laws table.states.items table.targets incoming c.requires.turned top.state ins;
+      sizes = sizes_each laws table.states.items table.targets incoming c.requires.turned top.state ins
+          c.requires.sizes least c.loop-turn.invariant.witnessed top.weight known;
+    })
 
 pub loop-turn-preserved : goal.loop-turn-preserved
 loop-turn-preserved g c =

@@ -19,8 +19,8 @@ making-init g c =
           (rw c.new-names.ensures.items at made.grows) c.requires.start;
     }
 
-pub new_state-requires-clause-inside : goal.new_state-requires-clause-inside
-new_state-requires-clause-inside g c =
+pub new_state-requires : goal.new_state-requires
+new_state-requires g c =
     let names = c.making.names.items in
     let new = c.making.states.items in
     let inv = c.making.invariant in
@@ -35,29 +35,18 @@ new_state-requires-clause-inside g c =
     ) in
     let named = next_named names
     (length new) c.len-in-making-3.result c.index-old.result.now inside at c.index-old.ensures in
-    omega (
-      arith,
-      numbered_below names c.making.numbers.items inv.numbered (length new) c.index-old.result.now named,
-      inv.same,
-    )
-
-pub new_state-requires-clause-weighed : goal.new_state-requires-clause-weighed
-new_state-requires-clause-weighed g c =
-    let names = c.making.names.items in
-    let new = c.making.states.items in
-    let inv = c.making.invariant in
-    let at : c.len-in-making-3.result ≡ length new = omega (arith, c.len-in-making-3.ensures, c.making.states.ok) in
-    let inside : length new < length names = omega (
-      arith,
-      c.making-test.true,
-      c.len-in-making.ensures,
-      c.len-in-making-2.ensures,
-      c.making.states.ok,
-      c.making.names.ok,
-    ) in
-    let named = next_named names
-    (length new) c.len-in-making-3.result c.index-old.result.now inside at c.index-old.ensures in
-    inv.so_far.weighed (length new) c.index-old.result.now named
+    record {
+      inside = omega (
+        arith,
+        numbered_below names c.making.numbers.items inv.numbered (length new) c.index-old.result.now named,
+        inv.same,
+      );
+      sizes = c.requires.sizes;
+      least = c.requires.least;
+      weighed = inv.so_far.weighed (length new) c.index-old.result.now named;
+      same = inv.same;
+      numbered = inv.numbered;
+    }
 
 pub making-smaller : goal.making-smaller
 making-smaller g c =
@@ -102,11 +91,16 @@ making-preserved g c =
           c.in_ok-state.state c.index-old.result.now inv.so_far named done.made done.names);
     }
 
-pub of_states-requires-clause-few : goal.of_states-requires-clause-few
-of_states-requires-clause-few g c =
+pub of_states-requires : goal.of_states-requires
+of_states-requires g c =
+    let laws = g.met.W.Weight.laws in
+    let table = c.args.table.now in
+    let least = c.args.least.now in
+    let are = c.requires.least in
+    let names = c.making.names.items in
+    let new = c.making.states.items in
     let inv = c.making.invariant in
-    let all : length c.making.states.items
-    ≡ length c.making.names.items = omega (
+    let all : length new ≡ length names = omega (
       arith,
       c.making-test.false,
       c.len-in-making.ensures,
@@ -115,77 +109,14 @@ of_states-requires-clause-few g c =
       c.making.names.ok,
       inv.so_far.within,
     ) in
-    omega (
-      arith,
-      names_few c.making.names.items c.making.numbers.items inv.numbered,
-      inv.same,
-      c.args.table.now.few,
-      all,
-    )
-
-pub of_states-requires-clause-targets : goal.of_states-requires-clause-targets
-of_states-requires-clause-targets g c =
-    let inv = c.making.invariant in
-    let all : length c.making.states.items
-    ≡ length c.making.names.items = omega (
-      arith,
-      c.making-test.false,
-      c.len-in-making.ensures,
-      c.len-in-making-2.ensures,
-      c.making.states.ok,
-      c.making.names.ok,
-      inv.so_far.within,
-    ) in
-    new_targets g.met.W.Weight.laws c.args.table.now.states.items c.args.table.now.targets c.args.least.now
-    c.requires.least c.making.names.items c.making.states.items inv.so_far all
-
-pub of_states-requires-clause-disjoint : goal.of_states-requires-clause-disjoint
-of_states-requires-clause-disjoint g c =
-    let inv = c.making.invariant in
-    let all : length c.making.states.items
-    ≡ length c.making.names.items = omega (
-      arith,
-      c.making-test.false,
-      c.len-in-making.ensures,
-      c.len-in-making-2.ensures,
-      c.making.states.ok,
-      c.making.names.ok,
-      inv.so_far.within,
-    ) in
-    new_disjoint g.met.W.Weight.laws c.args.table.now.states.items c.args.table.now.targets c.args.least.now
-    c.requires.least c.making.names.items c.making.states.items inv.so_far all c.args.table.now.disjoint
-
-pub of_states-requires-clause-filled : goal.of_states-requires-clause-filled
-of_states-requires-clause-filled g c =
-    let inv = c.making.invariant in
-    let all : length c.making.states.items
-    ≡ length c.making.names.items = omega (
-      arith,
-      c.making-test.false,
-      c.len-in-making.ensures,
-      c.len-in-making-2.ensures,
-      c.making.states.ok,
-      c.making.names.ok,
-      inv.so_far.within,
-    ) in
-    new_filled g.met.W.Weight.laws c.args.table.now.states.items c.args.table.now.targets c.args.least.now
-    c.requires.least c.making.names.items c.making.states.items inv.so_far all c.args.table.now.filled
-
-pub of_states-requires-clause-one_width : goal.of_states-requires-clause-one_width
-of_states-requires-clause-one_width g c =
-    let inv = c.making.invariant in
-    let all : length c.making.states.items
-    ≡ length c.making.names.items = omega (
-      arith,
-      c.making-test.false,
-      c.len-in-making.ensures,
-      c.len-in-making-2.ensures,
-      c.making.states.ok,
-      c.making.names.ok,
-      inv.so_far.within,
-    ) in
-    new_width g.met.W.Weight.laws c.args.table.now.states.items c.args.table.now.targets c.args.least.now
-    c.requires.least c.making.names.items c.making.states.items inv.so_far all c.args.table.now.one_width
+    record {
+      some = omega (arith, all, inv.so_far.start.0);
+      few = omega (arith, names_few names c.making.numbers.items inv.numbered, inv.same, table.few, all);
+      targets = new_targets laws table.states.items table.targets least are names new inv.so_far all;
+      disjoint = new_disjoint laws table.states.items table.targets least are names new inv.so_far all table.disjoint;
+      filled = new_filled laws table.states.items table.targets least are names new inv.so_far all table.filled;
+      one_width = new_width laws table.states.items table.targets least are names new inv.so_far all table.one_width;
+    }
 
 pub returns : goal.returns
 returns g c =

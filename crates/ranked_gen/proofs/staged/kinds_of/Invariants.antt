@@ -1,5 +1,5 @@
 use Rattle.std.proofs.Common.{◌≡◌, map, take}
-use Rattle.kind_orders.specs.KindOrders.{kind_numbered}
+use Rattle.tier_core.specs.KindNumbers.{kind_numbered}
 use Rattle.ranked_gen.proofs.staged.kinds_of.Given as goal
 
 abbrev pub invariant-loop-number : goal.invariant-loop-number

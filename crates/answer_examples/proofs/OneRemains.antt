@@ -1,10 +1,9 @@
 -- One violation of `a -> A` remains where the overt tier is open and not met, and the form is empty.
-use Rattle.std.proofs.Common.{◌≡◌, ℕ, ◌+◌, ◌≤◌, true, List, [], ◌∷◌, ◌++◌, take, drop, length, refl, sym, ap, ◌∙◌}
+use Rattle.std.proofs.Common.{◌≡◌, ℕ, ◌+◌, ◌≤◌, true, List, [], ◌∷◌, ◌++◌, take, drop, refl, sym, ap, ◌∙◌}
 use Rattle.std.proofs.Common.{subst, arith, codes, String, append-nil, ◌==◌}
 use Rattle.std.specs.declared.alloc.Global.{Global}
 use Rattle.std.proofs.lemmas.Bool.{false≢true}
 use Rattle.std.proofs.lemmas.Bool.Decides.{Decides-eqb}
-use Rattle.std.proofs.lemmas.List.{length-take-le, take-append-drop}
 use Rattle.tier_core.specs.declared.sym.Sym.{Sym}
 use Rattle.tier_core.specs.Kinds.{PrefixKind, unmet}
 use Rattle.violation.specs.Candidates.{IsCandidate, count_at, count_so_far_at}
@@ -17,7 +16,8 @@ use Rattle.violation.specs.Stages.{IsStage, Passes, IsLeastRest}
 use Rattle.violation.proofs.ExampleLemmas.{right_timeline, right_candidate}
 use Rattle.violation.proofs.StageLemmas.{all_optimal, over_stretches}
 use Rattle.violation.proofs.WalkLemmas.{fits_next, candidate_final}
-use Rattle.violation.proofs.WalkSums.{walk_cost, walk_step, violations_on}
+use Rattle.violation.proofs.WalkSums.{walk_cost, walk_step}
+use Rattle.violation.proofs.CutCandidates.{candidate_cut, violations_cut}
 use Rattle.answer_examples.proofs.EmptyForm.{split}
 use Rattle.answer_examples.proofs.StageTests.{fits_kind, Decides-fits}
 use Rattle.answer_examples.proofs.Tests.{implied, Decides-implied, Decides-columns}
@@ -74,21 +74,10 @@ module _ (name : String Global) where
   no_less : (T : List (List Sym)) (n : ℕ) → Passes one_dep 0 1 open_unmet T n
       → count_so_far_at one_dep 1 T n + 1 ≤ count_at one_dep 1 T
   no_less T n passes =
-      let parts : take n T ++ drop n T ≡ T = take-append-drop n T in
-      let whole : IsCandidate one_dep (take n T ++ drop n T) =
-      subst (IsCandidate one_dep) (sym parts) passes.optimal.candidate in
-      let total : count_at one_dep 1 (take n T ++ drop n T) ≡ count_at one_dep 1 T =
-      ap (λ (v : List (List Sym)). count_at one_dep 1 v) parts in
-      let before : count_so_far_at one_dep 1 (take n T ++ drop n T) (length (take n T))
-      ≡ count_so_far_at one_dep 1 T n =
-      ap (λ (v : List (List Sym)). count_so_far_at one_dep 1 v (length (take n T))) parts
-      ∙ ap (λ (m : ℕ). count_so_far_at one_dep 1 T m) (length-take-le n T passes.within) in
       omega (
         arith,
-        violations_on one_dep 1 stage (omega arith) (take n T) (drop n T) whole,
-        rest_costs (take n T) (drop n T) whole passes.of_kind,
-        total,
-        before,
+        violations_cut one_dep T n 1 stage (omega arith) passes.within passes.optimal.candidate,
+        rest_costs (take n T) (drop n T) (candidate_cut one_dep T n passes.optimal.candidate) passes.of_kind,
       )
 
   pub one_remains : IsLeastRest one_dep 1 open_unmet 1

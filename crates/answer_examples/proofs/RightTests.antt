@@ -2,7 +2,7 @@
 -- its automaton accepts nothing before the example. This is tested by what is seen of the answer.
 use Rattle.std.proofs.Common.{◌≡◌, ℕ, zero, suc, ◌+◌, ◌-◌, ◌==◌, ◌<◌, ◌≤◌, nat_le, IsTrue, Bool, true, false, ◌&&◌}
 use Rattle.std.proofs.Common.{List, [], ◌∷◌, ◌++◌, map, take, drop, length, refl, sym, ap, ◌∙◌, subst, arith, All}
-use Rattle.std.proofs.Common.{Contains, Less, get_or, unwrap_or, find, is_le, append-nil, append_assoc}
+use Rattle.std.proofs.Common.{Contains, Less, get_or, unwrap_or, find, is_le}
 use Rattle.std.specs.List.{list_all, AllByRecursion}
 use Rattle.std.specs.List.Sorted.{IsStrictlySortedBy}
 use Rattle.std.specs.Ordering.{nat_cmp, ordering_then}
@@ -10,8 +10,8 @@ use Rattle.std.specs.Cmp.Lexicographic.{slice_cmp}
 use Rattle.std.specs.declared.cmp.Ordering.{Ordering}
 use Rattle.std.proofs.lemmas.Bool.{false≢true, and_parts}
 use Rattle.std.proofs.lemmas.Bool.Decides.{Decides-eqb}
-use Rattle.std.proofs.lemmas.List.Elements.{All-contains, Contains-get_or}
-use Rattle.std.proofs.lemmas.List.{length-take-le, take-append-drop}
+use Rattle.std.proofs.lemmas.List.Elements.{Contains-get_or}
+use Rattle.std.proofs.lemmas.List.{take-append-drop}
 use Rattle.tier_core.specs.declared.sym.Sym.{Sym}
 use Rattle.tier_core.specs.declared.sym.Sym.TheVariants.{Outside}
 use Rattle.tier_core.specs.Classes.{has, sets_of, sets_have}
@@ -25,23 +25,23 @@ use Rattle.violation.specs.Conditions.{AreSplit, IsOverTiers}
 use Rattle.violation.specs.Prefixes.{kind_of, kind_of_bits}
 use Rattle.violation.specs.Problems.{Problem, last_stage}
 use Rattle.violation.specs.Stages.{Passes, IsPassed, IsRemaining}
-use Rattle.violation.proofs.WalkSums.{violations_on}
+use Rattle.violation.proofs.CutCandidates.{candidate_cut, violations_cut}
 use Rattle.answer_text.specs.declared.answer.Answer.{Answer}
-use Rattle.answer_text.specs.declared.automaton.ArcLine.{ArcLine}
 use Rattle.answer_text.specs.declared.automaton.StateLine.{StateLine}
 use Rattle.answer_text.specs.declared.stage.Node.{Node}
 use Rattle.answer_text.specs.declared.stage.Stage.{Stage}
-use Rattle.answer_text.specs.Acceptance.{HasArc, Leads}
+use Rattle.answer_text.specs.Acceptance.{Leads}
 use Rattle.answer_text.specs.Certified.{Lists, IsCertified, AreStatesInOrder}
 use Rattle.answer_text.specs.Right.{IsNodeOf, IsRight, IsRightStage, IsRightAutomaton, AreRightArcs, nodes_at}
 use Rattle.answer_text.specs.Right.{numbers_of}
 use Rattle.answer_text.specs.Sound.{IsSound}
 use Rattle.check_laws.proofs.Leading.{leads_parts}
-use Rattle.check_laws.proofs.Listing.{kind_listed, first_numbered}
+use Rattle.check_laws.proofs.Listing.{kind_listed}
 use Rattle.tier_core.proofs.Members.{All-from_members, contains_map, contains_of_map}
 use Rattle.check_laws.proofs.Optima.{AreTold, all_told}
-use Rattle.check_laws.proofs.Potentials.{FallsAlong, falls_parts, stage_at, goes_to, as_longer, one_more, rest_cost}
+use Rattle.check_laws.proofs.Potentials.{FallsAlong, falls_parts, stage_at, rest_cost}
 use Rattle.check_laws.proofs.Potentials.{bound}
+use Rattle.check_laws.proofs.Reading.{read_at}
 use Rattle.check_laws.proofs.Soundness.{sound_from_certified}
 use Rattle.answer_text.specs.Seen.{nodes_seen}
 use Rattle.answer_text.specs.Values.{ArcValue, NodeValue, StateValue, arc_value, state_value}
@@ -194,30 +194,20 @@ module _ (problem : Problem) (answer : Answer) (split : AreSplit problem.tiers)
       → count_so_far_at problem r U m + p ≤ count_at problem r U
   least_rest r l ranked k p lists U m by =
       let parts : take m U ++ drop m U ≡ U = take-append-drop m U in
-      let c : IsCandidate problem (take m U ++ drop m U) = subst (IsCandidate problem) (sym parts)
-      by.optimal.candidate in
       let here : Lists problem stages r (kind_of problem r (take m U)) p =
       subst (λ z. Lists problem stages r z p) (sym by.of_kind) lists in
       let all_fall = ((told (r - 1) (omega arith)).optimal U by.optimal.candidate).0 by.optimal in
       let low : p ≤ rest_cost problem stages split certified.well_formed over counts r l (certified.each_stage r l)
       ranked (take m U) (drop m U) =
       bound problem stages split certified.well_formed over counts r l (certified.each_stage r l) ranked
-      (drop m U) (take m U) p c here
+      (drop m U) (take m U) p (candidate_cut problem U m by.optimal.candidate) here
       (λ j a b. (falls_parts problem stages j (take m U) [] (drop m U)
       (subst (FallsAlong problem stages j []) (sym parts) (all_fall j a (omega arith)))).1) in
-      let total : count_at problem r (take m U ++ drop m U) ≡ count_at problem r U =
-      ap (λ (v : List (List Sym)). count_at problem r v) parts in
-      let so_far : count_so_far_at problem r (take m U ++ drop m U) (length (take m U))
-      ≡ count_so_far_at problem r U m =
-      ap (λ (v : List (List Sym)). count_so_far_at problem r v (length (take m U))) parts
-      ∙ ap (λ (n : ℕ). count_so_far_at problem r U n) (length-take-le m U by.within) in
       omega (
         arith,
         low,
-        violations_on problem r (stage_at problem stages split certified.well_formed over r l) ranked (take m U)
-            (drop m U) c,
-        total,
-        so_far,
+        violations_cut problem U m r (stage_at problem stages split certified.well_formed over r l) ranked by.within
+            by.optimal.candidate,
       )
 
   remains : (r : ℕ) → r ≤ last_stage problem → (k : PrefixKind) (p : ℕ) → Lists problem stages r k p → (w : Shown)
@@ -287,33 +277,6 @@ module _ (problem : Problem) (answer : Answer) (split : AreSplit problem.tiers)
           (record { node = node; listed = c; tells = refl; potential = refl }));
     }
 
-  -- reading a prefix leads to the node of its kind
-  target_state : (n m : ℕ) (column : List Sym) → HasArc states n m column → Contains (numbers_of states) m
-  target_state n m column a =
-      subst (Contains (numbers_of states)) a.to
-      (All-contains (λ (arc : ArcLine). Contains (numbers_of states) arc.target) a.state.arcs.items a.arc
-      (All-contains (λ (line : StateLine). All (λ (arc : ArcLine). Contains (numbers_of states) arc.target)
-      line.arcs.items) states a.state certified.automaton.targets a.listed) a.leaves)
-
-  node_after : (s p q : List (List Sym)) (n m : ℕ) → Contains (numbers_of states) n
-      → IsNodeOf problem nodes n (kind_of problem last p) → IsCandidate problem (p ++ (s ++ q)) → Leads states n s m
-      → Contains (numbers_of states) m × IsNodeOf problem nodes m (kind_of problem last (p ++ s))
-  node_after [] p q n m c at whole_is leads = (
-    subst (Contains (numbers_of states)) leads c,
-    subst (λ i. IsNodeOf problem nodes i (kind_of problem last (p ++ []))) leads
-        (subst (λ v. IsNodeOf problem nodes n (kind_of problem last v)) (sym (append-nil p)) at),
-  )
-  node_after (column ∷ s) p q n m c at whole_is leads =
-      let arc : HasArc states n leads.0 column = leads.1.0 in
-      let move = (certified.automaton.arcs n leads.0 (kind_of problem last p) column c at).0 arc in
-      let next : IsNodeOf problem nodes leads.0 (kind_of problem last (p ++ column ∷ [])) =
-      subst (IsNodeOf problem nodes leads.0)
-      (goes_to problem stages split certified.well_formed over last whole p column
-      (one_more problem stages split certified.well_formed over p column (s ++ q) whole_is)) move.1 in
-      let rest = node_after s (p ++ column ∷ []) q leads.0 m (target_state n leads.0 column arc) next
-      (as_longer problem stages split certified.well_formed over p column (s ++ q) whole_is) leads.1.1 in
-      (rest.0, subst (λ v. IsNodeOf problem nodes m (kind_of problem last v)) (append_assoc p (column ∷ []) s) rest.1)
-
   module _ (vs : List Shown)
       (h : all_shown (shows_state problem counts (nodes_seen problem stages)) (map state_value states) vs ≡ true)
       (arcs : list_all arcs_pass (map state_value states) ≡ true) where
@@ -348,10 +311,9 @@ module _ (problem : Problem) (answer : Answer) (split : AreSplit problem.tiers)
         let accepted = (sound.accepts T).1 o in
         let way = leads_parts states (take n T) (drop n T) 0 accepted.last
         (subst (λ v. Leads states 0 v accepted.last) (sym parts) accepted.leads) in
-        let there = node_after (take n T) [] (drop n T) 0 way.0 certified.automaton.start
-        (first_numbered problem nodes (kind_of problem last []) (certified.each_stage last whole).first)
-        (subst (IsCandidate problem) (sym parts) o.candidate) way.1.0 in
-        (way.0, (way.1.0, there.0, there.1))
+        let there = read_at problem stages split certified.well_formed over counts (certified.each_stage last whole)
+        states certified.automaton (take n T) way.0 way.1.0 in
+        (way.0, (way.1.0, there.state, there.tells))
 
     right_arcs : All (λ state. AreRightArcs problem.tiers.width (numbers_of states) state.arcs.items) states
     right_arcs i d l =

@@ -1,18 +1,15 @@
 -- What the stages of a certified answer tell: which candidates are optimal.
-use Rattle.std.proofs.Common.{◌≡◌, ◌↔◌, ℕ, zero, suc, ◌-◌, ◌<◌, ◌≤◌, List, [], take, length, get_or, refl, sym, ap, ◌∙◌}
+use Rattle.std.proofs.Common.{◌≡◌, ◌↔◌, ℕ, zero, suc, ◌-◌, ◌<◌, ◌≤◌, List, [], get_or, refl, sym, ap, ◌∙◌}
 use Rattle.std.proofs.Common.{subst, arith, inl, inr}
 use Rattle.std.specs.List.{AllByRecursion}
-use Rattle.std.specs.declared.cmp.Ordering.TheVariants.{Equal}
 use Rattle.std.proofs.lemmas.Bool.{cases_lt}
-use Rattle.std.proofs.lemmas.List.{length-map}
 use Rattle.tier_core.specs.declared.sym.Sym.{Sym}
 use Rattle.tier_core.specs.Tiers.{Tiers}
-use Rattle.violation.specs.Candidates.{IsForm, IsCandidate, vec, vec_cmp, IsOptimalFor, counts_on, count_at}
+use Rattle.violation.specs.Candidates.{IsForm, IsCandidate, vec, IsOptimalFor, counts_on, count_at}
 use Rattle.violation.specs.Conditions.{AreSplit, IsOverTiers}
-use Rattle.violation.specs.Counts.{violations_of}
 use Rattle.violation.specs.Prefixes.{kind_of}
-use Rattle.violation.proofs.StageLemmas.{alike_optimal, all_optimal, optimal_for_fewer}
-use Rattle.violation.proofs.VectorLemmas.{both_equal, at_most_last, at_most_by_last}
+use Rattle.violation.proofs.Ranks.{least_count, optimal_by_count}
+use Rattle.violation.proofs.StageLemmas.{all_optimal, optimal_for_fewer}
 use Rattle.violation.proofs.WalkSums.{violations_walk}
 use Rattle.answer_text.specs.declared.stage.Stage.{Stage}
 use Rattle.answer_text.specs.Certified.{Lists, start_potential, IsCertifiedStage}
@@ -44,9 +41,6 @@ module _ (problem : Problem) (stages : List Stage) (split : AreSplit problem.tie
     abbrev count : List (List Sym) → ℕ
     count T = count_at problem r T
 
-    long : (T : List (List Sym)) → r ≤ length (counts_on problem T)
-    long T = omega (arith, within, length-map problem.constraints (λ c. violations_of c T))
-
     first : (e : ℕ) × Lists problem stages r (kind_of problem r []) e
     first = first_listed problem r stages (kind_of problem r []) certified.first
 
@@ -73,28 +67,13 @@ module _ (problem : Problem) (stages : List Stage) (split : AreSplit problem.tie
     -- and with that count it is r-optimal
     with_count : (T : List (List Sym)) → IsOptimalFor problem (r - 1) T → count T ≡ count example
         → IsOptimalFor problem r T
-    with_count T o e = record {
-      candidate = o.candidate;
-      least = λ U c. at_most_by_last r ranked (counts_on problem T) (counts_on problem U) (long T) (long U)
-          (o.least U c) (no_less U c);
-    }
-      where
-        no_less : (U : List (List Sym)) → IsCandidate problem U
-            → vec_cmp (take (r - 1) (counts_on problem T)) (take (r - 1) (counts_on problem U)) ≡ Equal
-            → count T ≤ count U
-        no_less U c same =
-            let other : IsOptimalFor problem (r - 1) U = alike_optimal problem (r - 1) T U o c same in
-            omega (arith, e, at_least U other)
+    with_count T o e =
+        optimal_by_count problem r within ranked T o (λ U other. omega (arith, e, at_least U other))
 
     has_count : (T : List (List Sym)) → IsOptimalFor problem r T → count T ≡ count example
     has_count T o =
         let before : IsOptimalFor problem (r - 1) T = optimal_for_fewer problem (r - 1) r (omega arith) T o in
-        let same : vec_cmp (take (r - 1) (counts_on problem T)) (take (r - 1) (counts_on problem example)) ≡ Equal =
-        both_equal (take (r - 1) (counts_on problem T)) (take (r - 1) (counts_on problem example))
-        (before.least example candidate) (told.shares.least T o.candidate) in
-        let most : count T ≤ count example = at_most_last r ranked (counts_on problem T) (counts_on problem example)
-        (long T) (long example) (o.least example candidate) same in
-        omega (arith, most, at_least T before)
+        omega (arith, least_count problem r within ranked T example o told.shares, at_least T before)
 
     falls_from_optimal : (T : List (List Sym)) → IsOptimalFor problem r T → AllFall problem stages r T
     falls_from_optimal T o j a b =

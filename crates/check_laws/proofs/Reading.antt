@@ -108,6 +108,10 @@ module _ (problem : Problem) (stages : List Stage) (split : AreSplit problem.tie
         subst (IsAt problem nodes states m) (append_assoc p (column ∷ []) q) rest.2,
       )
 
+  -- what is read from the start leads to the node of its kind
+  pub read_at : (q : List (List Sym)) (m : ℕ) → Leads states 0 q m → IsAt problem nodes states m q
+  read_at q m leads = (all_read q [] 0 m start (nothing_begun problem) leads).2
+
   -- what the automaton accepts is a candidate along which the potentials fall
   pub accepted_falls : (T : List (List Sym)) → Accepts states T → IsCandidate problem T × AllAlong problem stages [] T
   accepted_falls T a =

@@ -1,9 +1,9 @@
 -- The stages of a right answer are certified.
-use Rattle.std.proofs.Common.{◌≡◌, ℕ, zero, suc, ◌+◌, ◌-◌, ◌<◌, ◌≤◌, IsTrue, List, [], ◌∷◌, ◌++◌, take, drop, length}
-use Rattle.std.proofs.Common.{get_or, refl, sym, ap, ◌∙◌, subst, arith, inl, inr, append-nil, append_assoc, take_at}
+use Rattle.std.proofs.Common.{◌≡◌, ℕ, zero, suc, ◌+◌, ◌-◌, ◌<◌, ◌≤◌, IsTrue, List, [], ◌∷◌, ◌++◌, take, drop}
+use Rattle.std.proofs.Common.{get_or, refl, sym, ap, ◌∙◌, subst, arith, inl, inr, append-nil, append_assoc}
 use Rattle.std.proofs.Common.{All, Contains, Some, slice_get}
 use Rattle.std.proofs.lemmas.Bool.{cases_lt}
-use Rattle.std.proofs.lemmas.List.{length-append, length-map, take-append-drop}
+use Rattle.std.proofs.lemmas.List.{length-map}
 use Rattle.tier_core.specs.declared.sym.Sym.{Sym}
 use Rattle.tier_core.specs.Kinds.{PrefixKind, kind_order}
 use Rattle.violation.specs.Candidates.{IsCandidate, IsOptimalFor, counts_on, count_at}
@@ -30,6 +30,7 @@ use Rattle.check_laws.proofs.Continuing.{kept_longer, exchanged, swapped, goes_o
 use Rattle.check_laws.proofs.Starts.{first_is, none_before_start, possible}
 use Rattle.violation.specs.Problems.{Problem, last_stage}
 use Rattle.violation.proofs.FewerStages.{same_fewer, least_rest}
+use Rattle.violation.proofs.CutCandidates.{prefix_passed, optimal_cut}
 
 -- at stage 0 nothing remains
 none_remains : (problem : Problem) (r : ℕ) (k : PrefixKind) (p : ℕ) → r ≤ 0 → IsRemaining problem r k p → p ≡ 0
@@ -52,23 +53,11 @@ module _ (problem : Problem) (answer : Answer) (given : IsGiven problem answer) 
         (
           drop n T,
           (
-            subst (IsOptimalFor problem r) (sym (take-append-drop n T)) passed.passes.optimal,
+            optimal_cut problem T n r passed.passes.optimal,
             passed.passes.of_kind,
           ),
         ),
       )
-
-  pub passed_parts : (r s : ℕ) (v q : List (List Sym)) → IsOptimalFor problem r (v ++ q)
-      → IsPassed problem r s (kind_of problem s v)
-  passed_parts r s v q o = record {
-    candidate = v ++ q;
-    columns = length v;
-    passes = record {
-      optimal = o;
-      within = omega (arith, length-append v q);
-      of_kind = ap (kind_of problem s) (take_at v q (length v) refl);
-    };
-  }
 
   pub example_optimal : (r : ℕ) → r ≤ last_stage problem → IsOptimalFor problem r answer.example
   example_optimal r w = optimal_for_fewer problem r (last_stage problem) w answer.example given.right.example.member
@@ -112,13 +101,13 @@ module _ (problem : Problem) (answer : Answer) (given : IsGiven problem answer) 
         subst (Contains (kinds_at problem (r - 1) (nodes_at answer.stages.items (r - 1))))
         (sym (cut_kind-kind_of problem (r - 1) r (omega arith) h.0) ∙ ap (cut_kind problem (r - 1)) h.1.1.1)
         (((given.right.each_stage (r - 1) (omega arith)).kinds.members (kind_of problem (r - 1) h.0)).1
-        (passed_parts (r - 1 - 1) (r - 1) h.0 h.1.0 fewer)))
+        (prefix_passed problem (r - 1 - 1) (r - 1) h.0 h.1.0 fewer refl)))
 
     start_first : slice_get kinds 0 ≡ Some (kind_of problem r [])
     start_first =
         first_is kinds (given.right.each_stage r within).kinds.ascending (kind_of problem r [])
         (((given.right.each_stage r within).kinds.members (kind_of problem r [])).1
-        (passed_parts (r - 1) r [] answer.example (example_optimal (r - 1) (omega arith))))
+        (prefix_passed problem (r - 1) r [] answer.example (example_optimal (r - 1) (omega arith)) refl))
         (λ k m e.
         let h = parted_passed (r - 1) r k (member_passed k m) in
         none_before_start problem r
@@ -169,7 +158,7 @@ module _ (problem : Problem) (answer : Answer) (given : IsGiven problem answer) 
       next_listed =
           let far = goes_on problem answer given (r - 1) (omega arith) earlier (v ++ column ∷ []) more fall in
           listed_by problem answer given r within (kind_of problem r (v ++ column ∷ []))
-          (passed_parts (r - 1) r (v ++ column ∷ []) far.0 far.1)
+          (prefix_passed problem (r - 1) r (v ++ column ∷ []) far.0 far.1 refl)
 
       remaining : IsRemaining problem r (kind_of problem r v) p
       remaining = remains problem answer given r within (kind_of problem r v) p here

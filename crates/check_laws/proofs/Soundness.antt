@@ -10,12 +10,13 @@ use Rattle.tier_core.specs.declared.sym.Sym.{Sym}
 use Rattle.tier_core.specs.declared.constraint.Constraint.{Constraint}
 use Rattle.tier_core.specs.Kinds.{PrefixKind}
 use Rattle.tier_core.specs.Tiers.{Tiers}
-use Rattle.violation.specs.Candidates.{IsCandidate, IsOptimal, IsLeastVector}
+use Rattle.violation.specs.Candidates.{IsOptimal, IsLeastVector}
 use Rattle.violation.specs.Conditions.{AreSplit, IsOverTiers}
 use Rattle.violation.specs.Counts.{violations_of}
 use Rattle.violation.specs.Prefixes.{kind_of}
 use Rattle.violation.specs.Stages.{IsKindOfStage}
 use Rattle.violation.proofs.LeastVector.{vector_of_numbers}
+use Rattle.violation.proofs.CutCandidates.{candidate_cut}
 use Rattle.answer_text.specs.declared.answer.Answer.{Answer}
 use Rattle.answer_text.specs.Acceptance.{Accepts}
 use Rattle.answer_text.specs.Right.{nodes_at, kinds_at, numbers_of}
@@ -74,7 +75,7 @@ module _ (problem : Problem) (answer : Answer) (split : AreSplit problem.tiers)
       let falls = ((told (r - 1) (omega arith)).optimal T o.candidate).0 o in
       let here = listed_on problem answer.stages.items split certified.well_formed over answer.counts.items r w
       (certified.each_stage r w) (take n T) [] (drop n T)
-      (subst (IsCandidate problem) (sym parts) o.candidate)
+      (candidate_cut problem T n o.candidate)
       (λ j a b. (falls_parts problem answer.stages.items j (take n T) [] (drop n T)
       (subst (FallsAlong problem answer.stages.items j []) (sym parts) (falls j a (omega arith)))).0)
       (first_listed problem r answer.stages.items (kind_of problem r []) (certified.each_stage r w).first) in

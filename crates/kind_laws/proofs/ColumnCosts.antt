@@ -13,6 +13,7 @@ use Rattle.violation.specs.Moves.{costs}
 use Rattle.violation.specs.Prefixes.{phase}
 use Rattle.violation.specs.Problems.{Problem}
 use Rattle.violation.specs.Stages.{IsStage}
+use Rattle.violation.proofs.Countable.{countable_over}
 use Rattle.violation.proofs.CountSteps.{whole}
 use Rattle.violation.proofs.MoveLemmas.{opened_after, column_costs}
 use Rattle.violation.proofs.WholeCounts.{so_far_none}
@@ -24,13 +25,7 @@ few_bit false = omega arith
 module _ (width : ℕ) (T : List (List Sym)) (well : IsWellFormed width T) where
   module _ (c : Constraint) (over : IsOverTiers width c) where
     countable : IsCountable c.left c.right T
-    countable = record {
-      width = width;
-      well_formed = well;
-      left_below = over.left_below;
-      right_below = over.right_below;
-      some_left = over.some_left;
-    }
+    countable = countable_over over well
 
     pub adds_one : (n : ℕ) → n < length T → violations_so_far c T (suc n) ≤ violations_so_far c T n + 1
     adds_one n l =

@@ -8,7 +8,7 @@ use Rattle.std.specs.Cmp.{nat_cmp_is}
 use Rattle.std.specs.Cmp.Lexicographic.{slice_cmp}
 use Rattle.std.specs.declared.cmp.Ordering.TheVariants.{Greater}
 use Rattle.std.proofs.lemmas.Bool.{false≢true, cases_lt}
-use Rattle.std.proofs.lemmas.List.{length-append, length-take-le, take-append-drop}
+use Rattle.std.proofs.lemmas.List.{length-append, length-take-le}
 use Rattle.tier_core.specs.declared.sym.Sym.{Sym}
 use Rattle.tier_core.specs.Kinds.{PrefixKind}
 use Rattle.tier_core.specs.Orders.{IsFirst, column_cmp, timeline_cmp}
@@ -22,6 +22,7 @@ use Rattle.violation.specs.Stages.{IsStage, IsPassed, IsLeastRest, IsRemaining, 
 use Rattle.violation.proofs.StageLemmas.{over_stretches}
 use Rattle.violation.proofs.WalkLemmas.{begun_of, candidate_walk, moved_is, walk_on}
 use Rattle.violation.proofs.FewerStages.{same_fewer, least_rest}
+use Rattle.violation.proofs.CutCandidates.{prefix_passed, optimal_cut}
 use Rattle.kind_laws.specs.Ways.{kinds_passed, HasEachPassed}
 use Rattle.kind_laws.proofs.ColumnCosts.{stage_few}
 use Rattle.kind_laws.proofs.GoingOn.{lower, optimal_exchanged}
@@ -42,25 +43,13 @@ module _ (problem : Problem) (r s : ℕ) (stage : IsStage problem s) where
 
   -- ---- the kinds that are passed are kinds of prefixes
 
-  one_passed : (p way : List (List Sym)) → IsOptimalFor problem r (p ++ way)
-      → IsPassed problem r s (kind_of problem s p)
-  one_passed p way o = record {
-    candidate = p ++ way;
-    columns = length p;
-    passes = record {
-      optimal = o;
-      within = omega (arith, length-append p way);
-      of_kind = ap (kind_of problem s) (take_at p way (length p) refl);
-    };
-  }
-
   each_passed : (way p : List (List Sym)) → IsOptimalFor problem r (p ++ way)
       → AllByRecursion (IsPassed problem r s) (kinds_passed problem s (kind_of problem s p) way)
-  each_passed [] p o = (one_passed p [] o, tt)
+  each_passed [] p o = (prefix_passed problem r s p [] o refl, tt)
   each_passed (column ∷ way) p o =
       let on : IsOptimalFor problem r ((p ++ column ∷ []) ++ way) =
       subst (IsOptimalFor problem r) (sym (append_assoc p (column ∷ []) way)) o in (
-        one_passed p (column ∷ way) o,
+        prefix_passed problem r s p (column ∷ way) o refl,
         subst (λ k. AllByRecursion (IsPassed problem r s) (kinds_passed problem s k way))
             (sym (leads p column way on.candidate)) (each_passed way (p ++ column ∷ []) on),
       )
@@ -167,7 +156,7 @@ remaining_short problem r stage ranked k m rest ks has =
     let size : length (take n T) ≡ n = length-take-le n T passes.within in
     let w : IsWay problem (r - 1) r stage (take n T) (drop n T) =
     find problem (r - 1) r stage fewer (drop n T) (take n T)
-    (subst (IsOptimalFor problem (r - 1)) (sym (take-append-drop n T)) passes.optimal) in
+    (optimal_cut problem T n (r - 1) passes.optimal) in
     let long : length (take n T ++ w.way) ≡ length (take n T) + length w.way = length-append (take n T) w.way in
     let goes : Passes problem (r - 1) r k (take n T ++ w.way) n = record {
       optimal = w.optimal;

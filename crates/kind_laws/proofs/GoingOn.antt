@@ -8,7 +8,7 @@ use Rattle.violation.proofs.CostLemmas.{exchange}
 use Rattle.violation.proofs.StageLemmas.{all_optimal, optimal_for_fewer, over_first}
 use Rattle.violation.proofs.WalkSums.{walk_cost, violations_on, so_far_walk}
 use Rattle.kind_laws.specs.Follows.{Adds}
-use Rattle.kind_laws.proofs.Ranks.{least_count, optimal_by_count}
+use Rattle.violation.proofs.Ranks.{least_count, optimal_by_count}
 use Rattle.violation.specs.Problems.{Problem}
 use Rattle.violation.proofs.FewerStages.{same_fewer}
 

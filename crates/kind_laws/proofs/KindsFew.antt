@@ -1,7 +1,7 @@
 -- The kinds of a stage are among the names.
 use Rattle.std.proofs.Common.{ℕ, zero, suc, ◌+◌, ◌*◌, ◌^◌, ◌≤◌, Bool, true, false, cond, List, [], ◌∷◌, ◌++◌, map}
-use Rattle.std.proofs.Common.{filter, take, drop, length, sym, ap, subst, arith, Contains}
-use Rattle.std.proofs.lemmas.List.{length-take, take-append-drop}
+use Rattle.std.proofs.Common.{filter, take, drop, length, ap, subst, arith, Contains}
+use Rattle.std.proofs.lemmas.List.{length-take}
 use Rattle.std.proofs.lemmas.Nat.{mul-le}
 use Rattle.tier_core.specs.declared.sym.Sym.{Sym}
 use Rattle.tier_core.specs.Kinds.{PrefixKind}
@@ -15,7 +15,8 @@ use Rattle.violation.proofs.StageLemmas.{over_stretches}
 use Rattle.violation.proofs.WalkLemmas.{begun_of}
 use Rattle.violation.specs.Problems.{Problem, last_stage, last_place}
 use Rattle.violation.proofs.ClosedPhases.{phases_closed}
-use Rattle.kind_laws.proofs.Ascending.{ascending_few}
+use Rattle.violation.proofs.CutCandidates.{candidate_cut}
+use Rattle.tier_core.proofs.AscendingKinds.{ascending_few}
 use Rattle.kind_laws.proofs.Names.{names, name_count, name_in}
 
 module _ (problem : Problem) (r : ℕ) (stage : IsStage problem r) where
@@ -32,7 +33,7 @@ module _ (problem : Problem) (r : ℕ) (stage : IsStage problem r) where
   kind_named k h =
       let T : List (List Sym) = h.candidate in
       let whole : IsCandidate problem (take h.columns T ++ drop h.columns T) =
-      subst (IsCandidate problem) (sym (take-append-drop h.columns T)) h.passes.optimal.candidate in
+      candidate_cut problem T h.columns h.passes.optimal.candidate in
       subst (Contains (names problem r)) h.passes.of_kind
       (prefix_named (take h.columns T) (begun_of problem (take h.columns T) (drop h.columns T) whole))
 

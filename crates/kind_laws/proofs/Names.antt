@@ -1,14 +1,15 @@
 -- Names for kinds: a place, open free tiers, and whether each open stretch is met.
-use Rattle.std.proofs.Common.{◌≡◌, ℕ, zero, suc, ◌+◌, ◌*◌, ◌^◌, ◌<◌, ◌≤◌, Bool, true, false, not, cond, List, [], ◌∷◌}
+use Rattle.std.proofs.Common.{◌≡◌, ℕ, zero, suc, ◌+◌, ◌*◌, ◌^◌, ◌≤◌, Bool, true, false, not, cond, List, [], ◌∷◌}
 use Rattle.std.proofs.Common.{◌++◌, map, length, refl, sym, ap, ◌∙◌, subst, arith, Contains}
 use Rattle.std.specs.List.{flat_map, range_with_len}
 use Rattle.std.proofs.lemmas.Bool.{false≢true}
 use Rattle.std.proofs.lemmas.List.{length-append, length-map}
 use Rattle.std.proofs.lemmas.List.Elements.{Contains-append_left, Contains-append_right}
-use Rattle.std.proofs.lemmas.List.FromFn.{length-range_with_len, get_or-range_with_len}
+use Rattle.std.proofs.lemmas.List.FromFn.{length-range_with_len}
 use Rattle.tier_core.specs.declared.constraint.Constraint.{Constraint}
 use Rattle.tier_core.specs.Kinds.{Phase, closed, unmet, met, PrefixKind}
 use Rattle.tier_core.proofs.Members.{contains_first, contains_map, contains_flat}
+use Rattle.tier_core.proofs.RangeMembers.{range_has}
 use Rattle.violation.specs.Moves.{is_met_phase}
 use Rattle.violation.specs.Phases.{is_closed, is_left_open, AreClosedOr}
 use Rattle.violation.specs.Prefixes.{stretches}
@@ -58,13 +59,6 @@ flat_count f n each (x ∷ xs) =
     let more : length (flat_map f xs) ≡ length xs * n = flat_count f n each xs in
     length-append (f x) (flat_map f xs) ∙ ap (λ m. m + length (flat_map f xs)) one ∙ ap (λ m. n + m) more
     ∙ sym (times_more (length xs) n)
-
-pub range_in : (n i : ℕ) → i < n → Contains (range_with_len 0 n) i
-range_in n i l =
-    (i, omega (arith, length-range_with_len 0 n), get_or-range_with_len 0 n i i l ∙ from_zero i)
-  where
-    from_zero : (i : ℕ) → 0 + i ≡ i
-    from_zero i = omega arith
 
 -- phases from one flag for each implication: closed where it is not open, else met where the flag is set
 abbrev pub phases_by : (Constraint → Bool) → List Constraint → List Bool → List Phase
@@ -145,7 +139,7 @@ name_in problem r place is_open ps l h =
     let here : Contains (bases problem) (base place opened) =
     contains_flat (λ place. map (base place) (flags (length problem.tiers.free)))
     (range_with_len 0 (last_place problem + 1)) place (base place opened)
-    (range_in (last_place problem + 1) place (omega arith))
+    (range_has 0 (last_place problem + 1) place (omega arith) (omega arith))
     (contains_map (base place) (flags (length problem.tiers.free)) opened (flags_in is_open problem.tiers.free)) in
     let met_flags : Contains (flags (length cs)) (map is_met_phase ps) =
     subst (λ n. Contains (flags n) (map is_met_phase ps)) (as_many (is_left_open problem (base place opened)) cs ps h)

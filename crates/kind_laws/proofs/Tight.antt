@@ -1,7 +1,6 @@
 -- Optimal candidates go by tight steps.
 use Rattle.std.proofs.Common.{◌≡◌, ℕ, zero, suc, ◌+◌, ◌-◌, ◌≤◌, List, [], ◌∷◌, ◌++◌, take, drop, length, refl, sym, ap}
-use Rattle.std.proofs.Common.{◌∙◌, subst, arith, append_assoc, take_at}
-use Rattle.std.proofs.lemmas.List.{length-append, length-take-le, take-append-drop}
+use Rattle.std.proofs.Common.{◌∙◌, subst, arith, append_assoc}
 use Rattle.tier_core.specs.declared.sym.Sym.{Sym}
 use Rattle.tier_core.specs.Kinds.{PrefixKind}
 use Rattle.violation.specs.Candidates.{IsCandidate, IsOptimalFor, count_at, count_so_far_at}
@@ -12,10 +11,11 @@ use Rattle.violation.proofs.StageLemmas.{optimal_for_fewer, over_stretches}
 use Rattle.violation.proofs.WalkLemmas.{moved_is}
 use Rattle.violation.proofs.WalkSums.{none_at, walk_cost, walk_step, violations_walk}
 use Rattle.kind_laws.specs.Steps.{IsTightStep, HasTightSteps}
-use Rattle.kind_laws.proofs.Ranks.{least_count, optimal_by_count}
+use Rattle.violation.proofs.Ranks.{least_count, optimal_by_count}
 use Rattle.kind_laws.proofs.GoingOn.{optimal_exchanged, lower, rest, adds_rest, rest_alike, so_far_alike}
 use Rattle.violation.specs.Problems.{Problem}
 use Rattle.violation.proofs.FewerStages.{same_fewer, least_rest}
+use Rattle.violation.proofs.CutCandidates.{prefix_passes, optimal_cut, violations_cut}
 
 from_rest : (problem : Problem) (r : ℕ) (k : PrefixKind) (m : ℕ) → 1 ≤ r → IsLeastRest problem r k m
     → IsRemaining problem r k m
@@ -53,21 +53,10 @@ module _ (problem : Problem) (r : ℕ) (stage : IsStage problem r) (ranked : 1 �
     least_here : (T : List (List Sym)) (n : ℕ) → Passes problem (r - 1) r (kind_of problem r p) T n
         → count_so_far_at problem r T n + rest problem r stage ranked p q ≤ count_at problem r T
     least_here T n passes =
-        let parts : take n T ++ drop n T ≡ T = take-append-drop n T in
-        let optimal : IsOptimalFor problem (r - 1) (take n T ++ drop n T) =
-        subst (IsOptimalFor problem (r - 1)) (sym parts) passes.optimal in
-        let total : count_at problem r (take n T ++ drop n T) ≡ count_at problem r T =
-        ap (λ (v : List (List Sym)). count_at problem r v) parts in
-        let so_far : count_so_far_at problem r (take n T ++ drop n T) (length (take n T))
-        ≡ count_so_far_at problem r T n =
-        ap (λ (v : List (List Sym)). count_so_far_at problem r v (length (take n T))) parts
-        ∙ ap (λ (m : ℕ). count_so_far_at problem r T m) (length-take-le n T passes.within) in
         omega (
           arith,
-          no_less (take n T) (drop n T) optimal passes.of_kind,
-          adds_rest problem r stage ranked (take n T) (drop n T) optimal.candidate,
-          total,
-          so_far,
+          no_less (take n T) (drop n T) (optimal_cut problem T n (r - 1) passes.optimal) passes.of_kind,
+          violations_cut problem T n r stage ranked passes.within passes.optimal.candidate,
         )
 
     -- what remains after a prefix of an r-optimal candidate is what follows it
@@ -78,11 +67,7 @@ module _ (problem : Problem) (r : ℕ) (stage : IsStage problem r) (ranked : 1 �
         (
           length p,
           (
-            record {
-              optimal = before_last;
-              within = omega (arith, length-append p q);
-              of_kind = ap (kind_of problem r) (take_at p q (length p) refl);
-            },
+            prefix_passes problem (r - 1) r p q before_last refl,
             adds_rest problem r stage ranked p q o.candidate,
           ),
         ),

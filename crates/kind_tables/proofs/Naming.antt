@@ -1,9 +1,9 @@
 -- The names of a table of kinds are the kinds that its words pass.
 use Rattle.std.proofs.Common.{◌≤◌, ◌≡◌, ◌↔◌, ℕ, ◌<◌, List, [], ◌∷◌, ◌++◌, length, take, drop, refl, sym, ap, ◌∙◌, subst}
-use Rattle.std.proofs.Common.{arith, inl, inr, take_at}
+use Rattle.std.proofs.Common.{arith, inl, inr}
 use Rattle.std.specs.Prelude.{Contains}
 use Rattle.std.proofs.lemmas.Bool.{cases_order}
-use Rattle.std.proofs.lemmas.List.{get_or_default, length-append, take-append-drop}
+use Rattle.std.proofs.lemmas.List.{get_or_default, take-append-drop}
 use Rattle.weight_law.specs.declared.Weight.{Ghosts}
 use Rattle.tier_core.specs.declared.sym.Sym.{Sym}
 use Rattle.tier_core.specs.Kinds.{PrefixKind}
@@ -17,6 +17,7 @@ use Rattle.violation.specs.Stages.{Passes, IsPassed}
 use Rattle.violation.specs.Walks.{HasMoves, walk_end}
 use Rattle.violation.proofs.StageLemmas.{over_stretches}
 use Rattle.violation.proofs.WalkLemmas.{reached_is}
+use Rattle.violation.proofs.CutCandidates.{prefix_passes}
 use Rattle.kind_tables.specs.StageTables.{IsStage, name_of, GoesAsKinds, AreNamedByKinds}
 use Rattle.kind_tables.proofs.Paths.{IsParted, run_exists, parted, joined_run, joined_reads, path_word}
 use Rattle.violation.specs.Problems.{Problem}
@@ -67,17 +68,14 @@ module _ (problem : Problem) (r : ℕ) (stage : IsStage problem r) where
       pub passes_state : (before after : List (TableArc W g)) (s : ℕ) (p q : List (List Sym))
           → IsPath states 0 before s → Reads before p → IsRun states s after → Reads after q
           → Passes problem t r (name_of names s) (p ++ q) (length p)
-      passes_state before after s p q path first run rest = record {
-        optimal = (accepts (p ++ q)).0 (
-          before ++ after,
-          record {
-            run = joined_run states before after 0 s path run;
-            reads = joined_reads states before after p q first rest;
-          },
-        );
-        within = omega (arith, length-append p q);
-        of_kind = ap (kind_of problem r) (take_at p q (length p) refl) ∙ sym (path_kind named before s p path first);
-      }
+      passes_state before after s p q path first run rest =
+          prefix_passes problem t r p q ((accepts (p ++ q)).0 (
+            before ++ after,
+            record {
+              run = joined_run states before after 0 s path run;
+              reads = joined_reads states before after p q first rest;
+            },
+          )) (sym (path_kind named before s p path first))
 
       -- a t-optimal candidate is read in two parts, by way of the state that its first part's kind names
       pub passed_state : (k : PrefixKind) (T : List (List Sym)) (n : ℕ) → Passes problem t r k T n

@@ -1,14 +1,14 @@
 -- Right answers are small.
-use Rattle.std.proofs.Common.{◌≡◌, ℕ, ◌<◌, ◌≤◌, List, [], map, take, drop, length, get_or, ap, sym, ◌∙◌, subst, arith}
+use Rattle.std.proofs.Common.{◌≡◌, ℕ, ◌<◌, ◌≤◌, List, [], map, take, drop, length, get_or, ap, ◌∙◌, subst, arith}
 use Rattle.std.proofs.Common.{All, Contains}
 use Rattle.std.specs.List.{AllByRecursion, range_with_len}
-use Rattle.std.proofs.lemmas.List.{get_or-map, length-map, take-append-drop}
+use Rattle.std.proofs.lemmas.List.{get_or-map, length-map}
 use Rattle.std.proofs.lemmas.List.Elements.{All-contains, All-from_recursion, All-map, All-weaker}
 use Rattle.std.proofs.lemmas.List.FromFn.{length-range_with_len}
 use Rattle.std.proofs.lemmas.Option.{get_or_from_slice_get, slice_get_within}
 use Rattle.tier_core.specs.declared.sym.Sym.{Sym}
 use Rattle.tier_core.specs.Kinds.{PrefixKind}
-use Rattle.violation.specs.Candidates.{IsCandidate, IsForm}
+use Rattle.violation.specs.Candidates.{IsForm}
 use Rattle.violation.specs.Conditions.{AreSplit, IsOverTiers}
 use Rattle.violation.specs.Counts.{violations_of}
 use Rattle.violation.specs.Prefixes.{kind_of, kind_of_bits}
@@ -17,6 +17,7 @@ use Rattle.violation.specs.Stages.{IsKindOfStage, IsRemaining, IsStage}
 use Rattle.violation.proofs.PrefixLemmas.{IsBegun}
 use Rattle.violation.proofs.StageLemmas.{over_stretches}
 use Rattle.violation.proofs.WalkLemmas.{begun_of}
+use Rattle.violation.proofs.CutCandidates.{candidate_cut}
 use Rattle.answer_text.specs.declared.answer.Answer.{Answer}
 use Rattle.answer_text.specs.declared.automaton.StateLine.{StateLine}
 use Rattle.answer_text.specs.declared.stage.Node.{Node}
@@ -24,7 +25,7 @@ use Rattle.answer_text.specs.Right.{IsNodeOf, IsRight, kinds_at, nodes_at, numbe
 use Rattle.kind_laws.specs.Ways.{HasEachPassed}
 use Rattle.kind_laws.proofs.ColumnCosts.{whole_few}
 use Rattle.kind_laws.proofs.DirectWays.{first_short, remaining_few}
-use Rattle.kind_laws.proofs.Names.{range_in}
+use Rattle.tier_core.proofs.RangeMembers.{range_has}
 use Rattle.tier_core.proofs.Members.{All-from_members, contains_map}
 use Rattle.tier_core.proofs.Differing.{differ_from_pairs, no_longer}
 use Rattle.check_laws.proofs.Starts.{possible}
@@ -97,7 +98,7 @@ module _ (problem : Problem) (answer : Answer) (split : AreSplit problem.tiers)
       omega (
         arith,
         no_longer (range_with_len 0 (length (nodes (last_stage problem)))) (numbers_of states)
-            (λ n c. range_in (length (nodes (last_stage problem))) n (number_below n c))
+            (λ n c. range_has 0 (length (nodes (last_stage problem))) n (omega arith) (omega (arith, number_below n c)))
             (differ_from_pairs (numbers_of states) (numbers_apart (numbers_of states) right.automaton.ascending)),
         length-range_with_len 0 (length (nodes (last_stage problem))),
         length-map states (λ (state : StateLine). state.node),
@@ -112,7 +113,7 @@ module _ (problem : Problem) (answer : Answer) (split : AreSplit problem.tiers)
       let p : List (List Sym) = take h.columns h.candidate in
       let q : List (List Sym) = drop h.columns h.candidate in
       let begun : IsBegun problem (take h.columns h.candidate) = begun_of problem p q
-      (subst (IsCandidate problem) (sym (take-append-drop h.columns h.candidate)) h.passes.optimal.candidate) in
+      (candidate_cut problem h.candidate h.columns h.passes.optimal.candidate) in
       subst (λ (l : PrefixKind). l.place ≤ last_place problem) h.passes.of_kind
       (possible problem split form r (take h.columns h.candidate) begun
       (over_stretches problem r (stage_at r within))).place

@@ -19,6 +19,7 @@ use Rattle.violation.specs.Prefixes.{kind_of}
 use Rattle.violation.specs.Rests.{counts_rest, PassesWhole, IsLeastRestVector}
 use Rattle.violation.proofs.LeastVector.{one_vector, all_counts_taken}
 use Rattle.violation.proofs.StageLemmas.{all_optimal}
+use Rattle.violation.proofs.CutCandidates.{candidate_cut}
 use Rattle.kind_tables.specs.StageTables.{IsStage, name_of}
 use Rattle.kind_tables.specs.RankedTables.{IsRankedTable}
 use Rattle.kind_tables.proofs.Naming.{path_kind, same_state, passes_state, passed_state}
@@ -125,12 +126,10 @@ module _ (problem : Problem) (stage : IsStage problem (last_stage problem)) (few
       (run_exists states parts.middle parts.after parts.run) here found.1 in
       let run : IsRun states s parts.after = subst (λ x. IsRun states x parts.after) same parts.run in
       let whole : take n T ++ drop n T ≡ T = take-append-drop n T in
-      let candidate : IsCandidate problem (take n T ++ drop n T) = subst (IsCandidate problem)
-      (sym whole) passes.optimal.candidate in
       let rest : (weight_of parts.after).parts
       ≡ parts_of_vector (counts_rest problem (take n T ++ drop n T) (length (take n T))) =
       rest_vector problem stage few meaning names states table.named table.weighed parts.after s (take n T) (drop n T)
-      (sym passes.of_kind) run parts.reads_after candidate in
+      (sym passes.of_kind) run parts.reads_after (candidate_cut problem T n passes.optimal.candidate) in
       let total : counts_rest problem (take n T ++ drop n T) (length (take n T)) ≡ counts_rest problem T n =
       ap (λ (x : List (List Sym)). counts_rest problem x (length (take n T))) whole
       ∙ ap (λ (m : ℕ). counts_rest problem T m) (length-take-le n T passes.within) in

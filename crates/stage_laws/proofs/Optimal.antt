@@ -1,7 +1,5 @@
 -- The words of least weight of a stage's table are the candidates that its constraint leaves.
-use Rattle.std.proofs.Common.{◌≡◌, ◌↔◌, ℕ, zero, suc, ◌-◌, ◌≤◌, List, take, length, get_or, sym, ap, ◌∙◌, arith}
-use Rattle.std.proofs.lemmas.List.{length-map}
-use Rattle.std.specs.declared.cmp.Ordering.TheVariants.{Equal}
+use Rattle.std.proofs.Common.{◌≡◌, ◌↔◌, ℕ, zero, suc, ◌-◌, ◌≤◌, List, get_or, sym, ap, ◌∙◌, arith}
 use Rattle.weight_law.specs.Meaning.{AtMost}
 use Rattle.weight_law.specs.Count.{count_meaning}
 use Rattle.weight_law.specs.declared.Weight.{Ghosts}
@@ -12,21 +10,17 @@ use Rattle.arc_table.specs.declared.arc.TableArc.{TableArc}
 use Rattle.arc_table.specs.declared.state.TableState.{TableState}
 use Rattle.arc_table.specs.Runs.{weight_of, AcceptingRun, Accepts, IsLeastWord, IsLeastFrom}
 use Rattle.arc_table.proofs.SomeWord.{some_word}
-use Rattle.violation.specs.Candidates.{IsCandidate, vec_cmp, IsAtMost, IsOptimalFor, IsLeastVector, counts_on, count_at}
-use Rattle.violation.specs.Counts.{violations_of}
-use Rattle.violation.proofs.StageLemmas.{alike_optimal, optimal_for_fewer}
+use Rattle.violation.specs.Candidates.{IsOptimalFor, IsLeastVector, count_at}
+use Rattle.violation.proofs.Ranks.{least_count, optimal_by_count}
+use Rattle.violation.proofs.StageLemmas.{optimal_for_fewer}
 use Rattle.kind_tables.specs.StageTables.{IsStage, IsStageTable}
 use Rattle.stage_laws.proofs.Resting.{at_most_le, le_at_most, first_weight}
-use Rattle.violation.proofs.VectorLemmas.{both_equal, at_most_last, at_most_by_last}
 use Rattle.kind_tables.proofs.Weighing.{run_weight_law}
 use Rattle.violation.specs.Problems.{Problem, last_stage}
 
 module _ (problem : Problem) (r : ℕ) (stage : IsStage problem r) {g : Ghosts Count}
     (meaning : g.meaning ≡ count_meaning) (names : List PrefixKind) (states : List (TableState Count g))
     (table : IsStageTable problem r names states) (ranked : 1 ≤ r) where
-  within : (T : List (List Sym)) → r ≤ length (counts_on problem T)
-  within T = omega (arith, stage.within, length-map problem.constraints (λ c. violations_of c T))
-
   -- the violations of constraint r
   abbrev count : List (List Sym) → ℕ
   count T = count_at problem r T
@@ -36,29 +30,15 @@ module _ (problem : Problem) (r : ℕ) (stage : IsStage problem r) {g : Ghosts C
   weight_count arcs T run = run_weight_law problem r stage meaning names states table ranked arcs T run
 
   pub least_optimal : (T : List (List Sym)) → IsLeastWord states T → IsOptimalFor problem r T
-  least_optimal T word = record { candidate = before.candidate; least = least }
-    where
-      before : IsOptimalFor problem (r - 1) T
-      before = (table.accepts T).0 (word.0, word.1)
-
-      -- a candidate that the constraints before do not tell from T is accepted too, and weighs no less
-      no_less : (U : List (List Sym)) → IsCandidate problem U
-          → vec_cmp (take (r - 1) (counts_on problem T)) (take (r - 1) (counts_on problem U)) ≡ Equal
-          → count T ≤ count U
-      no_less U c e =
-          let other : IsOptimalFor problem (r - 1) U = alike_optimal problem (r - 1) T U before c e in
-          let accepted : Accepts states U = (table.accepts U).1 other in
-          omega (
-            arith,
-            at_most_le meaning (weight_of word.0) (weight_of accepted.0) (word.2 U accepted.0 accepted.1),
-            weight_count word.0 T word.1,
-            weight_count accepted.0 U accepted.1,
-          )
-
-      least : (U : List (List Sym)) → IsCandidate problem U
-          → IsAtMost (take r (counts_on problem T)) (take r (counts_on problem U))
-      least U c = at_most_by_last r ranked (counts_on problem T) (counts_on problem U) (within T) (within U)
-          (before.least U c) (no_less U c)
+  least_optimal T word =
+      optimal_by_count problem r stage.within ranked T ((table.accepts T).0 (word.0, word.1)) (λ U other.
+      let accepted : Accepts states U = (table.accepts U).1 other in
+      omega (
+        arith,
+        at_most_le meaning (weight_of word.0) (weight_of accepted.0) (word.2 U accepted.0 accepted.1),
+        weight_count word.0 T word.1,
+        weight_count accepted.0 U accepted.1,
+      ))
 
   pub optimal_least : (T : List (List Sym)) → IsOptimalFor problem r T → IsLeastWord states T
   optimal_least T opt = (accepted.0, accepted.1, least)
@@ -72,12 +52,8 @@ module _ (problem : Problem) (r : ℕ) (stage : IsStage problem r) {g : Ghosts C
       least : (U : List (List Sym)) (others : List (TableArc Count g)) → AcceptingRun states U others
           → AtMost g.meaning (weight_of accepted.0) (weight_of others)
       least U others run =
-          let other : IsOptimalFor problem (r - 1) U = (table.accepts U).0 (others, run) in
-          let same : vec_cmp (take (r - 1) (counts_on problem T)) (take (r - 1) (counts_on problem U)) ≡ Equal =
-          both_equal (take (r - 1) (counts_on problem T)) (take (r - 1) (counts_on problem U))
-          (before.least U other.candidate) (other.least T opt.candidate) in
-          let bound : count T ≤ count U = at_most_last r ranked (counts_on problem T) (counts_on problem U) (within T)
-          (within U) (opt.least U other.candidate) same in
+          let bound : count T ≤ count U = least_count problem r stage.within ranked T U opt
+          ((table.accepts U).0 (others, run)) in
           le_at_most meaning (weight_of accepted.0) (weight_of others)
           (omega (arith, bound, weight_count accepted.0 T accepted.1, weight_count others U run))
 

@@ -4,7 +4,7 @@ use Rattle.std.proofs.Common.{Option, None, Some, refl, sym, ap, ◌∙◌, subs
 use Rattle.std.specs.Prelude.{nat_lt, MatchOption, IsSome}
 use Rattle.std.proofs.lemmas.Bool.{cases_lt}
 use Rattle.std.proofs.lemmas.Bool.Decides.{nat_tests}
-use Rattle.std.proofs.lemmas.List.{get_or_past, take-append-drop, length-take-le}
+use Rattle.std.proofs.lemmas.List.{get_or_past}
 use Rattle.weight_law.specs.Meaning.{AtMost}
 use Rattle.weight_law.specs.Count.{count_meaning}
 use Rattle.weight_law.specs.declared.Weight.{Ghosts}
@@ -16,7 +16,7 @@ use Rattle.arc_table.specs.declared.state.TableState.{TableState}
 use Rattle.arc_table.specs.Runs.{IsRun, Reads, weight_of, IsLeastFrom, HasNoRun, IsOnRun}
 use Rattle.distances.specs.Least.{AreLeast}
 use Rattle.arc_table.proofs.SomeWord.{some_word}
-use Rattle.violation.specs.Candidates.{IsCandidate, count_at, count_so_far_at}
+use Rattle.violation.specs.Candidates.{count_at, count_so_far_at}
 use Rattle.violation.specs.Prefixes.{kind_of}
 use Rattle.violation.specs.Stages.{Passes, IsLeastRest, IsRemaining}
 use Rattle.violation.specs.Walks.{walk_costs}
@@ -25,6 +25,7 @@ use Rattle.kind_tables.specs.StageTables.{IsStage, name_of, IsStageTable}
 use Rattle.kind_tables.proofs.Paths.{IsParted, run_exists, path_word}
 use Rattle.kind_tables.proofs.Naming.{path_kind, same_state, passes_state, passed_state}
 use Rattle.violation.proofs.StageLemmas.{over_first}
+use Rattle.violation.proofs.CutCandidates.{candidate_cut, count_cut, so_far_cut}
 use Rattle.kind_tables.proofs.Weighing.{run_weight, rest_weight}
 use Rattle.violation.specs.Problems.{Problem}
 
@@ -76,20 +77,12 @@ module _ (problem : Problem) (r : ℕ) (stage : IsStage problem r) {g : Ghosts C
         let same : parts.middle ≡ s = same_state problem r stage names states table.named parts.middle s
         (run_exists states parts.middle parts.after parts.run) here found.1 in
         let run : IsRun states s parts.after = subst (λ x. IsRun states x parts.after) same parts.run in
-        let whole : take n T ++ drop n T ≡ T = take-append-drop n T in
-        let candidate : IsCandidate problem (take n T ++ drop n T) = subst (IsCandidate problem)
-        (sym whole) passes.optimal.candidate in
         let rest = rest_weight problem r stage meaning names states table.named table.weighed ranked parts.after s
-        (take n T) (drop n T) (sym passes.of_kind) run parts.reads_after candidate in
-        let total : count_at problem r (take n T ++ drop n T)
-        ≡ count_at problem r T = ap (λ (v : List (List Sym)). count_at problem r v) whole in
-        let so_far : count_so_far_at problem r (take n T ++ drop n T) (length (take n T))
-        ≡ count_so_far_at problem r T n =
-        ap (λ (v : List (List Sym)). count_so_far_at problem r v (length (take n T))) whole
-        ∙ ap (λ (m : ℕ). count_so_far_at problem r T m) (length-take-le n T passes.within) in
+        (take n T) (drop n T) (sym passes.of_kind) run parts.reads_after
+        (candidate_cut problem T n passes.optimal.candidate) in
         let bound : w.0 ≤ (weight_of parts.after).0 = at_most_le meaning w (weight_of parts.after)
         (from.least parts.after run) in
-        omega (arith, rest, total, so_far, bound)
+        omega (arith, rest, count_cut problem T n r, so_far_cut problem T n r passes.within, bound)
 
     pub least_rest : (s : ℕ) (w : Count) → IsLeastFrom states s w → IsLeastRest problem r (name_of names s) w.0
     least_rest s w from =

@@ -21,6 +21,7 @@ use Rattle.violation.specs.Counts.{violations_of, violations_so_far, so_far, vio
 use Rattle.violation.specs.Moves.{costs, costs_each, first_phase, is_tier_open, move_costs, next_kind, is_final}
 use Rattle.violation.specs.Prefixes.{is_open, phase, stretches, kind_of}
 use Rattle.violation.specs.Walks.{HasMoves, walk_end, add_each, walk_costs}
+use Rattle.violation.proofs.Countable.{countable_over}
 use Rattle.violation.proofs.CountSteps.{whole, all_agree}
 use Rattle.violation.proofs.MoveLemmas.{opened_after, column_costs}
 use Rattle.violation.proofs.PrefixLemmas.{IsBegun, tier_open_is}
@@ -161,13 +162,7 @@ module _ (problem : Problem) (r : ℕ) (split : AreSplit problem.tiers) (form : 
           (costs x.family x.left x.right (is_tier_open problem (kind_of problem r p))
           (phase x.left x.right p) column)
       adds x o =
-          let countable : IsCountable x.left x.right T = record {
-            width = problem.tiers.width;
-            well_formed = c.well_formed;
-            left_below = o.left_below;
-            right_below = o.right_below;
-            some_left = o.some_left;
-          } in
+          let countable : IsCountable x.left x.right T = countable_over o c.well_formed in
           let agree : AgreeOn (x.left ++ x.right) (opened_after T (length p))
           (is_tier_open problem (kind_of problem r p)) =
           all_weaker (λ e. e.tier < problem.tiers.width) _ (x.left ++ x.right)
@@ -195,14 +190,7 @@ module _ (problem : Problem) (r : ℕ) (split : AreSplit problem.tiers) (form : 
       (λ x o.
       let size : length T ≡ length p = ap length (e ∙ append-nil p) in
       let all : so_far x.family x.left x.right T (length p) ≡ viol x.family x.left x.right T =
-      whole x.family x.left x.right T (length p)
-      (record {
-        width = problem.tiers.width;
-        well_formed = c.well_formed;
-        left_below = o.left_below;
-        right_below = o.right_below;
-        some_left = o.some_left;
-      })
+      whole x.family x.left x.right T (length p) (countable_over o c.well_formed)
       (omega (arith, size)) (omega (arith, size)) in
       omega (arith, all))
       over)

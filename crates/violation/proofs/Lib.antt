@@ -32,3 +32,7 @@ pub mod ConstraintCosts
 pub mod InputParts
 pub mod FewerStages
 pub mod ClosedPhases
+pub mod CutCandidates
+pub mod Countable
+pub mod FirstKind
+pub mod Ranks

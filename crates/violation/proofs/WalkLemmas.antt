@@ -18,6 +18,7 @@ use Rattle.violation.specs.Conditions.{AreSplit, IsOverTiers, IsCountable}
 use Rattle.violation.specs.Moves.{FitsKind, input_of, next_kind, next_phases, next_phase, is_final}
 use Rattle.violation.specs.Prefixes.{is_open, kind_of, phase, stretches}
 use Rattle.violation.specs.Walks.{HasMoves, walk_end, BeginsCandidate}
+use Rattle.violation.proofs.Countable.{countable_over}
 use Rattle.violation.proofs.ChoiceLemmas.{all_map}
 use Rattle.violation.proofs.MoveLemmas.{next_phase_is}
 use Rattle.violation.proofs.OpenLemmas.{open_read, runs_reads, runs_closed, runs_append}
@@ -105,14 +106,7 @@ module _ (problem : Problem) (r : ℕ) (split : AreSplit problem.tiers) (form : 
   phases_next p column q c [] o = refl
   phases_next p column q c (x ∷ cs) o =
       let T : List (List Sym) = p ++ column ∷ q in
-      let countable : IsCountable x.left x.right T =
-      record {
-        width = problem.tiers.width;
-        well_formed = c.well_formed;
-        left_below = o.0.left_below;
-        right_below = o.0.right_below;
-        some_left = o.0.some_left;
-      } in
+      let countable : IsCountable x.left x.right T = countable_over o.0 c.well_formed in
       let within : length p < length T = omega (arith, length-append p (column ∷ q)) in
       let before : take (length p) T ≡ p = take_at p (column ∷ q) (length p) refl in
       let after : take (suc (length p)) T ≡ p ++ column ∷ [] =

@@ -1,4 +1,4 @@
--- Kinds that ascend differ.
+-- Kinds that ascend differ, so they are no more than the names among which they are.
 use Rattle.std.proofs.Common.{◌≡◌, ◌≢◌, ◌≤◌, List, [], ◌∷◌, length, ap, ◌∙◌, Contains}
 use Rattle.std.specs.List.Sorted.{IsStrictlySortedBy}
 use Rattle.std.specs.declared.cmp.Ordering.TheVariants.{Less}
@@ -7,7 +7,7 @@ use Rattle.tier_core.proofs.KindTies.{not_before_itself}
 use Rattle.tier_core.proofs.Members.{all_from_members, all_at_member}
 use Rattle.tier_core.proofs.Differing.{Differ, no_longer}
 
-ascending_differ : (ks : List PrefixKind) → IsStrictlySortedBy kind_order ks → Differ ks
+pub ascending_differ : (ks : List PrefixKind) → IsStrictlySortedBy kind_order ks → Differ ks
 unfolding IsStrictlySortedBy
 ascending_differ [] a = tt
 ascending_differ (k ∷ ks) a = (

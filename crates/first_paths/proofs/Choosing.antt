@@ -14,6 +14,7 @@ use Rattle.tier_core.specs.Classes.{has}
 use Rattle.tier_core.specs.Orders.{column_cmp}
 use Rattle.tier_core.specs.FirstColumn.{first_column}
 use Rattle.tier_core.proofs.Filled.{has-first_column, first_column_least}
+use Rattle.arc_table.proofs.SomeWord.{some_word}
 use Rattle.arc_table.proofs.OneRun.{length_read, same_move}
 use Rattle.arc_table.specs.declared.arc.TableArc.{TableArc}
 use Rattle.arc_table.specs.declared.state.TableState.{TableState}
@@ -103,11 +104,26 @@ module _ {V : Type 0} {h : Ghosts V} where
 
   module _ (states : List (TableState V h)) (exist : TargetsExist states) (disjoint : ClassesDisjoint states)
       (filled : ClassesFilled states) (left : List (Option Count)) (are : AreLengths states left) where
-    some_word : (s : ℕ) (arcs : List (TableArc V h)) → IsRun states s arcs → (word : List (List Sym)) × Reads arcs word
-    some_word s [] run = ([], tt)
-    some_word s (arc ∷ arcs) run =
-        let rest = some_word arc.target arcs run.1 in
-        (first_column arc.class ∷ rest.0, (has-first_column arc.class (filled s arc run.0), rest.1))
+    -- a run takes at least as many moves as are left
+    no_shorter : (s n : ℕ) → s < length states → IsLeft left s n → (arcs : List (TableArc V h)) → IsRun states s arcs
+        → n ≤ length arcs
+    no_shorter s n inside at arcs run =
+        let back = are.least s arcs inside run in
+        let both : Some back.0 ≡ Some at.0 = sym back.1 ∙ at.1 in
+        let one : back.0 ≡ at.0 = cc in
+        omega (arith, back.2, ap (λ (c : Count). c.0) one, at.2)
+
+    -- where it takes no more, its first move leads nearer
+    leads_nearer : (s n : ℕ) → s < length states → IsLeft left s (n + 1) → (b : TableArc V h)
+        (moves : List (TableArc V h)) → IsRun states s (b ∷ moves)
+        → (n ≤ length moves) × (length moves ≤ n → HasLeft left n b)
+    leads_nearer s n inside at b moves run =
+        let near = are.least b.target moves (exist s b run.0) run.1 in
+        let best = are.some b.target near.0 near.1 in
+        let least = no_shorter s (n + 1) inside at (b ∷ best.0) (run.0, best.1) in (
+          omega (arith, least, best.2, near.2),
+          λ few. (near.0, near.1, omega (arith, few, near.2, best.2, least)),
+        )
 
     -- with no move left the empty word is the first
     pub first_empty : (s : ℕ) → IsLeft left s 0 → IsFirstFrom states s []
@@ -129,11 +145,8 @@ module _ {V : Type 0} {h : Ghosts V} where
         → IsFirstFrom states s word → length word ≡ n
     first_length s n word inside at first =
         let mine = first.accepted in
-        let bound = are.least s mine.0 inside mine.1 in
         let run = are.some s at.0 at.1 in
-        let other = some_word s run.0 run.1 in
-        let same : bound.0.0 ≡ n = (let both : Some bound.0 ≡ Some at.0 = sym bound.1
-        ∙ at.1 in let one : bound.0 ≡ at.0 = cc in ap (λ c. c.0) one ∙ at.2) in
+        let other = some_word states filled s run.0 run.1 in
         let upper : length word ≤ length other.0 = elim
         (first.first other.0 (run.0, run.1, other.1)) [ inl l ↦ omega arith | inr e ↦ omega (arith, e.0) ] in
         omega (
@@ -142,8 +155,7 @@ module _ {V : Type 0} {h : Ghosts V} where
           length_read run.0 other.0 other.1,
           run.2,
           at.2,
-          bound.2,
-          same,
+          no_shorter s n inside at mine.0 mine.1,
           upper,
         )
 
@@ -156,13 +168,7 @@ module _ {V : Type 0} {h : Ghosts V} where
             → (arc : TableArc V h) × Contains (moves_at states s) arc × HasLeft left n arc
         go [] run e = absurd (omega (arith, e))
         go (arc ∷ arcs) run e =
-            let near = are.least arc.target arcs (exist s arc run.0) run.1 in
-            let best = are.some arc.target near.0 near.1 in
-            let back = are.least s (arc ∷ best.0) inside (run.0, best.1) in
-            let same : back.0.0 ≡ n + 1 =
-            (let both : Some back.0 ≡ Some at.0 = sym back.1
-            ∙ at.1 in let one : back.0 ≡ at.0 = cc in ap (λ c. c.0) one ∙ at.2) in
-            (arc, run.0, (near.0, near.1, omega (arith, near.2, back.2, best.2, same, e)))
+            (arc, run.0, (leads_nearer s n inside at arc arcs run).1 (omega (arith, e)))
 
     module _ (s n : ℕ) (inside : s < length states) (at : IsLeft left s (n + 1)) (column : List Sym) (target : ℕ)
         (choice : IsLeastChoice left n (moves_at states s) column target) (word : List (List Sym))
@@ -223,20 +229,14 @@ module _ {V : Type 0} {h : Ghosts V} where
           long : (b : TableArc V h) (moves : List (TableArc V h)) (d : List Sym) (vs : List (List Sym))
               → IsRun states s (b ∷ moves) → Reads (b ∷ moves) (d ∷ vs) → IsFirstOf (column ∷ word) (d ∷ vs)
           long b moves d vs run reads =
-              let near = are.least b.target moves (exist s b run.0) run.1 in
-              let best = are.some b.target near.0 near.1 in
-              let back = are.least s (b ∷ best.0) inside (run.0, best.1) in
-              let same : back.0.0 ≡ n + 1 =
-              (let both : Some back.0 ≡ Some at.0 = sym back.1
-              ∙ at.1 in let one : back.0 ≡ at.0 = cc in ap (λ c. c.0) one ∙ at.2) in
+              let next = leads_nearer s n inside at b moves run in
               let size = length_read moves vs reads.1 in
               elim (cases_lt n (length moves)) [
                 | inl more ↦ inl (omega (arith, word_length, size, more))
                 | inr few ↦ inr (
-                  omega (arith, word_length, size, few, near.2, back.2, best.2, same),
-                  at_most_other b d vs moves run.0
-                      (near.0, near.1, omega (arith, few, near.2, back.2, best.2, same)) reads.0 run.1 reads.1
-                      (omega (arith, size, few, near.2, back.2, best.2, same)),
+                  omega (arith, word_length, size, few, next.0),
+                  at_most_other b d vs moves run.0 (next.1 (omega (arith, few))) reads.0 run.1 reads.1
+                      (omega (arith, size, few, next.0)),
                 )
               ]
 
@@ -246,10 +246,6 @@ module _ {V : Type 0} {h : Ghosts V} where
               go : (moves : List (TableArc V h)) (other : List (List Sym)) → IsRun states s moves → Reads moves other
                   → IsFirstOf (column ∷ word) other
               go [] other run reads =
-                  (let back = are.least s [] inside run in
-                  let same : back.0.0 ≡ n + 1 =
-                  (let both : Some back.0 ≡ Some at.0 = sym back.1
-                  ∙ at.1 in let one : back.0 ≡ at.0 = cc in ap (λ c. c.0) one ∙ at.2) in
-                  absurd (omega (arith, back.2, same)))
+                  absurd (omega (arith, no_shorter s (n + 1) inside at [] run))
               go (b ∷ moves) [] run reads = absurd reads
               go (b ∷ moves) (d ∷ vs) run reads = long b moves d vs run reads

@@ -14,10 +14,11 @@ use Rattle.arc_table.specs.declared.arc.TableArc.{TableArc}
 use Rattle.arc_table.specs.declared.state.TableState.{TableState}
 use Rattle.arc_table.specs.Conditions.{TargetsExist, ClassesDisjoint, ClassesFilled, OneWidth}
 use Rattle.arc_table.specs.Moves.{moves_at, accepting_at}
-use Rattle.arc_table.specs.Runs.{IsRun, IsPath, Reads, Accepts, IsOnRun}
+use Rattle.arc_table.specs.Runs.{Accepts, IsOnRun}
 use Rattle.arc_table.proofs.Push.{moves_exist}
 use Rattle.kind_tables.specs.StageTables.{name_of, AreNamedByKinds}
 use Rattle.kind_tables.proofs.Paths.{run_exists}
+use Rattle.stage_tables.proofs.SameWords.{GoesWith, words_with, on_runs_with}
 use Rattle.stage_tables.proofs.Zips.{zip_from, zip_to, zip_pairs}
 use Rattle.violation.specs.Problems.{Problem}
 
@@ -53,45 +54,18 @@ module _ {W V : Type 0} {g : Ghosts W} {h : Ghosts V} (old : List (TableState W 
       → IsTrue (has a.class column)
   reads_old a b column same reads = subst (λ (c : Class). IsTrue (has c column)) same.same_class reads
 
-  path_forth : (arcs : List (TableArc W g)) (s t : ℕ) → IsPath old s arcs t
-      → (others : List (TableArc V h)) × IsPath new s others t
-  path_forth [] s t path = ([], path)
-  path_forth (a ∷ arcs) s t path =
-      let b = forth s a path.0 in
-      let rest = path_forth arcs a.target t path.1 in
-      (b.0 ∷ rest.0, (b.1, subst (λ x. IsPath new x rest.0 t) (sym b.2.same_target) rest.1))
-
-  run_forth : (arcs : List (TableArc W g)) (s : ℕ) → IsRun old s arcs
-      → (others : List (TableArc V h)) × IsRun new s others × ((p : List (List Sym)) → Reads arcs p → Reads others p)
-  run_forth [] s run = ([], alike.ends s (run_exists old s [] run) ∙ run, λ p r. reads_none p r)
-    where
-      reads_none : (p : List (List Sym)) → Reads (let none : List (TableArc W g) = [] in none) p
-          → Reads (let none : List (TableArc V h) = [] in none) p
-      reads_none [] r = tt
-      reads_none (column ∷ p) r = absurd r
-  run_forth (a ∷ arcs) s run = go (forth s a run.0) (run_forth arcs a.target run.1)
-    where
-      go : ((b : TableArc V h) × Contains (moves_at new s) b × IsAlike a b)
-          → ((others : List (TableArc V h)) × IsRun new a.target others ×
-          ((p : List (List Sym)) → Reads arcs p → Reads others p))
-          → (others : List (TableArc V h)) × IsRun new s others ×
-          ((p : List (List Sym)) → Reads (a ∷ arcs) p → Reads others p)
-      go b rest = (b.0 ∷ rest.0, (b.1, subst (λ x. IsRun new x rest.0) (sym b.2.same_target) rest.1), reads)
-        where
-          reads : (p : List (List Sym)) → Reads (a ∷ arcs) p → Reads (b.0 ∷ rest.0) p
-          reads [] r = absurd r
-          reads (column ∷ p) r = (reads_new a b.0 column b.2 r.0, rest.2 p r.1)
+  pub alike_goes : GoesWith old new
+  alike_goes = record {
+    ends = λ s run. alike.ends s (run_exists old s [] run) ∙ run;
+    moves = λ s a column here reads.
+        (let b = forth s a here in (b.0, b.1, reads_new a b.0 column b.2 reads, b.2.same_target));
+  }
 
   -- each state that is on a run stays on one
-  pub alike_on_runs : ((s : ℕ) → s < length old → IsOnRun old s) → (s : ℕ) → s < length new → IsOnRun new s
-  alike_on_runs on_runs s l =
-      let on = on_runs s (omega (arith, l, alike.each_state)) in
-      let path = path_forth on.0 0 s on.1 in
-      let run = run_forth on.2.0 s on.2.1 in
-      (path.0, path.1, (run.0, run.1))
-
-  pub alike_accepts : (T : List (List Sym)) → Accepts old T → Accepts new T
-  alike_accepts T a = (let run = run_forth a.0 0 a.1.run in (run.0, record { run = run.1; reads = run.2 T a.1.reads }))
+  pub alike_on_runs : ClassesFilled old → ((s : ℕ) → s < length old → IsOnRun old s)
+      → (s : ℕ) → s < length new → IsOnRun new s
+  alike_on_runs filled on_runs s l =
+      on_runs_with old new alike_goes filled s (on_runs s (omega (arith, l, alike.each_state)))
 
   pub alike_targets : TargetsExist old → TargetsExist new
   alike_targets exist s b here =
@@ -164,4 +138,7 @@ alike_turned old new alike = record {
 pub alike_words : {W V : Type 0} {g : Ghosts W} {h : Ghosts V} (old : List (TableState W g))
     (new : List (TableState V h))
     → AreAlike old new → (T : List (List Sym)) → Accepts new T ↔ Accepts old T
-alike_words old new alike T = (alike_accepts new old (alike_turned old new alike) T, alike_accepts old new alike T)
+alike_words old new alike T = (
+  words_with new old (alike_goes new old (alike_turned old new alike)) T,
+  words_with old new (alike_goes old new alike) T,
+)

@@ -140,5 +140,5 @@ module _ {g : Ghosts Count} (frame : Frame) (kinds : List Kind) (old : List (Tab
       weighed = weighed;
       accepts = λ T. (let same = alike_words old new are_alike T in
           (λ a. (whole.accepts T).0 (same.0 a), λ x. same.1 ((whole.accepts T).1 x)));
-      on_runs = alike_on_runs old new are_alike whole.on_runs;
+      on_runs = alike_on_runs old new are_alike whole.named.filled whole.on_runs;
     }

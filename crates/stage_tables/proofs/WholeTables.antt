@@ -1,11 +1,11 @@
 -- All candidates are explored from the table of one state that accepts every timeline.
 use Rattle.std.proofs.Common.{◌≡◌, ℕ, ◌<◌, ◌≤◌, false, cond, ◌+◌, ◌-◌, ◌==◌, ne_eqb, List, [], ◌∷◌, ◌++◌, take, length}
-use Rattle.std.proofs.Common.{get_or, refl, ap, sym, ◌∙◌, subst, arith, Contains, zero, suc, replicate, inl, inr}
+use Rattle.std.proofs.Common.{get_or, refl, ap, sym, ◌∙◌, subst, arith, Contains, zero, suc, replicate}
 use Rattle.std.proofs.lemmas.Grind.{same_number_lists}
 use Rattle.std.proofs.lemmas.List.{length-take-le, length-replicate}
-use Rattle.std.proofs.lemmas.List.Elements.{Contains-push_cases}
 use Rattle.tier_core.specs.declared.sym.Sym.TheVariants.{Outside}
 use Rattle.tier_core.proofs.Filled.{filled_from}
+use Rattle.tier_core.proofs.Members.{contains_one}
 use Rattle.std.specs.Map.{keys_of, values_of}
 use Rattle.weight_law.specs.declared.Weight.{Ghosts}
 use Rattle.weight_law.specs.declared.count.Count.{Count}
@@ -38,12 +38,6 @@ use Rattle.stage_tables.proofs.KeptTables.{path_within}
 
 -- ---- the table
 
-only : {X : Type 0} (y x : X) → Contains (y ∷ []) x → y ≡ x
-only y x here = elim (Contains-push_cases [] y x here) [
-  | inl none ↦ absurd (omega (arith, none.1))
-  | inr same ↦ same
-]
-
 -- what is put behind nothing is first
 pub put_first : {X : Type 0} (old new : List X) (x : X) → old ≡ [] → new ≡ old ++ x ∷ [] → new ≡ x ∷ []
 put_first {X} old new x none put = put ∙ ap (λ (xs : List X). xs ++ x ∷ []) none
@@ -63,7 +57,7 @@ whole_states {g} frame old states state arc none put moves is =
     each : (s : ℕ) (a : TableArc UnitWeight g)
         → Contains (moves_at (let one : List (TableState UnitWeight g) = state ∷ [] in one) s) a
         → IsWholeMove frame a
-    each zero a here = subst (IsWholeMove frame) (only arc a
+    each zero a here = subst (IsWholeMove frame) (contains_one arc a
         (subst (λ (xs : List (TableArc UnitWeight g)). Contains xs a) moves here)) is
     each (suc s) a here = absurd (omega (arith, here.1))
 

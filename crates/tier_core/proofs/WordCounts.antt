@@ -44,17 +44,13 @@ starts_count b m zero k (s ∷ w) e h =
 starts_count b m (suc q) k (s ∷ w) e h =
     let after : runs (opens s) w ≡ true = (and_parts (fits b s) (runs (opens s) w) h).1 in
     count_append _ (cond (starts s) (pair_to m (next_end (suc m) w)) []) (constituents_from (suc m) w)
-    ∙ ap (λ n. n + count_by (λ c. eqb c.0 k) (constituents_from (suc m) w)) (own s)
+    ∙ ap (λ n. n + count_by (λ c. eqb c.0 k) (constituents_from (suc m) w)) (own (starts s))
     ∙ starts_count_zero (starts_count (opens s) (suc m) q k w (omega arith) after)
   where
-    own : (s : Sym) → count_by (λ c. eqb c.0 k) (cond (starts s) (pair_to m (next_end (suc m) w)) []) ≡ 0
-    own Outside = refl
-    own Inside = refl
-    own Start = count_none _ _ (all_weaker _ _ _ (λ c a. ne_eqb c.0 k (λ x. omega arith))
+    own : (b : Bool) → count_by (λ c. eqb c.0 k) (cond b (pair_to m (next_end (suc m) w)) []) ≡ 0
+    own true = count_none _ _ (all_weaker _ _ _ (λ c a. ne_eqb c.0 k (λ x. omega arith))
         (next_end_late m (suc m) w (omega arith)))
-    own End = refl
-    own Both = count_none _ _ (all_weaker _ _ _ (λ c a. ne_eqb c.0 k (λ x. omega arith))
-        (next_end_late m (suc m) w (omega arith)))
+    own false = refl
 
     starts_count_zero : {x y : ℕ} → x ≡ y → 0 + x ≡ y
     starts_count_zero p = omega arith
@@ -68,6 +64,10 @@ step p i m Start w = omega arith
 step p i m End w = count_cons p (i, m) (ended i (suc m) w)
 step p i m Both w = count_cons p (i, m) (ended m (suc m) w)
 
+next_start : (i m : ℕ) (b : Bool) → i ≤ m → cond b m i ≤ suc m
+next_start i m true l = omega arith
+next_start i m false l = omega arith
+
 pub ends_count : (i m q k : ℕ) (w : List Sym) → k ≡ m + q → i ≤ m
     → count_by (λ c. eqb c.1 k) (ended i m w) ≡ bit (ends (get_or w q Outside))
 ends_count i m q k [] e h = refl
@@ -75,13 +75,9 @@ ends_count i m zero k (s ∷ w) e h =
     let here : eqb m k ≡ true = eq-eqb m k (omega arith) in
     let rest : count_by (λ c. eqb c.1 k) (ended (cond (starts s) m i) (suc m) w) ≡ 0 =
     count_none _ _ (all_weaker _ _ _ (λ c a. ne_eqb c.1 k (λ x. omega arith))
-    (ended_late (cond (starts s) m i) (suc m) w (next_start (starts s)))) in
+    (ended_late (cond (starts s) m i) (suc m) w (next_start i m (starts s) h))) in
     step (λ c. eqb c.1 k) i m s w ∙ ap (λ n. bit (ends s && eqb m k) + n) rest ∙ (rw here (own (ends s)))
   where
-    next_start : (b : Bool) → cond b m i ≤ suc m
-    next_start true = omega arith
-    next_start false = omega arith
-
     own : (b : Bool) → bit (b && true) + 0 ≡ bit b
     own true = refl
     own false = refl
@@ -92,12 +88,8 @@ ends_count i m (suc q) k (s ∷ w) e h =
       arith,
       step (λ c. eqb c.1 k) i m s w,
       first,
-      ends_count (cond (starts s) m i) (suc m) q k w (omega arith) (next_start (starts s)),
+      ends_count (cond (starts s) m i) (suc m) q k w (omega arith) (next_start i m (starts s) h),
     )
-  where
-    next_start : (b : Bool) → cond b m i ≤ suc m
-    next_start true = omega arith
-    next_start false = omega arith
 
 -- pairs that start at n or later
 late_count : (i m n : ℕ) (w : List Sym) → n ≤ i → i ≤ m → count_by (covers n) (ended i m w) ≡ 0
@@ -147,13 +139,9 @@ covers_count b i m (suc q) n (s ∷ w) e r h g =
       step (covers n) i m s w,
       first,
       covers_count (opens s) (cond (starts s) m i) (suc m) q n w (omega arith) after (next_open s)
-          (next_start (starts s)),
+          (next_start i m (starts s) g),
     )
   where
-    next_start : (b : Bool) → cond b m i ≤ suc m
-    next_start true = omega arith
-    next_start false = omega arith
-
     next_open : (s : Sym) → opens s ≡ true → cond (starts s) m i < suc m
     next_open Outside x = omega arith
     next_open Inside x = omega arith
@@ -224,12 +212,8 @@ next_end_within i m (Both ∷ w) = (omega arith, tt)
 pub constituents_within : (m : ℕ) (w : List Sym) → AllByRecursion (λ c. c.1 < m + length w) (constituents_from m w)
 constituents_within m [] = tt
 constituents_within m (s ∷ w) =
-    all_append _ _ _ (own s) (all_weaker _ _ _ (λ c a. omega arith) (constituents_within (suc m) w))
+    all_append _ _ _ (own (starts s)) (all_weaker _ _ _ (λ c a. omega arith) (constituents_within (suc m) w))
   where
-    own : (s : Sym) → AllByRecursion (λ c. c.1 < m + suc (length w))
-        (cond (starts s) (pair_to m (next_end (suc m) w)) [])
-    own Outside = tt
-    own Inside = tt
-    own Start = all_weaker _ _ _ (λ c a. omega arith) (next_end_within m (suc m) w)
-    own End = tt
-    own Both = all_weaker _ _ _ (λ c a. omega arith) (next_end_within m (suc m) w)
+    own : (b : Bool) → AllByRecursion (λ c. c.1 < m + suc (length w)) (cond b (pair_to m (next_end (suc m) w)) [])
+    own true = all_weaker _ _ _ (λ c a. omega arith) (next_end_within m (suc m) w)
+    own false = tt

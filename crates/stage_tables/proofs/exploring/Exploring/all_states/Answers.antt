@@ -7,52 +7,27 @@ use Rattle.tier_core.specs.declared.kind.Kind.{Kind}
 use Rattle.stage_tables.proofs.Named.{new_targets, new_filled, new_width, new_disjoint}
 use Rattle.stage_tables.proofs.exploring.Exploring.all_states.Goals as goal
 
-pub of_states-requires-clause-some : goal.of_states-requires-clause-some
-of_states-requires-clause-some c =
-    let listed = c.states.new.listed in
-    let found = c.in_ok-states.ensures.found.found in
-    omega (arith, slice_get_within listed.kinds.entries 0 (found.start.0, 0) found.start.1, c.in_ok-states.ensures.each)
-
-pub of_states-requires-clause-few : goal.of_states-requires-clause-few
-of_states-requires-clause-few c = omega (
-  arith,
-  c.in_ok-states.ensures.each,
-  c.in_ok-states.ensures.found.few,
-  c.requires.few,
-)
-
-pub of_states-requires-clause-targets : goal.of_states-requires-clause-targets
-of_states-requires-clause-targets c =
+pub of_states-requires : goal.of_states-requires
+of_states-requires c =
     let exploring = c.args.self.now in
-    let listed = c.states.new.listed in
+    let frame = exploring.frame.now in
+    let kept = exploring.kept.now in
+    let entries = c.states.new.listed.kinds.entries in
+    let states = c.in_ok-states.states.items in
     let done = c.in_ok-states.ensures in
-    new_targets exploring.frame.now exploring.first exploring.stage exploring.kept.now.states.items
-    listed.kinds.entries done.found.found c.in_ok-states.states.items done.taken done.each
-
-pub of_states-requires-clause-disjoint : goal.of_states-requires-clause-disjoint
-of_states-requires-clause-disjoint c =
-    let exploring = c.args.self.now in
-    let listed = c.states.new.listed in
-    let done = c.in_ok-states.ensures in
-    new_disjoint exploring.frame.now exploring.first exploring.stage exploring.kept.now.states.items
-    listed.kinds.entries done.found.found c.in_ok-states.states.items done.taken done.each
-    exploring.kept.now.disjoint
-
-pub of_states-requires-clause-filled : goal.of_states-requires-clause-filled
-of_states-requires-clause-filled c =
-    let exploring = c.args.self.now in
-    let listed = c.states.new.listed in
-    let done = c.in_ok-states.ensures in
-    new_filled exploring.frame.now exploring.first exploring.stage exploring.kept.now.states.items
-    listed.kinds.entries done.found.found c.in_ok-states.states.items done.taken done.each
-
-pub of_states-requires-clause-one_width : goal.of_states-requires-clause-one_width
-of_states-requires-clause-one_width c =
-    let exploring = c.args.self.now in
-    let listed = c.states.new.listed in
-    let done = c.in_ok-states.ensures in
-    new_width exploring.frame.now exploring.first exploring.stage exploring.kept.now.states.items
-    listed.kinds.entries done.found.found c.in_ok-states.states.items done.taken done.each
+    let found = done.found.found in
+    record {
+      some = omega (arith, slice_get_within entries 0 (found.start.0, 0) found.start.1, done.each);
+      few = omega (arith, done.each, done.found.few, c.requires.few);
+      targets = new_targets frame exploring.first exploring.stage kept.states.items entries found states done.taken
+          done.each;
+      disjoint = new_disjoint frame exploring.first exploring.stage kept.states.items entries found states done.taken
+          done.each kept.disjoint;
+      filled = new_filled frame exploring.first exploring.stage kept.states.items entries found states done.taken
+          done.each;
+      one_width = new_width frame exploring.first exploring.stage kept.states.items entries found states done.taken
+          done.each;
+    }
 
 pub returns-clause-found : goal.returns-clause-found
 returns-clause-found c =

@@ -1,9 +1,10 @@
 -- What the loops over states and arcs keep.
-use Rattle.std.proofs.Common.{◌≡◌, ℕ, suc, ◌<◌, Bool, true, nat_lt, List, [], ◌∷◌, ◌++◌, map, Result, Ok}
+use Rattle.std.proofs.Common.{◌≡◌, ℕ, suc, ◌<◌, Bool, true, false, nat_lt, List, [], ◌∷◌, ◌++◌, map, Result, Ok}
 use Rattle.std.proofs.Common.{Err, refl, ap, sym, ◌∙◌, subst, arith}
 use Rattle.std.specs.List.{All, AllByRecursion}
 use Rattle.std.specs.List.Sorted.{IsStrictlySortedBy}
 use Rattle.std.specs.Ordering.{nat_cmp}
+use Rattle.std.specs.Prelude.{codes}
 use Rattle.std.specs.Result.{MatchResult}
 use Rattle.std.specs.declared.cmp.Ordering.TheVariants.{Less}
 use Rattle.std.proofs.lemmas.Bool.Decides.{nat_tests}
@@ -15,15 +16,16 @@ use Rattle.answer_text.specs.Readable.{AreReadableStates, IsReadableArc, IsReada
 use Rattle.answer_text.specs.Right.{numbers_of}
 use Rattle.answer_reader.specs.declared.answer_err.AnswerErr.{AnswerErr}
 use Rattle.answer_reader.specs.declared.lines.Lines.{Lines}
+use Rattle.answer_reader.specs.Cuts.{begins}
 use Rattle.answer_reader.specs.Left.{lines_left, Takes, Continues}
 use Rattle.answer_reader.specs.LineWords.{bare_state, with_arcs}
 use Rattle.answer_reader.specs.Lines.{end_line}
 use Rattle.answer_reader.specs.Orders.{follows, state_less}
-use Rattle.answer_reader.specs.States.{at_end, behind_states, in_state, with_arc, next_state, states_from}
-use Rattle.answer_reader.specs.Steps.{Fails}
+use Rattle.answer_reader.specs.States.{at_end, behind_states, in_state, with_arc, next_arc, next_state, states_from}
+use Rattle.answer_reader.specs.Steps.{Fails, line_then}
 use Rattle.answer_text.specs.Values.{StateValue, arc_value, state_value}
-use Rattle.answer_reader.proofs.Going.{fails_from, takes_on}
-use Rattle.answer_reader.proofs.StateSteps.{state_next, end_next}
+use Rattle.answer_reader.proofs.Going.{fails_from, takes_on, takes_fails}
+use Rattle.answer_reader.proofs.StateSteps.{state_next, end_next, arc_next, arcs_end}
 
 -- reading on behind these arcs of a state, whatever the state and the states before it
 pub record AreArcs (width nodes : ℕ) (old now : Lines) (arcs : List ArcLine) : Type 0 where
@@ -32,6 +34,51 @@ pub record AreArcs (width nodes : ℕ) (old now : Lines) (arcs : List ArcLine) :
       ≡ states_from width nodes (in_state more states (with_arcs state (map arc_value arcs))) now.number
       (lines_left now)
   pub readable : All (IsReadableArc width nodes) arcs
+
+pub arcs_start : (width nodes : ℕ) (old : Lines) (arcs : List ArcLine) → arcs ≡ [] → AreArcs width nodes old old arcs
+arcs_start width nodes old arcs none = subst (AreArcs width nodes old old) (sym none)
+    (record { goes_on = λ more states state. refl; readable = λ k d l. absurd (omega arith) })
+
+module _ (width nodes : ℕ) (old now : Lines) (arcs : List ArcLine) (are : AreArcs width nodes old now arcs) where
+  -- an arc comes next
+  here : begins (codes "arc ") now.rest.now ≡ true → (more : ℕ) (states : List StateValue) (state : ℕ × Bool)
+      → states_from width nodes (in_state more states (bare_state state)) old.number (lines_left old)
+      ≡ line_then (next_arc width nodes (map arc_value arcs)) (λ arc. states_from width nodes
+      (in_state more states (with_arc (with_arcs state (map arc_value arcs)) arc))) now.number (lines_left now)
+  here h more states state = are.goes_on more states state
+      ∙ arc_next width nodes more states (with_arcs state (map arc_value arcs)) now.number now.rest.now h
+
+  pub arc_read : (new : Lines) (arc : ArcLine) (arcs' : List ArcLine) → begins (codes "arc ") now.rest.now ≡ true
+      → Takes (next_arc width nodes (map arc_value arcs)) arc_value now new (Ok arc) → IsReadableArc width nodes arc
+      → arcs' ≡ arcs ++ arc ∷ [] → AreArcs width nodes old new arcs'
+  arc_read new arc arcs' h t is e = subst (AreArcs width nodes old new) (sym e) (record {
+    goes_on = λ more states state. here h more states state
+        ∙ takes_on (next_arc width nodes (map arc_value arcs)) arc_value (λ arc. states_from width nodes
+        (in_state more states (with_arc (with_arcs state (map arc_value arcs)) arc))) now new arc t
+        ∙ ap (λ xs. states_from width nodes (in_state more states (with_arcs state xs)) new.number (lines_left new))
+        (sym (map_push arc_value arcs arc));
+    readable = All-push (IsReadableArc width nodes) arcs arc are.readable is;
+  })
+
+  pub arc_refused : (new : Lines) (e : AnswerErr) → begins (codes "arc ") now.rest.now ≡ true
+      → Takes (next_arc width nodes (map arc_value arcs)) arc_value now new (Err e)
+      → (more : ℕ) (states : List StateValue) (state : ℕ × Bool)
+      → Fails e (states_from width nodes (in_state more states (bare_state state)) old.number (lines_left old))
+  arc_refused new e h t more states state =
+      fails_from e (states_from width nodes (in_state more states (bare_state state)) old.number (lines_left old))
+      (line_then (next_arc width nodes (map arc_value arcs)) (λ arc. states_from width nodes
+      (in_state more states (with_arc (with_arcs state (map arc_value arcs)) arc))) now.number (lines_left now))
+      (here h more states state)
+      (takes_fails (next_arc width nodes (map arc_value arcs)) arc_value (λ arc. states_from width nodes
+      (in_state more states (with_arc (with_arcs state (map arc_value arcs)) arc))) now new e t)
+
+  pub arcs_read : begins (codes "arc ") now.rest.now ≡ false
+      → (more : ℕ) (states : List StateValue) (state : ℕ × Bool)
+      → states_from width nodes (in_state more states (bare_state state)) old.number (lines_left old)
+      ≡ states_from width nodes (behind_states more (states ++ with_arcs state (map arc_value arcs) ∷ [])) now.number
+      (lines_left now)
+  arcs_read h more states state = are.goes_on more states state
+      ∙ arcs_end width nodes more states (with_arcs state (map arc_value arcs)) now.number now.rest.now h
 
 -- a state and its arcs
 module _ (width nodes : ℕ) (states : List StateValue) (more : ℕ) (old mid : Lines) where
@@ -42,6 +89,15 @@ module _ (width nodes : ℕ) (states : List StateValue) (more : ℕ) (old mid : 
       state_next width nodes more states old.number (lines_left old)
       ∙ takes_on (next_state nodes states) bare_state (λ x. states_from width nodes (in_state more states x)) old mid
       state t
+
+  pub state_refused : (e : AnswerErr) → Takes (next_state nodes states) bare_state old mid (Err e)
+      → Fails e (states_from width nodes (behind_states (suc more) states) old.number (lines_left old))
+  state_refused e t =
+      fails_from e (states_from width nodes (behind_states (suc more) states) old.number (lines_left old))
+      (line_then (next_state nodes states) (λ x. states_from width nodes (in_state more states x)) old.number
+      (lines_left old)) (state_next width nodes more states old.number (lines_left old))
+      (takes_fails (next_state nodes states) bare_state (λ x. states_from width nodes (in_state more states x)) old mid
+      e t)
 
 -- the end
 module _ (width nodes : ℕ) (states : List StateValue) (old mid : Lines) where

@@ -1,6 +1,8 @@
 -- Reading the pieces of a list one by one.
-use Rattle.std.proofs.Common.{◌≡◌, Bool, true, false, cond, List, [], ◌∷◌, ◌++◌, map, refl, ap, sym, ◌∙◌, append-nil}
+use Rattle.std.proofs.Common.{◌≡◌, ℕ, suc, ◌+◌, ◌<◌, Bool, true, false, cond, List, [], ◌∷◌, ◌++◌, map, refl, ap, sym}
+use Rattle.std.proofs.Common.{◌∙◌, append-nil, length, get_or, drop, arith}
 use Rattle.std.proofs.Common.{Option, Some, None, option_map, option_and_then}
+use Rattle.std.proofs.Math.Seq.{drop-cons}
 use Rattle.std.specs.List.{slice_split, onto_first}
 use Rattle.grammar_reader.specs.Statements.{each_some}
 use Rattle.grammar_reader.specs.Lexemes.{with_front}
@@ -15,6 +17,23 @@ pub some_none : {X Y : Type 0} (f : X → Option Y) (done : List Y) (x : X) (xs 
     → with_front done (each_some f (x ∷ xs)) ≡ None
 some_none f done x xs h = ap (λ o. with_front done
     (option_and_then (λ z. option_map (λ zs. z ∷ zs) (each_some f xs)) o)) h
+
+-- the same at the element of a list at which a loop stands
+module _ {X Y Z : Type 0} (f : X → Option Y) (seen : Z → X) (done : List Y) (zs : List Z) (i : ℕ) (z : Z)
+    (inside : i < length zs) where
+  one_more : suc i ≡ i + 1
+  one_more = omega arith
+
+  pub some_step : (y : Y) → f (seen (get_or zs i z)) ≡ Some y
+      → with_front (done ++ y ∷ []) (each_some f (map seen (drop (i + 1) zs)))
+      ≡ with_front done (each_some f (map seen (drop i zs)))
+  some_step y h = sym (ap (λ rest. with_front done (each_some f (map seen rest))) (drop-cons zs i z inside)
+      ∙ some_more f done (seen (get_or zs i z)) (map seen (drop (suc i) zs)) y h
+      ∙ ap (λ n. with_front (done ++ y ∷ []) (each_some f (map seen (drop n zs)))) one_more)
+
+  pub none_step : f (seen (get_or zs i z)) ≡ None → with_front done (each_some f (map seen (drop i zs))) ≡ None
+  none_step h = ap (λ rest. with_front done (each_some f (map seen rest))) (drop-cons zs i z inside)
+      ∙ some_none f done (seen (get_or zs i z)) (map seen (drop (suc i) zs)) h
 
 onto_map : {X Y : Type 0} (f : X → Y) (x : X) (parts : List (List X))
     → onto_first (f x) (map (map f) parts) ≡ map (map f) (onto_first x parts)

@@ -1,4 +1,4 @@
-ghost use Rattle.std.specs.Prelude.{◌≡◌, None, map, length, MatchResult};
+ghost use Rattle.std.specs.Prelude.{◌≡◌, [], None, map, length, MatchResult};
 ghost use Rattle.std.specs.List.{list_any};
 ghost use Rattle.std.specs.Str.{bytes_eq};
 ghost use Rattle.grammar_reader.specs.Names.{has_twice};
@@ -38,12 +38,12 @@ fn is_known(tiers: &Tiers<'_>, name: &[u8]) -> bool
     tiers.contains_key(name)
 }
 
-/// Whether some name is twice in a list.
-fn has_twice(alloc: Global, names: &[&[u8]]) -> Result<bool, LineErr>
+/// Whether some name is twice in a list, whose names go into a set.
+fn repeats<'a>(seen: &mut IndexSet<&'a [u8]>, names: &[&'a [u8]]) -> Result<bool, LineErr>
+    requires { seen.old.keys ≡ [] }
     ensures { MatchResult result (λ twice. twice ≡ has_twice (map (λ n. n.now) names.now))
         (λ e. e ≡ LineErr.NoMemory) }
 {
-    let mut seen = IndexSet::new(alloc);
     for name in names {
         if seen.contains(*name) {
             return Ok(true);
@@ -51,6 +51,15 @@ fn has_twice(alloc: Global, names: &[&[u8]]) -> Result<bool, LineErr>
         seen.insert(*name)?;
     }
     Ok(false)
+}
+
+/// Whether some name is twice in a list.
+fn has_twice(alloc: Global, names: &[&[u8]]) -> Result<bool, LineErr>
+    ensures { MatchResult result (λ twice. twice ≡ has_twice (map (λ n. n.now) names.now))
+        (λ e. e ≡ LineErr.NoMemory) }
+{
+    let mut seen = IndexSet::new(alloc);
+    repeats(&mut seen, names)
 }
 
 /// Whether a letter with this byte is defined.

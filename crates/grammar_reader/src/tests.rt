@@ -1,10 +1,18 @@
-use crate::{GrammarErr, put_grammar, read_grammar, shape, tokens};
+ghost use Rattle.std.specs.Prelude.{◌≤◌, length};
+
+use crate::{GrammarErr, Token, put_grammar, read_grammar, shape, tokens};
 use outside::{MemSink, SafeSink, WriteErr};
 use std::alloc::{AllocError, Global};
 use std::process::Abort;
 use std::test::Fail;
+use tier_core::Shape;
 
 const BASE: &[u8] = b"otp 1\ntier A input\ntier a overt\n";
+
+// That these bytes are those that are due, told with the text at hand.
+fn expect(rt: &impl Abort, found: &[u8], due: &[u8], text: &[u8]) {
+    assert_eq!(rt; found, due, "{text:?}");
+}
 
 // Adds a cell of a table, in which a dollar stands for a line feed.
 fn push_cell(text: &mut Vec<u8>, cell: &[u8]) -> Result<(), AllocError> {
@@ -51,28 +59,53 @@ const REFUSED_BEHIND: &[u8] =
 4 TooManyEvents|constraint X A -> a or a or a or a or a or a or a or a or a|constraint X a and a and a and a and a and a and a and a and a # A
 8 TooManyEvents|$$; note$  \t \r$constraint X A # a and a and a and a and a and a and a and a and a";
 
+// The text of a cell that follows a base.
+fn text_of(alloc: Global, base: &[u8], cell: &[u8]) -> Result<Vec<u8>, AllocError> {
+    let mut text = Vec::from_slice(alloc, base)?;
+    push_cell(&mut text, cell)?;
+    Ok(text)
+}
+
+// Tries one text that is refused.
+fn try_refusal(rt: &impl Abort, alloc: Global, text: &[u8], due: &[u8]) -> Result<(), AllocError> {
+    expect(rt, refusal_of(alloc, text)?.as_bytes(), due, text);
+    Ok(())
+}
+
+// Tries the text of one cell that follows a base.
+fn try_cell(
+    rt: &impl Abort,
+    alloc: Global,
+    base: &[u8],
+    cell: &[u8],
+    due: &[u8],
+) -> Result<(), AllocError> {
+    let text = text_of(alloc, base, cell)?;
+    try_refusal(rt, alloc, &text, due)
+}
+
 // Tries one row, whose texts follow a base.
 fn try_refused(rt: &impl Abort, alloc: Global, base: &[u8], row: &[u8]) -> Result<(), Fail> {
     let mut cells = row.split(|b| *b == b'|');
     let due = cells.next().ok_or("no cell")?;
     for cell in cells {
-        let mut text = Vec::from_slice(alloc, base)?;
-        push_cell(&mut text, cell)?;
-        let refusal = refusal_of(alloc, &text)?;
-        assert_eq!(rt; refusal.as_bytes(), due, "{cell:?}");
+        try_cell(rt, alloc, base, cell, due)?;
+    }
+    Ok(())
+}
+
+// Tries rows of texts that follow a base.
+fn try_rows(rt: &impl Abort, alloc: Global, base: &[u8], rows: &[u8]) -> Result<(), Fail> {
+    for row in rows.split(|b| *b == b'\n') {
+        try_refused(rt, alloc, base, row)?;
     }
     Ok(())
 }
 
 #[test]
 fn refusals_have_their_causes(rt: HostRuntime) -> Result<(), Fail> {
-    for row in REFUSED.split(|b| *b == b'\n') {
-        try_refused(&rt, rt.alloc(), b"", row)?;
-    }
-    for row in REFUSED_BEHIND.split(|b| *b == b'\n') {
-        try_refused(&rt, rt.alloc(), BASE, row)?;
-    }
-    Ok(())
+    try_rows(&rt, rt.alloc(), b"", REFUSED)?;
+    try_rows(&rt, rt.alloc(), BASE, REFUSED_BEHIND)
 }
 
 // Rows of a canonical text and texts that have it, with a bar between any two.
@@ -96,18 +129,31 @@ fn canonical_of(alloc: Global, text: &[u8]) -> Result<SafeSink, Fail> {
     Ok(sink)
 }
 
-// Tries one row of texts that are read.
-fn try_read(rt: &impl Abort, alloc: Global, row: &[u8]) -> Result<(), Fail> {
-    let mut cells = row.split(|b| *b == b'|');
-    let mut canonical = Vec::new(alloc);
-    push_cell(&mut canonical, cells.next().ok_or("no cell")?)?;
-    for cell in cells {
-        let mut text = Vec::new(alloc);
-        push_cell(&mut text, cell)?;
-        let sink = canonical_of(alloc, &text)?;
-        assert_eq!(rt; sink.bytes(), canonical.as_slice(), "{cell:?}");
+// Tries one text that is read.
+fn try_canonical(rt: &impl Abort, alloc: Global, text: &[u8], due: &[u8]) -> Result<(), Fail> {
+    expect(rt, canonical_of(alloc, text)?.bytes(), due, text);
+    Ok(())
+}
+
+// Tries the text of one cell that is read.
+fn try_read_cell(rt: &impl Abort, alloc: Global, cell: &[u8], due: &[u8]) -> Result<(), Fail> {
+    let text = text_of(alloc, b"", cell)?;
+    try_canonical(rt, alloc, &text, due)
+}
+
+// Tries each text of a row, of which the first is the canonical one.
+fn try_texts(rt: &impl Abort, alloc: Global, row: &[u8], due: &[u8]) -> Result<(), Fail> {
+    for cell in row.split(|b| *b == b'|') {
+        try_read_cell(rt, alloc, cell, due)?;
     }
     Ok(())
+}
+
+// Tries one row of texts that are read.
+fn try_read(rt: &impl Abort, alloc: Global, row: &[u8]) -> Result<(), Fail> {
+    let first = row.split(|b| *b == b'|').next().ok_or("no cell")?;
+    let due = text_of(alloc, b"", first)?;
+    try_texts(rt, alloc, row, &due)
 }
 
 #[test]
@@ -143,23 +189,27 @@ constraint NoInner ]v # S
 
 #[test]
 fn syllables_are_canonical(rt: HostRuntime) -> Result<(), Fail> {
-    let sink = canonical_of(rt.alloc(), SYLLABLES)?;
-    assert_eq!(rt; sink.bytes(), SYLLABLES);
-    Ok(())
+    try_canonical(&rt, rt.alloc(), SYLLABLES, SYLLABLES)
+}
+
+// The width, the input tiers and the phases of a grammar's text.
+fn shape_of(alloc: Global, text: &[u8]) -> Result<Shape, Fail>
+    requires { length text.now ≤ 65536 }
+{
+    let grammar = read_grammar(alloc, text)?;
+    shape(alloc, &grammar).map_err(|_| Fail::new("memory"))
+}
+
+fn shape_text(alloc: Global, shape: &Shape) -> Result<String, AllocError> {
+    format!(in alloc; "{} {} {:?}", shape.width, shape.inputs, shape.phases)
 }
 
 #[test]
 fn syllables_have_two_stretches(rt: HostRuntime) -> Result<(), Fail> {
-    assert!(rt; SYLLABLES.len() <= 65536);
-    let grammar = read_grammar(rt.alloc(), SYLLABLES)?;
-    match shape(rt.alloc(), &grammar) {
-        Ok(shape) => {
-            assert_eq!(rt; (shape.width, shape.inputs), (5, 3));
-            let phases = [0, 0, 0, 0, 0, 0, 0, 0, 0, 1, 2, 2, 2, 2];
-            assert_eq!(rt; shape.phases.as_slice(), phases.as_slice());
-        }
-        Err(_) => assert!(rt; false, "memory"),
-    }
+    let shape = shape_of(rt.alloc(), SYLLABLES)?;
+    let text = shape_text(rt.alloc(), &shape)?;
+    let due = b"5 3 [0, 0, 0, 0, 0, 0, 0, 0, 0, 1, 2, 2, 2, 2]";
+    expect(&rt, text.as_bytes(), due, SYLLABLES);
     Ok(())
 }
 
@@ -200,11 +250,13 @@ const CONSTRAINT: &[u8] =
 #[test]
 fn every_limit_at_once(rt: HostRuntime) -> Result<(), Fail> {
     let text = greatest_text(rt.alloc(), b'Y')?;
-    let sink = canonical_of(rt.alloc(), &text)?;
-    assert_eq!(rt; sink.bytes(), text.as_slice());
+    try_canonical(&rt, rt.alloc(), &text, &text)
+}
+
+#[test]
+fn one_constraint_past_the_limit(rt: HostRuntime) -> Result<(), Fail> {
     let text = greatest_text(rt.alloc(), b'Z')?;
-    let refusal = refusal_of(rt.alloc(), &text)?;
-    assert_eq!(rt; refusal.as_bytes(), b"64 TooManyConstraints".as_slice());
+    try_refusal(&rt, rt.alloc(), &text, b"64 TooManyConstraints")?;
     Ok(())
 }
 
@@ -219,24 +271,43 @@ const TOKENS: &[u8] = b"0 1 a
 14 2 ]
 ";
 
+// Adds the line of a token.
+fn push_token(alloc: Global, text: &mut Vec<u8>, token: Token<'_>) -> Result<(), AllocError> {
+    let place = format!(in alloc; "{} {} ", token.at, token.line)?;
+    text.extend_from_slice(place.as_bytes())?;
+    text.extend_from_slice(token.text)?;
+    text.extend_from_slice(b"\n")
+}
+
+// The lines of the tokens of a source.
+fn tokens_of(alloc: Global, source: &[u8]) -> Result<Vec<u8>, AllocError>
+    requires { length source.now ≤ 65536 }
+{
+    let mut text = Vec::new(alloc);
+    for token in tokens(source) {
+        push_token(alloc, &mut text, token)?;
+    }
+    Ok(text)
+}
+
 #[test]
 fn tokens_borrow_their_source(rt: HostRuntime) -> Result<(), Fail> {
-    let mut text = Vec::new(rt.alloc());
-    for token in tokens(b"a ;x\n[bc->\t=1#]!d") {
-        let place = format!(in rt.alloc(); "{} {} ", token.at, token.line)?;
-        text.extend_from_slice(place.as_bytes())?;
-        text.extend_from_slice(token.text)?;
-        text.push(b'\n')?;
-    }
-    assert_eq!(rt; text.as_slice(), TOKENS);
+    let source = b"a ;x\n[bc->\t=1#]!d";
+    expect(&rt, &tokens_of(rt.alloc(), source)?, TOKENS, source);
+    Ok(())
+}
+
+// Writes the canonical text of the base to a sink that fails.
+fn put_base(rt: &impl Abort, alloc: Global, sink: &mut MemSink) -> Result<(), Fail> {
+    let grammar = read_grammar(alloc, BASE)?;
+    assert_eq!(rt; put_grammar(sink, &grammar), Err(WriteErr::Failed));
     Ok(())
 }
 
 #[test]
 fn a_failing_sink_has_a_front(rt: HostRuntime) -> Result<(), Fail> {
-    let grammar = read_grammar(rt.alloc(), BASE)?;
     let mut sink = MemSink::new(rt.alloc(), 16, [2].to_vec(rt.alloc())?);
-    assert_eq!(rt; put_grammar(&mut sink, &grammar), Err(WriteErr::Failed));
-    assert_eq!(rt; sink.bytes(), &BASE[..16]);
+    put_base(&rt, rt.alloc(), &mut sink)?;
+    expect(&rt, sink.bytes(), &BASE[..16], BASE);
     Ok(())
 }

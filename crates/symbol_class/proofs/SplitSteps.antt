@@ -1,13 +1,14 @@
 -- Classes that are parted by tests.
 use Rattle.std.proofs.Common.{◌≡◌, ℕ, ◌+◌, ◌<◌, ◌≤◌, Bool, true, false, not, ◌&&◌, ◌||◌, if◌then◌else◌, List, []}
-use Rattle.std.proofs.Common.{length, get_or, take, refl, ap, sym, ◌∙◌, arith}
+use Rattle.std.proofs.Common.{length, get_or, take, refl, ap, sym, ◌∙◌, subst, arith}
+use Rattle.std.proofs.lemmas.List.{take_all}
 use Rattle.std.proofs.lemmas.List.Folds.{list_any_more}
 use Rattle.std.proofs.lemmas.List.Sums.{sum_by_more}
 use Rattle.tier_core.specs.declared.sym.Sym.{Sym}
 use Rattle.tier_core.specs.declared.class.Class.{Class}
 use Rattle.tier_core.specs.Classes.{has}
 use Rattle.symbol_class.specs.Held.{some_has, times_held, once_if, AddsClasses}
-use Rattle.symbol_class.proofs.Times.{held_by, adds_same, adds_then, added_times}
+use Rattle.symbol_class.proofs.Times.{held_by, adds_none, adds_same, adds_then, added_times}
 
 -- how often a column of the test is held, and how often another
 abbrev pub times_in : Class → List Class → List Sym → ℕ
@@ -21,6 +22,31 @@ pub record IsPartedBelow (width : ℕ) (test : Class) (classes : List Class) (i 
     (old inside outside : List Class) : Type 0 where
   pub inside_adds : AddsClasses width old inside (times_in test (take i classes))
   pub outside_adds : AddsClasses width [] outside (times_out test (take i classes))
+
+pub parted_none : (width : ℕ) (test : Class) (classes old outside : List Class) → outside ≡ []
+    → IsPartedBelow width test classes 0 old old outside
+parted_none width test classes old outside none = subst (IsPartedBelow width test classes 0 old old) (sym none)
+    (record {
+      inside_adds = adds_none width old (times_in test []) (λ column. no_more (has test column));
+      outside_adds = adds_none width [] (times_out test []) (λ column. no_more (has test column));
+    })
+  where
+    no_more : (b : Bool) → ◌≡◌ {A = ℕ} (if b then 0 else 0) 0
+    no_more true = refl
+    no_more false = refl
+
+pub parted_all : (width : ℕ) (test : Class) (classes : List Class) (i : ℕ) (old inside outside : List Class)
+    → length classes ≤ i → IsPartedBelow width test classes i old inside outside
+    → record {
+      inside : AddsClasses width old inside (times_in test classes);
+      outside : AddsClasses width [] outside (times_out test classes);
+    }
+parted_all width test classes i old inside outside l so_far = record {
+  inside = subst (λ (xs : List Class). AddsClasses width old inside (times_in test xs)) (take_all i classes l)
+      so_far.inside_adds;
+  outside = subst (λ (xs : List Class). AddsClasses width [] outside (times_out test xs)) (take_all i classes l)
+      so_far.outside_adds;
+}
 
 more_in : (t c : Bool) (n m : ℕ) → m ≡ n + once_if c → (if t then n else 0) + once_if (c && t) ≡ (if t then m else 0)
 more_in true true n m e = sym e
@@ -75,6 +101,19 @@ pub record IsSplitBelow (width : ℕ) (class : Class) (tests : List Class) (i : 
     (inside outside : List Class) : Type 0 where
   pub inside_adds : AddsClasses width [] inside (λ column. once_if (is_inside class (take i tests) column))
   pub outside_adds : AddsClasses width [] outside (λ column. once_if (is_outside class (take i tests) column))
+
+pub split_all : (width : ℕ) (class : Class) (tests : List Class) (i : ℕ) (inside outside : List Class)
+    → length tests ≤ i → IsSplitBelow width class tests i inside outside
+    → record {
+      inside : AddsClasses width [] inside (λ column. once_if (is_inside class tests column));
+      outside : AddsClasses width [] outside (λ column. once_if (is_outside class tests column));
+    }
+split_all width class tests i inside outside l so_far = record {
+  inside = subst (λ (xs : List Class). AddsClasses width [] inside (λ column. once_if (is_inside class xs column)))
+      (take_all i tests l) so_far.inside_adds;
+  outside = subst (λ (xs : List Class). AddsClasses width [] outside (λ column. once_if (is_outside class xs column)))
+      (take_all i tests l) so_far.outside_adds;
+}
 
 one_inside : (c s t : Bool) (n : ℕ) → n ≡ once_if (c && not s)
     → once_if (c && s) + (if t then n else 0) ≡ once_if (c && (s || t))

@@ -5,8 +5,14 @@ use Rattle.answer_reader.specs.LineWords.{bare_state}
 use Rattle.answer_reader.specs.States.{behind_states, states_from}
 use Rattle.answer_text.specs.Values.{state_value}
 use Rattle.answer_reader.proofs.Going.{fails_from}
-use Rattle.answer_reader.proofs.StateLoops.{follows_node, state_read}
+use Rattle.answer_reader.proofs.StateLoops.{follows_node, state_read, state_refused}
 use Rattle.answer_reader.proofs.state_loop.read_state.Goals as goal
+
+pub returns-in_err-node-clause-goes_on : goal.returns-in_err-node-clause-goes_on
+returns-in_err-node-clause-goes_on c = λ more.
+    let p = err_from_is_err_and c.from_residual.result c.from_residual.ensures.1 in
+    rw (p.1, p.2) (state_refused c.args.width c.args.nodes (map state_value c.args.states.now) more c.args.lines.now
+    c.read_state_line.new.lines c.in_err-node.field-0.0 c.in_err-node.ensures.takes)
 
 pub returns-in_err-arcs-clause-goes_on : goal.returns-in_err-arcs-clause-goes_on
 returns-in_err-arcs-clause-goes_on c = λ more.

@@ -2,7 +2,7 @@ use Rattle.std.proofs.Common.{◌≡◌, ℕ, length, not, ◌&&◌, subst, sym,
 use Rattle.tier_core.specs.declared.class.Class.{Class}
 use Rattle.tier_core.specs.Classes.{sets_of, has}
 use Rattle.symbol_class.specs.Held.{once_if, AddsClasses}
-use Rattle.symbol_class.proofs.SplitSteps.{parted_more}
+use Rattle.symbol_class.proofs.SplitSteps.{parted_none, parted_more, parted_all}
 use Rattle.symbol_class.proofs.parting.divide.Goals as goal
 
 pub loop-class-preserved : goal.loop-class-preserved
@@ -24,3 +24,15 @@ loop-class-preserved c =
           (subst (λ (n : ℕ). AddsClasses n c.loop-class.outside.items c.push_minus.new.pieces.items
           (λ column. once_if (has class column && not (has test column)))) wide c.in_ok-push_minus.ensures.held);
     }
+
+pub loop-class-init : goal.loop-class-init
+loop-class-init c = record {
+  within = omega arith;
+  so_far = parted_none (length (sets_of c.args.test.now)) c.args.test.now c.args.classes.now c.args.inside.now.items
+      c.new-outside.result.items c.new-outside.ensures.items;
+}
+
+pub returns : goal.returns
+returns c = parted_all (length (sets_of c.args.test.now)) c.args.test.now c.args.classes.now c.loop-class.class-index
+    c.args.inside.now.items c.loop-class.inside.items c.loop-class.outside.items c.loop-class-test.false
+    c.loop-class.invariant.so_far

@@ -2,7 +2,7 @@ use Rattle.std.proofs.Common.{◌≡◌, ℕ, List, [], length, subst, sym, arit
 use Rattle.tier_core.specs.declared.class.Class.{Class}
 use Rattle.tier_core.specs.Classes.{sets_of}
 use Rattle.symbol_class.specs.Held.{AddsClasses}
-use Rattle.symbol_class.proofs.SplitSteps.{times_in, times_out, split_more}
+use Rattle.symbol_class.proofs.SplitSteps.{times_in, times_out, split_more, split_all}
 use Rattle.symbol_class.proofs.parting.parted_by_all.Goals as goal
 
 pub loop-test-preserved : goal.loop-test-preserved
@@ -26,3 +26,7 @@ loop-test-preserved c =
           (subst (λ (n : ℕ). AddsClasses n [] c.in_ok-outside.outside.items
           (times_out test c.deref.result.now)) wide c.in_ok-outside.ensures.outside));
     }
+
+pub returns : goal.returns
+returns c = split_all (length (sets_of c.args.class.now)) c.args.class.now c.args.tests.now c.loop-test.test-index
+    c.loop-test.inside.items c.loop-test.outside.items c.loop-test-test.false c.loop-test.invariant.so_far

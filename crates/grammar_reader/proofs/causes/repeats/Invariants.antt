@@ -1,6 +1,6 @@
 use Rattle.std.proofs.Common.{◌≡◌, false, map, take}
 use Rattle.grammar_reader.specs.Names.{has_twice}
-use Rattle.grammar_reader.proofs.causes.has_twice.Given as goal
+use Rattle.grammar_reader.proofs.causes.repeats.Given as goal
 
 -- the names so far are in the set, each once
 abbrev pub invariant-loop-name : goal.invariant-loop-name

@@ -1,6 +1,6 @@
 use Rattle.std.proofs.Common.{sym, ◌∙◌}
 use Rattle.grammar_reader.proofs.Twice.{found_twice, still_once, key_more}
-use Rattle.grammar_reader.proofs.causes.has_twice.Goals as goal
+use Rattle.grammar_reader.proofs.causes.repeats.Goals as goal
 
 pub returns-then-contains : goal.returns-then-contains
 returns-then-contains c = found_twice c.args.names.now c.loop-name.name-index _ c.loop-name.seen.keys

@@ -1,13 +1,10 @@
 -- The classes of one state's moves are disjoint, so that a word is read by one run.
 use Rattle.std.proofs.Common.{◌≡◌, suc, List, [], ◌∷◌, length, get_or, refl, sym, ap, ◌∙◌, subst, inl, inr}
+use Rattle.std.proofs.{lemmas.Bool.cases_order, lemmas.List.get_or_default}
 use Rattle.std.specs.Prelude.{Contains, AllPairs, IsTrue}
-use Rattle.std.proofs.lemmas.Bool.{cases_order}
-use Rattle.std.proofs.lemmas.List.{get_or_default}
 use Rattle.weight_law.specs.declared.Weight.{Ghosts}
-use Rattle.tier_core.specs.declared.sym.Sym.{Sym}
-use Rattle.tier_core.specs.Classes.{has, AreDisjoint}
-use Rattle.arc_table.specs.declared.arc.TableArc.{TableArc}
-use Rattle.arc_table.specs.Runs.{Reads}
+use Rattle.tier_core.specs.{declared.sym.Sym.Sym, Classes.{has, AreDisjoint}}
+use Rattle.arc_table.specs.{declared.arc.TableArc.TableArc, Runs.Reads}
 
 module _ {V : Type 0} {h : Ghosts V} where
   pub length_read : (arcs : List (TableArc V h)) (word : List (List Sym)) → Reads arcs word → length word ≡ length arcs

@@ -1,13 +1,10 @@
 -- Each run reads some word, if no class is empty.
 use Rattle.std.proofs.Common.{List, [], ◌∷◌, ℕ}
 use Rattle.weight_law.specs.declared.Weight.{Ghosts}
-use Rattle.tier_core.specs.declared.sym.Sym.{Sym}
-use Rattle.tier_core.specs.FirstColumn.{first_column}
+use Rattle.tier_core.specs.{declared.sym.Sym.Sym, FirstColumn.first_column}
 use Rattle.tier_core.proofs.Filled.{has-first_column}
-use Rattle.arc_table.specs.declared.arc.TableArc.{TableArc}
-use Rattle.arc_table.specs.declared.state.TableState.{TableState}
-use Rattle.arc_table.specs.Conditions.{ClassesFilled}
-use Rattle.arc_table.specs.Runs.{IsRun, Reads}
+use Rattle.arc_table.specs.{declared.arc.TableArc.TableArc, declared.state.TableState.TableState}
+use Rattle.arc_table.specs.{Conditions.ClassesFilled, Runs.{IsRun, Reads}}
 
 -- a run reads a word
 pub some_word : {W : Type 0} {g : Ghosts W} (states : List (TableState W g)) → ClassesFilled states

@@ -1,20 +1,15 @@
 -- The first weights, the last ones, and sizes.
 use Rattle.std.proofs.Common.{◌≡◌, ℕ, zero, suc, ◌+◌, ◌*◌, ◌<◌, ◌≤◌, Bool, true, false, List, [], ◌∷◌, Option, None}
 use Rattle.std.proofs.Common.{Some, map, length, get_or, refl, sym, ap, ◌∙◌, subst, arith, inl, inr}
-use Rattle.std.specs.Prelude.{Contains, All, MatchOption}
-use Rattle.std.proofs.lemmas.Bool.{cases_lt}
-use Rattle.std.proofs.lemmas.List.Elements.{Contains-get_or}
+use Rattle.std.proofs.{lemmas.Bool.cases_lt, lemmas.List.Elements.Contains-get_or}
 use Rattle.std.proofs.Math.Nat.{mul-le-mul_left, mul-le-mul_right}
-use Rattle.weight_law.specs.declared.Weight.{Ghosts}
-use Rattle.weight_law.specs.Meaning.{IsLawful}
+use Rattle.std.specs.Prelude.{Contains, All, MatchOption}
+use Rattle.weight_law.specs.{declared.Weight.Ghosts, Meaning.IsLawful}
 use Rattle.weight_law.proofs.Order.{at_most-itself, at_most-sum_left}
-use Rattle.arc_table.specs.declared.arc.TableArc.{TableArc}
-use Rattle.arc_table.specs.declared.state.TableState.{TableState}
-use Rattle.arc_table.specs.Moves.{moves_at, accepting_at}
-use Rattle.arc_table.specs.Conditions.{TargetsExist}
+use Rattle.arc_table.specs.{declared.arc.TableArc.TableArc, declared.state.TableState.TableState}
+use Rattle.arc_table.specs.{Moves.{moves_at, accepting_at}, Conditions.TargetsExist}
 use Rattle.arc_table.specs.Runs.{IsRun, weight_of, SizesWithin, HasNoRun, IsLeastFrom}
-use Rattle.distances.specs.Best.{nothing_yet, initial_of, FitsBoth}
-use Rattle.distances.specs.Least.{AreLeast}
+use Rattle.distances.specs.{Best.{nothing_yet, initial_of, FitsBoth}, Least.AreLeast}
 use Rattle.distances.specs.Rounds.{IsKnownWithin, IsWitness, AreWitnessed, IsCovered, AreClosed}
 use Rattle.distances.proofs.Witness.{lawful-weight_of, IsKnownWithin-more, run_of, short}
 

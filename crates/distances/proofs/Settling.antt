@@ -1,29 +1,20 @@
 -- What is kept by a look at one move turned round, and at all moves to a state.
 use Rattle.std.proofs.Common.{◌≡◌, ℕ, ◌+◌, ◌<◌, ◌≤◌, true, false, List, [], ◌∷◌, Option, None, Some, set, length}
-use Rattle.std.proofs.Common.{get_or, ap, ◌∙◌, subst, arith, ◌⊎◌, inl, inr}
-use Rattle.std.specs.Prelude.{Contains, All, IsTrue, if◌then◌else◌}
-use Rattle.std.proofs.lemmas.Bool.{cases_eq, cases_lt}
+use Rattle.std.proofs.{Common.{get_or, ap, ◌∙◌, subst, arith, ◌⊎◌, inl, inr}, lemmas.Bool.{cases_eq, cases_lt}}
 use Rattle.std.proofs.lemmas.List.{length-set, get_or-set_same, get_or-set_other, get_or_past}
 use Rattle.std.proofs.lemmas.List.Elements.{Contains-get_or}
+use Rattle.std.specs.Prelude.{Contains, All, IsTrue, if◌then◌else◌}
 use Rattle.tier_core.proofs.Members.{contains_first}
-use Rattle.weight_law.specs.declared.Weight.{Ghosts}
-use Rattle.weight_law.specs.Meaning.{IsLawful}
+use Rattle.weight_law.specs.{declared.Weight.Ghosts, Meaning.IsLawful}
 use Rattle.weight_law.proofs.Order.{at_most-added}
-use Rattle.arc_table.specs.declared.arc.TableArc.{TableArc}
-use Rattle.arc_table.specs.declared.state.TableState.{TableState}
-use Rattle.arc_table.specs.declared.incoming_move.IncomingMove.{IncomingMove}
-use Rattle.arc_table.specs.declared.incoming.Incoming.{Incoming}
-use Rattle.arc_table.specs.Moves.{moves_at}
-use Rattle.arc_table.specs.Conditions.{TargetsExist}
-use Rattle.arc_table.specs.Incoming.{HasMove, moves_into, AreReverseMoves}
+use Rattle.arc_table.specs.{declared.arc.TableArc.TableArc, declared.state.TableState.TableState}
+use Rattle.arc_table.specs.{declared.incoming_move.IncomingMove.IncomingMove, declared.incoming.Incoming.Incoming}
+use Rattle.arc_table.specs.{Moves.moves_at, Conditions.TargetsExist, Incoming.{HasMove, moves_into, AreReverseMoves}}
 use Rattle.arc_table.specs.Runs.{SizesWithin}
 use Rattle.arc_table.proofs.Push.{moves_exist}
-use Rattle.distances.specs.Best.{lesser_of, weight_through, best_of}
-use Rattle.distances.specs.Rounds.{AreWitnessed}
+use Rattle.distances.specs.{Best.{lesser_of, weight_through, best_of}, Rounds.AreWitnessed}
 use Rattle.distances.specs.Settled.{lower_at, relax_all, KeepsWitnesses}
-use Rattle.distances.proofs.Looks.{tail_in, head_or_tail}
-use Rattle.distances.proofs.Steps.{step-witnessed, step-covered}
-use Rattle.distances.proofs.Ends.{fits}
+use Rattle.distances.proofs.{Looks.{tail_in, head_or_tail}, Steps.{step-witnessed, step-covered}, Ends.fits}
 
 -- only states have a weight
 pub known_inside : {W : Type 0} (least : List (Option W)) (s : ℕ) (w : W) → get_or least s None ≡ Some w

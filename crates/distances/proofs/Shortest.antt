@@ -1,20 +1,13 @@
 -- What follows from the least weights of a table, however they were found.
-use Rattle.std.proofs.Common.{◌≡◌, ℕ, ◌<◌, Bool, true, false, eqb, List, [], ◌∷◌, Option, None, Some, length, get_or}
-use Rattle.std.proofs.Common.{refl, sym, ap, ◌∙◌, subst, arith, inl, inr}
-use Rattle.std.specs.Prelude.{Contains, MatchOption}
-use Rattle.std.specs.List.{list_any}
-use Rattle.std.proofs.lemmas.Bool.{false≢true, cases_lt, eqb-true, or_cases}
-use Rattle.std.proofs.lemmas.List.{get_or_past}
-use Rattle.weight_law.specs.declared.Weight.{Ghosts}
-use Rattle.weight_law.specs.Meaning.{AtMost, IsLawful}
+use Rattle.std.proofs.Common.{◌≡◌, ℕ, ◌<◌, Bool, true, false, eqb, List, [], ◌∷◌, Option, None, Some, length}
+use Rattle.std.proofs.Common.{get_or, refl, sym, ap, ◌∙◌, subst, arith, inl, inr}
+use Rattle.std.proofs.{lemmas.Bool.{false≢true, cases_lt, eqb-true, or_cases}, lemmas.List.get_or_past}
+use Rattle.std.specs.{Prelude.{Contains, MatchOption}, List.list_any}
+use Rattle.weight_law.specs.{declared.Weight.Ghosts, Meaning.{AtMost, IsLawful}}
 use Rattle.weight_law.proofs.Order.{at_most-itself, at_most-trans, at_most-both, at_most-cancel_left}
-use Rattle.arc_table.specs.declared.arc.TableArc.{TableArc}
-use Rattle.arc_table.specs.declared.state.TableState.{TableState}
-use Rattle.arc_table.specs.Moves.{moves_at}
-use Rattle.arc_table.specs.Conditions.{TargetsExist}
-use Rattle.arc_table.specs.Runs.{IsRun, weight_of, HasNoRun, IsLeastFrom}
-use Rattle.distances.specs.Least.{AreLeast}
-use Rattle.distances.specs.Rounds.{IsKnownWithin, places, IsWitness, AreWitnessed}
+use Rattle.arc_table.specs.{declared.arc.TableArc.TableArc, declared.state.TableState.TableState, Moves.moves_at}
+use Rattle.arc_table.specs.{Conditions.TargetsExist, Runs.{IsRun, weight_of, HasNoRun, IsLeastFrom}}
+use Rattle.distances.specs.{Least.AreLeast, Rounds.{IsKnownWithin, places, IsWitness, AreWitnessed}}
 use Rattle.distances.proofs.Witness.{lawful-weight_of, run_of, at_most-weight_of}
 
 module _ {W : Type 0} {g : Ghosts W} (laws : IsLawful g.meaning) (states : List (TableState W g))

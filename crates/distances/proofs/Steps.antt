@@ -1,21 +1,15 @@
 -- What is kept where the best of one state is written.
-use Rattle.std.proofs.Common.{◌≡◌, ℕ, ◌+◌, ◌<◌, ◌≤◌, Bool, true, false, eqb, List, [], ◌∷◌, Option, None, Some, length}
-use Rattle.std.proofs.Common.{get_or, set, refl, sym, ap, ◌∙◌, subst, arith, inl, inr}
-use Rattle.std.specs.Prelude.{Contains}
-use Rattle.std.specs.List.{list_any}
+use Rattle.std.proofs.Common.{◌≡◌, ℕ, ◌+◌, ◌<◌, ◌≤◌, Bool, true, false, eqb, List, [], ◌∷◌, Option, None, Some}
+use Rattle.std.proofs.Common.{length, get_or, set, refl, sym, ap, ◌∙◌, subst, arith, inl, inr}
 use Rattle.std.proofs.lemmas.Bool.{false≢true, cases_eq}
 use Rattle.std.proofs.lemmas.List.{get_or-set_same, get_or-set_other, set-get_or}
-use Rattle.weight_law.specs.declared.Weight.{Ghosts}
-use Rattle.weight_law.specs.Meaning.{AtMost, IsLawful}
+use Rattle.std.specs.{Prelude.Contains, List.list_any}
+use Rattle.weight_law.specs.{declared.Weight.Ghosts, Meaning.{AtMost, IsLawful}}
 use Rattle.weight_law.proofs.Order.{at_most-trans, at_most-itself, at_most-sum_left}
-use Rattle.arc_table.specs.declared.arc.TableArc.{TableArc}
-use Rattle.arc_table.specs.declared.state.TableState.{TableState}
-use Rattle.arc_table.specs.Moves.{moves_at}
-use Rattle.arc_table.specs.Conditions.{TargetsExist}
-use Rattle.arc_table.specs.Runs.{IsRun, weight_of}
-use Rattle.distances.specs.Best.{best_of}
-use Rattle.distances.specs.Rounds.{IsKnownWithin, places, IsWitness, AreWitnessed, IsCoveredFrom, IsCovered}
-use Rattle.distances.specs.Rounds.{AreClosedFrom}
+use Rattle.arc_table.specs.{declared.arc.TableArc.TableArc, declared.state.TableState.TableState, Moves.moves_at}
+use Rattle.arc_table.specs.{Conditions.TargetsExist, Runs.{IsRun, weight_of}}
+use Rattle.distances.specs.{Best.best_of, Rounds.{IsKnownWithin, places, IsWitness, AreWitnessed, IsCoveredFrom}}
+use Rattle.distances.specs.Rounds.{IsCovered, AreClosedFrom}
 use Rattle.distances.proofs.Witness.{lawful-weight_of, IsKnownWithin-more, passes, at_most-weight_of}
 use Rattle.distances.proofs.Looks.{IsLawfulIfSome, Improves, Gains, best-known, best-move, best-cases}
 

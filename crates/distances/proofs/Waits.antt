@@ -1,11 +1,9 @@
 -- What waits in the heap before the first state is taken.
 use Rattle.std.proofs.Common.{◌≡◌, ℕ, suc, ◌+◌, true, false, List, [], ◌∷◌, ◌++◌, ap, ◌∙◌, sym, subst, arith}
+use Rattle.std.proofs.{lemmas.List.append-nil, lemmas.List.Sorted.IsPermutation-push_more}
 use Rattle.std.specs.Prelude.{IsPermutation, if◌then◌else◌}
-use Rattle.std.proofs.lemmas.List.{append-nil}
-use Rattle.std.proofs.lemmas.List.Sorted.{IsPermutation-push_more}
 use Rattle.weight_law.specs.declared.Weight.{Ghosts}
-use Rattle.arc_table.specs.declared.state.TableState.{TableState}
-use Rattle.arc_table.specs.Moves.{accepting_at}
+use Rattle.arc_table.specs.{declared.state.TableState.TableState, Moves.accepting_at}
 use Rattle.distances.specs.Settled.{ends_below}
 
 module _ {W : Type 0} {g : Ghosts W} (states : List (TableState W g)) (n : ℕ) where

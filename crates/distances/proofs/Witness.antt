@@ -1,17 +1,13 @@
 -- Runs that come to no state twice, and what they weigh.
-use Rattle.std.proofs.Common.{◌≡◌, ℕ, ◌+◌, ◌<◌, ◌≤◌, Bool, true, false, eqb, List, [], ◌∷◌, Option, None, Some, length}
-use Rattle.std.proofs.Common.{get_or, sym, subst, arith, inl, inr}
-use Rattle.std.specs.List.{list_any, IsDistinct, AllByRecursion}
-use Rattle.std.proofs.lemmas.Bool.{false≢true, eqb-true, or_cases, or_parts}
-use Rattle.std.proofs.lemmas.Map.Keys.{IsDistinct-cons}
+use Rattle.std.proofs.Common.{◌≡◌, ℕ, ◌+◌, ◌<◌, ◌≤◌, Bool, true, false, eqb, List, [], ◌∷◌, Option, None, Some}
+use Rattle.std.proofs.Common.{length, get_or, sym, subst, arith, inl, inr}
+use Rattle.std.proofs.{lemmas.Bool.{false≢true, eqb-true, or_cases, or_parts}, lemmas.Map.Keys.IsDistinct-cons}
 use Rattle.std.proofs.lemmas.Map.Steps.{length-le_from_distinct_below}
-use Rattle.weight_law.specs.declared.Weight.{Ghosts}
-use Rattle.weight_law.specs.Meaning.{AtMost, IsLawful}
+use Rattle.std.specs.List.{list_any, IsDistinct, AllByRecursion}
+use Rattle.weight_law.specs.{declared.Weight.Ghosts, Meaning.{AtMost, IsLawful}}
 use Rattle.weight_law.proofs.Order.{at_most-trans, at_most-added}
-use Rattle.arc_table.specs.declared.arc.TableArc.{TableArc}
-use Rattle.arc_table.specs.declared.state.TableState.{TableState}
-use Rattle.arc_table.specs.Conditions.{TargetsExist}
-use Rattle.arc_table.specs.Runs.{IsRun, weight_of}
+use Rattle.arc_table.specs.{declared.arc.TableArc.TableArc, declared.state.TableState.TableState}
+use Rattle.arc_table.specs.{Conditions.TargetsExist, Runs.{IsRun, weight_of}}
 use Rattle.distances.specs.Rounds.{IsKnownWithin, places, IsWitness}
 
 -- a test that no element passes fails at each

@@ -1,26 +1,15 @@
 -- One column more at the front of a first word.
 use Rattle.std.proofs.Common.{◌≡◌, ℕ, ◌+◌, ◌<◌, ◌≤◌, false, List, [], ◌∷◌, Option, None, Some, length, get_or, refl}
-use Rattle.std.proofs.Common.{sym, ap, ◌∙◌, subst, arith, ◌⊎◌, inl, inr}
-use Rattle.std.specs.Prelude.{Contains, IsTrue, MatchOption, ⊤}
-use Rattle.std.specs.declared.cmp.Ordering.{Ordering}
-use Rattle.std.specs.declared.cmp.Ordering.TheVariants.{Less, Equal, Greater}
-use Rattle.std.specs.Ordering.{ordering_then, is_gt}
-use Rattle.std.proofs.lemmas.Bool.{false≢true, cases_lt}
+use Rattle.std.proofs.{Common.{sym, ap, ◌∙◌, subst, arith, ◌⊎◌, inl, inr}, lemmas.Bool.{false≢true, cases_lt}}
 use Rattle.std.proofs.lemmas.List.{get_or_read}
-use Rattle.weight_law.specs.declared.Weight.{Ghosts}
-use Rattle.weight_law.specs.declared.count.Count.{Count}
-use Rattle.tier_core.specs.declared.sym.Sym.{Sym}
-use Rattle.tier_core.specs.Classes.{has}
-use Rattle.tier_core.specs.Orders.{column_cmp}
-use Rattle.tier_core.specs.FirstColumn.{first_column}
+use Rattle.std.specs.{Prelude.{Contains, IsTrue, MatchOption, ⊤}, declared.cmp.Ordering.Ordering}
+use Rattle.std.specs.{declared.cmp.Ordering.TheVariants.{Less, Equal, Greater}, Ordering.{ordering_then, is_gt}}
+use Rattle.weight_law.specs.{declared.Weight.Ghosts, declared.count.Count.Count}
+use Rattle.tier_core.specs.{declared.sym.Sym.Sym, Classes.has, Orders.column_cmp, FirstColumn.first_column}
 use Rattle.tier_core.proofs.Filled.{has-first_column, first_column_least}
-use Rattle.arc_table.proofs.SomeWord.{some_word}
-use Rattle.arc_table.proofs.OneRun.{length_read, same_move}
-use Rattle.arc_table.specs.declared.arc.TableArc.{TableArc}
-use Rattle.arc_table.specs.declared.state.TableState.{TableState}
-use Rattle.arc_table.specs.Moves.{moves_at}
-use Rattle.arc_table.specs.Conditions.{TargetsExist, ClassesDisjoint, ClassesFilled}
-use Rattle.arc_table.specs.Runs.{IsRun, Reads}
+use Rattle.arc_table.proofs.{SomeWord.some_word, OneRun.{length_read, same_move}}
+use Rattle.arc_table.specs.{declared.arc.TableArc.TableArc, declared.state.TableState.TableState, Moves.moves_at}
+use Rattle.arc_table.specs.{Conditions.{TargetsExist, ClassesDisjoint, ClassesFilled}, Runs.{IsRun, Reads}}
 use Rattle.first_paths.specs.declared.choice.Choice.{Choice}
 use Rattle.first_paths.specs.Counted.{AreLengths, IsLeft, HasLeft, IsChoiceOf, IsLeastBelow, IsLeastChoice}
 use Rattle.first_paths.proofs.FirstFrom.{word_cmp, IsFirstOf, ReadsFrom, IsFirstFrom}

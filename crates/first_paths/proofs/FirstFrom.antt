@@ -1,16 +1,11 @@
 -- The first of the words that are read from a state.
 use Rattle.std.proofs.Common.{◌≡◌, ◌<◌, ◌⊎◌, ℕ, List, true, false, length, refl, sym, inl, inr, arith}
-use Rattle.std.specs.declared.cmp.Ordering.{Ordering}
-use Rattle.std.specs.declared.cmp.Ordering.TheVariants.{Less, Equal, Greater}
-use Rattle.std.specs.Ordering.{nat_cmp, ordering_then, is_gt, is_le}
-use Rattle.std.specs.Cmp.Lexicographic.{slice_cmp}
-use Rattle.std.proofs.lemmas.Bool.{false≢true}
-use Rattle.std.proofs.lemmas.Cmp.{ranked}
+use Rattle.std.proofs.{lemmas.Bool.false≢true, lemmas.Cmp.ranked}
+use Rattle.std.specs.{declared.cmp.Ordering.Ordering, declared.cmp.Ordering.TheVariants.{Less, Equal, Greater}}
+use Rattle.std.specs.{Ordering.{nat_cmp, ordering_then, is_gt, is_le}, Cmp.Lexicographic.slice_cmp}
 use Rattle.weight_law.specs.declared.Weight.{Ghosts}
-use Rattle.tier_core.specs.declared.sym.Sym.{Sym}
-use Rattle.tier_core.specs.Orders.{column_cmp, timeline_cmp, IsFirst}
-use Rattle.arc_table.specs.declared.arc.TableArc.{TableArc}
-use Rattle.arc_table.specs.declared.state.TableState.{TableState}
+use Rattle.tier_core.specs.{declared.sym.Sym.Sym, Orders.{column_cmp, timeline_cmp, IsFirst}}
+use Rattle.arc_table.specs.{declared.arc.TableArc.TableArc, declared.state.TableState.TableState}
 use Rattle.arc_table.specs.Runs.{IsRun, Reads, Accepts}
 
 -- words of one length are compared column by column

@@ -1,14 +1,10 @@
 -- Columns in order.
 use Rattle.std.proofs.Common.{◌≡◌, ◌≢◌, false, List, [], ◌∷◌, refl}
-use Rattle.std.specs.declared.cmp.Ordering.{Ordering}
-use Rattle.std.specs.declared.cmp.Ordering.TheVariants.{Less, Equal, Greater}
-use Rattle.std.specs.Cmp.{IsTotalOrder}
-use Rattle.std.specs.Ordering.{nat_cmp, ordering_then, is_gt, ordering_reverse}
-use Rattle.std.specs.Cmp.Lexicographic.{slice_cmp}
 use Rattle.std.proofs.lemmas.Cmp.{ranked, upto, tied_itself, nat_cmp_total, on_total, lists_total}
-use Rattle.tier_core.specs.declared.sym.Sym.{Sym}
-use Rattle.tier_core.specs.Symbols.{rank}
-use Rattle.tier_core.specs.Orders.{sym_cmp, column_cmp}
+use Rattle.std.specs.{declared.cmp.Ordering.Ordering, declared.cmp.Ordering.TheVariants.{Less, Equal, Greater}}
+use Rattle.std.specs.{Cmp.IsTotalOrder, Ordering.{nat_cmp, ordering_then, is_gt, ordering_reverse}}
+use Rattle.std.specs.Cmp.Lexicographic.{slice_cmp}
+use Rattle.tier_core.specs.{declared.sym.Sym.Sym, Symbols.rank, Orders.{sym_cmp, column_cmp}}
 use Rattle.tier_core.proofs.SetLemmas.{rank_same}
 
 pub column_total : IsTotalOrder column_cmp

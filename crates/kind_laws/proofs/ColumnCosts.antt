@@ -2,20 +2,12 @@
 use Rattle.std.proofs.Common.{◌≡◌, ℕ, zero, suc, ◌+◌, ◌-◌, ◌<◌, ◌≤◌, Bool, true, false, List, [], ◌∷◌, map, take}
 use Rattle.std.proofs.Common.{length, get_or, arith}
 use Rattle.std.specs.List.{AllByRecursion}
-use Rattle.tier_core.specs.declared.sym.Sym.{Sym}
-use Rattle.tier_core.specs.declared.constraint.Constraint.{Constraint}
-use Rattle.tier_core.specs.Timelines.{IsWellFormed}
+use Rattle.tier_core.specs.{declared.sym.Sym.Sym, declared.constraint.Constraint.Constraint, Timelines.IsWellFormed}
 use Rattle.tier_core.proofs.CountLemmas.{bit}
 use Rattle.violation.specs.Candidates.{IsCandidate, count_at, count_so_far_at}
-use Rattle.violation.specs.Conditions.{IsCountable, IsOverTiers}
-use Rattle.violation.specs.Counts.{violations_of, violations_so_far}
-use Rattle.violation.specs.Moves.{costs}
-use Rattle.violation.specs.Prefixes.{phase}
-use Rattle.violation.specs.Problems.{Problem}
-use Rattle.violation.specs.Stages.{IsStage}
-use Rattle.violation.proofs.Countable.{countable_over}
-use Rattle.violation.proofs.CountSteps.{whole}
-use Rattle.violation.proofs.MoveLemmas.{opened_after, column_costs}
+use Rattle.violation.specs.{Conditions.{IsCountable, IsOverTiers}, Counts.{violations_of, violations_so_far}}
+use Rattle.violation.specs.{Moves.costs, Prefixes.phase, Problems.Problem, Stages.IsStage}
+use Rattle.violation.proofs.{Countable.countable_over, CountSteps.whole, MoveLemmas.{opened_after, column_costs}}
 use Rattle.violation.proofs.WholeCounts.{so_far_none}
 
 few_bit : (b : Bool) → bit b ≤ 1

@@ -1,24 +1,17 @@
 -- What a constraint counts hangs on the sets of its types.
-use Rattle.std.proofs.Common.{◌≡◌, ℕ, zero, suc, ◌+◌, ◌*◌, ◌-◌, ◌≤◌, Bool, not, ◌&&◌, cond, List, [], ◌∷◌, ◌++◌, take}
-use Rattle.std.proofs.Common.{length, get_or, refl, sym, ap, ◌∙◌, arith}
+use Rattle.std.proofs.Common.{◌≡◌, ℕ, zero, suc, ◌+◌, ◌*◌, ◌-◌, ◌≤◌, Bool, not, ◌&&◌, cond, List, [], ◌∷◌, ◌++◌}
+use Rattle.std.proofs.Common.{take, length, get_or, refl, sym, ap, ◌∙◌, arith}
 use Rattle.std.specs.List.{list_all, list_any}
-use Rattle.tier_core.specs.declared.sym.Sym.{Sym}
-use Rattle.tier_core.specs.declared.event.Event.{Event}
-use Rattle.tier_core.specs.declared.constraint.Family.{Family}
+use Rattle.tier_core.specs.{declared.sym.Sym.Sym, declared.event.Event.Event, declared.constraint.Family.Family}
 use Rattle.tier_core.specs.declared.constraint.Family.TheVariants.{Implication, Clash}
-use Rattle.tier_core.specs.Events.{Interval, meet, is_there}
-use Rattle.tier_core.specs.Kinds.{Phase, closed, unmet, met}
+use Rattle.tier_core.specs.{Events.{Interval, meet, is_there}, Kinds.{Phase, closed, unmet, met}}
 use Rattle.tier_core.specs.Sides.{has_edge_type, edge_among, is_edge_part}
 use Rattle.tier_core.specs.Timelines.{tier_word, column_at, symbol, is_edge}
 use Rattle.tier_core.proofs.CountLemmas.{bit}
-use Rattle.violation.specs.Columns.{is_present, edge_cost}
-use Rattle.violation.specs.Conditions.{IsCountable}
-use Rattle.violation.specs.Counts.{so_far, viol}
+use Rattle.violation.specs.{Columns.{is_present, edge_cost}, Conditions.IsCountable, Counts.{so_far, viol}}
 use Rattle.violation.specs.Moves.{costs, is_unmet_phase}
 use Rattle.violation.specs.Prefixes.{is_open, phase, last_where, is_met_in, events_begun}
-use Rattle.violation.proofs.CountSteps.{whole}
-use Rattle.violation.proofs.MoveLemmas.{opened_after, column_costs}
-use Rattle.violation.proofs.WholeCounts.{so_far_none}
+use Rattle.violation.proofs.{CountSteps.whole, MoveLemmas.{opened_after, column_costs}, WholeCounts.so_far_none}
 use Rattle.kind_laws.proofs.Sets.{HasSame, same_all, same_any}
 
 last_same : (f g : List Sym → Bool) → ((column : List Sym) → f column ≡ g column) → (p : List (List Sym)) (n : ℕ)

@@ -1,32 +1,18 @@
 -- Shortest ways pass no kind twice, and so they have fewer columns than there are kinds.
 use Rattle.std.proofs.Common.{◌≡◌, ◌≢◌, ⊎_elim, ℕ, zero, suc, ◌+◌, ◌-◌, ◌<◌, ◌≤◌, List, [], ◌∷◌, ◌++◌, take, drop}
 use Rattle.std.proofs.Common.{length, refl, sym, ap, ◌∙◌, subst, arith, append_assoc, take_at, Contains}
-use Rattle.std.specs.List.{AllByRecursion}
-use Rattle.std.specs.Prelude.{IsTrue}
-use Rattle.std.specs.Ordering.{ordering_then, is_le}
-use Rattle.std.specs.Cmp.{nat_cmp_is}
-use Rattle.std.specs.Cmp.Lexicographic.{slice_cmp}
-use Rattle.std.specs.declared.cmp.Ordering.TheVariants.{Greater}
-use Rattle.std.proofs.lemmas.Bool.{false≢true, cases_lt}
-use Rattle.std.proofs.lemmas.List.{length-append, length-take-le}
-use Rattle.tier_core.specs.declared.sym.Sym.{Sym}
-use Rattle.tier_core.specs.Kinds.{PrefixKind}
-use Rattle.tier_core.specs.Orders.{IsFirst, column_cmp, timeline_cmp}
-use Rattle.tier_core.proofs.Differing.{Differ, no_longer}
-use Rattle.tier_core.proofs.Members.{all_at_member}
-use Rattle.violation.specs.Candidates.{IsCandidate, IsOptimalFor}
-use Rattle.violation.specs.Moves.{next_kind}
-use Rattle.violation.specs.Prefixes.{kind_of}
+use Rattle.std.proofs.{lemmas.Bool.{false≢true, cases_lt}, lemmas.List.{length-append, length-take-le}}
+use Rattle.std.specs.{List.AllByRecursion, Prelude.IsTrue, Ordering.{ordering_then, is_le}, Cmp.nat_cmp_is}
+use Rattle.std.specs.{Cmp.Lexicographic.slice_cmp, declared.cmp.Ordering.TheVariants.Greater}
+use Rattle.tier_core.specs.{declared.sym.Sym.Sym, Kinds.PrefixKind, Orders.{IsFirst, column_cmp, timeline_cmp}}
+use Rattle.tier_core.proofs.{Differing.{Differ, no_longer}, Members.all_at_member}
+use Rattle.violation.specs.{Candidates.{IsCandidate, IsOptimalFor}, Moves.next_kind, Prefixes.kind_of}
 use Rattle.violation.specs.Problems.{Problem}
 use Rattle.violation.specs.Stages.{IsStage, IsPassed, IsLeastRest, IsRemaining, AreKindsOfStage, Passes}
-use Rattle.violation.proofs.StageLemmas.{over_stretches}
-use Rattle.violation.proofs.WalkLemmas.{begun_of, candidate_walk, moved_is, walk_on}
-use Rattle.violation.proofs.FewerStages.{same_fewer, least_rest}
-use Rattle.violation.proofs.CutCandidates.{prefix_passed, optimal_cut}
+use Rattle.violation.proofs.{StageLemmas.over_stretches, WalkLemmas.{begun_of, candidate_walk, moved_is, walk_on}}
+use Rattle.violation.proofs.{FewerStages.{same_fewer, least_rest}, CutCandidates.{prefix_passed, optimal_cut}}
 use Rattle.kind_laws.specs.Ways.{kinds_passed, HasEachPassed}
-use Rattle.kind_laws.proofs.ColumnCosts.{stage_few}
-use Rattle.kind_laws.proofs.GoingOn.{lower, optimal_exchanged}
-use Rattle.kind_laws.proofs.Seeking.{ComesTo, seek}
+use Rattle.kind_laws.proofs.{ColumnCosts.stage_few, GoingOn.{lower, optimal_exchanged}, Seeking.{ComesTo, seek}}
 
 passed_count : (problem : Problem) (s : ℕ) (way : List (List Sym)) (k : PrefixKind)
     → length (kinds_passed problem s k way) ≡ suc (length way)

@@ -1,16 +1,12 @@
 -- Prefixes of one kind go on alike.
 use Rattle.std.proofs.Common.{◌≡◌, ℕ, zero, suc, ◌-◌, ◌≤◌, List, ◌++◌, length, sym, ap, ◌∙◌, subst, arith}
 use Rattle.tier_core.specs.declared.sym.Sym.{Sym}
-use Rattle.violation.specs.Candidates.{IsCandidate, IsOptimalFor, count_at, count_so_far_at}
-use Rattle.violation.specs.Prefixes.{kind_of}
-use Rattle.violation.specs.Stages.{IsStage}
-use Rattle.violation.proofs.CostLemmas.{exchange}
-use Rattle.violation.proofs.StageLemmas.{all_optimal, optimal_for_fewer, over_first}
-use Rattle.violation.proofs.WalkSums.{walk_cost, violations_on, so_far_walk}
-use Rattle.kind_laws.specs.Follows.{Adds}
-use Rattle.violation.proofs.Ranks.{least_count, optimal_by_count}
-use Rattle.violation.specs.Problems.{Problem}
+use Rattle.violation.specs.{Candidates.{IsCandidate, IsOptimalFor, count_at, count_so_far_at}, Prefixes.kind_of}
+use Rattle.violation.specs.{Stages.IsStage, Problems.Problem}
+use Rattle.violation.proofs.{CostLemmas.exchange, StageLemmas.{all_optimal, optimal_for_fewer, over_first}}
+use Rattle.violation.proofs.{WalkSums.{walk_cost, violations_on, so_far_walk}, Ranks.{least_count, optimal_by_count}}
 use Rattle.violation.proofs.FewerStages.{same_fewer}
+use Rattle.kind_laws.specs.Follows.{Adds}
 
 -- the same as a stage, for fewer constraints
 pub lower : (problem : Problem) (i r : ℕ) → i ≤ r → IsStage problem r → IsStage problem i

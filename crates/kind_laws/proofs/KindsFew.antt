@@ -1,21 +1,13 @@
 -- The kinds of a stage are among the names.
 use Rattle.std.proofs.Common.{ℕ, zero, suc, ◌+◌, ◌*◌, ◌^◌, ◌≤◌, Bool, true, false, cond, List, [], ◌∷◌, ◌++◌, map}
-use Rattle.std.proofs.Common.{filter, take, drop, length, ap, subst, arith, Contains}
-use Rattle.std.proofs.lemmas.List.{length-take}
+use Rattle.std.proofs.{Common.{filter, take, drop, length, ap, subst, arith, Contains}, lemmas.List.length-take}
 use Rattle.std.proofs.lemmas.Nat.{mul-le}
-use Rattle.tier_core.specs.declared.sym.Sym.{Sym}
-use Rattle.tier_core.specs.Kinds.{PrefixKind}
-use Rattle.tier_core.specs.Sides.{is_stretch}
-use Rattle.tier_core.specs.Timelines.{tier_word}
-use Rattle.violation.specs.Candidates.{IsCandidate}
-use Rattle.violation.specs.Prefixes.{is_open, phase, kind_of, stretches}
+use Rattle.tier_core.specs.{declared.sym.Sym.Sym, Kinds.PrefixKind, Sides.is_stretch, Timelines.tier_word}
+use Rattle.violation.specs.{Candidates.IsCandidate, Prefixes.{is_open, phase, kind_of, stretches}}
 use Rattle.violation.specs.Stages.{IsStage, IsKindOfStage, AreKindsOfStage}
-use Rattle.violation.proofs.PrefixLemmas.{IsBegun, input_part}
-use Rattle.violation.proofs.StageLemmas.{over_stretches}
-use Rattle.violation.proofs.WalkLemmas.{begun_of}
 use Rattle.violation.specs.Problems.{Problem, last_stage, last_place}
-use Rattle.violation.proofs.ClosedPhases.{phases_closed}
-use Rattle.violation.proofs.CutCandidates.{candidate_cut}
+use Rattle.violation.proofs.{PrefixLemmas.{IsBegun, input_part}, StageLemmas.over_stretches, WalkLemmas.begun_of}
+use Rattle.violation.proofs.{ClosedPhases.phases_closed, CutCandidates.candidate_cut}
 use Rattle.tier_core.proofs.AscendingKinds.{ascending_few}
 use Rattle.kind_laws.proofs.Names.{names, name_count, name_in}
 

@@ -1,18 +1,13 @@
 -- Names for kinds: a place, open free tiers, and whether each open stretch is met.
 use Rattle.std.proofs.Common.{◌≡◌, ℕ, zero, suc, ◌+◌, ◌*◌, ◌^◌, ◌≤◌, Bool, true, false, not, cond, List, [], ◌∷◌}
-use Rattle.std.proofs.Common.{◌++◌, map, length, refl, sym, ap, ◌∙◌, subst, arith, Contains}
-use Rattle.std.specs.List.{flat_map, range_with_len}
-use Rattle.std.proofs.lemmas.Bool.{false≢true}
+use Rattle.std.proofs.{Common.{◌++◌, map, length, refl, sym, ap, ◌∙◌, subst, arith, Contains}, lemmas.Bool.false≢true}
 use Rattle.std.proofs.lemmas.List.{length-append, length-map}
 use Rattle.std.proofs.lemmas.List.Elements.{Contains-append_left, Contains-append_right}
 use Rattle.std.proofs.lemmas.List.FromFn.{length-range_with_len}
-use Rattle.tier_core.specs.declared.constraint.Constraint.{Constraint}
-use Rattle.tier_core.specs.Kinds.{Phase, closed, unmet, met, PrefixKind}
-use Rattle.tier_core.proofs.Members.{contains_first, contains_map, contains_flat}
-use Rattle.tier_core.proofs.RangeMembers.{range_has}
-use Rattle.violation.specs.Moves.{is_met_phase}
-use Rattle.violation.specs.Phases.{is_closed, is_left_open, AreClosedOr}
-use Rattle.violation.specs.Prefixes.{stretches}
+use Rattle.std.specs.List.{flat_map, range_with_len}
+use Rattle.tier_core.specs.{declared.constraint.Constraint.Constraint, Kinds.{Phase, closed, unmet, met, PrefixKind}}
+use Rattle.tier_core.proofs.{Members.{contains_first, contains_map, contains_flat}, RangeMembers.range_has}
+use Rattle.violation.specs.{Moves.is_met_phase, Phases.{is_closed, is_left_open, AreClosedOr}, Prefixes.stretches}
 use Rattle.violation.specs.Problems.{Problem, last_place}
 
 -- every list of so many flags

@@ -1,15 +1,11 @@
 -- Conjunctions in which a type is repeated.
 use Rattle.std.proofs.Common.{◌≡◌, ◌<◌, List, [], ◌∷◌, ◌++◌, Contains, subst, arith}
 use Rattle.std.proofs.lemmas.List.Elements.{All-contains, All-from_recursion}
-use Rattle.tier_core.specs.declared.sym.Sym.{Sym}
-use Rattle.tier_core.specs.declared.event.Event.{Event}
-use Rattle.tier_core.specs.declared.constraint.Family.{Family}
+use Rattle.tier_core.specs.{declared.sym.Sym.Sym, declared.event.Event.Event, declared.constraint.Family.Family}
 use Rattle.tier_core.specs.declared.constraint.Family.TheVariants.{Implication, Clash}
 use Rattle.tier_core.proofs.Members.{contains_first, contains_later}
-use Rattle.violation.specs.Conditions.{IsCountable}
-use Rattle.violation.specs.Counts.{viol}
-use Rattle.kind_laws.proofs.Conjunctions.{implication_alike, clash_alike}
-use Rattle.kind_laws.proofs.Sets.{HasSame, one_of}
+use Rattle.violation.specs.{Conditions.IsCountable, Counts.viol}
+use Rattle.kind_laws.proofs.{Conjunctions.{implication_alike, clash_alike}, Sets.{HasSame, one_of}}
 
 once : (e : Event) (types : List Event) → Contains types e → HasSame (e ∷ types) types
 once e types c x = (

@@ -1,13 +1,9 @@
 -- Where a way passes a kind.
 use Rattle.std.proofs.Common.{◌≡◌, ◌≢◌, ◌⊎◌, inl, inr, ℕ, List, [], ◌∷◌, ◌++◌, refl, sym, ap, subst}
 use Rattle.std.specs.List.{AllByRecursion}
-use Rattle.tier_core.specs.declared.sym.Sym.{Sym}
-use Rattle.tier_core.specs.Kinds.{PrefixKind}
-use Rattle.tier_core.proofs.KindTies.{same_or_not}
-use Rattle.tier_core.proofs.Differing.{Differ}
-use Rattle.violation.specs.Moves.{next_kind}
-use Rattle.violation.specs.Problems.{Problem}
-use Rattle.violation.specs.Walks.{walk_end}
+use Rattle.tier_core.specs.{declared.sym.Sym.Sym, Kinds.PrefixKind}
+use Rattle.tier_core.proofs.{KindTies.same_or_not, Differing.Differ}
+use Rattle.violation.specs.{Moves.next_kind, Problems.Problem, Walks.walk_end}
 use Rattle.kind_laws.specs.Ways.{kinds_passed}
 
 -- a way comes to a kind behind its front, and its back passes no kind twice

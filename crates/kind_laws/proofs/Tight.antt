@@ -1,21 +1,15 @@
 -- Optimal candidates go by tight steps.
-use Rattle.std.proofs.Common.{◌≡◌, ℕ, zero, suc, ◌+◌, ◌-◌, ◌≤◌, List, [], ◌∷◌, ◌++◌, take, drop, length, refl, sym, ap}
-use Rattle.std.proofs.Common.{◌∙◌, subst, arith, append_assoc}
-use Rattle.tier_core.specs.declared.sym.Sym.{Sym}
-use Rattle.tier_core.specs.Kinds.{PrefixKind}
-use Rattle.violation.specs.Candidates.{IsCandidate, IsOptimalFor, count_at, count_so_far_at}
-use Rattle.violation.specs.Moves.{cost_of}
-use Rattle.violation.specs.Prefixes.{kind_of}
-use Rattle.violation.specs.Stages.{IsStage, Passes, IsLeastRest, IsRemaining}
-use Rattle.violation.proofs.StageLemmas.{optimal_for_fewer, over_stretches}
-use Rattle.violation.proofs.WalkLemmas.{moved_is}
+use Rattle.std.proofs.Common.{◌≡◌, ℕ, zero, suc, ◌+◌, ◌-◌, ◌≤◌, List, [], ◌∷◌, ◌++◌, take, drop, length, refl, sym}
+use Rattle.std.proofs.Common.{ap, ◌∙◌, subst, arith, append_assoc}
+use Rattle.tier_core.specs.{declared.sym.Sym.Sym, Kinds.PrefixKind}
+use Rattle.violation.specs.{Candidates.{IsCandidate, IsOptimalFor, count_at, count_so_far_at}, Moves.cost_of}
+use Rattle.violation.specs.{Prefixes.kind_of, Stages.{IsStage, Passes, IsLeastRest, IsRemaining}, Problems.Problem}
+use Rattle.violation.proofs.{StageLemmas.{optimal_for_fewer, over_stretches}, WalkLemmas.moved_is}
 use Rattle.violation.proofs.WalkSums.{none_at, walk_cost, walk_step, violations_walk}
-use Rattle.kind_laws.specs.Steps.{IsTightStep, HasTightSteps}
-use Rattle.violation.proofs.Ranks.{least_count, optimal_by_count}
-use Rattle.kind_laws.proofs.GoingOn.{optimal_exchanged, lower, rest, adds_rest, rest_alike, so_far_alike}
-use Rattle.violation.specs.Problems.{Problem}
-use Rattle.violation.proofs.FewerStages.{same_fewer, least_rest}
+use Rattle.violation.proofs.{Ranks.{least_count, optimal_by_count}, FewerStages.{same_fewer, least_rest}}
 use Rattle.violation.proofs.CutCandidates.{prefix_passes, optimal_cut, violations_cut}
+use Rattle.kind_laws.specs.Steps.{IsTightStep, HasTightSteps}
+use Rattle.kind_laws.proofs.GoingOn.{optimal_exchanged, lower, rest, adds_rest, rest_alike, so_far_alike}
 
 from_rest : (problem : Problem) (r : ℕ) (k : PrefixKind) (m : ℕ) → 1 ≤ r → IsLeastRest problem r k m
     → IsRemaining problem r k m

@@ -1,24 +1,17 @@
 -- A table of kinds with all their moves accepts exactly the candidates.
-use Rattle.std.proofs.Common.{◌≡◌, ◌↔◌, ℕ, suc, ◌<◌, IsTrue, List, [], ◌∷◌, ◌++◌, length, sym, ap, ◌∙◌, subst, arith}
-use Rattle.std.proofs.Common.{append-nil}
+use Rattle.std.proofs.Common.{◌≡◌, ◌↔◌, ℕ, suc, ◌<◌, IsTrue, List, [], ◌∷◌, ◌++◌, length, sym, ap, ◌∙◌, subst}
+use Rattle.std.proofs.Common.{arith, append-nil}
 use Rattle.weight_law.specs.declared.Weight.{Ghosts}
-use Rattle.tier_core.specs.declared.sym.Sym.{Sym}
-use Rattle.tier_core.specs.Kinds.{PrefixKind}
-use Rattle.arc_table.specs.declared.arc.TableArc.{TableArc}
-use Rattle.arc_table.specs.declared.state.TableState.{TableState}
+use Rattle.tier_core.specs.{declared.sym.Sym.Sym, Kinds.PrefixKind}
+use Rattle.arc_table.specs.{declared.arc.TableArc.TableArc, declared.state.TableState.TableState}
 use Rattle.arc_table.specs.Runs.{IsRun, IsPath, Reads, Accepts, IsOnRun}
-use Rattle.violation.specs.Candidates.{IsCandidate}
-use Rattle.violation.specs.Moves.{is_final}
-use Rattle.violation.specs.Prefixes.{kind_of}
-use Rattle.violation.specs.Walks.{HasMoves, walk_end, BeginsCandidate}
+use Rattle.violation.specs.{Candidates.IsCandidate, Moves.is_final, Prefixes.kind_of}
+use Rattle.violation.specs.{Walks.{HasMoves, walk_end, BeginsCandidate}, Problems.Problem}
 use Rattle.violation.proofs.WalkLemmas.{begun_of, walk_on, candidate_walk, candidate_final, moves_begin, moves_end}
-use Rattle.violation.proofs.WalkLemmas.{reached_is}
+use Rattle.violation.proofs.{WalkLemmas.reached_is, StageLemmas.over_stretches}
 use Rattle.kind_tables.specs.StageTables.{IsStage, name_of, GoesAsKinds, AreNamedByKinds}
 use Rattle.kind_tables.specs.FoundTables.{HasMoveOn, AreReached, HaveAllMoves}
-use Rattle.kind_tables.proofs.Naming.{path_moves}
-use Rattle.violation.proofs.StageLemmas.{over_stretches}
-use Rattle.kind_tables.proofs.Paths.{run_exists, run_path, path_word, reached_path}
-use Rattle.violation.specs.Problems.{Problem}
+use Rattle.kind_tables.proofs.{Naming.path_moves, Paths.{run_exists, run_path, path_word, reached_path}}
 
 module _ (problem : Problem) (r : ℕ) (stage : IsStage problem r) {W : Type 0} {g : Ghosts W} (names : List PrefixKind)
     (states : List (TableState W g)) (named : AreNamedByKinds problem r names states)

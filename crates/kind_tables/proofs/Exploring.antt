@@ -1,24 +1,16 @@
 -- A table that is found from the pruned one is named by kinds, and accepts the same words.
 use Rattle.std.proofs.Common.{◌≡◌, ◌↔◌, ℕ, suc, ◌<◌, ◌≤◌, List, [], ◌∷◌, length, sym, ap, ◌∙◌, subst, arith}
 use Rattle.std.specs.Prelude.{Contains, IsTrue}
-use Rattle.weight_law.specs.declared.Weight.{Ghosts}
-use Rattle.weight_law.specs.declared.count.Count.{Count}
-use Rattle.tier_core.specs.declared.sym.Sym.{Sym}
-use Rattle.tier_core.specs.Classes.{has}
-use Rattle.tier_core.specs.Kinds.{PrefixKind}
-use Rattle.arc_table.specs.declared.arc.TableArc.{TableArc}
-use Rattle.arc_table.specs.declared.state.TableState.{TableState}
-use Rattle.arc_table.specs.Moves.{moves_at}
+use Rattle.weight_law.specs.{declared.Weight.Ghosts, declared.count.Count.Count}
+use Rattle.tier_core.specs.{declared.sym.Sym.Sym, Classes.has, Kinds.PrefixKind}
+use Rattle.arc_table.specs.{declared.arc.TableArc.TableArc, declared.state.TableState.TableState, Moves.moves_at}
 use Rattle.arc_table.specs.Runs.{IsRun, Reads, Accepts, IsOnRun}
-use Rattle.arc_table.proofs.Push.{moves_exist}
-use Rattle.arc_table.proofs.SomeWord.{some_word}
-use Rattle.violation.specs.Moves.{FitsKind, next_kind, is_final, cut_kind}
+use Rattle.arc_table.proofs.{Push.moves_exist, SomeWord.some_word}
+use Rattle.violation.specs.{Moves.{FitsKind, next_kind, is_final, cut_kind}, Problems.Problem}
 use Rattle.kind_tables.specs.StageTables.{IsStage, name_of, GoesAsKinds, AreNamedByKinds}
 use Rattle.kind_tables.specs.FoundTables.{HasMoveOn, base_of, AreFoundFrom}
 use Rattle.violation.proofs.CutLemmas.{cut_kind-next_kind, cut_kind-kind_of, fits-cut}
-use Rattle.kind_tables.proofs.Naming.{same_state}
-use Rattle.kind_tables.proofs.Paths.{reached_path}
-use Rattle.violation.specs.Problems.{Problem}
+use Rattle.kind_tables.proofs.{Naming.same_state, Paths.reached_path}
 
 module _ (problem : Problem) (r n : ℕ) (further : r ≤ n) {V : Type 0} {h : Ghosts V} (pruned_names : List PrefixKind)
     (pruned : List (TableState V h)) (before : AreNamedByKinds problem r pruned_names pruned) where

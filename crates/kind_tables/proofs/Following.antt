@@ -1,15 +1,11 @@
 -- What is a stage's table, and how one follows another.
 use Rattle.std.proofs.Common.{◌<◌, length, ◌≡◌, ◌↔◌, ℕ, ◌+◌, ◌-◌, List, sym, subst, arith}
-use Rattle.weight_law.specs.declared.Weight.{Ghosts}
-use Rattle.weight_law.specs.declared.count.Count.{Count}
-use Rattle.tier_core.specs.declared.sym.Sym.{Sym}
-use Rattle.tier_core.specs.Kinds.{PrefixKind}
-use Rattle.arc_table.specs.declared.state.TableState.{TableState}
-use Rattle.arc_table.specs.Runs.{Accepts, IsOnRun}
-use Rattle.violation.specs.Candidates.{IsCandidate, IsOptimalFor}
+use Rattle.weight_law.specs.{declared.Weight.Ghosts, declared.count.Count.Count}
+use Rattle.tier_core.specs.{declared.sym.Sym.Sym, Kinds.PrefixKind}
+use Rattle.arc_table.specs.{declared.state.TableState.TableState, Runs.{Accepts, IsOnRun}}
+use Rattle.violation.specs.{Candidates.{IsCandidate, IsOptimalFor}, Problems.Problem}
 use Rattle.violation.proofs.StageLemmas.{all_optimal}
 use Rattle.kind_tables.specs.StageTables.{AreNamedByKinds, AreWeighed, IsStageTable}
-use Rattle.violation.specs.Problems.{Problem}
 
 pub first_table : (problem : Problem) {g : Ghosts Count} (names : List PrefixKind) (states : List (TableState Count g))
     → AreNamedByKinds problem 0 names states → AreWeighed problem 0 names states

@@ -1,26 +1,18 @@
 -- The names of a table of kinds are the kinds that its words pass.
-use Rattle.std.proofs.Common.{◌≤◌, ◌≡◌, ◌↔◌, ℕ, ◌<◌, List, [], ◌∷◌, ◌++◌, length, take, drop, refl, sym, ap, ◌∙◌, subst}
-use Rattle.std.proofs.Common.{arith, inl, inr}
-use Rattle.std.specs.Prelude.{Contains}
-use Rattle.std.proofs.lemmas.Bool.{cases_order}
+use Rattle.std.proofs.Common.{◌≤◌, ◌≡◌, ◌↔◌, ℕ, ◌<◌, List, [], ◌∷◌, ◌++◌, length, take, drop, refl, sym, ap, ◌∙◌}
+use Rattle.std.proofs.{Common.{subst, arith, inl, inr}, lemmas.Bool.cases_order}
 use Rattle.std.proofs.lemmas.List.{get_or_default, take-append-drop}
+use Rattle.std.specs.Prelude.{Contains}
 use Rattle.weight_law.specs.declared.Weight.{Ghosts}
-use Rattle.tier_core.specs.declared.sym.Sym.{Sym}
-use Rattle.tier_core.specs.Kinds.{PrefixKind}
-use Rattle.arc_table.specs.declared.arc.TableArc.{TableArc}
-use Rattle.arc_table.specs.declared.state.TableState.{TableState}
+use Rattle.tier_core.specs.{declared.sym.Sym.Sym, Kinds.PrefixKind}
+use Rattle.arc_table.specs.{declared.arc.TableArc.TableArc, declared.state.TableState.TableState}
 use Rattle.arc_table.specs.Runs.{IsRun, IsPath, Reads, Accepts, IsOnRun}
 use Rattle.arc_table.proofs.SomeWord.{some_word}
-use Rattle.violation.specs.Candidates.{IsOptimalFor}
-use Rattle.violation.specs.Prefixes.{kind_of}
-use Rattle.violation.specs.Stages.{Passes, IsPassed}
-use Rattle.violation.specs.Walks.{HasMoves, walk_end}
-use Rattle.violation.proofs.StageLemmas.{over_stretches}
-use Rattle.violation.proofs.WalkLemmas.{reached_is}
-use Rattle.violation.proofs.CutCandidates.{prefix_passes}
+use Rattle.violation.specs.{Candidates.IsOptimalFor, Prefixes.kind_of, Stages.{Passes, IsPassed}}
+use Rattle.violation.specs.{Walks.{HasMoves, walk_end}, Problems.Problem}
+use Rattle.violation.proofs.{StageLemmas.over_stretches, WalkLemmas.reached_is, CutCandidates.prefix_passes}
 use Rattle.kind_tables.specs.StageTables.{IsStage, name_of, GoesAsKinds, AreNamedByKinds}
 use Rattle.kind_tables.proofs.Paths.{IsParted, run_exists, parted, joined_run, joined_reads, path_word}
-use Rattle.violation.specs.Problems.{Problem}
 
 module _ (problem : Problem) (r : ℕ) (stage : IsStage problem r) where
   module _ {W : Type 0} {g : Ghosts W} (names : List PrefixKind) (states : List (TableState W g)) where

@@ -1,16 +1,11 @@
 -- Paths and runs of a table: their parts, and what they read.
-use Rattle.std.proofs.Common.{zero, suc, IsTrue, Contains, ℕ, ◌<◌, false, List, [], ◌∷◌, ◌++◌, map, length, refl, sym}
-use Rattle.std.proofs.Common.{◌∙◌, subst, arith, inl, inr}
-use Rattle.std.proofs.lemmas.Bool.{cases_lt, false≢true}
+use Rattle.std.proofs.Common.{zero, suc, IsTrue, Contains, ℕ, ◌<◌, false, List, [], ◌∷◌, ◌++◌, map, length, refl}
+use Rattle.std.proofs.{Common.{sym, ◌∙◌, subst, arith, inl, inr}, lemmas.Bool.{cases_lt, false≢true}}
 use Rattle.std.proofs.lemmas.List.{get_or_past, length-map}
 use Rattle.weight_law.specs.declared.Weight.{Ghosts}
-use Rattle.tier_core.specs.declared.sym.Sym.{Sym}
-use Rattle.tier_core.specs.FirstColumn.{first_column}
-use Rattle.arc_table.specs.declared.arc.TableArc.{TableArc}
-use Rattle.arc_table.specs.declared.state.TableState.{TableState}
-use Rattle.arc_table.specs.Conditions.{ClassesFilled}
-use Rattle.arc_table.specs.Moves.{moves_at, accepting_at}
-use Rattle.arc_table.specs.Runs.{IsRun, IsPath, Reads}
+use Rattle.tier_core.specs.{declared.sym.Sym.Sym, FirstColumn.first_column}
+use Rattle.arc_table.specs.{declared.arc.TableArc.TableArc, declared.state.TableState.TableState}
+use Rattle.arc_table.specs.{Conditions.ClassesFilled, Moves.{moves_at, accepting_at}, Runs.{IsRun, IsPath, Reads}}
 use Rattle.tier_core.proofs.Filled.{has-first_column}
 use Rattle.kind_tables.specs.FoundTables.{AreReached}
 use Rattle.arc_table.proofs.Push.{moves_exist}

@@ -1,34 +1,22 @@
 -- The weights of the table of a single pass are vectors of violations.
-use Rattle.std.proofs.Common.{zero, arith, ◌≡◌, ℕ, ◌+◌, ◌≤◌, Bool, cond, List, [], ◌∷◌, ◌++◌, map, drop, take, length}
-use Rattle.std.proofs.Common.{Contains, refl, sym, ap, ◌∙◌}
-use Rattle.std.proofs.lemmas.List.{length-map}
+use Rattle.std.proofs.Common.{zero, arith, ◌≡◌, ℕ, ◌+◌, ◌≤◌, Bool, cond, List, [], ◌∷◌, ◌++◌, map, drop, take}
+use Rattle.std.proofs.{Common.{length, Contains, refl, sym, ap, ◌∙◌}, lemmas.List.length-map}
 use Rattle.weight_law.specs.Ranked.{greatest_part, sum_of_parts, parts_of_vector, ranked_meaning}
-use Rattle.weight_law.specs.declared.Weight.{Ghosts}
-use Rattle.weight_law.specs.declared.ranked.Ranked.{Ranked}
+use Rattle.weight_law.specs.{declared.Weight.Ghosts, declared.ranked.Ranked.Ranked}
 use Rattle.weight_law.proofs.Padded.{sum-padded, padded_zero, greatest-padded}
-use Rattle.tier_core.specs.declared.sym.Sym.{Sym}
-use Rattle.tier_core.specs.declared.constraint.Constraint.{Constraint}
-use Rattle.tier_core.specs.Kinds.{Phase, PrefixKind}
-use Rattle.tier_core.specs.Sides.{is_stretch}
-use Rattle.tier_core.specs.FirstColumn.{first_column}
-use Rattle.tier_core.proofs.Filled.{has-first_column}
-use Rattle.tier_core.proofs.MaskBits.{at_most_one}
-use Rattle.arc_table.specs.declared.arc.TableArc.{TableArc}
-use Rattle.arc_table.specs.declared.state.TableState.{TableState}
-use Rattle.arc_table.specs.Moves.{moves_at}
+use Rattle.tier_core.specs.{declared.sym.Sym.Sym, declared.constraint.Constraint.Constraint}
+use Rattle.tier_core.specs.{Kinds.{Phase, PrefixKind}, Sides.is_stretch, FirstColumn.first_column}
+use Rattle.tier_core.proofs.{Filled.has-first_column, MaskBits.at_most_one}
+use Rattle.arc_table.specs.{declared.arc.TableArc.TableArc, declared.state.TableState.TableState, Moves.moves_at}
 use Rattle.arc_table.specs.Runs.{IsRun, IsPath, Reads, weight_of, AcceptingRun, SizesWithin}
 use Rattle.violation.specs.Candidates.{IsCandidate, counts_on}
 use Rattle.violation.specs.Moves.{costs, costs_each, first_phase, is_tier_open, next_kind, move_costs}
-use Rattle.violation.specs.Prefixes.{kind_of}
-use Rattle.violation.specs.Rests.{counts_rest}
-use Rattle.violation.specs.Walks.{add_each, walk_costs}
-use Rattle.violation.proofs.CostLemmas.{length_costs}
-use Rattle.violation.proofs.RestLemmas.{whole_walk, rest_walk, length_whole_walk}
+use Rattle.violation.specs.{Prefixes.kind_of, Rests.counts_rest, Walks.{add_each, walk_costs}}
+use Rattle.violation.specs.Problems.{Problem, last_stage}
+use Rattle.violation.proofs.{CostLemmas.length_costs, RestLemmas.{whole_walk, rest_walk, length_whole_walk}}
 use Rattle.kind_tables.specs.StageTables.{IsStage, name_of, GoesAsKinds, AreNamedByKinds}
 use Rattle.kind_tables.specs.RankedTables.{AreWeighedByAll, IsRankedTable}
-use Rattle.kind_tables.proofs.Paths.{run_path}
-use Rattle.kind_tables.proofs.Weighing.{times_one}
-use Rattle.violation.specs.Problems.{Problem, last_stage}
+use Rattle.kind_tables.proofs.{Paths.run_path, Weighing.times_one}
 
 -- sums place by place
 sum_each : (a b : List ℕ) → sum_of_parts a b ≡ add_each a b

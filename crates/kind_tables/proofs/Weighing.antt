@@ -1,28 +1,18 @@
 -- The weights of a stage's table are violations of its constraint.
-use Rattle.std.proofs.Common.{zero, suc, arith, ◌*◌, Bool, cond, drop, length, Contains, ◌≡◌, ℕ, ◌+◌, ◌-◌, ◌≤◌, List}
-use Rattle.std.proofs.Common.{[], ◌∷◌, ◌++◌, take, length, get_or, sym, ap, ◌∙◌}
-use Rattle.weight_law.specs.Count.{count_meaning}
-use Rattle.weight_law.specs.declared.Weight.{Ghosts}
-use Rattle.weight_law.specs.declared.count.Count.{Count}
-use Rattle.tier_core.specs.declared.sym.Sym.{Sym}
-use Rattle.tier_core.specs.declared.constraint.Constraint.{Constraint}
-use Rattle.tier_core.specs.Kinds.{PrefixKind}
-use Rattle.arc_table.specs.declared.arc.TableArc.{TableArc}
-use Rattle.arc_table.specs.declared.state.TableState.{TableState}
-use Rattle.arc_table.specs.Runs.{IsRun, IsPath, Reads, weight_of, AcceptingRun, SizesWithin}
+use Rattle.std.proofs.Common.{zero, suc, arith, ◌*◌, Bool, cond, drop, length, Contains, ◌≡◌, ℕ, ◌+◌, ◌-◌, ◌≤◌}
+use Rattle.std.proofs.Common.{List, [], ◌∷◌, ◌++◌, take, length, get_or, sym, ap, ◌∙◌}
+use Rattle.weight_law.specs.{Count.count_meaning, declared.Weight.Ghosts, declared.count.Count.Count}
+use Rattle.tier_core.specs.{declared.sym.Sym.Sym, declared.constraint.Constraint.Constraint}
+use Rattle.tier_core.specs.{Kinds.{PrefixKind, Phase}, Sides.is_stretch, FirstColumn.first_column}
+use Rattle.arc_table.specs.{declared.arc.TableArc.TableArc, declared.state.TableState.TableState}
+use Rattle.arc_table.specs.{Runs.{IsRun, IsPath, Reads, weight_of, AcceptingRun, SizesWithin}, Moves.moves_at}
 use Rattle.violation.specs.Candidates.{IsCandidate, count_at, count_so_far_at}
-use Rattle.tier_core.specs.Kinds.{Phase}
-use Rattle.tier_core.specs.Sides.{is_stretch}
-use Rattle.tier_core.specs.FirstColumn.{first_column}
-use Rattle.tier_core.proofs.Filled.{has-first_column}
-use Rattle.tier_core.proofs.MaskBits.{at_most_one}
-use Rattle.arc_table.specs.Moves.{moves_at}
-use Rattle.violation.specs.Moves.{move_costs, costs, costs_each, first_phase, is_tier_open}
-use Rattle.violation.specs.Prefixes.{kind_of}
+use Rattle.violation.specs.{Moves.{move_costs, costs, costs_each, first_phase, is_tier_open}, Prefixes.kind_of}
+use Rattle.violation.specs.Problems.{Problem}
+use Rattle.tier_core.proofs.{Filled.has-first_column, MaskBits.at_most_one}
 use Rattle.kind_tables.specs.StageTables.{IsStage, name_of, GoesAsKinds, AreNamedByKinds, AreWeighed, IsStageTable}
 use Rattle.kind_tables.proofs.Paths.{run_path}
 use Rattle.violation.proofs.WalkSums.{none_at, walk_cost, walk_step, violations_walk, violations_on, so_far_walk}
-use Rattle.violation.specs.Problems.{Problem}
 
 module _ (problem : Problem) (r : ℕ) (stage : IsStage problem r) {g : Ghosts Count}
     (meaning : g.meaning ≡ count_meaning) (names : List PrefixKind) (states : List (TableState Count g)) where

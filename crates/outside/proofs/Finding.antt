@@ -1,6 +1,6 @@
 -- Looking a name up in a list of files, one after the other.
-use Rattle.std.proofs.Common.{◌≡◌, ℕ, ◌+◌, ◌<◌, true, false, cond, List, ◌∷◌, length, get_or, drop, Some, String, Vec}
-use Rattle.std.proofs.Common.{string_bytes, ap, sym, ◌∙◌, drop-cons, add-one}
+use Rattle.std.proofs.Common.{◌≡◌, ℕ, ◌+◌, ◌<◌, true, false, cond, List, ◌∷◌, length, get_or, drop, Some, String}
+use Rattle.std.proofs.Common.{Vec, string_bytes, ap, sym, ◌∙◌, drop-cons, add-one}
 use Rattle.std.specs.Str.{bytes_eq}
 use Rattle.outside.specs.Held.{files_of, file_text}
 

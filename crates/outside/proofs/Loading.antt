@@ -1,11 +1,8 @@
 -- What a load answers of a file that was opened, or not.
 use Rattle.std.proofs.Common.{◌≡◌, ℕ, List, Option, Result, Ok, Err, IfOk, OnErr, Vec, subst, ap, ◌∙◌, ◌≤◌, arith}
 use Rattle.std.specs.Prelude.{⊤}
-use Rattle.outside.specs.Faults.{Rose, next_fault_count}
-use Rattle.outside.specs.MemShelf.{faults_after}
-use Rattle.outside.specs.FileShelf.{HasRead, IsWholeLoad}
-use Rattle.outside.specs.declared.shelf.LoadErr.{LoadErr}
-use Rattle.outside.specs.declared.shelf.LoadErr.TheVariants.{Failed}
+use Rattle.outside.specs.{Faults.{Rose, next_fault_count}, MemShelf.faults_after, FileShelf.{HasRead, IsWholeLoad}}
+use Rattle.outside.specs.{declared.shelf.LoadErr.LoadErr, declared.shelf.LoadErr.TheVariants.Failed}
 
 -- a load that has read a file has opened it
 pub opened_file : {F E Z : Type 0} (text : F → Option (List ℕ)) (limit : ℕ) (opened : Result F E)

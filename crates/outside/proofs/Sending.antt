@@ -1,7 +1,6 @@
 -- What a sink has taken of a text: a text in two parts, and a part that is all that was taken.
-use Rattle.std.proofs.Common.{◌≡◌, ℕ, Option, None, Some, List, [], ◌++◌, length, take, drop, ◌-◌, refl, subst, arith}
-use Rattle.std.proofs.Common.{ap, sym, ◌∙◌, append_assoc, append-nil}
-use Rattle.std.proofs.lemmas.Grind.{common_steps}
+use Rattle.std.proofs.Common.{◌≡◌, ℕ, Option, None, Some, List, [], ◌++◌, length, take, drop, ◌-◌, refl, subst}
+use Rattle.std.proofs.{Common.{arith, ap, sym, ◌∙◌, append_assoc, append-nil}, lemmas.Grind.common_steps}
 use Rattle.std.proofs.lemmas.List.{take-append-drop}
 use Rattle.outside.specs.Sent.{append_if_seen, HasSentPart, Sends}
 

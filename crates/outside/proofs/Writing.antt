@@ -9,17 +9,12 @@
 -- `up_to_end`.
 --
 -- A writer `put_x` stops with `puts_stop`, and ends with `puts_flushed`.
-use Rattle.std.proofs.Common.{◌≡◌, ℕ, ◌+◌, ◌<◌, ◌≤◌, Option, List, [], ◌++◌, length, drop, get_or, refl, subst, arith}
-use Rattle.std.proofs.Common.{ap, sym, ◌∙◌, append_assoc, append-nil}
-use Rattle.std.specs.Prelude.{Result, Ok, Err, IsErrAnd, OnErr}
-use Rattle.std.specs.List.{flat_map}
-use Rattle.std.proofs.lemmas.List.{at_drop_more, at_drop_all}
-use Rattle.std.proofs.lemmas.Result.{on_ok_weaker, err_from_is_err_and}
-use Rattle.outside.specs.Faults.{Rose}
-use Rattle.outside.specs.Sent.{append_if_seen, HasSentPart, Sends}
-use Rattle.outside.specs.Writers.{Puts, Pushes}
-use Rattle.outside.specs.declared.sink.Sink.{Ghosts}
-use Rattle.outside.specs.declared.sink.WriteErr.{WriteErr}
+use Rattle.std.proofs.Common.{◌≡◌, ℕ, ◌+◌, ◌<◌, ◌≤◌, Option, List, [], ◌++◌, length, drop, get_or, refl, subst}
+use Rattle.std.proofs.Common.{arith, ap, sym, ◌∙◌, append_assoc, append-nil}
+use Rattle.std.proofs.{lemmas.List.{at_drop_more, at_drop_all}, lemmas.Result.{on_ok_weaker, err_from_is_err_and}}
+use Rattle.std.specs.{Prelude.{Result, Ok, Err, IsErrAnd, OnErr}, List.flat_map}
+use Rattle.outside.specs.{Faults.Rose, Sent.{append_if_seen, HasSentPart, Sends}, Writers.{Puts, Pushes}}
+use Rattle.outside.specs.{declared.sink.Sink.Ghosts, declared.sink.WriteErr.WriteErr}
 use Rattle.outside.proofs.Sending.{longer_part, part_after, part_of_sends, sends_after, sends_all, sends_both}
 use Rattle.outside.proofs.Sending.{sends_front, sends_none, sends_whole}
 

@@ -1,19 +1,14 @@
 -- One more old move, kept or not.
-use Rattle.std.proofs.Common.{◌≡◌, ℕ, ◌+◌, ◌<◌, List, [], ◌∷◌, ◌++◌, Option, None, Some, length, get_or, refl, sym, ap}
-use Rattle.std.proofs.Common.{◌∙◌, subst, arith, inl, inr}
+use Rattle.std.proofs.Common.{◌≡◌, ℕ, ◌+◌, ◌<◌, List, [], ◌∷◌, ◌++◌, Option, None, Some, length, get_or, refl, sym}
+use Rattle.std.proofs.{Common.{ap, ◌∙◌, subst, arith, inl, inr}, lemmas.Bool.cases_lt, lemmas.List.get_or_read}
+use Rattle.std.proofs.lemmas.List.Elements.{Contains-get_or, Contains-append_left, Contains-push}
+use Rattle.std.proofs.{lemmas.List.Elements.Contains-push_cases, lemmas.List.Quantifiers.all_pairs_push}
 use Rattle.std.specs.Prelude.{Contains, AllPairs, IsSome}
-use Rattle.std.proofs.lemmas.Bool.{cases_lt}
-use Rattle.std.proofs.lemmas.List.{get_or_read}
-use Rattle.std.proofs.lemmas.List.Elements.{Contains-get_or, Contains-append_left, Contains-push, Contains-push_cases}
-use Rattle.std.proofs.lemmas.List.Quantifiers.{all_pairs_push}
-use Rattle.weight_law.specs.declared.Weight.{Ghosts}
-use Rattle.weight_law.specs.Meaning.{Meaning}
-use Rattle.tier_core.specs.declared.class.Class.{Class}
-use Rattle.tier_core.specs.Classes.{AreDisjoint}
+use Rattle.weight_law.specs.{declared.Weight.Ghosts, Meaning.Meaning}
+use Rattle.tier_core.specs.{declared.class.Class.Class, Classes.AreDisjoint}
 use Rattle.arc_table.specs.declared.arc.TableArc.{TableArc}
 use Rattle.distances.specs.Best.{weight_through}
-use Rattle.prune_best.specs.Names.{IsNamed, Grows}
-use Rattle.prune_best.specs.Kept.{IsTightArc, Matches, AreTightMoves, NamesTargets}
+use Rattle.prune_best.specs.{Names.{IsNamed, Grows}, Kept.{IsTightArc, Matches, AreTightMoves, NamesTargets}}
 
 pub some_added : {W : Type 0} (m : Meaning W) (a w : W) (o : Option W) → weight_through m a o ≡ Some w → IsSome o
 some_added m a w None e = cc

@@ -1,17 +1,12 @@
 -- The new states that are made so far.
-use Rattle.std.proofs.Common.{◌≡◌, ℕ, ◌<◌, ◌≤◌, Bool, List, [], ◌∷◌, ◌++◌, Option, None, length, get_or, refl, sym, ap}
-use Rattle.std.proofs.Common.{◌∙◌, subst, arith, inl, inr}
+use Rattle.std.proofs.Common.{◌≡◌, ℕ, ◌<◌, ◌≤◌, Bool, List, [], ◌∷◌, ◌++◌, Option, None, length, get_or, refl, sym}
+use Rattle.std.proofs.{Common.{ap, ◌∙◌, subst, arith, inl, inr}, lemmas.Bool.cases_lt, lemmas.List.length_push}
 use Rattle.std.specs.Prelude.{Contains, IsSome}
-use Rattle.std.proofs.lemmas.Bool.{cases_lt}
-use Rattle.std.proofs.lemmas.List.{length_push}
 use Rattle.weight_law.specs.declared.Weight.{Ghosts}
-use Rattle.arc_table.specs.declared.arc.TableArc.{TableArc}
-use Rattle.arc_table.specs.declared.state.TableState.{TableState}
-use Rattle.arc_table.specs.Moves.{moves_at, accepting_at}
-use Rattle.arc_table.specs.Runs.{IsPath}
+use Rattle.arc_table.specs.{declared.arc.TableArc.TableArc, declared.state.TableState.TableState}
+use Rattle.arc_table.specs.{Moves.{moves_at, accepting_at}, Runs.IsPath}
 use Rattle.arc_table.proofs.Push.{moves_exist, accepting_old, accepting_new, moves_old, moves_new}
-use Rattle.prune_best.specs.Names.{IsNamed, Grows}
-use Rattle.prune_best.specs.Kept.{AreTightMoves, NamesTargets, IsNewState}
+use Rattle.prune_best.specs.{Names.{IsNamed, Grows}, Kept.{AreTightMoves, NamesTargets, IsNewState}}
 
 -- what is known while new states are made
 pub record SoFar {W V : Type 0} {g : Ghosts W} {h : Ghosts V} (old : List (TableState W g)) (least : List (Option W))

@@ -1,32 +1,21 @@
 -- The new states accept the words of least weight.
-use Rattle.std.proofs.Common.{◌≡◌, ℕ, zero, suc, ◌<◌, List, [], ◌∷◌, Option, None, Some, length, get_or, refl, sym, ap}
-use Rattle.std.proofs.Common.{◌∙◌, subst, arith}
+use Rattle.std.proofs.Common.{◌≡◌, ℕ, zero, suc, ◌<◌, List, [], ◌∷◌, Option, None, Some, length, get_or, refl, sym}
+use Rattle.std.proofs.{Common.{ap, ◌∙◌, subst, arith}, lemmas.List.Elements.Contains-get_or}
 use Rattle.std.specs.Prelude.{Contains, IsSome, IsTrue}
-use Rattle.std.proofs.lemmas.List.Elements.{Contains-get_or}
-use Rattle.weight_law.specs.declared.Weight.{Ghosts}
-use Rattle.weight_law.specs.Meaning.{AtMost, IsLawful}
+use Rattle.weight_law.specs.{declared.Weight.Ghosts, Meaning.{AtMost, IsLawful}}
 use Rattle.weight_law.proofs.Order.{at_most-both}
-use Rattle.tier_core.specs.declared.class.Class.{Class}
-use Rattle.tier_core.specs.declared.sym.Sym.{Sym}
-use Rattle.tier_core.specs.Classes.{sets_of, has}
-use Rattle.arc_table.specs.declared.arc.TableArc.{TableArc}
-use Rattle.arc_table.specs.declared.state.TableState.{TableState}
+use Rattle.tier_core.specs.{declared.class.Class.Class, declared.sym.Sym.Sym, Classes.{sets_of, has}}
+use Rattle.tier_core.specs.Filled.{is_filled}
+use Rattle.arc_table.specs.{declared.arc.TableArc.TableArc, declared.state.TableState.TableState}
 use Rattle.arc_table.specs.Moves.{moves_at, accepting_at}
 use Rattle.arc_table.specs.Conditions.{TargetsExist, ClassesDisjoint, ClassesFilled, OneWidth}
-use Rattle.tier_core.specs.Filled.{is_filled}
 use Rattle.arc_table.specs.Runs.{IsRun, weight_of, Reads, Accepts, IsLeastWord, IsOnRun}
-use Rattle.arc_table.proofs.SomeWord.{some_word}
-use Rattle.distances.specs.Best.{weight_through}
-use Rattle.distances.specs.Least.{AreLeast}
-use Rattle.distances.proofs.Witness.{lawful-weight_of}
-use Rattle.distances.proofs.Looks.{weight_through-some}
+use Rattle.arc_table.proofs.{SomeWord.some_word, Push.moves_exist}
+use Rattle.distances.specs.{Best.weight_through, Least.AreLeast}
+use Rattle.distances.proofs.{Witness.lawful-weight_of, Looks.weight_through-some}
 use Rattle.distances.proofs.Shortest.{least_at, lawful_least, least_same, weighed, tight_step}
-use Rattle.prune_best.specs.Names.{IsNamed, AreNumbered}
-use Rattle.prune_best.specs.Kept.{IsTightArc, Matches}
-use Rattle.prune_best.specs.Tight.{IsTight, IsLeastMove}
-use Rattle.prune_best.proofs.Numbering.{names_apart, numbered_below}
-use Rattle.arc_table.proofs.Push.{moves_exist}
-use Rattle.prune_best.proofs.SoFar.{SoFar}
+use Rattle.prune_best.specs.{Names.{IsNamed, AreNumbered}, Kept.{IsTightArc, Matches}, Tight.{IsTight, IsLeastMove}}
+use Rattle.prune_best.proofs.{Numbering.{names_apart, numbered_below}, SoFar.SoFar}
 
 -- the element at a place
 at_place : {X : Type 0} (xs : List X) (j : ℕ) → j < length xs → (x : X) × (get_or xs j x ≡ x)

@@ -2,30 +2,21 @@
 -- weights are the least vectors that remain.
 use Rattle.std.proofs.Common.{◌≡◌, ◌↔◌, ℕ, ◌≤◌, ◌<◌, List, ◌++◌, take, drop, length, ◌-◌, refl, sym, ap, ◌∙◌, subst}
 use Rattle.std.proofs.lemmas.List.{length-map, take-append-drop, length-take-le}
-use Rattle.weight_law.specs.Meaning.{AtMost}
-use Rattle.weight_law.specs.Ranked.{parts_of_vector, ranked_meaning}
-use Rattle.weight_law.specs.declared.Weight.{Ghosts}
+use Rattle.weight_law.specs.{Meaning.AtMost, Ranked.{parts_of_vector, ranked_meaning}, declared.Weight.Ghosts}
 use Rattle.weight_law.specs.declared.ranked.Ranked.{Ranked}
 use Rattle.weight_law.proofs.Padded.{at_most_vector, vector_at_most}
-use Rattle.tier_core.specs.declared.sym.Sym.{Sym}
-use Rattle.tier_core.specs.Kinds.{PrefixKind}
-use Rattle.arc_table.specs.declared.arc.TableArc.{TableArc}
-use Rattle.arc_table.specs.declared.state.TableState.{TableState}
+use Rattle.tier_core.specs.{declared.sym.Sym.Sym, Kinds.PrefixKind}
+use Rattle.arc_table.specs.{declared.arc.TableArc.TableArc, declared.state.TableState.TableState}
 use Rattle.arc_table.specs.Runs.{IsRun, weight_of, AcceptingRun, Accepts, IsLeastWord, IsLeastFrom, IsOnRun}
 use Rattle.arc_table.proofs.SomeWord.{some_word}
 use Rattle.violation.specs.Candidates.{IsCandidate, counts_on, IsAtMost, IsOptimalFor, IsOptimal, IsLeastVector}
-use Rattle.violation.specs.Counts.{violations_of, violations_so_far}
-use Rattle.violation.specs.Prefixes.{kind_of}
-use Rattle.violation.specs.Rests.{counts_rest, PassesWhole, IsLeastRestVector}
-use Rattle.violation.proofs.LeastVector.{one_vector, all_counts_taken}
-use Rattle.violation.proofs.StageLemmas.{all_optimal}
+use Rattle.violation.specs.{Counts.{violations_of, violations_so_far}, Prefixes.kind_of}
+use Rattle.violation.specs.{Rests.{counts_rest, PassesWhole, IsLeastRestVector}, Problems.{Problem, last_stage}}
+use Rattle.violation.proofs.{LeastVector.{one_vector, all_counts_taken}, StageLemmas.all_optimal}
 use Rattle.violation.proofs.CutCandidates.{candidate_cut}
-use Rattle.kind_tables.specs.StageTables.{IsStage, name_of}
-use Rattle.kind_tables.specs.RankedTables.{IsRankedTable}
+use Rattle.kind_tables.specs.{StageTables.{IsStage, name_of}, RankedTables.IsRankedTable}
 use Rattle.kind_tables.proofs.Naming.{path_kind, same_state, passes_state, passed_state}
-use Rattle.kind_tables.proofs.Paths.{IsParted, run_exists, path_word}
-use Rattle.kind_tables.proofs.VectorWeights.{run_vector_law, rest_vector}
-use Rattle.violation.specs.Problems.{Problem, last_stage}
+use Rattle.kind_tables.proofs.{Paths.{IsParted, run_exists, path_word}, VectorWeights.{run_vector_law, rest_vector}}
 
 module _ (problem : Problem) (stage : IsStage problem (last_stage problem)) (few : last_stage problem ≤ 24)
     {g : Ghosts Ranked} (meaning : g.meaning ≡ ranked_meaning) (names : List PrefixKind)

@@ -1,22 +1,15 @@
 -- The words of least weight of a stage's table are the candidates that its constraint leaves.
 use Rattle.std.proofs.Common.{◌≡◌, ◌↔◌, ℕ, zero, suc, ◌-◌, ◌≤◌, List, get_or, sym, ap, ◌∙◌, arith}
-use Rattle.weight_law.specs.Meaning.{AtMost}
-use Rattle.weight_law.specs.Count.{count_meaning}
-use Rattle.weight_law.specs.declared.Weight.{Ghosts}
-use Rattle.weight_law.specs.declared.count.Count.{Count}
-use Rattle.tier_core.specs.declared.sym.Sym.{Sym}
-use Rattle.tier_core.specs.Kinds.{PrefixKind}
-use Rattle.arc_table.specs.declared.arc.TableArc.{TableArc}
-use Rattle.arc_table.specs.declared.state.TableState.{TableState}
+use Rattle.weight_law.specs.{Meaning.AtMost, Count.count_meaning, declared.Weight.Ghosts, declared.count.Count.Count}
+use Rattle.tier_core.specs.{declared.sym.Sym.Sym, Kinds.PrefixKind}
+use Rattle.arc_table.specs.{declared.arc.TableArc.TableArc, declared.state.TableState.TableState}
 use Rattle.arc_table.specs.Runs.{weight_of, AcceptingRun, Accepts, IsLeastWord, IsLeastFrom}
 use Rattle.arc_table.proofs.SomeWord.{some_word}
-use Rattle.violation.specs.Candidates.{IsOptimalFor, IsLeastVector, count_at}
-use Rattle.violation.proofs.Ranks.{least_count, optimal_by_count}
-use Rattle.violation.proofs.StageLemmas.{optimal_for_fewer}
+use Rattle.violation.specs.{Candidates.{IsOptimalFor, IsLeastVector, count_at}, Problems.{Problem, last_stage}}
+use Rattle.violation.proofs.{Ranks.{least_count, optimal_by_count}, StageLemmas.optimal_for_fewer}
 use Rattle.kind_tables.specs.StageTables.{IsStage, IsStageTable}
 use Rattle.stage_laws.proofs.Resting.{at_most_le, le_at_most, first_weight}
 use Rattle.kind_tables.proofs.Weighing.{run_weight_law}
-use Rattle.violation.specs.Problems.{Problem, last_stage}
 
 module _ (problem : Problem) (r : ℕ) (stage : IsStage problem r) {g : Ghosts Count}
     (meaning : g.meaning ≡ count_meaning) (names : List PrefixKind) (states : List (TableState Count g))

@@ -1,23 +1,16 @@
 -- A table that is pruned keeps the names of its states.
 use Rattle.std.proofs.Common.{◌≡◌, ◌≢◌, ℕ, ◌<◌, List, length, get_or, sym, ap, ◌∙◌, subst, arith}
-use Rattle.std.specs.Prelude.{Contains, IsTrue}
 use Rattle.std.proofs.lemmas.List.{length-map, get_or-map}
+use Rattle.std.specs.Prelude.{Contains, IsTrue}
 use Rattle.weight_law.specs.declared.Weight.{Ghosts}
-use Rattle.tier_core.specs.declared.class.Class.{Class}
-use Rattle.tier_core.specs.declared.sym.Sym.{Sym}
-use Rattle.tier_core.specs.Classes.{has}
-use Rattle.tier_core.specs.Kinds.{PrefixKind}
-use Rattle.arc_table.specs.declared.arc.TableArc.{TableArc}
-use Rattle.arc_table.specs.declared.state.TableState.{TableState}
-use Rattle.arc_table.specs.Conditions.{TargetsExist, ClassesFilled}
-use Rattle.arc_table.specs.Moves.{moves_at}
+use Rattle.tier_core.specs.{declared.class.Class.Class, declared.sym.Sym.Sym, Classes.has, Kinds.PrefixKind}
+use Rattle.arc_table.specs.{declared.arc.TableArc.TableArc, declared.state.TableState.TableState}
+use Rattle.arc_table.specs.{Conditions.{TargetsExist, ClassesFilled}, Moves.moves_at}
 use Rattle.arc_table.proofs.Push.{moves_exist}
 use Rattle.prune_best.specs.Tight.{IsTight}
-use Rattle.violation.specs.Moves.{FitsKind, next_kind, is_final}
-use Rattle.kind_tables.specs.StageTables.{IsStage, name_of, GoesAsKinds, AreNamedByKinds}
-use Rattle.kind_tables.specs.FoundTables.{names_kept}
+use Rattle.violation.specs.{Moves.{FitsKind, next_kind, is_final}, Problems.Problem}
+use Rattle.kind_tables.specs.{StageTables.{IsStage, name_of, GoesAsKinds, AreNamedByKinds}, FoundTables.names_kept}
 use Rattle.kind_tables.proofs.Naming.{same_state}
-use Rattle.violation.specs.Problems.{Problem}
 
 module _ (problem : Problem) (r : ℕ) (stage : IsStage problem r) {W V : Type 0} {g : Ghosts W} {h : Ghosts V}
     (names : List PrefixKind) (states : List (TableState W g)) (named : AreNamedByKinds problem r names states)

@@ -1,26 +1,16 @@
 -- What is left of the table of a single pass is the automaton of the optimal candidates.
 use Rattle.std.proofs.Common.{◌≡◌, ◌↔◌, ℕ, ◌≤◌, ◌<◌, List, take, length, Contains}
-use Rattle.weight_law.specs.Ranked.{ranked_meaning}
-use Rattle.weight_law.specs.declared.Weight.{Ghosts}
-use Rattle.weight_law.specs.declared.ranked.Ranked.{Ranked}
-use Rattle.tier_core.specs.declared.sym.Sym.{Sym}
-use Rattle.tier_core.specs.Kinds.{PrefixKind}
-use Rattle.arc_table.specs.declared.arc.TableArc.{TableArc}
-use Rattle.arc_table.specs.declared.state.TableState.{TableState}
-use Rattle.arc_table.specs.Conditions.{TargetsExist, ClassesFilled}
-use Rattle.arc_table.specs.Runs.{IsPath, Reads, Accepts}
+use Rattle.weight_law.specs.{Ranked.ranked_meaning, declared.Weight.Ghosts, declared.ranked.Ranked.Ranked}
+use Rattle.tier_core.specs.{declared.sym.Sym.Sym, Kinds.PrefixKind}
+use Rattle.arc_table.specs.{declared.arc.TableArc.TableArc, declared.state.TableState.TableState}
+use Rattle.arc_table.specs.{Conditions.{TargetsExist, ClassesFilled}, Runs.{IsPath, Reads, Accepts}}
 use Rattle.prune_best.specs.Tight.{IsTight}
-use Rattle.violation.specs.Candidates.{IsOptimal}
-use Rattle.violation.specs.Prefixes.{kind_of}
-use Rattle.violation.specs.Rests.{IsWholeKind}
-use Rattle.violation.specs.Stages.{IsPassed}
-use Rattle.kind_tables.specs.StageTables.{IsStage, name_of, AreNamedByKinds}
-use Rattle.kind_tables.specs.FoundTables.{names_kept}
-use Rattle.kind_tables.specs.RankedTables.{IsRankedTable}
-use Rattle.stage_laws.proofs.LeastVectors.{optimal_words, zero_words}
-use Rattle.kind_tables.proofs.Naming.{names_law, prefix_path}
-use Rattle.stage_laws.proofs.Pruned.{kept_named}
+use Rattle.violation.specs.{Candidates.IsOptimal, Prefixes.kind_of, Rests.IsWholeKind, Stages.IsPassed}
 use Rattle.violation.specs.Problems.{Problem, last_stage}
+use Rattle.kind_tables.specs.{StageTables.{IsStage, name_of, AreNamedByKinds}, FoundTables.names_kept}
+use Rattle.kind_tables.specs.RankedTables.{IsRankedTable}
+use Rattle.stage_laws.proofs.{LeastVectors.{optimal_words, zero_words}, Pruned.kept_named}
+use Rattle.kind_tables.proofs.Naming.{names_law, prefix_path}
 
 module _ (problem : Problem) (stage : IsStage problem (last_stage problem)) (few : last_stage problem ≤ 24)
     {g : Ghosts Ranked} (meaning : g.meaning ≡ ranked_meaning) (names : List PrefixKind)

@@ -1,33 +1,22 @@
 -- The least weights of a stage's table are what remains to be counted.
 use Rattle.std.proofs.Common.{◌≡◌, ℕ, zero, suc, ◌+◌, ◌-◌, ◌<◌, ◌≤◌, false, List, ◌++◌, take, drop, length, get_or}
-use Rattle.std.proofs.Common.{Option, None, Some, refl, sym, ap, ◌∙◌, subst, arith, inl, inr}
+use Rattle.std.proofs.{Common.{Option, None, Some, refl, sym, ap, ◌∙◌, subst, arith, inl, inr}, lemmas.Bool.cases_lt}
+use Rattle.std.proofs.{lemmas.Bool.Decides.nat_tests, lemmas.List.get_or_past}
 use Rattle.std.specs.Prelude.{nat_lt, MatchOption, IsSome}
-use Rattle.std.proofs.lemmas.Bool.{cases_lt}
-use Rattle.std.proofs.lemmas.Bool.Decides.{nat_tests}
-use Rattle.std.proofs.lemmas.List.{get_or_past}
-use Rattle.weight_law.specs.Meaning.{AtMost}
-use Rattle.weight_law.specs.Count.{count_meaning}
-use Rattle.weight_law.specs.declared.Weight.{Ghosts}
-use Rattle.weight_law.specs.declared.count.Count.{Count}
-use Rattle.tier_core.specs.declared.sym.Sym.{Sym}
-use Rattle.tier_core.specs.Kinds.{PrefixKind}
-use Rattle.arc_table.specs.declared.arc.TableArc.{TableArc}
-use Rattle.arc_table.specs.declared.state.TableState.{TableState}
+use Rattle.weight_law.specs.{Meaning.AtMost, Count.count_meaning, declared.Weight.Ghosts, declared.count.Count.Count}
+use Rattle.tier_core.specs.{declared.sym.Sym.Sym, Kinds.PrefixKind}
+use Rattle.arc_table.specs.{declared.arc.TableArc.TableArc, declared.state.TableState.TableState}
 use Rattle.arc_table.specs.Runs.{IsRun, Reads, weight_of, IsLeastFrom, HasNoRun, IsOnRun}
 use Rattle.distances.specs.Least.{AreLeast}
 use Rattle.arc_table.proofs.SomeWord.{some_word}
-use Rattle.violation.specs.Candidates.{count_at, count_so_far_at}
-use Rattle.violation.specs.Prefixes.{kind_of}
-use Rattle.violation.specs.Stages.{Passes, IsLeastRest, IsRemaining}
-use Rattle.violation.specs.Walks.{walk_costs}
-use Rattle.violation.proofs.CostLemmas.{length_walk}
+use Rattle.violation.specs.{Candidates.{count_at, count_so_far_at}, Prefixes.kind_of}
+use Rattle.violation.specs.{Stages.{Passes, IsLeastRest, IsRemaining}, Walks.walk_costs, Problems.Problem}
+use Rattle.violation.proofs.{CostLemmas.length_walk, StageLemmas.over_first}
+use Rattle.violation.proofs.CutCandidates.{candidate_cut, count_cut, so_far_cut}
 use Rattle.kind_tables.specs.StageTables.{IsStage, name_of, IsStageTable}
 use Rattle.kind_tables.proofs.Paths.{IsParted, run_exists, path_word}
 use Rattle.kind_tables.proofs.Naming.{path_kind, same_state, passes_state, passed_state}
-use Rattle.violation.proofs.StageLemmas.{over_first}
-use Rattle.violation.proofs.CutCandidates.{candidate_cut, count_cut, so_far_cut}
 use Rattle.kind_tables.proofs.Weighing.{run_weight, rest_weight}
-use Rattle.violation.specs.Problems.{Problem}
 
 pub le_from_test : (x y : ℕ) → nat_lt y x ≡ false → x ≤ y
 le_from_test x y e = grind (arith, nat_tests)

@@ -1,26 +1,16 @@
 -- From the table of a stage to that of the next: prune it, and go on by kinds under one constraint more.
 use Rattle.std.proofs.Common.{◌↔◌, ◌≤◌, take, Contains, ◌≡◌, ℕ, ◌+◌, ◌<◌, List, length, arith}
-use Rattle.weight_law.specs.Count.{count_meaning}
-use Rattle.weight_law.specs.declared.Weight.{Ghosts}
-use Rattle.weight_law.specs.declared.count.Count.{Count}
-use Rattle.tier_core.specs.declared.sym.Sym.{Sym}
-use Rattle.tier_core.specs.Kinds.{PrefixKind}
-use Rattle.arc_table.specs.declared.state.TableState.{TableState}
-use Rattle.arc_table.specs.Conditions.{TargetsExist, ClassesFilled}
-use Rattle.arc_table.specs.declared.arc.TableArc.{TableArc}
-use Rattle.arc_table.specs.Runs.{IsPath, Reads, Accepts}
-use Rattle.violation.specs.Candidates.{IsOptimalFor}
-use Rattle.violation.specs.Prefixes.{kind_of}
-use Rattle.violation.specs.Stages.{IsPassed}
+use Rattle.weight_law.specs.{Count.count_meaning, declared.Weight.Ghosts, declared.count.Count.Count}
+use Rattle.tier_core.specs.{declared.sym.Sym.Sym, Kinds.PrefixKind}
+use Rattle.arc_table.specs.{declared.state.TableState.TableState, Conditions.{TargetsExist, ClassesFilled}}
+use Rattle.arc_table.specs.{declared.arc.TableArc.TableArc, Runs.{IsPath, Reads, Accepts}}
+use Rattle.violation.specs.{Candidates.IsOptimalFor, Prefixes.kind_of, Stages.IsPassed, Problems.Problem}
 use Rattle.prune_best.specs.Tight.{IsTight}
 use Rattle.kind_tables.specs.StageTables.{IsStage, name_of, AreNamedByKinds, AreWeighed, IsStageTable}
 use Rattle.kind_tables.specs.FoundTables.{names_kept, AreFoundFrom}
-use Rattle.kind_tables.proofs.Exploring.{found_named, found_on_runs, same_words}
-use Rattle.kind_tables.proofs.Following.{next_table}
+use Rattle.kind_tables.proofs.{Exploring.{found_named, found_on_runs, same_words}, Following.next_table}
 use Rattle.kind_tables.proofs.Naming.{names_law, prefix_path}
-use Rattle.stage_laws.proofs.Optimal.{all_words_law}
-use Rattle.stage_laws.proofs.Pruned.{kept_named}
-use Rattle.violation.specs.Problems.{Problem}
+use Rattle.stage_laws.proofs.{Optimal.all_words_law, Pruned.kept_named}
 
 module _ (problem : Problem) (r : ℕ) (stage : IsStage problem r) {g : Ghosts Count}
     (meaning : g.meaning ≡ count_meaning) (names : List PrefixKind) (states : List (TableState Count g))

@@ -1,29 +1,17 @@
 -- Classes that are joined along a tier, as lists of sets.
 use Rattle.std.proofs.Common.{◌≡◌, ◌≢◌, ℕ, suc, ◌+◌, ◌<◌, ◌≤◌, Bool, true, false, cond, ◌||◌, List, [], ◌∷◌, map}
 use Rattle.std.proofs.Common.{length, get_or, bit_or, refl, ap, sym, ◌∙◌, subst, arith, All, AllPairs, count_by}
-use Rattle.std.proofs.Common.{true≢false}
-use Rattle.std.specs.Cmp.Lexicographic.{slice_cmp}
-use Rattle.std.specs.List.{list_all, list_any}
-use Rattle.std.specs.Ordering.{nat_cmp, is_lt, is_eq, is_gt}
-use Rattle.std.specs.declared.cmp.Ordering.{Ordering}
-use Rattle.std.specs.declared.cmp.Ordering.TheVariants.{Less, Equal, Greater}
-use Rattle.std.proofs.lemmas.Bool.{cond_both, cond-true, cond-false}
-use Rattle.std.proofs.lemmas.Cmp.{nat_list_cmp_total, tied_itself, alike_right}
-use Rattle.std.proofs.lemmas.List.{length-set, set-set}
+use Rattle.std.proofs.{Common.true≢false, lemmas.Bool.{cond_both, cond-true, cond-false}}
+use Rattle.std.proofs.{lemmas.Cmp.{nat_list_cmp_total, tied_itself, alike_right}, lemmas.List.{length-set, set-set}}
 use Rattle.std.proofs.lemmas.List.Elements.{All-nil, All-cons, All-head, All-tail, All-weaker}
-use Rattle.std.proofs.lemmas.List.Kept.{AllPairs-cons}
-use Rattle.std.proofs.lemmas.List.Sums.{sum_by-cons}
-use Rattle.tier_core.specs.declared.sym.Sym.{Sym}
-use Rattle.tier_core.specs.Symbols.{symbols}
-use Rattle.tier_core.specs.Sets.{is_in}
-use Rattle.tier_core.specs.Classes.{sets_have}
+use Rattle.std.proofs.{lemmas.List.Kept.AllPairs-cons, lemmas.List.Sums.sum_by-cons}
+use Rattle.std.specs.{Cmp.Lexicographic.slice_cmp, List.{list_all, list_any}, Ordering.{nat_cmp, is_lt, is_eq, is_gt}}
+use Rattle.std.specs.{declared.cmp.Ordering.Ordering, declared.cmp.Ordering.TheVariants.{Less, Equal, Greater}}
+use Rattle.tier_core.specs.{declared.sym.Sym.Sym, Symbols.symbols, Sets.is_in, Classes.sets_have}
 use Rattle.tier_core.specs.FirstColumn.{first_sym}
-use Rattle.symbol_class.specs.Held.{once_if}
-use Rattle.symbol_class.specs.Joined.{sets_beside, beside_cmp, union_on}
-use Rattle.tier_core.proofs.Filled.{sets_filled, sets_have-first}
-use Rattle.symbol_class.proofs.SetLists.{have_either}
-use Rattle.tier_core.proofs.KindTies.{same_numbers, is_equal}
-use Rattle.symbol_class.proofs.Times.{pairs_head, pairs_tail}
+use Rattle.symbol_class.specs.{Held.once_if, Joined.{sets_beside, beside_cmp, union_on}}
+use Rattle.tier_core.proofs.{Filled.{sets_filled, sets_have-first}, KindTies.{same_numbers, is_equal}}
+use Rattle.symbol_class.proofs.{SetLists.have_either, Times.{pairs_head, pairs_tail}}
 
 -- how many of some lists of sets have a column
 abbrev pub times_had : List (List ℕ) → List Sym → ℕ

@@ -2,31 +2,23 @@
 use Rattle.std.proofs.Common.{◌≡◌, ◌≢◌, ℕ, zero, suc, ◌+◌, ◌<◌, ◌≤◌, Bool, true, false, List, [], ◌∷◌, ◌++◌, map}
 use Rattle.std.proofs.Common.{length, get_or, drop, set, refl, ap, sym, ◌∙◌, subst, arith, IsTrue, All, AllPairs}
 use Rattle.std.proofs.Common.{IsPermutation, ◌⊎◌, inl, inr, ⊎_elim}
-use Rattle.std.specs.List.Sorted.{IsSortedByKey}
-use Rattle.std.specs.Ordering.{ordering_reverse, is_lt, is_eq, is_gt}
-use Rattle.std.specs.declared.cmp.Ordering.{Ordering}
-use Rattle.std.specs.declared.cmp.Ordering.TheVariants.{Less, Equal, Greater}
-use Rattle.std.proofs.lemmas.Bool.{true≢false, cases_lt, cases_eq, cases_order}
-use Rattle.std.proofs.lemmas.Cmp.{nat_list_cmp_total}
+use Rattle.std.proofs.{lemmas.Bool.{true≢false, cases_lt, cases_eq, cases_order}, lemmas.Cmp.nat_list_cmp_total}
 use Rattle.std.proofs.lemmas.List.{append_assoc, map_push, at_drop_more, at_drop_all, length-map, length-set}
 use Rattle.std.proofs.lemmas.List.{get_or-map, get_or-set_same, get_or-set_other}
-use Rattle.std.proofs.lemmas.List.Elements.{All-nil, All-head, All-tail, All-map}
-use Rattle.std.proofs.lemmas.List.Folds.{fold-map}
+use Rattle.std.proofs.{lemmas.List.Elements.{All-nil, All-head, All-tail, All-map}, lemmas.List.Folds.fold-map}
 use Rattle.std.proofs.lemmas.List.Sorted.{ranks_by, sorted_far, IsPermutation-refl, IsPermutation-map}
 use Rattle.std.proofs.lemmas.List.Sorted.{IsPermutation-trans, length_permutation, All-permutation}
-use Rattle.tier_core.specs.declared.sym.Sym.{Sym}
-use Rattle.tier_core.specs.declared.class.Class.{Class}
-use Rattle.tier_core.specs.Classes.{sets_of, sets_have, has, AreDisjoint}
-use Rattle.tier_core.specs.Filled.{is_filled}
-use Rattle.symbol_class.specs.Held.{times_held, once_if, width_of, ArePieces}
-use Rattle.symbol_class.specs.Joined.{DifferTwice, sets_beside, beside_cmp, union_on, DifferBeside, JoinsAlong}
-use Rattle.symbol_class.specs.Joined.{JoinsBelow}
-use Rattle.symbol_class.proofs.JoinSteps.{times_had, are_filled, length-united, joined_from, joined_alike, joined_other}
-use Rattle.symbol_class.proofs.JoinSteps.{joined_fewer, joined_kept, joined_wide, joined_filled, joined_had}
-use Rattle.symbol_class.proofs.JoinSteps.{joined_strict, differ_from_below}
-use Rattle.symbol_class.proofs.Pairs.{pairs_map, pairs_unmap, pairs_permuted}
-use Rattle.symbol_class.proofs.Times.{times-cons, times_permuted, once_from_apart, apart_from_once, pairs_head}
-use Rattle.symbol_class.proofs.Times.{pairs_tail, pieces_from_once}
+use Rattle.std.specs.{List.Sorted.IsSortedByKey, Ordering.{ordering_reverse, is_lt, is_eq, is_gt}}
+use Rattle.std.specs.{declared.cmp.Ordering.Ordering, declared.cmp.Ordering.TheVariants.{Less, Equal, Greater}}
+use Rattle.tier_core.specs.{declared.sym.Sym.Sym, declared.class.Class.Class}
+use Rattle.tier_core.specs.{Classes.{sets_of, sets_have, has, AreDisjoint}, Filled.is_filled}
+use Rattle.symbol_class.specs.{Held.{times_held, once_if, width_of, ArePieces}, Joined.{DifferTwice, sets_beside}}
+use Rattle.symbol_class.specs.Joined.{beside_cmp, union_on, DifferBeside, JoinsAlong, JoinsBelow}
+use Rattle.symbol_class.proofs.JoinSteps.{times_had, are_filled, length-united, joined_from, joined_alike}
+use Rattle.symbol_class.proofs.JoinSteps.{joined_other, joined_fewer, joined_kept, joined_wide, joined_filled}
+use Rattle.symbol_class.proofs.JoinSteps.{joined_had, joined_strict, differ_from_below}
+use Rattle.symbol_class.proofs.{Pairs.{pairs_map, pairs_unmap, pairs_permuted}, Times.{times-cons, times_permuted}}
+use Rattle.symbol_class.proofs.Times.{once_from_apart, apart_from_once, pairs_head, pairs_tail, pieces_from_once}
 
 -- ---- lists of classes and of their sets
 

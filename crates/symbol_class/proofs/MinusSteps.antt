@@ -1,17 +1,13 @@
 -- One class without another, tier by tier.
-use Rattle.std.proofs.Common.{◌≡◌, ℕ, ◌+◌, ◌<◌, ◌≤◌, Bool, true, false, not, ◌&&◌, List, length, get_or, w8, refl, ap}
-use Rattle.std.proofs.Common.{sym, ◌∙◌, subst, arith, ⊎_elim}
-use Rattle.std.specs.Int.{bit_not}
+use Rattle.std.proofs.Common.{◌≡◌, ℕ, ◌+◌, ◌<◌, ◌≤◌, Bool, true, false, not, ◌&&◌, List, length, get_or, w8, refl}
+use Rattle.std.proofs.Common.{ap, sym, ◌∙◌, subst, arith, ⊎_elim}
 use Rattle.std.proofs.lemmas.Bool.{false≢true, and_parts, and_from, cases_lt}
-use Rattle.tier_core.specs.declared.sym.Sym.{Sym}
-use Rattle.tier_core.specs.declared.class.Class.{Class}
-use Rattle.tier_core.specs.Sets.{is_in}
-use Rattle.tier_core.specs.Classes.{sets_of, has}
+use Rattle.std.specs.Int.{bit_not}
+use Rattle.tier_core.specs.{declared.sym.Sym.Sym, declared.class.Class.Class, Sets.is_in, Classes.{sets_of, has}}
 use Rattle.tier_core.specs.Timelines.{symbol}
 use Rattle.tier_core.proofs.ClassLemmas.{same_width, each_in, have_each}
 use Rattle.symbol_class.specs.Held.{once_if, AddsClasses}
-use Rattle.symbol_class.proofs.SetLists.{is_in-not}
-use Rattle.symbol_class.proofs.Times.{adds_same, adds_then}
+use Rattle.symbol_class.proofs.{SetLists.is_in-not, Times.{adds_same, adds_then}}
 
 -- `rest` are the columns of a that are in the sets of b on the tiers below this, and the pieces hold
 -- the others

@@ -1,17 +1,11 @@
 -- Pairs of a list that is rearranged or mapped, and what a sort leaves.
 use Rattle.std.proofs.Common.{◌≡◌, ◌≢◌, ℕ, Bool, ◌<◌, List, [], ◌∷◌, map, swap, length, get_or, if◌then◌else◌, ◌==◌}
 use Rattle.std.proofs.Common.{refl, ap, sym, ◌∙◌, subst, arith, inl, inr, AllPairs, IsPermutation}
-use Rattle.std.proofs.lemmas.Bool.{cases_order, cases_eq}
-use Rattle.std.proofs.lemmas.Bool.Decides.{nat_tests}
-use Rattle.std.proofs.lemmas.List.{get_or-map, length-map}
-use Rattle.std.proofs.lemmas.List.Edits.{swapped_from_swap, length-swap}
-use Rattle.std.proofs.lemmas.List.Sorted.{IsPermutation-keeps}
-use Rattle.std.proofs.lemmas.Fn.{always_returns_same}
-use Rattle.std.specs.Cmp.{IsStrictWeakOrder}
-use Rattle.std.specs.Fn.{Called, ComparesAs}
-use Rattle.std.specs.List.Sorted.{IsSortedBy, IsSorted}
-use Rattle.std.specs.Ordering.{is_lt}
-use Rattle.std.specs.declared.cmp.Ordering.{Ordering}
+use Rattle.std.proofs.{lemmas.Bool.{cases_order, cases_eq}, lemmas.Bool.Decides.nat_tests}
+use Rattle.std.proofs.{lemmas.List.{get_or-map, length-map}, lemmas.List.Edits.{swapped_from_swap, length-swap}}
+use Rattle.std.proofs.{lemmas.List.Sorted.IsPermutation-keeps, lemmas.Fn.always_returns_same}
+use Rattle.std.specs.{Cmp.IsStrictWeakOrder, Fn.{Called, ComparesAs}, List.Sorted.{IsSortedBy, IsSorted}}
+use Rattle.std.specs.{Ordering.is_lt, declared.cmp.Ordering.Ordering}
 use denote.Ref.{Bor}
 use denote.Param.Members.{Mut}
 

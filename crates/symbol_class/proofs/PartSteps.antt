@@ -1,21 +1,16 @@
 -- Classes in their parts, by a difference of two classes.
-use Rattle.std.proofs.Common.{◌≡◌, ℕ, ◌+◌, ◌<◌, ◌≤◌, Bool, true, false, not, ◌&&◌, List, [], length, get_or, take, refl}
-use Rattle.std.proofs.Common.{ap, sym, ◌∙◌, subst, arith, IsTrue, All}
-use Rattle.std.specs.List.{Contains}
-use Rattle.std.proofs.lemmas.Bool.{false≢true, and_parts, not-true}
-use Rattle.std.proofs.lemmas.List.{take_all}
+use Rattle.std.proofs.Common.{◌≡◌, ℕ, ◌+◌, ◌<◌, ◌≤◌, Bool, true, false, not, ◌&&◌, List, [], length, get_or, take}
+use Rattle.std.proofs.Common.{refl, ap, sym, ◌∙◌, subst, arith, IsTrue, All}
+use Rattle.std.proofs.{lemmas.Bool.{false≢true, and_parts, not-true}, lemmas.List.take_all}
 use Rattle.std.proofs.lemmas.List.Elements.{All-append, All-nil, Contains-get_or}
 use Rattle.std.proofs.lemmas.List.Sums.{get_or-le-sum_by, sum_by_more}
-use Rattle.tier_core.specs.declared.sym.Sym.{Sym}
-use Rattle.tier_core.specs.declared.class.Class.{Class}
-use Rattle.tier_core.specs.Classes.{sets_of, sets_have, has}
-use Rattle.tier_core.proofs.ClassLemmas.{same_width}
-use Rattle.tier_core.proofs.ClassSets.{same_sets}
-use Rattle.symbol_class.specs.declared.difference.Difference.{Difference}
+use Rattle.std.specs.List.{Contains}
+use Rattle.tier_core.specs.{declared.sym.Sym.Sym, declared.class.Class.Class, Classes.{sets_of, sets_have, has}}
 use Rattle.tier_core.specs.Filled.{is_filled}
+use Rattle.tier_core.proofs.{ClassLemmas.same_width, ClassSets.same_sets, Filled.empty_holds}
+use Rattle.symbol_class.specs.declared.difference.Difference.{Difference}
 use Rattle.symbol_class.specs.Held.{times_held, once_if, ArePieces, AddsClasses}
 use Rattle.symbol_class.specs.Parts.{differs, IsAlike, IsPartOf, AddsAlike, ArePartedBy}
-use Rattle.tier_core.proofs.Filled.{empty_holds}
 use Rattle.symbol_class.proofs.Times.{held_by, adds_same, adds_then, adds_none, pieces_from_once, once_from_apart}
 use Rattle.symbol_class.proofs.Times.{added_times}
 

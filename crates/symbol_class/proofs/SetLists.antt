@@ -1,18 +1,12 @@
 -- Sets of symbols that are met, united or turned around, and lists of sets in which one is replaced.
-use Rattle.std.proofs.Common.{◌≡◌, ℕ, zero, suc, ◌-◌, ◌^◌, ◌<◌, ◌==◌, min, Bool, true, false, not, ◌&&◌, ◌||◌, List, []}
-use Rattle.std.proofs.Common.{◌∷◌, length, get_or, set, bit_and, bit_or, w8, refl, ap, sym, ◌∙◌, arith}
-use Rattle.std.specs.Int.{bit_at, bit_not}
+use Rattle.std.proofs.Common.{◌≡◌, ℕ, zero, suc, ◌-◌, ◌^◌, ◌<◌, ◌==◌, min, Bool, true, false, not, ◌&&◌, ◌||◌, List}
+use Rattle.std.proofs.Common.{[], ◌∷◌, length, get_or, set, bit_and, bit_or, w8, refl, ap, sym, ◌∙◌, arith}
 use Rattle.std.proofs.lemmas.List.{set-get_or, set-set}
 use Rattle.std.proofs.lemmas.Nat.Bits.{bit_at_and, bit_at_or, bit_at_not, bit_at-lt}
-use Rattle.tier_core.specs.declared.sym.Sym.{Sym}
-use Rattle.tier_core.specs.declared.sym.Sym.TheVariants.{Outside, Inside, Start, End, Both}
-use Rattle.tier_core.specs.Symbols.{rank}
-use Rattle.tier_core.specs.Sets.{is_in}
-use Rattle.tier_core.specs.Classes.{sets_have}
-use Rattle.tier_core.specs.Timelines.{symbol}
-use Rattle.tier_core.proofs.Bools.{and_grouped}
-use Rattle.tier_core.proofs.KnownSets.{in_all}
-use Rattle.tier_core.proofs.MaskBits.{most_one}
+use Rattle.std.specs.Int.{bit_at, bit_not}
+use Rattle.tier_core.specs.{declared.sym.Sym.Sym, declared.sym.Sym.TheVariants.{Outside, Inside, Start, End, Both}}
+use Rattle.tier_core.specs.{Symbols.rank, Sets.is_in, Classes.sets_have, Timelines.symbol}
+use Rattle.tier_core.proofs.{Bools.and_grouped, KnownSets.in_all, MaskBits.most_one}
 
 -- ---- one set
 

@@ -1,12 +1,8 @@
 -- Classes that are parted by tests.
 use Rattle.std.proofs.Common.{◌≡◌, ℕ, ◌+◌, ◌<◌, ◌≤◌, Bool, true, false, not, ◌&&◌, ◌||◌, if◌then◌else◌, List, []}
-use Rattle.std.proofs.Common.{length, get_or, take, refl, ap, sym, ◌∙◌, subst, arith}
-use Rattle.std.proofs.lemmas.List.{take_all}
-use Rattle.std.proofs.lemmas.List.Folds.{list_any_more}
-use Rattle.std.proofs.lemmas.List.Sums.{sum_by_more}
-use Rattle.tier_core.specs.declared.sym.Sym.{Sym}
-use Rattle.tier_core.specs.declared.class.Class.{Class}
-use Rattle.tier_core.specs.Classes.{has}
+use Rattle.std.proofs.{Common.{length, get_or, take, refl, ap, sym, ◌∙◌, subst, arith}, lemmas.List.take_all}
+use Rattle.std.proofs.{lemmas.List.Folds.list_any_more, lemmas.List.Sums.sum_by_more}
+use Rattle.tier_core.specs.{declared.sym.Sym.Sym, declared.class.Class.Class, Classes.has}
 use Rattle.symbol_class.specs.Held.{some_has, times_held, once_if, AddsClasses}
 use Rattle.symbol_class.proofs.Times.{held_by, adds_none, adds_same, adds_then, added_times}
 

@@ -1,10 +1,8 @@
 -- Kinds that ascend differ, so they are no more than the names among which they are.
 use Rattle.std.proofs.Common.{◌≡◌, ◌≢◌, ◌≤◌, List, [], ◌∷◌, length, ap, ◌∙◌, Contains}
-use Rattle.std.specs.List.Sorted.{IsStrictlySortedBy}
-use Rattle.std.specs.declared.cmp.Ordering.TheVariants.{Less}
+use Rattle.std.specs.{List.Sorted.IsStrictlySortedBy, declared.cmp.Ordering.TheVariants.Less}
 use Rattle.tier_core.specs.Kinds.{PrefixKind, kind_order}
-use Rattle.tier_core.proofs.KindTies.{not_before_itself}
-use Rattle.tier_core.proofs.Members.{all_from_members, all_at_member}
+use Rattle.tier_core.proofs.{KindTies.not_before_itself, Members.{all_from_members, all_at_member}}
 use Rattle.tier_core.proofs.Differing.{Differ, no_longer}
 
 pub ascending_differ : (ks : List PrefixKind) → IsStrictlySortedBy kind_order ks → Differ ks

@@ -1,10 +1,7 @@
 -- Which columns a class holds.
 use Rattle.std.proofs.Common.{◌≡◌, ℕ, zero, suc, ◌<◌, true, List, [], ◌∷◌, length, get_or, refl, ap, arith}
 use Rattle.std.proofs.lemmas.Bool.{false≢true, and_parts, and_from}
-use Rattle.tier_core.specs.declared.sym.Sym.{Sym}
-use Rattle.tier_core.specs.Sets.{is_in}
-use Rattle.tier_core.specs.Classes.{sets_have}
-use Rattle.tier_core.specs.Timelines.{symbol}
+use Rattle.tier_core.specs.{declared.sym.Sym.Sym, Sets.is_in, Classes.sets_have, Timelines.symbol}
 
 -- a column that sets have has as many symbols
 pub same_width : (sets : List ℕ) (column : List Sym) → sets_have sets column ≡ true → length column ≡ length sets

@@ -1,21 +1,15 @@
 -- The words of classes are ordered as the lists of their sets.
 use Rattle.std.proofs.Common.{◌≡◌, ℕ, zero, suc, ◌+◌, ◌-◌, ◌*◌, ◌/◌, ◌%◌, ◌^◌, ◌<◌, ◌≤◌, false, List, [], ◌∷◌, ◌++◌}
 use Rattle.std.proofs.Common.{length, get_or, refl, ap, ap₂, sym, ◌∙◌, arith, ⊎_elim, length-append}
-use Rattle.std.specs.Cmp.{nat_cmp_is}
-use Rattle.std.specs.Cmp.Lexicographic.{slice_cmp}
-use Rattle.std.specs.Ordering.{nat_cmp, ordering_then, is_lt, is_gt, MatchOrdering}
-use Rattle.std.specs.declared.cmp.Ordering.{Ordering}
-use Rattle.std.specs.declared.cmp.Ordering.TheVariants.{Less, Equal, Greater}
-use Rattle.std.proofs.lemmas.Bool.{cases_lt, false≢true}
-use Rattle.std.proofs.lemmas.Cmp.{ranked}
-use Rattle.std.proofs.Math.Nat.{div-eq_of_lt, mod-eq_of_lt}
+use Rattle.std.proofs.{lemmas.Bool.{cases_lt, false≢true}, lemmas.Cmp.ranked, Math.Nat.{div-eq_of_lt, mod-eq_of_lt}}
 use Rattle.std.proofs.Math.Pow.{pow_mono, mod-mod-pow}
 use Rattle.std.proofs.lemmas.List.{get_or_append_left, get_or-append_right, get_or_past}
-use Rattle.std.proofs.lemmas.List.FromFn.{map-range_with_len_more}
-use Rattle.std.proofs.lemmas.Nat.{shr-shr, field_of}
+use Rattle.std.proofs.{lemmas.List.FromFn.map-range_with_len_more, lemmas.Nat.{shr-shr, field_of}}
+use Rattle.std.specs.{Cmp.nat_cmp_is, Cmp.Lexicographic.slice_cmp}
+use Rattle.std.specs.{Ordering.{nat_cmp, ordering_then, is_lt, is_gt, MatchOrdering}, declared.cmp.Ordering.Ordering}
+use Rattle.std.specs.declared.cmp.Ordering.TheVariants.{Less, Equal, Greater}
 use Rattle.tier_core.specs.ClassWords.{width_in, set_in, sets_in, below_in}
-use Rattle.tier_core.proofs.ClassWordLemmas.{length_in, get_in, sets_from}
-use Rattle.tier_core.proofs.KindTies.{then_equal}
+use Rattle.tier_core.proofs.{ClassWordLemmas.{length_in, get_in, sets_from}, KindTies.then_equal}
 
 -- ---- numbers by their parts
 

@@ -1,18 +1,12 @@
 -- The sets of a class, from its word.
-use Rattle.std.proofs.Common.{◌≡◌, ◌≢◌, ℕ, ◌+◌, ◌<◌, ◌≤◌, ◌^◌, List, length, get_or, set, map, bit_and, refl, ap, ap₂}
-use Rattle.std.proofs.Common.{sym, ◌∙◌, subst, arith, ⊎_elim}
-use Rattle.std.specs.Cmp.Lexicographic.{slice_cmp}
-use Rattle.std.specs.Ordering.{nat_cmp}
-use Rattle.std.proofs.lemmas.Bool.{cases_eq}
+use Rattle.std.proofs.Common.{◌≡◌, ◌≢◌, ℕ, ◌+◌, ◌<◌, ◌≤◌, ◌^◌, List, length, get_or, set, map, bit_and, refl, ap}
+use Rattle.std.proofs.{Common.{ap₂, sym, ◌∙◌, subst, arith, ⊎_elim}, lemmas.Bool.cases_eq}
 use Rattle.std.proofs.lemmas.List.Elements.{All-from_get_or}
 use Rattle.std.proofs.lemmas.List.{length-set, length-map, get_or-map, get_or-set_same, get_or-set_other}
-use Rattle.tier_core.specs.declared.class.Class.{Class}
-use Rattle.tier_core.specs.ClassWords.{width_in, set_in, sets_in, below_in}
-use Rattle.tier_core.specs.Classes.{sets_of}
-use Rattle.tier_core.specs.Sets.{MeetAt, AreSets, single_set}
-use Rattle.tier_core.specs.Timelines.{symbol}
-use Rattle.tier_core.specs.declared.sym.Sym.{Sym}
-use Rattle.tier_core.specs.declared.sym.Sym.TheVariants.{Outside}
+use Rattle.std.specs.{Cmp.Lexicographic.slice_cmp, Ordering.nat_cmp}
+use Rattle.tier_core.specs.{declared.class.Class.Class, ClassWords.{width_in, set_in, sets_in, below_in}}
+use Rattle.tier_core.specs.{Classes.sets_of, Sets.{MeetAt, AreSets, single_set}, Timelines.symbol}
+use Rattle.tier_core.specs.{declared.sym.Sym.Sym, declared.sym.Sym.TheVariants.Outside}
 use Rattle.tier_core.proofs.ClassWordLemmas.{width_from, length_in, get_in, sets_from, met_at, met_below}
 use Rattle.tier_core.proofs.ClassOrder.{words_cmp}
 

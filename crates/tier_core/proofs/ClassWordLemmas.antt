@@ -1,13 +1,11 @@
 -- Sets in the word of a class: one is put, two words are met.
 use Rattle.std.proofs.Common.{◌≡◌, ◌≢◌, ℕ, ◌+◌, ◌-◌, ◌*◌, ◌/◌, ◌%◌, ◌^◌, ◌<◌, ◌≤◌, List, length, get_or, bit_and}
-use Rattle.std.proofs.Common.{bit_xor, ap, sym, ◌∙◌, subst, arith, ⊎_elim}
-use Rattle.std.specs.Int.Bits.{xor_assoc, xor_self, xor_zero_l, xor_zero_r, and_self}
-use Rattle.std.proofs.Math.Nat.{div-eq_of_lt, mod-eq_of_lt}
-use Rattle.std.proofs.Math.Pow.{pow_mono, mod-mod-pow}
-use Rattle.std.proofs.lemmas.Bool.{cases_lt}
+use Rattle.std.proofs.{Common.{bit_xor, ap, sym, ◌∙◌, subst, arith, ⊎_elim}, Math.Nat.{div-eq_of_lt, mod-eq_of_lt}}
+use Rattle.std.proofs.{Math.Pow.{pow_mono, mod-mod-pow}, lemmas.Bool.cases_lt}
 use Rattle.std.proofs.lemmas.List.FromFn.{length-map-range_with_len, get_or-map-range_with_len, fill_by_all}
-use Rattle.std.proofs.lemmas.Nat.{pow_pos, shl-shr, shl_whole, xor_lt, xor_shr, xor_mod, field_of, mod_low, shl_below}
-use Rattle.std.proofs.lemmas.Nat.{pow-add, and_shr, and_mod}
+use Rattle.std.proofs.lemmas.Nat.{pow_pos, shl-shr, shl_whole, xor_lt, xor_shr, xor_mod, field_of, mod_low}
+use Rattle.std.proofs.lemmas.Nat.{shl_below, pow-add, and_shr, and_mod}
+use Rattle.std.specs.Int.Bits.{xor_assoc, xor_self, xor_zero_l, xor_zero_r, and_self}
 use Rattle.tier_core.specs.ClassWords.{width_in, set_in, sets_in, below_in}
 
 -- ---- what a word has

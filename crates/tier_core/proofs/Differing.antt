@@ -1,12 +1,9 @@
 -- A list without repeats whose members are in another list is no longer than that.
 use Rattle.std.proofs.Common.{◌≡◌, ◌≢◌, ℕ, zero, suc, ◌<◌, ◌≤◌, false, List, [], ◌∷◌, length, get_or, refl, sym, ap}
-use Rattle.std.proofs.Common.{◌∙◌, arith, ne_eqb, eqb, Contains}
-use Rattle.std.specs.List.{AllByRecursion, AllPairs, IsDistinct}
-use Rattle.std.proofs.lemmas.Bool.{eqb-true}
-use Rattle.std.proofs.lemmas.List.{get_or_default}
+use Rattle.std.proofs.{Common.{◌∙◌, arith, ne_eqb, eqb, Contains}, lemmas.Bool.eqb-true, lemmas.List.get_or_default}
 use Rattle.std.proofs.lemmas.List.Elements.{All-from_recursion, recursion_from_All}
-use Rattle.std.proofs.lemmas.Map.Steps.{length-le_from_distinct_below}
-use Rattle.std.proofs.lemmas.Map.Views.{Contains-from_any}
+use Rattle.std.proofs.{lemmas.Map.Steps.length-le_from_distinct_below, lemmas.Map.Views.Contains-from_any}
+use Rattle.std.specs.List.{AllByRecursion, AllPairs, IsDistinct}
 use Rattle.tier_core.proofs.Members.{all_from_members, all_at_member}
 
 -- no member is the same as a later one

@@ -1,10 +1,9 @@
 -- Edges of a column, tier by tier.
 use Rattle.std.proofs.Common.{◌≡◌, ℕ, zero, suc, ◌<◌, true, false, List, [], ◌∷◌, map, length, refl, arith, ⊎_elim}
-use Rattle.std.specs.List.{AllByRecursion}
 use Rattle.std.proofs.lemmas.Bool.{false≢true, both_ways, or_cases, or_from, false_from_ne_true}
 use Rattle.std.proofs.lemmas.List.Folds.{list_any_at}
-use Rattle.tier_core.specs.declared.sym.Sym.{Sym}
-use Rattle.tier_core.specs.declared.sym.Sym.TheVariants.{Outside}
+use Rattle.std.specs.List.{AllByRecursion}
+use Rattle.tier_core.specs.{declared.sym.Sym.Sym, declared.sym.Sym.TheVariants.Outside}
 use Rattle.tier_core.specs.Timelines.{symbol, is_edge, has_edge}
 
 pub none_edge : (xs : List Sym) → ((t : ℕ) → t < length xs → is_edge (symbol xs t) ≡ false) → has_edge xs ≡ false

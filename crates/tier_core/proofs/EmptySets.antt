@@ -1,11 +1,11 @@
 -- A word has a tier with the empty set where a bit is left of those that stand for its tiers.
 use Rattle.std.proofs.Common.{◌≡◌, ◌≢◌, ℕ, ◌-◌, ◌*◌, ◌/◌, ◌%◌, ◌^◌, ◌<◌, ◌≤◌, ◌==◌, true, not, ◌||◌, min, max, refl}
 use Rattle.std.proofs.Common.{bit_and, bit_or, w64, ap, sym, ◌∙◌, subst, arith, ⊎_elim}
-use Rattle.std.specs.Int.{bit_at, bit_not, trailing_zeros}
 use Rattle.std.proofs.lemmas.Bool.{agree_below_at, cases_lt, eqb-true, eq-eqb, or_cases, not-true, true≢false}
-use Rattle.std.proofs.lemmas.Nat.{shr-shr, or_lt, and_le_l}
-use Rattle.std.proofs.lemmas.Nat.Bits.{ones_shl, bit_at_and, bit_at_or, bit_at_not, bit_at-zero, bit_at_mask_inside}
-use Rattle.std.proofs.lemmas.Nat.Bits.{bit_at_mask_below, bit_at-trailing_zeros, bit_at-lt}
+use Rattle.std.proofs.{lemmas.Nat.{shr-shr, or_lt, and_le_l}, lemmas.Nat.Bits.{ones_shl, bit_at_and, bit_at_or}}
+use Rattle.std.proofs.lemmas.Nat.Bits.{bit_at_not, bit_at-zero, bit_at_mask_inside, bit_at_mask_below}
+use Rattle.std.proofs.lemmas.Nat.Bits.{bit_at-trailing_zeros, bit_at-lt}
+use Rattle.std.specs.Int.{bit_at, bit_not, trailing_zeros}
 use Rattle.tier_core.specs.ClassWords.{set_in}
 
 -- the lowest bit of each tier's set is that of some symbol

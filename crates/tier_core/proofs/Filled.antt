@@ -1,27 +1,16 @@
 -- A class is filled where it holds a column, and then it holds its first column.
-use Rattle.std.specs.declared.cmp.Ordering.{Ordering}
-use Rattle.std.specs.declared.cmp.Ordering.TheVariants.{Less, Equal, Greater}
-use Rattle.std.specs.Ordering.{nat_cmp, ordering_then, is_gt}
-use Rattle.std.specs.Cmp.Lexicographic.{slice_cmp}
-use Rattle.std.proofs.lemmas.Cmp.{ranked}
-use Rattle.std.proofs.Common.{◌≡◌, ◌≢◌, ℕ, zero, suc, ◌<◌, ◌≤◌, Bool, true, false, not, ◌||◌, cond, List, [], ◌∷◌, map}
-use Rattle.std.proofs.Common.{length, get_or, refl, ap, ◌∙◌, arith}
+use Rattle.std.specs.{declared.cmp.Ordering.Ordering, declared.cmp.Ordering.TheVariants.{Less, Equal, Greater}}
+use Rattle.std.specs.{Ordering.{nat_cmp, ordering_then, is_gt}, Cmp.Lexicographic.slice_cmp}
 use Rattle.std.specs.List.{list_all, list_any}
+use Rattle.std.proofs.{lemmas.Cmp.ranked, Common.{◌≡◌, ◌≢◌, ℕ, zero, suc, ◌<◌, ◌≤◌, Bool, true, false, not, ◌||◌}}
+use Rattle.std.proofs.Common.{cond, List, [], ◌∷◌, map, length, get_or, refl, ap, ◌∙◌, arith}
 use Rattle.std.proofs.lemmas.Bool.{and_parts, and_from, false≢true, both_ways, false_from_ne_true, ne_eqb}
-use Rattle.std.proofs.lemmas.List.Elements.{All-head, All-tail}
-use Rattle.std.proofs.lemmas.List.Folds.{list_all_at}
-use Rattle.tier_core.specs.declared.sym.Sym.{Sym}
-use Rattle.tier_core.specs.declared.sym.Sym.TheVariants.{Outside, Inside, Start, End, Both}
-use Rattle.tier_core.specs.declared.class.Class.{Class}
-use Rattle.tier_core.specs.Symbols.{rank, symbols}
-use Rattle.tier_core.specs.Sets.{is_in, AreSets}
-use Rattle.tier_core.specs.Classes.{sets_of, sets_have, has}
-use Rattle.tier_core.specs.Orders.{sym_cmp, column_cmp}
-use Rattle.tier_core.proofs.SetLemmas.{any_of, some_symbol}
-use Rattle.tier_core.proofs.ClassSets.{sets_few}
-use Rattle.tier_core.proofs.ClassLemmas.{same_width}
-use Rattle.tier_core.specs.Filled.{is_filled}
+use Rattle.std.proofs.{lemmas.List.Elements.{All-head, All-tail}, lemmas.List.Folds.list_all_at}
+use Rattle.tier_core.specs.{declared.sym.Sym.Sym, declared.sym.Sym.TheVariants.{Outside, Inside, Start, End, Both}}
+use Rattle.tier_core.specs.{declared.class.Class.Class, Symbols.{rank, symbols}, Sets.{is_in, AreSets}}
+use Rattle.tier_core.specs.{Classes.{sets_of, sets_have, has}, Orders.{sym_cmp, column_cmp}, Filled.is_filled}
 use Rattle.tier_core.specs.FirstColumn.{first_sym, first_column}
+use Rattle.tier_core.proofs.{SetLemmas.{any_of, some_symbol}, ClassSets.sets_few, ClassLemmas.same_width}
 
 pub sets_filled : (sets : List ℕ) (column : List Sym) → sets_have sets column ≡ true
     → list_all (λ set. list_any (is_in set) symbols) sets ≡ true

@@ -1,15 +1,12 @@
 -- Reading all tiers of a timeline at once.
 use Rattle.std.proofs.Common.{◌≡◌, ℕ, ◌+◌, ◌<◌, ◌≤◌, Bool, true, false, not, ◌&&◌, List, ◌∷◌, length, get_or, take}
 use Rattle.std.proofs.Common.{drop, sym, ap, ◌∙◌, subst, zero, suc, [], map, ⊎_elim}
-use Rattle.std.specs.List.{AllByRecursion, list_any}
 use Rattle.std.proofs.lemmas.List.{drop_more, drop_all, take_all}
 use Rattle.std.proofs.lemmas.Bool.{and_parts, false≢true, or_left, or_right, or_cases, not-true}
-use Rattle.tier_core.specs.declared.sym.Sym.{Sym}
-use Rattle.tier_core.specs.declared.sym.Sym.TheVariants.{Outside}
-use Rattle.tier_core.specs.Timelines.{tier_word, symbol, IsWellFormed, is_edge, has_edge}
-use Rattle.tier_core.specs.Scan.{fits, opens}
-use Rattle.tier_core.proofs.WordLemmas.{runs}
-use Rattle.tier_core.proofs.WordForm.{runs_from_well_formed, well_formed_from_runs}
+use Rattle.std.specs.List.{AllByRecursion, list_any}
+use Rattle.tier_core.specs.{declared.sym.Sym.Sym, declared.sym.Sym.TheVariants.Outside}
+use Rattle.tier_core.specs.{Timelines.{tier_word, symbol, IsWellFormed, is_edge, has_edge}, Scan.{fits, opens}}
+use Rattle.tier_core.proofs.{WordLemmas.runs, WordForm.{runs_from_well_formed, well_formed_from_runs}}
 
 -- where the rest of a tier reads well, its next symbol fits
 pub fits_next : (T : List (List Sym)) (k t : ℕ) (b : Bool) (column : List Sym) → k < length T

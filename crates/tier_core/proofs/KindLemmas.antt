@@ -1,22 +1,15 @@
 -- Kinds are compared by the lowest bit in which their masks differ.
-use Rattle.std.proofs.Common.{◌≡◌, ℕ, zero, suc, ◌+◌, ◌<◌, ◌^◌, ◌==◌, ◌&&◌, Bool, true, false, cond, map, min, bit_and}
-use Rattle.std.proofs.Common.{bit_or, bit_xor, w32, refl, ap, sym, ◌∙◌, subst, ⊎_elim, ◌⊎◌, inl, inr, arith}
-use Rattle.std.specs.List.{range_with_len}
-use Rattle.std.specs.Int.{bit_at, trailing_zeros}
-use Rattle.std.specs.Ordering.{nat_cmp, ordering_then}
-use Rattle.std.specs.Cmp.{nat_cmp_is}
-use Rattle.std.specs.Cmp.Lexicographic.{slice_cmp}
-use Rattle.std.specs.declared.cmp.Ordering.{Ordering}
+use Rattle.std.proofs.Common.{◌≡◌, ℕ, zero, suc, ◌+◌, ◌<◌, ◌^◌, ◌==◌, ◌&&◌, Bool, true, false, cond, map, min}
+use Rattle.std.proofs.Common.{bit_and, bit_or, bit_xor, w32, refl, ap, sym, ◌∙◌, subst, ⊎_elim, ◌⊎◌, inl, inr}
+use Rattle.std.proofs.{Common.arith, lemmas.Bool.{false≢true, cases_lt}, lemmas.Nat.{or_lt, xor_lt}}
+use Rattle.std.proofs.lemmas.Nat.Bits.{bit_at_xor, bit_at_or, bit_at_and, bit_at-lt, bit_at-zero}
+use Rattle.std.proofs.lemmas.Nat.Bits.{bit_at-trailing_zeros}
+use Rattle.std.specs.{List.range_with_len, Int.{bit_at, trailing_zeros}, Ordering.{nat_cmp, ordering_then}}
+use Rattle.std.specs.{Cmp.nat_cmp_is, Cmp.Lexicographic.slice_cmp, declared.cmp.Ordering.Ordering}
 use Rattle.std.specs.declared.cmp.Ordering.TheVariants.{Less, Equal, Greater}
-use Rattle.std.proofs.lemmas.Bool.{false≢true, cases_lt}
-use Rattle.std.proofs.lemmas.Nat.{or_lt, xor_lt}
-use Rattle.std.proofs.lemmas.Nat.Bits.{bit_at_xor, bit_at_or, bit_at_and, bit_at-lt, bit_at-zero, bit_at-trailing_zeros}
-use Rattle.tier_core.specs.declared.kind.Kind.{Kind}
-use Rattle.tier_core.specs.Tiers.{has_tier}
-use Rattle.tier_core.specs.Kinds.{AreStretchesBelow, open_order, phase_order, phase_rank, open_rank, open_tiers, phases}
-use Rattle.tier_core.specs.Kinds.{phase_at, phase_by_bits}
-use Rattle.tier_core.proofs.MaskLemmas.{tier_within}
-use Rattle.tier_core.proofs.KindTies.{same_cmp, same_open}
+use Rattle.tier_core.specs.{declared.kind.Kind.Kind, Tiers.has_tier, Kinds.{AreStretchesBelow, open_order}}
+use Rattle.tier_core.specs.Kinds.{phase_order, phase_rank, open_rank, open_tiers, phases, phase_at, phase_by_bits}
+use Rattle.tier_core.proofs.{MaskLemmas.tier_within, KindTies.{same_cmp, same_open}}
 
 -- ---- lists that are made place by place
 

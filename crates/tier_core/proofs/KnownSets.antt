@@ -1,9 +1,7 @@
 -- The sets of all symbols, of none, and of those that are no edge.
 use Rattle.std.proofs.Common.{◌≡◌, not, true, false, refl}
-use Rattle.tier_core.specs.declared.sym.Sym.{Sym}
-use Rattle.tier_core.specs.declared.sym.Sym.TheVariants.{Outside, Inside, Start, End, Both}
-use Rattle.tier_core.specs.Sets.{is_in}
-use Rattle.tier_core.specs.Timelines.{is_edge}
+use Rattle.tier_core.specs.{declared.sym.Sym.Sym, declared.sym.Sym.TheVariants.{Outside, Inside, Start, End, Both}}
+use Rattle.tier_core.specs.{Sets.is_in, Timelines.is_edge}
 
 pub in_all : (s : Sym) → is_in 31 s ≡ true
 in_all Outside = refl

@@ -1,17 +1,13 @@
 -- Masks by their bits: none from the bound on, none at all, none in common, and masks of lists of flags.
-use Rattle.std.proofs.Common.{◌≡◌, ◌⊎◌, ℕ, zero, suc, ◌+◌, ◌*◌, ◌/◌, ◌%◌, ◌^◌, ◌==◌, ◌<◌, ◌≤◌, ◌&&◌, ◌||◌, not, nat_eq}
-use Rattle.std.proofs.Common.{Bool, true, false, cond, min, max, List, [], ◌∷◌, map, length, get_or, refl, ap, sym, ◌∙◌}
-use Rattle.std.proofs.Common.{arith, ⊎_elim, bit_and, eq-eqb, ne_eqb}
-use Rattle.std.specs.Int.{bit_at}
-use Rattle.std.specs.List.{range_with_len, list_any}
-use Rattle.std.proofs.Math.Nat.{pow-suc, mul-add, mul_assoc}
-use Rattle.std.proofs.lemmas.Bool.{false≢true, cases_lt, eqb-false}
+use Rattle.std.proofs.Common.{◌≡◌, ◌⊎◌, ℕ, zero, suc, ◌+◌, ◌*◌, ◌/◌, ◌%◌, ◌^◌, ◌==◌, ◌<◌, ◌≤◌, ◌&&◌, ◌||◌, not}
+use Rattle.std.proofs.Common.{nat_eq, Bool, true, false, cond, min, max, List, [], ◌∷◌, map, length, get_or, refl}
+use Rattle.std.proofs.Common.{ap, sym, ◌∙◌, arith, ⊎_elim, bit_and, eq-eqb, ne_eqb}
+use Rattle.std.proofs.{Math.Nat.{pow-suc, mul-add, mul_assoc}, lemmas.Bool.{false≢true, cases_lt, eqb-false}}
 use Rattle.std.proofs.lemmas.List.FromFn.{fill_by_all, length-map-range_with_len, get_or-map-range_with_len}
-use Rattle.std.proofs.lemmas.List.Folds.{list_any_at}
-use Rattle.std.proofs.lemmas.Nat.Bits.{bit_at_above, bit_at_lowest, bit_at-suc, bit_at_and, bit_at-zero, bit_at-lt}
-use Rattle.std.proofs.lemmas.Nat.Bits.{same_from_bits, same_from_bits_below}
-use Rattle.tier_core.specs.Kinds.{open_tiers}
-use Rattle.tier_core.specs.Tiers.{has_tier}
+use Rattle.std.proofs.{lemmas.List.Folds.list_any_at, lemmas.Nat.Bits.{bit_at_above, bit_at_lowest, bit_at-suc}}
+use Rattle.std.proofs.lemmas.Nat.Bits.{bit_at_and, bit_at-zero, bit_at-lt, same_from_bits, same_from_bits_below}
+use Rattle.std.specs.{Int.bit_at, List.{range_with_len, list_any}}
+use Rattle.tier_core.specs.{Kinds.open_tiers, Tiers.has_tier}
 use Rattle.tier_core.proofs.KindLemmas.{bit_value}
 
 -- no bit at all

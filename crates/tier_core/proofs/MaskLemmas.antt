@@ -1,17 +1,14 @@
 -- The tiers of a mask.
-use Rattle.std.proofs.Common.{◌≡◌, ◌↔◌, IsTrue, sym, ℕ, zero, suc, ◌≤◌, length, ◌+◌, ◌*◌, ◌%◌, ◌==◌, bit_or, w16, ◌^◌}
-use Rattle.std.proofs.Common.{◌<◌, true, false, cond, List, [], ◌∷◌, ◌++◌, map, ap, ◌∙◌, ⊎_elim, arith, add-one}
-use mir.Val.{bits}
-use Rattle.std.specs.Int.{Width, bit_at, trailing_zeros}
-use Rattle.std.proofs.lemmas.Bool.{false≢true, cases_lt, eqb-true}
-use Rattle.std.proofs.lemmas.List.{map-append, append-nil, length-append}
-use Rattle.std.proofs.Math.Nat.{pow-le-pow_right}
+use Rattle.std.proofs.Common.{◌≡◌, ◌↔◌, IsTrue, sym, ℕ, zero, suc, ◌≤◌, length, ◌+◌, ◌*◌, ◌%◌, ◌==◌, bit_or, w16}
+use Rattle.std.proofs.Common.{◌^◌, ◌<◌, true, false, cond, List, [], ◌∷◌, ◌++◌, map, ap, ◌∙◌, ⊎_elim, arith}
+use Rattle.std.proofs.{Common.add-one, lemmas.Bool.{false≢true, cases_lt, eqb-true}}
+use Rattle.std.proofs.{lemmas.List.{map-append, append-nil, length-append}, Math.Nat.pow-le-pow_right}
 use Rattle.std.proofs.lemmas.Nat.{or_lt, one_shl, pow_below}
 use Rattle.std.proofs.lemmas.Nat.Bits.{bit_at-trailing_zeros, bit_at_above, bit_at_set_same, bit_at_set_other}
-use Rattle.tier_core.specs.declared.sym.Sym.{Sym}
-use Rattle.tier_core.specs.Timelines.{symbol}
-use Rattle.tier_core.specs.declared.tier.TierKind.{TierKind}
+use Rattle.std.specs.Int.{Width, bit_at, trailing_zeros}
+use Rattle.tier_core.specs.{declared.sym.Sym.Sym, Timelines.symbol, declared.tier.TierKind.TierKind}
 use Rattle.tier_core.specs.Tiers.{has_tier, tiers_below, tiers_of, kind_at}
+use mir.Val.{bits}
 
 -- a tier of a mask is below the width that bounds it
 pub tier_within : (keep width tier : ℕ) → keep < 2 ^ width → has_tier keep tier ≡ true → tier < width

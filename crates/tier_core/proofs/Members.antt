@@ -1,12 +1,10 @@
 -- Members of lists and of lists that are made of lists, and what holds of each.
-use Rattle.std.proofs.Common.{◌≡◌, ◌⊎◌, ℕ, zero, suc, ◌<◌, Bool, true, false, cond, List, [], ◌∷◌, map, filter, take}
-use Rattle.std.proofs.Common.{length, get_or, refl, ap, sym, ◌∙◌, subst, arith, ⊎_elim, All, Contains}
-use Rattle.std.proofs.Math.Logic.{⊎_map}
-use Rattle.std.specs.List.{flat_map, AllByRecursion}
-use Rattle.std.proofs.lemmas.Bool.{false≢true}
-use Rattle.std.proofs.lemmas.List.{get_or-map, length-map}
+use Rattle.std.proofs.Common.{◌≡◌, ◌⊎◌, ℕ, zero, suc, ◌<◌, Bool, true, false, cond, List, [], ◌∷◌, map, filter}
+use Rattle.std.proofs.Common.{take, length, get_or, refl, ap, sym, ◌∙◌, subst, arith, ⊎_elim, All, Contains}
+use Rattle.std.proofs.{Math.Logic.⊎_map, lemmas.Bool.false≢true, lemmas.List.{get_or-map, length-map}}
 use Rattle.std.proofs.lemmas.List.Elements.{Contains-get_or, Contains-append_left, Contains-append_right}
 use Rattle.std.proofs.lemmas.List.Elements.{Contains-append_cases, Contains-push_cases}
+use Rattle.std.specs.List.{flat_map, AllByRecursion}
 
 pub contains_none : {X : Type 0} (x : X) → Contains [] x → ⊥
 contains_none x h = absurd (omega (arith, h.1))

@@ -1,7 +1,7 @@
 -- The members of a range of numbers.
 use Rattle.std.proofs.Common.{◌≡◌, ℕ, ◌+◌, ◌-◌, ◌<◌, ◌≤◌, sym, ◌∙◌, arith, Contains}
-use Rattle.std.specs.List.{range_with_len}
 use Rattle.std.proofs.lemmas.List.FromFn.{length-range_with_len, get_or-range_with_len}
+use Rattle.std.specs.List.{range_with_len}
 
 pub in_range : (m n y : ℕ) → Contains (range_with_len m n) y → (m ≤ y) × (y < m + n)
 in_range m n y h =

@@ -1,8 +1,7 @@
 -- Kinds with the same numbers are the same.
 use Rattle.std.proofs.Common.{◌≡◌, ℕ, Bool, true, false, ◌&&◌, nat_eq, refl, ap, subst, ◌∙◌, bit_and, eq-eqb}
+use Rattle.std.proofs.{Props.props, lemmas.Bool.{eqb-true, and_parts}}
 use Rattle.std.specs.Prelude.{Decides}
-use Rattle.std.proofs.Props.{props}
-use Rattle.std.proofs.lemmas.Bool.{eqb-true, and_parts}
 use Rattle.tier_core.specs.declared.kind.Kind.{Kind}
 
 pub same_fields : (k l : Kind) → k.place ≡ l.place → k.opened ≡ l.opened → k.unmet ≡ l.unmet → k.met ≡ l.met → k ≡ l

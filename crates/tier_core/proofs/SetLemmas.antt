@@ -1,16 +1,11 @@
 -- Sets of symbols by their numbers.
 use Rattle.std.proofs.Common.{◌≡◌, ℕ, suc, length, ◌==◌, ◌&&◌, not, Bool, true, false, List, [], ◌∷◌, map, refl, ap}
 use Rattle.std.proofs.Common.{sym, ◌∙◌, get_or, ⊎_elim, ◌<◌, arith}
-use Rattle.std.specs.Int.{bit_at}
 use Rattle.std.proofs.lemmas.Bool.{false≢true, cases_eq, and_parts, and_from, agree_below_at}
-use Rattle.std.proofs.lemmas.Nat.Bits.{bit_at-pow_same, bit_at-pow_other}
-use Rattle.std.proofs.lemmas.List.Folds.{list_any_at}
-use Rattle.std.specs.List.{list_any}
-use Rattle.tier_core.specs.declared.sym.Sym.{Sym}
-use Rattle.tier_core.specs.declared.sym.Sym.TheVariants.{Outside, Inside, Start, End, Both}
-use Rattle.tier_core.specs.Symbols.{rank, symbols}
-use Rattle.tier_core.specs.Sets.{is_in, single_set}
-use Rattle.tier_core.specs.Classes.{sets_have}
+use Rattle.std.proofs.{lemmas.Nat.Bits.{bit_at-pow_same, bit_at-pow_other}, lemmas.List.Folds.list_any_at}
+use Rattle.std.specs.{Int.bit_at, List.list_any}
+use Rattle.tier_core.specs.{declared.sym.Sym.Sym, declared.sym.Sym.TheVariants.{Outside, Inside, Start, End, Both}}
+use Rattle.tier_core.specs.{Symbols.{rank, symbols}, Sets.{is_in, single_set}, Classes.sets_have}
 use Rattle.tier_core.proofs.Bools.{and_false}
 
 -- a symbol is the one of its number

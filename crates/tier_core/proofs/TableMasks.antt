@@ -1,16 +1,13 @@
 -- The tiers of a mask are those of a table that pass a test, where the bits say so.
-use Rattle.std.proofs.Common.{◌≡◌, ◌↔◌, IsTrue, ℕ, zero, suc, ◌+◌, ◌-◌, ◌≤◌, ◌<◌, ◌^◌, ◌==◌, ◌||◌, Bool, true, false}
-use Rattle.std.proofs.Common.{not, cond, List, [], ◌∷◌, ◌++◌, length, count_by, filter, take, refl, ap, sym, ◌∙◌, arith}
-use Rattle.std.proofs.Common.{add-one, ◌&&◌}
-use Rattle.std.specs.List.{list_any}
-use Rattle.std.proofs.lemmas.Bool.{false≢true, eqb-true, eqb-false}
+use Rattle.std.proofs.Common.{◌≡◌, ◌↔◌, IsTrue, ℕ, zero, suc, ◌+◌, ◌-◌, ◌≤◌, ◌<◌, ◌^◌, ◌==◌, ◌||◌, Bool, true}
+use Rattle.std.proofs.Common.{false, not, cond, List, [], ◌∷◌, ◌++◌, length, count_by, filter, take, refl, ap, sym}
+use Rattle.std.proofs.{Common.{◌∙◌, arith, add-one, ◌&&◌}, lemmas.Bool.{false≢true, eqb-true, eqb-false}}
 use Rattle.std.proofs.lemmas.List.{take_more, take_all, append-nil, append_assoc, length-take, length-append}
-use Rattle.std.proofs.lemmas.List.Sums.{length-filter}
-use Rattle.std.proofs.lemmas.Nat.Bits.{bit_at_above}
+use Rattle.std.proofs.{lemmas.List.Sums.length-filter, lemmas.Nat.Bits.bit_at_above}
+use Rattle.std.specs.List.{list_any}
 use Rattle.tier_core.specs.declared.tier.TierKind.{TierKind}
-use Rattle.tier_core.specs.declared.tier.TierKind.TheVariants.{Input, Overt, Hidden}
-use Rattle.tier_core.specs.Tiers.{is_input, is_overt, is_free, numbers_from, tiers_by_kinds, kind_at, has_tier}
-use Rattle.tier_core.specs.Tiers.{tiers_below, tiers_of}
+use Rattle.tier_core.specs.{declared.tier.TierKind.TheVariants.{Input, Overt, Hidden}, Tiers.{is_input, is_overt}}
+use Rattle.tier_core.specs.Tiers.{is_free, numbers_from, tiers_by_kinds, kind_at, has_tier, tiers_below, tiers_of}
 use Rattle.tier_core.specs.Shapes.{masked_count}
 use Rattle.tier_core.proofs.CountLemmas.{count_cons}
 

@@ -1,18 +1,15 @@
 -- How many constituents of a well-formed word start at a place, end there, or have it inside.
-use Rattle.std.proofs.Common.{◌≡◌, ℕ, zero, suc, ◌+◌, ◌<◌, ◌≤◌, Bool, true, false, ◌&&◌, cond, ltb, leb, eqb, List, []}
-use Rattle.std.proofs.Common.{◌∷◌, length, get_or, Option, Some, None, refl, sym, ap, ◌∙◌, arith}
-use Rattle.std.specs.Prelude.{count_by, is_some}
-use Rattle.std.specs.List.{AllByRecursion}
+use Rattle.std.proofs.Common.{◌≡◌, ℕ, zero, suc, ◌+◌, ◌<◌, ◌≤◌, Bool, true, false, ◌&&◌, cond, ltb, leb, eqb, List}
+use Rattle.std.proofs.Common.{[], ◌∷◌, length, get_or, Option, Some, None, refl, sym, ap, ◌∙◌, arith}
 use Rattle.std.proofs.lemmas.Bool.{false≢true, lt-ltb, le-ltb, le-leb, lt-leb, eq-eqb, ne_eqb, and_parts, and_left}
-use Rattle.std.proofs.lemmas.Bool.{and_right, and_from}
-use Rattle.std.proofs.lemmas.Bool.Decides.{nat_tests}
-use Rattle.tier_core.specs.declared.sym.Sym.{Sym}
-use Rattle.tier_core.specs.declared.sym.Sym.TheVariants.{Outside, Inside, Start, End, Both}
+use Rattle.std.proofs.{lemmas.Bool.{and_right, and_from}, lemmas.Bool.Decides.nat_tests}
+use Rattle.std.specs.{Prelude.{count_by, is_some}, List.AllByRecursion}
+use Rattle.tier_core.specs.{declared.sym.Sym.Sym, declared.sym.Sym.TheVariants.{Outside, Inside, Start, End, Both}}
 use Rattle.tier_core.specs.Words.{is_inside_sym, starts, ends, next_end, pair_to, constituents_from, constituents}
 use Rattle.tier_core.specs.Scan.{fits, opens}
-use Rattle.tier_core.proofs.CountLemmas.{bit, count_cons, count_append, count_none, count_split, all_append, all_weaker}
-use Rattle.tier_core.proofs.WordLemmas.{runs, open_at, ended, ended_late, constituents_late, next_end_late, runs_end}
-use Rattle.tier_core.proofs.WordLemmas.{ended_are}
+use Rattle.tier_core.proofs.CountLemmas.{bit, count_cons, count_append, count_none, count_split, all_append}
+use Rattle.tier_core.proofs.{CountLemmas.all_weaker, WordLemmas.{runs, open_at, ended, ended_late, constituents_late}}
+use Rattle.tier_core.proofs.WordLemmas.{next_end_late, runs_end, ended_are}
 
 -- the pair starts before n columns are over, and ends after them
 abbrev pub covers : ℕ → ℕ × ℕ → Bool

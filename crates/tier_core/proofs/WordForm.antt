@@ -1,16 +1,14 @@
 -- A word is well formed exactly where it reads well from left to right.
 use Rattle.std.proofs.Common.{◌≡◌, ℕ, suc, ◌+◌, ◌<◌, ◌≤◌, Bool, true, false, ◌&&◌, ltb, eqb, List, [], ◌∷◌, ◌++◌}
 use Rattle.std.proofs.Common.{length, get_or, Option, Some, None, refl, sym, ap, ◌∙◌, subst, arith}
-use Rattle.std.specs.Prelude.{is_some}
-use Rattle.std.specs.List.{AllByRecursion}
 use Rattle.std.proofs.lemmas.Bool.{false≢true, lt-ltb, le-ltb, eq-eqb, ne_eqb, and_left, and_right}
-use Rattle.tier_core.specs.declared.sym.Sym.{Sym}
-use Rattle.tier_core.specs.declared.sym.Sym.TheVariants.{Outside, Inside, Start, End, Both}
+use Rattle.std.specs.{Prelude.is_some, List.AllByRecursion}
+use Rattle.tier_core.specs.{declared.sym.Sym.Sym, declared.sym.Sym.TheVariants.{Outside, Inside, Start, End, Both}}
 use Rattle.tier_core.specs.Words.{is_inside_sym, starts, ends, next_end, pair_to, constituents_from, constituents}
 use Rattle.tier_core.specs.Words.{starts_at, ends_at, is_inside, symbol_of, drawn_symbol, NextFrom, AreDisjoint}
 use Rattle.tier_core.specs.Words.{IsWellFormedWord}
-use Rattle.tier_core.proofs.CountLemmas.{any_none, any_from_count, all_weaker}
-use Rattle.tier_core.proofs.WordLemmas.{runs, pending, ended, ended_late, constituents_late, next_end_late, ended_are}
+use Rattle.tier_core.proofs.{CountLemmas.{any_none, any_from_count, all_weaker}, WordLemmas.{runs, pending, ended}}
+use Rattle.tier_core.proofs.WordLemmas.{ended_late, constituents_late, next_end_late, ended_are}
 use Rattle.tier_core.proofs.WordCounts.{start_at, end_at, inside_at}
 
 next_from_all : (j : ℕ) (cs : List (ℕ × ℕ)) → AllByRecursion (λ c. j ≤ c.0) cs → NextFrom j cs

@@ -1,13 +1,9 @@
 -- The constituents of a word that reads well from left to right.
 use Rattle.std.proofs.Common.{◌≡◌, ℕ, zero, suc, ◌<◌, ◌≤◌, Bool, true, false, not, ◌&&◌, cond, List, [], ◌∷◌, ◌++◌}
-use Rattle.std.proofs.Common.{refl, ap, arith, length, get_or}
-use Rattle.std.specs.Prelude.{is_some}
-use Rattle.std.specs.List.{AllByRecursion}
-use Rattle.std.proofs.lemmas.Bool.{false≢true}
-use Rattle.tier_core.specs.declared.sym.Sym.{Sym}
-use Rattle.tier_core.specs.declared.sym.Sym.TheVariants.{Outside, Inside, Start, End, Both}
-use Rattle.tier_core.specs.Words.{starts, ends, next_end, pair_to, constituents_from}
-use Rattle.tier_core.specs.Scan.{fits, opens}
+use Rattle.std.proofs.{Common.{refl, ap, arith, length, get_or}, lemmas.Bool.false≢true}
+use Rattle.std.specs.{Prelude.is_some, List.AllByRecursion}
+use Rattle.tier_core.specs.{declared.sym.Sym.Sym, declared.sym.Sym.TheVariants.{Outside, Inside, Start, End, Both}}
+use Rattle.tier_core.specs.{Words.{starts, ends, next_end, pair_to, constituents_from}, Scan.{fits, opens}}
 use Rattle.tier_core.proofs.CountLemmas.{all_append, all_weaker}
 
 -- the rest of a word fits, from a state in which the tier is open or not, and closes it at the end

@@ -1,14 +1,10 @@
 -- Texts that are cut at spaces, and texts that are joined by them.
 use Rattle.std.proofs.Common.{◌≡◌, ℕ, false, List, [], ◌∷◌, ◌++◌, map, refl, ap, ◌∙◌, codes}
-use Rattle.std.specs.List.{onto_first, join_with_byte}
-use Rattle.std.specs.Str.{bytes_eq}
 use Rattle.std.proofs.lemmas.List.Splits.{slice_split-cons_yes, slice_split-cons_no}
-use Rattle.tier_core.specs.Symbols.{byte_of}
-use Rattle.tier_core.specs.declared.sym.Sym.{Sym}
+use Rattle.std.specs.{List.{onto_first, join_with_byte}, Str.bytes_eq}
+use Rattle.tier_core.specs.{Symbols.byte_of, declared.sym.Sym.Sym}
 use Rattle.tier_core.specs.declared.sym.Sym.TheVariants.{Outside, Inside, Start, End, Both}
-use Rattle.timeline_text.specs.Texts.{text_of}
-use Rattle.timeline_text.specs.Bytes.{is_space}
-use Rattle.timeline_text.specs.Causes.{spaced_pieces, symbol_of_byte, columns_of}
+use Rattle.timeline_text.specs.{Texts.text_of, Bytes.is_space, Causes.{spaced_pieces, symbol_of_byte, columns_of}}
 
 no_space : (s : Sym) → is_space (byte_of s) ≡ false
 no_space Outside = refl

@@ -1,29 +1,21 @@
 -- A text is a timeline's, or it has a cause, and never both.
-use Rattle.std.proofs.Common.{◌≡◌, ◌≢◌, ◌⊎◌, inl, inr, ℕ, zero, suc, ◌<◌, ◌≤◌, true, false, List, [], ◌∷◌, length, map}
-use Rattle.std.proofs.Common.{Option, Some, None, not, ◌==◌, codes, refl, ap, sym, ◌∙◌, subst, arith, nat_lt}
-use Rattle.std.specs.List.{list_any}
-use Rattle.std.specs.Str.{bytes_eq}
-use Rattle.std.proofs.lemmas.Bool.{false≢true}
-use Rattle.std.proofs.lemmas.Bool.Decides.{nat_tests}
-use Rattle.std.proofs.lemmas.List.{length-map}
+use Rattle.std.proofs.Common.{◌≡◌, ◌≢◌, ◌⊎◌, inl, inr, ℕ, zero, suc, ◌<◌, ◌≤◌, true, false, List, [], ◌∷◌, length}
+use Rattle.std.proofs.Common.{map, Option, Some, None, not, ◌==◌, codes, refl, ap, sym, ◌∙◌, subst, arith, nat_lt}
+use Rattle.std.proofs.{lemmas.Bool.false≢true, lemmas.Bool.Decides.nat_tests, lemmas.List.length-map}
 use Rattle.std.proofs.lemmas.Slice.Eq.{bytes_eq-Decides}
-use Rattle.tier_core.specs.declared.sym.Sym.{Sym}
-use Rattle.tier_core.specs.Symbols.{byte_of}
-use Rattle.tier_core.specs.Words.{IsWellFormedWord}
+use Rattle.std.specs.{List.list_any, Str.bytes_eq}
+use Rattle.tier_core.specs.{declared.sym.Sym.Sym, Symbols.byte_of, Words.IsWellFormedWord}
 use Rattle.tier_core.specs.Timelines.{tier_word, has_edge, IsReduced, IsWellFormed}
-use Rattle.tier_core.proofs.WordLemmas.{runs}
-use Rattle.tier_core.proofs.WordForm.{runs_from_well_formed, well_formed_from_runs}
+use Rattle.tier_core.proofs.{WordLemmas.runs, WordForm.{runs_from_well_formed, well_formed_from_runs}}
 use Rattle.timeline_text.specs.declared.form_err.FormErr.{FormErr}
 use Rattle.timeline_text.specs.declared.form_err.FormErr.TheVariants.{BadSymbol, WrongWidth, TooLong, NotWellFormed}
 use Rattle.timeline_text.specs.declared.form_err.FormErr.TheVariants.{NotReduced, UnknownLetter, NoMemory}
-use Rattle.timeline_text.specs.Texts.{text_of, IsTextOf}
-use Rattle.timeline_text.specs.Causes.{is_known, spaced_pieces, columns_of, bad_symbol, wrong_width, no_edge}
-use Rattle.timeline_text.specs.Causes.{IsFirstIllFormed, Comes, order, IsCause}
+use Rattle.timeline_text.specs.{Texts.{text_of, IsTextOf}, Causes.{is_known, spaced_pieces, columns_of, bad_symbol}}
+use Rattle.timeline_text.specs.Causes.{wrong_width, no_edge, IsFirstIllFormed, Comes, order, IsCause}
 use Rattle.timeline_text.specs.Readings.{HasReading}
 use Rattle.timeline_text.proofs.Searches.{by_test, by_option, none_any, any_none, none_some}
-use Rattle.timeline_text.proofs.Cuts.{cut_back, columns_back, no_word}
-use Rattle.timeline_text.proofs.Forms.{text_back, length_columns, widths_from, reduced_from, reduced_any, widths_any}
-use Rattle.timeline_text.proofs.Known.{text_known}
+use Rattle.timeline_text.proofs.{Cuts.{cut_back, columns_back, no_word}, Forms.{text_back, length_columns}}
+use Rattle.timeline_text.proofs.{Forms.{widths_from, reduced_from, reduced_any, widths_any}, Known.text_known}
 
 pub not_the_word : (bytes : List ℕ) → bytes_eq bytes (codes "empty") ≡ false → bytes ≢ codes "empty"
 not_the_word bytes h e = false≢true (sym h ∙ (bytes_eq-Decides bytes (codes "empty")).1 e)

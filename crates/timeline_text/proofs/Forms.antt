@@ -1,17 +1,11 @@
 -- A text without a cause is the text of its columns.
-use Rattle.std.proofs.Common.{◌≡◌, ℕ, ◌<◌, ◌==◌, Bool, true, false, not, List, [], ◌∷◌, map, length, refl, ap, sym, ◌∙◌}
-use Rattle.std.proofs.Common.{arith}
-use Rattle.std.specs.List.{onto_first, join_with_byte, list_any, AllByRecursion}
-use Rattle.std.proofs.lemmas.Bool.Decides.{nat_tests}
-use Rattle.std.proofs.lemmas.List.{length-map}
+use Rattle.std.proofs.Common.{◌≡◌, ℕ, ◌<◌, ◌==◌, Bool, true, false, not, List, [], ◌∷◌, map, length, refl, ap, sym}
+use Rattle.std.proofs.{Common.{◌∙◌, arith}, lemmas.Bool.Decides.nat_tests, lemmas.List.length-map}
 use Rattle.std.proofs.lemmas.List.Splits.{slice_split-cons_yes, slice_split-cons_no, length-slice_split}
-use Rattle.std.proofs.lemmas.List.Splits.{join_with_byte-slice_split}
-use Rattle.std.proofs.lemmas.Bool.{or_parts, or_from, not-false}
-use Rattle.tier_core.specs.declared.sym.Sym.{Sym}
-use Rattle.tier_core.specs.Symbols.{byte_of}
-use Rattle.tier_core.specs.Timelines.{has_edge, IsReduced}
-use Rattle.timeline_text.specs.Texts.{text_of}
-use Rattle.timeline_text.specs.Bytes.{is_space}
+use Rattle.std.proofs.{lemmas.List.Splits.join_with_byte-slice_split, lemmas.Bool.{or_parts, or_from, not-false}}
+use Rattle.std.specs.List.{onto_first, join_with_byte, list_any, AllByRecursion}
+use Rattle.tier_core.specs.{declared.sym.Sym.Sym, Symbols.byte_of, Timelines.{has_edge, IsReduced}}
+use Rattle.timeline_text.specs.{Texts.text_of, Bytes.is_space}
 use Rattle.timeline_text.specs.Causes.{is_known, spaced_pieces, symbol_of_byte, columns_of}
 use Rattle.timeline_text.proofs.Searches.{by_test}
 

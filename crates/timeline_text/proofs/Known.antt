@@ -1,12 +1,10 @@
 -- Each byte of the text of a timeline is a symbol or a space.
 use Rattle.std.proofs.Common.{◌≡◌, false, not, ◌||◌, List, [], ◌∷◌, map, refl, ap, ◌∙◌}
-use Rattle.std.specs.List.{list_any}
 use Rattle.std.proofs.lemmas.List.Folds.{list_any-append}
-use Rattle.tier_core.specs.declared.sym.Sym.{Sym}
-use Rattle.tier_core.specs.declared.sym.Sym.TheVariants.{Outside, Inside, Start, End, Both}
+use Rattle.std.specs.List.{list_any}
+use Rattle.tier_core.specs.{declared.sym.Sym.Sym, declared.sym.Sym.TheVariants.{Outside, Inside, Start, End, Both}}
 use Rattle.tier_core.specs.Symbols.{byte_of}
-use Rattle.timeline_text.specs.Texts.{text_of}
-use Rattle.timeline_text.specs.Causes.{is_known}
+use Rattle.timeline_text.specs.{Texts.text_of, Causes.is_known}
 
 sym_known : (s : Sym) → not (is_known (byte_of s)) ≡ false
 sym_known Outside = refl

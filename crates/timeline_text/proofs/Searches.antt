@@ -1,8 +1,7 @@
 -- Cases of tests, and what no element passes.
 use Rattle.std.proofs.Common.{◌≡◌, ℕ, suc, ◌+◌, ◌≤◌, Bool, true, false, not, cond, ◌||◌, List, [], ◌∷◌, length}
-use Rattle.std.proofs.Common.{position, Option, Some, None, refl, arith}
+use Rattle.std.proofs.{Common.{position, Option, Some, None, refl, arith}, lemmas.Bool.Decides.nat_tests}
 use Rattle.std.specs.List.{position_or_len, list_any}
-use Rattle.std.proofs.lemmas.Bool.Decides.{nat_tests}
 use Rattle.timeline_text.proofs.Splits.{position_none}
 
 pub by_test : {X : Type 0} (t : Bool) → (t ≡ true → X) → (t ≡ false → X) → X

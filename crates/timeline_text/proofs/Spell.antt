@@ -1,28 +1,21 @@
 -- The columns that are made of letters have exactly the constituents of the letters.
-use Rattle.std.proofs.Common.{◌≡◌, ℕ, zero, suc, ◌+◌, ◌/◌, ◌%◌, ◌^◌, ◌<◌, ◌≤◌, ◌==◌, Bool, true, false, cond, List, []}
-use Rattle.std.proofs.Common.{◌∷◌, ◌++◌, length, map, drop, Some, ◌⊎◌, inl, inr, Option, None, not, is_some, unwrap_or}
-use Rattle.std.proofs.Common.{option_map, Result, Ok, Err, refl, ap, sym, ◌∙◌, subst, arith}
-use Rattle.std.specs.Prelude.{MatchResult, IfOk, All}
-use Rattle.std.specs.List.{list_any, AllByRecursion}
-use Rattle.std.proofs.lemmas.Nat.Bits.{bit_at_lowest, bit_at-suc}
-use Rattle.std.proofs.lemmas.List.Elements.{recursion_from_All}
+use Rattle.std.proofs.Common.{◌≡◌, ℕ, zero, suc, ◌+◌, ◌/◌, ◌%◌, ◌^◌, ◌<◌, ◌≤◌, ◌==◌, Bool, true, false, cond, List}
+use Rattle.std.proofs.Common.{[], ◌∷◌, ◌++◌, length, map, drop, Some, ◌⊎◌, inl, inr, Option, None, not, is_some}
+use Rattle.std.proofs.Common.{unwrap_or, option_map, Result, Ok, Err, refl, ap, sym, ◌∙◌, subst, arith}
+use Rattle.std.proofs.{lemmas.Nat.Bits.{bit_at_lowest, bit_at-suc}, lemmas.List.Elements.recursion_from_All}
 use Rattle.std.proofs.lemmas.List.Folds.{list_any_at}
 use Rattle.std.proofs.lemmas.List.FromFn.{length-map-range_with_len, get_or-map-range_with_len}
-use Rattle.tier_core.specs.declared.sym.Sym.{Sym}
-use Rattle.tier_core.specs.declared.sym.Sym.TheVariants.{Outside}
+use Rattle.std.proofs.{lemmas.List.length-map, lemmas.Bool.{or_parts, not-false}}
+use Rattle.std.specs.{Prelude.{MatchResult, IfOk, All}, List.{list_any, AllByRecursion}}
+use Rattle.tier_core.specs.{declared.sym.Sym.Sym, declared.sym.Sym.TheVariants.Outside}
 use Rattle.tier_core.specs.Tiers.{has_tier, numbers_from}
 use Rattle.tier_core.specs.Words.{next_end, pair_to, constituents, constituents_from}
 use Rattle.tier_core.specs.Timelines.{tier_word, symbol, is_edge, has_edge, IsReduced, IsWellFormed}
-use Rattle.tier_core.proofs.WordLemmas.{runs}
-use Rattle.tier_core.proofs.WordForm.{well_formed_from_runs}
-use Rattle.tier_core.proofs.MaskBits.{no_bit, odd_or_even}
-use Rattle.timeline_text.specs.declared.letter.Letter.{Letter}
-use Rattle.timeline_text.specs.Spelling.{spelled_on, columns_for, HasSound, letter_of, unknown_letter, sound_of}
-use Rattle.timeline_text.specs.Spelling.{sounds_of, IsSpelledBy}
-use Rattle.std.proofs.lemmas.List.{length-map}
-use Rattle.std.proofs.lemmas.Bool.{or_parts, not-false}
-use Rattle.timeline_text.proofs.Searches.{none_any}
+use Rattle.tier_core.proofs.{WordLemmas.runs, WordForm.well_formed_from_runs, MaskBits.{no_bit, odd_or_even}}
+use Rattle.timeline_text.specs.{declared.letter.Letter.Letter, Spelling.{spelled_on, columns_for, HasSound}}
+use Rattle.timeline_text.specs.Spelling.{letter_of, unknown_letter, sound_of, sounds_of, IsSpelledBy}
 use Rattle.timeline_text.specs.Between.{boundary_symbol, column_between, columns_after}
+use Rattle.timeline_text.proofs.Searches.{none_any}
 
 -- one tier, by which letters have it
 abbrev tier_after : Bool → List Bool → List Sym

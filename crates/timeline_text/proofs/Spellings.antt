@@ -1,22 +1,16 @@
 -- A word of letters spells one form, or it has one cause, and never both.
-use Rattle.std.proofs.Common.{◌≡◌, inl, inr, ℕ, suc, ◌+◌, ◌<◌, ◌≤◌, List, [], ◌∷◌, length, drop, get_or, Option, Some}
-use Rattle.std.proofs.Common.{None, option_map, refl, ap, sym, ◌∙◌, arith, nat_lt}
+use Rattle.std.proofs.Common.{◌≡◌, inl, inr, ℕ, suc, ◌+◌, ◌<◌, ◌≤◌, List, [], ◌∷◌, length, drop, get_or, Option}
+use Rattle.std.proofs.Common.{Some, None, option_map, refl, ap, sym, ◌∙◌, arith, nat_lt}
+use Rattle.std.proofs.{lemmas.Bool.Decides.nat_tests, lemmas.List.{ext_get_or, length-map}}
 use Rattle.std.specs.List.{AllByRecursion}
-use Rattle.std.proofs.lemmas.Bool.Decides.{nat_tests}
-use Rattle.std.proofs.lemmas.List.{ext_get_or, length-map}
-use Rattle.tier_core.specs.declared.sym.Sym.{Sym}
-use Rattle.tier_core.specs.declared.sym.Sym.TheVariants.{Outside}
-use Rattle.tier_core.specs.Words.{drawn_symbol}
+use Rattle.tier_core.specs.{declared.sym.Sym.Sym, declared.sym.Sym.TheVariants.Outside, Words.drawn_symbol}
 use Rattle.tier_core.specs.Timelines.{tier_word}
-use Rattle.timeline_text.specs.declared.letter.Letter.{Letter}
-use Rattle.timeline_text.specs.declared.form_err.FormErr.{FormErr}
+use Rattle.timeline_text.specs.{declared.letter.Letter.Letter, declared.form_err.FormErr.FormErr}
 use Rattle.timeline_text.specs.declared.form_err.FormErr.TheVariants.{BadSymbol, WrongWidth, TooLong, NotWellFormed}
 use Rattle.timeline_text.specs.declared.form_err.FormErr.TheVariants.{NotReduced, UnknownLetter, NoMemory}
 use Rattle.timeline_text.specs.Spelling.{unknown_letter, sound_of, sounds_of, IsSpelledBy, IsSpellingCause}
-use Rattle.timeline_text.specs.Readings.{HasSpelling}
-use Rattle.timeline_text.specs.Between.{columns_after}
-use Rattle.timeline_text.proofs.Searches.{by_test, by_option, none_some}
-use Rattle.timeline_text.proofs.Spell.{spelled_by, spelled_nothing}
+use Rattle.timeline_text.specs.{Readings.HasSpelling, Between.columns_after}
+use Rattle.timeline_text.proofs.{Searches.{by_test, by_option, none_some}, Spell.{spelled_by, spelled_nothing}}
 
 pub has_spelling : (letters : List Letter) (inputs : ℕ) (bytes : List ℕ) → HasSpelling letters inputs bytes
 has_spelling letters inputs bytes = by_option (unknown_letter letters (drop 1 bytes))

@@ -1,13 +1,9 @@
 -- Reading one tier of a timeline, column by column.
-use Rattle.std.proofs.Common.{◌≡◌, ℕ, ◌+◌, ◌<◌, ◌≤◌, Bool, true, false, ◌&&◌, not, List, ◌∷◌, length, get_or, drop, ap}
-use Rattle.std.proofs.Common.{sym, ◌∙◌}
-use Rattle.std.proofs.lemmas.List.{drop_more, drop_all}
-use Rattle.tier_core.specs.declared.sym.Sym.{Sym}
-use Rattle.tier_core.specs.Timelines.{tier_word, symbol}
-use Rattle.tier_core.specs.Scan.{fits, opens}
+use Rattle.std.proofs.Common.{◌≡◌, ℕ, ◌+◌, ◌<◌, ◌≤◌, Bool, true, false, ◌&&◌, not, List, ◌∷◌, length, get_or, drop}
+use Rattle.std.proofs.{Common.{ap, sym, ◌∙◌}, lemmas.List.{drop_more, drop_all}}
+use Rattle.tier_core.specs.{declared.sym.Sym.Sym, Timelines.{tier_word, symbol}, Scan.{fits, opens}}
 use Rattle.tier_core.specs.Words.{IsWellFormedWord}
-use Rattle.tier_core.proofs.WordLemmas.{runs}
-use Rattle.tier_core.proofs.WordForm.{runs_from_well_formed, well_formed_from_runs}
+use Rattle.tier_core.proofs.{WordLemmas.runs, WordForm.{runs_from_well_formed, well_formed_from_runs}}
 
 -- the next symbol, and the rest of the tier
 pub next_symbol : (T : List (List Sym)) (k t : ℕ) (b : Bool) (column : List Sym) (s : Sym) → k < length T

@@ -1,9 +1,6 @@
 -- The input part of a column, tier by tier.
-use Rattle.std.proofs.Common.{◌≡◌, ℕ, ◌≤◌, List, [], map, drop, length, ap}
-use Rattle.std.proofs.lemmas.List.{drop_all}
-use Rattle.tier_core.specs.declared.sym.Sym.{Sym}
-use Rattle.tier_core.specs.declared.tier.TierKind.{TierKind}
-use Rattle.tier_core.specs.Tiers.{is_input, numbers_from}
+use Rattle.std.proofs.{Common.{◌≡◌, ℕ, ◌≤◌, List, [], map, drop, length, ap}, lemmas.List.drop_all}
+use Rattle.tier_core.specs.{declared.sym.Sym.Sym, declared.tier.TierKind.TierKind, Tiers.{is_input, numbers_from}}
 use Rattle.tier_core.specs.Timelines.{symbol}
 
 -- what the tiers from k on have of a column's input part

@@ -1,21 +1,14 @@
 -- The phases of a prefix are closed exactly where a left tier is.
-use Rattle.std.proofs.Common.{◌≡◌, ℕ, ◌<◌, Bool, true, false, not, cond, List, [], ◌∷◌, map, length, refl, ap, sym, ◌∙◌}
-use Rattle.std.proofs.Common.{arith}
+use Rattle.std.proofs.Common.{◌≡◌, ℕ, ◌<◌, Bool, true, false, not, cond, List, [], ◌∷◌, map, length, refl, ap, sym}
+use Rattle.std.proofs.Common.{◌∙◌, arith}
 use Rattle.std.specs.List.{AllByRecursion, list_all}
-use Rattle.tier_core.specs.declared.constraint.Constraint.{Constraint}
-use Rattle.tier_core.specs.declared.event.Event.{Event}
-use Rattle.tier_core.specs.declared.sym.Sym.{Sym}
-use Rattle.tier_core.specs.Kinds.{closed, unmet, met}
-use Rattle.tier_core.specs.Timelines.{tier_word}
+use Rattle.tier_core.specs.{declared.constraint.Constraint.Constraint, declared.event.Event.Event}
+use Rattle.tier_core.specs.{declared.sym.Sym.Sym, Kinds.{closed, unmet, met}, Timelines.tier_word}
 use Rattle.tier_core.proofs.CountLemmas.{all_weaker}
-use Rattle.violation.specs.Candidates.{IsForm}
-use Rattle.violation.specs.Conditions.{AreSplit, IsOverTiers}
-use Rattle.violation.specs.Moves.{is_tier_open}
-use Rattle.violation.specs.Phases.{is_closed, is_left_open, AreClosedOr}
-use Rattle.violation.specs.Prefixes.{is_open, phase, kind_of}
+use Rattle.violation.specs.{Candidates.IsForm, Conditions.{AreSplit, IsOverTiers}, Moves.is_tier_open}
+use Rattle.violation.specs.{Phases.{is_closed, is_left_open, AreClosedOr}, Prefixes.{is_open, phase, kind_of}}
 use Rattle.violation.specs.Problems.{Problem}
-use Rattle.violation.proofs.CountSteps.{all_agree}
-use Rattle.violation.proofs.PrefixLemmas.{IsBegun, tier_open_is}
+use Rattle.violation.proofs.{CountSteps.all_agree, PrefixLemmas.{IsBegun, tier_open_is}}
 
 -- before the first column each phase is closed
 pub closed_first : (left right : List Event) → 0 < length left → phase left right [] ≡ closed

@@ -1,34 +1,24 @@
 -- Every prefix that reads well so far can be completed to a candidate.
 use Rattle.std.proofs.Common.{◌≡◌, ℕ, zero, suc, ◌+◌, ◌<◌, ◌≤◌, Bool, true, false, cond, inl, inr, IsTrue, List, []}
-use Rattle.std.proofs.Common.{◌∷◌, ◌++◌, map, take, length, get_or, Contains, refl, sym, ap, ◌∙◌, subst, ⊎_elim, arith}
-use Rattle.std.proofs.Common.{append-nil, append_assoc, take_all, length-take, ◌-◌}
-use Rattle.std.specs.List.{AllByRecursion, list_any, range_with_len}
+use Rattle.std.proofs.Common.{◌∷◌, ◌++◌, map, take, length, get_or, Contains, refl, sym, ap, ◌∙◌, subst, ⊎_elim}
+use Rattle.std.proofs.Common.{arith, append-nil, append_assoc, take_all, length-take, ◌-◌}
 use Rattle.std.proofs.lemmas.List.{map-append, length-map, get_or-map, get_or_default, get_or_past, length_push}
 use Rattle.std.proofs.lemmas.List.FromFn.{length-map-range_with_len, get_or-map-range_with_len}
 use Rattle.std.proofs.lemmas.List.Elements.{All-from_recursion, recursion_from_All, All-from_get_or}
-use Rattle.std.proofs.lemmas.List.Folds.{list_any_at}
-use Rattle.std.proofs.lemmas.Bool.{false≢true, cases_Bool, cases_lt, or_cases}
-use Rattle.tier_core.specs.declared.sym.Sym.{Sym}
-use Rattle.tier_core.specs.declared.sym.Sym.TheVariants.{Outside, Inside, End}
-use Rattle.tier_core.specs.Scan.{fits, opens}
-use Rattle.tier_core.specs.Tiers.{Tiers}
+use Rattle.std.proofs.{lemmas.List.Folds.list_any_at, lemmas.Bool.{false≢true, cases_Bool, cases_lt, or_cases}}
+use Rattle.std.specs.List.{AllByRecursion, list_any, range_with_len}
+use Rattle.tier_core.specs.{declared.sym.Sym.Sym, declared.sym.Sym.TheVariants.{Outside, Inside, End}}
+use Rattle.tier_core.specs.{Scan.{fits, opens}, Tiers.Tiers}
 use Rattle.tier_core.specs.Timelines.{tier_word, symbol, column_at, is_edge, has_edge}
-use Rattle.tier_core.proofs.CountLemmas.{all_weaker, any_none}
-use Rattle.tier_core.proofs.WordLemmas.{runs, open_at}
-use Rattle.tier_core.proofs.WordCounts.{runs_fits}
+use Rattle.tier_core.proofs.{CountLemmas.{all_weaker, any_none}, WordLemmas.{runs, open_at}, WordCounts.runs_fits}
 use Rattle.tier_core.proofs.WordForm.{runs_from_well_formed, well_formed_from_runs}
 use Rattle.tier_core.proofs.FormLemmas.{edge_at, edge_of_part}
-use Rattle.violation.specs.Candidates.{IsForm, IsCandidate}
-use Rattle.violation.specs.Conditions.{AreSplit}
-use Rattle.violation.specs.Moves.{input_of}
-use Rattle.violation.specs.Prefixes.{is_open}
-use Rattle.violation.specs.Walks.{BeginsCandidate}
-use Rattle.violation.proofs.ChoiceLemmas.{all_map}
-use Rattle.violation.proofs.OpenLemmas.{open_read, open_more, prefix_open, take_word, runs_closed, runs_from_reads}
-use Rattle.violation.proofs.OpenLemmas.{runs_reads}
+use Rattle.violation.specs.{Candidates.{IsForm, IsCandidate}, Conditions.AreSplit, Moves.input_of, Prefixes.is_open}
+use Rattle.violation.specs.{Walks.BeginsCandidate, Problems.{Problem, last_place}}
+use Rattle.violation.proofs.{ChoiceLemmas.all_map, OpenLemmas.{open_read, open_more, prefix_open, take_word}}
+use Rattle.violation.proofs.OpenLemmas.{runs_closed, runs_from_reads, runs_reads}
 use Rattle.violation.proofs.PrefixLemmas.{input_part, input_append, IsBegun, form_is, begun_more}
 use Rattle.violation.proofs.TierLemmas.{map_agree, flag_in, flag_none, given, given_out, given_in}
-use Rattle.violation.specs.Problems.{Problem, last_place}
 
 open_some : (width : ℕ) (g : ℕ → Bool) (ts : List ℕ) → AllByRecursion (λ t. t < width) ts
     → list_any (λ flag. flag) (map g ts) ≡ true → (t : ℕ) × ((t < width) × (g t ≡ true))

@@ -1,15 +1,10 @@
 -- What a move costs under one of its constraints.
-use Rattle.std.proofs.Common.{◌≡◌, ℕ, zero, suc, ◌^◌, ◌<◌, Bool, true, false, cond, List, [], ◌∷◌, filter, take, drop}
-use Rattle.std.proofs.Common.{length, get_or, refl, ap, sym, ◌∙◌, subst, arith, ⊎_elim}
-use Rattle.std.proofs.lemmas.Bool.{cases_lt}
+use Rattle.std.proofs.Common.{◌≡◌, ℕ, zero, suc, ◌^◌, ◌<◌, Bool, true, false, cond, List, [], ◌∷◌, filter, take}
+use Rattle.std.proofs.{Common.{drop, length, get_or, refl, ap, sym, ◌∙◌, subst, arith, ⊎_elim}, lemmas.Bool.cases_lt}
 use Rattle.std.proofs.lemmas.List.{get_or_past}
 use Rattle.std.proofs.lemmas.List.FromFn.{length-map-range_with_len, get_or-map-range_with_len}
-use Rattle.tier_core.specs.declared.kind.Kind.{Kind}
-use Rattle.tier_core.specs.declared.sym.Sym.{Sym}
-use Rattle.tier_core.specs.declared.constraint.Constraint.{Constraint}
-use Rattle.tier_core.specs.Kinds.{Phase, closed, phase_at, phases}
-use Rattle.tier_core.specs.Tiers.{has_tier}
-use Rattle.tier_core.specs.Sides.{is_stretch}
+use Rattle.tier_core.specs.{declared.kind.Kind.Kind, declared.sym.Sym.Sym, declared.constraint.Constraint.Constraint}
+use Rattle.tier_core.specs.{Kinds.{Phase, closed, phase_at, phases}, Tiers.has_tier, Sides.is_stretch}
 use Rattle.tier_core.proofs.MaskBits.{none_from}
 use Rattle.violation.specs.Moves.{costs, costs_each, first_phase, is_unmet_phase}
 use Rattle.violation.proofs.KindBits.{unmet_at}

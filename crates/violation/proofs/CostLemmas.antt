@@ -1,18 +1,14 @@
 -- What the moves of a candidate cost is what it violates.
-use Rattle.std.proofs.Common.{◌≡◌, ℕ, suc, ◌+◌, ◌<◌, Bool, true, false, not, ◌&&◌, cond, List, [], ◌∷◌, ◌++◌, map, take}
-use Rattle.std.proofs.Common.{drop, length, get_or, filter, refl, sym, ap, ◌∙◌, subst, arith, append-nil, append_assoc}
-use Rattle.std.proofs.Common.{take_at}
-use Rattle.std.specs.List.{AllByRecursion}
+use Rattle.std.proofs.Common.{◌≡◌, ℕ, suc, ◌+◌, ◌<◌, Bool, true, false, not, ◌&&◌, cond, List, [], ◌∷◌, ◌++◌, map}
+use Rattle.std.proofs.Common.{take, drop, length, get_or, filter, refl, sym, ap, ◌∙◌, subst, arith, append-nil}
+use Rattle.std.proofs.Common.{append_assoc, take_at}
 use Rattle.std.proofs.lemmas.List.{length-append, length_push, length-map, get_or_at, take-map}
 use Rattle.std.proofs.lemmas.Bool.{not-false}
-use Rattle.tier_core.specs.declared.sym.Sym.{Sym}
-use Rattle.tier_core.specs.declared.event.Event.{Event}
-use Rattle.tier_core.specs.declared.constraint.Constraint.{Constraint}
-use Rattle.tier_core.specs.declared.constraint.Family.{Family}
-use Rattle.tier_core.specs.declared.constraint.Family.TheVariants.{Implication, Clash}
-use Rattle.tier_core.specs.Kinds.{Phase, PrefixKind}
-use Rattle.tier_core.specs.Tiers.{Tiers}
-use Rattle.tier_core.specs.Timelines.{tier_word}
+use Rattle.std.specs.List.{AllByRecursion}
+use Rattle.tier_core.specs.{declared.sym.Sym.Sym, declared.event.Event.Event}
+use Rattle.tier_core.specs.{declared.constraint.Constraint.Constraint, declared.constraint.Family.Family}
+use Rattle.tier_core.specs.{declared.constraint.Family.TheVariants.{Implication, Clash}, Kinds.{Phase, PrefixKind}}
+use Rattle.tier_core.specs.{Tiers.Tiers, Timelines.tier_word}
 use Rattle.tier_core.specs.Sides.{is_implication, has_edge_type, is_stretch, edge_among}
 use Rattle.tier_core.proofs.CountLemmas.{bit, all_weaker, all_append}
 use Rattle.violation.specs.Candidates.{IsForm, IsCandidate, counts_on}
@@ -20,17 +16,12 @@ use Rattle.violation.specs.Conditions.{AreSplit, IsOverTiers, IsCountable}
 use Rattle.violation.specs.Counts.{violations_of, violations_so_far, so_far, viol}
 use Rattle.violation.specs.Moves.{costs, costs_each, first_phase, is_tier_open, move_costs, next_kind, is_final}
 use Rattle.violation.specs.Prefixes.{is_open, phase, stretches, kind_of}
-use Rattle.violation.specs.Walks.{HasMoves, walk_end, add_each, walk_costs}
-use Rattle.violation.proofs.Countable.{countable_over}
-use Rattle.violation.proofs.CountSteps.{whole, all_agree}
-use Rattle.violation.proofs.MoveLemmas.{opened_after, column_costs}
-use Rattle.violation.proofs.PrefixLemmas.{IsBegun, tier_open_is}
-use Rattle.violation.specs.Columns.{edge_cost}
-use Rattle.violation.proofs.TierLemmas.{map_agree}
-use Rattle.violation.proofs.WalkLemmas.{begun_of, moved_is, walk_on, candidate_walk, candidate_final, final_candidate}
-use Rattle.violation.proofs.WholeCounts.{so_far_none}
+use Rattle.violation.specs.{Walks.{HasMoves, walk_end, add_each, walk_costs}, Columns.edge_cost, Problems.Problem}
+use Rattle.violation.proofs.{Countable.countable_over, CountSteps.{whole, all_agree}}
+use Rattle.violation.proofs.{MoveLemmas.{opened_after, column_costs}, PrefixLemmas.{IsBegun, tier_open_is}}
+use Rattle.violation.proofs.{TierLemmas.map_agree, WalkLemmas.{begun_of, moved_is, walk_on, candidate_walk}}
+use Rattle.violation.proofs.{WalkLemmas.{candidate_final, final_candidate}, WholeCounts.so_far_none}
 use Rattle.violation.proofs.StageLemmas.{stretches_over_tiers}
-use Rattle.violation.specs.Problems.{Problem}
 
 -- two states agree on the tiers of some types
 abbrev pub AgreeOn : List Event → (ℕ → Bool) → (ℕ → Bool) → Type 0

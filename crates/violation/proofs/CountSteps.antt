@@ -1,31 +1,21 @@
 -- The steps of counting, as the loops take them.
-use Rattle.std.proofs.Common.{◌≡◌, ℕ, zero, suc, ◌+◌, ◌<◌, ◌≤◌, Bool, true, false, not, ◌&&◌, ◌||◌, List, [], ◌∷◌, ◌++◌}
-use Rattle.std.proofs.Common.{length, get_or, refl, sym, ap, ◌∙◌, subst, arith, add-one}
+use Rattle.std.proofs.Common.{◌≡◌, ℕ, zero, suc, ◌+◌, ◌<◌, ◌≤◌, Bool, true, false, not, ◌&&◌, ◌||◌, List, [], ◌∷◌}
+use Rattle.std.proofs.Common.{◌++◌, length, get_or, refl, sym, ap, ◌∙◌, subst, arith, add-one}
+use Rattle.std.proofs.lemmas.List.{get_or_default, get_or-map}
+use Rattle.std.proofs.{lemmas.Bool.{false≢true, and_parts, and_from, or_parts}, lemmas.List.Folds.list_any-append}
 use Rattle.std.specs.List.{AllByRecursion, list_all, list_any}
-use Rattle.std.proofs.lemmas.List.{get_or_default}
-use Rattle.std.proofs.lemmas.Bool.{false≢true, and_parts, and_from, or_parts}
-use Rattle.tier_core.specs.declared.sym.Sym.{Sym}
-use Rattle.tier_core.specs.declared.sym.Sym.TheVariants.{Outside, Inside, Start, End, Both}
-use Rattle.tier_core.specs.declared.event.Event.{Event}
-use Rattle.tier_core.specs.declared.constraint.Family.{Family}
-use Rattle.tier_core.specs.declared.constraint.Family.TheVariants.{Implication, Clash}
-use Rattle.tier_core.specs.Scan.{fits, opens}
-use Rattle.tier_core.specs.Timelines.{symbol, is_edge, tier_word, IsWellFormed}
-use Rattle.tier_core.specs.Sides.{has_edge_type, edge_among}
-use Rattle.tier_core.proofs.CountLemmas.{bit, all_append, all_of}
-use Rattle.tier_core.proofs.WordCounts.{runs_fits}
-use Rattle.tier_core.proofs.WordForm.{runs_from_well_formed}
-use Rattle.tier_core.proofs.Bools.{or_false}
+use Rattle.tier_core.specs.{declared.sym.Sym.Sym, declared.sym.Sym.TheVariants.{Outside, Inside, Start, End, Both}}
+use Rattle.tier_core.specs.{declared.event.Event.Event, declared.constraint.Family.Family}
+use Rattle.tier_core.specs.{declared.constraint.Family.TheVariants.{Implication, Clash}, Scan.{fits, opens}}
+use Rattle.tier_core.specs.{Timelines.{symbol, is_edge, tier_word, IsWellFormed}, Sides.{has_edge_type, edge_among}}
+use Rattle.tier_core.proofs.{CountLemmas.{bit, all_append, all_of}, WordCounts.runs_fits}
+use Rattle.tier_core.proofs.{WordForm.runs_from_well_formed, Bools.or_false}
 use Rattle.violation.specs.Columns.{edge_cost, opens_all, is_present, opens_interior}
-use Rattle.violation.specs.Conditions.{AreTiersBelow, IsCountable}
-use Rattle.violation.specs.Counts.{choice_types, viol, so_far, is_met}
-use Rattle.violation.proofs.EdgeSteps.{edge_at, step_count}
-use Rattle.violation.proofs.InteriorSteps.{open_before}
+use Rattle.violation.specs.{Conditions.{AreTiersBelow, IsCountable}, Counts.{choice_types, viol, so_far, is_met}}
+use Rattle.violation.proofs.{EdgeSteps.{edge_at, step_count}, InteriorSteps.open_before}
 use Rattle.violation.proofs.OpenSteps.{stretch, clash_ends, implication_ends}
 use Rattle.violation.proofs.PhaseSteps.{open_after_column, met_begins, met_goes_on}
 use Rattle.violation.proofs.WholeCounts.{AreSome, so_far_whole}
-use Rattle.std.proofs.lemmas.List.{get_or-map}
-use Rattle.std.proofs.lemmas.List.Folds.{list_any-append}
 
 some_from_length : (es : List Event) → 0 < length es → AreSome es
 some_from_length [] h = absurd (omega arith)

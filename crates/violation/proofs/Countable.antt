@@ -1,8 +1,6 @@
 -- A constraint over tiers may be counted on what is well formed over these tiers.
 use Rattle.std.specs.Prelude.{ℕ, List}
-use Rattle.tier_core.specs.declared.constraint.Constraint.{Constraint}
-use Rattle.tier_core.specs.declared.sym.Sym.{Sym}
-use Rattle.tier_core.specs.Timelines.{IsWellFormed}
+use Rattle.tier_core.specs.{declared.constraint.Constraint.Constraint, declared.sym.Sym.Sym, Timelines.IsWellFormed}
 use Rattle.violation.specs.Conditions.{IsOverTiers, IsCountable}
 
 pub countable_over : {width : ℕ} {c : Constraint} {T : List (List Sym)} → IsOverTiers width c → IsWellFormed width T

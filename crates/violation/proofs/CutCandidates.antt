@@ -1,13 +1,9 @@
 -- Candidates that are cut in two: what is counted on them, and the kinds that are passed.
-use Rattle.std.proofs.Common.{◌≡◌, ℕ, ◌+◌, ◌-◌, ◌≤◌, List, ◌++◌, take, drop, length, refl, sym, ap, ◌∙◌, subst, arith}
-use Rattle.std.proofs.Common.{take_at}
-use Rattle.std.proofs.lemmas.List.{length-append, length-take-le, take-append-drop}
-use Rattle.tier_core.specs.declared.sym.Sym.{Sym}
-use Rattle.tier_core.specs.Kinds.{PrefixKind}
-use Rattle.violation.specs.Candidates.{IsCandidate, IsOptimalFor, count_at, count_so_far_at}
-use Rattle.violation.specs.Prefixes.{kind_of}
-use Rattle.violation.specs.Problems.{Problem}
-use Rattle.violation.specs.Stages.{IsStage, Passes, IsPassed}
+use Rattle.std.proofs.Common.{◌≡◌, ℕ, ◌+◌, ◌-◌, ◌≤◌, List, ◌++◌, take, drop, length, refl, sym, ap, ◌∙◌, subst}
+use Rattle.std.proofs.{Common.{arith, take_at}, lemmas.List.{length-append, length-take-le, take-append-drop}}
+use Rattle.tier_core.specs.{declared.sym.Sym.Sym, Kinds.PrefixKind}
+use Rattle.violation.specs.{Candidates.{IsCandidate, IsOptimalFor, count_at, count_so_far_at}, Prefixes.kind_of}
+use Rattle.violation.specs.{Problems.Problem, Stages.{IsStage, Passes, IsPassed}}
 use Rattle.violation.proofs.WalkSums.{walk_cost, violations_on}
 
 -- a prefix of an optimal candidate passes its kind

@@ -1,15 +1,10 @@
 -- Kinds that are cut to fewer constraints go as the whole ones do.
-use Rattle.std.proofs.Common.{◌≡◌, ◌↔◌, ℕ, zero, suc, ◌≤◌, Bool, true, false, cond, List, [], ◌∷◌, map, take, length}
-use Rattle.std.proofs.Common.{filter, refl, ap, ◌∙◌, arith}
-use Rattle.std.proofs.lemmas.List.{take-map}
-use Rattle.tier_core.specs.declared.sym.Sym.{Sym}
-use Rattle.tier_core.specs.declared.constraint.Constraint.{Constraint}
-use Rattle.tier_core.specs.Kinds.{Phase, PrefixKind}
-use Rattle.tier_core.specs.Tiers.{Tiers}
-use Rattle.tier_core.specs.Sides.{is_stretch}
+use Rattle.std.proofs.Common.{◌≡◌, ◌↔◌, ℕ, zero, suc, ◌≤◌, Bool, true, false, cond, List, [], ◌∷◌, map, take}
+use Rattle.std.proofs.{Common.{length, filter, refl, ap, ◌∙◌, arith}, lemmas.List.take-map}
+use Rattle.tier_core.specs.{declared.sym.Sym.Sym, declared.constraint.Constraint.Constraint}
+use Rattle.tier_core.specs.{Kinds.{Phase, PrefixKind}, Tiers.Tiers, Sides.is_stretch}
 use Rattle.violation.specs.Moves.{FitsKind, next_phase, next_phases, next_kind, cut_kind}
-use Rattle.violation.specs.Prefixes.{kind_of, stretches, phase}
-use Rattle.violation.specs.Problems.{Problem}
+use Rattle.violation.specs.{Prefixes.{kind_of, stretches, phase}, Problems.Problem}
 
 -- kinds that differ in their phases alone
 with_phases : (k : PrefixKind) (ps qs : List Phase) → ps ≡ qs

@@ -1,23 +1,17 @@
 -- Choices that have an edge among them are decided by one column.
 use Rattle.std.proofs.Common.{◌≡◌, ℕ, suc, ◌+◌, ◌*◌, ◌-◌, ◌<◌, ◌≤◌, min, max, Bool, true, not, ◌&&◌, ◌||◌, leb, ltb}
 use Rattle.std.proofs.Common.{List, [], ◌∷◌, ◌++◌, map, length, get_or, refl, sym, ap, ◌∙◌, arith}
-use Rattle.std.specs.Prelude.{count_by}
-use Rattle.std.specs.List.{AllByRecursion, list_all, list_any}
-use Rattle.std.proofs.lemmas.Bool.{false≢true}
-use Rattle.std.proofs.lemmas.Bool.Decides.{nat_tests}
-use Rattle.tier_core.specs.declared.sym.Sym.{Sym}
-use Rattle.tier_core.specs.declared.event.Event.{Event}
-use Rattle.tier_core.specs.declared.event.Part.{Part}
+use Rattle.std.proofs.{lemmas.Bool.false≢true, lemmas.Bool.Decides.nat_tests}
+use Rattle.std.specs.{Prelude.count_by, List.{AllByRecursion, list_all, list_any}}
+use Rattle.tier_core.specs.{declared.sym.Sym.Sym, declared.event.Event.Event, declared.event.Part.Part}
 use Rattle.tier_core.specs.declared.event.Part.TheVariants.{Start as StartOf, End as EndOf, Interior}
 use Rattle.tier_core.specs.declared.constraint.Family.{Family}
 use Rattle.tier_core.specs.declared.constraint.Family.TheVariants.{Implication, Clash}
 use Rattle.tier_core.specs.Events.{Interval, event, events, greatest_low, least_high, meet, is_there}
-use Rattle.tier_core.specs.Timelines.{tier_word, IsWellFormed}
-use Rattle.tier_core.specs.Words.{constituents}
+use Rattle.tier_core.specs.{Timelines.{tier_word, IsWellFormed}, Words.constituents}
 use Rattle.tier_core.specs.Sides.{is_edge_part, has_edge_type}
 use Rattle.tier_core.proofs.CountLemmas.{bit, count_agree, count_split, all_weaker, all_of}
-use Rattle.violation.specs.Columns.{is_present, edge_cost}
-use Rattle.violation.specs.Conditions.{AreTiersBelow}
+use Rattle.violation.specs.{Columns.{is_present, edge_cost}, Conditions.AreTiersBelow}
 use Rattle.violation.specs.Counts.{choices, choice_types, counts, is_met, so_far}
 use Rattle.violation.proofs.ChoiceLemmas.{all_flat, all_map, count_choices, count_where}
 use Rattle.violation.proofs.EventCounts.{event_at, any_event_at}

@@ -1,22 +1,14 @@
 -- How many events of a type contain a point of doubled time.
 use Rattle.std.proofs.Common.{◌≡◌, ℕ, ◌+◌, ◌*◌, ◌-◌, ◌<◌, true, false, ◌&&◌, leb, ltb, eqb, List, [], map, length}
-use Rattle.std.proofs.Common.{get_or, ap, ◌∙◌, arith}
-use Rattle.std.specs.Prelude.{count_by}
-use Rattle.std.specs.List.{list_any}
-use Rattle.std.proofs.lemmas.List.{get_or-map}
-use Rattle.std.proofs.lemmas.Bool.Decides.{nat_tests}
-use Rattle.tier_core.specs.declared.sym.Sym.{Sym}
-use Rattle.tier_core.specs.declared.sym.Sym.TheVariants.{Outside}
-use Rattle.tier_core.specs.declared.event.Event.{Event}
+use Rattle.std.proofs.{Common.{get_or, ap, ◌∙◌, arith}, lemmas.List.get_or-map, lemmas.Bool.Decides.nat_tests}
+use Rattle.std.specs.{Prelude.count_by, List.list_any}
+use Rattle.tier_core.specs.{declared.sym.Sym.Sym, declared.sym.Sym.TheVariants.Outside, declared.event.Event.Event}
 use Rattle.tier_core.specs.declared.event.Part.{Part}
 use Rattle.tier_core.specs.declared.event.Part.TheVariants.{Start as StartOf, End as EndOf, Interior}
-use Rattle.tier_core.specs.Events.{event, events}
-use Rattle.tier_core.specs.Timelines.{tier_word, symbol, IsWellFormed}
-use Rattle.tier_core.specs.Words.{constituents}
+use Rattle.tier_core.specs.{Events.{event, events}, Timelines.{tier_word, symbol, IsWellFormed}, Words.constituents}
 use Rattle.tier_core.proofs.CountLemmas.{bit, count_map, count_agree, all_weaker, all_of, any_from_count}
 use Rattle.tier_core.proofs.WordCounts.{covers, start_at, end_at, inside_at, open_after}
-use Rattle.tier_core.proofs.WordForm.{runs_from_well_formed}
-use Rattle.tier_core.proofs.WordLemmas.{runs, open_at, constituents_late}
+use Rattle.tier_core.proofs.{WordForm.runs_from_well_formed, WordLemmas.{runs, open_at, constituents_late}}
 use Rattle.violation.specs.Columns.{is_present, part_present}
 use Rattle.violation.proofs.MeetLemmas.{contains}
 

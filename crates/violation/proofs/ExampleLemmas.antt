@@ -1,35 +1,22 @@
 -- What the examples are proved by: tests that compute.
-use Rattle.std.proofs.Common.{◌≡◌, ℕ, zero, suc, ◌+◌, ◌<◌, ◌≤◌, Bool, true, false, List, [], ◌∷◌, ◌++◌, map, take, drop}
-use Rattle.std.proofs.Common.{length, get_or, refl, sym, ap, ◌∙◌, arith, count_by, ◌&&◌, codes, String, Contains, subst}
-use Rattle.std.proofs.Common.{Less, Greater, is_gt, is_le, Equal, cond, ltb, eqb, lt-ltb, le-ltb, ne_eqb}
-use Rattle.std.proofs.Common.{take-append-drop, length-append}
-use Rattle.std.specs.List.{AllByRecursion, list_all, range_with_len}
-use Rattle.std.proofs.lemmas.Bool.{false≢true, and_parts, true_from_ne_false}
-use Rattle.std.proofs.lemmas.List.Folds.{list_all_at}
+use Rattle.std.proofs.Common.{◌≡◌, ℕ, zero, suc, ◌+◌, ◌<◌, ◌≤◌, Bool, true, false, List, [], ◌∷◌, ◌++◌, map, take}
+use Rattle.std.proofs.Common.{drop, length, get_or, refl, sym, ap, ◌∙◌, arith, count_by, ◌&&◌, codes, String}
+use Rattle.std.proofs.Common.{Contains, subst, Less, Greater, is_gt, is_le, Equal, cond, ltb, eqb, lt-ltb, le-ltb}
+use Rattle.std.proofs.Common.{ne_eqb, take-append-drop, length-append}
+use Rattle.std.proofs.{lemmas.Bool.{false≢true, and_parts, true_from_ne_false}, lemmas.List.Folds.list_all_at}
 use Rattle.std.proofs.lemmas.List.FromFn.{length-range_with_len, get_or-range_with_len}
-use Rattle.tier_core.specs.declared.sym.Sym.{Sym}
-use Rattle.tier_core.specs.Words.{IsWellFormedWord}
-use Rattle.tier_core.specs.Timelines.{tier_word, IsWellFormed, IsReduced, project, squeeze}
-use Rattle.tier_core.proofs.CountLemmas.{bit, count_cons}
-use Rattle.tier_core.proofs.WordLemmas.{runs}
-use Rattle.tier_core.proofs.WordForm.{well_formed_from_runs}
-use Rattle.std.specs.declared.alloc.Global.{Global}
-use Rattle.std.specs.Ordering.{ordering_then}
-use Rattle.std.specs.List.Sorted.{IsStrictlySortedBy}
-use Rattle.tier_core.specs.Events.{events}
-use Rattle.tier_core.specs.Kinds.{PrefixKind}
-use Rattle.tier_core.specs.declared.constraint.Constraint.{Constraint}
-use Rattle.tier_core.specs.declared.event.Event.{Event}
-use Rattle.tier_core.specs.declared.constraint.Family.{Family}
-use Rattle.tier_core.specs.declared.constraint.Family.TheVariants.{Implication}
+use Rattle.std.specs.{List.{AllByRecursion, list_all, range_with_len}, declared.alloc.Global.Global}
+use Rattle.std.specs.{Ordering.ordering_then, List.Sorted.IsStrictlySortedBy}
+use Rattle.tier_core.specs.{declared.sym.Sym.Sym, Words.IsWellFormedWord}
+use Rattle.tier_core.specs.{Timelines.{tier_word, IsWellFormed, IsReduced, project, squeeze}, Events.events}
+use Rattle.tier_core.specs.{Kinds.PrefixKind, declared.constraint.Constraint.Constraint, declared.event.Event.Event}
+use Rattle.tier_core.specs.{declared.constraint.Family.Family, declared.constraint.Family.TheVariants.Implication}
+use Rattle.tier_core.proofs.{CountLemmas.{bit, count_cons}, WordLemmas.runs, WordForm.well_formed_from_runs}
 use Rattle.violation.specs.Candidates.{IsCandidate, IsAtMost, vec, IsOptimalFor, IsLeastVector}
-use Rattle.violation.specs.Counts.{viol, so_far, choices, choice_types, violations_of}
-use Rattle.violation.specs.Prefixes.{is_open}
+use Rattle.violation.specs.{Counts.{viol, so_far, choices, choice_types, violations_of}, Prefixes.is_open}
 use Rattle.violation.specs.Stages.{Passes, IsKindOfStage, AreKindsOfStage, IsRemaining}
-use Rattle.violation.specs.Examples.{two_tiers, timeline, types, max_a, read_kind}
-use Rattle.violation.proofs.PrefixLemmas.{input_part, input_append}
-use Rattle.violation.proofs.WholeCounts.{so_far_none}
-use Rattle.violation.specs.Examples.{over_two}
+use Rattle.violation.specs.Examples.{two_tiers, timeline, types, max_a, read_kind, over_two}
+use Rattle.violation.proofs.{PrefixLemmas.{input_part, input_append}, WholeCounts.so_far_none}
 
 pub right_words : (ws : List (List Sym)) → list_all (runs false) ws ≡ true → AllByRecursion IsWellFormedWord ws
 right_words [] h = tt

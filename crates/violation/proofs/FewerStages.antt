@@ -1,12 +1,8 @@
 -- Kinds that are the same at one stage are so at those below it, and least rests from stage 1 on.
 use Rattle.std.proofs.Common.{◌≡◌, ℕ, zero, suc, ◌≤◌, List, ap, sym, ◌∙◌, arith}
-use Rattle.tier_core.specs.declared.sym.Sym.{Sym}
-use Rattle.tier_core.specs.Kinds.{PrefixKind}
-use Rattle.violation.specs.Moves.{cut_kind}
-use Rattle.violation.specs.Prefixes.{kind_of}
-use Rattle.violation.specs.Problems.{Problem}
+use Rattle.tier_core.specs.{declared.sym.Sym.Sym, Kinds.PrefixKind}
+use Rattle.violation.specs.{Moves.cut_kind, Prefixes.kind_of, Problems.Problem, Stages.{IsLeastRest, IsRemaining}}
 use Rattle.violation.proofs.CutLemmas.{cut_kind-kind_of}
-use Rattle.violation.specs.Stages.{IsLeastRest, IsRemaining}
 
 -- kinds that are the same under more constraints are so under fewer
 pub same_fewer : (problem : Problem) (j s : ℕ) → j ≤ s → (v p : List (List Sym))

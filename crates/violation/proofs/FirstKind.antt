@@ -1,19 +1,11 @@
 -- The kind of the empty prefix is the first in kind order.
 use Rattle.std.proofs.Common.{◌≡◌, ℕ, ◌<◌, List, [], ◌∷◌, map, length, refl, sym, ap, ◌∙◌, arith}
-use Rattle.std.specs.List.{AllByRecursion}
-use Rattle.std.specs.Ordering.{nat_cmp, ordering_then, is_lt}
-use Rattle.std.specs.Cmp.Lexicographic.{slice_cmp}
-use Rattle.std.specs.declared.cmp.Ordering.{Ordering}
-use Rattle.std.specs.declared.cmp.Ordering.TheVariants.{Less, Equal, Greater}
-use Rattle.std.proofs.lemmas.Bool.{false≢true}
-use Rattle.std.proofs.lemmas.Cmp.{ranked}
-use Rattle.std.proofs.lemmas.List.{length-map}
-use Rattle.tier_core.specs.declared.constraint.Constraint.{Constraint}
-use Rattle.tier_core.specs.Timelines.{tier_word}
+use Rattle.std.proofs.{lemmas.Bool.false≢true, lemmas.Cmp.ranked, lemmas.List.length-map}
+use Rattle.std.specs.{List.AllByRecursion, Ordering.{nat_cmp, ordering_then, is_lt}, Cmp.Lexicographic.slice_cmp}
+use Rattle.std.specs.{declared.cmp.Ordering.Ordering, declared.cmp.Ordering.TheVariants.{Less, Equal, Greater}}
+use Rattle.tier_core.specs.{declared.constraint.Constraint.Constraint, Timelines.tier_word}
 use Rattle.tier_core.specs.Kinds.{PrefixKind, open_rank, phase_rank, kind_order}
-use Rattle.violation.specs.Conditions.{IsOverTiers}
-use Rattle.violation.specs.Prefixes.{is_open, phase, kind_of, stretches}
-use Rattle.violation.specs.Problems.{Problem}
+use Rattle.violation.specs.{Conditions.IsOverTiers, Prefixes.{is_open, phase, kind_of, stretches}, Problems.Problem}
 use Rattle.violation.proofs.ClosedPhases.{closed_first}
 
 -- of two comparisons one after another, one is Less where both are

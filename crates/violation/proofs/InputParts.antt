@@ -3,11 +3,8 @@ use Rattle.std.proofs.Common.{◌≡◌, ℕ, suc, ◌+◌, ◌<◌, ◌≤◌, 
 use Rattle.std.proofs.Common.{◌++◌, map, drop, length, get_or, refl, ap, ap₂, sym, ◌∙◌, arith}
 use Rattle.std.proofs.lemmas.Bool.{and_parts, and_from, false≢true}
 use Rattle.std.proofs.lemmas.List.{at_drop_more, drop_all, length-drop}
-use Rattle.tier_core.specs.declared.sym.Sym.{Sym}
-use Rattle.tier_core.specs.declared.sym.Sym.TheVariants.{Outside}
-use Rattle.tier_core.specs.declared.tier.TierKind.{TierKind}
-use Rattle.tier_core.specs.Sets.{is_in, single_set}
-use Rattle.tier_core.specs.Tiers.{is_input, numbers_from}
+use Rattle.tier_core.specs.{declared.sym.Sym.Sym, declared.sym.Sym.TheVariants.Outside}
+use Rattle.tier_core.specs.{declared.tier.TierKind.TierKind, Sets.{is_in, single_set}, Tiers.{is_input, numbers_from}}
 use Rattle.tier_core.specs.Timelines.{symbol}
 use Rattle.tier_core.proofs.SetLemmas.{alone_in, only_in}
 use Rattle.violation.proofs.CandidateLemmas.{part_from, part_end}

@@ -1,30 +1,19 @@
 -- Choices of interiors alone.
-use Rattle.std.proofs.Common.{◌≡◌, ℕ, ◌+◌, ◌*◌, ◌-◌, ◌<◌, min, max, Bool, true, false, ◌&&◌, ◌||◌, leb, List, [], ◌∷◌}
-use Rattle.std.proofs.Common.{map, length, get_or, refl, sym, ap, ◌∙◌, arith}
-use Rattle.std.specs.Prelude.{count_by}
-use Rattle.std.specs.List.{AllByRecursion, list_all}
-use Rattle.std.proofs.lemmas.Bool.{false≢true}
+use Rattle.std.proofs.Common.{◌≡◌, ℕ, ◌+◌, ◌*◌, ◌-◌, ◌<◌, min, max, Bool, true, false, ◌&&◌, ◌||◌, leb, List, []}
+use Rattle.std.proofs.{Common.{◌∷◌, map, length, get_or, refl, sym, ap, ◌∙◌, arith}, lemmas.Bool.false≢true}
 use Rattle.std.proofs.lemmas.Bool.Decides.{nat_tests}
-use Rattle.tier_core.specs.declared.sym.Sym.{Sym}
-use Rattle.tier_core.specs.declared.event.Event.{Event}
-use Rattle.tier_core.specs.declared.event.Part.{Part}
+use Rattle.std.specs.{Prelude.count_by, List.{AllByRecursion, list_all}}
+use Rattle.tier_core.specs.{declared.sym.Sym.Sym, declared.event.Event.Event, declared.event.Part.Part}
 use Rattle.tier_core.specs.declared.event.Part.TheVariants.{Start as StartOf, End as EndOf, Interior}
 use Rattle.tier_core.specs.Events.{Interval, event, events, greatest_low, least_from, least_high, meet, is_there}
-use Rattle.tier_core.specs.Timelines.{tier_word, IsWellFormed}
-use Rattle.tier_core.specs.Words.{constituents}
+use Rattle.tier_core.specs.{Timelines.{tier_word, IsWellFormed}, Words.constituents}
 use Rattle.tier_core.specs.Sides.{is_edge_part, has_edge_type}
-use Rattle.tier_core.proofs.CountLemmas.{bit, count_split, all_weaker, all_of}
-use Rattle.tier_core.proofs.WordForm.{runs_from_well_formed}
-use Rattle.tier_core.proofs.WordLemmas.{open_at, constituents_late}
-use Rattle.tier_core.proofs.Members.{all_both}
-use Rattle.violation.specs.Columns.{is_present}
-use Rattle.violation.specs.Conditions.{AreTiersBelow}
-use Rattle.violation.specs.Counts.{choices}
+use Rattle.tier_core.proofs.{CountLemmas.{bit, count_split, all_weaker, all_of}, WordForm.runs_from_well_formed}
+use Rattle.tier_core.proofs.{WordLemmas.{open_at, constituents_late}, Members.all_both}
+use Rattle.violation.specs.{Columns.is_present, Conditions.AreTiersBelow, Counts.choices}
 use Rattle.violation.proofs.ChoiceLemmas.{all_flat, all_map, count_choices}
-use Rattle.violation.proofs.EdgeSteps.{is_at, IsFilled, all_present}
-use Rattle.violation.proofs.EventCounts.{interior_before}
-use Rattle.violation.proofs.MeetLemmas.{contains, meet_contains}
-use Rattle.violation.proofs.WholeCounts.{AreSome}
+use Rattle.violation.proofs.{EdgeSteps.{is_at, IsFilled, all_present}, EventCounts.interior_before}
+use Rattle.violation.proofs.{MeetLemmas.{contains, meet_contains}, WholeCounts.AreSome}
 
 least_swap : (h m : ℕ) (xs : List Interval) → min h (least_from m xs) ≡ min m (least_from h xs)
 least_swap h m [] = omega arith

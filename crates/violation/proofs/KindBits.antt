@@ -1,20 +1,15 @@
 -- Kinds by their bits: each list of phases is told by two masks, some bits tell each kind, and they are one.
-use Rattle.std.proofs.Common.{◌≡◌, ℕ, ◌^◌, ◌<◌, ◌&&◌, Bool, true, false, List, map, length, get_or, refl, ap, sym, ◌∙◌}
-use Rattle.std.proofs.Common.{subst, arith, ⊎_elim, bit_and}
-use Rattle.std.specs.List.{range_with_len}
-use Rattle.std.proofs.Props.{props}
-use Rattle.std.proofs.lemmas.Bool.{cases_lt}
+use Rattle.std.proofs.Common.{◌≡◌, ℕ, ◌^◌, ◌<◌, ◌&&◌, Bool, true, false, List, map, length, get_or, refl, ap, sym}
+use Rattle.std.proofs.{Common.{◌∙◌, subst, arith, ⊎_elim, bit_and}, Props.props, lemmas.Bool.cases_lt}
 use Rattle.std.proofs.lemmas.List.{length-map, get_or-map}
 use Rattle.std.proofs.lemmas.List.FromFn.{fill_by_all, get_or-map-range_with_len}
-use Rattle.tier_core.specs.declared.kind.Kind.{Kind}
-use Rattle.tier_core.specs.Kinds.{Phase, closed, unmet, met, PrefixKind, AreStretchesBelow, phase_by_bits, phase_at}
-use Rattle.tier_core.specs.Kinds.{phases, open_tiers, prefix_kind}
-use Rattle.tier_core.specs.PhaseBits.{told_at, phases_by}
-use Rattle.tier_core.specs.Tiers.{has_tier}
+use Rattle.std.specs.List.{range_with_len}
+use Rattle.tier_core.specs.{declared.kind.Kind.Kind, Kinds.{Phase, closed, unmet, met, PrefixKind, AreStretchesBelow}}
+use Rattle.tier_core.specs.Kinds.{phase_by_bits, phase_at, phases, open_tiers, prefix_kind}
+use Rattle.tier_core.specs.{PhaseBits.{told_at, phases_by}, Tiers.has_tier}
 use Rattle.tier_core.proofs.KindLemmas.{not_both}
 use Rattle.tier_core.proofs.MaskBits.{AreBits, bits_of, open_bits, apart_from, none_from, same_mask}
-use Rattle.tier_core.proofs.KindTies.{same_parts}
-use Rattle.tier_core.proofs.SameKinds.{same_fields}
+use Rattle.tier_core.proofs.{KindTies.same_parts, SameKinds.same_fields}
 use Rattle.violation.specs.Moves.{is_unmet_phase, is_met_phase}
 
 -- ---- masks of phases

@@ -1,36 +1,22 @@
 -- The kind of a prefix, read from the whole timeline.
-use Rattle.std.proofs.Common.{◌≡◌, ℕ, zero, suc, ◌+◌, ◌*◌, ◌-◌, ◌<◌, ◌≤◌, min, max, Bool, true, false, ◌||◌, cond, leb}
-use Rattle.std.proofs.Common.{ltb, List, [], ◌∷◌, ◌++◌, map, take, length, get_or, Option, Some, None, refl, sym, ap}
-use Rattle.std.proofs.Common.{◌∙◌, ⊎_elim, arith}
-use Rattle.std.specs.Prelude.{is_some}
-use Rattle.std.specs.List.{AllByRecursion, list_all, list_any, flat_map}
-use Rattle.std.proofs.lemmas.List.{get_or-take, length-take-le, length-map}
+use Rattle.std.proofs.Common.{◌≡◌, ℕ, zero, suc, ◌+◌, ◌*◌, ◌-◌, ◌<◌, ◌≤◌, min, max, Bool, true, false, ◌||◌, cond}
+use Rattle.std.proofs.Common.{leb, ltb, List, [], ◌∷◌, ◌++◌, map, take, length, get_or, Option, Some, None, refl}
+use Rattle.std.proofs.{Common.{sym, ap, ◌∙◌, ⊎_elim, arith}, lemmas.List.{get_or-take, length-take-le, length-map}}
 use Rattle.std.proofs.lemmas.List.Folds.{list_any-append}
-use Rattle.std.proofs.lemmas.Bool.{cases_lt, false≢true, and_parts, lt-ltb, le-ltb}
-use Rattle.std.proofs.lemmas.Bool.Decides.{nat_tests}
-use Rattle.tier_core.specs.declared.sym.Sym.{Sym}
-use Rattle.tier_core.specs.declared.sym.Sym.TheVariants.{Outside, Inside, Start, End, Both}
-use Rattle.tier_core.specs.declared.event.Event.{Event}
-use Rattle.tier_core.specs.declared.event.Part.{Part}
+use Rattle.std.proofs.{lemmas.Bool.{cases_lt, false≢true, and_parts, lt-ltb, le-ltb}, lemmas.Bool.Decides.nat_tests}
+use Rattle.std.specs.{Prelude.is_some, List.{AllByRecursion, list_all, list_any, flat_map}}
+use Rattle.tier_core.specs.{declared.sym.Sym.Sym, declared.sym.Sym.TheVariants.{Outside, Inside, Start, End, Both}}
+use Rattle.tier_core.specs.{declared.event.Event.Event, declared.event.Part.Part}
 use Rattle.tier_core.specs.declared.event.Part.TheVariants.{Start as StartOf, End as EndOf, Interior}
-use Rattle.tier_core.specs.Events.{Interval, event, meet, is_there}
-use Rattle.tier_core.specs.Kinds.{closed, unmet, met}
-use Rattle.tier_core.specs.Scan.{fits, opens}
+use Rattle.tier_core.specs.{Events.{Interval, event, meet, is_there}, Kinds.{closed, unmet, met}, Scan.{fits, opens}}
 use Rattle.tier_core.specs.Timelines.{tier_word, symbol, IsWellFormed}
-use Rattle.tier_core.specs.Words.{constituents_from, starts, next_end, pair_to}
-use Rattle.tier_core.specs.Sides.{edge_among}
-use Rattle.tier_core.proofs.CountLemmas.{all_weaker, any_none}
-use Rattle.tier_core.proofs.WordForm.{runs_from_well_formed}
+use Rattle.tier_core.specs.{Words.{constituents_from, starts, next_end, pair_to}, Sides.edge_among}
+use Rattle.tier_core.proofs.{CountLemmas.{all_weaker, any_none}, WordForm.runs_from_well_formed}
 use Rattle.tier_core.proofs.WordLemmas.{runs, open_at, constituents_late, next_end_late, runs_end}
-use Rattle.violation.specs.Conditions.{AreTiersBelow}
-use Rattle.violation.specs.Counts.{is_met}
+use Rattle.violation.specs.{Conditions.AreTiersBelow, Counts.is_met}
 use Rattle.violation.specs.Prefixes.{last_where, is_open, begun_from, event_begun, is_met_in, phase}
-use Rattle.violation.proofs.ChoiceLemmas.{all_map}
-use Rattle.violation.proofs.CountSteps.{all_agree}
-use Rattle.violation.proofs.EdgeSteps.{any_agree}
-use Rattle.violation.proofs.InteriorSteps.{open_before}
-use Rattle.violation.proofs.OpenSteps.{stretch}
-use Rattle.violation.proofs.OpenLemmas.{prefix_open, take_word}
+use Rattle.violation.proofs.{ChoiceLemmas.all_map, CountSteps.all_agree, EdgeSteps.any_agree}
+use Rattle.violation.proofs.{InteriorSteps.open_before, OpenSteps.stretch, OpenLemmas.{prefix_open, take_word}}
 
 abbrev cut : ℕ → Option ℕ → Option ℕ
 cut n None = None

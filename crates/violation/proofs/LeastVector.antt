@@ -1,17 +1,13 @@
 -- The least vector, by its numbers.
 use Rattle.std.proofs.Common.{◌≡◌, ℕ, suc, ◌-◌, ◌<◌, ◌≤◌, List, [], ◌∷◌, take, length, get_or, refl, sym, ap, ◌∙◌}
-use Rattle.std.proofs.Common.{arith, take_all}
-use Rattle.std.specs.declared.cmp.Ordering.{Ordering}
-use Rattle.std.specs.declared.cmp.Ordering.TheVariants.{Less, Equal, Greater}
-use Rattle.std.specs.Ordering.{nat_cmp, ordering_then, is_eq, MatchOrdering}
-use Rattle.std.proofs.lemmas.Bool.{false≢true}
-use Rattle.std.proofs.lemmas.Cmp.{ranked}
+use Rattle.std.proofs.{Common.{arith, take_all}, lemmas.Bool.false≢true, lemmas.Cmp.ranked}
 use Rattle.std.proofs.lemmas.List.{ext_get_or, length-map}
+use Rattle.std.specs.{declared.cmp.Ordering.Ordering, declared.cmp.Ordering.TheVariants.{Less, Equal, Greater}}
+use Rattle.std.specs.Ordering.{nat_cmp, ordering_then, is_eq, MatchOrdering}
 use Rattle.tier_core.specs.declared.sym.Sym.{Sym}
 use Rattle.violation.specs.Candidates.{vec, vec_cmp, IsOptimal, IsLeastVector, counts_on, count_at}
-use Rattle.violation.specs.Counts.{violations_of}
+use Rattle.violation.specs.{Counts.violations_of, Problems.{Problem, last_stage}}
 use Rattle.violation.proofs.VectorLemmas.{both_equal}
-use Rattle.violation.specs.Problems.{Problem, last_stage}
 
 -- vectors that compare as equal are one
 same_vector : (a b : List ℕ) → vec_cmp a b ≡ Equal → a ≡ b

@@ -1,28 +1,18 @@
 -- Moves of kinds count what the timeline counts.
 use Rattle.std.proofs.Common.{◌≡◌, ℕ, zero, suc, ◌+◌, ◌<◌, ◌≤◌, Bool, true, false, not, ◌&&◌, ◌||◌, cond, List, []}
 use Rattle.std.proofs.Common.{◌++◌, take, length, get_or, refl, sym, ap, ◌∙◌, arith, add-one}
+use Rattle.std.proofs.{lemmas.List.{get_or-take, get_or_default}, lemmas.Bool.false≢true}
 use Rattle.std.specs.List.{list_all, list_any}
-use Rattle.std.proofs.lemmas.List.{get_or-take, get_or_default}
-use Rattle.std.proofs.lemmas.Bool.{false≢true}
-use Rattle.tier_core.specs.declared.sym.Sym.{Sym}
-use Rattle.tier_core.specs.declared.event.Event.{Event}
-use Rattle.tier_core.specs.declared.constraint.Family.{Family}
-use Rattle.tier_core.specs.declared.constraint.Family.TheVariants.{Implication, Clash}
-use Rattle.tier_core.specs.Kinds.{closed, unmet, met}
-use Rattle.tier_core.specs.Timelines.{tier_word}
-use Rattle.tier_core.specs.Sides.{has_edge_type, edge_among}
-use Rattle.tier_core.proofs.CountLemmas.{bit, all_weaker}
-use Rattle.tier_core.proofs.Bools.{and_false}
-use Rattle.violation.specs.Columns.{opens_all, is_present, opens_interior}
-use Rattle.violation.specs.Conditions.{AreTiersBelow, IsCountable}
+use Rattle.tier_core.specs.{declared.sym.Sym.Sym, declared.event.Event.Event, declared.constraint.Family.Family}
+use Rattle.tier_core.specs.{declared.constraint.Family.TheVariants.{Implication, Clash}, Kinds.{closed, unmet, met}}
+use Rattle.tier_core.specs.{Timelines.tier_word, Sides.{has_edge_type, edge_among}}
+use Rattle.tier_core.proofs.{CountLemmas.{bit, all_weaker}, Bools.and_false}
+use Rattle.violation.specs.{Columns.{opens_all, is_present, opens_interior}, Conditions.{AreTiersBelow, IsCountable}}
 use Rattle.violation.specs.Counts.{choice_types, so_far, is_met}
-use Rattle.violation.specs.Moves.{is_met_phase, is_unmet_phase, next_phase, costs}
-use Rattle.violation.specs.Prefixes.{is_open, phase}
+use Rattle.violation.specs.{Moves.{is_met_phase, is_unmet_phase, next_phase, costs}, Prefixes.{is_open, phase}}
 use Rattle.violation.proofs.CountSteps.{some_chosen, chosen_below, met_step, open_step, all_agree}
-use Rattle.violation.proofs.EdgeSteps.{edge_at, step_count}
-use Rattle.violation.proofs.InteriorSteps.{open_before}
-use Rattle.violation.proofs.KindLemmas.{open_in_prefix, phase_is}
-use Rattle.violation.proofs.OpenSteps.{stretch, clash_ends, implication_ends}
+use Rattle.violation.proofs.{EdgeSteps.{edge_at, step_count}, InteriorSteps.open_before}
+use Rattle.violation.proofs.{KindLemmas.{open_in_prefix, phase_is}, OpenSteps.{stretch, clash_ends, implication_ends}}
 use Rattle.violation.proofs.WholeCounts.{so_far_none}
 
 -- which tiers are open after n columns

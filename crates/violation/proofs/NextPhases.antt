@@ -1,20 +1,13 @@
 -- Masks of phases that a loop makes constraint by constraint.
-use Rattle.std.proofs.Common.{◌≡◌, ℕ, ◌+◌, ◌^◌, ◌<◌, ◌≤◌, ◌&&◌, Bool, true, false, cond, List, [], ◌∷◌, ◌++◌, filter}
-use Rattle.std.proofs.Common.{take, length, get_or, refl, ap, sym, ◌∙◌, subst, arith, ⊎_elim, bit_and}
-use Rattle.std.proofs.lemmas.Bool.{cases_lt}
-use Rattle.std.proofs.lemmas.List.{length_push, append-nil, take_all}
-use Rattle.std.proofs.lemmas.List.Elements.{filter_more}
-use Rattle.std.proofs.lemmas.List.FromFn.{fill_by_all, length-map-range_with_len, get_or-map-range_with_len}
-use Rattle.std.proofs.lemmas.List.FromFn.{map-range_with_len_more}
-use Rattle.tier_core.specs.declared.kind.Kind.{Kind}
-use Rattle.tier_core.specs.declared.sym.Sym.{Sym}
-use Rattle.tier_core.specs.declared.constraint.Constraint.{Constraint}
-use Rattle.tier_core.specs.Kinds.{Phase, closed, phase_by_bits, phase_at, phases}
-use Rattle.tier_core.specs.Tiers.{has_tier}
-use Rattle.tier_core.specs.Sides.{is_stretch}
+use Rattle.std.proofs.Common.{◌≡◌, ℕ, ◌+◌, ◌^◌, ◌<◌, ◌≤◌, ◌&&◌, Bool, true, false, cond, List, [], ◌∷◌, ◌++◌}
+use Rattle.std.proofs.Common.{filter, take, length, get_or, refl, ap, sym, ◌∙◌, subst, arith, ⊎_elim, bit_and}
+use Rattle.std.proofs.{lemmas.Bool.cases_lt, lemmas.List.{length_push, append-nil, take_all}}
+use Rattle.std.proofs.{lemmas.List.Elements.filter_more, lemmas.List.FromFn.{fill_by_all, length-map-range_with_len}}
+use Rattle.std.proofs.lemmas.List.FromFn.{get_or-map-range_with_len, map-range_with_len_more}
+use Rattle.tier_core.specs.{declared.kind.Kind.Kind, declared.sym.Sym.Sym, declared.constraint.Constraint.Constraint}
+use Rattle.tier_core.specs.{Kinds.{Phase, closed, phase_by_bits, phase_at, phases}, Tiers.has_tier, Sides.is_stretch}
 use Rattle.tier_core.specs.PhaseBits.{phases_by, told_at}
-use Rattle.tier_core.proofs.KindLemmas.{not_both}
-use Rattle.tier_core.proofs.MaskBits.{apart_from, none_from}
+use Rattle.tier_core.proofs.{KindLemmas.not_both, MaskBits.{apart_from, none_from}}
 use Rattle.violation.specs.Moves.{is_unmet_phase, is_met_phase, next_phase, next_phases}
 use Rattle.violation.proofs.KindBits.{phase_told, one_of}
 

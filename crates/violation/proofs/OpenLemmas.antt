@@ -1,16 +1,11 @@
 -- Which tiers are open after the first columns.
 use Rattle.std.proofs.Common.{◌≡◌, ℕ, zero, suc, ◌≤◌, Bool, true, false, not, ◌&&◌, ◌||◌, List, [], ◌∷◌, ◌++◌, take}
-use Rattle.std.proofs.Common.{length, refl, sym, ap, ◌∙◌, arith}
-use Rattle.std.specs.List.{list_any}
-use Rattle.std.proofs.lemmas.List.{take-map}
+use Rattle.std.proofs.{Common.{length, refl, sym, ap, ◌∙◌, arith}, lemmas.List.take-map}
 use Rattle.std.proofs.lemmas.Bool.{false≢true, and_parts, and_from, not-true, not_from_false}
-use Rattle.tier_core.specs.declared.sym.Sym.{Sym}
-use Rattle.tier_core.specs.declared.sym.Sym.TheVariants.{Outside, Inside, Start, End, Both}
-use Rattle.tier_core.specs.Scan.{fits, opens}
-use Rattle.tier_core.specs.Timelines.{tier_word, symbol}
-use Rattle.tier_core.specs.Words.{ends}
-use Rattle.tier_core.proofs.WordLemmas.{runs, open_at}
-use Rattle.tier_core.proofs.Bools.{and_grouped}
+use Rattle.std.specs.List.{list_any}
+use Rattle.tier_core.specs.{declared.sym.Sym.Sym, declared.sym.Sym.TheVariants.{Outside, Inside, Start, End, Both}}
+use Rattle.tier_core.specs.{Scan.{fits, opens}, Timelines.{tier_word, symbol}, Words.ends}
+use Rattle.tier_core.proofs.{WordLemmas.{runs, open_at}, Bools.and_grouped}
 use Rattle.violation.specs.Prefixes.{is_open}
 
 -- the symbols fit, and the tier may be open at the end

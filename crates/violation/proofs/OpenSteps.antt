@@ -1,31 +1,20 @@
 -- What is counted at a column by constraints whose choices are of interiors alone.
-use Rattle.std.proofs.Common.{◌≡◌, ℕ, suc, ◌+◌, ◌*◌, ◌-◌, ◌<◌, Bool, true, false, not, ◌&&◌, ◌||◌, List, [], ◌∷◌, ◌++◌}
-use Rattle.std.proofs.Common.{map, length, get_or, refl, sym, ap, ◌∙◌, subst, arith}
-use Rattle.std.specs.Prelude.{count_by}
-use Rattle.std.specs.List.{AllByRecursion, list_all, list_any}
-use Rattle.std.proofs.lemmas.List.{get_or-map}
+use Rattle.std.proofs.Common.{◌≡◌, ℕ, suc, ◌+◌, ◌*◌, ◌-◌, ◌<◌, Bool, true, false, not, ◌&&◌, ◌||◌, List, [], ◌∷◌}
+use Rattle.std.proofs.{Common.{◌++◌, map, length, get_or, refl, sym, ap, ◌∙◌, subst, arith}, lemmas.List.get_or-map}
 use Rattle.std.proofs.lemmas.Bool.{false≢true}
-use Rattle.tier_core.specs.declared.sym.Sym.{Sym}
-use Rattle.tier_core.specs.declared.sym.Sym.TheVariants.{Outside, Inside, Start, End, Both}
-use Rattle.tier_core.specs.declared.event.Event.{Event}
-use Rattle.tier_core.specs.declared.event.Part.{Part}
+use Rattle.std.specs.{Prelude.count_by, List.{AllByRecursion, list_all, list_any}}
+use Rattle.tier_core.specs.{declared.sym.Sym.Sym, declared.sym.Sym.TheVariants.{Outside, Inside, Start, End, Both}}
+use Rattle.tier_core.specs.{declared.event.Event.Event, declared.event.Part.Part}
 use Rattle.tier_core.specs.declared.event.Part.TheVariants.{Start as StartOf, End as EndOf, Interior}
 use Rattle.tier_core.specs.declared.constraint.Family.TheVariants.{Implication, Clash}
-use Rattle.tier_core.specs.Events.{Interval, events, greatest_low, least_high, meet, is_there}
-use Rattle.tier_core.specs.Scan.{fits}
-use Rattle.tier_core.specs.Timelines.{tier_word, symbol, is_edge, IsWellFormed}
-use Rattle.tier_core.specs.Words.{is_inside_sym}
+use Rattle.tier_core.specs.{Events.{Interval, events, greatest_low, least_high, meet, is_there}, Scan.fits}
+use Rattle.tier_core.specs.{Timelines.{tier_word, symbol, is_edge, IsWellFormed}, Words.is_inside_sym}
 use Rattle.tier_core.specs.Sides.{is_edge_part, has_edge_type, edge_among}
-use Rattle.tier_core.proofs.CountLemmas.{bit, count_agree, all_weaker}
-use Rattle.tier_core.proofs.WordCounts.{runs_fits}
-use Rattle.tier_core.proofs.WordForm.{runs_from_well_formed}
-use Rattle.tier_core.proofs.Members.{all_both}
-use Rattle.violation.specs.Columns.{is_present, part_present}
-use Rattle.violation.specs.Conditions.{AreTiersBelow}
-use Rattle.violation.specs.Counts.{choices, counts, is_met, so_far}
-use Rattle.violation.specs.Prefixes.{last_where}
-use Rattle.violation.proofs.ChoiceLemmas.{count_where}
-use Rattle.violation.proofs.EdgeSteps.{is_at, IsFilled, step_count}
+use Rattle.tier_core.proofs.{CountLemmas.{bit, count_agree, all_weaker}, WordCounts.runs_fits}
+use Rattle.tier_core.proofs.{WordForm.runs_from_well_formed, Members.all_both}
+use Rattle.violation.specs.{Columns.{is_present, part_present}, Conditions.AreTiersBelow}
+use Rattle.violation.specs.{Counts.{choices, counts, is_met, so_far}, Prefixes.last_where}
+use Rattle.violation.proofs.{ChoiceLemmas.count_where, EdgeSteps.{is_at, IsFilled, step_count}}
 use Rattle.violation.proofs.InteriorSteps.{open_before, IsOdd, odds, filled, interiors_each, ends_before}
 use Rattle.violation.proofs.MeetLemmas.{contains, meet_contains}
 use Rattle.violation.proofs.StretchSteps.{MeetStarts, meets_start, meet_starts_at, among_each, reorder_test}

@@ -1,33 +1,21 @@
 -- Whether a stretch is met, from one column to the next.
-use Rattle.std.proofs.Common.{◌≡◌, ℕ, zero, suc, ◌+◌, ◌*◌, ◌-◌, ◌<◌, ◌≤◌, min, max, Bool, true, false, not, ◌&&◌, ◌||◌}
-use Rattle.std.proofs.Common.{leb, List, [], ◌∷◌, map, length, get_or, refl, sym, ap, ◌∙◌, arith}
+use Rattle.std.proofs.Common.{◌≡◌, ℕ, zero, suc, ◌+◌, ◌*◌, ◌-◌, ◌<◌, ◌≤◌, min, max, Bool, true, false, not, ◌&&◌}
+use Rattle.std.proofs.Common.{◌||◌, leb, List, [], ◌∷◌, map, length, get_or, refl, sym, ap, ◌∙◌, arith}
+use Rattle.std.proofs.{lemmas.List.get_or-map, lemmas.Bool.Decides.nat_tests}
 use Rattle.std.specs.List.{AllByRecursion, list_any}
-use Rattle.std.proofs.lemmas.List.{get_or-map}
-use Rattle.std.proofs.lemmas.Bool.Decides.{nat_tests}
-use Rattle.tier_core.specs.declared.sym.Sym.{Sym}
-use Rattle.tier_core.specs.declared.sym.Sym.TheVariants.{Outside}
-use Rattle.tier_core.specs.declared.event.Event.{Event}
+use Rattle.tier_core.specs.{declared.sym.Sym.Sym, declared.sym.Sym.TheVariants.Outside, declared.event.Event.Event}
 use Rattle.tier_core.specs.declared.event.Part.{Part}
 use Rattle.tier_core.specs.declared.event.Part.TheVariants.{Start as StartOf, End as EndOf, Interior}
-use Rattle.tier_core.specs.Events.{event, events, meet, is_there}
-use Rattle.tier_core.specs.Scan.{opens}
-use Rattle.tier_core.specs.Timelines.{tier_word, symbol, IsWellFormed}
-use Rattle.tier_core.specs.Words.{constituents}
+use Rattle.tier_core.specs.{Events.{event, events, meet, is_there}, Scan.opens}
+use Rattle.tier_core.specs.{Timelines.{tier_word, symbol, IsWellFormed}, Words.constituents}
 use Rattle.tier_core.specs.Sides.{is_edge_part, edge_among}
 use Rattle.tier_core.proofs.CountLemmas.{bit, all_weaker, all_of, any_from_count, any_none}
-use Rattle.tier_core.proofs.WordForm.{runs_from_well_formed}
-use Rattle.tier_core.proofs.WordLemmas.{open_at, constituents_late}
-use Rattle.violation.specs.Columns.{is_present, opens_interior}
-use Rattle.violation.specs.Conditions.{AreTiersBelow}
-use Rattle.violation.specs.Counts.{is_met}
+use Rattle.tier_core.proofs.{WordForm.runs_from_well_formed, WordLemmas.{open_at, constituents_late}}
+use Rattle.violation.specs.{Columns.{is_present, opens_interior}, Conditions.AreTiersBelow, Counts.is_met}
 use Rattle.violation.specs.Prefixes.{last_where}
-use Rattle.violation.proofs.ChoiceLemmas.{all_map}
-use Rattle.violation.proofs.EdgeSteps.{any_agree, at_point, met_at_point, meets_point}
-use Rattle.violation.proofs.EventCounts.{interior_before}
-use Rattle.violation.proofs.InteriorSteps.{open_before}
-use Rattle.violation.proofs.MeetLemmas.{contains}
-use Rattle.violation.proofs.OpenSteps.{stretch}
-use Rattle.violation.proofs.StretchSteps.{last_below}
+use Rattle.violation.proofs.{ChoiceLemmas.all_map, EdgeSteps.{any_agree, at_point, met_at_point, meets_point}}
+use Rattle.violation.proofs.{EventCounts.interior_before, InteriorSteps.open_before, MeetLemmas.contains}
+use Rattle.violation.proofs.{OpenSteps.stretch, StretchSteps.last_below}
 
 event_ordered : (part : Part) (i j : ℕ) → i < j → (event part (i, j)).low ≤ (event part (i, j)).high
 event_ordered StartOf i j l = omega arith

@@ -1,13 +1,9 @@
 -- An input tier is open after a prefix where it is open after its squeezed input part.
-use Rattle.std.proofs.Common.{◌≡◌, ℕ, ◌<◌, Bool, true, false, cond, List, [], ◌∷◌, map, length, get_or, refl, sym, ap}
-use Rattle.std.proofs.Common.{◌∙◌, subst, arith}
-use Rattle.std.proofs.lemmas.List.{get_or-map, length-map}
-use Rattle.std.proofs.lemmas.List.Folds.{list_any_at}
-use Rattle.std.proofs.lemmas.Bool.{false≢true, false_from_ne_true, and_parts}
-use Rattle.tier_core.specs.declared.sym.Sym.{Sym}
-use Rattle.tier_core.specs.declared.sym.Sym.TheVariants.{Outside, Inside, Start, End, Both}
-use Rattle.tier_core.specs.Scan.{fits, opens}
-use Rattle.tier_core.specs.Timelines.{tier_word, symbol, is_edge, has_edge, project, squeeze}
+use Rattle.std.proofs.Common.{◌≡◌, ℕ, ◌<◌, Bool, true, false, cond, List, [], ◌∷◌, map, length, get_or, refl, sym}
+use Rattle.std.proofs.{Common.{ap, ◌∙◌, subst, arith}, lemmas.List.{get_or-map, length-map}}
+use Rattle.std.proofs.{lemmas.List.Folds.list_any_at, lemmas.Bool.{false≢true, false_from_ne_true, and_parts}}
+use Rattle.tier_core.specs.{declared.sym.Sym.Sym, declared.sym.Sym.TheVariants.{Outside, Inside, Start, End, Both}}
+use Rattle.tier_core.specs.{Scan.{fits, opens}, Timelines.{tier_word, symbol, is_edge, has_edge, project, squeeze}}
 use Rattle.tier_core.proofs.WordLemmas.{open_at}
 use Rattle.violation.proofs.OpenLemmas.{reads}
 

@@ -1,27 +1,18 @@
 -- Prefixes of candidates, one column at a time.
 use Rattle.std.proofs.Common.{◌≡◌, ℕ, ◌+◌, ◌<◌, Bool, true, false, ◌||◌, cond, ◌⊎◌, inl, inr, IsTrue, List, [], ◌∷◌}
 use Rattle.std.proofs.Common.{◌++◌, map, take, length, get_or, refl, sym, ap, ◌∙◌, ⊎_elim}
-use Rattle.std.specs.List.{AllByRecursion}
 use Rattle.std.proofs.lemmas.List.{map-append, length-map, append-nil, take_more, length_push, get_or-map}
-use Rattle.std.proofs.lemmas.List.FromFn.{fill_by_all}
-use Rattle.std.proofs.lemmas.List.Elements.{filter-append, All-from_recursion}
+use Rattle.std.proofs.{lemmas.List.FromFn.fill_by_all, lemmas.List.Elements.{filter-append, All-from_recursion}}
 use Rattle.std.proofs.lemmas.Bool.{false≢true, and_from}
-use Rattle.tier_core.specs.declared.sym.Sym.{Sym}
-use Rattle.tier_core.specs.declared.constraint.Constraint.{Constraint}
-use Rattle.tier_core.specs.Scan.{fits}
-use Rattle.tier_core.specs.Tiers.{Tiers}
+use Rattle.std.specs.List.{AllByRecursion}
+use Rattle.tier_core.specs.{declared.sym.Sym.Sym, declared.constraint.Constraint.Constraint, Scan.fits, Tiers.Tiers}
 use Rattle.tier_core.specs.Timelines.{tier_word, symbol, column_at, has_edge, project, squeeze, IsReduced}
-use Rattle.tier_core.proofs.CountLemmas.{all_append}
-use Rattle.tier_core.proofs.WordLemmas.{open_at}
-use Rattle.tier_core.proofs.WordForm.{runs_from_well_formed}
-use Rattle.violation.specs.Candidates.{IsForm}
-use Rattle.violation.specs.Conditions.{AreSplit}
-use Rattle.violation.specs.Moves.{flag_of, form_opened, is_tier_open, input_of}
-use Rattle.violation.specs.Prefixes.{is_open, kind_of}
-use Rattle.violation.proofs.OpenLemmas.{reads, reads_append, reads_take, open_read, take_word}
-use Rattle.violation.proofs.PlaceLemmas.{input_open}
-use Rattle.violation.proofs.TierLemmas.{flag_in, flag_out}
+use Rattle.tier_core.proofs.{CountLemmas.all_append, WordLemmas.open_at, WordForm.runs_from_well_formed}
+use Rattle.violation.specs.{Candidates.IsForm, Conditions.AreSplit}
+use Rattle.violation.specs.{Moves.{flag_of, form_opened, is_tier_open, input_of}, Prefixes.{is_open, kind_of}}
 use Rattle.violation.specs.Problems.{Problem, last_place}
+use Rattle.violation.proofs.OpenLemmas.{reads, reads_append, reads_take, open_read, take_word}
+use Rattle.violation.proofs.{PlaceLemmas.input_open, TierLemmas.{flag_in, flag_out}}
 
 -- the squeezed input part
 abbrev pub input_part : Tiers → List (List Sym) → List (List Sym)

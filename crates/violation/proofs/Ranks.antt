@@ -1,13 +1,11 @@
 -- Optimal candidates of one stage and of the stage before.
-use Rattle.std.proofs.Common.{◌≡◌, ℕ, ◌-◌, ◌≤◌, List, take, length, arith}
+use Rattle.std.proofs.{Common.{◌≡◌, ℕ, ◌-◌, ◌≤◌, List, take, length, arith}, lemmas.List.length-map}
 use Rattle.std.specs.declared.cmp.Ordering.TheVariants.{Equal}
-use Rattle.std.proofs.lemmas.List.{length-map}
 use Rattle.tier_core.specs.declared.sym.Sym.{Sym}
 use Rattle.violation.specs.Candidates.{vec_cmp, IsCandidate, IsOptimalFor, counts_on, count_at}
-use Rattle.violation.specs.Counts.{violations_of}
+use Rattle.violation.specs.{Counts.violations_of, Problems.{Problem, last_stage}}
 use Rattle.violation.proofs.StageLemmas.{optimal_for_fewer}
 use Rattle.violation.proofs.VectorLemmas.{both_equal, equal_at_most, at_most_last, at_most_by_last}
-use Rattle.violation.specs.Problems.{Problem, last_stage}
 
 module _ (problem : Problem) (r : ℕ) (within : r ≤ last_stage problem) (ranked : 1 ≤ r) where
   long : (T : List (List Sym)) → r ≤ length (counts_on problem T)

@@ -1,21 +1,13 @@
 -- What remains of all constraints is what the moves behind a prefix cost, and what all moves cost is
 -- the vector.
-use Rattle.std.proofs.Common.{◌≡◌, ℕ, suc, ◌+◌, ◌-◌, ◌≤◌, List, [], ◌∷◌, ◌++◌, map, take, length, refl, sym, ap, ◌∙◌}
-use Rattle.std.proofs.Common.{arith, take_all}
-use Rattle.std.proofs.lemmas.List.{length-map}
-use Rattle.tier_core.specs.declared.sym.Sym.{Sym}
-use Rattle.tier_core.specs.declared.constraint.Constraint.{Constraint}
-use Rattle.tier_core.specs.Tiers.{Tiers}
+use Rattle.std.proofs.Common.{◌≡◌, ℕ, suc, ◌+◌, ◌-◌, ◌≤◌, List, [], ◌∷◌, ◌++◌, map, take, length, refl, sym, ap}
+use Rattle.std.proofs.{Common.{◌∙◌, arith, take_all}, lemmas.List.length-map}
+use Rattle.tier_core.specs.{declared.sym.Sym.Sym, declared.constraint.Constraint.Constraint, Tiers.Tiers}
 use Rattle.tier_core.specs.Kinds.{PrefixKind}
-use Rattle.violation.specs.Candidates.{IsCandidate, counts_on}
-use Rattle.violation.specs.Counts.{violations_of, violations_so_far}
-use Rattle.violation.specs.Prefixes.{kind_of}
-use Rattle.violation.specs.Rests.{counts_rest}
-use Rattle.violation.specs.Stages.{IsStage}
-use Rattle.violation.specs.Walks.{add_each, walk_costs}
-use Rattle.violation.proofs.CostLemmas.{costs_on, costs_sum, length_walk}
-use Rattle.violation.proofs.StageLemmas.{over_first}
+use Rattle.violation.specs.{Candidates.{IsCandidate, counts_on}, Counts.{violations_of, violations_so_far}}
+use Rattle.violation.specs.{Prefixes.kind_of, Rests.counts_rest, Stages.IsStage, Walks.{add_each, walk_costs}}
 use Rattle.violation.specs.Problems.{Problem, last_stage}
+use Rattle.violation.proofs.{CostLemmas.{costs_on, costs_sum, length_walk}, StageLemmas.over_first}
 
 -- numbers less those that they are sums with
 less_each : (f g : Constraint → ℕ) (cs : List Constraint) (ns : List ℕ) → length ns ≡ length cs

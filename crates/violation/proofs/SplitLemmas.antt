@@ -1,11 +1,9 @@
 -- The tiers of a table are split into input tiers and free ones.
-use Rattle.std.proofs.Common.{◌≡◌, ◌≢◌, ℕ, suc, ◌+◌, ◌<◌, ◌≤◌, Bool, true, false, not, cond, ◌⊎◌, inl, inr, List, []}
-use Rattle.std.proofs.Common.{◌∷◌, ◌++◌, length, Contains, ⊎_elim, arith}
-use Rattle.std.specs.List.{AllByRecursion}
-use Rattle.std.proofs.lemmas.Bool.{cases_eq}
+use Rattle.std.proofs.Common.{◌≡◌, ◌≢◌, ℕ, suc, ◌+◌, ◌<◌, ◌≤◌, Bool, true, false, not, cond, ◌⊎◌, inl, inr, List}
+use Rattle.std.proofs.{Common.{[], ◌∷◌, ◌++◌, length, Contains, ⊎_elim, arith}, lemmas.Bool.cases_eq}
 use Rattle.std.proofs.lemmas.List.Elements.{All-contains, All-from_recursion}
-use Rattle.tier_core.specs.declared.tier.TierKind.{TierKind}
-use Rattle.tier_core.specs.Tiers.{is_input, is_free, numbers_from, tiers_by_kinds}
+use Rattle.std.specs.List.{AllByRecursion}
+use Rattle.tier_core.specs.{declared.tier.TierKind.TierKind, Tiers.{is_input, is_free, numbers_from, tiers_by_kinds}}
 use Rattle.tier_core.proofs.CountLemmas.{all_weaker}
 use Rattle.violation.specs.Conditions.{AreSplit, AreDistinct}
 use Rattle.violation.proofs.TierLemmas.{contains_cases, contains_later}

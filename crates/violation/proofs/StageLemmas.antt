@@ -1,17 +1,11 @@
 -- What the stages of a grammar and a form share.
 use Rattle.std.proofs.Common.{ℕ, ◌≡◌, ◌≤◌, List, take, refl}
-use Rattle.std.specs.declared.cmp.Ordering.TheVariants.{Equal}
-use Rattle.std.specs.List.{AllByRecursion}
 use Rattle.std.proofs.lemmas.List.Elements.{All-from_recursion, recursion_from_All, All-take, All-filter}
-use Rattle.tier_core.specs.declared.sym.Sym.{Sym}
-use Rattle.tier_core.specs.Tiers.{Tiers}
-use Rattle.violation.specs.Candidates.{IsCandidate, IsOptimalFor, counts_on, vec_cmp}
-use Rattle.violation.specs.Conditions.{IsOverTiers}
-use Rattle.violation.specs.Prefixes.{stretches}
-use Rattle.tier_core.specs.Sides.{is_stretch}
-use Rattle.violation.specs.Stages.{IsStage}
+use Rattle.std.specs.{declared.cmp.Ordering.TheVariants.Equal, List.AllByRecursion}
+use Rattle.tier_core.specs.{declared.sym.Sym.Sym, Tiers.Tiers, Sides.is_stretch}
+use Rattle.violation.specs.{Candidates.{IsCandidate, IsOptimalFor, counts_on, vec_cmp}, Conditions.IsOverTiers}
+use Rattle.violation.specs.{Prefixes.stretches, Stages.IsStage, Problems.Problem}
 use Rattle.violation.proofs.VectorLemmas.{at_most_fewer, equal_at_most}
-use Rattle.violation.specs.Problems.{Problem}
 
 -- each candidate is 0-optimal
 pub all_optimal : (problem : Problem) (T : List (List Sym)) → IsCandidate problem T → IsOptimalFor problem 0 T

@@ -1,32 +1,19 @@
 -- A stretch: where the meet of interiors begins and ends.
-use Rattle.std.proofs.Common.{◌≡◌, ℕ, zero, suc, ◌+◌, ◌*◌, ◌-◌, ◌<◌, ◌≤◌, max, Bool, true, false, ◌&&◌, cond, leb, ltb}
-use Rattle.std.proofs.Common.{eqb, List, [], ◌∷◌, map, length, get_or, refl, sym, ap, ◌∙◌, ⊎_elim, arith}
-use Rattle.std.specs.Prelude.{count_by}
-use Rattle.std.specs.List.{AllByRecursion, list_all}
-use Rattle.std.proofs.lemmas.List.{get_or-map}
-use Rattle.std.proofs.lemmas.Bool.{cases_lt, false≢true, eq-eqb, lt-ltb, ltb-true, leb-true, and_parts, and_from}
-use Rattle.std.proofs.lemmas.Bool.{or_left, or_right, or_cases}
-use Rattle.std.proofs.lemmas.Bool.Decides.{nat_tests}
-use Rattle.tier_core.specs.declared.sym.Sym.{Sym}
-use Rattle.tier_core.specs.declared.sym.Sym.TheVariants.{Outside, Inside, Start, End, Both}
-use Rattle.tier_core.specs.declared.event.Event.{Event}
-use Rattle.tier_core.specs.declared.event.Part.{Part}
+use Rattle.std.proofs.Common.{◌≡◌, ℕ, zero, suc, ◌+◌, ◌*◌, ◌-◌, ◌<◌, ◌≤◌, max, Bool, true, false, ◌&&◌, cond, leb}
+use Rattle.std.proofs.Common.{ltb, eqb, List, [], ◌∷◌, map, length, get_or, refl, sym, ap, ◌∙◌, ⊎_elim, arith}
+use Rattle.std.proofs.{lemmas.List.get_or-map, lemmas.Bool.{cases_lt, false≢true, eq-eqb, lt-ltb, ltb-true, leb-true}}
+use Rattle.std.proofs.{lemmas.Bool.{and_parts, and_from, or_left, or_right, or_cases}, lemmas.Bool.Decides.nat_tests}
+use Rattle.std.specs.{Prelude.count_by, List.{AllByRecursion, list_all}}
+use Rattle.tier_core.specs.{declared.sym.Sym.Sym, declared.sym.Sym.TheVariants.{Outside, Inside, Start, End, Both}}
+use Rattle.tier_core.specs.{declared.event.Event.Event, declared.event.Part.Part}
 use Rattle.tier_core.specs.declared.event.Part.TheVariants.{Start as StartOf, End as EndOf, Interior}
 use Rattle.tier_core.specs.Events.{Interval, event, events, greatest_low}
 use Rattle.tier_core.specs.Timelines.{tier_word, symbol, is_edge, IsWellFormed}
-use Rattle.tier_core.specs.Words.{constituents, starts, ends, is_inside_sym}
-use Rattle.tier_core.specs.Sides.{is_edge_part, edge_among}
-use Rattle.tier_core.proofs.CountLemmas.{bit, count_cons, all_weaker, all_of}
-use Rattle.tier_core.proofs.WordCounts.{start_at, inside_at}
-use Rattle.tier_core.proofs.WordForm.{runs_from_well_formed}
-use Rattle.tier_core.proofs.WordLemmas.{runs, constituents_late}
-use Rattle.tier_core.proofs.Members.{all_both}
-use Rattle.violation.specs.Conditions.{AreTiersBelow}
-use Rattle.violation.specs.Counts.{choices}
-use Rattle.violation.specs.Prefixes.{last_where}
-use Rattle.violation.proofs.ChoiceLemmas.{all_flat, all_map}
-use Rattle.violation.proofs.EdgeSteps.{is_at, IsFilled}
-use Rattle.violation.proofs.EventCounts.{between_point}
+use Rattle.tier_core.specs.{Words.{constituents, starts, ends, is_inside_sym}, Sides.{is_edge_part, edge_among}}
+use Rattle.tier_core.proofs.{CountLemmas.{bit, count_cons, all_weaker, all_of}, WordCounts.{start_at, inside_at}}
+use Rattle.tier_core.proofs.{WordForm.runs_from_well_formed, WordLemmas.{runs, constituents_late}, Members.all_both}
+use Rattle.violation.specs.{Conditions.AreTiersBelow, Counts.choices, Prefixes.last_where}
+use Rattle.violation.proofs.{ChoiceLemmas.{all_flat, all_map}, EdgeSteps.{is_at, IsFilled}, EventCounts.between_point}
 use Rattle.violation.proofs.MeetLemmas.{contains}
 
 -- the pairs of a well-formed word against its symbols

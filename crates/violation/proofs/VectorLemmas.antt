@@ -1,11 +1,9 @@
 -- The order of vectors, number by number.
-use Rattle.std.proofs.Common.{◌≡◌, ℕ, zero, suc, ◌-◌, ◌<◌, ◌≤◌, true, List, [], ◌∷◌, take, length, get_or, refl, sym}
-use Rattle.std.proofs.Common.{ap, ◌∙◌, subst, arith}
-use Rattle.std.specs.declared.cmp.Ordering.{Ordering}
-use Rattle.std.specs.declared.cmp.Ordering.TheVariants.{Less, Equal, Greater}
-use Rattle.std.specs.Ordering.{nat_cmp, is_le, ordering_then, ordering_reverse, MatchOrdering}
-use Rattle.std.proofs.lemmas.Bool.{false≢true}
+use Rattle.std.proofs.Common.{◌≡◌, ℕ, zero, suc, ◌-◌, ◌<◌, ◌≤◌, true, List, [], ◌∷◌, take, length, get_or, refl}
+use Rattle.std.proofs.{Common.{sym, ap, ◌∙◌, subst, arith}, lemmas.Bool.false≢true}
 use Rattle.std.proofs.lemmas.Cmp.{ranked, nat_list_cmp_total}
+use Rattle.std.specs.{declared.cmp.Ordering.Ordering, declared.cmp.Ordering.TheVariants.{Less, Equal, Greater}}
+use Rattle.std.specs.Ordering.{nat_cmp, is_le, ordering_then, ordering_reverse, MatchOrdering}
 use Rattle.tier_core.proofs.KindTies.{then_equal}
 use Rattle.violation.specs.Candidates.{vec_cmp, IsAtMost}
 

@@ -1,31 +1,23 @@
 -- The moves of kinds are those of candidates: what stands on the statements of `Walks`.
 use Rattle.std.proofs.Common.{◌≡◌, ◌↔◌, ℕ, suc, ◌+◌, ◌<◌, ◌==◌, Bool, true, false, not, cond, ◌⊎◌, inl, inr, IsTrue}
-use Rattle.std.proofs.Common.{List, [], ◌∷◌, ◌++◌, map, take, length, get_or, refl, sym, ap, ◌∙◌, subst, arith, eq-eqb}
-use Rattle.std.proofs.Common.{eqb-true, append-nil, append_assoc, take_at}
-use Rattle.std.specs.List.{AllByRecursion, list_any}
+use Rattle.std.proofs.Common.{List, [], ◌∷◌, ◌++◌, map, take, length, get_or, refl, sym, ap, ◌∙◌, subst, arith}
+use Rattle.std.proofs.Common.{eq-eqb, eqb-true, append-nil, append_assoc, take_at}
 use Rattle.std.proofs.lemmas.List.{map-append, length-append, length_push, get_or_at}
 use Rattle.std.proofs.lemmas.Bool.{and_parts, and_from, not-true, not_from_false}
-use Rattle.tier_core.specs.declared.sym.Sym.{Sym}
-use Rattle.tier_core.specs.declared.constraint.Constraint.{Constraint}
-use Rattle.tier_core.specs.Scan.{fits, opens}
+use Rattle.std.specs.List.{AllByRecursion, list_any}
+use Rattle.tier_core.specs.{declared.sym.Sym.Sym, declared.constraint.Constraint.Constraint, Scan.{fits, opens}}
 use Rattle.tier_core.specs.Timelines.{tier_word, symbol, column_at, has_edge}
-use Rattle.tier_core.proofs.CountLemmas.{bit, all_weaker, any_none}
-use Rattle.tier_core.proofs.WordLemmas.{runs}
-use Rattle.tier_core.proofs.WordForm.{runs_from_well_formed}
+use Rattle.tier_core.proofs.{CountLemmas.{bit, all_weaker, any_none}, WordLemmas.runs, WordForm.runs_from_well_formed}
 use Rattle.tier_core.proofs.KindTies.{same_parts}
-use Rattle.violation.specs.Candidates.{IsForm, IsCandidate}
-use Rattle.violation.specs.Conditions.{AreSplit, IsOverTiers, IsCountable}
+use Rattle.violation.specs.{Candidates.{IsForm, IsCandidate}, Conditions.{AreSplit, IsOverTiers, IsCountable}}
 use Rattle.violation.specs.Moves.{FitsKind, input_of, next_kind, next_phases, next_phase, is_final}
 use Rattle.violation.specs.Prefixes.{is_open, kind_of, phase, stretches}
-use Rattle.violation.specs.Walks.{HasMoves, walk_end, BeginsCandidate}
-use Rattle.violation.proofs.Countable.{countable_over}
-use Rattle.violation.proofs.ChoiceLemmas.{all_map}
-use Rattle.violation.proofs.MoveLemmas.{next_phase_is}
+use Rattle.violation.specs.{Walks.{HasMoves, walk_end, BeginsCandidate}, Problems.{Problem, last_place}}
+use Rattle.violation.proofs.{Countable.countable_over, ChoiceLemmas.all_map, MoveLemmas.next_phase_is}
 use Rattle.violation.proofs.OpenLemmas.{open_read, runs_reads, runs_closed, runs_append}
-use Rattle.violation.proofs.PrefixLemmas.{input_part, input_append, IsBegun, nothing_begun, begun_more, tier_open_is}
-use Rattle.violation.proofs.CompletionLemmas.{open_after_more, ended_candidate, completed}
-use Rattle.violation.proofs.TierLemmas.{map_agree}
-use Rattle.violation.specs.Problems.{Problem, last_place}
+use Rattle.violation.proofs.PrefixLemmas.{input_part, input_append, IsBegun, nothing_begun, begun_more}
+use Rattle.violation.proofs.PrefixLemmas.{tier_open_is}
+use Rattle.violation.proofs.{CompletionLemmas.{open_after_more, ended_candidate, completed}, TierLemmas.map_agree}
 
 pub all_split : {X : Type 0} (P : X → Type 0) (xs ys : List X) → AllByRecursion P (xs ++ ys)
     → AllByRecursion P xs × AllByRecursion P ys

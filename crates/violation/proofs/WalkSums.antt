@@ -1,23 +1,15 @@
 -- What walks cost under one constraint, and what candidates violate of it.
-use Rattle.std.proofs.Common.{◌≡◌, ℕ, zero, suc, ◌+◌, ◌-◌, ◌<◌, ◌≤◌, Bool, cond, List, [], ◌∷◌, ◌++◌, map, take, drop}
-use Rattle.std.proofs.Common.{length, get_or, refl, sym, ap, ◌∙◌, arith}
+use Rattle.std.proofs.Common.{◌≡◌, ℕ, zero, suc, ◌+◌, ◌-◌, ◌<◌, ◌≤◌, Bool, cond, List, [], ◌∷◌, ◌++◌, map, take}
+use Rattle.std.proofs.Common.{drop, length, get_or, refl, sym, ap, ◌∙◌, arith}
 use Rattle.std.proofs.lemmas.List.{get_or-take, take-map, length-map}
-use Rattle.tier_core.specs.declared.sym.Sym.{Sym}
-use Rattle.tier_core.specs.declared.constraint.Constraint.{Constraint}
-use Rattle.tier_core.specs.Tiers.{Tiers}
-use Rattle.tier_core.specs.Kinds.{Phase, PrefixKind}
-use Rattle.tier_core.specs.Sides.{is_stretch}
+use Rattle.tier_core.specs.{declared.sym.Sym.Sym, declared.constraint.Constraint.Constraint, Tiers.Tiers}
+use Rattle.tier_core.specs.{Kinds.{Phase, PrefixKind}, Sides.is_stretch}
 use Rattle.violation.specs.Candidates.{IsCandidate, vec, vec_so_far, counts_on, counts_so_far, count_at}
-use Rattle.violation.specs.Candidates.{count_so_far_at}
-use Rattle.violation.specs.Counts.{violations_of, violations_so_far}
-use Rattle.violation.specs.Moves.{costs_each, is_tier_open, next_kind, move_costs}
-use Rattle.violation.specs.Prefixes.{kind_of}
-use Rattle.violation.specs.Walks.{HasMoves, walk_end, add_each, walk_costs}
+use Rattle.violation.specs.{Candidates.count_so_far_at, Counts.{violations_of, violations_so_far}}
+use Rattle.violation.specs.{Moves.{costs_each, is_tier_open, next_kind, move_costs}, Prefixes.kind_of}
+use Rattle.violation.specs.{Walks.{HasMoves, walk_end, add_each, walk_costs}, Stages.IsStage, Problems.Problem}
 use Rattle.violation.proofs.CostLemmas.{length_walk, costs_on, costs_sum, length_costs}
-use Rattle.violation.proofs.WalkLemmas.{candidate_walk, reached_is}
-use Rattle.violation.specs.Stages.{IsStage}
-use Rattle.violation.proofs.StageLemmas.{over_first, over_stretches}
-use Rattle.violation.specs.Problems.{Problem}
+use Rattle.violation.proofs.{WalkLemmas.{candidate_walk, reached_is}, StageLemmas.{over_first, over_stretches}}
 
 -- a sum of two lists of one length, at a place
 add_at : (a b : List ℕ) (i : ℕ) → length a ≡ length b → get_or (add_each a b) i 0 ≡ get_or a i 0 + get_or b i 0

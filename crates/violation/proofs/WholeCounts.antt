@@ -1,24 +1,15 @@
 -- Before the first column nothing is counted, and after the last column all is.
 use Rattle.std.proofs.Common.{◌≡◌, ℕ, ◌*◌, ◌-◌, ◌<◌, Bool, true, false, ◌&&◌, ltb, List, [], ◌∷◌, map, length, refl}
-use Rattle.std.proofs.Common.{arith}
+use Rattle.std.proofs.{Common.arith, lemmas.List.length-map, lemmas.Bool.{le-ltb, lt-ltb, and_right}}
 use Rattle.std.specs.List.{AllByRecursion}
-use Rattle.std.proofs.lemmas.List.{length-map}
-use Rattle.std.proofs.lemmas.Bool.{le-ltb, lt-ltb, and_right}
-use Rattle.tier_core.specs.declared.sym.Sym.{Sym}
-use Rattle.tier_core.specs.declared.event.Event.{Event}
-use Rattle.tier_core.specs.declared.event.Part.{Part}
+use Rattle.tier_core.specs.{declared.sym.Sym.Sym, declared.event.Event.Event, declared.event.Part.Part}
 use Rattle.tier_core.specs.declared.event.Part.TheVariants.{Start as StartOf, End as EndOf, Interior}
-use Rattle.tier_core.specs.declared.constraint.Family.{Family}
-use Rattle.tier_core.specs.Events.{event, events, least_high, meet}
-use Rattle.tier_core.specs.Timelines.{tier_word, symbol}
-use Rattle.tier_core.specs.Words.{constituents}
+use Rattle.tier_core.specs.{declared.constraint.Family.Family, Events.{event, events, least_high, meet}}
+use Rattle.tier_core.specs.{Timelines.{tier_word, symbol}, Words.constituents}
 use Rattle.tier_core.proofs.CountLemmas.{count_agree, count_none, all_weaker, all_of}
-use Rattle.tier_core.proofs.WordCounts.{constituents_within}
-use Rattle.tier_core.proofs.WordLemmas.{constituents_late}
-use Rattle.tier_core.proofs.Members.{all_both}
+use Rattle.tier_core.proofs.{WordCounts.constituents_within, WordLemmas.constituents_late, Members.all_both}
 use Rattle.violation.specs.Counts.{choices, choice_types, counts, viol, so_far}
-use Rattle.violation.proofs.ChoiceLemmas.{all_flat, all_map}
-use Rattle.violation.proofs.MeetLemmas.{least_from_le}
+use Rattle.violation.proofs.{ChoiceLemmas.{all_flat, all_map}, MeetLemmas.least_from_le}
 
 pub so_far_none : (family : Family) (left right : List Event) (T : List (List Sym)) → so_far family left right T 0 ≡ 0
 unfolding so_far

@@ -1,16 +1,12 @@
 -- Vectors as the parts of ranked weights: their sums, their order and their greatest part.
 use Rattle.std.proofs.Common.{◌≡◌, ℕ, zero, suc, ◌+◌, ◌-◌, ◌≤◌, Bool, true, false, max, List, [], ◌∷◌, ◌++◌, map}
-use Rattle.std.proofs.Common.{replicate, length, refl, sym, ap, ◌∙◌, subst, arith}
-use Rattle.std.specs.declared.cmp.Ordering.{Ordering}
-use Rattle.std.specs.declared.cmp.Ordering.TheVariants.{Less, Equal, Greater}
+use Rattle.std.proofs.{Common.{replicate, length, refl, sym, ap, ◌∙◌, subst, arith}, lemmas.Bool.false≢true}
+use Rattle.std.proofs.{lemmas.List.length-map, lemmas.Cmp.{tied_itself, nat_list_cmp_total}}
+use Rattle.std.specs.{declared.cmp.Ordering.Ordering, declared.cmp.Ordering.TheVariants.{Less, Equal, Greater}}
 use Rattle.std.specs.Ordering.{nat_cmp, is_lt, is_le, ordering_then, ordering_reverse}
-use Rattle.std.proofs.lemmas.Bool.{false≢true}
-use Rattle.std.proofs.lemmas.List.{length-map}
-use Rattle.std.proofs.lemmas.Cmp.{tied_itself, nat_list_cmp_total}
 use Rattle.weight_law.specs.Meaning.{Meaning, AtMost}
 use Rattle.weight_law.specs.Ranked.{greatest_part, sum_of_parts, parts_of_vector, ranked_meaning}
-use Rattle.weight_law.specs.RankedLaws.{parts_cmp, length-sum}
-use Rattle.weight_law.specs.declared.ranked.Ranked.{Ranked}
+use Rattle.weight_law.specs.{RankedLaws.{parts_cmp, length-sum}, declared.ranked.Ranked.Ranked}
 
 sum-append : (a b xs ys : List ℕ) → length a ≡ length b
     → sum_of_parts (a ++ xs) (b ++ ys) ≡ sum_of_parts a b ++ sum_of_parts xs ys

@@ -1,5 +1,4 @@
-use Rattle.std.proofs.Common.{◌≡◌, ◌++◌, ℕ, length, drop, take, subst, arith}
-use Rattle.std.proofs.lemmas.List.{take_at}
+use Rattle.std.proofs.{Common.{◌≡◌, ◌++◌, ℕ, length, drop, take, subst, arith}, lemmas.List.take_at}
 use Rattle.distances.specs.Rounds.{IsCovered}
 use Rattle.distances.proofs.Ends.{least-closed, closed-covered}
 use Rattle.distances.proofs.rounds.fixed_point.Goals as goal

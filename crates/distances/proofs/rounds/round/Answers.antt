@@ -1,9 +1,7 @@
 use Rattle.std.proofs.Common.{◌≡◌, ◌<◌, ◌+◌, ◌-◌, ℕ, Option, None, List, length, get_or, sym, ap, ◌∙◌, subst, arith}
-use Rattle.std.proofs.lemmas.Bool.{or_parts}
-use Rattle.std.proofs.lemmas.List.{get_or_read, length-set}
+use Rattle.std.proofs.{lemmas.Bool.or_parts, lemmas.List.{get_or_read, length-set}}
 use Rattle.arc_table.specs.Moves.{moves_at}
-use Rattle.distances.specs.Best.{best_of}
-use Rattle.distances.specs.Rounds.{IsCoveredFrom, AreClosedFrom}
+use Rattle.distances.specs.{Best.best_of, Rounds.{IsCoveredFrom, AreClosedFrom}}
 use Rattle.arc_table.proofs.Push.{targets_each}
 use Rattle.distances.proofs.Ends.{fits_each}
 use Rattle.distances.proofs.Steps.{step-witnessed, step-covered, step-covered_more, step-same, step-closed}

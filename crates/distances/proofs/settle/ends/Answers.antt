@@ -1,7 +1,6 @@
-use Rattle.std.proofs.Common.{◌≡◌, map, sym, ◌∙◌}
-use Rattle.std.specs.BinaryHeap.{heap_items}
-use Rattle.std.proofs.lemmas.List.Sorted.{All-permutation, IsPermutation-map}
+use Rattle.std.proofs.{Common.{◌≡◌, map, sym, ◌∙◌}, lemmas.List.Sorted.{All-permutation, IsPermutation-map}}
 use Rattle.std.proofs.lemmas.List.Elements.{All-cons}
+use Rattle.std.specs.BinaryHeap.{heap_items}
 use Rattle.distances.proofs.Waits.{ends_without, ends_with}
 use Rattle.distances.proofs.settle.ends.Goals as goal
 

@@ -1,6 +1,5 @@
 use Rattle.std.proofs.Common.{◌≡◌, map}
-use Rattle.std.specs.Prelude.{All, IsPermutation}
-use Rattle.std.specs.BinaryHeap.{heap_items}
+use Rattle.std.specs.{Prelude.{All, IsPermutation}, BinaryHeap.heap_items}
 use Rattle.distances.specs.Settled.{ends_below}
 use Rattle.distances.proofs.settle.ends.Given as goal
 

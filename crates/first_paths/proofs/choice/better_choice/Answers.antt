@@ -1,8 +1,6 @@
 use Rattle.std.proofs.Common.{◌≡◌, false, List, subst, inr}
 use Rattle.std.specs.Ordering.{is_gt}
-use Rattle.tier_core.specs.declared.sym.Sym.{Sym}
-use Rattle.tier_core.specs.Orders.{column_cmp}
-use Rattle.tier_core.specs.FirstColumn.{first_column}
+use Rattle.tier_core.specs.{declared.sym.Sym.Sym, Orders.column_cmp, FirstColumn.first_column}
 use Rattle.first_paths.proofs.Order.{column_itself, not_before}
 use Rattle.first_paths.proofs.choice.better_choice.Goals as goal
 

@@ -1,6 +1,5 @@
 use Rattle.std.proofs.Common.{◌<◌, Option, None, Some, subst, arith}
-use Rattle.first_paths.specs.declared.choice.Choice.{Choice}
-use Rattle.first_paths.specs.Counted.{HasLeft}
+use Rattle.first_paths.specs.{declared.choice.Choice.Choice, Counted.HasLeft}
 use Rattle.first_paths.proofs.Choosing.{IsBestBelow, best-skip, best-take}
 use Rattle.first_paths.proofs.choice.choose.Goals as goal
 

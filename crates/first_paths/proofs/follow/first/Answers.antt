@@ -1,16 +1,14 @@
 use Rattle.std.specs.Result.{is_err}
 use Rattle.std.proofs.Common.{false, ◌≡◌, ℕ, ◌+◌, ◌-◌, ◌++◌, List, [], ◌∷◌, Option, length, sym, ap, subst, ◌∙◌}
-use Rattle.std.proofs.Common.{append_assoc, arith}
-use Rattle.std.proofs.lemmas.List.{append-nil}
+use Rattle.std.proofs.{Common.{append_assoc, arith}, lemmas.List.append-nil}
 use Rattle.weight_law.specs.declared.count.Count.{Count}
 use Rattle.tier_core.specs.declared.sym.Sym.{Sym}
 use Rattle.arc_table.specs.Moves.{moves_at}
 use Rattle.arc_table.proofs.Push.{targets_each}
-use Rattle.first_paths.proofs.FirstFrom.{IsFirstFrom, is_first}
-use Rattle.first_paths.specs.Counted.{IsLeft, IsLeastChoice}
-use Rattle.first_paths.proofs.Choosing.{first_empty, choice_exists, first_step}
-use Rattle.first_paths.proofs.follow.first.Goals as goal
+use Rattle.first_paths.proofs.{FirstFrom.{IsFirstFrom, is_first}, Choosing.{first_empty, choice_exists, first_step}}
 use Rattle.first_paths.proofs.Results.{on_ok}
+use Rattle.first_paths.specs.Counted.{IsLeft, IsLeastChoice}
+use Rattle.first_paths.proofs.follow.first.Goals as goal
 
 pub choose-choice-requires-clause-targets : goal.choose-choice-requires-clause-targets
 choose-choice-requires-clause-targets c =

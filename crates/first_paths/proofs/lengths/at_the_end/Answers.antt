@@ -1,5 +1,4 @@
-use Rattle.std.proofs.Common.{None, Some, refl, sym, ◌∙◌, arith}
-use Rattle.std.proofs.lemmas.List.{length_push}
+use Rattle.std.proofs.{Common.{None, Some, refl, sym, ◌∙◌, arith}, lemmas.List.length_push}
 use Rattle.weight_law.specs.declared.count.Count.{Count}
 use Rattle.first_paths.proofs.Searching.{ends_skip, ends_take}
 use Rattle.first_paths.proofs.lengths.at_the_end.Goals as goal

@@ -1,7 +1,5 @@
-use Rattle.std.proofs.Common.{◌≡◌, ◌<◌, None, Some, length, get_or, refl, sym, ◌∙◌, arith}
-use Rattle.std.proofs.lemmas.List.{get_or_read}
-use Rattle.weight_law.specs.declared.count.Count.{Count}
-use Rattle.weight_law.specs.declared.unit_weight.UnitWeight.{UnitWeight}
+use Rattle.std.proofs.{Common.{◌≡◌, ◌<◌, None, Some, length, get_or, refl, sym, ◌∙◌, arith}, lemmas.List.get_or_read}
+use Rattle.weight_law.specs.{declared.count.Count.Count, declared.unit_weight.UnitWeight.UnitWeight}
 use Rattle.arc_table.specs.declared.incoming_move.IncomingMove.{IncomingMove}
 use Rattle.first_paths.proofs.Searching.{some_known, none_known, one_known, one_unknown, source_more}
 use Rattle.first_paths.proofs.lengths.reach.Goals as goal

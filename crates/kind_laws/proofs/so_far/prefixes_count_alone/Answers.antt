@@ -1,7 +1,5 @@
-use Rattle.std.proofs.Common.{◌++◌, sym, ◌∙◌, arith}
-use Rattle.std.proofs.lemmas.List.{length-append, take-append-le}
-use Rattle.violation.proofs.Countable.{countable_over}
-use Rattle.violation.proofs.MoveLemmas.{so_far_of_prefix}
+use Rattle.std.proofs.{Common.{◌++◌, sym, ◌∙◌, arith}, lemmas.List.{length-append, take-append-le}}
+use Rattle.violation.proofs.{Countable.countable_over, MoveLemmas.so_far_of_prefix}
 use Rattle.kind_laws.proofs.so_far.prefixes_count_alone.Goals as goal
 
 pub returns : goal.returns

@@ -1,5 +1,4 @@
-use Rattle.kind_laws.proofs.Conjunctions.{implication_alike, clash_alike}
-use Rattle.kind_laws.proofs.Repeats.{repeated_left, repeated_right}
+use Rattle.kind_laws.proofs.{Conjunctions.{implication_alike, clash_alike}, Repeats.{repeated_left, repeated_right}}
 use Rattle.kind_laws.proofs.types.repeated_types_change_no_count.Goals as goal
 
 pub returns-clause-implication : goal.returns-clause-implication

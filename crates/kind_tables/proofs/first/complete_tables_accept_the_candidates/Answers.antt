@@ -1,5 +1,4 @@
-use Rattle.kind_tables.proofs.Complete.{complete_words, complete_on_runs}
-use Rattle.kind_tables.proofs.Following.{first_table}
+use Rattle.kind_tables.proofs.{Complete.{complete_words, complete_on_runs}, Following.first_table}
 use Rattle.kind_tables.proofs.first.complete_tables_accept_the_candidates.Goals as goal
 
 pub returns-clause-words : goal.returns-clause-words

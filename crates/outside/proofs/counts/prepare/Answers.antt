@@ -1,5 +1,4 @@
-use Rattle.std.proofs.Common.{arith}
-use Rattle.std.proofs.lemmas.Map.Text.{text_keys}
+use Rattle.std.proofs.{Common.arith, lemmas.Map.Text.text_keys}
 use Rattle.outside.proofs.counts.prepare.Goals as goal
 
 pub returns-in_ok-insert-clause-same : goal.returns-in_ok-insert-clause-same

@@ -1,7 +1,6 @@
 use Rattle.std.proofs.Common.{length, arith}
 use Rattle.arc_table.proofs.Push.{targets_each}
-use Rattle.distances.proofs.Ends.{fits_each}
-use Rattle.distances.proofs.Shortest.{witnessed_from_least}
+use Rattle.distances.proofs.{Ends.fits_each, Shortest.witnessed_from_least}
 use Rattle.prune_best.proofs.moves.new_state.Goals as goal
 
 pub tight_moves-requires-clause-targets : goal.tight_moves-requires-clause-targets

@@ -1,6 +1,5 @@
 use Rattle.std.proofs.Common.{◌≡◌, ◌≤◌, length}
-use Rattle.prune_best.specs.Names.{AreNumbered}
-use Rattle.prune_best.specs.Kept.{AreTightMoves, NamesTargets}
+use Rattle.prune_best.specs.{Names.AreNumbered, Kept.{AreTightMoves, NamesTargets}}
 use Rattle.prune_best.proofs.moves.tight_moves.Given as goal
 
 abbrev pub invariant-loop-arc : goal.invariant-loop-arc

@@ -1,5 +1,4 @@
-use Rattle.std.proofs.Common.{◌≡◌, None, length, get_or, sym, ◌∙◌, arith}
-use Rattle.std.proofs.lemmas.List.{get_or_read}
+use Rattle.std.proofs.{Common.{◌≡◌, None, length, get_or, sym, ◌∙◌, arith}, lemmas.List.get_or_read}
 use Rattle.prune_best.proofs.Numbering.{names_few, grows-same, numbered-push}
 use Rattle.prune_best.proofs.names.number_state.Goals as goal
 

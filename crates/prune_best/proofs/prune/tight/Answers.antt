@@ -1,7 +1,5 @@
-use Rattle.std.proofs.Common.{◌≡◌, ◌+◌, ◌<◌, length, ap, ◌∙◌, arith}
-use Rattle.std.proofs.lemmas.List.{length_push}
-use Rattle.prune_best.proofs.Numbering.{names_few, numbered_below, next_named}
-use Rattle.prune_best.proofs.SoFar.{so_far-push, so_far-start}
+use Rattle.std.proofs.{Common.{◌≡◌, ◌+◌, ◌<◌, length, ap, ◌∙◌, arith}, lemmas.List.length_push}
+use Rattle.prune_best.proofs.{Numbering.{names_few, numbered_below, next_named}, SoFar.{so_far-push, so_far-start}}
 use Rattle.prune_best.proofs.Words.{is_tight, new_targets, new_filled, new_width, new_disjoint}
 use Rattle.prune_best.proofs.prune.tight.Goals as goal
 

@@ -1,5 +1,4 @@
-use Rattle.stage_laws.proofs.Pruned.{kept_named}
-use Rattle.stage_laws.proofs.Staged.{kept_kinds, kept_paths}
+use Rattle.stage_laws.proofs.{Pruned.kept_named, Staged.{kept_kinds, kept_paths}}
 use Rattle.std.proofs.Common.{refl}
 use Rattle.stage_laws.proofs.found.pruned_tables_keep_their_names.Goals as goal
 

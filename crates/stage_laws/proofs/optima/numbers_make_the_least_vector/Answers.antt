@@ -1,5 +1,4 @@
-use Rattle.violation.proofs.StageLemmas.{optimal_for_fewer}
-use Rattle.violation.proofs.LeastVector.{vector_of_numbers}
+use Rattle.violation.proofs.{StageLemmas.optimal_for_fewer, LeastVector.vector_of_numbers}
 use Rattle.stage_laws.proofs.optima.numbers_make_the_least_vector.Goals as goal
 
 pub returns-clause-vector : goal.returns-clause-vector

@@ -1,6 +1,5 @@
 use Rattle.std.proofs.Common.{refl}
-use Rattle.stage_laws.proofs.LeastVectors.{least_vector, least_rest_vector}
-use Rattle.stage_laws.proofs.PrunedOnce.{whole_names}
+use Rattle.stage_laws.proofs.{LeastVectors.{least_vector, least_rest_vector}, PrunedOnce.whole_names}
 use Rattle.stage_laws.proofs.vectors.least_vectors_remain.Goals as goal
 
 pub returns-clause-names : goal.returns-clause-names

@@ -1,6 +1,5 @@
 use Rattle.std.proofs.Common.{refl}
-use Rattle.stage_laws.proofs.LeastVectors.{optimal_words}
-use Rattle.stage_laws.proofs.PrunedOnce.{once_words, once_kinds, once_paths}
+use Rattle.stage_laws.proofs.{LeastVectors.optimal_words, PrunedOnce.{once_words, once_kinds, once_paths}}
 use Rattle.stage_laws.proofs.vectors.words_of_least_vectors_are_optimal.Goals as goal
 
 pub returns-clause-least_words : goal.returns-clause-least_words

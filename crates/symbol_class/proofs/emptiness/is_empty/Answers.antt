@@ -1,9 +1,6 @@
 use Rattle.std.proofs.Common.{◌≡◌, Bool, true, false, ◌↔◌, not, IsTrue, refl, sym, ap, ◌∙◌, ⊎_elim}
 use Rattle.std.proofs.lemmas.Bool.{false≢true, cases_Bool, not-true}
-use Rattle.tier_core.specs.declared.class.Class.{Class}
-use Rattle.tier_core.specs.Sets.{SomeEmpty}
-use Rattle.tier_core.specs.Classes.{sets_of}
-use Rattle.tier_core.specs.Filled.{is_filled}
+use Rattle.tier_core.specs.{declared.class.Class.Class, Sets.SomeEmpty, Classes.sets_of, Filled.is_filled}
 use Rattle.tier_core.proofs.Filled.{empty_at, empty_holds, filled_each, filled_holds}
 use Rattle.symbol_class.proofs.emptiness.is_empty.Goals as goal
 

@@ -1,14 +1,10 @@
 use Rattle.std.proofs.Common.{List, length, All, AllPairs, IsTrue, sym, subst, ◌<◌, rules}
-use Rattle.std.specs.List.Sorted.{IsSortedByKey}
-use Rattle.std.proofs.lemmas.Cmp.{nat_list_cmp_total}
-use Rattle.std.proofs.lemmas.List.Sorted.{All-permutation, ranks_by}
+use Rattle.std.proofs.{lemmas.Cmp.nat_list_cmp_total, lemmas.List.Sorted.{All-permutation, ranks_by}}
 use Rattle.std.proofs.lemmas.Result.{IfOk-weaker}
-use Rattle.tier_core.specs.declared.class.Class.{Class}
-use Rattle.tier_core.specs.Classes.{sets_of, AreDisjoint}
-use Rattle.tier_core.specs.Filled.{is_filled}
+use Rattle.std.specs.List.Sorted.{IsSortedByKey}
+use Rattle.tier_core.specs.{declared.class.Class.Class, Classes.{sets_of, AreDisjoint}, Filled.is_filled}
 use Rattle.symbol_class.specs.Joined.{sets_beside, beside_cmp, JoinsAlong}
-use Rattle.symbol_class.proofs.JoinedClasses.{joins_permuted, apart_permuted}
-use Rattle.symbol_class.proofs.Pairs.{sorted_by_closure}
+use Rattle.symbol_class.proofs.{JoinedClasses.{joins_permuted, apart_permuted}, Pairs.sorted_by_closure}
 use Rattle.symbol_class.proofs.joining.joined_along.Goals as goal
 
 pub joined_neighbours-requires-clause-wide : goal.joined_neighbours-requires-clause-wide

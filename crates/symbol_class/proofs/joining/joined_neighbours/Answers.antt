@@ -1,9 +1,7 @@
 use Rattle.std.proofs.Common.{◌≡◌, ◌<◌, List, ◌∷◌, ◌++◌, map, length, All, AllPairs, IsTrue, ap, subst, sym, arith}
-use Rattle.std.specs.List.Sorted.{IsSortedByKey}
 use Rattle.std.proofs.lemmas.List.Elements.{All-head, All-tail}
-use Rattle.tier_core.specs.declared.class.Class.{Class}
-use Rattle.tier_core.specs.Classes.{sets_of, AreDisjoint}
-use Rattle.tier_core.specs.Filled.{is_filled}
+use Rattle.std.specs.List.Sorted.{IsSortedByKey}
+use Rattle.tier_core.specs.{declared.class.Class.Class, Classes.{sets_of, AreDisjoint}, Filled.is_filled}
 use Rattle.symbol_class.specs.Joined.{beside_cmp, JoinsAlong}
 use Rattle.symbol_class.proofs.JoinSteps.{joined_from}
 use Rattle.symbol_class.proofs.JoinedClasses.{wide_next, joined_more, joined_all, joins_sorted}

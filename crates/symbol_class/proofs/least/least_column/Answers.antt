@@ -1,11 +1,8 @@
 use Rattle.std.proofs.Common.{◌≡◌, ℕ, false, IsTrue, List, map, length, take, ap, sym, ◌∙◌, subst, arith}
 use Rattle.std.proofs.lemmas.List.{take_all}
 use Rattle.std.specs.Ordering.{is_gt}
-use Rattle.tier_core.specs.declared.sym.Sym.{Sym}
-use Rattle.tier_core.specs.declared.class.Class.{Class}
-use Rattle.tier_core.specs.Classes.{sets_of, has}
-use Rattle.tier_core.specs.Orders.{column_cmp}
-use Rattle.tier_core.specs.FirstColumn.{first_sym, first_column}
+use Rattle.tier_core.specs.{declared.sym.Sym.Sym, declared.class.Class.Class, Classes.{sets_of, has}}
+use Rattle.tier_core.specs.{Orders.column_cmp, FirstColumn.{first_sym, first_column}}
 use Rattle.tier_core.proofs.Filled.{has-first_column, first_column_least}
 use Rattle.symbol_class.proofs.least.least_column.Goals as goal
 

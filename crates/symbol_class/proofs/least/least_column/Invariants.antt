@@ -1,6 +1,5 @@
 use Rattle.std.proofs.Common.{◌≡◌, length, take, map}
-use Rattle.tier_core.specs.Classes.{sets_of}
-use Rattle.tier_core.specs.FirstColumn.{first_sym}
+use Rattle.tier_core.specs.{Classes.sets_of, FirstColumn.first_sym}
 use Rattle.symbol_class.proofs.least.least_column.Given as goal
 
 abbrev pub invariant-loop-tier : goal.invariant-loop-tier

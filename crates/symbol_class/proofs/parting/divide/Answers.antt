@@ -1,6 +1,5 @@
 use Rattle.std.proofs.Common.{◌≡◌, ℕ, length, not, ◌&&◌, subst, sym, ◌∙◌, arith}
-use Rattle.tier_core.specs.declared.class.Class.{Class}
-use Rattle.tier_core.specs.Classes.{sets_of, has}
+use Rattle.tier_core.specs.{declared.class.Class.Class, Classes.{sets_of, has}}
 use Rattle.symbol_class.specs.Held.{once_if, AddsClasses}
 use Rattle.symbol_class.proofs.SplitSteps.{parted_none, parted_more, parted_all}
 use Rattle.symbol_class.proofs.parting.divide.Goals as goal

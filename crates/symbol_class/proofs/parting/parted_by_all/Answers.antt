@@ -1,6 +1,5 @@
 use Rattle.std.proofs.Common.{◌≡◌, ℕ, List, [], length, subst, sym, arith}
-use Rattle.tier_core.specs.declared.class.Class.{Class}
-use Rattle.tier_core.specs.Classes.{sets_of}
+use Rattle.tier_core.specs.{declared.class.Class.Class, Classes.sets_of}
 use Rattle.symbol_class.specs.Held.{AddsClasses}
 use Rattle.symbol_class.proofs.SplitSteps.{times_in, times_out, split_more, split_all}
 use Rattle.symbol_class.proofs.parting.parted_by_all.Goals as goal

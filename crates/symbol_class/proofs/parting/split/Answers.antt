@@ -1,8 +1,7 @@
 use Rattle.std.proofs.Common.{length}
 use Rattle.tier_core.specs.Classes.{sets_of, has}
 use Rattle.symbol_class.specs.Held.{some_has}
-use Rattle.symbol_class.proofs.SplitSteps.{is_inside, is_outside, one_side}
-use Rattle.symbol_class.proofs.Times.{pieces-append, columns_added}
+use Rattle.symbol_class.proofs.{SplitSteps.{is_inside, is_outside, one_side}, Times.{pieces-append, columns_added}}
 use Rattle.symbol_class.proofs.parting.split.Goals as goal
 
 pub returns-in-Ok-clause-pieces : goal.returns-in-Ok-clause-pieces

@@ -1,6 +1,4 @@
-use Rattle.std.proofs.Common.{All, subst}
-use Rattle.std.proofs.lemmas.List.{take_all}
-use Rattle.std.proofs.lemmas.List.Elements.{All-more}
+use Rattle.std.proofs.{Common.{All, subst}, lemmas.List.take_all, lemmas.List.Elements.All-more}
 use Rattle.symbol_class.specs.Parts.{differs, IsAlike}
 use Rattle.symbol_class.proofs.parts.are_whole.Goals as goal
 

@@ -1,6 +1,5 @@
 use Rattle.std.proofs.Common.{List, All, length, subst}
-use Rattle.tier_core.specs.declared.class.Class.{Class}
-use Rattle.tier_core.specs.Classes.{sets_of}
+use Rattle.tier_core.specs.{declared.class.Class.Class, Classes.sets_of}
 use Rattle.symbol_class.specs.Parts.{differs, IsAlike}
 use Rattle.symbol_class.proofs.PartSteps.{parted_same}
 use Rattle.symbol_class.proofs.parts.part.Goals as goal

@@ -1,8 +1,6 @@
 use Rattle.std.proofs.Common.{◌≡◌, ℕ, length, subst, sym, arith}
-use Rattle.tier_core.specs.declared.class.Class.{Class}
-use Rattle.tier_core.specs.Classes.{sets_of, has}
-use Rattle.symbol_class.specs.Held.{once_if}
-use Rattle.symbol_class.specs.Parts.{differs, AddsAlike}
+use Rattle.tier_core.specs.{declared.class.Class.Class, Classes.{sets_of, has}}
+use Rattle.symbol_class.specs.{Held.once_if, Parts.{differs, AddsAlike}}
 use Rattle.symbol_class.proofs.PartSteps.{ArePartedBelow, parted_none, parted_next, parted_all}
 use Rattle.symbol_class.proofs.parts.parts.Goals as goal
 

@@ -1,6 +1,5 @@
 use Rattle.std.proofs.Common.{List, length, not, ◌&&◌, ap, subst, arith}
-use Rattle.tier_core.specs.declared.class.Class.{Class}
-use Rattle.tier_core.specs.Classes.{sets_of, has}
+use Rattle.tier_core.specs.{declared.class.Class.Class, Classes.{sets_of, has}}
 use Rattle.symbol_class.specs.Held.{once_if, AddsClasses}
 use Rattle.symbol_class.proofs.Times.{pieces_added, columns_added}
 use Rattle.symbol_class.proofs.remainder.minus.Goals as goal

@@ -1,7 +1,5 @@
-use Rattle.std.proofs.Common.{length, sym, ◌∙◌}
-use Rattle.std.proofs.lemmas.Bool.{not-true}
-use Rattle.tier_core.specs.Classes.{sets_of}
-use Rattle.tier_core.specs.Filled.{is_filled}
+use Rattle.std.proofs.{Common.{length, sym, ◌∙◌}, lemmas.Bool.not-true}
+use Rattle.tier_core.specs.{Classes.sets_of, Filled.is_filled}
 use Rattle.symbol_class.proofs.Times.{adds_empty}
 use Rattle.symbol_class.proofs.remainder.push_filled.Goals as goal
 

@@ -1,5 +1,4 @@
-use Rattle.std.proofs.Common.{sym, ◌∙◌}
-use Rattle.std.proofs.lemmas.Bool.{not-true, not-false, eqb-true}
+use Rattle.std.proofs.{Common.{sym, ◌∙◌}, lemmas.Bool.{not-true, not-false, eqb-true}}
 use Rattle.tier_core.specs.Filled.{is_filled}
 use Rattle.symbol_class.proofs.PartSteps.{shares_none, shares_all}
 use Rattle.symbol_class.proofs.sharing.share_of.Goals as goal

@@ -1,8 +1,7 @@
 use Rattle.std.proofs.Common.{List, sym, subst}
 use Rattle.tier_core.specs.declared.class.Class.{Class}
 use Rattle.symbol_class.specs.Held.{width_of, ArePieces}
-use Rattle.symbol_class.proofs.Times.{pieces_front}
-use Rattle.symbol_class.proofs.JoinedClasses.{pieces_of_width}
+use Rattle.symbol_class.proofs.{Times.pieces_front, JoinedClasses.pieces_of_width}
 use Rattle.symbol_class.proofs.tests.joined.Goals as goal
 
 pub join-requires : goal.join-requires

@@ -1,5 +1,4 @@
-use Rattle.std.proofs.Common.{◌==◌, not, ap}
-use Rattle.std.proofs.lemmas.Bool.{eqb-false, ne_eqb, not-true}
+use Rattle.std.proofs.{Common.{◌==◌, not, ap}, lemmas.Bool.{eqb-false, ne_eqb, not-true}}
 use Rattle.tier_core.proofs.EmptySets.{empty_in, empty_from, some_empty}
 use Rattle.tier_core.proofs.class_word.has_empty_in.Goals as goal
 

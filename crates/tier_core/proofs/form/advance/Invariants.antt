@@ -1,6 +1,5 @@
 use Rattle.std.proofs.Common.{◌≡◌, ℕ, ◌<◌, ◌≤◌, false, true, get_or}
-use Rattle.tier_core.specs.declared.sym.Sym.TheVariants.{Outside}
-use Rattle.tier_core.specs.Scan.{fits, opens}
+use Rattle.tier_core.specs.{declared.sym.Sym.TheVariants.Outside, Scan.{fits, opens}}
 use Rattle.tier_core.proofs.form.advance.Given as goal
 
 -- each symbol so far fits, and its tier is open or not after it

@@ -1,8 +1,6 @@
 use Rattle.std.proofs.Common.{◌≡◌, ℕ, ◌<◌, ◌≤◌, false, true, length, get_or, arith, ◌∙◌, sym, ap, ⊎_elim}
 use Rattle.std.proofs.lemmas.Bool.{false≢true, cases_lt}
-use Rattle.tier_core.specs.declared.sym.Sym.TheVariants.{Outside}
-use Rattle.tier_core.specs.Timelines.{IsWellFormed}
-use Rattle.tier_core.specs.Scan.{fits}
+use Rattle.tier_core.specs.{declared.sym.Sym.TheVariants.Outside, Timelines.IsWellFormed, Scan.fits}
 use Rattle.tier_core.proofs.WordForm.{runs_from_well_formed}
 use Rattle.tier_core.proofs.FormLemmas.{fits_next, well_formed_at_end, closed_at_end}
 use Rattle.tier_core.proofs.form.are_well_formed.Goals as goal

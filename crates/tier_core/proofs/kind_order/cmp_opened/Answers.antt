@@ -1,5 +1,4 @@
-use Rattle.std.proofs.Common.{ℕ, ◌<◌, ◌^◌, cond, ap, sym, ◌∙◌, arith, bit_xor, w16, Fits}
-use Rattle.std.proofs.lemmas.Nat.{xor_lt}
+use Rattle.std.proofs.{Common.{ℕ, ◌<◌, ◌^◌, cond, ap, sym, ◌∙◌, arith, bit_xor, w16, Fits}, lemmas.Nat.xor_lt}
 use Rattle.std.specs.declared.cmp.Ordering.TheVariants.{Less, Greater}
 use Rattle.tier_core.proofs.KindLemmas.{lowest_within, opened_same, opened_first}
 use Rattle.tier_core.proofs.kind_order.cmp_opened.Goals as goal

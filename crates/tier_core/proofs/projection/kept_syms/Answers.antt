@@ -1,9 +1,8 @@
-use Rattle.std.proofs.Common.{◌≡◌, ◌++◌, ◌∷◌, [], map, length, sym, ap, ◌∙◌, arith}
-use Rattle.std.proofs.lemmas.List.{length_push}
+use Rattle.std.proofs.{Common.{◌≡◌, ◌++◌, ◌∷◌, [], map, length, sym, ap, ◌∙◌, arith}, lemmas.List.length_push}
 use Rattle.tier_core.specs.Timelines.{symbol}
 use Rattle.tier_core.proofs.MaskLemmas.{tier_within, kept_more, kept_same, tiers_at_end}
-use Rattle.tier_core.proofs.projection.kept_syms.Goals as goal
 use Rattle.tier_core.proofs.projection.kept_syms.Goals.{then-has_bit, else-has_bit}
+use Rattle.tier_core.proofs.projection.kept_syms.Goals as goal
 
 pub bounds-column-tier : goal.bounds-column-tier
 bounds-column-tier c =

@@ -1,6 +1,5 @@
 use Rattle.std.proofs.Common.{◌≡◌, ◌≤◌, map, length}
-use Rattle.tier_core.specs.Timelines.{symbol}
-use Rattle.tier_core.specs.Tiers.{tiers_below}
+use Rattle.tier_core.specs.{Timelines.symbol, Tiers.tiers_below}
 use Rattle.tier_core.proofs.projection.kept_syms.Given as goal
 
 abbrev pub invariant-loop-tier : goal.invariant-loop-tier

@@ -1,7 +1,5 @@
-use Rattle.std.proofs.Common.{◌≡◌, ◌≤◌, length, ap, ◌∙◌, arith}
-use Rattle.std.proofs.lemmas.List.{length-map}
-use Rattle.tier_core.specs.Tiers.{tiers_of}
-use Rattle.tier_core.specs.Timelines.{symbol}
+use Rattle.std.proofs.{Common.{◌≡◌, ◌≤◌, length, ap, ◌∙◌, arith}, lemmas.List.length-map}
+use Rattle.tier_core.specs.{Tiers.tiers_of, Timelines.symbol}
 use Rattle.tier_core.proofs.MaskLemmas.{some_tier}
 use Rattle.tier_core.proofs.projection.kept_tiers.Goals as goal
 

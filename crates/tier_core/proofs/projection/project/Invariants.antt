@@ -1,6 +1,5 @@
 use Rattle.std.proofs.Common.{◌≡◌, take}
-use Rattle.tier_core.specs.Tiers.{tiers_of}
-use Rattle.tier_core.specs.Timelines.{project}
+use Rattle.tier_core.specs.{Tiers.tiers_of, Timelines.project}
 use Rattle.tier_core.proofs.projection.project.Given as goal
 
 abbrev pub invariant-loop-column : goal.invariant-loop-column

@@ -1,5 +1,4 @@
-use Rattle.std.proofs.Common.{rules, tests, ◌==◌, not, length}
-use Rattle.std.proofs.lemmas.Iterator.Search.{position_from_yields_List}
+use Rattle.std.proofs.{Common.{rules, tests, ◌==◌, not, length}, lemmas.Iterator.Search.position_from_yields_List}
 use Rattle.std.proofs.lemmas.Iterator.Splits.{YieldsList-from_slice_split}
 use Rattle.timeline_text.specs.Bytes.{is_space}
 use Rattle.timeline_text.proofs.pieces.wrong_width.Goals as goal

@@ -1,7 +1,6 @@
 use Rattle.std.proofs.Common.{◌≡◌, ◌<◌, ◌∷◌, [], ◌++◌, length, map, take, get_or, ap, sym, ◌∙◌, arith, length-set}
 use Rattle.std.proofs.lemmas.List.{take_more_set, take_more, take_all, map-append}
-use Rattle.tier_core.specs.declared.sym.Sym.TheVariants.{Outside}
-use Rattle.tier_core.specs.Symbols.{byte_of}
+use Rattle.tier_core.specs.{declared.sym.Sym.TheVariants.Outside, Symbols.byte_of}
 use Rattle.timeline_text.proofs.put.column_bytes.Goals as goal
 
 pub loop-tier-preserved : goal.loop-tier-preserved

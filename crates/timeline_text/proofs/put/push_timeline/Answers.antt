@@ -1,10 +1,8 @@
 use Rattle.std.proofs.Common.{◌≡◌, ◌∷◌, [], ◌++◌, List, map, ap, sym, ◌∙◌, append-nil}
 use Rattle.std.specs.List.{join_with_byte}
 use Rattle.outside.proofs.Writing.{◌▹◌, cut, pushes_as, stop}
-use Rattle.tier_core.specs.Symbols.{byte_of}
-use Rattle.tier_core.specs.declared.sym.Sym.{Sym}
-use Rattle.timeline_text.specs.Texts.{text_of}
-use Rattle.timeline_text.specs.Tails.{tail_text}
+use Rattle.tier_core.specs.{Symbols.byte_of, declared.sym.Sym.Sym}
+use Rattle.timeline_text.specs.{Texts.text_of, Tails.tail_text}
 use Rattle.timeline_text.proofs.put.push_timeline.Goals as goal
 
 join_tail : (x : List Sym) (cs : List (List Sym))

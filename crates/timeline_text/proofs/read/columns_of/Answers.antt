@@ -1,9 +1,7 @@
 use Rattle.std.proofs.Common.{rules, tests, ◌≡◌, ◌==◌, not, length, map, arith, sym, ap, ◌∙◌, false}
+use Rattle.std.proofs.{lemmas.Bool.Decides.nat_tests, lemmas.Simd.map-map}
 use Rattle.std.specs.List.{slice_split}
-use Rattle.std.proofs.lemmas.Bool.Decides.{nat_tests}
-use Rattle.std.proofs.lemmas.Simd.{map-map}
-use Rattle.timeline_text.specs.Bytes.{is_space}
-use Rattle.timeline_text.specs.Causes.{symbol_of_byte}
+use Rattle.timeline_text.specs.{Bytes.is_space, Causes.symbol_of_byte}
 use Rattle.timeline_text.proofs.Splits.{split_turn, split_end, none_passes}
 use Rattle.timeline_text.proofs.read.columns_of.Goals as goal
 

@@ -1,13 +1,8 @@
 use Rattle.std.proofs.Common.{◌≡◌, ℕ, ◌<◌, List, length, None, subst, sym, ap, ◌∙◌, arith}
 use Rattle.std.specs.List.{AllByRecursion}
-use Rattle.tier_core.specs.declared.sym.Sym.{Sym}
-use Rattle.tier_core.specs.Words.{IsWellFormedWord}
-use Rattle.tier_core.specs.Timelines.{tier_word}
-use Rattle.timeline_text.specs.Texts.{IsTextOf}
-use Rattle.timeline_text.specs.Causes.{spaced_pieces, columns_of, no_edge, wrong_width}
-use Rattle.timeline_text.proofs.Searches.{none_any}
-use Rattle.timeline_text.proofs.Forms.{widths_from}
-use Rattle.timeline_text.proofs.Deciding.{no_cause}
+use Rattle.tier_core.specs.{declared.sym.Sym.Sym, Words.IsWellFormedWord, Timelines.tier_word}
+use Rattle.timeline_text.specs.{Texts.IsTextOf, Causes.{spaced_pieces, columns_of, no_edge, wrong_width}}
+use Rattle.timeline_text.proofs.{Searches.none_any, Forms.widths_from, Deciding.no_cause}
 use Rattle.timeline_text.proofs.read.read_timeline.Goals as goal
 
 pub ill_formed-requires : goal.ill_formed-requires

@@ -1,6 +1,5 @@
 use Rattle.std.proofs.Common.{◌≡◌, ◌<◌, ◌∷◌, [], ◌++◌, length, ap, sym, ◌∙◌, arith, length-set}
-use Rattle.std.proofs.lemmas.List.{take_more_set}
-use Rattle.std.proofs.lemmas.List.FromFn.{map-range_with_len_more}
+use Rattle.std.proofs.{lemmas.List.take_more_set, lemmas.List.FromFn.map-range_with_len_more}
 use Rattle.tier_core.specs.Tiers.{has_tier}
 use Rattle.timeline_text.specs.Between.{boundary_symbol, column_between}
 use Rattle.timeline_text.proofs.spelled.column_between.Goals as goal

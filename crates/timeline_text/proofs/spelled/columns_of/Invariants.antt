@@ -1,6 +1,5 @@
 use Rattle.std.proofs.Common.{◌≡◌, ◌++◌, map, drop}
-use Rattle.timeline_text.specs.Spelling.{sound_of}
-use Rattle.timeline_text.specs.Between.{columns_after}
+use Rattle.timeline_text.specs.{Spelling.sound_of, Between.columns_after}
 use Rattle.timeline_text.proofs.spelled.columns_of.Given as goal
 
 -- the columns so far, and those of the letters that are left

@@ -1,5 +1,4 @@
-use Rattle.std.proofs.Common.{rules, tests, ◌==◌, ◌∙◌}
-use Rattle.std.proofs.lemmas.Iterator.{YieldsList-from_slice}
+use Rattle.std.proofs.{Common.{rules, tests, ◌==◌, ◌∙◌}, lemmas.Iterator.YieldsList-from_slice}
 use Rattle.std.proofs.lemmas.Iterator.Search.{find_from_yields_List}
 use Rattle.timeline_text.proofs.spelled.letter_of.Goals as goal
 

@@ -1,9 +1,7 @@
 use Rattle.std.proofs.Common.{◌≡◌, ℕ, ◌-◌, ◌<◌, ◌≤◌, List, length, take, drop, None, ap, sym, arith, ◌∙◌}
-use Rattle.std.proofs.lemmas.Bool.Decides.{nat_tests}
-use Rattle.std.proofs.lemmas.Grind.{common_steps}
+use Rattle.std.proofs.{lemmas.Bool.Decides.nat_tests, lemmas.Grind.common_steps}
 use Rattle.tier_core.specs.Timelines.{IsReduced}
-use Rattle.timeline_text.specs.Spelling.{unknown_letter, sounds_of, IsSpelledBy}
-use Rattle.timeline_text.specs.Between.{columns_after}
+use Rattle.timeline_text.specs.{Spelling.{unknown_letter, sounds_of, IsSpelledBy}, Between.columns_after}
 use Rattle.timeline_text.proofs.Spell.{spelled_by, spelled_edges, ok_at}
 use Rattle.timeline_text.proofs.spelled.read_spelled.Goals as goal
 

@@ -1,6 +1,5 @@
 use Rattle.std.proofs.Common.{ℕ, ◌<◌}
-use Rattle.tier_core.specs.Words.{IsWellFormedWord}
-use Rattle.tier_core.specs.Timelines.{tier_word}
+use Rattle.tier_core.specs.{Words.IsWellFormedWord, Timelines.tier_word}
 use Rattle.timeline_text.proofs.tiers.ill_formed.Given as goal
 
 -- the tiers so far are well formed

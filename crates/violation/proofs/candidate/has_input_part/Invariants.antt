@@ -1,6 +1,5 @@
 use Rattle.std.proofs.Common.{◌≡◌, ◌↔◌, ◌≤◌, map, drop, length}
-use Rattle.tier_core.specs.Tiers.{is_input, numbers_from}
-use Rattle.tier_core.specs.Timelines.{symbol}
+use Rattle.tier_core.specs.{Tiers.{is_input, numbers_from}, Timelines.symbol}
 use Rattle.violation.proofs.candidate.has_input_part.Given as goal
 
 abbrev pub invariant-loop-tier : goal.invariant-loop-tier

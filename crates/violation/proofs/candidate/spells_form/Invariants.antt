@@ -1,6 +1,5 @@
 use Rattle.std.proofs.Common.{◌≡◌, ◌↔◌, ◌≤◌, drop, length}
-use Rattle.tier_core.specs.Tiers.{is_input, numbers_from}
-use Rattle.tier_core.specs.Timelines.{squeeze, project}
+use Rattle.tier_core.specs.{Tiers.{is_input, numbers_from}, Timelines.{squeeze, project}}
 use Rattle.violation.proofs.candidate.spells_form.Given as goal
 
 abbrev pub invariant-loop-column : goal.invariant-loop-column

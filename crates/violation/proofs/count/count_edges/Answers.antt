@@ -1,11 +1,9 @@
 use Rattle.std.proofs.Common.{◌≡◌, ◌+◌, sym, ap, ◌∙◌, arith}
 use Rattle.tier_core.proofs.CountLemmas.{bit}
-use Rattle.violation.specs.Columns.{edge_cost}
-use Rattle.violation.specs.Counts.{so_far}
-use Rattle.violation.proofs.CountSteps.{edge_step, whole}
-use Rattle.violation.proofs.WholeCounts.{so_far_none}
-use Rattle.violation.proofs.count.count_edges.Goals as goal
+use Rattle.violation.specs.{Columns.edge_cost, Counts.so_far}
+use Rattle.violation.proofs.{CountSteps.{edge_step, whole}, WholeCounts.so_far_none}
 use Rattle.violation.proofs.count.count_edges.Goals.{then-is_counted_at, else-is_counted_at}
+use Rattle.violation.proofs.count.count_edges.Goals as goal
 
 pub loop-column-init : goal.loop-column-init
 loop-column-init c = record {

@@ -1,19 +1,14 @@
 use Rattle.std.proofs.Common.{◌≡◌, ◌+◌, ◌++◌, ◌&&◌, ◌||◌, List, sym, ap, ◌∙◌, arith}
-use Rattle.std.specs.List.{list_all}
 use Rattle.std.proofs.lemmas.List.Folds.{list_all-append}
-use Rattle.tier_core.specs.declared.constraint.Family.TheVariants.{Clash}
-use Rattle.tier_core.specs.declared.sym.Sym.{Sym}
-use Rattle.tier_core.specs.Scan.{opens}
-use Rattle.tier_core.specs.Timelines.{symbol}
-use Rattle.tier_core.specs.Sides.{edge_among}
+use Rattle.std.specs.List.{list_all}
+use Rattle.tier_core.specs.{declared.constraint.Family.TheVariants.Clash, declared.sym.Sym.Sym, Scan.opens}
+use Rattle.tier_core.specs.{Timelines.symbol, Sides.edge_among}
 use Rattle.tier_core.proofs.CountLemmas.{bit}
-use Rattle.violation.specs.Columns.{opens_all}
-use Rattle.violation.specs.Counts.{so_far}
+use Rattle.violation.specs.{Columns.opens_all, Counts.so_far}
 use Rattle.violation.proofs.CountSteps.{clash_step, open_step, open_none, whole, some_both}
-use Rattle.violation.proofs.InteriorSteps.{open_before}
-use Rattle.violation.proofs.WholeCounts.{so_far_none}
-use Rattle.violation.proofs.count.count_overlaps.Goals as goal
+use Rattle.violation.proofs.{InteriorSteps.open_before, WholeCounts.so_far_none}
 use Rattle.violation.proofs.count.count_overlaps.Goals.{then-ends_overlap, else-ends_overlap}
+use Rattle.violation.proofs.count.count_overlaps.Goals as goal
 
 pub loop-column-init : goal.loop-column-init
 loop-column-init c = record {

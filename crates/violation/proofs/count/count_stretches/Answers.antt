@@ -1,18 +1,13 @@
-use Rattle.std.proofs.Common.{◌≡◌, ◌+◌, ◌&&◌, ◌||◌, not, true, List, sym, ap, ◌∙◌, arith}
+use Rattle.std.proofs.{Common.{◌≡◌, ◌+◌, ◌&&◌, ◌||◌, not, true, List, sym, ap, ◌∙◌, arith}, lemmas.Bool.false≢true}
 use Rattle.std.specs.List.{list_all, list_any}
-use Rattle.std.proofs.lemmas.Bool.{false≢true}
-use Rattle.tier_core.specs.declared.constraint.Family.TheVariants.{Implication}
-use Rattle.tier_core.specs.declared.sym.Sym.{Sym}
+use Rattle.tier_core.specs.{declared.constraint.Family.TheVariants.Implication, declared.sym.Sym.Sym}
 use Rattle.tier_core.specs.Sides.{edge_among}
 use Rattle.tier_core.proofs.CountLemmas.{bit}
-use Rattle.violation.specs.Columns.{opens_all, opens_interior, is_present}
-use Rattle.violation.specs.Counts.{so_far, is_met}
+use Rattle.violation.specs.{Columns.{opens_all, opens_interior, is_present}, Counts.{so_far, is_met}}
 use Rattle.violation.proofs.CountSteps.{stretch_step, open_step, open_none, met_step, whole, unmet_test}
-use Rattle.violation.proofs.InteriorSteps.{open_before}
-use Rattle.violation.proofs.OpenSteps.{stretch}
-use Rattle.violation.proofs.WholeCounts.{so_far_none}
-use Rattle.violation.proofs.count.count_stretches.Goals as goal
+use Rattle.violation.proofs.{InteriorSteps.open_before, OpenSteps.stretch, WholeCounts.so_far_none}
 use Rattle.violation.proofs.count.count_stretches.Goals.{then-ends_unmet, else-ends_unmet}
+use Rattle.violation.proofs.count.count_stretches.Goals as goal
 
 pub loop-column-init : goal.loop-column-init
 loop-column-init c = record {

@@ -1,7 +1,6 @@
 use Rattle.std.proofs.Common.{length, ap, sym, ◌∙◌, arith}
 use Rattle.tier_core.specs.ClassWords.{below_in}
-use Rattle.tier_core.proofs.ClassSets.{sets_are}
-use Rattle.tier_core.proofs.ClassWordLemmas.{width_from, starts_with}
+use Rattle.tier_core.proofs.{ClassSets.sets_are, ClassWordLemmas.{width_from, starts_with}}
 use Rattle.tier_core.proofs.class.Class.of_bits.Goals as goal
 
 pub loop-tier-init : goal.loop-tier-init

@@ -1,10 +1,6 @@
 use Rattle.std.proofs.Common.{◌≡◌, ◌<◌, length, map, ap, sym, ◌∙◌, arith}
-use Rattle.tier_core.specs.ClassWords.{below_in}
-use Rattle.tier_core.specs.Sets.{single_set}
-use Rattle.tier_core.specs.Classes.{sets_have}
-use Rattle.tier_core.specs.Timelines.{symbol}
-use Rattle.tier_core.proofs.ClassSets.{single_next, sets_single}
-use Rattle.tier_core.proofs.ClassWordLemmas.{width_from, starts_with}
+use Rattle.tier_core.specs.{ClassWords.below_in, Sets.single_set, Classes.sets_have, Timelines.symbol}
+use Rattle.tier_core.proofs.{ClassSets.{single_next, sets_single}, ClassWordLemmas.{width_from, starts_with}}
 use Rattle.tier_core.proofs.SetLemmas.{alone_have, only_have}
 use Rattle.tier_core.proofs.class.Class.single.Goals as goal
 

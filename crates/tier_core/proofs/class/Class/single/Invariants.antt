@@ -1,6 +1,5 @@
 use Rattle.std.proofs.Common.{◌≡◌, ℕ, ◌<◌, length, get_or, map}
-use Rattle.tier_core.specs.ClassWords.{set_in, below_in}
-use Rattle.tier_core.specs.Sets.{single_set}
+use Rattle.tier_core.specs.{ClassWords.{set_in, below_in}, Sets.single_set}
 use Rattle.tier_core.proofs.class.Class.single.Given as goal
 
 -- the sets so far are those of the symbols, and below them stands how many there are

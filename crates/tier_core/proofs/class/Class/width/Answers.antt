@@ -1,5 +1,4 @@
-use Rattle.std.proofs.Common.{◌∙◌, sym}
-use Rattle.std.proofs.lemmas.Nat.{and_mask}
+use Rattle.std.proofs.{Common.{◌∙◌, sym}, lemmas.Nat.and_mask}
 use Rattle.tier_core.proofs.ClassSets.{width_is}
 use Rattle.tier_core.proofs.class.Class.width.Goals as goal
 

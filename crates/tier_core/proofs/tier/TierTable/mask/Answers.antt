@@ -1,9 +1,8 @@
-use Rattle.std.proofs.Common.{◌≡◌, length, ap, sym, ◌∙◌, arith}
-use Rattle.std.proofs.lemmas.Bool.{false≢true}
+use Rattle.std.proofs.{Common.{◌≡◌, length, ap, sym, ◌∙◌, arith}, lemmas.Bool.false≢true}
 use Rattle.tier_core.specs.Tiers.{kind_at}
 use Rattle.tier_core.proofs.MaskLemmas.{mask_with, mask_without}
-use Rattle.tier_core.proofs.tier.TierTable.mask.Goals as goal
 use Rattle.tier_core.proofs.tier.TierTable.mask.Goals.{then-is_same, else-is_same}
+use Rattle.tier_core.proofs.tier.TierTable.mask.Goals as goal
 
 pub loop-tier-preserved : goal.loop-tier-preserved
 loop-tier-preserved c =

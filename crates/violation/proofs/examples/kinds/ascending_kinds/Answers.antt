@@ -1,5 +1,4 @@
-use Rattle.std.specs.Prelude.{refl}
-use Rattle.std.specs.List.Sorted.{IsStrictlySortedBy}
+use Rattle.std.specs.{Prelude.refl, List.Sorted.IsStrictlySortedBy}
 use Rattle.violation.proofs.examples.kinds.ascending_kinds.Goals as goal
 
 pub returns : goal.returns

@@ -1,7 +1,6 @@
 use Rattle.std.proofs.Common.{◌≢◌, ◌<◌, length, ap, ◌∙◌, sym, arith, below_more, get_or-set_same, get_or-set_other}
 use Rattle.std.proofs.lemmas.List.{length-set}
-use Rattle.weight_law.specs.Ranked.{ranked_of}
-use Rattle.weight_law.specs.RankedLaws.{part-greatest, sum_from_parts}
+use Rattle.weight_law.specs.{Ranked.ranked_of, RankedLaws.{part-greatest, sum_from_parts}}
 use Rattle.weight_law.proofs.ranked.RankedWeight.plus.Goals as goal
 
 pub overflow_add-parts : goal.overflow_add-parts

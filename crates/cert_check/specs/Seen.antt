@@ -14,8 +14,7 @@ pub record AreSeenAlike (problem : Problem) (answer other : Answer) : Type 0 whe
   pub counts : answer.counts.items ≡ other.counts.items
   pub example : answer.example ≡ other.example
   pub stages : length answer.stages.items ≡ length other.stages.items
-  pub nodes : (r : ℕ) → nodes_seen problem answer.stages.items r
-      ≡ nodes_seen problem other.stages.items r
+  pub nodes : (r : ℕ) → nodes_seen problem answer.stages.items r ≡ nodes_seen problem other.stages.items r
   pub states : map state_value answer.automaton.states.items ≡ map state_value other.automaton.states.items
 
 -- Two problems are asked alike: they have the same tiers and the same form, and constraints with the same

@@ -1,5 +1,5 @@
 -- Which tiers are open after a move, and which phases are closed.
-use Rattle.std.proofs.Common.{◌≡◌, ℕ, zero, suc, ◌+◌, ◌<◌, ◌||◌, ◌&&◌, not, Bool, true, false, cond, List, [], ◌∷◌, map}
+use Rattle.std.proofs.Common.{◌≡◌, ℕ, suc, ◌+◌, ◌<◌, ◌||◌, ◌&&◌, not, Bool, true, false, cond, List, [], ◌∷◌, map}
 use Rattle.std.proofs.Common.{take, length, get_or, refl, ap, sym, ◌∙◌, arith, ⊎_elim, Contains}
 use Rattle.std.specs.List.{AllByRecursion, list_all}
 use Rattle.std.proofs.lemmas.Bool.{false≢true}
@@ -7,11 +7,11 @@ use Rattle.std.proofs.lemmas.List.{length-map, get_or-map, get_or_default}
 use Rattle.std.proofs.lemmas.List.FromFn.{fill_by_all, get_or-map-range_with_len}
 use Rattle.std.proofs.lemmas.List.Elements.{All-from_recursion}
 use Rattle.tier_core.specs.declared.sym.Sym.{Sym}
-use Rattle.tier_core.specs.declared.sym.Sym.TheVariants.{Outside, Inside, Start, End, Both}
+use Rattle.tier_core.specs.declared.sym.Sym.TheVariants.{Outside}
 use Rattle.tier_core.specs.declared.event.Event.{Event}
 use Rattle.tier_core.specs.declared.constraint.Constraint.{Constraint}
 use Rattle.tier_core.specs.Kinds.{Phase, closed, PrefixKind}
-use Rattle.tier_core.specs.Scan.{fits, opens}
+use Rattle.tier_core.specs.Scan.{opens}
 use Rattle.tier_core.specs.Timelines.{tier_word, symbol, is_edge, has_edge}
 use Rattle.tier_core.proofs.CountLemmas.{all_weaker}
 use Rattle.tier_core.proofs.Bools.{or_false}

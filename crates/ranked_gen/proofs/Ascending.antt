@@ -1,17 +1,16 @@
 -- Lists that ascend strictly.
-use Rattle.std.proofs.Common.{◌≡◌, ℕ, zero, suc, ◌+◌, ◌-◌, ◌<◌, ◌≤◌, Bool, true, false, cond, List, [], ◌∷◌, ◌++◌, map}
-use Rattle.std.proofs.Common.{filter, refl, ap, sym, ◌∙◌, arith, ⊎_elim, Contains}
+use Rattle.std.proofs.Common.{◌≡◌, ℕ, zero, suc, ◌+◌, ◌-◌, ◌<◌, Bool, true, false, cond, List, [], ◌∷◌, ◌++◌, map}
+use Rattle.std.proofs.Common.{filter, ap, sym, ◌∙◌, arith, ⊎_elim, Contains}
 use Rattle.std.specs.List.{flat_map, AllByRecursion, range_with_len}
 use Rattle.std.specs.List.Sorted.{IsStrictlySortedBy}
-use Rattle.std.specs.Ordering.{nat_cmp, ordering_then, is_lt}
+use Rattle.std.specs.Ordering.{nat_cmp}
 use Rattle.std.specs.Cmp.{nat_cmp_is}
-use Rattle.std.specs.Cmp.Lexicographic.{slice_cmp}
-use Rattle.std.proofs.lemmas.Bool.{false≢true, cases_order}
+use Rattle.std.proofs.lemmas.Cmp.{ranked}
 use Rattle.std.specs.declared.cmp.Ordering.{Ordering}
-use Rattle.std.specs.declared.cmp.Ordering.TheVariants.{Less, Equal, Greater}
-use Rattle.std.proofs.lemmas.List.FromFn.{length-range_with_len, get_or-range_with_len}
+use Rattle.std.specs.declared.cmp.Ordering.TheVariants.{Less}
 use Rattle.std.proofs.lemmas.List.Elements.{Contains-append_cases}
 use Rattle.tier_core.proofs.Members.{contains_of_map, all_from_members, all_at_member, contains_of_flat}
+use Rattle.tier_core.proofs.RangeMembers.{in_range}
 use Rattle.tier_core.proofs.Members.{contains_of_kept, contains_first, contains_later}
 
 -- each element is below all that follow it
@@ -72,19 +71,6 @@ ascends_kept c p (x ∷ xs) a = go (p x) (ascends_kept c p xs a.1)
     )
     go false more = more
 
--- what a range of numbers has
-pub in_range : (m n y : ℕ) → Contains (range_with_len m n) y → (m ≤ y) × (y < m + n)
-in_range m n y h =
-    let place : h.0 < n = omega (arith, h.1, length-range_with_len m n) in
-    let value : y ≡ m + h.0 = sym h.2 ∙ get_or-range_with_len m n h.0 y place in
-    (omega arith, omega arith)
-
-pub range_has : (m n y : ℕ) → m ≤ y → y < m + n → Contains (range_with_len m n) y
-range_has m n y l h =
-    let place : y - m < n = omega arith in
-    let value : m + (y - m) ≡ y = omega arith in
-    (y - m, omega (arith, length-range_with_len m n), get_or-range_with_len m n (y - m) y place ∙ value)
-
 pub ascends_range : (m n : ℕ) → Ascends nat_cmp (range_with_len m n)
 ascends_range m zero = tt
 ascends_range m (suc n) = (
@@ -95,14 +81,4 @@ ascends_range m (suc n) = (
 
 -- numbers by their order
 pub nat_less : (a b : ℕ) → nat_cmp a b ≡ Less → a < b
-nat_less a b e = ⊎_elim (λ same. absurd (differ Equal refl (nat_cmp_is a b Equal same ∙ e)))
-    (λ other. ⊎_elim (λ l. l) (λ g. absurd (differ Greater refl (nat_cmp_is a b Greater g ∙ e))) other)
-    (cases_order a b)
-  where
-    differ : (o : Ordering) → is_lt o ≡ false → o ≡ Less → ⊥
-    differ o h l = false≢true (sym h ∙ ap is_lt l)
-
-pub slice_same : (xs : List ℕ) → slice_cmp nat_cmp xs xs ≡ Equal
-slice_same [] = refl
-slice_same (x ∷ xs) = ap (λ o. ordering_then o (slice_cmp nat_cmp xs xs)) (sym (nat_cmp_is x x Equal refl))
-    ∙ slice_same xs
+nat_less a b e = ranked a b Less (sym e)

@@ -1,7 +1,7 @@
 -- The automaton of what the last stage leaves is right.
 use Rattle.std.proofs.Common.{◌≡◌, ℕ, ◌<◌, List, ◌++◌, length, take, drop, get_or, refl, sym, ap, ◌∙◌, subst, arith}
-use Rattle.std.proofs.Common.{take_at, Contains}
-use Rattle.std.proofs.lemmas.List.{get_or_default, get_or-map, length-map, length-append, take-append-drop}
+use Rattle.std.proofs.Common.{Contains}
+use Rattle.std.proofs.lemmas.List.{get_or_default, get_or-map, length-map, take-append-drop}
 use Rattle.std.proofs.lemmas.List.Elements.{Contains-get_or}
 use Rattle.weight_law.specs.declared.Weight.{Ghosts}
 use Rattle.weight_law.specs.declared.unit_weight.UnitWeight.{UnitWeight}
@@ -27,6 +27,7 @@ use Rattle.kind_orders.specs.Automata.{HasWidth, ReadsTo, IsAutomatonOf}
 use Rattle.ranked_gen.specs.Left.{IsNodeOfKind}
 use Rattle.ranked_gen.specs.OptimalParts.{IsOptimalPart}
 use Rattle.violation.specs.Problems.{last_stage, Problem}
+use Rattle.violation.proofs.CutCandidates.{prefix_passed}
 
 node_of : (problem : Problem) (nodes : List Node) (n : ℕ) (k : PrefixKind)
     → IsNodeOfKind problem (last_stage problem) nodes n k → IsNodeOf problem nodes n k
@@ -74,21 +75,13 @@ module _ {g : Ghosts UnitWeight} (problem : Problem) (nodes : List Node) (kept :
         k,
         (
           state_node s p.0 l (on.0, on.1, p.1),
-          record {
-            candidate = p.0 ++ q.0;
-            columns = length p.0;
-            passes = record {
-              optimal = (left.accepts (p.0 ++ q.0)).0 (
-                on.0 ++ on.2.0,
-                record {
-                  run = joined_run kept on.0 on.2.0 0 s on.1 on.2.1;
-                  reads = joined_reads kept on.0 on.2.0 p.0 q.0 p.1 q.1;
-                },
-              );
-              within = omega (arith, length-append p.0 q.0);
-              of_kind = ap (kind_of problem (last_stage problem)) (take_at p.0 q.0 (length p.0) refl);
-            };
-          },
+          prefix_passed problem (last_stage problem) (last_stage problem) p.0 q.0 ((left.accepts (p.0 ++ q.0)).0 (
+            on.0 ++ on.2.0,
+            record {
+              run = joined_run kept on.0 on.2.0 0 s on.1 on.2.1;
+              reads = joined_reads kept on.0 on.2.0 p.0 q.0 p.1 q.1;
+            },
+          )) refl,
         ),
       )
 

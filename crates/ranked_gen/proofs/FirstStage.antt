@@ -1,7 +1,7 @@
 -- Stage 0 of a frame, whose candidates are all.
-use Rattle.std.proofs.Common.{ℕ, ◌≤◌, List, ◌++◌, map, length, refl, ap, ◌∙◌, arith, take_at}
+use Rattle.std.proofs.Common.{ℕ, ◌≤◌, List, ◌++◌, map, length, arith}
 use Rattle.std.specs.List.{range_with_len}
-use Rattle.std.proofs.lemmas.List.{length-map, length-append}
+use Rattle.std.proofs.lemmas.List.{length-map}
 use Rattle.std.proofs.lemmas.List.Elements.{All-contains}
 use Rattle.weight_law.specs.declared.Weight.{Ghosts}
 use Rattle.weight_law.specs.declared.count.Count.{Count}
@@ -9,9 +9,9 @@ use Rattle.tier_core.specs.declared.kind.Kind.{Kind}
 use Rattle.tier_core.specs.Kinds.{PrefixKind}
 use Rattle.arc_table.specs.declared.state.TableState.{TableState}
 use Rattle.violation.specs.Candidates.{IsCandidate}
-use Rattle.violation.specs.Prefixes.{kind_of}
 use Rattle.violation.specs.Stages.{IsPassed}
 use Rattle.violation.proofs.StageLemmas.{all_optimal}
+use Rattle.violation.proofs.CutCandidates.{prefix_passed}
 use Rattle.kind_moves.specs.declared.frame.Frame.{Frame}
 use Rattle.kind_moves.specs.Frames.{problem_in, kind_at_stage}
 use Rattle.kind_tables.specs.StageTables.{IsStageTable}
@@ -59,12 +59,5 @@ module _ (frame : Frame) where
       record { kinds = all; are = are; more = omega (arith, most, over.more) }
     where
       passed : (k : PrefixKind) → IsMet frame 0 (IsCandidate (problem_in frame)) k → IsPassed (problem_in frame) 0 0 k
-      passed k m = record {
-        candidate = m.prefix ++ m.rest;
-        columns = length m.prefix;
-        passes = record {
-          optimal = all_optimal (problem_in frame) (m.prefix ++ m.rest) m.accepted;
-          within = omega (arith, length-append m.prefix m.rest);
-          of_kind = ap (kind_of (problem_in frame) 0) (take_at m.prefix m.rest (length m.prefix) refl) ∙ m.of_kind;
-        };
-      }
+      passed k m = prefix_passed (problem_in frame) 0 0 m.prefix m.rest
+          (all_optimal (problem_in frame) (m.prefix ++ m.rest) m.accepted) m.of_kind

@@ -8,7 +8,6 @@ pub mod AllPassed
 pub mod KindsWithin
 pub mod StageKinds
 pub mod EndStage
-pub mod FirstKind
 pub mod StageShapes
 pub mod StepStage
 pub mod StageList

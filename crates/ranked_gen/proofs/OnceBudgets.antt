@@ -1,13 +1,12 @@
 -- Kinds under all constraints, and a budget.
 use Rattle.std.proofs.Common.{◌≡◌, ◌≢◌, ℕ, ◌≤◌, List, [], ◌∷◌, ◌++◌, map, take, length, refl, sym, ap, ◌∙◌, subst}
-use Rattle.std.proofs.Common.{arith, take_at, AllPairs, Contains}
-use Rattle.std.proofs.lemmas.List.{get_or-map, length-map, length-append}
+use Rattle.std.proofs.Common.{arith, AllPairs, Contains}
+use Rattle.std.proofs.lemmas.List.{get_or-map, length-map}
 use Rattle.std.specs.List.{AllByRecursion}
 use Rattle.std.proofs.lemmas.List.Elements.{All-contains, All-from_recursion}
-use Rattle.std.proofs.lemmas.List.Kept.{AllPairs-cons}
 use Rattle.std.specs.Prelude.{◌↔◌}
 use Rattle.tier_core.specs.declared.sym.Sym.{Sym}
-use Rattle.tier_core.specs.Kinds.{PrefixKind, kind_order}
+use Rattle.tier_core.specs.Kinds.{PrefixKind}
 use Rattle.violation.specs.Candidates.{IsCandidate}
 use Rattle.violation.specs.Moves.{cut_kind}
 use Rattle.violation.specs.Prefixes.{kind_of}
@@ -15,13 +14,13 @@ use Rattle.violation.specs.Rests.{IsWholeKind, AreWholeKindsOver, AreWholeKindsW
 use Rattle.violation.specs.Stages.{IsPassed}
 use Rattle.violation.proofs.StageLemmas.{all_optimal}
 use Rattle.violation.proofs.CutLemmas.{cut_kind-kind_of}
+use Rattle.violation.proofs.CutCandidates.{prefix_passed}
 use Rattle.kind_moves.specs.declared.frame.Frame.{Frame}
 use Rattle.kind_moves.specs.Frames.{problem_in}
 use Rattle.stage_tables.specs.Explored.{HasMoreKinds}
 use Rattle.ranked_gen.specs.Budgets.{IsOver}
-use Rattle.ranked_gen.proofs.Ascending.{ascends_from}
-use Rattle.tier_core.proofs.Differing.{Differ, differ_from_pairs, no_longer}
-use Rattle.ranked_gen.proofs.FewKinds.{ascending_differ}
+use Rattle.tier_core.proofs.Differing.{differ_from_pairs, pairs_from_differ, no_longer}
+use Rattle.tier_core.proofs.AscendingKinds.{ascending_differ}
 use Rattle.tier_core.proofs.Members.{all_from_members}
 use Rattle.violation.specs.Problems.{Problem, last_stage}
 
@@ -31,11 +30,6 @@ uncut_differ : (f : PrefixKind → PrefixKind) (ks : List PrefixKind) → AllPai
 uncut_differ f ks differ i j d less inside e =
     differ i j (f d) less (omega (arith, inside, length-map ks f))
     (get_or-map f ks i d (f d) (omega (arith, less, inside)) ∙ ap f e ∙ sym (get_or-map f ks j d (f d) inside))
-
-differ_pairs : (ks : List PrefixKind) → Differ ks → AllPairs (λ k l. k ≢ l) ks
-differ_pairs [] h = λ i j d less inside. absurd (omega (arith, inside))
-differ_pairs (k ∷ ks) h = AllPairs-cons (λ a b. a ≢ b) k ks (All-from_recursion (λ l. k ≢ l) ks h.0)
-    (differ_pairs ks h.1)
 
 module _ (problem : Problem) where
   -- kinds where no constraint counts are cut from as many kinds under all constraints
@@ -62,9 +56,9 @@ module _ (problem : Problem) where
   first_over_whole budget over =
       let whole = whole_of over.kinds (all_from_members (IsPassed problem 0 0) over.kinds
       (λ k c. (over.are.members k).0 c)) in
-      let ascending = ascends_from kind_order over.kinds over.are.ascending in
       let differ : AllPairs (λ k l. k ≢ l) (map (cut_kind problem 0) whole.0) =
-      subst (AllPairs (λ k l. k ≢ l)) (sym whole.1) (differ_pairs over.kinds (ascending_differ over.kinds ascending)) in
+      subst (AllPairs (λ k l. k ≢ l)) (sym whole.1) (pairs_from_differ over.kinds
+      (ascending_differ over.kinds over.are.ascending)) in
       let size : length whole.0 ≡ length over.kinds = sym (length-map whole.0 (cut_kind problem 0))
       ∙ ap (λ (ks : List PrefixKind). length ks) whole.1 in
       record {
@@ -92,15 +86,7 @@ met_over_whole frame budget over = record {
   distinct = over.distinct;
   each = λ i d l.
       (let m = over.met i d l in
-      record {
-        candidate = m.prefix ++ m.rest;
-        columns = length m.prefix;
-        passes = record {
-          optimal = all_optimal (problem_in frame) (m.prefix ++ m.rest) m.accepted;
-          within = omega (arith, length-append m.prefix m.rest);
-          of_kind = ap (kind_of (problem_in frame) (last_stage (problem_in frame)))
-              (take_at m.prefix m.rest (length m.prefix) refl) ∙ m.of_kind;
-        };
-      });
+      prefix_passed (problem_in frame) 0 (last_stage (problem_in frame)) m.prefix m.rest
+      (all_optimal (problem_in frame) (m.prefix ++ m.rest) m.accepted) m.of_kind);
   more = over.more;
 }

@@ -1,7 +1,6 @@
 -- The kinds that name the states of a table, in kind order, and the states of what is pruned from it.
 use Rattle.std.proofs.Common.{◌≡◌, ℕ, zero, suc, ◌<◌, ◌≤◌, List, [], ◌∷◌, Some, map, length, get_or, slice_get, sym, ap}
 use Rattle.std.proofs.Common.{◌∙◌, subst, arith, ⊎_elim}
-use Rattle.std.specs.List.{AllByRecursion}
 use Rattle.std.specs.declared.cmp.Ordering.{Ordering}
 use Rattle.std.specs.declared.cmp.Ordering.TheVariants.{Less}
 use Rattle.std.proofs.lemmas.Bool.{cases_order}
@@ -36,23 +35,18 @@ use Rattle.kind_orders.specs.Automata.{ReadsTo}
 use Rattle.stage_tables.specs.Explored.{names_at}
 use Rattle.stage_tables.proofs.Named.{frame_stage}
 use Rattle.ranked_gen.specs.Left.{IsNodeOfKind, AreOrdered}
+use Rattle.ranked_gen.proofs.WidenedColumns.{all_at}
 use Rattle.ranked_gen.proofs.Ascending.{Ascends, ascends_from}
-use Rattle.ranked_gen.proofs.FirstKind.{none_before}
+use Rattle.violation.proofs.FirstKind.{none_before}
 use Rattle.ranked_gen.proofs.StageShapes.{tell_same, free_same, stretch_same}
 use Rattle.violation.specs.Problems.{last_stage}
-
-all_read : {X : Type 0} (R : X → Type 0) (xs : List X) (d : X) (i : ℕ) → AllByRecursion R xs → i < length xs
-    → R (get_or xs i d)
-all_read R [] d i h l = absurd (omega arith)
-all_read R (x ∷ xs) d zero h l = h.0
-all_read R (x ∷ xs) d (suc i) h l = all_read R xs d i h.1 (omega arith)
 
 -- the first of an ascending list comes before a later one
 first_less : {X : Type 0} (c : X → X → Ordering) (xs : List X) (d : X) (i : ℕ) → Ascends c xs → 0 < i → i < length xs
     → c (get_or xs 0 d) (get_or xs i d) ≡ Less
 first_less c [] d i a some l = absurd (omega arith)
 first_less c (x ∷ xs) d zero a some l = absurd (omega arith)
-first_less c (x ∷ xs) d (suc i) a some l = all_read (λ y. c x y ≡ Less) xs d i a.0 (omega arith)
+first_less c (x ∷ xs) d (suc i) a some l = all_at (λ y. c x y ≡ Less) xs i d (omega arith) a.0
 
 module _ (frame : Frame) (stage : ℕ) (within : stage ≤ last_stage (problem_in frame)) (kinds : List Kind) {W : Type 0}
     {g : Ghosts W} (states : List (TableState W g))

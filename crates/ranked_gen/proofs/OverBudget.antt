@@ -2,11 +2,11 @@
 -- more kinds than a budget are found is over it.
 use Rattle.std.proofs.Common.{filter, ◌≡◌, ◌≢◌, ℕ, zero, suc, ◌+◌, ◌-◌, ◌<◌, ◌≤◌, ◌⊎◌, inl, inr, Bool, true, false}
 use Rattle.std.proofs.Common.{cond, List, [], ◌∷◌, ◌++◌, map, take, drop, length, get_or, refl, sym, ap, ap₂, ◌∙◌}
-use Rattle.std.proofs.Common.{subst, arith, ⊎_elim, take_at, Contains}
+use Rattle.std.proofs.Common.{subst, arith, ⊎_elim, Contains}
 use Rattle.std.specs.Prelude.{◌↔◌}
 use Rattle.std.specs.List.{range_with_len, flat_map}
 use Rattle.std.proofs.lemmas.Bool.{cases_order}
-use Rattle.std.proofs.lemmas.List.{length-map, length-append, take-append-drop}
+use Rattle.std.proofs.lemmas.List.{length-map, take-append-drop}
 use Rattle.std.proofs.lemmas.List.Filters.{length-filter_more}
 use Rattle.weight_law.specs.declared.Weight.{Ghosts}
 use Rattle.weight_law.specs.declared.unit_weight.UnitWeight.{UnitWeight}
@@ -30,6 +30,7 @@ use Rattle.kind_tables.specs.StageTables.{IsStage, name_of, AreNamedByKinds}
 use Rattle.violation.proofs.CutLemmas.{cut_kind-kind_of}
 use Rattle.kind_tables.proofs.Naming.{path_kind}
 use Rattle.violation.proofs.StageLemmas.{over_stretches}
+use Rattle.violation.proofs.CutCandidates.{prefix_passed, candidate_cut}
 use Rattle.kind_tables.proofs.Paths.{IsParted, parted, joined_run, joined_reads, path_push}
 use Rattle.stage_tables.specs.Kept.{AreKeptByKinds}
 use Rattle.tier_core.proofs.KindTies.{same_or_not}
@@ -37,7 +38,8 @@ use Rattle.tier_core.proofs.Members.{contains_map, contains_of_map, contains_fir
 use Rattle.tier_core.proofs.Members.{contains_of_flat}
 use Rattle.ranked_gen.specs.Budgets.{IsOver}
 use Rattle.ranked_gen.proofs.ClassColumns.{columns_in, in_columns, of_columns}
-use Rattle.ranked_gen.proofs.Ascending.{sorted_from, range_has}
+use Rattle.ranked_gen.proofs.Ascending.{sorted_from}
+use Rattle.tier_core.proofs.RangeMembers.{range_has}
 use Rattle.tier_core.proofs.Differing.{Differ, no_longer}
 use Rattle.ranked_gen.proofs.SortedKinds.{sorted_kinds}
 use Rattle.ranked_gen.proofs.Closures.{IsClosed, closure}
@@ -185,16 +187,7 @@ module _ (problem : Problem) (r : ℕ) (stage : IsStage problem r) (next : IsSta
   gone_kind : (x : Place) → IsGone x → IsPassed problem r (r + 1) x.1
   gone_kind x gone =
       let b = begun x gone in
-      record {
-        candidate = gone.columns ++ b.0;
-        columns = length gone.columns;
-        passes = record {
-          optimal = b.1;
-          within = omega (arith, length-append gone.columns b.0);
-          of_kind = ap (kind_of problem (r + 1)) (take_at gone.columns b.0 (length gone.columns) refl)
-              ∙ sym (kind_gone x gone);
-        };
-      }
+      prefix_passed problem r (r + 1) gone.columns b.0 b.1 (sym (kind_gone x gone))
 
   -- ---- there are only so many
 
@@ -259,8 +252,7 @@ module _ (problem : Problem) (r : ℕ) (stage : IsStage problem r) (next : IsSta
           (subst (Reads a.0) (sym (take-append-drop n T)) a.1.reads) in
           let there = stays parts.before (take n T) 0 parts.middle
           (kind_of problem (r + 1) []) parts.path parts.reads_before is.first in
-          let whole : IsCandidate problem (take n T ++ drop n T) = subst (IsCandidate problem)
-          (sym (take-append-drop n T)) passed.passes.optimal.candidate in
+          let whole = candidate_cut problem T n passed.passes.optimal.candidate in
           let same : walk_end problem (r + 1) (kind_of problem (r + 1) []) (take n T)
           ≡ k = of_kind (take n T) (drop n T) whole ∙ passed.passes.of_kind in
           subst (Contains (map (λ (x : Place). x.1) all)) same
@@ -297,15 +289,8 @@ module _ (problem : Problem) (r : ℕ) (stage : IsStage problem r) (next : IsSta
       let m = each k c in
       let p = m.0 in
       let q = m.1.0 in
-      let passed : IsPassed problem r (r + 1) k = record {
-        candidate = p ++ q;
-        columns = length p;
-        passes = record {
-          optimal = (accepts (p ++ q)).0 m.1.1.0;
-          within = omega (arith, length-append p q);
-          of_kind = ap (kind_of problem (r + 1)) (take_at p q (length p) refl) ∙ m.1.1.1;
-        };
-      } in
+      let passed : IsPassed problem r (r + 1) k =
+      prefix_passed problem r (r + 1) p q ((accepts (p ++ q)).0 m.1.1.0) m.1.1.1 in
       (all.1.members k).1 (subst (λ n. IsPassed problem n (r + 1) k) before passed) in
       let few = no_longer all.0 kinds inside differ in
       record { kinds = all.0; are = all.1; more = omega (arith, more, few) }

@@ -4,7 +4,7 @@ use Rattle.std.proofs.Common.{take, drop, length, refl, ap, sym, ◌∙◌, subs
 use Rattle.std.specs.List.{range_with_len, IsDistinct}
 use Rattle.std.specs.Ordering.{nat_cmp}
 use Rattle.std.specs.declared.cmp.Ordering.TheVariants.{Less}
-use Rattle.std.proofs.lemmas.List.{length-map, take-append-drop}
+use Rattle.std.proofs.lemmas.List.{length-map}
 use Rattle.std.proofs.lemmas.List.FromFn.{length-range_with_len}
 use Rattle.std.proofs.Math.Nat.{mul-le-mul, pow-le-pow_right}
 use Rattle.tier_core.specs.declared.sym.Sym.{Sym}
@@ -20,11 +20,12 @@ use Rattle.ranked_gen.specs.Budgets.{IsFirstOver}
 use Rattle.ranked_gen.specs.Numbers.{number_of_kind, kind_of_number}
 use Rattle.ranked_gen.specs.Listed.{kind_count}
 use Rattle.ranked_gen.proofs.NumberLemmas.{kind_of_number-number, kinds_less}
-use Rattle.ranked_gen.proofs.Ascending.{Ascends, sorted_from, ascends_map, ascends_range, in_range}
-use Rattle.ranked_gen.proofs.Ascending.{range_has, nat_less}
+use Rattle.ranked_gen.proofs.Ascending.{Ascends, sorted_from, ascends_map, ascends_range, nat_less}
+use Rattle.tier_core.proofs.RangeMembers.{in_range, range_has}
 use Rattle.ranked_gen.proofs.KindsWithin.{IsWithin, number_within, numbered_within, kind_within}
 use Rattle.ranked_gen.proofs.AllPassed.{all_passed}
 use Rattle.violation.specs.Problems.{Problem}
+use Rattle.violation.proofs.CutCandidates.{candidate_cut}
 
 -- numbers of kinds are small
 pub first_small : (place free : ℕ) → place ≤ 65 → free ≤ 12 → (place * 2 ^ free ≤ 266240) × (2 ^ free ≤ 4096)
@@ -37,7 +38,7 @@ first_small place free l h =
 -- the first columns of a candidate begin it
 pub begins : (problem : Problem) (T : List (List Sym)) (n : ℕ) → IsCandidate problem T
     → BeginsCandidate problem (take n T)
-begins problem T n c = (drop n T, subst (IsCandidate problem) (sym (take-append-drop n T)) c)
+begins problem T n c = (drop n T, candidate_cut problem T n c)
 
 -- kinds that ascend, of which each is told by its number, have numbers that differ
 numbers_differ : (f : ℕ) (ks : List PrefixKind) → Ascends kind_order ks

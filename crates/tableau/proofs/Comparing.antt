@@ -41,7 +41,8 @@ module _ (problem : Problem) (least : List ℕ) (is_least : IsLeastVector proble
   at_most T c =
       let best = is_least.some.0 in
       subst (λ (v : List ℕ). IsAtMost v (counts_on problem T)) (all_counts_taken problem best ∙ is_least.some.1.1)
-      (subst (λ (v : List ℕ). IsAtMost (take (last_stage problem) (counts_on problem best)) v) (all_counts_taken problem T)
+      (subst (λ (v : List ℕ). IsAtMost (take (last_stage problem) (counts_on problem best)) v)
+      (all_counts_taken problem T)
       (is_least.some.1.0.least T c))
 
   -- a candidate with the least vector is optimal

@@ -61,6 +61,13 @@ def tool(name, *words, given=""):
     return done.stderr, done.returncode
 
 
+def printed(name, *words):
+    """What a tool prints of these words, and its status."""
+    done = subprocess.run([sys.executable, os.path.join("tools", name), *words], cwd=TOP, capture_output=True,
+                          text=True)
+    return done.stdout, done.returncode
+
+
 def test_wrong_words():
     """The tools say in a line what is wrong with their words and files."""
     ranked, syllables = "examples/ranked.otp", "examples/syllables.otp"
@@ -207,6 +214,10 @@ def test_lint():
             "note: no constraint names the tier A"], 0))
     judge("overlap", lint_of(PAIR + "constraint K A -> a\nconstraint L A -> b\n")[0][1],
           "note: no constraint names both a and b: they may overlap as they like")
+    edges = "constraint End ]A -> ]a\nconstraint Max [A -> [a\n"
+    judge("lost twice", lint_of(BASE + edges)[0],
+          ["nothing to mend", "note: line 4: End is above Max on line 5: a A that is lost counts there already"])
+    judge("lost once", lint_of(BASE + "\n".join(reversed(edges.split("\n"))))[0], ["nothing to mend"])
     for sign, line in [("\u2192", "U+2192 RIGHTWARDS ARROW"), ("\u00a0", "U+00A0 NO-BREAK SPACE"),
                        ("*", "U+002A ASTERISK"), ("\u2013", "U+2013 EN DASH"), ("\f", "U+000C control")]:
         found, status = lint_of(BASE + "constraint K A %s a\n" % sign)
@@ -218,6 +229,22 @@ def test_lint():
     for free, wanted in [(1, 19), (2, 113), (3, 601), (8, 1952357)]:
         text = "otp 1\ntier A input\n" + "".join("tier t%d overt\n" % number for number in range(free))
         judge("moves", lint.size(read.grammar(text), 1).split(" moves")[0].split()[-1], str(wanted))
+
+
+def test_typology():
+    """Each outcome with what its rankings have in common, and words that are wrong."""
+    stop = "examples/gallery/nasal_stop.otp"
+    judge("three constraints", printed("otp_typology.py", stop, "=anta", "=ana", "rank", "DepX", "MaxN", "MaxC"), (
+        "6 rankings, 3 outcomes\nanda; ana\n  2 rankings: MaxC MaxN >> DepX\natta; ana\n  2 rankings:"
+        " MaxC DepX >> MaxN\nana; ana\n  2 rankings: MaxN DepX >> MaxC\n", 0))
+    judge("one outcome", printed("otp_typology.py", stop, "=ana", "rank", "MaxN", "MaxC"),
+          ("2 rankings, 1 outcome\nana\n  2 rankings: no order in common\n", 0))
+    judge("infinitely many", printed("otp_typology.py", "examples/ranked.otp", "[ ]", "rank", "Max", "Dep"),
+          ("2 rankings, 1 outcome\n[ ]\n  2 rankings: no order in common\n", 0))
+    for words, wanted in [((stop, "=anta", "rank", "MaxC"), "2 to 6 constraints are ranked, each named once"),
+                          ((stop, "rank", "MaxC", "MaxN"), "say of which forms: G FORM .. rank NAME NAME .."),
+                          ((stop, "=anta"), "say which constraints are ranked: G FORM .. rank NAME NAME ..")]:
+        judge("wrong words", tool("otp_typology.py", *words), ("otp_typology: %s\n" % wanted, 1))
 
 
 def test_pages():
@@ -256,6 +283,7 @@ def test_r():
 
 def main():
     """All tests."""
+    test_typology()
     test_pages()
     test_r()
     test_wrong_words()

@@ -117,12 +117,24 @@ def dead_constraints(grammar):
             yield "line %d: %s counts the same as %s on line %d" % (second.line, second.name, first.name, first.line)
 
 
+def edge_kept(constraint, part):
+    """The pair of tiers of a constraint `[X -> [x`, or of `]X -> ]x`, and None of any other."""
+    events = constraint.left + constraint.right
+    if constraint.family != "->" or len(events) != 2 or any(event.part != part for event in events):
+        return None
+    return constraint.left[0].tier, constraint.right[0].tier
+
+
 def traps(grammar):
     """What is said of constraints and tiers that often mean something else."""
     named = [set(tiers_of(one)) for one in grammar.constraints]
     for one in grammar.constraints:
         if one.family == "#" and len(tiers_of(one)) == 1 and not any(event.part for event in one.left + one.right):
             yield "note: line %d: %s counts each %s, and not pairs of them" % (one.line, one.name, one.left[0].tier)
+    for end, start in itertools.permutations(grammar.constraints, 2):
+        if end.line < start.line and edge_kept(end, "]") and edge_kept(end, "]") == edge_kept(start, "["):
+            yield "note: line %d: %s is above %s on line %d: a %s that is lost counts there already" % (
+                end.line, end.name, start.name, start.line, end.left[0].tier)
     for tier in grammar.tiers:
         if grammar.constraints and not any(tier in names for names in named):
             yield "note: no constraint names the tier %s" % tier

@@ -42,6 +42,14 @@ module _ {W : Type 0} {g : Ghosts W} (laws : IsLawful g.meaning) (states : List 
           ∙ ap (nothing_yet g.meaning) a in
           ([], (a, subst P (sym known) self), cc)
 
+  pub initial-covered : IsCovered states (initial_of states) 0
+  initial-covered s [] inside run few =
+      let P : Option W → Type 0 = λ o. IsKnownWithin g.meaning o g.meaning.zero in
+      let self : P (Some g.meaning.zero) =
+      (laws.lawful_zero, at_most-itself laws g.meaning.zero laws.lawful_zero) in
+      subst P (sym (initial_at s ∙ ap (nothing_yet g.meaning) run)) self
+  initial-covered s (arc ∷ arcs) inside run few = absurd (omega arith)
+
   -- where no move leads to less, every run weighs at least what is known
   within_all : TargetsExist states → (least : List (Option W)) → IsCovered states least 0 → AreClosed states least
       → (s : ℕ) (arcs : List (TableArc W g)) → s < length states → IsRun states s arcs

@@ -1,4 +1,4 @@
-ghost use Rattle.std.specs.Prelude.{◌≡◌, ◌≢◌, ◌≤◌, false, codes, length, map, option_map, All, IfOk, IfErr};
+ghost use Rattle.std.specs.Prelude.{◌≡◌, ◌≢◌, ◌≤◌, [], false, codes, length, map, option_map, All, IfOk, IfErr};
 ghost use Rattle.tier_core.specs.Tables.{tiers_of_table};
 ghost use Rattle.toml.specs.Data.{get_member};
 ghost use Rattle.toml.specs.View.{view, table_view};
@@ -68,7 +68,48 @@ fn read_word(alloc: Global, grammar: &Grammar, index: u32, word: &str) -> Result
     }
 }
 
-/// Reads the elements one by one, with the names so far in a set.
+/// Reads the elements one by one into entries, with the names so far in a set.
+fn push_elements<'a>(
+    alloc: Global,
+    grammar: &Grammar,
+    elements: &'a [Value],
+    names: &mut IndexSet<&'a [u8]>,
+    entries: &mut Vec<Entry>,
+) -> Result<(), LexErr>
+    requires few { length elements.now ≤ 1000 }
+    requires no_names { names.old.keys ≡ [] }
+    requires no_entries { entries.old.items ≡ [] }
+    ensures ok { IfOk result
+        (λ _.
+        AreEntries (length (tiers_of_table grammar.now.tiers).input) grammar.now.letters.items
+        (map view elements.entry.now) (entries_seen entries.new.items)) }
+    ensures forms { IfOk result
+        (λ _.
+        All (λ entry. IsForm (tiers_of_table grammar.now.tiers) entry.form) entries.new.items) }
+    ensures short { IfOk result (λ _. All (λ entry. length entry.form ≤ 64) entries.new.items) }
+    ensures err { IfErr result
+        (λ e. e ≢ LexErr.NoMemory
+        → IsFirstEntryFault
+        (length (tiers_of_table grammar.now.tiers).input) grammar.now.letters.items
+        (map view elements.entry.now) e) }
+{
+    for (place, element) in elements.iter().enumerate() {
+        let index = place as u32;
+        let Some((name, word)) = entry_words(element) else {
+            return Err(LexErr::BadEntry { index });
+        };
+        if names.contains(name.as_bytes()) {
+            return Err(LexErr::TwiceNamed { index });
+        }
+        let form = read_word(alloc, grammar, index, word)?;
+        names.insert(name.as_bytes())?;
+        let name = String::from_str(alloc, name)?;
+        entries.push(Entry { name, form })?;
+    }
+    Ok(())
+}
+
+/// The entries that elements give.
 fn read_elements(alloc: Global, grammar: &Grammar, elements: &[Value]) -> Result<Vec<Entry>, LexErr>
     requires { length elements.now ≤ 1000 }
     ensures ok { IfOk result
@@ -87,19 +128,7 @@ fn read_elements(alloc: Global, grammar: &Grammar, elements: &[Value]) -> Result
 {
     let mut names = IndexSet::new(alloc);
     let mut entries = Vec::new(alloc);
-    for (place, element) in elements.iter().enumerate() {
-        let index = place as u32;
-        let Some((name, word)) = entry_words(element) else {
-            return Err(LexErr::BadEntry { index });
-        };
-        if names.contains(name.as_bytes()) {
-            return Err(LexErr::TwiceNamed { index });
-        }
-        let form = read_word(alloc, grammar, index, word)?;
-        names.insert(name.as_bytes())?;
-        let name = String::from_str(alloc, name)?;
-        entries.push(Entry { name, form })?;
-    }
+    push_elements(alloc, grammar, elements, &mut names, &mut entries)?;
     Ok(entries)
 }
 

@@ -19,7 +19,10 @@ loop-lexeme-preserved c =
     ∙ c.loop-lexeme.invariant
 
 pub returns-in-None : goal.returns-in-None
-returns-in-None c = (refl, sym c.loop-lexeme.invariant
-    ∙ none_step word_of lexeme_seen (map (λ w. w.now) c.loop-lexeme.found.items) c.args.lexemes.now
-    c.loop-lexeme.lexeme-index _ c.loop-lexeme-test.true
-    (sym c.word_of.ensures ∙ ap (option_map (λ w. w.now)) c.in-None.is))
+returns-in-None c = (
+  refl,
+  sym c.loop-lexeme.invariant
+      ∙ none_step word_of lexeme_seen (map (λ w. w.now) c.loop-lexeme.found.items) c.args.lexemes.now
+      c.loop-lexeme.lexeme-index _ c.loop-lexeme-test.true
+      (sym c.word_of.ensures ∙ ap (option_map (λ w. w.now)) c.in-None.is),
+)

@@ -4,7 +4,7 @@ use Rattle.toml.specs.View.{view}
 use Rattle.violation.specs.Candidates.{IsForm}
 use Rattle.lexicon.specs.Entries.{AreEntries, names_of}
 use Rattle.lexicon.specs.Seen.{entries_seen}
-use Rattle.lexicon.proofs.read.read_elements.Given as goal
+use Rattle.lexicon.proofs.read.push_elements.Given as goal
 
 -- the elements so far are the entries so far, whose names are in the set
 abbrev pub invariant-loop-place : goal.invariant-loop-place

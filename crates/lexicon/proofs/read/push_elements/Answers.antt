@@ -8,7 +8,7 @@ use Rattle.lexicon.specs.declared.entry.Entry.{Entry}
 use Rattle.lexicon.specs.Entries.{AreEntries, LexicalEntry, is_among, names_of}
 use Rattle.lexicon.specs.Seen.{entries_seen, entry_seen}
 use Rattle.lexicon.proofs.EntryLemmas.{among_by, bad_entry, keys_more, next_entry, refused_word, seen_more, twice_named}
-use Rattle.lexicon.proofs.read.read_elements.Goals as goal
+use Rattle.lexicon.proofs.read.push_elements.Goals as goal
 
 pub returns-in_default-clause-err : goal.returns-in_default-clause-err
 returns-in_default-clause-err c = λ _. bad_entry

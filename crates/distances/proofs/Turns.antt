@@ -1,13 +1,11 @@
 -- What one turn of a loop over moves does.
 use Rattle.std.proofs.Common.{◌≡◌, ℕ, suc, ◌+◌, ◌<◌, true, false, List, [], ◌∷◌, ◌++◌, Option, None, Some, length}
-use Rattle.std.proofs.Common.{get_or, set, take, drop, map, refl, sym, ap, ◌∙◌, arith}
-use Rattle.std.specs.Prelude.{if◌then◌else◌}
-use Rattle.std.proofs.Math.Seq.{drop-cons}
+use Rattle.std.proofs.{Common.{get_or, set, take, drop, map, refl, sym, ap, ◌∙◌, arith}, Math.Seq.drop-cons}
 use Rattle.std.proofs.lemmas.List.{set-get_or, take_more, map_push}
+use Rattle.std.specs.Prelude.{if◌then◌else◌}
 use Rattle.weight_law.specs.Meaning.{Meaning}
 use Rattle.arc_table.specs.declared.incoming_move.IncomingMove.{IncomingMove}
-use Rattle.distances.specs.Best.{is_lower, lesser_of}
-use Rattle.distances.specs.Settled.{lower_at, relax_all}
+use Rattle.distances.specs.{Best.{is_lower, lesser_of}, Settled.{lower_at, relax_all}}
 
 -- the element at which a loop stands, and the rest
 pub at_turn : {X : Type 0} (xs : List X) (i : ℕ) (x : X) → i < length xs → x ≡ get_or xs i x

@@ -1,8 +1,7 @@
 use Rattle.std.proofs.Common.{◌≡◌, ◌<◌, Bool, false, Some, List, length, map, sym, ap, ◌∙◌, arith}
 use Rattle.std.proofs.lemmas.List.{length-map}
 use Rattle.distances.specs.Best.{nothing_yet}
-use Rattle.distances.proofs.Turns.{one_more_value}
-use Rattle.distances.proofs.rounds.initial_weights.Goals.{then-accepting, else-accepting}
+use Rattle.distances.proofs.{Turns.one_more_value, rounds.initial_weights.Goals.{then-accepting, else-accepting}}
 use Rattle.distances.proofs.rounds.initial_weights.Goals as goal
 
 pub loop-state-preserved : goal.loop-state-preserved

@@ -36,8 +36,9 @@ example empty
 stage 0 2
 node 0/-/ 0
 node 0/+/ 0
-stage 1 1
+stage 1 2
 node 0/-/. 0
+node 0/+/u 1
 automaton 1
 state 0 final
 end

@@ -45,7 +45,9 @@ module _ {X : Type 0} (key : X → ℕ) (x : ℕ) where
           let p = parted rises in
           let l : h.0 < length xs = omega (arith, h.1, length-map xs key) in
           absurd (⊎_elim
-          (λ before. not_there xs h.0 l (λ d e. omega (arith, ranked _ x _ (sym (p.0 h.0 d (omega arith) before)), e)) h.2)
-          (λ after. not_there xs h.0 l (λ d e. omega (arith, ranked _ x _ (sym (p.1 h.0 d after l)), e)) h.2)
+          (λ before. not_there xs h.0 l
+          (λ d e. omega (arith, ranked _ x _ (sym (p.0 h.0 d (omega arith) before)), e)) h.2)
+          (λ after. not_there xs h.0 l
+          (λ d e. omega (arith, ranked _ x _ (sym (p.1 h.0 d after l)), e)) h.2)
           (cases_lt h.0 i)),
     )

@@ -12,7 +12,8 @@ pub returns-clause-no_write_fault : goal.returns-clause-no_write_fault
 returns-clause-no_write_fault c = λ e. never_rose (c.respond.ensures.status.write_fault e).1
 
 pub returns-clause-complete : goal.returns-clause-complete
-returns-clause-complete c = λ told. c.respond.ensures.status.complete told (λ word fault. never_rose fault.rose) never_rose
+returns-clause-complete c = λ told.
+    c.respond.ensures.status.complete told (λ word fault. never_rose fault.rose) never_rose
 
 pub returns-clause-due : goal.returns-clause-due
 returns-clause-due c = λ finding refused told. elim (c.respond.ensures.status.due finding refused told) [

@@ -180,33 +180,15 @@ fn a_failing_write_leaves_a_front(rt: HostRuntime) -> Result<(), Fail> {
     Ok(())
 }
 
-// The stages of three ranked constraints, of which the last two are stretch implications.
+// Stages of no node, one and two; the last two are stretch implications.
 fn four_stages(alloc: Global) -> Result<Vec<Stage>, AllocError>
     ensures { IfOk result (λ stages. length stages.items ≡ 4) }
 {
-    let whole = [
-        node(0, 0, 0, 0),
-        node(0, 1, 0, 0),
-        node(1, 0, 0, 0),
-        node(1, 1, 0, 0),
-        node(2, 0, 0, 0),
-        node(2, 1, 0, 0),
-    ];
-    let clash = [
-        node(0, 0, 0, 0),
-        node(0, 1, 0, 1),
-        node(1, 0, 0, 0),
-        node(1, 1, 0, 1),
-        node(2, 0, 0, 0),
-        node(2, 1, 0, 1),
-    ];
-    let first = [node(0, 0, 0, 1), node(1, 0, 1, 1), node(2, 0, 0, 0)];
-    let second = [node(0, 0, 0, 0), node(1, 0, 1, 0), node(2, 0, 0, 0)];
     let stages = vec![in alloc;
-        stage(alloc, &whole)?,
-        stage(alloc, &clash)?,
-        stage(alloc, &first)?,
-        stage(alloc, &second)?,
+        stage(alloc, &[node(0, 1, 0, 0)])?,
+        stage(alloc, &[])?,
+        stage(alloc, &[node(1, 0, 1, 1)])?,
+        stage(alloc, &[node(0, 0, 0, 0), node(2, 0, 1, 20)])?,
     ]?;
     Ok(stages)
 }
@@ -234,32 +216,18 @@ fn two_columns(alloc: Global, first: &[Sym], second: &[Sym]) -> Timeline
     timeline
 }
 
-const ONE_TIMELINE_IS_OPTIMAL: &[u8] = b"answer 1
+const STAGES_AND_STATES: &[u8] = b"answer 1
 form [ ]
 counts 0 1 0
 example [- ]-
-stage 0 6
-node 0/-/ 0
+stage 0 1
 node 0/+/ 0
-node 1/-/ 0
-node 1/+/ 0
-node 2/-/ 0
-node 2/+/ 0
-stage 1 6
-node 0/-/ 0
-node 0/+/ 1
-node 1/-/ 0
-node 1/+/ 1
-node 2/-/ 0
-node 2/+/ 1
-stage 2 3
-node 0/-/. 1
+stage 1 0
+stage 2 1
 node 1/-/u 1
-node 2/-/. 0
-stage 3 3
+stage 3 2
 node 0/-/.. 0
-node 1/-/u. 0
-node 2/-/.. 0
+node 2/-/u. 20
 automaton 3
 state 0
 arc 1 [-
@@ -270,7 +238,7 @@ end
 ";
 
 #[test]
-fn one_timeline_is_optimal(rt: HostRuntime) -> Result<(), Fail> {
+fn stages_and_states_are_written(rt: HostRuntime) -> Result<(), Fail> {
     let alloc = rt.alloc();
     let shape = shape(alloc, &[0, 0, 1, 2])?;
     let answer = Answer {
@@ -286,7 +254,7 @@ fn one_timeline_is_optimal(rt: HostRuntime) -> Result<(), Fail> {
     };
     let mut sink = SafeSink::new(alloc);
     put_answer(&mut sink, &shape, &answer)?;
-    assert_eq!(rt; sink.bytes(), ONE_TIMELINE_IS_OPTIMAL);
+    assert_eq!(rt; sink.bytes(), STAGES_AND_STATES);
     Ok(())
 }
 

@@ -27,7 +27,7 @@ use Rattle.cert_check.specs.Subjects.{AscendsAt, problem_of, stage_kinds}
 use Rattle.cert_check.proofs.Ascending.{ascends_unless}
 use Rattle.cert_check.proofs.Decisions.{so_unless, at_most}
 use Rattle.cert_check.proofs.DecidedMoves.{is_listed}
-use Rattle.cert_check.proofs.NodeSteps.{piece_filled, piece_kept, piece_told}
+use Rattle.cert_check.proofs.NodeSteps.{piece_at}
 use Rattle.cert_check.proofs.StateSubjects.{node_fits}
 use Rattle.cert_check.proofs.Subjects.{in_stages, free_same, stretch_same}
 
@@ -154,13 +154,9 @@ module _ (s : Subject) (staged : IsRightBeforeStates s) where
         (last_stage (problem_of s) + 1)
         (last_kind s node) pieces → All (IsTargetListed s (last_stage (problem_of s))) pieces
     targets_listed pieces kept i d l =
-        let stages = s.answer.now.stages.items in
-        let k = last_kind s node in
         let piece = get_or pieces i d in
-        let is : piece ≡ get_or pieces i piece = get_or_default pieces i d piece l in
-        let held = has-first_column piece.class (piece_filled problem stages last
-        (last + 1) k pieces kept i piece l is) in
-        target_listed (first_column piece.class) piece.target
-        (piece_kept problem stages last (last + 1) k pieces kept i piece l is (first_column piece.class) held)
-        ((piece_told problem stages last (last + 1) k pieces kept i piece l is).leads (first_column piece.class) held)
+        let here = piece_at kept i piece l (get_or_default pieces i d piece l) in
+        let column = first_column piece.class in
+        let held = has-first_column piece.class here.filled in
+        target_listed column piece.target (here.keeps column held) (here.told.leads column held)
         piece refl

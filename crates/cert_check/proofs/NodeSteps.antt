@@ -136,35 +136,34 @@ some_index (class ∷ classes) column d h = ⊎_elim
     (λ there. let rest = some_index classes column d there in (suc rest.0, (omega (arith, rest.1.0), rest.1.1)))
     (or_cases (has class column) (some_has classes column) h)
 
-module _ (problem : Problem) (answer : Answer) (stage n : ℕ) (classes : List Class) where
-  module _ (best next : ℕ) (so_far : IsLeastWrong problem answer stage n classes next best)
-      (inside : next < length classes) where
-    at_next : (P : Class → Type 0) (class d : Class) → class ≡ get_or classes next class → P class
-        → P (get_or classes next d)
-    at_next P class d e p = subst P (e ∙ default next class d) p
+module _ {problem : Problem} {answer : Answer} {stage n : ℕ} {classes : List Class} where
+  module _ {best next : ℕ} (so_far : IsLeastWrong problem answer stage n classes next best)
+      (inside : next < length classes) (class : Class) (e : class ≡ get_or classes next class) where
+    at_next : (P : Class → Type 0) (d : Class) → P class → P (get_or classes next d)
+    at_next P d p = subst P (e ∙ default next class d) p
       where
         default : (m : ℕ) (a b : Class) → get_or classes next a ≡ get_or classes next b
         default m a b = get_or_default classes next a b inside
 
     -- nothing is wrong on the next class
-    pub least_same : (class : Class) → class ≡ get_or classes next class → AreRightOn problem answer stage n class
+    pub least_same : AreRightOn problem answer stage n class
         → IsLeastWrong problem answer stage n classes (next + 1) best
-    least_same class e right = record {
+    least_same right = record {
       within = so_far.within;
       wrong = so_far.wrong;
       others = λ m d l. ⊎_elim (λ below. so_far.others m d below)
           (λ above. let same : next ≡ m = omega arith in
           inl (subst (λ i. AreRightOn problem answer stage n (get_or classes i d)) same
-          (at_next (AreRightOn problem answer stage n) class d e right)))
+          (at_next (AreRightOn problem answer stage n) d right)))
           (cases_lt m next);
     }
 
     -- the next class is the first on which something is wrong
-    pub least_first : (class : Class) → class ≡ get_or classes next class → AreWrongOn problem answer stage n class
-        → best ≡ length classes → IsLeastWrong problem answer stage n classes (next + 1) next
-    least_first class e wrong none = record {
+    pub least_first : AreWrongOn problem answer stage n class → best ≡ length classes
+        → IsLeastWrong problem answer stage n classes (next + 1) next
+    least_first wrong none = record {
       within = omega (arith, inside);
-      wrong = λ d l. at_next (AreWrongOn problem answer stage n) class d e wrong;
+      wrong = λ d l. at_next (AreWrongOn problem answer stage n) d wrong;
       others = λ m d l. ⊎_elim
           (λ below. ⊎_elim (λ right. inl right) (λ later. absurd (omega (arith, later.0, none)))
           (so_far.others m d below))
@@ -178,19 +177,19 @@ module _ (problem : Problem) (answer : Answer) (stage n : ℕ) (classes : List C
     }
 
     -- its least column comes before that of the class so far
-    pub least_next : (class first : Class) → class ≡ get_or classes next class → first ≡ get_or classes best first
-        → best < length classes → AreWrongOn problem answer stage n class
+    pub least_next : (first : Class) → first ≡ get_or classes best first → best < length classes
+        → AreWrongOn problem answer stage n class
         → IsBefore (column_place (first_column class)) (column_place (first_column first))
         → IsLeastWrong problem answer stage n classes (next + 1) next
-    least_next class first e f some wrong before = record {
+    least_next first f some wrong before = record {
       within = omega (arith, inside);
-      wrong = λ d l. at_next (AreWrongOn problem answer stage n) class d e wrong;
+      wrong = λ d l. at_next (AreWrongOn problem answer stage n) d wrong;
       others = λ m d l. ⊎_elim
           (λ below. ⊎_elim (λ right. inl right) (λ later. inr (
             inside,
             λ b.
                 let mine = at_next (λ c. IsBefore (column_place (first_column c))
-                (column_place (first_column first))) class d e before in
+                (column_place (first_column first))) d before in
                 let best_is : first ≡ get_or classes best d = f ∙ get_or_default classes best first d some in
                 let mine : IsBefore (column_place (first_column (get_or classes next d)))
                 (column_place (first_column (get_or classes best d))) =
@@ -211,10 +210,10 @@ module _ (problem : Problem) (answer : Answer) (stage n : ℕ) (classes : List C
     }
 
     -- it does not
-    pub least_later : (class first : Class) → class ≡ get_or classes next class → first ≡ get_or classes best first
-        → best < length classes → IsNotAfter first class
+    pub least_later : (first : Class) → first ≡ get_or classes best first → best < length classes
+        → IsNotAfter first class
         → IsLeastWrong problem answer stage n classes (next + 1) best
-    least_later class first e f some later = record {
+    least_later first f some later = record {
       within = so_far.within;
       wrong = so_far.wrong;
       others = λ m d l. ⊎_elim (λ below. so_far.others m d below)
@@ -223,13 +222,13 @@ module _ (problem : Problem) (answer : Answer) (stage n : ℕ) (classes : List C
           inr (
             some,
             subst (λ i. IsNotAfter (get_or classes best d) (get_or classes i d)) same
-                (at_next (IsNotAfter (get_or classes best d)) class d e
+                (at_next (IsNotAfter (get_or classes best d)) d
                 (subst (λ c. IsNotAfter c class) best_is later)),
           ))
           (cases_lt m next);
     }
 
-  module _ (node : Node) (is : HasNode answer stage n node) (best count : ℕ)
+  module _ {node : Node} (is : HasNode answer stage n node) {best count : ℕ}
       (least : IsLeastWrong problem answer stage n classes count best) (all : length classes ≤ count)
       (held : (column : List Sym) → IsKeptBelow problem answer.stages.items stage
       (kind_of_bits problem stage node.kind) column → IsTrue (some_has classes column)) where
@@ -291,11 +290,11 @@ right_node problem answer stage n a b (suc zero) rest w = b rest w
 right_node problem answer stage n a b (suc (suc part)) rest w = w
 
 -- something is wrong on the class that is chosen
-pub never_none : (problem : Problem) (answer : Answer) (stage n : ℕ) (classes : List Class) (best count : ℕ)
+pub never_none : {problem : Problem} {answer : Answer} {stage n : ℕ} {classes : List Class} {best count : ℕ}
     → IsLeastWrong problem answer stage n classes count best → (class : Class) → best < length classes
     → class ≡ get_or classes best class → IsTrue (is_filled class) → AreRightOn problem answer stage n class
     → {A : Type 0} → A
-never_none problem answer stage n classes best count least class some e filled right =
+never_none {problem} {answer} {stage} {n} least class some e filled right =
     let wrong : AreWrongOn problem answer stage n class =
     subst (AreWrongOn problem answer stage n) (sym e) (least.wrong class some) in
     let held = has-first_column class filled in
@@ -303,24 +302,35 @@ never_none problem answer stage n classes best count least class some e filled r
 
 -- ---- the pieces that are kept
 
-module _ (problem : Problem) (stages : List Stage) (stage below : ℕ) (k : PrefixKind) (pieces : List KeptPiece)
-    (kept : AreKeptPieces problem stages stage below k pieces) (n : ℕ) (piece : KeptPiece) (inside : n < length pieces)
-    (is : piece ≡ get_or pieces n piece) where
-  pub piece_within : n < length (kept_classes pieces)
-  piece_within = omega (arith, inside, length-map pieces (λ (p : KeptPiece). p.class))
+-- a piece at a place among pieces that are kept
+pub record IsPieceAt (problem : Problem) (stages : List Stage) (stage below : ℕ) (k : PrefixKind)
+    (pieces : List KeptPiece) (n : ℕ) (piece : KeptPiece) : Type 0 where
+  pub within : n < length (kept_classes pieces)
+  pub class : piece.class ≡ get_or (kept_classes pieces) n piece.class
+  pub filled : IsTrue (is_filled piece.class)
+  pub keeps : (column : List Sym) → IsTrue (has piece.class column) → IsKeptBelow problem stages below k column
+  pub told : IsKeptPiece problem stage k piece
 
-  pub piece_class : piece.class ≡ get_or (kept_classes pieces) n piece.class
-  piece_class = ap (λ (p : KeptPiece). p.class) is
-      ∙ sym (get_or-map (λ (p : KeptPiece). p.class) pieces n piece piece.class inside)
+pub piece_at : {problem : Problem} {stages : List Stage} {stage below : ℕ} {k : PrefixKind} {pieces : List KeptPiece}
+    → AreKeptPieces problem stages stage below k pieces → (n : ℕ) (piece : KeptPiece) → n < length pieces
+    → piece ≡ get_or pieces n piece → IsPieceAt problem stages stage below k pieces n piece
+piece_at {problem} {stage = stage} {k = k} {pieces} kept n piece inside is =
+    let within : n < length (kept_classes pieces) =
+    omega (arith, inside, length-map pieces (λ (p : KeptPiece). p.class)) in
+    let class : piece.class ≡ get_or (kept_classes pieces) n piece.class = ap (λ (p : KeptPiece). p.class) is
+    ∙ sym (get_or-map (λ (p : KeptPiece). p.class) pieces n piece piece.class inside) in
+    record {
+      within = within;
+      class = class;
+      filled = subst (λ class. IsTrue (is_filled class)) (sym class) (kept.pieces.filled n piece.class within);
+      keeps = λ column h. (kept.columns column).0
+          (list_any_at (λ class. has class column) (kept_classes pieces) n piece.class within
+          (ap (λ class. has class column) (sym class) ∙ h));
+      told = subst (IsKeptPiece problem stage k) (sym is) (kept.each n piece inside);
+    }
 
-  pub piece_filled : IsTrue (is_filled piece.class)
-  piece_filled = subst (λ class. IsTrue (is_filled class)) (sym piece_class)
-      (kept.pieces.filled n piece.class piece_within)
-
-  pub piece_kept : (column : List Sym) → IsTrue (has piece.class column) → IsKeptBelow problem stages below k column
-  piece_kept column h = (kept.columns column).0
-      (list_any_at (λ class. has class column) (kept_classes pieces) n piece.class piece_within
-      (ap (λ class. has class column) (sym piece_class) ∙ h))
-
-  pub piece_told : IsKeptPiece problem stage k piece
-  piece_told = subst (IsKeptPiece problem stage k) (sym is) (kept.each n piece inside)
+-- a piece that is chosen is one of the pieces
+pub best_below : {problem : Problem} {answer : Answer} {stage n next best : ℕ} (pieces : List KeptPiece)
+    → IsLeastWrong problem answer stage n (kept_classes pieces) next best → best ≢ length pieces
+    → best < length pieces
+best_below pieces least some = omega (arith, least.within, length-map pieces (λ (p : KeptPiece). p.class), some)

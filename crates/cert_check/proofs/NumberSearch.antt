@@ -1,44 +1,53 @@
--- A number in numbers that ascend: by a place that comes before or behind it, others do.
-use Rattle.std.proofs.Common.{◌≡◌, ℕ, ◌+◌, ◌<◌, ◌≤◌, List, length, get_or, ap, arith, ⊎_elim, Contains}
-use Rattle.std.specs.List.Sorted.{IsStrictlySortedBy}
-use Rattle.std.specs.Ordering.{nat_cmp}
+-- A number among those of elements that ascend by them: a binary search tells whether it is there.
+use Rattle.std.proofs.Common.{◌≡◌, ◌≢◌, ◌↔◌, ℕ, ◌<◌, ◌≤◌, IsTrue, Result, Ok, Err, List, [], ◌∷◌, length, map}
+use Rattle.std.proofs.Common.{get_or, refl, ap, sym, ◌∙◌, arith, ⊎_elim, Contains, true≢false}
+use Rattle.std.specs.List.Sorted.{IsBinarySearchResult, IsNonDecreasingBy, IsSearchInRange, IsStrictlySortedBy}
+use Rattle.std.specs.Ordering.{nat_cmp, ordering_index}
+use Rattle.std.specs.Result.{is_ok}
 use Rattle.std.proofs.lemmas.Bool.{cases_lt}
+use Rattle.std.proofs.lemmas.Bool.Decides.{nat_tests}
+use Rattle.std.proofs.lemmas.Cmp.{ranked}
+use Rattle.std.proofs.lemmas.List.{length-map, get_or-map}
 use Rattle.std.proofs.lemmas.Map.Keys.{below_from_sorted}
 
--- what is before a place comes before the key, and what is from another on behind it
-pub record IsNarrowed (numbers : List ℕ) (key low high : ℕ) : Type 0 where
-  pub ordered : low ≤ high
-  pub within : high ≤ length numbers
-  pub below : (i : ℕ) → i < low → get_or numbers i key < key
-  pub above : (i : ℕ) → high ≤ i → i < length numbers → key < get_or numbers i key
+index_rises : (a b x : ℕ) → a ≤ b → ordering_index (nat_cmp a x) ≤ ordering_index (nat_cmp b x)
+index_rises a b x h = grind (arith, nat_tests)
 
-module _ (numbers : List ℕ) (key : ℕ) (sorted : IsStrictlySortedBy nat_cmp numbers) where
-  pub narrowed_low : (low high middle : ℕ) → IsNarrowed numbers key low high → low ≤ middle → middle < high
-      → get_or numbers middle key < key → IsNarrowed numbers key (middle + 1) high
-  narrowed_low low high middle n l h e = record {
-    ordered = omega (arith, h);
-    within = n.within;
-    below = λ i k. ⊎_elim
-        (λ before. omega (arith, e, below_from_sorted numbers i middle key sorted before (omega (arith, h, n.within))))
-        (λ at. let is : i ≡ middle = omega (arith, k, at) in omega (arith, e, ap (λ j. get_or numbers j key) is))
-        (cases_lt i middle);
-    above = n.above;
-  }
+module _ {X : Type 0} (key : X → ℕ) (x : ℕ) where
+  there : (xs : List X) (i : ℕ) → i < length xs → ((d : X) → key (get_or xs i d) ≡ x) → Contains (map key xs) x
+  there [] i l e = absurd (omega (arith, l))
+  there (d ∷ xs) i l e = (i, omega (arith, l, length-map (d ∷ xs) key), get_or-map key (d ∷ xs) i d x l ∙ e d)
 
-  pub narrowed_high : (low high middle : ℕ) → IsNarrowed numbers key low high → low ≤ middle → middle < high
-      → key < get_or numbers middle key → IsNarrowed numbers key low middle
-  narrowed_high low high middle n l h e = record {
-    ordered = l;
-    within = omega (arith, h, n.within);
-    below = n.below;
-    above = λ i k m. ⊎_elim
-        (λ after. omega (arith, e, below_from_sorted numbers middle i key sorted after m))
-        (λ at. let is : i ≡ middle = omega (arith, k, at) in omega (arith, e, ap (λ j. get_or numbers j key) is))
-        (cases_lt middle i);
-  }
+  not_there : (xs : List X) (i : ℕ) → i < length xs → ((d : X) → key (get_or xs i d) ≢ x)
+      → get_or (map key xs) i x ≡ x → ⊥
+  not_there [] i l n e = absurd (omega (arith, l))
+  not_there (d ∷ xs) i l n e = n d (sym (get_or-map key (d ∷ xs) i d x l) ∙ e)
 
-  pub not_found : (low high : ℕ) → IsNarrowed numbers key low high → high ≤ low → Contains numbers key → ⊥
-  not_found low high n e h = ⊎_elim
-      (λ before. absurd (omega (arith, n.below h.0 before, h.2)))
-      (λ after. absurd (omega (arith, n.above h.0 (omega (arith, after, e, n.ordered)) h.1, h.2)))
-      (cases_lt h.0 low)
+  module _ (xs : List X) (sorted : IsStrictlySortedBy nat_cmp (map key xs)) where
+    rises : IsNonDecreasingBy (λ y. ordering_index (nat_cmp (key y) x)) xs
+    rises i j d h l = index_rises (key (get_or xs i d)) (key (get_or xs j d)) x
+        (⊎_elim
+        (λ below. omega (
+          arith,
+          get_or-map key xs i d x (omega arith),
+          get_or-map key xs j d x l,
+          below_from_sorted (map key xs) i j x sorted below (omega (arith, l, length-map xs key)),
+        ))
+        (λ above. let is : i ≡ j = omega arith in omega (arith, ap (λ n. key (get_or xs n d)) is))
+        (cases_lt i j))
+
+    pub told : (r : Result ℕ ℕ) → IsSearchInRange r (length xs) → IsBinarySearchResult (λ y. nat_cmp (key y) x) xs r
+        → IsTrue (is_ok r) ↔ Contains (map key xs) x
+    told (Ok i) within equal = (λ t. there xs i within (λ d. ranked _ x _ (sym (equal d))), λ h. refl)
+    told (Err i) within parted = (
+      λ t. absurd (true≢false (sym t)),
+      λ h.
+          let p = parted rises in
+          let l : h.0 < length xs = omega (arith, h.1, length-map xs key) in
+          absurd (⊎_elim
+          (λ before. not_there xs h.0 l
+          (λ d e. omega (arith, ranked _ x _ (sym (p.0 h.0 d (omega arith) before)), e)) h.2)
+          (λ after. not_there xs h.0 l
+          (λ d e. omega (arith, ranked _ x _ (sym (p.1 h.0 d after l)), e)) h.2)
+          (cases_lt h.0 i)),
+    )

@@ -1,15 +1,22 @@
 -- A key in kinds that ascend: by a node that comes before or behind it, others do.
-use Rattle.std.proofs.Common.{◌≡◌, ℕ, ◌+◌, ◌<◌, ◌≤◌, ◌↔◌, IsTrue, true, List, length, get_or, refl, ap, sym, ◌∙◌, arith}
-use Rattle.std.proofs.Common.{⊎_elim, Contains, true≢false}
+use Rattle.std.proofs.Common.{◌≡◌, ℕ, ◌+◌, ◌<◌, ◌≤◌, ◌↔◌, IsTrue, true, Some, List, length, get_or, slice_get, refl, ap}
+use Rattle.std.proofs.Common.{sym, ◌∙◌, arith, ⊎_elim, Contains, true≢false}
 use Rattle.std.specs.List.Sorted.{IsStrictlySortedBy}
 use Rattle.std.specs.Ordering.{ordering_reverse, is_eq, is_lt}
 use Rattle.std.specs.declared.cmp.Ordering.{Ordering}
 use Rattle.std.specs.declared.cmp.Ordering.TheVariants.{Less, Equal, Greater}
 use Rattle.std.proofs.lemmas.Bool.{cases_lt}
 use Rattle.std.proofs.lemmas.Cmp.{tied_itself}
+use Rattle.std.proofs.lemmas.List.{length-map, get_or-map}
 use Rattle.std.proofs.lemmas.Map.Keys.{Less-from_sorted}
+use Rattle.std.proofs.lemmas.Option.{slice_get-get_or}
+use Rattle.tier_core.specs.declared.kind.Kind.{Kind}
+use Rattle.tier_core.specs.declared.shape.Shape.{Shape}
 use Rattle.tier_core.specs.Kinds.{PrefixKind, kind_order}
-use Rattle.tier_core.proofs.KindTies.{kind_order_total, not_before_itself}
+use Rattle.tier_core.specs.KindShapes.{kind_in}
+use Rattle.tier_core.proofs.KindTies.{kind_order_total, not_before_itself, same_kind}
+use Rattle.answer_text.specs.declared.stage.Node.{Node}
+use Rattle.cert_check.specs.Searches.{told_in}
 
 module _ (kinds : List PrefixKind) (key : PrefixKind) (sorted : IsStrictlySortedBy kind_order kinds) where
   pub all_below : (m : ℕ) → m < length kinds → kind_order (get_or kinds m key) key ≡ Less → (i : ℕ) → i < m + 1
@@ -41,6 +48,38 @@ module _ (kinds : List PrefixKind) (key : PrefixKind) (sorted : IsStrictlySorted
       ∙ above c.0 (omega (arith, w, g)) c.1 in
       true≢false (sym (ap is_eq (tied_itself kind_order_total key)) ∙ ap is_eq greater))
       (cases_lt c.0 low)
+
+-- the node in the middle of a search
+module _ (shape : Shape) (stage : ℕ) (nodes : List Node) (key : Kind)
+    (sorted : IsStrictlySortedBy kind_order (told_in shape stage nodes)) (middle : ℕ) (node : Node)
+    (inside : middle < length nodes) where
+  abbrev kinds : List PrefixKind
+  kinds = told_in shape stage nodes
+
+  abbrev wanted : PrefixKind
+  wanted = kind_in shape stage key
+
+  size : length kinds ≡ length nodes
+  size = length-map nodes (λ (node : Node). kind_in shape stage node.kind)
+
+  compared : (o : Ordering) → kind_order (kind_in shape stage (get_or nodes middle node).kind) wanted ≡ o
+      → kind_order (get_or kinds middle wanted) wanted ≡ o
+  compared o e = ap (λ k. kind_order k wanted)
+      (get_or-map (λ (node : Node). kind_in shape stage node.kind) nodes middle node wanted inside) ∙ e
+
+  pub before_middle : kind_order (kind_in shape stage (get_or nodes middle node).kind) wanted ≡ Less → (i : ℕ)
+      → i < middle + 1 → kind_order (get_or kinds i wanted) wanted ≡ Less
+  before_middle e = all_below kinds wanted sorted middle (omega (arith, inside, size)) (compared Less e)
+
+  pub behind_middle : kind_order (kind_in shape stage (get_or nodes middle node).kind) wanted ≡ Greater → (i : ℕ)
+      → middle ≤ i → i < length nodes → kind_order (get_or kinds i wanted) wanted ≡ Greater
+  behind_middle e i h k = all_above kinds wanted sorted middle (omega (arith, inside, size)) (compared Greater e) i h
+      (omega (arith, k, size))
+
+  pub at_middle : kind_order (kind_in shape stage (get_or nodes middle node).kind) wanted ≡ Equal
+      → slice_get kinds middle ≡ Some wanted
+  at_middle e = slice_get-get_or kinds middle wanted (omega (arith, inside, size))
+      ∙ ap (λ (k : PrefixKind). Some k) (same_kind (get_or kinds middle wanted) wanted (compared Equal e))
 
 less_told : (o : Ordering) → is_lt o ≡ true → o ≡ Less
 less_told Less h = refl

@@ -10,19 +10,7 @@ pub(crate) fn has_state(states: &[StateLine], number: u32) -> bool
     requires { IsStrictlySortedBy nat_cmp (numbers_of states.now) }
     ensures { IsTrue result ↔ Contains (numbers_of states.now) number }
 {
-    let mut low = 0;
-    let mut high = states.len();
-    while low < high {
-        let middle = low + (high - low) / 2;
-        let node = states[middle].node;
-        if node == number {
-            return true;
-        }
-        if node < number {
-            low = middle + 1;
-        } else {
-            high = middle;
-        }
-    }
-    false
+    states
+        .binary_search_by_key(&number, |state| state.node)
+        .is_ok()
 }

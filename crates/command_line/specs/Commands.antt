@@ -52,13 +52,13 @@ abbrev pub IsNoCommand : List (List ℕ) → Type 0
 IsNoCommand words = (command : Command) → ¬ IsCommand words command
 
 -- the name of the grammar's file; `sample` names none, and has a grammar of its own
-abbrev pub grammar_file_name : Command → Option (List ℕ)
-grammar_file_name (canon g) = Some g
-grammar_file_name (score g t) = Some g
-grammar_file_name (generate g f b) = Some g
-grammar_file_name (show g f b) = Some g
-grammar_file_name (tableau g f r b) = Some g
-grammar_file_name (once g f b) = Some g
-grammar_file_name (comprehend g l s b) = Some g
-grammar_file_name (check g a) = Some g
-grammar_file_name (sample n) = None
+abbrev pub named_grammar : Command → Option (List ℕ)
+named_grammar (canon g) = Some g
+named_grammar (score g t) = Some g
+named_grammar (generate g f b) = Some g
+named_grammar (show g f b) = Some g
+named_grammar (tableau g f r b) = Some g
+named_grammar (once g f b) = Some g
+named_grammar (comprehend g l s b) = Some g
+named_grammar (check g a) = Some g
+named_grammar (sample n) = None

@@ -16,12 +16,12 @@ mod budget;
 mod cause;
 mod command;
 mod number;
+mod pushed;
 mod put;
 mod read;
 mod status;
 #[cfg(test)]
 mod tests;
-mod worded;
 
 pub use command::Command;
 pub use put::put_status;

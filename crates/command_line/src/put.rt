@@ -1,76 +1,47 @@
+ghost use Rattle.std.specs.Prelude.{◌++◌, codes};
+ghost use Rattle.std.specs.Fmt.{decimal};
 ghost use Rattle.outside.specs.Writers.{Puts, Pushes};
+ghost use Rattle.command_line.specs.Causes.{cause_text};
 ghost use Rattle.command_line.specs.Lines.{status_text};
 
-use crate::cause::{
-    push_answer_cause, push_form_cause, push_grammar_cause, push_lexicon_cause, push_rows_cause,
-};
+use crate::cause::{Cause, answer_cause, grammar_cause, lexicon_cause, rows_cause};
+use crate::pushed::{push_cause, push_worded};
 use crate::status::Status;
-use crate::worded::push_worded;
-use answer_reader::AnswerCause;
-use grammar_reader::GrammarCause;
-use lexicon::LexErr;
 use outside::{OutBuffer, Sink, WriteErr, push_number};
-use tableau::RowsCause;
-use timeline_text::FormErr;
 
-/// Appends the line of a file that is not a grammar.
-fn push_grammar_refused<O: Sink>(
+/// Appends what was refused, its number, and the cause.
+fn push_refused<O: Sink>(
     out: &mut OutBuffer,
     sink: &mut O,
-    word: u32,
-    line: u32,
-    cause: GrammarCause,
+    front: &[u8],
+    number: u32,
+    cause: Cause,
 ) -> Result<(), WriteErr>
     ensures { Pushes O.Sink sink.old sink.new out.old out.new
-        (status_text (Status.GrammarRefused word line cause)) result }
+        (((front.now ++ decimal number) ++ codes ": ") ++ (cause_text cause ++ codes "\n"))
+        result }
 {
-    push_number(out, sink, b"grammar word ", word as usize)?;
-    push_worded(out, sink, b" line ", line, b": ")?;
-    push_grammar_cause(out, sink, cause)
+    push_worded(out, sink, front, number as usize, b": ")?;
+    push_cause(out, sink, cause)
 }
 
-/// Appends the line of a form that was refused.
-fn push_form_refused<O: Sink>(
+/// Appends the word of a file that was refused, the line or row at fault, and the cause.
+fn push_refused_at<O: Sink>(
     out: &mut OutBuffer,
     sink: &mut O,
+    front: &[u8],
     word: u32,
-    cause: FormErr,
+    part: &[u8],
+    number: u32,
+    cause: Cause,
 ) -> Result<(), WriteErr>
     ensures { Pushes O.Sink sink.old sink.new out.old out.new
-        (status_text (Status.FormRefused word cause)) result }
+        ((front.now ++ decimal word)
+        ++ (((part.now ++ decimal number) ++ codes ": ") ++ (cause_text cause ++ codes "\n")))
+        result }
 {
-    push_worded(out, sink, b"form word ", word, b": ")?;
-    push_form_cause(out, sink, cause)
-}
-
-/// Appends the line of a file that is not a lexicon.
-fn push_lexicon_refused<O: Sink>(
-    out: &mut OutBuffer,
-    sink: &mut O,
-    word: u32,
-    cause: LexErr,
-) -> Result<(), WriteErr>
-    ensures { Pushes O.Sink sink.old sink.new out.old out.new
-        (status_text (Status.LexiconRefused word cause)) result }
-{
-    push_worded(out, sink, b"lexicon word ", word, b": ")?;
-    push_lexicon_cause(out, sink, cause)
-}
-
-/// Appends the line of a file that is not an answer.
-fn push_answer_refused<O: Sink>(
-    out: &mut OutBuffer,
-    sink: &mut O,
-    word: u32,
-    line: u32,
-    cause: AnswerCause,
-) -> Result<(), WriteErr>
-    ensures { Pushes O.Sink sink.old sink.new out.old out.new
-        (status_text (Status.AnswerRefused word line cause)) result }
-{
-    push_number(out, sink, b"answer word ", word as usize)?;
-    push_worded(out, sink, b" line ", line, b": ")?;
-    push_answer_cause(out, sink, cause)
+    push_number(out, sink, front, word as usize)?;
+    push_refused(out, sink, part, number, cause)
 }
 
 /// Appends the line of a stage that has more kinds of prefix than the budget.
@@ -84,23 +55,7 @@ fn push_budget<O: Sink>(
         (status_text (Status.Budget entry stage)) result }
 {
     push_number(out, sink, b"budget entry ", entry as usize)?;
-    push_worded(out, sink, b" stage ", stage, b"\n")
-}
-
-/// Appends the line of a file that is not a rows file.
-fn push_rows_refused<O: Sink>(
-    out: &mut OutBuffer,
-    sink: &mut O,
-    word: u32,
-    row: u32,
-    cause: RowsCause,
-) -> Result<(), WriteErr>
-    ensures { Pushes O.Sink sink.old sink.new out.old out.new
-        (status_text (Status.RowsRefused word row cause)) result }
-{
-    push_number(out, sink, b"rows word ", word as usize)?;
-    push_worded(out, sink, b" row ", row, b": ")?;
-    push_rows_cause(out, sink, cause)
+    push_worded(out, sink, b" stage ", stage as usize, b"\n")
 }
 
 /// Appends the line of a status.
@@ -112,21 +67,32 @@ fn push_line<O: Sink>(out: &mut OutBuffer, sink: &mut O, status: &Status) -> Res
         Status::No => out.push(sink, b"no\n"),
         Status::Usage => out.push(sink, b"usage\n"),
         Status::GrammarRefused { word, line, cause } => {
-            push_grammar_refused(out, sink, word, line, cause)
+            let cause = grammar_cause(cause);
+            push_refused_at(out, sink, b"grammar word ", word, b" line ", line, cause)
         }
-        Status::FormRefused { word, cause } => push_form_refused(out, sink, word, cause),
-        Status::LexiconRefused { word, cause } => push_lexicon_refused(out, sink, word, cause),
+        Status::FormRefused { word, cause } => {
+            push_refused(out, sink, b"form word ", word, Cause::Form(cause))
+        }
+        Status::LexiconRefused { word, cause } => {
+            push_refused(out, sink, b"lexicon word ", word, lexicon_cause(cause))
+        }
         Status::AnswerRefused { word, line, cause } => {
-            push_answer_refused(out, sink, word, line, cause)
+            let cause = answer_cause(cause);
+            push_refused_at(out, sink, b"answer word ", word, b" line ", line, cause)
         }
         Status::Budget { entry, stage } => push_budget(out, sink, entry, stage),
-        Status::ReadFault { word } => push_worded(out, sink, b"read fault word ", word, b"\n"),
+        Status::ReadFault { word } => {
+            push_worded(out, sink, b"read fault word ", word as usize, b"\n")
+        }
         Status::WriteFault => out.push(sink, b"write fault\n"),
         Status::NoMemory => out.push(sink, b"no memory\n"),
         Status::RowsRefused { word, row, cause } => {
-            push_rows_refused(out, sink, word, row, cause)
+            let cause = rows_cause(cause);
+            push_refused_at(out, sink, b"rows word ", word, b" row ", row, cause)
         }
-        Status::TooLong { word } => push_worded(out, sink, b"too long word ", word, b"\n"),
+        Status::TooLong { word } => {
+            push_worded(out, sink, b"too long word ", word as usize, b"\n")
+        }
     }
 }
 

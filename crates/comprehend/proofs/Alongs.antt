@@ -1,16 +1,14 @@
 -- What the looks along the arcs give to a choice.
-use Rattle.std.proofs.Common.{◌≡◌, ◌↔◌, ℕ, ◌+◌, ◌*◌, ◌<◌, ◌≤◌, List, [], ◌∷◌, ◌++◌, Option, None, Some, length, get_or}
+use Rattle.std.proofs.Common.{◌≡◌, ℕ, ◌+◌, ◌*◌, ◌<◌, List, [], ◌∷◌, ◌++◌, Option, Some, length, get_or}
 use Rattle.std.proofs.Common.{take, refl, sym, ap, ◌∙◌, subst, arith, ◌⊎◌, inl, inr, IsTrue}
-use Rattle.std.specs.Prelude.{Contains, slice_get}
+use Rattle.std.specs.Prelude.{slice_get}
 use Rattle.std.proofs.lemmas.List.{take_more}
 use Rattle.std.proofs.lemmas.List.Elements.{Contains-append_left, Contains-push, Contains-push_cases}
 use Rattle.tier_core.specs.declared.sym.Sym.{Sym}
 use Rattle.tier_core.specs.declared.class.Class.{Class}
-use Rattle.tier_core.specs.Classes.{has}
 use Rattle.answer_text.specs.declared.automaton.ArcLine.{ArcLine}
 use Rattle.comprehend.specs.declared.choice.Choice.{Choice}
-use Rattle.comprehend.specs.Searches.{IsLeft}
-use Rattle.comprehend.specs.Steps.{test_has, Turns}
+use Rattle.comprehend.specs.Steps.{test_has}
 use Rattle.comprehend.specs.Choices.{IsBetter, LeadsToCell, LeadsAlong, LeadsByOne}
 use Rattle.comprehend.proofs.Looks.{test_at}
 use Rattle.comprehend.proofs.Bettering.{better_same, better_both}

@@ -1,5 +1,5 @@
 -- The cells from which entering arcs lead are those with a step.
-use Rattle.std.proofs.Common.{◌≡◌, ℕ, ◌+◌, ◌*◌, ◌<◌, ◌≤◌, List, length, refl, sym, ap, ◌∙◌, subst, arith, ◌⊎◌, inl, inr}
+use Rattle.std.proofs.Common.{◌≡◌, ℕ, ◌+◌, ◌*◌, ◌<◌, List, length, refl, sym, ap, ◌∙◌, subst, arith, inl, inr}
 use Rattle.std.proofs.Common.{IsTrue}
 use Rattle.std.specs.Prelude.{Contains, Some, slice_get}
 use Rattle.std.specs.Global.{Vec}
@@ -11,7 +11,7 @@ use Rattle.answer_text.specs.declared.automaton.StateLine.{StateLine}
 use Rattle.answer_text.specs.Right.{numbers_of}
 use Rattle.comprehend.specs.declared.entering.Entering.{Entering}
 use Rattle.comprehend.specs.Steps.{Goes, Turns, test_has}
-use Rattle.comprehend.specs.Entering.{entering_at, AreReverseArcs, IsArcOf, ComesByOne, ComesBy, MeetsTest}
+use Rattle.comprehend.specs.Entering.{entering_at, AreReverseArcs, IsArcOf, ComesByOne, ComesBy}
 use Rattle.comprehend.proofs.Cells.{one_cell}
 
 module _ (states : List StateLine) (tests : List Class) (into : List (Vec Entering))

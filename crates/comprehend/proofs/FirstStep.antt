@@ -1,14 +1,12 @@
 -- One column more at the front of a first word.
-use Rattle.std.proofs.Common.{◌≡◌, ℕ, ◌+◌, ◌<◌, ◌≤◌, false, List, [], ◌∷◌, length, refl, sym, ap, ◌∙◌, subst, arith}
-use Rattle.std.proofs.Common.{◌⊎◌, inl, inr}
+use Rattle.std.proofs.Common.{◌≡◌, ℕ, ◌+◌, ◌≤◌, false, List, [], ◌∷◌, length, refl, sym, ◌∙◌, subst, arith}
+use Rattle.std.proofs.Common.{inl, inr}
 use Rattle.std.specs.declared.cmp.Ordering.{Ordering}
 use Rattle.std.specs.declared.cmp.Ordering.TheVariants.{Less, Equal, Greater}
-use Rattle.std.specs.Ordering.{nat_cmp, ordering_then, is_gt, is_le}
-use Rattle.std.specs.Cmp.Lexicographic.{slice_cmp}
+use Rattle.std.specs.Ordering.{ordering_then, is_gt}
 use Rattle.std.proofs.lemmas.Bool.{false≢true, cases_lt}
-use Rattle.std.proofs.lemmas.Cmp.{ranked}
 use Rattle.tier_core.specs.declared.sym.Sym.{Sym}
-use Rattle.tier_core.specs.Orders.{column_cmp, timeline_cmp, IsFirst}
+use Rattle.tier_core.specs.Orders.{column_cmp, IsFirst}
 use Rattle.first_paths.proofs.Order.{equal_columns}
 use Rattle.first_paths.proofs.FirstFrom.{word_cmp, IsFirstOf, first_le}
 use Rattle.comprehend.specs.Searches.{IsLeft, ReadsFrom, AreLengths, IsLeastStep, HasStep}

@@ -1,13 +1,13 @@
 -- The first timeline along the tests of a surface is the first accepted one that has it.
-use Rattle.std.proofs.Common.{◌≡◌, ◌<◌, ◌≤◌, ◌+◌, ◌*◌, ◌^◌, ℕ, List, [], Option, Result, length, sym, ap, ◌∙◌, subst}
+use Rattle.std.proofs.Common.{◌≡◌, ◌≤◌, ◌*◌, ℕ, List, [], Option, Result, length}
 use Rattle.std.proofs.Common.{arith}
-use Rattle.std.specs.Prelude.{All, AllPairs, Contains, MatchOption, IfOk}
+use Rattle.std.specs.Prelude.{Contains, MatchOption, IfOk}
 use Rattle.std.proofs.Math.Nat.{mul-le-mul}
 use Rattle.std.proofs.lemmas.List.Elements.{All-contains}
 use Rattle.tier_core.specs.declared.sym.Sym.{Sym}
 use Rattle.tier_core.specs.declared.class.Class.{Class}
 use Rattle.tier_core.specs.declared.tier.TierKind.{TierKind}
-use Rattle.tier_core.specs.Classes.{sets_of, AreDisjoint}
+use Rattle.tier_core.specs.Classes.{sets_of}
 use Rattle.tier_core.specs.Orders.{IsFirst}
 use Rattle.tier_core.specs.Tiers.{is_overt, numbers_from, tiers_by_kinds}
 use Rattle.answer_text.specs.declared.automaton.ArcLine.{ArcLine}

@@ -1,5 +1,5 @@
 -- Each grammar has an overt tier.
-use Rattle.std.proofs.Common.{◌≡◌, ◌≤◌, length, map, string_bytes, ap, sym, ◌∙◌, arith}
+use Rattle.std.proofs.Common.{◌≤◌, length, map, string_bytes, ap, sym, ◌∙◌, arith}
 use Rattle.std.specs.List.{list_any}
 use Rattle.std.proofs.lemmas.List.{length-map}
 use Rattle.tier_core.specs.Tiers.{is_overt}

@@ -1,26 +1,26 @@
 -- The timelines along the tests of a surface are the accepted ones that have it.
 use Rattle.std.proofs.Common.{◌≡◌, ◌≢◌, ℕ, zero, suc, ◌+◌, ◌*◌, ◌<◌, ◌≤◌, Bool, true, false, List, [], ◌∷◌, length}
-use Rattle.std.proofs.Common.{get_or, map, drop, cond, refl, sym, ap, ◌∙◌, subst, arith, ◌⊎◌, inl, inr, IsTrue, Some}
+use Rattle.std.proofs.Common.{get_or, drop, refl, sym, ap, ◌∙◌, subst, arith, inl, inr, IsTrue, Some}
 use Rattle.std.proofs.Common.{drop-cons, add-one}
-use Rattle.std.specs.Prelude.{All, AllPairs, Contains, slice_get, filter}
-use Rattle.std.proofs.lemmas.Bool.{false≢true, cases_lt, cond-true, cond-false}
+use Rattle.std.specs.Prelude.{AllPairs, Contains, slice_get}
+use Rattle.std.proofs.lemmas.Bool.{cases_lt, cond-true, cond-false}
 use Rattle.std.proofs.lemmas.Option.{slice_get_cases, slice_get_within, slice_get-get_or, get_or_from_slice_get}
-use Rattle.std.proofs.lemmas.List.{get_or-map, get_or_default, length-map}
+use Rattle.std.proofs.lemmas.List.{get_or-map, length-map}
 use Rattle.std.proofs.lemmas.List.Elements.{Contains-get_or}
 use Rattle.tier_core.specs.declared.sym.Sym.{Sym}
 use Rattle.tier_core.specs.declared.class.Class.{Class}
-use Rattle.tier_core.specs.Classes.{has, sets_of}
+use Rattle.tier_core.specs.Classes.{sets_of}
 use Rattle.tier_core.specs.Timelines.{has_edge, column_at, IsReduced}
 use Rattle.tier_core.proofs.ClassLemmas.{same_width}
 use Rattle.answer_text.specs.declared.automaton.ArcLine.{ArcLine}
 use Rattle.answer_text.specs.declared.automaton.StateLine.{StateLine}
-use Rattle.answer_text.specs.Acceptance.{HasArc, IsFinalState, Leads, Accepts}
+use Rattle.answer_text.specs.Acceptance.{HasArc, IsFinalState, Leads}
 use Rattle.answer_text.specs.Right.{numbers_of}
 use Rattle.comprehend.specs.Surfaces.{heard_in, surface_of, AcceptsHeard}
 use Rattle.comprehend.specs.Searches.{ReadsFrom}
 use Rattle.comprehend.specs.Steps.{arcs_at, final_at, test_has, Goes, Turns, IsEndCell, ReadsAlong}
 use Rattle.comprehend.proofs.Cells.{one_cell}
-use Rattle.comprehend.proofs.Ends.{final_inside, final_is}
+use Rattle.comprehend.proofs.Ends.{final_is}
 use Rattle.comprehend.proofs.Levels.{arcs_read}
 use Rattle.comprehend.proofs.Numbers.{once_at}
 

@@ -1,5 +1,5 @@
 -- What two classes hold in common.
-use Rattle.std.proofs.Common.{◌≡◌, ◌&&◌, true, false, Bool, not, List, length, refl, sym, ap, ◌∙◌, IsTrue}
+use Rattle.std.proofs.Common.{◌≡◌, ◌&&◌, true, false, Bool, not, List, length, refl, sym, ◌∙◌, IsTrue}
 use Rattle.std.proofs.lemmas.Bool.{false≢true, and_parts, and_from}
 use Rattle.tier_core.specs.declared.sym.Sym.{Sym}
 use Rattle.tier_core.specs.declared.class.Class.{Class}

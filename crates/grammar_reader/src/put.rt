@@ -33,7 +33,7 @@ fn push_spaced_word<O: Sink>(
     push_word(out, sink, word)
 }
 
-// Words, each after a space.
+/// Words, each after a space.
 fn push_spaced<O: Sink>(
     out: &mut OutBuffer,
     sink: &mut O,
@@ -48,7 +48,7 @@ fn push_spaced<O: Sink>(
     Ok(())
 }
 
-// A line: words with one space between them, and the line's end.
+/// A line: words with one space between them, and the line's end.
 fn push_line<O: Sink>(out: &mut OutBuffer, sink: &mut O, words: &[Word<'_>]) -> Result<(), WriteErr>
     ensures { Pushes O.Sink sink.old sink.new out.old out.new
         (line_of_words (map word_text words.now)) result }

@@ -1,6 +1,6 @@
 -- Elements that are entries, gone through one by one.
-use Rattle.std.proofs.Common.{◌≡◌, ℕ, ◌+◌, ◌<◌, ◌≤◌, Bool, true, false, cond, Some, None, List, [], ◌∷◌, ◌++◌, length}
-use Rattle.std.proofs.Common.{get_or, take, drop, map, string_bytes, refl, ap, sym, ◌∙◌, subst, arith}
+use Rattle.std.proofs.Common.{◌≡◌, ℕ, ◌+◌, ◌<◌, Bool, true, false, cond, Some, None, List, [], ◌∷◌, ◌++◌, length}
+use Rattle.std.proofs.Common.{get_or, take, drop, map, refl, ap, sym, ◌∙◌, subst, arith}
 use Rattle.std.specs.List.{AllZip, list_any}
 use Rattle.std.specs.Str.{bytes_eq}
 use Rattle.std.proofs.lemmas.List.{length-map, length-take-le, map-append, map_push, take-append-drop, drop_more}
@@ -8,13 +8,12 @@ use Rattle.std.proofs.lemmas.List.{take_more}
 use Rattle.toml.specs.Data.{Data}
 use Rattle.toml.specs.View.{view, items_view}
 use Rattle.toml.specs.declared.value.Value.{Value}
-use Rattle.tier_core.specs.declared.sym.Sym.{Sym}
 use Rattle.timeline_text.specs.declared.form_err.FormErr.{FormErr}
 use Rattle.timeline_text.specs.declared.letter.Letter.{Letter}
 use Rattle.grammar_reader.specs.Names.{has_twice}
 use Rattle.grammar_reader.proofs.Lists.{list_any-map}
 use Rattle.grammar_reader.proofs.Twice.{once_push}
-use Rattle.form_reader.specs.Forms.{IsReadAs, IsRefusedFor}
+use Rattle.form_reader.specs.Forms.{IsRefusedFor}
 use Rattle.lexicon.specs.declared.entry.Entry.{Entry}
 use Rattle.lexicon.specs.declared.lex_err.LexErr.{LexErr}
 use Rattle.lexicon.specs.declared.lex_err.LexErr.TheVariants.{BadEntry, TwiceNamed, BadForm}

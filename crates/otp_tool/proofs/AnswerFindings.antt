@@ -22,15 +22,8 @@ use Rattle.otp_tool.proofs.ConstraintLemmas.{first_over_alike, same_stages, whol
 -- ---- in `canon`
 
 pub all_ready : (x : Finding) → FindsForCanon x → x ≡ ready
-all_ready long_file a = absurd a
-all_ready (no_grammar line cause) a = absurd a
-all_ready (no_form word cause) a = absurd a
-all_ready (long_second word) a = absurd a
-all_ready (no_rows row cause) a = absurd a
-all_ready (no_lexicon cause) a = absurd a
-all_ready (no_answer line cause) a = absurd a
-all_ready (over_budget entry stage) a = absurd a
 all_ready ready a = refl
+all_ready other a = absurd a
 
 -- ---- in `score`
 
@@ -42,16 +35,10 @@ module _ (g : GrammarValue) (word : List ℕ) where
   Scored x = (x ≡ ready) × ((T : List (List Sym)) × IsScored (length g.tiers) word T)
 
   score_steps : (x : Finding) → FindsForScore g word x → NotScored x ⊎ Scored x
-  score_steps long_file a = absurd a
-  score_steps (no_grammar line cause) a = absurd a
   score_steps (no_form number cause) a =
       inl (record { value = cause; is = ap (λ n. no_form n cause) a.0; fact = a.1 })
-  score_steps (long_second number) a = absurd a
-  score_steps (no_rows row cause) a = absurd a
-  score_steps (no_lexicon cause) a = absurd a
-  score_steps (no_answer line cause) a = absurd a
-  score_steps (over_budget entry stage) a = absurd a
   score_steps ready a = inr (refl, a)
+  score_steps other a = absurd a
 
   pub for_score : (x y : Finding) → FindsForScore g word x → FindsForScore g word y → x ≡ y
   for_score x y a b =
@@ -130,17 +117,12 @@ module _ (g : GrammarValue) (form : List ℕ) (budget : ℕ) where
       (λ v w i j. i.0 ∙ sym j.0)
 
   answer_steps : (x : Finding) → FindsForAnswer g form budget x → RefusesForm g form x ⊎ (Over x ⊎ Within x)
-  answer_steps long_file a = absurd a
-  answer_steps (no_grammar line cause) a = absurd a
   answer_steps (no_form word cause) a = inl (form_refused g form word cause a)
-  answer_steps (long_second word) a = absurd a
-  answer_steps (no_rows row cause) a = absurd a
-  answer_steps (no_lexicon cause) a = absurd a
-  answer_steps (no_answer line cause) a = absurd a
   answer_steps (over_budget entry stage) a =
       inr (inl (record { value = stage; is = ap (λ e. over_budget e stage) a.0; fact = a.1 }))
   answer_steps ready a =
       inr (inr (refl, record { problem = a.problem; is_asked = a.is_asked; fact = a.within }))
+  answer_steps other a = absurd a
 
   not_in_budget : (x y : Finding) → RefusesForm g form x → Over y ⊎ Within y → ⊥
   not_in_budget x y r (inl o) = not_refused
@@ -175,16 +157,11 @@ module _ (g : GrammarValue) (form : List ℕ) (budget : ℕ) where
   OnceWithin x = (x ≡ ready) × OnProblem (λ problem. AreWholeKindsWithin problem budget) g form
 
   once_steps : (x : Finding) → FindsForOnce g form budget x → RefusesForm g form x ⊎ (OnceOver x ⊎ OnceWithin x)
-  once_steps long_file a = absurd a
-  once_steps (no_grammar line cause) a = absurd a
   once_steps (no_form word cause) a = inl (form_refused g form word cause a)
-  once_steps (long_second word) a = absurd a
-  once_steps (no_rows row cause) a = absurd a
-  once_steps (no_lexicon cause) a = absurd a
-  once_steps (no_answer line cause) a = absurd a
   once_steps (over_budget entry stage) a =
       inr (inl (record { value = stage; is = ap (λ e. over_budget e stage) a.0; fact = a.1 }))
   once_steps ready a = inr (inr (refl, a))
+  once_steps other a = absurd a
 
   one_once_over : (r s : ℕ) → IsOnceOver r → IsOnceOver s → r ≡ s
   one_once_over r s o p =

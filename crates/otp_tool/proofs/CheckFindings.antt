@@ -40,16 +40,11 @@ module _ (g : GrammarValue) (bytes : List ℕ) where
   NotLong x = NoAnswer x ⊎ Read x
 
   steps : (x : Finding) → FindsForCheck g bytes x → Long x ⊎ NotLong x
-  steps long_file f = absurd f
-  steps (no_grammar line cause) f = absurd f
-  steps (no_form word cause) f = absurd f
   steps (long_second word) f = inl (ap long_second f.0, f.1)
-  steps (no_rows row cause) f = absurd f
-  steps (no_lexicon cause) f = absurd f
   steps (no_answer line cause) f =
       inr (inl (record { value = record { line = line; cause = cause }; is = refl; fact = f }))
-  steps (over_budget entry stage) f = absurd f
   steps ready f = inr (inr (refl, f))
+  steps other f = absurd f
 
   one_no_answer : (x y : Finding) → NoAnswer x → NoAnswer y → x ≡ y
   one_no_answer =

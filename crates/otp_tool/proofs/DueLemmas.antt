@@ -90,8 +90,6 @@ module _ (words : List (List ℕ)) (c : Change) where
   complete (TooLong word) o t r w = absurd (not_long word t o.0)
 
   stays : (s : Status) → IsOutcome words c s → IsBeforeWriting s → IsUntouched c.taking
-  stays Done o b = absurd b
-  stays No o b = absurd b
   stays Usage o b = o.1
   stays (GrammarRefused word line cause) o b = o.2
   stays (FormRefused word cause) o b = o.1
@@ -99,10 +97,9 @@ module _ (words : List (List ℕ)) (c : Change) where
   stays (AnswerRefused word line cause) o b = o.2
   stays (Budget entry stage) o b = o.1
   stays (ReadFault word) o b = o.1
-  stays WriteFault o b = absurd b
-  stays NoMemory o b = absurd b
   stays (RowsRefused word row cause) o b = o.2
   stays (TooLong word) o b = o.1
+  stays other o b = absurd b
 
   pub untouched : (s : Status) → IsOutcome words c s → IsBeforeWriting s → c.taking.new ≡ c.taking.old
   untouched s o b = nothing_taken c.taking (stays s o b)

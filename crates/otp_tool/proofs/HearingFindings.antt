@@ -101,15 +101,12 @@ module _ (g : GrammarValue) (word : List ℕ) (budget : ℕ) (bytes : List ℕ) 
   NotLong x = NoLexicon x ⊎ WithLexicon x
 
   steps : (x : Finding) → FindsForHearing g word budget bytes x → RefusesSurface g word x ⊎ (Long x ⊎ NotLong x)
-  steps long_file f = absurd f
-  steps (no_grammar line cause) f = absurd f
   steps (no_form number cause) f = inl (record { value = cause; is = ap (λ n. no_form n cause) f.0; fact = f.1 })
   steps (long_second number) f = inr (inl (ap long_second f.0, f.1))
-  steps (no_rows row cause) f = absurd f
   steps (no_lexicon cause) f = inr (inr (inl (record { value = cause; is = refl; fact = f })))
-  steps (no_answer line cause) f = absurd f
   steps (over_budget entry stage) f = inr (inr (inr (inl (record { value = (entry, stage); is = refl; fact = f }))))
   steps ready f = inr (inr (inr (inr (refl, f))))
+  steps other f = absurd f
 
   one_surface_refusal : (x y : Finding) → RefusesSurface g word x → RefusesSurface g word y → x ≡ y
   one_surface_refusal =

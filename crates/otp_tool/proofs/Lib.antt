@@ -18,8 +18,8 @@ mod HearingLemmas
 mod SettledLemmas
 mod CheckLemmas
 mod GeneratedLemmas
-mod CauseLemmas
 mod DueLemmas
 mod VerdictLemmas
+mod CauseLemmas
 mod PutsLemmas
 mod SampleLemmas

@@ -9,7 +9,7 @@ use Rattle.command_line.specs.declared.status.Status.TheVariants.{Done, No, Usag
 use Rattle.command_line.specs.declared.status.Status.TheVariants.{LexiconRefused, AnswerRefused, Budget, ReadFault}
 use Rattle.command_line.specs.declared.status.Status.TheVariants.{WriteFault, NoMemory, RowsRefused, TooLong}
 use Rattle.grammar_reader.specs.Values.{GrammarValue}
-use Rattle.command_line.specs.Commands.{Command, IsCommand, grammar_file_name as file_of}
+use Rattle.command_line.specs.Commands.{Command, IsCommand, named_grammar}
 use Rattle.otp_tool.specs.Files.{IsHeld, IsSecondHeld, NamedFile, faults_of, grammar_told, second_file}
 use Rattle.otp_tool.specs.Grammars.{OnGrammar}
 use Rattle.otp_tool.specs.Findings.{Finding, FindsIn, Finds, ReachesSecondFile, long_file, no_grammar, no_form}
@@ -108,7 +108,7 @@ module _ (words : List (List ℕ)) (c : Change) (command : Command) (are : IsCom
   -- ---- from loading
 
   -- before a second file is loaded
-  found_first : (x : Finding) (bytes : List ℕ) → IsHeld (grammar_told c.held (file_of command)) bytes
+  found_first : (x : Finding) (bytes : List ℕ) → IsHeld (grammar_told c.held (named_grammar command)) bytes
       → ((second : List ℕ) → Finds command bytes second x) → IsBehind words c.held x
   found_first x bytes h f =
       let s = some_second c.held (second_file command) in record {
@@ -120,7 +120,7 @@ module _ (words : List (List ℕ)) (c : Change) (command : Command) (are : IsCom
       }
 
   -- the file of a grammar has a fault only if there is one
-  grammar_fault : (name : Option (List ℕ)) → file_of command ≡ name → (word : ℕ) → word ≡ 1
+  grammar_fault : (name : Option (List ℕ)) → named_grammar command ≡ name → (word : ℕ) → word ≡ 1
       → Rose (faults_of c.faults_before name) (faults_of c.faults_after name)
       → HasReadFault words c.held c.faults_before c.faults_after word
   grammar_fault None e word w rose = absurd (omega (arith, rose))
@@ -134,29 +134,21 @@ module _ (words : List (List ℕ)) (c : Change) (command : Command) (are : IsCom
   }
 
   pub by_load : IsUntouched c.taking → (s : Status)
-      → IsLoadRefusal (grammar_told c.held (file_of command)) (faults_of c.faults_before (file_of command))
-      (faults_of c.faults_after (file_of command)) s → IsOutcome words c s
-  by_load t Done r = absurd r
-  by_load t No r = absurd r
-  by_load t Usage r = absurd r
+      → IsLoadRefusal (grammar_told c.held (named_grammar command)) (faults_of c.faults_before (named_grammar command))
+      (faults_of c.faults_after (named_grammar command)) s → IsOutcome words c s
   by_load t (GrammarRefused word line cause) r = (
     r.0,
     found_first (no_grammar line cause) r.1.bytes r.1.holds (λ second. (r.1.within, r.1.refused)),
     t,
   )
-  by_load t (FormRefused word cause) r = absurd r
-  by_load t (LexiconRefused word cause) r = absurd r
-  by_load t (AnswerRefused word line cause) r = absurd r
-  by_load t (Budget entry stage) r = absurd r
-  by_load t (ReadFault word) r = (grammar_fault (file_of command) refl word r.0 r.1, t)
-  by_load t WriteFault r = absurd r
+  by_load t (ReadFault word) r = (grammar_fault (named_grammar command) refl word r.0 r.1, t)
   by_load t NoMemory r = ((command, are), inl (nothing_taken c.taking t))
-  by_load t (RowsRefused word row cause) r = absurd r
   by_load t (TooLong word) r =
-      let l = long_held (grammar_told c.held (file_of command)) 65536 r.1 in
+      let l = long_held (grammar_told c.held (named_grammar command)) 65536 r.1 in
       (inl (r.0, found_first long_file l.bytes l.holds (λ second. l.long)), t)
+  by_load t other r = absurd r
 
-  module _ (g : GrammarValue) (l : IsLoaded (grammar_told c.held (file_of command)) g) where
+  module _ (g : GrammarValue) (l : IsLoaded (grammar_told c.held (named_grammar command)) g) where
     on : (P : GrammarValue → Type 0) → P g → OnGrammar P l.bytes
     on P p = record { grammar = g; file = l.file; fact = p }
 
@@ -174,10 +166,6 @@ module _ (words : List (List ℕ)) (c : Change) (command : Command) (are : IsCom
 
       by_refusal : IsUntouched c.taking → (s : Status) → IsRefusal (FindsIn command g second) s
           → IsOutcome words c s
-      by_refusal t Done r = absurd r
-      by_refusal t No r = absurd r
-      by_refusal t Usage r = absurd r
-      by_refusal t (GrammarRefused word line cause) r = absurd r
       by_refusal t (FormRefused word cause) r =
           (behind (no_form word cause) (on (λ h. FindsIn command h second (no_form word cause)) r), t)
       by_refusal t (LexiconRefused word cause) r =
@@ -186,13 +174,12 @@ module _ (words : List (List ℕ)) (c : Change) (command : Command) (are : IsCom
           (r.0, behind (no_answer line cause) (on (λ h. FindsIn command h second (no_answer line cause)) r.1), t)
       by_refusal t (Budget entry stage) r =
           (behind (over_budget entry stage) (on (λ h. FindsIn command h second (over_budget entry stage)) r), t)
-      by_refusal t (ReadFault word) r = absurd r
-      by_refusal t WriteFault r = absurd r
       by_refusal t NoMemory r = ((command, are), inl (nothing_taken c.taking t))
       by_refusal t (RowsRefused word row cause) r =
           (r.0, behind (no_rows row cause) (on (λ h. FindsIn command h second (no_rows row cause)) r.1), t)
       by_refusal t (TooLong word) r =
           (inr (behind (long_second word) (on (λ h. FindsIn command h second (long_second word)) r)), t)
+      by_refusal t other r = absurd r
 
       -- ---- from writing
 
@@ -234,37 +221,19 @@ module _ (words : List (List ℕ)) (c : Change) (command : Command) (are : IsCom
         is_ready f,
         written IsResult (λ text. c.taking.new ≡ append_if_seen c.taking.old text) e.text e.is e.taken,
       )
-      by_end f No e = absurd e
-      by_end f Usage e = absurd e
-      by_end f (GrammarRefused word line cause) e = absurd e
-      by_end f (FormRefused word cause) e = absurd e
-      by_end f (LexiconRefused word cause) e = absurd e
-      by_end f (AnswerRefused word line cause) e = absurd e
-      by_end f (Budget entry stage) e = absurd e
-      by_end f (ReadFault word) e = absurd e
       by_end f WriteFault e = (is_ready f, part (plain_part e.0), e.1)
       by_end f NoMemory e = ((command, are), memory (IsResult command g second) plain_part e)
-      by_end f (RowsRefused word row cause) e = absurd e
-      by_end f (TooLong word) e = absurd e
+      by_end f other e = absurd e
 
       by_no_end : FindsIn command g second ready → (s : Status) → IsNoEnd (IsNoResult command g second) c.taking s
           → IsOutcome words c s
-      by_no_end f Done e = absurd e
       by_no_end f No e = (
         is_ready f,
         written IsNoResult (λ text. c.taking.new ≡ append_if_seen c.taking.old text) e.text e.is e.taken,
       )
-      by_no_end f Usage e = absurd e
-      by_no_end f (GrammarRefused word line cause) e = absurd e
-      by_no_end f (FormRefused word cause) e = absurd e
-      by_no_end f (LexiconRefused word cause) e = absurd e
-      by_no_end f (AnswerRefused word line cause) e = absurd e
-      by_no_end f (Budget entry stage) e = absurd e
-      by_no_end f (ReadFault word) e = absurd e
       by_no_end f WriteFault e = (is_ready f, part (no_part e.0), e.1)
       by_no_end f NoMemory e = ((command, are), memory (IsNoResult command g second) no_part e)
-      by_no_end f (RowsRefused word row cause) e = absurd e
-      by_no_end f (TooLong word) e = absurd e
+      by_no_end f other e = absurd e
 
       by_step : (s : Status) → IsStep (FindsIn command g second) (IsResult command g second) c.taking s
           → IsOutcome words c s

@@ -19,19 +19,14 @@ use Rattle.otp_tool.proofs.OutcomeLemmas.{long_held, some_held, some_second}
 
 module _ (P Q : Finding → Type 0) (weaker : (x : Finding) → P x → Q x) where
   pub refusal_weaker : (s : Status) → IsRefusal P s → IsRefusal Q s
-  refusal_weaker Done r = absurd r
-  refusal_weaker No r = absurd r
-  refusal_weaker Usage r = absurd r
-  refusal_weaker (GrammarRefused word line cause) r = absurd r
   refusal_weaker (FormRefused word cause) r = weaker (no_form word cause) r
   refusal_weaker (LexiconRefused word cause) r = (r.0, weaker (no_lexicon cause) r.1)
   refusal_weaker (AnswerRefused word line cause) r = (r.0, weaker (no_answer line cause) r.1)
   refusal_weaker (Budget entry stage) r = weaker (over_budget entry stage) r
-  refusal_weaker (ReadFault word) r = absurd r
-  refusal_weaker WriteFault r = absurd r
   refusal_weaker NoMemory r = tt
   refusal_weaker (RowsRefused word row cause) r = (r.0, weaker (no_rows row cause) r.1)
   refusal_weaker (TooLong word) r = weaker (long_second word) r
+  refusal_weaker other r = absurd r
 
 -- ---- answers
 
@@ -111,14 +106,6 @@ module _ (reaches : Type 0) (finds : List ℕ → Finding → Type 0) (writes : 
     pub second_refused : (s : Status)
         → IsSecondRefusal file (c.held file.name) (c.faults_before file.name) (c.faults_after file.name) s
         → IsWork (Some file) reaches finds writes c s
-    second_refused Done r = absurd r
-    second_refused No r = absurd r
-    second_refused Usage r = absurd r
-    second_refused (GrammarRefused word line cause) r = absurd r
-    second_refused (FormRefused word cause) r = absurd r
-    second_refused (LexiconRefused word cause) r = absurd r
-    second_refused (AnswerRefused word line cause) r = absurd r
-    second_refused (Budget entry stage) r = absurd r
     second_refused (ReadFault word) r = inl (record {
       file = file;
       is_second = refl;
@@ -127,11 +114,9 @@ module _ (reaches : Type 0) (finds : List ℕ → Finding → Type 0) (writes : 
       answer = ap ReadFault r.0;
       untouched = untouched;
     })
-    second_refused WriteFault r = absurd r
     second_refused NoMemory r =
         let b = some_held (c.held file.name) in
         inr (record { bytes = b.0; holds = b.1; step = inl (tt, untouched) })
-    second_refused (RowsRefused word row cause) r = absurd r
     second_refused (TooLong word) r =
         let l = long_held (c.held file.name) file.limit r.1 in
         inr (record {
@@ -139,3 +124,4 @@ module _ (reaches : Type 0) (finds : List ℕ → Finding → Type 0) (writes : 
           holds = l.holds;
           step = inl (subst (λ (w : ℕ). finds l.bytes (long_second w)) (sym r.0) (long l.bytes l.long), untouched);
         })
+    second_refused other r = absurd r

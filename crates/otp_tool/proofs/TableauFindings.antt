@@ -36,16 +36,13 @@ module _ (g : GrammarValue) (form : List ℕ) (budget : ℕ) (bytes : List ℕ) 
 
   tableau_steps : (x : Finding) → FindsForTableau g form budget bytes x
       → RefusesForm g form x ⊎ (Long x ⊎ (NoRows x ⊎ WithRows x))
-  tableau_steps long_file a = absurd a
-  tableau_steps (no_grammar line cause) a = absurd a
   tableau_steps (no_form word cause) a = inl (form_refused g form word cause a)
   tableau_steps (long_second word) a = inr (inl (ap long_second a.0, a.1))
   tableau_steps (no_rows row cause) a = inr (inr (inl (record { value = (row, cause); is = refl; fact = a })))
-  tableau_steps (no_lexicon cause) a = absurd a
-  tableau_steps (no_answer line cause) a = absurd a
   tableau_steps (over_budget entry stage) a =
       inr (inr (inr (inl (record { value = stage; is = ap (λ e. over_budget e stage) a.0; fact = a.1 }))))
   tableau_steps ready a = inr (inr (inr (inr (refl, a))))
+  tableau_steps other a = absurd a
 
   -- what is left of a step with rows
   over_of : (x : Finding) → OverRows x → Over g form budget x

@@ -11,7 +11,7 @@ use Rattle.cert_check.specs.Seen.{AreAskedAlike}
 use Rattle.ranked_gen.specs.Budgets.{AreAllWithin, IsFirstOver}
 use Rattle.form_reader.specs.Forms.{IsReadAs}
 use Rattle.command_line.specs.Commands.{Command, IsCommand, canon, score, generate, show, tableau, once, comprehend}
-use Rattle.command_line.specs.Commands.{check, sample, grammar_file_name as file_of}
+use Rattle.command_line.specs.Commands.{check, sample, named_grammar}
 use Rattle.command_line.specs.Words.{words_of}
 use Rattle.otp_tool.specs.Asked.{TellsProblem, constraint_of, problem_of}
 use Rattle.otp_tool.specs.Files.{IsHeld, grammar_told}
@@ -78,7 +78,7 @@ told_by_finding words held command finding are finds = record {
 
 -- a command finds one thing in the grammar of a file that is told
 told_in : (words : List (List ℕ)) (held : List ℕ → Option (List ℕ)) (command : Command) (file bytes : List ℕ)
-    (g : GrammarValue) (finding : Finding) → IsCommand words command → file_of command ≡ Some file
+    (g : GrammarValue) (finding : Finding) → IsCommand words command → named_grammar command ≡ Some file
     → held file ≡ Some bytes → IsFileOf bytes g
     → ((second : List ℕ) (other : Finding) → FindsIn command g second other → other ≡ finding)
     → IsTold words held finding
@@ -95,7 +95,7 @@ told_in words held command file bytes g finding are named told is only = record 
 
 module _ (words : List (String Global)) (held : List ℕ → Option (List ℕ)) (file form : List ℕ) (budget : ℕ)
     (g : GrammarValue) (u : List (List Sym)) (tells : TellsProblem held file form g u) (command : Command)
-    (are : IsCommand (words_of words) command) (named : file_of command ≡ Some file)
+    (are : IsCommand (words_of words) command) (named : named_grammar command ≡ Some file)
     (finds : (second : List ℕ) (x : Finding) → FindsIn command g second x → FindsForAnswer g form budget x) where
   name : String Global
   name = some_name words command are

@@ -38,27 +38,13 @@ has_verdict verdict g bytes text t = record {
 
 says_done : (command : Command) (g : GrammarValue) (second text : List ℕ) → Checks command
     → IsResult command g second text → HasVerdict g second Yes
-says_done (canon name) g second text c r = absurd c
-says_done (score name word) g second text c r = absurd c
-says_done (generate name form budget) g second text c r = absurd c
-says_done (show name form budget) g second text c r = absurd c
-says_done (tableau name form rows budget) g second text c r = absurd c
-says_done (once name form budget) g second text c r = absurd c
-says_done (comprehend name lexicon surface budget) g second text c r = absurd c
-says_done (sample n) g second text c r = absurd c
 says_done (check name answer) g second text c r = has_verdict Yes g second text r
+says_done other g second text c r = absurd c
 
 says_no : (command : Command) (g : GrammarValue) (second text : List ℕ) → Checks command
     → IsNoResult command g second text → (fault : Fault) × HasVerdict g second (Not fault)
-says_no (canon name) g second text c r = absurd c
-says_no (score name word) g second text c r = absurd c
-says_no (generate name form budget) g second text c r = absurd c
-says_no (show name form budget) g second text c r = absurd c
-says_no (tableau name form rows budget) g second text c r = absurd c
-says_no (once name form budget) g second text c r = absurd c
-says_no (comprehend name lexicon surface budget) g second text c r = absurd c
-says_no (sample n) g second text c r = absurd c
 says_no (check name answer) g second text c r = (r.0, has_verdict (Not r.0) g second text r.1)
+says_no other g second text c r = absurd c
 
 module _ (words : List (List ℕ)) (c : Change) (verdict : Verdict) (told : IsToldVerdict words c.held verdict) where
   abbrev checking : Command
@@ -106,14 +92,6 @@ settled words c s o verdict told unread unwritten =
 -- an answer that is judged is one that is read
 is_ready : (command : Command) (g : GrammarValue) (second : List ℕ) (verdict : Verdict) → Checks command
     → IsJudged g second verdict → FindsIn command g second ready
-is_ready (canon name) g second verdict c j = absurd c
-is_ready (score name word) g second verdict c j = absurd c
-is_ready (generate name form budget) g second verdict c j = absurd c
-is_ready (show name form budget) g second verdict c j = absurd c
-is_ready (tableau name form rows budget) g second verdict c j = absurd c
-is_ready (once name form budget) g second verdict c j = absurd c
-is_ready (comprehend name lexicon surface budget) g second verdict c j = absurd c
-is_ready (sample n) g second verdict c j = absurd c
 is_ready (check name answer) g second verdict c j = (
   answer_value j.reading.shape j.answer,
   record {
@@ -123,6 +101,7 @@ is_ready (check name answer) g second verdict c j = (
     is = j.reading.read;
   },
 )
+is_ready other g second verdict c j = absurd c
 
 -- bytes have no verdict of another status than one on an answer that they are read as
 one_status : (g : GrammarValue) (bytes : List ℕ) (verdict other : Verdict) → IsJudged g bytes verdict

@@ -1,7 +1,7 @@
 -- The files that commands name, and what a shelf may hold under their names.
 use Rattle.std.specs.Prelude.{◌≡◌, ℕ, List, Option, Some, None, option_map}
 use Rattle.otp_tool.specs.Samples.{sample_grammar}
-use Rattle.command_line.specs.Commands.{Command, canon, score, generate, show, tableau, once, comprehend, check, sample, grammar_file_name}
+use Rattle.command_line.specs.Commands.{Command, canon, score, generate, show, tableau, once, comprehend, check, sample, named_grammar}
 
 pub record NamedFile : Type 0 where
   -- the number of the word that names it
@@ -12,7 +12,7 @@ pub record NamedFile : Type 0 where
 
 -- the file of a command's grammar, if it names one
 abbrev pub grammar_file : Command → Option NamedFile
-grammar_file command = option_map (λ name. record { word = 1; name = name; limit = 65536 }) (grammar_file_name command)
+grammar_file command = option_map (λ name. record { word = 1; name = name; limit = 65536 }) (named_grammar command)
 
 abbrev pub rows_file : List ℕ → NamedFile
 rows_file name = record { word = 3; name = name; limit = 4194304 }

@@ -4,7 +4,7 @@ use Rattle.outside.specs.Faults.{Rose}
 use Rattle.grammar_reader.specs.Values.{GrammarValue}
 use Rattle.cert_check.specs.declared.fault.Verdict.{Verdict}
 use Rattle.cert_check.specs.declared.fault.Verdict.TheVariants.{Yes, No as Not}
-use Rattle.command_line.specs.Commands.{Command, IsCommand, canon, score, generate, show, tableau, once, comprehend, check, sample, grammar_file_name as file_of}
+use Rattle.command_line.specs.Commands.{Command, IsCommand, canon, score, generate, show, tableau, once, comprehend, check, sample, named_grammar}
 use Rattle.command_line.specs.declared.status.Status.{Status}
 use Rattle.command_line.specs.declared.status.Status.TheVariants.{Done, No, Usage, GrammarRefused, FormRefused, LexiconRefused, AnswerRefused, Budget, ReadFault, WriteFault, NoMemory, RowsRefused, TooLong}
 use Rattle.otp_tool.specs.Answers.{HasVerdict}
@@ -17,7 +17,7 @@ use Rattle.otp_tool.specs.Findings.{Finding, Finds, ReachesSecondFile, long_file
 pub record MayRead (words : List (List ℕ)) (held : List ℕ
     → Option (List ℕ)) (command : Command) (bytes second : List ℕ) : Type 0 where
   pub are : IsCommand words command
-  pub holds : IsHeld (grammar_told held (file_of command)) bytes
+  pub holds : IsHeld (grammar_told held (named_grammar command)) bytes
   pub holds_second : IsSecondHeld held (second_file command) second
 
 -- the words are a command, which finds this in bytes that the shelf may hold
@@ -50,7 +50,7 @@ pub record IsWrittenBehind (words : List (List ℕ)) (held : List ℕ → Option
 -- a command accepts all that stands before its second file
 pub record HasReached (held : List ℕ → Option (List ℕ)) (command : Command) : Type 0 where
   pub bytes : List ℕ
-  pub holds : IsHeld (grammar_told held (file_of command)) bytes
+  pub holds : IsHeld (grammar_told held (named_grammar command)) bytes
   pub accepts : OnGrammar (ReachesSecondFile command) bytes
 
 -- the file is that of a command's grammar, or its second one, and the command comes to load it
@@ -77,7 +77,7 @@ IsTooLong words held word = ((word ≡ 1) × IsBehind words held long_file) ⊎ 
 abbrev pub IsUnnamed : List (List ℕ) → List ℕ → Type 0
 IsUnnamed words name =
     (command : Command) → IsCommand words command
-    → (¬ (file_of command ≡ Some name)) × ((file : NamedFile) → second_file command ≡ Some file → ¬ (file.name ≡ name))
+    → (¬ (named_grammar command ≡ Some name)) × ((file : NamedFile) → second_file command ≡ Some file → ¬ (file.name ≡ name))
 
 -- the status that answers a finding
 abbrev pub answer_to : Finding → Status

@@ -5,9 +5,10 @@ ghost use Rattle.timeline_text.specs.declared.form_err.FormErr.{FormErr};
 ghost use Rattle.grammar_reader.specs.declared.grammar_err.GrammarCause.{GrammarCause};
 ghost use Rattle.grammar_reader.specs.Grammars.{value_of};
 ghost use Rattle.cert_check.specs.declared.fault.Verdict.{Verdict};
-ghost use Rattle.command_line.specs.Commands.{IsCommand, IsNoCommand, grammar_file_name as file_of};
+ghost use Rattle.command_line.specs.Commands.{IsCommand, IsNoCommand, named_grammar};
 ghost use Rattle.command_line.specs.Words.{words_of};
 ghost use Rattle.command_line.specs.Seen.{command_seen};
+ghost use Rattle.otp_tool.specs.Endings.{IsStatusOf};
 ghost use Rattle.otp_tool.specs.Findings.{Finding, no_grammar, no_form, no_rows, no_lexicon, no_answer, over_budget, ready};
 ghost use Rattle.otp_tool.specs.Outcomes.{HasReadFault, IsBeforeWriting, IsBehind, IsTold, IsToldVerdict, IsTooLong, IsUnnamed, IsWrittenBehind, Stands, answer_to, status_of};
 ghost use Rattle.otp_tool.specs.Results.{IsNoResult, IsResult, IsAnyResult};
@@ -32,8 +33,8 @@ use std::alloc::Global;
 
 /// The name of the file of a command's grammar. `sample` names none.
 fn grammar_name<'a>(command: &Command<'a>) -> Option<&'a str>
-    ensures { MatchOption result (file_of (command_seen command.now) ≡ None)
-        (λ name. file_of (command_seen command.now) ≡ Some name.now) }
+    ensures { MatchOption result (named_grammar (command_seen command.now) ≡ None)
+        (λ name. named_grammar (command_seen command.now) ≡ Some name.now) }
 {
     match *command {
         Command::Canon { grammar } => Some(grammar),
@@ -56,15 +57,15 @@ fn grammar_of<F: Shelf>(
 ) -> Result<Grammar, Status>
     ensures ok { IfOk result
         (λ grammar.
-        IsLoaded (grammar_told (F.held shelf.old) (file_of (command_seen command.now)))
+        IsLoaded (grammar_told (F.held shelf.old) (named_grammar (command_seen command.now)))
         (value_of grammar)) }
     ensures err { IfErr result
-        (IsLoadRefusal (grammar_told (F.held shelf.old) (file_of (command_seen command.now)))
-        (faults_of (F.faults shelf.old) (file_of (command_seen command.now)))
-        (faults_of (F.faults shelf.new) (file_of (command_seen command.now)))) }
+        (IsLoadRefusal (grammar_told (F.held shelf.old) (named_grammar (command_seen command.now)))
+        (faults_of (F.faults shelf.old) (named_grammar (command_seen command.now)))
+        (faults_of (F.faults shelf.new) (named_grammar (command_seen command.now)))) }
     ensures held { (other : List ℕ) → F.held shelf.new other ≡ F.held shelf.old other }
     ensures never_falls { (other : List ℕ) → F.faults shelf.old other ≤ F.faults shelf.new other }
-    ensures others { (other : List ℕ) → ¬ (file_of (command_seen command.now) ≡ Some other)
+    ensures others { (other : List ℕ) → ¬ (named_grammar (command_seen command.now) ≡ Some other)
         → F.faults shelf.new other ≡ F.faults shelf.old other }
 {
     match grammar_name(command) {
@@ -128,7 +129,7 @@ fn execute<F: Shelf, O: Sink>(
         (change_of F.Shelf O.Sink shelf.old shelf.new sink.old sink.new) result }
     ensures held { (other : List ℕ) → F.held shelf.new other ≡ F.held shelf.old other }
     ensures never_falls { (other : List ℕ) → F.faults shelf.old other ≤ F.faults shelf.new other }
-    ensures others { (other : List ℕ) → ¬ (file_of (command_seen command.now) ≡ Some other)
+    ensures others { (other : List ℕ) → ¬ (named_grammar (command_seen command.now) ≡ Some other)
         → ((file : NamedFile) → second_file (command_seen command.now) ≡ Some file
         → ¬ (file.name ≡ other))
         → F.faults shelf.new other ≡ F.faults shelf.old other }
@@ -137,6 +138,27 @@ fn execute<F: Shelf, O: Sink>(
     match grammar_of(alloc, command, shelf) {
         Ok(grammar) => perform(alloc, command, &grammar, shelf, sink),
         Err(status) => status,
+    }
+}
+
+/// Does what words ask for. All that `run` promises of its status is one fact here.
+pub(crate) fn respond<F: Shelf, O: Sink>(
+    alloc: Global,
+    words: &[String],
+    shelf: &mut F,
+    sink: &mut O,
+) -> Status
+    ensures status { IsStatusOf (words_of words.now)
+        (change_of F.Shelf O.Sink shelf.old shelf.new sink.old sink.new) result }
+    ensures held { (other : List ℕ) → F.held shelf.new other ≡ F.held shelf.old other }
+    ensures never_falls { (other : List ℕ) → F.faults shelf.old other ≤ F.faults shelf.new other }
+    ensures others { (other : List ℕ) → IsUnnamed (words_of words.now) other
+        → F.faults shelf.new other ≡ F.faults shelf.old other }
+    ensures sink_never_falls { O.faults sink.old ≤ O.faults sink.new }
+{
+    match command_of(words) {
+        Some(command) => execute(alloc, &command, shelf, sink),
+        None => Status::Usage,
     }
 }
 
@@ -256,8 +278,5 @@ pub fn run<F: Shelf, O: Sink>(
         → F.faults shelf.new other ≡ F.faults shelf.old other }
     ensures sink_never_falls { O.faults sink.old ≤ O.faults sink.new }
 {
-    match command_of(words) {
-        Some(command) => execute(alloc, &command, shelf, sink),
-        None => Status::Usage,
-    }
+    respond(alloc, words, shelf, sink)
 }

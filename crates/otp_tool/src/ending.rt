@@ -4,7 +4,7 @@ ghost use Rattle.otp_tool.specs.Endings.{IsEnding};
 ghost use Rattle.otp_tool.specs.Outcomes.{IsUnnamed};
 ghost use Rattle.otp_tool.specs.Steps.{change_of};
 
-use crate::commands::run;
+use crate::commands::respond;
 use command_line::put_status;
 use outside::{Shelf, Sink};
 use std::alloc::Global;
@@ -27,7 +27,7 @@ pub fn run_to_end<F: Shelf, O: Sink, E: Sink>(
         → F.faults shelf.new other ≡ F.faults shelf.old other }
     ensures sink_never_falls { O.faults sink.old ≤ O.faults sink.new }
 {
-    let status = run(alloc, words, shelf, sink);
+    let status = respond(alloc, words, shelf, sink);
     let _written = put_status(errors, &status);
     status.number()
 }

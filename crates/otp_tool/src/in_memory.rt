@@ -5,7 +5,7 @@ ghost use Rattle.otp_tool.specs.Endings.{IsStatusOf, change_in_memory};
 ghost use Rattle.otp_tool.specs.Findings.{Finding, ready};
 ghost use Rattle.otp_tool.specs.Outcomes.{IsTold, answer_to};
 
-use crate::commands::run;
+use crate::commands::respond;
 use command_line::Status;
 use outside::{SafeShelf, SafeSink};
 use std::alloc::Global;
@@ -30,5 +30,5 @@ pub fn run_in_memory(
         → IsTold (words_of words.now) (visible_text shelf.old) finding
         → (result ≡ answer_to finding) ⊎ (result ≡ Status.NoMemory) }
 {
-    run(alloc, words, shelf, sink)
+    respond(alloc, words, shelf, sink)
 }

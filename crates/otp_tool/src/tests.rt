@@ -30,37 +30,17 @@ const ENTRIES: &str =
 {name = 'two', form = '[ | ]'}]";
 
 const STAGES: &str = "answer 1
-form [ ]
-counts 0 1 0
-example [- ]-
-stage 0 6
+form empty
+counts 0
+example empty
+stage 0 2
 node 0/-/ 0
 node 0/+/ 0
-node 1/-/ 0
-node 1/+/ 0
-node 2/-/ 0
-node 2/+/ 0
-stage 1 6
-node 0/-/ 0
-node 0/+/ 1
-node 1/-/ 0
-node 1/+/ 1
-node 2/-/ 0
-node 2/+/ 1
-stage 2 3
-node 0/-/. 1
-node 1/-/u 1
-node 2/-/. 0
-stage 3 3
-node 0/-/.. 0
-node 1/-/u. 0
-node 2/-/.. 0
-automaton 3
-state 0
-arc 1 [-
-state 1
-arc 2 ]-
-state 2 final
+stage 1 2
+node 0/-/. 0
+node 0/+/u 1
+automaton 1
+state 0 final
 end
 ";
 
@@ -156,14 +136,14 @@ fn each_command_writes_its_text(rt: HostRuntime) -> Result<(), Fail> {
     let cases = [
         (LEAST, "canon/g", LEAST),
         (LEAST, "score/g/-[ [| ]]", "counts 2 0 1\n"),
-        (LEAST, "generate/g/[ ]/6", STAGES),
+        (ADDED, "generate/g/empty/2", STAGES),
         (LEAST, "show/g/[ ]/6", "counts 0 1 0\nexample [- ]-\n"),
         (LEAST, "once/g/[ ]/8", SINGLE_PASS),
         (LEAST, "tableau/g/[ ]/r/6", TABLEAU),
         (ADDED, "comprehend/g/l/[ ]", HITS),
         (ADDED, "comprehend/g/l/[ | ]/20", TWO_OF_ONE),
         (LEAST, "comprehend/g/l/[ ]/20", "hits 0\n"),
-        (LEAST, "check/g/a", "Yes\n"),
+        (ADDED, "check/g/a", "Yes\n"),
         (LEAST, "sample/1", SAMPLE_OF_ONE),
     ];
     for (grammar, words, text) in cases {
@@ -180,7 +160,7 @@ fn verdict_on_an_altered_answer(rt: HostRuntime) -> Result<(), Fail> {
     let (status, written) = outcome(rt.alloc(), LEAST, "check/g/b")?;
     assert_eq!(rt; status, Status::No);
     assert_eq!(rt; written.as_str(), "No stages 1 4\n");
-    let (status, written) = outcome(rt.alloc(), ADDED, "check/g/a")?;
+    let (status, written) = outcome(rt.alloc(), LEAST, "check/g/a")?;
     let cause = AnswerCause::BadLine;
     let (word, line) = (2, 3);
     assert_eq!(rt; status, Status::AnswerRefused { word, line, cause });
@@ -247,7 +227,7 @@ fn failing_loads_are_read_faults(rt: HostRuntime) -> Result<(), Fail> {
         ("comprehend/g/l/[ ]", 2, 2),
         ("check/g/a", 2, 2),
     ] {
-        let mut shelf = shelf(alloc, LEAST, [load].to_vec(alloc)?)?;
+        let mut shelf = shelf(alloc, ADDED, [load].to_vec(alloc)?)?;
         let mut sink = SafeSink::new(alloc);
         let words = words(alloc, text)?;
         let fault = Status::ReadFault { word };

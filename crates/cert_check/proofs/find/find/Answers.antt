@@ -1,74 +1,41 @@
-use Rattle.std.proofs.Common.{◌≡◌, ℕ, ◌+◌, ◌-◌, ◌/◌, ◌<◌, Some, List, length, get_or, sym, ap, ◌∙◌, arith}
-use Rattle.std.specs.declared.cmp.Ordering.TheVariants.{Less, Greater, Equal}
-use Rattle.std.proofs.lemmas.List.{length-map, get_or-map}
-use Rattle.std.proofs.lemmas.Option.{slice_get-get_or}
-use Rattle.tier_core.specs.Kinds.{PrefixKind, kind_order}
+use Rattle.std.proofs.Common.{ℕ, ◌+◌, ◌-◌, ◌/◌, ◌<◌, length, sym, ◌∙◌, arith}
+use Rattle.std.proofs.lemmas.List.{length-map}
 use Rattle.tier_core.specs.KindShapes.{kind_in}
 use Rattle.answer_text.specs.declared.stage.Node.{Node}
 use Rattle.cert_check.specs.Searches.{told_in}
-use Rattle.tier_core.proofs.KindTies.{same_kind}
-use Rattle.cert_check.proofs.Searches.{all_below, all_above, not_there}
+use Rattle.cert_check.proofs.Searches.{before_middle, behind_middle, at_middle, not_there}
 use Rattle.cert_check.proofs.find.find.Goals as goal
 
 pub loop-low-preserved-in-Less : goal.loop-low-preserved-in-Less
 loop-low-preserved-in-Less c =
-    let shape = c.args.shape.now in
-    let nodes : List Node = c.args.nodes.now in
-    let kinds = told_in shape c.args.stage nodes in
-    let key = kind_in shape c.args.stage c.args.key.now in
     let middle : ℕ = c.loop-low.low + (c.loop-low.high - c.loop-low.low) / 2 in
-    let inside : middle < length nodes = omega (arith, c.loop-low-test.true, c.loop-low.invariant.high) in
-    let size : length kinds ≡ length nodes = length-map nodes (λ (node : Node). kind_in shape c.args.stage node.kind) in
-    let here : get_or kinds middle key ≡ kind_in shape c.args.stage
-    (get_or nodes middle c.index-nodes-middle.result).kind = get_or-map
-    (λ (node : Node). kind_in shape c.args.stage node.kind) nodes middle c.index-nodes-middle.result key inside in
-    let order : kind_order (get_or kinds middle key) key ≡ Less = ap (λ k. kind_order k key) here
-    ∙ sym c.kind_cmp.ensures ∙ c.in-Less.is in
+    let inside : middle < length c.args.nodes.now = omega (arith, c.loop-low-test.true, c.loop-low.invariant.high) in
     record {
       low = omega (arith, c.loop-low-test.true);
       high = c.loop-low.invariant.high;
-      below = all_below kinds key c.requires.ascending middle (omega (arith, inside, size)) order;
+      below = before_middle c.args.shape.now c.args.stage c.args.nodes.now c.args.key.now c.requires.ascending middle
+          c.index-nodes-middle.result inside (sym c.kind_cmp.ensures ∙ c.in-Less.is);
       above = c.loop-low.invariant.above;
     }
 
 pub loop-low-preserved : goal.loop-low-preserved
 loop-low-preserved c =
-    let shape = c.args.shape.now in
-    let nodes : List Node = c.args.nodes.now in
-    let kinds = told_in shape c.args.stage nodes in
-    let key = kind_in shape c.args.stage c.args.key.now in
     let middle : ℕ = c.loop-low.low + (c.loop-low.high - c.loop-low.low) / 2 in
-    let inside : middle < length nodes = omega (arith, c.loop-low-test.true, c.loop-low.invariant.high) in
-    let size : length kinds ≡ length nodes = length-map nodes (λ (node : Node). kind_in shape c.args.stage node.kind) in
-    let here : get_or kinds middle key ≡ kind_in shape c.args.stage
-    (get_or nodes middle c.index-nodes-middle.result).kind = get_or-map
-    (λ (node : Node). kind_in shape c.args.stage node.kind) nodes middle c.index-nodes-middle.result key inside in
-    let order : kind_order (get_or kinds middle key) key ≡ Greater = ap (λ k. kind_order k key) here
-    ∙ sym c.kind_cmp.ensures ∙ c.in-Greater.is in
+    let inside : middle < length c.args.nodes.now = omega (arith, c.loop-low-test.true, c.loop-low.invariant.high) in
     record {
       low = omega (arith, c.loop-low-test.true);
       high = omega (arith, inside);
       below = c.loop-low.invariant.below;
-      above = λ i h k. all_above kinds key c.requires.ascending middle (omega (arith, inside, size)) order i h
-          (omega (arith, k, size));
+      above = behind_middle c.args.shape.now c.args.stage c.args.nodes.now c.args.key.now c.requires.ascending middle
+          c.index-nodes-middle.result inside (sym c.kind_cmp.ensures ∙ c.in-Greater.is);
     }
 
 pub returns-in-Equal : goal.returns-in-Equal
 returns-in-Equal c =
-    let shape = c.args.shape.now in
-    let nodes : List Node = c.args.nodes.now in
-    let kinds = told_in shape c.args.stage nodes in
-    let key = kind_in shape c.args.stage c.args.key.now in
     let middle : ℕ = c.loop-low.low + (c.loop-low.high - c.loop-low.low) / 2 in
-    let inside : middle < length nodes = omega (arith, c.loop-low-test.true, c.loop-low.invariant.high) in
-    let size : length kinds ≡ length nodes = length-map nodes (λ (node : Node). kind_in shape c.args.stage node.kind) in
-    let here : get_or kinds middle key ≡ kind_in shape c.args.stage
-    (get_or nodes middle c.index-nodes-middle.result).kind = get_or-map
-    (λ (node : Node). kind_in shape c.args.stage node.kind) nodes middle c.index-nodes-middle.result key inside in
-    let order : kind_order (get_or kinds middle key) key ≡ Equal = ap (λ k. kind_order k key) here
-    ∙ sym c.kind_cmp.ensures ∙ c.in-Equal.is in
-    slice_get-get_or kinds middle key (omega (arith, inside, size))
-    ∙ ap (λ (k : PrefixKind). Some k) (same_kind (get_or kinds middle key) key order)
+    let inside : middle < length c.args.nodes.now = omega (arith, c.loop-low-test.true, c.loop-low.invariant.high) in
+    at_middle c.args.shape.now c.args.stage c.args.nodes.now c.args.key.now c.requires.ascending middle
+    c.index-nodes-middle.result inside (sym c.kind_cmp.ensures ∙ c.in-Equal.is)
 
 pub returns : goal.returns
 returns c =

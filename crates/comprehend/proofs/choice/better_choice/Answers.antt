@@ -1,7 +1,5 @@
-use Rattle.std.proofs.Common.{◌≡◌, ℕ, List, refl, sym, ◌∙◌, arith, subst, IsTrue}
+use Rattle.std.proofs.Common.{ℕ, refl, ◌∙◌, subst}
 use Rattle.std.proofs.lemmas.List.{get_or_default}
-use Rattle.tier_core.specs.declared.sym.Sym.{Sym}
-use Rattle.tier_core.specs.Classes.{has}
 use Rattle.comprehend.specs.declared.choice.Choice.{Choice}
 use Rattle.comprehend.specs.Searches.{no_distance, IsLeft}
 use Rattle.comprehend.specs.Choices.{LeadsToCell}

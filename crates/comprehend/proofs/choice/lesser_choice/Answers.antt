@@ -1,7 +1,4 @@
-use Rattle.std.proofs.Common.{◌≡◌, false, List, subst, inr}
-use Rattle.std.specs.Ordering.{is_gt}
-use Rattle.tier_core.specs.declared.sym.Sym.{Sym}
-use Rattle.tier_core.specs.Orders.{column_cmp}
+use Rattle.std.proofs.Common.{inr}
 use Rattle.first_paths.proofs.Order.{column_itself, not_before}
 use Rattle.comprehend.proofs.choice.lesser_choice.Goals as goal
 

@@ -1,16 +1,27 @@
-use Rattle.std.proofs.Common.{◌≡◌, ◌<◌, ◌*◌, ℕ, List, None, [], length, get_or, ◌/◌, ◌%◌, sym, ap, ◌∙◌, subst, arith}
+use Rattle.std.proofs.Common.{◌≡◌, ◌<◌, ℕ, List, Option, None, length, get_or, ◌/◌, ◌%◌, sym, ◌∙◌, subst, arith}
 use Rattle.std.specs.Prelude.{All}
 use Rattle.std.proofs.lemmas.List.Elements.{Contains-get_or}
+use Rattle.tier_core.specs.declared.class.Class.{Class}
 use Rattle.tier_core.specs.Classes.{sets_of}
 use Rattle.answer_text.specs.declared.automaton.ArcLine.{ArcLine}
 use Rattle.answer_text.specs.declared.automaton.StateLine.{StateLine}
 use Rattle.answer_text.specs.Right.{numbers_of}
+use Rattle.comprehend.specs.declared.choice.Choice.{Choice}
 use Rattle.comprehend.specs.Choices.{IsBetter, LeadsByOne}
 use Rattle.comprehend.specs.Steps.{arcs_at}
 use Rattle.comprehend.proofs.Cells.{cell_of, place_below, state_of}
 use Rattle.comprehend.proofs.Levels.{arcs_read}
 use Rattle.comprehend.proofs.Choosing.{chosen, none_chosen}
 use Rattle.comprehend.proofs.choose.choose.Goals as goal
+
+-- the best choice of the arcs that are read is that of the state's arcs
+best_at : (states : List StateLine) (tests : List Class) (left : List ℕ) (n s p : ℕ) {numbers : List ℕ}
+    {arcs : List ArcLine} {result : Option Choice} → numbers ≡ numbers_of states → arcs ≡ arcs_at states s
+    → IsBetter (LeadsByOne numbers tests p left n arcs) None result
+    → IsBetter (LeadsByOne (numbers_of states) tests p left n (arcs_at states s)) None result
+best_at states tests left n s p {numbers} {arcs} {result} e f best =
+    subst (λ ns. IsBetter (LeadsByOne ns tests p left n (arcs_at states s)) None result) e
+    (subst (λ xs. IsBetter (LeadsByOne numbers tests p left n xs) None result) f best)
 
 pub best_of-requires-clause-widths : goal.best_of-requires-clause-widths
 best_of-requires-clause-widths c =
@@ -35,13 +46,9 @@ unreachable-requires c =
     let p = c.args.from % length tests in
     let inside : s < length states = state_of c.args.from (length states) (length tests) some
     (omega (arith, c.requires.from, c.requires.each)) in
-    let P : List ArcLine → Type 0 = λ xs. IsBetter
-    (LeadsByOne c.args.numbers.now.keys tests p c.args.left.now c.args.n xs) None c.best_of.result in
-    let Q : List ℕ → Type 0 = λ ns. IsBetter
-    (LeadsByOne ns tests p c.args.left.now c.args.n (arcs_at states s)) None c.best_of.result in
-    let best = subst Q c.requires.numbers
-    (subst P (arcs_read states s c.index-states-state.result c.deref.result.now inside c.deref.ensures.value)
-    c.best_of.ensures) in
+    let best = best_at states tests c.args.left.now c.args.n s p c.requires.numbers
+    (arcs_read states s c.index-states-state.result c.deref.result.now inside c.deref.ensures.value)
+    c.best_of.ensures in
     none_chosen states tests c.args.left.now c.args.n c.args.from s p (cell_of c.args.from (length tests) some)
     (place_below c.args.from (length tests) some) c.best_of.result best c.in-None.is c.requires.some
 
@@ -54,12 +61,8 @@ returns c =
     let p = c.args.from % length tests in
     let inside : s < length states = state_of c.args.from (length states) (length tests) some
     (omega (arith, c.requires.from, c.requires.each)) in
-    let P : List ArcLine → Type 0 = λ xs. IsBetter
-    (LeadsByOne c.args.numbers.now.keys tests p c.args.left.now c.args.n xs) None c.best_of.result in
-    let Q : List ℕ → Type 0 = λ ns. IsBetter
-    (LeadsByOne ns tests p c.args.left.now c.args.n (arcs_at states s)) None c.best_of.result in
-    let best = subst Q c.requires.numbers
-    (subst P (arcs_read states s c.index-states-state.result c.deref.result.now inside c.deref.ensures.value)
-    c.best_of.ensures) in
+    let best = best_at states tests c.args.left.now c.args.n s p c.requires.numbers
+    (arcs_read states s c.index-states-state.result c.deref.result.now inside c.deref.ensures.value)
+    c.best_of.ensures in
     chosen states tests c.args.left.now c.args.n c.args.from s p (cell_of c.args.from (length tests) some)
     (place_below c.args.from (length tests) some) c.best_of.result best c.in-Some.choice c.in-Some.is

@@ -1,4 +1,4 @@
-use Rattle.std.proofs.Common.{◌≡◌, ◌<◌, ◌+◌, ◌*◌, ℕ, List, Some, length, sym, ap, ◌∙◌, subst, arith}
+use Rattle.std.proofs.Common.{◌≡◌, ◌↔◌, ◌<◌, ◌+◌, ◌*◌, ℕ, List, Option, Some, length, sym, ap, ◌∙◌, subst, arith}
 use Rattle.std.specs.Prelude.{slice_get}
 use Rattle.std.proofs.lemmas.Option.{slice_get_within}
 use Rattle.std.proofs.lemmas.List.{get_or_default, length-map}
@@ -6,8 +6,8 @@ use Rattle.tier_core.specs.declared.sym.Sym.{Sym}
 use Rattle.tier_core.specs.Orders.{IsFirst}
 use Rattle.answer_text.specs.declared.automaton.StateLine.{StateLine}
 use Rattle.answer_text.specs.Right.{numbers_of}
-use Rattle.comprehend.specs.Searches.{no_distance, IsLeft, ReadsFrom}
-use Rattle.comprehend.specs.Steps.{Goes, IsEndCell, AreSearchable, ReadsAlong}
+use Rattle.comprehend.specs.Searches.{no_distance, ReadsFrom}
+use Rattle.comprehend.specs.Steps.{Goes, IsEndCell, AreSearchable}
 use Rattle.tier_core.specs.declared.class.Class.{Class}
 use Rattle.comprehend.proofs.Cells.{cells_inside}
 use Rattle.comprehend.proofs.Numbers.{once_at}
@@ -26,29 +26,27 @@ first_cell states tests width search state at =
       search.some_test,
     )
 
+-- a place in numbers that are those of the states is that of a state
+numbered : (states : List StateLine) {numbers : List ℕ} {found : Option ℕ} (state : ℕ) → numbers ≡ numbers_of states
+    → found ≡ Some state → ((place : ℕ) → (found ≡ Some place) ↔ (slice_get numbers place ≡ Some 0))
+    → slice_get (numbers_of states) state ≡ Some 0
+numbered states state e is found = ap (λ ns. slice_get ns state) (sym e) ∙ (found state).0 is
+
 pub cell-start-requires : goal.cell-start-requires
 cell-start-requires c =
-    let states = c.args.states.now in
-    let tests = c.args.tests.now in
-    let state = c.in-Some.state in
-    let at : slice_get (numbers_of states) state ≡ Some 0 = ap (λ ns. slice_get ns state) (sym c.in-Ok.ensures)
-    ∙ (c.place_of.ensures state).0 c.in-Some.is in
+    let at = numbered c.args.states.now c.in-Some.state c.in-Ok.ensures c.in-Some.is c.place_of.ensures in
     omega (
       arith,
-      first_cell states tests c.requires.searchable.0 c.requires.searchable.1 state at,
+      first_cell c.args.states.now c.args.tests.now c.requires.searchable.0 c.requires.searchable.1 c.in-Some.state at,
       c.requires.searchable.1.few,
     )
 
 pub index-most-requires : goal.index-most-requires
 index-most-requires c =
-    let states = c.args.states.now in
-    let tests = c.args.tests.now in
-    let state = c.in-Some.state in
-    let at : slice_get (numbers_of states) state ≡ Some 0 = ap (λ ns. slice_get ns state) (sym c.in-Ok.ensures)
-    ∙ (c.place_of.ensures state).0 c.in-Some.is in
+    let at = numbered c.args.states.now c.in-Some.state c.in-Ok.ensures c.in-Some.is c.place_of.ensures in
     omega (
       arith,
-      first_cell states tests c.requires.searchable.0 c.requires.searchable.1 state at,
+      first_cell c.args.states.now c.args.tests.now c.requires.searchable.0 c.requires.searchable.1 c.in-Some.state at,
       c.cell-start.ensures,
       c.in-Ok-lengths.ensures.each,
       c.in-Ok-lengths.left.ok,
@@ -61,8 +59,7 @@ follow-requires-clause-start c =
     let state = c.in-Some.state in
     let left = c.in-Ok-lengths.left.items in
     let start = c.cell-start.result in
-    let at : slice_get (numbers_of states) state ≡ Some 0 = ap (λ ns. slice_get ns state) (sym c.in-Ok.ensures)
-    ∙ (c.place_of.ensures state).0 c.in-Some.is in
+    let at = numbered states state c.in-Ok.ensures c.in-Some.is c.place_of.ensures in
     let inside : start < length left = omega (
       arith,
       first_cell states tests c.requires.searchable.0 c.requires.searchable.1 state at,
@@ -80,8 +77,7 @@ returns-in-Ok-follow c =
     let states = c.args.states.now in
     let tests = c.args.tests.now in
     let state = c.in-Some.state in
-    let at : slice_get (numbers_of states) state ≡ Some 0 = ap (λ ns. slice_get ns state) (sym c.in-Ok.ensures)
-    ∙ (c.place_of.ensures state).0 c.in-Some.is in
+    let at = numbered states state c.in-Ok.ensures c.in-Some.is c.place_of.ensures in
     let first : IsFirst (ReadsFrom (Goes states tests)
     (IsEndCell states tests) c.cell-start.result) c.in-Ok-follow.first = c.in-Ok-follow.ensures in
     let start : c.cell-start.result ≡ state * length tests = omega (arith, c.cell-start.ensures) in

@@ -1,4 +1,4 @@
-use Rattle.std.proofs.Common.{ℕ, ◌<◌, ◌-◌, ◌++◌, List, length}
+use Rattle.std.proofs.Common.{◌-◌, ◌++◌, List}
 use Rattle.tier_core.specs.declared.sym.Sym.{Sym}
 use Rattle.comprehend.specs.Searches.{IsLeft}
 use Rattle.comprehend.specs.Steps.{Goes, IsEndCell}

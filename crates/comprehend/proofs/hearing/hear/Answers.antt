@@ -1,6 +1,6 @@
-use Rattle.std.proofs.Common.{◌≡◌, ◌≤◌, ℕ, List, length, sym, subst, arith}
+use Rattle.std.proofs.Common.{◌≡◌, ℕ, List, sym, subst, arith}
 use Rattle.tier_core.specs.declared.sym.Sym.{Sym}
-use Rattle.violation.specs.Problems.{Problem, problem_from}
+use Rattle.violation.specs.Problems.{problem_from}
 use Rattle.answer_text.specs.Sound.{IsSound}
 use Rattle.check_laws.proofs.RightAnswers.{sound_from_right}
 use Rattle.ranked_gen.specs.Budgets.{IsFirstOver}

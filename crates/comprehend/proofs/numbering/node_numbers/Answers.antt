@@ -1,5 +1,4 @@
-use Rattle.std.proofs.Common.{◌≡◌, false, get_or, sym, ap, ◌∙◌, arith}
-use Rattle.std.specs.Result.{is_err}
+use Rattle.std.proofs.Common.{◌≡◌, get_or, sym, ap, ◌∙◌, arith}
 use Rattle.std.proofs.lemmas.List.{get_or-map, length-map}
 use Rattle.first_paths.proofs.Results.{on_ok}
 use Rattle.answer_text.specs.declared.automaton.StateLine.{StateLine}

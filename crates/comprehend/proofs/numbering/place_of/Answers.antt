@@ -1,4 +1,4 @@
-use Rattle.std.proofs.Common.{◌≡◌, ℕ, Some, refl, sym, ap, ◌∙◌}
+use Rattle.std.proofs.Common.{◌≡◌, Some, sym, ap, ◌∙◌}
 use Rattle.std.specs.Prelude.{slice_get}
 use Rattle.comprehend.proofs.Numbers.{found_at, found_nowhere, once_at}
 use Rattle.comprehend.proofs.numbering.place_of.Goals as goal

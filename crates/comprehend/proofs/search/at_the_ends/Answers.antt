@@ -1,7 +1,6 @@
-use Rattle.std.proofs.Common.{◌≡◌, ◌<◌, ◌+◌, ◌*◌, ℕ, [], List, length, replicate, get_or, sym, ap, ◌∙◌, subst, arith}
-use Rattle.std.proofs.Common.{IsTrue}
+use Rattle.std.proofs.Common.{◌*◌, [], length, replicate, arith}
 use Rattle.std.proofs.lemmas.List.{length-replicate}
-use Rattle.comprehend.specs.Searches.{no_distance, Reaches}
+use Rattle.comprehend.specs.Searches.{no_distance}
 use Rattle.comprehend.specs.Steps.{Goes, IsEndCell}
 use Rattle.comprehend.proofs.Cells.{cells_inside}
 use Rattle.comprehend.proofs.Reaching.{reaches_none, unknown_count-no_distance, none_left}

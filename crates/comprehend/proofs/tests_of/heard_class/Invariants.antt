@@ -1,4 +1,4 @@
-use Rattle.std.proofs.Common.{◌≡◌, ℕ, ◌<◌, ◌≤◌, ◌++◌, length, drop, take}
+use Rattle.std.proofs.Common.{◌≡◌, ◌≤◌, ◌++◌, length, drop, take}
 use Rattle.tier_core.specs.Classes.{sets_of}
 use Rattle.tier_core.specs.Sets.{AreSets}
 use Rattle.comprehend.specs.Tests.{heard_sets}

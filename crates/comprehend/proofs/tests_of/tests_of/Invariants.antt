@@ -1,4 +1,4 @@
-use Rattle.std.proofs.Common.{◌≡◌, ◌≤◌, ◌∷◌, length, map, take}
+use Rattle.std.proofs.Common.{◌≡◌, ◌∷◌, map, take}
 use Rattle.tier_core.specs.Classes.{sets_of}
 use Rattle.tier_core.specs.Sets.{single_set}
 use Rattle.comprehend.specs.Tests.{still_sets, heard_sets}

@@ -2,7 +2,7 @@ use Rattle.std.proofs.Common.{◌++◌, codes, sym, append_assoc}
 use Rattle.std.specs.Fmt.{decimal}
 use Rattle.command_line.specs.Lines.{form_cause_text}
 use Rattle.outside.proofs.Writing.{◌▹◌, cut, pushes_as, stop}
-use Rattle.command_line.proofs.cause.push_bad_form.Goals as goal
+use Rattle.command_line.proofs.pushed.push_entry_form.Goals as goal
 
 pub returns-in_err-push_worded : goal.returns-in_err-push_worded
 returns-in_err-push_worded g c =

@@ -1,27 +1,23 @@
 -- A test of a whole answer, by what is seen of it, decides whether the answer is certified.
-use Rattle.std.proofs.Common.{◌≡◌, ℕ, ◌+◌, ◌==◌, ◌≤◌, nat_le, IsTrue, Bool, true, false, ◌&&◌, List, map, length, sym}
-use Rattle.std.proofs.Common.{ap, ◌∙◌, arith, Decides, slice_index_or, []}
-use Rattle.std.specs.List.{list_all, AllByRecursion}
-use Rattle.std.proofs.lemmas.Bool.{false≢true, and_parts}
+use Rattle.std.proofs.Common.{◌≡◌, ℕ, ◌+◌, ◌==◌, ◌≤◌, nat_le, IsTrue, Bool, true, false, ◌&&◌, List, map, length}
+use Rattle.std.proofs.{Common.{sym, ap, ◌∙◌, arith, Decides, slice_index_or, []}, lemmas.Bool.{false≢true, and_parts}}
 use Rattle.std.proofs.lemmas.Bool.Decides.{Decides-and, Decides-at, Decides-eqb}
 use Rattle.std.proofs.lemmas.List.Elements.{All-from_recursion, recursion_from_All}
-use Rattle.tier_core.specs.declared.sym.Sym.{Sym}
-use Rattle.tier_core.specs.Tiers.{Tiers}
+use Rattle.std.specs.List.{list_all, AllByRecursion}
+use Rattle.tier_core.specs.{declared.sym.Sym.Sym, Tiers.Tiers}
 use Rattle.tier_core.specs.Timelines.{IsWellFormed, IsReduced, has_edge, project, squeeze, tier_word}
 use Rattle.tier_core.specs.Words.{IsWellFormedWord}
-use Rattle.tier_core.proofs.WordLemmas.{runs}
-use Rattle.tier_core.proofs.WordForm.{well_formed_from_runs, runs_from_well_formed}
-use Rattle.violation.specs.Candidates.{IsForm, IsCandidate, counts_on}
-use Rattle.violation.specs.Problems.{Problem, last_stage, last_place}
+use Rattle.tier_core.proofs.{WordLemmas.runs, WordForm.{well_formed_from_runs, runs_from_well_formed}}
+use Rattle.violation.specs.{Candidates.{IsForm, IsCandidate, counts_on}, Problems.{Problem, last_stage, last_place}}
 use Rattle.answer_text.specs.declared.answer.Answer.{Answer}
-use Rattle.answer_text.specs.Certified.{IsCertifiedStage, IsCertified, AreStatesInOrder}
-use Rattle.answer_text.specs.Seen.{nodes_seen}
+use Rattle.answer_text.specs.{Certified.{IsCertifiedStage, IsCertified, AreStatesInOrder}, Seen.nodes_seen}
 use Rattle.answer_text.specs.Values.{NodeValue, StateValue, state_value}
 use Rattle.answer_examples.specs.Seen.{IsSeenAs}
 use Rattle.answer_examples.proofs.Tests.{Decides-by, Decides-leb, Decides-true, all_decided, below, Decides-below}
 use Rattle.answer_examples.proofs.Same.{same_timeline, Decides-timeline, same_numbers, Decides-numbers}
 use Rattle.answer_examples.proofs.StageTests.{Listing, stage_passes, Decides-stage}
-use Rattle.answer_examples.proofs.AutomatonTests.{automaton_passes, Decides-automaton, states_ascend, Decides-in_order}
+use Rattle.answer_examples.proofs.AutomatonTests.{automaton_passes, Decides-automaton, states_ascend}
+use Rattle.answer_examples.proofs.AutomatonTests.{Decides-in_order}
 
 -- P of each element by recursion, from a test
 pub all_recursive : {X : Type 0} (p : X → Bool) (P : X → Type 0) → ((x : X) → Decides (p x) (P x)) → (xs : List X)

@@ -1,29 +1,18 @@
 -- Tests of the automaton of an answer, by what is seen of it, and what each decides.
-use Rattle.std.proofs.Common.{◌≡◌, ◌↔◌, ℕ, zero, suc, ◌+◌, ◌==◌, ◌<◌, IsTrue, Bool, true, false, not, ◌&&◌, List, []}
-use Rattle.std.proofs.Common.{◌∷◌, map, length, refl, sym, ap, ◌∙◌, subst, arith, All, AllPairs, Contains, Decides}
-use Rattle.std.proofs.Common.{unwrap_or, is_some}
-use Rattle.std.specs.Bool.{beq}
-use Rattle.std.specs.List.{list_all, list_any}
-use Rattle.std.specs.List.Sorted.{IsStrictlySortedBy}
-use Rattle.std.specs.Ordering.{nat_cmp}
-use Rattle.std.proofs.lemmas.Bool.{false≢true}
+use Rattle.std.proofs.Common.{◌≡◌, ◌↔◌, ℕ, zero, suc, ◌+◌, ◌==◌, ◌<◌, IsTrue, Bool, true, false, not, ◌&&◌, List}
+use Rattle.std.proofs.Common.{[], ◌∷◌, map, length, refl, sym, ap, ◌∙◌, subst, arith, All, AllPairs, Contains}
+use Rattle.std.proofs.{Common.{Decides, unwrap_or, is_some}, lemmas.Bool.false≢true}
 use Rattle.std.proofs.lemmas.Bool.Decides.{Decides-and, Decides-not, Decides-eqb}
-use Rattle.tier_core.specs.declared.sym.Sym.{Sym}
-use Rattle.tier_core.specs.Classes.{has, sets_of, sets_have, AreDisjoint}
-use Rattle.tier_core.specs.Kinds.{PrefixKind}
-use Rattle.violation.specs.Moves.{next_kind, is_final}
-use Rattle.violation.specs.Problems.{Problem, last_stage}
-use Rattle.answer_text.specs.declared.automaton.ArcLine.{ArcLine}
-use Rattle.answer_text.specs.declared.automaton.StateLine.{StateLine}
-use Rattle.answer_text.specs.declared.stage.Node.{Node}
-use Rattle.answer_text.specs.declared.stage.Stage.{Stage}
-use Rattle.answer_text.specs.Acceptance.{HasArc}
+use Rattle.std.specs.{Bool.beq, List.{list_all, list_any}, List.Sorted.IsStrictlySortedBy, Ordering.nat_cmp}
+use Rattle.tier_core.specs.{declared.sym.Sym.Sym, Classes.{has, sets_of, sets_have, AreDisjoint}, Kinds.PrefixKind}
+use Rattle.violation.specs.{Moves.{next_kind, is_final}, Problems.{Problem, last_stage}}
+use Rattle.answer_text.specs.{declared.automaton.ArcLine.ArcLine, declared.automaton.StateLine.StateLine}
+use Rattle.answer_text.specs.{declared.stage.Node.Node, declared.stage.Stage.Stage, Acceptance.HasArc}
 use Rattle.answer_text.specs.Right.{nodes_at, numbers_of, IsNodeOf}
 use Rattle.answer_text.specs.Certified.{IsKeptBelow, IsCertifiedAutomaton, AreStatesInOrder}
-use Rattle.tier_core.proofs.Members.{contains_map, contains_of_map}
-use Rattle.tier_core.proofs.ClassLemmas.{same_width}
 use Rattle.answer_text.specs.Seen.{node_seen, nodes_seen}
 use Rattle.answer_text.specs.Values.{ArcValue, NodeValue, StateValue, arc_value, state_value}
+use Rattle.tier_core.proofs.{Members.{contains_map, contains_of_map}, ClassLemmas.same_width}
 use Rattle.answer_examples.proofs.Tests.{Decides-by, both, implied, Decides-both, Decides-implied, Decides-true}
 use Rattle.answer_examples.proofs.Tests.{all_seen, each_seen, some_seen, pairs_pass, pairs_seen, ascends}
 use Rattle.answer_examples.proofs.Tests.{Decides-ascends, below, Decides-below, every_column, Decides-columns}

@@ -1,18 +1,11 @@
 -- The answers to the empty form, without constraints and under `a -> A`.
-use Rattle.std.proofs.Common.{◌≡◌, ℕ, true, List, [], ◌∷◌, refl, codes, String}
+use Rattle.std.proofs.{Common.{◌≡◌, ℕ, true, List, [], ◌∷◌, refl, codes, String}, lemmas.Bool.and_from}
 use Rattle.std.specs.declared.alloc.Global.{Global}
-use Rattle.std.proofs.lemmas.Bool.{and_from}
-use Rattle.tier_core.specs.declared.sym.Sym.{Sym}
-use Rattle.tier_core.specs.declared.tier.TierKind.TheVariants.{Input, Overt}
-use Rattle.violation.specs.Candidates.{IsCandidate}
-use Rattle.violation.specs.Conditions.{AreSplit}
-use Rattle.violation.specs.Counts.{viol, so_far}
+use Rattle.tier_core.specs.{declared.sym.Sym.Sym, declared.tier.TierKind.TheVariants.{Input, Overt}}
+use Rattle.violation.specs.{Candidates.IsCandidate, Conditions.AreSplit, Counts.{viol, so_far}}
 use Rattle.violation.specs.Examples.{two_tiers, timeline}
 use Rattle.violation.proofs.SplitLemmas.{tiers_split}
-use Rattle.answer_text.specs.declared.answer.Answer.{Answer}
-use Rattle.answer_text.specs.Certified.{IsCertified}
-use Rattle.answer_text.specs.Right.{IsRight}
-use Rattle.answer_text.specs.Sound.{IsSound}
+use Rattle.answer_text.specs.{declared.answer.Answer.Answer, Certified.IsCertified, Right.IsRight, Sound.IsSound}
 use Rattle.answer_examples.specs.Seen.{IsSeenAs}
 use Rattle.answer_examples.specs.Worked.{unranked_problem, two_kinds, two_states, state, under_dep, dep_kinds}
 use Rattle.answer_examples.proofs.AnswerTests.{head_passes, is_candidate, Decides-candidate, is_certified, listing}

@@ -1,21 +1,14 @@
 -- The answers to `[ ]` under `A -> a` and `a -> A`, and with `a # a` below them, are right, by computing.
 use Rattle.std.proofs.Common.{◌≡◌, ℕ, true, List, [], ◌∷◌, Greater, refl, sym, codes, slice_index_or, String}
-use Rattle.std.specs.declared.alloc.Global.{Global}
 use Rattle.std.proofs.lemmas.Bool.{and_from}
-use Rattle.tier_core.specs.declared.sym.Sym.{Sym}
-use Rattle.tier_core.specs.Orders.{timeline_cmp}
-use Rattle.violation.specs.Candidates.{counts_on}
-use Rattle.violation.specs.Counts.{viol, so_far}
-use Rattle.violation.specs.Problems.{Problem}
-use Rattle.answer_text.specs.declared.answer.Answer.{Answer}
-use Rattle.answer_text.specs.Certified.{IsCertified}
-use Rattle.answer_text.specs.Right.{IsRight}
-use Rattle.answer_text.specs.Sound.{IsSound}
-use Rattle.answer_examples.specs.Faithful.{under_max_dep, under_max_dep_one, first_optimal, other_optimal, nine_counts}
-use Rattle.answer_examples.specs.Faithful.{stages_of_two, stages_of_three, states_of_many, states_of_nine}
-use Rattle.answer_examples.specs.Faithful.{IsAnswerOfMany, IsAnswerOfNine, IsOneOfNine}
-use Rattle.answer_examples.proofs.EmptyForm.{split, show}
-use Rattle.answer_examples.proofs.Same.{same_numbers, Decides-numbers}
+use Rattle.std.specs.declared.alloc.Global.{Global}
+use Rattle.tier_core.specs.{declared.sym.Sym.Sym, Orders.timeline_cmp}
+use Rattle.violation.specs.{Candidates.counts_on, Counts.{viol, so_far}, Problems.Problem}
+use Rattle.answer_text.specs.{declared.answer.Answer.Answer, Certified.IsCertified, Right.IsRight, Sound.IsSound}
+use Rattle.answer_examples.specs.Faithful.{under_max_dep, under_max_dep_one, first_optimal, other_optimal}
+use Rattle.answer_examples.specs.Faithful.{nine_counts, stages_of_two, stages_of_three, states_of_many}
+use Rattle.answer_examples.specs.Faithful.{states_of_nine, IsAnswerOfMany, IsAnswerOfNine, IsOneOfNine}
+use Rattle.answer_examples.proofs.{EmptyForm.{split, show}, Same.{same_numbers, Decides-numbers}}
 use Rattle.answer_examples.proofs.AnswerTests.{head_passes, is_candidate, Decides-candidate, is_certified, listing}
 use Rattle.answer_examples.proofs.RightTests.{Shown, is_right}
 use Rattle.answer_examples.proofs.WholeAnswers.{certified_by, sound_by, right_by, not_right_by}

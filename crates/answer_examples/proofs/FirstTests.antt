@@ -1,18 +1,12 @@
 -- A test that nothing which an automaton accepts comes before a timeline.
-use Rattle.std.proofs.Common.{◌≡◌, ℕ, zero, suc, ◌==◌, ◌≤◌, IsTrue, Bool, true, false, cond, eqb, not, ◌&&◌, List, []}
-use Rattle.std.proofs.Common.{◌∷◌, map, length, refl, sym, ap, ◌∙◌, subst, arith, Contains, Less, Equal, Greater, is_le}
-use Rattle.std.proofs.Common.{lt-ltb, le-ltb, eq-eqb, ne_eqb, inl, inr}
-use Rattle.std.specs.List.{list_all}
-use Rattle.std.specs.Ordering.{nat_cmp, ordering_then}
-use Rattle.std.specs.Cmp.Lexicographic.{slice_cmp}
+use Rattle.std.proofs.Common.{◌≡◌, ℕ, zero, suc, ◌==◌, ◌≤◌, IsTrue, Bool, true, false, cond, eqb, not, ◌&&◌, List}
+use Rattle.std.proofs.Common.{[], ◌∷◌, map, length, refl, sym, ap, ◌∙◌, subst, arith, Contains, Less, Equal}
+use Rattle.std.proofs.Common.{Greater, is_le, lt-ltb, le-ltb, eq-eqb, ne_eqb, inl, inr}
+use Rattle.std.proofs.{lemmas.Bool.{false≢true, and_parts, cases_lt, cases_eq}, lemmas.Bool.Decides.Decides-eqb}
+use Rattle.std.specs.{List.list_all, Ordering.{nat_cmp, ordering_then}, Cmp.Lexicographic.slice_cmp}
 use Rattle.std.specs.declared.cmp.Ordering.{Ordering}
-use Rattle.std.proofs.lemmas.Bool.{false≢true, and_parts, cases_lt, cases_eq}
-use Rattle.std.proofs.lemmas.Bool.Decides.{Decides-eqb}
-use Rattle.tier_core.specs.declared.sym.Sym.{Sym}
-use Rattle.tier_core.specs.Classes.{sets_of}
-use Rattle.tier_core.specs.Orders.{column_cmp, timeline_cmp}
-use Rattle.answer_text.specs.declared.automaton.StateLine.{StateLine}
-use Rattle.answer_text.specs.Acceptance.{HasArc, IsFinalState, Leads}
+use Rattle.tier_core.specs.{declared.sym.Sym.Sym, Classes.sets_of, Orders.{column_cmp, timeline_cmp}}
+use Rattle.answer_text.specs.{declared.automaton.StateLine.StateLine, Acceptance.{HasArc, IsFinalState, Leads}}
 use Rattle.answer_text.specs.Values.{ArcValue, StateValue, arc_value, state_value}
 use Rattle.answer_examples.proofs.Tests.{implied, Decides-true, each_seen}
 use Rattle.answer_examples.proofs.AutomatonTests.{each_column, Decides-class}

@@ -1,19 +1,12 @@
 -- The answer to `[ ]` under `a # a`, `A -> a` and `a -> A` is right, by computing.
 use Rattle.std.proofs.Common.{◌≡◌, true, List, [], ◌∷◌, refl, codes, slice_index_or, String}
 use Rattle.std.specs.declared.alloc.Global.{Global}
-use Rattle.violation.specs.Counts.{viol, so_far}
-use Rattle.violation.specs.Examples.{timeline}
-use Rattle.violation.specs.Problems.{Problem}
-use Rattle.answer_text.specs.declared.answer.Answer.{Answer}
-use Rattle.answer_text.specs.Certified.{IsCertified}
-use Rattle.answer_text.specs.Right.{IsRight}
-use Rattle.answer_text.specs.Sound.{IsSound}
+use Rattle.violation.specs.{Counts.{viol, so_far}, Examples.timeline, Problems.Problem}
+use Rattle.answer_text.specs.{declared.answer.Answer.Answer, Certified.IsCertified, Right.IsRight, Sound.IsSound}
 use Rattle.answer_examples.specs.Ranked.{IsAnswerOn, under_one_max_dep, only_optimal, least_counts, four_stages}
 use Rattle.answer_examples.specs.Ranked.{three_states}
-use Rattle.answer_examples.proofs.EmptyForm.{split, show}
-use Rattle.answer_examples.proofs.AnswerTests.{is_certified, listing}
-use Rattle.answer_examples.proofs.RightTests.{Shown, is_right}
-use Rattle.answer_examples.proofs.WholeAnswers.{certified_by, sound_by, right_by}
+use Rattle.answer_examples.proofs.{EmptyForm.{split, show}, AnswerTests.{is_certified, listing}}
+use Rattle.answer_examples.proofs.{RightTests.{Shown, is_right}, WholeAnswers.{certified_by, sound_by, right_by}}
 
 -- candidates that show the nodes
 abbrev six_shown : List Shown

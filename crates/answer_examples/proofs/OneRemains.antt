@@ -1,25 +1,16 @@
 -- One violation of `a -> A` remains where the overt tier is open and not met, and the form is empty.
-use Rattle.std.proofs.Common.{◌≡◌, ℕ, ◌+◌, ◌≤◌, true, List, [], ◌∷◌, ◌++◌, take, drop, refl, sym, ap, ◌∙◌}
-use Rattle.std.proofs.Common.{subst, arith, codes, String, append-nil, ◌==◌}
-use Rattle.std.specs.declared.alloc.Global.{Global}
-use Rattle.std.proofs.lemmas.Bool.{false≢true}
+use Rattle.std.proofs.Common.{◌≡◌, ℕ, ◌+◌, ◌≤◌, true, List, [], ◌∷◌, ◌++◌, take, drop, refl, sym, ap, ◌∙◌, subst}
+use Rattle.std.proofs.{Common.{arith, codes, String, append-nil, ◌==◌}, lemmas.Bool.false≢true}
 use Rattle.std.proofs.lemmas.Bool.Decides.{Decides-eqb}
-use Rattle.tier_core.specs.declared.sym.Sym.{Sym}
-use Rattle.tier_core.specs.Kinds.{PrefixKind, unmet}
-use Rattle.violation.specs.Candidates.{IsCandidate, count_at, count_so_far_at}
-use Rattle.violation.specs.Counts.{viol, so_far}
-use Rattle.violation.specs.Examples.{over_two, timeline, dep_a}
-use Rattle.violation.specs.Moves.{FitsKind, cost_of, is_final}
-use Rattle.violation.specs.Prefixes.{kind_of}
-use Rattle.violation.specs.Problems.{Problem}
-use Rattle.violation.specs.Stages.{IsStage, Passes, IsLeastRest}
+use Rattle.std.specs.declared.alloc.Global.{Global}
+use Rattle.tier_core.specs.{declared.sym.Sym.Sym, Kinds.{PrefixKind, unmet}}
+use Rattle.violation.specs.{Candidates.{IsCandidate, count_at, count_so_far_at}, Counts.{viol, so_far}}
+use Rattle.violation.specs.{Examples.{over_two, timeline, dep_a}, Moves.{FitsKind, cost_of, is_final}}
+use Rattle.violation.specs.{Prefixes.kind_of, Problems.Problem, Stages.{IsStage, Passes, IsLeastRest}}
 use Rattle.violation.proofs.ExampleLemmas.{right_timeline, right_candidate}
-use Rattle.violation.proofs.StageLemmas.{all_optimal, over_stretches}
-use Rattle.violation.proofs.WalkLemmas.{fits_next, candidate_final}
-use Rattle.violation.proofs.WalkSums.{walk_cost, walk_step}
-use Rattle.violation.proofs.CutCandidates.{candidate_cut, violations_cut}
-use Rattle.answer_examples.proofs.EmptyForm.{split}
-use Rattle.answer_examples.proofs.StageTests.{fits_kind, Decides-fits}
+use Rattle.violation.proofs.{StageLemmas.{all_optimal, over_stretches}, WalkLemmas.{fits_next, candidate_final}}
+use Rattle.violation.proofs.{WalkSums.{walk_cost, walk_step}, CutCandidates.{candidate_cut, violations_cut}}
+use Rattle.answer_examples.proofs.{EmptyForm.split, StageTests.{fits_kind, Decides-fits}}
 use Rattle.answer_examples.proofs.Tests.{implied, Decides-implied, Decides-columns}
 
 abbrev later : List (List Sym)

@@ -2,55 +2,33 @@
 -- its automaton accepts nothing before the example. This is tested by what is seen of the answer.
 use Rattle.std.proofs.Common.{◌≡◌, ℕ, zero, suc, ◌+◌, ◌-◌, ◌==◌, ◌<◌, ◌≤◌, nat_le, IsTrue, Bool, true, false, ◌&&◌}
 use Rattle.std.proofs.Common.{List, [], ◌∷◌, ◌++◌, map, take, drop, length, refl, sym, ap, ◌∙◌, subst, arith, All}
-use Rattle.std.proofs.Common.{Contains, Less, get_or, unwrap_or, find, is_le}
-use Rattle.std.specs.List.{list_all, AllByRecursion}
-use Rattle.std.specs.List.Sorted.{IsStrictlySortedBy}
-use Rattle.std.specs.Ordering.{nat_cmp, ordering_then}
-use Rattle.std.specs.Cmp.Lexicographic.{slice_cmp}
-use Rattle.std.specs.declared.cmp.Ordering.{Ordering}
-use Rattle.std.proofs.lemmas.Bool.{false≢true, and_parts}
-use Rattle.std.proofs.lemmas.Bool.Decides.{Decides-eqb}
-use Rattle.std.proofs.lemmas.List.Elements.{Contains-get_or}
+use Rattle.std.proofs.{Common.{Contains, Less, get_or, unwrap_or, find, is_le}, lemmas.Bool.{false≢true, and_parts}}
+use Rattle.std.proofs.{lemmas.Bool.Decides.Decides-eqb, lemmas.List.Elements.Contains-get_or}
 use Rattle.std.proofs.lemmas.List.{take-append-drop}
-use Rattle.tier_core.specs.declared.sym.Sym.{Sym}
-use Rattle.tier_core.specs.declared.sym.Sym.TheVariants.{Outside}
-use Rattle.tier_core.specs.Classes.{has, sets_of, sets_have}
-use Rattle.tier_core.specs.Kinds.{PrefixKind}
-use Rattle.tier_core.specs.Orders.{timeline_cmp}
-use Rattle.tier_core.specs.Sets.{is_in}
+use Rattle.std.specs.{List.{list_all, AllByRecursion}, List.Sorted.IsStrictlySortedBy}
+use Rattle.std.specs.{Ordering.{nat_cmp, ordering_then}, Cmp.Lexicographic.slice_cmp, declared.cmp.Ordering.Ordering}
+use Rattle.tier_core.specs.{declared.sym.Sym.Sym, declared.sym.Sym.TheVariants.Outside}
+use Rattle.tier_core.specs.{Classes.{has, sets_of, sets_have}, Kinds.PrefixKind, Orders.timeline_cmp, Sets.is_in}
 use Rattle.tier_core.specs.Symbols.{symbols}
 use Rattle.violation.specs.Candidates.{IsCandidate, IsOptimal, IsOptimalFor, IsAtMost, counts_on, count_at}
-use Rattle.violation.specs.Candidates.{count_so_far_at}
-use Rattle.violation.specs.Conditions.{AreSplit, IsOverTiers}
-use Rattle.violation.specs.Prefixes.{kind_of, kind_of_bits}
-use Rattle.violation.specs.Problems.{Problem, last_stage}
+use Rattle.violation.specs.{Candidates.count_so_far_at, Conditions.{AreSplit, IsOverTiers}}
+use Rattle.violation.specs.{Prefixes.{kind_of, kind_of_bits}, Problems.{Problem, last_stage}}
 use Rattle.violation.specs.Stages.{Passes, IsPassed, IsRemaining}
 use Rattle.violation.proofs.CutCandidates.{candidate_cut, violations_cut}
-use Rattle.answer_text.specs.declared.answer.Answer.{Answer}
-use Rattle.answer_text.specs.declared.automaton.StateLine.{StateLine}
-use Rattle.answer_text.specs.declared.stage.Node.{Node}
-use Rattle.answer_text.specs.declared.stage.Stage.{Stage}
-use Rattle.answer_text.specs.Acceptance.{Leads}
-use Rattle.answer_text.specs.Certified.{Lists, IsCertified, AreStatesInOrder}
-use Rattle.answer_text.specs.Right.{IsNodeOf, IsRight, IsRightStage, IsRightAutomaton, AreRightArcs, nodes_at}
-use Rattle.answer_text.specs.Right.{numbers_of}
-use Rattle.answer_text.specs.Sound.{IsSound}
-use Rattle.check_laws.proofs.Leading.{leads_parts}
-use Rattle.check_laws.proofs.Listing.{kind_listed}
-use Rattle.tier_core.proofs.Members.{All-from_members, contains_map, contains_of_map}
-use Rattle.check_laws.proofs.Optima.{AreTold, all_told}
-use Rattle.check_laws.proofs.Potentials.{FallsAlong, falls_parts, stage_at, rest_cost}
-use Rattle.check_laws.proofs.Potentials.{bound}
-use Rattle.check_laws.proofs.Reading.{read_at}
-use Rattle.check_laws.proofs.Soundness.{sound_from_certified}
-use Rattle.answer_text.specs.Seen.{nodes_seen}
+use Rattle.answer_text.specs.{declared.answer.Answer.Answer, declared.automaton.StateLine.StateLine}
+use Rattle.answer_text.specs.{declared.stage.Node.Node, declared.stage.Stage.Stage, Acceptance.Leads}
+use Rattle.answer_text.specs.{Certified.{Lists, IsCertified, AreStatesInOrder}, Right.{IsNodeOf, IsRight}}
+use Rattle.answer_text.specs.Right.{IsRightStage, IsRightAutomaton, AreRightArcs, nodes_at, numbers_of}
+use Rattle.answer_text.specs.{Sound.IsSound, Seen.nodes_seen}
 use Rattle.answer_text.specs.Values.{ArcValue, NodeValue, StateValue, arc_value, state_value}
+use Rattle.check_laws.proofs.{Leading.leads_parts, Listing.kind_listed, Optima.{AreTold, all_told}}
+use Rattle.check_laws.proofs.{Potentials.{FallsAlong, falls_parts, stage_at, rest_cost, bound}, Reading.read_at}
+use Rattle.check_laws.proofs.Soundness.{sound_from_certified}
+use Rattle.tier_core.proofs.Members.{All-from_members, contains_map, contains_of_map}
 use Rattle.answer_examples.specs.Seen.{node_of}
 use Rattle.answer_examples.proofs.Tests.{Decides-leb, Decides-true, ascends, Decides-ascends, below, Decides-below}
-use Rattle.answer_examples.proofs.Same.{same_numbers, Decides-numbers, same_kind, Decides-kind}
-use Rattle.answer_examples.proofs.StageTests.{Listing}
-use Rattle.answer_examples.proofs.Views.{listed_seen}
-use Rattle.answer_examples.proofs.AutomatonTests.{is_node, Decides-node}
+use Rattle.answer_examples.proofs.{Same.{same_numbers, Decides-numbers, same_kind, Decides-kind}, StageTests.Listing}
+use Rattle.answer_examples.proofs.{Views.listed_seen, AutomatonTests.{is_node, Decides-node}}
 use Rattle.answer_examples.proofs.FirstTests.{passes_at, reads_from, first_read}
 use Rattle.answer_examples.proofs.AnswerTests.{is_candidate, Decides-candidate}
 

@@ -1,12 +1,8 @@
 -- Tests that two values are one: symbols, columns, phases and kinds.
-use Rattle.std.proofs.Common.{◌≡◌, ℕ, ◌==◌, Bool, true, false, ◌&&◌, List, refl, sym, ap, ◌∙◌, arith, subst, Contains}
-use Rattle.std.proofs.Common.{Decides}
-use Rattle.std.specs.Bool.{beq}
-use Rattle.std.specs.List.{list_any}
-use Rattle.std.specs.Cmp.Lexicographic.{pointwise, pointwise_decides}
-use Rattle.std.proofs.lemmas.Bool.Decides.{Decides-and, Decides-eqb}
-use Rattle.tier_core.specs.declared.sym.Sym.{Sym}
-use Rattle.tier_core.specs.Symbols.{rank}
+use Rattle.std.proofs.Common.{◌≡◌, ℕ, ◌==◌, Bool, true, false, ◌&&◌, List, refl, sym, ap, ◌∙◌, arith, subst}
+use Rattle.std.proofs.{Common.{Contains, Decides}, lemmas.Bool.Decides.{Decides-and, Decides-eqb}}
+use Rattle.std.specs.{Bool.beq, List.list_any, Cmp.Lexicographic.{pointwise, pointwise_decides}}
+use Rattle.tier_core.specs.{declared.sym.Sym.Sym, Symbols.rank}
 use Rattle.tier_core.specs.Kinds.{Phase, closed, unmet, met, PrefixKind, phase_rank}
 use Rattle.tier_core.proofs.SetLemmas.{rank_same}
 use Rattle.answer_examples.proofs.Tests.{Decides-by, some_decided}

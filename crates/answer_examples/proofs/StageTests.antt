@@ -1,33 +1,23 @@
 -- Tests of one stage of an answer, by what is seen of its nodes, and what each decides.
-use Rattle.std.proofs.Common.{◌≡◌, ℕ, zero, suc, ◌+◌, ◌-◌, ◌==◌, ◌<◌, ◌≤◌, nat_lt, nat_le, IsTrue, Bool, true, false}
-use Rattle.std.proofs.Common.{not, ◌&&◌, ◌||◌, List, [], ◌∷◌, map, length, refl, sym, ap, subst, arith, All, Contains}
-use Rattle.std.proofs.Common.{Decides, Some, slice_get, unwrap_or, is_some}
-use Rattle.std.specs.Bool.{beq}
-use Rattle.std.specs.List.{list_all, list_any}
-use Rattle.std.specs.List.Sorted.{IsStrictlySortedBy}
-use Rattle.std.proofs.lemmas.Bool.{false≢true}
+use Rattle.std.proofs.Common.{◌≡◌, ℕ, zero, suc, ◌+◌, ◌-◌, ◌==◌, ◌<◌, ◌≤◌, nat_lt, nat_le, IsTrue, Bool, true}
+use Rattle.std.proofs.Common.{false, not, ◌&&◌, ◌||◌, List, [], ◌∷◌, map, length, refl, sym, ap, subst, arith, All}
+use Rattle.std.proofs.{Common.{Contains, Decides, Some, slice_get, unwrap_or, is_some}, lemmas.Bool.false≢true}
 use Rattle.std.proofs.lemmas.Bool.Decides.{Decides-and, Decides-or, Decides-eqb, Decides-ltb}
-use Rattle.tier_core.specs.declared.sym.Sym.{Sym}
-use Rattle.tier_core.specs.declared.constraint.Constraint.{Constraint}
-use Rattle.tier_core.specs.Kinds.{Phase, PrefixKind, kind_order}
-use Rattle.tier_core.specs.Scan.{fits}
-use Rattle.tier_core.specs.Timelines.{symbol, column_at, has_edge}
+use Rattle.std.specs.{Bool.beq, List.{list_all, list_any}, List.Sorted.IsStrictlySortedBy}
+use Rattle.tier_core.specs.{declared.sym.Sym.Sym, declared.constraint.Constraint.Constraint}
+use Rattle.tier_core.specs.{Kinds.{Phase, PrefixKind, kind_order}, Scan.fits, Timelines.{symbol, column_at, has_edge}}
 use Rattle.violation.specs.Moves.{FitsKind, input_of, is_tier_open, next_kind, cost_of, cut_kind, is_final}
-use Rattle.violation.specs.Phases.{is_closed, is_left_open, AreClosedOr}
-use Rattle.violation.specs.Prefixes.{kind_of, stretches}
+use Rattle.violation.specs.{Phases.{is_closed, is_left_open, AreClosedOr}, Prefixes.{kind_of, stretches}}
 use Rattle.violation.specs.Problems.{Problem, last_place}
-use Rattle.answer_text.specs.declared.stage.Stage.{Stage}
-use Rattle.answer_text.specs.Right.{nodes_at, kinds_at}
-use Rattle.answer_text.specs.Certified.{Lists, IsTightAt, IsKeptBelow, IsPossibleKind, IsCertifiedStage}
-use Rattle.answer_text.specs.Certified.{start_potential}
-use Rattle.answer_text.specs.Seen.{nodes_seen}
-use Rattle.answer_text.specs.Values.{NodeValue}
+use Rattle.answer_text.specs.{declared.stage.Stage.Stage, Right.{nodes_at, kinds_at}, Certified.{Lists, IsTightAt}}
+use Rattle.answer_text.specs.Certified.{IsKeptBelow, IsPossibleKind, IsCertifiedStage, start_potential}
+use Rattle.answer_text.specs.{Seen.nodes_seen, Values.NodeValue}
 use Rattle.answer_examples.specs.Seen.{node_of}
 use Rattle.answer_examples.proofs.Tests.{Decides-by, both, implied, Decides-both, Decides-implied, Decides-leb}
-use Rattle.answer_examples.proofs.Tests.{Decides-true, Decides-false, all_decided, each_decided, some_decided, ascends}
-use Rattle.answer_examples.proofs.Tests.{Decides-ascends, below, Decides-below, every_column, Decides-columns}
-use Rattle.answer_examples.proofs.Same.{Decides-flag, same_column, Decides-column, same_kind, Decides-kind, has_kind}
-use Rattle.answer_examples.proofs.Same.{Decides-has_kind}
+use Rattle.answer_examples.proofs.Tests.{Decides-true, Decides-false, all_decided, each_decided, some_decided}
+use Rattle.answer_examples.proofs.Tests.{ascends, Decides-ascends, below, Decides-below, every_column}
+use Rattle.answer_examples.proofs.{Tests.Decides-columns, Same.{Decides-flag, same_column, Decides-column, same_kind}}
+use Rattle.answer_examples.proofs.Same.{Decides-kind, has_kind, Decides-has_kind}
 use Rattle.answer_examples.proofs.Views.{listed_seen, seen_listed, kinds_seen}
 
 -- the kinds that each stage lists, with their potentials

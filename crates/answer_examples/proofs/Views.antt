@@ -1,15 +1,10 @@
 -- What is said of an answer's lists, by what is seen of them.
 use Rattle.std.proofs.Common.{◌≡◌, ℕ, List, [], ◌∷◌, map, refl, sym, ap, ◌∙◌, subst, Contains}
 use Rattle.tier_core.specs.Kinds.{PrefixKind}
-use Rattle.violation.specs.Prefixes.{kind_of_bits}
-use Rattle.violation.specs.Problems.{Problem}
-use Rattle.answer_text.specs.declared.stage.Node.{Node}
-use Rattle.answer_text.specs.declared.stage.Stage.{Stage}
-use Rattle.answer_text.specs.Right.{nodes_at, kinds_at}
-use Rattle.answer_text.specs.Certified.{Lists}
+use Rattle.violation.specs.{Prefixes.kind_of_bits, Problems.Problem}
+use Rattle.answer_text.specs.{declared.stage.Node.Node, declared.stage.Stage.Stage, Right.{nodes_at, kinds_at}}
+use Rattle.answer_text.specs.{Certified.Lists, Seen.{node_seen, nodes_seen}, Values.NodeValue}
 use Rattle.tier_core.proofs.Members.{contains_map, contains_of_map}
-use Rattle.answer_text.specs.Seen.{node_seen, nodes_seen}
-use Rattle.answer_text.specs.Values.{NodeValue}
 use Rattle.answer_examples.specs.Seen.{node_of}
 
 module _ (problem : Problem) (stages : List Stage) (r : ℕ) (seen : List NodeValue)

@@ -1,27 +1,17 @@
 -- What follows for an answer from tests of what is seen of it.
-use Rattle.std.proofs.Common.{◌≡◌, ℕ, ◌<◌, nat_lt, Bool, true, ◌&&◌, List, map, length, sym, ap, ◌∙◌, Decides, Greater}
-use Rattle.std.proofs.Common.{is_le}
+use Rattle.std.proofs.Common.{◌≡◌, ℕ, ◌<◌, nat_lt, Bool, true, ◌&&◌, List, map, length, sym, ap, ◌∙◌, Decides}
+use Rattle.std.proofs.{Common.{Greater, is_le}, lemmas.Bool.Decides.{Decides-and, Decides-ltb}}
 use Rattle.std.specs.List.{list_all, AllByRecursion}
-use Rattle.std.proofs.lemmas.Bool.Decides.{Decides-and, Decides-ltb}
-use Rattle.tier_core.specs.declared.constraint.Constraint.{Constraint}
-use Rattle.tier_core.specs.declared.event.Event.{Event}
-use Rattle.tier_core.specs.declared.sym.Sym.{Sym}
-use Rattle.tier_core.specs.Orders.{timeline_cmp}
-use Rattle.violation.specs.Candidates.{counts_on}
-use Rattle.violation.specs.Conditions.{AreSplit, IsOverTiers, AreTiersBelow}
-use Rattle.violation.specs.Problems.{Problem}
-use Rattle.answer_text.specs.declared.answer.Answer.{Answer}
-use Rattle.answer_text.specs.Certified.{IsCertified, AreStatesInOrder}
-use Rattle.answer_text.specs.Right.{IsRight}
-use Rattle.answer_text.specs.Sound.{IsSound}
+use Rattle.tier_core.specs.{declared.constraint.Constraint.Constraint, declared.event.Event.Event}
+use Rattle.tier_core.specs.{declared.sym.Sym.Sym, Orders.timeline_cmp}
+use Rattle.violation.specs.{Candidates.counts_on, Conditions.{AreSplit, IsOverTiers, AreTiersBelow}, Problems.Problem}
+use Rattle.answer_text.specs.{declared.answer.Answer.Answer, Certified.{IsCertified, AreStatesInOrder}, Right.IsRight}
+use Rattle.answer_text.specs.{Sound.IsSound, Seen.nodes_seen, Values.{NodeValue, StateValue, state_value}}
 use Rattle.check_laws.proofs.Soundness.{sound_from_certified}
-use Rattle.answer_text.specs.Seen.{nodes_seen}
-use Rattle.answer_text.specs.Values.{NodeValue, StateValue, state_value}
 use Rattle.answer_examples.specs.Seen.{IsSeenAs}
-use Rattle.answer_examples.proofs.Tests.{Decides-by}
-use Rattle.answer_examples.proofs.AutomatonTests.{states_ascend}
-use Rattle.answer_examples.proofs.AnswerTests.{all_recursive, is_candidate, Decides-candidate, is_certified, listing}
-use Rattle.answer_examples.proofs.AnswerTests.{certified_seen, in_order}
+use Rattle.answer_examples.proofs.{Tests.Decides-by, AutomatonTests.states_ascend}
+use Rattle.answer_examples.proofs.AnswerTests.{all_recursive, is_candidate, Decides-candidate, is_certified}
+use Rattle.answer_examples.proofs.AnswerTests.{listing, certified_seen, in_order}
 use Rattle.answer_examples.proofs.RightTests.{Shown, is_right, right_from, not_first}
 
 -- constraints are over so many tiers

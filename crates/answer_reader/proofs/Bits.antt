@@ -1,18 +1,12 @@
 -- Masks of bytes, and kinds by such masks.
-use Rattle.std.proofs.Common.{◌≡◌, ◌≢◌, ℕ, zero, suc, ◌+◌, ◌*◌, ◌^◌, ◌==◌, ◌<◌, ◌≤◌, Bool, false, cond, List, [], ◌∷◌}
-use Rattle.std.proofs.Common.{map, length, get_or, drop, refl, ap, sym, ◌∙◌, arith, ⊎_elim, bit_and, ne_eqb, add-one}
-use Rattle.std.specs.Int.{bit_at}
-use Rattle.std.specs.List.{range_with_len}
-use Rattle.std.proofs.lemmas.Bool.{cases_lt, eqb-true}
-use Rattle.std.proofs.lemmas.List.{get_or-map, drop_more}
-use Rattle.std.proofs.lemmas.List.FromFn.{fill_by_all}
-use Rattle.std.proofs.Math.Nat.{pow-suc}
-use Rattle.std.proofs.lemmas.Nat.Bits.{bit_at_lowest, bit_at-suc}
-use Rattle.tier_core.specs.Kinds.{phase_by_bits, open_tiers}
-use Rattle.tier_core.specs.Tiers.{has_tier}
+use Rattle.std.proofs.Common.{◌≡◌, ◌≢◌, ℕ, zero, suc, ◌+◌, ◌*◌, ◌^◌, ◌==◌, ◌<◌, ◌≤◌, Bool, false, cond, List, []}
+use Rattle.std.proofs.Common.{◌∷◌, map, length, get_or, drop, refl, ap, sym, ◌∙◌, arith, ⊎_elim, bit_and, ne_eqb}
+use Rattle.std.proofs.{Common.add-one, lemmas.Bool.{cases_lt, eqb-true}, lemmas.List.{get_or-map, drop_more}}
+use Rattle.std.proofs.{lemmas.List.FromFn.fill_by_all, Math.Nat.pow-suc, lemmas.Nat.Bits.{bit_at_lowest, bit_at-suc}}
+use Rattle.std.specs.{Int.bit_at, List.range_with_len}
+use Rattle.tier_core.specs.{Kinds.{phase_by_bits, open_tiers}, Tiers.has_tier}
 use Rattle.tier_core.proofs.MaskBits.{none_from, halves, lowest_flag, at_most_one, apart_by, mask_shift}
-use Rattle.answer_reader.specs.Masks.{mark_mask}
-use Rattle.answer_reader.specs.Nodes.{phase_of_byte}
+use Rattle.answer_reader.specs.{Masks.mark_mask, Nodes.phase_of_byte}
 
 pub mask_within : (mark : ℕ) (bytes : List ℕ) → mark_mask mark bytes < 2 ^ length bytes
 mask_within mark [] = omega arith

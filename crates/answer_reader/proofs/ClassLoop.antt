@@ -1,9 +1,8 @@
 -- A class, read tier by tier.
-use Rattle.std.proofs.Common.{◌≡◌, ℕ, zero, suc, ◌+◌, ◌-◌, ◌<◌, List, [], ◌∷◌, ◌++◌, length, take, set, Option, Some}
-use Rattle.std.proofs.Common.{None, option_map, option_and_then, refl, ap, sym, ◌∙◌, arith, append_assoc}
+use Rattle.std.proofs.Common.{◌≡◌, ℕ, zero, suc, ◌+◌, ◌-◌, ◌<◌, List, [], ◌∷◌, ◌++◌, length, take, set, Option}
+use Rattle.std.proofs.Common.{Some, None, option_map, option_and_then, refl, ap, sym, ◌∙◌, arith, append_assoc}
 use Rattle.std.proofs.lemmas.List.{take_more_set}
-use Rattle.answer_reader.specs.Classes.{set_and_rest, class_of}
-use Rattle.answer_reader.specs.Decoding.{decode_set}
+use Rattle.answer_reader.specs.{Classes.{set_and_rest, class_of}, Decoding.decode_set}
 use Rattle.answer_reader.proofs.Sets.{decoded_is_front}
 
 -- sets that were read, and those that are read behind them

@@ -1,17 +1,13 @@
 -- The numbers of words, one by one.
-use Rattle.std.proofs.Common.{◌≡◌, ℕ, zero, suc, ◌<◌, ◌==◌, ◌&&◌, Bool, true, false, cond, List, [], ◌∷◌, ◌++◌, length}
-use Rattle.std.proofs.Common.{drop, get_or, Option, Some, None, option_map, option_and_then, Result, Ok, Err, refl, ap}
-use Rattle.std.proofs.Common.{sym, ◌∙◌, subst, arith, drop-cons, append-nil, eqb-true}
-use Rattle.std.specs.List.{list_all}
-use Rattle.std.specs.Option.{ok_or}
-use Rattle.std.specs.Result.{MatchResult, IfOk}
-use Rattle.std.specs.declared.alloc.Global.{Global}
-use Rattle.std.specs.declared.vec.Vec.{Vec}
+use Rattle.std.proofs.Common.{◌≡◌, ℕ, zero, suc, ◌<◌, ◌==◌, ◌&&◌, Bool, true, false, cond, List, [], ◌∷◌, ◌++◌}
+use Rattle.std.proofs.Common.{length, drop, get_or, Option, Some, None, option_map, option_and_then, Result, Ok}
+use Rattle.std.proofs.Common.{Err, refl, ap, sym, ◌∙◌, subst, arith, drop-cons, append-nil, eqb-true}
 use Rattle.std.proofs.lemmas.Bool.{and_parts}
+use Rattle.std.specs.{List.list_all, Option.ok_or, Result.{MatchResult, IfOk}, declared.alloc.Global.Global}
+use Rattle.std.specs.declared.vec.Vec.{Vec}
 use Rattle.answer_reader.specs.declared.answer_err.AnswerCause.{AnswerCause}
 use Rattle.answer_reader.specs.declared.answer_err.AnswerCause.TheVariants.{BadLine, BadNumber}
-use Rattle.answer_reader.specs.declared.answer_err.AnswerErr.{AnswerErr}
-use Rattle.answer_reader.specs.Lines.{counts_words, counts_said, counts_of}
+use Rattle.answer_reader.specs.{declared.answer_err.AnswerErr.AnswerErr, Lines.{counts_words, counts_said, counts_of}}
 use Rattle.answer_reader.specs.Numbers.{is_run, number_below, numbers_below}
 use Rattle.answer_reader.proofs.ClassLoop.{behind_sets, set_more}
 

@@ -1,13 +1,10 @@
 -- Lines of a text, cut one by one.
-use Rattle.std.proofs.Common.{◌≡◌, ℕ, ◌+◌, ◌==◌, ◌<◌, ◌≤◌, ◌&&◌, Bool, true, false, List, [], ◌∷◌, ◌++◌, length, take}
-use Rattle.std.proofs.Common.{drop, Option, Some, None, option_map, position, refl, ap, sym, ◌∙◌, arith, nat_eq, ne_eqb}
-use Rattle.std.specs.List.{position_or_len, list_any, join_with_byte}
-use Rattle.std.specs.Str.{bytes_eq}
-use Rattle.std.proofs.lemmas.Bool.{false≢true, or_parts}
-use Rattle.std.proofs.lemmas.Bool.Decides.{nat_tests}
+use Rattle.std.proofs.Common.{◌≡◌, ℕ, ◌+◌, ◌==◌, ◌<◌, ◌≤◌, ◌&&◌, Bool, true, false, List, [], ◌∷◌, ◌++◌, length}
+use Rattle.std.proofs.Common.{take, drop, Option, Some, None, option_map, position, refl, ap, sym, ◌∙◌, arith}
+use Rattle.std.proofs.{Common.{nat_eq, ne_eqb}, lemmas.Bool.{false≢true, or_parts}, lemmas.Bool.Decides.nat_tests}
 use Rattle.std.proofs.lemmas.List.Splits.{slice_split_none, slice_split_first, join_with_byte-slice_split}
-use Rattle.std.proofs.lemmas.List.Splits.{length-slice_split}
-use Rattle.std.proofs.lemmas.List.Sums.{fails_before_first}
+use Rattle.std.proofs.{lemmas.List.Splits.length-slice_split, lemmas.List.Sums.fails_before_first}
+use Rattle.std.specs.{List.{position_or_len, list_any, join_with_byte}, Str.bytes_eq}
 use Rattle.timeline_text.specs.Bytes.{is_newline, lines_of}
 use Rattle.answer_reader.specs.Cuts.{parts_at, cut, begins}
 

@@ -1,6 +1,6 @@
 -- Numbers of runs of digits.
-use Rattle.std.proofs.Common.{◌≡◌, ℕ, suc, ◌+◌, ◌-◌, ◌*◌, ◌<◌, ◌≤◌, cond, nat_lt, false, List, [], ◌∷◌, length, get_or}
-use Rattle.std.proofs.Common.{drop, Some, None, ap, sym, ◌∙◌, arith, drop-cons}
+use Rattle.std.proofs.Common.{◌≡◌, ℕ, suc, ◌+◌, ◌-◌, ◌*◌, ◌<◌, ◌≤◌, cond, nat_lt, false, List, [], ◌∷◌, length}
+use Rattle.std.proofs.Common.{get_or, drop, Some, None, ap, sym, ◌∙◌, arith, drop-cons}
 use Rattle.std.proofs.lemmas.Bool.Decides.{nat_tests}
 use Rattle.answer_reader.specs.Numbers.{value_from, has_leading_zero, number_below}
 

@@ -1,13 +1,10 @@
 -- What the first of some lines gives, and the lines behind it.
 use Rattle.std.proofs.Common.{◌≡◌, ℕ, ◌+◌, ◌<◌, List, [], ◌∷◌, length, Result, Ok, Err, ap, sym, ◌∙◌, subst, arith}
 use Rattle.std.specs.Result.{MatchResult}
-use Rattle.answer_reader.specs.declared.answer_err.AnswerCause.{AnswerCause}
-use Rattle.answer_reader.specs.declared.answer_err.AnswerErr.{AnswerErr}
-use Rattle.answer_reader.specs.declared.answer_err.AnswerErr.TheVariants as code
-use Rattle.answer_reader.specs.declared.lines.Lines.{Lines}
-use Rattle.answer_reader.specs.Left.{lines_left, Takes}
-use Rattle.answer_reader.specs.Steps.{At, go_on, first_line}
+use Rattle.answer_reader.specs.{declared.answer_err.AnswerCause.AnswerCause, declared.answer_err.AnswerErr.AnswerErr}
+use Rattle.answer_reader.specs.{declared.lines.Lines.Lines, Left.{lines_left, Takes}, Steps.{At, go_on, first_line}}
 use Rattle.answer_reader.proofs.Cutting.{some_left}
+use Rattle.answer_reader.specs.declared.answer_err.AnswerErr.TheVariants as code
 
 -- ---- a line that the code has read
 

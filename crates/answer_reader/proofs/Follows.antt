@@ -1,10 +1,8 @@
 -- The last of a list, and what comes behind it.
-use Rattle.std.proofs.Common.{◌≡◌, suc, ◌-◌, ◌<◌, ◌==◌, Bool, List, [], ◌∷◌, length, get_or, map, refl, ap, sym, ◌∙◌}
-use Rattle.std.proofs.Common.{arith}
-use Rattle.std.specs.Ordering.{ordering_index, is_lt}
-use Rattle.std.specs.declared.cmp.Ordering.{Ordering}
+use Rattle.std.proofs.Common.{◌≡◌, suc, ◌-◌, ◌<◌, ◌==◌, Bool, List, [], ◌∷◌, length, get_or, map, refl, ap, sym}
+use Rattle.std.proofs.{Common.{◌∙◌, arith}, lemmas.List.{get_or-map, length-map}}
+use Rattle.std.specs.{Ordering.{ordering_index, is_lt}, declared.cmp.Ordering.Ordering}
 use Rattle.std.specs.declared.cmp.Ordering.TheVariants.{Less, Equal, Greater}
-use Rattle.std.proofs.lemmas.List.{get_or-map, length-map}
 use Rattle.answer_reader.specs.Orders.{follows}
 
 last_later : {X : Type 0} (y z : X) (ys : List X) (d : X) → get_or (y ∷ z ∷ ys) (length (y ∷ z ∷ ys) - 1) d

@@ -1,11 +1,9 @@
 -- Going on from what the code has read.
 use Rattle.std.proofs.Common.{◌≡◌, ℕ, ◌+◌, List, Result, Ok, Err, refl, ap, sym, ◌∙◌, subst}
-use Rattle.answer_reader.specs.declared.answer_err.AnswerCause.{AnswerCause}
-use Rattle.answer_reader.specs.declared.answer_err.AnswerErr.{AnswerErr}
-use Rattle.answer_reader.specs.declared.answer_err.AnswerErr.TheVariants as code
-use Rattle.answer_reader.specs.declared.lines.Lines.{Lines}
-use Rattle.answer_reader.specs.Left.{lines_left, Takes}
+use Rattle.answer_reader.specs.{declared.answer_err.AnswerCause.AnswerCause, declared.answer_err.AnswerErr.AnswerErr}
+use Rattle.answer_reader.specs.{declared.lines.Lines.Lines, Left.{lines_left, Takes}}
 use Rattle.answer_reader.specs.Steps.{At, go_on, first_line, and_then, line_then, Fails}
+use Rattle.answer_reader.specs.declared.answer_err.AnswerErr.TheVariants as code
 
 -- an error of what is the same
 pub fails_from : {X : Type 0} (e : AnswerErr) (a b : Result X At) → a ≡ b → Fails e b → Fails e a

@@ -1,12 +1,9 @@
 -- The lines before the stages, one by one.
 use Rattle.std.proofs.Common.{◌≡◌, ℕ, List, Result, Ok, Err, ◌∙◌}
-use Rattle.tier_core.specs.declared.shape.Shape.{Shape}
-use Rattle.tier_core.specs.declared.sym.Sym.{Sym}
-use Rattle.answer_reader.specs.declared.answer_err.AnswerErr.{AnswerErr}
-use Rattle.answer_reader.specs.declared.lines.Lines.{Lines}
-use Rattle.answer_reader.specs.Left.{lines_left, Takes}
-use Rattle.answer_reader.specs.Lines.{header_of, counts_of}
-use Rattle.answer_reader.specs.Reading.{form_of, example_of, constraint_count, stages_behind, behind_form, answer_from}
+use Rattle.tier_core.specs.{declared.shape.Shape.Shape, declared.sym.Sym.Sym}
+use Rattle.answer_reader.specs.{declared.answer_err.AnswerErr.AnswerErr, declared.lines.Lines.Lines}
+use Rattle.answer_reader.specs.{Left.{lines_left, Takes}, Lines.{header_of, counts_of}, Reading.{form_of, example_of}}
+use Rattle.answer_reader.specs.Reading.{constraint_count, stages_behind, behind_form, answer_from}
 use Rattle.answer_reader.specs.Steps.{At, line_then, Fails}
 use Rattle.answer_text.specs.Values.{AnswerValue}
 use Rattle.answer_reader.proofs.Going.{fails_from, takes_on, takes_fails}

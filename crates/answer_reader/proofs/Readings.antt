@@ -2,8 +2,7 @@
 use Rattle.std.proofs.Common.{◌≡◌, inl, inr, ℕ, List, Result, Ok, Err, refl, ap, sym, ◌∙◌}
 use Rattle.tier_core.specs.declared.shape.Shape.{Shape}
 use Rattle.answer_reader.specs.declared.answer_err.AnswerCause.{AnswerCause}
-use Rattle.answer_reader.specs.Reading.{answer_of, IsTextOf, IsFirstCause, HasReading}
-use Rattle.answer_reader.specs.Steps.{At, at}
+use Rattle.answer_reader.specs.{Reading.{answer_of, IsTextOf, IsFirstCause, HasReading}, Steps.{At, at}}
 use Rattle.answer_text.specs.Values.{AnswerValue}
 
 pub has_reading : (shape : Shape) (bytes : List ℕ) → HasReading shape bytes

@@ -1,19 +1,14 @@
 -- A set at the front of a text: what is decoded is the set whose text stands there.
-use Rattle.std.proofs.Common.{◌≡◌, ℕ, zero, suc, ◌+◌, ◌==◌, ◌<◌, ◌≤◌, ◌&&◌, ◌||◌, not, Bool, true, false, cond, List}
-use Rattle.std.proofs.Common.{[], ◌∷◌, ◌++◌, length, take, drop, Option, Some, None, option_map, refl, ap, sym, ◌∙◌}
-use Rattle.std.proofs.Common.{subst, arith, take-append-drop, append_assoc, nat_le, nat_lt, eqb-true, leb-true}
-use Rattle.std.proofs.Common.{ltb-true, ⊎_elim}
-use Rattle.std.specs.List.{find, range_with_len, AllByRecursion}
-use Rattle.std.specs.Str.{bytes_eq}
-use Rattle.std.proofs.lemmas.Bool.{false≢true, cases_lt, and_parts}
+use Rattle.std.proofs.Common.{◌≡◌, ℕ, zero, suc, ◌+◌, ◌==◌, ◌<◌, ◌≤◌, ◌&&◌, ◌||◌, not, Bool, true, false, cond}
+use Rattle.std.proofs.Common.{List, [], ◌∷◌, ◌++◌, length, take, drop, Option, Some, None, option_map, refl, ap}
+use Rattle.std.proofs.Common.{sym, ◌∙◌, subst, arith, take-append-drop, append_assoc, nat_le, nat_lt, eqb-true}
+use Rattle.std.proofs.{Common.{leb-true, ltb-true, ⊎_elim}, lemmas.Bool.{false≢true, cases_lt, and_parts}}
 use Rattle.std.proofs.lemmas.Slice.Eq.{bytes_eq-Decides}
-use Rattle.tier_core.specs.declared.sym.Sym.{Sym}
-use Rattle.tier_core.specs.declared.sym.Sym.TheVariants.{Outside, Inside, Start, End, Both}
-use Rattle.tier_core.specs.Sets.{single_set}
-use Rattle.tier_core.specs.Symbols.{byte_of, sym_of, symbols as all_symbols}
+use Rattle.std.specs.{List.{find, range_with_len, AllByRecursion}, Str.bytes_eq}
+use Rattle.tier_core.specs.{declared.sym.Sym.Sym, declared.sym.Sym.TheVariants.{Outside, Inside, Start, End, Both}}
+use Rattle.tier_core.specs.{Sets.single_set, Symbols.{byte_of, sym_of, symbols as all_symbols}}
 use Rattle.answer_text.specs.Text.{set_text}
-use Rattle.answer_reader.specs.Cuts.{begins}
-use Rattle.answer_reader.specs.Classes.{front_set, behind_set, set_and_rest}
+use Rattle.answer_reader.specs.{Cuts.begins, Classes.{front_set, behind_set, set_and_rest}}
 use Rattle.answer_reader.specs.Decoding.{with_symbol, symbols_from, has_two, closed_by, single_and_rest, decode_set}
 
 -- ---- a front

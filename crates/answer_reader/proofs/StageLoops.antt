@@ -1,25 +1,17 @@
 -- What the loops over the stages keep: reading on from so many nodes to come is reading on after the
 -- whole stage.
-use Rattle.std.proofs.Common.{◌≡◌, ℕ, suc, ◌&&◌, not, true, false, codes, ◌+◌, ◌≤◌, ◌<◌, List, [], ◌∷◌, ◌++◌, length}
-use Rattle.std.proofs.Common.{map, Result, Ok, Err, ap, sym, ◌∙◌, arith}
-use Rattle.std.specs.List.{All}
-use Rattle.std.specs.Vec.{vec_len}
-use Rattle.std.proofs.lemmas.List.{length_push, map_push}
-use Rattle.std.proofs.lemmas.List.Elements.{All-push}
+use Rattle.std.proofs.Common.{◌≡◌, ℕ, suc, ◌&&◌, not, true, false, codes, ◌+◌, ◌≤◌, ◌<◌, List, [], ◌∷◌, ◌++◌}
+use Rattle.std.proofs.Common.{length, map, Result, Ok, Err, ap, sym, ◌∙◌, arith}
+use Rattle.std.proofs.{lemmas.List.{length_push, map_push}, lemmas.List.Elements.All-push}
+use Rattle.std.specs.{List.All, Vec.vec_len}
 use Rattle.tier_core.specs.declared.shape.Shape.{Shape}
-use Rattle.answer_text.specs.declared.stage.Node.{Node}
-use Rattle.answer_text.specs.declared.stage.Stage.{Stage}
+use Rattle.answer_text.specs.{declared.stage.Node.Node, declared.stage.Stage.Stage}
 use Rattle.answer_text.specs.Readable.{IsReadableStage, AreReadableStages, last_nodes}
-use Rattle.answer_reader.specs.declared.answer_err.AnswerErr.{AnswerErr}
-use Rattle.answer_reader.specs.declared.lines.Lines.{Lines}
-use Rattle.answer_reader.specs.Cuts.{begins}
-use Rattle.answer_reader.specs.Left.{lines_left, Takes, Continues}
-use Rattle.answer_reader.specs.Lines.{stage_of, automaton_of}
-use Rattle.answer_reader.specs.Stages.{behind_stages, with_nodes, next_node, is_empty, StagesRead, stages_read}
-use Rattle.answer_reader.specs.Stages.{stages_from}
-use Rattle.answer_reader.specs.Steps.{At, line_then, Fails}
 use Rattle.answer_text.specs.Values.{NodeValue, node_value, stage_values}
-use Rattle.answer_reader.specs.Within.{IsNodeWithin}
+use Rattle.answer_reader.specs.{declared.answer_err.AnswerErr.AnswerErr, declared.lines.Lines.Lines, Cuts.begins}
+use Rattle.answer_reader.specs.{Left.{lines_left, Takes, Continues}, Lines.{stage_of, automaton_of}}
+use Rattle.answer_reader.specs.Stages.{behind_stages, with_nodes, next_node, is_empty, StagesRead, stages_read}
+use Rattle.answer_reader.specs.{Stages.stages_from, Steps.{At, line_then, Fails}, Within.IsNodeWithin}
 use Rattle.answer_reader.proofs.Going.{fails_from, takes_on, takes_fails}
 use Rattle.answer_reader.proofs.StageSteps.{node_next, stage_next, automaton_next}
 use Rattle.answer_reader.proofs.StageValues.{length_values, empty_values, last_values, values_push, readable_push}

@@ -1,16 +1,13 @@
 -- The lines of the stages, one by one.
-use Rattle.std.proofs.Common.{◌≡◌, ℕ, ◌+◌, ◌&&◌, not, Bool, true, false, cond, List, [], ◌∷◌, ◌++◌, length, codes, refl}
-use Rattle.std.proofs.Common.{ap, sym, ◌∙◌}
+use Rattle.std.proofs.Common.{◌≡◌, ℕ, ◌+◌, ◌&&◌, not, Bool, true, false, cond, List, [], ◌∷◌, ◌++◌, length, codes}
+use Rattle.std.proofs.Common.{refl, ap, sym, ◌∙◌}
 use Rattle.tier_core.specs.declared.shape.Shape.{Shape}
 use Rattle.timeline_text.specs.Bytes.{lines_of}
-use Rattle.answer_reader.specs.Cuts.{begins}
-use Rattle.answer_reader.specs.Lines.{stage_of, automaton_of}
-use Rattle.answer_reader.specs.Stages.{behind_stages, in_stage, with_nodes, last_count, is_empty, is_automaton}
-use Rattle.answer_reader.specs.Stages.{next_node, stages_read, stages_from}
-use Rattle.answer_reader.specs.Steps.{go_on, line_then}
+use Rattle.answer_reader.specs.{Cuts.begins, Lines.{stage_of, automaton_of}, Stages.{behind_stages, in_stage}}
+use Rattle.answer_reader.specs.Stages.{with_nodes, last_count, is_empty, is_automaton, next_node, stages_read}
+use Rattle.answer_reader.specs.{Stages.stages_from, Steps.{go_on, line_then}}
 use Rattle.answer_text.specs.Values.{NodeValue}
-use Rattle.answer_reader.proofs.Cutting.{begins_line}
-use Rattle.answer_reader.proofs.Going.{go_on_then}
+use Rattle.answer_reader.proofs.{Cutting.begins_line, Going.go_on_then}
 
 -- a node that is to come
 pub node_next : (shape : Shape) (columns : ℕ) (stages : List (List NodeValue)) (more : ℕ) (nodes : List NodeValue)

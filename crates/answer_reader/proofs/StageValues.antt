@@ -1,14 +1,12 @@
 -- The stages of the code, and their values.
-use Rattle.std.proofs.Common.{◌≡◌, ℕ, zero, suc, ◌+◌, ◌-◌, ◌<◌, List, [], ◌∷◌, ◌++◌, length, map, refl, ap, sym, ◌∙◌}
-use Rattle.std.proofs.Common.{subst, arith, ⊎_elim}
-use Rattle.std.proofs.lemmas.Bool.{cases_lt}
+use Rattle.std.proofs.Common.{◌≡◌, ℕ, zero, suc, ◌+◌, ◌-◌, ◌<◌, List, [], ◌∷◌, ◌++◌, length, map, refl, ap, sym}
+use Rattle.std.proofs.{Common.{◌∙◌, subst, arith, ⊎_elim}, lemmas.Bool.cases_lt}
 use Rattle.std.proofs.lemmas.List.{length-map, length_push}
 use Rattle.tier_core.specs.declared.shape.Shape.{Shape}
-use Rattle.answer_text.specs.declared.stage.Stage.{Stage}
-use Rattle.answer_text.specs.Right.{nodes_at}
+use Rattle.answer_text.specs.{declared.stage.Stage.Stage, Right.nodes_at}
 use Rattle.answer_text.specs.Readable.{IsReadableStage, AreReadableStages, last_nodes}
-use Rattle.answer_reader.specs.Stages.{is_empty, last_count}
 use Rattle.answer_text.specs.Values.{node_value, stage_values}
+use Rattle.answer_reader.specs.Stages.{is_empty, last_count}
 
 pub length_values : (shape : Shape) (r : ℕ) (stages : List Stage) → length (stage_values shape r stages) ≡ length stages
 length_values shape r [] = refl

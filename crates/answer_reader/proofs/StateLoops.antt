@@ -1,29 +1,17 @@
 -- What the loops over states and arcs keep.
 use Rattle.std.proofs.Common.{◌≡◌, ℕ, suc, ◌<◌, Bool, true, false, nat_lt, List, [], ◌∷◌, ◌++◌, map, Result, Ok}
-use Rattle.std.proofs.Common.{Err, refl, ap, sym, ◌∙◌, subst, arith}
-use Rattle.std.specs.List.{All, AllByRecursion}
-use Rattle.std.specs.List.Sorted.{IsStrictlySortedBy}
-use Rattle.std.specs.Ordering.{nat_cmp}
-use Rattle.std.specs.Prelude.{codes}
-use Rattle.std.specs.Result.{MatchResult}
-use Rattle.std.specs.declared.cmp.Ordering.TheVariants.{Less}
-use Rattle.std.proofs.lemmas.Bool.Decides.{nat_tests}
-use Rattle.std.proofs.lemmas.List.{map_push}
-use Rattle.std.proofs.lemmas.List.Elements.{All-push}
-use Rattle.answer_text.specs.declared.automaton.ArcLine.{ArcLine}
-use Rattle.answer_text.specs.declared.automaton.StateLine.{StateLine}
-use Rattle.answer_text.specs.Readable.{AreReadableStates, IsReadableArc, IsReadableState}
-use Rattle.answer_text.specs.Right.{numbers_of}
-use Rattle.answer_reader.specs.declared.answer_err.AnswerErr.{AnswerErr}
-use Rattle.answer_reader.specs.declared.lines.Lines.{Lines}
-use Rattle.answer_reader.specs.Cuts.{begins}
-use Rattle.answer_reader.specs.Left.{lines_left, Takes, Continues}
-use Rattle.answer_reader.specs.LineWords.{bare_state, with_arcs}
-use Rattle.answer_reader.specs.Lines.{end_line}
-use Rattle.answer_reader.specs.Orders.{follows, state_less}
+use Rattle.std.proofs.{Common.{Err, refl, ap, sym, ◌∙◌, subst, arith}, lemmas.Bool.Decides.nat_tests}
+use Rattle.std.proofs.{lemmas.List.map_push, lemmas.List.Elements.All-push}
+use Rattle.std.specs.{List.{All, AllByRecursion}, List.Sorted.IsStrictlySortedBy, Ordering.nat_cmp, Prelude.codes}
+use Rattle.std.specs.{Result.MatchResult, declared.cmp.Ordering.TheVariants.Less}
+use Rattle.answer_text.specs.{declared.automaton.ArcLine.ArcLine, declared.automaton.StateLine.StateLine}
+use Rattle.answer_text.specs.{Readable.{AreReadableStates, IsReadableArc, IsReadableState}, Right.numbers_of}
+use Rattle.answer_text.specs.Values.{StateValue, arc_value, state_value}
+use Rattle.answer_reader.specs.{declared.answer_err.AnswerErr.AnswerErr, declared.lines.Lines.Lines, Cuts.begins}
+use Rattle.answer_reader.specs.{Left.{lines_left, Takes, Continues}, LineWords.{bare_state, with_arcs}}
+use Rattle.answer_reader.specs.{Lines.end_line, Orders.{follows, state_less}}
 use Rattle.answer_reader.specs.States.{at_end, behind_states, in_state, with_arc, next_arc, next_state, states_from}
 use Rattle.answer_reader.specs.Steps.{Fails, line_then}
-use Rattle.answer_text.specs.Values.{StateValue, arc_value, state_value}
 use Rattle.answer_reader.proofs.Going.{fails_from, takes_on, takes_fails}
 use Rattle.answer_reader.proofs.StateSteps.{state_next, end_next, arc_next, arcs_end}
 

@@ -1,18 +1,13 @@
 -- The lines of the states and their arcs, one by one.
-use Rattle.std.proofs.Common.{◌≡◌, ℕ, suc, ◌+◌, ◌<◌, true, false, cond, List, [], ◌∷◌, ◌++◌, length, codes, Result, Err}
-use Rattle.std.proofs.Common.{refl, ap, sym, ◌∙◌, arith}
+use Rattle.std.proofs.Common.{◌≡◌, ℕ, suc, ◌+◌, ◌<◌, true, false, cond, List, [], ◌∷◌, ◌++◌, length, codes, Result}
+use Rattle.std.proofs.{Common.{Err, refl, ap, sym, ◌∙◌, arith}, lemmas.List.Splits.join_with_byte-slice_split}
 use Rattle.std.specs.List.{join_with_byte}
-use Rattle.std.proofs.lemmas.List.Splits.{join_with_byte-slice_split}
-use Rattle.answer_reader.specs.declared.answer_err.AnswerCause.TheVariants.{ExtraBytes}
+use Rattle.answer_reader.specs.{declared.answer_err.AnswerCause.TheVariants.ExtraBytes, Cuts.begins, Lines.end_line}
+use Rattle.answer_reader.specs.States.{behind_states, in_state, with_arc, next_state, next_arc, at_end}
+use Rattle.answer_reader.specs.{States.{state_or_end, states_from}, Steps.{At, at, go_on, line_then}}
 use Rattle.timeline_text.specs.Bytes.{lines_of}
-use Rattle.answer_reader.specs.Cuts.{begins}
-use Rattle.answer_reader.specs.Lines.{end_line}
-use Rattle.answer_reader.specs.States.{behind_states, in_state, with_arc, next_state, next_arc, at_end, state_or_end}
-use Rattle.answer_reader.specs.States.{states_from}
-use Rattle.answer_reader.specs.Steps.{At, at, go_on, line_then}
 use Rattle.answer_text.specs.Values.{StateValue}
-use Rattle.answer_reader.proofs.Cutting.{begins_line}
-use Rattle.answer_reader.proofs.Going.{go_on_then}
+use Rattle.answer_reader.proofs.{Cutting.begins_line, Going.go_on_then}
 
 -- a state that is to come
 pub state_next : (width nodes more : ℕ) (states : List StateValue) (n : ℕ) (lines : List (List ℕ))

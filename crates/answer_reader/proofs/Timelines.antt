@@ -1,31 +1,21 @@
 -- The timeline of a text, found by tests, is the one whose text it is.
-use Rattle.std.proofs.Common.{◌≡◌, ◌≢◌, ℕ, zero, suc, ◌<◌, ◌≤◌, ◌&&◌, Bool, true, false, cond, nat_lt, List, [], ◌∷◌}
-use Rattle.std.proofs.Common.{length, codes, Option, Some, None, option_and_then, Result, Ok, Err, refl, ap, sym, ◌∙◌}
-use Rattle.std.proofs.Common.{subst, arith, ⊎_elim}
-use Rattle.std.specs.Option.{ok_or, MatchOption}
-use Rattle.std.specs.Result.{MatchResult, IfOk}
-use Rattle.std.specs.Str.{bytes_eq}
-use Rattle.std.proofs.lemmas.Bool.{false≢true, and_parts, and_from, cases_lt}
-use Rattle.std.proofs.lemmas.Bool.Decides.{nat_tests}
+use Rattle.std.proofs.Common.{◌≡◌, ◌≢◌, ℕ, zero, suc, ◌<◌, ◌≤◌, ◌&&◌, Bool, true, false, cond, nat_lt, List, []}
+use Rattle.std.proofs.Common.{◌∷◌, length, codes, Option, Some, None, option_and_then, Result, Ok, Err, refl, ap}
+use Rattle.std.proofs.Common.{sym, ◌∙◌, subst, arith, ⊎_elim}
+use Rattle.std.proofs.{lemmas.Bool.{false≢true, and_parts, and_from, cases_lt}, lemmas.Bool.Decides.nat_tests}
 use Rattle.std.proofs.lemmas.Slice.Eq.{bytes_eq-Decides}
-use Rattle.tier_core.specs.declared.sym.Sym.{Sym}
-use Rattle.tier_core.specs.Scan.{fits, opens}
-use Rattle.tier_core.specs.Timelines.{tier_word}
-use Rattle.tier_core.specs.Words.{IsWellFormedWord}
-use Rattle.tier_core.proofs.WordLemmas.{runs}
-use Rattle.tier_core.proofs.WordForm.{runs_from_well_formed, well_formed_from_runs}
-use Rattle.timeline_text.specs.declared.form_err.FormErr.{FormErr}
-use Rattle.timeline_text.specs.declared.form_err.FormErr.TheVariants.{NoMemory}
+use Rattle.std.specs.{Option.{ok_or, MatchOption}, Result.{MatchResult, IfOk}, Str.bytes_eq}
+use Rattle.tier_core.specs.{declared.sym.Sym.Sym, Scan.{fits, opens}, Timelines.tier_word, Words.IsWellFormedWord}
+use Rattle.tier_core.proofs.{WordLemmas.runs, WordForm.{runs_from_well_formed, well_formed_from_runs}}
+use Rattle.timeline_text.specs.{declared.form_err.FormErr.FormErr, declared.form_err.FormErr.TheVariants.NoMemory}
 use Rattle.timeline_text.specs.Causes.{bad_symbol, wrong_width, no_edge, spaced_pieces, columns_of, IsCause}
 use Rattle.timeline_text.specs.Texts.{text_of, IsTextOf}
-use Rattle.timeline_text.proofs.Cuts.{columns_back, no_word}
-use Rattle.timeline_text.proofs.Deciding.{not_the_word, the_word, bad_symbol_is, wrong_width_is, too_long_is}
-use Rattle.timeline_text.proofs.Deciding.{not_reduced_is, no_cause, empty_text, not_both}
-use Rattle.timeline_text.proofs.Searches.{by_test, by_option}
+use Rattle.timeline_text.proofs.{Cuts.{columns_back, no_word}, Deciding.{not_the_word, the_word, bad_symbol_is}}
+use Rattle.timeline_text.proofs.Deciding.{wrong_width_is, too_long_is, not_reduced_is, no_cause, empty_text}
+use Rattle.timeline_text.proofs.{Deciding.not_both, Searches.{by_test, by_option}}
 use Rattle.answer_reader.specs.declared.answer_err.AnswerCause.{AnswerCause}
 use Rattle.answer_reader.specs.declared.answer_err.AnswerCause.TheVariants.{BadLine}
-use Rattle.answer_reader.specs.declared.answer_err.AnswerErr.{AnswerErr}
-use Rattle.answer_reader.specs.Cuts.{behind}
+use Rattle.answer_reader.specs.{declared.answer_err.AnswerErr.AnswerErr, Cuts.behind}
 use Rattle.answer_reader.specs.Timelines.{is_drawn, are_drawn, unless, timeline_of, is_no_memory, timeline_said}
 
 drawn_runs : (b : Bool) (w : List Sym) → is_drawn b w ≡ runs b w

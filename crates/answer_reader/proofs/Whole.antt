@@ -1,20 +1,14 @@
 -- The parts of a text, put together.
 use Rattle.std.proofs.Common.{◌≡◌, ℕ, List, [], length, map, Result, Ok, ap, sym, ◌∙◌}
 use Rattle.tier_core.specs.declared.shape.Shape.{Shape}
-use Rattle.answer_text.specs.declared.automaton.StateLine.{StateLine}
-use Rattle.answer_text.specs.declared.stage.Stage.{Stage}
-use Rattle.answer_text.specs.Readable.{last_nodes}
-use Rattle.answer_reader.specs.declared.answer_err.AnswerErr.{AnswerErr}
-use Rattle.answer_reader.specs.declared.lines.Lines.{Lines}
-use Rattle.timeline_text.specs.Bytes.{lines_of}
-use Rattle.answer_reader.specs.Left.{lines_left}
-use Rattle.answer_reader.specs.Reading.{HeadValue, answer_with, states_behind, stages_behind, answer_from, answer_of}
-use Rattle.answer_reader.specs.Stages.{behind_stages, StagesRead, stages_read, stages_from}
-use Rattle.answer_reader.specs.States.{behind_states, states_from}
-use Rattle.answer_reader.specs.Steps.{At, and_then, Fails}
+use Rattle.answer_text.specs.{declared.automaton.StateLine.StateLine, declared.stage.Stage.Stage, Readable.last_nodes}
 use Rattle.answer_text.specs.Values.{StateValue, stage_values, state_value}
-use Rattle.answer_reader.proofs.Going.{fails_from, fails_then}
-use Rattle.answer_reader.proofs.StageValues.{last_values}
+use Rattle.answer_reader.specs.{declared.answer_err.AnswerErr.AnswerErr, declared.lines.Lines.Lines, Left.lines_left}
+use Rattle.answer_reader.specs.Reading.{HeadValue, answer_with, states_behind, stages_behind, answer_from}
+use Rattle.answer_reader.specs.{Reading.answer_of, Stages.{behind_stages, StagesRead, stages_read, stages_from}}
+use Rattle.answer_reader.specs.{States.{behind_states, states_from}, Steps.{At, and_then, Fails}}
+use Rattle.timeline_text.specs.Bytes.{lines_of}
+use Rattle.answer_reader.proofs.{Going.{fails_from, fails_then}, StageValues.last_values}
 
 module _ (shape : Shape) (bytes : List ℕ) (start l m : Lines) (head : HeadValue) (stages : List Stage) (count : ℕ)
     (whole : lines_left start ≡ lines_of bytes) (first : start.number ≡ 1)

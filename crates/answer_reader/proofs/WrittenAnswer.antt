@@ -1,53 +1,36 @@
 -- The text of an orderly answer is read as its value.
-use Rattle.std.proofs.Common.{◌≡◌, ℕ, suc, ◌+◌, ◌-◌, ◌<◌, ◌≤◌, List, [], ◌∷◌, ◌++◌, length, map, codes, Some, Result}
-use Rattle.std.proofs.Common.{Ok, refl, ap, sym, ◌∙◌, subst, arith, append_assoc, append-nil}
-use Rattle.std.specs.Fmt.{decimal}
-use Rattle.std.specs.List.{All, AllByRecursion, flat_map}
-use Rattle.std.specs.List.Sorted.{IsStrictlySortedBy}
-use Rattle.std.proofs.lemmas.List.{length-map, length_push}
-use Rattle.std.proofs.lemmas.List.FromFn.{length-map-range_with_len}
+use Rattle.std.proofs.Common.{◌≡◌, ℕ, suc, ◌+◌, ◌-◌, ◌<◌, ◌≤◌, List, [], ◌∷◌, ◌++◌, length, map, codes, Some}
+use Rattle.std.proofs.Common.{Result, Ok, refl, ap, sym, ◌∙◌, subst, arith, append_assoc, append-nil}
+use Rattle.std.proofs.{lemmas.List.{length-map, length_push}, lemmas.List.FromFn.length-map-range_with_len}
 use Rattle.std.proofs.lemmas.Simd.{map-map}
-use Rattle.tier_core.specs.declared.shape.Shape.{Shape}
-use Rattle.tier_core.specs.declared.sym.Sym.{Sym}
-use Rattle.tier_core.specs.Classes.{sets_of}
-use Rattle.tier_core.specs.Kinds.{kind_order, phase_at}
-use Rattle.tier_core.specs.KindShapes.{free_count, stretch_count, kind_in}
-use Rattle.tier_core.specs.Shapes.{masked_count}
-use Rattle.tier_core.specs.Tiers.{has_tier}
+use Rattle.std.specs.{Fmt.decimal, List.{All, AllByRecursion, flat_map}, List.Sorted.IsStrictlySortedBy}
+use Rattle.tier_core.specs.{declared.shape.Shape.Shape, declared.sym.Sym.Sym, Classes.sets_of}
+use Rattle.tier_core.specs.{Kinds.{kind_order, phase_at}, KindShapes.{free_count, stretch_count, kind_in}}
+use Rattle.tier_core.specs.{Shapes.masked_count, Tiers.has_tier}
 use Rattle.tier_core.proofs.Members.{all_both}
 use Rattle.timeline_text.specs.Texts.{text_of}
-use Rattle.timeline_text.specs.Texts as timeline
-use Rattle.answer_text.specs.declared.answer.Answer.{Answer}
-use Rattle.answer_text.specs.declared.automaton.ArcLine.{ArcLine}
-use Rattle.answer_text.specs.declared.automaton.StateLine.{StateLine}
-use Rattle.answer_text.specs.declared.stage.Node.{Node}
-use Rattle.answer_text.specs.declared.stage.Stage.{Stage}
-use Rattle.answer_text.specs.Orderly.{AreOrderedArcs, IsOrderly}
-use Rattle.answer_text.specs.Readable.{IsReadableArc, IsReadableState, last_nodes}
-use Rattle.answer_text.specs.Right.{nodes_at, numbers_of}
-use Rattle.answer_text.specs.Shape.{widths_of}
-use Rattle.answer_text.specs.Text.{node_line, stage_lines, stages_lines, arc_line, state_lines, automaton_lines}
-use Rattle.answer_text.specs.Text.{counts_line, answer_lines, answer_text}
-use Rattle.answer_reader.specs.Lines.{header_of, counts_of, automaton_of}
-use Rattle.answer_reader.specs.Nodes.{node_of}
-use Rattle.answer_reader.specs.Orders.{node_less}
-use Rattle.answer_reader.specs.Reading.{form_of, example_of, constraint_count, HeadValue, answer_with, states_behind}
-use Rattle.answer_reader.specs.Reading.{stages_behind, behind_form, answer_from, answer_of, IsTextOf}
-use Rattle.answer_reader.specs.Stages.{behind_stages, StagesRead, stages_from}
-use Rattle.answer_reader.specs.States.{behind_states, states_from}
-use Rattle.answer_reader.specs.Steps.{and_then, line_then}
+use Rattle.answer_text.specs.{declared.answer.Answer.Answer, declared.automaton.ArcLine.ArcLine}
+use Rattle.answer_text.specs.{declared.automaton.StateLine.StateLine, declared.stage.Node.Node}
+use Rattle.answer_text.specs.{declared.stage.Stage.Stage, Orderly.{AreOrderedArcs, IsOrderly}}
+use Rattle.answer_text.specs.{Readable.{IsReadableArc, IsReadableState, last_nodes}, Right.{nodes_at, numbers_of}}
+use Rattle.answer_text.specs.{Shape.widths_of, Text.{node_line, stage_lines, stages_lines, arc_line, state_lines}}
+use Rattle.answer_text.specs.Text.{automaton_lines, counts_line, answer_lines, answer_text}
 use Rattle.answer_text.specs.Values.{NodeValue, node_value, stage_values, answer_value}
-use Rattle.answer_reader.specs.Timelines.{timeline_said}
-use Rattle.answer_reader.proofs.StageValues.{length_values, last_values}
-use Rattle.answer_reader.proofs.Timelines.{timeline_for, said_of}
-use Rattle.answer_reader.proofs.WrittenFree.{node_free, stage_free, state_free, arc_free, counts_free, timeline_free}
-use Rattle.answer_reader.proofs.WrittenFree.{decimal_free}
+use Rattle.answer_reader.specs.{Lines.{header_of, counts_of, automaton_of}, Nodes.node_of, Orders.node_less}
+use Rattle.answer_reader.specs.Reading.{form_of, example_of, constraint_count, HeadValue, answer_with}
+use Rattle.answer_reader.specs.Reading.{states_behind, stages_behind, behind_form, answer_from, answer_of, IsTextOf}
+use Rattle.answer_reader.specs.{Stages.{behind_stages, StagesRead, stages_from}, States.{behind_states, states_from}}
+use Rattle.answer_reader.specs.{Steps.{and_then, line_then}, Timelines.timeline_said}
+use Rattle.answer_reader.proofs.{StageValues.{length_values, last_values}, Timelines.{timeline_for, said_of}}
+use Rattle.answer_reader.proofs.WrittenFree.{node_free, stage_free, state_free, arc_free, counts_free}
+use Rattle.answer_reader.proofs.WrittenFree.{timeline_free, decimal_free}
 use Rattle.answer_reader.proofs.WrittenLines.{AreCounts, node_back, automaton_back, stage_back, counts_back}
 use Rattle.answer_reader.proofs.WrittenStages.{after, after_both, some_behind, line_on, AreSaid, Ascends, ascends}
-use Rattle.answer_reader.proofs.WrittenStages.{whole_stage, automaton_on}
-use Rattle.answer_reader.proofs.WrittenStates.{IsArcBack, IsStateBack, the_end, lines_from, states_back, arcs_ascend}
-use Rattle.answer_reader.proofs.WrittenStates.{states_ascend, few_below}
+use Rattle.answer_reader.proofs.{WrittenStages.{whole_stage, automaton_on}, WrittenStates.{IsArcBack, IsStateBack}}
+use Rattle.answer_reader.proofs.WrittenStates.{the_end, lines_from, states_back, arcs_ascend, states_ascend}
+use Rattle.answer_reader.proofs.WrittenStates.{few_below}
 use Rattle.answer_reader.proofs.WrittenWords.{behind_front, AreLines, lines_back, both_lines}
+use Rattle.timeline_text.specs.Texts as timeline
 
 pub by_recursion : {X : Type 0} (P : X → Type 0) (xs : List X) → All P xs → AllByRecursion P xs
 by_recursion P [] h = tt

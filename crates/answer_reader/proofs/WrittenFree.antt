@@ -1,20 +1,13 @@
 -- No line that is written has an end of a line in it.
-use Rattle.std.proofs.Common.{◌≡◌, ℕ, ◌^◌, ◌<◌, ◌==◌, ◌||◌, Bool, true, false, cond, List, [], ◌∷◌, ◌++◌, length, map}
-use Rattle.std.proofs.Common.{filter, codes, refl, ap, ◌∙◌}
-use Rattle.std.specs.Fmt.{decimal}
-use Rattle.std.specs.List.{list_any}
-use Rattle.std.proofs.lemmas.List.Folds.{list_any-append}
-use Rattle.tier_core.specs.declared.sym.Sym.{Sym}
-use Rattle.tier_core.specs.declared.sym.Sym.TheVariants.{Outside, Inside, Start, End, Both}
-use Rattle.tier_core.specs.Kinds.{Phase, closed, unmet, met, PrefixKind}
-use Rattle.tier_core.specs.Sets.{is_in}
-use Rattle.tier_core.specs.Symbols.{byte_of, symbols}
-use Rattle.timeline_text.specs.Texts.{text_of}
-use Rattle.answer_text.specs.Text.{after_space, spaced_numbers, set_text, class_text, open_byte, phase_byte, kind_text}
-use Rattle.answer_text.specs.Text.{final_mark, counts_line}
-use Rattle.timeline_text.specs.Bytes.{is_newline}
-use Rattle.answer_reader.proofs.Decimals.{decimal_without}
-use Rattle.answer_reader.proofs.WrittenLines.{AreCounts, large}
+use Rattle.std.proofs.Common.{◌≡◌, ℕ, ◌^◌, ◌<◌, ◌==◌, ◌||◌, Bool, true, false, cond, List, [], ◌∷◌, ◌++◌, length}
+use Rattle.std.proofs.{Common.{map, filter, codes, refl, ap, ◌∙◌}, lemmas.List.Folds.list_any-append}
+use Rattle.std.specs.{Fmt.decimal, List.list_any}
+use Rattle.tier_core.specs.{declared.sym.Sym.Sym, declared.sym.Sym.TheVariants.{Outside, Inside, Start, End, Both}}
+use Rattle.tier_core.specs.{Kinds.{Phase, closed, unmet, met, PrefixKind}, Sets.is_in, Symbols.{byte_of, symbols}}
+use Rattle.timeline_text.specs.{Texts.text_of, Bytes.is_newline}
+use Rattle.answer_text.specs.Text.{after_space, spaced_numbers, set_text, class_text, open_byte, phase_byte}
+use Rattle.answer_text.specs.Text.{kind_text, final_mark, counts_line}
+use Rattle.answer_reader.proofs.{Decimals.decimal_without, WrittenLines.{AreCounts, large}}
 
 -- no end of a line
 abbrev pub IsFree : List ℕ → Type 0

@@ -1,28 +1,24 @@
 -- Each line that is written says what was written.
-use Rattle.std.proofs.Common.{◌≡◌, ℕ, zero, suc, ◌+◌, ◌^◌, ◌<◌, ◌≤◌, ◌==◌, ◌&&◌, Bool, true, false, cond, nat_lt, List}
-use Rattle.std.proofs.Common.{[], ◌∷◌, ◌++◌, length, map, codes, Option, Some, None, option_map, option_and_then}
-use Rattle.std.proofs.Common.{Result, Ok, Err, refl, ap, sym, ◌∙◌, subst, arith, append_assoc, append-nil, ⊎_elim}
-use Rattle.std.specs.Fmt.{decimal}
-use Rattle.std.specs.List.{list_all, list_any, slice_split, range_with_len, AllByRecursion, onto_first, position_or_len}
-use Rattle.std.specs.Option.{ok_or}
-use Rattle.std.proofs.lemmas.Bool.{and_from, or_parts, cases_lt}
-use Rattle.std.proofs.lemmas.Bool.Decides.{nat_tests}
-use Rattle.std.proofs.lemmas.List.{length-map}
+use Rattle.std.proofs.Common.{◌≡◌, ℕ, zero, suc, ◌+◌, ◌^◌, ◌<◌, ◌≤◌, ◌==◌, ◌&&◌, Bool, true, false, cond, nat_lt}
+use Rattle.std.proofs.Common.{List, [], ◌∷◌, ◌++◌, length, map, codes, Option, Some, None, option_map}
+use Rattle.std.proofs.Common.{option_and_then, Result, Ok, Err, refl, ap, sym, ◌∙◌, subst, arith, append_assoc}
+use Rattle.std.proofs.{Common.{append-nil, ⊎_elim}, lemmas.Bool.{and_from, or_parts, cases_lt}}
+use Rattle.std.proofs.{lemmas.Bool.Decides.nat_tests, lemmas.List.length-map}
+use Rattle.std.specs.{Fmt.decimal, List.{list_all, list_any, slice_split, range_with_len, AllByRecursion, onto_first}}
+use Rattle.std.specs.{List.position_or_len, Option.ok_or}
 use Rattle.tier_core.specs.Kinds.{Phase, closed, unmet, met, PrefixKind}
-use Rattle.answer_text.specs.Text.{after_space, spaced_numbers, set_text, class_text, open_byte, phase_byte, kind_text}
-use Rattle.answer_text.specs.Text.{final_mark, counts_line}
+use Rattle.answer_text.specs.Text.{after_space, spaced_numbers, set_text, class_text, open_byte, phase_byte}
+use Rattle.answer_text.specs.{Text.{kind_text, final_mark, counts_line}, Values.{NodeValue, ArcValue}}
 use Rattle.answer_reader.specs.declared.answer_err.AnswerCause.{AnswerCause}
 use Rattle.answer_reader.specs.declared.answer_err.AnswerCause.TheVariants.{BadLine, BadNumber, BadClass}
-use Rattle.answer_reader.specs.Classes.{set_and_rest, class_of}
-use Rattle.timeline_text.specs.Bytes.{is_space}
-use Rattle.answer_reader.specs.Cuts.{parts_at, cut}
+use Rattle.answer_reader.specs.{Classes.{set_and_rest, class_of}, Cuts.{parts_at, cut}}
 use Rattle.answer_reader.specs.Lines.{counts_words, counts_said, counts_of, number_said, stage_words, stage_said}
 use Rattle.answer_reader.specs.Lines.{stage_of, is_number, automaton_of, final_words, state_words, state_with}
 use Rattle.answer_reader.specs.Lines.{state_said, state_of, arc_words, arc_with, arc_if_target, arc_said, arc_of}
-use Rattle.answer_reader.specs.Nodes.{is_open_byte, is_phase_byte, phase_of_byte, are_each, NodeWords, with_potential}
-use Rattle.answer_reader.specs.Nodes.{node_words, are_node_words, node_by, node_with, node_said, node_of}
-use Rattle.answer_reader.specs.Numbers.{is_run, number_below, numbers_below}
-use Rattle.answer_text.specs.Values.{NodeValue, ArcValue}
+use Rattle.answer_reader.specs.Nodes.{is_open_byte, is_phase_byte, phase_of_byte, are_each, NodeWords}
+use Rattle.answer_reader.specs.Nodes.{with_potential, node_words, are_node_words, node_by, node_with, node_said}
+use Rattle.answer_reader.specs.{Nodes.node_of, Numbers.{is_run, number_below, numbers_below}}
+use Rattle.timeline_text.specs.Bytes.{is_space}
 use Rattle.answer_reader.proofs.Decimals.{run_decimal, number_decimal, decimal_without}
 use Rattle.answer_reader.proofs.Sets.{IsDecoded, each_decoded, decoded_is_front}
 use Rattle.answer_reader.proofs.WrittenWords.{behind_front, one_further, cut_word, split_word}

@@ -1,22 +1,15 @@
 -- The lines of the stages, as they are written, are read as the stages.
 use Rattle.std.proofs.Common.{◌≡◌, ℕ, ◌+◌, ◌<◌, Bool, true, false, cond, List, [], ◌∷◌, ◌++◌, length, map, codes}
 use Rattle.std.proofs.Common.{Result, Ok, Err, refl, ap, sym, ◌∙◌, arith, append_assoc, append-nil}
-use Rattle.std.specs.List.Sorted.{IsStrictlySortedBy}
-use Rattle.std.specs.Ordering.{is_lt}
-use Rattle.std.specs.declared.cmp.Ordering.{Ordering}
-use Rattle.tier_core.specs.declared.shape.Shape.{Shape}
-use Rattle.tier_core.specs.KindShapes.{free_count, stretch_count}
+use Rattle.std.specs.{List.Sorted.IsStrictlySortedBy, Ordering.is_lt, declared.cmp.Ordering.Ordering}
+use Rattle.tier_core.specs.{declared.shape.Shape.Shape, KindShapes.{free_count, stretch_count}}
 use Rattle.answer_reader.specs.declared.answer_err.AnswerCause.{AnswerCause}
-use Rattle.answer_reader.specs.declared.answer_err.AnswerCause.TheVariants.{BadOrder}
-use Rattle.answer_reader.specs.Lines.{stage_of, automaton_of}
-use Rattle.answer_reader.specs.Nodes.{node_of}
-use Rattle.answer_reader.specs.Orders.{follows, in_order, node_less}
+use Rattle.answer_reader.specs.{declared.answer_err.AnswerCause.TheVariants.BadOrder, Lines.{stage_of, automaton_of}}
+use Rattle.answer_reader.specs.{Nodes.node_of, Orders.{follows, in_order, node_less}}
 use Rattle.answer_reader.specs.Stages.{behind_stages, with_nodes, last_count, is_automaton, next_node, stages_read}
-use Rattle.answer_reader.specs.Stages.{stages_from}
-use Rattle.answer_reader.specs.Steps.{At, go_on, and_then, line_then}
+use Rattle.answer_reader.specs.{Stages.stages_from, Steps.{At, go_on, and_then, line_then}}
 use Rattle.answer_text.specs.Values.{NodeValue}
-use Rattle.answer_reader.proofs.Sets.{begins_front}
-use Rattle.answer_reader.proofs.StageSteps.{node_next}
+use Rattle.answer_reader.proofs.{Sets.begins_front, StageSteps.node_next}
 
 -- ---- going on
 

@@ -1,30 +1,19 @@
 -- The lines of the states and their arcs, as they are written, are read as the states.
-use Rattle.std.proofs.Common.{◌≡◌, ℕ, suc, ◌+◌, ◌<◌, ◌≤◌, Bool, true, false, cond, nat_lt, List, [], ◌∷◌, ◌++◌, length}
-use Rattle.std.proofs.Common.{map, codes, Result, Ok, refl, ap, sym, ◌∙◌, subst, arith, append_assoc, append-nil}
-use Rattle.std.specs.Fmt.{decimal}
-use Rattle.std.specs.List.{AllByRecursion, flat_map}
-use Rattle.std.specs.List.Sorted.{IsStrictlySortedBy}
-use Rattle.std.specs.Ordering.{nat_cmp, ordering_then, is_lt}
-use Rattle.std.specs.Cmp.Lexicographic.{slice_cmp}
-use Rattle.std.specs.declared.cmp.Ordering.{Ordering}
-use Rattle.std.specs.declared.cmp.Ordering.TheVariants.{Less}
-use Rattle.std.proofs.lemmas.Simd.{map-map}
-use Rattle.std.proofs.lemmas.Bool.Decides.{nat_tests}
+use Rattle.std.proofs.Common.{◌≡◌, ℕ, suc, ◌+◌, ◌<◌, ◌≤◌, Bool, true, false, cond, nat_lt, List, [], ◌∷◌, ◌++◌}
+use Rattle.std.proofs.Common.{length, map, codes, Result, Ok, refl, ap, sym, ◌∙◌, subst, arith, append_assoc}
+use Rattle.std.proofs.{Common.append-nil, lemmas.Simd.map-map, lemmas.Bool.Decides.nat_tests}
+use Rattle.std.specs.{Fmt.decimal, List.{AllByRecursion, flat_map}, List.Sorted.IsStrictlySortedBy}
+use Rattle.std.specs.{Ordering.{nat_cmp, ordering_then, is_lt}, Cmp.Lexicographic.slice_cmp}
+use Rattle.std.specs.{declared.cmp.Ordering.Ordering, declared.cmp.Ordering.TheVariants.Less}
 use Rattle.tier_core.specs.Classes.{sets_of}
-use Rattle.answer_text.specs.declared.automaton.ArcLine.{ArcLine}
-use Rattle.answer_text.specs.declared.automaton.StateLine.{StateLine}
-use Rattle.answer_text.specs.Right.{arc_cmp, numbers_of}
-use Rattle.answer_text.specs.Text.{arc_line, final_mark, state_lines, class_text}
-use Rattle.answer_reader.specs.Cuts.{begins}
-use Rattle.answer_reader.specs.LineWords.{bare_state, with_arcs}
-use Rattle.answer_reader.specs.Lines.{state_of, arc_of}
+use Rattle.answer_text.specs.{declared.automaton.ArcLine.ArcLine, declared.automaton.StateLine.StateLine}
+use Rattle.answer_text.specs.{Right.{arc_cmp, numbers_of}, Text.{arc_line, final_mark, state_lines, class_text}}
+use Rattle.answer_text.specs.Values.{ArcValue, StateValue, arc_value, state_value}
+use Rattle.answer_reader.specs.{Cuts.begins, LineWords.{bare_state, with_arcs}, Lines.{state_of, arc_of}}
 use Rattle.answer_reader.specs.Orders.{follows, arc_less, state_less}
 use Rattle.answer_reader.specs.States.{behind_states, in_state, next_state, next_arc, state_or_end, states_from}
 use Rattle.answer_reader.specs.Steps.{At, go_on}
-use Rattle.answer_text.specs.Values.{ArcValue, StateValue, arc_value, state_value}
-use Rattle.answer_reader.proofs.Sets.{begins_front}
-use Rattle.answer_reader.proofs.StateLoops.{follows_node, told_less}
-use Rattle.answer_reader.proofs.StateSteps.{state_next}
+use Rattle.answer_reader.proofs.{Sets.begins_front, StateLoops.{follows_node, told_less}, StateSteps.state_next}
 use Rattle.answer_reader.proofs.WrittenLines.{AreFull, arc_back, state_back}
 use Rattle.answer_reader.proofs.WrittenStages.{after, Ascends, ascends, in_its_place, line_on, some_behind}
 

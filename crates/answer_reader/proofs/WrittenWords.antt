@@ -1,9 +1,8 @@
 -- Words between separators, and lines between their ends, cut again.
-use Rattle.std.proofs.Common.{◌≡◌, ℕ, suc, ◌+◌, ◌<◌, ◌==◌, not, Bool, true, false, cond, nat_lt, List, [], ◌∷◌, ◌++◌}
-use Rattle.std.proofs.Common.{length, drop, Option, Some, None, option_map, refl, ap, ◌∙◌, arith, append_assoc}
+use Rattle.std.proofs.Common.{◌≡◌, ℕ, suc, ◌+◌, ◌<◌, ◌==◌, not, Bool, true, false, cond, nat_lt, List, [], ◌∷◌}
+use Rattle.std.proofs.Common.{◌++◌, length, drop, Option, Some, None, option_map, refl, ap, ◌∙◌, arith}
+use Rattle.std.proofs.{Common.append_assoc, lemmas.Bool.or_parts, lemmas.Bool.Decides.nat_tests}
 use Rattle.std.specs.List.{list_any, slice_split, position_or_len, onto_first}
-use Rattle.std.proofs.lemmas.Bool.{or_parts}
-use Rattle.std.proofs.lemmas.Bool.Decides.{nat_tests}
 use Rattle.answer_text.specs.Text.{lines_text}
 use Rattle.timeline_text.specs.Bytes.{is_newline, lines_of}
 use Rattle.answer_reader.specs.Cuts.{parts_at, cut, behind}

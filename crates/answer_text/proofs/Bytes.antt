@@ -1,8 +1,7 @@
 -- Bytes that are written at the front of an array.
 use Rattle.std.proofs.Common.{◌≡◌, ℕ, ◌+◌, ◌<◌, List, [], ◌∷◌, ◌++◌, map, take, set, length, ap, sym, ◌∙◌, arith}
+use Rattle.std.proofs.{lemmas.List.{take_more_set, map_push}, lemmas.List.FromFn.map-range_with_len_more}
 use Rattle.std.specs.List.{range_with_len}
-use Rattle.std.proofs.lemmas.List.{take_more_set, map_push}
-use Rattle.std.proofs.lemmas.List.FromFn.{map-range_with_len_more}
 
 -- one byte more
 pub bytes_more : {Y : Type 0} (g : Y → ℕ) (f : ℕ → Y) (bytes : List ℕ) (n byte : ℕ) → n < length bytes → byte ≡ g (f n)

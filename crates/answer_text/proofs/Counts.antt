@@ -1,12 +1,9 @@
 -- How many tiers a mask has, by its bits.
-use Rattle.std.proofs.Common.{◌≡◌, ℕ, zero, suc, ◌+◌, ◌*◌, ◌/◌, ◌%◌, ◌^◌, ◌<◌, ◌≤◌, ◌==◌, cond, [], ◌∷◌, ◌++◌, length}
-use Rattle.std.proofs.Common.{refl, ap, sym, ◌∙◌, subst, arith, length-append}
-use Rattle.std.specs.Int.RustNames.{count_ones}
-use Rattle.std.specs.Int.{bit_at}
-use Rattle.std.proofs.lemmas.Nat.{pow_pos}
+use Rattle.std.proofs.Common.{◌≡◌, ℕ, zero, suc, ◌+◌, ◌*◌, ◌/◌, ◌%◌, ◌^◌, ◌<◌, ◌≤◌, ◌==◌, cond, [], ◌∷◌, ◌++◌}
+use Rattle.std.proofs.{Common.{length, refl, ap, sym, ◌∙◌, subst, arith, length-append}, lemmas.Nat.pow_pos}
 use Rattle.std.proofs.lemmas.Nat.Bits.{bit_at_cat_low}
-use Rattle.tier_core.specs.Tiers.{has_tier, tiers_below, tiers_of}
-use Rattle.tier_core.specs.Shapes.{masked_count}
+use Rattle.std.specs.{Int.RustNames.count_ones, Int.bit_at}
+use Rattle.tier_core.specs.{Tiers.{has_tier, tiers_below, tiers_of}, Shapes.masked_count}
 use lib.Count.{ones_cat, ones-le}
 use lib.Pow.{pow_mono, shr_lt}
 

@@ -1,18 +1,11 @@
 -- Lines, shapes, and what an automaton of two states accepts, as tests say them.
 use Rattle.std.proofs.Common.{◌⊎◌, inl, inr, ⊎_elim, zero, suc, ◌≡◌, ℕ, ◌+◌, ◌<◌, ◌≤◌, true, false, List, [], ◌∷◌}
-use Rattle.std.proofs.Common.{get_or, refl, ap, sym, ◌∙◌, subst, arith}
-use Rattle.std.specs.List.{Contains}
-use Rattle.std.proofs.lemmas.Bool.{false≢true}
-use Rattle.tier_core.specs.declared.sym.Sym.{Sym}
-use Rattle.tier_core.specs.declared.sym.Sym.TheVariants.{Outside, Start, End}
-use Rattle.tier_core.specs.Classes.{sets_have, sets_of}
-use Rattle.answer_text.specs.declared.automaton.ArcLine.{ArcLine}
-use Rattle.answer_text.specs.declared.automaton.StateLine.{StateLine}
-use Rattle.answer_text.specs.declared.stage.Node.{Node}
-use Rattle.tier_core.specs.Kinds.{PrefixKind, prefix_kind}
-use Rattle.tier_core.specs.Shapes.{NeverFalls}
-use Rattle.std.specs.Prelude.{codes, ◌++◌}
-use Rattle.answer_text.specs.Text.{after_space, kind_text, node_line}
+use Rattle.std.proofs.{Common.{get_or, refl, ap, sym, ◌∙◌, subst, arith}, lemmas.Bool.false≢true}
+use Rattle.std.specs.{List.Contains, Prelude.{codes, ◌++◌}}
+use Rattle.tier_core.specs.{declared.sym.Sym.Sym, declared.sym.Sym.TheVariants.{Outside, Start, End}}
+use Rattle.tier_core.specs.{Classes.{sets_have, sets_of}, Kinds.{PrefixKind, prefix_kind}, Shapes.NeverFalls}
+use Rattle.answer_text.specs.{declared.automaton.ArcLine.ArcLine, declared.automaton.StateLine.StateLine}
+use Rattle.answer_text.specs.{declared.stage.Node.Node, Text.{after_space, kind_text, node_line}}
 use Rattle.answer_text.specs.Acceptance.{HasArc, IsFinalState, Accepts}
 
 -- a line of a node by what the node tells

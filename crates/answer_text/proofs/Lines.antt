@@ -1,14 +1,11 @@
 -- Lines of lists, and their texts.
-use Rattle.std.proofs.Common.{◌≡◌, ℕ, ◌+◌, ◌<◌, List, [], ◌∷◌, ◌++◌, map, codes, length, drop, get_or, refl, ap, sym}
-use Rattle.std.proofs.Common.{◌∙◌, append_assoc, append-nil}
+use Rattle.std.proofs.Common.{◌≡◌, ℕ, ◌+◌, ◌<◌, List, [], ◌∷◌, ◌++◌, map, codes, length, drop, get_or, refl, ap}
+use Rattle.std.proofs.{Common.{sym, ◌∙◌, append_assoc, append-nil}, lemmas.List.Concat.flat_map-append}
+use Rattle.std.proofs.{lemmas.List.Folds.flat_map-map, lemmas.List.at_drop_more}
 use Rattle.std.specs.List.{flat_map}
-use Rattle.std.proofs.lemmas.List.Concat.{flat_map-append}
-use Rattle.std.proofs.lemmas.List.Folds.{flat_map-map}
-use Rattle.std.proofs.lemmas.List.{at_drop_more}
-use Rattle.answer_text.specs.declared.answer.Answer.{Answer}
-use Rattle.answer_text.specs.declared.stage.Stage.{Stage}
-use Rattle.answer_text.specs.Text.{Widths, line, lines_text, counts_line, head_lines, stage_lines, stages_lines}
-use Rattle.answer_text.specs.Text.{automaton_lines, answer_text, counts_text, shown_text}
+use Rattle.answer_text.specs.{declared.answer.Answer.Answer, declared.stage.Stage.Stage, Text.{Widths, line}}
+use Rattle.answer_text.specs.Text.{lines_text, counts_line, head_lines, stage_lines, stages_lines, automaton_lines}
+use Rattle.answer_text.specs.Text.{answer_text, counts_text, shown_text}
 use Rattle.timeline_text.specs.Texts.{text_of}
 
 -- a line for each element

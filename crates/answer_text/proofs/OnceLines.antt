@@ -4,8 +4,7 @@ use Rattle.answer_text.specs.declared.once_answer.OnceAnswer.{OnceAnswer}
 use Rattle.answer_text.specs.OnceText.{OnceWidths, nodes_lines, once_head_lines, once_text}
 use Rattle.answer_text.specs.Text.{automaton_lines, counts_line, kind_text, line, lines_text, spaced_numbers}
 use Rattle.answer_text.proofs.Lines.{four_lines, four_texts}
-use Rattle.tier_core.specs.declared.kind.Kind.{Kind}
-use Rattle.tier_core.specs.Kinds.{prefix_kind}
+use Rattle.tier_core.specs.{declared.kind.Kind.Kind, Kinds.prefix_kind}
 use Rattle.timeline_text.specs.Texts.{text_of}
 
 -- a kind, and the numbers at the front of a list, with the widths that they are written with

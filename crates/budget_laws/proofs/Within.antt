@@ -1,17 +1,12 @@
 -- No stage has more kinds than enough.
 use Rattle.std.proofs.Common.{◌≡◌, ℕ, ◌+◌, ◌*◌, ◌^◌, ◌≤◌, List, [], ◌∷◌, length, refl, arith, codes}
-use Rattle.std.specs.List.{AllByRecursion}
 use Rattle.std.proofs.lemmas.Nat.{mul-le}
-use Rattle.tier_core.specs.declared.sym.Sym.{Sym}
-use Rattle.tier_core.specs.declared.tier.TierKind.TheVariants.{Input, Overt}
+use Rattle.std.specs.List.{AllByRecursion}
+use Rattle.tier_core.specs.{declared.sym.Sym.Sym, declared.tier.TierKind.TheVariants.{Input, Overt}}
 use Rattle.tier_core.specs.Tables.{tiers_of_table}
-use Rattle.violation.specs.Candidates.{IsForm}
-use Rattle.violation.specs.Conditions.{AreSplit, IsOverTiers}
-use Rattle.violation.specs.Prefixes.{stretches}
-use Rattle.violation.specs.Problems.{Problem, problem_from, last_stage, last_place}
-use Rattle.violation.specs.Examples.{over_two, read_kind}
-use Rattle.violation.proofs.ExampleLemmas.{right_timeline, empty_kinds}
-use Rattle.violation.proofs.SplitLemmas.{tiers_split}
+use Rattle.violation.specs.{Candidates.IsForm, Conditions.{AreSplit, IsOverTiers}, Prefixes.stretches}
+use Rattle.violation.specs.{Problems.{Problem, problem_from, last_stage, last_place}, Examples.{over_two, read_kind}}
+use Rattle.violation.proofs.{ExampleLemmas.{right_timeline, empty_kinds}, SplitLemmas.tiers_split}
 use Rattle.grammar_reader.specs.declared.grammar.Grammar.{Grammar}
 use Rattle.grammar_reader.proofs.OverTiers.{over_tiers}
 use Rattle.kind_laws.proofs.KindsFew.{all_few, power_more}

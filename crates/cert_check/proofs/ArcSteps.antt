@@ -1,35 +1,21 @@
 -- Arcs that are made of the pieces of a kind's kept moves lead where those moves lead.
 use Rattle.std.proofs.Common.{◌≡◌, ℕ, ◌+◌, ◌<◌, IsTrue, List, [], ◌∷◌, ◌++◌, take, length, get_or, slice_get, Some}
 use Rattle.std.proofs.Common.{None, Option, refl, sym, ap, ◌∙◌, subst, All, Contains}
-use Rattle.std.specs.List.Sorted.{IsStrictlySortedBy}
-use Rattle.std.proofs.lemmas.List.{map-append, take_more}
-use Rattle.std.proofs.lemmas.List.Elements.{All-contains, All-push}
+use Rattle.std.proofs.{lemmas.List.{map-append, take_more}, lemmas.List.Elements.{All-contains, All-push}}
 use Rattle.std.proofs.lemmas.List.Folds.{list_any_at}
-use Rattle.std.specs.Prelude.{option_map}
 use Rattle.std.proofs.lemmas.Option.{slice_get_within, slice_get-map, get_or_from_slice_get}
-use Rattle.tier_core.specs.declared.sym.Sym.{Sym}
-use Rattle.tier_core.specs.Classes.{has, sets_of}
-use Rattle.tier_core.specs.Kinds.{PrefixKind, kind_order}
+use Rattle.std.specs.{List.Sorted.IsStrictlySortedBy, Prelude.option_map}
+use Rattle.tier_core.specs.{declared.sym.Sym.Sym, Classes.{has, sets_of}, Kinds.{PrefixKind, kind_order}}
 use Rattle.symbol_class.specs.Held.{some_has}
-use Rattle.violation.specs.Moves.{next_kind}
-use Rattle.violation.specs.Prefixes.{kind_of_bits}
-use Rattle.violation.specs.Problems.{Problem, last_stage}
-use Rattle.answer_text.specs.declared.automaton.ArcLine.{ArcLine}
-use Rattle.answer_text.specs.declared.stage.Node.{Node}
-use Rattle.answer_text.specs.Certified.{IsKeptBelow}
-use Rattle.answer_text.specs.Right.{nodes_at, kinds_at, IsNodeOf}
+use Rattle.violation.specs.{Moves.next_kind, Prefixes.kind_of_bits, Problems.{Problem, last_stage}}
+use Rattle.answer_text.specs.{declared.automaton.ArcLine.ArcLine, declared.stage.Node.Node, Certified.IsKeptBelow}
+use Rattle.answer_text.specs.{Right.{nodes_at, kinds_at, IsNodeOf}, ArcClasses.arc_classes}
 use Rattle.check_laws.proofs.Listing.{one_number}
 use Rattle.tier_core.proofs.Members.{All-from_members, contains_map}
-use Rattle.cert_check.specs.declared.kept_piece.KeptPiece.{KeptPiece}
-use Rattle.cert_check.specs.declared.subject.Subject.{Subject}
-use Rattle.answer_text.specs.ArcClasses.{arc_classes}
-use Rattle.cert_check.specs.Faults.{IsListedTarget, IsKeptTarget}
-use Rattle.cert_check.specs.Kept.{kept_classes, IsKeptPiece, AreKeptPieces}
-use Rattle.cert_check.specs.KeptArcs.{IsPieceArc, AreArcsOf}
-use Rattle.cert_check.specs.States.{AreKeptArcs}
-use Rattle.cert_check.specs.Subjects.{problem_of, stage_kinds}
-use Rattle.cert_check.proofs.ArcLists.{HasOneTarget, arc_there}
-use Rattle.cert_check.proofs.Faultless.{some_same}
+use Rattle.cert_check.specs.{declared.kept_piece.KeptPiece.KeptPiece, declared.subject.Subject.Subject}
+use Rattle.cert_check.specs.{Faults.{IsListedTarget, IsKeptTarget}, Kept.{kept_classes, IsKeptPiece, AreKeptPieces}}
+use Rattle.cert_check.specs.{KeptArcs.{IsPieceArc, AreArcsOf}, States.AreKeptArcs, Subjects.{problem_of, stage_kinds}}
+use Rattle.cert_check.proofs.{ArcLists.{HasOneTarget, arc_there}, Faultless.some_same}
 
 -- ---- one arc more
 

@@ -1,21 +1,15 @@
 -- The kinds of a stage in which no node is wrong ascend.
 use Rattle.std.proofs.Common.{◌≡◌, ℕ, zero, suc, ◌+◌, ◌-◌, ◌<◌, ◌≤◌, List, [], ◌∷◌, length, get_or, slice_get, Some}
-use Rattle.std.proofs.Common.{None, Option, refl, sym, ap, ◌∙◌, subst, arith}
-use Rattle.std.specs.List.Sorted.{IsStrictlySortedBy}
-use Rattle.std.specs.declared.cmp.Ordering.TheVariants.{Less}
-use Rattle.std.proofs.lemmas.List.{length-map}
+use Rattle.std.proofs.{Common.{None, Option, refl, sym, ap, ◌∙◌, subst, arith}, lemmas.List.length-map}
 use Rattle.std.proofs.lemmas.Map.Keys.{sorted_from_all_adjacent}
 use Rattle.std.proofs.lemmas.Option.{slice_get-get_or, get_or_from_slice_get}
+use Rattle.std.specs.{List.Sorted.IsStrictlySortedBy, declared.cmp.Ordering.TheVariants.Less}
 use Rattle.tier_core.specs.Kinds.{PrefixKind, kind_order}
-use Rattle.violation.specs.Prefixes.{kind_of, kind_of_bits}
-use Rattle.violation.specs.Problems.{Problem}
-use Rattle.answer_text.specs.declared.stage.Node.{Node}
-use Rattle.answer_text.specs.declared.answer.Answer.{Answer}
-use Rattle.answer_text.specs.Right.{nodes_at, kinds_at}
+use Rattle.violation.specs.{Prefixes.{kind_of, kind_of_bits}, Problems.Problem}
+use Rattle.answer_text.specs.{declared.stage.Node.Node, declared.answer.Answer.Answer, Right.{nodes_at, kinds_at}}
 use Rattle.tier_core.proofs.KindTies.{kind_order_total}
 use Rattle.cert_check.specs.Faults.{HasNode, HasWrongNode}
-use Rattle.cert_check.proofs.Decisions.{so_unless, is_less}
-use Rattle.cert_check.proofs.Faultless.{node_kind}
+use Rattle.cert_check.proofs.{Decisions.{so_unless, is_less}, Faultless.node_kind}
 
 pub none_there : (ns : List Node) (n : ℕ) → n < length ns → slice_get ns n ≡ None → ⊥
 none_there [] n l e = absurd (omega (arith, l))

@@ -1,23 +1,14 @@
 -- Constraints that require the same, by their families and sides, count, phase and move alike.
 use Rattle.std.proofs.Common.{◌≡◌, ℕ, ◌&&◌, not, Bool, true, false, cond, List, [], ◌∷◌, length, map, take, filter}
-use Rattle.std.proofs.Common.{drop, refl, ap, ap₂, sym, ◌∙◌, subst}
-use Rattle.std.specs.Prelude.{if◌then◌else◌, slice_index_or, ◌-◌}
-use Rattle.std.specs.List.{list_all}
-use Rattle.std.proofs.lemmas.List.{length-map, take-map}
-use Rattle.tier_core.specs.declared.sym.Sym.{Sym}
-use Rattle.tier_core.specs.declared.constraint.Constraint.{Constraint}
-use Rattle.tier_core.specs.Kinds.{Phase, PrefixKind}
-use Rattle.tier_core.specs.Tiers.{Tiers}
-use Rattle.tier_core.specs.Timelines.{project, squeeze, tier_word, symbol}
-use Rattle.tier_core.specs.Scan.{opens}
-use Rattle.tier_core.specs.Sides.{has_edge_type, is_implication, is_stretch}
+use Rattle.std.proofs.{Common.{drop, refl, ap, ap₂, sym, ◌∙◌, subst}, lemmas.List.{length-map, take-map}}
+use Rattle.std.specs.{Prelude.{if◌then◌else◌, slice_index_or, ◌-◌}, List.list_all}
+use Rattle.tier_core.specs.{declared.sym.Sym.Sym, declared.constraint.Constraint.Constraint}
+use Rattle.tier_core.specs.{Kinds.{Phase, PrefixKind}, Tiers.Tiers, Timelines.{project, squeeze, tier_word, symbol}}
+use Rattle.tier_core.specs.{Scan.opens, Sides.{has_edge_type, is_implication, is_stretch}}
 use Rattle.grammar_reader.specs.Requirements.{Requirement, requirement_seen, requirements_seen}
-use Rattle.violation.specs.Candidates.{vec}
-use Rattle.violation.specs.Counts.{viol}
-use Rattle.violation.specs.Moves.{costs, costs_each, cost_of, cut_kind, first_phase, is_tier_open, next_kind}
-use Rattle.violation.specs.Moves.{next_phase, next_phases}
-use Rattle.violation.specs.Phases.{AreClosedOr, is_left_open}
-use Rattle.violation.specs.Prefixes.{is_open, kind_of, phase, stretches}
+use Rattle.violation.specs.{Candidates.vec, Counts.viol, Moves.{costs, costs_each, cost_of, cut_kind, first_phase}}
+use Rattle.violation.specs.Moves.{is_tier_open, next_kind, next_phase, next_phases}
+use Rattle.violation.specs.{Phases.{AreClosedOr, is_left_open}, Prefixes.{is_open, kind_of, phase, stretches}}
 use Rattle.violation.specs.Problems.{Problem}
 use Rattle.cert_check.specs.Seen.{AreAskedAlike}
 

@@ -1,33 +1,21 @@
 -- An answer in which no fault is is certified.
 use Rattle.std.proofs.Common.{◌≡◌, ℕ, zero, suc, ◌+◌, ◌-◌, ◌<◌, ◌≤◌, ◌⊎◌, Bool, true, IsTrue, List, [], ◌∷◌, length}
-use Rattle.std.proofs.Common.{not, get_or, slice_get, Some, None, Option, refl, sym, ap, ◌∙◌, subst, arith, inl, inr}
-use Rattle.std.proofs.Common.{Contains, All, AllPairs}
-use Rattle.std.specs.List.Sorted.{IsStrictlySortedBy}
-use Rattle.std.specs.Prelude.{unwrap_or}
-use Rattle.std.proofs.lemmas.Bool.{cases_eq, cases_lt}
-use Rattle.std.proofs.lemmas.List.{length-map}
-use Rattle.std.proofs.lemmas.List.FromFn.{length-map-range_with_len}
+use Rattle.std.proofs.Common.{not, get_or, slice_get, Some, None, Option, refl, sym, ap, ◌∙◌, subst, arith, inl}
+use Rattle.std.proofs.{Common.{inr, Contains, All, AllPairs}, lemmas.Bool.{cases_eq, cases_lt}}
+use Rattle.std.proofs.{lemmas.List.length-map, lemmas.List.FromFn.length-map-range_with_len}
 use Rattle.std.proofs.lemmas.Grind.{same_number_lists}
 use Rattle.std.proofs.lemmas.Option.{slice_get-get_or, get_or_from_slice_get, slice_get_within}
-use Rattle.tier_core.specs.declared.sym.Sym.{Sym}
-use Rattle.tier_core.specs.declared.kind.Kind.{Kind}
-use Rattle.tier_core.specs.declared.constraint.Constraint.{Constraint}
-use Rattle.tier_core.specs.Classes.{has, AreDisjoint}
-use Rattle.tier_core.specs.Kinds.{Phase, PrefixKind, kind_order, phase_at}
-use Rattle.tier_core.specs.Scan.{opens}
+use Rattle.std.specs.{List.Sorted.IsStrictlySortedBy, Prelude.unwrap_or}
+use Rattle.tier_core.specs.{declared.sym.Sym.Sym, declared.kind.Kind.Kind, declared.constraint.Constraint.Constraint}
+use Rattle.tier_core.specs.{Classes.{has, AreDisjoint}, Kinds.{Phase, PrefixKind, kind_order, phase_at}, Scan.opens}
 use Rattle.tier_core.specs.Timelines.{symbol}
-use Rattle.violation.specs.Candidates.{IsForm, IsCandidate, counts_on}
-use Rattle.violation.specs.Counts.{violations_of}
+use Rattle.violation.specs.{Candidates.{IsForm, IsCandidate, counts_on}, Counts.violations_of}
 use Rattle.violation.specs.Moves.{next_kind, cost_of, cut_kind, is_final, next_phases}
 use Rattle.violation.specs.Phases.{is_closed, is_left_open, AreClosedOr}
-use Rattle.violation.specs.Prefixes.{kind_of, kind_of_bits, stretches}
-use Rattle.violation.specs.Problems.{Problem, last_stage, last_place}
-use Rattle.answer_text.specs.declared.stage.Node.{Node}
-use Rattle.answer_text.specs.declared.automaton.ArcLine.{ArcLine}
-use Rattle.answer_text.specs.declared.automaton.StateLine.{StateLine}
-use Rattle.answer_text.specs.declared.answer.Answer.{Answer}
-use Rattle.answer_text.specs.Acceptance.{HasArc}
-use Rattle.answer_text.specs.Right.{nodes_at, kinds_at, IsNodeOf, numbers_of}
+use Rattle.violation.specs.{Prefixes.{kind_of, kind_of_bits, stretches}, Problems.{Problem, last_stage, last_place}}
+use Rattle.answer_text.specs.{declared.stage.Node.Node, declared.automaton.ArcLine.ArcLine}
+use Rattle.answer_text.specs.{declared.automaton.StateLine.StateLine, declared.answer.Answer.Answer}
+use Rattle.answer_text.specs.{Acceptance.HasArc, Right.{nodes_at, kinds_at, IsNodeOf, numbers_of}}
 use Rattle.answer_text.specs.Certified.{Lists, IsKeptBelow, IsPossibleKind, IsCertified, IsCertifiedStage}
 use Rattle.answer_text.specs.Certified.{IsCertifiedAutomaton, start_potential}
 use Rattle.tier_core.proofs.Members.{contains_of_map, All-from_members}
@@ -35,16 +23,13 @@ use Rattle.check_laws.proofs.Listing.{lists_kind, kind_numbered, one_potential}
 use Rattle.cert_check.specs.declared.fault.Fault.TheVariants.{FormWrong, StageMissing, ExampleWrong, CountsDiffer}
 use Rattle.cert_check.specs.declared.fault.Fault.TheVariants.{NodeWrong, StartMissing, FinalPotential, NotClosed}
 use Rattle.cert_check.specs.declared.fault.Fault.TheVariants.{Potential, StartPotential, StateMissing, FinalsDiffer}
-use Rattle.cert_check.specs.declared.fault.Fault.TheVariants.{ArcsTwice, ArcsDiffer}
-use Rattle.cert_check.specs.Faults.{HasNode, HasWrongNode, IsUnlisted, HasState, TellsKind, IsListedTarget}
-use Rattle.cert_check.specs.Faults.{IsKeptTarget}
+use Rattle.cert_check.specs.{declared.fault.Fault.TheVariants.{ArcsTwice, ArcsDiffer}, Faults.{HasNode, HasWrongNode}}
+use Rattle.cert_check.specs.Faults.{IsUnlisted, HasState, TellsKind, IsListedTarget, IsKeptTarget}
 use Rattle.cert_check.specs.FirstFaults.{IsFaultless}
-use Rattle.cert_check.proofs.Decisions.{Decided, from_both, so_unless, at_most, is_bool, is_member, is_kind, is_option}
-use Rattle.cert_check.proofs.DecidedForms.{is_form, is_candidate}
-use Rattle.cert_check.proofs.DecidedMoves.{is_listed, is_kept}
-use Rattle.cert_check.proofs.Faultless.{contains_numbered}
-use Rattle.cert_check.proofs.Ascending.{node_at, kind_at, ascends_unless}
-use Rattle.cert_check.proofs.KindMasks.{some_told}
+use Rattle.cert_check.proofs.Decisions.{Decided, from_both, so_unless, at_most, is_bool, is_member, is_kind}
+use Rattle.cert_check.proofs.{Decisions.is_option, DecidedForms.{is_form, is_candidate}}
+use Rattle.cert_check.proofs.{DecidedMoves.{is_listed, is_kept}, Faultless.contains_numbered}
+use Rattle.cert_check.proofs.{Ascending.{node_at, kind_at, ascends_unless}, KindMasks.some_told}
 
 -- numbers that do not differ are the same
 same_unless : (m n : ℕ) → ((m ≡ n → ⊥) → ⊥) → m ≡ n

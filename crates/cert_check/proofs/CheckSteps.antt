@@ -1,32 +1,18 @@
 -- The whole check: what is known after the stages, and when nothing is wrong.
 use Rattle.std.proofs.Common.{◌≡◌, ℕ, zero, suc, ◌+◌, ◌-◌, ◌<◌, ◌≤◌, ◌^◌, List, length, get_or, sym, ap, ap₂, ◌∙◌}
-use Rattle.std.proofs.Common.{subst, arith, ⊎_elim, inl, inr}
+use Rattle.std.proofs.{Common.{subst, arith, ⊎_elim, inl, inr}, lemmas.Bool.cases_lt, lemmas.List.length-map}
 use Rattle.std.specs.List.{AllByRecursion}
-use Rattle.std.proofs.lemmas.Bool.{cases_lt}
-use Rattle.tier_core.specs.declared.shape.Shape.{Shape}
-use Rattle.tier_core.specs.declared.sym.Sym.{Sym}
-use Rattle.tier_core.specs.Kinds.{AreStretchesBelow}
-use Rattle.tier_core.specs.KindShapes.{FitsShape}
-use Rattle.tier_core.specs.Shapes.{masked_count}
-use Rattle.violation.specs.Problems.{Problem, last_stage}
-use Rattle.grammar_reader.specs.declared.grammar.Grammar.{Grammar}
-use Rattle.grammar_reader.specs.ShapeOf.{IsShapeOf}
-use Rattle.answer_text.specs.declared.answer.Answer.{Answer}
-use Rattle.answer_text.specs.declared.stage.Node.{Node}
+use Rattle.tier_core.specs.{declared.shape.Shape.Shape, declared.sym.Sym.Sym, Kinds.AreStretchesBelow}
+use Rattle.tier_core.specs.{KindShapes.FitsShape, Shapes.masked_count, declared.constraint.Constraint.Constraint}
+use Rattle.violation.specs.{Problems.{Problem, last_stage}, Counts.violations_of}
+use Rattle.grammar_reader.specs.{declared.grammar.Grammar.Grammar, ShapeOf.IsShapeOf}
+use Rattle.answer_text.specs.{declared.answer.Answer.Answer, declared.stage.Node.Node}
 use Rattle.answer_text.specs.Readable.{AreReadableStates, IsReadable, IsReadableStage, last_nodes}
-use Rattle.answer_text.specs.Certified.{AreStatesInOrder}
-use Rattle.answer_text.specs.Right.{nodes_at}
-use Rattle.cert_check.specs.FirstFaults.{IsFaultless, IsReadableFor}
-use Rattle.cert_check.specs.Nodes.{IsFaultlessStage}
-use Rattle.cert_check.specs.Parts.{InAnswer, InNode, InStage, IsWrongMove}
-use Rattle.cert_check.specs.declared.subject.Subject.{Subject}
-use Rattle.cert_check.specs.Parts.{HasRightHead}
-use Rattle.cert_check.specs.Subjects.{IsReady, problem_of}
-use Rattle.cert_check.proofs.Parts.{parted}
-use Rattle.cert_check.proofs.Heads.{form_part, numbers_part, example_part, counts_part, head_parts}
-use Rattle.std.proofs.lemmas.List.{length-map}
-use Rattle.tier_core.specs.declared.constraint.Constraint.{Constraint}
-use Rattle.violation.specs.Counts.{violations_of}
+use Rattle.answer_text.specs.{Certified.AreStatesInOrder, Right.nodes_at}
+use Rattle.cert_check.specs.{FirstFaults.{IsFaultless, IsReadableFor}, Nodes.IsFaultlessStage}
+use Rattle.cert_check.specs.Parts.{InAnswer, InNode, InStage, IsWrongMove, HasRightHead}
+use Rattle.cert_check.specs.{declared.subject.Subject.Subject, Subjects.{IsReady, problem_of}}
+use Rattle.cert_check.proofs.{Parts.parted, Heads.{form_part, numbers_part, example_part, counts_part, head_parts}}
 
 -- ---- two shapes of one grammar
 

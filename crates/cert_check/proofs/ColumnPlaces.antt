@@ -1,13 +1,9 @@
 -- Places are in a total order, and columns are compared as their places are.
 use Rattle.std.proofs.Common.{◌≡◌, ℕ, true, false, List, [], ◌∷◌, refl, arith, ⊎_elim, inl, inr, ◌⊎◌}
-use Rattle.std.specs.Ordering.{nat_cmp, ordering_then, is_gt}
-use Rattle.std.specs.declared.cmp.Ordering.{Ordering}
+use Rattle.std.proofs.{lemmas.Bool.{cases_lt, true≢false, false≢true}, lemmas.Cmp.ranked}
+use Rattle.std.specs.{Ordering.{nat_cmp, ordering_then, is_gt}, declared.cmp.Ordering.Ordering}
 use Rattle.std.specs.declared.cmp.Ordering.TheVariants.{Less, Equal, Greater}
-use Rattle.std.proofs.lemmas.Bool.{cases_lt, true≢false, false≢true}
-use Rattle.std.proofs.lemmas.Cmp.{ranked}
-use Rattle.tier_core.specs.declared.sym.Sym.{Sym}
-use Rattle.tier_core.specs.Orders.{column_cmp}
-use Rattle.tier_core.specs.Symbols.{rank}
+use Rattle.tier_core.specs.{declared.sym.Sym.Sym, Orders.column_cmp, Symbols.rank}
 use Rattle.cert_check.specs.Places.{IsBefore, column_place}
 
 -- what comes between

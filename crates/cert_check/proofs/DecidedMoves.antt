@@ -1,15 +1,12 @@
 -- Whether a stage lists a kind, a column fits one, and a move is kept, can be told.
-use Rattle.std.proofs.Common.{◌≡◌, ℕ, ◌+◌, ◌<◌, ◌≤◌, ◌⊎◌, true, false, List, length, ap, ◌∙◌, arith, inl, inr, Contains}
+use Rattle.std.proofs.Common.{◌≡◌, ℕ, ◌+◌, ◌<◌, ◌≤◌, ◌⊎◌, true, false, List, length, ap, ◌∙◌, arith, inl, inr}
+use Rattle.std.proofs.{Common.Contains, lemmas.Bool.{cases_eq, cases_lt}}
 use Rattle.std.specs.List.Sorted.{IsStrictlySortedBy}
-use Rattle.std.proofs.lemmas.Bool.{cases_eq, cases_lt}
-use Rattle.tier_core.specs.declared.sym.Sym.{Sym}
-use Rattle.tier_core.specs.Kinds.{PrefixKind, kind_order}
-use Rattle.tier_core.specs.Scan.{fits}
+use Rattle.tier_core.specs.{declared.sym.Sym.Sym, Kinds.{PrefixKind, kind_order}, Scan.fits}
 use Rattle.tier_core.specs.Timelines.{symbol, column_at, has_edge}
 use Rattle.violation.specs.Moves.{FitsKind, next_kind, cost_of, cut_kind, is_tier_open, input_of}
 use Rattle.violation.specs.Problems.{Problem, last_place}
-use Rattle.answer_text.specs.declared.stage.Stage.{Stage}
-use Rattle.answer_text.specs.Right.{nodes_at, kinds_at}
+use Rattle.answer_text.specs.{declared.stage.Stage.Stage, Right.{nodes_at, kinds_at}}
 use Rattle.answer_text.specs.Certified.{Lists, IsTightAt, IsKeptBelow}
 use Rattle.check_laws.proofs.Listing.{lists_kind, kind_listed, one_potential}
 use Rattle.cert_check.specs.Faults.{IsUnlisted}

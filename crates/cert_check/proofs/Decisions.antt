@@ -1,17 +1,11 @@
 -- What can be told to be so or not: on numbers, lists, symbols and kinds.
-use Rattle.std.proofs.Common.{◌≡◌, ℕ, zero, suc, ◌<◌, ◌≤◌, ◌⊎◌, Bool, true, false, List, [], ◌∷◌, length, get_or, refl}
-use Rattle.std.proofs.Common.{sym, ap, ap₂, ◌∙◌, subst, arith, inl, inr, Contains, Some, None, Option, true≢false}
-use Rattle.std.specs.Ordering.{is_eq, is_lt}
-use Rattle.std.specs.Prelude.{unwrap_or}
-use Rattle.std.specs.declared.cmp.Ordering.{Ordering}
+use Rattle.std.proofs.Common.{◌≡◌, ℕ, zero, suc, ◌<◌, ◌≤◌, ◌⊎◌, Bool, true, false, List, [], ◌∷◌, length, get_or}
+use Rattle.std.proofs.Common.{refl, sym, ap, ap₂, ◌∙◌, subst, arith, inl, inr, Contains, Some, None, Option}
+use Rattle.std.proofs.{Common.true≢false, lemmas.Bool.{cases_eq, cases_lt}, lemmas.Cmp.tied_itself}
+use Rattle.std.specs.{Ordering.{is_eq, is_lt}, Prelude.unwrap_or, declared.cmp.Ordering.Ordering}
 use Rattle.std.specs.declared.cmp.Ordering.TheVariants.{Less, Equal, Greater}
-use Rattle.std.proofs.lemmas.Bool.{cases_eq, cases_lt}
-use Rattle.std.proofs.lemmas.Cmp.{tied_itself}
-use Rattle.tier_core.specs.declared.sym.Sym.{Sym}
-use Rattle.tier_core.specs.Kinds.{PrefixKind, kind_order}
-use Rattle.tier_core.specs.Symbols.{rank}
-use Rattle.tier_core.proofs.KindTies.{same_kind, kind_order_total}
-use Rattle.tier_core.proofs.SetLemmas.{rank_same}
+use Rattle.tier_core.specs.{declared.sym.Sym.Sym, Kinds.{PrefixKind, kind_order}, Symbols.rank}
+use Rattle.tier_core.proofs.{KindTies.{same_kind, kind_order_total}, SetLemmas.rank_same}
 
 abbrev pub Decided : Type 0 → Type 0
 Decided P = P ⊎ (P → ⊥)

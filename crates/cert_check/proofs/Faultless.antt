@@ -1,39 +1,28 @@
 -- In a certified answer no fault is.
 use Rattle.std.proofs.Common.{◌≡◌, ℕ, ◌+◌, ◌-◌, ◌<◌, Bool, IsTrue, List, [], length, get_or, slice_get, Some, None}
 use Rattle.std.proofs.Common.{Option, refl, sym, ap, ◌∙◌, subst, arith, inl, inr, Contains, All, AllPairs}
-use Rattle.std.specs.Prelude.{option_map, unwrap_or}
-use Rattle.std.specs.List.Sorted.{IsStrictlySortedBy}
-use Rattle.std.specs.declared.cmp.Ordering.TheVariants.{Less}
-use Rattle.std.proofs.lemmas.List.{length-map}
-use Rattle.std.proofs.lemmas.List.Elements.{All-contains}
-use Rattle.std.proofs.lemmas.Map.Keys.{Less-from_sorted}
+use Rattle.std.proofs.{lemmas.List.length-map, lemmas.List.Elements.All-contains, lemmas.Map.Keys.Less-from_sorted}
 use Rattle.std.proofs.lemmas.Option.{slice_get_within, get_or_from_slice_get, slice_get-map}
-use Rattle.tier_core.specs.declared.sym.Sym.{Sym}
-use Rattle.tier_core.specs.declared.kind.Kind.{Kind}
-use Rattle.tier_core.specs.Kinds.{PrefixKind, kind_order}
-use Rattle.violation.specs.Counts.{violations_of}
-use Rattle.violation.specs.Moves.{next_kind, cut_kind}
-use Rattle.violation.specs.Prefixes.{kind_of, kind_of_bits}
-use Rattle.violation.specs.Problems.{Problem, last_stage}
-use Rattle.answer_text.specs.declared.stage.Node.{Node}
-use Rattle.answer_text.specs.declared.automaton.ArcLine.{ArcLine}
-use Rattle.answer_text.specs.declared.automaton.StateLine.{StateLine}
-use Rattle.answer_text.specs.declared.answer.Answer.{Answer}
-use Rattle.answer_text.specs.Right.{nodes_at, kinds_at, IsNodeOf}
-use Rattle.answer_text.specs.Certified.{Lists, IsKeptBelow, IsPossibleKind, IsCertified, IsCertifiedStage}
-use Rattle.answer_text.specs.Certified.{IsCertifiedAutomaton, AreStatesInOrder}
+use Rattle.std.specs.{Prelude.{option_map, unwrap_or}, List.Sorted.IsStrictlySortedBy}
+use Rattle.std.specs.declared.cmp.Ordering.TheVariants.{Less}
+use Rattle.tier_core.specs.{declared.sym.Sym.Sym, declared.kind.Kind.Kind, Kinds.{PrefixKind, kind_order}}
 use Rattle.tier_core.specs.Classes.{has, AreDisjoint}
+use Rattle.violation.specs.{Counts.violations_of, Moves.{next_kind, cut_kind}, Prefixes.{kind_of, kind_of_bits}}
+use Rattle.violation.specs.Problems.{Problem, last_stage}
+use Rattle.answer_text.specs.{declared.stage.Node.Node, declared.automaton.ArcLine.ArcLine}
+use Rattle.answer_text.specs.{declared.automaton.StateLine.StateLine, declared.answer.Answer.Answer}
+use Rattle.answer_text.specs.{Right.{nodes_at, kinds_at, IsNodeOf}, Certified.{Lists, IsKeptBelow, IsPossibleKind}}
+use Rattle.answer_text.specs.Certified.{IsCertified, IsCertifiedStage, IsCertifiedAutomaton, AreStatesInOrder}
 use Rattle.tier_core.proofs.Members.{contains_map}
-use Rattle.check_laws.proofs.Listing.{one_potential, one_number}
-use Rattle.check_laws.proofs.Leading.{one_state}
+use Rattle.check_laws.proofs.{Listing.{one_potential, one_number}, Leading.one_state}
 use Rattle.cert_check.specs.declared.fault.Fault.TheVariants.{FormWrong, StageMissing, ExampleWrong, CountsDiffer}
 use Rattle.cert_check.specs.declared.fault.Fault.TheVariants.{NodeWrong, StartMissing, FinalPotential, NotClosed}
 use Rattle.cert_check.specs.declared.fault.Fault.TheVariants.{Potential, StartPotential, StateMissing, FinalsDiffer}
 use Rattle.cert_check.specs.declared.fault.Fault.TheVariants.{ArcsTwice, ArcsDiffer}
 use Rattle.cert_check.specs.Faults.{LacksStage, HasWrongCount, HasNode, IsInOrder, HasWrongNode, LacksStart}
-use Rattle.cert_check.specs.Faults.{HasFinalPotential, IsNotClosed, HasHighPotential, HasWrongStart, IsState, HasState}
-use Rattle.cert_check.specs.Faults.{LacksTarget, HasWrongMark, HasTwice, IsListedTarget, IsKeptTarget, HasWrongArcs}
-use Rattle.cert_check.specs.FirstFaults.{LacksState, IsFaultless}
+use Rattle.cert_check.specs.Faults.{HasFinalPotential, IsNotClosed, HasHighPotential, HasWrongStart, IsState}
+use Rattle.cert_check.specs.Faults.{HasState, LacksTarget, HasWrongMark, HasTwice, IsListedTarget, IsKeptTarget}
+use Rattle.cert_check.specs.{Faults.HasWrongArcs, FirstFaults.{LacksState, IsFaultless}}
 
 pub some_same : {X : Type 0} {x y : X} → Some x ≡ Some y → x ≡ y
 some_same {x = x} e = ap (λ o. unwrap_or o x) e

@@ -1,28 +1,18 @@
 -- Two answers that are seen alike have the same faults.
 use Rattle.std.proofs.Common.{◌≡◌, ℕ, ◌+◌, ◌-◌, ◌<◌, ◌≤◌, ◌⊎◌, Bool, IsTrue, List, [], length, map, slice_get, Some}
-use Rattle.std.proofs.Common.{None, Option, sym, ap, ◌∙◌, subst, inl, inr, Contains}
+use Rattle.std.proofs.{Common.{None, Option, sym, ap, ◌∙◌, subst, inl, inr, Contains}, lemmas.Simd.map-map}
 use Rattle.std.specs.Prelude.{◌↔◌, slice_index_or}
-use Rattle.std.proofs.lemmas.Simd.{map-map}
-use Rattle.tier_core.specs.declared.sym.Sym.{Sym}
-use Rattle.tier_core.specs.declared.kind.Kind.{Kind}
-use Rattle.tier_core.specs.declared.constraint.Constraint.{Constraint}
-use Rattle.tier_core.specs.Classes.{has, sets_have}
-use Rattle.tier_core.specs.Kinds.{AreStretchesBelow, PrefixKind, prefix_kind}
+use Rattle.tier_core.specs.{declared.sym.Sym.Sym, declared.kind.Kind.Kind, declared.constraint.Constraint.Constraint}
+use Rattle.tier_core.specs.{Classes.{has, sets_have}, Kinds.{AreStretchesBelow, PrefixKind, prefix_kind}}
 use Rattle.grammar_reader.specs.Requirements.{requirements_seen}
-use Rattle.violation.specs.Candidates.{IsCandidate, count_at}
-use Rattle.violation.specs.Moves.{next_kind, cost_of, cut_kind, is_final}
-use Rattle.violation.specs.Prefixes.{kind_of_bits}
-use Rattle.violation.specs.Problems.{Problem, last_stage}
-use Rattle.answer_text.specs.declared.stage.Node.{Node}
-use Rattle.answer_text.specs.declared.automaton.ArcLine.{ArcLine}
-use Rattle.answer_text.specs.declared.automaton.StateLine.{StateLine}
-use Rattle.answer_text.specs.declared.answer.Answer.{Answer}
-use Rattle.answer_text.specs.Right.{nodes_at, kinds_at, numbers_of}
-use Rattle.answer_text.specs.Seen.{node_seen}
+use Rattle.violation.specs.{Candidates.{IsCandidate, count_at}, Moves.{next_kind, cost_of, cut_kind, is_final}}
+use Rattle.violation.specs.{Prefixes.kind_of_bits, Problems.{Problem, last_stage}}
+use Rattle.answer_text.specs.{declared.stage.Node.Node, declared.automaton.ArcLine.ArcLine}
+use Rattle.answer_text.specs.{declared.automaton.StateLine.StateLine, declared.answer.Answer.Answer}
+use Rattle.answer_text.specs.{Right.{nodes_at, kinds_at, numbers_of}, Seen.node_seen}
 use Rattle.answer_text.specs.Values.{ArcValue, NodeValue, StateValue, arc_value, state_value}
 use Rattle.answer_text.specs.Certified.{Lists, IsKeptBelow, IsTightAt, start_potential}
-use Rattle.cert_check.specs.declared.fault.Fault.{Fault}
-use Rattle.cert_check.specs.declared.fault.Verdict.{Verdict}
+use Rattle.cert_check.specs.{declared.fault.Fault.Fault, declared.fault.Verdict.Verdict}
 use Rattle.cert_check.specs.declared.fault.Verdict.TheVariants.{Yes, No}
 use Rattle.cert_check.specs.declared.fault.Fault.TheVariants.{FormWrong, StageMissing, ExampleWrong, CountsDiffer}
 use Rattle.cert_check.specs.declared.fault.Fault.TheVariants.{NodeWrong, StartMissing, FinalPotential, NotClosed}
@@ -31,12 +21,10 @@ use Rattle.cert_check.specs.declared.fault.Fault.TheVariants.{ArcsTwice, ArcsDif
 use Rattle.cert_check.specs.Faults.{LacksStage, HasWrongCount, HasNode, IsInOrder, HasWrongNode, LacksStart}
 use Rattle.cert_check.specs.Faults.{HasFinalPotential, TellsKind, IsNotClosed, HasHighPotential, HasWrongStart}
 use Rattle.cert_check.specs.Faults.{HasState, IsKindOfState, LacksTarget, HasWrongMark, HasTwice, IsListedTarget}
-use Rattle.cert_check.specs.Faults.{IsKeptTarget, HasWrongArcs}
-use Rattle.cert_check.specs.FirstFaults.{IsFault, IsFirstFault, LacksState}
-use Rattle.cert_check.specs.Verdicts.{IsVerdict}
-use Rattle.cert_check.specs.Seen.{AreAskedAlike, AreSeenAlike}
-use Rattle.cert_check.proofs.AskedAlike.{by_alike, same_closed, same_cost, same_count, same_cut, same_kind, same_move}
-use Rattle.cert_check.proofs.AskedAlike.{same_stretch_count, same_vec, with_constraints}
+use Rattle.cert_check.specs.{Faults.{IsKeptTarget, HasWrongArcs}, FirstFaults.{IsFault, IsFirstFault, LacksState}}
+use Rattle.cert_check.specs.{Verdicts.IsVerdict, Seen.{AreAskedAlike, AreSeenAlike}}
+use Rattle.cert_check.proofs.AskedAlike.{by_alike, same_closed, same_cost, same_count, same_cut, same_kind}
+use Rattle.cert_check.proofs.AskedAlike.{same_move, same_stretch_count, same_vec, with_constraints}
 use Rattle.cert_check.proofs.SeenLists.{at_number, member}
 
 -- Two answers that are seen alike, each for its own constraints, which require the same.

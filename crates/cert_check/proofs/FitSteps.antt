@@ -1,15 +1,10 @@
 -- Classes that are narrowed to the columns that fit a kind, tier by tier.
-use Rattle.std.proofs.Common.{◌≡◌, ℕ, ◌+◌, ◌<◌, ◌↔◌, Bool, true, false, not, ◌&&◌, ◌||◌, IsTrue, List, length, get_or}
-use Rattle.std.proofs.Common.{refl, ap, sym, ◌∙◌, arith, below_more}
-use Rattle.std.proofs.lemmas.Bool.{and_parts, and_from}
-use Rattle.tier_core.specs.declared.sym.Sym.{Sym}
-use Rattle.tier_core.specs.declared.tier.TierKind.{TierKind}
-use Rattle.tier_core.specs.Sets.{is_in}
-use Rattle.tier_core.specs.Tiers.{is_input}
+use Rattle.std.proofs.Common.{◌≡◌, ℕ, ◌+◌, ◌<◌, ◌↔◌, Bool, true, false, not, ◌&&◌, ◌||◌, IsTrue, List, length}
+use Rattle.std.proofs.{Common.{get_or, refl, ap, sym, ◌∙◌, arith, below_more}, lemmas.Bool.{and_parts, and_from}}
+use Rattle.tier_core.specs.{declared.sym.Sym.Sym, declared.tier.TierKind.TierKind, Sets.is_in, Tiers.is_input}
 use Rattle.tier_core.specs.Timelines.{symbol, is_edge, has_edge}
 use Rattle.tier_core.proofs.KnownSets.{in_edgeless}
-use Rattle.violation.proofs.CandidateLemmas.{part_from}
-use Rattle.violation.proofs.InputParts.{part_step}
+use Rattle.violation.proofs.{CandidateLemmas.part_from, InputParts.part_step}
 
 -- one tier more
 pub tier_more : (next rest inside : Bool) (test : ℕ → Bool) (tier : ℕ) → next ≡ (rest && inside) → inside ≡ test tier

@@ -1,26 +1,18 @@
 -- The columns that fit a kind, in pieces: those without an edge on the input tiers, and those that read
 -- a column of the form.
-use Rattle.std.proofs.Common.{◌≡◌, ◌↔◌, ◌⊎◌, ℕ, ◌+◌, ◌<◌, Bool, true, false, not, ◌&&◌, ◌||◌, IsTrue, List, [], length}
-use Rattle.std.proofs.Common.{refl, ap, sym, ◌∙◌, subst, arith, ⊎_elim, inl, inr, All}
-use Rattle.std.specs.List.{AllByRecursion}
+use Rattle.std.proofs.Common.{◌≡◌, ◌↔◌, ◌⊎◌, ℕ, ◌+◌, ◌<◌, Bool, true, false, not, ◌&&◌, ◌||◌, IsTrue, List, []}
+use Rattle.std.proofs.Common.{length, refl, ap, sym, ◌∙◌, subst, arith, ⊎_elim, inl, inr, All}
 use Rattle.std.proofs.lemmas.Bool.{both_ways, and_parts, and_from, or_cases, or_left, or_right, and_right, not-true}
 use Rattle.std.proofs.lemmas.Bool.{false_from_ne_true, cases_Bool}
-use Rattle.tier_core.specs.declared.class.Class.{Class}
-use Rattle.tier_core.specs.declared.sym.Sym.{Sym}
-use Rattle.tier_core.specs.Classes.{sets_of, has}
-use Rattle.tier_core.specs.Kinds.{PrefixKind}
-use Rattle.tier_core.specs.Scan.{fits}
-use Rattle.tier_core.specs.Timelines.{symbol, column_at, is_edge, has_edge}
+use Rattle.std.specs.List.{AllByRecursion}
+use Rattle.tier_core.specs.{declared.class.Class.Class, declared.sym.Sym.Sym, Classes.{sets_of, has}}
+use Rattle.tier_core.specs.{Kinds.PrefixKind, Scan.fits, Timelines.{symbol, column_at, is_edge, has_edge}}
 use Rattle.tier_core.specs.Tiers.{has_tier}
-use Rattle.tier_core.proofs.ClassLemmas.{same_width}
-use Rattle.tier_core.proofs.EdgeLemmas.{none_edge, each_edgeless, edge_on}
-use Rattle.symbol_class.specs.Held.{once_if, AddsClasses}
-use Rattle.symbol_class.specs.Parts.{AddsAlike}
-use Rattle.symbol_class.proofs.PartSteps.{adds_constant, alike_then}
-use Rattle.symbol_class.proofs.Times.{adds_same, pieces_added, columns_added}
+use Rattle.tier_core.proofs.{ClassLemmas.same_width, EdgeLemmas.{none_edge, each_edgeless, edge_on}}
+use Rattle.symbol_class.specs.{Held.{once_if, AddsClasses}, Parts.AddsAlike}
+use Rattle.symbol_class.proofs.{PartSteps.{adds_constant, alike_then}, Times.{adds_same, pieces_added, columns_added}}
 use Rattle.symbol_class.proofs.Once.{either_once}
-use Rattle.violation.specs.Moves.{FitsKind, input_of, is_tier_open}
-use Rattle.violation.specs.Problems.{Problem, last_place}
+use Rattle.violation.specs.{Moves.{FitsKind, input_of, is_tier_open}, Problems.{Problem, last_place}}
 use Rattle.cert_check.specs.Fitting.{AreFitting, IsReadAlike}
 
 -- ---- what two classes have in common

@@ -1,22 +1,15 @@
 -- Classes that are gathered: what they hold, one by one.
-use Rattle.std.proofs.Common.{◌≡◌, ℕ, zero, suc, ◌+◌, ◌-◌, ◌<◌, ◌≤◌, ◌&&◌, ◌||◌, Bool, true, false, IsTrue, List, []}
-use Rattle.std.proofs.Common.{◌∷◌, ◌++◌, take, drop, length, get_or, slice_get, Some, refl, sym, ap, ◌∙◌, subst, arith}
-use Rattle.std.specs.List.{list_any}
-use Rattle.std.proofs.lemmas.List.{drop_more, drop_all, length-drop, get_or-drop, take_all}
+use Rattle.std.proofs.Common.{◌≡◌, ℕ, zero, suc, ◌+◌, ◌-◌, ◌<◌, ◌≤◌, ◌&&◌, ◌||◌, Bool, true, false, IsTrue, List}
+use Rattle.std.proofs.Common.{[], ◌∷◌, ◌++◌, take, drop, length, get_or, slice_get, Some, refl, sym, ap, ◌∙◌, subst}
+use Rattle.std.proofs.{Common.arith, lemmas.List.{drop_more, drop_all, length-drop, get_or-drop, take_all}}
 use Rattle.std.proofs.lemmas.List.Elements.{All-append, All-from_recursion}
-use Rattle.std.proofs.lemmas.List.Folds.{list_any-append, list_any_more}
-use Rattle.std.proofs.lemmas.Bool.{and_right}
-use Rattle.tier_core.specs.declared.sym.Sym.{Sym}
-use Rattle.tier_core.specs.declared.class.Class.{Class}
-use Rattle.tier_core.specs.Classes.{has}
-use Rattle.tier_core.specs.Filled.{is_filled}
+use Rattle.std.proofs.{lemmas.List.Folds.{list_any-append, list_any_more}, lemmas.Bool.and_right}
+use Rattle.std.specs.List.{list_any}
+use Rattle.tier_core.specs.{declared.sym.Sym.Sym, declared.class.Class.Class, Classes.has, Filled.is_filled}
 use Rattle.symbol_class.specs.Held.{some_has}
-use Rattle.tier_core.proofs.Filled.{empty_holds}
-use Rattle.tier_core.proofs.Bools.{or_false}
-use Rattle.answer_text.specs.declared.automaton.ArcLine.{ArcLine}
-use Rattle.answer_text.specs.ArcClasses.{arc_classes}
-use Rattle.cert_check.specs.Arcs.{is_twice}
-use Rattle.cert_check.specs.Gathered.{AreFilled, AddsColumns}
+use Rattle.tier_core.proofs.{Filled.empty_holds, Bools.or_false}
+use Rattle.answer_text.specs.{declared.automaton.ArcLine.ArcLine, ArcClasses.arc_classes}
+use Rattle.cert_check.specs.{Arcs.is_twice, Gathered.{AreFilled, AddsColumns}}
 
 or_assoc : (a b c : Bool) → ((a || b) || c) ≡ (a || (b || c))
 or_assoc true b c = refl

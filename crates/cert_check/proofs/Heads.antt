@@ -1,17 +1,12 @@
 -- The first faults of an answer as a whole.
-use Rattle.std.proofs.Common.{◌≡◌, ℕ, zero, suc, ◌+◌, ◌-◌, ◌<◌, List, [], ◌∷◌, take, length, get_or, refl, sym, ap, ◌∙◌}
-use Rattle.std.proofs.Common.{subst, arith, inl, inr}
-use Rattle.std.proofs.lemmas.List.{get_or-take}
-use Rattle.violation.specs.Candidates.{IsCandidate, counts_on}
-use Rattle.violation.specs.Problems.{Problem}
+use Rattle.std.proofs.Common.{◌≡◌, ℕ, zero, suc, ◌+◌, ◌-◌, ◌<◌, List, [], ◌∷◌, take, length, get_or, refl, sym, ap}
+use Rattle.std.proofs.{Common.{◌∙◌, subst, arith, inl, inr}, lemmas.List.get_or-take}
+use Rattle.violation.specs.{Candidates.{IsCandidate, counts_on}, Problems.Problem}
 use Rattle.answer_text.specs.declared.answer.Answer.{Answer}
 use Rattle.cert_check.specs.declared.fault.Fault.{Fault}
 use Rattle.cert_check.specs.declared.fault.Fault.TheVariants.{ExampleWrong, CountsDiffer}
-use Rattle.cert_check.specs.Places.{IsBefore, at_example, at_count}
-use Rattle.cert_check.specs.Faults.{HasWrongCount}
-use Rattle.cert_check.specs.FirstFaults.{IsFirstFault}
-use Rattle.cert_check.specs.Heads.{HasRightForm, HasRightNumbers, IsFirstCountFault}
-use Rattle.cert_check.specs.Parts.{InAnswer}
+use Rattle.cert_check.specs.{Places.{IsBefore, at_example, at_count}, Faults.HasWrongCount, FirstFaults.IsFirstFault}
+use Rattle.cert_check.specs.{Heads.{HasRightForm, HasRightNumbers, IsFirstCountFault}, Parts.InAnswer}
 use Rattle.cert_check.proofs.Parts.{none_before, first_fault}
 
 module _ (problem : Problem) (answer : Answer) where

@@ -1,21 +1,13 @@
 -- The pieces of a kind's kept moves: what is left of its columns, with the kind to which each leads.
-use Rattle.std.proofs.Common.{◌≡◌, ℕ, ◌+◌, ◌<◌, ◌≤◌, IsTrue, List, [], ◌∷◌, ◌++◌, length, take, get_or, refl, sym, ap}
-use Rattle.std.proofs.Common.{ap₂, ◌∙◌, subst, arith, All}
-use Rattle.std.proofs.lemmas.List.{map-append, take_all, take_more}
+use Rattle.std.proofs.Common.{◌≡◌, ℕ, ◌+◌, ◌<◌, ◌≤◌, IsTrue, List, [], ◌∷◌, ◌++◌, length, take, get_or, refl, sym}
+use Rattle.std.proofs.{Common.{ap, ap₂, ◌∙◌, subst, arith, All}, lemmas.List.{map-append, take_all, take_more}}
 use Rattle.std.proofs.lemmas.List.Elements.{All-from_recursion, All-push}
-use Rattle.tier_core.specs.declared.class.Class.{Class}
-use Rattle.tier_core.specs.declared.sym.Sym.{Sym}
-use Rattle.tier_core.specs.Classes.{has}
-use Rattle.tier_core.specs.Kinds.{PrefixKind}
+use Rattle.tier_core.specs.{declared.class.Class.Class, declared.sym.Sym.Sym, Classes.has, Kinds.PrefixKind}
 use Rattle.symbol_class.specs.Held.{some_has, ArePieces}
-use Rattle.violation.specs.Moves.{next_kind, cost_of}
-use Rattle.violation.specs.Problems.{Problem}
+use Rattle.violation.specs.{Moves.{next_kind, cost_of}, Problems.Problem}
 use Rattle.answer_text.specs.declared.stage.Stage.{Stage}
-use Rattle.cert_check.specs.declared.kept_piece.KeptPiece.{KeptPiece}
-use Rattle.cert_check.specs.Faults.{TellsKind}
-use Rattle.cert_check.specs.Fitting.{IsGoingAlike}
-use Rattle.cert_check.specs.Kept.{kept_classes, IsKeptPiece, AddsKept, AreKeptPieces, AreKeptOf}
-use Rattle.cert_check.specs.Pruned.{ArePruned}
+use Rattle.cert_check.specs.{declared.kept_piece.KeptPiece.KeptPiece, Faults.TellsKind, Fitting.IsGoingAlike}
+use Rattle.cert_check.specs.{Kept.{kept_classes, IsKeptPiece, AddsKept, AreKeptPieces, AreKeptOf}, Pruned.ArePruned}
 
 module _ (problem : Problem) (stage : ℕ) (k : PrefixKind) where
   pub adds_kept : (class : Class) (column : List Sym) (old new : List KeptPiece) (piece : KeptPiece)

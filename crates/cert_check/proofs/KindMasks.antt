@@ -1,9 +1,7 @@
 -- The bits that tell a kind: there are some, and they are one.
 use Rattle.std.proofs.Common.{◌≡◌, ℕ, length}
-use Rattle.tier_core.specs.declared.kind.Kind.{Kind}
-use Rattle.tier_core.specs.Kinds.{PrefixKind}
-use Rattle.violation.specs.Prefixes.{stretches}
-use Rattle.violation.specs.Problems.{Problem}
+use Rattle.tier_core.specs.{declared.kind.Kind.Kind, Kinds.PrefixKind}
+use Rattle.violation.specs.{Prefixes.stretches, Problems.Problem}
 use Rattle.violation.proofs.KindBits.{AreBitsOf, kind_for, one_told}
 use Rattle.cert_check.specs.Faults.{TellsKind}
 

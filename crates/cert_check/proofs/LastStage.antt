@@ -1,34 +1,20 @@
 -- What is known of the last stage when a state is looked at: its kinds ascend, the place of the state's node
 -- is in the form, and each kept move of the node leads to a kind that is listed.
-use Rattle.std.proofs.Common.{◌≡◌, ℕ, ◌+◌, ◌^◌, ◌<◌, ◌≤◌, ◌⊎◌, List, [], ◌∷◌, get_or, refl, sym, subst, arith, inl, inr}
-use Rattle.std.proofs.Common.{All, Contains}
-use Rattle.std.proofs.lemmas.List.{get_or_default}
-use Rattle.tier_core.specs.declared.kind.Kind.{Kind}
-use Rattle.tier_core.specs.declared.sym.Sym.{Sym}
-use Rattle.tier_core.specs.KindShapes.{free_count, stretch_count}
-use Rattle.tier_core.specs.Kinds.{AreStretchesBelow}
-use Rattle.tier_core.specs.FirstColumn.{first_column}
+use Rattle.std.proofs.Common.{◌≡◌, ℕ, ◌+◌, ◌^◌, ◌<◌, ◌≤◌, ◌⊎◌, List, [], ◌∷◌, get_or, refl, sym, subst, arith, inl}
+use Rattle.std.proofs.{Common.{inr, All, Contains}, lemmas.List.get_or_default}
+use Rattle.tier_core.specs.{declared.kind.Kind.Kind, declared.sym.Sym.Sym, KindShapes.{free_count, stretch_count}}
+use Rattle.tier_core.specs.{Kinds.AreStretchesBelow, FirstColumn.first_column}
 use Rattle.tier_core.proofs.Filled.{has-first_column}
-use Rattle.violation.specs.Moves.{next_kind}
-use Rattle.violation.specs.Prefixes.{kind_of_bits}
-use Rattle.violation.specs.Problems.{Problem, last_place, last_stage}
-use Rattle.answer_text.specs.declared.automaton.StateLine.{StateLine}
-use Rattle.answer_text.specs.declared.stage.Node.{Node}
+use Rattle.violation.specs.{Moves.next_kind, Prefixes.kind_of_bits, Problems.{Problem, last_place, last_stage}}
+use Rattle.answer_text.specs.{declared.automaton.StateLine.StateLine, declared.stage.Node.Node}
 use Rattle.answer_text.specs.Certified.{Lists, IsKeptBelow}
 use Rattle.check_laws.proofs.Listing.{lists_kind}
-use Rattle.cert_check.specs.declared.kept_piece.KeptPiece.{KeptPiece}
-use Rattle.cert_check.specs.declared.subject.Subject.{Subject}
-use Rattle.cert_check.specs.Faults.{TellsKind, IsUnlisted}
-use Rattle.cert_check.specs.Kept.{AreKeptPieces}
-use Rattle.cert_check.specs.KeptArcs.{IsTargetListed}
-use Rattle.cert_check.specs.Places.{column_place}
-use Rattle.cert_check.specs.States.{IsRightBeforeStates, IsStateAt, last_kind}
+use Rattle.cert_check.specs.{declared.kept_piece.KeptPiece.KeptPiece, declared.subject.Subject.Subject}
+use Rattle.cert_check.specs.{Faults.{TellsKind, IsUnlisted}, Kept.AreKeptPieces, KeptArcs.IsTargetListed}
+use Rattle.cert_check.specs.{Places.column_place, States.{IsRightBeforeStates, IsStateAt, last_kind}}
 use Rattle.cert_check.specs.Subjects.{AscendsAt, problem_of, stage_kinds}
-use Rattle.cert_check.proofs.Ascending.{ascends_unless}
-use Rattle.cert_check.proofs.Decisions.{so_unless, at_most}
-use Rattle.cert_check.proofs.DecidedMoves.{is_listed}
-use Rattle.cert_check.proofs.NodeSteps.{piece_at}
-use Rattle.cert_check.proofs.StateSubjects.{node_fits}
+use Rattle.cert_check.proofs.{Ascending.ascends_unless, Decisions.{so_unless, at_most}, DecidedMoves.is_listed}
+use Rattle.cert_check.proofs.{NodeSteps.piece_at, StateSubjects.node_fits}
 use Rattle.cert_check.proofs.Subjects.{in_stages, free_same, stretch_same}
 
 module _ (s : Subject) (staged : IsRightBeforeStates s) where

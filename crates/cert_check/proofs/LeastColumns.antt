@@ -1,23 +1,17 @@
 -- The least column of some classes.
-use Rattle.std.proofs.Common.{◌≡◌, ℕ, ◌+◌, ◌<◌, ◌==◌, ◌||◌, ◌⊎◌, true, false, cond, IsTrue, List, [], ◌∷◌, take, length}
-use Rattle.std.proofs.Common.{get_or, refl, sym, ap, ◌∙◌, subst, arith, inl, inr, Some, None, Option, MatchOption}
-use Rattle.std.proofs.Common.{true≢false}
-use Rattle.std.specs.Ordering.{is_gt, nat_cmp, ordering_then, ordering_reverse}
-use Rattle.std.specs.Cmp.{IsTotalOrder}
+use Rattle.std.proofs.Common.{◌≡◌, ℕ, ◌+◌, ◌<◌, ◌==◌, ◌||◌, ◌⊎◌, true, false, cond, IsTrue, List, [], ◌∷◌, take}
+use Rattle.std.proofs.Common.{length, get_or, refl, sym, ap, ◌∙◌, subst, arith, inl, inr, Some, None, Option}
+use Rattle.std.proofs.Common.{MatchOption, true≢false}
 use Rattle.std.proofs.lemmas.Cmp.{nat_cmp_total, lists_total, on_total, tied_itself}
-use Rattle.std.specs.declared.cmp.Ordering.{Ordering}
-use Rattle.std.specs.declared.cmp.Ordering.TheVariants.{Less, Equal, Greater}
 use Rattle.std.proofs.lemmas.Bool.{cases_order, or_cases, le-ltb, ne_eqb, or_left, or_right}
 use Rattle.std.proofs.lemmas.List.Folds.{list_any_more}
-use Rattle.tier_core.specs.declared.sym.Sym.{Sym}
-use Rattle.tier_core.specs.declared.class.Class.{Class}
-use Rattle.tier_core.specs.Classes.{has}
-use Rattle.tier_core.specs.Orders.{column_cmp}
+use Rattle.std.specs.{Ordering.{is_gt, nat_cmp, ordering_then, ordering_reverse}, Cmp.IsTotalOrder}
+use Rattle.std.specs.{declared.cmp.Ordering.Ordering, declared.cmp.Ordering.TheVariants.{Less, Equal, Greater}}
+use Rattle.tier_core.specs.{declared.sym.Sym.Sym, declared.class.Class.Class, Classes.has, Orders.column_cmp}
 use Rattle.tier_core.specs.Symbols.{rank}
 use Rattle.tier_core.proofs.KindTies.{same_cmp}
 use Rattle.symbol_class.specs.Held.{some_has}
-use Rattle.cert_check.specs.Arcs.{IsLeastColumn, IsNoColumn, IsLesser}
-use Rattle.cert_check.specs.Places.{IsBefore, column_place}
+use Rattle.cert_check.specs.{Arcs.{IsLeastColumn, IsNoColumn, IsLesser}, Places.{IsBefore, column_place}}
 use Rattle.cert_check.proofs.ColumnPlaces.{not_after_is}
 
 greater : (m n : ℕ) → n < m → nat_cmp m n ≡ Greater

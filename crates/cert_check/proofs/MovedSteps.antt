@@ -1,28 +1,16 @@
 -- The kind to which a column leads, by its bits, and what a column costs.
-use Rattle.std.proofs.Common.{◌≡◌, ℕ, ◌+◌, ◌-◌, ◌^◌, ◌<◌, ◌≤◌, Bool, cond, List, ◌++◌, filter, map, drop, take, length}
-use Rattle.std.proofs.Common.{get_or, sym, ap, ◌∙◌, subst, arith, length-take}
-use Rattle.std.proofs.lemmas.List.{get_or-take, get_or_default, take-take}
-use Rattle.std.proofs.lemmas.List.Elements.{All-from_recursion}
-use Rattle.tier_core.specs.declared.constraint.Constraint.{Constraint}
-use Rattle.tier_core.specs.declared.kind.Kind.{Kind}
-use Rattle.tier_core.specs.declared.sym.Sym.{Sym}
-use Rattle.tier_core.specs.Kinds.{Phase, AreStretchesBelow, open_tiers, phases}
-use Rattle.tier_core.specs.KindShapes.{FitsShape}
-use Rattle.tier_core.specs.Scan.{opens}
-use Rattle.tier_core.specs.Sides.{is_stretch}
-use Rattle.tier_core.specs.Tiers.{has_tier}
-use Rattle.tier_core.specs.Timelines.{symbol, has_edge}
-use Rattle.tier_core.proofs.CountLemmas.{all_append}
+use Rattle.std.proofs.Common.{◌≡◌, ℕ, ◌+◌, ◌-◌, ◌^◌, ◌<◌, ◌≤◌, Bool, cond, List, ◌++◌, filter, map, drop, take}
+use Rattle.std.proofs.Common.{length, get_or, sym, ap, ◌∙◌, subst, arith, length-take}
+use Rattle.std.proofs.{lemmas.List.{get_or-take, get_or_default, take-take}, lemmas.List.Elements.All-from_recursion}
+use Rattle.tier_core.specs.{declared.constraint.Constraint.Constraint, declared.kind.Kind.Kind, declared.sym.Sym.Sym}
+use Rattle.tier_core.specs.{Kinds.{Phase, AreStretchesBelow, open_tiers, phases}, KindShapes.FitsShape, Scan.opens}
+use Rattle.tier_core.specs.{Sides.is_stretch, Tiers.has_tier, Timelines.{symbol, has_edge}}
+use Rattle.tier_core.proofs.{CountLemmas.all_append, KindTies.same_parts}
 use Rattle.violation.specs.Conditions.{IsOverTiers}
 use Rattle.violation.specs.Moves.{cost_of, costs, first_phase, is_tier_open, is_unmet_phase, next_kind, next_phases}
-use Rattle.violation.specs.Prefixes.{kind_of_bits, stretches}
-use Rattle.violation.specs.Problems.{Problem, last_place, last_stage}
-use Rattle.violation.proofs.ConstraintCosts.{cost_at, unmet_told}
-use Rattle.violation.proofs.CostLemmas.{costs_agree}
-use Rattle.tier_core.proofs.KindTies.{same_parts}
-use Rattle.cert_check.specs.declared.subject.Subject.{Subject}
-use Rattle.cert_check.specs.Faults.{TellsKind}
-use Rattle.cert_check.specs.Opens.{is_open_by}
+use Rattle.violation.specs.{Prefixes.{kind_of_bits, stretches}, Problems.{Problem, last_place, last_stage}}
+use Rattle.violation.proofs.{ConstraintCosts.{cost_at, unmet_told}, CostLemmas.costs_agree}
+use Rattle.cert_check.specs.{declared.subject.Subject.Subject, Faults.TellsKind, Opens.is_open_by}
 use Rattle.cert_check.specs.Subjects.{IsReady, problem_of}
 use Rattle.grammar_reader.proofs.OverTiers.{over_tiers}
 use Rattle.cert_check.proofs.Subjects.{each_event, mask_agrees, stretch_same, stage_in}

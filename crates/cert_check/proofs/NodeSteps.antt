@@ -1,39 +1,25 @@
 -- The faults of one node: of its potential, and of its moves.
-use Rattle.std.proofs.Common.{◌≡◌, ◌≢◌, ℕ, zero, suc, ◌+◌, ◌<◌, ◌≤◌, true, false, IsTrue, List, [], ◌∷◌, length, get_or}
-use Rattle.std.proofs.Common.{refl, sym, ap, ◌∙◌, subst, arith, ⊎_elim, inl, inr}
-use Rattle.std.specs.List.Sorted.{IsStrictlySortedBy}
+use Rattle.std.proofs.Common.{◌≡◌, ◌≢◌, ℕ, zero, suc, ◌+◌, ◌<◌, ◌≤◌, true, false, IsTrue, List, [], ◌∷◌, length}
+use Rattle.std.proofs.Common.{get_or, refl, sym, ap, ◌∙◌, subst, arith, ⊎_elim, inl, inr}
 use Rattle.std.proofs.lemmas.Bool.{cases_lt, false≢true, both_ways, or_cases}
-use Rattle.std.proofs.lemmas.List.{get_or_default, get_or-map, length-map}
-use Rattle.std.proofs.lemmas.List.Folds.{list_any_at}
-use Rattle.tier_core.specs.declared.class.Class.{Class}
-use Rattle.tier_core.specs.declared.kind.Kind.{Kind}
-use Rattle.tier_core.specs.declared.sym.Sym.{Sym}
-use Rattle.tier_core.specs.Classes.{has}
-use Rattle.tier_core.specs.Kinds.{PrefixKind, kind_order}
-use Rattle.tier_core.specs.Filled.{is_filled}
-use Rattle.tier_core.specs.FirstColumn.{first_column}
+use Rattle.std.proofs.{lemmas.List.{get_or_default, get_or-map, length-map}, lemmas.List.Folds.list_any_at}
+use Rattle.std.specs.List.Sorted.{IsStrictlySortedBy}
+use Rattle.tier_core.specs.{declared.class.Class.Class, declared.kind.Kind.Kind, declared.sym.Sym.Sym, Classes.has}
+use Rattle.tier_core.specs.{Kinds.{PrefixKind, kind_order}, Filled.is_filled, FirstColumn.first_column}
 use Rattle.symbol_class.specs.Held.{some_has}
 use Rattle.tier_core.proofs.Filled.{has-first_column, first_column_least}
-use Rattle.violation.specs.Moves.{next_kind, cost_of, is_final}
-use Rattle.violation.specs.Prefixes.{kind_of_bits}
-use Rattle.violation.specs.Problems.{Problem}
-use Rattle.answer_text.specs.declared.answer.Answer.{Answer}
-use Rattle.answer_text.specs.declared.stage.Node.{Node}
-use Rattle.answer_text.specs.declared.stage.Stage.{Stage}
-use Rattle.answer_text.specs.Right.{nodes_at, kinds_at}
-use Rattle.answer_text.specs.Certified.{IsKeptBelow, Lists}
+use Rattle.violation.specs.{Moves.{next_kind, cost_of, is_final}, Prefixes.kind_of_bits, Problems.Problem}
+use Rattle.answer_text.specs.{declared.answer.Answer.Answer, declared.stage.Node.Node, declared.stage.Stage.Stage}
+use Rattle.answer_text.specs.{Right.{nodes_at, kinds_at}, Certified.{IsKeptBelow, Lists}}
 use Rattle.check_laws.proofs.Listing.{one_potential}
 use Rattle.cert_check.specs.declared.fault.Fault.{Fault}
 use Rattle.cert_check.specs.declared.fault.Fault.TheVariants.{FinalPotential, NotClosed, Potential}
 use Rattle.cert_check.specs.Faults.{HasNode, IsNotClosed, HasHighPotential, IsUnlisted, TellsKind}
-use Rattle.cert_check.specs.declared.kept_piece.KeptPiece.{KeptPiece}
-use Rattle.cert_check.specs.Kept.{AreKeptPieces, IsKeptPiece, kept_classes}
+use Rattle.cert_check.specs.{declared.kept_piece.KeptPiece.KeptPiece, Kept.{AreKeptPieces, IsKeptPiece, kept_classes}}
 use Rattle.cert_check.specs.Nodes.{IsRightNode, IsRightPart, IsFirstInNode, IsMoveFault, AreWrongOn, AreRightOn}
-use Rattle.cert_check.specs.Nodes.{IsNotAfter, IsLeastWrong}
-use Rattle.cert_check.specs.Parts.{InNode, IsWrongMove}
+use Rattle.cert_check.specs.{Nodes.{IsNotAfter, IsLeastWrong}, Parts.{InNode, IsWrongMove}}
 use Rattle.cert_check.specs.Places.{IsBefore, column_place}
-use Rattle.cert_check.proofs.ColumnPlaces.{before_or, not_both_before, not_after_is}
-use Rattle.cert_check.proofs.Parts.{none_before}
+use Rattle.cert_check.proofs.{ColumnPlaces.{before_or, not_both_before, not_after_is}, Parts.none_before}
 use Rattle.cert_check.proofs.Faultless.{some_same}
 
 -- a number is that of one node

@@ -1,14 +1,10 @@
 -- A number among those of elements that ascend by them: a binary search tells whether it is there.
 use Rattle.std.proofs.Common.{◌≡◌, ◌≢◌, ◌↔◌, ℕ, ◌<◌, ◌≤◌, IsTrue, Result, Ok, Err, List, [], ◌∷◌, length, map}
-use Rattle.std.proofs.Common.{get_or, refl, ap, sym, ◌∙◌, arith, ⊎_elim, Contains, true≢false}
-use Rattle.std.specs.List.Sorted.{IsBinarySearchResult, IsNonDecreasingBy, IsSearchInRange, IsStrictlySortedBy}
-use Rattle.std.specs.Ordering.{nat_cmp, ordering_index}
-use Rattle.std.specs.Result.{is_ok}
-use Rattle.std.proofs.lemmas.Bool.{cases_lt}
-use Rattle.std.proofs.lemmas.Bool.Decides.{nat_tests}
-use Rattle.std.proofs.lemmas.Cmp.{ranked}
-use Rattle.std.proofs.lemmas.List.{length-map, get_or-map}
+use Rattle.std.proofs.{Common.{get_or, refl, ap, sym, ◌∙◌, arith, ⊎_elim, Contains, true≢false}, lemmas.Bool.cases_lt}
+use Rattle.std.proofs.{lemmas.Bool.Decides.nat_tests, lemmas.Cmp.ranked, lemmas.List.{length-map, get_or-map}}
 use Rattle.std.proofs.lemmas.Map.Keys.{below_from_sorted}
+use Rattle.std.specs.List.Sorted.{IsBinarySearchResult, IsNonDecreasingBy, IsSearchInRange, IsStrictlySortedBy}
+use Rattle.std.specs.{Ordering.{nat_cmp, ordering_index}, Result.is_ok}
 
 index_rises : (a b x : ℕ) → a ≤ b → ordering_index (nat_cmp a x) ≤ ordering_index (nat_cmp b x)
 index_rises a b x h = grind (arith, nat_tests)

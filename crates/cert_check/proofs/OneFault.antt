@@ -1,40 +1,26 @@
 -- Two faults that come first are one.
-use Rattle.std.proofs.Common.{◌≡◌, ℕ, zero, suc, ◌+◌, ◌<◌, ◌⊎◌, Bool, IsTrue, List, [], ◌∷◌, length, get_or, slice_get}
-use Rattle.std.proofs.Common.{Some, None, Option, refl, sym, ap, ap₂, ◌∙◌, subst, arith, inl, inr, Contains}
+use Rattle.std.proofs.Common.{◌≡◌, ℕ, zero, suc, ◌+◌, ◌<◌, ◌⊎◌, Bool, IsTrue, List, [], ◌∷◌, length, get_or}
+use Rattle.std.proofs.Common.{slice_get, Some, None, Option, refl, sym, ap, ap₂, ◌∙◌, subst, arith, inl, inr}
+use Rattle.std.proofs.{Common.Contains, lemmas.Bool.{cases_eq, cases_order}, lemmas.Option.slice_get-get_or}
 use Rattle.std.specs.List.Sorted.{IsStrictlySortedBy}
-use Rattle.std.proofs.lemmas.Bool.{cases_eq, cases_order}
-use Rattle.std.proofs.lemmas.Option.{slice_get-get_or}
-use Rattle.tier_core.specs.declared.sym.Sym.{Sym}
-use Rattle.tier_core.specs.declared.kind.Kind.{Kind}
-use Rattle.tier_core.specs.Classes.{has}
-use Rattle.tier_core.specs.Kinds.{PrefixKind, kind_order}
-use Rattle.tier_core.specs.Symbols.{rank}
+use Rattle.tier_core.specs.{declared.sym.Sym.Sym, declared.kind.Kind.Kind, Classes.has}
+use Rattle.tier_core.specs.{Kinds.{PrefixKind, kind_order}, Symbols.rank}
 use Rattle.tier_core.proofs.SetLemmas.{rank_same}
-use Rattle.violation.specs.Moves.{next_kind, cost_of}
-use Rattle.violation.specs.Prefixes.{kind_of_bits}
-use Rattle.violation.specs.Problems.{Problem, last_stage}
-use Rattle.answer_text.specs.declared.stage.Node.{Node}
-use Rattle.answer_text.specs.declared.automaton.ArcLine.{ArcLine}
-use Rattle.answer_text.specs.declared.automaton.StateLine.{StateLine}
-use Rattle.answer_text.specs.declared.answer.Answer.{Answer}
-use Rattle.answer_text.specs.Right.{nodes_at, kinds_at}
-use Rattle.answer_text.specs.Certified.{Lists, AreStatesInOrder}
-use Rattle.check_laws.proofs.Leading.{one_state}
-use Rattle.check_laws.proofs.Listing.{one_potential, one_number, one_kind}
-use Rattle.cert_check.specs.declared.fault.Fault.{Fault}
-use Rattle.cert_check.specs.declared.fault.Fault.TheVariants.{FormWrong, StageMissing, ExampleWrong, CountsDiffer}
-use Rattle.cert_check.specs.declared.fault.Fault.TheVariants.{NodeWrong, StartMissing, FinalPotential, NotClosed}
-use Rattle.cert_check.specs.declared.fault.Fault.TheVariants.{Potential, StartPotential, StateMissing, FinalsDiffer}
-use Rattle.cert_check.specs.declared.fault.Fault.TheVariants.{ArcsTwice, ArcsDiffer}
+use Rattle.violation.specs.{Moves.{next_kind, cost_of}, Prefixes.kind_of_bits, Problems.{Problem, last_stage}}
+use Rattle.answer_text.specs.{declared.stage.Node.Node, declared.automaton.ArcLine.ArcLine}
+use Rattle.answer_text.specs.{declared.automaton.StateLine.StateLine, declared.answer.Answer.Answer}
+use Rattle.answer_text.specs.{Right.{nodes_at, kinds_at}, Certified.{Lists, AreStatesInOrder}}
+use Rattle.check_laws.proofs.{Leading.one_state, Listing.{one_potential, one_number, one_kind}}
+use Rattle.cert_check.specs.{declared.fault.Fault.Fault, declared.fault.Fault.TheVariants.{FormWrong, StageMissing}}
+use Rattle.cert_check.specs.declared.fault.Fault.TheVariants.{ExampleWrong, CountsDiffer, NodeWrong, StartMissing}
+use Rattle.cert_check.specs.declared.fault.Fault.TheVariants.{FinalPotential, NotClosed, Potential, StartPotential}
+use Rattle.cert_check.specs.declared.fault.Fault.TheVariants.{StateMissing, FinalsDiffer, ArcsTwice, ArcsDiffer}
 use Rattle.cert_check.specs.Places.{IsBefore, column_place, at_node, at_move, at_twice, at_arcs}
-use Rattle.cert_check.specs.Faults.{LacksStage, HasWrongCount, HasNode, HasWrongNode, HasFinalPotential, IsNotClosed}
-use Rattle.cert_check.specs.Faults.{HasHighPotential, HasWrongStart, HasState, LacksTarget, HasWrongMark, HasTwice}
-use Rattle.cert_check.specs.Faults.{IsListedTarget, IsKeptTarget, HasWrongArcs, TellsKind}
+use Rattle.cert_check.specs.Faults.{LacksStage, HasWrongCount, HasNode, HasWrongNode, HasFinalPotential}
+use Rattle.cert_check.specs.Faults.{IsNotClosed, HasHighPotential, HasWrongStart, HasState, LacksTarget}
+use Rattle.cert_check.specs.Faults.{HasWrongMark, HasTwice, IsListedTarget, IsKeptTarget, HasWrongArcs, TellsKind}
 use Rattle.cert_check.specs.FirstFaults.{IsFault, IsFirstFault}
-use Rattle.cert_check.proofs.Decisions.{so_unless}
-use Rattle.cert_check.proofs.Faultless.{some_same}
-use Rattle.cert_check.proofs.Ascending.{ascends_unless}
-use Rattle.cert_check.proofs.KindMasks.{same_told}
+use Rattle.cert_check.proofs.{Decisions.so_unless, Faultless.some_same, Ascending.ascends_unless, KindMasks.same_told}
 
 -- ---- places are in one order
 

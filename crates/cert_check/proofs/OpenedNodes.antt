@@ -4,8 +4,7 @@ use Rattle.std.proofs.lemmas.Option.{slice_get_within, get_or_from_slice_get}
 use Rattle.tier_core.specs.KindShapes.{free_count}
 use Rattle.violation.specs.Problems.{last_stage}
 use Rattle.answer_text.specs.declared.stage.Node.{Node}
-use Rattle.cert_check.specs.declared.subject.Subject.{Subject}
-use Rattle.cert_check.specs.Faults.{HasNode}
+use Rattle.cert_check.specs.{declared.subject.Subject.Subject, Faults.HasNode}
 use Rattle.cert_check.specs.Subjects.{IsReady, problem_of, stage_nodes}
 use Rattle.cert_check.proofs.Subjects.{fits_at, free_same}
 

@@ -1,27 +1,17 @@
 -- Which tiers are open at a kind: by the flags of the input tiers and of the free tiers.
-use Rattle.std.proofs.Common.{◌≡◌, ℕ, zero, suc, ◌+◌, ◌-◌, ◌==◌, ◌<◌, ◌≤◌, ◌||◌, not, Bool, true, false, cond, List, []}
-use Rattle.std.proofs.Common.{◌∷◌, ◌++◌, take, filter, length, get_or, refl, ap, ◌∙◌, arith, eq-eqb, ne_eqb}
-use Rattle.std.proofs.lemmas.List.{length-map, get_or-map, take_all}
-use Rattle.std.proofs.lemmas.List.Filters.{length-filter_more}
+use Rattle.std.proofs.Common.{◌≡◌, ℕ, zero, suc, ◌+◌, ◌-◌, ◌==◌, ◌<◌, ◌≤◌, ◌||◌, not, Bool, true, false, cond, List}
+use Rattle.std.proofs.Common.{[], ◌∷◌, ◌++◌, take, filter, length, get_or, refl, ap, ◌∙◌, arith, eq-eqb, ne_eqb}
+use Rattle.std.proofs.{lemmas.List.{length-map, get_or-map, take_all}, lemmas.List.Filters.length-filter_more}
 use Rattle.std.proofs.lemmas.List.FromFn.{get_or-map-range_with_len}
-use Rattle.tier_core.specs.declared.sym.Sym.{Sym}
-use Rattle.tier_core.specs.declared.tier.TierKind.{TierKind}
+use Rattle.tier_core.specs.{declared.sym.Sym.Sym, declared.tier.TierKind.TierKind}
 use Rattle.tier_core.specs.declared.tier.TierKind.TheVariants.{Input}
-use Rattle.tier_core.specs.Tiers.{is_input, is_free, kind_at, has_tier, numbers_from}
-use Rattle.tier_core.specs.Kinds.{open_tiers}
-use Rattle.tier_core.specs.Scan.{opens}
-use Rattle.tier_core.specs.Tables.{tiers_of_table}
-use Rattle.tier_core.specs.Timelines.{tier_word, symbol, IsWellFormed}
-use Rattle.tier_core.specs.declared.sym.Sym.TheVariants.{Outside}
-use Rattle.tier_core.specs.declared.kind.Kind.{Kind}
-use Rattle.tier_core.specs.declared.constraint.Constraint.{Constraint}
-use Rattle.tier_core.specs.declared.tier.TierTable.{TierTable}
-use Rattle.tier_core.proofs.WordLemmas.{open_suc}
-use Rattle.tier_core.proofs.WordForm.{runs_from_well_formed}
-use Rattle.violation.specs.Candidates.{IsForm}
-use Rattle.violation.specs.Moves.{flag_of, form_opened, is_tier_open}
-use Rattle.violation.specs.Prefixes.{is_open, kind_of_bits}
-use Rattle.violation.specs.Problems.{problem_from}
+use Rattle.tier_core.specs.{Tiers.{is_input, is_free, kind_at, has_tier, numbers_from}, Kinds.open_tiers, Scan.opens}
+use Rattle.tier_core.specs.{Tables.tiers_of_table, Timelines.{tier_word, symbol, IsWellFormed}}
+use Rattle.tier_core.specs.{declared.sym.Sym.TheVariants.Outside, declared.kind.Kind.Kind}
+use Rattle.tier_core.specs.{declared.constraint.Constraint.Constraint, declared.tier.TierTable.TierTable}
+use Rattle.tier_core.proofs.{WordLemmas.open_suc, WordForm.runs_from_well_formed}
+use Rattle.violation.specs.{Candidates.IsForm, Moves.{flag_of, form_opened, is_tier_open}}
+use Rattle.violation.specs.{Prefixes.{is_open, kind_of_bits}, Problems.problem_from}
 use Rattle.violation.proofs.OpenLemmas.{prefix_open, take_word}
 use Rattle.cert_check.specs.Opens.{is_open_before, inputs_before, is_open_by}
 

@@ -1,27 +1,18 @@
 -- Where the nodes of a stage stand.
-use Rattle.std.proofs.Common.{◌≡◌, ℕ, ◌+◌, ◌-◌, ◌<◌, ◌≤◌, List, [], ◌∷◌, length, slice_get, Some, None, Option, refl}
-use Rattle.std.proofs.Common.{sym, ap, ◌∙◌, subst, arith, inl, inr, Contains}
-use Rattle.std.specs.declared.cmp.Ordering.TheVariants.{Less}
-use Rattle.std.proofs.lemmas.List.{length-map}
+use Rattle.std.proofs.Common.{◌≡◌, ℕ, ◌+◌, ◌-◌, ◌<◌, ◌≤◌, List, [], ◌∷◌, length, slice_get, Some, None, Option}
+use Rattle.std.proofs.{Common.{refl, sym, ap, ◌∙◌, subst, arith, inl, inr, Contains}, lemmas.List.length-map}
 use Rattle.std.proofs.lemmas.Map.Keys.{sorted_from_all_adjacent}
 use Rattle.std.proofs.lemmas.Option.{slice_get-get_or, get_or_from_slice_get}
+use Rattle.std.specs.declared.cmp.Ordering.TheVariants.{Less}
 use Rattle.tier_core.specs.Kinds.{kind_order}
-use Rattle.violation.specs.Moves.{cut_kind}
-use Rattle.violation.specs.Prefixes.{kind_of, kind_of_bits}
-use Rattle.violation.specs.Problems.{Problem, last_stage}
-use Rattle.answer_text.specs.declared.stage.Node.{Node}
-use Rattle.answer_text.specs.Certified.{IsPossibleKind}
+use Rattle.violation.specs.{Moves.cut_kind, Prefixes.{kind_of, kind_of_bits}, Problems.{Problem, last_stage}}
+use Rattle.answer_text.specs.{declared.stage.Node.Node, Certified.IsPossibleKind}
 use Rattle.tier_core.proofs.KindTies.{kind_order_total}
-use Rattle.cert_check.specs.declared.subject.Subject.{Subject}
-use Rattle.cert_check.specs.declared.fault.Fault.TheVariants.{NodeWrong}
-use Rattle.cert_check.specs.Faults.{HasNode, IsInOrder, HasWrongNode}
-use Rattle.cert_check.specs.Parts.{InStage, IsFirstInStage}
-use Rattle.cert_check.specs.Places.{IsBefore}
-use Rattle.cert_check.specs.Subjects.{IsReady, AreFirstNodesInOrder, problem_of, stage_nodes, stage_kinds, node_kind}
-use Rattle.cert_check.specs.Subjects.{AscendsAt}
-use Rattle.cert_check.proofs.Faultless.{node_kind as kind_of_node}
-use Rattle.cert_check.proofs.Parts.{none_before}
-use Rattle.cert_check.proofs.Subjects.{in_stages}
+use Rattle.cert_check.specs.{declared.subject.Subject.Subject, declared.fault.Fault.TheVariants.NodeWrong}
+use Rattle.cert_check.specs.{Faults.{HasNode, IsInOrder, HasWrongNode}, Parts.{InStage, IsFirstInStage}}
+use Rattle.cert_check.specs.{Places.IsBefore, Subjects.{IsReady, AreFirstNodesInOrder, problem_of, stage_nodes}}
+use Rattle.cert_check.specs.Subjects.{stage_kinds, node_kind, AscendsAt}
+use Rattle.cert_check.proofs.{Faultless.node_kind as kind_of_node, Parts.none_before, Subjects.in_stages}
 use Rattle.cert_check.proofs.Ascending.{none_there}
 
 module _ (s : Subject) (stage : ℕ) where

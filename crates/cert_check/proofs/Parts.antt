@@ -2,13 +2,11 @@
 use Rattle.std.proofs.Common.{◌≡◌, ℕ, ◌<◌, List, [], ◌∷◌, refl, subst, inl, inr}
 use Rattle.violation.specs.Problems.{Problem}
 use Rattle.answer_text.specs.declared.answer.Answer.{Answer}
-use Rattle.cert_check.specs.declared.fault.Fault.{Fault}
-use Rattle.cert_check.specs.declared.fault.Fault.TheVariants.{FormWrong, StageMissing, ExampleWrong, CountsDiffer}
-use Rattle.cert_check.specs.declared.fault.Fault.TheVariants.{NodeWrong, StartMissing, FinalPotential, NotClosed}
-use Rattle.cert_check.specs.declared.fault.Fault.TheVariants.{Potential, StartPotential, StateMissing, FinalsDiffer}
-use Rattle.cert_check.specs.declared.fault.Fault.TheVariants.{ArcsTwice, ArcsDiffer}
-use Rattle.cert_check.specs.Places.{IsBefore, in_stage}
-use Rattle.cert_check.specs.FirstFaults.{IsFault, IsFirstFault}
+use Rattle.cert_check.specs.{declared.fault.Fault.Fault, declared.fault.Fault.TheVariants.{FormWrong, StageMissing}}
+use Rattle.cert_check.specs.declared.fault.Fault.TheVariants.{ExampleWrong, CountsDiffer, NodeWrong, StartMissing}
+use Rattle.cert_check.specs.declared.fault.Fault.TheVariants.{FinalPotential, NotClosed, Potential, StartPotential}
+use Rattle.cert_check.specs.declared.fault.Fault.TheVariants.{StateMissing, FinalsDiffer, ArcsTwice, ArcsDiffer}
+use Rattle.cert_check.specs.{Places.{IsBefore, in_stage}, FirstFaults.{IsFault, IsFirstFault}}
 use Rattle.cert_check.specs.Parts.{InStage, InAnswer, IsNoneBefore, IsFirstInStage}
 
 -- nothing is wrong before a place where the parts before it are right, and nothing is wrong before

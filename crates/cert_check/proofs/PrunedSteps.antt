@@ -1,25 +1,19 @@
 -- Pieces of a kind's columns that are parted and pruned by one constraint after the other.
 use Rattle.std.proofs.Common.{◌≡◌, ℕ, ◌+◌, ◌<◌, ◌≤◌, List, [], length, take, get_or, sym, ◌∙◌, subst, arith, ⊎_elim}
-use Rattle.std.proofs.Common.{All}
-use Rattle.std.specs.List.{AllByRecursion}
-use Rattle.std.proofs.lemmas.Bool.{cases_lt}
+use Rattle.std.proofs.{Common.All, lemmas.Bool.cases_lt}
 use Rattle.std.proofs.lemmas.List.Elements.{All-from_recursion, recursion_from_All, All-more}
-use Rattle.tier_core.specs.declared.class.Class.{Class}
-use Rattle.tier_core.specs.declared.constraint.Constraint.{Constraint}
-use Rattle.tier_core.specs.declared.sym.Sym.{Sym}
-use Rattle.tier_core.specs.Classes.{sets_of}
-use Rattle.tier_core.specs.Kinds.{PrefixKind}
+use Rattle.std.specs.List.{AllByRecursion}
+use Rattle.tier_core.specs.{declared.class.Class.Class, declared.constraint.Constraint.Constraint}
+use Rattle.tier_core.specs.{declared.sym.Sym.Sym, Classes.sets_of, Kinds.PrefixKind}
 use Rattle.tier_core.proofs.ClassLemmas.{same_width}
 use Rattle.symbol_class.specs.Held.{ArePieces}
 use Rattle.violation.specs.Problems.{Problem}
-use Rattle.answer_text.specs.declared.stage.Stage.{Stage}
-use Rattle.answer_text.specs.Certified.{IsTightAt}
+use Rattle.answer_text.specs.{declared.stage.Stage.Stage, Certified.IsTightAt}
 use Rattle.cert_check.specs.Alike.{AreAlikeFor}
 use Rattle.cert_check.specs.Fitting.{AreFitting, ArePartedByTests, GoOnAlike, IsReadAlike, OpenAlike}
 use Rattle.cert_check.specs.Pruned.{AreAlikeTo, IsAlikeTo, ArePruned, ArePartedTo, AreTightAmong}
 use Rattle.cert_check.specs.Tests.{AddsTests, AgreeOn}
-use Rattle.cert_check.proofs.GoAlike.{go_on_alike}
-use Rattle.cert_check.proofs.UniformSteps.{of_listed}
+use Rattle.cert_check.proofs.{GoAlike.go_on_alike, UniformSteps.of_listed}
 
 -- columns that are alike go on alike
 pub alike_go_on : (problem : Problem) (stage : ℕ) → AllByRecursion (λ t. t < problem.tiers.width) problem.tiers.free

@@ -1,18 +1,11 @@
 -- A key in kinds that ascend: by a node that comes before or behind it, others do.
-use Rattle.std.proofs.Common.{◌≡◌, ℕ, ◌+◌, ◌<◌, ◌≤◌, ◌↔◌, IsTrue, true, Some, List, length, get_or, slice_get, refl, ap}
-use Rattle.std.proofs.Common.{sym, ◌∙◌, arith, ⊎_elim, Contains, true≢false}
-use Rattle.std.specs.List.Sorted.{IsStrictlySortedBy}
-use Rattle.std.specs.Ordering.{ordering_reverse, is_eq, is_lt}
-use Rattle.std.specs.declared.cmp.Ordering.{Ordering}
-use Rattle.std.specs.declared.cmp.Ordering.TheVariants.{Less, Equal, Greater}
-use Rattle.std.proofs.lemmas.Bool.{cases_lt}
-use Rattle.std.proofs.lemmas.Cmp.{tied_itself}
-use Rattle.std.proofs.lemmas.List.{length-map, get_or-map}
-use Rattle.std.proofs.lemmas.Map.Keys.{Less-from_sorted}
+use Rattle.std.proofs.Common.{◌≡◌, ℕ, ◌+◌, ◌<◌, ◌≤◌, ◌↔◌, IsTrue, true, Some, List, length, get_or, slice_get, refl}
+use Rattle.std.proofs.{Common.{ap, sym, ◌∙◌, arith, ⊎_elim, Contains, true≢false}, lemmas.Bool.cases_lt}
+use Rattle.std.proofs.{lemmas.Cmp.tied_itself, lemmas.List.{length-map, get_or-map}, lemmas.Map.Keys.Less-from_sorted}
 use Rattle.std.proofs.lemmas.Option.{slice_get-get_or}
-use Rattle.tier_core.specs.declared.kind.Kind.{Kind}
-use Rattle.tier_core.specs.declared.shape.Shape.{Shape}
-use Rattle.tier_core.specs.Kinds.{PrefixKind, kind_order}
+use Rattle.std.specs.{List.Sorted.IsStrictlySortedBy, Ordering.{ordering_reverse, is_eq, is_lt}}
+use Rattle.std.specs.{declared.cmp.Ordering.Ordering, declared.cmp.Ordering.TheVariants.{Less, Equal, Greater}}
+use Rattle.tier_core.specs.{declared.kind.Kind.Kind, declared.shape.Shape.Shape, Kinds.{PrefixKind, kind_order}}
 use Rattle.tier_core.specs.KindShapes.{kind_in}
 use Rattle.tier_core.proofs.KindTies.{kind_order_total, not_before_itself, same_kind}
 use Rattle.answer_text.specs.declared.stage.Node.{Node}

@@ -1,7 +1,7 @@
 -- Lists whose elements are seen as the same, one by one.
 use Rattle.std.proofs.Common.{◌≡◌, ℕ, List, map, refl, ap, sym, ◌∙◌, subst, Contains, slice_get, Some, None, Option}
-use Rattle.std.specs.Option.{option_map}
 use Rattle.std.proofs.lemmas.Option.{slice_get-map}
+use Rattle.std.specs.Option.{option_map}
 use Rattle.tier_core.proofs.Members.{contains_map, contains_of_map}
 
 some_of : {X V : Type 0} (f : X → V) (o : Option X) (v : V) → option_map f o ≡ Some v

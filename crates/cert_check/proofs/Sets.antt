@@ -1,8 +1,7 @@
 -- The set of all symbols.
 use Rattle.std.proofs.Common.{◌≡◌, ℕ, zero, suc, ◌≤◌, ◌&&◌, true, List, [], ◌∷◌, take, replicate, length, refl, ap₂}
 use Rattle.std.proofs.Common.{arith}
-use Rattle.tier_core.specs.declared.sym.Sym.{Sym}
-use Rattle.tier_core.specs.Classes.{sets_have}
+use Rattle.tier_core.specs.{declared.sym.Sym.Sym, Classes.sets_have}
 use Rattle.tier_core.proofs.KnownSets.{in_all}
 
 pub all_have : (width n : ℕ) (column : List Sym) → width ≤ n → length column ≡ width

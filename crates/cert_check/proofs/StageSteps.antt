@@ -1,28 +1,20 @@
 -- The faults of a stage, node by node, and at last the potential of its start.
-use Rattle.std.proofs.Common.{◌≡◌, ◌≢◌, ℕ, zero, suc, ◌<◌, ◌≤◌, List, [], ◌∷◌, length, get_or, slice_get, Some, refl}
-use Rattle.std.proofs.Common.{sym, ap, ◌∙◌, subst, arith, inl, inr}
+use Rattle.std.proofs.Common.{◌≡◌, ◌≢◌, ℕ, zero, suc, ◌<◌, ◌≤◌, List, [], ◌∷◌, length, get_or, slice_get, Some}
+use Rattle.std.proofs.Common.{refl, sym, ap, ◌∙◌, subst, arith, inl, inr}
 use Rattle.std.proofs.lemmas.Option.{slice_get_within, slice_get-get_or, get_or_from_slice_get}
 use Rattle.std.proofs.lemmas.List.{length-map}
 use Rattle.tier_core.specs.declared.sym.Sym.{Sym}
-use Rattle.violation.specs.Prefixes.{kind_of, kind_of_bits}
-use Rattle.violation.specs.Problems.{Problem, last_place, last_stage}
-use Rattle.answer_text.specs.declared.answer.Answer.{Answer}
-use Rattle.answer_text.specs.declared.stage.Node.{Node}
-use Rattle.answer_text.specs.Certified.{start_potential}
-use Rattle.cert_check.specs.declared.fault.Fault.{Fault}
-use Rattle.cert_check.specs.declared.fault.Fault.TheVariants.{StartPotential}
-use Rattle.cert_check.specs.declared.subject.Subject.{Subject}
-use Rattle.cert_check.specs.Faults.{HasNode}
-use Rattle.cert_check.specs.Nodes.{IsRightNode, IsFaultlessStage, IsFirstInNode}
-use Rattle.cert_check.specs.FirstFaults.{IsFirstFault}
+use Rattle.violation.specs.{Prefixes.{kind_of, kind_of_bits}, Problems.{Problem, last_place, last_stage}}
+use Rattle.answer_text.specs.{declared.answer.Answer.Answer, declared.stage.Node.Node, Certified.start_potential}
+use Rattle.cert_check.specs.{declared.fault.Fault.Fault, declared.fault.Fault.TheVariants.StartPotential}
+use Rattle.cert_check.specs.{declared.subject.Subject.Subject, Faults.HasNode}
+use Rattle.cert_check.specs.{Nodes.{IsRightNode, IsFaultlessStage, IsFirstInNode}, FirstFaults.IsFirstFault}
 use Rattle.cert_check.specs.Parts.{HasRightHead, InAnswer, InNode, InStage, IsFirstInStage, IsWrongMove}
 use Rattle.cert_check.specs.Places.{IsBefore}
 use Rattle.cert_check.specs.Subjects.{IsReady, AreFirstNodesInOrder, problem_of, stage_nodes, stage_kinds}
 use Rattle.cert_check.proofs.Orders.{numbered_is}
 use Rattle.cert_check.proofs.Heads.{form_part, numbers_part, example_part, counts_part, head_parts}
-use Rattle.cert_check.proofs.Parts.{none_before, first_by_stage}
-use Rattle.cert_check.proofs.Starts.{order_part}
-use Rattle.cert_check.proofs.Subjects.{in_stages}
+use Rattle.cert_check.proofs.{Parts.{none_before, first_by_stage}, Starts.order_part, Subjects.in_stages}
 
 module _ (s : Subject) (stage : ℕ) (ready : IsReady s) (within : stage ≤ last_stage (problem_of s)) where
   abbrev problem : Problem

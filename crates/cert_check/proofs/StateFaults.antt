@@ -1,31 +1,20 @@
 -- The first fault of a state.
-use Rattle.std.proofs.Common.{◌≡◌, ℕ, zero, suc, ◌<◌, Bool, true, false, IsTrue, List, [], ◌∷◌, slice_get, Some, Option}
-use Rattle.std.proofs.Common.{refl, sym, ap, ◌∙◌, subst, arith, inl, inr, Contains, true≢false}
-use Rattle.std.specs.List.Sorted.{IsStrictlySortedBy}
-use Rattle.std.specs.Ordering.{nat_cmp}
-use Rattle.std.proofs.lemmas.Bool.{cases_order}
-use Rattle.std.proofs.lemmas.Option.{slice_get-get_or}
-use Rattle.tier_core.specs.declared.sym.Sym.{Sym}
-use Rattle.tier_core.specs.Classes.{has}
-use Rattle.tier_core.specs.Kinds.{PrefixKind}
-use Rattle.violation.specs.Moves.{is_final}
-use Rattle.violation.specs.Problems.{Problem, last_stage}
-use Rattle.answer_text.specs.declared.automaton.ArcLine.{ArcLine}
-use Rattle.answer_text.specs.declared.automaton.StateLine.{StateLine}
-use Rattle.answer_text.specs.declared.answer.Answer.{Answer}
-use Rattle.answer_text.specs.Right.{nodes_at, numbers_of}
-use Rattle.check_laws.proofs.Leading.{one_state}
-use Rattle.check_laws.proofs.Listing.{one_kind}
+use Rattle.std.proofs.Common.{◌≡◌, ℕ, zero, suc, ◌<◌, Bool, true, false, IsTrue, List, [], ◌∷◌, slice_get, Some}
+use Rattle.std.proofs.Common.{Option, refl, sym, ap, ◌∙◌, subst, arith, inl, inr, Contains, true≢false}
+use Rattle.std.proofs.{lemmas.Bool.cases_order, lemmas.Option.slice_get-get_or}
+use Rattle.std.specs.{List.Sorted.IsStrictlySortedBy, Ordering.nat_cmp}
+use Rattle.tier_core.specs.{declared.sym.Sym.Sym, Classes.has, Kinds.PrefixKind}
+use Rattle.violation.specs.{Moves.is_final, Problems.{Problem, last_stage}}
+use Rattle.answer_text.specs.{declared.automaton.ArcLine.ArcLine, declared.automaton.StateLine.StateLine}
+use Rattle.answer_text.specs.{declared.answer.Answer.Answer, Right.{nodes_at, numbers_of}}
+use Rattle.check_laws.proofs.{Leading.one_state, Listing.one_kind}
 use Rattle.cert_check.specs.declared.fault.Fault.TheVariants.{StateMissing, FinalsDiffer, ArcsTwice, ArcsDiffer}
-use Rattle.cert_check.specs.Arcs.{is_twice, do_differ, IsLeastColumn, IsNoColumn}
-use Rattle.cert_check.specs.Faults.{IsState, HasState, LacksTarget, HasTwice, HasWrongArcs, IsKindOfState}
-use Rattle.cert_check.specs.Faults.{IsListedTarget, IsKeptTarget}
-use Rattle.cert_check.specs.Parts.{InState, IsFirstInState}
-use Rattle.cert_check.specs.Places.{IsBefore, column_place}
+use Rattle.cert_check.specs.{Arcs.{is_twice, do_differ, IsLeastColumn, IsNoColumn}, Faults.{IsState, HasState}}
+use Rattle.cert_check.specs.Faults.{LacksTarget, HasTwice, HasWrongArcs, IsKindOfState, IsListedTarget}
+use Rattle.cert_check.specs.{Faults.IsKeptTarget, Parts.{InState, IsFirstInState}, Places.{IsBefore, column_place}}
 use Rattle.cert_check.specs.States.{IsRightPartOf, IsRightState, AreKeptArcs}
 use Rattle.cert_check.proofs.ArcLists.{HasOneTarget, targets_agree, targets_differ, twice_to, twice_from}
-use Rattle.cert_check.proofs.Faultless.{some_same}
-use Rattle.cert_check.proofs.Parts.{none_before}
+use Rattle.cert_check.proofs.{Faultless.some_same, Parts.none_before}
 
 module _ (problem : Problem) (answer : Answer)
     (ascending : IsStrictlySortedBy nat_cmp (numbers_of answer.automaton.states.items)) (line : StateLine)

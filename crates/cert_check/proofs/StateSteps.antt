@@ -1,31 +1,20 @@
 -- The faults of the states, one after the other.
-use Rattle.std.proofs.Common.{◌≡◌, ℕ, zero, suc, ◌+◌, ◌-◌, ◌<◌, List, [], ◌∷◌, length, get_or, slice_get, Some, refl}
-use Rattle.std.proofs.Common.{sym, ap, ◌∙◌, subst, arith, inl, inr, ⊎_elim, Contains}
-use Rattle.std.specs.List.Sorted.{IsStrictlySortedBy}
-use Rattle.std.specs.Ordering.{nat_cmp}
-use Rattle.std.proofs.lemmas.Bool.{cases_lt}
-use Rattle.std.proofs.lemmas.List.{length-map, get_or-map}
-use Rattle.std.proofs.lemmas.Map.Keys.{below_from_sorted}
+use Rattle.std.proofs.Common.{◌≡◌, ℕ, zero, suc, ◌+◌, ◌-◌, ◌<◌, List, [], ◌∷◌, length, get_or, slice_get, Some}
+use Rattle.std.proofs.{Common.{refl, sym, ap, ◌∙◌, subst, arith, inl, inr, ⊎_elim, Contains}, lemmas.Bool.cases_lt}
+use Rattle.std.proofs.{lemmas.List.{length-map, get_or-map}, lemmas.Map.Keys.below_from_sorted}
 use Rattle.std.proofs.lemmas.Option.{slice_get-get_or, slice_get_within, get_or_from_slice_get}
 use Rattle.std.proofs.lemmas.List.Elements.{All-contains}
+use Rattle.std.specs.{List.Sorted.IsStrictlySortedBy, Ordering.nat_cmp}
 use Rattle.violation.specs.Problems.{Problem, last_stage}
-use Rattle.answer_text.specs.declared.answer.Answer.{Answer}
-use Rattle.answer_text.specs.declared.automaton.StateLine.{StateLine}
-use Rattle.answer_text.specs.declared.stage.Node.{Node}
-use Rattle.answer_text.specs.declared.stage.Stage.{Stage}
-use Rattle.answer_text.specs.Readable.{IsReadableState, last_nodes}
-use Rattle.answer_text.specs.Right.{nodes_at, numbers_of}
-use Rattle.cert_check.specs.declared.fault.Fault.{Fault}
-use Rattle.cert_check.specs.declared.fault.Fault.TheVariants.{StateMissing}
-use Rattle.cert_check.specs.declared.subject.Subject.{Subject}
-use Rattle.cert_check.specs.Faults.{IsState, HasState}
-use Rattle.cert_check.specs.FirstFaults.{IsFirstFault}
-use Rattle.cert_check.specs.Parts.{InState, InAnswer, IsFirstInState}
-use Rattle.cert_check.specs.Places.{IsBefore, in_state}
+use Rattle.answer_text.specs.{declared.answer.Answer.Answer, declared.automaton.StateLine.StateLine}
+use Rattle.answer_text.specs.{declared.stage.Node.Node, declared.stage.Stage.Stage}
+use Rattle.answer_text.specs.{Readable.{IsReadableState, last_nodes}, Right.{nodes_at, numbers_of}}
+use Rattle.cert_check.specs.{declared.fault.Fault.Fault, declared.fault.Fault.TheVariants.StateMissing}
+use Rattle.cert_check.specs.{declared.subject.Subject.Subject, Faults.{IsState, HasState}, FirstFaults.IsFirstFault}
+use Rattle.cert_check.specs.{Parts.{InState, InAnswer, IsFirstInState}, Places.{IsBefore, in_state}}
 use Rattle.cert_check.specs.States.{AreRightBefore, IsRightFrom, IsRightState, IsRightBeforeStates, IsStateAt}
 use Rattle.cert_check.specs.Subjects.{problem_of, stage_nodes}
-use Rattle.cert_check.proofs.Faultless.{some_same}
-use Rattle.cert_check.proofs.Parts.{none_before, none_first, first_fault}
+use Rattle.cert_check.proofs.{Faultless.some_same, Parts.{none_before, none_first, first_fault}}
 use Rattle.cert_check.proofs.Subjects.{in_stages, nodes_read}
 
 module _ (problem : Problem) (answer : Answer)

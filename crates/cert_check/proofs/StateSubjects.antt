@@ -1,19 +1,13 @@
 -- What is known of a state that is looked at.
 use Rattle.std.proofs.Common.{◌≡◌, ◌^◌, ◌<◌, List, length, ◌∙◌, subst, arith, All, refl}
-use Rattle.std.specs.List.Sorted.{IsStrictlySortedBy}
-use Rattle.std.specs.Ordering.{nat_cmp}
-use Rattle.std.proofs.lemmas.List.Elements.{All-contains}
-use Rattle.std.proofs.lemmas.Option.{slice_get_within, get_or_from_slice_get}
-use Rattle.tier_core.specs.Classes.{sets_of}
-use Rattle.tier_core.specs.KindShapes.{FitsShape}
+use Rattle.std.proofs.{lemmas.List.Elements.All-contains, lemmas.Option.{slice_get_within, get_or_from_slice_get}}
+use Rattle.std.specs.{List.Sorted.IsStrictlySortedBy, Ordering.nat_cmp}
+use Rattle.tier_core.specs.{Classes.sets_of, KindShapes.FitsShape}
 use Rattle.violation.specs.Problems.{last_stage}
-use Rattle.answer_text.specs.declared.automaton.ArcLine.{ArcLine}
-use Rattle.answer_text.specs.declared.automaton.StateLine.{StateLine}
-use Rattle.answer_text.specs.declared.stage.Node.{Node}
-use Rattle.answer_text.specs.Readable.{IsReadableState, last_nodes}
+use Rattle.answer_text.specs.{declared.automaton.ArcLine.ArcLine, declared.automaton.StateLine.StateLine}
+use Rattle.answer_text.specs.{declared.stage.Node.Node, Readable.{IsReadableState, last_nodes}}
 use Rattle.answer_text.specs.Right.{numbers_of, IsNodeOf}
-use Rattle.cert_check.specs.declared.subject.Subject.{Subject}
-use Rattle.cert_check.specs.States.{IsRightBeforeStates, IsStateAt, last_kind}
+use Rattle.cert_check.specs.{declared.subject.Subject.Subject, States.{IsRightBeforeStates, IsStateAt, last_kind}}
 use Rattle.cert_check.specs.Subjects.{problem_of, stage_nodes}
 use Rattle.cert_check.proofs.Subjects.{free_same, fits_at}
 

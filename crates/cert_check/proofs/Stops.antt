@@ -1,10 +1,7 @@
 -- What a stop says, in other words.
-use Rattle.std.proofs.Common.{◌≡◌, IfErr, Result, subst}
-use Rattle.std.proofs.lemmas.Result.{IfErr-weaker}
-use Rattle.cert_check.specs.declared.fault.Fault.{Fault}
-use Rattle.cert_check.specs.declared.stop.Stop.{Stop}
-use Rattle.cert_check.specs.declared.stop.Stop.TheVariants.{Found, NoMemory}
-use Rattle.cert_check.specs.Stops.{StopsBy}
+use Rattle.std.proofs.{Common.{◌≡◌, IfErr, Result, subst}, lemmas.Result.IfErr-weaker}
+use Rattle.cert_check.specs.{declared.fault.Fault.Fault, declared.stop.Stop.Stop}
+use Rattle.cert_check.specs.{declared.stop.Stop.TheVariants.{Found, NoMemory}, Stops.StopsBy}
 
 -- what a stop by a fault says
 pub stop_said : (P : Fault → Type 0) (stop : Stop) (fault : Fault) → stop ≡ Found fault → StopsBy P stop → P fault

@@ -1,40 +1,25 @@
 -- What is known of an answer when its stages are looked at.
-use Rattle.std.proofs.Common.{◌≡◌, ◌↔◌, ℕ, ◌+◌, ◌-◌, ◌^◌, ◌<◌, ◌≤◌, ◌&&◌, not, Bool, List, [], ◌∷◌, map, filter, take}
-use Rattle.std.proofs.Common.{length, get_or, refl, sym, ap, ap₂, ◌∙◌, subst, arith, All}
-use Rattle.std.specs.List.{AllByRecursion, list_all}
+use Rattle.std.proofs.Common.{◌≡◌, ◌↔◌, ℕ, ◌+◌, ◌-◌, ◌^◌, ◌<◌, ◌≤◌, ◌&&◌, not, Bool, List, [], ◌∷◌, map, filter}
+use Rattle.std.proofs.Common.{take, length, get_or, refl, sym, ap, ap₂, ◌∙◌, subst, arith, All}
 use Rattle.std.proofs.lemmas.List.{get_or-map, get_or_default, get_or-take, length-take-le}
 use Rattle.std.proofs.lemmas.List.Elements.{All-from_recursion}
 use Rattle.std.proofs.lemmas.List.FromFn.{fill_by_all, length-map-range_with_len, get_or-map-range_with_len}
-use Rattle.tier_core.specs.declared.kind.Kind.{Kind}
-use Rattle.tier_core.specs.declared.sym.Sym.{Sym}
-use Rattle.tier_core.specs.declared.event.Event.{Event}
-use Rattle.tier_core.specs.declared.constraint.Constraint.{Constraint}
-use Rattle.tier_core.specs.declared.shape.Shape.{Shape}
-use Rattle.tier_core.specs.Shapes.{masked_count}
-use Rattle.tier_core.specs.Sides.{is_stretch}
-use Rattle.tier_core.specs.Kinds.{AreStretchesBelow, Phase, closed, PrefixKind, prefix_kind, open_tiers, phase_at}
-use Rattle.tier_core.specs.Kinds.{phases}
-use Rattle.tier_core.specs.KindShapes.{free_count, stretch_count, kind_in, FitsShape}
-use Rattle.tier_core.specs.Tiers.{has_tier, is_input}
-use Rattle.tier_core.proofs.TableMasks.{free_tiers}
-use Rattle.tier_core.proofs.Members.{all_first}
-use Rattle.grammar_reader.proofs.Shaping.{length-stretch_counts, count_rises}
-use Rattle.violation.specs.Conditions.{AreTiersBelow, IsOverTiers}
-use Rattle.violation.specs.Moves.{is_tier_open, cut_kind}
-use Rattle.violation.specs.Phases.{is_left_open, AreClosedOr}
-use Rattle.violation.specs.Prefixes.{kind_of, stretches, kind_of_bits}
+use Rattle.std.specs.List.{AllByRecursion, list_all}
+use Rattle.tier_core.specs.{declared.kind.Kind.Kind, declared.sym.Sym.Sym, declared.event.Event.Event}
+use Rattle.tier_core.specs.{declared.constraint.Constraint.Constraint, declared.shape.Shape.Shape}
+use Rattle.tier_core.specs.{Shapes.masked_count, Sides.is_stretch, Kinds.{AreStretchesBelow, Phase, closed}}
+use Rattle.tier_core.specs.Kinds.{PrefixKind, prefix_kind, open_tiers, phase_at, phases}
+use Rattle.tier_core.specs.{KindShapes.{free_count, stretch_count, kind_in, FitsShape}, Tiers.{has_tier, is_input}}
+use Rattle.tier_core.proofs.{TableMasks.free_tiers, Members.all_first}
+use Rattle.grammar_reader.proofs.{Shaping.{length-stretch_counts, count_rises}, OverTiers.over_tiers}
+use Rattle.violation.specs.{Conditions.{AreTiersBelow, IsOverTiers}, Moves.{is_tier_open, cut_kind}}
+use Rattle.violation.specs.{Phases.{is_left_open, AreClosedOr}, Prefixes.{kind_of, stretches, kind_of_bits}}
 use Rattle.violation.specs.Problems.{Problem, last_stage, last_place}
-use Rattle.answer_text.specs.declared.stage.Node.{Node}
-use Rattle.answer_text.specs.declared.stage.Stage.{Stage}
-use Rattle.answer_text.specs.Certified.{IsPossibleKind}
-use Rattle.answer_text.specs.Readable.{IsReadableStage}
-use Rattle.answer_text.specs.Right.{nodes_at, kinds_at}
-use Rattle.cert_check.specs.declared.subject.Subject.{Subject}
-use Rattle.cert_check.specs.Opens.{is_open_by, inputs_before}
-use Rattle.cert_check.specs.Possible.{all_open_in}
-use Rattle.cert_check.specs.Searches.{told_in}
+use Rattle.answer_text.specs.{declared.stage.Node.Node, declared.stage.Stage.Stage, Certified.IsPossibleKind}
+use Rattle.answer_text.specs.{Readable.IsReadableStage, Right.{nodes_at, kinds_at}}
+use Rattle.cert_check.specs.{declared.subject.Subject.Subject, Opens.{is_open_by, inputs_before}}
+use Rattle.cert_check.specs.{Possible.all_open_in, Searches.told_in}
 use Rattle.cert_check.specs.Subjects.{IsReady, problem_of, stage_nodes, stage_kinds, node_kind}
-use Rattle.grammar_reader.proofs.OverTiers.{over_tiers}
 use Rattle.cert_check.proofs.Opens.{open_told, length-numbers, all_inputs}
 
 -- ---- masks that agree with the open tiers

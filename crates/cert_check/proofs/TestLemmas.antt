@@ -1,17 +1,12 @@
 -- Tests of columns: what a constraint tells of columns on which its tests agree.
-use Rattle.std.proofs.Common.{◌≡◌, ℕ, ◌&&◌, ◌||◌, not, Bool, true, false, cond, List, [], ◌∷◌, ◌++◌, length, refl, sym}
-use Rattle.std.proofs.Common.{ap, ap₂, ◌∙◌, subst, true≢false}
-use Rattle.std.specs.List.{list_any, list_all}
-use Rattle.std.proofs.lemmas.Bool.{and_parts}
+use Rattle.std.proofs.Common.{◌≡◌, ℕ, ◌&&◌, ◌||◌, not, Bool, true, false, cond, List, [], ◌∷◌, ◌++◌, length, refl}
+use Rattle.std.proofs.{Common.{sym, ap, ap₂, ◌∙◌, subst, true≢false}, lemmas.Bool.and_parts}
 use Rattle.std.proofs.lemmas.List.Elements.{All-from_recursion, recursion_from_All}
 use Rattle.std.proofs.lemmas.List.Folds.{list_all-append}
-use Rattle.tier_core.specs.declared.class.Class.{Class}
-use Rattle.tier_core.specs.declared.sym.Sym.{Sym}
-use Rattle.tier_core.specs.declared.event.Event.{Event}
-use Rattle.tier_core.specs.declared.constraint.Constraint.{Constraint}
-use Rattle.tier_core.specs.declared.constraint.Family.{Family}
-use Rattle.tier_core.specs.declared.constraint.Family.TheVariants.{Implication, Clash}
-use Rattle.tier_core.specs.Classes.{sets_of, has}
+use Rattle.std.specs.List.{list_any, list_all}
+use Rattle.tier_core.specs.{declared.class.Class.Class, declared.sym.Sym.Sym, declared.event.Event.Event}
+use Rattle.tier_core.specs.{declared.constraint.Constraint.Constraint, declared.constraint.Family.Family}
+use Rattle.tier_core.specs.{declared.constraint.Family.TheVariants.{Implication, Clash}, Classes.{sets_of, has}}
 use Rattle.tier_core.specs.Kinds.{Phase, closed, unmet, met}
 use Rattle.tier_core.specs.Sides.{has_edge_type, edge_among, is_stretch, is_implication}
 use Rattle.tier_core.specs.Timelines.{symbol, is_edge}
@@ -20,9 +15,7 @@ use Rattle.violation.specs.Columns.{is_present, opens_interior, opens_all, edge_
 use Rattle.violation.specs.Moves.{next_phase, costs, is_met_phase, is_unmet_phase}
 use Rattle.cert_check.specs.declared.boxes.Asked.{Asked}
 use Rattle.cert_check.specs.declared.boxes.Asked.TheVariants.{Present, Absent, Open, NotInside, NoEdge}
-use Rattle.cert_check.specs.Alike.{AreAlikeFor}
-use Rattle.cert_check.specs.Boxes.{is_so}
-use Rattle.cert_check.specs.Tests.{AddsTests}
+use Rattle.cert_check.specs.{Alike.AreAlikeFor, Boxes.is_so, Tests.AddsTests}
 
 -- what is asked of a column on the tiers of some types
 abbrev pub all_so : Asked → List Event → List Sym → Bool

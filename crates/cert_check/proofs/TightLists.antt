@@ -1,24 +1,17 @@
 -- Of pieces those on whose columns the moves of a kind are tight at a stage.
-use Rattle.std.proofs.Common.{◌≡◌, ℕ, ◌+◌, ◌<◌, ◌≤◌, ◌⊎◌, ◌||◌, Bool, true, false, IsTrue, List, [], ◌∷◌, ◌++◌, length}
-use Rattle.std.proofs.Common.{take, get_or, refl, sym, ap, ◌∙◌, subst, arith, inl, inr, ⊎_elim, All}
+use Rattle.std.proofs.Common.{◌≡◌, ℕ, ◌+◌, ◌<◌, ◌≤◌, ◌⊎◌, ◌||◌, Bool, true, false, IsTrue, List, [], ◌∷◌, ◌++◌}
+use Rattle.std.proofs.Common.{length, take, get_or, refl, sym, ap, ◌∙◌, subst, arith, inl, inr, ⊎_elim, All}
+use Rattle.std.proofs.{lemmas.Bool.{both_ways, or_cases, or_left, or_right}, lemmas.List.{take_all, take_more}}
+use Rattle.std.proofs.{lemmas.List.Elements.{All-from_recursion, All-push}, lemmas.List.Folds.list_any-append}
 use Rattle.std.specs.List.{AllByRecursion}
-use Rattle.std.proofs.lemmas.Bool.{both_ways, or_cases, or_left, or_right}
-use Rattle.std.proofs.lemmas.List.{take_all, take_more}
-use Rattle.std.proofs.lemmas.List.Elements.{All-from_recursion, All-push}
-use Rattle.std.proofs.lemmas.List.Folds.{list_any-append}
-use Rattle.tier_core.specs.declared.class.Class.{Class}
-use Rattle.tier_core.specs.declared.sym.Sym.{Sym}
-use Rattle.tier_core.specs.Classes.{sets_of, has}
-use Rattle.tier_core.specs.Kinds.{PrefixKind}
-use Rattle.tier_core.specs.Filled.{is_filled}
+use Rattle.tier_core.specs.{declared.class.Class.Class, declared.sym.Sym.Sym, Classes.{sets_of, has}}
+use Rattle.tier_core.specs.{Kinds.PrefixKind, Filled.is_filled}
 use Rattle.symbol_class.specs.Held.{some_has, times_held, ArePieces}
 use Rattle.symbol_class.proofs.Times.{times-append, once_from_apart, pieces_from_once}
 use Rattle.violation.specs.Problems.{Problem}
-use Rattle.answer_text.specs.declared.stage.Stage.{Stage}
-use Rattle.answer_text.specs.Certified.{IsTightAt}
+use Rattle.answer_text.specs.{declared.stage.Stage.Stage, Certified.IsTightAt}
 use Rattle.cert_check.specs.Pruned.{IsAlikeTo, AddsTight, AreTightAmong}
-use Rattle.cert_check.proofs.PrunedSteps.{alike_go_on}
-use Rattle.cert_check.proofs.TightSteps.{tight_same}
+use Rattle.cert_check.proofs.{PrunedSteps.alike_go_on, TightSteps.tight_same}
 
 module _ (problem : Problem) (stages : List Stage) (stage : ℕ) (k : PrefixKind) where
   -- ---- one class, all columns of which are alike

@@ -1,28 +1,18 @@
 -- Moves that are tight at a stage, by what is listed there.
-use Rattle.std.proofs.Common.{◌≡◌, ◌↔◌, ℕ, zero, suc, ◌+◌, ◌==◌, ◌<◌, ◌≤◌, ◌^◌, Bool, true, false, cond, IsTrue, List}
-use Rattle.std.proofs.Common.{[], ◌∷◌, length, filter, take, get_or, slice_get, Some, refl, sym, ap, ◌∙◌, subst, arith}
-use Rattle.std.proofs.Common.{eq-eqb, eqb-true}
-use Rattle.std.proofs.lemmas.Bool.{false≢true}
-use Rattle.std.proofs.lemmas.List.{get_or-map, get_or_default, length-map}
-use Rattle.std.proofs.lemmas.List.Elements.{Contains-get_or}
+use Rattle.std.proofs.Common.{◌≡◌, ◌↔◌, ℕ, zero, suc, ◌+◌, ◌==◌, ◌<◌, ◌≤◌, ◌^◌, Bool, true, false, cond, IsTrue}
+use Rattle.std.proofs.Common.{List, [], ◌∷◌, length, filter, take, get_or, slice_get, Some, refl, sym, ap, ◌∙◌}
+use Rattle.std.proofs.{Common.{subst, arith, eq-eqb, eqb-true}, lemmas.Bool.false≢true}
+use Rattle.std.proofs.{lemmas.List.{get_or-map, get_or_default, length-map}, lemmas.List.Elements.Contains-get_or}
 use Rattle.std.proofs.lemmas.Option.{slice_get_within, get_or_from_slice_get}
-use Rattle.tier_core.specs.declared.constraint.Constraint.{Constraint}
-use Rattle.tier_core.specs.declared.kind.Kind.{Kind}
-use Rattle.tier_core.specs.declared.sym.Sym.{Sym}
-use Rattle.tier_core.specs.Kinds.{AreStretchesBelow, PrefixKind, phase_at}
-use Rattle.tier_core.specs.KindShapes.{FitsShape, free_count}
+use Rattle.tier_core.specs.{declared.constraint.Constraint.Constraint, declared.kind.Kind.Kind, declared.sym.Sym.Sym}
+use Rattle.tier_core.specs.{Kinds.{AreStretchesBelow, PrefixKind, phase_at}, KindShapes.{FitsShape, free_count}}
 use Rattle.tier_core.specs.Sides.{is_stretch}
-use Rattle.violation.specs.Moves.{next_kind, cost_of, cut_kind}
-use Rattle.violation.specs.Prefixes.{kind_of_bits, stretches}
+use Rattle.violation.specs.{Moves.{next_kind, cost_of, cut_kind}, Prefixes.{kind_of_bits, stretches}}
 use Rattle.violation.specs.Problems.{Problem, last_stage}
-use Rattle.answer_text.specs.declared.stage.Node.{Node}
-use Rattle.answer_text.specs.declared.stage.Stage.{Stage}
-use Rattle.answer_text.specs.Right.{nodes_at, kinds_at}
+use Rattle.answer_text.specs.{declared.stage.Node.Node, declared.stage.Stage.Stage, Right.{nodes_at, kinds_at}}
 use Rattle.answer_text.specs.Certified.{IsTightAt, Lists}
 use Rattle.check_laws.proofs.Listing.{one_potential}
-use Rattle.cert_check.specs.declared.subject.Subject.{Subject}
-use Rattle.cert_check.specs.Faults.{IsUnlisted, TellsKind}
-use Rattle.cert_check.specs.Fitting.{GoOnAlike}
+use Rattle.cert_check.specs.{declared.subject.Subject.Subject, Faults.{IsUnlisted, TellsKind}, Fitting.GoOnAlike}
 use Rattle.cert_check.specs.Subjects.{IsReady, AscendsAt, problem_of}
 use Rattle.cert_check.proofs.Subjects.{cut_told, free_same, stretch_same, stage_in}
 

@@ -1,15 +1,11 @@
 -- Pieces that are parted by one test after the other.
-use Rattle.std.proofs.Common.{◌≡◌, ℕ, ◌+◌, ◌<◌, List, [], length, take, get_or, refl, sym, ◌∙◌, subst, All, Contains}
-use Rattle.std.proofs.lemmas.List.Elements.{All-from_recursion, All-more, Contains-get_or}
-use Rattle.tier_core.specs.declared.class.Class.{Class}
-use Rattle.tier_core.specs.declared.sym.Sym.{Sym}
-use Rattle.tier_core.specs.Classes.{has}
-use Rattle.symbol_class.specs.declared.difference.Difference.{Difference}
-use Rattle.symbol_class.specs.Held.{ArePieces}
+use Rattle.std.proofs.Common.{◌≡◌, ℕ, ◌+◌, ◌<◌, List, [], length, take, get_or, refl, sym, ◌∙◌, subst, All}
+use Rattle.std.proofs.{Common.Contains, lemmas.List.Elements.{All-from_recursion, All-more, Contains-get_or}}
+use Rattle.tier_core.specs.{declared.class.Class.Class, declared.sym.Sym.Sym, Classes.has}
+use Rattle.symbol_class.specs.{declared.difference.Difference.Difference, Held.ArePieces}
 use Rattle.symbol_class.specs.Parts.{differs, IsPartOf, ArePartedBy}
 use Rattle.symbol_class.proofs.Times.{some_from_same}
-use Rattle.cert_check.specs.Fitting.{ArePartedByTests}
-use Rattle.cert_check.specs.Pieces.{IsUniform}
+use Rattle.cert_check.specs.{Fitting.ArePartedByTests, Pieces.IsUniform}
 
 -- what is so of each class of a list is so of one that is in it
 pub of_listed : (P : Class → Type 0) (xs : List Class) (x : Class) → All P xs → Contains xs x → P x

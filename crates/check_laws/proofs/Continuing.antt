@@ -1,34 +1,21 @@
 -- Prefixes along which the potentials of a right answer fall go on to optimal candidates.
-use Rattle.std.proofs.Common.{◌≡◌, ℕ, zero, suc, ◌-◌, ◌<◌, ◌≤◌, List, [], ◌∷◌, ◌++◌, sym, ap, ◌∙◌, subst, arith, inl}
-use Rattle.std.proofs.Common.{inr}
+use Rattle.std.proofs.Common.{◌≡◌, ℕ, zero, suc, ◌-◌, ◌<◌, ◌≤◌, List, [], ◌∷◌, ◌++◌, sym, ap, ◌∙◌, subst, arith}
+use Rattle.std.proofs.{Common.{inl, inr}, lemmas.Bool.cases_lt, lemmas.List.Elements.All-contains}
 use Rattle.std.specs.List.{AllByRecursion}
-use Rattle.std.proofs.lemmas.Bool.{cases_lt}
-use Rattle.std.proofs.lemmas.List.Elements.{All-contains}
-use Rattle.tier_core.specs.declared.sym.Sym.{Sym}
-use Rattle.tier_core.specs.Kinds.{PrefixKind}
+use Rattle.tier_core.specs.{declared.sym.Sym.Sym, Kinds.PrefixKind}
 use Rattle.violation.specs.Candidates.{IsForm, IsCandidate, IsOptimalFor, counts_on}
-use Rattle.violation.specs.Conditions.{AreSplit, IsOverTiers}
-use Rattle.violation.specs.Prefixes.{kind_of, kind_of_bits}
-use Rattle.violation.specs.Stages.{IsKindOfStage, IsRemaining}
-use Rattle.violation.specs.Walks.{BeginsCandidate}
-use Rattle.violation.proofs.CompletionLemmas.{completed}
-use Rattle.violation.proofs.CostLemmas.{exchange}
-use Rattle.violation.proofs.PrefixLemmas.{IsBegun}
-use Rattle.violation.proofs.StageLemmas.{all_optimal, over_first}
-use Rattle.violation.proofs.WalkLemmas.{begun_of, begun_next}
-use Rattle.violation.proofs.WalkSums.{walk_cost}
-use Rattle.answer_text.specs.declared.answer.Answer.{Answer}
-use Rattle.answer_text.specs.declared.stage.Node.{Node}
-use Rattle.answer_text.specs.Right.{nodes_at, IsRight}
-use Rattle.answer_text.specs.Certified.{Lists, IsKeptBelow, IsCertifiedStage}
-use Rattle.check_laws.proofs.Listing.{lists_kind, kind_listed, first_listed}
-use Rattle.check_laws.proofs.Potentials.{FallsAlong, stage_at, over_at, falls_from_tight, falls_parts, falls_joined}
-use Rattle.check_laws.proofs.Potentials.{listed_on, rest_cost, falls_from_sum}
-use Rattle.check_laws.proofs.Joining.{falls_alike}
-use Rattle.check_laws.proofs.Optima.{AllFall, AreTold, all_told}
-use Rattle.check_laws.proofs.Rests.{HasRest, rest_some}
+use Rattle.violation.specs.{Conditions.{AreSplit, IsOverTiers}, Prefixes.{kind_of, kind_of_bits}}
+use Rattle.violation.specs.{Stages.{IsKindOfStage, IsRemaining}, Walks.BeginsCandidate}
 use Rattle.violation.specs.Problems.{Problem, last_stage}
-use Rattle.violation.proofs.FewerStages.{same_fewer, least_rest}
+use Rattle.violation.proofs.{CompletionLemmas.completed, CostLemmas.exchange, PrefixLemmas.IsBegun}
+use Rattle.violation.proofs.{StageLemmas.{all_optimal, over_first}, WalkLemmas.{begun_of, begun_next}}
+use Rattle.violation.proofs.{WalkSums.walk_cost, FewerStages.{same_fewer, least_rest}}
+use Rattle.answer_text.specs.{declared.answer.Answer.Answer, declared.stage.Node.Node, Right.{nodes_at, IsRight}}
+use Rattle.answer_text.specs.Certified.{Lists, IsKeptBelow, IsCertifiedStage}
+use Rattle.check_laws.proofs.{Listing.{lists_kind, kind_listed, first_listed}, Potentials.{FallsAlong, stage_at}}
+use Rattle.check_laws.proofs.Potentials.{over_at, falls_from_tight, falls_parts, falls_joined, listed_on, rest_cost}
+use Rattle.check_laws.proofs.{Potentials.falls_from_sum, Joining.falls_alike, Optima.{AllFall, AreTold, all_told}}
+use Rattle.check_laws.proofs.Rests.{HasRest, rest_some}
 
 -- a right answer for a grammar and its form
 pub record IsGiven (problem : Problem) (answer : Answer) : Type 0 where

@@ -1,17 +1,11 @@
 -- Walks along which potentials fall, in parts, and from prefixes of one kind.
 use Rattle.std.proofs.Common.{◌≡◌, ℕ, ◌+◌, ◌≤◌, List, [], ◌∷◌, ◌++◌, length, sym, ap, ◌∙◌, subst}
 use Rattle.std.specs.List.{AllByRecursion}
-use Rattle.tier_core.specs.declared.sym.Sym.{Sym}
-use Rattle.tier_core.specs.declared.constraint.Constraint.{Constraint}
-use Rattle.tier_core.specs.Tiers.{Tiers}
-use Rattle.violation.specs.Candidates.{IsForm, IsCandidate}
-use Rattle.violation.specs.Conditions.{AreSplit, IsOverTiers}
-use Rattle.violation.specs.Moves.{next_kind, cost_of}
-use Rattle.violation.specs.Prefixes.{kind_of}
-use Rattle.answer_text.specs.declared.stage.Stage.{Stage}
-use Rattle.answer_text.specs.Certified.{Lists}
+use Rattle.tier_core.specs.{declared.sym.Sym.Sym, declared.constraint.Constraint.Constraint, Tiers.Tiers}
+use Rattle.violation.specs.{Candidates.{IsForm, IsCandidate}, Conditions.{AreSplit, IsOverTiers}}
+use Rattle.violation.specs.{Moves.{next_kind, cost_of}, Prefixes.kind_of, Problems.{Problem, last_stage}}
+use Rattle.answer_text.specs.{declared.stage.Stage.Stage, Certified.Lists}
 use Rattle.check_laws.proofs.Potentials.{FallsOn, FallsAlong, goes_to, as_longer, one_more}
-use Rattle.violation.specs.Problems.{Problem, last_stage}
 
 module _ (problem : Problem) (stages : List Stage) (split : AreSplit problem.tiers)
     (form : IsForm problem.tiers problem.form)

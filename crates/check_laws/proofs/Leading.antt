@@ -1,18 +1,12 @@
 -- Where reading leads: in parts, and to one state alone.
-use Rattle.std.proofs.Common.{◌≡◌, ℕ, ◌<◌, List, [], ◌∷◌, ◌++◌, length, get_or, refl, sym, ap, ◌∙◌, subst, arith, inl}
-use Rattle.std.proofs.Common.{inr, All, AllPairs, Contains}
-use Rattle.std.specs.List.Sorted.{IsStrictlySortedBy}
-use Rattle.std.specs.Ordering.{nat_cmp}
-use Rattle.std.proofs.lemmas.Bool.{cases_order}
-use Rattle.std.proofs.lemmas.List.{get_or-map, get_or_default, length-map}
-use Rattle.std.proofs.lemmas.List.Elements.{All-contains}
+use Rattle.std.proofs.Common.{◌≡◌, ℕ, ◌<◌, List, [], ◌∷◌, ◌++◌, length, get_or, refl, sym, ap, ◌∙◌, subst, arith}
+use Rattle.std.proofs.{Common.{inl, inr, All, AllPairs, Contains}, lemmas.Bool.cases_order}
+use Rattle.std.proofs.{lemmas.List.{get_or-map, get_or_default, length-map}, lemmas.List.Elements.All-contains}
 use Rattle.std.proofs.lemmas.Map.Keys.{below_from_sorted}
-use Rattle.tier_core.specs.declared.sym.Sym.{Sym}
-use Rattle.tier_core.specs.Classes.{has, AreDisjoint}
-use Rattle.answer_text.specs.declared.automaton.ArcLine.{ArcLine}
-use Rattle.answer_text.specs.declared.automaton.StateLine.{StateLine}
-use Rattle.answer_text.specs.Acceptance.{HasArc, Leads}
-use Rattle.answer_text.specs.Right.{numbers_of}
+use Rattle.std.specs.{List.Sorted.IsStrictlySortedBy, Ordering.nat_cmp}
+use Rattle.tier_core.specs.{declared.sym.Sym.Sym, Classes.{has, AreDisjoint}}
+use Rattle.answer_text.specs.{declared.automaton.ArcLine.ArcLine, declared.automaton.StateLine.StateLine}
+use Rattle.answer_text.specs.{Acceptance.{HasArc, Leads}, Right.numbers_of}
 
 pub leads_joined : (states : List StateLine) (p q : List (List Sym)) (n m l : ℕ) → Leads states n p m
     → Leads states m q l → Leads states n (p ++ q) l

@@ -1,20 +1,14 @@
 -- What a stage lists: each kind once, with one potential, at one node.
-use Rattle.std.proofs.Common.{◌≡◌, ℕ, ◌<◌, arith, List, [], ◌∷◌, map, length, get_or, refl, ap, sym, ◌∙◌, subst, inl}
-use Rattle.std.proofs.Common.{inr, Contains, Some, slice_get}
-use Rattle.std.specs.List.Sorted.{IsStrictlySortedBy}
-use Rattle.std.proofs.lemmas.Bool.{cases_order}
-use Rattle.std.proofs.lemmas.List.{get_or-map, get_or_default, length-map}
-use Rattle.std.proofs.lemmas.Map.Keys.{Less-from_sorted}
+use Rattle.std.proofs.Common.{◌≡◌, ℕ, ◌<◌, arith, List, [], ◌∷◌, map, length, get_or, refl, ap, sym, ◌∙◌, subst}
+use Rattle.std.proofs.{Common.{inl, inr, Contains, Some, slice_get}, lemmas.Bool.cases_order}
+use Rattle.std.proofs.{lemmas.List.{get_or-map, get_or_default, length-map}, lemmas.Map.Keys.Less-from_sorted}
 use Rattle.std.proofs.lemmas.Option.{slice_get_within, slice_get-get_or, get_or_from_slice_get}
+use Rattle.std.specs.List.Sorted.{IsStrictlySortedBy}
 use Rattle.tier_core.specs.Kinds.{PrefixKind, kind_order}
-use Rattle.tier_core.proofs.KindTies.{not_before_itself}
-use Rattle.violation.specs.Prefixes.{kind_of_bits}
-use Rattle.answer_text.specs.declared.stage.Node.{Node}
-use Rattle.answer_text.specs.declared.stage.Stage.{Stage}
-use Rattle.answer_text.specs.Right.{nodes_at, kinds_at, IsNodeOf}
-use Rattle.answer_text.specs.Certified.{Lists}
-use Rattle.tier_core.proofs.Members.{contains_map, contains_of_map}
-use Rattle.violation.specs.Problems.{Problem, last_stage}
+use Rattle.tier_core.proofs.{KindTies.not_before_itself, Members.{contains_map, contains_of_map}}
+use Rattle.violation.specs.{Prefixes.kind_of_bits, Problems.{Problem, last_stage}}
+use Rattle.answer_text.specs.{declared.stage.Node.Node, declared.stage.Stage.Stage}
+use Rattle.answer_text.specs.{Right.{nodes_at, kinds_at, IsNodeOf}, Certified.Lists}
 
 -- in a list that ascends, a kind has one place
 one_place : (ks : List PrefixKind) → IsStrictlySortedBy kind_order ks → (i j : ℕ) (d : PrefixKind) → i < length ks

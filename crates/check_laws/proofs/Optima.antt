@@ -1,21 +1,15 @@
 -- What the stages of a certified answer tell: which candidates are optimal.
-use Rattle.std.proofs.Common.{◌≡◌, ◌↔◌, ℕ, zero, suc, ◌-◌, ◌<◌, ◌≤◌, List, [], get_or, refl, sym, ap, ◌∙◌}
-use Rattle.std.proofs.Common.{subst, arith, inl, inr}
+use Rattle.std.proofs.Common.{◌≡◌, ◌↔◌, ℕ, zero, suc, ◌-◌, ◌<◌, ◌≤◌, List, [], get_or, refl, sym, ap, ◌∙◌, subst}
+use Rattle.std.proofs.{Common.{arith, inl, inr}, lemmas.Bool.cases_lt}
 use Rattle.std.specs.List.{AllByRecursion}
-use Rattle.std.proofs.lemmas.Bool.{cases_lt}
-use Rattle.tier_core.specs.declared.sym.Sym.{Sym}
-use Rattle.tier_core.specs.Tiers.{Tiers}
+use Rattle.tier_core.specs.{declared.sym.Sym.Sym, Tiers.Tiers}
 use Rattle.violation.specs.Candidates.{IsForm, IsCandidate, vec, IsOptimalFor, counts_on, count_at}
-use Rattle.violation.specs.Conditions.{AreSplit, IsOverTiers}
-use Rattle.violation.specs.Prefixes.{kind_of}
-use Rattle.violation.proofs.Ranks.{least_count, optimal_by_count}
-use Rattle.violation.proofs.StageLemmas.{all_optimal, optimal_for_fewer}
+use Rattle.violation.specs.{Conditions.{AreSplit, IsOverTiers}, Prefixes.kind_of, Problems.{Problem, last_stage}}
+use Rattle.violation.proofs.{Ranks.{least_count, optimal_by_count}, StageLemmas.{all_optimal, optimal_for_fewer}}
 use Rattle.violation.proofs.WalkSums.{violations_walk}
-use Rattle.answer_text.specs.declared.stage.Stage.{Stage}
-use Rattle.answer_text.specs.Certified.{Lists, start_potential, IsCertifiedStage}
+use Rattle.answer_text.specs.{declared.stage.Stage.Stage, Certified.{Lists, start_potential, IsCertifiedStage}}
 use Rattle.check_laws.proofs.Listing.{first_listed}
 use Rattle.check_laws.proofs.Potentials.{FallsAlong, stage_at, rest_cost, bound, falls_from_sum, sum_from_falls}
-use Rattle.violation.specs.Problems.{Problem, last_stage}
 
 pub start_count : (counts : List ℕ) (r : ℕ) → 1 ≤ r → start_potential counts r ≡ get_or counts (r - 1) 0
 start_count counts zero l = absurd (omega arith)

@@ -1,24 +1,16 @@
 -- Potentials bound from below what the rest of a candidate violates.
-use Rattle.std.proofs.Common.{◌≡◌, ℕ, ◌+◌, ◌-◌, ◌<◌, ◌≤◌, List, [], ◌∷◌, ◌++◌, take, length, sym, ap, ◌∙◌, subst, arith}
-use Rattle.std.proofs.Common.{append-nil, append_assoc}
+use Rattle.std.proofs.Common.{◌≡◌, ℕ, ◌+◌, ◌-◌, ◌<◌, ◌≤◌, List, [], ◌∷◌, ◌++◌, take, length, sym, ap, ◌∙◌, subst}
+use Rattle.std.proofs.Common.{arith, append-nil, append_assoc}
 use Rattle.std.specs.List.{AllByRecursion}
-use Rattle.tier_core.specs.declared.sym.Sym.{Sym}
-use Rattle.tier_core.specs.declared.constraint.Constraint.{Constraint}
-use Rattle.tier_core.specs.Tiers.{Tiers}
-use Rattle.violation.specs.Candidates.{IsForm, IsCandidate}
-use Rattle.violation.specs.Conditions.{AreSplit, IsOverTiers}
-use Rattle.violation.specs.Moves.{next_kind, cost_of, cut_kind}
-use Rattle.violation.specs.Prefixes.{kind_of, stretches}
-use Rattle.violation.specs.Stages.{IsStage}
-use Rattle.violation.specs.Walks.{BeginsCandidate}
-use Rattle.violation.proofs.CutLemmas.{cut_kind-kind_of}
-use Rattle.violation.proofs.StageLemmas.{over_stretches}
+use Rattle.tier_core.specs.{declared.sym.Sym.Sym, declared.constraint.Constraint.Constraint, Tiers.Tiers}
+use Rattle.violation.specs.{Candidates.{IsForm, IsCandidate}, Conditions.{AreSplit, IsOverTiers}}
+use Rattle.violation.specs.{Moves.{next_kind, cost_of, cut_kind}, Prefixes.{kind_of, stretches}, Stages.IsStage}
+use Rattle.violation.specs.{Walks.BeginsCandidate, Problems.{Problem, last_stage}}
+use Rattle.violation.proofs.{CutLemmas.cut_kind-kind_of, StageLemmas.over_stretches}
 use Rattle.violation.proofs.WalkLemmas.{fits_next, moved_is, candidate_final}
 use Rattle.violation.proofs.WalkSums.{none_at, walk_cost, walk_step}
-use Rattle.answer_text.specs.declared.stage.Stage.{Stage}
-use Rattle.answer_text.specs.Certified.{Lists, IsTightAt, IsKeptBelow, IsCertifiedStage}
+use Rattle.answer_text.specs.{declared.stage.Stage.Stage, Certified.{Lists, IsTightAt, IsKeptBelow, IsCertifiedStage}}
 use Rattle.check_laws.proofs.Listing.{one_potential}
-use Rattle.violation.specs.Problems.{Problem, last_stage}
 
 -- after the prefix p, the potential of stage j falls by just what the column costs under constraint j
 pub record FallsOn (problem : Problem) (stages : List Stage) (j : ℕ) (p : List (List Sym))

@@ -1,30 +1,22 @@
 -- What a certified automaton reads: exactly the candidates along which the potentials of all stages fall.
 use Rattle.std.proofs.Common.{◌≡◌, ℕ, ◌+◌, ◌≤◌, true, List, [], ◌∷◌, ◌++◌, refl, sym, ◌∙◌, subst, arith, append-nil}
-use Rattle.std.proofs.Common.{append_assoc, All, Contains}
+use Rattle.std.proofs.{Common.{append_assoc, All, Contains}, lemmas.List.Elements.All-contains}
 use Rattle.std.specs.List.{AllByRecursion}
-use Rattle.std.proofs.lemmas.List.Elements.{All-contains}
-use Rattle.tier_core.specs.declared.sym.Sym.{Sym}
-use Rattle.tier_core.specs.Kinds.{PrefixKind}
-use Rattle.violation.specs.Candidates.{IsForm, IsCandidate}
-use Rattle.violation.specs.Conditions.{AreSplit, IsOverTiers}
-use Rattle.violation.specs.Moves.{next_kind, is_final}
-use Rattle.violation.specs.Prefixes.{kind_of}
-use Rattle.violation.specs.Walks.{BeginsCandidate}
-use Rattle.violation.proofs.CompletionLemmas.{completed}
-use Rattle.violation.proofs.PrefixLemmas.{IsBegun, nothing_begun}
+use Rattle.tier_core.specs.{declared.sym.Sym.Sym, Kinds.PrefixKind}
+use Rattle.violation.specs.{Candidates.{IsForm, IsCandidate}, Conditions.{AreSplit, IsOverTiers}}
+use Rattle.violation.specs.{Moves.{next_kind, is_final}, Prefixes.kind_of, Walks.BeginsCandidate}
+use Rattle.violation.specs.Problems.{Problem, last_stage}
+use Rattle.violation.proofs.{CompletionLemmas.completed, PrefixLemmas.{IsBegun, nothing_begun}}
 use Rattle.violation.proofs.WalkLemmas.{begun_next, candidate_final, final_candidate}
-use Rattle.answer_text.specs.declared.automaton.ArcLine.{ArcLine}
-use Rattle.answer_text.specs.declared.automaton.StateLine.{StateLine}
-use Rattle.answer_text.specs.declared.stage.Node.{Node}
-use Rattle.answer_text.specs.declared.stage.Stage.{Stage}
+use Rattle.answer_text.specs.{declared.automaton.ArcLine.ArcLine, declared.automaton.StateLine.StateLine}
+use Rattle.answer_text.specs.{declared.stage.Node.Node, declared.stage.Stage.Stage}
 use Rattle.answer_text.specs.Acceptance.{HasArc, IsFinalState, Leads, Accepts}
 use Rattle.answer_text.specs.Right.{nodes_at, IsNodeOf, numbers_of}
 use Rattle.answer_text.specs.Certified.{IsKeptBelow, IsCertifiedStage, IsCertifiedAutomaton}
 use Rattle.tier_core.proofs.Members.{contains_of_map}
 use Rattle.check_laws.proofs.Listing.{lists_kind, kind_listed, kind_numbered, numbered_kind, first_numbered}
-use Rattle.check_laws.proofs.Potentials.{FallsOn, FallsAlong, over_at, goes_to, as_longer, one_more, falls_from_tight}
-use Rattle.check_laws.proofs.Potentials.{kept_from_falls}
-use Rattle.violation.specs.Problems.{Problem, last_stage}
+use Rattle.check_laws.proofs.Potentials.{FallsOn, FallsAlong, over_at, goes_to, as_longer, one_more}
+use Rattle.check_laws.proofs.Potentials.{falls_from_tight, kept_from_falls}
 
 -- n is the number of a state, whose node tells the kind of the prefix p
 pub record IsAt (problem : Problem) (nodes : List Node) (states : List StateLine) (n : ℕ)

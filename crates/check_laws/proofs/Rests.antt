@@ -1,13 +1,10 @@
 -- What remains at a kind is what the least rest of a walk costs.
 use Rattle.std.proofs.Common.{◌≡◌, ℕ, ◌-◌, ◌≤◌, List, ◌++◌, take, drop, length, arith}
-use Rattle.tier_core.specs.declared.sym.Sym.{Sym}
-use Rattle.tier_core.specs.Kinds.{PrefixKind}
-use Rattle.violation.specs.Candidates.{IsOptimalFor}
-use Rattle.violation.specs.Prefixes.{kind_of}
-use Rattle.violation.specs.Stages.{IsStage, IsLeastRest}
+use Rattle.tier_core.specs.{declared.sym.Sym.Sym, Kinds.PrefixKind}
+use Rattle.violation.specs.{Candidates.IsOptimalFor, Prefixes.kind_of, Stages.{IsStage, IsLeastRest}}
+use Rattle.violation.specs.Problems.{Problem}
 use Rattle.violation.proofs.WalkSums.{walk_cost, violations_on}
 use Rattle.violation.proofs.CutCandidates.{prefix_passes, optimal_cut, violations_cut}
-use Rattle.violation.specs.Problems.{Problem}
 
 module _ (problem : Problem) (r : ℕ) (stage : IsStage problem r) where
   -- an (r-1)-optimal candidate that goes on from the kind k at the cost p

@@ -1,15 +1,9 @@
 -- A right answer is sound.
 use Rattle.std.proofs.Common.{List, sym, subst}
-use Rattle.tier_core.specs.declared.sym.Sym.{Sym}
-use Rattle.tier_core.specs.declared.constraint.Constraint.{Constraint}
-use Rattle.tier_core.specs.Tiers.{Tiers}
-use Rattle.violation.specs.Candidates.{IsOptimal, IsLeastVector}
-use Rattle.violation.specs.Stages.{IsKindOfStage}
-use Rattle.answer_text.specs.declared.answer.Answer.{Answer}
-use Rattle.answer_text.specs.Right.{numbers_of, IsRight}
-use Rattle.answer_text.specs.Sound.{IsSound}
+use Rattle.tier_core.specs.{declared.sym.Sym.Sym, declared.constraint.Constraint.Constraint, Tiers.Tiers}
+use Rattle.violation.specs.{Candidates.{IsOptimal, IsLeastVector}, Stages.IsKindOfStage, Problems.Problem}
+use Rattle.answer_text.specs.{declared.answer.Answer.Answer, Right.{numbers_of, IsRight}, Sound.IsSound}
 use Rattle.check_laws.proofs.Soundness.{numbers_apart}
-use Rattle.violation.specs.Problems.{Problem}
 
 pub sound_from_right : (problem : Problem) (answer : Answer) → IsRight problem answer → IsSound problem answer
 sound_from_right problem answer right = record {

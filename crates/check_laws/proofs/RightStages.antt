@@ -1,36 +1,23 @@
 -- The stages of a right answer are certified.
 use Rattle.std.proofs.Common.{◌≡◌, ℕ, zero, suc, ◌+◌, ◌-◌, ◌<◌, ◌≤◌, IsTrue, List, [], ◌∷◌, ◌++◌, take, drop}
-use Rattle.std.proofs.Common.{get_or, refl, sym, ap, ◌∙◌, subst, arith, inl, inr, append-nil, append_assoc}
-use Rattle.std.proofs.Common.{All, Contains, Some, slice_get}
-use Rattle.std.proofs.lemmas.Bool.{cases_lt}
-use Rattle.std.proofs.lemmas.List.{length-map}
-use Rattle.tier_core.specs.declared.sym.Sym.{Sym}
-use Rattle.tier_core.specs.Kinds.{PrefixKind, kind_order}
-use Rattle.violation.specs.Candidates.{IsCandidate, IsOptimalFor, counts_on, count_at}
-use Rattle.violation.specs.Counts.{violations_of}
-use Rattle.violation.specs.Moves.{next_kind, cost_of, cut_kind, is_final}
-use Rattle.violation.specs.Prefixes.{kind_of}
+use Rattle.std.proofs.Common.{get_or, refl, sym, ap, ◌∙◌, subst, arith, inl, inr, append-nil, append_assoc, All}
+use Rattle.std.proofs.{Common.{Contains, Some, slice_get}, lemmas.Bool.cases_lt, lemmas.List.length-map}
+use Rattle.tier_core.specs.{declared.sym.Sym.Sym, Kinds.{PrefixKind, kind_order}}
+use Rattle.violation.specs.{Candidates.{IsCandidate, IsOptimalFor, counts_on, count_at}, Counts.violations_of}
+use Rattle.violation.specs.{Moves.{next_kind, cost_of, cut_kind, is_final}, Prefixes.kind_of}
 use Rattle.violation.specs.Stages.{IsStage, IsPassed, IsKindOfStage, IsLeastRest, IsRemaining}
-use Rattle.violation.specs.Walks.{BeginsCandidate}
-use Rattle.violation.proofs.CutLemmas.{cut_kind-kind_of}
-use Rattle.violation.proofs.PrefixLemmas.{IsBegun}
-use Rattle.violation.proofs.StageLemmas.{optimal_for_fewer}
-use Rattle.violation.proofs.VectorLemmas.{both_equal, at_most_last}
-use Rattle.violation.proofs.WalkLemmas.{begun_of, final_candidate}
+use Rattle.violation.specs.{Walks.BeginsCandidate, Problems.{Problem, last_stage}}
+use Rattle.violation.proofs.{CutLemmas.cut_kind-kind_of, PrefixLemmas.IsBegun, StageLemmas.optimal_for_fewer}
+use Rattle.violation.proofs.{VectorLemmas.{both_equal, at_most_last}, WalkLemmas.{begun_of, final_candidate}}
 use Rattle.violation.proofs.WalkSums.{none_at, walk_cost, walk_step, violations_walk}
-use Rattle.answer_text.specs.declared.answer.Answer.{Answer}
-use Rattle.answer_text.specs.Right.{nodes_at, kinds_at}
+use Rattle.violation.proofs.{FewerStages.{same_fewer, least_rest}, CutCandidates.{prefix_passed, optimal_cut}}
+use Rattle.answer_text.specs.{declared.answer.Answer.Answer, Right.{nodes_at, kinds_at}}
 use Rattle.answer_text.specs.Certified.{Lists, IsKeptBelow, IsPossibleKind, start_potential, IsCertifiedStage}
 use Rattle.tier_core.proofs.Members.{All-from_members}
-use Rattle.check_laws.proofs.Potentials.{stage_at, over_at, goes_to}
-use Rattle.check_laws.proofs.Optima.{start_count, AllFall, AreTold}
-use Rattle.check_laws.proofs.Rests.{HasRest, rest_some, rest_least}
-use Rattle.check_laws.proofs.Continuing.{IsGiven, counts_are, remains, passed_by, listed_by, told_by, falls_to}
-use Rattle.check_laws.proofs.Continuing.{kept_longer, exchanged, swapped, goes_on}
-use Rattle.check_laws.proofs.Starts.{first_is, none_before_start, possible}
-use Rattle.violation.specs.Problems.{Problem, last_stage}
-use Rattle.violation.proofs.FewerStages.{same_fewer, least_rest}
-use Rattle.violation.proofs.CutCandidates.{prefix_passed, optimal_cut}
+use Rattle.check_laws.proofs.{Potentials.{stage_at, over_at, goes_to}, Optima.{start_count, AllFall, AreTold}}
+use Rattle.check_laws.proofs.{Rests.{HasRest, rest_some, rest_least}, Continuing.{IsGiven, counts_are, remains}}
+use Rattle.check_laws.proofs.Continuing.{passed_by, listed_by, told_by, falls_to, kept_longer, exchanged, swapped}
+use Rattle.check_laws.proofs.{Continuing.goes_on, Starts.{first_is, none_before_start, possible}}
 
 -- at stage 0 nothing remains
 none_remains : (problem : Problem) (r : ℕ) (k : PrefixKind) (p : ℕ) → r ≤ 0 → IsRemaining problem r k p → p ≡ 0

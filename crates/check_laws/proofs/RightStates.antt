@@ -1,32 +1,22 @@
 -- The automaton of a right answer is certified, and so is the answer.
 use Rattle.std.proofs.Common.{◌≡◌, ℕ, ◌+◌, ◌≤◌, List, [], ◌∷◌, ◌++◌, take, length, refl, sym, ap, ◌∙◌, subst, arith}
-use Rattle.std.proofs.Common.{append_assoc, take_at, All, AllPairs, Contains}
-use Rattle.std.specs.Cmp.{both_ways}
-use Rattle.std.proofs.lemmas.List.{length-append}
+use Rattle.std.proofs.{Common.{append_assoc, take_at, All, AllPairs, Contains}, lemmas.List.length-append}
 use Rattle.std.proofs.lemmas.List.Elements.{All-contains}
-use Rattle.tier_core.specs.declared.sym.Sym.{Sym}
-use Rattle.tier_core.specs.Classes.{AreDisjoint}
-use Rattle.tier_core.specs.Kinds.{PrefixKind}
-use Rattle.violation.specs.Candidates.{IsCandidate, IsOptimalFor}
-use Rattle.violation.specs.Moves.{next_kind, is_final}
-use Rattle.violation.specs.Prefixes.{kind_of}
-use Rattle.violation.specs.Walks.{BeginsCandidate}
+use Rattle.std.specs.Cmp.{both_ways}
+use Rattle.tier_core.specs.{declared.sym.Sym.Sym, Classes.AreDisjoint, Kinds.PrefixKind}
+use Rattle.violation.specs.{Candidates.{IsCandidate, IsOptimalFor}, Moves.{next_kind, is_final}, Prefixes.kind_of}
+use Rattle.violation.specs.{Walks.BeginsCandidate, Problems.{Problem, last_stage, last_place}}
 use Rattle.violation.proofs.WalkLemmas.{begun_of, candidate_final, final_candidate}
-use Rattle.answer_text.specs.declared.answer.Answer.{Answer}
-use Rattle.answer_text.specs.declared.automaton.ArcLine.{ArcLine}
-use Rattle.answer_text.specs.declared.automaton.StateLine.{StateLine}
-use Rattle.answer_text.specs.declared.stage.Node.{Node}
-use Rattle.answer_text.specs.Acceptance.{HasArc, Leads, Accepts}
-use Rattle.answer_text.specs.Right.{nodes_at, IsNodeOf, numbers_of}
+use Rattle.answer_text.specs.{declared.answer.Answer.Answer, declared.automaton.ArcLine.ArcLine}
+use Rattle.answer_text.specs.{declared.automaton.StateLine.StateLine, declared.stage.Node.Node}
+use Rattle.answer_text.specs.{Acceptance.{HasArc, Leads, Accepts}, Right.{nodes_at, IsNodeOf, numbers_of}}
 use Rattle.answer_text.specs.Certified.{IsKeptBelow, IsCertifiedStage, IsCertifiedAutomaton, IsCertified}
 use Rattle.tier_core.proofs.Members.{contains_map}
-use Rattle.check_laws.proofs.Listing.{one_number, one_kind}
-use Rattle.check_laws.proofs.Potentials.{over_at, goes_to, kept_from_falls}
+use Rattle.check_laws.proofs.{Listing.{one_number, one_kind}, Potentials.{over_at, goes_to, kept_from_falls}}
 use Rattle.check_laws.proofs.Optima.{AllFall, AreTold}
 use Rattle.check_laws.proofs.Continuing.{IsGiven, counts_are, told_by, falls_to, kept_longer, goes_on}
 use Rattle.check_laws.proofs.RightStages.{parted_passed, all_stages}
 use Rattle.check_laws.proofs.Leading.{leads_joined, leads_parts, one_state, leads_one}
-use Rattle.violation.specs.Problems.{Problem, last_stage, last_place}
 
 module _ (problem : Problem) (answer : Answer) (given : IsGiven problem answer) where
   abbrev last : ℕ

@@ -1,32 +1,19 @@
 -- A certified answer is sound.
 use Rattle.std.proofs.Common.{◌≡◌, ◌≢◌, ◌↔◌, ℕ, ◌-◌, ◌≤◌, List, [], ◌++◌, take, drop, length, get_or, sym, ap, ◌∙◌}
-use Rattle.std.proofs.Common.{subst, arith, AllPairs, Contains}
-use Rattle.std.specs.List.{AllByRecursion}
-use Rattle.std.specs.List.Sorted.{IsStrictlySortedBy}
-use Rattle.std.specs.Ordering.{nat_cmp}
-use Rattle.std.proofs.lemmas.List.{length-map, take-append-drop}
+use Rattle.std.proofs.{Common.{subst, arith, AllPairs, Contains}, lemmas.List.{length-map, take-append-drop}}
 use Rattle.std.proofs.lemmas.Map.Keys.{below_from_sorted}
-use Rattle.tier_core.specs.declared.sym.Sym.{Sym}
-use Rattle.tier_core.specs.declared.constraint.Constraint.{Constraint}
-use Rattle.tier_core.specs.Kinds.{PrefixKind}
+use Rattle.std.specs.{List.AllByRecursion, List.Sorted.IsStrictlySortedBy, Ordering.nat_cmp}
+use Rattle.tier_core.specs.{declared.sym.Sym.Sym, declared.constraint.Constraint.Constraint, Kinds.PrefixKind}
 use Rattle.tier_core.specs.Tiers.{Tiers}
-use Rattle.violation.specs.Candidates.{IsOptimal, IsLeastVector}
-use Rattle.violation.specs.Conditions.{AreSplit, IsOverTiers}
-use Rattle.violation.specs.Counts.{violations_of}
-use Rattle.violation.specs.Prefixes.{kind_of}
-use Rattle.violation.specs.Stages.{IsKindOfStage}
-use Rattle.violation.proofs.LeastVector.{vector_of_numbers}
-use Rattle.violation.proofs.CutCandidates.{candidate_cut}
-use Rattle.answer_text.specs.declared.answer.Answer.{Answer}
-use Rattle.answer_text.specs.Acceptance.{Accepts}
-use Rattle.answer_text.specs.Right.{nodes_at, kinds_at, numbers_of}
-use Rattle.answer_text.specs.Certified.{IsCertifiedStage, AreStatesInOrder, IsCertified}
-use Rattle.answer_text.specs.Sound.{IsSound}
-use Rattle.check_laws.proofs.Listing.{lists_kind, first_listed}
-use Rattle.check_laws.proofs.Potentials.{FallsAlong, falls_parts, listed_on}
-use Rattle.check_laws.proofs.Optima.{AreTold, all_told}
-use Rattle.check_laws.proofs.Reading.{accepted_falls, falls_accepted}
+use Rattle.violation.specs.{Candidates.{IsOptimal, IsLeastVector}, Conditions.{AreSplit, IsOverTiers}}
+use Rattle.violation.specs.{Counts.violations_of, Prefixes.kind_of, Stages.IsKindOfStage}
 use Rattle.violation.specs.Problems.{Problem, last_stage}
+use Rattle.violation.proofs.{LeastVector.vector_of_numbers, CutCandidates.candidate_cut}
+use Rattle.answer_text.specs.{declared.answer.Answer.Answer, Acceptance.Accepts}
+use Rattle.answer_text.specs.Right.{nodes_at, kinds_at, numbers_of}
+use Rattle.answer_text.specs.{Certified.{IsCertifiedStage, AreStatesInOrder, IsCertified}, Sound.IsSound}
+use Rattle.check_laws.proofs.{Listing.{lists_kind, first_listed}, Potentials.{FallsAlong, falls_parts, listed_on}}
+use Rattle.check_laws.proofs.{Optima.{AreTold, all_told}, Reading.{accepted_falls, falls_accepted}}
 
 -- numbers that ascend differ
 pub numbers_apart : (ns : List ℕ) → IsStrictlySortedBy nat_cmp ns → AllPairs (λ m n. m ≢ n) ns

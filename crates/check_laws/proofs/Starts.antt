@@ -1,22 +1,13 @@
 -- The kind of the empty prefix comes first, and the kind of a prefix is a possible one.
 use Rattle.std.proofs.Common.{◌≡◌, ℕ, zero, suc, ◌<◌, true, false, List, [], ◌∷◌, length, get_or, refl, sym, ap}
-use Rattle.std.proofs.Common.{◌∙◌, arith, Contains, Some, slice_get}
-use Rattle.std.specs.List.{AllByRecursion}
-use Rattle.std.specs.List.Sorted.{IsStrictlySortedBy}
-use Rattle.std.specs.declared.cmp.Ordering.TheVariants.{Less}
-use Rattle.std.proofs.lemmas.List.{length-map, length-take}
+use Rattle.std.proofs.{Common.{◌∙◌, arith, Contains, Some, slice_get}, lemmas.List.{length-map, length-take}}
 use Rattle.std.proofs.lemmas.Map.Keys.{Less-from_sorted}
-use Rattle.tier_core.specs.declared.sym.Sym.{Sym}
-use Rattle.tier_core.specs.Kinds.{PrefixKind, kind_order}
-use Rattle.tier_core.specs.Timelines.{tier_word}
-use Rattle.violation.specs.Candidates.{IsForm}
-use Rattle.violation.specs.Conditions.{AreSplit, IsOverTiers}
-use Rattle.violation.specs.Prefixes.{is_open, phase, kind_of, stretches}
-use Rattle.violation.proofs.PrefixLemmas.{IsBegun, input_part}
+use Rattle.std.specs.{List.AllByRecursion, List.Sorted.IsStrictlySortedBy, declared.cmp.Ordering.TheVariants.Less}
+use Rattle.tier_core.specs.{declared.sym.Sym.Sym, Kinds.{PrefixKind, kind_order}, Timelines.tier_word}
+use Rattle.violation.specs.{Candidates.IsForm, Conditions.{AreSplit, IsOverTiers}}
+use Rattle.violation.specs.{Prefixes.{is_open, phase, kind_of, stretches}, Problems.Problem}
+use Rattle.violation.proofs.{PrefixLemmas.{IsBegun, input_part}, FirstKind.none_before, ClosedPhases.phases_closed}
 use Rattle.answer_text.specs.Certified.{IsPossibleKind}
-use Rattle.violation.specs.Problems.{Problem}
-use Rattle.violation.proofs.FirstKind.{none_before}
-use Rattle.violation.proofs.ClosedPhases.{phases_closed}
 
 -- ---- the first of a list that ascends
 

@@ -1,11 +1,9 @@
 -- Words are those of one command at most.
-use Rattle.std.proofs.Common.{◌≡◌, ℕ, ◌<◌, ◌≤◌, ◌^◌, List, [], ◌∷◌, codes, drop, get_or, ap, sym, ◌∙◌, subst}
-use Rattle.std.proofs.Common.{arith, refl}
-use Rattle.std.specs.Prelude.{if◌then◌else◌}
-use Rattle.std.specs.Str.{bytes_eq}
-use Rattle.std.proofs.lemmas.Fmt.{decimal_injective}
-use Rattle.command_line.specs.Commands.{Command, canon, score, generate, show, tableau, once, comprehend, check, sample}
-use Rattle.command_line.specs.Commands.{IsBudget, IsCommand}
+use Rattle.std.proofs.Common.{◌≡◌, ℕ, ◌<◌, ◌≤◌, ◌^◌, List, [], ◌∷◌, codes, drop, get_or, ap, sym, ◌∙◌, subst, arith}
+use Rattle.std.proofs.{Common.refl, lemmas.Fmt.decimal_injective}
+use Rattle.std.specs.{Prelude.if◌then◌else◌, Str.bytes_eq}
+use Rattle.command_line.specs.Commands.{Command, canon, score, generate, show, tableau, once, comprehend, check}
+use Rattle.command_line.specs.Commands.{sample, IsBudget, IsCommand}
 
 -- one budget at most is given
 one_budget : (words : List (List ℕ)) (a b : ℕ) → IsBudget words a → IsBudget words b → a ≡ b

@@ -1,17 +1,13 @@
 -- What the looks along the arcs give to a choice.
-use Rattle.std.proofs.Common.{◌≡◌, ℕ, ◌+◌, ◌*◌, ◌<◌, List, [], ◌∷◌, ◌++◌, Option, Some, length, get_or}
-use Rattle.std.proofs.Common.{take, refl, sym, ap, ◌∙◌, subst, arith, ◌⊎◌, inl, inr, IsTrue}
-use Rattle.std.specs.Prelude.{slice_get}
-use Rattle.std.proofs.lemmas.List.{take_more}
+use Rattle.std.proofs.Common.{◌≡◌, ℕ, ◌+◌, ◌*◌, ◌<◌, List, [], ◌∷◌, ◌++◌, Option, Some, length, get_or, take, refl}
+use Rattle.std.proofs.{Common.{sym, ap, ◌∙◌, subst, arith, ◌⊎◌, inl, inr, IsTrue}, lemmas.List.take_more}
 use Rattle.std.proofs.lemmas.List.Elements.{Contains-append_left, Contains-push, Contains-push_cases}
-use Rattle.tier_core.specs.declared.sym.Sym.{Sym}
-use Rattle.tier_core.specs.declared.class.Class.{Class}
+use Rattle.std.specs.Prelude.{slice_get}
+use Rattle.tier_core.specs.{declared.sym.Sym.Sym, declared.class.Class.Class}
 use Rattle.answer_text.specs.declared.automaton.ArcLine.{ArcLine}
-use Rattle.comprehend.specs.declared.choice.Choice.{Choice}
-use Rattle.comprehend.specs.Steps.{test_has}
+use Rattle.comprehend.specs.{declared.choice.Choice.Choice, Steps.test_has}
 use Rattle.comprehend.specs.Choices.{IsBetter, LeadsToCell, LeadsAlong, LeadsByOne}
-use Rattle.comprehend.proofs.Looks.{test_at}
-use Rattle.comprehend.proofs.Bettering.{better_same, better_both}
+use Rattle.comprehend.proofs.{Looks.test_at, Bettering.{better_same, better_both}}
 
 module _ (tests : List Class) (place : ℕ) (left : List ℕ) (n : ℕ) (class : Class) (target : ℕ)
     (inside : place < length tests) (test : Class) (is : test ≡ get_or tests 0 test) (stay : ℕ)

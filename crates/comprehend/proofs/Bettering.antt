@@ -1,12 +1,9 @@
 -- What each step gives to a choice of the least column.
 use Rattle.std.proofs.Common.{◌≡◌, ℕ, false, List, Option, Some, refl, sym, ◌∙◌, subst, ◌⊎◌, inl, inr}
-use Rattle.std.specs.Prelude.{MatchOption, ⊤}
-use Rattle.std.specs.Ordering.{is_gt}
-use Rattle.tier_core.specs.declared.sym.Sym.{Sym}
-use Rattle.tier_core.specs.Orders.{column_cmp}
+use Rattle.std.specs.{Prelude.{MatchOption, ⊤}, Ordering.is_gt}
+use Rattle.tier_core.specs.{declared.sym.Sym.Sym, Orders.column_cmp}
 use Rattle.first_paths.proofs.Order.{column_itself, column_upto}
-use Rattle.comprehend.specs.declared.choice.Choice.{Choice}
-use Rattle.comprehend.specs.Choices.{IsBetter}
+use Rattle.comprehend.specs.{declared.choice.Choice.Choice, Choices.IsBetter}
 
 -- where there is no step
 pub better_none : (P : List Sym → ℕ → Type 0) → ((column : List Sym) (w : ℕ) → P column w → ⊥)

@@ -1,6 +1,5 @@
 -- Cells by their numbers.
-use Rattle.std.proofs.Common.{◌≡◌, ℕ, ◌+◌, ◌*◌, ◌/◌, ◌%◌, ◌<◌, ◌≤◌, ap, arith, inl, inr}
-use Rattle.std.proofs.Math.Nat.{mul-le-mul_right}
+use Rattle.std.proofs.{Common.{◌≡◌, ℕ, ◌+◌, ◌*◌, ◌/◌, ◌%◌, ◌<◌, ◌≤◌, ap, arith, inl, inr}, Math.Nat.mul-le-mul_right}
 use Rattle.std.proofs.lemmas.Bool.{cases_order}
 
 -- the cells of a state of n are within those of all

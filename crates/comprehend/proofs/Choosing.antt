@@ -1,17 +1,11 @@
 -- The choice among the steps from a cell.
-use Rattle.std.proofs.Common.{◌≡◌, ℕ, ◌+◌, ◌*◌, ◌<◌, false, List, Option, None, Some, length, sym, ◌∙◌, subst}
-use Rattle.std.proofs.Common.{◌⊎◌, inl, inr}
-use Rattle.std.specs.Prelude.{Contains}
-use Rattle.std.specs.Ordering.{is_gt}
-use Rattle.tier_core.specs.declared.sym.Sym.{Sym}
-use Rattle.tier_core.specs.declared.class.Class.{Class}
-use Rattle.tier_core.specs.Orders.{column_cmp}
-use Rattle.answer_text.specs.declared.automaton.StateLine.{StateLine}
-use Rattle.answer_text.specs.Right.{numbers_of}
-use Rattle.comprehend.specs.declared.choice.Choice.{Choice}
-use Rattle.comprehend.specs.Searches.{IsLeft, HasStep, IsLeastStep}
-use Rattle.comprehend.specs.Steps.{arcs_at, Goes, Turns}
-use Rattle.comprehend.specs.Choices.{IsBetter, LeadsByOne}
+use Rattle.std.proofs.Common.{◌≡◌, ℕ, ◌+◌, ◌*◌, ◌<◌, false, List, Option, None, Some, length, sym, ◌∙◌, subst, ◌⊎◌}
+use Rattle.std.proofs.Common.{inl, inr}
+use Rattle.std.specs.{Prelude.Contains, Ordering.is_gt}
+use Rattle.tier_core.specs.{declared.sym.Sym.Sym, declared.class.Class.Class, Orders.column_cmp}
+use Rattle.answer_text.specs.{declared.automaton.StateLine.StateLine, Right.numbers_of}
+use Rattle.comprehend.specs.{declared.choice.Choice.Choice, Searches.{IsLeft, HasStep, IsLeastStep}}
+use Rattle.comprehend.specs.{Steps.{arcs_at, Goes, Turns}, Choices.{IsBetter, LeadsByOne}}
 use Rattle.comprehend.proofs.Cells.{one_cell}
 
 module _ (states : List StateLine) (tests : List Class) (left : List ℕ) (n v s p : ℕ)

@@ -1,16 +1,11 @@
 -- The cells from which entering arcs lead are those with a step.
 use Rattle.std.proofs.Common.{◌≡◌, ℕ, ◌+◌, ◌*◌, ◌<◌, List, length, refl, sym, ap, ◌∙◌, subst, arith, inl, inr}
 use Rattle.std.proofs.Common.{IsTrue}
-use Rattle.std.specs.Prelude.{Contains, Some, slice_get}
-use Rattle.std.specs.Global.{Vec}
-use Rattle.tier_core.specs.declared.sym.Sym.{Sym}
-use Rattle.tier_core.specs.declared.class.Class.{Class}
-use Rattle.tier_core.specs.Classes.{has}
-use Rattle.answer_text.specs.declared.automaton.ArcLine.{ArcLine}
-use Rattle.answer_text.specs.declared.automaton.StateLine.{StateLine}
+use Rattle.std.specs.{Prelude.{Contains, Some, slice_get}, Global.Vec}
+use Rattle.tier_core.specs.{declared.sym.Sym.Sym, declared.class.Class.Class, Classes.has}
+use Rattle.answer_text.specs.{declared.automaton.ArcLine.ArcLine, declared.automaton.StateLine.StateLine}
 use Rattle.answer_text.specs.Right.{numbers_of}
-use Rattle.comprehend.specs.declared.entering.Entering.{Entering}
-use Rattle.comprehend.specs.Steps.{Goes, Turns, test_has}
+use Rattle.comprehend.specs.{declared.entering.Entering.Entering, Steps.{Goes, Turns, test_has}}
 use Rattle.comprehend.specs.Entering.{entering_at, AreReverseArcs, IsArcOf, ComesByOne, ComesBy}
 use Rattle.comprehend.proofs.Cells.{one_cell}
 

@@ -1,12 +1,10 @@
 -- The cells at which the search begins.
-use Rattle.std.proofs.Common.{◌≡◌, ℕ, ◌+◌, ◌*◌, ◌<◌, ◌≤◌, true, false, List, length, get_or, sym, ap, ◌∙◌}
-use Rattle.std.proofs.Common.{arith, inl, inr, IsTrue, map}
-use Rattle.std.proofs.lemmas.Bool.{false≢true, cases_lt}
+use Rattle.std.proofs.Common.{◌≡◌, ℕ, ◌+◌, ◌*◌, ◌<◌, ◌≤◌, true, false, List, length, get_or, sym, ap, ◌∙◌, arith}
+use Rattle.std.proofs.{Common.{inl, inr, IsTrue, map}, lemmas.Bool.{false≢true, cases_lt}}
 use Rattle.std.proofs.lemmas.List.{get_or-map, get_or_past, length-map}
 use Rattle.tier_core.specs.declared.class.Class.{Class}
 use Rattle.answer_text.specs.declared.automaton.StateLine.{StateLine}
-use Rattle.comprehend.specs.Searches.{Reaches}
-use Rattle.comprehend.specs.Steps.{final_at, IsEndCell}
+use Rattle.comprehend.specs.{Searches.Reaches, Steps.{final_at, IsEndCell}}
 use Rattle.comprehend.proofs.Reaching.{reaches_same, reaches_both}
 
 -- the end of one of the first n states

@@ -1,16 +1,10 @@
 -- A right answer has no more states than the last stage has kinds.
-use Rattle.std.proofs.Common.{ℕ, ◌<◌, ◌≤◌, length, get_or, arith}
+use Rattle.std.proofs.{Common.{ℕ, ◌<◌, ◌≤◌, length, get_or, arith}, lemmas.Map.Views.length-le_from_below}
+use Rattle.std.proofs.{lemmas.Option.slice_get_within, lemmas.List.length-map, lemmas.List.Elements.Contains-get_or}
 use Rattle.std.specs.Prelude.{All}
-use Rattle.std.proofs.lemmas.Map.Views.{length-le_from_below}
-use Rattle.std.proofs.lemmas.Option.{slice_get_within}
-use Rattle.std.proofs.lemmas.List.{length-map}
-use Rattle.std.proofs.lemmas.List.Elements.{Contains-get_or}
-use Rattle.violation.specs.Problems.{Problem, last_stage}
-use Rattle.violation.specs.Prefixes.{kind_of_bits}
-use Rattle.answer_text.specs.declared.stage.Node.{Node}
-use Rattle.answer_text.specs.declared.automaton.StateLine.{StateLine}
-use Rattle.answer_text.specs.declared.answer.Answer.{Answer}
-use Rattle.answer_text.specs.Right.{nodes_at, kinds_at, numbers_of, IsRight}
+use Rattle.violation.specs.{Problems.{Problem, last_stage}, Prefixes.kind_of_bits}
+use Rattle.answer_text.specs.{declared.stage.Node.Node, declared.automaton.StateLine.StateLine}
+use Rattle.answer_text.specs.{declared.answer.Answer.Answer, Right.{nodes_at, kinds_at, numbers_of, IsRight}}
 use Rattle.ranked_gen.specs.Budgets.{AreAllWithin}
 
 pub few_states : (problem : Problem) (answer : Answer) (budget : ℕ) → IsRight problem answer

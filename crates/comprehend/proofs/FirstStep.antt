@@ -1,14 +1,10 @@
 -- One column more at the front of a first word.
-use Rattle.std.proofs.Common.{◌≡◌, ℕ, ◌+◌, ◌≤◌, false, List, [], ◌∷◌, length, refl, sym, ◌∙◌, subst, arith}
-use Rattle.std.proofs.Common.{inl, inr}
-use Rattle.std.specs.declared.cmp.Ordering.{Ordering}
-use Rattle.std.specs.declared.cmp.Ordering.TheVariants.{Less, Equal, Greater}
+use Rattle.std.proofs.Common.{◌≡◌, ℕ, ◌+◌, ◌≤◌, false, List, [], ◌∷◌, length, refl, sym, ◌∙◌, subst, arith, inl}
+use Rattle.std.proofs.{Common.inr, lemmas.Bool.{false≢true, cases_lt}}
+use Rattle.std.specs.{declared.cmp.Ordering.Ordering, declared.cmp.Ordering.TheVariants.{Less, Equal, Greater}}
 use Rattle.std.specs.Ordering.{ordering_then, is_gt}
-use Rattle.std.proofs.lemmas.Bool.{false≢true, cases_lt}
-use Rattle.tier_core.specs.declared.sym.Sym.{Sym}
-use Rattle.tier_core.specs.Orders.{column_cmp, IsFirst}
-use Rattle.first_paths.proofs.Order.{equal_columns}
-use Rattle.first_paths.proofs.FirstFrom.{word_cmp, IsFirstOf, first_le}
+use Rattle.tier_core.specs.{declared.sym.Sym.Sym, Orders.{column_cmp, IsFirst}}
+use Rattle.first_paths.proofs.{Order.equal_columns, FirstFrom.{word_cmp, IsFirstOf, first_le}}
 use Rattle.comprehend.specs.Searches.{IsLeft, ReadsFrom, AreLengths, IsLeastStep, HasStep}
 
 module _ (step : ℕ → List Sym → ℕ → Type 0) (ends : ℕ → Type 0) where

@@ -1,24 +1,14 @@
 -- The first timeline along the tests of a surface is the first accepted one that has it.
-use Rattle.std.proofs.Common.{◌≡◌, ◌≤◌, ◌*◌, ℕ, List, [], Option, Result, length}
-use Rattle.std.proofs.Common.{arith}
-use Rattle.std.specs.Prelude.{Contains, MatchOption, IfOk}
-use Rattle.std.proofs.Math.Nat.{mul-le-mul}
+use Rattle.std.proofs.{Common.{◌≡◌, ◌≤◌, ◌*◌, ℕ, List, [], Option, Result, length, arith}, Math.Nat.mul-le-mul}
 use Rattle.std.proofs.lemmas.List.Elements.{All-contains}
-use Rattle.tier_core.specs.declared.sym.Sym.{Sym}
-use Rattle.tier_core.specs.declared.class.Class.{Class}
-use Rattle.tier_core.specs.declared.tier.TierKind.{TierKind}
-use Rattle.tier_core.specs.Classes.{sets_of}
-use Rattle.tier_core.specs.Orders.{IsFirst}
-use Rattle.tier_core.specs.Tiers.{is_overt, numbers_from, tiers_by_kinds}
-use Rattle.answer_text.specs.declared.automaton.ArcLine.{ArcLine}
-use Rattle.answer_text.specs.declared.automaton.StateLine.{StateLine}
-use Rattle.answer_text.specs.Right.{numbers_of}
-use Rattle.answer_text.specs.Sound.{AreSoundArcs}
+use Rattle.std.specs.Prelude.{Contains, MatchOption, IfOk}
+use Rattle.tier_core.specs.{declared.sym.Sym.Sym, declared.class.Class.Class, declared.tier.TierKind.TierKind}
+use Rattle.tier_core.specs.{Classes.sets_of, Orders.IsFirst, Tiers.{is_overt, numbers_from, tiers_by_kinds}}
+use Rattle.answer_text.specs.{declared.automaton.ArcLine.ArcLine, declared.automaton.StateLine.StateLine}
+use Rattle.answer_text.specs.{Right.numbers_of, Sound.AreSoundArcs}
 use Rattle.comprehend.specs.Steps.{arcs_at, AreSearchable, AreApart, AreTestsApart, ReadsAlong}
-use Rattle.comprehend.specs.Surfaces.{AcceptsHeard, AreReadable, IsSurface}
-use Rattle.comprehend.specs.Tests.{AreTestsOf}
-use Rattle.comprehend.proofs.Levels.{each_arcs}
-use Rattle.comprehend.proofs.Results.{if_ok_then, match_then, first_same}
+use Rattle.comprehend.specs.{Surfaces.{AcceptsHeard, AreReadable, IsSurface}, Tests.AreTestsOf}
+use Rattle.comprehend.proofs.{Levels.each_arcs, Results.{if_ok_then, match_then, first_same}}
 use Rattle.comprehend.proofs.Readings.{AreTests, along_heard, heard_along}
 use Rattle.comprehend.proofs.TestFacts.{test_widths, test_count, are_tests, tests_apart, width_at}
 

@@ -4,17 +4,11 @@ use Rattle.std.proofs.Common.{length, get_or, map, drop, cond, refl, sym, ap, �
 use Rattle.std.proofs.Common.{drop-cons, add-one}
 use Rattle.std.proofs.lemmas.Bool.{false≢true, and_parts, and_from, cases_lt, not-true, or_parts, or_from}
 use Rattle.std.proofs.lemmas.List.{get_or-map, get_or_past, length_push, length-map}
-use Rattle.tier_core.specs.declared.sym.Sym.{Sym}
-use Rattle.tier_core.specs.declared.sym.Sym.TheVariants.{Outside}
-use Rattle.tier_core.specs.declared.tier.TierKind.{TierKind}
-use Rattle.tier_core.specs.Classes.{sets_have}
-use Rattle.tier_core.specs.Sets.{is_in, single_set}
-use Rattle.tier_core.specs.Tiers.{is_overt, numbers_from}
-use Rattle.tier_core.specs.Timelines.{symbol, is_edge, has_edge}
-use Rattle.tier_core.proofs.SetLemmas.{alone_in, only_in}
-use Rattle.tier_core.proofs.KnownSets.{in_all, in_none, in_edgeless}
-use Rattle.comprehend.specs.Surfaces.{heard_in}
-use Rattle.comprehend.specs.Tests.{still_sets, heard_sets}
+use Rattle.tier_core.specs.{declared.sym.Sym.Sym, declared.sym.Sym.TheVariants.Outside}
+use Rattle.tier_core.specs.{declared.tier.TierKind.TierKind, Classes.sets_have, Sets.{is_in, single_set}}
+use Rattle.tier_core.specs.{Tiers.{is_overt, numbers_from}, Timelines.{symbol, is_edge, has_edge}}
+use Rattle.tier_core.proofs.{SetLemmas.{alone_in, only_in}, KnownSets.{in_all, in_none, in_edgeless}}
+use Rattle.comprehend.specs.{Surfaces.heard_in, Tests.{still_sets, heard_sets}}
 
 -- the symbols of the overt tiers, tier by tier
 abbrev pub overt_syms : List TierKind → List Sym → List Sym

@@ -1,12 +1,11 @@
 -- The lines of a hit, put together.
 use Rattle.std.proofs.Common.{◌≡◌, ◌<◌, List, [], ◌++◌, codes, length, get_or, sym, ap, ◌∙◌, append-nil}
-use Rattle.std.specs.String.{string_bytes}
 use Rattle.std.proofs.lemmas.List.{get_or-map}
+use Rattle.std.specs.String.{string_bytes}
 use Rattle.answer_text.specs.Text.{line, lines_text}
 use Rattle.lexicon.specs.declared.entry.Entry.{Entry}
 use Rattle.timeline_text.specs.Texts.{text_of}
-use Rattle.comprehend.specs.declared.hit.Hit.{Hit}
-use Rattle.comprehend.specs.HitText.{names_of, hit_lines}
+use Rattle.comprehend.specs.{declared.hit.Hit.Hit, HitText.{names_of, hit_lines}}
 
 pub hit_text_is : (lexicon : List Entry) (hit : Hit) (entry : Entry) → hit.index < length lexicon
     → entry ≡ get_or lexicon hit.index entry

@@ -1,25 +1,18 @@
 -- What each entry gives to the hits.
 use Rattle.std.proofs.Common.{◌≡◌, ℕ, zero, suc, ◌+◌, ◌<◌, List, [], ◌∷◌, ◌++◌, Option, None, Some, length, get_or}
-use Rattle.std.proofs.Common.{take, refl, sym, ap, ◌∙◌, subst, arith, ◌⊎◌, inl, inr}
-use Rattle.std.specs.Prelude.{All, Contains, MatchOption, slice_get}
-use Rattle.std.specs.List.Sorted.{IsStrictlySortedBy}
-use Rattle.std.specs.Ordering.{nat_cmp}
-use Rattle.std.specs.Cmp.{nat_cmp_is}
-use Rattle.std.specs.declared.cmp.Ordering.TheVariants.{Less}
-use Rattle.std.proofs.lemmas.Bool.{cases_lt}
+use Rattle.std.proofs.{Common.{take, refl, sym, ap, ◌∙◌, subst, arith, ◌⊎◌, inl, inr}, lemmas.Bool.cases_lt}
 use Rattle.std.proofs.lemmas.List.{get_or-map, length-map, map-append}
 use Rattle.std.proofs.lemmas.List.Elements.{All-contains_itself, All-weaker, Contains-append_left, Contains-push}
-use Rattle.std.proofs.lemmas.List.Elements.{Contains-push_cases}
-use Rattle.tier_core.specs.declared.sym.Sym.{Sym}
-use Rattle.tier_core.specs.Orders.{IsFirst}
-use Rattle.std.proofs.lemmas.Option.{slice_get-get_or, slice_get_within}
+use Rattle.std.proofs.{lemmas.List.Elements.Contains-push_cases, lemmas.Option.{slice_get-get_or, slice_get_within}}
+use Rattle.std.specs.{Prelude.{All, Contains, MatchOption, slice_get}, List.Sorted.IsStrictlySortedBy}
+use Rattle.std.specs.{Ordering.nat_cmp, Cmp.nat_cmp_is, declared.cmp.Ordering.TheVariants.Less}
+use Rattle.tier_core.specs.{declared.sym.Sym.Sym, Orders.IsFirst}
 use Rattle.violation.specs.Problems.{Problem}
 use Rattle.lexicon.specs.declared.entry.Entry.{Entry}
 use Rattle.tier_core.proofs.Members.{contains_of_map}
 use Rattle.ranked_gen.proofs.Ascending.{sorted_from, ascends_from, ascends_append}
 use Rattle.ranked_gen.specs.Budgets.{AreAllWithin, IsFirstOver}
-use Rattle.comprehend.specs.declared.hit.Hit.{Hit}
-use Rattle.comprehend.specs.Surfaces.{HasSurface}
+use Rattle.comprehend.specs.{declared.hit.Hit.Hit, Surfaces.HasSurface}
 use Rattle.comprehend.specs.Hears.{forms_of, indexes_of, IsHit, IsPushed, Hears, AreEntriesWithin, IsFirstEntryOver}
 
 -- the elements of the first n

@@ -1,24 +1,17 @@
 -- One cell of a level more.
 use Rattle.std.proofs.Common.{◌≡◌, ℕ, ◌+◌, ◌*◌, ◌<◌, ◌≤◌, List, [], ◌∷◌, ◌++◌, length, get_or, map, take, sym, ap}
-use Rattle.std.proofs.Common.{◌∙◌, subst, arith, inl, inr}
-use Rattle.std.specs.Prelude.{All, Contains}
-use Rattle.std.specs.Global.{Vec}
-use Rattle.std.proofs.lemmas.Bool.{cases_lt}
-use Rattle.std.proofs.lemmas.Option.{slice_get_cases}
+use Rattle.std.proofs.{Common.{◌∙◌, subst, arith, inl, inr}, lemmas.Bool.cases_lt, lemmas.Option.slice_get_cases}
 use Rattle.std.proofs.lemmas.List.{get_or-map, get_or_past, length-map, take_more}
-use Rattle.std.proofs.lemmas.List.Elements.{Contains-append_left, Contains-get_or, Contains-push, Contains-push_cases}
-use Rattle.tier_core.specs.declared.class.Class.{Class}
-use Rattle.tier_core.specs.Classes.{sets_of}
-use Rattle.answer_text.specs.declared.automaton.ArcLine.{ArcLine}
-use Rattle.answer_text.specs.declared.automaton.StateLine.{StateLine}
+use Rattle.std.proofs.lemmas.List.Elements.{Contains-append_left, Contains-get_or, Contains-push}
+use Rattle.std.proofs.lemmas.List.Elements.{Contains-push_cases}
+use Rattle.std.specs.{Prelude.{All, Contains}, Global.Vec}
+use Rattle.tier_core.specs.{declared.class.Class.Class, Classes.sets_of}
+use Rattle.answer_text.specs.{declared.automaton.ArcLine.ArcLine, declared.automaton.StateLine.StateLine}
 use Rattle.answer_text.specs.Right.{numbers_of}
-use Rattle.comprehend.specs.declared.entering.Entering.{Entering}
-use Rattle.comprehend.specs.Searches.{IsPredecessor, Reaches}
+use Rattle.comprehend.specs.{declared.entering.Entering.Entering, Searches.{IsPredecessor, Reaches}}
 use Rattle.comprehend.specs.Steps.{arcs_at, Goes, AreSearchable}
 use Rattle.comprehend.specs.Entering.{entering_at, AreReverseArcs, IsArcOf, ComesByOne}
-use Rattle.comprehend.proofs.Reaching.{reaches_both}
-use Rattle.comprehend.proofs.Cells.{cells_inside}
-use Rattle.comprehend.proofs.Comings.{comes_goes, goes_comes}
+use Rattle.comprehend.proofs.{Reaching.reaches_both, Cells.cells_inside, Comings.{comes_goes, goes_comes}}
 
 -- the arcs of a state of the list, as they are read
 pub arcs_read : (states : List StateLine) (s : ℕ) (state : StateLine) (arcs : List ArcLine) → s < length states

@@ -1,14 +1,9 @@
 -- What the looks at the cells before one give, entry by entry.
-use Rattle.std.proofs.Common.{◌≡◌, ◌↔◌, ℕ, ◌+◌, ◌*◌, ◌<◌, Bool, false, List, [], ◌∷◌, ◌++◌, length, get_or}
-use Rattle.std.proofs.Common.{take, sym, ap, ◌∙◌, subst, arith, inl, inr, IsTrue}
-use Rattle.std.proofs.lemmas.List.{get_or-map, take_more}
+use Rattle.std.proofs.Common.{◌≡◌, ◌↔◌, ℕ, ◌+◌, ◌*◌, ◌<◌, Bool, false, List, [], ◌∷◌, ◌++◌, length, get_or, take}
+use Rattle.std.proofs.{Common.{sym, ap, ◌∙◌, subst, arith, inl, inr, IsTrue}, lemmas.List.{get_or-map, take_more}}
 use Rattle.std.proofs.lemmas.List.Elements.{Contains-append_left, Contains-push, Contains-push_cases}
-use Rattle.tier_core.specs.declared.sym.Sym.{Sym}
-use Rattle.tier_core.specs.declared.class.Class.{Class}
-use Rattle.tier_core.specs.Classes.{has}
-use Rattle.comprehend.specs.declared.entering.Entering.{Entering}
-use Rattle.comprehend.specs.Searches.{Reaches}
-use Rattle.comprehend.specs.Steps.{test_has}
+use Rattle.tier_core.specs.{declared.sym.Sym.Sym, declared.class.Class.Class, Classes.has}
+use Rattle.comprehend.specs.{declared.entering.Entering.Entering, Searches.Reaches, Steps.test_has}
 use Rattle.comprehend.specs.Entering.{ComesByOne, ComesBy, MeetsTest}
 use Rattle.comprehend.proofs.Reaching.{reaches_same, reaches_both}
 

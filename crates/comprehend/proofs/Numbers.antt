@@ -1,14 +1,12 @@
 -- Where a number stands in a list of distinct numbers.
-use Rattle.std.proofs.Common.{◌≡◌, ◌≢◌, ℕ, ◌+◌, ◌<◌, false, List, [], ◌∷◌, ◌++◌, None, Some}
-use Rattle.std.proofs.Common.{length, get_or, take, sym, ap, ◌∙◌, arith, inl, inr, cond, eqb, eq-eqb}
-use Rattle.std.specs.Prelude.{AllPairs, slice_get, position}
-use Rattle.std.specs.List.{list_any}
+use Rattle.std.proofs.Common.{◌≡◌, ◌≢◌, ℕ, ◌+◌, ◌<◌, false, List, [], ◌∷◌, ◌++◌, None, Some, length, get_or, take}
+use Rattle.std.proofs.Common.{sym, ap, ◌∙◌, arith, inl, inr, cond, eqb, eq-eqb}
 use Rattle.std.proofs.lemmas.Bool.{false≢true, eqb-true, cases_order, ne_eqb}
 use Rattle.std.proofs.lemmas.Option.{slice_get-get_or, slice_get_within, get_or_from_slice_get}
 use Rattle.std.proofs.lemmas.List.{get_or-take, get_or_default, length-take-le, take_more}
-use Rattle.std.proofs.lemmas.List.Folds.{list_any_none}
-use Rattle.std.proofs.lemmas.List.Sums.{fails_before_first}
+use Rattle.std.proofs.{lemmas.List.Folds.list_any_none, lemmas.List.Sums.fails_before_first}
 use Rattle.std.proofs.lemmas.List.Quantifiers.{position-Some}
+use Rattle.std.specs.{Prelude.{AllPairs, slice_get, position}, List.list_any}
 use Rattle.indexmap.specs.IndexSet.{insert_key}
 use Rattle.timeline_text.proofs.Splits.{position_none}
 

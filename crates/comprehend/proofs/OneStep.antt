@@ -1,18 +1,12 @@
 -- A column leads from a cell to one cell at most.
-use Rattle.std.proofs.Common.{◌≡◌, ◌≢◌, ℕ, ◌+◌, ◌*◌, List, length, get_or, sym, ap, ◌∙◌, subst}
-use Rattle.std.proofs.Common.{inl, inr, IsTrue, Some}
+use Rattle.std.proofs.Common.{◌≡◌, ◌≢◌, ℕ, ◌+◌, ◌*◌, List, length, get_or, sym, ap, ◌∙◌, subst, inl, inr, IsTrue}
+use Rattle.std.proofs.{Common.Some, lemmas.Bool.cases_order, lemmas.List.get_or_default}
 use Rattle.std.specs.Prelude.{AllPairs, Contains}
-use Rattle.std.proofs.lemmas.Bool.{cases_order}
-use Rattle.std.proofs.lemmas.List.{get_or_default}
-use Rattle.tier_core.specs.declared.sym.Sym.{Sym}
-use Rattle.tier_core.specs.declared.class.Class.{Class}
-use Rattle.tier_core.specs.Classes.{has, AreDisjoint}
-use Rattle.answer_text.specs.declared.automaton.ArcLine.{ArcLine}
-use Rattle.answer_text.specs.declared.automaton.StateLine.{StateLine}
+use Rattle.tier_core.specs.{declared.sym.Sym.Sym, declared.class.Class.Class, Classes.{has, AreDisjoint}}
+use Rattle.answer_text.specs.{declared.automaton.ArcLine.ArcLine, declared.automaton.StateLine.StateLine}
 use Rattle.answer_text.specs.Right.{numbers_of}
 use Rattle.comprehend.specs.Steps.{arcs_at, test_has, Goes, Turns, AreApart, AreTestsApart}
-use Rattle.comprehend.proofs.Cells.{one_cell}
-use Rattle.comprehend.proofs.Numbers.{once_at}
+use Rattle.comprehend.proofs.{Cells.one_cell, Numbers.once_at}
 
 -- arcs that hold one column are one
 same_arc : (arcs : List ArcLine) → AllPairs (λ a b. AreDisjoint a.class b.class) arcs

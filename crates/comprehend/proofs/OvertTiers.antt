@@ -1,14 +1,10 @@
 -- Each grammar has an overt tier.
-use Rattle.std.proofs.Common.{◌≤◌, length, map, string_bytes, ap, sym, ◌∙◌, arith}
+use Rattle.std.proofs.{Common.{◌≤◌, length, map, string_bytes, ap, sym, ◌∙◌, arith}, lemmas.List.length-map}
 use Rattle.std.specs.List.{list_any}
-use Rattle.std.proofs.lemmas.List.{length-map}
-use Rattle.tier_core.specs.Tiers.{is_overt}
-use Rattle.tier_core.specs.Tables.{tiers_of_table}
+use Rattle.tier_core.specs.{Tiers.is_overt, Tables.tiers_of_table}
 use Rattle.tier_core.proofs.TableMasks.{length-numbers_from}
-use Rattle.grammar_reader.specs.declared.grammar.Grammar.{Grammar}
-use Rattle.grammar_reader.specs.Seen.{tiers_by}
-use Rattle.grammar_reader.proofs.Lists.{list_any-map}
-use Rattle.grammar_reader.proofs.Shaping.{any_filtered, kinds_back}
+use Rattle.grammar_reader.specs.{declared.grammar.Grammar.Grammar, Seen.tiers_by}
+use Rattle.grammar_reader.proofs.{Lists.list_any-map, Shaping.{any_filtered, kinds_back}}
 
 pub some_overt : (g : Grammar) → 1 ≤ length (tiers_of_table g.tiers).overt
 some_overt g =

@@ -1,28 +1,18 @@
 -- The timelines along the tests of a surface are the accepted ones that have it.
 use Rattle.std.proofs.Common.{◌≡◌, ◌≢◌, ℕ, zero, suc, ◌+◌, ◌*◌, ◌<◌, ◌≤◌, Bool, true, false, List, [], ◌∷◌, length}
-use Rattle.std.proofs.Common.{get_or, drop, refl, sym, ap, ◌∙◌, subst, arith, inl, inr, IsTrue, Some}
-use Rattle.std.proofs.Common.{drop-cons, add-one}
-use Rattle.std.specs.Prelude.{AllPairs, Contains, slice_get}
-use Rattle.std.proofs.lemmas.Bool.{cases_lt, cond-true, cond-false}
+use Rattle.std.proofs.Common.{get_or, drop, refl, sym, ap, ◌∙◌, subst, arith, inl, inr, IsTrue, Some, drop-cons}
+use Rattle.std.proofs.{Common.add-one, lemmas.Bool.{cases_lt, cond-true, cond-false}}
 use Rattle.std.proofs.lemmas.Option.{slice_get_cases, slice_get_within, slice_get-get_or, get_or_from_slice_get}
-use Rattle.std.proofs.lemmas.List.{get_or-map, length-map}
-use Rattle.std.proofs.lemmas.List.Elements.{Contains-get_or}
-use Rattle.tier_core.specs.declared.sym.Sym.{Sym}
-use Rattle.tier_core.specs.declared.class.Class.{Class}
-use Rattle.tier_core.specs.Classes.{sets_of}
+use Rattle.std.proofs.{lemmas.List.{get_or-map, length-map}, lemmas.List.Elements.Contains-get_or}
+use Rattle.std.specs.Prelude.{AllPairs, Contains, slice_get}
+use Rattle.tier_core.specs.{declared.sym.Sym.Sym, declared.class.Class.Class, Classes.sets_of}
 use Rattle.tier_core.specs.Timelines.{has_edge, column_at, IsReduced}
 use Rattle.tier_core.proofs.ClassLemmas.{same_width}
-use Rattle.answer_text.specs.declared.automaton.ArcLine.{ArcLine}
-use Rattle.answer_text.specs.declared.automaton.StateLine.{StateLine}
-use Rattle.answer_text.specs.Acceptance.{HasArc, IsFinalState, Leads}
-use Rattle.answer_text.specs.Right.{numbers_of}
-use Rattle.comprehend.specs.Surfaces.{heard_in, surface_of, AcceptsHeard}
-use Rattle.comprehend.specs.Searches.{ReadsFrom}
+use Rattle.answer_text.specs.{declared.automaton.ArcLine.ArcLine, declared.automaton.StateLine.StateLine}
+use Rattle.answer_text.specs.{Acceptance.{HasArc, IsFinalState, Leads}, Right.numbers_of}
+use Rattle.comprehend.specs.{Surfaces.{heard_in, surface_of, AcceptsHeard}, Searches.ReadsFrom}
 use Rattle.comprehend.specs.Steps.{arcs_at, final_at, test_has, Goes, Turns, IsEndCell, ReadsAlong}
-use Rattle.comprehend.proofs.Cells.{one_cell}
-use Rattle.comprehend.proofs.Ends.{final_is}
-use Rattle.comprehend.proofs.Levels.{arcs_read}
-use Rattle.comprehend.proofs.Numbers.{once_at}
+use Rattle.comprehend.proofs.{Cells.one_cell, Ends.final_is, Levels.arcs_read, Numbers.once_at}
 
 -- what the tests hold, of columns of the width
 pub record AreTests (width : ℕ) (overt : List ℕ) (surface : List (List Sym)) (tests : List Class) : Type 0 where

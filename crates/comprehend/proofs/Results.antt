@@ -1,7 +1,6 @@
 -- Results that are no errors.
 use Rattle.std.specs.Prelude.{IfOk, MatchOption}
-use Rattle.tier_core.specs.declared.sym.Sym.{Sym}
-use Rattle.tier_core.specs.Orders.{IsFirst}
+use Rattle.tier_core.specs.{declared.sym.Sym.Sym, Orders.IsFirst}
 use Rattle.std.proofs.Common.{Option, None, Some, List, Result, Ok, Err}
 
 -- where an `Ok` has this, it has that

@@ -1,9 +1,10 @@
 -- The search backward: what its start, one level and its end give.
 use Rattle.std.proofs.Common.{◌≡◌, ℕ, ◌+◌, ◌<◌, ◌≤◌, List, [], ◌∷◌, length, sym, ◌∙◌, subst, arith, inl, inr}
-use Rattle.std.specs.Prelude.{Contains}
 use Rattle.std.proofs.lemmas.Bool.{cases_lt}
+use Rattle.std.specs.Prelude.{Contains}
 use Rattle.tier_core.specs.declared.sym.Sym.{Sym}
-use Rattle.comprehend.specs.Searches.{IsLeft, unknown_count, ReadsFrom, AreLengths, IsPredecessor, Reaches, IsSearched}
+use Rattle.comprehend.specs.Searches.{IsLeft, unknown_count, ReadsFrom, AreLengths, IsPredecessor, Reaches}
+use Rattle.comprehend.specs.Searches.{IsSearched}
 
 module _ (step : ℕ → List Sym → ℕ → Type 0) (ends : ℕ → Type 0) (total : ℕ) where
   pub search_start : (start left level : List ℕ) → length start ≡ total → unknown_count start ≡ total

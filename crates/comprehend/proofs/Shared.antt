@@ -1,13 +1,9 @@
 -- What two classes hold in common.
 use Rattle.std.proofs.Common.{◌≡◌, ◌&&◌, true, false, Bool, not, List, length, refl, sym, ◌∙◌, IsTrue}
 use Rattle.std.proofs.lemmas.Bool.{false≢true, and_parts, and_from}
-use Rattle.tier_core.specs.declared.sym.Sym.{Sym}
-use Rattle.tier_core.specs.declared.class.Class.{Class}
-use Rattle.tier_core.specs.Classes.{sets_of, has}
-use Rattle.tier_core.proofs.ClassLemmas.{same_width}
-use Rattle.tier_core.specs.Filled.{is_filled}
-use Rattle.tier_core.specs.FirstColumn.{first_column}
-use Rattle.tier_core.proofs.Filled.{has-first_column}
+use Rattle.tier_core.specs.{declared.sym.Sym.Sym, declared.class.Class.Class, Classes.{sets_of, has}}
+use Rattle.tier_core.specs.{Filled.is_filled, FirstColumn.first_column}
+use Rattle.tier_core.proofs.{ClassLemmas.same_width, Filled.has-first_column}
 
 module _ (a b both : Class) (columns : (column : List Sym) → has both column ≡ (has a column && has b column)) where
   pub in_both : (column : List Sym) → IsTrue (has both column) → IsTrue (has a column) × IsTrue (has b column)

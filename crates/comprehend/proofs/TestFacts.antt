@@ -1,22 +1,14 @@
 -- What the tests of a surface are good for.
-use Rattle.std.proofs.Common.{◌≡◌, ℕ, zero, suc, ◌+◌, ◌<◌, true, false, List, [], ◌∷◌, length, get_or, map}
-use Rattle.std.proofs.Common.{refl, sym, ap, ◌∙◌, arith, inl, inr, add-one}
-use Rattle.std.specs.Prelude.{All}
-use Rattle.std.specs.List.{AllByRecursion}
-use Rattle.std.proofs.lemmas.Bool.{false≢true, cases_lt}
-use Rattle.std.proofs.lemmas.List.{get_or-map, get_or_past, length-map}
-use Rattle.std.proofs.lemmas.Option.{slice_get_cases}
+use Rattle.std.proofs.Common.{◌≡◌, ℕ, zero, suc, ◌+◌, ◌<◌, true, false, List, [], ◌∷◌, length, get_or, map, refl}
+use Rattle.std.proofs.{Common.{sym, ap, ◌∙◌, arith, inl, inr, add-one}, lemmas.Bool.{false≢true, cases_lt}}
+use Rattle.std.proofs.{lemmas.List.{get_or-map, get_or_past, length-map}, lemmas.Option.slice_get_cases}
 use Rattle.std.proofs.lemmas.List.Elements.{All-from_recursion}
-use Rattle.tier_core.specs.declared.sym.Sym.{Sym}
-use Rattle.tier_core.specs.declared.class.Class.{Class}
-use Rattle.tier_core.specs.declared.tier.TierKind.{TierKind}
-use Rattle.tier_core.specs.Classes.{sets_of, sets_have, has}
-use Rattle.tier_core.specs.Sets.{single_set}
-use Rattle.tier_core.specs.Tiers.{is_overt, numbers_from}
+use Rattle.std.specs.{Prelude.All, List.AllByRecursion}
+use Rattle.tier_core.specs.{declared.sym.Sym.Sym, declared.class.Class.Class, declared.tier.TierKind.TierKind}
+use Rattle.tier_core.specs.{Classes.{sets_of, sets_have, has}, Sets.single_set, Tiers.{is_overt, numbers_from}}
 use Rattle.tier_core.specs.Timelines.{has_edge, column_at, IsReduced}
 use Rattle.tier_core.proofs.ClassLemmas.{same_width}
-use Rattle.comprehend.specs.Steps.{test_has, AreTestsApart}
-use Rattle.comprehend.specs.Tests.{still_set, still_sets, heard_sets, AreTestsOf}
+use Rattle.comprehend.specs.{Steps.{test_has, AreTestsApart}, Tests.{still_set, still_sets, heard_sets, AreTestsOf}}
 use Rattle.comprehend.proofs.HeldColumns.{heard_syms, still_holds, still_held, heard_holds, heard_held}
 use Rattle.comprehend.proofs.Readings.{AreTests, reduced_at}
 

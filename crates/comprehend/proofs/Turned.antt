@@ -1,21 +1,15 @@
 -- Arcs turned round, one after another.
 use Rattle.std.proofs.Common.{◌≡◌, ◌≢◌, ℕ, ◌+◌, ◌<◌, ◌≤◌, List, [], ◌∷◌, ◌++◌, length, get_or, map, set, take, refl}
-use Rattle.std.proofs.Common.{sym, ap, ◌∙◌, subst, arith, ◌⊎◌, inl, inr, Some}
-use Rattle.std.specs.Prelude.{AllPairs, Contains, slice_get}
-use Rattle.std.specs.Global.{Vec}
-use Rattle.std.proofs.lemmas.Bool.{cases_lt, cases_eq}
-use Rattle.std.proofs.lemmas.Option.{slice_get_within}
-use Rattle.std.proofs.lemmas.List.{get_or-set_same, get_or-set_other, length-map, length-set, map-set, take_more}
-use Rattle.std.proofs.lemmas.List.{take_all}
+use Rattle.std.proofs.{Common.{sym, ap, ◌∙◌, subst, arith, ◌⊎◌, inl, inr, Some}, lemmas.Bool.{cases_lt, cases_eq}}
+use Rattle.std.proofs.{lemmas.Option.slice_get_within, lemmas.List.{get_or-set_same, get_or-set_other, length-map}}
+use Rattle.std.proofs.lemmas.List.{length-set, map-set, take_more, take_all}
 use Rattle.std.proofs.lemmas.List.Elements.{Contains-append_left, Contains-push, Contains-push_cases}
-use Rattle.answer_text.specs.declared.automaton.ArcLine.{ArcLine}
-use Rattle.answer_text.specs.declared.automaton.StateLine.{StateLine}
+use Rattle.std.specs.{Prelude.{AllPairs, Contains, slice_get}, Global.Vec}
+use Rattle.answer_text.specs.{declared.automaton.ArcLine.ArcLine, declared.automaton.StateLine.StateLine}
 use Rattle.answer_text.specs.Right.{numbers_of}
-use Rattle.comprehend.specs.declared.entering.Entering.{Entering}
-use Rattle.comprehend.specs.Steps.{arcs_at}
+use Rattle.comprehend.specs.{declared.entering.Entering.Entering, Steps.arcs_at}
 use Rattle.comprehend.specs.Entering.{entering_at, AreReverseArcs, IsReverseArc, IsArcBelow, IsArcOf}
-use Rattle.comprehend.proofs.Levels.{arcs_inside}
-use Rattle.comprehend.proofs.Numbers.{once_at}
+use Rattle.comprehend.proofs.{Levels.arcs_inside, Numbers.once_at}
 
 -- the arcs of the states before a number, and the first of the state with it
 abbrev pub IsArcSoFar : List StateLine → ℕ → ℕ → ℕ → ArcLine → Type 0

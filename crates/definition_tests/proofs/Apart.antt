@@ -1,12 +1,10 @@
 -- A move whose class is apart from those of all later ones.
 use Rattle.std.proofs.Common.{◌≡◌, ◌+◌, ◌-◌, ◌<◌, ℕ, List, take, drop, length, get_or, sym, ap, ◌∙◌, subst, arith}
+use Rattle.std.proofs.{Math.Seq.take-length, lemmas.List.{get_or-drop, length-drop}}
 use Rattle.std.specs.Prelude.{All}
-use Rattle.std.proofs.Math.Seq.{take-length}
-use Rattle.std.proofs.lemmas.List.{get_or-drop, length-drop}
 use Rattle.weight_law.specs.declared.Weight.{Ghosts}
-use Rattle.tier_core.specs.declared.class.Class.{Class}
+use Rattle.tier_core.specs.{declared.class.Class.Class, Classes.AreDisjoint}
 use Rattle.arc_table.specs.declared.arc.TableArc.{TableArc}
-use Rattle.tier_core.specs.Classes.{AreDisjoint}
 
 pub apart_later : {W : Type 0} {g : Ghosts W} (arcs : List (TableArc W g)) (place : ℕ) (class : Class)
     → All (λ arc. AreDisjoint class arc.class) (take (length arcs - (place + 1)) (drop (place + 1) arcs))

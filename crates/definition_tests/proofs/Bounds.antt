@@ -1,13 +1,9 @@
 -- A timeline of at most 8 columns has at most 8 events of a type, and 8 ^ n choices of n types.
-use Rattle.std.proofs.Common.{◌≡◌, ℕ, ◌+◌, ◌*◌, ◌^◌, ◌≤◌, Bool, true, false, cond, Option, Some, None, List, [], ◌∷◌}
-use Rattle.std.proofs.Common.{length, map, refl, arith, length-append, suc}
+use Rattle.std.proofs.Common.{◌≡◌, ℕ, ◌+◌, ◌*◌, ◌^◌, ◌≤◌, Bool, true, false, cond, Option, Some, None, List, []}
+use Rattle.std.proofs.{Common.{◌∷◌, length, map, refl, arith, length-append, suc}, lemmas.List.length-map}
+use Rattle.std.proofs.{lemmas.Nat.mul-le, Math.Nat.{pow-succ', pow-le-pow_right}}
 use Rattle.std.specs.List.{flat_map}
-use Rattle.std.proofs.lemmas.List.{length-map}
-use Rattle.std.proofs.lemmas.Nat.{mul-le}
-use Rattle.std.proofs.Math.Nat.{pow-succ', pow-le-pow_right}
-use Rattle.tier_core.specs.declared.sym.Sym.{Sym}
-use Rattle.tier_core.specs.declared.event.Event.{Event}
-use Rattle.tier_core.specs.Events.{event, events}
+use Rattle.tier_core.specs.{declared.sym.Sym.Sym, declared.event.Event.Event, Events.{event, events}}
 use Rattle.tier_core.specs.Timelines.{symbol, tier_word}
 use Rattle.tier_core.specs.Words.{starts, next_end, pair_to, constituents, constituents_from}
 use Rattle.violation.specs.Counts.{choices}

@@ -1,21 +1,16 @@
 -- Counting the choices that go on from what was chosen so far, event by event.
-use Rattle.std.proofs.Common.{◌≡◌, ℕ, ◌+◌, ◌<◌, ◌≤◌, Bool, Option, Some, List, [], ◌∷◌, ◌++◌, length, get_or, drop, map}
-use Rattle.std.proofs.Common.{refl, ap, sym, ◌∙◌, drop-cons, add-one, All, arith, subst, suc}
-use Rattle.std.specs.Prelude.{count_by}
-use Rattle.std.specs.List.{flat_map}
-use Rattle.tier_core.specs.declared.sym.Sym.{Sym}
-use Rattle.tier_core.specs.declared.event.Event.{Event}
-use Rattle.tier_core.specs.declared.constraint.Family.{Family}
+use Rattle.std.proofs.Common.{◌≡◌, ℕ, ◌+◌, ◌<◌, ◌≤◌, Bool, Option, Some, List, [], ◌∷◌, ◌++◌, length, get_or, drop}
+use Rattle.std.proofs.Common.{map, refl, ap, sym, ◌∙◌, drop-cons, add-one, All, arith, subst, suc}
+use Rattle.std.proofs.lemmas.List.Sums.{count_by-le-length}
+use Rattle.std.specs.{Prelude.count_by, List.flat_map}
+use Rattle.tier_core.specs.{declared.sym.Sym.Sym, declared.event.Event.Event, declared.constraint.Family.Family}
 use Rattle.tier_core.specs.declared.constraint.Family.TheVariants.{Implication, Clash}
 use Rattle.tier_core.specs.Events.{Interval, events, meet}
 use Rattle.tier_core.proofs.CountLemmas.{count_append, count_map, count_agree, all_of}
-use Rattle.std.proofs.lemmas.List.Sums.{count_by-le-length}
-use Rattle.definition_tests.proofs.Bounds.{choices_fit}
+use Rattle.definition_tests.proofs.{Bounds.choices_fit, MeetSteps.meet_joined}
 use Rattle.violation.specs.Counts.{choices, choice_types, counts, viol}
-use Rattle.definition_tests.specs.declared.span.Span.{Span}
-use Rattle.definition_tests.specs.Spans.{interval, intervals_of}
+use Rattle.definition_tests.specs.{declared.span.Span.Span, Spans.{interval, intervals_of}}
 use Rattle.definition_tests.specs.Counting.{counts_meet, counted_after}
-use Rattle.definition_tests.proofs.MeetSteps.{meet_joined}
 
 -- how many choices are counted whose next event is one of these, and that then go on by one of the rest
 abbrev pub counted_by : (Interval → Bool) → List Interval → List Interval → List (List Interval) → ℕ

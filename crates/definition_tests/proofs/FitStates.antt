@@ -1,15 +1,11 @@
 -- States that are fit meet what every table's states meet.
 use Rattle.std.proofs.Common.{◌≡◌, ℕ, zero, suc, ◌<◌, ◌≤◌, List, [], ◌∷◌, map, length, get_or, refl, sym, ap, ◌∙◌}
-use Rattle.std.proofs.Common.{subst, arith}
+use Rattle.std.proofs.{Common.{subst, arith}, lemmas.List.Elements.Contains-get_or}
 use Rattle.std.specs.Prelude.{Contains, AllPairs}
-use Rattle.std.proofs.lemmas.List.Elements.{Contains-get_or}
 use Rattle.weight_law.specs.declared.Weight.{Ghosts}
-use Rattle.arc_table.specs.declared.arc.TableArc.{TableArc}
-use Rattle.arc_table.specs.declared.state.TableState.{TableState}
-use Rattle.arc_table.specs.Moves.{moves_at}
+use Rattle.arc_table.specs.{declared.arc.TableArc.TableArc, declared.state.TableState.TableState, Moves.moves_at}
+use Rattle.arc_table.specs.{Conditions.{TargetsExist, ClassesDisjoint, ClassesFilled, OneWidth}, Runs.SizesWithin}
 use Rattle.tier_core.specs.Classes.{AreDisjoint}
-use Rattle.arc_table.specs.Conditions.{TargetsExist, ClassesDisjoint, ClassesFilled, OneWidth}
-use Rattle.arc_table.specs.Runs.{SizesWithin}
 use Rattle.arc_table.proofs.Push.{moves_exist}
 use Rattle.definition_tests.specs.Fit.{IsFit, AreFit}
 

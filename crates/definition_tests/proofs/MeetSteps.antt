@@ -3,8 +3,7 @@ use Rattle.std.proofs.Common.{◌≡◌, ℕ, min, max, Option, Some, None, List
 use Rattle.std.proofs.Common.{Bool}
 use Rattle.std.specs.List.{list_any}
 use Rattle.tier_core.specs.Events.{Interval, greatest_low, least_from, meet}
-use Rattle.definition_tests.specs.declared.span.Span.{Span}
-use Rattle.definition_tests.specs.Spans.{intervals_of}
+use Rattle.definition_tests.specs.{declared.span.Span.Span, Spans.intervals_of}
 
 max_of_three : (a b c : ℕ) → max a (max b c) ≡ max (max a (max b 0)) c
 max_of_three a b c = omega arith

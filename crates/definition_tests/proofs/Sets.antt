@@ -1,11 +1,8 @@
 -- Classes whose first sets have no symbol in common are disjoint.
 use Rattle.std.proofs.Common.{◌≡◌, ℕ, true, false, List, [], ◌∷◌, length, get_or, sym, ◌∙◌, arith}
-use Rattle.std.specs.List.{list_any}
 use Rattle.std.proofs.lemmas.Bool.{and_parts, and_from, false≢true}
-use Rattle.tier_core.specs.declared.sym.Sym.{Sym}
-use Rattle.tier_core.specs.Symbols.{symbols}
-use Rattle.tier_core.specs.Sets.{is_in}
-use Rattle.tier_core.specs.Classes.{sets_have}
+use Rattle.std.specs.List.{list_any}
+use Rattle.tier_core.specs.{declared.sym.Sym.Sym, Symbols.symbols, Sets.is_in, Classes.sets_have}
 use Rattle.tier_core.proofs.SetLemmas.{any_of}
 use Rattle.definition_tests.specs.Fit.{in_both}
 

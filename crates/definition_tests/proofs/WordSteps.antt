@@ -1,14 +1,10 @@
 -- What is left of a tier at a place: the next end, and the constituents that start from there on.
-use Rattle.std.proofs.Common.{◌≡◌, ℕ, ◌+◌, ◌<◌, ◌≤◌, true, false, cond, Option, Some, None, List, [], ◌∷◌, ◌++◌, length}
-use Rattle.std.proofs.Common.{get_or, drop, map, ap, sym, ◌∙◌, drop-cons, add-one, append_assoc, suc}
+use Rattle.std.proofs.Common.{◌≡◌, ℕ, ◌+◌, ◌<◌, ◌≤◌, true, false, cond, Option, Some, None, List, [], ◌∷◌, ◌++◌}
+use Rattle.std.proofs.Common.{length, get_or, drop, map, ap, sym, ◌∙◌, drop-cons, add-one, append_assoc, suc}
 use Rattle.std.proofs.lemmas.List.{drop_all, map-append}
-use Rattle.tier_core.specs.declared.sym.Sym.{Sym}
-use Rattle.tier_core.specs.declared.event.Part.{Part}
-use Rattle.tier_core.specs.Events.{event}
-use Rattle.tier_core.specs.Timelines.{symbol, tier_word}
-use Rattle.tier_core.specs.Words.{starts, ends, next_end, pair_to, constituents_from}
-use Rattle.definition_tests.specs.declared.span.Span.{Span}
-use Rattle.definition_tests.specs.Spans.{interval}
+use Rattle.tier_core.specs.{declared.sym.Sym.Sym, declared.event.Part.Part, Events.event}
+use Rattle.tier_core.specs.{Timelines.{symbol, tier_word}, Words.{starts, ends, next_end, pair_to, constituents_from}}
+use Rattle.definition_tests.specs.{declared.span.Span.Span, Spans.interval}
 
 -- the constituents of a tier that start at place k or later
 abbrev pub left_from : List (List Sym) → ℕ → ℕ → List (ℕ × ℕ)

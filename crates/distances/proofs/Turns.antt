@@ -16,7 +16,8 @@ at_turn xs i x inside is =
 
 -- one more value, for the element at which a loop stands
 pub one_more_value : {X Y : Type 0} (f : X → Y) (xs : List X) (i : ℕ) (d : X) (done new : List Y) (y : Y)
-    → i < length xs → done ≡ map f (take i xs) → new ≡ done ++ y ∷ [] → y ≡ f (get_or xs i d) → new ≡ map f (take (i + 1) xs)
+    → i < length xs → done ≡ map f (take i xs) → new ≡ done ++ y ∷ [] → y ≡ f (get_or xs i d)
+    → new ≡ map f (take (i + 1) xs)
 one_more_value f xs i d done new y inside so_far pushed is =
     pushed ∙ ap (λ l. l ++ y ∷ []) so_far ∙ ap (λ k. map f (take i xs) ++ k ∷ []) is
     ∙ sym (map_push f (take i xs) (get_or xs i d)) ∙ ap (map f) (sym (take_more xs i d inside))

@@ -1,17 +1,12 @@
 -- The input tiers of a grammar, and the sounds of its letters.
-use Rattle.std.proofs.Common.{◌≡◌, ℕ, ◌≤◌, true, List, [], ◌∷◌, length, map, All, string_bytes, sym, ◌∙◌, subst, arith}
-use Rattle.std.specs.List.{AllByRecursion, list_all}
-use Rattle.std.proofs.lemmas.Bool.{and_parts, ltb-true}
-use Rattle.std.proofs.lemmas.List.Elements.{All-from_recursion}
+use Rattle.std.proofs.Common.{◌≡◌, ℕ, ◌≤◌, true, List, [], ◌∷◌, length, map, All, string_bytes, sym, ◌∙◌, subst}
+use Rattle.std.proofs.{Common.arith, lemmas.Bool.{and_parts, ltb-true}, lemmas.List.Elements.All-from_recursion}
 use Rattle.std.proofs.lemmas.List.{length-map}
-use Rattle.tier_core.specs.Tiers.{is_input}
-use Rattle.tier_core.specs.Tables.{tiers_of_table}
+use Rattle.std.specs.List.{AllByRecursion, list_all}
+use Rattle.tier_core.specs.{Tiers.is_input, Tables.tiers_of_table}
 use Rattle.tier_core.proofs.TableMasks.{length-numbers_from}
-use Rattle.timeline_text.specs.declared.letter.Letter.{Letter}
-use Rattle.timeline_text.specs.Spelling.{HasSound}
-use Rattle.grammar_reader.specs.declared.grammar.Grammar.{Grammar}
-use Rattle.grammar_reader.specs.Grammars.{value_of}
-use Rattle.grammar_reader.specs.Values.{has_sound, inputs_of}
+use Rattle.timeline_text.specs.{declared.letter.Letter.Letter, Spelling.HasSound}
+use Rattle.grammar_reader.specs.{declared.grammar.Grammar.Grammar, Grammars.value_of, Values.{has_sound, inputs_of}}
 use Rattle.grammar_reader.proofs.Shaping.{length-inputs, some_input}
 
 letter_sounds : (n : ℕ) (letters : List Letter) → list_all (has_sound n) letters ≡ true

@@ -1,14 +1,10 @@
 -- Each word has one reading, or one cause.
 use Rattle.std.proofs.Common.{rules, ◌≡◌, inl, inr, ℕ, Bool, true, false, List, MatchBool, subst, sym}
 use Rattle.tier_core.specs.declared.sym.Sym.{Sym}
-use Rattle.timeline_text.specs.declared.form_err.FormErr.{FormErr}
-use Rattle.timeline_text.specs.declared.letter.Letter.{Letter}
-use Rattle.timeline_text.specs.Texts.{IsTextOf}
-use Rattle.timeline_text.specs.Causes.{IsCause}
-use Rattle.timeline_text.specs.Spelling.{IsSpelledBy, IsSpellingCause}
+use Rattle.timeline_text.specs.{declared.form_err.FormErr.FormErr, declared.letter.Letter.Letter, Texts.IsTextOf}
+use Rattle.timeline_text.specs.{Causes.IsCause, Spelling.{IsSpelledBy, IsSpellingCause}}
 use Rattle.timeline_text.specs.Readings.{HasReading, HasSpelling}
-use Rattle.timeline_text.proofs.Searches.{by_test}
-use Rattle.timeline_text.proofs.Deciding.{has_reading, not_both, one_value}
+use Rattle.timeline_text.proofs.{Searches.by_test, Deciding.{has_reading, not_both, one_value}}
 use Rattle.timeline_text.proofs.Spellings.{has_spelling, never_both, one_form}
 use Rattle.form_reader.specs.Forms.{HasFormOrCause, IsReadAs, IsRefusedFor, is_spelled}
 

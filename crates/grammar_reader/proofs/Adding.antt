@@ -1,24 +1,17 @@
 -- Adding what a line says.
-use Rattle.std.proofs.Common.{◌≡◌, ℕ, ◌+◌, ◌<◌, false, cond, ◌∷◌, [], ◌++◌, List, length, map, take, drop, get_or, set}
-use Rattle.std.proofs.Common.{Global, refl, ap, sym, ◌∙◌, arith, None}
-use Rattle.std.specs.Prelude.{nat_eq}
-use Rattle.std.specs.List.{list_any}
-use Rattle.std.specs.Map.{lookup}
-use Rattle.std.specs.Cmp.Lexicographic.{pointwise}
+use Rattle.std.proofs.Common.{◌≡◌, ℕ, ◌+◌, ◌<◌, false, cond, ◌∷◌, [], ◌++◌, List, length, map, take, drop, get_or}
+use Rattle.std.proofs.Common.{set, Global, refl, ap, sym, ◌∙◌, arith, None}
 use Rattle.std.proofs.lemmas.List.{map-append, take_more, take_more_set, drop_more}
-use Rattle.std.specs.String.{string_bytes}
+use Rattle.std.specs.{Prelude.nat_eq, List.list_any, Map.lookup, Cmp.Lexicographic.pointwise, String.string_bytes}
 use Rattle.std.specs.declared.string.String.{String}
-use Rattle.tier_core.specs.declared.tier.TierKind.{TierKind}
-use Rattle.tier_core.specs.declared.event.Event.{Event}
-use Rattle.tier_core.specs.declared.constraint.Family.{Family}
-use Rattle.tier_core.specs.declared.constraint.Constraint.{Constraint}
+use Rattle.tier_core.specs.{declared.tier.TierKind.TierKind, declared.event.Event.Event}
+use Rattle.tier_core.specs.{declared.constraint.Family.Family, declared.constraint.Constraint.Constraint}
 use Rattle.tier_core.specs.Tiers.{is_input}
 use Rattle.timeline_text.specs.declared.letter.Letter.{Letter}
 use Rattle.grammar_reader.specs.Canonical.{names_in}
 use Rattle.grammar_reader.specs.Values.{is_named, NamedTier, NamedConstraint, GrammarValue, inputs_of}
 use Rattle.grammar_reader.specs.Seen.{tier_seen, tiers_seen, tiers_by, constraint_seen}
-use Rattle.grammar_reader.proofs.Known.{known_any}
-use Rattle.grammar_reader.proofs.Lexing.{none_of}
+use Rattle.grammar_reader.proofs.{Known.known_any, Lexing.none_of}
 use denote.Ref.{Bor}
 
 -- a name that no tier has is no key

@@ -1,19 +1,11 @@
 -- Names are ASCII.
-use Rattle.std.proofs.Common.{◌≡◌, ℕ, zero, suc, ◌+◌, ◌<◌, Bool, true, false, ◌&&◌, List, [], ◌∷◌, length, get_or, map}
-use Rattle.std.proofs.Common.{refl, ap, sym, ◌∙◌, arith, subst}
-use Rattle.std.specs.Prelude.{not, nat_le}
-use Rattle.std.specs.List.{list_all}
-use Rattle.std.specs.Str.{IsUtf8, IsAscii}
-use Rattle.std.proofs.lemmas.Bool.Decides.{nat_tests}
-use Rattle.std.proofs.lemmas.Str.{IsUtf8-from_ascii}
-use Rattle.std.specs.Map.{keys_of}
-use Rattle.std.proofs.lemmas.Bool.{and_parts}
+use Rattle.std.proofs.Common.{◌≡◌, ℕ, zero, suc, ◌+◌, ◌<◌, Bool, true, false, ◌&&◌, List, [], ◌∷◌, length, get_or}
+use Rattle.std.proofs.{Common.{map, refl, ap, sym, ◌∙◌, arith, subst}, lemmas.Bool.Decides.nat_tests}
+use Rattle.std.proofs.{lemmas.Str.IsUtf8-from_ascii, lemmas.Bool.and_parts}
+use Rattle.std.specs.{Prelude.{not, nat_le}, List.list_all, Str.{IsUtf8, IsAscii}, Map.keys_of}
 use Rattle.tier_core.specs.declared.tier.TierKind.{TierKind}
-use Rattle.grammar_reader.specs.Pieces.{is_word_byte}
-use Rattle.grammar_reader.specs.Statements.{is_connective}
-use Rattle.grammar_reader.specs.Names.{is_name, begins_with_letter}
-use Rattle.grammar_reader.specs.Seen.{tier_seen, tiers_seen, tiers_by}
-use Rattle.grammar_reader.specs.Values.{NamedTier}
+use Rattle.grammar_reader.specs.{Pieces.is_word_byte, Statements.is_connective, Names.{is_name, begins_with_letter}}
+use Rattle.grammar_reader.specs.{Seen.{tier_seen, tiers_seen, tiers_by}, Values.NamedTier}
 use denote.Ref.{Bor}
 
 byte_below : (b : ℕ) → is_word_byte b ≡ true → b < 128

@@ -1,7 +1,6 @@
 -- Counting tiers of a kind.
-use Rattle.std.proofs.Common.{◌≡◌, ℕ, Bool, List, map, filter, length, ap, sym, ◌∙◌}
+use Rattle.std.proofs.{Common.{◌≡◌, ℕ, Bool, List, map, filter, length, ap, sym, ◌∙◌}, lemmas.List.length-map}
 use Rattle.std.specs.Map.{values_of}
-use Rattle.std.proofs.lemmas.List.{length-map}
 use Rattle.tier_core.specs.declared.tier.TierKind.{TierKind}
 use Rattle.grammar_reader.specs.Seen.{tier_seen, tiers_seen}
 use Rattle.grammar_reader.proofs.Lists.{filter-map}

@@ -1,11 +1,9 @@
 -- Reading the pieces of a list one by one.
-use Rattle.std.proofs.Common.{◌≡◌, ℕ, suc, ◌+◌, ◌<◌, Bool, true, false, cond, List, [], ◌∷◌, ◌++◌, map, refl, ap, sym}
-use Rattle.std.proofs.Common.{◌∙◌, append-nil, length, get_or, drop, arith}
-use Rattle.std.proofs.Common.{Option, Some, None, option_map, option_and_then}
-use Rattle.std.proofs.Math.Seq.{drop-cons}
+use Rattle.std.proofs.Common.{◌≡◌, ℕ, suc, ◌+◌, ◌<◌, Bool, true, false, cond, List, [], ◌∷◌, ◌++◌, map, refl, ap}
+use Rattle.std.proofs.Common.{sym, ◌∙◌, append-nil, length, get_or, drop, arith, Option, Some, None, option_map}
+use Rattle.std.proofs.{Common.option_and_then, Math.Seq.drop-cons}
 use Rattle.std.specs.List.{slice_split, onto_first}
-use Rattle.grammar_reader.specs.Statements.{each_some}
-use Rattle.grammar_reader.specs.Lexemes.{with_front}
+use Rattle.grammar_reader.specs.{Statements.each_some, Lexemes.with_front}
 use Rattle.grammar_reader.proofs.Lexing.{cons_front}
 
 pub some_more : {X Y : Type 0} (f : X → Option Y) (done : List Y) (x : X) (xs : List X) (y : Y) → f x ≡ Some y

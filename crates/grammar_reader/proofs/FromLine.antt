@@ -1,5 +1,6 @@
 -- The element at a place, and those after it.
-use Rattle.std.proofs.Common.{◌≡◌, ℕ, suc, ◌+◌, ◌<◌, List, ◌∷◌, length, get_or, drop, ap, sym, ◌∙◌, drop-cons, add-one}
+use Rattle.std.proofs.Common.{◌≡◌, ℕ, suc, ◌+◌, ◌<◌, List, ◌∷◌, length, get_or, drop, ap, sym, ◌∙◌, drop-cons}
+use Rattle.std.proofs.Common.{add-one}
 
 pub from_line : {X : Type 0} (lines : List X) (k : ℕ) (line : X) → k < length lines → line ≡ get_or lines k line
     → drop k lines ≡ line ∷ drop (k + 1) lines

@@ -1,17 +1,10 @@
 -- Look-ups in the map of tiers.
-use Rattle.std.proofs.Common.{◌≡◌, ℕ, Bool, true, false, cond, ◌||◌, List, [], ◌∷◌, refl, ap, sym, ◌∙◌, Option, Some}
-use Rattle.std.proofs.Common.{None, is_some, is_none, map, position, unwrap_or}
-use Rattle.std.specs.List.{list_any, find, position_or_len}
-use Rattle.std.specs.Map.{lookup, keys_of}
-use Rattle.std.specs.Option.{option_map_or}
-use Rattle.std.specs.Cmp.Lexicographic.{pointwise}
-use Rattle.std.specs.Prelude.{nat_eq}
-use Rattle.std.proofs.lemmas.List.{length-map}
-use Rattle.tier_core.specs.Tiers.{is_input}
-use Rattle.tier_core.specs.declared.tier.TierKind.{TierKind}
-use Rattle.grammar_reader.specs.Values.{is_named, NamedTier}
-use Rattle.grammar_reader.specs.Seen.{tier_seen, tiers_seen}
-use Rattle.grammar_reader.specs.Reading.{is_input_named}
+use Rattle.std.proofs.Common.{◌≡◌, ℕ, Bool, true, false, cond, ◌||◌, List, [], ◌∷◌, refl, ap, sym, ◌∙◌, Option}
+use Rattle.std.proofs.{Common.{Some, None, is_some, is_none, map, position, unwrap_or}, lemmas.List.length-map}
+use Rattle.std.specs.{List.{list_any, find, position_or_len}, Map.{lookup, keys_of}, Option.option_map_or}
+use Rattle.std.specs.{Cmp.Lexicographic.pointwise, Prelude.nat_eq}
+use Rattle.tier_core.specs.{Tiers.is_input, declared.tier.TierKind.TierKind}
+use Rattle.grammar_reader.specs.{Values.{is_named, NamedTier}, Seen.{tier_seen, tiers_seen}, Reading.is_input_named}
 use Rattle.grammar_reader.proofs.Lists.{position-map}
 use denote.Ref.{Bor}
 

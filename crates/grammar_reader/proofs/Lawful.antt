@@ -1,34 +1,26 @@
 -- What the lines of a text make is within the limits, with names that are names and are there once.
-use Rattle.std.proofs.Common.{◌≡◌, ℕ, suc, ◌+◌, ◌*◌, ◌^◌, ◌<◌, ◌≤◌, Bool, true, false, cond, not, ◌&&◌, ◌||◌, List, []}
-use Rattle.std.proofs.Common.{◌∷◌, ◌++◌, length, map, Some, None, refl, ap, sym, ◌∙◌, subst, arith, length-append}
-use Rattle.std.specs.Prelude.{nat_le, nat_lt}
-use Rattle.std.specs.List.{list_any, list_all, find, position_or_len}
-use Rattle.std.specs.Option.{option_map_or}
-use Rattle.std.specs.Str.{bytes_eq}
-use Rattle.std.proofs.lemmas.Bool.{false≢true, and_parts, and_from, or_parts, not-false}
-use Rattle.std.proofs.lemmas.Bool.Decides.{nat_tests}
-use Rattle.std.proofs.lemmas.List.{map-append, length-map}
-use Rattle.std.proofs.lemmas.List.Elements.{filter-append}
-use Rattle.std.proofs.lemmas.List.Folds.{list_all-append}
-use Rattle.tier_core.specs.declared.event.Event.{Event}
-use Rattle.tier_core.specs.declared.tier.TierKind.{TierKind}
-use Rattle.tier_core.specs.Tiers.{is_input, is_free}
+use Rattle.std.proofs.Common.{◌≡◌, ℕ, suc, ◌+◌, ◌*◌, ◌^◌, ◌<◌, ◌≤◌, Bool, true, false, cond, not, ◌&&◌, ◌||◌, List}
+use Rattle.std.proofs.Common.{[], ◌∷◌, ◌++◌, length, map, Some, None, refl, ap, sym, ◌∙◌, subst, arith}
+use Rattle.std.proofs.{Common.length-append, lemmas.Bool.{false≢true, and_parts, and_from, or_parts, not-false}}
+use Rattle.std.proofs.{lemmas.Bool.Decides.nat_tests, lemmas.List.{map-append, length-map}}
+use Rattle.std.proofs.{lemmas.List.Elements.filter-append, lemmas.List.Folds.list_all-append}
+use Rattle.std.specs.{Prelude.{nat_le, nat_lt}, List.{list_any, list_all, find, position_or_len}}
+use Rattle.std.specs.{Option.option_map_or, Str.bytes_eq}
+use Rattle.tier_core.specs.{declared.event.Event.Event, declared.tier.TierKind.TierKind, Tiers.{is_input, is_free}}
 use Rattle.timeline_text.specs.declared.letter.Letter.{Letter}
 use Rattle.timeline_text.proofs.Searches.{by_test}
 use Rattle.grammar_reader.specs.Statements.{Statement, tier, letter, constraint, NamedEvent}
-use Rattle.grammar_reader.specs.Names.{is_name, is_letter_byte, has_twice}
-use Rattle.grammar_reader.specs.Values.{GrammarValue, NamedTier, NamedConstraint, is_named, inputs_of, free_of}
-use Rattle.grammar_reader.specs.Values.{letter_name, has_sound, is_side, has_sides, IsProperGrammar}
-use Rattle.grammar_reader.specs.Reading.{nothing, has_bad_name, is_twice_named, is_unknown, has_unknown_tier}
-use Rattle.grammar_reader.specs.Reading.{is_input_named, has_no_input, is_tier_too_many, is_constraint_too_many}
-use Rattle.grammar_reader.specs.Reading.{has_too_many_events, first_that_comes, cause_of, tier_index, indexed_event}
-use Rattle.grammar_reader.specs.Reading.{named_mask, first_byte, with_statement}
-use Rattle.grammar_reader.specs.declared.grammar_err.GrammarCause.{GrammarCause}
+use Rattle.grammar_reader.specs.{Names.{is_name, is_letter_byte, has_twice}, Values.{GrammarValue, NamedTier}}
+use Rattle.grammar_reader.specs.Values.{NamedConstraint, is_named, inputs_of, free_of, letter_name, has_sound}
+use Rattle.grammar_reader.specs.{Values.{is_side, has_sides, IsProperGrammar}, Reading.{nothing, has_bad_name}}
+use Rattle.grammar_reader.specs.Reading.{is_twice_named, is_unknown, has_unknown_tier, is_input_named, has_no_input}
+use Rattle.grammar_reader.specs.Reading.{is_tier_too_many, is_constraint_too_many, has_too_many_events}
+use Rattle.grammar_reader.specs.Reading.{first_that_comes, cause_of, tier_index, indexed_event, named_mask}
+use Rattle.grammar_reader.specs.{Reading.{first_byte, with_statement}, declared.grammar_err.GrammarCause.GrammarCause}
 use Rattle.grammar_reader.specs.declared.grammar_err.GrammarCause.TheVariants.{BadName, TwiceNamed, UnknownTier}
 use Rattle.grammar_reader.specs.declared.grammar_err.GrammarCause.TheVariants.{NotInput, TooManyTiers}
 use Rattle.grammar_reader.specs.declared.grammar_err.GrammarCause.TheVariants.{TooManyConstraints, TooManyEvents}
-use Rattle.grammar_reader.proofs.Lists.{list_any-map}
-use Rattle.grammar_reader.proofs.Twice.{once_push}
+use Rattle.grammar_reader.proofs.{Lists.list_any-map, Twice.once_push}
 
 -- ---- tests
 

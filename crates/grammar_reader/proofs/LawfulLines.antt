@@ -1,24 +1,20 @@
 -- Each grammar that is read is within the limits, with names that are names and are there once.
-use Rattle.std.proofs.Common.{◌≡◌, ℕ, ◌+◌, ◌<◌, Bool, true, false, cond, not, List, [], ◌∷◌, length, take, drop, Option}
-use Rattle.std.proofs.Common.{Some, None, option_map, option_and_then, Result, Ok, Err, codes, refl, ap, sym, ◌∙◌}
-use Rattle.std.proofs.Common.{subst, arith}
-use Rattle.std.specs.List.{list_any, slice_split, position_or_len}
-use Rattle.std.specs.Str.{bytes_eq}
-use Rattle.std.proofs.lemmas.List.Splits.{length-slice_split}
-use Rattle.tier_core.specs.Tiers.{is_input, is_overt}
-use Rattle.tier_core.specs.declared.constraint.Family.{Family}
+use Rattle.std.proofs.Common.{◌≡◌, ℕ, ◌+◌, ◌<◌, Bool, true, false, cond, not, List, [], ◌∷◌, length, take, drop}
+use Rattle.std.proofs.Common.{Option, Some, None, option_map, option_and_then, Result, Ok, Err, codes, refl, ap}
+use Rattle.std.proofs.{Common.{sym, ◌∙◌, subst, arith}, lemmas.List.Splits.length-slice_split}
+use Rattle.std.specs.{List.{list_any, slice_split, position_or_len}, Str.bytes_eq}
+use Rattle.tier_core.specs.{Tiers.{is_input, is_overt}, declared.constraint.Family.Family}
 use Rattle.tier_core.specs.declared.constraint.Family.TheVariants.{Implication, Clash}
 use Rattle.timeline_text.proofs.Searches.{by_test}
 use Rattle.timeline_text.specs.Bytes.{lines_of}
 use Rattle.grammar_reader.specs.Pieces.{parts_of, Lexeme, opens, closes, equals, clash, implies, word, lexeme_of}
 use Rattle.grammar_reader.specs.Statements.{Statement, tier, letter, constraint, NamedEvent, each_some, word_of}
-use Rattle.grammar_reader.specs.Statements.{is_the_word, is_header, is_sign, event_of, events_of, joined_by, sides_of}
-use Rattle.grammar_reader.specs.Statements.{tier_kind_of, tier_line, letter_line, constraint_line, statement_of}
-use Rattle.grammar_reader.specs.Said.{HasParts}
-use Rattle.grammar_reader.specs.Values.{GrammarValue, IsProperGrammar, IsGrammar}
-use Rattle.grammar_reader.specs.Reading.{nothing, cause_of, with_statement, after_cause, after_statement, some_grammar}
-use Rattle.grammar_reader.specs.Reading.{after_lexemes, after_line, finish, go_on, after_lines, grammar_of}
-use Rattle.grammar_reader.specs.Reading.{At}
+use Rattle.grammar_reader.specs.Statements.{is_the_word, is_header, is_sign, event_of, events_of, joined_by}
+use Rattle.grammar_reader.specs.Statements.{sides_of, tier_kind_of, tier_line, letter_line, constraint_line}
+use Rattle.grammar_reader.specs.{Statements.statement_of, Said.HasParts}
+use Rattle.grammar_reader.specs.{Values.{GrammarValue, IsProperGrammar, IsGrammar}, Reading.{nothing, cause_of}}
+use Rattle.grammar_reader.specs.Reading.{with_statement, after_cause, after_statement, some_grammar, after_lexemes}
+use Rattle.grammar_reader.specs.Reading.{after_line, finish, go_on, after_lines, grammar_of, At}
 use Rattle.grammar_reader.specs.declared.grammar_err.GrammarCause.{GrammarCause}
 use Rattle.grammar_reader.specs.declared.grammar_err.GrammarCause.TheVariants.{NoInput, NoOvert}
 use Rattle.grammar_reader.proofs.Lawful.{no_cause, tier_made, letter_made, constraint_made, nothing_made}

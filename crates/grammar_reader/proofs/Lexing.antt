@@ -1,10 +1,9 @@
 -- The pieces of a line as lexemes.
-use Rattle.std.proofs.Common.{◌≡◌, ℕ, ◌+◌, true, false, cond, not, List, [], ◌∷◌, ◌++◌, filter, length, refl, ap, sym}
-use Rattle.std.proofs.Common.{◌∙◌, append_assoc, append-nil, Option, Some, None, is_some, option_map}
+use Rattle.std.proofs.Common.{◌≡◌, ℕ, ◌+◌, true, false, cond, not, List, [], ◌∷◌, ◌++◌, filter, length, refl, ap}
+use Rattle.std.proofs.Common.{sym, ◌∙◌, append_assoc, append-nil, Option, Some, None, is_some, option_map}
 use Rattle.timeline_text.specs.Bytes.{lines_of}
 use Rattle.grammar_reader.specs.Pieces.{content, token_pieces, parts_of, is_spacing, marks_along, is_no_spacing}
-use Rattle.grammar_reader.specs.Pieces.{marks_of, marks_from}
-use Rattle.grammar_reader.specs.Lexemes.{with_front, texts}
+use Rattle.grammar_reader.specs.{Pieces.{marks_of, marks_from}, Lexemes.{with_front, texts}}
 
 pub none_of : {X : Type 0} (o : Option X) → is_some o ≡ false → o ≡ None
 none_of None h = refl

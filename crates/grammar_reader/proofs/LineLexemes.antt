@@ -1,20 +1,16 @@
 -- The lexemes of a line that is joined from words, with a space between each two.
-use Rattle.std.proofs.lemmas.Bool.{and_parts, and_from, or_from, not-true}
-use Rattle.std.proofs.Common.{◌≡◌, ℕ, Bool, true, false, cond, not, ◌&&◌, ◌==◌, List, [], ◌∷◌, ◌++◌, filter, refl, ap}
-use Rattle.std.proofs.Common.{sym, ◌∙◌, append-nil, Option, Some, None, option_map, option_and_then}
-use Rattle.std.specs.List.{list_all, flat_map, join_with_byte, onto_first}
-use Rattle.std.proofs.lemmas.Grind.{flat_map-append}
-use Rattle.std.proofs.lemmas.List.Elements.{filter-append}
-use Rattle.std.proofs.lemmas.List.Folds.{list_all-append}
+use Rattle.std.proofs.{lemmas.Bool.{and_parts, and_from, or_from, not-true}, Common.{◌≡◌, ℕ, Bool, true, false, cond}}
+use Rattle.std.proofs.Common.{not, ◌&&◌, ◌==◌, List, [], ◌∷◌, ◌++◌, filter, refl, ap, sym, ◌∙◌, append-nil, Option}
+use Rattle.std.proofs.{Common.{Some, None, option_map, option_and_then}, lemmas.Grind.flat_map-append}
+use Rattle.std.proofs.{lemmas.List.Elements.filter-append, lemmas.List.Folds.list_all-append}
 use Rattle.std.proofs.lemmas.List.Splits.{slice_split-cons_yes, slice_split-cons_no}
+use Rattle.std.specs.List.{list_all, flat_map, join_with_byte, onto_first}
 use Rattle.tier_core.proofs.Bools.{and_false}
 use Rattle.timeline_text.specs.Bytes.{is_newline, lines_of}
 use Rattle.grammar_reader.specs.Pieces.{is_comment, content, is_word_byte, holds_together, goes_on, onto_piece}
-use Rattle.grammar_reader.specs.Pieces.{token_pieces, is_spacing, parts_of, Lexeme, lexeme_of}
-use Rattle.grammar_reader.specs.Statements.{each_some}
+use Rattle.grammar_reader.specs.{Pieces.{token_pieces, is_spacing, parts_of, Lexeme, lexeme_of}, Statements.each_some}
 use Rattle.grammar_reader.specs.Canonical.{line_of_words}
-use Rattle.grammar_reader.proofs.Forms.{both_some}
-use Rattle.grammar_reader.proofs.Walk.{is_nil, content_keeps, apart}
+use Rattle.grammar_reader.proofs.{Forms.both_some, Walk.{is_nil, content_keeps, apart}}
 
 -- ---- bytes that are neither a line's end nor a comment's start
 

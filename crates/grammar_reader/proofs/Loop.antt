@@ -1,7 +1,6 @@
 -- Going from line to line.
 use Rattle.std.proofs.Common.{◌≡◌, ℕ, ◌+◌, ◌<◌, List, length, get_or, drop, ap, ◌∙◌, Option, Ok, Err}
-use Rattle.grammar_reader.specs.Values.{GrammarValue}
-use Rattle.grammar_reader.specs.Reading.{At, after_line, after_lines, go_on}
+use Rattle.grammar_reader.specs.{Values.GrammarValue, Reading.{At, after_line, after_lines, go_on}}
 use Rattle.grammar_reader.specs.declared.grammar_err.GrammarCause.{GrammarCause}
 use Rattle.grammar_reader.proofs.FromLine.{from_line}
 

@@ -1,15 +1,10 @@
 -- The mask of the input tiers that are named, tier by tier.
-use Rattle.std.proofs.Common.{◌≡◌, ℕ, suc, ◌+◌, ◌*◌, ◌^◌, ◌<◌, ◌≤◌, Bool, true, false, cond, List, ◌∷◌, length, get_or}
-use Rattle.std.proofs.Common.{drop, ap, sym, ◌∙◌, arith}
-use Rattle.std.specs.List.{list_any}
-use Rattle.std.specs.Str.{bytes_eq}
-use Rattle.std.proofs.lemmas.List.{drop_more}
-use Rattle.tier_core.specs.declared.tier.TierKind.{TierKind}
-use Rattle.tier_core.specs.Tiers.{is_input}
+use Rattle.std.proofs.Common.{◌≡◌, ℕ, suc, ◌+◌, ◌*◌, ◌^◌, ◌<◌, ◌≤◌, Bool, true, false, cond, List, ◌∷◌, length}
+use Rattle.std.proofs.{Common.{get_or, drop, ap, sym, ◌∙◌, arith}, lemmas.List.drop_more}
+use Rattle.std.specs.{List.list_any, Str.bytes_eq}
+use Rattle.tier_core.specs.{declared.tier.TierKind.TierKind, Tiers.is_input}
 use Rattle.tier_core.proofs.MaskBits.{mask_shift}
-use Rattle.grammar_reader.specs.Values.{inputs_of}
-use Rattle.grammar_reader.specs.Seen.{tier_seen, tiers_seen}
-use Rattle.grammar_reader.specs.Reading.{named_mask}
+use Rattle.grammar_reader.specs.{Values.inputs_of, Seen.{tier_seen, tiers_seen}, Reading.named_mask}
 use denote.Ref.{Bor}
 
 module _ (es : List (Bor (List ℕ) × TierKind)) (names : List (List ℕ)) (k : ℕ) (e : Bor (List ℕ) × TierKind)

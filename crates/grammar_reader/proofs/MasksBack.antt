@@ -1,17 +1,12 @@
 -- The tiers of a letter, named in tier order, have the letter's mask.
-use Rattle.std.proofs.lemmas.Bool.{or_parts, or_from}
-use Rattle.std.proofs.Common.{◌≡◌, ℕ, suc, ◌+◌, ◌*◌, ◌/◌, ◌%◌, ◌^◌, ◌<◌, ◌==◌, Bool, true, false, cond, ◌||◌, ◌⊎◌, inl}
-use Rattle.std.proofs.Common.{inr, List, [], ◌∷◌, ◌++◌, length, map, refl, ap, sym, ◌∙◌, arith}
-use Rattle.std.specs.List.{list_any}
-use Rattle.std.specs.Str.{bytes_eq}
+use Rattle.std.proofs.{lemmas.Bool.{or_parts, or_from}, Common.{◌≡◌, ℕ, suc, ◌+◌, ◌*◌, ◌/◌, ◌%◌, ◌^◌, ◌<◌, ◌==◌}}
+use Rattle.std.proofs.Common.{Bool, true, false, cond, ◌||◌, ◌⊎◌, inl, inr, List, [], ◌∷◌, ◌++◌, length, map, refl}
+use Rattle.std.proofs.Common.{ap, sym, ◌∙◌, arith}
+use Rattle.std.specs.{List.list_any, Str.bytes_eq}
 use Rattle.tier_core.proofs.MaskBits.{odd_or_even}
-use Rattle.grammar_reader.specs.Names.{has_twice}
-use Rattle.grammar_reader.specs.Values.{NamedTier, is_named}
-use Rattle.grammar_reader.specs.Canonical.{is_odd, names_in}
+use Rattle.grammar_reader.specs.{Names.has_twice, Values.{NamedTier, is_named}, Canonical.{is_odd, names_in}}
 use Rattle.grammar_reader.specs.Reading.{named_mask}
-use Rattle.grammar_reader.proofs.Lists.{list_any-map}
-use Rattle.grammar_reader.proofs.Once.{same_name}
-use Rattle.grammar_reader.proofs.Twice.{other_bytes}
+use Rattle.grammar_reader.proofs.{Lists.list_any-map, Once.same_name, Twice.other_bytes}
 
 -- ---- names of the tiers of a mask
 

@@ -1,21 +1,15 @@
 -- Names that stand once: what stands at a place, and what is found by its name.
 use Rattle.std.proofs.Common.{◌≡◌, ℕ, zero, suc, ◌+◌, ◌<◌, Bool, true, false, cond, not, ◌||◌, List, [], ◌∷◌, ◌++◌}
 use Rattle.std.proofs.Common.{length, map, filter, get_or, unwrap_or, Some, None, refl, ap, sym, ◌∙◌, arith}
-use Rattle.std.specs.Prelude.{nat_lt}
-use Rattle.std.specs.List.{list_any, list_all, find, position_or_len}
-use Rattle.std.specs.Option.{option_map_or}
-use Rattle.std.specs.Str.{bytes_eq}
 use Rattle.std.proofs.lemmas.Bool.{false≢true, or_left, or_right, or_parts, or_from, and_parts}
-use Rattle.std.proofs.lemmas.Bool.Decides.{nat_tests}
-use Rattle.std.proofs.lemmas.List.{map-append}
-use Rattle.std.proofs.lemmas.Slice.Eq.{bytes_eq-Decides}
+use Rattle.std.proofs.{lemmas.Bool.Decides.nat_tests, lemmas.List.map-append, lemmas.Slice.Eq.bytes_eq-Decides}
+use Rattle.std.specs.{Prelude.nat_lt, List.{list_any, list_all, find, position_or_len}, Option.option_map_or}
+use Rattle.std.specs.Str.{bytes_eq}
 use Rattle.tier_core.specs.Tiers.{is_input}
-use Rattle.grammar_reader.specs.Names.{has_twice}
-use Rattle.grammar_reader.specs.Values.{NamedTier, is_named, inputs_of}
+use Rattle.grammar_reader.specs.{Names.has_twice, Values.{NamedTier, is_named, inputs_of}}
 use Rattle.grammar_reader.specs.Reading.{is_unknown, is_input_named, tier_index}
-use Rattle.grammar_reader.proofs.Lists.{list_any-map}
+use Rattle.grammar_reader.proofs.{Lists.list_any-map, Twice.{other_bytes, twice_after}}
 use Rattle.timeline_text.proofs.Searches.{by_test}
-use Rattle.grammar_reader.proofs.Twice.{other_bytes, twice_after}
 
 pub same_name : (w : List ℕ) → bytes_eq w w ≡ true
 same_name w = (bytes_eq-Decides w w).1 refl

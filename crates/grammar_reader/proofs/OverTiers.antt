@@ -1,19 +1,13 @@
 -- What the type of a grammar tells of its constraints.
-use Rattle.std.proofs.Common.{◌≡◌, ℕ, ◌≤◌, ◌&&◌, true, nat_lt, nat_le, List, [], ◌∷◌, map, length, refl, ap, sym, ◌∙◌}
-use Rattle.std.proofs.Common.{arith, suc, All}
-use Rattle.std.specs.List.{AllByRecursion, list_all}
-use Rattle.std.specs.String.{string_bytes}
-use Rattle.std.proofs.lemmas.Bool.{and_parts, ltb-true, leb-true}
-use Rattle.std.proofs.lemmas.List.{length-map}
-use Rattle.std.proofs.lemmas.List.Elements.{All-from_recursion}
-use Rattle.tier_core.specs.declared.event.Event.{Event}
-use Rattle.tier_core.specs.declared.sym.Sym.{Sym}
-use Rattle.tier_core.specs.declared.constraint.Constraint.{Constraint}
-use Rattle.tier_core.specs.declared.tier.TierKind.{TierKind}
+use Rattle.std.proofs.Common.{◌≡◌, ℕ, ◌≤◌, ◌&&◌, true, nat_lt, nat_le, List, [], ◌∷◌, map, length, refl, ap, sym}
+use Rattle.std.proofs.{Common.{◌∙◌, arith, suc, All}, lemmas.Bool.{and_parts, ltb-true, leb-true}}
+use Rattle.std.proofs.{lemmas.List.length-map, lemmas.List.Elements.All-from_recursion}
+use Rattle.std.specs.{List.{AllByRecursion, list_all}, String.string_bytes}
+use Rattle.tier_core.specs.{declared.event.Event.Event, declared.sym.Sym.Sym}
+use Rattle.tier_core.specs.{declared.constraint.Constraint.Constraint, declared.tier.TierKind.TierKind}
 use Rattle.tier_core.specs.Timelines.{IsWellFormed}
 use Rattle.violation.specs.Conditions.{AreTiersBelow, IsOverTiers, IsCountable}
-use Rattle.grammar_reader.specs.declared.grammar.Grammar.{Grammar}
-use Rattle.grammar_reader.specs.Values.{is_side, has_sides}
+use Rattle.grammar_reader.specs.{declared.grammar.Grammar.Grammar, Values.{is_side, has_sides}}
 use Rattle.grammar_reader.specs.Seen.{tiers_by, constraint_seen}
 
 length-tiers_by : (ns : List (List ℕ)) (ks : List TierKind) → length ns ≡ length ks

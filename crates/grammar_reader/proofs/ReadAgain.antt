@@ -1,35 +1,29 @@
 -- The canonical text of a grammar is read as that grammar, line by line.
-use Rattle.std.proofs.Common.{◌≡◌, ℕ, ◌+◌, ◌<◌, true, false, not, List, [], ◌∷◌, ◌++◌, length, map, refl, ap, sym, ◌∙◌}
-use Rattle.std.proofs.Common.{subst, codes, append_assoc, append-nil, arith, Option, Some, None, option_map, Result, Ok}
+use Rattle.std.proofs.Common.{◌≡◌, ℕ, ◌+◌, ◌<◌, true, false, not, List, [], ◌∷◌, ◌++◌, length, map, refl, ap, sym}
+use Rattle.std.proofs.Common.{◌∙◌, subst, codes, append_assoc, append-nil, arith, Option, Some, None, option_map}
+use Rattle.std.proofs.{Common.{Result, Ok}, lemmas.Bool.{or_parts, not-false}}
 use Rattle.std.specs.List.{list_any, list_all, AllByRecursion}
 use Rattle.tier_core.specs.declared.tier.TierKind.{TierKind}
-use Rattle.tier_core.specs.declared.tier.TierKind.TheVariants.{Input, Overt, Hidden}
-use Rattle.tier_core.specs.Tiers.{is_input}
-use Rattle.timeline_text.specs.declared.letter.Letter.{Letter}
-use Rattle.timeline_text.specs.Bytes.{lines_of}
-use Rattle.grammar_reader.specs.Pieces.{Lexeme, equals, word}
-use Rattle.grammar_reader.specs.Statements.{Statement, tier, letter, constraint, each_some, word_of, tier_kind_of}
-use Rattle.grammar_reader.specs.Statements.{letter_line, statement_of, joined_by}
-use Rattle.grammar_reader.specs.Names.{is_name, is_letter_byte}
-use Rattle.grammar_reader.specs.Values.{GrammarValue, NamedTier, NamedConstraint, inputs_of, letter_name}
-use Rattle.grammar_reader.specs.Values.{IsProperGrammar, IsGrammar}
-use Rattle.grammar_reader.specs.Reading.{At, nothing, with_statement, after_cause, after_statement, some_grammar}
-use Rattle.grammar_reader.specs.Reading.{after_lexemes, after_lines, go_on, grammar_of, indexed_event}
+use Rattle.tier_core.specs.{declared.tier.TierKind.TheVariants.{Input, Overt, Hidden}, Tiers.is_input}
+use Rattle.timeline_text.specs.{declared.letter.Letter.Letter, Bytes.lines_of}
+use Rattle.grammar_reader.specs.{Pieces.{Lexeme, equals, word}, Statements.{Statement, tier, letter, constraint}}
+use Rattle.grammar_reader.specs.Statements.{each_some, word_of, tier_kind_of, letter_line, statement_of, joined_by}
+use Rattle.grammar_reader.specs.{Names.{is_name, is_letter_byte}, Values.{GrammarValue, NamedTier, NamedConstraint}}
+use Rattle.grammar_reader.specs.{Values.{inputs_of, letter_name, IsProperGrammar, IsGrammar}, Reading.{At, nothing}}
+use Rattle.grammar_reader.specs.Reading.{with_statement, after_cause, after_statement, some_grammar, after_lexemes}
+use Rattle.grammar_reader.specs.Reading.{after_lines, go_on, grammar_of, indexed_event}
 use Rattle.grammar_reader.specs.Canonical.{line_of_words, tier_kind_text, tier_words, names_in, letter_words}
 use Rattle.grammar_reader.specs.Canonical.{event_text, intersperse, sign_text, constraint_words, header_words}
 use Rattle.grammar_reader.specs.Canonical.{tier_lines, letter_lines, constraint_lines, canonical}
-use Rattle.grammar_reader.proofs.Lawful.{NoCause, cause_none}
-use Rattle.grammar_reader.proofs.LawfulLines.{whole_is}
+use Rattle.grammar_reader.proofs.{Lawful.{NoCause, cause_none}, LawfulLines.whole_is}
 use Rattle.grammar_reader.proofs.LineLexemes.{AreRead, read_none, read_next, read_both, line_lexemes, line_first}
 use Rattle.grammar_reader.proofs.WordLexemes.{name_read, letter_read, kind_read, and_read, joint_read, sign_lexeme}
-use Rattle.grammar_reader.proofs.WordLexemes.{sign_read, equals_read}
-use Rattle.grammar_reader.proofs.MasksBack.{some_in, mask_back}
+use Rattle.grammar_reader.proofs.{WordLexemes.{sign_read, equals_read}, MasksBack.{some_in, mask_back}}
 use Rattle.grammar_reader.proofs.Once.{at_place, once_filtered}
 use Rattle.grammar_reader.proofs.Sides.{HasName, named_event, side_lexemes, side_read, both_sides, constraint_back}
-use Rattle.std.proofs.lemmas.Bool.{or_parts, not-false}
-use Rattle.grammar_reader.proofs.Adding.{grammar_by}
-use Rattle.grammar_reader.proofs.Uncaused.{with_tiers, with_letters, tier_uncaused, letter_uncaused, sound_at, sides_at}
-use Rattle.grammar_reader.proofs.Uncaused.{names_of, constraint_uncaused, numbers_back, names_are}
+use Rattle.grammar_reader.proofs.{Adding.grammar_by, Uncaused.{with_tiers, with_letters, tier_uncaused}}
+use Rattle.grammar_reader.proofs.Uncaused.{letter_uncaused, sound_at, sides_at, names_of, constraint_uncaused}
+use Rattle.grammar_reader.proofs.Uncaused.{numbers_back, names_are}
 
 -- after what was read before, the text is read as a grammar, whatever the number of its first line
 Reads : Option GrammarValue → List ℕ → GrammarValue → Type 0

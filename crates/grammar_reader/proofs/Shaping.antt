@@ -1,19 +1,13 @@
 -- What the type of a shape keeps, of the shape of a grammar.
 use Rattle.std.proofs.Common.{◌≡◌, ℕ, suc, ◌+◌, ◌<◌, ◌≤◌, Bool, true, false, cond, ◌||◌, List, [], ◌∷◌, length, map}
-use Rattle.std.proofs.Common.{filter, take, get_or, refl, ap, sym, ◌∙◌, arith}
-use Rattle.std.specs.List.{list_any}
-use Rattle.std.proofs.lemmas.Bool.{false≢true}
+use Rattle.std.proofs.{Common.{filter, take, get_or, refl, ap, sym, ◌∙◌, arith}, lemmas.Bool.false≢true}
 use Rattle.std.proofs.lemmas.List.{length-map, length-take-le}
 use Rattle.std.proofs.lemmas.List.FromFn.{length-map-range_with_len, get_or-map-range_with_len}
 use Rattle.std.proofs.lemmas.List.Filters.{length-filter_more}
-use Rattle.tier_core.specs.declared.tier.TierKind.{TierKind}
-use Rattle.tier_core.specs.declared.constraint.Constraint.{Constraint}
-use Rattle.tier_core.specs.Tiers.{is_input}
-use Rattle.tier_core.specs.Shapes.{NeverFalls}
-use Rattle.tier_core.specs.Sides.{is_stretch}
-use Rattle.grammar_reader.specs.ShapeOf.{stretch_counts}
-use Rattle.grammar_reader.specs.Values.{inputs_of}
-use Rattle.grammar_reader.specs.Seen.{tiers_by}
+use Rattle.std.specs.List.{list_any}
+use Rattle.tier_core.specs.{declared.tier.TierKind.TierKind, declared.constraint.Constraint.Constraint}
+use Rattle.tier_core.specs.{Tiers.is_input, Shapes.NeverFalls, Sides.is_stretch}
+use Rattle.grammar_reader.specs.{ShapeOf.stretch_counts, Values.inputs_of, Seen.tiers_by}
 use Rattle.grammar_reader.proofs.Lists.{filter-map, list_any-map}
 
 -- the kinds of named tiers are those of the table

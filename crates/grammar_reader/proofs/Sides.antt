@@ -1,26 +1,17 @@
 -- The events of a side: the words that join them are read, and cut, as they were joined.
-use Rattle.std.proofs.lemmas.Bool.{or_parts, not-true}
-use Rattle.std.proofs.Common.{◌≡◌, ℕ, suc, ◌+◌, ◌<◌, true, false, cond, List, [], ◌∷◌, ◌++◌, length, map, take, drop}
-use Rattle.std.proofs.Common.{refl, ap, sym, ◌∙◌, codes, append-nil, arith, append_assoc, length-append, subst, take_at}
-use Rattle.std.proofs.Common.{drop_at, Some, None}
-use Rattle.std.specs.Prelude.{slice_index_or, All}
-use Rattle.std.specs.List.{slice_split, position_or_len, AllByRecursion}
+use Rattle.std.proofs.{lemmas.Bool.{or_parts, not-true}, Common.{◌≡◌, ℕ, suc, ◌+◌, ◌<◌, true, false, cond, List, []}}
+use Rattle.std.proofs.Common.{◌∷◌, ◌++◌, length, map, take, drop, refl, ap, sym, ◌∙◌, codes, append-nil, arith}
+use Rattle.std.proofs.Common.{append_assoc, length-append, subst, take_at, drop_at, Some, None}
+use Rattle.std.proofs.{lemmas.List.Elements.All-from_recursion, lemmas.List.Splits.{slice_split_none, slice_split_at}}
+use Rattle.std.specs.{Prelude.{slice_index_or, All}, List.{slice_split, position_or_len, AllByRecursion}}
 use Rattle.std.specs.Str.{bytes_eq}
-use Rattle.std.proofs.lemmas.List.Elements.{All-from_recursion}
-use Rattle.std.proofs.lemmas.List.Splits.{slice_split_none, slice_split_at}
-use Rattle.tier_core.specs.declared.event.Event.{Event}
-use Rattle.tier_core.specs.declared.event.Part.{Part}
-use Rattle.tier_core.specs.declared.event.Part.TheVariants.{Start, End, Interior}
-use Rattle.tier_core.specs.declared.constraint.Family.{Family}
+use Rattle.tier_core.specs.{declared.event.Event.Event, declared.event.Part.Part}
+use Rattle.tier_core.specs.{declared.event.Part.TheVariants.{Start, End, Interior}, declared.constraint.Family.Family}
 use Rattle.tier_core.specs.declared.constraint.Family.TheVariants.{Implication, Clash}
-use Rattle.grammar_reader.specs.Pieces.{Lexeme, word}
-use Rattle.grammar_reader.specs.Statements.{NamedEvent, constraint, each_some, is_the_word, is_connective, event_of}
-use Rattle.grammar_reader.specs.Statements.{events_of, joined_by, is_sign, sides_of, constraint_line}
-use Rattle.grammar_reader.specs.Names.{is_name}
-use Rattle.grammar_reader.specs.Canonical.{event_text, intersperse}
-use Rattle.grammar_reader.proofs.Ascii.{name_parts}
-use Rattle.grammar_reader.proofs.Forms.{both_some}
-use Rattle.grammar_reader.proofs.Joined.{joined_rest, intersperse-cons}
+use Rattle.grammar_reader.specs.{Pieces.{Lexeme, word}, Statements.{NamedEvent, constraint, each_some, is_the_word}}
+use Rattle.grammar_reader.specs.Statements.{is_connective, event_of, events_of, joined_by, is_sign, sides_of}
+use Rattle.grammar_reader.specs.{Statements.constraint_line, Names.is_name, Canonical.{event_text, intersperse}}
+use Rattle.grammar_reader.proofs.{Ascii.name_parts, Forms.both_some, Joined.{joined_rest, intersperse-cons}}
 use Rattle.grammar_reader.proofs.LineLexemes.{IsRead, AreRead, read_none, read_next}
 use Rattle.grammar_reader.proofs.WordLexemes.{part_lexemes, event_lexemes, event_read, sign_lexeme}
 

@@ -1,11 +1,8 @@
 -- What reading a statement gives.
 use Rattle.std.proofs.Common.{◌≡◌, List, ap, sym, ◌∙◌, Option, Some, None, Result, Ok, Err}
 use Rattle.std.specs.Prelude.{MatchResult, OnOk, IfErr}
-use Rattle.grammar_reader.specs.Pieces.{Lexeme}
-use Rattle.grammar_reader.specs.Statements.{Statement, statement_of}
-use Rattle.grammar_reader.specs.Values.{GrammarValue}
-use Rattle.grammar_reader.specs.Reading.{cause_of, with_statement, after_cause, after_statement}
-use Rattle.grammar_reader.specs.Made.{FailsAt}
+use Rattle.grammar_reader.specs.{Pieces.Lexeme, Statements.{Statement, statement_of}, Values.GrammarValue}
+use Rattle.grammar_reader.specs.{Reading.{cause_of, with_statement, after_cause, after_statement}, Made.FailsAt}
 use Rattle.grammar_reader.specs.declared.lexeme.LineErr.{LineErr}
 use Rattle.grammar_reader.specs.declared.lexeme.LineErr.TheVariants.{Cause, NoMemory}
 

@@ -1,35 +1,25 @@
 -- The canonical text of a grammar is short enough to be read.
 use Rattle.timeline_text.proofs.Searches.{by_test}
-use Rattle.std.proofs.Common.{◌≡◌, ℕ, zero, suc, ◌+◌, ◌*◌, ◌<◌, ◌≤◌, Bool, true, false, cond, ◌&&◌, ◌||◌, eqb, eqb-true}
-use Rattle.std.proofs.Common.{List, [], ◌∷◌, ◌++◌, length, map, filter, ◌/◌, get_or, refl, ap, sym, ◌∙◌, codes, arith}
-use Rattle.std.proofs.Common.{length-append}
-use Rattle.std.specs.Prelude.{nat_le, nat_lt}
-use Rattle.std.specs.List.{list_any, list_all, flat_map, join_with_byte, AllByRecursion, IsDistinct}
-use Rattle.std.specs.Str.{bytes_eq}
-use Rattle.std.proofs.lemmas.Bool.{false≢true, and_parts, and_from, or_parts}
-use Rattle.std.proofs.lemmas.Bool.Decides.{nat_tests}
-use Rattle.std.proofs.lemmas.List.{length-map}
-use Rattle.std.proofs.lemmas.List.Folds.{list_all-map}
+use Rattle.std.proofs.Common.{◌≡◌, ℕ, zero, suc, ◌+◌, ◌*◌, ◌<◌, ◌≤◌, Bool, true, false, cond, ◌&&◌, ◌||◌, eqb}
+use Rattle.std.proofs.Common.{eqb-true, List, [], ◌∷◌, ◌++◌, length, map, filter, ◌/◌, get_or, refl, ap, sym, ◌∙◌}
+use Rattle.std.proofs.{Common.{codes, arith, length-append}, lemmas.Bool.{false≢true, and_parts, and_from, or_parts}}
+use Rattle.std.proofs.{lemmas.Bool.Decides.nat_tests, lemmas.List.length-map, lemmas.List.Folds.list_all-map}
 use Rattle.std.proofs.lemmas.Map.Steps.{length-le_from_distinct_below}
-use Rattle.tier_core.specs.Tiers.{is_input}
-use Rattle.tier_core.specs.declared.tier.TierKind.{TierKind}
-use Rattle.tier_core.specs.declared.tier.TierKind.TheVariants.{Input, Overt, Hidden}
-use Rattle.tier_core.specs.declared.event.Event.{Event}
-use Rattle.tier_core.specs.declared.event.Part.{Part}
-use Rattle.tier_core.specs.declared.event.Part.TheVariants.{Start, End, Interior}
+use Rattle.std.specs.Prelude.{nat_le, nat_lt}
+use Rattle.std.specs.{List.{list_any, list_all, flat_map, join_with_byte, AllByRecursion, IsDistinct}, Str.bytes_eq}
+use Rattle.tier_core.specs.{Tiers.is_input, declared.tier.TierKind.TierKind}
+use Rattle.tier_core.specs.{declared.tier.TierKind.TheVariants.{Input, Overt, Hidden}, declared.event.Event.Event}
+use Rattle.tier_core.specs.{declared.event.Part.Part, declared.event.Part.TheVariants.{Start, End, Interior}}
 use Rattle.tier_core.specs.declared.constraint.Family.{Family}
 use Rattle.tier_core.specs.declared.constraint.Family.TheVariants.{Implication, Clash}
 use Rattle.timeline_text.specs.declared.letter.Letter.{Letter}
-use Rattle.grammar_reader.specs.Statements.{joined_by}
-use Rattle.grammar_reader.specs.Names.{is_name, is_letter_byte, has_twice}
+use Rattle.grammar_reader.specs.{Statements.joined_by, Names.{is_name, is_letter_byte, has_twice}}
 use Rattle.grammar_reader.specs.Values.{GrammarValue, NamedTier, NamedConstraint, inputs_of, letter_name, is_side}
-use Rattle.grammar_reader.specs.Values.{has_sides, IsProperGrammar}
-use Rattle.grammar_reader.specs.Canonical.{line_of_words, tier_kind_text, tier_words, is_odd, names_in, letter_words}
-use Rattle.grammar_reader.specs.Canonical.{part_text, event_text, intersperse, sign_text, constraint_words}
-use Rattle.grammar_reader.specs.Canonical.{header_words, tier_lines, letter_lines, constraint_lines, canonical}
-use Rattle.grammar_reader.proofs.Ascii.{name_parts}
-use Rattle.grammar_reader.proofs.Joined.{joined_rest, intersperse-cons}
-use Rattle.grammar_reader.proofs.Lawful.{all_weaker}
+use Rattle.grammar_reader.specs.{Values.{has_sides, IsProperGrammar}, Canonical.{line_of_words, tier_kind_text}}
+use Rattle.grammar_reader.specs.Canonical.{tier_words, is_odd, names_in, letter_words, part_text, event_text}
+use Rattle.grammar_reader.specs.Canonical.{intersperse, sign_text, constraint_words, header_words, tier_lines}
+use Rattle.grammar_reader.specs.Canonical.{letter_lines, constraint_lines, canonical}
+use Rattle.grammar_reader.proofs.{Ascii.name_parts, Joined.{joined_rest, intersperse-cons}, Lawful.all_weaker}
 use Rattle.grammar_reader.proofs.Walk.{and_true}
 
 -- ---- lines

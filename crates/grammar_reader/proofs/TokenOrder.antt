@@ -1,15 +1,11 @@
 -- Tokens come in the order of their source.
 use Rattle.std.proofs.Common.{◌≡◌, ℕ, ◌+◌, ◌<◌, ◌≤◌, Bool, true, false, cond, List, [], ◌∷◌, ◌++◌, length, filter}
-use Rattle.std.proofs.Common.{subst, ap, sym, ◌∙◌, arith, length-append}
-use Rattle.std.specs.Prelude.{take_while}
-use Rattle.std.specs.List.{AllByRecursion, AllPairs, concat}
-use Rattle.std.proofs.lemmas.List.Elements.{All-from_recursion}
-use Rattle.std.proofs.lemmas.List.Kept.{AllPairs-cons}
-use Rattle.std.proofs.lemmas.List.Sums.{take_while-cons}
-use Rattle.grammar_reader.specs.Ascending.{AreAscending, Precedes}
+use Rattle.std.proofs.{Common.{subst, ap, sym, ◌∙◌, arith, length-append}, lemmas.List.Elements.All-from_recursion}
+use Rattle.std.proofs.{lemmas.List.Kept.AllPairs-cons, lemmas.List.Sums.take_while-cons}
+use Rattle.std.specs.{Prelude.take_while, List.{AllByRecursion, AllPairs, concat}}
+use Rattle.grammar_reader.specs.{Ascending.{AreAscending, Precedes}, Pieces.{content, goes_on, is_no_spacing}}
+use Rattle.grammar_reader.specs.Pieces.{is_token, Mark, marks_of, onto_piece, token_pieces, marks_along, tokens_of}
 use Rattle.timeline_text.specs.Bytes.{lines_of}
-use Rattle.grammar_reader.specs.Pieces.{content, goes_on, is_no_spacing, is_token, Mark, marks_of, onto_piece}
-use Rattle.grammar_reader.specs.Pieces.{token_pieces, marks_along, tokens_of}
 use Rattle.grammar_reader.proofs.SliceLaw.{concat_pieces, content_after}
 
 -- ---- walks ----

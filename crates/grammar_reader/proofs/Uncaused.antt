@@ -1,29 +1,20 @@
 -- No line of a canonical text has a cause, given the lines before it.
 use Rattle.timeline_text.proofs.Searches.{by_test}
-use Rattle.std.proofs.lemmas.Bool.{and_parts, or_from}
-use Rattle.std.proofs.Common.{◌≡◌, ℕ, ◌^◌, ◌<◌, ◌≤◌, Bool, true, false, cond, not, ◌&&◌, ◌||◌, List, [], ◌∷◌, ◌++◌}
-use Rattle.std.proofs.Common.{length, map, filter, refl, ap, sym, ◌∙◌, subst, arith, length-append}
-use Rattle.std.specs.Prelude.{nat_lt, nat_le}
-use Rattle.std.specs.List.{list_any, list_all, AllByRecursion}
-use Rattle.std.specs.Str.{bytes_eq}
-use Rattle.std.proofs.lemmas.Bool.Decides.{nat_tests}
-use Rattle.std.proofs.lemmas.List.{length-map}
+use Rattle.std.proofs.{lemmas.Bool.{and_parts, or_from}, Common.{◌≡◌, ℕ, ◌^◌, ◌<◌, ◌≤◌, Bool, true, false, cond, not}}
+use Rattle.std.proofs.Common.{◌&&◌, ◌||◌, List, [], ◌∷◌, ◌++◌, length, map, filter, refl, ap, sym, ◌∙◌, subst}
+use Rattle.std.proofs.{Common.{arith, length-append}, lemmas.Bool.Decides.nat_tests, lemmas.List.length-map}
 use Rattle.std.proofs.lemmas.List.Elements.{filter-append}
-use Rattle.tier_core.specs.declared.event.Event.{Event}
-use Rattle.tier_core.specs.Tiers.{is_input, is_free}
+use Rattle.std.specs.{Prelude.{nat_lt, nat_le}, List.{list_any, list_all, AllByRecursion}, Str.bytes_eq}
+use Rattle.tier_core.specs.{declared.event.Event.Event, Tiers.{is_input, is_free}}
 use Rattle.tier_core.proofs.Bools.{and_false}
 use Rattle.timeline_text.specs.declared.letter.Letter.{Letter}
-use Rattle.grammar_reader.specs.Statements.{tier, letter, constraint}
-use Rattle.grammar_reader.specs.Names.{is_name, is_letter_byte, has_twice}
+use Rattle.grammar_reader.specs.{Statements.{tier, letter, constraint}, Names.{is_name, is_letter_byte, has_twice}}
 use Rattle.grammar_reader.specs.Values.{GrammarValue, NamedTier, NamedConstraint, inputs_of, free_of, letter_name}
-use Rattle.grammar_reader.specs.Values.{has_sound, is_side, has_sides, IsProperGrammar}
-use Rattle.grammar_reader.specs.Canonical.{names_in}
+use Rattle.grammar_reader.specs.{Values.{has_sound, is_side, has_sides, IsProperGrammar}, Canonical.names_in}
 use Rattle.grammar_reader.specs.Reading.{is_unknown, is_input_named, indexed_event}
-use Rattle.grammar_reader.proofs.Lawful.{NoCause}
-use Rattle.grammar_reader.proofs.MasksBack.{none_in, once_in}
-use Rattle.grammar_reader.proofs.Once.{none_filtered, none_fails, at_place, front_once, once_filtered, none_unknown}
-use Rattle.grammar_reader.proofs.Once.{none_other, name_at, known_at, number_at, named_at}
-use Rattle.grammar_reader.proofs.Sides.{HasName, named_event}
+use Rattle.grammar_reader.proofs.{Lawful.NoCause, MasksBack.{none_in, once_in}, Once.{none_filtered, none_fails}}
+use Rattle.grammar_reader.proofs.Once.{at_place, front_once, once_filtered, none_unknown, none_other, name_at}
+use Rattle.grammar_reader.proofs.{Once.{known_at, number_at, named_at}, Sides.{HasName, named_event}}
 use Rattle.grammar_reader.proofs.Adding.{grammar_by}
 
 -- ---- grammars of which some lines are read

@@ -1,28 +1,20 @@
 -- What each word of a canonical line is read as.
-use Rattle.std.proofs.lemmas.Bool.{and_parts, and_from}
-use Rattle.std.proofs.Common.{◌≡◌, ℕ, Bool, true, false, cond, not, ◌&&◌, ◌||◌, ◌==◌, List, [], ◌∷◌, ◌++◌, filter, refl}
-use Rattle.std.proofs.Common.{ap, ◌∙◌, codes, Option, Some, None, option_map, option_and_then}
-use Rattle.std.specs.Prelude.{slice_index_or}
-use Rattle.std.specs.List.{list_all}
-use Rattle.std.specs.Str.{bytes_eq}
-use Rattle.tier_core.specs.declared.event.Event.{Event}
-use Rattle.tier_core.specs.declared.event.Part.{Part}
-use Rattle.tier_core.specs.declared.event.Part.TheVariants.{Start, End, Interior}
-use Rattle.tier_core.specs.declared.tier.TierKind.{TierKind}
+use Rattle.std.proofs.{lemmas.Bool.{and_parts, and_from}, Common.{◌≡◌, ℕ, Bool, true, false, cond, not, ◌&&◌, ◌||◌}}
+use Rattle.std.proofs.Common.{◌==◌, List, [], ◌∷◌, ◌++◌, filter, refl, ap, ◌∙◌, codes, Option, Some, None}
+use Rattle.std.proofs.Common.{option_map, option_and_then}
+use Rattle.std.specs.{Prelude.slice_index_or, List.list_all, Str.bytes_eq}
+use Rattle.tier_core.specs.{declared.event.Event.Event, declared.event.Part.Part}
+use Rattle.tier_core.specs.{declared.event.Part.TheVariants.{Start, End, Interior}, declared.tier.TierKind.TierKind}
 use Rattle.tier_core.specs.declared.tier.TierKind.TheVariants.{Input, Overt, Hidden}
 use Rattle.tier_core.specs.declared.constraint.Family.{Family}
 use Rattle.tier_core.specs.declared.constraint.Family.TheVariants.{Implication, Clash}
 use Rattle.timeline_text.specs.Bytes.{is_newline}
-use Rattle.grammar_reader.specs.Pieces.{is_comment, is_word_byte, holds_together, onto_piece, token_pieces, is_spacing}
-use Rattle.grammar_reader.specs.Pieces.{Lexeme, opens, closes, equals, clash, implies, word, lexeme_of, goes_on}
-use Rattle.grammar_reader.specs.Statements.{each_some, joined_by}
-use Rattle.grammar_reader.specs.Names.{is_name, is_letter_byte}
+use Rattle.grammar_reader.specs.Pieces.{is_comment, is_word_byte, holds_together, onto_piece, token_pieces}
+use Rattle.grammar_reader.specs.Pieces.{is_spacing, Lexeme, opens, closes, equals, clash, implies, word, lexeme_of}
+use Rattle.grammar_reader.specs.{Pieces.goes_on, Statements.{each_some, joined_by}, Names.{is_name, is_letter_byte}}
 use Rattle.grammar_reader.specs.Canonical.{tier_kind_text, part_text, event_text, sign_text}
-use Rattle.grammar_reader.proofs.Ascii.{name_parts}
-use Rattle.grammar_reader.proofs.Lawful.{all_weaker}
-use Rattle.grammar_reader.proofs.LineLexemes.{is_inner, IsRead}
-use Rattle.grammar_reader.proofs.Steps.{is_other, plain_word}
-use Rattle.grammar_reader.proofs.Walk.{apart}
+use Rattle.grammar_reader.proofs.{Ascii.name_parts, Lawful.all_weaker, LineLexemes.{is_inner, IsRead}}
+use Rattle.grammar_reader.proofs.{Steps.{is_other, plain_word}, Walk.apart}
 
 -- ---- words of letters, digits and `_`
 

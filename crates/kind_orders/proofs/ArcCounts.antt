@@ -1,18 +1,14 @@
 -- How many arcs to such targets have a column.
 use Rattle.std.proofs.Common.{◌≡◌, ℕ, suc, ◌+◌, ◌≤◌, ◌==◌, Bool, true, false, ◌&&◌, cond, List, [], ◌∷◌, ◌++◌, map}
 use Rattle.std.proofs.Common.{take, get_or, refl, ap, sym, ◌∙◌, arith, AllPairs, Contains, IsPermutation}
-use Rattle.std.specs.List.{count_by}
 use Rattle.std.proofs.lemmas.Bool.{and_parts, and_from, eqb-true, eq-eqb}
 use Rattle.std.proofs.lemmas.List.Sums.{sum_by-cons, sum_by-append, sum_by-take-le, get_or-le-sum_by}
 use Rattle.std.proofs.lemmas.List.Sorted.{sum_by-IsPermutation}
-use Rattle.tier_core.specs.declared.sym.Sym.{Sym}
-use Rattle.tier_core.specs.declared.class.Class.{Class}
-use Rattle.tier_core.specs.Classes.{has, AreDisjoint}
+use Rattle.std.specs.List.{count_by}
+use Rattle.tier_core.specs.{declared.sym.Sym.Sym, declared.class.Class.Class, Classes.{has, AreDisjoint}}
 use Rattle.symbol_class.specs.Held.{times_held, once_if}
-use Rattle.symbol_class.proofs.Pairs.{pairs_unmap}
-use Rattle.symbol_class.proofs.Times.{times-cons, once_from_apart, apart_from_once}
-use Rattle.answer_text.specs.declared.automaton.ArcLine.{ArcLine}
-use Rattle.answer_text.specs.ArcClasses.{arc_classes}
+use Rattle.symbol_class.proofs.{Pairs.pairs_unmap, Times.{times-cons, once_from_apart, apart_from_once}}
+use Rattle.answer_text.specs.{declared.automaton.ArcLine.ArcLine, ArcClasses.arc_classes}
 use Rattle.kind_orders.specs.JoinedLines.{arc_to, times_to}
 
 -- ---- an element that is counted

@@ -1,37 +1,25 @@
 -- The arcs of a state: no column is in two of them, each holds a column, no two tie, and they go where the moves go.
 use Rattle.std.proofs.Common.{◌≡◌, ◌≢◌, ℕ, ◌<◌, true, List, [], ◌∷◌, map, length, get_or, refl, ap, sym, ◌∙◌, subst}
 use Rattle.std.proofs.Common.{arith, All, AllPairs, Contains, IsSorted, IsTrue}
-use Rattle.std.specs.Cmp.{IsTotalOrder}
-use Rattle.std.specs.Cmp.Lexicographic.{slice_cmp}
-use Rattle.std.specs.List.Sorted.{IsStrictlySortedBy}
-use Rattle.std.specs.Ordering.{nat_cmp}
-use Rattle.std.specs.declared.cmp.Ordering.TheVariants.{Equal}
 use Rattle.std.proofs.lemmas.Cmp.{nat_cmp_total, nat_list_cmp_total, on_total, then_total}
-use Rattle.std.proofs.lemmas.List.Elements.{All-map, Contains-get_or}
-use Rattle.std.proofs.lemmas.List.{map-id}
+use Rattle.std.proofs.{lemmas.List.Elements.{All-map, Contains-get_or}, lemmas.List.map-id}
+use Rattle.std.specs.{Cmp.IsTotalOrder, Cmp.Lexicographic.slice_cmp, List.Sorted.IsStrictlySortedBy, Ordering.nat_cmp}
+use Rattle.std.specs.declared.cmp.Ordering.TheVariants.{Equal}
 use Rattle.weight_law.specs.declared.Weight.{Ghosts}
-use Rattle.tier_core.specs.declared.sym.Sym.{Sym}
-use Rattle.tier_core.specs.declared.class.Class.{Class}
-use Rattle.tier_core.specs.Classes.{sets_of, sets_have, has, AreDisjoint}
-use Rattle.arc_table.specs.declared.arc.TableArc.{TableArc}
-use Rattle.arc_table.specs.declared.state.TableState.{TableState}
-use Rattle.arc_table.specs.Conditions.{TargetsExist, ClassesDisjoint, ClassesFilled, OneWidth}
-use Rattle.tier_core.specs.Filled.{is_filled}
-use Rattle.arc_table.specs.Moves.{moves_at, accepting_at}
+use Rattle.tier_core.specs.{declared.sym.Sym.Sym, declared.class.Class.Class}
+use Rattle.tier_core.specs.{Classes.{sets_of, sets_have, has, AreDisjoint}, Filled.is_filled}
 use Rattle.tier_core.specs.FirstColumn.{first_column}
-use Rattle.tier_core.proofs.Filled.{has-first_column}
-use Rattle.answer_text.specs.declared.automaton.ArcLine.{ArcLine}
-use Rattle.answer_text.specs.declared.automaton.StateLine.{StateLine}
-use Rattle.answer_text.specs.Right.{arc_cmp}
-use Rattle.arc_table.specs.MoveClasses.{move_classes}
-use Rattle.kind_orders.specs.AutomatonLines.{line_of, IsLineOf}
-use Rattle.answer_text.specs.ArcClasses.{arc_classes}
-use Rattle.kind_orders.specs.JoinedLines.{AreJoinedFrom}
+use Rattle.arc_table.specs.{declared.arc.TableArc.TableArc, declared.state.TableState.TableState}
+use Rattle.arc_table.specs.Conditions.{TargetsExist, ClassesDisjoint, ClassesFilled, OneWidth}
+use Rattle.arc_table.specs.{Moves.{moves_at, accepting_at}, MoveClasses.move_classes}
+use Rattle.tier_core.proofs.{Filled.has-first_column, KindTies.{both_equal, same_numbers}}
+use Rattle.tier_core.proofs.Members.{contains_map, contains_of_map}
+use Rattle.answer_text.specs.{declared.automaton.ArcLine.ArcLine, declared.automaton.StateLine.StateLine}
+use Rattle.answer_text.specs.{Right.arc_cmp, ArcClasses.arc_classes}
+use Rattle.kind_orders.specs.{AutomatonLines.{line_of, IsLineOf}, JoinedLines.AreJoinedFrom}
 use Rattle.symbol_class.specs.Held.{width_of, ArePieces}
 use Rattle.symbol_class.proofs.Pairs.{pairs_map}
-use Rattle.tier_core.proofs.KindTies.{both_equal, same_numbers}
 use Rattle.kind_orders.proofs.ArcCounts.{anywhere, apart_if_once, once_if_apart, goes_too}
-use Rattle.tier_core.proofs.Members.{contains_map, contains_of_map}
 use Rattle.kind_orders.proofs.Strict.{strict_from_sorted}
 
 pub arc_cmp_total : IsTotalOrder arc_cmp

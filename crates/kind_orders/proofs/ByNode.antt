@@ -1,21 +1,16 @@
 -- States and lines by their node numbers, one by one.
-use Rattle.std.proofs.Common.{◌≡◌, ◌≢◌, ℕ, zero, suc, ◌+◌, ◌<◌, List, [], ◌∷◌, ◌++◌, Option, None, Some, length, get_or}
-use Rattle.std.proofs.Common.{set, replicate, refl, ap, sym, ◌∙◌, subst, arith, ⊎_elim, All, AllPairs, Contains}
-use Rattle.std.proofs.Common.{below_more, length-set, get_or-set_same, get_or-set_other}
-use Rattle.std.specs.Cmp.{nat_cmp_is}
-use Rattle.std.specs.List.Sorted.{IsStrictlySortedBy}
-use Rattle.std.specs.Ordering.{nat_cmp}
+use Rattle.std.proofs.Common.{◌≡◌, ◌≢◌, ℕ, zero, suc, ◌+◌, ◌<◌, List, [], ◌∷◌, ◌++◌, Option, None, Some, length}
+use Rattle.std.proofs.Common.{get_or, set, replicate, refl, ap, sym, ◌∙◌, subst, arith, ⊎_elim, All, AllPairs}
+use Rattle.std.proofs.Common.{Contains, below_more, length-set, get_or-set_same, get_or-set_other}
+use Rattle.std.proofs.{lemmas.Bool.{cases_eq, cases_lt}, lemmas.List.map-append}
+use Rattle.std.proofs.lemmas.List.Elements.{Contains-append_left, Contains-append_right, Contains-push_cases}
+use Rattle.std.proofs.lemmas.List.Elements.{All-map, All-push, All-from_recursion, recursion_from_All}
+use Rattle.std.specs.{Cmp.nat_cmp_is, List.Sorted.IsStrictlySortedBy, Ordering.nat_cmp}
 use Rattle.std.specs.declared.cmp.Ordering.TheVariants.{Less}
-use Rattle.std.proofs.lemmas.Bool.{cases_eq, cases_lt}
-use Rattle.std.proofs.lemmas.List.{map-append}
-use Rattle.std.proofs.lemmas.List.Elements.{Contains-append_left, Contains-append_right, Contains-push_cases, All-map}
-use Rattle.std.proofs.lemmas.List.Elements.{All-push, All-from_recursion, recursion_from_All}
 use Rattle.weight_law.specs.declared.Weight.{Ghosts}
 use Rattle.arc_table.specs.declared.state.TableState.{TableState}
-use Rattle.answer_text.specs.declared.automaton.StateLine.{StateLine}
-use Rattle.answer_text.specs.Right.{numbers_of}
-use Rattle.kind_orders.specs.Orderings.{IsOrdering}
-use Rattle.kind_orders.specs.AutomatonLines.{state_nodes, IsLineOf, AreLinesOf, AreByNode}
+use Rattle.answer_text.specs.{declared.automaton.StateLine.StateLine, Right.numbers_of}
+use Rattle.kind_orders.specs.{Orderings.IsOrdering, AutomatonLines.{state_nodes, IsLineOf, AreLinesOf, AreByNode}}
 use Rattle.symbol_class.proofs.Pairs.{pairs_map, pairs_apart}
 use Rattle.tier_core.proofs.Members.{All-from_members, contains_of_map}
 

@@ -1,34 +1,23 @@
 -- Lines that are sorted by target are joined group by group.
 use Rattle.std.proofs.Common.{◌≡◌, ◌≢◌, ℕ, suc, ◌+◌, ◌<◌, ◌≤◌, Bool, true, false, List, [], ◌∷◌, ◌++◌, map, take}
 use Rattle.std.proofs.Common.{length, get_or, refl, ap, sym, ◌∙◌, subst, arith, IsTrue, All, AllPairs, Contains}
-use Rattle.std.proofs.Common.{IsPermutation, ⊎_elim, true≢false}
-use Rattle.std.specs.Ordering.{is_lt, nat_cmp, ordering_then}
-use Rattle.std.specs.Cmp.Lexicographic.{slice_cmp}
-use Rattle.std.specs.Cmp.{nat_cmp_is}
-use Rattle.std.specs.declared.cmp.Ordering.TheVariants.{Less, Equal, Greater}
-use Rattle.std.specs.List.Sorted.{IsSorted}
-use Rattle.std.proofs.lemmas.Bool.{cases_lt}
+use Rattle.std.proofs.{Common.{IsPermutation, ⊎_elim, true≢false}, lemmas.Bool.cases_lt}
 use Rattle.std.proofs.lemmas.Cmp.{nat_cmp_total, nat_list_cmp_total}
 use Rattle.std.proofs.lemmas.List.{map-append, length-map, get_or-map, get_or_default, take_more, take_all}
 use Rattle.std.proofs.lemmas.List.Elements.{All-nil, All-append, All-map, All-push, All-contains}
 use Rattle.std.proofs.lemmas.List.Kept.{AllPairs-cons}
 use Rattle.std.proofs.lemmas.List.Sorted.{ranks_by, sorted_far, All-permutation, IsPermutation-map}
-use Rattle.tier_core.specs.declared.sym.Sym.{Sym}
-use Rattle.tier_core.specs.declared.class.Class.{Class}
-use Rattle.tier_core.specs.Classes.{sets_of, AreDisjoint}
+use Rattle.std.specs.{Ordering.{is_lt, nat_cmp, ordering_then}, Cmp.Lexicographic.slice_cmp, Cmp.nat_cmp_is}
+use Rattle.std.specs.{declared.cmp.Ordering.TheVariants.{Less, Equal, Greater}, List.Sorted.IsSorted}
+use Rattle.tier_core.specs.{declared.sym.Sym.Sym, declared.class.Class.Class, Classes.{sets_of, AreDisjoint}}
 use Rattle.tier_core.specs.Filled.{is_filled}
-use Rattle.symbol_class.specs.ClassOrder.{class_cmp}
-use Rattle.symbol_class.specs.Held.{times_held, some_has, width_of, ArePieces}
+use Rattle.symbol_class.specs.{ClassOrder.class_cmp, Held.{times_held, some_has, width_of, ArePieces}}
 use Rattle.symbol_class.specs.Joined.{DifferTwice}
-use Rattle.symbol_class.proofs.Pairs.{pairs_map, pairs_permuted}
-use Rattle.symbol_class.proofs.Times.{pairs_head, pairs_tail, none_held, some_held, some_from_same, times_permuted}
-use Rattle.symbol_class.proofs.Times.{once_from_apart, pieces_from_once}
+use Rattle.symbol_class.proofs.{Pairs.{pairs_map, pairs_permuted}, Times.{pairs_head, pairs_tail, none_held}}
+use Rattle.symbol_class.proofs.Times.{some_held, some_from_same, times_permuted, once_from_apart, pieces_from_once}
 use Rattle.symbol_class.proofs.JoinedClasses.{pieces_of_width, apart_permuted}
-use Rattle.answer_text.specs.declared.automaton.ArcLine.{ArcLine}
-use Rattle.answer_text.specs.Right.{arc_cmp}
-use Rattle.kind_orders.specs.JoinedArcs.{AreJoined}
-use Rattle.answer_text.specs.ArcClasses.{arc_classes}
-use Rattle.kind_orders.specs.JoinedLines.{arc_to, times_to, AreJoinedFrom, AddsJoined}
+use Rattle.answer_text.specs.{declared.automaton.ArcLine.ArcLine, Right.arc_cmp, ArcClasses.arc_classes}
+use Rattle.kind_orders.specs.{JoinedArcs.AreJoined, JoinedLines.{arc_to, times_to, AreJoinedFrom, AddsJoined}}
 use Rattle.kind_orders.proofs.ArcCounts.{adds, times-arc, times-both, times-take, times-permuted, times-target}
 use Rattle.kind_orders.proofs.ArcCounts.{times-same, anywhere, once_if_apart}
 

@@ -1,15 +1,11 @@
 -- The nodes of numbers in their order tell what the kinds tell.
 use Rattle.std.proofs.Common.{◌≡◌, ℕ, ◌<◌, List, map, length, ap, sym, ◌∙◌, subst, Contains}
-use Rattle.std.proofs.lemmas.List.{get_or_default}
-use Rattle.std.proofs.lemmas.Simd.{map-map}
+use Rattle.std.proofs.{lemmas.List.get_or_default, lemmas.Simd.map-map}
 use Rattle.std.proofs.lemmas.List.Elements.{Contains-get_or, All-contains}
-use Rattle.tier_core.specs.declared.kind.Kind.{Kind}
-use Rattle.tier_core.specs.Kinds.{PrefixKind}
-use Rattle.answer_text.specs.declared.stage.Node.{Node}
-use Rattle.kind_orders.specs.Orderings.{IsOrdering}
-use Rattle.tier_core.specs.EmptyKind.{empty_kind}
+use Rattle.tier_core.specs.{declared.kind.Kind.Kind, Kinds.PrefixKind, EmptyKind.empty_kind}
 use Rattle.tier_core.specs.KindNumbers.{kind_numbered}
-use Rattle.kind_orders.specs.StageNodes.{node_numbered, AreNodesInOrder}
+use Rattle.answer_text.specs.declared.stage.Node.{Node}
+use Rattle.kind_orders.specs.{Orderings.IsOrdering, StageNodes.{node_numbered, AreNodesInOrder}}
 use Rattle.tier_core.proofs.Members.{contains_map, contains_of_map}
 
 module _ (kinds : List Kind) (order : List ℕ) (o : IsOrdering (length kinds) order) (tell : Kind → PrefixKind) where

@@ -1,21 +1,13 @@
 -- Numbers that are sorted by what they stand for are an order.
 use Rattle.std.proofs.Common.{◌≡◌, ◌≢◌, ℕ, ◌+◌, ◌<◌, List, [], length, get_or, sym, ◌∙◌, subst, arith, ⊎_elim, All}
-use Rattle.std.proofs.Common.{IsPermutation}
-use Rattle.std.specs.List.{range_with_len}
-use Rattle.std.specs.List.Sorted.{IsSortedByKey, IsStrictlySortedBy}
-use Rattle.std.proofs.lemmas.Bool.{cases_lt}
-use Rattle.std.proofs.lemmas.Nat.{pow_pos}
-use Rattle.std.proofs.lemmas.List.{get_or_past}
+use Rattle.std.proofs.{Common.IsPermutation, lemmas.Bool.cases_lt, lemmas.Nat.pow_pos, lemmas.List.get_or_past}
 use Rattle.std.proofs.lemmas.List.FromFn.{length-range_with_len, get_or-range_with_len}
 use Rattle.std.proofs.lemmas.List.Sorted.{All-permutation, Contains-permutation, length_permutation}
-use Rattle.tier_core.specs.declared.kind.Kind.{Kind}
-use Rattle.tier_core.specs.declared.shape.Shape.{Shape}
-use Rattle.tier_core.specs.Kinds.{kind_order}
-use Rattle.tier_core.specs.KindShapes.{FitsShape, free_count, stretch_count, kind_in}
-use Rattle.kind_orders.specs.Orderings.{IsOrdering}
-use Rattle.tier_core.specs.EmptyKind.{empty_kind}
+use Rattle.std.specs.{List.range_with_len, List.Sorted.{IsSortedByKey, IsStrictlySortedBy}}
+use Rattle.tier_core.specs.{declared.kind.Kind.Kind, declared.shape.Shape.Shape, Kinds.kind_order}
+use Rattle.tier_core.specs.{KindShapes.{FitsShape, free_count, stretch_count, kind_in}, EmptyKind.empty_kind}
 use Rattle.tier_core.specs.KindNumbers.{kind_numbered}
-use Rattle.kind_orders.specs.KindOrders.{AreDistinctKinds, prefix_kind_at, IsKindOrder}
+use Rattle.kind_orders.specs.{Orderings.IsOrdering, KindOrders.{AreDistinctKinds, prefix_kind_at, IsKindOrder}}
 use Rattle.symbol_class.proofs.Pairs.{pairs_apart, pairs_permuted}
 use Rattle.tier_core.proofs.KindTies.{same_kind, kind_order_total}
 use Rattle.kind_orders.proofs.Strict.{strict_from_sorted}

@@ -4,24 +4,17 @@ use Rattle.std.proofs.Common.{subst, arith, ⊎_elim, inl, inr, All, AllPairs, C
 use Rattle.std.proofs.lemmas.Bool.{false≢true, cases_lt, cases_order}
 use Rattle.std.proofs.lemmas.List.{get_or_default, get_or_past, length-map}
 use Rattle.std.proofs.lemmas.List.Elements.{All-contains, Contains-get_or}
-use Rattle.tier_core.specs.declared.sym.Sym.{Sym}
-use Rattle.tier_core.specs.Classes.{sets_of, has}
-use Rattle.tier_core.proofs.ClassLemmas.{same_width}
+use Rattle.tier_core.specs.{declared.sym.Sym.Sym, Classes.{sets_of, has}}
+use Rattle.tier_core.proofs.{ClassLemmas.same_width, Members.{contains_map, contains_of_map, All-from_members}}
 use Rattle.weight_law.specs.declared.Weight.{Ghosts}
-use Rattle.arc_table.specs.declared.arc.TableArc.{TableArc}
-use Rattle.arc_table.specs.declared.state.TableState.{TableState}
-use Rattle.arc_table.specs.Conditions.{TargetsExist, ClassesDisjoint}
-use Rattle.arc_table.specs.Moves.{moves_at, accepting_at}
+use Rattle.arc_table.specs.{declared.arc.TableArc.TableArc, declared.state.TableState.TableState}
+use Rattle.arc_table.specs.{Conditions.{TargetsExist, ClassesDisjoint}, Moves.{moves_at, accepting_at}}
 use Rattle.arc_table.specs.Runs.{IsRun, IsPath, Reads, Accepts as IsAccepted}
 use Rattle.arc_table.proofs.Push.{moves_exist}
-use Rattle.answer_text.specs.declared.automaton.ArcLine.{ArcLine}
-use Rattle.answer_text.specs.declared.automaton.StateLine.{StateLine}
-use Rattle.answer_text.specs.Acceptance.{IsFinalState, Leads, Accepts}
-use Rattle.answer_text.specs.Right.{numbers_of, AreRightArcs}
-use Rattle.kind_orders.specs.AutomatonLines.{IsLineOf, AreLinesOf}
-use Rattle.kind_orders.specs.JoinedArcs.{AreJoined, HaveJoinedArcs}
+use Rattle.answer_text.specs.{declared.automaton.ArcLine.ArcLine, declared.automaton.StateLine.StateLine}
+use Rattle.answer_text.specs.{Acceptance.{IsFinalState, Leads, Accepts}, Right.{numbers_of, AreRightArcs}}
+use Rattle.kind_orders.specs.{AutomatonLines.{IsLineOf, AreLinesOf}, JoinedArcs.{AreJoined, HaveJoinedArcs}}
 use Rattle.kind_orders.specs.Automata.{HasWidth, ReadsTo, IsAutomatonOf}
-use Rattle.tier_core.proofs.Members.{contains_map, contains_of_map, All-from_members}
 use Rattle.kind_orders.proofs.ArcOrder.{arcs_apart, arcs_filled, move_from, arc_from}
 
 module _ {W : Type 0} {g : Ghosts W} (kept : List (TableState W g)) where

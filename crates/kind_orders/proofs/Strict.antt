@@ -1,13 +1,10 @@
 -- Sorted lists in which no two elements tie.
 use Rattle.std.proofs.Common.{◌≡◌, ◌≢◌, ◌+◌, ◌<◌, true, false, List, map, length, get_or, refl, ap, ap₂, ◌∙◌, arith}
-use Rattle.std.proofs.Common.{AllPairs, true≢false}
-use Rattle.std.specs.Cmp.{IsTotalOrder}
-use Rattle.std.specs.List.Sorted.{IsSortedByKey, IsStrictlySortedBy}
-use Rattle.std.specs.Ordering.{ordering_reverse, is_lt}
-use Rattle.std.specs.declared.cmp.Ordering.{Ordering}
-use Rattle.std.specs.declared.cmp.Ordering.TheVariants.{Less, Equal, Greater}
-use Rattle.std.proofs.lemmas.List.{get_or-map, length-map}
+use Rattle.std.proofs.{Common.{AllPairs, true≢false}, lemmas.List.{get_or-map, length-map}}
 use Rattle.std.proofs.lemmas.Map.Keys.{sorted_from_all_adjacent}
+use Rattle.std.specs.{Cmp.IsTotalOrder, List.Sorted.{IsSortedByKey, IsStrictlySortedBy}}
+use Rattle.std.specs.{Ordering.{ordering_reverse, is_lt}, declared.cmp.Ordering.Ordering}
+use Rattle.std.specs.declared.cmp.Ordering.TheVariants.{Less, Equal, Greater}
 
 module _ {X K : Type 0} {R : K → K → Ordering} (o : IsTotalOrder R) (key : X → K) where
   less_from : (x y : K) → is_lt (R y x) ≡ false → R x y ≢ Equal → R x y ≡ Less

@@ -1,13 +1,10 @@
 -- The lines that are tried: those to one target, and then those to a greater one.
-use Rattle.std.proofs.Common.{◌≡◌, ℕ, ◌≤◌, List, [], ◌∷◌, ◌++◌, map, refl, ap, ap₂, sym, ◌∙◌, subst, arith, AllPairs}
-use Rattle.std.proofs.lemmas.List.{map-append}
-use Rattle.std.proofs.lemmas.List.Elements.{All-map, All-contains}
+use Rattle.std.proofs.Common.{◌≡◌, ℕ, ◌≤◌, List, [], ◌∷◌, ◌++◌, map, refl, ap, ap₂, sym, ◌∙◌, subst, arith}
+use Rattle.std.proofs.{Common.AllPairs, lemmas.List.map-append, lemmas.List.Elements.{All-map, All-contains}}
 use Rattle.tier_core.specs.declared.class.Class.{Class}
 use Rattle.symbol_class.specs.Held.{width_of, ArePieces}
-use Rattle.symbol_class.proofs.Pairs.{pairs_map}
-use Rattle.symbol_class.proofs.JoinedClasses.{pieces_of_width}
-use Rattle.answer_text.specs.declared.automaton.ArcLine.{ArcLine}
-use Rattle.answer_text.specs.ArcClasses.{arc_classes}
+use Rattle.symbol_class.proofs.{Pairs.pairs_map, JoinedClasses.pieces_of_width}
+use Rattle.answer_text.specs.{declared.automaton.ArcLine.ArcLine, ArcClasses.arc_classes}
 use Rattle.kind_orders.specs.JoinedLines.{arc_to}
 use Rattle.kind_orders.proofs.GroupSteps.{pairs-append}
 

@@ -1,26 +1,18 @@
 -- Elements that are entries, gone through one by one.
 use Rattle.std.proofs.Common.{◌≡◌, ℕ, ◌+◌, ◌<◌, Bool, true, false, cond, Some, None, List, [], ◌∷◌, ◌++◌, length}
 use Rattle.std.proofs.Common.{get_or, take, drop, map, refl, ap, sym, ◌∙◌, subst, arith}
-use Rattle.std.specs.List.{AllZip, list_any}
-use Rattle.std.specs.Str.{bytes_eq}
 use Rattle.std.proofs.lemmas.List.{length-map, length-take-le, map-append, map_push, take-append-drop, drop_more}
 use Rattle.std.proofs.lemmas.List.{take_more}
-use Rattle.toml.specs.Data.{Data}
-use Rattle.toml.specs.View.{view, items_view}
-use Rattle.toml.specs.declared.value.Value.{Value}
-use Rattle.timeline_text.specs.declared.form_err.FormErr.{FormErr}
-use Rattle.timeline_text.specs.declared.letter.Letter.{Letter}
+use Rattle.std.specs.{List.{AllZip, list_any}, Str.bytes_eq}
+use Rattle.toml.specs.{Data.Data, View.{view, items_view}, declared.value.Value.Value}
+use Rattle.timeline_text.specs.{declared.form_err.FormErr.FormErr, declared.letter.Letter.Letter}
 use Rattle.grammar_reader.specs.Names.{has_twice}
-use Rattle.grammar_reader.proofs.Lists.{list_any-map}
-use Rattle.grammar_reader.proofs.Twice.{once_push}
+use Rattle.grammar_reader.proofs.{Lists.list_any-map, Twice.once_push}
 use Rattle.form_reader.specs.Forms.{IsRefusedFor}
-use Rattle.lexicon.specs.declared.entry.Entry.{Entry}
-use Rattle.lexicon.specs.declared.lex_err.LexErr.{LexErr}
+use Rattle.lexicon.specs.{declared.entry.Entry.Entry, declared.lex_err.LexErr.LexErr}
 use Rattle.lexicon.specs.declared.lex_err.LexErr.TheVariants.{BadEntry, TwiceNamed, BadForm}
-use Rattle.lexicon.specs.Elements.{list_of, entry_words}
-use Rattle.lexicon.specs.Entries.{LexicalEntry, AreEntries, IsEntry, IsEntryFault, IsFirstEntryFault, is_among}
-use Rattle.lexicon.specs.Entries.{names_of}
-use Rattle.lexicon.specs.Seen.{entries_seen, entry_seen}
+use Rattle.lexicon.specs.{Elements.{list_of, entry_words}, Entries.{LexicalEntry, AreEntries, IsEntry, IsEntryFault}}
+use Rattle.lexicon.specs.{Entries.{IsFirstEntryFault, is_among, names_of}, Seen.{entries_seen, entry_seen}}
 use denote.Ref.{Bor}
 
 -- the elements of an array are what its values stand for

@@ -1,24 +1,20 @@
 -- Elements are entries, or one of them is the first that is none, and never both.
 use Rattle.std.proofs.Common.{◌≡◌, ◌⊎◌, inl, inr, ℕ, false, Option, Some, List, [], ◌∷◌, ◌++◌, length, append-nil}
-use Rattle.std.proofs.Common.{append_assoc, refl, ap, sym, ◌∙◌, subst}
+use Rattle.std.proofs.{Common.{append_assoc, refl, ap, sym, ◌∙◌, subst}, lemmas.Bool.false≢true}
+use Rattle.std.proofs.{lemmas.List.map-append, lemmas.Option.same_Some}
 use Rattle.std.specs.List.{AllZip}
-use Rattle.std.proofs.lemmas.Bool.{false≢true}
-use Rattle.std.proofs.lemmas.List.{map-append}
-use Rattle.std.proofs.lemmas.Option.{same_Some}
 use Rattle.toml.specs.Data.{Data}
 use Rattle.tier_core.specs.declared.sym.Sym.{Sym}
-use Rattle.timeline_text.specs.declared.form_err.FormErr.{FormErr}
-use Rattle.timeline_text.specs.declared.letter.Letter.{Letter}
+use Rattle.timeline_text.specs.{declared.form_err.FormErr.FormErr, declared.letter.Letter.Letter}
 use Rattle.timeline_text.proofs.Searches.{by_test, by_option, none_some}
 use Rattle.grammar_reader.specs.Names.{has_twice}
 use Rattle.grammar_reader.proofs.Twice.{twice_after}
 use Rattle.form_reader.specs.Forms.{HasFormOrCause, IsReadAs, IsRefusedFor}
 use Rattle.form_reader.proofs.ReadingLemmas.{has_form, not_refused, one_reading, one_refusal}
-use Rattle.lexicon.specs.declared.lex_err.LexErr.{LexErr}
-use Rattle.lexicon.specs.declared.lex_err.LexErr.TheVariants.{NotToml, TooMany, BadEntry, TwiceNamed, BadForm, NoMemory}
-use Rattle.lexicon.specs.Elements.{entry_words}
-use Rattle.lexicon.specs.Entries.{LexicalEntry, AreEntries, HasBadForm, IsEntry, IsEntryFault, IsFirstEntryFault}
-use Rattle.lexicon.specs.Entries.{IsTwiceNamed, is_among, names_of}
+use Rattle.lexicon.specs.{declared.lex_err.LexErr.LexErr, declared.lex_err.LexErr.TheVariants.{NotToml, TooMany}}
+use Rattle.lexicon.specs.declared.lex_err.LexErr.TheVariants.{BadEntry, TwiceNamed, BadForm, NoMemory}
+use Rattle.lexicon.specs.{Elements.entry_words, Entries.{LexicalEntry, AreEntries, HasBadForm, IsEntry, IsEntryFault}}
+use Rattle.lexicon.specs.Entries.{IsFirstEntryFault, IsTwiceNamed, is_among, names_of}
 use Rattle.lexicon.proofs.EntryLemmas.{no_entries, one_more}
 
 same_names : {o : Option (List ℕ × List ℕ)} (m n v w : List ℕ) → o ≡ Some (m, v) → o ≡ Some (n, w) → m ≡ n

@@ -1,14 +1,10 @@
 -- Bytes are a lexicon, or they have a cause, and never both.
 use Rattle.std.proofs.Common.{◌≡◌, ◌⊎◌, inl, inr, ℕ, ◌<◌, ◌≤◌, Bool, true, false, nat_lt, Option, Some, None}
 use Rattle.std.proofs.Common.{option_map, List, codes, length, map, MatchBool, refl, ap, sym, ◌∙◌, subst, arith}
-use Rattle.std.specs.Str.{is_utf8}
-use Rattle.std.proofs.lemmas.Bool.{false≢true}
-use Rattle.std.proofs.lemmas.Bool.Decides.{nat_tests}
-use Rattle.std.proofs.lemmas.Option.{same_Some}
+use Rattle.std.proofs.{lemmas.Bool.false≢true, lemmas.Bool.Decides.nat_tests, lemmas.Option.same_Some}
 use Rattle.std.proofs.lemmas.Str.{IsUtf8-from_is_utf8, is_utf8-from_IsUtf8}
-use Rattle.toml.specs.Data.{Data, Members, as_array, get_member}
-use Rattle.toml.specs.Parse.{parse_document}
-use Rattle.toml.specs.View.{view, items_view}
+use Rattle.std.specs.Str.{is_utf8}
+use Rattle.toml.specs.{Data.{Data, Members, as_array, get_member}, Parse.parse_document, View.{view, items_view}}
 use Rattle.toml.specs.declared.value.Value.{Value}
 use Rattle.timeline_text.specs.declared.letter.Letter.{Letter}
 use Rattle.timeline_text.proofs.Searches.{by_test, by_option, none_some}

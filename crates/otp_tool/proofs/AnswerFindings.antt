@@ -7,17 +7,14 @@ use Rattle.timeline_text.proofs.Deciding.{not_both}
 use Rattle.timeline_text.specs.declared.form_err.FormErr.{FormErr}
 use Rattle.form_reader.specs.Forms.{IsRefusedFor}
 use Rattle.form_reader.proofs.ReadingLemmas.{not_refused, one_cause, one_reading, one_refusal}
-use Rattle.violation.specs.Problems.{Problem, last_stage}
-use Rattle.violation.specs.Rests.{AreWholeKindsOver, AreWholeKindsWithin}
-use Rattle.otp_tool.specs.Scored.{IsNotScored, IsScored}
-use Rattle.otp_tool.specs.Grammars.{IsAsked, OnProblem, grammar_inputs}
-use Rattle.otp_tool.specs.Findings.{Finding, FindsForAnswer, FindsForCanon, FindsForOnce, FindsForScore, IsOverBudget}
-use Rattle.otp_tool.specs.Findings.{long_file, no_grammar, no_form, long_second, no_rows, no_lexicon, no_answer}
-use Rattle.otp_tool.specs.Findings.{over_budget, ready}
-use Rattle.otp_tool.specs.Steps.{IsFindingOf, RefusesForm}
+use Rattle.violation.specs.{Problems.{Problem, last_stage}, Rests.{AreWholeKindsOver, AreWholeKindsWithin}}
+use Rattle.otp_tool.specs.{Scored.{IsNotScored, IsScored}, Grammars.{IsAsked, OnProblem, grammar_inputs}}
+use Rattle.otp_tool.specs.Findings.{Finding, FindsForAnswer, FindsForCanon, FindsForOnce, FindsForScore}
+use Rattle.otp_tool.specs.Findings.{IsOverBudget, long_file, no_grammar, no_form, long_second, no_rows, no_lexicon}
+use Rattle.otp_tool.specs.{Findings.{no_answer, over_budget, ready}, Steps.{IsFindingOf, RefusesForm}}
 use Rattle.otp_tool.proofs.Choices.{equal_where, one_choice, one_of}
-use Rattle.cert_check.specs.Seen.{AreAskedAlike}
 use Rattle.otp_tool.proofs.ConstraintLemmas.{first_over_alike, same_stages, whole_over_within}
+use Rattle.cert_check.specs.Seen.{AreAskedAlike}
 
 -- ---- in `canon`
 

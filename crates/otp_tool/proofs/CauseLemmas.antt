@@ -1,17 +1,14 @@
 -- All that is promised of a status is read off its outcome.
 use Rattle.std.proofs.Common.{◌≡◌, ◌⊎◌, inl, inr, ◌↔◌, ℕ, List, refl, subst}
-use Rattle.command_line.specs.declared.status.Status.{Status}
-use Rattle.command_line.specs.declared.status.Status.TheVariants.{Done, No, Usage, GrammarRefused, FormRefused}
-use Rattle.command_line.specs.declared.status.Status.TheVariants.{LexiconRefused, AnswerRefused, Budget, ReadFault}
-use Rattle.command_line.specs.declared.status.Status.TheVariants.{WriteFault, NoMemory, RowsRefused, TooLong}
+use Rattle.command_line.specs.{declared.status.Status.Status, declared.status.Status.TheVariants.{Done, No, Usage}}
+use Rattle.command_line.specs.declared.status.Status.TheVariants.{GrammarRefused, FormRefused, LexiconRefused}
+use Rattle.command_line.specs.declared.status.Status.TheVariants.{AnswerRefused, Budget, ReadFault, WriteFault}
+use Rattle.command_line.specs.declared.status.Status.TheVariants.{NoMemory, RowsRefused, TooLong}
 use Rattle.command_line.specs.Commands.{IsNoCommand}
 use Rattle.otp_tool.specs.Findings.{Finding, long_file, long_second, no_grammar, no_form, no_rows, no_lexicon}
-use Rattle.otp_tool.specs.Findings.{no_answer, over_budget, ready}
-use Rattle.otp_tool.specs.Endings.{IsStatusOf}
-use Rattle.otp_tool.specs.Outcomes.{IsBehind, IsTooLong}
-use Rattle.otp_tool.specs.Steps.{Change, IsOutcome}
-use Rattle.otp_tool.proofs.DueLemmas.{complete, due, no_fault_counted, untouched}
-use Rattle.otp_tool.proofs.VerdictLemmas.{settled}
+use Rattle.otp_tool.specs.{Findings.{no_answer, over_budget, ready}, Endings.IsStatusOf}
+use Rattle.otp_tool.specs.{Outcomes.{IsBehind, IsTooLong}, Steps.{Change, IsOutcome}}
+use Rattle.otp_tool.proofs.{DueLemmas.{complete, due, no_fault_counted, untouched}, VerdictLemmas.settled}
 
 module _ (words : List (List ℕ)) (c : Change) where
   -- words that something is behind are a command

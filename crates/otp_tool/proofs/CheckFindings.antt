@@ -1,16 +1,13 @@
 -- `check` finds one thing in its grammar and the file of an answer.
-use Rattle.std.proofs.Common.{◌≡◌, ◌⊎◌, inl, inr, ℕ, ◌<◌, Bool, true, false, List, length, Result, Ok, Err, refl, ap}
-use Rattle.std.proofs.Common.{sym, ◌∙◌}
-use Rattle.std.proofs.lemmas.Bool.{false≢true}
+use Rattle.std.proofs.Common.{◌≡◌, ◌⊎◌, inl, inr, ℕ, ◌<◌, Bool, true, false, List, length, Result, Ok, Err, refl}
+use Rattle.std.proofs.{Common.{ap, sym, ◌∙◌}, lemmas.Bool.false≢true}
 use Rattle.grammar_reader.specs.Values.{GrammarValue}
 use Rattle.answer_reader.specs.Steps.{At}
 use Rattle.answer_text.specs.Values.{AnswerValue}
-use Rattle.otp_tool.specs.Answers.{HasAnswer, IsAnswerFile}
-use Rattle.otp_tool.specs.Findings.{Finding, FindsForCheck, long_file, no_grammar, no_form, long_second, no_rows}
-use Rattle.otp_tool.specs.Findings.{no_lexicon, no_answer, over_budget, ready}
-use Rattle.otp_tool.specs.Steps.{IsFindingOf}
-use Rattle.otp_tool.proofs.Choices.{one_choice, one_of, too_long}
-use Rattle.otp_tool.proofs.ShapesAlike.{same_reading, shapes_alike}
+use Rattle.otp_tool.specs.{Answers.{HasAnswer, IsAnswerFile}, Findings.{Finding, FindsForCheck, long_file}}
+use Rattle.otp_tool.specs.Findings.{no_grammar, no_form, long_second, no_rows, no_lexicon, no_answer, over_budget}
+use Rattle.otp_tool.specs.{Findings.ready, Steps.IsFindingOf}
+use Rattle.otp_tool.proofs.{Choices.{one_choice, one_of, too_long}, ShapesAlike.{same_reading, shapes_alike}}
 
 -- a file is read as one thing
 pub one_reading : (g : GrammarValue) (bytes : List ℕ) (r q : Result AnswerValue At) → IsAnswerFile g bytes r

@@ -1,40 +1,24 @@
 -- What `check` does with a grammar and the file of an answer.
 use Rattle.std.proofs.Common.{◌≡◌, inl, inr, ℕ, ◌≤◌, List, length, Result, Ok, Err, refl, ap, sym, subst}
-use Rattle.outside.specs.Writers.{Puts}
-use Rattle.outside.specs.declared.sink.Sink.{Ghosts}
-use Rattle.outside.specs.declared.sink.WriteErr.{WriteErr}
+use Rattle.std.proofs.lemmas.Bool.{false≢true}
+use Rattle.outside.specs.{Writers.Puts, declared.sink.Sink.Ghosts, declared.sink.WriteErr.WriteErr}
 use Rattle.outside.specs.declared.sink.WriteErr.TheVariants.{Failed, NoMemory as NoRoom}
 use Rattle.tier_core.specs.declared.shape.Shape.{Shape}
-use Rattle.grammar_reader.specs.declared.grammar.Grammar.{Grammar}
-use Rattle.grammar_reader.specs.Grammars.{value_of}
-use Rattle.grammar_reader.specs.ShapeOf.{IsShapeOf}
-use Rattle.answer_text.specs.declared.answer.Answer.{Answer}
-use Rattle.answer_text.specs.Readable.{IsReadable}
-use Rattle.answer_text.specs.Shape.{widths_of}
-use Rattle.answer_text.specs.Sound.{IsSound}
-use Rattle.answer_text.specs.Text.{Widths}
-use Rattle.answer_reader.specs.Reading.{IsTextOf, answer_of}
-use Rattle.answer_reader.specs.Steps.{At}
-use Rattle.answer_text.specs.Values.{answer_value}
-use Rattle.cert_check.specs.FirstFaults.{IsReadableFor, asked_by}
-use Rattle.cert_check.specs.Verdicts.{IsVerdict}
-use Rattle.cert_check.specs.declared.fault.Fault.{Fault}
-use Rattle.cert_check.specs.declared.fault.Verdict.{Verdict}
-use Rattle.cert_check.specs.declared.fault.Verdict.TheVariants.{Yes, No as Not}
+use Rattle.grammar_reader.specs.{declared.grammar.Grammar.Grammar, Grammars.value_of, ShapeOf.IsShapeOf}
+use Rattle.answer_text.specs.{declared.answer.Answer.Answer, Readable.IsReadable, Shape.widths_of, Sound.IsSound}
+use Rattle.answer_text.specs.{Text.Widths, Values.answer_value}
+use Rattle.answer_reader.specs.{Reading.{IsTextOf, answer_of}, Steps.At}
+use Rattle.cert_check.specs.{FirstFaults.{IsReadableFor, asked_by}, Verdicts.IsVerdict, declared.fault.Fault.Fault}
+use Rattle.cert_check.specs.{declared.fault.Verdict.Verdict, declared.fault.Verdict.TheVariants.{Yes, No as Not}}
 use Rattle.verdict_text.specs.VerdictText.{verdict_text}
 use Rattle.command_line.specs.declared.status.Status.{Status}
-use Rattle.otp_tool.specs.Answers.{IsJudged, IsReading, IsVerdictText}
-use Rattle.otp_tool.specs.Files.{IsHeld, answer_file}
-use Rattle.otp_tool.specs.Findings.{Finding, FindsForCheck, ready}
-use Rattle.otp_tool.specs.Results.{IsNoText, IsYesText, text_widths}
-use Rattle.otp_tool.specs.Steps.{Change, IsCheckStep, IsCheckWork, IsNoEnd, IsRefusal, IsSecondRefusal, RefusesAnswer}
-use Rattle.otp_tool.specs.Steps.{IsUntouched, SinkChange, no_end_of, taking_of, verdict_end}
+use Rattle.otp_tool.specs.{Answers.{IsJudged, IsReading, IsVerdictText}, Files.{IsHeld, answer_file}}
+use Rattle.otp_tool.specs.{Findings.{Finding, FindsForCheck, ready}, Results.{IsNoText, IsYesText, text_widths}}
+use Rattle.otp_tool.specs.Steps.{Change, IsCheckStep, IsCheckWork, IsNoEnd, IsRefusal, IsSecondRefusal}
+use Rattle.otp_tool.specs.Steps.{RefusesAnswer, IsUntouched, SinkChange, no_end_of, taking_of, verdict_end}
 use Rattle.otp_tool.proofs.GrammarLemmas.{same_requirements, same_tiers}
-use Rattle.otp_tool.proofs.RefusalLemmas.{refusal_weaker, second_refused}
-use Rattle.std.proofs.lemmas.Bool.{false≢true}
-use Rattle.otp_tool.proofs.CheckFindings.{is_read, one_reading}
-use Rattle.otp_tool.proofs.SettledLemmas.{settled_by, shape_for}
-use Rattle.otp_tool.proofs.StepLemmas.{same_shape_widths, written}
+use Rattle.otp_tool.proofs.{RefusalLemmas.{refusal_weaker, second_refused}, CheckFindings.{is_read, one_reading}}
+use Rattle.otp_tool.proofs.{SettledLemmas.{settled_by, shape_for}, StepLemmas.{same_shape_widths, written}}
 
 -- a text that says No is written
 module _ {O A : Type 0} {sink : Ghosts O} {old new : O} (writes : List ℕ

@@ -1,7 +1,6 @@
 -- A step refuses for one thing, or goes on to one thing.
 use Rattle.std.proofs.Common.{◌≡◌, ◌⊎◌, inl, inr, ℕ, zero, suc, ◌<◌, ◌≤◌, refl, ap, sym, ◌∙◌, arith}
-use Rattle.otp_tool.specs.Findings.{Finding}
-use Rattle.otp_tool.specs.Steps.{IsFindingOf}
+use Rattle.otp_tool.specs.{Findings.Finding, Steps.IsFindingOf}
 
 pub one_choice : (P Q : Finding → Type 0) → ((x y : Finding) → P x → P y → x ≡ y) → ((x y : Finding) → P x → Q y → ⊥)
     → ((x y : Finding) → Q x → Q y → x ≡ y) → (x y : Finding) → P x ⊎ Q x → P y ⊎ Q y → x ≡ y

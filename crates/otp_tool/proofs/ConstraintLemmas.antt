@@ -1,12 +1,9 @@
 -- Constraints that require the same, by their families and sides, have the same stages.
 use Rattle.std.proofs.Common.{◌≡◌, ℕ, ◌-◌, ◌≤◌, List, length, take, sym, ◌∙◌, subst, arith}
 use Rattle.std.proofs.lemmas.List.Elements.{All-weaker}
-use Rattle.tier_core.specs.declared.sym.Sym.{Sym}
-use Rattle.tier_core.specs.declared.constraint.Constraint.{Constraint}
-use Rattle.tier_core.specs.Kinds.{PrefixKind}
+use Rattle.tier_core.specs.{declared.sym.Sym.Sym, declared.constraint.Constraint.Constraint, Kinds.PrefixKind}
 use Rattle.grammar_reader.specs.Requirements.{requirements_seen}
-use Rattle.violation.specs.Candidates.{IsAtMost, IsCandidate, IsOptimalFor, vec}
-use Rattle.violation.specs.Problems.{Problem, last_stage}
+use Rattle.violation.specs.{Candidates.{IsAtMost, IsCandidate, IsOptimalFor, vec}, Problems.{Problem, last_stage}}
 use Rattle.violation.specs.Rests.{AreWholeKindsOver, AreWholeKindsWithin, IsWholeKind}
 use Rattle.violation.specs.Stages.{AreKindsOfStage, IsPassed}
 use Rattle.cert_check.specs.Seen.{AreAskedAlike}

@@ -1,17 +1,16 @@
 -- Where the shelf tells, each finding has its status.
 use Rattle.std.proofs.Common.{◌≡◌, ◌⊎◌, inl, inr, ℕ, List, Option, refl, ap, sym, ◌∙◌, subst}
 use Rattle.outside.specs.Faults.{Rose}
-use Rattle.command_line.specs.declared.status.Status.{Status}
-use Rattle.command_line.specs.declared.status.Status.TheVariants.{Done, No, Usage, GrammarRefused, FormRefused}
-use Rattle.command_line.specs.declared.status.Status.TheVariants.{LexiconRefused, AnswerRefused, Budget, ReadFault}
-use Rattle.command_line.specs.declared.status.Status.TheVariants.{WriteFault, NoMemory, RowsRefused, TooLong}
+use Rattle.command_line.specs.{declared.status.Status.Status, declared.status.Status.TheVariants.{Done, No, Usage}}
+use Rattle.command_line.specs.declared.status.Status.TheVariants.{GrammarRefused, FormRefused, LexiconRefused}
+use Rattle.command_line.specs.declared.status.Status.TheVariants.{AnswerRefused, Budget, ReadFault, WriteFault}
+use Rattle.command_line.specs.declared.status.Status.TheVariants.{NoMemory, RowsRefused, TooLong}
 use Rattle.command_line.specs.Commands.{Command, IsNoCommand}
 use Rattle.command_line.proofs.CommandLemmas.{one_command}
-use Rattle.otp_tool.specs.Findings.{Finding, Finds, long_file, no_grammar, no_form, long_second, no_rows, no_lexicon}
-use Rattle.otp_tool.specs.Findings.{no_answer, over_budget, ready}
+use Rattle.otp_tool.specs.Findings.{Finding, Finds, long_file, no_grammar, no_form, long_second, no_rows}
+use Rattle.otp_tool.specs.Findings.{no_lexicon, no_answer, over_budget, ready}
 use Rattle.otp_tool.specs.Outcomes.{HasReadFault, IsBeforeWriting, IsBehind, IsTold, IsTooLong, MayRead, Stands}
-use Rattle.otp_tool.specs.Outcomes.{answer_to}
-use Rattle.otp_tool.specs.Steps.{Change, IsOutcome, IsUntouched}
+use Rattle.otp_tool.specs.{Outcomes.answer_to, Steps.{Change, IsOutcome, IsUntouched}}
 use Rattle.otp_tool.proofs.OutcomeLemmas.{nothing_taken}
 
 -- what is found is what is told

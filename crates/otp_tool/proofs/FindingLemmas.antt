@@ -1,20 +1,15 @@
 -- A command finds one thing in its files.
-use Rattle.std.proofs.Common.{◌≡◌, ◌⊎◌, inl, inr, ℕ, ◌<◌, ◌≤◌, Bool, true, false, List, length, Ok, Err, Result, refl}
-use Rattle.std.proofs.Common.{ap, sym, ◌∙◌, subst}
-use Rattle.std.proofs.lemmas.Bool.{false≢true}
-use Rattle.grammar_reader.specs.Values.{GrammarValue}
-use Rattle.grammar_reader.specs.Reading.{At, grammar_of}
-use Rattle.command_line.specs.Commands.{Command, canon, score, generate, show, tableau, once, comprehend, check, sample}
-use Rattle.otp_tool.specs.Grammars.{IsFileOf, OnGrammar}
-use Rattle.otp_tool.specs.Findings.{Finding, Finds, FindsIn, long_file, no_grammar, no_form, long_second, no_rows}
-use Rattle.otp_tool.specs.Findings.{no_lexicon, no_answer, over_budget, ready}
-use Rattle.otp_tool.specs.Samples.{sample_word}
-use Rattle.otp_tool.specs.Steps.{IsFindingOf}
+use Rattle.std.proofs.Common.{◌≡◌, ◌⊎◌, inl, inr, ℕ, ◌<◌, ◌≤◌, Bool, true, false, List, length, Ok, Err, Result}
+use Rattle.std.proofs.{Common.{refl, ap, sym, ◌∙◌, subst}, lemmas.Bool.false≢true}
+use Rattle.grammar_reader.specs.{Values.GrammarValue, Reading.{At, grammar_of}}
+use Rattle.command_line.specs.Commands.{Command, canon, score, generate, show, tableau, once, comprehend, check}
+use Rattle.command_line.specs.Commands.{sample}
+use Rattle.otp_tool.specs.{Grammars.{IsFileOf, OnGrammar}, Findings.{Finding, Finds, FindsIn, long_file, no_grammar}}
+use Rattle.otp_tool.specs.Findings.{no_form, long_second, no_rows, no_lexicon, no_answer, over_budget, ready}
+use Rattle.otp_tool.specs.{Samples.sample_word, Steps.IsFindingOf}
 use Rattle.otp_tool.proofs.AnswerFindings.{all_ready, for_answer, for_once, for_score}
-use Rattle.otp_tool.proofs.Choices.{one_choice, one_of, too_long}
-use Rattle.otp_tool.proofs.CheckFindings.{for_check}
-use Rattle.otp_tool.proofs.HearingFindings.{for_hearing}
-use Rattle.otp_tool.proofs.TableauFindings.{for_tableau}
+use Rattle.otp_tool.proofs.{Choices.{one_choice, one_of, too_long}, CheckFindings.for_check}
+use Rattle.otp_tool.proofs.{HearingFindings.for_hearing, TableauFindings.for_tableau}
 
 in_grammar : (command : Command) (g : GrammarValue) (second : List ℕ) (x y : Finding) → FindsIn command g second x
     → FindsIn command g second y → x ≡ y

@@ -1,40 +1,25 @@
 -- What `generate` writes is read again, and gets Yes.
 use Rattle.std.proofs.Common.{ℕ, ◌+◌, ◌≤◌, List, filter, take, get_or, length, ap, sym, ◌∙◌, arith}
+use Rattle.std.proofs.{lemmas.List.length-map, lemmas.List.FromFn.get_or-map-range_with_len}
 use Rattle.std.specs.List.{AllByRecursion}
-use Rattle.std.proofs.lemmas.List.{length-map}
-use Rattle.std.proofs.lemmas.List.FromFn.{get_or-map-range_with_len}
-use Rattle.tier_core.specs.declared.shape.Shape.{Shape}
-use Rattle.tier_core.specs.Sides.{is_stretch}
-use Rattle.violation.specs.Conditions.{AreSplit, IsOverTiers}
-use Rattle.violation.specs.Prefixes.{kind_of_bits}
+use Rattle.tier_core.specs.{declared.shape.Shape.Shape, Sides.is_stretch}
+use Rattle.violation.specs.{Conditions.{AreSplit, IsOverTiers}, Prefixes.kind_of_bits}
 use Rattle.violation.specs.Problems.{Problem, problem_from, last_stage}
 use Rattle.violation.proofs.SplitLemmas.{tiers_split}
-use Rattle.grammar_reader.specs.declared.grammar.Grammar.{Grammar}
-use Rattle.grammar_reader.specs.Grammars.{value_of}
-use Rattle.grammar_reader.specs.ShapeOf.{IsShapeOf}
-use Rattle.grammar_reader.proofs.Shaping.{length-stretch_counts}
-use Rattle.grammar_reader.proofs.OverTiers.{over_tiers}
-use Rattle.answer_text.specs.declared.answer.Answer.{Answer}
-use Rattle.answer_text.specs.declared.stage.Node.{Node}
-use Rattle.answer_text.specs.Certified.{AreStatesInOrder}
-use Rattle.answer_text.specs.Orderly.{IsOrderly}
-use Rattle.answer_text.specs.Right.{kinds_at, nodes_at}
-use Rattle.answer_text.specs.Shape.{widths_of}
-use Rattle.answer_text.specs.Text.{Widths, answer_text}
+use Rattle.grammar_reader.specs.{declared.grammar.Grammar.Grammar, Grammars.value_of, ShapeOf.IsShapeOf}
+use Rattle.grammar_reader.proofs.{Shaping.length-stretch_counts, OverTiers.over_tiers}
+use Rattle.answer_text.specs.{declared.answer.Answer.Answer, declared.stage.Node.Node, Certified.AreStatesInOrder}
+use Rattle.answer_text.specs.{Orderly.IsOrderly, Right.{kinds_at, nodes_at}, Shape.widths_of}
+use Rattle.answer_text.specs.{Text.{Widths, answer_text}, Values.answer_value}
 use Rattle.answer_reader.specs.Reading.{IsTextOf}
-use Rattle.answer_text.specs.Values.{answer_value}
 use Rattle.answer_reader.proofs.WrittenAnswer.{read_back}
 use Rattle.check_laws.proofs.RightStates.{certified_from_right}
 use Rattle.right_laws.specs.Shapes.{IsShapeOfProblem}
 use Rattle.right_laws.proofs.Orders.{orderly_from_right}
-use Rattle.cert_check.specs.FirstFaults.{IsFaultless}
-use Rattle.cert_check.specs.declared.fault.Verdict.TheVariants.{Yes}
+use Rattle.cert_check.specs.{FirstFaults.IsFaultless, declared.fault.Verdict.TheVariants.Yes}
 use Rattle.cert_check.proofs.Faultless.{faultless_if_certified}
-use Rattle.otp_tool.specs.Answers.{IsJudged}
-use Rattle.otp_tool.specs.Results.{IsGeneratedText, whole_text}
-use Rattle.otp_tool.specs.Steps.{IsAnswerFor}
-use Rattle.otp_tool.proofs.GrammarLemmas.{same_requirements, same_tiers}
-use Rattle.otp_tool.proofs.SettledLemmas.{shape_for}
+use Rattle.otp_tool.specs.{Answers.IsJudged, Results.{IsGeneratedText, whole_text}, Steps.IsAnswerFor}
+use Rattle.otp_tool.proofs.{GrammarLemmas.{same_requirements, same_tiers}, SettledLemmas.shape_for}
 use Rattle.otp_tool.proofs.StepLemmas.{made_right, same_shape_widths, whole_written}
 
 module _ (g : Grammar) (form : List ℕ) (budget : ℕ) (few : budget ≤ 65536) (answer : Answer)

@@ -1,21 +1,13 @@
 -- Grammars as values and in the code.
-use Rattle.std.proofs.Common.{◌≡◌, List, map, string_bytes, ap, ◌∙◌}
-use Rattle.std.proofs.lemmas.List.{length-map}
-use Rattle.std.proofs.lemmas.Simd.{map-map}
-use Rattle.tier_core.specs.declared.sym.Sym.{Sym}
-use Rattle.tier_core.specs.Tiers.{tiers_by_kinds}
-use Rattle.tier_core.specs.Tables.{tiers_of_table}
-use Rattle.grammar_reader.specs.declared.grammar.Grammar.{Grammar}
-use Rattle.grammar_reader.specs.Grammars.{value_of}
+use Rattle.std.proofs.{Common.{◌≡◌, List, map, string_bytes, ap, ◌∙◌}, lemmas.List.length-map, lemmas.Simd.map-map}
+use Rattle.tier_core.specs.{declared.sym.Sym.Sym, Tiers.tiers_by_kinds, Tables.tiers_of_table}
+use Rattle.grammar_reader.specs.{declared.grammar.Grammar.Grammar, Grammars.value_of}
 use Rattle.grammar_reader.specs.Requirements.{requirement_of, requirements_of, requirements_seen}
-use Rattle.grammar_reader.specs.Seen.{constraint_seen}
-use Rattle.grammar_reader.specs.Values.{NamedConstraint}
+use Rattle.grammar_reader.specs.{Seen.constraint_seen, Values.NamedConstraint}
 use Rattle.grammar_reader.proofs.Shaping.{kinds_back}
 use Rattle.tableau.specs.Tableaux.{names_seen}
-use Rattle.violation.specs.Candidates.{vec}
-use Rattle.violation.specs.Counts.{viol}
-use Rattle.otp_tool.specs.Grammars.{constraint_names, tier_kinds, grammar_tiers}
-use Rattle.otp_tool.specs.Results.{vector_of}
+use Rattle.violation.specs.{Candidates.vec, Counts.viol}
+use Rattle.otp_tool.specs.{Grammars.{constraint_names, tier_kinds, grammar_tiers}, Results.vector_of}
 
 pub same_kinds : (g : Grammar) → tier_kinds (value_of g) ≡ g.tiers.kinds.items
 same_kinds g = kinds_back (map string_bytes g.tiers.names.items) g.tiers.kinds.items

@@ -5,21 +5,20 @@ use Rattle.tier_core.specs.declared.sym.Sym.{Sym}
 use Rattle.timeline_text.proofs.Deciding.{not_both as surface_and_refused}
 use Rattle.grammar_reader.specs.Values.{GrammarValue}
 use Rattle.form_reader.proofs.ReadingLemmas.{one_cause}
-use Rattle.lexicon.specs.declared.lex_err.LexErr.{LexErr}
-use Rattle.lexicon.specs.Entries.{LexicalEntry}
-use Rattle.lexicon.proofs.LexiconLemmas.{not_both as lexicon_and_refused, one_cause as one_lexicon_cause, one_lexicon}
+use Rattle.lexicon.specs.{declared.lex_err.LexErr.LexErr, Entries.LexicalEntry}
+use Rattle.lexicon.proofs.LexiconLemmas.{not_both as lexicon_and_refused, one_cause as one_lexicon_cause}
+use Rattle.lexicon.proofs.LexiconLemmas.{one_lexicon}
 use Rattle.ranked_gen.specs.Budgets.{IsFirstOver}
 use Rattle.comprehend.specs.Hears.{AreEntriesWithin, IsFirstEntryOver}
 use Rattle.violation.specs.Problems.{Problem}
-use Rattle.otp_tool.specs.Grammars.{AreAsked, grammar_inputs, overt_count}
-use Rattle.otp_tool.specs.Lexicons.{HasSurfaceWord, IsLexiconFile, IsNoLexiconFile, IsNoSurface, OnLexicon, forms_in}
+use Rattle.otp_tool.specs.{Grammars.{AreAsked, grammar_inputs, overt_count}, Lexicons.{HasSurfaceWord, IsLexiconFile}}
+use Rattle.otp_tool.specs.Lexicons.{IsNoLexiconFile, IsNoSurface, OnLexicon, forms_in}
 use Rattle.otp_tool.specs.Findings.{Finding, FindsForHearing, long_file, no_grammar, no_form, long_second, no_rows}
-use Rattle.otp_tool.specs.Findings.{no_lexicon, no_answer, over_budget, ready}
-use Rattle.otp_tool.specs.Steps.{IsFindingOf, RefusesSurface}
+use Rattle.otp_tool.specs.{Findings.{no_lexicon, no_answer, over_budget, ready}, Steps.{IsFindingOf, RefusesSurface}}
 use Rattle.otp_tool.proofs.AnswerFindings.{one_stage, over_within}
 use Rattle.otp_tool.proofs.Choices.{equal_where, one_choice, one_of, too_long}
-use Rattle.cert_check.specs.Seen.{AreAskedAlike}
 use Rattle.otp_tool.proofs.ConstraintLemmas.{all_within_alike, first_over_alike}
+use Rattle.cert_check.specs.Seen.{AreAskedAlike}
 
 -- ---- entries over the budget
 

@@ -1,39 +1,26 @@
 -- What `comprehend` does with a grammar, a surface and a lexicon file.
 use Rattle.std.proofs.Common.{◌≡◌, inl, inr, ℕ, ◌≤◌, List, length, Some, Result, refl, ap, sym, subst}
 use Rattle.std.proofs.lemmas.Simd.{map-map}
-use Rattle.outside.specs.Writers.{Puts}
-use Rattle.outside.specs.declared.sink.WriteErr.{WriteErr}
-use Rattle.outside.specs.declared.sink.Sink.{Ghosts as SinkGhosts}
+use Rattle.outside.specs.{Writers.Puts, declared.sink.WriteErr.WriteErr, declared.sink.Sink.Ghosts as SinkGhosts}
 use Rattle.outside.specs.declared.shelf.Shelf.{Ghosts as ShelfGhosts}
-use Rattle.tier_core.specs.declared.sym.Sym.{Sym}
-use Rattle.tier_core.specs.Tiers.{Tiers}
-use Rattle.tier_core.specs.Tables.{tiers_of_table}
-use Rattle.timeline_text.specs.declared.form_err.FormErr.{FormErr}
-use Rattle.timeline_text.specs.Texts.{IsTextOf}
-use Rattle.timeline_text.specs.Causes.{IsCause}
-use Rattle.grammar_reader.specs.declared.grammar.Grammar.{Grammar}
-use Rattle.grammar_reader.specs.Grammars.{value_of}
+use Rattle.tier_core.specs.{declared.sym.Sym.Sym, Tiers.Tiers, Tables.tiers_of_table}
+use Rattle.timeline_text.specs.{declared.form_err.FormErr.FormErr, Texts.IsTextOf, Causes.IsCause}
+use Rattle.grammar_reader.specs.{declared.grammar.Grammar.Grammar, Grammars.value_of}
 use Rattle.violation.specs.Problems.{Problem, problem_from}
-use Rattle.lexicon.specs.declared.entry.Entry.{Entry}
-use Rattle.lexicon.specs.declared.lex_err.LexErr.{LexErr}
-use Rattle.lexicon.specs.Entries.{LexicalEntry, names_of as names_in}
-use Rattle.lexicon.specs.Lexicons.{IsLexicon, IsLexiconCause}
+use Rattle.lexicon.specs.{declared.entry.Entry.Entry, declared.lex_err.LexErr.LexErr}
+use Rattle.lexicon.specs.{Entries.{LexicalEntry, names_of as names_in}, Lexicons.{IsLexicon, IsLexiconCause}}
 use Rattle.lexicon.specs.Seen.{entries_seen, entry_seen}
-use Rattle.comprehend.specs.declared.hit.Hit.{Hit}
-use Rattle.comprehend.specs.Hears.{AreEntriesWithin, Hears, forms_of}
+use Rattle.comprehend.specs.{declared.hit.Hit.Hit, Hears.{AreEntriesWithin, Hears, forms_of}}
 use Rattle.comprehend.specs.HitText.{hits_text, names_of}
 use Rattle.command_line.specs.declared.status.Status.{Status}
-use Rattle.otp_tool.specs.Files.{IsHeld, lexicon_file}
-use Rattle.otp_tool.specs.Grammars.{AreAsked, overt_count}
+use Rattle.otp_tool.specs.{Files.{IsHeld, lexicon_file}, Grammars.{AreAsked, overt_count}}
 use Rattle.otp_tool.specs.Lexicons.{HasSurfaceWord, IsLexiconFile, IsSurfaceOf, forms_in}
-use Rattle.otp_tool.specs.Findings.{FindsForHearing, no_form, no_lexicon, ready}
-use Rattle.otp_tool.specs.Results.{IsHeardText}
+use Rattle.otp_tool.specs.{Findings.{FindsForHearing, no_form, no_lexicon, ready}, Results.IsHeardText}
 use Rattle.otp_tool.specs.Steps.{Change, IsHearingWork, IsRefusal, IsSecondRefusal, RefusesEntry, RefusesLexicon}
 use Rattle.otp_tool.specs.Steps.{IsUntouched, RefusesSurface, change_of, write_status}
 use Rattle.otp_tool.proofs.GrammarLemmas.{same_requirements, same_tiers}
 use Rattle.otp_tool.proofs.RefusalLemmas.{entry_for_hearing, lexicon_for_hearing, refusal_weaker, refused_before}
-use Rattle.otp_tool.proofs.RefusalLemmas.{second_refused, surface_for_hearing}
-use Rattle.otp_tool.proofs.StepLemmas.{written}
+use Rattle.otp_tool.proofs.{RefusalLemmas.{second_refused, surface_for_hearing}, StepLemmas.written}
 
 -- ---- reading
 

@@ -1,33 +1,21 @@
 -- What `once` does with a grammar and a form.
 use Rattle.std.proofs.Common.{◌≡◌, ℕ, ◌+◌, ◌-◌, List, length, filter, take, get_or, Result, ap, ◌∙◌, arith}
-use Rattle.std.proofs.lemmas.List.{take_all}
-use Rattle.std.proofs.lemmas.List.FromFn.{get_or-map-range_with_len}
-use Rattle.outside.specs.Writers.{Puts}
-use Rattle.outside.specs.declared.sink.Sink.{Ghosts}
-use Rattle.outside.specs.declared.sink.WriteErr.{WriteErr}
-use Rattle.tier_core.specs.declared.sym.Sym.{Sym}
-use Rattle.tier_core.specs.declared.constraint.Constraint.{Constraint}
-use Rattle.tier_core.specs.declared.shape.Shape.{Shape}
-use Rattle.tier_core.specs.Shapes.{masked_count}
-use Rattle.tier_core.specs.Sides.{is_stretch}
+use Rattle.std.proofs.{lemmas.List.take_all, lemmas.List.FromFn.get_or-map-range_with_len}
+use Rattle.outside.specs.{Writers.Puts, declared.sink.Sink.Ghosts, declared.sink.WriteErr.WriteErr}
+use Rattle.tier_core.specs.{declared.sym.Sym.Sym, declared.constraint.Constraint.Constraint}
+use Rattle.tier_core.specs.{declared.shape.Shape.Shape, Shapes.masked_count, Sides.is_stretch}
 use Rattle.tier_core.proofs.TableMasks.{free_tiers}
-use Rattle.grammar_reader.specs.declared.grammar.Grammar.{Grammar}
-use Rattle.grammar_reader.specs.Grammars.{value_of}
+use Rattle.grammar_reader.specs.{declared.grammar.Grammar.Grammar, Grammars.value_of}
 use Rattle.grammar_reader.specs.ShapeOf.{IsShapeOf, stretch_counts}
 use Rattle.grammar_reader.proofs.Shaping.{length-stretch_counts}
-use Rattle.violation.specs.Problems.{Problem, problem_from}
-use Rattle.violation.specs.Rests.{AreWholeKindsWithin}
+use Rattle.violation.specs.{Problems.{Problem, problem_from}, Rests.AreWholeKindsWithin}
 use Rattle.answer_text.specs.declared.once_answer.OnceAnswer.{OnceAnswer}
-use Rattle.answer_text.specs.OnceText.{OnceWidths, once_text, once_widths_of}
-use Rattle.answer_text.specs.RightOnce.{IsRightOnce}
+use Rattle.answer_text.specs.{OnceText.{OnceWidths, once_text, once_widths_of}, RightOnce.IsRightOnce}
 use Rattle.command_line.specs.declared.status.Status.{Status}
-use Rattle.otp_tool.specs.Grammars.{IsAsked}
-use Rattle.otp_tool.specs.Findings.{FindsForOnce, ready}
-use Rattle.kind_orders.specs.JoinedArcs.{HaveJoinedArcs}
-use Rattle.otp_tool.specs.Results.{IsOnceText, once_widths}
+use Rattle.otp_tool.specs.{Grammars.IsAsked, Findings.{FindsForOnce, ready}, Results.{IsOnceText, once_widths}}
 use Rattle.otp_tool.specs.Steps.{IsRefusal, IsStep, RefusesForm, RefusesOnce, write_status, taking_of}
-use Rattle.otp_tool.proofs.RefusalLemmas.{budget_for_once, form_for_once, refusal_weaker}
-use Rattle.otp_tool.proofs.StepLemmas.{written}
+use Rattle.kind_orders.specs.JoinedArcs.{HaveJoinedArcs}
+use Rattle.otp_tool.proofs.{RefusalLemmas.{budget_for_once, form_for_once, refusal_weaker}, StepLemmas.written}
 
 -- ---- the widths of the text
 

@@ -2,22 +2,20 @@
 use Rattle.std.proofs.Common.{◌≡◌, ◌⊎◌, inl, inr, ℕ, zero, suc, ◌<◌, ◌≤◌, List, [], ◌∷◌, length, Option, Some, None}
 use Rattle.std.proofs.Common.{IfSome, refl, ap, sym, subst, arith}
 use Rattle.std.specs.Option.{option_map}
-use Rattle.outside.specs.Faults.{Rose}
-use Rattle.outside.specs.Sent.{append_if_seen, HasSentPart}
-use Rattle.command_line.specs.declared.status.Status.{Status}
-use Rattle.command_line.specs.declared.status.Status.TheVariants.{Done, No, Usage, GrammarRefused, FormRefused}
-use Rattle.command_line.specs.declared.status.Status.TheVariants.{LexiconRefused, AnswerRefused, Budget, ReadFault}
-use Rattle.command_line.specs.declared.status.Status.TheVariants.{WriteFault, NoMemory, RowsRefused, TooLong}
-use Rattle.grammar_reader.specs.Values.{GrammarValue}
+use Rattle.outside.specs.{Faults.Rose, Sent.{append_if_seen, HasSentPart}}
+use Rattle.command_line.specs.{declared.status.Status.Status, declared.status.Status.TheVariants.{Done, No, Usage}}
+use Rattle.command_line.specs.declared.status.Status.TheVariants.{GrammarRefused, FormRefused, LexiconRefused}
+use Rattle.command_line.specs.declared.status.Status.TheVariants.{AnswerRefused, Budget, ReadFault, WriteFault}
+use Rattle.command_line.specs.declared.status.Status.TheVariants.{NoMemory, RowsRefused, TooLong}
 use Rattle.command_line.specs.Commands.{Command, IsCommand, named_grammar}
+use Rattle.grammar_reader.specs.Values.{GrammarValue}
 use Rattle.otp_tool.specs.Files.{IsHeld, IsSecondHeld, NamedFile, faults_of, grammar_told, second_file}
-use Rattle.otp_tool.specs.Grammars.{OnGrammar}
-use Rattle.otp_tool.specs.Findings.{Finding, FindsIn, Finds, ReachesSecondFile, long_file, no_grammar, no_form}
-use Rattle.otp_tool.specs.Findings.{long_second, no_rows, no_lexicon, no_answer, over_budget, ready}
-use Rattle.otp_tool.specs.Results.{IsNoResult, IsResult, IsAnyResult}
-use Rattle.otp_tool.specs.Outcomes.{HasReadFault, IsBehind, IsWrittenBehind, MayRead}
-use Rattle.otp_tool.specs.Steps.{Change, IsWriteStatus, IsLoadRefusal, IsLoaded, IsNoEnd, IsNotRead, IsOutcome}
-use Rattle.otp_tool.specs.Steps.{IsPartTaken, IsRefusal, IsStep, IsUntouched, IsWork, IsWorkOf, SinkChange}
+use Rattle.otp_tool.specs.{Grammars.OnGrammar, Findings.{Finding, FindsIn, Finds, ReachesSecondFile, long_file}}
+use Rattle.otp_tool.specs.Findings.{no_grammar, no_form, long_second, no_rows, no_lexicon, no_answer, over_budget}
+use Rattle.otp_tool.specs.{Findings.ready, Results.{IsNoResult, IsResult, IsAnyResult}}
+use Rattle.otp_tool.specs.{Outcomes.{HasReadFault, IsBehind, IsWrittenBehind, MayRead}, Steps.{Change, IsWriteStatus}}
+use Rattle.otp_tool.specs.Steps.{IsLoadRefusal, IsLoaded, IsNoEnd, IsNotRead, IsOutcome, IsPartTaken, IsRefusal}
+use Rattle.otp_tool.specs.Steps.{IsStep, IsUntouched, IsWork, IsWorkOf, SinkChange}
 
 -- so many bytes
 abbrev zeros : ℕ → List ℕ

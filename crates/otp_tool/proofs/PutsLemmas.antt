@@ -1,10 +1,8 @@
 -- Texts that are written one after the other, each by a writer of its own.
 use Rattle.std.proofs.Common.{◌≡◌, List, ℕ, ◌++◌, sym, ap, ◌∙◌, subst, arith}
-use Rattle.std.specs.Prelude.{Result, Ok, Err, IsErrAnd}
 use Rattle.std.proofs.lemmas.Result.{on_ok_weaker, err_from_is_err_and}
-use Rattle.outside.specs.Writers.{Puts}
-use Rattle.outside.specs.declared.sink.Sink.{Ghosts}
-use Rattle.outside.specs.declared.sink.WriteErr.{WriteErr}
+use Rattle.std.specs.Prelude.{Result, Ok, Err, IsErrAnd}
+use Rattle.outside.specs.{Writers.Puts, declared.sink.Sink.Ghosts, declared.sink.WriteErr.WriteErr}
 use Rattle.outside.proofs.Sending.{longer_part, part_after, sends_after, sends_all, sends_front, sends_whole}
 
 module _ {O A : Type 0} {sink : Ghosts O} where

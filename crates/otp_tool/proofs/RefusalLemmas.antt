@@ -1,20 +1,19 @@
 -- Refusals of one step as those of a whole command.
 use Rattle.std.proofs.Common.{◌≡◌, inl, inr, ℕ, ◌<◌, List, length, Option, Some, refl, ap, sym, subst}
-use Rattle.command_line.specs.declared.status.Status.{Status}
-use Rattle.command_line.specs.declared.status.Status.TheVariants.{Done, No, Usage, GrammarRefused, FormRefused}
-use Rattle.command_line.specs.declared.status.Status.TheVariants.{LexiconRefused, AnswerRefused, Budget, ReadFault}
-use Rattle.command_line.specs.declared.status.Status.TheVariants.{WriteFault, NoMemory, RowsRefused, TooLong}
+use Rattle.command_line.specs.{declared.status.Status.Status, declared.status.Status.TheVariants.{Done, No, Usage}}
+use Rattle.command_line.specs.declared.status.Status.TheVariants.{GrammarRefused, FormRefused, LexiconRefused}
+use Rattle.command_line.specs.declared.status.Status.TheVariants.{AnswerRefused, Budget, ReadFault, WriteFault}
+use Rattle.command_line.specs.declared.status.Status.TheVariants.{NoMemory, RowsRefused, TooLong}
 use Rattle.grammar_reader.specs.Values.{GrammarValue}
 use Rattle.violation.specs.Problems.{Problem}
-use Rattle.otp_tool.specs.Files.{NamedFile}
+use Rattle.otp_tool.specs.{Files.NamedFile, Grammars.{AreAsked, IsAsked}}
+use Rattle.otp_tool.specs.{Lexicons.{IsLexiconFile, IsSurfaceOf, forms_in}, Findings.{Finding, FindsForAnswer}}
+use Rattle.otp_tool.specs.Findings.{FindsForHearing, FindsForOnce, FindsForTableau, long_second, no_form, no_rows}
+use Rattle.otp_tool.specs.{Findings.{no_lexicon, no_answer, over_budget}, Steps.{Change, IsRefusal, IsSecondRefusal}}
+use Rattle.otp_tool.specs.Steps.{IsWork, RefusesBudget, RefusesEntry, RefusesForm, IsUntouched, RefusesLexicon}
+use Rattle.otp_tool.specs.Steps.{RefusesOnce, RefusesRows, RefusesSurface}
 use Rattle.tier_core.specs.declared.sym.Sym.{Sym}
 use Rattle.lexicon.specs.Entries.{LexicalEntry}
-use Rattle.otp_tool.specs.Grammars.{AreAsked, IsAsked}
-use Rattle.otp_tool.specs.Lexicons.{IsLexiconFile, IsSurfaceOf, forms_in}
-use Rattle.otp_tool.specs.Findings.{Finding, FindsForAnswer, FindsForHearing, FindsForOnce, FindsForTableau}
-use Rattle.otp_tool.specs.Findings.{long_second, no_form, no_rows, no_lexicon, no_answer, over_budget}
-use Rattle.otp_tool.specs.Steps.{Change, IsRefusal, IsSecondRefusal, IsWork, RefusesBudget, RefusesEntry, RefusesForm}
-use Rattle.otp_tool.specs.Steps.{IsUntouched, RefusesLexicon, RefusesOnce, RefusesRows, RefusesSurface}
 use Rattle.otp_tool.proofs.OutcomeLemmas.{long_held, some_held, some_second}
 
 module _ (P Q : Finding → Type 0) (weaker : (x : Finding) → P x → Q x) where

@@ -1,14 +1,10 @@
 -- Constraints have no part in what a rows file is read as: problems of the same tiers and form have the same rows.
-use Rattle.std.proofs.Common.{◌≡◌, ℕ, List, length, All, subst}
-use Rattle.std.proofs.lemmas.List.Elements.{All-weaker}
-use Rattle.tier_core.specs.declared.sym.Sym.{Sym}
-use Rattle.tier_core.specs.declared.constraint.Constraint.{Constraint}
-use Rattle.tier_core.specs.Tiers.{Tiers}
+use Rattle.std.proofs.{Common.{◌≡◌, ℕ, List, length, All, subst}, lemmas.List.Elements.All-weaker}
+use Rattle.tier_core.specs.{declared.sym.Sym.Sym, declared.constraint.Constraint.Constraint, Tiers.Tiers}
 use Rattle.tableau.specs.declared.rows_err.RowsCause.{RowsCause}
 use Rattle.tableau.specs.declared.rows_err.RowsCause.TheVariants.{Form, NotCandidate, TooMany}
 use Rattle.tableau.specs.Rows.{AreRowsOf, IsLineCause, IsRefusedAt}
-use Rattle.violation.specs.Candidates.{IsCandidate}
-use Rattle.violation.specs.Problems.{Problem}
+use Rattle.violation.specs.{Candidates.IsCandidate, Problems.Problem}
 use Rattle.cert_check.proofs.AskedAlike.{with_constraints}
 
 module _ (problem : Problem) (cs ds : List Constraint) where

@@ -1,14 +1,11 @@
 -- The word of a sample, letter by letter, and the pairs of its states.
-use Rattle.std.proofs.Common.{◌≡◌, ℕ, suc, ◌+◌, ◌<◌, Bool, List, [], ◌∷◌, ◌++◌, length, map, drop}
-use Rattle.std.proofs.Common.{get_or, ap, sym, ◌∙◌, codes, ap₂, append_assoc, drop-cons, add-one}
-use Rattle.std.proofs.lemmas.List.Concat.{flat_map-cons}
+use Rattle.std.proofs.Common.{◌≡◌, ℕ, suc, ◌+◌, ◌<◌, Bool, List, [], ◌∷◌, ◌++◌, length, map, drop, get_or, ap, sym}
+use Rattle.std.proofs.{Common.{◌∙◌, codes, ap₂, append_assoc, drop-cons, add-one}, lemmas.List.Concat.flat_map-cons}
 use Rattle.std.specs.Fmt.{decimal}
-use Rattle.answer_text.specs.declared.answer.Answer.{Answer}
-use Rattle.answer_text.specs.Text.{line, shown_text}
-use Rattle.answer_text.specs.declared.automaton.ArcLine.{ArcLine}
-use Rattle.answer_text.specs.declared.automaton.StateLine.{StateLine}
-use Rattle.otp_tool.specs.Samples.{sample_letter, letters_after, next_number, pairs_of, sample_text}
-use Rattle.otp_tool.specs.Samples.{sample_word, targets_of, yes_or_no}
+use Rattle.answer_text.specs.{declared.answer.Answer.Answer, Text.{line, shown_text}}
+use Rattle.answer_text.specs.{declared.automaton.ArcLine.ArcLine, declared.automaton.StateLine.StateLine}
+use Rattle.otp_tool.specs.Samples.{sample_letter, letters_after, next_number, pairs_of, sample_text, sample_word}
+use Rattle.otp_tool.specs.Samples.{targets_of, yes_or_no}
 
 -- the next letter is put at the end of a word
 pub word_next : (word new whole : List ℕ) (n m x y c : ℕ) → n ≡ suc m → y ≡ next_number x → c ≡ sample_letter y

@@ -1,33 +1,18 @@
 -- The bytes of an answer settle the verdict: whatever answer they are read as is seen alike.
 use Rattle.std.proofs.Common.{◌≡◌, ℕ, zero, suc, ◌+◌, ◌-◌, ◌<◌, ◌≤◌, inl, inr, List, [], ◌∷◌, length, map, filter}
 use Rattle.std.proofs.Common.{take, get_or, Result, Ok, Err, refl, ap, ap₂, sym, ◌∙◌, arith}
-use Rattle.std.proofs.lemmas.Bool.{cases_order}
-use Rattle.std.proofs.lemmas.List.{get_or_past, length-map}
+use Rattle.std.proofs.{lemmas.Bool.cases_order, lemmas.List.{get_or_past, length-map}}
 use Rattle.std.proofs.lemmas.List.FromFn.{get_or-map-range_with_len}
-use Rattle.tier_core.specs.declared.shape.Shape.{Shape}
-use Rattle.tier_core.specs.Kinds.{prefix_kind}
-use Rattle.tier_core.specs.KindShapes.{free_count, stretch_count}
-use Rattle.tier_core.specs.Sides.{is_stretch}
-use Rattle.tier_core.specs.Tiers.{Tiers}
-use Rattle.grammar_reader.specs.declared.grammar.Grammar.{Grammar}
-use Rattle.grammar_reader.specs.Grammars.{value_of}
-use Rattle.grammar_reader.specs.ShapeOf.{IsShapeOf}
+use Rattle.tier_core.specs.{declared.shape.Shape.Shape, Kinds.prefix_kind, KindShapes.{free_count, stretch_count}}
+use Rattle.tier_core.specs.{Sides.is_stretch, Tiers.Tiers}
+use Rattle.grammar_reader.specs.{declared.grammar.Grammar.Grammar, Grammars.value_of, ShapeOf.IsShapeOf}
 use Rattle.grammar_reader.proofs.Shaping.{length-stretch_counts}
-use Rattle.violation.specs.Prefixes.{stretches}
-use Rattle.violation.specs.Problems.{Problem}
-use Rattle.answer_text.specs.declared.stage.Node.{Node}
-use Rattle.answer_text.specs.declared.stage.Stage.{Stage}
-use Rattle.answer_text.specs.declared.answer.Answer.{Answer}
-use Rattle.answer_text.specs.Readable.{IsReadable}
-use Rattle.answer_text.specs.Right.{nodes_at}
-use Rattle.answer_text.specs.Text.{Widths}
-use Rattle.answer_reader.specs.Reading.{IsTextOf}
-use Rattle.answer_reader.specs.Steps.{At}
-use Rattle.answer_text.specs.Seen.{node_seen}
+use Rattle.violation.specs.{Prefixes.stretches, Problems.Problem}
+use Rattle.answer_text.specs.{declared.stage.Node.Node, declared.stage.Stage.Stage, declared.answer.Answer.Answer}
+use Rattle.answer_text.specs.{Readable.IsReadable, Right.nodes_at, Text.Widths, Seen.node_seen}
 use Rattle.answer_text.specs.Values.{AnswerValue, NodeValue, answer_value, node_value, stage_values}
-use Rattle.cert_check.specs.FirstFaults.{asked_by}
-use Rattle.cert_check.specs.Seen.{AreAskedAlike, AreSeenAlike}
-use Rattle.cert_check.specs.Verdicts.{IsVerdict}
+use Rattle.answer_reader.specs.{Reading.IsTextOf, Steps.At}
+use Rattle.cert_check.specs.{FirstFaults.asked_by, Seen.{AreAskedAlike, AreSeenAlike}, Verdicts.IsVerdict}
 use Rattle.cert_check.specs.declared.fault.Verdict.{Verdict}
 use Rattle.cert_check.proofs.FaultsSeen.{same_verdict}
 use Rattle.otp_tool.specs.Answers.{IsAskedBy, IsSettled, IsShapeFor}

@@ -1,30 +1,20 @@
 -- Shapes of one grammar have the same readings of a text.
 use Rattle.std.proofs.Common.{◌≡◌, ℕ, ◌+◌, ◌-◌, Bool, true, false, List, [], ◌∷◌, ◌++◌, length, map, filter, take}
-use Rattle.std.proofs.Common.{Result, Ok, Err, codes, refl, ap, sym, ◌∙◌}
-use Rattle.std.specs.Prelude.{if◌then◌else◌, slice_index_or}
-use Rattle.std.specs.List.{range_with_len}
-use Rattle.std.proofs.lemmas.List.{length-map, take-map}
-use Rattle.tier_core.specs.declared.sym.Sym.{Sym}
-use Rattle.tier_core.specs.declared.constraint.Constraint.{Constraint}
-use Rattle.tier_core.specs.declared.shape.Shape.{Shape}
-use Rattle.tier_core.specs.Shapes.{masked_count}
-use Rattle.tier_core.specs.KindShapes.{free_count}
-use Rattle.tier_core.specs.Sides.{is_stretch}
-use Rattle.grammar_reader.specs.Requirements.{Requirement, requirement_seen, requirements_seen}
-use Rattle.grammar_reader.specs.Values.{GrammarValue}
+use Rattle.std.proofs.{Common.{Result, Ok, Err, codes, refl, ap, sym, ◌∙◌}, lemmas.List.{length-map, take-map}}
+use Rattle.std.specs.{Prelude.{if◌then◌else◌, slice_index_or}, List.range_with_len}
+use Rattle.tier_core.specs.{declared.sym.Sym.Sym, declared.constraint.Constraint.Constraint}
+use Rattle.tier_core.specs.{declared.shape.Shape.Shape, Shapes.masked_count, KindShapes.free_count, Sides.is_stretch}
+use Rattle.grammar_reader.specs.{Requirements.{Requirement, requirement_seen, requirements_seen}, Values.GrammarValue}
 use Rattle.grammar_reader.specs.ShapeOf.{stretch_counts}
-use Rattle.answer_reader.specs.declared.answer_err.AnswerCause.{AnswerCause}
-use Rattle.answer_reader.specs.Reading.{answer_of, answer_with, behind_form, HeadValue, constraint_count, form_of}
-use Rattle.answer_reader.specs.Reading.{example_of, stages_behind, states_behind}
+use Rattle.answer_reader.specs.{declared.answer_err.AnswerCause.AnswerCause, Reading.{answer_of, answer_with}}
+use Rattle.answer_reader.specs.Reading.{behind_form, HeadValue, constraint_count, form_of, example_of}
+use Rattle.answer_reader.specs.Reading.{stages_behind, states_behind}
+use Rattle.answer_reader.specs.{Lines.{automaton_of, counts_of, header_of, stage_of}, Nodes.node_of}
+use Rattle.answer_reader.specs.{Orders.{in_order, node_less}, Stages.{StagePlace, StagesRead, behind_stages}}
+use Rattle.answer_reader.specs.Stages.{in_stage, is_automaton, last_count, stages_from, stages_read, next_node}
+use Rattle.answer_reader.specs.{Stages.with_nodes, States.{behind_states, states_from}}
+use Rattle.answer_reader.specs.{Steps.{At, and_then, first_line, go_on, line_then}, Timelines.timeline_said}
 use Rattle.timeline_text.specs.Bytes.{lines_of}
-use Rattle.answer_reader.specs.Lines.{automaton_of, counts_of, header_of, stage_of}
-use Rattle.answer_reader.specs.Nodes.{node_of}
-use Rattle.answer_reader.specs.Orders.{in_order, node_less}
-use Rattle.answer_reader.specs.Stages.{StagePlace, StagesRead, behind_stages, in_stage, is_automaton, last_count}
-use Rattle.answer_reader.specs.Stages.{stages_from, stages_read, next_node, with_nodes}
-use Rattle.answer_reader.specs.States.{behind_states, states_from}
-use Rattle.answer_reader.specs.Steps.{At, and_then, first_line, go_on, line_then}
-use Rattle.answer_reader.specs.Timelines.{timeline_said}
 use Rattle.answer_text.specs.Values.{NodeValue}
 use Rattle.otp_tool.specs.Answers.{IsShapeFor}
 use Rattle.cert_check.proofs.AskedAlike.{is_seen_stretch, seen_filter}

@@ -1,34 +1,20 @@
 -- What the commands do with a grammar.
-use Rattle.std.proofs.Common.{◌≡◌, inr, ℕ, ◌+◌, ◌-◌, ◌≤◌, List, length, Result, Ok, Err, All, refl, ap, sym, ◌∙◌, subst}
-use Rattle.std.proofs.Common.{arith}
+use Rattle.std.proofs.Common.{◌≡◌, inr, ℕ, ◌+◌, ◌-◌, ◌≤◌, List, length, Result, Ok, Err, All, refl, ap, sym, ◌∙◌}
+use Rattle.std.proofs.{Common.{subst, arith}, lemmas.List.length-map, lemmas.List.Elements.All-from_recursion}
 use Rattle.std.specs.Prelude.{IfOk}
-use Rattle.std.proofs.lemmas.List.{length-map}
-use Rattle.std.proofs.lemmas.List.Elements.{All-from_recursion}
-use Rattle.outside.specs.Writers.{Puts}
-use Rattle.outside.specs.declared.sink.Sink.{Ghosts}
-use Rattle.outside.specs.declared.sink.WriteErr.{WriteErr}
+use Rattle.outside.specs.{Writers.Puts, declared.sink.Sink.Ghosts, declared.sink.WriteErr.WriteErr}
 use Rattle.outside.specs.declared.sink.WriteErr.TheVariants.{Failed, NoMemory as NoRoom}
-use Rattle.tier_core.specs.declared.sym.Sym.{Sym}
-use Rattle.tier_core.specs.declared.shape.Shape.{Shape}
-use Rattle.tier_core.specs.Shapes.{masked_count}
-use Rattle.tier_core.specs.Tables.{tiers_of_table}
-use Rattle.tier_core.specs.Tiers.{Tiers}
-use Rattle.tier_core.specs.Timelines.{IsWellFormed}
-use Rattle.tier_core.proofs.TableMasks.{free_tiers}
+use Rattle.tier_core.specs.{declared.sym.Sym.Sym, declared.shape.Shape.Shape, Shapes.masked_count}
+use Rattle.tier_core.specs.{Tables.tiers_of_table, Tiers.Tiers, Timelines.IsWellFormed}
+use Rattle.tier_core.proofs.{TableMasks.free_tiers, CountLemmas.all_weaker}
 use Rattle.timeline_text.specs.declared.form_err.FormErr.{FormErr}
-use Rattle.grammar_reader.specs.declared.grammar.Grammar.{Grammar}
-use Rattle.grammar_reader.specs.Grammars.{value_of}
-use Rattle.tier_core.proofs.CountLemmas.{all_weaker}
-use Rattle.grammar_reader.specs.ShapeOf.{IsShapeOf}
-use Rattle.grammar_reader.proofs.Shaping.{length-stretch_counts}
-use Rattle.grammar_reader.proofs.OverTiers.{over_tiers}
-use Rattle.violation.specs.Candidates.{IsForm, vec}
-use Rattle.violation.specs.Conditions.{IsCountable, IsOverTiers}
-use Rattle.answer_text.specs.declared.answer.Answer.{Answer}
-use Rattle.answer_text.specs.Right.{IsRight}
-use Rattle.kind_orders.specs.JoinedArcs.{HaveJoinedArcs}
-use Rattle.answer_text.specs.Shape.{widths_of}
+use Rattle.grammar_reader.specs.{declared.grammar.Grammar.Grammar, Grammars.value_of, ShapeOf.IsShapeOf}
+use Rattle.grammar_reader.proofs.{Shaping.length-stretch_counts, OverTiers.over_tiers}
+use Rattle.violation.specs.{Candidates.{IsForm, vec}, Conditions.{IsCountable, IsOverTiers}}
+use Rattle.violation.specs.Problems.{Problem, problem_from}
+use Rattle.answer_text.specs.{declared.answer.Answer.Answer, Right.IsRight, Shape.widths_of}
 use Rattle.answer_text.specs.Text.{Widths, answer_text, counts_text}
+use Rattle.kind_orders.specs.JoinedArcs.{HaveJoinedArcs}
 use Rattle.ranked_gen.specs.Budgets.{AreAllWithin, HaveFewKinds}
 use Rattle.command_line.specs.declared.status.Status.{Status}
 use Rattle.form_reader.specs.Forms.{IsReadAs, IsRefusedFor}
@@ -36,9 +22,8 @@ use Rattle.otp_tool.specs.Scored.{IsNotScored, IsScored}
 use Rattle.otp_tool.specs.Findings.{Finding, FindsForAnswer, FindsForScore, no_form, ready}
 use Rattle.otp_tool.specs.Results.{IsOfRightAnswer, IsScoreText, text_widths, whole_text}
 use Rattle.otp_tool.specs.Steps.{IsWriteStatus, IsAnswerFor, IsStep, RefusesForm, write_status, taking_of}
-use Rattle.otp_tool.proofs.GrammarLemmas.{same_kinds, same_requirements, same_tiers, same_vector}
-use Rattle.violation.specs.Problems.{Problem, problem_from}
 use Rattle.otp_tool.specs.Grammars.{IsAsked}
+use Rattle.otp_tool.proofs.GrammarLemmas.{same_kinds, same_requirements, same_tiers, same_vector}
 
 -- ---- writing
 

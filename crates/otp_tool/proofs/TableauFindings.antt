@@ -7,13 +7,12 @@ use Rattle.form_reader.proofs.ReadingLemmas.{not_refused, one_cause}
 use Rattle.tableau.specs.declared.rows_err.RowsCause.{RowsCause}
 use Rattle.tableau.proofs.Readings.{never_both as rows_and_refused, one_refusal as one_row}
 use Rattle.violation.specs.Problems.{Problem}
-use Rattle.otp_tool.specs.Grammars.{IsAsked, OnProblem, grammar_inputs}
-use Rattle.otp_tool.specs.Findings.{Finding, FindsForTableau, HasForm, IsNoRowsFile, IsRowsFile, long_file, no_grammar}
-use Rattle.otp_tool.specs.Findings.{no_form, long_second, no_rows, no_lexicon, no_answer, over_budget, ready}
+use Rattle.otp_tool.specs.{Grammars.{IsAsked, OnProblem, grammar_inputs}, Findings.{Finding, FindsForTableau}}
+use Rattle.otp_tool.specs.Findings.{HasForm, IsNoRowsFile, IsRowsFile, long_file, no_grammar, no_form, long_second}
+use Rattle.otp_tool.specs.Findings.{no_rows, no_lexicon, no_answer, over_budget, ready}
 use Rattle.otp_tool.specs.Steps.{IsFindingOf, RefusesForm}
-use Rattle.otp_tool.proofs.Choices.{one_choice, one_of, too_long}
-use Rattle.otp_tool.proofs.AnswerFindings.{Over, Within, form_refused, one_form, one_in_budget, one_refused_form}
-use Rattle.otp_tool.proofs.AnswerFindings.{refused_form}
+use Rattle.otp_tool.proofs.{Choices.{one_choice, one_of, too_long}, AnswerFindings.{Over, Within, form_refused}}
+use Rattle.otp_tool.proofs.AnswerFindings.{one_form, one_in_budget, one_refused_form, refused_form}
 use Rattle.otp_tool.proofs.RowsAlike.{refused_alike}
 
 module _ (g : GrammarValue) (form : List ℕ) (budget : ℕ) (bytes : List ℕ) where

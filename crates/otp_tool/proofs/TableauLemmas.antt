@@ -2,32 +2,21 @@
 use Rattle.std.proofs.Common.{◌≡◌, inl, inr, ℕ, ◌≤◌, List, length, All, Some, Result, refl, sym, subst, arith}
 use Rattle.std.proofs.lemmas.List.Elements.{All-weaker}
 use Rattle.std.specs.Str.Lines.{lines}
-use Rattle.outside.specs.Writers.{Puts}
-use Rattle.outside.specs.declared.sink.WriteErr.{WriteErr}
-use Rattle.outside.specs.declared.sink.Sink.{Ghosts as SinkGhosts}
+use Rattle.outside.specs.{Writers.Puts, declared.sink.WriteErr.WriteErr, declared.sink.Sink.Ghosts as SinkGhosts}
 use Rattle.outside.specs.declared.shelf.Shelf.{Ghosts as ShelfGhosts}
 use Rattle.tier_core.specs.declared.sym.Sym.{Sym}
-use Rattle.grammar_reader.specs.declared.grammar.Grammar.{Grammar}
-use Rattle.grammar_reader.specs.Grammars.{value_of}
-use Rattle.violation.specs.Candidates.{IsCandidate}
-use Rattle.violation.specs.Problems.{Problem, problem_from}
-use Rattle.answer_text.specs.declared.answer.Answer.{Answer}
-use Rattle.answer_text.specs.Right.{IsRight}
-use Rattle.tableau.specs.declared.table.Tableau.{Tableau}
-use Rattle.tableau.specs.Layout.{tableau_text}
-use Rattle.tableau.specs.Rows.{AreRowsOf}
+use Rattle.grammar_reader.specs.{declared.grammar.Grammar.Grammar, Grammars.value_of}
+use Rattle.violation.specs.{Candidates.IsCandidate, Problems.{Problem, problem_from}}
+use Rattle.answer_text.specs.{declared.answer.Answer.Answer, Right.IsRight}
+use Rattle.tableau.specs.{declared.table.Tableau.Tableau, Layout.tableau_text, Rows.AreRowsOf}
 use Rattle.tableau.specs.Tableaux.{IsTableauOf, names_seen}
 use Rattle.command_line.specs.declared.status.Status.{Status}
-use Rattle.otp_tool.specs.Files.{IsHeld, rows_file}
-use Rattle.otp_tool.specs.Grammars.{IsAsked}
-use Rattle.otp_tool.specs.Findings.{FindsForTableau, HasForm, ready}
-use Rattle.otp_tool.specs.Results.{IsTableauText}
-use Rattle.otp_tool.specs.Steps.{Change, IsMadeTableau, IsRefusal, IsSecondRefusal, IsTableauWork, RefusesBudget}
-use Rattle.otp_tool.specs.Steps.{IsUntouched, RefusesFile, RefusesForm, RefusesRows, change_of, write_status}
-use Rattle.otp_tool.proofs.GrammarLemmas.{same_names}
-use Rattle.otp_tool.proofs.RefusalLemmas.{form_for_tableau, refusal_weaker, refused_before, rows_for_tableau}
-use Rattle.otp_tool.proofs.RefusalLemmas.{second_refused}
-use Rattle.otp_tool.proofs.StepLemmas.{written}
+use Rattle.otp_tool.specs.{Files.{IsHeld, rows_file}, Grammars.IsAsked, Findings.{FindsForTableau, HasForm, ready}}
+use Rattle.otp_tool.specs.{Results.IsTableauText, Steps.{Change, IsMadeTableau, IsRefusal, IsSecondRefusal}}
+use Rattle.otp_tool.specs.Steps.{IsTableauWork, RefusesBudget, IsUntouched, RefusesFile, RefusesForm, RefusesRows}
+use Rattle.otp_tool.specs.Steps.{change_of, write_status}
+use Rattle.otp_tool.proofs.{GrammarLemmas.same_names, RefusalLemmas.{form_for_tableau, refusal_weaker}}
+use Rattle.otp_tool.proofs.{RefusalLemmas.{refused_before, rows_for_tableau, second_refused}, StepLemmas.written}
 
 -- ---- making a tableau
 

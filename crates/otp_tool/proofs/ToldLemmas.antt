@@ -1,8 +1,6 @@
 -- What the bytes of a grammar's file tell of a command's findings.
-use Rattle.std.proofs.Common.{◌≡◌, ℕ, List, [], ◌∷◌, Option, Some, refl, sym, ◌∙◌, subst}
-use Rattle.std.specs.Prelude.{String}
-use Rattle.std.specs.declared.alloc.Global.{Global}
-use Rattle.std.proofs.lemmas.Simd.{map-map}
+use Rattle.std.proofs.{Common.{◌≡◌, ℕ, List, [], ◌∷◌, Option, Some, refl, sym, ◌∙◌, subst}, lemmas.Simd.map-map}
+use Rattle.std.specs.{Prelude.String, declared.alloc.Global.Global}
 use Rattle.tier_core.specs.declared.sym.Sym.{Sym}
 use Rattle.grammar_reader.specs.Requirements.{requirement_seen, requirements_of, requirements_seen}
 use Rattle.grammar_reader.specs.Values.{GrammarValue}
@@ -11,15 +9,11 @@ use Rattle.cert_check.specs.Seen.{AreAskedAlike}
 use Rattle.ranked_gen.specs.Budgets.{AreAllWithin, IsFirstOver}
 use Rattle.form_reader.specs.Forms.{IsReadAs}
 use Rattle.command_line.specs.Commands.{Command, IsCommand, canon, score, generate, show, tableau, once, comprehend}
-use Rattle.command_line.specs.Commands.{check, sample, named_grammar}
-use Rattle.command_line.specs.Words.{words_of}
-use Rattle.otp_tool.specs.Asked.{TellsProblem, constraint_of, problem_of}
-use Rattle.otp_tool.specs.Files.{IsHeld, grammar_told}
+use Rattle.command_line.specs.{Commands.{check, sample, named_grammar}, Words.words_of}
+use Rattle.otp_tool.specs.{Asked.{TellsProblem, constraint_of, problem_of}, Files.{IsHeld, grammar_told}}
 use Rattle.otp_tool.specs.Findings.{Finding, Finds, FindsForAnswer, FindsIn, over_budget, ready}
-use Rattle.otp_tool.specs.Grammars.{AreAsked, IsAsked, IsFileOf, grammar_inputs}
-use Rattle.otp_tool.specs.Outcomes.{IsTold, MayRead}
-use Rattle.otp_tool.proofs.AnswerFindings.{only_over, only_within}
-use Rattle.otp_tool.proofs.FindingLemmas.{one_finding, only_in}
+use Rattle.otp_tool.specs.{Grammars.{AreAsked, IsAsked, IsFileOf, grammar_inputs}, Outcomes.{IsTold, MayRead}}
+use Rattle.otp_tool.proofs.{AnswerFindings.{only_over, only_within}, FindingLemmas.{one_finding, only_in}}
 
 -- ---- problems
 

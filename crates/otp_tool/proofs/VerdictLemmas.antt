@@ -1,24 +1,19 @@
 -- Where the shelf tells, the bytes of an answer settle the status of `check`.
 use Rattle.std.proofs.Common.{◌≡◌, ◌⊎◌, inl, inr, ℕ, List, Option, refl, ◌∙◌, subst}
 use Rattle.outside.specs.Faults.{Rose}
-use Rattle.command_line.specs.declared.status.Status.{Status}
-use Rattle.command_line.specs.declared.status.Status.TheVariants.{Done, No, NoMemory}
-use Rattle.grammar_reader.specs.Values.{GrammarValue}
-use Rattle.cert_check.specs.declared.fault.Fault.{Fault}
-use Rattle.cert_check.specs.declared.fault.Verdict.{Verdict}
-use Rattle.cert_check.specs.declared.fault.Verdict.TheVariants.{Yes, No as Not}
+use Rattle.command_line.specs.{declared.status.Status.Status, declared.status.Status.TheVariants.{Done, No, NoMemory}}
 use Rattle.command_line.specs.Commands.{Command, IsCommand, canon, score, generate, show, tableau, once, comprehend}
 use Rattle.command_line.specs.Commands.{check, sample}
+use Rattle.grammar_reader.specs.Values.{GrammarValue}
+use Rattle.cert_check.specs.{declared.fault.Fault.Fault, declared.fault.Verdict.Verdict}
+use Rattle.cert_check.specs.declared.fault.Verdict.TheVariants.{Yes, No as Not}
 use Rattle.command_line.proofs.CommandLemmas.{one_command}
 use Rattle.answer_text.specs.Values.{answer_value}
-use Rattle.otp_tool.specs.Answers.{HasVerdict, IsJudged, IsVerdictText}
-use Rattle.otp_tool.specs.Grammars.{IsFileOf, OnGrammar}
+use Rattle.otp_tool.specs.{Answers.{HasVerdict, IsJudged, IsVerdictText}, Grammars.{IsFileOf, OnGrammar}}
 use Rattle.otp_tool.specs.Findings.{FindsIn, ready}
 use Rattle.otp_tool.specs.Outcomes.{Checks, HasReadFault, IsToldVerdict, IsWrittenBehind, MayRead, status_of}
-use Rattle.otp_tool.specs.Results.{IsNoResult, IsResult, text_widths}
-use Rattle.otp_tool.specs.Steps.{Change, IsOutcome}
-use Rattle.otp_tool.proofs.DueLemmas.{complete}
-use Rattle.otp_tool.proofs.FindingLemmas.{one_finding, same_grammar}
+use Rattle.otp_tool.specs.{Results.{IsNoResult, IsResult, text_widths}, Steps.{Change, IsOutcome}}
+use Rattle.otp_tool.proofs.{DueLemmas.complete, FindingLemmas.{one_finding, same_grammar}}
 
 -- ---- what is written
 

@@ -1,22 +1,14 @@
 -- Right answers of the stages and of a single pass agree.
-use Rattle.std.proofs.Common.{◌≡◌, ◌↔◌, List, [], ◌∷◌, true, length, refl, sym, ap, ◌∙◌}
-use Rattle.std.specs.declared.cmp.Ordering.{Ordering}
-use Rattle.std.specs.declared.cmp.Ordering.TheVariants.{Less, Equal, Greater}
-use Rattle.std.specs.Ordering.{nat_cmp, is_eq, ordering_then, ordering_reverse}
-use Rattle.std.specs.Cmp.Lexicographic.{slice_cmp}
-use Rattle.std.proofs.lemmas.Bool.{false≢true}
+use Rattle.std.proofs.{Common.{◌≡◌, ◌↔◌, List, [], ◌∷◌, true, length, refl, sym, ap, ◌∙◌}, lemmas.Bool.false≢true}
 use Rattle.std.proofs.lemmas.Cmp.{lists_total, nat_cmp_total}
-use Rattle.tier_core.specs.declared.sym.Sym.{Sym}
-use Rattle.tier_core.specs.Orders.{column_cmp, timeline_cmp, IsFirst}
+use Rattle.std.specs.{declared.cmp.Ordering.Ordering, declared.cmp.Ordering.TheVariants.{Less, Equal, Greater}}
+use Rattle.std.specs.{Ordering.{nat_cmp, is_eq, ordering_then, ordering_reverse}, Cmp.Lexicographic.slice_cmp}
+use Rattle.tier_core.specs.{declared.sym.Sym.Sym, Orders.{column_cmp, timeline_cmp, IsFirst}}
 use Rattle.first_paths.proofs.Order.{column_total, equal_columns}
-use Rattle.violation.specs.Problems.{Problem}
-use Rattle.violation.specs.Candidates.{IsOptimal}
+use Rattle.violation.specs.{Problems.Problem, Candidates.IsOptimal}
 use Rattle.violation.proofs.VectorLemmas.{equal_from_both}
-use Rattle.answer_text.specs.declared.answer.Answer.{Answer}
-use Rattle.answer_text.specs.declared.once_answer.OnceAnswer.{OnceAnswer}
-use Rattle.answer_text.specs.Acceptance.{Accepts}
-use Rattle.answer_text.specs.Right.{IsRight}
-use Rattle.answer_text.specs.RightOnce.{IsRightOnce}
+use Rattle.answer_text.specs.{declared.answer.Answer.Answer, declared.once_answer.OnceAnswer.OnceAnswer}
+use Rattle.answer_text.specs.{Acceptance.Accepts, Right.IsRight, RightOnce.IsRightOnce}
 
 reverse_then : (o p : Ordering) → ordering_then (ordering_reverse o) (ordering_reverse p)
     ≡ ordering_reverse (ordering_then o p)

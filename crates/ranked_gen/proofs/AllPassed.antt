@@ -1,36 +1,24 @@
 -- With no constraint, each pair of a place in the form and a set of open free tiers is the kind of a prefix.
-use Rattle.std.proofs.Common.{◌≡◌, ℕ, zero, suc, ◌+◌, ◌<◌, ◌≤◌, ◌≢◌, ◌==◌, ◌⊎◌, Bool, true, false, List, [], ◌∷◌, ◌++◌}
-use Rattle.std.proofs.Common.{map, length, take, Contains, refl, sym, ap, ap₂, ◌∙◌, inl, inr, ⊎_elim, append-nil, arith}
-use Rattle.std.proofs.Common.{cond, ne_eqb, eq-eqb}
-use Rattle.std.specs.List.{AllByRecursion, list_any}
+use Rattle.std.proofs.Common.{◌≡◌, ℕ, zero, suc, ◌+◌, ◌<◌, ◌≤◌, ◌≢◌, ◌==◌, ◌⊎◌, Bool, true, false, List, [], ◌∷◌}
+use Rattle.std.proofs.Common.{◌++◌, map, length, take, Contains, refl, sym, ap, ap₂, ◌∙◌, inl, inr, ⊎_elim}
+use Rattle.std.proofs.Common.{append-nil, arith, cond, ne_eqb, eq-eqb}
 use Rattle.std.proofs.lemmas.Bool.{false≢true, cases_lt, cond-true, cond-false, eq-eqb, ne_eqb, and_parts, and_from}
 use Rattle.std.proofs.lemmas.List.{length-map, length-append, length-take-le, map-append, take-map, take-append-le}
 use Rattle.std.proofs.lemmas.List.Elements.{All-from_recursion, recursion_from_All, All-take, All-contains_itself}
 use Rattle.std.proofs.lemmas.List.Elements.{filter-append}
-use Rattle.tier_core.specs.declared.sym.Sym.{Sym}
-use Rattle.tier_core.specs.declared.sym.Sym.TheVariants.{Outside, Inside, Start, End}
-use Rattle.tier_core.specs.Words.{ends}
-use Rattle.tier_core.specs.Scan.{fits, opens}
-use Rattle.tier_core.specs.Timelines.{symbol, tier_word, is_edge, has_edge, project, squeeze, IsWellFormed, IsReduced}
-use Rattle.tier_core.specs.Kinds.{PrefixKind}
-use Rattle.tier_core.proofs.CountLemmas.{all_append}
-use Rattle.tier_core.proofs.WordLemmas.{runs}
-use Rattle.tier_core.proofs.WordForm.{well_formed_from_runs}
+use Rattle.std.specs.List.{AllByRecursion, list_any}
+use Rattle.tier_core.specs.{declared.sym.Sym.Sym, declared.sym.Sym.TheVariants.{Outside, Inside, Start, End}}
+use Rattle.tier_core.specs.{Words.ends, Scan.{fits, opens}, Timelines.{symbol, tier_word, is_edge, has_edge, project}}
+use Rattle.tier_core.specs.{Timelines.{squeeze, IsWellFormed, IsReduced}, Kinds.PrefixKind}
+use Rattle.tier_core.proofs.{CountLemmas.{all_append, all_weaker}, WordLemmas.runs, WordForm.well_formed_from_runs}
 use Rattle.tier_core.proofs.FormLemmas.{edge_at}
-use Rattle.violation.specs.Candidates.{IsCandidate}
-use Rattle.violation.specs.Conditions.{AreDistinct, AreSplit}
-use Rattle.violation.specs.Moves.{flag_of}
-use Rattle.violation.specs.Prefixes.{is_open, kind_of}
-use Rattle.violation.specs.Stages.{IsPassed}
-use Rattle.violation.proofs.TierLemmas.{map_agree}
+use Rattle.violation.specs.{Candidates.IsCandidate, Conditions.{AreDistinct, AreSplit}, Moves.flag_of}
+use Rattle.violation.specs.{Prefixes.{is_open, kind_of}, Stages.IsPassed, Problems.{last_place, Problem}}
+use Rattle.violation.proofs.{TierLemmas.map_agree, StageLemmas.all_optimal}
 use Rattle.ranked_gen.specs.WideColumns.{wide_column}
 use Rattle.ranked_gen.proofs.WidenedColumns.{over, all_mapped, on_nothing, not_listed, length_over, symbol_over}
 use Rattle.ranked_gen.proofs.WidenedColumns.{word_flagged, word_outside, part_bare, over_runs, over_reduced}
-use Rattle.ranked_gen.proofs.WidenedColumns.{squeeze_over}
-use Rattle.violation.proofs.StageLemmas.{all_optimal}
-use Rattle.ranked_gen.proofs.BareForm.{bare_form, bare_candidate}
-use Rattle.tier_core.proofs.CountLemmas.{all_weaker}
-use Rattle.violation.specs.Problems.{last_place, Problem}
+use Rattle.ranked_gen.proofs.{WidenedColumns.squeeze_over, BareForm.{bare_form, bare_candidate}}
 
 -- flags of tiers that stand once
 flags_on : (xs : List ℕ) (flags : List Bool) → AreDistinct xs → length flags ≡ length xs

@@ -1,17 +1,12 @@
 -- Lists that ascend strictly.
 use Rattle.std.proofs.Common.{◌≡◌, ℕ, zero, suc, ◌+◌, ◌-◌, ◌<◌, Bool, true, false, cond, List, [], ◌∷◌, ◌++◌, map}
-use Rattle.std.proofs.Common.{filter, ap, sym, ◌∙◌, arith, ⊎_elim, Contains}
-use Rattle.std.specs.List.{flat_map, AllByRecursion, range_with_len}
-use Rattle.std.specs.List.Sorted.{IsStrictlySortedBy}
-use Rattle.std.specs.Ordering.{nat_cmp}
-use Rattle.std.specs.Cmp.{nat_cmp_is}
-use Rattle.std.proofs.lemmas.Cmp.{ranked}
-use Rattle.std.specs.declared.cmp.Ordering.{Ordering}
-use Rattle.std.specs.declared.cmp.Ordering.TheVariants.{Less}
+use Rattle.std.proofs.{Common.{filter, ap, sym, ◌∙◌, arith, ⊎_elim, Contains}, lemmas.Cmp.ranked}
 use Rattle.std.proofs.lemmas.List.Elements.{Contains-append_cases}
+use Rattle.std.specs.{List.{flat_map, AllByRecursion, range_with_len}, List.Sorted.IsStrictlySortedBy}
+use Rattle.std.specs.{Ordering.nat_cmp, Cmp.nat_cmp_is, declared.cmp.Ordering.Ordering}
+use Rattle.std.specs.declared.cmp.Ordering.TheVariants.{Less}
 use Rattle.tier_core.proofs.Members.{contains_of_map, all_from_members, all_at_member, contains_of_flat}
-use Rattle.tier_core.proofs.RangeMembers.{in_range}
-use Rattle.tier_core.proofs.Members.{contains_of_kept, contains_first, contains_later}
+use Rattle.tier_core.proofs.{Members.{contains_of_kept, contains_first, contains_later}, RangeMembers.in_range}
 
 -- each element is below all that follow it
 abbrev pub Ascends : {X : Type 0} → (X → X → Ordering) → List X → Type 0

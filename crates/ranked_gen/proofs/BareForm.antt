@@ -1,15 +1,11 @@
 -- The form with no constituent on the free tiers is a candidate, and the first of them.
 use Rattle.std.proofs.Common.{false, List, map, length, refl}
-use Rattle.tier_core.specs.declared.sym.Sym.{Sym}
-use Rattle.tier_core.specs.declared.sym.Sym.TheVariants.{Outside}
-use Rattle.tier_core.specs.Timelines.{tier_word, IsWellFormed, IsReduced}
-use Rattle.tier_core.specs.Tiers.{Tiers}
+use Rattle.tier_core.specs.{declared.sym.Sym.Sym, declared.sym.Sym.TheVariants.Outside}
+use Rattle.tier_core.specs.{Timelines.{tier_word, IsWellFormed, IsReduced}, Tiers.Tiers}
 use Rattle.tier_core.proofs.WordForm.{well_formed_from_runs}
-use Rattle.violation.specs.Candidates.{IsCandidate}
-use Rattle.violation.specs.Conditions.{AreSplit}
+use Rattle.violation.specs.{Candidates.IsCandidate, Conditions.AreSplit, Problems.Problem}
 use Rattle.ranked_gen.specs.WideColumns.{wide_column}
 use Rattle.ranked_gen.proofs.WidenedColumns.{all_mapped, length_over, over_runs, over_reduced, squeeze_over}
-use Rattle.violation.specs.Problems.{Problem}
 
 -- the form with no constituent on the free tiers
 abbrev pub bare_form : Tiers → List (List Sym) → List (List Sym)

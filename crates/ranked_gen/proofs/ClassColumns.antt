@@ -1,11 +1,9 @@
 -- The columns of a class, listed.
 use Rattle.std.proofs.Common.{◌≡◌, ◌&&◌, true, ℕ, List, [], ◌∷◌, map, filter, refl, ap, ◌∙◌, Contains, IsTrue}
 use Rattle.std.proofs.lemmas.Bool.{false≢true, and_parts}
-use Rattle.tier_core.specs.declared.class.Class.{Class}
-use Rattle.tier_core.specs.declared.sym.Sym.{Sym}
+use Rattle.tier_core.specs.{declared.class.Class.Class, declared.sym.Sym.Sym}
 use Rattle.tier_core.specs.declared.sym.Sym.TheVariants.{Outside, Inside, Start, End, Both}
-use Rattle.tier_core.specs.Classes.{sets_of, sets_have, has}
-use Rattle.tier_core.specs.Sets.{is_in}
+use Rattle.tier_core.specs.{Classes.{sets_of, sets_have, has}, Sets.is_in}
 use Rattle.violation.specs.Counts.{choices}
 use Rattle.ranked_gen.proofs.ChoiceLemmas.{IsChoice, choices_have, choice_in}
 use Rattle.tier_core.proofs.Members.{contains_first, contains_later, contains_kept, contains_of_kept}

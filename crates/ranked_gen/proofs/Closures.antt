@@ -1,10 +1,9 @@
 -- What can be gone to from a start, where there are only so many things: it can be listed.
-use Rattle.std.proofs.Common.{◌≡◌, ◌≢◌, ℕ, zero, suc, ◌+◌, ◌<◌, ◌⊎◌, inl, inr, List, [], ◌∷◌, length, sym, subst, arith}
-use Rattle.std.proofs.Common.{⊎_elim, Contains}
+use Rattle.std.proofs.Common.{◌≡◌, ◌≢◌, ℕ, zero, suc, ◌+◌, ◌<◌, ◌⊎◌, inl, inr, List, [], ◌∷◌, length, sym, subst}
+use Rattle.std.proofs.Common.{arith, ⊎_elim, Contains}
 use Rattle.std.specs.List.{flat_map}
 use Rattle.tier_core.proofs.Members.{contains_none, contains_first, contains_later, contains_cases, contains_flat}
-use Rattle.tier_core.proofs.Members.{contains_of_flat, all_from_members}
-use Rattle.tier_core.proofs.Differing.{Differ, no_longer}
+use Rattle.tier_core.proofs.{Members.{contains_of_flat, all_from_members}, Differing.{Differ, no_longer}}
 
 module _ {X : Type 0} (same : (x y : X) → (x ≡ y) ⊎ (x ≢ y)) where
   -- a thing is in a list, or is not

@@ -1,32 +1,19 @@
 -- The automaton of what the last stage leaves is right.
 use Rattle.std.proofs.Common.{◌≡◌, ℕ, ◌<◌, List, ◌++◌, length, take, drop, get_or, refl, sym, ap, ◌∙◌, subst, arith}
-use Rattle.std.proofs.Common.{Contains}
-use Rattle.std.proofs.lemmas.List.{get_or_default, get_or-map, length-map, take-append-drop}
+use Rattle.std.proofs.{Common.Contains, lemmas.List.{get_or_default, get_or-map, length-map, take-append-drop}}
 use Rattle.std.proofs.lemmas.List.Elements.{Contains-get_or}
-use Rattle.weight_law.specs.declared.Weight.{Ghosts}
-use Rattle.weight_law.specs.declared.unit_weight.UnitWeight.{UnitWeight}
-use Rattle.tier_core.specs.declared.sym.Sym.{Sym}
-use Rattle.tier_core.specs.Classes.{sets_of}
-use Rattle.tier_core.specs.Kinds.{PrefixKind}
-use Rattle.tier_core.proofs.ClassLemmas.{same_width}
-use Rattle.arc_table.specs.declared.state.TableState.{TableState}
-use Rattle.arc_table.specs.Conditions.{ClassesFilled}
-use Rattle.arc_table.specs.Runs.{Reads}
-use Rattle.tier_core.specs.FirstColumn.{first_column}
-use Rattle.tier_core.proofs.Filled.{has-first_column}
+use Rattle.weight_law.specs.{declared.Weight.Ghosts, declared.unit_weight.UnitWeight.UnitWeight}
+use Rattle.tier_core.specs.{declared.sym.Sym.Sym, Classes.sets_of, Kinds.PrefixKind, FirstColumn.first_column}
+use Rattle.tier_core.proofs.{ClassLemmas.same_width, Filled.has-first_column}
+use Rattle.arc_table.specs.{declared.state.TableState.TableState, Conditions.ClassesFilled, Runs.Reads}
 use Rattle.arc_table.proofs.SomeWord.{some_word}
-use Rattle.violation.specs.Prefixes.{kind_of}
-use Rattle.violation.specs.Stages.{IsPassed}
-use Rattle.answer_text.specs.declared.stage.Node.{Node}
-use Rattle.answer_text.specs.declared.automaton.StateLine.{StateLine}
+use Rattle.violation.specs.{Prefixes.kind_of, Stages.IsPassed, Problems.{last_stage, Problem}}
+use Rattle.answer_text.specs.{declared.stage.Node.Node, declared.automaton.StateLine.StateLine}
 use Rattle.answer_text.specs.Right.{IsNodeOf, IsRightAutomaton}
 use Rattle.kind_tables.proofs.Paths.{IsParted, run_exists, parted, joined_run, joined_reads, path_word}
-use Rattle.kind_orders.specs.Orderings.{IsOrdering, AreRanks}
-use Rattle.kind_orders.specs.AutomatonLines.{state_nodes}
+use Rattle.kind_orders.specs.{Orderings.{IsOrdering, AreRanks}, AutomatonLines.state_nodes}
 use Rattle.kind_orders.specs.Automata.{HasWidth, ReadsTo, IsAutomatonOf}
-use Rattle.ranked_gen.specs.Left.{IsNodeOfKind}
-use Rattle.ranked_gen.specs.OptimalParts.{IsOptimalPart}
-use Rattle.violation.specs.Problems.{last_stage, Problem}
+use Rattle.ranked_gen.specs.{Left.IsNodeOfKind, OptimalParts.IsOptimalPart}
 use Rattle.violation.proofs.CutCandidates.{prefix_passed}
 
 node_of : (problem : Problem) (nodes : List Node) (n : ℕ) (k : PrefixKind)

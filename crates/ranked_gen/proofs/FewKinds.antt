@@ -1,9 +1,8 @@
 -- How many kinds a stage has at most.
 use Rattle.std.proofs.Common.{ℕ, ◌≤◌, List, [], length, Contains}
 use Rattle.tier_core.specs.Kinds.{PrefixKind}
-use Rattle.violation.specs.Stages.{IsKindOfStage, AreKindsOfStage}
+use Rattle.violation.specs.{Stages.{IsKindOfStage, AreKindsOfStage}, Problems.Problem}
 use Rattle.tier_core.proofs.AscendingKinds.{ascending_few}
-use Rattle.violation.specs.Problems.{Problem}
 
 -- a stage has no more kinds than there are names, where all its kinds are names
 pub stage_few : (problem : Problem) (r : ℕ) (names : List PrefixKind)

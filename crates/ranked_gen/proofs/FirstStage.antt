@@ -1,31 +1,20 @@
 -- Stage 0 of a frame, whose candidates are all.
-use Rattle.std.proofs.Common.{ℕ, ◌≤◌, List, ◌++◌, map, length, arith}
-use Rattle.std.specs.List.{range_with_len}
-use Rattle.std.proofs.lemmas.List.{length-map}
+use Rattle.std.proofs.{Common.{ℕ, ◌≤◌, List, ◌++◌, map, length, arith}, lemmas.List.length-map}
 use Rattle.std.proofs.lemmas.List.Elements.{All-contains}
-use Rattle.weight_law.specs.declared.Weight.{Ghosts}
-use Rattle.weight_law.specs.declared.count.Count.{Count}
-use Rattle.tier_core.specs.declared.kind.Kind.{Kind}
-use Rattle.tier_core.specs.Kinds.{PrefixKind}
+use Rattle.std.specs.List.{range_with_len}
+use Rattle.weight_law.specs.{declared.Weight.Ghosts, declared.count.Count.Count}
+use Rattle.tier_core.specs.{declared.kind.Kind.Kind, Kinds.PrefixKind}
 use Rattle.arc_table.specs.declared.state.TableState.{TableState}
-use Rattle.violation.specs.Candidates.{IsCandidate}
-use Rattle.violation.specs.Stages.{IsPassed}
-use Rattle.violation.proofs.StageLemmas.{all_optimal}
-use Rattle.violation.proofs.CutCandidates.{prefix_passed}
-use Rattle.kind_moves.specs.declared.frame.Frame.{Frame}
-use Rattle.kind_moves.specs.Frames.{problem_in, kind_at_stage}
+use Rattle.violation.specs.{Candidates.IsCandidate, Stages.IsPassed}
+use Rattle.violation.proofs.{StageLemmas.all_optimal, CutCandidates.prefix_passed}
+use Rattle.kind_moves.specs.{declared.frame.Frame.Frame, Frames.{problem_in, kind_at_stage}}
 use Rattle.kind_tables.specs.StageTables.{IsStageTable}
-use Rattle.kind_tables.proofs.Following.{first_table}
-use Rattle.kind_tables.proofs.Naming.{names_law}
+use Rattle.kind_tables.proofs.{Following.first_table, Naming.names_law}
 use Rattle.stage_tables.specs.Explored.{names_at, IsComplete, IsMet, HasMoreKinds}
 use Rattle.stage_tables.proofs.Named.{frame_stage}
-use Rattle.ranked_gen.specs.Budgets.{IsOver, IsStageWithin}
-use Rattle.ranked_gen.specs.Listed.{kind_count}
-use Rattle.ranked_gen.specs.Numbers.{kind_of_number}
+use Rattle.ranked_gen.specs.{Budgets.{IsOver, IsStageWithin}, Listed.kind_count, Numbers.kind_of_number}
 use Rattle.tier_core.proofs.Differing.{differ_from_pairs, no_longer}
-use Rattle.ranked_gen.proofs.FewKinds.{stage_few}
-use Rattle.ranked_gen.proofs.NumberedKinds.{free_distinct}
-use Rattle.ranked_gen.proofs.StageKinds.{numbered_kinds}
+use Rattle.ranked_gen.proofs.{FewKinds.stage_few, NumberedKinds.free_distinct, StageKinds.numbered_kinds}
 
 module _ (frame : Frame) where
   -- a table of all candidates is that of stage 0

@@ -1,38 +1,26 @@
 -- The kinds of the states that a stage leaves, and what they are at a stage that adds no phase.
 use Rattle.std.proofs.Common.{◌≡◌, ℕ, zero, suc, ◌+◌, ◌-◌, ◌<◌, ◌≤◌, Bool, true, false, cond, List, [], ◌∷◌, filter}
 use Rattle.std.proofs.Common.{map, take, length, get_or, refl, sym, ap, ◌∙◌, subst, arith, All, Contains}
-use Rattle.std.specs.List.{AllByRecursion}
 use Rattle.std.proofs.lemmas.List.{get_or_default, get_or-map, length-map}
 use Rattle.std.proofs.lemmas.List.Elements.{All-contains, Contains-get_or}
-use Rattle.tier_core.specs.declared.constraint.Constraint.{Constraint}
-use Rattle.tier_core.specs.declared.kind.Kind.{Kind}
-use Rattle.tier_core.specs.declared.sym.Sym.{Sym}
-use Rattle.tier_core.specs.Kinds.{PrefixKind, AreStretchesBelow, prefix_kind}
-use Rattle.tier_core.specs.Scan.{opens}
-use Rattle.tier_core.specs.Sides.{is_stretch}
-use Rattle.tier_core.specs.Timelines.{symbol, has_edge, project, squeeze, tier_word}
-use Rattle.weight_law.specs.declared.Weight.{Ghosts}
-use Rattle.weight_law.specs.declared.unit_weight.UnitWeight.{UnitWeight}
-use Rattle.arc_table.specs.declared.state.TableState.{TableState}
-use Rattle.arc_table.specs.Conditions.{TargetsExist, ClassesFilled}
-use Rattle.prune_best.specs.Tight.{IsTight}
-use Rattle.violation.specs.Moves.{input_of, next_phases}
-use Rattle.violation.specs.Prefixes.{is_open, phase}
-use Rattle.violation.specs.Problems.{last_stage}
-use Rattle.kind_moves.specs.declared.frame.Frame.{Frame}
-use Rattle.kind_moves.specs.Frames.{problem_in, tiers_in, constraints_in, stretches_in, kind_at_stage, FitsFrame}
-use Rattle.kind_moves.specs.Frames.{AreClosedOr, is_left_open}
-use Rattle.kind_tables.specs.StageTables.{name_of, AreNamedByKinds}
-use Rattle.kind_tables.specs.FoundTables.{names_kept}
-use Rattle.stage_laws.proofs.Pruned.{kept_named}
-use Rattle.tier_core.specs.EmptyKind.{empty_kind}
+use Rattle.std.specs.List.{AllByRecursion}
+use Rattle.tier_core.specs.{declared.constraint.Constraint.Constraint, declared.kind.Kind.Kind, declared.sym.Sym.Sym}
+use Rattle.tier_core.specs.{Kinds.{PrefixKind, AreStretchesBelow, prefix_kind}, Scan.opens, Sides.is_stretch}
+use Rattle.tier_core.specs.{Timelines.{symbol, has_edge, project, squeeze, tier_word}, EmptyKind.empty_kind}
 use Rattle.tier_core.specs.KindNumbers.{kind_numbered}
+use Rattle.weight_law.specs.{declared.Weight.Ghosts, declared.unit_weight.UnitWeight.UnitWeight}
+use Rattle.arc_table.specs.{declared.state.TableState.TableState, Conditions.{TargetsExist, ClassesFilled}}
+use Rattle.prune_best.specs.Tight.{IsTight}
+use Rattle.violation.specs.{Moves.{input_of, next_phases}, Prefixes.{is_open, phase}, Problems.last_stage}
+use Rattle.kind_moves.specs.{declared.frame.Frame.Frame, Frames.{problem_in, tiers_in, constraints_in, stretches_in}}
+use Rattle.kind_moves.specs.Frames.{kind_at_stage, FitsFrame, AreClosedOr, is_left_open}
+use Rattle.kind_tables.specs.{StageTables.{name_of, AreNamedByKinds}, FoundTables.names_kept}
+use Rattle.stage_laws.proofs.Pruned.{kept_named}
 use Rattle.tier_core.proofs.Members.{contains_map, contains_of_map, all_from_members}
-use Rattle.stage_tables.specs.Explored.{names_at}
-use Rattle.stage_tables.specs.Kept.{AreKeptByKinds}
+use Rattle.tier_core.proofs.Differing.{differ_from_pairs, no_longer}
+use Rattle.stage_tables.specs.{Explored.names_at, Kept.AreKeptByKinds}
 use Rattle.stage_tables.proofs.Named.{frame_stage}
 use Rattle.ranked_gen.specs.KindsLeft.{AreKindsLeft}
-use Rattle.tier_core.proofs.Differing.{differ_from_pairs, no_longer}
 use Rattle.ranked_gen.proofs.OrderedNames.{count_kinds, name_is}
 
 -- ---- of the states that are pruned

@@ -1,24 +1,15 @@
 -- Kinds that have a number when no constraint is ranked.
-use Rattle.std.proofs.Common.{◌≡◌, ℕ, ◌+◌, ◌*◌, ◌/◌, ◌^◌, ◌<◌, ◌≤◌, ◌⊎◌, inl, inr, Bool, true, false, cond, List, []}
-use Rattle.std.proofs.Common.{◌∷◌, length, refl, ap, sym, ◌∙◌, subst, arith}
-use Rattle.std.proofs.lemmas.Bool.{false≢true}
-use Rattle.std.proofs.lemmas.Nat.{div_below, pow_pos}
-use Rattle.std.proofs.Math.Nat.{mul-le-mul_right}
-use Rattle.std.proofs.lemmas.List.{length-map}
-use Rattle.tier_core.specs.declared.sym.Sym.{Sym}
-use Rattle.tier_core.specs.Kinds.{PrefixKind}
-use Rattle.tier_core.specs.Scan.{opens}
+use Rattle.std.proofs.Common.{◌≡◌, ℕ, ◌+◌, ◌*◌, ◌/◌, ◌^◌, ◌<◌, ◌≤◌, ◌⊎◌, inl, inr, Bool, true, false, cond, List}
+use Rattle.std.proofs.{Common.{[], ◌∷◌, length, refl, ap, sym, ◌∙◌, subst, arith}, lemmas.Bool.false≢true}
+use Rattle.std.proofs.{lemmas.Nat.{div_below, pow_pos}, Math.Nat.mul-le-mul_right, lemmas.List.length-map}
+use Rattle.tier_core.specs.{declared.sym.Sym.Sym, Kinds.PrefixKind, Scan.opens}
 use Rattle.tier_core.specs.Timelines.{has_edge, symbol, tier_word, column_at}
-use Rattle.violation.specs.Candidates.{IsForm}
-use Rattle.violation.specs.Conditions.{AreSplit}
-use Rattle.violation.specs.Prefixes.{is_open, kind_of}
-use Rattle.violation.specs.Moves.{FitsKind, next_kind, input_of}
-use Rattle.violation.specs.Walks.{HasMoves, walk_end, BeginsCandidate}
-use Rattle.violation.proofs.WalkLemmas.{moves_begin, reached_is}
-use Rattle.ranked_gen.specs.Numbers.{number_of_flags, number_of_kind, kind_of_number}
-use Rattle.ranked_gen.specs.Listed.{kind_count}
-use Rattle.ranked_gen.proofs.NumberLemmas.{length-flags_of, number-lt}
+use Rattle.violation.specs.{Candidates.IsForm, Conditions.AreSplit, Prefixes.{is_open, kind_of}}
+use Rattle.violation.specs.{Moves.{FitsKind, next_kind, input_of}, Walks.{HasMoves, walk_end, BeginsCandidate}}
 use Rattle.violation.specs.Problems.{last_place, Problem}
+use Rattle.violation.proofs.WalkLemmas.{moves_begin, reached_is}
+use Rattle.ranked_gen.specs.{Numbers.{number_of_flags, number_of_kind, kind_of_number}, Listed.kind_count}
+use Rattle.ranked_gen.proofs.NumberLemmas.{length-flags_of, number-lt}
 
 -- a kind that the numbers tell: its place is in the form, and it has a flag for each free tier
 pub record IsWithin (problem : Problem) (k : PrefixKind) : Type 0 where

@@ -1,30 +1,21 @@
 -- The next stage of a frame, from a kept table that is explored.
 use Rattle.std.proofs.Common.{◌≡◌, ◌≢◌, ℕ, ◌+◌, ◌-◌, ◌<◌, ◌≤◌, List, [], ◌∷◌, length, ◌∙◌, subst, arith}
+use Rattle.std.proofs.{lemmas.List.length-map, lemmas.List.Elements.All-contains}
 use Rattle.std.specs.Prelude.{◌↔◌}
-use Rattle.std.proofs.lemmas.List.{length-map}
-use Rattle.std.proofs.lemmas.List.Elements.{All-contains}
-use Rattle.weight_law.specs.declared.Weight.{Ghosts}
-use Rattle.weight_law.specs.declared.count.Count.{Count}
+use Rattle.weight_law.specs.{declared.Weight.Ghosts, declared.count.Count.Count}
 use Rattle.weight_law.specs.declared.unit_weight.UnitWeight.{UnitWeight}
-use Rattle.tier_core.specs.declared.kind.Kind.{Kind}
-use Rattle.tier_core.specs.declared.sym.Sym.{Sym}
-use Rattle.arc_table.specs.declared.state.TableState.{TableState}
-use Rattle.arc_table.specs.Conditions.{TargetsExist, ClassesFilled}
+use Rattle.tier_core.specs.{declared.kind.Kind.Kind, declared.sym.Sym.Sym}
+use Rattle.arc_table.specs.{declared.state.TableState.TableState, Conditions.{TargetsExist, ClassesFilled}}
 use Rattle.arc_table.specs.Runs.{Accepts}
-use Rattle.violation.specs.Candidates.{IsOptimalFor}
-use Rattle.kind_moves.specs.declared.frame.Frame.{Frame}
-use Rattle.kind_moves.specs.Frames.{kind_at_stage}
+use Rattle.violation.specs.{Candidates.IsOptimalFor, Problems.last_stage}
+use Rattle.kind_moves.specs.{declared.frame.Frame.Frame, Frames.{kind_at_stage, problem_in}}
 use Rattle.kind_tables.specs.StageTables.{IsStageTable}
 use Rattle.kind_tables.proofs.Naming.{names_law}
-use Rattle.stage_tables.specs.Kept.{IsKeptTable}
-use Rattle.stage_tables.specs.Explored.{names_at, IsExplored, IsMet, HasMoreKinds}
+use Rattle.stage_tables.specs.{Kept.IsKeptTable, Explored.{names_at, IsExplored, IsMet, HasMoreKinds}}
 use Rattle.ranked_gen.specs.Budgets.{IsOver, IsStageWithin}
 use Rattle.tier_core.proofs.Differing.{differ_from_pairs}
-use Rattle.ranked_gen.proofs.FewKinds.{stage_few}
-use Rattle.ranked_gen.proofs.OverBudget.{over_budget}
+use Rattle.ranked_gen.proofs.{FewKinds.stage_few, OverBudget.over_budget}
 use Rattle.stage_tables.proofs.Named.{frame_stage}
-use Rattle.violation.specs.Problems.{last_stage}
-use Rattle.kind_moves.specs.Frames.{problem_in}
 
 module _ (frame : Frame) (stage : ℕ) (ranked : 1 ≤ stage) (within : stage ≤ last_stage (problem_in frame))
     {h : Ghosts UnitWeight} (kept : List (TableState UnitWeight h))

@@ -1,17 +1,11 @@
 -- Numbers of kinds.
-use Rattle.std.proofs.Common.{◌≡◌, ℕ, zero, suc, ◌+◌, ◌-◌, ◌*◌, ◌/◌, ◌%◌, ◌^◌, ◌==◌, ◌<◌, ◌≤◌, Bool, true, false, cond}
-use Rattle.std.proofs.Common.{List, [], ◌∷◌, map, length, refl, ap, sym, ◌∙◌, arith, ⊎_elim}
-use Rattle.std.specs.Int.{bit_at}
+use Rattle.std.proofs.Common.{◌≡◌, ℕ, zero, suc, ◌+◌, ◌-◌, ◌*◌, ◌/◌, ◌%◌, ◌^◌, ◌==◌, ◌<◌, ◌≤◌, Bool, true, false}
+use Rattle.std.proofs.Common.{cond, List, [], ◌∷◌, map, length, refl, ap, sym, ◌∙◌, arith, ⊎_elim}
 use Rattle.std.proofs.lemmas.Nat.{mod-pow-add, pow_pos, div-mul-add, div-add-mod', le-div}
-use Rattle.std.specs.Cmp.{nat_cmp_is}
-use Rattle.std.proofs.lemmas.Nat.Bits.{bit_at-lt, bit_at_cat_low, bit_at_cat_high}
-use Rattle.std.proofs.lemmas.Bool.{cases_lt}
-use Rattle.std.specs.Ordering.{nat_cmp, ordering_then}
-use Rattle.std.specs.Cmp.Lexicographic.{slice_cmp}
-use Rattle.std.specs.declared.cmp.Ordering.{Ordering}
-use Rattle.std.specs.declared.cmp.Ordering.TheVariants.{Less, Equal}
-use Rattle.tier_core.specs.Tiers.{has_tier}
-use Rattle.tier_core.specs.Kinds.{Phase, PrefixKind, open_rank, kind_order}
+use Rattle.std.proofs.{lemmas.Nat.Bits.{bit_at-lt, bit_at_cat_low, bit_at_cat_high}, lemmas.Bool.cases_lt}
+use Rattle.std.specs.{Int.bit_at, Cmp.nat_cmp_is, Ordering.{nat_cmp, ordering_then}, Cmp.Lexicographic.slice_cmp}
+use Rattle.std.specs.{declared.cmp.Ordering.Ordering, declared.cmp.Ordering.TheVariants.{Less, Equal}}
+use Rattle.tier_core.specs.{Tiers.has_tier, Kinds.{Phase, PrefixKind, open_rank, kind_order}}
 use Rattle.ranked_gen.specs.Numbers.{number_of_flags, flags_of, number_of_kind, kind_of_number}
 
 -- one more bit

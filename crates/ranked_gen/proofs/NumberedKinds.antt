@@ -1,9 +1,8 @@
 -- The numbers of the kinds that pass a test.
-use Rattle.std.proofs.Common.{◌≡◌, ℕ, zero, suc, ◌+◌, ◌<◌, ◌≤◌, Bool, true, false, cond, List, [], ◌∷◌, ◌++◌, length}
-use Rattle.std.proofs.Common.{take, get_or, sym, ap, ◌∙◌, arith}
+use Rattle.std.proofs.Common.{◌≡◌, ℕ, zero, suc, ◌+◌, ◌<◌, ◌≤◌, Bool, true, false, cond, List, [], ◌∷◌, ◌++◌}
+use Rattle.std.proofs.Common.{length, take, get_or, sym, ap, ◌∙◌, arith}
 use Rattle.std.specs.List.{AllByRecursion}
-use Rattle.tier_core.specs.declared.tier.TierKind.{TierKind}
-use Rattle.tier_core.specs.Tiers.{is_free, numbers_from, tiers_by_kinds, kind_at}
+use Rattle.tier_core.specs.{declared.tier.TierKind.TierKind, Tiers.{is_free, numbers_from, tiers_by_kinds, kind_at}}
 use Rattle.tier_core.proofs.CountLemmas.{all_weaker}
 use Rattle.violation.specs.Conditions.{AreDistinct}
 use Rattle.violation.proofs.SplitLemmas.{numbers_distinct}

@@ -1,28 +1,18 @@
 -- Kinds under all constraints, and a budget.
 use Rattle.std.proofs.Common.{◌≡◌, ◌≢◌, ℕ, ◌≤◌, List, [], ◌∷◌, ◌++◌, map, take, length, refl, sym, ap, ◌∙◌, subst}
-use Rattle.std.proofs.Common.{arith, AllPairs, Contains}
-use Rattle.std.proofs.lemmas.List.{get_or-map, length-map}
-use Rattle.std.specs.List.{AllByRecursion}
+use Rattle.std.proofs.{Common.{arith, AllPairs, Contains}, lemmas.List.{get_or-map, length-map}}
 use Rattle.std.proofs.lemmas.List.Elements.{All-contains, All-from_recursion}
-use Rattle.std.specs.Prelude.{◌↔◌}
-use Rattle.tier_core.specs.declared.sym.Sym.{Sym}
-use Rattle.tier_core.specs.Kinds.{PrefixKind}
-use Rattle.violation.specs.Candidates.{IsCandidate}
-use Rattle.violation.specs.Moves.{cut_kind}
-use Rattle.violation.specs.Prefixes.{kind_of}
-use Rattle.violation.specs.Rests.{IsWholeKind, AreWholeKindsOver, AreWholeKindsWithin}
-use Rattle.violation.specs.Stages.{IsPassed}
-use Rattle.violation.proofs.StageLemmas.{all_optimal}
-use Rattle.violation.proofs.CutLemmas.{cut_kind-kind_of}
-use Rattle.violation.proofs.CutCandidates.{prefix_passed}
-use Rattle.kind_moves.specs.declared.frame.Frame.{Frame}
-use Rattle.kind_moves.specs.Frames.{problem_in}
+use Rattle.std.specs.{List.AllByRecursion, Prelude.◌↔◌}
+use Rattle.tier_core.specs.{declared.sym.Sym.Sym, Kinds.PrefixKind}
+use Rattle.violation.specs.{Candidates.IsCandidate, Moves.cut_kind, Prefixes.kind_of}
+use Rattle.violation.specs.{Rests.{IsWholeKind, AreWholeKindsOver, AreWholeKindsWithin}, Stages.IsPassed}
+use Rattle.violation.specs.Problems.{Problem, last_stage}
+use Rattle.violation.proofs.{StageLemmas.all_optimal, CutLemmas.cut_kind-kind_of, CutCandidates.prefix_passed}
+use Rattle.kind_moves.specs.{declared.frame.Frame.Frame, Frames.problem_in}
 use Rattle.stage_tables.specs.Explored.{HasMoreKinds}
 use Rattle.ranked_gen.specs.Budgets.{IsOver}
 use Rattle.tier_core.proofs.Differing.{differ_from_pairs, pairs_from_differ, no_longer}
-use Rattle.tier_core.proofs.AscendingKinds.{ascending_differ}
-use Rattle.tier_core.proofs.Members.{all_from_members}
-use Rattle.violation.specs.Problems.{Problem, last_stage}
+use Rattle.tier_core.proofs.{AscendingKinds.ascending_differ, Members.all_from_members}
 
 -- what differs after a cut differs
 uncut_differ : (f : PrefixKind → PrefixKind) (ks : List PrefixKind) → AllPairs (λ k l. k ≢ l) (map f ks)

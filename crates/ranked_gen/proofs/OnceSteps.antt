@@ -1,51 +1,35 @@
 -- What a single pass finds, from its table that is ordered, weighed and pruned.
-use Rattle.std.proofs.Common.{◌≡◌, ℕ, ◌<◌, ◌≤◌, List, [], Option, None, Some, map, take, length, get_or, refl, sym, ap}
-use Rattle.std.proofs.Common.{◌∙◌, subst, arith, All, Contains}
+use Rattle.std.proofs.Common.{◌≡◌, ℕ, ◌<◌, ◌≤◌, List, [], Option, None, Some, map, take, length, get_or, refl, sym}
+use Rattle.std.proofs.{Common.{ap, ◌∙◌, subst, arith, All, Contains}, lemmas.List.{get_or-map, length-map}}
+use Rattle.std.proofs.{lemmas.Simd.map-map, Math.Seq.take-append_seam}
 use Rattle.std.specs.List.Sorted.{IsStrictlySortedBy}
-use Rattle.std.proofs.lemmas.List.{get_or-map, length-map}
-use Rattle.std.proofs.lemmas.Simd.{map-map}
-use Rattle.std.proofs.Math.Seq.{take-append_seam}
-use Rattle.tier_core.specs.declared.kind.Kind.{Kind}
-use Rattle.tier_core.specs.declared.shape.Shape.{Shape}
-use Rattle.tier_core.specs.Kinds.{prefix_kind, kind_order}
-use Rattle.tier_core.specs.KindShapes.{stretch_count, kind_in}
-use Rattle.weight_law.specs.declared.Weight.{Ghosts}
-use Rattle.weight_law.specs.declared.ranked.Ranked.{Ranked}
-use Rattle.weight_law.specs.declared.unit_weight.UnitWeight.{UnitWeight}
-use Rattle.weight_law.specs.Ranked.{parts_of_vector, ranked_meaning}
-use Rattle.arc_table.specs.declared.state.TableState.{TableState}
-use Rattle.arc_table.specs.Conditions.{TargetsExist, ClassesFilled}
+use Rattle.tier_core.specs.{declared.kind.Kind.Kind, declared.shape.Shape.Shape, Kinds.{prefix_kind, kind_order}}
+use Rattle.tier_core.specs.{KindShapes.{stretch_count, kind_in}, EmptyKind.empty_kind}
+use Rattle.weight_law.specs.{declared.Weight.Ghosts, declared.ranked.Ranked.Ranked}
+use Rattle.weight_law.specs.{declared.unit_weight.UnitWeight.UnitWeight, Ranked.{parts_of_vector, ranked_meaning}}
+use Rattle.arc_table.specs.{declared.state.TableState.TableState, Conditions.{TargetsExist, ClassesFilled}}
 use Rattle.distances.specs.Least.{AreLeast}
 use Rattle.prune_best.specs.Tight.{IsTight}
 use Rattle.prune_best.proofs.Words.{some_of}
-use Rattle.violation.specs.Candidates.{IsLeastVector}
-use Rattle.violation.specs.Counts.{violations_of}
-use Rattle.violation.specs.Rests.{IsLeastRestVector, AreWholeKinds}
+use Rattle.violation.specs.{Candidates.IsLeastVector, Counts.violations_of, Rests.{IsLeastRestVector, AreWholeKinds}}
+use Rattle.violation.specs.Problems.{last_stage}
 use Rattle.grammar_reader.specs.ShapeOf.{IsShapeOf}
 use Rattle.grammar_reader.proofs.OverTiers.{few_constraints}
 use Rattle.kind_moves.specs.declared.frame.Frame.{Frame}
 use Rattle.kind_moves.specs.Frames.{tiers_in, constraints_in, kind_at_stage, problem_in, FitsFrame}
-use Rattle.answer_text.specs.declared.stage.Node.{Node}
-use Rattle.answer_text.specs.declared.once_answer.OnceNode.{OnceNode}
+use Rattle.answer_text.specs.{declared.stage.Node.Node, declared.once_answer.OnceNode.OnceNode}
 use Rattle.answer_text.specs.RightOnce.{kind_told, bare_nodes, IsRightPotential}
-use Rattle.kind_tables.specs.StageTables.{IsStage}
-use Rattle.kind_tables.specs.FoundTables.{names_kept}
-use Rattle.kind_tables.specs.RankedTables.{IsRankedTable}
-use Rattle.stage_laws.proofs.LeastVectors.{least_vector, least_rest_vector}
-use Rattle.stage_laws.proofs.PrunedOnce.{whole_names, once_words}
+use Rattle.kind_tables.specs.{StageTables.IsStage, FoundTables.names_kept, RankedTables.IsRankedTable}
+use Rattle.stage_laws.proofs.{LeastVectors.{least_vector, least_rest_vector}, PrunedOnce.{whole_names, once_words}}
 use Rattle.stage_laws.proofs.Resting.{least_from, some_weight}
-use Rattle.tier_core.specs.EmptyKind.{empty_kind}
-use Rattle.kind_orders.specs.KindOrders.{prefix_kind_at, IsKindOrder}
-use Rattle.kind_orders.specs.StageNodes.{node_numbered, AreNodesInOrder}
+use Rattle.kind_orders.specs.{KindOrders.{prefix_kind_at, IsKindOrder}, StageNodes.{node_numbered, AreNodesInOrder}}
 use Rattle.kind_orders.proofs.Nodes.{are_nodes}
 use Rattle.stage_tables.specs.Explored.{names_at}
 use Rattle.stage_tables.proofs.Named.{frame_stage}
-use Rattle.ranked_gen.specs.FittingKinds.{FitsStage}
-use Rattle.ranked_gen.specs.OptimalParts.{IsOptimalPart}
+use Rattle.ranked_gen.specs.{FittingKinds.FitsStage, OptimalParts.IsOptimalPart}
 use Rattle.ranked_gen.specs.Once.{weight_found, once_node, IsOncePart}
 use Rattle.ranked_gen.proofs.OrderedNames.{count_kinds, name_is, first_number, kept_by_names, ordered, tells}
 use Rattle.ranked_gen.proofs.StageShapes.{free_same, stretch_same, nodes_fit}
-use Rattle.violation.specs.Problems.{last_stage}
 
 module _ (frame : Frame) (kinds : List Kind) {g : Ghosts Ranked} (meaning : g.meaning ≡ ranked_meaning)
     (states : List (TableState Ranked g))

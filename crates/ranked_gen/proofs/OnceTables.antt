@@ -1,21 +1,14 @@
 -- All candidates explored under all constraints.
-use Rattle.std.proofs.Common.{◌≡◌, ◌↔◌, ℕ, ◌≤◌, List, length, subst, arith}
-use Rattle.std.proofs.lemmas.List.{length-map}
-use Rattle.weight_law.specs.declared.Weight.{Ghosts}
-use Rattle.weight_law.specs.declared.count.Count.{Count}
-use Rattle.tier_core.specs.declared.kind.Kind.{Kind}
-use Rattle.tier_core.specs.declared.sym.Sym.{Sym}
-use Rattle.arc_table.specs.declared.state.TableState.{TableState}
-use Rattle.arc_table.specs.Runs.{Accepts}
-use Rattle.violation.specs.Candidates.{IsCandidate, IsOptimalFor}
-use Rattle.violation.specs.Problems.{last_stage}
+use Rattle.std.proofs.{Common.{◌≡◌, ◌↔◌, ℕ, ◌≤◌, List, length, subst, arith}, lemmas.List.length-map}
+use Rattle.weight_law.specs.{declared.Weight.Ghosts, declared.count.Count.Count}
+use Rattle.tier_core.specs.{declared.kind.Kind.Kind, declared.sym.Sym.Sym}
+use Rattle.arc_table.specs.{declared.state.TableState.TableState, Runs.Accepts}
+use Rattle.violation.specs.{Candidates.{IsCandidate, IsOptimalFor}, Problems.last_stage}
 use Rattle.violation.specs.Rests.{AreWholeKindsWithin, AreWholeKindsOver}
 use Rattle.violation.proofs.StageLemmas.{all_optimal}
-use Rattle.kind_moves.specs.declared.frame.Frame.{Frame}
-use Rattle.kind_moves.specs.Frames.{problem_in, kind_at_stage}
+use Rattle.kind_moves.specs.{declared.frame.Frame.Frame, Frames.{problem_in, kind_at_stage}}
 use Rattle.kind_tables.proofs.Naming.{names_law}
-use Rattle.stage_tables.specs.Explored.{names_at, IsComplete, HasMoreKinds}
-use Rattle.stage_tables.specs.Ranking.{IsWholeTable}
+use Rattle.stage_tables.specs.{Explored.{names_at, IsComplete, HasMoreKinds}, Ranking.IsWholeTable}
 use Rattle.stage_tables.proofs.Named.{frame_stage}
 use Rattle.ranked_gen.proofs.OnceBudgets.{names_within, met_over_whole}
 

@@ -1,45 +1,29 @@
 -- The kinds that name the states of a table, in kind order, and the states of what is pruned from it.
-use Rattle.std.proofs.Common.{◌≡◌, ℕ, zero, suc, ◌<◌, ◌≤◌, List, [], ◌∷◌, Some, map, length, get_or, slice_get, sym, ap}
-use Rattle.std.proofs.Common.{◌∙◌, subst, arith, ⊎_elim}
-use Rattle.std.specs.declared.cmp.Ordering.{Ordering}
-use Rattle.std.specs.declared.cmp.Ordering.TheVariants.{Less}
-use Rattle.std.proofs.lemmas.Bool.{cases_order}
+use Rattle.std.proofs.Common.{◌≡◌, ℕ, zero, suc, ◌<◌, ◌≤◌, List, [], ◌∷◌, Some, map, length, get_or, slice_get, sym}
+use Rattle.std.proofs.{Common.{ap, ◌∙◌, subst, arith, ⊎_elim}, lemmas.Bool.cases_order}
 use Rattle.std.proofs.lemmas.List.{get_or_default, get_or-map, length-map}
-use Rattle.std.proofs.lemmas.List.FromFn.{length-map-range_with_len}
-use Rattle.std.proofs.lemmas.Option.{slice_get-get_or}
-use Rattle.tier_core.specs.declared.kind.Kind.{Kind}
-use Rattle.tier_core.specs.declared.shape.Shape.{Shape}
-use Rattle.tier_core.specs.declared.sym.Sym.{Sym}
-use Rattle.tier_core.specs.Kinds.{phase_at, kind_order}
-use Rattle.tier_core.specs.KindShapes.{free_count, stretch_count}
-use Rattle.tier_core.specs.Tiers.{has_tier}
+use Rattle.std.proofs.{lemmas.List.FromFn.length-map-range_with_len, lemmas.Option.slice_get-get_or}
+use Rattle.std.specs.{declared.cmp.Ordering.Ordering, declared.cmp.Ordering.TheVariants.Less}
+use Rattle.tier_core.specs.{declared.kind.Kind.Kind, declared.shape.Shape.Shape, declared.sym.Sym.Sym}
+use Rattle.tier_core.specs.{Kinds.{phase_at, kind_order}, KindShapes.{free_count, stretch_count}, Tiers.has_tier}
+use Rattle.tier_core.specs.{EmptyKind.empty_kind, KindNumbers.kind_numbered}
 use Rattle.weight_law.specs.declared.Weight.{Ghosts}
-use Rattle.arc_table.specs.declared.state.TableState.{TableState}
-use Rattle.arc_table.specs.Conditions.{TargetsExist, ClassesFilled}
+use Rattle.arc_table.specs.{declared.state.TableState.TableState, Conditions.{TargetsExist, ClassesFilled}}
 use Rattle.prune_best.specs.Tight.{IsTight}
-use Rattle.violation.specs.Prefixes.{kind_of}
-use Rattle.violation.proofs.StageLemmas.{over_stretches}
+use Rattle.violation.specs.{Prefixes.kind_of, Problems.last_stage}
+use Rattle.violation.proofs.{StageLemmas.over_stretches, FirstKind.none_before}
 use Rattle.grammar_reader.specs.ShapeOf.{IsShapeOf}
-use Rattle.kind_moves.specs.declared.frame.Frame.{Frame}
-use Rattle.kind_moves.specs.Frames.{kind_at_stage, problem_in}
+use Rattle.kind_moves.specs.{declared.frame.Frame.Frame, Frames.{kind_at_stage, problem_in}}
 use Rattle.answer_text.specs.declared.stage.Node.{Node}
-use Rattle.kind_tables.specs.StageTables.{IsStage, name_of, AreNamedByKinds}
-use Rattle.kind_tables.specs.FoundTables.{names_kept}
+use Rattle.kind_tables.specs.{StageTables.{IsStage, name_of, AreNamedByKinds}, FoundTables.names_kept}
 use Rattle.kind_tables.proofs.Naming.{path_kind}
 use Rattle.stage_laws.proofs.Pruned.{kept_named}
-use Rattle.kind_orders.specs.Orderings.{IsOrdering}
-use Rattle.tier_core.specs.EmptyKind.{empty_kind}
-use Rattle.tier_core.specs.KindNumbers.{kind_numbered}
-use Rattle.kind_orders.specs.KindOrders.{prefix_kind_at, IsKindOrder}
-use Rattle.kind_orders.specs.Automata.{ReadsTo}
+use Rattle.kind_orders.specs.{Orderings.IsOrdering, KindOrders.{prefix_kind_at, IsKindOrder}, Automata.ReadsTo}
 use Rattle.stage_tables.specs.Explored.{names_at}
 use Rattle.stage_tables.proofs.Named.{frame_stage}
 use Rattle.ranked_gen.specs.Left.{IsNodeOfKind, AreOrdered}
-use Rattle.ranked_gen.proofs.WidenedColumns.{all_at}
-use Rattle.ranked_gen.proofs.Ascending.{Ascends, ascends_from}
-use Rattle.violation.proofs.FirstKind.{none_before}
+use Rattle.ranked_gen.proofs.{WidenedColumns.all_at, Ascending.{Ascends, ascends_from}}
 use Rattle.ranked_gen.proofs.StageShapes.{tell_same, free_same, stretch_same}
-use Rattle.violation.specs.Problems.{last_stage}
 
 -- the first of an ascending list comes before a later one
 first_less : {X : Type 0} (c : X → X → Ordering) (xs : List X) (d : X) (i : ℕ) → Ascends c xs → 0 < i → i < length xs

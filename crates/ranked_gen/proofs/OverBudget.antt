@@ -2,48 +2,29 @@
 -- more kinds than a budget are found is over it.
 use Rattle.std.proofs.Common.{filter, ◌≡◌, ◌≢◌, ℕ, zero, suc, ◌+◌, ◌-◌, ◌<◌, ◌≤◌, ◌⊎◌, inl, inr, Bool, true, false}
 use Rattle.std.proofs.Common.{cond, List, [], ◌∷◌, ◌++◌, map, take, drop, length, get_or, refl, sym, ap, ap₂, ◌∙◌}
-use Rattle.std.proofs.Common.{subst, arith, ⊎_elim, Contains}
-use Rattle.std.specs.Prelude.{◌↔◌}
-use Rattle.std.specs.List.{range_with_len, flat_map}
-use Rattle.std.proofs.lemmas.Bool.{cases_order}
-use Rattle.std.proofs.lemmas.List.{length-map, take-append-drop}
-use Rattle.std.proofs.lemmas.List.Filters.{length-filter_more}
-use Rattle.weight_law.specs.declared.Weight.{Ghosts}
-use Rattle.weight_law.specs.declared.unit_weight.UnitWeight.{UnitWeight}
-use Rattle.tier_core.specs.declared.sym.Sym.{Sym}
-use Rattle.tier_core.specs.declared.constraint.Constraint.{Constraint}
-use Rattle.tier_core.specs.Kinds.{Phase, closed, unmet, met, PrefixKind, kind_order}
-use Rattle.tier_core.specs.Sides.{is_stretch}
-use Rattle.arc_table.specs.declared.arc.TableArc.{TableArc}
-use Rattle.arc_table.specs.declared.state.TableState.{TableState}
-use Rattle.arc_table.specs.Conditions.{TargetsExist, ClassesFilled}
-use Rattle.arc_table.specs.Moves.{moves_at}
-use Rattle.arc_table.specs.Runs.{Accepts, IsPath, Reads}
+use Rattle.std.proofs.{Common.{subst, arith, ⊎_elim, Contains}, lemmas.Bool.cases_order}
+use Rattle.std.proofs.{lemmas.List.{length-map, take-append-drop}, lemmas.List.Filters.length-filter_more}
+use Rattle.std.specs.{Prelude.◌↔◌, List.{range_with_len, flat_map}}
+use Rattle.weight_law.specs.{declared.Weight.Ghosts, declared.unit_weight.UnitWeight.UnitWeight}
+use Rattle.tier_core.specs.{declared.sym.Sym.Sym, declared.constraint.Constraint.Constraint}
+use Rattle.tier_core.specs.{Kinds.{Phase, closed, unmet, met, PrefixKind, kind_order}, Sides.is_stretch}
+use Rattle.arc_table.specs.{declared.arc.TableArc.TableArc, declared.state.TableState.TableState}
+use Rattle.arc_table.specs.{Conditions.{TargetsExist, ClassesFilled}, Moves.moves_at, Runs.{Accepts, IsPath, Reads}}
 use Rattle.arc_table.proofs.SomeWord.{some_word}
-use Rattle.violation.specs.Candidates.{IsCandidate, IsOptimalFor}
-use Rattle.violation.specs.Moves.{next_kind, cut_kind}
-use Rattle.violation.specs.Prefixes.{kind_of, phase, stretches}
-use Rattle.violation.specs.Stages.{IsPassed, AreKindsOfStage}
-use Rattle.violation.specs.Walks.{walk_end}
-use Rattle.violation.proofs.WalkLemmas.{moves_begin, reached_is}
-use Rattle.kind_tables.specs.StageTables.{IsStage, name_of, AreNamedByKinds}
-use Rattle.violation.proofs.CutLemmas.{cut_kind-kind_of}
-use Rattle.kind_tables.proofs.Naming.{path_kind}
-use Rattle.violation.proofs.StageLemmas.{over_stretches}
-use Rattle.violation.proofs.CutCandidates.{prefix_passed, candidate_cut}
-use Rattle.kind_tables.proofs.Paths.{IsParted, parted, joined_run, joined_reads, path_push}
-use Rattle.stage_tables.specs.Kept.{AreKeptByKinds}
-use Rattle.tier_core.proofs.KindTies.{same_or_not}
-use Rattle.tier_core.proofs.Members.{contains_map, contains_of_map, contains_first, contains_later, contains_flat}
-use Rattle.tier_core.proofs.Members.{contains_of_flat}
-use Rattle.ranked_gen.specs.Budgets.{IsOver}
-use Rattle.ranked_gen.proofs.ClassColumns.{columns_in, in_columns, of_columns}
-use Rattle.ranked_gen.proofs.Ascending.{sorted_from}
-use Rattle.tier_core.proofs.RangeMembers.{range_has}
-use Rattle.tier_core.proofs.Differing.{Differ, no_longer}
-use Rattle.ranked_gen.proofs.SortedKinds.{sorted_kinds}
-use Rattle.ranked_gen.proofs.Closures.{IsClosed, closure}
+use Rattle.violation.specs.{Candidates.{IsCandidate, IsOptimalFor}, Moves.{next_kind, cut_kind}}
+use Rattle.violation.specs.{Prefixes.{kind_of, phase, stretches}, Stages.{IsPassed, AreKindsOfStage}, Walks.walk_end}
 use Rattle.violation.specs.Problems.{last_stage, Problem}
+use Rattle.violation.proofs.{WalkLemmas.{moves_begin, reached_is}, CutLemmas.cut_kind-kind_of}
+use Rattle.violation.proofs.{StageLemmas.over_stretches, CutCandidates.{prefix_passed, candidate_cut}}
+use Rattle.kind_tables.specs.StageTables.{IsStage, name_of, AreNamedByKinds}
+use Rattle.kind_tables.proofs.{Naming.path_kind, Paths.{IsParted, parted, joined_run, joined_reads, path_push}}
+use Rattle.stage_tables.specs.Kept.{AreKeptByKinds}
+use Rattle.tier_core.proofs.{KindTies.same_or_not, Members.{contains_map, contains_of_map, contains_first}}
+use Rattle.tier_core.proofs.{Members.{contains_later, contains_flat, contains_of_flat}, RangeMembers.range_has}
+use Rattle.tier_core.proofs.Differing.{Differ, no_longer}
+use Rattle.ranked_gen.specs.Budgets.{IsOver}
+use Rattle.ranked_gen.proofs.{ClassColumns.{columns_in, in_columns, of_columns}, Ascending.sorted_from}
+use Rattle.ranked_gen.proofs.{SortedKinds.sorted_kinds, Closures.{IsClosed, closure}}
 
 -- a state and a kind over it
 abbrev Place : Type 0

@@ -2,23 +2,16 @@
 use Rattle.std.specs.Prelude.{MatchOption, IsSome}
 use Rattle.std.proofs.Common.{◌≡◌, ℕ, ◌+◌, ◌<◌, List, [], ◌∷◌, ◌++◌, Option, None, Some, length, refl, sym, subst}
 use Rattle.std.proofs.Common.{arith}
-use Rattle.weight_law.specs.declared.Weight.{Ghosts}
-use Rattle.weight_law.specs.declared.unit_weight.UnitWeight.{UnitWeight}
-use Rattle.tier_core.specs.declared.sym.Sym.{Sym}
-use Rattle.tier_core.specs.Orders.{IsFirst}
-use Rattle.arc_table.specs.declared.state.TableState.{TableState}
-use Rattle.arc_table.specs.Conditions.{ClassesFilled}
-use Rattle.arc_table.specs.Runs.{Accepts}
+use Rattle.weight_law.specs.{declared.Weight.Ghosts, declared.unit_weight.UnitWeight.UnitWeight}
+use Rattle.tier_core.specs.{declared.sym.Sym.Sym, Orders.IsFirst}
+use Rattle.arc_table.specs.{declared.state.TableState.TableState, Conditions.ClassesFilled, Runs.Accepts}
 use Rattle.first_paths.specs.First.{AcceptsNone}
 use Rattle.arc_table.proofs.SomeWord.{some_word}
-use Rattle.violation.specs.Candidates.{IsOptimal}
-use Rattle.answer_text.specs.declared.stage.Node.{Node}
-use Rattle.answer_text.specs.declared.stage.Stage.{Stage}
-use Rattle.ranked_gen.specs.Budgets.{IsStageWithin}
-use Rattle.ranked_gen.specs.Left.{IsStageOutcome, IsCountedOutcome, AreStages, IsRanked}
+use Rattle.violation.specs.{Candidates.IsOptimal, Problems.{last_stage, Problem}}
+use Rattle.answer_text.specs.{declared.stage.Node.Node, declared.stage.Stage.Stage}
+use Rattle.ranked_gen.specs.{Budgets.IsStageWithin, Left.{IsStageOutcome, IsCountedOutcome, AreStages, IsRanked}}
 use Rattle.ranked_gen.specs.OptimalParts.{IsOptimalPart}
 use Rattle.ranked_gen.proofs.StageList.{nodes_last, next_stages}
-use Rattle.violation.specs.Problems.{last_stage, Problem}
 
 -- what a stage leaves, whatever its nodes' potentials are
 pub part_of : (problem : Problem) (r : ℕ) (nodes : List Node) {g : Ghosts UnitWeight}

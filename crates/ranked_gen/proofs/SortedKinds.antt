@@ -1,13 +1,10 @@
 -- Kinds in kind order: each list of kinds has the same kinds as an ascending one.
 use Rattle.std.proofs.Common.{◌≡◌, ◌⊎◌, inl, inr, List, [], ◌∷◌, refl, sym, ap, ◌∙◌, subst, ⊎_elim, Contains}
-use Rattle.std.specs.Prelude.{◌↔◌}
-use Rattle.std.specs.Ordering.{ordering_reverse}
-use Rattle.std.specs.declared.cmp.Ordering.{Ordering}
+use Rattle.std.specs.{Prelude.◌↔◌, Ordering.ordering_reverse, declared.cmp.Ordering.Ordering}
 use Rattle.std.specs.declared.cmp.Ordering.TheVariants.{Less, Equal, Greater}
 use Rattle.tier_core.specs.Kinds.{PrefixKind, kind_order}
-use Rattle.tier_core.proofs.KindTies.{same_kind, kind_order_total}
-use Rattle.tier_core.proofs.Members.{contains_none, contains_first, contains_later, contains_cases, all_from_members}
-use Rattle.tier_core.proofs.Members.{all_at_member}
+use Rattle.tier_core.proofs.{KindTies.{same_kind, kind_order_total}, Members.{contains_none, contains_first}}
+use Rattle.tier_core.proofs.Members.{contains_later, contains_cases, all_from_members, all_at_member}
 use Rattle.ranked_gen.proofs.Ascending.{Ascends}
 
 -- An ascending list with one kind more.

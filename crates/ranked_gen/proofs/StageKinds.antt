@@ -1,30 +1,20 @@
 -- The kinds of stage 0, and how many there are.
-use Rattle.std.proofs.Common.{◌≡◌, ◌≢◌, ℕ, ◌+◌, ◌*◌, ◌^◌, ◌<◌, ◌≤◌, false, List, [], ◌∷◌, Result, Ok, Err, IfOk, map}
-use Rattle.std.proofs.Common.{take, drop, length, refl, ap, sym, ◌∙◌, subst, arith, ne_eqb, eqb, Contains}
-use Rattle.std.specs.List.{range_with_len, IsDistinct}
-use Rattle.std.specs.Ordering.{nat_cmp}
-use Rattle.std.specs.declared.cmp.Ordering.TheVariants.{Less}
-use Rattle.std.proofs.lemmas.List.{length-map}
-use Rattle.std.proofs.lemmas.List.FromFn.{length-range_with_len}
+use Rattle.std.proofs.Common.{◌≡◌, ◌≢◌, ℕ, ◌+◌, ◌*◌, ◌^◌, ◌<◌, ◌≤◌, false, List, [], ◌∷◌, Result, Ok, Err, IfOk}
+use Rattle.std.proofs.Common.{map, take, drop, length, refl, ap, sym, ◌∙◌, subst, arith, ne_eqb, eqb, Contains}
+use Rattle.std.proofs.{lemmas.List.length-map, lemmas.List.FromFn.length-range_with_len}
 use Rattle.std.proofs.Math.Nat.{mul-le-mul, pow-le-pow_right}
-use Rattle.tier_core.specs.declared.sym.Sym.{Sym}
-use Rattle.tier_core.specs.Kinds.{PrefixKind, kind_order}
-use Rattle.violation.specs.Candidates.{IsForm, IsCandidate}
-use Rattle.violation.specs.Conditions.{AreSplit, AreDistinct}
-use Rattle.violation.specs.Stages.{IsPassed, AreKindsOfStage}
-use Rattle.violation.specs.Walks.{BeginsCandidate}
-use Rattle.tier_core.proofs.KindTies.{not_before_itself}
-use Rattle.tier_core.proofs.Members.{contains_map, contains_of_map, contains_first, contains_later, all_from_members}
-use Rattle.tier_core.proofs.Members.{all_at_member}
-use Rattle.ranked_gen.specs.Budgets.{IsFirstOver}
-use Rattle.ranked_gen.specs.Numbers.{number_of_kind, kind_of_number}
-use Rattle.ranked_gen.specs.Listed.{kind_count}
+use Rattle.std.specs.{List.{range_with_len, IsDistinct}, Ordering.nat_cmp, declared.cmp.Ordering.TheVariants.Less}
+use Rattle.tier_core.specs.{declared.sym.Sym.Sym, Kinds.{PrefixKind, kind_order}}
+use Rattle.violation.specs.{Candidates.{IsForm, IsCandidate}, Conditions.{AreSplit, AreDistinct}}
+use Rattle.violation.specs.{Stages.{IsPassed, AreKindsOfStage}, Walks.BeginsCandidate, Problems.Problem}
+use Rattle.tier_core.proofs.{KindTies.not_before_itself, Members.{contains_map, contains_of_map, contains_first}}
+use Rattle.tier_core.proofs.Members.{contains_later, all_from_members, all_at_member}
+use Rattle.tier_core.proofs.RangeMembers.{in_range, range_has}
+use Rattle.ranked_gen.specs.{Budgets.IsFirstOver, Numbers.{number_of_kind, kind_of_number}, Listed.kind_count}
 use Rattle.ranked_gen.proofs.NumberLemmas.{kind_of_number-number, kinds_less}
 use Rattle.ranked_gen.proofs.Ascending.{Ascends, sorted_from, ascends_map, ascends_range, nat_less}
-use Rattle.tier_core.proofs.RangeMembers.{in_range, range_has}
 use Rattle.ranked_gen.proofs.KindsWithin.{IsWithin, number_within, numbered_within, kind_within}
 use Rattle.ranked_gen.proofs.AllPassed.{all_passed}
-use Rattle.violation.specs.Problems.{Problem}
 use Rattle.violation.proofs.CutCandidates.{candidate_cut}
 
 -- numbers of kinds are small

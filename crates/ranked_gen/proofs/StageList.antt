@@ -1,22 +1,16 @@
 -- The stages one after another, and the answer at their end.
-use Rattle.std.proofs.Common.{◌≡◌, ℕ, ◌+◌, ◌-◌, ◌<◌, ◌≤◌, List, [], ◌∷◌, ◌++◌, map, take, length, get_or, refl, sym, ap}
-use Rattle.std.proofs.Common.{ap₂, ◌∙◌, subst, arith, ⊎_elim, All}
-use Rattle.std.proofs.lemmas.Bool.{cases_lt}
+use Rattle.std.proofs.Common.{◌≡◌, ℕ, ◌+◌, ◌-◌, ◌<◌, ◌≤◌, List, [], ◌∷◌, ◌++◌, map, take, length, get_or, refl, sym}
+use Rattle.std.proofs.{Common.{ap, ap₂, ◌∙◌, subst, arith, ⊎_elim, All}, lemmas.Bool.cases_lt}
 use Rattle.std.proofs.lemmas.List.{length-map, length-append, map-append, take_more, get_or_append_left}
 use Rattle.std.proofs.Math.Seq.{get_or-append_seam, take-length}
-use Rattle.tier_core.specs.declared.sym.Sym.{Sym}
-use Rattle.tier_core.specs.Orders.{IsFirst}
-use Rattle.violation.specs.Candidates.{IsOptimal, IsOptimalFor, counts_on, count_at}
-use Rattle.violation.specs.Counts.{violations_of}
-use Rattle.answer_text.specs.declared.stage.Node.{Node}
-use Rattle.answer_text.specs.declared.stage.Stage.{Stage}
-use Rattle.answer_text.specs.declared.answer.Answer.{Answer}
+use Rattle.tier_core.specs.{declared.sym.Sym.Sym, Orders.IsFirst}
+use Rattle.violation.specs.{Candidates.{IsOptimal, IsOptimalFor, counts_on, count_at}, Counts.violations_of}
+use Rattle.violation.specs.Problems.{last_stage, Problem}
+use Rattle.answer_text.specs.{declared.stage.Node.Node, declared.stage.Stage.Stage, declared.answer.Answer.Answer}
 use Rattle.answer_text.specs.Right.{IsRightStage, IsRightAutomaton, IsRight, kinds_at, nodes_at}
 use Rattle.violation.proofs.StageLemmas.{optimal_for_fewer}
-use Rattle.ranked_gen.specs.Budgets.{IsStageWithin, IsOver, IsFirstOver, HasFewKinds}
-use Rattle.ranked_gen.specs.FittingKinds.{FitsStage}
+use Rattle.ranked_gen.specs.{Budgets.{IsStageWithin, IsOver, IsFirstOver, HasFewKinds}, FittingKinds.FitsStage}
 use Rattle.ranked_gen.specs.Left.{AreStages}
-use Rattle.violation.specs.Problems.{last_stage, Problem}
 
 nodes_kept : (stages : List Stage) (stage : Stage) (s : ℕ) → s < length stages
     → nodes_at (stages ++ stage ∷ []) s ≡ nodes_at stages s

@@ -1,26 +1,19 @@
 -- What the shape of a frame's grammar tells of kinds is what the frame tells.
-use Rattle.std.proofs.Common.{◌≡◌, ◌≢◌, ℕ, ◌+◌, ◌-◌, ◌<◌, ◌≤◌, ◌^◌, List, map, filter, take, length, get_or, sym, ap}
-use Rattle.std.proofs.Common.{◌∙◌, subst, arith, All, AllPairs}
-use Rattle.std.proofs.lemmas.List.{length-map, get_or-map}
+use Rattle.std.proofs.Common.{◌≡◌, ◌≢◌, ℕ, ◌+◌, ◌-◌, ◌<◌, ◌≤◌, ◌^◌, List, map, filter, take, length, get_or, sym}
+use Rattle.std.proofs.{Common.{ap, ◌∙◌, subst, arith, All, AllPairs}, lemmas.List.{length-map, get_or-map}}
 use Rattle.std.proofs.lemmas.List.FromFn.{get_or-map-range_with_len}
-use Rattle.tier_core.specs.declared.kind.Kind.{Kind}
-use Rattle.tier_core.specs.declared.shape.Shape.{Shape}
-use Rattle.tier_core.specs.Shapes.{masked_count}
-use Rattle.tier_core.specs.Sides.{is_stretch}
-use Rattle.tier_core.specs.Kinds.{AreStretchesBelow, prefix_kind}
-use Rattle.tier_core.specs.KindShapes.{free_count, stretch_count, kind_in}
+use Rattle.tier_core.specs.{declared.kind.Kind.Kind, declared.shape.Shape.Shape, Shapes.masked_count}
+use Rattle.tier_core.specs.{Sides.is_stretch, Kinds.{AreStretchesBelow, prefix_kind}}
+use Rattle.tier_core.specs.{KindShapes.{free_count, stretch_count, kind_in}, EmptyKind.empty_kind}
+use Rattle.tier_core.specs.KindNumbers.{kind_numbered}
 use Rattle.tier_core.proofs.TableMasks.{free_tiers}
 use Rattle.grammar_reader.specs.ShapeOf.{IsShapeOf}
 use Rattle.grammar_reader.proofs.Shaping.{length-stretch_counts}
-use Rattle.violation.specs.Prefixes.{stretches}
+use Rattle.violation.specs.{Prefixes.stretches, Problems.last_stage}
 use Rattle.kind_moves.specs.declared.frame.Frame.{Frame}
-use Rattle.kind_moves.specs.Frames.{tiers_in, constraints_in, kind_at_stage, FitsFrame}
-use Rattle.tier_core.specs.EmptyKind.{empty_kind}
-use Rattle.tier_core.specs.KindNumbers.{kind_numbered}
+use Rattle.kind_moves.specs.Frames.{tiers_in, constraints_in, kind_at_stage, FitsFrame, problem_in}
 use Rattle.kind_orders.specs.KindOrders.{AreDistinctKinds}
 use Rattle.ranked_gen.specs.FittingKinds.{FitsStage}
-use Rattle.violation.specs.Problems.{last_stage}
-use Rattle.kind_moves.specs.Frames.{problem_in}
 
 -- kinds that fit the frame fit the stage, whatever nodes they stand in
 pub nodes_fit : {N : Type 0} (kind_in_node : N → Kind) (frame : Frame) (stage : ℕ) (kinds : List Kind)

@@ -1,49 +1,30 @@
 -- A stage whose table is ordered, weighed and pruned is staged.
-use Rattle.std.proofs.Common.{◌≡◌, ℕ, ◌-◌, ◌<◌, ◌≤◌, List, Option, None, Some, map, length, get_or, refl, sym, ap, ◌∙◌}
-use Rattle.std.proofs.Common.{subst, arith, All}
-use Rattle.std.specs.Prelude.{◌↔◌}
-use Rattle.std.specs.List.Sorted.{IsStrictlySortedBy}
-use Rattle.std.proofs.lemmas.List.{get_or-map, length-map}
-use Rattle.tier_core.specs.declared.kind.Kind.{Kind}
-use Rattle.tier_core.specs.declared.shape.Shape.{Shape}
-use Rattle.tier_core.specs.declared.sym.Sym.{Sym}
-use Rattle.tier_core.specs.Kinds.{prefix_kind, kind_order}
-use Rattle.tier_core.specs.KindShapes.{stretch_count, kind_in}
-use Rattle.weight_law.specs.declared.Weight.{Ghosts}
-use Rattle.weight_law.specs.declared.count.Count.{Count}
-use Rattle.weight_law.specs.declared.unit_weight.UnitWeight.{UnitWeight}
-use Rattle.weight_law.specs.Count.{count_meaning}
-use Rattle.arc_table.specs.declared.state.TableState.{TableState}
-use Rattle.arc_table.specs.Conditions.{TargetsExist, ClassesFilled}
+use Rattle.std.proofs.Common.{◌≡◌, ℕ, ◌-◌, ◌<◌, ◌≤◌, List, Option, None, Some, map, length, get_or, refl, sym, ap}
+use Rattle.std.proofs.{Common.{◌∙◌, subst, arith, All}, lemmas.List.{get_or-map, length-map}}
+use Rattle.std.specs.{Prelude.◌↔◌, List.Sorted.IsStrictlySortedBy}
+use Rattle.tier_core.specs.{declared.kind.Kind.Kind, declared.shape.Shape.Shape, declared.sym.Sym.Sym}
+use Rattle.tier_core.specs.{Kinds.{prefix_kind, kind_order}, KindShapes.{stretch_count, kind_in}}
+use Rattle.tier_core.specs.{EmptyKind.empty_kind, KindNumbers.kind_numbered}
+use Rattle.weight_law.specs.{declared.Weight.Ghosts, declared.count.Count.Count}
+use Rattle.weight_law.specs.{declared.unit_weight.UnitWeight.UnitWeight, Count.count_meaning}
+use Rattle.arc_table.specs.{declared.state.TableState.TableState, Conditions.{TargetsExist, ClassesFilled}}
 use Rattle.arc_table.specs.Runs.{Accepts}
 use Rattle.distances.specs.Least.{AreLeast}
 use Rattle.prune_best.specs.Tight.{IsTight}
 use Rattle.prune_best.proofs.Words.{some_of}
-use Rattle.violation.specs.Candidates.{IsOptimalFor, count_at}
-use Rattle.violation.specs.Stages.{IsRemaining}
+use Rattle.violation.specs.{Candidates.{IsOptimalFor, count_at}, Stages.IsRemaining, Problems.last_stage}
 use Rattle.grammar_reader.specs.ShapeOf.{IsShapeOf}
-use Rattle.kind_moves.specs.declared.frame.Frame.{Frame}
-use Rattle.kind_moves.specs.Frames.{tiers_in, kind_at_stage, FitsFrame}
-use Rattle.answer_text.specs.declared.stage.Node.{Node}
-use Rattle.answer_text.specs.Right.{kinds_at, IsRightStage}
-use Rattle.kind_tables.specs.StageTables.{IsStage, IsStageTable}
-use Rattle.kind_tables.specs.FoundTables.{names_kept}
+use Rattle.kind_moves.specs.{declared.frame.Frame.Frame, Frames.{tiers_in, kind_at_stage, FitsFrame, problem_in}}
+use Rattle.answer_text.specs.{declared.stage.Node.Node, Right.{kinds_at, IsRightStage}}
+use Rattle.kind_tables.specs.{StageTables.{IsStage, IsStageTable}, FoundTables.names_kept}
 use Rattle.kind_tables.proofs.Naming.{names_law}
-use Rattle.stage_laws.proofs.Resting.{remaining_law, least_from, some_weight}
-use Rattle.stage_laws.proofs.Optimal.{all_words_law, number_law}
-use Rattle.tier_core.specs.EmptyKind.{empty_kind}
-use Rattle.tier_core.specs.KindNumbers.{kind_numbered}
-use Rattle.kind_orders.specs.KindOrders.{prefix_kind_at, IsKindOrder}
-use Rattle.kind_orders.specs.StageNodes.{node_numbered, AreNodesInOrder}
-use Rattle.stage_tables.specs.Kept.{IsKeptTable}
-use Rattle.stage_tables.specs.Explored.{names_at}
+use Rattle.stage_laws.proofs.{Resting.{remaining_law, least_from, some_weight}, Optimal.{all_words_law, number_law}}
+use Rattle.kind_orders.specs.{KindOrders.{prefix_kind_at, IsKindOrder}, StageNodes.{node_numbered, AreNodesInOrder}}
+use Rattle.stage_tables.specs.{Kept.IsKeptTable, Explored.names_at}
 use Rattle.stage_tables.proofs.Named.{frame_stage}
-use Rattle.ranked_gen.specs.FittingKinds.{FitsStage}
-use Rattle.ranked_gen.specs.Left.{weight_number, IsCountedOutcome}
+use Rattle.ranked_gen.specs.{FittingKinds.FitsStage, Left.{weight_number, IsCountedOutcome}}
 use Rattle.ranked_gen.proofs.OrderedNames.{count_kinds, name_is, first_number, kept_by_names, ordered, tells}
 use Rattle.ranked_gen.proofs.StageShapes.{free_same, stretch_same, nodes_fit}
-use Rattle.violation.specs.Problems.{last_stage}
-use Rattle.kind_moves.specs.Frames.{problem_in}
 
 module _ (frame : Frame) (stage : ℕ) (within : stage ≤ last_stage (problem_in frame))
     (kinds : List Kind) {g : Ghosts Count} (meaning : g.meaning ≡ count_meaning) (states : List (TableState Count g))

@@ -1,19 +1,15 @@
 -- Columns of a form widened to all tiers, with one symbol on the tiers of some flags.
-use Rattle.std.proofs.Common.{◌≡◌, ℕ, zero, suc, ◌<◌, ◌≢◌, ◌==◌, Bool, true, false, cond, List, [], ◌∷◌, map, length}
-use Rattle.std.proofs.Common.{get_or, filter, Contains, IsTrue, refl, sym, ap, ◌∙◌, ⊎_elim, ext_get_or, arith}
-use Rattle.std.specs.List.{AllByRecursion, range_with_len}
-use Rattle.std.proofs.lemmas.Bool.{eq-eqb, ne_eqb, cond-true, cond-false}
+use Rattle.std.proofs.Common.{◌≡◌, ℕ, zero, suc, ◌<◌, ◌≢◌, ◌==◌, Bool, true, false, cond, List, [], ◌∷◌, map}
+use Rattle.std.proofs.Common.{length, get_or, filter, Contains, IsTrue, refl, sym, ap, ◌∙◌, ⊎_elim, ext_get_or}
+use Rattle.std.proofs.{Common.arith, lemmas.Bool.{eq-eqb, ne_eqb, cond-true, cond-false}}
 use Rattle.std.proofs.lemmas.List.{get_or_default, get_or-map, length-map}
 use Rattle.std.proofs.lemmas.List.Elements.{All-from_recursion, recursion_from_All, All-get_or, All-from_get_or}
 use Rattle.std.proofs.lemmas.List.FromFn.{length-map-range_with_len, get_or-map-range_with_len}
 use Rattle.std.proofs.lemmas.List.Folds.{list_any_none}
-use Rattle.tier_core.specs.declared.sym.Sym.{Sym}
-use Rattle.tier_core.specs.declared.sym.Sym.TheVariants.{Outside}
-use Rattle.tier_core.specs.Timelines.{symbol, tier_word, is_edge, has_edge, project, squeeze, IsWellFormed, IsReduced}
-use Rattle.tier_core.proofs.WordLemmas.{runs}
-use Rattle.tier_core.proofs.WordForm.{runs_from_well_formed}
-use Rattle.tier_core.specs.Tiers.{Tiers}
-use Rattle.tier_core.proofs.FormLemmas.{edge_of_part}
+use Rattle.std.specs.List.{AllByRecursion, range_with_len}
+use Rattle.tier_core.specs.{declared.sym.Sym.Sym, declared.sym.Sym.TheVariants.Outside, Timelines.{symbol, tier_word}}
+use Rattle.tier_core.specs.{Timelines.{is_edge, has_edge, project, squeeze, IsWellFormed, IsReduced}, Tiers.Tiers}
+use Rattle.tier_core.proofs.{WordLemmas.runs, WordForm.runs_from_well_formed, FormLemmas.edge_of_part}
 use Rattle.violation.specs.Conditions.{AreDistinct, AreSplit}
 use Rattle.ranked_gen.specs.WideColumns.{symbol_on}
 

@@ -1,35 +1,23 @@
 -- Right answers are small.
 use Rattle.std.proofs.Common.{◌≡◌, ℕ, ◌<◌, ◌≤◌, List, [], map, take, drop, length, get_or, ap, ◌∙◌, subst, arith}
-use Rattle.std.proofs.Common.{All, Contains}
-use Rattle.std.specs.List.{AllByRecursion, range_with_len}
-use Rattle.std.proofs.lemmas.List.{get_or-map, length-map}
+use Rattle.std.proofs.{Common.{All, Contains}, lemmas.List.{get_or-map, length-map}}
 use Rattle.std.proofs.lemmas.List.Elements.{All-contains, All-from_recursion, All-map, All-weaker}
 use Rattle.std.proofs.lemmas.List.FromFn.{length-range_with_len}
 use Rattle.std.proofs.lemmas.Option.{get_or_from_slice_get, slice_get_within}
-use Rattle.tier_core.specs.declared.sym.Sym.{Sym}
-use Rattle.tier_core.specs.Kinds.{PrefixKind}
-use Rattle.violation.specs.Candidates.{IsForm}
-use Rattle.violation.specs.Conditions.{AreSplit, IsOverTiers}
-use Rattle.violation.specs.Counts.{violations_of}
-use Rattle.violation.specs.Prefixes.{kind_of, kind_of_bits}
-use Rattle.violation.specs.Problems.{Problem, last_stage, last_place}
+use Rattle.std.specs.List.{AllByRecursion, range_with_len}
+use Rattle.tier_core.specs.{declared.sym.Sym.Sym, Kinds.PrefixKind}
+use Rattle.violation.specs.{Candidates.IsForm, Conditions.{AreSplit, IsOverTiers}, Counts.violations_of}
+use Rattle.violation.specs.{Prefixes.{kind_of, kind_of_bits}, Problems.{Problem, last_stage, last_place}}
 use Rattle.violation.specs.Stages.{IsKindOfStage, IsRemaining, IsStage}
-use Rattle.violation.proofs.PrefixLemmas.{IsBegun}
-use Rattle.violation.proofs.StageLemmas.{over_stretches}
-use Rattle.violation.proofs.WalkLemmas.{begun_of}
+use Rattle.violation.proofs.{PrefixLemmas.IsBegun, StageLemmas.over_stretches, WalkLemmas.begun_of}
 use Rattle.violation.proofs.CutCandidates.{candidate_cut}
-use Rattle.answer_text.specs.declared.answer.Answer.{Answer}
-use Rattle.answer_text.specs.declared.automaton.StateLine.{StateLine}
-use Rattle.answer_text.specs.declared.stage.Node.{Node}
-use Rattle.answer_text.specs.Right.{IsNodeOf, IsRight, kinds_at, nodes_at, numbers_of}
+use Rattle.answer_text.specs.{declared.answer.Answer.Answer, declared.automaton.StateLine.StateLine}
+use Rattle.answer_text.specs.{declared.stage.Node.Node, Right.{IsNodeOf, IsRight, kinds_at, nodes_at, numbers_of}}
 use Rattle.kind_laws.specs.Ways.{HasEachPassed}
-use Rattle.kind_laws.proofs.ColumnCosts.{whole_few}
-use Rattle.kind_laws.proofs.DirectWays.{first_short, remaining_few}
-use Rattle.tier_core.proofs.RangeMembers.{range_has}
-use Rattle.tier_core.proofs.Members.{All-from_members, contains_map}
+use Rattle.kind_laws.proofs.{ColumnCosts.whole_few, DirectWays.{first_short, remaining_few}}
+use Rattle.tier_core.proofs.{RangeMembers.range_has, Members.{All-from_members, contains_map}}
 use Rattle.tier_core.proofs.Differing.{differ_from_pairs, no_longer}
-use Rattle.check_laws.proofs.Starts.{possible}
-use Rattle.check_laws.proofs.Soundness.{numbers_apart}
+use Rattle.check_laws.proofs.{Starts.possible, Soundness.numbers_apart}
 use Rattle.right_laws.specs.Small.{IsSmall}
 
 module _ (problem : Problem) (answer : Answer) (split : AreSplit problem.tiers)

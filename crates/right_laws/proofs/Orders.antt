@@ -1,38 +1,20 @@
 -- Right answers are orderly.
-use Rattle.std.proofs.Common.{◌≡◌, ℕ, zero, suc, ◌+◌, ◌<◌, ◌≤◌, true, List, [], ◌∷◌, map, length, get_or, refl, ap, sym}
-use Rattle.std.proofs.Common.{◌∙◌, subst, arith, All, Contains}
-use Rattle.std.specs.List.{AllByRecursion, list_all, list_any}
-use Rattle.std.specs.List.Sorted.{IsStrictlySortedBy}
-use Rattle.std.proofs.lemmas.Bool.{and_parts, false≢true}
-use Rattle.std.proofs.lemmas.List.{length-map}
-use Rattle.std.proofs.lemmas.List.Elements.{All-weaker, Contains-get_or, recursion_from_All}
-use Rattle.tier_core.specs.declared.sym.Sym.{Sym}
-use Rattle.tier_core.specs.declared.class.Class.{Class}
-use Rattle.tier_core.specs.declared.shape.Shape.{Shape}
-use Rattle.tier_core.specs.Classes.{has, sets_of}
-use Rattle.tier_core.specs.Kinds.{kind_order, prefix_kind}
-use Rattle.tier_core.specs.KindShapes.{free_count}
-use Rattle.tier_core.specs.Sets.{is_in}
-use Rattle.tier_core.specs.Shapes.{masked_count}
-use Rattle.tier_core.specs.Symbols.{symbols}
-use Rattle.tier_core.specs.Timelines.{IsWellFormed}
-use Rattle.tier_core.proofs.ClassSets.{sets_few}
-use Rattle.tier_core.proofs.Filled.{filled_from}
+use Rattle.std.proofs.Common.{◌≡◌, ℕ, zero, suc, ◌+◌, ◌<◌, ◌≤◌, true, List, [], ◌∷◌, map, length, get_or, refl, ap}
+use Rattle.std.proofs.{Common.{sym, ◌∙◌, subst, arith, All, Contains}, lemmas.Bool.{and_parts, false≢true}}
+use Rattle.std.proofs.{lemmas.List.length-map, lemmas.List.Elements.{All-weaker, Contains-get_or, recursion_from_All}}
+use Rattle.std.specs.{List.{AllByRecursion, list_all, list_any}, List.Sorted.IsStrictlySortedBy}
+use Rattle.tier_core.specs.{declared.sym.Sym.Sym, declared.class.Class.Class, declared.shape.Shape.Shape}
+use Rattle.tier_core.specs.{Classes.{has, sets_of}, Kinds.{kind_order, prefix_kind}, KindShapes.free_count}
+use Rattle.tier_core.specs.{Sets.is_in, Shapes.masked_count, Symbols.symbols, Timelines.IsWellFormed}
+use Rattle.tier_core.proofs.{ClassSets.sets_few, Filled.filled_from, Members.contains_map}
 use Rattle.timeline_text.specs.Texts.{IsTextOf, text_of}
-use Rattle.violation.specs.Candidates.{IsForm}
-use Rattle.violation.specs.Conditions.{AreSplit, IsOverTiers}
-use Rattle.violation.specs.Counts.{violations_of}
-use Rattle.violation.specs.Prefixes.{stretches}
-use Rattle.violation.specs.Problems.{Problem, last_stage, last_place}
-use Rattle.answer_text.specs.declared.answer.Answer.{Answer}
-use Rattle.answer_text.specs.declared.automaton.StateLine.{StateLine}
-use Rattle.answer_text.specs.declared.stage.Node.{Node}
-use Rattle.answer_text.specs.Orderly.{AreOrderedArcs, AreOrderedNodes, IsOrderly}
+use Rattle.violation.specs.{Candidates.IsForm, Conditions.{AreSplit, IsOverTiers}, Counts.violations_of}
+use Rattle.violation.specs.{Prefixes.stretches, Problems.{Problem, last_stage, last_place}}
+use Rattle.answer_text.specs.{declared.answer.Answer.Answer, declared.automaton.StateLine.StateLine}
+use Rattle.answer_text.specs.{declared.stage.Node.Node, Orderly.{AreOrderedArcs, AreOrderedNodes, IsOrderly}}
 use Rattle.answer_text.specs.Readable.{AreReadableStates, IsReadableState, last_nodes}
 use Rattle.answer_text.specs.Right.{AreRightArcs, IsRight, nodes_at, numbers_of}
-use Rattle.tier_core.proofs.Members.{contains_map}
-use Rattle.right_laws.specs.Shapes.{IsShapeOfProblem}
-use Rattle.right_laws.specs.Small.{IsSmall}
+use Rattle.right_laws.specs.{Shapes.IsShapeOfProblem, Small.IsSmall}
 use Rattle.right_laws.proofs.Bounds.{number_below, small_from_right}
 
 -- ---- the sets of a class that holds a column

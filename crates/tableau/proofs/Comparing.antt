@@ -1,21 +1,16 @@
 -- Counts beside the least counts of a form.
-use Rattle.std.proofs.Common.{◌≡◌, ◌≢◌, ℕ, zero, suc, ◌<◌, ◌↔◌, true, List, [], ◌∷◌, length, take, get_or, Option, Some}
-use Rattle.std.proofs.Common.{None, MatchOption, IfSome, refl, ap, sym, ◌∙◌, subst, arith}
-use Rattle.std.specs.Prelude.{IsNone}
-use Rattle.std.specs.Ordering.{nat_cmp, is_le, ordering_then}
-use Rattle.std.specs.Cmp.{nat_cmp_is}
-use Rattle.std.specs.declared.cmp.Ordering.{Ordering}
-use Rattle.std.specs.declared.cmp.Ordering.TheVariants.{Less, Equal, Greater}
+use Rattle.std.proofs.Common.{◌≡◌, ◌≢◌, ℕ, zero, suc, ◌<◌, ◌↔◌, true, List, [], ◌∷◌, length, take, get_or, Option}
+use Rattle.std.proofs.Common.{Some, None, MatchOption, IfSome, refl, ap, sym, ◌∙◌, subst, arith}
+use Rattle.std.proofs.{lemmas.Bool.false≢true, lemmas.Cmp.ranked}
+use Rattle.std.specs.{Prelude.IsNone, Ordering.{nat_cmp, is_le, ordering_then}, Cmp.nat_cmp_is}
+use Rattle.std.specs.{declared.cmp.Ordering.Ordering, declared.cmp.Ordering.TheVariants.{Less, Equal, Greater}}
 use Rattle.std.specs.Cmp.Lexicographic.{slice_cmp}
-use Rattle.std.proofs.lemmas.Bool.{false≢true}
-use Rattle.std.proofs.lemmas.Cmp.{ranked}
 use Rattle.tier_core.specs.declared.sym.Sym.{Sym}
 use Rattle.violation.specs.Candidates.{IsAtMost, IsCandidate, IsLeastVector, IsOptimal, counts_on}
-use Rattle.violation.proofs.LeastVector.{all_counts_taken}
-use Rattle.tableau.specs.declared.table.TableauRow.{TableauRow}
-use Rattle.tableau.specs.Compared.{IsCompared, IsFirstOther}
-use Rattle.tableau.specs.Tableaux.{IsFirstWorse, IsTableauRow}
 use Rattle.violation.specs.Problems.{Problem, last_stage}
+use Rattle.violation.proofs.LeastVector.{all_counts_taken}
+use Rattle.tableau.specs.{declared.table.TableauRow.TableauRow, Compared.{IsCompared, IsFirstOther}}
+use Rattle.tableau.specs.Tableaux.{IsFirstWorse, IsTableauRow}
 
 -- the counts that differ first, by how they compare
 at_first : (m n : ℕ) (rest r : Ordering) → r ≡ nat_cmp m n → is_le (ordering_then r rest) ≡ true → n ≢ m → m < n

@@ -1,10 +1,9 @@
 -- Lengths of texts, and the widths of fields.
 use Rattle.std.proofs.Common.{◌≡◌, ℕ, zero, suc, ◌+◌, ◌-◌, ◌<◌, ◌≤◌, List, [], ◌∷◌, length, map, drop, get_or, max}
 use Rattle.std.proofs.Common.{Option, refl, ap, sym, ◌∙◌, arith, length-append}
-use Rattle.std.specs.List.{join_with_byte}
 use Rattle.std.proofs.lemmas.List.{at_drop_more, at_drop_all, get_or_past, length-map}
-use Rattle.tier_core.specs.declared.sym.Sym.{Sym}
-use Rattle.tier_core.specs.Symbols.{byte_of}
+use Rattle.std.specs.List.{join_with_byte}
+use Rattle.tier_core.specs.{declared.sym.Sym.Sym, Symbols.byte_of}
 use Rattle.timeline_text.specs.Texts.{text_of}
 use Rattle.tableau.specs.declared.table.TableauRow.{TableauRow}
 use Rattle.tableau.specs.Layout.{column, count_text, count_texts, firsts, row_line, spaces, widest}

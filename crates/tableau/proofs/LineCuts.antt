@@ -1,10 +1,9 @@
 -- The first line of a text, and the lines behind it.
 use Rattle.std.proofs.Common.{◌≡◌, ℕ, ◌+◌, ◌<◌, ◌==◌, false, List, [], ◌∷◌, length, cond, take, drop, refl, ap, sym}
-use Rattle.std.proofs.Common.{◌∙◌, arith, Some, None, position, All}
+use Rattle.std.proofs.{Common.{◌∙◌, arith, Some, None, position, All}, lemmas.Bool.Decides.nat_tests}
+use Rattle.std.proofs.lemmas.List.Splits.{slice_split_first, slice_split_none, length-slice_split}
 use Rattle.std.specs.List.{slice_split, position_or_len, before_first, after_first}
 use Rattle.std.specs.Str.Lines.{lines, lines_of_parts, strip_carriage_return}
-use Rattle.std.proofs.lemmas.Bool.Decides.{nat_tests}
-use Rattle.std.proofs.lemmas.List.Splits.{slice_split_first, slice_split_none, length-slice_split}
 use Rattle.timeline_text.proofs.Splits.{none_passes}
 
 -- a part with parts behind it is a line

@@ -1,27 +1,19 @@
 -- Lines have rows, or one of them is the first with a cause, and never both.
 use Rattle.std.proofs.Common.{◌≡◌, ◌⊎◌, inl, inr, ⊎_elim, ℕ, ◌+◌, ◌<◌, ◌≤◌, false, List, [], ◌∷◌, ◌++◌, length, map}
 use Rattle.std.proofs.Common.{nat_lt, All, refl, ap, sym, ◌∙◌, subst, arith, append_assoc, append-nil}
+use Rattle.std.proofs.{lemmas.Bool.false≢true, lemmas.Bool.Decides.nat_tests, lemmas.List.length-map}
+use Rattle.std.proofs.{lemmas.List.Elements.{All-head, All-tail}, lemmas.Slice.Eq.bytes_eq-Decides}
 use Rattle.std.specs.Str.{bytes_eq}
-use Rattle.std.proofs.lemmas.Bool.{false≢true}
-use Rattle.std.proofs.lemmas.Bool.Decides.{nat_tests}
-use Rattle.std.proofs.lemmas.List.{length-map}
-use Rattle.std.proofs.lemmas.List.Elements.{All-head, All-tail}
-use Rattle.std.proofs.lemmas.Slice.Eq.{bytes_eq-Decides}
-use Rattle.tier_core.specs.declared.sym.Sym.{Sym}
-use Rattle.tier_core.specs.Tiers.{Tiers}
-use Rattle.tier_core.specs.Timelines.{project, squeeze}
-use Rattle.timeline_text.specs.declared.form_err.FormErr.{FormErr}
-use Rattle.timeline_text.specs.Texts.{text_of, IsTextOf}
+use Rattle.tier_core.specs.{declared.sym.Sym.Sym, Tiers.Tiers, Timelines.{project, squeeze}}
+use Rattle.timeline_text.specs.{declared.form_err.FormErr.FormErr, Texts.{text_of, IsTextOf}}
 use Rattle.timeline_text.specs.Causes.{columns_of, IsCause}
-use Rattle.timeline_text.proofs.Searches.{by_test}
-use Rattle.timeline_text.proofs.Cuts.{columns_back, no_word}
+use Rattle.timeline_text.proofs.{Searches.by_test, Cuts.{columns_back, no_word}}
 use Rattle.timeline_text.proofs.Deciding.{has_reading, not_both, not_the_word, one_value}
-use Rattle.violation.specs.Candidates.{IsCandidate}
+use Rattle.violation.specs.{Candidates.IsCandidate, Problems.Problem}
 use Rattle.tableau.specs.declared.rows_err.RowsCause.{RowsCause}
 use Rattle.tableau.specs.declared.rows_err.RowsCause.TheVariants.{Form, NotCandidate, TooMany}
 use Rattle.tableau.specs.Rows.{AreRowsOf, HasRows, IsLineCause, IsRefusedAt, IsRowOf, filled_lines, is_blank}
 use Rattle.tableau.proofs.RowLemmas.{blank_line, filled_more, no_rows, row_line}
-use Rattle.violation.specs.Problems.{Problem}
 
 -- two timelines with one text are one
 same_text : (T U : List (List Sym)) → text_of T ≡ text_of U → T ≡ U

@@ -1,16 +1,14 @@
 -- Rows of lines, line by line.
-use Rattle.std.proofs.Common.{◌≡◌, ℕ, ◌+◌, ◌<◌, ◌≤◌, true, false, not, cond, List, [], ◌∷◌, ◌++◌, length, map, refl, ap}
-use Rattle.std.proofs.Common.{sym, ◌∙◌, subst, arith, append-nil}
-use Rattle.std.specs.Str.Lines.{lines}
-use Rattle.std.proofs.lemmas.List.{length_push, map_push}
+use Rattle.std.proofs.Common.{◌≡◌, ℕ, ◌+◌, ◌<◌, ◌≤◌, true, false, not, cond, List, [], ◌∷◌, ◌++◌, length, map, refl}
+use Rattle.std.proofs.{Common.{ap, sym, ◌∙◌, subst, arith, append-nil}, lemmas.List.{length_push, map_push}}
 use Rattle.std.proofs.lemmas.List.Elements.{All-nil, All-push, filter-append}
+use Rattle.std.specs.Str.Lines.{lines}
 use Rattle.tier_core.specs.declared.sym.Sym.{Sym}
 use Rattle.timeline_text.specs.Texts.{text_of}
-use Rattle.violation.specs.Candidates.{IsCandidate}
-use Rattle.tableau.specs.declared.rows_err.RowsErr.{RowsErr}
-use Rattle.tableau.specs.declared.rows_err.RowsErr.TheVariants.{At, NoMemory}
-use Rattle.tableau.specs.Rows.{AreRowsOf, IsLineCause, IsLineRefusal, IsRowOf, IsTextRefusal, filled_lines, is_blank}
-use Rattle.violation.specs.Problems.{Problem}
+use Rattle.violation.specs.{Candidates.IsCandidate, Problems.Problem}
+use Rattle.tableau.specs.{declared.rows_err.RowsErr.RowsErr, declared.rows_err.RowsErr.TheVariants.{At, NoMemory}}
+use Rattle.tableau.specs.Rows.{AreRowsOf, IsLineCause, IsLineRefusal, IsRowOf, IsTextRefusal, filled_lines}
+use Rattle.tableau.specs.Rows.{is_blank}
 
 -- the lines so far and one more, which is passed over
 pub filled_blank : (front : List (List ℕ)) (line : List ℕ) → is_blank line ≡ true

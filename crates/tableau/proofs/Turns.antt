@@ -1,8 +1,7 @@
 -- Fields that are put one after the other.
-use Rattle.std.proofs.Common.{◌≡◌, ℕ, ◌+◌, ◌<◌, ◌≤◌, Option, List, [], ◌∷◌, ◌++◌, length, map, drop, get_or, codes, ap}
-use Rattle.std.proofs.Common.{sym, ◌∙◌}
+use Rattle.std.proofs.Common.{◌≡◌, ℕ, ◌+◌, ◌<◌, ◌≤◌, Option, List, [], ◌∷◌, ◌++◌, length, map, drop, get_or, codes}
+use Rattle.std.proofs.{Common.{ap, sym, ◌∙◌}, lemmas.List.{at_drop_more, at_drop_all}}
 use Rattle.std.specs.Prelude.{String, string_bytes}
-use Rattle.std.proofs.lemmas.List.{at_drop_more, at_drop_all}
 use Rattle.tableau.specs.Layout.{Line, column, count_text, count_texts, fields, right, widest}
 
 -- the name of this column and those after it

@@ -1,8 +1,7 @@
 use Rattle.std.proofs.Common.{refl}
 use Rattle.violation.specs.Counts.{viol}
-use Rattle.answer_examples.proofs.AnswerTests.{refused_head}
-use Rattle.answer_examples.proofs.FaithfulAnswers.{certified_nine, sound_nine, right_nine, later_not_right}
-use Rattle.answer_examples.proofs.FaithfulAnswers.{other_not_right}
+use Rattle.answer_examples.proofs.{AnswerTests.refused_head, FaithfulAnswers.{certified_nine, sound_nine, right_nine}}
+use Rattle.answer_examples.proofs.FaithfulAnswers.{later_not_right, other_not_right}
 use Rattle.answer_examples.proofs.faithful.answers_under_max_dep_and_one.Goals as goal
 
 pub returns-clause-certified : goal.returns-clause-certified

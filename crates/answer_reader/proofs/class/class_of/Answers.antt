@@ -1,6 +1,5 @@
-use Rattle.std.proofs.Common.{◌≡◌, ◌<◌, Some, None, take, length, option_map, ap, sym, ◌∙◌, subst, arith, length-set}
-use Rattle.std.proofs.lemmas.List.{take_more_set}
-use Rattle.std.proofs.lemmas.List.Elements.{All-push}
+use Rattle.std.proofs.Common.{◌≡◌, ◌<◌, Some, None, take, length, option_map, ap, sym, ◌∙◌, subst, arith}
+use Rattle.std.proofs.{Common.length-set, lemmas.List.take_more_set, lemmas.List.Elements.All-push}
 use Rattle.tier_core.specs.Sets.{AreSets}
 use Rattle.answer_reader.specs.Decoding.{decode_set, front_seen}
 use Rattle.answer_reader.proofs.ClassLoop.{tier_read, tier_missing}

@@ -1,7 +1,6 @@
 use Rattle.std.proofs.Common.{rules, tests, ◌≡◌, ◌≤◌, ◌++◌, ◌∷◌, [], ℕ, suc, length, arith, sym, ap, ◌∙◌, subst}
+use Rattle.std.proofs.{lemmas.List.{length-map, length_push}, lemmas.List.Elements.All-push}
 use Rattle.std.specs.List.{All, slice_split}
-use Rattle.std.proofs.lemmas.List.{length-map, length_push}
-use Rattle.std.proofs.lemmas.List.Elements.{All-push}
 use Rattle.timeline_text.proofs.Splits.{split_turn, split_end}
 use Rattle.timeline_text.specs.Bytes.{is_space}
 use Rattle.answer_reader.specs.Numbers.{is_run}

@@ -1,8 +1,5 @@
-use Rattle.answer_reader.specs.declared.answer_err.AnswerErr.TheVariants.{At}
-use Rattle.answer_reader.specs.Lines.{counts_of}
-use Rattle.answer_reader.specs.Seen.{numbers_seen}
-use Rattle.answer_reader.proofs.CountWords.{one_each}
-use Rattle.answer_reader.proofs.FirstLines.{takes_said}
+use Rattle.answer_reader.specs.{declared.answer_err.AnswerErr.TheVariants.At, Lines.counts_of, Seen.numbers_seen}
+use Rattle.answer_reader.proofs.{CountWords.one_each, FirstLines.takes_said}
 use Rattle.answer_reader.proofs.counts.read_counts_line.Goals as goal
 
 pub returns-clause-takes : goal.returns-clause-takes

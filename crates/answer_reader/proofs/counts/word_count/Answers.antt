@@ -1,5 +1,4 @@
-use Rattle.std.proofs.Common.{rules, tests}
-use Rattle.std.proofs.lemmas.Iterator.Consumers.{count_from_yields_List}
+use Rattle.std.proofs.{Common.{rules, tests}, lemmas.Iterator.Consumers.count_from_yields_List}
 use Rattle.std.proofs.lemmas.Iterator.Splits.{YieldsList-from_slice_split}
 use Rattle.timeline_text.specs.Bytes.{is_space}
 use Rattle.answer_reader.proofs.counts.word_count.Goals as goal

@@ -1,6 +1,5 @@
 use Rattle.std.proofs.lemmas.Result.{err_from_is_err_and}
-use Rattle.answer_reader.proofs.HeadSteps.{head_read, head_refused}
-use Rattle.answer_reader.proofs.StageLoops.{stage_limit}
+use Rattle.answer_reader.proofs.{HeadSteps.{head_read, head_refused}, StageLoops.stage_limit}
 use Rattle.answer_reader.proofs.head.read_head.Goals as goal
 
 pub returns-in_err-example-clause-goes_on : goal.returns-in_err-example-clause-goes_on

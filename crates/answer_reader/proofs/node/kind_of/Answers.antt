@@ -1,7 +1,6 @@
 use Rattle.std.proofs.Common.{ap, ◌∙◌, arith, length, map, bit_and}
 use Rattle.std.specs.List.{range_with_len}
-use Rattle.tier_core.specs.Kinds.{open_tiers, phase_by_bits}
-use Rattle.tier_core.specs.Tiers.{has_tier}
+use Rattle.tier_core.specs.{Kinds.{open_tiers, phase_by_bits}, Tiers.has_tier}
 use Rattle.answer_reader.specs.Masks.{mark_mask}
 use Rattle.answer_reader.proofs.Bits.{mask_told, masks_apart, phases_told}
 use Rattle.answer_reader.proofs.node.kind_of.Goals as goal

@@ -1,5 +1,4 @@
-use Rattle.std.proofs.Common.{◌≡◌, length, ap, ◌∙◌}
-use Rattle.std.proofs.lemmas.Result.{err_from_is_err_and}
+use Rattle.std.proofs.{Common.{◌≡◌, length, ap, ◌∙◌}, lemmas.Result.err_from_is_err_and}
 use Rattle.answer_text.specs.Readable.{last_nodes}
 use Rattle.answer_reader.specs.Heads.{head_seen}
 use Rattle.answer_reader.proofs.Whole.{whole_read, whole_refused}

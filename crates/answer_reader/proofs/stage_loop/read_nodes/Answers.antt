@@ -1,5 +1,4 @@
-use Rattle.std.proofs.Common.{◌-◌, ◌+◌, sym, subst, arith}
-use Rattle.std.proofs.lemmas.Result.{err_from_is_err_and}
+use Rattle.std.proofs.{Common.{◌-◌, ◌+◌, sym, subst, arith}, lemmas.Result.err_from_is_err_and}
 use Rattle.answer_reader.proofs.StageLoops.{IsInStage, node_read, node_refused}
 use Rattle.answer_reader.proofs.stage_loop.read_nodes.Goals as goal
 

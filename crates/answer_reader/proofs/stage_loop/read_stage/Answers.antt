@@ -1,7 +1,5 @@
-use Rattle.std.proofs.Common.{◌∙◌}
-use Rattle.std.proofs.lemmas.Result.{err_from_is_err_and}
-use Rattle.answer_reader.proofs.Going.{fails_from}
-use Rattle.answer_reader.proofs.StageLoops.{FromHere, stage_limit, stage_read, stage_refused}
+use Rattle.std.proofs.{Common.◌∙◌, lemmas.Result.err_from_is_err_and}
+use Rattle.answer_reader.proofs.{Going.fails_from, StageLoops.{FromHere, stage_limit, stage_read, stage_refused}}
 use Rattle.answer_reader.proofs.stage_loop.read_stage.Goals as goal
 
 pub returns-in_err-count-clause-goes_on : goal.returns-in_err-count-clause-goes_on

@@ -1,6 +1,5 @@
 use Rattle.std.proofs.Common.{ℕ, subst}
-use Rattle.answer_reader.specs.Left.{Takes}
-use Rattle.answer_reader.specs.Lines.{automaton_of}
+use Rattle.answer_reader.specs.{Left.Takes, Lines.automaton_of}
 use Rattle.answer_reader.proofs.StageLoops.{automaton_read}
 use Rattle.answer_reader.proofs.stage_loop.read_state_count.Goals as goal
 

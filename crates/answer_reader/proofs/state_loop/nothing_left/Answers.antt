@@ -1,5 +1,4 @@
-use Rattle.std.proofs.Common.{arith}
-use Rattle.std.proofs.lemmas.Bool.Decides.{nat_tests}
+use Rattle.std.proofs.{Common.arith, lemmas.Bool.Decides.nat_tests}
 use Rattle.answer_reader.proofs.StateSteps.{more_left}
 use Rattle.answer_reader.proofs.state_loop.nothing_left.Goals as goal
 

@@ -1,8 +1,6 @@
-use Rattle.std.proofs.Common.{◌∙◌, map, sym}
-use Rattle.std.proofs.lemmas.Result.{err_from_is_err_and}
+use Rattle.std.proofs.{Common.{◌∙◌, map, sym}, lemmas.Result.err_from_is_err_and}
 use Rattle.answer_text.specs.Values.{arc_value}
-use Rattle.answer_reader.specs.Left.{Takes}
-use Rattle.answer_reader.specs.States.{next_arc}
+use Rattle.answer_reader.specs.{Left.Takes, States.next_arc}
 use Rattle.answer_reader.proofs.StateLoops.{arcs_start, arc_read, arc_refused, arcs_read}
 use Rattle.answer_reader.proofs.state_loop.read_arcs.Goals as goal
 

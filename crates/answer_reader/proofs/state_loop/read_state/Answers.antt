@@ -1,11 +1,7 @@
-use Rattle.std.proofs.Common.{◌∙◌, map, refl, suc}
-use Rattle.std.proofs.lemmas.Result.{err_from_is_err_and}
-use Rattle.answer_reader.specs.Left.{lines_left}
-use Rattle.answer_reader.specs.LineWords.{bare_state}
-use Rattle.answer_reader.specs.States.{behind_states, states_from}
+use Rattle.std.proofs.{Common.{◌∙◌, map, refl, suc}, lemmas.Result.err_from_is_err_and}
+use Rattle.answer_reader.specs.{Left.lines_left, LineWords.bare_state, States.{behind_states, states_from}}
 use Rattle.answer_text.specs.Values.{state_value}
-use Rattle.answer_reader.proofs.Going.{fails_from}
-use Rattle.answer_reader.proofs.StateLoops.{follows_node, state_read, state_refused}
+use Rattle.answer_reader.proofs.{Going.fails_from, StateLoops.{follows_node, state_read, state_refused}}
 use Rattle.answer_reader.proofs.state_loop.read_state.Goals as goal
 
 pub returns-in_err-node-clause-goes_on : goal.returns-in_err-node-clause-goes_on

@@ -1,7 +1,5 @@
-use Rattle.std.proofs.Common.{◌-◌, ◌+◌, [], subst, sym, ◌∙◌, arith, map}
-use Rattle.std.proofs.lemmas.Result.{err_from_is_err_and}
-use Rattle.answer_reader.specs.Left.{lines_left}
-use Rattle.answer_reader.specs.States.{behind_states, states_from}
+use Rattle.std.proofs.{Common.{◌-◌, ◌+◌, [], subst, sym, ◌∙◌, arith, map}, lemmas.Result.err_from_is_err_and}
+use Rattle.answer_reader.specs.{Left.lines_left, States.{behind_states, states_from}}
 use Rattle.answer_text.specs.Values.{state_value}
 use Rattle.answer_reader.proofs.Going.{fails_from}
 use Rattle.answer_reader.proofs.StateLoops.{AreStates, states_start, one_read, one_refused, none_left}

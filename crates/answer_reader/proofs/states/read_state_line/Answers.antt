@@ -1,6 +1,5 @@
 use Rattle.std.proofs.Common.{map}
-use Rattle.answer_reader.specs.LineWords.{bare_state}
-use Rattle.answer_reader.specs.States.{next_state}
+use Rattle.answer_reader.specs.{LineWords.bare_state, States.next_state}
 use Rattle.answer_text.specs.Values.{state_value}
 use Rattle.answer_reader.proofs.FirstLines.{takes_said}
 use Rattle.answer_reader.proofs.states.read_state_line.Goals as goal

@@ -1,7 +1,5 @@
-use Rattle.answer_reader.specs.declared.answer_err.AnswerErr.TheVariants.{At}
-use Rattle.answer_reader.specs.Timelines.{timeline_said}
-use Rattle.answer_reader.proofs.FirstLines.{takes_said}
-use Rattle.answer_reader.proofs.Timelines.{said_by, read_within}
+use Rattle.answer_reader.specs.{declared.answer_err.AnswerErr.TheVariants.At, Timelines.timeline_said}
+use Rattle.answer_reader.proofs.{FirstLines.takes_said, Timelines.{said_by, read_within}}
 use Rattle.answer_reader.proofs.timeline_line.read_timeline_line.Goals as goal
 
 pub returns-clause-takes : goal.returns-clause-takes

@@ -1,5 +1,4 @@
-use Rattle.std.proofs.Common.{arith}
-use Rattle.std.proofs.lemmas.Grind.{common_steps}
+use Rattle.std.proofs.{Common.arith, lemmas.Grind.common_steps}
 use Rattle.tier_core.specs.Tiers.{has_tier}
 use Rattle.answer_text.specs.Text.{open_byte}
 use Rattle.answer_text.proofs.Bytes.{bytes_more}

@@ -1,7 +1,5 @@
-use Rattle.std.proofs.Common.{arith}
-use Rattle.std.proofs.lemmas.Grind.{common_steps}
-use Rattle.tier_core.specs.Kinds.{phase_by_bits}
-use Rattle.tier_core.specs.Tiers.{has_tier}
+use Rattle.std.proofs.{Common.arith, lemmas.Grind.common_steps}
+use Rattle.tier_core.specs.{Kinds.phase_by_bits, Tiers.has_tier}
 use Rattle.answer_text.specs.Text.{phase_byte}
 use Rattle.answer_text.proofs.Bytes.{bytes_more}
 use Rattle.answer_text.proofs.kind.phase_bytes.Goals as goal

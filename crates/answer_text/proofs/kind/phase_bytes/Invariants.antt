@@ -1,7 +1,6 @@
 use Rattle.std.proofs.Common.{◌≡◌, length, map, take}
 use Rattle.std.specs.List.{range_with_len}
-use Rattle.tier_core.specs.Kinds.{phase_by_bits}
-use Rattle.tier_core.specs.Tiers.{has_tier}
+use Rattle.tier_core.specs.{Kinds.phase_by_bits, Tiers.has_tier}
 use Rattle.answer_text.specs.Text.{phase_byte}
 use Rattle.answer_text.proofs.kind.phase_bytes.Given as goal
 

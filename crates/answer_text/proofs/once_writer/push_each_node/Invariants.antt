@@ -1,5 +1,4 @@
-use Rattle.answer_text.specs.OnceText.{once_node_line, once_widths_of}
-use Rattle.answer_text.specs.Text.{line}
+use Rattle.answer_text.specs.{OnceText.{once_node_line, once_widths_of}, Text.line}
 use Rattle.outside.proofs.Writing.{PushesEach}
 use Rattle.answer_text.proofs.once_writer.push_each_node.Given as goal
 

@@ -1,9 +1,7 @@
 use Rattle.std.proofs.Common.{◌≡◌, ℕ, ◌+◌, ◌<◌, ◌++◌, List, length, drop, get_or, ap, sym, ◌∙◌, arith}
 use Rattle.std.proofs.lemmas.List.{at_drop_all, get_or_read}
 use Rattle.outside.proofs.Writing.{stop, up_to_as, up_to_end, up_to_more, up_to_none, up_to_stop}
-use Rattle.answer_text.specs.declared.stage.Node.{Node}
-use Rattle.answer_text.specs.declared.stage.Stage.{Stage}
-use Rattle.answer_text.specs.Shape.{widths_of}
+use Rattle.answer_text.specs.{declared.stage.Node.Node, declared.stage.Stage.Stage, Shape.widths_of}
 use Rattle.answer_text.specs.Text.{Widths, lines_text, stage_lines, stages_lines}
 use Rattle.answer_text.proofs.Lines.{stages_next}
 use Rattle.answer_text.proofs.stage_writer.push_stages.Goals as goal

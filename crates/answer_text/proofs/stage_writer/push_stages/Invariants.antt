@@ -1,7 +1,6 @@
 use Rattle.std.proofs.Common.{drop}
 use Rattle.outside.proofs.Writing.{PushesUpTo}
-use Rattle.answer_text.specs.Shape.{widths_of}
-use Rattle.answer_text.specs.Text.{lines_text, stages_lines}
+use Rattle.answer_text.specs.{Shape.widths_of, Text.{lines_text, stages_lines}}
 use Rattle.answer_text.proofs.stage_writer.push_stages.Given as goal
 
 abbrev pub invariant-loop-number : goal.invariant-loop-number

@@ -1,5 +1,6 @@
 use Rattle.std.proofs.Common.{◌++◌, ◌∷◌, [], ◌∙◌, ap}
-use Rattle.answer_text.proofs.Examples.{IsTwoStates, constituent_is_accepted, empty_is_accepted, start_alone_is_refused}
+use Rattle.answer_text.proofs.Examples.{IsTwoStates, constituent_is_accepted, empty_is_accepted}
+use Rattle.answer_text.proofs.Examples.{start_alone_is_refused}
 use Rattle.answer_text.proofs.tests.two_states.Goals as goal
 
 pub returns : goal.returns

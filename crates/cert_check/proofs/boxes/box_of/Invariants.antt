@@ -1,8 +1,6 @@
 use Rattle.std.proofs.Common.{◌≡◌, List, length, take}
 use Rattle.std.specs.List.{list_all}
-use Rattle.tier_core.specs.declared.sym.Sym.{Sym}
-use Rattle.tier_core.specs.Classes.{sets_of, has}
-use Rattle.tier_core.specs.Timelines.{symbol}
+use Rattle.tier_core.specs.{declared.sym.Sym.Sym, Classes.{sets_of, has}, Timelines.symbol}
 use Rattle.cert_check.specs.Boxes.{is_so}
 use Rattle.cert_check.proofs.boxes.box_of.Given as goal
 

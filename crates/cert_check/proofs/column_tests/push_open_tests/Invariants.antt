@@ -1,6 +1,5 @@
 use Rattle.std.proofs.Common.{◌≡◌, ℕ, ◌<◌}
-use Rattle.tier_core.specs.Scan.{opens}
-use Rattle.tier_core.specs.Timelines.{symbol}
+use Rattle.tier_core.specs.{Scan.opens, Timelines.symbol}
 use Rattle.cert_check.specs.Tests.{AddsTests}
 use Rattle.cert_check.proofs.column_tests.push_open_tests.Given as goal
 

@@ -1,6 +1,5 @@
 use Rattle.std.proofs.Common.{◌≡◌, ℕ, ◌≤◌, take, length, List, All}
-use Rattle.tier_core.specs.declared.sym.Sym.{Sym}
-use Rattle.tier_core.specs.Classes.{sets_of}
+use Rattle.tier_core.specs.{declared.sym.Sym.Sym, Classes.sets_of}
 use Rattle.symbol_class.specs.Held.{some_has}
 use Rattle.cert_check.specs.Arcs.{is_led}
 use Rattle.cert_check.proofs.differing.classes_to.Given as goal

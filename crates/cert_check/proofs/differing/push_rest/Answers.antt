@@ -1,9 +1,6 @@
 use Rattle.std.proofs.Common.{◌≡◌, ◌&&◌, ◌++◌, IsTrue, not, List, length, sym, ap, ◌∙◌, subst, refl, All}
-use Rattle.std.proofs.lemmas.List.{drop_at}
-use Rattle.std.proofs.lemmas.List.Elements.{All-drop}
-use Rattle.tier_core.specs.declared.class.Class.{Class}
-use Rattle.tier_core.specs.Classes.{sets_of, has}
-use Rattle.tier_core.specs.Filled.{is_filled}
+use Rattle.std.proofs.{lemmas.List.drop_at, lemmas.List.Elements.All-drop}
+use Rattle.tier_core.specs.{declared.class.Class.Class, Classes.{sets_of, has}, Filled.is_filled}
 use Rattle.symbol_class.specs.Held.{some_has}
 use Rattle.cert_check.specs.Arcs.{is_led}
 use Rattle.cert_check.proofs.Gathering.{adds_more}

@@ -1,6 +1,5 @@
 use Rattle.std.proofs.Common.{◌≤◌, take, length}
-use Rattle.cert_check.specs.Arcs.{is_unmatched}
-use Rattle.cert_check.specs.Gathered.{AddsColumns}
+use Rattle.cert_check.specs.{Arcs.is_unmatched, Gathered.AddsColumns}
 use Rattle.cert_check.proofs.differing.push_unmatched.Given as goal
 
 abbrev pub invariant-loop-arc : goal.invariant-loop-arc

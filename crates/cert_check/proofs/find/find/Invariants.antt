@@ -1,7 +1,6 @@
 use Rattle.std.proofs.Common.{◌≡◌, ℕ, ◌-◌, ◌<◌, ◌≤◌, length, get_or}
 use Rattle.std.specs.declared.cmp.Ordering.TheVariants.{Less, Greater}
-use Rattle.tier_core.specs.Kinds.{kind_order}
-use Rattle.tier_core.specs.KindShapes.{kind_in}
+use Rattle.tier_core.specs.{Kinds.kind_order, KindShapes.kind_in}
 use Rattle.cert_check.specs.Searches.{told_in}
 use Rattle.cert_check.proofs.find.find.Given as goal
 

@@ -1,5 +1,4 @@
-use Rattle.std.proofs.Common.{rules}
-use Rattle.std.proofs.lemmas.List.Sorted.{answers_always}
+use Rattle.std.proofs.{Common.rules, lemmas.List.Sorted.answers_always}
 use Rattle.answer_text.specs.declared.automaton.StateLine.{StateLine}
 use Rattle.cert_check.proofs.NumberSearch.{told}
 use Rattle.cert_check.proofs.find_state.has_state.Goals as goal

@@ -1,7 +1,5 @@
 use Rattle.std.proofs.Common.{not, ◌∙◌}
-use Rattle.tier_core.specs.Classes.{has}
-use Rattle.tier_core.specs.Sets.{is_in}
-use Rattle.tier_core.specs.Timelines.{symbol, is_edge}
+use Rattle.tier_core.specs.{Classes.has, Sets.is_in, Timelines.{symbol, is_edge}}
 use Rattle.tier_core.proofs.KnownSets.{in_edgeless}
 use Rattle.cert_check.proofs.FitSteps.{tier_more}
 use Rattle.cert_check.proofs.fit_boxes.edgeless_box.Goals as goal

@@ -1,7 +1,5 @@
 use Rattle.std.proofs.Common.{◌≡◌, ℕ, ◌<◌, ◌↔◌, true, not, IsTrue, List, length}
-use Rattle.tier_core.specs.declared.sym.Sym.{Sym}
-use Rattle.tier_core.specs.Classes.{sets_of, has}
-use Rattle.tier_core.specs.Timelines.{symbol, is_edge}
+use Rattle.tier_core.specs.{declared.sym.Sym.Sym, Classes.{sets_of, has}, Timelines.{symbol, is_edge}}
 use Rattle.cert_check.proofs.fit_boxes.edgeless_box.Given as goal
 
 abbrev pub invariant-loop-tier : goal.invariant-loop-tier

@@ -1,12 +1,10 @@
 use Rattle.std.proofs.Common.{◌≡◌, ◌+◌, ℕ, cond, true, false, length, ap, sym, ◌∙◌, arith}
-use Rattle.tier_core.specs.Classes.{has}
-use Rattle.tier_core.specs.Tiers.{is_input, kind_at}
-use Rattle.tier_core.specs.declared.tier.TierKind.TheVariants.{Input}
+use Rattle.tier_core.specs.{Classes.has, Tiers.{is_input, kind_at}, declared.tier.TierKind.TheVariants.Input}
 use Rattle.violation.proofs.InputParts.{reads_more, reads_same, reads_all}
 use Rattle.cert_check.specs.Opens.{inputs_before}
 use Rattle.cert_check.proofs.Opens.{inputs_more, inputs_in, all_inputs}
-use Rattle.cert_check.proofs.fit_boxes.reading_box.Goals as goal
 use Rattle.cert_check.proofs.fit_boxes.reading_box.Goals.{then-is_input, else-is_input}
+use Rattle.cert_check.proofs.fit_boxes.reading_box.Goals as goal
 
 pub bounds-form-next : goal.bounds-form-next
 bounds-form-next c =

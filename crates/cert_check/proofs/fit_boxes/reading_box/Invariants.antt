@@ -1,8 +1,6 @@
 use Rattle.std.proofs.Common.{◌≡◌, ◌≤◌, List, length}
-use Rattle.tier_core.specs.declared.sym.Sym.{Sym}
-use Rattle.tier_core.specs.Classes.{sets_of, has}
-use Rattle.violation.proofs.CandidateLemmas.{part_from}
-use Rattle.violation.proofs.InputParts.{ReadsOn}
+use Rattle.tier_core.specs.{declared.sym.Sym.Sym, Classes.{sets_of, has}}
+use Rattle.violation.proofs.{CandidateLemmas.part_from, InputParts.ReadsOn}
 use Rattle.cert_check.specs.Opens.{inputs_before}
 use Rattle.cert_check.proofs.fit_boxes.reading_box.Given as goal
 

@@ -1,12 +1,8 @@
 use Rattle.std.proofs.Common.{◌≡◌, ℕ, IfErr, List, sym, ap, ◌∙◌, subst, All}
 use Rattle.tier_core.specs.declared.constraint.Constraint.{Constraint}
-use Rattle.violation.specs.Conditions.{IsCountable}
-use Rattle.cert_check.specs.FirstFaults.{asked_by, IsFirstFault}
-use Rattle.cert_check.specs.Heads.{IsFirstCountFault}
-use Rattle.cert_check.specs.Stops.{StopsBy}
-use Rattle.violation.specs.Candidates.{vec, counts_on}
-use Rattle.cert_check.proofs.Heads.{first_counts}
-use Rattle.cert_check.proofs.Stops.{stops_say}
+use Rattle.violation.specs.{Conditions.IsCountable, Candidates.{vec, counts_on}}
+use Rattle.cert_check.specs.{FirstFaults.{asked_by, IsFirstFault}, Heads.IsFirstCountFault, Stops.StopsBy}
+use Rattle.cert_check.proofs.{Heads.first_counts, Stops.stops_say}
 use Rattle.grammar_reader.proofs.OverTiers.{all_countable}
 use Rattle.cert_check.proofs.head.check_counts.Goals as goal
 

@@ -1,7 +1,6 @@
 use Rattle.std.proofs.Common.{take}
 use Rattle.violation.specs.Prefixes.{kind_of_bits}
-use Rattle.cert_check.specs.Kept.{AreKeptOf}
-use Rattle.cert_check.specs.Subjects.{problem_of}
+use Rattle.cert_check.specs.{Kept.AreKeptOf, Subjects.problem_of}
 use Rattle.cert_check.proofs.kept.kept_of.Given as goal
 
 abbrev pub invariant-loop-class : goal.invariant-loop-class

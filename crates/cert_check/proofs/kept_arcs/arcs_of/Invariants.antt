@@ -1,7 +1,6 @@
 use Rattle.std.proofs.Common.{◌≡◌, All, take}
 use Rattle.answer_text.specs.ArcClasses.{arc_classes}
-use Rattle.cert_check.specs.Kept.{kept_classes}
-use Rattle.cert_check.specs.KeptArcs.{IsPieceArc}
+use Rattle.cert_check.specs.{Kept.kept_classes, KeptArcs.IsPieceArc}
 use Rattle.cert_check.proofs.kept_arcs.arcs_of.Given as goal
 
 abbrev pub invariant-loop-piece : goal.invariant-loop-piece

@@ -1,9 +1,8 @@
 use Rattle.std.proofs.Common.{sym, ◌∙◌}
-use Rattle.tier_core.specs.Scan.{opens}
-use Rattle.tier_core.specs.Timelines.{symbol}
+use Rattle.tier_core.specs.{Scan.opens, Timelines.symbol}
 use Rattle.cert_check.proofs.FlagSteps.{flagged_more, flagged_same, flagged_told, flagged_within}
-use Rattle.cert_check.proofs.moves.opened_after.Goals as goal
 use Rattle.cert_check.proofs.moves.opened_after.Goals.{then-is_free, else-is_free}
+use Rattle.cert_check.proofs.moves.opened_after.Goals as goal
 
 pub loop-tier-preserved : goal.loop-tier-preserved
 loop-tier-preserved c = elim c.if-is_free.branch [

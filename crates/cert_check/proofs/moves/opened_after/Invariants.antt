@@ -1,5 +1,4 @@
-use Rattle.tier_core.specs.Scan.{opens}
-use Rattle.tier_core.specs.Timelines.{symbol}
+use Rattle.tier_core.specs.{Scan.opens, Timelines.symbol}
 use Rattle.cert_check.proofs.FlagSteps.{AreFlagged}
 use Rattle.cert_check.proofs.moves.opened_after.Given as goal
 

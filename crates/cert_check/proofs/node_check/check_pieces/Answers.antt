@@ -1,5 +1,4 @@
-use Rattle.std.proofs.Common.{sym, ◌∙◌, arith}
-use Rattle.std.proofs.lemmas.List.{length-map}
+use Rattle.std.proofs.{Common.{sym, ◌∙◌, arith}, lemmas.List.length-map}
 use Rattle.cert_check.specs.declared.kept_piece.KeptPiece.{KeptPiece}
 use Rattle.cert_check.proofs.NodeSteps.{best_below, piece_at, right_where_no_best, first_move, never_none}
 use Rattle.cert_check.proofs.node_check.check_pieces.Goals as goal

@@ -1,6 +1,4 @@
-use Rattle.cert_check.specs.Kept.{kept_classes}
-use Rattle.cert_check.specs.Nodes.{IsLeastWrong}
-use Rattle.cert_check.specs.Subjects.{problem_of}
+use Rattle.cert_check.specs.{Kept.kept_classes, Nodes.IsLeastWrong, Subjects.problem_of}
 use Rattle.cert_check.proofs.node_check.check_pieces.Given as goal
 
 abbrev pub invariant-loop-next : goal.invariant-loop-next

@@ -1,8 +1,6 @@
-use Rattle.std.proofs.Common.{sym, ap₂, ◌∙◌}
+use Rattle.std.proofs.{Common.{sym, ap₂, ◌∙◌}, lemmas.List.{get_or_default, length-map}}
 use Rattle.std.specs.Ordering.{is_gt}
-use Rattle.std.proofs.lemmas.List.{get_or_default, length-map}
-use Rattle.tier_core.specs.Orders.{column_cmp}
-use Rattle.tier_core.specs.FirstColumn.{first_column}
+use Rattle.tier_core.specs.{Orders.column_cmp, FirstColumn.first_column}
 use Rattle.cert_check.specs.declared.kept_piece.KeptPiece.{KeptPiece}
 use Rattle.cert_check.proofs.ColumnPlaces.{after_is, not_after_is}
 use Rattle.cert_check.proofs.NodeSteps.{best_below, piece_at, least_same, least_first, least_next, least_later}

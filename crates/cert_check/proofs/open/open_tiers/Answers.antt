@@ -1,5 +1,4 @@
-use Rattle.std.proofs.Common.{◌≡◌, ℕ, ◌+◌, ◌-◌, Bool, cond, sym, ap, ◌∙◌, arith, ⊎_elim}
-use Rattle.std.proofs.lemmas.Bool.{cases_lt}
+use Rattle.std.proofs.{Common.{◌≡◌, ℕ, ◌+◌, ◌-◌, Bool, cond, sym, ap, ◌∙◌, arith, ⊎_elim}, lemmas.Bool.cases_lt}
 use Rattle.tier_core.specs.Tiers.{has_tier, is_input, kind_at}
 use Rattle.cert_check.specs.Opens.{is_open_before, is_open_by, inputs_before}
 use Rattle.cert_check.proofs.Opens.{inputs_more, inputs_in, all_inputs}

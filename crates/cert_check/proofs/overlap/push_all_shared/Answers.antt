@@ -1,5 +1,4 @@
-use Rattle.std.proofs.Common.{sym}
-use Rattle.std.proofs.lemmas.Option.{get_or_from_slice_get}
+use Rattle.std.proofs.{Common.sym, lemmas.Option.get_or_from_slice_get}
 use Rattle.cert_check.proofs.Gathering.{one_there, twice_none, twice_more, twice_all}
 use Rattle.cert_check.proofs.overlap.push_all_shared.Goals as goal
 

@@ -1,5 +1,4 @@
-use Rattle.std.proofs.Common.{sym, ◌∙◌}
-use Rattle.std.proofs.lemmas.Bool.{not-true, not-false}
+use Rattle.std.proofs.{Common.{sym, ◌∙◌}, lemmas.Bool.{not-true, not-false}}
 use Rattle.tier_core.specs.Filled.{is_filled}
 use Rattle.cert_check.proofs.Gathering.{adds_empty, adds_one}
 use Rattle.cert_check.proofs.overlap.push_filled.Goals as goal

@@ -1,5 +1,4 @@
-use Rattle.std.proofs.Common.{◌&&◌, sym, ap₂, ◌∙◌, arith}
-use Rattle.std.proofs.lemmas.Option.{get_or_from_slice_get}
+use Rattle.std.proofs.{Common.{◌&&◌, sym, ap₂, ◌∙◌, arith}, lemmas.Option.get_or_from_slice_get}
 use Rattle.tier_core.specs.Classes.{has}
 use Rattle.answer_text.specs.declared.automaton.ArcLine.{ArcLine}
 use Rattle.cert_check.proofs.Gathering.{adds_same, shared_none, shared_more, shared_all}

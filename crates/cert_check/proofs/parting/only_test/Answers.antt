@@ -1,8 +1,5 @@
 use Rattle.std.proofs.Common.{◌≡◌, ◌&&◌, ◌++◌, List, length, sym, ap₂, ◌∙◌}
-use Rattle.tier_core.specs.declared.event.Event.{Event}
-use Rattle.tier_core.specs.declared.sym.Sym.{Sym}
-use Rattle.tier_core.specs.Classes.{has}
-use Rattle.tier_core.specs.Sides.{has_edge_type}
+use Rattle.tier_core.specs.{declared.event.Event.Event, declared.sym.Sym.Sym, Classes.has, Sides.has_edge_type}
 use Rattle.cert_check.specs.declared.boxes.Asked.TheVariants.{Present, Absent, NoEdge}
 use Rattle.cert_check.proofs.TestLemmas.{all_so, implication_alike, edge_clash_alike, inside_clash_alike}
 use Rattle.cert_check.proofs.parting.only_test.Goals as goal

@@ -1,7 +1,6 @@
 use Rattle.std.proofs.Common.{◌≤◌, ◌↔◌, length, filter, drop, map}
 use Rattle.std.specs.List.{range_with_len}
-use Rattle.tier_core.specs.Kinds.{phases, phase_at}
-use Rattle.tier_core.specs.Sides.{is_stretch}
+use Rattle.tier_core.specs.{Kinds.{phases, phase_at}, Sides.is_stretch}
 use Rattle.violation.specs.Phases.{AreClosedOr}
 use Rattle.cert_check.specs.Possible.{all_open_in}
 use Rattle.cert_check.proofs.possible.are_phases_right.Given as goal

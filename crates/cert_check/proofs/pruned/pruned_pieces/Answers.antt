@@ -1,7 +1,6 @@
 use Rattle.std.proofs.Common.{◌≡◌, arith, subst}
 use Rattle.violation.specs.Prefixes.{kind_of_bits}
-use Rattle.cert_check.specs.Pruned.{ArePruned}
-use Rattle.cert_check.specs.Subjects.{problem_of}
+use Rattle.cert_check.specs.{Pruned.ArePruned, Subjects.problem_of}
 use Rattle.cert_check.proofs.pruned.pruned_pieces.Goals as goal
 
 pub loop-before-init : goal.loop-before-init

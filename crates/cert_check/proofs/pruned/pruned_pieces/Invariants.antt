@@ -1,6 +1,5 @@
 use Rattle.violation.specs.Prefixes.{kind_of_bits}
-use Rattle.cert_check.specs.Pruned.{ArePruned}
-use Rattle.cert_check.specs.Subjects.{problem_of}
+use Rattle.cert_check.specs.{Pruned.ArePruned, Subjects.problem_of}
 use Rattle.cert_check.proofs.pruned.pruned_pieces.Given as goal
 
 abbrev pub invariant-loop-before : goal.invariant-loop-before

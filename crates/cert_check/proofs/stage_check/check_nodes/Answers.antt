@@ -1,12 +1,6 @@
-use Rattle.std.proofs.Common.{◌≡◌, subst, arith, ⊎_elim}
-use Rattle.std.proofs.lemmas.Bool.{cases_lt}
-use Rattle.std.proofs.lemmas.Result.{err_from_is_err_and}
-use Rattle.cert_check.specs.Nodes.{IsRightNode, IsFirstInNode}
-use Rattle.cert_check.specs.Parts.{IsFirstInStage}
-use Rattle.cert_check.specs.Subjects.{problem_of}
-use Rattle.cert_check.proofs.StageSteps.{node_here, place_in, first_in_node}
-use Rattle.cert_check.proofs.Stops.{stop_says}
-use Rattle.cert_check.proofs.Subjects.{nodes_read}
+use Rattle.std.proofs.{Common.{◌≡◌, subst, arith, ⊎_elim}, lemmas.Bool.cases_lt, lemmas.Result.err_from_is_err_and}
+use Rattle.cert_check.specs.{Nodes.{IsRightNode, IsFirstInNode}, Parts.IsFirstInStage, Subjects.problem_of}
+use Rattle.cert_check.proofs.{StageSteps.{node_here, place_in, first_in_node}, Stops.stop_says, Subjects.nodes_read}
 use Rattle.cert_check.proofs.stage_check.check_nodes.Goals as goal
 
 pub check_node-requires-clause-place : goal.check_node-requires-clause-place

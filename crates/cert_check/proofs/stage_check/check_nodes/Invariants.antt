@@ -1,6 +1,5 @@
 use Rattle.std.proofs.Common.{ℕ, ◌<◌}
-use Rattle.cert_check.specs.Nodes.{IsRightNode}
-use Rattle.cert_check.specs.Subjects.{problem_of}
+use Rattle.cert_check.specs.{Nodes.IsRightNode, Subjects.problem_of}
 use Rattle.cert_check.proofs.stage_check.check_nodes.Given as goal
 
 abbrev pub invariant-loop-number : goal.invariant-loop-number

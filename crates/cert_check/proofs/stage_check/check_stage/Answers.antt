@@ -1,6 +1,4 @@
-use Rattle.std.proofs.Common.{◌≡◌, subst, arith, ⊎_elim}
-use Rattle.std.proofs.lemmas.Bool.{cases_lt}
-use Rattle.std.proofs.lemmas.Result.{on_ok_weaker}
+use Rattle.std.proofs.{Common.{◌≡◌, subst, arith, ⊎_elim}, lemmas.Bool.cases_lt, lemmas.Result.on_ok_weaker}
 use Rattle.cert_check.specs.Subjects.{AscendsAt}
 use Rattle.cert_check.proofs.Orders.{ascends_by}
 use Rattle.cert_check.proofs.stage_check.check_stage.Goals as goal

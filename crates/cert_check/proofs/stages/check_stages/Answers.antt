@@ -1,9 +1,6 @@
 use Rattle.std.proofs.lemmas.Result.{err_from_is_err_and}
-use Rattle.cert_check.specs.FirstFaults.{IsFirstFault}
-use Rattle.cert_check.specs.Parts.{IsFirstInStage}
-use Rattle.cert_check.specs.Subjects.{problem_of}
-use Rattle.cert_check.proofs.StageSteps.{first_stage}
-use Rattle.cert_check.proofs.Stops.{stop_says}
+use Rattle.cert_check.specs.{FirstFaults.IsFirstFault, Parts.IsFirstInStage, Subjects.problem_of}
+use Rattle.cert_check.proofs.{StageSteps.first_stage, Stops.stop_says}
 use Rattle.cert_check.proofs.stages.check_stages.Goals as goal
 
 pub returns-in_err-check_stage-clause-err : goal.returns-in_err-check_stage-clause-err

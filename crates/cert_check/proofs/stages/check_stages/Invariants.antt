@@ -1,6 +1,5 @@
 use Rattle.std.proofs.Common.{ℕ, ◌<◌}
-use Rattle.cert_check.specs.Nodes.{IsFaultlessStage}
-use Rattle.cert_check.specs.Subjects.{AscendsAt, problem_of}
+use Rattle.cert_check.specs.{Nodes.IsFaultlessStage, Subjects.{AscendsAt, problem_of}}
 use Rattle.cert_check.proofs.stages.check_stages.Given as goal
 
 abbrev pub invariant-loop-stage : goal.invariant-loop-stage

@@ -1,12 +1,10 @@
 use Rattle.std.proofs.Common.{◌≡◌, ◌<◌, List, [], length, sym, ap, ◌∙◌, arith, true≢false, eqb-true}
-use Rattle.std.proofs.lemmas.Option.{slice_get_within, get_or_from_slice_get}
-use Rattle.std.proofs.lemmas.List.{length-map}
+use Rattle.std.proofs.{lemmas.Option.{slice_get_within, get_or_from_slice_get}, lemmas.List.length-map}
 use Rattle.std.proofs.lemmas.Bool.{eqb-false}
 use Rattle.answer_text.specs.declared.stage.Node.{Node}
 use Rattle.violation.specs.Prefixes.{kind_of, kind_of_bits}
 use Rattle.cert_check.specs.Subjects.{problem_of, stage_nodes, stage_kinds}
-use Rattle.cert_check.proofs.Starts.{first_missing}
-use Rattle.cert_check.proofs.Subjects.{nodes_read, number_fits, number_bits}
+use Rattle.cert_check.proofs.{Starts.first_missing, Subjects.{nodes_read, number_fits, number_bits}}
 use Rattle.cert_check.proofs.start.check_start.Goals as goal
 
 pub returns-then-is_empty-clause-err : goal.returns-then-is_empty-clause-err

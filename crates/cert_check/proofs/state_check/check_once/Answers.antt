@@ -1,11 +1,8 @@
 use Rattle.std.proofs.Common.{◌≡◌, List, length, sym, subst, All, Option, MatchOption}
-use Rattle.tier_core.specs.declared.sym.Sym.{Sym}
-use Rattle.tier_core.specs.Classes.{sets_of}
+use Rattle.tier_core.specs.{declared.sym.Sym.Sym, Classes.sets_of}
 use Rattle.answer_text.specs.declared.automaton.ArcLine.{ArcLine}
-use Rattle.cert_check.specs.Arcs.{is_twice, IsLeastColumn, IsNoColumn}
-use Rattle.cert_check.specs.Subjects.{problem_of}
-use Rattle.cert_check.proofs.StateFaults.{twice_right, first_twice}
-use Rattle.cert_check.proofs.StateSubjects.{states_ascend, arcs_wide}
+use Rattle.cert_check.specs.{Arcs.{is_twice, IsLeastColumn, IsNoColumn}, Subjects.problem_of}
+use Rattle.cert_check.proofs.{StateFaults.{twice_right, first_twice}, StateSubjects.{states_ascend, arcs_wide}}
 use Rattle.cert_check.proofs.state_check.check_once.Goals as goal
 
 abbrev IsLeastTwice : List ArcLine → Option (List Sym) → Type 0

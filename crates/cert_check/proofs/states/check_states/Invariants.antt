@@ -1,7 +1,6 @@
 use Rattle.std.proofs.Common.{◌≡◌, ℕ, ◌<◌, Some, slice_get}
 use Rattle.answer_text.specs.declared.automaton.StateLine.{StateLine}
-use Rattle.cert_check.specs.States.{IsRightState}
-use Rattle.cert_check.specs.Subjects.{problem_of}
+use Rattle.cert_check.specs.{States.IsRightState, Subjects.problem_of}
 use Rattle.cert_check.proofs.states.check_states.Given as goal
 
 abbrev pub invariant-loop-state : goal.invariant-loop-state

@@ -1,10 +1,7 @@
 use Rattle.std.proofs.Common.{◌≡◌, sym, subst, arith}
-use Rattle.violation.specs.Moves.{cut_kind}
-use Rattle.violation.specs.Prefixes.{kind_of_bits}
-use Rattle.cert_check.specs.Faults.{IsUnlisted}
-use Rattle.cert_check.specs.Subjects.{problem_of}
-use Rattle.cert_check.proofs.TightLists.{tight_among_none}
-use Rattle.cert_check.proofs.TightSteps.{cut_fits_at, cut_told_at}
+use Rattle.violation.specs.{Moves.cut_kind, Prefixes.kind_of_bits}
+use Rattle.cert_check.specs.{Faults.IsUnlisted, Subjects.problem_of}
+use Rattle.cert_check.proofs.{TightLists.tight_among_none, TightSteps.{cut_fits_at, cut_told_at}}
 use Rattle.cert_check.proofs.tight.tight_among.Goals as goal
 
 pub returns-in_default : goal.returns-in_default

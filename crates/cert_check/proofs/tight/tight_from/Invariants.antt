@@ -1,7 +1,6 @@
 use Rattle.std.proofs.Common.{◌≡◌}
 use Rattle.tier_core.specs.Kinds.{PrefixKind}
-use Rattle.violation.specs.Moves.{cut_kind}
-use Rattle.violation.specs.Prefixes.{kind_of_bits}
+use Rattle.violation.specs.{Moves.cut_kind, Prefixes.kind_of_bits}
 use Rattle.cert_check.specs.Subjects.{problem_of}
 use Rattle.cert_check.proofs.TightLists.{TightOf}
 use Rattle.cert_check.proofs.tight.tight_from.Given as goal

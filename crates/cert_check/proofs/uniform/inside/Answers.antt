@@ -1,9 +1,6 @@
 use Rattle.std.proofs.Common.{◌≡◌, not, ◌&&◌, true, false, Bool, refl, ap, ◌∙◌, arith}
-use Rattle.tier_core.specs.Classes.{has}
-use Rattle.tier_core.specs.Sets.{is_in}
-use Rattle.tier_core.specs.Timelines.{symbol}
-use Rattle.tier_core.proofs.ClassSets.{width_is}
-use Rattle.tier_core.proofs.KnownSets.{in_none}
+use Rattle.tier_core.specs.{Classes.has, Sets.is_in, Timelines.symbol}
+use Rattle.tier_core.proofs.{ClassSets.width_is, KnownSets.in_none}
 use Rattle.cert_check.proofs.uniform.inside.Goals as goal
 
 but_none : (a b i : Bool) → b ≡ (a && i) → i ≡ false → (a && not b) ≡ a

@@ -1,7 +1,5 @@
-use Rattle.std.proofs.Common.{◌≡◌, ℕ, length, sym, ◌∙◌, subst}
-use Rattle.std.proofs.lemmas.List.{take_all}
-use Rattle.tier_core.specs.declared.class.Class.{Class}
-use Rattle.tier_core.specs.Classes.{sets_of}
+use Rattle.std.proofs.{Common.{◌≡◌, ℕ, length, sym, ◌∙◌, subst}, lemmas.List.take_all}
+use Rattle.tier_core.specs.{declared.class.Class.Class, Classes.sets_of}
 use Rattle.symbol_class.specs.Held.{ArePieces}
 use Rattle.cert_check.specs.Fitting.{ArePartedByTests}
 use Rattle.cert_check.proofs.UniformSteps.{parted_none, parted_more}

@@ -1,10 +1,6 @@
-use Rattle.std.proofs.Common.{ℕ, refl, ◌∙◌, subst}
-use Rattle.std.proofs.lemmas.List.{get_or_default}
-use Rattle.comprehend.specs.declared.choice.Choice.{Choice}
-use Rattle.comprehend.specs.Searches.{no_distance, IsLeft}
-use Rattle.comprehend.specs.Choices.{LeadsToCell}
-use Rattle.comprehend.proofs.Shared.{filled, in_both, both_has, none_shared}
-use Rattle.comprehend.proofs.Bettering.{better_none, better_one}
+use Rattle.std.proofs.{Common.{ℕ, refl, ◌∙◌, subst}, lemmas.List.get_or_default}
+use Rattle.comprehend.specs.{declared.choice.Choice.Choice, Searches.{no_distance, IsLeft}, Choices.LeadsToCell}
+use Rattle.comprehend.proofs.{Shared.{filled, in_both, both_has, none_shared}, Bettering.{better_none, better_one}}
 use Rattle.comprehend.proofs.choice.better_choice.Goals as goal
 
 pub returns-then-left-cell : goal.returns-then-left-cell

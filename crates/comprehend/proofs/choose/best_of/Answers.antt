@@ -1,8 +1,6 @@
-use Rattle.std.proofs.Common.{◌≡◌, None, Some, length, sym, ◌∙◌, arith}
+use Rattle.std.proofs.{Common.{◌≡◌, None, Some, length, sym, ◌∙◌, arith}, lemmas.Option.slice_get_within}
 use Rattle.std.specs.Prelude.{slice_get}
-use Rattle.std.proofs.lemmas.Option.{slice_get_within}
-use Rattle.comprehend.proofs.Cells.{cells_inside}
-use Rattle.comprehend.proofs.Alongs.{arc_nowhere, arc_more}
+use Rattle.comprehend.proofs.{Cells.cells_inside, Alongs.{arc_nowhere, arc_more}}
 use Rattle.comprehend.proofs.choose.best_of.Goals as goal
 
 pub loop-arc-preserved-in_default : goal.loop-arc-preserved-in_default

@@ -1,16 +1,11 @@
 use Rattle.std.proofs.Common.{◌≡◌, ◌<◌, ℕ, List, Option, None, length, get_or, ◌/◌, ◌%◌, sym, ◌∙◌, subst, arith}
-use Rattle.std.specs.Prelude.{All}
 use Rattle.std.proofs.lemmas.List.Elements.{Contains-get_or}
-use Rattle.tier_core.specs.declared.class.Class.{Class}
-use Rattle.tier_core.specs.Classes.{sets_of}
-use Rattle.answer_text.specs.declared.automaton.ArcLine.{ArcLine}
-use Rattle.answer_text.specs.declared.automaton.StateLine.{StateLine}
+use Rattle.std.specs.Prelude.{All}
+use Rattle.tier_core.specs.{declared.class.Class.Class, Classes.sets_of}
+use Rattle.answer_text.specs.{declared.automaton.ArcLine.ArcLine, declared.automaton.StateLine.StateLine}
 use Rattle.answer_text.specs.Right.{numbers_of}
-use Rattle.comprehend.specs.declared.choice.Choice.{Choice}
-use Rattle.comprehend.specs.Choices.{IsBetter, LeadsByOne}
-use Rattle.comprehend.specs.Steps.{arcs_at}
-use Rattle.comprehend.proofs.Cells.{cell_of, place_below, state_of}
-use Rattle.comprehend.proofs.Levels.{arcs_read}
+use Rattle.comprehend.specs.{declared.choice.Choice.Choice, Choices.{IsBetter, LeadsByOne}, Steps.arcs_at}
+use Rattle.comprehend.proofs.{Cells.{cell_of, place_below, state_of}, Levels.arcs_read}
 use Rattle.comprehend.proofs.Choosing.{chosen, none_chosen}
 use Rattle.comprehend.proofs.choose.choose.Goals as goal
 

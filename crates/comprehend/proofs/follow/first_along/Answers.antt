@@ -1,16 +1,10 @@
 use Rattle.std.proofs.Common.{◌≡◌, ◌↔◌, ◌<◌, ◌+◌, ◌*◌, ℕ, List, Option, Some, length, sym, ap, ◌∙◌, subst, arith}
+use Rattle.std.proofs.{lemmas.Option.slice_get_within, lemmas.List.{get_or_default, length-map}}
 use Rattle.std.specs.Prelude.{slice_get}
-use Rattle.std.proofs.lemmas.Option.{slice_get_within}
-use Rattle.std.proofs.lemmas.List.{get_or_default, length-map}
-use Rattle.tier_core.specs.declared.sym.Sym.{Sym}
-use Rattle.tier_core.specs.Orders.{IsFirst}
-use Rattle.answer_text.specs.declared.automaton.StateLine.{StateLine}
-use Rattle.answer_text.specs.Right.{numbers_of}
-use Rattle.comprehend.specs.Searches.{no_distance, ReadsFrom}
-use Rattle.comprehend.specs.Steps.{Goes, IsEndCell, AreSearchable}
-use Rattle.tier_core.specs.declared.class.Class.{Class}
-use Rattle.comprehend.proofs.Cells.{cells_inside}
-use Rattle.comprehend.proofs.Numbers.{once_at}
+use Rattle.tier_core.specs.{declared.sym.Sym.Sym, Orders.IsFirst, declared.class.Class.Class}
+use Rattle.answer_text.specs.{declared.automaton.StateLine.StateLine, Right.numbers_of}
+use Rattle.comprehend.specs.{Searches.{no_distance, ReadsFrom}, Steps.{Goes, IsEndCell, AreSearchable}}
+use Rattle.comprehend.proofs.{Cells.cells_inside, Numbers.once_at}
 use Rattle.comprehend.proofs.follow.first_along.Goals as goal
 
 -- the first cell of a state of the list is within the cells

@@ -2,10 +2,8 @@ use Rattle.std.proofs.Common.{◌≡◌, ℕ, ◌+◌, ◌-◌, ◌++◌, List, 
 use Rattle.std.proofs.lemmas.List.{append-nil}
 use Rattle.tier_core.specs.declared.sym.Sym.{Sym}
 use Rattle.first_paths.proofs.Results.{on_ok}
-use Rattle.comprehend.specs.Searches.{IsLeft}
-use Rattle.comprehend.specs.Steps.{Goes, IsEndCell}
-use Rattle.comprehend.proofs.Reaching.{known_inside}
-use Rattle.comprehend.proofs.OneStep.{one_step}
+use Rattle.comprehend.specs.{Searches.IsLeft, Steps.{Goes, IsEndCell}}
+use Rattle.comprehend.proofs.{Reaching.known_inside, OneStep.one_step}
 use Rattle.comprehend.proofs.FirstStep.{IsFirstFrom, is_first, first_empty, first_step, step_exists}
 use Rattle.comprehend.proofs.follow.follow.Goals as goal
 

@@ -1,5 +1,4 @@
-use Rattle.std.proofs.Common.{◌≡◌, ℕ, List, sym, subst, arith}
-use Rattle.std.proofs.lemmas.List.{length-map, take_all}
+use Rattle.std.proofs.{Common.{◌≡◌, ℕ, List, sym, subst, arith}, lemmas.List.{length-map, take_all}}
 use Rattle.std.proofs.lemmas.Result.{err_from_is_err_and}
 use Rattle.tier_core.specs.declared.sym.Sym.{Sym}
 use Rattle.violation.specs.Problems.{Problem, problem_from}

@@ -1,15 +1,10 @@
-use Rattle.std.proofs.Common.{◌≡◌, ◌<◌, ◌≤◌, ◌+◌, ◌*◌, ℕ, List, length, get_or, ◌/◌, ◌%◌, refl, sym, ◌∙◌, subst, arith}
-use Rattle.std.specs.Prelude.{All}
-use Rattle.std.specs.Global.{Vec}
-use Rattle.std.proofs.lemmas.List.{length-map}
-use Rattle.tier_core.specs.declared.class.Class.{Class}
-use Rattle.tier_core.specs.Classes.{sets_of}
-use Rattle.answer_text.specs.declared.automaton.StateLine.{StateLine}
-use Rattle.answer_text.specs.Right.{numbers_of}
-use Rattle.comprehend.specs.declared.entering.Entering.{Entering}
-use Rattle.comprehend.specs.Searches.{Reaches}
-use Rattle.comprehend.specs.Entering.{AreReverseArcs, ComesByOne, IsArcOf}
-use Rattle.comprehend.specs.Steps.{AreSearchable}
+use Rattle.std.proofs.Common.{◌≡◌, ◌<◌, ◌≤◌, ◌+◌, ◌*◌, ℕ, List, length, get_or, ◌/◌, ◌%◌, refl, sym, ◌∙◌, subst}
+use Rattle.std.proofs.{Common.arith, lemmas.List.length-map}
+use Rattle.std.specs.{Prelude.All, Global.Vec}
+use Rattle.tier_core.specs.{declared.class.Class.Class, Classes.sets_of}
+use Rattle.answer_text.specs.{declared.automaton.StateLine.StateLine, Right.numbers_of}
+use Rattle.comprehend.specs.{declared.entering.Entering.Entering, Searches.Reaches}
+use Rattle.comprehend.specs.{Entering.{AreReverseArcs, ComesByOne, IsArcOf}, Steps.AreSearchable}
 use Rattle.comprehend.proofs.Cells.{cell_of, place_below, state_of}
 use Rattle.comprehend.proofs.Levels.{entering_are, entry_widths, entry_cells, level_more}
 use Rattle.comprehend.proofs.level.next_level.Goals as goal

@@ -1,6 +1,5 @@
 use Rattle.std.proofs.Common.{◌≤◌, [], length, take}
-use Rattle.comprehend.specs.Searches.{IsPredecessor, Reaches}
-use Rattle.comprehend.specs.Steps.{Goes}
+use Rattle.comprehend.specs.{Searches.{IsPredecessor, Reaches}, Steps.Goes}
 use Rattle.comprehend.proofs.level.next_level.Given as goal
 
 abbrev pub invariant-loop-to : goal.invariant-loop-to

@@ -1,6 +1,5 @@
 use Rattle.std.proofs.Common.{◌≤◌, length, take}
-use Rattle.comprehend.specs.Searches.{Reaches}
-use Rattle.comprehend.specs.Entering.{ComesByOne}
+use Rattle.comprehend.specs.{Searches.Reaches, Entering.ComesByOne}
 use Rattle.comprehend.proofs.level.reach.Given as goal
 
 abbrev pub invariant-loop-entry : goal.invariant-loop-entry

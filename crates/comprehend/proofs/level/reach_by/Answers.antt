@@ -1,8 +1,6 @@
 use Rattle.std.proofs.Common.{◌≡◌, ◌<◌, ◌-◌, IsTrue, arith}
-use Rattle.comprehend.specs.Searches.{Reaches}
-use Rattle.comprehend.specs.Entering.{ComesBy}
-use Rattle.comprehend.proofs.Looks.{first_place, two_places}
-use Rattle.comprehend.proofs.Results.{if_ok_then}
+use Rattle.comprehend.specs.{Searches.Reaches, Entering.ComesBy}
+use Rattle.comprehend.proofs.{Looks.{first_place, two_places}, Results.if_ok_then}
 use Rattle.comprehend.proofs.level.reach_by.Goals as goal
 
 pub returns-then-place-eq0 : goal.returns-then-place-eq0

@@ -1,5 +1,4 @@
-use Rattle.std.proofs.Common.{◌≡◌, arith}
-use Rattle.std.proofs.lemmas.List.{get_or_read}
+use Rattle.std.proofs.{Common.{◌≡◌, arith}, lemmas.List.get_or_read}
 use Rattle.comprehend.specs.Searches.{no_distance}
 use Rattle.comprehend.proofs.Reaching.{one_unknown, reaches_same}
 use Rattle.comprehend.proofs.look.look.Goals as goal

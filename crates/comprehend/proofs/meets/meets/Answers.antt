@@ -1,5 +1,4 @@
-use Rattle.std.proofs.Common.{◌≡◌, true, false, Bool, not, refl}
-use Rattle.std.proofs.lemmas.Bool.{not-true}
+use Rattle.std.proofs.{Common.{◌≡◌, true, false, Bool, not, refl}, lemmas.Bool.not-true}
 use Rattle.comprehend.proofs.Shared.{shared, none_shared}
 use Rattle.comprehend.proofs.meets.meets.Goals as goal
 

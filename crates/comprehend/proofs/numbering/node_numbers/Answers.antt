@@ -1,8 +1,6 @@
-use Rattle.std.proofs.Common.{◌≡◌, get_or, sym, ap, ◌∙◌, arith}
-use Rattle.std.proofs.lemmas.List.{get_or-map, length-map}
+use Rattle.std.proofs.{Common.{◌≡◌, get_or, sym, ap, ◌∙◌, arith}, lemmas.List.{get_or-map, length-map}}
 use Rattle.first_paths.proofs.Results.{on_ok}
-use Rattle.answer_text.specs.declared.automaton.StateLine.{StateLine}
-use Rattle.answer_text.specs.Right.{numbers_of}
+use Rattle.answer_text.specs.{declared.automaton.StateLine.StateLine, Right.numbers_of}
 use Rattle.comprehend.proofs.Numbers.{numbered_more}
 use Rattle.comprehend.proofs.numbering.node_numbers.Goals as goal
 

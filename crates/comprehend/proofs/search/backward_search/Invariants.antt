@@ -1,6 +1,5 @@
 use Rattle.std.proofs.Common.{◌+◌, ◌*◌, length}
-use Rattle.comprehend.specs.Searches.{unknown_count, IsSearched}
-use Rattle.comprehend.specs.Steps.{Goes, IsEndCell}
+use Rattle.comprehend.specs.{Searches.{unknown_count, IsSearched}, Steps.{Goes, IsEndCell}}
 use Rattle.comprehend.proofs.search.backward_search.Given as goal
 
 abbrev pub invariant-levels : goal.invariant-levels

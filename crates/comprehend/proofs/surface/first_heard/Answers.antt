@@ -1,7 +1,5 @@
 use Rattle.std.proofs.Common.{◌≡◌, List, length, sym, subst}
-use Rattle.tier_core.specs.declared.class.Class.{Class}
-use Rattle.tier_core.specs.declared.sym.Sym.{Sym}
-use Rattle.tier_core.specs.declared.tier.TierKind.{TierKind}
+use Rattle.tier_core.specs.{declared.class.Class.Class, declared.sym.Sym.Sym, declared.tier.TierKind.TierKind}
 use Rattle.comprehend.specs.Tests.{AreTestsOf}
 use Rattle.comprehend.proofs.Heard.{searchable, apart, apart_tests, heard_first}
 use Rattle.comprehend.proofs.surface.first_heard.Goals as goal

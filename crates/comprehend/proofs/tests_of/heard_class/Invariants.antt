@@ -1,6 +1,5 @@
 use Rattle.std.proofs.Common.{◌≡◌, ◌≤◌, ◌++◌, length, drop, take}
-use Rattle.tier_core.specs.Classes.{sets_of}
-use Rattle.tier_core.specs.Sets.{AreSets}
+use Rattle.tier_core.specs.{Classes.sets_of, Sets.AreSets}
 use Rattle.comprehend.specs.Tests.{heard_sets}
 use Rattle.comprehend.proofs.tests_of.heard_class.Given as goal
 

@@ -1,6 +1,5 @@
 use Rattle.std.proofs.Common.{◌≡◌, ℕ, ◌<◌, length, get_or}
-use Rattle.tier_core.specs.declared.tier.TierKind.TheVariants.{Input}
-use Rattle.tier_core.specs.Sets.{AreSets}
+use Rattle.tier_core.specs.{declared.tier.TierKind.TheVariants.Input, Sets.AreSets}
 use Rattle.comprehend.specs.Tests.{still_set}
 use Rattle.comprehend.proofs.tests_of.still_class.Given as goal
 

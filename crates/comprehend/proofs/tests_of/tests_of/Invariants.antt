@@ -1,6 +1,5 @@
 use Rattle.std.proofs.Common.{◌≡◌, ◌∷◌, map, take}
-use Rattle.tier_core.specs.Classes.{sets_of}
-use Rattle.tier_core.specs.Sets.{single_set}
+use Rattle.tier_core.specs.{Classes.sets_of, Sets.single_set}
 use Rattle.comprehend.specs.Tests.{still_sets, heard_sets}
 use Rattle.comprehend.proofs.tests_of.tests_of.Given as goal
 

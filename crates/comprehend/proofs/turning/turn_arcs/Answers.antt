@@ -1,10 +1,8 @@
-use Rattle.std.proofs.Common.{◌≡◌, ◌<◌, ◌∷◌, ◌++◌, [], length, get_or, refl, sym, ap, ◌∙◌, arith}
-use Rattle.std.proofs.Common.{Some}
-use Rattle.std.specs.Prelude.{slice_get}
+use Rattle.std.proofs.Common.{◌≡◌, ◌<◌, ◌∷◌, ◌++◌, [], length, get_or, refl, sym, ap, ◌∙◌, arith, Some}
 use Rattle.std.proofs.lemmas.Option.{slice_get_within}
+use Rattle.std.specs.Prelude.{slice_get}
 use Rattle.answer_text.specs.Right.{numbers_of}
-use Rattle.comprehend.specs.declared.entering.Entering.{Entering}
-use Rattle.comprehend.specs.Steps.{arcs_at}
+use Rattle.comprehend.specs.{declared.entering.Entering.Entering, Steps.arcs_at}
 use Rattle.comprehend.proofs.Levels.{arcs_read, entering_are}
 use Rattle.comprehend.proofs.Turned.{so_far_none, so_far_all, turned_skip, turned_push}
 use Rattle.comprehend.proofs.turning.turn_arcs.Goals as goal

@@ -1,9 +1,7 @@
 use Rattle.std.proofs.Common.{◌≡◌, ℕ, ◌+◌, map, drop, arith}
-use Rattle.tier_core.specs.declared.event.Event.{Event}
-use Rattle.tier_core.specs.Events.{events}
+use Rattle.tier_core.specs.{declared.event.Event.Event, Events.events}
 use Rattle.violation.specs.Counts.{choices}
-use Rattle.definition_tests.specs.Counting.{HasTier, counted_after, counts_meet}
-use Rattle.definition_tests.specs.Spans.{interval, intervals_of}
+use Rattle.definition_tests.specs.{Counting.{HasTier, counted_after, counts_meet}, Spans.{interval, intervals_of}}
 use Rattle.definition_tests.proofs.ChoiceSteps.{counted_by, counted_more, count_fits, first_of, others_of}
 use Rattle.definition_tests.proofs.choices.+counted_from.Goals as goal
 

@@ -1,8 +1,7 @@
 use Rattle.std.proofs.Common.{◌≡◌, ◌+◌, drop, length, map}
 use Rattle.tier_core.specs.Events.{events}
 use Rattle.violation.specs.Counts.{choices}
-use Rattle.definition_tests.specs.Counting.{counts_meet, counted_after}
-use Rattle.definition_tests.specs.Spans.{interval, intervals_of}
+use Rattle.definition_tests.specs.{Counting.{counts_meet, counted_after}, Spans.{interval, intervals_of}}
 use Rattle.definition_tests.proofs.ChoiceSteps.{counted_by}
 use Rattle.definition_tests.proofs.choices.+counted_from.Given as goal
 

@@ -1,6 +1,5 @@
 use Rattle.std.proofs.Common.{◌≡◌, ℕ, ◌∙◌, List, [], ap, length, arith, subst, IfOk}
-use Rattle.tier_core.specs.declared.sym.Sym.{Sym}
-use Rattle.tier_core.specs.declared.event.Event.{Event}
+use Rattle.tier_core.specs.{declared.sym.Sym.Sym, declared.event.Event.Event}
 use Rattle.definition_tests.specs.Counting.{counted_after}
 use Rattle.definition_tests.proofs.ChoiceSteps.{counted_from_nothing}
 use Rattle.definition_tests.proofs.choices.counted_by_choices.Goals as goal

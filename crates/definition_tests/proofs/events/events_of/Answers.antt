@@ -1,7 +1,5 @@
 use Rattle.std.proofs.Common.{◌≡◌, ◌∙◌, ◌++◌, ◌+◌, ap, sym, map, true}
-use Rattle.tier_core.specs.Events.{event}
-use Rattle.tier_core.specs.Timelines.{symbol}
-use Rattle.tier_core.specs.Words.{starts}
+use Rattle.tier_core.specs.{Events.event, Timelines.symbol, Words.starts}
 use Rattle.definition_tests.specs.Spans.{interval}
 use Rattle.definition_tests.proofs.WordSteps.{left_from, left_without_end, left_with_pair, one_more}
 use Rattle.definition_tests.proofs.events.events_of.Goals as goal

@@ -1,6 +1,5 @@
 use Rattle.std.proofs.Common.{◌≡◌, ◌∙◌, ap, sym, true, false}
-use Rattle.tier_core.specs.Timelines.{symbol}
-use Rattle.tier_core.specs.Words.{ends}
+use Rattle.tier_core.specs.{Timelines.symbol, Words.ends}
 use Rattle.definition_tests.proofs.WordSteps.{end_here, end_later, end_none}
 use Rattle.definition_tests.proofs.events.next_end.Goals as goal
 

@@ -1,8 +1,6 @@
 use Rattle.std.proofs.Common.{◌≡◌, ◌+◌, ◌<◌, ℕ, length, get_or, sym, ap, ◌∙◌, subst, arith, inl, inr}
-use Rattle.std.proofs.lemmas.Bool.{cases_lt}
-use Rattle.std.proofs.lemmas.List.{get_or_read}
-use Rattle.tier_core.specs.declared.class.Class.{Class}
-use Rattle.tier_core.specs.Classes.{AreDisjoint}
+use Rattle.std.proofs.{lemmas.Bool.cases_lt, lemmas.List.get_or_read}
+use Rattle.tier_core.specs.{declared.class.Class.Class, Classes.AreDisjoint}
 use Rattle.definition_tests.proofs.Apart.{apart_later}
 use Rattle.definition_tests.proofs.fit.all_apart.Goals as goal
 

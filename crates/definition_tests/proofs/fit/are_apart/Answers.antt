@@ -1,8 +1,6 @@
-use Rattle.std.proofs.Common.{◌≡◌, false, get_or, sym, ap, ◌∙◌}
+use Rattle.std.proofs.{Common.{◌≡◌, false, get_or, sym, ap, ◌∙◌}, lemmas.Bool.not-true}
 use Rattle.std.specs.List.{list_any}
-use Rattle.std.proofs.lemmas.Bool.{not-true}
-use Rattle.tier_core.specs.Symbols.{symbols}
-use Rattle.tier_core.specs.Classes.{sets_of}
+use Rattle.tier_core.specs.{Symbols.symbols, Classes.sets_of}
 use Rattle.definition_tests.specs.Fit.{in_both}
 use Rattle.definition_tests.proofs.Sets.{disjoint_by_first}
 use Rattle.definition_tests.proofs.fit.are_apart.Goals as goal

@@ -1,6 +1,5 @@
 use Rattle.std.proofs.Common.{◌≡◌, ℕ, ◌≤◌, length, List, All, ap, sym, ◌∙◌, subst}
-use Rattle.timeline_text.specs.declared.letter.Letter.{Letter}
-use Rattle.timeline_text.specs.Spelling.{HasSound}
+use Rattle.timeline_text.specs.{declared.letter.Letter.Letter, Spelling.HasSound}
 use Rattle.form_reader.proofs.InputTiers.{few_inputs, some_inputs, sounds}
 use Rattle.form_reader.proofs.form.read_form.Goals as goal
 

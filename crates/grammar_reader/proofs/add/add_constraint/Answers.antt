@@ -1,8 +1,7 @@
 use Rattle.std.proofs.Common.{map, refl}
 use Rattle.tier_core.specs.declared.constraint.Constraint.{Constraint}
 use Rattle.grammar_reader.specs.Seen.{tiers_seen}
-use Rattle.grammar_reader.proofs.Ascii.{name_utf8}
-use Rattle.grammar_reader.proofs.Adding.{constraint_is, constraint_added}
+use Rattle.grammar_reader.proofs.{Ascii.name_utf8, Adding.{constraint_is, constraint_added}}
 use Rattle.grammar_reader.proofs.add.add_constraint.Goals as goal
 
 pub returns-clause-ok : goal.returns-clause-ok

@@ -1,7 +1,6 @@
 use Rattle.std.proofs.Common.{ap, map, ◌∙◌}
 use Rattle.indexmap.proofs.CallerLemmas.{insert_entry-new}
-use Rattle.grammar_reader.specs.Values.{GrammarValue}
-use Rattle.grammar_reader.specs.Seen.{constraint_seen}
+use Rattle.grammar_reader.specs.{Values.GrammarValue, Seen.constraint_seen}
 use Rattle.grammar_reader.proofs.Adding.{absent_by, tier_added, with_tiers}
 use Rattle.grammar_reader.proofs.add.add_tier.Goals as goal
 

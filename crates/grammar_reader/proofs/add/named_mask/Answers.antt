@@ -1,11 +1,7 @@
-use Rattle.std.proofs.Common.{◌+◌, ◌*◌, length, drop, map, ap, sym, ◌∙◌, arith, true, false}
-use Rattle.std.proofs.Math.Pow.{pow_mono}
-use Rattle.std.proofs.lemmas.List.{length_push}
-use Rattle.std.proofs.lemmas.Iterator.Consumers.{YieldsList-turn, YieldsList-from_rest}
+use Rattle.std.proofs.{Common.{◌+◌, ◌*◌, length, drop, map, ap, sym, ◌∙◌, arith, true, false}, Math.Pow.pow_mono}
+use Rattle.std.proofs.{lemmas.List.length_push, lemmas.Iterator.Consumers.{YieldsList-turn, YieldsList-from_rest}}
 use Rattle.tier_core.proofs.MaskBits.{bit_below}
-use Rattle.grammar_reader.specs.Values.{inputs_of}
-use Rattle.grammar_reader.specs.Seen.{tiers_seen}
-use Rattle.grammar_reader.specs.Reading.{named_mask}
+use Rattle.grammar_reader.specs.{Values.inputs_of, Seen.tiers_seen, Reading.named_mask}
 use Rattle.grammar_reader.proofs.Masks.{mask_skip, mask_next, power_more, power_later}
 use Rattle.grammar_reader.proofs.add.named_mask.Goals as goal
 

@@ -1,7 +1,5 @@
 use Rattle.std.proofs.Common.{◌≡◌, ◌+◌, ◌*◌, ◌^◌, ◌<◌, ◌≤◌, length, map, drop}
-use Rattle.grammar_reader.specs.Values.{inputs_of}
-use Rattle.grammar_reader.specs.Seen.{tiers_seen}
-use Rattle.grammar_reader.specs.Reading.{named_mask}
+use Rattle.grammar_reader.specs.{Values.inputs_of, Seen.tiers_seen, Reading.named_mask}
 use Rattle.grammar_reader.proofs.add.named_mask.Given as goal
 
 -- the bits of the tiers so far, and those of the tiers that are left

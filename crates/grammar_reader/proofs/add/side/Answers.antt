@@ -1,10 +1,7 @@
-use Rattle.std.proofs.Common.{◌≡◌, ◌+◌, ◌<◌, ◌∷◌, [], ◌++◌, length, take, get_or, map, ap, sym, ◌∙◌, arith, length-set}
-use Rattle.std.proofs.lemmas.List.{take_more_set, take_more, map-append, take_all}
-use Rattle.std.proofs.lemmas.List.Elements.{All-take, All-set}
-use Rattle.std.proofs.lemmas.Simd.{map-map}
-use Rattle.grammar_reader.specs.Events.{seen_event}
-use Rattle.grammar_reader.specs.Seen.{tiers_seen}
-use Rattle.grammar_reader.specs.Reading.{indexed_event}
+use Rattle.std.proofs.Common.{◌≡◌, ◌+◌, ◌<◌, ◌∷◌, [], ◌++◌, length, take, get_or, map, ap, sym, ◌∙◌, arith}
+use Rattle.std.proofs.{Common.length-set, lemmas.List.{take_more_set, take_more, map-append, take_all}}
+use Rattle.std.proofs.{lemmas.List.Elements.{All-take, All-set}, lemmas.Simd.map-map}
+use Rattle.grammar_reader.specs.{Events.seen_event, Seen.tiers_seen, Reading.indexed_event}
 use Rattle.grammar_reader.proofs.Adding.{event_more}
 use Rattle.grammar_reader.proofs.add.side.Goals as goal
 

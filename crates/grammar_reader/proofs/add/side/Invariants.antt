@@ -1,8 +1,6 @@
 use Rattle.std.proofs.Common.{◌≡◌, ◌<◌, length, map, take}
 use Rattle.std.specs.Prelude.{All}
-use Rattle.grammar_reader.specs.Events.{seen_event}
-use Rattle.grammar_reader.specs.Seen.{tiers_seen}
-use Rattle.grammar_reader.specs.Reading.{indexed_event}
+use Rattle.grammar_reader.specs.{Events.seen_event, Seen.tiers_seen, Reading.indexed_event}
 use Rattle.grammar_reader.proofs.add.side.Given as goal
 
 abbrev pub invariant-loop-place : goal.invariant-loop-place

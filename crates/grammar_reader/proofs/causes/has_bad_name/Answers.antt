@@ -1,10 +1,7 @@
-use Rattle.std.proofs.Common.{rules, tests, not, ◌||◌, map, ap, sym, ◌∙◌}
-use Rattle.std.specs.List.{list_any}
-use Rattle.std.proofs.lemmas.Iterator.{YieldsList-from_slice}
+use Rattle.std.proofs.{Common.{rules, tests, not, ◌||◌, map, ap, sym, ◌∙◌}, lemmas.Iterator.YieldsList-from_slice}
 use Rattle.std.proofs.lemmas.Iterator.Search.{any_from_yields_List}
-use Rattle.grammar_reader.specs.Names.{is_name, is_letter_byte}
-use Rattle.grammar_reader.specs.Reading.{has_bad_name}
-use Rattle.grammar_reader.specs.Said.{statement_seen}
+use Rattle.std.specs.List.{list_any}
+use Rattle.grammar_reader.specs.{Names.{is_name, is_letter_byte}, Reading.has_bad_name, Said.statement_seen}
 use Rattle.grammar_reader.proofs.Lists.{list_any-map}
 use Rattle.grammar_reader.proofs.causes.has_bad_name.Goals as goal
 

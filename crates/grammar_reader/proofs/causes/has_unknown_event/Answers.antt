@@ -1,9 +1,6 @@
-use Rattle.std.proofs.Common.{rules, tests, sym, ◌∙◌}
-use Rattle.std.proofs.lemmas.Iterator.{YieldsList-from_slice}
+use Rattle.std.proofs.{Common.{rules, tests, sym, ◌∙◌}, lemmas.Iterator.YieldsList-from_slice}
 use Rattle.std.proofs.lemmas.Iterator.Search.{any_from_yields_List}
-use Rattle.grammar_reader.specs.Seen.{tiers_seen}
-use Rattle.grammar_reader.specs.Events.{seen_event}
-use Rattle.grammar_reader.specs.Reading.{is_unknown}
+use Rattle.grammar_reader.specs.{Seen.tiers_seen, Events.seen_event, Reading.is_unknown}
 use Rattle.grammar_reader.proofs.Lists.{list_any-map}
 use Rattle.grammar_reader.proofs.causes.has_unknown_event.Goals as goal
 

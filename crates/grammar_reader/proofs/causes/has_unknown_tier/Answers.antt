@@ -1,9 +1,6 @@
-use Rattle.std.proofs.Common.{rules, tests, ap, sym, ◌∙◌}
-use Rattle.std.proofs.lemmas.Iterator.{YieldsList-from_slice}
+use Rattle.std.proofs.{Common.{rules, tests, ap, sym, ◌∙◌}, lemmas.Iterator.YieldsList-from_slice}
 use Rattle.std.proofs.lemmas.Iterator.Search.{any_from_yields_List}
-use Rattle.grammar_reader.specs.Seen.{tiers_seen}
-use Rattle.grammar_reader.specs.Reading.{is_unknown, has_unknown_tier}
-use Rattle.grammar_reader.specs.Said.{statement_seen}
+use Rattle.grammar_reader.specs.{Seen.tiers_seen, Reading.{is_unknown, has_unknown_tier}, Said.statement_seen}
 use Rattle.grammar_reader.specs.Made.{made_value}
 use Rattle.grammar_reader.proofs.Lists.{list_any-map}
 use Rattle.grammar_reader.proofs.causes.has_unknown_tier.Goals as goal

@@ -1,7 +1,7 @@
-use Rattle.std.proofs.Common.{rules, tests, map, ap, sym, ◌∙◌, length}
+use Rattle.std.proofs.{Common.{rules, tests, map, ap, sym, ◌∙◌, length}, lemmas.List.length-map}
+use Rattle.std.proofs.lemmas.Iterator.Consumers.{count_from_yields_List, YieldsList-from_rest}
+use Rattle.std.proofs.lemmas.Iterator.Consumers.{YieldsList-from_filter}
 use Rattle.std.specs.Map.{values_of}
-use Rattle.std.proofs.lemmas.List.{length-map}
-use Rattle.std.proofs.lemmas.Iterator.Consumers.{count_from_yields_List, YieldsList-from_rest, YieldsList-from_filter}
 use Rattle.tier_core.specs.Tiers.{is_input}
 use Rattle.grammar_reader.specs.Seen.{tier_seen}
 use Rattle.grammar_reader.proofs.Counts.{count_kinds}

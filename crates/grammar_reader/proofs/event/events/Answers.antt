@@ -1,14 +1,11 @@
-use Rattle.std.proofs.Common.{rules, tests, ◌≡◌, ◌≤◌, ◌+◌, length, map, drop, ◌∷◌, [], ◌++◌, ap, sym, ◌∙◌, arith, refl}
-use Rattle.std.proofs.Common.{append-nil, option_map, Some}
-use Rattle.std.specs.List.{slice_split}
-use Rattle.std.specs.Slice.Iter.{split_callee}
+use Rattle.std.proofs.Common.{rules, tests, ◌≡◌, ◌≤◌, ◌+◌, length, map, drop, ◌∷◌, [], ◌++◌, ap, sym, ◌∙◌, arith}
+use Rattle.std.proofs.Common.{refl, append-nil, option_map, Some}
 use Rattle.std.proofs.lemmas.List.{length_push, at_drop_all, length-map, map-append}
+use Rattle.std.specs.{List.slice_split, Slice.Iter.split_callee}
 use Rattle.timeline_text.proofs.Splits.{split_turn, split_end}
-use Rattle.grammar_reader.specs.Statements.{each_some, event_of, is_the_word}
-use Rattle.grammar_reader.specs.Lexemes.{with_front, lexeme_seen}
+use Rattle.grammar_reader.specs.{Statements.{each_some, event_of, is_the_word}, Lexemes.{with_front, lexeme_seen}}
 use Rattle.grammar_reader.specs.Events.{seen_event}
-use Rattle.grammar_reader.proofs.FromLine.{from_line}
-use Rattle.grammar_reader.proofs.Lexing.{front_nil}
+use Rattle.grammar_reader.proofs.{FromLine.from_line, Lexing.front_nil}
 use Rattle.grammar_reader.proofs.EachSome.{some_more, some_none, slice_split-map}
 use Rattle.grammar_reader.proofs.event.events.Goals as goal
 

@@ -1,8 +1,7 @@
 use Rattle.std.proofs.Common.{◌≡◌, length, map, drop}
 use Rattle.std.specs.List.{slice_split}
 use Rattle.grammar_reader.specs.Statements.{each_some, event_of, events_of, is_the_word}
-use Rattle.grammar_reader.specs.Lexemes.{with_front, lexeme_seen}
-use Rattle.grammar_reader.specs.Events.{seen_event}
+use Rattle.grammar_reader.specs.{Lexemes.{with_front, lexeme_seen}, Events.seen_event}
 use Rattle.grammar_reader.proofs.event.events.Given as goal
 
 -- the events so far, and those of the pieces that are left

@@ -1,7 +1,5 @@
 use Rattle.std.proofs.Common.{map, ap, ◌∙◌}
-use Rattle.grammar_reader.specs.Pieces.{lexeme_of}
-use Rattle.grammar_reader.specs.Statements.{each_some}
-use Rattle.grammar_reader.specs.Lexemes.{with_front, texts, lexeme_seen}
+use Rattle.grammar_reader.specs.{Pieces.lexeme_of, Statements.each_some, Lexemes.{with_front, texts, lexeme_seen}}
 use Rattle.grammar_reader.specs.Tokens.{marks_left}
 use Rattle.grammar_reader.proofs.Lexing.{front_nil, line_texts}
 use Rattle.grammar_reader.proofs.lexeme.lexemes.Goals as goal

@@ -1,8 +1,6 @@
 use Rattle.std.proofs.Common.{◌≡◌, length, map}
-use Rattle.grammar_reader.specs.Pieces.{lexeme_of, marks_from}
-use Rattle.grammar_reader.specs.Statements.{each_some}
-use Rattle.grammar_reader.specs.Lexemes.{with_front, texts, lexeme_seen, lexemes_of}
-use Rattle.grammar_reader.specs.Tokens.{marks_left}
+use Rattle.grammar_reader.specs.{Pieces.{lexeme_of, marks_from}, Statements.each_some}
+use Rattle.grammar_reader.specs.{Lexemes.{with_front, texts, lexeme_seen, lexemes_of}, Tokens.marks_left}
 use Rattle.grammar_reader.proofs.lexeme.lexemes.Given as goal
 
 -- the lexemes so far, and those of what is left

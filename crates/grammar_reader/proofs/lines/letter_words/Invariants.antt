@@ -1,9 +1,6 @@
 use Rattle.std.proofs.Common.{◌≡◌, ◌+◌, ◌≤◌, ◌++◌, length, map, drop}
 use Rattle.std.specs.String.{string_bytes}
-use Rattle.grammar_reader.specs.Values.{inputs_of}
-use Rattle.grammar_reader.specs.Canonical.{names_in, letter_words}
-use Rattle.grammar_reader.specs.Seen.{tiers_by}
-use Rattle.grammar_reader.specs.Words.{texts_of}
+use Rattle.grammar_reader.specs.{Values.inputs_of, Canonical.{names_in, letter_words}, Seen.tiers_by, Words.texts_of}
 use Rattle.grammar_reader.proofs.lines.letter_words.Given as goal
 
 -- the words so far, and the names of the tiers that are left

@@ -1,7 +1,6 @@
 use Rattle.std.proofs.Common.{◌≡◌, ◌+◌, ◌*◌, ◌++◌, length, map, drop}
 use Rattle.std.specs.String.{string_bytes}
-use Rattle.grammar_reader.specs.Canonical.{event_text, intersperse}
-use Rattle.grammar_reader.specs.Words.{texts_of}
+use Rattle.grammar_reader.specs.{Canonical.{event_text, intersperse}, Words.texts_of}
 use Rattle.grammar_reader.proofs.Joined.{joined_rest}
 use Rattle.grammar_reader.proofs.lines.push_side.Given as goal
 

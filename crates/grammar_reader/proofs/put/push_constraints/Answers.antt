@@ -1,10 +1,8 @@
 use Rattle.std.proofs.Common.{map, ap, ◌∙◌}
 use Rattle.std.specs.String.{string_bytes}
 use Rattle.outside.proofs.Writing.{stop, up_to_as, up_to_none, up_to_more, up_to_stop}
-use Rattle.grammar_reader.specs.Canonical.{constraint_words}
-use Rattle.grammar_reader.specs.Seen.{constraint_seen}
-use Rattle.grammar_reader.proofs.FromLine.{from_line}
-use Rattle.grammar_reader.proofs.LineText.{next_line}
+use Rattle.grammar_reader.specs.{Canonical.constraint_words, Seen.constraint_seen}
+use Rattle.grammar_reader.proofs.{FromLine.from_line, LineText.next_line}
 use Rattle.grammar_reader.proofs.put.push_constraints.Goals as goal
 
 pub loop-constraint-init : goal.loop-constraint-init

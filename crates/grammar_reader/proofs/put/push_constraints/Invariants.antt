@@ -1,8 +1,7 @@
 use Rattle.std.proofs.Common.{map, drop}
 use Rattle.std.specs.String.{string_bytes}
 use Rattle.outside.proofs.Writing.{PushesUpTo}
-use Rattle.grammar_reader.specs.Canonical.{constraint_lines}
-use Rattle.grammar_reader.specs.Seen.{constraint_seen}
+use Rattle.grammar_reader.specs.{Canonical.constraint_lines, Seen.constraint_seen}
 use Rattle.grammar_reader.proofs.put.push_constraints.Given as goal
 
 abbrev pub invariant-loop-constraint : goal.invariant-loop-constraint

@@ -1,10 +1,7 @@
-use Rattle.std.proofs.Common.{map, ap, sym, ◌∙◌}
+use Rattle.std.proofs.{Common.{map, ap, sym, ◌∙◌}, lemmas.List.length-map}
 use Rattle.std.specs.String.{string_bytes}
-use Rattle.std.proofs.lemmas.List.{length-map}
 use Rattle.outside.proofs.Writing.{◌▹◌, cut, pushes_as, stop}
-use Rattle.grammar_reader.specs.Canonical.{constraint_lines, line_of_words}
-use Rattle.grammar_reader.specs.Grammars.{value_of}
-use Rattle.grammar_reader.specs.Seen.{constraint_seen}
+use Rattle.grammar_reader.specs.{Canonical.{constraint_lines, line_of_words}, Grammars.value_of, Seen.constraint_seen}
 use Rattle.grammar_reader.proofs.Adding.{names_back}
 use Rattle.grammar_reader.proofs.put.push_grammar.Goals as goal
 

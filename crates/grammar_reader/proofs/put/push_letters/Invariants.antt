@@ -1,6 +1,5 @@
 use Rattle.outside.proofs.Writing.{PushesEach}
-use Rattle.grammar_reader.specs.Canonical.{letter_words, line_of_words}
-use Rattle.grammar_reader.specs.NamedTiers.{named_tiers}
+use Rattle.grammar_reader.specs.{Canonical.{letter_words, line_of_words}, NamedTiers.named_tiers}
 use Rattle.grammar_reader.proofs.put.push_letters.Given as goal
 
 abbrev pub invariant-loop-letter : goal.invariant-loop-letter

@@ -3,8 +3,7 @@ use Rattle.std.specs.String.{string_bytes}
 use Rattle.outside.proofs.Writing.{stop, up_to_as, up_to_none, up_to_more, up_to_stop}
 use Rattle.tier_core.specs.declared.tier.TierKind.TheVariants.{Input}
 use Rattle.grammar_reader.specs.Canonical.{tier_words}
-use Rattle.grammar_reader.proofs.Adding.{tiers_next}
-use Rattle.grammar_reader.proofs.LineText.{next_line}
+use Rattle.grammar_reader.proofs.{Adding.tiers_next, LineText.next_line}
 use Rattle.grammar_reader.proofs.put.push_tiers.Goals as goal
 
 pub loop-place-init : goal.loop-place-init

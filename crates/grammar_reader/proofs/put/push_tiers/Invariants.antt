@@ -1,9 +1,7 @@
 use Rattle.std.proofs.Common.{map, drop}
 use Rattle.std.specs.String.{string_bytes}
 use Rattle.outside.proofs.Writing.{PushesUpTo}
-use Rattle.grammar_reader.specs.Canonical.{tier_lines}
-use Rattle.grammar_reader.specs.NamedTiers.{named_tiers}
-use Rattle.grammar_reader.specs.Seen.{tiers_by}
+use Rattle.grammar_reader.specs.{Canonical.tier_lines, NamedTiers.named_tiers, Seen.tiers_by}
 use Rattle.grammar_reader.proofs.put.push_tiers.Given as goal
 
 abbrev pub invariant-loop-place : goal.invariant-loop-place

@@ -1,10 +1,8 @@
 use Rattle.std.proofs.Common.{◌≡◌, List, ℕ, map, ap, sym, ◌∙◌, subst}
 use Rattle.std.specs.String.{string_bytes}
 use Rattle.grammar_reader.specs.Values.{GrammarValue, NamedTier, IsGrammar}
-use Rattle.grammar_reader.specs.Seen.{tiers_seen, tiers_by, value_by, constraint_seen}
-use Rattle.grammar_reader.specs.Made.{made_value}
-use Rattle.grammar_reader.proofs.Ascii.{tiers_back}
-use Rattle.grammar_reader.proofs.Adding.{with_tiers}
+use Rattle.grammar_reader.specs.{Seen.{tiers_seen, tiers_by, value_by, constraint_seen}, Made.made_value}
+use Rattle.grammar_reader.proofs.{Ascii.tiers_back, Adding.with_tiers}
 use Rattle.grammar_reader.proofs.read.finish.Goals as goal
 
 pub invariant_of-result-2 : goal.invariant_of-result-2

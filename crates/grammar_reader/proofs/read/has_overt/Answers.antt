@@ -1,7 +1,6 @@
-use Rattle.std.proofs.Common.{rules, tests, sym, ◌∙◌}
-use Rattle.std.specs.Map.{values_of}
-use Rattle.std.proofs.lemmas.Iterator.Consumers.{YieldsList-from_rest}
+use Rattle.std.proofs.{Common.{rules, tests, sym, ◌∙◌}, lemmas.Iterator.Consumers.YieldsList-from_rest}
 use Rattle.std.proofs.lemmas.Iterator.Search.{any_from_yields_List}
+use Rattle.std.specs.Map.{values_of}
 use Rattle.tier_core.specs.Tiers.{is_overt}
 use Rattle.grammar_reader.specs.Seen.{tier_seen}
 use Rattle.grammar_reader.proofs.Lists.{list_any-map}

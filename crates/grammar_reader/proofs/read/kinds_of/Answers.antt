@@ -1,7 +1,6 @@
-use Rattle.std.proofs.Common.{sym, ◌∙◌, map}
-use Rattle.std.specs.Map.{values_of}
-use Rattle.std.proofs.lemmas.Simd.{map-map}
+use Rattle.std.proofs.{Common.{sym, ◌∙◌, map}, lemmas.Simd.map-map}
 use Rattle.std.proofs.lemmas.Iterator.Consumers.{YieldsList-end, YieldsList-from_rest}
+use Rattle.std.specs.Map.{values_of}
 use Rattle.grammar_reader.specs.Seen.{tier_seen}
 use Rattle.grammar_reader.proofs.read.kinds_of.Goals as goal
 

@@ -1,11 +1,8 @@
-use Rattle.std.proofs.Common.{◌≡◌, ◌∷◌, [], ◌++◌, length, true, ap, sym, ◌∙◌, map, subst}
-use Rattle.std.specs.String.{string_bytes}
-use Rattle.std.specs.Map.{keys_of}
-use Rattle.std.proofs.lemmas.Simd.{map-map}
+use Rattle.std.proofs.{Common.{◌≡◌, ◌∷◌, [], ◌++◌, length, true, ap, sym, ◌∙◌, map, subst}, lemmas.Simd.map-map}
 use Rattle.std.proofs.lemmas.List.{map-append}
 use Rattle.std.proofs.lemmas.Iterator.Consumers.{YieldsList-turn, YieldsList-end, YieldsList-from_rest}
-use Rattle.grammar_reader.specs.Names.{is_name}
-use Rattle.grammar_reader.specs.Seen.{tier_seen}
+use Rattle.std.specs.{String.string_bytes, Map.keys_of}
+use Rattle.grammar_reader.specs.{Names.is_name, Seen.tier_seen}
 use Rattle.grammar_reader.proofs.Ascii.{name_utf8, key_name}
 use Rattle.grammar_reader.proofs.read.names_of.Goals as goal
 

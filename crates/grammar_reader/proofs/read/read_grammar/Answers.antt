@@ -1,6 +1,5 @@
 use Rattle.std.proofs.Common.{◌≡◌, Ok, ap, sym, ◌∙◌}
-use Rattle.grammar_reader.specs.Reading.{finish}
-use Rattle.grammar_reader.specs.Made.{made_value, value_so_far}
+use Rattle.grammar_reader.specs.{Reading.finish, Made.{made_value, value_so_far}}
 use Rattle.grammar_reader.proofs.LawfulLines.{read_is_lawful, whole_is}
 use Rattle.grammar_reader.proofs.read.read_grammar.Goals as goal
 

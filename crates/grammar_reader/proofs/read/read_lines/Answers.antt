@@ -1,12 +1,9 @@
-use Rattle.std.proofs.Common.{rules, tests, ◌≡◌, ◌+◌, ◌<◌, ◌∷◌, [], ◌++◌, List, ℕ, length, drop, subst, sym, ap, ◌∙◌}
-use Rattle.std.proofs.Common.{arith, get_or, ◌≤◌, Err}
-use Rattle.std.proofs.lemmas.List.{length_push, at_drop_all, length-map}
+use Rattle.std.proofs.Common.{rules, tests, ◌≡◌, ◌+◌, ◌<◌, ◌∷◌, [], ◌++◌, List, ℕ, length, drop, subst, sym, ap}
+use Rattle.std.proofs.{Common.{◌∙◌, arith, get_or, ◌≤◌, Err}, lemmas.List.{length_push, at_drop_all, length-map}}
 use Rattle.timeline_text.proofs.Splits.{split_turn, split_end}
 use Rattle.timeline_text.specs.Bytes.{is_newline, lines_of}
-use Rattle.grammar_reader.specs.Reading.{after_lines, grammar_of, finish}
-use Rattle.grammar_reader.specs.Made.{value_so_far}
-use Rattle.grammar_reader.proofs.Splits.{fits_at, all_fit}
-use Rattle.grammar_reader.proofs.Loop.{line_passed, line_refused}
+use Rattle.grammar_reader.specs.{Reading.{after_lines, grammar_of, finish}, Made.value_so_far}
+use Rattle.grammar_reader.proofs.{Splits.{fits_at, all_fit}, Loop.{line_passed, line_refused}}
 use Rattle.grammar_reader.proofs.read.read_lines.Goals as goal
 
 pub read_line-requires-clause-whole : goal.read_line-requires-clause-whole

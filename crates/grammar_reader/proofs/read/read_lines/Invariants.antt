@@ -1,7 +1,6 @@
 use Rattle.std.proofs.Common.{◌≡◌, ◌+◌, length, drop}
 use Rattle.timeline_text.specs.Bytes.{lines_of}
-use Rattle.grammar_reader.specs.Reading.{after_lines, grammar_of}
-use Rattle.grammar_reader.specs.Made.{value_so_far}
+use Rattle.grammar_reader.specs.{Reading.{after_lines, grammar_of}, Made.value_so_far}
 use Rattle.grammar_reader.proofs.read.read_lines.Given as goal
 
 -- the lines so far were read, and the rest gives what the whole gives

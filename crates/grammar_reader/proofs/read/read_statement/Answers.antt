@@ -1,9 +1,6 @@
 use Rattle.std.proofs.Common.{map}
-use Rattle.grammar_reader.specs.Lexemes.{lexeme_seen}
-use Rattle.grammar_reader.specs.Said.{statement_seen}
-use Rattle.grammar_reader.specs.Made.{made_value}
-use Rattle.grammar_reader.proofs.LawfulLines.{has_parts}
-use Rattle.grammar_reader.proofs.Stated.{added}
+use Rattle.grammar_reader.specs.{Lexemes.lexeme_seen, Said.statement_seen, Made.made_value}
+use Rattle.grammar_reader.proofs.{LawfulLines.has_parts, Stated.added}
 use Rattle.grammar_reader.proofs.read.read_statement.Goals as goal
 
 pub add-requires-clause-parts : goal.add-requires-clause-parts

@@ -1,8 +1,6 @@
 use Rattle.std.proofs.Common.{ap}
-use Rattle.grammar_reader.specs.Canonical.{canonical}
-use Rattle.grammar_reader.specs.Grammars.{value_of}
-use Rattle.grammar_reader.proofs.ReadAgain.{read_again, same_text}
-use Rattle.grammar_reader.proofs.TextLength.{canonical_length}
+use Rattle.grammar_reader.specs.{Canonical.canonical, Grammars.value_of}
+use Rattle.grammar_reader.proofs.{ReadAgain.{read_again, same_text}, TextLength.canonical_length}
 use Rattle.grammar_reader.proofs.reading.canonical_is_read_again.Goals as goal
 
 pub returns-clause-value : goal.returns-clause-value

@@ -1,7 +1,6 @@
 use Rattle.std.proofs.Common.{◌≡◌, ◌+◌, ◌∷◌, [], ◌++◌, length, filter, take, map, ap, sym, ◌∙◌, arith, cond}
+use Rattle.std.proofs.{lemmas.List.FromFn.map-range_with_len_more, lemmas.List.Filters.length-filter_more}
 use Rattle.std.specs.List.{range_with_len}
-use Rattle.std.proofs.lemmas.List.FromFn.{map-range_with_len_more}
-use Rattle.std.proofs.lemmas.List.Filters.{length-filter_more}
 use Rattle.tier_core.specs.Sides.{is_stretch}
 use Rattle.tier_core.proofs.MaskBits.{at_most_one}
 use Rattle.grammar_reader.proofs.shape_of.phases.Goals as goal

@@ -1,11 +1,9 @@
 use Rattle.std.proofs.Common.{◌≡◌, ℕ, ◌≤◌, ◌<◌, ◌^◌, length, map, filter, ap, sym, ◌∙◌, subst, arith}
-use Rattle.std.specs.String.{string_bytes}
 use Rattle.std.proofs.lemmas.List.{length-map}
-use Rattle.tier_core.specs.Shapes.{masked_count, NeverFalls}
-use Rattle.tier_core.specs.Tiers.{is_input}
+use Rattle.std.specs.String.{string_bytes}
+use Rattle.tier_core.specs.{Shapes.{masked_count, NeverFalls}, Tiers.is_input}
 use Rattle.tier_core.proofs.TableMasks.{input_tiers, length-numbers_from}
-use Rattle.grammar_reader.specs.ShapeOf.{stretch_counts}
-use Rattle.grammar_reader.specs.Seen.{constraint_seen}
+use Rattle.grammar_reader.specs.{ShapeOf.stretch_counts, Seen.constraint_seen}
 use Rattle.grammar_reader.proofs.Shaping.{length-inputs, some_input, length-stretch_counts, never_falls}
 use Rattle.grammar_reader.proofs.shape_of.shape.Goals as goal
 

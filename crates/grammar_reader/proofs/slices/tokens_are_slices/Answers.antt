@@ -1,5 +1,4 @@
-use Rattle.grammar_reader.proofs.SliceLaw.{tokens_slices}
-use Rattle.grammar_reader.proofs.TokenOrder.{tokens_ascending}
+use Rattle.grammar_reader.proofs.{SliceLaw.tokens_slices, TokenOrder.tokens_ascending}
 use Rattle.grammar_reader.proofs.slices.tokens_are_slices.Goals as goal
 
 pub returns-clause-slices : goal.returns-clause-slices

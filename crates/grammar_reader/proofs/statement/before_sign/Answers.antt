@@ -1,10 +1,7 @@
 use Rattle.std.proofs.Common.{rules, tests, ◌≡◌, length, position, unwrap_or, sym, ap, ◌∙◌}
-use Rattle.std.proofs.lemmas.Iterator.{YieldsList-from_slice}
-use Rattle.std.proofs.lemmas.Iterator.Search.{position_from_yields_List}
-use Rattle.grammar_reader.specs.Statements.{is_sign}
-use Rattle.grammar_reader.specs.Lexemes.{lexeme_seen}
-use Rattle.grammar_reader.proofs.Positions.{position_or}
-use Rattle.grammar_reader.proofs.Lists.{position_or_len-map}
+use Rattle.std.proofs.{lemmas.Iterator.YieldsList-from_slice, lemmas.Iterator.Search.position_from_yields_List}
+use Rattle.grammar_reader.specs.{Statements.is_sign, Lexemes.lexeme_seen}
+use Rattle.grammar_reader.proofs.{Positions.position_or, Lists.position_or_len-map}
 use Rattle.grammar_reader.proofs.statement.before_sign.Goals as goal
 
 pub returns-clause-place : goal.returns-clause-place

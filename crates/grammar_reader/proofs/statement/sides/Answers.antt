@@ -1,7 +1,5 @@
 use Rattle.std.proofs.Common.{ap, map, ◌∙◌, sym}
-use Rattle.grammar_reader.specs.Statements.{constraint, events_of}
-use Rattle.grammar_reader.specs.Lexemes.{lexeme_seen}
-use Rattle.grammar_reader.specs.Events.{seen_event}
+use Rattle.grammar_reader.specs.{Statements.{constraint, events_of}, Lexemes.lexeme_seen, Events.seen_event}
 use Rattle.grammar_reader.proofs.Forms.{both_some}
 use Rattle.grammar_reader.proofs.statement.sides.Goals as goal
 

@@ -1,7 +1,5 @@
-use Rattle.std.proofs.Common.{◌∙◌, refl, map, drop, ◌+◌, ap, sym, option_map}
-use Rattle.std.proofs.lemmas.List.{map_push}
-use Rattle.grammar_reader.specs.Statements.{each_some, word_of}
-use Rattle.grammar_reader.specs.Lexemes.{lexeme_seen, with_front}
+use Rattle.std.proofs.{Common.{◌∙◌, refl, map, drop, ◌+◌, ap, sym, option_map}, lemmas.List.map_push}
+use Rattle.grammar_reader.specs.{Statements.{each_some, word_of}, Lexemes.{lexeme_seen, with_front}}
 use Rattle.grammar_reader.proofs.EachSome.{some_step, none_step}
 use Rattle.grammar_reader.proofs.statement.words.Goals as goal
 

@@ -1,6 +1,5 @@
 use Rattle.std.proofs.Common.{◌≡◌, map, drop}
-use Rattle.grammar_reader.specs.Statements.{each_some, word_of}
-use Rattle.grammar_reader.specs.Lexemes.{lexeme_seen, with_front}
+use Rattle.grammar_reader.specs.{Statements.{each_some, word_of}, Lexemes.{lexeme_seen, with_front}}
 use Rattle.grammar_reader.proofs.statement.words.Given as goal
 
 abbrev pub invariant-loop-lexeme : goal.invariant-loop-lexeme

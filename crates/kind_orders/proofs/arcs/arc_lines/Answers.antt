@@ -1,13 +1,9 @@
 use Rattle.std.proofs.Common.{◌≤◌, AllPairs, IsSorted, List, map, sym, subst}
-use Rattle.answer_text.specs.declared.automaton.ArcLine.{ArcLine}
-use Rattle.answer_text.specs.Right.{arc_cmp}
+use Rattle.answer_text.specs.{declared.automaton.ArcLine.ArcLine, Right.arc_cmp, ArcClasses.arc_classes}
 use Rattle.symbol_class.specs.Held.{width_of, ArePieces}
 use Rattle.arc_table.specs.MoveClasses.{move_classes}
-use Rattle.kind_orders.specs.AutomatonLines.{line_of}
-use Rattle.answer_text.specs.ArcClasses.{arc_classes}
-use Rattle.kind_orders.specs.JoinedLines.{AreJoinedFrom}
-use Rattle.kind_orders.proofs.ArcOrder.{lines_are_pieces}
-use Rattle.kind_orders.proofs.GroupSteps.{pieces_permuted, joined_permuted}
+use Rattle.kind_orders.specs.{AutomatonLines.line_of, JoinedLines.AreJoinedFrom}
+use Rattle.kind_orders.proofs.{ArcOrder.lines_are_pieces, GroupSteps.{pieces_permuted, joined_permuted}}
 use Rattle.kind_orders.proofs.arcs.arc_lines.Goals as goal
 
 pub joined_lines-requires-clause-pieces : goal.joined_lines-requires-clause-pieces

@@ -1,6 +1,4 @@
-use Rattle.std.proofs.Common.{rules}
-use Rattle.std.proofs.lemmas.Cmp.{nat_cmp_total}
-use Rattle.std.proofs.lemmas.List.Sorted.{ranks_by}
+use Rattle.std.proofs.{Common.rules, lemmas.Cmp.nat_cmp_total, lemmas.List.Sorted.ranks_by}
 use Rattle.std.specs.Ordering.{nat_cmp}
 use Rattle.answer_text.specs.declared.automaton.ArcLine.{ArcLine}
 use Rattle.symbol_class.proofs.Pairs.{sorted_by_closure}

@@ -1,9 +1,7 @@
-use Rattle.std.proofs.Common.{slice_index, ◌∙◌}
-use Rattle.std.proofs.lemmas.List.{length-map}
+use Rattle.std.proofs.{Common.{slice_index, ◌∙◌}, lemmas.List.length-map}
 use Rattle.arc_table.specs.States.{states_of}
 use Rattle.kind_orders.specs.AutomatonLines.{state_nodes}
-use Rattle.kind_orders.proofs.ByNode.{nodes_once}
-use Rattle.kind_orders.proofs.Reading.{automaton_is, joined_arcs}
+use Rattle.kind_orders.proofs.{ByNode.nodes_once, Reading.{automaton_is, joined_arcs}}
 use Rattle.kind_orders.proofs.automaton.automaton_of.Goals as goal
 
 pub returns-in-Ok-clause-automaton : goal.returns-in-Ok-clause-automaton

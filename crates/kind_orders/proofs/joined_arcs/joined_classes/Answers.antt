@@ -1,9 +1,6 @@
-use Rattle.std.proofs.Common.{rules, ◌∙◌}
-use Rattle.std.proofs.lemmas.Cmp.{nat_list_cmp_total}
-use Rattle.std.proofs.lemmas.List.Sorted.{ranks_by}
+use Rattle.std.proofs.{Common.{rules, ◌∙◌}, lemmas.Cmp.nat_list_cmp_total, lemmas.List.Sorted.ranks_by}
 use Rattle.tier_core.specs.Classes.{sets_of}
-use Rattle.symbol_class.specs.ClassOrder.{class_cmp}
-use Rattle.symbol_class.specs.Held.{width_of}
+use Rattle.symbol_class.specs.{ClassOrder.class_cmp, Held.width_of}
 use Rattle.symbol_class.proofs.Pairs.{sorted_by_closure}
 use Rattle.kind_orders.proofs.GroupSteps.{sorted_pieces, sorted_columns, sorted_differ}
 use Rattle.kind_orders.proofs.joined_arcs.joined_classes.Goals as goal

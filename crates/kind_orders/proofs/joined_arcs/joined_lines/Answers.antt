@@ -1,5 +1,4 @@
-use Rattle.std.proofs.Common.{◌≡◌, List, length, subst, sym, arith, inl, inr}
-use Rattle.std.proofs.lemmas.Bool.{cases_eq}
+use Rattle.std.proofs.{Common.{◌≡◌, List, length, subst, sym, arith, inl, inr}, lemmas.Bool.cases_eq}
 use Rattle.tier_core.specs.declared.class.Class.{Class}
 use Rattle.symbol_class.specs.Held.{width_of, ArePieces}
 use Rattle.symbol_class.proofs.JoinedClasses.{pieces_of_width}

@@ -1,5 +1,4 @@
-use Rattle.std.proofs.Common.{◌++◌, map, ap, ◌∙◌, arith}
-use Rattle.std.proofs.lemmas.Result.{on_ok_weaker}
+use Rattle.std.proofs.{Common.{◌++◌, map, ap, ◌∙◌, arith}, lemmas.Result.on_ok_weaker}
 use Rattle.symbol_class.specs.Held.{width_of}
 use Rattle.kind_orders.specs.JoinedLines.{arc_to}
 use Rattle.kind_orders.proofs.GroupSteps.{adds_joined, adds_one}

@@ -1,5 +1,4 @@
-use Rattle.std.proofs.Common.{◌≡◌, ◌<◌, None, Some, length, get_or, ◌∙◌, subst, arith}
-use Rattle.std.proofs.lemmas.List.{get_or_default}
+use Rattle.std.proofs.{Common.{◌≡◌, ◌<◌, None, Some, length, get_or, ◌∙◌, subst, arith}, lemmas.List.get_or_default}
 use Rattle.arc_table.specs.States.{states_of}
 use Rattle.kind_orders.proofs.ByNode.{AreLinesBelow, no_lines, skip_node, push_line, lines_of_all}
 use Rattle.kind_orders.proofs.lines.all_lines.Goals as goal

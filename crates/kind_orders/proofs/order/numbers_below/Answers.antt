@@ -1,5 +1,4 @@
-use Rattle.std.proofs.Common.{refl, arith}
-use Rattle.std.proofs.lemmas.Iterator.{items_from_collect, YieldsList-from_range}
+use Rattle.std.proofs.{Common.{refl, arith}, lemmas.Iterator.{items_from_collect, YieldsList-from_range}}
 use Rattle.kind_orders.proofs.order.numbers_below.Goals as goal
 
 pub returns : goal.returns

@@ -1,5 +1,4 @@
-use Rattle.std.proofs.Common.{◌≡◌, ◌<◌, length, arith}
-use Rattle.std.proofs.lemmas.Bool.Decides.{nat_tests}
+use Rattle.std.proofs.{Common.{◌≡◌, ◌<◌, length, arith}, lemmas.Bool.Decides.nat_tests}
 use Rattle.tier_core.specs.EmptyKind.{empty_kind}
 use Rattle.kind_orders.proofs.Orders.{no_kinds}
 use Rattle.kind_orders.proofs.order.order_of_kinds.Goals as goal

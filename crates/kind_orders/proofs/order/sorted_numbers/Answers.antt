@@ -1,5 +1,4 @@
-use Rattle.std.proofs.Common.{subst, rules, IsPermutation}
-use Rattle.std.proofs.lemmas.List.Sorted.{ranks_by}
+use Rattle.std.proofs.{Common.{subst, rules, IsPermutation}, lemmas.List.Sorted.ranks_by}
 use Rattle.tier_core.specs.Kinds.{kind_order}
 use Rattle.kind_orders.specs.KindOrders.{prefix_kind_at}
 use Rattle.symbol_class.proofs.Pairs.{sorted_by_closure}

@@ -1,13 +1,8 @@
 use Rattle.std.proofs.Common.{◌≡◌, ◌≢◌, ℕ, ◌<◌, ◌^◌, List, [], ◌∷◌, length, ap, sym, subst, arith}
-use Rattle.std.proofs.lemmas.List.Elements.{All-cons, All-nil}
-use Rattle.std.proofs.lemmas.List.Kept.{AllPairs-cons}
-use Rattle.std.proofs.lemmas.Nat.{pow_pos}
-use Rattle.tier_core.specs.declared.kind.Kind.{Kind}
-use Rattle.tier_core.specs.declared.shape.Shape.{Shape}
-use Rattle.tier_core.specs.Kinds.{PrefixKind}
+use Rattle.std.proofs.{lemmas.List.Elements.{All-cons, All-nil}, lemmas.List.Kept.AllPairs-cons, lemmas.Nat.pow_pos}
+use Rattle.tier_core.specs.{declared.kind.Kind.Kind, declared.shape.Shape.Shape, Kinds.PrefixKind}
 use Rattle.tier_core.specs.KindShapes.{FitsShape, free_count, stretch_count, kind_in}
-use Rattle.kind_orders.specs.KindOrders.{AreDistinctKinds}
-use Rattle.kind_orders.specs.Orderings.{IsOrdering}
+use Rattle.kind_orders.specs.{KindOrders.AreDistinctKinds, Orderings.IsOrdering}
 use Rattle.kind_orders.proofs.AnswerParts.{ordering_of_own}
 use Rattle.kind_orders.proofs.tests.made_of.Goals as goal
 

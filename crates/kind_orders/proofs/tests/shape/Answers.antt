@@ -1,6 +1,5 @@
 use Rattle.std.proofs.Common.{refl, subst, sym, lit<, lit≤, arith}
-use Rattle.tier_core.specs.Shapes.{NeverFalls}
-use Rattle.tier_core.specs.Tiers.{tiers_of}
+use Rattle.tier_core.specs.{Shapes.NeverFalls, Tiers.tiers_of}
 use Rattle.kind_orders.proofs.tests.shape.Goals as goal
 
 pub invariant_of-result : goal.invariant_of-result

@@ -1,13 +1,12 @@
 use Rattle.std.proofs.Common.{ℕ, ◌+◌, ◌≤◌, Some, List, length, map, take, All, refl, ap, sym, ◌∙◌, subst}
-use Rattle.std.proofs.lemmas.List.Elements.{All-push}
-use Rattle.std.proofs.lemmas.Result.{err_from_is_err_and}
+use Rattle.std.proofs.{lemmas.List.Elements.All-push, lemmas.Result.err_from_is_err_and}
 use Rattle.tier_core.specs.Tables.{tiers_of_table}
 use Rattle.toml.specs.View.{view}
 use Rattle.violation.specs.Candidates.{IsForm}
-use Rattle.lexicon.specs.declared.entry.Entry.{Entry}
-use Rattle.lexicon.specs.Entries.{AreEntries, LexicalEntry, is_among, names_of}
+use Rattle.lexicon.specs.{declared.entry.Entry.Entry, Entries.{AreEntries, LexicalEntry, is_among, names_of}}
 use Rattle.lexicon.specs.Seen.{entries_seen, entry_seen}
-use Rattle.lexicon.proofs.EntryLemmas.{among_by, bad_entry, keys_more, next_entry, refused_word, seen_more, twice_named}
+use Rattle.lexicon.proofs.EntryLemmas.{among_by, bad_entry, keys_more, next_entry, refused_word, seen_more}
+use Rattle.lexicon.proofs.EntryLemmas.{twice_named}
 use Rattle.lexicon.proofs.read.push_elements.Goals as goal
 
 pub returns-in_default-clause-err : goal.returns-in_default-clause-err

@@ -2,8 +2,7 @@ use Rattle.std.proofs.Common.{◌≡◌, ◌≤◌, length, map, take, All}
 use Rattle.tier_core.specs.Tables.{tiers_of_table}
 use Rattle.toml.specs.View.{view}
 use Rattle.violation.specs.Candidates.{IsForm}
-use Rattle.lexicon.specs.Entries.{AreEntries, names_of}
-use Rattle.lexicon.specs.Seen.{entries_seen}
+use Rattle.lexicon.specs.{Entries.{AreEntries, names_of}, Seen.entries_seen}
 use Rattle.lexicon.proofs.read.push_elements.Given as goal
 
 -- the elements so far are the entries so far, whose names are in the set

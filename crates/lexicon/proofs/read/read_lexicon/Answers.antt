@@ -1,16 +1,11 @@
 use Rattle.std.proofs.Common.{◌≡◌, ◌≢◌, ℕ, ◌≤◌, Some, List, length, map, ap, sym, ◌∙◌, arith}
-use Rattle.std.proofs.lemmas.List.{length-map}
-use Rattle.std.proofs.lemmas.Result.{IfErr-weaker, IfOk-weaker}
+use Rattle.std.proofs.{lemmas.List.length-map, lemmas.Result.{IfErr-weaker, IfOk-weaker}}
 use Rattle.tier_core.specs.Tables.{tiers_of_table}
-use Rattle.toml.specs.Data.{Data}
-use Rattle.toml.specs.View.{table_view, view}
-use Rattle.lexicon.specs.declared.lex_err.LexErr.TheVariants.{NoMemory}
-use Rattle.lexicon.specs.Elements.{elements_of}
-use Rattle.lexicon.specs.Entries.{AreEntries, IsFirstEntryFault}
-use Rattle.lexicon.specs.Lexicons.{IsLexicon, IsLexiconCause}
+use Rattle.toml.specs.{Data.Data, View.{table_view, view}}
+use Rattle.lexicon.specs.{declared.lex_err.LexErr.TheVariants.NoMemory, Elements.elements_of}
+use Rattle.lexicon.specs.{Entries.{AreEntries, IsFirstEntryFault}, Lexicons.{IsLexicon, IsLexiconCause}}
 use Rattle.lexicon.specs.Seen.{entries_seen, entry_seen}
-use Rattle.lexicon.proofs.EntryLemmas.{zip_length}
-use Rattle.lexicon.proofs.LexiconLemmas.{bad_element, is_lexicon, listed_are, too_many}
+use Rattle.lexicon.proofs.{EntryLemmas.zip_length, LexiconLemmas.{bad_element, is_lexicon, listed_are, too_many}}
 use Rattle.lexicon.proofs.read.read_lexicon.Goals as goal
 
 pub returns-then-len-gt-ENTRY_LIMIT-clause-err : goal.returns-then-len-gt-ENTRY_LIMIT-clause-err

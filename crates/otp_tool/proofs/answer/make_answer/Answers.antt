@@ -1,10 +1,8 @@
 use Rattle.std.proofs.lemmas.Result.{IfErr-weaker}
 use Rattle.grammar_reader.specs.Grammars.{value_of}
 use Rattle.violation.specs.Problems.{problem_from}
-use Rattle.otp_tool.specs.Findings.{FindsForAnswer}
-use Rattle.otp_tool.specs.Steps.{IsRefusal, RefusesBudget, RefusesForm}
-use Rattle.otp_tool.proofs.RefusalLemmas.{budget_for_answer, form_for_answer, refusal_weaker}
-use Rattle.otp_tool.proofs.StepLemmas.{made_for}
+use Rattle.otp_tool.specs.{Findings.FindsForAnswer, Steps.{IsRefusal, RefusesBudget, RefusesForm}}
+use Rattle.otp_tool.proofs.{RefusalLemmas.{budget_for_answer, form_for_answer, refusal_weaker}, StepLemmas.made_for}
 use Rattle.otp_tool.proofs.answer.make_answer.Goals as goal
 
 pub returns-in-Ok-clause-ok : goal.returns-in-Ok-clause-ok

@@ -1,6 +1,5 @@
 use Rattle.std.proofs.Common.{refl, subst}
-use Rattle.answer_reader.specs.Reading.{answer_of}
-use Rattle.answer_reader.specs.Steps.{Fails}
+use Rattle.answer_reader.specs.{Reading.answer_of, Steps.Fails}
 use Rattle.otp_tool.proofs.checking.answer_of.Goals as goal
 
 pub returns-in-Err-At-clause-err : goal.returns-in-Err-At-clause-err

@@ -1,6 +1,5 @@
 use Rattle.std.proofs.Common.{◌≡◌, refl, sym, subst}
-use Rattle.otp_tool.specs.Files.{IsHeld}
-use Rattle.otp_tool.specs.Steps.{change_of}
+use Rattle.otp_tool.specs.{Files.IsHeld, Steps.change_of}
 use Rattle.otp_tool.proofs.CheckLemmas.{judged, no_file_loaded}
 use Rattle.otp_tool.proofs.checking.check.Goals as goal
 

@@ -1,10 +1,8 @@
 use Rattle.std.proofs.Common.{◌≡◌, ap, sym, ◌∙◌, subst, IfOk, IfErr, List, ℕ, Option, Some}
 use Rattle.std.proofs.lemmas.Result.{IfErr-weaker}
 use Rattle.grammar_reader.specs.Grammars.{value_of}
-use Rattle.command_line.specs.declared.status.Status.{Status}
-use Rattle.command_line.specs.declared.status.Status.TheVariants.{NoMemory}
-use Rattle.otp_tool.specs.Files.{faults_of, grammar_told}
-use Rattle.otp_tool.specs.Steps.{IsLoadRefusal, IsLoaded}
+use Rattle.command_line.specs.{declared.status.Status.Status, declared.status.Status.TheVariants.NoMemory}
+use Rattle.otp_tool.specs.{Files.{faults_of, grammar_told}, Steps.{IsLoadRefusal, IsLoaded}}
 use Rattle.otp_tool.proofs.commands.grammar_of.Goals as goal
 
 pub returns-in-Some-clause-ok : goal.returns-in-Some-clause-ok

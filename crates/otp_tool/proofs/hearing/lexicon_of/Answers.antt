@@ -1,6 +1,5 @@
 use Rattle.std.proofs.Common.{◌≢◌, refl, rules}
-use Rattle.lexicon.specs.declared.lex_err.LexErr.TheVariants.{NoMemory}
-use Rattle.lexicon.specs.Seen.{entries_seen}
+use Rattle.lexicon.specs.{declared.lex_err.LexErr.TheVariants.NoMemory, Seen.entries_seen}
 use Rattle.otp_tool.proofs.HearingLemmas.{is_lexicon, refused_lexicon}
 use Rattle.otp_tool.proofs.hearing.lexicon_of.Goals as goal
 

@@ -2,11 +2,9 @@ use Rattle.std.proofs.Common.{◌≡◌, List, refl, sym, subst}
 use Rattle.outside.specs.Writers.{Puts}
 use Rattle.violation.specs.Problems.{problem_from}
 use Rattle.lexicon.specs.declared.entry.Entry.{Entry}
-use Rattle.comprehend.specs.declared.hit.Hit.{Hit}
-use Rattle.comprehend.specs.Hears.{AreEntriesWithin, Hears, forms_of}
+use Rattle.comprehend.specs.{declared.hit.Hit.Hit, Hears.{AreEntriesWithin, Hears, forms_of}}
 use Rattle.comprehend.specs.HitText.{hits_text, names_of}
-use Rattle.otp_tool.specs.Files.{IsHeld}
-use Rattle.otp_tool.specs.Steps.{IsRefusal, RefusesEntry, change_of}
+use Rattle.otp_tool.specs.{Files.IsHeld, Steps.{IsRefusal, RefusesEntry, change_of}}
 use Rattle.otp_tool.proofs.HearingLemmas.{hits_written, no_entry, no_lexicon_loaded, no_lexicon_read, no_surface}
 use Rattle.otp_tool.proofs.hearing.listen.Goals as goal
 

@@ -1,8 +1,6 @@
 use Rattle.std.proofs.Common.{◌≢◌, ℕ, List, length, subst, rules}
 use Rattle.tier_core.specs.Tables.{tiers_of_table}
-use Rattle.timeline_text.specs.declared.form_err.FormErr.TheVariants.{NoMemory}
-use Rattle.timeline_text.specs.Texts.{IsTextOf}
-use Rattle.timeline_text.specs.Causes.{IsCause}
+use Rattle.timeline_text.specs.{declared.form_err.FormErr.TheVariants.NoMemory, Texts.IsTextOf, Causes.IsCause}
 use Rattle.otp_tool.proofs.HearingLemmas.{is_read, refused_surface}
 use Rattle.otp_tool.proofs.hearing.surface_of.Goals as goal
 

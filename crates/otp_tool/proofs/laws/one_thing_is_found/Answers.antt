@@ -1,5 +1,4 @@
-use Rattle.otp_tool.proofs.FindingLemmas.{one_finding}
-use Rattle.otp_tool.proofs.ToldLemmas.{told_by_finding}
+use Rattle.otp_tool.proofs.{FindingLemmas.one_finding, ToldLemmas.told_by_finding}
 use Rattle.otp_tool.proofs.laws.one_thing_is_found.Goals as goal
 
 pub returns-clause-one : goal.returns-clause-one

@@ -1,10 +1,7 @@
-use Rattle.answer_text.specs.Shape.{widths_of}
-use Rattle.answer_text.specs.Text.{answer_text}
+use Rattle.answer_text.specs.{Shape.widths_of, Text.answer_text}
 use Rattle.grammar_reader.specs.Grammars.{value_of}
-use Rattle.otp_tool.specs.Findings.{FindsForAnswer}
-use Rattle.otp_tool.specs.Results.{IsGeneratedText}
-use Rattle.otp_tool.proofs.GeneratedLemmas.{generated}
-use Rattle.otp_tool.proofs.StepLemmas.{made_ready, stages_fit, written}
+use Rattle.otp_tool.specs.{Findings.FindsForAnswer, Results.IsGeneratedText}
+use Rattle.otp_tool.proofs.{GeneratedLemmas.generated, StepLemmas.{made_ready, stages_fit, written}}
 use Rattle.otp_tool.proofs.results.generate.Goals as goal
 
 pub put_answer-requires : goal.put_answer-requires

@@ -1,13 +1,10 @@
 use Rattle.std.proofs.Common.{◌≡◌, ◌≢◌, ℕ, length, List, All, inl, refl, ap, sym, ◌∙◌, subst, rules, arith}
 use Rattle.tier_core.specs.declared.constraint.Constraint.{Constraint}
 use Rattle.timeline_text.specs.declared.form_err.FormErr.TheVariants.{NoMemory}
-use Rattle.violation.specs.Candidates.{vec}
-use Rattle.violation.specs.Conditions.{IsCountable}
+use Rattle.violation.specs.{Candidates.vec, Conditions.IsCountable}
 use Rattle.answer_text.specs.Text.{counts_text}
 use Rattle.grammar_reader.specs.Grammars.{value_of}
-use Rattle.otp_tool.specs.Findings.{FindsForScore}
-use Rattle.otp_tool.specs.Scored.{IsNotScored, IsScored}
-use Rattle.otp_tool.specs.Results.{IsScoreText}
+use Rattle.otp_tool.specs.{Findings.FindsForScore, Scored.{IsNotScored, IsScored}, Results.IsScoreText}
 use Rattle.otp_tool.proofs.StepLemmas.{all_countable, is_scored, not_scored, scored, written}
 use Rattle.otp_tool.proofs.results.score.Goals as goal
 

@@ -1,8 +1,7 @@
 use Rattle.std.proofs.Common.{refl}
 use Rattle.answer_text.specs.Text.{shown_text}
 use Rattle.grammar_reader.specs.Grammars.{value_of}
-use Rattle.otp_tool.specs.Findings.{FindsForAnswer}
-use Rattle.otp_tool.specs.Results.{IsOfRightAnswer, short_text}
+use Rattle.otp_tool.specs.{Findings.FindsForAnswer, Results.{IsOfRightAnswer, short_text}}
 use Rattle.otp_tool.proofs.StepLemmas.{made_ready, made_right, written}
 use Rattle.otp_tool.proofs.results.show.Goals as goal
 

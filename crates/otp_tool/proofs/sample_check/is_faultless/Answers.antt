@@ -1,9 +1,6 @@
-use Rattle.std.proofs.Common.{refl, subst}
-use Rattle.std.proofs.lemmas.Bool.{false≢true}
-use Rattle.answer_reader.specs.Reading.{answer_of}
-use Rattle.answer_reader.specs.Steps.{Fails}
-use Rattle.cert_check.specs.FirstFaults.{asked_by}
-use Rattle.cert_check.specs.Verdicts.{IsVerdict}
+use Rattle.std.proofs.{Common.{refl, subst}, lemmas.Bool.false≢true}
+use Rattle.answer_reader.specs.{Reading.answer_of, Steps.Fails}
+use Rattle.cert_check.specs.{FirstFaults.asked_by, Verdicts.IsVerdict}
 use Rattle.otp_tool.proofs.CheckLemmas.{is_not_yes, is_yes, not_judged}
 use Rattle.otp_tool.proofs.sample_check.is_faultless.Goals as goal
 

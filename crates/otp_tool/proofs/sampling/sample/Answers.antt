@@ -2,12 +2,9 @@ use Rattle.std.proofs.Common.{List, ℕ, refl, ◌∙◌, subst}
 use Rattle.outside.specs.Writers.{Puts}
 use Rattle.grammar_reader.specs.Grammars.{value_of}
 use Rattle.violation.specs.Problems.{problem_from}
-use Rattle.otp_tool.specs.Findings.{FindsForAnswer}
-use Rattle.otp_tool.specs.Results.{IsSampleText}
-use Rattle.otp_tool.specs.Samples.{sample_text, sample_word}
+use Rattle.otp_tool.specs.{Findings.FindsForAnswer, Results.IsSampleText, Samples.{sample_text, sample_word}}
 use Rattle.otp_tool.specs.Steps.{IsAnswerFor}
-use Rattle.otp_tool.proofs.SampleLemmas.{text_is}
-use Rattle.otp_tool.proofs.StepLemmas.{made_ready, written}
+use Rattle.otp_tool.proofs.{SampleLemmas.text_is, StepLemmas.{made_ready, written}}
 use Rattle.otp_tool.proofs.sampling.sample.Goals as goal
 
 pub returns-in-Ok-summed_up-clause-step : goal.returns-in-Ok-summed_up-clause-step

@@ -1,9 +1,9 @@
 use Rattle.std.proofs.Common.{◌≤◌, List, length, All, sym, subst}
 use Rattle.tier_core.specs.declared.sym.Sym.{Sym}
-use Rattle.violation.specs.Candidates.{IsCandidate}
-use Rattle.violation.specs.Problems.{problem_from}
+use Rattle.violation.specs.{Candidates.IsCandidate, Problems.problem_from}
 use Rattle.tableau.specs.Tableaux.{IsTableauOf, names_seen}
-use Rattle.otp_tool.proofs.TableauLemmas.{candidates_for, few_columns, no_rows_made, not_within, right_for, tableau_for}
+use Rattle.otp_tool.proofs.TableauLemmas.{candidates_for, few_columns, no_rows_made, not_within, right_for}
+use Rattle.otp_tool.proofs.TableauLemmas.{tableau_for}
 use Rattle.otp_tool.proofs.tableaux.make_tableau.Goals as goal
 
 pub returns-in-Err-clause-err : goal.returns-in-Err-clause-err

@@ -1,6 +1,5 @@
 use Rattle.std.proofs.Common.{◌≡◌, ◌≤◌, ℕ, List, length, refl, sym, subst}
-use Rattle.otp_tool.specs.Files.{IsHeld}
-use Rattle.otp_tool.specs.Steps.{change_of}
+use Rattle.otp_tool.specs.{Files.IsHeld, Steps.change_of}
 use Rattle.otp_tool.proofs.TableauLemmas.{no_file_loaded, no_form_read, no_tableau, tableau_written}
 use Rattle.otp_tool.proofs.tableaux.tabulate.Goals as goal
 

@@ -1,11 +1,8 @@
 use Rattle.std.proofs.Common.{ℕ, List, length, subst}
 use Rattle.arc_table.specs.States.{states_of}
 use Rattle.kind_moves.specs.Frames.{problem_in}
-use Rattle.kind_orders.specs.Orderings.{IsOrdering, AreRanks}
-use Rattle.kind_orders.specs.AutomatonLines.{state_nodes}
-use Rattle.kind_orders.specs.Automata.{IsAutomatonOf}
-use Rattle.ranked_gen.proofs.EndStage.{right_automaton}
-use Rattle.ranked_gen.proofs.RankedSteps.{some_left, first_optimal}
+use Rattle.kind_orders.specs.{Orderings.{IsOrdering, AreRanks}, AutomatonLines.state_nodes, Automata.IsAutomatonOf}
+use Rattle.ranked_gen.proofs.{EndStage.right_automaton, RankedSteps.{some_left, first_optimal}}
 use Rattle.ranked_gen.proofs.ending.ending_of.Goals as goal
 
 pub unwrap-requires : goal.unwrap-requires

@@ -1,13 +1,10 @@
 use Rattle.std.proofs.Common.{◌≡◌, Err, ap}
-use Rattle.ranked_gen.specs.declared.gen_err.GenErr.TheVariants.{Budget}
+use Rattle.ranked_gen.specs.{declared.gen_err.GenErr.TheVariants.Budget, FittingKinds.HaveFittingKinds}
 use Rattle.answer_text.specs.declared.answer.Answer.{Answer}
 use Rattle.kind_orders.specs.JoinedArcs.{HaveJoinedArcs}
 use Rattle.kind_moves.specs.Frames.{problem_in}
 use Rattle.violation.specs.Problems.{last_stage}
-use Rattle.ranked_gen.specs.FittingKinds.{HaveFittingKinds}
-use Rattle.ranked_gen.proofs.StageKinds.{whatever_ok}
-use Rattle.ranked_gen.proofs.StageList.{has_few}
-use Rattle.ranked_gen.proofs.MappedErrors.{kept_by_map_err}
+use Rattle.ranked_gen.proofs.{StageKinds.whatever_ok, StageList.has_few, MappedErrors.kept_by_map_err}
 use Rattle.ranked_gen.proofs.generator.answer_in.Goals as goal
 
 pub returns-in-Err-clause-over : goal.returns-in-Err-clause-over

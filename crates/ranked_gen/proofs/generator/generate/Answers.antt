@@ -1,12 +1,10 @@
 use Rattle.std.proofs.Common.{◌≡◌, length, IfOk, subst, arith}
 use Rattle.violation.proofs.SplitLemmas.{tiers_split}
-use Rattle.ranked_gen.specs.Budgets.{AreAllWithin, HaveFewKinds, IsFirstOver}
-use Rattle.ranked_gen.specs.FittingKinds.{HaveFittingKinds}
+use Rattle.ranked_gen.specs.{Budgets.{AreAllWithin, HaveFewKinds, IsFirstOver}, FittingKinds.HaveFittingKinds}
 use Rattle.ranked_gen.specs.Listed.{kind_count}
-use Rattle.ranked_gen.proofs.NumberedKinds.{free_distinct}
-use Rattle.ranked_gen.proofs.StageKinds.{counted_kinds, first_over}
-use Rattle.ranked_gen.proofs.generator.generate.Goals as goal
+use Rattle.ranked_gen.proofs.{NumberedKinds.free_distinct, StageKinds.{counted_kinds, first_over}}
 use Rattle.violation.specs.Problems.{problem_from}
+use Rattle.ranked_gen.proofs.generator.generate.Goals as goal
 
 pub returns-then-kinds-budget-clause-over : goal.returns-then-kinds-budget-clause-over
 returns-then-kinds-budget-clause-over c = λ stage e.

@@ -1,11 +1,8 @@
 use Rattle.std.proofs.Common.{◌≡◌, length, IfOk, subst, sym, ◌∙◌, arith}
-use Rattle.violation.specs.Problems.{problem_from}
-use Rattle.violation.specs.Rests.{AreWholeKindsWithin}
+use Rattle.violation.specs.{Problems.problem_from, Rests.AreWholeKindsWithin}
 use Rattle.violation.proofs.SplitLemmas.{tiers_split}
-use Rattle.ranked_gen.specs.FittingKinds.{HaveFittingKindsOnce}
-use Rattle.ranked_gen.specs.Listed.{kind_count}
-use Rattle.ranked_gen.proofs.NumberedKinds.{free_distinct}
-use Rattle.ranked_gen.proofs.OnceBudgets.{first_over_whole}
+use Rattle.ranked_gen.specs.{FittingKinds.HaveFittingKindsOnce, Listed.kind_count}
+use Rattle.ranked_gen.proofs.{NumberedKinds.free_distinct, OnceBudgets.first_over_whole}
 use Rattle.ranked_gen.proofs.StageKinds.{counted_kinds, first_over}
 use Rattle.ranked_gen.proofs.once.generate_once.Goals as goal
 

@@ -3,11 +3,10 @@ use Rattle.arc_table.specs.States.{states_of}
 use Rattle.violation.specs.Problems.{last_stage}
 use Rattle.kind_moves.specs.Frames.{problem_in}
 use Rattle.ranked_gen.specs.FittingKinds.{HaveFittingKindsOnce}
-use Rattle.ranked_gen.proofs.StageKinds.{whatever_ok}
-use Rattle.ranked_gen.proofs.OnceTables.{whole_table, whole_within, whole_over}
+use Rattle.ranked_gen.proofs.{StageKinds.whatever_ok, OnceTables.{whole_table, whole_within, whole_over}}
+use Rattle.ranked_gen.proofs.MappedErrors.{kept_by_map_err}
 use Rattle.answer_text.specs.declared.once_answer.OnceAnswer.{OnceAnswer}
 use Rattle.kind_orders.specs.JoinedArcs.{HaveJoinedArcs}
-use Rattle.ranked_gen.proofs.MappedErrors.{kept_by_map_err}
 use Rattle.ranked_gen.proofs.once.once_in.Goals as goal
 
 pub once_answer-requires : goal.once_answer-requires

@@ -1,7 +1,6 @@
-use Rattle.std.proofs.Common.{◌≡◌, ◌<◌, ◌≤◌, List, Option, None, map, take, length, get_or, refl, ap, sym, ◌∙◌, subst}
-use Rattle.std.proofs.Common.{arith}
+use Rattle.std.proofs.Common.{◌≡◌, ◌<◌, ◌≤◌, List, Option, None, map, take, length, get_or, refl, ap, sym, ◌∙◌}
+use Rattle.std.proofs.{Common.{subst, arith}, lemmas.List.get_or_default}
 use Rattle.std.specs.Prelude.{IsSome}
-use Rattle.std.proofs.lemmas.List.{get_or_default}
 use Rattle.arc_table.specs.States.{states_of}
 use Rattle.tier_core.specs.declared.kind.Kind.{Kind}
 use Rattle.weight_law.specs.declared.ranked.Ranked.{Ranked}
@@ -12,8 +11,7 @@ use Rattle.stage_laws.proofs.Resting.{some_weight}
 use Rattle.stage_tables.specs.Explored.{names_at}
 use Rattle.kind_orders.specs.KindOrders.{AreDistinctKinds, IsKindOrder}
 use Rattle.ranked_gen.specs.Once.{weight_found, once_node}
-use Rattle.ranked_gen.proofs.StageShapes.{kinds_found}
-use Rattle.ranked_gen.proofs.OnceSteps.{once_part}
+use Rattle.ranked_gen.proofs.{StageShapes.kinds_found, OnceSteps.once_part}
 use Rattle.ranked_gen.proofs.once.single_pass.Goals as goal
 
 pub to_final-requires : goal.to_final-requires

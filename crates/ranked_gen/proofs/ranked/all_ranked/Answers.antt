@@ -1,15 +1,11 @@
 use Rattle.std.proofs.Common.{◌≡◌, Err, ◌+◌, ◌-◌, ◌<◌, refl, ap, sym, subst, arith}
 use Rattle.arc_table.specs.States.{states_of}
-use Rattle.violation.specs.Candidates.{IsOptimalFor}
-use Rattle.ranked_gen.specs.declared.gen_err.GenErr.TheVariants.{Budget}
-use Rattle.ranked_gen.specs.Budgets.{IsFirstOver}
-use Rattle.ranked_gen.specs.KindsLeft.{AreKindsLeft}
+use Rattle.violation.specs.{Candidates.IsOptimalFor, Problems.last_stage}
+use Rattle.ranked_gen.specs.{declared.gen_err.GenErr.TheVariants.Budget, Budgets.IsFirstOver, KindsLeft.AreKindsLeft}
 use Rattle.ranked_gen.specs.Left.{IsRanked}
-use Rattle.ranked_gen.proofs.StageList.{first_over}
-use Rattle.ranked_gen.proofs.RankedSteps.{ranked_next}
-use Rattle.ranked_gen.proofs.ranked.all_ranked.Goals as goal
-use Rattle.violation.specs.Problems.{last_stage}
+use Rattle.ranked_gen.proofs.{StageList.first_over, RankedSteps.ranked_next}
 use Rattle.kind_moves.specs.Frames.{problem_in}
+use Rattle.ranked_gen.proofs.ranked.all_ranked.Goals as goal
 
 pub next_stage-requires-clause-accepts : goal.next_stage-requires-clause-accepts
 next_stage-requires-clause-accepts c = λ T.

@@ -1,9 +1,8 @@
 use Rattle.std.proofs.Common.{◌≤◌, length}
 use Rattle.arc_table.specs.States.{states_of}
-use Rattle.ranked_gen.specs.KindsLeft.{AreKindsLeft}
-use Rattle.ranked_gen.specs.Left.{IsRanked}
-use Rattle.ranked_gen.proofs.ranked.all_ranked.Given as goal
+use Rattle.ranked_gen.specs.{KindsLeft.AreKindsLeft, Left.IsRanked}
 use Rattle.kind_moves.specs.Frames.{problem_in}
+use Rattle.ranked_gen.proofs.ranked.all_ranked.Given as goal
 
 abbrev pub invariant-loop-number : goal.invariant-loop-number
 invariant-loop-number l = record {

@@ -3,8 +3,7 @@ use Rattle.arc_table.specs.States.{states_of}
 use Rattle.violation.specs.Problems.{last_stage}
 use Rattle.kind_moves.specs.Frames.{problem_in}
 use Rattle.answer_text.specs.Right.{nodes_at}
-use Rattle.ranked_gen.proofs.RankedSteps.{part_of}
-use Rattle.ranked_gen.proofs.StageList.{right_answer}
+use Rattle.ranked_gen.proofs.{RankedSteps.part_of, StageList.right_answer}
 use Rattle.ranked_gen.proofs.ranked.whole_answer.Goals as goal
 
 pub ending_of-requires : goal.ending_of-requires

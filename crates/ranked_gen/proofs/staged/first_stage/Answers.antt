@@ -1,7 +1,6 @@
 use Rattle.std.proofs.Common.{◌≡◌}
 use Rattle.arc_table.specs.States.{states_of}
-use Rattle.ranked_gen.proofs.FirstStage.{zero_table, zero_within, zero_over}
-use Rattle.ranked_gen.proofs.StageKinds.{whatever_ok}
+use Rattle.ranked_gen.proofs.{FirstStage.{zero_table, zero_within, zero_over}, StageKinds.whatever_ok}
 use Rattle.ranked_gen.proofs.staged.first_stage.Goals as goal
 
 pub prune-requires-clause-table : goal.prune-requires-clause-table

@@ -1,5 +1,4 @@
-use Rattle.std.proofs.Common.{◌≡◌, length, not, sym, ap, ◌∙◌}
-use Rattle.std.proofs.lemmas.Bool.{eqb-true, eq-eqb, not-false}
+use Rattle.std.proofs.{Common.{◌≡◌, length, not, sym, ap, ◌∙◌}, lemmas.Bool.{eqb-true, eq-eqb, not-false}}
 use Rattle.ranked_gen.proofs.KindsLeft.{same_stretches}
 use Rattle.ranked_gen.proofs.staged.has_new_phase.Goals as goal
 

@@ -1,11 +1,10 @@
 use Rattle.std.proofs.Common.{◌≡◌, ◌+◌, ◌-◌, ◌≤◌, arith}
 use Rattle.arc_table.specs.States.{states_of}
-use Rattle.ranked_gen.proofs.KindsLeft.{left_same}
-use Rattle.ranked_gen.proofs.NextStage.{stage_table, stage_within, stage_over}
+use Rattle.ranked_gen.proofs.{KindsLeft.left_same, NextStage.{stage_table, stage_within, stage_over}}
 use Rattle.ranked_gen.proofs.StageKinds.{whatever_ok}
-use Rattle.ranked_gen.proofs.staged.next_stage.Goals as goal
 use Rattle.violation.specs.Problems.{last_stage}
 use Rattle.kind_moves.specs.Frames.{problem_in}
+use Rattle.ranked_gen.proofs.staged.next_stage.Goals as goal
 
 pub weigh-requires-clause-kept : goal.weigh-requires-clause-kept
 weigh-requires-clause-kept c =

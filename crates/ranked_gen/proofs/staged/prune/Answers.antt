@@ -5,11 +5,10 @@ use Rattle.kind_tables.proofs.Weighing.{sizes_fit}
 use Rattle.stage_tables.specs.Explored.{names_at}
 use Rattle.kind_orders.specs.StageNodes.{AreNodesInOrder}
 use Rattle.ranked_gen.specs.Left.{IsCountedOutcome, weight_number}
-use Rattle.ranked_gen.proofs.KindsLeft.{numbers_inside, kinds_left, left_few}
-use Rattle.ranked_gen.proofs.StageShapes.{kinds_found}
+use Rattle.ranked_gen.proofs.{KindsLeft.{numbers_inside, kinds_left, left_few}, StageShapes.kinds_found}
 use Rattle.ranked_gen.proofs.StepStage.{staged}
-use Rattle.ranked_gen.proofs.staged.prune.Goals as goal
 use Rattle.kind_moves.specs.Frames.{problem_in}
+use Rattle.ranked_gen.proofs.staged.prune.Goals as goal
 
 pub to_final-requires : goal.to_final-requires
 to_final-requires c =

@@ -1,5 +1,4 @@
-use Rattle.std.proofs.Common.{◌+◌, ◌-◌, refl, length, drop, take, sym, arith}
-use Rattle.std.proofs.lemmas.List.{length-take, take_rest}
+use Rattle.std.proofs.{Common.{◌+◌, ◌-◌, refl, length, drop, take, sym, arith}, lemmas.List.{length-take, take_rest}}
 use Rattle.tableau.proofs.LineCuts.{cut_at, cut_none}
 use Rattle.tableau.proofs.line.cut_line.Goals as goal
 

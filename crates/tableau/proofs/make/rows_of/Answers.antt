@@ -1,16 +1,11 @@
 use Rattle.std.proofs.Common.{◌≡◌, ◌∷◌, [], ◌++◌, ℕ, List, map, take, All, ap, sym, ◌∙◌, subst, rules}
-use Rattle.std.proofs.lemmas.List.{map_push, take_more}
-use Rattle.std.proofs.lemmas.List.Elements.{All-push}
+use Rattle.std.proofs.{lemmas.List.{map_push, take_more}, lemmas.List.Elements.All-push}
 use Rattle.tier_core.specs.declared.constraint.Constraint.{Constraint}
-use Rattle.violation.specs.Candidates.{IsCandidate}
-use Rattle.violation.specs.Conditions.{IsCountable}
-use Rattle.tableau.specs.declared.table.TableauRow.{TableauRow}
-use Rattle.tableau.specs.Compared.{IsCompared}
-use Rattle.tableau.specs.Tableaux.{IsTableauRow}
+use Rattle.violation.specs.{Candidates.IsCandidate, Conditions.IsCountable, Problems.problem_from}
+use Rattle.tableau.specs.{declared.table.TableauRow.TableauRow, Compared.IsCompared, Tableaux.IsTableauRow}
 use Rattle.tableau.proofs.Comparing.{compared_row}
 use Rattle.grammar_reader.proofs.OverTiers.{all_countable}
 use Rattle.tableau.proofs.make.rows_of.Goals as goal
-use Rattle.violation.specs.Problems.{problem_from}
 
 pub compared_row-requires-clause-countable : goal.compared_row-requires-clause-countable
 compared_row-requires-clause-countable c =

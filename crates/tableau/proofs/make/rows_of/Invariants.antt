@@ -1,8 +1,8 @@
 use Rattle.std.proofs.Common.{◌≡◌, ◌∷◌, map, take, All}
 use Rattle.tier_core.specs.Tables.{tiers_of_table}
 use Rattle.tableau.specs.Tableaux.{IsTableauRow}
-use Rattle.tableau.proofs.make.rows_of.Given as goal
 use Rattle.violation.specs.Problems.{problem_from}
+use Rattle.tableau.proofs.make.rows_of.Given as goal
 
 -- the rows so far
 abbrev pub invariant-loop-timeline : goal.invariant-loop-timeline

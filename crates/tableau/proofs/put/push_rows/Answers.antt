@@ -1,5 +1,4 @@
-use Rattle.std.proofs.Common.{sym}
-use Rattle.std.proofs.lemmas.List.Folds.{flat_map-map}
+use Rattle.std.proofs.{Common.sym, lemmas.List.Folds.flat_map-map}
 use Rattle.tableau.specs.Layout.{line_text, row_line, tableau_lines}
 use Rattle.outside.proofs.Writing.{each_end, each_none, each_stop, each_turn, pushes_as, stop}
 use Rattle.tableau.proofs.put.push_rows.Goals as goal

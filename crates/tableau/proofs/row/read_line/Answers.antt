@@ -1,11 +1,10 @@
 use Rattle.std.proofs.Common.{◌≡◌, ◌<◌, ◌∷◌, [], ◌++◌, List, length, sym, ◌∙◌, subst, arith, rules}
 use Rattle.std.proofs.lemmas.Result.{err_from_is_err_and}
-use Rattle.tier_core.specs.Tables.{tiers_of_table}
-use Rattle.tier_core.specs.declared.sym.Sym.{Sym}
+use Rattle.tier_core.specs.{Tables.tiers_of_table, declared.sym.Sym.Sym}
 use Rattle.tableau.specs.Rows.{AreRowsOf}
 use Rattle.tableau.proofs.RowLemmas.{refused_line, row_line}
-use Rattle.tableau.proofs.row.read_line.Goals as goal
 use Rattle.violation.specs.Problems.{problem_from}
+use Rattle.tableau.proofs.row.read_line.Goals as goal
 
 pub returns-in_err-row-clause-err : goal.returns-in_err-row-clause-err
 returns-in_err-row-clause-err c =

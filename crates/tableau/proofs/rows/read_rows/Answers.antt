@@ -1,11 +1,10 @@
-use Rattle.std.proofs.Common.{◌+◌, ℕ, List, ap, sym, subst}
+use Rattle.std.proofs.{Common.{◌+◌, ℕ, List, ap, sym, subst}, lemmas.Result.err_from_is_err_and}
 use Rattle.std.specs.Str.Lines.{lines}
-use Rattle.std.proofs.lemmas.Result.{err_from_is_err_and}
 use Rattle.tier_core.specs.Tables.{tiers_of_table}
 use Rattle.tableau.specs.Rows.{IsTextRefusal}
 use Rattle.tableau.proofs.RowLemmas.{next_line}
-use Rattle.tableau.proofs.rows.read_rows.Goals as goal
 use Rattle.violation.specs.Problems.{problem_from}
+use Rattle.tableau.proofs.rows.read_rows.Goals as goal
 
 pub returns-in_err-read_line-clause-err : goal.returns-in_err-read_line-clause-err
 returns-in_err-read_line-clause-err c =

@@ -1,8 +1,8 @@
 use Rattle.std.proofs.Common.{length}
 use Rattle.tier_core.specs.Tables.{tiers_of_table}
 use Rattle.tableau.proofs.RowLemmas.{IsReadTo}
-use Rattle.tableau.proofs.rows.read_rows.Given as goal
 use Rattle.violation.specs.Problems.{problem_from}
+use Rattle.tableau.proofs.rows.read_rows.Given as goal
 
 -- the lines in front of the rest have the rows so far
 abbrev pub invariant-loop-rest : goal.invariant-loop-rest

@@ -1,8 +1,7 @@
 use Rattle.std.proofs.Common.{ap, ◌∙◌}
 use Rattle.tier_core.specs.Kinds.{prefix_kind}
 use Rattle.outside.proofs.Writing.{◌▹◌, cut, pushes_as, stop}
-use Rattle.answer_text.specs.Shape.{widths_of}
-use Rattle.answer_text.specs.Text.{kind_text}
+use Rattle.answer_text.specs.{Shape.widths_of, Text.kind_text}
 use Rattle.verdict_text.proofs.fault.push_closed.Goals as goal
 
 pub returns-in_err-push_numbered : goal.returns-in_err-push_numbered

@@ -35,6 +35,22 @@ phased_none width cs kind wholes pieces = record {
   parted = parted_same width (phases_after cs kind 0 0) wholes pieces (λ k d inside x y _ _. refl);
 }
 
+-- the phases of one stretch implication more
+pub phases_more : (cs : List Constraint) (kind : Kind) (n next : ℕ) (c : Constraint) (column : List Sym)
+    → next ≡ length (filter is_stretch (take n cs)) → n < length cs → c ≡ get_or cs n c → is_stretch c ≡ true
+    → phases_after cs kind (n + 1) (next + 1) column
+    ≡ phases_after cs kind n next column ++ next_phase c.left c.right (phase_at kind next) column ∷ []
+phases_more cs kind n next c column count l is h =
+    let fs = filter is_stretch (take n cs) in
+    let longer : filter is_stretch (take (n + 1) cs) ≡ fs ++ c ∷ [] =
+    filter_more is_stretch cs n c l ∙ ap (λ x. fs ++ cond (is_stretch x) (x ∷ []) []) (sym is)
+    ∙ ap (λ b. fs ++ cond b (c ∷ []) []) h in
+    let size : length (phases next kind) ≡ length fs = length-map-range_with_len (phase_at kind) 0 next ∙ count in
+    ap (λ x. next_phases x (phases (next + 1) kind) column) longer
+    ∙ ap (λ ps. next_phases (fs ++ c ∷ []) ps column) (map-range_with_len_more (phase_at kind) 0 next next
+    (omega arith))
+    ∙ next_append fs (phases next kind) c (phase_at kind next) column size
+
 pub phased_more : (width : ℕ) (cs : List Constraint) (kind : Kind) (n next : ℕ) (wholes parts more : List Class)
     (c : Constraint) → ArePhasedBelow width cs kind n next wholes parts
     → n < length cs → c ≡ get_or cs n c → is_stretch c ≡ true
@@ -45,13 +61,9 @@ phased_more width cs kind n next wholes parts more c a l is h p =
     let longer : filter is_stretch (take (n + 1) cs) ≡ fs ++ c ∷ [] =
     filter_more is_stretch cs n c l ∙ ap (λ x. fs ++ cond (is_stretch x) (x ∷ []) []) (sym is)
     ∙ ap (λ b. fs ++ cond b (c ∷ []) []) h in
-    let size : length (phases next kind) ≡ length fs = length-map-range_with_len (phase_at kind) 0 next ∙ a.count in
     let step : (column : List Sym) → phases_after cs kind (n + 1) (next + 1) column
     ≡ phases_after cs kind n next column ++ next_phase c.left c.right (phase_at kind next) column ∷ [] =
-    (λ column. ap (λ x. next_phases x (phases (next + 1) kind) column) longer
-    ∙ ap (λ ps. next_phases (fs ++ c ∷ []) ps column) (map-range_with_len_more (phase_at kind) 0 next next
-    (omega arith))
-    ∙ next_append fs (phases next kind) c (phase_at kind next) column size) in
+    (λ column. phases_more cs kind n next c column a.count l is h) in
     record {
       count = omega (arith, a.count, ap length longer, length_push fs c);
       few = omega (arith, a.few);

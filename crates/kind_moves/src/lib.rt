@@ -24,6 +24,8 @@ mod fit;
 mod fit_boxes;
 mod fitting;
 mod frame;
+mod last_pieces;
+mod last_tests;
 mod laws;
 mod leaving;
 mod mask;
@@ -38,6 +40,7 @@ mod pieces;
 mod tests;
 
 pub use frame::Frame;
+pub use last_tests::LastTests;
 pub use laws::{
     costs_are_violations, kinds_are_told_apart, kinds_go_by_moves, moves_are_of_candidates,
 };

@@ -47,7 +47,7 @@ module _ {g : Ghosts UnitWeight} (frame : Frame) (before stage : ℕ) (further :
   earlier = frame_stage frame before (omega (arith, further, within))
 
   -- the kind of what leads to a state, cut, is the state's name
-  cut_named : (kind : Kind) (s : ℕ) → IsReached frame stage kept kind s
+  pub cut_named : (kind : Kind) (s : ℕ) → IsReached frame stage kept kind s
       → cut_kind (problem_in frame) before (kind_at_stage frame stage kind) ≡ name_of names s
   cut_named kind s r =
       ap (cut_kind (problem_in frame) before) (kinds_law frame stage r.first r.starts r.prefix kind r.leads)

@@ -15,3 +15,4 @@ pub mod RankedStates
 mod SameWords
 mod WeighedMoves
 mod WeighedTables
+pub mod LeftBefore

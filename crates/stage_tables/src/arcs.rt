@@ -4,13 +4,14 @@ ghost use Rattle.tier_core.specs.Classes.{has};
 ghost use Rattle.arc_table.specs.Moves.{moves_at};
 ghost use Rattle.arc_table.specs.States.{states_of};
 ghost use Rattle.stage_tables.specs.Listed.{IsTaken, AreTakenMoves, AreTargets};
+ghost use Rattle.stage_tables.specs.Tested.{AreTestsAt, IsLeftBefore};
 ghost use Rattle.stage_tables.specs.Exploring.{IsFoundWithin, IsFoundBeyond, IsListedOver, StaysListed, ArePiecesFrom, IsPieceFrom, AddsTaken};
 
 use crate::exploring::Exploring;
 use crate::listed::{Listed, number_of};
 use crate::stage_table::ExploreErr;
 use arc_table::TableArc;
-use kind_moves::Piece;
+use kind_moves::{LastTests, Piece};
 use std::alloc::Global;
 use tier_core::Kind;
 use weight_law::{Count, UnitWeight};
@@ -87,12 +88,15 @@ impl Exploring<'_> {
         alloc: Global,
         state: u32,
         kind: &Kind,
+        tests: &Option<LastTests>,
         arc: &TableArc<UnitWeight>,
         moves: &mut Vec<TableArc<Count>>,
         listed: &mut Listed,
     ) -> Result<(), ExploreErr>
         requires found { IsFoundWithin self.now listed.old }
         requires over { IsListedOver listed.old kind.now state }
+        requires left { IsLeftBefore self.now }
+        requires tests { AreTestsAt self.now kind.now tests.now }
         requires arc { Contains (moves_at (states_of self.now.kept.now) state) arc.now }
         ensures found { IfOk result (λ _. IsFoundWithin self.now listed.new) }
         ensures stays { IfOk result (λ _. StaysListed listed.old listed.new) }
@@ -102,7 +106,7 @@ impl Exploring<'_> {
         ensures beyond { IfErr result
             (λ e. e ≡ ExploreErr.OverBudget → IsFoundBeyond self.now listed.new) }
     {
-        match self.pieces(alloc, kind, &arc.class) {
+        match self.pieces_of(alloc, state, kind, tests, arc) {
             Ok(pieces) => self.push_taken(state, kind, arc, &pieces, moves, listed),
             Err(_) => Err(ExploreErr::NoMemory),
         }
@@ -119,6 +123,7 @@ impl Exploring<'_> {
         requires found { IsFoundWithin self.now listed.old }
         requires over { IsListedOver listed.old kind.now state }
         requires state { state < length (states_of self.now.kept.now) }
+        requires left { IsLeftBefore self.now }
         ensures found { IfOk result (λ _. IsFoundWithin self.now listed.new) }
         ensures stays { IfOk result (λ _. StaysListed listed.old listed.new) }
         ensures targets { IfOk result
@@ -130,9 +135,10 @@ impl Exploring<'_> {
         ensures beyond { IfErr result
             (λ e. e ≡ ExploreErr.OverBudget → IsFoundBeyond self.now listed.new) }
     {
+        let tests = self.tests(kind);
         let mut moves = Vec::new(alloc);
         for arc in self.kept.arcs(state) {
-            self.take(alloc, state, kind, arc, &mut moves, listed)?;
+            self.take(alloc, state, kind, &tests, arc, &mut moves, listed)?;
         }
         Ok(moves)
     }

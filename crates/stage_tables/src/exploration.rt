@@ -5,6 +5,7 @@ ghost use Rattle.kind_moves.specs.Frames.{problem_in};
 ghost use Rattle.stage_tables.specs.Kept.{IsKeptTable};
 ghost use Rattle.stage_tables.specs.Explored.{IsExplored, IsComplete, HasMoreKinds};
 ghost use Rattle.stage_tables.specs.Listed.{AreTaken};
+ghost use Rattle.stage_tables.specs.Tested.{IsLeftBefore};
 ghost use Rattle.stage_tables.specs.Exploring.{IsFoundWithin, IsFoundBeyond, IsStageFound, IsTooMuchFound};
 ghost use Rattle.violation.specs.Candidates.{IsCandidate};
 ghost use Rattle.violation.specs.Problems.{last_stage};
@@ -48,6 +49,7 @@ impl Exploring<'_> {
     ) -> Result<Vec<TableState<Count>>, ExploreErr>
         requires found { IsFoundWithin self.now listed.old }
         requires one { length listed.old.kinds.entries ≡ 1 }
+        requires left { IsLeftBefore self.now }
         ensures found { IfOk result (λ _. IsFoundWithin self.now listed.new) }
         ensures taken { IfOk result
             (λ states.
@@ -76,6 +78,7 @@ impl Exploring<'_> {
     fn all_states(&self, alloc: Global) -> Result<StageTable, ExploreErr>
         requires some { 1 ≤ self.now.budget }
         requires few { self.now.budget ≤ 65536 }
+        requires left { IsLeftBefore self.now }
         ensures found { IfOk result
             (λ found. IsStageFound self.now found.kinds.items (states_of found.table)) }
         ensures few { IfOk result (λ found. length found.kinds.items ≤ self.now.budget) }
@@ -124,6 +127,7 @@ pub fn explore(
 {
     let exploring = Exploring {
         frame,
+        before,
         first: stage,
         stage,
         kept,
@@ -160,6 +164,7 @@ pub fn explore_all(
     };
     let exploring = Exploring {
         frame,
+        before: stage,
         first: 1,
         stage,
         kept: &whole,

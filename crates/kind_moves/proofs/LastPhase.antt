@@ -1,0 +1,166 @@
+-- Columns that lead to one kind at the stage before, and pass the test of the last constraint alike,
+-- lead to one kind.
+use Rattle.std.proofs.Common.{◌≡◌, ℕ, zero, suc, ◌+◌, ◌<◌, ◌≤◌, Bool, true, false, cond, List, [], ◌∷◌, ◌++◌, take}
+use Rattle.std.proofs.Common.{filter, length, get_or, refl, ap, ap₂, sym, ◌∙◌, subst, arith}
+use Rattle.std.proofs.lemmas.List.{length_push, append-nil}
+use Rattle.std.proofs.lemmas.List.Elements.{filter_more}
+use Rattle.std.proofs.lemmas.List.FromFn.{length-map-range_with_len}
+use Rattle.tier_core.specs.declared.constraint.Constraint.{Constraint}
+use Rattle.tier_core.specs.declared.kind.Kind.{Kind}
+use Rattle.tier_core.specs.declared.sym.Sym.{Sym}
+use Rattle.tier_core.specs.Kinds.{PrefixKind, Phase, phase_at, phases}
+use Rattle.tier_core.specs.Scan.{opens}
+use Rattle.tier_core.specs.Sides.{is_stretch}
+use Rattle.tier_core.specs.Timelines.{symbol}
+use Rattle.violation.specs.Conditions.{IsOverTiers}
+use Rattle.violation.specs.Moves.{is_tier_open, is_met_phase, next_phase, next_phases}
+use Rattle.violation.proofs.SplitLemmas.{tiers_split}
+use Rattle.kind_moves.specs.declared.frame.Frame.{Frame}
+use Rattle.kind_moves.specs.Frames.{problem_in, tiers_in, constraints_in, stretches_in, FitsAt}
+use Rattle.kind_moves.specs.LastMoves.{next_at, next_before, PartsLast}
+use Rattle.kind_moves.specs.Pieces.{opened_by}
+use Rattle.kind_moves.proofs.CostLaws.{over_at}
+use Rattle.kind_moves.proofs.GrammarTiers.{form_from}
+use Rattle.kind_moves.proofs.MoveSteps.{open_next}
+use Rattle.kind_moves.proofs.PhaseAlike.{open_more, phase_alike, goes_on}
+use Rattle.kind_moves.proofs.PhaseParts.{phases_after, phases_more}
+
+-- as many next phases as constraints
+take_whole : (cs : List Constraint) (ps : List Phase) (column : List Sym)
+    → take (length cs) (next_phases cs ps column) ≡ next_phases cs ps column
+take_whole [] ps column = refl
+take_whole (c ∷ cs) [] column = refl
+take_whole (c ∷ cs) (p ∷ ps) column = ap (λ xs. next_phase c.left c.right p column ∷ xs) (take_whole cs ps column)
+
+-- and what stands behind them is cut off
+take_front : (cs : List Constraint) (ps : List Phase) (column : List Sym) (more : List Phase) → length ps ≡ length cs
+    → take (length cs) (next_phases cs ps column ++ more) ≡ next_phases cs ps column
+take_front [] ps column more e = refl
+take_front (c ∷ cs) [] column more e = absurd (omega arith)
+take_front (c ∷ cs) (p ∷ ps) column more e = ap (λ xs. next_phase c.left c.right p column ∷ xs)
+    (take_front cs ps column more (omega arith))
+
+opened_alike : (c d : List Sym) (n : ℕ) → ((t : ℕ) → t < n → opens (symbol c t) ≡ opens (symbol d t))
+    → opened_by n c ≡ opened_by n d
+opened_alike c d zero h = refl
+opened_alike c d (suc n) h =
+    let more : n + 1 ≡ suc n = omega arith in
+    subst (λ (m : ℕ). opened_by m c ≡ opened_by m d) more
+    (open_more n c d (opened_alike c d n (λ t l. h t (omega arith))) (h n (omega arith)))
+
+-- a kind with other phases
+abbrev with_phases : PrefixKind → List Phase → PrefixKind
+with_phases k ps = record { place = k.place; opened = k.opened; phases = ps }
+
+module _ (frame : Frame) (before : ℕ) (kind : Kind) where
+  abbrev before_last : List Constraint
+  before_last = filter is_stretch (take before (constraints_in frame))
+
+  abbrev phases_next : List Sym → List Phase
+  phases_next column = (next_at frame (before + 1) kind column).phases
+
+  -- what both columns leave open
+  same_open : (c d : List Sym) → FitsAt frame (before + 1) kind c → FitsAt frame (before + 1) kind d
+      → next_before frame before (before + 1) kind c ≡ next_before frame before (before + 1) kind d
+      → opened_by (tiers_in frame).width c ≡ opened_by (tiers_in frame).width d
+  same_open c d fits_c fits_d same =
+      let split = tiers_split frame.grammar.now.tiers.kinds.items in
+      let form = form_from (problem_in frame) frame.well_formed in
+      opened_alike c d (tiers_in frame).width
+      (λ t l. sym (open_next (problem_in frame) split form _ c fits_c (before + 1) t l)
+      ∙ ap (λ k. is_tier_open (problem_in frame) k t) same
+      ∙ open_next (problem_in frame) split form _ d fits_d (before + 1) t l)
+
+  same_next : (c d : List Sym)
+      → next_before frame before (before + 1) kind c ≡ next_before frame before (before + 1) kind d
+      → phases_next c ≡ phases_next d → next_at frame (before + 1) kind c ≡ next_at frame (before + 1) kind d
+  same_next c d same phased =
+      ap (λ k. with_phases k (phases_next c)) same
+      ∙ ap (with_phases (next_before frame before (before + 1) kind d)) phased
+
+  module _ (last : Constraint) (inside : before < length (constraints_in frame))
+      (is : last ≡ get_or (constraints_in frame) before last) where
+    stretches_are : stretches_in frame (before + 1) ≡ before_last ++ cond (is_stretch last) (last ∷ []) []
+    stretches_are = filter_more is_stretch (constraints_in frame) before last inside
+        ∙ ap (λ x. before_last ++ cond (is_stretch x) (x ∷ []) []) (sym is)
+
+    -- the last constraint has no phase
+    without_phase : is_stretch last ≡ false → (c d : List Sym)
+        → next_before frame before (before + 1) kind c ≡ next_before frame before (before + 1) kind d
+        → phases_next c ≡ phases_next d
+    without_phase none c d same = sym (whole c) ∙ ap (λ k. k.phases) same ∙ whole d
+      where
+        count : length (stretches_in frame (before + 1)) ≡ length before_last
+        count = ap length (stretches_are ∙ ap (λ b. before_last ++ cond b (last ∷ []) []) none
+            ∙ append-nil before_last)
+
+        whole : (column : List Sym) → (next_before frame before (before + 1) kind column).phases ≡ phases_next column
+        whole column = ap (λ n. take n (phases_next column)) (sym count)
+            ∙ take_whole (stretches_in frame (before + 1)) _ column
+
+    -- the last constraint has a phase
+    with_phase : is_stretch last ≡ true → (was_met : Bool)
+        → was_met ≡ is_met_phase (phase_at kind (length before_last))
+        → (c d : List Sym)
+        → opened_by (tiers_in frame).width c ≡ opened_by (tiers_in frame).width d
+        → goes_on last.left last.right was_met c ≡ goes_on last.left last.right was_met d
+        → next_before frame before (before + 1) kind c ≡ next_before frame before (before + 1) kind d
+        → phases_next c ≡ phases_next d
+    with_phase stretch was_met told c d opened alike same =
+        parts c ∙ ap₂ (λ xs p. xs ++ p ∷ []) (sym (front c) ∙ ap (λ k. k.phases) same ∙ front d) last_alike
+        ∙ sym (parts d)
+      where
+        n : ℕ
+        n = length before_last
+
+        count : length (stretches_in frame (before + 1)) ≡ length before_last + 1
+        count =
+            let longer : stretches_in frame (before + 1) ≡ before_last ++ last ∷ []
+            = stretches_are ∙ ap (λ b. before_last ++ cond b (last ∷ []) []) stretch in
+            omega (arith, ap length longer, length_push before_last last)
+
+        parts : (column : List Sym) → phases_next column
+            ≡ phases_after (constraints_in frame) kind before (length before_last) column
+            ++ next_phase last.left last.right (phase_at kind (length before_last)) column ∷ []
+        parts column =
+            ap (λ m. next_phases (stretches_in frame (before + 1)) (phases m kind) column) count
+            ∙ phases_more (constraints_in frame) kind before (length before_last) last column refl inside is stretch
+
+        front : (column : List Sym) → (next_before frame before (before + 1) kind column).phases
+            ≡ phases_after (constraints_in frame) kind before (length before_last) column
+        front column = ap (take (length before_last)) (parts column)
+            ∙ take_front before_last (phases (length before_last) kind) column _
+            (length-map-range_with_len (phase_at kind) 0 (length before_last))
+
+        over : IsOverTiers (tiers_in frame).width last
+        over = over_at frame before last inside is
+
+        last_alike : next_phase last.left last.right (phase_at kind (length before_last)) c
+            ≡ next_phase last.left last.right (phase_at kind (length before_last)) d
+        last_alike = phase_alike (tiers_in frame).width last.left last.right (phase_at kind (length before_last)) c d
+            over.left_below over.right_below opened
+            (subst (λ (b : Bool). goes_on last.left last.right b c ≡ goes_on last.left last.right b d) told alike)
+
+    phased : (b : Bool) → is_stretch last ≡ b → (was_met : Bool)
+        → was_met ≡ is_met_phase (phase_at kind (length before_last)) → (c d : List Sym)
+        → opened_by (tiers_in frame).width c ≡ opened_by (tiers_in frame).width d
+        → goes_on last.left last.right was_met c ≡ goes_on last.left last.right was_met d
+        → next_before frame before (before + 1) kind c ≡ next_before frame before (before + 1) kind d
+        → phases_next c ≡ phases_next d
+    phased true stretch was_met told c d opened alike same = with_phase stretch was_met told c d opened alike same
+    phased false none was_met told c d opened alike same = without_phase none c d same
+
+-- the test of the last constraint parts what the stage before does not
+pub parts_last : (frame : Frame) (before stage : ℕ) (kind : Kind) (last : Constraint) (was_met : Bool)
+    (test : List Sym → Bool) → before + 1 ≡ stage → stage ≤ length (constraints_in frame)
+    → last ≡ get_or (constraints_in frame) before last
+    → was_met ≡ is_met_phase (phase_at kind (length (stretches_in frame before)))
+    → ((column : List Sym) → length column ≡ (tiers_in frame).width
+    → test column ≡ goes_on last.left last.right was_met column)
+    → PartsLast frame before stage kind test
+parts_last frame before stage kind last was_met test next within is told tests =
+    subst (λ (s : ℕ). PartsLast frame before s kind test) next
+    (λ c d fits_c fits_d same alike. same_next frame before kind c d same
+    (phased frame before kind last (omega arith) is (is_stretch last) refl was_met told c d
+    (same_open frame before kind c d fits_c fits_d same)
+    (sym (tests c fits_c.width) ∙ alike ∙ tests d fits_d.width) same))

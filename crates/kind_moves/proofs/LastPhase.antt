@@ -1,44 +1,47 @@
 -- Columns that lead to one kind at the stage before, and pass the test of the last constraint alike,
 -- lead to one kind.
-use Rattle.std.proofs.Common.{◌≡◌, ℕ, zero, suc, ◌+◌, ◌<◌, ◌≤◌, Bool, true, false, cond, List, [], ◌∷◌, ◌++◌, take}
+use Rattle.std.proofs.Common.{◌≡◌, ℕ, zero, suc, ◌+◌, ◌<◌, ◌≤◌, ◌&&◌, ◌||◌, not, Bool, true, false, cond, List, [], ◌∷◌, ◌++◌, take}
 use Rattle.std.proofs.Common.{filter, length, get_or, refl, ap, ap₂, sym, ◌∙◌, subst, arith}
 use Rattle.std.proofs.lemmas.List.{length_push, append-nil}
 use Rattle.std.proofs.lemmas.List.Elements.{filter_more}
-use Rattle.std.proofs.lemmas.List.FromFn.{length-map-range_with_len}
+use Rattle.std.proofs.lemmas.List.FromFn.{length-map-range_with_len, get_or-map-range_with_len}
 use Rattle.tier_core.specs.declared.constraint.Constraint.{Constraint}
 use Rattle.tier_core.specs.declared.kind.Kind.{Kind}
 use Rattle.tier_core.specs.declared.sym.Sym.{Sym}
-use Rattle.tier_core.specs.Kinds.{PrefixKind, Phase, phase_at, phases}
+use Rattle.tier_core.specs.Kinds.{PrefixKind, Phase, closed, phase_at, phases}
+use Rattle.tier_core.specs.Tiers.{has_tier}
 use Rattle.tier_core.specs.Scan.{opens}
 use Rattle.tier_core.specs.Sides.{is_stretch}
 use Rattle.tier_core.specs.Timelines.{symbol}
 use Rattle.violation.specs.Conditions.{IsOverTiers}
 use Rattle.violation.specs.Moves.{is_tier_open, is_met_phase, next_phase, next_phases}
+use Rattle.violation.proofs.KindBits.{met_at}
 use Rattle.violation.proofs.SplitLemmas.{tiers_split}
 use Rattle.kind_moves.specs.declared.frame.Frame.{Frame}
-use Rattle.kind_moves.specs.Frames.{problem_in, tiers_in, constraints_in, stretches_in, FitsAt}
+use Rattle.kind_moves.specs.declared.ask.Ask.TheVariants.{Open, NoInteriorOpen}
+use Rattle.kind_moves.specs.Asks.{answers}
+use Rattle.kind_moves.specs.Frames.{problem_in, tiers_in, constraints_in, stretches_in, kind_at_stage, FitsAt}
 use Rattle.kind_moves.specs.LastMoves.{next_at, next_before, PartsLast}
 use Rattle.kind_moves.specs.Pieces.{opened_by}
 use Rattle.kind_moves.proofs.CostLaws.{over_at}
 use Rattle.kind_moves.proofs.GrammarTiers.{form_from}
 use Rattle.kind_moves.proofs.MoveSteps.{open_next}
-use Rattle.kind_moves.proofs.PhaseAlike.{open_more, phase_alike, goes_on}
+use Rattle.kind_moves.proofs.PhaseAlike.{open_more, phase_alike, met_by_tests, goes_on}
 use Rattle.kind_moves.proofs.PhaseParts.{phases_after, phases_more}
 
--- as many next phases as constraints
-take_whole : (cs : List Constraint) (ps : List Phase) (column : List Sym)
-    → take (length cs) (next_phases cs ps column) ≡ next_phases cs ps column
-take_whole [] ps column = refl
-take_whole (c ∷ cs) [] column = refl
-take_whole (c ∷ cs) (p ∷ ps) column = ap (λ xs. next_phase c.left c.right p column ∷ xs) (take_whole cs ps column)
-
--- and what stands behind them is cut off
+-- what stands behind the next phases is cut off
 take_front : (cs : List Constraint) (ps : List Phase) (column : List Sym) (more : List Phase) → length ps ≡ length cs
     → take (length cs) (next_phases cs ps column ++ more) ≡ next_phases cs ps column
 take_front [] ps column more e = refl
 take_front (c ∷ cs) [] column more e = absurd (omega arith)
 take_front (c ∷ cs) (p ∷ ps) column more e = ap (λ xs. next_phase c.left c.right p column ∷ xs)
     (take_front cs ps column more (omega arith))
+
+pushed_at : (cs : List Constraint) (ps : List Phase) (column : List Sym) (p : Phase) → length ps ≡ length cs
+    → get_or (next_phases cs ps column ++ p ∷ []) (length cs) closed ≡ p
+pushed_at [] ps column p e = refl
+pushed_at (c ∷ cs) [] column p e = absurd (omega arith)
+pushed_at (c ∷ cs) (q ∷ ps) column p e = pushed_at cs ps column p (omega arith)
 
 opened_alike : (c d : List Sym) (n : ℕ) → ((t : ℕ) → t < n → opens (symbol c t) ≡ opens (symbol d t))
     → opened_by n c ≡ opened_by n d
@@ -49,7 +52,7 @@ opened_alike c d (suc n) h =
     (open_more n c d (opened_alike c d n (λ t l. h t (omega arith))) (h n (omega arith)))
 
 -- a kind with other phases
-abbrev with_phases : PrefixKind → List Phase → PrefixKind
+abbrev pub with_phases : PrefixKind → List Phase → PrefixKind
 with_phases k ps = record { place = k.place; opened = k.opened; phases = ps }
 
 module _ (frame : Frame) (before : ℕ) (kind : Kind) where
@@ -84,83 +87,108 @@ module _ (frame : Frame) (before : ℕ) (kind : Kind) where
     stretches_are = filter_more is_stretch (constraints_in frame) before last inside
         ∙ ap (λ x. before_last ++ cond (is_stretch x) (x ∷ []) []) (sym is)
 
-    -- the last constraint has no phase
-    without_phase : is_stretch last ≡ false → (c d : List Sym)
-        → next_before frame before (before + 1) kind c ≡ next_before frame before (before + 1) kind d
-        → phases_next c ≡ phases_next d
-    without_phase none c d same = sym (whole c) ∙ ap (λ k. k.phases) same ∙ whole d
-      where
-        count : length (stretches_in frame (before + 1)) ≡ length before_last
-        count = ap length (stretches_are ∙ ap (λ b. before_last ++ cond b (last ∷ []) []) none
-            ∙ append-nil before_last)
+    count_without : is_stretch last ≡ false → length (stretches_in frame (before + 1)) ≡ length before_last
+    count_without none = ap length (stretches_are ∙ ap (λ b. before_last ++ cond b (last ∷ []) []) none
+        ∙ append-nil before_last)
 
-        whole : (column : List Sym) → (next_before frame before (before + 1) kind column).phases ≡ phases_next column
-        whole column = ap (λ n. take n (phases_next column)) (sym count)
-            ∙ take_whole (stretches_in frame (before + 1)) _ column
+    pub is_last_stretch : (b : Bool) → is_stretch last ≡ b
+        → length (stretches_in frame (before + 1)) ≡ length before_last + 1 → is_stretch last ≡ true
+    is_last_stretch true stretch more = stretch
+    is_last_stretch false none more = absurd (omega (arith, more, count_without none))
 
     -- the last constraint has a phase
-    with_phase : is_stretch last ≡ true → (was_met : Bool)
-        → was_met ≡ is_met_phase (phase_at kind (length before_last))
-        → (c d : List Sym)
-        → opened_by (tiers_in frame).width c ≡ opened_by (tiers_in frame).width d
-        → goes_on last.left last.right was_met c ≡ goes_on last.left last.right was_met d
-        → next_before frame before (before + 1) kind c ≡ next_before frame before (before + 1) kind d
-        → phases_next c ≡ phases_next d
-    with_phase stretch was_met told c d opened alike same =
-        parts c ∙ ap₂ (λ xs p. xs ++ p ∷ []) (sym (front c) ∙ ap (λ k. k.phases) same ∙ front d) last_alike
-        ∙ sym (parts d)
-      where
-        n : ℕ
-        n = length before_last
+    module _ (stretch : is_stretch last ≡ true) where
+      count : length (stretches_in frame (before + 1)) ≡ length before_last + 1
+      count =
+          let longer : stretches_in frame (before + 1) ≡ before_last ++ last ∷ []
+          = stretches_are ∙ ap (λ b. before_last ++ cond b (last ∷ []) []) stretch in
+          omega (arith, ap length longer, length_push before_last last)
 
-        count : length (stretches_in frame (before + 1)) ≡ length before_last + 1
-        count =
-            let longer : stretches_in frame (before + 1) ≡ before_last ++ last ∷ []
-            = stretches_are ∙ ap (λ b. before_last ++ cond b (last ∷ []) []) stretch in
-            omega (arith, ap length longer, length_push before_last last)
+      parts : (column : List Sym) → phases_next column
+          ≡ phases_after (constraints_in frame) kind before (length before_last) column
+          ++ next_phase last.left last.right (phase_at kind (length before_last)) column ∷ []
+      parts column =
+          ap (λ m. next_phases (stretches_in frame (before + 1)) (phases m kind) column) count
+          ∙ phases_more (constraints_in frame) kind before (length before_last) last column refl inside is stretch
 
-        parts : (column : List Sym) → phases_next column
-            ≡ phases_after (constraints_in frame) kind before (length before_last) column
-            ++ next_phase last.left last.right (phase_at kind (length before_last)) column ∷ []
-        parts column =
-            ap (λ m. next_phases (stretches_in frame (before + 1)) (phases m kind) column) count
-            ∙ phases_more (constraints_in frame) kind before (length before_last) last column refl inside is stretch
+      front : (column : List Sym) → (next_before frame before (before + 1) kind column).phases
+          ≡ phases_after (constraints_in frame) kind before (length before_last) column
+      front column = ap (take (length before_last)) (parts column)
+          ∙ take_front before_last (phases (length before_last) kind) column _
+          (length-map-range_with_len (phase_at kind) 0 (length before_last))
 
-        front : (column : List Sym) → (next_before frame before (before + 1) kind column).phases
-            ≡ phases_after (constraints_in frame) kind before (length before_last) column
-        front column = ap (take (length before_last)) (parts column)
-            ∙ take_front before_last (phases (length before_last) kind) column _
-            (length-map-range_with_len (phase_at kind) 0 (length before_last))
+      with_phase : (was_met : Bool) → was_met ≡ is_met_phase (phase_at kind (length before_last)) → (c d : List Sym)
+          → opened_by (tiers_in frame).width c ≡ opened_by (tiers_in frame).width d
+          → goes_on last.left last.right was_met c ≡ goes_on last.left last.right was_met d
+          → next_before frame before (before + 1) kind c ≡ next_before frame before (before + 1) kind d
+          → phases_next c ≡ phases_next d
+      with_phase was_met told c d opened alike same =
+          parts c ∙ ap₂ (λ xs p. xs ++ p ∷ []) (sym (front c) ∙ ap (λ k. k.phases) same ∙ front d) last_alike
+          ∙ sym (parts d)
+        where
+          over : IsOverTiers (tiers_in frame).width last
+          over = over_at frame before last inside is
 
-        over : IsOverTiers (tiers_in frame).width last
-        over = over_at frame before last inside is
+          last_alike : next_phase last.left last.right (phase_at kind (length before_last)) c
+              ≡ next_phase last.left last.right (phase_at kind (length before_last)) d
+          last_alike = phase_alike (tiers_in frame).width last.left last.right (phase_at kind (length before_last)) c d
+              over.left_below over.right_below opened
+              (subst (λ (b : Bool). goes_on last.left last.right b c ≡ goes_on last.left last.right b d) told alike)
 
-        last_alike : next_phase last.left last.right (phase_at kind (length before_last)) c
-            ≡ next_phase last.left last.right (phase_at kind (length before_last)) d
-        last_alike = phase_alike (tiers_in frame).width last.left last.right (phase_at kind (length before_last)) c d
-            over.left_below over.right_below opened
-            (subst (λ (b : Bool). goes_on last.left last.right b c ≡ goes_on last.left last.right b d) told alike)
+      -- the last phase after a column is the one that a next kind has
+      last_told : (column : List Sym) (next : Kind)
+          → kind_at_stage frame (before + 1) next ≡ next_at frame (before + 1) kind column
+          → phase_at next (length before_last)
+          ≡ next_phase last.left last.right (phase_at kind (length before_last)) column
+      last_told column next leads =
+          let n = length before_last in
+          let m = length (stretches_in frame (before + 1)) in
+          sym (get_or-map-range_with_len (phase_at next) 0 m n n closed (omega (arith, count)) (omega arith))
+          ∙ ap (λ k. get_or k.phases n closed) leads
+          ∙ ap (λ xs. get_or xs n closed) (parts column)
+          ∙ pushed_at before_last (phases n kind) column _ (length-map-range_with_len (phase_at kind) 0 n)
 
-    phased : (b : Bool) → is_stretch last ≡ b → (was_met : Bool)
-        → was_met ≡ is_met_phase (phase_at kind (length before_last)) → (c d : List Sym)
-        → opened_by (tiers_in frame).width c ≡ opened_by (tiers_in frame).width d
-        → goes_on last.left last.right was_met c ≡ goes_on last.left last.right was_met d
-        → next_before frame before (before + 1) kind c ≡ next_before frame before (before + 1) kind d
-        → phases_next c ≡ phases_next d
-    phased true stretch was_met told c d opened alike same = with_phase stretch was_met told c d opened alike same
-    phased false none was_met told c d opened alike same = without_phase none c d same
+      pub met_after : (was_met : Bool) → was_met ≡ is_met_phase (phase_at kind (length before_last))
+          → (column : List Sym) (next : Kind)
+          → kind_at_stage frame (before + 1) next ≡ next_at frame (before + 1) kind column
+          → has_tier next.met (length before_last)
+          ≡ ((answers Open last.left column && not (answers NoInteriorOpen last.right column))
+          || goes_on last.left last.right was_met column)
+      met_after was_met told column next leads =
+          met_at next (length before_last)
+          ∙ ap is_met_phase (last_told column next leads)
+          ∙ met_by_tests last.left last.right (phase_at kind (length before_last)) column
+          ∙ ap (λ b. (answers Open last.left column && not (answers NoInteriorOpen last.right column))
+          || goes_on last.left last.right b column) (sym told)
 
--- the test of the last constraint parts what the stage before does not
-pub parts_last : (frame : Frame) (before stage : ℕ) (kind : Kind) (last : Constraint) (was_met : Bool)
-    (test : List Sym → Bool) → before + 1 ≡ stage → stage ≤ length (constraints_in frame)
-    → last ≡ get_or (constraints_in frame) before last
-    → was_met ≡ is_met_phase (phase_at kind (length (stretches_in frame before)))
-    → ((column : List Sym) → length column ≡ (tiers_in frame).width
-    → test column ≡ goes_on last.left last.right was_met column)
-    → PartsLast frame before stage kind test
-parts_last frame before stage kind last was_met test next within is told tests =
-    subst (λ (s : ℕ). PartsLast frame before s kind test) next
-    (λ c d fits_c fits_d same alike. same_next frame before kind c d same
-    (phased frame before kind last (omega arith) is (is_stretch last) refl was_met told c d
-    (same_open frame before kind c d fits_c fits_d same)
-    (sym (tests c fits_c.width) ∙ alike ∙ tests d fits_d.width) same))
+-- the tests of the last constraint, which has a phase
+module _ (frame : Frame) (before stage : ℕ) (kind : Kind) (last : Constraint) (was_met : Bool)
+    (next : before + 1 ≡ stage) (within : stage ≤ length (constraints_in frame))
+    (phase : length (stretches_in frame stage) ≡ length (stretches_in frame before) + 1)
+    (is : last ≡ get_or (constraints_in frame) before last)
+    (told : was_met ≡ is_met_phase (phase_at kind (length (stretches_in frame before)))) where
+  inside : before < length (constraints_in frame)
+  inside = omega arith
+
+  stretch : is_stretch last ≡ true
+  stretch = is_last_stretch frame before kind last inside is (is_stretch last) refl
+      (subst (λ (s : ℕ). length (stretches_in frame s) ≡ length (stretches_in frame before) + 1) (sym next) phase)
+
+  -- the one parts what the stage before does not
+  pub parts_last : (test : List Sym → Bool) → ((column : List Sym) → length column ≡ (tiers_in frame).width
+      → test column ≡ goes_on last.left last.right was_met column) → PartsLast frame before stage kind test
+  parts_last test tests =
+      subst (λ (s : ℕ). PartsLast frame before s kind test) next
+      (λ c d fits_c fits_d same alike. same_next frame before kind c d same
+      (with_phase frame before kind last inside is stretch was_met told c d
+      (same_open frame before kind c d fits_c fits_d same)
+      (sym (tests c fits_c.width) ∙ alike ∙ tests d fits_d.width) same))
+
+  -- and both tell whether the phase is met
+  pub met_last : (column : List Sym) (other : Kind) → kind_at_stage frame stage other ≡ next_at frame stage kind column
+      → has_tier other.met (length (stretches_in frame before))
+      ≡ ((answers Open last.left column && not (answers NoInteriorOpen last.right column))
+      || goes_on last.left last.right was_met column)
+  met_last column other leads =
+      met_after frame before kind last inside is stretch was_met told column other
+      (subst (λ (s : ℕ). kind_at_stage frame s other ≡ next_at frame s kind column) (sym next) leads)

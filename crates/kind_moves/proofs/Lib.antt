@@ -16,3 +16,4 @@ pub mod StretchCounts
 pub mod LeavingSteps
 pub mod LeavingPieces
 pub mod LastPhase
+pub mod SameLast

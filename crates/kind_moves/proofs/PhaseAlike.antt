@@ -109,6 +109,30 @@ phase_is left right phase column =
     ∙ ap (λ t. cond (opens_all left column) (cond (list_any (opens_interior column) right || t) met unmet) closed)
     (sym (test_is left right (is_met_phase phase) column))
 
+-- when the next phase is met
+met_is : (all some edge held : Bool)
+    → is_met_phase (cond all (cond (some || (((all && not some) && edge) && held)) met unmet) closed)
+    ≡ ((all && not (not some)) || (((all && not some) && edge) && held))
+met_is false some edge held = refl
+met_is true true edge held = refl
+met_is true false true true = refl
+met_is true false true false = refl
+met_is true false false held = refl
+
+pub met_by_tests : (left right : List Event) (phase : Phase) (column : List Sym)
+    → is_met_phase (next_phase left right phase column)
+    ≡ ((answers Open left column && not (answers NoInteriorOpen right column))
+    || goes_on left right (is_met_phase phase) column)
+met_by_tests left right phase column =
+    let all = opens_all left column in
+    let some = list_any (opens_interior column) right in
+    let test = test_is left right (is_met_phase phase) column in
+    ap is_met_phase (phase_is left right phase column)
+    ∙ ap (λ t. is_met_phase (cond all (cond (some || t) met unmet) closed)) test
+    ∙ met_is all some (not (edge_among left column))
+    (is_met_phase phase || list_any (edge_present column) right)
+    ∙ sym (ap₂ (λ a b. (all && not a) || b) (none_pass (opens_interior column) right) test)
+
 pub phase_alike : (width : ℕ) (left right : List Event) (phase : Phase) (c d : List Sym) → AreTiersBelow width left
     → AreTiersBelow width right
     → opened_by width c ≡ opened_by width d → goes_on left right (is_met_phase phase) c

@@ -1,9 +1,9 @@
 use crate::frame::Frame;
 use crate::last_tests::LastTests;
-use crate::move_tests::goes_on_met;
+use crate::move_tests::{goes_on_met, opens_met};
 use crate::piece::Piece;
 use std::alloc::Global;
-use symbol_class::{Difference, part};
+use symbol_class::part;
 use tier_core::{Class, Kind, NoMemory, has_bit};
 
 impl<'a> Frame<'a> {
@@ -12,36 +12,35 @@ impl<'a> Frame<'a> {
     ghost use Rattle.tier_core.specs.Classes.{sets_of, has};
     ghost use Rattle.tier_core.specs.Filled.{is_filled};
     ghost use Rattle.symbol_class.specs.Held.{some_has, ArePieces};
-    ghost use Rattle.symbol_class.specs.Parts.{differs, IsAlike, ArePartedBy};
-    ghost use Rattle.kind_moves.specs.Frames.{tiers_in, constraints_in, FitsAt, FitsFrame};
+    ghost use Rattle.symbol_class.specs.Parts.{IsAlike, ArePartedBy};
+    ghost use Rattle.kind_moves.specs.Frames.{tiers_in, constraints_in, stretches_in, FitsAt, FitsFrame};
     ghost use Rattle.kind_moves.specs.Pieces.{piece_classes, IsPiece};
-    ghost use Rattle.kind_moves.specs.LastMoves.{next_before, tested, PartsLast, AreLastTests};
+    ghost use Rattle.kind_moves.specs.LastMoves.{next_before, tested, AreLastTests};
 
-    /// The test of the phase that a stage tells beyond the stage before.
-    fn last_met(&self, before: u32, stage: u32, kind: &Kind) -> Difference
-        requires next { before + 1 ≡ stage }
-        requires stage { stage ≤ length (constraints_in self.now) }
-        ensures width { length (sets_of result.within) ≡ (tiers_in self.now).width }
-        ensures parts { PartsLast self.now before stage kind.now (differs result) }
-    {
-        let width = self.grammar.tiers.kinds.len() as u32;
-        let number = before as usize;
-        let constraints = self.grammar.constraints.as_slice();
-        let was_met = has_bit(kind.met, self.stretch_count(before));
-        goes_on_met(width, &constraints[number], was_met)
-    }
-
-    /// The tests of the last of the first `stage` constraints at a kind. `before` is the stage
-    /// before.
+    /// The tests of the last of the first `stage` constraints at a kind, if it is a stretch
+    /// implication. `before` is the stage before.
     pub fn last_tests(&self, before: u32, stage: u32, kind: &Kind) -> LastTests
         requires next { before + 1 ≡ stage }
         requires stage { stage ≤ length (constraints_in self.now) }
         requires fits { FitsFrame self.now stage kind.now }
+        requires phase { length (stretches_in self.now stage)
+            ≡ length (stretches_in self.now before) + 1 }
         ensures { AreLastTests self.now before stage kind.now result }
     {
+        let width = self.grammar.tiers.kinds.len() as u32;
+        let number = before as usize;
+        let constraints = self.grammar.constraints.as_slice();
+        let bit = self.stretch_count(before);
+        let was_met = has_bit(kind.met, bit);
+        let last = &constraints[number];
+        let begun = opens_met(width, last);
+        let met = goes_on_met(width, last, was_met);
+        let cost = self.cost_test(stage, stage, kind);
         LastTests {
-            met: self.last_met(before, stage, kind),
-            cost: self.cost_test(stage, stage, kind),
+            bit,
+            begun,
+            met,
+            cost,
         }
     }
 

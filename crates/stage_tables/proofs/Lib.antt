@@ -16,3 +16,4 @@ mod SameWords
 mod WeighedMoves
 mod WeighedTables
 pub mod LeftBefore
+pub mod AtHand

@@ -23,6 +23,16 @@ use weight_law::{Count, UnitWeight};
 impl Exploring<'_> {
     ghost use Rattle.std.specs.Prelude.{◌<◌};
 
+    /// The place of the last phase's bit in kinds, if the kept table is what the stage before has
+    /// left.
+    fn bit(&self) -> u32 {
+        if self.before < self.stage {
+            self.frame.stretch_count(self.before)
+        } else {
+            0
+        }
+    }
+
     /// The start, listed over state 0.
     fn start(&self, alloc: Global) -> Result<Listed, ExploreErr>
         requires budget { 1 ≤ self.now.budget }
@@ -33,9 +43,14 @@ impl Exploring<'_> {
         let Ok(recent) = vec![in alloc; 0; ROOM] else {
             return Err(ExploreErr::NoMemory);
         };
+        let Ok(over) = vec![in alloc; 0; 2 * self.kept.len() as usize] else {
+            return Err(ExploreErr::NoMemory);
+        };
         let mut listed = Listed {
             kinds: IndexMap::new(alloc),
             recent,
+            over,
+            bit: self.bit(),
         };
         let _start = number_of(&mut listed, self.frame.start(), 0, self.budget)?;
         Ok(listed)

@@ -96,8 +96,8 @@ impl Exploring<'_> {
         Ok(pieces)
     }
 
-    /// The tests of the last constraint at a kind, if the kept table is what the stage before has
-    /// left.
+    /// The tests of the last constraint at a kind, if it is a stretch implication and the kept table
+    /// is what the stage before has left.
     pub fn tests(&self, kind: &Kind) -> Option<LastTests>
         requires fits { FitsFrame self.now.frame.now self.now.stage kind.now }
         ensures { AreTestsAt self.now kind.now result }
@@ -106,6 +106,9 @@ impl Exploring<'_> {
             return None;
         }
         if self.stage - self.before > 1 {
+            return None;
+        }
+        if self.frame.stretch_count(self.stage) != self.frame.stretch_count(self.before) + 1 {
             return None;
         }
         Some(self.frame.last_tests(self.before, self.stage, kind))

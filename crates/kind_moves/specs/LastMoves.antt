@@ -39,7 +39,8 @@ pub record AreLastTests (frame : Frame) (before stage : ℕ) (kind : Kind) (test
   pub few : tests.bit ≤ 24
   pub met_after : (column : List Sym) (next : Kind) → FitsAt frame stage kind column
       → kind_at_stage frame stage next ≡ next_at frame stage kind column
-      → has_tier next.met (length (stretches_in frame before)) ≡ (differs tests.begun column || differs tests.met column)
+      → has_tier next.met (length (stretches_in frame before))
+      ≡ (differs tests.begun column || differs tests.met column)
   pub costs : (column : List Sym) → length column ≡ (tiers_in frame).width
       → cost_under frame stage stage kind column ≡ once_if (differs tests.cost column)
 

@@ -1,5 +1,6 @@
 -- A kept move that is taken whole, to a kind that is at hand.
-use Rattle.std.proofs.Common.{◌≡◌, ℕ, ◌+◌, ◌≤◌, ◌||◌, Bool, List, [], ◌∷◌, ◌++◌, length, refl, ap, sym, ◌∙◌, subst, arith}
+use Rattle.std.proofs.Common.{◌≡◌, ℕ, ◌+◌, ◌≤◌, ◌||◌, Bool, List, [], ◌∷◌, ◌++◌, length}
+use Rattle.std.proofs.Common.{refl, ap, sym, ◌∙◌, subst, arith}
 use Rattle.std.proofs.Common.{Contains, IsTrue}
 use Rattle.std.proofs.lemmas.List.Elements.{All-nil, All-push}
 use Rattle.weight_law.specs.declared.Weight.{Ghosts}
@@ -56,7 +57,8 @@ module _ {g : Ghosts UnitWeight} (exploring : Exploring) (next : exploring.befor
       let before = exploring.before in
       let stage = exploring.stage in
       let reached = found.reached here.0 kind s here.1 in
-      let fits = move_fits frame before stage further exploring.within kept table kind s reached arc listed column held in
+      let fits = move_fits frame before stage further exploring.within kept table kind s reached arc listed column
+      held in
       let step = some_move frame stage kind column (found.stands here.0 kind s here.1).fits fits in
       let cut_target = cut_named frame before stage further exploring.within kept table.0 table.1 target arc.target
       (found.reached number target arc.target at) in

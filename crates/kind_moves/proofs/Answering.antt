@@ -1,15 +1,12 @@
 -- What columns answer, in the words that tell what a constraint counts.
 use Rattle.std.proofs.Common.{◌≡◌, Bool, true, not, ◌&&◌, List, [], ◌∷◌, ◌++◌, refl, ap, sym, ◌∙◌}
-use Rattle.std.specs.List.{list_all, list_any}
 use Rattle.std.proofs.lemmas.List.Folds.{list_all-append}
-use Rattle.tier_core.specs.declared.sym.Sym.{Sym}
-use Rattle.tier_core.specs.declared.event.Event.{Event}
-use Rattle.tier_core.specs.Timelines.{symbol, is_edge}
+use Rattle.std.specs.List.{list_all, list_any}
+use Rattle.tier_core.specs.{declared.sym.Sym.Sym, declared.event.Event.Event, Timelines.{symbol, is_edge}}
 use Rattle.tier_core.specs.Sides.{edge_among}
 use Rattle.tier_core.proofs.Bools.{not_not, none_of}
 use Rattle.violation.specs.Columns.{is_present}
-use Rattle.kind_moves.specs.declared.ask.Ask.TheVariants.{Present, Absent, NoEdge}
-use Rattle.kind_moves.specs.Asks.{answers}
+use Rattle.kind_moves.specs.{declared.ask.Ask.TheVariants.{Present, Absent, NoEdge}, Asks.answers}
 
 pub none_pass : {X : Type 0} (p : X → Bool) (xs : List X) → list_all (λ x. not (p x)) xs ≡ not (list_any p xs)
 none_pass p [] = refl

@@ -1,14 +1,9 @@
 -- The sets that have every symbol, and those that have none.
-use Rattle.std.proofs.Common.{◌≡◌, ℕ, ◌<◌, ◌≤◌, ◌==◌, ◌&&◌, true, false, List, [], ◌∷◌, set, take, length, get_or, refl}
-use Rattle.std.proofs.Common.{ap, sym, ◌∙◌, arith}
-use Rattle.std.proofs.lemmas.Bool.{agree_below_at, eqb-true}
+use Rattle.std.proofs.Common.{◌≡◌, ℕ, ◌<◌, ◌≤◌, ◌==◌, ◌&&◌, true, false, List, [], ◌∷◌, set, take, length, get_or}
+use Rattle.std.proofs.{Common.{refl, ap, sym, ◌∙◌, arith}, lemmas.Bool.{agree_below_at, eqb-true}}
 use Rattle.std.proofs.lemmas.List.{length-take-le, get_or-take}
-use Rattle.tier_core.specs.declared.sym.Sym.{Sym}
-use Rattle.tier_core.specs.Classes.{sets_have}
-use Rattle.tier_core.specs.Sets.{is_in}
-use Rattle.tier_core.specs.Timelines.{symbol}
-use Rattle.tier_core.proofs.ClassLemmas.{have_each}
-use Rattle.tier_core.proofs.KnownSets.{in_all, in_none}
+use Rattle.tier_core.specs.{declared.sym.Sym.Sym, Classes.sets_have, Sets.is_in, Timelines.symbol}
+use Rattle.tier_core.proofs.{ClassLemmas.have_each, KnownSets.{in_all, in_none}}
 
 pub full_have : (sets : List ℕ) (column : List Sym) → length column ≡ length sets
     → ((t : ℕ) → t < length sets → get_or sets t 0 ≡ 31) → sets_have sets column ≡ true

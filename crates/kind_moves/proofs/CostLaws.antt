@@ -1,35 +1,24 @@
 -- What the moves of a frame cost in all.
-use Rattle.std.proofs.Common.{◌≡◌, ◌++◌, ◌+◌, ◌<◌, ◌≤◌, ◌^◌, ℕ, zero, suc, Bool, cond, List, [], ◌∷◌, map, filter, take}
-use Rattle.std.proofs.Common.{drop, length, get_or, refl, sym, ap, ◌∙◌, subst, arith, append-nil, append_assoc}
-use Rattle.std.proofs.Common.{length-take}
-use Rattle.std.specs.List.{AllByRecursion}
-use Rattle.std.proofs.lemmas.List.{length_push, get_or-take}
+use Rattle.std.proofs.Common.{◌≡◌, ◌++◌, ◌+◌, ◌<◌, ◌≤◌, ◌^◌, ℕ, zero, suc, Bool, cond, List, [], ◌∷◌, map, filter}
+use Rattle.std.proofs.Common.{take, drop, length, get_or, refl, sym, ap, ◌∙◌, subst, arith, append-nil}
+use Rattle.std.proofs.{Common.{append_assoc, length-take}, lemmas.List.{length_push, get_or-take}}
 use Rattle.std.proofs.lemmas.List.Elements.{All-from_recursion}
-use Rattle.tier_core.specs.declared.kind.Kind.{Kind}
-use Rattle.tier_core.specs.declared.sym.Sym.{Sym}
-use Rattle.tier_core.specs.declared.constraint.Constraint.{Constraint}
-use Rattle.tier_core.specs.Kinds.{Phase}
-use Rattle.tier_core.specs.Tiers.{has_tier}
-use Rattle.tier_core.specs.Sides.{is_stretch}
+use Rattle.std.specs.List.{AllByRecursion}
+use Rattle.tier_core.specs.{declared.kind.Kind.Kind, declared.sym.Sym.Sym, declared.constraint.Constraint.Constraint}
+use Rattle.tier_core.specs.{Kinds.Phase, Tiers.has_tier, Sides.is_stretch}
 use Rattle.tier_core.proofs.CountLemmas.{all_of}
 use Rattle.grammar_reader.proofs.OverTiers.{over_tiers}
-use Rattle.violation.specs.Candidates.{IsForm, IsCandidate, counts_on}
-use Rattle.violation.specs.Conditions.{AreSplit, IsOverTiers}
+use Rattle.violation.specs.{Candidates.{IsForm, IsCandidate, counts_on}, Conditions.{AreSplit, IsOverTiers}}
 use Rattle.violation.specs.Counts.{violations_so_far}
 use Rattle.violation.specs.Moves.{costs, first_phase, is_tier_open, is_unmet_phase, move_costs, next_kind}
-use Rattle.violation.specs.Prefixes.{kind_of, stretches}
-use Rattle.violation.specs.Walks.{walk_costs, add_each}
-use Rattle.violation.proofs.CostLemmas.{costs_agree, add_assoc_each, length_walk, move_adds, costs_sum, add_none}
-use Rattle.violation.proofs.SplitLemmas.{tiers_split}
-use Rattle.violation.proofs.TierLemmas.{map_agree}
-use Rattle.violation.proofs.WalkLemmas.{moved_is}
-use Rattle.violation.proofs.WholeCounts.{so_far_none}
-use Rattle.kind_moves.specs.declared.frame.Frame.{Frame}
-use Rattle.kind_moves.specs.Frames.{tiers_in, constraints_in, form_in, stretches_in, kind_at_stage, IsStart}
-use Rattle.kind_moves.proofs.GrammarTiers.{over_stretches, form_from}
-use Rattle.violation.proofs.ConstraintCosts.{unmet_told, cost_at}
+use Rattle.violation.specs.{Prefixes.{kind_of, stretches}, Walks.{walk_costs, add_each}}
 use Rattle.violation.specs.Problems.{Problem, last_stage}
-use Rattle.kind_moves.specs.Frames.{problem_in}
+use Rattle.violation.proofs.CostLemmas.{costs_agree, add_assoc_each, length_walk, move_adds, costs_sum, add_none}
+use Rattle.violation.proofs.{SplitLemmas.tiers_split, TierLemmas.map_agree, WalkLemmas.moved_is}
+use Rattle.violation.proofs.{WholeCounts.so_far_none, ConstraintCosts.{unmet_told, cost_at}}
+use Rattle.kind_moves.specs.{declared.frame.Frame.Frame, Frames.{tiers_in, constraints_in, form_in, stretches_in}}
+use Rattle.kind_moves.specs.Frames.{kind_at_stage, IsStart, problem_in}
+use Rattle.kind_moves.proofs.GrammarTiers.{over_stretches, form_from}
 
 all_taken : {X : Type 0} (P : X → Type 0) (xs : List X) (n : ℕ) → AllByRecursion P xs → AllByRecursion P (take n xs)
 all_taken P xs zero h = tt

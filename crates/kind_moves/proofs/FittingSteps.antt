@@ -1,31 +1,23 @@
 -- The pieces of a class that fit a kind.
 use Rattle.std.proofs.Common.{◌≡◌, ◌↔◌, ◌⊎◌, ℕ, ◌+◌, ◌<◌, Bool, true, false, not, ◌&&◌, ◌||◌, IsTrue, List, [], ◌∷◌}
 use Rattle.std.proofs.Common.{◌++◌, map, length, refl, ap, sym, ◌∙◌, subst, arith, ⊎_elim, inl, inr, All}
-use Rattle.std.specs.List.{AllByRecursion}
-use Rattle.std.proofs.lemmas.Bool.{false≢true, both_ways, and_parts, and_from, or_cases, or_left, or_right, and_right}
-use Rattle.std.proofs.lemmas.Bool.{not-true, false_from_ne_true, cases_Bool}
+use Rattle.std.proofs.lemmas.Bool.{false≢true, both_ways, and_parts, and_from, or_cases, or_left, or_right}
+use Rattle.std.proofs.lemmas.Bool.{and_right, not-true, false_from_ne_true, cases_Bool}
 use Rattle.std.proofs.lemmas.List.Elements.{All-from_recursion}
-use Rattle.tier_core.specs.declared.class.Class.{Class}
-use Rattle.tier_core.specs.declared.kind.Kind.{Kind}
-use Rattle.tier_core.specs.declared.sym.Sym.{Sym}
-use Rattle.tier_core.specs.Classes.{sets_of, has}
-use Rattle.tier_core.specs.Scan.{fits}
-use Rattle.tier_core.specs.Timelines.{symbol, column_at, is_edge, has_edge}
-use Rattle.tier_core.specs.declared.tier.TierKind.{TierKind}
-use Rattle.tier_core.specs.Tiers.{has_tier, is_input, numbers_from}
-use Rattle.tier_core.proofs.ClassLemmas.{same_width}
+use Rattle.std.specs.List.{AllByRecursion}
+use Rattle.tier_core.specs.{declared.class.Class.Class, declared.kind.Kind.Kind, declared.sym.Sym.Sym}
+use Rattle.tier_core.specs.{Classes.{sets_of, has}, Scan.fits, Timelines.{symbol, column_at, is_edge, has_edge}}
+use Rattle.tier_core.specs.{declared.tier.TierKind.TierKind, Tiers.{has_tier, is_input, numbers_from}}
 use Rattle.tier_core.specs.Filled.{is_filled}
-use Rattle.symbol_class.specs.Held.{once_if, times_held, AddsClasses}
-use Rattle.tier_core.proofs.Filled.{empty_holds}
+use Rattle.tier_core.proofs.{ClassLemmas.same_width, Filled.empty_holds}
 use Rattle.tier_core.proofs.EdgeLemmas.{none_edge, each_edgeless, edge_on}
-use Rattle.symbol_class.specs.Parts.{AddsAlike}
+use Rattle.symbol_class.specs.{Held.{once_if, times_held, AddsClasses}, Parts.AddsAlike}
 use Rattle.symbol_class.proofs.PartSteps.{adds_constant, alike_then}
 use Rattle.symbol_class.proofs.Times.{adds_none, adds_same, times-cons, pieces_added, columns_added}
 use Rattle.symbol_class.proofs.Once.{either_once}
 use Rattle.violation.specs.Moves.{input_of, is_tier_open}
 use Rattle.violation.proofs.SplitLemmas.{tiers_split}
-use Rattle.kind_moves.specs.declared.frame.Frame.{Frame}
-use Rattle.kind_moves.specs.Fitting.{AreFitting, IsReadAlike}
+use Rattle.kind_moves.specs.{declared.frame.Frame.Frame, Fitting.{AreFitting, IsReadAlike}}
 use Rattle.kind_moves.specs.Frames.{problem_in, tiers_in, form_in, kind_at_stage, FitsAt}
 
 -- ---- one class without another

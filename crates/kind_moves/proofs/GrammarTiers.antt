@@ -1,19 +1,13 @@
 -- What the types of grammars and frames tell.
-use Rattle.std.proofs.Common.{◌≡◌, ℕ, true, false, IsTrue, filter, take, length, get_or}
-use Rattle.std.proofs.Math.Logic.{∥∥₁_elim}
+use Rattle.std.proofs.{Common.{◌≡◌, ℕ, true, false, IsTrue, filter, take, length, get_or}, Math.Logic.∥∥₁_elim}
+use Rattle.std.proofs.{lemmas.List.Elements.{All-from_recursion, recursion_from_All}, Props.props}
 use Rattle.std.specs.List.{AllByRecursion}
-use Rattle.std.proofs.lemmas.List.Elements.{All-from_recursion, recursion_from_All}
-use Rattle.std.proofs.Props.{props}
-use Rattle.tier_core.specs.Timelines.{tier_word, has_edge}
-use Rattle.tier_core.specs.Sides.{is_stretch}
-use Rattle.tier_core.proofs.WordLemmas.{runs}
-use Rattle.tier_core.proofs.WordForm.{runs_from_well_formed, well_formed_from_runs}
+use Rattle.tier_core.specs.{Timelines.{tier_word, has_edge}, Sides.is_stretch}
+use Rattle.tier_core.proofs.{WordLemmas.runs, WordForm.{runs_from_well_formed, well_formed_from_runs}}
 use Rattle.tier_core.proofs.Members.{all_first}
-use Rattle.violation.specs.Candidates.{IsForm}
-use Rattle.violation.specs.Conditions.{IsOverTiers}
+use Rattle.violation.specs.{Candidates.IsForm, Conditions.IsOverTiers, Problems.Problem}
 use Rattle.grammar_reader.specs.declared.grammar.Grammar.{Grammar}
 use Rattle.grammar_reader.proofs.OverTiers.{over_tiers}
-use Rattle.violation.specs.Problems.{Problem}
 
 pub over_stretches : (g : Grammar) (stage : ℕ) → AllByRecursion (IsOverTiers (length g.tiers.kinds.items))
     (filter is_stretch (take stage g.constraints.items))

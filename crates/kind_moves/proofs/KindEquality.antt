@@ -2,8 +2,7 @@
 use Rattle.std.proofs.Common.{◌≡◌, ℕ, length, refl, sym}
 use Rattle.tier_core.specs.declared.kind.Kind.{Kind}
 use Rattle.violation.proofs.KindBits.{one_told}
-use Rattle.kind_moves.specs.declared.frame.Frame.{Frame}
-use Rattle.kind_moves.specs.Frames.{tiers_in, stretches_in, kind_at_stage, FitsFrame}
+use Rattle.kind_moves.specs.{declared.frame.Frame.Frame, Frames.{tiers_in, stretches_in, kind_at_stage, FitsFrame}}
 
 pub same_told : (frame : Frame) (stage : ℕ) (k l : Kind) → FitsFrame frame stage k → FitsFrame frame stage l
     → kind_at_stage frame stage k ≡ kind_at_stage frame stage l → k ≡ l

@@ -1,37 +1,22 @@
 -- Moves of a frame are those of candidates.
 use Rattle.std.proofs.Common.{◌≡◌, ◌↔◌, ℕ, ◌+◌, ◌^◌, ◌<◌, ◌≤◌, ◌==◌, suc, Bool, true, false, cond, IsTrue, List, []}
-use Rattle.std.proofs.Common.{◌∷◌, map, length, refl, ap, sym, ◌∙◌, subst, arith, ⊎_elim}
+use Rattle.std.proofs.{Common.{◌∷◌, map, length, refl, ap, sym, ◌∙◌, subst, arith, ⊎_elim}, lemmas.Bool.false≢true}
+use Rattle.std.proofs.{lemmas.List.length-map, lemmas.Nat.pow_pos, lemmas.Nat.Bits.bit_at-zero}
 use Rattle.std.specs.List.{range_with_len, AllByRecursion}
-use Rattle.std.proofs.lemmas.Bool.{false≢true}
-use Rattle.std.proofs.lemmas.List.{length-map}
-use Rattle.std.proofs.lemmas.Nat.{pow_pos}
-use Rattle.std.proofs.lemmas.Nat.Bits.{bit_at-zero}
-use Rattle.tier_core.specs.declared.kind.Kind.{Kind}
-use Rattle.tier_core.specs.declared.sym.Sym.{Sym}
-use Rattle.tier_core.specs.declared.constraint.Constraint.{Constraint}
+use Rattle.tier_core.specs.{declared.kind.Kind.Kind, declared.sym.Sym.Sym, declared.constraint.Constraint.Constraint}
 use Rattle.tier_core.specs.Kinds.{Phase, closed, PrefixKind, phase_by_bits, open_tiers, phases, AreStretchesBelow}
-use Rattle.tier_core.specs.Scan.{opens}
-use Rattle.tier_core.specs.Timelines.{symbol, has_edge}
-use Rattle.tier_core.specs.Tiers.{has_tier}
-use Rattle.violation.specs.Candidates.{IsForm, IsCandidate}
-use Rattle.violation.specs.Conditions.{AreSplit, IsOverTiers}
-use Rattle.violation.specs.Moves.{FitsKind, input_of, is_final, next_kind, next_phases}
-use Rattle.violation.specs.Prefixes.{kind_of, phase}
+use Rattle.tier_core.specs.{Scan.opens, Timelines.{symbol, has_edge}, Tiers.has_tier, PhaseBits.phases_by}
+use Rattle.violation.specs.{Candidates.{IsForm, IsCandidate}, Conditions.{AreSplit, IsOverTiers}}
+use Rattle.violation.specs.{Moves.{FitsKind, input_of, is_final, next_kind, next_phases}, Prefixes.{kind_of, phase}}
 use Rattle.violation.specs.Walks.{HasMoves, walk_end, BeginsCandidate}
-use Rattle.violation.proofs.PrefixLemmas.{nothing_begun, tier_open_is}
-use Rattle.violation.proofs.SplitLemmas.{tiers_split}
-use Rattle.tier_core.proofs.KindTies.{same_parts}
-use Rattle.violation.proofs.WalkLemmas.{moves_begin, moves_end, reached_is}
-use Rattle.kind_moves.specs.declared.frame.Frame.{Frame}
-use Rattle.kind_moves.specs.Frames.{tiers_in, form_in, stretches_in, kind_at_stage, is_left_open, AreClosedOr, FitsAt}
-use Rattle.kind_moves.specs.Frames.{FitsFrame, IsMove, IsStart}
-use Rattle.kind_moves.specs.Laws.{LeadsTo}
-use Rattle.tier_core.specs.PhaseBits.{phases_by}
-use Rattle.kind_moves.proofs.GrammarTiers.{over_stretches, form_from}
-use Rattle.violation.proofs.KindBits.{AreBitsOf, kind_for}
+use Rattle.violation.proofs.{PrefixLemmas.{nothing_begun, tier_open_is}, SplitLemmas.tiers_split}
+use Rattle.violation.proofs.{WalkLemmas.{moves_begin, moves_end, reached_is}, KindBits.{AreBitsOf, kind_for}}
 use Rattle.violation.proofs.ClosedPhases.{closed_first}
-use Rattle.kind_moves.proofs.MoveSteps.{phases_next, phases_first}
-use Rattle.kind_moves.specs.Frames.{problem_in}
+use Rattle.tier_core.proofs.KindTies.{same_parts}
+use Rattle.kind_moves.specs.{declared.frame.Frame.Frame, Frames.{tiers_in, form_in, stretches_in, kind_at_stage}}
+use Rattle.kind_moves.specs.Frames.{is_left_open, AreClosedOr, FitsAt, FitsFrame, IsMove, IsStart, problem_in}
+use Rattle.kind_moves.specs.Laws.{LeadsTo}
+use Rattle.kind_moves.proofs.{GrammarTiers.{over_stretches, form_from}, MoveSteps.{phases_next, phases_first}}
 
 none_open : {X : Type 0} (j : ℕ) (xs : List X) → map (has_tier 0) (range_with_len j (length xs)) ≡ map (λ x. false) xs
 none_open j [] = refl

@@ -1,29 +1,21 @@
 -- Pieces by the free tiers that their columns leave open.
-use Rattle.std.proofs.Common.{◌≡◌, ◌↔◌, ℕ, ◌+◌, ◌^◌, ◌<◌, ◌≤◌, nat_lt, Bool, true, false, not, ◌&&◌, cond, IsTrue, List}
-use Rattle.std.proofs.Common.{[], ◌∷◌, ◌++◌, map, length, get_or, refl, ap, ap₂, sym, ◌∙◌, subst, arith, ⊎_elim}
-use Rattle.std.proofs.Common.{append_assoc, All}
+use Rattle.std.proofs.Common.{◌≡◌, ◌↔◌, ℕ, ◌+◌, ◌^◌, ◌<◌, ◌≤◌, nat_lt, Bool, true, false, not, ◌&&◌, cond, IsTrue}
+use Rattle.std.proofs.Common.{List, [], ◌∷◌, ◌++◌, map, length, get_or, refl, ap, ap₂, sym, ◌∙◌, subst, arith}
+use Rattle.std.proofs.Common.{⊎_elim, append_assoc, All}
 use Rattle.std.proofs.lemmas.Bool.{false≢true, and_parts, cases_lt, lt-ltb, le-ltb}
 use Rattle.std.proofs.lemmas.List.{append-nil, map-append, length-map, get_or-map}
-use Rattle.std.proofs.lemmas.List.Elements.{All-nil, All-append, All-map}
-use Rattle.std.proofs.lemmas.List.Folds.{list_any_at}
-use Rattle.tier_core.specs.declared.class.Class.{Class}
-use Rattle.tier_core.specs.declared.kind.Kind.{Kind}
-use Rattle.tier_core.specs.declared.sym.Sym.{Sym}
-use Rattle.tier_core.specs.Classes.{sets_of, has}
-use Rattle.tier_core.specs.Filled.{is_filled}
-use Rattle.tier_core.specs.Kinds.{open_tiers}
-use Rattle.tier_core.specs.Timelines.{has_edge}
+use Rattle.std.proofs.{lemmas.List.Elements.{All-nil, All-append, All-map}, lemmas.List.Folds.list_any_at}
+use Rattle.tier_core.specs.{declared.class.Class.Class, declared.kind.Kind.Kind, declared.sym.Sym.Sym}
+use Rattle.tier_core.specs.{Classes.{sets_of, has}, Filled.is_filled, Kinds.open_tiers, Timelines.has_edge}
 use Rattle.tier_core.proofs.Filled.{empty_holds}
 use Rattle.symbol_class.specs.Held.{some_has, times_held, once_if, ArePieces, AddsClasses}
 use Rattle.symbol_class.proofs.Times.{times-append, some_held, none_held, some_from_times, once_from_apart}
 use Rattle.violation.specs.Moves.{input_of}
-use Rattle.kind_moves.specs.declared.frame.Frame.{Frame}
-use Rattle.kind_moves.specs.declared.piece.Piece.{Piece}
+use Rattle.kind_moves.specs.{declared.frame.Frame.Frame, declared.piece.Piece.Piece}
 use Rattle.kind_moves.specs.Frames.{tiers_in, FitsAt, FitsFrame}
 use Rattle.kind_moves.specs.Leaving.{opened_among, led_to, AddsLed, LeavesOpen, AddsLeaving}
 use Rattle.kind_moves.specs.Pieces.{piece_classes, IsPiece}
-use Rattle.kind_moves.proofs.LawSteps.{is_move}
-use Rattle.kind_moves.proofs.LeavingSteps.{left_number, number_below, flags_by_number}
+use Rattle.kind_moves.proofs.{LawSteps.is_move, LeavingSteps.{left_number, number_below, flags_by_number}}
 use Rattle.kind_moves.proofs.PieceSteps.{free_cost}
 
 -- ---- pieces that lead to one kind

@@ -1,17 +1,12 @@
 -- Columns of a class by the tiers that they leave open.
-use Rattle.std.proofs.Common.{◌≡◌, ◌↔◌, ℕ, zero, suc, ◌+◌, ◌^◌, ◌<◌, ◌≤◌, Bool, true, false, not, ◌&&◌, cond, IsTrue}
-use Rattle.std.proofs.Common.{List, [], ◌∷◌, ◌++◌, length, refl, ap, ap₂, sym, ◌∙◌, subst, arith, ⊎_elim, All, Contains}
-use Rattle.std.proofs.lemmas.Bool.{false≢true, and_parts, and_from, cases_lt}
+use Rattle.std.proofs.Common.{◌≡◌, ◌↔◌, ℕ, zero, suc, ◌+◌, ◌^◌, ◌<◌, ◌≤◌, Bool, true, false, not, ◌&&◌, cond}
+use Rattle.std.proofs.Common.{IsTrue, List, [], ◌∷◌, ◌++◌, length, refl, ap, ap₂, sym, ◌∙◌, subst, arith, ⊎_elim}
+use Rattle.std.proofs.{Common.{All, Contains}, lemmas.Bool.{false≢true, and_parts, and_from, cases_lt}}
 use Rattle.std.proofs.lemmas.List.{map-append, length-map, length_push}
 use Rattle.std.proofs.lemmas.List.Elements.{All-contains, Contains-append_left, Contains-push}
 use Rattle.std.proofs.lemmas.List.FromFn.{map-range_with_len_more, length-map-range_with_len}
-use Rattle.tier_core.specs.declared.class.Class.{Class}
-use Rattle.tier_core.specs.declared.sym.Sym.{Sym}
-use Rattle.tier_core.specs.Classes.{sets_of, has}
-use Rattle.tier_core.specs.Kinds.{open_tiers}
-use Rattle.tier_core.specs.Scan.{opens}
-use Rattle.tier_core.specs.Sets.{is_in}
-use Rattle.tier_core.specs.Tiers.{has_tier, tiers_below, tiers_of}
+use Rattle.tier_core.specs.{declared.class.Class.Class, declared.sym.Sym.Sym, Classes.{sets_of, has}}
+use Rattle.tier_core.specs.{Kinds.open_tiers, Scan.opens, Sets.is_in, Tiers.{has_tier, tiers_below, tiers_of}}
 use Rattle.tier_core.specs.Timelines.{symbol}
 use Rattle.tier_core.proofs.MaskBits.{AreBits, bits_of, open_bits, same_mask}
 use Rattle.violation.proofs.KindBits.{told_same}

@@ -15,3 +15,5 @@ pub mod PieceSteps
 pub mod StretchCounts
 pub mod LeavingSteps
 pub mod LeavingPieces
+pub mod LastPhase
+pub mod SameLast

@@ -1,23 +1,15 @@
 -- Masks that loops make tier by tier.
 use Rattle.std.proofs.Common.{subst, ◌≡◌, ◌≢◌, ℕ, zero, suc, ◌+◌, ◌-◌, ◌^◌, ◌==◌, ◌<◌, ◌≤◌, ◌||◌, not, nat_eq, Bool}
 use Rattle.std.proofs.Common.{true, false, cond, List, [], ◌∷◌, ◌++◌, map, min, length, refl, ap, sym, ◌∙◌, arith}
-use Rattle.std.proofs.Common.{add-one, ⊎_elim, eq-eqb, ne_eqb, bit_and, bit_or}
-use Rattle.std.specs.Int.{bit_at}
-use Rattle.std.specs.List.{AllByRecursion, list_any}
-use Rattle.std.proofs.lemmas.Bool.{cases_lt}
+use Rattle.std.proofs.{Common.{add-one, ⊎_elim, eq-eqb, ne_eqb, bit_and, bit_or}, lemmas.Bool.cases_lt}
 use Rattle.std.proofs.lemmas.List.{append-nil, map-append, length_push, get_or_past}
 use Rattle.std.proofs.lemmas.List.FromFn.{fill_by_all, length-map-range_with_len, get_or-map-range_with_len}
-use Rattle.std.proofs.lemmas.List.FromFn.{map-range_with_len_more}
-use Rattle.std.proofs.lemmas.Nat.{pow_below}
+use Rattle.std.proofs.{lemmas.List.FromFn.map-range_with_len_more, lemmas.Nat.pow_below}
 use Rattle.std.proofs.lemmas.Nat.Bits.{bit_at_and, bit_at_ones, bit_at_or, bit_at-lt}
-use Rattle.tier_core.specs.declared.sym.Sym.{Sym}
-use Rattle.tier_core.specs.declared.sym.Sym.TheVariants.{Outside}
-use Rattle.tier_core.specs.Kinds.{open_tiers}
-use Rattle.tier_core.specs.Scan.{opens}
-use Rattle.tier_core.specs.Timelines.{symbol}
-use Rattle.tier_core.specs.Tiers.{has_tier, tiers_below, tiers_of}
-use Rattle.tier_core.proofs.CountLemmas.{all_append, all_weaker}
-use Rattle.tier_core.proofs.MaskBits.{none_from, no_flag, most_one}
+use Rattle.std.specs.{Int.bit_at, List.{AllByRecursion, list_any}}
+use Rattle.tier_core.specs.{declared.sym.Sym.Sym, declared.sym.Sym.TheVariants.Outside, Kinds.open_tiers, Scan.opens}
+use Rattle.tier_core.specs.{Timelines.symbol, Tiers.{has_tier, tiers_below, tiers_of}}
+use Rattle.tier_core.proofs.{CountLemmas.{all_append, all_weaker}, MaskBits.{none_from, no_flag, most_one}}
 use Rattle.violation.specs.Moves.{flag_of}
 
 -- a tier of either mask is one of both

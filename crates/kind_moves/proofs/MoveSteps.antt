@@ -1,34 +1,21 @@
 -- Which tiers are open after a move, and which phases are closed.
 use Rattle.std.proofs.Common.{◌≡◌, ℕ, suc, ◌+◌, ◌<◌, ◌||◌, ◌&&◌, not, Bool, true, false, cond, List, [], ◌∷◌, map}
 use Rattle.std.proofs.Common.{take, length, get_or, refl, ap, sym, ◌∙◌, arith, ⊎_elim, Contains}
-use Rattle.std.specs.List.{AllByRecursion, list_all}
-use Rattle.std.proofs.lemmas.Bool.{false≢true}
-use Rattle.std.proofs.lemmas.List.{length-map, get_or-map, get_or_default}
+use Rattle.std.proofs.{lemmas.Bool.false≢true, lemmas.List.{length-map, get_or-map, get_or_default}}
 use Rattle.std.proofs.lemmas.List.FromFn.{fill_by_all, get_or-map-range_with_len}
 use Rattle.std.proofs.lemmas.List.Elements.{All-from_recursion}
-use Rattle.tier_core.specs.declared.sym.Sym.{Sym}
-use Rattle.tier_core.specs.declared.sym.Sym.TheVariants.{Outside}
-use Rattle.tier_core.specs.declared.event.Event.{Event}
-use Rattle.tier_core.specs.declared.constraint.Constraint.{Constraint}
-use Rattle.tier_core.specs.Kinds.{Phase, closed, PrefixKind}
-use Rattle.tier_core.specs.Scan.{opens}
+use Rattle.std.specs.List.{AllByRecursion, list_all}
+use Rattle.tier_core.specs.{declared.sym.Sym.Sym, declared.sym.Sym.TheVariants.Outside, declared.event.Event.Event}
+use Rattle.tier_core.specs.{declared.constraint.Constraint.Constraint, Kinds.{Phase, closed, PrefixKind}, Scan.opens}
 use Rattle.tier_core.specs.Timelines.{tier_word, symbol, is_edge, has_edge}
-use Rattle.tier_core.proofs.CountLemmas.{all_weaker}
-use Rattle.tier_core.proofs.Bools.{or_false}
-use Rattle.tier_core.proofs.EdgeLemmas.{each_edgeless}
-use Rattle.violation.specs.Candidates.{IsForm}
-use Rattle.violation.specs.Columns.{opens_all}
-use Rattle.violation.specs.Conditions.{AreSplit, AreTiersBelow, IsOverTiers}
+use Rattle.tier_core.proofs.{CountLemmas.all_weaker, Bools.or_false, EdgeLemmas.each_edgeless}
+use Rattle.violation.specs.{Candidates.IsForm, Columns.opens_all, Conditions.{AreSplit, AreTiersBelow, IsOverTiers}}
 use Rattle.violation.specs.Moves.{FitsKind, flag_of, form_opened, is_tier_open, input_of, next_kind, next_phase}
-use Rattle.violation.specs.Moves.{next_phases}
-use Rattle.violation.specs.Prefixes.{is_open, phase}
-use Rattle.violation.proofs.CountSteps.{all_agree}
-use Rattle.violation.proofs.TierLemmas.{flag_in, flag_out, flag_at}
+use Rattle.violation.specs.{Moves.next_phases, Prefixes.{is_open, phase}, Problems.Problem}
+use Rattle.violation.proofs.{CountSteps.all_agree, TierLemmas.{flag_in, flag_out, flag_at}}
+use Rattle.violation.proofs.{ClosedPhases.closed_unless_open, PlaceLemmas.stays_open}
 use Rattle.kind_moves.specs.Frames.{is_closed, is_left_open, AreClosedOr}
 use Rattle.kind_moves.proofs.OpenPlaces.{form_open_after}
-use Rattle.violation.specs.Problems.{Problem}
-use Rattle.violation.proofs.ClosedPhases.{closed_unless_open}
-use Rattle.violation.proofs.PlaceLemmas.{stays_open}
 
 module _ (problem : Problem) (split : AreSplit problem.tiers) (form : IsForm problem.tiers problem.form)
     (k : PrefixKind) (column : List Sym) (f : FitsKind problem k column) where

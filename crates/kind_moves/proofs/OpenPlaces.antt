@@ -1,26 +1,18 @@
 -- The masks of the tiers of a table, and which input tiers are open at the places of a form.
-use Rattle.std.proofs.Common.{◌≡◌, ◌↔◌, ℕ, suc, ◌^◌, ◌==◌, ◌<◌, ◌≤◌, ◌||◌, Bool, true, false, cond, IsTrue, List, []}
-use Rattle.std.proofs.Common.{◌∷◌, map, take, length, get_or, refl, ap, sym, ◌∙◌, arith, bit_or}
-use Rattle.std.specs.List.{range_with_len}
-use Rattle.std.proofs.lemmas.Bool.{false≢true}
-use Rattle.std.proofs.lemmas.List.{length-map, get_or-map}
+use Rattle.std.proofs.Common.{◌≡◌, ◌↔◌, ℕ, suc, ◌^◌, ◌==◌, ◌<◌, ◌≤◌, ◌||◌, Bool, true, false, cond, IsTrue, List}
+use Rattle.std.proofs.Common.{[], ◌∷◌, map, take, length, get_or, refl, ap, sym, ◌∙◌, arith, bit_or}
+use Rattle.std.proofs.{lemmas.Bool.false≢true, lemmas.List.{length-map, get_or-map}}
 use Rattle.std.proofs.lemmas.List.FromFn.{fill_by_all, length-map-range_with_len, get_or-map-range_with_len}
-use Rattle.std.proofs.lemmas.Nat.{or_lt}
-use Rattle.std.proofs.lemmas.Nat.Bits.{bit_at-zero}
-use Rattle.tier_core.specs.declared.sym.Sym.{Sym}
-use Rattle.tier_core.specs.declared.sym.Sym.TheVariants.{Outside}
+use Rattle.std.proofs.{lemmas.Nat.or_lt, lemmas.Nat.Bits.bit_at-zero}
+use Rattle.std.specs.List.{range_with_len}
+use Rattle.tier_core.specs.{declared.sym.Sym.Sym, declared.sym.Sym.TheVariants.Outside}
 use Rattle.tier_core.specs.declared.tier.TierKind.{TierKind}
-use Rattle.tier_core.specs.declared.tier.TierKind.TheVariants.{Input, Overt, Hidden}
-use Rattle.tier_core.specs.Kinds.{open_tiers}
-use Rattle.tier_core.specs.Scan.{opens}
+use Rattle.tier_core.specs.{declared.tier.TierKind.TheVariants.{Input, Overt, Hidden}, Kinds.open_tiers, Scan.opens}
 use Rattle.tier_core.specs.Timelines.{tier_word, symbol, column_at}
 use Rattle.tier_core.specs.Tiers.{Tiers, is_free, is_overt, kind_at, has_tier, tiers_of, numbers_from}
-use Rattle.tier_core.proofs.TableMasks.{IsMaskOf, tiers_of_mask, mask_of_kind, overt_alone}
-use Rattle.tier_core.proofs.WordLemmas.{open_suc}
+use Rattle.tier_core.proofs.{TableMasks.{IsMaskOf, tiers_of_mask, mask_of_kind, overt_alone}, WordLemmas.open_suc}
 use Rattle.tier_core.proofs.WordForm.{runs_from_well_formed}
-use Rattle.violation.specs.Candidates.{IsForm}
-use Rattle.violation.specs.Moves.{flag_of, form_opened}
-use Rattle.violation.specs.Prefixes.{is_open}
+use Rattle.violation.specs.{Candidates.IsForm, Moves.{flag_of, form_opened}, Prefixes.is_open}
 use Rattle.violation.proofs.OpenLemmas.{prefix_open, take_word}
 use Rattle.kind_moves.specs.Masks.{AreOpenAt}
 use Rattle.kind_moves.proofs.MaskSteps.{or_tier}

@@ -1,25 +1,18 @@
 -- Columns after which the same tiers are open, and that pass the test of a stretch implication alike,
 -- have the same phase.
-use Rattle.std.proofs.Common.{◌≡◌, ℕ, ◌+◌, ◌<◌, Bool, true, false, not, ◌&&◌, ◌||◌, cond, List, [], ◌∷◌, ◌++◌, get_or}
-use Rattle.std.proofs.Common.{refl, ap, ap₂, sym, ◌∙◌, arith}
-use Rattle.std.specs.List.{list_any}
-use Rattle.std.proofs.lemmas.Bool.{false≢true, or_parts}
+use Rattle.std.proofs.Common.{◌≡◌, ℕ, ◌+◌, ◌<◌, Bool, true, false, not, ◌&&◌, ◌||◌, cond, List, [], ◌∷◌, ◌++◌}
+use Rattle.std.proofs.{Common.{get_or, refl, ap, ap₂, sym, ◌∙◌, arith}, lemmas.Bool.{false≢true, or_parts}}
 use Rattle.std.proofs.lemmas.List.FromFn.{get_or-map-range_with_len, map-range_with_len_more}
-use Rattle.tier_core.specs.declared.sym.Sym.{Sym}
-use Rattle.tier_core.specs.declared.sym.Sym.TheVariants.{Outside, Inside, Start, End, Both}
-use Rattle.tier_core.specs.declared.event.Event.{Event}
-use Rattle.tier_core.specs.declared.event.Part.{Part}
+use Rattle.std.specs.List.{list_any}
+use Rattle.tier_core.specs.{declared.sym.Sym.Sym, declared.sym.Sym.TheVariants.{Outside, Inside, Start, End, Both}}
+use Rattle.tier_core.specs.{declared.event.Event.Event, declared.event.Part.Part}
 use Rattle.tier_core.specs.declared.event.Part.TheVariants.{Start as StartOf, End as EndOf, Interior}
-use Rattle.tier_core.specs.Kinds.{Phase, closed, unmet, met}
-use Rattle.tier_core.specs.Scan.{opens}
-use Rattle.tier_core.specs.Sides.{edge_among, is_edge_part}
+use Rattle.tier_core.specs.{Kinds.{Phase, closed, unmet, met}, Scan.opens, Sides.{edge_among, is_edge_part}}
 use Rattle.tier_core.specs.Timelines.{symbol, is_edge}
 use Rattle.tier_core.proofs.Bools.{not_not}
-use Rattle.violation.specs.Columns.{part_present, is_present, opens_interior, opens_all}
-use Rattle.violation.specs.Conditions.{AreTiersBelow}
+use Rattle.violation.specs.{Columns.{part_present, is_present, opens_interior, opens_all}, Conditions.AreTiersBelow}
 use Rattle.violation.specs.Moves.{is_met_phase, next_phase}
-use Rattle.kind_moves.specs.declared.ask.Ask.TheVariants.{NoEdge, Open, NoInteriorOpen, NoEdgePresent}
-use Rattle.kind_moves.specs.Asks.{answers}
+use Rattle.kind_moves.specs.{declared.ask.Ask.TheVariants.{NoEdge, Open, NoInteriorOpen, NoEdgePresent}, Asks.answers}
 use Rattle.kind_moves.specs.Pieces.{opened_by}
 use Rattle.kind_moves.proofs.Answering.{none_pass}
 
@@ -108,6 +101,30 @@ phase_is left right phase column =
     (edges_or_open right column)
     ∙ ap (λ t. cond (opens_all left column) (cond (list_any (opens_interior column) right || t) met unmet) closed)
     (sym (test_is left right (is_met_phase phase) column))
+
+-- when the next phase is met
+met_is : (all some edge held : Bool)
+    → is_met_phase (cond all (cond (some || (((all && not some) && edge) && held)) met unmet) closed)
+    ≡ ((all && not (not some)) || (((all && not some) && edge) && held))
+met_is false some edge held = refl
+met_is true true edge held = refl
+met_is true false true true = refl
+met_is true false true false = refl
+met_is true false false held = refl
+
+pub met_by_tests : (left right : List Event) (phase : Phase) (column : List Sym)
+    → is_met_phase (next_phase left right phase column)
+    ≡ ((answers Open left column && not (answers NoInteriorOpen right column))
+    || goes_on left right (is_met_phase phase) column)
+met_by_tests left right phase column =
+    let all = opens_all left column in
+    let some = list_any (opens_interior column) right in
+    let test = test_is left right (is_met_phase phase) column in
+    ap is_met_phase (phase_is left right phase column)
+    ∙ ap (λ t. is_met_phase (cond all (cond (some || t) met unmet) closed)) test
+    ∙ met_is all some (not (edge_among left column))
+    (is_met_phase phase || list_any (edge_present column) right)
+    ∙ sym (ap₂ (λ a b. (all && not a) || b) (none_pass (opens_interior column) right) test)
 
 pub phase_alike : (width : ℕ) (left right : List Event) (phase : Phase) (c d : List Sym) → AreTiersBelow width left
     → AreTiersBelow width right

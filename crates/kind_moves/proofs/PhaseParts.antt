@@ -1,16 +1,11 @@
 -- Pieces that are parted by the phases of the first stretch implications.
 use Rattle.std.proofs.Common.{◌≡◌, ℕ, ◌+◌, ◌<◌, ◌≤◌, true, false, cond, List, [], ◌∷◌, ◌++◌, take, filter, length}
-use Rattle.std.proofs.Common.{get_or, refl, ap, sym, ◌∙◌, subst, arith}
-use Rattle.std.proofs.lemmas.List.{length_push, append-nil}
+use Rattle.std.proofs.{Common.{get_or, refl, ap, sym, ◌∙◌, subst, arith}, lemmas.List.{length_push, append-nil}}
 use Rattle.std.proofs.lemmas.List.FromFn.{length-map-range_with_len, map-range_with_len_more}
-use Rattle.tier_core.specs.declared.class.Class.{Class}
-use Rattle.tier_core.specs.declared.kind.Kind.{Kind}
-use Rattle.tier_core.specs.declared.sym.Sym.{Sym}
-use Rattle.tier_core.specs.declared.constraint.Constraint.{Constraint}
-use Rattle.tier_core.specs.Kinds.{Phase, phase_at, phases}
+use Rattle.tier_core.specs.{declared.class.Class.Class, declared.kind.Kind.Kind, declared.sym.Sym.Sym}
+use Rattle.tier_core.specs.{declared.constraint.Constraint.Constraint, Kinds.{Phase, phase_at, phases}}
 use Rattle.tier_core.specs.Sides.{is_stretch}
-use Rattle.symbol_class.specs.Held.{ArePieces}
-use Rattle.symbol_class.specs.Parts.{ArePartedBy}
+use Rattle.symbol_class.specs.{Held.ArePieces, Parts.ArePartedBy}
 use Rattle.symbol_class.proofs.PartSteps.{parted_same, parted_then}
 use Rattle.violation.specs.Moves.{next_phase, next_phases}
 use Rattle.violation.proofs.NextPhases.{stretches_more, next_append}
@@ -34,6 +29,20 @@ phased_none width cs kind wholes pieces = record {
   parted = parted_same width (phases_after cs kind 0 0) wholes pieces (λ k d inside x y _ _. refl);
 }
 
+-- the phases of one stretch implication more
+pub phases_more : (cs : List Constraint) (kind : Kind) (n next : ℕ) (c : Constraint) (column : List Sym)
+    → next ≡ length (filter is_stretch (take n cs)) → n < length cs → c ≡ get_or cs n c → is_stretch c ≡ true
+    → phases_after cs kind (n + 1) (next + 1) column
+    ≡ phases_after cs kind n next column ++ next_phase c.left c.right (phase_at kind next) column ∷ []
+phases_more cs kind n next c column count l is h =
+    let fs = filter is_stretch (take n cs) in
+    let longer : filter is_stretch (take (n + 1) cs) ≡ fs ++ c ∷ [] = stretches_more cs n c true l is h in
+    let size : length (phases next kind) ≡ length fs = length-map-range_with_len (phase_at kind) 0 next ∙ count in
+    ap (λ x. next_phases x (phases (next + 1) kind) column) longer
+    ∙ ap (λ ps. next_phases (fs ++ c ∷ []) ps column) (map-range_with_len_more (phase_at kind) 0 next next
+    (omega arith))
+    ∙ next_append fs (phases next kind) c (phase_at kind next) column size
+
 pub phased_more : (width : ℕ) (cs : List Constraint) (kind : Kind) (n next : ℕ) (wholes parts more : List Class)
     (c : Constraint) → ArePhasedBelow width cs kind n next wholes parts
     → n < length cs → c ≡ get_or cs n c → is_stretch c ≡ true
@@ -42,13 +51,9 @@ pub phased_more : (width : ℕ) (cs : List Constraint) (kind : Kind) (n next : �
 phased_more width cs kind n next wholes parts more c a l is h p =
     let fs = filter is_stretch (take n cs) in
     let longer : filter is_stretch (take (n + 1) cs) ≡ fs ++ c ∷ [] = stretches_more cs n c true l is h in
-    let size : length (phases next kind) ≡ length fs = length-map-range_with_len (phase_at kind) 0 next ∙ a.count in
     let step : (column : List Sym) → phases_after cs kind (n + 1) (next + 1) column
     ≡ phases_after cs kind n next column ++ next_phase c.left c.right (phase_at kind next) column ∷ [] =
-    (λ column. ap (λ x. next_phases x (phases (next + 1) kind) column) longer
-    ∙ ap (λ ps. next_phases (fs ++ c ∷ []) ps column) (map-range_with_len_more (phase_at kind) 0 next next
-    (omega arith))
-    ∙ next_append fs (phases next kind) c (phase_at kind next) column size) in
+    (λ column. phases_more cs kind n next c column a.count l is h) in
     record {
       count = omega (arith, a.count, ap length longer, length_push fs c);
       few = omega (arith, a.few);

@@ -1,26 +1,17 @@
 -- Pieces all columns of which go on alike.
 use Rattle.std.proofs.Common.{◌≡◌, ℕ, ◌+◌, ◌-◌, ◌<◌, Bool, cond, List, [], ◌∷◌, map, take, length, get_or, refl, ap}
-use Rattle.std.proofs.Common.{sym, ◌∙◌, subst, All}
-use Rattle.std.specs.List.{AllByRecursion}
-use Rattle.std.proofs.lemmas.Bool.{eq-eqb, ne_eqb}
+use Rattle.std.proofs.{Common.{sym, ◌∙◌, subst, All}, lemmas.Bool.{eq-eqb, ne_eqb}}
 use Rattle.std.proofs.lemmas.List.Elements.{All-take, All-from_recursion}
-use Rattle.tier_core.specs.declared.class.Class.{Class}
-use Rattle.tier_core.specs.declared.constraint.Constraint.{Constraint}
-use Rattle.tier_core.specs.declared.kind.Kind.{Kind}
-use Rattle.tier_core.specs.declared.sym.Sym.{Sym}
-use Rattle.tier_core.specs.Kinds.{PrefixKind, Phase, phases}
-use Rattle.tier_core.specs.Scan.{opens}
-use Rattle.tier_core.specs.Timelines.{symbol, has_edge}
-use Rattle.symbol_class.specs.Held.{ArePieces}
-use Rattle.symbol_class.specs.Parts.{ArePartedBy}
-use Rattle.symbol_class.proofs.PartSteps.{parted_same, parted_then}
-use Rattle.symbol_class.proofs.Times.{some_from_same}
+use Rattle.std.specs.List.{AllByRecursion}
+use Rattle.tier_core.specs.{declared.class.Class.Class, declared.constraint.Constraint.Constraint}
+use Rattle.tier_core.specs.{declared.kind.Kind.Kind, declared.sym.Sym.Sym, Kinds.{PrefixKind, Phase, phases}}
+use Rattle.tier_core.specs.{Scan.opens, Timelines.{symbol, has_edge}}
+use Rattle.symbol_class.specs.{Held.ArePieces, Parts.ArePartedBy}
+use Rattle.symbol_class.proofs.{PartSteps.{parted_same, parted_then}, Times.some_from_same}
 use Rattle.grammar_reader.proofs.OverTiers.{over_tiers}
-use Rattle.violation.specs.Conditions.{IsOverTiers}
-use Rattle.violation.specs.Moves.{input_of, move_costs, next_kind, next_phases}
+use Rattle.violation.specs.{Conditions.IsOverTiers, Moves.{input_of, move_costs, next_kind, next_phases}}
 use Rattle.violation.proofs.SplitLemmas.{tiers_split}
-use Rattle.kind_moves.specs.declared.frame.Frame.{Frame}
-use Rattle.kind_moves.specs.Fitting.{AreFitting, IsReadAlike}
+use Rattle.kind_moves.specs.{declared.frame.Frame.Frame, Fitting.{AreFitting, IsReadAlike}}
 use Rattle.kind_moves.specs.Frames.{problem_in, tiers_in, constraints_in, stretches_in, kind_at_stage}
 use Rattle.kind_moves.specs.Pieces.{opened_by, cost_under}
 use Rattle.kind_moves.proofs.PhaseAlike.{open_alike}

@@ -3,8 +3,7 @@ use Rattle.std.proofs.Common.{◌≡◌, ℕ, ◌+◌, ◌≤◌, take, filter, 
 use Rattle.std.proofs.lemmas.List.FromFn.{get_or-map-range_with_len}
 use Rattle.tier_core.specs.Sides.{is_stretch}
 use Rattle.grammar_reader.proofs.Shaping.{length-stretch_counts}
-use Rattle.kind_moves.specs.declared.frame.Frame.{Frame}
-use Rattle.kind_moves.specs.Frames.{constraints_in, stretches_in}
+use Rattle.kind_moves.specs.{declared.frame.Frame.Frame, Frames.{constraints_in, stretches_in}}
 
 pub length-counts : (frame : Frame) → length frame.shape.phases.items ≡ length (constraints_in frame) + 1
 length-counts frame = ap length frame.shape_of.phases ∙ length-stretch_counts (constraints_in frame)

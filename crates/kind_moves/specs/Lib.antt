@@ -6,3 +6,4 @@ pub mod Asks
 pub mod Pieces
 pub mod Fitting
 pub mod Leaving
+pub mod LastMoves

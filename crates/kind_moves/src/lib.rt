@@ -6,8 +6,9 @@
 //! the candidates of the form: a timeline leads from the start to a final kind exactly if it is a
 //! candidate. [`Frame::pieces`] parts a class of columns by where they lead and what they cost,
 //! without looking at single columns: a constraint, an open tier and a phase each part a class by
-//! one test. The crate stands on the types of `tier_core`, on classes, on grammars, and on the
-//! definition of moves in `violation`.
+//! one test. [`Frame::last_pieces`] does so where only the last constraint can part a class. The
+//! crate stands on the types of `tier_core`, on classes, on grammars, and on the definition of moves
+//! in `violation`.
 //!
 //! That the candidates of a form are the paths of an automaton is after Ellison, Phonological
 //! Derivation in Optimality Theory (COLING 1994); that its states are kinds is our own design.
@@ -24,6 +25,8 @@ mod fit;
 mod fit_boxes;
 mod fitting;
 mod frame;
+mod last_pieces;
+mod last_tests;
 mod laws;
 mod leaving;
 mod mask;
@@ -38,6 +41,7 @@ mod pieces;
 mod tests;
 
 pub use frame::Frame;
+pub use last_tests::LastTests;
 pub use laws::{
     costs_are_violations, kinds_are_told_apart, kinds_go_by_moves, moves_are_of_candidates,
 };

@@ -30,6 +30,24 @@ pub(crate) fn opens_at(all: &Class, tier: u32) -> Difference
     inside(&restrict(all, tier, 22))
 }
 
+/// The test whether all left tiers of a stretch implication are open after a column, and with them
+/// an interior on the right, which makes it met.
+pub(crate) fn opens_met(width: u32, constraint: &Constraint) -> Difference
+    requires some { 1 ≤ width }
+    requires few { width ≤ 12 }
+    requires over { IsOverTiers width constraint.now }
+    ensures width { length (sets_of result.within) ≡ width }
+    ensures columns { (column : List Sym) → length column ≡ width
+        → differs result column ≡ (answers Open constraint.now.left column
+        && not (answers NoInteriorOpen constraint.now.right column)) }
+{
+    let within = narrowed_by(&whole(width), Ask::Open, constraint.left.as_slice());
+    Difference {
+        within,
+        without: narrowed_by(&within, Ask::NoInteriorOpen, constraint.right.as_slice()),
+    }
+}
+
 /// The test whether a column makes a stretch implication met although it opens no interior on the
 /// right: all left tiers are open after the column, it has no edge on them, and the stretch was met
 /// before it or an event of a right type is present at it.

@@ -107,7 +107,7 @@ impl<'a> Frame<'a> {
 
     /// The pieces of some classes. In each class all columns fit a kind, lead to one kind, and cost
     /// the same.
-    fn told_pieces(
+    pub(crate) fn told_pieces(
         &self,
         alloc: Global,
         stage: u32,

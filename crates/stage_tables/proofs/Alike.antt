@@ -1,25 +1,17 @@
 -- Tables that differ in nothing but what their moves weigh.
 use Rattle.std.proofs.Common.{◌≡◌, ◌↔◌, ℕ, ◌<◌, List, [], ◌∷◌, map, length, sym, ap, ◌∙◌, subst, arith, inl, inr}
-use Rattle.std.specs.Prelude.{Contains, AllPairs, IsTrue}
-use Rattle.std.specs.List.{AllZip}
-use Rattle.std.proofs.lemmas.Bool.{cases_lt}
-use Rattle.std.proofs.lemmas.List.{length-map, get_or_past}
+use Rattle.std.proofs.{lemmas.Bool.cases_lt, lemmas.List.{length-map, get_or_past}}
+use Rattle.std.specs.{Prelude.{Contains, AllPairs, IsTrue}, List.AllZip}
 use Rattle.weight_law.specs.declared.Weight.{Ghosts}
-use Rattle.tier_core.specs.declared.class.Class.{Class}
-use Rattle.tier_core.specs.declared.sym.Sym.{Sym}
-use Rattle.tier_core.specs.Classes.{has, sets_of, AreDisjoint}
-use Rattle.tier_core.specs.Kinds.{PrefixKind}
-use Rattle.tier_core.specs.Filled.{is_filled}
-use Rattle.arc_table.specs.declared.arc.TableArc.{TableArc}
-use Rattle.arc_table.specs.declared.state.TableState.{TableState}
+use Rattle.tier_core.specs.{declared.class.Class.Class, declared.sym.Sym.Sym, Classes.{has, sets_of, AreDisjoint}}
+use Rattle.tier_core.specs.{Kinds.PrefixKind, Filled.is_filled}
+use Rattle.arc_table.specs.{declared.arc.TableArc.TableArc, declared.state.TableState.TableState}
 use Rattle.arc_table.specs.Conditions.{TargetsExist, ClassesDisjoint, ClassesFilled, OneWidth}
-use Rattle.arc_table.specs.Moves.{moves_at, accepting_at}
-use Rattle.arc_table.specs.Runs.{Accepts, IsOnRun}
+use Rattle.arc_table.specs.{Moves.{moves_at, accepting_at}, Runs.{Accepts, IsOnRun}}
 use Rattle.arc_table.proofs.Push.{moves_exist}
 use Rattle.kind_tables.specs.StageTables.{name_of, AreNamedByKinds}
 use Rattle.kind_tables.proofs.Paths.{run_exists}
-use Rattle.stage_tables.proofs.SameWords.{GoesWith, words_with, on_runs_with}
-use Rattle.stage_tables.proofs.Zips.{zip_from, zip_to, zip_pairs}
+use Rattle.stage_tables.proofs.{SameWords.{GoesWith, words_with, on_runs_with}, Zips.{zip_from, zip_to, zip_pairs}}
 use Rattle.violation.specs.Problems.{Problem}
 
 -- moves on the same columns to the same state

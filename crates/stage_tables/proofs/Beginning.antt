@@ -1,16 +1,14 @@
 -- The start is found, and no state is made.
-use Rattle.std.proofs.Common.{◌≡◌, ℕ, ◌-◌, ◌<◌, List, [], ◌∷◌, ◌++◌, length, refl, ap, sym, ◌∙◌, subst, arith, inl, inr}
+use Rattle.std.proofs.Common.{◌≡◌, ℕ, ◌-◌, ◌<◌, List, [], ◌∷◌, ◌++◌, length, refl, ap, sym, ◌∙◌, subst, arith, inl}
+use Rattle.std.proofs.{Common.inr, lemmas.List.length_push, lemmas.Option.slice_get_within}
 use Rattle.std.specs.Prelude.{slice_get}
-use Rattle.std.proofs.lemmas.List.{length_push}
-use Rattle.std.proofs.lemmas.Option.{slice_get_within}
-use Rattle.weight_law.specs.declared.Weight.{Ghosts}
-use Rattle.weight_law.specs.declared.count.Count.{Count}
+use Rattle.weight_law.specs.{declared.Weight.Ghosts, declared.count.Count.Count}
 use Rattle.weight_law.specs.declared.unit_weight.UnitWeight.{UnitWeight}
 use Rattle.tier_core.specs.declared.kind.Kind.{Kind}
 use Rattle.arc_table.specs.declared.state.TableState.{TableState}
-use Rattle.kind_moves.specs.declared.frame.Frame.{Frame}
-use Rattle.kind_moves.specs.Frames.{IsStart}
-use Rattle.stage_tables.specs.Listed.{IsAt, AreApart, IsPutLast, IsNumbered, StandsOver, IsReached, AreFound, AreTaken}
+use Rattle.kind_moves.specs.{declared.frame.Frame.Frame, Frames.IsStart}
+use Rattle.stage_tables.specs.Listed.{IsAt, AreApart, IsPutLast, IsNumbered, StandsOver, IsReached, AreFound}
+use Rattle.stage_tables.specs.Listed.{AreTaken}
 use Rattle.stage_tables.proofs.Listing.{at_cases}
 
 pub none_apart : (entries : List (Kind × ℕ)) → entries ≡ [] → AreApart entries

@@ -1,25 +1,15 @@
 -- One kind more is found, or one that is listed already.
-use Rattle.std.proofs.Common.{◌≡◌, ℕ, ◌+◌, ◌<◌, Bool, List, [], ◌∷◌, ◌++◌, length, get_or, refl, ap, sym, ◌∙◌, subst}
-use Rattle.std.proofs.Common.{arith, ◌⊎◌, inl, inr}
-use Rattle.std.specs.Prelude.{Contains, IsTrue, slice_get}
-use Rattle.std.proofs.lemmas.Bool.{cases_lt}
-use Rattle.std.proofs.lemmas.List.{length_push}
+use Rattle.std.proofs.Common.{◌≡◌, ℕ, ◌+◌, ◌<◌, Bool, List, [], ◌∷◌, ◌++◌, length, get_or, refl, ap, sym, ◌∙◌}
+use Rattle.std.proofs.{Common.{subst, arith, ◌⊎◌, inl, inr}, lemmas.Bool.cases_lt, lemmas.List.length_push}
 use Rattle.std.proofs.lemmas.Option.{slice_get_within}
-use Rattle.weight_law.specs.declared.Weight.{Ghosts}
-use Rattle.weight_law.specs.declared.count.Count.{Count}
+use Rattle.std.specs.Prelude.{Contains, IsTrue, slice_get}
+use Rattle.weight_law.specs.{declared.Weight.Ghosts, declared.count.Count.Count}
 use Rattle.weight_law.specs.declared.unit_weight.UnitWeight.{UnitWeight}
-use Rattle.tier_core.specs.declared.kind.Kind.{Kind}
-use Rattle.tier_core.specs.declared.sym.Sym.{Sym}
-use Rattle.tier_core.specs.Classes.{has}
-use Rattle.arc_table.specs.declared.arc.TableArc.{TableArc}
-use Rattle.arc_table.specs.declared.state.TableState.{TableState}
-use Rattle.arc_table.specs.Conditions.{TargetsExist}
-use Rattle.arc_table.specs.Moves.{moves_at, accepting_at}
-use Rattle.arc_table.specs.Runs.{IsPath, Reads}
+use Rattle.tier_core.specs.{declared.kind.Kind.Kind, declared.sym.Sym.Sym, Classes.has}
+use Rattle.arc_table.specs.{declared.arc.TableArc.TableArc, declared.state.TableState.TableState}
+use Rattle.arc_table.specs.{Conditions.TargetsExist, Moves.{moves_at, accepting_at}, Runs.{IsPath, Reads}}
 use Rattle.arc_table.proofs.Push.{moves_exist, accepting_old, accepting_new, moves_old, moves_new}
-use Rattle.kind_moves.specs.declared.frame.Frame.{Frame}
-use Rattle.kind_moves.specs.Frames.{IsMove}
-use Rattle.kind_moves.specs.Laws.{LeadsTo}
+use Rattle.kind_moves.specs.{declared.frame.Frame.Frame, Frames.IsMove, Laws.LeadsTo}
 use Rattle.stage_tables.specs.Listed.{IsAt, AreApart, IsPutLast, IsNumbered, Stays, StandsOver, IsReached, AreFound}
 use Rattle.stage_tables.specs.Listed.{IsTaken, AreTakenMoves, IsTakenState, AreTargets, AreTaken}
 use Rattle.stage_tables.proofs.Listing.{get_left, at_number, at_cases, same_at}

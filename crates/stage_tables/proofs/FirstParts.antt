@@ -1,18 +1,14 @@
 -- The parts of a weight, one constraint after another.
-use Rattle.std.proofs.Common.{◌≡◌, ◌≢◌, ℕ, ◌+◌, ◌-◌, ◌<◌, ◌≤◌, List, replicate, length, take, get_or, set, refl, sym}
-use Rattle.std.proofs.Common.{ap, ◌∙◌, arith, inl, inr, get_or-set_same, get_or-set_other, take_all}
-use Rattle.std.proofs.lemmas.Bool.{cases_lt}
-use Rattle.std.proofs.lemmas.List.{length-set, length-append, length-replicate, ext_get_or, get_or_past}
-use Rattle.std.proofs.lemmas.List.{get_or_append_left, get_or-append_right, get_or-replicate}
+use Rattle.std.proofs.Common.{◌≡◌, ◌≢◌, ℕ, ◌+◌, ◌-◌, ◌<◌, ◌≤◌, List, replicate, length, take, get_or, set, refl}
+use Rattle.std.proofs.Common.{sym, ap, ◌∙◌, arith, inl, inr, get_or-set_same, get_or-set_other, take_all}
+use Rattle.std.proofs.{lemmas.Bool.cases_lt, lemmas.List.{length-set, length-append, length-replicate, ext_get_or}}
+use Rattle.std.proofs.lemmas.List.{get_or_past, get_or_append_left, get_or-append_right, get_or-replicate}
 use Rattle.weight_law.specs.Ranked.{parts_of_vector}
-use Rattle.tier_core.specs.declared.kind.Kind.{Kind}
-use Rattle.tier_core.specs.declared.sym.Sym.{Sym}
-use Rattle.violation.specs.Moves.{is_tier_open}
+use Rattle.tier_core.specs.{declared.kind.Kind.Kind, declared.sym.Sym.Sym}
+use Rattle.violation.specs.{Moves.is_tier_open, Problems.last_stage}
 use Rattle.violation.proofs.CostLemmas.{length_costs}
-use Rattle.kind_moves.specs.declared.frame.Frame.{Frame}
-use Rattle.kind_moves.specs.Frames.{kind_at_stage, problem_in}
+use Rattle.kind_moves.specs.{declared.frame.Frame.Frame, Frames.{kind_at_stage, problem_in}}
 use Rattle.stage_tables.specs.Ranking.{costs_at}
-use Rattle.violation.specs.Problems.{last_stage}
 
 -- the first n parts are the numbers of a vector, and those behind them are zeros
 pub record AreFirst (v parts : List ℕ) (n : ℕ) : Type 0 where

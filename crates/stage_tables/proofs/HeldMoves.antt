@@ -1,16 +1,11 @@
 -- Moves of a list on a column, and how often their classes hold it.
 use Rattle.std.proofs.Common.{◌≡◌, suc, ◌<◌, true, List, [], ◌∷◌, length, get_or, refl, ap, sym, ◌∙◌, subst, arith}
-use Rattle.std.proofs.Common.{IsTrue, AllPairs, Contains, ⊎_elim}
-use Rattle.std.proofs.lemmas.Bool.{false≢true, or_cases}
-use Rattle.std.proofs.lemmas.List.{get_or-map, length-map}
-use Rattle.std.proofs.lemmas.List.Folds.{list_any_at}
+use Rattle.std.proofs.{Common.{IsTrue, AllPairs, Contains, ⊎_elim}, lemmas.Bool.{false≢true, or_cases}}
+use Rattle.std.proofs.{lemmas.List.{get_or-map, length-map}, lemmas.List.Folds.list_any_at}
 use Rattle.weight_law.specs.declared.Weight.{Ghosts}
-use Rattle.tier_core.specs.declared.class.Class.{Class}
-use Rattle.tier_core.specs.declared.sym.Sym.{Sym}
-use Rattle.tier_core.specs.Classes.{has, AreDisjoint}
+use Rattle.tier_core.specs.{declared.class.Class.Class, declared.sym.Sym.Sym, Classes.{has, AreDisjoint}}
 use Rattle.symbol_class.specs.Held.{some_has}
-use Rattle.arc_table.specs.declared.arc.TableArc.{TableArc}
-use Rattle.arc_table.specs.MoveClasses.{move_classes}
+use Rattle.arc_table.specs.{declared.arc.TableArc.TableArc, MoveClasses.move_classes}
 
 module _ {W : Type 0} {g : Ghosts W} where
   -- where some class holds a column, there is a move on it

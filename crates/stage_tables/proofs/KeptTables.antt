@@ -1,33 +1,21 @@
 -- A kept table whose states are named by kinds is explored.
 use Rattle.std.proofs.Common.{◌≡◌, ℕ, ◌<◌, ◌≤◌, List, [], ◌∷◌, ◌++◌, length, ap, sym, ◌∙◌, arith}
 use Rattle.std.specs.Map.{keys_of, values_of}
-use Rattle.weight_law.specs.declared.Weight.{Ghosts}
-use Rattle.weight_law.specs.declared.count.Count.{Count}
+use Rattle.weight_law.specs.{declared.Weight.Ghosts, declared.count.Count.Count}
 use Rattle.weight_law.specs.declared.unit_weight.UnitWeight.{UnitWeight}
-use Rattle.tier_core.specs.declared.kind.Kind.{Kind}
-use Rattle.tier_core.specs.declared.sym.Sym.{Sym}
-use Rattle.tier_core.specs.Classes.{sets_of}
-use Rattle.tier_core.specs.Kinds.{PrefixKind}
-use Rattle.tier_core.proofs.ClassLemmas.{same_width}
+use Rattle.tier_core.specs.{declared.kind.Kind.Kind, declared.sym.Sym.Sym, Classes.sets_of, Kinds.PrefixKind}
 use Rattle.tier_core.specs.FirstColumn.{first_column}
-use Rattle.tier_core.proofs.Filled.{has-first_column}
-use Rattle.arc_table.specs.declared.arc.TableArc.{TableArc}
-use Rattle.arc_table.specs.declared.state.TableState.{TableState}
-use Rattle.arc_table.specs.Conditions.{TargetsExist}
-use Rattle.arc_table.specs.Runs.{IsPath, Accepts}
-use Rattle.violation.specs.Moves.{is_final, cut_kind}
-use Rattle.violation.specs.Problems.{last_stage}
+use Rattle.tier_core.proofs.{ClassLemmas.same_width, Filled.has-first_column}
+use Rattle.arc_table.specs.{declared.arc.TableArc.TableArc, declared.state.TableState.TableState}
+use Rattle.arc_table.specs.{Conditions.TargetsExist, Runs.{IsPath, Accepts}}
+use Rattle.violation.specs.{Moves.{is_final, cut_kind}, Problems.last_stage}
 use Rattle.violation.proofs.CutLemmas.{cut_kind-kind_of}
-use Rattle.kind_moves.specs.declared.frame.Frame.{Frame}
-use Rattle.kind_moves.specs.Frames.{problem_in, kind_at_stage}
+use Rattle.kind_moves.specs.{declared.frame.Frame.Frame, Frames.{problem_in, kind_at_stage}}
 use Rattle.kind_moves.proofs.LawSteps.{kinds_law}
-use Rattle.kind_tables.specs.StageTables.{IsStage, name_of}
-use Rattle.kind_tables.specs.FoundTables.{base_of, AreFoundFrom}
-use Rattle.kind_tables.proofs.Exploring.{fits_from_cut, found_on_runs, same_words}
-use Rattle.kind_tables.proofs.Naming.{path_kind, same_state}
+use Rattle.kind_tables.specs.{StageTables.{IsStage, name_of}, FoundTables.{base_of, AreFoundFrom}}
+use Rattle.kind_tables.proofs.{Exploring.{fits_from_cut, found_on_runs, same_words}, Naming.{path_kind, same_state}}
 use Rattle.kind_tables.proofs.Paths.{run_path, path_word, joined_run, joined_reads}
-use Rattle.stage_tables.specs.Kept.{AreKeptByKinds}
-use Rattle.stage_tables.specs.Explored.{names_at, IsExplored}
+use Rattle.stage_tables.specs.{Kept.AreKeptByKinds, Explored.{names_at, IsExplored}}
 use Rattle.stage_tables.specs.Listed.{IsReached, IsOverOne, IsOfWidth, AreFound, AreTaken}
 use Rattle.stage_tables.proofs.Named.{frame_stage, names_apart, name_is, kind_of_state, base_is, leads, weighs}
 use Rattle.stage_tables.proofs.Named.{columns_new, columns_old, new_targets, new_filled, new_reached, each_named}
@@ -47,7 +35,7 @@ module _ {g : Ghosts UnitWeight} (frame : Frame) (before stage : ℕ) (further :
   earlier = frame_stage frame before (omega (arith, further, within))
 
   -- the kind of what leads to a state, cut, is the state's name
-  cut_named : (kind : Kind) (s : ℕ) → IsReached frame stage kept kind s
+  pub cut_named : (kind : Kind) (s : ℕ) → IsReached frame stage kept kind s
       → cut_kind (problem_in frame) before (kind_at_stage frame stage kind) ≡ name_of names s
   cut_named kind s r =
       ap (cut_kind (problem_in frame) before) (kinds_law frame stage r.first r.starts r.prefix kind r.leads)

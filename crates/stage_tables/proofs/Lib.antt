@@ -15,3 +15,5 @@ pub mod RankedStates
 mod SameWords
 mod WeighedMoves
 mod WeighedTables
+pub mod LeftBefore
+pub mod AtHand

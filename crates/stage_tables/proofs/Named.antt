@@ -1,40 +1,27 @@
 -- The table of all kinds that are found is named and weighed by them.
-use Rattle.std.proofs.Common.{◌≡◌, ◌≢◌, ℕ, ◌<◌, ◌≤◌, Bool, true, false, List, [], ◌++◌, map, length, get_or, refl, ap}
-use Rattle.std.proofs.Common.{sym, ◌∙◌, subst, arith, inl, inr}
-use Rattle.std.specs.Prelude.{All, Contains, AllPairs, IsTrue}
-use Rattle.std.specs.Map.{keys_of, values_of}
-use Rattle.std.proofs.lemmas.Bool.{cases_lt}
-use Rattle.std.proofs.lemmas.List.{length-map, get_or_past}
-use Rattle.std.proofs.lemmas.List.Elements.{All-contains}
+use Rattle.std.proofs.Common.{◌≡◌, ◌≢◌, ℕ, ◌<◌, ◌≤◌, Bool, true, false, List, [], ◌++◌, map, length, get_or, refl}
+use Rattle.std.proofs.{Common.{ap, sym, ◌∙◌, subst, arith, inl, inr}, lemmas.Bool.cases_lt}
+use Rattle.std.proofs.{lemmas.List.{length-map, get_or_past}, lemmas.List.Elements.All-contains}
 use Rattle.std.proofs.lemmas.Option.{slice_get_within}
-use Rattle.weight_law.specs.declared.Weight.{Ghosts}
-use Rattle.weight_law.specs.declared.count.Count.{Count}
+use Rattle.std.specs.{Prelude.{All, Contains, AllPairs, IsTrue}, Map.{keys_of, values_of}}
+use Rattle.weight_law.specs.{declared.Weight.Ghosts, declared.count.Count.Count}
 use Rattle.weight_law.specs.declared.unit_weight.UnitWeight.{UnitWeight}
-use Rattle.tier_core.specs.declared.kind.Kind.{Kind}
-use Rattle.tier_core.specs.declared.sym.Sym.{Sym}
-use Rattle.tier_core.specs.Kinds.{PrefixKind}
+use Rattle.tier_core.specs.{declared.kind.Kind.Kind, declared.sym.Sym.Sym, Kinds.PrefixKind}
 use Rattle.tier_core.specs.Classes.{has, AreDisjoint}
 use Rattle.symbol_class.specs.Held.{some_has, times_held}
 use Rattle.symbol_class.proofs.Times.{none_held, once_from_apart, apart_from_once, some_from_same}
 use Rattle.grammar_reader.proofs.OverTiers.{over_tiers}
-use Rattle.arc_table.specs.declared.arc.TableArc.{TableArc}
-use Rattle.arc_table.specs.declared.state.TableState.{TableState}
+use Rattle.arc_table.specs.{declared.arc.TableArc.TableArc, declared.state.TableState.TableState}
 use Rattle.arc_table.specs.Conditions.{TargetsExist, ClassesDisjoint, ClassesFilled, OneWidth}
-use Rattle.arc_table.specs.Moves.{moves_at, accepting_at}
+use Rattle.arc_table.specs.{Moves.{moves_at, accepting_at}, MoveClasses.move_classes}
 use Rattle.arc_table.proofs.Push.{moves_exist}
-use Rattle.violation.specs.Moves.{FitsKind, next_kind, is_final}
-use Rattle.violation.specs.Prefixes.{kind_of}
-use Rattle.violation.specs.Problems.{last_stage}
+use Rattle.violation.specs.{Moves.{FitsKind, next_kind, is_final}, Prefixes.kind_of, Problems.last_stage}
 use Rattle.violation.proofs.SplitLemmas.{tiers_split}
-use Rattle.kind_moves.specs.declared.frame.Frame.{Frame}
-use Rattle.kind_moves.specs.Frames.{problem_in, kind_at_stage, FitsFrame}
-use Rattle.kind_moves.proofs.GrammarTiers.{form_from}
-use Rattle.kind_moves.proofs.KindEquality.{same_told}
-use Rattle.kind_moves.proofs.LawSteps.{kinds_law}
+use Rattle.kind_moves.specs.{declared.frame.Frame.Frame, Frames.{problem_in, kind_at_stage, FitsFrame}}
+use Rattle.kind_moves.proofs.{GrammarTiers.form_from, KindEquality.same_told, LawSteps.kinds_law}
 use Rattle.kind_tables.specs.StageTables.{IsStage, name_of, cost_of, AreNamedByKinds, AreWeighed}
 use Rattle.kind_tables.specs.FoundTables.{HasMoveOn, AreReached, base_of}
 use Rattle.stage_tables.specs.Explored.{names_at, IsMet, HasMoreKinds}
-use Rattle.arc_table.specs.MoveClasses.{move_classes}
 use Rattle.stage_tables.specs.Listed.{IsAt, IsReached, AreFound, IsTaken, IsTakenFrom, AreTaken}
 use Rattle.stage_tables.proofs.HeldMoves.{move_on, held_on, classes_apart, moves_apart}
 use Rattle.stage_tables.proofs.Listing.{at_number, get_map, get_or_map}

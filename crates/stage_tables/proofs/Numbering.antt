@@ -1,10 +1,8 @@
 -- A kind is put among those that are listed: it is one of them, or goes last.
 use Rattle.std.proofs.Common.{◌≡◌, ℕ, suc, ◌+◌, ◌<◌, ◌≤◌, Bool, true, false, not, cond, List, [], ◌∷◌, Some, length}
-use Rattle.std.proofs.Common.{refl, ap, sym, ◌∙◌, subst, arith, inl, inr}
-use Rattle.std.specs.List.{position_or_len}
-use Rattle.std.specs.Map.{keys_of}
-use Rattle.std.proofs.lemmas.List.{length_push}
+use Rattle.std.proofs.{Common.{refl, ap, sym, ◌∙◌, subst, arith, inl, inr}, lemmas.List.length_push}
 use Rattle.std.proofs.lemmas.Option.{slice_get_within}
+use Rattle.std.specs.{List.position_or_len, Map.keys_of}
 use Rattle.indexmap.specs.IndexMap.{insert_entry}
 use Rattle.tier_core.specs.declared.kind.Kind.{Kind}
 use Rattle.tier_core.proofs.SameKinds.{kind_eq, kind_eq-Decides}

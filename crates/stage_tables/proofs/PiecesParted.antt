@@ -1,28 +1,21 @@
 -- Pieces that are parted by one constraint after another.
-use Rattle.std.proofs.Common.{◌≡◌, ◌↔◌, ℕ, ◌+◌, ◌<◌, ◌≤◌, Bool, true, false, List, [], ◌∷◌, ◌++◌, take, length, get_or}
-use Rattle.std.proofs.Common.{refl, ap, sym, ◌∙◌, subst, arith, inl, inr, All, IsTrue}
+use Rattle.std.proofs.Common.{◌≡◌, ◌↔◌, ℕ, ◌+◌, ◌<◌, ◌≤◌, Bool, true, false, List, [], ◌∷◌, ◌++◌, take, length}
+use Rattle.std.proofs.Common.{get_or, refl, ap, sym, ◌∙◌, subst, arith, inl, inr, All, IsTrue}
 use Rattle.std.proofs.lemmas.Bool.{false≢true, cases_lt, false_from_ne_true}
 use Rattle.std.proofs.lemmas.List.{append-nil, append_assoc, map-append, take_more, get_or-map, length-map}
 use Rattle.std.proofs.lemmas.List.Elements.{All-nil, All-append, All-push, Contains-append_left, Contains-push}
-use Rattle.std.proofs.lemmas.List.Elements.{All-contains, All-map}
-use Rattle.std.proofs.lemmas.List.Folds.{list_any_at}
+use Rattle.std.proofs.{lemmas.List.Elements.{All-contains, All-map}, lemmas.List.Folds.list_any_at}
 use Rattle.std.proofs.Math.Seq.{take-length}
-use Rattle.tier_core.specs.declared.class.Class.{Class}
-use Rattle.tier_core.specs.declared.kind.Kind.{Kind}
-use Rattle.tier_core.specs.declared.sym.Sym.{Sym}
-use Rattle.tier_core.specs.Classes.{sets_of, has}
-use Rattle.tier_core.specs.Filled.{is_filled}
-use Rattle.symbol_class.specs.Held.{some_has, times_held, ArePieces}
-use Rattle.symbol_class.specs.Parts.{IsAlike}
+use Rattle.tier_core.specs.{declared.class.Class.Class, declared.kind.Kind.Kind, declared.sym.Sym.Sym}
+use Rattle.tier_core.specs.{Classes.{sets_of, has}, Filled.is_filled}
+use Rattle.symbol_class.specs.{Held.{some_has, times_held, ArePieces}, Parts.IsAlike}
 use Rattle.symbol_class.proofs.Times.{times-cons, times-append, once_from_apart, some_from_same, pieces_from_once}
 use Rattle.kind_moves.proofs.LeavingPieces.{held_once}
-use Rattle.kind_moves.specs.declared.frame.Frame.{Frame}
-use Rattle.kind_moves.specs.declared.piece.Piece.{Piece}
-use Rattle.kind_moves.specs.Frames.{tiers_in, FitsAt, IsMove}
-use Rattle.kind_moves.specs.Pieces.{cost_under, piece_classes, IsPiece}
-use Rattle.stage_tables.specs.declared.exploring.Exploring.{Exploring}
-use Rattle.stage_tables.specs.Exploring.{ArePiecesFrom}
-use Rattle.stage_tables.specs.PartedPieces.{IsPartOfPiece, AddsParts, IsPartOfSome, ArePartedPieces, ArePiecesBefore}
+use Rattle.kind_moves.specs.{declared.frame.Frame.Frame, declared.piece.Piece.Piece}
+use Rattle.kind_moves.specs.{Frames.{tiers_in, FitsAt, IsMove}, Pieces.{cost_under, piece_classes, IsPiece}}
+use Rattle.stage_tables.specs.{declared.exploring.Exploring.Exploring, Exploring.ArePiecesFrom}
+use Rattle.stage_tables.specs.PartedPieces.{IsPartOfPiece, AddsParts, IsPartOfSome, ArePartedPieces}
+use Rattle.stage_tables.specs.PartedPieces.{ArePiecesBefore}
 
 -- what a piece costs is what each of its columns does
 piece_alike : (frame : Frame) (stage constraint : ℕ) (kind : Kind) (piece : Piece)

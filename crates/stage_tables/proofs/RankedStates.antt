@@ -1,34 +1,22 @@
 -- The states of the table of a single pass, one after another.
 use Rattle.std.proofs.Common.{◌≡◌, ℕ, ◌+◌, ◌<◌, ◌≤◌, List, [], ◌∷◌, ◌++◌, take, length, get_or, sym, ap, ◌∙◌, subst}
-use Rattle.std.proofs.Common.{arith, inl, inr, take_all}
-use Rattle.std.specs.Prelude.{All, IsTrue}
-use Rattle.std.specs.List.{AllZip}
-use Rattle.std.proofs.lemmas.Bool.{cases_lt}
+use Rattle.std.proofs.{Common.{arith, inl, inr, take_all}, lemmas.Bool.cases_lt}
 use Rattle.std.proofs.lemmas.List.{take_more, length_push, get_or_default, get_or-map, length-map}
 use Rattle.std.proofs.lemmas.List.Elements.{Contains-get_or}
-use Rattle.weight_law.specs.declared.Weight.{Ghosts}
-use Rattle.weight_law.specs.declared.count.Count.{Count}
-use Rattle.weight_law.specs.declared.ranked.Ranked.{Ranked}
+use Rattle.std.specs.{Prelude.{All, IsTrue}, List.AllZip}
+use Rattle.weight_law.specs.{declared.Weight.Ghosts, declared.count.Count.Count, declared.ranked.Ranked.Ranked}
 use Rattle.weight_law.specs.Ranked.{parts_of_vector}
-use Rattle.tier_core.specs.declared.class.Class.{Class}
-use Rattle.tier_core.specs.declared.kind.Kind.{Kind}
-use Rattle.tier_core.specs.Classes.{has}
-use Rattle.symbol_class.specs.Parts.{IsAlike as IsAlikeOn}
-use Rattle.tier_core.specs.Kinds.{PrefixKind}
-use Rattle.arc_table.specs.declared.state.TableState.{TableState}
-use Rattle.arc_table.specs.Moves.{moves_at, accepting_at}
-use Rattle.arc_table.proofs.Push.{accepting_old, accepting_new, moves_old, moves_new, moves_exist}
-use Rattle.violation.specs.Moves.{move_costs}
-use Rattle.kind_moves.specs.declared.frame.Frame.{Frame}
-use Rattle.kind_moves.specs.Frames.{kind_at_stage, FitsFrame, problem_in}
-use Rattle.kind_tables.specs.StageTables.{name_of}
-use Rattle.kind_tables.specs.RankedTables.{AreWeighedByAll, IsRankedTable}
-use Rattle.stage_tables.specs.Explored.{names_at}
+use Rattle.tier_core.specs.{declared.class.Class.Class, declared.kind.Kind.Kind, Classes.has, Kinds.PrefixKind}
 use Rattle.tier_core.specs.KindNumbers.{kind_numbered}
-use Rattle.stage_tables.specs.Ranking.{AreColumnsOf, IsRankedMove, AreRankedStates, IsWholeTable}
+use Rattle.symbol_class.specs.Parts.{IsAlike as IsAlikeOn}
+use Rattle.arc_table.specs.{declared.state.TableState.TableState, Moves.{moves_at, accepting_at}}
+use Rattle.arc_table.proofs.Push.{accepting_old, accepting_new, moves_old, moves_new, moves_exist}
+use Rattle.violation.specs.{Moves.move_costs, Problems.last_stage}
+use Rattle.kind_moves.specs.{declared.frame.Frame.Frame, Frames.{kind_at_stage, FitsFrame, problem_in}}
+use Rattle.kind_tables.specs.{StageTables.name_of, RankedTables.{AreWeighedByAll, IsRankedTable}}
+use Rattle.stage_tables.specs.{Explored.names_at, Ranking.{AreColumnsOf, IsRankedMove, AreRankedStates, IsWholeTable}}
 use Rattle.stage_tables.proofs.Alike.{IsAlike, AreAlike, alike_on_runs, alike_named, alike_words}
 use Rattle.stage_tables.proofs.Zips.{zip_push, zip_from, zip_weaken}
-use Rattle.violation.specs.Problems.{last_stage}
 
 -- one more of a list, and one that stands in the relation to it
 pub zip_next : {A B : Type 0} (R : A → B → Type 0) (xs : List A) (ys : List B) (n : ℕ) (x : A) (y : B)

@@ -2,12 +2,9 @@
 use Rattle.std.proofs.Common.{◌≡◌, ℕ, List, [], ◌∷◌, sym, subst}
 use Rattle.std.specs.Prelude.{Contains, IsTrue}
 use Rattle.weight_law.specs.declared.Weight.{Ghosts}
-use Rattle.tier_core.specs.declared.sym.Sym.{Sym}
-use Rattle.tier_core.specs.Classes.{has}
-use Rattle.arc_table.specs.declared.arc.TableArc.{TableArc}
-use Rattle.arc_table.specs.declared.state.TableState.{TableState}
-use Rattle.arc_table.specs.Conditions.{ClassesFilled}
-use Rattle.arc_table.specs.Moves.{moves_at, accepting_at}
+use Rattle.tier_core.specs.{declared.sym.Sym.Sym, Classes.has}
+use Rattle.arc_table.specs.{declared.arc.TableArc.TableArc, declared.state.TableState.TableState}
+use Rattle.arc_table.specs.{Conditions.ClassesFilled, Moves.{moves_at, accepting_at}}
 use Rattle.arc_table.specs.Runs.{IsRun, IsPath, Reads, Accepts, IsOnRun}
 use Rattle.arc_table.proofs.SomeWord.{some_word}
 use Rattle.kind_tables.proofs.Paths.{path_word}

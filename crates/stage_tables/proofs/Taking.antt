@@ -1,40 +1,26 @@
 -- Moves that are taken one by one.
-use Rattle.std.proofs.Common.{◌≡◌, ℕ, zero, suc, ◌+◌, ◌-◌, ◌==◌, cond, ne_eqb, ◌<◌, Bool, true, false, List, [], ◌∷◌}
-use Rattle.std.proofs.Common.{◌++◌, take, length, get_or, refl, ap, sym, ◌∙◌, subst, arith, inl, inr, All, Contains}
-use Rattle.std.proofs.Common.{IsTrue}
-use Rattle.std.proofs.lemmas.Bool.{false≢true, cases_lt, false_from_ne_true}
+use Rattle.std.proofs.Common.{◌≡◌, ℕ, zero, suc, ◌+◌, ◌-◌, ◌==◌, cond, ne_eqb, ◌<◌, Bool, true, false, List, []}
+use Rattle.std.proofs.Common.{◌∷◌, ◌++◌, take, length, get_or, refl, ap, sym, ◌∙◌, subst, arith, inl, inr, All}
+use Rattle.std.proofs.{Common.{Contains, IsTrue}, lemmas.Bool.{false≢true, cases_lt, false_from_ne_true}}
 use Rattle.std.proofs.lemmas.List.Folds.{list_any_at}
 use Rattle.std.proofs.lemmas.List.{get_or-map, length-map, take_more, append-nil, append_assoc, map-append}
-use Rattle.std.proofs.lemmas.List.Elements.{All-nil, All-append, All-push, Contains-append_left, Contains-append_right}
-use Rattle.std.proofs.Math.Seq.{take-length}
-use Rattle.weight_law.specs.declared.Weight.{Ghosts}
-use Rattle.weight_law.specs.declared.count.Count.{Count}
+use Rattle.std.proofs.lemmas.List.Elements.{All-nil, All-append, All-push, Contains-append_left}
+use Rattle.std.proofs.{lemmas.List.Elements.Contains-append_right, Math.Seq.take-length}
+use Rattle.weight_law.specs.{declared.Weight.Ghosts, declared.count.Count.Count}
 use Rattle.weight_law.specs.declared.unit_weight.UnitWeight.{UnitWeight}
-use Rattle.tier_core.specs.declared.class.Class.{Class}
-use Rattle.tier_core.specs.declared.kind.Kind.{Kind}
-use Rattle.tier_core.specs.declared.sym.Sym.{Sym}
-use Rattle.tier_core.specs.Classes.{sets_of, has}
-use Rattle.tier_core.specs.Filled.{is_filled}
+use Rattle.tier_core.specs.{declared.class.Class.Class, declared.kind.Kind.Kind, declared.sym.Sym.Sym}
+use Rattle.tier_core.specs.{Classes.{sets_of, has}, Filled.is_filled, FirstColumn.first_column, Kinds.PrefixKind}
 use Rattle.symbol_class.specs.Held.{some_has, times_held}
 use Rattle.symbol_class.proofs.Times.{times-cons, times-append, once_from_apart}
-use Rattle.tier_core.specs.FirstColumn.{first_column}
 use Rattle.tier_core.proofs.Filled.{has-first_column}
-use Rattle.arc_table.specs.declared.arc.TableArc.{TableArc}
-use Rattle.arc_table.specs.Moves.{moves_at}
-use Rattle.arc_table.specs.Conditions.{TargetsExist}
-use Rattle.arc_table.specs.declared.state.TableState.{TableState}
-use Rattle.tier_core.specs.Kinds.{PrefixKind}
-use Rattle.violation.specs.Moves.{move_costs, cost_of}
-use Rattle.violation.specs.Problems.{Problem}
+use Rattle.arc_table.specs.{declared.arc.TableArc.TableArc, Moves.moves_at, Conditions.TargetsExist}
+use Rattle.arc_table.specs.{declared.state.TableState.TableState, MoveClasses.move_classes}
+use Rattle.violation.specs.{Moves.{move_costs, cost_of}, Problems.Problem}
 use Rattle.kind_moves.proofs.LeavingPieces.{held_once}
-use Rattle.kind_moves.specs.declared.frame.Frame.{Frame}
-use Rattle.kind_moves.specs.declared.piece.Piece.{Piece}
-use Rattle.kind_moves.specs.Frames.{problem_in, tiers_in, kind_at_stage, FitsAt}
-use Rattle.kind_moves.specs.Pieces.{piece_classes}
-use Rattle.stage_tables.specs.declared.exploring.Exploring.{Exploring}
-use Rattle.stage_tables.specs.declared.listed.Listed.{Listed}
+use Rattle.kind_moves.specs.{declared.frame.Frame.Frame, declared.piece.Piece.Piece}
+use Rattle.kind_moves.specs.{Frames.{problem_in, tiers_in, kind_at_stage, FitsAt}, Pieces.piece_classes}
+use Rattle.stage_tables.specs.{declared.exploring.Exploring.Exploring, declared.listed.Listed.Listed}
 use Rattle.stage_tables.specs.Listed.{StandsOver, IsReached, AreTargets, IsTaken, IsTakenFrom, AreTakenMoves}
-use Rattle.arc_table.specs.MoveClasses.{move_classes}
 use Rattle.stage_tables.specs.Exploring.{IsFoundWithin, StaysListed, ArePiecesFrom, IsPieceFrom, AddsTaken}
 use Rattle.stage_tables.proofs.Finding.{next_stands, next_reached, taken_stays, moves_taken_stay}
 

@@ -1,28 +1,22 @@
 -- Moves that are weighed one by one.
-use Rattle.std.proofs.Common.{◌≡◌, ℕ, ◌+◌, ◌<◌, Bool, not, ◌&&◌, List, [], ◌∷◌, ◌++◌, take, length, get_or, refl, ap}
-use Rattle.std.proofs.Common.{sym, ◌∙◌, subst, arith, inl, inr, Contains, IsTrue}
-use Rattle.std.proofs.lemmas.Bool.{cases_lt, and_parts, not-true}
-use Rattle.std.proofs.lemmas.List.{get_or-map, length-map, length_push, take_more, append-nil, append_assoc, map-append}
-use Rattle.std.proofs.lemmas.List.Elements.{All-nil, All-append, All-push, Contains-append_left, Contains-append_right}
-use Rattle.std.proofs.lemmas.List.Folds.{list_any_at}
+use Rattle.std.proofs.Common.{◌≡◌, ℕ, ◌+◌, ◌<◌, Bool, not, ◌&&◌, List, [], ◌∷◌, ◌++◌, take, length, get_or, refl}
+use Rattle.std.proofs.Common.{ap, sym, ◌∙◌, subst, arith, inl, inr, Contains, IsTrue}
+use Rattle.std.proofs.{lemmas.Bool.{cases_lt, and_parts, not-true}, lemmas.List.{get_or-map, length-map, length_push}}
+use Rattle.std.proofs.lemmas.List.{take_more, append-nil, append_assoc, map-append}
+use Rattle.std.proofs.lemmas.List.Elements.{All-nil, All-append, All-push, Contains-append_left}
+use Rattle.std.proofs.{lemmas.List.Elements.Contains-append_right, lemmas.List.Folds.list_any_at}
 use Rattle.std.proofs.Math.Seq.{take-length}
-use Rattle.weight_law.specs.declared.Weight.{Ghosts}
-use Rattle.weight_law.specs.declared.count.Count.{Count}
+use Rattle.weight_law.specs.{declared.Weight.Ghosts, declared.count.Count.Count}
 use Rattle.weight_law.specs.declared.unit_weight.UnitWeight.{UnitWeight}
-use Rattle.tier_core.specs.declared.class.Class.{Class}
-use Rattle.tier_core.specs.declared.sym.Sym.{Sym}
-use Rattle.tier_core.specs.Classes.{sets_of, has}
+use Rattle.tier_core.specs.{declared.class.Class.Class, declared.sym.Sym.Sym, Classes.{sets_of, has}}
 use Rattle.tier_core.specs.Filled.{is_filled}
-use Rattle.symbol_class.specs.Held.{times_held, once_if, AddsClasses}
-use Rattle.symbol_class.specs.Parts.{differs}
+use Rattle.symbol_class.specs.{Held.{times_held, once_if, AddsClasses}, Parts.differs}
 use Rattle.symbol_class.specs.declared.difference.Difference.{Difference}
 use Rattle.symbol_class.proofs.PartSteps.{two_sides}
 use Rattle.symbol_class.proofs.Times.{times-cons, times-append, added_times, pieces_added, columns_added}
-use Rattle.arc_table.specs.declared.arc.TableArc.{TableArc}
-use Rattle.arc_table.specs.declared.state.TableState.{TableState}
-use Rattle.arc_table.specs.Moves.{moves_at, accepting_at}
+use Rattle.arc_table.specs.{declared.arc.TableArc.TableArc, declared.state.TableState.TableState}
+use Rattle.arc_table.specs.{Moves.{moves_at, accepting_at}, MoveClasses.move_classes}
 use Rattle.arc_table.proofs.Push.{accepting_old, accepting_new, moves_old, moves_new}
-use Rattle.arc_table.specs.MoveClasses.{move_classes}
 use Rattle.stage_tables.specs.Weighing.{AddsMoves, IsWeighedPart, IsWeighedFrom, AddsWeighed, AreWeighedMoves}
 use Rattle.stage_tables.specs.Weighing.{AreWeighedStates}
 

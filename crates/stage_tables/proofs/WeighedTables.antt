@@ -1,39 +1,26 @@
 -- A kept table that is weighed, and whose states are named by kinds of the stage, is explored.
-use Rattle.std.proofs.Common.{◌≡◌, ℕ, ◌<◌, false, List, [], map, length, get_or, ap, sym, ◌∙◌, subst, arith, inl, inr}
-use Rattle.std.specs.Prelude.{All, Contains, AllPairs, IsTrue}
-use Rattle.std.proofs.lemmas.Bool.{cases_lt}
-use Rattle.std.proofs.lemmas.List.{length-map, get_or-map, get_or_past}
+use Rattle.std.proofs.Common.{◌≡◌, ℕ, ◌<◌, false, List, [], map, length, get_or, ap, sym, ◌∙◌, subst, arith, inl}
+use Rattle.std.proofs.{Common.inr, lemmas.Bool.cases_lt, lemmas.List.{length-map, get_or-map, get_or_past}}
 use Rattle.std.proofs.lemmas.List.Elements.{All-contains}
-use Rattle.weight_law.specs.declared.Weight.{Ghosts}
-use Rattle.weight_law.specs.declared.count.Count.{Count}
+use Rattle.std.specs.Prelude.{All, Contains, AllPairs, IsTrue}
+use Rattle.weight_law.specs.{declared.Weight.Ghosts, declared.count.Count.Count}
 use Rattle.weight_law.specs.declared.unit_weight.UnitWeight.{UnitWeight}
-use Rattle.tier_core.specs.declared.kind.Kind.{Kind}
-use Rattle.tier_core.specs.declared.sym.Sym.{Sym}
-use Rattle.tier_core.specs.Classes.{sets_of, has, AreDisjoint}
+use Rattle.tier_core.specs.{declared.kind.Kind.Kind, declared.sym.Sym.Sym, Classes.{sets_of, has, AreDisjoint}}
 use Rattle.tier_core.specs.FirstColumn.{first_column}
-use Rattle.tier_core.proofs.ClassLemmas.{same_width}
-use Rattle.tier_core.proofs.Filled.{has-first_column}
-use Rattle.symbol_class.specs.Held.{once_if}
-use Rattle.symbol_class.specs.Parts.{differs}
-use Rattle.symbol_class.specs.declared.difference.Difference.{Difference}
+use Rattle.tier_core.proofs.{ClassLemmas.same_width, Filled.has-first_column}
+use Rattle.symbol_class.specs.{Held.once_if, Parts.differs, declared.difference.Difference.Difference}
 use Rattle.symbol_class.proofs.Times.{once_from_apart, apart_from_once, some_from_same}
-use Rattle.arc_table.specs.declared.arc.TableArc.{TableArc}
-use Rattle.arc_table.specs.declared.state.TableState.{TableState}
+use Rattle.arc_table.specs.{declared.arc.TableArc.TableArc, declared.state.TableState.TableState}
 use Rattle.arc_table.specs.Conditions.{TargetsExist, ClassesDisjoint, ClassesFilled, OneWidth}
-use Rattle.arc_table.specs.Moves.{moves_at, accepting_at}
-use Rattle.arc_table.proofs.OneRun.{same_move}
-use Rattle.arc_table.proofs.Push.{moves_exist}
-use Rattle.kind_moves.specs.declared.frame.Frame.{Frame}
-use Rattle.kind_moves.specs.Frames.{problem_in, tiers_in, kind_at_stage, FitsFrame}
+use Rattle.arc_table.specs.{Moves.{moves_at, accepting_at}, MoveClasses.move_classes}
+use Rattle.arc_table.proofs.{OneRun.same_move, Push.moves_exist}
+use Rattle.kind_moves.specs.{declared.frame.Frame.Frame, Frames.{problem_in, tiers_in, kind_at_stage, FitsFrame}}
 use Rattle.kind_moves.specs.Pieces.{cost_under}
 use Rattle.kind_tables.specs.StageTables.{name_of, cost_of}
-use Rattle.stage_tables.specs.Explored.{names_at, IsExplored}
-use Rattle.stage_tables.specs.Kept.{AreKeptByKinds}
-use Rattle.arc_table.specs.MoveClasses.{move_classes}
+use Rattle.stage_tables.specs.{Explored.{names_at, IsExplored}, Kept.AreKeptByKinds}
 use Rattle.stage_tables.specs.Weighing.{cost_from, IsWeighedFrom, AreWeighedStates}
 use Rattle.stage_tables.proofs.HeldMoves.{move_on, held_on, classes_apart, moves_apart}
-use Rattle.stage_tables.proofs.SameWords.{GoesWith, words_with, on_runs_with}
-use Rattle.stage_tables.proofs.Taking.{last_cost}
+use Rattle.stage_tables.proofs.{SameWords.{GoesWith, words_with, on_runs_with}, Taking.last_cost}
 
 -- ---- what is known of a kept table
 

@@ -1,40 +1,27 @@
 -- All candidates are explored from the table of one state that accepts every timeline.
-use Rattle.std.proofs.Common.{◌≡◌, ℕ, ◌<◌, ◌≤◌, false, cond, ◌+◌, ◌-◌, ◌==◌, ne_eqb, List, [], ◌∷◌, ◌++◌, take, length}
-use Rattle.std.proofs.Common.{get_or, refl, ap, sym, ◌∙◌, subst, arith, Contains, zero, suc, replicate}
-use Rattle.std.proofs.lemmas.Grind.{same_number_lists}
-use Rattle.std.proofs.lemmas.List.{length-take-le, length-replicate}
-use Rattle.tier_core.specs.declared.sym.Sym.TheVariants.{Outside}
-use Rattle.tier_core.proofs.Filled.{filled_from}
-use Rattle.tier_core.proofs.Members.{contains_one}
-use Rattle.std.specs.Map.{keys_of, values_of}
-use Rattle.weight_law.specs.declared.Weight.{Ghosts}
-use Rattle.weight_law.specs.declared.count.Count.{Count}
-use Rattle.weight_law.specs.declared.unit_weight.UnitWeight.{UnitWeight}
-use Rattle.tier_core.specs.declared.kind.Kind.{Kind}
-use Rattle.tier_core.specs.declared.sym.Sym.{Sym}
-use Rattle.arc_table.specs.declared.arc.TableArc.{TableArc}
-use Rattle.arc_table.specs.declared.state.TableState.{TableState}
-use Rattle.arc_table.specs.Conditions.{TargetsExist, ClassesFilled}
-use Rattle.arc_table.specs.Moves.{moves_at}
-use Rattle.symbol_class.specs.Parts.{IsAlike}
+use Rattle.std.proofs.Common.{◌≡◌, ℕ, ◌<◌, ◌≤◌, false, cond, ◌+◌, ◌-◌, ◌==◌, ne_eqb, List, [], ◌∷◌, ◌++◌, take}
+use Rattle.std.proofs.Common.{length, get_or, refl, ap, sym, ◌∙◌, subst, arith, Contains, zero, suc, replicate}
+use Rattle.std.proofs.{lemmas.Grind.same_number_lists, lemmas.List.{length-take-le, length-replicate}}
+use Rattle.tier_core.specs.{declared.sym.Sym.TheVariants.Outside, declared.kind.Kind.Kind, declared.sym.Sym.Sym}
 use Rattle.tier_core.specs.Kinds.{PrefixKind}
-use Rattle.violation.specs.Moves.{is_tier_open, move_costs}
+use Rattle.tier_core.proofs.{Filled.filled_from, Members.contains_one}
+use Rattle.std.specs.Map.{keys_of, values_of}
+use Rattle.weight_law.specs.{declared.Weight.Ghosts, declared.count.Count.Count}
+use Rattle.weight_law.specs.declared.unit_weight.UnitWeight.{UnitWeight}
+use Rattle.arc_table.specs.{declared.arc.TableArc.TableArc, declared.state.TableState.TableState}
+use Rattle.arc_table.specs.{Conditions.{TargetsExist, ClassesFilled}, Moves.moves_at}
+use Rattle.symbol_class.specs.Parts.{IsAlike}
+use Rattle.violation.specs.{Moves.{is_tier_open, move_costs}, Candidates.IsCandidate, Problems.last_stage}
 use Rattle.violation.proofs.CostLemmas.{length_costs}
-use Rattle.violation.specs.Candidates.{IsCandidate}
-use Rattle.violation.specs.Problems.{last_stage}
-use Rattle.kind_moves.specs.declared.frame.Frame.{Frame}
-use Rattle.kind_moves.specs.Frames.{tiers_in, problem_in, kind_at_stage}
+use Rattle.kind_moves.specs.{declared.frame.Frame.Frame, Frames.{tiers_in, problem_in, kind_at_stage}}
 use Rattle.kind_moves.specs.Pieces.{cost_under}
 use Rattle.kind_moves.proofs.LawSteps.{prefixes_law}
-use Rattle.kind_tables.specs.StageTables.{name_of}
-use Rattle.kind_tables.specs.FoundTables.{base_of, HaveAllMoves}
+use Rattle.kind_tables.specs.{StageTables.name_of, FoundTables.{base_of, HaveAllMoves}}
 use Rattle.kind_tables.proofs.Complete.{complete_words, complete_on_runs}
-use Rattle.stage_tables.specs.Explored.{names_at, IsComplete}
-use Rattle.stage_tables.specs.Whole.{IsWholeState, IsWholeMove}
+use Rattle.stage_tables.specs.{Explored.{names_at, IsComplete}, Whole.{IsWholeState, IsWholeMove}}
 use Rattle.stage_tables.specs.Listed.{IsReached, IsOverOne, IsOfWidth, AreFound, AreTaken}
 use Rattle.stage_tables.proofs.Named.{frame_stage, kind_of_state, name_is, old_move, base_is, weighs, columns_new}
-use Rattle.stage_tables.proofs.Named.{new_reached, is_named, all_fit}
-use Rattle.stage_tables.proofs.KeptTables.{path_within}
+use Rattle.stage_tables.proofs.{Named.{new_reached, is_named, all_fit}, KeptTables.path_within}
 
 -- ---- the table
 

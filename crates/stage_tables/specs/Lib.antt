@@ -6,3 +6,4 @@ pub mod Exploring
 pub mod PartedPieces
 pub mod Ranking
 pub mod Weighing
+pub mod Tested

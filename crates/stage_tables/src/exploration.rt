@@ -5,6 +5,7 @@ ghost use Rattle.kind_moves.specs.Frames.{problem_in};
 ghost use Rattle.stage_tables.specs.Kept.{IsKeptTable};
 ghost use Rattle.stage_tables.specs.Explored.{IsExplored, IsComplete, HasMoreKinds};
 ghost use Rattle.stage_tables.specs.Listed.{AreTaken};
+ghost use Rattle.stage_tables.specs.Tested.{IsLeftBefore};
 ghost use Rattle.stage_tables.specs.Exploring.{IsFoundWithin, IsFoundBeyond, IsStageFound, IsTooMuchFound};
 ghost use Rattle.violation.specs.Candidates.{IsCandidate};
 ghost use Rattle.violation.specs.Problems.{last_stage};
@@ -22,6 +23,16 @@ use weight_law::{Count, UnitWeight};
 impl Exploring<'_> {
     ghost use Rattle.std.specs.Prelude.{◌<◌};
 
+    /// The place of the last phase's bit in kinds, if the kept table is what the stage before has
+    /// left.
+    fn bit(&self) -> u32 {
+        if self.before < self.stage {
+            self.frame.stretch_count(self.before)
+        } else {
+            0
+        }
+    }
+
     /// The start, listed over state 0.
     fn start(&self, alloc: Global) -> Result<Listed, ExploreErr>
         requires budget { 1 ≤ self.now.budget }
@@ -32,9 +43,14 @@ impl Exploring<'_> {
         let Ok(recent) = vec![in alloc; 0; ROOM] else {
             return Err(ExploreErr::NoMemory);
         };
+        let Ok(over) = vec![in alloc; 0; 2 * self.kept.len() as usize] else {
+            return Err(ExploreErr::NoMemory);
+        };
         let mut listed = Listed {
             kinds: IndexMap::new(alloc),
             recent,
+            over,
+            bit: self.bit(),
         };
         let _start = number_of(&mut listed, self.frame.start(), 0, self.budget)?;
         Ok(listed)
@@ -48,6 +64,7 @@ impl Exploring<'_> {
     ) -> Result<Vec<TableState<Count>>, ExploreErr>
         requires found { IsFoundWithin self.now listed.old }
         requires one { length listed.old.kinds.entries ≡ 1 }
+        requires left { IsLeftBefore self.now }
         ensures found { IfOk result (λ _. IsFoundWithin self.now listed.new) }
         ensures taken { IfOk result
             (λ states.
@@ -76,6 +93,7 @@ impl Exploring<'_> {
     fn all_states(&self, alloc: Global) -> Result<StageTable, ExploreErr>
         requires some { 1 ≤ self.now.budget }
         requires few { self.now.budget ≤ 65536 }
+        requires left { IsLeftBefore self.now }
         ensures found { IfOk result
             (λ found. IsStageFound self.now found.kinds.items (states_of found.table)) }
         ensures few { IfOk result (λ found. length found.kinds.items ≤ self.now.budget) }
@@ -124,6 +142,7 @@ pub fn explore(
 {
     let exploring = Exploring {
         frame,
+        before,
         first: stage,
         stage,
         kept,
@@ -160,6 +179,7 @@ pub fn explore_all(
     };
     let exploring = Exploring {
         frame,
+        before: stage,
         first: 1,
         stage,
         kept: &whole,

@@ -1,9 +1,11 @@
 ghost use Rattle.std.specs.Prelude.{◌≡◌, ◌<◌, ◌≤◌, ℕ, length, slice_get, IfOk, IfErr, IfSome};
+ghost use Rattle.tier_core.specs.declared.kind.Kind.{Kind};
+ghost use Rattle.tier_core.specs.Tiers.{has_tier};
 ghost use Rattle.stage_tables.specs.Listed.{AreApart, IsAt, IsNumbered, IsPutLast};
 
 use crate::stage_table::ExploreErr;
 use indexmap::IndexMap;
-use tier_core::Kind;
+use tier_core::{Kind, has_bit};
 
 /// How many numbers are kept at hand.
 pub(crate) const ROOM: usize = 4096;
@@ -12,11 +14,15 @@ pub(crate) const ROOM: usize = 4096;
 /// table that it stands over.
 ///
 /// `recent` keeps numbers at hand, so that most kinds are found without a hash: at each of its
-/// places the number that was last given to a kind of that place, or any other number.
+/// places the number that was last given to a kind of that place, or any other number. `over` does
+/// so for each state, and the value of the bit at place `bit` of the phases that are met: two
+/// kinds over one state of which neither or both have it are mostly one.
 #[derive(Drop)]
 pub(crate) struct Listed {
     pub kinds: IndexMap<Kind, u32>,
     pub recent: Vec<u32>,
+    pub over: Vec<u32>,
+    pub bit: u32,
 }
 
 /// The kind of a number and the state that it stands over, if so many kinds are listed.
@@ -44,14 +50,52 @@ fn number_at_hand(listed: &Listed, kind: &Kind) -> Option<u32>
     if found == *kind { Some(number) } else { None }
 }
 
-/// Keeps the number of a kind at hand.
-fn keep_at_hand(listed: &mut Listed, kind: &Kind, number: u32)
+/// Where the number of a kind over a state is kept at hand, by a bit of the kind.
+fn place_over(state: u32, is_met: bool) -> usize {
+    if is_met {
+        2 * state as usize + 1
+    } else {
+        2 * state as usize
+    }
+}
+
+/// The number of a kind over a state, in which the bit at a place of the phases that are met has a
+/// value, if it is at hand.
+pub(crate) fn number_over(listed: &Listed, state: u32, bit: u32, is_met: bool) -> Option<u32>
+    requires { bit < 32 }
+    ensures { IfSome result (λ k. (kind : Kind) × IsAt listed.now.kinds.entries k kind state
+        × (has_tier kind.met bit ≡ is_met)) }
+{
+    let number = *listed.over.get(place_over(state, is_met))?;
+    let (kind, over) = entry_at(listed, number as usize)?;
+    if over != state {
+        return None;
+    }
+    if has_bit(kind.met, bit) != is_met {
+        return None;
+    }
+    Some(number)
+}
+
+/// Keeps the number of a kind over a state at hand.
+fn keep_over(listed: &mut Listed, kind: &Kind, state: u32, number: u32)
+    ensures { listed.new.kinds ≡ listed.old.kinds }
+{
+    let place = place_over(state, has_bit(kind.met, listed.bit % 32));
+    if place < listed.over.len() {
+        listed.over[place] = number;
+    }
+}
+
+/// Keeps the number of a kind over a state at hand, in both ways.
+fn keep_at_hand(listed: &mut Listed, kind: &Kind, state: u32, number: u32)
     ensures { listed.new.kinds ≡ listed.old.kinds }
 {
     let place = place_of(kind);
     if place < listed.recent.len() {
         listed.recent[place] = number;
     }
+    keep_over(listed, kind, state, number);
 }
 
 /// The number of a kind, which is put last over a state if it is not listed yet. If it is, it stands
@@ -87,6 +131,6 @@ pub(crate) fn number_of(
     if number >= budget as usize {
         return Err(ExploreErr::OverBudget);
     }
-    keep_at_hand(listed, &kind, number as u32);
+    keep_at_hand(listed, &kind, state, number as u32);
     Ok(number as u32)
 }

@@ -1,14 +1,20 @@
-ghost use Rattle.std.specs.Prelude.{◌≡◌, ◌≤◌, length, All, IfOk, OnOk};
+ghost use Rattle.std.specs.Prelude.{◌≡◌, ◌≤◌, length, All, Contains, IfOk, OnOk};
+ghost use Rattle.arc_table.specs.Moves.{moves_at};
+ghost use Rattle.arc_table.specs.States.{states_of};
 ghost use Rattle.tier_core.specs.Classes.{sets_of};
 ghost use Rattle.kind_moves.specs.Frames.{tiers_in, FitsFrame};
 ghost use Rattle.kind_moves.specs.Pieces.{IsPiece};
 ghost use Rattle.stage_tables.specs.Exploring.{ArePiecesFrom};
+ghost use Rattle.stage_tables.specs.Listed.{IsReached};
+ghost use Rattle.stage_tables.specs.Tested.{AreTestsAt, IsLeftBefore};
 ghost use Rattle.stage_tables.specs.PartedPieces.{AddsParts, ArePartedPieces};
 
 use crate::exploring::Exploring;
-use kind_moves::Piece;
+use arc_table::TableArc;
+use kind_moves::{LastTests, Piece};
 use std::alloc::Global;
 use tier_core::{Class, Kind, NoMemory};
+use weight_law::UnitWeight;
 
 impl Exploring<'_> {
     /// Appends the parts of a piece to others; all columns of a part cost the same under a
@@ -87,6 +93,53 @@ impl Exploring<'_> {
         for constraint in self.first..self.stage {
             pieces = self.parts_by_cost(alloc, constraint, kind, &pieces)?;
         }
+        Ok(pieces)
+    }
+
+    /// The tests of the last constraint at a kind, if it is a stretch implication and the kept table
+    /// is what the stage before has left.
+    pub fn tests(&self, kind: &Kind) -> Option<LastTests>
+        requires fits { FitsFrame self.now.frame.now self.now.stage kind.now }
+        ensures { AreTestsAt self.now kind.now result }
+    {
+        if self.stage <= self.before {
+            return None;
+        }
+        if self.stage - self.before > 1 {
+            return None;
+        }
+        if self.frame.stretch_count(self.stage) != self.frame.stretch_count(self.before) + 1 {
+            return None;
+        }
+        Some(self.frame.last_tests(self.before, self.stage, kind))
+    }
+
+    /// The columns of a kept move that fit a kind over its state, in pieces that lead to one kind,
+    /// and all columns of which cost the same under each constraint from the first on.
+    pub fn pieces_of(
+        &self,
+        alloc: Global,
+        state: u32,
+        kind: &Kind,
+        tests: &Option<LastTests>,
+        arc: &TableArc<UnitWeight>,
+    ) -> Result<Vec<Piece>, NoMemory>
+        requires fits { FitsFrame self.now.frame.now self.now.stage kind.now }
+        requires reached { IsReached self.now.frame.now self.now.stage
+            (states_of self.now.kept.now) kind.now state }
+        requires left { IsLeftBefore self.now }
+        requires tests { AreTestsAt self.now kind.now tests.now }
+        requires arc { Contains (moves_at (states_of self.now.kept.now) state) arc.now }
+        ensures { IfOk result
+            (λ pieces. ArePiecesFrom self.now kind.now arc.now.class pieces.items) }
+    {
+        let Some(tests) = tests else {
+            return self.pieces(alloc, kind, &arc.class);
+        };
+        let (before, stage) = (self.before, self.stage);
+        let pieces = self
+            .frame
+            .last_pieces(alloc, before, stage, kind, tests, &arc.class)?;
         Ok(pieces)
     }
 }

@@ -1,12 +1,9 @@
 use Rattle.std.proofs.Common.{◌∷◌, [], ◌++◌, ◌&&◌, not, map, length, refl, sym, ◌∙◌, ap}
-use Rattle.std.proofs.lemmas.Bool.{not-true, not-false}
-use Rattle.std.proofs.lemmas.Result.{on_ok_weaker}
-use Rattle.tier_core.specs.Classes.{sets_of, has}
-use Rattle.tier_core.specs.Filled.{is_filled}
+use Rattle.std.proofs.{lemmas.Bool.{not-true, not-false}, lemmas.Result.on_ok_weaker}
+use Rattle.tier_core.specs.{Classes.{sets_of, has}, Filled.is_filled}
 use Rattle.symbol_class.specs.Held.{once_if}
 use Rattle.kind_moves.specs.Leaving.{led_to}
-use Rattle.kind_moves.proofs.LeavingPieces.{led_none, led_by, led_pieces}
-use Rattle.kind_moves.proofs.FittingSteps.{rest_apart}
+use Rattle.kind_moves.proofs.{LeavingPieces.{led_none, led_by, led_pieces}, FittingSteps.rest_apart}
 use Rattle.kind_moves.proofs.all_moves.push_rest_led.Goals as goal
 
 pub returns-then-is_empty : goal.returns-then-is_empty

@@ -1,6 +1,5 @@
 use Rattle.std.proofs.Common.{◌≡◌, ◌&&◌, List, take, length}
-use Rattle.tier_core.specs.declared.sym.Sym.{Sym}
-use Rattle.tier_core.specs.Classes.{sets_of, has}
+use Rattle.tier_core.specs.{declared.sym.Sym.Sym, Classes.{sets_of, has}}
 use Rattle.kind_moves.specs.Asks.{answers}
 use Rattle.kind_moves.proofs.asked.narrowed_by.Given as goal
 

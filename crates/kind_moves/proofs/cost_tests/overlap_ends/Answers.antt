@@ -1,10 +1,6 @@
-use Rattle.std.proofs.Common.{◌≡◌, ◌&&◌, ◌++◌, true, ap, ap₂, sym, ◌∙◌, arith}
+use Rattle.std.proofs.{Common.{◌≡◌, ◌&&◌, ◌++◌, true, ap, ap₂, sym, ◌∙◌, arith}, lemmas.List.Folds.list_all-append}
 use Rattle.std.specs.List.{list_all}
-use Rattle.std.proofs.lemmas.List.Folds.{list_all-append}
-use Rattle.tier_core.specs.declared.event.Event.{Event}
-use Rattle.tier_core.specs.Classes.{has}
-use Rattle.tier_core.specs.Sides.{edge_among}
-use Rattle.tier_core.specs.Tiers.{has_tier}
+use Rattle.tier_core.specs.{declared.event.Event.Event, Classes.has, Sides.edge_among, Tiers.has_tier}
 use Rattle.kind_moves.proofs.Answering.{is_ended}
 use Rattle.kind_moves.proofs.cost_tests.overlap_ends.Goals as goal
 

@@ -1,6 +1,5 @@
 use Rattle.std.proofs.Common.{◌&&◌, ap, sym, ◌∙◌, arith}
-use Rattle.tier_core.specs.Classes.{has}
-use Rattle.tier_core.specs.Sides.{edge_among}
+use Rattle.tier_core.specs.{Classes.has, Sides.edge_among}
 use Rattle.kind_moves.proofs.Answering.{is_left_ended}
 use Rattle.kind_moves.proofs.cost_tests.stretch_ends.Goals as goal
 

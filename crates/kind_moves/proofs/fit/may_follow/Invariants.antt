@@ -1,7 +1,5 @@
 use Rattle.std.proofs.Common.{◌≡◌, ℕ, ◌<◌, true}
-use Rattle.tier_core.specs.Scan.{fits}
-use Rattle.tier_core.specs.Timelines.{symbol}
-use Rattle.tier_core.specs.Tiers.{has_tier}
+use Rattle.tier_core.specs.{Scan.fits, Timelines.symbol, Tiers.has_tier}
 use Rattle.kind_moves.proofs.fit.may_follow.Given as goal
 
 abbrev pub invariant-loop-tier : goal.invariant-loop-tier

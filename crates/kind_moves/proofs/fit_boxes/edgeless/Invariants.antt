@@ -1,7 +1,5 @@
 use Rattle.std.proofs.Common.{◌≡◌, ℕ, ◌<◌, ◌↔◌, false, IsTrue, List, length}
-use Rattle.tier_core.specs.declared.sym.Sym.{Sym}
-use Rattle.tier_core.specs.Classes.{sets_of, has}
-use Rattle.tier_core.specs.Timelines.{symbol, is_edge}
+use Rattle.tier_core.specs.{declared.sym.Sym.Sym, Classes.{sets_of, has}, Timelines.{symbol, is_edge}}
 use Rattle.kind_moves.proofs.fit_boxes.edgeless.Given as goal
 
 abbrev pub invariant-loop-tier : goal.invariant-loop-tier

@@ -1,9 +1,5 @@
 use Rattle.std.proofs.Common.{ap, ◌∙◌}
-use Rattle.tier_core.specs.Classes.{has}
-use Rattle.tier_core.specs.Scan.{fits}
-use Rattle.tier_core.specs.Sets.{is_in}
-use Rattle.tier_core.specs.Tiers.{has_tier}
-use Rattle.tier_core.specs.Timelines.{symbol}
+use Rattle.tier_core.specs.{Classes.has, Scan.fits, Sets.is_in, Tiers.has_tier, Timelines.symbol}
 use Rattle.kind_moves.proofs.FitBoxSteps.{tier_more}
 use Rattle.kind_moves.proofs.fit_boxes.following.Goals as goal
 

@@ -1,9 +1,5 @@
 use Rattle.std.proofs.Common.{◌≡◌, ℕ, ◌<◌, ◌↔◌, true, IsTrue, List, length}
-use Rattle.tier_core.specs.declared.sym.Sym.{Sym}
-use Rattle.tier_core.specs.Classes.{sets_of, has}
-use Rattle.tier_core.specs.Scan.{fits}
-use Rattle.tier_core.specs.Tiers.{has_tier}
-use Rattle.tier_core.specs.Timelines.{symbol}
+use Rattle.tier_core.specs.{declared.sym.Sym.Sym, Classes.{sets_of, has}, Scan.fits, Tiers.has_tier, Timelines.symbol}
 use Rattle.kind_moves.proofs.fit_boxes.following.Given as goal
 
 abbrev pub invariant-loop-tier : goal.invariant-loop-tier

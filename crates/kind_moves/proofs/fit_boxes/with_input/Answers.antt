@@ -1,8 +1,8 @@
 use Rattle.std.proofs.Common.{sym, ◌∙◌, arith}
 use Rattle.tier_core.specs.Classes.{has}
 use Rattle.violation.proofs.InputParts.{reads_more, reads_same, reads_none}
-use Rattle.kind_moves.proofs.fit_boxes.with_input.Goals as goal
 use Rattle.kind_moves.proofs.fit_boxes.with_input.Goals.{then-is_input+else-next-form, else-is_input}
+use Rattle.kind_moves.proofs.fit_boxes.with_input.Goals as goal
 
 pub loop-tier-preserved : goal.loop-tier-preserved
 loop-tier-preserved c =

@@ -1,7 +1,5 @@
 use Rattle.std.proofs.Common.{◌≡◌, ◌≤◌, ◌↔◌, IsTrue, List, length, map, drop}
-use Rattle.tier_core.specs.declared.sym.Sym.{Sym}
-use Rattle.tier_core.specs.Classes.{sets_of, has}
-use Rattle.tier_core.specs.Tiers.{is_input, numbers_from}
+use Rattle.tier_core.specs.{declared.sym.Sym.Sym, Classes.{sets_of, has}, Tiers.{is_input, numbers_from}}
 use Rattle.tier_core.specs.Timelines.{symbol}
 use Rattle.kind_moves.proofs.fit_boxes.with_input.Given as goal
 

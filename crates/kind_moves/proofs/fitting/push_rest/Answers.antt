@@ -1,5 +1,4 @@
-use Rattle.std.proofs.Common.{sym, ◌∙◌}
-use Rattle.std.proofs.lemmas.Bool.{not-true, not-false}
+use Rattle.std.proofs.{Common.{sym, ◌∙◌}, lemmas.Bool.{not-true, not-false}}
 use Rattle.tier_core.specs.Filled.{is_filled}
 use Rattle.kind_moves.proofs.FittingSteps.{rest_of_none, rest_apart}
 use Rattle.kind_moves.proofs.fitting.push_rest.Goals as goal

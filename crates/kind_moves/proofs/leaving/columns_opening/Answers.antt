@@ -1,8 +1,8 @@
 use Rattle.std.proofs.Common.{◌<◌, length, sym, ◌∙◌, arith}
 use Rattle.tier_core.specs.Classes.{sets_of}
 use Rattle.kind_moves.proofs.LeavingSteps.{left_none, left_more, left_same, left_all, tier_within}
-use Rattle.kind_moves.proofs.leaving.columns_opening.Goals as goal
 use Rattle.kind_moves.proofs.leaving.columns_opening.Goals.{then-has_bit, else-has_bit}
+use Rattle.kind_moves.proofs.leaving.columns_opening.Goals as goal
 
 pub loop-tier-init : goal.loop-tier-init
 loop-tier-init c = left_none c.args.class.now c.args.tiers c.args.opened

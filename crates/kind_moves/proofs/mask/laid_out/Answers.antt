@@ -1,7 +1,7 @@
 use Rattle.std.proofs.Common.{sym, ◌∙◌, arith}
 use Rattle.kind_moves.proofs.MaskSteps.{laid_more, laid_same, laid_all}
-use Rattle.kind_moves.proofs.mask.laid_out.Goals as goal
 use Rattle.kind_moves.proofs.mask.laid_out.Goals.{then-has_bit, else-has_bit}
+use Rattle.kind_moves.proofs.mask.laid_out.Goals as goal
 
 pub loop-tier-preserved : goal.loop-tier-preserved
 loop-tier-preserved c = elim c.if-has_bit.branch [

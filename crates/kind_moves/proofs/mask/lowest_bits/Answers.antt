@@ -1,5 +1,4 @@
-use Rattle.std.proofs.Common.{◌<◌, ◌^◌, arith}
-use Rattle.std.proofs.lemmas.Nat.{pow_below}
+use Rattle.std.proofs.{Common.{◌<◌, ◌^◌, arith}, lemmas.Nat.pow_below}
 use Rattle.kind_moves.proofs.MaskSteps.{lowest_at}
 use Rattle.kind_moves.proofs.mask.lowest_bits.Goals as goal
 

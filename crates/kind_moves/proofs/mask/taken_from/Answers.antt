@@ -1,7 +1,7 @@
 use Rattle.std.proofs.Common.{sym, ◌∙◌, arith}
 use Rattle.kind_moves.proofs.MaskSteps.{taken_more, taken_same, taken_all, taken_within}
-use Rattle.kind_moves.proofs.mask.taken_from.Goals as goal
 use Rattle.kind_moves.proofs.mask.taken_from.Goals.{then-has_bit, else-has_bit}
+use Rattle.kind_moves.proofs.mask.taken_from.Goals as goal
 
 pub loop-tier-preserved : goal.loop-tier-preserved
 loop-tier-preserved c = elim c.if-has_bit.branch [

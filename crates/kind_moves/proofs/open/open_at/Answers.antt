@@ -1,7 +1,5 @@
 use Rattle.std.proofs.Common.{◌≡◌, ℕ, suc, ◌-◌, ap, sym, ◌∙◌, subst, arith}
-use Rattle.tier_core.specs.Tables.{tiers_of_table}
-use Rattle.tier_core.specs.Scan.{opens}
-use Rattle.tier_core.specs.Timelines.{symbol, column_at}
+use Rattle.tier_core.specs.{Tables.tiers_of_table, Scan.opens, Timelines.{symbol, column_at}}
 use Rattle.kind_moves.specs.Masks.{AreOpenAt}
 use Rattle.kind_moves.proofs.OpenPlaces.{open_first, open_later}
 use Rattle.kind_moves.proofs.open.open_at.Goals as goal

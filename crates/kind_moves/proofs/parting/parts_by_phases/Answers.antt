@@ -2,8 +2,8 @@ use Rattle.std.proofs.Common.{sym, ◌∙◌}
 use Rattle.tier_core.specs.Kinds.{phase_at}
 use Rattle.violation.proofs.KindBits.{met_at}
 use Rattle.kind_moves.proofs.PhaseParts.{phased_none, phased_more, phased_same}
-use Rattle.kind_moves.proofs.parting.parts_by_phases.Goals as goal
 use Rattle.kind_moves.proofs.parting.parts_by_phases.Goals.{then-is_stretch+in_ok-parts, else-is_stretch}
+use Rattle.kind_moves.proofs.parting.parts_by_phases.Goals as goal
 
 pub loop-constraint-init : goal.loop-constraint-init
 loop-constraint-init c = phased_none c.args.width c.args.constraints.now c.args.kind.now c.args.classes.items

@@ -1,10 +1,9 @@
 use Rattle.std.proofs.Common.{sym, ◌∙◌}
 use Rattle.tier_core.specs.Kinds.{phase_at}
-use Rattle.violation.proofs.KindBits.{met_at}
-use Rattle.violation.proofs.NextPhases.{next_more, next_same, next_all}
+use Rattle.violation.proofs.{KindBits.met_at, NextPhases.{next_more, next_same, next_all}}
 use Rattle.kind_moves.specs.Phases.{phase_of}
-use Rattle.kind_moves.proofs.phase.next_phases.Goals as goal
 use Rattle.kind_moves.proofs.phase.next_phases.Goals.{then-is_stretch, else-is_stretch}
+use Rattle.kind_moves.proofs.phase.next_phases.Goals as goal
 
 pub loop-constraint-preserved : goal.loop-constraint-preserved
 loop-constraint-preserved c =

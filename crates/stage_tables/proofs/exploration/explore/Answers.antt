@@ -1,12 +1,9 @@
-use Rattle.std.proofs.Common.{◌≡◌, List, sym, subst}
-use Rattle.std.proofs.lemmas.Result.{IfOk-weaker, IfErr-weaker}
+use Rattle.std.proofs.{Common.{◌≡◌, List, sym, subst}, lemmas.Result.{IfOk-weaker, IfErr-weaker}}
 use Rattle.tier_core.specs.declared.kind.Kind.{Kind}
-use Rattle.arc_table.specs.States.{states_of}
-use Rattle.arc_table.specs.Runs.{Accepts}
+use Rattle.arc_table.specs.{States.states_of, Runs.Accepts}
 use Rattle.stage_tables.specs.declared.stage_table.ExploreErr.TheVariants.{OverBudget}
 use Rattle.stage_tables.specs.Explored.{IsExplored, HasMoreKinds}
-use Rattle.stage_tables.proofs.KeptTables.{kept_over_one, kept_wide, kept_goes_on, is_explored}
-use Rattle.stage_tables.proofs.Named.{over_budget}
+use Rattle.stage_tables.proofs.{KeptTables.{kept_over_one, kept_wide, kept_goes_on, is_explored}, Named.over_budget}
 use Rattle.stage_tables.proofs.exploration.explore.Goals as goal
 
 pub invariant_of-exploring-clause-over_one : goal.invariant_of-exploring-clause-over_one

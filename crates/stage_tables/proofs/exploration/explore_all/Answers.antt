@@ -1,5 +1,4 @@
-use Rattle.std.proofs.Common.{◌≡◌, List, sym, subst, arith}
-use Rattle.std.proofs.lemmas.Result.{IfOk-weaker, IfErr-weaker}
+use Rattle.std.proofs.{Common.{◌≡◌, List, sym, subst, arith}, lemmas.Result.{IfOk-weaker, IfErr-weaker}}
 use Rattle.tier_core.specs.declared.kind.Kind.{Kind}
 use Rattle.arc_table.specs.States.{states_of}
 use Rattle.violation.specs.Candidates.{IsCandidate}

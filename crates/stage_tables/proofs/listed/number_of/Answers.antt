@@ -1,11 +1,10 @@
-use Rattle.std.proofs.Common.{ℕ, Some, refl, ap, ◌∙◌, inl}
-use Rattle.std.proofs.lemmas.Map.Made.{AllPairs-from_IsDistinct}
+use Rattle.std.proofs.{Common.{ℕ, Some, refl, ap, ◌∙◌, inl}, lemmas.Map.Made.AllPairs-from_IsDistinct}
 use Rattle.std.specs.Map.{keys_of}
 use Rattle.tier_core.proofs.SameKinds.{kind_eq-Decides}
 use Rattle.stage_tables.specs.Listed.{AreApart, IsNumbered}
 use Rattle.stage_tables.proofs.Numbering.{numbered, numbered_as, few_numbered, put_beyond}
-use Rattle.stage_tables.proofs.listed.number_of.Goals as goal
 use Rattle.stage_tables.proofs.listed.number_of.Goals.{In-Ok}
+use Rattle.stage_tables.proofs.listed.number_of.Goals as goal
 
 -- no two kinds are the same after one is inserted
 inserted_apart : (c : In-Ok) → AreApart c.insert_full.new.self.entries

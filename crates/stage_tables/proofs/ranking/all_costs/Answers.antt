@@ -1,11 +1,10 @@
 use Rattle.std.proofs.Common.{◌≡◌, ℕ, ◌+◌, ◌-◌, List, length, get_or, ap, ◌∙◌, arith}
 use Rattle.grammar_reader.proofs.OverTiers.{few_constraints}
 use Rattle.kind_moves.specs.Frames.{kind_at_stage, problem_in}
-use Rattle.violation.specs.Moves.{move_costs}
+use Rattle.violation.specs.{Moves.move_costs, Problems.last_stage}
 use Rattle.stage_tables.specs.Ranking.{costs_at}
 use Rattle.stage_tables.proofs.FirstParts.{none_first, next_first, all_first, costs_long}
 use Rattle.stage_tables.proofs.ranking.all_costs.Goals as goal
-use Rattle.violation.specs.Problems.{last_stage}
 
 pub loop-place-init : goal.loop-place-init
 loop-place-init c = record {

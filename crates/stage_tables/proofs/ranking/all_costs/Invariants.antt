@@ -2,8 +2,8 @@ use Rattle.std.proofs.Common.{◌≡◌}
 use Rattle.kind_moves.specs.Frames.{problem_in}
 use Rattle.stage_tables.specs.Ranking.{costs_at}
 use Rattle.stage_tables.proofs.FirstParts.{AreFirst}
-use Rattle.stage_tables.proofs.ranking.all_costs.Given as goal
 use Rattle.violation.specs.Problems.{last_stage}
+use Rattle.stage_tables.proofs.ranking.all_costs.Given as goal
 
 abbrev pub invariant-loop-place : goal.invariant-loop-place
 invariant-loop-place l = record {

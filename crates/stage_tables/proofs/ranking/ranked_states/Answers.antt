@@ -1,7 +1,6 @@
 use Rattle.std.proofs.Common.{◌≡◌, ◌<◌, length, subst, arith}
 use Rattle.std.specs.List.{AllZip}
-use Rattle.arc_table.specs.States.{states_of}
-use Rattle.arc_table.specs.Moves.{moves_at}
+use Rattle.arc_table.specs.{States.states_of, Moves.moves_at}
 use Rattle.tier_core.specs.KindNumbers.{kind_numbered}
 use Rattle.stage_tables.specs.Ranking.{IsRankedMove}
 use Rattle.stage_tables.proofs.RankedStates.{no_states, next_state, kind_fits, kind_is, columns_of}

@@ -1,8 +1,6 @@
 use Rattle.std.proofs.Common.{List, not, ◌&&◌, length, subst}
-use Rattle.tier_core.specs.declared.class.Class.{Class}
-use Rattle.tier_core.specs.Classes.{sets_of, has}
-use Rattle.symbol_class.specs.Held.{once_if, AddsClasses}
-use Rattle.symbol_class.specs.Parts.{differs}
+use Rattle.tier_core.specs.{declared.class.Class.Class, Classes.{sets_of, has}}
+use Rattle.symbol_class.specs.{Held.{once_if, AddsClasses}, Parts.differs}
 use Rattle.stage_tables.specs.Weighing.{AddsMoves}
 use Rattle.stage_tables.proofs.WeighedMoves.{sides_weighed}
 use Rattle.stage_tables.proofs.weighing.push_sides.Goals as goal

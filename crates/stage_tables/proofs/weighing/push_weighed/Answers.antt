@@ -1,7 +1,5 @@
-use Rattle.std.proofs.Common.{sym, ap}
-use Rattle.std.proofs.lemmas.Result.{on_ok_weaker}
-use Rattle.symbol_class.specs.Held.{once_if}
-use Rattle.symbol_class.specs.Parts.{differs}
+use Rattle.std.proofs.{Common.{sym, ap}, lemmas.Result.on_ok_weaker}
+use Rattle.symbol_class.specs.{Held.once_if, Parts.differs}
 use Rattle.stage_tables.proofs.WeighedMoves.{whole_weighed}
 use Rattle.stage_tables.proofs.weighing.push_weighed.Goals as goal
 

@@ -1,6 +1,5 @@
 use Rattle.std.proofs.Common.{arith}
-use Rattle.symbol_class.specs.Held.{once_if}
-use Rattle.symbol_class.specs.Parts.{differs}
+use Rattle.symbol_class.specs.{Held.once_if, Parts.differs}
 use Rattle.stage_tables.proofs.WeighedMoves.{none_weighed, one_weighed, all_weighed}
 use Rattle.stage_tables.proofs.weighing.weighed_moves.Goals as goal
 

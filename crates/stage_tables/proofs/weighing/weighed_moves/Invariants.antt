@@ -1,6 +1,5 @@
 use Rattle.std.proofs.Common.{◌≤◌, take, length}
-use Rattle.symbol_class.specs.Held.{once_if}
-use Rattle.symbol_class.specs.Parts.{differs}
+use Rattle.symbol_class.specs.{Held.once_if, Parts.differs}
 use Rattle.stage_tables.specs.Weighing.{AreWeighedMoves}
 use Rattle.stage_tables.proofs.weighing.weighed_moves.Given as goal
 

@@ -1,10 +1,8 @@
 use Rattle.std.proofs.Common.{◌≡◌, ◌<◌, length, get_or, sym, ◌∙◌, subst, arith}
 use Rattle.std.proofs.lemmas.List.Elements.{Contains-get_or}
-use Rattle.arc_table.specs.Moves.{moves_at}
-use Rattle.arc_table.specs.States.{states_of}
+use Rattle.arc_table.specs.{Moves.moves_at, States.states_of}
 use Rattle.kind_moves.specs.Frames.{FitsFrame}
-use Rattle.symbol_class.specs.Held.{once_if}
-use Rattle.symbol_class.specs.Parts.{differs}
+use Rattle.symbol_class.specs.{Held.once_if, Parts.differs}
 use Rattle.stage_tables.specs.Weighing.{cost_from, AreWeighedMoves, AreWeighedStates}
 use Rattle.stage_tables.proofs.WeighedMoves.{same_weighed, no_states, next_state}
 use Rattle.stage_tables.proofs.WeighedTables.{kind_count, arc_wide, test_costs}

@@ -1,19 +1,14 @@
 use Rattle.std.proofs.Common.{◌+◌, ◌&&◌, true, false, not, All, List, [], refl, sym, ◌∙◌, subst, arith}
-use Rattle.std.proofs.lemmas.Bool.{and_parts, not-true}
-use Rattle.std.proofs.lemmas.List.Elements.{All-nil}
-use Rattle.tier_core.specs.Classes.{has}
-use Rattle.tier_core.specs.Timelines.{has_edge}
+use Rattle.std.proofs.{lemmas.Bool.{and_parts, not-true}, lemmas.List.Elements.All-nil}
+use Rattle.tier_core.specs.{Classes.has, Timelines.has_edge}
 use Rattle.symbol_class.specs.Held.{once_if}
 use Rattle.violation.specs.Moves.{input_of}
-use Rattle.kind_moves.specs.declared.piece.Piece.{Piece}
-use Rattle.kind_moves.specs.Fitting.{AreFitting}
-use Rattle.kind_moves.specs.Frames.{tiers_in}
-use Rattle.kind_moves.specs.Leaving.{AddsLeaving}
+use Rattle.kind_moves.specs.{declared.piece.Piece.Piece, Fitting.AreFitting, Frames.tiers_in, Leaving.AddsLeaving}
 use Rattle.kind_moves.specs.Pieces.{piece_classes, IsPiece}
-use Rattle.kind_moves.proofs.FittingSteps.{IsParted, still_by, bare_by, still_fits, read_here, read_fits, are_fitting}
-use Rattle.kind_moves.proofs.LeavingPieces.{classes_added, leaving_pieces}
-use Rattle.kind_moves.proofs.frame.Frame.all_moves.Goals as goal
+use Rattle.kind_moves.proofs.FittingSteps.{IsParted, still_by, bare_by, still_fits, read_here, read_fits}
+use Rattle.kind_moves.proofs.{FittingSteps.are_fitting, LeavingPieces.{classes_added, leaving_pieces}}
 use Rattle.kind_moves.proofs.frame.Frame.all_moves.Goals.{In_ok-push_leaving-2}
+use Rattle.kind_moves.proofs.frame.Frame.all_moves.Goals as goal
 
 first : (c : In_ok-push_leaving-2) → AddsLeaving c.args.self.now c.args.kind.now.place []
     c.push_leaving.new.pieces.items (λ column. once_if (has c.without_input-still.result column

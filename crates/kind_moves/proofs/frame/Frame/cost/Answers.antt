@@ -1,8 +1,6 @@
 use Rattle.std.proofs.Common.{◌≡◌, ℕ, true, false, ◌-◌, List, length, get_or, ap, sym, ◌∙◌, subst, arith}
-use Rattle.tier_core.specs.declared.sym.Sym.{Sym}
-use Rattle.tier_core.specs.Tiers.{has_tier}
-use Rattle.violation.specs.Conditions.{IsOverTiers}
-use Rattle.violation.specs.Moves.{costs}
+use Rattle.tier_core.specs.{declared.sym.Sym.Sym, Tiers.has_tier}
+use Rattle.violation.specs.{Conditions.IsOverTiers, Moves.costs}
 use Rattle.kind_moves.specs.Frames.{constraints_in}
 use Rattle.kind_moves.proofs.CostLaws.{over_at, move_cost}
 use Rattle.kind_moves.proofs.frame.Frame.cost.Goals as goal

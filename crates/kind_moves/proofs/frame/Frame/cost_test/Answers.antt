@@ -2,8 +2,7 @@ use Rattle.std.proofs.Common.{◌≡◌, ◌-◌, get_or, ap, ◌∙◌, subst, 
 use Rattle.symbol_class.specs.Parts.{differs}
 use Rattle.violation.specs.Conditions.{IsOverTiers}
 use Rattle.kind_moves.specs.Frames.{tiers_in, constraints_in}
-use Rattle.kind_moves.proofs.CostLaws.{over_at, move_cost}
-use Rattle.kind_moves.proofs.PieceSteps.{cost_is}
+use Rattle.kind_moves.proofs.{CostLaws.{over_at, move_cost}, PieceSteps.cost_is}
 use Rattle.kind_moves.proofs.frame.Frame.cost_test.Goals as goal
 
 pub cost_test-requires-clause-over : goal.cost_test-requires-clause-over

@@ -1,8 +1,7 @@
 use Rattle.std.proofs.Common.{sym, ◌∙◌, subst}
 use Rattle.symbol_class.specs.Parts.{differs, ArePartedBy}
 use Rattle.symbol_class.proofs.PartSteps.{parted_same, parted_weaker}
-use Rattle.kind_moves.specs.Frames.{tiers_in}
-use Rattle.kind_moves.specs.Pieces.{cost_under}
+use Rattle.kind_moves.specs.{Frames.tiers_in, Pieces.cost_under}
 use Rattle.kind_moves.proofs.PieceSteps.{free_cost, same_cost}
 use Rattle.kind_moves.proofs.frame.Frame.costed_pieces.Goals as goal
 

@@ -1,7 +1,5 @@
-use Rattle.std.proofs.Common.{rules, ap, sym, ◌∙◌, refl, arith}
-use Rattle.std.proofs.lemmas.Bool.{false≢true}
-use Rattle.tier_core.specs.Scan.{fits}
-use Rattle.tier_core.specs.Timelines.{symbol}
+use Rattle.std.proofs.{Common.{rules, ap, sym, ◌∙◌, refl, arith}, lemmas.Bool.false≢true}
+use Rattle.tier_core.specs.{Scan.fits, Timelines.symbol}
 use Rattle.kind_moves.proofs.frame.Frame.fits.Goals as goal
 
 pub returns-then-not-may_follow : goal.returns-then-not-may_follow

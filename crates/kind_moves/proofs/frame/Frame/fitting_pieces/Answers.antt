@@ -1,11 +1,10 @@
 use Rattle.std.proofs.Common.{◌≡◌, ◌&&◌, not, [], List, length, ◌∙◌, subst}
-use Rattle.tier_core.specs.declared.class.Class.{Class}
-use Rattle.tier_core.specs.Classes.{sets_of, has}
+use Rattle.tier_core.specs.{declared.class.Class.Class, Classes.{sets_of, has}}
 use Rattle.symbol_class.specs.Held.{once_if, AddsClasses}
 use Rattle.kind_moves.specs.Frames.{tiers_in}
 use Rattle.kind_moves.proofs.FittingSteps.{IsParted, still_by, bare_by, are_fitting, are_read_alike}
-use Rattle.kind_moves.proofs.frame.Frame.fitting_pieces.Goals as goal
 use Rattle.kind_moves.proofs.frame.Frame.fitting_pieces.Goals.{In_ok-push_rest-2}
+use Rattle.kind_moves.proofs.frame.Frame.fitting_pieces.Goals as goal
 
 same_width : (c : In_ok-push_rest-2) → length (sets_of c.without_input-still.result) ≡ length (sets_of c.args.class.now)
 same_width c = c.without_input-still.ensures.width ∙ c.following-following.ensures.width

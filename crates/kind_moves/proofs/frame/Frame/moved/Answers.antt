@@ -1,8 +1,5 @@
-use Rattle.std.proofs.Common.{◌≡◌, refl, ap, sym, ◌∙◌, map, cond, subst, ◌+◌, List}
-use Rattle.std.proofs.lemmas.Bool.{false≢true}
-use Rattle.tier_core.specs.declared.sym.Sym.{Sym}
-use Rattle.tier_core.specs.Scan.{opens}
-use Rattle.tier_core.specs.Timelines.{symbol, has_edge}
+use Rattle.std.proofs.{Common.{◌≡◌, refl, ap, sym, ◌∙◌, map, cond, subst, ◌+◌, List}, lemmas.Bool.false≢true}
+use Rattle.tier_core.specs.{declared.sym.Sym.Sym, Scan.opens, Timelines.{symbol, has_edge}}
 use Rattle.violation.specs.Moves.{input_of, next_phases}
 use Rattle.kind_moves.specs.Frames.{tiers_in, stretches_in, kind_at_stage, FitsAt}
 use Rattle.kind_moves.proofs.LawSteps.{is_move}

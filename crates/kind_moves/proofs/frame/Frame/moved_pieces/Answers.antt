@@ -1,15 +1,11 @@
 use Rattle.std.proofs.Common.{List, take, filter, length, sym, ◌∙◌, subst}
-use Rattle.tier_core.specs.declared.constraint.Constraint.{Constraint}
-use Rattle.tier_core.specs.Kinds.{phases}
-use Rattle.tier_core.specs.Sides.{is_stretch}
-use Rattle.symbol_class.specs.Held.{ArePieces}
-use Rattle.symbol_class.specs.Parts.{ArePartedBy}
+use Rattle.tier_core.specs.{declared.constraint.Constraint.Constraint, Kinds.phases, Sides.is_stretch}
+use Rattle.symbol_class.specs.{Held.ArePieces, Parts.ArePartedBy}
 use Rattle.violation.specs.Moves.{next_phases, next_kind}
-use Rattle.kind_moves.specs.Frames.{problem_in, tiers_in, kind_at_stage}
-use Rattle.kind_moves.specs.Pieces.{opened_by}
+use Rattle.kind_moves.specs.{Frames.{problem_in, tiers_in, kind_at_stage}, Pieces.opened_by}
 use Rattle.kind_moves.proofs.PieceSteps.{fitting_parts, parted_moves, first_over}
-use Rattle.kind_moves.proofs.frame.Frame.moved_pieces.Goals as goal
 use Rattle.kind_moves.proofs.frame.Frame.moved_pieces.Goals.{In_ok-pieces}
+use Rattle.kind_moves.proofs.frame.Frame.moved_pieces.Goals as goal
 
 pub parts_by_open-requires-clause-pieces : goal.parts_by_open-requires-clause-pieces
 parts_by_open-requires-clause-pieces c =

@@ -1,7 +1,5 @@
-use Rattle.std.proofs.Common.{◌||◌, length, ap, ◌∙◌, arith}
-use Rattle.std.proofs.lemmas.List.{get_or_default}
-use Rattle.tier_core.specs.Kinds.{open_tiers}
-use Rattle.tier_core.specs.Tiers.{has_tier}
+use Rattle.std.proofs.{Common.{◌||◌, length, ap, ◌∙◌, arith}, lemmas.List.get_or_default}
+use Rattle.tier_core.specs.{Kinds.open_tiers, Tiers.has_tier}
 use Rattle.violation.specs.Moves.{flag_of, form_opened}
 use Rattle.kind_moves.specs.Frames.{tiers_in, form_in}
 use Rattle.kind_moves.proofs.MaskSteps.{or_tier}

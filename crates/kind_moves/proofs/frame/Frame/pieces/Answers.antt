@@ -1,9 +1,7 @@
 use Rattle.std.proofs.Common.{◌↔◌, List, IsTrue, sym, ◌∙◌, subst}
-use Rattle.tier_core.specs.declared.class.Class.{Class}
-use Rattle.tier_core.specs.Classes.{has}
+use Rattle.tier_core.specs.{declared.class.Class.Class, Classes.has}
 use Rattle.symbol_class.specs.Held.{some_has}
-use Rattle.kind_moves.specs.Frames.{FitsAt}
-use Rattle.kind_moves.specs.Pieces.{cost_under}
+use Rattle.kind_moves.specs.{Frames.FitsAt, Pieces.cost_under}
 use Rattle.kind_moves.proofs.PieceSteps.{fitting_parts}
 use Rattle.kind_moves.proofs.frame.Frame.pieces.Goals as goal
 

@@ -1,10 +1,8 @@
-use Rattle.std.proofs.Common.{◌≡◌, ◌↔◌, ◌<◌, ◌≤◌, ◌^◌, IsTrue, List, length, refl, sym, ◌∙◌, ap, subst, arith, All, ℕ}
-use Rattle.std.proofs.lemmas.List.Elements.{All-from_recursion}
-use Rattle.tier_core.specs.Classes.{sets_of, has}
-use Rattle.tier_core.specs.Kinds.{open_tiers}
+use Rattle.std.proofs.Common.{◌≡◌, ◌↔◌, ◌<◌, ◌≤◌, ◌^◌, IsTrue, List, length, refl, sym, ◌∙◌, ap, subst, arith, All}
+use Rattle.std.proofs.{Common.ℕ, lemmas.List.Elements.All-from_recursion}
+use Rattle.tier_core.specs.{Classes.{sets_of, has}, Kinds.open_tiers}
 use Rattle.violation.proofs.SplitLemmas.{tiers_split}
-use Rattle.kind_moves.specs.Frames.{tiers_in}
-use Rattle.kind_moves.specs.Leaving.{opened_among}
+use Rattle.kind_moves.specs.{Frames.tiers_in, Leaving.opened_among}
 use Rattle.kind_moves.proofs.LeavingPieces.{none_left, more_left, all_left}
 use Rattle.kind_moves.proofs.frame.Frame.push_leaving.Goals as goal
 

@@ -1,5 +1,4 @@
-use Rattle.std.proofs.Common.{◌∙◌, arith, sym}
-use Rattle.std.proofs.lemmas.Bool.{false≢true}
+use Rattle.std.proofs.{Common.{◌∙◌, arith, sym}, lemmas.Bool.false≢true}
 use Rattle.kind_moves.proofs.FittingSteps.{read_by, none_by}
 use Rattle.kind_moves.proofs.frame.Frame.reading.Goals as goal
 

@@ -1,5 +1,4 @@
-use Rattle.std.proofs.Common.{◌≡◌, ◌<◌, length, get_or, ◌∙◌, arith}
-use Rattle.std.proofs.lemmas.List.{get_or_default}
+use Rattle.std.proofs.{Common.{◌≡◌, ◌<◌, length, get_or, ◌∙◌, arith}, lemmas.List.get_or_default}
 use Rattle.kind_moves.proofs.StretchCounts.{count_at, length-counts}
 use Rattle.kind_moves.proofs.frame.Frame.stretch_count.Goals as goal
 

@@ -1,8 +1,6 @@
-use Rattle.std.proofs.Common.{[], ◌∷◌, ◌++◌, All, ap, ap₂, sym, ◌∙◌, subst}
-use Rattle.std.proofs.lemmas.List.{map-append, take_more}
+use Rattle.std.proofs.{Common.{[], ◌∷◌, ◌++◌, All, ap, ap₂, sym, ◌∙◌, subst}, lemmas.List.{map-append, take_more}}
 use Rattle.std.proofs.lemmas.List.Elements.{All-push}
-use Rattle.kind_moves.specs.declared.piece.Piece.{Piece}
-use Rattle.kind_moves.specs.Pieces.{piece_classes, IsPiece}
+use Rattle.kind_moves.specs.{declared.piece.Piece.Piece, Pieces.{piece_classes, IsPiece}}
 use Rattle.kind_moves.proofs.frame.Frame.told_pieces.Goals as goal
 
 pub loop-class-preserved : goal.loop-class-preserved

@@ -1,8 +1,6 @@
-use Rattle.std.proofs.Common.{◌≡◌, List, length, ap, sym, ◌∙◌, arith}
+use Rattle.std.proofs.{Common.{◌≡◌, List, length, ap, sym, ◌∙◌, arith}, lemmas.List.length-map}
+use Rattle.std.proofs.{lemmas.Option.slice_get_within, lemmas.Result.err_from_is_err_and}
 use Rattle.std.specs.Map.{keys_of}
-use Rattle.std.proofs.lemmas.List.{length-map}
-use Rattle.std.proofs.lemmas.Option.{slice_get_within}
-use Rattle.std.proofs.lemmas.Result.{err_from_is_err_and}
 use Rattle.tier_core.specs.declared.kind.Kind.{Kind}
 use Rattle.stage_tables.proofs.Named.{new_targets, new_filled, new_width, new_disjoint}
 use Rattle.stage_tables.proofs.exploring.Exploring.all_states.Goals as goal

@@ -1,5 +1,4 @@
-use Rattle.std.proofs.Common.{◌≡◌, refl, sym, ◌∙◌}
-use Rattle.std.proofs.lemmas.Result.{err_from_is_err_and}
+use Rattle.std.proofs.{Common.{◌≡◌, refl, sym, ◌∙◌}, lemmas.Result.err_from_is_err_and}
 use Rattle.stage_tables.proofs.Finding.{found_numbered, found_put, found_stays, targets_one}
 use Rattle.stage_tables.proofs.Taking.{piece_stands, piece_reached, piece_weighs}
 use Rattle.stage_tables.proofs.exploring.Exploring.new_move.Goals as goal

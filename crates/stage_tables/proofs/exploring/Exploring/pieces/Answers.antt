@@ -1,6 +1,5 @@
 use Rattle.std.proofs.Common.{◌≡◌, List, subst, arith}
-use Rattle.kind_moves.specs.declared.piece.Piece.{Piece}
-use Rattle.kind_moves.specs.Frames.{FitsFrame}
+use Rattle.kind_moves.specs.{declared.piece.Piece.Piece, Frames.FitsFrame}
 use Rattle.stage_tables.specs.PartedPieces.{ArePartedPieces}
 use Rattle.stage_tables.proofs.PiecesParted.{first_pieces, pieces_wide, next_constraint, all_constraints}
 use Rattle.stage_tables.proofs.PiecesParted.{moves_unranked}

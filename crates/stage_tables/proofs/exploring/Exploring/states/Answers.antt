@@ -1,9 +1,6 @@
-use Rattle.std.proofs.Common.{◌≡◌, ◌<◌, not, length, ap, sym, ◌∙◌, arith}
-use Rattle.std.proofs.lemmas.Option.{slice_get_within}
+use Rattle.std.proofs.{Common.{◌≡◌, ◌<◌, not, length, ap, sym, ◌∙◌, arith}, lemmas.Option.slice_get_within}
 use Rattle.stage_tables.specs.Listed.{IsAt}
-use Rattle.stage_tables.proofs.Listing.{at_found, none_found}
-use Rattle.stage_tables.proofs.Finding.{taken_push}
-use Rattle.stage_tables.proofs.Beginning.{none_made, one_more}
+use Rattle.stage_tables.proofs.{Listing.{at_found, none_found}, Finding.taken_push, Beginning.{none_made, one_more}}
 use Rattle.stage_tables.proofs.exploring.Exploring.states.Goals as goal
 
 pub making-init : goal.making-init

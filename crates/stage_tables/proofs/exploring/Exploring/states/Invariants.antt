@@ -1,6 +1,5 @@
 use Rattle.std.proofs.Common.{◌-◌, length}
-use Rattle.stage_tables.specs.Listed.{AreTaken}
-use Rattle.stage_tables.specs.Exploring.{IsFoundWithin}
+use Rattle.stage_tables.specs.{Listed.AreTaken, Exploring.IsFoundWithin}
 use Rattle.stage_tables.proofs.exploring.Exploring.states.Given as goal
 
 abbrev pub invariant-making : goal.invariant-making

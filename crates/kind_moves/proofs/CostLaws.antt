@@ -11,9 +11,10 @@ use Rattle.grammar_reader.proofs.OverTiers.{over_tiers}
 use Rattle.violation.specs.{Candidates.{IsForm, IsCandidate, counts_on}, Conditions.{AreSplit, IsOverTiers}}
 use Rattle.violation.specs.Counts.{violations_so_far}
 use Rattle.violation.specs.Moves.{costs, first_phase, is_tier_open, is_unmet_phase, move_costs, next_kind}
-use Rattle.violation.specs.{Prefixes.{kind_of, stretches}, Walks.{walk_costs, add_each}}
+use Rattle.weight_law.specs.{Ranked.add_each, RankedLaws.sum-assoc}
+use Rattle.violation.specs.{Prefixes.{kind_of, stretches}, Walks.walk_costs}
 use Rattle.violation.specs.Problems.{Problem, last_stage}
-use Rattle.violation.proofs.CostLemmas.{costs_agree, add_assoc_each, length_walk, move_adds, costs_sum, add_none}
+use Rattle.violation.proofs.CostLemmas.{costs_agree, length_walk, move_adds, costs_sum, add_none}
 use Rattle.violation.proofs.{SplitLemmas.tiers_split, TierLemmas.map_agree, WalkLemmas.moved_is}
 use Rattle.violation.proofs.{WholeCounts.so_far_none, ConstraintCosts.{unmet_told, cost_at}}
 use Rattle.kind_moves.specs.{declared.frame.Frame.Frame, Frames.{tiers_in, constraints_in, form_in, stretches_in}}
@@ -96,7 +97,7 @@ module _ (problem : Problem) (r : ℕ) (split : AreSplit problem.tiers) (form : 
       (walk_costs problem r (kind_of problem r (p ++ column ∷ [])) q)) size
       ∙ ap (λ ns. add_each ns (walk_costs problem r (kind_of problem r (p ++ column ∷ [])) q))
       (move_adds problem r split form over T p column (q ++ w) e c)
-      ∙ add_assoc_each (map (λ c. violations_so_far c T (length p)) (take r problem.constraints))
+      ∙ sum-assoc (map (λ c. violations_so_far c T (length p)) (take r problem.constraints))
       (move_costs problem r (kind_of problem r p) column)
       (walk_costs problem r (kind_of problem r (p ++ column ∷ [])) q)
       ∙ ap (λ k. add_each (map (λ c. violations_so_far c T (length p)) (take r problem.constraints))

@@ -1,7 +1,7 @@
 -- The weights of the table of a single pass are vectors of violations.
 use Rattle.std.proofs.Common.{zero, arith, ◌≡◌, ℕ, ◌+◌, ◌≤◌, Bool, cond, List, [], ◌∷◌, ◌++◌, map, drop, take}
 use Rattle.std.proofs.{Common.{length, Contains, refl, sym, ap, ◌∙◌}, lemmas.List.length-map}
-use Rattle.weight_law.specs.Ranked.{greatest_part, sum_of_parts, parts_of_vector, ranked_meaning}
+use Rattle.weight_law.specs.Ranked.{greatest_part, add_each, parts_of_vector, ranked_meaning}
 use Rattle.weight_law.specs.{declared.Weight.Ghosts, declared.ranked.Ranked.Ranked}
 use Rattle.weight_law.proofs.Padded.{sum-padded, padded_zero, greatest-padded}
 use Rattle.tier_core.specs.{declared.sym.Sym.Sym, declared.constraint.Constraint.Constraint}
@@ -11,18 +11,12 @@ use Rattle.arc_table.specs.{declared.arc.TableArc.TableArc, declared.state.Table
 use Rattle.arc_table.specs.Runs.{IsRun, IsPath, Reads, weight_of, AcceptingRun, SizesWithin}
 use Rattle.violation.specs.Candidates.{IsCandidate, counts_on}
 use Rattle.violation.specs.Moves.{costs, costs_each, first_phase, is_tier_open, next_kind, move_costs}
-use Rattle.violation.specs.{Prefixes.kind_of, Rests.counts_rest, Walks.{add_each, walk_costs}}
+use Rattle.violation.specs.{Prefixes.kind_of, Rests.counts_rest, Walks.walk_costs}
 use Rattle.violation.specs.Problems.{Problem, last_stage}
 use Rattle.violation.proofs.{CostLemmas.length_costs, RestLemmas.{whole_walk, rest_walk, length_whole_walk}}
 use Rattle.kind_tables.specs.StageTables.{IsStage, name_of, GoesAsKinds, AreNamedByKinds}
 use Rattle.kind_tables.specs.RankedTables.{AreWeighedByAll, IsRankedTable}
 use Rattle.kind_tables.proofs.{Paths.run_path, Weighing.times_one}
-
--- sums place by place
-sum_each : (a b : List ℕ) → sum_of_parts a b ≡ add_each a b
-sum_each [] b = refl
-sum_each (x ∷ a) [] = refl
-sum_each (x ∷ a) (y ∷ b) = ap (λ ns. (x + y) ∷ ns) (sum_each a b)
 
 module _ (problem : Problem) (stage : IsStage problem (last_stage problem)) (few : last_stage problem ≤ 24)
     {g : Ghosts Ranked} (meaning : g.meaning ≡ ranked_meaning) (names : List PrefixKind)
@@ -41,7 +35,7 @@ module _ (problem : Problem) (stage : IsStage problem (last_stage problem)) (few
       ∙ sym (padded_zero (take (last_stage problem) problem.constraints) (omega (arith, firsts, few)))
 
   weight_cons : (arc : TableArc Ranked g) (arcs : List (TableArc Ranked g))
-      → (weight_of (arc ∷ arcs)).parts ≡ sum_of_parts arc.weight.parts (weight_of arcs).parts
+      → (weight_of (arc ∷ arcs)).parts ≡ add_each arc.weight.parts (weight_of arcs).parts
   weight_cons arc arcs = ap (λ m. (m.sum arc.weight (weight_of arcs)).parts) meaning
 
   length_move : (k : PrefixKind) (column : List Sym)
@@ -65,11 +59,10 @@ module _ (problem : Problem) (stage : IsStage problem (last_stage problem)) (few
         let even : length here ≡ length rest = length_move (name_of names s) column
         ∙ sym (length_whole_walk problem stage p (next_kind problem (last_stage problem) (name_of names s) column)) in
         weight_cons arc arcs
-        ∙ ap (λ ns. sum_of_parts ns (weight_of arcs).parts) (weighed s arc column path.0 reads.0)
-        ∙ ap (λ ns. sum_of_parts (parts_of_vector here) ns)
+        ∙ ap (λ ns. add_each ns (weight_of arcs).parts) (weighed s arc column path.0 reads.0)
+        ∙ ap (λ ns. add_each (parts_of_vector here) ns)
         (path_vector arcs p arc.target t path.1 reads.1 ∙ ap (λ k. parts_of_vector (walk k p)) move.leads)
         ∙ sum-padded here rest even
-        ∙ ap parts_of_vector (sum_each here rest)
 
     pub run_vector : (arcs : List (TableArc Ranked g)) (p : List (List Sym)) (s : ℕ) → IsRun states s arcs
         → Reads arcs p → (weight_of arcs).parts ≡ parts_of_vector (walk (name_of names s) p)

@@ -11,12 +11,13 @@ use Rattle.tier_core.specs.{declared.constraint.Family.TheVariants.{Implication,
 use Rattle.tier_core.specs.{Tiers.Tiers, Timelines.tier_word}
 use Rattle.tier_core.specs.Sides.{is_implication, has_edge_type, is_stretch, edge_among}
 use Rattle.tier_core.proofs.CountLemmas.{bit, all_weaker, all_append}
+use Rattle.weight_law.specs.{Ranked.add_each, RankedLaws.{length-sum, sum-assoc}}
 use Rattle.violation.specs.Candidates.{IsForm, IsCandidate, counts_on}
 use Rattle.violation.specs.Conditions.{AreSplit, IsOverTiers, IsCountable}
 use Rattle.violation.specs.Counts.{violations_of, violations_so_far, so_far, viol}
 use Rattle.violation.specs.Moves.{costs, costs_each, first_phase, is_tier_open, move_costs, next_kind, is_final}
 use Rattle.violation.specs.Prefixes.{is_open, phase, stretches, kind_of}
-use Rattle.violation.specs.{Walks.{HasMoves, walk_end, add_each, walk_costs}, Columns.edge_cost, Problems.Problem}
+use Rattle.violation.specs.{Walks.{HasMoves, walk_end, walk_costs}, Columns.edge_cost, Problems.Problem}
 use Rattle.violation.proofs.{Countable.countable_over, CountSteps.{whole, all_agree}}
 use Rattle.violation.proofs.{MoveLemmas.{opened_after, column_costs}, PrefixLemmas.{IsBegun, tier_open_is}}
 use Rattle.violation.proofs.{TierLemmas.map_agree, WalkLemmas.{begun_of, moved_is, walk_on, candidate_walk}}
@@ -69,16 +70,6 @@ costs_each_are (c ∷ cs) o p column = by_stretch (is_stretch c) refl (costs_eac
         (phase c.left c.right p) column e)
         ∙ ap (λ ns. bit (costs c.family c.left c.right o (phase c.left c.right p) column) ∷ ns) h
 
-pub add_assoc_each : (a b c : List ℕ) → add_each (add_each a b) c ≡ add_each a (add_each b c)
-add_assoc_each [] b c = refl
-add_assoc_each (x ∷ a) [] c = refl
-add_assoc_each (x ∷ a) (y ∷ b) [] = refl
-add_assoc_each (x ∷ a) (y ∷ b) (z ∷ c) =
-    ap (λ n. n ∷ add_each (add_each a b) c) (assoc x y z) ∙ ap (λ ns. (x + (y + z)) ∷ ns) (add_assoc_each a b c)
-  where
-    assoc : (x y z : ℕ) → (x + y) + z ≡ x + (y + z)
-    assoc x y z = omega arith
-
 -- sums of numbers that each constraint gives
 add_maps : (f g h : Constraint → ℕ) (cs : List Constraint) → AllByRecursion (λ c. f c ≡ g c + h c) cs
     → map f cs ≡ add_each (map g cs) (map h cs)
@@ -94,11 +85,6 @@ add_none (c ∷ cs) (n ∷ ns) e = ap (λ m. m ∷ add_each (map (λ c. 0) cs) n
   where
     none : (n : ℕ) → 0 + n ≡ n
     none n = omega arith
-
-length_add : (a b : List ℕ) → length a ≡ length b → length (add_each a b) ≡ length a
-length_add [] b e = refl
-length_add (x ∷ a) [] e = absurd (omega arith)
-length_add (x ∷ a) (y ∷ b) e = ap suc (length_add a b (omega arith))
 
 pub length_costs : (cs : List Constraint) (o : ℕ → Bool) (phases : List Phase) (column : List Sym)
     → length (costs_each cs o phases column) ≡ length cs
@@ -117,7 +103,7 @@ module _ (problem : Problem) (r : ℕ) (split : AreSplit problem.tiers) (form : 
       let size : length (move_costs problem r k column)
       ≡ length (take r problem.constraints) = length_costs (take r problem.constraints)
       (is_tier_open problem k) k.phases column in
-      length_add (move_costs problem r k column) (walk_costs problem r (next_kind problem r k column) q)
+      length-sum (move_costs problem r k column) (walk_costs problem r (next_kind problem r k column) q)
       (size ∙ sym (length_walk q (next_kind problem r k column)))
       ∙ size
 
@@ -195,7 +181,7 @@ module _ (problem : Problem) (r : ℕ) (split : AreSplit problem.tiers) (form : 
       (walk_costs problem r (kind_of problem r (p ++ column ∷ [])) q)) size
       ∙ ap (λ ns. add_each ns (walk_costs problem r (kind_of problem r (p ++ column ∷ [])) q))
       (move_adds T p column q e c)
-      ∙ add_assoc_each (map (λ c. violations_so_far c T (length p)) (take r problem.constraints))
+      ∙ sum-assoc (map (λ c. violations_so_far c T (length p)) (take r problem.constraints))
       (move_costs problem r (kind_of problem r p) column)
       (walk_costs problem r (kind_of problem r (p ++ column ∷ [])) q)
       ∙ ap (λ k. add_each (map (λ c. violations_so_far c T (length p)) (take r problem.constraints))

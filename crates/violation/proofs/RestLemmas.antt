@@ -4,8 +4,9 @@ use Rattle.std.proofs.Common.{◌≡◌, ℕ, suc, ◌+◌, ◌-◌, ◌≤◌, 
 use Rattle.std.proofs.{Common.{◌∙◌, arith, take_all}, lemmas.List.length-map}
 use Rattle.tier_core.specs.{declared.sym.Sym.Sym, declared.constraint.Constraint.Constraint, Tiers.Tiers}
 use Rattle.tier_core.specs.Kinds.{PrefixKind}
+use Rattle.weight_law.specs.Ranked.{add_each}
 use Rattle.violation.specs.{Candidates.{IsCandidate, counts_on}, Counts.{violations_of, violations_so_far}}
-use Rattle.violation.specs.{Prefixes.kind_of, Rests.counts_rest, Stages.IsStage, Walks.{add_each, walk_costs}}
+use Rattle.violation.specs.{Prefixes.kind_of, Rests.counts_rest, Stages.IsStage, Walks.walk_costs}
 use Rattle.violation.specs.Problems.{Problem, last_stage}
 use Rattle.violation.proofs.{CostLemmas.{costs_on, costs_sum, length_walk}, StageLemmas.over_first}
 

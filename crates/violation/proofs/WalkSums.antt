@@ -4,20 +4,13 @@ use Rattle.std.proofs.Common.{drop, length, get_or, refl, sym, ap, ◌∙◌, ar
 use Rattle.std.proofs.lemmas.List.{get_or-take, take-map, length-map}
 use Rattle.tier_core.specs.{declared.sym.Sym.Sym, declared.constraint.Constraint.Constraint, Tiers.Tiers}
 use Rattle.tier_core.specs.{Kinds.{Phase, PrefixKind}, Sides.is_stretch}
+use Rattle.weight_law.specs.{Ranked.add_each, RankedLaws.get_or-sum}
 use Rattle.violation.specs.Candidates.{IsCandidate, vec, vec_so_far, counts_on, counts_so_far, count_at}
 use Rattle.violation.specs.{Candidates.count_so_far_at, Counts.{violations_of, violations_so_far}}
 use Rattle.violation.specs.{Moves.{costs_each, is_tier_open, next_kind, move_costs}, Prefixes.kind_of}
-use Rattle.violation.specs.{Walks.{HasMoves, walk_end, add_each, walk_costs}, Stages.IsStage, Problems.Problem}
+use Rattle.violation.specs.{Walks.{HasMoves, walk_end, walk_costs}, Stages.IsStage, Problems.Problem}
 use Rattle.violation.proofs.CostLemmas.{length_walk, costs_on, costs_sum, length_costs}
 use Rattle.violation.proofs.{WalkLemmas.{candidate_walk, reached_is}, StageLemmas.{over_first, over_stretches}}
-
--- a sum of two lists of one length, at a place
-add_at : (a b : List ℕ) (i : ℕ) → length a ≡ length b → get_or (add_each a b) i 0 ≡ get_or a i 0 + get_or b i 0
-add_at [] [] i e = refl
-add_at [] (y ∷ b) i e = absurd (omega arith)
-add_at (x ∷ a) [] i e = absurd (omega arith)
-add_at (x ∷ a) (y ∷ b) zero e = refl
-add_at (x ∷ a) (y ∷ b) (suc i) e = add_at a b i (omega arith)
 
 pub none_at : {X : Type 0} (xs : List X) (i : ℕ) → ◌≡◌ {A = ℕ} (get_or (map (λ x. 0) xs) i 0) 0
 none_at [] i = refl
@@ -33,7 +26,7 @@ module _ (problem : Problem) (r : ℕ) (stage : IsStage problem r) where
       → walk_cost i k (column ∷ p) ≡ get_or (move_costs problem r k column) i 0 + walk_cost i
       (next_kind problem r k column) p
   walk_step i k column p =
-      add_at (move_costs problem r k column) (walk_costs problem r (next_kind problem r k column) p) i
+      get_or-sum (move_costs problem r k column) (walk_costs problem r (next_kind problem r k column) p) i
       (length_costs (take r problem.constraints) (is_tier_open problem k) k.phases column
       ∙ sym (length_walk problem r stage.split stage.form (over_first problem r stage) p
       (next_kind problem r k column)))
@@ -78,7 +71,7 @@ module _ (problem : Problem) (r : ℕ) (stage : IsStage problem r) where
         ∙ ap (λ (ns : List ℕ). get_or ns (r - 1) 0) (take-map (λ x. violations_of x T) r problem.constraints)
         ∙ ap (λ (ns : List ℕ). get_or ns (r - 1) 0)
         (costs_on problem r stage.split stage.form (over_first problem r stage) q p T refl c)
-        ∙ add_at so_far (walk_costs problem r (kind_of problem r p) q) (r - 1) (even q p)
+        ∙ get_or-sum so_far (walk_costs problem r (kind_of problem r p) q) (r - 1) (even q p)
         ∙ ap (λ n. n + walk_cost (r - 1) (kind_of problem r p) q) cut
       where
         even : (q p : List (List Sym)) → length

@@ -1,5 +1,6 @@
 -- Walks: runs of moves of kinds along a list of columns (this project).
-use Rattle.std.specs.Prelude.{ℕ, List, [], ◌∷◌, ◌++◌, map, ◌+◌, take}
+use Rattle.std.specs.Prelude.{ℕ, List, [], ◌∷◌, ◌++◌, map, take}
+use Rattle.weight_law.specs.Ranked.{add_each}
 use Rattle.tier_core.specs.declared.sym.Sym.{Sym}
 use Rattle.tier_core.specs.declared.constraint.Constraint.{Constraint}
 use Rattle.tier_core.specs.Tiers.{Tiers}
@@ -22,12 +23,6 @@ walk_end problem r k (column ∷ columns) = walk_end problem r (next_kind proble
 -- p is a prefix of a candidate of u
 abbrev pub BeginsCandidate : Problem → List (List Sym) → Type 0
 BeginsCandidate problem p = (q : List (List Sym)) × IsCandidate problem (p ++ q)
-
--- the sums of two lists of numbers, place by place
-abbrev pub add_each : List ℕ → List ℕ → List ℕ
-add_each [] ns = []
-add_each (m ∷ ms) [] = []
-add_each (m ∷ ms) (n ∷ ns) = (m + n) ∷ add_each ms ns
 
 -- what the moves along the columns cost in all, from a kind under the first r constraints: one
 -- number for each of these

@@ -5,28 +5,28 @@ use Rattle.std.proofs.{lemmas.List.length-map, lemmas.Cmp.{tied_itself, nat_list
 use Rattle.std.specs.{declared.cmp.Ordering.Ordering, declared.cmp.Ordering.TheVariants.{Less, Equal, Greater}}
 use Rattle.std.specs.Ordering.{nat_cmp, is_lt, is_le, ordering_then, ordering_reverse}
 use Rattle.weight_law.specs.Meaning.{Meaning, AtMost}
-use Rattle.weight_law.specs.Ranked.{greatest_part, sum_of_parts, parts_of_vector, ranked_meaning}
+use Rattle.weight_law.specs.Ranked.{greatest_part, add_each, parts_of_vector, ranked_meaning}
 use Rattle.weight_law.specs.{RankedLaws.{parts_cmp, length-sum}, declared.ranked.Ranked.Ranked}
 
 sum-append : (a b xs ys : List ℕ) → length a ≡ length b
-    → sum_of_parts (a ++ xs) (b ++ ys) ≡ sum_of_parts a b ++ sum_of_parts xs ys
+    → add_each (a ++ xs) (b ++ ys) ≡ add_each a b ++ add_each xs ys
 sum-append [] [] xs ys e = refl
 sum-append [] (y ∷ b) xs ys e = absurd (omega (arith, e))
 sum-append (x ∷ a) [] xs ys e = absurd (omega (arith, e))
 sum-append (x ∷ a) (y ∷ b) xs ys e = ap (λ ns. (x + y) ∷ ns) (sum-append a b xs ys (omega arith))
 
-sum-zeros : (n : ℕ) → sum_of_parts (replicate n 0) (replicate n 0) ≡ replicate n 0
+sum-zeros : (n : ℕ) → add_each (replicate n 0) (replicate n 0) ≡ replicate n 0
 sum-zeros zero = refl
 sum-zeros (suc n) = ap (λ ns. 0 ∷ ns) (sum-zeros n)
 
 -- the sum of two vectors of one length
-pub sum-padded : (a b : List ℕ) → length a ≡ length b → sum_of_parts (parts_of_vector a) (parts_of_vector b)
-    ≡ parts_of_vector (sum_of_parts a b)
+pub sum-padded : (a b : List ℕ) → length a ≡ length b → add_each (parts_of_vector a) (parts_of_vector b)
+    ≡ parts_of_vector (add_each a b)
 sum-padded a b e =
-    ap (λ (n : ℕ). sum_of_parts (parts_of_vector a) (b ++ replicate (24 - n) 0)) (sym e)
+    ap (λ (n : ℕ). add_each (parts_of_vector a) (b ++ replicate (24 - n) 0)) (sym e)
     ∙ sum-append a b (replicate (24 - length a) 0) (replicate (24 - length a) 0) e
-    ∙ ap (λ ns. sum_of_parts a b ++ ns) (sum-zeros (24 - length a))
-    ∙ ap (λ (n : ℕ). sum_of_parts a b ++ replicate (24 - n) 0) (sym (length-sum a b e))
+    ∙ ap (λ ns. add_each a b ++ ns) (sum-zeros (24 - length a))
+    ∙ ap (λ (n : ℕ). add_each a b ++ replicate (24 - n) 0) (sym (length-sum a b e))
 
 -- a zero for each element
 abbrev zeros_of : {X : Type 0} → List X → List ℕ

@@ -10,11 +10,11 @@ abbrev pub greatest_part : List ℕ → ℕ
 greatest_part [] = 0
 greatest_part (x ∷ xs) = max x (greatest_part xs)
 
--- part by part
-abbrev pub sum_of_parts : List ℕ → List ℕ → List ℕ
-sum_of_parts [] ys = []
-sum_of_parts (x ∷ xs) [] = []
-sum_of_parts (x ∷ xs) (y ∷ ys) = (x + y) ∷ sum_of_parts xs ys
+-- the sums of two lists of numbers, part by part
+abbrev pub add_each : List ℕ → List ℕ → List ℕ
+add_each [] ys = []
+add_each (x ∷ xs) [] = []
+add_each (x ∷ xs) (y ∷ ys) = (x + y) ∷ add_each xs ys
 
 -- a vector of at most 24 numbers as parts, with zeros after it
 abbrev pub parts_of_vector : List ℕ → List ℕ
@@ -32,6 +32,6 @@ ranked_meaning = record {
   zero = ranked_of (replicate 24 0);
   size = λ a. greatest_part a.parts;
   lawful = λ a. length a.parts == 24;
-  sum = λ a b. ranked_of (sum_of_parts a.parts b.parts);
+  sum = λ a b. ranked_of (add_each a.parts b.parts);
   below = λ a b. is_lt (slice_cmp nat_cmp a.parts b.parts);
 }

@@ -10,19 +10,19 @@ use Rattle.std.proofs.lemmas.Bool.Decides.{nat_tests}
 use Rattle.std.proofs.lemmas.List.{ext_get_or}
 use Rattle.std.proofs.lemmas.Cmp.{ranked, tied_itself, nat_list_cmp_total}
 use Rattle.weight_law.specs.Meaning.{IsLawful}
-use Rattle.weight_law.specs.Ranked.{greatest_part, sum_of_parts, ranked_of, ranked_meaning}
+use Rattle.weight_law.specs.Ranked.{greatest_part, add_each, ranked_of, ranked_meaning}
 use Rattle.weight_law.specs.declared.ranked.Ranked.{Ranked}
 
 -- how two vectors compare
 abbrev pub parts_cmp : List ℕ → List ℕ → Ordering
 parts_cmp = slice_cmp nat_cmp
 
-pub length-sum : (xs ys : List ℕ) → length xs ≡ length ys → length (sum_of_parts xs ys) ≡ length xs
+pub length-sum : (xs ys : List ℕ) → length xs ≡ length ys → length (add_each xs ys) ≡ length xs
 length-sum [] ys e = refl
 length-sum (x ∷ xs) [] e = sym e
 length-sum (x ∷ xs) (y ∷ ys) e = ap suc (length-sum xs ys (omega arith))
 
-sum-assoc : (xs ys zs : List ℕ) → sum_of_parts (sum_of_parts xs ys) zs ≡ sum_of_parts xs (sum_of_parts ys zs)
+pub sum-assoc : (xs ys zs : List ℕ) → add_each (add_each xs ys) zs ≡ add_each xs (add_each ys zs)
 sum-assoc [] ys zs = refl
 sum-assoc (x ∷ xs) [] zs = refl
 sum-assoc (x ∷ xs) (y ∷ ys) [] = refl
@@ -31,7 +31,7 @@ sum-assoc (x ∷ xs) (y ∷ ys) (z ∷ zs) =
     let rest = sum-assoc xs ys zs in
     cc
 
-sum-comm : (xs ys : List ℕ) → sum_of_parts xs ys ≡ sum_of_parts ys xs
+sum-comm : (xs ys : List ℕ) → add_each xs ys ≡ add_each ys xs
 sum-comm [] [] = refl
 sum-comm [] (y ∷ ys) = refl
 sum-comm (x ∷ xs) [] = refl
@@ -40,7 +40,7 @@ sum-comm (x ∷ xs) (y ∷ ys) =
     let rest = sum-comm xs ys in
     cc
 
-sum-zero : (n : ℕ) (xs : List ℕ) → length xs ≡ n → sum_of_parts xs (replicate n 0) ≡ xs
+sum-zero : (n : ℕ) (xs : List ℕ) → length xs ≡ n → add_each xs (replicate n 0) ≡ xs
 sum-zero n [] e = refl
 sum-zero zero (x ∷ xs) e = absurd (omega (arith, e))
 sum-zero (suc n) (x ∷ xs) e =
@@ -48,7 +48,7 @@ sum-zero (suc n) (x ∷ xs) e =
     let rest = sum-zero n xs (omega arith) in
     cc
 
-greatest-sum : (xs ys : List ℕ) → greatest_part (sum_of_parts xs ys) ≤ greatest_part xs + greatest_part ys
+greatest-sum : (xs ys : List ℕ) → greatest_part (add_each xs ys) ≤ greatest_part xs + greatest_part ys
 greatest-sum [] ys = omega arith
 greatest-sum (x ∷ xs) [] = omega arith
 greatest-sum (x ∷ xs) (y ∷ ys) = omega (arith, greatest-sum xs ys)
@@ -63,8 +63,8 @@ part-greatest [] i = omega arith
 part-greatest (x ∷ xs) zero = omega arith
 part-greatest (x ∷ xs) (suc i) = omega (arith, part-greatest xs i)
 
-get_or-sum : (xs ys : List ℕ) (i : ℕ) → length xs ≡ length ys
-    → get_or (sum_of_parts xs ys) i 0 ≡ get_or xs i 0 + get_or ys i 0
+pub get_or-sum : (xs ys : List ℕ) (i : ℕ) → length xs ≡ length ys
+    → get_or (add_each xs ys) i 0 ≡ get_or xs i 0 + get_or ys i 0
 get_or-sum [] [] i e = refl
 get_or-sum [] (y ∷ ys) i e = absurd (omega (arith, e))
 get_or-sum (x ∷ xs) [] i e = absurd (omega (arith, e))
@@ -73,9 +73,9 @@ get_or-sum (x ∷ xs) (y ∷ ys) (suc i) e = get_or-sum xs ys i (omega arith)
 
 -- a list whose parts are the sums is the sum
 pub sum_from_parts : (xs ys zs : List ℕ) → length xs ≡ length ys → length zs ≡ length xs
-    → ((k : ℕ) → k < length zs → get_or zs k 0 ≡ get_or xs k 0 + get_or ys k 0) → zs ≡ sum_of_parts xs ys
+    → ((k : ℕ) → k < length zs → get_or zs k 0 ≡ get_or xs k 0 + get_or ys k 0) → zs ≡ add_each xs ys
 sum_from_parts xs ys zs e f each =
-    ext_get_or 0 zs (sum_of_parts xs ys)
+    ext_get_or 0 zs (add_each xs ys)
     (f ∙ sym (length-sum xs ys e))
     (λ i l. each i l ∙ sym (get_or-sum xs ys i e))
 
@@ -112,13 +112,13 @@ cmp_shift : (x y z : ℕ) → nat_cmp (x + z) (y + z) ≡ nat_cmp x y
 cmp_shift x y z = grind (arith, nat_tests)
 
 cmp-sum : (xs ys zs : List ℕ) → length xs ≡ length zs → length ys ≡ length zs
-    → parts_cmp (sum_of_parts xs zs) (sum_of_parts ys zs) ≡ parts_cmp xs ys
+    → parts_cmp (add_each xs zs) (add_each ys zs) ≡ parts_cmp xs ys
 cmp-sum [] [] zs e f = refl
 cmp-sum [] (y ∷ ys) zs e f = absurd (omega (arith, e, f))
 cmp-sum (x ∷ xs) [] zs e f = absurd (omega (arith, e, f))
 cmp-sum (x ∷ xs) (y ∷ ys) [] e f = absurd (omega (arith, e))
 cmp-sum (x ∷ xs) (y ∷ ys) (z ∷ zs) e f =
-    ap (λ r. ordering_then r (parts_cmp (sum_of_parts xs zs) (sum_of_parts ys zs))) (cmp_shift x y z)
+    ap (λ r. ordering_then r (parts_cmp (add_each xs zs) (add_each ys zs))) (cmp_shift x y z)
     ∙ ap (λ r. ordering_then (nat_cmp x y) r) (cmp-sum xs ys zs (omega arith) (omega arith))
 
 less_from : (r : Ordering) → is_lt r ≡ true → r ≡ Less
@@ -160,7 +160,7 @@ pub ranked_lawful : IsLawful ranked_meaning
 ranked_lawful = record {
   lawful_zero = refl;
   lawful_sum = λ a b oa ob.
-      eq-eqb (length (sum_of_parts a.parts b.parts)) 24
+      eq-eqb (length (add_each a.parts b.parts)) 24
       (length-sum a.parts b.parts (as_many a b oa ob) ∙ many a oa);
   size_zero = greatest-zero 24;
   size_sum = λ a b _ _. greatest-sum a.parts b.parts;

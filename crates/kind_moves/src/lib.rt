@@ -6,9 +6,9 @@
 //! the candidates of the form: a timeline leads from the start to a final kind exactly if it is a
 //! candidate. [`Frame::pieces`] parts a class of columns by where they lead and what they cost,
 //! without looking at single columns: a constraint, an open tier and a phase each part a class by
-//! one test. [`Frame::last_pieces`] does so where only the last constraint can part a class. The
-//! crate stands on the types of `tier_core`, on classes, on grammars, and on the definition of moves
-//! in `violation`.
+//! one test. [`Frame::last_parts`] parts a class that only the last constraint can part, and
+//! [`Frame::piece`] tells where one part leads and what it costs. The crate stands on the types of
+//! `tier_core`, on classes, on grammars, and on the definition of moves in `violation`.
 //!
 //! That the candidates of a form are the paths of an automaton is after Ellison, Phonological
 //! Derivation in Optimality Theory (COLING 1994); that its states are kinds is our own design.
@@ -25,7 +25,7 @@ mod fit;
 mod fit_boxes;
 mod fitting;
 mod frame;
-mod last_pieces;
+mod last_parts;
 mod last_tests;
 mod laws;
 mod leaving;

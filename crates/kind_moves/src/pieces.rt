@@ -80,8 +80,17 @@ impl<'a> Frame<'a> {
         self.cost(stage, constraint, kind, column)
     }
 
-    /// The piece of a class whose columns fit a kind, lead to one kind, and cost the same.
-    fn piece(&self, alloc: Global, stage: u32, constraint: u32, kind: &Kind, class: &Class) -> Piece
+    /// The piece of a class that is not empty, whose columns fit a kind, lead to one kind, and cost
+    /// the same under a constraint, which is counted from 1 in ranked order. If `constraint` is 0, the
+    /// piece costs nothing.
+    pub fn piece(
+        &self,
+        alloc: Global,
+        stage: u32,
+        constraint: u32,
+        kind: &Kind,
+        class: &Class,
+    ) -> Piece
         requires stage { stage ≤ length (constraints_in self.now) }
         requires within { constraint ≤ stage }
         requires fits { FitsFrame self.now stage kind.now }
@@ -107,7 +116,7 @@ impl<'a> Frame<'a> {
 
     /// The pieces of some classes. In each class all columns fit a kind, lead to one kind, and cost
     /// the same.
-    pub(crate) fn told_pieces(
+    fn told_pieces(
         &self,
         alloc: Global,
         stage: u32,

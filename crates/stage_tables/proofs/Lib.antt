@@ -17,3 +17,4 @@ mod WeighedMoves
 mod WeighedTables
 pub mod LeftBefore
 pub mod AtHand
+mod TestedSteps

@@ -18,7 +18,7 @@ use Rattle.stage_tables.specs.PartedPieces.{IsPartOfPiece, AddsParts, IsPartOfSo
 use Rattle.stage_tables.specs.PartedPieces.{ArePiecesBefore}
 
 -- what a piece costs is what each of its columns does
-piece_alike : (frame : Frame) (stage constraint : ℕ) (kind : Kind) (piece : Piece)
+pub piece_alike : (frame : Frame) (stage constraint : ℕ) (kind : Kind) (piece : Piece)
     → IsPiece frame stage constraint kind piece → IsAlike (cost_under frame stage constraint kind) piece.class
 piece_alike frame stage constraint kind piece is c d has_c has_d = sym (is.costs c has_c) ∙ is.costs d has_d
 

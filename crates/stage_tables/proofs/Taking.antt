@@ -101,23 +101,23 @@ piece_from exploring kind class pieces are n piece inside is =
     same : get_or (piece_classes pieces) n piece.class ≡ (get_or pieces n piece).class
     same = get_or-map (λ (p : Piece). p.class) pieces n piece piece.class inside
 
--- the moves of the first n pieces are put behind others
+-- the moves on the first n of some classes are put behind others
 pub record PushedSoFar {g : Ghosts UnitWeight} {h : Ghosts Count} (exploring : Exploring) (first now : Listed)
-    (kind : Kind) (arc : TableArc UnitWeight g) (pieces : List Piece) (old new : List (TableArc Count h))
+    (kind : Kind) (arc : TableArc UnitWeight g) (parts : List Class) (old new : List (TableArc Count h))
     (n : ℕ) : Type 0 where
   pub found : IsFoundWithin exploring now
   pub stays : StaysListed first now
   pub added : List (TableArc Count h)
   pub new_is : new ≡ old ++ added
   pub targets : AreTargets first.kinds.entries now.kinds.entries added
-  pub classes : move_classes added ≡ piece_classes (take n pieces)
+  pub classes : move_classes added ≡ take n parts
   pub each : All (IsTaken exploring.frame.now exploring.first exploring.stage now.kinds.entries kind arc)
       added
 
 pub none_pushed : {g : Ghosts UnitWeight} {h : Ghosts Count} (exploring : Exploring) (first : Listed) (kind : Kind)
-    (arc : TableArc UnitWeight g) (pieces : List Piece) (old : List (TableArc Count h)) → IsFoundWithin exploring first
-    → PushedSoFar exploring first first kind arc pieces old old 0
-none_pushed exploring first kind arc pieces old found = record {
+    (arc : TableArc UnitWeight g) (parts : List Class) (old : List (TableArc Count h)) → IsFoundWithin exploring first
+    → PushedSoFar exploring first first kind arc parts old old 0
+none_pushed exploring first kind arc parts old found = record {
   found = found;
   stays = λ k other s at. at;
   added = [];
@@ -137,14 +137,14 @@ targets_then first now next xs ys a b k low high = elim (cases_lt k (length now)
 ]
 
 pub one_pushed : {g : Ghosts UnitWeight} {h : Ghosts Count} (exploring : Exploring) (first now next : Listed)
-    (kind : Kind) (arc : TableArc UnitWeight g) (pieces : List Piece) (old new : List (TableArc Count h)) (n : ℕ)
-    (piece : Piece) (made : TableArc Count h)
-    → PushedSoFar exploring first now kind arc pieces old new n → n < length pieces → piece ≡ get_or pieces n piece
+    (kind : Kind) (arc : TableArc UnitWeight g) (parts : List Class) (old new : List (TableArc Count h)) (n : ℕ)
+    (part : Class) (made : TableArc Count h)
+    → PushedSoFar exploring first now kind arc parts old new n → n < length parts → part ≡ get_or parts n part
     → IsFoundWithin exploring next → StaysListed now next
-    → AreTargets now.kinds.entries next.kinds.entries (made ∷ []) → made.class ≡ piece.class
+    → AreTargets now.kinds.entries next.kinds.entries (made ∷ []) → made.class ≡ part
     → IsTaken exploring.frame.now exploring.first exploring.stage next.kinds.entries kind arc made
-    → PushedSoFar exploring first next kind arc pieces old (new ++ made ∷ []) (n + 1)
-one_pushed exploring first now next kind arc pieces old new n piece made so_far inside is found stays targets class
+    → PushedSoFar exploring first next kind arc parts old (new ++ made ∷ []) (n + 1)
+one_pushed exploring first now next kind arc parts old new n part made so_far inside is found stays targets class
     taken = record {
       found = found;
       stays = λ k other s at. stays k other s (so_far.stays k other s at);
@@ -155,9 +155,8 @@ one_pushed exploring first now next kind arc pieces old new n piece made so_far 
       classes =
           map-append (λ arc. arc.class) so_far.added (made ∷ [])
           ∙ ap (λ cs. cs ++ made.class ∷ []) so_far.classes
-          ∙ ap (λ c. piece_classes (take n pieces) ++ c ∷ []) (class ∙ ap (λ (p : Piece). p.class) is)
-          ∙ sym (map-append (λ (p : Piece). p.class) (take n pieces) (get_or pieces n piece ∷ []))
-          ∙ ap piece_classes (sym (take_more pieces n piece inside));
+          ∙ ap (λ c. take n parts ++ c ∷ []) (class ∙ is)
+          ∙ sym (take_more parts n part inside);
       each = All-push (IsTaken exploring.frame.now exploring.first exploring.stage next.kinds.entries
           kind arc) so_far.added made
           (λ k d l. taken_stays exploring.frame.now exploring.first exploring.stage now.kinds.entries
@@ -165,19 +164,19 @@ one_pushed exploring first now next kind arc pieces old new n piece made so_far 
     }
 
 pub all_pushed : {g : Ghosts UnitWeight} {h : Ghosts Count} (exploring : Exploring) (first now : Listed) (kind : Kind)
-    (arc : TableArc UnitWeight g) (pieces : List Piece) (old new : List (TableArc Count h)) (n : ℕ)
-    → PushedSoFar exploring first now kind arc pieces old new n → n ≡ length pieces
-    → ArePiecesFrom exploring kind arc.class pieces → AddsTaken exploring first now kind arc old new
-all_pushed exploring first now kind arc pieces old new n so_far last are = record {
+    (arc : TableArc UnitWeight g) (parts : List Class) (old new : List (TableArc Count h)) (n : ℕ)
+    → PushedSoFar exploring first now kind arc parts old new n → n ≡ length parts
+    → ((column : List Sym) → FitsAt exploring.frame.now exploring.stage kind column
+    → times_held parts column ≡ times_held (arc.class ∷ []) column) → AddsTaken exploring first now kind arc old new
+all_pushed exploring first now kind arc parts old new n so_far last hold = record {
   added = so_far.added;
   new_is = so_far.new_is;
   targets = so_far.targets;
   taken = record {
     each = λ k d l. record { arc = arc; listed = (0, omega arith, refl); taken = so_far.each k d l };
     held = λ column fits.
-        ap (λ cs. times_held cs column) (so_far.classes ∙ ap (λ k. piece_classes (take k pieces)) last
-        ∙ ap piece_classes (take-length pieces))
-        ∙ pieces_hold exploring kind arc.class pieces are column fits;
+        ap (λ cs. times_held cs column) (so_far.classes ∙ ap (λ k. take k parts) last ∙ take-length parts)
+        ∙ hold column fits;
   };
 }
 

@@ -7,3 +7,4 @@ pub mod PartedPieces
 pub mod Ranking
 pub mod Weighing
 pub mod Tested
+pub mod TestedParts

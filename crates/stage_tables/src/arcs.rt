@@ -1,4 +1,4 @@
-ghost use Rattle.std.specs.Prelude.{◌≡◌, ◌<◌, ◌≤◌, [], ◌∷◌, List, length, All, Contains, IsTrue, IfOk, IfErr, IfSome, OnOk};
+ghost use Rattle.std.specs.Prelude.{◌≡◌, ◌<◌, ◌≤◌, [], ◌∷◌, List, length, All, Contains, IfOk, IfErr};
 ghost use Rattle.tier_core.specs.declared.sym.Sym.{Sym};
 ghost use Rattle.tier_core.specs.Classes.{has};
 ghost use Rattle.arc_table.specs.Moves.{moves_at};
@@ -8,7 +8,7 @@ ghost use Rattle.stage_tables.specs.Tested.{AreTestsAt, IsLeftBefore};
 ghost use Rattle.stage_tables.specs.Exploring.{IsFoundWithin, IsFoundBeyond, IsListedOver, StaysListed, ArePiecesFrom, IsPieceFrom, AddsTaken};
 
 use crate::exploring::Exploring;
-use crate::listed::{Listed, number_of, number_over};
+use crate::listed::{Listed, number_of};
 use crate::stage_table::ExploreErr;
 use arc_table::TableArc;
 use kind_moves::{LastTests, Piece};
@@ -19,7 +19,7 @@ use weight_law::{Count, UnitWeight};
 impl Exploring<'_> {
     /// The new move for a piece of a kept one from a kind; its target is listed if it is not listed
     /// yet.
-    fn new_move(
+    pub fn new_move(
         &self,
         state: u32,
         kind: &Kind,
@@ -82,21 +82,19 @@ impl Exploring<'_> {
         Ok(())
     }
 
-    /// Appends the new moves for the pieces of a kept one from a kind to others.
-    fn take_parts(
+    /// Appends the new moves for a kept one from a kind to others, with no tests of the last
+    /// constraint.
+    fn take_pieces(
         &self,
         alloc: Global,
         state: u32,
         kind: &Kind,
-        tests: &Option<LastTests>,
         arc: &TableArc<UnitWeight>,
         moves: &mut Vec<TableArc<Count>>,
         listed: &mut Listed,
     ) -> Result<(), ExploreErr>
         requires found { IsFoundWithin self.now listed.old }
         requires over { IsListedOver listed.old kind.now state }
-        requires left { IsLeftBefore self.now }
-        requires tests { AreTestsAt self.now kind.now tests.now }
         requires arc { Contains (moves_at (states_of self.now.kept.now) state) arc.now }
         ensures found { IfOk result (λ _. IsFoundWithin self.now listed.new) }
         ensures stays { IfOk result (λ _. StaysListed listed.old listed.new) }
@@ -106,44 +104,10 @@ impl Exploring<'_> {
         ensures beyond { IfErr result
             (λ e. e ≡ ExploreErr.OverBudget → IsFoundBeyond self.now listed.new) }
     {
-        match self.pieces_of(alloc, state, kind, tests, arc) {
+        match self.pieces(alloc, kind, &arc.class) {
             Ok(pieces) => self.push_taken(state, kind, arc, &pieces, moves, listed),
             Err(_) => Err(ExploreErr::NoMemory),
         }
-    }
-
-    /// The new move for a whole kept one from a kind, if by the tests of the last constraint all its
-    /// columns do the same, and if the number of its target is at hand.
-    fn whole_move(
-        &self,
-        state: u32,
-        kind: &Kind,
-        tests: &Option<LastTests>,
-        arc: &TableArc<UnitWeight>,
-        listed: &Listed,
-    ) -> Option<TableArc<Count>>
-        requires found { IsFoundWithin self.now listed.now }
-        requires over { IsListedOver listed.now kind.now state }
-        requires left { IsLeftBefore self.now }
-        requires tests { AreTestsAt self.now kind.now tests.now }
-        requires arc { Contains (moves_at (states_of self.now.kept.now) state) arc.now }
-        ensures class { IfSome result (λ made. made.class ≡ arc.now.class) }
-        ensures taken { IfSome result
-            (λ made.
-            IsTaken self.now.frame.now self.now.first self.now.stage listed.now.kinds.entries
-            kind.now arc.now made) }
-    {
-        let Some(tests) = tests else {
-            return None;
-        };
-        let is_met = tests.is_met_after(&arc.class)?;
-        let cost = tests.cost_of(&arc.class)?;
-        let target = number_over(listed, arc.target, tests.bit, is_met)?;
-        Some(TableArc {
-            class: arc.class,
-            target,
-            weight: Count(cost),
-        })
     }
 
     /// Appends the new moves for a kept one from a kind to others.
@@ -170,13 +134,10 @@ impl Exploring<'_> {
         ensures beyond { IfErr result
             (λ e. e ≡ ExploreErr.OverBudget → IsFoundBeyond self.now listed.new) }
     {
-        let Some(made) = self.whole_move(state, kind, tests, arc, listed) else {
-            return self.take_parts(alloc, state, kind, tests, arc, moves, listed);
+        let Some(tests) = tests else {
+            return self.take_pieces(alloc, state, kind, arc, moves, listed);
         };
-        if moves.push(made).is_err() {
-            return Err(ExploreErr::NoMemory);
-        }
-        Ok(())
+        self.take_tested(alloc, state, kind, tests, arc, moves, listed)
     }
 
     /// The new moves for the kept ones from a kind.

@@ -16,6 +16,7 @@
 mod arcs;
 mod exploration;
 mod exploring;
+mod last_arcs;
 mod listed;
 mod pieces;
 mod ranking;

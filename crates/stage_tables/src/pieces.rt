@@ -1,20 +1,15 @@
-ghost use Rattle.std.specs.Prelude.{◌≡◌, ◌≤◌, length, All, Contains, IfOk, OnOk};
-ghost use Rattle.arc_table.specs.Moves.{moves_at};
-ghost use Rattle.arc_table.specs.States.{states_of};
+ghost use Rattle.std.specs.Prelude.{◌≡◌, ◌≤◌, length, All, IfOk, OnOk};
 ghost use Rattle.tier_core.specs.Classes.{sets_of};
 ghost use Rattle.kind_moves.specs.Frames.{tiers_in, FitsFrame};
 ghost use Rattle.kind_moves.specs.Pieces.{IsPiece};
 ghost use Rattle.stage_tables.specs.Exploring.{ArePiecesFrom};
-ghost use Rattle.stage_tables.specs.Listed.{IsReached};
-ghost use Rattle.stage_tables.specs.Tested.{AreTestsAt, IsLeftBefore};
+ghost use Rattle.stage_tables.specs.Tested.{AreTestsAt};
 ghost use Rattle.stage_tables.specs.PartedPieces.{AddsParts, ArePartedPieces};
 
 use crate::exploring::Exploring;
-use arc_table::TableArc;
 use kind_moves::{LastTests, Piece};
 use std::alloc::Global;
 use tier_core::{Class, Kind, NoMemory};
-use weight_law::UnitWeight;
 
 impl Exploring<'_> {
     /// Appends the parts of a piece to others; all columns of a part cost the same under a
@@ -112,34 +107,5 @@ impl Exploring<'_> {
             return None;
         }
         Some(self.frame.last_tests(self.before, self.stage, kind))
-    }
-
-    /// The columns of a kept move that fit a kind over its state, in pieces that lead to one kind,
-    /// and all columns of which cost the same under each constraint from the first on.
-    pub fn pieces_of(
-        &self,
-        alloc: Global,
-        state: u32,
-        kind: &Kind,
-        tests: &Option<LastTests>,
-        arc: &TableArc<UnitWeight>,
-    ) -> Result<Vec<Piece>, NoMemory>
-        requires fits { FitsFrame self.now.frame.now self.now.stage kind.now }
-        requires reached { IsReached self.now.frame.now self.now.stage
-            (states_of self.now.kept.now) kind.now state }
-        requires left { IsLeftBefore self.now }
-        requires tests { AreTestsAt self.now kind.now tests.now }
-        requires arc { Contains (moves_at (states_of self.now.kept.now) state) arc.now }
-        ensures { IfOk result
-            (λ pieces. ArePiecesFrom self.now kind.now arc.now.class pieces.items) }
-    {
-        let Some(tests) = tests else {
-            return self.pieces(alloc, kind, &arc.class);
-        };
-        let (before, stage) = (self.before, self.stage);
-        let pieces = self
-            .frame
-            .last_pieces(alloc, before, stage, kind, tests, &arc.class)?;
-        Ok(pieces)
     }
 }

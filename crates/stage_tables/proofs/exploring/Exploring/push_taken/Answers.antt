@@ -1,12 +1,13 @@
-use Rattle.std.proofs.Common.{◌≡◌, not, length, ap, ◌∙◌, arith}
-use Rattle.stage_tables.proofs.Taking.{none_pushed, one_pushed, all_pushed, piece_from}
+use Rattle.std.proofs.{Common.{◌≡◌, not, length, ap, sym, ◌∙◌, arith}, lemmas.List.{get_or-map, length-map}}
+use Rattle.kind_moves.specs.{declared.piece.Piece.Piece, Pieces.piece_classes}
+use Rattle.stage_tables.proofs.Taking.{none_pushed, one_pushed, all_pushed, pieces_hold, piece_from}
 use Rattle.stage_tables.proofs.exploring.Exploring.push_taken.Goals as goal
 
 pub loop-piece-init : goal.loop-piece-init
 loop-piece-init c = record {
   inside = omega arith;
-  so_far = none_pushed c.args.self.now c.args.listed.now c.args.kind.now c.args.arc.now c.args.pieces.now
-      c.args.moves.now.items c.requires.found;
+  so_far = none_pushed c.args.self.now c.args.listed.now c.args.kind.now c.args.arc.now
+      (piece_classes c.args.pieces.now) c.args.moves.now.items c.requires.found;
 }
 
 pub new_move-requires-clause-found : goal.new_move-requires-clause-found
@@ -27,12 +28,17 @@ pub loop-piece-preserved : goal.loop-piece-preserved
 loop-piece-preserved c =
     let inv = c.loop-piece.invariant in
     let done = c.in_ok-made.ensures in
+    let pieces = c.args.pieces.now in
+    let piece = c.piece-item.result in
+    let long = length-map pieces (λ (p : Piece). p.class) in
     record {
       inside = omega (arith, c.loop-piece-test.true);
       so_far = rw (c.push.ensures.items, c.is_err.ensures.negation ∙ ap not c.if-is_err.false)
           (one_pushed c.args.self.now c.args.listed.now c.loop-piece.listed c.new_move.new.listed c.args.kind.now
-          c.args.arc.now c.args.pieces.now c.args.moves.now.items c.loop-piece.moves.items c.loop-piece.piece-index
-          c.piece-item.result c.in_ok-made.made inv.so_far c.loop-piece-test.true c.piece-item.is done.found done.stays
+          c.args.arc.now (piece_classes pieces) c.args.moves.now.items c.loop-piece.moves.items c.loop-piece.piece-index
+          piece.class c.in_ok-made.made inv.so_far (omega (arith, long, c.loop-piece-test.true))
+          (ap (λ (p : Piece). p.class) c.piece-item.is ∙ sym (get_or-map (λ (p : Piece). p.class) pieces
+          c.loop-piece.piece-index piece piece.class c.loop-piece-test.true)) done.found done.stays
           done.targets done.class done.taken);
     }
 
@@ -45,7 +51,10 @@ returns-clause-stays c = c.loop-piece.invariant.so_far.stays
 pub returns-clause-adds : goal.returns-clause-adds
 returns-clause-adds c =
     let inv = c.loop-piece.invariant in
+    let pieces = c.args.pieces.now in
+    let long = length-map pieces (λ (p : Piece). p.class) in
     let last : c.loop-piece.piece-index
-    ≡ length c.args.pieces.now = omega (arith, inv.inside, c.loop-piece-test.false) in
-    all_pushed c.args.self.now c.args.listed.now c.loop-piece.listed c.args.kind.now c.args.arc.now c.args.pieces.now
-    c.args.moves.now.items c.loop-piece.moves.items c.loop-piece.piece-index inv.so_far last c.requires.pieces
+    ≡ length (piece_classes pieces) = omega (arith, long, inv.inside, c.loop-piece-test.false) in
+    all_pushed c.args.self.now c.args.listed.now c.loop-piece.listed c.args.kind.now c.args.arc.now
+    (piece_classes pieces) c.args.moves.now.items c.loop-piece.moves.items c.loop-piece.piece-index inv.so_far last
+    (pieces_hold c.args.self.now c.args.kind.now c.args.arc.now.class pieces c.requires.pieces)

@@ -10,12 +10,12 @@ pub some_told : (problem : Problem) (stage : ℕ) (k : PrefixKind) → length k.
     → length k.phases ≡ length (stretches problem stage) → (kind : Kind) × TellsKind problem stage kind k
 some_told problem stage k free count =
     let told : (kind : Kind) × AreBitsOf (length problem.tiers.free) (length (stretches problem stage)) k kind =
-    kind_for (length problem.tiers.free) (length (stretches problem stage)) k free count in
+    kind_for _ _ k free count in
     (told.0, record { tells = told.1.tells; opened = told.1.opened; stretches = told.1.stretches })
 
 -- bits that tell one kind are the same
 pub same_told : (problem : Problem) (stage : ℕ) (k l : Kind) (x : PrefixKind) → TellsKind problem stage k x
     → TellsKind problem stage l x → k ≡ l
-same_told problem stage k l x a b = one_told (length problem.tiers.free) (length (stretches problem stage)) x k l
+same_told problem stage k l x a b = one_told _ _ x k l
     (record { tells = a.tells; opened = a.opened; stretches = a.stretches })
     (record { tells = b.tells; opened = b.opened; stretches = b.stretches })

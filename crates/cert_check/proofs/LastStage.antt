@@ -26,14 +26,13 @@ module _ (s : Subject) (staged : IsRightBeforeStates s) where
 
   -- the kinds of each stage ascend
   pub ascends_at : (j : ℕ) → j ≤ last_stage (problem_of s) → AscendsAt s j
-  ascends_at j l = ascends_unless (problem_of s) s.answer.now j (in_stages s staged.ready j l)
+  ascends_at j l = ascends_unless _ _ j (in_stages s staged.ready j l)
       (λ n w. staged.right 4 (omega arith) (j ∷ 0 ∷ n ∷ []) (j, (0, (n ∷ [], ((n, (w, refl)), refl)))))
 
   module _ (state : StateLine) (node : Node) (at : IsStateAt s state node) where
     -- the place of its node is in the form
     pub place_within : node.kind.place ≤ last_place (problem_of s)
-    place_within = so_unless (at_most node.kind.place (last_place (problem_of s)))
-        (λ no. staged.right 4 (omega arith) (last ∷ 0 ∷ state.node ∷ []) (
+    place_within = so_unless (at_most _ _) (λ no. staged.right 4 (omega arith) (last ∷ 0 ∷ state.node ∷ []) (
           last,
           (
             0,
@@ -65,15 +64,13 @@ module _ (s : Subject) (staged : IsRightBeforeStates s) where
         (next_kind (problem_of s) (last_stage (problem_of s)) (last_kind s node) column)) where
       listed_told : Contains (stage_kinds s (last_stage (problem_of s)))
           (next_kind (problem_of s) (last_stage (problem_of s)) (last_kind s node) column)
-      listed_told = own (is_listed problem s.answer.now.stages.items last
-          (next_kind problem last (last_kind s node) column))
+      listed_told = own (is_listed _ _ _ _)
         where
           own : ((p : ℕ) × Lists problem s.answer.now.stages.items last
               (next_kind problem last (last_kind s node) column) p)
               ⊎ IsUnlisted problem s.answer.now.stages.items last (next_kind problem last (last_kind s node) column)
               → Contains (stage_kinds s last) (next_kind problem last (last_kind s node) column)
-          own (inl h) = lists_kind problem last s.answer.now.stages.items
-              (next_kind problem last (last_kind s node) column) h.0 h.1
+          own (inl h) = lists_kind _ _ _ _ _ h.1
           own (inr none) = absurd (staged.right 4 (omega arith) (last ∷ 2 ∷ state.node ∷ 1 ∷ column_place column) (
             last,
             (
@@ -123,15 +120,11 @@ module _ (s : Subject) (staged : IsRightBeforeStates s) where
           → IsTargetListed s (last_stage (problem_of s)) piece
       target_listed piece is = record {
         fits = record {
-          within = (node_fits s staged state node at).within;
-          opened = subst (λ (k : Kind). k.opened < 2 ^ free_count s.shape.now) (sym is)
-              (subst (λ n. target.opened < 2 ^ n) (sym (free_same s staged.ready last (omega arith))) tells.opened);
-          stretches = subst (λ (k : Kind). AreStretchesBelow (stretch_count s.shape.now last) k) (sym is)
-              (subst (λ n. AreStretchesBelow n target) (sym (stretch_same s staged.ready last (omega arith)))
-              tells.stretches);
+          within = (node_fits s staged _ _ at).within;
+          opened = rw is (rw ((free_same s staged.ready last (omega arith))) tells.opened);
+          stretches = rw is (rw ((stretch_same s staged.ready last (omega arith))) tells.stretches);
         };
-        listed = subst (λ (k : Kind). Contains (stage_kinds s last) (kind_of_bits problem last k)) (sym is)
-            (subst (Contains (stage_kinds s last)) (sym tells.tells) listed_told);
+        listed = rw is (rw tells.tells listed_told);
       }
 
     -- so do the pieces of its kept moves

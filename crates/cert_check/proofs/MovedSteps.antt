@@ -31,17 +31,15 @@ moved_told problem stage kind result column input free first place opened ei ef 
       ∙ ap (map (λ t. opens (symbol column t))) ef)
       (ap (λ cs. phases (length (filter is_stretch cs)) result) (sym ec) ∙ ph
       ∙ ap (λ cs. next_phases (filter is_stretch cs) (phases (length (filter is_stretch cs)) kind) column) ec);
-  opened = subst (λ n. n < 2 ^ length problem.tiers.free) (sym o)
-      (subst (λ (ts : List ℕ). opened < 2 ^ length ts) ef l);
-  stretches = subst (λ cs. AreStretchesBelow (length (filter is_stretch cs)) result) ec st;
+  opened = rw o (rw ef at l);
+  stretches = rw ec at st;
 }
 
 module _ (s : Subject) (ready : IsReady s) (stage : ℕ) (within : stage ≤ last_stage (problem_of s)) where
   -- the constraints of a grammar are over its tiers
   pub over_at : (n : ℕ) (c : Constraint) → n < last_stage (problem_of s) → c ≡ get_or (problem_of s).constraints n c
       → IsOverTiers (problem_of s).tiers.width c
-  over_at n c l is = subst (IsOverTiers (problem_of s).tiers.width) (sym is)
-      (All-from_recursion (IsOverTiers (problem_of s).tiers.width) (problem_of s).constraints
+  over_at n c l is = rw is (All-from_recursion (IsOverTiers (problem_of s).tiers.width) (problem_of s).constraints
       (over_tiers s.grammar.now) n c l)
 
   -- what a column costs under the last constraint of a stage
@@ -67,7 +65,7 @@ module _ (s : Subject) (ready : IsReady s) (stage : ℕ) (within : stage ≤ las
       ∙ stretch_same s ready number (omega arith)
       ∙ ap (λ xs. length (filter is_stretch xs)) (sym (take-take number stage cs (omega arith))) in
       let below : kind.unmet < 2 ^ length (stretches (problem_of s) stage) =
-      subst (λ n. kind.unmet < 2 ^ n) (stretch_same s ready stage within) fits.stretches.unmet in
+      subst (λ n. kind.unmet < 2 ^ n) (stretch_same s ready _ within) fits.stretches.unmet in
       ap (λ x. cond x 1 0)
       (on ph (unmet ∙ unmet_told kind (length (stretches (problem_of s) stage)) place below)
       ∙ costs_agree c.family c.left c.right (has_tier mask) (is_tier_open (problem_of s) k) ph column

@@ -109,8 +109,7 @@ AtPlace problem answer (suc (suc (suc (suc (suc (suc n))))) ∷ state ∷ rest) 
 
 module _ (problem : Problem) (answer : Answer) where
   at_place : (fault : Fault) (place : List ℕ) → IsFault problem answer fault place → AtPlace problem answer place fault
-  at_place fault place h = subst (λ p. AtPlace problem answer p fault) (sym (own fault place h).1.0)
-      (own fault place h).1.1
+  at_place fault place h = rw ((own fault place h).1.0) (own _ _ h).1.1
     where
       own : (f : Fault) (p : List ℕ) → IsFault problem answer f p
           → (q : List ℕ) × ((p ≡ q) × AtPlace problem answer q f)
@@ -133,7 +132,7 @@ module _ (problem : Problem) (answer : Answer) where
       )
       own (StartPotential stage listed count) p h =
           (4 ∷ stage ∷ 3 ∷ [], (h.1, (listed, (count, (refl, h.0)))))
-      own (StateMissing state target) p (inl h) = (5 ∷ [], (h.3, both state target h.0 h.1))
+      own (StateMissing state target) p (inl h) = (5 ∷ [], (h.3, both _ _ h.0 h.1))
         where
           both : (m n : ℕ) → m ≡ 0 → n ≡ 0 → StateMissing m n ≡ StateMissing 0 0
           both m n e f = ap₂ (λ x y. StateMissing x y) e f
@@ -169,13 +168,13 @@ module _ (problem : Problem) (answer : Answer) where
 
   one_final : (stage n listed other : ℕ) → HasFinalPotential problem answer stage n listed
       → HasFinalPotential problem answer stage n other → listed ≡ other
-  one_final stage n listed other a b = a.listed_is
-      ∙ ap (λ (x : Node). x.potential) (one_node stage n a.node b.node a.is b.is) ∙ sym b.listed_is
+  one_final stage n listed other a b = a.listed_is ∙ ap (λ (x : Node). x.potential) (one_node _ n _ _ a.is b.is) ∙ sym
+      b.listed_is
 
   one_start : (stage listed count other more : ℕ) → HasWrongStart answer stage listed count
       → HasWrongStart answer stage other more → (listed ≡ other) × (count ≡ more)
   one_start stage listed count other more a b = (
-    a.listed_is ∙ ap (λ (x : Node). x.potential) (one_node stage 0 a.node b.node a.is b.is) ∙ sym b.listed_is,
+    a.listed_is ∙ ap (λ (x : Node). x.potential) (one_node _ 0 _ _ a.is b.is) ∙ sym b.listed_is,
     a.count_is ∙ sym b.count_is,
   )
 
@@ -186,23 +185,19 @@ module _ (problem : Problem) (answer : Answer) where
 
     one_missing : (kind other : Kind) → IsNotClosed problem answer stage n column kind
         → IsNotClosed problem answer stage n column other → kind ≡ other
-    one_missing kind other a b = same_told problem stage kind other (next b.node)
-        (subst (λ x. TellsKind problem stage kind (next x)) (one_node stage n a.node b.node a.is b.is) a.leads) b.leads
+    one_missing kind other a b = same_told _ _ _ _ _ (rw (one_node stage n a.node b.node a.is b.is) at a.leads) b.leads
 
     not_both : (kind : Kind) (listed allowed : ℕ) → IsNotClosed problem answer stage n column kind
         → HasHighPotential problem answer stage n column listed allowed → ⊥
-    not_both kind listed allowed a b = a.unlisted b.next
-        (subst (λ x. Lists problem answer.stages.items stage (next x) b.next)
-        (one_node stage n b.node a.node b.is a.is) b.leads)
+    not_both kind listed allowed a b = a.unlisted b.next (rw (one_node stage n b.node a.node b.is a.is) at b.leads)
 
     one_potential_fault : ((m : ℕ) → HasWrongNode problem answer stage m → ⊥) → (listed allowed other more : ℕ)
         → HasHighPotential problem answer stage n column listed allowed
         → HasHighPotential problem answer stage n column other more → (listed ≡ other) × (allowed ≡ more)
     one_potential_fault right listed allowed other more a b =
-        let same : a.node ≡ b.node = one_node stage n a.node b.node a.is b.is in
-        let nexts : a.next ≡ b.next = one_potential problem stage answer.stages.items
-        (ascends_unless problem answer stage a.is.within right) (next b.node) a.next b.next
-        (subst (λ x. Lists problem answer.stages.items stage (next x) a.next) same a.leads) b.leads in (
+        let same : a.node ≡ b.node = one_node _ n _ _ a.is b.is in
+        let nexts : a.next ≡ b.next = one_potential _ _ _ (ascends_unless _ _ _ a.is.within right) _ _ _
+        (rw same at a.leads) b.leads in (
           a.listed_is ∙ ap (λ (x : Node). x.potential) same ∙ sym b.listed_is,
           a.allowed_is
               ∙ ap₂ (λ (x : Node) (q : ℕ). cost_of problem stage (kind_of_bits problem stage x.kind) column + q)
@@ -211,12 +206,11 @@ module _ (problem : Problem) (answer : Answer) where
 
     one_move : ((m : ℕ) → HasWrongNode problem answer stage m → ⊥) → (f g : Fault)
         → IsMoveFault problem answer stage n column f → IsMoveFault problem answer stage n column g → f ≡ g
-    one_move right f g (inl a) (inl b) = a.1.0
-        ∙ ap (λ k. NotClosed stage n k) (one_missing a.0 b.0 a.1.1 b.1.1) ∙ sym b.1.0
-    one_move right f g (inl a) (inr b) = absurd (not_both a.0 b.0 b.1.0 a.1.1 b.1.1.1)
-    one_move right f g (inr a) (inl b) = absurd (not_both b.0 a.0 a.1.0 b.1.1 a.1.1.1)
+    one_move right f g (inl a) (inl b) = a.1.0 ∙ ap (λ k. NotClosed stage n k) (one_missing _ _ a.1.1 b.1.1) ∙ sym b.1.0
+    one_move right f g (inl a) (inr b) = absurd (not_both _ _ _ a.1.1 b.1.1.1)
+    one_move right f g (inr a) (inl b) = absurd (not_both _ _ _ b.1.1 a.1.1.1)
     one_move right f g (inr a) (inr b) =
-        let same = one_potential_fault right a.0 a.1.0 b.0 b.1.0 a.1.1.1 b.1.1.1 in
+        let same = one_potential_fault right _ _ _ _ a.1.1.1 b.1.1.1 in
         a.1.1.0 ∙ ap₂ (λ x y. Potential stage n x y) same.0 same.1 ∙ sym b.1.1.0
 
   one_in_node : (stage n : ℕ) → ((m : ℕ) → HasWrongNode problem answer stage m → ⊥) → (rest : List ℕ) (f g : Fault)
@@ -225,8 +219,7 @@ module _ (problem : Problem) (answer : Answer) where
   one_in_node stage n right (zero ∷ rest) f g a b = a.1.0
       ∙ ap (λ x. FinalPotential stage n x) (one_final stage n a.0 b.0 a.1.1 b.1.1) ∙ sym b.1.0
   one_in_node stage n right (suc m ∷ rest) f g a b = one_move stage n b.1.0 right f g
-      (subst (λ c. IsMoveFault problem answer stage n c f)
-      (same_column a.1.0 b.1.0 (sym a.1.1.0 ∙ b.1.1.0)) a.1.1.1) b.1.1.1
+      (rw (same_column a.1.0 b.1.0 (sym a.1.1.0 ∙ b.1.1.0)) at a.1.1.1) b.1.1.1
 
   same_head : (m n : ℕ) (rest : List ℕ) → rest ≡ m ∷ [] → rest ≡ n ∷ [] → m ≡ n
   same_head m n rest e f = ap (λ xs. get_or xs 0 0) (sym e ∙ f)
@@ -235,34 +228,33 @@ module _ (problem : Problem) (answer : Answer) where
       → ((m : ℕ) → HasWrongNode problem answer stage m → IsBefore (0 ∷ m ∷ []) rest → ⊥)
       → AtStage problem answer stage rest f → AtStage problem answer stage rest g → f ≡ g
   one_in_stage stage [] f g none a b = absurd a
-  one_in_stage stage (zero ∷ rest) f g none a b = a.1.1.0
-      ∙ ap (λ n. NodeWrong stage n) (same_head a.0 b.0 rest a.1.0 b.1.0) ∙ sym b.1.1.0
+  one_in_stage stage (zero ∷ rest) f g none a b = a.1.1.0 ∙ ap (λ n. NodeWrong stage n) (same_head _ _ _ a.1.0 b.1.0) ∙
+      sym b.1.1.0
   one_in_stage stage (suc zero ∷ rest) f g none a b = a ∙ sym b
   one_in_stage stage (suc (suc zero) ∷ []) f g none a b = absurd a
   one_in_stage stage (suc (suc zero) ∷ n ∷ rest) f g none a b =
       one_in_node stage n (λ m w. none m w (inl (omega arith))) rest f g a b
   one_in_stage stage (suc (suc (suc n)) ∷ rest) f g none a b =
-      let same = one_start stage a.0 a.1.0 b.0 b.1.0 a.1.1.1 b.1.1.1 in
+      let same = one_start _ _ _ _ _ a.1.1.1 b.1.1.1 in
       a.1.1.0 ∙ ap₂ (λ x y. StartPotential stage x y) same.0 same.1 ∙ sym b.1.1.0
 
   -- of a state
   module _ (states : AreStatesInOrder problem.tiers.width answer.automaton.states.items) where
     one_line : (n : ℕ) (a b : StateLine) → HasState answer n a → HasState answer n b → a ≡ b
-    one_line n a b h k = one_state answer.automaton.states.items states.ascending a b h.listed k.listed
-        (h.numbered ∙ sym k.numbered)
+    one_line n a b h k = one_state _ states.ascending a b h.listed k.listed (h.numbered ∙ sym k.numbered)
 
     one_lacking : (state arc target other : ℕ) → LacksTarget answer state arc target
         → LacksTarget answer state arc other → target ≡ other
     one_lacking state arc target other a b =
-        let line : a.line ≡ b.line = one_line state a.line b.line a.is b.is in
+        let line : a.line ≡ b.line = one_line _ _ _ a.is b.is in
         let same : a.arc_line ≡ b.arc_line = some_same (sym a.numbered
         ∙ ap (λ (x : StateLine). slice_get x.arcs.items arc) line ∙ b.numbered) in
         a.target_is ∙ ap (λ (x : ArcLine). x.target) same ∙ sym b.target_is
 
     one_mark : (state : ℕ) (listed other : Bool) → HasWrongMark problem answer state listed
         → HasWrongMark problem answer state other → listed ≡ other
-    one_mark state listed other a b = a.listed_is
-        ∙ ap (λ (x : StateLine). x.accepting) (one_line state a.line b.line a.is b.is) ∙ sym b.listed_is
+    one_mark state listed other a b = a.listed_is ∙ ap (λ (x : StateLine). x.accepting) (one_line _ _ _ a.is b.is) ∙ sym
+        b.listed_is
 
     module _ (state : ℕ) (column : List Sym) (line : StateLine) (is : HasState answer state line)
         (once : HasTwice answer state column → ⊥) where
@@ -308,9 +300,7 @@ module _ (problem : Problem) (answer : Answer) where
     one_kept ascending k column None None a b = refl
     one_kept ascending k column None (Some n) a b = absurd (a b.0)
     one_kept ascending k column (Some m) None a b = absurd (b a.0)
-    one_kept ascending k column (Some m) (Some n) a b = ap (λ (x : ℕ). Some x)
-        (one_number problem (nodes_at answer.stages.items (last_stage problem)) ascending
-        (next_kind problem (last_stage problem) k column) m n a.1 b.1)
+    one_kept ascending k column (Some m) (Some n) a b = ap (λ (x : ℕ). Some x) (one_number _ _ ascending _ m n a.1 b.1)
 
     one_arcs : IsStrictlySortedBy kind_order
         (kinds_at problem (last_stage problem) (nodes_at answer.stages.items (last_stage problem)))
@@ -333,18 +323,17 @@ module _ (problem : Problem) (answer : Answer) where
         → AtState problem answer state rest f → AtState problem answer state rest g → f ≡ g
     one_in_state state [] f g ascending none a b = absurd a
     one_in_state state (zero ∷ rest) f g ascending none a b =
-        let same : a.0 ≡ b.0 = same_head a.0 b.0 rest a.1.1.0 b.1.1.0 in
-        a.1.1.1.0 ∙ ap (λ n. StateMissing state n) (one_lacking state b.0 a.1.0 b.1.0
-        (subst (λ n. LacksTarget answer state n a.1.0) same a.1.1.1.1) b.1.1.1.1) ∙ sym b.1.1.1.0
-    one_in_state state (suc zero ∷ rest) f g ascending none a b = a.1.0
-        ∙ ap (λ x. FinalsDiffer state x) (one_mark state a.0 b.0 a.1.1 b.1.1) ∙ sym b.1.0
-    one_in_state state (suc (suc zero) ∷ rest) f g ascending none a b = a.1.1
-        ∙ ap (λ c. ArcsTwice state c) (same_column a.0 b.0 (sym a.1.0 ∙ b.1.0)) ∙ sym b.1.1
+        let same : a.0 ≡ b.0 = same_head _ _ _ a.1.1.0 b.1.1.0 in
+        a.1.1.1.0 ∙ ap (λ n. StateMissing state n) (one_lacking _ _ _ _ (rw same at a.1.1.1.1) b.1.1.1.1) ∙ sym
+        b.1.1.1.0
+    one_in_state state (suc zero ∷ rest) f g ascending none a b = a.1.0 ∙ ap (λ x. FinalsDiffer state x)
+        (one_mark _ _ _ a.1.1 b.1.1) ∙ sym b.1.0
+    one_in_state state (suc (suc zero) ∷ rest) f g ascending none a b = a.1.1 ∙ ap (λ c. ArcsTwice state c)
+        (same_column _ _ (sym a.1.0 ∙ b.1.0)) ∙ sym b.1.1
     one_in_state state (suc (suc (suc n)) ∷ rest) f g ascending none a b =
-        let column : a.0 ≡ b.0 = same_column a.0 b.0 (sym a.1.0 ∙ b.1.0) in
-        let same = one_arcs ascending state b.0 (λ w. none b.0 w (inl (omega arith)))
-        a.1.1.0 b.1.1.0 a.1.1.1.0 b.1.1.1.0
-        (subst (λ c. HasWrongArcs problem answer state c a.1.1.0 a.1.1.1.0) column a.1.1.1.1.1) b.1.1.1.1.1 in
+        let column : a.0 ≡ b.0 = same_column _ _ (sym a.1.0 ∙ b.1.0) in
+        let same = one_arcs ascending _ _ (λ w. none b.0 w (inl (omega arith))) _ _ _ _ (rw column at a.1.1.1.1.1)
+        b.1.1.1.1.1 in
         a.1.1.1.1.0 ∙ ap₂ (λ c x. ArcsDiffer state c x a.1.1.1.0) column same.0
         ∙ ap (λ x. ArcsDiffer state b.0 b.1.1.0 x) same.1 ∙ sym b.1.1.1.1.0
 
@@ -366,7 +355,7 @@ module _ (problem : Problem) (answer : Answer) where
         (cases_eq (length answer.stages.items) (last_stage problem + 1))
         (λ no. none (StageMissing (length answer.stages.items) (last_stage problem + 1)) (1 ∷ [])
         (record { wanted_is = refl; differs = no; listed_is = inl refl }, refl) (inl (omega arith))) in
-        ascends_unless problem answer (last_stage problem) (omega (arith, count))
+        ascends_unless _ _ (last_stage problem) (omega (arith, count))
         (λ m w. none (NodeWrong (last_stage problem) m) (at_node (last_stage problem) m) (w, refl) (inl (omega arith)))
 
     one_at : (place : List ℕ) (f g : Fault) → IsNothingBefore place → AtPlace problem answer place f
@@ -374,12 +363,12 @@ module _ (problem : Problem) (answer : Answer) where
     one_at [] f g none a b = absurd a
     one_at (zero ∷ rest) f g none a b = a ∙ sym b
     one_at (suc zero ∷ rest) f g none a b =
-        let same = one_lack a.0 b.0 a.1.0 b.1.0 a.1.1.1 b.1.1.1 in
+        let same = one_lack _ _ _ _ a.1.1.1 b.1.1.1 in
         a.1.1.0 ∙ ap₂ (λ x y. StageMissing x y) same.0 same.1 ∙ sym b.1.1.0
     one_at (suc (suc zero) ∷ rest) f g none a b = a ∙ sym b
     one_at (suc (suc (suc zero)) ∷ rest) f g none a b =
-        let head : a.0 ≡ b.0 = same_head a.0 b.0 rest a.1.1.1.0 b.1.1.1.0 in
-        let same = one_count b.0 a.1.0 a.1.1.0 b.1.0 b.1.1.0
+        let head : a.0 ≡ b.0 = same_head _ _ _ a.1.1.1.0 b.1.1.1.0 in
+        let same = one_count _ _ a.1.1.0 b.1.0 b.1.1.0
         (subst (λ n. HasWrongCount problem answer n a.1.0 a.1.1.0) head a.1.1.1.1.1) b.1.1.1.1.1 in
         a.1.1.1.1.0 ∙ ap₂ (λ n x. CountsDiffer n x a.1.1.0) head same.0
         ∙ ap (λ x. CountsDiffer b.0 b.1.0 x) same.1 ∙ sym b.1.1.1.1.0
@@ -396,10 +385,9 @@ module _ (problem : Problem) (answer : Answer) where
 
     pub one_first : (fault other : Fault) → IsFirstFault problem answer fault → IsFirstFault problem answer other
         → fault ≡ other
-    one_first fault other a b = by (ordered a.place b.place)
+    one_first fault other a b = by (ordered _ _)
       where
         by : InOrder a.place b.place → fault ≡ other
-        by (inl e) = one_at b.place fault other b.first
-            (at_place fault b.place (subst (IsFault problem answer fault) e a.is)) (at_place other b.place b.is)
+        by (inl e) = one_at _ _ _ b.first (at_place _ _ (rw e at a.is)) (at_place _ _ b.is)
         by (inr (inl before)) = absurd (b.first fault a.place a.is before)
         by (inr (inr before)) = absurd (a.first other b.place b.is before)

@@ -37,7 +37,7 @@ module _ (s : Subject) (stage : ℕ) where
   pub after_by : (n : ℕ) → n < length (stage_nodes s stage)
       → IsInOrder problem s.answer.now.stages.items stage n (node_kind s stage n)
       → 1 ≤ n → kind_order (node_kind s stage (n - 1)) (node_kind s stage n) ≡ Less
-  after_by n l o some = o.after (node_kind s stage (n - 1)) some
+  after_by n l o some = o.after (node_kind s _ _) some
       (slice_get-get_or (stage_kinds s stage) (n - 1) (kind_of problem stage []) (omega (arith, l, kind_count)))
 
   -- nodes that all stand where they may ascend
@@ -57,13 +57,13 @@ module _ (s : Subject) (stage : ℕ) where
   pub node_there : IsReady s → stage ≤ last_stage problem → (n : ℕ) → n < length (stage_nodes s stage)
       → (node : Node) × HasNode s.answer.now stage n node
   node_there ready within n l =
-      let some = some_of (slice_get (stage_nodes s stage) n) (stage_nodes s stage) n l refl in
-      (some.0, record { within = in_stages s ready stage within; numbered = some.1 })
+      let some = some_of _ _ n l refl in
+      (some.0, record { within = in_stages s ready _ within; numbered = some.1 })
     where
       some_of : (o : Option Node) (nodes : List Node) (m : ℕ) → m < length nodes → slice_get nodes m ≡ o
           → (node : Node) × (slice_get nodes m ≡ Some node)
       some_of (Some node) nodes m h e = (node, e)
-      some_of None nodes m h e = absurd (none_there nodes m h e)
+      some_of None nodes m h e = absurd (none_there _ m h e)
 
   -- the first node that does not stand where it may
   pub first_wrong : IsReady s → stage ≤ last_stage problem → (n : ℕ) → n < length (stage_nodes s stage)
@@ -76,16 +76,14 @@ module _ (s : Subject) (stage : ℕ) where
           record {
             node = there.0;
             is = there.1;
-            wrong = λ o. wrong (subst (IsInOrder problem s.answer.now.stages.items stage n)
-                (numbered_is n there.0 there.1) o);
+            wrong = λ o. wrong (rw (numbered_is n there.0 there.1) at o);
           },
           refl,
         );
-        first = none_before (InStage problem s.answer.now stage) 0 (n ∷ []) (λ m h. absurd (omega arith))
-            (λ rest w b. earlier w.0 w.1.0 (subst (λ q. IsBefore q (n ∷ [])) w.1.1 b));
+        first = none_before _ 0 (n ∷ []) (λ m h. absurd (omega arith))
+            (λ rest w b. earlier _ w.1.0 (subst (λ q. IsBefore q (n ∷ [])) w.1.1 b));
       }
     where
       earlier : (m : ℕ) → HasWrongNode problem s.answer.now stage m → IsBefore (m ∷ []) (n ∷ []) → ⊥
-      earlier m w (inl less) = w.wrong (subst (IsInOrder problem s.answer.now.stages.items stage m)
-          (sym (numbered_is m w.node w.is)) (before m less))
+      earlier m w (inl less) = w.wrong (rw ((numbered_is m w.node w.is)) (before m less))
       earlier m w (inr same) = same.1

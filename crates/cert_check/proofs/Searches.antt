@@ -57,22 +57,21 @@ module _ (shape : Shape) (stage : ℕ) (nodes : List Node) (key : Kind)
 
   compared : (o : Ordering) → kind_order (kind_in shape stage (get_or nodes middle node).kind) wanted ≡ o
       → kind_order (get_or kinds middle wanted) wanted ≡ o
-  compared o e = ap (λ k. kind_order k wanted)
-      (get_or-map (λ (node : Node). kind_in shape stage node.kind) nodes middle node wanted inside) ∙ e
+  compared o e = ap (λ k. kind_order k wanted) (get_or-map _ _ _ _ wanted inside) ∙ e
 
   pub before_middle : kind_order (kind_in shape stage (get_or nodes middle node).kind) wanted ≡ Less → (i : ℕ)
       → i < middle + 1 → kind_order (get_or kinds i wanted) wanted ≡ Less
-  before_middle e = all_below kinds wanted sorted middle (omega (arith, inside, size)) (compared Less e)
+  before_middle e = all_below _ _ sorted _ (omega (arith, inside, size)) (compared _ e)
 
   pub behind_middle : kind_order (kind_in shape stage (get_or nodes middle node).kind) wanted ≡ Greater → (i : ℕ)
       → middle ≤ i → i < length nodes → kind_order (get_or kinds i wanted) wanted ≡ Greater
-  behind_middle e i h k = all_above kinds wanted sorted middle (omega (arith, inside, size)) (compared Greater e) i h
+  behind_middle e i h k = all_above _ _ sorted _ (omega (arith, inside, size)) (compared _ e) i h
       (omega (arith, k, size))
 
   pub at_middle : kind_order (kind_in shape stage (get_or nodes middle node).kind) wanted ≡ Equal
       → slice_get kinds middle ≡ Some wanted
-  at_middle e = slice_get-get_or kinds middle wanted (omega (arith, inside, size))
-      ∙ ap (λ (k : PrefixKind). Some k) (same_kind (get_or kinds middle wanted) wanted (compared Equal e))
+  at_middle e = slice_get-get_or kinds middle wanted (omega (arith, inside, size)) ∙ ap (λ (k : PrefixKind). Some k)
+      (same_kind _ _ (compared _ e))
 
 less_told : (o : Ordering) → is_lt o ≡ true → o ≡ Less
 less_told Less h = refl

@@ -46,17 +46,15 @@ module _ (problem : Problem) (answer : Answer)
       (λ below. before n other below e)
       (λ above.
       let here : n ≡ count = omega (arith, l, above) in
-      subst (λ (x : StateLine). IsRightState problem answer x.node)
-      (some_same (sym is ∙ ap (slice_get states) (sym here) ∙ e)) own)
-      (cases_lt n count)
+      rw (some_same (sym is ∙ ap (slice_get states) (sym here) ∙ e)) at own) (cases_lt n count)
 
   -- the start of the automaton
   start_right : IsState answer 0 → (rest : List ℕ) → InAnswer problem answer 5 rest → ⊥
   start_right start rest w = w.0 start
 
   pub first_start : (IsState answer 0 → ⊥) → IsFirstFault problem answer (StateMissing 0 0)
-  first_start lacks = first_fault problem answer (StateMissing 0 0) (5 ∷ []) (inl (refl, refl, lacks, refl))
-      (none_before (InAnswer problem answer) 5 [] (λ m l rest w. right m l rest w) (λ rest w b. none_first rest b))
+  first_start lacks = first_fault _ _ _ _ (inl (refl, refl, lacks, refl))
+      (none_before _ 5 [] (λ m l rest w. right m l rest w) (λ rest w b. none_first rest b))
 
   below_states : IsState answer 0 → (m : ℕ) → m < 6 → (rest : List ℕ) → InAnswer problem answer m rest → ⊥
   below_states start m l = ⊎_elim
@@ -103,25 +101,21 @@ module _ (problem : Problem) (answer : Answer)
       → IsRightState problem answer other.node)
       → (fault : Fault) → IsFirstInState problem answer line.node fault → IsFirstFault problem answer fault
   first_state start count line is before fault f =
-      first_fault problem answer fault (in_state line.node f.place) f.is
-      (none_before (InAnswer problem answer) 6 (line.node ∷ f.place) (below_states start)
-      (λ rest w b. own rest w (subst (λ q. IsBefore q (line.node ∷ f.place)) w.1.1.1.1 b)))
+      first_fault _ _ _ _ f.is (none_before _ 6 (line.node ∷ f.place) (below_states start)
+      (λ rest w b. own _ w (subst (λ q. IsBefore q (line.node ∷ f.place)) w.1.1.1.1 b)))
     where
       lower : (state part : ℕ) (rest : List ℕ) → InState problem answer state part rest → state < line.node → ⊥
       lower state part rest w less =
-          let other = line_of state part rest w in
+          let other = line_of _ _ _ w in
           let h : HasState answer state other.0 = other.1 in
-          before h.listed.0 other.0
-          (stands_before count line is other.0 h.listed (omega (arith, less, h.numbered)))
-          (numbered other.0 h.listed) part rest
-          (subst (λ n. InState problem answer n part rest) (sym h.numbered) w)
+          before h.listed.0 other.0 (stands_before count line is other.0 h.listed (omega (arith, less, h.numbered)))
+          (numbered other.0 h.listed) part rest (rw h.numbered w)
 
       own : (rest : List ℕ) → (w : (state : ℕ) ×
           ((part : ℕ) × ((place : List ℕ) × (InState problem answer state part place × (rest ≡ state ∷ part ∷ place)))))
           → IsBefore (w.0 ∷ w.1.0 ∷ w.1.1.0) (line.node ∷ f.place) → ⊥
-      own rest w (inl less) = lower w.0 w.1.0 w.1.1.0 w.1.1.1.0 less
-      own rest w (inr same) = f.first w.1.0 w.1.1.0
-          (subst (λ n. InState problem answer n w.1.0 w.1.1.0) same.0 w.1.1.1.0) same.1
+      own rest w (inl less) = lower _ _ _ w.1.1.1.0 less
+      own rest w (inr same) = f.first w.1.0 w.1.1.0 (rw same.0 at w.1.1.1.0) same.1
 
   -- nothing is wrong in the automaton
   pub states_right : IsState answer 0
@@ -134,10 +128,9 @@ module _ (problem : Problem) (answer : Answer)
   states_right start all (suc (suc (suc (suc zero)))) l rest w = absurd (omega (arith, l))
   states_right start all (suc (suc (suc (suc (suc zero))))) l rest w = w.0 start
   states_right start all (suc (suc (suc (suc (suc (suc zero)))))) l rest w =
-      let other = line_of w.0 w.1.0 w.1.1.0 w.1.1.1.0 in
+      let other = line_of _ _ _ w.1.1.1.0 in
       let h : HasState answer w.0 other.0 = other.1 in
-      all h.listed.0 other.0 (numbered other.0 h.listed) w.1.0 w.1.1.0
-      (subst (λ n. InState problem answer n w.1.0 w.1.1.0) (sym h.numbered) w.1.1.1.0)
+      all h.listed.0 other.0 (numbered _ h.listed) w.1.0 w.1.1.0 (rw h.numbered w.1.1.1.0)
   states_right start all (suc (suc (suc (suc (suc (suc (suc n))))))) l rest w = w
 
 -- the node of a state is one of the last stage
@@ -147,10 +140,9 @@ pub state_node_within : (s : Subject) → IsRightBeforeStates s → (line : Stat
 state_node_within s staged line h =
     let size : length s.answer.now.stages.items - 1
     ≡ last_stage (problem_of s) = omega (arith, staged.ready.numbers.stages) in
-    subst (λ n. line.node < length (nodes_at s.answer.now.stages.items n)) size
-    (All-contains (λ (x : StateLine). IsReadableState s.shape.now.width
-    (length (last_nodes s.answer.now.stages.items)) x) s.answer.now.automaton.states.items line
-    staged.ready.readable.states.each h).node
+    rw size at (All-contains
+    (λ (x : StateLine). IsReadableState s.shape.now.width (length (last_nodes s.answer.now.stages.items)) x)
+    s.answer.now.automaton.states.items line staged.ready.readable.states.each h).node
 
 -- the state that code reads, and the node that it reads for it
 module _ (states : List StateLine) (s : Subject) (staged : IsRightBeforeStates s)
@@ -171,14 +163,12 @@ module _ (states : List StateLine) (s : Subject) (staged : IsRightBeforeStates s
         get_or_from_slice_get lines i line line state_read,
       ) in
       let own : nodes ≡ stage_nodes s (last_stage (problem_of s)) =
-      nodes_read s staged.ready (last_stage (problem_of s)) (omega arith) nodes stage here
-      (subst (λ n. stage ≡ get_or s.answer.now.stages.items n stage) counted e) in
-      let inside : line.node < length nodes = subst (λ (xs : List Node). line.node < length xs) (sym own)
-      (state_node_within s staged line listed) in
+      nodes_read s staged.ready _ (omega arith) _ _ here (rw counted at e) in
+      let inside : line.node < length nodes = rw own (state_node_within s staged _ listed) in
       record {
         listed = listed;
         is = record {
-          within = in_stages s staged.ready (last_stage (problem_of s)) (omega arith);
+          within = in_stages s staged.ready _ (omega arith);
           numbered = ap (λ (xs : List Node). slice_get xs line.node) (sym own)
               ∙ slice_get-get_or nodes line.node node inside ∙ ap (λ (x : Node). Some x) (sym f);
         };

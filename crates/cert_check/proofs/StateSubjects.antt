@@ -34,10 +34,7 @@ module _ (s : Subject) (staged : IsRightBeforeStates s) where
         let nodes : List Node = stage_nodes s (last_stage (problem_of s)) in
         subst (λ (x : Node). FitsShape s.shape.now (last_stage (problem_of s)) x.kind)
         (get_or_from_slice_get nodes state.node node node at.is.numbered)
-        (fits_at s staged.ready (last_stage (problem_of s)) (omega arith) state.node node
-        (slice_get_within nodes state.node node at.is.numbered))
+        (fits_at s staged.ready _ (omega arith) _ _ (slice_get_within nodes state.node node at.is.numbered))
 
     pub opened_few : node.kind.opened < 2 ^ length (problem_of s).tiers.free
-    opened_few = subst (λ n. node.kind.opened < 2 ^ n) (free_same s staged.ready (last_stage (problem_of s))
-        (omega arith))
-        node_fits.opened
+    opened_few = rw (free_same s staged.ready (last_stage (problem_of s)) (omega arith)) at node_fits.opened

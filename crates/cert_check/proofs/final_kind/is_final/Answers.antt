@@ -10,6 +10,6 @@ pub returns-then-kind-len : goal.returns-then-kind-len
 returns-then-kind-len c stage =
     let problem = problem_of c.args.subject.now in
     let kind = c.args.kind.now in
-    no_flag (length problem.tiers.free) kind.opened c.requires.opened
-    ∙ sym (ap (λ b. b && not (list_any (λ flag. flag) (open_tiers (length problem.tiers.free) kind.opened)))
+    no_flag _ _ c.requires.opened ∙ sym (ap
+    (λ b. b && not (list_any (λ flag. flag) (open_tiers (length problem.tiers.free) kind.opened)))
     (eq-eqb kind.place (last_place problem) (c.if-kind-len.true ∙ c.len.ensures)))

@@ -13,7 +13,7 @@ bounds-form-next c =
     omega (
       arith,
       c.loop-tier.invariant.count,
-      inputs_in kinds c.loop-tier.tier c.loop-tier-test.true here,
+      inputs_in _ c.loop-tier.tier c.loop-tier-test.true here,
       all_inputs kinds,
       c.requires.form,
     )
@@ -63,9 +63,7 @@ loop-tier-preserved c =
 pub returns-clause-columns : goal.returns-clause-columns
 returns-clause-columns c column l =
     let kinds = c.args.kinds.now in
-    reads_all (has c.loop-tier.class column) kinds column c.args.form.now c.loop-tier.tier c.loop-tier.next
-    c.loop-tier-test.false
-    (omega (
+    reads_all _ _ _ c.args.form.now c.loop-tier.tier c.loop-tier.next c.loop-tier-test.false (omega (
       arith,
       c.loop-tier.invariant.count,
       c.requires.form,

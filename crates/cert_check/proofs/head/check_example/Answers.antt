@@ -9,6 +9,5 @@ returns-then-is_candidate-clause-ok c =
 
 pub returns-else-is_candidate-clause-err : goal.returns-else-is_candidate-clause-err
 returns-else-is_candidate-clause-err c =
-    first_example (asked_by c.args.grammar.now c.args.answer.now) c.args.answer.now c.requires.form c.requires.numbers
-    (λ w. true≢false (sym ((c.is_candidate.ensures c.args.grammar.now.constraints.items).1 w)
-    ∙ c.if-is_candidate.false))
+    first_example _ _ c.requires.form c.requires.numbers (λ w. true≢false
+    (sym ((c.is_candidate.ensures c.args.grammar.now.constraints.items).1 w) ∙ c.if-is_candidate.false))

@@ -18,19 +18,13 @@ with_phases-requires-clause-over c k d l =
     let at : get_or (take c.args.stage xs) k d ≡ get_or g.constraints.items k d =
     get_or-take c.args.stage xs k d within ∙ ap (λ ys. get_or ys k d) same in
     let Over : ℕ → Constraint → Type 0 = λ w x. IsOverTiers w x in
-    subst (Over (length c.args.column.now)) (sym at)
-    (subst (λ w. Over w (get_or g.constraints.items k d)) (sym c.requires.width)
+    rw at (rw c.requires.width
     (All-from_recursion (IsOverTiers (length g.tiers.kinds.items)) g.constraints.items (over_tiers g) k d below))
 
 pub returns : goal.returns
 returns c =
-    let s = c.args.subject.now in
-    let kinds = c.as_slice-kinds.result.now in
     let same = c.as_slice-kinds.ensures.value in
-    moved_told (problem_of s) c.args.stage c.args.kind.now c.with_phases.result c.args.column.now
-    (numbers_from is_input 0 kinds) (numbers_from is_free 0 kinds) (take c.args.stage c.as_slice.result.now)
-    c.place_after-place.result c.opened_after.result (ap (numbers_from is_input 0) same)
-    (ap (numbers_from is_free 0) same)
+    moved_told _ _ c.args.kind.now _ _ _ _ _ _ _ (ap (numbers_from _ 0) same) (ap (numbers_from _ 0) same)
     (ap (take c.args.stage) c.as_slice.ensures.value) c.with_phases.ensures.place c.place_after-place.ensures
-    c.with_phases.ensures.opened c.opened_after.ensures.flags c.opened_after.ensures.within
-    c.with_phases.ensures.phases c.with_phases.ensures.stretches
+    c.with_phases.ensures.opened c.opened_after.ensures.flags c.opened_after.ensures.within c.with_phases.ensures.phases
+    c.with_phases.ensures.stretches

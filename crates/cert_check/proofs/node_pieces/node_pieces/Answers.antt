@@ -10,18 +10,12 @@ pub parted_by_tests-requires-clause-pieces : goal.parted_by_tests-requires-claus
 parted_by_tests-requires-clause-pieces c =
     let same : length c.as_slice.result.now ≡ (problem_of c.args.subject.now).tiers.width =
     ap (λ (ks : List TierKind). length ks) c.as_slice.ensures.value in
-    subst (λ (n : ℕ). ArePieces n c.in_ok-fitting.fitting.items) (sym same)
-    (c.in_ok-fitting.ensures 0).pieces
+    rw same (c.in_ok-fitting.ensures 0).pieces
 
 pub returns : goal.returns
 returns c stage below stages =
     let s = c.args.subject.now in
     let same : length c.as_slice.result.now ≡ (problem_of s).tiers.width =
     ap (λ (ks : List TierKind). length ks) c.as_slice.ensures.value in
-    IfOk-weaker c.parted_by_tests.result _ _
-    (λ parts p. pruned_none (problem_of s) stages below (kind_of_bits (problem_of s) stage c.args.kind.now)
-    (length c.as_slice.result.now) c.in_ok-tests.tests.items c.in_ok-fitting.fitting.items parts.items same
-    (c.in_ok-fitting.ensures stage) c.in_ok-tests.ensures
-    (subst (λ (ts : List Class). ArePartedByTests
-    (length c.as_slice.result.now) ts c.in_ok-fitting.fitting.items parts.items)
-    c.deref.ensures.value p)) c.parted_by_tests.ensures
+    IfOk-weaker c.parted_by_tests.result _ _ (λ parts p. pruned_none _ _ _ _ _ _ _ _ same
+    (c.in_ok-fitting.ensures stage) c.in_ok-tests.ensures (rw c.deref.ensures.value at p)) c.parted_by_tests.ensures

@@ -7,7 +7,7 @@ use Rattle.cert_check.proofs.open.open_tiers.Goals as goal
 pub is_open-is_open-requires-clause-wide : goal.is_open-is_open-requires-clause-wide
 is_open-is_open-requires-clause-wide c h k d l =
     let kinds = c.args.kinds.now in
-    let more = inputs_in kinds c.loop-tier.tier c.loop-tier-test.true h in
+    let more = inputs_in _ _ c.loop-tier-test.true h in
     omega (arith, more, all_inputs kinds, c.requires.wide k d l, c.loop-tier.invariant.inputs)
 
 pub loop-tier-preserved : goal.loop-tier-preserved

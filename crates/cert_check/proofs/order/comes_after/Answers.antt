@@ -9,15 +9,11 @@ returns c =
     let s = c.args.subject.now in
     let stage : ℕ = c.args.stage in
     let some : 1 ≤ c.args.number = omega (arith, c.if-number-eq0.false) in
-    let same : c.kind_cmp.result ≡ kind_order (node_kind s stage (c.args.number - 1))
-    (node_kind s stage c.args.number) =
-    c.kind_cmp.ensures
-    ∙ ap₂ kind_order
-    (number_read s c.requires.ready stage c.requires.stage c.args.nodes.now
-    (c.args.number - 1) c.index-nodes-number.result c.requires.nodes (omega (arith, c.requires.within)))
-    (number_read s c.requires.ready stage c.requires.stage c.args.nodes.now c.args.number
-    c.index-nodes-number-2.result c.requires.nodes c.requires.within) in
-    let is = less_is c.kind_cmp.result in (
+    let same : c.kind_cmp.result ≡ kind_order (node_kind s _ _) (node_kind s _ _) =
+    c.kind_cmp.ensures ∙ ap₂ kind_order
+    (number_read s c.requires.ready _ c.requires.stage _ _ _ c.requires.nodes (omega (arith, c.requires.within)))
+    (number_read s c.requires.ready _ c.requires.stage _ _ _ c.requires.nodes c.requires.within) in
+    let is = less_is _ in (
       λ h one. sym same ∙ is.0 (sym c.is_lt.ensures ∙ h),
       λ h. c.is_lt.ensures ∙ is.1 (same ∙ h some),
     )

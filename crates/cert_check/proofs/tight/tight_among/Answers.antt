@@ -10,13 +10,10 @@ returns-in_default c =
     let k = kind_of_bits (problem_of s) c.args.stage c.args.kind.now in
     let from : kind_of_bits (problem_of s) c.args.earlier c.cut_to-from.result
     ≡ cut_kind (problem_of s) c.args.earlier k =
-    cut_told_at s c.requires.ready c.args.stage c.args.earlier c.requires.stage c.requires.earlier c.args.kind.now
-    c.cut_to-from.result c.index.result.now c.index.ensures c.cut_to-from.ensures.opened
-    c.cut_to-from.ensures.stretches c.cut_to-from.ensures.place c.cut_to-from.ensures.phases in
-    tight_among_none (problem_of s) s.answer.now.stages.items c.args.earlier k c.args.pieces.now c.new.result.items
-    c.new.ensures.items
-    (λ column t. subst (IsUnlisted (problem_of s) s.answer.now.stages.items c.args.earlier) from c.in_default.ensures
-    t.before t.leaves)
+    cut_told_at s c.requires.ready _ _ c.requires.stage c.requires.earlier c.args.kind.now _ _ c.index.ensures
+    c.cut_to-from.ensures.opened c.cut_to-from.ensures.stretches c.cut_to-from.ensures.place
+    c.cut_to-from.ensures.phases in
+    tight_among_none _ _ _ k _ _ c.new.ensures.items (λ column t. rw from at c.in_default.ensures t.before t.leaves)
 
 pub returns-in-Ok : goal.returns-in-Ok
 returns-in-Ok c =
@@ -24,18 +21,17 @@ returns-in-Ok c =
     let k = kind_of_bits (problem_of s) c.args.stage c.args.kind.now in
     let from : kind_of_bits (problem_of s) c.args.earlier c.cut_to-from.result
     ≡ cut_kind (problem_of s) c.args.earlier k =
-    cut_told_at s c.requires.ready c.args.stage c.args.earlier c.requires.stage c.requires.earlier c.args.kind.now
-    c.cut_to-from.result c.index.result.now c.index.ensures c.cut_to-from.ensures.opened
-    c.cut_to-from.ensures.stretches c.cut_to-from.ensures.place c.cut_to-from.ensures.phases in
+    cut_told_at s c.requires.ready _ _ c.requires.stage c.requires.earlier c.args.kind.now _ _ c.index.ensures
+    c.cut_to-from.ensures.opened c.cut_to-from.ensures.stretches c.cut_to-from.ensures.place
+    c.cut_to-from.ensures.phases in
     c.in-Ok.ensures k (sym from)
 
 pub tight_from-requires-clause-source : goal.tight_from-requires-clause-source
 tight_from-requires-clause-source c =
     let s = c.args.subject.now in
     record {
-      fits = cut_fits_at s c.requires.ready c.args.stage c.args.earlier c.requires.stage c.requires.earlier
-          c.args.kind.now c.cut_to-from.result c.index.result.now c.index.ensures c.cut_to-from.ensures.opened
-          c.cut_to-from.ensures.stretches c.requires.fits.opened;
+      fits = cut_fits_at s c.requires.ready _ _ c.requires.stage c.requires.earlier c.args.kind.now _ _ c.index.ensures
+          c.cut_to-from.ensures.opened c.cut_to-from.ensures.stretches c.requires.fits.opened;
       place = omega (arith, c.cut_to-from.ensures.place, c.requires.place);
       listed = c.in-Some.ensures.1;
       opened = c.open_at.ensures;

@@ -11,5 +11,4 @@ pub restrict-requires : goal.restrict-requires
 restrict-requires c = let class = c.args.class.now in omega (arith, width_is class, class.some)
 
 pub returns-clause-columns : goal.returns-clause-columns
-returns-clause-columns c column = but_none (has c.args.class.now column) (has c.restrict.result column)
-    (is_in 0 (symbol column 0)) (c.restrict.ensures.columns column) (in_none (symbol column 0))
+returns-clause-columns c column = but_none _ _ _ (c.restrict.ensures.columns column) (in_none _)

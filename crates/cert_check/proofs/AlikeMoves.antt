@@ -1,11 +1,11 @@
 -- On columns that are alike, moves lead to one kind and cost the same; so what is kept on the one is kept
 -- on the other.
-use Rattle.std.proofs.Common.{◌≡◌, ℕ, zero, suc, ◌+◌, ◌-◌, Bool, true, false, cond, List, [], ◌∷◌, map, take, drop}
+use Rattle.std.proofs.Common.{◌≡◌, ℕ, zero, suc, ◌+◌, ◌-◌, Bool, true, false, cond, List, [], ◌∷◌, map, take}
 use Rattle.std.proofs.Common.{filter, get_or, refl, ap, ap₂, ◌∙◌}
 use Rattle.std.specs.List.{AllByRecursion}
 use Rattle.tier_core.specs.{declared.sym.Sym.Sym, declared.constraint.Constraint.Constraint}
 use Rattle.tier_core.specs.{Kinds.{Phase, PrefixKind}, Scan.opens, Sides.is_stretch, Timelines.{symbol, has_edge}}
-use Rattle.violation.specs.Moves.{input_of, is_tier_open, next_phase, next_phases, next_kind, costs_each}
+use Rattle.violation.specs.Moves.{input_of, next_phase, next_phases, next_kind, costs_each}
 use Rattle.violation.specs.{Moves.{first_phase, cost_of}, Prefixes.stretches, Problems.Problem}
 use Rattle.violation.proofs.TierLemmas.{map_agree}
 use Rattle.cert_check.specs.Alike.{AreAlikeFor, AreAlike}

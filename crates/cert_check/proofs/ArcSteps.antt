@@ -1,13 +1,13 @@
 -- Arcs that are made of the pieces of a kind's kept moves lead where those moves lead.
 use Rattle.std.proofs.Common.{◌≡◌, ℕ, ◌+◌, ◌<◌, IsTrue, List, [], ◌∷◌, ◌++◌, take, length, get_or, slice_get, Some}
-use Rattle.std.proofs.Common.{None, Option, refl, sym, ap, ◌∙◌, subst, All, Contains}
+use Rattle.std.proofs.Common.{None, Option, refl, sym, ap, ◌∙◌, All, Contains}
 use Rattle.std.proofs.{lemmas.List.{map-append, take_more}, lemmas.List.Elements.{All-contains, All-push}}
 use Rattle.std.proofs.lemmas.List.Folds.{list_any_at}
 use Rattle.std.proofs.lemmas.Option.{slice_get_within, slice_get-map, get_or_from_slice_get}
 use Rattle.std.specs.{List.Sorted.IsStrictlySortedBy, Prelude.option_map}
 use Rattle.tier_core.specs.{declared.sym.Sym.Sym, Classes.{has, sets_of}, Kinds.{PrefixKind, kind_order}}
 use Rattle.symbol_class.specs.Held.{some_has}
-use Rattle.violation.specs.{Moves.next_kind, Prefixes.kind_of_bits, Problems.{Problem, last_stage}}
+use Rattle.violation.specs.{Prefixes.kind_of_bits, Problems.{Problem, last_stage}}
 use Rattle.answer_text.specs.{declared.automaton.ArcLine.ArcLine, declared.stage.Node.Node, Certified.IsKeptBelow}
 use Rattle.answer_text.specs.{Right.{nodes_at, kinds_at, IsNodeOf}, ArcClasses.arc_classes}
 use Rattle.check_laws.proofs.Listing.{one_number}

@@ -1,6 +1,6 @@
 -- The kinds of a stage in which no node is wrong ascend.
 use Rattle.std.proofs.Common.{◌≡◌, ℕ, zero, suc, ◌+◌, ◌-◌, ◌<◌, ◌≤◌, List, [], ◌∷◌, length, get_or, slice_get, Some}
-use Rattle.std.proofs.{Common.{None, Option, refl, sym, ap, ◌∙◌, subst, arith}, lemmas.List.length-map}
+use Rattle.std.proofs.{Common.{None, Option, refl, ap, ◌∙◌, arith}, lemmas.List.length-map}
 use Rattle.std.proofs.lemmas.Map.Keys.{sorted_from_all_adjacent}
 use Rattle.std.proofs.lemmas.Option.{slice_get-get_or, get_or_from_slice_get}
 use Rattle.std.specs.{List.Sorted.IsStrictlySortedBy, declared.cmp.Ordering.TheVariants.Less}

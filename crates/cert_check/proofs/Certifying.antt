@@ -1,6 +1,6 @@
 -- An answer in which no fault is is certified.
 use Rattle.std.proofs.Common.{◌≡◌, ℕ, zero, suc, ◌+◌, ◌-◌, ◌<◌, ◌≤◌, ◌⊎◌, Bool, true, IsTrue, List, [], ◌∷◌, length}
-use Rattle.std.proofs.Common.{not, get_or, slice_get, Some, None, Option, refl, sym, ap, ◌∙◌, subst, arith, inl}
+use Rattle.std.proofs.Common.{get_or, slice_get, Some, None, Option, refl, sym, ap, ◌∙◌, subst, arith, inl}
 use Rattle.std.proofs.{Common.{inr, Contains, All, AllPairs}, lemmas.Bool.{cases_eq, cases_lt}}
 use Rattle.std.proofs.{lemmas.List.length-map, lemmas.List.FromFn.length-map-range_with_len}
 use Rattle.std.proofs.lemmas.Grind.{same_number_lists}
@@ -11,7 +11,7 @@ use Rattle.tier_core.specs.{Classes.{has, AreDisjoint}, Kinds.{Phase, PrefixKind
 use Rattle.tier_core.specs.Timelines.{symbol}
 use Rattle.violation.specs.{Candidates.{IsForm, IsCandidate, counts_on}, Counts.violations_of}
 use Rattle.violation.specs.Moves.{next_kind, cost_of, cut_kind, is_final, next_phases}
-use Rattle.violation.specs.Phases.{is_closed, is_left_open, AreClosedOr}
+use Rattle.violation.specs.Phases.{is_left_open, AreClosedOr}
 use Rattle.violation.specs.{Prefixes.{kind_of, kind_of_bits, stretches}, Problems.{Problem, last_stage, last_place}}
 use Rattle.answer_text.specs.{declared.stage.Node.Node, declared.automaton.ArcLine.ArcLine}
 use Rattle.answer_text.specs.{declared.automaton.StateLine.StateLine, declared.answer.Answer.Answer}

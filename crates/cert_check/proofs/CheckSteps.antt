@@ -1,14 +1,13 @@
 -- The whole check: what is known after the stages, and when nothing is wrong.
-use Rattle.std.proofs.Common.{◌≡◌, ℕ, zero, suc, ◌+◌, ◌-◌, ◌<◌, ◌≤◌, ◌^◌, List, length, get_or, sym, ap, ap₂, ◌∙◌}
+use Rattle.std.proofs.Common.{◌≡◌, ℕ, zero, suc, ◌+◌, ◌-◌, ◌<◌, ◌≤◌, List, length, get_or, sym, ap, ap₂, ◌∙◌}
 use Rattle.std.proofs.{Common.{subst, arith, ⊎_elim, inl, inr}, lemmas.Bool.cases_lt, lemmas.List.length-map}
-use Rattle.std.specs.List.{AllByRecursion}
-use Rattle.tier_core.specs.{declared.shape.Shape.Shape, declared.sym.Sym.Sym, Kinds.AreStretchesBelow}
+use Rattle.tier_core.specs.{declared.shape.Shape.Shape, declared.sym.Sym.Sym}
 use Rattle.tier_core.specs.{KindShapes.FitsShape, Shapes.masked_count, declared.constraint.Constraint.Constraint}
 use Rattle.violation.specs.{Problems.{Problem, last_stage}, Counts.violations_of}
 use Rattle.grammar_reader.specs.{declared.grammar.Grammar.Grammar, ShapeOf.IsShapeOf}
 use Rattle.answer_text.specs.{declared.answer.Answer.Answer, declared.stage.Node.Node}
-use Rattle.answer_text.specs.Readable.{AreReadableStates, IsReadable, IsReadableStage, last_nodes}
-use Rattle.answer_text.specs.{Certified.AreStatesInOrder, Right.nodes_at}
+use Rattle.answer_text.specs.Readable.{IsReadable, IsReadableStage}
+use Rattle.answer_text.specs.{Certified.AreStatesInOrder}
 use Rattle.cert_check.specs.{FirstFaults.{IsFaultless, IsReadableFor}, Nodes.IsFaultlessStage}
 use Rattle.cert_check.specs.Parts.{InAnswer, InNode, InStage, IsWrongMove, HasRightHead}
 use Rattle.cert_check.specs.{declared.subject.Subject.Subject, Subjects.{IsReady, problem_of}}

@@ -1,9 +1,9 @@
 -- Whether a list of columns is a form, and whether it is a candidate, can be told.
-use Rattle.std.proofs.Common.{◌≡◌, ℕ, ◌<◌, true, false, IsTrue, List, [], ◌∷◌, length, inl, inr}
+use Rattle.std.proofs.Common.{◌≡◌, ℕ, ◌<◌, true, false, List, [], ◌∷◌, length, inl, inr}
 use Rattle.std.proofs.lemmas.Bool.{cases_eq}
 use Rattle.std.specs.List.{AllByRecursion}
 use Rattle.tier_core.specs.declared.sym.Sym.{Sym}
-use Rattle.tier_core.specs.{Timelines.{IsWellFormed, IsReduced, tier_word, has_edge, project, squeeze}, Tiers.Tiers}
+use Rattle.tier_core.specs.{Timelines.{IsWellFormed, IsReduced, tier_word, project, squeeze}, Tiers.Tiers}
 use Rattle.tier_core.specs.Words.{IsWellFormedWord}
 use Rattle.tier_core.proofs.{WordForm.{well_formed_from_runs, runs_from_well_formed}, WordLemmas.runs}
 use Rattle.violation.specs.{Candidates.{IsForm, IsCandidate}, Problems.Problem}

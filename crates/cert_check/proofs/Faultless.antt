@@ -4,7 +4,6 @@ use Rattle.std.proofs.Common.{Option, refl, sym, ap, ◌∙◌, subst, arith, in
 use Rattle.std.proofs.{lemmas.List.length-map, lemmas.List.Elements.All-contains, lemmas.Map.Keys.Less-from_sorted}
 use Rattle.std.proofs.lemmas.Option.{slice_get_within, get_or_from_slice_get, slice_get-map}
 use Rattle.std.specs.{Prelude.{option_map, unwrap_or}, List.Sorted.IsStrictlySortedBy}
-use Rattle.std.specs.declared.cmp.Ordering.TheVariants.{Less}
 use Rattle.tier_core.specs.{declared.sym.Sym.Sym, declared.kind.Kind.Kind, Kinds.{PrefixKind, kind_order}}
 use Rattle.tier_core.specs.Classes.{has, AreDisjoint}
 use Rattle.violation.specs.{Counts.violations_of, Moves.{next_kind, cut_kind}, Prefixes.{kind_of, kind_of_bits}}

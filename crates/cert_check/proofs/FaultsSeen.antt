@@ -1,9 +1,9 @@
 -- Two answers that are seen alike have the same faults.
-use Rattle.std.proofs.Common.{◌≡◌, ℕ, ◌+◌, ◌-◌, ◌<◌, ◌≤◌, ◌⊎◌, Bool, IsTrue, List, [], length, map, slice_get, Some}
-use Rattle.std.proofs.{Common.{None, Option, sym, ap, ◌∙◌, subst, inl, inr, Contains}, lemmas.Simd.map-map}
+use Rattle.std.proofs.Common.{◌≡◌, ℕ, ◌+◌, ◌-◌, Bool, IsTrue, List, [], length, map, slice_get, Some}
+use Rattle.std.proofs.{Common.{None, Option, sym, ap, ◌∙◌, subst, inl, inr}, lemmas.Simd.map-map}
 use Rattle.std.specs.Prelude.{◌↔◌, slice_index_or}
 use Rattle.tier_core.specs.{declared.sym.Sym.Sym, declared.kind.Kind.Kind, declared.constraint.Constraint.Constraint}
-use Rattle.tier_core.specs.{Classes.{has, sets_have}, Kinds.{AreStretchesBelow, PrefixKind, prefix_kind}}
+use Rattle.tier_core.specs.{Classes.{has}, Kinds.{PrefixKind, prefix_kind}}
 use Rattle.grammar_reader.specs.Requirements.{requirements_seen}
 use Rattle.violation.specs.{Candidates.{IsCandidate, count_at}, Moves.{next_kind, cost_of, cut_kind, is_final}}
 use Rattle.violation.specs.{Prefixes.kind_of_bits, Problems.{Problem, last_stage}}

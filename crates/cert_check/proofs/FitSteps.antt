@@ -2,7 +2,7 @@
 use Rattle.std.proofs.Common.{◌≡◌, ℕ, ◌+◌, ◌<◌, ◌↔◌, Bool, true, false, not, ◌&&◌, ◌||◌, IsTrue, List, length}
 use Rattle.std.proofs.{Common.{get_or, refl, ap, sym, ◌∙◌, arith, below_more}, lemmas.Bool.{and_parts, and_from}}
 use Rattle.tier_core.specs.{declared.sym.Sym.Sym, declared.tier.TierKind.TierKind, Sets.is_in, Tiers.is_input}
-use Rattle.tier_core.specs.Timelines.{symbol, is_edge, has_edge}
+use Rattle.tier_core.specs.Timelines.{symbol, has_edge}
 use Rattle.tier_core.proofs.KnownSets.{in_edgeless}
 use Rattle.violation.proofs.{CandidateLemmas.part_from, InputParts.part_step}
 

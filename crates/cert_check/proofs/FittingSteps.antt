@@ -1,7 +1,7 @@
 -- The columns that fit a kind, in pieces: those without an edge on the input tiers, and those that read
 -- a column of the form.
 use Rattle.std.proofs.Common.{◌≡◌, ◌↔◌, ◌⊎◌, ℕ, ◌+◌, ◌<◌, Bool, true, false, not, ◌&&◌, ◌||◌, IsTrue, List, []}
-use Rattle.std.proofs.Common.{length, refl, ap, sym, ◌∙◌, subst, arith, ⊎_elim, inl, inr, All}
+use Rattle.std.proofs.Common.{length, refl, ap, sym, ◌∙◌, subst, arith, ⊎_elim, inl, inr}
 use Rattle.std.proofs.lemmas.Bool.{both_ways, and_parts, and_from, or_cases, or_left, or_right, and_right, not-true}
 use Rattle.std.proofs.lemmas.Bool.{false_from_ne_true, cases_Bool}
 use Rattle.std.specs.List.{AllByRecursion}
@@ -13,7 +13,7 @@ use Rattle.symbol_class.specs.{Held.{once_if, AddsClasses}, Parts.AddsAlike}
 use Rattle.symbol_class.proofs.{PartSteps.{adds_constant, alike_then}, Times.{adds_same, pieces_added, columns_added}}
 use Rattle.symbol_class.proofs.Once.{either_once}
 use Rattle.violation.specs.{Moves.{FitsKind, input_of, is_tier_open}, Problems.{Problem, last_place}}
-use Rattle.cert_check.specs.Fitting.{AreFitting, IsReadAlike}
+use Rattle.cert_check.specs.Fitting.{AreFitting}
 
 -- ---- what two classes have in common
 

@@ -1,13 +1,13 @@
 -- Columns that no constraint of a stage tells apart go on alike up to this stage; and tests that are put
 -- one behind the other.
 use Rattle.std.proofs.Common.{◌≡◌, ℕ, ◌+◌, ◌-◌, ◌<◌, ◌≤◌, Bool, cond, List, [], ◌∷◌, ◌++◌, length, map, take}
-use Rattle.std.proofs.Common.{filter, get_or, sym, ap, ap₂, ◌∙◌, subst, append_assoc, append-nil, below_more}
+use Rattle.std.proofs.Common.{get_or, sym, ap, ap₂, ◌∙◌, append_assoc, append-nil, below_more}
 use Rattle.std.proofs.lemmas.List.{take-take}
 use Rattle.std.proofs.lemmas.List.Elements.{All-from_recursion, recursion_from_All, All-append}
 use Rattle.std.specs.List.{AllByRecursion}
 use Rattle.tier_core.specs.{declared.class.Class.Class, declared.sym.Sym.Sym, Classes.{sets_of, has}}
-use Rattle.tier_core.specs.{Kinds.{Phase, PrefixKind}, Scan.opens, Sides.is_stretch, Timelines.{symbol, has_edge}}
-use Rattle.violation.specs.{Moves.{input_of, is_tier_open, next_phases, next_kind, cost_of}, Prefixes.stretches}
+use Rattle.tier_core.specs.{Kinds.{Phase, PrefixKind}, Scan.opens, Timelines.{symbol, has_edge}}
+use Rattle.violation.specs.{Moves.{input_of, next_phases, next_kind, cost_of}, Prefixes.stretches}
 use Rattle.violation.specs.Problems.{Problem}
 use Rattle.violation.proofs.{TierLemmas.map_agree, WalkLemmas.all_split}
 use Rattle.cert_check.specs.{Alike.AreAlikeFor, Fitting.{GoOnAlike, OpenAlike}, Tests.{AddsTests, AgreeOn}}

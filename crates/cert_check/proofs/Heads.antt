@@ -5,7 +5,7 @@ use Rattle.violation.specs.{Candidates.{IsCandidate, counts_on}, Problems.Proble
 use Rattle.answer_text.specs.declared.answer.Answer.{Answer}
 use Rattle.cert_check.specs.declared.fault.Fault.{Fault}
 use Rattle.cert_check.specs.declared.fault.Fault.TheVariants.{ExampleWrong, CountsDiffer}
-use Rattle.cert_check.specs.{Places.{IsBefore, at_example, at_count}, Faults.HasWrongCount, FirstFaults.IsFirstFault}
+use Rattle.cert_check.specs.{Places.{IsBefore}, Faults.HasWrongCount, FirstFaults.IsFirstFault}
 use Rattle.cert_check.specs.{Heads.{HasRightForm, HasRightNumbers, IsFirstCountFault}, Parts.InAnswer}
 use Rattle.cert_check.proofs.Parts.{none_before, first_fault}
 

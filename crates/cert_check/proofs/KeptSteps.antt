@@ -1,9 +1,9 @@
 -- The pieces of a kind's kept moves: what is left of its columns, with the kind to which each leads.
 use Rattle.std.proofs.Common.{◌≡◌, ℕ, ◌+◌, ◌<◌, ◌≤◌, IsTrue, List, [], ◌∷◌, ◌++◌, length, take, get_or, refl, sym}
-use Rattle.std.proofs.{Common.{ap, ap₂, ◌∙◌, subst, arith, All}, lemmas.List.{map-append, take_all, take_more}}
+use Rattle.std.proofs.{Common.{ap, ap₂, ◌∙◌, arith}, lemmas.List.{map-append, take_all, take_more}}
 use Rattle.std.proofs.lemmas.List.Elements.{All-from_recursion, All-push}
 use Rattle.tier_core.specs.{declared.class.Class.Class, declared.sym.Sym.Sym, Classes.has, Kinds.PrefixKind}
-use Rattle.symbol_class.specs.Held.{some_has, ArePieces}
+use Rattle.symbol_class.specs.Held.{some_has}
 use Rattle.violation.specs.{Moves.{next_kind, cost_of}, Problems.Problem}
 use Rattle.answer_text.specs.declared.stage.Stage.{Stage}
 use Rattle.cert_check.specs.{declared.kept_piece.KeptPiece.KeptPiece, Faults.TellsKind, Fitting.IsGoingAlike}

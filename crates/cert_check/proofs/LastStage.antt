@@ -1,11 +1,11 @@
 -- What is known of the last stage when a state is looked at: its kinds ascend, the place of the state's node
 -- is in the form, and each kept move of the node leads to a kind that is listed.
-use Rattle.std.proofs.Common.{◌≡◌, ℕ, ◌+◌, ◌^◌, ◌<◌, ◌≤◌, ◌⊎◌, List, [], ◌∷◌, get_or, refl, sym, subst, arith, inl}
+use Rattle.std.proofs.Common.{◌≡◌, ℕ, ◌+◌, ◌≤◌, ◌⊎◌, List, [], ◌∷◌, get_or, refl, arith, inl}
 use Rattle.std.proofs.{Common.{inr, All, Contains}, lemmas.List.get_or_default}
-use Rattle.tier_core.specs.{declared.kind.Kind.Kind, declared.sym.Sym.Sym, KindShapes.{free_count, stretch_count}}
-use Rattle.tier_core.specs.{Kinds.AreStretchesBelow, FirstColumn.first_column}
+use Rattle.tier_core.specs.{declared.kind.Kind.Kind, declared.sym.Sym.Sym}
+use Rattle.tier_core.specs.{FirstColumn.first_column}
 use Rattle.tier_core.proofs.Filled.{has-first_column}
-use Rattle.violation.specs.{Moves.next_kind, Prefixes.kind_of_bits, Problems.{Problem, last_place, last_stage}}
+use Rattle.violation.specs.{Moves.next_kind, Problems.{Problem, last_place, last_stage}}
 use Rattle.answer_text.specs.{declared.automaton.StateLine.StateLine, declared.stage.Node.Node}
 use Rattle.answer_text.specs.Certified.{Lists, IsKeptBelow}
 use Rattle.check_laws.proofs.Listing.{lists_kind}

@@ -1,6 +1,6 @@
 -- The least column of some classes.
 use Rattle.std.proofs.Common.{◌≡◌, ℕ, ◌+◌, ◌<◌, ◌==◌, ◌||◌, ◌⊎◌, true, false, cond, IsTrue, List, [], ◌∷◌, take}
-use Rattle.std.proofs.Common.{length, get_or, refl, sym, ap, ◌∙◌, subst, arith, inl, inr, Some, None, Option}
+use Rattle.std.proofs.Common.{length, get_or, refl, sym, ap, ◌∙◌, arith, inl, inr, Some, None, Option}
 use Rattle.std.proofs.Common.{MatchOption, true≢false}
 use Rattle.std.proofs.lemmas.Cmp.{nat_cmp_total, lists_total, on_total, tied_itself}
 use Rattle.std.proofs.lemmas.Bool.{cases_order, or_cases, le-ltb, ne_eqb, or_left, or_right}

@@ -9,7 +9,7 @@ use Rattle.tier_core.proofs.SetLemmas.{rank_same}
 use Rattle.violation.specs.{Moves.{next_kind, cost_of}, Prefixes.kind_of_bits, Problems.{Problem, last_stage}}
 use Rattle.answer_text.specs.{declared.stage.Node.Node, declared.automaton.ArcLine.ArcLine}
 use Rattle.answer_text.specs.{declared.automaton.StateLine.StateLine, declared.answer.Answer.Answer}
-use Rattle.answer_text.specs.{Right.{nodes_at, kinds_at}, Certified.{Lists, AreStatesInOrder}}
+use Rattle.answer_text.specs.{Right.{nodes_at, kinds_at}, Certified.{AreStatesInOrder}}
 use Rattle.check_laws.proofs.{Leading.one_state, Listing.{one_potential, one_number, one_kind}}
 use Rattle.cert_check.specs.{declared.fault.Fault.Fault, declared.fault.Fault.TheVariants.{FormWrong, StageMissing}}
 use Rattle.cert_check.specs.declared.fault.Fault.TheVariants.{ExampleWrong, CountsDiffer, NodeWrong, StartMissing}
@@ -18,7 +18,7 @@ use Rattle.cert_check.specs.declared.fault.Fault.TheVariants.{StateMissing, Fina
 use Rattle.cert_check.specs.Places.{IsBefore, column_place, at_node, at_move, at_twice, at_arcs}
 use Rattle.cert_check.specs.Faults.{LacksStage, HasWrongCount, HasNode, HasWrongNode, HasFinalPotential}
 use Rattle.cert_check.specs.Faults.{IsNotClosed, HasHighPotential, HasWrongStart, HasState, LacksTarget}
-use Rattle.cert_check.specs.Faults.{HasWrongMark, HasTwice, IsListedTarget, IsKeptTarget, HasWrongArcs, TellsKind}
+use Rattle.cert_check.specs.Faults.{HasWrongMark, HasTwice, IsListedTarget, IsKeptTarget, HasWrongArcs}
 use Rattle.cert_check.specs.FirstFaults.{IsFault, IsFirstFault}
 use Rattle.cert_check.proofs.{Decisions.so_unless, Faultless.some_same, Ascending.ascends_unless, KindMasks.same_told}
 

@@ -9,7 +9,7 @@ use Rattle.violation.specs.{Moves.cut_kind, Prefixes.{kind_of, kind_of_bits}, Pr
 use Rattle.answer_text.specs.{declared.stage.Node.Node, Certified.IsPossibleKind}
 use Rattle.tier_core.proofs.KindTies.{kind_order_total}
 use Rattle.cert_check.specs.{declared.subject.Subject.Subject, declared.fault.Fault.TheVariants.NodeWrong}
-use Rattle.cert_check.specs.{Faults.{HasNode, IsInOrder, HasWrongNode}, Parts.{InStage, IsFirstInStage}}
+use Rattle.cert_check.specs.{Faults.{HasNode, IsInOrder, HasWrongNode}, Parts.{IsFirstInStage}}
 use Rattle.cert_check.specs.{Places.IsBefore, Subjects.{IsReady, AreFirstNodesInOrder, problem_of, stage_nodes}}
 use Rattle.cert_check.specs.Subjects.{stage_kinds, node_kind, AscendsAt}
 use Rattle.cert_check.proofs.{Faultless.node_kind as kind_of_node, Parts.none_before, Subjects.in_stages}

@@ -6,7 +6,7 @@ use Rattle.cert_check.specs.{declared.fault.Fault.Fault, declared.fault.Fault.Th
 use Rattle.cert_check.specs.declared.fault.Fault.TheVariants.{ExampleWrong, CountsDiffer, NodeWrong, StartMissing}
 use Rattle.cert_check.specs.declared.fault.Fault.TheVariants.{FinalPotential, NotClosed, Potential, StartPotential}
 use Rattle.cert_check.specs.declared.fault.Fault.TheVariants.{StateMissing, FinalsDiffer, ArcsTwice, ArcsDiffer}
-use Rattle.cert_check.specs.{Places.{IsBefore, in_stage}, FirstFaults.{IsFault, IsFirstFault}}
+use Rattle.cert_check.specs.{Places.{IsBefore}, FirstFaults.{IsFault, IsFirstFault}}
 use Rattle.cert_check.specs.Parts.{InStage, InAnswer, IsNoneBefore, IsFirstInStage}
 
 -- nothing is wrong before a place where the parts before it are right, and nothing is wrong before

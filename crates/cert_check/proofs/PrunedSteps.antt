@@ -6,13 +6,12 @@ use Rattle.std.specs.List.{AllByRecursion}
 use Rattle.tier_core.specs.{declared.class.Class.Class, declared.constraint.Constraint.Constraint}
 use Rattle.tier_core.specs.{declared.sym.Sym.Sym, Classes.sets_of, Kinds.PrefixKind}
 use Rattle.tier_core.proofs.ClassLemmas.{same_width}
-use Rattle.symbol_class.specs.Held.{ArePieces}
 use Rattle.violation.specs.Problems.{Problem}
-use Rattle.answer_text.specs.{declared.stage.Stage.Stage, Certified.IsTightAt}
+use Rattle.answer_text.specs.{declared.stage.Stage.Stage}
 use Rattle.cert_check.specs.Alike.{AreAlikeFor}
 use Rattle.cert_check.specs.Fitting.{AreFitting, ArePartedByTests, GoOnAlike, IsReadAlike, OpenAlike}
 use Rattle.cert_check.specs.Pruned.{AreAlikeTo, IsAlikeTo, ArePruned, ArePartedTo, AreTightAmong}
-use Rattle.cert_check.specs.Tests.{AddsTests, AgreeOn}
+use Rattle.cert_check.specs.Tests.{AddsTests}
 use Rattle.cert_check.proofs.{GoAlike.go_on_alike, UniformSteps.of_listed}
 
 -- columns that are alike go on alike

@@ -1,5 +1,5 @@
 -- Lists whose elements are seen as the same, one by one.
-use Rattle.std.proofs.Common.{◌≡◌, ℕ, List, map, refl, ap, sym, ◌∙◌, subst, Contains, slice_get, Some, None, Option}
+use Rattle.std.proofs.Common.{◌≡◌, ℕ, List, map, refl, ap, sym, ◌∙◌, Contains, slice_get, Some, None, Option}
 use Rattle.std.proofs.lemmas.Option.{slice_get-map}
 use Rattle.std.specs.Option.{option_map}
 use Rattle.tier_core.proofs.Members.{contains_map, contains_of_map}

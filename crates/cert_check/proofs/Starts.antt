@@ -1,8 +1,8 @@
 -- The kind of the empty prefix, by its bits, and at node 0 of a stage.
 use Rattle.std.proofs.Common.{◌≡◌, ◌↔◌, ℕ, zero, suc, ◌<◌, ◌≤◌, IsTrue, Bool, false, List, [], ◌∷◌, map, length}
-use Rattle.std.proofs.{Common.{slice_get, Some, refl, sym, ap, ap₂, ◌∙◌, subst, arith}, lemmas.Cmp.tied_itself}
+use Rattle.std.proofs.{Common.{slice_get, Some, refl, sym, ap, ap₂, ◌∙◌, arith}, lemmas.Cmp.tied_itself}
 use Rattle.std.proofs.{lemmas.List.FromFn.length-range_with_len, lemmas.Option.slice_get_within}
-use Rattle.std.specs.{List.{AllByRecursion, range_with_len}, Ordering.is_eq, declared.cmp.Ordering.Ordering}
+use Rattle.std.specs.{List.{AllByRecursion}, Ordering.is_eq, declared.cmp.Ordering.Ordering}
 use Rattle.tier_core.specs.{declared.constraint.Constraint.Constraint, declared.kind.Kind.Kind, Kinds.{Phase, closed}}
 use Rattle.tier_core.specs.Kinds.{PrefixKind, open_tiers, phase_at, phases, phase_by_bits, kind_order}
 use Rattle.tier_core.specs.{Tiers.has_tier, KindShapes.kind_in, Sides.is_stretch}
@@ -10,7 +10,7 @@ use Rattle.violation.specs.{Conditions.IsOverTiers, Prefixes.{kind_of, kind_of_b
 use Rattle.violation.specs.Problems.{Problem, last_stage}
 use Rattle.violation.proofs.ClosedPhases.{closed_first}
 use Rattle.cert_check.specs.{declared.fault.Fault.TheVariants.StartMissing, declared.subject.Subject.Subject}
-use Rattle.cert_check.specs.{Faults.IsInOrder, Parts.{InStage, IsFirstInStage}}
+use Rattle.cert_check.specs.{Parts.{InStage, IsFirstInStage}}
 use Rattle.cert_check.specs.Subjects.{IsReady, AreFirstNodesInOrder, problem_of, stage_nodes, stage_kinds}
 use Rattle.tier_core.proofs.{KindTies.{same_kind, kind_order_total, is_equal}, Members.all_first, MaskBits.no_bit}
 use Rattle.cert_check.proofs.{Orders.numbered_is, Parts.none_before, Subjects.{in_stages, tell_same}}

@@ -4,14 +4,14 @@ use Rattle.std.proofs.Common.{Option, refl, sym, ap, ◌∙◌, subst, arith, in
 use Rattle.std.proofs.{lemmas.Bool.cases_order, lemmas.Option.slice_get-get_or}
 use Rattle.std.specs.{List.Sorted.IsStrictlySortedBy, Ordering.nat_cmp}
 use Rattle.tier_core.specs.{declared.sym.Sym.Sym, Classes.has, Kinds.PrefixKind}
-use Rattle.violation.specs.{Moves.is_final, Problems.{Problem, last_stage}}
+use Rattle.violation.specs.{Moves.is_final, Problems.{Problem}}
 use Rattle.answer_text.specs.{declared.automaton.ArcLine.ArcLine, declared.automaton.StateLine.StateLine}
-use Rattle.answer_text.specs.{declared.answer.Answer.Answer, Right.{nodes_at, numbers_of}}
+use Rattle.answer_text.specs.{declared.answer.Answer.Answer, Right.{numbers_of}}
 use Rattle.check_laws.proofs.{Leading.one_state, Listing.one_kind}
 use Rattle.cert_check.specs.declared.fault.Fault.TheVariants.{StateMissing, FinalsDiffer, ArcsTwice, ArcsDiffer}
 use Rattle.cert_check.specs.{Arcs.{is_twice, do_differ, IsLeastColumn, IsNoColumn}, Faults.{IsState, HasState}}
 use Rattle.cert_check.specs.Faults.{LacksTarget, HasTwice, HasWrongArcs, IsKindOfState, IsListedTarget}
-use Rattle.cert_check.specs.{Faults.IsKeptTarget, Parts.{InState, IsFirstInState}, Places.{IsBefore, column_place}}
+use Rattle.cert_check.specs.{Parts.{IsFirstInState}, Places.{IsBefore, column_place}}
 use Rattle.cert_check.specs.States.{IsRightPartOf, IsRightState, AreKeptArcs}
 use Rattle.cert_check.proofs.ArcLists.{HasOneTarget, targets_agree, targets_differ, twice_to, twice_from}
 use Rattle.cert_check.proofs.{Faultless.some_same, Parts.none_before}

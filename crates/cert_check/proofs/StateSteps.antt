@@ -8,10 +8,10 @@ use Rattle.std.specs.{List.Sorted.IsStrictlySortedBy, Ordering.nat_cmp}
 use Rattle.violation.specs.Problems.{Problem, last_stage}
 use Rattle.answer_text.specs.{declared.answer.Answer.Answer, declared.automaton.StateLine.StateLine}
 use Rattle.answer_text.specs.{declared.stage.Node.Node, declared.stage.Stage.Stage}
-use Rattle.answer_text.specs.{Readable.{IsReadableState, last_nodes}, Right.{nodes_at, numbers_of}}
+use Rattle.answer_text.specs.{Readable.{IsReadableState, last_nodes}, Right.{numbers_of}}
 use Rattle.cert_check.specs.{declared.fault.Fault.Fault, declared.fault.Fault.TheVariants.StateMissing}
 use Rattle.cert_check.specs.{declared.subject.Subject.Subject, Faults.{IsState, HasState}, FirstFaults.IsFirstFault}
-use Rattle.cert_check.specs.{Parts.{InState, InAnswer, IsFirstInState}, Places.{IsBefore, in_state}}
+use Rattle.cert_check.specs.{Parts.{InState, InAnswer, IsFirstInState}, Places.{IsBefore}}
 use Rattle.cert_check.specs.States.{AreRightBefore, IsRightFrom, IsRightState, IsRightBeforeStates, IsStateAt}
 use Rattle.cert_check.specs.Subjects.{problem_of, stage_nodes}
 use Rattle.cert_check.proofs.{Faultless.some_same, Parts.{none_before, none_first, first_fault}}

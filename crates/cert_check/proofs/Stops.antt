@@ -1,5 +1,5 @@
 -- What a stop says, in other words.
-use Rattle.std.proofs.{Common.{◌≡◌, IfErr, Result, subst}, lemmas.Result.IfErr-weaker}
+use Rattle.std.proofs.{Common.{◌≡◌, IfErr, Result}, lemmas.Result.IfErr-weaker}
 use Rattle.cert_check.specs.{declared.fault.Fault.Fault, declared.stop.Stop.Stop}
 use Rattle.cert_check.specs.{declared.stop.Stop.TheVariants.{Found, NoMemory}, Stops.StopsBy}
 

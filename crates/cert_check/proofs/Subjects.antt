@@ -1,6 +1,6 @@
 -- What is known of an answer when its stages are looked at.
-use Rattle.std.proofs.Common.{◌≡◌, ◌↔◌, ℕ, ◌+◌, ◌-◌, ◌^◌, ◌<◌, ◌≤◌, ◌&&◌, not, Bool, List, [], ◌∷◌, map, filter}
-use Rattle.std.proofs.Common.{take, length, get_or, refl, sym, ap, ap₂, ◌∙◌, subst, arith, All}
+use Rattle.std.proofs.Common.{◌≡◌, ◌↔◌, ℕ, ◌+◌, ◌-◌, ◌<◌, ◌≤◌, ◌&&◌, not, Bool, List, [], ◌∷◌, map, filter}
+use Rattle.std.proofs.Common.{take, length, get_or, refl, sym, ap, ap₂, ◌∙◌, arith, All}
 use Rattle.std.proofs.lemmas.List.{get_or-map, get_or_default, get_or-take, length-take-le}
 use Rattle.std.proofs.lemmas.List.Elements.{All-from_recursion}
 use Rattle.std.proofs.lemmas.List.FromFn.{fill_by_all, length-map-range_with_len, get_or-map-range_with_len}
@@ -13,7 +13,7 @@ use Rattle.tier_core.specs.{KindShapes.{free_count, stretch_count, kind_in, Fits
 use Rattle.tier_core.proofs.{TableMasks.free_tiers, Members.all_first}
 use Rattle.grammar_reader.proofs.{Shaping.{length-stretch_counts, count_rises}, OverTiers.over_tiers}
 use Rattle.violation.specs.{Conditions.{AreTiersBelow, IsOverTiers}, Moves.{is_tier_open, cut_kind}}
-use Rattle.violation.specs.{Phases.{is_left_open, AreClosedOr}, Prefixes.{kind_of, stretches, kind_of_bits}}
+use Rattle.violation.specs.{Phases.{AreClosedOr}, Prefixes.{kind_of, stretches, kind_of_bits}}
 use Rattle.violation.specs.Problems.{Problem, last_stage, last_place}
 use Rattle.answer_text.specs.{declared.stage.Node.Node, declared.stage.Stage.Stage, Certified.IsPossibleKind}
 use Rattle.answer_text.specs.{Readable.IsReadableStage, Right.{nodes_at, kinds_at}}

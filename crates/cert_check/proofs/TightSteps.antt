@@ -1,7 +1,7 @@
 -- Moves that are tight at a stage, by what is listed there.
 use Rattle.std.proofs.Common.{◌≡◌, ◌↔◌, ℕ, zero, suc, ◌+◌, ◌==◌, ◌<◌, ◌≤◌, ◌^◌, Bool, true, false, cond, IsTrue}
 use Rattle.std.proofs.Common.{List, [], ◌∷◌, length, filter, take, get_or, slice_get, Some, refl, sym, ap, ◌∙◌}
-use Rattle.std.proofs.{Common.{subst, arith, eq-eqb, eqb-true}, lemmas.Bool.false≢true}
+use Rattle.std.proofs.{Common.{arith, eq-eqb, eqb-true}, lemmas.Bool.false≢true}
 use Rattle.std.proofs.{lemmas.List.{get_or-map, get_or_default, length-map}, lemmas.List.Elements.Contains-get_or}
 use Rattle.std.proofs.lemmas.Option.{slice_get_within, get_or_from_slice_get}
 use Rattle.tier_core.specs.{declared.constraint.Constraint.Constraint, declared.kind.Kind.Kind, declared.sym.Sym.Sym}

@@ -1,5 +1,4 @@
-use Rattle.std.proofs.Common.{◌≡◌, ℕ, ◌<◌, arith}
-use Rattle.tier_core.specs.{Scan.opens, Timelines.symbol}
+use Rattle.std.proofs.Common.{arith}
 use Rattle.cert_check.proofs.GoAlike.{adds_no_tests, adds_weaker, open_more}
 use Rattle.cert_check.proofs.column_tests.push_open_tests.Goals as goal
 

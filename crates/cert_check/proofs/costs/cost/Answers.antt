@@ -1,5 +1,4 @@
-use Rattle.std.proofs.Common.{ℕ, ◌-◌, true, false, sym, subst, arith}
-use Rattle.violation.specs.Conditions.{IsOverTiers}
+use Rattle.std.proofs.Common.{arith}
 use Rattle.cert_check.proofs.MovedSteps.{over_at, cost_told}
 use Rattle.cert_check.proofs.costs.cost.Goals as goal
 

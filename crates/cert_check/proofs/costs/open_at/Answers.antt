@@ -1,6 +1,4 @@
-use Rattle.std.proofs.Common.{◌≡◌, ◌<◌, ℕ, List, length, sym, subst, arith, All}
-use Rattle.tier_core.specs.{declared.sym.Sym.Sym, declared.tier.TierKind.TierKind, Tiers.has_tier}
-use Rattle.cert_check.specs.Opens.{inputs_before, is_open_by}
+use Rattle.std.proofs.Common.{arith}
 use Rattle.cert_check.proofs.Subjects.{form_wide}
 use Rattle.cert_check.proofs.costs.open_at.Goals as goal
 

@@ -1,4 +1,4 @@
-use Rattle.std.proofs.Common.{◌-◌, ◌^◌, ap, ap₂, ◌∙◌, bit_and}
+use Rattle.std.proofs.Common.{ap, ap₂, ◌∙◌, bit_and}
 use Rattle.tier_core.specs.{Kinds.phase_by_bits, Tiers.has_tier}
 use Rattle.cert_check.proofs.Cuts.{low_bit, low_apart}
 use Rattle.cert_check.proofs.cut.cut_to.Goals as goal

@@ -1,7 +1,6 @@
-use Rattle.std.proofs.Common.{◌≡◌, [], ◌∷◌, ◌++◌, arith, length, sym, subst}
+use Rattle.std.proofs.Common.{◌≡◌, [], ◌∷◌, ◌++◌, arith, length}
 use Rattle.std.proofs.lemmas.List.Elements.{All-push, All-same}
 use Rattle.tier_core.specs.{declared.class.Class.Class, Classes.sets_of}
-use Rattle.answer_text.specs.declared.automaton.ArcLine.{ArcLine}
 use Rattle.cert_check.proofs.ArcLists.{led_elsewhere, led_there}
 use Rattle.cert_check.proofs.differing.classes_to.Goals as goal
 

@@ -1,8 +1,7 @@
-use Rattle.std.proofs.Common.{◌≡◌, ◌&&◌, ◌++◌, IsTrue, not, List, length, sym, ap, ◌∙◌, subst, refl, All}
+use Rattle.std.proofs.Common.{◌&&◌, ◌++◌, IsTrue, not, List, length, ap, ◌∙◌, refl}
 use Rattle.std.proofs.{lemmas.List.drop_at, lemmas.List.Elements.All-drop}
 use Rattle.tier_core.specs.{declared.class.Class.Class, Classes.{sets_of, has}, Filled.is_filled}
 use Rattle.symbol_class.specs.Held.{some_has}
-use Rattle.cert_check.specs.Arcs.{is_led}
 use Rattle.cert_check.proofs.Gathering.{adds_more}
 use Rattle.cert_check.proofs.differing.push_rest.Goals as goal
 

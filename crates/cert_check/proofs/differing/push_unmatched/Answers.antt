@@ -1,6 +1,4 @@
-use Rattle.std.proofs.Common.{◌&&◌, not, arith}
-use Rattle.tier_core.specs.Classes.{has}
-use Rattle.cert_check.specs.Arcs.{is_led}
+use Rattle.std.proofs.Common.{arith}
 use Rattle.cert_check.proofs.Gathering.{arc_more}
 use Rattle.cert_check.proofs.differing.push_unmatched.Goals as goal
 

@@ -1,7 +1,6 @@
 use Rattle.std.proofs.{Common.{ℕ, ◌+◌, ◌-◌, ◌/◌, ◌<◌, length, sym, ◌∙◌, arith}, lemmas.List.length-map}
 use Rattle.tier_core.specs.KindShapes.{kind_in}
 use Rattle.answer_text.specs.declared.stage.Node.{Node}
-use Rattle.cert_check.specs.Searches.{told_in}
 use Rattle.cert_check.proofs.Searches.{before_middle, behind_middle, at_middle, not_there}
 use Rattle.cert_check.proofs.find.find.Goals as goal
 

@@ -1,7 +1,5 @@
-use Rattle.std.proofs.Common.{◌≡◌, List, Some, Contains, MatchOption, slice_get, sym, subst}
-use Rattle.std.specs.List.Sorted.{IsStrictlySortedBy}
-use Rattle.tier_core.specs.{Kinds.{PrefixKind, kind_order}, KindShapes.kind_in}
-use Rattle.cert_check.specs.Subjects.{stage_kinds}
+use Rattle.std.proofs.Common.{◌≡◌, List, Some, Contains, MatchOption, slice_get}
+use Rattle.tier_core.specs.{Kinds.{PrefixKind}}
 use Rattle.cert_check.proofs.Subjects.{tell_same, told_read}
 use Rattle.cert_check.proofs.find.find_kind.Goals as goal
 

@@ -1,5 +1,5 @@
 use Rattle.std.proofs.Common.{ap, ◌∙◌}
-use Rattle.tier_core.specs.{Classes.has, Scan.fits, Sets.is_in, Tiers.has_tier, Timelines.symbol}
+use Rattle.tier_core.specs.{Scan.fits, Timelines.symbol}
 use Rattle.cert_check.proofs.FitSteps.{tier_more}
 use Rattle.cert_check.proofs.fit_boxes.coming_box.Goals as goal
 

@@ -1,5 +1,4 @@
-use Rattle.std.proofs.Common.{not, ◌∙◌}
-use Rattle.tier_core.specs.{Classes.has, Sets.is_in, Timelines.{symbol, is_edge}}
+use Rattle.std.proofs.Common.{◌∙◌}
 use Rattle.tier_core.proofs.KnownSets.{in_edgeless}
 use Rattle.cert_check.proofs.FitSteps.{tier_more}
 use Rattle.cert_check.proofs.fit_boxes.edgeless_box.Goals as goal

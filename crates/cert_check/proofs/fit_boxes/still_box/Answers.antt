@@ -1,5 +1,4 @@
 use Rattle.std.proofs.Common.{sym, ◌∙◌}
-use Rattle.tier_core.specs.{Classes.has, declared.tier.TierKind.TheVariants.Input}
 use Rattle.cert_check.proofs.FitSteps.{still_more, still_same}
 use Rattle.cert_check.proofs.fit_boxes.still_box.Goals.{then-is_input, else-is_input}
 use Rattle.cert_check.proofs.fit_boxes.still_box.Goals as goal

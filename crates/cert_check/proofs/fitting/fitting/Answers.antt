@@ -1,14 +1,14 @@
-use Rattle.std.proofs.Common.{◌≡◌, ◌↔◌, ℕ, ◌<◌, true, false, not, ◌&&◌, IsTrue, List, [], map, length, refl, ap}
-use Rattle.std.proofs.{Common.{sym, ◌∙◌, subst, arith, All}, lemmas.Bool.{false≢true, and_parts, and_from}}
+use Rattle.std.proofs.Common.{◌≡◌, ◌↔◌, ℕ, ◌<◌, false, not, ◌&&◌, IsTrue, List, [], map, length, refl, ap}
+use Rattle.std.proofs.{Common.{sym, ◌∙◌, arith}, lemmas.Bool.{false≢true, and_parts, and_from}}
 use Rattle.tier_core.specs.{declared.class.Class.Class, declared.sym.Sym.Sym, declared.tier.TierKind.TierKind}
-use Rattle.tier_core.specs.{Classes.{sets_of, has}, Scan.fits, Tiers.{has_tier, is_input, numbers_from}}
-use Rattle.tier_core.specs.Timelines.{symbol, column_at, has_edge, is_edge}
+use Rattle.tier_core.specs.{Classes.{sets_of, has}, Tiers.{is_input, numbers_from}}
+use Rattle.tier_core.specs.Timelines.{symbol, has_edge}
 use Rattle.tier_core.proofs.ClassLemmas.{same_width}
-use Rattle.symbol_class.specs.Held.{once_if, AddsClasses}
+use Rattle.symbol_class.specs.Held.{once_if}
 use Rattle.symbol_class.proofs.Times.{adds_none}
-use Rattle.violation.specs.{Moves.input_of, Prefixes.kind_of_bits, Problems.last_place}
+use Rattle.violation.specs.{Prefixes.kind_of_bits}
 use Rattle.violation.proofs.SplitLemmas.{tiers_split}
-use Rattle.cert_check.specs.{Opens.{inputs_before, is_open_by}, Subjects.problem_of}
+use Rattle.cert_check.specs.{Subjects.problem_of}
 use Rattle.cert_check.proofs.{FittingSteps.{met_where, are_fitting}, Subjects.{form_wide, mask_agrees}}
 use Rattle.cert_check.proofs.fitting.fitting.Goals as goal
 

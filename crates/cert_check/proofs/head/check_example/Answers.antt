@@ -1,5 +1,4 @@
 use Rattle.std.proofs.Common.{sym, ◌∙◌, true≢false}
-use Rattle.cert_check.specs.FirstFaults.{asked_by}
 use Rattle.cert_check.proofs.Heads.{first_example}
 use Rattle.cert_check.proofs.head.check_example.Goals as goal
 

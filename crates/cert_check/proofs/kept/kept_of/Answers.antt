@@ -1,6 +1,3 @@
-use Rattle.std.proofs.Common.{◌≡◌, IsTrue, length, sym, subst}
-use Rattle.tier_core.specs.{declared.class.Class.Class, Classes.sets_of, Filled.is_filled}
-use Rattle.violation.specs.Prefixes.{kind_of_bits}
 use Rattle.violation.proofs.SplitLemmas.{tiers_split}
 use Rattle.cert_check.specs.{Pruned.IsAlikeTo, Subjects.problem_of}
 use Rattle.cert_check.proofs.{KeptSteps.{kept_of_none, kept_of_more, kept_of_all}, PrunedSteps.alike_go_on}

@@ -1,7 +1,5 @@
-use Rattle.std.proofs.Common.{List, sym, subst, All}
-use Rattle.tier_core.specs.declared.class.Class.{Class}
 use Rattle.violation.specs.Prefixes.{kind_of_bits}
-use Rattle.cert_check.specs.{Kept.AreKeptOf, Pruned.IsAlikeTo, Subjects.problem_of}
+use Rattle.cert_check.specs.{Subjects.problem_of}
 use Rattle.cert_check.proofs.KeptSteps.{kept_from_pruned}
 use Rattle.cert_check.proofs.kept.kept_pieces.Goals as goal
 

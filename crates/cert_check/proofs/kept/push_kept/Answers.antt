@@ -1,5 +1,5 @@
-use Rattle.std.proofs.Common.{List, IsTrue, refl, sym, subst}
-use Rattle.tier_core.specs.{declared.sym.Sym.Sym, Classes.has}
+use Rattle.std.proofs.Common.{IsTrue, refl, sym}
+use Rattle.tier_core.specs.{Classes.has}
 use Rattle.violation.specs.Prefixes.{kind_of_bits}
 use Rattle.cert_check.specs.Subjects.{problem_of}
 use Rattle.cert_check.proofs.KeptSteps.{adds_kept}

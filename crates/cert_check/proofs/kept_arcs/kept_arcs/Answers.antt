@@ -1,8 +1,7 @@
-use Rattle.std.proofs.Common.{◌≡◌, ◌+◌, List, sym, subst, arith, All}
-use Rattle.tier_core.specs.KindShapes.{FitsShape}
-use Rattle.violation.specs.{Prefixes.kind_of_bits, Problems.last_stage}
-use Rattle.cert_check.specs.{declared.kept_piece.KeptPiece.KeptPiece, Kept.AreKeptPieces}
-use Rattle.cert_check.specs.{KeptArcs.{AreArcsOf, IsTargetListed}, States.last_kind, Subjects.{AscendsAt, problem_of}}
+use Rattle.std.proofs.Common.{◌≡◌, List, arith}
+use Rattle.violation.specs.{Problems.last_stage}
+use Rattle.cert_check.specs.{declared.kept_piece.KeptPiece.KeptPiece}
+use Rattle.cert_check.specs.{Subjects.{problem_of}}
 use Rattle.cert_check.proofs.{ArcSteps.kept_arcs_are, LastStage.{ascends_at, place_within, targets_listed}}
 use Rattle.cert_check.proofs.StateSubjects.{node_fits}
 use Rattle.cert_check.proofs.kept_arcs.kept_arcs.Goals as goal

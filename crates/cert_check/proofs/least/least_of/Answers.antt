@@ -1,6 +1,5 @@
-use Rattle.std.proofs.{Common.{IsTrue, arith, sym, subst, refl}, lemmas.List.take_all}
-use Rattle.tier_core.specs.{declared.class.Class.Class, Filled.is_filled}
-use Rattle.cert_check.proofs.LeastColumns.{IsLeastOf, least_more}
+use Rattle.std.proofs.{Common.{arith, refl}, lemmas.List.take_all}
+use Rattle.cert_check.proofs.LeastColumns.{least_more}
 use Rattle.cert_check.proofs.least.least_of.Goals as goal
 
 pub loop-class-init : goal.loop-class-init

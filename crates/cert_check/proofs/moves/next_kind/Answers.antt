@@ -1,8 +1,7 @@
-use Rattle.std.proofs.Common.{◌≡◌, ℕ, ◌<◌, take, length, length-take, get_or, ap, sym, ◌∙◌, subst, arith}
+use Rattle.std.proofs.Common.{◌≡◌, ℕ, ◌<◌, take, length, length-take, get_or, ap, ◌∙◌, arith}
 use Rattle.std.proofs.{lemmas.List.get_or-take, lemmas.List.Elements.All-from_recursion}
-use Rattle.tier_core.specs.{declared.constraint.Constraint.Constraint, Tiers.{is_free, is_input, numbers_from}}
+use Rattle.tier_core.specs.{declared.constraint.Constraint.Constraint, Tiers.{numbers_from}}
 use Rattle.violation.specs.Conditions.{IsOverTiers}
-use Rattle.cert_check.specs.Subjects.{problem_of}
 use Rattle.grammar_reader.proofs.OverTiers.{over_tiers}
 use Rattle.cert_check.proofs.MovedSteps.{moved_told}
 use Rattle.cert_check.proofs.moves.next_kind.Goals as goal

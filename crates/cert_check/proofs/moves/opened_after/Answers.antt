@@ -1,5 +1,4 @@
 use Rattle.std.proofs.Common.{sym, ◌∙◌}
-use Rattle.tier_core.specs.{Scan.opens, Timelines.symbol}
 use Rattle.cert_check.proofs.FlagSteps.{flagged_more, flagged_same, flagged_told, flagged_within}
 use Rattle.cert_check.proofs.moves.opened_after.Goals.{then-is_free, else-is_free}
 use Rattle.cert_check.proofs.moves.opened_after.Goals as goal

@@ -1,6 +1,5 @@
 use Rattle.std.proofs.Common.{refl, sym, ◌∙◌}
 use Rattle.tier_core.specs.Kinds.{phase_at}
-use Rattle.violation.specs.Moves.{next_phase}
 use Rattle.violation.proofs.{KindBits.met_at, NextPhases.{next_more, next_same, next_all}}
 use Rattle.cert_check.proofs.moves.with_phases.Goals.{then-is_stretch, else-is_stretch}
 use Rattle.cert_check.proofs.moves.with_phases.Goals as goal

@@ -1,5 +1,4 @@
 use Rattle.std.proofs.Common.{sym, ◌∙◌}
-use Rattle.cert_check.specs.Subjects.{problem_of}
 use Rattle.cert_check.proofs.{NodeSteps.{right_where_open, first_final}, OpenedNodes.node_opened}
 use Rattle.cert_check.proofs.node_check.check_final.Goals as goal
 

@@ -1,5 +1,4 @@
 use Rattle.std.proofs.lemmas.Result.{on_ok_weaker}
-use Rattle.cert_check.specs.Subjects.{problem_of}
 use Rattle.cert_check.proofs.NodeSteps.{right_node}
 use Rattle.cert_check.proofs.node_check.check_node.Goals as goal
 

@@ -1,7 +1,5 @@
 use Rattle.tier_core.specs.FirstColumn.{first_column}
 use Rattle.tier_core.proofs.Filled.{has-first_column}
-use Rattle.violation.specs.{Moves.next_kind, Prefixes.kind_of_bits}
-use Rattle.cert_check.specs.Subjects.{problem_of}
 use Rattle.cert_check.proofs.{NodeSteps.{not_closed, too_high, none_wrong}, TightSteps.tells_fit}
 use Rattle.cert_check.proofs.node_check.move_fault.Goals as goal
 

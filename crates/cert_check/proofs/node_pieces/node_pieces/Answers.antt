@@ -1,8 +1,6 @@
-use Rattle.std.proofs.{Common.{◌≡◌, ℕ, List, length, sym, ap, subst}, lemmas.Result.IfOk-weaker}
-use Rattle.tier_core.specs.{declared.class.Class.Class, declared.tier.TierKind.TierKind}
-use Rattle.symbol_class.specs.Held.{ArePieces}
-use Rattle.violation.specs.Prefixes.{kind_of_bits}
-use Rattle.cert_check.specs.{Fitting.ArePartedByTests, Subjects.problem_of}
+use Rattle.std.proofs.{Common.{◌≡◌, List, length, ap}, lemmas.Result.IfOk-weaker}
+use Rattle.tier_core.specs.{declared.tier.TierKind.TierKind}
+use Rattle.cert_check.specs.{Subjects.problem_of}
 use Rattle.cert_check.proofs.PrunedSteps.{pruned_none}
 use Rattle.cert_check.proofs.node_pieces.node_pieces.Goals as goal
 

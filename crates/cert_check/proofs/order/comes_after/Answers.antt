@@ -1,4 +1,4 @@
-use Rattle.std.proofs.Common.{◌≡◌, ℕ, ◌-◌, ◌≤◌, arith, sym, ap₂, ◌∙◌}
+use Rattle.std.proofs.Common.{◌≡◌, ℕ, ◌≤◌, arith, sym, ap₂, ◌∙◌}
 use Rattle.tier_core.specs.Kinds.{kind_order}
 use Rattle.cert_check.specs.Subjects.{node_kind}
 use Rattle.cert_check.proofs.{Searches.less_is, Subjects.number_read}

@@ -1,8 +1,6 @@
-use Rattle.std.proofs.Common.{◌≡◌, ℕ, ◌≤◌, ◌<◌, ◌↔◌, List, length, filter, take, sym, subst, arith, All, IsTrue}
-use Rattle.tier_core.specs.{declared.sym.Sym.Sym, declared.tier.TierKind.TierKind, Tiers.has_tier}
-use Rattle.tier_core.specs.{declared.constraint.Constraint.Constraint, Kinds.phases, Sides.is_stretch}
-use Rattle.violation.specs.Phases.{AreClosedOr}
-use Rattle.cert_check.specs.{Possible.all_open_in, Opens.{inputs_before, is_open_by}}
+use Rattle.std.proofs.Common.{◌≡◌, ℕ, ◌≤◌, ◌<◌, length, arith}
+use Rattle.tier_core.specs.{Tiers.has_tier}
+use Rattle.cert_check.specs.{Opens.{is_open_by}}
 use Rattle.cert_check.proofs.Subjects.{form_wide, possible_by_mask}
 use Rattle.cert_check.proofs.order.is_possible.Goals as goal
 

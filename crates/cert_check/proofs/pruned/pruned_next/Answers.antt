@@ -1,7 +1,6 @@
-use Rattle.std.proofs.{Common.{◌+◌, List, sym, subst, All}, lemmas.Result.IfOk-weaker}
-use Rattle.tier_core.specs.declared.class.Class.{Class}
+use Rattle.std.proofs.{lemmas.Result.IfOk-weaker}
 use Rattle.violation.specs.Prefixes.{kind_of_bits}
-use Rattle.cert_check.specs.{Pruned.{AreTightAmong, IsAlikeTo}, Subjects.problem_of}
+use Rattle.cert_check.specs.{Subjects.problem_of}
 use Rattle.cert_check.proofs.PrunedSteps.{pruned_same, pruned_more}
 use Rattle.cert_check.proofs.pruned.pruned_next.Goals as goal
 

@@ -1,6 +1,4 @@
-use Rattle.std.proofs.Common.{◌≡◌, arith, subst}
-use Rattle.violation.specs.Prefixes.{kind_of_bits}
-use Rattle.cert_check.specs.{Pruned.ArePruned, Subjects.problem_of}
+use Rattle.std.proofs.Common.{◌≡◌, arith}
 use Rattle.cert_check.proofs.pruned.pruned_pieces.Goals as goal
 
 pub loop-before-init : goal.loop-before-init

@@ -1,5 +1,4 @@
-use Rattle.std.proofs.{Common.{◌≡◌, subst, arith, ⊎_elim}, lemmas.Bool.cases_lt, lemmas.Result.err_from_is_err_and}
-use Rattle.cert_check.specs.{Nodes.{IsRightNode, IsFirstInNode}, Parts.IsFirstInStage, Subjects.problem_of}
+use Rattle.std.proofs.{Common.{◌≡◌, arith, ⊎_elim}, lemmas.Bool.cases_lt, lemmas.Result.err_from_is_err_and}
 use Rattle.cert_check.proofs.{StageSteps.{node_here, place_in, first_in_node}, Stops.stop_says, Subjects.nodes_read}
 use Rattle.cert_check.proofs.stage_check.check_nodes.Goals as goal
 

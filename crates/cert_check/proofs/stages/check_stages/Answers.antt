@@ -1,5 +1,4 @@
 use Rattle.std.proofs.lemmas.Result.{err_from_is_err_and}
-use Rattle.cert_check.specs.{FirstFaults.IsFirstFault, Parts.IsFirstInStage, Subjects.problem_of}
 use Rattle.cert_check.proofs.{StageSteps.first_stage, Stops.stop_says}
 use Rattle.cert_check.proofs.stages.check_stages.Goals as goal
 

@@ -1,8 +1,7 @@
-use Rattle.std.proofs.Common.{◌≡◌, List, length, sym, subst, arith, All, Option, MatchOption}
-use Rattle.tier_core.specs.{declared.sym.Sym.Sym, Classes.sets_of}
-use Rattle.violation.specs.Problems.{last_stage}
+use Rattle.std.proofs.Common.{◌≡◌, List, arith, Option, MatchOption}
+use Rattle.tier_core.specs.{declared.sym.Sym.Sym}
 use Rattle.answer_text.specs.declared.automaton.ArcLine.{ArcLine}
-use Rattle.cert_check.specs.{Arcs.{do_differ, IsLeastColumn, IsNoColumn}, Faults.IsListedTarget, States.last_kind}
+use Rattle.cert_check.specs.{Arcs.{do_differ, IsLeastColumn, IsNoColumn}}
 use Rattle.cert_check.specs.Subjects.{problem_of}
 use Rattle.cert_check.proofs.{ArcSteps.one_kept_target, LastStage.ascends_at, StateFaults.{arcs_right, first_arcs}}
 use Rattle.cert_check.proofs.StateSubjects.{states_ascend, arcs_wide, of_kind}

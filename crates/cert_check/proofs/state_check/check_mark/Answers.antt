@@ -1,6 +1,6 @@
 use Rattle.std.proofs.Common.{sym, ◌∙◌, true≢false}
 use Rattle.violation.specs.Problems.{last_stage}
-use Rattle.cert_check.specs.{States.last_kind, Subjects.problem_of}
+use Rattle.cert_check.specs.{Subjects.problem_of}
 use Rattle.cert_check.proofs.StateFaults.{mark_right, first_mark}
 use Rattle.cert_check.proofs.StateSubjects.{states_ascend, of_kind, opened_few}
 use Rattle.cert_check.proofs.state_check.check_mark.Goals as goal

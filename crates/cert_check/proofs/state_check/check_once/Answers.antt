@@ -1,5 +1,5 @@
-use Rattle.std.proofs.Common.{◌≡◌, List, length, sym, subst, All, Option, MatchOption}
-use Rattle.tier_core.specs.{declared.sym.Sym.Sym, Classes.sets_of}
+use Rattle.std.proofs.Common.{List, Option, MatchOption}
+use Rattle.tier_core.specs.{declared.sym.Sym.Sym}
 use Rattle.answer_text.specs.declared.automaton.ArcLine.{ArcLine}
 use Rattle.cert_check.specs.{Arcs.{is_twice, IsLeastColumn, IsNoColumn}, Subjects.problem_of}
 use Rattle.cert_check.proofs.{StateFaults.{twice_right, first_twice}, StateSubjects.{states_ascend, arcs_wide}}

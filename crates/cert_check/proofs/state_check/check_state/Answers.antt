@@ -1,5 +1,4 @@
 use Rattle.std.proofs.lemmas.Result.{on_ok_weaker}
-use Rattle.cert_check.specs.Subjects.{problem_of}
 use Rattle.cert_check.proofs.{StateFaults.state_right, StateSubjects.states_ascend}
 use Rattle.cert_check.proofs.state_check.check_state.Goals as goal
 

@@ -1,9 +1,8 @@
-use Rattle.std.proofs.Common.{◌≡◌, ℕ, ◌<◌, List, length, get_or, Some, Contains, slice_get, sym, ap, ◌∙◌, arith}
-use Rattle.std.proofs.{Common.{subst, ⊎_elim, true≢false}, lemmas.Bool.cases_lt}
+use Rattle.std.proofs.Common.{◌≡◌, ℕ, ◌<◌, List, length, get_or, Some, slice_get, sym, ap, ◌∙◌, arith}
+use Rattle.std.proofs.{Common.{⊎_elim, true≢false}, lemmas.Bool.cases_lt}
 use Rattle.std.proofs.lemmas.Option.{slice_get-get_or, slice_get_within}
-use Rattle.answer_text.specs.{declared.automaton.ArcLine.ArcLine, declared.automaton.StateLine.StateLine}
-use Rattle.answer_text.specs.Right.{numbers_of}
-use Rattle.cert_check.specs.{Faults.IsState, Subjects.problem_of}
+use Rattle.answer_text.specs.{declared.automaton.ArcLine.ArcLine}
+use Rattle.cert_check.specs.{Subjects.problem_of}
 use Rattle.cert_check.proofs.{Faultless.some_same, StateFaults.{targets_right, first_target}}
 use Rattle.cert_check.proofs.StateSubjects.{states_ascend}
 use Rattle.cert_check.proofs.state_check.check_targets.Goals as goal

@@ -1,8 +1,8 @@
-use Rattle.std.proofs.Common.{◌≡◌, List, length, sym, ap, ◌∙◌, subst, arith, Contains, true≢false}
+use Rattle.std.proofs.Common.{◌≡◌, List, length, sym, ap, ◌∙◌, arith, true≢false}
 use Rattle.std.proofs.{lemmas.Option.slice_get_within, lemmas.Result.err_from_is_err_and}
 use Rattle.violation.specs.Problems.{last_stage}
-use Rattle.answer_text.specs.{declared.automaton.StateLine.StateLine, Right.numbers_of}
-use Rattle.cert_check.specs.{Faults.IsState, FirstFaults.IsFirstFault, Parts.IsFirstInState, Subjects.problem_of}
+use Rattle.answer_text.specs.{declared.automaton.StateLine.StateLine}
+use Rattle.cert_check.specs.{Faults.IsState, Subjects.problem_of}
 use Rattle.cert_check.proofs.StateSteps.{right_more, first_start, first_state, states_right, state_read, state_here}
 use Rattle.cert_check.proofs.{StateSubjects.states_ascend, Stops.stop_says}
 use Rattle.cert_check.proofs.states.check_states.Goals as goal

@@ -1,7 +1,6 @@
-use Rattle.std.proofs.Common.{sym, ap, ◌∙◌, subst}
-use Rattle.violation.specs.{Moves.{cost_of, next_kind}, Prefixes.kind_of_bits}
-use Rattle.answer_text.specs.Certified.{Lists}
-use Rattle.cert_check.specs.{Faults.IsUnlisted, Subjects.problem_of}
+use Rattle.std.proofs.Common.{sym, ap, ◌∙◌}
+use Rattle.violation.specs.{Moves.{cost_of, next_kind}}
+use Rattle.cert_check.specs.{Subjects.problem_of}
 use Rattle.cert_check.proofs.TightSteps.{never_reached, tells_fit, tight_by}
 use Rattle.cert_check.proofs.tight.is_tight_at.Goals as goal
 

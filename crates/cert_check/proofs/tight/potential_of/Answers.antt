@@ -1,5 +1,3 @@
-use Rattle.violation.specs.Prefixes.{kind_of_bits}
-use Rattle.cert_check.specs.Subjects.{problem_of}
 use Rattle.cert_check.proofs.TightSteps.{lists_there}
 use Rattle.cert_check.proofs.tight.potential_of.Goals as goal
 

@@ -1,7 +1,6 @@
-use Rattle.std.proofs.Common.{List, IsTrue, refl, sym, ◌∙◌, subst, true≢false}
-use Rattle.tier_core.specs.{declared.sym.Sym.Sym, Classes.has}
+use Rattle.std.proofs.Common.{IsTrue, refl, sym, ◌∙◌, true≢false}
+use Rattle.tier_core.specs.{Classes.has}
 use Rattle.violation.proofs.SplitLemmas.{tiers_split}
-use Rattle.cert_check.specs.Subjects.{problem_of}
 use Rattle.cert_check.proofs.TightLists.{adds_no_tight, adds_tight}
 use Rattle.cert_check.proofs.tight.push_tight.Goals as goal
 

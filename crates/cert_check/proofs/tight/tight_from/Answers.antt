@@ -1,6 +1,5 @@
-use Rattle.std.proofs.Common.{◌≡◌, ℕ, IsTrue, length, sym, subst}
-use Rattle.tier_core.specs.{declared.class.Class.Class, Classes.sets_of, Filled.is_filled}
-use Rattle.cert_check.specs.{Pruned.IsAlikeTo, Subjects.problem_of}
+use Rattle.std.proofs.Common.{ℕ}
+use Rattle.cert_check.specs.{Subjects.problem_of}
 use Rattle.cert_check.proofs.TightLists.{tight_of_none, tight_of_step, tight_of_all}
 use Rattle.cert_check.proofs.tight.tight_from.Goals as goal
 

@@ -1,5 +1,4 @@
 use Rattle.std.proofs.Common.{◌≡◌, not, ◌&&◌, true, false, Bool, refl, ap, ◌∙◌, arith}
-use Rattle.tier_core.specs.{Classes.has, Sets.is_in, Timelines.symbol}
 use Rattle.tier_core.proofs.{ClassSets.width_is, KnownSets.in_none}
 use Rattle.cert_check.proofs.uniform.inside.Goals as goal
 

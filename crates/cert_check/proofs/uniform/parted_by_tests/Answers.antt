@@ -1,7 +1,5 @@
-use Rattle.std.proofs.{Common.{◌≡◌, ℕ, length, sym, ◌∙◌, subst}, lemmas.List.take_all}
-use Rattle.tier_core.specs.{declared.class.Class.Class, Classes.sets_of}
-use Rattle.symbol_class.specs.Held.{ArePieces}
-use Rattle.cert_check.specs.Fitting.{ArePartedByTests}
+use Rattle.std.proofs.{Common.{◌≡◌, length, ◌∙◌}, lemmas.List.take_all}
+use Rattle.tier_core.specs.{Classes.sets_of}
 use Rattle.cert_check.proofs.UniformSteps.{parted_none, parted_more}
 use Rattle.cert_check.proofs.uniform.parted_by_tests.Goals as goal
 

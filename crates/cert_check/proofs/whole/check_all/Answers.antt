@@ -1,5 +1,4 @@
 use Rattle.std.proofs.lemmas.Result.{on_ok_weaker}
-use Rattle.cert_check.specs.FirstFaults.{asked_by}
 use Rattle.cert_check.proofs.CheckSteps.{ready_by, right_before, faultless_whole}
 use Rattle.cert_check.proofs.whole.check_all.Goals as goal
 

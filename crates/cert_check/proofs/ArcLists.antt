@@ -2,14 +2,15 @@
 use Rattle.std.proofs.Common.{◌≡◌, ℕ, zero, suc, ◌+◌, ◌<◌, ◌==◌, ◌&&◌, ◌||◌, not, Bool, true, false, IsTrue, List}
 use Rattle.std.proofs.Common.{[], ◌∷◌, ◌++◌, take, length, get_or, slice_get, refl, sym, ap, ap₂, ◌∙◌, arith}
 use Rattle.std.proofs.Common.{inl, inr, Some, None, Option, Contains, true≢false, eqb-true, eq-eqb, ne_eqb}
-use Rattle.std.proofs.lemmas.Bool.{and_parts, or_cases, not-true, or_left, or_right}
+use Rattle.std.proofs.lemmas.Bool.{and_parts, cases_order, or_cases, not-true, or_left, or_right}
 use Rattle.std.proofs.lemmas.List.Folds.{list_any_at, list_any_more, list_any-append}
-use Rattle.std.proofs.lemmas.Option.{slice_get_within}
+use Rattle.std.proofs.lemmas.Option.{slice_get_within, slice_get-get_or}
 use Rattle.std.specs.Prelude.{unwrap_or}
 use Rattle.tier_core.specs.{declared.sym.Sym.Sym, declared.class.Class.Class, Classes.has}
 use Rattle.symbol_class.specs.Held.{some_has}
 use Rattle.answer_text.specs.{declared.automaton.ArcLine.ArcLine, ArcClasses.arc_classes}
 use Rattle.cert_check.specs.{Arcs.{is_twice, is_led, is_unmatched, do_differ}, Faults.IsListedTarget}
+use Rattle.cert_check.proofs.Faultless.{some_same}
 
 both_true : (a b : Bool) → a ≡ true → b ≡ true → (a && b) ≡ true
 both_true true b e f = f
@@ -86,6 +87,22 @@ unmatched_from arcs others column arc h holds e =
 abbrev pub HasOneTarget : List ArcLine → List Sym → Type 0
 HasOneTarget arcs column = (m n : ℕ) → IsListedTarget arcs column (Some m) → IsListedTarget arcs column (Some n)
     → m ≡ n
+
+-- where no column is in two arcs, it has one target
+pub one_target : (arcs : List ArcLine) (column : List Sym) → ((i j : ℕ) (x y : ArcLine) → i < j
+    → slice_get arcs i ≡ Some x → slice_get arcs j ≡ Some y → IsTrue (has x.class column)
+    → IsTrue (has y.class column) → ⊥) → HasOneTarget arcs column
+one_target arcs column two m n a b = elim (cases_order a.1.0.0 b.1.0.0) [
+  | inl same ↦ sym a.1.2 ∙ ap (λ (x : ArcLine). x.target)
+      (some_same (sym (numbered a.0 a.1.0) ∙ ap (slice_get arcs) same ∙ numbered b.0 b.1.0)) ∙ b.1.2
+  | inr other ↦ elim other [
+    | inl less ↦ absurd (two _ _ a.0 b.0 less (numbered a.0 a.1.0) (numbered b.0 b.1.0) a.1.1 b.1.1)
+    | inr more ↦ absurd (two _ _ b.0 a.0 more (numbered b.0 b.1.0) (numbered a.0 a.1.0) b.1.1 a.1.1)
+  ]
+]
+  where
+    numbered : (arc : ArcLine) (h : Contains arcs arc) → slice_get arcs h.0 ≡ Some arc
+    numbered arc h = slice_get-get_or arcs h.0 arc h.1 ∙ ap (λ (x : ArcLine). Some x) h.2
 
 module _ (arcs others : List ArcLine) (column : List Sym) (one : HasOneTarget arcs column)
     (single : HasOneTarget others column) where

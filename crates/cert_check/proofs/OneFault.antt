@@ -1,7 +1,7 @@
 -- Two faults that come first are one.
 use Rattle.std.proofs.Common.{◌≡◌, ℕ, zero, suc, ◌+◌, ◌<◌, ◌⊎◌, Bool, IsTrue, List, [], ◌∷◌, length, get_or}
 use Rattle.std.proofs.Common.{slice_get, Some, None, Option, refl, sym, ap, ap₂, ◌∙◌, subst, arith, inl, inr}
-use Rattle.std.proofs.{Common.Contains, lemmas.Bool.{cases_eq, cases_order}, lemmas.Option.slice_get-get_or}
+use Rattle.std.proofs.lemmas.Bool.{cases_eq, cases_order}
 use Rattle.std.specs.List.Sorted.{IsStrictlySortedBy}
 use Rattle.tier_core.specs.{declared.sym.Sym.Sym, declared.kind.Kind.Kind, Classes.has}
 use Rattle.tier_core.specs.{Kinds.{PrefixKind, kind_order}, Symbols.rank}
@@ -20,7 +20,8 @@ use Rattle.cert_check.specs.Faults.{LacksStage, HasWrongCount, HasNode, HasWrong
 use Rattle.cert_check.specs.Faults.{IsNotClosed, HasHighPotential, HasWrongStart, HasState, LacksTarget}
 use Rattle.cert_check.specs.Faults.{HasWrongMark, HasTwice, IsListedTarget, IsKeptTarget, HasWrongArcs}
 use Rattle.cert_check.specs.FirstFaults.{IsFault, IsFirstFault}
-use Rattle.cert_check.proofs.{Decisions.so_unless, Faultless.some_same, Ascending.ascends_unless, KindMasks.same_told}
+use Rattle.cert_check.proofs.{ArcLists.one_target, Decisions.so_unless, Faultless.some_same}
+use Rattle.cert_check.proofs.{Ascending.ascends_unless, KindMasks.same_told}
 
 -- ---- places are in one order
 
@@ -238,6 +239,10 @@ module _ (problem : Problem) (answer : Answer) where
       let same = one_start _ _ _ _ _ a.1.1.1 b.1.1.1 in
       a.1.1.0 ∙ ap₂ (λ x y. StartPotential stage x y) same.0 same.1 ∙ sym b.1.1.0
 
+  abbrev LastAscends : Type 0
+  LastAscends = IsStrictlySortedBy kind_order
+      (kinds_at problem (last_stage problem) (nodes_at answer.stages.items (last_stage problem)))
+
   -- of a state
   module _ (states : AreStatesInOrder problem.tiers.width answer.automaton.states.items) where
     one_line : (n : ℕ) (a b : StateLine) → HasState answer n a → HasState answer n b → a ≡ b
@@ -274,37 +279,22 @@ module _ (problem : Problem) (answer : Answer) where
         in_second = k;
       })
 
-      numbered : (arc : ArcLine) (h : Contains line.arcs.items arc) → slice_get line.arcs.items h.0 ≡ Some arc
-      numbered arc h = slice_get-get_or line.arcs.items h.0 arc h.1 ∙ ap (λ (x : ArcLine). Some x) h.2
-
       one_listed : (m n : Option ℕ) → IsListedTarget line.arcs.items column m
           → IsListedTarget line.arcs.items column n → m ≡ n
       one_listed None None a b = refl
       one_listed None (Some n) a b = absurd (a b.0 b.1.0 b.1.1)
       one_listed (Some m) None a b = absurd (b a.0 a.1.0 a.1.1)
-      one_listed (Some m) (Some n) a b = ap (λ (x : ℕ). Some x) (elim (cases_order a.1.0.0 b.1.0.0) [
-        | inl same ↦ sym a.1.2 ∙ ap (λ (x : ArcLine). x.target)
-            (some_same (sym (numbered a.0 a.1.0) ∙ ap (slice_get line.arcs.items) same ∙ numbered b.0 b.1.0)) ∙ b.1.2
-        | inr other ↦ elim other [
-          | inl less ↦ absurd (twice a.1.0.0 b.1.0.0 a.0 b.0 less (numbered a.0 a.1.0) (numbered b.0 b.1.0)
-              a.1.1 b.1.1)
-          | inr more ↦ absurd (twice b.1.0.0 a.1.0.0 b.0 a.0 more (numbered b.0 b.1.0) (numbered a.0 a.1.0)
-              b.1.1 a.1.1)
-        ]
-      ])
+      one_listed (Some m) (Some n) a b = ap (λ (x : ℕ). Some x) (one_target line.arcs.items column twice m n a b)
 
-    one_kept : IsStrictlySortedBy kind_order
-        (kinds_at problem (last_stage problem) (nodes_at answer.stages.items (last_stage problem)))
-        → (k : PrefixKind) (column : List Sym) (m n : Option ℕ) → IsKeptTarget problem answer k column m
+    one_kept : LastAscends → (k : PrefixKind) (column : List Sym) (m n : Option ℕ)
+        → IsKeptTarget problem answer k column m
         → IsKeptTarget problem answer k column n → m ≡ n
     one_kept ascending k column None None a b = refl
     one_kept ascending k column None (Some n) a b = absurd (a b.0)
     one_kept ascending k column (Some m) None a b = absurd (b a.0)
     one_kept ascending k column (Some m) (Some n) a b = ap (λ (x : ℕ). Some x) (one_number _ _ ascending _ m n a.1 b.1)
 
-    one_arcs : IsStrictlySortedBy kind_order
-        (kinds_at problem (last_stage problem) (nodes_at answer.stages.items (last_stage problem)))
-        → (state : ℕ) (column : List Sym) → (HasTwice answer state column → ⊥)
+    one_arcs : LastAscends → (state : ℕ) (column : List Sym) → (HasTwice answer state column → ⊥)
         → (listed other kept more : Option ℕ) → HasWrongArcs problem answer state column listed kept
         → HasWrongArcs problem answer state column other more → (listed ≡ other) × (kept ≡ more)
     one_arcs ascending state column once listed other kept more a b =
@@ -317,8 +307,7 @@ module _ (problem : Problem) (answer : Answer) where
               (subst (λ x. IsKeptTarget problem answer x column kept) kind a.kept_is) b.kept_is,
         )
 
-    one_in_state : (state : ℕ) (rest : List ℕ) (f g : Fault) → IsStrictlySortedBy kind_order
-        (kinds_at problem (last_stage problem) (nodes_at answer.stages.items (last_stage problem)))
+    one_in_state : (state : ℕ) (rest : List ℕ) (f g : Fault) → LastAscends
         → ((column : List Sym) → HasTwice answer state column → IsBefore (2 ∷ column_place column) rest → ⊥)
         → AtState problem answer state rest f → AtState problem answer state rest g → f ≡ g
     one_in_state state [] f g ascending none a b = absurd a
@@ -347,9 +336,7 @@ module _ (problem : Problem) (answer : Answer) where
     later (suc n) ms ns b = inl (omega arith)
 
     -- the last stage ascends where no node is wrong and no stage is missing
-    last_ascends : (n : ℕ) (rest : List ℕ) → IsNothingBefore (suc (suc (suc (suc (suc (suc n))))) ∷ rest)
-        → IsStrictlySortedBy kind_order
-        (kinds_at problem (last_stage problem) (nodes_at answer.stages.items (last_stage problem)))
+    last_ascends : (n : ℕ) (rest : List ℕ) → IsNothingBefore (suc (suc (suc (suc (suc (suc n))))) ∷ rest) → LastAscends
     last_ascends n rest none =
         let count : length answer.stages.items ≡ last_stage problem + 1 = so_unless
         (cases_eq (length answer.stages.items) (last_stage problem + 1))

@@ -1,7 +1,6 @@
 -- The first fault of a state.
 use Rattle.std.proofs.Common.{◌≡◌, ℕ, zero, suc, ◌<◌, Bool, true, false, IsTrue, List, [], ◌∷◌, slice_get, Some}
 use Rattle.std.proofs.Common.{Option, refl, sym, ap, ◌∙◌, subst, arith, inl, inr, Contains, true≢false}
-use Rattle.std.proofs.{lemmas.Bool.cases_order, lemmas.Option.slice_get-get_or}
 use Rattle.std.specs.{List.Sorted.IsStrictlySortedBy, Ordering.nat_cmp}
 use Rattle.tier_core.specs.{declared.sym.Sym.Sym, Classes.has, Kinds.PrefixKind}
 use Rattle.violation.specs.{Moves.is_final, Problems.{Problem}}
@@ -13,8 +12,8 @@ use Rattle.cert_check.specs.{Arcs.{is_twice, do_differ, IsLeastColumn, IsNoColum
 use Rattle.cert_check.specs.Faults.{LacksTarget, HasTwice, HasWrongArcs, IsKindOfState, IsListedTarget}
 use Rattle.cert_check.specs.{Parts.{IsFirstInState}, Places.{IsBefore, column_place}}
 use Rattle.cert_check.specs.States.{IsRightPartOf, IsRightState, AreKeptArcs}
-use Rattle.cert_check.proofs.ArcLists.{HasOneTarget, targets_agree, targets_differ, twice_to, twice_from}
-use Rattle.cert_check.proofs.{Faultless.some_same, Parts.none_before}
+use Rattle.cert_check.proofs.ArcLists.{HasOneTarget, one_target, targets_agree, targets_differ, twice_to, twice_from}
+use Rattle.cert_check.proofs.Parts.{none_before}
 
 module _ (problem : Problem) (answer : Answer)
     (ascending : IsStrictlySortedBy nat_cmp (numbers_of answer.automaton.states.items)) (line : StateLine)
@@ -143,40 +142,26 @@ module _ (problem : Problem) (answer : Answer)
   -- ---- its arcs and the kept moves
 
   -- where no column is in two arcs, it has one target
-  one_target : IsRight 2 → (column : List Sym) → HasOneTarget arcs column
-  one_target once column m n a b = elim (cases_order a.1.0.0 b.1.0.0) [
-    | inl same ↦ sym a.1.2 ∙ ap (λ (x : ArcLine). x.target)
-        (some_same (sym (numbered a.0 a.1.0) ∙ ap (slice_get arcs) same ∙ numbered b.0 b.1.0)) ∙ b.1.2
-    | inr other ↦ elim other [
-      | inl less ↦ absurd (two a.1.0.0 b.1.0.0 a.0 b.0 less (numbered a.0 a.1.0) (numbered b.0 b.1.0) a.1.1 b.1.1)
-      | inr more ↦ absurd (two b.1.0.0 a.1.0.0 b.0 a.0 more (numbered b.0 b.1.0) (numbered a.0 a.1.0) b.1.1 a.1.1)
-    ]
-  ]
-    where
-      numbered : (arc : ArcLine) (h : Contains arcs arc) → slice_get arcs h.0 ≡ Some arc
-      numbered arc h = slice_get-get_or arcs h.0 arc h.1 ∙ ap (λ (x : ArcLine). Some x) h.2
-
-      two : (i j : ℕ) (x y : ArcLine) → i < j → slice_get arcs i ≡ Some x → slice_get arcs j ≡ Some y
-          → IsTrue (has x.class column) → IsTrue (has y.class column) → ⊥
-      two i j x y l e f h k = once (column_place column) (
-        column,
-        (
-          record {
-            line = line;
-            is = has_state;
-            first = i;
-            second = j;
-            ascending = l;
-            first_arc = x;
-            first_is = e;
-            second_arc = y;
-            second_is = f;
-            in_first = h;
-            in_second = k;
-          },
-          refl,
-        ),
-      )
+  single : IsRight 2 → (column : List Sym) → HasOneTarget arcs column
+  single once column = one_target arcs column (λ i j x y l e f h k. once (column_place column) (
+    column,
+    (
+      record {
+        line = line;
+        is = has_state;
+        first = i;
+        second = j;
+        ascending = l;
+        first_arc = x;
+        first_is = e;
+        second_arc = y;
+        second_is = f;
+        in_first = h;
+        in_second = k;
+      },
+      refl,
+    ),
+  ))
 
   module _ (k : PrefixKind) (of_kind : IsKindOfState problem answer line.node k) (once : IsRight 2)
       (kept : List ArcLine) (are : AreKeptArcs problem answer k kept)
@@ -186,7 +171,7 @@ module _ (problem : Problem) (answer : Answer)
         → do_differ arcs kept column ≡ false → ⊥
     agreed column s t h e =
         let kind : h.kind ≡ k = one_kind _ _ _ k _ h.of_kind of_kind in
-        h.differs (targets_agree _ _ _ (one_target once _) (one_kept column) e s t
+        h.differs (targets_agree _ _ _ (single once _) (one_kept column) e s t
         (rw (one_line h.line h.is) at h.listed_is) ((are.targets column t).1 (rw kind at h.kept_is)))
 
     pub arcs_right : IsNoColumn (do_differ arcs kept) → IsRight 3
@@ -211,7 +196,7 @@ module _ (problem : Problem) (answer : Answer)
           of_kind = of_kind;
           listed_is = a;
           kept_is = (are.targets column t).0 b;
-          differs = targets_differ _ _ _ (one_target once _) (one_kept column) least.is s t a b;
+          differs = targets_differ _ _ _ (single once _) (one_kept column) least.is s t a b;
         },
         refl,
       );

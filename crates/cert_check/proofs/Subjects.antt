@@ -181,7 +181,8 @@ module _ (s : Subject) (ready : IsReady s) (stage : ℕ) (within : stage ≤ las
   cut_fits kind result count some is fits opened below = record {
     within = omega (arith, fits.within);
     opened = rw opened fits.opened;
-    stretches = rw (is ∙ get_or_default s.shape.now.phases.items (stage - 1) count 0 (omega (arith, fits.within))) at below;
+    stretches = rw (is ∙ get_or_default s.shape.now.phases.items (stage - 1) count 0 (omega (arith, fits.within)))
+        at below;
   }
 
   pub cut_before_told : (kind result : Kind) (count : ℕ) → 1 ≤ stage

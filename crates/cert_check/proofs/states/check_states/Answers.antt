@@ -23,7 +23,8 @@ check_state-requires-clause-at c =
 pub returns-in_err-check_state-clause-err : goal.returns-in_err-check_state-clause-err
 returns-in_err-check_state-clause-err c =
     let s = c.args.subject.now in
-    let start : IsState s.answer.now 0 = rw c.as_slice-states.ensures.value at (c.has_state.ensures.0 c.if-not-has_state.false) in
+    let start : IsState s.answer.now 0 = rw c.as_slice-states.ensures.value
+    at (c.has_state.ensures.0 c.if-not-has_state.false) in
     let p = err_from_is_err_and c.from_residual.result c.from_residual.ensures.1 in
     rw (p.1, p.2) (stop_says _ _ (first_state _ _ (states_ascend s c.requires) c.requires.right start _ _
     (state_read _ s c.requires c.as_slice-states.ensures.value _ _ c.loop-state-test.true c.state-item.is)
@@ -39,7 +40,8 @@ loop-state-preserved c =
 pub returns-clause-ok : goal.returns-clause-ok
 returns-clause-ok c =
     let s = c.args.subject.now in
-    let start : IsState s.answer.now 0 = rw c.as_slice-states.ensures.value at (c.has_state.ensures.0 c.if-not-has_state.false) in
+    let start : IsState s.answer.now 0 = rw c.as_slice-states.ensures.value
+    at (c.has_state.ensures.0 c.if-not-has_state.false) in
     states_right _ _ (states_ascend s c.requires) c.requires.right start
     (λ n line e. c.loop-state.invariant n line (omega (
       arith,
